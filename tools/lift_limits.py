@@ -5,8 +5,8 @@ usage: lift_limits.py [--list] [--each] [LIMIT..]
 
 A limit is a definition that goes with a later stage. Here each gets its last value: all of them at once, or with --each
 one after another; with names only these. Then `rt check` proves the crates of laws. A law that falls leaned on a limit.
-Some laws replay a run by today's limits, or speak of what is not built: these are excused by name, with the reason. A
-limit that is gone already is told and left out.
+Some laws replay a run by today's limits: these are excused by name, with the reason. A limit that is gone already is
+told and left out.
 
 The last line counts. The status is 0 if no law leaned on a limit, 1 if one did, and 2 if nothing could be said.
 """
@@ -37,27 +37,22 @@ LIMITS = (
     Limit("most_bad", STAGES, "most_bad n = n.spare"),
     Limit("taken_luns", STAGES, "taken_luns = 0x81 ∷ 0xB0 ∷ 0xC4 ∷ 0xD0 ∷ []"),
     Limit("manages_tasks", STAGES, "manages_tasks = true"),
+    Limit("answers_queries", STAGES, "answers_queries = true"),
     Limit("taken_operations", CDBS, "taken_operations = known_operations"),
     Limit("IsTakenCdb", CDBS, "IsTakenCdb cdb = Unit {0}", (
         ("ufs_laws/proofs/exchanges/BytesHeard.antt",
          "is_taken (cdb.Inquiry allocation) = no (λ (h : ⊥). h)\n"
          "is_taken (cdb.Unmap list) = no (λ (h : ⊥). h)\n"
          "is_taken (cdb.ReportLuns select allocation) = no (λ (h : ⊥). h)\n"
-         "is_taken (cdb.SecurityIn length) = no (λ (h : ⊥). h)\n"
-         "is_taken (cdb.SecurityOut length) = no (λ (h : ⊥). h)\n",
+         "is_taken (cdb.SecurityIn region length) = no (λ (h : ⊥). h)\n"
+         "is_taken (cdb.SecurityOut region length) = no (λ (h : ⊥). h)\n",
          ""),
     )),
 )
 
 # The laws that may fall, or a clause of one as law.clause, and why.
-NOT_BUILT = "a command that is not built ends as an unknown one until its stage"
 EXCUSED = {
-    "ufs_laws::a_refused_read_says_why.not_a_unit": "the well-known units are there then",
-    "ufs_laws::each_line_of_the_table_counts.unit": "its proof cites the lemma of not_a_unit, for every LUN from 3 on",
     "power_loss::a_failed_write_is_answered": "a bad block locks the device only while no spare one replaces it",
-    "ufs_laws::a_command_is_never_unknown_once_taken.begins": NOT_BUILT,
-    "ufs_laws::a_command_is_never_unknown_once_taken.call": NOT_BUILT,
-    "ufs_laws::a_command_is_never_unknown_once_taken.life": NOT_BUILT,
 }
 
 

@@ -1,11 +1,13 @@
 -- What is known of each die: the block that it fills, and its job in flight (this profile).
 use Rattle.std.specs.Prelude.{ℕ, ◌==◌, ◌&&◌, Bool, true, false, if◌then◌else◌, is_some, List, slice_get, slice_set}
 use Rattle.std.specs.Prelude.{Option, Some, None}
+use Rattle.ufs_spec.specs.Translation.{same_reader}
+use Rattle.ufs_spec.specs.declared.layer.Reader.{Reader}
+use Rattle.ufs_spec.specs.declared.layer.Reader.TheVariants.{ForNobody, ForTask}
 use Rattle.block_table.specs.declared.rows.DieRow.{DieRow}
 use Rattle.block_table.specs.declared.rows.OpenBlock.{OpenBlock}
 use Rattle.block_table.specs.declared.rows.Flight.{Flight}
 use Rattle.block_table.specs.declared.rows.Flight.TheVariants as flight
-use Rattle.block_table.specs.declared.rows.Reader.TheVariants as reader
 
 -- a die that fills no block and has no job
 abbrev pub idle_row : DieRow
@@ -42,23 +44,14 @@ is_step_flight _ = false
 abbrev pub writes_step : DieRow → Bool
 writes_step r = is_step_flight r.flight
 
--- the job in flight is the read that the step under way needs
-abbrev pub is_step_reading : Option Flight → Bool
-is_step_reading (Some (flight.Read place reader.Step)) = true
-is_step_reading _ = false
+-- the job in flight is a read for this reader
+abbrev pub flight_reads : Reader → Option Flight → Bool
+flight_reads reader (Some (flight.Read place other)) = same_reader reader other
+flight_reads reader _ = false
 
--- the die reads for the step under way
-abbrev pub reads_step : DieRow → Bool
-reads_step r = is_step_reading r.flight
-
--- the job in flight is the read for this block of the task with this tag
-abbrev pub flight_reads : ℕ → ℕ → Option Flight → Bool
-flight_reads tag index (Some (flight.Read place (reader.Task other i))) = (tag == other) && (index == i)
-flight_reads tag index _ = false
-
--- the die reads for this block of the reader
-abbrev pub reads_for : ℕ → ℕ → DieRow → Bool
-reads_for reader index r = flight_reads reader index r.flight
+-- the die reads for this reader
+abbrev pub reads_for : Reader → DieRow → Bool
+reads_for reader r = flight_reads reader r.flight
 
 -- this is in flight of the die from now on, over the block that it fills; nothing changes if there is no such die
 abbrev pub flight_set : List DieRow → ℕ → Option Flight → Option DieRow → List DieRow
@@ -95,8 +88,8 @@ rows_failed rows die block = failed_set rows die block (slice_get rows die)
 
 -- a read in flight for a reader who let go is for nobody
 abbrev pub flight_without : ℕ → Option Flight → Option Flight
-flight_without tag (Some (flight.Read place (reader.Task other i))) =
-    Some (flight.Read place (if other == tag then reader.Nobody else reader.Task other i))
+flight_without tag (Some (flight.Read place (ForTask other i))) =
+    Some (flight.Read place (if other == tag then ForNobody else ForTask other i))
 flight_without tag f = f
 
 -- the die's read for this reader goes on, for nobody
@@ -105,8 +98,8 @@ without_reader reader r = record r { flight = flight_without reader r.flight }
 
 -- a read in flight for this block of the reader is for nobody; its other reads stay
 abbrev pub flight_without_block : ℕ → ℕ → Option Flight → Option Flight
-flight_without_block tag index (Some (flight.Read place (reader.Task other i))) =
-    Some (flight.Read place (if (other == tag) && (i == index) then reader.Nobody else reader.Task other i))
+flight_without_block tag index (Some (flight.Read place (ForTask other i))) =
+    Some (flight.Read place (if (other == tag) && (i == index) then ForNobody else ForTask other i))
 flight_without_block tag index f = f
 
 -- the die's read for this block of the reader goes on, for nobody

@@ -5,17 +5,18 @@
 ghost use Rattle.std.specs.Prelude.{◌≡◌, ◌≤◌, ◌*◌, IfOk, None, Some, count_by, length, map, replicate, slice_get, slice_set};
 ghost use Rattle.std.specs.List.{list_any};
 ghost use Rattle.block_table.specs.Blocks.{Blocks, block_index, erased_at, freed, freed_state, gone_bad, is_bad, is_free, is_stale, opened_at, page_written, state_of};
-ghost use Rattle.block_table.specs.Rows.{erases, filling_but, fills, idle_row, reads_for, reads_step, rows_filling, rows_in_flight, without_block, without_reader, writes_page, writes_step};
+ghost use Rattle.block_table.specs.Rows.{erases, filling_but, fills, idle_row, reads_for, rows_filling, rows_in_flight, without_block, without_reader, writes_page, writes_step};
 
 use std::alloc::{AllocError, Global};
 use std::marker::Model;
+use ufs_spec::Reader;
 
 mod live;
 mod rows;
 
 pub use live::{BlockAt, LivePages};
-use rows::{without_block, without_reader};
-pub use rows::{DieRow, Flight, OpenBlock, Reader};
+use rows::{is_read_for, without_block, without_reader};
+pub use rows::{DieRow, Flight, OpenBlock};
 
 /// What a block is to the device: free in one of three ways, being filled, full, or bad.
 #[derive(Clone, Copy, Debug, Default, PartialEq, Eq)]
@@ -176,32 +177,11 @@ impl BlockTable {
             .any(|row| matches!(row.flight, Some(Flight::Step { .. })))
     }
 
-    /// Whether any die reads for the step under way.
-    pub fn reads_step(&self) -> bool
-        ensures { result ≡ list_any reads_step self.now.rows }
+    /// Whether any die reads for this reader. A read for nobody is for none.
+    pub fn reads_for(&self, reader: Reader) -> bool
+        ensures { result ≡ list_any (reads_for reader) self.now.rows }
     {
-        self.rows.iter().any(|row| {
-            matches!(
-                row.flight,
-                Some(Flight::Read {
-                    reader: Reader::Step,
-                    ..
-                })
-            )
-        })
-    }
-
-    /// Whether any die reads for this block of the reader.
-    pub fn reads_for(&self, reader: u8, index: u16) -> bool
-        ensures { result ≡ list_any (reads_for reader index) self.now.rows }
-    {
-        self.rows.iter().any(|row| {
-            matches!(
-                row.flight,
-                Some(Flight::Read { reader: Reader::Task { tag, index: block }, .. })
-                    if reader == tag && index == block
-            )
-        })
+        self.rows.iter().any(|row| is_read_for(row.flight, reader))
     }
 
     /// This is in flight of the die from now on, if there is such a die.

@@ -1,23 +1,15 @@
 //! What is known of each die: the block that it fills, and its job in flight.
 ghost use Rattle.std.specs.Prelude.{◌≡◌};
-ghost use Rattle.block_table.specs.Rows.{without_block, without_reader};
+ghost use Rattle.ufs_spec.specs.Translation.{same_reader};
+ghost use Rattle.block_table.specs.Rows.{flight_reads, without_block, without_reader};
 
-use ufs_spec::Place;
+use ufs_spec::{Place, Reader};
 
 /// The block of a die that is being filled, and its next page.
 #[derive(Clone, Copy, Debug, Default, PartialEq, Eq)]
 pub struct OpenBlock {
     pub block: u16,
     pub next: u16,
-}
-
-/// For whom a page is read: for the block of this index of a reader who waits for it, or for nobody,
-/// once that one let go; or for the step under way.
-#[derive(Clone, Copy, Debug, PartialEq, Eq)]
-pub enum Reader {
-    Task { tag: u8, index: u16 },
-    Step,
-    Nobody,
 }
 
 /// The job in flight on a die: a read; the program of the page of the step under way, or of the page
@@ -48,6 +40,31 @@ pub struct DieRow {
     pub flight: Option<Flight>,
 }
 
+/// Whether the two are the same reader. Nobody is no reader.
+fn same_reader(reader: Reader, other: Reader) -> bool
+    ensures { result ≡ same_reader reader other }
+{
+    match reader {
+        Reader::ForNobody => false,
+        _ => reader == other,
+    }
+}
+
+/// Whether the job is a read for this reader.
+pub(super) fn is_read_for(flight: Option<Flight>, reader: Reader) -> bool
+    ensures { result ≡ flight_reads reader flight }
+{
+    match flight {
+        Some(
+            Flight::Read {
+                place: _,
+                reader: other,
+            },
+        ) => same_reader(reader, other),
+        _ => false,
+    }
+}
+
 /// The die, whose read goes on for nobody if it is for this reader.
 pub(super) fn without_reader(row: DieRow, reader: u8) -> DieRow
     ensures { result ≡ without_reader reader row }
@@ -56,13 +73,13 @@ pub(super) fn without_reader(row: DieRow, reader: u8) -> DieRow
         Some(
             Flight::Read {
                 place,
-                reader: Reader::Task { tag, index: _ },
+                reader: Reader::ForTask { tag, index: _ },
             },
         ) if tag == reader => DieRow {
             filling: row.filling,
             flight: Some(Flight::Read {
                 place,
-                reader: Reader::Nobody,
+                reader: Reader::ForNobody,
             }),
         },
         _ => row,
@@ -77,13 +94,13 @@ pub(super) fn without_block(row: DieRow, reader: u8, block: u16) -> DieRow
         Some(
             Flight::Read {
                 place,
-                reader: Reader::Task { tag, index },
+                reader: Reader::ForTask { tag, index },
             },
         ) if tag == reader && index == block => DieRow {
             filling: row.filling,
             flight: Some(Flight::Read {
                 place,
-                reader: Reader::Nobody,
+                reader: Reader::ForNobody,
             }),
         },
         _ => row,

@@ -9,7 +9,7 @@ use Rattle.ufs_spec.proofs.Facts.{false≢true, none-some, same_Some, true≢fal
 use Rattle.ufs_spec.specs.declared.flash.Key.{Key}
 use Rattle.ufs_spec.specs.declared.flash.Place.{Place}
 use Rattle.unit_map.specs.Places.{UnitMap, stored_in}
-use Rattle.unit_map.specs.declared.PageName.{PageName}
+use Rattle.unit_map.specs.declared.KeyedName.{KeyedName}
 use Rattle.unit_map.specs.declared.Stored.{Stored}
 use Rattle.write_cache.specs.Slots.{is_at, is_there}
 use Rattle.write_cache.specs.declared.slots.Pending.{Pending}
@@ -61,15 +61,19 @@ module _ (m : UnitMap) (ps : List Pending) (p : Place) where
       let r = found_in (is_there p) ps q e in inl (inr (q, r.0, written_there p q r.1, refl, refl))
 
   -- where there is none, the durable content does; and without either nothing stands there
-  pub durable_named : find (is_there p) ps ≡ None → (o : Option PageName) →
-      IfSome o (λ n. stored_in m.numbers m.places n.key ≡ Some (record { place = p; number = n.number })) →
+  pub durable_named : find (is_there p) ps ≡ None → (o : Option KeyedName) →
+      IfSome o (λ n. stored_in m.numbers m.places n.key ≡ Some (record { name = n.name; place = p })) →
       (o ≡ None → (k : Key) (s : Stored) → stored_in m.numbers m.places k ≡ Some s → s.place ≡ p → ⊥) →
-      (Default : PageName → Type 0) (n : PageName) → UnwrapsOrElse o Default n →
-      IsNamed m ps (record { from = p; key = n.key; number = n.number })
+      (Default : KeyedName → Type 0) (n : KeyedName) → UnwrapsOrElse o Default n →
+      IsNamed m ps (record { from = p; key = n.key; number = n.name.number })
   durable_named none (Some found) is bare Default n same =
-      inl (inl (subst
-      (λ (z : PageName). stored_in m.numbers m.places z.key ≡ Some (record { place = p; number = z.number }))
-      (sym same) is))
+      inl (inl (
+        record { name = n.name; place = p },
+        subst (λ (z : KeyedName). stored_in m.numbers m.places z.key ≡ Some (record { name = z.name; place = p }))
+            (sym same) is,
+        refl,
+        refl,
+      ))
   durable_named none None is bare Default n same =
       inr (record {
         durable = bare refl;

@@ -46,7 +46,7 @@ live_below l pages s = filter (is_live l) (map (place_in s) (below pages))
 -- what stands at the page's place is of this key and number: a durable content, or a page of a pending group
 abbrev pub NamesIt : UnitMap → List Pending → PlannedCopy → Type 0
 NamesIt m ps x =
-    (stored_in m.numbers m.places x.key ≡ Some (record { place = x.from; number = x.number }))
+    ((s : Stored) × (stored_in m.numbers m.places x.key ≡ Some s) × (s.place ≡ x.from) × (s.name.number ≡ x.number))
     ⊎ ((q : Pending) × Contains ps q × (q.written ≡ Some x.from) × (q.key ≡ x.key) × (q.number ≡ x.number))
 
 -- no durable content stands at the place, and no page of a pending group is written there

@@ -181,10 +181,10 @@ fn planned_copy(from: Place, places: &UnitMap, cache: &Cache) -> PlannedCopy
             number: page.number,
         };
     }
-    let name = places.name_there(from).unwrap_or_default();
+    let named = places.name_there(from).unwrap_or_default();
     PlannedCopy {
         from,
-        key: name.key,
-        number: name.number,
+        key: named.key,
+        number: named.name.number,
     }
 }

@@ -8,11 +8,8 @@ use Rattle.ufs_spec.specs.Moves.{Accept, Claim, IsAllowedMove, Move, Release, mo
 use Rattle.ufs_spec.specs.Plain.{shape_of_numbers, zero_block}
 use Rattle.ufs_spec.specs.Translation.{Translation, free_slots, is_locked, is_mended}
 use Rattle.ufs_spec.specs.declared.flash.Key.{Key}
-use Rattle.ftl_core.specs.Core.{Core}
-use Rattle.ftl_core.specs.Describes.{Describes}
-use Rattle.ftl_core.specs.Moves.{claims_for}
-use Rattle.write_cache.specs.Slots.{claim_filled}
-use Rattle.ftl_core.specs.Tells.{PinsDiffer, claims_of_blocks, group_of_blocks, keeps_for, keeps_of, key_behind}
+use Rattle.ftl_core.specs.Public.{Claims, Core, PinsDiffer, group_of_blocks, keeps_for, keeps_of, key_behind}
+use Rattle.ftl_core.specs.Public.{with_block, with_claimed}
 use Rattle.ftl_core.specs.declared.ftl.Ended.{Ended}
 use Rattle.ftl_core.specs.declared.ftl.Ended.TheVariants as ended
 use Rattle.task_set.specs.declared.tasks.Status.{Status}
@@ -24,7 +21,7 @@ use Rattle.device.specs.declared.plans.Plan.TheVariants as plan
 use Rattle.task_set.specs.declared.tasks.TaskEvent.{TaskEvent}
 use Rattle.task_set.specs.declared.tasks.TaskEvent.TheVariants as event
 use Rattle.task_set.specs.declared.tasks.Transfer.{Transfer}
-use Rattle.device.specs.Kept.{DeviceCore}
+use Rattle.device.specs.Kept.{DeviceCore, IsLayerWith}
 use Rattle.task_set.specs.Tasks.{after_lost_read, after_read, next_transfer, task_after}
 
 -- A task begins
@@ -42,53 +39,42 @@ has_room t blocks = nat_le (length t.pins + blocks) 1024
 
 -- how far a READ is that begins, and the layer then: it keeps what it looks up. As no block is kept twice, there is
 -- room wherever a task may be opened
-pub record HasKept (before after : Core) (t : Translation) (tag : ℕ) (key : Key) (blocks size : ℕ)
+pub record HasKept (after : Core) (t : Translation) (claims : Claims) (tag : ℕ) (key : Key) (blocks size : ℕ)
     (p : Phase) : Type 0 where
   pub phase_is : p ≡
       (if has_room t blocks then phase.SendBlocks (record { blocks = blocks; sent = 0; length = size })
       else phase.Answer status.Busy 0)
   pub differ : PinsDiffer t.pins
   pub layer : MayKeep t tag key blocks →
-      Describes after (if has_room t blocks then fold moved t (keeps_of t tag key blocks) else t)
-  pub claims : claims_for after ≡ claims_for before
-
--- what other tags have claimed stays so
-abbrev pub OthersClaim : Core → Core → ℕ → Type 0
-OthersClaim before after tag = (other : ℕ) → (other ≡ tag → ⊥) → claims_for after other ≡ claims_for before other
+      IsLayerWith after (if has_room t blocks then fold moved t (keeps_of t tag key blocks) else t) claims
 
 -- whether so many slots are free
 abbrev pub has_slots : Translation → ℕ → Bool
 has_slots t blocks = nat_le blocks (free_slots t)
 
 -- how far a WRITE is that begins, and the layer then: it claims a slot for each block
-pub record HasClaimed (before after : Core) (t : Translation) (tag : ℕ) (key : Key) (blocks : ℕ) (forced : Bool)
-    (p : Phase) : Type 0 where
+pub record HasClaimed (after : Core) (t : Translation) (claims : Claims) (tag : ℕ) (key : Key) (blocks : ℕ)
+    (forced : Bool) (p : Phase) : Type 0 where
   pub phase_is : p ≡
       (if has_slots t blocks
       then phase.AskData (record { key = key; blocks = blocks; gathered = 0; forced = forced })
       else phase.Answer status.Busy 0)
-  pub layer : Describes after (if has_slots t blocks then moved t (Claim blocks) else t)
-  pub claims : claims_for before tag ≡ [] → claims_for after tag ≡
-      (if has_slots t blocks then claims_of_blocks tag (replicate blocks zero_block) else [])
-  pub others : OthersClaim before after tag
+  pub layer : claims tag ≡ [] → IsLayerWith after (if has_slots t blocks then moved t (Claim blocks) else t)
+      (if has_slots t blocks then with_claimed claims tag (replicate blocks zero_block) else claims)
 
 -- the number of the last group, so that what waits for it waits for all that was accepted
 abbrev pub last_number : Ledger → ℕ
 last_number l = next_number l - 1
 
--- nothing of the layer changes that shows
-abbrev pub IsSameLayer : Core → Core → Translation → Type 0
-IsSameLayer before after t = Describes after t × (claims_for after ≡ claims_for before)
-
 -- how far a task is that begins what was planned for it, and the layer then
-abbrev pub HasBegun : Core → Core → Translation → ℕ → Result Plan Status → Phase → Type 0
-HasBegun before after t tag (Err refused) p = (p ≡ phase.Answer refused 0) × IsSameLayer before after t
-HasBegun before after t tag (Ok (plan.Nothing n)) p = (p ≡ phase.Answer status.Good n) × IsSameLayer before after t
-HasBegun before after t tag (Ok (plan.Read key blocks size)) p = HasKept before after t tag key blocks size p
-HasBegun before after t tag (Ok (plan.Write key blocks forced)) p = HasClaimed before after t tag key blocks forced p
-HasBegun before after t tag (Ok (plan.Send x)) p = (p ≡ phase.SendData x) × IsSameLayer before after t
-HasBegun before after t tag (Ok plan.Flush) p =
-    (p ≡ phase.AwaitFrontier (last_number t.ledger) 0) × IsSameLayer before after t
+abbrev pub HasBegun : Core → Translation → Claims → ℕ → Result Plan Status → Phase → Type 0
+HasBegun after t claims tag (Ok (plan.Read key blocks size)) p = HasKept after t claims tag key blocks size p
+HasBegun after t claims tag (Ok (plan.Write key blocks forced)) p = HasClaimed after t claims tag key blocks forced p
+HasBegun after t claims tag (Err refused) p = (p ≡ phase.Answer refused 0) × IsLayerWith after t claims
+HasBegun after t claims tag (Ok (plan.Nothing n)) p = (p ≡ phase.Answer status.Good n) × IsLayerWith after t claims
+HasBegun after t claims tag (Ok (plan.Send x)) p = (p ≡ phase.SendData x) × IsLayerWith after t claims
+HasBegun after t claims tag (Ok plan.Flush) p =
+    (p ≡ phase.AwaitFrontier (last_number t.ledger) 0) × IsLayerWith after t claims
 
 -- Blocks come
 
@@ -105,30 +91,22 @@ taken_move t key bodies =
     if is_locked t then Release (length bodies) else Accept (length bodies) (group_of_blocks key bodies)
 
 -- what its task is told, and the layer then
-pub record HasTaken (before after : Core) (t : Translation) (tag : ℕ) (key : Key) (e : TaskEvent) : Type 0 where
-  pub event_is : e ≡ (if is_locked t then event.GroupRefused else event.GroupAccepted (next_number t.ledger))
-  pub layer : (bodies : List (List ℕ)) → claims_for before tag ≡ claims_of_blocks tag bodies →
-      (is_locked t ≡ false → MayAccept t key bodies) → Describes after (moved t (taken_move t key bodies))
-  pub claims : claims_for after tag ≡ []
-  pub others : OthersClaim before after tag
+pub record HasTaken (after : Core) (t : Translation) (claims : Claims) (tag : ℕ) (key : Key) (e : TaskEvent) : Type 0
+  where
+    pub event_is : e ≡ (if is_locked t then event.GroupRefused else event.GroupAccepted (next_number t.ledger))
+    pub layer : (is_locked t ≡ false → MayAccept t key (claims tag)) →
+        IsLayerWith after (moved t (taken_move t key (claims tag))) (with_claimed claims tag [])
 
--- a block came, and more are to come: it lies in its slot
-pub record HasFilled (before after : Core) (t : Translation) (tag index : ℕ) (bytes : List ℕ) : Type 0 where
-  pub layer : Describes after t
-  pub claims : claims_for after tag ≡ map (claim_filled tag index bytes) (claims_for before tag)
-  pub others : OthersClaim before after tag
-
--- a block came, and with the last of them the group is taken
-abbrev pub HasGatheredThen : Core → Core → Translation → ℕ → Transfer → List ℕ → TaskEvent → Option Transfer → Type 0
-HasGatheredThen before after t tag x bytes e (Some more) =
-    (e ≡ event.BlockGathered) × HasFilled before after t tag x.gathered bytes
-HasGatheredThen before after t tag x bytes e None =
-    (between : Core) × HasFilled before between t tag x.gathered bytes × HasTaken between after t tag x.key e
+-- where more blocks are to come nothing else happens, and with the last one the group is taken
+abbrev pub HasGatheredThen : Core → Translation → Claims → ℕ → Key → TaskEvent → Option Transfer → Type 0
+HasGatheredThen after t claims tag key e (Some more) = (e ≡ event.BlockGathered) × IsLayerWith after t claims
+HasGatheredThen after t claims tag key e None = HasTaken after t claims tag key e
 
 -- a block of a WRITE came: it lies in its slot, and with the last block the group is accepted, or refused by a locked
 -- device
-abbrev pub HasGathered : Core → Core → Translation → ℕ → Transfer → List ℕ → TaskEvent → Type 0
-HasGathered before after t tag x bytes e = HasGatheredThen before after t tag x bytes e (next_transfer x)
+abbrev pub HasGathered : Core → Translation → Claims → ℕ → Transfer → List ℕ → TaskEvent → Type 0
+HasGathered after t claims tag x bytes e =
+    HasGatheredThen after t (with_block claims tag x.gathered bytes) tag x.key e (next_transfer x)
 
 -- What the end of a job told
 

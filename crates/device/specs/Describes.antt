@@ -26,10 +26,8 @@ use Rattle.ufs_spec.specs.declared.flash.Job.{Job}
 use Rattle.ufs_spec.specs.declared.messages.Message.{Message}
 use Rattle.power_loss.specs.Exchange.{IsTied}
 use Rattle.power_loss.specs.Shown.{ShowsReads}
-use Rattle.ftl_core.specs.Describes as layer
-use Rattle.ftl_core.specs.Moves.{claims_for}
-use Rattle.ftl_core.specs.Tells.{claims_of_blocks}
-use Rattle.write_cache.specs.declared.slots.Claimed.{Claimed}
+use Rattle.ftl_core.specs.Public as layer
+use Rattle.ftl_core.specs.Public.{AreClaimed, Claims}
 use Rattle.task_set.specs.declared.tasks.Phase.{Phase}
 use Rattle.task_set.specs.declared.tasks.Phase.TheVariants as phase
 use Rattle.task_set.specs.declared.tasks.Sending.{Sending as Sends}
@@ -174,20 +172,23 @@ blocks_gathered zero bytes = []
 blocks_gathered (suc n) bytes = block_or_zeros bytes ∷ blocks_gathered n (drop 4096 bytes)
 
 -- what a task that gathers data has claimed: a WRITE one slot for each block of its command, any other none
-abbrev pub claims_for_purpose : ℕ → Purpose → List ℕ → List Claimed
-claims_for_purpose tag (ForWrite unit address blocks forced) gathered =
-    claims_of_blocks tag (blocks_gathered blocks gathered)
-claims_for_purpose tag purpose gathered = []
+abbrev pub claimed_for : Purpose → List ℕ → List (List ℕ)
+claimed_for (ForWrite unit address blocks forced) gathered = blocks_gathered blocks gathered
+claimed_for purpose gathered = []
 
 -- a WRITE that gathers has claimed a slot for each of its blocks, in which it lies once it came
-abbrev pub claims_in : ℕ → Deed → List Claimed
-claims_in tag (Gathering purpose gathered asked) = claims_for_purpose tag purpose gathered
-claims_in tag deed = []
+abbrev pub claimed_in : Deed → List (List ℕ)
+claimed_in (Gathering purpose gathered asked) = claimed_for purpose gathered
+claimed_in deed = []
 
--- what the task of this tag has claimed, and nothing where no task has the tag
-abbrev pub claims_by : ℕ → Option exchange.Task → List Claimed
-claims_by tag None = []
-claims_by tag (Some task) = claims_in tag task.deed
+-- what a task has claimed, and nothing where there is none
+abbrev pub claimed_by : Option exchange.Task → List (List ℕ)
+claimed_by None = []
+claimed_by (Some task) = claimed_in task.deed
+
+-- what the task of each tag has claimed
+abbrev pub claims_of : List exchange.Task → Claims
+claims_of tasks tag = claimed_by (task_of tag tasks)
 
 -- Short exchanges and the lock
 
@@ -213,7 +214,7 @@ pub record Keeps (d : DeviceCore) (s : State) : Type 0 where
   pub few : length s.tasks ≤ most_tasks
   pub tasks : TasksKept (before_accepted s.translation.ledger) d.tasks s.tasks
   pub wanted : (tag index : ℕ) → wanted_kept s.translation.pins tag index ≡ wanted_by index (task_of tag s.tasks)
-  pub claims : (tag : ℕ) → claims_for d.ftl tag ≡ claims_by tag (task_of tag s.tasks)
+  pub claims : AreClaimed d.ftl (claims_of s.tasks)
   pub shorts : s.shorts ≡ map short_kept d.shorts
   pub power_off : s.power_on ≡ false
 

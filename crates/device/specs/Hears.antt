@@ -5,8 +5,7 @@ use Rattle.ufs_spec.specs.Refusals.{Request, State}
 use Rattle.ufs_spec.specs.Translation.{Translation}
 use Rattle.ufs_spec.specs.declared.faults.HostFault.{HostFault}
 use Rattle.ufs_spec.specs.declared.faults.HostFault.TheVariants.{NotAskedFor}
-use Rattle.ftl_core.specs.Core.{Core}
-use Rattle.ftl_core.specs.Describes.{Describes}
+use Rattle.ftl_core.specs.Public.{Claims, Core, Describes}
 use Rattle.task_set.specs.declared.tasks.AskedFor.{AskedFor}
 use Rattle.task_set.specs.declared.tasks.Phase.{Phase}
 use Rattle.device.specs.declared.plans.Plan.{Plan}
@@ -15,7 +14,7 @@ use Rattle.task_set.specs.declared.tasks.Status.{Status}
 use Rattle.task_set.specs.Kept.{OpenTask}
 use Rattle.task_set.specs.declared.tasks.TaskEvent.{TaskEvent}
 use Rattle.device.specs.Calls.{HasBegun, HasGathered, lock_told}
-use Rattle.device.specs.Kept.{DeviceCore}
+use Rattle.device.specs.Kept.{DeviceCore, IsLayerWith}
 use Rattle.device.specs.Plans.{IsBare, IsPlanned, IsRequest}
 use Rattle.task_set.specs.Lists.{asked_among, asked_at, is_in_use, short_allowed, task_happened}
 
@@ -46,7 +45,8 @@ pub record IsTaskOpened (before after : DeviceCore) (flags lun tag expected : �
     pub todo : Result Plan Status
     pub plan : (s : State) (r : Request) → Describes before.ftl s.translation → IsBare s before.is_permanent →
         IsRequest r flags lun expected bytes → IsPlanned s r todo
-    pub begun : (t : Translation) → Describes before.ftl t → HasBegun before.ftl layer t tag todo phase
+    pub begun : (t : Translation) (claims : Claims) → IsLayerWith before.ftl t claims →
+        HasBegun layer t claims tag todo phase
     pub more : after ≡
         record (with_task before (record { tag = tag; lun = lun; expected = expected; phase = phase; block = None }))
         { ftl = layer }
@@ -69,8 +69,8 @@ with_event d k e = record d { tasks = task_happened d.tasks k e (slice_get d.tas
 pub record IsDataTaken (before after : DeviceCore) (tag : ℕ) (asked : AskedFor) (bytes : List ℕ) : Type 0 where
   pub layer : Core
   pub event : TaskEvent
-  pub taken : (t : Translation) → Describes before.ftl t →
-      HasGathered before.ftl layer t tag asked.transfer bytes event
+  pub taken : (t : Translation) (claims : Claims) → IsLayerWith before.ftl t claims →
+      HasGathered layer t claims tag asked.transfer bytes event
   pub told : (t : Translation) → Describes layer t →
       after ≡ lock_told t (record (with_event before asked.index event) { ftl = layer })
 

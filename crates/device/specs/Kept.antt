@@ -3,9 +3,14 @@ use Rattle.std.specs.Prelude.{ℕ, Bool, List, [], Option}
 use Rattle.ufs_spec.specs.declared.configs.Numbers.{Numbers}
 use Rattle.ufs_spec.specs.declared.flash.Job.{Job}
 use Rattle.ufs_spec.specs.Dies.{DieState}
-use Rattle.ftl_core.specs.Core.{Core}
+use Rattle.ufs_spec.specs.Translation.{Translation}
+use Rattle.ftl_core.specs.Public.{AreClaimed, Claims, Core, Describes}
 use Rattle.task_set.specs.Kept.{OpenTask}
 use Rattle.task_set.specs.declared.tasks.Short.{Short}
+
+-- what is kept of the layer describes it, and these blocks lie in the slots that tasks have claimed, by their tags
+abbrev pub IsLayerWith : Core → Translation → Claims → Type 0
+IsLayerWith c t claims = Describes c t × AreClaimed c claims
 
 -- the translation layer, whether units are protected for ever, the open tasks with the blocks that dies read for them,
 -- and the short exchanges

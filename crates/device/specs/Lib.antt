@@ -1,5 +1,3 @@
-pub use Rattle.ftl_core.specs.Core
-pub use Rattle.ftl_core.specs.Moves
 pub mod Calls
 pub mod Describes
 pub mod Hears

@@ -1,20 +1,21 @@
 -- Which replies are due, what they say, and what becomes of their tasks.
 use Rattle.std.specs.Prelude.{◌≡◌, ℕ, ◌+◌, ◌-◌, ◌*◌, ◌≤◌, ◌++◌, min, nat_le, nat_lt, Bool, true, false, if◌then◌else◌}
-use Rattle.std.specs.Prelude.{find, ⊤, List, remove, take, Option, Some, None, option_map}
+use Rattle.std.specs.Prelude.{find, ⊤, List, [], remove, take, Option, Some, None, option_map}
 use Rattle.byteorder.specs.Endian.{big_bytes}
 use Rattle.ufs_spec.specs.Exchanges as exchange
 use Rattle.ufs_spec.specs.Exchanges.{response}
-use Rattle.ufs_spec.specs.Ledger.{Entry, InSlot, Ledger, Looked, OnPage, Unwritten, before_accepted, entry_of}
-use Rattle.ufs_spec.specs.Machine.{no_sense, query_unanswered}
+use Rattle.ufs_spec.specs.Ledger.{Entry, Ledger, before_accepted, entry_of}
+use Rattle.ufs_spec.specs.Machine.{no_sense}
 use Rattle.ufs_spec.specs.Messages.{spelling, zeros}
 use Rattle.ufs_spec.specs.Moves.{Acknowledge, LetGo, LetGoAll, WantPage, is_pin_of, moved}
 use Rattle.ufs_spec.specs.Plain.{zero_block}
 use Rattle.ufs_spec.specs.Translation.{Pin, Translation}
+use Rattle.ufs_spec.specs.declared.messages.Asked.{Asked}
 use Rattle.ufs_spec.specs.declared.messages.Message.{Message}
 use Rattle.ufs_spec.specs.declared.messages.Message.TheVariants as message
-use Rattle.ftl_core.specs.Core.{Core}
-use Rattle.ftl_core.specs.Describes as layer
-use Rattle.ftl_core.specs.Moves.{claims_for}
+use Rattle.ufs_spec.specs.declared.layer.Looked.{Looked}
+use Rattle.ufs_spec.specs.declared.layer.Looked.TheVariants.{InSlot, OnPage, Unwritten}
+use Rattle.ftl_core.specs.Public.{Claims, Core}
 use Rattle.task_set.specs.declared.tasks.Phase.{Phase}
 use Rattle.task_set.specs.declared.tasks.Phase.TheVariants as phase
 use Rattle.task_set.specs.declared.tasks.Sending.{Sending}
@@ -29,7 +30,7 @@ use Rattle.task_set.specs.declared.tasks.TaskEvent.TheVariants as event
 use Rattle.task_set.specs.declared.tasks.ShortData.TheVariants as sent
 use Rattle.task_set.specs.Kept.{OpenTask, task_in}
 use Rattle.device.specs.Hears.{with_event}
-use Rattle.device.specs.Kept.{DeviceCore}
+use Rattle.device.specs.Kept.{DeviceCore, IsLayerWith}
 use Rattle.task_set.specs.Tasks.{data_length, status_kept}
 
 -- Blocks
@@ -128,21 +129,17 @@ moved_on d k (phase.SendBlocks x) = with_event d k event.BlockSent
 moved_on d k (phase.Answer s n) = without_task d k
 
 -- the layer then: a block that was handed out is let go; a task that ends keeps nothing, and what it waited for is
--- acknowledged
-abbrev pub IsLayerMoved : Core → Translation → ℕ → Phase → Type 0
-IsLayerMoved after t tag (phase.AskData x) = layer.Describes after t
-IsLayerMoved after t tag (phase.AwaitData x) = layer.Describes after t
-IsLayerMoved after t tag (phase.SendData x) = layer.Describes after t
-IsLayerMoved after t tag (phase.AwaitFrontier n size) =
+-- acknowledged; what the tasks have claimed stays
+abbrev pub HasMoved : Core → Translation → Claims → ℕ → Phase → Type 0
+HasMoved after t claims tag (phase.AskData x) = IsLayerWith after t claims
+HasMoved after t claims tag (phase.AwaitData x) = IsLayerWith after t claims
+HasMoved after t claims tag (phase.SendData x) = IsLayerWith after t claims
+HasMoved after t claims tag (phase.AwaitFrontier n size) =
     (commands : ℕ) → before_accepted t.ledger + commands ≤ t.ledger.frontier →
-    layer.Describes after (moved (moved t (Acknowledge commands)) (LetGoAll tag))
-IsLayerMoved after t tag (phase.SendBlocks x) =
-    layer.Describes after (moved (moved t (LetGo tag x.sent)) (WantPage tag (x.sent + 1)))
-IsLayerMoved after t tag (phase.Answer s n) = layer.Describes after (moved t (LetGoAll tag))
-
--- what a reply makes of the layer; what the tasks have claimed stays so
-abbrev pub HasMoved : Core → Core → Translation → ℕ → Phase → Type 0
-HasMoved before after t tag p = IsLayerMoved after t tag p × (claims_for after ≡ claims_for before)
+    IsLayerWith after (moved (moved t (Acknowledge commands)) (LetGoAll tag)) claims
+HasMoved after t claims tag (phase.SendBlocks x) =
+    IsLayerWith after (moved (moved t (LetGo tag x.sent)) (WantPage tag (x.sent + 1))) claims
+HasMoved after t claims tag (phase.Answer s n) = IsLayerWith after (moved t (LetGoAll tag)) claims
 
 -- Short exchanges
 
@@ -151,12 +148,16 @@ abbrev pub function_of : Bool → ℕ
 function_of true = 0x81
 function_of false = 0x01
 
+-- the answer FEh, invalid opcode, to a query: no query is answered otherwise yet (JESD220, 10.7.9)
+abbrev pub not_queried : ℕ → ℕ → Asked → Message
+not_queried tag function asked = message.QueryResponse tag function 0xFE asked 0 0 (record { items = [] })
+
 -- what a reply of one says with its tag
 abbrev pub short_said : ℕ → ShortReply → Message
 short_said tag (reply.TaskSetFull lun expected) = response lun tag expected 0 exchange.TaskSetFull
 short_said tag reply.NopIn = message.NopIn tag
 short_said tag (reply.NotManaged lun) = message.TaskResponse lun tag 0x04
-short_said tag (reply.NotQueried writing asked) = query_unanswered tag (function_of writing) asked
+short_said tag (reply.NotQueried writing asked) = not_queried tag (function_of writing) asked
 
 -- the one reply that a short exchange is owed
 abbrev pub short_message : Short → Message

@@ -10,7 +10,7 @@ ghost use Rattle.ufs_spec.specs.Translation.{free_slots};
 ghost use Rattle.ufs_spec.specs.Keys.{data_key};
 ghost use Rattle.ufs_spec.specs.Refusals.{lines_for, needs_mended, slots_needed, unit_numbers_of, writes};
 ghost use Rattle.ufs_spec.specs.declared.configs.Numbers.{Numbers};
-ghost use Rattle.ftl_core.specs.Describes.{Describes as IsLayer};
+ghost use Rattle.ftl_core.specs.Public.{Describes as IsLayer};
 ghost use Rattle.device.specs.Plans.{IsBare, IsPlanned, IsRequest, data_plan, plan_of, read_plan, write_plan};
 ghost use Rattle.task_set.specs.Tasks.{status_kept};
 

@@ -12,7 +12,8 @@ ghost use Rattle.std.specs.Prelude.{ℕ, List, nat_le};
 ghost use Rattle.arrayvec.specs.ArrayVec.{ArrayVec};
 ghost use Rattle.ufs_spec.specs.Messages.{Spells, host_fault_of};
 ghost use Rattle.ufs_spec.specs.Translation.{Translation};
-ghost use Rattle.ftl_core.specs.Describes.{Describes as IsLayer};
+ghost use Rattle.ftl_core.specs.Public.{Claims};
+ghost use Rattle.device.specs.Kept.{IsLayerWith};
 ghost use Rattle.ufs_spec.specs.declared.Message.{Message};
 
 use crate::device::Device;
@@ -167,8 +168,8 @@ impl Device {
     /// Begins what a command does, or answers why it does not.
     fn begin(&mut self, tag: u8, planned: Result<Plan, Status>) -> Phase
         ensures left { self.new ≡ record self.old { ftl = self.new.ftl } }
-        ensures begun { (t : Translation) → IsLayer self.old.ftl t →
-            HasBegun self.old.ftl self.new.ftl t tag planned result }
+        ensures begun { (t : Translation) (claims : Claims) → IsLayerWith self.old.ftl t claims →
+            HasBegun self.new.ftl t claims tag planned result }
     {
         match planned {
             Ok(Plan::Nothing { length }) => Phase::good(length),
@@ -198,8 +199,8 @@ impl Device {
     /// A read keeps what it looks up.
     fn begin_read(&mut self, tag: u8, key: Key, blocks: u16, length: u32) -> Phase
         ensures left { self.new ≡ record self.old { ftl = self.new.ftl } }
-        ensures begun { (t : Translation) → IsLayer self.old.ftl t →
-            HasKept self.old.ftl self.new.ftl t tag key blocks length result }
+        ensures begun { (t : Translation) (claims : Claims) → IsLayerWith self.old.ftl t claims →
+            HasKept self.new.ftl t claims tag key blocks length result }
     {
         if self.ftl.keep(tag, key, blocks) {
             let sending = Sending {
@@ -219,8 +220,8 @@ impl Device {
     /// A write claims a slot for each of its blocks.
     fn begin_write(&mut self, tag: u8, key: Key, blocks: u16, forced: bool) -> Phase
         ensures left { self.new ≡ record self.old { ftl = self.new.ftl } }
-        ensures begun { (t : Translation) → IsLayer self.old.ftl t →
-            HasClaimed self.old.ftl self.new.ftl t tag key blocks forced result }
+        ensures begun { (t : Translation) (claims : Claims) → IsLayerWith self.old.ftl t claims →
+            HasClaimed self.new.ftl t claims tag key blocks forced result }
     {
         if self.ftl.reserve(tag, blocks) {
             let transfer = Transfer {
@@ -274,8 +275,8 @@ impl Device {
     fn gather(&mut self, tag: u8, transfer: Transfer, bytes: &[u8]) -> TaskEvent
         requires { length bytes.now ≡ 4096 }
         ensures left { self.new ≡ record self.old { ftl = self.new.ftl } }
-        ensures taken { (t : Translation) → IsLayer self.old.ftl t →
-            HasGathered self.old.ftl self.new.ftl t tag transfer bytes.now result }
+        ensures taken { (t : Translation) (claims : Claims) → IsLayerWith self.old.ftl t claims →
+            HasGathered self.new.ftl t claims tag transfer bytes.now result }
     {
         self.ftl.fill(tag, transfer.gathered, bytes);
         if transfer.next().is_some() {
@@ -289,8 +290,8 @@ impl Device {
     /// device is locked. A device that is not locked has a number left.
     fn accept(&mut self, tag: u8, key: Key) -> TaskEvent
         ensures left { self.new ≡ record self.old { ftl = self.new.ftl } }
-        ensures taken { (t : Translation) → IsLayer self.old.ftl t →
-            HasTaken self.old.ftl self.new.ftl t tag key result }
+        ensures taken { (t : Translation) (claims : Claims) → IsLayerWith self.old.ftl t claims →
+            HasTaken self.new.ftl t claims tag key result }
     {
         if self.ftl.is_locked() {
             self.ftl.release(tag);

@@ -9,7 +9,7 @@ ghost use Rattle.ufs_spec.specs.Machine.{Done, OfDone, MayLeave, Turn, OfTurn};
 ghost use Rattle.ufs_spec.specs.Moves.{Ending, IsEndingOf, outcome_fits};
 ghost use Rattle.ufs_spec.specs.Refusals.{State};
 ghost use Rattle.ufs_spec.specs.Translation.{Translation};
-ghost use Rattle.ftl_core.specs.Describes.{Describes as IsLayer};
+ghost use Rattle.ftl_core.specs.Public.{Describes as IsLayer};
 ghost use Rattle.device.specs.Describes.{Describes, IsAnswered, IsGiven};
 ghost use Rattle.device.specs.Kept.{idle_device};
 ghost use Rattle.device.specs.Opened.{OpensOver};

@@ -1,7 +1,7 @@
 //! Replies: which are due, what they say, and what becomes of their tasks.
 ghost use Rattle.std.specs.Prelude.{◌≡◌, ◌<◌, ◌≤◌, ◌+◌, ℕ, false, length, nat_le, nat_lt, true, slice_get};
 ghost use Rattle.std.specs.Prelude.{if◌then◌else◌, IfSome, IfNone, Some, None, option_copied, option_map};
-ghost use Rattle.ufs_spec.specs.Ledger.{Looked as LayerLooked, before_accepted};
+ghost use Rattle.ufs_spec.specs.Ledger.{before_accepted};
 ghost use Rattle.ufs_spec.specs.Machine.{Reply, OfReply};
 ghost use Rattle.ufs_spec.specs.Messages.{spelling};
 ghost use Rattle.ufs_spec.specs.Moves.{Acknowledge, LetGo, LetGoAll, WantPage, moved};
@@ -10,8 +10,8 @@ ghost use Rattle.ufs_spec.specs.Refusals.{State};
 ghost use Rattle.ufs_spec.specs.Translation.{Translation, is_mended};
 ghost use Rattle.power_loss.specs.Book.{book};
 ghost use Rattle.power_loss.specs.Invariant.{LookedRight};
-ghost use Rattle.ftl_core.specs.Describes.{Describes as IsLayer, IsLookedAt};
-ghost use Rattle.ftl_core.specs.Moves.{claims_for};
+ghost use Rattle.ftl_core.specs.Public.{AreClaimed, Claims, Describes as IsLayer};
+ghost use Rattle.device.specs.Kept.{IsLayerWith};
 ghost use Rattle.task_set.specs.declared.tasks.Short.{Short};
 ghost use Rattle.device.specs.Describes.{Describes, IsAnswered, IsReplied};
 ghost use Rattle.device.specs.Hears.{with_event};
@@ -22,9 +22,8 @@ ghost use Rattle.device.specs.Replies.{moved_on, owed_by, owed_in, without_first
 
 use crate::device::Device;
 use crate::responses::{write_answer, write_block, write_data, write_ready, write_short};
-use ftl_core::Looked;
 use task_set::{Phase, Sending, Status, Task, TaskEvent};
-use ufs_spec::{Block, Upiu};
+use ufs_spec::{Block, Looked, Upiu};
 
 /// A block of zeros, as an address reads that was never written.
 static ZEROS: Block = [0; 4096];
@@ -148,15 +147,14 @@ impl Device {
     /// The block that the task at this position looked up, once it is there.
     fn block_looked(&self, index: usize, looked: Looked) -> Option<&Block>
         requires { index < length self.now.tasks }
-        ensures { (t : Translation) (kept : LayerLooked) → IsLayer self.now.ftl t →
-            is_mended t.work.mending ≡ true → IsLookedAt looked kept →
-            LookedRight (book t) t.ledger.frontier t.disk.cells t.disk.finished t.disk.erasing kept →
-            option_copied result ≡ block_at t.ledger (read_at self.now.tasks index) kept }
+        ensures { (t : Translation) → IsLayer self.now.ftl t → is_mended t.work.mending ≡ true →
+            LookedRight (book t) t.ledger.frontier t.disk.cells t.disk.finished t.disk.erasing looked →
+            option_copied result ≡ block_at t.ledger (read_at self.now.tasks index) looked }
     {
         match looked {
-            Looked::Nothing => Some(zeros()),
-            Looked::Slot { number, index } => self.ftl.slot(number, index),
-            Looked::Page(_) => self.block_read(index),
+            Looked::Unwritten => Some(zeros()),
+            Looked::InSlot(name) => self.ftl.slot(name),
+            Looked::OnPage(_, _) => self.block_read(index),
         }
     }
 
@@ -172,8 +170,8 @@ impl Device {
     fn move_on(&mut self, index: usize, task: Task)
         requires { index < length self.old.tasks }
         ensures left { self.new ≡ record (moved_on self.old index task.phase) { ftl = self.new.ftl } }
-        ensures moved { (t : Translation) → IsLayer self.old.ftl t →
-            HasMoved self.old.ftl self.new.ftl t task.tag task.phase }
+        ensures moved { (t : Translation) (claims : Claims) → IsLayerWith self.old.ftl t claims →
+            HasMoved self.new.ftl t claims task.tag task.phase }
     {
         match task.phase {
             Phase::AskData { transfer: _ } => {
@@ -203,7 +201,7 @@ impl Device {
         ensures left { self.new ≡ record (with_event self.old index TaskEvent.BlockSent) { ftl = self.new.ftl } }
         ensures one { (t : Translation) → IsLayer self.old.ftl t →
             IsLayer self.new.ftl (moved (moved t (LetGo tag sent)) (WantPage tag (sent + 1))) }
-        ensures same_claims { claims_for self.new.ftl ≡ claims_for self.old.ftl }
+        ensures claims { (claims : Claims) → AreClaimed self.old.ftl claims → AreClaimed self.new.ftl claims }
     {
         self.ftl.want_next(tag, sent);
         self.happen(index, TaskEvent::BlockSent);
@@ -217,7 +215,7 @@ impl Device {
         ensures told { (t : Translation) (count : ℕ) → IsLayer self.old.ftl t →
             before_accepted t.ledger + count ≤ t.ledger.frontier →
             IsLayer self.new.ftl (moved (moved t (Acknowledge count)) (LetGoAll tag)) }
-        ensures same_claims { claims_for self.new.ftl ≡ claims_for self.old.ftl }
+        ensures claims { (claims : Claims) → AreClaimed self.old.ftl claims → AreClaimed self.new.ftl claims }
     {
         self.ftl.unpin(tag);
         self.set.end(index);

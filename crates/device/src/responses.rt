@@ -2,12 +2,11 @@
 ghost use Rattle.std.specs.Prelude.{◌≡◌, ◌≤◌, ◌==◌, ◌*◌, length, take, if◌then◌else◌, Some, None, ◌∷◌, []};
 ghost use Rattle.ufs_spec.specs.Cdbs.{residual_of};
 ghost use Rattle.ufs_spec.specs.Exchanges.{CheckCondition, response, sense_data};
-ghost use Rattle.ufs_spec.specs.Machine.{query_unanswered};
 ghost use Rattle.ufs_spec.specs.Messages.{IsMessage, IsQueryFunction, spelling};
 ghost use Rattle.upiu.specs.Replies.{message_of};
 ghost use Rattle.ufs_spec.specs.declared.Message.{Message};
 ghost use Rattle.device.specs.Replies.{answer_of, block_message, count_of, data_message, data_padded};
-ghost use Rattle.device.specs.Replies.{function_of, short_message};
+ghost use Rattle.device.specs.Replies.{function_of, not_queried, short_message};
 ghost use Rattle.task_set.specs.Tasks.{status_kept};
 
 use task_set::{BLOCK_BYTES, Sending, Short, ShortData, ShortReply, Status, Task, Transfer};
@@ -172,7 +171,7 @@ fn task_response(lun: u8, tag: u8) -> Message
 
 /// The QUERY RESPONSE to a query that is not answered yet.
 fn query_response(tag: u8, writing: bool, asked: Asked) -> Message
-    ensures what { result ≡ query_unanswered tag (function_of writing) asked }
+    ensures what { result ≡ not_queried tag (function_of writing) asked }
     ensures message { IsMessage result }
 {
     Message::QueryResponse {

@@ -1,2 +1,3 @@
 pub mod NamesBehind
 pub mod PagesNamed
+pub mod StoredNames

@@ -1,3 +1,4 @@
+pub mod ClaimedBlocks
 pub mod Claims
 pub mod PinCalls
 pub mod ReadersClaims

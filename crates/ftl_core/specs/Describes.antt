@@ -5,10 +5,9 @@ use Rattle.std.specs.Prelude.{All, AllPairs, find, is_some, length, map, slice_g
 use Rattle.std.specs.List.{list_any}
 use Rattle.ufs_spec.specs.Cells.{Cell, Cells, GroupPage, MarkPage, key_of}
 use Rattle.ufs_spec.specs.Disk as disk
-use Rattle.ufs_spec.specs.Disk.{ForNobody, ForStep, ForTask, Reader, Spot}
+use Rattle.ufs_spec.specs.Disk.{Spot}
 use Rattle.ufs_spec.specs.Keys.{IsKey}
-use Rattle.ufs_spec.specs.Ledger as ledger
-use Rattle.ufs_spec.specs.Ledger.{Entry, InSlot, Ledger, Name, OnPage, Unwritten, before_accepted, entry_of}
+use Rattle.ufs_spec.specs.Ledger.{Entry, Ledger, before_accepted, entry_of}
 use Rattle.ufs_spec.specs.Ledger.{latest_durable, next_number, pending}
 use Rattle.ufs_spec.specs.Moves.{Ending, ReadRight, ReadWrong, GiveJob, moved}
 use Rattle.ufs_spec.specs.Plain.{shape_of_numbers}
@@ -21,6 +20,11 @@ use Rattle.ufs_spec.specs.declared.flash.Job.{Job}
 use Rattle.ufs_spec.specs.declared.flash.Key.{Key}
 use Rattle.ufs_spec.specs.declared.flash.Place.{Place}
 use Rattle.ufs_spec.specs.declared.flash.Tag.{Tag}
+use Rattle.ufs_spec.specs.declared.layer.Looked.{Looked}
+use Rattle.ufs_spec.specs.declared.layer.Looked.TheVariants.{InSlot, OnPage, Unwritten}
+use Rattle.ufs_spec.specs.declared.layer.Name.{Name}
+use Rattle.ufs_spec.specs.declared.layer.Reader.{Reader}
+use Rattle.ufs_spec.specs.declared.layer.Reader.TheVariants.{ForRest, ForStep, ForTask}
 use Rattle.power_loss.specs.Invariant.{Valid}
 use Rattle.collector.specs.Plans.{Collection, layer_plan}
 use Rattle.collector.specs.declared.PlannedCopy.{PlannedCopy}
@@ -29,15 +33,11 @@ use Rattle.block_table.specs.declared.BlockState.TheVariants as state
 use Rattle.block_table.specs.declared.rows.DieRow.{DieRow}
 use Rattle.block_table.specs.declared.rows.Flight.{Flight}
 use Rattle.block_table.specs.declared.rows.Flight.TheVariants as flight
-use Rattle.ftl_core.specs.declared.books.Looked.{Looked}
-use Rattle.ftl_core.specs.declared.books.Looked.TheVariants as looked
 use Rattle.ftl_core.specs.declared.books.Mending as kept
 use Rattle.ftl_core.specs.declared.books.Mending.TheVariants as mendings
 use Rattle.block_table.specs.declared.rows.OpenBlock.{OpenBlock}
 use Rattle.write_cache.specs.declared.slots.Pending.{Pending}
 use Rattle.ftl_core.specs.declared.books.Pin.{Pin}
-use Rattle.block_table.specs.declared.rows.Reader as reader
-use Rattle.block_table.specs.declared.rows.Reader.TheVariants as readers
 use Rattle.ftl_core.specs.declared.books.Step as kept_step
 use Rattle.ftl_core.specs.declared.books.Step.TheVariants as steps
 use Rattle.unit_map.specs.declared.Stored.{Stored}
@@ -85,12 +85,10 @@ IsFilling n blocks die (Some o) =
 abbrev pub IsNext : ℕ → Option OpenBlock → Place → Type 0
 IsNext die filling place = (o : OpenBlock) × (filling ≡ Some o) × (next_place die o ≡ place)
 
--- the reader of a read in flight
-abbrev pub IsReader : reader.Reader → Reader → Type 0
-IsReader (readers.Task tag i) (ForTask other index) = (other ≡ tag) × (index ≡ i)
-IsReader readers.Step ForStep = Unit {0}
-IsReader readers.Nobody ForNobody = Unit {0}
-IsReader who other = ⊥
+-- a read is for the rest of a page of which a command has only a part: in this stage none is
+abbrev pub is_for_rest : Reader → Bool
+is_for_rest (ForRest number index) = true
+is_for_rest reader = false
 
 -- the page of the step under way: a mark with its number, the page of a repair, or the copy of a page that was read
 abbrev pub IsStepCell : Option kept_step.Step → Cell → Type 0
@@ -106,7 +104,7 @@ abbrev pub IsFlight : Numbers → Option kept_step.Step → ℕ → Option OpenB
     Type 0
 IsFlight n step die filling None None = Unit {0}
 IsFlight n step die filling (Some (flight.Read place reader)) (Some (disk.Reading who p)) =
-    (p ≡ place) × IsReader reader who
+    (p ≡ place) × (who ≡ reader) × (is_for_rest reader ≡ false)
 IsFlight n step die filling (Some (flight.Step place)) (Some (disk.Programming p cell)) =
     (p ≡ place) × IsNext die filling place × IsStepCell step cell
 IsFlight n step die filling (Some (flight.Group place number i)) (Some (disk.Programming p (GroupPage tag body))) =
@@ -150,13 +148,15 @@ pub record PagesFly (standing : Standing) (flights : ℕ → Option disk.Flight)
 abbrev pub name_at : ℕ → ℕ → Name
 name_at n i = record { number = n; index = i }
 
--- the page of this name: its number, its index, what it holds, the size of its group, and where it stands
+-- the page of this name: its number, its index, what it holds, the size of its group, where it stands, and that its
+-- content is all there
 pub record PageKept (standing : Standing) (entries : Name → Option Entry) (p : Pending) (name : Name) : Type 0 where
   pub number : p.number ≡ name.number
   pub index : p.index ≡ name.index
   pub entry : entries name ≡ Some (record { item = record { key = p.key; body = p.body }; size = p.size })
   pub group_page : is_group_page p ≡ true
   pub stands : standing name.number name.index ≡ p.written
+  pub whole : p.rest ≡ None
 
 -- the pending pages are kept page by page, in the order of number and index
 abbrev pub PagesKept : Standing → (Name → Option Entry) → List Pending → List Name → Type 0
@@ -171,11 +171,13 @@ names_pending l = names_after l.frontier (pending l)
 
 -- Places
 
--- where the page of the name stands
-abbrev pub IsStored : Standing → Option Stored → Option Name → Type 0
-IsStored standing None None = Unit {0}
-IsStored standing (Some s) (Some name) = (name.number ≡ s.number) × (standing name.number name.index ≡ Some s.place)
-IsStored standing s name = ⊥
+-- the page of a name, with where it stands, if it does
+abbrev pub page_of_name : Standing → Name → Name × Option Place
+page_of_name standing name = (name, standing name.number name.index)
+
+-- what is stored names a page, and says that it stands at a place
+abbrev pub page_stored : Stored → Name × Option Place
+page_stored s = (s.name, Some s.place)
 
 -- what is kept of the groups: the frontier, the greatest number given, the pending pages, and for each key of the
 -- device where its durable content stands
@@ -187,24 +189,18 @@ pub record LedgerKept (n : Numbers) (stored : List (Option Stored)) (kept : List
   -- behind the frontier may be a repair's
   pub pages : PagesKept l.standing (entry_of l) kept (names_pending l)
   pub keys : key_total (shape_of_numbers n) ≤ length stored
+  -- what is stored of a key is the page of its durable content, where that stands
   pub places : (k : Key) → IsKey (shape_of_numbers n) k →
-      IsStored l.standing (stored_in n stored k) (latest_durable l k)
+      option_map page_stored (stored_in n stored k) ≡ option_map (page_of_name l.standing) (latest_durable l k)
 
 -- Pins
-
--- what a reader looked up is the same as specified: nothing was ever written, a slot of the cache, or a page
-abbrev pub IsLookedAt : Looked → ledger.Looked → Type 0
-IsLookedAt looked.Nothing Unwritten = Unit {0}
-IsLookedAt (looked.Slot n i) (InSlot name) = name ≡ name_at n i
-IsLookedAt (looked.Page s) (OnPage name place) = (name.number ≡ s.number) × (place ≡ s.place)
-IsLookedAt kept other = ⊥
 
 -- the page of the name is of the key
 abbrev pub IsNameOf : (Name → Option Entry) → Key → Name → Type 0
 IsNameOf entries k name = (e : Entry) × (entries name ≡ Some e) × (e.item.key ≡ k)
 
 -- what was looked up is of the key, and a slot is of a group that is not durable yet
-abbrev pub IsLookOf : ℕ → (Name → Option Entry) → Key → ledger.Looked → Type 0
+abbrev pub IsLookOf : ℕ → (Name → Option Entry) → Key → Looked → Type 0
 IsLookOf frontier entries k Unwritten = Unit {0}
 IsLookOf frontier entries k (InSlot name) = (frontier < name.number) × IsNameOf entries k name
 IsLookOf frontier entries k (OnPage name place) = IsNameOf entries k name
@@ -213,7 +209,7 @@ IsLookOf frontier entries k (OnPage name place) = IsNameOf entries k name
 pub record PinKept (frontier : ℕ) (entries : Name → Option Entry) (p : Pin) (q : layer.Pin) : Type 0 where
   pub tag : q.tag ≡ p.reader
   pub index : q.index ≡ p.index
-  pub looked_at : IsLookedAt p.looked q.looked
+  pub looked : q.looked ≡ p.looked
   pub there : IsLookOf frontier entries p.key q.looked
   pub wanted : q.wanted ≡ p.wanted
 
@@ -230,9 +226,8 @@ ReadersDiffer (p ∷ ps) = (list_any (is_pin_of p.reader p.index) ps ≡ false) 
 
 -- the pin is of the page at this place, which is still to be read
 pub record IsWanted (place : Place) (p : Pin) : Type 0 where
-  pub stored : Stored
-  pub looks : p.looked ≡ looked.Page stored
-  pub place_is : stored.place ≡ place
+  pub name : Name
+  pub looks : p.looked ≡ OnPage name place
   pub wanted : p.wanted ≡ true
 
 -- a read in flight for a task is of the page that its reader wants
@@ -263,7 +258,7 @@ pub record RepairKept (l : Ledger) (number : ℕ) (k : Key) (from : Option Store
   -- its page does not stand yet
   pub new : l.standing number 0 ≡ None
   pub entry : entry_of l (name_at number 0) ≡ Some (record { item = record { key = k; body = l.base k }; size = 1 })
-  pub stored : IsStored l.standing from (l.first_page k)
+  pub stored : option_map page_stored from ≡ option_map (page_of_name l.standing) (l.first_page k)
   pub content_is : there ≡ true → content ≡ l.base k
 
 -- what was read has the content of the page with this name, and the tag that it has whenever it is programmed

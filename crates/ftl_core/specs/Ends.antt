@@ -42,15 +42,18 @@ noted c k s =
     }
 
 -- who keeps the slot of the page keeps its place
-abbrev pub pins_moved : Core → ℕ → Stored → Core
-pins_moved c index s = record c { pins = map (moved_pin index s) c.pins }
+abbrev pub pins_moved : Core → Stored → Core
+pins_moved c s = record c { pins = map (moved_pin s) c.pins }
+
+-- the page of a group with this number and index, which stands there
+abbrev pub page_at : ℕ → ℕ → Place → Stored
+page_at n i p = record { name = record { number = n; index = i }; place = p }
 
 -- the page is durable: its address reads from where it is written, and so does who keeps its slot
 abbrev pub page_durable_at : Core → Pending → Option Place → Core
 page_durable_at c p None = c
 page_durable_at c p (Some place) =
-    pins_moved (noted c p.key (record { place = place; number = p.number })) p.index
-    (record { place = place; number = p.number })
+    pins_moved (noted c p.key (page_at p.number p.index place)) (page_at p.number p.index place)
 
 -- the group of a written page is durable, so its key reads from where the page is written
 abbrev pub page_durable : Core → Pending → Core
@@ -60,8 +63,7 @@ page_durable c p = page_durable_at c p p.written
 abbrev pub landed_at : Core → Landed → Option Place → Core
 landed_at c p None = c
 landed_at c p (Some place) =
-    pins_moved (noted c p.key (record { place = place; number = p.number })) p.index
-    (record { place = place; number = p.number })
+    pins_moved (noted c p.key (page_at p.number p.index place)) (page_at p.number p.index place)
 
 -- a page whose slot is free by now is durable: its key reads from where the page is written
 abbrev pub page_landed : Core → Landed → Core
@@ -123,7 +125,7 @@ plan_over c = plan_freed c c.plan
 -- the repair is durable: its key reads from this place
 abbrev pub repair_over : Core → Key → Place → Core
 repair_over c k p =
-    noted (record c { step = None; frontier = risen c }) k (record { place = p; number = risen c })
+    noted (record c { step = None; frontier = risen c }) k (page_at (risen c) 0 p)
 
 -- the index of a copy, by the tag of the page that was read
 abbrev pub index_in : Option Tag → ℕ
@@ -133,7 +135,7 @@ index_in (Some t) = t.index
 -- the key reads from the copy of its page, if no newer page of it is durable
 abbrev pub copy_durable : Core → ℕ → Key → Place → Option Stored → Core
 copy_durable c n k p None = c
-copy_durable c n k p (Some s) = if s.number == n then noted c k (record { place = p; number = n }) else c
+copy_durable c n k p (Some s) = if s.name.number == n then noted c k (record s { place = p }) else c
 
 -- the page of a pending group is written where its copy is
 abbrev pub copy_pending : Core → ℕ → ℕ → Place → Option Pending → Core

@@ -9,14 +9,14 @@ use Rattle.ufs_spec.specs.declared.flash.Outcome.TheVariants as outcome
 use Rattle.ufs_spec.specs.declared.flash.Page.{Page}
 use Rattle.ufs_spec.specs.declared.flash.Place.{Place}
 use Rattle.ufs_spec.specs.declared.flash.Tag.{Tag}
+use Rattle.ufs_spec.specs.declared.layer.Looked.{Looked}
+use Rattle.ufs_spec.specs.declared.layer.Looked.TheVariants.{OnPage}
+use Rattle.ufs_spec.specs.declared.layer.Reader.{Reader}
+use Rattle.ufs_spec.specs.declared.layer.Reader.TheVariants.{ForNobody, ForRest, ForStep, ForTask}
 use Rattle.block_table.specs.declared.rows.DieRow.{DieRow}
 use Rattle.block_table.specs.declared.rows.Flight.{Flight}
 use Rattle.block_table.specs.declared.rows.Flight.TheVariants as flight
-use Rattle.ftl_core.specs.declared.books.Looked.{Looked}
-use Rattle.ftl_core.specs.declared.books.Looked.TheVariants as looked
 use Rattle.ftl_core.specs.declared.books.Pin.{Pin}
-use Rattle.block_table.specs.declared.rows.Reader.{Reader}
-use Rattle.block_table.specs.declared.rows.Reader.TheVariants as reader
 use Rattle.ftl_core.specs.declared.books.Step.{Step}
 use Rattle.ftl_core.specs.declared.books.Step.TheVariants as step
 use Rattle.ftl_core.specs.declared.ftl.Ended.{Ended}
@@ -91,7 +91,7 @@ pub record IsBodyOf (page : Page) (k : Key) (n : ℕ) (body : Option (List ℕ))
 
 -- what the page that was read gives for what was looked up: the body, if it is the page of that number; else none
 abbrev pub IsBodyLooked : Page → Key → Looked → Option (List ℕ) → Type 0
-IsBodyLooked page k (looked.Page s) body = IsBodyOf page k s.number body
+IsBodyLooked page k (OnPage name place) body = IsBodyOf page k name.number body
 IsBodyLooked page k _ body = body ≡ None
 
 -- what a read gives for the pin of its reader; a read that failed gives none
@@ -106,7 +106,7 @@ IsGivenTo o (Some p) body = IsGiven o p body
 
 -- what the end of a read gives to its reader, if it has one still
 abbrev pub Gives : Core → Outcome → Reader → Ended → Type 0
-Gives c o (reader.Task tag index) e =
+Gives c o (ForTask tag index) e =
     (body : Option (List ℕ)) × IsGivenTo o (pin_of c tag index) body × (e ≡ ended.Read tag body)
 Gives c o r e = e ≡ ended.Other
 
@@ -119,7 +119,7 @@ GivesIf true c o who r = (e : Ended) × (r ≡ Some e) × Gives c o who e
 
 -- the body of the page, where it is the one that the step under way is read from
 abbrev pub IsContentOf : Option Step → Page → Option (List ℕ) → Type 0
-IsContentOf (Some (step.Repair n k (Some s) there)) page body = IsBodyOf page k s.number body
+IsContentOf (Some (step.Repair n k (Some s) there)) page body = IsBodyOf page k s.name.number body
 IsContentOf (Some (step.Copy n k from tag)) page body = IsBodyOf page k n body
 IsContentOf s page body = body ≡ None
 
@@ -130,10 +130,11 @@ IsContentRead s _ body = body ≡ None
 
 -- what is kept once a read for this reader is over, of a page with this tag
 abbrev pub IsReadOver : Core → Outcome → Option Tag → Reader → Core → Type 0
-IsReadOver c o found (reader.Task tag index) new = new ≡ record c { pins = map (wanted_no_more tag index) c.pins }
-IsReadOver c o found reader.Step new =
+IsReadOver c o found (ForTask tag index) new = new ≡ record c { pins = map (wanted_no_more tag index) c.pins }
+IsReadOver c o found ForStep new =
     (body : Option (List ℕ)) × IsContentRead c.step o body × (new ≡ with_content c found body)
-IsReadOver c o found reader.Nobody new = new ≡ c
+IsReadOver c o found (ForRest number index) new = new ≡ c
+IsReadOver c o found ForNobody new = new ≡ c
 
 -- what is kept after a read: its die is idle, and its reader has what it waited for. An outcome that is not one of a
 -- read changes nothing

@@ -8,6 +8,7 @@ pub mod KnownLive
 pub mod Limits
 pub mod Moves
 pub mod PinCounts
+pub mod Public
 pub mod Rooms
 pub mod Stops
 pub mod Takes

@@ -3,14 +3,19 @@ use Rattle.ufs_spec.specs.Pages.{greatest_number}
 use Rattle.ufs_spec.specs.declared.configs.Numbers.{Numbers}
 use Rattle.std.specs.Prelude.{ℕ, ◌+◌, ◌-◌, ◌*◌, ◌==◌, min, nat_le, nat_lt, Bool, true, false, ◌&&◌, ◌||◌, not}
 use Rattle.std.specs.Prelude.{if◌then◌else◌, List, [], ◌++◌, length, map, replicate, count_by, slice_get, slice_set}
-use Rattle.std.specs.Prelude.{Option, Some, None, unwrap_or, option_map, filter, find, is_none}
+use Rattle.std.specs.Prelude.{Option, Some, None, unwrap_or, option_and_then, option_map, filter, find, is_none}
 use Rattle.std.specs.List.{list_any}
 use Rattle.ufs_spec.specs.Keys.{below}
+use Rattle.ufs_spec.specs.Ledger.{same_name}
 use Rattle.ufs_spec.specs.Plain.{zero_block}
-use Rattle.ufs_spec.specs.Translation.{own_room}
+use Rattle.ufs_spec.specs.Translation.{name_of, own_room}
 use Rattle.ufs_spec.specs.declared.flash.Fence.{Fence}
 use Rattle.ufs_spec.specs.declared.flash.Key.{Key}
 use Rattle.ufs_spec.specs.declared.flash.Tag.{Tag}
+use Rattle.ufs_spec.specs.declared.layer.Looked.{Looked}
+use Rattle.ufs_spec.specs.declared.layer.Looked.TheVariants.{InSlot, OnPage, Unwritten}
+use Rattle.ufs_spec.specs.declared.layer.Name.{Name}
+use Rattle.ufs_spec.specs.declared.layer.Reader.TheVariants.{ForTask}
 use Rattle.block_table.specs.declared.BlockState.{BlockState}
 use Rattle.block_table.specs.declared.BlockState.TheVariants as state
 use Rattle.block_table.specs.declared.rows.OpenBlock.{OpenBlock}
@@ -20,8 +25,6 @@ use Rattle.block_table.specs.declared.rows.Flight.TheVariants as flight
 use Rattle.unit_map.specs.declared.Stored.{Stored}
 use Rattle.write_cache.specs.declared.slots.Claimed.{Claimed}
 use Rattle.write_cache.specs.declared.slots.Pending.{Pending}
-use Rattle.ftl_core.specs.declared.books.Looked.{Looked}
-use Rattle.ftl_core.specs.declared.books.Looked.TheVariants as looked
 use Rattle.ftl_core.specs.declared.books.Mending.{Mending}
 use Rattle.ftl_core.specs.declared.books.Mending.TheVariants as mending
 use Rattle.ftl_core.specs.declared.books.Pin.{Pin}
@@ -39,6 +42,7 @@ pub use Rattle.block_table.specs.Rows.{erases, fills, flight_erases, flight_read
 pub use Rattle.block_table.specs.Rows.{flight_without_block, idle_row, reads_for, rows_failed, rows_in_flight}
 pub use Rattle.block_table.specs.Rows.{without_block, without_reader}
 use Rattle.unit_map.specs.Places.{stored_in}
+use Rattle.write_cache.specs.Rests.{content_of}
 use Rattle.write_cache.specs.Slots.{claim_filled, empty_claim, is_claim_of, is_named, key_at, last_page, page_claimed}
 use Rattle.ftl_core.specs.Core.{Core}
 use Rattle.ftl_core.specs.KnownLive.{lives_of_places}
@@ -60,9 +64,9 @@ is_bad_found found.Stale = false
 is_bad_found found.Closed = false
 is_bad_found found.Bad = true
 
--- the found page of a content: the place where it stands, and the number of its group
+-- the found page of a content: its name, and the place where it stands
 abbrev pub stored_of_found : FoundPage → Stored
-stored_of_found page = record { place = page.place; number = page.tag.number }
+stored_of_found page = record { name = name_of page.tag; place = page.place }
 
 -- the fence of the first mark: over the lost numbers, if there are any
 abbrev pub first_fence : Found → Option Fence
@@ -166,7 +170,7 @@ free_blocks c = count_by is_free c.states
 
 -- a reader keeps a page of the block
 abbrev pub keeps_page : ℕ → ℕ → Looked → Bool
-keeps_page die block (looked.Page s) = (s.place.die == die) && (s.place.block == block)
+keeps_page die block (OnPage name place) = (place.die == die) && (place.block == block)
 keeps_page die block _ = false
 
 -- a reader keeps a page of this block, so the block may not be erased
@@ -195,12 +199,12 @@ has_stale c = list_any is_stale c.states
 
 -- what was looked up lies on this die
 abbrev pub looks_on : ℕ → Looked → Bool
-looks_on die (looked.Page s) = s.place.die == die
+looks_on die (OnPage name place) = place.die == die
 looks_on die _ = false
 
 -- the reader is owed the read of a page of this die: it wants it, and no die reads for it
 abbrev pub is_owed_by : List DieRow → ℕ → Pin → Bool
-is_owed_by rows die p = p.wanted && looks_on die p.looked && not (list_any (reads_for p.reader p.index) rows)
+is_owed_by rows die p = p.wanted && looks_on die p.looked && not (list_any (reads_for (ForTask p.reader p.index)) rows)
 
 -- pages of groups may be programmed: at least as many blocks are free as groups leave to the device's own pages
 abbrev pub has_room_for_groups : Core → Bool
@@ -302,12 +306,15 @@ erased c die block = record (with_state c die block state.Ready) { rows = rows_i
 abbrev pub stored_of : Core → Key → Option Stored
 stored_of c k = stored_in c.numbers c.places k
 
--- the newest content of an address: its pending page if there is one, else its durable page, else nothing was ever
--- written
+-- the durable page of an address, if it has one; else nothing was ever written
+abbrev pub looked_on : Option Stored → Looked
+looked_on None = Unwritten
+looked_on (Some s) = OnPage s.name s.place
+
+-- the newest content of an address: its pending page if there is one, else its durable page
 abbrev pub looked_at : Option Pending → Option Stored → Looked
-looked_at (Some p) s = looked.Slot p.number p.index
-looked_at None (Some s) = looked.Page s
-looked_at None None = looked.Nothing
+looked_at (Some p) s = InSlot (record { number = p.number; index = p.index })
+looked_at None s = looked_on s
 
 -- what holds the content of the address after all pending groups
 abbrev pub look_of : Core → Key → Looked
@@ -359,19 +366,17 @@ next_wanted c reader index =
     }
 
 -- who kept the slot of a page keeps its place from now on
-abbrev pub now_stored : ℕ → Stored → Looked → Looked
-now_stored index s (looked.Slot n i) =
-    if (n == s.number) && (i == index) then looked.Page s else looked.Slot n i
-now_stored index s (looked.Page t) = looked.Page t
-now_stored index s looked.Nothing = looked.Nothing
+abbrev pub now_stored : Stored → Looked → Looked
+now_stored s (InSlot name) = if same_name name s.name then OnPage s.name s.place else InSlot name
+now_stored s looked = looked
 
 -- a pin on the slot of the page is on the page's place from now on; any other pin stays
-abbrev pub moved_pin : ℕ → Stored → Pin → Pin
-moved_pin index s p = record p { looked = now_stored index s p.looked }
+abbrev pub moved_pin : Stored → Pin → Pin
+moved_pin s p = record p { looked = now_stored s p.looked }
 
--- the block in the slot of the page with this number and index
-abbrev pub slot_of : Core → ℕ → ℕ → Option (List ℕ)
-slot_of c number index = option_map (λ (p : Pending). p.body) (find (is_named number index) c.pages)
+-- the content of the pending page of this name, if it is all there
+abbrev pub slot_of : Core → Name → Option (List ℕ)
+slot_of c name = option_and_then content_of (find (is_named name.number name.index) c.pages)
 
 -- Claims
 

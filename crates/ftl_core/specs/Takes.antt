@@ -12,6 +12,9 @@ use Rattle.ufs_spec.specs.declared.flash.Tag.{Tag}
 use Rattle.ufs_spec.specs.declared.flash.Fence.{Fence}
 use Rattle.ufs_spec.specs.declared.flash.Key.{Key}
 use Rattle.ufs_spec.specs.declared.flash.Place.{Place}
+use Rattle.ufs_spec.specs.declared.layer.Looked.{Looked}
+use Rattle.ufs_spec.specs.declared.layer.Looked.TheVariants.{OnPage}
+use Rattle.ufs_spec.specs.declared.layer.Reader.TheVariants.{ForStep, ForTask}
 use Rattle.block_table.specs.declared.BlockState.{BlockState}
 use Rattle.block_table.specs.declared.BlockState.TheVariants as state
 use Rattle.block_table.specs.declared.rows.OpenBlock.{OpenBlock}
@@ -19,19 +22,17 @@ use Rattle.block_table.specs.declared.rows.DieRow.{DieRow}
 use Rattle.block_table.specs.declared.rows.Flight.{Flight}
 use Rattle.block_table.specs.declared.rows.Flight.TheVariants as flight
 use Rattle.write_cache.specs.declared.slots.Pending.{Pending}
-use Rattle.ftl_core.specs.declared.books.Looked.{Looked}
-use Rattle.ftl_core.specs.declared.books.Looked.TheVariants as looked
 use Rattle.ftl_core.specs.declared.books.Pin.{Pin}
-use Rattle.block_table.specs.declared.rows.Reader.TheVariants as reader
 use Rattle.ftl_core.specs.declared.books.Step.{Step}
 use Rattle.ftl_core.specs.declared.books.Step.TheVariants as step
 use Rattle.ftl_core.specs.declared.books.Waiting.{Waiting}
 use Rattle.ftl_core.specs.declared.books.Waiting.TheVariants as waiting
 use Rattle.ftl_core.specs.Core.{Core}
-pub use Rattle.block_table.specs.Rows.{flight_writes, is_step_flight, is_step_reading, reads_step, writes_page}
+pub use Rattle.block_table.specs.Rows.{flight_writes, is_step_flight, reads_for, writes_page}
 pub use Rattle.block_table.specs.Rows.{writes_step}
 use Rattle.ftl_core.specs.Moves.{first_page, has_room_for_groups, is_owed_by, mark_key, may_be_used, may_open}
 use Rattle.ftl_core.specs.Moves.{single_tag, started}
+use Rattle.write_cache.specs.Rests.{content_of}
 use Rattle.write_cache.specs.Slots.{is_named}
 use Rattle.ftl_core.specs.Moves.{tag_of_page}
 
@@ -50,9 +51,10 @@ lowest_below test (suc n) = found_or (lowest_below test n) (test n) n
 
 -- What waits
 
--- the page is neither written nor in flight
+-- the page is neither written nor in flight, and its content is all there
 abbrev pub page_waits : List DieRow → Pending → Bool
-page_waits rows p = is_none p.written && not (list_any (writes_page p.number p.index) rows)
+page_waits rows p =
+    is_none p.written && not (list_any (writes_page p.number p.index) rows) && is_none p.rest
 
 -- the pending page that waits first
 abbrev pub page_waiting : Core → Option Pending
@@ -117,12 +119,12 @@ waiting_flight c die (Some o) w = Some (page_flight (next_place die o) w)
 
 -- where what was looked up is to be read from; a slot, or a key that was never written, needs no read
 abbrev pub place_in : Looked → Option Place
-place_in (looked.Page s) = Some s.place
+place_in (OnPage name place) = Some place
 place_in _ = None
 
 -- the read that the reader is owed
 abbrev pub read_of : Pin → Option Flight
-read_of p = option_map (λ place. flight.Read place (reader.Task p.reader p.index)) (place_in p.looked)
+read_of p = option_map (λ place. flight.Read place (ForTask p.reader p.index)) (place_in p.looked)
 
 -- the position of the first reader who is owed the read of a page of this die
 abbrev pub first_owed : Core → ℕ → Option ℕ
@@ -138,7 +140,7 @@ step_wants s = None
 abbrev pub step_read_at : Core → ℕ → Option Place → Option Flight
 step_read_at c die None = None
 step_read_at c die (Some place) =
-    if not (place.die == die) || list_any reads_step c.rows then None else Some (flight.Read place reader.Step)
+    if not (place.die == die) || list_any (reads_for ForStep) c.rows then None else Some (flight.Read place ForStep)
 
 -- the read that the step under way still needs from this die, if no die does it yet
 abbrev pub step_read : Core → ℕ → Option Flight
@@ -167,15 +169,16 @@ is_group_page p =
     (p.key.kind == 1) && nat_le p.key.unit 7 && nat_le 1 p.number && nat_le p.number greatest_number
     && nat_lt p.index p.size && nat_le p.size group_bound
 
--- the page of a pending group
-abbrev pub page_of_group : Core → Place → Pending → Job
-page_of_group c place p =
-    job.Program place (seal_page (tag_of_page p.key p.number p.index p.size c.frontier) p.body)
+-- the program of the page of a pending group with this content
+abbrev pub page_of_group : Core → Place → Pending → List ℕ → Job
+page_of_group c place p body =
+    job.Program place (seal_page (tag_of_page p.key p.number p.index p.size c.frontier) body)
 
--- the program of a pending page, if it is one that may be sealed
+-- the program of a pending page, if it is one that may be sealed, and its content is all there
 abbrev pub group_job_of : Core → Place → Option Pending → Option Job
 group_job_of c place None = None
-group_job_of c place (Some p) = if is_group_page p then Some (page_of_group c place p) else None
+group_job_of c place (Some p) =
+    if is_group_page p then option_map (page_of_group c place p) (content_of p) else None
 
 -- the program of the page with this number and index, if it is pending
 abbrev pub group_job : Core → Place → ℕ → ℕ → Option Job

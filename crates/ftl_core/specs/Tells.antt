@@ -1,27 +1,27 @@
 -- What the calls of the layer tell of the layer that is specified.
-use Rattle.std.specs.Prelude.{◌≡◌, ℕ, ◌+◌, ◌==◌, Bool, true, false, List, [], ◌∷◌, find, map, Option, Some, None}
+use Rattle.std.specs.Prelude.{◌≡◌, ℕ, ◌+◌, ◌==◌, Bool, true, false, List, [], ◌∷◌, find, map, Some}
 use Rattle.std.specs.List.{list_any}
-use Rattle.ufs_spec.specs.Disk.{ForNobody, ForRest, ForStep, ForTask, Reader}
 use Rattle.ufs_spec.specs.Keys.{Group, below}
-use Rattle.ufs_spec.specs.Ledger.{Name, OnPage, look}
+use Rattle.ufs_spec.specs.Ledger.{look}
 use Rattle.ufs_spec.specs.Moves.{Keep, Move, is_pin_of}
 use Rattle.ufs_spec.specs.Translation as layer
 use Rattle.ufs_spec.specs.Translation.{Translation}
 use Rattle.ufs_spec.specs.declared.flash.Key.{Key}
 use Rattle.ufs_spec.specs.declared.flash.Place.{Place}
+use Rattle.ufs_spec.specs.declared.layer.Looked.{Looked}
+use Rattle.ufs_spec.specs.declared.layer.Looked.TheVariants.{OnPage}
+use Rattle.ufs_spec.specs.declared.layer.Name.{Name}
+use Rattle.ufs_spec.specs.declared.layer.Reader.{Reader}
+use Rattle.ufs_spec.specs.declared.layer.Reader.TheVariants.{ForNobody, ForRest, ForStep, ForTask}
 use Rattle.write_cache.specs.declared.slots.Claimed.{Claimed}
-use Rattle.ftl_core.specs.declared.books.Looked.{Looked}
-use Rattle.ftl_core.specs.Describes.{IsLookedAt}
 
 -- the pin is one of this reader
 abbrev pub keeps_for : ℕ → layer.Pin → Bool
 keeps_for reader pin = pin.tag == reader
 
--- what a reader keeps looks at what its pin looks at, and it keeps nothing where it has no pin
-abbrev pub IsPinned : Option Looked → Option layer.Pin → Type 0
-IsPinned None None = Unit {0}
-IsPinned (Some looked) (Some pin) = IsLookedAt looked pin.looked
-IsPinned kept other = ⊥
+-- where the pin looks
+abbrev pub looked_of : layer.Pin → Looked
+looked_of pin = pin.looked
 
 -- the reader keeps the page there and waits for it
 pub record IsAwaited (t : Translation) (tag index : ℕ) (place : Place) : Type 0 where

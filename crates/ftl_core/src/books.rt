@@ -1,16 +1,6 @@
 //! What the translation layer writes down of readers, of the mending and of its steps.
-use ufs_spec::{Fence, Key, Place, Tag};
+use ufs_spec::{Fence, Key, Looked, Place, Tag};
 use unit_map::Stored;
-
-/// What holds the content of an address: nothing (it reads as zeros), the slot of the page of this index
-/// in the pending group of this number, or a page of a die.
-#[derive(Clone, Copy, Debug, Default, PartialEq, Eq)]
-pub enum Looked {
-    #[default]
-    Nothing,
-    Slot { number: u64, index: u16 },
-    Page(Stored),
-}
 
 /// What a reader keeps of its block of this index from being erased or given up, and whether its page is
 /// still to be read.

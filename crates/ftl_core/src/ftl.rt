@@ -3,7 +3,7 @@ ghost use Rattle.std.specs.Prelude.{◌≡◌, ℕ, ◌<◌, ◌≤◌, ◌+◌,
 ghost use Rattle.std.specs.List.{list_any};
 ghost use Rattle.ftl_core.specs.Moves.{accepted, first_fence, first_mending, idle_row, is_bad_found};
 ghost use Rattle.ftl_core.specs.Moves.{is_over, mark_number_behind, opened, state_of_found};
-ghost use Rattle.ftl_core.specs.Moves.{stored_of_found, slot_of, is_pin_of, is_of_reader, looked_by, pin_of, pin_now, kept_all, next_wanted, unpinned, look_of, stored_of, free_slots, is_locked, has_number, next_number, without_reader, without_block, wanted_now};
+ghost use Rattle.ftl_core.specs.Moves.{stored_of_found, slot_of, is_pin_of, is_of_reader, looked_by, looked_on, pin_of, pin_now, kept_all, next_wanted, unpinned, look_of, stored_of, free_slots, is_locked, has_number, next_number, without_reader, without_block, wanted_now};
 ghost use Rattle.unit_map.specs.Places.{position_of};
 ghost use Rattle.write_cache.specs.Slots.{is_page_of, key_at, last_of, last_page, is_named};
 ghost use Rattle.ftl_core.specs.Moves.{claims_for, claimed_all, released, filled};
@@ -16,15 +16,17 @@ ghost use Rattle.ufs_spec.specs.Plain.{shape_of_numbers, zero_block};
 ghost use Rattle.ufs_spec.specs.Translation.{Translation, free_slots as layer_slots, is_live as is_live_page, is_locked as is_layer_locked, is_mended, has_pending};
 ghost use Rattle.ufs_spec.specs.Cells.{AreWithin, Cells};
 ghost use Rattle.ufs_spec.specs.Sound.{CellsSound};
-ghost use Rattle.power_loss.specs.Book.{CellsRight};
+ghost use Rattle.power_loss.specs.Book.{CellsRight, book};
+ghost use Rattle.power_loss.specs.Invariant.{PinsRight};
 ghost use Rattle.recovery.specs.Found.{IsFound};
 ghost use Rattle.ufs_spec.specs.Disk.{Spot};
 ghost use Rattle.ufs_spec.specs.Openings.{IsOpenedTranslation};
-ghost use Rattle.ftl_core.specs.Describes.{Describes, name_at};
+ghost use Rattle.ftl_core.specs.Describes.{Describes};
 ghost use Rattle.ftl_core.specs.Stops.{StopsRight};
 ghost use Rattle.ftl_core.specs.KnownLive.{live_moved, none_live, page_moved, with_stored};
 ghost use Rattle.block_table.specs.Lives.{is_live};
-ghost use Rattle.ftl_core.specs.Tells.{IsPinned, PinsDiffer, claims_of_blocks, group_of_blocks, keeps_for, keeps_of, key_behind};
+ghost use Rattle.ftl_core.specs.Tells.{PinsDiffer, group_of_blocks, keeps_for, keeps_of, key_behind, looked_of};
+ghost use Rattle.ftl_core.specs.Public.{AreClaimed, Claims, AreClaimedBy, with_block, with_claimed};
 
 mod ends;
 mod facts;
@@ -34,14 +36,16 @@ mod takes;
 mod turns;
 
 use self::pin_counts::{pin_block, unpin_block_of, unpin_blocks};
-use crate::books::{Looked, Mending, Pin, Step};
+use crate::books::{Mending, Pin, Step};
 use block_table::{BlockState, BlockTable, LivePages, Sizes};
 use collector::Plan;
 use geometry::{Config, key_count};
 use recovery::{Found, FoundBlock, FoundPage};
 use std::alloc::{AllocError, Global};
 use std::marker::Model;
-use ufs_spec::{Block, Fence, GREATEST_COMMAND, GREATEST_NUMBER, Key, MOST_TASKS, Place, UnitSpec};
+use ufs_spec::{
+    Block, Fence, GREATEST_COMMAND, GREATEST_NUMBER, Key, Looked, MOST_TASKS, Name, Place, UnitSpec,
+};
 use unit_map::{Stored, UnitMap};
 use write_cache::{Cache, key_at};
 
@@ -176,6 +180,16 @@ fn looked_by(pins: &[Pin], reader: u8, index: u16) -> Option<Looked>
     Some(pin.looked)
 }
 
+/// What is looked at where the durable content of an address stands, or nowhere.
+fn looked_on(stored: Option<Stored>) -> Looked
+    ensures { result ≡ looked_on stored }
+{
+    match stored {
+        Some(stored) => Looked::OnPage(stored.name, stored.place),
+        None => Looked::Unwritten,
+    }
+}
+
 /// What the blocks are when the layer is opened.
 fn states_of(alloc: Global, blocks: &[FoundBlock]) -> Result<Vec<BlockState>, AllocError>
     ensures { IfOk result (λ v. v.items ≡ map state_of_found blocks.now) }
@@ -219,9 +233,13 @@ fn stored_in(page: Option<FoundPage>) -> Option<Stored>
 fn stored_of_found(page: FoundPage) -> Stored
     ensures { result ≡ stored_of_found page }
 {
-    Stored {
-        place: page.place,
+    let name = Name {
         number: page.tag.number,
+        index: page.tag.index,
+    };
+    Stored {
+        name,
+        place: page.place,
     }
 }
 
@@ -328,6 +346,7 @@ impl Ftl {
         ensures stop { IfOk result (λ f. (cells : Cells) (is_bad : Spot → Bool) (t : Translation) →
             1 ≤ config.pages → CellsRight cells → AreWithin config cells → CellsSound cells t.ledger.newest →
             IsFound config cells is_bad found → IsOpenedTranslation config cells is_bad t → StopsRight f t) }
+        ensures claims { IfOk result (λ f. AreClaimed f (λ reader. [])) }
     {
         let numbers = config.numbers();
         let slots = numbers.slots;
@@ -441,9 +460,8 @@ impl Ftl {
         ensures described { (t : Translation) → Describes self.old t →
             Describes self.new (if result then moved t (Claim blocks) else t) }
         // The slots of a reader who had claimed none hold zeros, and those of the others what they held.
-        ensures claims { claims_for self.old reader ≡ [] → claims_for self.new reader ≡
-            (if result then claims_of_blocks reader (replicate blocks zero_block) else []) }
-        ensures other_claims { (other : ℕ) → (other ≡ reader → ⊥) → claims_for self.new other ≡ claims_for self.old other }
+        ensures claims { (claims : Claims) → AreClaimed self.old claims → claims reader ≡ [] → AreClaimed self.new
+            (if result then with_claimed claims reader (replicate blocks zero_block) else claims) }
     {
         self.claim_slots(reader, blocks)
     }
@@ -461,8 +479,11 @@ impl Ftl {
         ensures after { self.new ≡ released self.old reader }
         ensures described { (t : Translation) → Describes self.old t →
             Describes self.new (moved t (Release (length (claims_for self.old reader)))) }
-        ensures claims { claims_for self.new reader ≡ [] }
-        ensures other_claims { (other : ℕ) → (other ≡ reader → ⊥) → claims_for self.new other ≡ claims_for self.old other }
+        // As many slots are given back as blocks lie in them.
+        ensures described_blocks { (t : Translation) (blocks : List (List ℕ)) → Describes self.old t →
+            AreClaimedBy self.old reader blocks → Describes self.new (moved t (Release (length blocks))) }
+        ensures claims { (claims : Claims) → AreClaimed self.old claims →
+            AreClaimed self.new (with_claimed claims reader []) }
     {
         self.release_slots(reader);
     }
@@ -481,9 +502,8 @@ impl Ftl {
         ensures after { self.new ≡ filled self.old reader index body.now }
         // What is claimed shows in the layer by its number alone.
         ensures described { (t : Translation) → Describes self.old t → Describes self.new t }
-        ensures claims { claims_for self.new reader ≡
-            map (claim_filled reader index body.now) (claims_for self.old reader) }
-        ensures other_claims { (other : ℕ) → (other ≡ reader → ⊥) → claims_for self.new other ≡ claims_for self.old other }
+        ensures claims { (claims : Claims) → AreClaimed self.old claims →
+            AreClaimed self.new (with_block claims reader index body.now) }
     {
         self.fill_slot(reader, index, body);
     }
@@ -502,11 +522,11 @@ impl Ftl {
         ensures { result ≡ look_of self.now key }
     {
         match self.cache.last_page(key) {
-            Some(page) => Looked::Slot {
+            Some(page) => Looked::InSlot(Name {
                 number: page.number,
                 index: page.index,
-            },
-            None => self.stored(key).map_or(Looked::Nothing, Looked::Page),
+            }),
+            None => looked_on(self.stored(key)),
         }
     }
 
@@ -543,7 +563,7 @@ impl Ftl {
             ((i : ℕ) → i < blocks → IsKey (shape_of_numbers t.numbers) (key_behind key i)) →
             list_any (keeps_for reader) t.pins ≡ false →
             Describes self.new (if result then fold moved t (keeps_of t reader key blocks) else t) }
-        ensures same_claims { claims_for self.new ≡ claims_for self.old }
+        ensures claims { (claims : Claims) → AreClaimed self.old claims → AreClaimed self.new claims }
     {
         self.has_numbers_in_range();
         if self.pins.len() + blocks as usize > MOST_PINS {
@@ -588,7 +608,7 @@ impl Ftl {
         ensures described_told { (t : Translation) (count : ℕ) → Describes self.old t →
             before_accepted t.ledger + count ≤ t.ledger.frontier →
             Describes self.new (moved (moved t (Acknowledge count)) (LetGoAll reader)) }
-        ensures same_claims { claims_for self.new ≡ claims_for self.old }
+        ensures claims { (claims : Claims) → AreClaimed self.old claims → AreClaimed self.new claims }
     {
         self.forget(reader);
         unpin_blocks(&mut self.live, self.pins.as_slice(), reader);
@@ -607,7 +627,7 @@ impl Ftl {
         ensures after { self.new ≡ next_wanted self.old reader index }
         ensures described { (t : Translation) → Describes self.old t →
             Describes self.new (moved (moved t (LetGo reader index)) (WantPage reader (index + 1))) }
-        ensures same_claims { claims_for self.new ≡ claims_for self.old }
+        ensures claims { (claims : Claims) → AreClaimed self.old claims → AreClaimed self.new claims }
     {
         self.forget_one(reader, index);
         unpin_block_of(&mut self.live, self.pins.as_slice(), reader, index);
@@ -623,14 +643,17 @@ impl Ftl {
     }
 
     /// What is looked at for this block of the reader; `None` where nothing is kept.
-    #[tactic(auto, using(crate::proofs::small_calls::PinCalls::pinned_right, crate::proofs::small_calls::PinCalls::keeps_mended))]
+    #[tactic(auto, using(crate::proofs::small_calls::PinCalls::pinned_right, crate::proofs::small_calls::PinCalls::keeps_mended, crate::proofs::small_calls::PinCalls::pins_there))]
     pub fn pinned(&self, reader: u8, index: u16) -> Option<Looked>
         ensures core { result ≡ looked_by reader index self.now.pins }
         ensures described { (t : Translation) → Describes self.now t →
-            IsPinned result (find (is_layer_pin_of reader index) t.pins) }
+            result ≡ option_map looked_of (find (is_layer_pin_of reader index) t.pins) }
         // Readers keep something only once the device is mended.
         ensures described_mended { (t : Translation) → Describes self.now t → IsSome result →
             is_mended t.work.mending ≡ true }
+        // What readers keep is there: a page that opens, or a page of a group that is not durable.
+        ensures described_there { (t : Translation) → Describes self.now t → PinsRight (book t) t.ledger.frontier
+            t.disk.cells t.disk.finished t.disk.erasing t.pins }
     {
         looked_by(self.pins.as_slice(), reader, index)
     }
@@ -642,15 +665,16 @@ impl Ftl {
         found_pin(self.pins.as_slice(), reader, index)
     }
 
-    /// The block in the slot of the page with this number and index; `None` where no pending group has it.
-    pub fn slot(&self, number: u64, index: u16) -> Option<&Block>
-        ensures core { option_copied result ≡ slot_of self.now number index }
+    /// The block in the slot of the page of this name; `None` where no pending group has it, or its content
+    /// is not all there.
+    pub fn slot(&self, name: Name) -> Option<&Block>
+        ensures core { option_copied result ≡ slot_of self.now name }
         ensures described { (t : Translation) (e : Entry) → Describes self.now t → is_mended t.work.mending ≡ true →
-            t.ledger.frontier < number → entry_of t.ledger (name_at number index) ≡ Some e →
+            t.ledger.frontier < name.number → entry_of t.ledger name ≡ Some e →
             option_copied result ≡ Some e.item.body }
     {
-        let page = self.cache.page_named(number, index)?;
-        Some(page.body.block())
+        let page = self.cache.page_named(name.number, name.index)?;
+        page.content()
     }
 
     /// Puts the group of the blocks that came for this reader behind all that are pending, in the place of
@@ -660,17 +684,17 @@ impl Ftl {
         ensures number { result ≡ next_number self.old }
         ensures after { self.new ≡ accepted self.old reader key }
         ensures described { (t : Translation) (bodies : List (List ℕ)) → Describes self.old t →
-            key.kind ≡ 1 → key.unit ≤ 7 → claims_for self.old reader ≡ claims_of_blocks reader bodies →
+            key.kind ≡ 1 → key.unit ≤ 7 → AreClaimedBy self.old reader bodies →
             IsAllowedMove t (Accept (length bodies) (group_of_blocks key bodies)) →
             Describes self.new (moved t (Accept (length bodies) (group_of_blocks key bodies))) }
         // Whatever a stop leaves then is right.
         ensures stop { (t : Translation) (bodies : List (List ℕ)) → Describes self.old t →
-            key.kind ≡ 1 → key.unit ≤ 7 → claims_for self.old reader ≡ claims_of_blocks reader bodies →
+            key.kind ≡ 1 → key.unit ≤ 7 → AreClaimedBy self.old reader bodies →
             IsAllowedMove t (Accept (length bodies) (group_of_blocks key bodies)) →
             StopsRight self.new (moved t (Accept (length bodies) (group_of_blocks key bodies))) }
         ensures described_number { (t : Translation) → Describes self.old t → result ≡ next_of_layer t.ledger }
-        ensures claims { claims_for self.new reader ≡ [] }
-        ensures other_claims { (other : ℕ) → (other ≡ reader → ⊥) → claims_for self.new other ≡ claims_for self.old other }
+        ensures claims { (claims : Claims) → AreClaimed self.old claims →
+            AreClaimed self.new (with_claimed claims reader []) }
     {
         self.has_numbers_in_range();
         self.append(reader, key)

@@ -5,8 +5,8 @@
 mod books;
 mod ftl;
 
-pub use block_table::{BlockState, DieRow, Flight, OpenBlock, Reader};
-pub use books::{Looked, Mending, Pin, Step, Waiting};
+pub use block_table::{BlockState, DieRow, Flight, OpenBlock};
+pub use books::{Mending, Pin, Step, Waiting};
 pub use ftl::{Ended, Ftl};
 pub use unit_map::Stored;
 pub use write_cache::{Claimed, Pending};

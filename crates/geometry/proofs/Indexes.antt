@@ -5,7 +5,8 @@ use Rattle.std.specs.Prelude.{◌↔◌, IfSome, MatchOption, Option, Some, None
 use Rattle.std.proofs.Math.ListN.{get_or-map}
 use Rattle.std.proofs.lemmas.List.{length-map, take-map}
 use Rattle.std.proofs.lemmas.List.Sums.{sum_by-cons}
-use Rattle.ufs_spec.specs.Keys.{IsArea, IsData, IsKey, IsSettings, area_key, area_pages, data_key, settings_key}
+use Rattle.ufs_spec.specs.Keys.{IsArea, IsData, IsKey, IsSettings, area_key, area_pages, data_key, region_pages}
+use Rattle.ufs_spec.specs.Keys.{settings_key}
 use Rattle.ufs_spec.specs.Openings.{IsBefore}
 use Rattle.ufs_spec.specs.Plain.{Shape}
 use Rattle.ufs_spec.specs.declared.configs.UnitSpec.{UnitSpec}
@@ -61,7 +62,8 @@ key_ways j k = ⊎_elim
 module _ (s : Shape) where
   pub index_below : (k : Key) (i : ℕ) → IsIndex s k i → i < key_total s
   index_below k i (AtData kind unit address is) = let e = ends s.blocks k.unit in omega (arith, e, is, address)
-  index_below k i (AtArea kind unit address is) = omega (arith, is, address)
+  index_below k i (AtArea kind unit address is) =
+      let e = ends (region_pages s) k.unit in omega (arith, e, is, address)
   index_below k i (AtSettings kind unit address is) = omega (arith, is)
 
   pub index_known : (k : Key) (i : ℕ) → IsIndex s k i → IsKey s k
@@ -69,14 +71,15 @@ module _ (s : Shape) where
       subst (λ (k : Key). IsKey s k) (key_is (data_key k.unit k.address) k (sym kind) refl refl)
       (IsData k.unit k.address unit address)
   index_known k i (AtArea kind unit address is) =
-      subst (λ (k : Key). IsKey s k) (key_is (area_key k.address) k (sym kind) (sym unit) refl)
-      (IsArea k.address address)
+      subst (λ (k : Key). IsKey s k) (key_is (area_key k.unit k.address) k (sym kind) refl refl)
+      (IsArea k.unit k.address unit address)
   index_known k i (AtSettings kind unit address is) =
       subst (λ (k : Key). IsKey s k) (key_is settings_key k (sym kind) (sym unit) (sym address)) IsSettings
 
   pub known_index : (k : Key) → IsKey s k → (i : ℕ) × IsIndex s k i
   known_index _ (IsData unit address l m) = (sum (take unit s.blocks) + address, AtData refl l m refl)
-  known_index _ (IsArea page l) = (sum s.blocks + page, AtArea refl refl l refl)
+  known_index _ (IsArea region page there l) =
+      (sum s.blocks + sum (take region (region_pages s)) + page, AtArea refl there l refl)
   known_index _ IsSettings = (sum s.blocks + area_pages s, AtSettings refl refl refl refl)
 
   -- a key has one index
@@ -105,8 +108,15 @@ module _ (s : Shape) where
   index_rises j k x y (AtData a b c d) (AtSettings e f g h) before =
       let z = ends s.blocks j.unit in omega (arith, z, c, d, h)
   index_rises j k x y (AtArea a b c d) (AtData e f g h) before = absurd (omega (arith, a, e, before))
-  index_rises j k x y (AtArea a b c d) (AtArea e f g h) before = omega (arith, a, e, b, f, d, h, before)
-  index_rises j k x y (AtArea a b c d) (AtSettings e f g h) before = omega (arith, c, d, h)
+  index_rises j k x y (AtArea a b c d) (AtArea e f g h) before = by before
+    where
+      by : IsBefore j k → x < y
+      by (inl l) = absurd (omega (arith, a, e, l))
+      by (inr (inl l)) = let z = starts (region_pages s) j.unit k.unit l.1 in omega (arith, z, c, d, h)
+      by (inr (inr l)) =
+          let z = ap (λ (u : ℕ). sum (take u (region_pages s))) l.1 in let w = l.2 in omega (arith, z, w, d, h)
+  index_rises j k x y (AtArea a b c d) (AtSettings e f g h) before =
+      let z = ends (region_pages s) j.unit in omega (arith, z, c, d, h)
   index_rises j k x y (AtSettings a b c d) (AtData e f g h) before = absurd (omega (arith, a, e, before))
   index_rises j k x y (AtSettings a b c d) (AtArea e f g h) before = absurd (omega (arith, a, e, before))
   index_rises j k x y (AtSettings a b c d) (AtSettings e f g h) before =

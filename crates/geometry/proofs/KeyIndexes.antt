@@ -1,9 +1,10 @@
 -- The index of a key as a function is the index as a relation.
 use Rattle.std.proofs.Common.{◌≡◌, ◌∙◌, ◌==◌, ◌⊎◌, ℕ, ◌+◌, ◌<◌, Bool, true, false, length, take, sum, refl, sym, ap}
-use Rattle.std.proofs.Common.{inl, inr, ⊎_elim}
+use Rattle.std.proofs.Common.{inl, inr, ⊎_elim, arith}
 use Rattle.std.specs.Prelude.{MatchOption, Option, Some, None, if◌then◌else◌, nat_lt, slice_index_or}
-use Rattle.ufs_spec.specs.Keys.{IsArea, IsData, IsKey, IsSettings, area_pages}
+use Rattle.ufs_spec.specs.Keys.{IsArea, IsData, IsKey, IsSettings, area_pages, region_pages}
 use Rattle.ufs_spec.specs.Plain.{Shape}
+use Rattle.ufs_spec.specs.Stages.{regions}
 use Rattle.ufs_spec.specs.declared.flash.Key.{Key}
 use Rattle.ufs_spec.proofs.Facts.{and_from, and_parts, eq-eqb, eqb-true, false≢true, lt-ltb, ltb-true, none-some}
 use Rattle.ufs_spec.proofs.Facts.{same_Some}
@@ -43,9 +44,10 @@ module _ (s : Shape) where
 
   area_is : (k : Key) (i : ℕ) → k.kind ≡ 2 → area_index s k ≡ Some i → IsIndex s k i
   area_is k i kind h =
-      let r = tested _ (sum s.blocks + k.address) i h in
-      let t = and_parts (k.unit == 0) (nat_lt k.address (area_pages s)) r.0 in
-      AtArea kind (eqb-true k.unit 0 t.0) (ltb-true k.address (area_pages s) t.1) r.1
+      let r = tested _ (sum s.blocks + sum (take k.unit (region_pages s)) + k.address) i h in
+      let t = and_parts (nat_lt k.unit regions) (nat_lt k.address (slice_index_or (region_pages s) k.unit 0)) r.0 in
+      AtArea kind (ltb-true k.unit regions t.0)
+      (ltb-true k.address (slice_index_or (region_pages s) k.unit 0) t.1) r.1
 
   settings_is : (k : Key) (i : ℕ) → k.kind ≡ 3 → settings_index s k ≡ Some i → IsIndex s k i
   settings_is k i kind h =
@@ -71,8 +73,9 @@ module _ (s : Shape) where
       (and_from _ _ (lt-ltb k.unit (length s.blocks) unit)
       (lt-ltb k.address (slice_index_or s.blocks k.unit 0) address)) ∙ ap Some (sym is))
   is_index k i (AtArea kind unit address is) =
-      rw kind (passed _ (sum s.blocks + k.address)
-      (and_from _ _ (eq-eqb k.unit 0 unit) (lt-ltb k.address (area_pages s) address)) ∙ ap Some (sym is))
+      rw kind (passed _ (sum s.blocks + sum (take k.unit (region_pages s)) + k.address)
+      (and_from _ _ (lt-ltb k.unit regions unit)
+      (lt-ltb k.address (slice_index_or (region_pages s) k.unit 0) address)) ∙ ap Some (sym is))
   is_index k i (AtSettings kind unit address is) =
       rw kind (passed _ (sum s.blocks + area_pages s)
       (and_from _ _ (eq-eqb k.unit 0 unit) (eq-eqb k.address 0 address)) ∙ ap Some (sym is))
@@ -83,7 +86,8 @@ module _ (s : Shape) where
 
   pub known_index : (k : Key) → IsKey s k → (i : ℕ) × IsIndex s k i
   known_index k (IsData unit address l m) = (sum (take unit s.blocks) + address, AtData refl l m refl)
-  known_index k (IsArea page l) = (sum s.blocks + page, AtArea refl refl l refl)
+  known_index k (IsArea region page there l) =
+      (sum s.blocks + sum (take region (region_pages s)) + page, AtArea refl there l refl)
   known_index k IsSettings = (sum s.blocks + area_pages s, AtSettings refl refl refl refl)
 
   -- each key of the device has an index below their count, and no other key has one

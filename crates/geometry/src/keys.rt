@@ -1,15 +1,16 @@
 //! The keys of a device in order, each with its index.
-ghost use Rattle.std.specs.Prelude.{◌≡◌, ◌↔◌, ℕ, ◌+◌, ◌*◌, ◌<◌, ◌≤◌, ◌^◌, IfSome, MatchOption, length, map, sum, take, slice_index_or};
-ghost use Rattle.ufs_spec.specs.Keys.{IsKey, area_pages};
+ghost use Rattle.std.specs.Prelude.{◌≡◌, ◌↔◌, ℕ, ◌+◌, ◌*◌, ◌/◌, ◌<◌, ◌≤◌, ◌^◌, IfSome, MatchOption, length, map, sum, take, slice_index_or};
+ghost use Rattle.ufs_spec.specs.Keys.{IsKey, area_pages, region_pages};
 ghost use Rattle.ufs_spec.specs.Openings.{IsBefore};
-ghost use Rattle.ufs_spec.specs.Plain.{shape_of_numbers};
+ghost use Rattle.ufs_spec.specs.Plain.{area_len, shape_of_numbers};
+ghost use Rattle.ufs_spec.specs.Stages.{regions};
 ghost use Rattle.ufs_spec.specs.declared.configs.UnitSpec.{UnitSpec};
 ghost use Rattle.ufs_spec.specs.declared.flash.Key.{Key};
 ghost use Rattle.geometry.specs.Keys.{IsIndex, index_of, key_total};
 
-use ufs_spec::{Key, Numbers, Tag, UnitSpec};
+use ufs_spec::{Key, Numbers, REGIONS, Tag, UnitSpec};
 
-/// How many pages 128 KiB of the RPMB area have.
+/// How many pages 128 KiB of an RPMB area have.
 const PAGES_A_STEP: usize = 32;
 
 /// How many keys a device with these numbers has.
@@ -25,12 +26,12 @@ pub fn settings_index(numbers: &Numbers) -> usize
     ensures value { let s = shape_of_numbers numbers.now in result ≡ sum s.blocks + area_pages s }
     ensures small { result < 2 ^ 36 }
 {
-    block_count(numbers.units.as_slice()) + area_count(numbers)
+    block_count(numbers.units.as_slice()) + usize::from(REGIONS) * area_count(numbers)
 }
 
-/// How many pages the RPMB area has.
+/// How many pages the area of each RPMB region has.
 fn area_count(numbers: &Numbers) -> usize
-    ensures value { result ≡ area_pages (shape_of_numbers numbers.now) }
+    ensures value { result ≡ area_len numbers.now / 4096 }
     ensures small { result < 2 ^ 13 }
 {
     PAGES_A_STEP * numbers.rpmb as usize
@@ -85,17 +86,19 @@ fn data_index(units: &[UnitSpec], unit: u8, address: u32) -> Option<usize>
     Some(block_count(&units[..unit]) + address as usize)
 }
 
-/// The index of a page of the RPMB area; `None` if the area is smaller.
-fn area_index(numbers: &Numbers, unit: u8, page: u32) -> Option<usize>
+/// The index of a page of an RPMB area; `None` if the region is not there or its area is smaller.
+fn area_index(numbers: &Numbers, region: u8, page: u32) -> Option<usize>
     ensures { let s = shape_of_numbers numbers.now in
         MatchOption result
-        (unit ≡ 0 → page < area_pages s → ⊥)
-        (λ i. (unit ≡ 0) × (page < area_pages s) × (i ≡ sum s.blocks + page)) }
+        (region < regions → page < slice_index_or (region_pages s) region 0 → ⊥)
+        (λ i. (region < regions) × (page < slice_index_or (region_pages s) region 0)
+        × (i ≡ sum s.blocks + sum (take region (region_pages s)) + page)) }
 {
-    if unit != 0 || page as usize >= area_count(numbers) {
+    let pages = area_count(numbers);
+    if region >= REGIONS || page as usize >= pages {
         return None;
     }
-    Some(block_count(numbers.units.as_slice()) + page as usize)
+    Some(block_count(numbers.units.as_slice()) + usize::from(region) * pages + page as usize)
 }
 
 /// The key at an index.

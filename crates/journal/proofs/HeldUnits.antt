@@ -5,11 +5,11 @@ use Rattle.std.proofs.Math.ListN.{set}
 use Rattle.std.proofs.lemmas.Grind.{common_steps}
 use Rattle.std.proofs.lemmas.List.{append-nil, drop_all, get_or-map, get_or-set_same, length-map}
 use Rattle.std.proofs.lemmas.List.{length-take-le, set_at, take_all, take_more, take_more_same}
-use Rattle.ufs_spec.specs.Plain.{Plain, shape_of, shape_of_numbers, unit_of, with_blocks, with_part, zero_area}
+use Rattle.ufs_spec.specs.Plain.{Plain, Shape, shape_of, shape_of_numbers, unit_of, with_blocks, with_part, zero}
 use Rattle.std.specs.declared.vec.Vec.{Vec}
 use Rattle.ufs_spec.specs.declared.configs.Numbers.{Numbers}
 use Rattle.ufs_spec.specs.declared.configs.UnitSpec.{UnitSpec}
-use Rattle.ufs_spec.proofs.PlainFacts.{new_area, one_part}
+use Rattle.ufs_spec.proofs.PlainFacts.{new_shape, one_part}
 use Rattle.journal.specs.Shown.{AreUnits, holding}
 
 -- one element more comes from the new list, the rest is still the old one's
@@ -128,5 +128,6 @@ units_many {Z} blocks specs all =
 pub held_shape : (n : Numbers) (units : List (List (List ℕ))) → AreUnits n units →
     shape_of (holding n units) ≡ shape_of_numbers n
 held_shape n units all =
-    ap (λ (bs : List ℕ). record { blocks = bs; area = length (zero_area n) }) all
-    ∙ ap (λ (len : ℕ). record { blocks = (shape_of_numbers n).blocks; area = len }) (new_area n)
+    ap (λ (bs : List ℕ). record { blocks = bs; areas = (shape_of (zero n)).areas }) all
+    ∙ ap (λ (areas : List ℕ). record { blocks = (shape_of_numbers n).blocks; areas = areas })
+    (ap (λ (s : Shape). s.areas) (new_shape n))

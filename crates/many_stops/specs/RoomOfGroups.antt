@@ -5,13 +5,14 @@ use Rattle.ufs_spec.specs.Cells.{GroupPage}
 use Rattle.ufs_spec.specs.Disk.{BlockState, Bad, Filling, Flight, Programming, Spot}
 use Rattle.ufs_spec.specs.Keys.{below}
 use Rattle.ufs_spec.specs.Kept.{fence_in}
-use Rattle.ufs_spec.specs.Ledger.{Name, before_accepted}
+use Rattle.ufs_spec.specs.Ledger.{before_accepted}
 use Rattle.ufs_spec.specs.Moves.{is_kind_of}
 use Rattle.ufs_spec.specs.Translation.{CopyStep, Plan, Step, StepKind, Translation, is_free, is_mended, name_of}
 use Rattle.ufs_spec.specs.Translation.{own_room, spots, spots_of}
 use Rattle.ufs_spec.specs.declared.configs.Numbers.{Numbers}
 use Rattle.ufs_spec.specs.declared.flash.Place.{Place}
 use Rattle.ufs_spec.specs.declared.flash.Tag.{Tag}
+use Rattle.ufs_spec.specs.declared.layer.Name.{Name}
 use Rattle.power_loss.specs.Exchange.{IsSpot}
 use Rattle.power_loss.specs.Invariant.{Flights, Standing}
 

@@ -43,8 +43,8 @@ pub use Rattle.ufs_spec.proofs.Updates.{at_spot_is}
 pub use Rattle.ufs_spec.specs.Cells.{AreWithin, Array, Cell, Cells, DataHold, GroupPage, IsCell, IsFence, IsPlace, Mark}
 pub use Rattle.ufs_spec.specs.Cells.{MarkPage, Nothing, Opens, Shows, key_of, mark_tag, same_place}
 pub use Rattle.ufs_spec.specs.Disk.{Bad, BlockState, CellCrash, Closed, Crash, Disk, Erasing, Filling, Flight}
-pub use Rattle.ufs_spec.specs.Disk.{ForNobody, ForRest, ForStep, ForTask, Free, HasCopy, IsNewestFinished, IsReplaced}
-pub use Rattle.ufs_spec.specs.Disk.{MayErase, Programming, Reader, Reading, Ready, Spent, SpentBy, Spot, Stale, Touches}
+pub use Rattle.ufs_spec.specs.Disk.{Free, HasCopy, IsNewestFinished, IsReplaced}
+pub use Rattle.ufs_spec.specs.Disk.{MayErase, Programming, Reading, Ready, Spent, SpentBy, Spot, Stale, Touches}
 pub use Rattle.ufs_spec.specs.Disk.{Untouched, Vacancy, at_die, at_place, at_spot, blocks_begun, erase_failed, erased}
 pub use Rattle.ufs_spec.specs.Disk.{flight_alone, job_begun, page_of, place_in, program_failed, programmed, same_spot}
 pub use Rattle.ufs_spec.specs.Disk.{spot_of, state_after, with_erasing}
@@ -53,7 +53,7 @@ pub use Rattle.ufs_spec.specs.Kept.{IsRecorded, IsWhole, StandsFor, fence_in, re
 pub use Rattle.ufs_spec.specs.Keys.{CanApplyAll, Contents, Group, IsArea, IsBlock, IsCommand, IsData, IsKey, IsPlain}
 pub use Rattle.ufs_spec.specs.Keys.{IsSettings, IsSettingsBody, Item, below, content, data_key, group_of, groups_of}
 pub use Rattle.ufs_spec.specs.Keys.{put_group, put_groups, same_key}
-pub use Rattle.ufs_spec.specs.Ledger.{Entry, InSlot, Ledger, Looked, Name, OnPage, Unwritten, accepted_groups}
+pub use Rattle.ufs_spec.specs.Ledger.{Entry, Ledger, accepted_groups}
 pub use Rattle.ufs_spec.specs.Ledger.{all_stand, at_name, before_accepted, climbed, durable_contents, entry_in}
 pub use Rattle.ufs_spec.specs.Ledger.{index_in, is_name, is_standing, latest, latest_durable, latest_in, look}
 pub use Rattle.ufs_spec.specs.Ledger.{looked_at, looked_on, name_or, next_number, page_stands, same_name, settled_look}
@@ -93,3 +93,8 @@ pub use Rattle.ufs_spec.specs.declared.flash.Key.{Key}
 pub use Rattle.ufs_spec.specs.declared.flash.Page.{Page}
 pub use Rattle.ufs_spec.specs.declared.flash.Place.{Place}
 pub use Rattle.ufs_spec.specs.declared.flash.Tag.{Tag}
+pub use Rattle.ufs_spec.specs.declared.layer.Looked.{Looked}
+pub use Rattle.ufs_spec.specs.declared.layer.Looked.TheVariants.{InSlot, OnPage, Unwritten}
+pub use Rattle.ufs_spec.specs.declared.layer.Name.{Name}
+pub use Rattle.ufs_spec.specs.declared.layer.Reader.{Reader}
+pub use Rattle.ufs_spec.specs.declared.layer.Reader.TheVariants.{ForNobody, ForRest, ForStep, ForTask}

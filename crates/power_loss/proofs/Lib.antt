@@ -4,12 +4,14 @@ pub mod accepted_groups
 pub mod books
 pub mod calls
 pub mod collected_blocks
+pub mod commands
 pub mod die_pages
 pub mod host_commands
 pub mod jobs
 pub mod jobs_owed
 pub mod kept_pages
 pub mod kept_promises
+pub mod laid_rests
 pub mod lives
 pub mod mending_steps
 pub mod moves

@@ -23,7 +23,9 @@ pub use Rattle.ufs_spec.specs.Exchanges.{Answering, Awaiting, Deed, ForFrames, F
 pub use Rattle.ufs_spec.specs.Exchanges.{NotRead, Purpose, ReadBlock, ReadState, Sending, SendingBytes, Short, Status}
 pub use Rattle.ufs_spec.specs.Exchanges.{Task, TaskSetFull, Unread, WasRead, count_at, invalid_operation, is_asked_in}
 pub use Rattle.ufs_spec.specs.Exchanges.{is_asked_of, is_short_of, is_task_of, no_unit, response, short_reply, task_of}
-pub use Rattle.ufs_spec.specs.Exchanges.{with_deed, without_short, without_task, write_error}
+pub use Rattle.ufs_spec.specs.Exchanges.{ReadingArea, Registers, RpmbRequest, with_deed, without_short, without_task}
+pub use Rattle.ufs_spec.specs.Exchanges.{write_error}
+pub use Rattle.ufs_spec.specs.FrameRequests.{with_request}
 pub use Rattle.ufs_spec.specs.Lives.{AreLeftovers, Fit, GoesOn, IsCall, IsFailure, IsFinish, IsLawfulLeftover, IsLeft}
 pub use Rattle.ufs_spec.specs.Lives.{IsLeftoverOf, IsLived, IsOpened, Leads, Life, Lived, Lives, Runs, Stops, array_of}
 pub use Rattle.ufs_spec.specs.Lives.{bad_in, die_of, ended_well, held, page_left}
@@ -34,7 +36,7 @@ pub use Rattle.ufs_spec.specs.Machine.{blocks_expected, blocks_in, claimed_by, c
 pub use Rattle.ufs_spec.specs.Machine.{data_heard, deed_after, deed_after_block, deed_locked, deed_read, deed_reply}
 pub use Rattle.ufs_spec.specs.Machine.{durable, ends_with, fill_moves, fills, given, heard, hears, in_block, is_aborted}
 pub use Rattle.ufs_spec.specs.Machine.{is_durable, is_to_fill, keeps, kept_at, lock_applied, managed, message_fault}
-pub use Rattle.ufs_spec.specs.Machine.{moves_after, observe, refused_or_begun, opens_short, query_unanswered}
+pub use Rattle.ufs_spec.specs.Machine.{moves_after, observe, refused_or_begun, opens_short}
 pub use Rattle.ufs_spec.specs.Machine.{read_begun, read_blocks, read_noted, replied_by, sending, service, set_deed}
 pub use Rattle.ufs_spec.specs.Machine.{short_locked, short_replied, tag_in, task_goes_on, task_filled, task_locked}
 pub use Rattle.ufs_spec.specs.Machine.{task_read, task_replied, unit_or_first, with_moves, with_short, with_task}

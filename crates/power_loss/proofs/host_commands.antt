@@ -1,6 +1,11 @@
 pub mod AbortedTasks
+pub mod AcceptedCommands
+pub mod GatheredData
+pub mod GatheringTasks
 pub mod HandedOutReplies
+pub mod ListsAndFrames
 pub mod OpenedByCommands
 pub mod PassedCommands
+pub mod QueriesHeard
 pub mod ReadBlocks
 pub mod WriteData

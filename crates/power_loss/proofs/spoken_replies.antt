@@ -1,2 +1,5 @@
+pub mod FramesStay
+pub mod QueryReplies
+pub mod ResponseFrames
 pub mod ShortReplies
 pub mod TaskReplies

@@ -4,7 +4,7 @@ use Rattle.std.specs.Prelude.{◌≡◌, ◌⊎◌, ℕ, suc, ◌+◌, ◌-◌, 
 use Rattle.std.specs.Prelude.{None, option_and_then, slice_get}
 use Rattle.ufs_spec.specs.Cells.{Cells, Mark, MarkPage, key_of}
 use Rattle.ufs_spec.specs.Keys.{Contents, Group, IsKey}
-use Rattle.ufs_spec.specs.Ledger.{Entry, Ledger, Name, entry_in}
+use Rattle.ufs_spec.specs.Ledger.{Entry, Ledger, entry_in}
 use Rattle.ufs_spec.specs.Plain.{shape_of_numbers, zero_block}
 use Rattle.ufs_spec.specs.Translation.{Translation, name_of}
 use Rattle.ufs_spec.specs.declared.configs.Numbers.{Numbers}
@@ -12,6 +12,7 @@ use Rattle.ufs_spec.specs.declared.flash.Fence.{Fence}
 use Rattle.ufs_spec.specs.declared.flash.Key.{Key}
 use Rattle.ufs_spec.specs.declared.flash.Place.{Place}
 use Rattle.ufs_spec.specs.declared.flash.Tag.{Tag}
+use Rattle.ufs_spec.specs.declared.layer.Name.{Name}
 
 -- Cells as pages show them
 

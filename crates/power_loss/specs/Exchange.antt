@@ -1,28 +1,30 @@
 -- What holds of a device with its dies between any two events of a life: the translation layer is valid, its cells are
 -- what the pages show, and its groups are those of the accepted commands.
-use Rattle.std.specs.Prelude.{◌≡◌, ℕ, ◌+◌, ◌*◌, ◌<◌, ◌≤◌, ◌^◌, ◌==◌, Bool, true, false, List, [], ◌∷◌, length, Option}
-use Rattle.std.specs.Prelude.{Some, None, slice_index_or}
+use Rattle.std.specs.Prelude.{◌≡◌, ◌⊎◌, ℕ, ◌+◌, ◌*◌, ◌<◌, ◌≤◌, ◌==◌, Bool, true, false, List, [], ◌∷◌, length}
+use Rattle.std.specs.Prelude.{Option, Some, None, slice_index_or}
 use Rattle.std.specs.List.{AllByRecursion, list_any}
 use Rattle.ufs_spec.specs.Pages.{greatest_number}
 use Rattle.ufs_spec.specs.Cells.{Array, Cell, DataHold, IsCell, IsPlace, Opens, Shows}
 use Rattle.ufs_spec.specs.Configs.{IsConfig, command_blocks}
 use Rattle.ufs_spec.specs.Dies.{blank_page}
 use Rattle.ufs_spec.specs.Disk.{Erasing, Programming, Spot, page_of}
-use Rattle.ufs_spec.specs.Exchanges.{Awaiting, Deed, ForFrames, ForUnmap, ForWrite, Gathering, Short, Task}
-use Rattle.ufs_spec.specs.Exchanges.{is_short_of}
+use Rattle.ufs_spec.specs.Exchanges.{Answering, Awaiting, Deed, ForFrames, ForUnmap, ForWrite, Gathering}
+use Rattle.ufs_spec.specs.Exchanges.{ReadingArea, Sending, SendingBytes, Short, Task, is_short_of}
 use Rattle.ufs_spec.specs.Keys.{CanApplyAll, IsBlock, IsKey, IsPlain, IsSettingsBody, content, groups_of}
 use Rattle.ufs_spec.specs.Ledger.{Entry, accepted_groups, before_accepted}
 use Rattle.ufs_spec.specs.Machine.{Call, Done, Host, IsHeard, MayLeave, claimed_by, tag_in}
 use Rattle.ufs_spec.specs.Messages.{AreBytes}
 use Rattle.ufs_spec.specs.Pages.{group_bound}
 use Rattle.ufs_spec.specs.Plain.{shape_of, shape_of_numbers}
-use Rattle.ufs_spec.specs.Refusals.{State, numbers_of}
+use Rattle.ufs_spec.specs.Refusals.{State, numbers_of, slots_for_frames}
+use Rattle.ufs_spec.specs.Stages.{regions}
 use Rattle.ufs_spec.specs.Translation.{is_mended}
 use Rattle.ufs_spec.specs.declared.configs.Numbers.{Numbers}
 use Rattle.ufs_spec.specs.declared.flash.Place.{Place}
 use Rattle.ufs_spec.specs.declared.flash.Tag.{Tag}
 use Rattle.power_loss.specs.Book.{Book, IsPageAt, book, last_number}
 use Rattle.power_loss.specs.Invariant.{Valid}
+use Rattle.power_loss.specs.LaidRests.{RestsLaid}
 
 -- Pages as they are sealed
 
@@ -60,14 +62,40 @@ pub record WriteFits (n : Numbers) (mended : Bool) (unit address blocks total : 
 abbrev pub AwaitsFit : ℕ → Bool → ℕ → Type 0
 AwaitsFit accepted mended commands = (commands ≤ accepted) × (mended ≡ true)
 
--- what gathers its data came once the device was mended
+-- an UNMAP that gathers its list, of 8 bytes or of 24, is for a unit that is there, and has less than its length. With
+-- a list of 24 bytes it has claimed a slot for each block that a command may have
+pub record UnmapFits (n : Numbers) (mended : Bool) (unit total : ℕ) (gathered : List ℕ) (claimed : ℕ) : Type 0 where
+  pub unit_in : unit < length n.units.items
+  pub list : (total ≡ 8) ⊎ ((total ≡ 24) × (claimed ≡ command_blocks n))
+  pub short : length gathered < total
+  pub is_mended : mended ≡ true
+
+-- a SECURITY PROTOCOL OUT that gathers its frames, one to eight of them, is for a region that is there, and has less
+-- than its length; it has claimed the slots of an RPMB write
+pub record FramesFit (mended : Bool) (region total : ℕ) (gathered : List ℕ) (claimed : ℕ) : Type 0 where
+  pub region_in : region < regions
+  pub count : ℕ
+  pub some : 1 ≤ count
+  pub few : count ≤ 8
+  pub total_is : total ≡ 512 * count
+  pub short : length gathered < total
+  pub bytes : AreBytes gathered
+  pub claimed_is : claimed ≡ slots_for_frames
+  pub is_mended : mended ≡ true
+
+-- what a task does fits the device: what gathers its data came once the device was mended, and so did what waits
 abbrev pub DeedFits : Numbers → ℕ → Bool → ℕ → ℕ → Deed → Type 0
 DeedFits n accepted mended claimed total (Gathering (ForWrite unit address blocks forced) gathered asked) =
     WriteFits n mended unit address blocks total gathered claimed
-DeedFits n accepted mended claimed total (Gathering (ForUnmap unit) gathered asked) = mended ≡ true
-DeedFits n accepted mended claimed total (Gathering ForFrames gathered asked) = mended ≡ true
+DeedFits n accepted mended claimed total (Gathering (ForUnmap unit) gathered asked) =
+    UnmapFits n mended unit total gathered claimed
+DeedFits n accepted mended claimed total (Gathering (ForFrames region) gathered asked) =
+    FramesFit mended region total gathered claimed
 DeedFits n accepted mended claimed total (Awaiting commands) = AwaitsFit accepted mended commands
-DeedFits n accepted mended claimed total deed = Unit {0}
+DeedFits n accepted mended claimed total (Sending blocks sent) = Unit {0}
+DeedFits n accepted mended claimed total (SendingBytes bytes) = Unit {0}
+DeedFits n accepted mended claimed total (ReadingArea pages) = Unit {0}
+DeedFits n accepted mended claimed total (Answering status carried) = Unit {0}
 
 -- how many slots the task has claimed by the command and by what it does now
 abbrev pub claim_of : Numbers → Task → ℕ
@@ -140,6 +168,8 @@ pub record IsTied (s : State) : Type 0 where
   pub config : IsConfig (numbers_of s)
   pub shown : Shows s.array s.translation.disk.cells
   pub valid : Valid s.translation
+  -- the rests that are owed are laid over the content below their groups
+  pub laid : RestsLaid s.translation
   pub fits : BookFits (book s.translation)
   -- each page in flight shows the cell that it is meant to be
   pub flights : (die : ℕ) (p : Place) (cell : Cell) → s.translation.disk.flights die ≡ Some (Programming p cell) →

@@ -16,3 +16,5 @@ pub mod Pending
 pub mod StoppedWrites
 pub mod Stops
 pub mod Shown
+pub mod WaitingFrames
+pub mod LaidRests

@@ -3,7 +3,6 @@ use Rattle.std.specs.Prelude.{◌≡◌, ◌≢◌, ◌⊎◌, ℕ, ◌+◌, ◌
 use Rattle.std.specs.Prelude.{List, count_by, sum_by, Option, Some, None}
 use Rattle.ufs_spec.specs.Cells.{Cell}
 use Rattle.ufs_spec.specs.Disk.{BlockState, Filling, Flight, Free, Programming, Spot, spot_of}
-use Rattle.ufs_spec.specs.Ledger.{Looked, OnPage}
 use Rattle.ufs_spec.specs.Lives.{Life, Lived}
 use Rattle.ufs_spec.specs.Moves.{EndJob, Move, WentWrong}
 use Rattle.ufs_spec.specs.Refusals.{State, mended}
@@ -15,6 +14,8 @@ use Rattle.ufs_spec.specs.declared.events.Event.{Event}
 use Rattle.ufs_spec.specs.declared.events.Event.TheVariants as event
 use Rattle.ufs_spec.specs.declared.events.Output.{Output}
 use Rattle.ufs_spec.specs.declared.flash.Place.{Place}
+use Rattle.ufs_spec.specs.declared.layer.Looked.{Looked}
+use Rattle.ufs_spec.specs.declared.layer.Looked.TheVariants.{OnPage}
 use Rattle.power_loss.specs.Mending.{turns_left}
 
 -- Room

@@ -1,9 +1,10 @@
 -- Which pages a die may be given to program.
 use Rattle.std.specs.Prelude.{◌≡◌, ◌<◌, true, false, Some}
 use Rattle.std.specs.List.{list_any}
-use Rattle.ufs_spec.specs.Ledger.{Name, before_accepted, is_standing}
+use Rattle.ufs_spec.specs.Ledger.{before_accepted, is_standing}
 use Rattle.ufs_spec.specs.Moves.{is_kind_of}
 use Rattle.ufs_spec.specs.Translation.{Step, Translation, is_rest_of}
+use Rattle.ufs_spec.specs.declared.layer.Name.{Name}
 
 -- the page is one of an accepted group, it stands nowhere, and its content is there
 pub record IsFirstProgram (t : Translation) (name : Name) : Type 0 where

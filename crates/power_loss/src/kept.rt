@@ -1,15 +1,19 @@
 //! The laws of what is kept: what a task looked up, and where the rest of a page comes from that a command has in part.
 ghost use Rattle.std.specs.Prelude.{◌≡◌, ◌≢◌, ◌<◌, ◌++◌, ℕ, Bool, true, false, All, Contains, List, [], Option, Some, slice_get};
 ghost use Rattle.ufs_spec.specs.Cells.{GroupPage, IsCell, Opens, key_of};
-ghost use Rattle.ufs_spec.specs.Disk.{Erasing, ForRest, ForStep, ForTask, Reader, Reading, Spot, spot_of};
+ghost use Rattle.ufs_spec.specs.Disk.{Erasing, Reading, Spot, spot_of};
 ghost use Rattle.ufs_spec.specs.Keys.{Group, Item};
-ghost use Rattle.ufs_spec.specs.Ledger.{Entry, InSlot, Name, OnPage, entry_of, look, next_number};
+ghost use Rattle.ufs_spec.specs.Ledger.{Entry, entry_of, look, next_number};
 ghost use Rattle.ufs_spec.specs.Moves.{Accept, IsEndingOf, ReadRight, ReadWrong, moved};
 ghost use Rattle.ufs_spec.specs.Translation.{FromPage, MayTake, Pin, Rest, Source, Translation, is_in_part, rests_of, source_of};
 ghost use Rattle.ufs_spec.specs.declared.flash.Outcome.TheVariants as outcome;
 ghost use Rattle.ufs_spec.specs.declared.flash.Page.{Page};
 ghost use Rattle.ufs_spec.specs.declared.flash.Place.{Place};
 ghost use Rattle.ufs_spec.specs.declared.flash.Tag.{Tag};
+ghost use Rattle.ufs_spec.specs.declared.layer.Looked.TheVariants.{InSlot, OnPage};
+ghost use Rattle.ufs_spec.specs.declared.layer.Name.{Name};
+ghost use Rattle.ufs_spec.specs.declared.layer.Reader.{Reader};
+ghost use Rattle.ufs_spec.specs.declared.layer.Reader.TheVariants.{ForRest, ForStep, ForTask};
 ghost use Rattle.power_loss.specs.Invariant.{IsGroupPage, Valid};
 ghost use Rattle.power_loss.specs.Rests.{IsRestOf};
 

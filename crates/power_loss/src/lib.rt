@@ -14,6 +14,7 @@ mod mending_room;
 mod owed_jobs;
 mod pending;
 mod promises;
+mod rests;
 mod runs;
 mod settled_slots;
 mod shown;
@@ -59,6 +60,7 @@ pub use owed_jobs::{
 };
 pub use pending::pending_groups_become_durable_in_order;
 pub use promises::good_promises_durability;
+pub use rests::rests_are_laid_over_one_page;
 pub use runs::{
     a_failed_write_is_answered, a_job_may_fail_at_any_moment, a_run_keeps_the_promise,
     a_stop_may_come_at_any_moment, a_stopped_write_opens, any_sound_array_opens, new_dies_fit,

@@ -1,13 +1,15 @@
 //! The laws of owed jobs: what a die may be given while others work.
 ghost use Rattle.std.specs.Prelude.{◌≡◌, ◌≢◌, ◌⊎◌, ◌<◌, ◌≤◌, ℕ, Bool, false, true, List, Option, Some, None};
 ghost use Rattle.ufs_spec.specs.Cells.{Cell, GroupPage, Mark, MarkPage};
-ghost use Rattle.ufs_spec.specs.Disk.{Erasing, Filling, Flight, ForStep, Programming, Reader, Reading, Spot};
-ghost use Rattle.ufs_spec.specs.Ledger.{Name};
+ghost use Rattle.ufs_spec.specs.Disk.{Erasing, Filling, Flight, Programming, Reading, Spot};
 ghost use Rattle.ufs_spec.specs.Moves.{EndJob, Move, ReadRight, moved};
 ghost use Rattle.ufs_spec.specs.Translation.{CopyStep, MayTake, Translation, count_blocks, is_free, name_of, own_room, turned};
 ghost use Rattle.ufs_spec.specs.declared.configs.Numbers.{Numbers};
 ghost use Rattle.ufs_spec.specs.declared.flash.Place.{Place};
 ghost use Rattle.ufs_spec.specs.declared.flash.Tag.{Tag};
+ghost use Rattle.ufs_spec.specs.declared.layer.Name.{Name};
+ghost use Rattle.ufs_spec.specs.declared.layer.Reader.{Reader};
+ghost use Rattle.ufs_spec.specs.declared.layer.Reader.TheVariants.{ForStep};
 ghost use Rattle.power_loss.specs.Exchange.{IsSpot};
 ghost use Rattle.power_loss.specs.OwedJobs.{IsFirstProgram, IsStepsPage};
 ghost use Rattle.power_loss.specs.OwnRoom.{IsOwnRoom, IsWaitingStep, OpensBlock};

@@ -2,11 +2,12 @@
 ghost use Rattle.std.specs.Prelude.{◌≡◌, ◌<◌, ◌≤◌, ℕ, List, Option, Some, slice_get};
 ghost use Rattle.ufs_spec.specs.Cells.{GroupPage};
 ghost use Rattle.ufs_spec.specs.Disk.{Programming};
-ghost use Rattle.ufs_spec.specs.Ledger.{InSlot, Name, OnPage};
 ghost use Rattle.ufs_spec.specs.Moves.{EndJob, WentWell, moved};
 ghost use Rattle.ufs_spec.specs.Translation.{Pin, Translation};
 ghost use Rattle.ufs_spec.specs.declared.flash.Place.{Place};
 ghost use Rattle.ufs_spec.specs.declared.flash.Tag.{Tag};
+ghost use Rattle.ufs_spec.specs.declared.layer.Looked.TheVariants.{InSlot, OnPage};
+ghost use Rattle.ufs_spec.specs.declared.layer.Name.{Name};
 
 /// A task that keeps a slot keeps the slot's page as soon as its group is durable: after the end of a page's program no
 /// slot is kept that is at or under the frontier.

@@ -3,14 +3,14 @@ use Rattle.std.specs.Prelude.{◌≡◌, ◌≢◌, ℕ, ◌≤◌, AllPairs, Li
 use Rattle.ufs_spec.specs.Pages.{greatest_number}
 use Rattle.ufs_spec.specs.Disk.{Spot, Untouched, Vacancy}
 use Rattle.ufs_spec.specs.Disk as disk
-use Rattle.ufs_spec.specs.Ledger.{Name}
 use Rattle.ufs_spec.specs.Openings.{number_of}
 use Rattle.ufs_spec.specs.Plain.{shape_of_numbers}
-use Rattle.ufs_spec.specs.Translation.{Translation, Unmarked, spots}
+use Rattle.ufs_spec.specs.Translation.{Translation, Unmarked, name_of, spots}
 use Rattle.ufs_spec.specs.declared.configs.Numbers.{Numbers}
 use Rattle.ufs_spec.specs.declared.flash.Fence.{Fence}
 use Rattle.ufs_spec.specs.declared.flash.Key.{Key}
 use Rattle.ufs_spec.specs.declared.flash.Place.{Place}
+use Rattle.ufs_spec.specs.declared.layer.Name.{Name}
 use Rattle.recovery.specs.Found.{newest_found}
 use Rattle.geometry.specs.Keys.{IsIndex}
 use Rattle.recovery.specs.KeysInOrder.{state_of_found}
@@ -23,7 +23,7 @@ use Rattle.recovery.specs.declared.found.Found.{Found}
 abbrev pub IsPageOf : (ℕ → ℕ → Option Place) → Option FoundPage → Option Name → Type 0
 IsPageOf standing None None = Unit {0}
 IsPageOf standing (Some e) (Some name) =
-    (name.number ≡ e.tag.number) × (standing name.number name.index ≡ Some e.place)
+    (name ≡ name_of e.tag) × (standing name.number name.index ≡ Some e.place)
 IsPageOf standing e name = ⊥
 
 -- the fence of the first mark is over the lost numbers, or there is none where none is lost

@@ -19,19 +19,20 @@ pub chunks_are : (n : ℕ) (bytes : List ℕ) → map frame_in (first_chunks 512
 chunks_are zero bytes = refl
 chunks_are (suc n) bytes = ap (λ (fs : List Frame). frame_in (take 512 bytes) ∷ fs) (chunks_are n (drop 512 bytes))
 
-pub malformed_as : (region : Region) (r : Registers) (locked : Bool) (fs : List Frame) → AreMalformed fs
-    → rpmb_outcome region r locked fs ≡ Refused invalid_list_field
-malformed_as region r locked [] bad = refl
-malformed_as region r locked (f ∷ fs) bad = rw bad refl
+pub malformed_as : (number : ℕ) (region : Region) (r : Registers) (locked : Bool) (fs : List Frame) → AreMalformed fs
+    → rpmb_outcome number region r locked fs ≡ Refused invalid_list_field
+malformed_as number region r locked [] bad = refl
+malformed_as number region r locked (f ∷ fs) bad = rw bad refl
 
 -- what a well-formed request has as its outcome, whatever its frames are
-pub formed_as : (region : Region) (r : Registers) (locked : Bool) (asked : Request) (fs : List Frame)
+pub formed_as : (number : ℕ) (region : Region) (r : Registers) (locked : Bool) (asked : Request) (fs : List Frame)
     (told : List Frame → RpmbOutcome) → Asks asked fs
     → ((f : Frame) (gs : List Frame) → f ∷ gs ≡ fs → IsRequest asked f
-    → outcome_formed region r locked f gs ≡ told (f ∷ gs))
-    → rpmb_outcome region r locked fs ≡ told fs
-formed_as region r locked asked [] told asks right = absurd asks
-formed_as region r locked asked (f ∷ fs) told asks right = let formed = asks.1 in rw formed (right f fs refl asks.0)
+    → outcome_formed number region r locked f gs ≡ told (f ∷ gs))
+    → rpmb_outcome number region r locked fs ≡ told fs
+formed_as number region r locked asked [] told asks right = absurd asks
+formed_as number region r locked asked (f ∷ fs) told asks right =
+    let formed = asks.1 in rw formed (right f fs refl asks.0)
 
 -- the first of these frames
 pub first_told : (chunks : List (List ℕ)) (f : Frame) (fs : List Frame) → map frame_in chunks ≡ fs → 1 ≤ length chunks

@@ -32,22 +32,23 @@ code_of failure.Address = 4
 code_of failure.Write = 5
 code_of failure.NoKey = 7
 
--- the command that is accepted, if one is: a write has the data of all frames
-abbrev pub command_of : List Frame → Accepted → Option Command
-command_of fs accepted.Nothing = None
-command_of fs (accepted.Key bytes) = Some (command.SetKey bytes)
-command_of fs (accepted.Write address) = Some (command.RpmbWrite address (flat_map (λ (f : Frame). f.payload) fs))
+-- the command that the region of this number accepts, if it accepts one: a write has the data of all frames
+abbrev pub command_of : ℕ → List Frame → Accepted → Option Command
+command_of number fs accepted.Nothing = None
+command_of number fs (accepted.Key bytes) = Some (command.SetKey number bytes)
+command_of number fs (accepted.Write address) =
+    Some (command.RpmbWrite number address (flat_map (λ (f : Frame). f.payload) fs))
 
--- the outcome of these frames
-abbrev pub outcome_of : List Frame → Outcome → RpmbOutcome
-outcome_of fs (outcome.Refused why) = rules.Refused (status_of why)
-outcome_of fs (outcome.Results result what) = rules.Results result (command_of fs what)
+-- the outcome of these frames in the region of this number
+abbrev pub outcome_of : ℕ → List Frame → Outcome → RpmbOutcome
+outcome_of number fs (outcome.Refused why) = rules.Refused (status_of why)
+outcome_of number fs (outcome.Results result what) = rules.Results result (command_of number fs what)
 
--- the outcome of a well-formed request
-abbrev pub outcome_formed : Region → Registers → Bool → Frame → List Frame → RpmbOutcome
-outcome_formed region r locked f fs =
+-- the outcome of a well-formed request to the region of this number
+abbrev pub outcome_formed : ℕ → Region → Registers → Bool → Frame → List Frame → RpmbOutcome
+outcome_formed number region r locked f fs =
     if lacks_result f r then rules.Refused sequence_error
-    else outcome_after region (command_in f fs) (first_failed (checks region locked f fs))
+    else outcome_after region (command_in number f fs) (first_failed (checks region locked f fs))
 
 -- what was accepted may change what is kept of a region: a write finds the counter below its end
 abbrev pub MayChange : Accepted → RegionState → Type 0

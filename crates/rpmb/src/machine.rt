@@ -1,5 +1,5 @@
 //! The machine of a region and its calls.
-ghost use Rattle.std.specs.Prelude.{◌≡◌, ◌≤◌, ◌∷◌, ◌++◌, [], IfOk, List, Some, drop, is_some};
+ghost use Rattle.std.specs.Prelude.{◌≡◌, ◌≤◌, ◌∷◌, ◌++◌, ℕ, [], IfOk, List, Some, drop, is_some};
 ghost use Rattle.std.specs.Prelude.{length, map, min, option_copied, take};
 ghost use Rattle.rpmb.specs.Answers.{AreFew, HasAskedData, HasPlaces, IsRead, registered};
 ghost use Rattle.rpmb.specs.Answers.{waiting_in};
@@ -103,9 +103,9 @@ impl Rpmb {
     /// What SECURITY PROTOCOL OUT does with its data, whole frames of 512 bytes, while the device
     /// is locked or not. It changes nothing yet.
     pub fn out(&self, frames: &[u8], locked: bool) -> Outcome
-        ensures outcome { (region : Region) → IsKept self.now.region region →
-            rpmb_outcome region self.now.registers locked (frames_of frames.now)
-            ≡ outcome_of (frames_of frames.now) result }
+        ensures outcome { (number : ℕ) (region : Region) → IsKept self.now.region region →
+            rpmb_outcome number region self.now.registers locked (frames_of frames.now)
+            ≡ outcome_of number (frames_of frames.now) result }
         ensures may_change { MayFollow result self.now.region }
     {
         self.outcome(whole_frames(frames), locked)
@@ -113,9 +113,9 @@ impl Rpmb {
 
     // The outcome of these frames.
     fn outcome(&self, frames: &[[u8; 512]], locked: bool) -> Outcome
-        ensures outcome { (region : Region) → IsKept self.now.region region →
-            rpmb_outcome region self.now.registers locked (map frame_in frames.now)
-            ≡ outcome_of (map frame_in frames.now) result }
+        ensures outcome { (number : ℕ) (region : Region) → IsKept self.now.region region →
+            rpmb_outcome number region self.now.registers locked (map frame_in frames.now)
+            ≡ outcome_of number (map frame_in frames.now) result }
         ensures may_change { MayFollow result self.now.region }
     {
         match request_of(frames) {
@@ -126,10 +126,11 @@ impl Rpmb {
 
     // The outcome of a well-formed request.
     fn outcome_formed(&self, request: &Request, frames: &[[u8; 512]], locked: bool) -> Outcome
-        ensures outcome { (region : Region) (f : defined.Frame) (fs : List defined.Frame) →
-            IsKept self.now.region region → f ∷ fs ≡ map frame_in frames.now →
-            IsRequest request.now f →
-            outcome_formed region self.now.registers locked f fs ≡ outcome_of (f ∷ fs) result }
+        ensures outcome { (number : ℕ) (region : Region) (f : defined.Frame)
+            (fs : List defined.Frame) → IsKept self.now.region region →
+            f ∷ fs ≡ map frame_in frames.now → IsRequest request.now f →
+            outcome_formed number region self.now.registers locked f fs
+            ≡ outcome_of number (f ∷ fs) result }
         ensures may_change { MayFollow result self.now.region }
     {
         if self.lacks_result(request) {
@@ -154,10 +155,10 @@ impl Rpmb {
     /// by one.
     pub fn apply(&mut self, accepted: &Accepted)
         requires { MayChange accepted.now self.old.region }
-        ensures region { (region : Region) (fs : List defined.Frame) →
+        ensures region { (number : ℕ) (region : Region) (fs : List defined.Frame) →
             IsKept self.old.region region →
-            length (applied region (command_of fs accepted.now)).area ≡ length region.area →
-            IsKept self.new.region (applied region (command_of fs accepted.now)) }
+            length (applied region (command_of number fs accepted.now)).area ≡ length region.area →
+            IsKept self.new.region (applied region (command_of number fs accepted.now)) }
         ensures registers { self.new.registers ≡ self.old.registers }
     {
         self.region.apply(accepted);

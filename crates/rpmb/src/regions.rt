@@ -1,5 +1,5 @@
 //! A region, and the checks of requests in their order.
-ghost use Rattle.std.specs.Prelude.{◌≡◌, ◌<◌, ◌==◌, ◌&&◌, ◌∷◌, List, Option, Some, length, map};
+ghost use Rattle.std.specs.Prelude.{◌≡◌, ◌<◌, ◌==◌, ◌&&◌, ◌∷◌, ℕ, List, Option, Some, length, map};
 ghost use Rattle.std.specs.Prelude.{option_map};
 ghost use Rattle.std.specs.Prelude.{if◌then◌else◌, bit_or, Bool, true, false, is_some, None};
 ghost use Rattle.rpmb.specs.Checks.{asked_checks, key_checks, read_checks, write_checks, is_past};
@@ -33,10 +33,10 @@ pub struct RegionState {
 impl RegionState {
     /// The outcome of a well-formed request that does not lack a result.
     pub fn outcome(&self, request: &Request, frames: &[[u8; 512]], locked: bool) -> Outcome
-        ensures outcome { (region : Region) (f : Frame) (fs : List Frame) → IsKept self.now region →
-            f ∷ fs ≡ map frame_in frames.now → IsRequest request.now f →
-            outcome_after region (command_in f fs) (first_failed (checks region locked f fs))
-            ≡ outcome_of (f ∷ fs) result }
+        ensures outcome { (number : ℕ) (region : Region) (f : Frame) (fs : List Frame) →
+            IsKept self.now region → f ∷ fs ≡ map frame_in frames.now → IsRequest request.now f →
+            outcome_after region (command_in number f fs) (first_failed (checks region locked f fs))
+            ≡ outcome_of number (f ∷ fs) result }
         ensures may_change { MayFollow result self.now }
     {
         match self.failure(request, frames, locked) {
@@ -152,9 +152,9 @@ impl RegionState {
 
     // The outcome of a request that failed a check: nothing is accepted.
     fn failed(&self, failure: Failure) -> Outcome
-        ensures outcome { (region : Region) (fs : List Frame) (c : Option Command) →
+        ensures outcome { (number : ℕ) (region : Region) (fs : List Frame) (c : Option Command) →
             IsKept self.now region →
-            outcome_after region c (Some (code_of failure)) ≡ outcome_of fs result }
+            outcome_after region c (Some (code_of failure)) ≡ outcome_of number fs result }
         ensures may_change { MayFollow result self.now }
     {
         Outcome::Results {
@@ -165,9 +165,9 @@ impl RegionState {
 
     // The outcome of a request that passed its checks.
     fn passed(&self, request: &Request) -> Outcome
-        ensures outcome { (region : Region) (f : Frame) (fs : List Frame) → IsKept self.now region →
-            IsRequest request.now f →
-            outcome_after region (command_in f fs) None ≡ outcome_of (f ∷ fs) result }
+        ensures outcome { (number : ℕ) (region : Region) (f : Frame) (fs : List Frame) →
+            IsKept self.now region → IsRequest request.now f →
+            outcome_after region (command_in number f fs) None ≡ outcome_of number (f ∷ fs) result }
         ensures may_change { MayPass request.now self.now → MayFollow result self.now }
     {
         let key_set = self.key.is_some();
@@ -191,9 +191,9 @@ impl RegionState {
     /// What was accepted changes what is kept: the key is set, or the counter rises by one.
     pub fn apply(&mut self, accepted: &Accepted)
         requires { MayChange accepted.now self.old }
-        ensures { (region : Region) (fs : List Frame) → IsKept self.old region →
-            length (applied region (command_of fs accepted.now)).area ≡ length region.area →
-            IsKept self.new (applied region (command_of fs accepted.now)) }
+        ensures { (number : ℕ) (region : Region) (fs : List Frame) → IsKept self.old region →
+            length (applied region (command_of number fs accepted.now)).area ≡ length region.area →
+            IsKept self.new (applied region (command_of number fs accepted.now)) }
     {
         match accepted {
             Accepted::Nothing => {}

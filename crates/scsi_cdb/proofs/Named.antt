@@ -48,7 +48,7 @@ fits_either false first second h k = k
 six_fits : (bytes : List ℕ) → six_address bytes < 2 ^ 21
 six_fits bytes = let most = and_le_r (field_at 4 0 bytes) 0x1FFFFF in omega (arith, most)
 
--- what the fields name fits its ranges, where a REPORT LUNS has a selection of the table
+-- what the fields name fits its ranges, where a REPORT LUNS has a selection of the table and a region is there
 pub named_fits : (bytes : List ℕ) → ((place : ℕ) → slice_index bytes place < 256) → Fits (named_cdb bytes)
 named_fits bytes small =
     let operation : ℕ = slice_index bytes 0 in
@@ -76,6 +76,8 @@ named_fits bytes small =
     let twelve : Fits (named_twelve operation bytes) =
     fits_either (operation == 0xA0) _ _
     (fits_some (ReportLuns (slice_index bytes 2) (field_at 4 6 bytes)) (λ s. (s, number)))
-    (fits_either (operation == 0xA2) _ _ (fits_some (SecurityIn (field_at 4 6 bytes)) (λ s. number))
-    (fits_either (operation == 0xB5) _ _ (fits_some (SecurityOut (field_at 4 6 bytes)) (λ s. number)) fits_none)) in
+    (fits_either (operation == 0xA2) _ _
+    (fits_some (SecurityIn (slice_index bytes 2) (field_at 4 6 bytes)) (λ s. (s, number)))
+    (fits_either (operation == 0xB5) _ _
+    (fits_some (SecurityOut (slice_index bytes 2) (field_at 4 6 bytes)) (λ s. (s, number))) fits_none)) in
     fits_either (nat_lt operation 0x20) _ _ six (fits_either (nat_lt operation 0x60) _ _ ten twelve)

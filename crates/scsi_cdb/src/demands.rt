@@ -55,7 +55,7 @@ pub fn length_of(units: u8, cdb: &Cdb) -> u32
         Cdb::Read10 { blocks, .. } | Cdb::Write10 { blocks, .. } => ten_length(*blocks),
         Cdb::Unmap { list } => u32::from(*list),
         Cdb::ReportLuns { allocation, .. } => (*allocation).min(8 + 8 * u32::from(units)),
-        Cdb::SecurityIn { length } | Cdb::SecurityOut { length } => *length,
+        Cdb::SecurityIn { length, .. } | Cdb::SecurityOut { length, .. } => *length,
         Cdb::TestUnitReady | Cdb::SynchronizeCache10 { .. } => 0,
     }
 }

@@ -5,7 +5,7 @@ ghost use Rattle.ufs_spec.specs.Cdbs.{carried, cdb_bytes, fixed_sense, known_ope
 ghost use Rattle.ufs_spec.specs.Machine.{no_sense};
 ghost use Rattle.ufs_spec.specs.declared.scsi.TheConstants.Sense.{INVALID_FIELD};
 ghost use Rattle.ufs_spec.specs.declared.Cdb.{Cdb};
-ghost use Rattle.ufs_spec.specs.declared.Cdb.TheVariants.{Inquiry, Read10, Read6, ReadCapacity10, RequestSense, SynchronizeCache10, TestUnitReady, Write10};
+ghost use Rattle.ufs_spec.specs.declared.Cdb.TheVariants.{Inquiry, Read10, Read6, ReadCapacity10, RequestSense, SecurityIn, SecurityOut, SynchronizeCache10, TestUnitReady, Write10};
 
 /// No two commands have the same bytes.
 pub fn one_cdb()
@@ -24,7 +24,8 @@ pub fn one_operation()
 
 /// The bytes of some commands and sense data: a FUA write of one block at address FFh, a read of 33
 /// blocks, a read of six bytes of 256 blocks, TEST UNIT READY, INQUIRY for 36 bytes, READ CAPACITY,
-/// SYNCHRONIZE CACHE with IMMED, an invalid field in a CDB, nothing to tell.
+/// SYNCHRONIZE CACHE with IMMED, one frame sent to RPMB region 0 and one asked of region 3, an invalid
+/// field in a CDB, nothing to tell.
 pub fn worked_bytes()
     ensures write { cdb_bytes (Write10 0xFF 1 true) ≡ 0x2A ∷ 8 ∷ 0 ∷ 0 ∷ 0 ∷ 0xFF ∷ 0 ∷ 0 ∷ 1 ∷ replicate 7 0 }
     ensures read { cdb_bytes (Read10 0 33 false) ≡ 0x28 ∷ 0 ∷ 0 ∷ 0 ∷ 0 ∷ 0 ∷ 0 ∷ 0 ∷ 0x21 ∷ replicate 7 0 }
@@ -33,9 +34,19 @@ pub fn worked_bytes()
     ensures inquiry { cdb_bytes (Inquiry 36) ≡ 0x12 ∷ 0 ∷ 0 ∷ 0 ∷ 0x24 ∷ replicate 11 0 }
     ensures capacity { cdb_bytes ReadCapacity10 ≡ 0x25 ∷ replicate 15 0 }
     ensures synchronize { cdb_bytes (SynchronizeCache10 0 0 true) ≡ 0x35 ∷ 2 ∷ replicate 14 0 }
+    ensures frame_out { cdb_bytes (SecurityOut 0 512)
+        ≡ 0xB5 ∷ 0xEC ∷ 0 ∷ 1 ∷ 0 ∷ 0 ∷ 0 ∷ 0 ∷ 2 ∷ replicate 7 0 }
+    ensures frame_in { cdb_bytes (SecurityIn 3 512)
+        ≡ 0xA2 ∷ 0xEC ∷ 3 ∷ 1 ∷ 0 ∷ 0 ∷ 0 ∷ 0 ∷ 2 ∷ replicate 7 0 }
     ensures sense { fixed_sense INVALID_FIELD
         ≡ 0x70 ∷ 0 ∷ 5 ∷ 0 ∷ 0 ∷ 0 ∷ 0 ∷ 0x0A ∷ 0 ∷ 0 ∷ 0 ∷ 0 ∷ 0x24 ∷ replicate 5 0 }
     ensures nothing { no_sense ≡ 0x70 ∷ 0 ∷ 0 ∷ 0 ∷ 0 ∷ 0 ∷ 0 ∷ 0x0A ∷ replicate 10 0 }
+{}
+
+/// RPMB region 0 is there, and there are no more than four regions.
+pub fn regions_are_few()
+    ensures first { IsCdb (SecurityOut 0 512) }
+    ensures last { (length : ℕ) → IsCdb (SecurityIn 4 length) → ⊥ }
 {}
 
 /// Some lengths and residuals: READ(6) of 0, which are 256 blocks; INQUIRY for 64 bytes, which has

@@ -9,10 +9,10 @@ ghost use Rattle.ufs_spec.specs.Machine.{no_sense};
 ghost use Rattle.scsi_cdb.specs.Reading.{HasSelection, Writes};
 
 pub use demands::{address_of, blocks_of, length_of};
-pub use laws::{one_cdb, one_operation, worked_bytes, worked_residuals};
+pub use laws::{one_cdb, one_operation, regions_are_few, worked_bytes, worked_residuals};
 pub use spelling::bytes_of;
 use ufs_bytes::{read_u16, read_u32};
-use ufs_spec::{Cdb, Sense};
+use ufs_spec::{Cdb, REGIONS, Sense};
 
 mod demands;
 mod laws;
@@ -179,20 +179,21 @@ fn is_immediate(bytes: &[u8; 16]) -> bool
 fn twelve_in(bytes: &[u8; 16]) -> Option<Cdb>
     ensures { result ≡ named_twelve (slice_index bytes.now 0) bytes.now }
 {
-    let number = read_u32(bytes, 6);
+    let region = bytes[2];
+    let length = read_u32(bytes, 6);
     match bytes[0] {
         REPORT_LUNS => Some(Cdb::ReportLuns {
             select: bytes[2],
-            allocation: number,
+            allocation: length,
         }),
-        SECURITY_IN => Some(Cdb::SecurityIn { length: number }),
-        SECURITY_OUT => Some(Cdb::SecurityOut { length: number }),
+        SECURITY_IN => Some(Cdb::SecurityIn { region, length }),
+        SECURITY_OUT => Some(Cdb::SecurityOut { region, length }),
         _ => None,
     }
 }
 
 // Whether the bytes are those of the command that their fields name: REPORT LUNS has a selection of
-// the table, and what no field names is zero.
+// the table, the RPMB region is there, and what no field names is zero.
 fn is_written(cdb: &Cdb, bytes: &[u8; 16]) -> bool
     requires { named_cdb bytes.now ≡ Some cdb.now }
     ensures { IsTrue result ↔ Writes cdb.now bytes.now }
@@ -207,12 +208,14 @@ fn has_bytes(cdb: &Cdb, bytes: &[u8; 16]) -> bool
     bytes_of(cdb) == *bytes
 }
 
-// Whether a REPORT LUNS has a selection of the table.
+// Whether a REPORT LUNS has a selection of the table, and a SECURITY PROTOCOL command a region that
+// is there.
 fn has_selection(cdb: &Cdb) -> bool
     ensures { IsTrue result ↔ HasSelection cdb.now }
 {
     match cdb {
         Cdb::ReportLuns { select, .. } => *select <= 2,
+        Cdb::SecurityIn { region, .. } | Cdb::SecurityOut { region, .. } => *region < REGIONS,
         _ => true,
     }
 }

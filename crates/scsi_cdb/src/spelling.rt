@@ -44,8 +44,8 @@ pub fn bytes_of(cdb: &Cdb) -> [u8; 16]
         ),
         Cdb::Unmap { list } => unmap_bytes(*list),
         Cdb::ReportLuns { select, allocation } => report_bytes(*select, *allocation),
-        Cdb::SecurityIn { length } => security_bytes_of(SECURITY_IN, *length),
-        Cdb::SecurityOut { length } => security_bytes_of(SECURITY_OUT, *length),
+        Cdb::SecurityIn { region, length } => security_bytes_of(SECURITY_IN, *region, *length),
+        Cdb::SecurityOut { region, length } => security_bytes_of(SECURITY_OUT, *region, *length),
     }
 }
 
@@ -136,13 +136,15 @@ fn report_bytes(select: u8, allocation: u32) -> [u8; 16]
     bytes
 }
 
-// The sixteen bytes of SECURITY PROTOCOL IN and OUT: the protocol ECh with the specific field 0001h.
-fn security_bytes_of(operation: u8, length: u32) -> [u8; 16]
-    ensures { result ≡ security_bytes operation length }
+// The sixteen bytes of SECURITY PROTOCOL IN and OUT: the protocol ECh, whose specific field is the
+// RPMB region and 01h.
+fn security_bytes_of(operation: u8, region: u8, length: u32) -> [u8; 16]
+    ensures { result ≡ security_bytes operation region length }
 {
     let mut bytes = [0; 16];
     bytes[0] = operation;
     bytes[1] = 0xEC;
+    bytes[2] = region;
     bytes[3] = 0x01;
     write_u32(&mut bytes, 6, length);
     bytes

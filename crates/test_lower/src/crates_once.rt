@@ -53,12 +53,15 @@ fn a_plain_device_after_each_kind_of_command(rt: HostRuntime) -> Result<(), Fail
     let mut plain = PlainDevice::new(alloc, config.numbers())?;
     plain.apply(&Cmd::SetBoot(2));
     plain.apply(&Cmd::SetPermanent);
-    plain.apply(&Cmd::Key([0x0B; 32]));
+    plain.apply(&Cmd::SetKey {
+        region: 0,
+        key: [0x0B; 32],
+    });
     assert!(rt; plain.boot() == 2);
     assert!(rt; plain.permanent());
-    assert!(rt; plain.key() == Some([0x0B; 32]));
-    assert!(rt; plain.counter() == 0);
-    assert!(rt; plain.area().len() == 131072);
+    assert!(rt; plain.key(0) == Some([0x0B; 32]));
+    assert!(rt; plain.counter(0) == 0);
+    assert!(rt; plain.area(0).len() == 131072);
     Ok(())
 }
 

@@ -1,8 +1,10 @@
-//! Each public function of the lower crates once, what the worked rows say of contents, the comparison of
-//! journals, and victims and plans. Expected bytes come from the device's formats and from the standards,
-//! never from the program's own output.
+//! Each public function of the lower crates once, what the worked rows say of contents, the
+//! comparison of journals, victims and plans, and area pages that are written in part. Expected bytes
+//! come from the device's formats and from the standards, never from the program's own output.
 #![tactic(auto)]
 
+#[cfg(test)]
+mod cache_rests;
 #[cfg(test)]
 mod crates_once;
 #[cfg(test)]

@@ -106,7 +106,7 @@ fn expect_blocks(rt: &impl Abort, plain: &PlainDevice, first: usize, bytes: &[u8
 
 /// Compares the RPMB area: these bytes stand from `first` on, and all others are zeros.
 fn expect_area(rt: &impl Abort, plain: &PlainDevice, first: usize, bytes: &[u8]) {
-    let area = plain.area();
+    let area = plain.area(0);
     assert!(rt; area.len() == 131_072);
     for (place, byte) in area.iter().enumerate() {
         assert!(rt; *byte == byte_at(first, bytes, place));
@@ -123,8 +123,8 @@ fn expect_settings(
 ) {
     assert!(rt; plain.boot() == boot);
     assert!(rt; !plain.permanent());
-    assert!(rt; plain.key() == key);
-    assert!(rt; plain.counter() == counter);
+    assert!(rt; plain.key(0) == key);
+    assert!(rt; plain.counter(0) == counter);
 }
 
 /// One block of FFh at the last address: its neighbour and the other units stay zeros.
@@ -191,8 +191,15 @@ fn write_rpmb(rt: &impl Abort, plain: &mut PlainDevice, data: &Vec<u8>) -> Resul
 {
     let bytes = data.clone()?;
     assert!(rt; bytes.len() == 8 * 256);
-    assert!(rt; plain.counter() == 0);
-    apply_command(plain, &Cmd::RpmbWrite { address: 12, bytes });
+    assert!(rt; plain.counter(0) == 0);
+    apply_command(
+        plain,
+        &Cmd::RpmbWrite {
+            region: 0,
+            address: 12,
+            bytes,
+        },
+    );
     Ok(())
 }
 
@@ -202,7 +209,13 @@ fn an_rpmb_write_changes_data_and_counter(rt: HostRuntime) -> Result<(), Fail> {
     let alloc = rt.alloc();
     let data = rpmb_data(alloc)?;
     let mut plain = new_plain(alloc)?;
-    apply_command(&mut plain, &Cmd::Key(KEY));
+    apply_command(
+        &mut plain,
+        &Cmd::SetKey {
+            region: 0,
+            key: KEY,
+        },
+    );
     // The commands without the write: both old.
     expect_area(&rt, &plain, 0, &[]);
     expect_settings(&rt, &plain, 0, Some(KEY), 0);
@@ -233,7 +246,13 @@ fn boot_units_are_set(rt: HostRuntime) -> Result<(), Fail> {
     let alloc = rt.alloc();
     let data = rpmb_data(alloc)?;
     let mut plain = after_writes(&rt, alloc, &ACCEPTED[..1])?;
-    apply_command(&mut plain, &Cmd::Key(KEY));
+    apply_command(
+        &mut plain,
+        &Cmd::SetKey {
+            region: 0,
+            key: KEY,
+        },
+    );
     write_rpmb(&rt, &mut plain, &data)?;
     expect_boot(&rt, &mut plain, 1, data.as_slice());
     expect_boot(&rt, &mut plain, 2, data.as_slice());

@@ -6,7 +6,7 @@ use collector::{Plan, PlanStep, PlannedCopy};
 use geometry::Config;
 use std::alloc::Global;
 use std::test::Fail;
-use ufs_spec::{Key, Place, Tag, UnitSpec};
+use ufs_spec::{Key, Name, Place, Tag, UnitSpec};
 use unit_map::{Stored, UnitMap};
 use write_cache::Cache;
 
@@ -55,7 +55,8 @@ fn third_block_at(alloc: Global, place: Place, number: u64) -> Result<UnitMap, F
         protect: 0,
     }];
     let config = Config::new(2, 32, 64, &units, 1, 64, 4)?;
-    let places = [None, None, Some(Stored { place, number })];
+    let name = Name { number, index: 0 };
+    let places = [None, None, Some(Stored { name, place })];
     Ok(UnitMap::new(config, Vec::from_array(alloc, places)?))
 }
 
@@ -221,9 +222,9 @@ fn a_page_has_the_name_of_its_content(rt: HostRuntime) -> Result<(), Fail> {
     };
     let map = third_block_at(rt.alloc(), place, 5)?;
     let cache = pending_at(rt.alloc(), place, block_key(1))?;
-    let name = map.name_there(place).unwrap_or_default();
-    assert!(rt; name.key.address == 2);
-    assert!(rt; name.number == 5);
+    let named = map.name_there(place).unwrap_or_default();
+    assert!(rt; named.key.address == 2);
+    assert!(rt; named.name.number == 5);
     assert!(rt; map.name_there(free).is_none());
     assert!(rt; cache.page_there(place).is_some());
     assert!(rt; cache.page_there(free).is_none());

@@ -1,5 +1,5 @@
 //! A block that stays where it is.
-ghost use Rattle.std.specs.Prelude.{◌≡◌, IfOk, ℕ, List, length};
+ghost use Rattle.std.specs.Prelude.{◌≡◌, ◌≤◌, ◌+◌, ◌++◌, IfOk, ℕ, List, length, take, drop};
 ghost use Rattle.ufs_bytes.specs.Blocks.{zero_block};
 
 use crate::fields::Block;
@@ -13,6 +13,8 @@ pub struct Body {
 }
 
 impl Model for Body {
+    ghost use Rattle.std.specs.Prelude.{ℕ, List};
+
     ghost Value = { List ℕ };
 
     ghost view = { λ b. b.bytes.value };
@@ -48,12 +50,28 @@ impl Body {
         self.bytes.copy_from_slice(block);
     }
 
+    /// Its bytes from an offset on are these from now on, and all others stay.
+    pub fn set_part(&mut self, offset: usize, bytes: &[u8])
+        requires { offset + length bytes.now ≤ 4096 }
+        ensures { self.new ≡ take offset self.old ++ (bytes.now ++ drop (offset + length bytes.now) self.old) }
+    {
+        put(&mut *self.bytes, offset, bytes);
+    }
+
     /// From now on it holds zeros.
     pub fn clear(&mut self)
         ensures { self.new ≡ zero_block }
     {
         *self.bytes = zeros();
     }
+}
+
+/// These bytes stand in the row from an offset on, and all others stay.
+fn put(row: &mut [u8], offset: usize, bytes: &[u8])
+    requires { offset + length bytes.now ≤ length row.old }
+    ensures { row.new ≡ take offset row.old ++ (bytes.now ++ drop (offset + length bytes.now) row.old) }
+{
+    row[offset..offset + bytes.len()].copy_from_slice(bytes);
 }
 
 /// A block of zeros.

@@ -1,7 +1,9 @@
 pub mod answers
 pub mod array_cells
+pub mod decided_data
 pub mod deciding
 pub mod exchanges
+pub mod frame_laws
 pub mod free_blocks
 pub mod jobs
 pub mod lives

@@ -3,6 +3,7 @@ pub mod BytesHeard
 pub mod DataInOrder
 pub mod DeedLaws
 pub mod HeardOnce
+pub mod ListedUnits
 pub mod ReadSendsBlocks
 pub mod ReplySizes
 pub mod RequestsSettled

@@ -3,3 +3,4 @@ pub mod LayerEffects
 pub mod SmallChanges
 pub mod TaskLaws
 pub mod WaysOfCommands
+pub mod WaysOfData

@@ -2,9 +2,9 @@
 use Rattle.std.specs.Prelude.{◌≡◌, ◌≢◌, ℕ, ◌+◌, ◌-◌, ◌==◌, min, Bool, true, List, [], ◌∷◌, length, map, Option, Some}
 use Rattle.std.specs.Prelude.{None}
 use Rattle.std.specs.List.{AllByRecursion, list_any}
-use Rattle.ufs_spec.specs.Exchanges.{Answering, Deed, ForFrames, ForUnmap, Gathering, Purpose, Sending, Task, count_at}
-use Rattle.ufs_spec.specs.Exchanges.{invalid_operation}
-use Rattle.ufs_spec.specs.Machine.{Call, Faulty, Heard, Host, IsHeard, Spelled}
+use Rattle.ufs_spec.specs.Exchanges.{Answering, Awaiting, Deed, Gathering, Purpose, ReadingArea, Sending, SendingBytes}
+use Rattle.ufs_spec.specs.Exchanges.{Task, count_at, invalid_operation}
+use Rattle.ufs_spec.specs.Machine.{Call, Done, Faulty, Heard, Host, IsHeard, Reply, Spelled, Take, Turn}
 use Rattle.ufs_spec.specs.Refusals.{Request, State}
 use Rattle.ufs_spec.specs.Translation.{Pin}
 use Rattle.ufs_spec.specs.declared.messages.Message.{Message}
@@ -18,27 +18,27 @@ IsRequest r = (bytes : List ℕ) × IsHeard bytes (Spelled (message.Command r.fl
 -- what a host says are bytes
 abbrev pub IsSpoken : Call → Type 0
 IsSpoken (Host heard) = (bytes : List ℕ) × IsHeard bytes heard
-IsSpoken call = Unit {0}
+IsSpoken (Take die) = Unit {0}
+IsSpoken (Done die ending left) = Unit {0}
+IsSpoken Turn = Unit {0}
+IsSpoken Reply = Unit {0}
 
 -- something holds of each of the tasks
 abbrev pub Every : (Task → Type 0) → List Task → Type 0
 Every = AllByRecursion
 
--- it does not end with an invalid operation code; nothing is gathered for commands that are not built
+-- it does not end with an invalid operation code
 abbrev pub IsKnownDeed : Deed → Type 0
-IsKnownDeed (Gathering (ForUnmap unit) gathered asked) = ⊥
-IsKnownDeed (Gathering ForFrames gathered asked) = ⊥
+IsKnownDeed (Gathering purpose gathered asked) = Unit {0}
+IsKnownDeed (Sending blocks sent) = Unit {0}
+IsKnownDeed (SendingBytes bytes) = Unit {0}
+IsKnownDeed (Awaiting commands) = Unit {0}
+IsKnownDeed (ReadingArea pages) = Unit {0}
 IsKnownDeed (Answering status carried) = status ≢ invalid_operation
-IsKnownDeed deed = Unit {0}
 
--- a command that is refused answers, with whatever status; all else that it may do is as for a known one
-abbrev pub IsRefusedDeed : Deed → Type 0
-IsRefusedDeed (Answering status carried) = Unit {0}
-IsRefusedDeed deed = IsKnownDeed deed
-
--- a command that the CDB spells does not end with an invalid operation code; a CDB that spells none may
+-- a command that the CDB spells does not end with an invalid operation code; a refused one may
 abbrev pub IsKnownTask : Option Cdb → Deed → Type 0
-IsKnownTask None deed = IsRefusedDeed deed
+IsKnownTask None deed = Unit {0}
 IsKnownTask (Some command) deed = IsKnownDeed deed
 
 -- no open command that was taken ends with an invalid operation code
@@ -64,7 +64,10 @@ pub record WasAsked (task : Task) (lun offset count : ℕ) : Type 0 where
 abbrev pub SendsThese : List (List ℕ) → Deed → Type 0
 SendsThese bodies (Sending blocks sent) = map (λ block. block.body) blocks ≡ bodies
 SendsThese bodies (Answering status carried) = Unit {0}
-SendsThese bodies deed = ⊥
+SendsThese bodies (Gathering purpose gathered asked) = ⊥
+SendsThese bodies (SendingBytes bytes) = ⊥
+SendsThese bodies (Awaiting commands) = ⊥
+SendsThese bodies (ReadingArea pages) = ⊥
 
 -- the open task of this tag does so
 abbrev pub TagSends : ℕ → List (List ℕ) → State → Type 0
@@ -94,7 +97,10 @@ IsAskedBy Asked (Faulty fault) = Unit {0}
 -- what is asked of the request, if the call is a COMMAND of the host; no other call is asked for anything
 abbrev pub Asks : (Request → Type 0) → Call → Type 0
 Asks Asked (Host heard) = IsAskedBy Asked heard
-Asks Asked call = Unit {0}
+Asks Asked (Take die) = Unit {0}
+Asks Asked (Done die ending left) = Unit {0}
+Asks Asked Turn = Unit {0}
+Asks Asked Reply = Unit {0}
 
 -- the tag is kept for a task
 abbrev pub Pinned : ℕ → List Pin → Bool

@@ -1,5 +1,7 @@
+pub mod Decisions
 pub mod Exchange
 pub mod Flights
+pub mod FrameLaws
 pub mod FreeBlocks
 pub mod GapRows
 pub mod Requests

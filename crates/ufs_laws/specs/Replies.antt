@@ -1,8 +1,8 @@
 -- What a task and a short exchange need so that each of their replies is a message of the grammar.
 use Rattle.std.specs.List.{All}
 use Rattle.std.specs.Prelude.{◌≡◌, ◌<◌, ◌+◌, ◌*◌, ◌^◌, ℕ, length, slice_get, take, Some}
-use Rattle.ufs_spec.specs.Exchanges.{Answering, Awaiting, CheckCondition, Deed, Gathering, ReadBlock, Sending, Short}
-use Rattle.ufs_spec.specs.Exchanges.{Status, Task, SendingBytes, bytes_sent}
+use Rattle.ufs_spec.specs.Exchanges.{Answering, Awaiting, Busy, CheckCondition, Deed, Gathering, Good, ReadBlock}
+use Rattle.ufs_spec.specs.Exchanges.{ReadingArea, Sending, SendingBytes, Short, Status, Task, TaskSetFull, bytes_sent}
 use Rattle.ufs_spec.specs.Keys.{IsBlock}
 use Rattle.ufs_spec.specs.Messages.{IsByte, IsMessage, IsTransferred}
 use Rattle.ufs_spec.specs.Refusals.{State}
@@ -10,7 +10,9 @@ use Rattle.ufs_spec.specs.Refusals.{State}
 -- the sense data are bytes
 abbrev pub IsStatus : Status → Type 0
 IsStatus (CheckCondition sense) = IsByte sense.key × IsByte sense.asc × IsByte sense.ascq
-IsStatus status = Unit {0}
+IsStatus Good = Unit {0}
+IsStatus Busy = Unit {0}
+IsStatus TaskSetFull = Unit {0}
 
 -- what it does, of a command of so many bytes of which so many are sent: it asks for bytes that are missing; it sends
 -- no block past the last byte that is sent, and each is 4096 bytes
@@ -21,6 +23,7 @@ DeedSpeaks total sent_bytes (Sending blocks sent) =
     × ((k : ℕ) (block : ReadBlock) → slice_get blocks k ≡ Some block → IsBlock block.body)
 DeedSpeaks total sent_bytes (SendingBytes bytes) = IsTransferred (take sent_bytes bytes)
 DeedSpeaks total sent_bytes (Awaiting commands) = Unit {0}
+DeedSpeaks total sent_bytes (ReadingArea pages) = Unit {0}
 DeedSpeaks total sent_bytes (Answering status carried) = IsStatus status × (carried < 2 ^ 32)
 
 -- its LUN and tag are bytes, and its numbers fit their fields

@@ -1,8 +1,8 @@
--- Tasks without a request of RPMB.
-use Rattle.std.specs.Prelude.{◌≡◌, None, List, [], ◌∷◌}
-use Rattle.ufs_spec.specs.Exchanges.{Task}
+-- Tasks whose RPMB requests have filled their registers.
+use Rattle.std.specs.Prelude.{◌≡◌, List, [], ◌∷◌, false}
+use Rattle.ufs_spec.specs.Exchanges.{Task, is_unfilled}
 
--- none of the tasks has a request, as long as no SECURITY PROTOCOL OUT is taken
-abbrev pub HaveNoRequest : List Task → Type 0
-HaveNoRequest [] = Unit {0}
-HaveNoRequest (task ∷ tasks) = (task.request ≡ None) × HaveNoRequest tasks
+-- none of the tasks has a request that is yet to fill its register; without a request there is nothing to fill
+abbrev pub HaveNoneToFill : List Task → Type 0
+HaveNoneToFill [] = Unit {0}
+HaveNoneToFill (task ∷ tasks) = (is_unfilled task.request ≡ false) × HaveNoneToFill tasks

@@ -1,5 +1,6 @@
 -- What a write to the RPMB area has to be, so that it may be accepted (JESD220, 12.4).
-use Rattle.std.specs.Prelude.{◌≡◌, ◌≢◌, ◌≤◌, ◌+◌, ◌*◌, ℕ, List, ◌∷◌, All, Some, length}
+use Rattle.std.specs.Prelude.{◌≡◌, ◌≢◌, ◌≤◌, ◌+◌, ◌*◌, ℕ, List, ◌∷◌, All, Option, None, Some, length}
+use Rattle.ufs_spec.specs.Commands.{Command, RpmbWrite, SetKey}
 use Rattle.ufs_spec.specs.Frames.{Frame}
 use Rattle.ufs_spec.specs.Rpmb.{Region, frames_mac, last_mac}
 
@@ -22,3 +23,9 @@ pub record IsRightWrite (region : Region) (f : Frame) (fs : List Frame) : Type 0
   pub within : 256 * (f.address + f.count) ≤ length region.area
   pub counter : f.counter ≡ region.counter
   pub below_end : region.counter ≢ 0xFFFFFFFF
+
+-- the RPMB region that a command names, if it names one
+abbrev pub region_named : Command → Option ℕ
+region_named (SetKey number bytes) = Some number
+region_named (RpmbWrite number address bytes) = Some number
+region_named c = None

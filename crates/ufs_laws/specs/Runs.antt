@@ -7,7 +7,7 @@ use Rattle.ufs_spec.specs.Cdbs.{cdb_bytes, fixed_sense}
 use Rattle.ufs_spec.specs.Cells.{Array, MarkPage}
 use Rattle.ufs_spec.specs.Configs.{numbers_of}
 use Rattle.ufs_spec.specs.Dies.{blank_page}
-use Rattle.ufs_spec.specs.Disk.{job_of, Erasing, Flight, ForTask, Programming, Reading, Spot}
+use Rattle.ufs_spec.specs.Disk.{job_of, Erasing, Flight, Programming, Reading, Spot}
 use Rattle.ufs_spec.specs.Exchanges.{sense}
 use Rattle.ufs_spec.specs.Lives.{IsOpened, Life}
 use Rattle.ufs_spec.specs.Machine.{Allowed, Answer, Reply, Call, Done, OfDone, Take, OfTake, Heard, OfHost, Host}
@@ -23,6 +23,7 @@ use Rattle.ufs_spec.specs.declared.events.Event.TheVariants as event
 use Rattle.ufs_spec.specs.declared.events.Output.{Output}
 use Rattle.ufs_spec.specs.declared.events.Output.TheVariants as output
 use Rattle.ufs_spec.specs.declared.flash.Place.{Place}
+use Rattle.ufs_spec.specs.declared.layer.Reader.TheVariants.{ForTask}
 use Rattle.ufs_spec.specs.declared.messages.Message.{Message}
 use Rattle.ufs_spec.specs.declared.messages.Message.TheVariants as message
 use Rattle.ufs_spec.specs.declared.scsi.Cdb.{Cdb}

@@ -1,7 +1,7 @@
 //! The five calls of a device with its dies: which answers are right, and what follows from them.
 ghost use Rattle.std.specs.Prelude.{◌≡◌, ◌≢◌, ◌⊎◌, ◌<◌, ◌++◌, if◌then◌else◌, ℕ, Bool, true, false, List, [], Contains, length, Option, Some, None, Result, option_map};
 ghost use Rattle.ufs_laws.specs.Flights.{JobsLieOnTheirDies, die_of_flight};
-ghost use Rattle.ufs_laws.specs.Requests.{HaveNoRequest};
+ghost use Rattle.ufs_laws.specs.Requests.{HaveNoneToFill};
 ghost use Rattle.ufs_spec.specs.declared.Cdb.{Cdb};
 ghost use Rattle.ufs_spec.specs.declared.Event.{Event};
 ghost use Rattle.ufs_spec.specs.declared.HostFault.{HostFault};
@@ -13,7 +13,7 @@ ghost use Rattle.ufs_spec.specs.declared.Page.{Page};
 ghost use Rattle.ufs_spec.specs.declared.Place.{Place};
 ghost use Rattle.ufs_spec.specs.Cells.{Array, Cell, Cells, IsCell, Nothing, Shows};
 ghost use Rattle.ufs_spec.specs.Dies.{blank_page};
-ghost use Rattle.ufs_spec.specs.Disk.{CellCrash, Crash, Erasing, Flight, Programming, Reader, Reading, Spot, Touches, at_place, job_of, page_of, same_spot, spot_of, at_die};
+ghost use Rattle.ufs_spec.specs.Disk.{CellCrash, Crash, Erasing, Flight, Programming, Reading, Spot, Touches, at_place, job_of, page_of, same_spot, spot_of, at_die};
 ghost use Rattle.ufs_spec.specs.Lives.{IsCall, IsOpened, Leads, Life};
 ghost use Rattle.ufs_spec.specs.Machine.{Allowed, Answer, Reply, Call, Due, Faulty, Done, OfDone, Take, OfTake, Heard, OfHost, Host, IsHeard, OfReply, Spelled, Turn, OfTurn, aborts, carried_out, fills, heard, in_block, observe, service, service_of, with_short};
 ghost use Rattle.ufs_spec.specs.Exchanges.{short_reply};
@@ -23,6 +23,7 @@ ghost use Rattle.ufs_spec.specs.Pages.{IsCheckRight};
 ghost use Rattle.ufs_spec.specs.Plain.{zero};
 ghost use Rattle.ufs_spec.specs.Refusals.{Lun, State, lun_of, mended, numbers_of};
 ghost use Rattle.ufs_spec.specs.Translation.{MayTake, Translation, Want, is_idle, is_step_due, want_at, wants_on};
+ghost use Rattle.ufs_spec.specs.declared.layer.Reader.{Reader};
 
 /// In every state each of the five calls has a right answer: to a die a job or none, and to a host a reply that is due or
 /// none. So an event that is a call leads somewhere.
@@ -93,15 +94,16 @@ pub fn any_owed_read_may_go()
         MayTake t die (Some (Reading reader place)) → Contains (wants_on t die) (want_at reader place) }
 {}
 
-/// If no task has a request, no register is filled; and then a read also stays for whom it is.
+/// If no task has a request that is yet to fill its register, no register is filled; and then a read also stays for
+/// whom it is. So a request fills its register once.
 pub fn no_request_fills_nothing()
-    ensures nothing { (s : State) → HaveNoRequest s.tasks → fills s ≡ s }
-    ensures given { (s : State) (die : ℕ) (flight : Flight) → HaveNoRequest s.tasks →
+    ensures nothing { (s : State) → HaveNoneToFill s.tasks → fills s ≡ s }
+    ensures given { (s : State) (die : ℕ) (flight : Flight) → HaveNoneToFill s.tasks →
         (observe s (Take die) (OfTake (Some flight))).translation.disk.flights
         ≡ at_die s.translation.disk.flights die (Some flight) }
-    ensures not_given { (s : State) (die : ℕ) → HaveNoRequest s.tasks →
+    ensures not_given { (s : State) (die : ℕ) → HaveNoneToFill s.tasks →
         (observe s (Take die) (OfTake None)).translation.disk.flights ≡ s.translation.disk.flights }
-    ensures ended { (s : State) (die : ℕ) (flight : Flight) (ending : Ending) (left : Array) → HaveNoRequest s.tasks →
+    ensures ended { (s : State) (die : ℕ) (flight : Flight) (ending : Ending) (left : Array) → HaveNoneToFill s.tasks →
         s.translation.disk.flights die ≡ Some flight → die_of_flight flight ≡ die →
         Allowed s (Done die ending left) (OfDone true) →
         (observe s (Done die ending left) (OfDone true)).translation.disk.flights

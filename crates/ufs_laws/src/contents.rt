@@ -1,10 +1,10 @@
 //! Plain states and their contents by key.
-ghost use Rattle.std.specs.Prelude.{◌≡◌, ◌*◌, List};
+ghost use Rattle.std.specs.Prelude.{◌≡◌, List};
 ghost use Rattle.ufs_spec.specs.Commands.{Command};
 ghost use Rattle.ufs_spec.specs.declared.Key.{Key};
 ghost use Rattle.ufs_spec.specs.declared.Numbers.{Numbers};
 ghost use Rattle.ufs_spec.specs.Plain.{Plain, Shape, CanApply, after, apply, shape_of, shape_of_numbers, zero, zero_block};
-ghost use Rattle.ufs_spec.specs.Keys.{AreContents, CanApplyAll, Contents, IsCommand, IsKey, IsPlain, area_pages, content, group_of, groups_of, plain_of, put_group, put_groups};
+ghost use Rattle.ufs_spec.specs.Keys.{AreContents, CanApplyAll, Contents, HasWholeAreas, IsCommand, IsKey, IsPlain, content, group_of, groups_of, plain_of, put_group, put_groups};
 
 /// A command replaces the contents of its keys by those of its group, and leaves all others; so do commands one
 /// after another.
@@ -33,7 +33,7 @@ pub fn plain_state_is_its_contents()
     ensures back { (p : Plain) → IsPlain p → plain_of (shape_of p) (content p) ≡ p }
     ensures one { (p q : Plain) → IsPlain p → IsPlain q → shape_of p ≡ shape_of q →
         ((k : Key) → IsKey (shape_of p) k → content p k ≡ content q k) → p ≡ q }
-    ensures plain { (s : Shape) (f : Contents) → AreContents s f → s.area ≡ 4096 * area_pages s →
+    ensures plain { (s : Shape) (f : Contents) → AreContents s f → HasWholeAreas s →
         IsPlain (plain_of s f) × (shape_of (plain_of s f) ≡ s) }
     ensures there { (s : Shape) (f : Contents) → AreContents s f → (k : Key) → IsKey s k →
         content (plain_of s f) k ≡ f k }

@@ -14,13 +14,14 @@ ghost use Rattle.ufs_spec.specs.Commands.{Write};
 ghost use Rattle.ufs_spec.specs.Disk.{Spot};
 ghost use Rattle.ufs_spec.specs.Exchanges.{Answering, ForWrite, Gathering, Good, NotRead, Purpose, ReadBlock, Sending, Task, Unread, block_message, invalid_operation, read_error, response, task_of};
 ghost use Rattle.ufs_spec.specs.Keys.{below};
-ghost use Rattle.ufs_spec.specs.Ledger.{InSlot, Name};
 ghost use Rattle.ufs_spec.specs.Lives.{IsOpened, Life};
 ghost use Rattle.ufs_spec.specs.Machine.{Allowed, Answer, Call, Heard, IsHeard, begun, blocks_expected, blocks_in, claimed_by, data_for, deed_after, deed_reply, in_use, message_fault, observe, pin_of, read_begun, read_blocks, set_deed, tag_in, without_tasks};
 ghost use Rattle.ufs_spec.specs.Messages.{IsAmong};
 ghost use Rattle.ufs_spec.specs.Plain.{block_at};
 ghost use Rattle.ufs_spec.specs.Refusals.{Request, State, locked, numbers_of, plain_now, refusal};
 ghost use Rattle.ufs_spec.specs.Translation.{Pin, is_rest_of};
+ghost use Rattle.ufs_spec.specs.declared.layer.Looked.TheVariants.{InSlot};
+ghost use Rattle.ufs_spec.specs.declared.layer.Name.{Name};
 
 /// Every list of bytes is heard, as a message with its command or none, or as a fault; and as one thing alone.
 pub fn every_byte_string_is_heard()
@@ -33,7 +34,7 @@ pub fn every_byte_string_is_heard()
 pub fn a_command_is_never_unknown_once_taken()
     ensures passes { (s : State) (r : Request) → IsRequest r → refusal s r ≡ None →
         (c : Cdb) × (r.cdb ≡ Some c) × IsAmong taken_operations (operation_of c) }
-    ensures begins { (s : State) (r : Request) (unit : ℕ) (c : Cdb) → IsAmong taken_operations (operation_of c) →
+    ensures begins { (s : State) (r : Request) (unit : ℕ) (c : Cdb) →
         (task : Task) × ((begun s r unit c).tasks ≡ s.tasks ++ task ∷ []) × (task.command ≡ Some c)
         × ((carried : ℕ) → task.deed ≢ Answering invalid_operation carried) }
     ensures open { (n : Numbers) (array : Array) (bad : Spot → Bool) (s : State) → IsOpened n array bad s → AllKnown s }

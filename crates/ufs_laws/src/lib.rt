@@ -5,8 +5,10 @@
 mod arrays;
 mod calls;
 mod contents;
+mod decisions;
 mod exchange;
 mod held;
+mod requests;
 mod rows;
 mod rpmb;
 mod runs;
@@ -26,11 +28,17 @@ pub use calls::{
 pub use contents::{
     command_replaces_its_keys, commands_keep_plain, new_device_is_zero, plain_state_is_its_contents,
 };
+pub use decisions::{a_setting_waits_until_it_is_durable, an_unmap_judges_its_list, worked_lists};
 pub use exchange::{
     a_command_is_never_unknown_once_taken, a_read_sends_its_blocks, data_are_asked_for_in_order,
     every_byte_string_is_heard, nothing_of_an_aborted_tag_follows,
 };
 pub use held::{acknowledged_commands_are_held, held_commands_stay_held};
+pub use requests::{
+    a_failed_request_changes_nothing, a_register_is_filled_once,
+    a_request_for_data_reads_its_pages, an_abort_empties_the_registers, frames_are_handed_out_once,
+    last_data_empty_the_registers, one_request_is_open,
+};
 pub use rows::{gap_keeps_the_first_write, write_after_the_gap_is_kept};
 pub use rpmb::{
     a_command_changes_its_region, a_mac_covers_every_frame, a_right_write_is_accepted,

@@ -1,5 +1,5 @@
 //! The replay protected memory block: frames as bytes, their MAC, requests, and what answers them.
-ghost use Rattle.std.specs.Prelude.{◌≡◌, ◌*◌, ◌++◌, ◌∷◌, ℕ, [], All, Bool, List, None, Some, drop, length, map, nat_lt};
+ghost use Rattle.std.specs.Prelude.{◌≡◌, ◌*◌, ◌<◌, ◌++◌, ◌∷◌, ℕ, [], All, Bool, List, None, Some, drop, length, map, nat_lt};
 ghost use Rattle.std.specs.Prelude.{replicate, take, true, false};
 ghost use Rattle.std.specs.List.{flat_map};
 ghost use Rattle.sha2.specs.Sha256.{sha256};
@@ -14,12 +14,15 @@ ghost use Rattle.ufs_spec.specs.Rpmb.{Refused, Region, Results, changed_by, fram
 ghost use Rattle.ufs_spec.specs.Rpmb.{with_end_bit};
 ghost use Rattle.ufs_spec.specs.RpmbResponses.{emptied_by, filled_with, response_frame, response_frames, with_reads};
 ghost use Rattle.ufs_spec.specs.declared.Cdb.TheVariants.{SecurityOut};
-ghost use Rattle.ufs_laws.specs.RpmbWrites.{IsRightWrite};
+ghost use Rattle.ufs_laws.specs.RpmbWrites.{IsRightWrite, region_named};
 
-/// A command makes of the region of a plain state what it makes of that part of the state.
-#[tactic(auto, using(crate::proofs::rpmb_frames::Regions::region_changed))]
+/// A command makes of the region that it names what `changed_by` says, and leaves all other regions.
+#[tactic(auto, using(crate::proofs::rpmb_frames::Regions::named_changed, crate::proofs::rpmb_frames::Regions::others_stay))]
 pub fn a_command_changes_its_region()
-    ensures { (p : Plain) (c : Command) → region_of (apply p c) ≡ changed_by (region_of p) c }
+    ensures named { (p : Plain) (c : Command) (number : ℕ) → number < length p.regions →
+        region_named c ≡ Some number → region_of (apply p c) number ≡ changed_by (region_of p number) c }
+    ensures others { (p : Plain) (c : Command) (number : ℕ) → (region_named c ≡ Some number → ⊥) →
+        region_of (apply p c) number ≡ region_of p number }
 {}
 
 /// 512 bytes are one frame, and a frame is 512 bytes: each is read off the other, and so are several of them.
@@ -62,25 +65,28 @@ pub fn worked_macs()
 
 /// A write is accepted only with the present counter, below its end, and with the MAC of all its frames under the key;
 /// it lies in the area, its frames agree and are as many as it counts, and the device is not locked. Then the data of
-/// all its frames are written from its address on.
+/// all its frames are written from its address on, in the region that they were sent to.
 pub fn an_accepted_write_is_right()
-    ensures right { (region : Region) (r : Registers) (locked : Bool) (f : Frame) (fs : List Frame) (result address : ℕ)
-        (bytes : List ℕ) → rpmb_outcome region r locked (f ∷ fs) ≡ Results result (Some (RpmbWrite address bytes)) →
+    ensures right { (number : ℕ) (region : Region) (r : Registers) (locked : Bool) (f : Frame) (fs : List Frame)
+        (result named address : ℕ) (bytes : List ℕ) →
+        rpmb_outcome number region r locked (f ∷ fs) ≡ Results result (Some (RpmbWrite named address bytes)) →
         IsRightWrite region f fs }
-    ensures unlocked { (region : Region) (r : Registers) (locked : Bool) (f : Frame) (fs : List Frame)
-        (result address : ℕ) (bytes : List ℕ) →
-        rpmb_outcome region r locked (f ∷ fs) ≡ Results result (Some (RpmbWrite address bytes)) → locked ≡ false }
-    ensures written { (region : Region) (r : Registers) (locked : Bool) (f : Frame) (fs : List Frame)
-        (result address : ℕ) (bytes : List ℕ) →
-        rpmb_outcome region r locked (f ∷ fs) ≡ Results result (Some (RpmbWrite address bytes)) →
-        (f.address ≡ address) × (flat_map (λ (g : Frame). g.payload) (f ∷ fs) ≡ bytes) }
+    ensures unlocked { (number : ℕ) (region : Region) (r : Registers) (locked : Bool) (f : Frame) (fs : List Frame)
+        (result named address : ℕ) (bytes : List ℕ) →
+        rpmb_outcome number region r locked (f ∷ fs) ≡ Results result (Some (RpmbWrite named address bytes)) →
+        locked ≡ false }
+    ensures written { (number : ℕ) (region : Region) (r : Registers) (locked : Bool) (f : Frame) (fs : List Frame)
+        (result named address : ℕ) (bytes : List ℕ) →
+        rpmb_outcome number region r locked (f ∷ fs) ≡ Results result (Some (RpmbWrite named address bytes)) →
+        (number ≡ named) × (f.address ≡ address) × (flat_map (λ (g : Frame). g.payload) (f ∷ fs) ≡ bytes) }
 {}
 
 /// A right write is accepted, unless the device is locked: with result 0, or 0080h if it brings the counter to its end.
 pub fn a_right_write_is_accepted()
-    ensures { (region : Region) (r : Registers) (f : Frame) (fs : List Frame) → IsRightWrite region f fs →
-        (written : Command) → written ≡ RpmbWrite f.address (flat_map (λ (g : Frame). g.payload) (f ∷ fs)) →
-        rpmb_outcome region r false (f ∷ fs)
+    ensures { (number : ℕ) (region : Region) (r : Registers) (f : Frame) (fs : List Frame) →
+        IsRightWrite region f fs → (written : Command) →
+        written ≡ RpmbWrite number f.address (flat_map (λ (g : Frame). g.payload) (f ∷ fs)) →
+        rpmb_outcome number region r false (f ∷ fs)
         ≡ Results (with_end_bit (changed_by region written) 0) (Some written) }
 {}
 
@@ -88,35 +94,38 @@ pub fn a_right_write_is_accepted()
 /// result, requests before a key, a second key, the last blocks of an area of two, and the end of the counter.
 pub fn worked_requests()
     ensures counts_differ { (region : Region) (r : Registers) (locked : Bool) (f g : Frame) →
-        rpmb_outcome region r locked (record f { kind = 3; counter = 5; address = 0; count = 2 }
+        rpmb_outcome 0 region r locked (record f { kind = 3; counter = 5; address = 0; count = 2 }
         ∷ record g { kind = 3; counter = 5; address = 0; count = 1 } ∷ []) ≡ Refused invalid_list_field }
     ensures counters_differ { (region : Region) (r : Registers) (locked : Bool) (f g : Frame) →
-        rpmb_outcome region r locked (record f { kind = 3; counter = 5; address = 0; count = 2 }
+        rpmb_outcome 0 region r locked (record f { kind = 3; counter = 5; address = 0; count = 2 }
         ∷ record g { kind = 3; counter = 6; address = 0; count = 2 } ∷ []) ≡ Refused invalid_list_field }
     ensures no_result { (region : Region) (r : Registers) (locked : Bool) (f : Frame) →
-        rpmb_outcome region (record r { result = None }) locked (record f { kind = 5 } ∷ []) ≡ Refused sequence_error }
+        rpmb_outcome 0 region (record r { result = None }) locked (record f { kind = 5 } ∷ [])
+        ≡ Refused sequence_error }
     ensures counter_before_key { (region : Region) (r : Registers) (locked : Bool) (f : Frame) →
-        rpmb_outcome (record region { key = None }) r locked (record f { kind = 2 } ∷ []) ≡ Results 7 None }
+        rpmb_outcome 0 (record region { key = None }) r locked (record f { kind = 2 } ∷ []) ≡ Results 7 None }
     ensures write_before_key { (region : Region) (r : Registers) (locked : Bool) (f : Frame) →
-        rpmb_outcome (record region { key = None }) r locked (record f { kind = 3; count = 1 } ∷ []) ≡ Results 7 None }
+        rpmb_outcome 0 (record region { key = None }) r locked (record f { kind = 3; count = 1 } ∷ [])
+        ≡ Results 7 None }
     ensures read_before_key { (region : Region) (r : Registers) (locked : Bool) (f : Frame) →
-        rpmb_outcome (record region { key = None }) r locked (record f { kind = 4; count = 1 } ∷ []) ≡ Results 7 None }
+        rpmb_outcome 0 (record region { key = None }) r locked (record f { kind = 4; count = 1 } ∷ [])
+        ≡ Results 7 None }
     ensures second_key { (region : Region) (r : Registers) (locked : Bool) (f : Frame) (key : List ℕ) →
-        rpmb_outcome (record region { key = Some key; counter = 0 }) r locked (record f { kind = 1 } ∷ [])
+        rpmb_outcome 0 (record region { key = Some key; counter = 0 }) r locked (record f { kind = 1 } ∷ [])
         ≡ Results 1 None }
     ensures in_area { (r : Registers) (locked : Bool) (f : Frame) (key : List ℕ) →
-        rpmb_outcome (record { key = Some key; area = zeros 512; counter = 0 }) r locked
+        rpmb_outcome 0 (record { key = Some key; area = zeros 512; counter = 0 }) r locked
         (record f { kind = 4; address = 1; count = 1 } ∷ []) ≡ Results 0 None }
     ensures past_area { (r : Registers) (locked : Bool) (f : Frame) (key : List ℕ) →
-        rpmb_outcome (record { key = Some key; area = zeros 512; counter = 0 }) r locked
+        rpmb_outcome 0 (record { key = Some key; area = zeros 512; counter = 0 }) r locked
         (record f { kind = 4; address = 1; count = 2 } ∷ []) ≡ Results 4 None }
     ensures last_write { (region : Region) (key bytes : List ℕ) (address : ℕ) → with_end_bit
-        (changed_by (record region { key = Some key; counter = 0xFFFFFFFE }) (RpmbWrite address bytes)) 0 ≡ 0x80 }
+        (changed_by (record region { key = Some key; counter = 0xFFFFFFFE }) (RpmbWrite 0 address bytes)) 0 ≡ 0x80 }
     ensures no_more_writes { (region : Region) (r : Registers) (locked : Bool) (f : Frame) (key : List ℕ) →
-        rpmb_outcome (record region { key = Some key; counter = 0xFFFFFFFF }) r locked
+        rpmb_outcome 0 (record region { key = Some key; counter = 0xFFFFFFFF }) r locked
         (record f { kind = 3; count = 1 } ∷ []) ≡ Results 0x85 None }
     ensures one_more_write { (r : Registers) (locked : Bool) (f : Frame) (key : List ℕ) →
-        rpmb_outcome (record { key = Some key; area = []; counter = 0xFFFFFFFE }) r locked
+        rpmb_outcome 0 (record { key = Some key; area = []; counter = 0xFFFFFFFE }) r locked
         (record f { kind = 3; count = 1; address = 0 } ∷ []) ≡ Results 4 None }
 {}
 
@@ -219,8 +228,8 @@ pub fn worked_registers()
     ensures filled_by_result { (region : Region) (f : Frame) (fs : List Frame) (result : ℕ) (r : Registers)
         (bytes : List ℕ) → filled_with region (record f { kind = 5 } ∷ fs) result (record r { result = Some bytes })
         ≡ record { result = Some bytes; response = bytes ∷ [] } }
-    ensures aborted { (task : Task) (tasks : List Task) (n : ℕ) (r : Registers) →
-        registers_after (record task { command = Some (SecurityOut n) } ∷ tasks) r ≡ empty_registers }
+    ensures aborted { (task : Task) (tasks : List Task) (n : ℕ) (r : ℕ → Registers) →
+        registers_after (record task { command = Some (SecurityOut 0 n) } ∷ tasks) r 0 ≡ empty_registers }
     ensures not_read { with_reads (WasRead ∷ NotRead ∷ Unread ∷ []) 0 ≡ 6 }
     ensures not_read_at_the_end { with_reads (NotRead ∷ []) 0x80 ≡ 0x86 }
     ensures read { (result : ℕ) → with_reads (WasRead ∷ Unread ∷ []) result ≡ result }

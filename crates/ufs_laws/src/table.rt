@@ -49,14 +49,16 @@ pub fn each_line_of_the_table_counts()
     ensures flush { (s : State) (tag : ℕ) (immediate : Bool) → IsIdle s → mended s ≡ true → locked s ≡ true →
         has_pending s.translation ≡ true → IsRefused s (asks 0x00 0 tag (flush immediate)) write_protected }
     // SECURITY PROTOCOL IN without a response, before the device is mended; and of 512 bytes, without a response.
-    ensures ready_first { (s : State) (tag : ℕ) → mended s ≡ false → s.registers.response ≡ [] →
-        first_line (lines_for s (asks 0x40 0xC4 tag (cdb.SecurityIn 512)) (cdb.SecurityIn 512)) ≡ Some not_ready }
-    ensures response { (s : State) (tag : ℕ) → mended s ≡ true → s.registers.response ≡ [] →
-        first_line (lines_for s (asks 0x40 0xC4 tag (cdb.SecurityIn 512)) (cdb.SecurityIn 512)) ≡ Some sequence_error }
+    ensures ready_first { (s : State) (tag : ℕ) → mended s ≡ false → (s.registers 0).response ≡ [] →
+        first_line (lines_for s (asks 0x40 0xC4 tag (cdb.SecurityIn 0 512)) (cdb.SecurityIn 0 512)) ≡ Some not_ready }
+    ensures response { (s : State) (tag : ℕ) → mended s ≡ true → (s.registers 0).response ≡ [] →
+        first_line (lines_for s (asks 0x40 0xC4 tag (cdb.SecurityIn 0 512)) (cdb.SecurityIn 0 512))
+        ≡ Some sequence_error }
     // SECURITY PROTOCOL IN of 512 bytes if a response of two frames waits, and nothing else.
     ensures other_response { (s : State) (tag : ℕ) (a b : List ℕ) → mended s ≡ true →
-        s.registers.response ≡ a ∷ b ∷ [] →
-        first_line (lines_for s (asks 0x40 0xC4 tag (cdb.SecurityIn 512)) (cdb.SecurityIn 512)) ≡ Some invalid_field }
+        (s.registers 0).response ≡ a ∷ b ∷ [] →
+        first_line (lines_for s (asks 0x40 0xC4 tag (cdb.SecurityIn 0 512)) (cdb.SecurityIn 0 512))
+        ≡ Some invalid_field }
     // A WRITE without a free slot, and nothing else.
     ensures crowded { (s : State) (tag : ℕ) → IsIdle s → mended s ≡ true → locked s ≡ false →
         free_slots s.translation ≡ 0 →

@@ -27,8 +27,9 @@ pub fn worked_queries()
 
 /// An RPMB request with a result other than 0 and 0080h accepts nothing.
 pub fn failed_request_accepts_nothing()
-    ensures { (region : Region) (r : Registers) (locked : Bool) (frames : List Frame) (result : ℕ) (c : Command) →
-        rpmb_outcome region r locked frames ≡ Results result (Some c) → (result ≡ 0) ⊎ (result ≡ 0x80) }
+    ensures { (number : ℕ) (region : Region) (r : Registers) (locked : Bool) (frames : List Frame) (result : ℕ)
+        (c : Command) → rpmb_outcome number region r locked frames ≡ Results result (Some c) →
+        (result ≡ 0) ⊎ (result ≡ 0x80) }
 {}
 
 /// The eighteen bytes of fixed sense data: 70h, the key in byte 2, 0Ah in byte 7, the code in byte 12 and its qualifier

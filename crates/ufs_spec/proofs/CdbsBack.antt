@@ -79,8 +79,10 @@ again (SynchronizeCache10 address blocks immediate) h =
 again (Unmap list) h = ap (λ (n : ℕ). Some (Unmap n)) (big_number-reads_back 2 list (replicate 7 0) h)
 again (ReportLuns select allocation) h =
     ap (λ (n : ℕ). Some (ReportLuns select n)) (big_number-reads_back 4 allocation (replicate 6 0) h.1)
-again (SecurityIn length) h = ap (λ (n : ℕ). Some (SecurityIn n)) (big_number-reads_back 4 length (replicate 6 0) h)
-again (SecurityOut length) h = ap (λ (n : ℕ). Some (SecurityOut n)) (big_number-reads_back 4 length (replicate 6 0) h)
+again (SecurityIn region length) h =
+    ap (λ (n : ℕ). Some (SecurityIn region n)) (big_number-reads_back 4 length (replicate 6 0) h.1)
+again (SecurityOut region length) h =
+    ap (λ (n : ℕ). Some (SecurityOut region n)) (big_number-reads_back 4 length (replicate 6 0) h.1)
 again other h = refl
 
 -- two commands of the same bytes are one

@@ -1,10 +1,11 @@
 -- A cell is of one kind, and so is a flight: nothing, a group's page or a mark; a read, a program or an erase.
 use Rattle.std.proofs.Common.{◌≡◌, ◌≢◌, ℕ, Bool, List, Option, Some}
 use Rattle.ufs_spec.specs.Cells.{Cell, GroupPage, Mark, MarkPage, Nothing}
-use Rattle.ufs_spec.specs.Disk.{Erasing, Flight, Programming, Reader, Reading, Spot}
+use Rattle.ufs_spec.specs.Disk.{Erasing, Flight, Programming, Reading, Spot}
 use Rattle.ufs_spec.specs.Moves.{without_reader}
 use Rattle.ufs_spec.specs.declared.flash.Place.{Place}
 use Rattle.ufs_spec.specs.declared.flash.Tag.{Tag}
+use Rattle.ufs_spec.specs.declared.layer.Reader.{Reader}
 
 -- Cells
 

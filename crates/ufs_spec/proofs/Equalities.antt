@@ -4,9 +4,10 @@ use Rattle.std.proofs.Common.{⊎_elim}
 use Rattle.ufs_spec.specs.Cells.{same_place}
 use Rattle.ufs_spec.specs.Disk.{Spot, same_spot}
 use Rattle.ufs_spec.specs.Keys.{same_key}
-use Rattle.ufs_spec.specs.Ledger.{Name, is_name, same_name}
+use Rattle.ufs_spec.specs.Ledger.{is_name, same_name}
 use Rattle.ufs_spec.specs.declared.flash.Key.{Key}
 use Rattle.ufs_spec.specs.declared.flash.Place.{Place}
+use Rattle.ufs_spec.specs.declared.layer.Name.{Name}
 use Rattle.ufs_spec.proofs.Facts.{and_parts, cases_Bool, eqb-self, eqb-true, false≢true, key_is}
 
 -- A test that tells equality decides it

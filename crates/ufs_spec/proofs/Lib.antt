@@ -6,6 +6,7 @@ pub mod Facts
 pub mod Lists
 pub mod PlainFacts
 pub mod ReadBack
+pub mod RegionPages
 pub mod SealedPages
 pub mod SpellingParts
 pub mod Updates

@@ -3,6 +3,7 @@ use Rattle.std.proofs.Common.{◌≡◌, ℕ, ◌+◌, ◌*◌, ◌<◌, ◌≤�
 use Rattle.std.proofs.Common.{get_or, slice_index_or, slice_set, refl, sym, ap, ◌∙◌, subst, arith, drop-cons}
 use Rattle.std.proofs.Common.{append_assoc, add-one, suc}
 use Rattle.std.proofs.Math.ListN.{set}
+use Rattle.std.proofs.Math.Seq.{map-set_same}
 use Rattle.std.proofs.lemmas.List.{length-map, length-replicate, map-set, get_or-map, set-get_or, set_at, set_split}
 use Rattle.std.proofs.lemmas.List.{with_items_is}
 use Rattle.std.proofs.lemmas.Grind.{common_steps, replicate_next}
@@ -11,9 +12,12 @@ use Rattle.std.specs.declared.vec.Vec.{Vec}
 use Rattle.ufs_spec.specs.declared.configs.UnitSpec.{UnitSpec}
 use Rattle.ufs_spec.specs.declared.configs.Numbers.{Numbers}
 use Rattle.ufs_spec.specs.Keys.{CanApplyAll}
-use Rattle.ufs_spec.specs.Commands.{Command, Write, Zero, RpmbWrite}
-use Rattle.ufs_spec.specs.Plain.{Plain, zero_block, zero_area, area_len, zero, with_part, apply, after, Shape, shape_of}
-use Rattle.ufs_spec.specs.Plain.{shape_of_numbers, LiesWithin}
+use Rattle.ufs_spec.specs.Commands.{Command, Write, Zero, SetKey, RpmbWrite}
+use Rattle.ufs_spec.specs.Plain.{Plain, Region, zero_block, zero_area, area_len, new_region, empty_region, region_of}
+use Rattle.ufs_spec.specs.Plain.{zero, with_part, changed_by, apply, after, Shape, shape_of, shape_of_numbers}
+use Rattle.ufs_spec.specs.Plain.{LiesWithin}
+use Rattle.ufs_spec.specs.Stages.{regions}
+use Rattle.ufs_spec.proofs.RegionPages.{alike, area_there}
 
 -- Lists
 
@@ -81,8 +85,9 @@ new_area n = length-replicate (area_len n) 0
 pub new_shape : (n : Numbers) → shape_of (zero n) ≡ shape_of_numbers n
 new_shape n =
     let blocks = new_blocks n.units.items in
-    let area = new_area n in
-    cc
+    let areas =
+    alike (λ (r : Region). length r.area) regions (new_region n) ∙ ap (replicate regions) (new_area n) in
+    λ i. record { blocks = blocks i; areas = areas i }
 
 -- a part that lies within a unit changes no count of blocks
 pub kept_blocks : (units : List (List (List ℕ))) (unit address : ℕ) (blocks : List (List ℕ)) →
@@ -97,6 +102,12 @@ kept_blocks units unit address blocks there within =
     let same = set-get_or (map length units) unit 0 in
     cc
 
+-- an area of the same length changes no length
+kept_areas : (rs : List Region) (number : ℕ) (new : Region) →
+    length new.area ≡ length (slice_index_or rs number empty_region).area →
+    map (λ (r : Region). length r.area) (slice_set rs number new) ≡ map (λ (r : Region). length r.area) rs
+kept_areas rs number new same = map-set_same (λ (r : Region). length r.area) rs number new empty_region same
+
 pub kept_shape : (p : Plain) (c : Command) → LiesWithin (shape_of p) c → shape_of (apply p c) ≡ shape_of p
 kept_shape p (Write unit address blocks) within =
     let same = kept_blocks p.units unit address blocks within.0 within.3 in
@@ -105,9 +116,14 @@ kept_shape p (Zero unit address count) within =
     let len = length-replicate count zero_block in
     let same = kept_blocks p.units unit address (replicate count zero_block) within.0 (omega (arith, within.3, len)) in
     cc
-kept_shape p (RpmbWrite address bytes) within =
-    let same = length-with_part (256 * address) bytes p.area within.1 in
-    cc
+kept_shape p (SetKey region bytes) within =
+    ap (λ (areas : List ℕ). record { blocks = map length p.units; areas = areas })
+    (kept_areas p.regions region (changed_by (region_of p region) (SetKey region bytes)) refl)
+kept_shape p (RpmbWrite region address bytes) within =
+    let old = area_there p region in
+    let same = length-with_part (256 * address) bytes (region_of p region).area (omega (arith, within.1.1, old)) in
+    ap (λ (areas : List ℕ). record { blocks = map length p.units; areas = areas })
+    (kept_areas p.regions region (changed_by (region_of p region) (RpmbWrite region address bytes)) same)
 kept_shape p other within = refl
 
 pub kept_shapes : (p : Plain) (cs : List Command) → All (LiesWithin (shape_of p)) cs →

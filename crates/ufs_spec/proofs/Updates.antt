@@ -2,8 +2,9 @@
 use Rattle.std.proofs.Common.{◌≡◌, ◌≢◌, ◌⊎◌, ℕ, ◌==◌, Bool, true, false, if◌then◌else◌, sym, ap, ◌∙◌, inl, inr, ⊎_elim}
 use Rattle.ufs_spec.specs.Cells.{same_place}
 use Rattle.ufs_spec.specs.Disk.{Spot, at_die, at_place, at_spot, same_spot}
-use Rattle.ufs_spec.specs.Ledger.{Name, at_name, same_name}
+use Rattle.ufs_spec.specs.Ledger.{at_name, same_name}
 use Rattle.ufs_spec.specs.declared.flash.Place.{Place}
+use Rattle.ufs_spec.specs.declared.layer.Name.{Name}
 use Rattle.ufs_spec.proofs.Facts.{cond-false, cond-true, eqb-self, eqb-true}
 use Rattle.ufs_spec.proofs.Equalities.{name_cases, name_is, place_cases, spot_cases, told_cases}
 

@@ -48,8 +48,8 @@ named_ten operation bytes =
 abbrev pub named_twelve : ℕ → List ℕ → Option Cdb
 named_twelve operation bytes =
     if operation == report_luns then Some (ReportLuns (slice_index bytes 2) (field_at 4 6 bytes))
-    else if operation == security_in then Some (SecurityIn (field_at 4 6 bytes))
-    else if operation == security_out then Some (SecurityOut (field_at 4 6 bytes))
+    else if operation == security_in then Some (SecurityIn (slice_index bytes 2) (field_at 4 6 bytes))
+    else if operation == security_out then Some (SecurityOut (slice_index bytes 2) (field_at 4 6 bytes))
     else None
 
 -- the command with this operation code: its highest three bits tell how long the CDB is (SPC, group codes)

@@ -5,6 +5,7 @@ use Rattle.std.specs.Prelude.{◌≡◌, ◌<◌, ◌≤◌, ◌+◌, ◌-◌, �
 use Rattle.std.specs.Prelude.{replicate, slice_index, if◌then◌else◌}
 use Rattle.byteorder.specs.Endian.{big_bytes}
 use Rattle.ufs_spec.specs.Messages.{IsAmong}
+use Rattle.ufs_spec.specs.Stages.{regions}
 use Rattle.ufs_spec.specs.declared.scsi.Cdb.{Cdb}
 use Rattle.ufs_spec.specs.declared.scsi.Cdb.TheVariants.{TestUnitReady, RequestSense, Read6, Write6, Inquiry}
 use Rattle.ufs_spec.specs.declared.scsi.Cdb.TheVariants.{ReadCapacity10, Read10, Write10, SynchronizeCache10, Unmap}
@@ -78,8 +79,8 @@ operation_of (Write10 address blocks forced) = write_10
 operation_of (SynchronizeCache10 address blocks immediate) = synchronize_cache_10
 operation_of (Unmap list) = unmap
 operation_of (ReportLuns select allocation) = report_luns
-operation_of (SecurityIn length) = security_in
-operation_of (SecurityOut length) = security_out
+operation_of (SecurityIn region length) = security_in
+operation_of (SecurityOut region length) = security_out
 
 -- the operation codes of the whole table, taken yet or not
 abbrev pub known_operations : List ℕ
@@ -112,10 +113,10 @@ ten_bytes operation options address blocks =
     (operation ∷ options ∷ []) ++ big_bytes 4 address ++ (0 ∷ []) ++ big_bytes 2 blocks ++ replicate 7 0
 
 -- SECURITY PROTOCOL IN and OUT (SPC): the protocol in byte 1, the specific field in bytes 2..3, the length in bytes
--- 6..9. Protocol ECh with 0001h is that of RPMB (JESD220)
-abbrev pub security_bytes : ℕ → ℕ → List ℕ
-security_bytes operation length =
-    (operation ∷ 0xEC ∷ 0x00 ∷ 0x01 ∷ 0 ∷ 0 ∷ []) ++ big_bytes 4 length ++ replicate 6 0
+-- 6..9. The protocol of RPMB is ECh, and its specific field is the region and 01h (JESD220)
+abbrev pub security_bytes : ℕ → ℕ → ℕ → List ℕ
+security_bytes operation region length =
+    (operation ∷ 0xEC ∷ region ∷ 0x01 ∷ 0 ∷ 0 ∷ []) ++ big_bytes 4 length ++ replicate 6 0
 
 -- the sixteen bytes of a command; each byte that is not named is zero, up to byte 15 (this profile). REQUEST SENSE has
 -- its allocation length in byte 4 and INQUIRY in bytes 3..4 (SPC); UNMAP the length of its list in bytes 7..8 (SBC);
@@ -134,10 +135,10 @@ cdb_bytes (SynchronizeCache10 address blocks immediate) =
 cdb_bytes (Unmap list) = (unmap ∷ replicate 6 0) ++ big_bytes 2 list ++ replicate 7 0
 cdb_bytes (ReportLuns select allocation) =
     (report_luns ∷ 0 ∷ select ∷ replicate 3 0) ++ big_bytes 4 allocation ++ replicate 6 0
-cdb_bytes (SecurityIn length) = security_bytes security_in length
-cdb_bytes (SecurityOut length) = security_bytes security_out length
+cdb_bytes (SecurityIn region length) = security_bytes security_in region length
+cdb_bytes (SecurityOut region length) = security_bytes security_out region length
 
--- the numbers of a command fit their fields, and REPORT LUNS selects by 00h, 01h or 02h (SPC)
+-- the numbers of a command fit their fields, REPORT LUNS selects by 00h, 01h or 02h (SPC), and the RPMB region is there
 abbrev pub IsCdb : Cdb → Type 0
 IsCdb TestUnitReady = Unit {0}
 IsCdb (RequestSense allocation) = allocation < 2 ^ 8
@@ -150,8 +151,8 @@ IsCdb (Write10 address blocks forced) = (address < 2 ^ 32) × (blocks < 2 ^ 16)
 IsCdb (SynchronizeCache10 address blocks immediate) = (address < 2 ^ 32) × (blocks < 2 ^ 16)
 IsCdb (Unmap list) = list < 2 ^ 16
 IsCdb (ReportLuns select allocation) = (select ≤ 2) × (allocation < 2 ^ 32)
-IsCdb (SecurityIn length) = length < 2 ^ 32
-IsCdb (SecurityOut length) = length < 2 ^ 32
+IsCdb (SecurityIn region length) = (region < regions) × (length < 2 ^ 32)
+IsCdb (SecurityOut region length) = (region < regions) × (length < 2 ^ 32)
 
 -- ## The limit of this stage: INQUIRY, UNMAP, REPORT LUNS and the security commands are not taken
 
@@ -219,8 +220,8 @@ length_of units (Read10 address blocks forced) = blocks * 4096
 length_of units (Write10 address blocks forced) = blocks * 4096
 length_of units (Unmap list) = list
 length_of units (ReportLuns select allocation) = min allocation (8 + 8 * units)
-length_of units (SecurityIn length) = length
-length_of units (SecurityOut length) = length
+length_of units (SecurityIn region length) = length
+length_of units (SecurityOut region length) = length
 length_of units cdb = 0
 
 -- where a command's data go: it has none, the host sends them (data-out buffer), or it
@@ -237,7 +238,7 @@ direction_of (Write6 address blocks) = ToDevice
 direction_of (Write10 address blocks forced) = ToDevice
 direction_of (SynchronizeCache10 address blocks immediate) = NoData
 direction_of (Unmap list) = ToDevice
-direction_of (SecurityOut length) = ToDevice
+direction_of (SecurityOut region length) = ToDevice
 direction_of cdb = ToHost
 
 -- ## What is left of what was expected (JESD220, RESPONSE UPIU)

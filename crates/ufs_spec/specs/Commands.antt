@@ -10,10 +10,10 @@ pub data Command : Type 0 where
   Write : (unit address : ℕ) → (blocks : List (List ℕ)) → Command
   -- 1 to 32 blocks of a unit, from an address on, become zeros (UNMAP)
   Zero : (unit address count : ℕ) → Command
-  -- the RPMB key of 32 bytes is programmed
-  SetKey : (key : List ℕ) → Command
-  -- 1 to 8 blocks of 256 bytes are written to the RPMB area; the address counts such blocks
-  RpmbWrite : (address : ℕ) → (bytes : List ℕ) → Command
+  -- the key of 32 bytes of an RPMB region is programmed
+  SetKey : (region : ℕ) → (key : List ℕ) → Command
+  -- 1 to 8 blocks of 256 bytes are written to the area of an RPMB region; the address counts such blocks
+  RpmbWrite : (region address : ℕ) → (bytes : List ℕ) → Command
   -- bBootLunEn becomes 0 to 2: no unit boots, the one with boot number A, or the one with B
   SetBoot : (boot : ℕ) → Command
   -- fPermanentWPEn is set, which nothing takes back
@@ -23,7 +23,7 @@ pub data Command : Type 0 where
 abbrev pub command_of : Cmd → Command
 command_of (cmd.Write unit address blocks) = Write unit address blocks.items
 command_of (cmd.Zero unit address count) = Zero unit address count
-command_of (cmd.Key key) = SetKey key
-command_of (cmd.RpmbWrite address bytes) = RpmbWrite address bytes.items
+command_of (cmd.SetKey region key) = SetKey region key
+command_of (cmd.RpmbWrite region address bytes) = RpmbWrite region address bytes.items
 command_of (cmd.SetBoot boot) = SetBoot boot
 command_of cmd.SetPermanent = SetPermanent

@@ -13,6 +13,7 @@ use Rattle.ufs_spec.specs.declared.flash.Job.TheVariants as job
 use Rattle.ufs_spec.specs.declared.flash.Page.{Page}
 use Rattle.ufs_spec.specs.declared.flash.Place.{Place}
 use Rattle.ufs_spec.specs.declared.flash.Tag.{Tag}
+use Rattle.ufs_spec.specs.declared.layer.Reader.{Reader}
 
 -- Blocks
 
@@ -55,17 +56,6 @@ pub data Vacancy : Type 0 where
   Ready : Vacancy
 
 -- Jobs
-
--- for whom a page is read
-pub data Reader : Type 0 where
-  -- the block with this index of the READ with this tag
-  ForTask : (tag index : ℕ) → Reader
-  -- the step of mending or collection that is under way
-  ForStep : Reader
-  -- the page of a group, by number and index, that a command has only in part: the rest of it is read
-  ForRest : (number index : ℕ) → Reader
-  -- whoever wanted it has let go of it since the read was given: nothing follows from its end
-  ForNobody : Reader
 
 -- what a die does: it reads a page, programs a page so that it becomes this cell, or erases a block
 pub data Flight : Type 0 where

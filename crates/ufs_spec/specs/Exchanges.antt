@@ -116,17 +116,18 @@ pub data ReadState : Type 0 where
   -- the read failed, or gave another page
   NotRead : ReadState
 
--- a block of a READ: its content as it was at the COMMAND, and whether it was read from its page
+-- a block of a READ, or a page of the RPMB area: its content as it was when it was looked up, at the COMMAND or at the
+-- last data, and whether it was read from its page
 pub record ReadBlock : Type 0 where
   pub body : List ℕ
   pub state : ReadState
 
 -- what the host's data are for: the blocks of a WRITE (`forced`: with FUA), the list of UNMAP,
--- the frames of SECURITY PROTOCOL OUT
+-- the frames of SECURITY PROTOCOL OUT, for a region of the RPMB
 pub data Purpose : Type 0 where
   ForWrite : (unit address blocks : ℕ) → (forced : Bool) → Purpose
   ForUnmap : (unit : ℕ) → Purpose
-  ForFrames : Purpose
+  ForFrames : (region : ℕ) → Purpose
 
 -- what a task still does
 pub data Deed : Type 0 where
@@ -138,12 +139,16 @@ pub data Deed : Type 0 where
   SendingBytes : (bytes : List ℕ) → Deed
   -- its GOOD is due once so many accepted commands are durable
   Awaiting : (commands : ℕ) → Deed
+  -- it reads these pages of the RPMB area, all beside each other; its GOOD is due once each of them is at hand, was
+  -- read or could not be read
+  ReadingArea : (pages : List ReadBlock) → Deed
   -- its answer is due, and so many bytes are the command's or were carried
   Answering : (status : Status) → (carried : ℕ) → Deed
 
--- the request of a SECURITY PROTOCOL OUT (JESD220, 12.4), from its last data on: its frames, its result,
+-- the request of a SECURITY PROTOCOL OUT (JESD220, 12.4), from its last data on: its region, its frames, its result,
 -- and whether its register was filled
 pub record RpmbRequest : Type 0 where
+  pub region : ℕ
   pub frames : List Frame
   pub result : ℕ
   pub filled : Bool
@@ -192,7 +197,7 @@ pub record Short : Type 0 where
 abbrev pub short_reply : ℕ → Message → Short
 short_reply tag reply = record { tag = tag; awaits = None; reply = reply; locked_reply = reply }
 
--- what lasts from one RPMB request to the next, until the next power cycle (JESD220, 12.4)
+-- what lasts of a region from one RPMB request to the next, until the next power cycle (JESD220, 12.4)
 pub record Registers : Type 0 where
   -- the frame that a result read gives, if a request left one
   pub result : Option (List ℕ)
@@ -202,6 +207,14 @@ pub record Registers : Type 0 where
 -- as a life begins: no result, and nothing waits
 abbrev pub empty_registers : Registers
 empty_registers = record { result = None; response = [] }
+
+-- the registers of each region as a life begins
+abbrev pub all_empty : ℕ → Registers
+all_empty region = empty_registers
+
+-- the registers of each region, with those of one changed
+abbrev pub at_region : (ℕ → Registers) → ℕ → Registers → ℕ → Registers
+at_region f region registers other = if other == region then registers else f other
 
 -- ## Tags
 
@@ -260,6 +273,7 @@ is_asked_in task lun offset count (Gathering purpose gathered asked) =
 is_asked_in task lun offset count (Sending blocks sent) = false
 is_asked_in task lun offset count (SendingBytes bytes) = false
 is_asked_in task lun offset count (Awaiting commands) = false
+is_asked_in task lun offset count (ReadingArea pages) = false
 is_asked_in task lun offset count (Answering status carried) = false
 
 -- the same of the task with the DATA OUT's tag; without one nothing was asked for

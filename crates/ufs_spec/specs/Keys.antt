@@ -1,15 +1,16 @@
 -- Keys name what a device holds piece by piece, each piece as long as the data of a page: a block of a unit,
--- 4096 bytes of the RPMB area, or the settings with the RPMB key and counter. A plain state is the same as a
--- content for each key (this profile).
+-- 4096 bytes of the area of an RPMB region, or the settings with the RPMB key and counter. A plain state is the same
+-- as a content for each key (this profile).
 use Rattle.std.specs.Prelude.{◌≡◌, ℕ, zero, suc, ◌+◌, ◌-◌, ◌*◌, ◌/◌, ◌<◌, ◌≤◌, ◌^◌, ◌==◌, ◌&&◌, Bool, true, false}
 use Rattle.std.specs.Prelude.{if◌then◌else◌, List, [], ◌∷◌, ◌++◌, All, length, take, drop, map, replicate, slice_index}
-use Rattle.std.specs.Prelude.{slice_index_or, Option, Some, None}
+use Rattle.std.specs.Prelude.{slice_index_or, sum, Option, Some, None}
 use Rattle.std.specs.List.{flat_map}
 use Rattle.byteorder.specs.Endian.{big_bytes}
 use Rattle.ufs_bytes.specs.Fields.{field_at}
 use Rattle.ufs_spec.specs.Messages.{AreBytes}
 use Rattle.ufs_spec.specs.Pages.{zero_filled}
-use Rattle.ufs_spec.specs.Plain.{Plain, Shape, CanApply, block_at, apply, shape_of}
+use Rattle.ufs_spec.specs.Plain.{Plain, Region, Shape, CanApply, block_at, apply, region_of}
+use Rattle.ufs_spec.specs.Stages.{regions}
 use Rattle.ufs_spec.specs.Commands.{Command}
 use Rattle.ufs_spec.specs.Commands as cmd
 use Rattle.ufs_spec.specs.declared.flash.Key.{Key}
@@ -20,23 +21,28 @@ use Rattle.ufs_spec.specs.declared.flash.Key.{Key}
 abbrev pub data_key : ℕ → ℕ → Key
 data_key unit address = record { kind = 1; unit = unit; address = address }
 
--- sixteen blocks of the RPMB area, 4096 bytes, by their page: kind 2
-abbrev pub area_key : ℕ → Key
-area_key page = record { kind = 2; unit = 0; address = page }
+-- sixteen blocks of the area of an RPMB region, 4096 bytes, by their page: kind 2, with the region as its unit
+abbrev pub area_key : ℕ → ℕ → Key
+area_key region page = record { kind = 2; unit = region; address = page }
 
 -- the settings, the RPMB key and the write counter: kind 3
 abbrev pub settings_key : Key
 settings_key = record { kind = 3; unit = 0; address = 0 }
 
--- how many keys the RPMB area has, one for each 4096 bytes
+-- how many keys the area of each RPMB region has, one for each 4096 bytes
+abbrev pub region_pages : Shape → List ℕ
+region_pages s = map (λ bytes. bytes / 4096) s.areas
+
+-- how many keys the areas of all RPMB regions have
 abbrev pub area_pages : Shape → ℕ
-area_pages s = s.area / 4096
+area_pages s = sum (region_pages s)
 
 -- a device of this shape has the key
 pub data IsKey (s : Shape) : Key → Type 0 where
   IsData : (unit address : ℕ) → unit < length s.blocks → address < slice_index_or s.blocks unit 0 →
       IsKey s (data_key unit address)
-  IsArea : (page : ℕ) → page < area_pages s → IsKey s (area_key page)
+  IsArea : (region page : ℕ) → region < regions → page < slice_index_or (region_pages s) region 0 →
+      IsKey s (area_key region page)
   IsSettings : IsKey s settings_key
 
 -- compares two keys by kind, unit and address
@@ -83,32 +89,45 @@ pub record IsSettingsBody (body : List ℕ) : Type 0 where
 abbrev pub Contents : Type 0
 Contents = Key → List ℕ
 
--- the 4096 bytes of the RPMB area that are this page of it
+-- the 4096 bytes of an RPMB area that are this page of it
 abbrev pub area_page : ℕ → List ℕ → List ℕ
 area_page page area = take 4096 (drop (4096 * page) area)
 
--- the settings page of a plain state
+-- the settings page of a plain state. It has the key and the counter of RPMB region 0, the only one
 abbrev pub settings_of : Plain → List ℕ
-settings_of p = settings_bytes p.boot p.permanent p.key p.counter
+settings_of p = settings_bytes p.boot p.permanent (region_of p 0).key (region_of p 0).counter
 
--- the content of a key in a plain state: a block of a unit, a page of the RPMB area, or the settings
+-- the content of a key in a plain state: a block of a unit, a page of the area of an RPMB region, or the settings
 abbrev pub content : Plain → Contents
 content p k =
     if k.kind == 1 then block_at k.unit k.address p
-    else if k.kind == 2 then area_page k.address p.area
+    else if k.kind == 2 then area_page k.address (region_of p k.unit).area
     else settings_of p
 
 -- 4096 bytes
 abbrev pub IsBlock : List ℕ → Type 0
 IsBlock bytes = (length bytes ≡ 4096) × AreBytes bytes
 
--- what a plain state is made of: blocks of 4096 bytes, an area of bytes in whole
--- pages, and settings in their ranges
+-- what an RPMB region is made of: a key of 32 bytes, an area of bytes in whole pages, and a counter of 32 bits
+-- (JESD220, 12.4)
+pub record IsRegion (r : Region) : Type 0 where
+  pub key_length : (bytes : List ℕ) → r.key ≡ Some bytes → (length bytes ≡ 32) × AreBytes bytes
+  pub area : length r.area ≡ 4096 * (length r.area / 4096)
+  pub area_bytes : AreBytes r.area
+  pub counter_fits : r.counter < 2 ^ 32
+
+-- what a plain state is made of: blocks of 4096 bytes, a boot setting in its range, and as many RPMB regions as
+-- there are
 pub record IsPlain (p : Plain) : Type 0 where
   pub blocks : All (All IsBlock) p.units
-  pub area : length p.area ≡ 4096 * area_pages (shape_of p)
-  pub area_bytes : AreBytes p.area
-  pub settings : AreSettings p.boot p.key p.counter
+  pub boot_bound : p.boot ≤ 2
+  pub regions_count : length p.regions ≡ regions
+  pub each_region : All IsRegion p.regions
+
+-- a shape that plain states have: as many RPMB areas as there are regions, each in whole pages
+pub record HasWholeAreas (s : Shape) : Type 0 where
+  pub count : length s.areas ≡ regions
+  pub whole : All (λ bytes. bytes ≡ 4096 * (bytes / 4096)) s.areas
 
 -- contents that a plain state may have: 4096 bytes for each key, and settings in their ranges
 pub record AreContents (s : Shape) (f : Contents) : Type 0 where
@@ -126,6 +145,16 @@ below (suc n) = below n ++ n ∷ []
 abbrev pub key_in : List ℕ → Option (List ℕ)
 key_in body = if slice_index body 2 == 1 then Some (take 32 (drop 4 body)) else None
 
+-- the RPMB region of a number that these contents have: the pages of its area, and the key and the counter of the
+-- settings, which are those of region 0, the only one
+abbrev pub region_in : Shape → Contents → ℕ → Region
+region_in s f number =
+    record {
+      key = key_in (f settings_key);
+      area = flat_map (λ page. f (area_key number page)) (below (slice_index_or (region_pages s) number 0));
+      counter = field_at 4 36 (f settings_key);
+    }
+
 -- the plain state of this shape that has these contents
 abbrev pub plain_of : Shape → Contents → Plain
 plain_of s f =
@@ -134,9 +163,7 @@ plain_of s f =
           (below (length s.blocks));
       boot = slice_index (f settings_key) 0;
       permanent = slice_index (f settings_key) 1 == 1;
-      key = key_in (f settings_key);
-      area = flat_map (λ page. f (area_key page)) (below (area_pages s));
-      counter = field_at 4 36 (f settings_key);
+      regions = map (region_in s f) (below regions);
     }
 
 -- Commands
@@ -144,8 +171,8 @@ plain_of s f =
 -- the data of a command are bytes, and of a write they are whole blocks
 abbrev pub IsCommand : Command → Type 0
 IsCommand (cmd.Write unit address blocks) = All IsBlock blocks
-IsCommand (cmd.SetKey bytes) = AreBytes bytes
-IsCommand (cmd.RpmbWrite address bytes) = AreBytes bytes
+IsCommand (cmd.SetKey region bytes) = AreBytes bytes
+IsCommand (cmd.RpmbWrite region address bytes) = AreBytes bytes
 IsCommand _ = Unit {0}
 
 -- the commands may come one after another, each in the state that those before it leave
@@ -157,17 +184,19 @@ CanApplyAll p (c ∷ cs) = IsCommand c × CanApply p c × CanApplyAll (apply p c
 abbrev pub data_keys : ℕ → ℕ → ℕ → List Key
 data_keys unit address n = map (λ i. data_key unit (address + i)) (below n)
 
--- the keys of the area pages from that of one block of 256 bytes to that of another, in rising order
-abbrev pub area_keys : ℕ → ℕ → List Key
-area_keys first last = map (λ i. area_key (first / 16 + i)) (below (last / 16 + 1 - first / 16))
+-- the keys of the area pages of a region from that of one block of 256 bytes to that of another, in rising order
+abbrev pub area_keys : ℕ → ℕ → ℕ → List Key
+area_keys region first last =
+    map (λ i. area_key region (first / 16 + i)) (below (last / 16 + 1 - first / 16))
 
 -- the keys that a command touches, in the order in which its group has them. A setting or a key touches the
 -- settings alone; an RPMB write touches its area pages and then the settings, which have the counter
 abbrev pub keys : Command → List Key
 keys (cmd.Write unit address blocks) = data_keys unit address (length blocks)
 keys (cmd.Zero unit address count) = data_keys unit address count
-keys (cmd.SetKey bytes) = settings_key ∷ []
-keys (cmd.RpmbWrite address bytes) = area_keys address (address + length bytes / 256 - 1) ++ settings_key ∷ []
+keys (cmd.SetKey region bytes) = settings_key ∷ []
+keys (cmd.RpmbWrite region address bytes) =
+    area_keys region address (address + length bytes / 256 - 1) ++ settings_key ∷ []
 keys (cmd.SetBoot boot) = settings_key ∷ []
 keys cmd.SetPermanent = settings_key ∷ []
 

@@ -7,13 +7,11 @@ use Rattle.ufs_spec.specs.Cells.{Mark}
 use Rattle.ufs_spec.specs.Keys.{Contents, Group, Item, put_groups, same_key}
 use Rattle.ufs_spec.specs.declared.flash.Key.{Key}
 use Rattle.ufs_spec.specs.declared.flash.Place.{Place}
+use Rattle.ufs_spec.specs.declared.layer.Looked.{Looked}
+use Rattle.ufs_spec.specs.declared.layer.Looked.TheVariants.{InSlot, OnPage, Unwritten}
+use Rattle.ufs_spec.specs.declared.layer.Name.{Name}
 
 -- Names of pages
-
--- a page of a group, by the group's number and the index in it
-pub record Name : Type 0 where
-  pub number : ℕ
-  pub index : ℕ
 
 -- compares two names by number and index
 abbrev pub same_name : Name → Name → Bool
@@ -148,15 +146,6 @@ is_name name None = false
 is_name name (Some other) = same_name name other
 
 -- What was looked up
-
--- where a content is found that was looked up
-pub data Looked : Type 0 where
-  -- nowhere: it was never written, and is zeros
-  Unwritten : Looked
-  -- in a slot of the write cache, since the group of this page is not durable yet
-  InSlot : (name : Name) → Looked
-  -- on the page of this name, which is at this place
-  OnPage : (name : Name) → (place : Place) → Looked
 
 -- a durable page is found at the place where it stands; one that stands nowhere is taken as never written
 abbrev pub looked_on : Name → Option Place → Looked

@@ -8,7 +8,7 @@ use Rattle.ufs_spec.specs.Cells.{Array, Cell, Cells, Shows}
 use Rattle.ufs_spec.specs.Dies.{DieState, IsOfSize, is_bad_block, new_die, page_at}
 use Rattle.ufs_spec.specs.Disk.{Crash, Erasing, Flight, Programming, Reading, Spot, Touches, flight_alone, job_of}
 use Rattle.ufs_spec.specs.Disk.{page_of, spot_of}
-use Rattle.ufs_spec.specs.Exchanges.{empty_registers}
+use Rattle.ufs_spec.specs.Exchanges.{all_empty}
 use Rattle.ufs_spec.specs.Keys.{IsKey, content}
 use Rattle.ufs_spec.specs.Kept.{StandsFor}
 use Rattle.ufs_spec.specs.Machine.{Allowed, Answer, Reply, Call, Done, OfDone, Take, OfTake, Heard, OfHost, Host}
@@ -156,7 +156,7 @@ pub record IsOpened (n : Numbers) (array : Array) (bad : Spot → Bool) (s : Sta
   pub no_shorts : s.shorts ≡ []
   -- fPowerOnWPEn and the RPMB registers do not outlast a stop
   pub power_off : s.power_on ≡ false
-  pub no_registers : s.registers ≡ empty_registers
+  pub no_registers : s.registers ≡ all_empty
 
 -- ## Stops
 

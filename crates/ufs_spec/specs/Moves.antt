@@ -4,11 +4,11 @@ use Rattle.std.specs.Prelude.{◌≡◌, ℕ, ◌+◌, ◌-◌, ◌≤◌, ◌==
 use Rattle.std.specs.Prelude.{◌++◌, All, filter, length, map, max, slice_get, Option, Some, None}
 use Rattle.ufs_spec.specs.Cells.{Cell, Cells, GroupPage, IsCell, Mark, MarkPage, Nothing, Opens, key_of}
 use Rattle.ufs_spec.specs.Configs.{command_blocks}
-use Rattle.ufs_spec.specs.Disk.{BlockState, Bad, CellCrash, Disk, Erasing, Flight, ForNobody, ForRest, ForStep, ForTask}
-use Rattle.ufs_spec.specs.Disk.{Free, Programming, Reader, Reading, Stale, at_spot, ended, erase_failed, erased}
+use Rattle.ufs_spec.specs.Disk.{BlockState, Bad, CellCrash, Disk, Erasing, Flight}
+use Rattle.ufs_spec.specs.Disk.{Free, Programming, Reading, Stale, at_spot, ended, erase_failed, erased}
 use Rattle.ufs_spec.specs.Disk.{flight_alone, program_failed, programmed}
 use Rattle.ufs_spec.specs.Keys.{Group, IsBlock, IsKey, IsSettingsBody, Item}
-use Rattle.ufs_spec.specs.Ledger.{Ledger, Name, before_accepted, look, page_stands, same_name, settled_look}
+use Rattle.ufs_spec.specs.Ledger.{Ledger, before_accepted, look, page_stands, same_name, settled_look}
 use Rattle.ufs_spec.specs.Plain.{shape_of_numbers}
 use Rattle.ufs_spec.specs.Translation.{CopyStep, MarkStep, MayTake, Mended, Mending, Pin, Plan, RepairStep, Repairing}
 use Rattle.ufs_spec.specs.Translation.{Rest, Step, StepKind, Translation, Unmarked, awaited_read, free_slots}
@@ -21,6 +21,9 @@ use Rattle.ufs_spec.specs.declared.flash.Outcome.TheVariants as outcome
 use Rattle.ufs_spec.specs.declared.flash.Page.{Page}
 use Rattle.ufs_spec.specs.declared.flash.Place.{Place}
 use Rattle.ufs_spec.specs.declared.flash.Tag.{Tag}
+use Rattle.ufs_spec.specs.declared.layer.Name.{Name}
+use Rattle.ufs_spec.specs.declared.layer.Reader.{Reader}
+use Rattle.ufs_spec.specs.declared.layer.Reader.TheVariants.{ForNobody, ForRest, ForStep, ForTask}
 
 -- Programs that ended well
 
@@ -298,7 +301,10 @@ IsAllowedMove t (Acknowledge count) = before_accepted t.ledger + count ≤ t.led
 IsAllowedMove t (Keep key pin) = IsKey (shape_of_numbers t.numbers) key × (pin.looked ≡ look t.ledger key)
 IsAllowedMove t (GiveJob die flight) = MayTake t die (Some flight)
 IsAllowedMove t (EndJob die ending) = MayEnd t.disk die (t.disk.flights die) ending
-IsAllowedMove t move = Unit {0}
+IsAllowedMove t (WantPage tag index) = Unit {0}
+IsAllowedMove t (LetGo tag index) = Unit {0}
+IsAllowedMove t (LetGoAll tag) = Unit {0}
+IsAllowedMove t TakeStep = Unit {0}
 
 -- whether the reader is this block of this task
 abbrev pub is_for : ℕ → ℕ → Reader → Bool

@@ -6,7 +6,7 @@ use Rattle.ufs_spec.specs.Cells.{Cell, Cells, GroupPage, Mark, MarkPage, Nothing
 use Rattle.ufs_spec.specs.Disk.{BlockState, Bad, Closed, Disk, Free, Ready, Spot, Stale, Untouched, Vacancy, spot_of}
 use Rattle.ufs_spec.specs.Keys.{IsKey}
 use Rattle.ufs_spec.specs.Kept.{HasNone, HoldAll, IsFenced, IsKept, IsNewest, IsNewestMark, fence_in}
-use Rattle.ufs_spec.specs.Ledger.{Entry, Ledger, Name}
+use Rattle.ufs_spec.specs.Ledger.{Entry, Ledger}
 use Rattle.ufs_spec.specs.Plain.{shape_of_numbers}
 use Rattle.ufs_spec.specs.Sound.{CellsSuit, SamePage}
 use Rattle.ufs_spec.specs.Translation.{Mended, Mending, Translation, Unmarked, is_free, name_of}
@@ -15,6 +15,7 @@ use Rattle.ufs_spec.specs.declared.flash.Fence.{Fence}
 use Rattle.ufs_spec.specs.declared.flash.Key.{Key}
 use Rattle.ufs_spec.specs.declared.flash.Place.{Place}
 use Rattle.ufs_spec.specs.declared.flash.Tag.{Tag}
+use Rattle.ufs_spec.specs.declared.layer.Name.{Name}
 
 -- Numbers seen
 

@@ -1,6 +1,6 @@
 -- Queries: descriptors, attributes and flags, and the table by which a query is refused: the first line that applies
 -- decides (JESD220, 10.7.8 and 14; the order of the lines and the values that a configuration does not give are this
--- profile's). The machine does not use these definitions yet.
+-- profile's).
 use Rattle.std.specs.Prelude.{ℕ, ◌==◌, ◌&&◌, ◌||◌, nat_lt, nat_le, not, Bool, if◌then◌else◌, is_none, List, [], ◌∷◌}
 use Rattle.std.specs.Prelude.{◌++◌, length, replicate, slice_get, take, Option, Some, None}
 use Rattle.std.specs.List.{list_any}

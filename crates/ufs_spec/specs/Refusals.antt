@@ -36,9 +36,9 @@ pub record State : Type 0 where
   -- the open commands and the exchanges of one reply, in the order in which they were opened (Exchanges)
   pub tasks : List Task
   pub shorts : List Short
-  -- fPowerOnWPEn, which lasts until the next power cycle, and the RPMB registers
+  -- fPowerOnWPEn, which lasts until the next power cycle, and the registers of each RPMB region
   pub power_on : Bool
-  pub registers : Registers
+  pub registers : ℕ → Registers
 
 -- the configuration, which stays through a life. `numbers_of` of Configs is another one: it makes the record
 abbrev pub numbers_of : State → Numbers
@@ -189,8 +189,8 @@ is_frames n = nat_le 512 n && nat_le n 4096 && (n % 512 == 0)
 -- 4 (5/24/00): more blocks than a command may have (`command_blocks`), or a security length that is not 512 to
 -- 4096 in steps of 512
 abbrev pub is_too_long : Numbers → Cdb → Bool
-is_too_long n (cdb.SecurityIn size) = not (is_frames size)
-is_too_long n (cdb.SecurityOut size) = not (is_frames size)
+is_too_long n (cdb.SecurityIn region size) = not (is_frames size)
+is_too_long n (cdb.SecurityOut region size) = not (is_frames size)
 is_too_long n command = nat_lt (command_blocks n) (blocks_of command)
 
 -- 5 (5/1A/00): UNMAP's list is not of 0 bytes, of 8 (its header) or of 24 (with one descriptor)
@@ -242,36 +242,52 @@ abbrev pub is_refused_write : State → Option UnitSpec → Cdb → Bool
 is_refused_write s u command =
     (writes command && (is_protected s u || locked s)) || (flushes command && locked s && has_pending s.translation)
 
--- 10 (5/2C/00): SECURITY PROTOCOL IN while no response frames wait
+-- 10 (5/2C/00): SECURITY PROTOCOL IN while no response frames wait in its region
 abbrev pub lacks_response : State → Cdb → Bool
-lacks_response s (cdb.SecurityIn n) = length s.registers.response == 0
+lacks_response s (cdb.SecurityIn region n) = length (s.registers region).response == 0
 lacks_response s command = false
 
 -- 10 (5/24/00): SECURITY PROTOCOL IN of another length than the waiting frames have
 abbrev pub has_other_response : State → Cdb → Bool
-has_other_response s (cdb.SecurityIn n) = not (n == 512 * length s.registers.response)
+has_other_response s (cdb.SecurityIn region n) = not (n == 512 * length (s.registers region).response)
 has_other_response s command = false
 
+-- 11: how many slots a SECURITY PROTOCOL OUT claims: one for each page that an RPMB write may have, two of the area and
+-- the settings
+abbrev pub slots_for_frames : ℕ
+slots_for_frames = 3
+
 -- 11: how many slots of the write cache a command claims at its COMMAND: a WRITE one for each block, an UNMAP of one
--- descriptor as many as a command may have blocks, SECURITY PROTOCOL OUT 3, for two pages of the area and the settings
+-- descriptor as many as a command may have blocks
 abbrev pub slots_needed : Numbers → Cdb → ℕ
 slots_needed n (cdb.Write6 address blocks) = blocks_of (cdb.Write6 address blocks)
 slots_needed n (cdb.Write10 address blocks forced) = blocks
 slots_needed n (cdb.Unmap list) = if list == 24 then command_blocks n else 0
-slots_needed n (cdb.SecurityOut size) = 3
+slots_needed n (cdb.SecurityOut region size) = slots_for_frames
 slots_needed n command = 0
 
 -- 11: the command brings frames of the RPMB
 abbrev pub is_security_out : Cdb → Bool
-is_security_out (cdb.SecurityOut n) = true
+is_security_out (cdb.SecurityOut region size) = true
 is_security_out command = false
 
--- 11: the same of an open task; a refused one has no command, so that it does not count
+-- 11: the same, for this region
+abbrev pub is_security_out_for : ℕ → Cdb → Bool
+is_security_out_for region (cdb.SecurityOut other size) = other == region
+is_security_out_for region command = false
+
+-- 11: the command of an open task brings frames; a refused task has no command, so that it does not count
 abbrev pub sends_frames : Option Cdb → Bool
 sends_frames None = false
 sends_frames (Some command) = is_security_out command
 
--- 11 (status 08h): SECURITY PROTOCOL OUT while another is open; or fewer slots are free than are needed
+-- the same, for this region
+abbrev pub sends_frames_to : ℕ → Option Cdb → Bool
+sends_frames_to region None = false
+sends_frames_to region (Some command) = is_security_out_for region command
+
+-- 11 (status 08h): SECURITY PROTOCOL OUT while another is open, of whatever region; or fewer slots are free than are
+-- needed
 abbrev pub is_crowded : State → Cdb → Bool
 is_crowded s command =
     (is_security_out command && list_any (λ (task : Task). sends_frames task.command) s.tasks)

@@ -1,39 +1,16 @@
--- The replay protected memory block: what a region of it holds, the MAC of frames, and what a request does
--- (JESD220, 12.4; RFC 2104; FIPS 180-4). What of it is refused, and in which order, is this profile's. The machine does
--- not use these definitions yet.
+-- The replay protected memory block: the MAC of frames, and what a request does to its region (JESD220, 12.4; RFC 2104;
+-- FIPS 180-4). Requests and their answers speak of one region (`Region` in Plain), whatever else the device holds. What
+-- is refused, and in which order, is this profile's.
+pub use Rattle.ufs_spec.specs.Plain.{Region, changed_by, region_of}
 use Rattle.std.specs.Prelude.{ℕ, ◌+◌, ◌-◌, ◌*◌, ◌==◌, ◌&&◌, nat_lt, nat_le, not, Bool, true, false, if◌then◌else◌}
 use Rattle.std.specs.Prelude.{is_none, is_some, List, [], ◌∷◌, ◌++◌, bit_or, bit_xor, length, map, replicate, Option}
 use Rattle.std.specs.Prelude.{Some, None}
 use Rattle.std.specs.List.{flat_map, list_all}
 use Rattle.sha2.specs.Sha256.{sha256}
-use Rattle.ufs_spec.specs.Commands.{Command, RpmbWrite, SetBoot, SetKey, SetPermanent, Write, Zero}
+use Rattle.ufs_spec.specs.Commands.{Command, RpmbWrite, SetKey}
 use Rattle.ufs_spec.specs.Exchanges.{Registers, Status, invalid_list_field, sequence_error}
 use Rattle.ufs_spec.specs.Frames.{Frame, covered_bytes}
-use Rattle.ufs_spec.specs.Plain.{Plain, counter_end, with_part}
-
--- ## Regions (JESD220, 12.4)
-
--- what a region holds: its key, once it is programmed, the bytes of its area, and its write counter. Requests and
--- their answers speak of one region, whatever else the device holds
-pub record Region : Type 0 where
-  pub key : Option (List ℕ)
-  pub area : List ℕ
-  pub counter : ℕ
-
--- the region of a plain state; the profile has one
-abbrev pub region_of : Plain → Region
-region_of p = record { key = p.key; area = p.area; counter = p.counter }
-
--- what a command makes of the region: a key is set, or a write puts its bytes in place and adds one to the counter. An
--- address counts blocks of 256 bytes. No other command touches it
-abbrev pub changed_by : Region → Command → Region
-changed_by region (SetKey bytes) = record region { key = Some bytes }
-changed_by region (RpmbWrite address bytes) =
-    record region { area = with_part (256 * address) bytes region.area; counter = region.counter + 1 }
-changed_by region (Write unit address blocks) = region
-changed_by region (Zero unit address count) = region
-changed_by region (SetBoot boot) = region
-changed_by region SetPermanent = region
+use Rattle.ufs_spec.specs.Plain.{Region, changed_by, counter_end}
 
 -- ## The MAC (RFC 2104, HMAC with SHA-256 of FIPS 180-4)
 
@@ -152,11 +129,13 @@ checks region locked f fs =
     else if f.kind == read_counter then fails_if (not (has_key region)) 7 ∷ []
     else []
 
--- the command of a request that passes its checks; only setting the key and a write change anything
-abbrev pub command_in : Frame → List Frame → Option Command
-command_in f fs =
-    if f.kind == program_key then Some (SetKey f.key_or_mac)
-    else if f.kind == write_data then Some (RpmbWrite f.address (flat_map (λ (g : Frame). g.payload) (f ∷ fs)))
+-- the command of a request to the region of this number that passes its checks; only setting the key and a write
+-- change anything
+abbrev pub command_in : ℕ → Frame → List Frame → Option Command
+command_in number f fs =
+    if f.kind == program_key then Some (SetKey number f.key_or_mac)
+    else if f.kind == write_data then
+    Some (RpmbWrite number f.address (flat_map (λ (g : Frame). g.payload) (f ∷ fs)))
     else None
 
 -- what a request leaves of its region: what its command makes of it, if it has one
@@ -178,11 +157,12 @@ outcome_after region accepted None = Results (with_end_bit (applied region accep
 abbrev pub lacks_result : Frame → Registers → Bool
 lacks_result f r = (f.kind == read_result) && is_none r.result
 
--- what SECURITY PROTOCOL OUT does with these frames: malformed ones are refused with 5/26/00, a result read without a
--- result with 5/2C/00, else the checks decide. That the read of a page failed (result 6) is no part of it
-abbrev pub rpmb_outcome : Region → Registers → Bool → List Frame → RpmbOutcome
-rpmb_outcome region r locked [] = Refused invalid_list_field
-rpmb_outcome region r locked (f ∷ fs) =
+-- what SECURITY PROTOCOL OUT does with these frames, sent to the region of this number: malformed ones are refused with
+-- 5/26/00, a result read without a result with 5/2C/00, else the checks decide. That the read of a page failed
+-- (result 6) is no part of it
+abbrev pub rpmb_outcome : ℕ → Region → Registers → Bool → List Frame → RpmbOutcome
+rpmb_outcome number region r locked [] = Refused invalid_list_field
+rpmb_outcome number region r locked (f ∷ fs) =
     if not (is_well_formed f fs) then Refused invalid_list_field
     else if lacks_result f r then Refused sequence_error
-    else outcome_after region (command_in f fs) (first_failed (checks region locked f fs))
+    else outcome_after region (command_in number f fs) (first_failed (checks region locked f fs))

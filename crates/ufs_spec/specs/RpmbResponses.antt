@@ -1,5 +1,5 @@
 -- The answers of the replay protected memory block: the frames that answer a request, and the two registers in which
--- they wait for SECURITY PROTOCOL IN (JESD220, 12.4). The machine does not use these definitions yet.
+-- they wait for SECURITY PROTOCOL IN (JESD220, 12.4).
 use Rattle.std.specs.Prelude.{ℕ, ◌+◌, ◌*◌, ◌==◌, ◌||◌, Bool, true, false, if◌then◌else◌, List, [], ◌∷◌, bit_or, drop}
 use Rattle.std.specs.Prelude.{map, slice_get, take, Option, Some, None}
 use Rattle.std.specs.List.{list_any}

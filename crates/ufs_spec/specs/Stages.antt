@@ -1,8 +1,11 @@
--- What the device does not take yet. Each limit is one definition here, or one of `taken_operations` and
--- `IsTakenCdb` (Cdbs), `query_unanswered`, `not_begun`, `filled_registers` and the lines of `complete` for UNMAP
--- and RPMB (Machine), and goes with the stage that it names.
+-- What the device does not take yet. Each limit is one definition here, or one of `taken_operations` and `IsTakenCdb`
+-- (Cdbs), and goes with the stage that it names. All that comes after a limit is defined as if it were not there.
 use Rattle.std.specs.Prelude.{ℕ, Bool, false, List, []}
 use Rattle.ufs_spec.specs.declared.configs.Numbers.{Numbers}
+
+-- how many RPMB regions (JESD220, 12.4.2) a device has: region 0 alone, until the profile with four regions
+abbrev pub regions : ℕ
+regions = 1
 
 -- how many blocks may be bad before the device is locked and accepts no new write: none, until the stage that
 -- replaces bad blocks by spare ones, and then the configuration's `spare`
@@ -18,3 +21,8 @@ taken_luns = []
 -- answered 04h, not supported, even if its LUN is not there
 abbrev pub manages_tasks : Bool
 manages_tasks = false
+
+-- whether queries are answered by their table (JESD220, 10.7.9). Until the stage of descriptors, settings and boot
+-- units each is answered FEh, invalid opcode
+abbrev pub answers_queries : Bool
+answers_queries = false

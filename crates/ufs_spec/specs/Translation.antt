@@ -7,13 +7,13 @@ use Rattle.std.specs.Prelude.{length, map, sum_by, Option, Some, None, option_ma
 use Rattle.std.specs.Int.{div_ceil}
 use Rattle.std.specs.List.{flat_map, list_any}
 use Rattle.ufs_spec.specs.Cells.{Cell, GroupPage, MarkPage, Nothing, key_of, same_place}
-use Rattle.ufs_spec.specs.Disk.{BlockState, Bad, Closed, Disk, Erasing, Filling, Flight, ForRest, ForStep, ForTask}
-use Rattle.ufs_spec.specs.Disk.{Free, Programming, Reader, Reading, Ready, Spot, Stale, Untouched, Vacancy, job_begun}
+use Rattle.ufs_spec.specs.Disk.{BlockState, Bad, Closed, Disk, Erasing, Filling, Flight}
+use Rattle.ufs_spec.specs.Disk.{Free, Programming, Reading, Ready, Spot, Stale, Untouched, Vacancy, job_begun}
 use Rattle.ufs_spec.specs.Disk.{place_in, same_spot, spot_of}
 use Rattle.ufs_spec.specs.Keys.{Group, below, Item}
-use Rattle.ufs_spec.specs.Ledger.{Entry, Ledger, Looked, Name, OnPage, accepted_groups, before_accepted, entry_of}
-use Rattle.ufs_spec.specs.Ledger.{is_name, is_standing, latest_durable, next_number, pending, same_name, InSlot}
-use Rattle.ufs_spec.specs.Ledger.{Unwritten, look}
+use Rattle.ufs_spec.specs.Ledger.{Entry, Ledger, accepted_groups, before_accepted, entry_of}
+use Rattle.ufs_spec.specs.Ledger.{is_name, is_standing, latest_durable, next_number, pending, same_name}
+use Rattle.ufs_spec.specs.Ledger.{look}
 use Rattle.ufs_spec.specs.Pages.{greatest_number}
 use Rattle.ufs_spec.specs.Stages.{most_bad}
 use Rattle.ufs_spec.specs.declared.configs.Numbers.{Numbers}
@@ -21,6 +21,11 @@ use Rattle.ufs_spec.specs.declared.flash.Fence.{Fence}
 use Rattle.ufs_spec.specs.declared.flash.Key.{Key}
 use Rattle.ufs_spec.specs.declared.flash.Place.{Place}
 use Rattle.ufs_spec.specs.declared.flash.Tag.{Tag}
+use Rattle.ufs_spec.specs.declared.layer.Looked.{Looked}
+use Rattle.ufs_spec.specs.declared.layer.Looked.TheVariants.{OnPage, InSlot, Unwritten}
+use Rattle.ufs_spec.specs.declared.layer.Name.{Name}
+use Rattle.ufs_spec.specs.declared.layer.Reader.{Reader}
+use Rattle.ufs_spec.specs.declared.layer.Reader.TheVariants.{ForRest, ForStep, ForTask}
 
 -- What is under way
 

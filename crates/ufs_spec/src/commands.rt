@@ -16,10 +16,15 @@ pub enum Cmd {
         address: u32,
         count: u8,
     },
-    /// The RPMB key is programmed.
-    Key([u8; 32]),
-    /// 1 to 8 blocks of 256 bytes are written to the RPMB area; the address counts such blocks.
+    /// The key of an RPMB region is programmed.
+    SetKey {
+        region: u8,
+        key: [u8; 32],
+    },
+    /// 1 to 8 blocks of 256 bytes are written to the area of an RPMB region; the address counts
+    /// such blocks.
     RpmbWrite {
+        region: u8,
         address: u16,
         bytes: Vec<u8>,
     },

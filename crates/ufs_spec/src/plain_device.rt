@@ -1,8 +1,11 @@
 //! A device as plain arrays: slow, and exact by its definition. Tests compare with it.
 ghost use Rattle.std.specs.Prelude.{◌≡◌, ◌+◌, ◌*◌, ◌<◌, ◌≤◌, List, [], ◌∷◌, ◌++◌, length, replicate, map, All, IfOk};
-ghost use Rattle.ufs_spec.specs.Commands.{Command, command_of};
-ghost use Rattle.ufs_spec.specs.Plain.{Plain, zero_block, zero_area, area_len, zero, with_part, unit_of, block_at, with_blocks, apply, after, shape_of, shape_of_numbers, LiesWithin, CanApply};
+ghost use Rattle.ufs_spec.specs.Commands.{Command, RpmbWrite, command_of};
+ghost use Rattle.ufs_spec.specs.Plain.{Plain, zero_block, zero_area, area_len, new_region, zero, with_part, unit_of, block_at, with_blocks, region_of, with_region, changed_by, counter_end, apply, after, shape_of, shape_of_numbers, LiesWithin, CanApply};
+ghost use Rattle.ufs_spec.specs.PlainRegions.{region_seen};
+ghost use Rattle.ufs_spec.specs.Stages.{regions};
 
+use crate::codes::REGIONS;
 use crate::commands::Cmd;
 use crate::configs::{Numbers, UnitSpec};
 use crate::faults::NoMemory;
@@ -10,13 +13,20 @@ use std::alloc::{AllocError, Global};
 use std::marker::Model;
 use ufs_bytes::Block;
 
-/// What a device holds: the blocks of each unit, the boot setting, permanent protection, and the
-/// RPMB key, area and counter (JESD220, 10.8 and 12.4). Only `new` takes memory.
+/// What a device holds: the blocks of each unit, the boot setting, permanent protection, and of
+/// each RPMB region the key, the area and the counter (JESD220, 10.8 and 12.4). Only `new` takes
+/// memory.
 #[derive(Drop)]
 pub struct PlainDevice {
     units: Vec<Vec<Block>>,
     boot: u8,
     permanent: bool,
+    regions: Vec<PlainRegion>,
+}
+
+/// An RPMB region: its key, once it is programmed, the bytes of its area, and its write counter.
+#[derive(Drop)]
+struct PlainRegion {
     key: Option<[u8; 32]>,
     area: Vec<u8>,
     counter: u32,
@@ -25,6 +35,7 @@ pub struct PlainDevice {
 impl Model for PlainDevice {
     ghost use Rattle.std.specs.Prelude.{◌≤◌, map};
     ghost use Rattle.ufs_spec.specs.Plain.{Plain};
+    ghost use Rattle.ufs_spec.specs.PlainRegions.{AreRegions, region_seen};
 
     ghost Value = { Plain };
 
@@ -33,16 +44,14 @@ impl Model for PlainDevice {
           units = map (λ blocks. blocks.items) d.units.items;
           boot = d.boot;
           permanent = d.permanent;
-          key = d.key;
-          area = d.area.items;
-          counter = d.counter;
+          regions = map region_seen d.regions.items;
         } };
 
-    ghost invariant = { λ d. d.boot ≤ 2 };
+    ghost invariant = { λ d. (d.boot ≤ 2) × AreRegions d.regions.items };
 }
 
 impl PlainDevice {
-    /// A new device with these numbers: all blocks and the RPMB area are zeros, no key is programmed.
+    /// A new device with these numbers: all blocks and RPMB areas are zeros, no key is programmed.
     pub fn new(alloc: Global, numbers: &Numbers) -> Result<PlainDevice, NoMemory>
         ensures { IfOk result (λ d. d ≡ zero numbers.now) }
     {
@@ -50,9 +59,7 @@ impl PlainDevice {
             units: zero_units(alloc, &numbers.units)?,
             boot: 0,
             permanent: false,
-            key: None,
-            area: zero_area(alloc, numbers)?,
-            counter: 0,
+            regions: new_regions(alloc, numbers)?,
         })
     }
 
@@ -73,11 +80,12 @@ impl PlainDevice {
                 address,
                 count,
             } => self.set_zeros(*unit, *address, *count),
-            Cmd::Key(key) => self.set_key(Some(*key)),
-            Cmd::RpmbWrite { address, bytes } => {
-                self.set_area(256 * usize::from(*address), bytes);
-                self.counter += 1;
-            }
+            Cmd::SetKey { region, key } => self.set_key(*region, Some(*key)),
+            Cmd::RpmbWrite {
+                region,
+                address,
+                bytes,
+            } => self.write_area(*region, *address, bytes),
             Cmd::SetBoot(boot) => self.set_boot(*boot),
             Cmd::SetPermanent => self.set_permanent(true),
         }
@@ -119,6 +127,19 @@ impl PlainDevice {
         replace_by_zeros(stored, address as usize, usize::from(count));
     }
 
+    fn write_area(&mut self, region: u8, address: u16, bytes: &[u8])
+        requires region_in { region < regions }
+        requires bytes_in { 256 * address + length bytes.now
+            ≤ length (region_of self.old region).area }
+        requires below_end { (region_of self.old region).counter < counter_end }
+        ensures { self.new ≡ with_region region
+            (changed_by (region_of self.old region) (RpmbWrite region address bytes.now)) self.old }
+    {
+        let stored = &mut self.regions[region as usize];
+        replace(&mut stored.area, 256 * usize::from(address), bytes);
+        stored.counter += 1;
+    }
+
     /// The boot setting.
     pub fn boot(&self) -> u8
         ensures value { result ≡ self.now.boot }
@@ -149,47 +170,56 @@ impl PlainDevice {
         self.permanent = permanent;
     }
 
-    /// The RPMB key, if one is programmed.
-    pub fn key(&self) -> Option<[u8; 32]>
-        ensures { result ≡ self.now.key }
+    /// The key of an RPMB region, if one is programmed.
+    pub fn key(&self, region: u8) -> Option<[u8; 32]>
+        requires { region < regions }
+        ensures { result ≡ (region_of self.now region).key }
     {
-        self.key
+        self.regions[region as usize].key
     }
 
-    /// Replaces the RPMB key.
-    pub fn set_key(&mut self, key: Option<[u8; 32]>)
-        ensures { self.new ≡ record self.old { key = key } }
+    /// Replaces the key of an RPMB region.
+    pub fn set_key(&mut self, region: u8, key: Option<[u8; 32]>)
+        requires { region < regions }
+        ensures { self.new ≡ with_region region (record (region_of self.old region) { key = key }) self.old }
     {
-        self.key = key;
+        self.regions[region as usize].key = key;
     }
 
-    /// The bytes of the RPMB area.
-    pub fn area(&self) -> &[u8]
-        ensures { result.now ≡ self.now.area }
+    /// The bytes of the area of an RPMB region.
+    pub fn area(&self, region: u8) -> &[u8]
+        requires { region < regions }
+        ensures { result.now ≡ (region_of self.now region).area }
     {
-        self.area.as_slice()
+        self.regions[region as usize].area.as_slice()
     }
 
-    /// Replaces the bytes of the RPMB area from an offset on.
-    pub fn set_area(&mut self, offset: usize, bytes: &[u8])
-        requires { offset + length bytes.now ≤ length self.old.area }
-        ensures { self.new ≡ record self.old { area = with_part offset bytes.now self.old.area } }
+    /// Replaces the bytes of the area of an RPMB region from an offset on.
+    pub fn set_area(&mut self, region: u8, offset: usize, bytes: &[u8])
+        requires region_in { region < regions }
+        requires bytes_in { offset + length bytes.now ≤ length (region_of self.old region).area }
+        ensures { let old = region_of self.old region in self.new
+            ≡ with_region region (record old { area = with_part offset bytes.now old.area }) self.old }
     {
-        replace(&mut self.area, offset, bytes);
+        let stored = &mut self.regions[region as usize];
+        replace(&mut stored.area, offset, bytes);
     }
 
-    /// The RPMB write counter.
-    pub fn counter(&self) -> u32
-        ensures { result ≡ self.now.counter }
+    /// The write counter of an RPMB region.
+    pub fn counter(&self, region: u8) -> u32
+        requires { region < regions }
+        ensures { result ≡ (region_of self.now region).counter }
     {
-        self.counter
+        self.regions[region as usize].counter
     }
 
-    /// Replaces the RPMB write counter.
-    pub fn set_counter(&mut self, counter: u32)
-        ensures { self.new ≡ record self.old { counter = counter } }
+    /// Replaces the write counter of an RPMB region.
+    pub fn set_counter(&mut self, region: u8, counter: u32)
+        requires { region < regions }
+        ensures { self.new
+            ≡ with_region region (record (region_of self.old region) { counter = counter }) self.old }
     {
-        self.counter = counter;
+        self.regions[region as usize].counter = counter;
     }
 }
 
@@ -217,6 +247,20 @@ fn zero_blocks(alloc: Global, count: u32) -> Result<Vec<Block>, AllocError>
     let mut blocks = Vec::new(alloc);
     blocks.resize(count as usize, zero_block())?;
     Ok(blocks)
+}
+
+fn new_regions(alloc: Global, numbers: &Numbers) -> Result<Vec<PlainRegion>, AllocError>
+    ensures { IfOk result (λ v. map region_seen v.items ≡ replicate regions (new_region numbers.now)) }
+{
+    let mut found = Vec::new(alloc);
+    for _ in 0..REGIONS {
+        found.push(PlainRegion {
+            key: None,
+            area: zero_area(alloc, numbers)?,
+            counter: 0,
+        })?;
+    }
+    Ok(found)
 }
 
 #[tactic(auto, unfolding(crate::specs::Plain::zero_area))]
@@ -255,7 +299,7 @@ pub fn after_joined_commands()
     ensures { (p : Plain) (xs ys : List Command) → after p (xs ++ ys) ≡ after (after p xs) ys }
 {}
 
-/// A command changes neither the counts of units and blocks nor the length of the RPMB area.
+/// A command changes neither the counts of units and blocks nor the lengths of the RPMB areas.
 pub fn commands_keep_the_shape()
     ensures new_device { (n : Numbers) → shape_of (zero n) ≡ shape_of_numbers n }
     ensures one { (p : Plain) (c : Command) → LiesWithin (shape_of p) c → shape_of (apply p c) ≡ shape_of p }

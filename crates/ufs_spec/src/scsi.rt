@@ -53,14 +53,16 @@ pub enum Cdb {
         select: u8,
         allocation: u32,
     },
-    /// SPC, SECURITY PROTOCOL IN, of the protocol ECh and the specific field 0001h (JESD220, RPMB):
-    /// the length of its data.
+    /// SPC, SECURITY PROTOCOL IN, of the protocol ECh (JESD220, RPMB): the region, which is the
+    /// high byte of the specific field above 01h, and the length of its data.
     SecurityIn {
+        region: u8,
         length: u32,
     },
-    /// SPC, SECURITY PROTOCOL OUT, of the protocol ECh and the specific field 0001h (JESD220, RPMB):
-    /// the length of its data.
+    /// SPC, SECURITY PROTOCOL OUT, of the protocol ECh (JESD220, RPMB): the region, which is the
+    /// high byte of the specific field above 01h, and the length of its data.
     SecurityOut {
+        region: u8,
         length: u32,
     },
 }

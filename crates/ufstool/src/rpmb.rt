@@ -10,6 +10,9 @@ use std::alloc::Global;
 use std::io::Write;
 use ufs_spec::{Cdb, Message};
 
+/// The region that requests are sent to.
+const REGION: u8 = 0;
+
 /// What a host asks of the replay protected memory block.
 #[derive(Clone, Copy)]
 pub enum RpmbRequest<'a> {
@@ -97,7 +100,10 @@ fn write_line<W: Write>(alloc: Global, message: &Message, out: &mut W) -> Result
 fn security_out(task: u8, length: u32) -> Message
     ensures { IsMessage result }
 {
-    let cdb = bytes_of(&Cdb::SecurityOut { length });
+    let cdb = bytes_of(&Cdb::SecurityOut {
+        region: REGION,
+        length,
+    });
     command_message(0x20, RPMB_UNIT, task, length, cdb)
 }
 
@@ -105,7 +111,10 @@ fn security_out(task: u8, length: u32) -> Message
 fn security_in(task: u8, length: u32) -> Message
     ensures { IsMessage result }
 {
-    let cdb = bytes_of(&Cdb::SecurityIn { length });
+    let cdb = bytes_of(&Cdb::SecurityIn {
+        region: REGION,
+        length,
+    });
     command_message(0x40, RPMB_UNIT, task, length, cdb)
 }
 

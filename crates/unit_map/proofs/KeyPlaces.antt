@@ -1,14 +1,18 @@
 -- Each key of the device has its own position among all its keys.
-use Rattle.std.proofs.Common.{◌≡◌, ◌≢◌, ◌∙◌, ℕ, ◌<◌, List, Option, None, Some, ap, refl, sym}
+use Rattle.std.proofs.Common.{◌≡◌, ◌≢◌, ◌∙◌, ℕ, ◌<◌, Bool, true, cond, List, Option, None, Some, ap, length, refl, sym}
 use Rattle.std.specs.Prelude.{option_and_then, slice_get, slice_set}
 use Rattle.ufs_spec.specs.Keys.{IsKey}
 use Rattle.ufs_spec.specs.Plain.{shape_of_numbers}
 use Rattle.ufs_spec.specs.declared.configs.Numbers.{Numbers}
 use Rattle.ufs_spec.specs.declared.flash.Key.{Key}
 use Rattle.geometry.specs.Keys.{key_total}
-use Rattle.geometry.proofs.KeyIndexes.{has_index, one_key}
-use Rattle.ufs_spec.proofs.Lists.{set_other}
-use Rattle.unit_map.specs.Places.{flat, position_of, stored_in}
+use Rattle.geometry.proofs.KeyIndexes.{has_index, index_below, one_key}
+use Rattle.ufs_spec.proofs.Equalities.{place_self}
+use Rattle.ufs_spec.proofs.Facts.{none-some}
+use Rattle.ufs_spec.proofs.Lists.{set_here, set_other}
+use Rattle.ufs_spec.specs.Cells.{same_place}
+use Rattle.ufs_spec.specs.declared.flash.Place.{Place}
+use Rattle.unit_map.specs.Places.{flat, name_if, name_there, position_of, stored_in}
 use Rattle.unit_map.specs.declared.Stored.{Stored}
 
 pub record HasPosition (n : Numbers) (k : Key) : Type 0 where
@@ -28,7 +32,14 @@ one_position n j k known same =
     let p = has_position n j known in
     one_key (shape_of_numbers n) j k p.at p.is (sym same ∙ p.is)
 
--- where the content of another key is, once that of a key is noted
+-- where the content of a key is, once it is noted
+pub stored_here : (n : Numbers) (ps : List (Option Stored)) (s : Stored) (key : Key) (at : ℕ) →
+    position_of n key ≡ Some at → at < length ps → stored_in n (slice_set ps at (Some s)) key ≡ Some s
+stored_here n ps s key at there within =
+    ap (option_and_then (λ (p : ℕ). flat (slice_get (slice_set ps at (Some s)) p))) there
+    ∙ ap flat (set_here ps at (Some s) within)
+
+-- where the content of another key is then
 pub stored_beside : (n : Numbers) (ps : List (Option Stored)) (s : Stored) (key other : Key) (at : ℕ) →
     IsKey (shape_of_numbers n) key → position_of n key ≡ Some at → other ≢ key →
     stored_in n (slice_set ps at (Some s)) other ≡ stored_in n ps other
@@ -42,3 +53,19 @@ stored_beside n ps s key other at known there differ = by (position_of n other) 
         ap flat (set_other ps at b (Some s)
         (λ (same : b ≡ at). differ (sym (one_position n key other known
         (there ∙ ap (λ (z : ℕ). Some z) (sym same) ∙ sym e)))))
+
+-- no key's content is on a page that no position names
+pub none_there : (n : Numbers) (ps : List (Option Stored)) (place : Place) →
+    ((i : ℕ) → i < key_total (shape_of_numbers n) → name_there place (slice_get ps i) ≡ None) →
+    (k : Key) (s : Stored) → stored_in n ps k ≡ Some s → s.place ≡ place → ⊥
+none_there n ps place none k s stored here = by (position_of n k) refl
+  where
+    by : (q : Option ℕ) → position_of n k ≡ q → ⊥
+    by None e = none-some s (sym (ap (option_and_then (λ (p : ℕ). flat (slice_get ps p))) e) ∙ stored)
+    by (Some i) e =
+        let there : flat (slice_get ps i) ≡ Some s =
+        sym (ap (option_and_then (λ (p : ℕ). flat (slice_get ps p))) e) ∙ stored in
+        let same : same_place s.place place ≡ true = ap (same_place s.place) (sym here) ∙ place_self s.place in
+        none-some s.name
+        (sym (none i (index_below (shape_of_numbers n) k i e)) ∙ ap (name_if place) there
+        ∙ ap (λ (b : Bool). cond b (Some s.name) None) same)

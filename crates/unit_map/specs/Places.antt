@@ -6,6 +6,7 @@ use Rattle.ufs_spec.specs.Plain.{shape_of_numbers}
 use Rattle.ufs_spec.specs.declared.configs.Numbers.{Numbers}
 use Rattle.ufs_spec.specs.declared.flash.Key.{Key}
 use Rattle.ufs_spec.specs.declared.flash.Place.{Place}
+use Rattle.ufs_spec.specs.declared.layer.Name.{Name}
 use Rattle.unit_map.specs.declared.Stored.{Stored}
 
 -- which keys there are, and where the content of each is, in the order of keys
@@ -26,14 +27,14 @@ flat (Some s) = s
 abbrev pub stored_in : Numbers → List (Option Stored) → Key → Option Stored
 stored_in n places k = option_and_then (λ p. flat (slice_get places p)) (position_of n k)
 
--- the number of the content's group, if the content is on the page there
-abbrev pub number_if : Place → Option Stored → Option ℕ
-number_if p None = None
-number_if p (Some s) = if same_place s.place p then Some s.number else None
+-- the name of the content's page, if that is the page there
+abbrev pub name_if : Place → Option Stored → Option Name
+name_if p None = None
+name_if p (Some s) = if same_place s.place p then Some s.name else None
 
--- the number of the content's group, if what is noted at a position is on the page there
-abbrev pub number_there : Place → Option (Option Stored) → Option ℕ
-number_there p noted = number_if p (flat noted)
+-- the name of the page there, if it is the one that is noted at a position
+abbrev pub name_there : Place → Option (Option Stored) → Option Name
+name_there p noted = name_if p (flat noted)
 
 -- the content of the key at this position is there from now on
 abbrev pub places_noted : List (Option Stored) → Stored → Option ℕ → List (Option Stored)

@@ -6,25 +6,25 @@ ghost use Rattle.geometry.specs.Keys.{key_total};
 ghost use Rattle.ufs_spec.specs.Keys.{IsKey};
 ghost use Rattle.ufs_spec.specs.Plain.{shape_of_numbers};
 ghost use Rattle.ufs_spec.specs.declared.flash.Key.{Key};
-ghost use Rattle.unit_map.specs.Places.{number_there, places_noted, position_of, stored_in};
+ghost use Rattle.unit_map.specs.Places.{name_there, places_noted, position_of, stored_in};
 ghost use Rattle.unit_map.specs.declared.Stored.{Stored};
 
 use geometry::{Config, key_at, key_count, key_index};
 use std::marker::Model;
-use ufs_spec::{Key, Place};
+use ufs_spec::{Key, Name, Place};
 
-/// Where the newest durable content of a key is, and the number of its group.
+/// The page with the newest durable content of a key: its name, and where it stands.
 #[derive(Clone, Copy, Debug, Default, PartialEq, Eq)]
 pub struct Stored {
+    pub name: Name,
     pub place: Place,
-    pub number: u64,
 }
 
-/// Of which key the content stands there, with the number of its group.
+/// Of which key the content stands there, with the name of its page.
 #[derive(Clone, Copy, Debug, Default, PartialEq, Eq)]
-pub struct PageName {
+pub struct KeyedName {
     pub key: Key,
-    pub number: u64,
+    pub name: Name,
 }
 
 /// A map from each key of a device (kind, unit and address) to the page that has its durable content, if one has.
@@ -64,30 +64,30 @@ impl UnitMap {
 
     /// Which key's content is on the page there, if one's is. It looks at the keys in order until
     /// it is found.
-    pub fn name_there(&self, place: Place) -> Option<PageName>
+    pub fn name_there(&self, place: Place) -> Option<KeyedName>
         ensures found { IfSome result (λ n. stored_in self.now.numbers self.now.places n.key ≡
-            Some (record { place = place; number = n.number })) }
+            Some (record { name = n.name; place = place })) }
         ensures none { result ≡ None → (k : Key) → (s : Stored) →
             stored_in self.now.numbers self.now.places k ≡ Some s → s.place ≡ place → ⊥ }
     {
         let numbers = self.config.numbers();
         for index in 0..key_count(numbers) {
-            if let Some(number) = self.number_there(index, place) {
+            if let Some(name) = self.name_at(index, place) {
                 let key = key_at(numbers, index);
-                return Some(PageName { key, number });
+                return Some(KeyedName { key, name });
             }
         }
         None
     }
 
-    /// The number of the content's group, if the content of the key at this position is on the page
+    /// The name of the content's page, if the content of the key at this position is on the page
     /// there.
-    fn number_there(&self, index: usize, place: Place) -> Option<u64>
-        ensures { result ≡ number_there place (slice_get self.now.places index) }
+    fn name_at(&self, index: usize, place: Place) -> Option<Name>
+        ensures { result ≡ name_there place (slice_get self.now.places index) }
     {
         let stored = self.places.get(index).copied().flatten()?;
         if stored.place == place {
-            Some(stored.number)
+            Some(stored.name)
         } else {
             None
         }

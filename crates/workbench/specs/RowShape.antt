@@ -2,9 +2,9 @@
 use Rattle.std.specs.Prelude.{◌≡◌, [], ◌∷◌}
 use Rattle.ufs_spec.specs.Plain.{Plain, Shape, shape_of}
 
--- units of 256, 64 and 64 blocks, and one step of RPMB area
+-- units of 256, 64 and 64 blocks, and one RPMB area of one step
 abbrev pub row_shape : Shape
-row_shape = record { blocks = 256 ∷ 64 ∷ 64 ∷ []; area = 131072 }
+row_shape = record { blocks = 256 ∷ 64 ∷ 64 ∷ []; areas = 131072 ∷ [] }
 
 -- the device has as many blocks and bytes as the row configuration says
 abbrev pub HasRowShape : Plain → Type 0

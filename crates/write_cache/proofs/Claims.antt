@@ -42,7 +42,7 @@ turned_more reader i claims turning less is =
     one i = omega arith
 
 -- the first of those that turn is the next
-first_next : (reader i : ℕ) (claims turning : List Claimed) → i < length claims →
+pub first_next : (reader i : ℕ) (claims turning : List Claimed) → i < length claims →
     turning ≡ drop i claims ++ without_claims (take i claims) reader →
     take 1 turning ≡ get_or claims i (empty_claim 0 0) ∷ []
 first_next reader i claims turning less is =

@@ -1,13 +1,14 @@
 -- Queues, from behind, and the first place in a list that passes a test.
 use Rattle.std.proofs.Common.{◌≡◌, ◌∙◌, ℕ, suc, ◌+◌, ◌≤◌, Bool, true, false, cond, List, [], ◌∷◌, length, not, reverse}
+use Rattle.std.proofs.Common.{◌++◌, take}
 use Rattle.std.proofs.Common.{refl, sym, ap, subst, arith, Option, None, Some, slice_get, ltb}
 use Rattle.std.specs.Prelude.{unwrap_or, position, slice_set}
 use Rattle.std.specs.Iterator.Adapters.{rev_source, rev_steps}
-use Rattle.std.specs.List.{position_or_len}
+use Rattle.std.specs.List.{position_or_len, refill}
 use Rattle.std.specs.VecDeque.Iter.{deque_iter_rest, deque_iter_steps_back}
 use Rattle.std.proofs.lemmas.Iterator.{YieldsList}
 use Rattle.std.proofs.lemmas.Iterator.Consumers.{YieldsList-from_shown}
-use Rattle.std.proofs.lemmas.List.{length-reverse, reverse-append}
+use Rattle.std.proofs.lemmas.List.{append-nil, drop_all, length-reverse, reverse-append, take_all}
 use Rattle.ufs_spec.specs.declared.flash.Place.{Place}
 use Rattle.write_cache.specs.declared.slots.Pending.{Pending}
 use Rattle.write_cache.specs.Slots.{is_named, page_written, written_at, written_if}
@@ -20,6 +21,13 @@ YieldsList-from_rev_deque {A} {s} xs e =
     (YieldsList-from_shown (rev_steps (deque_iter_steps_back {X = A})) (λ y. y.now)
     (λ u. reverse (deque_iter_rest (rev_source u))) (λ u t p. length-reverse _ ∙ p.0)
     (λ u x t p. ap reverse p ∙ reverse-append (deque_iter_rest (rev_source t)) (x.now ∷ [])) s)
+
+-- a queue whose elements were written over by as many has those
+pub refilled : {A : Type 0} (n : ℕ) (xs ws : List A) → n ≡ length xs → length ws ≡ length xs → refill n xs ws ≡ ws
+refilled n xs ws is same =
+    ap (λ ys. take n (ws ++ ys)) (drop_all (length ws) xs (omega (arith, same)))
+    ∙ ap (take n) (append-nil ws)
+    ∙ take_all n ws (omega (arith, is, same))
 
 -- the first place that passes a test is within the list or just behind it
 place_within : {A : Type 0} (p : A → Bool) (xs : List A) → position_or_len p xs ≤ length xs

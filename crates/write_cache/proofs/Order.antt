@@ -27,18 +27,28 @@ pub order_behind : (a b : ℕ) (ps : List Pending) → AreInOrder a b ps → Are
 order_behind a b [] h = tt
 order_behind a b (p ∷ ps) h = order_wider a p.number b b ps h.2 h.0 (omega arith)
 
--- the pages of one number behind all
-claimed_order : (k : Key) (n size a : ℕ) (claims : List Claimed) → a ≤ n →
-    AreInOrder a n (map (page_claimed k n size) claims)
-claimed_order k n size a [] l = tt
-claimed_order k n size a (claim ∷ claims) l = (l, omega arith, claimed_order k n size n claims (omega arith))
+-- all pages are of the group with this number
+abbrev pub AreOfNumber : ℕ → List Pending → Type 0
+AreOfNumber n [] = Unit {0}
+AreOfNumber n (p ∷ ps) = (p.number ≡ n) × AreOfNumber n ps
 
-pub order_more : (k : Key) (n size a b : ℕ) (ps : List Pending) (claims : List Claimed) → AreInOrder a b ps → a ≤ n →
-    b ≤ n → AreInOrder a n (ps ++ map (page_claimed k n size) claims)
-order_more k n size a b [] claims h l m = claimed_order k n size a claims l
-order_more k n size a b (p ∷ ps) claims h l m =
+-- the pages that take the place of claims are
+pub claimed_number : (k : Key) (n size : ℕ) (claims : List Claimed) → AreOfNumber n (map (page_claimed k n size) claims)
+claimed_number k n size [] = tt
+claimed_number k n size (claim ∷ claims) = (refl, claimed_number k n size claims)
+
+-- the pages of one number behind all
+number_order : (n a : ℕ) (qs : List Pending) → AreOfNumber n qs → a ≤ n → AreInOrder a n qs
+number_order n a [] h l = tt
+number_order n a (q ∷ qs) h l =
+    let e = h.0 in (omega (arith, e, l), omega (arith, e), number_order n q.number qs h.1 (omega (arith, e)))
+
+pub order_more : (n a b : ℕ) (ps qs : List Pending) → AreInOrder a b ps → AreOfNumber n qs → a ≤ n → b ≤ n →
+    AreInOrder a n (ps ++ qs)
+order_more n a b [] qs h are l m = number_order n a qs are l
+order_more n a b (p ∷ ps) qs h are l m =
     let y = h.1 in
-    (h.0, omega (arith, y, m), order_more k n size p.number b ps claims h.2 (omega (arith, y, m)) m)
+    (h.0, omega (arith, y, m), order_more n p.number b ps qs h.2 are (omega (arith, y, m)) m)
 
 -- a page whose number stays
 pub order_kept : (a b i : ℕ) (ps : List Pending) (p q : Pending) → AreInOrder a b ps → slice_get ps i ≡ Some p →

@@ -1,3 +1,4 @@
 pub mod Kept
 pub mod Slots
 pub mod Rooms
+pub mod Rests

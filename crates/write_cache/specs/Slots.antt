@@ -1,5 +1,5 @@
 -- What a slot holds, and what the calls of the write cache make of it.
-use Rattle.std.specs.Prelude.{ℕ, ◌+◌, ◌-◌, ◌^◌, ◌==◌, min, nat_lt, Bool, false, ◌&&◌, ◌||◌, not}
+use Rattle.std.specs.Prelude.{ℕ, ◌+◌, ◌-◌, ◌==◌, min, nat_lt, Bool, false, ◌&&◌, ◌||◌, not}
 use Rattle.std.specs.Prelude.{if◌then◌else◌, List, [], ◌∷◌, ◌++◌, filter}
 use Rattle.std.specs.Prelude.{is_none, length, map, position, reverse, slice_get, slice_set, Option, Some, None}
 use Rattle.std.specs.Prelude.{option_and_then, option_map}
@@ -145,6 +145,7 @@ page_claimed k number size claim =
       index = claim.index;
       size = size;
       written = None;
+      rest = None;
       body = claim.body;
     }
 

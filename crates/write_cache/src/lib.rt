@@ -2,7 +2,9 @@
 #![tactic(auto)]
 
 mod cache;
+mod rests;
 mod slots;
 
 pub use cache::Cache;
+pub use rests::{NewPage, Part, Rest, RestSource};
 pub use slots::{Claimed, Landed, Pending, WholeGroup, key_at};

@@ -4,11 +4,12 @@ ghost use Rattle.ufs_spec.specs.Plain.{zero_block};
 ghost use Rattle.write_cache.specs.Slots.{claim_filled, empty_claim, ends_run, is_claim_of, is_named};
 ghost use Rattle.write_cache.specs.Slots.{is_of_group, is_page_of, is_there, key_at, page_claimed};
 
+use crate::rests::Rest;
 use ufs_bytes::Body;
 use ufs_spec::{Key, Place};
 
-/// A page of a pending group: the group's number and how many pages it has, which of them this is, and
-/// where it is written, once it is.
+/// A page of a pending group: the group's number and how many pages it has, which of them this is,
+/// where it is written, once it is, and the rest that it waits for, while its content is not all there.
 #[derive(Drop)]
 pub struct Pending {
     pub key: Key,
@@ -16,7 +17,8 @@ pub struct Pending {
     pub index: u16,
     pub size: u16,
     pub written: Option<Place>,
-    pub body: Body,
+    pub rest: Option<Rest>,
+    pub(crate) body: Body,
 }
 
 /// A slot that is claimed for the block of this index of a reader who gathers blocks for a group to come,
@@ -124,6 +126,7 @@ impl Claimed {
             index: self.index,
             size,
             written: None,
+            rest: None,
             body: self.body,
         }
     }

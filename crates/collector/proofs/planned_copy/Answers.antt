@@ -12,4 +12,4 @@ pub returns-clause-name : goal.returns-clause-name
 returns-clause-name c =
     durable_named c.args.places.now c.args.cache.now.pages c.args.from
     (sym c.page_there.ensures ∙ ap option_copied c.in_default.is) c.name_there.result c.name_there.ensures.found
-    c.name_there.ensures.none _ c.unwrap_or_default-name.result c.unwrap_or_default-name.ensures
+    c.name_there.ensures.none _ c.unwrap_or_default-named.result c.unwrap_or_default-named.ensures

@@ -24,14 +24,15 @@ use Rattle.task_set.specs.declared.tasks.Phase.{Phase}
 use Rattle.task_set.specs.declared.tasks.Short as kept
 use Rattle.task_set.specs.Kept.{OpenTask}
 use Rattle.device.specs.Calls.{lock_told}
-use Rattle.device.specs.Describes.{Describes, IsAnswered, IsDoing, IsTold, IsToldIn, Keeps, TaskKept, claims_in}
+use Rattle.device.specs.Describes.{Describes, IsAnswered, IsDoing, IsTold, IsToldIn, Keeps, TaskKept, claimed_in}
 use Rattle.device.specs.Describes.{read_in, short_kept, wanted_in}
 use Rattle.device.specs.Kept.{DeviceCore}
 use Rattle.task_set.specs.Tasks.{write_error, phase_after, task_after}
 use Rattle.device.proofs.open_tasks.OpenTasks.{each_changed, no_requests}
-use Rattle.device.proofs.open_tasks.KeptByTag.{KeptForAll, SameDeed, all_kept, each_changes}
+use Rattle.device.proofs.open_tasks.KeptByTag.{SameDeed, each_claims, each_wants}
 use Rattle.ufs_spec.specs.Exchanges as exchange
-use Rattle.ftl_core.specs.Describes as layer_kept
+use Rattle.ftl_core.specs.Public as layer_kept
+use Rattle.ftl_core.specs.Public.{AreClaimed}
 use Rattle.task_set.specs.declared.tasks.Phase.TheVariants as phase
 use Rattle.task_set.specs.declared.tasks.Status.TheVariants as status
 use Rattle.task_set.specs.declared.tasks.TaskEvent.TheVariants as event
@@ -46,6 +47,7 @@ told_stays s task (Awaiting commands) h =
 told_stays s task (Gathering purpose gathered asked) h = refl
 told_stays s task (Sending blocks sent) h = refl
 told_stays s task (SendingBytes bytes) h = refl
+told_stays s task (exchange.ReadingArea pages) h = refl
 told_stays s task (Answering status carried) h = refl
 
 all_stay : (s : State) (us : List exchange.Task) → All (IsTold (durable s)) us → map (task_locked s) us ≡ us
@@ -91,6 +93,7 @@ deed_told s task (Awaiting commands) = by (nat_le commands (durable s)) refl
 deed_told s task (Gathering purpose gathered asked) = tt
 deed_told s task (Sending blocks sent) = tt
 deed_told s task (SendingBytes bytes) = tt
+deed_told s task (exchange.ReadingArea pages) = tt
 deed_told s task (Answering status carried) = tt
 
 all_told : (s : State) (us : List exchange.Task) → All (IsTold (durable s)) (map (task_locked s) us)
@@ -111,13 +114,14 @@ same_told G same s task (Awaiting commands) = by (nat_le commands (durable s))
 same_told G same s task (Gathering purpose gathered asked) = refl
 same_told G same s task (Sending blocks sent) = refl
 same_told G same s task (SendingBytes bytes) = refl
+same_told G same s task (exchange.ReadingArea pages) = refl
 same_told G same s task (Answering status carried) = refl
 
 lock_same : (s : State) → SameDeed (task_locked s)
 lock_same s = record {
   tags = λ x. refl;
   wanted = λ index x. same_told (wanted_in index) (λ commands n status. refl) s x x.deed;
-  claims = λ tag x. same_told (claims_in tag) (λ commands n status. refl) s x x.deed;
+  claimed = λ x. same_told claimed_in (λ commands n status. refl) s x x.deed;
 }
 
 -- the block of a number is durable for both sides, or for none
@@ -214,8 +218,8 @@ keeps_locked e s tied k = record {
       (λ j a b at h. task_kept s (numbers_of s) (length s.accepted) (claim_of (numbers_of s) (task_locked s b))
       (is_mended s.translation.work.mending) frontier a b refl tied.repaired
       (locked_fit s s.tasks j b at tied.tasks.deeds) h) k.tasks;
-  wanted = λ tag. (kept tag).wanted;
-  claims = λ tag. (kept tag).claims;
+  wanted = each_wants s.translation.pins s.tasks (task_locked s) k.wanted (lock_same s);
+  claims = subst (AreClaimed e.ftl) (sym (each_claims s.tasks (task_locked s) (lock_same s))) k.claims;
   shorts = kept_shorts s s.shorts e.shorts k.shorts;
   power_off = k.power_off;
 }
@@ -225,9 +229,6 @@ keeps_locked e s tied k = record {
 
     frontier : ℕ
     frontier = s.translation.ledger.frontier
-
-    kept : KeptForAll s.translation.pins e.ftl (map (task_locked s) s.tasks)
-    kept = each_changes s.translation.pins e.ftl s.tasks (task_locked s) (all_kept e s k) (lock_same s)
 
 -- what is kept while a call is answered describes the state once both sides told the lock
 describes_told : (e : DeviceCore) (s : State) → IsTied (lock_applied s) → ShowsReads (lock_applied s) → Keeps e s →

@@ -4,7 +4,7 @@ use Rattle.std.proofs.Common.{◌≡◌, ◌∙◌, ◌⊎◌, ℕ, Bool, true, 
 use Rattle.std.proofs.Common.{subst}
 use Rattle.std.specs.Prelude.{if◌then◌else◌, length}
 use Rattle.ufs_spec.specs.Cells.{Array, Cell, GroupPage, MarkPage, Nothing}
-use Rattle.ufs_spec.specs.Disk.{Erasing, Flight, ForNobody, ForRest, ForStep, ForTask, Programming, Reading}
+use Rattle.ufs_spec.specs.Disk.{Erasing, Flight, Programming, Reading}
 use Rattle.ufs_spec.specs.Disk.{program_failed}
 use Rattle.ufs_spec.specs.Ledger.{before_accepted, page_stands}
 use Rattle.ufs_spec.specs.Moves.{Ending, ReadRight, WentWell, WentWrong, TakeStep, job_ended, moved, settled_pin}
@@ -13,12 +13,12 @@ use Rattle.ufs_spec.specs.Translation as layer
 use Rattle.ufs_spec.specs.Translation.{Order, OrderCopy, OrderRepair, Translation, copy_begun, has_mark_number}
 use Rattle.ufs_spec.specs.Translation.{mark_ordered, name_of, ordered, with_plan}
 use Rattle.ufs_spec.specs.declared.flash.Place.{Place}
+use Rattle.ufs_spec.specs.declared.layer.Reader.TheVariants.{ForNobody, ForRest, ForStep, ForTask}
 use Rattle.ufs_laws.proofs.walk.LayerEffects.{IsDue, order_due, turned_if}
 use Rattle.power_loss.specs.Exchange.{DeedsFit, IsTied}
-use Rattle.ftl_core.specs.Core.{Core}
-use Rattle.ftl_core.specs.Describes as layer_kept
-use Rattle.ftl_core.specs.Moves.{claims_for}
-use Rattle.device.specs.Describes.{Keeps, TasksKept, wanted_kept}
+use Rattle.ftl_core.specs.Public as layer_kept
+use Rattle.ftl_core.specs.Public.{AreClaimed, Core}
+use Rattle.device.specs.Describes.{Keeps, TasksKept, claims_of, wanted_kept}
 use Rattle.device.specs.Kept.{DeviceCore}
 use Rattle.device.proofs.described.Unmended.{kept_else}
 use Rattle.device.proofs.open_tasks.ReadProgress.{wanted_same}
@@ -29,7 +29,7 @@ pub record Leaves (t u : Translation) : Type 0 where
   pub wanted : (tag index : ℕ) → wanted_kept u.pins tag index ≡ wanted_kept t.pins tag index
 
 pub layer_moves : (d : DeviceCore) (after : Core) (s : State) (array : Array) (u : Translation) → Keeps d s →
-    layer_kept.Describes after u → claims_for after ≡ claims_for d.ftl → Leaves s.translation u →
+    layer_kept.Describes after u → AreClaimed after (claims_of s.tasks) → Leaves s.translation u →
     Keeps (record d { ftl = after }) (record s { array = array; translation = u })
 layer_moves d after s array u k layer claims leaves = record {
   permanent = k.permanent;
@@ -37,7 +37,7 @@ layer_moves d after s array u k layer claims leaves = record {
   few = k.few;
   tasks = subst (λ n. TasksKept n d.tasks s.tasks) (sym leaves.before) k.tasks;
   wanted = λ tag index. leaves.wanted tag index ∙ k.wanted tag index;
-  claims = λ tag. (λ i. claims i tag) ∙ k.claims tag;
+  claims = claims;
   shorts = k.shorts;
   power_off = k.power_off;
 }
@@ -122,7 +122,7 @@ unmended_fit s tied unmended =
 
 -- where the device is not mended, groups may count from another number
 pub unmended_moves : (d : DeviceCore) (after : Core) (s : State) (u : Translation) → Keeps d s → IsTied s →
-    layer_kept.Describes after u → claims_for after ≡ claims_for d.ftl → Repairs s.translation u →
+    layer_kept.Describes after u → AreClaimed after (claims_of s.tasks) → Repairs s.translation u →
     Keeps (record d { ftl = after }) (record s { translation = u })
 unmended_moves d after s u k tied layer claims repairs = record {
   permanent = k.permanent;
@@ -131,7 +131,7 @@ unmended_moves d after s u k tied layer claims repairs = record {
   tasks = kept_else (numbers_of s) (length s.accepted) (before_accepted s.translation.ledger) (before_accepted u.ledger)
       d.tasks s.tasks (unmended_fit s tied repairs.unmended) k.tasks;
   wanted = λ tag index. repairs.wanted tag index ∙ k.wanted tag index;
-  claims = λ tag. (λ i. claims i tag) ∙ k.claims tag;
+  claims = claims;
   shorts = k.shorts;
   power_off = k.power_off;
 }

@@ -1,4 +1,5 @@
 -- A device over dies whose pages are sound is the one that the definitions open over them.
+use Rattle.ufs_spec.specs.Plain.{region_of}
 use Rattle.std.proofs.Common.{◌≡◌, ◌∙◌, ℕ, suc, ◌≤◌, ◌==◌, Bool, List, [], ap, arith, subst}
 use Rattle.std.specs.Prelude.{IfOk, Result, slice_index}
 use Rattle.std.proofs.lemmas.Result.{IfOk-weaker}
@@ -24,9 +25,7 @@ use Rattle.power_loss.proofs.openings.OpenedFromPages.{cells_right, cells_within
 use Rattle.power_loss.proofs.stops.SealedCells.{ranges_of}
 use Rattle.recovery.specs.Found.{IsFound, newest_found}
 use Rattle.recovery.specs.declared.found.Found.{Found}
-use Rattle.ftl_core.specs.Core.{Core}
-use Rattle.ftl_core.specs.Describes.{Describes as IsLayer}
-use Rattle.ftl_core.specs.Moves.{claims_for}
+use Rattle.ftl_core.specs.Public.{AreClaimed, Core, Describes as IsLayer}
 use Rattle.device.specs.Describes.{Describes}
 use Rattle.device.specs.Kept.{DeviceCore, idle_device}
 use Rattle.device.specs.Opened.{OpensOver, TellsPermanent}
@@ -53,7 +52,7 @@ OpensLayer n f layer =
 module _ (n : Numbers) (array : Array) (bad : Spot → Bool) (s : State) (f : Found) (layer : Core) (config : IsConfig n)
     (inside : IsArrayOf n array) (sound : Sound array) (opened : IsOpened n array bad s)
     (found : (c : Cells) → Shows array c → IsFound n c bad f) (told : (c : Cells) → Shows array c → TellsPermanent c f)
-    (opens : OpensLayer n f layer) (none : (tag : ℕ) → claims_for layer tag ≡ []) where
+    (opens : OpensLayer n f layer) (none : AreClaimed layer (λ tag. [])) where
   found_here : IsFound n opened.cells bad f
   found_here = found opened.cells opened.shown
 
@@ -91,7 +90,7 @@ module _ (n : Numbers) (array : Array) (bad : Spot → Bool) (s : State) (f : Fo
       told opened.cells opened.shown (subst (CellsSound opened.cells) same_newest sound_here)
       (s.translation.ledger.base settings_key) held
       ∙ (ap (λ body. slice_index body 1 == 1) (opened.contents settings_key IsSettings)
-      ∙ permanent_back s.base.boot s.base.permanent s.base.key s.base.counter)
+      ∙ permanent_back s.base.boot s.base.permanent (region_of s.base 0).key (region_of s.base 0).counter)
 
   layer_is : IsLayer layer s.translation
   layer_is =

@@ -2,7 +2,7 @@
 use Rattle.std.proofs.Common.{◌≡◌, subst, sym}
 use Rattle.ufs_spec.specs.Refusals.{State}
 use Rattle.ufs_spec.specs.Translation.{Translation}
-use Rattle.ftl_core.specs.Describes as layer
+use Rattle.ftl_core.specs.Public as layer
 use Rattle.device.specs.Describes.{Describes}
 use Rattle.device.specs.Kept.{DeviceCore, WorldState}
 use Rattle.device.specs.Worlds.{Fits}

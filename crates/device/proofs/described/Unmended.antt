@@ -21,6 +21,7 @@ deed_told n accepted claimed total count (Awaiting commands) h = absurd (false�
 deed_told n accepted claimed total count (Gathering purpose gathered asked) h = tt
 deed_told n accepted claimed total count (Sending blocks sent) h = tt
 deed_told n accepted claimed total count (SendingBytes bytes) h = tt
+deed_told n accepted claimed total count (exchange.ReadingArea pages) h = tt
 deed_told n accepted claimed total count (Answering status carried) h = tt
 
 pub none_waits : (n : Numbers) (accepted count : ℕ) (us : List exchange.Task) → DeedsFit n accepted false us →

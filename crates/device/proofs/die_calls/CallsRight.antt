@@ -25,10 +25,9 @@ use Rattle.ufs_laws.proofs.array_cells.CrashedCells.{cell_crash}
 use Rattle.power_loss.specs.Exchange.{IsArrayOf, IsTied}
 use Rattle.power_loss.proofs.jobs_owed.ProgramsAndErases.{program_owed}
 use Rattle.power_loss.proofs.openings.OpenedStates.{opened_state as opened_valid}
-use Rattle.ftl_core.specs.Core.{Core}
-use Rattle.ftl_core.specs.Describes as layer_kept
-use Rattle.ftl_core.specs.Moves.{claims_for}
-use Rattle.device.specs.Describes.{Describes, IsAnswered, IsGiven, TasksKept, IsTold, Keeps, claims_by}
+use Rattle.ftl_core.specs.Public as layer_kept
+use Rattle.ftl_core.specs.Public.{AreClaimed, Core}
+use Rattle.device.specs.Describes.{Describes, IsAnswered, IsGiven, TasksKept, IsTold, Keeps, claims_of}
 use Rattle.device.specs.Describes.{wanted_by, wanted_kept}
 use Rattle.device.specs.Kept.{DeviceCore, idle_device}
 use Rattle.device.proofs.die_calls.EndsTold.{meant_fits}
@@ -46,7 +45,7 @@ use Rattle.device.proofs.described.Unmended.{none_waits}
 
 -- it leaves all that is kept, and locks nothing
 gives : (d : DeviceCore) (s : State) (die : ℕ) (flight : Option Flight) (after : Core) → Keeps d s →
-    layer_kept.Describes after (layer_kept.given s.translation die flight) → claims_for after ≡ claims_for d.ftl →
+    layer_kept.Describes after (layer_kept.given s.translation die flight) → AreClaimed after (claims_of s.tasks) →
     Keeps (record d { ftl = after }) (behind s (Take die) (OfTake flight))
 gives d s die None after k layer claims = layer_moves d after s s.array s.translation k layer claims
     (record { before = refl; wanted = λ tag index. refl })
@@ -75,7 +74,7 @@ gives_told s die None may told lock = told lock
 gives_told s die (Some flight) may told lock = told (sym (gives_locked s die flight may) ∙ lock)
 
 pub gives_right : (d : DeviceCore) (s : State) (die : ℕ) (job : Option Job) (after : Core) → Describes d s →
-    layer_kept.IsTaken s.translation die job after → claims_for after ≡ claims_for d.ftl →
+    layer_kept.IsTaken s.translation die job after → AreClaimed after (claims_of s.tasks) →
     IsGiven s die job (record d { ftl = after })
 gives_right d s die job after h taken claims = record {
   flight = taken.job;
@@ -124,7 +123,7 @@ may_end d s die o ending left h is leaves = (
 
 pub turns_right : (d : DeviceCore) (s : State) (due : Bool) (after : Core) → Describes d s →
     due ≡ is_step_due s.translation →
-    layer_kept.Describes after (moved s.translation TakeStep) → claims_for after ≡ claims_for d.ftl →
+    layer_kept.Describes after (moved s.translation TakeStep) → AreClaimed after (claims_of s.tasks) →
     IsAnswered s Turn (OfTurn due) (record d { ftl = after })
 turns_right d s due after h is layer claims =
     answered d (record d { ftl = after }) s Turn (OfTurn due) h tt is (by (step_leaves s.translation))
@@ -149,7 +148,7 @@ turns_right d s due after h is layer claims =
 
 pub opens_right : (n : Numbers) (array : Array) (bad : Spot → Bool) (s : State) (layer : Core) (permanent : Bool) →
     IsConfig n → IsArrayOf n array → Sound array → IsOpened n array bad s → layer_kept.Describes layer s.translation →
-    ((tag : ℕ) → claims_for layer tag ≡ []) → permanent ≡ s.base.permanent → Describes (idle_device layer permanent) s
+    AreClaimed layer (λ tag. []) → permanent ≡ s.base.permanent → Describes (idle_device layer permanent) s
 opens_right n array bad s layer permanent config inside sound opened kept none same =
     let t = s.translation in
     record {
@@ -163,7 +162,7 @@ opens_right n array bad s layer permanent config inside sound opened kept none s
         tasks = subst (TasksKept (before_accepted t.ledger) []) (sym opened.no_tasks) tt;
         wanted = λ tag index. ap (λ (pins : List Pin). wanted_kept pins tag index) opened.translation.no_pins
             ∙ sym (ap (λ us. wanted_by index (exchange.task_of tag us)) opened.no_tasks);
-        claims = λ tag. none tag ∙ sym (ap (λ us. claims_by tag (exchange.task_of tag us)) opened.no_tasks);
+        claims = subst (λ us. AreClaimed layer (claims_of us)) (sym opened.no_tasks) none;
         shorts = opened.no_shorts;
         power_off = opened.power_off;
       };

@@ -6,7 +6,7 @@ use Rattle.std.proofs.lemmas.List.{length-map}
 use Rattle.std.proofs.lemmas.List.Elements.{All-contains}
 use Rattle.ufs_spec.proofs.Facts.{and_parts, eqb-true, false≢true, none-some, same_Some}
 use Rattle.ufs_spec.specs.Cells.{Array, Cell, Cells, GroupPage}
-use Rattle.ufs_spec.specs.Disk.{Erasing, Flight, ForNobody, ForStep, ForTask, Programming, Reader, Reading}
+use Rattle.ufs_spec.specs.Disk.{Erasing, Flight, Programming, Reading}
 use Rattle.ufs_spec.specs.Exchanges.{NotRead, ReadState, WasRead, task_of}
 use Rattle.ufs_spec.specs.Ledger.{before_accepted}
 use Rattle.ufs_spec.specs.Machine.{Done, MayLeave, OfDone, array_after, ends_with, read_noted_after, task_read}
@@ -22,26 +22,25 @@ use Rattle.ufs_spec.specs.declared.flash.Outcome.{Outcome}
 use Rattle.ufs_spec.specs.declared.flash.Outcome.TheVariants as outcome
 use Rattle.ufs_spec.specs.declared.flash.Place.{Place}
 use Rattle.ufs_spec.specs.declared.flash.Tag.{Tag}
+use Rattle.ufs_spec.specs.declared.layer.Reader.{Reader}
+use Rattle.ufs_spec.specs.declared.layer.Reader.TheVariants.{ForNobody, ForStep, ForTask}
 use Rattle.power_loss.specs.Book.{book}
 use Rattle.power_loss.specs.Invariant.{IsGroupPage, LookedRight}
 use Rattle.power_loss.proofs.open_tasks.FoundInLists.{found_is}
 use Rattle.power_loss.proofs.shown_blocks.LivesShowBlocks.{page_body}
-use Rattle.ftl_core.specs.Core.{Core}
-use Rattle.ftl_core.specs.Describes as layer_kept
-use Rattle.ftl_core.specs.Describes.{IsTold}
-use Rattle.ftl_core.specs.Moves.{claims_for}
-use Rattle.ftl_core.specs.Tells.{IsAwaited, IsReadOf}
+use Rattle.ftl_core.specs.Public as layer_kept
+use Rattle.ftl_core.specs.Public.{AreClaimed, Core, IsAwaited, IsReadOf, IsTold, with_claimed}
 use Rattle.ftl_core.specs.declared.ftl.Ended.{Ended}
 use Rattle.ftl_core.specs.declared.ftl.Ended.TheVariants as ended
 use Rattle.device.specs.Calls.{lock_told, told}
-use Rattle.device.specs.Describes.{Describes, IsAnswered, Keeps, TasksKept, claims_by, claims_in, is_unread}
-use Rattle.device.specs.Describes.{wanted_by, wanted_kept}
+use Rattle.device.specs.Describes.{Describes, IsAnswered, Keeps, TasksKept, claimed_by, claimed_in}
+use Rattle.device.specs.Describes.{claims_of, is_unread, wanted_by, wanted_kept}
 use Rattle.task_set.specs.Kept.{OpenTask}
 use Rattle.task_set.specs.Tasks.{after_lost_read, after_read}
 use Rattle.device.specs.Kept.{DeviceCore}
 use Rattle.device.proofs.described.Answered.{answered_told}
 use Rattle.device.proofs.described.LayerMoves.{IsForNone, Leaves, job_leaves, layer_moves}
-use Rattle.device.proofs.open_tasks.KeptByTag.{KeptFor, KeptForAll, all_kept, one_changes}
+use Rattle.device.proofs.open_tasks.KeptByTag.{WantedFor, WantedForAll, claimed_same, claims_changed, one_changes}
 use Rattle.device.proofs.open_tasks.ReadProgress.{want_other_tag}
 use Rattle.device.proofs.open_tasks.ReadsEnded.{IsReading, is_reading, reads_one, task_ended, tasks_lost}
 use Rattle.device.proofs.open_tasks.ReadsEnded.{tasks_read, wanted_then}
@@ -112,7 +111,7 @@ read_state s tag index state array u = record s {
 }
 
 module _ (d : DeviceCore) (s : State) (die tag index : ℕ) (place : Place) (after : Core) (h : Describes d s)
-    (w : IsAwaited s.translation tag index place) (same : claims_for after ≡ claims_for d.ftl) where
+    (w : IsAwaited s.translation tag index place) (same : AreClaimed after (claims_of s.tasks)) where
   abbrev before : ℕ
   before = before_accepted s.translation.ledger
 
@@ -130,22 +129,23 @@ module _ (d : DeviceCore) (s : State) (die tag index : ℕ) (place : Place) (aft
   few : (state : ReadState) → length (map (task_read tag index state) s.tasks) ≤ most_tasks
   few state = subst (λ n. n ≤ most_tasks) (sym (length-map s.tasks (task_read tag index state))) h.kept.few
 
-  -- what is kept for the tag is its task's; what is kept for another is as it was
-  kept_then : (state : ReadState) → is_unread state ≡ false →
-      KeptForAll pins after (map (task_read tag index state) s.tasks)
-  kept_then state ends =
-      one_changes s.translation.pins pins d.ftl after s.tasks (task_read tag index state) tag
-      reading.task (all_kept d s h.kept) (reads_one tag index state) reading.found
-      (subst (λ task. KeptFor pins after tag (Some task)) (sym (task_ended tag index s.tasks reading state))
-      (record {
-        wanted = wanted_then tag index s.tasks reading state ends s.translation.pins (h.kept.wanted tag);
-        claims = (λ i. same i tag) ∙ (h.kept.claims tag
-            ∙ (ap (claims_by tag) reading.found ∙ ap (claims_in tag) reading.deed));
-      }))
-      (λ n other. record {
-        wanted = λ k. want_other_tag tag index false n k s.translation.pins other;
-        claims = λ i. same i n;
-      })
+  -- what is wanted for the tag is its task's; what is wanted for another is as it was
+  wanted_now : (state : ReadState) → is_unread state ≡ false →
+      WantedForAll pins (map (task_read tag index state) s.tasks)
+  wanted_now state ends =
+      one_changes s.translation.pins pins s.tasks (task_read tag index state) tag reading.task h.kept.wanted
+      (reads_one tag index state) reading.found
+      (subst (λ task. WantedFor pins tag (Some task)) (sym (task_ended tag index s.tasks reading state))
+      (wanted_then tag index s.tasks reading state ends s.translation.pins (h.kept.wanted tag)))
+      (λ n other k. want_other_tag tag index false n k s.translation.pins other)
+
+  -- no READ has claimed a slot
+  claims_now : (state : ReadState) → claims_of (map (task_read tag index state) s.tasks) ≡ claims_of s.tasks
+  claims_now state =
+      claims_changed s.tasks (task_read tag index state) tag reading.task (reads_one tag index state) reading.found
+      ∙ (ap (λ task. with_claimed (claims_of s.tasks) tag (claimed_by (Some task)))
+      (task_ended tag index s.tasks reading state)
+      ∙ claimed_same (claims_of s.tasks) tag [] (ap claimed_by reading.found ∙ ap claimed_in reading.deed))
 
   -- once these are our tasks
   keeps_then : (state : ReadState) (ending : Ending) (ts : List OpenTask) → is_unread state ≡ false →
@@ -160,8 +160,8 @@ module _ (d : DeviceCore) (s : State) (die tag index : ℕ) (place : Place) (aft
     tasks = subst (λ n. TasksKept n ts (map (task_read tag index state) s.tasks)) (sym same_before) tasks;
     wanted = subst (λ (ps : List Pin). (n k : ℕ) → wanted_kept ps n k
         ≡ wanted_by k (task_of n (map (task_read tag index state) s.tasks))) (sym are)
-        (λ n. (kept_then state ends n).wanted);
-    claims = λ n. (kept_then state ends n).claims;
+        (wanted_now state ends);
+    claims = subst (AreClaimed after) (sym (claims_now state)) same;
     shorts = h.kept.shorts;
     power_off = h.kept.power_off;
   }
@@ -203,7 +203,7 @@ moved_is : (t : Translation) (die : ℕ) (flight : Flight) (ending : Ending) →
 moved_is t die flight ending e = ap (λ (x : Option Flight). end_flight t die x ending) e
 
 module _ (d : DeviceCore) (s : State) (die : ℕ) (left : Array) (after : Core) (e : Ended) (h : Describes d s)
-    (claims : claims_for after ≡ claims_for d.ftl) where
+    (claims : AreClaimed after (claims_of s.tasks)) where
   abbrev Reads : ℕ → ℕ → Place → Option Flight
   Reads tag index place = Some (Reading (ForTask tag index) place)
 
@@ -269,7 +269,7 @@ pub ends_right : (d new : DeviceCore) (s : State) (die : ℕ) (o : Outcome) (end
     (after : Core)
     (e : Ended) → Describes d s → IsEndingOf s.translation.disk.cells (s.translation.disk.flights die) o ending →
     MayLeave s die ending left → layer_kept.Describes after (moved s.translation (EndJob die ending)) →
-    claims_for after ≡ claims_for d.ftl →
+    AreClaimed after (claims_of s.tasks) →
     IsTold s.translation.disk.cells (s.translation.disk.flights die) ending e →
     ((who : Reader) (place : Place) → s.translation.disk.flights die ≡ Some (Reading who place) →
     IsReadOf s.translation place who) →

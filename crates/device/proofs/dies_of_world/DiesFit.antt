@@ -31,7 +31,7 @@ use Rattle.ufs_laws.proofs.deciding.SearchOverPlaces.{is_place, split}
 use Rattle.ufs_laws.proofs.exchanges.RequestsSettled.{settled_jobs}
 use Rattle.ufs_laws.proofs.lives.EventsLead.{well_fits}
 use Rattle.ufs_laws.specs.Flights.{die_of_flight}
-use Rattle.ufs_laws.specs.Requests.{HaveNoRequest}
+use Rattle.ufs_laws.specs.Requests.{HaveNoneToFill}
 use Rattle.power_loss.proofs.openings.FirstBlocks.{bad_as_before, never_filling}
 use Rattle.power_loss.specs.Exchange.{IsTied}
 use Rattle.power_loss.proofs.jobs_owed.ProgramsAndErases.{OpensReady, program_owed, take_inside}
@@ -291,7 +291,7 @@ module _ (dies : List DieState) (jobs : List (Option Job)) (s : State) (fit : Fi
 
   -- behind the end of a job the dies that hold what is behind it fit
   pub ended_fits : (die : ℕ) (flight : Flight) (ending : Ending) (left : Array) (after : List DieState) (array : Array)
-      (blocks : Spot → BlockState) (vacancies : Spot → Vacancy) → HaveNoRequest s.tasks → flights die ≡ Some flight →
+      (blocks : Spot → BlockState) (vacancies : Spot → Vacancy) → HaveNoneToFill s.tasks → flights die ≡ Some flight →
       ending_fits (Some flight) ending ≡ true → Fit n after → AreBehind n after array blocks vacancies →
       seen (observe s (Done die ending left) (OfDone true))
       ≡ seen_over array (record { numbers = n; blocks = blocks; vacancies = vacancies }) →
@@ -322,7 +322,7 @@ module _ (dies : List DieState) (jobs : List (Option Job)) (s : State) (fit : Fi
       (seen_over array (record { numbers = n; blocks = blocks; vacancies = vacancies })))
       (sym (flights_behind s die flight ending left none flies (lies_home die flight flies) right)) known)
 
-  pub finish_fits : (die : ℕ) (flight : Flight) → HaveNoRequest s.tasks → flights die ≡ Some flight →
+  pub finish_fits : (die : ℕ) (flight : Flight) → HaveNoneToFill s.tasks → flights die ≡ Some flight →
       FitState (done_by die flight) (slice_set jobs die None)
       (observe s (Done die (ended_well flight) s.array) (OfDone true))
   finish_fits die flight none flies =

@@ -2,7 +2,7 @@
 use Rattle.std.proofs.Common.{◌≡◌, ◌∙◌, ℕ, true, [], ◌∷◌, Option, Some, None, option_map, refl, sym, ap, subst}
 use Rattle.std.specs.Prelude.{slice_set, Ok}
 use Rattle.ufs_spec.specs.Cells.{Array, Cell, Cells}
-use Rattle.ufs_spec.specs.Disk.{Erasing, Flight, Programming, Reader, Reading, Spot}
+use Rattle.ufs_spec.specs.Disk.{Erasing, Flight, Programming, Reading, Spot}
 use Rattle.ufs_spec.specs.Disk.{job_of, spot_of}
 use Rattle.ufs_spec.specs.Ledger.{before_accepted}
 use Rattle.ufs_spec.specs.Lives.{Fit, IsFailure, IsLawfulLeftover, IsLeft, IsLeftoverOf, array_of, die_of}
@@ -18,6 +18,7 @@ use Rattle.ufs_spec.specs.declared.flash.Job.TheVariants as job
 use Rattle.ufs_spec.specs.declared.flash.Outcome.{Outcome}
 use Rattle.ufs_spec.specs.declared.flash.Outcome.TheVariants as outcome
 use Rattle.ufs_spec.specs.declared.flash.Place.{Place}
+use Rattle.ufs_spec.specs.declared.layer.Reader.{Reader}
 use Rattle.power_loss.proofs.die_pages.LeftoversLeaveOneArray.{one_left}
 use Rattle.power_loss.proofs.jobs.LawfulFailures.{job_fails}
 use Rattle.power_loss.proofs.stops.LeftoverLists.{one_apart}

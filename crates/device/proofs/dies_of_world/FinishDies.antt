@@ -2,8 +2,8 @@
 use Rattle.std.proofs.Common.{◌≡◌, ℕ, true, Option, Some, None, refl, sym, ap, ◌∙◌}
 use Rattle.ufs_spec.proofs.Facts.{if_both}
 use Rattle.ufs_spec.specs.Cells.{Array, Cell, Cells, GroupPage, MarkPage, Nothing}
-use Rattle.ufs_spec.specs.Disk.{Bad, BlockState, Erasing, Flight, ForNobody, ForRest, ForStep, ForTask, Programming}
-use Rattle.ufs_spec.specs.Disk.{Reader, Reading, Ready, Spot, Vacancy, at_die, at_spot, program_failed, programmed}
+use Rattle.ufs_spec.specs.Disk.{Bad, BlockState, Erasing, Flight, Programming}
+use Rattle.ufs_spec.specs.Disk.{Reading, Ready, Spot, Vacancy, at_die, at_spot, program_failed, programmed}
 use Rattle.ufs_spec.specs.Disk.{spot_of, state_after}
 use Rattle.ufs_spec.specs.Exchanges.{NotRead, ReadState, WasRead}
 use Rattle.ufs_spec.specs.Lives.{ended_well}
@@ -13,9 +13,11 @@ use Rattle.ufs_spec.specs.Moves.{freed, job_ended, read_right, read_wrong}
 use Rattle.ufs_spec.specs.Refusals.{State}
 use Rattle.ufs_spec.specs.Translation.{Translation, has_mark_number}
 use Rattle.ufs_spec.specs.declared.flash.Place.{Place}
+use Rattle.ufs_spec.specs.declared.layer.Reader.{Reader}
+use Rattle.ufs_spec.specs.declared.layer.Reader.TheVariants.{ForNobody, ForRest, ForStep, ForTask}
 use Rattle.ufs_laws.proofs.jobs.JobsInFlight.{jobs_behind}
 use Rattle.ufs_laws.specs.Flights.{die_of_flight}
-use Rattle.ufs_laws.specs.Requests.{HaveNoRequest}
+use Rattle.ufs_laws.specs.Requests.{HaveNoneToFill}
 use Rattle.device.proofs.dies_of_world.QuietDies.{LayerSeen, layer_seen, seen, seen_over, told_same}
 
 -- the state of each block behind the end of a job that went well: the end of a mark frees the block of its plan
@@ -135,7 +137,7 @@ seen_erase_failed s die spot c left flies = seen_ended s die (Erasing spot) (Wen
 
 -- The jobs in flight
 
-pub flights_behind : (s : State) (die : ℕ) (flight : Flight) (ending : Ending) (left : Array) → HaveNoRequest s.tasks →
+pub flights_behind : (s : State) (die : ℕ) (flight : Flight) (ending : Ending) (left : Array) → HaveNoneToFill s.tasks →
     s.translation.disk.flights die ≡ Some flight → die_of_flight flight ≡ die →
     ending_fits (Some flight) ending ≡ true →
     (observe s (Done die ending left) (OfDone true)).translation.disk.flights

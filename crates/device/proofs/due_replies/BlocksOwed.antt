@@ -1,33 +1,33 @@
 -- The block that is handed out for a tag is the one that is kept for it.
-use Rattle.std.proofs.Common.{◌≡◌, ℕ, List, Option, Some, None, refl, subst}
-use Rattle.std.specs.Prelude.{find}
-use Rattle.ufs_spec.specs.Ledger as ledger
+use Rattle.std.proofs.Common.{◌≡◌, ◌∙◌, ℕ, List, Option, Some, None, ap, refl, subst, sym}
+use Rattle.std.specs.Prelude.{find, option_map}
+use Rattle.ufs_spec.proofs.Facts.{none-some, same_Some}
 use Rattle.ufs_spec.specs.Moves.{is_pin_of}
 use Rattle.ufs_spec.specs.Translation.{Pin, Translation}
+use Rattle.ufs_spec.specs.declared.layer.Looked.{Looked}
 use Rattle.power_loss.specs.Book.{book}
-use Rattle.power_loss.specs.Invariant.{LookedRight, Valid}
+use Rattle.power_loss.specs.Invariant.{LookedRight, PinsRight}
 use Rattle.power_loss.proofs.ordered_lists.ElementsAndOrders.{all_in, found_in}
-use Rattle.ftl_core.specs.declared.books.Looked.{Looked}
-use Rattle.ftl_core.specs.Describes.{IsLookedAt}
-use Rattle.ftl_core.specs.Tells.{IsPinned}
+use Rattle.ftl_core.specs.Public.{looked_of}
 use Rattle.device.specs.Replies.{block_at, block_for, block_of}
 
-abbrev IsRight : Translation → ledger.Looked → Type 0
+abbrev IsRight : Translation → Looked → Type 0
 IsRight t kept = LookedRight (book t) t.ledger.frontier t.disk.cells t.disk.finished t.disk.erasing kept
 
 -- what is said of whatever the reader looks at is said of what is kept for it
-pub block_found : (t : Translation) (read : Option (List ℕ)) (tag index : ℕ) (kept : Option Looked) (looked : Looked)
-    (body : Option (List ℕ)) → Valid t → kept ≡ Some looked → IsPinned kept (find (is_pin_of tag index) t.pins) →
-    ((x : ledger.Looked) → IsLookedAt looked x → IsRight t x → body ≡ block_at t.ledger read x) →
-    body ≡ block_for t read tag index
-block_found t read tag index kept looked body v is pinned told =
-    by (find (is_pin_of tag index) t.pins) refl
-    (subst (λ (o : Option Looked). IsPinned o (find (is_pin_of tag index) t.pins)) is pinned)
+pub block_found : (t : Translation) (read : Option (List ℕ)) (tag index : ℕ) (looked : Looked)
+    (body : Option (List ℕ)) →
+    PinsRight (book t) t.ledger.frontier t.disk.cells t.disk.finished t.disk.erasing t.pins →
+    Some looked ≡ option_map looked_of (find (is_pin_of tag index) t.pins) →
+    (IsRight t looked → body ≡ block_at t.ledger read looked) → body ≡ block_for t read tag index
+block_found t read tag index looked body right pinned told = by (find (is_pin_of tag index) t.pins) refl pinned
   where
-    by : (pin : Option Pin) → find (is_pin_of tag index) t.pins ≡ pin → IsPinned (Some looked) pin →
+    by : (pin : Option Pin) → find (is_pin_of tag index) t.pins ≡ pin → Some looked ≡ option_map looked_of pin →
         body ≡ block_of t.ledger read pin
-    by None found at = absurd at
+    by None found at = absurd (none-some looked (sym at))
     by (Some pin) found at =
-        told pin.looked at
-        (all_in (λ (p : Pin). IsRight t p.looked) pin t.pins v.pins.each
-        (found_in (is_pin_of tag index) t.pins pin found).0)
+        let is : looked ≡ pin.looked = same_Some looked pin.looked at in
+        told (subst (IsRight t) (sym is)
+        (all_in (λ (p : Pin). IsRight t p.looked) pin t.pins right.each
+        (found_in (is_pin_of tag index) t.pins pin found).0))
+        ∙ ap (block_at t.ledger read) is

@@ -16,9 +16,8 @@ use Rattle.ufs_spec.specs.Refusals.{State}
 use Rattle.ufs_spec.specs.Translation.{Translation}
 use Rattle.ufs_spec.specs.declared.messages.Message.{Message}
 use Rattle.power_loss.proofs.open_tasks.TaskLists.{found_task}
-use Rattle.ftl_core.specs.Core.{Core}
-use Rattle.ftl_core.specs.Describes as layer_kept
-use Rattle.ftl_core.specs.Moves.{claims_for}
+use Rattle.ftl_core.specs.Public as layer_kept
+use Rattle.ftl_core.specs.Public.{AreClaimed, Core}
 use Rattle.task_set.specs.declared.tasks.Phase.{Phase}
 use Rattle.task_set.specs.declared.tasks.Phase.TheVariants as phase
 use Rattle.task_set.specs.declared.tasks.Sending.{Sending as Sends}
@@ -27,7 +26,7 @@ use Rattle.task_set.specs.declared.tasks.TaskEvent.TheVariants as event
 use Rattle.task_set.specs.Kept.{OpenTask, task_in}
 use Rattle.task_set.specs.declared.tasks.Transfer.{Transfer}
 use Rattle.device.specs.Describes.{Describes, IsDoing, IsGathering, IsSending}
-use Rattle.device.specs.Describes.{claims_in, is_lost, read_in}
+use Rattle.device.specs.Describes.{claimed_in, claims_of, is_lost, read_in}
 use Rattle.device.specs.Describes.{wanted_by, wanted_in, wanted_kept}
 use Rattle.device.specs.Hears.{with_event}
 use Rattle.device.specs.Kept.{DeviceCore}
@@ -73,7 +72,7 @@ module _ (d : DeviceCore) (s : State) (k : ℕ) (a : OpenTask) (b : exchange.Tas
     (o : IsOpen (before_accepted s.translation.ledger) k d.tasks s.tasks a b) where
   asks : (after : Core) (x : Transfer) (purpose : Purpose) (gathered : List ℕ) (asked : Bool) →
       a.phase ≡ phase.AskData x → b.deed ≡ Gathering purpose gathered asked → IsGathering x b.length purpose gathered →
-      layer_kept.Describes after s.translation → claims_for after ≡ claims_for d.ftl →
+      layer_kept.Describes after s.translation → AreClaimed after (claims_of s.tasks) →
       IsBehind (with_layer after (with_event d k event.DataAskedFor))
       (set_deed s b.tag (Gathering purpose gathered true))
   asks after x purpose gathered asked is deed its layer claims =
@@ -82,14 +81,14 @@ module _ (d : DeviceCore) (s : State) (k : ℕ) (a : OpenTask) (b : exchange.Tas
       (record {
         wanted = λ index. ap (wanted_in index) deed;
         read = ap read_in deed;
-        claims = ap (claims_in b.tag) deed;
+        claimed = ap claimed_in deed;
       })
       tt layer claims
 
   -- its data were handed out, which are no block
   sends_data : (after : Core) (x : ShortData) (bytes : List ℕ) → a.phase ≡ phase.SendData x →
       b.deed ≡ SendingBytes bytes →
-      b.length ≡ data_length x → layer_kept.Describes after s.translation → claims_for after ≡ claims_for d.ftl →
+      b.length ≡ data_length x → layer_kept.Describes after s.translation → AreClaimed after (claims_of s.tasks) →
       IsBehind (with_layer after (with_event d k event.DataSent))
       (set_deed s b.tag (Answering Good b.length))
   sends_data after x bytes here deed is layer claims =
@@ -97,11 +96,11 @@ module _ (d : DeviceCore) (s : State) (k : ℕ) (a : OpenTask) (b : exchange.Tas
       (record {
         wanted = λ index. ap (wanted_in index) deed;
         read = ap read_in deed;
-        claims = ap (claims_in b.tag) deed;
+        claimed = ap claimed_in deed;
       })
       tt layer claims
 
-  ends : (after : Core) → claims_for after ≡ claims_for d.ftl → claims_in b.tag b.deed ≡ [] →
+  ends : (after : Core) → AreClaimed after (claims_of s.tasks) → claimed_in b.deed ≡ [] →
       layer_kept.Describes after (moved s.translation (LetGoAll a.tag)) →
       IsBehind (with_layer after (without_task d k)) (task_goes_on s b None)
   ends after claims none layer = record {
@@ -109,7 +108,7 @@ module _ (d : DeviceCore) (s : State) (k : ℕ) (a : OpenTask) (b : exchange.Tas
     told = told_gone d s k a b h o;
   }
 
-  awaits : (after : Core) (commands : ℕ) → claims_for after ≡ claims_for d.ftl → claims_in b.tag b.deed ≡ [] →
+  awaits : (after : Core) (commands : ℕ) → AreClaimed after (claims_of s.tasks) → claimed_in b.deed ≡ [] →
       layer_kept.Describes after (moved (moved s.translation (Acknowledge commands)) (LetGoAll a.tag)) →
       IsBehind (with_layer after (without_task d k))
       (task_goes_on (with_moves s (Acknowledge commands ∷ [])) b None)
@@ -123,11 +122,11 @@ module _ (d : DeviceCore) (s : State) (k : ℕ) (a : OpenTask) (b : exchange.Tas
   sent_state n = with_moves s (LetGo b.tag n ∷ WantPage b.tag (n + 1) ∷ [])
 
   loses : (after : Core) (blocks : List ReadBlock) (n : ℕ) → b.deed ≡ Sending blocks n →
-      claims_for after ≡ claims_for d.ftl → layer_kept.Describes after (moved s.translation (LetGoAll a.tag)) →
+      AreClaimed after (claims_of s.tasks) → layer_kept.Describes after (moved s.translation (LetGoAll a.tag)) →
       IsBehind (with_layer after (without_task d k)) (task_goes_on (sent_state n) b None)
   loses after blocks n deed claims layer =
       subst (IsBehind (with_layer after (without_task d k))) (sym same)
-      (ends after claims (ap (claims_in b.tag) deed) layer)
+      (ends after claims (ap claimed_in deed) layer)
     where
       same : task_goes_on (sent_state n) b None ≡ task_goes_on s b None
       same =
@@ -153,7 +152,7 @@ module _ (d : DeviceCore) (s : State) (k : ℕ) (a : OpenTask) (b : exchange.Tas
 
   sends_next : (after : Core) (x : Sends) (blocks : List ReadBlock) (n : ℕ) → a.phase ≡ phase.SendBlocks x →
       b.deed ≡ Sending blocks n →
-      IsSending x a.expected b.length blocks n → claims_for after ≡ claims_for d.ftl →
+      IsSending x a.expected b.length blocks n → AreClaimed after (claims_of s.tasks) →
       layer_kept.Describes after (sent_layer s.translation a.tag x.sent) →
       IsBehind (with_layer after (moved_on d k (phase.SendBlocks x))) (task_does s b (Sending blocks n))
   sends_next after x blocks n here deed is claims layer = by (nat_lt (x.sent + 1) x.blocks) refl
@@ -201,7 +200,7 @@ module _ (d : DeviceCore) (s : State) (k : ℕ) (a : OpenTask) (b : exchange.Tas
           (does (Sending blocks (n + 1)) true e
           (sends_more x a.expected b.length blocks n is (ltb-true (x.sent + 1) x.blocks e))) tt
           (more_kept b.tag n s.translation.pins blocks kept is.behind) (none_read_behind blocks n is.behind)
-          (ap (claims_in b.tag) deed) claims its)
+          (ap claimed_in deed) claims its)
       by false e =
           let count = is.count in
           let at = is.sent_is in
@@ -209,7 +208,7 @@ module _ (d : DeviceCore) (s : State) (k : ℕ) (a : OpenTask) (b : exchange.Tas
           path false e
           (sends d s k a b h o after n x (Answering Good b.length) here
           (does (Answering Good b.length) false e (refl, is.total_is)) tt
-          (none_kept b.tag n s.translation.pins blocks kept (omega arith)) refl (ap (claims_in b.tag) deed) claims
+          (none_kept b.tag n s.translation.pins blocks kept (omega arith)) refl (ap claimed_in deed) claims
           its)
 
   -- a block that is durable is told so
@@ -220,7 +219,8 @@ module _ (d : DeviceCore) (s : State) (k : ℕ) (a : OpenTask) (b : exchange.Tas
   moves_in : (after : Core) (p : Phase) (deed : Deed) (m : Message) → a.phase ≡ p → b.deed ≡ deed →
       IsDoing (before_accepted s.translation.ledger) a.expected b.length p deed →
       owed_in s.translation a.block (task_in a) p ≡ Some m →
-      HasMoved d.ftl after s.translation a.tag p → IsBehind (with_layer after (moved_on d k p)) (task_does s b deed)
+      HasMoved after s.translation (claims_of s.tasks) a.tag p →
+      IsBehind (with_layer after (moved_on d k p)) (task_does s b deed)
   moves_in after (phase.AskData x) (Gathering purpose gathered asked) m here e doing due new =
       asks after x purpose gathered asked here e doing.0 new.0 new.1
   moves_in after (phase.AwaitData x) deed m here e doing due new = absurd (none-some m due)
@@ -230,11 +230,12 @@ module _ (d : DeviceCore) (s : State) (k : ℕ) (a : OpenTask) (b : exchange.Tas
       let frontier = s.translation.ledger.frontier in
       let low = leb-true n frontier (durable_told (nat_le n frontier) _ m due) in
       let is = doing.0 in
-      awaits after commands new.1 (ap (claims_in b.tag) e) (new.0 commands (omega arith))
+      let its = new commands (omega arith) in
+      awaits after commands its.1 (ap claimed_in e) its.0
   moves_in after (phase.SendBlocks x) (Sending blocks sent) m here e doing due new =
       sends_next after x blocks sent here e doing new.1 new.0
   moves_in after (phase.Answer told n) (Answering x carried) m here e doing due new =
-      ends after new.1 (ap (claims_in b.tag) e) new.0
+      ends after new.1 (ap claimed_in e) new.0
   moves_in after (phase.Answer told n) (Sending blocks sent) m here e doing due new =
       subst (IsBehind (with_layer after (moved_on d k (phase.Answer told n))))
       (sym (sending_path blocks sent doing.block None doing.there (ap (deed_after_state b blocks sent) doing.lost)))
@@ -243,6 +244,6 @@ module _ (d : DeviceCore) (s : State) (k : ℕ) (a : OpenTask) (b : exchange.Tas
 
   -- what a reply makes of the task
   pub moves_on : (after : Core) (m : Message) → owed_by s.translation a ≡ Some m →
-      HasMoved d.ftl after s.translation a.tag a.phase →
+      HasMoved after s.translation (claims_of s.tasks) a.tag a.phase →
       IsBehind (with_layer after (moved_on d k a.phase)) (task_does s b b.deed)
   moves_on after m due new = moves_in after a.phase b.deed m refl refl o.kept.doing due new

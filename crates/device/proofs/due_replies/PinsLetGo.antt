@@ -4,10 +4,12 @@ use Rattle.std.proofs.Common.{None, map, refl, sym, ap, arith}
 use Rattle.std.proofs.lemmas.Bool.Decides.{nat_tests}
 use Rattle.std.specs.Prelude.{filter, if◌then◌else◌, not, option_map}
 use Rattle.ufs_spec.proofs.Facts.{and_parts, eqb-true}
-use Rattle.ufs_spec.specs.Disk.{Erasing, Flight, ForNobody, ForRest, ForStep, ForTask, Programming, Reader, Reading}
+use Rattle.ufs_spec.specs.Disk.{Erasing, Flight, Programming, Reading}
 use Rattle.ufs_spec.specs.Moves.{LetGo, LetGoAll, WantPage, is_for, is_for_task, is_pin_of, moved, with_wanted}
 use Rattle.ufs_spec.specs.Moves.{without_reader}
 use Rattle.ufs_spec.specs.Translation.{Pin, Translation}
+use Rattle.ufs_spec.specs.declared.layer.Reader.{Reader}
+use Rattle.ufs_spec.specs.declared.layer.Reader.TheVariants.{ForNobody, ForRest, ForStep, ForTask}
 use Rattle.device.specs.Describes.{wanted_kept}
 use Rattle.device.proofs.open_tasks.ReadProgress.{want_other_index, want_other_tag, want_set, wanted_gone, wanted_left}
 

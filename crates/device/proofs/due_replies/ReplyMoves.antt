@@ -14,10 +14,8 @@ use Rattle.ufs_spec.specs.Refusals.{State, locked}
 use Rattle.ufs_spec.specs.Exchanges.{most_tasks}
 use Rattle.ufs_spec.specs.Translation.{Pin, Translation}
 use Rattle.power_loss.proofs.open_tasks.TaskLists.{found_task}
-use Rattle.ftl_core.specs.Core.{Core}
-use Rattle.ftl_core.specs.Describes as layer_kept
-use Rattle.ftl_core.specs.Moves.{claims_for}
-use Rattle.write_cache.specs.declared.slots.Claimed.{Claimed}
+use Rattle.ftl_core.specs.Public as layer_kept
+use Rattle.ftl_core.specs.Public.{AreClaimed, Core}
 use Rattle.task_set.specs.declared.tasks.Phase.{Phase}
 use Rattle.task_set.specs.declared.tasks.Phase.TheVariants as phase
 use Rattle.task_set.specs.declared.tasks.Sending.{Sending}
@@ -25,7 +23,7 @@ use Rattle.task_set.specs.declared.tasks.TaskEvent.{TaskEvent}
 use Rattle.task_set.specs.declared.tasks.TaskEvent.TheVariants as event
 use Rattle.task_set.specs.Kept.{OpenTask}
 use Rattle.device.specs.Describes.{Describes, IsDoing, IsTold, IsToldIn, Keeps, TasksKept}
-use Rattle.device.specs.Describes.{claims_by, claims_in, read_in, wanted_by, wanted_in, wanted_kept}
+use Rattle.device.specs.Describes.{claimed_by, claimed_in, claims_of, read_in, wanted_by, wanted_in, wanted_kept}
 use Rattle.task_set.specs.Lists.{task_happened}
 use Rattle.task_set.specs.Tasks.{block_after, next_sending, phase_after, sent_next, task_after}
 use Rattle.device.specs.Hears.{with_event}
@@ -33,7 +31,8 @@ use Rattle.device.specs.Kept.{DeviceCore}
 use Rattle.device.specs.Replies.{without_task}
 use Rattle.device.proofs.described.Answered.{IsBehind}
 use Rattle.device.proofs.open_tasks.OpenTasks.{IsOpen, one_changed, one_gone}
-use Rattle.device.proofs.open_tasks.KeptByTag.{KeptFor, KeptForAll, all_kept, deed_changed, one_goes}
+use Rattle.device.proofs.open_tasks.KeptByTag.{WantedFor, WantedForAll, claimed_same, claims_left, claims_set}
+use Rattle.device.proofs.open_tasks.KeptByTag.{deed_changed, one_goes}
 use Rattle.device.proofs.due_replies.PinsLetGo.{gone_pins, next_of_others, other_pins, with_next}
 
 -- What stays
@@ -49,10 +48,10 @@ set_told n tag deed us new h =
     by x k false = k
 
 -- a deed that says as much of blocks as another
-pub record SaysAsMuch (tag : ℕ) (old new : Deed) : Type 0 where
+pub record SaysAsMuch (old new : Deed) : Type 0 where
   pub wanted : (index : ℕ) → wanted_in index old ≡ wanted_in index new
   pub read : read_in old ≡ read_in new
-  pub claims : claims_in tag old ≡ claims_in tag new
+  pub claimed : claimed_in old ≡ claimed_in new
 
 abbrev pub with_held : Translation → ℕ → Translation
 with_held t held = record t { ledger = record t.ledger { held = held } }
@@ -94,25 +93,21 @@ module _ (d : DeviceCore) (s : State) (k : ℕ) (a : OpenTask) (b : exchange.Tas
         read = ap (λ q. block_after e q a.block) is ∙ read;
       }))
 
-  -- what its tag has claimed stays
-  claims_stay : (after : Core) (claims : List Claimed) → claims_for after ≡ claims_for d.ftl →
-      claims_in b.tag b.deed ≡ claims → claims_for after b.tag ≡ claims
-  claims_stay after claims same is =
-      ap (λ (f : ℕ → List Claimed). f b.tag) same ∙ (h.kept.claims b.tag ∙ (ap (claims_by b.tag) found ∙ is))
+  -- what the tags have claimed stays
+  same_claims : (deed : Deed) → claimed_in b.deed ≡ claimed_in deed →
+      claims_of (map (with_deed b.tag deed) s.tasks) ≡ claims_of s.tasks
+  same_claims deed same =
+      claims_set s.tasks b.tag b deed found
+      ∙ claimed_same (claims_of s.tasks) b.tag (claimed_in deed) (ap claimed_by found ∙ same)
 
-  -- what is kept for each tag, where only that of this one changes
-  set_kept : (pins : List Pin) (after : Core) (deed : Deed) →
-      claims_for after ≡ claims_for d.ftl → KeptFor pins after b.tag (Some (record b { deed = deed })) →
+  -- what is wanted for each tag, where only that of this one changes
+  set_wanted : (pins : List Pin) (deed : Deed) → WantedFor pins b.tag (Some (record b { deed = deed })) →
       ((n index : ℕ) → (n == b.tag) ≡ false →
       wanted_kept pins n index ≡ wanted_kept s.translation.pins n index) →
-      KeptForAll pins after (map (with_deed b.tag deed) s.tasks)
-  set_kept pins after deed claims this wanted =
-      deed_changed s.translation.pins pins d.ftl after s.tasks b.tag b deed (all_kept d s h.kept) found
-      this
-      (λ n other. record {
-        wanted = λ index. wanted n index other;
-        claims = ap (λ (f : ℕ → List Claimed). f n) claims;
-      })
+      WantedForAll pins (map (with_deed b.tag deed) s.tasks)
+  set_wanted pins deed this wanted =
+      deed_changed s.translation.pins pins s.tasks b.tag b deed h.kept.wanted found this
+      (λ n other index. wanted n index other)
 
   pub few_set : (deed : Deed) → length (map (with_deed b.tag deed) s.tasks) ≤ most_tasks
   few_set deed = subst (λ n. n ≤ most_tasks) (sym (length-map s.tasks (with_deed b.tag deed))) h.kept.few
@@ -129,7 +124,7 @@ module _ (d : DeviceCore) (s : State) (k : ℕ) (a : OpenTask) (b : exchange.Tas
       twice false = refl
 
   -- it goes, and keeps nothing
-  pub goes : (after : Core) (held : ℕ) → claims_for after ≡ claims_for d.ftl → claims_in b.tag b.deed ≡ [] →
+  pub goes : (after : Core) (held : ℕ) → AreClaimed after (claims_of s.tasks) → claimed_in b.deed ≡ [] →
       layer_kept.Describes after (moved (with_held s.translation held) (LetGoAll a.tag)) →
       Keeps (with_layer after (without_task d k))
       (task_goes_on (record s { translation = with_held s.translation held }) b None)
@@ -144,8 +139,14 @@ module _ (d : DeviceCore) (s : State) (k : ℕ) (a : OpenTask) (b : exchange.Tas
         few = few_gone;
         tasks = one_gone (before_accepted s.translation.ledger) k d.tasks s.tasks b h.kept.tasks
             h.tied.tasks.tasks_differ o.theirs;
-        wanted = λ n. (kept n).wanted;
-        claims = λ n. (kept n).claims;
+        wanted =
+            one_goes s.translation.pins pins s.tasks b.tag h.kept.wanted
+            (λ index. gone_pins b.tag index s.translation.pins)
+            (λ n other index. other_pins b.tag n index s.translation.pins other);
+        claims =
+            subst (AreClaimed after)
+            (sym (claims_left s.tasks b.tag
+            ∙ claimed_same (claims_of s.tasks) b.tag [] (ap claimed_by found ∙ none))) claims;
         shorts = h.kept.shorts;
         power_off = h.kept.power_off;
       })
@@ -157,26 +158,14 @@ module _ (d : DeviceCore) (s : State) (k : ℕ) (a : OpenTask) (b : exchange.Tas
       pins : List Pin
       pins = filter (λ pin. not (pin.tag == b.tag)) s.translation.pins
 
-      kept : KeptForAll pins after (exchange.without_task b.tag s.tasks)
-      kept =
-          one_goes s.translation.pins pins d.ftl after s.tasks b.tag (all_kept d s h.kept)
-          (record {
-            wanted = λ index. gone_pins b.tag index s.translation.pins;
-            claims = claims_stay after [] claims none;
-          })
-          (λ n other. record {
-            wanted = λ index. other_pins b.tag n index s.translation.pins other;
-            claims = ap (λ (f : ℕ → List Claimed). f n) claims;
-          })
-
   pub told_gone : locked s ≡ true → All (IsTold (durable s)) (exchange.without_task b.tag s.tasks)
   told_gone lock = All-filter (λ x. not (exchange.is_task_of b.tag x)) (IsTold (durable s)) s.tasks (h.told lock)
 
   -- what happened changes no block of it, and tells as much of blocks, over the layer as it is
   pub does_now : (after : Core) (e : TaskEvent) (p : Phase) (deed : Deed) → a.phase ≡ p →
       IsDoing (before_accepted s.translation.ledger) a.expected b.length (phase_after p e) deed →
-      block_after e p a.block ≡ a.block → SaysAsMuch b.tag b.deed deed →
-      IsToldIn (durable s) deed → layer_kept.Describes after s.translation → claims_for after ≡ claims_for d.ftl →
+      block_after e p a.block ≡ a.block → SaysAsMuch b.deed deed →
+      IsToldIn (durable s) deed → layer_kept.Describes after s.translation → AreClaimed after (claims_of s.tasks) →
       IsBehind (with_layer after (with_event d k e)) (set_deed s b.tag deed)
   does_now after e p deed is doing stays same told layer claims = record {
     keeps = record {
@@ -184,33 +173,27 @@ module _ (d : DeviceCore) (s : State) (k : ℕ) (a : OpenTask) (b : exchange.Tas
       layer_kept = layer;
       few = few_set deed;
       tasks = happened_to e p deed is doing (stays ∙ (o.kept.read ∙ same.read));
-      wanted = λ n. (kept n).wanted;
-      claims = λ n. (kept n).claims;
+      wanted =
+          set_wanted s.translation.pins deed
+          (λ index. h.kept.wanted b.tag index ∙ (ap (wanted_by index) found ∙ same.wanted index))
+          (λ n index other. refl);
+      claims = subst (AreClaimed after) (sym (same_claims deed same.claimed)) claims;
       shorts = h.kept.shorts;
       power_off = h.kept.power_off;
     };
     told = λ lock. set_told (durable s) b.tag deed s.tasks told (h.told lock);
   }
-    where
-      kept : KeptForAll s.translation.pins after (map (with_deed b.tag deed) s.tasks)
-      kept =
-          set_kept s.translation.pins after deed claims
-          (record {
-            wanted = λ index. h.kept.wanted b.tag index ∙ (ap (wanted_by index) found ∙ same.wanted index);
-            claims = claims_stay after (claims_in b.tag deed) claims same.claims;
-          })
-          (λ n index other. refl)
 
   -- its next block was handed out
   pub sends : (after : Core) (n : ℕ) (x : Sending) (deed : Deed) → a.phase ≡ phase.SendBlocks x →
       IsDoing (before_accepted s.translation.ledger) a.expected b.length (sent_next x (next_sending x)) deed →
       IsToldIn (durable s) deed →
       ((index : ℕ) → wanted_kept (with_next b.tag n s.translation.pins) b.tag index ≡ wanted_in index deed) →
-      read_in deed ≡ None → claims_in b.tag b.deed ≡ claims_in b.tag deed → claims_for after ≡ claims_for d.ftl →
+      read_in deed ≡ None → claimed_in b.deed ≡ claimed_in deed → AreClaimed after (claims_of s.tasks) →
       layer_kept.Describes after (sent_layer s.translation a.tag n) →
       IsBehind (with_layer after (with_event d k event.BlockSent))
       (set_deed (record s { translation = sent_layer s.translation b.tag n }) b.tag deed)
-  sends after n x deed is doing told wanted read claims_same claims layer =
+  sends after n x deed is doing told wanted read same claims layer =
       subst
       (λ tag. layer_kept.Describes after (sent_layer s.translation tag n) →
       IsBehind (with_layer after (with_event d k event.BlockSent))
@@ -222,20 +205,13 @@ module _ (d : DeviceCore) (s : State) (k : ℕ) (a : OpenTask) (b : exchange.Tas
           layer_kept = its;
           few = few_set deed;
           tasks = happened_to event.BlockSent (phase.SendBlocks x) deed is doing (sym read);
-          wanted = λ tag. (kept tag).wanted;
-          claims = λ tag. (kept tag).claims;
+          wanted =
+              set_wanted (with_next b.tag n s.translation.pins) deed wanted
+              (λ tag index other. next_of_others b.tag n tag index s.translation.pins other);
+          claims = subst (AreClaimed after) (sym (same_claims deed same)) claims;
           shorts = h.kept.shorts;
           power_off = h.kept.power_off;
         };
         told = λ lock. set_told (durable s) b.tag deed s.tasks told (h.told lock);
       })
       layer
-    where
-      kept : KeptForAll (with_next b.tag n s.translation.pins) after (map (with_deed b.tag deed) s.tasks)
-      kept =
-          set_kept (with_next b.tag n s.translation.pins) after deed claims
-          (record {
-            wanted = wanted;
-            claims = claims_stay after (claims_in b.tag deed) claims claims_same;
-          })
-          (λ tag index other. next_of_others b.tag n tag index s.translation.pins other)

@@ -13,8 +13,7 @@ use Rattle.ufs_spec.specs.Exchanges.{Answering, Awaiting, Deed, Gathering, Good,
 use Rattle.ufs_spec.specs.Exchanges.{Sending}
 use Rattle.ufs_spec.specs.Exchanges.{SendingBytes, Unread, WasRead, bytes_sent, count_at, ready_message, response}
 use Rattle.ufs_spec.specs.Exchanges.{task_of}
-use Rattle.ufs_spec.specs.Ledger as ledger
-use Rattle.ufs_spec.specs.Ledger.{Entry, InSlot, Ledger, Name, OnPage, Unwritten, before_accepted, entry_of}
+use Rattle.ufs_spec.specs.Ledger.{Entry, Ledger, before_accepted, entry_of}
 use Rattle.ufs_spec.specs.Machine as machine
 use Rattle.ufs_spec.specs.Machine.{block_reply, deed_reply, is_at_hand, needs_no_read, next_block_reply}
 use Rattle.ufs_spec.specs.Moves.{is_pin_of}
@@ -22,13 +21,16 @@ use Rattle.ufs_spec.specs.Refusals.{State, numbers_of}
 use Rattle.ufs_spec.specs.Translation as layer
 use Rattle.ufs_spec.specs.Translation.{Pin, is_mended}
 use Rattle.ufs_spec.specs.declared.flash.Key.{Key}
+use Rattle.ufs_spec.specs.declared.layer.Looked.{Looked}
+use Rattle.ufs_spec.specs.declared.layer.Looked.TheVariants.{InSlot, OnPage, Unwritten}
+use Rattle.ufs_spec.specs.declared.layer.Name.{Name}
 use Rattle.ufs_spec.specs.declared.messages.Message.{Message}
 use Rattle.ufs_spec.specs.declared.messages.Message.TheVariants as message
 use Rattle.power_loss.specs.Shown.{IsShown, ShowsBlock, ShowsRight}
 use Rattle.power_loss.proofs.open_tasks.FoundInLists.{found_is}
 use Rattle.power_loss.proofs.books.SmallFacts.{if_false, if_true, two_ways}
 use Rattle.power_loss.proofs.ordered_lists.ElementsAndOrders.{all_in, found_in}
-use Rattle.ftl_core.specs.Limits.{in_this_stage}
+use Rattle.ftl_core.specs.Public.{in_this_stage}
 use Rattle.task_set.specs.declared.tasks.Phase.{Phase}
 use Rattle.task_set.specs.declared.tasks.Phase.TheVariants as phase
 use Rattle.task_set.specs.declared.tasks.Sending.{Sending as Sends}
@@ -89,7 +91,7 @@ module _ (l : Ledger) (read : Option (List ℕ)) (a : Task) (b : exchange.Task) 
       ∙ sym (ap (λ (e : Option Entry). option_map (block_message a x) (option_map (λ (y : Entry). y.item.body) e))
       shown.is)
 
-  in_hand : (state : ReadState) (kept : ledger.Looked) → IsShown l key kept body → is_lost state ≡ false →
+  in_hand : (state : ReadState) (kept : Looked) → IsShown l key kept body → is_lost state ≡ false →
       read ≡ read_by body state →
       block_reply b sent body state (needs_no_read [] kept) ≡ option_map (block_message a x)
       (block_at l read kept)

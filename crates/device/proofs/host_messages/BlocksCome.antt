@@ -2,7 +2,7 @@
 -- it was not written where the device is locked.
 use Rattle.std.proofs.Common.{◌≡◌, ◌∙◌, ℕ, ◌+◌, ◌*◌, ◌<◌, Bool, true, false, cond, List, [], ◌∷◌, ◌++◌, Some}
 use Rattle.std.proofs.Common.{None, length, map, refl, sym, ap, subst, arith}
-use Rattle.std.specs.Prelude.{nat_lt, slice_get}
+use Rattle.std.specs.Prelude.{nat_lt, slice_get, slice_set}
 use Rattle.std.proofs.lemmas.Bool.{le-ltb, lt-ltb, ltb-false, ltb-true}
 use Rattle.std.proofs.lemmas.List.{length-append, length-map}
 use Rattle.ufs_spec.specs.Commands.{Command}
@@ -25,27 +25,24 @@ use Rattle.power_loss.proofs.host_commands.WriteData.{MayAccept as MayWrite, acc
 use Rattle.power_loss.proofs.host_commands.WriteData.{length-blocks_in}
 use Rattle.power_loss.proofs.open_tasks.TaskLists.{found_fits}
 use Rattle.power_loss.proofs.stops.SealedCells.{ranges_of}
-use Rattle.ftl_core.specs.Core.{Core}
-use Rattle.ftl_core.specs.Describes as layer_kept
-use Rattle.ftl_core.specs.Moves.{claims_for}
-use Rattle.write_cache.specs.Slots.{claim_filled}
-use Rattle.ftl_core.specs.Tells.{claims_of_blocks, group_of_blocks}
+use Rattle.ftl_core.specs.Public as layer_kept
+use Rattle.ftl_core.specs.Public.{AreClaimed, Claims, Core, group_of_blocks, with_block, with_claimed}
 use Rattle.task_set.specs.declared.tasks.Phase.TheVariants as phase
 use Rattle.task_set.specs.declared.tasks.TaskEvent.{TaskEvent}
 use Rattle.task_set.specs.declared.tasks.TaskEvent.TheVariants as event
 use Rattle.task_set.specs.declared.tasks.Transfer.{Transfer}
-use Rattle.device.specs.Calls.{HasFilled, HasGathered, HasGatheredThen, HasTaken, MayAccept, OthersClaim}
-use Rattle.device.specs.Describes.{Describes, IsDoing, Keeps, TasksKept, blocks_gathered, claims_by, claims_in}
-use Rattle.device.specs.Describes.{read_in, wanted_by, wanted_in}
+use Rattle.device.specs.Calls.{HasGathered, HasGatheredThen, HasTaken, MayAccept, taken_move}
+use Rattle.device.specs.Describes.{Describes, IsDoing, Keeps, TasksKept, blocks_gathered, claimed_by, claimed_in}
+use Rattle.device.specs.Describes.{claims_of, read_in, wanted_by, wanted_in}
 use Rattle.device.specs.Hears.{with_event}
-use Rattle.device.specs.Kept.{DeviceCore}
+use Rattle.device.specs.Kept.{DeviceCore, IsLayerWith}
 use Rattle.task_set.specs.Lists.{task_happened}
 use Rattle.task_set.specs.Tasks.{asked_next, block_after, group_done, phase_after}
 use Rattle.device.proofs.due_replies.ReplyMoves.{few_set, happened_to}
 use Rattle.device.proofs.host_messages.GroupOfBlocks.{group_written, permanent_still}
 use Rattle.device.proofs.host_messages.NumbersAwaited.{number_awaited}
 use Rattle.device.proofs.host_messages.SlotsFilled.{all_came, next_filled}
-use Rattle.device.proofs.open_tasks.KeptByTag.{KeptForAll, all_kept, deed_changed, others_claim}
+use Rattle.device.proofs.open_tasks.KeptByTag.{WantedForAll, claimed_last, claimed_own, claims_set, deed_changed}
 use Rattle.device.proofs.open_tasks.OpenTasks.{Stands}
 
 -- the task gathers the data of these blocks, and so many came
@@ -84,9 +81,9 @@ write_sends : (forced : Bool) (position n : ℕ) → SendsNone (write_deed force
 write_sends true position n = record { wanted = λ index. refl; read = refl }
 write_sends false position n = record { wanted = λ index. refl; read = refl }
 
-write_claims : (tag : ℕ) (forced : Bool) (position n : ℕ) → claims_in tag (write_deed forced position n) ≡ []
-write_claims tag true position n = refl
-write_claims tag false position n = refl
+write_claims : (forced : Bool) (position n : ℕ) → claimed_in (write_deed forced position n) ≡ []
+write_claims true position n = refl
+write_claims false position n = refl
 
 module _ (d : DeviceCore) (s : State) (tag : ℕ) (bytes : List ℕ) (x : Transfer) (h : Describes d s)
     (r : Stands (before_accepted s.translation.ledger) tag d.tasks s.tasks) (at : r.a.phase ≡ phase.AwaitData x)
@@ -130,47 +127,44 @@ module _ (d : DeviceCore) (s : State) (tag : ℕ) (bytes : List ℕ) (x : Transf
 
   -- What is kept for the tags
 
-  tags_kept : (after : Core) (deed : Deed) → SendsNone deed → claims_for after r.b.tag ≡ claims_in r.b.tag deed →
-      OthersClaim d.ftl after r.b.tag →
-      KeptForAll s.translation.pins after (map (with_deed r.b.tag deed) s.tasks)
-  tags_kept after deed none claims others =
-      deed_changed s.translation.pins s.translation.pins d.ftl after s.tasks r.b.tag r.b deed
-      (all_kept d s h.kept) found
-      (record {
-        wanted =
-            λ index.
-            h.kept.wanted r.b.tag index
-            ∙ (ap (wanted_by index) found ∙ (ap (wanted_in index) g.deed_is ∙ sym (none.wanted index)));
-        claims = claims;
-      })
-      (λ n other. record {
-        wanted = λ index. refl;
-        claims = others_claim d.ftl after r.b.tag n others other;
-      })
+  still_wanted : (deed : Deed) → SendsNone deed →
+      WantedForAll s.translation.pins (map (with_deed r.b.tag deed) s.tasks)
+  still_wanted deed none =
+      deed_changed s.translation.pins s.translation.pins s.tasks r.b.tag r.b deed h.kept.wanted found
+      (λ index.
+      h.kept.wanted r.b.tag index
+      ∙ (ap (wanted_by index) found ∙ (ap (wanted_in index) g.deed_is ∙ sym (none.wanted index))))
+      (λ n other index. refl)
+
+  -- the claims where its tag has claimed these blocks, and those with the block that came
+  abbrev claiming : List (List ℕ) → Claims
+  claiming = with_claimed (claims_of s.tasks) r.b.tag
+
+  abbrev claims_now : Claims
+  claims_now = with_block (claims_of s.tasks) r.b.tag x.gathered bytes
+
+  its_claims : (after : Core) (deed : Deed) (blocks : List (List ℕ)) → claimed_in deed ≡ blocks →
+      AreClaimed after (claiming blocks) → AreClaimed after (claims_of (map (with_deed r.b.tag deed) s.tasks))
+  its_claims after deed blocks is =
+      subst (AreClaimed after) (sym (claims_set s.tasks r.b.tag r.b deed found ∙ ap claiming is))
 
   -- the block lies in its slot
-  slots_filled : (after : Core) → HasFilled d.ftl after s.translation r.b.tag x.gathered bytes →
-      claims_for after r.b.tag ≡ claims_of_blocks r.b.tag (blocks_gathered x.blocks all)
-  slots_filled after filled =
-      filled.claims
-      ∙ (ap (map (claim_filled r.b.tag x.gathered bytes))
-      (h.kept.claims r.b.tag ∙ (ap (claims_by r.b.tag) found ∙ ap (claims_in r.b.tag) g.deed_is))
-      ∙ next_filled r.b.tag x.blocks x.gathered g.gathered bytes g.more g.came long)
+  slots_filled : claims_now ≡ claiming (blocks_gathered x.blocks all)
+  slots_filled =
+      ap (λ blocks. claiming (slice_set blocks x.gathered bytes)) (ap claimed_by found ∙ ap claimed_in g.deed_is)
+      ∙ ap claiming (next_filled x.blocks x.gathered g.gathered bytes g.more g.came long)
 
   -- A block that is not the last
 
   abbrev next : Transfer
   next = record x { gathered = x.gathered + 1 }
 
-  more_keeps : (after : Core) → HasFilled d.ftl after s.translation r.b.tag x.gathered bytes →
-      x.gathered + 1 < x.blocks →
+  more_keeps : (after : Core) → IsLayerWith after s.translation claims_now → x.gathered + 1 < x.blocks →
       Keeps (core_with after event.BlockGathered) (set_deed s r.b.tag (Gathering purpose all false))
-  more_keeps after filled more =
-      let tags = tags_kept after (Gathering purpose all false) (record { wanted = λ index. refl; read = refl })
-      (slots_filled after filled) filled.others in
+  more_keeps after layer more =
       record {
         permanent = h.kept.permanent;
-        layer_kept = filled.layer;
+        layer_kept = layer.0;
         few = few_set d s r.k r.a r.b h r.opened (Gathering purpose all false);
         tasks =
             does event.BlockGathered (Gathering purpose all false)
@@ -186,8 +180,10 @@ module _ (d : DeviceCore) (s : State) (tag : ℕ) (bytes : List ℕ) (x : Transf
               },
               refl,
             )) refl (ap read_in g.deed_is);
-        wanted = λ n. (tags n).wanted;
-        claims = λ n. (tags n).claims;
+        wanted = still_wanted (Gathering purpose all false) (record { wanted = λ index. refl; read = refl });
+        claims =
+            its_claims after (Gathering purpose all false) (blocks_gathered x.blocks all) refl
+            (subst (AreClaimed after) slots_filled layer.1);
         shorts = h.kept.shorts;
         power_off = h.kept.power_off;
       }
@@ -248,12 +244,10 @@ module _ (d : DeviceCore) (s : State) (tag : ℕ) (bytes : List ℕ) (x : Transf
 
     -- a locked device gives the slots back
     refused_keeps : (after : Core) → layer_kept.Describes after (moved s.translation (Release (length bodies))) →
-        claims_for after r.b.tag ≡ [] → OthersClaim d.ftl after r.b.tag →
+        AreClaimed after (claiming []) →
         Keeps (core_with after event.GroupRefused)
         (set_deed (with_moves s (Release x.blocks ∷ [])) r.b.tag (Answering exchange.write_error r.b.length))
-    refused_keeps after layer none others =
-        let tags = tags_kept after (Answering exchange.write_error r.b.length)
-        (record { wanted = λ index. refl; read = refl }) none others in
+    refused_keeps after layer claims =
         record {
           permanent = h.kept.permanent;
           layer_kept = subst (λ n. layer_kept.Describes after (moved s.translation (Release n))) count layer;
@@ -261,8 +255,9 @@ module _ (d : DeviceCore) (s : State) (tag : ℕ) (bytes : List ℕ) (x : Transf
           tasks =
               does event.GroupRefused (Answering exchange.write_error r.b.length) (refl, g.total_is) refl
               (ap read_in g.deed_is);
-          wanted = λ n. (tags n).wanted;
-          claims = λ n. (tags n).claims;
+          wanted =
+              still_wanted (Answering exchange.write_error r.b.length) (record { wanted = λ index. refl; read = refl });
+          claims = its_claims after (Answering exchange.write_error r.b.length) [] refl claims;
           shorts = h.kept.shorts;
           power_off = h.kept.power_off;
         }
@@ -271,19 +266,16 @@ module _ (d : DeviceCore) (s : State) (tag : ℕ) (bytes : List ℕ) (x : Transf
     taken_does : (fua : Bool) → IsDoing (before_accepted s.translation.ledger) r.a.expected r.b.length
         (group_done fua (next_number s.translation.ledger) (4096 * x.blocks))
         (write_deed fua (length s.accepted + 1) r.b.length)
-    taken_does true = (number_awaited s h.tied h.kept.layer_kept.valid.history.within, g.total_is)
+    taken_does true = (number_awaited s h.tied, g.total_is)
     taken_does false = (refl, g.total_is)
 
     accepted_keeps : (after : Core) →
         layer_kept.Describes after
         (moved s.translation (Accept (length bodies) (group_of_blocks (data_key g.unit g.address) bodies))) →
-        claims_for after r.b.tag ≡ [] → OthersClaim d.ftl after r.b.tag →
+        AreClaimed after (claiming []) →
         Keeps (core_with after (event.GroupAccepted (next_number s.translation.ledger)))
         (set_deed (accepts s written x.blocks) r.b.tag (write_deed x.forced (length s.accepted + 1) r.b.length))
-    accepted_keeps after layer none others =
-        let tags = tags_kept after (write_deed x.forced (length s.accepted + 1) r.b.length)
-        (write_sends x.forced (length s.accepted + 1) r.b.length)
-        (none ∙ sym (write_claims r.b.tag x.forced (length s.accepted + 1) r.b.length)) others in
+    accepted_keeps after layer claims =
         record {
           permanent = h.kept.permanent ∙ sym (permanent_still s.base s.accepted g.unit g.address bodies);
           layer_kept = subst (λ (m : Move). layer_kept.Describes after (moved s.translation m)) (sym move_is) layer;
@@ -292,28 +284,44 @@ module _ (d : DeviceCore) (s : State) (tag : ℕ) (bytes : List ℕ) (x : Transf
               does (event.GroupAccepted (next_number s.translation.ledger))
               (write_deed x.forced (length s.accepted + 1) r.b.length) (taken_does x.forced) refl
               (ap read_in g.deed_is ∙ sym (write_sends x.forced (length s.accepted + 1) r.b.length).read);
-          wanted = λ n. (tags n).wanted;
-          claims = λ n. (tags n).claims;
+          wanted =
+              still_wanted (write_deed x.forced (length s.accepted + 1) r.b.length)
+              (write_sends x.forced (length s.accepted + 1) r.b.length);
+          claims =
+              its_claims after (write_deed x.forced (length s.accepted + 1) r.b.length) []
+              (write_claims x.forced (length s.accepted + 1) r.b.length) claims;
           shorts = h.kept.shorts;
           power_off = h.kept.power_off;
         }
 
     -- the data complete the WRITE
-    completes : (between after : Core) (e : TaskEvent) →
-        HasFilled d.ftl between s.translation r.b.tag x.gathered bytes →
-        HasTaken between after s.translation r.b.tag (data_key g.unit g.address) e →
-        Keeps (core_with after e)
-        (write_complete s r.b g.unit g.address x.blocks x.forced all)
-    completes between after e filled taken = by (locked s) refl
+    completes : (after : Core) (e : TaskEvent) →
+        HasTaken after s.translation claims_now r.b.tag (data_key g.unit g.address) e →
+        Keeps (core_with after e) (write_complete s r.b g.unit g.address x.blocks x.forced all)
+    completes after e took = by (locked s) refl
       where
-        claimed : claims_for between r.b.tag ≡ claims_of_blocks r.b.tag bodies
-        claimed =
-            slots_filled between filled
-            ∙ ap (claims_of_blocks r.b.tag)
-            (all_came x.blocks all (let came = all_length in omega arith))
+        -- all its blocks lie in its slots
+        taken : HasTaken after s.translation (claiming bodies) r.b.tag (data_key g.unit g.address) e
+        taken =
+            subst (λ claims. HasTaken after s.translation claims r.b.tag (data_key g.unit g.address) e)
+            (slots_filled ∙ ap claiming (all_came x.blocks all (let came = all_length in omega arith))) took
 
-        others : OthersClaim d.ftl after r.b.tag
-        others n differ = taken.others n differ ∙ filled.others n differ
+        own : claiming bodies r.b.tag ≡ bodies
+        own = claimed_own (claims_of s.tasks) r.b.tag bodies
+
+        its : IsLayerWith after (moved s.translation (taken_move s.translation (data_key g.unit g.address) bodies))
+            (claiming [])
+        its =
+            subst
+            (λ claims. IsLayerWith after
+            (moved s.translation (taken_move s.translation (data_key g.unit g.address) bodies)) claims)
+            (claimed_last (claims_of s.tasks) r.b.tag bodies [])
+            (subst
+            (λ blocks. IsLayerWith after
+            (moved s.translation (taken_move s.translation (data_key g.unit g.address) blocks))
+            (with_claimed (claiming bodies) r.b.tag [])) own
+            (taken.layer (λ free. subst (MayAccept s.translation (data_key g.unit g.address)) (sym own)
+            (may_accept free))))
 
         event_at : (b : Bool) → locked s ≡ b →
             e ≡ cond b event.GroupRefused (event.GroupAccepted (next_number s.translation.ledger))
@@ -326,7 +334,7 @@ module _ (d : DeviceCore) (s : State) (tag : ℕ) (bytes : List ℕ) (x : Transf
             subst
             (λ c. layer_kept.Describes after (moved s.translation (cond c (Release (length bodies))
             (Accept (length bodies) (group_of_blocks (data_key g.unit g.address) bodies)))))
-            is (taken.layer bodies claimed may_accept)
+            is its.0
 
         by : (b : Bool) → locked s ≡ b → Keeps (core_with after e)
             (cond b
@@ -337,30 +345,30 @@ module _ (d : DeviceCore) (s : State) (tag : ℕ) (bytes : List ℕ) (x : Transf
             subst
             (λ (y : TaskEvent). Keeps (core_with after y)
             (set_deed (with_moves s (Release x.blocks ∷ [])) r.b.tag (Answering exchange.write_error r.b.length)))
-            (sym (event_at true is)) (refused_keeps after (layer_at true is) taken.claims others)
+            (sym (event_at true is)) (refused_keeps after (layer_at true is) its.1)
         by false is =
             subst
             (λ (y : TaskEvent). Keeps (core_with after y)
             (set_deed (accepts s written x.blocks) r.b.tag
             (write_deed x.forced (length s.accepted + 1) r.b.length)))
-            (sym (event_at false is)) (accepted_keeps after (layer_at false is) taken.claims others)
+            (sym (event_at false is)) (accepted_keeps after (layer_at false is) its.1)
 
   -- Either
 
   abbrev Then : Core → TaskEvent → Bool → Type 0
-  Then after e more = HasGatheredThen d.ftl after s.translation r.b.tag x bytes e (cond more (Some next) None)
+  Then after e more = HasGatheredThen after s.translation claims_now r.b.tag x.key e (cond more (Some next) None)
 
   abbrev heard_at : Bool → State
   heard_at more = cond more (set_deed s r.b.tag (Gathering purpose all false))
       (write_complete s r.b g.unit g.address x.blocks x.forced all)
 
   pub block_keeps : AreBytes bytes → (after : Core) (e : TaskEvent) →
-      HasGathered d.ftl after s.translation tag x bytes e →
+      HasGathered after s.translation (claims_of s.tasks) tag x bytes e →
       Keeps (core_with after e) (data_heard s (task_of tag s.tasks) bytes)
   block_keeps are after e did =
       subst (Keeps (core_with after e)) (sym path)
       (by (nat_lt (x.gathered + 1) x.blocks) refl (subst
-      (λ n. HasGathered d.ftl after s.translation n x bytes e) (sym r.tag_is) did))
+      (λ n. HasGathered after s.translation (claims_of s.tasks) n x bytes e) (sym r.tag_is) did))
     where
       path : data_heard s (task_of tag s.tasks) bytes ≡ gathered_more s r.b purpose all
       path = ap (λ o. data_heard s o bytes) r.found ∙ ap (λ (deed : Deed). data_for s r.b deed bytes) g.deed_is
@@ -387,5 +395,5 @@ module _ (d : DeviceCore) (s : State) (tag : ℕ) (bytes : List ℕ) (x : Transf
           subst
           (λ b. Keeps (core_with after e) (heard_at b))
           (sym (le-ltb (length all) r.b.length (omega arith)))
-          (completes are (omega arith) its.0 after e its.1
-          (subst (λ (k : Key). HasTaken its.0 after s.translation r.b.tag k e) g.key_is its.2))
+          (completes are (omega arith) after e
+          (subst (λ (k : Key). HasTaken after s.translation claims_now r.b.tag k e) g.key_is its))

@@ -25,10 +25,8 @@ use Rattle.ufs_spec.specs.declared.configs.UnitSpec.{UnitSpec}
 use Rattle.ufs_spec.specs.declared.scsi.Cdb.{Cdb}
 use Rattle.ufs_spec.specs.declared.scsi.Cdb.TheVariants as cdb
 use Rattle.ufs_laws.proofs.plain_contents.ListParts.{length-made}
-use Rattle.ftl_core.specs.Core.{Core}
-use Rattle.ftl_core.specs.Describes as layer_kept
-use Rattle.ftl_core.specs.Moves.{claims_for}
-use Rattle.ftl_core.specs.Tells.{claims_of_blocks}
+use Rattle.ftl_core.specs.Public as layer_kept
+use Rattle.ftl_core.specs.Public.{AreClaimed, Core, with_claimed}
 use Rattle.task_set.specs.declared.tasks.Phase.{Phase}
 use Rattle.task_set.specs.declared.tasks.Phase.TheVariants as phase
 use Rattle.device.specs.declared.plans.Plan.{Plan}
@@ -38,9 +36,9 @@ use Rattle.task_set.specs.declared.tasks.ShortData.TheVariants as sent
 use Rattle.task_set.specs.declared.tasks.Status as kept_status
 use Rattle.task_set.specs.declared.tasks.Status.TheVariants as status
 use Rattle.task_set.specs.declared.tasks.Transfer.{Transfer}
-use Rattle.device.specs.Describes.{Describes}
-use Rattle.device.specs.Calls.{HasBegun, IsSameLayer, OthersClaim, has_room, has_slots, last_number}
-use Rattle.device.specs.Kept.{DeviceCore}
+use Rattle.device.specs.Describes.{Describes, claims_of}
+use Rattle.device.specs.Calls.{HasBegun, has_room, has_slots, last_number}
+use Rattle.device.specs.Kept.{DeviceCore, IsLayerWith}
 use Rattle.device.specs.Plans.{IsPlanned, Passes, data_plan, plan_of}
 use Rattle.task_set.specs.Tasks.{data_length, status_kept}
 use Rattle.device.specs.Replies.{data_bytes}
@@ -63,12 +61,12 @@ module _ (d : DeviceCore) (s : State) (r : Request) (h : Describes d s) (free : 
 
   -- a task that answers at once
   answer_opened : (command : Option Cdb) (n carried : ℕ) (answer : Status) (told : kept_status.Status) (m : ℕ) →
-      IsSameLayer d.ftl after s.translation → answer ≡ status_kept told → carried ≡ m →
+      IsLayerWith after s.translation (claims_of s.tasks) → answer ≡ status_kept told → carried ≡ m →
       IsBehind (core_opened d r after (phase.Answer told m))
       (machine.with_task s r command n (Answering answer carried))
   answer_opened command n carried answer told m layer same count =
       opens_still d s r h free few after command n (Answering answer carried) _ layer
-      (record { wanted = λ i. refl; claims = refl }) (λ l. tt)
+      (record { wanted = λ i. refl; claimed = refl }) (λ l. tt)
       (record { lun = refl; tag = refl; expected = refl; request = refl; doing = (same, count); read = refl })
 
   -- a WRITE of so many blocks
@@ -82,20 +80,19 @@ module _ (d : DeviceCore) (s : State) (r : Request) (h : Describes d s) (free : 
 
   write_opened : (command : Cdb) (address blocks : ℕ) (forced : Bool) → 1 ≤ blocks →
       layer_kept.Describes after (moved s.translation (Claim blocks)) →
-      claims_for after r.tag ≡ claims_of_blocks r.tag (replicate blocks zero_block) → OthersClaim d.ftl after r.tag →
+      AreClaimed after (with_claimed (claims_of s.tasks) r.tag (replicate blocks zero_block)) →
       IsBehind (core_opened d r after (phase.AskData (transfer_now address blocks forced)))
       (machine.with_task (with_moves s (Claim blocks ∷ [])) r (Some command) (4096 * blocks)
       (gathering address blocks forced))
-  write_opened command address blocks forced some layer own others = record {
+  write_opened command address blocks forced some layer claims = record {
     keeps =
         open_keeps d s r h free few after (moved s.translation (Claim blocks)) (Some command) (4096 * blocks)
         (gathering address blocks forced) _ layer refl
         (record {
           wanted = none_wanted d s r h free few;
-          claims = own ∙ ap (claims_of_blocks r.tag) (none_gathered blocks);
           others_want = λ n i other. refl;
-          others_claim = others;
         })
+        (subst (AreClaimed after) (ap (with_claimed (claims_of s.tasks) r.tag) (none_gathered blocks)) claims)
         (record {
           lun = refl;
           tag = refl;
@@ -111,7 +108,7 @@ module _ (d : DeviceCore) (s : State) (r : Request) (h : Describes d s) (free : 
   -- What the table lets through
 
   abbrev Begins : Result Plan kept_status.Status → Phase → Type 0
-  Begins todo p = HasBegun d.ftl after s.translation r.tag todo p
+  Begins todo p = HasBegun after s.translation (claims_of s.tasks) r.tag todo p
 
   key_told : (address : ℕ) (unit : UnitSpec) → slice_get (numbers_of s).units.items r.lun ≡ Some unit →
       suc address ≤ unit.blocks →
@@ -150,7 +147,7 @@ module _ (d : DeviceCore) (s : State) (r : Request) (h : Describes d s) (free : 
       subst (IsBehind (core_opened d r after p)) (sym state)
       (same_phase p (phase.SendBlocks (sending_now m 0 n)) _ (begun.phase_is
       ∙ ap (λ (x : Bool). if x then phase.SendBlocks (sending_now m 0 n) else phase.Answer status.Busy 0) room)
-      (read_opened d s r h free few after command n address m sent.0 most refl layer begun.claims))
+      (read_opened d s r h free few after command n address m sent.0 most refl layer.0 layer.1))
     where
       n : ℕ
       n = 4096 * blocks
@@ -176,10 +173,11 @@ module _ (d : DeviceCore) (s : State) (r : Request) (h : Describes d s) (free : 
       room : has_room s.translation m ≡ true
       room = pin_has_room d s m h begun.differ few most
 
-      layer : layer_kept.Describes after (fold moved s.translation (keeps s r.tag r.lun address m))
+      layer : IsLayerWith after (fold moved s.translation (keeps s r.tag r.lun address m)) (claims_of s.tasks)
       layer =
-          subst (λ (x : Bool). layer_kept.Describes after
-          (if x then fold moved s.translation (keeps s r.tag r.lun address m) else s.translation)) room
+          subst (λ (x : Bool). IsLayerWith after
+          (if x then fold moved s.translation (keeps s r.tag r.lun address m) else s.translation)
+          (claims_of s.tasks)) room
           (begun.layer (record {
             mended = is_mended;
             of_data = refl;
@@ -209,14 +207,17 @@ module _ (d : DeviceCore) (s : State) (r : Request) (h : Describes d s) (free : 
       (begun.phase_is ∙ ap (λ (x : Bool). if x then phase.AskData (transfer_now address blocks forced)
       else phase.Answer status.Busy 0) left)
       (write_opened command address blocks forced (some_told blocks e)
-      (subst (λ (x : Bool). layer_kept.Describes after (if x then moved s.translation (Claim blocks)
-      else s.translation)) left begun.layer)
-      (subst (λ (x : Bool). claims_for after r.tag
-      ≡ (if x then claims_of_blocks r.tag (replicate blocks zero_block) else [])) left
-      (begun.claims (none_claimed d s r h free few))) begun.others))
+      its.0 its.1))
     where
       left : has_slots s.translation blocks ≡ true
       left = le-leb blocks (free_slots s.translation) slots
+
+      its : IsLayerWith after (moved s.translation (Claim blocks))
+          (with_claimed (claims_of s.tasks) r.tag (replicate blocks zero_block))
+      its =
+          subst (λ (x : Bool). IsLayerWith after (if x then moved s.translation (Claim blocks) else s.translation)
+          (if x then with_claimed (claims_of s.tasks) r.tag (replicate blocks zero_block) else claims_of s.tasks)) left
+          (begun.layer (none_claimed d s r h free few))
 
   -- data that are sent in one message
 
@@ -241,7 +242,7 @@ module _ (d : DeviceCore) (s : State) (r : Request) (h : Describes d s) (free : 
       by false e k =
           same_phase p (phase.SendData x) _ k.0
           (opens_still d s r h free few after (Some command) (data_length x) (SendingBytes (data_bytes x)) _ k.1
-          (record { wanted = λ i. refl; claims = refl }) (λ l. tt)
+          (record { wanted = λ i. refl; claimed = refl }) (λ l. tt)
           (record {
             lun = refl;
             tag = refl;
@@ -263,11 +264,11 @@ module _ (d : DeviceCore) (s : State) (r : Request) (h : Describes d s) (free : 
   flush_begins command false p told begun =
       same_phase p (phase.AwaitFrontier (last_number s.translation.ledger) 0) _ begun.0
       (opens_still d s r h free few after (Some command) 0 (Awaiting (length s.accepted)) _ begun.1
-      (record { wanted = λ i. refl; claims = refl }) told
+      (record { wanted = λ i. refl; claimed = refl }) told
       (record { lun = refl; tag = refl; expected = refl; request = refl; doing = (last, refl); read = refl }))
     where
       last : last_number s.translation.ledger ≡ before_accepted s.translation.ledger + length s.accepted
-      last = let next = number_awaited s h.tied h.kept.layer_kept.valid.history.within in omega arith
+      last = let next = number_awaited s h.tied in omega arith
 
   bytes_of : (blocks : ℕ) → 4096 * blocks ≡ blocks * 4096
   bytes_of blocks = omega arith

@@ -29,8 +29,7 @@ use Rattle.ufs_spec.specs.declared.scsi.Cdb.TheVariants as cdb
 use Rattle.ufs_spec.specs.declared.scsi.Sense.{Sense}
 use Rattle.ufs_spec.specs.declared.scsi.TheConstants.Sense.{INVALID_FIELD, INVALID_OPCODE, NOT_READY, NO_UNIT}
 use Rattle.ufs_spec.specs.declared.scsi.TheConstants.Sense.{OUT_OF_RANGE, WRITE_PROTECTED}
-use Rattle.ftl_core.specs.Core.{Core}
-use Rattle.ftl_core.specs.Describes.{Describes}
+use Rattle.ftl_core.specs.Public.{Core, Describes}
 use Rattle.device.specs.declared.plans.Plan.{Plan}
 use Rattle.task_set.specs.declared.tasks.Status as kept_status
 use Rattle.task_set.specs.declared.tasks.Status.TheVariants as status

@@ -102,7 +102,7 @@ module _ (d : DeviceCore) (s : State) (flags lun tag expected : ℕ) (cdb_bytes 
       (k.plan s (request command.0) h.kept.layer_kept
       (record { power_off = h.kept.power_off; permanent_is = h.kept.permanent })
       (record { flags_are = refl; lun_is = refl; expected_is = refl; bytes_are = refl; spelled = command.1 }))
-      (k.begun s.translation h.kept.layer_kept)))
+      (k.begun s.translation _ (h.kept.layer_kept, h.kept.claims))))
     where
       free : task_of tag s.tasks ≡ None
       free = none_found (is_task_of tag) s.tasks

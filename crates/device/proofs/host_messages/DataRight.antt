@@ -47,7 +47,7 @@ each_right d e s lun tag offset «data» whole asked is result h heard is_is (in
     (answered_told d next e s (call_of lun tag offset «data»)
     (OfHost (Ok tt)) h (whole, heard) (ap (λ (b : Bool). result_of (asked_fault b)) (sym (is_is ∙ told)))
     (block_keeps d s tag «data».items x.transfer h r x.phase_is g x.count_is heard.0.0.3.2 new.layer new.event
-    (new.taken s.translation h.kept.layer_kept))
+    (new.taken s.translation _ (h.kept.layer_kept, h.kept.claims)))
     new.told)
 
 -- bytes that spell a DATA OUT are heard as it, and answered so

@@ -2,7 +2,7 @@
 use Rattle.std.proofs.Common.{◌≡◌, ◌==◌, ℕ, List, [], ◌∷◌, None, Some, refl, sym, ap, subst}
 use Rattle.std.specs.Prelude.{OnErr, OnOk, Result, Err}
 use Rattle.ufs_spec.specs.Machine as machine
-use Rattle.ufs_spec.specs.Machine.{Faulty, Host, IsHeard, OfHost, cdb_of, heard, message_fault, query_unanswered}
+use Rattle.ufs_spec.specs.Machine.{Faulty, Host, IsHeard, OfHost, cdb_of, heard, message_fault}
 use Rattle.ufs_spec.specs.Exchanges.{short_reply}
 use Rattle.ufs_spec.specs.Messages.{IsQueryFunction, Spells, host_fault_of}
 use Rattle.ufs_spec.specs.Refusals.{State}
@@ -17,7 +17,7 @@ use Rattle.task_set.specs.declared.tasks.ShortReply.TheVariants as reply
 use Rattle.device.specs.Describes.{Describes, IsHeardAs}
 use Rattle.device.specs.Hears.{short_answer, with_short}
 use Rattle.device.specs.Kept.{DeviceCore}
-use Rattle.device.specs.Replies.{function_of}
+use Rattle.device.specs.Replies.{function_of, not_queried}
 use Rattle.device.proofs.described.Answered.{answered, stays}
 use Rattle.device.proofs.host_messages.ShortsOpened.{short_heard, spelled_heard}
 
@@ -59,7 +59,7 @@ module _ (d e : DeviceCore) (s : State) (bytes : List ℕ) (answer : Result Unit
   query_right tag function asked size value «data» spells told taken =
       short_heard d e s bytes (message.QueryRequest tag function asked size value «data») None
       (record { tag = tag; reply = reply.NotQueried (function == 0x81) asked }) answer h spells none refl refl
-      (ap (λ (n : ℕ). machine.with_short s (short_reply tag (query_unanswered tag n asked)))
+      (ap (λ (n : ℕ). machine.with_short s (short_reply tag (not_queried tag n asked)))
       (sym (function_is function spells.0.1)))
       told refused taken
 

@@ -1,5 +1,5 @@
 -- A READ opens a task: the device keeps each of the blocks that are sent, and wants the page of the first.
-use Rattle.std.proofs.Common.{◌≡◌, ◌∙◌, ℕ, ◌+◌, ◌<◌, ◌≤◌, ◌==◌, false, true, All, ◌++◌, Option, Some, None}
+use Rattle.std.proofs.Common.{◌≡◌, ℕ, ◌+◌, ◌<◌, ◌≤◌, ◌==◌, false, true, All, ◌++◌, Option, Some, None}
 use Rattle.std.proofs.Common.{length, map, refl, sym, ap, subst}
 use Rattle.std.specs.Prelude.{fold, min, slice_get}
 use Rattle.std.specs.Int.{div_ceil}
@@ -15,18 +15,18 @@ use Rattle.ufs_spec.specs.Refusals.{Request, State, locked, plain_now}
 use Rattle.ufs_spec.specs.Translation.{Pin, Translation}
 use Rattle.ufs_spec.specs.declared.scsi.Cdb.{Cdb}
 use Rattle.ufs_laws.proofs.plain_contents.ListParts.{length-made}
-use Rattle.ftl_core.specs.Core.{Core}
-use Rattle.ftl_core.specs.Describes as layer_kept
-use Rattle.ftl_core.specs.Moves.{claims_for}
+use Rattle.ftl_core.specs.Public as layer_kept
+use Rattle.ftl_core.specs.Public.{AreClaimed, Core}
 use Rattle.task_set.specs.declared.tasks.Phase.{Phase}
 use Rattle.task_set.specs.declared.tasks.Phase.TheVariants as phase
 use Rattle.task_set.specs.declared.tasks.Sending.{Sending as Sends}
-use Rattle.device.specs.Describes.{Describes, IsTold, is_lost, read_by, read_of, wanted_in, wanted_kept}
+use Rattle.device.specs.Describes.{Describes, IsTold, claims_of, is_lost, read_by, read_of, wanted_in}
+use Rattle.device.specs.Describes.{wanted_kept}
 use Rattle.device.specs.Hears.{with_task}
 use Rattle.device.specs.Kept.{DeviceCore}
 use Rattle.device.proofs.described.Answered.{IsBehind}
 use Rattle.device.proofs.host_messages.BlocksKept.{kept_are, made_is, others_wanted, own_wanted}
-use Rattle.device.proofs.open_tasks.TaskOpened.{no_claim, none_claimed, none_wanted, open_keeps, open_told}
+use Rattle.device.proofs.open_tasks.TaskOpened.{none_wanted, open_keeps, open_told, still_claimed}
 
 -- the device with the new task, over the layer as it is then
 abbrev pub core_opened : DeviceCore → Request → Core → Phase → DeviceCore
@@ -51,7 +51,7 @@ module _ (d : DeviceCore) (s : State) (r : Request) (h : Describes d s) (free : 
   pub read_opened : (command : Cdb) (n address m : ℕ) → 1 ≤ m → m ≤ greatest_command →
       m ≡ div_ceil (min r.expected n) 4096 →
       layer_kept.Describes after (fold moved s.translation (keeps s r.tag r.lun address m)) →
-      claims_for after ≡ claims_for d.ftl →
+      AreClaimed after (claims_of s.tasks) →
       IsBehind (core_opened d r after (phase.SendBlocks (sending_now m 0 n))) (reading_at s r command n address m)
   read_opened command n address m some most all layer claims = record {
     keeps =
@@ -64,13 +64,12 @@ module _ (d : DeviceCore) (s : State) (r : Request) (h : Describes d s) (free : 
               ≡ wanted_in i (Sending (read_blocks s r.lun address m) 0)) (sym are)
               (own_wanted s.translation.pins r.tag m keeps_at (λ j. refl) (λ j. refl) none (block_now s r.lun address)
               (λ j. refl) (λ j. refl));
-          claims = ap (λ f. f r.tag) claims ∙ none_claimed d s r h free few;
           others_want =
               subst (λ (t : Translation). (n i : ℕ) → (n == r.tag) ≡ false → wanted_kept t.pins n i
               ≡ wanted_kept s.translation.pins n i) (sym are)
               (others_wanted s.translation.pins r.tag m keeps_at (λ j. refl) (λ j. refl) none);
-          others_claim = no_claim d.ftl after r.tag claims;
         })
+        (still_claimed d s r h free few after (Sending (read_blocks s r.lun address m) 0) refl claims)
         (record {
           lun = refl;
           tag = refl;

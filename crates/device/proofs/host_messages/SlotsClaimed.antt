@@ -6,15 +6,13 @@ use Rattle.ufs_spec.specs.Moves.{Claim, moved}
 use Rattle.ufs_spec.specs.Plain.{zero_block}
 use Rattle.ufs_spec.specs.Translation.{Translation}
 use Rattle.ufs_spec.specs.declared.flash.Key.{Key}
-use Rattle.ftl_core.specs.Core.{Core}
-use Rattle.ftl_core.specs.Describes.{Describes}
-use Rattle.ftl_core.specs.Moves.{claims_for}
-use Rattle.ftl_core.specs.Tells.{claims_of_blocks}
+use Rattle.ftl_core.specs.Public.{Claims, Core, with_claimed}
 use Rattle.task_set.specs.declared.tasks.Phase.{Phase}
 use Rattle.task_set.specs.declared.tasks.Phase.TheVariants as phase
 use Rattle.task_set.specs.declared.tasks.Status.TheVariants as status
-use Rattle.device.specs.Calls.{HasClaimed, OthersClaim, has_slots}
+use Rattle.device.specs.Calls.{HasClaimed, has_slots}
 use Rattle.device.specs.Describes.{blocks_gathered}
+use Rattle.device.specs.Kept.{IsLayerWith}
 
 -- none of its blocks came
 pub none_gathered : (n : ℕ) → replicate n zero_block ≡ blocks_gathered n []
@@ -28,16 +26,16 @@ write_phase key blocks forced claimed =
     if claimed then phase.AskData (record { key = key; blocks = blocks; gathered = 0; forced = forced })
     else phase.Answer status.Busy 0
 
-pub slots_claimed : (before after : Core) (t : Translation) (tag : ℕ) (key : Key) (blocks : ℕ) (forced : Bool)
-    (p : Phase) (b : Bool) → b ≡ has_slots t blocks → p ≡ write_phase key blocks forced b →
-    Describes after (if b then moved t (Claim blocks) else t) →
-    (claims_for before tag ≡ [] → claims_for after tag ≡
-    (if b then claims_of_blocks tag (replicate blocks zero_block) else [])) →
-    OthersClaim before after tag → HasClaimed before after t tag key blocks forced p
-slots_claimed before after t tag key blocks forced p b is phase_is layer claims others = record {
+-- the layer then, likewise
+abbrev pub LayerThen : Core → Translation → Claims → (tag blocks : ℕ) → Bool → Type 0
+LayerThen after t claims tag blocks claimed =
+    IsLayerWith after (if claimed then moved t (Claim blocks) else t)
+    (if claimed then with_claimed claims tag (replicate blocks zero_block) else claims)
+
+pub slots_claimed : (after : Core) (t : Translation) (claims : Claims) (tag : ℕ) (key : Key) (blocks : ℕ)
+    (forced : Bool) (p : Phase) (b : Bool) → b ≡ has_slots t blocks → p ≡ write_phase key blocks forced b →
+    (claims tag ≡ [] → LayerThen after t claims tag blocks b) → HasClaimed after t claims tag key blocks forced p
+slots_claimed after t claims tag key blocks forced p b is phase_is layer = record {
   phase_is = phase_is ∙ ap (write_phase key blocks forced) is;
-  layer = subst (λ (x : Bool). Describes after (if x then moved t (Claim blocks) else t)) is layer;
-  claims = λ none. claims none
-      ∙ ap (λ (x : Bool). if x then claims_of_blocks tag (replicate blocks zero_block) else []) is;
-  others = others;
+  layer = λ none. subst (LayerThen after t claims tag blocks) is (layer none);
 }

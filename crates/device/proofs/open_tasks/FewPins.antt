@@ -23,7 +23,7 @@ use Rattle.ufs_spec.specs.Refusals.{State}
 use Rattle.ufs_spec.specs.Translation.{Pin}
 use Rattle.power_loss.proofs.books.SmallFacts.{eq_self}
 use Rattle.power_loss.proofs.open_tasks.TaggedLists.{any_fewer, other_way}
-use Rattle.ftl_core.specs.Tells.{PinsDiffer}
+use Rattle.ftl_core.specs.Public.{PinsDiffer}
 use Rattle.task_set.specs.declared.tasks.Phase.{Phase}
 use Rattle.task_set.specs.declared.tasks.Phase.TheVariants as phase
 use Rattle.device.specs.Calls.{has_room}
@@ -180,6 +180,7 @@ kept_block index wanted (Sending blocks sent) e = (blocks, sent, refl, by (nat_l
     by true k = absurd (none-some wanted k)
     by false k = of_block (slice_get blocks index) refl k
 kept_block index wanted (Gathering purpose gathered asked) e = absurd (none-some wanted e)
+kept_block index wanted (exchange.ReadingArea pages) e = absurd (none-some wanted e)
 kept_block index wanted (SendingBytes bytes) e = absurd (none-some wanted e)
 kept_block index wanted (Awaiting commands) e = absurd (none-some wanted e)
 kept_block index wanted (Answering told carried) e = absurd (none-some wanted e)

@@ -1,118 +1,152 @@
 -- What is kept for each tag, where the task of one tag changes, comes or goes: the pages that are wanted and the blocks
--- that were claimed, in one relation for each tag.
-use Rattle.std.proofs.Common.{◌≡◌, ◌∙◌, ℕ, ◌==◌, false, cond, List, [], ◌∷◌, ◌++◌, map, Option, Some, None}
-use Rattle.std.proofs.Common.{refl, sym, ap, subst}
+-- in the slots that are claimed.
+use Rattle.std.proofs.Common.{◌≡◌, ◌∙◌, ℕ, ◌==◌, Bool, true, false, cond, List, [], ◌∷◌, ◌++◌, map, Option}
+use Rattle.std.proofs.Common.{Some, None, refl, sym, ap, subst}
 use Rattle.std.specs.Option.{option_or}
-use Rattle.ufs_spec.proofs.Facts.{false≢true}
 use Rattle.ufs_spec.specs.Exchanges as exchange
 use Rattle.ufs_spec.specs.Exchanges.{Deed, task_of, with_deed}
-use Rattle.ufs_spec.specs.Refusals.{State}
 use Rattle.ufs_spec.specs.Translation.{Pin}
 use Rattle.power_loss.proofs.books.SmallFacts.{eq_self}
 use Rattle.power_loss.proofs.open_tasks.TaggedLists.{other_way}
-use Rattle.ftl_core.specs.Core.{Core}
-use Rattle.ftl_core.specs.Moves.{claims_for}
-use Rattle.device.specs.Calls.{OthersClaim}
-use Rattle.device.specs.Describes.{Keeps, claims_by, claims_in, wanted_by, wanted_in}
-use Rattle.device.specs.Describes.{wanted_kept}
-use Rattle.device.specs.Kept.{DeviceCore}
+use Rattle.ftl_core.specs.Public.{Claims, with_claimed}
+use Rattle.device.specs.Describes.{claimed_by, claimed_in, claims_of, wanted_by, wanted_in, wanted_kept}
 use Rattle.device.proofs.open_tasks.ReadProgress.{ChangesOne, KeepsTag, by_tag, deed_changes, deed_set, each_goes_on}
 use Rattle.device.proofs.open_tasks.ReadProgress.{one_goes_on, others_go_on, others_left, task_gone, task_more}
 
--- what is kept for one tag is what its task has, or nothing
-pub record KeptFor (pins : List Pin) (layer : Core) (tag : ℕ) (o : Option exchange.Task) : Type 0
+-- where a task comes, of a tag that none has, it is found, and the tasks of other tags are
+comes : (us : List exchange.Task) (b : exchange.Task) → task_of b.tag us ≡ None →
+    task_of b.tag (us ++ b ∷ []) ≡ Some b
+comes us b free =
+    task_more b.tag us b ∙ (λ i. option_or (free i) (cond (eq_self b.tag i) (Some b) None))
+
+others_come : (us : List exchange.Task) (b : exchange.Task) (tag : ℕ) → (tag == b.tag) ≡ false →
+    task_of tag (us ++ b ∷ []) ≡ task_of tag us
+others_come us b tag other =
+    task_more tag us b ∙ (ap (λ x. option_or (task_of tag us) (cond x (Some b) None)) (other_way tag b.tag other)
+    ∙ or_none (task_of tag us))
   where
-    pub wanted : (index : ℕ) → wanted_kept pins tag index ≡ wanted_by index o
-    pub claims : claims_for layer tag ≡ claims_by tag o
+    or_none : (o : Option exchange.Task) → option_or o None ≡ o
+    or_none None = refl
+    or_none (Some x) = refl
+
+-- The pages that are wanted
+
+-- what is wanted for one tag is what its task has, or nothing
+abbrev pub WantedFor : List Pin → ℕ → Option exchange.Task → Type 0
+WantedFor pins tag o = (index : ℕ) → wanted_kept pins tag index ≡ wanted_by index o
 
 -- for each tag
-abbrev pub KeptForAll : List Pin → Core → List exchange.Task → Type 0
-KeptForAll pins layer us = (tag : ℕ) → KeptFor pins layer tag (task_of tag us)
+abbrev pub WantedForAll : List Pin → List exchange.Task → Type 0
+WantedForAll pins us = (tag : ℕ) → WantedFor pins tag (task_of tag us)
 
-pub all_kept : (d : DeviceCore) (s : State) → Keeps d s → KeptForAll s.translation.pins d.ftl s.tasks
-all_kept d s k tag = record { wanted = k.wanted tag; claims = k.claims tag }
-
--- nothing that is kept for the tag is another than before
-pub record SameFor (pins others : List Pin) (layer after : Core) (tag : ℕ) : Type 0 where
-  pub wanted : (index : ℕ) → wanted_kept others tag index ≡ wanted_kept pins tag index
-  pub claims : claims_for after tag ≡ claims_for layer tag
-
--- what other tags have claimed stays so
-pub others_claim : (before after : Core) (one tag : ℕ) → OthersClaim before after one → (tag == one) ≡ false →
-    claims_for after tag ≡ claims_for before tag
-others_claim before after one tag h other =
-    h tag (λ same. false≢true (sym other ∙ (ap (λ (n : ℕ). n == one) same ∙ eq_self one)))
-
-module _ (pins others : List Pin) (layer after : Core) where
+module _ (pins others : List Pin) where
+  -- nothing that is wanted for the tag is another than before
   abbrev Same : ℕ → Type 0
-  Same tag = SameFor pins others layer after tag
+  Same tag = (index : ℕ) → wanted_kept others tag index ≡ wanted_kept pins tag index
 
-  pub kept_still : (tag : ℕ) (o p : Option exchange.Task) → KeptFor pins layer tag o → Same tag → p ≡ o →
-      KeptFor others after tag p
-  kept_still tag o p h same is = record {
-    wanted = λ index. same.wanted index ∙ (h.wanted index ∙ sym (ap (wanted_by index) is));
-    claims = same.claims ∙ (h.claims ∙ sym (ap (claims_by tag) is));
-  }
+  -- the task of one tag is another, and those of other tags stay
+  one_wants : (us vs : List exchange.Task) (one : ℕ) (o : Option exchange.Task) → WantedForAll pins us →
+      task_of one vs ≡ o → ((tag : ℕ) → (tag == one) ≡ false → task_of tag vs ≡ task_of tag us) →
+      WantedFor others one o → ((tag : ℕ) → (tag == one) ≡ false → Same tag) → WantedForAll others vs
+  one_wants us vs one o h is stay this same =
+      by_tag (λ tag. WantedFor others tag (task_of tag vs)) one (subst (WantedFor others one) (sym is) this)
+      (λ tag other index. same tag other index
+      ∙ (h tag index ∙ sym (ap (wanted_by index) (stay tag other))))
 
   -- where the task of one tag changes
   pub one_changes : (us : List exchange.Task) (f : exchange.Task → exchange.Task) (one : ℕ) (b : exchange.Task) →
-      KeptForAll pins layer us → ChangesOne f one → task_of one us ≡ Some b →
-      KeptFor others after one (Some (f b)) → ((tag : ℕ) → (tag == one) ≡ false → Same tag) →
-      KeptForAll others after (map f us)
-  one_changes us f one b h changes found this same =
-      by_tag (λ tag. KeptFor others after tag (task_of tag (map f us))) one
-      (subst (KeptFor others after one) (sym (one_goes_on f us one b changes.tags found)) this)
-      (λ tag other. kept_still tag (task_of tag us) (task_of tag (map f us)) (h tag) (same tag other)
-      (others_go_on f us one tag changes other))
+      WantedForAll pins us → ChangesOne f one → task_of one us ≡ Some b → WantedFor others one (Some (f b)) →
+      ((tag : ℕ) → (tag == one) ≡ false → Same tag) → WantedForAll others (map f us)
+  one_changes us f one b h changes found =
+      one_wants us (map f us) one (Some (f b)) h (one_goes_on f us one b changes.tags found)
+      (λ tag. others_go_on f us one tag changes)
 
   -- where its deed is set
   pub deed_changed : (us : List exchange.Task) (one : ℕ) (b : exchange.Task) (deed : Deed) →
-      KeptForAll pins layer us → task_of one us ≡ Some b →
-      KeptFor others after one (Some (record b { deed = deed })) →
-      ((tag : ℕ) → (tag == one) ≡ false → Same tag) → KeptForAll others after (map (with_deed one deed) us)
-  deed_changed us one b deed h found this same =
-      by_tag (λ tag. KeptFor others after tag (task_of tag (map (with_deed one deed) us))) one
-      (subst (KeptFor others after one) (sym (deed_set one deed us b found)) this)
-      (λ tag other. kept_still tag (task_of tag us) (task_of tag (map (with_deed one deed) us)) (h tag)
-      (same tag other) (others_go_on (with_deed one deed) us one tag (deed_changes one deed) other))
+      WantedForAll pins us → task_of one us ≡ Some b → WantedFor others one (Some (record b { deed = deed })) →
+      ((tag : ℕ) → (tag == one) ≡ false → Same tag) → WantedForAll others (map (with_deed one deed) us)
+  deed_changed us one b deed h found =
+      one_wants us (map (with_deed one deed) us) one (Some (record b { deed = deed })) h (deed_set one deed us b found)
+      (λ tag. others_go_on (with_deed one deed) us one tag (deed_changes one deed))
 
   -- where it goes
-  pub one_goes : (us : List exchange.Task) (one : ℕ) → KeptForAll pins layer us →
-      KeptFor others after one None → ((tag : ℕ) → (tag == one) ≡ false → Same tag) →
-      KeptForAll others after (exchange.without_task one us)
-  one_goes us one h this same =
-      by_tag (λ tag. KeptFor others after tag (task_of tag (exchange.without_task one us))) one
-      (subst (KeptFor others after one) (sym (task_gone one us)) this)
-      (λ tag other. kept_still tag (task_of tag us) (task_of tag (exchange.without_task one us)) (h tag)
-      (same tag other) (others_left one tag us other))
+  pub one_goes : (us : List exchange.Task) (one : ℕ) → WantedForAll pins us → WantedFor others one None →
+      ((tag : ℕ) → (tag == one) ≡ false → Same tag) → WantedForAll others (exchange.without_task one us)
+  one_goes us one h =
+      one_wants us (exchange.without_task one us) one None h (task_gone one us) (λ tag. others_left one tag us)
 
   -- where a task comes, of a tag that none has
-  pub one_comes : (us : List exchange.Task) (b : exchange.Task) → KeptForAll pins layer us →
-      task_of b.tag us ≡ None → KeptFor others after b.tag (Some b) →
-      ((tag : ℕ) → (tag == b.tag) ≡ false → Same tag) → KeptForAll others after (us ++ b ∷ [])
-  one_comes us b h free this same =
-      by_tag (λ tag. KeptFor others after tag (task_of tag (us ++ b ∷ []))) b.tag
-      (subst (KeptFor others after b.tag)
-      (sym (task_more b.tag us b ∙ (λ i. option_or (free i) (cond (eq_self b.tag i) (Some b) None)))) this)
-      (λ tag other. kept_still tag (task_of tag us) (task_of tag (us ++ b ∷ [])) (h tag) (same tag other)
-      (task_more tag us b ∙ (ap (λ x. option_or (task_of tag us) (cond x (Some b) None)) (other_way tag b.tag other)
-      ∙ or_none (task_of tag us))))
-    where
-      or_none : (o : Option exchange.Task) → option_or o None ≡ o
-      or_none None = refl
-      or_none (Some x) = refl
+  pub one_comes : (us : List exchange.Task) (b : exchange.Task) → WantedForAll pins us → task_of b.tag us ≡ None →
+      WantedFor others b.tag (Some b) → ((tag : ℕ) → (tag == b.tag) ≡ false → Same tag) →
+      WantedForAll others (us ++ b ∷ [])
+  one_comes us b h free = one_wants us (us ++ b ∷ []) b.tag (Some b) h (comes us b free) (others_come us b)
+
+-- The blocks in claimed slots
+
+-- where one tag has claimed what it had claimed, nothing changes
+pub claimed_same : (claims : Claims) (one : ℕ) (blocks : List (List ℕ)) → claims one ≡ blocks →
+    with_claimed claims one blocks ≡ claims
+claimed_same claims one blocks is = λ i tag. by_tag (λ n. with_claimed claims one blocks n ≡ claims n) one
+    (ap (λ b. cond b blocks (claims one)) (eq_self one) ∙ sym is)
+    (λ n other. ap (λ b. cond b blocks (claims n)) other) tag i
+
+-- what was claimed for the tag last counts
+pub claimed_last : (claims : Claims) (one : ℕ) (first last : List (List ℕ)) →
+    with_claimed (with_claimed claims one first) one last ≡ with_claimed claims one last
+claimed_last claims one first last = λ i tag. by_test (tag == one) (claims tag) i
+  where
+    by_test : (b : Bool) (x : List (List ℕ)) → cond b last (cond b first x) ≡ cond b last x
+    by_test true x = refl
+    by_test false x = refl
+
+pub claimed_own : (claims : Claims) (one : ℕ) (blocks : List (List ℕ)) → with_claimed claims one blocks one ≡ blocks
+claimed_own claims one blocks = ap (λ b. cond b blocks (claims one)) (eq_self one)
+
+-- the task of one tag is another, and those of other tags stay
+one_claims : (us vs : List exchange.Task) (one : ℕ) (o : Option exchange.Task) → task_of one vs ≡ o →
+    ((tag : ℕ) → (tag == one) ≡ false → task_of tag vs ≡ task_of tag us) →
+    claims_of vs ≡ with_claimed (claims_of us) one (claimed_by o)
+one_claims us vs one o is stay = λ i tag.
+    by_tag (λ n. claims_of vs n ≡ with_claimed (claims_of us) one (claimed_by o) n) one
+    (ap claimed_by is ∙ sym (claimed_own (claims_of us) one (claimed_by o)))
+    (λ n other. ap claimed_by (stay n other)
+    ∙ sym (ap (λ b. cond b (claimed_by o) (claims_of us n)) other)) tag i
+
+pub claims_changed : (us : List exchange.Task) (f : exchange.Task → exchange.Task) (one : ℕ) (b : exchange.Task) →
+    ChangesOne f one → task_of one us ≡ Some b →
+    claims_of (map f us) ≡ with_claimed (claims_of us) one (claimed_in (f b).deed)
+claims_changed us f one b changes found =
+    one_claims us (map f us) one (Some (f b)) (one_goes_on f us one b changes.tags found)
+    (λ tag. others_go_on f us one tag changes)
+
+pub claims_set : (us : List exchange.Task) (one : ℕ) (b : exchange.Task) (deed : Deed) → task_of one us ≡ Some b →
+    claims_of (map (with_deed one deed) us) ≡ with_claimed (claims_of us) one (claimed_in deed)
+claims_set us one b deed found =
+    one_claims us (map (with_deed one deed) us) one (Some (record b { deed = deed })) (deed_set one deed us b found)
+    (λ tag. others_go_on (with_deed one deed) us one tag (deed_changes one deed))
+
+pub claims_left : (us : List exchange.Task) (one : ℕ) →
+    claims_of (exchange.without_task one us) ≡ with_claimed (claims_of us) one []
+claims_left us one =
+    one_claims us (exchange.without_task one us) one None (task_gone one us) (λ tag. others_left one tag us)
+
+pub claims_more : (us : List exchange.Task) (b : exchange.Task) → task_of b.tag us ≡ None →
+    claims_of (us ++ b ∷ []) ≡ with_claimed (claims_of us) b.tag (claimed_in b.deed)
+claims_more us b free = one_claims us (us ++ b ∷ []) b.tag (Some b) (comes us b free) (others_come us b)
+
+-- Each task
 
 -- where each task changes, and nothing that tells of blocks
 pub record SameDeed (f : exchange.Task → exchange.Task) : Type 0 where
   pub tags : KeepsTag f
   pub wanted : (index : ℕ) (x : exchange.Task) → wanted_in index (f x).deed ≡ wanted_in index x.deed
-  pub claims : (tag : ℕ) (x : exchange.Task) → claims_in tag (f x).deed ≡ claims_in tag x.deed
+  pub claimed : (x : exchange.Task) → claimed_in (f x).deed ≡ claimed_in x.deed
 
-pub each_changes : (pins : List Pin) (layer : Core) (us : List exchange.Task)
-    (f : exchange.Task → exchange.Task) → KeptForAll pins layer us → SameDeed f →
-    KeptForAll pins layer (map f us)
-each_changes pins layer us f h same tag = record {
-  wanted = λ index. (h tag).wanted index
-      ∙ sym (each_goes_on (wanted_by index) f us tag same.tags (same.wanted index));
-  claims = (h tag).claims ∙ sym (each_goes_on (claims_by tag) f us tag same.tags (same.claims tag));
-}
+pub each_wants : (pins : List Pin) (us : List exchange.Task) (f : exchange.Task → exchange.Task) →
+    WantedForAll pins us → SameDeed f → WantedForAll pins (map f us)
+each_wants pins us f h same tag index =
+    h tag index ∙ sym (each_goes_on (wanted_by index) f us tag same.tags (same.wanted index))
+
+pub each_claims : (us : List exchange.Task) (f : exchange.Task → exchange.Task) → SameDeed f →
+    claims_of (map f us) ≡ claims_of us
+each_claims us f same = λ i tag. each_goes_on claimed_by f us tag same.tags same.claimed i

@@ -6,8 +6,8 @@ use Rattle.std.specs.Prelude.{nat_lt, not, option_map, position, remove, slice_g
 use Rattle.std.specs.List.{list_any, position_or_len}
 use Rattle.ufs_spec.proofs.Facts.{eqb-true, none-some, or_parts, same_Some}
 use Rattle.ufs_spec.specs.Exchanges as exchange
-use Rattle.ufs_spec.specs.Exchanges.{Deed, is_task_of, task_of, with_deed}
-use Rattle.ufs_laws.specs.Requests.{HaveNoRequest}
+use Rattle.ufs_spec.specs.Exchanges.{Deed, is_task_of, is_unfilled, task_of, with_deed}
+use Rattle.ufs_laws.specs.Requests.{HaveNoneToFill}
 use Rattle.power_loss.specs.Exchange.{TasksDiffer}
 use Rattle.power_loss.proofs.books.SmallFacts.{eq_self, if_false, if_true}
 use Rattle.power_loss.proofs.open_tasks.TaggedLists.{other_way}
@@ -73,9 +73,9 @@ as_many before (x ∷ ts) (y ∷ us) h = ap suc (as_many before ts us h.1)
 as_many before ts us h = absurd h
 
 pub no_requests : (before : ℕ) (ts : List OpenTask) (us : List exchange.Task) → TasksKept before ts us →
-    HaveNoRequest us
+    HaveNoneToFill us
 no_requests before [] [] h = tt
-no_requests before (x ∷ ts) (y ∷ us) h = (h.0.request, no_requests before ts us h.1)
+no_requests before (x ∷ ts) (y ∷ us) h = (ap is_unfilled h.0.request, no_requests before ts us h.1)
 no_requests before ts us h = absurd h
 
 -- the task of a tag stands at one place on both sides

@@ -83,6 +83,7 @@ reads_deed tag index us task (Sending blocks sent) found is e =
 reads_deed tag index us task (Gathering purpose gathered asked) found is e = absurd (none-some true e)
 reads_deed tag index us task (SendingBytes bytes) found is e = absurd (none-some true e)
 reads_deed tag index us task (Awaiting commands) found is e = absurd (none-some true e)
+reads_deed tag index us task (exchange.ReadingArea pages) found is e = absurd (none-some true e)
 reads_deed tag index us task (Answering told carried) found is e = absurd (none-some true e)
 
 -- only the next block of a task is wanted, until it was read

@@ -16,18 +16,15 @@ use Rattle.ufs_spec.specs.Exchanges.{most_tasks}
 use Rattle.ufs_spec.specs.Translation.{Pin, Translation}
 use Rattle.ufs_spec.specs.declared.scsi.Cdb.{Cdb}
 use Rattle.power_loss.specs.Shown.{ShowsRight}
-use Rattle.ftl_core.specs.Core.{Core}
-use Rattle.ftl_core.specs.Describes as layer_kept
-use Rattle.ftl_core.specs.Moves.{claims_for}
-use Rattle.ftl_core.specs.Tells.{keeps_for}
+use Rattle.ftl_core.specs.Public as layer_kept
+use Rattle.ftl_core.specs.Public.{AreClaimed, Core, keeps_for, with_claimed}
 use Rattle.task_set.specs.Kept.{OpenTask}
-use Rattle.device.specs.Calls.{IsSameLayer, OthersClaim}
-use Rattle.device.specs.Describes.{Describes, IsTold, IsToldIn, Keeps, TaskKept, TasksKept, claims_in}
-use Rattle.device.specs.Describes.{wanted_in, wanted_kept}
+use Rattle.device.specs.Describes.{Describes, IsTold, IsToldIn, Keeps, TaskKept, TasksKept}
+use Rattle.device.specs.Describes.{claimed_by, claimed_in, claims_of, wanted_in, wanted_kept}
 use Rattle.device.specs.Hears.{with_task}
-use Rattle.device.specs.Kept.{DeviceCore}
+use Rattle.device.specs.Kept.{DeviceCore, IsLayerWith}
 use Rattle.device.proofs.described.Answered.{IsBehind}
-use Rattle.device.proofs.open_tasks.KeptByTag.{KeptFor, KeptForAll, all_kept, one_comes, others_claim}
+use Rattle.device.proofs.open_tasks.KeptByTag.{WantedFor, claimed_same, claims_more, one_comes}
 use Rattle.device.proofs.open_tasks.OpenTasks.{one_more}
 
 -- the specified task that is opened
@@ -44,33 +41,30 @@ opened r command n deed =
     }
 
 -- the deed tells of no block
-pub record TellsNothing (tag : ℕ) (deed : Deed) : Type 0 where
+pub record TellsNothing (deed : Deed) : Type 0 where
   pub wanted : (index : ℕ) → wanted_in index deed ≡ None
-  pub claims : claims_in tag deed ≡ []
+  pub claimed : claimed_in deed ≡ []
 
--- what is kept for the tag is what its deed tells, and for other tags nothing changes
-pub record TagBegins (before : List Pin) (old : Core) (tag : ℕ) (deed : Deed) (pins : List Pin) (new : Core) : Type 0
-  where
-    pub wanted : (index : ℕ) → wanted_kept pins tag index ≡ wanted_in index deed
-    pub claims : claims_for new tag ≡ claims_in tag deed
-    pub others_want : (n index : ℕ) → (n == tag) ≡ false → wanted_kept pins n index ≡ wanted_kept before n index
-    pub others_claim : OthersClaim old new tag
-
--- where no claim changes, none of others does
-pub no_claim : (old new : Core) (tag : ℕ) → claims_for new ≡ claims_for old → OthersClaim old new tag
-no_claim old new tag same n other i = same i n
+-- what is wanted for the tag is what its deed tells, and for other tags nothing changes
+pub record TagBegins (before : List Pin) (tag : ℕ) (deed : Deed) (pins : List Pin) : Type 0 where
+  pub wanted : (index : ℕ) → wanted_kept pins tag index ≡ wanted_in index deed
+  pub others_want : (n index : ℕ) → (n == tag) ≡ false → wanted_kept pins n index ≡ wanted_kept before n index
 
 module _ (d : DeviceCore) (s : State) (r : Request) (h : Describes d s) (free : task_of r.tag s.tasks ≡ None)
     (few : length s.tasks < most_tasks) where
   -- nothing is kept for the tag
-  none_kept : KeptFor s.translation.pins d.ftl r.tag None
-  none_kept = subst (KeptFor s.translation.pins d.ftl r.tag) free (all_kept d s h.kept r.tag)
+  pub none_wanted : WantedFor s.translation.pins r.tag None
+  none_wanted = subst (WantedFor s.translation.pins r.tag) free (h.kept.wanted r.tag)
 
-  pub none_wanted : (index : ℕ) → wanted_kept s.translation.pins r.tag index ≡ None
-  none_wanted = none_kept.wanted
+  pub none_claimed : claims_of s.tasks r.tag ≡ []
+  none_claimed = ap claimed_by free
 
-  pub none_claimed : claims_for d.ftl r.tag ≡ []
-  none_claimed = none_kept.claims
+  -- where its deed claims nothing, what is claimed stays
+  pub still_claimed : (after : Core) (deed : Deed) → claimed_in deed ≡ [] → AreClaimed after (claims_of s.tasks) →
+      AreClaimed after (with_claimed (claims_of s.tasks) r.tag (claimed_in deed))
+  still_claimed after deed none =
+      subst (AreClaimed after)
+      (sym (claimed_same (claims_of s.tasks) r.tag (claimed_in deed) (none_claimed ∙ sym none)))
 
   nobody_in : (pins : List Pin) → All (ShowsRight s.translation.ledger s.tasks) pins →
       list_any (keeps_for r.tag) pins ≡ false
@@ -92,35 +86,26 @@ module _ (d : DeviceCore) (s : State) (r : Request) (h : Describes d s) (free : 
   pub open_keeps : (c : Core) (u : Translation) (command : Option Cdb) (n : ℕ) (deed : Deed) (a : OpenTask) →
       layer_kept.Describes c u →
       before_accepted u.ledger ≡ before_accepted s.translation.ledger →
-      TagBegins s.translation.pins d.ftl r.tag deed u.pins c →
+      TagBegins s.translation.pins r.tag deed u.pins →
+      AreClaimed c (with_claimed (claims_of s.tasks) r.tag (claimed_in deed)) →
       TaskKept (before_accepted s.translation.ledger) a (opened r command n deed) →
       Keeps (with_task (record d { ftl = c }) a) (machine.with_task (record s { translation = u }) r command n deed)
-  open_keeps c u command n deed a layer before begins task = record {
+  open_keeps c u command n deed a layer before begins claims task = record {
     permanent = h.kept.permanent;
     layer_kept = layer;
     few = (let more = length-append s.tasks (b ∷ []) in omega arith);
     tasks = subst (λ m. TasksKept m (d.tasks ++ a ∷ []) (s.tasks ++ b ∷ [])) (sym before)
         (one_more (before_accepted s.translation.ledger) d.tasks s.tasks a b h.kept.tasks task);
-    wanted = λ tag. (kept tag).wanted;
-    claims = λ tag. (kept tag).claims;
+    wanted =
+        one_comes s.translation.pins u.pins s.tasks b h.kept.wanted free begins.wanted
+        (λ tag other index. begins.others_want tag index other);
+    claims = subst (AreClaimed c) (sym (claims_more s.tasks b free)) claims;
     shorts = h.kept.shorts;
     power_off = h.kept.power_off;
   }
     where
       b : exchange.Task
       b = opened r command n deed
-
-      kept : KeptForAll u.pins c (s.tasks ++ b ∷ [])
-      kept =
-          one_comes s.translation.pins u.pins d.ftl c s.tasks b (all_kept d s h.kept) free
-          (record {
-            wanted = begins.wanted;
-            claims = begins.claims;
-          })
-          (λ tag other. record {
-            wanted = λ index. begins.others_want tag index other;
-            claims = others_claim d.ftl c r.tag tag begins.others_claim other;
-          })
 
   -- where the device is locked the new task waits for durable commands alone
   pub open_told : (command : Option Cdb) (n : ℕ) (deed : Deed) → (locked s ≡ true → IsToldIn (durable s) deed) →
@@ -130,7 +115,8 @@ module _ (d : DeviceCore) (s : State) (r : Request) (h : Describes d s) (free : 
 
   -- where the layer stays
   pub opens_still : (c : Core) (command : Option Cdb) (n : ℕ) (deed : Deed) (a : OpenTask) →
-      IsSameLayer d.ftl c s.translation → TellsNothing r.tag deed → (locked s ≡ true → IsToldIn (durable s) deed) →
+      IsLayerWith c s.translation (claims_of s.tasks) → TellsNothing deed →
+      (locked s ≡ true → IsToldIn (durable s) deed) →
       TaskKept (before_accepted s.translation.ledger) a (opened r command n deed) →
       IsBehind (with_task (record d { ftl = c }) a) (machine.with_task s r command n deed)
   opens_still c command n deed a layer none new task = record {
@@ -138,10 +124,8 @@ module _ (d : DeviceCore) (s : State) (r : Request) (h : Describes d s) (free : 
         open_keeps c s.translation command n deed a layer.0 refl
         (record {
           wanted = λ index. none_wanted index ∙ sym (none.wanted index);
-          claims = (λ i. layer.1 i r.tag) ∙ (none_claimed ∙ sym none.claims);
           others_want = λ m index other. refl;
-          others_claim = no_claim d.ftl c r.tag layer.1;
         })
-        task;
+        (still_claimed c deed none.claimed layer.1) task;
     told = open_told command n deed new;
   }

@@ -6,13 +6,14 @@ use Rattle.std.specs.List.{list_any}
 use Rattle.std.proofs.lemmas.Option.{slice_get_within}
 use Rattle.ufs_spec.specs.Keys as keys
 use Rattle.ufs_spec.specs.Keys.{IsKey, Item}
-use Rattle.ufs_spec.specs.Ledger.{Entry, Ledger, Name, all_stand, before_accepted, climbed, entry_of, index_in}
+use Rattle.ufs_spec.specs.Ledger.{Entry, Ledger, all_stand, before_accepted, climbed, entry_of, index_in}
 use Rattle.ufs_spec.specs.Ledger.{latest_durable, latest_in, name_or, pending}
 use Rattle.ufs_spec.specs.Moves.{KeysDiffer}
 use Rattle.ufs_spec.specs.Plain.{shape_of_numbers}
 use Rattle.ufs_spec.specs.Translation.{Translation, names_after}
 use Rattle.ufs_spec.specs.declared.configs.Numbers.{Numbers}
 use Rattle.ufs_spec.specs.declared.flash.Key.{Key}
+use Rattle.ufs_spec.specs.declared.layer.Name.{Name}
 use Rattle.power_loss.specs.Book.{IsPageAt, book}
 use Rattle.power_loss.specs.Invariant.{Valid}
 use Rattle.power_loss.proofs.books.PagesByName.{new_page}
@@ -20,7 +21,7 @@ use Rattle.power_loss.proofs.books.SmallFacts.{if_false, if_true, two_ways}
 use Rattle.write_cache.specs.declared.slots.Pending.{Pending}
 use Rattle.unit_map.specs.declared.Stored.{Stored}
 use Rattle.ftl_core.specs.Core.{Core}
-use Rattle.ftl_core.specs.Describes.{IsStored, LedgerKept, PagesKept, Standing}
+use Rattle.ftl_core.specs.Describes.{LedgerKept, PagesKept, Standing}
 use Rattle.ftl_core.specs.Ends.{front_written, group_durable, page_durable, risen}
 use Rattle.write_cache.specs.Slots.{is_of_group, is_unwritten}
 use Rattle.write_cache.specs.Slots.{whole_group}
@@ -32,6 +33,7 @@ use Rattle.ftl_core.proofs.group_settled.Settling.{only_places, others, whole}
 use Rattle.ftl_core.proofs.look_and_accept.Numbers.{behind, pending_mended}
 use Rattle.ftl_core.proofs.opened.ListParts.{drop_next, latest_more}
 use Rattle.ftl_core.proofs.pins.PinsSettled.{at_frontier, moved_all, pins_all}
+use Rattle.ftl_core.proofs.pages.StoredNames.{AreAlike}
 
 -- The groups of this life
 
@@ -269,7 +271,7 @@ ledger_next c l number h low right w = record {
   pages = subst (λ (hs : List keys.Group). PagesKept l.standing (entry_of l) w.pages.rest
       (names_after (suc l.frontier) hs)) (sym behind_next) w.pages.more;
   keys = let same = places_same w.pages.front c in let long = h.keys in omega (arith, same, long);
-  places = λ k isk. subst (λ (z : Option Stored × Option Name). IsStored l.standing z.0 z.1)
+  places = λ k isk. subst (λ (z : Option Stored × Option Name). AreAlike l.standing z.0 z.1)
       (λ i. (
         ap (λ (z : Core). stored_of z k) (only_places c w.pages.front) i,
         sym (durable_next l w.group w.groups k top w.is) i,

@@ -8,10 +8,11 @@ use Rattle.std.proofs.lemmas.List.{append-nil, length-map, take-append-drop}
 use Rattle.std.proofs.lemmas.List.Elements.{filter-append}
 use Rattle.std.proofs.lemmas.List.Folds.{list_any-append}
 use Rattle.ufs_spec.specs.Keys.{Group, Item, below}
-use Rattle.ufs_spec.specs.Ledger.{Entry, Ledger, Name, all_stand, entry_in, entry_of}
+use Rattle.ufs_spec.specs.Ledger.{Entry, Ledger, all_stand, entry_in, entry_of}
 use Rattle.ufs_spec.specs.Translation.{names_after, names_of}
 use Rattle.ufs_spec.specs.declared.flash.Key.{Key}
 use Rattle.ufs_spec.specs.declared.flash.Place.{Place}
+use Rattle.ufs_spec.specs.declared.layer.Name.{Name}
 use Rattle.ufs_spec.proofs.Facts.{and_parts, eq-eqb, false≢true, lt-leb, or_parts, or_with_false, same_Some}
 use Rattle.ufs_spec.proofs.Lists.{length-below, none_passes}
 use Rattle.power_loss.proofs.books.FrontierClimbs.{stands_each}

@@ -3,11 +3,12 @@ use Rattle.std.proofs.Common.{◌≡◌, ◌≢◌, ◌∙◌, ℕ, suc, ◌+◌
 use Rattle.std.proofs.Common.{refl, sym, ap, subst, ⊎_elim, arith}
 use Rattle.std.specs.Prelude.{fold, option_map, position, slice_get}
 use Rattle.ufs_spec.specs.Keys.{IsKey, Item, same_key}
-use Rattle.ufs_spec.specs.Ledger.{Name, name_or}
+use Rattle.ufs_spec.specs.Ledger.{name_or}
 use Rattle.ufs_spec.specs.Moves.{KeysDiffer}
 use Rattle.ufs_spec.specs.Plain.{shape_of_numbers}
 use Rattle.ufs_spec.specs.declared.flash.Key.{Key}
 use Rattle.ufs_spec.specs.declared.flash.Place.{Place}
+use Rattle.ufs_spec.specs.declared.layer.Name.{Name}
 use Rattle.ufs_spec.proofs.Facts.{false≢true}
 use Rattle.ufs_spec.proofs.Lists.{position_behind, position_here}
 use Rattle.power_loss.proofs.books.LastOfEachKey.{key_self, key_told}
@@ -16,12 +17,13 @@ use Rattle.geometry.specs.Keys.{key_total}
 use Rattle.write_cache.specs.declared.slots.Pending.{Pending}
 use Rattle.unit_map.specs.declared.Stored.{Stored}
 use Rattle.ftl_core.specs.Core.{Core}
-use Rattle.ftl_core.specs.Describes.{IsStored, Standing}
-use Rattle.ftl_core.specs.Ends.{noted, page_durable, page_durable_at, pins_moved}
+use Rattle.ftl_core.specs.Describes.{Standing}
+use Rattle.ftl_core.specs.Ends.{noted, page_at, page_durable, page_durable_at, pins_moved}
 use Rattle.ftl_core.specs.Moves.{stored_of}
 use Rattle.unit_map.specs.Places.{position_of}
 use Rattle.ftl_core.proofs.group_settled.FrontPages.{AreStandingPages}
 use Rattle.ftl_core.proofs.group_settled.NotedPlaces.{places_length, stored_here, stored_other}
+use Rattle.ftl_core.proofs.pages.StoredNames.{AreAlike, stored_is}
 
 -- there is a place for each key of the device
 abbrev pub HasPlaces : Core → Type 0
@@ -35,11 +37,11 @@ AreKeysOf c xs = (j : ℕ) (x : Item) → slice_get xs j ≡ Some x → IsKey (s
 
 -- what is noted of a page that is written there
 abbrev stored_at : Pending → Place → Stored
-stored_at p place = record { place = place; number = p.number }
+stored_at p place = page_at p.number p.index place
 
 -- once it is durable
 abbrev with_durable : Core → Pending → Place → Core
-with_durable c p place = pins_moved (noted c p.key (stored_at p place)) p.index (stored_at p place)
+with_durable c p place = pins_moved (noted c p.key (stored_at p place)) (stored_at p place)
 
 places_left : (c : Core) (p : Pending) (place : Place) → HasPlaces c → HasPlaces (with_durable c p place)
 places_left c p place long =
@@ -87,8 +89,8 @@ differ_behind x xs differ i j a b h k e = less i j (differ (suc i) (suc j) a b h
 
 stored_from : (st : Standing) (n i : ℕ) (ps : List Pending) (xs : List Item) (c : Core) (k : Key)
     (older : Option Name) → AreStandingPages st n i ps xs → HasPlaces c → AreKeysOf c xs → KeysDiffer xs →
-    IsKey (shape_of_numbers c.numbers) k → IsStored st (stored_of c k) older →
-    IsStored st (stored_of (fold page_durable c ps) k)
+    IsKey (shape_of_numbers c.numbers) k → AreAlike st (stored_of c k) older →
+    AreAlike st (stored_of (fold page_durable c ps) k)
     (name_from n i (position (λ (item : Item). same_key item.key k) xs) older)
 stored_from st n i [] [] c k older h long keys differ isk is = is
 stored_from st n i [] (x ∷ xs) c k older h long keys differ isk is = absurd h
@@ -97,7 +99,7 @@ stored_from st n i (p ∷ ps) (x ∷ xs) c k older h long keys differ isk is =
     ⊎_elim same
     (λ e. other e (stored_from st n (suc i) ps xs (with_durable c p h.0.place) k older h.1
     (places_left c p h.0.place long) (λ j y a. keys (suc j) y a) (differ_behind x xs differ) isk
-    (subst (λ (o : Option Stored). IsStored st o older)
+    (subst (λ (o : Option Stored). AreAlike st o older)
     (sym (stored_other c p.key k (stored_at p h.0.place)
     (λ f. false≢true (sym e ∙ ap (λ (z : Key). same_key z k) (sym h.0.key ∙ f) ∙ key_self k)) key isk)) is)))
     (two_ways (same_key x.key k))
@@ -114,7 +116,7 @@ stored_from st n i (p ∷ ps) (x ∷ xs) c k older h long keys differ isk is =
     apart : (j : ℕ) → 0 ≡ suc j → ⊥
     apart j e = omega arith
 
-    same : same_key x.key k ≡ true → IsStored st (stored_of (fold page_durable c (p ∷ ps)) k)
+    same : same_key x.key k ≡ true → AreAlike st (stored_of (fold page_durable c (p ∷ ps)) k)
         (name_from n i (position (λ (item : Item). same_key item.key k) (x ∷ xs)) older)
     same e =
         let is_key : x.key ≡ k = key_told x.key k e in
@@ -129,32 +131,34 @@ stored_from st n i (p ∷ ps) (x ∷ xs) c k older h long keys differ isk is =
         Some (record { number = n; index = i + 0 }) =
         ap (λ (o : Option ℕ). name_from n i o older)
         (position_here (λ (item : Item). same_key item.key k) x xs e) in
-        subst (λ (z : Option Stored × Option Name). IsStored st z.0 z.1) (λ j. (sym stored j, sym name j))
-        (sym h.0.number, ap (st n) (last i) ∙ h.0.stands)
+        let named : s.name ≡ record { number = n; index = i + 0 } =
+        λ j. record { number = h.0.number j; index = (h.0.index ∙ sym (last i)) j } in
+        subst (λ (z : Option Stored × Option Name). AreAlike st z.0 z.1) (λ j. (sym stored j, sym name j))
+        (stored_is st s (record { number = n; index = i + 0 }) named (ap (st n) (last i) ∙ h.0.stands))
       where
         last : (i : ℕ) → i + 0 ≡ i
         last i = omega arith
 
-    other : same_key x.key k ≡ false → IsStored st (stored_of (fold page_durable (with_durable c p h.0.place) ps) k)
+    other : same_key x.key k ≡ false → AreAlike st (stored_of (fold page_durable (with_durable c p h.0.place) ps) k)
         (name_from n (suc i) (position (λ (item : Item). same_key item.key k) xs) older) →
-        IsStored st (stored_of (fold page_durable c (p ∷ ps)) k)
+        AreAlike st (stored_of (fold page_durable c (p ∷ ps)) k)
         (name_from n i (position (λ (item : Item). same_key item.key k) (x ∷ xs)) older)
     other e r =
         let name : name_from n i (position (λ (item : Item). same_key item.key k) (x ∷ xs)) older ≡
         name_from n (suc i) (position (λ (item : Item). same_key item.key k) xs) older =
         ap (λ (o : Option ℕ). name_from n i o older) (position_behind (λ (item : Item). same_key item.key k) x xs e)
         ∙ sym (name_shifts n i (position (λ (item : Item). same_key item.key k) xs) older) in
-        subst (λ (z : Option Stored × Option Name). IsStored st z.0 z.1)
+        subst (λ (z : Option Stored × Option Name). AreAlike st z.0 z.1)
         (λ j. (sym (ap (λ (z : Core). stored_of (fold page_durable z ps) k) one) j, sym name j)) r
 
 -- each key reads from its page in the group, where it has one, else from where it did
 pub stored_next : (st : Standing) (n : ℕ) (ps : List Pending) (xs : List Item) (c : Core) (k : Key)
     (older : Option Name) → AreStandingPages st n 0 ps xs → HasPlaces c → AreKeysOf c xs → KeysDiffer xs →
-    IsKey (shape_of_numbers c.numbers) k → IsStored st (stored_of c k) older →
-    IsStored st (stored_of (fold page_durable c ps) k)
+    IsKey (shape_of_numbers c.numbers) k → AreAlike st (stored_of c k) older →
+    AreAlike st (stored_of (fold page_durable c ps) k)
     (name_or n (position (λ (item : Item). same_key item.key k) xs) older)
 stored_next st n ps xs c k older h long keys differ isk is =
-    subst (IsStored st (stored_of (fold page_durable c ps) k))
+    subst (AreAlike st (stored_of (fold page_durable c ps) k))
     (name_first n (position (λ (item : Item). same_key item.key k) xs) older)
     (stored_from st n 0 ps xs c k older h long keys differ isk is)
 

@@ -6,7 +6,7 @@ use Rattle.ufs_spec.proofs.Facts.{same_Some}
 use Rattle.ufs_spec.proofs.Lists.{set_length}
 use Rattle.ufs_spec.specs.Disk as disk
 use Rattle.ufs_spec.specs.Disk.{at_die}
-use Rattle.ufs_spec.specs.Ledger.{Entry, Ledger, Name, at_name, entry_of, latest_durable, pending, same_name}
+use Rattle.ufs_spec.specs.Ledger.{Entry, Ledger, at_name, entry_of, latest_durable, pending, same_name}
 use Rattle.ufs_spec.specs.Translation.{Translation, flies_name, name_of}
 use Rattle.ufs_spec.specs.declared.configs.Numbers.{Numbers}
 use Rattle.ufs_spec.specs.declared.flash.Place.{Place}
@@ -22,8 +22,9 @@ use Rattle.block_table.specs.declared.rows.Flight.{Flight}
 use Rattle.block_table.specs.declared.rows.Flight.TheVariants as flight
 use Rattle.ftl_core.specs.declared.books.Step.{Step}
 use Rattle.ufs_spec.specs.Cells.{GroupPage}
+use Rattle.ufs_spec.specs.declared.layer.Name.{Name}
 use Rattle.ftl_core.specs.Core.{Core}
-use Rattle.ftl_core.specs.Describes.{IsFlight, IsStored, Kept, LedgerKept, PageKept, PagesFly, PagesKept, Standing}
+use Rattle.ftl_core.specs.Describes.{IsFlight, Kept, LedgerKept, PageKept, PagesFly, PagesKept, Standing}
 use Rattle.ftl_core.specs.Describes.{WritesGroup, names_pending}
 use Rattle.ftl_core.specs.Ends.{pending_written}
 use Rattle.write_cache.specs.Slots.{is_named, written_at, written_if}
@@ -32,6 +33,7 @@ use Rattle.ftl_core.proofs.job_taken.Flown.{fly_over, wrote_before}
 use Rattle.ftl_core.proofs.opened.ListParts.{get_set}
 use Rattle.ftl_core.proofs.pages.NamesBehind.{names_differ}
 use Rattle.ftl_core.proofs.pages.PagesNamed.{pages_get, pages_kept, position_named, same_count}
+use Rattle.ftl_core.proofs.pages.StoredNames.{AreAlike, name_there, stored_still}
 
 -- The ledger
 
@@ -60,17 +62,12 @@ stands_on standing name p m q is = ⊎_elim
 
 -- where the page of a new name stands, what stood does so too
 pub stored_on : (standing : Standing) (name : Name) (p : Place) → standing name.number name.index ≡ None →
-    (s : Option Stored) (o : Option Name) → IsStored standing s o → IsStored (at_name standing name (Some p)) s o
-stored_on standing name p new None None k = tt
-stored_on standing name p new None (Some m) k = absurd k
-stored_on standing name p new (Some s) None k = absurd k
-stored_on standing name p new (Some s) (Some m) k = (
-  k.0,
-  ⊎_elim
-      (λ e. absurd (none_some s.place (sym new ∙ sym (ap (λ (z : Name). standing z.number z.index) e.1) ∙ k.1)))
-      (λ e. at_other standing name m p e.1 ∙ k.1)
-      (name_cases m name),
-)
+    (s : Option Stored) (o : Option Name) → AreAlike standing s o → AreAlike (at_name standing name (Some p)) s o
+stored_on standing name p new s o k = stored_still standing (at_name standing name (Some p)) s o
+    (λ m is.
+    let r = name_there standing s m (subst (AreAlike standing s) is k) in
+    at_other standing name m p
+    (λ same. none_some r.0.place (sym new ∙ sym (ap (λ (z : Name). standing z.number z.index) same) ∙ r.3))) k
 
 -- the page at a position stands under the name at that position
 page_at : (st : Standing) (en : Name → Option Entry) (ps : List Pending) (names : List Name) (k : ℕ) (p : Pending)
@@ -100,6 +97,7 @@ pages_put st en name place ps names k p h at named differ =
       entry = here.entry;
       group_page = here.group_page;
       stands = at_here st name name place refl;
+      whole = here.whole;
     }
 
     stays : (j : ℕ) (q : Pending) (m : Name) → j ≢ k → slice_get ps j ≡ Some q → slice_get names j ≡ Some m →
@@ -113,6 +111,7 @@ pages_put st en name place ps names k p h at named differ =
           group_page = there.group_page;
           stands = at_other st name m place
               (λ e. apart (differ j k name (is ∙ ap (λ (z : Name). Some z) e) named)) ∙ there.stands;
+          whole = there.whole;
         }
 
     each : (j : ℕ) (q : Pending) (m : Name) →

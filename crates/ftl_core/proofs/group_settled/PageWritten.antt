@@ -6,13 +6,14 @@ use Rattle.ufs_spec.specs.Cells.{GroupPage}
 use Rattle.ufs_spec.specs.Disk as disk
 use Rattle.ufs_spec.specs.Disk.{at_spot, programmed}
 use Rattle.ufs_spec.specs.Keys as keys
-use Rattle.ufs_spec.specs.Ledger.{Entry, Name}
+use Rattle.ufs_spec.specs.Ledger.{Entry}
 use Rattle.ufs_spec.specs.Moves.{step_after}
 use Rattle.ufs_spec.specs.Translation.{Mended, Mending, Repairing, Step, Translation, Unmarked, flies_name}
 use Rattle.ufs_spec.specs.Translation.{is_bad, is_mended, name_of, names_after}
 use Rattle.ufs_spec.specs.declared.configs.Numbers.{Numbers}
 use Rattle.ufs_spec.specs.declared.flash.Place.{Place}
 use Rattle.ufs_spec.specs.declared.flash.Tag.{Tag}
+use Rattle.ufs_spec.specs.declared.layer.Name.{Name}
 use Rattle.power_loss.specs.Book.{IsPageAt, book, last_number}
 use Rattle.power_loss.proofs.books.FrontierClimbs.{get_drop, in_group}
 use Rattle.power_loss.specs.Invariant.{IsLastRepair, MendingRight, Valid}

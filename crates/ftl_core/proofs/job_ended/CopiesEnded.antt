@@ -8,7 +8,7 @@ use Rattle.ufs_spec.proofs.Facts.{false≢true, same_Some}
 use Rattle.ufs_spec.specs.Cells.{Cells, GroupPage, key_of}
 use Rattle.ufs_spec.specs.Disk as disk
 use Rattle.ufs_spec.specs.Disk.{at_place, at_spot}
-use Rattle.ufs_spec.specs.Ledger.{Entry, Ledger, Name, entry_of}
+use Rattle.ufs_spec.specs.Ledger.{Entry, Ledger, entry_of}
 use Rattle.ufs_spec.specs.Moves as moves
 use Rattle.ufs_spec.specs.Moves.{step_after}
 use Rattle.ufs_spec.specs.Translation as layer
@@ -44,7 +44,7 @@ use Rattle.ftl_core.proofs.group_settled.PageWritten.{with_group_page, written_a
 use Rattle.ftl_core.proofs.job_ended.ChangeParts.{blocks_on, blocks_put, rows_with, closed_fills, elsewhere}
 use Rattle.ftl_core.proofs.job_ended.ChangeParts.{filling_kept, page_ends, states_with}
 use Rattle.ftl_core.proofs.job_ended.CopyLedger.{found, is_key, ledger_left, ledger_moved, ledger_pending, now_written}
-use Rattle.ftl_core.proofs.job_ended.CopyLedger.{pages_are, pending_page}
+use Rattle.ftl_core.proofs.job_ended.CopyLedger.{pages_are, pending_page, stored_name}
 use Rattle.ftl_core.proofs.job_ended.JobsOver.{filling_on, filling_over}
 use Rattle.ftl_core.proofs.job_ended.StepsOver.{none_reads, suits_next}
 use Rattle.ftl_core.proofs.job_taken.Flown.{copy_name, die_within, dies_changed, reads_over}
@@ -61,6 +61,7 @@ use Rattle.ftl_core.proofs.pages.NamesBehind.{in_names}
 use Rattle.ftl_core.proofs.pages.PagesNamed.{pages_get}
 use Rattle.power_loss.proofs.ordered_lists.ElementsAndOrders.{at_has}
 use Rattle.ufs_spec.specs.Ledger.{pending}
+use Rattle.ufs_spec.specs.declared.layer.Name.{Name}
 
 -- The copy that is under way
 
@@ -240,34 +241,35 @@ module _ (c : Core) (t : Translation) (die : ℕ) (b : DieRow) (o : OpenBlock) (
         all = all_known;
       }
       by (Some s) at = ⊎_elim
-          (λ (x : ((s.number == n) ≡ true) × (s.number ≡ n)). record {
-            places = places_noted c.places (record { place = place; number = name.number }) (position_of c.numbers k);
+          (λ (x : ((s.name.number == n) ≡ true) × (s.name.number ≡ n)).
+          let current = x.1 ∙ sym cell.0 in
+          let same = stored_name c t h name k place copy.right.entry known copy.right.key low s at current in
+          record {
+            places = places_noted c.places (record { name = name; place = place }) (position_of c.numbers k);
             pages = c.pages;
             live = live_moved c.live (stored_of c k) place;
-            is = if_true (s.number == n) (noted (record c { step = None }) k (record { place = place; number = n }))
+            is = if_true (s.name.number == n) (noted (record c { step = None }) k (record s { place = place }))
                 (record c { step = None }) x.0
                 ∙ (λ i. record c {
                   step = None;
-                  places = places_noted c.places (record { place = place; number = sym cell.0 i })
-                      (position_of c.numbers k);
+                  places = places_noted c.places (record { name = same i; place = place }) (position_of c.numbers k);
                   live = live_moved c.live (stored_of c k) place;
                 });
-            ledger = ledger_moved c t h name k place copy.right.entry known copy.right.key low s at
-                (x.1 ∙ sym cell.0);
-            all = durable_known after c all_known place key_known.inside k name.number
+            ledger = ledger_moved c t h name k place copy.right.entry known copy.right.key low s at current;
+            all = durable_known after c all_known place key_known.inside k name
                 (is_key c t h name k place copy.right.entry known copy.right.key) key_known (numbers_above low);
           })
-          (λ (x : ((s.number == n) ≡ false) × (s.number ≢ n)). record {
+          (λ (x : ((s.name.number == n) ≡ false) × (s.name.number ≢ n)). record {
             places = c.places;
             pages = c.pages;
             live = c.live;
-            is = if_false (s.number == n) (noted (record c { step = None }) k (record { place = place; number = n }))
+            is = if_false (s.name.number == n) (noted (record c { step = None }) k (record s { place = place }))
                 (record c { step = None }) x.0;
             ledger = ledger_left c t h name k place copy.right.entry known copy.right.key low
-                (λ r e same. x.1 (ap (λ (z : Stored). z.number) (same_Some s r (sym at ∙ e)) ∙ same ∙ cell.0));
+                (λ r e same. x.1 (ap (λ (z : Stored). z.name.number) (same_Some s r (sym at ∙ e)) ∙ same ∙ cell.0));
             all = all_known;
           })
-          (eqb_tells s.number n)
+          (eqb_tells s.name.number n)
 
   module _ (above : t.ledger.frontier < name.number) where
     at : IsPending c t.ledger name

@@ -7,9 +7,8 @@ use Rattle.ufs_spec.proofs.Facts.{false≢true, true≢false}
 use Rattle.ufs_spec.proofs.Updates.{at_place_cases}
 use Rattle.ufs_spec.specs.Cells.{Cell, Cells, GroupPage, MarkPage, Nothing}
 use Rattle.ufs_spec.specs.Disk as disk
-use Rattle.ufs_spec.specs.Disk.{CellCrash, ForNobody, ForRest, ForStep, ForTask, Spot, Touches, at_place, flight_alone}
+use Rattle.ufs_spec.specs.Disk.{CellCrash, Spot, Touches, at_place, flight_alone}
 use Rattle.ufs_spec.specs.Disk.{same_spot, spot_of}
-use Rattle.ufs_spec.specs.Ledger.{Name}
 use Rattle.ufs_spec.specs.Moves as moves
 use Rattle.ufs_spec.specs.Translation as layer
 use Rattle.ufs_spec.specs.Moves.{EndJob, Ending, MayEnd, ReadRight, ReadWrong, WentWell, WentWrong, end_flight}
@@ -19,6 +18,8 @@ use Rattle.ufs_spec.specs.Translation.{name_of, want_at, wants_of_step}
 use Rattle.ufs_spec.specs.declared.flash.Fence.{Fence}
 use Rattle.ufs_spec.specs.declared.flash.Place.{Place}
 use Rattle.ufs_spec.specs.declared.flash.Tag.{Tag}
+use Rattle.ufs_spec.specs.declared.layer.Name.{Name}
+use Rattle.ufs_spec.specs.declared.layer.Reader.TheVariants.{ForNobody, ForRest, ForStep, ForTask}
 use Rattle.power_loss.specs.Invariant.{IsNeededPage, Valid}
 use Rattle.std.proofs.lemmas.List.Elements.{All-cons, All-head, All-nil, All-tail}
 use Rattle.collector.specs.Plans.{Collection, layer_plan, place_of}

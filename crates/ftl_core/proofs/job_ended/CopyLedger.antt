@@ -1,16 +1,17 @@
 -- The copy of a page stands: the places that are kept of contents and of pending pages are those of the ledger then.
-use Rattle.std.proofs.Common.{◌≡◌, ◌≢◌, ◌∙◌, ℕ, suc, ◌<◌, ◌≤◌, true, List, [], ◌∷◌, Option, Some, None, refl}
+use Rattle.std.proofs.Common.{◌≡◌, ◌≢◌, ◌∙◌, ℕ, suc, ◌<◌, ◌≤◌, true, List, [], ◌∷◌, Option, Some, refl}
 use Rattle.std.proofs.Common.{sym, ap, subst, ⊎_elim, arith}
 use Rattle.std.specs.Prelude.{find, slice_get, slice_set}
 use Rattle.ufs_spec.proofs.Equalities.{key_cases}
 use Rattle.ufs_spec.proofs.Facts.{same_Some}
 use Rattle.ufs_spec.specs.Keys.{IsKey}
-use Rattle.ufs_spec.specs.Ledger.{Entry, Name, at_name, entry_of, latest_durable, pending}
+use Rattle.ufs_spec.specs.Ledger.{Entry, at_name, entry_of, latest_durable, pending}
 use Rattle.ufs_spec.specs.Plain.{shape_of_numbers}
 use Rattle.ufs_spec.specs.Translation.{Translation, is_mended}
 use Rattle.ufs_spec.specs.declared.configs.Numbers.{Numbers}
 use Rattle.ufs_spec.specs.declared.flash.Key.{Key}
 use Rattle.ufs_spec.specs.declared.flash.Place.{Place}
+use Rattle.ufs_spec.specs.declared.layer.Name.{Name}
 use Rattle.power_loss.specs.Book.{HasKey, IsPageAt, book}
 use Rattle.power_loss.proofs.books.SmallFacts.{name_is}
 use Rattle.power_loss.proofs.ordered_lists.ElementsAndOrders.{at_has}
@@ -19,7 +20,7 @@ use Rattle.unit_map.specs.declared.Stored.{Stored}
 use Rattle.write_cache.specs.Slots.{is_named, page_written, written_at, written_if}
 use Rattle.write_cache.specs.declared.slots.Pending.{Pending}
 use Rattle.ftl_core.specs.Core.{Core}
-use Rattle.ftl_core.specs.Describes.{Describes, IsStored, LedgerKept, PageKept, PagesKept, Standing, names_pending}
+use Rattle.ftl_core.specs.Describes.{Describes, LedgerKept, PageKept, PagesKept, Standing, names_pending}
 use Rattle.ftl_core.specs.Moves.{stored_of}
 use Rattle.ftl_core.proofs.group_settled.NotedPlaces.{places_length, stored_here, stored_other}
 use Rattle.ftl_core.proofs.group_settled.PageStands.{IsPending, at_here, at_other, pages_put, with_page}
@@ -27,15 +28,14 @@ use Rattle.ftl_core.proofs.group_settled.PageWritten.{pending_of}
 use Rattle.ftl_core.proofs.live_pages.StoredPages.{durable_entry}
 use Rattle.ftl_core.proofs.pages.NamesBehind.{in_names, names_differ}
 use Rattle.ftl_core.proofs.pages.PagesNamed.{page_named}
+use Rattle.ftl_core.proofs.pages.StoredNames.{AreAlike, name_there, stored_is, stored_still, stored_there}
 
 -- Where another page stands, nothing changes
 
 stored_beside : (standing : Standing) (name : Name) (p : Place) (s : Option Stored) (o : Option Name) →
-    ((m : Name) → o ≡ Some m → m ≢ name) → IsStored standing s o → IsStored (at_name standing name (Some p)) s o
-stored_beside standing name p None None apart k = tt
-stored_beside standing name p None (Some m) apart k = absurd k
-stored_beside standing name p (Some s) None apart k = absurd k
-stored_beside standing name p (Some s) (Some m) apart k = (k.0, at_other standing name m p (apart m refl) ∙ k.1)
+    ((m : Name) → o ≡ Some m → m ≢ name) → AreAlike standing s o → AreAlike (at_name standing name (Some p)) s o
+stored_beside standing name p s o apart k = stored_still standing (at_name standing name (Some p)) s o
+    (λ m is. at_other standing name m p (apart m is)) k
 
 pages_beside : (standing : Standing) (entries : Name → Option Entry) (name : Name) (p : Place) (ps : List Pending)
     (names : List Name) → ((j : ℕ) (m : Name) → slice_get names j ≡ Some m → m ≢ name) →
@@ -50,6 +50,7 @@ pages_beside standing entries name p (q ∷ qs) (m ∷ ms) apart h = (
     entry = h.0.entry;
     group_page = h.0.group_page;
     stands = at_other standing name m p (apart 0 m refl) ∙ h.0.stands;
+    whole = h.0.whole;
   },
   pages_beside standing entries name p qs ms (λ j x e. apart (suc j) x e) h.1,
 )
@@ -104,32 +105,34 @@ module _ (c : Core) (t : Translation) (h : Describes c t) (name : Name) (k : Key
 
   -- it is the content of its key: the key reads from the copy
   module _ (low : name.number ≤ t.ledger.frontier) (s : Stored) (now : stored_of c k ≡ Some s)
-      (current : s.number ≡ name.number) where
+      (current : s.name.number ≡ name.number) where
     abbrev moved : Stored
-    moved = record { place = place; number = name.number }
+    moved = record { name = name; place = place }
+
+    latest_stored : latest_durable t.ledger k ≡ Some s.name
+    latest_stored = (stored_there t.ledger.standing s (latest_durable t.ledger k)
+        (subst (λ (o : Option Stored). AreAlike t.ledger.standing o (latest_durable t.ledger k)) now
+        (h.kept.ledger_kept.places k is_key))).0
+
+    pub stored_name : s.name ≡ name
+    stored_name = same_page s.name latest_stored current
 
     latest_is : latest_durable t.ledger k ≡ Some name
-    latest_is = by (latest_durable t.ledger k) refl
-        (subst (λ (o : Option Stored). IsStored t.ledger.standing o (latest_durable t.ledger k)) now
-        (h.kept.ledger_kept.places k is_key))
-      where
-        by : (o : Option Name) → latest_durable t.ledger k ≡ o → IsStored t.ledger.standing (Some s) o →
-            o ≡ Some name
-        by None is stands = absurd stands
-        by (Some m) is stands = ap (λ (z : Name). Some z) (same_page m is (stands.0 ∙ current))
+    latest_is = latest_stored ∙ ap (λ (z : Name). Some z) stored_name
 
     place_noted : (j : Key) → IsKey (shape_of_numbers c.numbers) j →
-        IsStored (with_page t.ledger name place).standing
+        AreAlike (with_page t.ledger name place).standing
         (stored_in c.numbers (places_noted c.places moved (position_of c.numbers k)) j) (latest_durable t.ledger j)
     place_noted j isj = ⊎_elim
-        (λ same. subst (λ (z : Key). IsStored (with_page t.ledger name place).standing
+        (λ same. subst (λ (z : Key). AreAlike (with_page t.ledger name place).standing
         (stored_in c.numbers (places_noted c.places moved (position_of c.numbers k)) z) (latest_durable t.ledger z))
         (sym same.1)
-        (subst (λ (z : Option Stored × Option Name). IsStored (with_page t.ledger name place).standing z.0 z.1)
+        (subst (λ (z : Option Stored × Option Name). AreAlike (with_page t.ledger name place).standing z.0 z.1)
         (λ i. (sym (stored_here c k moved h.kept.ledger_kept.keys is_key) i, sym latest_is i))
-        (refl, at_here t.ledger.standing name name place refl)))
+        (stored_is (with_page t.ledger name place).standing moved name refl
+        (at_here t.ledger.standing name name place refl))))
         (λ other.
-        subst (λ (z : Option Stored). IsStored (with_page t.ledger name place).standing z (latest_durable t.ledger j))
+        subst (λ (z : Option Stored). AreAlike (with_page t.ledger name place).standing z (latest_durable t.ledger j))
         (sym (stored_other c k j moved (λ f. other.1 (sym f)) is_key isj))
         (stored_beside t.ledger.standing name place (stored_of c j) (latest_durable t.ledger j)
         (λ m is. other_key j m (here_is j isj) is other.1) (h.kept.ledger_kept.places j isj)))
@@ -148,7 +151,7 @@ module _ (c : Core) (t : Translation) (h : Describes c t) (name : Name) (k : Key
 
   -- or another page is: nothing changes
   pub ledger_left : name.number ≤ t.ledger.frontier →
-      ((s : Stored) → stored_of c k ≡ Some s → s.number ≢ name.number) →
+      ((s : Stored) → stored_of c k ≡ Some s → s.name.number ≢ name.number) →
       LedgerKept c.numbers c.places c.pages c.frontier c.last (with_page t.ledger name place)
   ledger_left low old = record {
     frontier = h.kept.ledger_kept.frontier;
@@ -157,18 +160,18 @@ module _ (c : Core) (t : Translation) (h : Describes c t) (name : Name) (k : Key
     keys = h.kept.ledger_kept.keys;
     places = λ j isj. stored_beside t.ledger.standing name place (stored_of c j) (latest_durable t.ledger j)
         (λ m is same. ⊎_elim
-        (λ (x : _ × (j ≡ k)). not_it m (ap (latest_durable t.ledger) (sym x.1) ∙ is) same (stored_of c k) refl
-        (subst (IsStored t.ledger.standing (stored_of c k)) (ap (latest_durable t.ledger) (sym x.1) ∙ is)
+        (λ (x : _ × (j ≡ k)). not_it m same
+        (subst (AreAlike t.ledger.standing (stored_of c k)) (ap (latest_durable t.ledger) (sym x.1) ∙ is)
         (h.kept.ledger_kept.places k is_key)))
         (λ (x : _ × (j ≢ k)). other_key j m (here_is j isj) is x.1 same)
         (key_cases j k))
         (h.kept.ledger_kept.places j isj);
   }
     where
-      not_it : (m : Name) → latest_durable t.ledger k ≡ Some m → m ≡ name → (o : Option Stored) → stored_of c k ≡ o →
-          IsStored t.ledger.standing o (Some m) → ⊥
-      not_it m is same None at stands = stands
-      not_it m is same (Some s) at stands = old s at (sym stands.0 ∙ ap (λ (z : Name). z.number) same)
+      not_it : (m : Name) → m ≡ name → AreAlike t.ledger.standing (stored_of c k) (Some m) → ⊥
+      not_it m same alike =
+          let r = name_there t.ledger.standing (stored_of c k) m alike in
+          old r.0 r.1 (ap (λ (z : Name). z.number) (r.2 ∙ same))
 
   -- its group is pending: the page is written where the copy is
   module _ (mended : is_mended t.work.mending ≡ true) (above : t.ledger.frontier < name.number) where

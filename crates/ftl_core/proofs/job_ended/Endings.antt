@@ -4,7 +4,7 @@ use Rattle.std.specs.Prelude.{is_some, slice_get, option_map}
 use Rattle.ufs_spec.proofs.Facts.{false≢true}
 use Rattle.ufs_spec.specs.Cells.{Cell, Cells, GroupPage}
 use Rattle.ufs_spec.specs.Disk as disk
-use Rattle.ufs_spec.specs.Disk.{ForNobody, ForStep, ForTask, Reader, Spot}
+use Rattle.ufs_spec.specs.Disk.{Spot}
 use Rattle.ufs_spec.specs.Moves.{EndJob, Ending, IsEndingOf, MayEnd, end_flight, WentWell, WentWrong, moved}
 use Rattle.ufs_spec.specs.Moves.{outcome_fits}
 use Rattle.ufs_spec.specs.Translation.{Translation}
@@ -12,13 +12,13 @@ use Rattle.ufs_spec.specs.declared.flash.Outcome.{Outcome}
 use Rattle.ufs_spec.specs.declared.flash.Place.{Place}
 use Rattle.ufs_spec.specs.declared.flash.Tag.{Tag}
 use Rattle.ufs_spec.specs.declared.flash.Outcome.TheVariants as outcome
+use Rattle.ufs_spec.specs.declared.layer.Reader.{Reader}
+use Rattle.ufs_spec.specs.declared.layer.Reader.TheVariants.{ForNobody, ForStep, ForTask}
 use Rattle.page_tag.specs.Jobs.{IsTagRead}
 use Rattle.power_loss.proofs.moves.MovesKeepValid.{all_keep}
 use Rattle.block_table.specs.declared.rows.DieRow.{DieRow}
 use Rattle.block_table.specs.declared.rows.Flight.{Flight}
 use Rattle.block_table.specs.declared.rows.Flight.TheVariants as flight
-use Rattle.block_table.specs.declared.rows.Reader as kept
-use Rattle.block_table.specs.declared.rows.Reader.TheVariants as readers
 use Rattle.ftl_core.specs.declared.ftl.Ended.{Ended}
 use Rattle.ftl_core.specs.declared.ftl.Ended.TheVariants as ended
 use Rattle.ftl_core.specs.Core.{Core}
@@ -86,20 +86,20 @@ kept_then c t die o tag ending b after found h there is new =
     same d u k e = subst (λ (x : Core). Kept x u) (sym e) k
 
     reads : (place : Place) (reader index : ℕ) →
-        Goal (Some (flight.Read place (readers.Task reader index))) (Some (disk.Reading (ForTask reader index) place))
+        Goal (Some (flight.Read place (ForTask reader index))) (Some (disk.Reading (ForTask reader index) place))
     reads place reader index does flies now new =
         let kept = task_kept c t die reader index b place h there flies in
-        read_ends (λ d e. IsReadAfter d c die b o tag (readers.Task reader index) after →
+        read_ends (λ d e. IsReadAfter d c die b o tag (ForTask reader index) after →
         Kept after (end_flight t die (Some (disk.Reading (ForTask reader index) place)) e)) t.disk.cells
         (ForTask reader index) place (λ e. same _ _ kept e) (λ e. same _ _ kept e) o ending now new
 
-    contents : (place : Place) → Goal (Some (flight.Read place readers.Step)) (Some (disk.Reading ForStep place))
+    contents : (place : Place) → Goal (Some (flight.Read place ForStep)) (Some (disk.Reading ForStep place))
     contents place does flies now new = step_read_ends c t die b place h there flies o tag ending after found now new
 
-    lost : (place : Place) → Goal (Some (flight.Read place readers.Nobody)) (Some (disk.Reading ForNobody place))
+    lost : (place : Place) → Goal (Some (flight.Read place ForNobody)) (Some (disk.Reading ForNobody place))
     lost place does flies now new =
         let kept = idle_kept c t die b h.kept there in
-        read_ends (λ d e. IsReadAfter d c die b o tag readers.Nobody after →
+        read_ends (λ d e. IsReadAfter d c die b o tag ForNobody after →
         Kept after (end_flight t die (Some (disk.Reading ForNobody place)) e)) t.disk.cells ForNobody place
         (λ e. same _ _ kept e) (λ e. same _ _ kept e) o ending now new
 
@@ -181,13 +181,13 @@ told_then c t die o ending r b h there is answer =
         (e : Ended) × (r ≡ Some e) × IsTold t.disk.cells g ending e
 
     reads : (place : Place) (tag index : ℕ) →
-        Goal (Some (flight.Read place (readers.Task tag index))) (Some (disk.Reading (ForTask tag index) place))
+        Goal (Some (flight.Read place (ForTask tag index))) (Some (disk.Reading (ForTask tag index) place))
     reads place tag index flies now told = task_told c t die tag index place o ending r h flies now told
 
-    contents : (place : Place) → Goal (Some (flight.Read place readers.Step)) (Some (disk.Reading ForStep place))
+    contents : (place : Place) → Goal (Some (flight.Read place ForStep)) (Some (disk.Reading ForStep place))
     contents place flies now told = step_told c t.disk.cells place o ending r now told
 
-    lost : (place : Place) → Goal (Some (flight.Read place readers.Nobody)) (Some (disk.Reading ForNobody place))
+    lost : (place : Place) → Goal (Some (flight.Read place ForNobody)) (Some (disk.Reading ForNobody place))
     lost place flies now told = lost_told c t.disk.cells place o ending r now told
 
     programs : (p : Place) (cell : Cell) → IsEndingOf t.disk.cells (Some (disk.Programming p cell)) o ending →
@@ -218,7 +218,7 @@ ends_told c die o r answer t ending h is = told_of c t die o ending r (slice_get
 -- Which outcomes are refused
 
 -- a read's outcome is one of a read
-read_known : (c : Core) (reader : kept.Reader) (r : Option Ended) (d : Bool) (o : Outcome) → GivesIf d c o reader r →
+read_known : (c : Core) (reader : Reader) (r : Option Ended) (d : Bool) (o : Outcome) → GivesIf d c o reader r →
     is_some r ≡ d
 read_known c reader r false o gives = ap is_some gives
 read_known c reader r true o gives = ap is_some gives.1
@@ -250,9 +250,9 @@ known_then c t die o r b h there answer =
     flight_cases t.numbers c.step die b.filling (λ f g. FlightEnds c f o r → is_some r ≡ outcome_fits g o)
     (λ told. ap is_some told)
     (λ place tag index told.
-    read_known c (readers.Task tag index) r (is_read o) o told ∙ reads_suit (ForTask tag index) place o)
-    (λ place told. read_known c readers.Step r (is_read o) o told ∙ reads_suit ForStep place o)
-    (λ place told. read_known c readers.Nobody r (is_read o) o told ∙ reads_suit ForNobody place o)
+    read_known c (ForTask tag index) r (is_read o) o told ∙ reads_suit (ForTask tag index) place o)
+    (λ place told. read_known c ForStep r (is_read o) o told ∙ reads_suit ForStep place o)
+    (λ place told. read_known c ForNobody r (is_read o) o told ∙ reads_suit ForNobody place o)
     (λ filled cell fills page told. ap is_some told ∙ programs_suit (next_place die filled) cell o)
     (λ filled tag body fills no_repair told.
     ap is_some told ∙ programs_suit (next_place die filled) (GroupPage tag body) o)

@@ -11,12 +11,13 @@ use Rattle.ufs_spec.specs.declared.flash.Key.{Key}
 use Rattle.ufs_spec.specs.Disk as disk
 use Rattle.ufs_spec.specs.Disk.{Spot, at_place, state_after}
 use Rattle.ufs_spec.specs.declared.flash.Place.{Place}
-use Rattle.ufs_spec.specs.Ledger.{Ledger, Name, before_accepted}
+use Rattle.ufs_spec.specs.Ledger.{Ledger, before_accepted}
 use Rattle.ufs_spec.specs.Moves.{cell_failed, mark_again}
 use Rattle.ufs_spec.specs.Moves.{mark_written as layer_written, mending_after}
 use Rattle.ufs_spec.specs.Translation as layer
 use Rattle.ufs_spec.specs.Translation.{MarkStep, Mended, Mending, Repairing, StepKind, Translation, Unmarked, is_bad}
 use Rattle.ufs_spec.specs.Translation.{is_mended}
+use Rattle.ufs_spec.specs.declared.layer.Name.{Name}
 use Rattle.power_loss.specs.Book.{book}
 use Rattle.power_loss.proofs.books.SmallFacts.{at_spot_cases}
 use Rattle.power_loss.proofs.jobs.MarkEnded.{behind_unmended}

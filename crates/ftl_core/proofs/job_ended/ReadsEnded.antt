@@ -5,19 +5,21 @@ use Rattle.std.specs.Prelude.{if◌then◌else◌, find, option_map, slice_get}
 use Rattle.ufs_spec.proofs.Facts.{same_Some, false≢true}
 use Rattle.ufs_spec.specs.Cells.{Cells}
 use Rattle.ufs_spec.specs.Disk as disk
-use Rattle.ufs_spec.specs.Disk.{ForTask, Reader, at_die}
+use Rattle.ufs_spec.specs.Disk.{at_die}
 use Rattle.ufs_spec.specs.Ledger.{entry_of}
 use Rattle.ufs_spec.specs.Moves.{Ending, IsEndingOf, ReadRight, ReadWrong, with_wanted}
 use Rattle.ufs_spec.specs.Translation.{Translation}
 use Rattle.ufs_spec.specs.declared.flash.Outcome.{Outcome}
 use Rattle.ufs_spec.specs.declared.flash.Outcome.TheVariants as outcome
 use Rattle.ufs_spec.specs.declared.flash.Place.{Place}
+use Rattle.ufs_spec.specs.declared.layer.Looked.TheVariants.{OnPage}
+use Rattle.ufs_spec.specs.declared.layer.Name.{Name}
+use Rattle.ufs_spec.specs.declared.layer.Reader.{Reader}
+use Rattle.ufs_spec.specs.declared.layer.Reader.TheVariants.{ForTask}
 use Rattle.power_loss.proofs.books.PagesByName.{none_some}
 use Rattle.power_loss.proofs.books.SmallFacts.{at_die_cases, two_ways}
 use Rattle.block_table.specs.declared.rows.DieRow.{DieRow}
-use Rattle.ftl_core.specs.declared.books.Looked.TheVariants as looked
 use Rattle.ftl_core.specs.declared.books.Pin.{Pin}
-use Rattle.unit_map.specs.declared.Stored.{Stored}
 use Rattle.ftl_core.specs.Core.{Core}
 use Rattle.ftl_core.specs.Describes.{Describes, IsWanted, Kept, ReadsKept}
 use Rattle.ftl_core.specs.Gives.{is_read, wanted_no_more}
@@ -43,13 +45,10 @@ read_ends P cells who p right wrong o ending h = absurd h.1
 
 -- no two places are read for a reader
 one_place : (p q : Pin) (a b : Place) → p ≡ q → IsWanted a p → IsWanted b q → a ≡ b
-one_place p q a b same x y = sym x.place_is
-    ∙ ap (λ (s : Stored). s.place)
-    (one_page x.stored y.stored (sym x.looks ∙ ap (λ (z : Pin). z.looked) same ∙ y.looks))
-    ∙ y.place_is
+one_place p q a b same x y = one_page x.name y.name (sym x.looks ∙ ap (λ (z : Pin). z.looked) same ∙ y.looks)
   where
-    one_page : (s u : Stored) → looked.Page s ≡ looked.Page u → s ≡ u
-    one_page s u e = cc
+    one_page : (m n : Name) → OnPage m a ≡ OnPage n b → a ≡ b
+    one_page m n e = cc
 
 -- What is kept
 
@@ -124,9 +123,8 @@ task_kept c t die reader index b place h there flies = record {
     stays : (tag i : ℕ) (p : Place) (x : Pin) → ((tag ≡ reader) × (i ≡ index) → ⊥) → is_pin_of tag i x ≡ true →
         IsWanted p x → IsWanted p (wanted_no_more reader index x)
     stays tag i p x other of w = record {
-      stored = w.stored;
+      name = w.name;
       looks = w.looks;
-      place_is = w.place_is;
       wanted = ap (λ (b : Bool). if b then false else x.wanted) (⊎_elim
           (λ is. let u = pin_told tag i x of in let v = pin_told reader index x is in
           absurd (other (sym u.0 ∙ v.0, sym u.1 ∙ v.1)))

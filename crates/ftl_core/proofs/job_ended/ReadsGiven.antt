@@ -5,8 +5,7 @@ use Rattle.std.proofs.lemmas.Option.{get_or_from_slice_get, slice_get_within}
 use Rattle.ufs_spec.proofs.Facts.{false≢true, key_is}
 use Rattle.ufs_spec.specs.Cells.{Cells, GroupPage, IsCell, Opens, key_of}
 use Rattle.ufs_spec.specs.Disk as disk
-use Rattle.ufs_spec.specs.Disk.{ForNobody, ForStep, ForTask, Reader}
-use Rattle.ufs_spec.specs.Ledger.{Entry, Name, OnPage, entry_of}
+use Rattle.ufs_spec.specs.Ledger.{Entry, entry_of}
 use Rattle.ufs_spec.specs.Moves.{Ending, IsAnother, IsEndingOf, ReadRight, ReadWrong, WentWell, WentWrong}
 use Rattle.ufs_spec.specs.Translation as layer
 use Rattle.ufs_spec.specs.Translation.{Translation}
@@ -16,23 +15,23 @@ use Rattle.ufs_spec.specs.declared.flash.Outcome.TheVariants as outcome
 use Rattle.ufs_spec.specs.declared.flash.Page.{Page}
 use Rattle.ufs_spec.specs.declared.flash.Place.{Place}
 use Rattle.ufs_spec.specs.declared.flash.Tag.{Tag}
+use Rattle.ufs_spec.specs.declared.layer.Looked.{Looked}
+use Rattle.ufs_spec.specs.declared.layer.Looked.TheVariants.{OnPage}
+use Rattle.ufs_spec.specs.declared.layer.Name.{Name}
+use Rattle.ufs_spec.specs.declared.layer.Reader.{Reader}
+use Rattle.ufs_spec.specs.declared.layer.Reader.TheVariants.{ForNobody, ForStep, ForTask}
 use Rattle.ufs_laws.proofs.pages.SealedOnce.{body_opened}
 use Rattle.power_loss.specs.Book.{IsPageAt, book}
 use Rattle.power_loss.specs.Invariant.{IsGroupPage, LookedRight, Valid}
 use Rattle.power_loss.proofs.books.PagesByName.{page_one}
 use Rattle.power_loss.proofs.books.SmallFacts.{and_true, eq_self, eq_told}
-use Rattle.ftl_core.specs.declared.books.Looked.{Looked}
-use Rattle.ftl_core.specs.declared.books.Looked.TheVariants as looked
 use Rattle.ftl_core.specs.declared.books.Pin.{Pin}
-use Rattle.block_table.specs.declared.rows.Reader as kept
-use Rattle.block_table.specs.declared.rows.Reader.TheVariants as readers
-use Rattle.unit_map.specs.declared.Stored.{Stored}
 use Rattle.ftl_core.specs.declared.ftl.Ended.{Ended}
 use Rattle.ftl_core.specs.declared.ftl.Ended.TheVariants as ended
 use Rattle.ftl_core.specs.Core.{Core}
-use Rattle.ftl_core.specs.Describes.{Describes, IsLookOf, IsLookedAt, IsTold, IsWanted, PinKept}
+use Rattle.ftl_core.specs.Describes.{Describes, IsLookOf, IsTold, IsWanted, PinKept}
 use Rattle.ftl_core.specs.Gives.{Gives, GivesIf, IsBodyLooked, IsBodyOf, IsGivenTo, is_read, names}
-use Rattle.ftl_core.proofs.pins.PinsAlike.{page_alike, pins_at}
+use Rattle.ftl_core.proofs.pins.PinsAlike.{pins_at}
 use Rattle.ftl_core.proofs.job_ended.ReadsEnded.{read_ends}
 use Rattle.ftl_core.proofs.pins.FoundPins.{found_there}
 use Rattle.ftl_core.specs.Moves.{is_pin_of}
@@ -101,12 +100,12 @@ wrong_body page cells place k n body w other is = known body refl
         (m.1 ∙ sym w.number))
 
 -- the page that a pin looks at stands there
-pub page_of_pin : (c : Core) (t : Translation) (k : ℕ) (x : Pin) (s : Stored) → Describes c t →
+pub page_of_pin : (c : Core) (t : Translation) (k : ℕ) (x : Pin) (name : Name) (place : Place) → Describes c t →
     slice_get c.pins k ≡ Some x →
-    x.looked ≡ looked.Page s → IsPageOf t.disk.cells s.place x.key s.number
-page_of_pin c t k x s h at looks =
-    let known = v.pages.known s.place page.tag page.body page.there in
-    let one = page_one (book t) name.0.number name.0.index _ of_key.0
+    x.looked ≡ OnPage name place → IsPageOf t.disk.cells place x.key name.number
+page_of_pin c t k x name place h at looks =
+    let known = v.pages.known place page.tag page.body page.there in
+    let one = page_one (book t) name.number name.index _ of_key.0
     (subst (λ (z : Name). IsPageAt (book t) z.number z.index
     (record { item = record { key = key_of page.tag; body = page.body }; size = page.tag.size })) page.is known)
     of_key.1 in record {
@@ -114,7 +113,7 @@ page_of_pin c t k x s h at looks =
       body = page.body;
       there = page.there;
       key = ap (λ (e : Entry). e.item.key) one ∙ of_key.2;
-      number = ap (λ (z : Name). z.number) page.is ∙ name.2;
+      number = ap (λ (z : Name). z.number) page.is;
     }
   where
     v : Valid t
@@ -123,43 +122,43 @@ page_of_pin c t k x s h at looks =
     r : (q : layer.Pin) × (slice_get t.pins k ≡ Some q) × PinKept t.ledger.frontier (entry_of t.ledger) x q
     r = pins_at t.ledger.frontier (entry_of t.ledger) c.pins t.pins k x h.kept.pins at
 
-    name : (name : Name) × (r.0.looked ≡ OnPage name s.place) × (name.number ≡ s.number)
-    name = page_alike s r.0.looked (subst (λ (l : Looked). IsLookedAt l r.0.looked) looks r.2.looked_at)
+    looked : r.0.looked ≡ OnPage name place
+    looked = r.2.looked ∙ looks
 
-    page : IsGroupPage t.disk.cells t.disk.finished t.disk.erasing name.0 s.place
+    page : IsGroupPage t.disk.cells t.disk.finished t.disk.erasing name place
     page =
-        subst (LookedRight (book t) t.ledger.frontier t.disk.cells t.disk.finished t.disk.erasing) name.1
+        subst (LookedRight (book t) t.ledger.frontier t.disk.cells t.disk.finished t.disk.erasing) looked
         (subst (λ (q : layer.Pin). LookedRight
         (book t) t.ledger.frontier t.disk.cells t.disk.finished t.disk.erasing q.looked)
         (get_or_from_slice_get t.pins k r.0 r.0 r.1) (v.pins.each k r.0 (slice_get_within t.pins k r.0 r.1)))
 
-    of_key : (e : Entry) × (entry_of t.ledger name.0 ≡ Some e) × (e.item.key ≡ x.key)
-    of_key = subst (IsLookOf t.ledger.frontier (entry_of t.ledger) x.key) name.1 r.2.there
+    of_key : (e : Entry) × (entry_of t.ledger name ≡ Some e) × (e.item.key ≡ x.key)
+    of_key = subst (IsLookOf t.ledger.frontier (entry_of t.ledger) x.key) looked r.2.there
 
 -- what its reader is told, who wants the page
 given_told : (cells : Cells) (reader index : ℕ) (place : Place) (o : Outcome) (ending : Ending) (e : Ended) (x : Pin)
-    (s : Stored) (given : Option (List ℕ)) →
-    x.looked ≡ looked.Page s → IsPageOf cells place x.key s.number →
+    (name : Name) (given : Option (List ℕ)) →
+    x.looked ≡ OnPage name place → IsPageOf cells place x.key name.number →
     IsEndingOf cells (Some (disk.Reading (ForTask reader index) place)) o ending →
     IsGivenTo o (Some x) given → e ≡ ended.Read reader given →
     IsTold cells (Some (disk.Reading (ForTask reader index) place)) ending e
-given_told cells reader index place (outcome.Read page) ReadRight e x s given looks w is gives told = (
+given_told cells reader index place (outcome.Read page) ReadRight e x name given looks w is gives told = (
   w.tag,
   w.body,
   w.there,
   told ∙ ap (ended.Read reader)
-      (right_body page cells place x.key s.number given w is.1
+      (right_body page cells place x.key name.number given w is.1
       (subst (λ (l : Looked). IsBodyLooked page x.key l given) looks gives)),
 )
-given_told cells reader index place (outcome.Read page) ReadWrong e x s given looks w is gives told =
+given_told cells reader index place (outcome.Read page) ReadWrong e x name given looks w is gives told =
     told ∙ ap (ended.Read reader)
-    (wrong_body page cells place x.key s.number given w is.1
+    (wrong_body page cells place x.key name.number given w is.1
     (subst (λ (l : Looked). IsBodyLooked page x.key l given) looks gives))
-given_told cells reader index place outcome.ReadFailed ReadWrong e x s given looks w is gives told = told
+given_told cells reader index place outcome.ReadFailed ReadWrong e x name given looks w is gives told = told
     ∙ ap (ended.Read reader) gives
-given_told cells reader index place outcome.Done ending e x s given looks w is gives told = absurd (false≢true is.0)
-given_told cells reader index place outcome.Failed ending e x s given looks w is gives told = absurd (false≢true is.0)
-given_told cells reader index place o ending e x s given looks w is gives told = absurd is.1
+given_told cells reader index place outcome.Done ending e x name given looks w is gives told = absurd (false≢true is.0)
+given_told cells reader index place outcome.Failed ending e x name given looks w is gives told = absurd (false≢true is.0)
+given_told cells reader index place o ending e x name given looks w is gives told = absurd is.1
 
 read_is_over : (cells : Cells) (who : Reader) (place : Place) (o : Outcome) (ending : Ending) →
     IsEndingOf cells (Some (disk.Reading who place)) o ending → is_read o ≡ true
@@ -169,21 +168,20 @@ pub task_told : (c : Core) (t : Translation) (die reader index : ℕ) (place : P
     (r : Option Ended) → Describes c t →
     t.disk.flights die ≡ Some (disk.Reading (ForTask reader index) place) →
     IsEndingOf t.disk.cells (Some (disk.Reading (ForTask reader index) place)) o ending →
-    GivesIf (is_read o) c o (readers.Task reader index) r →
+    GivesIf (is_read o) c o (ForTask reader index) r →
     (e : Ended) × (r ≡ Some e) × IsTold t.disk.cells (Some (disk.Reading (ForTask reader index) place)) ending e
 task_told c t die reader index place o ending r h flies is gives = (
   given.0,
   given.1,
-  given_told t.disk.cells reader index place o ending given.0 w.0 w.2.stored given.2.0 w.2.looks
-      (subst (λ (p : Place). IsPageOf t.disk.cells p w.0.key w.2.stored.number) w.2.place_is
-      (page_of_pin c t at.0 w.0 w.2.stored h at.1 w.2.looks))
+  given_told t.disk.cells reader index place o ending given.0 w.0 w.2.name given.2.0 w.2.looks
+      (page_of_pin c t at.0 w.0 w.2.name place h at.1 w.2.looks)
       is
       (subst (λ (p : Option Pin). IsGivenTo o p given.2.0) w.1 given.2.1)
       given.2.2,
 )
   where
-    given : (e : Ended) × (r ≡ Some e) × Gives c o (readers.Task reader index) e
-    given = subst (λ (z : Bool). GivesIf z c o (readers.Task reader index) r)
+    given : (e : Ended) × (r ≡ Some e) × Gives c o (ForTask reader index) e
+    given = subst (λ (z : Bool). GivesIf z c o (ForTask reader index) r)
         (read_is_over t.disk.cells (ForTask reader index) place o ending is) gives
 
     w : (p : Pin) × (find (is_pin_of reader index) c.pins ≡ Some p) × IsWanted place p
@@ -193,7 +191,7 @@ task_told c t die reader index place o ending r h flies is gives = (
     at = found_there (is_pin_of reader index) c.pins w.0 w.1
 
 -- a read for nobody or for the step under way tells nothing
-pub other_told : (c : Core) (cells : Cells) (who : Reader) (reader : kept.Reader) (place : Place) (o : Outcome)
+pub other_told : (c : Core) (cells : Cells) (who : Reader) (reader : Reader) (place : Place) (o : Outcome)
     (ending : Ending) (r : Option Ended) → ((e : Ended) → Gives c o reader e → e ≡ ended.Other) →
     ((x : Ending) → IsTold cells (Some (disk.Reading who place)) x ended.Other) →
     IsEndingOf cells (Some (disk.Reading who place)) o ending → GivesIf (is_read o) c o reader r →
@@ -203,9 +201,9 @@ other_told c cells who reader place o ending r nothing told is gives =
     (g.0, g.1, subst (IsTold cells (Some (disk.Reading who place)) ending) (sym (nothing g.0 g.2)) (told ending))
 
 pub lost_told : (c : Core) (cells : Cells) (place : Place) (o : Outcome) (ending : Ending) (r : Option Ended) →
-    IsEndingOf cells (Some (disk.Reading ForNobody place)) o ending → GivesIf (is_read o) c o readers.Nobody r →
+    IsEndingOf cells (Some (disk.Reading ForNobody place)) o ending → GivesIf (is_read o) c o ForNobody r →
     (e : Ended) × (r ≡ Some e) × IsTold cells (Some (disk.Reading ForNobody place)) ending e
-lost_told c cells place o ending r = other_told c cells ForNobody readers.Nobody place o ending r (λ e k. k) by
+lost_told c cells place o ending r = other_told c cells ForNobody ForNobody place o ending r (λ e k. k) by
   where
     by : (x : Ending) → IsTold cells (Some (disk.Reading ForNobody place)) x ended.Other
     by ReadRight = refl
@@ -214,9 +212,9 @@ lost_told c cells place o ending r = other_told c cells ForNobody readers.Nobody
     by (WentWrong left) = refl
 
 pub step_told : (c : Core) (cells : Cells) (place : Place) (o : Outcome) (ending : Ending) (r : Option Ended) →
-    IsEndingOf cells (Some (disk.Reading ForStep place)) o ending → GivesIf (is_read o) c o readers.Step r →
+    IsEndingOf cells (Some (disk.Reading ForStep place)) o ending → GivesIf (is_read o) c o ForStep r →
     (e : Ended) × (r ≡ Some e) × IsTold cells (Some (disk.Reading ForStep place)) ending e
-step_told c cells place o ending r = other_told c cells ForStep readers.Step place o ending r (λ e k. k) by
+step_told c cells place o ending r = other_told c cells ForStep ForStep place o ending r (λ e k. k) by
   where
     by : (x : Ending) → IsTold cells (Some (disk.Reading ForStep place)) x ended.Other
     by ReadRight = refl

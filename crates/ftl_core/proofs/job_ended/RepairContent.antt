@@ -5,9 +5,9 @@ use Rattle.std.specs.Prelude.{slice_get}
 use Rattle.ufs_spec.proofs.Facts.{false≢true, none-some, same_Some}
 use Rattle.ufs_spec.specs.Cells.{Cell, GroupPage, IsCell}
 use Rattle.ufs_spec.specs.Disk as disk
-use Rattle.ufs_spec.specs.Disk.{ForStep, at_die}
+use Rattle.ufs_spec.specs.Disk.{at_die}
 use Rattle.ufs_spec.specs.Keys.{IsKey}
-use Rattle.ufs_spec.specs.Ledger.{Entry, Ledger, Name}
+use Rattle.ufs_spec.specs.Ledger.{Entry, Ledger}
 use Rattle.ufs_spec.specs.Moves.{IsAnother, ReadRight, ReadWrong, end_flight, step_there}
 use Rattle.ufs_spec.specs.Plain.{shape_of_numbers}
 use Rattle.ufs_spec.specs.Translation as layer
@@ -16,6 +16,8 @@ use Rattle.ufs_spec.specs.declared.flash.Key.{Key}
 use Rattle.ufs_spec.specs.declared.flash.Page.{Page}
 use Rattle.ufs_spec.specs.declared.flash.Place.{Place}
 use Rattle.ufs_spec.specs.declared.flash.Tag.{Tag}
+use Rattle.ufs_spec.specs.declared.layer.Name.{Name}
+use Rattle.ufs_spec.specs.declared.layer.Reader.TheVariants.{ForStep}
 use Rattle.power_loss.specs.Book.{book}
 use Rattle.power_loss.specs.Invariant.{IsSecure, Valid}
 use Rattle.power_loss.proofs.books.PagesByName.{entry_for, old_page, page_one, page_same}
@@ -25,8 +27,8 @@ use Rattle.ftl_core.specs.declared.books.Step.{Step}
 use Rattle.ftl_core.specs.declared.books.Step.TheVariants as steps
 use Rattle.unit_map.specs.declared.Stored.{Stored}
 use Rattle.ftl_core.specs.Core.{Core}
-use Rattle.ftl_core.specs.Describes.{AreToRepair, Describes, IsStepCell, IsStored, Kept}
-use Rattle.ftl_core.specs.Describes.{Standing, StepKept, StepReadsKept, keys_to_repair}
+use Rattle.ftl_core.specs.Describes.{AreToRepair, Describes, IsStepCell, Kept}
+use Rattle.ftl_core.specs.Describes.{StepKept, StepReadsKept, keys_to_repair}
 use Rattle.ftl_core.specs.Ends as ends
 use Rattle.ftl_core.specs.Ends.{with_content}
 use Rattle.ftl_core.specs.Gives.{IsContentOf}
@@ -37,6 +39,7 @@ use Rattle.ftl_core.proofs.job_ended.ReadsGiven.{IsPageOf, right_body, wrong_bod
 use Rattle.ftl_core.proofs.job_ended.RepairsEnded.{IsRepairOf, key_known, repair_of, unmended}
 use Rattle.ftl_core.proofs.job_ended.StepsOver.{flight_suits}
 use Rattle.ftl_core.proofs.job_taken.Flown.{dies_changed, fly_over, reads_over}
+use Rattle.ftl_core.proofs.pages.StoredNames.{AreAlike, stored_there}
 
 -- The step that is read for
 
@@ -64,12 +67,6 @@ read_for (Some (steps.Copy n k from None)) place e =
     inr (n, k, ap (λ (p : Place). Some (steps.Copy n k p None)) (same_Some from place e))
 read_for (Some (steps.Copy n k from (Some tag))) place e = absurd (none-some _ e)
 
--- the name of what stands there
-stored_name : (standing : Standing) (s : Stored) (o : Option Name) → IsStored standing (Some s) o →
-    (name : Name) × (o ≡ Some name) × (name.number ≡ s.number) × (standing name.number name.index ≡ Some s.place)
-stored_name standing s None h = absurd h
-stored_name standing s (Some name) h = (name, refl, h.0, h.1)
-
 -- The page that it is read from
 
 -- it is there, and has the content that the key had at the life's start
@@ -79,7 +76,7 @@ pub record IsBasePage (t : Translation) (place : Place) (k : Key) (n : ℕ) : Ty
 
 base_page : (t : Translation) (k : Key) (s : Stored) → Valid t → is_mended t.work.mending ≡ false →
     IsKey (shape_of_numbers t.numbers) k →
-    IsStored t.ledger.standing (Some s) (t.ledger.first_page k) → IsBasePage t s.place k s.number
+    AreAlike t.ledger.standing (Some s) (t.ledger.first_page k) → IsBasePage t s.place k s.name.number
 base_page t k s v not_mended known stands =
     record {
       page = record {
@@ -87,32 +84,34 @@ base_page t k s v not_mended known stands =
         body = secure.body;
         there = ap t.disk.cells (sym at) ∙ secure.there;
         key = ap (λ (e : Entry). e.item.key) same;
-        number = secure.number ∙ r.2;
+        number = secure.number;
       };
       content = ap (λ (e : Entry). e.item.body) same;
     }
   where
-    r : (name : Name) × (t.ledger.first_page k ≡ Some name) × (name.number ≡ s.number)
-        × (t.ledger.standing name.number name.index ≡ Some s.place)
-    r = stored_name t.ledger.standing s (t.ledger.first_page k) stands
+    name : Name
+    name = s.name
 
-    secure : IsSecure t.ledger.standing t.disk.cells t.disk.finished t.disk.blocks t.disk.erasing r.0.number r.0.index
-    secure = v.unmended.stand not_mended k r.0 s.place known r.1 r.3
+    r : (t.ledger.first_page k ≡ Some name) × (t.ledger.standing name.number name.index ≡ Some s.place)
+    r = stored_there t.ledger.standing s (t.ledger.first_page k) stands
+
+    secure : IsSecure t.ledger.standing t.disk.cells t.disk.finished t.disk.blocks t.disk.erasing name.number name.index
+    secure = v.unmended.stand not_mended k name s.place known r.0 r.1
 
     at : secure.place ≡ s.place
-    at = same_Some secure.place s.place (sym secure.known ∙ r.3)
+    at = same_Some secure.place s.place (sym secure.known ∙ r.1)
 
-    first : (size : ℕ) × (t.ledger.entries_before r.0.number r.0.index ≡
+    first : (size : ℕ) × (t.ledger.entries_before name.number name.index ≡
         Some (record { item = record { key = k; body = t.ledger.base k }; size = size }))
-    first = v.book_right.first_content k r.0 known r.1
+    first = v.book_right.first_content k name known r.0
 
     same : entry_for secure.tag secure.body ≡
         record { item = record { key = k; body = t.ledger.base k }; size = first.0 }
-    same = page_one (book t) r.0.number r.0.index (entry_for secure.tag secure.body)
+    same = page_one (book t) name.number name.index (entry_for secure.tag secure.body)
         (record { item = record { key = k; body = t.ledger.base k }; size = first.0 })
         (page_same (book t) (entry_for secure.tag secure.body) secure.number secure.index
         (v.pages.known secure.place secure.tag secure.body secure.there))
-        (old_page (book t) r.0.number r.0.index (v.book_right.old_within r.0.number r.0.index _ first.1) first.1)
+        (old_page (book t) name.number name.index (v.book_right.old_within name.number name.index _ first.1) first.1)
 
 -- What is kept
 
@@ -215,8 +214,8 @@ module _ (c : Core) (t : Translation) (die : ℕ) (b : DieRow) (place : Place) (
   }
 
   -- the page of the step's place
-  wanted : IsBasePage t place step_read.key step_read.stored.number
-  wanted = subst (λ (p : Place). IsBasePage t p step_read.key step_read.stored.number) step_read.place_is
+  wanted : IsBasePage t place step_read.key step_read.stored.name.number
+  wanted = subst (λ (p : Place). IsBasePage t p step_read.key step_read.stored.name.number) step_read.place_is
       (base_page t step_read.key step_read.stored h.valid (unmended t _ _ false h.valid repair.step)
       (key_known t step_read.number step_read.key (Some step_read.stored) false c.content h.valid repair.right)
       repair.right.stored)
@@ -229,7 +228,7 @@ module _ (c : Core) (t : Translation) (die : ℕ) (b : DieRow) (place : Place) (
       (sym (r.2 ∙ ap (with_content idle_c tag) got ∙ now)) content_there
     where
       got : r.0 ≡ Some (t.ledger.base step_read.key)
-      got = right_body page t.disk.cells place step_read.key step_read.stored.number r.0 wanted.page cell
+      got = right_body page t.disk.cells place step_read.key step_read.stored.name.number r.0 wanted.page cell
           (subst (λ (z : Option Step). IsContentOf z page r.0) step_read.is r.1)
           ∙ ap (λ (z : List ℕ). Some z) wanted.content
 
@@ -245,5 +244,5 @@ module _ (c : Core) (t : Translation) (die : ℕ) (b : DieRow) (place : Place) (
       Kept new (end_flight t die (Some (disk.Reading ForStep place)) ReadWrong)
   read_was_wrong page tag new other r =
       read_was_none c t die b place h there flies new tag r.0
-      (wrong_body page t.disk.cells place step_read.key step_read.stored.number r.0 wanted.page other
+      (wrong_body page t.disk.cells place step_read.key step_read.stored.name.number r.0 wanted.page other
       (subst (λ (z : Option Step). IsContentOf z page r.0) step_read.is r.1)) r.2

@@ -1,16 +1,17 @@
 -- The repair that is the last group becomes durable: the frontier climbs over it alone, and what is kept of places is
 -- what the ledger has then.
 use Rattle.std.proofs.Common.{◌≡◌, ◌≢◌, ◌∙◌, ℕ, zero, suc, ◌≤◌, Bool, true, List, [], ◌∷◌, Option}
-use Rattle.std.proofs.Common.{Some, length, drop, map, refl, sym, ap, subst, ⊎_elim, arith}
+use Rattle.std.proofs.Common.{Some, None, length, drop, map, refl, sym, ap, subst, ⊎_elim, arith}
 use Rattle.std.specs.Prelude.{◌-◌, ◌&&◌, slice_get}
 use Rattle.std.specs.List.{slice_index_or}
 use Rattle.ufs_spec.specs.Keys as keys
 use Rattle.ufs_spec.specs.Keys.{IsKey, Item}
-use Rattle.ufs_spec.specs.Ledger.{Entry, Ledger, Name, all_stand, climbed, entry_of, index_in, latest_durable}
+use Rattle.ufs_spec.specs.Ledger.{Entry, Ledger, all_stand, climbed, entry_of, index_in, latest_durable}
 use Rattle.ufs_spec.specs.Ledger.{name_or}
 use Rattle.ufs_spec.specs.Plain.{shape_of_numbers}
 use Rattle.ufs_spec.specs.Translation as layer
 use Rattle.ufs_spec.specs.declared.flash.Key.{Key}
+use Rattle.ufs_spec.specs.declared.layer.Name.{Name}
 use Rattle.power_loss.specs.Book.{Book, IsPageAt, last_number}
 use Rattle.power_loss.proofs.books.LastOfEachKey.{key_told}
 use Rattle.geometry.specs.Keys.{key_total}
@@ -19,7 +20,7 @@ use Rattle.power_loss.proofs.books.SmallFacts.{if_true, two_ways}
 use Rattle.ftl_core.specs.declared.books.Pin.{Pin}
 use Rattle.unit_map.specs.declared.Stored.{Stored}
 use Rattle.ftl_core.specs.Core.{Core}
-use Rattle.ftl_core.specs.Describes.{AreToRepair, IsStored, LedgerKept, PinsKept, Standing, names_pending}
+use Rattle.ftl_core.specs.Describes.{AreToRepair, LedgerKept, PinsKept, Standing, name_at, names_pending}
 use Rattle.ftl_core.specs.Ends.{risen}
 use Rattle.unit_map.specs.Places.{places_noted}
 use Rattle.ftl_core.specs.Moves.{stored_of}
@@ -30,6 +31,7 @@ use Rattle.ftl_core.proofs.group_settled.FrontPlaces.{stored_next}
 use Rattle.ftl_core.proofs.look_and_accept.Numbers.{behind}
 use Rattle.ftl_core.proofs.steps_ordered.NonePending.{no_names, none_kept}
 use Rattle.ftl_core.proofs.pins.PinsSettled.{at_frontier}
+use Rattle.ftl_core.proofs.pages.StoredNames.{AreAlike}
 
 -- The last group
 
@@ -82,16 +84,33 @@ one_at x y (suc i) h = absurd (none_some y h)
 
 -- the repaired key reads from its new page, and each other one from where it did, as behind a group of one page
 stored_repaired : (c : Core) (standing : Standing) (k j : Key) (s : Stored) (x : Item) (older : Option Name) (n : ℕ) →
-    x.key ≡ k → s.number ≡ n → standing n 0 ≡ Some s.place →
+    x.key ≡ k → s.name ≡ name_at n 0 → standing n 0 ≡ Some s.place →
     key_total (shape_of_numbers c.numbers) ≤ length c.places → IsKey (shape_of_numbers c.numbers) k →
-    IsKey (shape_of_numbers c.numbers) j → IsStored standing (stored_of c j) older →
-    IsStored standing (stored_of (record c { places = places_noted c.places s (position_of c.numbers k) }) j)
+    IsKey (shape_of_numbers c.numbers) j → AreAlike standing (stored_of c j) older →
+    AreAlike standing (stored_of (record c { places = places_noted c.places s (position_of c.numbers k) }) j)
     (name_or n (index_in j (x ∷ [])) older)
 stored_repaired c standing k j s x older n item number stands long isk isj h =
     stored_next standing n
-    ((record { key = k; number = s.number; index = 0; size = 1; written = Some s.place; body = x.body }) ∷ []) (x ∷ [])
-    c j older
-    (record { number = number; index = refl; key = sym item; place = s.place; written = refl; stands = stands }, tt)
+    ((record {
+      key = k;
+      number = s.name.number;
+      index = s.name.index;
+      size = 1;
+      written = Some s.place;
+      rest = None;
+      body = x.body;
+    }) ∷ []) (x ∷ [])
+    c j older (
+      record {
+        number = ap (λ (z : Name). z.number) number;
+        index = ap (λ (z : Name). z.index) number;
+        key = sym item;
+        place = s.place;
+        written = refl;
+        stands = stands;
+      },
+      tt,
+    )
     long
     (λ i y at. subst (λ (z : Item). IsKey (shape_of_numbers c.numbers) z.key) (one_at x y i at).1
     (subst (IsKey (shape_of_numbers c.numbers)) (sym item) isk))
@@ -102,7 +121,7 @@ pub ledger_repaired : (c : Core) (l : Ledger) (k : Key) (s : Stored) (x : Item) 
     LedgerKept c.numbers c.places c.pages c.frontier c.last l → l.greatest_seen ≤ l.frontier →
     l.repairs ≡ length l.groups →
     c.pages ≡ [] → behind l ≡ (x ∷ []) ∷ [] → x.key ≡ k → IsKey (shape_of_numbers c.numbers) k →
-    risen c ≡ suc l.frontier → s.number ≡ suc l.frontier → l.standing (suc l.frontier) 0 ≡ Some s.place →
+    risen c ≡ suc l.frontier → s.name ≡ name_at (suc l.frontier) 0 → l.standing (suc l.frontier) 0 ≡ Some s.place →
     LedgerKept c.numbers (places_noted c.places s (position_of c.numbers k)) c.pages (risen c) c.last
     (at_frontier l (suc l.frontier))
 ledger_repaired c l k s x h low all none is item known up number stands = record {
@@ -112,7 +131,7 @@ ledger_repaired c l k s x h low all none is item known up number stands = record
       (no_names (at_frontier l (suc l.frontier)) all);
   keys = let same = places_length c.places s (position_of c.numbers k) in let long = h.keys in
       omega (arith, same, long);
-  places = λ j isj. subst (λ (o : Option Name). IsStored l.standing
+  places = λ j isj. subst (λ (o : Option Name). AreAlike l.standing
       (stored_of (record c { places = places_noted c.places s (position_of c.numbers k) }) j) o)
       (sym (durable_next l (x ∷ []) [] j low is))
       (stored_repaired c l.standing k j s x (latest_durable l j) (suc l.frontier) item number stands h.keys known isj

@@ -7,7 +7,7 @@ use Rattle.ufs_spec.specs.Cells.{GroupPage}
 use Rattle.ufs_spec.specs.Disk as disk
 use Rattle.ufs_spec.specs.Disk.{at_place, at_spot, programmed, state_after}
 use Rattle.ufs_spec.specs.Keys.{IsKey, Item}
-use Rattle.ufs_spec.specs.Ledger.{Ledger, Name, climbed, entry_of, is_standing}
+use Rattle.ufs_spec.specs.Ledger.{Ledger, climbed, entry_of, is_standing}
 use Rattle.ufs_spec.specs.Moves as moves
 use Rattle.ufs_spec.specs.Moves.{settled_pin, step_after}
 use Rattle.ufs_spec.specs.Plain.{shape_of_numbers}
@@ -17,6 +17,7 @@ use Rattle.ufs_spec.specs.declared.configs.Numbers.{Numbers}
 use Rattle.ufs_spec.specs.declared.flash.Key.{Key}
 use Rattle.ufs_spec.specs.declared.flash.Place.{Place}
 use Rattle.ufs_spec.specs.declared.flash.Tag.{Tag}
+use Rattle.ufs_spec.specs.declared.layer.Name.{Name}
 use Rattle.power_loss.specs.Book.{book}
 use Rattle.power_loss.specs.Invariant.{Valid}
 use Rattle.power_loss.proofs.books.SmallFacts.{if_true, name_is, name_self}
@@ -30,7 +31,7 @@ use Rattle.unit_map.specs.declared.Stored.{Stored}
 use Rattle.ftl_core.specs.Core.{Core}
 use Rattle.ftl_core.specs.Describes.{AreToRepair, BlocksKept, Describes, IsFilling, IsStepCell, Kept, LedgerKept}
 use Rattle.ftl_core.specs.Describes.{RepairKept, StepKept, keys_to_repair, name_at, spot_at}
-use Rattle.ftl_core.specs.Ends.{noted, repair_over, risen}
+use Rattle.ftl_core.specs.Ends.{noted, page_at, repair_over, risen}
 use Rattle.ftl_core.specs.Moves.{page_written}
 use Rattle.unit_map.specs.Places.{stored_in}
 use Rattle.ftl_core.specs.Takes.{next_place}
@@ -197,7 +198,7 @@ module _ (c : Core) (t : Translation) (die : ℕ) (b : DieRow) (o : OpenBlock) (
       (key_known t n k from true c.content h.valid repair.right)
 
   abbrev stored : Stored
-  stored = record { place = place; number = risen c }
+  stored = page_at (risen c) 0 place
 
   -- it has the last number that was given
   number : risen c ≡ suc t.ledger.frontier
@@ -221,7 +222,7 @@ module _ (c : Core) (t : Translation) (die : ℕ) (b : DieRow) (o : OpenBlock) (
     fly = k0.fly;
     ledger_kept = ledger_repaired (changed c states (rows_with c die f) c.has_bad c.pages c.mending None c.next_mark)
         (with_page t.ledger name place) k stored item k0.ledger_kept low all_repairs no_pages alone refl known number
-        number stands;
+        (ap (λ (m : ℕ). name_at m 0) number) stands;
     work = record {
       mending_is = k0.work.mending_is;
       step_is = k0.work.step_is;

@@ -1,6 +1,6 @@
 -- The end of a job leaves the slots that readers have claimed, and the collection that is begun, or none.
 use Rattle.std.proofs.Common.{◌≡◌, ◌∙◌, ℕ, zero, suc, Bool, true, false, List, [], ◌∷◌, Option, Some, None, refl, sym}
-use Rattle.std.proofs.Common.{subst}
+use Rattle.std.proofs.Common.{ap, subst}
 use Rattle.collector.specs.Plans.{Collection}
 use Rattle.ufs_spec.proofs.Facts.{none-some}
 use Rattle.std.specs.Prelude.{◌==◌, if◌then◌else◌, filter, find, fold, nat_le, nat_lt, slice_get, ◌-◌}
@@ -9,14 +9,14 @@ use Rattle.ufs_spec.specs.declared.flash.Outcome.{Outcome}
 use Rattle.ufs_spec.specs.declared.flash.Key.{Key}
 use Rattle.ufs_spec.specs.declared.flash.Place.{Place}
 use Rattle.ufs_spec.specs.declared.flash.Tag.{Tag}
+use Rattle.ufs_spec.specs.declared.layer.Reader.{Reader}
+use Rattle.ufs_spec.specs.declared.layer.Reader.TheVariants.{ForNobody, ForRest, ForStep, ForTask}
 use Rattle.unit_map.specs.declared.Stored.{Stored}
 use Rattle.block_table.specs.declared.rows.DieRow.{DieRow}
 use Rattle.block_table.specs.declared.rows.Flight.{Flight}
 use Rattle.block_table.specs.declared.rows.Flight.TheVariants as flight
 use Rattle.block_table.specs.declared.rows.OpenBlock.{OpenBlock}
 use Rattle.write_cache.specs.declared.slots.Pending.{Pending}
-use Rattle.block_table.specs.declared.rows.Reader.{Reader}
-use Rattle.block_table.specs.declared.rows.Reader.TheVariants as readers
 use Rattle.ftl_core.specs.declared.books.Step.{Step}
 use Rattle.ftl_core.specs.declared.books.Step.TheVariants as steps
 use Rattle.ftl_core.specs.Core.{Core}
@@ -27,7 +27,8 @@ use Rattle.write_cache.specs.Slots.{is_named, is_of_group}
 use Rattle.ftl_core.specs.Ends.{pending_written, settled_by, step_again, step_over, with_content}
 use Rattle.ftl_core.specs.Gives.{IsReadAfter, IsReadOver, change_after, change_ended, ending, is_read}
 use Rattle.ftl_core.specs.Ends.{settled}
-use Rattle.ftl_core.specs.Moves.{claims_for, page_written, stored_of, with_row}
+use Rattle.ftl_core.specs.Moves.{page_written, stored_of, with_row}
+use Rattle.ftl_core.specs.Public.{AreClaimed, Claims}
 use Rattle.write_cache.specs.Slots.{is_claim_of}
 
 -- What stays
@@ -93,7 +94,7 @@ settles (suc n) c =
 at_durable : (c : Core) (n : ℕ) (k : Key) (p : Place) (o : Option Stored) → Stays c (copy_durable c n k p o)
 at_durable c n k p None = same c
 at_durable c n k p (Some s) =
-    either (s.number == n) c _ c (record { claims = refl; plan = λ q e. e }) (same c)
+    either (s.name.number == n) c _ c (record { claims = refl; plan = λ q e. e }) (same c)
 
 at_pending : (c : Core) (n i : ℕ) (p : Place) (o : Option Pending) → Stays c (copy_pending c n i p o)
 at_pending c n i p None = same c
@@ -160,9 +161,10 @@ content c tag (Some body) = record { claims = refl; plan = λ p e. e }
 
 read_over : (c : Core) (o : Outcome) (found : Option Tag) (reader : Reader) (new : Core) →
     IsReadOver c o found reader new → Stays c new
-read_over c o found (readers.Task tag index) new h = is_as c new _ h (record { claims = refl; plan = λ p e. e })
-read_over c o found readers.Step new h = is_as c new _ h.2 (content c found h.0)
-read_over c o found readers.Nobody new h = is_as c new c h (same c)
+read_over c o found (ForTask tag index) new h = is_as c new _ h (record { claims = refl; plan = λ p e. e })
+read_over c o found ForStep new h = is_as c new _ h.2 (content c found h.0)
+read_over c o found (ForRest number index) new h = is_as c new c h (same c)
+read_over c o found ForNobody new h = is_as c new c h (same c)
 
 read_after : (known : Bool) (c : Core) (die : ℕ) (b : DieRow) (o : Outcome) (found : Option Tag) (reader : Reader)
     (new : Core) → IsReadAfter known c die b o found reader new → Stays c new
@@ -189,10 +191,11 @@ row_after : (c : Core) (die : ℕ) (b : Option DieRow) (o : Outcome) (tag : Opti
 row_after c die None o tag new h = is_as c new c h (same c)
 row_after c die (Some b) o tag new h = flight_after c die b b.flight o tag new h
 
-pub same_claims : (c after : Core) (die : ℕ) (o : Outcome) (tag : Option Tag) → IsCoreEnded c die o tag after →
-    claims_for after ≡ claims_for c
-same_claims c after die o tag h =
-    λ i reader. filter (is_claim_of reader) ((row_after c die (slice_get c.rows die) o tag after h).claims i)
+pub still_claimed : (c after : Core) (die : ℕ) (o : Outcome) (tag : Option Tag) → IsCoreEnded c die o tag after →
+    (claims : Claims) → AreClaimed c claims → AreClaimed after claims
+still_claimed c after die o tag h claims are =
+    λ reader.
+    ap (filter (is_claim_of reader)) (row_after c die (slice_get c.rows die) o tag after h).claims ∙ are reader
 
 pub same_plan : (c after : Core) (die : ℕ) (o : Outcome) (tag : Option Tag) → IsCoreEnded c die o tag after →
     (p : Collection) → after.plan ≡ Some p → c.plan ≡ Some p

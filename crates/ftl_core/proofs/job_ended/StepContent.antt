@@ -7,8 +7,8 @@ use Rattle.std.proofs.lemmas.List.Elements.{All-head}
 use Rattle.ufs_spec.proofs.Facts.{false≢true, same_Some}
 use Rattle.ufs_spec.specs.Cells.{IsCell}
 use Rattle.ufs_spec.specs.Disk as disk
-use Rattle.ufs_spec.specs.Disk.{ForStep, at_die}
-use Rattle.ufs_spec.specs.Ledger.{Entry, Name, entry_of}
+use Rattle.ufs_spec.specs.Disk.{at_die}
+use Rattle.ufs_spec.specs.Ledger.{Entry, entry_of}
 use Rattle.ufs_spec.specs.Moves.{Ending, IsAnother, IsEndingOf, ReadRight, ReadWrong, end_flight, step_there}
 use Rattle.ufs_spec.specs.Translation as layer
 use Rattle.ufs_spec.specs.Translation.{CopyStep, Translation, Want, name_of, tag_of, want_at, wants_of_step}
@@ -20,12 +20,13 @@ use Rattle.ufs_spec.specs.declared.flash.Place.{Place}
 use Rattle.ufs_spec.specs.declared.flash.Tag.{Tag}
 use Rattle.ufs_spec.specs.Cells.{Opens}
 use Rattle.ufs_spec.specs.Pages.{IsTag, seal_page}
+use Rattle.ufs_spec.specs.declared.layer.Name.{Name}
+use Rattle.ufs_spec.specs.declared.layer.Reader.TheVariants.{ForStep}
 use Rattle.page_tag.specs.Jobs.{IsTagOf, IsTagRead}
 use Rattle.page_tag.proofs.Sealed.{one_tag}
 use Rattle.power_loss.specs.Invariant.{IsNeededPage}
 use Rattle.power_loss.proofs.books.PagesByName.{entry_for}
 use Rattle.block_table.specs.declared.rows.DieRow.{DieRow}
-use Rattle.block_table.specs.declared.rows.Reader.TheVariants as readers
 use Rattle.ftl_core.specs.declared.books.Step.{Step}
 use Rattle.ftl_core.specs.declared.books.Step.TheVariants as steps
 use Rattle.ftl_core.specs.Core.{Core}
@@ -221,7 +222,7 @@ module _ (c : Core) (t : Translation) (die : ℕ) (b : DieRow) (place : Place) (
 
   pub step_read_ends : (o : Outcome) (tag : Option Tag) (ending : Ending) (new : Core) → IsTagRead o tag →
       IsEndingOf t.disk.cells (Some (disk.Reading ForStep place)) o ending →
-      IsReadAfter (is_read o) c die b o tag readers.Step new →
+      IsReadAfter (is_read o) c die b o tag ForStep new →
       Kept new (end_flight t die (Some (disk.Reading ForStep place)) ending)
   step_read_ends (outcome.Read page) tag ReadRight new found is r = ⊎_elim
       (λ x. read_was_right c t die b place h there flies x page tag new is.1 r)

@@ -8,9 +8,9 @@ use Rattle.std.proofs.lemmas.Option.{slice_get_within}
 use Rattle.ufs_spec.proofs.Facts.{true≢false}
 use Rattle.ufs_spec.specs.Cells.{Cell, GroupPage, MarkPage}
 use Rattle.ufs_spec.specs.Disk as disk
-use Rattle.ufs_spec.specs.Disk.{ForStep, ForTask, Spot, at_die}
+use Rattle.ufs_spec.specs.Disk.{Spot, at_die}
 use Rattle.ufs_spec.specs.Keys.{below}
-use Rattle.ufs_spec.specs.Ledger.{Ledger, Name, same_name}
+use Rattle.ufs_spec.specs.Ledger.{Ledger, same_name}
 use Rattle.ufs_spec.specs.Translation as layer
 use Rattle.ufs_spec.specs.Translation.{Translation, flies_mark, flies_name, flies_reader, name_of}
 use Rattle.ufs_spec.specs.Translation.{some_flight}
@@ -19,6 +19,9 @@ use Rattle.ufs_spec.specs.declared.flash.Fence.{Fence}
 use Rattle.ufs_spec.specs.declared.flash.Key.{Key}
 use Rattle.ufs_spec.specs.declared.flash.Place.{Place}
 use Rattle.ufs_spec.specs.declared.flash.Tag.{Tag}
+use Rattle.ufs_spec.specs.declared.layer.Name.{Name}
+use Rattle.ufs_spec.specs.declared.layer.Reader.{Reader}
+use Rattle.ufs_spec.specs.declared.layer.Reader.TheVariants.{ForStep, ForTask}
 use Rattle.power_loss.proofs.books.PagesByName.{none_some}
 use Rattle.power_loss.proofs.books.SmallFacts.{at_die_cases, name_cases, name_is, name_self}
 use Rattle.block_table.specs.declared.rows.DieRow.{DieRow}
@@ -33,7 +36,7 @@ use Rattle.ftl_core.specs.Core.{Core}
 use Rattle.ftl_core.specs.Describes.{RowKept, CopyKept, DiesKept, IsFilling, IsFlight, IsStepCell, Kept, PagesFly}
 use Rattle.ftl_core.specs.Describes.{ReadsKept, Standing, StepKept, StepReadsKept, WritesGroup, name_at, spot_at}
 use Rattle.ftl_core.specs.Moves.{flight_reads, reads_for, repairs_in}
-use Rattle.ftl_core.specs.Takes.{flight_writes, is_step_flight, is_step_reading, next_place, reads_step, writes_page}
+use Rattle.ftl_core.specs.Takes.{flight_writes, is_step_flight, next_place, writes_page}
 use Rattle.ftl_core.specs.Takes.{writes_step}
 use Rattle.ftl_core.proofs.opened.ListParts.{get_set}
 use Rattle.ufs_spec.proofs.Lists.{set_length, any_here, any_told, get_there}
@@ -78,22 +81,12 @@ pub rows_agree : (c : Core) (t : Translation) (kept : DieRow → Bool) (is : Opt
 rows_agree c t kept is k same =
     dies_agree c t kept (λ die. is (t.disk.flights die)) k (λ die b at book. same die b at book.job)
 
--- whether a die reads for this block of the reader
-pub reads_agree : (c : Core) (t : Translation) (reader index : ℕ) → Kept c t →
-    list_any (reads_for reader index) c.rows ≡ some_flight t (flies_reader (ForTask reader index))
-reads_agree c t reader index k = rows_agree c t (reads_for reader index) (flies_reader (ForTask reader index)) k
+-- whether a die reads for the reader
+pub reads_agree : (c : Core) (t : Translation) (reader : Reader) → Kept c t →
+    list_any (reads_for reader) c.rows ≡ some_flight t (flies_reader reader)
+reads_agree c t reader k = rows_agree c t (reads_for reader) (flies_reader reader) k
     (λ die b at h. flight_cases t.numbers c.step die b.filling
-    (λ (f : Option Flight) (g : Option disk.Flight).
-    flight_reads reader index f ≡ flies_reader (ForTask reader index) g)
-    refl (λ place tag i. refl) (λ place. refl) (λ place. refl) (λ o cell fills page. refl)
-    (λ o tag body fills no_repair. refl) (λ block within. refl) b.flight (t.disk.flights die) h)
-
--- whether a die reads for the step under way
-pub step_reads_agree : (c : Core) (t : Translation) → Kept c t →
-    list_any reads_step c.rows ≡ some_flight t (flies_reader ForStep)
-step_reads_agree c t k = rows_agree c t reads_step (flies_reader ForStep) k
-    (λ die b at h. flight_cases t.numbers c.step die b.filling
-    (λ (f : Option Flight) (g : Option disk.Flight). is_step_reading f ≡ flies_reader ForStep g)
+    (λ (f : Option Flight) (g : Option disk.Flight). flight_reads reader f ≡ flies_reader reader g)
     refl (λ place tag i. refl) (λ place. refl) (λ place. refl) (λ o cell fills page. refl)
     (λ o tag body fills no_repair. refl) (λ block within. refl) b.flight (t.disk.flights die) h)
 

@@ -4,9 +4,10 @@ use Rattle.std.proofs.Common.{find, refl, sym, ap, subst, ⊎_elim}
 use Rattle.std.proofs.Math.Seq.{drop-length}
 use Rattle.ufs_spec.proofs.Facts.{false≢true}
 use Rattle.ufs_spec.specs.Keys as keys
-use Rattle.ufs_spec.specs.Ledger.{Entry, Name, accepted_groups, before_accepted, entry_of}
+use Rattle.ufs_spec.specs.Ledger.{Entry, accepted_groups, before_accepted, entry_of}
 use Rattle.ufs_spec.specs.Translation as layer
 use Rattle.ufs_spec.specs.Translation.{Translation, is_mended, names_after}
+use Rattle.ufs_spec.specs.declared.layer.Name.{Name}
 use Rattle.power_loss.specs.Book.{book}
 use Rattle.power_loss.specs.Invariant.{StepKindRight, Valid}
 use Rattle.power_loss.proofs.books.PagesByName.{none_some}

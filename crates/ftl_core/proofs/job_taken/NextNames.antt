@@ -5,11 +5,12 @@ use Rattle.std.proofs.Common.{sym, ap, ⊎_elim, arith, is_none}
 use Rattle.std.specs.List.{list_any}
 use Rattle.ufs_spec.specs.Keys as keys
 use Rattle.ufs_spec.specs.Keys.{below}
-use Rattle.ufs_spec.specs.Ledger.{Entry, Name, accepted_groups, before_accepted, entry_of, pending}
+use Rattle.ufs_spec.specs.Ledger.{Entry, accepted_groups, before_accepted, entry_of, pending}
 use Rattle.ufs_spec.specs.Translation as layer
 use Rattle.ufs_spec.specs.Translation.{Translation, flies_name, is_mended, is_rest_of, names_after}
 use Rattle.ufs_spec.specs.Translation.{some_flight, waiting_name}
 use Rattle.ufs_spec.specs.declared.flash.Place.{Place}
+use Rattle.ufs_spec.specs.declared.layer.Name.{Name}
 use Rattle.power_loss.specs.Book.{IsPageAt, book}
 use Rattle.power_loss.proofs.books.PagesByName.{new_page}
 use Rattle.power_loss.proofs.books.SmallFacts.{two_ways}
@@ -91,13 +92,20 @@ waits_alike c t h mended p name k =
     ∙ (λ i. not (is_some (k.stands i)) && not (some_flight t (flies_name name)))
     ∙ by p.written refl
     ∙ (λ i. not (is_some p.written) && not (list_any (writes_page (sym k.number i) (sym k.index i)) c.rows))
-    ∙ none_is p.written (not (list_any (writes_page p.number p.index) c.rows)))
+    ∙ none_is p.written (not (list_any (writes_page p.number p.index) c.rows))
+    ∙ there (is_none p.written) (not (list_any (writes_page p.number p.index) c.rows))
+    ∙ (λ i. is_none p.written && not (list_any (writes_page p.number p.index) c.rows) && is_none (sym k.whole i)))
   where
     by : (o : Option Place) → p.written ≡ o →
         (not (is_some o) && not (some_flight t (flies_name name)))
         ≡ (not (is_some o) && not (list_any (writes_page name.number name.index) c.rows))
     by None e = ap not (sym (writes_agree c t name h.kept (k.stands ∙ e) (no_repair c t h mended)))
     by (Some place) e = refl
+
+    there : (a b : Bool) → (a && b) ≡ (a && b && true)
+    there true true = refl
+    there true false = refl
+    there false b = refl
 
     none_is : (o : Option Place) (b : Bool) → (not (is_some o) && b) ≡ (is_none o && b)
     none_is None b = refl

@@ -2,8 +2,9 @@
 use Rattle.std.proofs.Common.{◌≡◌, ◌∙◌, Bool, true, false, List, [], ◌∷◌, Option, Some, refl, sym, ap, subst}
 use Rattle.std.specs.Prelude.{cond, find, option_map}
 use Rattle.ufs_spec.specs.Cells.{GroupPage}
-use Rattle.ufs_spec.specs.Ledger.{Entry, Name, entry_of}
+use Rattle.ufs_spec.specs.Ledger.{Entry, entry_of}
 use Rattle.ufs_spec.specs.Translation.{Translation, cell_now, cell_of_entry}
+use Rattle.ufs_spec.specs.declared.layer.Name.{Name}
 use Rattle.power_loss.proofs.ordered_lists.ElementsAndOrders.{IsIn, at_has}
 use Rattle.write_cache.specs.declared.slots.Pending.{Pending}
 use Rattle.ftl_core.specs.Core.{Core}

@@ -6,14 +6,15 @@ use Rattle.std.proofs.lemmas.Option.{slice_get_cases}
 use Rattle.ufs_spec.proofs.Facts.{false≢true, true≢false}
 use Rattle.ufs_spec.specs.Cells.{Cell, Cells, GroupPage}
 use Rattle.ufs_spec.specs.Disk as disk
-use Rattle.ufs_spec.specs.Disk.{ForStep, ForTask, Spot, at_die, job_of as told_by}
-use Rattle.ufs_spec.specs.Ledger.{Name}
+use Rattle.ufs_spec.specs.Disk.{Spot, at_die, job_of as told_by}
 use Rattle.ufs_spec.specs.Moves.{GiveJob}
 use Rattle.ufs_spec.specs.Translation.{MayTake, Translation, Want, flies_name, is_idle, next_flight, some_flight, taken}
 use Rattle.ufs_spec.specs.Translation.{want_at, wants_on}
 use Rattle.ufs_spec.specs.Translation as layer
 use Rattle.ufs_spec.specs.declared.configs.Numbers.{Numbers}
 use Rattle.ufs_spec.specs.declared.flash.Place.{Place}
+use Rattle.ufs_spec.specs.declared.layer.Name.{Name}
+use Rattle.ufs_spec.specs.declared.layer.Reader.TheVariants.{ForStep, ForTask}
 use Rattle.ufs_laws.proofs.jobs.OneJob.{given as some_job, nothing_inside}
 use Rattle.power_loss.proofs.moves.MovesKeepValid.{all_keep}
 use Rattle.power_loss.proofs.books.PagesByName.{none_some}

@@ -7,9 +7,7 @@ use Rattle.std.proofs.lemmas.List.Elements.{Contains-append_left, filter-append}
 use Rattle.std.specs.Prelude.{◌&&◌, ◌||◌, ◌==◌, if◌then◌else◌, Contains, filter_map, slice_get, filter, find, not}
 use Rattle.std.specs.Prelude.{option_and_then, option_map}
 use Rattle.std.specs.List.{list_any, cons_option}
-use Rattle.ufs_spec.specs.Disk.{ForStep, ForTask, Reader}
-use Rattle.ufs_spec.specs.Ledger as ledger
-use Rattle.ufs_spec.specs.Ledger.{Entry, InSlot, Ledger, Name, OnPage, Unwritten, entry_of}
+use Rattle.ufs_spec.specs.Ledger.{Entry, Ledger, entry_of}
 use Rattle.ufs_spec.specs.Translation as layer
 use Rattle.ufs_spec.specs.Translation.{Rest, Translation, Want, flies_reader, is_of_die, is_unread, some_flight}
 use Rattle.ufs_spec.specs.Translation.{want_at, want_from, want_of_look, want_of_pin, want_of_rest, wants_of_step}
@@ -18,29 +16,30 @@ use Rattle.ufs_spec.specs.declared.flash.Place.{Place}
 use Rattle.power_loss.proofs.books.PagesByName.{none_some, some_is}
 use Rattle.power_loss.proofs.books.SmallFacts.{and_true, if_false, if_true, eq_self, eq_told}
 use Rattle.std.proofs.lemmas.Bool.Decides.{nat_tests}
-use Rattle.ftl_core.specs.declared.books.Looked.{Looked}
-use Rattle.ftl_core.specs.declared.books.Looked.TheVariants as looked
 use Rattle.ftl_core.specs.declared.books.Pin.{Pin}
 use Rattle.ftl_core.specs.Core.{Core}
-use Rattle.ftl_core.specs.Describes.{Describes, IsLookedAt, IsTaken, IsWanted, Kept, PinKept, PinsKept, ReadersDiffer}
+use Rattle.ftl_core.specs.Describes.{Describes, IsTaken, IsWanted, Kept, PinKept, PinsKept, ReadersDiffer}
 use Rattle.ftl_core.specs.Describes.{StepKept}
 use Rattle.ftl_core.specs.Moves.{is_owed_by, is_pin_of, looks_on, reads_for}
-use Rattle.ftl_core.proofs.job_taken.Flown.{die_within, no_job, reads_agree, step_reads_agree}
+use Rattle.ftl_core.proofs.job_taken.Flown.{die_within, no_job, reads_agree}
 use Rattle.ufs_spec.proofs.Facts.{false≢true}
 use Rattle.ufs_spec.specs.Disk as disk
+use Rattle.ufs_spec.specs.declared.layer.Looked.{Looked}
+use Rattle.ufs_spec.specs.declared.layer.Looked.TheVariants.{InSlot, OnPage, Unwritten}
+use Rattle.ufs_spec.specs.declared.layer.Name.{Name}
+use Rattle.ufs_spec.specs.declared.layer.Reader.{Reader}
+use Rattle.ufs_spec.specs.declared.layer.Reader.TheVariants.{ForStep, ForTask}
 use Rattle.block_table.specs.declared.rows.DieRow.{DieRow}
 use Rattle.block_table.specs.declared.rows.Flight.{Flight}
 use Rattle.block_table.specs.declared.rows.Flight.TheVariants as flight
-use Rattle.block_table.specs.declared.rows.Reader.TheVariants as reader
 use Rattle.ftl_core.specs.declared.books.Step.{Step}
 use Rattle.ftl_core.specs.declared.books.Step.TheVariants as steps
-use Rattle.unit_map.specs.declared.Stored.{Stored}
 use Rattle.ftl_core.specs.Takes as takes
 use Rattle.ftl_core.specs.Takes.{core_taken, first_owed, idle_flight, job_taken, owed_flight, owed_read, read_of}
-use Rattle.ftl_core.specs.Takes.{reads_step, step_read, step_read_at, step_wants}
+use Rattle.ftl_core.specs.Takes.{step_read, step_read_at, step_wants}
 use Rattle.ftl_core.proofs.job_taken.NextStarts.{is_free_die, job_begun}
 use Rattle.ftl_core.proofs.pins.FoundPins.{position_missed}
-use Rattle.ftl_core.proofs.pins.PinsAlike.{page_alike, pins_at}
+use Rattle.ftl_core.proofs.pins.PinsAlike.{pins_at}
 use Rattle.ufs_spec.proofs.Lists.{any_none, find_behind, find_here, position_told}
 
 -- The pin of a block
@@ -76,24 +75,20 @@ passes g h None = false
 passes g h (Some w) = g w && h w
 
 -- what a pin wants passes if its reader is owed the read of a page of the die
-want_passes : (unread : Reader → Bool) (die : ℕ) (reader : Reader) (w u : Bool) (kept : Looked)
-    (look : ledger.Looked) → IsLookedAt kept look →
-    u ≡ unread reader →
-    (w && looks_on die kept && u)
+want_passes : (unread : Reader → Bool) (die : ℕ) (reader : Reader) (w u : Bool) (look : Looked) → u ≡ unread reader →
+    (w && looks_on die look && u)
     ≡ passes (λ (x : Want). unread x.reader) (is_of_die die) (if w then want_of_look reader look else None)
-want_passes unread die reader false u kept look h same = refl
-want_passes unread die reader true u looked.Nothing Unwritten h same = refl
-want_passes unread die reader true u (looked.Slot n i) (InSlot name) h same = refl
-want_passes unread die reader true u (looked.Page s) (OnPage name place) h same =
-    turned (s.place.die == die) u
-    ∙ (λ i. same i && (sym h.1 i).die == die)
+want_passes unread die reader false u look same = refl
+want_passes unread die reader true u Unwritten same = refl
+want_passes unread die reader true u (InSlot name) same = refl
+want_passes unread die reader true u (OnPage name place) same =
+    turned (place.die == die) u ∙ (λ i. same i && (place.die == die))
   where
     turned : (a b : Bool) → (true && a && b) ≡ (b && a)
     turned true true = refl
     turned true false = refl
     turned false true = refl
     turned false false = refl
-want_passes unread die reader true u kept look h same = absurd h
 
 -- no die reads for the reader
 abbrev is_free : Translation → Reader → Bool
@@ -104,10 +99,9 @@ owed_passes : (c : Core) (t : Translation) (die : ℕ) (p : Pin) (q : layer.Pin)
     is_owed_by c.rows die p ≡ passes (is_unread t) (is_of_die die) (want_of_pin q)
 owed_passes c t die p q k h =
     want_passes (is_free t) die (ForTask p.reader p.index) p.wanted
-    (not (list_any (reads_for p.reader p.index) c.rows)) p.looked q.looked h.looked_at
-    (ap not (reads_agree c t p.reader p.index k))
+    (not (list_any (reads_for (ForTask p.reader p.index)) c.rows)) p.looked (ap not (reads_agree c t (ForTask p.reader p.index) k))
     ∙ (λ i. passes (is_unread t) (is_of_die die)
-    (if sym h.wanted i then want_of_look (ForTask (sym h.tag i) (sym h.index i)) q.looked else None))
+    (if sym h.wanted i then want_of_look (ForTask (sym h.tag i) (sym h.index i)) (sym h.looked i) else None))
 
 -- Lists of wants
 
@@ -229,8 +223,8 @@ step_left c t die k none =
 -- whether the step's read is still to be begun on the die
 step_free : (c : Core) (t : Translation) (die : ℕ) (place : Place) → Kept c t →
     passes (is_unread t) (is_of_die die) (Some (want_at ForStep place))
-    ≡ (not (list_any reads_step c.rows) && (place.die == die))
-step_free c t die place k = ap (λ (b : Bool). not b && (place.die == die)) (sym (step_reads_agree c t k))
+    ≡ (not (list_any (reads_for ForStep) c.rows) && (place.die == die))
+step_free c t die place k = ap (λ (b : Bool). not b && (place.die == die)) (sym (reads_agree c t ForStep k))
 
 -- where neither a reader nor the step is owed one, none is owed to the die
 pub none_read : (c : Core) (t : Translation) (die : ℕ) → Kept c t →
@@ -248,7 +242,7 @@ none_read c t die k none unread = step_left c t die k none ∙ by (step_wants c.
     by None e = refl
     by (Some place) e = dropped (is_unread t) (is_of_die die) (Some (want_at ForStep place)) []
         (step_free c t die place k
-        ∙ passed (place.die == die) (list_any reads_step c.rows) (flight.Read place reader.Step) e)
+        ∙ passed (place.die == die) (list_any (reads_for ForStep) c.rows) (flight.Read place ForStep) e)
 
 -- the read that a reader is owed is one of them
 one_read : (c : Core) (t : Translation) (die k : ℕ) (p : Pin) (q : layer.Pin) (place : Place) → Kept c t →
@@ -287,13 +281,13 @@ step_taken c t die b f h there idle none_owed read = by (step_wants c.step) refl
         IsTaken t die (job_taken c die) (core_taken c die)
     by None is e = absurd (none_some f e)
     by (Some place) is e =
-        job_begun c t die b (flight.Read place reader.Step) (disk.Reading ForStep place) h there
+        job_begun c t die b (flight.Read place ForStep) (disk.Reading ForStep place) h there
         (ap (takes.flight_for c die) there ∙ ap (idle_flight c die b.filling) idle
         ∙ ap (λ (k : Option ℕ). owed_flight c die b.filling (owed_read c die k)) none_owed
-        ∙ ap (owed_flight c die b.filling) (read ∙ sym (taken_is (place.die == die) (list_any reads_step c.rows)
-        (flight.Read place reader.Step) f e)))
+        ∙ ap (owed_flight c die b.filling) (read ∙ sym (taken_is (place.die == die) (list_any (reads_for ForStep) c.rows)
+        (flight.Read place ForStep) f e)))
         refl
-        (refl, tt)
+        (refl, refl, refl)
         (record {
           alone = λ name e. absurd (false≢true e);
           fresh = λ p n i e. cc;
@@ -306,39 +300,39 @@ step_taken c t die b f h there idle none_owed read = by (step_wants c.step) refl
               ∙ ap (λ (o : Option Place). left t die (cons_option (want_from o) [])) is))
               (kept_here (is_unread t) (is_of_die die) (want_at ForStep place) []
               (step_free c t die place h.kept
-              ∙ passed (place.die == die) (list_any reads_step c.rows) (flight.Read place reader.Step) f e)),
+              ∙ passed (place.die == die) (list_any (reads_for ForStep) c.rows) (flight.Read place ForStep) f e)),
         )
 
 -- A read that a reader is owed
 
 owed_told : (rows : List DieRow) (die : ℕ) (p : Pin) → is_owed_by rows die p ≡ true →
-    (p.wanted ≡ true) × (s : Stored) × (p.looked ≡ looked.Page s) × (s.place.die ≡ die)
+    (p.wanted ≡ true) × (name : Name) × (place : Place) × (p.looked ≡ OnPage name place) × (place.die ≡ die)
 owed_told rows die p h = by p.looked refl
   where
-    r : ((p.wanted && looks_on die p.looked) ≡ true) × (not (list_any (reads_for p.reader p.index) rows) ≡ true)
-    r = and_true (p.wanted && looks_on die p.looked) (not (list_any (reads_for p.reader p.index) rows)) h
+    r : ((p.wanted && looks_on die p.looked) ≡ true) × (not (list_any (reads_for (ForTask p.reader p.index)) rows) ≡ true)
+    r = and_true (p.wanted && looks_on die p.looked) (not (list_any (reads_for (ForTask p.reader p.index)) rows)) h
 
     u : (p.wanted ≡ true) × (looks_on die p.looked ≡ true)
     u = and_true p.wanted (looks_on die p.looked) r.0
 
-    by : (l : Looked) → p.looked ≡ l → (p.wanted ≡ true) × (s : Stored) × (p.looked ≡ looked.Page s) ×
-        (s.place.die ≡ die)
-    by (looked.Page s) e = (u.0, s, e, eq_told s.place.die die (sym (ap (looks_on die) e) ∙ u.1))
-    by looked.Nothing e = absurd (false≢true (sym (ap (looks_on die) e) ∙ u.1))
-    by (looked.Slot n i) e = absurd (false≢true (sym (ap (looks_on die) e) ∙ u.1))
+    by : (l : Looked) → p.looked ≡ l → (p.wanted ≡ true) × (name : Name) × (place : Place) ×
+        (p.looked ≡ OnPage name place) × (place.die ≡ die)
+    by (OnPage name place) e = (u.0, name, place, e, eq_told place.die die (sym (ap (looks_on die) e) ∙ u.1))
+    by Unwritten e = absurd (false≢true (sym (ap (looks_on die) e) ∙ u.1))
+    by (InSlot name) e = absurd (false≢true (sym (ap (looks_on die) e) ∙ u.1))
 
 pub read_taken : (c : Core) (t : Translation) (die k : ℕ) (b : DieRow) → Describes c t → slice_get c.rows die ≡ Some b →
     b.flight ≡ None → first_owed c die ≡ Some k → IsTaken t die (job_taken c die) (core_taken c die)
 read_taken c t die k b h there idle owed =
-    job_begun c t die b (flight.Read s.place (reader.Task p.reader p.index))
-    (disk.Reading (ForTask p.reader p.index) s.place) h there
+    job_begun c t die b (flight.Read at_place (ForTask p.reader p.index))
+    (disk.Reading (ForTask p.reader p.index) at_place) h there
     (ap (takes.flight_for c die) there ∙ ap (idle_flight c die b.filling) idle
     ∙ ap (λ (o : Option ℕ). owed_flight c die b.filling (owed_read c die o)) owed
     ∙ ap (owed_flight c die b.filling) (ap (option_and_then read_of) at.1
-    ∙ ap (λ (l : Looked). option_map (λ place. flight.Read place (reader.Task p.reader p.index)) (takes.place_in l))
-    told.2))
+    ∙ ap (λ (l : Looked). option_map (λ place. flight.Read place (ForTask p.reader p.index)) (takes.place_in l))
+    told.3))
     refl
-    (refl, (refl, refl))
+    (refl, refl, refl)
     (record {
       alone = λ name e. absurd (false≢true e);
       fresh = λ place n i e. cc;
@@ -346,7 +340,7 @@ read_taken c t die k b h there idle owed =
       step_wanted = λ place e. cc;
     }) (
       is_free_die t die (die_within c t die b h.kept there) (no_job c t die b h.kept there idle),
-      one_read c t die k p q.0 s.place h.kept q.1 q.2 at.2 want,
+      one_read c t die k p q.0 at_place h.kept q.1 q.2 at.2 want,
     )
   where
     at : (x : Pin) × (slice_get c.pins k ≡ Some x) × (is_owed_by c.rows die x ≡ true)
@@ -355,40 +349,38 @@ read_taken c t die k b h there idle owed =
     p : Pin
     p = at.0
 
-    told : (p.wanted ≡ true) × (s : Stored) × (p.looked ≡ looked.Page s) × (s.place.die ≡ die)
+    told : (p.wanted ≡ true) × (name : Name) × (place : Place) × (p.looked ≡ OnPage name place) × (place.die ≡ die)
     told = owed_told c.rows die p at.2
 
-    s : Stored
-    s = told.1
+    at_place : Place
+    at_place = told.2
 
     q : (q : layer.Pin) × (slice_get t.pins k ≡ Some q) × PinKept t.ledger.frontier (entry_of t.ledger) p q
     q = pins_at t.ledger.frontier (entry_of t.ledger) c.pins t.pins k p h.kept.pins at.1
 
-    page : (name : Name) × (q.0.looked ≡ OnPage name s.place) × (name.number ≡ s.number)
-    page = page_alike s q.0.looked (subst (λ (l : Looked). IsLookedAt l q.0.looked) told.2 q.2.looked_at)
-
-    want : layer.want_of_pin q.0 ≡ Some (want_at (ForTask p.reader p.index) s.place)
+    want : layer.want_of_pin q.0 ≡ Some (want_at (ForTask p.reader p.index) at_place)
     want =
-        (λ i. if (q.2.wanted ∙ told.0) i then want_of_look (ForTask (q.2.tag i) (q.2.index i)) (page.1 i) else None)
+        (λ i. if (q.2.wanted ∙ told.0) i then want_of_look (ForTask (q.2.tag i) (q.2.index i)) ((q.2.looked ∙ told.3) i)
+        else None)
 
     wanted : (tag index : ℕ) (place : Place) →
-        disk.Reading (ForTask p.reader p.index) s.place ≡ disk.Reading (ForTask tag index) place →
+        disk.Reading (ForTask p.reader p.index) at_place ≡ disk.Reading (ForTask tag index) place →
         (x : Pin) × (find (is_pin_of tag index) c.pins ≡ Some x) × IsWanted place x
     wanted tag index place e = (
       p,
       (λ i. find (is_pin_of (sym (tag_is e) i) (sym (index_is e) i)) c.pins)
           ∙ own_pin c.pins k p h.kept.differ at.1,
-      record { stored = s; looks = told.2; place_is = place_is e; wanted = told.0 },
+      record { name = told.1; looks = told.3 ∙ ap (OnPage told.1) (place_is e); wanted = told.0 },
     )
       where
-        tag_is : disk.Reading (ForTask p.reader p.index) s.place ≡ disk.Reading (ForTask tag index) place →
+        tag_is : disk.Reading (ForTask p.reader p.index) at_place ≡ disk.Reading (ForTask tag index) place →
             p.reader ≡ tag
         tag_is e = cc
 
-        index_is : disk.Reading (ForTask p.reader p.index) s.place ≡ disk.Reading (ForTask tag index) place →
+        index_is : disk.Reading (ForTask p.reader p.index) at_place ≡ disk.Reading (ForTask tag index) place →
             p.index ≡ index
         index_is e = cc
 
-        place_is : disk.Reading (ForTask p.reader p.index) s.place ≡ disk.Reading (ForTask tag index) place →
-            s.place ≡ place
+        place_is : disk.Reading (ForTask p.reader p.index) at_place ≡ disk.Reading (ForTask tag index) place →
+            at_place ≡ place
         place_is e = cc

@@ -4,13 +4,13 @@ use Rattle.std.proofs.Common.{subst, arith}
 use Rattle.std.specs.Prelude.{◌&&◌, not, option_map}
 use Rattle.std.specs.List.{list_any}
 use Rattle.std.proofs.lemmas.List.{length-map}
-use Rattle.std.proofs.lemmas.Bool.{le-leb}
+use Rattle.std.proofs.lemmas.Bool.{eq-eqb, le-leb}
 use Rattle.ufs_spec.proofs.Facts.{false≢true, not-true}
 use Rattle.ufs_spec.specs.Cells.{Cell, GroupPage, MarkPage}
 use Rattle.ufs_spec.specs.Disk as disk
 use Rattle.ufs_spec.specs.Disk.{job_of as told_by}
 use Rattle.ufs_spec.specs.Keys.{IsKey, IsArea, IsData, IsSettings}
-use Rattle.ufs_spec.specs.Ledger.{Entry, Name}
+use Rattle.ufs_spec.specs.Ledger.{Entry}
 use Rattle.ufs_spec.specs.Openings.{IsFirstFence}
 use Rattle.ufs_spec.specs.Pages.{seal_page}
 use Rattle.ufs_spec.specs.Plain.{Shape, shape_of_numbers}
@@ -24,6 +24,7 @@ use Rattle.ufs_spec.specs.declared.flash.Job.TheVariants as job
 use Rattle.ufs_spec.specs.declared.flash.Key.{Key}
 use Rattle.ufs_spec.specs.declared.flash.Place.{Place}
 use Rattle.ufs_spec.specs.declared.flash.Tag.{Tag}
+use Rattle.ufs_spec.specs.declared.layer.Name.{Name}
 use Rattle.power_loss.specs.Book.{book}
 use Rattle.power_loss.specs.Invariant.{FenceRight, MendingRight, Valid}
 use Rattle.power_loss.proofs.books.PagesByName.{none_some}
@@ -61,7 +62,7 @@ mark_records t (Some f) v right = by t.work.mending right v.mending
 -- a tag can name each key of a device
 sealable : (s : Shape) (k : Key) → length s.blocks ≤ 8 → IsKey s k → is_sealable k ≡ true
 sealable s k few (IsData unit address low within) = le-leb unit 7 (omega arith)
-sealable s k few (IsArea page within) = refl
+sealable s k few (IsArea region page there within) = eq-eqb region 0 (omega (arith, there))
 sealable s k few IsSettings = refl
 
 repair_sealable : (c : Core) (t : Translation) (number : ℕ) (k : Key) (from : Option Stored) (there : Bool) →

@@ -1,13 +1,13 @@
 -- The job that a die is given is one that is owed to it.
 use Rattle.std.proofs.Common.{◌≡◌, ◌∙◌, ℕ, ◌<◌, ◌≤◌, Bool, true, false, [], Option, Some, None, length, refl}
 use Rattle.std.proofs.Common.{sym, ap, subst, inl, inr, is_none}
-use Rattle.std.specs.Prelude.{if◌then◌else◌, not, slice_get, option_and_then, option_map}
+use Rattle.std.specs.Prelude.{if◌then◌else◌, ◌&&◌, not, slice_get, option_and_then, option_map}
 use Rattle.std.specs.List.{list_any}
 use Rattle.ufs_spec.proofs.Facts.{none_is, false≢true}
 use Rattle.ufs_spec.specs.Cells.{Cell, GroupPage}
 use Rattle.ufs_spec.specs.Disk as disk
 use Rattle.ufs_spec.specs.Disk.{job_of as told_by}
-use Rattle.ufs_spec.specs.Ledger.{Name, entry_of}
+use Rattle.ufs_spec.specs.Ledger.{entry_of}
 use Rattle.ufs_spec.specs.Translation as layer
 use Rattle.ufs_spec.specs.Translation.{Translation, cell_now, flies_name, flight_at, flight_for, flight_or, is_idle}
 use Rattle.ufs_spec.specs.Translation.{is_mended, name_of, next_erase, next_flight, some_flight, waiting_name}
@@ -15,13 +15,16 @@ use Rattle.ufs_spec.specs.Translation.{waiting_step, wants_on}
 use Rattle.ufs_spec.specs.declared.flash.Job.{Job}
 use Rattle.ufs_spec.specs.declared.flash.Place.{Place}
 use Rattle.ufs_spec.specs.declared.flash.Tag.{Tag}
+use Rattle.ufs_spec.specs.declared.layer.Name.{Name}
 use Rattle.power_loss.proofs.books.SmallFacts.{and_true, if_true, name_is, name_told}
 use Rattle.block_table.specs.declared.BlockState.TheVariants as state
 use Rattle.block_table.specs.declared.rows.DieRow.{DieRow}
 use Rattle.block_table.specs.declared.rows.Flight.{Flight}
 use Rattle.block_table.specs.declared.rows.Flight.TheVariants as flight
 use Rattle.block_table.specs.declared.rows.OpenBlock.{OpenBlock}
+use Rattle.write_cache.specs.declared.rests.Rest.{Rest}
 use Rattle.write_cache.specs.declared.slots.Pending.{Pending}
+use Rattle.write_cache.specs.Rests.{content_by, content_of}
 use Rattle.ftl_core.specs.declared.books.Waiting.{Waiting}
 use Rattle.ftl_core.specs.declared.books.Waiting.TheVariants as waiting
 use Rattle.ftl_core.specs.Core.{Core}
@@ -256,7 +259,8 @@ module _ (c : Core) (t : Translation) (die : ℕ) (b : DieRow) (h : Describes c 
 
         waits_here : (is_none p.written ≡ true) × (not (list_any (writes_page p.number p.index) c.rows) ≡ true)
         waits_here = and_true (is_none p.written) (not (list_any (writes_page p.number p.index) c.rows))
-            (found_passes (page_waits c.rows) c.pages p first)
+            (and_true (is_none p.written && not (list_any (writes_page p.number p.index) c.rows)) (is_none p.rest)
+            (found_passes (page_waits c.rows) c.pages p first)).0
 
         new : t.ledger.standing p.number p.index ≡ None
         new = k.stands ∙ none_is p.written waits_here.0
@@ -269,7 +273,10 @@ module _ (c : Core) (t : Translation) (die : ℕ) (b : DieRow) (h : Describes c 
             ≡ Some (told_by (disk.Programming place (GroupPage tag_now r.page.body)))
         job_is place =
             ap (group_job_of c place) r.found
-            ∙ if_true (is_group_page r.page) (Some (page_of_group c place r.page)) None r.kept.group_page
+            ∙ if_true (is_group_page r.page) (option_map (page_of_group c place r.page) (content_of r.page)) None
+            r.kept.group_page
+            ∙ ap (λ (rest : Option Rest). option_map (page_of_group c place r.page) (content_by rest r.page.body))
+            r.kept.whole
 
         -- the page that is begun is that one
         begun_is : (place q : Place) (n i : ℕ) → flight.Group place p.number p.index ≡ flight.Group q n i →

@@ -1,5 +1,5 @@
 -- Which pages are live once the copy of a page stands: the copy in the place of the page, if this was live.
-use Rattle.std.proofs.Common.{◌≡◌, ◌≢◌, ◌∙◌, ℕ, zero, suc, ◌*◌, false, true, List, [], ◌∷◌, Some}
+use Rattle.std.proofs.Common.{◌≡◌, ◌≢◌, ◌∙◌, ℕ, zero, suc, ◌*◌, false, true, List, [], ◌∷◌, Some, None}
 use Rattle.std.proofs.Common.{length, inl, inr, refl, sym, ap, subst, ⊎_elim, arith}
 use Rattle.std.specs.Prelude.{slice_get, slice_set}
 use Rattle.ufs_spec.proofs.Equalities.{place_cases}
@@ -10,6 +10,7 @@ use Rattle.ufs_spec.specs.Plain.{shape_of_numbers}
 use Rattle.ufs_spec.specs.declared.configs.Numbers.{Numbers}
 use Rattle.ufs_spec.specs.declared.flash.Key.{Key}
 use Rattle.ufs_spec.specs.declared.flash.Place.{Place}
+use Rattle.ufs_spec.specs.declared.layer.Name.{Name}
 use Rattle.block_table.specs.Lives.{Lives, has_page, is_live, with_live}
 use Rattle.block_table.specs.declared.Sizes.{Sizes}
 use Rattle.unit_map.specs.Places.{position_of}
@@ -172,14 +173,23 @@ module _ (cells : Cells) (c : Core) (known : AllKnown cells c) (place : Place)
 
   -- The key reads from the copy
 
-  module _ (k : Key) (number : ℕ) (isk : IsKey (shape_of_numbers c.numbers) k)
-      (page : IsPageOf c.numbers cells k number place) (above : AreOthers k number c.pages) where
+  module _ (k : Key) (name : Name) (isk : IsKey (shape_of_numbers c.numbers) k)
+      (page : IsPageOf c.numbers cells k name.number place) (above : AreOthers k name.number c.pages) where
     abbrev moved : Stored
-    moved = record { place = place; number = number }
+    moved = record { name = name; place = place }
 
     -- a page of the key, to speak of
     abbrev like : Pending
-    like = record { key = k; number = number; index = 0; size = 1; written = Some place; body = [] }
+    like =
+        record {
+          key = k;
+          number = name.number;
+          index = name.index;
+          size = 1;
+          written = Some place;
+          rest = None;
+          body = [];
+        }
 
     pub durable_known : AreKnown cells c.numbers (noted c k moved).places (noted c k moved).live c.pages
     durable_known =

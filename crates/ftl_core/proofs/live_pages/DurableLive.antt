@@ -17,7 +17,7 @@ use Rattle.unit_map.specs.declared.Stored.{Stored}
 use Rattle.write_cache.specs.declared.slots.Pending.{Pending}
 use Rattle.ftl_core.specs.Core.{Core}
 use Rattle.ftl_core.specs.Describes.{Kept}
-use Rattle.ftl_core.specs.Ends.{front_written, group_durable, page_durable, page_durable_at, settled}
+use Rattle.ftl_core.specs.Ends.{front_written, group_durable, page_at, page_durable, page_durable_at, settled}
 use Rattle.ftl_core.specs.KnownLive.{IsWrittenAt, KnowsLive}
 use Rattle.ftl_core.proofs.group_settled.FrontDurable.{MayClimb, climbs_on, front_kept_on, raised_to, whole_behind}
 use Rattle.ftl_core.proofs.group_settled.FrontLedger.{made, made_is}
@@ -43,7 +43,7 @@ written_right n cells (p ∷ ps) each = (each 0 p refl, written_right n cells ps
 
 -- it has another number than the durable content of its key
 abbrev pub IsNew : Numbers → List (Option Stored) → Pending → Type 0
-IsNew n places p = (s : Stored) → stored_in n places p.key ≡ Some s → p.number ≢ s.number
+IsNew n places p = (s : Stored) → stored_in n places p.key ≡ Some s → p.number ≢ s.name.number
 
 abbrev pub AreNew : Numbers → List (Option Stored) → List Pending → Type 0
 AreNew n places [] = Unit {0}
@@ -63,7 +63,7 @@ AreApart (p ∷ ps) = AreOthers p.key p.number ps × AreApart ps
 pub record AreKnown (cells : Cells) (n : Numbers) (places : List (Option Stored)) (live : Lives)
     (pages : List Pending) : Type 0 where
   pub long : key_total (shape_of_numbers n) ≤ length places
-  pub owned : (k : Key) (s : Stored) → stored_in n places k ≡ Some s → IsPageOf n cells k s.number s.place
+  pub owned : (k : Key) (s : Stored) → stored_in n places k ≡ Some s → IsPageOf n cells k s.name.number s.place
   pub live_is : KnowsLive n places pages live
   pub right : AreWrittenRight n cells pages
   pub new : AreNew n places pages
@@ -76,11 +76,11 @@ KnownWith cells c pages = AreKnown cells c.numbers c.places c.live pages
 
 -- where the durable content of a key stands no pending page is written
 pub old_apart : (cells : Cells) (n : Numbers) (places : List (Option Stored)) (k : Key) (s : Stored) →
-    stored_in n places k ≡ Some s → IsPageOf n cells k s.number s.place → (ps : List Pending) →
+    stored_in n places k ≡ Some s → IsPageOf n cells k s.name.number s.place → (ps : List Pending) →
     AreWrittenRight n cells ps → AreNew n places ps → IsWrittenAt ps s.place → ⊥
 old_apart cells n places k s is own [] right new w = absurd w
 old_apart cells n places k s is own (r ∷ rs) right new (inl w) =
-    let o = one_owner n cells r.key k r.number s.number s.place s.place (right.0 s.place w).1 own refl in
+    let o = one_owner n cells r.key k r.number s.name.number s.place s.place (right.0 s.place w).1 own refl in
     new.0 s (ap (stored_in n places) o.0 ∙ is) o.1
 old_apart cells n places k s is own (r ∷ rs) right new (inr w) =
     old_apart cells n places k s is own rs right.1 new.1 w
@@ -101,15 +101,15 @@ left_out n places live p ps none h = record {
 pub new_on : (cells : Cells) (c : Core) (p : Pending) (place : Place)
     (h : key_total (shape_of_numbers c.numbers) ≤ length c.places) (isk : IsKey (shape_of_numbers c.numbers) p.key)
     (own : (k : Key) (s : Stored) → stored_in c.numbers c.places k ≡ Some s →
-    IsPageOf c.numbers cells k s.number s.place)
+    IsPageOf c.numbers cells k s.name.number s.place)
     (page : IsPageOf c.numbers cells p.key p.number place) (ps : List Pending) → AreNew c.numbers c.places ps →
     AreOthers p.key p.number ps → AreNew c.numbers (page_durable_at c p (Some place)).places ps
 new_on cells c p place h isk own page [] new others = tt
 new_on cells c p place h isk own page (r ∷ rs) new others = (
   λ s e same. ⊎_elim
-      (λ f. others.0 f.0 (same ∙ ap (λ (z : Stored). z.number) f.1))
+      (λ f. others.0 f.0 (same ∙ ap (λ (z : Stored). z.name.number) f.1))
       (λ f. new.0 s f.1 same)
-      (stored_now cells c p.key (record { place = place; number = p.number }) h isk own page r.key s e),
+      (stored_now cells c p.key (page_at p.number p.index place) h isk own page r.key s e),
   new_on cells c p place h isk own page rs new.1 others.1,
 )
 
@@ -125,7 +125,7 @@ one_durable cells c p ps None is h = record {
 }
 one_durable cells c p ps (Some place) is h =
     let r = h.right.0 place is in
-    let s : Stored = record { place = place; number = p.number } in
+    let s : Stored = page_at p.number p.index place in
     let same = places_length c.places s (position_of c.numbers p.key) in
     let long = h.long in
     record {

@@ -7,12 +7,12 @@ use Rattle.ufs_spec.specs.Disk as disk
 use Rattle.ufs_spec.specs.Translation.{Translation}
 use Rattle.ufs_spec.specs.declared.flash.Outcome.{Outcome}
 use Rattle.ufs_spec.specs.declared.flash.Tag.{Tag}
+use Rattle.ufs_spec.specs.declared.layer.Reader.TheVariants.{ForNobody, ForStep, ForTask}
 use Rattle.block_table.specs.declared.rows.OpenBlock.{OpenBlock}
 use Rattle.collector.specs.Plans.{Collection}
 use Rattle.block_table.specs.declared.rows.DieRow.{DieRow}
 use Rattle.block_table.specs.declared.rows.Flight.{Flight}
 use Rattle.block_table.specs.declared.rows.Flight.TheVariants as flight
-use Rattle.block_table.specs.declared.rows.Reader.TheVariants as readers
 use Rattle.ftl_core.specs.declared.books.Step.{Step}
 use Rattle.ftl_core.specs.declared.books.Step.TheVariants as steps
 use Rattle.ftl_core.specs.Core.{Core}
@@ -80,9 +80,9 @@ module _ (c : Core) (t : Translation) (die : ℕ) (o : Outcome) (tag : Option Ta
       flight_cases t.numbers c.step die b.filling Goal
       (λ does flies new. knows_on c after (ap facts new) h.live)
       (λ place reader index does flies new.
-      knows_on c after (read_same (is_read o) c die b o tag (readers.Task reader index) after new) h.live)
-      (λ place does flies new. knows_on c after (read_same (is_read o) c die b o tag readers.Step after new) h.live)
-      (λ place does flies new. knows_on c after (read_same (is_read o) c die b o tag readers.Nobody after new) h.live)
+      knows_on c after (read_same (is_read o) c die b o tag (ForTask reader index) after new) h.live)
+      (λ place does flies new. knows_on c after (read_same (is_read o) c die b o tag ForStep after new) h.live)
+      (λ place does flies new. knows_on c after (read_same (is_read o) c die b o tag ForNobody after new) h.live)
       steps_end groups_end erases_end
       b.flight (t.disk.flights die) (h.kept.dies.each die b there).job refl refl new
     where

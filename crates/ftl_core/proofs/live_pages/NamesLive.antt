@@ -8,7 +8,7 @@ use Rattle.ufs_spec.proofs.Facts.{and_parts, cases_Bool, false≢true, lt-ltb, l
 use Rattle.ufs_spec.specs.Cells.{Cell, GroupPage, key_of}
 use Rattle.ufs_spec.specs.Keys as keys
 use Rattle.ufs_spec.specs.Keys.{IsKey}
-use Rattle.ufs_spec.specs.Ledger.{Entry, Ledger, Name, entry_of, is_name, latest_durable}
+use Rattle.ufs_spec.specs.Ledger.{Entry, Ledger, entry_of, is_name, latest_durable}
 use Rattle.ufs_spec.specs.Plain.{shape_of_numbers}
 use Rattle.ufs_spec.specs.Translation as layer
 use Rattle.ufs_spec.specs.Translation.{Mended, Mending, RepairStep, Repairing, Translation, Unmarked, is_live_cell}
@@ -16,22 +16,23 @@ use Rattle.ufs_spec.specs.Translation.{is_mended, name_of, stands_there}
 use Rattle.ufs_spec.specs.declared.configs.Numbers.{Numbers}
 use Rattle.ufs_spec.specs.declared.flash.Place.{Place}
 use Rattle.ufs_spec.specs.declared.flash.Tag.{Tag}
+use Rattle.ufs_spec.specs.declared.layer.Name.{Name}
 use Rattle.power_loss.specs.Book.{IsPageAt, book, last_number}
 use Rattle.power_loss.specs.Invariant.{IsLastRepair, MendingRight}
 use Rattle.power_loss.proofs.books.PagesByName.{page_new, page_within}
 use Rattle.block_table.specs.Lives.{is_live}
-use Rattle.unit_map.specs.declared.Stored.{Stored}
 use Rattle.write_cache.specs.declared.slots.Pending.{Pending}
 use Rattle.ftl_core.specs.declared.books.Step.{Step}
 use Rattle.ftl_core.specs.declared.books.Step.TheVariants as steps
 use Rattle.ftl_core.specs.Core.{Core}
-use Rattle.ftl_core.specs.Describes.{Describes, IsStored, StepKept, name_at, names_pending}
+use Rattle.ftl_core.specs.Describes.{Describes, StepKept, name_at, names_pending}
 use Rattle.ftl_core.specs.KnownLive.{IsWrittenAt, StandsAt}
 use Rattle.ftl_core.specs.Moves.{stored_of}
 use Rattle.ftl_core.proofs.group_settled.PageWritten.{pending_of}
 use Rattle.ftl_core.proofs.job_taken.Flown.{same_tests}
 use Rattle.ftl_core.proofs.live_pages.StoredPages.{pending_named, stored_named}
 use Rattle.ftl_core.proofs.pages.PagesNamed.{pages_get}
+use Rattle.ftl_core.proofs.pages.StoredNames.{AreAlike, name_there}
 
 -- Tests
 
@@ -165,10 +166,12 @@ module _ (c : Core) (t : Translation) (h : Describes c t) where
       let stands = there_told p (t.ledger.standing tag.number tag.index) r.0 in
       ⊎_elim
       (λ above. inr (above_written tag _ p known (ltb-true t.ledger.frontier tag.number above) stands))
-      (λ latest. inl (by (stored_of c (key_of tag)) refl
-      (subst (IsStored t.ledger.standing (stored_of c (key_of tag)))
+      (λ latest.
+      let r = name_there t.ledger.standing (stored_of c (key_of tag)) (name_of tag)
+      (subst (AreAlike t.ledger.standing (stored_of c (key_of tag)))
       (is_name_told (name_of tag) (latest_durable t.ledger (key_of tag)) latest)
-      (h.kept.ledger_kept.places (key_of tag) is_key)) stands))
+      (h.kept.ledger_kept.places (key_of tag) is_key)) in
+      inl (key_of tag, r.0, r.1, same_Some r.0.place p (sym r.3 ∙ stands)))
       (or_cases (nat_lt t.ledger.frontier tag.number) (is_name (name_of tag) (latest_durable t.ledger (key_of tag)))
       r.1)
     where
@@ -181,11 +184,6 @@ module _ (c : Core) (t : Translation) (h : Describes c t) where
       is_key : IsKey (shape_of_numbers c.numbers) (key_of tag)
       is_key = subst (λ (n : Numbers). IsKey (shape_of_numbers n) (key_of tag)) (sym h.kept.numbers)
           (h.valid.book_right.keys tag.number tag.index _ known)
-
-      by : (o : Option Stored) → stored_of c (key_of tag) ≡ o → IsStored t.ledger.standing o (Some (name_of tag)) →
-          t.ledger.standing tag.number tag.index ≡ Some p → StandsAt c.numbers c.places p
-      by None is k stands = absurd k
-      by (Some s) is k stands = (key_of tag, s, is, same_Some s.place p (sym k.1 ∙ stands))
   held p x there e = absurd (false≢true e)
 
   pub live_named : (p : Place) → is_live c.live p ≡ layer.is_live t p

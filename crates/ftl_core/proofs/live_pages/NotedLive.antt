@@ -60,7 +60,7 @@ one_owner n cells j k x y p q a b e =
 
 -- each content that stands somewhere stands on a page of its key
 abbrev pub AreOwned : Cells → Core → Type 0
-AreOwned cells c = (k : Key) (s : Stored) → stored_of c k ≡ Some s → IsPageOf c.numbers cells k s.number s.place
+AreOwned cells c = (k : Key) (s : Stored) → stored_of c k ≡ Some s → IsPageOf c.numbers cells k s.name.number s.place
 
 -- only a key of the device has a content
 pub key_stored : (n : Numbers) (ps : List (Option Stored)) (k : Key) (s : Stored) → stored_in n ps k ≡ Some s →
@@ -108,7 +108,7 @@ cleared l (Some s) long inside = record {
 
 module _ (cells : Cells) (c : Core) (k : Key) (s : Stored) (long : HasPlaces c)
     (isk : IsKey (shape_of_numbers c.numbers) k) (own : AreOwned cells c)
-    (page : IsPageOf c.numbers cells k s.number s.place) where
+    (page : IsPageOf c.numbers cells k s.name.number s.place) where
   -- where contents stand now
   pub stored_now : (j : Key) (r : Stored) → stored_of (noted c k s) j ≡ Some r →
       ((j ≡ k) × (r ≡ s)) ⊎ ((j ≢ k) × (stored_of c j ≡ Some r))
@@ -127,7 +127,7 @@ module _ (cells : Cells) (c : Core) (k : Key) (s : Stored) (long : HasPlaces c)
 
   pub noted_owned : AreOwned cells (noted c k s)
   noted_owned j r e = ⊎_elim
-      (λ h. subst (λ (z : Key × Stored). IsPageOf c.numbers cells z.0 z.1.number z.1.place)
+      (λ h. subst (λ (z : Key × Stored). IsPageOf c.numbers cells z.0 z.1.name.number z.1.place)
       (λ i. (sym h.0 i, sym h.1 i)) page)
       (λ h. own j r h.1)
       (stored_now j r e)
@@ -179,7 +179,7 @@ module _ (cells : Cells) (c : Core) (k : Key) (s : Stored) (long : HasPlaces c)
         (λ f. absurd (other (sym at.3 ∙ ap (λ (z : Stored). z.place) f.1)))
         (λ (f : (at.0 ≢ k) × (stored_of c at.0 ≡ Some at.1)).
         clear.stays q (h.lives q (inl (at.0, at.1, f.1, at.3)))
-        (λ r is same. f.0 (one_owner c.numbers cells at.0 k at.1.number r.number at.1.place r.place (own at.0 at.1 f.1)
+        (λ r is same. f.0 (one_owner c.numbers cells at.0 k at.1.name.number r.name.number at.1.place r.place (own at.0 at.1 f.1)
         (own k r is) (at.3 ∙ same)).0))
         (stored_now at.0 at.1 at.2)
 

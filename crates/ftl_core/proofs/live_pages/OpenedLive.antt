@@ -1,14 +1,15 @@
 -- Which pages are live when the layer is opened.
-use Rattle.std.proofs.Common.{◌≡◌, ◌≢◌, ◌∙◌, ◌⊎◌, ℕ, zero, suc, ◌+◌, ◌-◌, ◌*◌, ◌<◌, ◌≤◌, true, false, List, [], ◌∷◌}
-use Rattle.std.proofs.Common.{Option, Some, None, length, take, sum, refl, sym, ap, inl, inr, ⊎_elim, arith}
+use Rattle.std.proofs.Common.{◌≡◌, ◌≢◌, ◌∙◌, ◌⊎◌, ℕ, zero, suc, ◌+◌, ◌-◌, ◌*◌, ◌/◌, ◌<◌, ◌≤◌, true, false, List, []}
+use Rattle.std.proofs.Common.{◌∷◌, Option, Some, None, length, take, sum, refl, sym, ap, inl, inr, ⊎_elim, arith}
 use Rattle.std.specs.Prelude.{fold, option_and_then, slice_get, slice_index_or}
-use Rattle.std.proofs.lemmas.List.{length-replicate}
+use Rattle.std.proofs.lemmas.List.{length-map, length-replicate}
 use Rattle.std.proofs.lemmas.List.Sums.{sum_by-cons}
 use Rattle.ufs_spec.proofs.Equalities.{place_cases}
 use Rattle.ufs_spec.proofs.Facts.{and_parts, cases_lt, false≢true, none-some, same_Some}
 use Rattle.ufs_spec.proofs.Lists.{get_take, take_get}
-use Rattle.ufs_spec.specs.Keys.{area_pages}
-use Rattle.ufs_spec.specs.Plain.{Shape, shape_of_numbers}
+use Rattle.ufs_spec.specs.Keys.{area_pages, region_pages}
+use Rattle.ufs_spec.specs.Plain.{Shape, area_len, shape_of_numbers}
+use Rattle.ufs_spec.specs.Stages.{regions}
 use Rattle.ufs_spec.specs.declared.configs.Numbers.{Numbers}
 use Rattle.ufs_spec.specs.declared.flash.Key.{Key}
 use Rattle.ufs_spec.specs.declared.flash.Place.{Place}
@@ -39,15 +40,19 @@ in_unit (b ∷ bs) i l = ⊎_elim
     (suc r.0, r.1, omega (arith, inside), r.3, omega (arith, m, is, front)))
     (cases_lt i b)
 
-key_of_index : (s : Shape) (i : ℕ) → i < key_total s → (k : Key) × IsIndex s k i
-key_of_index s i l = ⊎_elim
+key_of_index : (s : Shape) (i : ℕ) → length s.areas ≡ regions → i < key_total s → (k : Key) × IsIndex s k i
+key_of_index s i count l = ⊎_elim
     (λ (m : i < sum s.blocks).
     let r = in_unit s.blocks i m in
     (record { kind = 1; unit = r.0; address = r.1 }, AtData refl r.2 r.3 r.4))
     (λ (m : sum s.blocks ≤ i). ⊎_elim
-    (λ (n : i < sum s.blocks + area_pages s). (
-      record { kind = 2; unit = 0; address = i - sum s.blocks },
-      AtArea refl refl (omega (arith, m, n)) (omega (arith, m)),
+    (λ (n : i < sum s.blocks + area_pages s).
+    let r = in_unit (region_pages s) (i - sum s.blocks) (omega (arith, m, n)) in
+    let all = length-map s.areas (λ (bytes : ℕ). bytes / 4096) in
+    let inside = r.2 in
+    let is = r.4 in (
+      record { kind = 2; unit = r.0; address = r.1 },
+      AtArea refl (omega (arith, inside, all, count)) r.3 (omega (arith, m, is)),
     ))
     (λ (n : sum s.blocks + area_pages s ≤ i).
     (record { kind = 3; unit = 0; address = 0 }, AtSettings refl refl refl (omega (arith, n, l))))
@@ -163,7 +168,7 @@ module _ (n : Numbers) (places : List (Option Stored))
       (k : Key) × (stored_in n places k ≡ Some s)
   at_index j s at =
       let there = get_take total places j (Some s) at in
-      let key = key_of_index (shape_of_numbers n) j there.0 in (
+      let key = key_of_index (shape_of_numbers n) j (length-replicate regions (area_len n)) there.0 in (
         key.0,
         ap (option_and_then (λ (p : ℕ). flat (slice_get places p))) (is_index (shape_of_numbers n) key.0 j key.1)
             ∙ ap flat there.1,

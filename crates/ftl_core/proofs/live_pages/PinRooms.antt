@@ -1,5 +1,5 @@
 -- The layer's fields go on to be right after what changes pins.
-use Rattle.std.proofs.Common.{◌≡◌, ◌∙◌, ℕ, ◌<◌, ◌≤◌, ◌++◌, Bool, not, List, [], ◌∷◌, Option, ap, arith, length}
+use Rattle.std.proofs.Common.{◌≡◌, ◌∙◌, ◌<◌, ◌≤◌, ◌++◌, Bool, not, List, [], ◌∷◌, Option, ap, arith, length}
 use Rattle.std.proofs.Common.{length-append, map, replicate, subst, sym, Global, Vec, vec_capacity}
 use Rattle.std.specs.Prelude.{filter, fold}
 use Rattle.std.proofs.lemmas.List.{length-map, length-replicate}
@@ -68,18 +68,18 @@ roomy_left goes f l ps seen h read is items fewer room =
     (gone_counted goes f.pins.items f.live h.pinned))
 
 -- pins that keep a page in the place of its slot
-pub roomy_moved : (index : ℕ) (st : Stored) (f : Inside) (l : Lives) (ps : Vec Pin Global) (seen : List Pin) →
-    IsRoomy f → seen ≡ f.pins.items → l ≡ fold (pin_moves index st) f.live seen →
-    ps.items ≡ map (moved_pin index st) f.pins.items → vec_capacity ps ≡ vec_capacity f.pins →
+pub roomy_moved : (st : Stored) (f : Inside) (l : Lives) (ps : Vec Pin Global) (seen : List Pin) →
+    IsRoomy f → seen ≡ f.pins.items → l ≡ fold (pin_moves st) f.live seen →
+    ps.items ≡ map (moved_pin st) f.pins.items → vec_capacity ps ≡ vec_capacity f.pins →
     IsRoomy (record f { live = l; pins = ps })
-roomy_moved index st f l ps seen h read is items room =
-    roomy_on f l ps h (ap without_pins is ∙ moves_bare index st seen f.live)
+roomy_moved st f l ps seen h read is items room =
+    roomy_on f l ps h (ap without_pins is ∙ moves_bare st seen f.live)
     (let e = ap (λ (xs : List Pin). length xs) items in
-    let g = length-map f.pins.items (moved_pin index st) in let k = h.pins in omega (arith, e, g, k))
+    let g = length-map f.pins.items (moved_pin st) in let k = h.pins in omega (arith, e, g, k))
     (let g = h.pin_room in omega (arith, g, room))
-    (counted_as l (fold (pin_moves index st) f.live f.pins.items) ps.items (map (moved_pin index st) f.pins.items)
-    (is ∙ ap (λ (xs : List Pin). fold (pin_moves index st) f.live xs) read) items
-    (moved_counted index st f.pins.items f.live h.pinned h.pins))
+    (counted_as l (fold (pin_moves st) f.live f.pins.items) ps.items (map (moved_pin st) f.pins.items)
+    (is ∙ ap (λ (xs : List Pin). fold (pin_moves st) f.live xs) read) items
+    (moved_counted st f.pins.items f.live h.pinned h.pins))
 
 -- pins that look at the same
 pub roomy_looked : (g : Pin → Pin) (f : Inside) (ps : Vec Pin Global) → IsRoomy f →

@@ -2,7 +2,7 @@
 use Rattle.std.proofs.Common.{◌≡◌, ◌≢◌, ◌∙◌, ◌⊎◌, ℕ, suc, ◌+◌, ◌-◌, ◌*◌, ◌<◌, ◌≤◌, ◌++◌, ◌||◌, Bool, true, false}
 use Rattle.std.proofs.Common.{cond, not, List, [], ◌∷◌, Option, Some, None, ap, arith, length, length-append, refl, sym}
 use Rattle.std.proofs.Common.{inl, inr, map, min}
-use Rattle.std.specs.Prelude.{◌^◌, ◌==◌, ◌&&◌, filter, fold, if◌then◌else◌, nat_lt, slice_get, slice_set, unwrap_or}
+use Rattle.std.specs.Prelude.{◌^◌, filter, fold, if◌then◌else◌, nat_lt, slice_get, slice_set, unwrap_or}
 use Rattle.std.specs.List.{list_any}
 use Rattle.std.proofs.Math.Nat.{min-eq_left}
 use Rattle.std.proofs.lemmas.List.Elements.{filter-append}
@@ -10,12 +10,15 @@ use Rattle.ufs_spec.proofs.Equalities.{spot_cases, spot_self}
 use Rattle.ufs_spec.proofs.Facts.{and_from, cases_Bool, false≢true, lt-ltb}
 use Rattle.ufs_spec.proofs.Lists.{get_replicate, set_other, set_there}
 use Rattle.ufs_spec.specs.Disk.{Spot, same_spot, spot_of}
+use Rattle.ufs_spec.specs.Ledger.{same_name}
+use Rattle.ufs_spec.specs.declared.flash.Place.{Place}
+use Rattle.ufs_spec.specs.declared.layer.Looked.{Looked}
+use Rattle.ufs_spec.specs.declared.layer.Looked.TheVariants.{InSlot, OnPage, Unwritten}
+use Rattle.ufs_spec.specs.declared.layer.Name.{Name}
 use Rattle.block_table.specs.Lives.{Lives, block_place, has_block, pins_of, with_live, with_pins}
 use Rattle.block_table.specs.declared.Sizes.{Sizes}
 use Rattle.block_table.proofs.LiveCounts.{one, one_spot, spot_inside}
 use Rattle.unit_map.specs.declared.Stored.{Stored}
-use Rattle.ftl_core.specs.declared.books.Looked.{Looked}
-use Rattle.ftl_core.specs.declared.books.Looked.TheVariants as looked
 use Rattle.ftl_core.specs.declared.books.Pin.{Pin}
 use Rattle.ftl_core.specs.KnownLive.{none_live, with_stored}
 use Rattle.ftl_core.specs.Moves.{keeps, keeps_page, moved_pin, now_stored}
@@ -64,16 +67,14 @@ counts_set l t n c d kept here others s there = by (cases_Bool (has_block l.size
 
 -- One pin
 
-keeps_here : (st : Stored) → keeps_page st.place.die st.place.block (looked.Page st) ≡ true
-keeps_here st = spot_self (spot_of st.place)
+keeps_here : (name : Name) (p : Place) → keeps_page p.die p.block (OnPage name p) ≡ true
+keeps_here name p = spot_self (spot_of p)
 
-keeps_beside : (s : Spot) (st : Stored) → s ≢ spot_of st.place →
-    keeps_page s.die s.block (looked.Page st) ≡ false
-keeps_beside s st apart = by (spot_cases (spot_of st.place) s)
+keeps_beside : (s : Spot) (name : Name) (p : Place) → s ≢ spot_of p → keeps_page s.die s.block (OnPage name p) ≡ false
+keeps_beside s name p apart = by (spot_cases (spot_of p) s)
   where
-    by : ((same_spot (spot_of st.place) s ≡ true) × (spot_of st.place ≡ s))
-        ⊎ ((same_spot (spot_of st.place) s ≡ false) × (spot_of st.place ≢ s)) →
-        keeps_page s.die s.block (looked.Page st) ≡ false
+    by : ((same_spot (spot_of p) s ≡ true) × (spot_of p ≡ s)) ⊎ ((same_spot (spot_of p) s ≡ false) × (spot_of p ≢ s)) →
+        keeps_page s.die s.block (OnPage name p) ≡ false
     by (inl e) = absurd (apart (sym e.1))
     by (inr e) = e.0
 
@@ -86,36 +87,36 @@ least n l = min-eq_left (omega (arith, l))
 
 block_counted : (l : Lives) (k : Looked) (c d : Spot → ℕ) → HasCounts l c → ((s : Spot) → c s ≤ 1024) →
     ((s : Spot) → d s ≡ on_block s k + c s) → HasCounts (block_pinned l k) d
-block_counted l (looked.Page st) c d kept few is =
+block_counted l (OnPage name p) c d kept few is =
     counts_set l t (min (pins_of l t + 1) (2 ^ 32 - 1)) c d kept
     (λ there.
     ap (λ (n : ℕ). min (n + 1) (2 ^ 32 - 1)) (counted_pins l t c kept there)
     ∙ least (c t) (few t)
-    ∙ (let e : on_block t (looked.Page st) ≡ 1 = ap one (keeps_here st) in let f = is t in omega (arith, e, f)))
+    ∙ (let e : on_block t (OnPage name p) ≡ 1 = ap one (keeps_here name p) in let f = is t in omega (arith, e, f)))
     (λ s apart.
-    let e : on_block s (looked.Page st) ≡ 0 = ap one (keeps_beside s st apart) in
+    let e : on_block s (OnPage name p) ≡ 0 = ap one (keeps_beside s name p apart) in
     let f = is s in omega (arith, e, f))
   where
     t : Spot
-    t = spot_of st.place
-block_counted l (looked.Slot n i) c d kept few is = counts_as l c d (λ s. let f = is s in omega (arith, f)) kept
-block_counted l looked.Nothing c d kept few is = counts_as l c d (λ s. let f = is s in omega (arith, f)) kept
+    t = spot_of p
+block_counted l (InSlot name) c d kept few is = counts_as l c d (λ s. let f = is s in omega (arith, f)) kept
+block_counted l Unwritten c d kept few is = counts_as l c d (λ s. let f = is s in omega (arith, f)) kept
 
 block_uncounted : (l : Lives) (k : Looked) (c d : Spot → ℕ) → HasCounts l c →
     ((s : Spot) → c s ≡ on_block s k + d s) → HasCounts (block_unpinned l k) d
-block_uncounted l (looked.Page st) c d kept is =
+block_uncounted l (OnPage name p) c d kept is =
     counts_set l t (pins_of l t - 1) c d kept
     (λ there.
     ap (λ (n : ℕ). n - 1) (counted_pins l t c kept there)
-    ∙ (let e : on_block t (looked.Page st) ≡ 1 = ap one (keeps_here st) in let f = is t in omega (arith, e, f)))
+    ∙ (let e : on_block t (OnPage name p) ≡ 1 = ap one (keeps_here name p) in let f = is t in omega (arith, e, f)))
     (λ s apart.
-    let e : on_block s (looked.Page st) ≡ 0 = ap one (keeps_beside s st apart) in
+    let e : on_block s (OnPage name p) ≡ 0 = ap one (keeps_beside s name p apart) in
     let f = is s in omega (arith, e, f))
   where
     t : Spot
-    t = spot_of st.place
-block_uncounted l (looked.Slot n i) c d kept is = counts_as l c d (λ s. let f = is s in omega (arith, f)) kept
-block_uncounted l looked.Nothing c d kept is = counts_as l c d (λ s. let f = is s in omega (arith, f)) kept
+    t = spot_of p
+block_uncounted l (InSlot name) c d kept is = counts_as l c d (λ s. let f = is s in omega (arith, f)) kept
+block_uncounted l Unwritten c d kept is = counts_as l c d (λ s. let f = is s in omega (arith, f)) kept
 
 -- Pins of a list
 
@@ -181,20 +182,20 @@ gone_counted goes ps l kept =
     (gone goes ps l (λ s. 0) (counts_as l (λ s. pins_on s ps) (λ s. pins_on s ps + 0) (λ s. omega arith) kept))
 
 -- the pins of a slot are those of a block
-module _ (index : ℕ) (st : Stored) where
+module _ (st : Stored) where
   moved_once : (l : Lives) (k : Looked) (c : Spot → ℕ) → ((s : Spot) → c s ≤ 1024) →
       HasCounts l (λ s. on_block s k + c s) →
-      HasCounts (if is_slot_of index st k then block_pinned l (looked.Page st) else l)
-      (λ s. on_block s (now_stored index st k) + c s)
-  moved_once l (looked.Slot n i) c few kept = by ((n == st.number) && (i == index))
+      HasCounts (if is_slot_of st k then block_pinned l (OnPage st.name st.place) else l)
+      (λ s. on_block s (now_stored st k) + c s)
+  moved_once l (InSlot name) c few kept = by (same_name name st.name)
     where
-      by : (b : Bool) → HasCounts (if b then block_pinned l (looked.Page st) else l)
-          (λ s. on_block s (if b then looked.Page st else looked.Slot n i) + c s)
-      by true = block_counted l (looked.Page st) c (λ s. on_block s (looked.Page st) + c s)
-          (counts_as l (λ s. on_block s (looked.Slot n i) + c s) c (λ s. omega arith) kept) few (λ s. refl)
+      by : (b : Bool) → HasCounts (if b then block_pinned l (OnPage st.name st.place) else l)
+          (λ s. on_block s (if b then OnPage st.name st.place else InSlot name) + c s)
+      by true = block_counted l (OnPage st.name st.place) c (λ s. on_block s (OnPage st.name st.place) + c s)
+          (counts_as l (λ s. on_block s (InSlot name) + c s) c (λ s. omega arith) kept) few (λ s. refl)
       by false = kept
-  moved_once l (looked.Page t) c few kept = kept
-  moved_once l looked.Nothing c few kept = kept
+  moved_once l (OnPage name p) c few kept = kept
+  moved_once l Unwritten c few kept = kept
 
   bit : (b : Bool) → one b ≤ 1
   bit true = omega arith
@@ -202,20 +203,20 @@ module _ (index : ℕ) (st : Stored) where
 
   moves : (ps : List Pin) (l : Lives) (c : Spot → ℕ) → ((s : Spot) → length ps + c s ≤ 1024) →
       HasCounts l (λ s. pins_on s ps + c s) →
-      HasCounts (fold (pin_moves index st) l ps) (λ s. pins_on s (map (moved_pin index st) ps) + c s)
+      HasCounts (fold (pin_moves st) l ps) (λ s. pins_on s (map (moved_pin st) ps) + c s)
   moves [] l c few kept = kept
   moves (p ∷ ps) l c few kept =
-      counts_as (fold (pin_moves index st) (pin_moves index st l p) ps)
-      (λ s. pins_on s (map (moved_pin index st) ps) + (on_block s (now_stored index st p.looked) + c s))
-      (λ s. pins_on s (map (moved_pin index st) (p ∷ ps)) + c s)
-      (λ s. let e = pins_next s (moved_pin index st p) (map (moved_pin index st) ps) in omega (arith, e))
-      (moves ps (pin_moves index st l p) (λ s. on_block s (now_stored index st p.looked) + c s)
+      counts_as (fold (pin_moves st) (pin_moves st l p) ps)
+      (λ s. pins_on s (map (moved_pin st) ps) + (on_block s (now_stored st p.looked) + c s))
+      (λ s. pins_on s (map (moved_pin st) (p ∷ ps)) + c s)
+      (λ s. let e = pins_next s (moved_pin st p) (map (moved_pin st) ps) in omega (arith, e))
+      (moves ps (pin_moves st l p) (λ s. on_block s (now_stored st p.looked) + c s)
       (λ s.
       let h = few s in
-      let g = bit (keeps_page s.die s.block (now_stored index st p.looked)) in omega (arith, h, g))
-      (counts_as (pin_moves index st l p)
-      (λ s. on_block s (now_stored index st p.looked) + (pins_on s ps + c s))
-      (λ s. pins_on s ps + (on_block s (now_stored index st p.looked) + c s))
+      let g = bit (keeps_page s.die s.block (now_stored st p.looked)) in omega (arith, h, g))
+      (counts_as (pin_moves st l p)
+      (λ s. on_block s (now_stored st p.looked) + (pins_on s ps + c s))
+      (λ s. pins_on s ps + (on_block s (now_stored st p.looked) + c s))
       (λ s. omega arith)
       (moved_once l p.looked (λ s. pins_on s ps + c s)
       (λ s. let h = few s in let g = pins_few s ps in omega (arith, h, g))
@@ -223,10 +224,10 @@ module _ (index : ℕ) (st : Stored) where
       (λ s. let e = pins_next s p ps in omega (arith, e)) kept))))
 
   pub moved_counted : (ps : List Pin) (l : Lives) → ArePinsCounted l ps → length ps ≤ 1024 →
-      ArePinsCounted (fold (pin_moves index st) l ps) (map (moved_pin index st) ps)
+      ArePinsCounted (fold (pin_moves st) l ps) (map (moved_pin st) ps)
   moved_counted ps l kept few =
-      counts_as (fold (pin_moves index st) l ps) (λ s. pins_on s (map (moved_pin index st) ps) + 0)
-      (λ s. pins_on s (map (moved_pin index st) ps)) (λ s. omega arith)
+      counts_as (fold (pin_moves st) l ps) (λ s. pins_on s (map (moved_pin st) ps) + 0)
+      (λ s. pins_on s (map (moved_pin st) ps)) (λ s. omega arith)
       (moves ps l (λ s. 0) (λ s. omega (arith, few))
       (counts_as l (λ s. pins_on s ps) (λ s. pins_on s ps + 0) (λ s. omega arith) kept))
 
@@ -269,14 +270,14 @@ pinned_is l ps die block kept in_dies in_blocks =
 -- Which pages are live, without the pins of blocks
 
 pub pinned_bare : (l : Lives) (k : Looked) → without_pins (block_pinned l k) ≡ without_pins l
-pinned_bare l (looked.Page st) = refl
-pinned_bare l (looked.Slot n i) = refl
-pinned_bare l looked.Nothing = refl
+pinned_bare l (OnPage name p) = refl
+pinned_bare l (InSlot name) = refl
+pinned_bare l Unwritten = refl
 
 unpinned_bare : (l : Lives) (k : Looked) → without_pins (block_unpinned l k) ≡ without_pins l
-unpinned_bare l (looked.Page st) = refl
-unpinned_bare l (looked.Slot n i) = refl
-unpinned_bare l looked.Nothing = refl
+unpinned_bare l (OnPage name p) = refl
+unpinned_bare l (InSlot name) = refl
+unpinned_bare l Unwritten = refl
 
 pub gone_bare : (goes : Pin → Bool) (ps : List Pin) (l : Lives) →
     without_pins (fold (let_go goes) l ps) ≡ without_pins l
@@ -287,12 +288,12 @@ gone_bare goes (p ∷ ps) l = gone_bare goes ps (let_go goes l p) ∙ by (goes p
     by true = unpinned_bare l p.looked
     by false = refl
 
-pub moves_bare : (index : ℕ) (st : Stored) (ps : List Pin) (l : Lives) →
-    without_pins (fold (pin_moves index st) l ps) ≡ without_pins l
-moves_bare index st [] l = refl
-moves_bare index st (p ∷ ps) l = moves_bare index st ps (pin_moves index st l p) ∙ by (is_slot_of index st p.looked)
+pub moves_bare : (st : Stored) (ps : List Pin) (l : Lives) →
+    without_pins (fold (pin_moves st) l ps) ≡ without_pins l
+moves_bare st [] l = refl
+moves_bare st (p ∷ ps) l = moves_bare st ps (pin_moves st l p) ∙ by (is_slot_of st p.looked)
   where
-    by : (b : Bool) → without_pins (if b then block_pinned l (looked.Page st) else l) ≡ without_pins l
+    by : (b : Bool) → without_pins (if b then block_pinned l (OnPage st.name st.place) else l) ≡ without_pins l
     by true = refl
     by false = refl
 

@@ -10,13 +10,14 @@ use Rattle.ufs_spec.specs.Cells.{Cells, GroupPage, Nothing, key_of}
 use Rattle.ufs_spec.specs.Disk as disk
 use Rattle.ufs_spec.specs.Disk.{at_place}
 use Rattle.ufs_spec.specs.Keys.{IsKey}
-use Rattle.ufs_spec.specs.Ledger.{Entry, Name, entry_of}
+use Rattle.ufs_spec.specs.Ledger.{Entry, entry_of}
 use Rattle.ufs_spec.specs.Plain.{shape_of_numbers}
 use Rattle.ufs_spec.specs.Translation.{Translation, name_of}
 use Rattle.ufs_spec.specs.declared.configs.Numbers.{Numbers}
 use Rattle.ufs_spec.specs.declared.flash.Key.{Key}
 use Rattle.ufs_spec.specs.declared.flash.Place.{Place}
 use Rattle.ufs_spec.specs.declared.flash.Tag.{Tag}
+use Rattle.ufs_spec.specs.declared.layer.Name.{Name}
 use Rattle.power_loss.specs.Book.{IsPageAt, book}
 use Rattle.block_table.specs.Lives.{has_page, is_live, with_live}
 use Rattle.block_table.specs.declared.Sizes.{Sizes}
@@ -28,7 +29,7 @@ use Rattle.ftl_core.specs.declared.books.Step.{Step}
 use Rattle.ftl_core.specs.declared.books.Step.TheVariants as steps
 use Rattle.ftl_core.specs.Core.{Core}
 use Rattle.ftl_core.specs.Describes.{Describes, IsStepCell, PageKept, RepairKept, StepKept, name_at, names_pending}
-use Rattle.ftl_core.specs.Ends.{repair_over, risen, settled}
+use Rattle.ftl_core.specs.Ends.{page_at, repair_over, risen, settled}
 use Rattle.ftl_core.specs.Gives.{group_ended}
 use Rattle.ftl_core.specs.KnownLive.{IsWrittenAt, KnowsLive, sizes_of}
 use Rattle.ftl_core.specs.Moves.{page_written}
@@ -187,7 +188,7 @@ module _ (c : Core) (t : Translation) (die : ℕ) (o : OpenBlock) (tag : Tag) (b
   places_long = h.kept.ledger_kept.keys
 
   pub owned : AreOwned after c
-  owned k s e = stays k s.number s.place (stored_owned c t h.valid h.kept k s e)
+  owned k s e = stays k s.name.number s.place (stored_owned c t h.valid h.kept k s e)
 
   -- A page of a group
 
@@ -311,7 +312,7 @@ module _ (c : Core) (t : Translation) (die : ℕ) (o : OpenBlock) (tag : Tag) (b
       let none : c.pages ≡ [] = none_waiting c t h (unmended t (name_at n 0) _ true h.valid repair.step) in
       subst Knows (sym (written_same (repair_over c k place) die b b.filling))
       (noted_knows after (record c { step = None; frontier = risen c }) k
-      (record { place = place; number = risen c }) places_long
+      (page_at (risen c) 0 place) places_long
       (subst (IsKey (shape_of_numbers c.numbers)) (sym key) is_key) owned
       (subst (λ (z : Key × ℕ). IsPageOf c.numbers after z.0 z.1 place) (λ i. (sym key i, number i)) is_page)
       c.pages c.pages h.live (λ q w. inr w) (λ q w. w)

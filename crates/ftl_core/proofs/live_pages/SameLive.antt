@@ -9,8 +9,6 @@ use Rattle.block_table.specs.Lives.{Lives}
 use Rattle.block_table.specs.declared.rows.OpenBlock.{OpenBlock}
 use Rattle.unit_map.specs.declared.Stored.{Stored}
 use Rattle.block_table.specs.declared.rows.DieRow.{DieRow}
-use Rattle.block_table.specs.declared.rows.Reader.{Reader}
-use Rattle.block_table.specs.declared.rows.Reader.TheVariants as readers
 use Rattle.ftl_core.specs.declared.books.Step.{Step}
 use Rattle.ftl_core.specs.declared.books.Step.TheVariants as steps
 use Rattle.write_cache.specs.declared.slots.Pending.{Pending}
@@ -26,6 +24,8 @@ use Rattle.ftl_core.specs.declared.books.Mending.{Mending}
 use Rattle.ftl_core.specs.declared.books.Mending.TheVariants as mendings
 use Rattle.ufs_spec.specs.declared.flash.Key.{Key}
 use Rattle.ufs_spec.specs.declared.flash.Fence.{Fence}
+use Rattle.ufs_spec.specs.declared.layer.Reader.{Reader}
+use Rattle.ufs_spec.specs.declared.layer.Reader.TheVariants.{ForNobody, ForRest, ForStep, ForTask}
 
 -- the numbers, the places, the live pages and the pending pages
 abbrev pub Facts : Type 0
@@ -68,9 +68,10 @@ content c tag (Some body) = refl
 
 read_over : (c : Core) (o : Outcome) (found : Option Tag) (reader : Reader) (new : Core) →
     IsReadOver c o found reader new → facts new ≡ facts c
-read_over c o found (readers.Task tag index) new h = ap facts h
-read_over c o found readers.Step new h = ap facts h.2 ∙ content c found h.0
-read_over c o found readers.Nobody new h = ap facts h
+read_over c o found (ForTask tag index) new h = ap facts h
+read_over c o found ForStep new h = ap facts h.2 ∙ content c found h.0
+read_over c o found (ForRest number index) new h = ap facts h
+read_over c o found ForNobody new h = ap facts h
 
 pub read_same : (known : Bool) (c : Core) (die : ℕ) (b : DieRow) (o : Outcome) (found : Option Tag) (reader : Reader)
     (new : Core) → IsReadAfter known c die b o found reader new → facts new ≡ facts c

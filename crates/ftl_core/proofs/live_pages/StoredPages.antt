@@ -1,5 +1,5 @@
 -- Where the durable content of a key stands there is a page of this key, and so is where a pending page is written.
-use Rattle.std.proofs.Common.{◌≡◌, ◌∙◌, ℕ, ◌<◌, true, List, Option, Some, None, ◌≤◌}
+use Rattle.std.proofs.Common.{◌≡◌, ◌∙◌, ℕ, ◌<◌, true, List, Option, Some, ◌≤◌}
 use Rattle.std.proofs.Common.{length, take, refl, sym, ap, subst, ⊎_elim, arith}
 use Rattle.std.specs.Prelude.{◌-◌, slice_get}
 use Rattle.ufs_spec.proofs.CellKinds.{page_not_nothing}
@@ -7,13 +7,14 @@ use Rattle.ufs_spec.proofs.Facts.{cases_Bool, false≢true, lt-ltb, same_Some}
 use Rattle.ufs_spec.proofs.Lists.{get_take}
 use Rattle.ufs_spec.specs.Cells.{Cells, GroupPage, IsPlace, Nothing, key_of}
 use Rattle.ufs_spec.specs.Keys.{Group, IsKey}
-use Rattle.ufs_spec.specs.Ledger.{Entry, Name, entry_of, latest_durable, pending}
+use Rattle.ufs_spec.specs.Ledger.{Entry, entry_of, latest_durable, pending}
 use Rattle.ufs_spec.specs.Plain.{shape_of_numbers}
 use Rattle.ufs_spec.specs.Translation.{Translation, is_mended, name_of}
 use Rattle.ufs_spec.specs.declared.configs.Numbers.{Numbers}
 use Rattle.ufs_spec.specs.declared.flash.Key.{Key}
 use Rattle.ufs_spec.specs.declared.flash.Place.{Place}
 use Rattle.ufs_spec.specs.declared.flash.Tag.{Tag}
+use Rattle.ufs_spec.specs.declared.layer.Name.{Name}
 use Rattle.power_loss.specs.Book.{FirstRight, HasKey, IsPageAt, book}
 use Rattle.power_loss.proofs.kept_pages.UnmendedPages.{new_secure, unmended_secure}
 use Rattle.power_loss.proofs.books.SmallFacts.{name_is}
@@ -28,13 +29,14 @@ use Rattle.block_table.specs.Lives.{has_page}
 use Rattle.unit_map.specs.declared.Stored.{Stored}
 use Rattle.write_cache.specs.declared.slots.Pending.{Pending}
 use Rattle.ftl_core.specs.Core.{Core}
-use Rattle.ftl_core.specs.Describes.{IsStored, Kept, names_pending, PageKept}
+use Rattle.ftl_core.specs.Describes.{Kept, names_pending, PageKept}
 use Rattle.ftl_core.specs.KnownLive.{sizes_of}
 use Rattle.ftl_core.specs.Moves.{stored_of}
 use Rattle.ftl_core.proofs.live_pages.DurableLive.{IsNew, IsWrittenRight}
 use Rattle.ftl_core.proofs.live_pages.NotedLive.{AreOwned, IsPageOf, key_stored, same_tag}
 use Rattle.ftl_core.proofs.pages.NamesBehind.{in_names, names_differ}
 use Rattle.ftl_core.proofs.pages.PagesNamed.{pages_get}
+use Rattle.ftl_core.proofs.pages.StoredNames.{AreAlike, stored_there}
 
 -- Places
 
@@ -150,49 +152,40 @@ module _ (c : Core) (t : Translation) (v : Valid t) (h : Kept c t) where
             ∙ page_inside t.numbers t.disk.cells p page.tag page.body v.pages.within page.there;
       }
 
+  -- what is stored of a key is its page at the frontier, which stands
+  module _ (k : Key) (s : Stored) (e : stored_of c k ≡ Some s) where
+    device_has : HasKey (book t) k
+    device_has = subst (λ (n : Numbers). IsKey (shape_of_numbers n) k) h.numbers (key_stored c.numbers c.places k s e)
+
+    frontier_page : (latest_durable t.ledger k ≡ Some s.name)
+        × (t.ledger.standing s.name.number s.name.index ≡ Some s.place)
+    frontier_page = stored_there t.ledger.standing s (latest_durable t.ledger k)
+        (subst (λ (o : Option Stored). AreAlike t.ledger.standing o (latest_durable t.ledger k)) e
+        (h.ledger_kept.places k (key_stored c.numbers c.places k s e)))
+
+    frontier_entry : (e : Entry) × IsPageAt (book t) s.name.number s.name.index e × (e.item.key ≡ k)
+        × (s.name.number ≤ t.ledger.frontier)
+    frontier_entry = durable_entry t k s.name v device_has frontier_page.0
+
   pub stored_owned : AreOwned t.disk.cells c
-  stored_owned k s e = by (latest_durable t.ledger k) refl
-      (subst (λ (o : Option Stored). IsStored t.ledger.standing o (latest_durable t.ledger k)) e
-      (h.ledger_kept.places k known))
-    where
-      known : IsKey (shape_of_numbers c.numbers) k
-      known = key_stored c.numbers c.places k s e
-
-      has : HasKey (book t) k
-      has = subst (λ (n : Numbers). IsKey (shape_of_numbers n) k) h.numbers known
-
-      by : (o : Option Name) → latest_durable t.ledger k ≡ o → IsStored t.ledger.standing (Some s) o →
-          IsPageOf c.numbers t.disk.cells k s.number s.place
-      by None is stands = absurd stands
-      by (Some name) is stands =
-          let entry = durable_entry t k name v has is in
-          subst (λ (n : ℕ). IsPageOf c.numbers t.disk.cells k n s.place) stands.0
-          (secure_owned name entry.0 k s.place (durable_secure t k name s.place v has is stands.1) stands.1 entry.1
-          entry.2)
+  stored_owned k s e =
+      let r = frontier_page k s e in
+      let x = frontier_entry k s e in
+      secure_owned s.name x.0 k s.place (durable_secure t k s.name s.place v (device_has k s e) r.0 r.1) r.1 x.1 x.2
 
   pub stored_named : (k : Key) (s : Stored) → stored_of c k ≡ Some s → IsNamedPage t k s.place
-  stored_named k s e = by (latest_durable t.ledger k) refl
-      (subst (λ (o : Option Stored). IsStored t.ledger.standing o (latest_durable t.ledger k)) e
-      (h.ledger_kept.places k (key_stored c.numbers c.places k s e)))
-    where
-      has : HasKey (book t) k
-      has = subst (λ (n : Numbers). IsKey (shape_of_numbers n) k) h.numbers (key_stored c.numbers c.places k s e)
-
-      by : (o : Option Name) → latest_durable t.ledger k ≡ o → IsStored t.ledger.standing (Some s) o →
-          IsNamedPage t k s.place
-      by None is stands = absurd stands
-      by (Some name) is stands =
-          let page = secure_page {name = name} stands.1 (durable_secure t k name s.place v has is stands.1) in
-          let owned = stored_owned k s e in
-          record {
-            tag = page.tag;
-            body = page.body;
-            there = page.there;
-            key = ap key_of (same_tag page.tag owned.tag page.body owned.body (sym page.there ∙ owned.there))
-                ∙ owned.key;
-            latest = is ∙ ap (λ (z : Name). Some z) (sym page.is);
-            stands = subst (λ (z : Name). t.ledger.standing z.number z.index ≡ Some s.place) (sym page.is) stands.1;
-          }
+  stored_named k s e =
+      let r = frontier_page k s e in
+      let page = secure_page {name = s.name} r.1 (durable_secure t k s.name s.place v (device_has k s e) r.0 r.1) in
+      let owned = stored_owned k s e in
+      record {
+        tag = page.tag;
+        body = page.body;
+        there = page.there;
+        key = ap key_of (same_tag page.tag owned.tag page.body owned.body (sym page.there ∙ owned.there)) ∙ owned.key;
+        latest = r.0 ∙ ap (λ (z : Name). Some z) (sym page.is);
+        stands = subst (λ (z : Name). t.ledger.standing z.number z.index ≡ Some s.place) (sym page.is) r.1;
+      }
 
   pub pending_right : (j : ℕ) (p : Pending) → slice_get c.pages j ≡ Some p →
       IsWrittenRight c.numbers t.disk.cells p
@@ -216,9 +209,10 @@ module _ (c : Core) (t : Translation) (v : Valid t) (h : Kept c t) where
 
   pub pending_new : (j : ℕ) (p : Pending) → slice_get c.pages j ≡ Some p → IsNew c.numbers c.places p
   pending_new j p at s e same =
-      by (latest_durable t.ledger p.key) refl
-      (subst (λ (o : Option Stored). IsStored t.ledger.standing o (latest_durable t.ledger p.key)) e
-      (h.ledger_kept.places p.key (key_stored c.numbers c.places p.key s e)))
+      let low = (frontier_entry p.key s e).3 in
+      let up = above in
+      let number = r.2.number in
+      omega (arith, low, up, number, same)
     where
       r : (name : Name) × (slice_get (names_pending t.ledger) j ≡ Some name)
           × PageKept t.ledger.standing (entry_of t.ledger) p name
@@ -226,19 +220,6 @@ module _ (c : Core) (t : Translation) (v : Valid t) (h : Kept c t) where
 
       above : t.ledger.frontier < r.0.number
       above = (in_names t.ledger.frontier (pending t.ledger) r.0 (at_has (names_pending t.ledger) j r.0 r.1)).above
-
-      has : HasKey (book t) p.key
-      has = subst (λ (n : Numbers). IsKey (shape_of_numbers n) p.key) h.numbers
-          (key_stored c.numbers c.places p.key s e)
-
-      by : (o : Option Name) → latest_durable t.ledger p.key ≡ o → IsStored t.ledger.standing (Some s) o → ⊥
-      by None is stands = absurd stands
-      by (Some name) is stands =
-          let low = (durable_entry t p.key name v has is).3 in
-          let up = above in
-          let number = r.2.number in
-          let old = stands.0 in
-          omega (arith, low, up, number, old, same)
 
   pub pending_apart : (i j : ℕ) (p q : Pending) → slice_get c.pages i ≡ Some p → slice_get c.pages j ≡ Some q →
       p.key ≡ q.key → p.number ≡ q.number → i ≡ j

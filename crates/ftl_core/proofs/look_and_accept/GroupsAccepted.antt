@@ -12,12 +12,13 @@ use Rattle.ufs_spec.specs.Pages.{greatest_number}
 use Rattle.ufs_spec.specs.Configs.{InRange}
 use Rattle.ufs_spec.specs.Keys.{Group, IsKey, Item, below}
 use Rattle.ufs_spec.specs.Ledger as ledger
-use Rattle.ufs_spec.specs.Ledger.{Ledger, Name, entry_of}
+use Rattle.ufs_spec.specs.Ledger.{Ledger, entry_of}
 use Rattle.ufs_spec.specs.Moves.{Accept, IsAllowedMove, moved}
 use Rattle.ufs_spec.specs.Plain.{shape_of_numbers}
 use Rattle.ufs_spec.specs.Translation.{Rest, Translation, Work, is_in_part, names_of, rests_of}
 use Rattle.ufs_spec.specs.declared.flash.Key.{Key}
 use Rattle.ufs_spec.specs.declared.flash.Place.{Place}
+use Rattle.ufs_spec.specs.declared.layer.Name.{Name}
 use Rattle.power_loss.specs.Book.{book}
 use Rattle.power_loss.specs.Invariant.{Valid}
 use Rattle.power_loss.proofs.accepted_groups.RestsOfGroups.{whole_has_none}
@@ -116,6 +117,7 @@ page_kept t k bodies reader i body v is at = record {
       (record { last = omega arith; item = item; size = sym (items_length k 0 bodies) });
   group_page = λ j. kind j && unit j && one j && most j && index j && short j;
   stands = beyond number i v.frontier (omega arith);
+  whole = refl;
 }
   where
     number : ℕ

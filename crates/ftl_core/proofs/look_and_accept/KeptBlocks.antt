@@ -10,19 +10,20 @@ use Rattle.ufs_spec.proofs.Facts.{false≢true, true≢false}
 use Rattle.ufs_spec.proofs.Lists.{any_none, get_below, length-below, none_passes}
 use Rattle.ufs_spec.specs.Configs.{InRange}
 use Rattle.ufs_spec.specs.Keys.{IsKey, below}
-use Rattle.ufs_spec.specs.Ledger.{Entry, Name, entry_of, look}
+use Rattle.ufs_spec.specs.Ledger.{Entry, entry_of, look}
 use Rattle.ufs_spec.specs.Moves.{Keep, moved}
 use Rattle.ufs_spec.specs.Plain.{shape_of_numbers}
 use Rattle.ufs_spec.specs.Translation as layer
 use Rattle.ufs_spec.specs.Translation.{Translation, is_mended}
 use Rattle.ufs_spec.specs.declared.flash.Key.{Key}
+use Rattle.ufs_spec.specs.declared.layer.Name.{Name}
 use Rattle.power_loss.specs.Invariant.{Valid}
 use Rattle.power_loss.proofs.moves.MovesKeepValid.{all_keep}
 use Rattle.power_loss.proofs.open_tasks.FoundInLists.{found_more}
 use Rattle.power_loss.proofs.ordered_lists.ElementsAndOrders.{mapped_at}
 use Rattle.ftl_core.specs.declared.books.Pin.{Pin}
 use Rattle.ftl_core.specs.Core.{Core}
-use Rattle.ftl_core.specs.Describes.{Describes, IsLookOf, IsLookedAt, PinKept, PinsKept}
+use Rattle.ftl_core.specs.Describes.{Describes, IsLookOf, PinKept, PinsKept}
 use Rattle.ftl_core.specs.Moves.{is_of_reader, is_pin_of, kept_all, look_of, pin_now}
 use Rattle.write_cache.specs.Slots.{key_at}
 use Rattle.ftl_core.specs.Tells.{PinsDiffer, keep_at, keeps_for, keeps_of, key_behind}
@@ -151,14 +152,14 @@ keeps_block c t k p q h mended is looks kept new = record {
 pub record IsKeepable (c : Core) (t : Translation) (k : Key) (i : ℕ) : Type 0 where
   pub key : IsKey (shape_of_numbers t.numbers) (key_behind k i)
   pub same : key_at k i ≡ key_behind k i
-  pub looks : IsLookedAt (look_of c (key_behind k i)) (look t.ledger (key_behind k i))
+  pub looks : look_of c (key_behind k i) ≡ look t.ledger (key_behind k i)
 
 block_kept : (c : Core) (t : Translation) (reader : ℕ) (k : Key) (i : ℕ) → Valid t → is_mended t.work.mending ≡ true →
     IsKeepable c t k i → PinKept t.ledger.frontier (entry_of t.ledger) (pin_now c reader k i) (pin_at t reader k i)
 block_kept c t reader k i v mended may = record {
   tag = refl;
   index = refl;
-  looked_at = subst (λ (x : Key). IsLookedAt (look_of c x) (look t.ledger (key_behind k i))) (sym may.same) may.looks;
+  looked = sym may.looks ∙ ap (look_of c) (sym may.same);
   there = subst (λ (x : Key). IsLookOf t.ledger.frontier (entry_of t.ledger) x (look t.ledger (key_behind k i)))
       (sym may.same) (looked_there t (key_behind k i) v mended may.key);
   wanted = refl;

@@ -11,9 +11,10 @@ use Rattle.ufs_spec.proofs.Facts.{at_most, cases_Bool, none-some, same_Some}
 use Rattle.ufs_spec.proofs.Lists.{position_cases}
 use Rattle.ufs_spec.proofs.Equalities.{key_self, key_told}
 use Rattle.ufs_spec.specs.Keys as keys
-use Rattle.ufs_spec.specs.Ledger.{Entry, Name, entry_of}
+use Rattle.ufs_spec.specs.Ledger.{Entry, entry_of}
 use Rattle.ufs_spec.specs.Translation.{Translation, names_after, names_of}
 use Rattle.ufs_spec.specs.declared.flash.Key.{Key}
+use Rattle.ufs_spec.specs.declared.layer.Name.{Name}
 use Rattle.power_loss.specs.Book.{book}
 use Rattle.power_loss.specs.Invariant.{Valid}
 use Rattle.power_loss.proofs.books.FrontierClimbs.{get_drop}

@@ -3,10 +3,12 @@ use Rattle.std.proofs.Common.{◌≡◌, ◌<◌, ◌≤◌, true, false, length
 use Rattle.std.proofs.Common.{⊎_elim, arith}
 use Rattle.std.specs.Prelude.{nat_lt}
 use Rattle.ufs_spec.proofs.Facts.{ltb-false, ltb-true}
-use Rattle.ufs_spec.specs.Ledger.{InSlot, Name, entry_of, latest, latest_durable, look, looked_at, looked_on}
+use Rattle.ufs_spec.specs.Ledger.{entry_of, latest, latest_durable, look, looked_at, looked_on}
 use Rattle.ufs_spec.specs.Translation.{Translation, is_mended}
 use Rattle.ufs_spec.specs.declared.flash.Key.{Key}
 use Rattle.ufs_spec.specs.declared.flash.Place.{Place}
+use Rattle.ufs_spec.specs.declared.layer.Looked.TheVariants.{InSlot}
+use Rattle.ufs_spec.specs.declared.layer.Name.{Name}
 use Rattle.power_loss.specs.Book.{FirstRight, HasKey, book}
 use Rattle.power_loss.specs.Invariant.{Valid}
 use Rattle.power_loss.proofs.books.PagesByName.{some_is}

@@ -1,81 +1,80 @@
 -- What the layer looks up is what the ledger has.
-use Rattle.std.proofs.Common.{◌≡◌, ◌<◌, ◌≤◌, true, Option, Some, None, refl, sym, ap, ◌∙◌, subst, ⊎_elim, arith, lt-ltb}
+use Rattle.std.proofs.Common.{◌≡◌, ◌<◌, ◌≤◌, true, Option, Some, None, sym, ap, ◌∙◌, subst, ⊎_elim, arith, lt-ltb}
 use Rattle.std.proofs.Common.{le-ltb}
 use Rattle.std.specs.Prelude.{nat_lt}
 use Rattle.ufs_spec.specs.Keys.{IsKey}
 use Rattle.ufs_spec.specs.Ledger as ledger
-use Rattle.ufs_spec.specs.Ledger.{InSlot, Ledger, Name, latest_durable, latest_in, look, looked_on}
+use Rattle.ufs_spec.specs.Ledger.{Ledger, latest_durable, latest_in, look, looked_on}
 use Rattle.ufs_spec.specs.Plain.{shape_of_numbers}
 use Rattle.ufs_spec.specs.Translation.{Translation, is_mended}
 use Rattle.ufs_spec.specs.declared.configs.Numbers.{Numbers}
 use Rattle.ufs_spec.specs.declared.flash.Key.{Key}
+use Rattle.ufs_spec.specs.declared.layer.Looked.TheVariants.{InSlot}
+use Rattle.ufs_spec.specs.declared.layer.Name.{Name}
 use Rattle.power_loss.proofs.books.LastOfEachKey.{IsLastOf, NoneOf, latest_cases}
 use Rattle.power_loss.proofs.books.SmallFacts.{if_false, if_true}
 use Rattle.power_loss.proofs.kept_pages.LookedUpPages.{latest_splits}
-use Rattle.ftl_core.specs.declared.books.Looked.TheVariants as looked
 use Rattle.write_cache.specs.declared.slots.Pending.{Pending}
 use Rattle.unit_map.specs.declared.Stored.{Stored}
 use Rattle.ftl_core.specs.Core.{Core}
-use Rattle.ftl_core.specs.Describes.{Describes, IsLookedAt, IsStored}
+use Rattle.ftl_core.specs.Describes.{Describes}
 use Rattle.ftl_core.specs.Moves.{look_of, looked_at, stored_of}
 use Rattle.write_cache.specs.Slots.{last_page}
 use Rattle.ftl_core.proofs.look_and_accept.LastPages.{last_kept, none_kept}
 use Rattle.ftl_core.proofs.look_and_accept.LookedPages.{durable_within}
 use Rattle.ftl_core.proofs.look_and_accept.Numbers.{behind, kept_pages}
 use Rattle.ftl_core.proofs.pages.NamesBehind.{name_is}
+use Rattle.ftl_core.proofs.pages.StoredNames.{AreAlike, none_there, stored_there}
 
 -- the last page of the key is looked at in its slot
 in_slot : (l : Ledger) (name : Name) (o : Option Pending) (s : Option Stored) (p : Pending) → o ≡ Some p →
     l.frontier < name.number → p.number ≡ name.number → p.index ≡ name.index →
-    IsLookedAt (looked_at o s) (ledger.looked_at l (Some name))
+    looked_at o s ≡ ledger.looked_at l (Some name)
 in_slot l name o s p e above number index =
-    subst (λ (x : Option Pending). IsLookedAt (looked_at x s) (ledger.looked_at l (Some name))) (sym e)
-    (subst (IsLookedAt (looked.Slot p.number p.index))
-    (sym (if_true (nat_lt l.frontier name.number) (InSlot name) (looked_on name (l.standing name.number name.index))
-    (lt-ltb l.frontier name.number above)))
-    (name_is name (sym number) (sym index)))
+    ap (λ (x : Option Pending). looked_at x s) e
+    ∙ ap InSlot (sym (name_is name (sym number) (sym index)))
+    ∙ sym (if_true (nat_lt l.frontier name.number) (InSlot name) (looked_on name (l.standing name.number name.index))
+    (lt-ltb l.frontier name.number above))
 
 -- and where there is none, the place that is stored
-on_page : (l : Ledger) (s : Option Stored) (o : Option Name) → IsStored l.standing s o →
-    ((name : Name) → o ≡ Some name → name.number ≤ l.frontier) →
-    IsLookedAt (looked_at None s) (ledger.looked_at l o)
-on_page l None None r within = tt
-on_page l None (Some name) r within = absurd r
-on_page l (Some s) None r within = absurd r
-on_page l (Some s) (Some name) r within =
-    subst (IsLookedAt (looked.Page s))
-    (sym (if_false (nat_lt l.frontier name.number) (InSlot name) (looked_on name (l.standing name.number name.index))
-    (le-ltb l.frontier name.number (within name refl)) ∙ ap (looked_on name) r.1))
-    (r.0, refl)
+on_page : (l : Ledger) (s : Option Stored) (o : Option Name) → AreAlike l.standing s o →
+    ((name : Name) → o ≡ Some name → name.number ≤ l.frontier) → looked_at None s ≡ ledger.looked_at l o
+on_page l None o r within = ap (ledger.looked_at l) (sym (none_there l.standing o r))
+on_page l (Some s) o r within =
+    let t = stored_there l.standing s o r in
+    sym (ap (ledger.looked_at l) t.0
+    ∙ if_false (nat_lt l.frontier s.name.number) (InSlot s.name)
+    (looked_on s.name (l.standing s.name.number s.name.index)) (le-ltb l.frontier s.name.number (within s.name t.0))
+    ∙ ap (looked_on s.name) t.1)
 
 module _ (c : Core) (t : Translation) (h : Describes c t) (mended : is_mended t.work.mending ≡ true) where
   -- the layer looks up what the ledger has
-  pub looks : (k : Key) → IsKey (shape_of_numbers t.numbers) k → IsLookedAt (look_of c k) (look t.ledger k)
+  pub looks : (k : Key) → IsKey (shape_of_numbers t.numbers) k → look_of c k ≡ look t.ledger k
   looks k is =
-      subst (λ o. IsLookedAt (look_of c k) (ledger.looked_at t.ledger o))
+      subst (λ o. look_of c k ≡ ledger.looked_at t.ledger o)
       (sym (latest_splits t.ledger k h.valid.frontier.above h.valid.frontier.within))
       (⊎_elim pending stored (latest_cases k t.ledger.frontier (behind t.ledger) (latest_durable t.ledger k)))
     where
       pending : IsLastOf k t.ledger.frontier (behind t.ledger)
           (latest_in k t.ledger.frontier (behind t.ledger) (latest_durable t.ledger k)) →
-          IsLookedAt (look_of c k) (ledger.looked_at t.ledger
-          (latest_in k t.ledger.frontier (behind t.ledger) (latest_durable t.ledger k)))
+          look_of c k ≡ ledger.looked_at t.ledger
+          (latest_in k t.ledger.frontier (behind t.ledger) (latest_durable t.ledger k))
       pending l =
           let number = l.number in
           let r = last_kept t h.valid c.pages (kept_pages c t h mended) k
           (latest_in k t.ledger.frontier (behind t.ledger) (latest_durable t.ledger k)) l in
-          subst (λ o. IsLookedAt (look_of c k) (ledger.looked_at t.ledger o)) (sym l.is)
+          subst (λ o. look_of c k ≡ ledger.looked_at t.ledger o) (sym l.is)
           (in_slot t.ledger l.name (last_page k c.pages) (stored_of c k) r.0 r.1 (omega arith) r.2 r.3)
 
       stored : (latest_in k t.ledger.frontier (behind t.ledger)
           (latest_durable t.ledger k) ≡ latest_durable t.ledger k)
           × NoneOf k (behind t.ledger) →
-          IsLookedAt (look_of c k) (ledger.looked_at t.ledger
-          (latest_in k t.ledger.frontier (behind t.ledger) (latest_durable t.ledger k)))
+          look_of c k ≡ ledger.looked_at t.ledger
+          (latest_in k t.ledger.frontier (behind t.ledger) (latest_durable t.ledger k))
       stored r =
-          subst (λ o. IsLookedAt (look_of c k) (ledger.looked_at t.ledger o)) (sym r.0)
-          (subst (λ (o : Option Pending). IsLookedAt (looked_at o (stored_of c k))
-          (ledger.looked_at t.ledger (latest_durable t.ledger k)))
+          subst (λ o. look_of c k ≡ ledger.looked_at t.ledger o) (sym r.0)
+          (subst (λ (o : Option Pending).
+          looked_at o (stored_of c k) ≡ ledger.looked_at t.ledger (latest_durable t.ledger k))
           (sym (none_kept t h.valid c.pages (kept_pages c t h mended) k r.1))
           (on_page t.ledger (stored_of c k) (latest_durable t.ledger k)
           (h.kept.ledger_kept.places k (subst (λ (n : Numbers). IsKey (shape_of_numbers n) k) (sym h.kept.numbers) is))

@@ -5,12 +5,15 @@ use Rattle.std.proofs.Common.{None, sym, ap, subst, arith}
 use Rattle.std.proofs.lemmas.List.{append-nil, length-drop, take-append-le}
 use Rattle.ufs_spec.specs.Keys as keys
 use Rattle.ufs_spec.proofs.Facts.{true≢false}
-use Rattle.ufs_spec.specs.Ledger.{Entry, InSlot, Ledger, Looked, Name, OnPage, Unwritten, before_accepted, entry_of}
+use Rattle.ufs_spec.specs.Ledger.{Entry, Ledger, before_accepted, entry_of}
 use Rattle.ufs_spec.specs.Ledger.{latest_durable, latest_in, next_number, pending}
 use Rattle.ufs_spec.specs.Translation as layer
 use Rattle.ufs_spec.specs.Translation.{Translation, Work, is_mended, names_after, names_of}
 use Rattle.ufs_spec.specs.declared.flash.Key.{Key}
 use Rattle.ufs_spec.specs.declared.flash.Place.{Place}
+use Rattle.ufs_spec.specs.declared.layer.Looked.{Looked}
+use Rattle.ufs_spec.specs.declared.layer.Looked.TheVariants.{InSlot, OnPage, Unwritten}
+use Rattle.ufs_spec.specs.declared.layer.Name.{Name}
 use Rattle.ufs_spec.proofs.Lists.{grown_length}
 use Rattle.power_loss.specs.Book.{book}
 use Rattle.power_loss.proofs.books.PagesByName.{page_grows}
@@ -20,13 +23,14 @@ use Rattle.ftl_core.specs.declared.books.Pin.{Pin}
 use Rattle.ftl_core.specs.declared.books.Step.{Step}
 use Rattle.ftl_core.specs.declared.books.Step.TheVariants as steps
 use Rattle.ftl_core.specs.Core.{Core}
-use Rattle.ftl_core.specs.Describes.{Describes, IsLookOf, IsStored, LedgerKept, PagesKept, PinsKept, StepKept, WorkKept}
+use Rattle.ftl_core.specs.Describes.{Describes, IsLookOf, LedgerKept, PagesKept, PinsKept, StepKept, WorkKept}
 use Rattle.ftl_core.specs.Describes.{names_pending}
 use Rattle.ftl_core.specs.Moves as core
 use Rattle.ftl_core.specs.Moves.{repairs_in, stored_of}
 use Rattle.ftl_core.proofs.look_and_accept.Numbers.{pending_mended}
 use Rattle.ftl_core.proofs.pages.NamesBehind.{names_more}
 use Rattle.ftl_core.proofs.pages.PagesNamed.{pages_known, pages_more}
+use Rattle.ftl_core.proofs.pages.StoredNames.{AreAlike}
 
 -- The ledger
 
@@ -76,7 +80,7 @@ ledger_more c t g ps h mended pends new = record {
       (λ (name : Name) (e : Entry) known. page_grows (book t) g name.number name.index e known)
       h.kept.ledger_kept.pages) new);
   keys = h.kept.ledger_kept.keys;
-  places = λ j is. subst (IsStored t.ledger.standing (stored_of c j))
+  places = λ j is. subst (AreAlike t.ledger.standing (stored_of c j))
       (durable_same t.ledger g j (let a = h.valid.frontier.above in let w = h.valid.frontier.within in omega arith))
       (h.kept.ledger_kept.places j is);
 }
@@ -136,7 +140,7 @@ pins_kept_more t g (p ∷ ps) (q ∷ qs) r = (
   record {
     tag = r.0.tag;
     index = r.0.index;
-    looked_at = r.0.looked_at;
+    looked = r.0.looked;
     there = there_more p.key q.looked r.0.there;
     wanted = r.0.wanted;
   },

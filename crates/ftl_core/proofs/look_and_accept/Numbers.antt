@@ -8,13 +8,14 @@ use Rattle.ufs_spec.specs.Ledger as ledger
 use Rattle.std.specs.Prelude.{is_some}
 use Rattle.power_loss.proofs.books.PagesByName.{none_some}
 use Rattle.power_loss.proofs.books.SmallFacts.{if_false, name_cases}
-use Rattle.ufs_spec.specs.Ledger.{Entry, Ledger, Name, before_accepted, entry_of, pending, same_name}
+use Rattle.ufs_spec.specs.Ledger.{Entry, Ledger, before_accepted, entry_of, pending, same_name}
 use Rattle.ufs_spec.specs.Moves.{step_after}
 use Rattle.ufs_spec.specs.Translation as layer
 use Rattle.ufs_spec.specs.Translation.{RepairStep, Repairing, Translation, is_mended}
 use Rattle.ufs_spec.specs.Translation.{names_after, pending_pages}
 use Rattle.ufs_spec.specs.declared.flash.Key.{Key}
 use Rattle.ufs_spec.specs.declared.flash.Place.{Place}
+use Rattle.ufs_spec.specs.declared.layer.Name.{Name}
 use Rattle.ufs_spec.proofs.Facts.{true≢false}
 use Rattle.power_loss.specs.Invariant.{Valid}
 use Rattle.write_cache.specs.declared.slots.Pending.{Pending}

@@ -17,7 +17,7 @@ use Rattle.ufs_spec.specs.Keys as keys
 use Rattle.ufs_spec.specs.Keys.{area_pages}
 use Rattle.ufs_spec.specs.Kept.{fence_in}
 use Rattle.ufs_spec.specs.Ledger as ledger
-use Rattle.ufs_spec.specs.Ledger.{Entry, Ledger, Name, entry_of, latest_durable}
+use Rattle.ufs_spec.specs.Ledger.{Entry, Ledger, entry_of, latest_durable}
 use Rattle.ufs_spec.specs.Openings.{IsMendingAt, IsOpenedTranslation, MayBeMended, number_of}
 use Rattle.ufs_spec.specs.Plain.{Shape, shape_of_numbers}
 use Rattle.ufs_spec.specs.Sound.{CellsSound}
@@ -27,6 +27,7 @@ use Rattle.ufs_spec.specs.Translation.{names_after}
 use Rattle.ufs_spec.specs.declared.configs.Numbers.{Numbers}
 use Rattle.ufs_spec.specs.declared.flash.Fence.{Fence}
 use Rattle.ufs_spec.specs.declared.flash.Key.{Key}
+use Rattle.ufs_spec.specs.declared.layer.Name.{Name}
 use Rattle.page_tag.specs.Contents.{mark_of}
 use Rattle.page_tag.specs.declared.contents.Mark.{Mark}
 use Rattle.power_loss.specs.Book.{CellsRight}
@@ -44,7 +45,7 @@ use Rattle.block_table.specs.declared.rows.Flight.TheVariants as flight
 use Rattle.ufs_spec.proofs.Facts.{same_Some}
 use Rattle.unit_map.specs.declared.Stored.{Stored}
 use Rattle.ftl_core.specs.Core.{Core}
-use Rattle.ftl_core.specs.Describes.{AreToRepair, RowKept, Describes, DiesKept, IsStored, Kept}
+use Rattle.ftl_core.specs.Describes.{AreToRepair, RowKept, Describes, DiesKept, Kept}
 use Rattle.ftl_core.specs.Describes.{LedgerKept, PagesKept, PinsKept, Standing, StepKept, WorkKept, mending_kept}
 use Rattle.ftl_core.specs.Describes.{WritesGroup, spot_at}
 use Rattle.ftl_core.specs.Moves.{first_mending, idle_row, mark_number_behind, mending_from}
@@ -55,6 +56,7 @@ use Rattle.power_loss.proofs.openings.FirstBlocks.{never_filling}
 use Rattle.ftl_core.proofs.live_pages.OpenedLive.{opened_knows}
 use Rattle.ftl_core.proofs.live_pages.StoredPages.{stored_owned}
 use Rattle.ftl_core.proofs.opened.FoundBlocks.{blocks_found}
+use Rattle.ftl_core.proofs.pages.StoredNames.{AreAlike, stored_is}
 
 -- Dies
 
@@ -103,12 +105,12 @@ latest_first l k none = (λ i. ledger.latest_in k l.greatest_seen (taken_none i)
     taken_none = ap (take (l.frontier - l.greatest_seen)) none
         ∙ take_all (l.frontier - l.greatest_seen) [] (omega arith)
 
-page_stored : (standing : Standing) (e : Option FoundPage) (name : Option Name) → IsPageOf standing e name →
-    IsStored standing (option_map stored_of_found e) name
-page_stored standing None None h = tt
-page_stored standing None (Some name) h = absurd h
-page_stored standing (Some e) None h = absurd h
-page_stored standing (Some e) (Some name) h = h
+found_alike : (standing : Standing) (e : Option FoundPage) (name : Option Name) → IsPageOf standing e name →
+    AreAlike standing (option_map stored_of_found e) name
+found_alike standing None None h = refl
+found_alike standing None (Some name) h = absurd h
+found_alike standing (Some e) None h = absurd h
+found_alike standing (Some e) (Some name) h = stored_is standing (stored_of_found e) name (sym h.0) h.1
 
 settings_key : Key
 settings_key = record { kind = 3; unit = 0; address = 0 }
@@ -148,12 +150,12 @@ ledger_found n f t h none still = record {
   places = λ k has.
       let index = known_index (shape_of_numbers n) k has in
       let r = h.contents k index.0 index.1 in
-      subst (λ (x : Option Stored × Option Name). IsStored t.ledger.standing x.0 x.1)
+      subst (λ (x : Option Stored × Option Name). AreAlike t.ledger.standing x.0 x.1)
       (λ i. (
         sym (place_found n f.contents.items k index.0 r.0 index.1 r.1) i,
         sym (latest_first t.ledger k none) i,
       ))
-      (page_stored t.ledger.standing r.0 (t.ledger.first_page k) r.2);
+      (found_alike t.ledger.standing r.0 (t.ledger.first_page k) r.2);
 }
 
 -- The mending

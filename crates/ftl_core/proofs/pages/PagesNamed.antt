@@ -2,7 +2,8 @@
 use Rattle.std.proofs.Common.{◌≡◌, ◌∙◌, ℕ, zero, suc, ◌==◌, true, List, [], ◌∷◌, ◌++◌, Option, Some}
 use Rattle.std.proofs.Common.{length, drop, take, find, refl, sym, ap, subst, arith}
 use Rattle.std.specs.Prelude.{position, slice_get}
-use Rattle.ufs_spec.specs.Ledger.{Entry, Name}
+use Rattle.ufs_spec.specs.Ledger.{Entry}
+use Rattle.ufs_spec.specs.declared.layer.Name.{Name}
 use Rattle.ufs_spec.proofs.Facts.{and_from, and_parts, eq-eqb, eqb-true, none-some, same_Some}
 use Rattle.ufs_spec.proofs.Lists.{any_here, find_some, position_any, position_told}
 use Rattle.power_loss.proofs.ordered_lists.ElementsAndOrders.{IsIn, at_has, found_in, has_at}
@@ -148,6 +149,7 @@ page_same st other en changed p name stands entry h = record {
   entry = entry ∙ h.entry;
   group_page = h.group_page;
   stands = stands ∙ h.stands;
+  whole = h.whole;
 }
 
 -- where each entry is known still
@@ -164,6 +166,7 @@ pages_known st en changed (p ∷ ps) (x ∷ names) known h = (
     entry = known x (record { item = record { key = p.key; body = p.body }; size = p.size }) h.0.entry;
     group_page = h.0.group_page;
     stands = h.0.stands;
+    whole = h.0.whole;
   },
   pages_known st en changed ps names known h.1,
 )

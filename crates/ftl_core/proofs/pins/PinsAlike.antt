@@ -3,17 +3,16 @@ use Rattle.std.proofs.Common.{◌≡◌, ◌∙◌, ℕ, zero, suc, Bool, true, 
 use Rattle.std.proofs.Common.{ap, subst}
 use Rattle.std.specs.Prelude.{◌||◌, map, slice_get}
 use Rattle.std.specs.List.{list_any}
-use Rattle.ufs_spec.specs.Disk.{Spot, same_spot, spot_of}
-use Rattle.ufs_spec.specs.Ledger as ledger
-use Rattle.ufs_spec.specs.Ledger.{Entry, InSlot, Name, OnPage, Unwritten}
+use Rattle.ufs_spec.specs.Disk.{Spot}
+use Rattle.ufs_spec.specs.Ledger.{Entry}
 use Rattle.ufs_spec.specs.Translation as layer
 use Rattle.ufs_spec.specs.Translation.{Translation}
+use Rattle.ufs_spec.specs.declared.layer.Looked.{Looked}
+use Rattle.ufs_spec.specs.declared.layer.Looked.TheVariants.{InSlot, OnPage, Unwritten}
+use Rattle.ufs_spec.specs.declared.layer.Name.{Name}
 use Rattle.power_loss.proofs.books.PagesByName.{none_some, some_is}
-use Rattle.ftl_core.specs.declared.books.Looked.{Looked}
-use Rattle.ftl_core.specs.declared.books.Looked.TheVariants as looked
 use Rattle.ftl_core.specs.declared.books.Pin.{Pin}
-use Rattle.unit_map.specs.declared.Stored.{Stored}
-use Rattle.ftl_core.specs.Describes.{IsLookedAt, PinKept, PinsKept}
+use Rattle.ftl_core.specs.Describes.{PinKept, PinsKept}
 use Rattle.ftl_core.specs.Moves.{keeps, keeps_page}
 
 -- the pins of a list stand for those of another, each for its own; what is shown of each holds of all
@@ -49,19 +48,13 @@ pins_more frontier entries (x ∷ ps) (y ∷ qs) p q r s = (r.0, pins_more front
 
 -- What was looked up
 
--- what was looked up is a page on both sides
-pub page_alike : (s : Stored) (q : ledger.Looked) → IsLookedAt (looked.Page s) q →
-    (name : Name) × (q ≡ OnPage name s.place) × (name.number ≡ s.number)
-page_alike s Unwritten h = absurd h
-page_alike s (InSlot name) h = absurd h
-page_alike s (OnPage name place) h = (name, ap (OnPage name) h.1, h.0)
+keeps_looked : (s : Spot) (kept : Looked) → keeps_page s.die s.block kept ≡ layer.looks_into s kept
+keeps_looked s Unwritten = refl
+keeps_looked s (InSlot name) = refl
+keeps_looked s (OnPage name place) = refl
 
-looks_alike : (s : Spot) (kept : Looked) (q : ledger.Looked) → IsLookedAt kept q →
-    keeps_page s.die s.block kept ≡ layer.looks_into s q
-looks_alike s looked.Nothing Unwritten is = refl
-looks_alike s (looked.Slot n i) (InSlot name) is = refl
-looks_alike s (looked.Page p) (OnPage name place) is = ap (λ z. same_spot (spot_of z) s) (sym is.1)
-looks_alike s kept q is = absurd is
+looks_alike : (s : Spot) (kept look : Looked) → look ≡ kept → keeps_page s.die s.block kept ≡ layer.looks_into s look
+looks_alike s kept look is = keeps_looked s kept ∙ ap (layer.looks_into s) (sym is)
 
 -- a reader keeps a page of the block where a task does
 pinned_alike : (frontier : ℕ) (entries : Name → Option Entry) (s : Spot) (ps : List Pin) (qs : List layer.Pin) →
@@ -71,7 +64,7 @@ pinned_alike frontier entries s [] [] k = refl
 pinned_alike frontier entries s [] (q ∷ qs) k = absurd k
 pinned_alike frontier entries s (p ∷ ps) [] k = absurd k
 pinned_alike frontier entries s (p ∷ ps) (q ∷ qs) k =
-    λ i. looks_alike s p.looked q.looked k.0.looked_at i || pinned_alike frontier entries s ps qs k.1 i
+    λ i. looks_alike s p.looked q.looked k.0.looked i || pinned_alike frontier entries s ps qs k.1 i
 
 -- where no rest of a page is to be read, tasks alone keep pages
 tasks_keep : (t : Translation) (s : Spot) → t.work.rests ≡ [] →

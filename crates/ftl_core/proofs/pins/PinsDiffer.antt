@@ -4,9 +4,10 @@ use Rattle.std.specs.Prelude.{◌||◌, ◌&&◌, cond, filter}
 use Rattle.std.specs.List.{list_any}
 use Rattle.std.proofs.lemmas.List.Folds.{list_any-append}
 use Rattle.ufs_spec.proofs.Facts.{or_from, or_parts}
-use Rattle.ufs_spec.specs.Ledger.{Entry, Name}
+use Rattle.ufs_spec.specs.Ledger.{Entry}
 use Rattle.ufs_spec.specs.Moves as move
 use Rattle.ufs_spec.specs.Translation as layer
+use Rattle.ufs_spec.specs.declared.layer.Name.{Name}
 use Rattle.power_loss.proofs.open_tasks.TaggedLists.{any_fewer, any_map, other_way}
 use Rattle.ftl_core.specs.declared.books.Pin.{Pin}
 use Rattle.ftl_core.specs.Describes.{PinsKept, ReadersDiffer}

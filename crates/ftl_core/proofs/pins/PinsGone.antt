@@ -5,26 +5,27 @@ use Rattle.std.proofs.Common.{refl, sym, ap, subst}
 use Rattle.std.specs.Prelude.{◌==◌, ◌&&◌, cond, filter, if◌then◌else◌, map, not, slice_get}
 use Rattle.std.proofs.lemmas.List.{length-map}
 use Rattle.ufs_spec.specs.Disk as disk
-use Rattle.ufs_spec.specs.Disk.{ForNobody, ForRest, ForStep, ForTask, Reader, Spot}
+use Rattle.ufs_spec.specs.Disk.{Spot}
 use Rattle.ufs_spec.specs.Ledger as ledger
-use Rattle.ufs_spec.specs.Ledger.{Entry, Name}
+use Rattle.ufs_spec.specs.Ledger.{Entry}
 use Rattle.ufs_spec.specs.Moves.{LetGo, LetGoAll, is_for, is_for_task, let_go, moved, without_reader as layer_without}
 use Rattle.ufs_spec.specs.Translation as layer
 use Rattle.ufs_spec.specs.Translation.{Translation, flies_name}
 use Rattle.ufs_spec.specs.declared.configs.Numbers.{Numbers}
 use Rattle.ufs_spec.specs.declared.flash.Place.{Place}
 use Rattle.ufs_spec.specs.Cells.{GroupPage}
+use Rattle.ufs_spec.specs.declared.layer.Name.{Name}
+use Rattle.ufs_spec.specs.declared.layer.Reader.{Reader}
+use Rattle.ufs_spec.specs.declared.layer.Reader.TheVariants.{ForNobody, ForRest, ForStep, ForTask}
 use Rattle.power_loss.proofs.books.PagesByName.{none_some, some_is}
 use Rattle.block_table.specs.declared.rows.DieRow.{DieRow}
 use Rattle.block_table.specs.declared.rows.Flight.{Flight}
 use Rattle.block_table.specs.declared.rows.Flight.TheVariants as flight
 use Rattle.block_table.specs.declared.rows.OpenBlock.{OpenBlock}
 use Rattle.ftl_core.specs.declared.books.Pin.{Pin}
-use Rattle.block_table.specs.declared.rows.Reader as kept
-use Rattle.block_table.specs.declared.rows.Reader.TheVariants as readers
 use Rattle.ftl_core.specs.declared.books.Step.{Step}
 use Rattle.ftl_core.specs.Core.{Core}
-use Rattle.ftl_core.specs.Describes.{RowKept, IsFlight, IsReader, Kept, PinsKept, WritesGroup}
+use Rattle.ftl_core.specs.Describes.{RowKept, IsFlight, Kept, PinsKept, WritesGroup, is_for_rest}
 use Rattle.ftl_core.specs.Moves.{flight_without, flight_without_block, is_of_reader, is_pin_of, without_block}
 use Rattle.ftl_core.specs.Moves.{without_reader}
 use Rattle.ftl_core.proofs.pins.FoundPins.{found_kept, pin_told}
@@ -32,15 +33,17 @@ use Rattle.ftl_core.proofs.pins.PinsDiffer.{differ_kept}
 
 -- What is let go, by reader and index
 
--- a read of a block that is let go is for nobody
-abbrev reader_left : (ℕ → ℕ → Bool) → kept.Reader → kept.Reader
-reader_left gone (readers.Task r i) = if gone r i then readers.Nobody else readers.Task r i
-reader_left gone readers.Step = readers.Step
-reader_left gone readers.Nobody = readers.Nobody
+abbrev is_gone : (ℕ → ℕ → Bool) → Reader → Bool
+is_gone gone (ForTask tag index) = gone tag index
+is_gone gone ForStep = false
+is_gone gone ForNobody = false
+is_gone gone (ForRest number index) = false
 
+-- a read of a block that is let go is for nobody
 abbrev flight_left : (ℕ → ℕ → Bool) → Option Flight → Option Flight
 flight_left gone None = None
-flight_left gone (Some (flight.Read place r)) = Some (flight.Read place (reader_left gone r))
+flight_left gone (Some (flight.Read place r)) =
+    Some (flight.Read place (if is_gone gone r then ForNobody else r))
 flight_left gone (Some (flight.Step place)) = Some (flight.Step place)
 flight_left gone (Some (flight.Group place n i)) = Some (flight.Group place n i)
 flight_left gone (Some (flight.Erase block)) = Some (flight.Erase block)
@@ -54,28 +57,12 @@ is_left gone p = not (gone p.reader p.index)
 abbrev is_kept : (ℕ → ℕ → Bool) → layer.Pin → Bool
 is_kept gone q = not (gone q.tag q.index)
 
-abbrev is_gone : (ℕ → ℕ → Bool) → Reader → Bool
-is_gone gone (ForTask tag index) = gone tag index
-is_gone gone ForStep = false
-is_gone gone ForNobody = false
-is_gone gone (ForRest number index) = false
-
 -- The reads in flight
 
--- it was for the task, and is for nobody on both sides, or it stays
-task_left : (b : Bool) (r i tag index : ℕ) → (tag ≡ r) × (index ≡ i) →
-    IsReader (if b then readers.Nobody else readers.Task r i) (if b then ForNobody else ForTask tag index)
-task_left true r i tag index h = tt
-task_left false r i tag index h = h
-
-read_left : (gone : ℕ → ℕ → Bool) (r : kept.Reader) (who : Reader) → IsReader r who →
-    IsReader (reader_left gone r) (if is_gone gone who then ForNobody else who)
-read_left gone (readers.Task r i) (ForTask tag index) h =
-    subst (λ (b : Bool). IsReader (reader_left gone (readers.Task r i)) (if b then ForNobody else ForTask tag index))
-    (λ j. gone (sym h.0 j) (sym h.1 j)) (task_left (gone r i) r i tag index h)
-read_left gone readers.Step ForStep h = tt
-read_left gone readers.Nobody ForNobody h = tt
-read_left gone r who h = absurd h
+-- it is for nobody now, or stays
+no_rest_left : (b : Bool) (r : Reader) → is_for_rest r ≡ false → is_for_rest (if b then ForNobody else r) ≡ false
+no_rest_left true r h = refl
+no_rest_left false r h = h
 
 -- the job in flight is as it was, or is a read that is for nobody now
 flight_gone : (n : Numbers) (step : Option Step) (gone : ℕ → ℕ → Bool) (die : ℕ) (filling : Option OpenBlock)
@@ -83,7 +70,7 @@ flight_gone : (n : Numbers) (step : Option Step) (gone : ℕ → ℕ → Bool) (
     IsFlight n step die filling (flight_left gone f) (layer_without (is_gone gone) g)
 flight_gone n step gone die filling None None h = h
 flight_gone n step gone die filling (Some (flight.Read place r)) (Some (disk.Reading who p)) h =
-    (h.0, read_left gone r who h.1)
+    (h.0, ap (λ (x : Reader). if is_gone gone x then ForNobody else x) h.1, no_rest_left (is_gone gone r) r h.2)
 flight_gone n step gone die filling (Some (flight.Step place)) (Some (disk.Programming p cell)) h = h
 flight_gone n step gone die filling (Some (flight.Group place m i)) (Some (disk.Programming p (GroupPage tag body))) h =
     h
@@ -270,9 +257,10 @@ let_go_kept c t reader =
   where
     same : (f : Option Flight) → flight_without reader f ≡ flight_left (λ r i. r == reader) f
     same None = refl
-    same (Some (flight.Read place (readers.Task r i))) = refl
-    same (Some (flight.Read place readers.Step)) = refl
-    same (Some (flight.Read place readers.Nobody)) = refl
+    same (Some (flight.Read place (ForTask r i))) = refl
+    same (Some (flight.Read place ForStep)) = refl
+    same (Some (flight.Read place ForNobody)) = refl
+    same (Some (flight.Read place (ForRest number index))) = refl
     same (Some (flight.Step place)) = refl
     same (Some (flight.Group place n i)) = refl
     same (Some (flight.Erase block)) = refl
@@ -297,9 +285,10 @@ let_one_go_kept c t reader index =
     same : (f : Option Flight) →
         flight_without_block reader index f ≡ flight_left (λ r i. (r == reader) && (i == index)) f
     same None = refl
-    same (Some (flight.Read place (readers.Task r i))) = refl
-    same (Some (flight.Read place readers.Step)) = refl
-    same (Some (flight.Read place readers.Nobody)) = refl
+    same (Some (flight.Read place (ForTask r i))) = refl
+    same (Some (flight.Read place ForStep)) = refl
+    same (Some (flight.Read place ForNobody)) = refl
+    same (Some (flight.Read place (ForRest number index))) = refl
     same (Some (flight.Step place)) = refl
     same (Some (flight.Group place n i)) = refl
     same (Some (flight.Erase block)) = refl

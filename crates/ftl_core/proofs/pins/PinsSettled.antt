@@ -4,24 +4,22 @@ use Rattle.std.proofs.Common.{Some, None, length, map, refl, sym, ap, subst, ⊎
 use Rattle.std.specs.Prelude.{◌==◌, ◌&&◌, fold, if◌then◌else◌, nat_lt}
 use Rattle.std.proofs.lemmas.Bool.{ne_eqb}
 use Rattle.std.proofs.lemmas.Bool.Decides.{eqb_tells}
-use Rattle.ufs_spec.proofs.Facts.{and_from, eq-eqb}
 use Rattle.ufs_spec.proofs.Lists.{map_twice}
 use Rattle.ufs_spec.specs.Keys.{Item}
-use Rattle.ufs_spec.specs.Ledger as ledger
-use Rattle.ufs_spec.specs.Ledger.{Entry, InSlot, Ledger, Name, OnPage, Unwritten, looked_on, settled_look}
+use Rattle.ufs_spec.specs.Ledger.{Entry, Ledger, looked_on, same_name, settled_look}
 use Rattle.ufs_spec.specs.Moves.{settled_pin}
 use Rattle.ufs_spec.specs.Translation as layer
 use Rattle.ufs_spec.specs.declared.flash.Key.{Key}
 use Rattle.ufs_spec.specs.declared.flash.Place.{Place}
-use Rattle.power_loss.proofs.books.SmallFacts.{if_false, if_true}
-use Rattle.ftl_core.specs.declared.books.Looked.{Looked}
-use Rattle.ftl_core.specs.declared.books.Looked.TheVariants as looked
+use Rattle.ufs_spec.specs.declared.layer.Looked.{Looked}
+use Rattle.ufs_spec.specs.declared.layer.Looked.TheVariants.{InSlot, OnPage, Unwritten}
+use Rattle.ufs_spec.specs.declared.layer.Name.{Name}
+use Rattle.power_loss.proofs.books.SmallFacts.{if_false, if_true, name_self}
 use Rattle.write_cache.specs.declared.slots.Pending.{Pending}
 use Rattle.ftl_core.specs.declared.books.Pin.{Pin}
-use Rattle.unit_map.specs.declared.Stored.{Stored}
 use Rattle.ftl_core.specs.Core.{Core}
-use Rattle.ftl_core.specs.Describes.{IsLookOf, IsLookedAt, IsWanted, PinsKept, Standing, name_at}
-use Rattle.ftl_core.specs.Ends.{page_durable, page_durable_at}
+use Rattle.ftl_core.specs.Describes.{IsLookOf, IsWanted, PinsKept, Standing, name_at}
+use Rattle.ftl_core.specs.Ends.{page_at, page_durable, page_durable_at}
 use Rattle.ftl_core.specs.Moves.{moved_pin, now_stored}
 use Rattle.ftl_core.proofs.group_settled.FrontPages.{AreStandingPages}
 use Rattle.ftl_core.proofs.pins.PinsAlike.{pins_mapped}
@@ -32,7 +30,7 @@ at_frontier l f = record l { frontier = f }
 
 -- Settling once more, and with nothing new
 
-look_settled : (l : Ledger) (entries : Name → Option Entry) (k : Key) (x : ledger.Looked) →
+look_settled : (l : Ledger) (entries : Name → Option Entry) (k : Key) (x : Looked) →
     IsLookOf l.frontier entries k x → settled_look l x ≡ x
 look_settled l entries k Unwritten h = refl
 look_settled l entries k (InSlot name) h = if_true (nat_lt l.frontier name.number) _ _
@@ -50,7 +48,7 @@ pins_settled l entries (p ∷ ps) (q ∷ qs) h =
     let more = pins_settled l entries ps qs h.1 in
     λ i. (record q { looked = here i }) ∷ more i
 
-look_twice : (l : Ledger) (a b : ℕ) (x : ledger.Looked) → a ≤ b →
+look_twice : (l : Ledger) (a b : ℕ) (x : Looked) → a ≤ b →
     settled_look (at_frontier l b) (settled_look (at_frontier l a) x) ≡ settled_look (at_frontier l b) x
 look_twice l a b Unwritten le = refl
 look_twice l a b (OnPage name place) le = refl
@@ -88,7 +86,7 @@ pins_twice l a b (q ∷ qs) le =
 -- what is looked at once the page is durable, if it is written
 abbrev now_by : Pending → Option Place → Looked → Looked
 now_by p None x = x
-now_by p (Some place) x = now_stored p.index (record { place = place; number = p.number }) x
+now_by p (Some place) x = now_stored (page_at p.number p.index place) x
 
 -- page by page
 abbrev pub now_all : List Pending → Looked → Looked
@@ -113,56 +111,55 @@ pins_all (p ∷ ps) c = by p.written (pins_all ps (page_durable c p))
         map (λ (pin : Pin). record pin { looked = now_all ps (now_by p o pin.looked) }) c.pins
     by None r = r
     by (Some place) r =
-        r ∙ map_twice (moved_all ps) (moved_pin p.index (record { place = place; number = p.number })) c.pins
+        r ∙ map_twice (moved_all ps) (moved_pin (page_at p.number p.index place)) c.pins
 
 -- who looks at nothing or at a page goes on to
-now_nothing : (ps : List Pending) → now_all ps looked.Nothing ≡ looked.Nothing
+now_nothing : (ps : List Pending) → now_all ps Unwritten ≡ Unwritten
 now_nothing [] = refl
 now_nothing (p ∷ ps) = ap (now_all ps) (by p.written) ∙ now_nothing ps
   where
-    by : (o : Option Place) → now_by p o looked.Nothing ≡ looked.Nothing
+    by : (o : Option Place) → now_by p o Unwritten ≡ Unwritten
     by None = refl
     by (Some place) = refl
 
-now_page : (ps : List Pending) (s : Stored) → now_all ps (looked.Page s) ≡ looked.Page s
-now_page [] s = refl
-now_page (p ∷ ps) s = ap (now_all ps) (by p.written) ∙ now_page ps s
+now_page : (ps : List Pending) (name : Name) (at : Place) → now_all ps (OnPage name at) ≡ OnPage name at
+now_page [] name at = refl
+now_page (p ∷ ps) name at = ap (now_all ps) (by p.written) ∙ now_page ps name at
   where
-    by : (o : Option Place) → now_by p o (looked.Page s) ≡ looked.Page s
+    by : (o : Option Place) → now_by p o (OnPage name at) ≡ OnPage name at
     by None = refl
     by (Some place) = refl
 
-slot_stays : (n i : ℕ) (p : Pending) (place : Place) → ((n == p.number) && (i == p.index)) ≡ false →
-    p.written ≡ Some place → now_by p p.written (looked.Slot n i) ≡ looked.Slot n i
-slot_stays n i p place e written =
-    ap (λ (o : Option Place). now_by p o (looked.Slot n i)) written
-    ∙ if_false ((n == p.number) && (i == p.index)) (looked.Page (record { place = place; number = p.number }))
-    (looked.Slot n i) e
+slot_stays : (name : Name) (p : Pending) (place : Place) → same_name name (name_at p.number p.index) ≡ false →
+    p.written ≡ Some place → now_by p p.written (InSlot name) ≡ InSlot name
+slot_stays name p place e written =
+    ap (λ (o : Option Place). now_by p o (InSlot name)) written
+    ∙ if_false (same_name name (name_at p.number p.index)) (OnPage (name_at p.number p.index) place) (InSlot name) e
 
-slot_moves : (n i : ℕ) (p : Pending) (place : Place) → p.number ≡ n → p.index ≡ i → p.written ≡ Some place →
-    now_by p p.written (looked.Slot n i) ≡ looked.Page (record { place = place; number = n })
-slot_moves n i p place number index written =
-    ap (λ (o : Option Place). now_by p o (looked.Slot n i)) written
-    ∙ if_true ((n == p.number) && (i == p.index)) (looked.Page (record { place = place; number = p.number }))
-    (looked.Slot n i)
-    (and_from (n == p.number) (i == p.index) (eq-eqb n p.number (sym number)) (eq-eqb i p.index (sym index)))
-    ∙ ap (λ (m : ℕ). looked.Page (record { place = place; number = m })) number
+slot_moves : (name : Name) (p : Pending) (place : Place) → name ≡ name_at p.number p.index → p.written ≡ Some place →
+    now_by p p.written (InSlot name) ≡ OnPage name place
+slot_moves name p place is written =
+    ap (λ (o : Option Place). now_by p o (InSlot name)) written
+    ∙ if_true (same_name name (name_at p.number p.index)) (OnPage (name_at p.number p.index) place) (InSlot name)
+    (ap (same_name name) (sym is) ∙ name_self name)
+    ∙ ap (λ (z : Name). OnPage z place) (sym is)
 
 -- who looks at the slot of another group does so too
 now_other : (st : Standing) (n i : ℕ) (ps : List Pending) (xs : List Item) → AreStandingPages st n i ps xs →
-    (m j : ℕ) → m ≢ n → now_all ps (looked.Slot m j) ≡ looked.Slot m j
-now_other st n i [] xs h m j apart = refl
-now_other st n i (p ∷ ps) [] h m j apart = absurd h
-now_other st n i (p ∷ ps) (x ∷ xs) h m j apart =
-    ap (now_all ps) (slot_stays m j p h.0.place
-    (ap (λ (b : Bool). b && (j == p.index)) (ne_eqb m p.number (λ e. apart (e ∙ h.0.number)))) h.0.written)
-    ∙ now_other st n (suc i) ps xs h.1 m j apart
+    (name : Name) → name.number ≢ n → now_all ps (InSlot name) ≡ InSlot name
+now_other st n i [] xs h name apart = refl
+now_other st n i (p ∷ ps) [] h name apart = absurd h
+now_other st n i (p ∷ ps) (x ∷ xs) h name apart =
+    ap (now_all ps) (slot_stays name p h.0.place
+    (ap (λ (b : Bool). b && (name.index == p.index)) (ne_eqb name.number p.number (λ e. apart (e ∙ h.0.number))))
+    h.0.written)
+    ∙ now_other st n (suc i) ps xs h.1 name apart
 
 -- and who looks at a slot of this one looks at its page
 record IsMoved (st : Standing) (n j : ℕ) (ps : List Pending) : Type 0 where
   place : Place
   stands : st n j ≡ Some place
-  moved : now_all ps (looked.Slot n j) ≡ looked.Page (record { place = place; number = n })
+  moved : now_all ps (InSlot (name_at n j)) ≡ OnPage (name_at n j) place
 
 now_here : (st : Standing) (n i : ℕ) (ps : List Pending) (xs : List Item) → AreStandingPages st n i ps xs →
     (j : ℕ) → j < length xs → IsMoved st n (i + j) ps
@@ -173,11 +170,15 @@ now_here st n i (p ∷ ps) (x ∷ xs) h zero l =
     subst (λ (m : ℕ). IsMoved st n m (p ∷ ps)) (same i) (record {
       place = h.0.place;
       stands = h.0.stands;
-      moved = ap (now_all ps) (slot_moves n i p h.0.place h.0.number h.0.index h.0.written) ∙ now_page ps _;
+      moved = ap (now_all ps) (slot_moves (name_at n i) p h.0.place named h.0.written)
+          ∙ now_page ps (name_at n i) h.0.place;
     })
   where
     same : (i : ℕ) → i ≡ i + 0
     same i = omega arith
+
+    named : name_at n i ≡ name_at p.number p.index
+    named = λ j. record { number = sym h.0.number j; index = sym h.0.index j }
 now_here st n i (p ∷ ps) (x ∷ xs) h (suc j) l = on (now_here st n (suc i) ps xs h.1 j (omega arith))
   where
     apart : (i j : ℕ) → i + suc j ≡ i → ⊥
@@ -198,69 +199,63 @@ now_here st n i (p ∷ ps) (x ∷ xs) h (suc j) l = on (now_here st n (suc i) ps
     on m = record {
       place = m.place;
       stands = ap (st n) (sym (next i j)) ∙ m.stands;
-      moved = ap (now_all ps) (slot_stays n (i + suc j) p h.0.place none h.0.written)
-          ∙ ap (λ (z : ℕ). now_all ps (looked.Slot n z)) (sym (next i j)) ∙ m.moved;
+      moved = ap (now_all ps) (slot_stays (name_at n (i + suc j)) p h.0.place none h.0.written)
+          ∙ ap (λ (z : ℕ). now_all ps (InSlot (name_at n z))) (sym (next i j)) ∙ m.moved
+          ∙ ap (λ (z : ℕ). OnPage (name_at n z) m.place) (next i j);
     }
 
 -- what is kept of one look, with this frontier
-abbrev IsLooked : ℕ → (Name → Option Entry) → Key → Looked → ledger.Looked → Type 0
-IsLooked frontier entries k x y = IsLookedAt x y × IsLookOf frontier entries k y
+abbrev IsLooked : ℕ → (Name → Option Entry) → Key → Looked → Looked → Type 0
+IsLooked frontier entries k x y = (y ≡ x) × IsLookOf frontier entries k y
 
 module _ (l : Ledger) (entries : Name → Option Entry) (g : List Item) (ps : List Pending)
     (stand : AreStandingPages l.standing (suc l.frontier) 0 ps g)
     (inside : (j : ℕ) (e : Entry) → entries (name_at (suc l.frontier) j) ≡ Some e → j < length g) where
-  slot_settles : (k : Key) (n j : ℕ) → IsLookOf l.frontier entries k (InSlot (name_at n j)) →
-      IsLooked (suc l.frontier) entries k (now_all ps (looked.Slot n j))
-      (settled_look (at_frontier l (suc l.frontier)) (InSlot (name_at n j)))
-  slot_settles k n j there = ⊎_elim (λ h. page h.1) (λ h. slot h.1) (eqb_tells n (suc l.frontier))
+  abbrev above : Looked → Looked
+  above x = settled_look (at_frontier l (suc l.frontier)) x
+
+  slot_settles : (k : Key) (name : Name) → IsLookOf l.frontier entries k (InSlot name) →
+      IsLooked (suc l.frontier) entries k (now_all ps (InSlot name)) (above (InSlot name))
+  slot_settles k name there = ⊎_elim (λ h. page h.1) (λ h. slot h.1) (eqb_tells name.number (suc l.frontier))
     where
-      page : n ≡ suc l.frontier → IsLooked (suc l.frontier) entries k (now_all ps (looked.Slot n j))
-          (settled_look (at_frontier l (suc l.frontier)) (InSlot (name_at n j)))
+      page : name.number ≡ suc l.frontier →
+          IsLooked (suc l.frontier) entries k (now_all ps (InSlot name)) (above (InSlot name))
       page at =
-          let named : (e : Entry) × (entries (name_at n j) ≡ Some e) × (e.item.key ≡ k) = there.1 in
-          let low = inside j named.0 (ap (λ (m : ℕ). entries (name_at m j)) (sym at) ∙ named.1) in
-          let m : IsMoved l.standing (suc l.frontier) j ps =
-          subst (λ (z : ℕ). IsMoved l.standing (suc l.frontier) z ps) (same j)
-          (now_here l.standing (suc l.frontier) 0 ps g stand j low) in
-          let told : settled_look (at_frontier l (suc l.frontier)) (InSlot (name_at n j)) ≡
-          OnPage (name_at n j) m.place =
-          if_false (nat_lt (suc l.frontier) n) (InSlot (name_at n j)) (looked_on (name_at n j) (l.standing n j))
-          (le-ltb (suc l.frontier) n (omega arith))
-          ∙ ap (looked_on (name_at n j)) (ap (λ (z : ℕ). l.standing z j) at ∙ m.stands) in
-          let now = ap (λ (z : ℕ). now_all ps (looked.Slot z j)) at ∙ m.moved in
-          subst (λ (z : Looked × ledger.Looked). IsLooked (suc l.frontier) entries k z.0 z.1)
-          (λ i. (sym now i, sym told i))
-          ((at, refl), there.1)
+          let is : name ≡ name_at (suc l.frontier) name.index = λ i. name_at (at i) name.index in
+          let named : (e : Entry) × (entries name ≡ Some e) × (e.item.key ≡ k) = there.1 in
+          let low = inside name.index named.0 (ap entries (sym is) ∙ named.1) in
+          let m : IsMoved l.standing (suc l.frontier) name.index ps =
+          subst (λ (z : ℕ). IsMoved l.standing (suc l.frontier) z ps) (same name.index)
+          (now_here l.standing (suc l.frontier) 0 ps g stand name.index low) in
+          let told : above (InSlot name) ≡ OnPage name m.place =
+          if_false (nat_lt (suc l.frontier) name.number) (InSlot name)
+          (looked_on name (l.standing name.number name.index))
+          (le-ltb (suc l.frontier) name.number (omega arith))
+          ∙ ap (looked_on name) (ap (λ (z : ℕ). l.standing z name.index) at ∙ m.stands) in
+          let now : now_all ps (InSlot name) ≡ OnPage name m.place =
+          ap (λ (z : Name). now_all ps (InSlot z)) is ∙ m.moved ∙ ap (λ (z : Name). OnPage z m.place) (sym is) in
+          (told ∙ sym now, subst (IsLookOf (suc l.frontier) entries k) (sym told) there.1)
         where
           same : (j : ℕ) → 0 + j ≡ j
           same j = omega arith
 
-      slot : n ≢ suc l.frontier → IsLooked (suc l.frontier) entries k (now_all ps (looked.Slot n j))
-          (settled_look (at_frontier l (suc l.frontier)) (InSlot (name_at n j)))
+      slot : name.number ≢ suc l.frontier →
+          IsLooked (suc l.frontier) entries k (now_all ps (InSlot name)) (above (InSlot name))
       slot e =
           let before = there.0 in
-          let above : suc l.frontier < n = omega (arith, before, e) in
-          subst (λ (z : Looked × ledger.Looked). IsLooked (suc l.frontier) entries k z.0 z.1)
-          (λ i. (
-            sym (now_other l.standing (suc l.frontier) 0 ps g stand n j e) i,
-            sym (if_true (nat_lt (suc l.frontier) n) (InSlot (name_at n j))
-                (looked_on (name_at n j) (l.standing n j))
-                (lt-ltb (suc l.frontier) n above)) i,
-          ))
-          (refl, (above, there.1))
+          let high : suc l.frontier < name.number = omega (arith, before, e) in
+          let told : above (InSlot name) ≡ InSlot name =
+          if_true (nat_lt (suc l.frontier) name.number) (InSlot name)
+          (looked_on name (l.standing name.number name.index)) (lt-ltb (suc l.frontier) name.number high) in (
+            told ∙ sym (now_other l.standing (suc l.frontier) 0 ps g stand name e),
+            subst (IsLookOf (suc l.frontier) entries k) (sym told) (high, there.1),
+          )
 
-  look_settles : (k : Key) (x : Looked) (y : ledger.Looked) → IsLookedAt x y → IsLookOf l.frontier entries k y →
-      IsLooked (suc l.frontier) entries k (now_all ps x) (settled_look (at_frontier l (suc l.frontier)) y)
-  look_settles k looked.Nothing Unwritten at there =
-      subst (λ (z : Looked). IsLooked (suc l.frontier) entries k z Unwritten) (sym (now_nothing ps)) (tt, tt)
-  look_settles k (looked.Slot n j) (InSlot name) at there =
-      subst (λ (z : Name). IsLooked (suc l.frontier) entries k (now_all ps (looked.Slot n j))
-      (settled_look (at_frontier l (suc l.frontier)) (InSlot z)))
-      (sym at) (slot_settles k n j (subst (λ (z : Name). IsLookOf l.frontier entries k (InSlot z)) at there))
-  look_settles k (looked.Page t) (OnPage name place) at there =
-      subst (λ (z : Looked). IsLooked (suc l.frontier) entries k z (OnPage name place)) (sym (now_page ps t))
-      (at, there)
-  look_settles k x y at there = absurd at
+  look_settles : (k : Key) (x : Looked) → IsLookOf l.frontier entries k x →
+      IsLooked (suc l.frontier) entries k (now_all ps x) (above x)
+  look_settles k Unwritten there = (sym (now_nothing ps), tt)
+  look_settles k (InSlot name) there = slot_settles k name there
+  look_settles k (OnPage name place) there = (sym (now_page ps name place), there)
 
   -- what readers keep goes on to be what the layer has
   pub pins_settle : (pins : List Pin) (qs : List layer.Pin) → PinsKept l.frontier entries pins qs →
@@ -269,14 +264,14 @@ module _ (l : Ledger) (entries : Name → Option Entry) (g : List Item) (ps : Li
   pins_settle pins qs h =
       pins_mapped l.frontier (suc l.frontier) entries entries (moved_all ps)
       (settled_pin (at_frontier l (suc l.frontier))) pins qs
-      (λ p q k. let r = look_settles p.key p.looked q.looked k.looked_at k.there in
-      record { tag = k.tag; index = k.index; looked_at = r.0; there = r.1; wanted = k.wanted }) h
+      (λ p q k. let r = look_settles p.key q.looked k.there in
+      record { tag = k.tag; index = k.index; looked = r.0 ∙ ap (now_all ps) k.looked; there = r.1; wanted = k.wanted })
+      h
 
 -- who wants a page goes on to want it
 pub still_wanted : (ps : List Pending) (place : Place) (p : Pin) → IsWanted place p → IsWanted place (moved_all ps p)
 still_wanted ps place p w = record {
-  stored = w.stored;
-  looks = ap (now_all ps) w.looks ∙ now_page ps w.stored;
-  place_is = w.place_is;
+  name = w.name;
+  looks = ap (now_all ps) w.looks ∙ now_page ps w.name place;
   wanted = w.wanted;
 }

@@ -1,12 +1,13 @@
 -- The page of a block of a reader is wanted from now on, or wanted no more.
 use Rattle.std.proofs.Common.{◌≡◌, ◌∙◌, ℕ, Bool, true, false, Option, map, refl, ap}
 use Rattle.std.specs.Prelude.{if◌then◌else◌, option_map}
-use Rattle.ufs_spec.specs.Ledger.{Entry, Name, entry_of}
+use Rattle.ufs_spec.specs.Ledger.{Entry, entry_of}
 use Rattle.ufs_spec.specs.Moves as move
 use Rattle.ufs_spec.specs.Moves.{WantPage, moved, with_wanted}
 use Rattle.ufs_spec.specs.Translation as layer
 use Rattle.ufs_spec.specs.Translation.{Translation}
 use Rattle.ufs_spec.specs.declared.flash.Place.{Place}
+use Rattle.ufs_spec.specs.declared.layer.Name.{Name}
 use Rattle.ftl_core.specs.declared.books.Pin.{Pin}
 use Rattle.ftl_core.specs.Core.{Core}
 use Rattle.ftl_core.specs.Describes.{IsWanted, Kept, PinKept}
@@ -28,7 +29,7 @@ wants_alike frontier entries reader index b p q h =
   where
     by : (x y : Bool) → y ≡ x → PinKept frontier entries (record p { wanted = if x then b else p.wanted })
         (if y then record q { wanted = b } else q)
-    by true true e = record { tag = h.tag; index = h.index; looked_at = h.looked_at; there = h.there; wanted = refl }
+    by true true e = record { tag = h.tag; index = h.index; looked = h.looked; there = h.there; wanted = refl }
     by true false e = cc
     by false true e = cc
     by false false e = h
@@ -37,7 +38,7 @@ wants_alike frontier entries reader index b p q h =
 still_wanted : (reader index : ℕ) (place : Place) (p : Pin) → IsWanted place p →
     IsWanted place (wanted_now reader index p)
 still_wanted reader index place p w =
-    record { stored = w.stored; looks = w.looks; place_is = w.place_is; wanted = by (is_pin_of reader index p) }
+    record { name = w.name; looks = w.looks; wanted = by (is_pin_of reader index p) }
   where
     by : (b : Bool) → (if b then true else p.wanted) ≡ true
     by true = refl

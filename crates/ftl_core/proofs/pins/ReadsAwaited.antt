@@ -1,26 +1,24 @@
 -- A read in flight is for a reader who keeps its page and waits for it, for the step under way, or for nobody.
-use Rattle.std.proofs.Common.{◌≡◌, ◌∙◌, ℕ, Option, Some, None, refl}
+use Rattle.std.proofs.Common.{◌≡◌, ◌∙◌, ℕ, false, Option, Some, None, refl}
 use Rattle.std.proofs.Common.{sym, ap, subst, inl, inr, ◌⊎◌}
 use Rattle.std.specs.Prelude.{slice_get}
-use Rattle.ufs_spec.proofs.Facts.{none-some}
+use Rattle.ufs_spec.proofs.Facts.{none-some, true≢false}
 use Rattle.ufs_spec.specs.Disk as disk
-use Rattle.ufs_spec.specs.Disk.{ForNobody, ForStep, ForTask, Reader, Reading}
-use Rattle.ufs_spec.specs.Ledger.{OnPage, entry_of}
+use Rattle.ufs_spec.specs.Disk.{Reading}
+use Rattle.ufs_spec.specs.Ledger.{entry_of}
 use Rattle.ufs_spec.specs.Translation.{Translation}
 use Rattle.ufs_spec.specs.declared.configs.Numbers.{Numbers}
 use Rattle.ufs_spec.specs.declared.flash.Place.{Place}
+use Rattle.ufs_spec.specs.declared.layer.Reader.{Reader}
+use Rattle.ufs_spec.specs.declared.layer.Reader.TheVariants.{ForNobody, ForRest, ForStep, ForTask}
 use Rattle.block_table.specs.declared.rows.DieRow.{DieRow}
 use Rattle.block_table.specs.declared.rows.Flight.{Flight}
 use Rattle.block_table.specs.declared.rows.Flight.TheVariants as flight
-use Rattle.ftl_core.specs.declared.books.Looked.{Looked}
 use Rattle.block_table.specs.declared.rows.OpenBlock.{OpenBlock}
-use Rattle.block_table.specs.declared.rows.Reader as kept
-use Rattle.block_table.specs.declared.rows.Reader.TheVariants as readers
 use Rattle.ftl_core.specs.declared.books.Step.{Step}
 use Rattle.ftl_core.specs.Core.{Core}
-use Rattle.ftl_core.specs.Describes.{Describes, IsFlight, IsLookedAt, IsReader}
+use Rattle.ftl_core.specs.Describes.{Describes, IsFlight, is_for_rest}
 use Rattle.ftl_core.proofs.pins.FoundPins.{pin_found}
-use Rattle.ftl_core.proofs.pins.PinsAlike.{page_alike}
 use Rattle.ftl_core.specs.Tells.{IsAwaited, IsReadOf}
 use Rattle.ftl_core.proofs.job_taken.NextStarts.{outside}
 
@@ -29,14 +27,14 @@ use Rattle.ftl_core.proofs.job_taken.NextStarts.{outside}
 reader_is : (n : Numbers) (step : Option Step) (die : ℕ) (filling : Option OpenBlock) (f : Option Flight) (who : Reader)
     (place : Place) → IsFlight n step die filling f (Some (Reading who place)) →
     ((who ≡ ForNobody) ⊎ (who ≡ ForStep)) ⊎ ((tag : ℕ) × (index : ℕ) × (who ≡ ForTask tag index))
-reader_is n step die filling (Some (flight.Read p reader)) who place h = known reader who h.1
+reader_is n step die filling (Some (flight.Read p reader)) who place h = known reader h.1 h.2
   where
-    known : (reader : kept.Reader) (who : Reader) → IsReader reader who →
+    known : (reader : Reader) → who ≡ reader → is_for_rest reader ≡ false →
         ((who ≡ ForNobody) ⊎ (who ≡ ForStep)) ⊎ ((tag : ℕ) × (index : ℕ) × (who ≡ ForTask tag index))
-    known (readers.Task reader i) (ForTask tag index) h = inr (tag, index, refl)
-    known readers.Step ForStep h = inl (inr refl)
-    known readers.Nobody ForNobody h = inl (inl refl)
-    known reader who h = absurd h
+    known (ForTask tag index) e no_rest = inr (tag, index, e)
+    known ForStep e no_rest = inl (inr e)
+    known ForNobody e no_rest = inl (inl e)
+    known (ForRest number index) e no_rest = absurd (true≢false no_rest)
 reader_is n step die filling f who place h = absurd h
 
 task_reads : (c : Core) (t : Translation) (die tag index : ℕ) (place : Place) → Describes c t →
@@ -44,14 +42,12 @@ task_reads : (c : Core) (t : Translation) (die tag index : ℕ) (place : Place) 
 task_reads c t die tag index place h flies =
     let w = h.kept.reads die tag index place flies in
     let q = pin_found t.ledger.frontier (entry_of t.ledger) tag index c.pins t.pins w.0 h.kept.pins w.1 in
-    let page = page_alike w.2.stored q.0.looked
-    (subst (λ (l : Looked). IsLookedAt l q.0.looked) w.2.looks q.2.looked_at) in
     record {
       pin = q.0;
       kept = q.1;
       wanted = q.2.wanted ∙ w.2.wanted;
-      name = page.0;
-      looks = page.1 ∙ ap (OnPage page.0) w.2.place_is;
+      name = w.2.name;
+      looks = q.2.looked ∙ w.2.looks;
     }
 
 pub read_awaited : (c : Core) (die : ℕ) (t : Translation) (who : Reader) (place : Place) → Describes c t →

@@ -1,5 +1,5 @@
 -- What readers keep shows in the layer that is specified: what they look at, let go and want next.
-use Rattle.std.proofs.Common.{◌≡◌, ℕ, ◌+◌, ◌≤◌, true, List, Option, Some, None, drop, map, max, sym, subst, ⊎_elim}
+use Rattle.std.proofs.Common.{◌≡◌, ℕ, ◌+◌, ◌≤◌, true, List, Option, Some, None, ap, drop, map, max, refl, sym, subst, ⊎_elim}
 use Rattle.std.specs.Prelude.{IsSome, filter, find, not, option_map}
 use Rattle.ufs_spec.proofs.Facts.{cases_Bool, false≢true}
 use Rattle.ufs_spec.specs.Ledger.{Ledger, before_accepted, entry_of}
@@ -8,6 +8,8 @@ use Rattle.ufs_spec.specs.Moves.{Acknowledge, LetGo, LetGoAll, WantPage, moved}
 use Rattle.ufs_spec.specs.Translation as layer
 use Rattle.ufs_spec.specs.Translation.{Translation}
 use Rattle.ufs_spec.specs.declared.flash.Key.{Key}
+use Rattle.power_loss.specs.Book.{book}
+use Rattle.power_loss.specs.Invariant.{PinsRight}
 use Rattle.power_loss.proofs.moves.MovesKeepValid.{all_keep}
 use Rattle.ftl_core.specs.declared.books.Mending.{Mending}
 use Rattle.ftl_core.specs.declared.books.Pin.{Pin}
@@ -16,7 +18,7 @@ use Rattle.ftl_core.specs.declared.books.Step.TheVariants as steps
 use Rattle.ftl_core.specs.Core.{Core}
 use Rattle.ftl_core.specs.Describes.{Describes, StepKept, WorkKept}
 use Rattle.ftl_core.specs.Moves.{is_pin_of, looked_by, next_wanted, unpinned, wanted_now, without_block}
-use Rattle.ftl_core.specs.Tells.{IsPinned}
+use Rattle.ftl_core.specs.Tells.{looked_of}
 use Rattle.ftl_core.proofs.pins.FoundPins.{FoundKept, pins_found}
 use Rattle.ftl_core.proofs.pins.PinsGone.{let_go_kept, let_one_go_kept}
 use Rattle.ftl_core.proofs.pins.PinsWanted.{wants_kept}
@@ -25,15 +27,15 @@ use Rattle.ftl_core.proofs.pins.PinsWanted.{wants_kept}
 
 -- what a reader keeps of a block is what the pin of this block looks at
 pub pinned_right : (c : Core) (t : Translation) (reader index : ℕ) → Describes c t →
-    IsPinned (looked_by reader index c.pins) (find (move.is_pin_of reader index) t.pins)
+    looked_by reader index c.pins ≡ option_map looked_of (find (move.is_pin_of reader index) t.pins)
 pinned_right c t reader index h =
     by (find (is_pin_of reader index) c.pins) (find (move.is_pin_of reader index) t.pins)
     (pins_found t.ledger.frontier (entry_of t.ledger) reader index c.pins t.pins h.kept.pins)
   where
     by : (o : Option Pin) (r : Option layer.Pin) → FoundKept t.ledger.frontier (entry_of t.ledger) o r →
-        IsPinned (option_map (λ (x : Pin). x.looked) o) r
-    by None None k = tt
-    by (Some p) (Some q) k = k.looked_at
+        option_map (λ (x : Pin). x.looked) o ≡ option_map looked_of r
+    by None None k = refl
+    by (Some p) (Some q) k = ap Some (sym k.looked)
     by None (Some q) k = absurd k
     by (Some p) None k = absurd k
 
@@ -45,6 +47,11 @@ keeps_mended c t reader index h some =
     (λ e. absurd (false≢true
     (subst (λ (ps : List Pin). IsSome (looked_by reader index ps)) (h.kept.readers e) some)))
     (cases_Bool (layer.is_mended t.work.mending))
+
+-- what readers keep is there
+pub pins_there : (c : Core) (t : Translation) → Describes c t →
+    PinsRight (book t) t.ledger.frontier t.disk.cells t.disk.finished t.disk.erasing t.pins
+pins_there c t h = h.valid.pins
 
 -- What is let go
 

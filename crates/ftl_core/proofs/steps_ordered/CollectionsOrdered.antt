@@ -74,7 +74,9 @@ module _ (c : Core) (t : Translation) (h : Describes c t) where
   -- what names a live page names its key and its group
   live_owned : (x : PlannedCopy) → IsNamed (record { numbers = c.numbers; places = c.places }) c.pages x →
       layer.is_live t x.from ≡ true → IsPageOf c.numbers t.disk.cells x.key x.number x.from
-  live_owned x (inl (inl e)) live = stored_owned c t h.valid h.kept x.key _ e
+  live_owned x (inl (inl e)) live =
+      subst (λ (z : ℕ × Place). IsPageOf c.numbers t.disk.cells x.key z.0 z.1) (λ i. (e.3 i, e.2 i))
+      (stored_owned c t h.valid h.kept x.key e.0 e.1)
   live_owned x (inl (inr n)) live =
       let at = contained_at c.pages n.0 n.1 in
       let r = pending_right c t h.valid h.kept at.0 n.0 at.1 x.from n.2 in

@@ -8,7 +8,7 @@ use Rattle.ufs_spec.specs.Pages.{greatest_number}
 use Rattle.ufs_spec.specs.Cells.{Cell, Cells, GroupPage, key_of}
 use Rattle.ufs_spec.specs.Disk as disk
 use Rattle.ufs_spec.specs.Disk.{Spot}
-use Rattle.ufs_spec.specs.Ledger.{Ledger, Name, entry_of}
+use Rattle.ufs_spec.specs.Ledger.{Ledger, entry_of}
 use Rattle.ufs_spec.specs.Translation as layer
 use Rattle.ufs_spec.specs.Translation.{CopyStep, Order, OrderPlanMark, StepKind, Translation, name_of, stepped}
 use Rattle.ufs_spec.specs.Translation.{with_plan}
@@ -16,6 +16,7 @@ use Rattle.ufs_spec.specs.declared.flash.Fence.{Fence}
 use Rattle.ufs_spec.specs.declared.flash.Key.{Key}
 use Rattle.ufs_spec.specs.declared.flash.Place.{Place}
 use Rattle.ufs_spec.specs.declared.flash.Tag.{Tag}
+use Rattle.ufs_spec.specs.declared.layer.Name.{Name}
 use Rattle.power_loss.proofs.books.SmallFacts.{if_true}
 use Rattle.power_loss.proofs.books.PagesByName.{entry_for}
 use Rattle.collector.specs.Plans as plans

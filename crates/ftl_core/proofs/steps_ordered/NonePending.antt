@@ -1,8 +1,9 @@
 -- Before the device is mended no page is pending: all groups are repairs.
 use Rattle.std.proofs.Common.{◌≡◌, List, [], ◌∷◌, Option, length, ap}
 use Rattle.std.proofs.lemmas.List.{nil_from_length}
-use Rattle.ufs_spec.specs.Ledger.{Entry, Ledger, Name, pending}
+use Rattle.ufs_spec.specs.Ledger.{Entry, Ledger, pending}
 use Rattle.ufs_spec.specs.Translation.{names_after}
+use Rattle.ufs_spec.specs.declared.layer.Name.{Name}
 use Rattle.write_cache.specs.declared.slots.Pending.{Pending}
 use Rattle.ftl_core.specs.Describes.{PagesKept, Standing, names_pending}
 use Rattle.ftl_core.proofs.look_and_accept.Numbers.{none_pending}

@@ -8,7 +8,7 @@ use Rattle.ufs_spec.specs.Cells.{GroupPage}
 use Rattle.ufs_spec.specs.Disk as disk
 use Rattle.ufs_spec.specs.Keys.{IsKey}
 use Rattle.ufs_spec.specs.Ledger as ledger
-use Rattle.ufs_spec.specs.Ledger.{Entry, Ledger, Name, entry_of, latest_durable, latest_in}
+use Rattle.ufs_spec.specs.Ledger.{Entry, Ledger, entry_of, latest_durable, latest_in}
 use Rattle.ufs_spec.specs.Plain.{shape_of_numbers, zero_block}
 use Rattle.ufs_spec.specs.Translation as layer
 use Rattle.ufs_spec.specs.Translation.{Repairing, Translation, is_mended}
@@ -17,6 +17,7 @@ use Rattle.ufs_spec.specs.declared.configs.Numbers.{Numbers}
 use Rattle.ufs_spec.specs.declared.flash.Key.{Key}
 use Rattle.ufs_spec.specs.declared.flash.Place.{Place}
 use Rattle.ufs_spec.specs.declared.flash.Tag.{Tag}
+use Rattle.ufs_spec.specs.declared.layer.Name.{Name}
 use Rattle.ufs_spec.proofs.Lists.{grown_length}
 use Rattle.power_loss.proofs.books.PagesByName.{added_page, none_some, page_within}
 use Rattle.power_loss.specs.Book.{BaseAt, BaseNone, Book, FirstRight, HasKey, book, book_of}
@@ -27,7 +28,7 @@ use Rattle.ftl_core.specs.declared.books.Pin.{Pin}
 use Rattle.ftl_core.specs.declared.books.Step.{Step}
 use Rattle.unit_map.specs.declared.Stored.{Stored}
 use Rattle.ftl_core.specs.Core.{Core}
-use Rattle.ftl_core.specs.Describes.{AreToRepair, Describes, IsStored, Kept, LedgerKept, PinsKept}
+use Rattle.ftl_core.specs.Describes.{AreToRepair, Describes, Kept, LedgerKept, PinsKept}
 use Rattle.ftl_core.specs.Describes.{RepairKept, keys_to_repair, mending_kept, name_at, names_pending}
 use Rattle.ftl_core.specs.Moves.{next_number, repair_ordered, repair_step, stored_of}
 use Rattle.unit_map.specs.Places.{stored_in}
@@ -37,25 +38,24 @@ use Rattle.ftl_core.proofs.opened.ListParts.{drop_next}
 use Rattle.ftl_core.proofs.steps_ordered.MarksOrdered.{MayBegin, dies_on, no_reads}
 use Rattle.ftl_core.proofs.steps_ordered.NonePending.{no_names, none_kept}
 use Rattle.ftl_core.proofs.steps_ordered.QuietLayers.{IsQuiet}
+use Rattle.ftl_core.proofs.pages.StoredNames.{AreAlike, none_there, stored_there}
 
 -- Where the content stands
 
 -- it is read from where its page stands, and is there at once where none stands
-stored_standing : (l : Ledger) (s : Option Stored) (name : Option Name) → IsStored l.standing s name →
+stored_standing : (l : Ledger) (s : Option Stored) (name : Option Name) → AreAlike l.standing s name →
     option_map (λ (at : Stored). at.place) s ≡ standing_of l name
-stored_standing l None None h = refl
-stored_standing l None (Some name) h = absurd h
-stored_standing l (Some s) None h = absurd h
-stored_standing l (Some s) (Some name) h = sym h.1
+stored_standing l None name h = ap (standing_of l) (sym (none_there l.standing name h))
+stored_standing l (Some s) name h =
+    let r = stored_there l.standing s name h in sym (ap (standing_of l) r.0 ∙ r.1)
 
 none_mapped : {A B : Type 0} (f : A → B) (o : Option A) → is_none (option_map f o) ≡ is_none o
 none_mapped f None = refl
 none_mapped f (Some x) = refl
 
-none_stands : (l : Ledger) (s : Option Stored) (name : Option Name) → IsStored l.standing s name → is_none s ≡ true →
+none_stands : (l : Ledger) (s : Option Stored) (name : Option Name) → AreAlike l.standing s name → is_none s ≡ true →
     name ≡ None
-none_stands l None None h e = refl
-none_stands l None (Some name) h e = absurd h
+none_stands l None name h e = none_there l.standing name h
 none_stands l (Some s) name h e = cc
 
 -- a key of which no page stood had zeros
@@ -88,7 +88,7 @@ ledger_repaired n places pages frontier last l k none all up h = record {
   pages = none_kept l.standing (entry_of (with_repair l k)) pages (names_pending (with_repair l k)) none
       (no_names (with_repair l k) (let longer = more in omega (arith, all, longer)));
   keys = h.keys;
-  places = λ key has. subst (λ (f : Key → Option Name). IsStored l.standing (stored_in n places key) (f key))
+  places = λ key has. subst (λ (f : Key → Option Name). AreAlike l.standing (stored_in n places key) (f key))
       (sym (durable_same l k up)) (h.places key has);
 }
   where
@@ -116,7 +116,7 @@ repaired_to_repair l k ks up h = record {
 repair_kept : (n : Numbers) (l : Ledger) (k : Key) (number : ℕ) (from : Option Stored) →
     l.standing number 0 ≡ None → l.frontier ≡ l.greatest_seen + length l.groups →
     number ≡ suc (l.greatest_seen + length l.groups) →
-    IsStored l.standing from (l.first_page k) → (is_none from ≡ true → zero_block ≡ l.base k) →
+    AreAlike l.standing from (l.first_page k) → (is_none from ≡ true → zero_block ≡ l.base k) →
     RepairKept (with_repair l k) number k from (is_none from) zero_block
 repair_kept n l k number from new up is at zeros = record {
   next = omega (arith, up, is);
@@ -131,7 +131,7 @@ abbrev a_repair : ℕ → Option Place → Bool → layer.Step
 a_repair number from there = record { kind = layer.RepairStep (name_at number 0) from; there = there }
 
 step_is : (l : Ledger) (k : Key) (number other : ℕ) (from : Option Stored) → number ≡ other →
-    IsStored l.standing from (l.first_page k) →
+    AreAlike l.standing from (l.first_page k) →
     a_repair other (standing_of l (l.first_page k)) (is_none (standing_of l (l.first_page k)))
     ≡ a_repair number (option_map (λ (at : Stored). at.place) from) (is_none from)
 step_is l k number other from same at =
@@ -250,8 +250,8 @@ repair_waits c t k left h none repairing at mending q = record {
     has : HasKey (book t) k
     has = q.keys 0 k refl
 
-    stored : IsStored t.ledger.standing (stored_of c k) (t.ledger.first_page k)
-    stored = subst (IsStored t.ledger.standing (stored_of c k)) first
+    stored : AreAlike t.ledger.standing (stored_of c k) (t.ledger.first_page k)
+    stored = subst (AreAlike t.ledger.standing (stored_of c k)) first
         (h.kept.ledger_kept.places k
         (subst (λ (n : Numbers). IsKey (shape_of_numbers n) k) (sym h.kept.numbers) has))
 

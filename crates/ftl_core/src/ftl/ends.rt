@@ -7,13 +7,15 @@ ghost use Rattle.ftl_core.specs.Ends.{with_content};
 ghost use Rattle.ftl_core.specs.Gives.{Gives, GivesIf, IsBodyLooked, IsBodyOf, IsGiven, change_after, change_ended, ending, erase_ended, group_ended, is_read, names, other_for, IsGivenTo, wanted_no_more};
 ghost use Rattle.ftl_core.specs.Gives.{IsContentOf, IsContentRead, IsReadAfter, IsReadOver, step_ended};
 ghost use Rattle.ftl_core.specs.Done.{FlightEnds, IsCoreEnded, IsEnded, IsFlightAfter};
-ghost use Rattle.ftl_core.specs.Moves.{claims_for, moved_pin, erased, page_written, went_bad, pin_of, now_stored, stored_of};
+ghost use Rattle.ftl_core.specs.Moves.{moved_pin, erased, page_written, went_bad, pin_of, now_stored, stored_of};
 ghost use Rattle.write_cache.specs.Slots.{is_named};
 ghost use Rattle.ufs_spec.specs.Moves.{EndJob, Ending, IsEndingOf, MayEnd, moved, outcome_fits};
 ghost use Rattle.ufs_spec.specs.Translation.{Translation};
-ghost use Rattle.ufs_spec.specs.Disk.{Reader as WhoReads, Reading};
+ghost use Rattle.ufs_spec.specs.Disk.{Reading};
+ghost use Rattle.ufs_spec.specs.declared.layer.Reader.{Reader};
 ghost use Rattle.ufs_spec.specs.declared.flash.Place.{Place};
 ghost use Rattle.ftl_core.specs.Describes.{Describes, IsTold};
+ghost use Rattle.ftl_core.specs.Public.{AreClaimed, Claims};
 ghost use Rattle.ftl_core.specs.Stops.{StopsRight};
 ghost use Rattle.page_tag.specs.Jobs.{IsTagOf, IsTagRead};
 ghost use Rattle.ftl_core.specs.Tells.{IsReadOf};
@@ -22,10 +24,10 @@ ghost use Rattle.ftl_core.specs.declared.ftl.Ended.{Ended};
 use super::facts::bytes_are_a_block;
 use super::pin_counts::pin_moves;
 use super::{Ended, Ftl, move_live, move_page};
-use crate::books::{Looked, Mending, Pin, Step};
-use block_table::{DieRow, Flight, Reader};
+use crate::books::{Mending, Pin, Step};
+use block_table::{DieRow, Flight};
 use page_tag::one_seal;
-use ufs_spec::{Block, Key, Outcome, Page, Place, Tag};
+use ufs_spec::{Block, Key, Looked, Name, Outcome, Page, Place, Reader, Tag};
 use unit_map::Stored;
 use write_cache::Landed;
 
@@ -63,7 +65,7 @@ fn body_looked<'a>(page: &'a Page, tag: &Option<Tag>, pin: &Pin) -> Option<&'a B
     ensures { IsBodyLooked page.now pin.now.key pin.now.looked (option_copied result) }
 {
     match pin.looked {
-        Looked::Page(stored) => body_of(page, tag, pin.key, stored.number),
+        Looked::OnPage(name, _) => body_of(page, tag, pin.key, name.number),
         _ => None,
     }
 }
@@ -122,14 +124,14 @@ fn end_wants(pins: &mut [Pin], reader: u8, index: u16)
     }
 }
 
-/// What is looked at once the page of this index in the group stands there.
-fn now_stored(looked: Looked, page: u16, stored: Stored) -> Looked
-    ensures { result ≡ now_stored page stored looked }
+/// What is looked at once this page is durable.
+fn now_stored(looked: Looked, stored: Stored) -> Looked
+    ensures { result ≡ now_stored stored looked }
 {
     match looked {
-        Looked::Slot { number, index } => {
-            if number == stored.number && index == page {
-                Looked::Page(stored)
+        Looked::InSlot(name) => {
+            if name == stored.name {
+                Looked::OnPage(stored.name, stored.place)
             } else {
                 looked
             }
@@ -138,21 +140,21 @@ fn now_stored(looked: Looked, page: u16, stored: Stored) -> Looked
     }
 }
 
-/// What the pin keeps once the page of this index in the group stands there.
-fn moved_pin(pin: Pin, index: u16, stored: Stored) -> Pin
-    ensures { result ≡ moved_pin index stored pin }
+/// What the pin keeps once this page is durable.
+fn moved_pin(pin: Pin, stored: Stored) -> Pin
+    ensures { result ≡ moved_pin stored pin }
 {
     let mut moved = pin;
-    moved.looked = now_stored(pin.looked, index, stored);
+    moved.looked = now_stored(pin.looked, stored);
     moved
 }
 
 /// Who kept the slot of this page keeps its place from now on.
-fn move_pins(pins: &mut [Pin], index: u16, stored: Stored)
-    ensures { pins.new ≡ map (moved_pin index stored) pins.old }
+fn move_pins(pins: &mut [Pin], stored: Stored)
+    ensures { pins.new ≡ map (moved_pin stored) pins.old }
 {
     for pin in pins.iter_mut() {
-        *pin = moved_pin(*pin, index, stored);
+        *pin = moved_pin(*pin, stored);
     }
 }
 
@@ -194,7 +196,7 @@ fn content_of_page<'a>(step: &Option<Step>, page: &'a Page, tag: &Option<Tag>) -
                 from: Some(stored),
                 ..
             },
-        ) => body_of(page, tag, *key, stored.number),
+        ) => body_of(page, tag, *key, stored.name.number),
         Some(Step::Copy { number, key, .. }) => body_of(page, tag, *key, *number),
         _ => None,
     }
@@ -352,8 +354,9 @@ impl Ftl {
         ensures { self.new ≡ copy_durable self.old number key place (stored_of self.old key) }
     {
         if let Some(stored) = self.stored(key) {
-            if stored.number == number {
-                self.note_place(key, Stored { place, number });
+            let name = stored.name;
+            if name.number == number {
+                self.note_place(key, Stored { name, place });
             }
         }
     }
@@ -385,11 +388,11 @@ impl Ftl {
     {
         self.step = None;
         self.rise();
-        let stored = Stored {
-            place,
+        let name = Name {
             number: self.cache.frontier(),
+            index: 0,
         };
-        self.note_place(key, stored);
+        self.note_place(key, Stored { name, place });
     }
 
     /// In place of a failed mark waits one with the next number and the same fence. A failed repair or
@@ -412,12 +415,12 @@ impl Ftl {
 
     /// The page of a group is durable: its address now reads from where it is written, and so does who
     /// keeps its slot.
-    fn page_durable(&mut self, key: Key, index: u16, stored: Stored)
-        ensures { self.new ≡ pins_moved (noted self.old key stored) index stored }
+    fn page_durable(&mut self, key: Key, stored: Stored)
+        ensures { self.new ≡ pins_moved (noted self.old key stored) stored }
     {
         self.note_place(key, stored);
-        pin_moves(&mut self.live, self.pins.as_slice(), index, stored);
-        move_pins(self.pins.as_mut_slice(), index, stored);
+        pin_moves(&mut self.live, self.pins.as_slice(), stored);
+        move_pins(self.pins.as_mut_slice(), stored);
     }
 
     /// A page that left its slot is durable, if it is written.
@@ -425,11 +428,11 @@ impl Ftl {
         ensures { self.new ≡ page_landed self.old page }
     {
         if let Some(place) = page.written {
-            let stored = Stored {
-                place,
+            let name = Name {
                 number: page.number,
+                index: page.index,
             };
-            self.page_durable(page.key, page.index, stored);
+            self.page_durable(page.key, Stored { name, place });
         }
     }
 
@@ -566,16 +569,18 @@ impl Ftl {
         ensures after { IsReadOver self.old outcome.now tag_found.now reader self.new }
     {
         match reader {
-            Reader::Task { tag, index } => {
+            Reader::ForTask { tag, index } => {
                 let body = self.body_for(tag, index, outcome, tag_found).copied();
                 end_wants(self.pins.as_mut_slice(), tag, index);
                 Ended::Read { reader: tag, body }
             }
-            Reader::Step => {
+            Reader::ForStep => {
                 self.take_content(outcome, tag_found);
                 Ended::Other
             }
-            Reader::Nobody => Ended::Other,
+            // In this stage no page of a group waits for its rest.
+            Reader::ForRest { .. } => Ended::Other,
+            Reader::ForNobody => Ended::Other,
         }
     }
 
@@ -655,9 +660,9 @@ impl Ftl {
             IsEndingOf t.disk.cells (t.disk.flights die) outcome.now ending →
             (e : Ended) × (result ≡ Some e) × IsTold t.disk.cells (t.disk.flights die) ending e }
         // A read was for a reader who keeps its page and waits for it, or for nobody.
-        ensures read { (t : Translation) (who : WhoReads) (place : Place) → Describes self.old t →
+        ensures read { (t : Translation) (who : Reader) (place : Place) → Describes self.old t →
             t.disk.flights die ≡ Some (Reading who place) → IsReadOf t place who }
-        ensures same_claims { claims_for self.new ≡ claims_for self.old }
+        ensures claims { (claims : Claims) → AreClaimed self.old claims → AreClaimed self.new claims }
     {
         let row = self.row(die)?;
         self.job_ended(die, row, outcome, tag)

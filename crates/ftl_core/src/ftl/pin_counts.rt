@@ -5,8 +5,9 @@ ghost use Rattle.ftl_core.specs.PinCounts.{block_pinned, block_unpinned, is_slot
 ghost use Rattle.ftl_core.specs.PinCounts.{without_pins};
 
 use super::{is_of_reader, is_pin_of};
-use crate::books::{Looked, Pin};
+use crate::books::Pin;
 use block_table::LivePages;
+use ufs_spec::Looked;
 use unit_map::Stored;
 
 /// The block of the page that is looked at has one pin more, if a page is looked at.
@@ -14,8 +15,8 @@ pub(super) fn pin_block(live: &mut LivePages, looked: &Looked)
     ensures is { live.new ≡ block_pinned live.old looked.now }
     ensures same { without_pins live.new ≡ without_pins live.old }
 {
-    if let Looked::Page(stored) = looked {
-        live.pin(stored.place.die, stored.place.block);
+    if let Looked::OnPage(_, place) = looked {
+        live.pin(place.die, place.block);
     }
 }
 
@@ -23,8 +24,8 @@ pub(super) fn pin_block(live: &mut LivePages, looked: &Looked)
 fn unpin_block(live: &mut LivePages, looked: &Looked)
     ensures { live.new ≡ block_unpinned live.old looked.now }
 {
-    if let Looked::Page(stored) = looked {
-        live.unpin(stored.place.die, stored.place.block);
+    if let Looked::OnPage(_, place) = looked {
+        live.unpin(place.die, place.block);
     }
 }
 
@@ -66,31 +67,31 @@ pub(super) fn unpin_block_of(live: &mut LivePages, pins: &[Pin], reader: u8, ind
     }
 }
 
-/// Whether the slot of the page of this index in the group is looked at.
-fn is_slot_of(looked: &Looked, page: u16, stored: Stored) -> bool
-    ensures { result ≡ is_slot_of page stored looked.now }
+/// Whether the slot of this page is looked at.
+fn is_slot_of(looked: &Looked, stored: Stored) -> bool
+    ensures { result ≡ is_slot_of stored looked.now }
 {
     match *looked {
-        Looked::Slot { number, index } => number == stored.number && index == page,
+        Looked::InSlot(name) => name == stored.name,
         _ => false,
     }
 }
 
 /// A pin of the slot of this page is one of the block where the page stands now.
-fn pin_moves_to(live: &mut LivePages, pin: &Pin, index: u16, stored: Stored)
-    ensures { live.new ≡ pin_moves index stored live.old pin.now }
+fn pin_moves_to(live: &mut LivePages, pin: &Pin, stored: Stored)
+    ensures { live.new ≡ pin_moves stored live.old pin.now }
 {
-    if is_slot_of(&pin.looked, index, stored) {
+    if is_slot_of(&pin.looked, stored) {
         live.pin(stored.place.die, stored.place.block);
     }
 }
 
 /// The pins of the slot of this page are those of the block where the page stands now.
-pub(super) fn pin_moves(live: &mut LivePages, pins: &[Pin], index: u16, stored: Stored)
-    ensures is { live.new ≡ fold (pin_moves index stored) live.old pins.now }
+pub(super) fn pin_moves(live: &mut LivePages, pins: &[Pin], stored: Stored)
+    ensures is { live.new ≡ fold (pin_moves stored) live.old pins.now }
     ensures same { without_pins live.new ≡ without_pins live.old }
 {
     for pin in pins.iter() {
-        pin_moves_to(live, pin, index, stored);
+        pin_moves_to(live, pin, stored);
     }
 }

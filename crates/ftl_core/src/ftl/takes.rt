@@ -6,23 +6,25 @@ ghost use Rattle.ufs_spec.specs.Pages.{IsTag, greatest_number};
 ghost use Rattle.ftl_core.specs.Takes.{copy_program, core_taken, erase_of, first_owed, flight_into, group_job};
 ghost use Rattle.ftl_core.specs.Takes.{is_group_page, is_sealable, is_step_there, job_of, job_taken, lowest};
 ghost use Rattle.ftl_core.specs.Takes.{mark_program, next_place, opening_flight, owed_flight, owed_read, page_flight};
-ghost use Rattle.ftl_core.specs.Takes.{page_of_group, page_waiting, page_waits, read_of, reads_step};
+ghost use Rattle.ftl_core.specs.Takes.{page_of_group, page_waiting, page_waits, read_of};
 ghost use Rattle.ftl_core.specs.Takes.{repair_job, repair_program, writes_step};
 ghost use Rattle.ftl_core.specs.Takes.{step_job, step_read, step_waits, step_wants, waiting_flight, waiting_of};
 ghost use Rattle.ftl_core.specs.Takes.{unread_flight, waiting_page};
-ghost use Rattle.ftl_core.specs.Moves.{begins, claims_for, first_page, in_flight, is_owed_by, keeps, looks_on};
-ghost use Rattle.ftl_core.specs.Moves.{may_be_used, single_tag, started, started_with, state_of, tag_of_page};
+ghost use Rattle.ftl_core.specs.Moves.{begins, first_page, in_flight, is_owed_by, keeps, looks_on};
+ghost use Rattle.ftl_core.specs.Moves.{may_be_used, reads_for, single_tag, started, started_with, state_of, tag_of_page};
 ghost use Rattle.ufs_spec.specs.Translation.{Translation};
 ghost use Rattle.ftl_core.specs.Describes.{Describes, IsTaken, spot_at};
+ghost use Rattle.ftl_core.specs.Public.{AreClaimed, Claims};
 ghost use Rattle.ftl_core.specs.Stops.{MayGo, StopsRightGiven};
 ghost use Rattle.ufs_spec.specs.declared.flash.Job.TheVariants as job;
+ghost use Rattle.ufs_spec.specs.declared.layer.Reader.TheVariants.{ForStep};
 ghost use Rattle.block_table.specs.declared.BlockState.TheVariants as state;
 
 use super::Ftl;
-use crate::books::{Looked, Pin, Step, Waiting};
-use block_table::{BlockState, BlockTable, DieRow, Flight, OpenBlock, Reader};
+use crate::books::{Pin, Step, Waiting};
+use block_table::{BlockState, BlockTable, DieRow, Flight, OpenBlock};
 use page_tag::{UnsealedJob, mark_body};
-use ufs_spec::{Fence, GREATEST_COMMAND, GREATEST_NUMBER, Job, Key, Place, Tag};
+use ufs_spec::{Fence, GREATEST_COMMAND, GREATEST_NUMBER, Job, Key, Looked, Place, Reader, Tag};
 use write_cache::Pending;
 
 /// The position of the first reader who is owed the read of a page of this die.
@@ -37,7 +39,11 @@ fn first_owed(pins: &[Pin], blocks: &BlockTable, die: u8) -> Option<usize>
 fn is_owed(pin: &Pin, blocks: &BlockTable, die: u8) -> bool
     ensures { result ≡ is_owed_by blocks.now.rows die pin.now }
 {
-    pin.wanted && looks_on(&pin.looked, die) && !blocks.reads_for(pin.reader, pin.index)
+    let reader = Reader::ForTask {
+        tag: pin.reader,
+        index: pin.index,
+    };
+    pin.wanted && looks_on(&pin.looked, die) && !blocks.reads_for(reader)
 }
 
 /// Whether a page of the die is looked at.
@@ -45,7 +51,7 @@ fn looks_on(looked: &Looked, die: u8) -> bool
     ensures { result ≡ looks_on die looked.now }
 {
     match looked {
-        Looked::Page(stored) => stored.place.die == die,
+        Looked::OnPage(_, place) => place.die == die,
         _ => false,
     }
 }
@@ -55,9 +61,9 @@ fn read_of(pin: &Pin) -> Option<Flight>
     ensures { result ≡ read_of pin.now }
 {
     match pin.looked {
-        Looked::Page(stored) => Some(Flight::Read {
-            place: stored.place,
-            reader: Reader::Task {
+        Looked::OnPage(_, place) => Some(Flight::Read {
+            place,
+            reader: Reader::ForTask {
                 tag: pin.reader,
                 index: pin.index,
             },
@@ -279,16 +285,18 @@ impl Ftl {
 
     /// Whether some die reads for the step under way.
     fn is_step_read(&self) -> bool
-        ensures { result ≡ list_any reads_step self.now.rows }
+        ensures { result ≡ list_any (reads_for ForStep) self.now.rows }
     {
-        self.blocks.reads_step()
+        self.blocks.reads_for(Reader::ForStep)
     }
 
-    /// Whether the page is neither written nor in flight.
+    /// Whether the page is neither written nor in flight, and its content is all there.
     fn page_waits(&self, page: &Pending) -> bool
         ensures { result ≡ page_waits self.now.rows page.now }
     {
-        page.written.is_none() && !self.blocks.writes_page(page.number, page.index)
+        page.written.is_none()
+            && !self.blocks.writes_page(page.number, page.index)
+            && page.rest.is_none()
     }
 
     /// The position of the first reader who is owed the read of a page of this die.
@@ -402,8 +410,8 @@ impl Ftl {
         }
     }
 
-    /// The program of the page with this number and index, if it is pending. Only data of a unit is
-    /// programmed as a group.
+    /// The program of the page with this number and index, if it is pending and its content is all
+    /// there. Only data of a unit is programmed as a group.
     fn group_job(&self, place: Place, number: u64, index: u16) -> Option<UnsealedJob>
         ensures { result ≡ group_job self.now place number index }
     {
@@ -411,8 +419,9 @@ impl Ftl {
         if !is_group_page(page) {
             return None;
         }
+        let body = page.content()?;
         let tag = tag_of_page(page, self.cache.frontier());
-        Some(UnsealedJob::program(place, &tag, page.body.block()))
+        Some(UnsealedJob::program(place, &tag, body))
     }
 
     /// What the die is told to do.
@@ -506,7 +515,7 @@ impl Ftl {
         }
         Some(Flight::Read {
             place,
-            reader: Reader::Step,
+            reader: Reader::ForStep,
         })
     }
 
@@ -568,7 +577,7 @@ impl Ftl {
         // An erase is of a block that no pin is in, and of which each page that opens is spent.
         ensures erase { (t : Translation) (at block : ℕ) → Describes self.old t → result ≡ Some (job.Erase at block) →
             MayGo t die (spot_at at block) }
-        ensures same_claims { claims_for self.new ≡ claims_for self.old }
+        ensures claims { (claims : Claims) → AreClaimed self.old claims → AreClaimed self.new claims }
     {
         self.has_few_units();
         let row = self.row(die)?;

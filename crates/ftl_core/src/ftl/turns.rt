@@ -1,7 +1,7 @@
 //! Steps of the mending and of the collection: which one is due, and how it is ordered.
 ghost use Rattle.std.specs.Prelude.{◌≡◌, ◌<◌, ◌+◌, ◌^◌, IsTrue, Option, length, if◌then◌else◌, nat_le, is_some, slice_get, Some, None};
 ghost use Rattle.std.specs.List.{list_any};
-ghost use Rattle.ftl_core.specs.Moves.{claims_for, has_number, mark_ordered};
+ghost use Rattle.ftl_core.specs.Moves.{has_number, mark_ordered};
 ghost use Rattle.ftl_core.specs.Collects.{is_bad_with_live, victim, wants_collection};
 ghost use Rattle.ftl_core.specs.Turns.{IsBegunIf, IsCollectionTurnedIf, IsTurned, copy_ordered, is_begin_due, is_collection_due, is_plan_due, is_repair_due, is_turn_due, plan_turned, repair_turned};
 ghost use Rattle.block_table.specs.Lives.{spots_in};
@@ -10,6 +10,7 @@ ghost use Rattle.ufs_spec.specs.Moves.{TakeStep, moved};
 ghost use Rattle.ufs_spec.specs.Pages.{greatest_number};
 ghost use Rattle.ufs_spec.specs.Translation.{Translation, is_step_due};
 ghost use Rattle.ftl_core.specs.Describes.{Describes};
+ghost use Rattle.ftl_core.specs.Public.{AreClaimed, Claims};
 ghost use Rattle.ftl_core.specs.Stops.{StopsRight};
 
 use super::{Ftl, zeros};
@@ -29,7 +30,7 @@ impl Ftl {
         ensures described { (t : Translation) → Describes self.old t → Describes self.new (moved t TakeStep) }
         // Whatever a stop leaves then is right.
         ensures stop { (t : Translation) → Describes self.old t → StopsRight self.new (moved t TakeStep) }
-        ensures same_claims { claims_for self.new ≡ claims_for self.old }
+        ensures claims { (claims : Claims) → AreClaimed self.old claims → AreClaimed self.new claims }
     {
         if self.step.is_some() || self.blocks.has_stale() {
             return false;

@@ -5,9 +5,9 @@ use Rattle.std.proofs.Common.{refl, sym, ap, ◌∙◌, subst, arith}
 use Rattle.std.proofs.Math.Nat.{mul-le-mul_left}
 use Rattle.ufs_laws.proofs.walk.LayerEffects.{IsDue, order_due, turned_if}
 use Rattle.ufs_spec.proofs.Facts.{at_most, true≢false}
-use Rattle.ufs_spec.proofs.Updates.{at_die_cases, at_spot_cases}
+use Rattle.ufs_spec.proofs.Updates.{at_die_cases}
 use Rattle.ufs_spec.specs.Cells.{Cell, GroupPage, Mark, MarkPage, Nothing}
-use Rattle.ufs_spec.specs.Disk.{BlockState, Closed, Erasing, Filling, Flight, ForNobody, ForRest, ForStep, ForTask}
+use Rattle.ufs_spec.specs.Disk.{BlockState, Closed, Erasing, Filling, Flight}
 use Rattle.ufs_spec.specs.Disk.{Free, Programming, Reading, Spot, at_spot, spot_of, state_after}
 use Rattle.ufs_spec.specs.Moves.{EndJob, Ending, GiveJob, IsAllowedMove, Move, ReadRight, ReadWrong, TakeStep, WentWell}
 use Rattle.ufs_spec.specs.Moves.{WentWrong, end_flight, mark_written, moved, step_after, step_there}
@@ -18,6 +18,7 @@ use Rattle.ufs_spec.specs.Translation.{Translation, is_mended, mark_ordered, nam
 use Rattle.ufs_spec.specs.Translation.{repair_ordered, spots, taken, turned}
 use Rattle.ufs_spec.specs.declared.configs.Numbers.{Numbers}
 use Rattle.ufs_spec.specs.declared.flash.Place.{Place}
+use Rattle.ufs_spec.specs.declared.layer.Reader.TheVariants.{ForNobody, ForRest, ForStep, ForTask}
 use Rattle.power_loss.proofs.jobs.StandsSecurely.{free_is_not_filling}
 use Rattle.power_loss.proofs.jobs_owed.ProgramsAndErases.{OpensReady, program_owed}
 use Rattle.power_loss.proofs.jobs_owed.RoomLeft.{none_filled}
@@ -26,6 +27,7 @@ use Rattle.power_loss.proofs.room_to_mend.AloneKept.{program_begins}
 use Rattle.power_loss.proofs.room_to_mend.RoomInBlocks.{room_in}
 use Rattle.power_loss.specs.Invariant.{Valid}
 use Rattle.power_loss.specs.MendingRoom.{MendsAlone, fails_job, page_of_step}
+use Rattle.power_loss.proofs.jobs.JobsBegin.{same_blocks}
 use Rattle.many_stops.proofs.CountedBlocks.{none_fewer, one_fewer}
 use Rattle.many_stops.proofs.finding_room.RoomForAMending.{free_room_alone, opened_room, program_fills}
 use Rattle.many_stops.specs.RoomOfGroups.{free_count}
@@ -81,13 +83,6 @@ program_filled n blocks s page step next l is inside f =
 
 -- A program that begins
 
--- a state that is there already changes nothing
-same_state : (blocks : Spot → BlockState) (s : Spot) (x : BlockState) → blocks s ≡ x → at_spot blocks s x ≡ blocks
-same_state blocks s x is = λ i a. by a i
-  where
-    by : (a : Spot) → at_spot blocks s x a ≡ blocks a
-    by a = ⊎_elim (λ k. k.1 ∙ sym is ∙ ap blocks (sym k.0)) (λ k. k.1) (at_spot_cases blocks s x a)
-
 enough_left : (own free after : ℕ) → own ≤ free → free ≤ 1 + after → own ≤ after + 1
 enough_left own free after h l = omega (arith, h, l)
 
@@ -128,7 +123,7 @@ module _ {t : Translation} (v : Valid t) (un : is_mended t.work.mending ≡ fals
       FilledIn t.numbers (at_spot t.disk.blocks (spot_of p) (Filling p.page)) t.work.step
   program_taken die p cell may = ⊎_elim
       (λ filled. subst (λ blocks. FilledIn t.numbers blocks t.work.step)
-      (sym (same_state t.disk.blocks (spot_of p) (Filling p.page) filled)) f)
+      (sym (same_blocks t.disk.blocks (spot_of p) (Filling p.page) filled)) f)
       (λ (o : OpensReady t p).
       subst (λ page. FilledIn t.numbers (at_spot t.disk.blocks (spot_of p) (Filling page)) t.work.step) (sym o.first)
       (opens die p cell may o)) (program_owed t die p cell may).place.next

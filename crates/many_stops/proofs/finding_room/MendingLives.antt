@@ -1,7 +1,7 @@
 -- What holds of a life from its opening on, if that found room, and in which no program and no erase fails: until the
 -- device is mended the mending has room, and fills one block after another.
 use Rattle.std.proofs.Common.{◌≡◌, ◌≢◌, ℕ, ◌+◌, ◌-◌, ◌*◌, ◌≤◌, Bool, true, false, length, Option, Some, None}
-use Rattle.std.proofs.Common.{if◌then◌else◌, inl, inr, ⊎_elim, refl, sym, ap, ◌∙◌, subst, arith}
+use Rattle.std.proofs.Common.{inl, inr, ⊎_elim, refl, sym, ap, ◌∙◌, subst, arith}
 use Rattle.ufs_spec.proofs.Facts.{cases_Bool, true≢false}
 use Rattle.ufs_spec.proofs.Updates.{at_die_cases, at_place_cases}
 use Rattle.ufs_spec.specs.Cells.{Cell, Cells, Mark, MarkPage}
@@ -27,6 +27,7 @@ use Rattle.power_loss.proofs.stops.LeftCells.{mark_from}
 use Rattle.power_loss.specs.FewRepairs.{HasFewLost, HasFewRepairs, still_lost}
 use Rattle.power_loss.specs.Invariant.{Valid}
 use Rattle.power_loss.specs.MendingRoom.{HasRoom, fails_job}
+use Rattle.power_loss.proofs.room_to_mend.DevicesWithRoom.{no_failure}
 use Rattle.many_stops.proofs.finding_room.BlocksOneByOne.{Filled, move_fills, opening_filled}
 use Rattle.many_stops.proofs.finding_room.RoomForAMending.{blocks_hold, own_room_twice}
 use Rattle.many_stops.proofs.finding_room.SinceTheOpening.{SinceOpening, WereGood, move_since}
@@ -60,10 +61,6 @@ pub record LivesFrom (o t : Translation) : Type 0 where
   pub mends : is_mended t.work.mending ≡ false → MendsFrom o t
 
 -- Moves
-
-no_failure : (b : Bool) (k : ℕ) → b ≡ false → k ≡ k + (if b then 1 else 0)
-no_failure true k h = absurd (true≢false h)
-no_failure false k h = omega arith
 
 pub lives_on : (o : Translation) → WereGood o → IsKeptByMoves (LivesFrom o)
 lives_on o good t move v may well l = record {

@@ -8,9 +8,8 @@ use Rattle.ufs_spec.proofs.Equalities.{name_told, spot_cases}
 use Rattle.ufs_spec.proofs.Facts.{false≢true, none-some, same_Some, true≢false}
 use Rattle.ufs_spec.proofs.Updates.{at_place_cases, at_place_is, at_spot_cases}
 use Rattle.ufs_spec.specs.Cells.{Cell, Cells, GroupPage, Mark, MarkPage, Nothing}
-use Rattle.ufs_spec.specs.Disk.{BlockState, Closed, Erasing, Filling, Flight, ForNobody, ForRest, ForStep, ForTask}
+use Rattle.ufs_spec.specs.Disk.{BlockState, Closed, Erasing, Filling, Flight}
 use Rattle.ufs_spec.specs.Disk.{Free, Programming, Reading, Spot, at_place, at_spot, spot_of, state_after}
-use Rattle.ufs_spec.specs.Ledger.{Name}
 use Rattle.ufs_spec.specs.Moves.{EndJob, Ending, GiveJob, IsAllowedMove, Move, ReadRight, ReadWrong, TakeStep, WentWell}
 use Rattle.ufs_spec.specs.Moves.{WentWrong, end_flight, mark_written, mending_after, moved, page_written, step_after}
 use Rattle.ufs_spec.specs.Moves.{is_kind_of, step_there}
@@ -24,6 +23,8 @@ use Rattle.ufs_spec.specs.declared.flash.Fence.{Fence}
 use Rattle.ufs_spec.specs.declared.flash.Key.{Key}
 use Rattle.ufs_spec.specs.declared.flash.Place.{Place}
 use Rattle.ufs_spec.specs.declared.flash.Tag.{Tag}
+use Rattle.ufs_spec.specs.declared.layer.Name.{Name}
+use Rattle.ufs_spec.specs.declared.layer.Reader.TheVariants.{ForNobody, ForRest, ForStep, ForTask}
 use Rattle.power_loss.proofs.books.LayerParts.{MendingOf}
 use Rattle.power_loss.proofs.jobs.StandsSecurely.{closed_is_not_free, ready_is_not_stale}
 use Rattle.power_loss.proofs.jobs_owed.ProgramsAndErases.{OpensReady, program_owed}

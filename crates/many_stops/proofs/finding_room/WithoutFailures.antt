@@ -4,19 +4,17 @@ use Rattle.std.proofs.Common.{if◌then◌else◌, refl, sym, ap, ◌∙◌, sub
 use Rattle.std.proofs.lemmas.List.Folds.{list_any-append}
 use Rattle.std.specs.List.{count_by, list_any}
 use Rattle.std.proofs.lemmas.List.Sums.{sum_by-cons}
-use Rattle.ufs_laws.proofs.walk.SmallChanges.{Accepts, Change, IsSmallMove, Moves, changed, first, job_over, kept}
+use Rattle.ufs_laws.proofs.walk.SmallChanges.{Accepts, Change, Moves, changed, first, job_over, kept}
 use Rattle.ufs_spec.proofs.Facts.{or_parts, true≢false}
 use Rattle.ufs_spec.specs.Cells.{Array}
-use Rattle.ufs_spec.specs.Disk.{Erasing, Flight, Programming, Reading}
-use Rattle.ufs_spec.specs.Lives.{IsCall, IsFailure, IsFinish, Leads, Life}
+use Rattle.ufs_spec.specs.Disk.{Flight}
+use Rattle.ufs_spec.specs.Lives.{Leads, Life}
 use Rattle.ufs_spec.specs.Machine.{Allowed, Answer, Call, Done, OfDone, OfTake, OfTurn, Take, Turn}
 use Rattle.ufs_spec.specs.Moves.{Accept, EndJob, Ending, GiveJob, IsAllowedMove, Move, ReadRight, ReadWrong, TakeStep}
 use Rattle.ufs_spec.specs.Moves.{WentWell, WentWrong, ending_fits, moved}
 use Rattle.ufs_spec.specs.Refusals.{State}
 use Rattle.ufs_spec.specs.Translation.{Translation}
 use Rattle.ufs_spec.specs.declared.events.Event.{Event}
-use Rattle.ufs_spec.specs.declared.events.Event.TheVariants as event
-use Rattle.ufs_spec.specs.declared.events.Leftover.{Leftover}
 use Rattle.ufs_spec.specs.declared.events.Output.{Output}
 use Rattle.power_loss.proofs.calls.CallsKeepTied.{call_right}
 use Rattle.power_loss.proofs.calls.RightChanges.{IsRight, Right}
@@ -26,6 +24,7 @@ use Rattle.power_loss.specs.Exchange.{ValidState}
 use Rattle.power_loss.specs.Invariant.{Valid}
 use Rattle.power_loss.specs.Mending.{AreAllowedMoves, moved_by}
 use Rattle.power_loss.specs.MendingRoom.{fails_job, makes_bad}
+use Rattle.power_loss.proofs.room_to_mend.DevicesWithRoom.{ends_badly, event_badly, small_fails}
 use Rattle.many_stops.specs.RoomOverStops.{NoneFails}
 
 -- What each move keeps by which nothing fails
@@ -33,43 +32,6 @@ use Rattle.many_stops.specs.RoomOverStops.{NoneFails}
 abbrev pub IsKeptByMoves : (Translation → Type 0) → Type 0
 IsKeptByMoves P = (t : Translation) (move : Move) → Valid t → IsAllowedMove t move → fails_job move ≡ false → P t →
     P (moved t move)
-
--- a program or an erase failed, as the call says
-abbrev ends_badly : Call → Bool
-ends_badly (Done die (WentWrong cells) left) = true
-ends_badly call = false
-
-small_fails : (move : Move) → IsSmallMove move → fails_job move ≡ false
-small_fails (EndJob die ending) small = absurd small
-small_fails move small = refl
-
-finish_well : (s : State) (die : ℕ) (flight : Option Flight) (call : Call) → IsFinish s die flight call →
-    ends_badly call ≡ false
-finish_well s die None call h = absurd h
-finish_well s die (Some (Reading reader place)) call h = ap ends_badly h
-finish_well s die (Some (Programming place cell)) call h = ap ends_badly h
-finish_well s die (Some (Erasing spot)) call h = ap ends_badly h
-
-failure_badly : (s : State) (die : ℕ) (flight : Option Flight) (l : Option Leftover) (ending : Ending) (left : Array)
-    (by : _) → IsFailure s die flight l ending left →
-    ends_badly (Done die ending left) ≡ makes_bad (event.Fail by l)
-failure_badly s die flight (Some l) (WentWrong cells) left by h = refl
-failure_badly s die (Some (Reading reader place)) None ReadWrong left by h = refl
-failure_badly s die None l ending left by h = absurd h
-failure_badly s die (Some (Reading reader place)) l ending left by h = absurd h
-failure_badly s die (Some (Programming place cell)) l ending left by h = absurd h
-failure_badly s die (Some (Erasing spot)) l ending left by h = absurd h
-
--- a call fails a program or an erase where its event does
-event_badly : (s : State) (e : Event) (call : Call) → IsCall s e call → ends_badly call ≡ makes_bad e
-event_badly s (event.Host bytes) call h = ap ends_badly h.2
-event_badly s event.Reply call h = ap ends_badly h
-event_badly s (event.Take die) call h = ap ends_badly h
-event_badly s (event.Finish die) call h = finish_well s die (s.translation.disk.flights die) call h
-event_badly s (event.Fail die l) call h =
-    ap ends_badly h.3 ∙ failure_badly s die (s.translation.disk.flights die) l h.0 h.1 die h.2
-event_badly s event.Turn call h = ap ends_badly h
-event_badly s (event.Stop lefts) call h = absurd h
 
 module _ (P : Translation → Type 0) (keeps : IsKeptByMoves P) where
   abbrev Holds : Translation → Type 0

@@ -20,6 +20,7 @@ use Rattle.power_loss.proofs.openings.OpenedPages.{free_or_not}
 use Rattle.power_loss.proofs.stops.LeftCells.{within}
 use Rattle.power_loss.proofs.stops.LeftIsSound.{sound}
 use Rattle.power_loss.specs.Invariant.{Valid}
+use Rattle.power_loss.proofs.stops.LeftUnmarked.{newest_one}
 use Rattle.many_stops.proofs.free_at_stops.FreeAtStops.{NextOpens, left_at, spare_still}
 use Rattle.many_stops.specs.FreeOverStops.{IsAsOpened, IsNewPage, IsThinned}
 
@@ -59,17 +60,6 @@ no_turn (inl a) (inl b) e f = omega (arith, a, b, e, f)
 no_turn (inl a) (inr b) e f = let k = b.0 in omega (arith, a, k, e, f)
 no_turn (inr a) (inl b) e f = let k = a.0 in omega (arith, k, b, e, f)
 no_turn (inr a) (inr b) e f = not_lower a.1 b.1
-
--- two marks that are the newest are the same
-newest_one : {c : Cells} (a b : Option Mark) → ((p q : Place) (m other : Mark) → c p ≡ MarkPage m →
-    c q ≡ MarkPage other → m.number ≡ other.number → m ≡ other) → IsNewestMark c a → IsNewestMark c b → a ≡ b
-newest_one None None same h k = refl
-newest_one None (Some n) same h k = absurd (h k.0.0 n k.0.1)
-newest_one (Some m) None same h k = absurd (k h.0.0 m h.0.1)
-newest_one (Some m) (Some n) same h k =
-    let x = h.1 k.0.0 n k.0.1 in
-    let y = k.1 h.0.0 m h.0.1 in
-    ap Some (same h.0.0 k.0.0 m n h.0.1 k.0.1 (omega (arith, x, y)))
 
 module _ (t : Translation) (a : AsOpened t) where
   -- a block that is free, or is being filled, was free

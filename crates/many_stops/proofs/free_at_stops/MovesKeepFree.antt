@@ -7,11 +7,11 @@ use Rattle.ufs_spec.proofs.Equalities.{spot_cases}
 use Rattle.ufs_spec.proofs.Facts.{none-some, true≢false, false≢true}
 use Rattle.ufs_spec.proofs.Updates.{at_die_is, at_place_cases, at_spot_is}
 use Rattle.ufs_spec.specs.Cells.{Cell, Cells, GroupPage, Mark, MarkPage, Nothing, AreWithin}
-use Rattle.ufs_spec.specs.Disk.{Bad, BlockState, CellCrash, Erasing, Filling, Flight, ForNobody, ForRest}
-use Rattle.ufs_spec.specs.Disk.{ForStep, ForTask, Free, Programming, Reader, Reading, Ready, Spot, Stale, Vacancy}
+use Rattle.ufs_spec.specs.Disk.{Bad, BlockState, CellCrash, Erasing, Filling, Flight}
+use Rattle.ufs_spec.specs.Disk.{Free, Programming, Reading, Ready, Spot, Stale, Vacancy}
 use Rattle.ufs_spec.specs.Disk.{at_die, at_spot, spot_of, flight_alone, erased, programmed, state_after}
 use Rattle.ufs_spec.specs.Disk.{program_failed, erase_failed}
-use Rattle.ufs_spec.specs.Ledger.{Entry, Name, accepted_groups, before_accepted, entry_of}
+use Rattle.ufs_spec.specs.Ledger.{Entry, accepted_groups, before_accepted, entry_of}
 use Rattle.ufs_spec.specs.Moves.{EndJob, Ending, GiveJob, IsAllowedMove, LetGo}
 use Rattle.ufs_spec.specs.Moves.{LetGoAll, MayEnd, Move, ReadRight, ReadWrong, TakeStep, WentWell}
 use Rattle.ufs_spec.specs.Moves.{WentWrong, die_idle, end_flight, freed, is_for, is_for_task, is_pin_of, mark_again}
@@ -26,6 +26,9 @@ use Rattle.ufs_spec.specs.declared.configs.Numbers.{Numbers}
 use Rattle.ufs_spec.specs.declared.flash.Place.{Place}
 use Rattle.ufs_spec.specs.declared.flash.Tag.{Tag}
 use Rattle.ufs_spec.specs.Moves.{freed_state}
+use Rattle.ufs_spec.specs.declared.layer.Name.{Name}
+use Rattle.ufs_spec.specs.declared.layer.Reader.{Reader}
+use Rattle.ufs_spec.specs.declared.layer.Reader.TheVariants.{ForNobody, ForRest, ForStep, ForTask}
 use Rattle.ufs_laws.proofs.walk.LayerEffects.{turn_only}
 use Rattle.power_loss.proofs.books.LayerParts.{StopLeaves}
 use Rattle.power_loss.proofs.jobs.NoneStale.{WereStale, none_at_order}

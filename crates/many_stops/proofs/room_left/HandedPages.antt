@@ -9,9 +9,10 @@ use Rattle.ufs_spec.proofs.Facts.{false≢true, none-some, or_cases, or_left, or
 use Rattle.ufs_spec.specs.Cells.{GroupPage}
 use Rattle.ufs_spec.specs.Disk.{Flight, Programming}
 use Rattle.ufs_spec.specs.Keys.{Group, below}
-use Rattle.ufs_spec.specs.Ledger.{Entry, Name, accepted_groups, before_accepted, is_standing}
+use Rattle.ufs_spec.specs.Ledger.{Entry, accepted_groups, before_accepted, is_standing}
 use Rattle.ufs_spec.specs.Translation.{Translation, flies_name, name_of, names_after, names_of, some_flight}
 use Rattle.ufs_spec.specs.declared.flash.Place.{Place}
+use Rattle.ufs_spec.specs.declared.layer.Name.{Name}
 use Rattle.power_loss.specs.Book.{IsPageAt, book}
 use Rattle.power_loss.specs.Invariant.{Flights, Standing, Valid}
 use Rattle.power_loss.proofs.books.FrontierClimbs.{get_drop}

@@ -3,15 +3,17 @@ use Rattle.std.proofs.Common.{◌≡◌, ℕ, Bool, false, Option, Some, None, r
 use Rattle.std.proofs.Common.{arith}
 use Rattle.ufs_spec.proofs.Facts.{none-some, true≢false}
 use Rattle.ufs_spec.specs.Cells.{Cells, GroupPage, MarkPage, Nothing}
-use Rattle.ufs_spec.specs.Disk.{Bad, Closed, Erasing, Flight, ForNobody, ForRest, ForStep, ForTask, Free, Programming}
-use Rattle.ufs_spec.specs.Disk.{Reader, Reading, Spot, at_die}
-use Rattle.ufs_spec.specs.Ledger.{Name}
+use Rattle.ufs_spec.specs.Disk.{Bad, Closed, Erasing, Flight, Free, Programming}
+use Rattle.ufs_spec.specs.Disk.{Reading, Spot, at_die}
 use Rattle.ufs_spec.specs.Moves.{Accept, Acknowledge, Claim, EndJob, Ending, GiveJob, IsAllowedMove, Keep, LetGo}
 use Rattle.ufs_spec.specs.Moves.{LetGoAll, Move, ReadRight, ReadWrong, Release, TakeStep, WantPage, WentWell, WentWrong}
 use Rattle.ufs_spec.specs.Moves.{die_idle, end_flight, is_for, is_for_task, moved, read_right, read_wrong}
 use Rattle.ufs_spec.specs.Openings.{IsOpenedTranslation, StandsAt}
 use Rattle.ufs_spec.specs.Translation.{MayTake, Translation, taken}
 use Rattle.ufs_spec.specs.declared.configs.Numbers.{Numbers}
+use Rattle.ufs_spec.specs.declared.layer.Name.{Name}
+use Rattle.ufs_spec.specs.declared.layer.Reader.{Reader}
+use Rattle.ufs_spec.specs.declared.layer.Reader.TheVariants.{ForNobody, ForRest, ForStep, ForTask}
 use Rattle.power_loss.specs.Invariant.{Valid}
 use Rattle.power_loss.specs.MendingRoom.{fails_job}
 use Rattle.power_loss.proofs.jobs.JobsBegin.{erase_is_no_program}

@@ -7,12 +7,13 @@ use Rattle.ufs_spec.proofs.Updates.{at_die_cases, at_name_cases, at_spot_is}
 use Rattle.ufs_spec.specs.Cells.{GroupPage}
 use Rattle.ufs_spec.specs.Disk.{BlockState, Bad, Closed, Filling, Flight, Programming, Spot, at_die, at_spot, spot_of}
 use Rattle.ufs_spec.specs.Disk.{state_after}
-use Rattle.ufs_spec.specs.Ledger.{Name, at_name, before_accepted}
+use Rattle.ufs_spec.specs.Ledger.{at_name, before_accepted}
 use Rattle.ufs_spec.specs.Moves.{is_kind_of, page_written, step_after}
 use Rattle.ufs_spec.specs.Translation.{count_blocks, CopyStep, MarkStep, Plan, RepairStep, Step, StepKind, Translation}
 use Rattle.ufs_spec.specs.Translation.{is_free, is_mended, name_of}
 use Rattle.ufs_spec.specs.declared.flash.Place.{Place}
 use Rattle.ufs_spec.specs.declared.flash.Tag.{Tag}
+use Rattle.ufs_spec.specs.declared.layer.Name.{Name}
 use Rattle.power_loss.specs.Book.{book}
 use Rattle.power_loss.specs.Invariant.{Flights, Standing, StepKindRight, Valid}
 use Rattle.power_loss.proofs.jobs.StandsSecurely.{free_is_not_filling}

@@ -4,16 +4,17 @@ use Rattle.std.proofs.Common.{◌≡◌, ◌⊎◌, ℕ, ◌+◌, ◌-◌, ◌<�
 use Rattle.std.proofs.Common.{ap, ◌∙◌, subst, inl, inr, ⊎_elim, arith}
 use Rattle.ufs_spec.proofs.Equalities.{name_self}
 use Rattle.ufs_spec.proofs.Facts.{at_most, none-some}
-use Rattle.ufs_spec.proofs.Updates.{at_die_cases, at_die_is, at_spot_is}
+use Rattle.ufs_spec.proofs.Updates.{at_die_cases, at_spot_is}
 use Rattle.ufs_spec.specs.Cells.{Cell, GroupPage, Mark, MarkPage, Nothing}
 use Rattle.ufs_spec.specs.Disk.{BlockState, Bad, Filling, Programming, Spot, at_die, at_spot, spot_of}
-use Rattle.ufs_spec.specs.Ledger.{Entry, Name, before_accepted, entry_of}
+use Rattle.ufs_spec.specs.Ledger.{Entry, before_accepted, entry_of}
 use Rattle.ufs_spec.specs.Moves.{is_kind_of}
 use Rattle.ufs_spec.specs.Translation.{count_blocks, CopyStep, MarkStep, MayTake, RepairStep, Step, StepKind}
 use Rattle.ufs_spec.specs.Translation.{Translation, cell_of_entry, is_free, is_mended, name_of, own_room, step_cell}
 use Rattle.ufs_spec.specs.Translation.{tag_of, taken, waiting_name, waiting_step}
 use Rattle.ufs_spec.specs.declared.flash.Place.{Place}
 use Rattle.ufs_spec.specs.declared.flash.Tag.{Tag}
+use Rattle.ufs_spec.specs.declared.layer.Name.{Name}
 use Rattle.power_loss.specs.Book.{book}
 use Rattle.power_loss.specs.Invariant.{Flights, StepKindRight, Valid}
 use Rattle.power_loss.proofs.books.PagesByName.{page_within}
@@ -22,6 +23,7 @@ use Rattle.power_loss.proofs.jobs_owed.OneDieForEachJob.{one_page}
 use Rattle.power_loss.proofs.jobs_owed.ProgramsAndErases.{OpensReady, ProgramOwed, StepOwed, idle_below, program_owed}
 use Rattle.power_loss.proofs.jobs_owed.ProgramsAndErases.{step_owed}
 use Rattle.power_loss.proofs.jobs_owed.RoomLeft.{block_room, none_filled, page_room}
+use Rattle.power_loss.proofs.jobs_owed.BegunPrograms.{is_this}
 use Rattle.many_stops.specs.RoomOfGroups.{HasHandedOut, IsHandedOut, IsOneShort, LeavesOwnRoom, filling_room}
 use Rattle.many_stops.specs.RoomOfGroups.{free_count, open_room, page_of_group, pages_of_plan, room_on_dies}
 use Rattle.many_stops.proofs.CountedBlocks.{none_fewer, one_fewer}
@@ -60,25 +62,6 @@ steps_page t step (CopyStep name from) p e = entry_is_no_groups step name p (ent
     (ap (is_kind_of name) e ∙ name_self name)
 steps_page t step (RepairStep name from) p e = entry_is_no_groups step name p (entry_of t.ledger name) t.ledger.frontier
     (ap (is_kind_of name) e ∙ name_self name)
-
--- a job is the one that began, or was there before
-same_program : {p q : Place} {cell other : Cell} → Some (Programming p cell) ≡ Some (Programming q other) →
-    (p ≡ q) × (cell ≡ other)
-same_program {p} {q} {cell} {other} e = (place e, this e)
-  where
-    place : Some (Programming p cell) ≡ Some (Programming q other) → p ≡ q
-    place e = cc
-
-    this : Some (Programming p cell) ≡ Some (Programming q other) → cell ≡ other
-    this e = cc
-
-is_this : (t : Translation) {die : ℕ} {p : Place} {cell : Cell} {d : ℕ} {q : Place} {other : Cell} →
-    at_die t.disk.flights die (Some (Programming p cell)) d ≡ Some (Programming q other) →
-    ((d ≡ die) × (p ≡ q) × (cell ≡ other)) ⊎ (t.disk.flights d ≡ Some (Programming q other))
-is_this t {die} {p} {cell} {d} {q} {other} h = ⊎_elim
-    (λ (k : (d ≡ die) × (Some (Programming p cell) ≡ Some (Programming q other))). let r = same_program
-    k.1 in inl (k.0, r.0, r.1)) (λ k. inr k.1)
-    (at_die_is t.disk.flights die (Some (Programming p cell)) d (Some (Programming q other)) h)
 
 module _ {t : Translation} (v : Valid t) (r : LeavesOwnRoom t) where
   -- A program begins

@@ -5,13 +5,14 @@ use Rattle.ufs_spec.proofs.Equalities.{name_told}
 use Rattle.ufs_spec.proofs.Facts.{false≢true, same_Some}
 use Rattle.ufs_spec.specs.Cells.{Cell, GroupPage}
 use Rattle.ufs_spec.specs.Disk.{BlockState, Flight, Programming, Spot}
-use Rattle.ufs_spec.specs.Ledger.{Entry, Name, before_accepted}
+use Rattle.ufs_spec.specs.Ledger.{Entry, before_accepted}
 use Rattle.ufs_spec.specs.Moves.{is_kind_of, step_there}
 use Rattle.ufs_spec.specs.Translation.{CopyStep, MarkStep, Plan, RepairStep, Step, StepKind, Translation, is_mended}
 use Rattle.ufs_spec.specs.Translation.{own_room}
 use Rattle.ufs_spec.specs.declared.configs.Numbers.{Numbers}
 use Rattle.ufs_spec.specs.declared.flash.Fence.{Fence}
 use Rattle.ufs_spec.specs.declared.flash.Place.{Place}
+use Rattle.ufs_spec.specs.declared.layer.Name.{Name}
 use Rattle.power_loss.specs.Book.{IsPageAt, book}
 use Rattle.power_loss.specs.Invariant.{Flights, Standing, Valid}
 use Rattle.power_loss.proofs.books.PagesByName.{page_within}

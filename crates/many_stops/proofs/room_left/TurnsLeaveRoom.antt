@@ -4,7 +4,7 @@ use Rattle.std.proofs.Common.{Option, Some, None, refl, sym, ap, ◌∙◌, subs
 use Rattle.ufs_spec.proofs.Facts.{false≢true, none-some, same_Some, true≢false}
 use Rattle.ufs_spec.specs.Cells.{GroupPage}
 use Rattle.ufs_spec.specs.Disk.{Flight, Programming, Spot}
-use Rattle.ufs_spec.specs.Ledger.{Name, before_accepted}
+use Rattle.ufs_spec.specs.Ledger.{before_accepted}
 use Rattle.ufs_spec.specs.Moves.{is_kind_of}
 use Rattle.ufs_spec.specs.Translation.{CopyStep, MarkStep, Mended, Mending, Order, OrderCopy, OrderMark, OrderPlanMark}
 use Rattle.ufs_spec.specs.Translation.{OrderRepair, Plan, RepairStep, Repairing, Step, Translation, Unmarked}
@@ -13,6 +13,7 @@ use Rattle.ufs_spec.specs.Translation.{with_plan}
 use Rattle.ufs_spec.specs.declared.flash.Fence.{Fence}
 use Rattle.ufs_spec.specs.declared.flash.Key.{Key}
 use Rattle.ufs_spec.specs.declared.flash.Place.{Place}
+use Rattle.ufs_spec.specs.declared.layer.Name.{Name}
 use Rattle.ufs_laws.proofs.walk.LayerEffects.{IsDue, IsMarkDue, IsPlanned, order_due, turned_if}
 use Rattle.power_loss.specs.Invariant.{Valid}
 use Rattle.power_loss.proofs.books.LayerParts.{NeededOf}

@@ -23,7 +23,7 @@ use Rattle.power_loss.proofs.books.LayerParts.{LookedOf, SourceOf}
 abbrev with_group : Ledger → Group → Ledger
 with_group l g = record l { groups = l.groups ++ g ∷ [] }
 
-group_may : {t : Translation} {g : Group} → IsGroup t g → MayAdd (book t) g
+pub group_may : {t : Translation} {g : Group} → IsGroup t g → MayAdd (book t) g
 group_may {t} {g} is = record {
   some = let l = is.some in omega arith;
   differ = is.differ;

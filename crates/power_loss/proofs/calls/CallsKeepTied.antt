@@ -6,9 +6,9 @@ use Rattle.power_loss.proofs.Common.{Flight, Programming, Reading}
 use Rattle.power_loss.proofs.MachineWords.{operation_of, Allowed, Answer, Reply, Call, Faulty, Done, OfDone, Take}
 use Rattle.power_loss.proofs.MachineWords.{OfTake, Heard, OfHost, Host, IsCdbIn, IsHeard, MayLeave, OfReply, Spelled}
 use Rattle.power_loss.proofs.MachineWords.{Turn, OfTurn, behind, heard, message_fault, observe, opens_short}
-use Rattle.power_loss.proofs.MachineWords.{query_unanswered, service, State, Message, Cdb, IsTied, MayCome}
+use Rattle.power_loss.proofs.MachineWords.{service, State, Message, Cdb, IsTied, MayCome}
 use Rattle.std.specs.Prelude.{Err, Result, slice_index}
-use Rattle.ufs_spec.specs.Cdbs.{SpellsCdb}
+use Rattle.ufs_spec.specs.Cdbs.{IsCdb, SpellsCdb}
 use Rattle.ufs_spec.specs.Machine.{MayHear}
 use Rattle.ufs_spec.specs.Machine.{cdb_of}
 use Rattle.ufs_spec.specs.Machine.{result_of}
@@ -19,7 +19,8 @@ use Rattle.power_loss.proofs.jobs.EndsOfJobs.{ends_right, erased_shown, failed_k
 use Rattle.power_loss.proofs.jobs.EndsOfJobs.{right_shown, written_shown, wrong_shown}
 use Rattle.power_loss.proofs.calls.TiesToDies.{one_move, step_keeps}
 use Rattle.power_loss.proofs.host_commands.OpenedByCommands.{command_right, is_free, reply_right}
-use Rattle.power_loss.proofs.host_commands.WriteData.{data_right}
+use Rattle.power_loss.proofs.host_commands.GatheredData.{data_right}
+use Rattle.power_loss.proofs.host_commands.QueriesHeard.{query_right}
 use Rattle.power_loss.proofs.host_commands.HandedOutReplies.{replies_right}
 use Rattle.power_loss.proofs.calls.RightChanges.{Right, right_keeps, settled_right}
 use Rattle.ufs_laws.proofs.walk.SmallChanges.{Both, Still, first, job_over}
@@ -62,6 +63,11 @@ first_keeps call answer v may right = v
 
 -- Messages
 
+-- the numbers of a command fit their fields
+pub fields_fit : (c : Option Cdb) (command : Cdb) (taken : List ℕ) → IsCdbIn (Some taken) c → c ≡ Some command →
+    IsCdb command
+fields_fit c command taken h e = let spells : SpellsCdb command taken = subst (IsCdbIn (Some taken)) e h in spells.0
+
 pub operation_is : (c : Option Cdb) (command : Cdb) (taken : List ℕ) → IsCdbIn (Some taken) c → c ≡ Some command →
     slice_index taken 0 ≡ operation_of command
 operation_is c command taken h e =
@@ -75,7 +81,7 @@ heard_right {s} (message.NopOut tag) c bytes v spells spelled h =
 heard_right {s} (message.Command flags lun tag expected taken) c bytes v spells spelled h =
     command_right (record { flags = flags; lun = lun; tag = tag; expected = expected; bytes = taken; cdb = c }) v
     (is_free s tag (opens_short s (message.Command flags lun tag expected taken)) h)
-    (λ command e. operation_is c command taken spelled e)
+    (λ command e. (operation_is c command taken spelled e, fields_fit c command taken spelled e))
 heard_right {s} (message.DataOut lun tag offset «data») c bytes v spells spelled h =
     data_right lun tag offset «data».items v h spells.0.3.2
 heard_right {s} (message.TaskRequest lun tag function meant) c bytes v spells spelled h =
@@ -84,7 +90,8 @@ heard_right {s} (message.TaskRequest lun tag function meant) c bytes v spells sp
     (reply_right (message.TaskResponse lun tag (service s lun function meant))
     (right_keeps m v) (managed_free s lun function meant tag (is_free s tag true h)) refl)
 heard_right {s} (message.QueryRequest tag function asked size value «data») c bytes v spells spelled h =
-    reply_right (query_unanswered tag function asked) v (is_free s tag true h) refl
+    query_right tag (record { function = function; asked = asked; length = size; value = value }) v
+    (is_free s tag true h)
 heard_right m c bytes v spells spelled h = Still
 
 pub no_fault : (x : Option HostFault) {done : Unit {0}} → Ok done ≡ result_of x → x ≡ None
@@ -113,6 +120,12 @@ behind_right {s} (Done die ending left) (OfDone true) v may right =
 behind_right Turn (OfTurn due) v may right = Still
 behind_right {s} Reply (OfReply (Some m)) v may right = replies_right m v right
 behind_right call answer v may right = Still
+
+-- also before registers and lock
+pub behind_keeps : {s : State} (call : Call) (answer : Answer) → IsTied s → MayCome s call → Allowed s call answer →
+    IsTied (behind s call answer)
+behind_keeps call answer v may right =
+    right_keeps (behind_right call answer v may right) (first_keeps call answer v may right)
 
 -- behind what it does first, each call makes changes that may come
 pub call_right : {s : State} (call : Call) (answer : Answer) → IsTied s → MayCome s call → Allowed s call answer →

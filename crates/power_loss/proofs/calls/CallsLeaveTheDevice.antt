@@ -5,10 +5,11 @@ use Rattle.power_loss.proofs.Common.{inr, ⊎_elim, Array, Erasing, Flight, Spot
 use Rattle.power_loss.proofs.Common.{TakeStep, is_for, is_for_task, LetGo, LetGoAll, moved, MayTake, Translation}
 use Rattle.power_loss.proofs.Common.{Numbers, erase_unread as unread_erases}
 use Rattle.power_loss.proofs.MachineWords.{Allowed, Answer, Reply, Call, Done, OfDone, Take, OfTake, Host, Turn, OfTurn}
-use Rattle.power_loss.proofs.MachineWords.{array_after, observe, with_moves, IsOpened, Leads, State, numbers_of, Event}
+use Rattle.power_loss.proofs.MachineWords.{array_after, behind, observe, with_moves, IsOpened, Leads, State, numbers_of}
+use Rattle.power_loss.proofs.MachineWords.{Event}
 use Rattle.power_loss.proofs.MachineWords.{Output, IsSpot}
 use Rattle.ufs_laws.proofs.walk.SmallChanges.{Change, IsSmall, IsSmallMove, Moves, Small, changed, first, first_kept}
-use Rattle.ufs_laws.proofs.walk.SmallChanges.{job_over, kept, observed}
+use Rattle.ufs_laws.proofs.walk.SmallChanges.{behind_call, job_over, kept, observed}
 use Rattle.power_loss.proofs.books.SmallFacts.{at_die_is}
 use Rattle.power_loss.proofs.jobs_owed.ProgramsAndErases.{take_inside}
 use Rattle.ufs_laws.proofs.walk.LayerEffects.{Effect, NoEffect, die_freed, effect_flights, ended, turned_by}
@@ -100,6 +101,13 @@ small_same h = kept Same (record { self = self; both = same_behind; one = small_
 -- the numbers and the base are the same
 abbrev pub Kept : State → State → Type 0
 Kept s t = (numbers_of t ≡ numbers_of s) × (t.base ≡ s.base)
+
+pub behind_kept : (s : State) (call : Call) (answer : Answer) → Kept s (behind s call answer)
+behind_kept s call answer =
+    let h = first_kept Kept (λ s. (refl, refl)) (λ s move array. (move_numbers s.translation move, refl)) s call
+    answer in
+    let k = small_same (behind_call s call answer) in
+    (k.0 ∙ h.0, k.1 ∙ h.1)
 
 pub call_kept : (s : State) (call : Call) (answer : Answer) → Kept s (observe s call answer)
 call_kept s call answer =

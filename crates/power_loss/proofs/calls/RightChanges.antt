@@ -13,6 +13,7 @@ use Rattle.ufs_laws.proofs.walk.SmallChanges.{MapsShorts, Moves, One, SetsRegist
 use Rattle.ufs_laws.proofs.walk.SmallChanges.{lock_short}
 use Rattle.power_loss.proofs.moves.MovesKeepCellsFitting.{move_fits, move_stays}
 use Rattle.power_loss.proofs.open_tasks.TaskLists.{KeepsTasks, shorts_kept, tasks_kept}
+use Rattle.power_loss.proofs.laid_rests.AllMoves.{laid_move}
 use Rattle.power_loss.proofs.calls.TiesToDies.{Ties, fits_of, tasks_stay, ties_of, ties_stay, whole}
 
 -- Changes that may come
@@ -83,13 +84,15 @@ change_keeps : (s : State) (change : Change) → IsRight s change → IsTied s �
 change_keeps s (Moves move) r v =
     let leaves = small_leaves move r.small in
     whole (with_moves s (move ∷ [])) (move_fits move (fits_of v) r.layer)
+    (laid_move s.translation move v.valid v.laid r.layer)
     (ties_stay (ties_of v)
     (move_stays s.translation move) (subst (Shows s.array) (sym leaves.cells) v.shown) leaves.groups) r.tasks
 change_keeps s (Accepts command claimed f) r v =
     let g : Group = group_of (plain_now s) command in
     whole (changed s (Accepts command claimed f)) (move_fits (Accept claimed g) (fits_of v) r.layer.2)
+    (laid_move s.translation (Accept claimed g) v.valid v.laid r.layer.2)
     (accepted_ties command claimed v r.layer.0 r.layer.1) r.tasks
-change_keeps s change r v = whole (changed s change) (fits_of v) (ties_of v) r.tasks
+change_keeps s change r v = whole (changed s change) (fits_of v) v.laid (ties_of v) r.tasks
 
 pub right_keeps : {s t : State} → Right s t → IsTied s → IsTied t
 right_keeps h = kept (λ (s t : State). IsTied s → IsTied t)

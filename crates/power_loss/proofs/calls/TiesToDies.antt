@@ -10,6 +10,8 @@ use Rattle.ufs_laws.proofs.plain_contents.PlainFromContents.{contents_of}
 use Rattle.power_loss.proofs.moves.MovesKeepCellsFitting.{BaseFits, Fits, Stays, move_fits, move_stays}
 use Rattle.ufs_laws.proofs.walk.LayerEffects.{ComesOf, Effect, RepairOrdered, ended, turn_only, turned_by, with_effect}
 use Rattle.power_loss.proofs.open_tasks.TaskLists.{tasks_more}
+use Rattle.power_loss.specs.LaidRests.{RestsLaid}
+use Rattle.power_loss.proofs.laid_rests.AllMoves.{laid_move}
 
 -- The parts
 
@@ -32,7 +34,7 @@ base_fits {n} {base} {f} plain shape same = record { block = block; settings = �
 
     settings : (k : Key) → IsKey (shape_of_numbers n) k → k.kind ≡ 3 → IsSettingsBody (f k)
     settings k (IsData u a there within) e = absurd (omega arith)
-    settings k (IsArea page within) e = absurd (omega arith)
+    settings k (IsArea region page there within) e = absurd (omega arith)
     settings k IsSettings e = subst IsSettingsBody (sym (same _ IsSettings)) (contents_of base plain).settings
 
 pub ties_of : {s : State} → IsTied s → Ties s.array s.base s.accepted s.translation
@@ -43,8 +45,9 @@ fits_of {s} v =
     let base : BaseFits s.translation.numbers s.translation.ledger.base = base_fits v.base.0 v.base.1 v.contents in
     assumption
 
-pub whole : (s : State) → Fits s.translation → Ties s.array s.base s.accepted s.translation → TasksAreRight s → IsTied s
-whole s f t r = assumption
+pub whole : (s : State) → Fits s.translation → RestsLaid s.translation →
+    Ties s.array s.base s.accepted s.translation → TasksAreRight s → IsTied s
+whole s f l t r = assumption
 
 -- What moves leave
 
@@ -104,7 +107,7 @@ one_move {s} move v may leaves cells =
     let t = s.translation in
     let u = moved t move in
     let stays = move_stays t move in
-    whole (with_moves s (move ∷ [])) (move_fits move (fits_of v) may)
+    whole (with_moves s (move ∷ [])) (move_fits move (fits_of v) may) (laid_move t move v.valid v.laid may)
     (ties_stay (ties_of v) stays (subst (Shows s.array) (sym cells) v.shown) leaves.groups)
     (tasks_stay s s.accepted stays (let c = leaves.claims in omega arith) (omega arith) v.tasks)
 

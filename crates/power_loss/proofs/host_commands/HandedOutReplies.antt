@@ -2,8 +2,9 @@
 use Rattle.power_loss.proofs.Common.{◌≡◌, ℕ, ◌+◌, ◌≤◌, Bool, true, false, not, List, [], ◌∷◌, Option, Some, None}
 use Rattle.power_loss.proofs.Common.{length, refl, sym, ap, ◌∙◌, subst, inl, inr, arith, find, nat_le, nat_lt, LetGo}
 use Rattle.power_loss.proofs.Common.{LetGoAll, Acknowledge, WantPage, none-some, same_Some, is_mended, Numbers}
-use Rattle.power_loss.proofs.MachineWords.{Answering, Awaiting, Deed, ForWrite, Gathering, Good, NotRead, Purpose}
-use Rattle.power_loss.proofs.MachineWords.{ReadBlock, ReadState, Sending, Short, Task, SendingBytes, is_short_of}
+use Rattle.power_loss.proofs.MachineWords.{Answering, Awaiting, Deed, ForFrames, ForUnmap, ForWrite, Gathering, Good}
+use Rattle.power_loss.proofs.MachineWords.{NotRead, Purpose, ReadBlock, ReadState, ReadingArea, Sending, SendingBytes}
+use Rattle.power_loss.proofs.MachineWords.{Short, Task, is_short_of}
 use Rattle.power_loss.proofs.MachineWords.{is_task_of, response, task_of, without_short, without_task, with_deed, Due}
 use Rattle.power_loss.proofs.MachineWords.{claimed_by, deed_after, deed_after_block, deed_reply, durable, is_durable}
 use Rattle.power_loss.proofs.MachineWords.{moves_after, replied_by, set_deed, short_replied, tag_in, task_goes_on}
@@ -16,7 +17,7 @@ use Rattle.ufs_spec.specs.Machine.{acknowledges}
 use Rattle.ufs_spec.proofs.Facts.{leb-true}
 use Rattle.power_loss.specs.Exchange.{AwaitsFit}
 use Rattle.power_loss.proofs.open_tasks.TaskLists.{found_short, found_task, no_task_found, short_fits_at, shorts_fewer}
-use Rattle.power_loss.proofs.open_tasks.TaskLists.{task_set, tasks_fewer, write_more}
+use Rattle.power_loss.proofs.open_tasks.TaskLists.{frames_more, task_set, tasks_fewer, unmap_more, write_more}
 use Rattle.power_loss.proofs.open_tasks.TaggedLists.{each_at}
 use Rattle.power_loss.proofs.calls.RightChanges.{Right, right_keeps, right_move}
 use Rattle.ufs_laws.proofs.walk.SmallChanges.{Both, Closes, ClosesShorts, Maps, One, Still, does}
@@ -86,7 +87,12 @@ asked_fits : (s : State) (task : Task) (purpose : Purpose) (gathered : List ℕ)
 asked_fits s task (ForWrite unit address blocks forced) gathered asked h =
     let p : Purpose = ForWrite unit address blocks forced in
     write_more (λ k. k) h.short (λ k. k) (claim_same (numbers_of s) p p gathered gathered true asked task.command) h
-asked_fits s task purpose gathered asked h = h
+asked_fits s task (ForUnmap unit) gathered asked h =
+    let p : Purpose = ForUnmap unit in
+    unmap_more (λ k. k) h.short (claim_same (numbers_of s) p p gathered gathered true asked task.command) h
+asked_fits s task (ForFrames region) gathered asked h =
+    let p : Purpose = ForFrames region in
+    frames_more (λ k. k) h.short (λ k. k) (claim_same (numbers_of s) p p gathered gathered true asked task.command) h
 
 module _ (s : State) (task : Task) (v : IsTied s) (there : task_of task.tag s.tasks ≡ Some task) where
   sent_right : (blocks : List ReadBlock) (sent : ℕ) (b : Bool) →
@@ -124,6 +130,7 @@ deed_replies {s} {task} (SendingBytes bytes) v there fits claim h =
 deed_replies {s} {task} (Awaiting commands) {m} v there fits claim h =
     let told = told_right commands v fits (awaited s task commands h).0 in
     Both told (removed_right task.tag (right_keeps told v))
+deed_replies {s} {task} (ReadingArea pages) v there fits claim h = removed_right task.tag v
 deed_replies {s} {task} (Answering status carried) v there fits claim h = removed_right task.tag v
 
 -- The reply of a short exchange

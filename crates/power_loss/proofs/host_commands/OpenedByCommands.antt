@@ -2,7 +2,9 @@
 use Rattle.power_loss.proofs.Common.{◌≡◌, ℕ, ◌+◌, ◌==◌, ◌&&◌, Bool, true, false, List, [], ◌∷◌, Option, Some, None}
 use Rattle.power_loss.proofs.Common.{length, map, get_or, min, refl, sym, ap, ◌∙◌, subst, inl, inr, arith, ⊎_elim, ◌<◌}
 use Rattle.power_loss.proofs.Common.{nat_le, nat_lt, list_any, length-map, ltb-false, none-some, or_parts, below}
-use Rattle.power_loss.proofs.Common.{data_key, Claim, free_slots, is_mended}
+use Rattle.power_loss.proofs.Common.{data_key, Claim, free_slots, is_mended, Numbers, flat_map, not, ◌||◌, ◌⊎◌}
+use Rattle.power_loss.proofs.Common.{and_parts, cond-true, eqb-true, false≢true, leb-true, not-false, or_cases}
+use Rattle.ufs_spec.proofs.Facts.{eq-eqb}
 use Rattle.power_loss.proofs.MachineWords.{address_of, blocks_of, operation_of, Answering, Awaiting, Deed, ForWrite}
 use Rattle.power_loss.proofs.MachineWords.{Gathering, Good, ReadBlock, Sending, Short, Status, Task, TaskSetFull}
 use Rattle.power_loss.proofs.MachineWords.{SendingBytes, is_short_of, is_task_of, response, short_reply, ForFrames}
@@ -11,21 +13,27 @@ use Rattle.power_loss.proofs.MachineWords.{command_taken, kept_at, refused_or_be
 use Rattle.power_loss.proofs.MachineWords.{tag_in, unit_or_first, with_moves, with_short, with_task, most_tasks}
 use Rattle.power_loss.proofs.MachineWords.{Request, State, numbers_of, operation_in, refusal, unit_of_request, UnitSpec}
 use Rattle.power_loss.proofs.MachineWords.{Message, Cdb, DeedFits, IsTied, ShortFits, WriteFits}
-use Rattle.std.specs.Prelude.{if◌then◌else◌}
+use Rattle.std.specs.Prelude.{if◌then◌else◌, ◌%◌, ◌/◌}
+use Rattle.ufs_spec.specs.Begins.{frames_begun}
+use Rattle.ufs_spec.specs.Cdbs.{IsCdb}
+use Rattle.ufs_spec.specs.Messages.{is_among}
+use Rattle.ufs_spec.specs.Stages.{regions}
+use Rattle.ufs_spec.specs.declared.scsi.Cdb.TheVariants as cdb
+use Rattle.power_loss.specs.Exchange.{FramesFit, UnmapFits}
 use Rattle.ufs_spec.specs.Exchanges.{most_short_exchanges}
 use Rattle.ufs_spec.specs.Machine.{in_use}
 use Rattle.ufs_spec.specs.Machine.{opening_fault}
 use Rattle.ufs_spec.specs.Machine.{data_begun}
 use Rattle.ufs_spec.specs.Configs.{command_blocks}
-use Rattle.ufs_spec.specs.Refusals.{needs_mended, slots_needed}
+use Rattle.ufs_spec.specs.Refusals.{is_frames, needs_mended, slots_needed}
 use Rattle.ufs_spec.specs.declared.faults.HostFault.TheVariants.{Backlog, TagInUse}
-use Rattle.ufs_laws.proofs.walk.WaysOfCommands.{Answered, Beginning, Gathered, IsWritten, Reading, Telling, Waiting}
-use Rattle.ufs_laws.proofs.walk.WaysOfCommands.{WhyBegun, begins_by, begun_as}
+use Rattle.ufs_laws.proofs.walk.WaysOfCommands.{Answered, Beginning, Gathered, Handing, IsWritten, Reading, Telling}
+use Rattle.ufs_laws.proofs.walk.WaysOfCommands.{Waiting, WhyBegun, begins_by, begun_as}
 use Rattle.ufs_laws.proofs.pages.ByteLists.{bytes-nil}
-use Rattle.ufs_laws.proofs.walk.SmallChanges.{Both, One, Opens, OpensShort, Still}
+use Rattle.ufs_laws.proofs.walk.SmallChanges.{Both, One, Opens, OpensShort, SetsRegisters, Still}
 use Rattle.power_loss.proofs.host_commands.ReadBlocks.{KeysOfDevice, keys_read, pins_right}
 use Rattle.power_loss.proofs.host_commands.PassedCommands.{Passed, TakenByUnits, lies_within, passed, ready_now}
-use Rattle.power_loss.proofs.host_commands.PassedCommands.{unit_told, units_take_10, units_take_6}
+use Rattle.power_loss.proofs.host_commands.PassedCommands.{unit_told, units_take_10, units_take_6, units_take_unmap}
 use Rattle.power_loss.proofs.calls.RightChanges.{Right, right_keeps, right_move}
 use Rattle.power_loss.proofs.open_tasks.TaskLists.{short_opened, task_opened}
 
@@ -49,7 +57,7 @@ is_free s tag short h = by (in_use s tag) refl h
 
 -- Opening an exchange
 
-short_right : {s : State} {short : Short} → IsTied s → IsFree s short.tag →
+pub short_right : {s : State} {short : Short} → IsTied s → IsFree s short.tag →
     ShortFits (length s.accepted) (is_mended s.translation.work.mending) short → Right s (with_short s short)
 short_right {short = short} v free fits =
     One (OpensShort short) (record {
@@ -167,24 +175,105 @@ write_fits {s} {r} {command} {unit} p taken slots some needs w =
       is_mended = ready_now s command needs p.ready;
     }
 
+-- UNMAP
+
+-- its list has none, 8 or 24 bytes
+list_told : (n : ℕ) → not (is_among (0 ∷ 8 ∷ 24 ∷ []) n) ≡ false → 0 < n → (n ≡ 8) ⊎ (n ≡ 24)
+list_told n h some = by (or_cases (n == 0) _ (not-false _ h))
+  where
+    last : ((n == 24) || false) ≡ true → n ≡ 24
+    last e = ⊎_elim (λ k. eqb-true n 24 k) (λ k. absurd (false≢true k)) (or_cases (n == 24) false e)
+
+    by : ((n == 0) ≡ true) ⊎ (((n == 8) || ((n == 24) || false)) ≡ true) → (n ≡ 8) ⊎ (n ≡ 24)
+    by (inl none) = absurd (let zero_is = eqb-true n 0 none in omega arith)
+    by (inr more) = ⊎_elim (λ k. inl (eqb-true n 8 k)) (λ k. inr (last k)) (or_cases (n == 8) _ more)
+
+unmap_claims : (m : Numbers) (n : ℕ) → (n ≡ 8) ⊎ (n ≡ 24) →
+    (n ≡ 8) ⊎ ((n ≡ 24) × (slots_needed m (cdb.Unmap n) ≡ command_blocks m))
+unmap_claims m n (inl e) = inl e
+unmap_claims m n (inr e) = inr (e, cond-true (n == 24) (command_blocks m) 0 (eq-eqb n 24 e))
+
+unmap_fits : {s : State} {r : Request} {unit n : ℕ} → Passed s r (cdb.Unmap n) → TakenByUnits (operation_in r) →
+    unit ≡ unit_or_first (unit_of_request s r) → 0 < n →
+    UnmapFits (numbers_of s) (is_mended s.translation.work.mending) unit n [] (slots_needed (numbers_of s) (cdb.Unmap
+    n))
+unmap_fits {s} {r} {unit} {n} p taken unit_is some =
+    let told = unit_told s r (cdb.Unmap n) taken p in
+    let same : unit ≡ r.lun = unit_is ∙ ap unit_or_first told.is in
+    let there = told.there in
+    record {
+      unit_in = omega (arith, same, there);
+      list = unmap_claims (numbers_of s) n (list_told n p.listed some);
+      short = some;
+      is_mended = ready_now s (cdb.Unmap n) refl p.ready;
+    }
+
+-- SECURITY PROTOCOL OUT
+
+frames_fit : {s : State} {r : Request} {region n : ℕ} → Passed s r (cdb.SecurityOut region n) → region < regions →
+    FramesFit (is_mended s.translation.work.mending) region n [] (slots_needed (numbers_of s) (cdb.SecurityOut region
+    n))
+frames_fit {s} {r} {region} {n} p there =
+    let all = and_parts (nat_le 512 n && nat_le n 4096) (n % 512 == 0) (not-false (is_frames n) p.not_long) in
+    let both = and_parts (nat_le 512 n) (nat_le n 4096) all.0 in
+    let least = leb-true 512 n both.0 in
+    let most = leb-true n 4096 both.1 in
+    let whole = eqb-true (n % 512) 0 all.1 in
+    record {
+      region_in = there;
+      count = n / 512;
+      some = omega arith;
+      few = omega arith;
+      total_is = omega arith;
+      short = omega arith;
+      bytes = bytes-nil;
+      claimed_is = refl;
+      is_mended = ready_now s (cdb.SecurityOut region n) refl p.ready;
+    }
+
+-- SECURITY PROTOCOL IN
+
+handing_right : {s : State} (r : Request) (region n : ℕ) → IsTied s → IsFree s r.tag →
+    Right s (frames_begun s r region n)
+handing_right {s} r region n v free =
+    let told = telling_right r (cdb.SecurityIn region n)
+    (flat_map (λ frame. frame) (s.registers region).response) v free in
+    Both told (One (SetsRegisters (frames_begun s r region n).registers)
+    (record { small = tt; layer = tt; tasks = (right_keeps told v).tasks }))
+
 -- Commands
 
--- a CDB has its command's operation code
+-- a CDB has its command's operation code, and its numbers fit their fields
 abbrev pub IsSpelled : Request → Type 0
-IsSpelled r = (command : Cdb) → r.cdb ≡ Some command → operation_in r ≡ operation_of command
+IsSpelled r = (command : Cdb) → r.cdb ≡ Some command → (operation_in r ≡ operation_of command) × IsCdb command
 
 begins : (s : State) (r : Request) (command : Cdb) → IsTied s → IsFree s r.tag → Passed s r command →
-    operation_in r ≡ operation_of command → Right s (begun s r (unit_or_first (unit_of_request s r)) command)
-begins s r command v free p op = begins_by (Right s) s r unit command one
+    operation_in r ≡ operation_of command → IsCdb command →
+    Right s (begun s r (unit_or_first (unit_of_request s r)) command)
+begins s r command v free p op fields = begins_by (Right s) s r unit command one
   where
     unit : ℕ
     unit = unit_or_first (unit_of_request s r)
 
+    listed : (u n : ℕ) → u ≡ unit → 0 < n → command ≡ cdb.Unmap n →
+        UnmapFits (numbers_of s) (is_mended s.translation.work.mending) u n [] (slots_needed (numbers_of s) command)
+    listed u n unit_is some is = subst (λ (c : Cdb). UnmapFits (numbers_of s)
+        (is_mended s.translation.work.mending) u n [] (slots_needed (numbers_of s) c)) (sym is)
+        (unmap_fits (subst (Passed s r) is p)
+        (subst TakenByUnits (sym (op ∙ ap operation_of is)) units_take_unmap) unit_is some)
+
+    framed : (region n : ℕ) → command ≡ cdb.SecurityOut region n →
+        FramesFit (is_mended s.translation.work.mending) region n [] (slots_needed (numbers_of s) command)
+    framed region n is = subst (λ (c : Cdb). FramesFit
+        (is_mended s.translation.work.mending) region n [] (slots_needed (numbers_of s) c)) (sym is)
+        (frames_fit {r = r} (subst (Passed s r) is p) (subst IsCdb is fields).0)
+
     one : (b : Beginning) → WhyBegun s r unit command b → Right s (begun_as s r command b)
-    one (Answered c status) why = answer_right r c 0 status 0 v free
+    one Answered why = answer_right r (Some command) 0 Good 0 v free
     one Waiting needs = task_right r (Some command) 0 (Awaiting (length s.accepted)) v free
         (omega arith, ready_now s command needs p.ready) refl
     one (Telling bytes) why = telling_right r command bytes v free
+    one (Handing region n) is = handing_right r region n v free
     one (Reading u address n) (unit_is, address_is, size, read) =
         let reads = ⊎_elim (λ e. inl (op ∙ e)) (λ e. inr (op ∙ e)) read in
         subst (λ (x : ℕ). Right s (read_begun s r command x address n)) (sym unit_is)
@@ -193,11 +282,12 @@ begins s r command v free p op = begins_by (Right s) s r unit command one
     one (Gathered count (ForWrite u address blocks forced) n) (slots, some, few, needs, w) =
         let taken = ⊎_elim (λ e. subst TakenByUnits (sym (op ∙ e)) units_take_6)
         (λ e. subst TakenByUnits (sym (op ∙ e)) units_take_10) w.writes in
-        gathers_right n (ForWrite u address blocks forced) v free p slots (write_fits p taken slots some needs w)
-    one (Gathered count (ForUnmap u) n) (slots, some, few, needs, w) =
-        gathers_right n (ForUnmap u) v free p slots (ready_now s command needs p.ready)
-    one (Gathered count ForFrames n) (slots, some, few, needs, w) =
-        gathers_right n ForFrames v free p slots (ready_now s command needs p.ready)
+        gathers_right n (ForWrite u address blocks forced) v free p slots
+        (write_fits p taken slots (some p.not_long) needs w)
+    one (Gathered count (ForUnmap u) n) (slots, some, few, needs, (unit_is, is)) =
+        gathers_right n (ForUnmap u) v free p slots (listed u n unit_is (some p.not_long) is)
+    one (Gathered count (ForFrames region) n) (slots, some, few, needs, is) =
+        gathers_right n (ForFrames region) v free p slots (framed region n is)
 
 opened_right : {s : State} (r : Request) → IsTied s → IsFree s r.tag → IsSpelled r → (x : Option Status) →
     refusal s r ≡ x → Right s (refused_or_begun s r x)
@@ -206,7 +296,9 @@ opened_right {s} r v free spelled None e = by r.cdb refl
   where
     by : (c : Option Cdb) → r.cdb ≡ c → Right s (begun_if_any s r c)
     by None h = Still
-    by (Some command) h = begins s r command v free (passed s r command h e) (spelled command h)
+    by (Some command) h =
+        let told = spelled command h in
+        begins s r command v free (passed s r command h e) told.0 told.1
 
 pub command_right : {s : State} (r : Request) → IsTied s → IsFree s r.tag → IsSpelled r → Right s (command_taken s r)
 command_right {s} r v free spelled = by (nat_le most_tasks (length s.tasks))

@@ -9,10 +9,10 @@ use Rattle.power_loss.proofs.MachineWords.{first_line, is_past, lacks_unit, line
 use Rattle.power_loss.proofs.MachineWords.{needs_mended, not_taken, numbers_of, operation_in, refusal, unit_numbers_at}
 use Rattle.power_loss.proofs.MachineWords.{takes, unit_in, unit_of_request, UnitSpec, Cdb}
 use Rattle.std.specs.Prelude.{if◌then◌else◌}
-use Rattle.ufs_spec.specs.Cdbs.{write_10, write_6}
+use Rattle.ufs_spec.specs.Cdbs.{unmap, write_10, write_6}
 use Rattle.ufs_spec.specs.Messages.{is_among}
 use Rattle.ufs_spec.specs.Stages.{taken_luns}
-use Rattle.ufs_spec.specs.Refusals.{is_crowded, is_too_long}
+use Rattle.ufs_spec.specs.Refusals.{has_wrong_list, is_crowded, is_too_long}
 use Rattle.ufs_spec.specs.Refusals.{unit_numbers_of, well_known}
 
 -- No line of the table applies
@@ -31,6 +31,7 @@ pub record Passed (s : State) (r : Request) (command : Cdb) : Type 0 where
   pub unit : lacks_unit s r (lun_of (numbers_of s) r.lun) ≡ false
   pub taken : not_taken r (lun_of (numbers_of s) r.lun) ≡ false
   pub not_long : is_too_long (numbers_of s) command ≡ false
+  pub listed : has_wrong_list command ≡ false
   pub within : is_past command (unit_numbers_of s r) ≡ false
   pub ready : (needs_mended (operation_of command) && not (mended s)) ≡ false
   pub room : is_crowded s command ≡ false
@@ -46,6 +47,7 @@ passed s r command e h =
       unit = p.0;
       taken = p.1.0;
       not_long = p.1.1.0;
+      listed = p.1.1.1.0;
       within = p.1.1.1.1.1.0;
       ready = p.1.1.1.1.1.1.0;
       room = p.1.1.1.1.1.1.1.1.1.1.0;
@@ -80,7 +82,7 @@ lun_told n {byte} {unit} h = by (nat_lt byte (length n.units.items)) (is_among t
     by false true e k = absurd (well_known_none byte unit k)
     by false false e k = cc
 
--- ordinary units alone are written by WRITE
+-- ordinary units alone are written by WRITE and UNMAP
 abbrev pub TakenByUnits : ℕ → Type 0
 TakenByUnits operation = (lun : Lun) → takes lun operation ≡ true → (unit : ℕ) × (lun ≡ UnitOf unit)
 
@@ -91,6 +93,10 @@ units_take_6 lun h = absurd (false≢true h)
 pub units_take_10 : TakenByUnits write_10
 units_take_10 (UnitOf unit) h = (unit, refl)
 units_take_10 lun h = absurd (false≢true h)
+
+pub units_take_unmap : TakenByUnits unmap
+units_take_unmap (UnitOf unit) h = (unit, refl)
+units_take_unmap lun h = absurd (false≢true h)
 
 pub record UnitTold (s : State) (r : Request) : Type 0 where
   pub there : r.lun < length (numbers_of s).units.items

@@ -8,13 +8,15 @@ use Rattle.power_loss.proofs.Common.{EndJob, Ending, MayEnd, ReadRight, ReadWron
 use Rattle.power_loss.proofs.Common.{end_flight, freed, moved, read_right, read_wrong, MayBeLeft, Plan, Translation}
 use Rattle.power_loss.proofs.Common.{has_mark_number, is_mended, mark_ordered, Numbers, Fence, Place, torn_is_nothing}
 use Rattle.power_loss.proofs.MachineWords.{blank_page, Answering, Awaiting, Deed, Gathering, NotRead, ReadState}
-use Rattle.power_loss.proofs.MachineWords.{Sending, Task, SendingBytes, WasRead, is_task_of, array_after, claimed_by}
+use Rattle.power_loss.proofs.MachineWords.{ReadingArea, Sending, Task, SendingBytes, WasRead, is_task_of, array_after}
+use Rattle.power_loss.proofs.MachineWords.{claimed_by}
 use Rattle.power_loss.proofs.MachineWords.{deed_read, ends_with, in_block, read_noted, task_read, with_moves, State}
 use Rattle.power_loss.proofs.MachineWords.{numbers_of, DeedFits, IsTied, claim_of}
 use Rattle.std.specs.Prelude.{if◌then◌else◌}
 use Rattle.std.proofs.lemmas.Bool.{ltb-false}
 use Rattle.ufs_laws.proofs.pages.BlankPages.{nothing_is_blank}
 use Rattle.ufs_laws.proofs.pages.PageIsOneCell.{one_cell}
+use Rattle.power_loss.proofs.laid_rests.AllMoves.{laid_move}
 use Rattle.power_loss.proofs.calls.TiesToDies.{end_leaves, fits_of, tasks_stay, ties_of, ties_stay, whole}
 use Rattle.power_loss.proofs.moves.MovesKeepCellsFitting.{move_fits, move_stays}
 use Rattle.power_loss.proofs.open_tasks.TaskLists.{KeepsTasks, tasks_kept}
@@ -35,6 +37,7 @@ read_claims n index state task (Gathering purpose gathered asked) = omega arith
 read_claims n index state task (Sending blocks sent) = omega arith
 read_claims n index state task (SendingBytes bytes) = omega arith
 read_claims n index state task (Awaiting commands) = omega arith
+read_claims n index state task (ReadingArea pages) = omega arith
 read_claims n index state task (Answering status carried) = omega arith
 
 read_keeps : {n : Numbers} {a : ℕ} {m : Bool} (tag index : ℕ) (state : ReadState) →
@@ -113,8 +116,8 @@ over_keeps s die flight ending left v e r =
     let may : MayEnd t.disk die (t.disk.flights die) ending = subst (λ x. MayEnd t.disk die x ending) (sym e) r.may in
     let claims = leaves.claims in
     whole (job_over s die (Some flight) ending left) (move_fits (EndJob die ending) (fits_of v) may)
-    (ties_stay
-    (ties_of v) stays shown leaves.groups) (tasks_stay s s.accepted stays (omega arith) (omega arith) v.tasks)
+    (laid_move t (EndJob die ending) v.valid v.laid may)
+    (ties_stay (ties_of v) stays shown leaves.groups) (tasks_stay s s.accepted stays (omega arith) (omega arith) v.tasks)
 
 -- What the dies show
 

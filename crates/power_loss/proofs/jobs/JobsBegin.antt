@@ -315,7 +315,7 @@ opened_change {t} {p} v o = record {
     full e = free_is_not_filling e refl
 
 -- where the place is the next of a block that is being filled, nothing is another
-same_blocks : (f : Spot → BlockState) (s : Spot) (x : BlockState) → f s ≡ x → at_spot f s x ≡ f
+pub same_blocks : (f : Spot → BlockState) (s : Spot) (x : BlockState) → f s ≡ x → at_spot f s x ≡ f
 same_blocks f s x is = λ i a. same a i
   where
     same : (a : Spot) → at_spot f s x a ≡ f a

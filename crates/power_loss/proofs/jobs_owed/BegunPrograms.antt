@@ -37,7 +37,7 @@ same_program {p} {q} {cell} {other} e = (place e, this e)
     this : Some (Programming p cell) ≡ Some (Programming q other) → cell ≡ other
     this e = cc
 
-is_this : (t : Translation) {die : ℕ} {p : Place} {cell : Cell} {d : ℕ} {q : Place} {other : Cell} →
+pub is_this : (t : Translation) {die : ℕ} {p : Place} {cell : Cell} {d : ℕ} {q : Place} {other : Cell} →
     at_die t.disk.flights die (Some (Programming p cell)) d ≡ Some (Programming q other) →
     ((d ≡ die) × (p ≡ q) × (cell ≡ other)) ⊎ (t.disk.flights d ≡ Some (Programming q other))
 is_this t {die} {p} {cell} {d} {q} {other} h = ⊎_elim

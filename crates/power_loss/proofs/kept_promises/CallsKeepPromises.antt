@@ -9,7 +9,7 @@ use Rattle.power_loss.proofs.MachineWords.{task_of, with_deed, without_task, All
 use Rattle.power_loss.proofs.MachineWords.{OfDone, Take, OfTake, OfHost, Host, OfReply, Spelled, Turn, OfTurn}
 use Rattle.power_loss.proofs.MachineWords.{asked_fault, behind, data_heard, deed_after, ends_with, given, heard}
 use Rattle.power_loss.proofs.MachineWords.{is_aborted, lock_applied, managed, message_fault, moves_after, observe}
-use Rattle.power_loss.proofs.MachineWords.{query_unanswered, replied_by, service, short_locked, short_replied, tag_in}
+use Rattle.power_loss.proofs.MachineWords.{ReadingArea, replied_by, service, short_locked, short_replied, tag_in}
 use Rattle.power_loss.proofs.MachineWords.{task_goes_on, task_locked, task_read, task_replied, with_moves, with_short}
 use Rattle.power_loss.proofs.MachineWords.{without_tasks, fills, task_filled, Request, State, locked, numbers_of, Event}
 use Rattle.power_loss.proofs.MachineWords.{Output, Message, Cdb, IsTied, TasksDiffer, ValidState, has_task}
@@ -24,7 +24,8 @@ use Rattle.power_loss.proofs.calls.CallsKeepTied.{no_fault}
 use Rattle.power_loss.proofs.lives.EachEventKeeps.{one_event}
 use Rattle.power_loss.proofs.open_tasks.FoundInLists.{found_gone, found_is, found_more, none_left, some_map}
 use Rattle.power_loss.proofs.books.SmallFacts.{eq_told}
-use Rattle.power_loss.proofs.open_tasks.OpenExchanges.{Adds, adds_short, command_adds, data_leaves, replied_leaves}
+use Rattle.power_loss.proofs.open_tasks.OpenExchanges.{Adds, adds_short, command_adds, data_leaves, query_adds}
+use Rattle.power_loss.proofs.open_tasks.OpenExchanges.{replied_leaves}
 use Rattle.power_loss.proofs.open_tasks.TaskLists.{found_fits}
 use Rattle.power_loss.proofs.kept_promises.PromisedCommands.{KeepsTo, Promise, Tracked, TrackedIn, data_tracked}
 use Rattle.power_loss.proofs.kept_promises.PromisedCommands.{lock_keeps, map_tracked, same_tracked, set_tracked}
@@ -124,7 +125,7 @@ heard_tracks p tag bytes {s} (message.TaskRequest lun other function meant) c v 
     quiet (stays s (with_short (managed s lun function meant) reply)
     (λ task e. managed_same s lun function meant tag v.tasks.tasks_differ still e) grows h)
 heard_tracks p tag bytes {s} (message.QueryRequest other function asked size value «data») c v fault grows still h =
-    added s _ (adds_short (short_reply other (query_unanswered other function asked))) grows h
+    added s _ (query_adds other (record { function = function; asked = asked; length = size; value = value })) grows h
 heard_tracks p tag bytes other c v fault grows still h = quiet h
 
 -- The ends of jobs
@@ -168,6 +169,7 @@ own_reply p bytes s u task (Sending blocks sent) e f own keeps still h = absurd 
 own_reply p bytes s u task (SendingBytes told) e f own keeps still h = absurd keeps
 own_reply p {tag} bytes s u task (Awaiting n) e f own keeps still h = closed tag (without_task task.tag u.tasks)
     (ap (λ (n : ℕ). task_of tag (without_task n u.tasks)) own ∙ found_gone (is_task_of tag) u.tasks) still
+own_reply p bytes s u task (ReadingArea pages) e f own keeps still h = absurd keeps
 own_reply p {tag} bytes s u task (Answering status n) e f own keeps still h = closed tag (without_task task.tag u.tasks)
     (ap (λ (n : ℕ). task_of tag (without_task n u.tasks)) own ∙ found_gone (is_task_of tag) u.tasks) still
 

@@ -10,9 +10,11 @@ use Rattle.power_loss.proofs.MachineWords.{without_tasks, State, locked, Request
 use Rattle.power_loss.proofs.MachineWords.{IsTied, ValidState, IsReplied}
 use Rattle.std.specs.Prelude.{is_some}
 use Rattle.ufs_spec.proofs.Facts.{if_cases}
-use Rattle.ufs_laws.proofs.walk.WaysOfCommands.{Beginning, Told, Waiting, WhyBegun, begins_by, begun_as}
+use Rattle.ufs_laws.proofs.walk.WaysOfCommands.{Beginning, Handing, WhyBegun, begins_by, begun_as}
+use Rattle.ufs_laws.proofs.walk.WaysOfData.{Completion, Told, completed}
 use Rattle.ufs_laws.proofs.walk.SmallChanges.{first_kept, lock_short}
-use Rattle.ufs_laws.proofs.walk.Happenings.{Aborts, Begins, Completes, Happening, Replies, ShortOver, behind_by}
+use Rattle.ufs_laws.proofs.walk.Happenings.{Aborts, Begins, Completes, Happening, Replies, Sets, ShortOver, Tells}
+use Rattle.ufs_laws.proofs.walk.Happenings.{behind_by}
 use Rattle.ufs_laws.proofs.walk.Happenings.{ends_by, first, happened, job_over}
 use Rattle.ufs_laws.proofs.lives.HeldAlongLives.{life_held, short_held}
 use Rattle.ufs_laws.proofs.lives.LivesJoined.{join}
@@ -95,8 +97,12 @@ begun_shorts : (s : State) (r : Request) (unit : ℕ) (c : Cdb) → (begun s r u
 begun_shorts s r unit c = begins_by (λ t. t.shorts ≡ s.shorts) s r unit c one
   where
     one : (b : Beginning) → WhyBegun s r unit c b → (begun_as s r c b).shorts ≡ s.shorts
-    one Waiting why = refl
+    one (Handing region n) why = refl
     one b why = refl
+
+completed_shorts : (s : State) (task : Task) (k : Completion) → (completed s task k).shorts ≡ s.shorts
+completed_shorts s task (Told status released) = refl
+completed_shorts s task k = refl
 
 -- a short exchange that is still open is left as it is
 happens_leave : (tag : ℕ) (s : State) (h : Happening) → is_some (short_of tag (happened s h)) ≡ true →
@@ -105,7 +111,9 @@ happens_leave tag s (Replies short) still = more_leaves tag s.shorts short
 happens_leave tag s (Aborts is short) still = more_leaves tag s.shorts short
 happens_leave tag s (ShortOver short) still = gone_leaves tag short.tag s.shorts still
 happens_leave tag s (Begins r c) still = same_leaves tag (begun_shorts s r _ c)
-happens_leave tag s (Completes task (Told status)) still = same_leaves tag refl
+happens_leave tag s (Tells on short) still = more_leaves tag s.shorts short
+happens_leave tag s (Sets command short) still = more_leaves tag s.shorts short
+happens_leave tag s (Completes task k) still = same_leaves tag (completed_shorts s task k)
 happens_leave tag s h still = same_leaves tag refl
 
 behind_leaves : (tag : ℕ) (s : State) (call : Call) (answer : Answer) →

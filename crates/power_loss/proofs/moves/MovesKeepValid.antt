@@ -28,7 +28,7 @@ use Rattle.power_loss.proofs.books.LayerParts.{NeededOf}
 -- A step of mending or of collection that is ordered
 
 -- the plan that is begun, or the next one
-planned : {t : Translation} (s : Spot) (copies : List Place) → Valid t → t.work.step ≡ None → t.work.mending ≡ Mended →
+pub planned : {t : Translation} (s : Spot) (copies : List Place) → Valid t → t.work.step ≡ None → t.work.mending ≡ Mended →
     IsPlanned t s copies → Valid (with_plan t s copies)
 planned {t} s copies v none mended (inl is) =
     subst (λ (o : Option Plan). Valid (record t { work = record t.work { plan = o } })) is v

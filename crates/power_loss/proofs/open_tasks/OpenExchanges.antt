@@ -3,16 +3,23 @@
 -- those of their tag alone.
 use Rattle.power_loss.proofs.Common.{◌≡◌, ℕ, ◌==◌, Bool, true, false, not, map, List, [], ◌∷◌, ◌++◌, length, Option}
 use Rattle.power_loss.proofs.Common.{Some, None, refl, sym, ap, ◌∙◌, subst, nat_le, nat_lt, append-nil, false≢true}
-use Rattle.power_loss.proofs.Common.{eqb-true, cond-false}
+use Rattle.power_loss.proofs.Common.{eqb-true, cond-false, if_both}
 use Rattle.power_loss.proofs.MachineWords.{Deed, Gathering, Purpose, Short, Status, Task, TaskSetFull, is_task_of}
-use Rattle.power_loss.proofs.MachineWords.{response, short_reply, task_of, with_deed, without_task, begun, begun_if_any}
+use Rattle.power_loss.proofs.MachineWords.{Command, RpmbRequest, response, short_reply, task_of, with_deed}
+use Rattle.power_loss.proofs.MachineWords.{with_request}
+use Rattle.power_loss.proofs.MachineWords.{without_task, begun, begun_if_any}
 use Rattle.power_loss.proofs.MachineWords.{command_taken, complete, data_for, data_heard, deed_after, moves_after}
 use Rattle.power_loss.proofs.MachineWords.{refused_or_begun, set_deed, task_goes_on, task_replied, with_moves}
 use Rattle.power_loss.proofs.MachineWords.{with_short, most_tasks, Request, State, refusal, Cdb}
-use Rattle.std.specs.Prelude.{if◌then◌else◌}
-use Rattle.ufs_laws.proofs.walk.WaysOfCommands.{Beginning, Completion, Told, Waiting, WhyBegun, WhyCompleted, begins_by}
-use Rattle.ufs_laws.proofs.walk.WaysOfCommands.{begun_as, completed, completes_by}
-use Rattle.ufs_laws.proofs.walk.SmallChanges.{does}
+use Rattle.std.specs.Prelude.{if◌then◌else◌, ◌&&◌}
+use Rattle.ufs_spec.specs.Queries.{Query, setting_of}
+use Rattle.ufs_spec.specs.QueryAnswers.{query_heard, query_passed}
+use Rattle.ufs_laws.proofs.walk.Happenings.{code_of_query}
+use Rattle.ufs_laws.proofs.walk.WaysOfCommands.{Beginning, Handing, WhyBegun, begins_by, begun_as}
+use Rattle.ufs_laws.proofs.walk.WaysOfData.{Accepted, AcceptsFrames, Completion, HasResult, ReadsArea, Told}
+use Rattle.ufs_laws.proofs.walk.WaysOfData.{WhyCompleted}
+use Rattle.ufs_laws.proofs.walk.WaysOfData.{completed, completes_by}
+use Rattle.power_loss.proofs.open_tasks.TaskLists.{SameTag, at_tag, changed_tag}
 use Rattle.power_loss.proofs.open_tasks.FoundInLists.{found_is, found_left, found_map}
 
 -- Tasks and short exchanges are added
@@ -36,7 +43,7 @@ begun_adds : {s : State} (r : Request) (unit : ℕ) (c : Cdb) → AddsTasks s (b
 begun_adds {s} r unit c = begins_by (AddsTasks s) s r unit c one
   where
     one : (b : Beginning) → WhyBegun s r unit c b → AddsTasks s (begun_as s r c b)
-    one Waiting why = one_task _ refl refl
+    one (Handing region n) why = one_task _ refl refl
     one b why = one_task _ refl refl
 
 begins_adds : {s : State} (r : Request) (c : Option Cdb) → AddsTasks s (begun_if_any s r c)
@@ -49,6 +56,23 @@ opened_adds {s} r None = begins_adds r r.cdb
 
 pub adds_short : {s : State} (x : Short) → Adds s (with_short s x)
 adds_short {s} x = record { tasks = []; tasks_are = sym (append-nil s.tasks); shorts = x ∷ []; shorts_are = refl }
+
+adds_short_to : {s u : State} (x : Short) → u.tasks ≡ s.tasks → u.shorts ≡ s.shorts → Adds s (with_short u x)
+adds_short_to {s} x e f = record {
+  tasks = [];
+  tasks_are = e ∙ sym (append-nil s.tasks);
+  shorts = x ∷ [];
+  shorts_are = ap (λ (xs : List Short). xs ++ x ∷ []) f;
+}
+
+-- a query opens a short exchange
+pub query_adds : {s : State} (tag : ℕ) (q : Query) → Adds s (query_heard s tag q)
+query_adds {s} tag q = if_both (Adds s) ((code_of_query s q == 0x00) && not (q.asked.opcode == 0))
+    (passed (setting_of q)) (adds_short _)
+  where
+    passed : (o : Option Command) → Adds s (query_passed s tag q o)
+    passed None = adds_short_to _ refl refl
+    passed (Some c) = adds_short_to _ refl refl
 
 pub command_adds : {s : State} (r : Request) → Adds s (command_taken s r)
 command_adds {s} r = by (nat_le most_tasks (length s.tasks))
@@ -89,18 +113,29 @@ is_other task tag other apart h = by (is_task_of tag task) refl
     by true e = absurd (false≢true (sym apart ∙ ap (λ (n : ℕ). n == other) (sym (eqb-true task.tag tag e)) ∙ h))
     by false e = refl
 
-pub leaves_set : {tag : ℕ} {s : State} (u : State) (deed : Deed) → u.tasks ≡ s.tasks → u.shorts ≡ s.shorts →
-    LeavesOthers tag s (set_deed u tag deed)
-leaves_set {tag} {s} u deed e f = record { others = others; shorts = f }
+-- the task of the tag becomes another one of the tag
+leaves_changed : {tag : ℕ} {s u : State} (f : Task → Task) → SameTag f → u.tasks ≡ map (at_tag tag f) s.tasks →
+    u.shorts ≡ s.shorts → LeavesOthers tag s u
+leaves_changed {tag} {s} {u} f same e shorts = record { others = others; shorts = shorts }
   where
     others : (other : ℕ) (task : Task) → (tag == other) ≡ false → task_of other s.tasks ≡ Some task →
-        task_of other (map (with_deed tag deed) u.tasks) ≡ Some task
+        task_of other u.tasks ≡ Some task
     others other task apart h =
-        let found = found_map (is_task_of other) (with_deed tag deed)
-        (λ x. ap (λ (n : ℕ). n == other) (does tag deed x).tag) u.tasks task (ap (task_of other) e ∙ h) in
+        let found = found_map (is_task_of other) (at_tag tag f)
+        (λ x. ap (λ (n : ℕ). n == other) (changed_tag tag f same x)) s.tasks task h in
         let is = found_is (is_task_of other) s.tasks task h in
-        found ∙ ap Some (cond-false (is_task_of tag task) (record task { deed = deed }) task
-        (is_other task tag other apart is))
+        ap (task_of other) e ∙ (found ∙ ap Some (cond-false (is_task_of tag task) (f task) task
+        (is_other task tag other apart is)))
+
+pub leaves_set : {tag : ℕ} {s : State} (u : State) (deed : Deed) → u.tasks ≡ s.tasks → u.shorts ≡ s.shorts →
+    LeavesOthers tag s (set_deed u tag deed)
+leaves_set {tag} u deed e f =
+    leaves_changed (λ x. record x { deed = deed }) (λ x. refl) (ap (map (with_deed tag deed)) e) f
+
+leaves_request : {tag : ℕ} {s u : State} (request : RpmbRequest) (deed : Deed) →
+    u.tasks ≡ map (with_request tag request deed) s.tasks → u.shorts ≡ s.shorts → LeavesOthers tag s u
+leaves_request request deed =
+    leaves_changed (λ x. record x { deed = deed; request = Some request }) (λ x. refl)
 
 pub leaves_without : {tag : ℕ} {s u : State} → u.tasks ≡ without_task tag s.tasks → u.shorts ≡ s.shorts →
     LeavesOthers tag s u
@@ -116,9 +151,12 @@ complete_leaves : {s : State} (task : Task) (purpose : Purpose) (bytes : List �
     LeavesOthers task.tag s (complete s task purpose bytes)
 complete_leaves {s} task purpose bytes = completes_by (LeavesOthers task.tag s) s task purpose bytes one
   where
-    one : (k : Completion) → WhyCompleted purpose task k → LeavesOthers task.tag s (completed s task k)
-    one (Told status) why = leaves_set s _ refl refl
-    one k why = leaves_set _ _ refl refl
+    one : (k : Completion) → WhyCompleted s task purpose bytes k → LeavesOthers task.tag s (completed s task k)
+    one (Told status released) why = leaves_set _ _ refl refl
+    one (Accepted c claimed deed) why = leaves_set _ _ refl refl
+    one (HasResult region frames result) why = leaves_request _ _ refl refl
+    one (ReadsArea region f fs result) why = leaves_request _ _ refl refl
+    one (AcceptsFrames region frames result c) why = leaves_request _ _ refl refl
 
 data_for_leaves : {s : State} (task : Task) (deed : Deed) (bytes : List ℕ) →
     LeavesOthers task.tag s (data_for s task deed bytes)

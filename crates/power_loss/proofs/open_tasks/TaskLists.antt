@@ -2,13 +2,15 @@
 use Rattle.power_loss.proofs.Common.{◌≡◌, ℕ, ◌+◌, ◌<◌, ◌≤◌, ◌==◌, Bool, true, false, cond, List, [], ◌∷◌, ◌++◌, Option}
 use Rattle.power_loss.proofs.Common.{Some, None, length, map, refl, sym, ap, ◌∙◌, subst, arith, filter, find}
 use Rattle.power_loss.proofs.Common.{AllByRecursion, list_any, same_Some, or_parts, eqb-true, cond-false, Numbers}
-use Rattle.power_loss.proofs.Common.{any_none}
+use Rattle.power_loss.proofs.Common.{any_none, if_both, ◌⊎◌}
 use Rattle.power_loss.proofs.MachineWords.{Awaiting, Deed, ForFrames, ForUnmap, ForWrite, Gathering, Short, Task}
+use Rattle.power_loss.proofs.MachineWords.{RpmbRequest, with_request}
+use Rattle.ufs_spec.specs.Configs.{command_blocks}
 use Rattle.power_loss.proofs.MachineWords.{is_short_of, is_task_of, task_of, with_deed, claimed_by, AreBytes, AreApart}
 use Rattle.power_loss.proofs.MachineWords.{DeedFits, ShortAwaits, ShortFits, TasksDiffer, TasksRight, WriteFits}
 use Rattle.power_loss.proofs.MachineWords.{claim_of, claims_of}
 use Rattle.std.specs.Prelude.{if◌then◌else◌, slice_get}
-use Rattle.power_loss.specs.Exchange.{DeedsFit, ShortsDiffer, ShortsFit}
+use Rattle.power_loss.specs.Exchange.{DeedsFit, FramesFit, ShortsDiffer, ShortsFit, UnmapFits}
 use Rattle.power_loss.proofs.open_tasks.FoundInLists.{found_is}
 use Rattle.power_loss.proofs.open_tasks.TaggedLists.{differ_filter, differ_map, differ_push, each_at, each_filter}
 use Rattle.power_loss.proofs.open_tasks.TaggedLists.{each_found, each_map, each_push, each_weaker, found_at}
@@ -28,12 +30,39 @@ pub write_more : {n : Numbers} {m w : Bool} {unit address blocks total : ℕ} {s
     WriteFits n m unit address blocks total some claimed → WriteFits n w unit address blocks total all more
 write_more up short bytes same h = assumption (bytes h.bytes, same ∙ h.claimed_is, up h.is_mended)
 
+-- the same of an UNMAP, and of frames
+pub unmap_more : {n : Numbers} {m w : Bool} {unit total : ℕ} {some all : List ℕ} {claimed more : ℕ} →
+    (m ≡ true → w ≡ true) → length all < total → more ≡ claimed →
+    UnmapFits n m unit total some claimed → UnmapFits n w unit total all more
+unmap_more {n} {total = total} up short same h = record {
+  unit_in = h.unit_in;
+  list = subst (λ (c : ℕ). (total ≡ 8) ⊎ ((total ≡ 24) × (c ≡ command_blocks n))) (sym same) h.list;
+  short = short;
+  is_mended = up h.is_mended;
+}
+
+pub frames_more : {m w : Bool} {region total : ℕ} {some all : List ℕ} {claimed more : ℕ} →
+    (m ≡ true → w ≡ true) → length all < total → (AreBytes some → AreBytes all) → more ≡ claimed →
+    FramesFit m region total some claimed → FramesFit w region total all more
+frames_more up short bytes same h = record {
+  region_in = h.region_in;
+  count = h.count;
+  some = h.some;
+  few = h.few;
+  total_is = h.total_is;
+  short = short;
+  bytes = bytes h.bytes;
+  claimed_is = same ∙ h.claimed_is;
+  is_mended = up h.is_mended;
+}
+
 deed_more : (n : Numbers) (a b : ℕ) {m w : Bool} (claimed total : ℕ) (deed : Deed) → a ≤ b → (m ≡ true → w ≡ true) →
     DeedFits n a m claimed total deed → DeedFits n b w claimed total deed
 deed_more n a b {m} {w} claimed total (Gathering (ForWrite unit address blocks forced) gathered asked) l up h =
     write_more up h.short (λ k. k) refl h
-deed_more n a b claimed total (Gathering (ForUnmap unit) gathered asked) l up h = up h
-deed_more n a b claimed total (Gathering ForFrames gathered asked) l up h = up h
+deed_more n a b claimed total (Gathering (ForUnmap unit) gathered asked) l up h = unmap_more up h.short refl h
+deed_more n a b claimed total (Gathering (ForFrames region) gathered asked) l up h =
+    frames_more up h.short (λ k. k) refl h
 deed_more n a b claimed total (Awaiting commands) l up h = (omega (arith, h.0), up h.1)
 deed_more n a b claimed total deed l up h = h
 
@@ -95,78 +124,109 @@ tasks_kept {n = n} {a = a} {m = m} {f = f} {tasks = tasks} {shorts = shorts} k h
 
 -- One task changes
 
-deed_tag : (tag : ℕ) (deed : Deed) (t : Task) → (with_deed tag deed t).tag ≡ t.tag
-deed_tag tag deed t = by (is_task_of tag t)
-  where
-    by : (b : Bool) → (if b then record t { deed = deed } else t).tag ≡ t.tag
-    by true = refl
-    by false = refl
+-- the task of the tag becomes another one of the same tag; any other task stays
+abbrev pub at_tag : ℕ → (Task → Task) → Task → Task
+at_tag tag f task = if is_task_of tag task then f task else task
+
+abbrev pub SameTag : (Task → Task) → Type 0
+SameTag f = (t : Task) → (f t).tag ≡ t.tag
+
+pub changed_tag : (tag : ℕ) (f : Task → Task) → SameTag f → SameTag (at_tag tag f)
+changed_tag tag f same t = if_both (λ (x : Task). x.tag ≡ t.tag) (is_task_of tag t) (same t) refl
+
+none_at_tag : (tag : ℕ) (f : Task → Task) (tasks : List Task) → list_any (is_task_of tag) tasks ≡ false →
+    map (at_tag tag f) tasks ≡ tasks
+none_at_tag tag f [] h = refl
+none_at_tag tag f (t ∷ ts) h =
+    let both = or_parts (is_task_of tag t) (list_any (is_task_of tag) ts) h in
+    λ i. cond-false (is_task_of tag t) (f t) t both.0 i ∷ none_at_tag tag f ts both.1 i
 
 pub none_changed : (tag : ℕ) (deed : Deed) (tasks : List Task) → list_any (is_task_of tag) tasks ≡ false →
     map (with_deed tag deed) tasks ≡ tasks
-none_changed tag deed [] h = refl
-none_changed tag deed (t ∷ ts) h =
-    let both = or_parts (is_task_of tag t) (list_any (is_task_of tag) ts) h in
-    λ i. cond-false (is_task_of tag t) (record t { deed = deed }) t both.0 i ∷ none_changed tag deed ts both.1 i
+none_changed tag deed tasks h = none_at_tag tag (λ t. record t { deed = deed }) tasks h
 
 -- the others stay
-rest_stays : (tag : ℕ) (deed : Deed) (t : Task) {ts : List Task} → TasksDiffer (t ∷ ts) → is_task_of tag t ≡ true →
-    map (with_deed tag deed) ts ≡ ts
-rest_stays tag deed t {ts} differ e = none_changed tag deed ts
+rest_stays : (tag : ℕ) (f : Task → Task) (t : Task) {ts : List Task} → TasksDiffer (t ∷ ts) →
+    is_task_of tag t ≡ true → map (at_tag tag f) ts ≡ ts
+rest_stays tag f t {ts} differ e = none_at_tag tag f ts
     (subst (λ (n : ℕ). list_any (is_task_of n) ts ≡ false) (eqb-true t.tag tag e) differ.0)
 
 -- a fact of each task stays, where it holds of the one that changes
-pub each_set : (P : Task → Type 0) (tag : ℕ) {task : Task} (deed : Deed) (tasks : List Task) → TasksDiffer tasks →
-    task_of tag tasks ≡ Some task → P (record task { deed = deed }) → AllByRecursion P tasks →
-    AllByRecursion P (map (with_deed tag deed) tasks)
-each_set P tag deed [] differ found p all = tt
-each_set P tag {task} deed (t ∷ ts) differ found p all =
-    by (is_task_of tag t) refl found (λ k. each_set P tag deed ts differ.1 k p all.1)
+pub each_at_tag : (P : Task → Type 0) (tag : ℕ) {task : Task} (f : Task → Task) (tasks : List Task) →
+    TasksDiffer tasks → task_of tag tasks ≡ Some task → P (f task) → AllByRecursion P tasks →
+    AllByRecursion P (map (at_tag tag f) tasks)
+each_at_tag P tag f [] differ found p all = tt
+each_at_tag P tag {task} f (t ∷ ts) differ found p all =
+    by (is_task_of tag t) refl found (λ k. each_at_tag P tag f ts differ.1 k p all.1)
   where
     by : (b : Bool) → is_task_of tag t ≡ b → cond b (Some t) (task_of tag ts) ≡ Some task →
-        (task_of tag ts ≡ Some task → AllByRecursion P (map (with_deed tag deed) ts)) →
-        P (if b then record t { deed = deed } else t) × AllByRecursion P (map (with_deed tag deed) ts)
+        (task_of tag ts ≡ Some task → AllByRecursion P (map (at_tag tag f) ts)) →
+        P (if b then f t else t) × AllByRecursion P (map (at_tag tag f) ts)
     by true e k rest = (
-      subst (λ (x : Task). P (record x { deed = deed })) (sym (same_Some t task k)) p,
-      subst (AllByRecursion P) (sym (rest_stays tag deed t differ e)) all.1,
+      subst (λ (x : Task). P (f x)) (sym (same_Some t task k)) p,
+      subst (AllByRecursion P) (sym (rest_stays tag f t differ e)) all.1,
     )
     by false e k rest = (all.0, rest k)
 
-claims_set : (n : Numbers) (tag : ℕ) {task : Task} (deed : Deed) (tasks : List Task) → TasksDiffer tasks →
+pub each_set : (P : Task → Type 0) (tag : ℕ) {task : Task} (deed : Deed) (tasks : List Task) → TasksDiffer tasks →
+    task_of tag tasks ≡ Some task → P (record task { deed = deed }) → AllByRecursion P tasks →
+    AllByRecursion P (map (with_deed tag deed) tasks)
+each_set P tag deed tasks differ found p all = each_at_tag P tag (λ t. record t { deed = deed }) tasks differ found p
+    all
+
+claims_at_tag : (n : Numbers) (tag : ℕ) {task : Task} (f : Task → Task) (tasks : List Task) → TasksDiffer tasks →
     task_of tag tasks ≡ Some task →
-    claims_of n (map (with_deed tag deed) tasks) + claim_of n task ≡ claims_of n tasks + claimed_by n deed task.command
-claims_set n tag deed [] differ found = cc
-claims_set n tag {task} deed (t ∷ ts) differ found =
-    by (is_task_of tag t) refl found (λ k. claims_set n tag deed ts differ.1 k)
+    claims_of n (map (at_tag tag f) tasks) + claim_of n task ≡ claims_of n tasks + claim_of n (f task)
+claims_at_tag n tag f [] differ found = cc
+claims_at_tag n tag {task} f (t ∷ ts) differ found =
+    by (is_task_of tag t) refl found (λ k. claims_at_tag n tag f ts differ.1 k)
   where
     by : (b : Bool) → is_task_of tag t ≡ b → cond b (Some t) (task_of tag ts) ≡ Some task →
-        (task_of tag ts ≡ Some task → claims_of n (map (with_deed tag deed) ts) + claim_of n task
-        ≡ claims_of n ts + claimed_by n deed task.command) →
-        claim_of n (if b then record t { deed = deed } else t) + claims_of n (map (with_deed tag deed) ts)
-        + claim_of n task ≡ claims_of n (t ∷ ts) + claimed_by n deed task.command
+        (task_of tag ts ≡ Some task → claims_of n (map (at_tag tag f) ts) + claim_of n task
+        ≡ claims_of n ts + claim_of n (f task)) →
+        claim_of n (if b then f t else t) + claims_of n (map (at_tag tag f) ts)
+        + claim_of n task ≡ claims_of n (t ∷ ts) + claim_of n (f task)
     by true e k rest =
-        let same = ap (claims_of n) (rest_stays tag deed t differ e) in
+        let same = ap (claims_of n) (rest_stays tag f t differ e) in
         let was = ap (claim_of n) (same_Some t task k) in
-        let is = ap (λ (x : Task). claimed_by n deed x.command) (same_Some t task k) in
+        let is = ap (λ (x : Task). claim_of n (f x)) (same_Some t task k) in
         omega arith
     by false e k rest = let r = rest k in omega arith
 
--- the task of a tag does something else from now on, with so many claims left
+-- the task of a tag becomes another one from now on, with so many claims left
+pub task_changes : {n : Numbers} {a b : ℕ} {m w : Bool} {c d : ℕ} {task : Task} (tag : ℕ) (f : Task → Task)
+    {tasks : List Task} {shorts : List Short} → SameTag f → a ≤ b → (m ≡ true → w ≡ true) →
+    task_of tag tasks ≡ Some task → DeedFits n b w (claim_of n (f task)) (f task).length (f task).deed →
+    c + claim_of n (f task) ≤ d + claim_of n task →
+    TasksRight n a m c tasks shorts → TasksRight n b w d (map (at_tag tag f) tasks) shorts
+task_changes {n = n} {a = a} {b = b} {m = m} {w = w} {task = task} tag f {tasks} {shorts} same l up there new more h =
+    record {
+      deeds = each_at_tag (λ (t : Task). DeedFits n b w (claim_of n t) t.length t.deed) tag f tasks h.tasks_differ
+          there new (deeds_more n a b tasks l up h.deeds);
+      waits = shorts_more a b shorts l up h.waits;
+      tasks_differ = differ_map tag_of (at_tag tag f) (changed_tag tag f same) tasks h.tasks_differ;
+      shorts_differ = h.shorts_differ;
+      apart = apart_map (at_tag tag f) (changed_tag tag f same) shorts tasks h.apart;
+      claimed = let e = claims_at_tag n tag f tasks h.tasks_differ there in omega (arith, h.claimed);
+    }
+
+-- it does something else
 pub task_set : {n : Numbers} {a b : ℕ} {m w : Bool} {c d : ℕ} {task : Task} (tag : ℕ) (deed : Deed)
     {tasks : List Task} {shorts : List Short} → a ≤ b → (m ≡ true → w ≡ true) → task_of tag tasks ≡ Some task →
     DeedFits n b w (claimed_by n deed task.command) task.length deed →
     c + claimed_by n deed task.command ≤ d + claim_of n task →
     TasksRight n a m c tasks shorts → TasksRight n b w d (map (with_deed tag deed) tasks) shorts
-task_set {n = n} {a = a} {b = b} {m = m} {w = w} {task = task} tag deed {tasks} {shorts} l up there new more h =
-    record {
-      deeds = each_set (λ (t : Task). DeedFits n b w (claim_of n t) t.length t.deed) tag deed tasks h.tasks_differ
-          there new (deeds_more n a b tasks l up h.deeds);
-      waits = shorts_more a b shorts l up h.waits;
-      tasks_differ = differ_map tag_of (with_deed tag deed) (deed_tag tag deed) tasks h.tasks_differ;
-      shorts_differ = h.shorts_differ;
-      apart = apart_map (with_deed tag deed) (deed_tag tag deed) shorts tasks h.apart;
-      claimed = let e = claims_set n tag deed tasks h.tasks_differ there in omega (arith, h.claimed);
-    }
+task_set tag deed l up there new more h =
+    task_changes tag (λ t. record t { deed = deed }) (λ t. refl) l up there new more h
+
+-- it has a request, and does this
+pub task_requests : {n : Numbers} {a b : ℕ} {m w : Bool} {c d : ℕ} {task : Task} (tag : ℕ) (request : RpmbRequest)
+    (deed : Deed) {tasks : List Task} {shorts : List Short} → a ≤ b → (m ≡ true → w ≡ true) →
+    task_of tag tasks ≡ Some task → DeedFits n b w (claimed_by n deed task.command) task.length deed →
+    c + claimed_by n deed task.command ≤ d + claim_of n task →
+    TasksRight n a m c tasks shorts → TasksRight n b w d (map (with_request tag request deed) tasks) shorts
+task_requests tag request deed l up there new more h =
+    task_changes tag (λ t. record t { deed = deed; request = Some request }) (λ t. refl) l up there new more h
 
 -- One task more
 

@@ -10,7 +10,7 @@ use Rattle.ufs_laws.proofs.array_cells.StandsForOne.{cells_one, mark_one}
 use Rattle.ufs_laws.proofs.pages.PageIsOneCell.{one_cell}
 use Rattle.ufs_laws.proofs.array_cells.StandsForSomething.{stands_for_something, within_dies}
 use Rattle.ufs_laws.proofs.plain_contents.PlainFromContents.{contents_there, state_is_plain}
-use Rattle.ufs_spec.specs.Exchanges.{empty_registers}
+use Rattle.ufs_spec.specs.Exchanges.{all_empty}
 use Rattle.ufs_spec.specs.Openings.{IsOpenedDisk, IsOpenedLedger}
 use Rattle.power_loss.proofs.openings.OpenedFromPages.{cells_right}
 use Rattle.power_loss.proofs.openings.FoundInCells.{first_of, is_entry, mending_at, some_top, stands_at}
@@ -142,7 +142,7 @@ module _ (n : Numbers) (c : Cells) (within : AreWithin n c) (bad : Spot → Bool
     tasks = [];
     shorts = [];
     power_on = false;
-    registers = empty_registers;
+    registers = all_empty;
   }
 
   opens : (array : Array) → Shows array c → StandsFor n array base → (s : State) × IsOpened n array bad s

@@ -3,13 +3,14 @@ use Rattle.std.proofs.Common.{◌≡◌, ◌∙◌, ℕ, suc, List, Option, Some
 use Rattle.std.proofs.Common.{inl, inr, arith}
 use Rattle.ufs_spec.specs.Cells.{Cells, Mark, key_of}
 use Rattle.ufs_spec.specs.Kept.{Counts, Holds, IsNewest}
-use Rattle.ufs_spec.specs.Ledger.{Entry, Name}
+use Rattle.ufs_spec.specs.Ledger.{Entry}
 use Rattle.ufs_spec.specs.Openings.{IsEntry, IsFirst}
 use Rattle.ufs_spec.specs.Sound.{CellsSound}
 use Rattle.ufs_spec.specs.Translation.{name_of}
 use Rattle.ufs_spec.specs.declared.flash.Key.{Key}
 use Rattle.ufs_spec.specs.declared.flash.Place.{Place}
 use Rattle.ufs_spec.specs.declared.flash.Tag.{Tag}
+use Rattle.ufs_spec.specs.declared.layer.Name.{Name}
 
 -- the newest page of a key that counts holds the key's content
 body_held : (c : Cells) (m : Option Mark) (bound : ℕ) (k : Key) (p : Place) (t : Tag) (body x : List ℕ) →

@@ -1,4 +1,5 @@
 -- A device that was opened over a sound array is in a valid state.
+use Rattle.power_loss.proofs.laid_rests.LaidStay.{none_laid}
 use Rattle.power_loss.proofs.Common.{◌≡◌, ℕ, zero, suc, ◌≤◌, Bool, true, List, [], ◌∷◌, Some, drop, refl, sym, ap, ◌∙◌}
 use Rattle.power_loss.proofs.Common.{subst, arith, Array, Cell, IsCell, Shows, Programming, Spot, page_of, CanApplyAll}
 use Rattle.power_loss.proofs.Common.{Group, IsKey, IsPlain, content, groups_of, IsNewestMark, accepted_groups}
@@ -107,6 +108,7 @@ module _ (n : Numbers) (array : Array) (bad : Spot → Bool) (s : State) (config
     config = config_is;
     shown = subst (λ z. Shows z s.translation.disk.cells) (sym h.array_now) cells_shown;
     valid = valid_is;
+    laid = none_laid h.translation.no_rests;
     fits = book_fits array bad s.translation is_opened cells_shown;
     flights = flights_is;
     base = base_is;

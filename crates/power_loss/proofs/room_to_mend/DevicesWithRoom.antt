@@ -32,7 +32,7 @@ use Rattle.power_loss.proofs.room_to_mend.RoomInBlocks.{opening_alone, opening_r
 -- What a call does first
 
 -- a program or an erase failed, as the call says
-abbrev ends_badly : Call → Bool
+abbrev pub ends_badly : Call → Bool
 ends_badly (Done die (WentWrong cells) left) = true
 ends_badly call = false
 
@@ -70,11 +70,11 @@ abbrev StillMends : ℕ → State → State → Type 0
 StillMends k s t =
     (mended t ≡ mended s) × (mended s ≡ false → Mends k s.translation → Mends k t.translation)
 
-small_fails : (move : Move) → IsSmallMove move → fails_job move ≡ false
+pub small_fails : (move : Move) → IsSmallMove move → fails_job move ≡ false
 small_fails (EndJob die ending) small = absurd small
 small_fails move small = refl
 
-no_failure : (b : Bool) (k : ℕ) → b ≡ false → k ≡ k + (if b then 1 else 0)
+pub no_failure : (b : Bool) (k : ℕ) → b ≡ false → k ≡ k + (if b then 1 else 0)
 no_failure true k h = absurd (true≢false h)
 no_failure false k h = omega arith
 
@@ -115,7 +115,7 @@ failure_badly s die (Some (Programming place cell)) l ending left by h = absurd 
 failure_badly s die (Some (Erasing spot)) l ending left by h = absurd h
 
 -- a call fails a program or an erase where its event does
-event_badly : (s : State) (e : Event) (call : Call) → IsCall s e call → ends_badly call ≡ makes_bad e
+pub event_badly : (s : State) (e : Event) (call : Call) → IsCall s e call → ends_badly call ≡ makes_bad e
 event_badly s (event.Host bytes) call h = ap ends_badly h.2
 event_badly s event.Reply call h = ap ends_badly h
 event_badly s (event.Take die) call h = ap ends_badly h

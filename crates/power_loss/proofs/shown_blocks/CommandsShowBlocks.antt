@@ -19,7 +19,9 @@ use Rattle.power_loss.proofs.host_commands.PassedCommands.{Passed, passed, ready
 use Rattle.power_loss.proofs.shown_blocks.LooksShowContents.{look_shows}
 use Rattle.power_loss.proofs.shown_contents.MovesKeepShown.{kept_ledger, kept_pins}
 use Rattle.power_loss.proofs.shown_blocks.PinsShowBlocks.{Show, more_goes, show_goes}
-use Rattle.ufs_laws.proofs.walk.WaysOfCommands.{Beginning, Reading, Waiting, WhyBegun, begins_by, begun_as}
+use Rattle.ufs_laws.proofs.walk.WaysOfCommands.{Beginning, Gathered, Handing, Reading, WhyBegun, begins_by, begun_as}
+use Rattle.power_loss.specs.Shown.{ShowsAt}
+use Rattle.power_loss.proofs.Common.{Key, content}
 
 pub shows_if : (b : Bool) (t u : State) → ShowsReads t → ShowsReads u → ShowsReads (if b then t else u)
 shows_if true t u h k = h
@@ -32,6 +34,23 @@ opens : (s : State) (r : Request) (c : Option Cdb) (n : ℕ) (deed : Deed) → S
 opens s r c n deed h = show_goes s.translation.ledger s.tasks (with_task s r c n deed).tasks s.translation.pins
     (more_goes s.tasks _) h
 
+-- what is looked up now of a key shows the content that a list of blocks has for the key
+pub made_shows : {s : State} (k : ℕ → Key) (body : ℕ → List ℕ) (m i : ℕ) → IsTied s →
+    is_mended s.translation.work.mending ≡ true → ((j : ℕ) → body j ≡ content (plain_now s) (k j)) →
+    IsKey (shape_of_numbers (numbers_of s)) (k i) →
+    ShowsAt s.translation.ledger (look s.translation.ledger (k i)) i
+    (map (λ (j : ℕ). record { body = body j; state = Unread }) (below m))
+made_shows {s} k body m i v mended same key block at =
+    let f : ℕ → ReadBlock = λ (j : ℕ). record { body = body j; state = Unread } in
+    let long = length-made f m in
+    let short = slice_get_within (map f (below m)) i block at in
+    let is : block ≡ f i = sym (get_or_from_slice_get (map f (below m)) i block block at)
+    ∙ get_or-made f m i block (omega (arith, long, short)) in (
+      k i,
+      subst (λ (x : List ℕ). IsShown s.translation.ledger (k i) (look s.translation.ledger (k i)) x)
+          (sym (same i) ∙ ap (λ (x : ReadBlock). x.body) (sym is)) (look_shows s (k i) v mended key),
+    )
+
 -- a block of a READ that begins
 block_shows : {s : State} (unit address m n i : ℕ) → IsTied s → is_mended s.translation.work.mending ≡ true →
     IsKey (shape_of_numbers (numbers_of s)) (data_key unit (address + i)) → ShowsBlock s.translation.ledger
@@ -42,18 +61,8 @@ block_shows {s} unit address m n i v mended key = by (read_blocks s unit address
         ShowsBlock s.translation.ledger (look s.translation.ledger (data_key unit (address + i))) i (sending blocks n)
     by [] e = tt
     by (b ∷ bs) e = λ block at.
-        let f : ℕ → ReadBlock = λ (j : ℕ). record { body = block_at unit (address + j) (plain_now s); state = Unread }
-        in
-        let here : slice_get (map f (below m)) i ≡ Some block = ap (λ (xs : List ReadBlock). slice_get xs i) e ∙ at in
-        let long = length-made f m in
-        let short = slice_get_within (map f (below m)) i block here in
-        let is : block ≡ f i = sym (get_or_from_slice_get (map f (below m)) i block block here)
-        ∙ get_or-made f m i block (omega (arith, long, short)) in (
-          data_key unit (address + i),
-          subst (λ (x : ReadBlock). IsShown s.translation.ledger (data_key unit (address + i))
-              (look s.translation.ledger (data_key unit (address + i))) x.body) (sym is)
-              (look_shows s (data_key unit (address + i)) v mended key),
-        )
+        made_shows (λ j. data_key unit (address + j)) (λ j. block_at unit (address + j) (plain_now s)) m i v mended
+        (λ j. refl) key block (ap (λ (xs : List ReadBlock). slice_get xs i) e ∙ at)
 
 read_shows : {s : State} (r : Request) (command : Cdb) (unit address n : ℕ) → IsTied s →
     is_mended s.translation.work.mending ≡ true → IsFree s r.tag → KeysOfDevice s unit address (blocks_expected r n) →
@@ -93,7 +102,8 @@ begun_shows s r command v free p op h = begins_by ShowsReads s r unit command on
         (subst (λ (x : ℕ). ShowsReads (read_begun s r command unit x n)) (sym address_is)
         (read_shows r command unit (address_of command) n v (ready_now s command needs p.ready) free
         (keys_read size reads p) h))
-    one Waiting why = opens s r _ _ _ h
+    one (Handing region n) why = opens s r _ _ _ h
+    one (Gathered count purpose n) why = opens s r _ _ _ h
     one b why = opens s r _ _ _ h
 
 opened_shows : {s : State} (r : Request) → IsTied s → IsFree s r.tag → IsSpelled r → (x : Option Status) →
@@ -103,7 +113,7 @@ opened_shows {s} r v free spelled None e h = by r.cdb refl
   where
     by : (c : Option Cdb) → r.cdb ≡ c → ShowsReads (begun_if_any s r c)
     by None k = h
-    by (Some command) k = begun_shows s r command v free (passed s r command k e) (spelled command k) h
+    by (Some command) k = begun_shows s r command v free (passed s r command k e) (spelled command k).0 h
 
 pub command_shows : {s : State} (r : Request) → IsTied s → IsFree s r.tag → IsSpelled r → ShowsReads s →
     ShowsReads (command_taken s r)

@@ -1,12 +1,12 @@
 -- What is kept for a READ shows the blocks that the READ sends, at each moment of a life; and so the page that is read
--- for
--- it has them.
+-- for it has them.
 use Rattle.power_loss.proofs.Common.{◌≡◌, ℕ, zero, suc, Bool, true, false, if◌then◌else◌, All, List, [], ◌∷◌, Option}
 use Rattle.power_loss.proofs.Common.{Some, None, fold, map, refl, sym, ap, ◌∙◌, subst, Ok, All-contains, All-nil}
 use Rattle.power_loss.proofs.Common.{none-some, same_Some, Array, key_of, Flight, ForTask, Reader, Reading, Spot, Entry}
 use Rattle.power_loss.proofs.Common.{Ledger, Looked, Name, OnPage, EndJob, Ending, ReadRight, ReadWrong, end_flight}
 use Rattle.power_loss.proofs.Common.{moved, Pin, Numbers, Place, IsGroupPage, Valid}
-use Rattle.power_loss.proofs.MachineWords.{Answering, Awaiting, Deed, NotRead, ReadBlock, ReadState, Sending, Task}
+use Rattle.power_loss.proofs.MachineWords.{Answering, Awaiting, Deed, Gathering, NotRead, ReadBlock, ReadState}
+use Rattle.power_loss.proofs.MachineWords.{ReadingArea, Sending, Task}
 use Rattle.power_loss.proofs.MachineWords.{WasRead, is_task_of, task_of, write_error, IsOpened, Life, Allowed, Answer}
 use Rattle.power_loss.proofs.MachineWords.{Reply, Call, Faulty, Done, OfDone, Take, OfTake, Heard, OfHost, Host}
 use Rattle.power_loss.proofs.MachineWords.{OfReply, Spelled, Turn, OfTurn, behind, deed_locked, deed_read, deed_reply}
@@ -23,6 +23,7 @@ use Rattle.ufs_spec.specs.Machine.{is_at_hand}
 use Rattle.ufs_spec.specs.Machine.{next_block_reply, pin_of}
 use Rattle.ufs_spec.specs.Machine.{set_state, with_block}
 use Rattle.ufs_laws.proofs.walk.SmallChanges.{fills_task, first, job_over, reads}
+use Rattle.power_loss.specs.Shown.{ShowsAt}
 use Rattle.power_loss.proofs.calls.CallsKeepTied.{first_keeps, no_fault}
 use Rattle.power_loss.proofs.shown_contents.MessagesKeepShown.{heard_shows, replied_shows}
 use Rattle.power_loss.proofs.lives.EachEventKeeps.{event_comes, one_event}
@@ -60,6 +61,11 @@ read_same index state (Sending blocks sent) = λ l x i h block at.
     let old = block_old blocks index i state (slice_get blocks index) refl at in
     let shown = h old.0 old.1 in
     (shown.0, subst (IsShown l shown.0 x) old.2 shown.1)
+read_same index state (ReadingArea pages) = λ l x i h page at.
+    let old = block_old pages index i state (slice_get pages index) refl at in
+    let shown = h old.0 old.1 in
+    (shown.0, subst (IsShown l shown.0 x) old.2 shown.1)
+read_same index state (Gathering purpose gathered asked) = λ l x i h. h
 read_same index state deed = λ l x i h. tt
 
 task_read_same : (tag index : ℕ) (state : ReadState) (task : Task) →
@@ -181,7 +187,28 @@ life_shows s t es os v h life = absurd life
 
 -- The page that is read
 
--- what a pin shows of a task is its page's body
+-- a pin on a page shows what the deed of its task needs
+kept_shows : (s : State) (pin : Pin) (task : Task) (deed : Deed) (name : Name) (place : Place) → ShowsReads s →
+    Contains s.translation.pins pin → task_of pin.tag s.tasks ≡ Some task → task.deed ≡ deed →
+    pin.looked ≡ OnPage name place → ShowsBlock s.translation.ledger (OnPage name place) pin.index deed
+kept_shows s pin task deed name place h in' there is looked =
+    let r = All-contains (ShowsRight s.translation.ledger s.tasks) s.translation.pins pin h in' in
+    let one : r.task ≡ task = same_Some r.task task (sym r.there ∙ there) in
+    subst (ShowsBlock s.translation.ledger (OnPage name place) pin.index) (ap (λ (x : Task). x.deed) one ∙ is)
+    (subst (λ (x : Looked). ShowsBlock s.translation.ledger x pin.index r.task.deed) looked r.shows)
+
+-- what is shown is the page's body
+shown_body : (s : State) (index : ℕ) (blocks : List ReadBlock) (block : ReadBlock) (name : Name) (place : Place) →
+    IsTied s → ShowsAt s.translation.ledger (OnPage name place) index blocks → slice_get blocks index ≡ Some block →
+    (g : IsGroupPage s.translation.disk.cells s.translation.disk.finished s.translation.disk.erasing name place) →
+    g.body ≡ block.body
+shown_body s index blocks block name place v shows at g =
+    let page = (shows block at).1 in
+    let e : Entry = record { item = record { key = key_of g.tag; body = g.body }; size = g.tag.size } in
+    let same : e ≡ page.entry = same_Some e page.entry (sym (page_known s.translation name place v.valid g) ∙ page.is)
+    in
+    ap (λ (x : Entry). x.item.body) same ∙ page.body_is
+
 pub page_body : (s : State) (pin : Pin) (task : Task) (blocks : List ReadBlock) (sent : ℕ) (block : ReadBlock)
     (name : Name) (place : Place) → IsTied s → ShowsReads s →
     Contains s.translation.pins pin → task_of pin.tag s.tasks ≡ Some task → task.deed ≡ Sending blocks sent →
@@ -189,16 +216,19 @@ pub page_body : (s : State) (pin : Pin) (task : Task) (blocks : List ReadBlock) 
     (g : IsGroupPage s.translation.disk.cells s.translation.disk.finished s.translation.disk.erasing name place) →
     g.body ≡ block.body
 page_body s pin task blocks sent block name place v h in' there deed at looked g =
-    let r = All-contains (ShowsRight s.translation.ledger s.tasks) s.translation.pins pin h in' in
-    let one : r.task ≡ task = same_Some r.task task (sym r.there ∙ there) in
-    let shows : ShowsBlock s.translation.ledger (OnPage name place) pin.index (Sending blocks sent) =
-    subst (ShowsBlock s.translation.ledger (OnPage name place) pin.index) (ap (λ (x : Task). x.deed) one ∙ deed)
-    (subst (λ (x : Looked). ShowsBlock s.translation.ledger x pin.index r.task.deed) looked r.shows) in
-    let page = (shows block at).1 in
-    let e : Entry = record { item = record { key = key_of g.tag; body = g.body }; size = g.tag.size } in
-    let same : e ≡ page.entry = same_Some e page.entry (sym (page_known s.translation name place v.valid g) ∙ page.is)
-    in
-    ap (λ (x : Entry). x.item.body) same ∙ page.body_is
+    shown_body s pin.index blocks block name place v
+    (kept_shows s pin task (Sending blocks sent) name place h in' there deed looked) at g
+
+-- so it is with a page that a request for RPMB data reads
+pub area_body : (s : State) (pin : Pin) (task : Task) (pages : List ReadBlock) (page : ReadBlock) (name : Name)
+    (place : Place) → IsTied s → ShowsReads s → Contains s.translation.pins pin →
+    task_of pin.tag s.tasks ≡ Some task → task.deed ≡ ReadingArea pages → slice_get pages pin.index ≡ Some page →
+    pin.looked ≡ OnPage name place →
+    (g : IsGroupPage s.translation.disk.cells s.translation.disk.finished s.translation.disk.erasing name place) →
+    g.body ≡ page.body
+area_body s pin task pages page name place v h in' there deed at looked g =
+    shown_body s pin.index pages page name place v
+    (kept_shows s pin task (ReadingArea pages) name place h in' there deed looked) at g
 
 -- and it goes out
 pub page_sent : (s : State) (pin : Pin) (task : Task) (blocks : List ReadBlock) (sent : ℕ) (block : ReadBlock)

@@ -23,7 +23,7 @@ use Rattle.power_loss.proofs.books.LayerParts.{MendingOf}
 -- Groups that are put
 
 -- of groups in which the key does not stand it keeps its content
-put_none : (f : Contents) (k : Key) (gs : List Group) → NoneOf k gs → put_groups f gs k ≡ f k
+pub put_none : (f : Contents) (k : Key) (gs : List Group) → NoneOf k gs → put_groups f gs k ≡ f k
 put_none f k [] none = refl
 put_none f k (g ∷ gs) none = put_none (put_group f g) k gs (λ j i h x a b c. none (suc j) i h x a b c)
     ∙ here g (λ i x a c. none 0 i g x refl a c)
@@ -37,7 +37,7 @@ put_none f k (g ∷ gs) none = put_none (put_group f g) k gs (λ j i h x a b c. 
         by false e rest = rest
 
 -- of the last group that has it, it takes the body of its item there
-put_at : (f : Contents) {k : Key} (gs : List Group) (j i : ℕ) (g : Group) (x : Item) → slice_get gs j ≡ Some g →
+pub put_at : (f : Contents) {k : Key} (gs : List Group) (j i : ℕ) (g : Group) (x : Item) → slice_get gs j ≡ Some g →
     slice_get g i ≡ Some x → x.key ≡ k → ((m : ℕ) (y : Item) → slice_get g m ≡ Some y → y.key ≡ k → y.body ≡ x.body) →
     ((l m : ℕ) (h : Group) (y : Item) → slice_get gs l ≡ Some h → slice_get h m ≡ Some y → y.key ≡ k → l ≤ j) →
     put_groups f gs k ≡ x.body
@@ -65,7 +65,7 @@ put_at f {k} (h ∷ gs) zero i g x a b c one last =
 -- Names
 
 -- the page of a name has the key's content, or none is needed
-abbrev HasContent : Ledger → Key → Option Name → List ℕ → Type 0
+abbrev pub HasContent : Ledger → Key → Option Name → List ℕ → Type 0
 HasContent l k None body = body ≡ zero_block
 HasContent l k (Some name) body = IsPageOf l k name body
 
@@ -137,7 +137,7 @@ last_content {t} {k} v r =
         (same ∙ sym r.key) in
         ap (λ (x : Item). x.body) (same_Some y r.item (sym h ∙ ap (slice_get r.group) index ∙ r.has))
 
-latest_has : {t : Translation} {k : Key} → Valid t → t.work.mending ≡ Mended → IsKey (shape_of_numbers t.numbers) k →
+pub latest_has : {t : Translation} {k : Key} → Valid t → t.work.mending ≡ Mended → IsKey (shape_of_numbers t.numbers) k →
     HasContent t.ledger k (latest t.ledger k) (put_groups t.ledger.base t.ledger.groups k)
 latest_has {t} {k} v mended is = ⊎_elim (last_content v)
     (λ (r : (latest t.ledger k ≡ t.ledger.first_page k) × NoneOf k t.ledger.groups).
@@ -152,7 +152,7 @@ latest_has {t} {k} v mended is = ⊎_elim (last_content v)
 -- Looks
 
 -- what has the content holds it wherever it is looked up
-looked_has : {t : Translation} (k : Key) (o : Option Name) (body : List ℕ) → Valid t → HasContent t.ledger k o body →
+pub looked_has : {t : Translation} (k : Key) (o : Option Name) (body : List ℕ) → Valid t → HasContent t.ledger k o body →
     IsShown t.ledger k (looked_at t.ledger o) body
 looked_has k None body v h = h
 looked_has {t} k (Some name) body v h = by (nat_lt t.ledger.frontier name.number) refl

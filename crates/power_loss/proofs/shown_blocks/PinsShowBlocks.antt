@@ -4,12 +4,14 @@ use Rattle.power_loss.proofs.Common.{◌++◌, Some, fold, map, refl, sym, ap, �
 use Rattle.power_loss.proofs.Common.{All-filter, All-head, All-nil, All-tail, All-weaker, false≢true, none-some}
 use Rattle.power_loss.proofs.Common.{same_Some, eqb-self, eqb-true, cond-false, cond-true, Entry, InSlot, Ledger}
 use Rattle.power_loss.proofs.Common.{Looked, Name, OnPage, Unwritten, moved, Pin, Translation, Key, Numbers}
-use Rattle.power_loss.proofs.MachineWords.{Deed, Sending, Task, is_task_of, task_of, with_deed, abort_moves, fill_moves}
+use Rattle.power_loss.proofs.MachineWords.{Deed, Gathering, ReadingArea, RpmbRequest, Sending, Task, is_task_of}
+use Rattle.power_loss.proofs.MachineWords.{task_of}
+use Rattle.power_loss.proofs.MachineWords.{with_deed, with_request, abort_moves, fill_moves}
 use Rattle.power_loss.proofs.MachineWords.{IsShown, ShowsBlock, ShowsRight}
 use Rattle.std.proofs.Common.{filter, find}
 use Rattle.std.specs.Prelude.{◌||◌}
 use Rattle.ufs_spec.specs.Ledger.{entry_of}
-use Rattle.ufs_laws.proofs.walk.SmallChanges.{does}
+use Rattle.power_loss.proofs.open_tasks.TaskLists.{SameTag, at_tag, changed_tag}
 use Rattle.power_loss.proofs.open_tasks.FoundInLists.{found_is, found_map, found_more}
 use Rattle.power_loss.proofs.collected_blocks.FewestLivePages.{in_any}
 use Rattle.power_loss.proofs.ordered_lists.ElementsAndOrders.{found_in, kept_in}
@@ -35,6 +37,9 @@ pub block_reshown : (l m : Ledger) (x y : Looked) (index : ℕ) (deed : Deed) �
     ShowsBlock l x index deed → ShowsBlock m y index deed
 block_reshown l m x y index (Sending blocks sent) again h = λ block at. let r = h block at in
     (r.0, again r.0 block.body r.1)
+block_reshown l m x y index (ReadingArea pages) again h = λ page at. let r = h page at in
+    (r.0, again r.0 page.body r.1)
+block_reshown l m x y index (Gathering purpose gathered asked) again h = h
 block_reshown l m x y index deed again h = tt
 
 abbrev pub Show : Ledger → List Task → List Pin → Type 0
@@ -75,38 +80,45 @@ pub map_goes : (f : Task → Task) (tasks : List Task) → ((task : Task) → (f
 map_goes f tasks same blocks tag task found =
     (f task, found_map (is_task_of tag) f (λ x. ap (λ (n : ℕ). n == tag) (same x)) tasks task found, blocks task)
 
--- a deed that sends no blocks
-abbrev pub Silent : Deed → Type 0
-Silent deed = (l : Ledger) (x : Looked) (index : ℕ) → ShowsBlock l x index deed
+-- it is found as what it becomes
+pub changed_there : (tasks : List Task) (task : Task) (f : Task → Task) → SameTag f →
+    task_of task.tag tasks ≡ Some task → task_of task.tag (map (at_tag task.tag f) tasks) ≡ Some (f task)
+changed_there tasks task f own there =
+    found_map (is_task_of task.tag) (at_tag task.tag f)
+    (λ x. ap (λ (n : ℕ). n == task.tag) (changed_tag task.tag f own x)) tasks task there
+    ∙ ap Some (cond-true (is_task_of task.tag task) (f task) task (eqb-self task.tag))
 
--- the task of the tag goes on with its blocks
-pub set_goes : (tasks : List Task) (task : Task) (deed : Deed) → task_of task.tag tasks ≡ Some task →
-    SameBlocks task.deed deed → Goes tasks (map (with_deed task.tag deed) tasks)
-set_goes tasks task deed there same tag other found = (
-  with_deed task.tag deed other,
-  found_map (is_task_of tag) (with_deed task.tag deed) (λ x. ap (λ (n : ℕ). n == tag) (does task.tag deed x).tag) tasks
+-- the task of the tag goes on with its blocks, as another one of the tag
+pub changed_goes : (tasks : List Task) (task : Task) (f : Task → Task) → SameTag f →
+    task_of task.tag tasks ≡ Some task → SameBlocks task.deed (f task).deed →
+    Goes tasks (map (at_tag task.tag f) tasks)
+changed_goes tasks task f own there same tag other found = (
+  at_tag task.tag f other,
+  found_map (is_task_of tag) (at_tag task.tag f) (λ x. ap (λ (n : ℕ). n == tag) (changed_tag task.tag f own x)) tasks
       other found,
   by (is_task_of task.tag other) refl,
 )
   where
-    by : (b : Bool) → is_task_of task.tag other ≡ b →
-        SameBlocks other.deed (if b then record other { deed = deed } else other).deed
+    by : (b : Bool) → is_task_of task.tag other ≡ b → SameBlocks other.deed (if b then f other else other).deed
     by false e = λ l x index h. h
     by true e =
         let own : other.tag ≡ task.tag = eqb-true other.tag task.tag e in
         let its : other.tag ≡ tag = eqb-true other.tag tag (found_is (is_task_of tag) tasks other found) in
         let one : other ≡ task =
         same_Some other task (sym found ∙ (ap (λ (n : ℕ). task_of n tasks) (sym its ∙ own) ∙ there)) in
-        subst (λ (x : Task). SameBlocks x.deed deed) (sym one) same
+        subst (λ (x : Task). SameBlocks x.deed (f x).deed) (sym one) same
 
-pub silent_goes : (tasks : List Task) (tag : ℕ) (deed : Deed) → Silent deed →
-    Goes tasks (map (with_deed tag deed) tasks)
-silent_goes tasks tag deed silent = map_goes (with_deed tag deed) tasks (λ task. (does tag deed task).tag)
-    (λ task. by task (is_task_of tag task))
-  where
-    by : (task : Task) (b : Bool) → SameBlocks task.deed (if b then record task { deed = deed } else task).deed
-    by task true = λ l x index h. silent l x index
-    by task false = λ l x index h. h
+-- it does something else
+pub set_goes : (tasks : List Task) (task : Task) (deed : Deed) → task_of task.tag tasks ≡ Some task →
+    SameBlocks task.deed deed → Goes tasks (map (with_deed task.tag deed) tasks)
+set_goes tasks task deed there same = changed_goes tasks task (λ x. record x { deed = deed }) (λ x. refl) there same
+
+-- it has a request too
+pub request_goes : (tasks : List Task) (task : Task) (request : RpmbRequest) (deed : Deed) →
+    task_of task.tag tasks ≡ Some task → SameBlocks task.deed deed →
+    Goes tasks (map (with_request task.tag request deed) tasks)
+request_goes tasks task request deed there same =
+    changed_goes tasks task (λ x. record x { deed = deed; request = Some request }) (λ x. refl) there same
 
 -- Fewer pins
 

@@ -1,4 +1,8 @@
 -- Each call keeps that what is kept for a READ shows the blocks that the READ sends, and so does a whole life.
+use Rattle.ufs_spec.specs.Plain.{region_of}
+use Rattle.power_loss.proofs.host_commands.GatheringTasks.{GathersIn, HasAll, HasMore, all_there, gathers_in}
+use Rattle.power_loss.proofs.host_commands.GatheringTasks.{more_there, no_more}
+use Rattle.power_loss.proofs.host_commands.ListsAndFrames.{frames_came, keys_of_area, reads_inside}
 use Rattle.power_loss.proofs.Common.{◌≡◌, ℕ, ◌+◌, ◌==◌, Bool, true, false, not, if◌then◌else◌, List, ◌++◌, Option, Some}
 use Rattle.power_loss.proofs.Common.{None, fold, length, map, refl, sym, ap, ◌∙◌, subst, flat_map, All-filter}
 use Rattle.power_loss.proofs.Common.{All-weaker, none-some, same_Some, group_of, Ledger, is_pin_of, moved, Pin}
@@ -7,7 +11,7 @@ use Rattle.power_loss.proofs.MachineWords.{ReadState, Sending, Short, Task, Send
 use Rattle.power_loss.proofs.MachineWords.{is_task_of, task_of, with_deed, Host, Spelled, abort_moves, accepts}
 use Rattle.power_loss.proofs.MachineWords.{complete, data_for, data_heard, deed_after, deed_after_block, heard}
 use Rattle.power_loss.proofs.MachineWords.{is_aborted, managed, message_fault, moves_after, replied_by, service}
-use Rattle.power_loss.proofs.MachineWords.{set_deed, short_replied, task_goes_on, with_moves, without_tasks}
+use Rattle.power_loss.proofs.MachineWords.{short_replied, task_goes_on, with_moves, without_tasks}
 use Rattle.power_loss.proofs.MachineWords.{opens_short, State, plain_now, numbers_of, Message, IsTied, MayCome}
 use Rattle.power_loss.proofs.MachineWords.{ShowsReads, ShowsRight}
 use Rattle.std.proofs.Common.{filter, find, nat_lt}
@@ -15,57 +19,147 @@ use Rattle.std.specs.Prelude.{slice_get}
 use Rattle.ufs_spec.specs.Machine.{deed_after_sent}
 use Rattle.ufs_spec.specs.Commands as command
 use Rattle.ufs_spec.specs.declared.messages.Message.TheVariants as message
-use Rattle.ufs_laws.proofs.walk.WaysOfCommands.{Accepted, Completion, IsAcceptedDeed, MeetsLock, Told, WhyCompleted}
-use Rattle.ufs_laws.proofs.walk.WaysOfCommands.{completed, completes_by}
-use Rattle.power_loss.proofs.calls.CallsKeepTied.{operation_is}
+use Rattle.ufs_spec.specs.Changes.{given_back}
+use Rattle.ufs_spec.specs.FrameRequests.{area_read, first_page, keeps_area, page_kept, pages_named}
+use Rattle.ufs_spec.specs.Frames.{Frame}
+use Rattle.ufs_spec.specs.Keys.{area_key}
+use Rattle.ufs_spec.specs.Machine.{gathered_more}
+use Rattle.ufs_spec.specs.Queries.{Query, setting_of}
+use Rattle.ufs_spec.specs.QueryAnswers.{query_failed, query_heard, query_passed}
+use Rattle.ufs_spec.specs.Stages.{regions}
+use Rattle.ufs_spec.proofs.Facts.{if_cases}
+use Rattle.ufs_laws.proofs.walk.Happenings.{code_of_query, is_asked as no_offence}
+use Rattle.ufs_laws.proofs.walk.WaysOfData.{Accepted, AcceptsFrames, Completion, HasResult, ReadsArea, Told}
+use Rattle.ufs_laws.proofs.walk.WaysOfData.{WhyCompleted}
+use Rattle.ufs_laws.proofs.walk.WaysOfData.{completed, completes_by}
+use Rattle.power_loss.proofs.calls.CallsKeepTied.{fields_fit, operation_is}
+use Rattle.power_loss.specs.WaitingFrames.{AsksInside}
 use Rattle.power_loss.proofs.open_tasks.FoundInLists.{found_is}
 use Rattle.power_loss.proofs.host_commands.OpenedByCommands.{is_free}
-use Rattle.power_loss.proofs.shown_contents.MovesKeepShown.{knows_more, wanted_shows}
+use Rattle.power_loss.proofs.shown_contents.MovesKeepShown.{kept_ledger, kept_pins, knows_more, wanted_shows}
 use Rattle.power_loss.proofs.books.SmallFacts.{eq_told}
-use Rattle.power_loss.proofs.shown_blocks.PinsShowBlocks.{SameBlocks, Show, Silent, aborted_ledger, aborted_pins}
+use Rattle.power_loss.proofs.shown_blocks.PinsShowBlocks.{SameBlocks, Show, aborted_ledger, aborted_pins, changed_there}
 use Rattle.power_loss.proofs.shown_blocks.PinsShowBlocks.{filter_passes, found_kept, set_goes, show_goes, show_known}
-use Rattle.power_loss.proofs.shown_blocks.PinsShowBlocks.{show_left, silent_goes}
-use Rattle.power_loss.proofs.shown_blocks.CommandsShowBlocks.{command_shows, shows_if}
+use Rattle.power_loss.proofs.shown_blocks.PinsShowBlocks.{request_goes, show_left}
+use Rattle.power_loss.proofs.shown_blocks.CommandsShowBlocks.{command_shows, made_shows, shows_if}
+use Rattle.power_loss.proofs.Common.{Key, IsKey, All, ◌<◌, ◌&&◌, ◌∷◌, below, content, is_mended}
+use Rattle.power_loss.proofs.Common.{shape_of_numbers}
+use Rattle.power_loss.proofs.MachineWords.{short_reply, with_short, AreBytes, ReadingArea, RpmbRequest, is_asked_in}
+use Rattle.power_loss.proofs.MachineWords.{is_asked_of, with_request}
 
 -- Data
 
-set_shows : (s : State) (tag : ℕ) (deed : Deed) → Silent deed → ShowsReads s → ShowsReads (set_deed s tag deed)
-set_shows s tag deed silent h =
-    show_goes s.translation.ledger s.tasks (map (with_deed tag deed) s.tasks) s.translation.pins
-    (silent_goes s.tasks tag deed silent) h
-
-accepted_silent : (purpose : Purpose) (task : Task) (deed : Deed) → IsAcceptedDeed purpose task deed → Silent deed
-accepted_silent purpose task (Answering status carried) is = λ l x index. tt
-accepted_silent purpose task (Awaiting position) is = λ l x index. tt
-accepted_silent purpose task deed is = absurd is
+-- a task that gathers data keeps nothing, so that it may do anything next
+nothing_kept : (task : Task) {purpose : Purpose} {gathered : List ℕ} {asked : Bool} (deed : Deed) →
+    task.deed ≡ Gathering purpose gathered asked → SameBlocks task.deed deed
+nothing_kept task deed e = subst (λ (d : Deed). SameBlocks d deed) (sym e) (λ l x index h. absurd h)
 
 accepts_shows : (s : State) (c : command.Command) (claimed : ℕ) → ShowsReads s → ShowsReads (accepts s c claimed)
 accepts_shows s c claimed h =
     show_known s.translation.ledger (accepts s c claimed).translation.ledger s.tasks s.translation.pins
     (knows_more s.translation (group_of (plain_now s) c)) h
 
-complete_shows : (s : State) (task : Task) (purpose : Purpose) (bytes : List ℕ) → ShowsReads s →
-    ShowsReads (complete s task purpose bytes)
-complete_shows s task purpose bytes h = completes_by ShowsReads s task purpose bytes one
+module _ {s : State} {task : Task} {purpose : Purpose} {gathered : List ℕ} {asked : Bool} (v : IsTied s)
+    (g : GathersIn s task purpose gathered asked) (doing : task.deed ≡ Gathering purpose gathered asked) where
+  -- the task does something else, over these contents
+  set_shows : (l : Ledger) (deed : Deed) → Show l s.tasks s.translation.pins →
+      Show l (map (with_deed task.tag deed) s.tasks) s.translation.pins
+  set_shows l deed h = show_goes l s.tasks (map (with_deed task.tag deed) s.tasks) s.translation.pins
+      (set_goes s.tasks task deed g.there (nothing_kept task deed doing)) h
+
+  request_shows : (l : Ledger) (request : RpmbRequest) (deed : Deed) → Show l s.tasks s.translation.pins →
+      Show l (map (with_request task.tag request deed) s.tasks) s.translation.pins
+  request_shows l request deed h =
+      show_goes l s.tasks (map (with_request task.tag request deed) s.tasks) s.translation.pins
+      (request_goes s.tasks task request deed g.there (nothing_kept task deed doing)) h
+
+  -- each page of the area that it reads
+  reads_show : (region : ℕ) (f : Frame) (fs : List Frame) (result : ℕ) → region < regions →
+      AsksInside (length (region_of (plain_now s) region).area) f → is_mended s.translation.work.mending ≡ true →
+      ShowsReads s →
+      ShowsReads (completed s task (ReadsArea region f fs result))
+  reads_show region f fs result there inside mended h =
+      subst (λ (x : Ledger). Show x (map (with_request task.tag request (ReadingArea pages)) s.tasks)
+      (fold moved (given_back s task).translation (keeps_area s task.tag region f)).pins)
+      (sym (kept_ledger k (page_kept s task.tag region f) (below (pages_named f)) (given_back s task).translation))
+      (kept_pins (ShowsRight l tasks) k (page_kept s task.tag region f) (below (pages_named f))
+      (given_back s task).translation (request_shows l request (ReadingArea pages) h) new)
+    where
+      l : Ledger
+      l = s.translation.ledger
+
+      k : ℕ → Key
+      k i = area_key region (first_page f + i)
+
+      request : RpmbRequest
+      request = record { region = region; frames = f ∷ fs; result = result; filled = false }
+
+      pages : List ReadBlock
+      pages = area_read s region f
+
+      tasks : List Task
+      tasks = map (with_request task.tag request (ReadingArea pages)) s.tasks
+
+      reads : Task
+      reads = record task { deed = ReadingArea pages; request = Some request }
+
+      new : All (λ i. ShowsRight l tasks (page_kept s task.tag region f i)) (below (pages_named f))
+      new = All-weaker (λ i. IsKey (shape_of_numbers (numbers_of s)) (k i))
+          (λ i. ShowsRight l tasks (page_kept s task.tag region f i))
+          (λ i key. record {
+            task = reads;
+            there = changed_there s.tasks task (λ x. record x { deed = ReadingArea pages; request = Some request })
+                (λ x. refl) g.there;
+            shows = made_shows k (λ j. content (plain_now s) (k j)) (pages_named f) i v mended (λ j. refl) key;
+          }) (below (pages_named f)) (keys_of_area region f v there inside)
+
+  complete_shows : (all : List ℕ) → HasAll task gathered all → ShowsReads s →
+      ShowsReads (complete s task purpose all)
+  complete_shows all whole h = completes_by ShowsReads s task purpose all one
+    where
+      one : (k : Completion) → WhyCompleted s task purpose all k → ShowsReads (completed s task k)
+      one (Told status released) why = set_shows s.translation.ledger _ h
+      one (Accepted c claimed deed) why =
+          set_shows (accepts s c claimed).translation.ledger deed (accepts_shows s c claimed h)
+      one (HasResult region frames result) why = request_shows s.translation.ledger _ _ h
+      one (ReadsArea region f fs result) (d, reads) =
+          let came = frames_came g (no_more whole) d in
+          reads_show region f fs result came.region_in (reads_inside d reads) came.is_mended h
+      one (AcceptsFrames region frames result c) why =
+          request_shows (accepts s c 0).translation.ledger _ _ (accepts_shows s c 0 h)
+
+  gathered_shows : (all : List ℕ) → HasMore task gathered all → ShowsReads s →
+      ShowsReads (gathered_more s task purpose all)
+  gathered_shows all more h = if_cases ShowsReads (nat_lt (length all) task.length)
+      (λ few. set_shows s.translation.ledger (Gathering purpose all false) h)
+      (λ whole. complete_shows all (all_there more whole) h)
+
+data_shows : {s : State} {task : Task} (tag : ℕ) (deed : Deed) (lun offset : ℕ) (bytes : List ℕ) → IsTied s →
+    task_of tag s.tasks ≡ Some task → task.deed ≡ deed → is_asked_in task lun offset (length bytes) deed ≡ true →
+    AreBytes bytes → ShowsReads s → ShowsReads (data_for s task deed bytes)
+data_shows {s} {task} tag (Gathering purpose gathered asked) lun offset bytes v e doing is_asked is h =
+    gathered_shows v (gathers_in tag v e doing) doing (gathered ++ bytes)
+    (more_there task purpose gathered bytes asked lun offset is_asked is) h
+data_shows tag deed lun offset bytes v e doing is_asked is h = h
+
+data_heard_shows : {s : State} (tag lun offset : ℕ) (o : Option Task) (bytes : List ℕ) → IsTied s →
+    task_of tag s.tasks ≡ o → is_asked_of o lun offset (length bytes) ≡ true → AreBytes bytes → ShowsReads s →
+    ShowsReads (data_heard s o bytes)
+data_heard_shows tag lun offset None bytes v e is_asked is h = h
+data_heard_shows tag lun offset (Some task) bytes v e is_asked is h =
+    data_shows tag task.deed lun offset bytes v e refl is_asked is h
+
+-- Queries
+
+query_shows : (s : State) (tag : ℕ) (q : Query) → ShowsReads s → ShowsReads (query_heard s tag q)
+query_shows s tag q h = shows_if ((code_of_query s q == 0x00) && not (q.asked.opcode == 0)) (query_passed s tag q
+    (setting_of q))
+    (with_short s (short_reply tag (query_failed tag q (code_of_query s q)))) (passed (setting_of q)) h
   where
-    one : (k : Completion) → WhyCompleted purpose task k → ShowsReads (completed s task k)
-    one (Accepted c claimed deed) why =
-        set_shows (accepts s c claimed) task.tag deed (accepted_silent purpose task deed why)
-        (accepts_shows s c claimed h)
-    one (Told status) why = set_shows s task.tag _ (λ l x index. tt) h
-    one (MeetsLock claimed) why = set_shows s task.tag _ (λ l x index. tt) h
-
-data_shows : (s : State) (task : Task) (deed : Deed) (bytes : List ℕ) → ShowsReads s →
-    ShowsReads (data_for s task deed bytes)
-data_shows s task (Gathering purpose gathered asked) bytes h =
-    shows_if (nat_lt (length (gathered ++ bytes)) task.length) _ _
-    (set_shows s task.tag (Gathering purpose (gathered ++ bytes) false) (λ l x index. tt) h)
-    (complete_shows s task purpose (gathered ++ bytes) h)
-data_shows s task deed bytes h = h
-
-data_heard_shows : (s : State) (o : Option Task) (bytes : List ℕ) → ShowsReads s → ShowsReads (data_heard s o bytes)
-data_heard_shows s None bytes h = h
-data_heard_shows s (Some task) bytes h = data_shows s task task.deed bytes h
+    passed : (o : Option command.Command) → ShowsReads (query_passed s tag q o)
+    passed None = h
+    passed (Some c) = show_known s.translation.ledger (accepts s c 1).translation.ledger s.tasks s.translation.pins
+        (knows_more s.translation (group_of (plain_now s) c)) h
 
 -- Aborts
 
@@ -90,9 +184,12 @@ pub heard_shows : {s : State} (m : Message) (c : _) → IsTied s → MayCome s (
 heard_shows {s} (message.Command flags lun tag expected taken) c v may free h =
     command_shows (record { flags = flags; lun = lun; tag = tag; expected = expected; bytes = taken; cdb = c }) v
     (is_free s tag (opens_short s (message.Command flags lun tag expected taken)) free)
-    (λ command e. operation_is c command taken may.1.2 e) h
+    (λ command e. (operation_is c command taken may.1.2 e, fields_fit c command taken may.1.2 e)) h
 heard_shows {s} (message.DataOut lun tag offset «data») c v may free h =
-    data_heard_shows s (task_of tag s.tasks) «data».items h
+    data_heard_shows tag lun offset (task_of tag s.tasks) «data».items v refl
+    (no_offence (is_asked_of (task_of tag s.tasks) lun offset (length «data».items)) free) may.1.0.0.3.2 h
+heard_shows {s} (message.QueryRequest tag function asked size value «data») c v may free h =
+    query_shows s tag (record { function = function; asked = asked; length = size; value = value }) h
 heard_shows {s} (message.TaskRequest lun tag function meant) c v may free h = managed_shows s lun function meant h
 heard_shows m c v may free h = h
 
@@ -125,7 +222,7 @@ behind_same : (task : Task) (before : Deed) {deed : Deed} → deed_after task be
 behind_same task (Sending blocks sent) {deed} e = block_same task blocks sent (slice_get blocks sent) e
 behind_same task (Gathering purpose gathered asked) {deed} e =
     subst (SameBlocks (Gathering purpose gathered asked)) (same_Some (Gathering purpose gathered true) deed e)
-    (λ l x index h. tt)
+    (λ l x index h. h)
 behind_same task (SendingBytes bytes) {deed} e =
     subst (SameBlocks (SendingBytes bytes)) (same_Some (Answering Good task.length) deed e) (λ l x index h. tt)
 behind_same task before {deed} e = absurd (none-some deed e)

@@ -3,18 +3,30 @@ use Rattle.power_loss.proofs.Common.{◌≡◌, ℕ, ◌==◌, ◌≤◌, Bool, 
 use Rattle.power_loss.proofs.Common.{Some, None, refl, sym, subst, inl, inr, arith, Ok, find, nat_le, list_any}
 use Rattle.power_loss.proofs.Common.{All-append, All-cons, All-filter, All-map, All-nil, get_or_from_slice_get}
 use Rattle.power_loss.proofs.Common.{slice_get_within, Array, Spot, Numbers}
-use Rattle.power_loss.proofs.MachineWords.{Every, IsSpoken, TaskSpeaks, Short, Task, TaskSetFull, is_short_of, response}
+use Rattle.power_loss.proofs.MachineWords.{IsSpoken, TaskSpeaks, Short, Task, TaskSetFull, is_short_of, response}
 use Rattle.power_loss.proofs.MachineWords.{short_reply, task_of, IsOpened, Life, Allowed, Answer, Call, Done, Due}
 use Rattle.power_loss.proofs.MachineWords.{Faulty, Heard, Host, IsHeard, OfDone, OfHost, OfReply, OfTake, OfTurn, Reply}
 use Rattle.power_loss.proofs.MachineWords.{Spelled, Take, Turn, behind, command_taken, fills, heard, hears, is_durable}
-use Rattle.power_loss.proofs.MachineWords.{lock_applied, managed, observe, refused_or_begun, query_unanswered}
+use Rattle.power_loss.proofs.MachineWords.{lock_applied, managed, observe, refused_or_begun}
 use Rattle.power_loss.proofs.MachineWords.{replied_by, service, short_locked, short_replied, tag_in, task_locked}
 use Rattle.power_loss.proofs.MachineWords.{with_short, Request, State, locked, lun_of, numbers_of, refusal, most_tasks}
 use Rattle.power_loss.proofs.MachineWords.{Event, Output, Message, Cdb}
 use Rattle.std.specs.Prelude.{if◌then◌else◌, is_none, slice_get}
-use Rattle.ufs_laws.proofs.pages.ByteLists.{bytes-nil}
+use Rattle.ufs_laws.proofs.plain_contents.CommandsKeepPlain.{kept_plain}
+use Rattle.ufs_laws.proofs.walk.Happenings.{code_of_query, setting_short}
+use Rattle.ufs_spec.specs.Queries.{Query}
+use Rattle.ufs_spec.specs.Queries.{setting_of}
+use Rattle.ufs_spec.specs.Queries.{sets_power_on}
+use Rattle.ufs_spec.specs.QueryAnswers.{query_done, query_failed, query_heard, query_passed}
+use Rattle.power_loss.specs.WaitingFrames.{TasksSpeak}
+use Rattle.power_loss.proofs.Common.{◌&&◌, ◌||◌, apply, config_tests}
+use Rattle.power_loss.proofs.Common.{and_parts, false≢true, not, ranges}
+use Rattle.power_loss.proofs.MachineWords.{Command, IsTied, ValidState, plain_now}
+use Rattle.power_loss.proofs.host_commands.AcceptedCommands.{plain_tied}
+use Rattle.power_loss.proofs.host_commands.QueriesHeard.{setting_is}
+use Rattle.power_loss.proofs.lives.EachEventKeeps.{one_event}
 use Rattle.ufs_laws.proofs.exchanges.ReplySizes.{reply_speaks, response_fits, size}
-use Rattle.ufs_laws.proofs.exchanges.SpokenCalls.{life_keeps}
+use Rattle.ufs_laws.proofs.exchanges.SpokenCalls.{spoken}
 use Rattle.ufs_laws.proofs.exchanges.AbortedTasks.{every_at}
 use Rattle.ufs_laws.specs.Replies.{ShortSpeaks, ShortsSpeak}
 use Rattle.ufs_spec.specs.Machine.{aborts}
@@ -25,6 +37,7 @@ use Rattle.ufs_spec.specs.Stages.{manages_tasks}
 use Rattle.ufs_spec.specs.declared.messages.Message.TheVariants as message
 use Rattle.power_loss.proofs.open_tasks.OpenExchanges.{data_leaves, opened_adds, replied_leaves}
 use Rattle.power_loss.proofs.kept_promises.ShortExchangesEnd.{ends_shorts, given_shorts, managed_shorts}
+use Rattle.power_loss.proofs.spoken_replies.QueryReplies.{FewUnits, IsAskedWell, byte_if, code_is, done_is, failed_is}
 
 -- Lists of short exchanges
 
@@ -51,10 +64,6 @@ command_speaks s r is h = by (nat_le most_tasks (length s.tasks))
 
 -- A TASK MANAGEMENT REQUEST, whether it is carried out or not
 
-byte_if : (b : Bool) (m n : ℕ) → IsByte m → IsByte n → IsByte (if b then m else n)
-byte_if true m n h k = h
-byte_if false m n h k = k
-
 found_byte : (b : Bool) → IsByte (service_found b)
 found_byte true = omega arith
 found_byte false = omega arith
@@ -69,36 +78,76 @@ service_byte : (s : State) (lun function meant : ℕ) → IsByte (service s lun 
 service_byte s lun function meant = byte_if manages_tasks (service_of s lun function meant) 0x04
     (service_of_byte s lun function meant) (omega arith)
 
+-- A QUERY REQUEST
+
+query_speaks : (s : State) (tag : ℕ) (q : Query) → IsTied s → IsAskedWell tag q → ShortsSpeak s →
+    ShortsSpeak (query_heard s tag q)
+query_speaks s tag q v is h = by ((code_of_query s q == 0x00) && not (q.asked.opcode == 0)) refl
+  where
+    units : FewUnits (numbers_of s)
+    units =
+        let r = ranges (numbers_of s) (config_tests (numbers_of s) v.config).0 in
+        let few = r.units_bound in
+        (omega arith, r.each_unit)
+
+    passed : (o : Option Command) → setting_of q ≡ o → (code_of_query s q == 0x00) ≡ true →
+        (q.asked.opcode == 0) ≡ false → ShortsSpeak (query_passed s tag q o)
+    passed None e code some = one_speaks s tag (query_done (numbers_of s) (plain_now s) (s.power_on || sets_power_on q)
+        tag q) (done_is (numbers_of s) (plain_now s) (s.power_on || sets_power_on q) tag q is units
+        (plain_tied v).boot_bound) h
+    passed (Some c) e code some =
+        let told = setting_is s q c code some e in
+        let plain = kept_plain (plain_now s) c (plain_tied v) told.is told.can in
+        All-append ShortSpeaks s.shorts (setting_short s tag q c ∷ []) h
+        (All-cons ShortSpeaks (setting_short s tag q c) [] (record {
+          reply = done_is (numbers_of s) (apply (plain_now s) c) s.power_on tag q is units plain.boot_bound;
+          locked_reply = failed_is tag q 0xFF is (omega arith);
+        }) (All-nil ShortSpeaks))
+
+    by : (b : Bool) → ((code_of_query s q == 0x00) && not (q.asked.opcode == 0)) ≡ b →
+        ShortsSpeak (if b then query_passed s tag q (setting_of q)
+        else with_short s (short_reply tag (query_failed tag q (code_of_query s q))))
+    by true e =
+        let both = and_parts (code_of_query s q == 0x00) (not (q.asked.opcode == 0)) e in
+        passed (setting_of q) refl both.0 (true_not (q.asked.opcode == 0) both.1)
+      where
+        true_not : (b : Bool) → not b ≡ true → b ≡ false
+        true_not true k = absurd (false≢true k)
+        true_not false k = refl
+    by false e = one_speaks s tag (query_failed tag q (code_of_query s q))
+        (failed_is tag q (code_of_query s q) is (code_is s q)) h
+
 -- Messages
 
-heard_speaks : (s : State) (m : Message) (c : Option Cdb) → IsMessage m → ShortsSpeak s → ShortsSpeak (heard s m c)
-heard_speaks s (message.NopOut tag) c is h = one_speaks s tag (message.NopIn tag) is h
-heard_speaks s (message.Command flags lun tag expected bytes) c is h =
+heard_speaks : (s : State) (m : Message) (c : Option Cdb) → IsTied s → IsMessage m → ShortsSpeak s →
+    ShortsSpeak (heard s m c)
+heard_speaks s (message.NopOut tag) c v is h = one_speaks s tag (message.NopIn tag) is h
+heard_speaks s (message.Command flags lun tag expected bytes) c v is h =
     command_speaks s (record { flags = flags; lun = lun; tag = tag; expected = expected; bytes = bytes; cdb = c })
     (response_fits lun tag expected 0 TaskSetFull is.1 is.2 is.3 (omega arith) tt) h
-heard_speaks s (message.DataOut lun tag offset «data») c is h =
+heard_speaks s (message.DataOut lun tag offset «data») c v is h =
     same_speak s (heard s (message.DataOut lun tag offset «data») c)
     (data_leaves (task_of tag s.tasks) «data».items refl).shorts h
-heard_speaks s (message.TaskRequest lun tag function meant) c is h =
+heard_speaks s (message.TaskRequest lun tag function meant) c v is h =
     one_speaks (managed s lun function meant) tag (message.TaskResponse lun tag (service s lun function meant))
     (is.0, is.1, service_byte s lun function meant)
     (same_speak s (managed s lun function meant) (managed_shorts s lun function meant) h)
-heard_speaks s (message.QueryRequest tag function asked size value «data») c is h =
+heard_speaks s (message.QueryRequest tag function asked size value «data») c v is h =
     let fields = is.2 in
-    one_speaks s tag (query_unanswered tag function asked) (
-      is.0,
-      is.1,
-      omega arith,
-      (fields.0, fields.1, fields.2, fields.3, omega arith, omega arith),
-      omega arith,
-      bytes-nil,
-      inr refl,
-    ) h
-heard_speaks s other c is h = h
+    query_speaks s tag (record { function = function; asked = asked; length = size; value = value }) v (record {
+      tag_is = is.0;
+      function_is = is.1;
+      opcode = fields.0;
+      idn = fields.1;
+      index = fields.2;
+      selector = fields.3;
+    }) h
+heard_speaks s other c v is h = h
 
-hears_speaks : (s : State) (x : Heard) → ((bytes : List ℕ) × IsHeard bytes x) → ShortsSpeak s → ShortsSpeak (hears s x)
-hears_speaks s (Spelled m c) is h = heard_speaks s m c is.1.0.0 h
-hears_speaks s (Faulty fault) is h = h
+hears_speaks : (s : State) (x : Heard) → IsTied s → ((bytes : List ℕ) × IsHeard bytes x) → ShortsSpeak s →
+    ShortsSpeak (hears s x)
+hears_speaks s (Spelled m c) v is h = heard_speaks s m c v is.1.0.0 h
+hears_speaks s (Faulty fault) v is h = h
 
 -- Replies
 
@@ -112,16 +161,17 @@ replied_speaks s tag None h = short_speaks s (find (is_short_of tag) s.shorts) h
 
 -- Every call
 
-behind_speaks : (s : State) (call : Call) (answer : Answer) → IsSpoken call → ShortsSpeak s →
+behind_speaks : (s : State) (call : Call) (answer : Answer) → IsTied s → IsSpoken call → ShortsSpeak s →
     ShortsSpeak (behind s call answer)
-behind_speaks s (Host x) (OfHost (Ok done)) is h = hears_speaks s x is h
-behind_speaks s (Take die) (OfTake flight) is h = same_speak s (behind s (Take die) (OfTake flight))
+behind_speaks s (Host x) (OfHost (Ok done)) v is h = hears_speaks s x v is h
+behind_speaks s (Take die) (OfTake flight) v is h = same_speak s (behind s (Take die) (OfTake flight))
     (given_shorts s die flight) h
-behind_speaks s (Done die ending left) (OfDone true) is h = same_speak s (behind s (Done die ending left) (OfDone true))
+behind_speaks s (Done die ending left) (OfDone true) v is h = same_speak s (behind s (Done die ending left) (OfDone
+    true))
     (ends_shorts s die (s.translation.disk.flights die) ending left) h
-behind_speaks s Turn (OfTurn due) is h = h
-behind_speaks s Reply (OfReply (Some m)) is h = replied_speaks s (tag_in m) (task_of (tag_in m) s.tasks) h
-behind_speaks s call answer is h = h
+behind_speaks s Turn (OfTurn due) v is h = h
+behind_speaks s Reply (OfReply (Some m)) v is h = replied_speaks s (tag_in m) (task_of (tag_in m) s.tasks) h
+behind_speaks s call answer v is h = h
 
 locked_speaks : (s : State) {short : Short} → ShortSpeaks short → ShortSpeaks (short_locked s short)
 locked_speaks s {short} h = by (is_durable s short.awaits)
@@ -138,13 +188,19 @@ lock_speaks s h = by (locked s)
     by true = All-map ShortSpeaks (short_locked s) s.shorts (λ k d inside. locked_speaks s (h k d inside))
     by false = h
 
-pub call_speaks : (s : State) (call : Call) (answer : Answer) → IsSpoken call → Allowed s call answer → ShortsSpeak s →
-    ShortsSpeak (observe s call answer)
-call_speaks s call answer is may h = lock_speaks (fills (behind s call answer)) (behind_speaks s call answer is h)
+pub call_speaks : (s : State) (call : Call) (answer : Answer) → IsTied s → IsSpoken call → Allowed s call answer →
+    ShortsSpeak s → ShortsSpeak (observe s call answer)
+call_speaks s call answer v is may h = lock_speaks (fills (behind s call answer)) (behind_speaks s call answer v is h)
 
-pub shorts_life : (s : State) (es : List Event) (os : List Output) (t : State) → ShortsSpeak s → Life s es os t →
-    ShortsSpeak t
-shorts_life = life_keeps ShortsSpeak call_speaks
+pub shorts_life : (s : State) (es : List Event) (os : List Output) (t : State) → ValidState s → ShortsSpeak s →
+    Life s es os t → ShortsSpeak t
+shorts_life s [] [] t v h life = subst ShortsSpeak (sym life) h
+shorts_life s (e ∷ es) (o ∷ os) t v h life =
+    let l = life.1 in
+    shorts_life life.0 es os t (one_event s life.0 e o v l)
+    (subst ShortsSpeak (sym l.next) (call_speaks s l.call l.answer v.tied (spoken s e l.call l.is_call) l.right h))
+    life.2
+shorts_life s es os t v h life = absurd life
 
 pub shorts_open : (n : Numbers) (array : Array) (bad : Spot → Bool) (s : State) → IsOpened n array bad s → ShortsSpeak s
 shorts_open n array bad s h = subst (All ShortSpeaks) (sym h.no_shorts) (All-nil ShortSpeaks)
@@ -157,11 +213,12 @@ short_message s k short h there =
     let inside = slice_get_within s.shorts k short there in
     (subst ShortSpeaks (get_or_from_slice_get s.shorts k short short there) (h k short inside)).reply
 
-pub due_message : (s : State) (m : Message) → Every TaskSpeaks s.tasks → ShortsSpeak s → Due s m → IsMessage m
-due_message s m tasks shorts (inl due) = reply_speaks s due.1 m (every_at TaskSpeaks s.tasks due.0 due.1 tasks due.2)
+pub due_message : (s : State) (m : Message) → TasksSpeak s → ShortsSpeak s → Due s m → IsMessage m
+due_message s m tasks shorts (inl due) = reply_speaks s due.1 m (every_at TaskSpeaks s.tasks due.0 due.1 tasks.tasks
+    due.2)
     due.3
 due_message s m tasks shorts (inr due) = subst IsMessage (sym due.4) (short_message s due.0 due.1 shorts due.2)
 
-pub due_spelled : (s : State) (m : Message) → Every TaskSpeaks s.tasks → ShortsSpeak s → Due s m →
+pub due_spelled : (s : State) (m : Message) → TasksSpeak s → ShortsSpeak s → Due s m →
     IsMessage m × (length (spelling m) ≤ 4128)
 due_spelled s m tasks shorts due = let is = due_message s m tasks shorts due in (is, size m is)

@@ -31,7 +31,7 @@ pub opened_below : (c : Cells) (newest : Option Mark) {p : Place} {m : Mark} →
 opened_below c None {p = p} {m = m} n h = absurd (n p m h)
 opened_below c (Some newest) {p = p} {m = m} n h = n.1 p m h
 
-newest_one : {c : Cells} (a b : Option Mark) → ((p q : Place) (m other : Mark) → c p ≡ MarkPage m →
+pub newest_one : {c : Cells} (a b : Option Mark) → ((p q : Place) (m other : Mark) → c p ≡ MarkPage m →
     c q ≡ MarkPage other → m.number ≡ other.number → m ≡ other) → IsNewestMark c a → IsNewestMark c b → a ≡ b
 newest_one None None same h k = refl
 newest_one None (Some n) same h k = absurd (h k.0.0 n k.0.1)

@@ -18,6 +18,7 @@ use Rattle.ufs_spec.specs.Pages.{greatest_number}
 use Rattle.ufs_spec.specs.Cells.{NumbersFit, UnitFits}
 use Rattle.ufs_spec.specs.Configs.{InRange, UnitInRange}
 use Rattle.ufs_spec.specs.Pages.{IsTag, fence_bytes, mark_bytes, numbers_bytes, seal_page, unit_bytes}
+use Rattle.ufs_spec.proofs.RegionPages.{pages_there}
 use Rattle.ufs_spec.proofs.SealedPages.{units_length}
 
 pub ranges_of : (n : Numbers) → IsConfig n → InRange n
@@ -56,14 +57,14 @@ key_ranges {n} r (IsData unit address there within) =
       address = omega arith;
       blocks_alone = λ h. absurd (omega arith);
     }
-key_ranges r (IsArea page within) =
+key_ranges {n} r (IsArea region page there within) =
     let few = r.rpmb_bound in
     record {
       some = omega arith;
       kinds = omega arith;
-      unit = omega arith;
-      data_alone = λ h. refl;
-      address = omega arith;
+      unit = omega (arith, there);
+      data_alone = λ h. omega (arith, there);
+      address = omega (arith, within, pages_there n region there);
       blocks_alone = λ h. absurd (omega arith);
     }
 key_ranges r IsSettings = record {

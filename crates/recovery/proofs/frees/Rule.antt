@@ -9,12 +9,12 @@ use Rattle.ufs_spec.specs.Disk.{Spot, spot_of}
 use Rattle.ufs_spec.specs.Kept.{IsFenced, IsNewestMark}
 use Rattle.ufs_spec.specs.Plain.{shape_of_numbers}
 use Rattle.ufs_spec.specs.Sound.{CellsSuit}
-use Rattle.ufs_spec.specs.Ledger.{Name}
 use Rattle.ufs_spec.specs.Translation.{name_of, spots}
 use Rattle.ufs_spec.specs.declared.configs.Numbers.{Numbers}
 use Rattle.ufs_spec.specs.declared.flash.Key.{Key}
 use Rattle.ufs_spec.specs.declared.flash.Place.{Place}
 use Rattle.ufs_spec.specs.declared.flash.Tag.{Tag}
+use Rattle.ufs_spec.specs.declared.layer.Name.{Name}
 use Rattle.ufs_spec.proofs.CellKinds.{mark_not_nothing}
 use Rattle.ufs_spec.proofs.Equalities.{name_is}
 use Rattle.ufs_spec.proofs.Facts.{and_from, and_parts, cases_Bool, cond-false, cond-true, false≢true, lt-ltb, ltb-true}

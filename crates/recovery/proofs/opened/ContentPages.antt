@@ -7,13 +7,13 @@ use Rattle.ufs_spec.specs.Translation.{is_free}
 use Rattle.ufs_spec.proofs.Facts.{cases_Bool}
 use Rattle.ufs_spec.specs.Cells.{Cells, GroupPage, Mark, key_of}
 use Rattle.ufs_spec.specs.Kept.{Counts, IsFenced, IsNewest, fence_in}
-use Rattle.ufs_spec.specs.Ledger.{Name}
 use Rattle.ufs_spec.specs.Openings.{HasName, IsFirst, IsNotHigher, StandsAt}
 use Rattle.ufs_spec.specs.Sound.{CellsSound}
 use Rattle.ufs_spec.specs.Translation.{name_of}
 use Rattle.ufs_spec.specs.declared.flash.Key.{Key}
 use Rattle.ufs_spec.specs.declared.flash.Place.{Place}
 use Rattle.ufs_spec.specs.declared.flash.Tag.{Tag}
+use Rattle.ufs_spec.specs.declared.layer.Name.{Name}
 use Rattle.ufs_spec.proofs.Equalities.{place_is}
 use Rattle.power_loss.specs.FreeBlocks.{block_by, blocks_by}
 use Rattle.recovery.proofs.opened.OutsidePages.{IsPageOutside}
@@ -105,6 +105,6 @@ module _ (c : Cells) (m : Option Mark) (sound : CellsSound c m) (bad free : Spot
       let at : standing e.tag.number e.tag.index ≡ Some e.place =
       stands_there k e.place e.tag body newest.counts newest.key out lowest (standing e.tag.number e.tag.index)
       (stands e.tag.number e.tag.index) in (
-        sym (number ∙ numbered),
+        (λ i. record { number = sym (number ∙ numbered) i; index = sym (index ∙ indexed) i }),
         (λ i. standing ((sym (number ∙ numbered)) i) ((sym (index ∙ indexed)) i)) ∙ at,
       )

@@ -6,7 +6,7 @@ use Rattle.ufs_spec.proofs.Facts.{none-some}
 use Rattle.ufs_spec.specs.Cells.{Cells, GroupPage, Mark, MarkPage, Nothing}
 use Rattle.ufs_spec.specs.Disk.{Bad, BlockState, Closed, Free, Ready, Spot, Stale, Untouched, Vacancy}
 use Rattle.ufs_spec.specs.Kept.{HasNone, IsKept, IsNewestMark, IsRecorded, IsWhole}
-use Rattle.ufs_spec.specs.Ledger.{Entry, Name}
+use Rattle.ufs_spec.specs.Ledger.{Entry}
 use Rattle.ufs_spec.specs.Openings.{AreFirstBlocks, AreLost, IsAtMost, IsEntry, IsMendingAt, IsGreatestSeen}
 use Rattle.ufs_spec.specs.Openings.{IsVacancyAt, StandsAt}
 use Rattle.ufs_spec.specs.Sound.{CellsSound, CellsSuit}
@@ -15,6 +15,7 @@ use Rattle.ufs_spec.specs.declared.configs.Numbers.{Numbers}
 use Rattle.ufs_spec.specs.declared.flash.Key.{Key}
 use Rattle.ufs_spec.specs.declared.flash.Place.{Place}
 use Rattle.ufs_spec.specs.declared.flash.Tag.{Tag}
+use Rattle.ufs_spec.specs.declared.layer.Name.{Name}
 use Rattle.ufs_laws.proofs.array_cells.StandsForOne.{kept_under, recorded_under}
 
 -- the state of a block of which nothing stands

@@ -1,5 +1,7 @@
 -- A sound array stands for a plain state, and new dies for a new device.
-use Rattle.std.proofs.Common.{◌≡◌, ℕ, suc, ◌*◌, List, Option, None, refl, sym, ap, subst, inl, inr, arith}
+use Rattle.std.proofs.Common.{◌≡◌, ℕ, suc, ◌*◌, ◌/◌, List, Option, None, refl, sym, ap, subst, inl, inr, arith}
+use Rattle.std.proofs.lemmas.List.{length-replicate}
+use Rattle.std.proofs.lemmas.List.Elements.{All-replicate}
 use Rattle.ufs_laws.proofs.pages.BlankPages.{blank_is_nothing, blank_opens_not, nothing_is_blank, zeros_are_settings}
 use Rattle.ufs_laws.proofs.array_cells.EmptyCells as cells
 use Rattle.ufs_laws.proofs.array_cells.NewestFound.{holds}
@@ -8,10 +10,11 @@ use Rattle.ufs_laws.proofs.array_cells.KeptNumberFound.{kept}
 use Rattle.ufs_spec.specs.Cells.{AreWithin, Array, Cell, Cells, DataHold, GroupPage, IsCell, IsPlace, Mark, Nothing}
 use Rattle.ufs_spec.specs.Cells.{Opens, Shows}
 use Rattle.ufs_spec.specs.Dies.{blank_page}
-use Rattle.ufs_spec.specs.Keys.{AreContents, Contents, IsBlock, IsKey, IsPlain, IsSettingsBody, area_pages, content}
+use Rattle.ufs_spec.specs.Keys.{AreContents, Contents, HasWholeAreas, IsBlock, IsKey, IsPlain, IsSettingsBody, content}
 use Rattle.ufs_spec.specs.Keys.{plain_of, settings_key}
 use Rattle.ufs_spec.specs.Kept.{CellsStandFor, Holds, IsKept, IsNewestMark, StandsFor}
-use Rattle.ufs_spec.specs.Plain.{Plain, Shape, shape_of, shape_of_numbers, zero_block}
+use Rattle.ufs_spec.specs.Plain.{Plain, Shape, area_len, shape_of, shape_of_numbers, zero_block}
+use Rattle.ufs_spec.specs.Stages.{regions}
 use Rattle.ufs_spec.specs.Plain as plain
 use Rattle.ufs_spec.specs.Sound.{Sound, Suits}
 use Rattle.ufs_spec.specs.declared.configs.Numbers.{Numbers}
@@ -42,17 +45,20 @@ settings_held array c m bound x shown (inr (none, e)) = subst IsSettingsBody (sy
 -- what the laws of plain states say, as facts that the lemmas here take
 abbrev pub ContentsArePlain : Type 0
 ContentsArePlain =
-    (s : Shape) (f : Contents) → AreContents s f → s.area ≡ 4096 * area_pages s → IsPlain
+    (s : Shape) (f : Contents) → AreContents s f → HasWholeAreas s → IsPlain
     (plain_of s f) × (shape_of (plain_of s f) ≡ s)
 
 abbrev pub ContentsAreThere : Type 0
 ContentsAreThere =
-    (s : Shape) (f : Contents) → AreContents s f → s.area ≡ 4096 * area_pages s → (k : Key) → IsKey s k → content
+    (s : Shape) (f : Contents) → AreContents s f → HasWholeAreas s → (k : Key) → IsKey s k → content
     (plain_of s f) k ≡ f k
 
--- the area has whole pages
-whole_pages : (n : Numbers) → (shape_of_numbers n).area ≡ 4096 * area_pages (shape_of_numbers n)
-whole_pages n = omega arith
+-- the areas have whole pages
+whole_pages : (n : Numbers) → HasWholeAreas (shape_of_numbers n)
+whole_pages n = record {
+  count = length-replicate regions (area_len n);
+  whole = All-replicate (λ (bytes : ℕ). bytes ≡ 4096 * (bytes / 4096)) regions (area_len n) (omega arith);
+}
 
 module _ (are_plain : ContentsArePlain) (are_there : ContentsAreThere) (n : Numbers) (array : Array) (c : Cells)
     (within : AreWithin n c) (shown : Shows array c) (m : Option Mark) where

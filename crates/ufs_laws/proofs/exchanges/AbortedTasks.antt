@@ -8,16 +8,18 @@ use Rattle.std.proofs.lemmas.List.Sums.{sum_by-cons}
 use Rattle.ufs_laws.proofs.walk.TaskLaws.{IsTaskLaw, begun_task, tasks_kept}
 use Rattle.ufs_laws.specs.Exchange.{Asks, Every, HasOtherTag, IsSpoken, NoTask, Pinned}
 use Rattle.ufs_spec.proofs.Facts.{or_parts, same_Some, true≢false}
-use Rattle.ufs_spec.specs.Exchanges.{Awaiting, Deed, Gathering, Good, ReadBlock, ReadState, Sending, Task, Unread}
+use Rattle.ufs_spec.specs.Exchanges.{Awaiting, Deed, Gathering, Good, ReadBlock, ReadState, ReadingArea}
+use Rattle.ufs_spec.specs.Exchanges.{Sending, Task, Unread}
 use Rattle.ufs_spec.specs.Exchanges.{response}
 use Rattle.ufs_spec.specs.Machine.{Allowed, Answer, Call, abort_moves, block_reply, claimed_by, deed_reply, durable}
 use Rattle.ufs_spec.specs.Machine.{is_at_hand, next_block_reply, pin_of, tag_in, observe, unit_or_first, without_tasks}
 use Rattle.ufs_spec.specs.Moves.{moved}
+use Rattle.ufs_spec.specs.Replies.{is_area_read}
 use Rattle.ufs_spec.specs.Refusals.{State, numbers_of, unit_of_request}
 use Rattle.ufs_spec.specs.declared.configs.Numbers.{Numbers}
 use Rattle.ufs_spec.specs.declared.messages.Message.{Message}
 use Rattle.ufs_spec.specs.Translation.{Pin, Translation}
-use Rattle.ufs_laws.proofs.exchanges.DeedLaws.{filled_keeps, read_keeps, set_keeps}
+use Rattle.ufs_laws.proofs.exchanges.DeedLaws.{filled_keeps, read_keeps, set_keeps, set_request_keeps}
 
 -- ## At once
 
@@ -107,6 +109,8 @@ module _ (tag : ℕ) where
   other_law : (s : State) → IsTaskLaw Other (λ task deed. Unit {0}) (λ r. r.tag ≢ tag) s
   other_law s = record {
     set = λ task deed found all may. set_keeps Other task.tag deed s.tasks (λ t is h. h) all;
+    set_request = λ task request deed found all may.
+        set_request_keeps Other task.tag request deed s.tasks (λ t is h. h) all;
     refused = λ r status is asks free e. asks;
     begins =
         λ r c is asks free e passed.
@@ -114,6 +118,7 @@ module _ (tag : ℕ) where
     gathers = λ task purpose gathered bytes asked e h next more. tt;
     answers = λ task purpose gathered asked status e h is. tt;
     waits = λ task purpose gathered asked position e h. tt;
+    reads_area = λ task purpose gathered asked pages e h. tt;
     goes = λ task deed e h. tt;
     fills = λ u task h. filled_keeps Other u task h h;
     locks = λ u task h. h;
@@ -168,6 +173,12 @@ pub reply_tag : (s : State) (task : Task) (deed : Deed) (m : Message) → deed_r
 reply_tag s task (Gathering purpose gathered true) m e = let none : None ≡ Some m = e in cc
 reply_tag s task (Sending blocks sent) m e = next_tag s task sent (slice_get blocks sent) m e
 reply_tag s task (Awaiting commands) m e = by (nat_le commands (durable s)) e
+  where
+    by : (b : Bool) → (if b then Some (response task.lun task.tag task.expected task.length Good) else None) ≡ Some m →
+        tag_in m ≡ task.tag
+    by true k = ap tag_in (sym (same_Some _ m k))
+    by false k = let none : None ≡ Some m = k in cc
+reply_tag s task (ReadingArea pages) m e = by (is_area_read s task pages) e
   where
     by : (b : Bool) → (if b then Some (response task.lun task.tag task.expected task.length Good) else None) ≡ Some m →
         tag_in m ≡ task.tag

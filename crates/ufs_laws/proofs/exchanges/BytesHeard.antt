@@ -20,6 +20,7 @@ use Rattle.ufs_spec.specs.declared.messages.Message.{Message}
 use Rattle.ufs_spec.specs.declared.messages.Message.TheVariants as message
 use Rattle.ufs_spec.specs.declared.scsi.Cdb.{Cdb}
 use Rattle.ufs_spec.specs.declared.scsi.Cdb.TheVariants as cdb
+use Rattle.ufs_spec.specs.Stages.{regions}
 
 -- ## What can be decided
 
@@ -91,8 +92,8 @@ is_cdb (cdb.Write10 address blocks forced) = dec_and (dec_lt address (2 ^ 32)) (
 is_cdb (cdb.SynchronizeCache10 address blocks immediate) = dec_and (dec_lt address (2 ^ 32)) (dec_lt blocks (2 ^ 16))
 is_cdb (cdb.Unmap list) = dec_lt list (2 ^ 16)
 is_cdb (cdb.ReportLuns select allocation) = dec_and (dec_le select 2) (dec_lt allocation (2 ^ 32))
-is_cdb (cdb.SecurityIn length) = dec_lt length (2 ^ 32)
-is_cdb (cdb.SecurityOut length) = dec_lt length (2 ^ 32)
+is_cdb (cdb.SecurityIn region length) = dec_and (dec_lt region regions) (dec_lt length (2 ^ 32))
+is_cdb (cdb.SecurityOut region length) = dec_and (dec_lt region regions) (dec_lt length (2 ^ 32))
 is_cdb command = yes tt
 
 -- whether it is taken; a case for each limit
@@ -100,8 +101,8 @@ is_taken : (c : Cdb) → Dec (IsTakenCdb c)
 is_taken (cdb.Inquiry allocation) = no (λ (h : ⊥). h)
 is_taken (cdb.Unmap list) = no (λ (h : ⊥). h)
 is_taken (cdb.ReportLuns select allocation) = no (λ (h : ⊥). h)
-is_taken (cdb.SecurityIn length) = no (λ (h : ⊥). h)
-is_taken (cdb.SecurityOut length) = no (λ (h : ⊥). h)
+is_taken (cdb.SecurityIn region length) = no (λ (h : ⊥). h)
+is_taken (cdb.SecurityOut region length) = no (λ (h : ⊥). h)
 is_taken command = yes tt
 
 -- ## What bytes spell

@@ -5,7 +5,9 @@ use Rattle.ufs_laws.proofs.walk.TaskLaws.{every_mapped}
 use Rattle.ufs_laws.specs.Exchange.{Every}
 use Rattle.ufs_spec.proofs.Facts.{if_both, if_cases, none-some, same_Some}
 use Rattle.ufs_spec.specs.Exchanges.{Answering, Awaiting, Deed, Gathering, Good, NotRead, Purpose, ReadBlock, ReadState}
-use Rattle.ufs_spec.specs.Exchanges.{Sending, SendingBytes, Task, filled, is_task_of, with_deed, write_error}
+use Rattle.ufs_spec.specs.Exchanges.{ReadingArea, RpmbRequest, Sending, SendingBytes, Task, filled, is_task_of}
+use Rattle.ufs_spec.specs.Exchanges.{with_deed, write_error}
+use Rattle.ufs_spec.specs.FrameRequests.{with_request}
 use Rattle.ufs_spec.specs.Machine.{deed_after, deed_after_block, deed_after_sent, deed_after_state, deed_locked}
 use Rattle.ufs_spec.specs.Machine.{deed_read, durable, is_to_fill, task_filled, task_read, with_block}
 use Rattle.ufs_spec.specs.Refusals.{State}
@@ -20,6 +22,8 @@ pub record IsDeedLaw (D : Deed → Type 0) (task : Task) : Type 0 where
   pub fails : D (Answering write_error task.length)
   pub read : (blocks : List ReadBlock) (sent index : ℕ) (state : ReadState) → D (Sending blocks sent) →
       D (Sending (with_block blocks index state (slice_get blocks index)) sent)
+  pub page : (pages : List ReadBlock) (index : ℕ) (state : ReadState) → D (ReadingArea pages) →
+      D (ReadingArea (with_block pages index state (slice_get pages index)))
 
 module _ (D : Deed → Type 0) (task : Task) (law : IsDeedLaw D task) where
   state_after : (blocks : List ReadBlock) (sent : ℕ) (state : ReadState) (deed : Deed) → D (Sending blocks sent) →
@@ -48,6 +52,7 @@ module _ (D : Deed → Type 0) (task : Task) (law : IsDeedLaw D task) where
 
   pub reads : (index : ℕ) (state : ReadState) (deed : Deed) → D deed → D (deed_read index state deed)
   reads index state (Sending blocks sent) d = law.read blocks sent index state d
+  reads index state (ReadingArea pages) d = law.page pages index state d
   reads index state deed d = d
 
 -- Tasks
@@ -69,3 +74,11 @@ pub set_keeps : (P : Task → Type 0) (tag : ℕ) (deed : Deed) (tasks : List Ta
 set_keeps P tag deed tasks set =
     every_mapped P (with_deed tag deed) (λ task h. if_cases P (is_task_of tag task) (λ is. set task is h) (λ other. h))
     tasks
+
+-- one task's request, and its new deed
+pub set_request_keeps : (P : Task → Type 0) (tag : ℕ) (request : RpmbRequest) (deed : Deed) (tasks : List Task) →
+    ((task : Task) → is_task_of tag task ≡ true → P task → P (record task { deed = deed; request = Some request })) →
+    Every P tasks → Every P (map (with_request tag request deed) tasks)
+set_request_keeps P tag request deed tasks set =
+    every_mapped P (with_request tag request deed)
+    (λ task h. if_cases P (is_task_of tag task) (λ is. set task is h) (λ other. h)) tasks

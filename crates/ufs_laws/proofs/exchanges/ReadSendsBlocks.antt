@@ -20,9 +20,12 @@ use Rattle.ufs_spec.specs.Plain.{block_at}
 use Rattle.ufs_spec.specs.Refusals.{Request, State, plain_now, unit_of_request}
 use Rattle.ufs_spec.specs.declared.messages.Message.{Message}
 use Rattle.ufs_spec.specs.declared.scsi.Cdb.{Cdb}
-use Rattle.ufs_spec.specs.Ledger.{InSlot, Looked, Name}
 use Rattle.ufs_spec.specs.Translation.{Pin, is_rest_of}
+use Rattle.ufs_spec.specs.declared.layer.Looked.{Looked}
+use Rattle.ufs_spec.specs.declared.layer.Looked.TheVariants.{InSlot}
+use Rattle.ufs_spec.specs.declared.layer.Name.{Name}
 use Rattle.ufs_laws.proofs.exchanges.DeedLaws.{IsDeedLaw, filled_keeps, goes, locks, read_keeps, reads, set_keeps}
+use Rattle.ufs_laws.proofs.exchanges.DeedLaws.{set_request_keeps}
 
 -- ## What is sent
 
@@ -193,6 +196,7 @@ module _ (tag : ℕ) (bodies : List (List ℕ)) where
     sent = tt;
     fails = tt;
     read = λ blocks sent index state d. fixed blocks index state ∙ d;
+    page = λ pages index state d. d;
   }
 
   -- a tag in use is not opened again
@@ -203,6 +207,8 @@ module _ (tag : ℕ) (bodies : List (List ℕ)) where
   sends_law s used = record {
     set = λ task deed found all may.
         set_keeps Sends task.tag deed s.tasks (λ t is h same. may (sym (eqb-true t.tag task.tag is) ∙ same)) all;
+    set_request = λ task request deed found all may. set_request_keeps Sends task.tag request deed s.tasks
+        (λ t is h same. may (sym (eqb-true t.tag task.tag is) ∙ same)) all;
     refused = λ r status is asks free e same. tt;
     begins = λ r c is asks free e passed. (let b = begun_task s r (unit_or_first (unit_of_request s r)) c in
         (b.0, b.1, λ same. absurd (other_tag s r used free (sym b.2 ∙ same))));
@@ -210,6 +216,8 @@ module _ (tag : ℕ) (bodies : List (List ℕ)) where
         absurd (gathers_none task purpose gathered asked e h same);
     answers = λ task purpose gathered asked status e h is same. tt;
     waits = λ task purpose gathered asked position e h same. absurd (gathers_none task purpose gathered asked e h same);
+    reads_area = λ task purpose gathered asked pages e h same.
+        absurd (gathers_none task purpose gathered asked e h same);
     goes = λ task deed e h same. goes (SendsThese bodies) task (sending_deeds task) task.deed deed (h same) e;
     fills = λ u task h. filled_keeps Sends u task h h;
     locks = λ u task h same. locks (SendsThese bodies) task (sending_deeds task) u task.deed (h same);

@@ -9,12 +9,14 @@ use Rattle.ufs_spec.proofs.Facts.{same_Some}
 use Rattle.ufs_spec.proofs.SpellingParts.{header_size, segment_size}
 use Rattle.ufs_spec.specs.Cdbs.{Residual, fixed_sense, residual_of}
 use Rattle.ufs_spec.specs.Exchanges.{Answering, Awaiting, CheckCondition, Deed, Gathering, Good, NotRead, ReadBlock}
-use Rattle.ufs_spec.specs.Exchanges.{ReadState, Sending, Status, Task, SendingBytes, Unread, WasRead, block_message}
+use Rattle.ufs_spec.specs.Exchanges.{ReadState, ReadingArea, Sending, Status, Task, SendingBytes, Unread, WasRead}
+use Rattle.ufs_spec.specs.Exchanges.{block_message}
 use Rattle.ufs_spec.specs.Exchanges.{bytes_sent, count_at, data_message, read_error, ready_message, response}
 use Rattle.ufs_spec.specs.Exchanges.{response_byte, sense_data, status_byte}
 use Rattle.ufs_spec.specs.Machine.{block_reply, deed_reply, durable, is_at_hand, next_block_reply, pin_of}
 use Rattle.ufs_spec.specs.Messages.{AreBytes, AreFlags, IsAmong, IsByte, IsMessage, IsSense, header_of, padding}
 use Rattle.ufs_spec.specs.Messages.{segment_of, spelling, zeros}
+use Rattle.ufs_spec.specs.Replies.{is_area_read}
 use Rattle.ufs_spec.specs.Refusals.{State}
 use Rattle.ufs_spec.specs.declared.messages.Message.{Message}
 use Rattle.ufs_laws.proofs.pages.ByteLists.{bytes-take}
@@ -195,6 +197,14 @@ module _ (s : State) (task : Task) (h : TaskSpeaks task) (m : Message) where
       let here : IsMessage (data_message task 0 (take (bytes_sent task) bytes)) = (h.lun, h.tag, omega arith, d) in
       subst IsMessage (same_Some _ m e) here
   deed_speaks (Awaiting commands) d e = by (nat_le commands (durable s)) e
+    where
+      by : (b : Bool) →
+          (if b then Some (response task.lun task.tag task.expected task.length Good) else None) ≡ Some m → IsMessage m
+      by true k =
+          subst IsMessage (same_Some _ m k)
+          (response_fits task.lun task.tag task.expected task.length Good h.lun h.tag h.expected h.length tt)
+      by false k = let none : None ≡ Some m = k in cc
+  deed_speaks (ReadingArea pages) d e = by (is_area_read s task pages) e
     where
       by : (b : Bool) →
           (if b then Some (response task.lun task.tag task.expected task.length Good) else None) ≡ Some m → IsMessage m

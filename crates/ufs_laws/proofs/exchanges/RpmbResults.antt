@@ -32,9 +32,10 @@ chosen true lacking s t o result c e = absurd (refused s result c e)
 chosen false true s t o result c e = absurd (refused t result c e)
 chosen false false s t o result c e = e
 
-pub accepted_result : (region : Region) (r : Registers) (locked : Bool) (frames : List Frame) (result : ℕ)
-    (c : Command) → rpmb_outcome region r locked frames ≡ Results result (Some c) → (result ≡ 0) ⊎ (result ≡ 0x80)
-accepted_result region r locked [] result c e = absurd (refused _ result c e)
-accepted_result region r locked (f ∷ fs) result c e =
-    behind region (command_in f fs) (first_failed (checks region locked f fs)) result c
+pub accepted_result : (number : ℕ) (region : Region) (r : Registers) (locked : Bool) (frames : List Frame)
+    (result : ℕ) (c : Command) → rpmb_outcome number region r locked frames ≡ Results result (Some c) →
+    (result ≡ 0) ⊎ (result ≡ 0x80)
+accepted_result number region r locked [] result c e = absurd (refused _ result c e)
+accepted_result number region r locked (f ∷ fs) result c e =
+    behind region (command_in number f fs) (first_failed (checks region locked f fs)) result c
     (chosen _ (lacks_result f r) _ _ _ result c e)

@@ -1,7 +1,7 @@
 -- Each task that a call opens or changes fits what it needs for its replies.
 use Rattle.std.proofs.Common.{◌≡◌, ◌≢◌, ◌⊎◌, ℕ, zero, suc, ◌+◌, ◌-◌, ◌*◌, ◌≤◌, ◌<◌, ◌^◌, ◌/◌, ◌%◌, ◌==◌, Bool, true}
 use Rattle.std.proofs.Common.{false, min, if◌then◌else◌, List, [], ◌∷◌, ◌++◌, length, map, get_or, Option, Some, None}
-use Rattle.std.proofs.Common.{refl, sym, ap, ◌∙◌, subst, inl, inr, arith, ⊎_elim}
+use Rattle.std.proofs.Common.{refl, sym, ap, ◌∙◌, subst, arith}
 use Rattle.byteorder.specs.Endian.{big_bytes}
 use Rattle.std.specs.Prelude.{slice_get, slice_set, take}
 use Rattle.std.proofs.lemmas.Grind.{div_ceil_times}
@@ -9,16 +9,27 @@ use Rattle.std.proofs.lemmas.List.{length-set, length-take, length-take-le}
 use Rattle.std.proofs.lemmas.Option.{get_or_from_slice_get, slice_get_within}
 use Rattle.ufs_laws.proofs.pages.ByteLists.{bytes-append, bytes-cons, bytes-number, bytes-take, bytes-zeros}
 use Rattle.ufs_laws.proofs.plain_contents.ListParts.{get_or-made, length-made}
-use Rattle.ufs_laws.proofs.walk.WaysOfCommands.{Answered, Beginning, Gathered, Reading, Telling, Waiting, WhyBegun}
-use Rattle.ufs_laws.proofs.walk.WaysOfCommands.{begins_by, begun_as, command_few, answer_one}
+use Rattle.ufs_laws.proofs.walk.WaysOfCommands.{Answered, Beginning, Gathered, Handing, IsTold, Reading, Telling}
+use Rattle.ufs_laws.proofs.walk.WaysOfCommands.{TellsCapacity, TellsSense, TellsUnit, TellsUnits, Waiting, WhyBegun}
+use Rattle.ufs_laws.proofs.walk.WaysOfCommands.{begins_by, begun_as, command_few}
+use Rattle.ufs_laws.proofs.walk.WaysOfData.{IsAnswerOfData, IsGood, IsOutOfRange, IsOutOfSequence, IsWriteError}
+use Rattle.ufs_laws.proofs.walk.WaysOfData.{IsWrongField, answer_one}
+use Rattle.ufs_laws.proofs.exchanges.ListedUnits.{inquiry_told, luns_size, luns_told}
+use Rattle.ufs_laws.proofs.exchanges.TakenCommandsKnown.{passed_line, past}
 use Rattle.ufs_laws.proofs.walk.TaskLaws.{Any, IsTaskLaw, OneMore, task_for}
 use Rattle.ufs_laws.specs.Exchange.{Every, IsRequest}
 use Rattle.ufs_laws.specs.Replies.{DeedSpeaks, IsStatus, TaskSpeaks}
+use Rattle.std.specs.List.{flat_map}
+use Rattle.ufs_spec.specs.Begins.{frames_begun}
+use Rattle.ufs_spec.specs.FrameRequests.{with_request}
+use Rattle.ufs_spec.specs.Identities.{inquiry_bytes, luns_bytes}
+use Rattle.ufs_spec.specs.Refusals.{is_too_long}
+use Rattle.ufs_spec.specs.declared.scsi.Cdb.TheVariants as cdb
 use Rattle.ufs_spec.proofs.Facts.{eqb-false, ltb-true, same_Some}
 use Rattle.ufs_spec.specs.Cdbs.{IsCdb, address_of, blocks_of, operation_of, read_10, read_6}
 use Rattle.ufs_spec.specs.Exchanges.{Answering, Awaiting, Deed, Gathering, Good, ReadBlock, ReadState, Sending, Status}
 use Rattle.ufs_spec.specs.Exchanges.{Task, SendingBytes, Unread, bytes_sent, invalid_field, invalid_operation, no_unit}
-use Rattle.ufs_spec.specs.Exchanges.{task_of, with_deed, write_error}
+use Rattle.ufs_spec.specs.Exchanges.{ReadingArea, RpmbRequest, task_of, with_deed, write_error}
 use Rattle.ufs_spec.specs.Keys.{IsBlock, below}
 use Rattle.ufs_spec.specs.Machine.{IsCdbIn, begun, blocks_expected, capacity_bytes, data_begun, deed_locked, deed_read}
 use Rattle.ufs_spec.specs.Machine.{no_sense, read_begun, read_blocks, sending, sending_bytes, set_state, unit_or_first}
@@ -78,9 +89,6 @@ table_status s r status e =
 
 write_error_is : IsStatus write_error
 write_error_is = (omega arith, omega arith, omega arith)
-
-invalid_operation_is : IsStatus invalid_operation
-invalid_operation_is = (omega arith, omega arith, omega arith)
 
 -- ## Tasks
 
@@ -196,22 +204,65 @@ capacity_speaks s r c (Some u) is =
     data_speaks s r c (capacity_bytes (Some u)) is (omega arith)
     (bytes-append (big_bytes 4 (u.blocks - 1)) (big_bytes 4 4096) (bytes-number 4 (u.blocks - 1)) (bytes-number 4 4096))
 
+-- the device has no more units than a configuration may have
+abbrev pub FewUnits : State → Type 0
+FewUnits s = length (numbers_of s).units.items ≤ 8
+
+-- what waits for SECURITY PROTOCOL IN is no more than 4096 bytes
+abbrev pub FramesFit : State → Type 0
+FramesFit s = (region : ℕ) →
+    (length (flat_map (λ (frame : List ℕ). frame) (s.registers region).response) ≤ 4096)
+    × AreBytes (flat_map (λ (frame : List ℕ). frame) (s.registers region).response)
+
+unit_speaks : (s : State) (r : Request) (c : Cdb) (allocation : ℕ) → IsRequest r →
+    OneMore TaskSpeaks s.tasks (data_begun s r c (take allocation (inquiry_bytes r.lun))).tasks
+unit_speaks s r c allocation is =
+    let size : length (take allocation (inquiry_bytes r.lun)) ≡ min allocation 36 =
+    length-take allocation (inquiry_bytes r.lun) in
+    let few : min allocation 36 ≤ 36 = grind arith in
+    data_speaks s r c (take allocation (inquiry_bytes r.lun)) is (omega arith)
+    (bytes-take allocation (inquiry_bytes r.lun) (inquiry_told r.lun))
+
+units_speak : (s : State) (r : Request) (c : Cdb) (select allocation : ℕ) → IsRequest r → FewUnits s →
+    OneMore TaskSpeaks s.tasks (data_begun s r c (take allocation (luns_bytes (numbers_of s) select))).tasks
+units_speak s r c select allocation is few =
+    let size : length (take allocation (luns_bytes (numbers_of s) select))
+    ≡ min allocation (length (luns_bytes (numbers_of s) select)) =
+    length-take allocation (luns_bytes (numbers_of s) select) in
+    let all : length (luns_bytes (numbers_of s) select) ≤ 104 = luns_size (numbers_of s) select few in
+    let least : min allocation (length (luns_bytes (numbers_of s) select)) ≤ 104 = grind arith in
+    data_speaks s r c (take allocation (luns_bytes (numbers_of s) select)) is (omega arith)
+    (bytes-take allocation (luns_bytes (numbers_of s) select) (luns_told (numbers_of s) select few))
+
+told_speaks : (s : State) (r : Request) (c : Cdb) (bytes : List ℕ) → IsRequest r → FewUnits s → IsTold s r bytes →
+    OneMore TaskSpeaks s.tasks (data_begun s r c bytes).tasks
+told_speaks s r c bytes is few (TellsSense allocation) = sense_speaks s r c allocation is
+told_speaks s r c bytes is few TellsCapacity = capacity_speaks s r c (unit_numbers_of s r) is
+told_speaks s r c bytes is few (TellsUnit allocation) = unit_speaks s r c allocation is
+told_speaks s r c bytes is few (TellsUnits select allocation) = units_speak s r c select allocation is few
+
+frames_speak : (s : State) (r : Request) (region n : ℕ) → IsRequest r →
+    (length (flat_map (λ (frame : List ℕ). frame) (s.registers region).response) ≤ 4096)
+    × AreBytes (flat_map (λ (frame : List ℕ). frame) (s.registers region).response) →
+    OneMore TaskSpeaks s.tasks (frames_begun s r region n).tasks
+frames_speak s r region n is fit =
+    data_speaks s r (cdb.SecurityIn region n) (flat_map (λ frame. frame) (s.registers region).response) is fit.0 fit.1
+
 abbrev BlocksOf : State → Request → ℕ → Cdb → Type 0
 BlocksOf s r unit c = (n : ℕ) → (operation_of c ≡ read_6) ⊎ (operation_of c ≡ read_10) → n ≡ blocks_of c * 4096 →
     BlocksFit s r unit (address_of c) n
 
 begins_speaking : (s : State) (r : Request) (c : Cdb) (unit : ℕ) → IsRequest r → IsCdb c → BlocksOf s r unit c →
+    FewUnits s → FramesFit s → is_too_long (numbers_of s) c ≡ false →
     OneMore TaskSpeaks s.tasks (begun s r unit c).tasks
-begins_speaking s r c unit is fits reads = begins_by (λ t. OneMore TaskSpeaks s.tasks t.tasks) s r unit c one
+begins_speaking s r c unit is fits reads units frames short =
+    begins_by (λ t. OneMore TaskSpeaks s.tasks t.tasks) s r unit c one
   where
     one : (b : Beginning) → WhyBegun s r unit c b → OneMore TaskSpeaks s.tasks (begun_as s r c b).tasks
-    one (Answered command status) why = (
-      task_for r command 0 (Answering status 0),
+    one Answered why = (
+      task_for r (Some c) 0 (Answering Good 0),
       refl,
-      asked_for r command 0 (Answering status 0) is (omega arith) (
-        ⊎_elim (λ e. subst IsStatus (sym e.1) invalid_operation_is) (λ e. subst IsStatus (sym e.1) tt) why,
-        omega arith,
-      ),
+      asked_for r (Some c) 0 (Answering Good 0) is (omega arith) (tt, omega arith),
     )
     one Waiting why = (
       task_for r (Some c) 0 (Awaiting (length s.accepted)),
@@ -219,12 +270,8 @@ begins_speaking s r c unit is fits reads = begins_by (λ t. OneMore TaskSpeaks s
       asked_for r (Some c) 0
           (Awaiting (length s.accepted)) is (omega arith) tt,
     )
-    one (Telling bytes) (inl (allocation, e)) =
-        subst (λ (xs : List ℕ). OneMore TaskSpeaks s.tasks (data_begun s r c xs).tasks) (sym e)
-        (sense_speaks s r c allocation is)
-    one (Telling bytes) (inr e) =
-        subst (λ (xs : List ℕ). OneMore TaskSpeaks s.tasks (data_begun s r c xs).tasks) (sym e)
-        (capacity_speaks s r c (unit_numbers_of s r) is)
+    one (Telling bytes) why = told_speaks s r c bytes is units why
+    one (Handing region n) why = frames_speak s r region n is (frames region)
     one (Reading u address n) (unit_is, address_is, size, read) =
         let few = command_few c fits in
         read_speaks s r c u address n is (omega arith)
@@ -233,8 +280,15 @@ begins_speaking s r c unit is fits reads = begins_by (λ t. OneMore TaskSpeaks s
     one (Gathered count purpose n) (slots, some, few, needs, gathered) = (
       task_for r (Some c) n (Gathering purpose [] false),
       refl,
-      asked_for r (Some c) n (Gathering purpose [] false) is (few fits) some,
+      asked_for r (Some c) n (Gathering purpose [] false) is (few fits) (some short),
     )
+
+-- a command that is not refused is not too long
+not_too_long : (s : State) (r : Request) (c : Cdb) → r.cdb ≡ Some c → refusal s r ≡ None →
+    is_too_long (numbers_of s) c ≡ false
+not_too_long s r c e passed =
+    (passed_line (is_too_long (numbers_of s) c) invalid_field _
+    (subst (λ (o : Option Cdb). first_line (lines_after s r o) ≡ None) e (past s r passed).later)).0
 
 spelled_cdb : (r : Request) (c : Cdb) → IsRequest r → r.cdb ≡ Some c → IsCdb c
 spelled_cdb r c is e = (subst (IsCdbIn (Some r.bytes)) e is.1.2).0
@@ -275,11 +329,12 @@ read_speaks_again total sent_bytes blocks sent index state d = by (slice_get blo
               subst IsBlock (sym b.2) (d.2 k b.0 b.1)),
         )
 
-answer_status : (status : Status) → (status ≡ Good) ⊎ (status ≡ write_error) ⊎ (status ≡ invalid_operation) →
-    IsStatus status
-answer_status status (inl e) = subst IsStatus (sym e) tt
-answer_status status (inr (inl e)) = subst IsStatus (sym e) write_error_is
-answer_status status (inr (inr e)) = subst IsStatus (sym e) invalid_operation_is
+answer_status : (status : Status) → IsAnswerOfData status → IsStatus status
+answer_status status IsGood = tt
+answer_status status IsWriteError = write_error_is
+answer_status status IsWrongField = (omega arith, omega arith, omega arith)
+answer_status status IsOutOfRange = (omega arith, omega arith, omega arith)
+answer_status status IsOutOfSequence = (omega arith, omega arith, omega arith)
 
 -- what is said of a deed is said of what its task does next
 speaking_deeds : (task : Task) → TaskSpeaks task → IsDeedLaw (DeedSpeaks task.length (bytes_sent task)) task
@@ -289,6 +344,7 @@ speaking_deeds task h = record {
   sent = (tt, h.length);
   fails = (write_error_is, h.length);
   read = λ blocks sent index state d. read_speaks_again task.length (bytes_sent task) blocks sent index state d;
+  page = λ pages index state d. tt;
 }
 
 -- tags of tasks are apart
@@ -297,20 +353,28 @@ SetsOne s = (task : Task) (deed : Deed) → task_of task.tag s.tasks ≡ Some ta
     TaskSpeaks (record task { deed = deed }) →
     Every TaskSpeaks (map (with_deed task.tag deed) s.tasks)
 
-pub speaks_law : (s : State) → SetsOne s → ReadsFit s →
+-- the same, with a request
+abbrev pub SetsRequest : State → Type 0
+SetsRequest s = (task : Task) (request : RpmbRequest) (deed : Deed) → task_of task.tag s.tasks ≡ Some task →
+    Every TaskSpeaks s.tasks → TaskSpeaks (record task { deed = deed }) →
+    Every TaskSpeaks (map (with_request task.tag request deed) s.tasks)
+
+pub speaks_law : (s : State) → SetsOne s → SetsRequest s → ReadsFit s → FewUnits s → FramesFit s →
     IsTaskLaw TaskSpeaks (λ task deed. TaskSpeaks (record task { deed = deed })) Any s
-speaks_law s sets found = record {
+speaks_law s sets requests found units frames = record {
   set = sets;
+  set_request = requests;
   refused = λ r status is asks free e. asked_for r None 0 (Answering status 0) is (omega arith)
       (table_status s r status e, omega arith);
   begins = λ r c is asks free e passed.
       begins_speaking s r c (unit_or_first (unit_of_request s r)) is (spelled_cdb r c is e)
-      (λ n read size. found r c n is e passed read size);
+      (λ n read size. found r c n is e passed read size) units frames (not_too_long s r c e passed);
   gathers = λ task purpose gathered bytes asked e h next more. speaks task (Gathering purpose (gathered ++ bytes) false)
       h (ltb-true _ task.length more);
   answers = λ task purpose gathered asked status e h is.
       speaks task (Answering status task.length) h (answer_status status (answer_one purpose status is), h.length);
   waits = λ task purpose gathered asked position e h. speaks task (Awaiting position) h tt;
+  reads_area = λ task purpose gathered asked pages e h. speaks task (ReadingArea pages) h tt;
   goes = λ task deed e h. speaks task deed h (goes (DeedSpeaks task.length (bytes_sent task)) task
       (speaking_deeds task h) task.deed deed h.deed e);
   fills = λ u task h. filled_keeps TaskSpeaks u task (record {

@@ -7,12 +7,12 @@ use Rattle.ufs_spec.proofs.Lists.{at_contained, contained_at, find_some}
 use Rattle.ufs_spec.specs.Cells.{Cell}
 use Rattle.ufs_spec.specs.Disk.{Bad, BlockState, Closed, Erasing, Filling, Flight, Free, Programming, Ready, Spot}
 use Rattle.ufs_spec.specs.Disk.{Stale, Untouched, Vacancy, place_in}
-use Rattle.ufs_spec.specs.Ledger.{Name}
 use Rattle.ufs_spec.specs.Translation.{MayTake, Translation, cell_now, flight_at, flight_for, flight_into, flight_or}
 use Rattle.ufs_spec.specs.Translation.{has_room_for_groups, is_free, is_pinned, is_ready, is_stale, is_untouched}
 use Rattle.ufs_spec.specs.Translation.{is_vacant, lowest_vacant, may_be_used, may_open_for_group, next_erase}
 use Rattle.ufs_spec.specs.Translation.{next_place, spots_of, waiting_name, waiting_step}
 use Rattle.ufs_spec.specs.declared.flash.Place.{Place}
+use Rattle.ufs_spec.specs.declared.layer.Name.{Name}
 
 -- ## Blocks that were looked for
 

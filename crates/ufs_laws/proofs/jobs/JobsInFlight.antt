@@ -1,5 +1,6 @@
 -- What a job's beginning and its end make of the jobs in flight.
-use Rattle.std.proofs.Common.{◌≡◌, ◌≢◌, ℕ, true, List, [], ◌∷◌, map, Option, Some, None, option_map, refl, sym, ap, ◌∙◌}
+use Rattle.std.proofs.Common.{◌≡◌, ◌≢◌, ℕ, true, false, List, [], ◌∷◌, map, Option, Some, None, option_map, refl, sym}
+use Rattle.std.proofs.Common.{ap, ◌∙◌}
 use Rattle.std.proofs.Common.{eq-eqb, ne_eqb}
 use Rattle.std.proofs.lemmas.Option.{none-some}
 use Rattle.ufs_laws.proofs.exchanges.DeedLaws.{read_keeps}
@@ -10,10 +11,10 @@ use Rattle.ufs_laws.proofs.walk.Happenings.{ends_by, job_over}
 use Rattle.ufs_laws.proofs.exchanges.RequestsSettled.{settled_is}
 use Rattle.ufs_laws.proofs.walk.LayerEffects.{die_in, effect_flights, effect_of, freed_die, without_job}
 use Rattle.ufs_laws.specs.Flights.{die_of_flight}
-use Rattle.ufs_laws.specs.Requests.{HaveNoRequest}
+use Rattle.ufs_laws.specs.Requests.{HaveNoneToFill}
 use Rattle.ufs_spec.specs.Cells.{Array}
 use Rattle.ufs_spec.specs.Disk.{Flight, Erasing, Programming, Reading, at_die, job_of}
-use Rattle.ufs_spec.specs.Exchanges.{ReadState, Task}
+use Rattle.ufs_spec.specs.Exchanges.{ReadState, Task, is_unfilled}
 use Rattle.ufs_spec.specs.Machine.{Allowed, Done, OfDone, Take, OfTake, ends_with, fills, given as given_job}
 use Rattle.ufs_spec.specs.Machine.{lock_applied, observe, task_read}
 use Rattle.ufs_spec.specs.Moves.{Ending, end_flight, ending_fits, job_ended}
@@ -48,19 +49,19 @@ other_job s die flight other differ =
 pub same_jobs : (s : State) (die other : ℕ) → Does (observe s (Take die) (OfTake None)) other ≡ Does s other
 same_jobs s die other = small_same (observed s (Take die) (OfTake None)) other
 
--- where no task has a request, for whom a read is stays as well
-settled_flights : (s : State) → HaveNoRequest s.tasks →
+-- where no request is yet to fill its register, for whom a read is stays as well
+settled_flights : (s : State) → HaveNoneToFill s.tasks →
     (lock_applied (fills s)).translation.disk.flights ≡ s.translation.disk.flights
 settled_flights s none =
     ap (λ (u : State). u.translation.disk.flights) (settled_is s none)
     ∙ ap (λ (t : Translation). t.disk.flights) (told_layer s)
 
-pub given_flights : (s : State) (die : ℕ) (flight : Flight) → HaveNoRequest s.tasks
+pub given_flights : (s : State) (die : ℕ) (flight : Flight) → HaveNoneToFill s.tasks
     → (observe s (Take die) (OfTake (Some flight))).translation.disk.flights ≡ at_die s.translation.disk.flights die
     (Some flight)
 given_flights s die flight none = settled_flights (given_job s die (Some flight)) none
 
-pub same_flights : (s : State) (die : ℕ) → HaveNoRequest s.tasks →
+pub same_flights : (s : State) (die : ℕ) → HaveNoneToFill s.tasks →
     (observe s (Take die) (OfTake None)).translation.disk.flights ≡ s.translation.disk.flights
 same_flights s die none = settled_flights s none
 
@@ -122,23 +123,25 @@ ended_others s die flight ending left e here right other differ =
     ∙ ap (option_map job_of) (at_other s.translation.disk.flights die None other differ)
 
 -- a job's end changes no request
-read_requests : (tag index : ℕ) (read : ReadState) (tasks : List Task) → HaveNoRequest tasks →
-    HaveNoRequest (map (task_read tag index read) tasks)
+read_requests : (tag index : ℕ) (read : ReadState) (tasks : List Task) → HaveNoneToFill tasks →
+    HaveNoneToFill (map (task_read tag index read) tasks)
 read_requests tag index read [] h = tt
-read_requests tag index read (t ∷ ts) h =
-    (read_keeps (λ task. task.request ≡ None) tag index read t h.0 h.0, read_requests tag index read ts h.1)
+read_requests tag index read (t ∷ ts) h = (
+  read_keeps (λ task. is_unfilled task.request ≡ false) tag index read t h.0 h.0,
+  read_requests tag index read ts h.1,
+)
 
-ends_requests : (s : State) (die : ℕ) (o : Option Flight) (ending : Ending) (left : Array) → HaveNoRequest s.tasks →
-    HaveNoRequest (ends_with s die o ending left).tasks
+ends_requests : (s : State) (die : ℕ) (o : Option Flight) (ending : Ending) (left : Array) → HaveNoneToFill s.tasks →
+    HaveNoneToFill (ends_with s die o ending left).tasks
 ends_requests s die o ending left none =
-    ends_by (λ u. HaveNoRequest u.tasks) s die o ending left
+    ends_by (λ u. HaveNoneToFill u.tasks) s die o ending left
     (λ tag index read. read_requests tag index read (job_over s die o ending left).tasks (over o)) (over o)
   where
-    over : (o : Option Flight) → HaveNoRequest (job_over s die o ending left).tasks
+    over : (o : Option Flight) → HaveNoneToFill (job_over s die o ending left).tasks
     over None = none
     over (Some flight) = none
 
-pub jobs_behind : (s : State) (die : ℕ) (flight : Flight) (ending : Ending) (left : Array) → HaveNoRequest s.tasks →
+pub jobs_behind : (s : State) (die : ℕ) (flight : Flight) (ending : Ending) (left : Array) → HaveNoneToFill s.tasks →
     s.translation.disk.flights die ≡ Some flight → die_of_flight flight ≡ die →
     Allowed s (Done die ending left) (OfDone true) →
     (observe s (Done die ending left) (OfDone true)).translation.disk.flights

@@ -5,16 +5,17 @@ use Rattle.std.specs.List.{cons_option}
 use Rattle.std.proofs.lemmas.List.Elements.{All-contains, filter_passes}
 use Rattle.ufs_laws.specs.Flights.{die_of_flight}
 use Rattle.ufs_spec.specs.Cells.{Cell}
-use Rattle.ufs_spec.specs.Disk.{BlockState, Filling, Flight, Erasing, Programming, Reader, Reading, Spot, Vacancy}
+use Rattle.ufs_spec.specs.Disk.{BlockState, Filling, Flight, Erasing, Programming, Reading, Spot, Vacancy}
 use Rattle.ufs_spec.specs.Disk.{place_in}
 use Rattle.ufs_spec.specs.Keys.{below}
-use Rattle.ufs_spec.specs.Ledger.{Name}
 use Rattle.ufs_spec.specs.Translation.{MayTake, Translation, Want, cell_now, first_of, flight_at, flight_for, is_of_die}
 use Rattle.ufs_spec.specs.Translation.{flight_into, flight_or, has_room_for_groups, is_ready, is_stale, is_untouched}
 use Rattle.ufs_spec.specs.Translation.{lowest_vacant, may_be_used, may_open_for_group, may_open_for_step, next_erase}
 use Rattle.ufs_spec.specs.Translation.{next_flight, next_in, next_place, waiting_name, waiting_step}
 use Rattle.ufs_spec.specs.Translation.{want_at, wants, wants_on}
 use Rattle.ufs_spec.specs.declared.flash.Place.{Place}
+use Rattle.ufs_spec.specs.declared.layer.Name.{Name}
+use Rattle.ufs_spec.specs.declared.layer.Reader.{Reader}
 
 -- Reads
 

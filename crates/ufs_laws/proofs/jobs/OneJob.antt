@@ -3,13 +3,14 @@ use Rattle.std.proofs.Common.{◌≡◌, ◌⊎◌, ℕ, ◌<◌, Bool, true, fa
 use Rattle.std.proofs.Common.{Some, None, option_map, if◌then◌else◌, refl, sym, ◌∙◌, subst, inl, inr}
 use Rattle.std.proofs.Common.{arith, ltb-true, true≢false}
 use Rattle.ufs_spec.specs.Cells.{Cell}
-use Rattle.ufs_spec.specs.Ledger.{Name}
-use Rattle.ufs_spec.specs.Disk.{Flight, Erasing, Reader, Reading, Spot}
+use Rattle.ufs_spec.specs.Disk.{Flight, Erasing, Reading, Spot}
 use Rattle.ufs_spec.specs.Translation.{IsOwed, MayTake, Translation, Want, cell_now, flight_at, flight_for}
 use Rattle.ufs_spec.specs.Translation.{flight_into, flight_or, has_room_for_groups, is_idle, is_stale}
 use Rattle.ufs_spec.specs.Translation.{may_open_for_group, next_erase, next_flight, next_place}
 use Rattle.ufs_spec.specs.Translation.{want_at, wants_on}
 use Rattle.ufs_spec.specs.declared.flash.Place.{Place}
+use Rattle.ufs_spec.specs.declared.layer.Name.{Name}
+use Rattle.ufs_spec.specs.declared.layer.Reader.{Reader}
 use Rattle.ufs_spec.proofs.Facts.{and_parts, none_is}
 
 -- Tests

@@ -11,10 +11,10 @@ use Rattle.ufs_laws.proofs.array_cells.StandsForSomething.{AllBlank}
 use Rattle.ufs_laws.specs.Runs.{IsNew, row}
 use Rattle.ufs_spec.specs.Cells.{Array, IsCell, Nothing}
 use Rattle.ufs_spec.specs.Disk.{Disk, Spot, Untouched}
-use Rattle.ufs_spec.specs.Exchanges.{empty_registers}
+use Rattle.ufs_spec.specs.Exchanges.{all_empty}
 use Rattle.ufs_spec.specs.Keys.{Contents}
 use Rattle.ufs_spec.specs.Kept.{fence_in}
-use Rattle.ufs_spec.specs.Ledger.{Ledger, Name}
+use Rattle.ufs_spec.specs.Ledger.{Ledger}
 use Rattle.ufs_spec.specs.Lives.{IsOpened}
 use Rattle.ufs_spec.specs.Openings.{IsMendingAt, IsGreatestSeen, lost_from, number_of}
 use Rattle.ufs_spec.specs.Plain.{Plain}
@@ -24,6 +24,7 @@ use Rattle.ufs_spec.specs.Translation.{is_vacant, lowest_vacant, may_be_used, sp
 use Rattle.ufs_spec.specs.declared.configs.Numbers.{Numbers}
 use Rattle.ufs_spec.specs.declared.flash.Key.{Key}
 use Rattle.ufs_spec.specs.declared.flash.Place.{Place}
+use Rattle.ufs_spec.specs.declared.layer.Name.{Name}
 
 -- what a life begins with that the numbers do not say
 pub record Open : Type 0 where
@@ -82,7 +83,7 @@ first_state n bad o = record {
   tasks = [];
   shorts = [];
   power_on = false;
-  registers = empty_registers;
+  registers = all_empty;
 }
 
 -- Nothing to erase is in any of its blocks

@@ -25,7 +25,7 @@ bytes-key : (key : Option (List ℕ)) → ((bytes : List ℕ) → key ≡ Some b
 bytes-key None h = bytes-zeros 34
 bytes-key (Some bytes) h = bytes-cons 1 (0 ∷ bytes) (omega arith) (bytes-cons 0 bytes (omega arith) (h bytes refl).1)
 
-flag_fits : (flag : Bool) → flag_byte flag < 256
+pub flag_fits : (flag : Bool) → flag_byte flag < 256
 flag_fits true = omega arith
 flag_fits false = omega arith
 

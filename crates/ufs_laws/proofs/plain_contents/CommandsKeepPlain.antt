@@ -1,16 +1,21 @@
 -- Commands leave a plain state plain.
 use Rattle.std.proofs.Common.{All, List, Some, [], arith, drop, length, map, replicate, slice_index_or, slice_set}
-use Rattle.std.proofs.Common.{subst, sym, take, ℕ, ◌*◌, ◌++◌, ◌+◌, ◌/◌, ◌<◌, ◌∷◌, ◌≡◌}
-use Rattle.std.proofs.lemmas.List.{length-map}
+use Rattle.std.proofs.Common.{inl, inr, subst, sym, take, ℕ, ◌*◌, ◌++◌, ◌+◌, ◌/◌, ◌<◌, ◌∙◌, ◌∷◌, ◌≡◌, ◌≤◌}
+use Rattle.std.proofs.lemmas.List.{length-map, length-set}
 use Rattle.std.proofs.lemmas.List.Elements.{All-append, All-drop, All-replicate, All-set, All-take}
-use Rattle.ufs_spec.specs.Keys.{AreSettings, CanApplyAll, IsBlock, IsCommand, IsPlain}
+use Rattle.ufs_spec.specs.Keys.{AreSettings, CanApplyAll, IsBlock, IsCommand, IsPlain, IsRegion}
 use Rattle.ufs_spec.specs.Messages.{AreBytes}
-use Rattle.ufs_spec.specs.Plain.{CanApply, Plain, after, apply, with_part, zero_block}
+use Rattle.ufs_spec.specs.Plain.{CanApply, Plain, Region, after, apply, changed_by, counter_end, empty_region}
+use Rattle.ufs_spec.specs.Plain.{region_of, with_part, with_region, zero_block}
+use Rattle.ufs_spec.specs.Stages.{regions}
 use Rattle.ufs_spec.specs.Commands.{Command}
 use Rattle.ufs_spec.specs.Commands as cmd
 use Rattle.ufs_spec.proofs.PlainFacts.{length-with_part}
-use Rattle.ufs_laws.proofs.pages.ByteLists.{bytes-append, bytes-drop, bytes-take, zero_block_is}
-use Rattle.ufs_spec.proofs.Facts.{same_Some}
+use Rattle.ufs_spec.proofs.RegionPages.{area_there}
+use Rattle.std.proofs.Math.ListN.{get_or-eq_default}
+use Rattle.std.proofs.lemmas.Bool.{cases_lt}
+use Rattle.ufs_laws.proofs.pages.ByteLists.{bytes-append, bytes-drop, bytes-nil, bytes-take, zero_block_is}
+use Rattle.ufs_spec.proofs.Facts.{none-some, same_Some}
 
 -- blocks in place of others
 written_blocks : (units : List (List (List ℕ))) (unit address : ℕ) (blocks : List (List ℕ)) → All (All IsBlock) units →
@@ -33,42 +38,97 @@ written_bytes at new old fresh was =
     bytes-append (take at old) (new ++ drop (at + length new) old) (bytes-take at old was)
     (bytes-append new (drop (at + length new) old) fresh (bytes-drop (at + length new) old was))
 
+-- units in place of others
+kept_units : (p : Plain) (units : List (List (List ℕ))) → IsPlain p → All (All IsBlock) units →
+    IsPlain (record p { units = units })
+kept_units p units plain are = record {
+  blocks = are;
+  boot_bound = plain.boot_bound;
+  regions_count = plain.regions_count;
+  each_region = plain.each_region;
+}
+
+-- a region in place of another
+kept_regions : (p : Plain) (number : ℕ) (new : Region) → IsPlain p → IsRegion new → IsPlain (with_region number new p)
+kept_regions p number new plain is = record {
+  blocks = plain.blocks;
+  boot_bound = plain.boot_bound;
+  regions_count = length-set p.regions number new ∙ plain.regions_count;
+  each_region = All-set IsRegion p.regions number new is plain.each_region;
+}
+
+pub its_region : (p : Plain) (number : ℕ) → IsPlain p → number < regions → IsRegion (region_of p number)
+its_region p number plain there = plain.each_region number empty_region (omega (arith, plain.regions_count, there))
+
+-- also where there is none
+pub region_right : (p : Plain) → IsPlain p → (number : ℕ) → IsRegion (region_of p number)
+region_right p plain number =
+    elim (cases_lt number (length p.regions)) [
+      | inl there ↦ plain.each_region number empty_region there
+      | inr past ↦ subst IsRegion (sym (get_or-eq_default p.regions empty_region past)) empty_right
+    ]
+  where
+    empty_right : IsRegion empty_region
+    empty_right = record {
+      key_length = λ bytes e. absurd (none-some bytes e);
+      area = omega arith;
+      area_bytes = bytes-nil;
+      counter_fits = omega arith;
+    }
+
+key_set : (r : Region) (number : ℕ) (bytes : List ℕ) → IsRegion r → length bytes ≡ 32 → AreBytes bytes →
+    IsRegion (changed_by r (cmd.SetKey number bytes))
+key_set r number bytes is long are = record {
+  key_length = λ other e. subst (λ (b : List ℕ). (length b ≡ 32) × AreBytes b) (same_Some bytes other e) (long, are);
+  area = is.area;
+  area_bytes = is.area_bytes;
+  counter_fits = is.counter_fits;
+}
+
+area_written : (r : Region) (number address : ℕ) (bytes : List ℕ) → IsRegion r →
+    256 * address + length bytes ≤ length r.area → AreBytes bytes → r.counter < counter_end →
+    IsRegion (changed_by r (cmd.RpmbWrite number address bytes))
+area_written r number address bytes is within are below =
+    let long = length-with_part (256 * address) bytes r.area within in
+    record {
+      key_length = is.key_length;
+      area = subst (λ (n : ℕ). n ≡ 4096 * (n / 4096)) (sym long) is.area;
+      area_bytes = written_bytes (256 * address) bytes r.area are is.area_bytes;
+      counter_fits = omega (arith, below);
+    }
+
+-- the settings of a plain state are in their ranges
+pub settings_ranges : (p : Plain) → IsPlain p → AreSettings p.boot (region_of p 0).key (region_of p 0).counter
+settings_ranges p plain =
+    let first : IsRegion (region_of p 0) = its_region p 0 plain (omega arith) in
+    record { boot_bound = plain.boot_bound; key_length = first.key_length; counter_fits = first.counter_fits }
+
 pub kept_plain : (p : Plain) (c : Command) → IsPlain p → IsCommand c → CanApply p c → IsPlain (apply p c)
 kept_plain p (cmd.Write unit address blocks) plain is_cmd can =
-    let written = written_blocks p.units unit address blocks plain.blocks is_cmd can.0.0 in
-    record { blocks = written; area = plain.area; area_bytes = plain.area_bytes; settings = plain.settings }
+    kept_units p _ plain (written_blocks p.units unit address blocks plain.blocks is_cmd can.0.0)
 kept_plain p (cmd.Zero unit address count) plain is_cmd can =
     let zeros : All IsBlock (replicate count zero_block) = All-replicate IsBlock count zero_block zero_block_is in
-    let written = written_blocks p.units unit address (replicate count zero_block) plain.blocks zeros can.0.0 in
-    record { blocks = written; area = plain.area; area_bytes = plain.area_bytes; settings = plain.settings }
-kept_plain p (cmd.SetKey bytes) plain is_cmd can =
-    let set : AreSettings p.boot (Some bytes) p.counter = record {
-      boot_bound = plain.settings.boot_bound;
-      key_length =
-          λ other e. subst (λ (b : List ℕ). (length b ≡ 32) × AreBytes b) (same_Some bytes other e) (can.0, is_cmd);
-      counter_fits = plain.settings.counter_fits;
-    } in
-    record { blocks = plain.blocks; area = plain.area; area_bytes = plain.area_bytes; settings = set }
-kept_plain p (cmd.RpmbWrite address bytes) plain is_cmd can =
-    let long = length-with_part (256 * address) bytes p.area can.0.1 in
-    let counter : p.counter < 4294967295 = can.1 in
-    record {
-      blocks = plain.blocks;
-      area = subst (λ (n : ℕ). n ≡ 4096 * (n / 4096)) (sym long) plain.area;
-      area_bytes = written_bytes (256 * address) bytes p.area is_cmd plain.area_bytes;
-      settings =
-          record {
-            boot_bound = plain.settings.boot_bound;
-            key_length = plain.settings.key_length;
-            counter_fits = omega arith;
-          };
-    }
-kept_plain p (cmd.SetBoot boot) plain is_cmd can =
-    let set : AreSettings boot p.key p.counter =
-    record { boot_bound = can.0; key_length = plain.settings.key_length; counter_fits = plain.settings.counter_fits } in
-    record { blocks = plain.blocks; area = plain.area; area_bytes = plain.area_bytes; settings = set }
-kept_plain p cmd.SetPermanent plain is_cmd can =
-    record { blocks = plain.blocks; area = plain.area; area_bytes = plain.area_bytes; settings = plain.settings }
+    kept_units p _ plain
+    (written_blocks p.units unit address (replicate count zero_block) plain.blocks zeros can.0.0)
+kept_plain p (cmd.SetKey region bytes) plain is_cmd can =
+    kept_regions p region _ plain
+    (key_set (region_of p region) region bytes (its_region p region plain can.0.0) can.0.1 is_cmd)
+kept_plain p (cmd.RpmbWrite region address bytes) plain is_cmd can =
+    kept_regions p region _ plain
+    (area_written (region_of p region) region address bytes (its_region p region plain can.0.0)
+    (omega (arith, can.0.1.1, area_there p region)) is_cmd can.1)
+kept_plain p (cmd.SetBoot boot) plain is_cmd can = record {
+  blocks = plain.blocks;
+  boot_bound = can.0;
+  regions_count = plain.regions_count;
+  each_region = plain.each_region;
+}
+kept_plain p cmd.SetPermanent plain is_cmd can = record {
+  blocks = plain.blocks;
+  boot_bound = plain.boot_bound;
+  regions_count = plain.regions_count;
+  each_region = plain.each_region;
+}
 
 pub all_kept_plain : (p : Plain) (cs : List Command) → IsPlain p → CanApplyAll p cs → IsPlain (after p cs)
 all_kept_plain p [] plain can = plain

@@ -3,16 +3,21 @@ pub use Rattle.ufs_spec.proofs.Equalities.{key_told as same_from_true}
 use Rattle.std.proofs.Common.{Bool, List, Some, [], cond, false, suc, ℕ, ◌*◌, ◌+◌, ◌-◌, ◌/◌, ◌<◌, ◌≡◌, ◌≤◌, ◌⊎◌, ◌∷◌}
 use Rattle.std.proofs.Common.{◌++◌, length, map, replicate, slice_index_or, slice_set, refl, sym, ap, ◌∙◌, subst, inl}
 use Rattle.std.proofs.Common.{inr, arith}
+use Rattle.std.proofs.Math.ListN as lists
+use Rattle.std.proofs.Math.ListN.{get_or-eq_default}
+use Rattle.std.proofs.Math.Seq.{map-set_same}
 use Rattle.std.proofs.lemmas.Bool.{cases_Bool, cases_eq, cases_lt, cond-false, cond-true, false≢true, or_from, or_parts}
 use Rattle.std.proofs.lemmas.List.{get_or-map, get_or-set_other, get_or-set_same, length-map, length-replicate}
 use Rattle.ufs_spec.specs.Keys.{CanApplyAll, Contents, Group, IsKey, IsData, IsArea, IsSettings, area_key, area_keys}
 use Rattle.ufs_spec.specs.Keys.{area_page, below, content, data_key, data_keys, group_of, groups_of, keys, put_group}
 use Rattle.ufs_spec.specs.Keys.{put_groups, same_key, settings_key}
-use Rattle.ufs_spec.specs.Plain.{CanApply, Plain, after, apply, shape_of, with_part, zero_block}
+use Rattle.ufs_spec.specs.Plain.{CanApply, Plain, Region, after, apply, changed_by, empty_region, region_of, shape_of}
+use Rattle.ufs_spec.specs.Plain.{with_part, with_region, zero_block}
 use Rattle.ufs_spec.specs.Commands.{Command}
 use Rattle.ufs_spec.specs.Commands as cmd
 use Rattle.ufs_spec.specs.declared.flash.Key.{Key}
 use Rattle.ufs_spec.proofs.PlainFacts.{kept_shape, length-with_part}
+use Rattle.ufs_spec.proofs.RegionPages.{area_there}
 use Rattle.ufs_laws.proofs.plain_contents.ListParts.{same_part, with_part-outside}
 use Rattle.ufs_spec.proofs.Equalities.{key_same, key_told}
 use Rattle.ufs_spec.proofs.Lists.{any_here, below_at}
@@ -71,7 +76,7 @@ put_groups-same f g (items ∷ gs) k h =
 -- Blocks
 
 -- a block that a write does not name stays
-blocks_unless : (units : List (List (List ℕ))) (unit address : ℕ) (blocks : List (List ℕ)) (u a : ℕ) →
+pub blocks_unless : (units : List (List (List ℕ))) (unit address : ℕ) (blocks : List (List ℕ)) (u a : ℕ) →
     unit < length (map length units) → address + length blocks ≤ slice_index_or (map length units) unit 0
     → (u ≡ unit → address ≤ a → a < address + length blocks → ⊥)
     →
@@ -129,12 +134,35 @@ page_unless area bytes address count page size some within other =
     with_part-outside (256 * address) bytes area (4096 * page + k) d within outside))
 
 -- a page that is none of the keys of an RPMB write lies outside of it
-not_among : (first last page : ℕ) → any_same (area_keys first last) (area_key page) ≡ false → first / 16 ≤ page →
-    page ≤ last / 16 → ⊥
-not_among first last page none low high =
+not_among : (region first last page : ℕ) → any_same (area_keys region first last) (area_key region page) ≡ false →
+    first / 16 ≤ page → page ≤ last / 16 → ⊥
+not_among region first last page none low high =
     let place : first / 16 + (page - first / 16) ≡ page = omega arith in
-    none_made (λ (i : ℕ). area_key (first / 16 + i)) (last / 16 + 1 - first / 16) (area_key page) none
-    (page - first / 16) (omega arith) (ap area_key place)
+    none_made (λ (i : ℕ). area_key region (first / 16 + i)) (last / 16 + 1 - first / 16) (area_key region page) none
+    (page - first / 16) (omega arith) (ap (area_key region) place)
+
+-- Regions
+
+-- a region that has bytes is there
+some_area : (rs : List Region) (number size : ℕ) → 1 ≤ size →
+    size ≤ length (slice_index_or rs number empty_region).area →
+    number < length rs
+some_area rs number size some within =
+    elim (cases_lt number (length rs)) [
+      | inl there ↦ there
+      | inr past ↦
+          (let none = ap (λ (r : Region). length r.area) (get_or-eq_default rs empty_region past) in
+          absurd (omega (arith, none, some, within)))
+    ]
+
+-- a region in place of one with the same area changes no area
+area_stays : (p : Plain) (number other : ℕ) (new : Region) → new.area ≡ (region_of p number).area →
+    (region_of (with_region number new p) other).area ≡ (region_of p other).area
+area_stays p number other new same =
+    sym (lists.get_or-map (λ (r : Region). r.area) (slice_set p.regions number new) other empty_region)
+    ∙ (ap (λ (areas : List (List ℕ)). slice_index_or areas other [])
+    (map-set_same (λ (r : Region). r.area) p.regions number new empty_region same)
+    ∙ lists.get_or-map (λ (r : Region). r.area) p.regions other empty_region)
 
 -- Commands
 
@@ -150,20 +178,37 @@ untouched p (cmd.Zero unit address count) can k (IsData u a there within) none =
     blocks_unless p.units unit address zeros u a can.0.0 (omega (arith, can.0.3))
     (λ same low high. not_within unit address count u a none same low (omega arith))
 untouched p (cmd.Zero unit address count) can k IsSettings none = refl
-untouched p (cmd.RpmbWrite address bytes) can k (IsArea page within) none =
-    let count : ℕ = can.0.0.0 in
-    let size : length bytes ≡ 256 * count = can.0.0.1 in
+untouched p (cmd.SetKey region bytes) can k (IsArea other page there within) none =
+    ap (area_page page) (area_stays p region other (changed_by (region_of p region) (cmd.SetKey region bytes)) refl)
+untouched p (cmd.RpmbWrite region address bytes) can k (IsArea other page there within) none =
+    let count : ℕ = can.0.1.0.0 in
+    let size : length bytes ≡ 256 * count = can.0.1.0.1 in
     let again : length bytes / 256 ≡ count = omega arith in
     let last : ℕ = address + length bytes / 256 - 1 in
     let same : last ≡ address + count - 1 = ap (λ (n : ℕ). address + n - 1) again in
-    let parts = any_same-parts (area_keys address last) (settings_key ∷ []) (area_key page) none in
-    page_unless p.area bytes address count page size can.0.0.2 can.0.1
-    (λ low high. not_among address last page parts.0 low (omega arith))
-untouched p (cmd.RpmbWrite address bytes) can k IsSettings none =
-    let parts = any_same-parts (area_keys address (address + length bytes / 256 - 1)) (settings_key ∷ []) settings_key
-    none in
+    let parts = any_same-parts (area_keys region address last) (settings_key ∷ []) (area_key other page) none in
+    let room : 256 * address + length bytes ≤ length (region_of p region).area =
+    omega (arith, can.0.1.1, area_there p region) in
+    elim (cases_eq other region) [
+      | inl is ↦
+          (let apart = ap (λ (r : ℕ). any_same (area_keys region address last) (area_key r page)) (sym is) ∙ parts.0 in
+          ap (λ (r : ℕ). area_page page (region_of (apply p (cmd.RpmbWrite region address bytes)) r).area) is
+          ∙ (ap (λ (r : Region). area_page page r.area)
+          (get_or-set_same p.regions region (changed_by (region_of p region) (cmd.RpmbWrite region address bytes))
+          empty_region
+          (some_area p.regions region (256 * address + length bytes) (omega (arith, size, can.0.1.0.2)) room))
+          ∙ (page_unless (region_of p region).area bytes address count page size can.0.1.0.2 room
+          (λ low high. not_among region address last page apart low (omega arith))
+          ∙ ap (λ (r : ℕ). area_page page (region_of p r).area) (sym is))))
+      | inr apart ↦ ap (λ (r : Region). area_page page r.area)
+          (get_or-set_other p.regions region other
+          (changed_by (region_of p region) (cmd.RpmbWrite region address bytes)) empty_region apart)
+    ]
+untouched p (cmd.RpmbWrite region address bytes) can k IsSettings none =
+    let parts = any_same-parts (area_keys region address (address + length bytes / 256 - 1)) (settings_key ∷ [])
+    settings_key none in
     absurd (false≢true (sym parts.1))
-untouched p command can k (IsArea page within) none = refl
+untouched p command can k (IsArea region page there within) none = refl
 untouched p command can k (IsData u a there within) none = refl
 untouched p command can k is none = absurd (false≢true (sym none))
 

@@ -1,14 +1,19 @@
 -- A plain state is the same as a content for each key.
-use Rattle.std.proofs.Common.{◌≡◌, ℕ, ◌*◌, ◌<◌, List, [], All, length, map, get_or, slice_index_or, refl, sym, ap, ◌∙◌}
-use Rattle.std.proofs.Common.{subst, arith}
+use Rattle.std.proofs.Common.{◌≡◌, ℕ, ◌==◌, ◌*◌, ◌/◌, ◌<◌, List, [], All, length, map, get_or, slice_index}
+use Rattle.std.proofs.Common.{slice_index_or, refl, sym, ap, ◌∙◌, subst, arith}
+use Rattle.std.proofs.Math.ListN as lists
 use Rattle.std.proofs.lemmas.List.{get_or-map, get_or_default, length-map, same_lists, take_all}
 use Rattle.std.specs.List.{flat_map}
-use Rattle.ufs_spec.specs.Keys.{AreContents, Contents, IsArea, IsBlock, IsData, IsKey, IsPlain, IsSettings}
-use Rattle.ufs_spec.specs.Keys.{IsSettingsBody, area_key, area_pages, below, content, data_key, plain_of, settings_key}
-use Rattle.ufs_spec.specs.Keys.{settings_of}
-use Rattle.ufs_spec.specs.Plain.{Plain, Shape, shape_of}
+use Rattle.ufs_bytes.specs.Fields.{field_at}
+use Rattle.ufs_spec.specs.Keys.{AreContents, Contents, HasWholeAreas, IsArea, IsBlock, IsData, IsKey, IsPlain, IsRegion}
+use Rattle.ufs_spec.specs.Keys.{IsSettings, IsSettingsBody, area_key, area_page, below, content, data_key, key_in}
+use Rattle.ufs_spec.specs.Keys.{plain_of, region_in, region_pages, settings_key, settings_of}
+use Rattle.ufs_spec.specs.Plain.{Plain, Region, Shape, empty_region, region_of, shape_of}
+use Rattle.ufs_spec.specs.Stages.{regions}
 use Rattle.ufs_spec.specs.declared.flash.Key.{Key}
+use Rattle.ufs_spec.proofs.RegionPages.{pages_held}
 use Rattle.ufs_laws.proofs.pages.ByteLists.{bytes-joined, page_is_block}
+use Rattle.ufs_laws.proofs.plain_contents.CommandsKeepPlain.{its_region, settings_ranges}
 use Rattle.ufs_laws.proofs.plain_contents.ListParts.{get_or-made, joined_part, joined_same, length-joined, length-made}
 use Rattle.ufs_laws.proofs.plain_contents.ListParts.{made_of, made_same, parts_joined}
 use Rattle.ufs_laws.proofs.pages.SettingsBodies.{ReadsBack, ranges_read, read_back, settings_block, written_again}
@@ -20,9 +25,9 @@ settings_body : (p : Plain) → IsPlain p → IsSettingsBody (settings_of p)
 settings_body p plain = record {
   boot = p.boot;
   permanent = p.permanent;
-  key = p.key;
-  counter = p.counter;
-  ranges = plain.settings;
+  key = (region_of p 0).key;
+  counter = (region_of p 0).counter;
+  ranges = settings_ranges p plain;
   bytes = refl;
 }
 
@@ -31,8 +36,11 @@ content_is_block p plain k (IsData unit address there within) =
     let lt : unit < length p.units = omega (arith, length-map p.units length) in
     let size = get_or-map length p.units unit [] 0 lt in
     plain.blocks unit [] lt address [] (omega arith)
-content_is_block p plain k (IsArea page within) = page_is_block p.area page plain.area_bytes within
-content_is_block p plain k IsSettings = settings_block p.boot p.permanent p.key p.counter plain.settings
+content_is_block p plain k (IsArea region page there within) =
+    page_is_block (region_of p region).area page (its_region p region plain there).area_bytes
+    (omega (arith, within, pages_held p region))
+content_is_block p plain k IsSettings =
+    settings_block p.boot p.permanent (region_of p 0).key (region_of p 0).counter (settings_ranges p plain)
 
 pub contents_of : (p : Plain) → IsPlain p → AreContents (shape_of p) (content p)
 contents_of p plain = record { blocks = content_is_block p plain; settings = settings_body p plain }
@@ -45,9 +53,17 @@ units_of s f =
     map (λ (unit : ℕ). map (λ (address : ℕ). f (data_key unit address)) (below (slice_index_or s.blocks unit 0)))
     (below (length s.blocks))
 
--- the area of contents
-abbrev pub area_of : Shape → Contents → List ℕ
-area_of s f = flat_map (λ (page : ℕ). f (area_key page)) (below (area_pages s))
+-- how many pages the area of a region has
+abbrev pub pages_in : Shape → ℕ → ℕ
+pages_in s number = slice_index_or (region_pages s) number 0
+
+-- the area of a region of contents
+abbrev pub area_of : Shape → Contents → ℕ → List ℕ
+area_of s f number = flat_map (λ (page : ℕ). f (area_key number page)) (below (pages_in s number))
+
+-- the regions of contents
+abbrev pub regions_of : Shape → Contents → List Region
+regions_of s f = map (region_in s f) (below regions)
 
 units_back : (p : Plain) → units_of (shape_of p) (content p) ≡ p.units
 units_back p =
@@ -66,32 +82,44 @@ units_back p =
     ap (λ (bs : List (List ℕ)). get_or bs address []) (get_or_default p.units unit [] d lt)
     ∙ get_or_default (get_or p.units unit d) address [] e inside))))
 
-area_back : (p : Plain) → IsPlain p → area_of (shape_of p) (content p) ≡ p.area
-area_back p plain =
-    parts_joined 4096 (area_pages (shape_of p)) p.area
-    ∙ take_all (4096 * area_pages (shape_of p)) p.area (omega (arith, plain.area))
+area_back : (p : Plain) → IsPlain p → (number : ℕ) → number < regions →
+    area_of (shape_of p) (content p) number ≡ (region_of p number).area
+area_back p plain number there =
+    let pages : ℕ = pages_in (shape_of p) number in
+    let area : List ℕ = (region_of p number).area in
+    parts_joined 4096 pages area
+    ∙ take_all (4096 * pages) area (omega (arith, (its_region p number plain there).area, pages_held p number))
+
+-- what is read of the settings
+settings_back : (p : Plain) → IsPlain p →
+    ReadsBack (settings_of p) p.boot p.permanent (region_of p 0).key (region_of p 0).counter
+settings_back p plain =
+    read_back p.boot p.permanent (region_of p 0).key (region_of p 0).counter (settings_ranges p plain)
+
+-- the one region has the key and the counter of the settings
+region_back : (p : Plain) → IsPlain p → (number : ℕ) → number < regions →
+    region_in (shape_of p) (content p) number ≡ region_of p number
+region_back p plain number there =
+    let only : 0 ≡ number = omega (arith, there) in
+    let key = (settings_back p plain).key_is ∙ ap (λ (n : ℕ). (region_of p n).key) only in
+    let counter = (settings_back p plain).counter_is ∙ ap (λ (n : ℕ). (region_of p n).counter) only in
+    let area = area_back p plain number there in
+    λ i. record { key = key i; area = area i; counter = counter i }
+
+regions_back : (p : Plain) → IsPlain p → regions_of (shape_of p) (content p) ≡ p.regions
+regions_back p plain =
+    made_of (region_in (shape_of p) (content p)) regions p.regions plain.regions_count
+    (λ (number : ℕ) (d : Region) there. region_back p plain number there
+    ∙ get_or_default p.regions number empty_region d (omega (arith, there, plain.regions_count)))
 
 pub back_again : (p : Plain) → IsPlain p → plain_of (shape_of p) (content p) ≡ p
 back_again p plain =
     let units = units_back p in
-    let area = area_back p plain in
-    let back : ReadsBack (settings_of p) p.boot p.permanent p.key p.counter = read_back p.boot p.permanent p.key
-    p.counter plain.settings in
+    let back = settings_back p plain in
     let boot = back.boot_is in
     let permanent = back.permanent_is in
-    let key = back.key_is in
-    let counter = back.counter_is in
-    let whole : Plain =
-    record {
-      units = p.units;
-      boot = p.boot;
-      permanent = p.permanent;
-      key = p.key;
-      area = p.area;
-      counter = p.counter;
-    } in
-    let same : plain_of (shape_of p) (content p) ≡ whole = cc in
-    same
+    let all = regions_back p plain in
+    λ i. record { units = units i; boot = boot i; permanent = permanent i; regions = all i }
 
 -- the state of contents depends on the contents of the keys alone
 same_state : (s : Shape) (f g : Contents) → ((k : Key) → IsKey s k → f k ≡ g k) → plain_of s f ≡ plain_of s g
@@ -104,11 +132,20 @@ same_state s f g h =
     made_same (λ (address : ℕ). f (data_key unit address)) (λ (address : ℕ). g (data_key unit address))
     (slice_index_or s.blocks unit 0)
     (λ (address : ℕ) within. h (data_key unit address) (IsData unit address there within))) in
-    let area : area_of s f ≡ area_of s g =
-    joined_same (λ (page : ℕ). f (area_key page)) (λ (page : ℕ). g (area_key page)) (area_pages s)
-    (λ (page : ℕ) within. h (area_key page) (IsArea page within)) in
     let settings : f settings_key ≡ g settings_key = h settings_key IsSettings in
-    cc
+    let each : (number : ℕ) → number < regions → region_in s f number ≡ region_in s g number =
+    λ (number : ℕ) there.
+    (let area : area_of s f number ≡ area_of s g number =
+    joined_same (λ (page : ℕ). f (area_key number page)) (λ (page : ℕ). g (area_key number page)) (pages_in s number)
+    (λ (page : ℕ) within. h (area_key number page) (IsArea number page there within)) in
+    λ i. record { key = key_in (settings i); area = area i; counter = field_at 4 36 (settings i) }) in
+    let all = made_same (region_in s f) (region_in s g) regions each in
+    λ i. record {
+      units = units i;
+      boot = slice_index (settings i) 0;
+      permanent = slice_index (settings i) 1 == 1;
+      regions = all i;
+    }
 
 pub same_contents : (p q : Plain) → IsPlain p → IsPlain q → shape_of p ≡ shape_of q →
     ((k : Key) → IsKey (shape_of p) k → content p k ≡ content q k) → p ≡ q
@@ -135,13 +172,16 @@ blocks_are s f contents unit d there =
     (contents.blocks (data_key unit address) (IsData unit address low inside))) in
     subst (All IsBlock) (sym (get_or-made (blocks_of s f) (length s.blocks) unit d low)) each
 
-page_is : (s : Shape) (f : Contents) → AreContents s f → (page : ℕ) → page < area_pages s → IsBlock (f (area_key page))
-page_is s f contents page within = contents.blocks (area_key page) (IsArea page within)
+page_is : (s : Shape) (f : Contents) → AreContents s f → (number page : ℕ) → number < regions →
+    page < pages_in s number → IsBlock (f (area_key number page))
+page_is s f contents number page there within =
+    contents.blocks (area_key number page) (IsArea number page there within)
 
-length-area_of : (s : Shape) (f : Contents) → AreContents s f → length (area_of s f) ≡ 4096 * area_pages s
-length-area_of s f contents =
-    length-joined (λ (page : ℕ). f (area_key page)) 4096 (area_pages s)
-    (λ (page : ℕ) within. (page_is s f contents page within).0)
+length-area_of : (s : Shape) (f : Contents) → AreContents s f → (number : ℕ) → number < regions →
+    length (area_of s f number) ≡ 4096 * pages_in s number
+length-area_of s f contents number there =
+    length-joined (λ (page : ℕ). f (area_key number page)) 4096 (pages_in s number)
+    (λ (page : ℕ) within. (page_is s f contents number page there within).0)
 
 sizes_of : (s : Shape) (f : Contents) → map length (units_of s f) ≡ s.blocks
 sizes_of s f =
@@ -157,20 +197,52 @@ sizes_of s f =
     ∙ (length-made (λ (a : ℕ). f (data_key unit a)) (slice_index_or s.blocks unit 0)
     ∙ get_or_default s.blocks unit 0 d low))))
 
-pub state_is_plain : (s : Shape) (f : Contents) → AreContents s f → s.area ≡ 4096 * area_pages s →
+region_is : (s : Shape) (f : Contents) → AreContents s f → (number : ℕ) → number < regions →
+    IsRegion (region_in s f number)
+region_is s f contents number there =
+    let long = length-area_of s f contents number there in
+    let ranges = ranges_read (f settings_key) contents.settings in
+    record {
+      key_length = ranges.key_length;
+      area = omega (arith, long);
+      area_bytes =
+          bytes-joined (λ (page : ℕ). f (area_key number page)) (pages_in s number)
+          (λ (page : ℕ) within. (page_is s f contents number page there within).1);
+      counter_fits = ranges.counter_fits;
+    }
+
+regions_are : (s : Shape) (f : Contents) → AreContents s f → All IsRegion (regions_of s f)
+regions_are s f contents number d lt =
+    let there : number < regions = omega (arith, lt, length-made (region_in s f) regions) in
+    subst IsRegion (sym (get_or-made (region_in s f) regions number d there)) (region_is s f contents number there)
+
+areas_of : (s : Shape) (f : Contents) → AreContents s f → HasWholeAreas s →
+    map (λ (r : Region). length r.area) (regions_of s f) ≡ s.areas
+areas_of s f contents has =
+    let count : length (regions_of s f) ≡ regions = length-made (region_in s f) regions in
+    let long = length-map (regions_of s f) (λ (r : Region). length r.area) in
+    same_lists (map (λ (r : Region). length r.area) (regions_of s f)) s.areas (long ∙ count ∙ sym has.count)
+    (λ (number d : ℕ) lt.
+    (let there : number < regions = omega (arith, lt, long, count) in
+    let low : number < length s.areas = omega (arith, there, has.count) in
+    let pages = lists.get_or-map (λ (b : ℕ). b / 4096) s.areas number 0 in
+    let whole = has.whole number 0 low in
+    get_or-map (λ (r : Region). length r.area) (regions_of s f) number empty_region d (omega (arith, there, count))
+    ∙ (ap (λ (r : Region). length r.area) (get_or-made (region_in s f) regions number empty_region there)
+    ∙ (length-area_of s f contents number there ∙ omega (arith, pages, whole)
+    ∙ get_or_default s.areas number 0 d low))))
+
+pub state_is_plain : (s : Shape) (f : Contents) → AreContents s f → HasWholeAreas s →
     IsPlain (plain_of s f) × (shape_of (plain_of s f) ≡ s)
-state_is_plain s f contents whole =
-    let long = length-area_of s f contents in
+state_is_plain s f contents has =
     let sizes = sizes_of s f in
-    let area : length (area_of s f) ≡ s.area = long ∙ sym whole in
-    let shape : shape_of (plain_of s f) ≡ record { blocks = s.blocks; area = s.area } = cc in
+    let areas = areas_of s f contents has in
+    let shape : shape_of (plain_of s f) ≡ s = λ i. record { blocks = sizes i; areas = areas i } in
     let plain : IsPlain (plain_of s f) = record {
       blocks = blocks_are s f contents;
-      area = omega arith;
-      area_bytes =
-          bytes-joined (λ (page : ℕ). f (area_key page)) (area_pages s)
-          (λ (page : ℕ) within. (page_is s f contents page within).1);
-      settings = ranges_read (f settings_key) contents.settings;
+      boot_bound = (ranges_read (f settings_key) contents.settings).boot_bound;
+      regions_count = length-made (region_in s f) regions;
+      each_region = regions_are s f contents;
     } in
     (plain, shape)
 
@@ -179,7 +251,8 @@ pub contents_there : (s : Shape) (f : Contents) → AreContents s f → (k : Key
 contents_there s f contents k (IsData unit address there within) =
     ap (λ (bs : List (List ℕ)). get_or bs address []) (get_or-made (blocks_of s f) (length s.blocks) unit [] there)
     ∙ get_or-made (λ (a : ℕ). f (data_key unit a)) (slice_index_or s.blocks unit 0) address [] within
-contents_there s f contents k (IsArea page within) =
-    joined_part (λ (i : ℕ). f (area_key i)) 4096 (area_pages s) page (λ (i : ℕ) lt. (page_is s f contents i lt).0)
-    within
+contents_there s f contents k (IsArea number page there within) =
+    ap (λ (r : Region). area_page page r.area) (get_or-made (region_in s f) regions number empty_region there)
+    ∙ joined_part (λ (i : ℕ). f (area_key number i)) 4096 (pages_in s number) page
+    (λ (i : ℕ) lt. (page_is s f contents number i there lt).0) within
 contents_there s f contents k IsSettings = written_again (f settings_key) contents.settings

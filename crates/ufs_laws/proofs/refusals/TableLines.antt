@@ -26,11 +26,11 @@ use Rattle.ufs_spec.proofs.Facts.{and_from, cond-false, cond-true, or_with_false
 -- ## Lines
 
 -- a line that applies decides, and one that does not leaves it to the rest
-decides : (b : Bool) (status : Status) (rest : Option Status) → b ≡ true →
+pub decides : (b : Bool) (status : Status) (rest : Option Status) → b ≡ true →
     (if b then Some status else rest) ≡ Some status
 decides b status rest e = cond-true b (Some status) rest e
 
-leaves : (b : Bool) (status other : Status) (rest : Option Status) → b ≡ false → rest ≡ Some other →
+pub leaves : (b : Bool) (status other : Status) (rest : Option Status) → b ≡ false → rest ≡ Some other →
     (if b then Some status else rest) ≡ Some other
 leaves b status other rest e k = cond-false b (Some status) rest e ∙ k
 
@@ -103,41 +103,41 @@ crowded s tag h e k none = answers s (asks 0x20 0 tag (write_at 0)) Busy h
 -- ## Past the limits of today
 
 -- a command without blocks lies within any unit
-within : (s : State) (r : Request) (n : ℕ) → is_past (cdb.SecurityIn n) (unit_numbers_of s r) ≡ false
+within : (s : State) (r : Request) (n : ℕ) → is_past (cdb.SecurityIn 0 n) (unit_numbers_of s r) ≡ false
 within s r n = by (unit_numbers_of s r)
   where
-    by : (u : Option UnitSpec) → is_past (cdb.SecurityIn n) u ≡ false
+    by : (u : Option UnitSpec) → is_past (cdb.SecurityIn 0 n) u ≡ false
     by None = refl
     by (Some u) = le-ltb u.blocks 0 (omega arith)
 
 abbrev reads_response : ℕ → Request
-reads_response tag = asks 0x40 0xC4 tag (cdb.SecurityIn 512)
+reads_response tag = asks 0x40 0xC4 tag (cdb.SecurityIn 0 512)
 
-pub ready_first : (s : State) (tag : ℕ) → mended s ≡ false → s.registers.response ≡ [] →
-    first_line (lines_for s (reads_response tag) (cdb.SecurityIn 512)) ≡ Some not_ready
+pub ready_first : (s : State) (tag : ℕ) → mended s ≡ false → (s.registers 0).response ≡ [] →
+    first_line (lines_for s (reads_response tag) (cdb.SecurityIn 0 512)) ≡ Some not_ready
 ready_first s tag e none =
-    leaves (is_past (cdb.SecurityIn 512) (unit_numbers_of s (reads_response tag))) out_of_range not_ready _
+    leaves (is_past (cdb.SecurityIn 0 512) (unit_numbers_of s (reads_response tag))) out_of_range not_ready _
     (within s (reads_response tag) 512)
     (decides (not (mended s)) not_ready _ (ap not e))
 
-pub response_first : (s : State) (tag : ℕ) → mended s ≡ true → s.registers.response ≡ [] →
-    first_line (lines_for s (reads_response tag) (cdb.SecurityIn 512)) ≡ Some sequence_error
+pub response_first : (s : State) (tag : ℕ) → mended s ≡ true → (s.registers 0).response ≡ [] →
+    first_line (lines_for s (reads_response tag) (cdb.SecurityIn 0 512)) ≡ Some sequence_error
 response_first s tag e none =
-    leaves (is_past (cdb.SecurityIn 512) (unit_numbers_of s (reads_response tag))) out_of_range sequence_error _
+    leaves (is_past (cdb.SecurityIn 0 512) (unit_numbers_of s (reads_response tag))) out_of_range sequence_error _
     (within s (reads_response tag) 512)
     (leaves (not (mended s)) not_ready sequence_error _ (ap not e)
-    (decides (length s.registers.response == 0) sequence_error _
+    (decides (length (s.registers 0).response == 0) sequence_error _
     (ap (λ (frames : List (List ℕ)). length frames == 0) none)))
 
-pub other_response : (s : State) (tag : ℕ) (a b : List ℕ) → mended s ≡ true → s.registers.response ≡ a ∷ b ∷ [] →
-    first_line (lines_for s (reads_response tag) (cdb.SecurityIn 512)) ≡ Some invalid_field
+pub other_response : (s : State) (tag : ℕ) (a b : List ℕ) → mended s ≡ true → (s.registers 0).response ≡ a ∷ b ∷ [] →
+    first_line (lines_for s (reads_response tag) (cdb.SecurityIn 0 512)) ≡ Some invalid_field
 other_response s tag a b e two =
-    leaves (is_past (cdb.SecurityIn 512) (unit_numbers_of s (reads_response tag))) out_of_range invalid_field _
+    leaves (is_past (cdb.SecurityIn 0 512) (unit_numbers_of s (reads_response tag))) out_of_range invalid_field _
     (within s (reads_response tag) 512)
     (leaves (not (mended s)) not_ready invalid_field _ (ap not e)
-    (leaves (length s.registers.response == 0) sequence_error invalid_field _
+    (leaves (length (s.registers 0).response == 0) sequence_error invalid_field _
     (ap (λ (frames : List (List ℕ)). length frames == 0) two)
-    (decides (not (512 == 512 * length s.registers.response)) invalid_field _
+    (decides (not (512 == 512 * length (s.registers 0).response)) invalid_field _
     (ap (λ (frames : List (List ℕ)). not (512 == 512 * length frames)) two))))
 
 -- ## Lines that never meet
@@ -163,29 +163,29 @@ pub blocks_or_list : (n : Numbers) (c : Cdb) → is_too_long n c ≡ true → ha
 blocks_or_list n (cdb.Unmap size) e = absurd (few (command_blocks n) 0 refl e)
 blocks_or_list n c e = refl
 
-no_write : (s : State) (u : Option UnitSpec) (n : ℕ) → is_refused_write s u (cdb.SecurityIn n) ≡ true → ⊥
-no_write s u n e = let none : false ≡ true = e in cc
+no_write : (s : State) (u : Option UnitSpec) (region n : ℕ) → is_refused_write s u (cdb.SecurityIn region n) ≡ true → ⊥
+no_write s u region n e = let none : false ≡ true = e in cc
 
 pub write_or_response : (s : State) (u : Option UnitSpec) (c : Cdb) → is_refused_write s u c ≡ true →
     lacks_response s c ≡ false
-write_or_response s u (cdb.SecurityIn n) e = absurd (no_write s u n e)
+write_or_response s u (cdb.SecurityIn region n) e = absurd (no_write s u region n e)
 write_or_response s u c e = refl
 
 pub write_or_other_response : (s : State) (u : Option UnitSpec) (c : Cdb) → is_refused_write s u c ≡ true →
     has_other_response s c ≡ false
-write_or_other_response s u (cdb.SecurityIn n) e = absurd (no_write s u n e)
+write_or_other_response s u (cdb.SecurityIn region n) e = absurd (no_write s u region n e)
 write_or_other_response s u c e = refl
 
-uncrowded : (s : State) (n : ℕ) → is_crowded s (cdb.SecurityIn n) ≡ false
-uncrowded s n = le-ltb (free_slots s.translation) 0 (omega arith)
+uncrowded : (s : State) (region n : ℕ) → is_crowded s (cdb.SecurityIn region n) ≡ false
+uncrowded s region n = le-ltb (free_slots s.translation) 0 (omega arith)
 
 no_response : false ≡ true → ⊥
 no_response e = cc
 
 pub response_or_slots : (s : State) (c : Cdb) → lacks_response s c ≡ true → is_crowded s c ≡ false
-response_or_slots s (cdb.SecurityIn n) e = uncrowded s n
+response_or_slots s (cdb.SecurityIn region n) e = uncrowded s region n
 response_or_slots s c e = absurd (no_response e)
 
 pub other_response_or_slots : (s : State) (c : Cdb) → has_other_response s c ≡ true → is_crowded s c ≡ false
-other_response_or_slots s (cdb.SecurityIn n) e = uncrowded s n
+other_response_or_slots s (cdb.SecurityIn region n) e = uncrowded s region n
 other_response_or_slots s c e = absurd (no_response e)

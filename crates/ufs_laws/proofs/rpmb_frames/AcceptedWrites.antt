@@ -31,9 +31,10 @@ same_refl : (xs : List ℕ) → same_bytes xs xs ≡ true
 same_refl [] = refl
 same_refl (x ∷ xs) = rw (eq-eqb x x refl, same_refl xs) refl
 
-module _ (region : Region) (r : Registers) (f : Frame) (fs : List Frame) (is : IsRightWrite region f fs) where
+module _ (number : ℕ) (region : Region) (r : Registers) (f : Frame) (fs : List Frame)
+    (is : IsRightWrite region f fs) where
   abbrev written : Command
-  written = RpmbWrite f.address (flat_map (λ (g : Frame). g.payload) (f ∷ fs))
+  written = RpmbWrite number f.address (flat_map (λ (g : Frame). g.payload) (f ∷ fs))
 
   formed : is_well_formed f fs ≡ true
   formed =
@@ -45,7 +46,7 @@ module _ (region : Region) (r : Registers) (f : Frame) (fs : List Frame) (is : I
   not_lacking : lacks_result f r ≡ false
   not_lacking = let kind = is.kind in rw kind refl
 
-  its_command : command_in f fs ≡ Some written
+  its_command : command_in number f fs ≡ Some written
   its_command = let kind = is.kind in rw kind refl
 
   key_set : has_key region ≡ true
@@ -74,11 +75,12 @@ module _ (region : Region) (r : Registers) (f : Frame) (fs : List Frame) (is : I
   none_fails : first_failed (checks region false f fs) ≡ None
   none_fails = ap first_failed of_write ∙ rw (key_set, not_at_end, not_past, mac_right, present) refl
 
-  accepted : rpmb_outcome region r false (f ∷ fs)
+  accepted : rpmb_outcome number region r false (f ∷ fs)
       ≡ Results (with_end_bit (changed_by region written) 0) (Some written)
   accepted = rw (formed, not_lacking, its_command, none_fails) refl
 
-pub accepted_as : (region : Region) (r : Registers) (f : Frame) (fs : List Frame) → IsRightWrite region f fs →
-    (c : Command) → c ≡ RpmbWrite f.address (flat_map (λ (g : Frame). g.payload) (f ∷ fs)) →
-    rpmb_outcome region r false (f ∷ fs) ≡ Results (with_end_bit (changed_by region c) 0) (Some c)
-accepted_as region r f fs is c e = rw e (accepted region r f fs is)
+pub accepted_as : (number : ℕ) (region : Region) (r : Registers) (f : Frame) (fs : List Frame) →
+    IsRightWrite region f fs →
+    (c : Command) → c ≡ RpmbWrite number f.address (flat_map (λ (g : Frame). g.payload) (f ∷ fs)) →
+    rpmb_outcome number region r false (f ∷ fs) ≡ Results (with_end_bit (changed_by region c) 0) (Some c)
+accepted_as number region r f fs is c e = rw e (accepted number region r f fs is)

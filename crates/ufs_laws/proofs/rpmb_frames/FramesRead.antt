@@ -1,7 +1,7 @@
 -- Frames as bytes: what is read of 512 bytes is written again, and the other way round.
-use Rattle.std.proofs.Common.{◌≡◌, ◌∙◌, ℕ, zero, suc, ◌+◌, ◌*◌, ◌/◌, ◌%◌, ◌^◌, ◌<◌, List, [], ◌∷◌, ◌++◌, All}
+use Rattle.std.proofs.Common.{◌≡◌, ◌≤◌, ◌∙◌, ℕ, zero, suc, ◌+◌, ◌*◌, ◌/◌, ◌%◌, ◌^◌, ◌<◌, List, [], ◌∷◌, ◌++◌, All}
 use Rattle.std.proofs.Common.{length, take, drop, refl, sym, ap, arith, length-append, length-take, length-drop}
-use Rattle.std.proofs.lemmas.List.{append_assoc, drop-drop, drop_at, take_all, take_at, take-append-drop}
+use Rattle.std.proofs.lemmas.List.{append_assoc, drop-drop, drop_at, length-take-le, take_all, take_at, take-append-drop}
 use Rattle.std.specs.List.{flat_map}
 use Rattle.byteorder.specs.Endian.{big_bytes, big_number}
 use Rattle.byteorder.specs.Numbers.{big_from-take, big_number-reads_back, length-bytes_high_first}
@@ -249,9 +249,13 @@ all_bytes_again (suc n) b long are =
     all_bytes_again n (drop 512 b) (omega (arith, length-drop 512 b, long)) (bytes-drop 512 b are) in
     (λ i. first i ++ more i) ∙ take-append-drop 512 b
 
-pub are_frames : (n : ℕ) (b : List ℕ) → length b ≡ 512 * n → AreBytes b → All IsFrame (frames_in n b)
-are_frames zero b long are k d lt = absurd (omega (arith, lt))
-are_frames (suc n) b long are k d lt =
+-- of bytes that are no fewer
+pub first_frames : (n : ℕ) (b : List ℕ) → 512 * n ≤ length b → AreBytes b → All IsFrame (frames_in n b)
+first_frames zero b long are k d lt = absurd (omega (arith, lt))
+first_frames (suc n) b long are k d lt =
     all_cons IsFrame (frame_in (take 512 b)) (frames_in n (drop 512 b))
-    (is_frame (take 512 b) (omega (arith, length-take 512 b, long)) (bytes-take 512 b are))
-    (are_frames n (drop 512 b) (omega (arith, length-drop 512 b, long)) (bytes-drop 512 b are)) k d lt
+    (is_frame (take 512 b) (length-take-le 512 b (omega (arith, long))) (bytes-take 512 b are))
+    (first_frames n (drop 512 b) (omega (arith, length-drop 512 b, long)) (bytes-drop 512 b are)) k d lt
+
+pub are_frames : (n : ℕ) (b : List ℕ) → length b ≡ 512 * n → AreBytes b → All IsFrame (frames_in n b)
+are_frames n b long = first_frames n b (omega (arith, long))

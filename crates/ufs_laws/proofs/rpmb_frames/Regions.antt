@@ -1,23 +1,45 @@
 -- A command changes the region of a plain state as it changes the state, and the words of laws about MACs.
-use Rattle.std.proofs.Common.{◌≡◌, ◌∙◌, ◌++◌, ◌-◌, ℕ, true, List, [], ◌∷◌, bit_xor, drop, length, map, nat_lt}
-use Rattle.std.proofs.Common.{refl, replicate, sym, ap}
-use Rattle.ufs_spec.proofs.Facts.{cond-false, cond-true}
+use Rattle.std.proofs.Common.{◌≡◌, ◌∙◌, ◌++◌, ◌-◌, ◌<◌, ℕ, true, List, [], ◌∷◌, Some, bit_xor, drop, length, map}
+use Rattle.std.proofs.Common.{nat_lt, refl, replicate, sym, ap}
+use Rattle.std.proofs.lemmas.List.{get_or-set_other, get_or-set_same}
+use Rattle.ufs_spec.proofs.Facts.{cond-false, cond-true, none-some, same_Some}
 use Rattle.sha2.proofs.Facts256.{length-sha256}
 use Rattle.sha2.specs.Sha256.{sha256}
-use Rattle.ufs_spec.specs.Commands.{Command, RpmbWrite, SetBoot, SetKey, SetPermanent, Write, Zero}
+use Rattle.ufs_spec.specs.Commands.{Command, RpmbWrite, SetKey}
 use Rattle.ufs_spec.specs.Messages.{AreBytes}
-use Rattle.ufs_spec.specs.Plain.{Plain, apply}
+use Rattle.ufs_spec.specs.Plain.{Plain, Region, apply, changed_by, empty_region, region_of, with_region}
 use Rattle.ufs_spec.specs.Frames.{frame_in}
-use Rattle.ufs_spec.specs.Rpmb.{changed_by, frames_mac, mac, region_of, short_key}
+use Rattle.ufs_spec.specs.Rpmb.{frames_mac, mac, short_key}
+use Rattle.ufs_laws.specs.RpmbWrites.{region_named}
 use Rattle.ufs_laws.proofs.rpmb_frames.FramesRead.{covered}
 
-pub region_changed : (p : Plain) (c : Command) → region_of (apply p c) ≡ changed_by (region_of p) c
-region_changed p (Write unit address blocks) = refl
-region_changed p (Zero unit address count) = refl
-region_changed p (SetKey key) = refl
-region_changed p (RpmbWrite address bytes) = refl
-region_changed p (SetBoot boot) = refl
-region_changed p SetPermanent = refl
+set_there : (p : Plain) (number named : ℕ) (new : ℕ → Region) → number < length p.regions → Some named ≡ Some number →
+    region_of (with_region named (new named) p) number ≡ new number
+set_there p number named new there e =
+    let same = same_Some named number e in
+    ap (λ (n : ℕ). region_of (with_region n (new n) p) number) same
+    ∙ get_or-set_same p.regions number (new number) empty_region there
+
+pub named_changed : (p : Plain) (c : Command) (number : ℕ) → number < length p.regions → region_named c ≡ Some number →
+    region_of (apply p c) number ≡ changed_by (region_of p number) c
+named_changed p (SetKey named bytes) number there e =
+    set_there p number named (λ (n : ℕ). changed_by (region_of p n) (SetKey named bytes)) there e
+named_changed p (RpmbWrite named address bytes) number there e =
+    set_there p number named (λ (n : ℕ). changed_by (region_of p n) (RpmbWrite named address bytes)) there e
+named_changed p c number there e = absurd (none-some number e)
+
+others_set : (p : Plain) (number named : ℕ) (new : Region) → (Some named ≡ Some number → ⊥) →
+    region_of (with_region named new p) number ≡ region_of p number
+others_set p number named new other =
+    get_or-set_other p.regions named number new empty_region (λ e. other (ap Some (sym e)))
+
+pub others_stay : (p : Plain) (c : Command) (number : ℕ) → (region_named c ≡ Some number → ⊥) →
+    region_of (apply p c) number ≡ region_of p number
+others_stay p (SetKey named bytes) number other =
+    others_set p number named (changed_by (region_of p named) (SetKey named bytes)) other
+others_stay p (RpmbWrite named address bytes) number other =
+    others_set p number named (changed_by (region_of p named) (RpmbWrite named address bytes)) other
+others_stay p c number other = refl
 
 -- the key that stands for a long one is short itself
 hashed : (key : List ℕ) → nat_lt 64 (length key) ≡ true → short_key key ≡ short_key (sha256 key)

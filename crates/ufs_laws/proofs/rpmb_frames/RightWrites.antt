@@ -17,12 +17,12 @@ same_command : (n result : ℕ) (a : Option Command) (c : Command) → Results n
 same_command n result a c e = cc
 
 -- a test that would refuse the request says no
-not_refused : (b : Bool) (s : Status) (o : RpmbOutcome) (result : ℕ) (c : Command) →
+pub not_refused : (b : Bool) (s : Status) (o : RpmbOutcome) (result : ℕ) (c : Command) →
     cond b (Refused s) o ≡ Results result (Some c) → (b ≡ false) × (o ≡ Results result (Some c))
 not_refused true s o result c e = absurd (refused s result c e)
 not_refused false s o result c e = (refl, e)
 
-none_failed : (region : Region) (a : Option Command) (failed : Option ℕ) (result : ℕ) (c : Command) →
+pub none_failed : (region : Region) (a : Option Command) (failed : Option ℕ) (result : ℕ) (c : Command) →
     outcome_after region a failed ≡ Results result (Some c) → (failed ≡ None) × (a ≡ Some c)
 none_failed region a (Some n) result c e = absurd (no_command _ result c e)
 none_failed region a None result c e = (refl, same_command _ result a c e)
@@ -34,21 +34,22 @@ passed : (b : Bool) (n : ℕ) (o : Option ℕ) → cond b (Some n) o ≡ None �
 passed true n o e = absurd (some-none n e)
 passed false n o e = (refl, e)
 
-no_key_set : (k : List ℕ) (a : ℕ) (d : List ℕ) → Some (SetKey k) ≡ Some (RpmbWrite a d) → ⊥
-no_key_set k a d e = cc
+no_key_set : (m n : ℕ) (k : List ℕ) (a : ℕ) (d : List ℕ) → Some (SetKey m k) ≡ Some (RpmbWrite n a d) → ⊥
+no_key_set m n k a d e = cc
 
-nothing : (a : ℕ) (d : List ℕ) → None ≡ Some (RpmbWrite a d) → ⊥
-nothing a d e = cc
+nothing : (n a : ℕ) (d : List ℕ) → None ≡ Some (RpmbWrite n a d) → ⊥
+nothing n a d e = cc
 
-same_write : (a b : ℕ) (d e : List ℕ) → Some (RpmbWrite a d) ≡ Some (RpmbWrite b e) → (a ≡ b) × (d ≡ e)
-same_write a b d e h = (cc, cc)
+same_write : (m n a b : ℕ) (d e : List ℕ) → Some (RpmbWrite m a d) ≡ Some (RpmbWrite n b e) →
+    (m ≡ n) × (a ≡ b) × (d ≡ e)
+same_write m n a b d e h = (cc, cc, cc)
 
-is_write : (one three : Bool) (k : List ℕ) (a b : ℕ) (d e : List ℕ) →
-    cond one (Some (SetKey k)) (cond three (Some (RpmbWrite a d)) None) ≡ Some (RpmbWrite b e) →
-    (three ≡ true) × (a ≡ b) × (d ≡ e)
-is_write true three k a b d e h = absurd (no_key_set k b e h)
-is_write false true k a b d e h = (refl, (same_write a b d e h).0, (same_write a b d e h).1)
-is_write false false k a b d e h = absurd (nothing b e h)
+is_write : (one three : Bool) (m n : ℕ) (k : List ℕ) (a b : ℕ) (d e : List ℕ) →
+    cond one (Some (SetKey m k)) (cond three (Some (RpmbWrite m a d)) None) ≡ Some (RpmbWrite n b e) →
+    (three ≡ true) × ((m ≡ n) × (a ≡ b) × (d ≡ e))
+is_write true three m n k a b d e h = absurd (no_key_set m n k b e h)
+is_write false true m n k a b d e h = (refl, same_write m n a b d e h)
+is_write false false m n k a b d e h = absurd (nothing n b e h)
 
 equal_bytes : (xs ys : List ℕ) → same_bytes xs ys ≡ true → xs ≡ ys
 equal_bytes [] [] e = refl
@@ -96,23 +97,26 @@ all_pass a b c d e g h =
     let five = passed e 3 _ four.1 in
     (two.0, three.0, four.0, five.0, (passed g 5 None five.1).0)
 
-module _ (region : Region) (r : Registers) (locked : Bool) (f : Frame) (fs : List Frame) (result address : ℕ)
-    (bytes : List ℕ) (e : rpmb_outcome region r locked (f ∷ fs) ≡ Results result (Some (RpmbWrite address bytes))) where
+module _ (number : ℕ) (region : Region) (r : Registers) (locked : Bool) (f : Frame) (fs : List Frame)
+    (result named address : ℕ) (bytes : List ℕ)
+    (e : rpmb_outcome number region r locked (f ∷ fs) ≡ Results result (Some (RpmbWrite named address bytes))) where
   abbrev c : Command
-  c = RpmbWrite address bytes
+  c = RpmbWrite named address bytes
 
   formed : (not (is_well_formed f fs) ≡ false)
       × (cond (lacks_result f r) (Refused sequence_error)
-      (outcome_after region (command_in f fs) (first_failed (checks region locked f fs))) ≡ Results result (Some c))
+      (outcome_after region (command_in number f fs) (first_failed (checks region locked f fs)))
+      ≡ Results result (Some c))
   formed = not_refused (not (is_well_formed f fs)) invalid_list_field _ result c e
 
-  asked : (first_failed (checks region locked f fs) ≡ None) × (command_in f fs ≡ Some c)
+  asked : (first_failed (checks region locked f fs) ≡ None) × (command_in number f fs ≡ Some c)
   asked =
-      none_failed region (command_in f fs) (first_failed (checks region locked f fs)) result c
+      none_failed region (command_in number f fs) (first_failed (checks region locked f fs)) result c
       (not_refused (lacks_result f r) sequence_error _ result c formed.1).1
 
-  write : ((f.kind == 3) ≡ true) × (f.address ≡ address) × (flat_map (λ (g : Frame). g.payload) (f ∷ fs) ≡ bytes)
-  write = is_write (f.kind == 1) (f.kind == 3) f.key_or_mac f.address address _ bytes asked.1
+  write : ((f.kind == 3) ≡ true)
+      × ((number ≡ named) × (f.address ≡ address) × (flat_map (λ (g : Frame). g.payload) (f ∷ fs) ≡ bytes))
+  write = is_write (f.kind == 1) (f.kind == 3) number named f.key_or_mac f.address address _ bytes asked.1
 
   kind : f.kind ≡ 3
   kind = eqb-true f.kind 3 write.0
@@ -139,8 +143,9 @@ module _ (region : Region) (r : Registers) (locked : Bool) (f : Frame) (fs : Lis
   pub unlocked : locked ≡ false
   unlocked = passed_all.4
 
-  pub what_is_written : (f.address ≡ address) × (flat_map (λ (g : Frame). g.payload) (f ∷ fs) ≡ bytes)
-  what_is_written = (write.1, write.2)
+  pub what_is_written : (number ≡ named) × (f.address ≡ address)
+      × (flat_map (λ (g : Frame). g.payload) (f ∷ fs) ≡ bytes)
+  what_is_written = write.1
 
   pub right_write : IsRightWrite region f fs
   right_write =

@@ -1,29 +1,39 @@
 -- What a call makes of the exchanges, behind what it does first: one happening of few kinds, for a reason. This is the
 -- one walk through messages, data and replies; what follows of it is a case for each kind (`behind_by`).
-use Rattle.std.proofs.Common.{◌≡◌, ℕ, ◌==◌, ◌&&◌, Bool, true, false, if◌then◌else◌, List, [], ◌∷◌, ◌++◌, length, map}
+use Rattle.std.proofs.Common.{◌≡◌, ℕ, ◌==◌, ◌&&◌, ◌||◌, ◌+◌, Bool, true, false, if◌then◌else◌, not}
+use Rattle.std.proofs.Common.{List, [], ◌∷◌, ◌++◌, length, map}
 use Rattle.std.proofs.Common.{find, nat_le, nat_lt, Option, Some, None, refl, sym, subst}
 use Rattle.std.specs.Prelude.{Err, Ok}
 use Rattle.ufs_spec.proofs.Facts.{and_parts, eqb-true, if_cases, none-some, same_Some}
 use Rattle.ufs_spec.specs.Cells.{Array}
-use Rattle.ufs_spec.specs.Disk.{Erasing, Flight, ForNobody, ForRest, ForStep, ForTask, Programming, Reader, Reading}
+use Rattle.ufs_spec.specs.Commands.{Command}
+use Rattle.ufs_spec.specs.Disk.{Erasing, Flight, Programming, Reading}
 use Rattle.ufs_spec.specs.Exchanges.{Answering, Deed, Gathering, NotRead, Purpose, ReadState, Short, Status, Task}
 use Rattle.ufs_spec.specs.Exchanges.{WasRead, count_at, is_asked_in, is_asked_of, is_short_of, is_task_of, short_reply}
 use Rattle.ufs_spec.specs.Exchanges.{task_of}
 use Rattle.ufs_spec.specs.Machine.{Allowed, Answer, Call, Done, Faulty, Host, OfDone, OfHost, OfReply, OfTake, OfTurn}
 use Rattle.ufs_spec.specs.Machine.{Reply, Spelled, Take, Turn, array_after, asked_fault, behind, begun, begun_if_any}
-use Rattle.ufs_spec.specs.Machine.{command_taken, data_for, data_heard, deed_after, ends_with, heard, in_use}
+use Rattle.ufs_spec.specs.Machine.{accepts, command_taken, data_for, data_heard, deed_after, ends_with, heard, in_use}
 use Rattle.ufs_spec.specs.Machine.{is_aborted, moves_after, refused_or_begun, read_noted, opening_fault, replied_by}
 use Rattle.ufs_spec.specs.Machine.{result_of, service, set_deed, short_replied, tag_in, task_goes_on, task_read}
 use Rattle.ufs_spec.specs.Machine.{unit_or_first, with_moves, with_short, with_task, without_tasks}
-use Rattle.ufs_spec.specs.Moves.{EndJob, Ending, GiveJob, ReadRight, ReadWrong, TakeStep, WentWell, WentWrong}
-use Rattle.ufs_spec.specs.Refusals.{Request, State, refusal, unit_of_request}
+use Rattle.ufs_spec.specs.Moves.{Claim, EndJob, Ending, GiveJob, ReadRight, ReadWrong, TakeStep, WentWell, WentWrong}
+use Rattle.ufs_spec.specs.Plain.{apply}
+use Rattle.ufs_spec.specs.Queries.{Query, query_code, sets_power_on, setting_of}
+use Rattle.ufs_spec.specs.QueryAnswers.{may_set, query_done, query_failed, query_heard, query_passed}
+use Rattle.ufs_spec.specs.Refusals.{Request, State, numbers_of, plain_now, refusal, unit_of_request}
+use Rattle.ufs_spec.specs.Stages.{answers_queries}
 use Rattle.ufs_spec.specs.Exchanges.{most_tasks}
 use Rattle.ufs_spec.specs.declared.faults.HostFault.{HostFault}
 use Rattle.ufs_spec.specs.declared.faults.HostFault.TheVariants.{NotAskedFor, TagInUse}
+use Rattle.ufs_spec.specs.Messages.{AreBytes}
+use Rattle.ufs_laws.specs.Exchange.{IsSpoken}
 use Rattle.ufs_spec.specs.declared.messages.Message.{Message}
 use Rattle.ufs_spec.specs.declared.messages.Message.TheVariants as message
 use Rattle.ufs_spec.specs.declared.scsi.Cdb.{Cdb}
-use Rattle.ufs_laws.proofs.walk.WaysOfCommands.{Completion, WhyCompleted, completed, completes_by}
+use Rattle.ufs_spec.specs.declared.layer.Reader.{Reader}
+use Rattle.ufs_spec.specs.declared.layer.Reader.TheVariants.{ForNobody, ForRest, ForStep, ForTask}
+use Rattle.ufs_laws.proofs.walk.WaysOfData.{Completion, WhyCompleted, completed, completes_by}
 
 -- ## What a call does first
 
@@ -43,8 +53,10 @@ first s call answer = s
 
 pub data Happening : Type 0 where
   NothingMore : Happening
-  -- a message is answered by a short exchange
+  -- a message is answered by a short exchange; a query leaves fPowerOnWPEn so, or is a setting that is accepted
   Replies : (short : Short) → Happening
+  Tells : (power_on : Bool) → (short : Short) → Happening
+  Sets : (command : Command) → (short : Short) → Happening
   -- a command is refused, or begins
   Refuses : (r : Request) → (status : Status) → Happening
   Begins : (r : Request) → (command : Cdb) → Happening
@@ -63,6 +75,8 @@ pub data Happening : Type 0 where
 abbrev pub happened : State → Happening → State
 happened s NothingMore = s
 happened s (Replies short) = with_short s short
+happened s (Tells power_on short) = with_short (record s { power_on = power_on }) short
+happened s (Sets command short) = with_short (accepts (with_moves s (Claim 1 ∷ [])) command 1) short
 happened s (Refuses r status) = with_task s r None 0 (Answering status 0)
 happened s (Begins r c) = begun s r (unit_or_first (unit_of_request s r)) c
 happened s (Gathers task purpose all) = set_deed s task.tag (Gathering purpose all false)
@@ -85,7 +99,36 @@ pub record IsAsked (s : State) (call : Call) (answer : Answer) (r : Request) : T
   pub is : IsCommand call r
   pub free : Allowed s call answer → in_use s r.tag ≡ false
 
--- the task gathers for this purpose, and the data are as many as it asked for
+-- the call is this query, with this tag
+abbrev pub IsQueryOf : Call → ℕ → Query → Type 0
+IsQueryOf (Host (Spelled (message.QueryRequest tag function asked size value «data») c)) t q =
+    (t ≡ tag) × (q ≡ record { function = function; asked = asked; length = size; value = value })
+IsQueryOf call t q = ⊥
+
+-- the code by which a query is answered
+abbrev pub code_of_query : State → Query → ℕ
+code_of_query s q = if answers_queries then query_code (numbers_of s) (plain_now s) (may_set s) q else 0xFE
+
+-- the query succeeds
+pub record IsSuccess (s : State) (call : Call) (tag : ℕ) (q : Query) : Type 0 where
+  pub is : IsQueryOf call tag q
+  pub code : code_of_query s q ≡ 0x00
+
+-- the exchange of a setting, that waits until the setting is durable
+abbrev pub setting_short : State → ℕ → Query → Command → Short
+setting_short s tag q c =
+    record {
+      tag = tag;
+      awaits = Some (length s.accepted + 1);
+      reply = query_done (numbers_of s) (apply (plain_now s) c) s.power_on tag q;
+      locked_reply = query_failed tag q 0xFF;
+    }
+
+-- the exchange of a query that is answered at once
+abbrev pub told_short : State → Bool → ℕ → Query → Short
+told_short s power_on tag q = short_reply tag (query_done (numbers_of s) (plain_now s) power_on tag q)
+
+-- the task gathers for this purpose, and the data are bytes, as many as it asked for
 pub record GetsData (s : State) (call : Call) (answer : Answer) (task : Task) (purpose : Purpose) : Type 0 where
   pub found : task_of task.tag s.tasks ≡ Some task
   pub gathered : List ℕ
@@ -93,14 +136,22 @@ pub record GetsData (s : State) (call : Call) (answer : Answer) (task : Task) (p
   pub asked : Bool
   pub deed : task.deed ≡ Gathering purpose gathered asked
   pub next : Allowed s call answer → length more ≡ count_at task.length (length gathered)
+  pub are_bytes : IsSpoken call → AreBytes more
 
 abbrev pub Why : State → Call → Answer → Happening → Type 0
+Why s call answer (Tells power_on short) =
+    (tag : ℕ) × (q : Query) × IsSuccess s call tag q × (setting_of q ≡ None)
+    × (power_on ≡ (s.power_on || sets_power_on q)) × (short ≡ told_short s power_on tag q)
+Why s call answer (Sets command short) =
+    (tag : ℕ) × (q : Query) × IsSuccess s call tag q × (setting_of q ≡ Some command)
+    × (short ≡ setting_short s tag q command)
 Why s call answer (Refuses r status) = IsAsked s call answer r × (refusal s r ≡ Some status)
 Why s call answer (Begins r c) = IsAsked s call answer r × (r.cdb ≡ Some c) × (refusal s r ≡ None)
 Why s call answer (Gathers task purpose all) =
     (d : GetsData s call answer task purpose) × (all ≡ d.gathered ++ d.more) × (nat_lt (length all) task.length ≡ true)
 Why s call answer (Completes task completion) =
-    (purpose : Purpose) × GetsData s call answer task purpose × WhyCompleted purpose task completion
+    (purpose : Purpose) × (d : GetsData s call answer task purpose)
+    × WhyCompleted s task purpose (d.gathered ++ d.more) completion
 Why s call answer (GoesOn task deed) =
     (task_of task.tag s.tasks ≡ Some task) × (deed_after task task.deed ≡ Some deed)
 Why s call answer (IsOver task) = task_of task.tag s.tasks ≡ Some task
@@ -167,8 +218,9 @@ module _ (P : State → Type 0) (s : State) (call : Call) (answer : Answer) (eac
 
   data_by : (task : Task) (deed : Deed) (lun offset : ℕ) (more : List ℕ) → task_of task.tag s.tasks ≡ Some task →
       task.deed ≡ deed →
-      (Allowed s call answer → is_asked_in task lun offset (length more) deed ≡ true) → P (data_for s task deed more)
-  data_by task (Gathering purpose gathered asked) lun offset more found e right =
+      (Allowed s call answer → is_asked_in task lun offset (length more) deed ≡ true) → (IsSpoken call → AreBytes more) →
+      P (data_for s task deed more)
+  data_by task (Gathering purpose gathered asked) lun offset more found e right are =
       if_cases P (nat_lt (length (gathered ++ more)) task.length)
       (λ few. each (Gathers task purpose (gathered ++ more)) (d, refl, few))
       (λ over. completes_by P s task purpose (gathered ++ more) (λ k why. each (Completes task k) (purpose, d, why)))
@@ -183,14 +235,32 @@ module _ (P : State → Type 0) (s : State) (call : Call) (answer : Answer) (eac
         next = λ may.
             eqb-true (length more) (count_at task.length (length gathered))
             (and_parts (asked && (task.lun == lun) && (offset == length gathered)) _ (right may)).1;
+        are_bytes = are;
       }
-  data_by task deed lun offset more found e right = each NothingMore tt
+  data_by task deed lun offset more found e right are = each NothingMore tt
+
+  -- Queries
+
+  query_by : (tag : ℕ) (q : Query) → IsQueryOf call tag q → P (query_heard s tag q)
+  query_by tag q is =
+      if_cases P ((code_of_query s q == 0x00) && not (q.asked.opcode == 0))
+      (λ e. passed (setting_of q) (record { is = is; code = succeeds e }) refl)
+      (λ e. each (Replies _) tt)
+    where
+      succeeds : ((code_of_query s q == 0x00) && not (q.asked.opcode == 0)) ≡ true → code_of_query s q ≡ 0x00
+      succeeds e =
+          eqb-true (code_of_query s q) 0x00 (and_parts (code_of_query s q == 0x00) (not (q.asked.opcode == 0)) e).0
+
+      passed : (o : Option Command) → IsSuccess s call tag q → setting_of q ≡ o → P (query_passed s tag q o)
+      passed None ok e = each (Tells _ _) (tag, q, ok, e, refl, refl)
+      passed (Some c) ok e = each (Sets c _) (tag, q, ok, e, refl)
 
   data_heard_by : (tag lun offset : ℕ) (o : Option Task) (more : List ℕ) → task_of tag s.tasks ≡ o →
-      (Allowed s call answer → is_asked_of o lun offset (length more) ≡ true) → P (data_heard s o more)
-  data_heard_by tag lun offset None more e right = each NothingMore tt
-  data_heard_by tag lun offset (Some task) more e right =
-      data_by task task.deed lun offset more (found_self tag s.tasks task e) refl right
+      (Allowed s call answer → is_asked_of o lun offset (length more) ≡ true) → (IsSpoken call → AreBytes more) →
+      P (data_heard s o more)
+  data_heard_by tag lun offset None more e right are = each NothingMore tt
+  data_heard_by tag lun offset (Some task) more e right are =
+      data_by task task.deed lun offset more (found_self tag s.tasks task e) refl right are
 
   -- Replies
 
@@ -218,13 +288,14 @@ heard_by P s (message.Command flags lun tag expected bytes) c done each =
     (record { is = refl; free = λ may. is_unused s tag _ (not_refused _ done may) })
 heard_by P s (message.DataOut lun tag offset «data») c done each =
     data_heard_by P s _ _ each tag lun offset (task_of tag s.tasks) «data».items refl
-    (λ may. is_asked _ (not_refused _ done may))
+    (λ may. is_asked _ (not_refused _ done may)) (λ is. is.1.0.0.3.2)
 heard_by P s (message.TaskRequest lun tag function meant) c done each =
     if_cases (λ t. P (with_short t (short_reply tag (message.TaskResponse lun tag (service s lun function meant)))))
     (service s lun function meant == 0x00)
     (λ e. each (Aborts (is_aborted lun function meant) _) tt) (λ e. each (Replies _) tt)
 heard_by P s (message.NopOut tag) c done each = each (Replies _) tt
-heard_by P s (message.QueryRequest tag function asked size value «data») c done each = each (Replies _) tt
+heard_by P s (message.QueryRequest tag function asked size value «data») c done each =
+    query_by P s _ _ each tag (record { function = function; asked = asked; length = size; value = value }) (refl, refl)
 heard_by P s m c done each = each NothingMore tt
 
 -- The ends of jobs

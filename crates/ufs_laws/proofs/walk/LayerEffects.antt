@@ -4,9 +4,9 @@ use Rattle.std.proofs.Common.{◌≡◌, ◌⊎◌, ◌&&◌, ℕ, Bool, true, f
 use Rattle.std.proofs.Common.{Some, None, inl, inr, not, refl, sym, subst}
 use Rattle.ufs_spec.proofs.Facts.{none-some, same_Some}
 use Rattle.ufs_spec.specs.Cells.{Cell, Cells, GroupPage, Mark, MarkPage, Nothing}
-use Rattle.ufs_spec.specs.Disk.{Erasing, Flight, ForNobody, ForRest, ForStep, ForTask, Programming, Reader, Reading}
+use Rattle.ufs_spec.specs.Disk.{Erasing, Flight, Programming, Reading}
 use Rattle.ufs_spec.specs.Disk.{Spot, at_die, erase_failed, erased, program_failed, programmed}
-use Rattle.ufs_spec.specs.Ledger.{Ledger, Name}
+use Rattle.ufs_spec.specs.Ledger.{Ledger}
 use Rattle.ufs_spec.specs.Moves.{Ending, ReadRight, ReadWrong, TakeStep, WentWell, WentWrong, die_idle, end_flight}
 use Rattle.ufs_spec.specs.Moves.{ending_fits, freed, mark_written, moved, page_written, read_right, read_wrong}
 use Rattle.ufs_spec.specs.Moves.{rests_without}
@@ -20,6 +20,9 @@ use Rattle.ufs_spec.specs.declared.flash.Fence.{Fence}
 use Rattle.ufs_spec.specs.declared.flash.Key.{Key}
 use Rattle.ufs_spec.specs.declared.flash.Place.{Place}
 use Rattle.ufs_spec.specs.declared.flash.Tag.{Tag}
+use Rattle.ufs_spec.specs.declared.layer.Name.{Name}
+use Rattle.ufs_spec.specs.declared.layer.Reader.{Reader}
+use Rattle.ufs_spec.specs.declared.layer.Reader.TheVariants.{ForNobody, ForRest, ForStep, ForTask}
 
 -- ## Effects
 

@@ -1,15 +1,18 @@
 -- What a call makes of the state: first a job begins or ends, or a step; and then come small changes alone. What they
 -- keep is a case for each kind of them (`kept`, `layer_kept`).
-use Rattle.std.proofs.Common.{◌≡◌, ℕ, ◌+◌, Bool, true, not, List, [], ◌∷◌, ◌++◌, map, filter}
+use Rattle.std.proofs.Common.{◌≡◌, ℕ, ◌+◌, Bool, true, false, not, List, [], ◌∷◌, ◌++◌, map, filter, length, subst}
 use Rattle.std.proofs.Common.{Option, Some, None, refl}
 use Rattle.std.specs.List.{flat_map}
 use Rattle.std.specs.Prelude.{Ok}
 use Rattle.ufs_spec.specs.Cells.{Array}
 use Rattle.ufs_spec.specs.Commands.{Command}
+use Rattle.ufs_spec.specs.Changes.{given_back}
 use Rattle.ufs_spec.specs.Disk.{Flight}
+use Rattle.ufs_spec.specs.FrameRequests.{first_page, page_kept, pages_named, requested, with_request}
+use Rattle.ufs_spec.specs.Frames.{Frame}
 use Rattle.ufs_spec.specs.Exchanges.{Answering, Awaiting, Deed, ReadState, Registers, Sending, Short, Task, is_short_of}
 use Rattle.ufs_spec.specs.Exchanges.{is_task_of, with_deed, RpmbRequest}
-use Rattle.ufs_spec.specs.Keys.{below, data_key, group_of}
+use Rattle.ufs_spec.specs.Keys.{area_key, below, data_key, group_of}
 use Rattle.ufs_spec.specs.Machine.{Answer, Reply, Call, Done, OfDone, Take, OfTake, Heard, OfHost, Host, OfReply, Turn}
 use Rattle.ufs_spec.specs.Machine.{OfTurn, abort_moves, accepts, array_after, behind, begun, blocks_expected}
 use Rattle.ufs_spec.specs.Machine.{claimed_by, fill_moves, fills, hears, is_to_fill, is_durable, kept_at, lock_applied}
@@ -24,12 +27,15 @@ use Rattle.ufs_spec.specs.declared.configs.Numbers.{Numbers}
 use Rattle.ufs_spec.specs.declared.flash.Key.{Key}
 use Rattle.ufs_spec.specs.declared.messages.Message.{Message}
 use Rattle.ufs_spec.specs.declared.scsi.Cdb.{Cdb}
+use Rattle.ufs_spec.specs.declared.scsi.Cdb.TheVariants as cdb
 pub use Rattle.ufs_laws.proofs.walk.Happenings.{first, job_over, Aborts, Begins, BlockRead, Gathers, GoesOn, Happening}
 pub use Rattle.ufs_laws.proofs.walk.Happenings.{IsOver, NothingMore, Refuses, Replies, ShortOver, behind_by, happened}
-pub use Rattle.ufs_laws.proofs.walk.Happenings.{Completes}
+pub use Rattle.ufs_laws.proofs.walk.Happenings.{Completes, Sets, Tells}
+use Rattle.std.proofs.lemmas.List.{map-id}
 use Rattle.ufs_spec.proofs.Facts.{if_both}
-use Rattle.ufs_laws.proofs.walk.WaysOfCommands.{Told, MeetsLock, Accepted, Beginning, Gathered, Reading, WhyBegun}
-use Rattle.ufs_laws.proofs.walk.WaysOfCommands.{begins_by, begun_as}
+use Rattle.ufs_laws.proofs.walk.WaysOfCommands.{Beginning, Gathered, Handing, Reading, WhyBegun, begins_by, begun_as}
+use Rattle.ufs_laws.proofs.walk.WaysOfData.{Accepted, AcceptsFrames, Completion, HasResult, ReadsArea, Told}
+use Rattle.ufs_laws.proofs.walk.WaysOfData.{claim_of_task, completed}
 
 -- ## Small changes
 
@@ -47,7 +53,7 @@ pub data Change : Type 0 where
   MapsShorts : (f : Short → Short) → Change
   ClosesShorts : (is : Short → Bool) → Change
   -- the RPMB registers; fPowerOnWPEn
-  SetsRegisters : (registers : Registers) → Change
+  SetsRegisters : (registers : ℕ → Registers) → Change
   SetsPowerOn : (on : Bool) → Change
 
 abbrev pub changed : State → Change → State
@@ -186,6 +192,7 @@ begun_small s r unit c = begins_by (Small s) s r unit c one
     one : (b : Beginning) → WhyBegun s r unit c b → Small s (begun_as s r c b)
     one (Reading unit address n) why = read_small s r c unit address n
     one (Gathered count purpose n) why = Both (one_move (Claim count) tt) (opens r (Some c) n _)
+    one (Handing region n) why = Both (opens r (Some (cdb.SecurityIn region n)) _ _) (One (SetsRegisters _) tt)
     one b why = opens r _ _ _
 
 -- Tasks that are aborted
@@ -213,6 +220,48 @@ tells_small : (s : State) (awaits : Option ℕ) → Small s (with_moves s (ackno
 tells_small s None = Still
 tells_small s (Some commands) = one_move (Acknowledge commands) tt
 
+-- Requests of the RPMB
+
+pub requests : (tag : ℕ) (request : RpmbRequest) (deed : Deed) (task : Task) →
+    SameTask task (with_request tag request deed task)
+requests tag request deed task =
+    if_both (SameTask task) (is_task_of tag task) (same_task task deed (Some request)) (same_task task _ _)
+
+request_small : {s : State} (task : Task) (region : ℕ) (frames : List Frame) (result : ℕ) (deed : Deed) →
+    Small s (requested s task region frames result deed)
+request_small task region frames result deed =
+    Both (One (Maps _) (requests task.tag (record { region = region; frames = frames; result = result; filled = false })
+    deed)) (One (SetsRegisters _) tt)
+
+-- All data of a task
+
+completes_small : (s : State) (task : Task) (k : Completion) → Small s (completed s task k)
+completes_small s task (Told status released) = Both (one_move (Release released) tt) (set task.tag _)
+completes_small s task (Accepted command claimed deed) =
+    One (Accepts command claimed (with_deed task.tag deed)) (does task.tag deed)
+completes_small s task (HasResult region frames result) =
+    Both (one_move (Release (claim_of_task s task)) tt) (request_small task region frames result _)
+completes_small s task (ReadsArea region f fs result) =
+    Both (one_move (Release (claim_of_task s task)) tt)
+    (Both (keeps_small (given_back s task) (λ i. area_key region (first_page f + i)) (page_kept s task.tag region f)
+    (below (pages_named f))) (request_small task region (f ∷ fs) result _))
+completes_small s task (AcceptsFrames region frames result command) =
+    Both (One (Accepts command (claim_of_task s task) (with_request task.tag
+    (record { region = region; frames = frames; result = result; filled = false }) (Awaiting (length s.accepted + 1))))
+    (requests task.tag _ _)) (One (SetsRegisters _) tt)
+
+-- Settings
+
+set_small : (s : State) (command : Command) (short : Short) →
+    Small s (with_short (accepts (with_moves s (Claim 1 ∷ [])) command 1) short)
+set_small s command short =
+    Both (one_move (Claim 1) tt) (Both (subst (λ (tasks : List Task). Small u
+    (record (accepts u command 1) { tasks = tasks })) (map-id s.tasks) (One (Accepts command 1 (λ task. task)) (λ task.
+    same_task task task.deed task.request))) (One (OpensShort short) tt))
+  where
+    u : State
+    u = with_moves s (Claim 1 ∷ [])
+
 -- What happens in a call
 
 pub reads : (tag index : ℕ) (state : ReadState) (task : Task) → SameTask task (task_read tag index state task)
@@ -221,13 +270,12 @@ reads tag index state task = if_both (SameTask task) (is_task_of tag task) (same
 happens_small : (s : State) (h : Happening) → Small s (happened s h)
 happens_small s NothingMore = Still
 happens_small s (Replies short) = One (OpensShort short) tt
+happens_small s (Tells power_on short) = Both (One (SetsPowerOn power_on) tt) (One (OpensShort short) tt)
+happens_small s (Sets command short) = set_small s command short
 happens_small s (Refuses r status) = opens r None 0 (Answering status 0)
 happens_small s (Begins r c) = begun_small s r _ c
 happens_small s (Gathers task purpose all) = set task.tag _
-happens_small s (Completes task (Told status)) = set task.tag _
-happens_small s (Completes task (MeetsLock claimed)) = Both (one_move (Release claimed) tt) (set task.tag _)
-happens_small s (Completes task (Accepted command claimed deed)) =
-    One (Accepts command claimed (with_deed task.tag deed)) (does task.tag deed)
+happens_small s (Completes task k) = completes_small s task k
 happens_small s (Aborts is short) = Both (without_small s is) (One (OpensShort short) tt)
 happens_small s (GoesOn task deed) = Both (behind_small s task task.deed) (set task.tag deed)
 happens_small s (IsOver task) =

@@ -1,14 +1,16 @@
 -- What holds of each open task: a law of tasks is a case for each way in which a task is opened and goes on, and each
 -- call keeps it.
 use Rattle.std.proofs.Common.{◌≡◌, ℕ, Bool, true, false, not, ◌++◌, List, [], ◌∷◌, filter, find, length, map, nat_lt}
-use Rattle.std.proofs.Common.{Option, Some, None, sym, subst}
+use Rattle.std.proofs.Common.{Option, Some, None, refl, sym, subst, ap, ◌∙◌, inl}
 use Rattle.std.specs.Prelude.{Ok}
 use Rattle.ufs_spec.proofs.Facts.{if_both, none-some, same_Some}
 use Rattle.ufs_laws.specs.Exchange.{Asks, Every, IsAskedIn, IsRequest, IsSpoken}
 use Rattle.ufs_spec.specs.Cells.{Array}
 use Rattle.ufs_spec.specs.Disk.{Flight}
-use Rattle.ufs_spec.specs.Exchanges.{Answering, Awaiting, Deed, Gathering, Purpose, ReadState, Status, Task, is_task_of}
-use Rattle.ufs_spec.specs.Exchanges.{task_of, with_deed, write_error, count_at}
+use Rattle.ufs_spec.specs.Exchanges.{Answering, Awaiting, Deed, ForFrames, Gathering, Good, Purpose, ReadBlock}
+use Rattle.ufs_spec.specs.Exchanges.{ReadState, ReadingArea, RpmbRequest, Sending, SendingBytes, Status, Task}
+use Rattle.ufs_spec.specs.Exchanges.{count_at, is_task_of, task_of, with_deed}
+use Rattle.ufs_spec.specs.FrameRequests.{with_request}
 use Rattle.ufs_spec.specs.Machine.{Answer, Reply, Call, Faulty, Done, OfDone, Take, OfTake, OfHost, Host, OfReply}
 use Rattle.ufs_spec.specs.Machine.{Spelled, Turn, OfTurn, begun, deed_after, fills, observe, behind, task_filled}
 use Rattle.ufs_spec.specs.Machine.{task_locked, task_read, unit_or_first, Allowed, in_use, service}
@@ -19,8 +21,9 @@ use Rattle.ufs_spec.specs.declared.messages.Message.TheVariants as message
 use Rattle.ufs_spec.specs.declared.scsi.Cdb.{Cdb}
 use Rattle.ufs_laws.proofs.walk.Happenings.{Aborts, Begins, BlockRead, Gathers, GoesOn, Happening, IsCommand, IsOver}
 use Rattle.ufs_laws.proofs.walk.Happenings.{Refuses, Why, behind_by, ends_by, happened, job_over, Completes}
-use Rattle.ufs_laws.proofs.walk.WaysOfCommands.{Told, MeetsLock, Accepted, IsAcceptedDeed, IsAnswerTo, begins_by}
-use Rattle.ufs_laws.proofs.walk.WaysOfCommands.{beginning_opens}
+use Rattle.ufs_laws.proofs.walk.WaysOfCommands.{begins_by, beginning_opens}
+use Rattle.ufs_laws.proofs.walk.WaysOfData.{Accepted, AcceptsFrames, HasResult, IsAcceptedDeed, IsAnswerTo, ReadsArea}
+use Rattle.ufs_laws.proofs.walk.WaysOfData.{Told, accepted_deed}
 
 -- the task of a request
 abbrev pub task_for : Request → Option Cdb → ℕ → Deed → Task
@@ -68,13 +71,15 @@ pub record IsTaskLaw (P : Task → Type 0) (May : Task → Deed → Type 0) (Ask
   -- a task that does something else keeps the law, and so do all
   pub set : (task : Task) (deed : Deed) → task_of task.tag s.tasks ≡ Some task → Every P s.tasks → May task deed →
       Every P (map (with_deed task.tag deed) s.tasks)
+  pub set_request : (task : Task) (request : RpmbRequest) (deed : Deed) → task_of task.tag s.tasks ≡ Some task →
+      Every P s.tasks → May task deed → Every P (map (with_request task.tag request deed) s.tasks)
   -- tasks that are opened
   pub refused : (r : Request) (status : Status) → IsRequest r → Asked r → in_use s r.tag ≡ false →
       refusal s r ≡ Some status → P (task_for r None 0 (Answering status 0))
   pub begins : (r : Request) (c : Cdb) → IsRequest r → Asked r → in_use s r.tag ≡ false → r.cdb ≡ Some c →
       refusal s r ≡ None →
       OneMore P s.tasks (begun s r (unit_or_first (unit_of_request s r)) c).tasks
-  -- tasks that get the data that they asked for: they gather, are answered, or wait for their command
+  -- tasks that get the data that they asked for: they gather, are answered, wait for their command, or read the area
   pub gathers : (task : Task) (purpose : Purpose) (gathered bytes : List ℕ) (asked : Bool) →
       task.deed ≡ Gathering purpose gathered asked → P task → length bytes ≡ count_at task.length (length gathered) →
       nat_lt (length (gathered ++ bytes)) task.length ≡ true → May task (Gathering purpose (gathered ++ bytes) false)
@@ -83,6 +88,8 @@ pub record IsTaskLaw (P : Task → Type 0) (May : Task → Deed → Type 0) (Ask
       May task (Answering status task.length)
   pub waits : (task : Task) (purpose : Purpose) (gathered : List ℕ) (asked : Bool) (position : ℕ) →
       task.deed ≡ Gathering purpose gathered asked → P task → May task (Awaiting position)
+  pub reads_area : (task : Task) (purpose : Purpose) (gathered : List ℕ) (asked : Bool) (pages : List ReadBlock) →
+      task.deed ≡ Gathering purpose gathered asked → P task → May task (ReadingArea pages)
   -- that replied, whose request fills its register, that a lock meets, and of which a block was read
   pub goes : (task : Task) (deed : Deed) → deed_after task task.deed ≡ Some deed → P task → May task deed
   pub fills : (u : State) (task : Task) → P task → P (task_filled u task)
@@ -142,13 +149,21 @@ module _ (P : Task → Type 0) (May : Task → Deed → Type 0) (Asked : Request
   found_kept : (task : Task) → task_of task.tag s.tasks ≡ Some task → P task
   found_kept task found = every_found P (is_task_of task.tag) s.tasks task found all
 
+  for_frames : (deed : Deed) (purpose : Purpose) (region : ℕ) (gathered : List ℕ) (asked : Bool) →
+      purpose ≡ ForFrames region → deed ≡ Gathering purpose gathered asked →
+      deed ≡ Gathering (ForFrames region) gathered asked
+  for_frames deed purpose region gathered asked is e = e ∙ ap (λ (p : Purpose). Gathering p gathered asked) is
+
   accepted_may : (task : Task) (purpose : Purpose) (gathered : List ℕ) (asked : Bool) (deed : Deed) →
       task.deed ≡ Gathering purpose gathered asked → P task → IsAcceptedDeed purpose task deed → May task deed
   accepted_may task purpose gathered asked (Answering status carried) e p is =
       subst (λ (n : ℕ). May task (Answering status n)) (sym is.1)
       (k.answers task purpose gathered asked status e p is.0)
   accepted_may task purpose gathered asked (Awaiting position) e p is = k.waits task purpose gathered asked position e p
-  accepted_may task purpose gathered asked deed e p is = absurd is
+  accepted_may task purpose gathered asked (Gathering other bytes was) e p is = absurd is
+  accepted_may task purpose gathered asked (Sending blocks sent) e p is = absurd is
+  accepted_may task purpose gathered asked (SendingBytes bytes) e p is = absurd is
+  accepted_may task purpose gathered asked (ReadingArea pages) e p is = absurd is
 
   happens_kept : (call : Call) (answer : Answer) → IsSpoken call → Asks Asked call → Allowed s call answer →
       (h : Happening) → Why s call answer h → Every P (happened s h).tasks
@@ -163,15 +178,24 @@ module _ (P : Task → Type 0) (May : Task → Deed → Type 0) (Asked : Request
       (subst (λ (xs : List ℕ). May task (Gathering purpose xs false)) (sym e)
       (k.gathers task purpose d.gathered d.more d.asked d.deed (found_kept task d.found) (d.next may)
       (subst (λ (xs : List ℕ). nat_lt (length xs) task.length ≡ true) e few)))
-  happens_kept call answer is asks may (Completes task (Told status)) (purpose, d, told) =
+  happens_kept call answer is asks may (Completes task (Told status released)) (purpose, d, told) =
       k.set task (Answering status task.length) d.found all
-      (k.answers task purpose d.gathered d.asked status d.deed (found_kept task d.found) told)
-  happens_kept call answer is asks may (Completes task (MeetsLock claimed)) (purpose, d, told) =
-      k.set task (Answering write_error task.length) d.found all
-      (k.answers task purpose d.gathered d.asked write_error d.deed (found_kept task d.found) told)
+      (k.answers task purpose d.gathered d.asked status d.deed (found_kept task d.found) told.0)
   happens_kept call answer is asks may (Completes task (Accepted command claimed deed)) (purpose, d, told) =
       k.set task deed d.found all
-      (accepted_may task purpose d.gathered d.asked deed d.deed (found_kept task d.found) told)
+      (accepted_may task purpose d.gathered d.asked deed d.deed (found_kept task d.found)
+      (accepted_deed s task purpose (d.gathered ++ d.more) command claimed deed told.1))
+  happens_kept call answer is asks may (Completes task (HasResult region frames result)) (purpose, d, told) =
+      k.set_request task _ (Answering Good task.length) d.found all
+      (k.answers task (ForFrames region) d.gathered d.asked Good
+      (for_frames task.deed purpose region d.gathered d.asked told.purpose_is d.deed)
+      (found_kept task d.found) (inl refl))
+  happens_kept call answer is asks may (Completes task (ReadsArea region f fs result)) (purpose, d, told) =
+      k.set_request task _ (ReadingArea _) d.found all
+      (k.reads_area task purpose d.gathered d.asked _ d.deed (found_kept task d.found))
+  happens_kept call answer is asks may (Completes task (AcceptsFrames region frames result c)) (purpose, d, told) =
+      k.set_request task _ (Awaiting _) d.found all
+      (k.waits task purpose d.gathered d.asked _ d.deed (found_kept task d.found))
   happens_kept call answer is asks may (Aborts those short) why =
       every_filtered P (λ task. not (those task)) s.tasks all
   happens_kept call answer is asks may (GoesOn task deed) (found, e) =

@@ -1,17 +1,17 @@
--- How a command begins, and what comes of it once all its data are there: one of few ways, for a reason. A law of
--- either is a case for each way (`begins_by`, `completes_by`), so that a new command adds its lines here.
-use Rattle.std.proofs.Common.{nat_lt, zero, suc, ◌≢◌, true, false, ◌≡◌, ◌⊎◌, ℕ, ◌*◌, ◌<◌, ◌^◌, ◌==◌, Bool, List, []}
-use Rattle.std.proofs.Common.{◌∷◌, ◌++◌, length, take, Option, Some, None, inl, inr, refl, arith}
-use Rattle.ufs_spec.proofs.Facts.{eqb-false, if_both, if_cases}
+-- How a command begins: in one of few ways, for a reason. A law of it is a case for each way (`begins_by`), so that a
+-- new command adds its lines here. What comes of it once all its data are there is told in WaysOfData.
+use Rattle.std.proofs.Common.{nat_le, nat_lt, not, zero, suc, ◌≢◌, true, false, ◌≡◌, ◌⊎◌, ℕ, ◌*◌, ◌<◌, ◌^◌, ◌==◌, Bool}
+use Rattle.std.proofs.Common.{List, [], ◌∷◌, ◌++◌, length, take, Some, inl, inr, refl, arith}
+use Rattle.ufs_spec.proofs.Facts.{and_parts, eqb-false, if_both, if_cases, leb-true, not-false}
+use Rattle.ufs_spec.specs.Begins.{frames_begun}
 use Rattle.ufs_spec.specs.Cdbs.{IsCdb, address_of, blocks_of, operation_of, read_10, read_6, six_blocks, write_10}
 use Rattle.ufs_spec.specs.Cdbs.{write_6}
-use Rattle.ufs_spec.specs.Exchanges.{Deed, ForFrames, ForUnmap, write_error, Answering, Awaiting, ForWrite, Gathering}
-use Rattle.ufs_spec.specs.Exchanges.{Good, Purpose, Status, Task, invalid_operation}
-use Rattle.ufs_spec.specs.Machine.{accepts, complete, set_deed, write_deed, begun, capacity_bytes, data_begun}
-use Rattle.ufs_spec.specs.Machine.{flush_begun, no_sense, read_begun, with_moves, with_task}
-use Rattle.ufs_spec.specs.Commands.{Command}
-use Rattle.ufs_spec.specs.Moves.{Claim, Release}
-use Rattle.ufs_spec.specs.Refusals.{locked, Request, State, is_too_long, needs_mended, numbers_of, slots_needed}
+use Rattle.ufs_spec.specs.Exchanges.{Answering, Awaiting, ForFrames, ForUnmap, ForWrite, Gathering, Good, Purpose, Task}
+use Rattle.ufs_spec.specs.Identities.{inquiry_bytes, luns_bytes}
+use Rattle.ufs_spec.specs.Machine.{begun, capacity_bytes, data_begun, flush_begun, no_sense, read_begun, with_moves}
+use Rattle.ufs_spec.specs.Machine.{with_task}
+use Rattle.ufs_spec.specs.Moves.{Claim}
+use Rattle.ufs_spec.specs.Refusals.{Request, State, is_frames, is_too_long, needs_mended, numbers_of, slots_needed}
 use Rattle.ufs_spec.specs.Refusals.{unit_numbers_of}
 use Rattle.ufs_spec.specs.Configs.{command_blocks}
 use Rattle.ufs_spec.specs.declared.configs.Numbers.{Numbers}
@@ -19,23 +19,32 @@ use Rattle.ufs_spec.specs.declared.scsi.Cdb.{Cdb}
 use Rattle.ufs_spec.specs.declared.scsi.Cdb.TheVariants as cdb
 
 pub data Beginning : Type 0 where
-  -- it is answered, or waits for all that is accepted
-  Answered : (command : Option Cdb) → (status : Status) → Beginning
+  -- it is answered GOOD, or waits for all that is accepted
+  Answered : Beginning
   Waiting : Beginning
-  -- it sends these data
+  -- it sends these data, or the frames that wait in a region
   Telling : (bytes : List ℕ) → Beginning
+  Handing : (region n : ℕ) → Beginning
   -- it reads blocks
   Reading : (unit address n : ℕ) → Beginning
   -- it gathers data, in slots that it claims
   Gathered : (count : ℕ) → (purpose : Purpose) → (n : ℕ) → Beginning
 
 abbrev pub begun_as : State → Request → Cdb → Beginning → State
-begun_as s r c (Answered command status) = with_task s r command 0 (Answering status 0)
+begun_as s r c Answered = with_task s r (Some c) 0 (Answering Good 0)
 begun_as s r c Waiting = with_task s r (Some c) 0 (Awaiting (length s.accepted))
 begun_as s r c (Telling bytes) = data_begun s r c bytes
+begun_as s r c (Handing region n) = frames_begun s r region n
 begun_as s r c (Reading unit address n) = read_begun s r c unit address n
 begun_as s r c (Gathered count purpose n) =
     with_task (with_moves s (Claim count ∷ [])) r (Some c) n (Gathering purpose [] false)
+
+-- data that are known at the COMMAND: sense data, a capacity, what INQUIRY tells, or a list of units
+pub data IsTold (s : State) (r : Request) : List ℕ → Type 0 where
+  TellsSense : (allocation : ℕ) → IsTold s r (take allocation no_sense)
+  TellsCapacity : IsTold s r (capacity_bytes (unit_numbers_of s r))
+  TellsUnit : (allocation : ℕ) → IsTold s r (take allocation (inquiry_bytes r.lun))
+  TellsUnits : (select allocation : ℕ) → IsTold s r (take allocation (luns_bytes (numbers_of s) select))
 
 -- what a WRITE gathers: its blocks, each in a slot
 pub record IsWritten (n : Numbers) (unit : ℕ) (c : Cdb) (count u address blocks total : ℕ) : Type 0 where
@@ -47,21 +56,22 @@ pub record IsWritten (n : Numbers) (unit : ℕ) (c : Cdb) (count u address block
   pub writes : (operation_of c ≡ write_6) ⊎ (operation_of c ≡ write_10)
   pub long : is_too_long n c ≡ nat_lt (command_blocks n) (blocks_of c)
 
+-- what each command gathers that takes data: a WRITE its blocks, an UNMAP its list, a SECURITY PROTOCOL OUT its frames
 abbrev pub IsGathered : Numbers → ℕ → Cdb → ℕ → Purpose → ℕ → Type 0
 IsGathered n unit c count (ForWrite u address blocks forced) total = IsWritten n unit c count u address blocks total
-IsGathered n unit c count purpose total = ⊥
+IsGathered n unit c count (ForUnmap u) total = (u ≡ unit) × (c ≡ cdb.Unmap total)
+IsGathered n unit c count (ForFrames region) total = c ≡ cdb.SecurityOut region total
 
 abbrev pub WhyBegun : State → Request → ℕ → Cdb → Beginning → Type 0
-WhyBegun s r unit c (Answered command status) =
-    ((command ≡ None) × (status ≡ invalid_operation)) ⊎ ((command ≡ Some c) × (status ≡ Good))
+WhyBegun s r unit c Answered = Unit {0}
 WhyBegun s r unit c Waiting = needs_mended (operation_of c) ≡ true
-WhyBegun s r unit c (Telling bytes) =
-    ((allocation : ℕ) × (bytes ≡ take allocation no_sense)) ⊎ (bytes ≡ capacity_bytes (unit_numbers_of s r))
+WhyBegun s r unit c (Telling bytes) = IsTold s r bytes
+WhyBegun s r unit c (Handing region n) = c ≡ cdb.SecurityIn region n
 WhyBegun s r unit c (Reading u address n) =
     (u ≡ unit) × (address ≡ address_of c) × (n ≡ blocks_of c * 4096)
     × ((operation_of c ≡ read_6) ⊎ (operation_of c ≡ read_10))
 WhyBegun s r unit c (Gathered count purpose n) =
-    (slots_needed (numbers_of s) c ≡ count) × (0 < n) × (IsCdb c → n < 2 ^ 32)
+    (slots_needed (numbers_of s) c ≡ count) × (is_too_long (numbers_of s) c ≡ false → 0 < n) × (IsCdb c → n < 2 ^ 32)
     × (needs_mended (operation_of c) ≡ true) × IsGathered (numbers_of s) unit c count purpose n
 
 -- ## The walk
@@ -72,6 +82,16 @@ some_blocks n e = by n (eqb-false n 0 e)
     by : (n : ℕ) → n ≢ 0 → 0 < 4096 * n
     by zero h = absurd (h refl)
     by (suc n) h = omega arith
+
+more_than_none : (n : ℕ) → n ≢ 0 → 0 < n
+more_than_none zero h = absurd (h refl)
+more_than_none (suc n) h = omega arith
+
+-- a length that is that of frames is not none
+some_frames : (region n : ℕ) → not (is_frames n) ≡ false → 0 < n
+some_frames region n e =
+    let some = leb-true 512 n (and_parts (nat_le 512 n) _ (and_parts _ _ (not-false (is_frames n) e)).0).0 in
+    omega arith
 
 few_six : (blocks : ℕ) → blocks < 2 ^ 8 → six_blocks blocks < 2 ^ 16
 few_six blocks few = if_both (λ n. n < 2 ^ 16) (blocks == 0) (omega arith) (omega arith)
@@ -105,20 +125,21 @@ module _ (P : State → Type 0) (s : State) (r : Request) (unit : ℕ) where
   Each c = (b : Beginning) → WhyBegun s r unit c b → P (begun_as s r c b)
 
   good_by : (c : Cdb) → Each c → P (with_task s r (Some c) 0 (Answering Good 0))
-  good_by c each = each (Answered (Some c) Good) (inr (refl, refl))
-
-  unbuilt_by : (c : Cdb) → Each c → P (with_task s r None 0 (Answering invalid_operation 0))
-  unbuilt_by c each = each (Answered None invalid_operation) (inl (refl, refl))
+  good_by c each = each Answered tt
 
   flush_by : (c : Cdb) (immediate : Bool) → Each c → needs_mended (operation_of c) ≡ true →
       P (flush_begun s r c immediate)
   flush_by c true each needs = good_by c each
   flush_by c false each needs = each Waiting needs
 
+  good_unmap : (list : ℕ) → (list == 0) ≡ true → Each (cdb.Unmap list) →
+      P (with_task s r (Some (cdb.Unmap list)) 0 (Answering Good 0))
+  good_unmap list none each = good_by (cdb.Unmap list) each
+
   pub begins_by : (c : Cdb) → Each c → P (begun s r unit c)
   begins_by cdb.TestUnitReady each = good_by cdb.TestUnitReady each
-  begins_by (cdb.RequestSense allocation) each = each (Telling _) (inl (allocation, refl))
-  begins_by cdb.ReadCapacity10 each = each (Telling _) (inr refl)
+  begins_by (cdb.RequestSense allocation) each = each (Telling _) (TellsSense allocation)
+  begins_by cdb.ReadCapacity10 each = each (Telling _) TellsCapacity
   begins_by (cdb.Read6 address blocks) each =
       each (Reading unit address _) (refl, refl, refl, inl refl)
   begins_by (cdb.Read10 address blocks forced) each =
@@ -128,7 +149,7 @@ module _ (P : State → Type 0) (s : State) (r : Request) (unit : ℕ) where
       (λ some. each (Gathered (six_blocks blocks) (ForWrite unit address (six_blocks blocks) false)
       (4096 * six_blocks blocks)) (
         refl,
-        some_blocks _ some,
+        (λ short. some_blocks _ some),
         (λ fits. let few = few_six blocks fits.1 in omega arith),
         refl,
         written s unit (cdb.Write6 address blocks) (six_blocks blocks) (inl refl) refl refl,
@@ -137,72 +158,36 @@ module _ (P : State → Type 0) (s : State) (r : Request) (unit : ℕ) where
       if_cases P (blocks == 0) (λ none. good_by (cdb.Write10 address blocks forced) each)
       (λ some. each (Gathered blocks (ForWrite unit address blocks forced) (4096 * blocks)) (
         refl,
-        some_blocks _ some,
+        (λ short. some_blocks _ some),
         (λ fits. let few = fits.1 in omega arith),
         refl,
         written s unit (cdb.Write10 address blocks forced) blocks (inr refl) refl refl,
       ))
   begins_by (cdb.SynchronizeCache10 address blocks immediate) each =
       flush_by (cdb.SynchronizeCache10 address blocks immediate) immediate each refl
-  begins_by (cdb.Inquiry allocation) each = unbuilt_by (cdb.Inquiry allocation) each
-  begins_by (cdb.Unmap list) each = unbuilt_by (cdb.Unmap list) each
-  begins_by (cdb.ReportLuns select allocation) each = unbuilt_by (cdb.ReportLuns select allocation) each
-  begins_by (cdb.SecurityIn n) each = unbuilt_by (cdb.SecurityIn n) each
-  begins_by (cdb.SecurityOut n) each = unbuilt_by (cdb.SecurityOut n) each
+  begins_by (cdb.Inquiry allocation) each = each (Telling _) (TellsUnit allocation)
+  begins_by (cdb.ReportLuns select allocation) each = each (Telling _) (TellsUnits select allocation)
+  begins_by (cdb.Unmap list) each =
+      if_cases P (list == 0) (λ none. good_unmap list none each)
+      (λ some. each (Gathered (slots_needed (numbers_of s) (cdb.Unmap list)) (ForUnmap unit) list) (
+        refl,
+        (λ short. more_than_none list (eqb-false list 0 some)),
+        (λ fits. let few : list < 2 ^ 16 = fits in omega arith),
+        refl,
+        (refl, refl),
+      ))
+  begins_by (cdb.SecurityIn region n) each = each (Handing region n) refl
+  begins_by (cdb.SecurityOut region n) each =
+      each (Gathered (slots_needed (numbers_of s) (cdb.SecurityOut region n)) (ForFrames region) n) (
+        refl,
+        some_frames region n,
+        (λ fits. fits.1),
+        refl,
+        refl,
+      )
 
 -- each opens one task, of the request's tag
 pub beginning_opens : (s : State) (r : Request) (c : Cdb) (b : Beginning) →
     (task : Task) × ((begun_as s r c b).tasks ≡ s.tasks ++ task ∷ []) × (task.tag ≡ r.tag)
-beginning_opens s r c (Answered command status) = (_, refl, refl)
+beginning_opens s r c Answered = (_, refl, refl)
 beginning_opens s r c b = (_, refl, refl)
-
--- ## All data of a task
-
-pub data Completion : Type 0 where
-  -- the task is answered, its command meets the lock, or is accepted in place of claimed slots
-  Told : (status : Status) → Completion
-  MeetsLock : (claimed : ℕ) → Completion
-  Accepted : (command : Command) → (claimed : ℕ) → (deed : Deed) → Completion
-
-abbrev pub completed : State → Task → Completion → State
-completed s task (Told status) = set_deed s task.tag (Answering status task.length)
-completed s task (MeetsLock claimed) =
-    set_deed (with_moves s (Release claimed ∷ [])) task.tag (Answering write_error task.length)
-completed s task (Accepted command claimed deed) = set_deed (accepts s command claimed) task.tag deed
-
--- what a task is answered that has all its data, and what a command does that is accepted
-abbrev pub IsAnswerTo : Purpose → Status → Type 0
-IsAnswerTo (ForWrite unit address blocks forced) status = (status ≡ Good) ⊎ (status ≡ write_error)
-IsAnswerTo (ForUnmap unit) status = status ≡ invalid_operation
-IsAnswerTo ForFrames status = status ≡ invalid_operation
-
--- it is one of three
-pub answer_one : (purpose : Purpose) (status : Status) → IsAnswerTo purpose status →
-    (status ≡ Good) ⊎ (status ≡ write_error) ⊎ (status ≡ invalid_operation)
-answer_one (ForWrite unit address blocks forced) status (inl e) = inl e
-answer_one (ForWrite unit address blocks forced) status (inr e) = inr (inl e)
-answer_one (ForUnmap unit) status e = inr (inr e)
-answer_one ForFrames status e = inr (inr e)
-
-abbrev pub IsAcceptedDeed : Purpose → Task → Deed → Type 0
-IsAcceptedDeed purpose task (Answering status carried) = IsAnswerTo purpose status × (carried ≡ task.length)
-IsAcceptedDeed purpose task (Awaiting position) = Unit {0}
-IsAcceptedDeed purpose task deed = ⊥
-
-abbrev pub WhyCompleted : Purpose → Task → Completion → Type 0
-WhyCompleted purpose task (Told status) = IsAnswerTo purpose status
-WhyCompleted purpose task (MeetsLock claimed) = IsAnswerTo purpose write_error
-WhyCompleted purpose task (Accepted command claimed deed) = IsAcceptedDeed purpose task deed
-
-write_waits : (unit address blocks : ℕ) (forced : Bool) (task : Task) (f : Bool) (n : ℕ) →
-    IsAcceptedDeed (ForWrite unit address blocks forced) task (write_deed f n task.length)
-write_waits unit address blocks forced task true n = tt
-write_waits unit address blocks forced task false n = (inl refl, refl)
-
-pub completes_by : (P : State → Type 0) (s : State) (task : Task) (purpose : Purpose) (bytes : List ℕ) →
-    ((k : Completion) → WhyCompleted purpose task k → P (completed s task k)) → P (complete s task purpose bytes)
-completes_by P s task (ForWrite unit address blocks forced) bytes each =
-    if_cases P (locked s) (λ e. each (MeetsLock blocks) (inr refl))
-    (λ e. each (Accepted _ blocks _) (write_waits unit address blocks forced task forced _))
-completes_by P s task (ForUnmap unit) bytes each = each (Told invalid_operation) refl
-completes_by P s task ForFrames bytes each = each (Told invalid_operation) refl

@@ -23,7 +23,7 @@ use Rattle.ufs_laws.specs.Runs.{state_21, state_22, state_23, state_24}
 use Rattle.ufs_spec.specs.Cdbs.{cdb_bytes}
 use Rattle.ufs_spec.specs.Cells.{MarkPage}
 use Rattle.ufs_spec.specs.Commands as command
-use Rattle.ufs_spec.specs.Disk.{Flight, ForTask, ended, erased, programmed}
+use Rattle.ufs_spec.specs.Disk.{Flight, ended, erased, programmed}
 use Rattle.ufs_spec.specs.Exchanges.{Answering, Awaiting, ForWrite, Good, Unread, WasRead, data_message, is_asked_of}
 use Rattle.ufs_spec.specs.Lives.{ended_well, held}
 use Rattle.ufs_spec.specs.Machine.{Answer, Reply, Call, Done, Host, OfDone, Take, OfTake, OfReply, Turn, OfTurn}
@@ -32,6 +32,7 @@ use Rattle.ufs_spec.specs.Moves.{ending_fits}
 use Rattle.ufs_spec.specs.Plain.{shape_of, shape_of_numbers}
 use Rattle.ufs_spec.specs.Refusals.{State, mended}
 use Rattle.ufs_spec.specs.Translation.{want_at}
+use Rattle.ufs_spec.specs.declared.layer.Reader.TheVariants.{ForTask}
 use Rattle.ufs_spec.specs.declared.messages.Message.TheVariants as message
 use Rattle.ufs_spec.specs.declared.scsi.Cdb.TheVariants as cdb
 

@@ -13,11 +13,13 @@ use Rattle.ufs_spec.specs.Disk.{Disk, Flight, Spot, at_die, at_place, job_begun,
 use Rattle.ufs_spec.specs.Exchanges.{Answering, Awaiting, Deed, ForWrite, Gathering, Good, Purpose, ReadState, Sending}
 use Rattle.ufs_spec.specs.Exchanges.{Task, Unread, WasRead}
 use Rattle.ufs_spec.specs.Keys.{Item, data_key}
-use Rattle.ufs_spec.specs.Ledger.{Ledger, Name, OnPage, at_name}
+use Rattle.ufs_spec.specs.Ledger.{Ledger, at_name}
 use Rattle.ufs_spec.specs.Machine.{complete, gathered_more, in_block, set_deed}
 use Rattle.ufs_spec.specs.Plain.{Plain, apply, block_at, shape_of, shape_of_numbers, with_part}
 use Rattle.ufs_spec.specs.Refusals.{State}
 use Rattle.ufs_spec.specs.Translation.{MarkStep, Mended, Pin, Work}
+use Rattle.ufs_spec.specs.declared.layer.Looked.TheVariants.{OnPage}
+use Rattle.ufs_spec.specs.declared.layer.Name.{Name}
 use Rattle.ufs_spec.specs.declared.scsi.Cdb.TheVariants as cdb
 
 -- The block

@@ -1,4 +1,4 @@
-use Rattle.ufs_spec.specs.Disk.{ForRest, ForStep, ForTask}
+use Rattle.ufs_spec.specs.declared.layer.Reader.TheVariants.{ForRest, ForStep, ForTask}
 use Rattle.power_loss.proofs.kept_pages.ReadsAreOfPages.{another_ends, failed_ends, flying_home, flying_not_erased}
 use Rattle.power_loss.proofs.kept_pages.ReadsAreOfPages.{flying_there, read_there, wanted_ends}
 use Rattle.power_loss.proofs.kept.a_page_that_is_read_is_a_groups.Goals as goal

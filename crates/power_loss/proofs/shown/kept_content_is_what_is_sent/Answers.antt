@@ -1,4 +1,5 @@
-use Rattle.power_loss.proofs.shown_blocks.LivesShowBlocks.{call_shows, life_shows, opened_shows, page_body, page_sent}
+use Rattle.power_loss.proofs.shown_blocks.LivesShowBlocks.{area_body, call_shows, life_shows, opened_shows}
+use Rattle.power_loss.proofs.shown_blocks.LivesShowBlocks.{page_body, page_sent}
 use Rattle.power_loss.proofs.shown_blocks.LooksShowContents.{look_shows}
 use Rattle.power_loss.proofs.shown.kept_content_is_what_is_sent.Goals as goal
 
@@ -16,6 +17,9 @@ returns-clause-life c = life_shows
 
 pub returns-clause-page : goal.returns-clause-page
 returns-clause-page c = page_body
+
+pub returns-clause-area : goal.returns-clause-area
+returns-clause-area c = area_body
 
 pub returns-clause-sent : goal.returns-clause-sent
 returns-clause-sent c = page_sent

@@ -1,6 +1,7 @@
-use Rattle.std.proofs.Common.{◌∙◌, ap, rules}
-use Rattle.unit_map.specs.Places.{UnitMap, stored_in}
-use Rattle.unit_map.proofs.KeyPlaces.{stored_beside}
+use Rattle.std.proofs.Common.{◌∙◌, ap, rules, sym}
+use Rattle.ufs_spec.specs.declared.configs.Numbers.{Numbers}
+use Rattle.unit_map.specs.Places.{UnitMap, position_of, stored_in}
+use Rattle.unit_map.proofs.KeyPlaces.{stored_beside, stored_here}
 use Rattle.unit_map.proofs.UnitMap.set.Goals as goal
 
 pub returns-then-index-len-clause-others : goal.returns-then-index-len-clause-others
@@ -9,3 +10,11 @@ returns-then-index-len-clause-others c =
     stored_beside c.self.inside.config c.self.inside.places.items c.args.stored c.args.key other c.in-Some.index
     (search rules) (search rules) differ
     ∙ ap (λ (m : UnitMap). stored_in m.numbers m.places other) c.self.view_is
+
+pub returns-then-index-len-clause-there : goal.returns-then-index-len-clause-there
+returns-then-index-len-clause-there c =
+    λ room known.
+    stored_here c.self.inside.config c.self.inside.places.items c.args.stored c.args.key c.in-Some.index
+    (ap (λ (n : Numbers). position_of n c.args.key) (sym c.numbers.ensures.value) ∙ sym c.key_index.ensures.value
+    ∙ c.in-Some.is)
+    (search rules)

@@ -3,7 +3,7 @@ use Rattle.device.proofs.described.SameDevice.{same_core, same_layer}
 use Rattle.std.specs.Prelude.{is_some}
 use Rattle.device.specs.Calls.{lock_told}
 use Rattle.power_loss.proofs.books.PagesByName.{none_some, some_is}
-use Rattle.ftl_core.specs.Describes.{IsTold}
+use Rattle.ftl_core.specs.Public.{IsTold}
 use Rattle.device.proofs.die_calls.CallsRight.{may_end}
 use Rattle.device.proofs.die_calls.EndsTold.{ends_right}
 use Rattle.device.proofs.device.Device.done_opened.Goals as goal
@@ -39,8 +39,8 @@ returns-clause-ended c =
     (some_is t.0 c.in-Some.ended (sym t.1 ∙ c.in-Some.is)) t.2 in (
       refl,
       ends_right _ c.end_waiting.new.self s c.args.die c.args.outcome.now ending left c.done.new.self
-          c.in-Some.ended d is
-          leaves (c.done.ensures.described s.translation ending layer is may) c.done.ensures.same_claims ended
+          c.in-Some.ended d is leaves (c.done.ensures.described s.translation ending layer is may)
+          (c.done.ensures.claims _ d.kept.claims) ended
           (λ who place flies. c.done.ensures.read s.translation who place layer flies)
           (λ u kept.
           c.end_waiting.ensures u (same_layer c.tell.new.self _ u c.tell.ensures kept)

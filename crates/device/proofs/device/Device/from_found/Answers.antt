@@ -1,6 +1,4 @@
-use Rattle.std.proofs.Common.{ap, sym, subst}
-use Rattle.ftl_core.specs.Core.{Core}
-use Rattle.ftl_core.specs.Moves.{claims_for}
+use Rattle.std.proofs.Common.{sym, subst}
 use Rattle.device.specs.Describes.{Describes}
 use Rattle.device.specs.Kept.{DeviceCore}
 use Rattle.device.proofs.described.Opens.{device_opens}
@@ -11,5 +9,4 @@ returns-in-Ok-idle-clause-described c =
     λ array bad s over sound opened.
     subst (λ (d : DeviceCore). Describes d s) (sym c.in-Ok-idle.ensures)
     (device_opens c.args.config array bad s c.args.found c.in-Ok.ftl c.has_no_fault.ensures over.inside sound opened
-    over.found over.permanent c.in-Ok.ensures.described
-    (λ tag. ap (λ (x : Core). claims_for x tag) c.in-Ok.ensures.core))
+    over.found over.permanent c.in-Ok.ensures.described c.in-Ok.ensures.claims)

@@ -1,5 +1,5 @@
 use Rattle.std.proofs.Common.{◌∙◌, subst, sym}
-use Rattle.ftl_core.specs.Describes.{Describes}
+use Rattle.ftl_core.specs.Public.{Describes}
 use Rattle.device.specs.Kept.{DeviceCore}
 use Rattle.device.proofs.host_messages.CommandTable.{read_planned, spec, unit_lacks, unread}
 use Rattle.device.proofs.device.Device.plan.Goals as goal

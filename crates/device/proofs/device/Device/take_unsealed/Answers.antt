@@ -7,4 +7,4 @@ returns-clause-given c =
     λ s h.
     let d = same_core _ _ s c.self.view_is h in
     gives_right _ s c.args.die c.take.result c.take.new.self d
-    (c.take.ensures.described s.translation d.kept.layer_kept) c.take.ensures.same_claims
+    (c.take.ensures.described s.translation d.kept.layer_kept) (c.take.ensures.claims _ d.kept.claims)

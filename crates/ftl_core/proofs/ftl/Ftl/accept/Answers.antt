@@ -2,7 +2,7 @@ use Rattle.std.proofs.Common.{◌∙◌, ap, rules}
 use Rattle.ftl_core.specs.Core.{Core}
 use Rattle.ftl_core.proofs.look_and_accept.GroupsAccepted.{accepts_told}
 use Rattle.ftl_core.proofs.look_and_accept.Numbers.{numbers_right}
-use Rattle.ftl_core.proofs.small_calls.ReadersClaims.{none_after, others_after}
+use Rattle.ftl_core.proofs.small_calls.ClaimedBlocks.{slots_released}
 use Rattle.ftl_core.proofs.stopped.EachStop.{stops_right}
 use Rattle.ftl_core.proofs.ftl.Ftl.accept.Goals as goal
 
@@ -20,8 +20,4 @@ returns-clause-stop c =
 
 pub returns-clause-claims : goal.returns-clause-claims
 returns-clause-claims c =
-    none_after c.args.reader c.args.self.now.claims _ (ap (λ (z : Core). z.claims) c.append.ensures.after)
-
-pub returns-clause-other_claims : goal.returns-clause-other_claims
-returns-clause-other_claims c =
-    others_after c.args.reader c.args.self.now.claims _ (ap (λ (z : Core). z.claims) c.append.ensures.after)
+    slots_released c.args.self.now c.append.new.self c.args.reader (ap (λ (z : Core). z.claims) c.append.ensures.after)

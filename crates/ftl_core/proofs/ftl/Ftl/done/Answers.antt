@@ -1,6 +1,6 @@
 use Rattle.std.proofs.Common.{rules}
 use Rattle.ftl_core.proofs.job_ended.Endings.{ends_known, ends_right, ends_told}
-use Rattle.ftl_core.proofs.job_ended.SameClaims.{same_claims}
+use Rattle.ftl_core.proofs.job_ended.SameClaims.{still_claimed}
 use Rattle.ftl_core.proofs.pins.ReadsAwaited.{read_awaited}
 use Rattle.ftl_core.proofs.stopped.EachStop.{stops_right}
 use Rattle.ftl_core.proofs.ftl.Ftl.done.Goals as goal
@@ -38,6 +38,6 @@ returns-in_err-row-clause-stop c = λ t ending h is may.
 pub returns-clause-stop : goal.returns-clause-stop
 returns-clause-stop c = λ t ending h is may. stops_right _ _ (returns-clause-described c t ending h is may)
 
-pub returns-clause-same_claims : goal.returns-clause-same_claims
-returns-clause-same_claims c =
-    same_claims c.args.self.now c.job_ended.new.self c.args.die c.args.outcome.now c.args.tag.now (search rules)
+pub returns-clause-claims : goal.returns-clause-claims
+returns-clause-claims c =
+    still_claimed c.args.self.now c.job_ended.new.self c.args.die c.args.outcome.now c.args.tag.now (search rules)

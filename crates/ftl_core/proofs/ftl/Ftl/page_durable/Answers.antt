@@ -8,8 +8,8 @@ pub invariant_of-self : goal.invariant_of-self
 invariant_of-self c =
     let f = c.self.inside in
     let long : length c.move_pins.new.pins ≡ f.pins.len = search rules in
-    roomy_moved c.args.index c.args.stored f c.pin_moves.new.live _ c.as_slice.result.now c.self.invariant
+    roomy_moved c.args.stored f c.pin_moves.new.live _ c.as_slice.result.now c.self.invariant
     c.as_slice.ensures.value c.pin_moves.ensures.is
     (with_items_is f.pins c.move_pins.new.pins long
-    ∙ c.move_pins.ensures ∙ ap (map (moved_pin c.args.index c.args.stored)) c.as_mut_slice.ensures.value)
+    ∙ c.move_pins.ensures ∙ ap (map (moved_pin c.args.stored)) c.as_mut_slice.ensures.value)
     refl

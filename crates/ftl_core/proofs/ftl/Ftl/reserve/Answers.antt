@@ -1,6 +1,6 @@
 use Rattle.std.proofs.Common.{◌∙◌}
 use Rattle.ftl_core.proofs.small_calls.Claims.{reserves_told, room_right}
-use Rattle.ftl_core.proofs.small_calls.ReadersClaims.{claims_either, others_either}
+use Rattle.ftl_core.proofs.small_calls.ClaimedBlocks.{slots_claimed}
 use Rattle.ftl_core.proofs.ftl.Ftl.reserve.Goals as goal
 
 pub returns-clause-described_found : goal.returns-clause-described_found
@@ -14,10 +14,5 @@ returns-clause-described c =
 
 pub returns-clause-claims : goal.returns-clause-claims
 returns-clause-claims c =
-    claims_either c.args.self.now c.claim_slots.new.self c.args.reader c.args.blocks c.claim_slots.result
-    c.claim_slots.ensures.after
-
-pub returns-clause-other_claims : goal.returns-clause-other_claims
-returns-clause-other_claims c =
-    others_either c.args.self.now c.claim_slots.new.self c.args.reader c.args.blocks c.claim_slots.result
+    slots_claimed c.args.self.now c.claim_slots.new.self c.args.reader c.args.blocks c.claim_slots.result
     c.claim_slots.ensures.after

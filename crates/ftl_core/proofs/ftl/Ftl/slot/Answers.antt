@@ -1,4 +1,4 @@
-use Rattle.std.proofs.Common.{◌≡◌, ◌∙◌, Some, rules}
+use Rattle.std.proofs.Common.{◌≡◌, ◌∙◌, rules}
 use Rattle.std.specs.Prelude.{option_copied}
 use Rattle.ftl_core.specs.Moves.{slot_of}
 use Rattle.ftl_core.proofs.look_and_accept.SlotBodies.{slot_is}
@@ -6,11 +6,11 @@ use Rattle.ftl_core.proofs.ftl.Ftl.slot.Goals as goal
 
 pub returns-clause-described : goal.returns-clause-described
 returns-clause-described c =
-    let core : Some c.block.result.now ≡ slot_of c.args.self.now c.args.number c.args.index = search rules in
-    λ t e h mended above is. core ∙ slot_is c.args.self.now t c.args.number c.args.index e h mended above is
+    let core : option_copied c.content.result ≡ slot_of c.args.self.now c.args.name = search rules in
+    λ t e h mended above is. core ∙ slot_is c.args.self.now t c.args.name e h mended above is
 
 pub returns-in_err-page-clause-described : goal.returns-in_err-page-clause-described
 returns-in_err-page-clause-described c =
-    let core : option_copied c.from_residual.result ≡ slot_of c.args.self.now c.args.number c.args.index =
+    let core : option_copied c.from_residual.result ≡ slot_of c.args.self.now c.args.name =
     search rules in
-    λ t e h mended above is. core ∙ slot_is c.args.self.now t c.args.number c.args.index e h mended above is
+    λ t e h mended above is. core ∙ slot_is c.args.self.now t c.args.name e h mended above is

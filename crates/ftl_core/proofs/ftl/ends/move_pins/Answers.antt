@@ -7,7 +7,7 @@ use Rattle.ftl_core.proofs.ftl.ends.move_pins.Goals as goal
 pub loop-pin-preserved : goal.loop-pin-preserved
 loop-pin-preserved c =
     let i = c.loop-pin.pin-index in
-    let f = moved_pin c.args.index c.args.stored in
+    let f = moved_pin c.args.stored in
     let less : i < length c.loop-pin.pins = omega arith in
     let x = get_or c.loop-pin.pins i c.moved_pin.result in
     let is : c.moved_pin.result ≡ f x = c.moved_pin.ensures

@@ -6,4 +6,4 @@ use Rattle.ftl_core.proofs.ftl.pin_counts.pin_moves.Goals as goal
 pub returns-clause-same : goal.returns-clause-same
 returns-clause-same c =
     ap without_pins c.loop-pin.invariant
-    ∙ moves_bare c.args.index c.args.stored (take c.loop-pin.pin-index c.args.pins.now) c.args.live.now
+    ∙ moves_bare c.args.stored (take c.loop-pin.pin-index c.args.pins.now) c.args.live.now

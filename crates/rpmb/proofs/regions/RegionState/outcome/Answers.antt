@@ -4,15 +4,15 @@ use Rattle.rpmb.proofs.AskedChecks.{checks_asked}
 use Rattle.rpmb.proofs.regions.RegionState.outcome.Goals as goal
 
 pub returns-in-Some-clause-outcome : goal.returns-in-Some-clause-outcome
-returns-in-Some-clause-outcome c = λ region f fs kept e is.
-    ap (outcome_after region (command_in f fs))
+returns-in-Some-clause-outcome c = λ number region f fs kept e is.
+    ap (outcome_after region (command_in number f fs))
     (ap first_failed (checks_asked c.args.self.now region c.args.locked c.args.request.now f fs kept is)
     ∙ c.in-Some.ensures.first f fs e)
-    ∙ c.failed.ensures.outcome region (f ∷ fs) (command_in f fs) kept
+    ∙ c.failed.ensures.outcome number region (f ∷ fs) (command_in number f fs) kept
 
 pub returns-in-None-clause-outcome : goal.returns-in-None-clause-outcome
-returns-in-None-clause-outcome c = λ region f fs kept e is.
-    ap (outcome_after region (command_in f fs))
+returns-in-None-clause-outcome c = λ number region f fs kept e is.
+    ap (outcome_after region (command_in number f fs))
     (ap first_failed (checks_asked c.args.self.now region c.args.locked c.args.request.now f fs kept is)
     ∙ c.in-None.ensures.first f fs e)
-    ∙ c.passed.ensures.outcome region f fs kept is
+    ∙ c.passed.ensures.outcome number region f fs kept is

@@ -2,7 +2,7 @@ use Rattle.std.proofs.Common.{◌+◌, arith, List, subst, sym}
 use Rattle.write_cache.specs.declared.slots.Pending.{Pending}
 use Rattle.write_cache.specs.Rooms.{AreInOrder}
 use Rattle.write_cache.specs.Slots.{claims_of}
-use Rattle.write_cache.proofs.Order.{order_more}
+use Rattle.write_cache.proofs.Order.{claimed_number, order_more}
 use Rattle.write_cache.proofs.cache.Cache.append.Goals as goal
 
 pub invariant_of-self : goal.invariant_of-self
@@ -15,7 +15,8 @@ invariant_of-self c = record {
   frontier = let f = c.self.invariant.frontier in omega (arith, f);
   numbers = grind (arith, c.requires);
   in_order = subst (λ (ps : List Pending). AreInOrder 0 (c.self.inside.last + 1) ps) (sym c.move_claims.ensures.moved)
-      (order_more c.args.key (c.self.inside.last + 1) c.claimed-size.result 0 c.self.inside.last
-      c.self.inside.pages.items (claims_of c.self.inside.claims.items c.args.reader)
-      c.self.invariant.in_order (omega arith) (omega arith));
+      (order_more (c.self.inside.last + 1) 0 c.self.inside.last c.self.inside.pages.items _
+      c.self.invariant.in_order
+      (claimed_number c.args.key (c.self.inside.last + 1) c.claimed-size.result
+      (claims_of c.self.inside.claims.items c.args.reader)) (omega arith) (omega arith));
 }

@@ -1,0 +1,2 @@
+pub mod CommandGroups
+pub mod RequestedCommands

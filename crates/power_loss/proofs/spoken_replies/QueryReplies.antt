@@ -1,0 +1,206 @@
+-- The replies to queries are messages.
+use Rattle.power_loss.proofs.Common.{◌≡◌, ℕ, ◌==◌, ◌≤◌, Bool, true, false, All, List, [], ◌∷◌, length, Option}
+use Rattle.power_loss.proofs.Common.{Some, None, refl, subst, inl, inr, arith, list_any}
+use Rattle.power_loss.proofs.Common.{get_or_from_slice_get}
+use Rattle.power_loss.proofs.Common.{slice_get_within, Numbers}
+use Rattle.power_loss.proofs.MachineWords.{State, numbers_of}
+use Rattle.std.specs.Prelude.{if◌then◌else◌, slice_get}
+use Rattle.byteorder.specs.Endian.{big_bytes}
+use Rattle.std.proofs.lemmas.List.{length-take}
+use Rattle.ufs_laws.proofs.pages.ByteLists.{bytes-append, bytes-cons, bytes-nil, bytes-number, bytes-take, bytes-zeros}
+use Rattle.ufs_laws.proofs.walk.Happenings.{code_of_query}
+use Rattle.ufs_spec.specs.Configs.{UnitInRange}
+use Rattle.ufs_spec.specs.Keys.{flag_byte}
+use Rattle.ufs_spec.specs.Messages.{IsQueryFunction, is_among}
+use Rattle.ufs_spec.specs.Queries.{Query, QueryLine, boots, descriptor, descriptor_told, device_descriptor, first_code}
+use Rattle.ufs_spec.specs.Queries.{has_wrong_idn, has_wrong_index, has_wrong_opcode, has_wrong_size, has_wrong_value}
+use Rattle.ufs_spec.specs.Queries.{is_not_writable, is_shut, query_code, query_line, sets_permanent}
+use Rattle.ufs_spec.specs.Queries.{unit_descriptor, unit_descriptor_at, value_told}
+use Rattle.ufs_spec.specs.QueryAnswers.{may_set, query_done, query_failed}
+use Rattle.ufs_spec.specs.Stages.{answers_queries}
+use Rattle.ufs_spec.specs.declared.messages.Asked.{Asked}
+use Rattle.power_loss.proofs.Common.{◌<◌, ◌^◌, ◌++◌, ◌⊎◌, ◌&&◌, AllByRecursion, Plain, eqb-true}
+use Rattle.power_loss.proofs.Common.{if_both, min, not, replicate, take, ⊎_elim}
+use Rattle.power_loss.proofs.MachineWords.{AreBytes, UnitSpec, plain_now}
+use Rattle.ufs_laws.proofs.pages.SettingsBodies.{flag_fits}
+use Rattle.ufs_laws.proofs.exchanges.ListedUnits.{seen_bytes}
+use Rattle.ufs_spec.specs.Messages.{IsByte, IsMessage}
+
+-- A QUERY REQUEST
+
+-- what is said of either is said of the one that is taken
+pub byte_if : (b : Bool) (m n : ℕ) → IsByte m → IsByte n → IsByte (if b then m else n)
+byte_if true m n h k = h
+byte_if false m n h k = k
+
+-- the numbers of a device of this configuration are small
+abbrev pub FewUnits : Numbers → Type 0
+FewUnits n = (length n.units.items ≤ 8) × All UnitInRange n.units.items
+
+device_is : (n : Numbers) → FewUnits n → AreBytes (device_descriptor n)
+device_is n few =
+    let units = few.0 in
+    let boots_is = flag_fits (list_any boots n.units.items) in
+    bytes-append
+    ((0x40 ∷ 0 ∷ 0 ∷ 0 ∷ 0 ∷ 0 ∷ length n.units.items ∷ 0x04 ∷ flag_byte (list_any boots n.units.items) ∷ 0x01 ∷ [])
+    ++ (0 ∷ 0 ∷ 0 ∷ 0x01 ∷ 0 ∷ 0 ∷ 0x02 ∷ 0x10 ∷ [])) (replicate 46 0)
+    (bytes-append
+    (0x40 ∷ 0 ∷ 0 ∷ 0 ∷ 0 ∷ 0 ∷ length n.units.items ∷ 0x04 ∷ flag_byte (list_any boots n.units.items) ∷ 0x01 ∷ [])
+    (0 ∷ 0 ∷ 0 ∷ 0x01 ∷ 0 ∷ 0 ∷ 0x02 ∷ 0x10 ∷ [])
+    (bytes-append (0x40 ∷ 0 ∷ 0 ∷ 0 ∷ 0 ∷ 0 ∷ [])
+    (length n.units.items ∷ 0x04 ∷ flag_byte (list_any boots n.units.items) ∷ 0x01 ∷ [])
+    (seen_bytes (0x40 ∷ 0 ∷ 0 ∷ 0 ∷ 0 ∷ 0 ∷ []) refl)
+    (bytes-cons (length n.units.items) (0x04 ∷ flag_byte (list_any boots n.units.items) ∷ 0x01 ∷ []) (omega arith)
+    (bytes-cons 0x04 (flag_byte (list_any boots n.units.items) ∷ 0x01 ∷ []) (omega arith)
+    (bytes-cons (flag_byte (list_any boots n.units.items)) (0x01 ∷ []) boots_is (seen_bytes (0x01 ∷ []) refl)))))
+    (seen_bytes (0 ∷ 0 ∷ 0 ∷ 0x01 ∷ 0 ∷ 0 ∷ 0x02 ∷ 0x10 ∷ []) refl))
+    (bytes-zeros 46)
+
+unit_is : (index : ℕ) (u : UnitSpec) → index < 256 → UnitInRange u → AreBytes (unit_descriptor index u)
+unit_is index u few r =
+    let boot = r.boot_bound in
+    let protect = r.protect_bound in
+    bytes-append
+    ((0x23 ∷ 0x02 ∷ index ∷ 0x01 ∷ u.boot ∷ u.protect ∷ 0 ∷ 0 ∷ 0 ∷ 0x01 ∷ 0x0C ∷ []) ++ big_bytes 8 u.blocks
+    ++ big_bytes 4 1 ++ (0x03 ∷ []) ++ big_bytes 8 u.blocks) (replicate 3 0)
+    (bytes-append
+    ((0x23 ∷ 0x02 ∷ index ∷ 0x01 ∷ u.boot ∷ u.protect ∷ 0 ∷ 0 ∷ 0 ∷ 0x01 ∷ 0x0C ∷ []) ++ big_bytes 8 u.blocks
+    ++ big_bytes 4 1 ++ (0x03 ∷ [])) (big_bytes 8 u.blocks)
+    (bytes-append
+    ((0x23 ∷ 0x02 ∷ index ∷ 0x01 ∷ u.boot ∷ u.protect ∷ 0 ∷ 0 ∷ 0 ∷ 0x01 ∷ 0x0C ∷ []) ++ big_bytes 8 u.blocks
+    ++ big_bytes 4 1) (0x03 ∷ [])
+    (bytes-append
+    ((0x23 ∷ 0x02 ∷ index ∷ 0x01 ∷ u.boot ∷ u.protect ∷ 0 ∷ 0 ∷ 0 ∷ 0x01 ∷ 0x0C ∷ []) ++ big_bytes 8 u.blocks)
+    (big_bytes 4 1)
+    (bytes-append (0x23 ∷ 0x02 ∷ index ∷ 0x01 ∷ u.boot ∷ u.protect ∷ 0 ∷ 0 ∷ 0 ∷ 0x01 ∷ 0x0C ∷ [])
+    (big_bytes 8 u.blocks)
+    (bytes-cons 0x23 (0x02 ∷ index ∷ 0x01 ∷ u.boot ∷ u.protect ∷ 0 ∷ 0 ∷ 0 ∷ 0x01 ∷ 0x0C ∷ []) (omega arith)
+    (bytes-cons 0x02 (index ∷ 0x01 ∷ u.boot ∷ u.protect ∷ 0 ∷ 0 ∷ 0 ∷ 0x01 ∷ 0x0C ∷ []) (omega arith)
+    (bytes-cons index (0x01 ∷ u.boot ∷ u.protect ∷ 0 ∷ 0 ∷ 0 ∷ 0x01 ∷ 0x0C ∷ []) few
+    (bytes-cons 0x01 (u.boot ∷ u.protect ∷ 0 ∷ 0 ∷ 0 ∷ 0x01 ∷ 0x0C ∷ []) (omega arith)
+    (bytes-cons u.boot (u.protect ∷ 0 ∷ 0 ∷ 0 ∷ 0x01 ∷ 0x0C ∷ []) (omega arith)
+    (bytes-cons u.protect (0 ∷ 0 ∷ 0 ∷ 0x01 ∷ 0x0C ∷ []) (omega arith)
+    (seen_bytes (0 ∷ 0 ∷ 0 ∷ 0x01 ∷ 0x0C ∷ []) refl)))))))
+    (bytes-number 8 u.blocks)) (bytes-number 4 1)) (seen_bytes (0x03 ∷ []) refl)) (bytes-number 8 u.blocks))
+    (bytes-zeros 3)
+
+-- a descriptor is bytes, and not many
+abbrev Short64 : List ℕ → Type 0
+Short64 bytes = (length bytes ≤ 64) × AreBytes bytes
+
+descriptor_is : (n : Numbers) (a : Asked) → a.index < 256 → FewUnits n → Short64 (descriptor n a)
+descriptor_is n a few units = if_both Short64 (a.idn == 0x00) (omega arith, device_is n units)
+    (by (slice_get n.units.items a.index) refl)
+  where
+    by : (o : Option UnitSpec) → slice_get n.units.items a.index ≡ o → Short64 (unit_descriptor_at a.index o)
+    by None e = (omega arith, bytes-nil)
+    by (Some u) e = (
+      omega arith,
+      unit_is a.index u few (subst UnitInRange (get_or_from_slice_get n.units.items a.index u u e)
+          (units.1 a.index u (slice_get_within n.units.items a.index u e))),
+    )
+
+-- what is told of it
+told_is : (n : Numbers) (q : Query) → q.asked.index < 256 → FewUnits n →
+    Short64 (descriptor_told n q) × ((q.asked.opcode ≡ 1) ⊎ (descriptor_told n q ≡ []))
+told_is n q few units = by (q.asked.opcode == 1) refl
+  where
+    by : (b : Bool) → (q.asked.opcode == 1) ≡ b →
+        Short64 (if b then take q.length (descriptor n q.asked) else [])
+        × ((q.asked.opcode ≡ 1) ⊎ ((if b then take q.length (descriptor n q.asked) else []) ≡ []))
+    by true e =
+        let all = descriptor_is n q.asked few units in
+        let cut = length-take q.length (descriptor n q.asked) in
+        let long = all.0 in
+        let least : min q.length (length (descriptor n q.asked)) ≤ 64 = grind arith in (
+          (omega (arith, cut, least), bytes-take q.length (descriptor n q.asked) all.1),
+          inl (eqb-true q.asked.opcode 1 e),
+        )
+    by false e = ((omega arith, bytes-nil), inr refl)
+
+value_is : (p : Plain) (on : Bool) (q : Query) → p.boot ≤ 2 → value_told p on q < 2 ^ 32
+value_is p on q few = if_both (λ n. n < 2 ^ 32) (is_among (3 ∷ 4 ∷ []) q.asked.opcode) (omega arith)
+    (if_both (λ n. n < 2 ^ 32) (is_among (5 ∷ 6 ∷ []) q.asked.opcode)
+    (if_both (λ n. n < 2 ^ 32) (q.asked.idn == 0x02) (let f = flag_fits p.permanent in omega arith)
+    (if_both (λ n. n < 2 ^ 32) (q.asked.idn == 0x03) (let f = flag_fits on in omega arith) (omega arith))) (omega arith))
+
+-- a QUERY REQUEST in its ranges
+pub record IsAskedWell (tag : ℕ) (q : Query) : Type 0 where
+  pub tag_is : IsByte tag
+  pub function_is : IsQueryFunction q.function
+  pub opcode : IsByte q.asked.opcode
+  pub idn : IsByte q.asked.idn
+  pub index : IsByte q.asked.index
+  pub selector : IsByte q.asked.selector
+
+pub failed_is : (tag : ℕ) (q : Query) (code : ℕ) → IsAskedWell tag q → IsByte code → IsMessage (query_failed tag q code)
+failed_is tag q code h is = (
+  h.tag_is,
+  h.function_is,
+  is,
+  (h.opcode, h.idn, h.index, h.selector, omega arith, omega arith),
+  omega arith,
+  bytes-nil,
+  inr refl,
+)
+
+pub done_is : (n : Numbers) (p : Plain) (on : Bool) (tag : ℕ) (q : Query) → IsAskedWell tag q → FewUnits n →
+    p.boot ≤ 2 →
+    IsMessage (query_done n p on tag q)
+done_is n p on tag q h units few =
+    let told = told_is n q h.index units in
+    let long = told.0.0 in (
+      h.tag_is,
+      h.function_is,
+      omega arith,
+      (h.opcode, h.idn, h.index, h.selector, omega arith, value_is p on q few),
+      omega arith,
+      told.0.1,
+      ⊎_elim (λ e. inl (e, refl)) (λ e. inr e) told.1,
+    )
+
+abbrev AreCodes : List QueryLine → Type 0
+AreCodes = AllByRecursion (λ (l : QueryLine). IsByte l.code)
+
+code_byte : (ls : List QueryLine) → AreCodes ls → IsByte (first_code ls)
+code_byte [] all = omega arith
+code_byte (l ∷ ls) all = if_both IsByte l.applies all.0 (code_byte ls all.1)
+
+pub code_is : (s : State) (q : Query) → IsByte (code_of_query s q)
+code_is s q = byte_if answers_queries (query_code (numbers_of s) (plain_now s) (may_set s) q) 0xFE
+    (code_byte
+    (query_line (has_wrong_opcode q) 0xFE
+    ∷ query_line (q.asked.opcode == 0) 0x00
+    ∷ query_line (has_wrong_idn q) 0xFD
+    ∷ query_line (has_wrong_index (numbers_of s) q) 0xFC
+    ∷ query_line (not (q.asked.selector == 0)) 0xFB
+    ∷ query_line (is_not_writable q) 0xF7
+    ∷ query_line (has_wrong_size q) 0xF9
+    ∷ query_line (has_wrong_value q) 0xFA
+    ∷ query_line (sets_permanent q && (plain_now s).permanent) 0xF8
+    ∷ query_line (is_shut (may_set s) q) 0xFF
+    ∷ []) (
+      omega arith,
+      (
+        omega arith,
+        (
+          omega arith,
+          (
+            omega arith,
+            (
+              omega arith,
+              (
+                omega arith,
+                (
+                  omega arith,
+                  (
+                    omega arith,
+                    (omega arith, (omega arith, tt)),
+                  ),
+                ),
+              ),
+            ),
+          ),
+        ),
+      ),
+    )) (omega arith)

@@ -1,0 +1,2 @@
+pub mod ListsJudged
+pub mod SettingsWait

@@ -1,0 +1,123 @@
+-- What INQUIRY and REPORT LUNS tell are bytes, and not many.
+use Rattle.std.proofs.Common.{◌≡◌, ℕ, zero, suc, ◌*◌, ◌≤◌, ◌<◌, ◌==◌, Bool, true, false, if◌then◌else◌, List, []}
+use Rattle.std.proofs.Common.{◌∷◌, ◌++◌, length, map, nat_lt, refl, sym, ap, ◌∙◌, subst, arith}
+use Rattle.byteorder.specs.Endian.{big_bytes}
+use Rattle.std.specs.List.{flat_map, list_all}
+use Rattle.std.proofs.lemmas.List.{length-append, length-map, map-append}
+use Rattle.std.proofs.lemmas.List.Concat.{flat_map-cons}
+use Rattle.ufs_laws.proofs.pages.ByteLists.{bytes-append, bytes-cons, bytes-nil, bytes-number, bytes-zeros}
+use Rattle.ufs_laws.proofs.plain_contents.ListParts.{length-below}
+use Rattle.ufs_spec.proofs.Facts.{and_parts, if_both, ltb-true}
+use Rattle.ufs_spec.specs.Identities.{inquiry_bytes, luns_bytes, luns_listed, unit_entry}
+use Rattle.ufs_spec.specs.Keys.{below}
+use Rattle.ufs_spec.specs.Messages.{AreBytes, zeros}
+use Rattle.ufs_spec.specs.declared.configs.Numbers.{Numbers}
+
+-- numbers that are all seen to be bytes
+pub seen_bytes : (xs : List ℕ) → list_all (λ x. nat_lt x 256) xs ≡ true → AreBytes xs
+seen_bytes [] e = bytes-nil
+seen_bytes (x ∷ xs) e =
+    let both = and_parts (nat_lt x 256) (list_all (λ y. nat_lt y 256) xs) e in
+    bytes-cons x xs (ltb-true x 256 both.0) (seen_bytes xs both.1)
+
+-- ## INQUIRY
+
+pub inquiry_told : (lun : ℕ) → AreBytes (inquiry_bytes lun)
+inquiry_told lun = by (nat_lt lun 8)
+  where
+    told : Bool → List ℕ
+    told b =
+        ((if b then 0x00 else 0x1E) ∷ 0 ∷ 0x06 ∷ 0x02 ∷ 0x1F ∷ 0 ∷ 0 ∷ 0x02 ∷ [])
+        ++ (0x50 ∷ 0x52 ∷ 0x4F ∷ 0x46 ∷ 0x49 ∷ 0x4C ∷ 0x45 ∷ 0x20 ∷ [])
+        ++ (0x55 ∷ 0x46 ∷ 0x53 ∷ 0x20 ∷ 0x50 ∷ 0x52 ∷ 0x4F ∷ 0x46 ∷ 0x49 ∷ 0x4C ∷ 0x45 ∷ 0x20 ∷ 0x32 ∷ 0x2E ∷ 0x31
+        ∷ 0x20 ∷ [])
+        ++ (0x30 ∷ 0x30 ∷ 0x30 ∷ 0x31 ∷ [])
+
+    by : (b : Bool) → AreBytes (told b)
+    by true = seen_bytes (told true) refl
+    by false = seen_bytes (told false) refl
+
+-- ## REPORT LUNS
+
+-- each entry has eight bytes
+abbrev Entries : List (List ℕ) → Type 0
+Entries [] = Unit {0}
+Entries (e ∷ es) = (length e ≡ 8) × AreBytes e × Entries es
+
+entries_append : (xs ys : List (List ℕ)) → Entries xs → Entries ys → Entries (xs ++ ys)
+entries_append [] ys h k = k
+entries_append (x ∷ xs) ys h k = (h.0, h.1, entries_append xs ys h.2 k)
+
+entry_is : (high low : ℕ) → high < 256 → low < 256 → (length (unit_entry high low) ≡ 8) × AreBytes (unit_entry high low)
+entry_is high low h l = (refl, bytes-cons high (low ∷ zeros 6) h (bytes-cons low (zeros 6) l (bytes-zeros 6)))
+
+numbered : (n : ℕ) → n ≤ 8 → Entries (map (unit_entry 0x00) (below n))
+numbered zero few = tt
+numbered (suc n) few =
+    let e = entry_is 0x00 n (omega arith) (omega arith) in
+    subst Entries (sym (map-append (unit_entry 0x00) (below n) (n ∷ [])))
+    (entries_append (map (unit_entry 0x00) (below n)) (unit_entry 0x00 n ∷ []) (numbered n (omega arith))
+    (e.0, e.1, tt))
+
+well_known : Entries (map (unit_entry 0xC1) (0x01 ∷ 0x30 ∷ 0x44 ∷ 0x50 ∷ []))
+well_known =
+    let a = entry_is 0xC1 0x01 (omega arith) (omega arith) in
+    let b = entry_is 0xC1 0x30 (omega arith) (omega arith) in
+    let c = entry_is 0xC1 0x44 (omega arith) (omega arith) in
+    let d = entry_is 0xC1 0x50 (omega arith) (omega arith) in
+    (a.0, a.1, (b.0, b.1, (c.0, c.1, (d.0, d.1, tt))))
+
+joined_size : (es : List (List ℕ)) → Entries es → length (flat_map (λ entry. entry) es) ≡ 8 * length es
+joined_size [] h = refl
+joined_size (e ∷ es) h =
+    let rest = joined_size es h.2 in
+    let first = h.0 in
+    let both = length-append e (flat_map (λ entry. entry) es) in
+    flat_size e es ∙ omega arith
+  where
+    flat_size : (x : List ℕ) (xs : List (List ℕ)) →
+        length (flat_map (λ entry. entry) (x ∷ xs)) ≡ length (x ++ flat_map (λ entry. entry) xs)
+    flat_size x xs = ap length (flat_map-cons (λ (entry : List ℕ). entry) x xs)
+
+joined_bytes : (es : List (List ℕ)) → Entries es → AreBytes (flat_map (λ entry. entry) es)
+joined_bytes [] h = bytes-nil
+joined_bytes (e ∷ es) h =
+    subst AreBytes (sym (flat_map-cons (λ (entry : List ℕ). entry) e es))
+    (bytes-append e (flat_map (λ entry. entry) es) h.1 (joined_bytes es h.2))
+
+listed : (n : Numbers) (select : ℕ) → length n.units.items ≤ 8 → Entries (luns_listed n select)
+listed n select few =
+    entries_append (if select == 1 then [] else map (unit_entry 0x00) (below (length n.units.items)))
+    (if select == 0 then [] else map (unit_entry 0xC1) (0x01 ∷ 0x30 ∷ 0x44 ∷ 0x50 ∷ []))
+    (if_both Entries (select == 1) tt (numbered (length n.units.items) few))
+    (if_both Entries (select == 0) tt well_known)
+
+few_listed : (n : Numbers) (select : ℕ) → length n.units.items ≤ 8 → length (luns_listed n select) ≤ 12
+few_listed n select few =
+    let ordinary : List (List ℕ) = (if select == 1 then [] else map (unit_entry 0x00) (below (length n.units.items))) in
+    let others : List (List ℕ) =
+    (if select == 0 then [] else map (unit_entry 0xC1) (0x01 ∷ 0x30 ∷ 0x44 ∷ 0x50 ∷ [])) in
+    let both = length-append ordinary others in
+    let count = length-map (below (length n.units.items)) (unit_entry 0x00) in
+    let units = length-below (length n.units.items) in
+    let first : length ordinary ≤ 8 =
+    if_both (λ (xs : List (List ℕ)). length xs ≤ 8) (select == 1) (omega arith) (omega arith) in
+    let second : length others ≤ 4 =
+    if_both (λ (xs : List (List ℕ)). length xs ≤ 4) (select == 0) (omega arith) (omega arith) in
+    omega arith
+
+pub luns_size : (n : Numbers) (select : ℕ) → length n.units.items ≤ 8 → length (luns_bytes n select) ≤ 104
+luns_size n select few =
+    let list : List ℕ = flat_map (λ entry. entry) (luns_listed n select) in
+    let count = few_listed n select few in
+    let size = joined_size (luns_listed n select) (listed n select few) in
+    let behind = length-append (zeros 4) list in
+    let all = length-append (big_bytes 4 (8 * length (luns_listed n select))) (zeros 4 ++ list) in
+    omega arith
+
+pub luns_told : (n : Numbers) (select : ℕ) → length n.units.items ≤ 8 → AreBytes (luns_bytes n select)
+luns_told n select few =
+    bytes-append (big_bytes 4 (8 * length (luns_listed n select)))
+    (zeros 4 ++ flat_map (λ entry. entry) (luns_listed n select)) (bytes-number 4 _)
+    (bytes-append (zeros 4) (flat_map (λ entry. entry) (luns_listed n select)) (bytes-zeros 4)
+    (joined_bytes (luns_listed n select) (listed n select few)))

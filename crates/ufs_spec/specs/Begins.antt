@@ -1,0 +1,162 @@
+-- What a COMMAND makes of the state: it is refused, or begins (JESD220, 10.7.1; SPC and SBC for the commands).
+use Rattle.std.specs.Prelude.{Bool, List, None, Option, Some, [], false, if◌then◌else◌, length, map, nat_le, take, ℕ}
+use Rattle.std.specs.Prelude.{◌*◌, ◌++◌, ◌+◌, ◌-◌, ◌==◌, ◌∷◌}
+use Rattle.std.specs.List.{flat_map}
+use Rattle.byteorder.specs.Endian.{big_bytes}
+use Rattle.std.specs.Int.{div_ceil}
+use Rattle.ufs_spec.specs.Cdbs.{carried, length_of}
+use Rattle.ufs_spec.specs.Changes.{with_moves, with_short, with_task}
+use Rattle.ufs_spec.specs.Exchanges.{Answering, Awaiting, Deed, ForFrames, ForUnmap, ForWrite, Gathering, Good}
+use Rattle.ufs_spec.specs.Exchanges.{Purpose, ReadBlock, Sending, SendingBytes, Status, TaskSetFull, Unread}
+use Rattle.ufs_spec.specs.Exchanges.{at_region, most_tasks, response, short_reply}
+use Rattle.ufs_spec.specs.Identities.{inquiry_bytes, luns_bytes}
+use Rattle.ufs_spec.specs.Keys.{below, data_key}
+use Rattle.ufs_spec.specs.Ledger.{look}
+use Rattle.ufs_spec.specs.Messages.{zeros}
+use Rattle.ufs_spec.specs.Moves.{Claim, Keep, Move}
+use Rattle.ufs_spec.specs.Plain.{block_at}
+use Rattle.ufs_spec.specs.Refusals.{Request, State, numbers_of, plain_now, refusal, slots_needed, unit_numbers_of}
+use Rattle.ufs_spec.specs.Refusals.{unit_of_request}
+use Rattle.ufs_spec.specs.Translation.{Pin}
+use Rattle.ufs_spec.specs.declared.configs.UnitSpec.{UnitSpec}
+use Rattle.ufs_spec.specs.declared.scsi.Cdb.{Cdb}
+use Rattle.ufs_spec.specs.declared.scsi.Cdb.TheVariants as cdb
+
+-- the n blocks of a READ that are sent, from an address on. Their content is that of this moment, the COMMAND:
+-- writes accepted before it are seen, durable or not, and later ones are not. SAM lets a device reorder simple
+-- tasks; this one does not, so that each answer has one right content
+abbrev pub read_blocks : State → ℕ → ℕ → ℕ → List ReadBlock
+read_blocks s unit address n =
+    map (λ i. record { body = block_at unit (address + i) (plain_now s); state = Unread }) (below n)
+
+-- what the task keeps of its block i: where it is found now. Its page is wanted at once only of the first block;
+-- each other one is wanted after the block before it was handed out
+abbrev pub kept_at : State → ℕ → ℕ → ℕ → ℕ → Pin
+kept_at s tag unit address i =
+    record { tag = tag; index = i; looked = look s.translation.ledger (data_key unit (address + i)); wanted = i == 0 }
+
+-- a READ keeps each of its n blocks, so that no page that it still needs is erased before it is handed out
+abbrev pub keeps : State → ℕ → ℕ → ℕ → ℕ → List Move
+keeps s tag unit address n = map (λ i. Keep (data_key unit (address + i)) (kept_at s tag unit address i)) (below n)
+
+-- how many blocks of n bytes of data are sent: those of which the host expects at least one byte
+abbrev pub blocks_expected : Request → ℕ → ℕ
+blocks_expected r n = div_ceil (carried r.expected n) 4096
+
+-- a READ sends these blocks; if the host expects none of them, or there are none, GOOD is due at once
+abbrev pub sending : List ReadBlock → ℕ → Deed
+sending [] n = Answering Good n
+sending (b ∷ bs) n = Sending (b ∷ bs) 0
+
+-- a READ of n bytes begins: only blocks that the host expects are taken and kept, with their content now.
+-- FUA changes nothing in a READ
+abbrev pub read_begun : State → Request → Cdb → ℕ → ℕ → ℕ → State
+read_begun s r command unit address n =
+    with_task
+    (with_moves s (keeps s r.tag unit address (blocks_expected r n)))
+    r (Some command) n (sending (read_blocks s unit address (blocks_expected r n)) n)
+
+-- a WRITE claims a slot for each of its blocks and gathers their data; no block changes before its last data came.
+-- A WRITE of no blocks is answered GOOD at once, on a locked device too
+abbrev pub write_begun : State → Request → Cdb → ℕ → ℕ → ℕ → Bool → State
+write_begun s r command unit address blocks forced =
+    if blocks == 0 then with_task s r (Some command) 0 (Answering Good 0)
+    else
+    with_task (with_moves s (Claim blocks ∷ [])) r (Some command) (4096 * blocks)
+    (Gathering (ForWrite unit address blocks forced) [] false)
+
+-- SYNCHRONIZE CACHE covers the whole device, whatever range it names: SBC lets a device do more than was asked.
+-- With IMMED it is answered at once, else once all that was accepted before it is durable
+abbrev pub flush_begun : State → Request → Cdb → Bool → State
+flush_begun s r command immediate =
+    with_task s r (Some command) 0 (if immediate then Answering Good 0 else Awaiting (length s.accepted))
+
+-- data that are known go out in one DATA IN, cut to what the host expects; if that is nothing, GOOD is due at once
+abbrev pub sending_bytes : Request → List ℕ → Deed
+sending_bytes r bytes = if carried r.expected (length bytes) == 0 then Answering Good (length bytes)
+    else SendingBytes bytes
+
+-- a command begins whose data are known at once: REQUEST SENSE, READ CAPACITY(10), INQUIRY and REPORT LUNS, and the
+-- frames of SECURITY PROTOCOL IN
+abbrev pub data_begun : State → Request → Cdb → List ℕ → State
+data_begun s r command bytes = with_task s r (Some command) (length bytes) (sending_bytes r bytes)
+
+-- what REQUEST SENSE sends: there is no sense to tell, so that all but the format is zero
+-- (SPC, fixed format sense data)
+abbrev pub no_sense : List ℕ
+no_sense = (0x70 ∷ zeros 6) ++ (0x0A ∷ zeros 10)
+
+-- what READ CAPACITY(10) sends (SBC): the unit's last address, and 4096 as the length of a block. Without a unit
+-- the command is refused before
+abbrev pub capacity_bytes : Option UnitSpec → List ℕ
+capacity_bytes None = zeros 8
+capacity_bytes (Some u) = big_bytes 4 (u.blocks - 1) ++ big_bytes 4 4096
+
+-- the unit of a command; for a command that needs no unit's blocks any number does, here 0
+abbrev pub unit_or_first : Option ℕ → ℕ
+unit_or_first None = 0
+unit_or_first (Some unit) = unit
+
+-- a command with data from the host claims its slots and gathers n bytes
+abbrev pub gathering_begun : State → Request → Cdb → ℕ → Purpose → State
+gathering_begun s r command n purpose =
+    with_task (with_moves s (Claim (slots_needed (numbers_of s) command) ∷ [])) r (Some command) n
+    (Gathering purpose [] false)
+
+-- an UNMAP without a list has nothing to unmap and is answered GOOD at once (SBC); any other gathers its list
+abbrev pub unmap_begun : State → Request → ℕ → ℕ → State
+unmap_begun s r unit list =
+    if list == 0 then with_task s r (Some (cdb.Unmap list)) 0 (Answering Good 0)
+    else gathering_begun s r (cdb.Unmap list) list (ForUnmap unit)
+
+-- SECURITY PROTOCOL IN sends the frames that wait in the response register of its region. That register is empty from
+-- this moment, the COMMAND, on, also if the host expects fewer bytes or the task is aborted (JESD220, 12.4)
+abbrev pub frames_begun : State → Request → ℕ → ℕ → State
+frames_begun s r region n =
+    record (data_begun s r (cdb.SecurityIn region n) (flat_map (λ frame. frame) (s.registers region).response)) {
+      registers = at_region s.registers region (record (s.registers region) { response = [] });
+    }
+
+-- a command that is not refused begins on this unit: TEST UNIT READY is answered GOOD at once; the others begin
+-- as the definitions above say
+abbrev pub begun : State → Request → ℕ → Cdb → State
+begun s r unit cdb.TestUnitReady = with_task s r (Some cdb.TestUnitReady) 0 (Answering Good 0)
+begun s r unit (cdb.RequestSense allocation) = data_begun s r (cdb.RequestSense allocation) (take allocation no_sense)
+begun s r unit (cdb.Read6 address blocks) =
+    read_begun s r (cdb.Read6 address blocks) unit address (length_of 0 (cdb.Read6 address blocks))
+begun s r unit (cdb.Read10 address blocks forced) =
+    read_begun s r (cdb.Read10 address blocks forced) unit address (4096 * blocks)
+begun s r unit (cdb.Write6 address blocks) =
+    write_begun s r (cdb.Write6 address blocks) unit address (slots_needed (numbers_of s) (cdb.Write6 address blocks))
+    false
+begun s r unit (cdb.Write10 address blocks forced) =
+    write_begun s r (cdb.Write10 address blocks forced) unit address blocks forced
+begun s r unit (cdb.SynchronizeCache10 address blocks immediate) =
+    flush_begun s r (cdb.SynchronizeCache10 address blocks immediate) immediate
+begun s r unit cdb.ReadCapacity10 = data_begun s r cdb.ReadCapacity10 (capacity_bytes (unit_numbers_of s r))
+begun s r unit (cdb.Inquiry allocation) =
+    data_begun s r (cdb.Inquiry allocation) (take allocation (inquiry_bytes r.lun))
+begun s r unit (cdb.ReportLuns select allocation) =
+    data_begun s r (cdb.ReportLuns select allocation) (take allocation (luns_bytes (numbers_of s) select))
+begun s r unit (cdb.Unmap list) = unmap_begun s r unit list
+begun s r unit (cdb.SecurityIn region n) = frames_begun s r region n
+begun s r unit (cdb.SecurityOut region n) = gathering_begun s r (cdb.SecurityOut region n) n (ForFrames region)
+
+-- the command that the CDB spells begins. A CDB that spells none is refused before (line 3), so nothing happens
+abbrev pub begun_if_any : State → Request → Option Cdb → State
+begun_if_any s r None = s
+begun_if_any s r (Some command) = begun s r (unit_or_first (unit_of_request s r)) command
+
+-- a refused command is a task too, until its answer is handed out: its tag is in use, and task management finds it.
+-- It has no command and no length, since nothing was carried
+abbrev pub refused_or_begun : State → Request → Option Status → State
+refused_or_begun s r (Some status) = with_task s r None 0 (Answering status 0)
+refused_or_begun s r None = begun_if_any s r r.cdb
+
+-- line 0 of the table of refusals: if 32 tasks are open, a command gets TASK SET FULL, as a short exchange, which task
+-- management does not find; all that the host expected is residual. Else the table decides (Refusals)
+abbrev pub command_taken : State → Request → State
+command_taken s r =
+    if nat_le most_tasks (length s.tasks)
+    then with_short s (short_reply r.tag (response r.lun r.tag r.expected 0 TaskSetFull))
+    else refused_or_begun s r (refusal s r)

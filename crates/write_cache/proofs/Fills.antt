@@ -1,0 +1,171 @@
+-- The pages whose rests come by one read, one after another.
+use Rattle.std.proofs.Common.{◌≡◌, ◌∙◌, ℕ, zero, suc, ◌+◌, ◌<◌, ◌≤◌, Bool, true, false, cond, List, [], ◌∷◌, ◌++◌}
+use Rattle.std.proofs.Common.{length, take, drop, get_or, refl, sym, ap, subst, arith, Option, None, Some, slice_get}
+use Rattle.std.specs.Prelude.{IfSome, ◌||◌, slice_set}
+use Rattle.std.specs.List.{list_any}
+use Rattle.std.proofs.Math.ListN.{get_or-append}
+use Rattle.std.proofs.lemmas.Option.{slice_get_read}
+use Rattle.ufs_spec.proofs.Facts.{none-some, same_Some}
+use Rattle.write_cache.specs.declared.rests.Rest.{Rest}
+use Rattle.write_cache.specs.declared.slots.Pending.{Pending}
+use Rattle.write_cache.specs.Rests.{awaits, base_behind, body_or, comes_by, completed, completed_at, completed_by}
+use Rattle.write_cache.specs.Rests.{rests_filled}
+use Rattle.write_cache.specs.Rooms.{AreInOrder}
+
+-- Order
+
+number_kept : (base : List ℕ) (o : Option Rest) (p : Pending) → (completed_by base o p).number ≡ p.number
+number_kept base None p = refl
+number_kept base (Some r) p = refl
+
+-- no page changes its number
+pub rests_order : (n i a b : ℕ) (base : List ℕ) (ps : List Pending) → AreInOrder a b ps →
+    AreInOrder a b (rests_filled n i base ps)
+rests_order n i a b base [] h = tt
+rests_order n i a b base (p ∷ ps) h = by (awaits n i p)
+    (subst (λ (m : ℕ). (a ≤ m) × (m ≤ b) × AreInOrder m b (rests_filled n i (completed base p).body ps))
+    (sym (number_kept base p.rest p)) (h.0, h.1, rests_order n i p.number b (completed base p).body ps h.2))
+    (h.0, h.1, rests_order n i p.number b base ps h.2)
+  where
+    by : (c : Bool) → AreInOrder a b (completed base p ∷ rests_filled n i (completed base p).body ps) →
+        AreInOrder a b (p ∷ rests_filled n i base ps) → AreInOrder a b
+        (cond c (completed base p ∷ rests_filled n i (completed base p).body ps) (p ∷ rests_filled n i base ps))
+    by true filled same = filled
+    by false filled same = same
+
+-- and there are as many
+pub rests_length : (n i : ℕ) (base : List ℕ) (ps : List Pending) → length (rests_filled n i base ps) ≡ length ps
+rests_length n i base [] = refl
+rests_length n i base (p ∷ ps) = by (awaits n i p) (rests_length n i (completed base p).body ps)
+    (rests_length n i base ps)
+  where
+    by : (c : Bool) → length (rests_filled n i (completed base p).body ps) ≡ length ps →
+        length (rests_filled n i base ps) ≡ length ps → length
+        (cond c (completed base p ∷ rests_filled n i (completed base p).body ps) (p ∷ rests_filled n i base ps))
+        ≡ suc (length ps)
+    by true filled same = ap suc filled
+    by false filled same = ap suc same
+
+-- none of them waits for that read any more
+rest_gone : (n i : ℕ) (base : List ℕ) (o : Option Rest) (p : Pending) → p.rest ≡ o →
+    awaits n i (completed_by base o p) ≡ false
+rest_gone n i base None p e = ap (comes_by n i) e
+rest_gone n i base (Some r) p e = refl
+
+pub none_waits : (n i : ℕ) (base : List ℕ) (ps : List Pending) →
+    list_any (awaits n i) (rests_filled n i base ps) ≡ false
+none_waits n i base [] = refl
+none_waits n i base (p ∷ ps) = by (awaits n i p) refl (none_waits n i (completed base p).body ps)
+    (none_waits n i base ps)
+  where
+    by : (c : Bool) → awaits n i p ≡ c →
+        list_any (awaits n i) (rests_filled n i (completed base p).body ps) ≡ false →
+        list_any (awaits n i) (rests_filled n i base ps) ≡ false → list_any (awaits n i)
+        (cond c (completed base p ∷ rests_filled n i (completed base p).body ps) (p ∷ rests_filled n i base ps))
+        ≡ false
+    by true e filled same =
+        ap (λ (b : Bool). b || list_any (awaits n i) (rests_filled n i (completed base p).body ps))
+        (rest_gone n i base p.rest p refl)
+        ∙ filled
+    by false e filled same = ap (λ (b : Bool). b || list_any (awaits n i) (rests_filled n i base ps)) e ∙ same
+
+-- One page further
+
+further : (n i : ℕ) (base block : List ℕ) (ps : List Pending) (k : ℕ) (p : Pending) → slice_get ps k ≡ Some p →
+    awaits n i p ≡ true →
+    take k ps ++ rests_filled n i base (drop k ps)
+    ≡ take (suc k) (slice_set ps k (completed base p))
+    ++ rests_filled n i (body_or block (slice_get (slice_set ps k (completed base p)) k))
+    (drop (suc k) (slice_set ps k (completed base p)))
+further n i base block [] k p at w = absurd (none-some p at)
+further n i base block (x ∷ ps) zero p at w =
+    ap (λ (y : Pending). rests_filled n i base (y ∷ ps)) (same_Some x p at)
+    ∙ ap (λ (c : Bool). cond c (completed base p ∷ rests_filled n i (completed base p).body ps)
+    (p ∷ rests_filled n i base ps)) w
+further n i base block (x ∷ ps) (suc k) p at w =
+    ap (λ (qs : List Pending). x ∷ qs) (further n i base block ps k p at w)
+
+beyond : (n i : ℕ) (base : List ℕ) (ps : List Pending) (k : ℕ) (p : Pending) → slice_get ps k ≡ Some p →
+    awaits n i p ≡ false →
+    take k ps ++ rests_filled n i base (drop k ps) ≡ take (suc k) ps ++ rests_filled n i base (drop (suc k) ps)
+beyond n i base [] k p at w = absurd (none-some p at)
+beyond n i base (x ∷ ps) zero p at w =
+    ap (λ (c : Bool). cond c (completed base x ∷ rests_filled n i (completed base x).body ps)
+    (x ∷ rests_filled n i base ps)) (ap (awaits n i) (same_Some x p at) ∙ w)
+beyond n i base (x ∷ ps) (suc k) p at w =
+    ap (λ (qs : List Pending). x ∷ qs) (beyond n i base ps k p at w)
+
+one : (k : ℕ) → suc k ≡ k + 1
+one k = omega arith
+
+-- a page that waits has its content then
+pub filled_more : (n i : ℕ) (base block : List ℕ) (ps qs : List Pending) (k : ℕ) (p : Pending) →
+    slice_get ps k ≡ Some p → awaits n i p ≡ true → qs ≡ completed_at base ps k (slice_get ps k) →
+    take k ps ++ rests_filled n i base (drop k ps)
+    ≡ take (k + 1) qs ++ rests_filled n i (base_behind block qs (Some k)) (drop (k + 1) qs)
+filled_more n i base block ps qs k p at w is =
+    further n i base block ps k p at w
+    ∙ ap (λ (m : ℕ). take m rs ++ rests_filled n i (base_behind block rs (Some k)) (drop m rs)) (one k)
+    ∙ ap (λ (zs : List Pending). take (k + 1) zs ++ rests_filled n i (base_behind block zs (Some k)) (drop (k + 1) zs))
+    (sym (is ∙ ap (completed_at base ps k) at))
+  where
+    rs : List Pending
+    rs = slice_set ps k (completed base p)
+
+-- and any other page stays
+pub passed_more : (n i : ℕ) (base : List ℕ) (ps : List Pending) (k : ℕ) (p : Pending) → slice_get ps k ≡ Some p →
+    awaits n i p ≡ false →
+    take k ps ++ rests_filled n i base (drop k ps) ≡ take (k + 1) ps ++ rests_filled n i base (drop (k + 1) ps)
+passed_more n i base ps k p at w =
+    beyond n i base ps k p at w ∙ ap (λ (m : ℕ). take m ps ++ rests_filled n i base (drop m ps)) (one k)
+
+-- what was filled before one place was so before the next
+pub later : (o : Option ℕ) (m : ℕ) → IfSome o (λ k. k < m) → IfSome o (λ k. k < m + 1)
+later None m h = h
+later (Some k) m h = omega (arith, h)
+
+-- One page
+
+there : (front : List Pending) (x : Pending) (back : List Pending) →
+    slice_get (front ++ x ∷ back) (length front) ≡ Some x
+there [] x back = refl
+there (y ∷ front) x back = there front x back
+
+put_there : (front : List Pending) (x y : Pending) (back : List Pending) →
+    slice_set (front ++ x ∷ back) (length front) y ≡ front ++ y ∷ back
+put_there [] x y back = refl
+put_there (z ∷ front) x y back = ap (λ (qs : List Pending). z ∷ qs) (put_there front x y back)
+
+first_of : (front back : List Pending) (base : List ℕ) (p : Pending) → 0 < length back → p ≡ get_or back 0 p →
+    front ++ slice_set back 0 (completed base p)
+    ≡ completed_at base (front ++ back) (length front) (slice_get (front ++ back) (length front))
+first_of front [] base p some is = absurd (omega (arith, some))
+first_of front (x ∷ back) base p some is =
+    ap (λ (y : Pending). front ++ completed base y ∷ back) is
+    ∙ sym (put_there front x (completed base x) back)
+    ∙ sym (ap (completed_at base (front ++ x ∷ back) (length front)) (there front x back))
+
+-- the first page behind the others is the one at their end
+pub placed : (ps front back : List Pending) (at : ℕ) (base : List ℕ) (p q : Pending) → ps ≡ front ++ back →
+    length front ≡ at → at < length ps → 0 < length back → p ≡ get_or back 0 p → q ≡ completed base p →
+    front ++ slice_set back 0 q ≡ completed_at base ps at (slice_get ps at)
+placed ps front back at base p q is long within some first done =
+    ap (λ (y : Pending). front ++ slice_set back 0 y) done
+    ∙ first_of front back base p some first
+    ∙ ap (λ (m : ℕ). completed_at base (front ++ back) m (slice_get (front ++ back) m)) long
+    ∙ ap (λ (qs : List Pending). completed_at base qs at (slice_get qs at)) (sym is)
+
+-- the bytes of the page that was filled last
+pub behind_is : (ps front back : List Pending) (block : List ℕ) (last : ℕ) (q : Pending) → ps ≡ front ++ back →
+    last < length front → q ≡ get_or front last q → base_behind block ps (Some last) ≡ q.body
+behind_is ps front back block last q is within at =
+    ap (λ (qs : List Pending). base_behind block qs (Some last)) is
+    ∙ ap (body_or block) (slice_get_read (front ++ back) (length (front ++ back)) last q refl long
+    (at ∙ sym (get_or-append front back q last within)))
+  where
+    longer : (xs : List Pending) → length xs ≤ length (xs ++ back)
+    longer [] = omega arith
+    longer (x ∷ xs) = let l = longer xs in omega (arith, l)
+
+    long : last < length (front ++ back)
+    long = let l = longer front in omega (arith, l, within)

@@ -1,0 +1,105 @@
+//! What becomes of the slots that readers have claimed.
+ghost use Rattle.std.specs.Prelude.{◌≡◌, ◌≤◌, ◌+◌, ◌++◌, length, map, take, vec_capacity};
+ghost use Rattle.std.specs.VecDeque.{deque_capacity};
+ghost use Rattle.write_cache.specs.Slots.{claim_filled, claims_of, page_claimed, turned, without_claims};
+
+use crate::slots::{Claimed, Pending};
+use std::collections::VecDeque;
+use ufs_bytes::Body;
+use ufs_spec::Key;
+
+/// A group that is accepted: its first address, its number and how many pages it has.
+#[derive(Clone, Copy)]
+pub(super) struct NewGroup {
+    pub(super) key: Key,
+    pub(super) number: u64,
+    pub(super) size: u16,
+}
+
+/// The slots that the reader has claimed become pages of the group, in their order; the other claims stay.
+pub(super) fn move_claims(
+    claims: &mut VecDeque<Claimed>,
+    pages: &mut VecDeque<Pending>,
+    reader: u8,
+    group: NewGroup,
+)
+    requires { length pages.old.items + length claims.old.items ≤ deque_capacity pages.old }
+    ensures left { claims.new.items ≡ without_claims claims.old.items reader }
+    ensures claim_room { deque_capacity claims.new ≡ deque_capacity claims.old }
+    ensures moved { pages.new.items ≡ pages.old.items
+        ++ map (page_claimed group.key group.number group.size) (claims_of claims.old.items reader) }
+    ensures page_room { deque_capacity pages.new ≡ deque_capacity pages.old }
+    ensures as_many { length pages.new.items + length claims.new.items ≡
+        length pages.old.items + length claims.old.items }
+{
+    for _ in 0..claims.len() {
+        move_claim(claims, pages, reader, group);
+    }
+}
+
+/// The first claim becomes a page of the group, if the reader has claimed it; else it is the last from then on.
+fn move_claim(
+    claims: &mut VecDeque<Claimed>,
+    pages: &mut VecDeque<Pending>,
+    reader: u8,
+    group: NewGroup,
+)
+    requires { length pages.old.items + length claims.old.items ≤ deque_capacity pages.old }
+    ensures left { claims.new.items ≡ turned reader claims.old.items }
+    ensures claim_room { deque_capacity claims.new ≡ deque_capacity claims.old }
+    ensures moved { pages.new.items ≡ pages.old.items
+        ++ map (page_claimed group.key group.number group.size) (claims_of (take 1 claims.old.items) reader) }
+    ensures page_room { deque_capacity pages.new ≡ deque_capacity pages.old }
+    ensures as_many { length pages.new.items + length claims.new.items ≡
+        length pages.old.items + length claims.old.items }
+{
+    if let Some(claim) = claims.pop_front() {
+        if claim.is_of(reader) {
+            pages.push_back_reserved(claim.into_page(group.key, group.number, group.size));
+        } else {
+            claims.push_back_reserved(claim);
+        }
+    }
+}
+
+/// The slots that the reader has claimed are free; the other claims stay.
+pub(super) fn free_claims(claims: &mut VecDeque<Claimed>, free: &mut Vec<Body>, reader: u8)
+    requires { length free.old.items + length claims.old.items ≤ vec_capacity free.old }
+    ensures left { claims.new.items ≡ without_claims claims.old.items reader }
+    ensures claim_room { deque_capacity claims.new ≡ deque_capacity claims.old }
+    ensures room { vec_capacity free.new ≡ vec_capacity free.old }
+    ensures as_many { length free.new.items + length claims.new.items ≡
+        length free.old.items + length claims.old.items }
+{
+    for _ in 0..claims.len() {
+        free_claim(claims, free, reader);
+    }
+}
+
+/// The slot of the first claim is free, if the reader has claimed it; else the claim is the last from then on.
+fn free_claim(claims: &mut VecDeque<Claimed>, free: &mut Vec<Body>, reader: u8)
+    requires { length free.old.items + length claims.old.items ≤ vec_capacity free.old }
+    ensures left { claims.new.items ≡ turned reader claims.old.items }
+    ensures claim_room { deque_capacity claims.new ≡ deque_capacity claims.old }
+    ensures room { vec_capacity free.new ≡ vec_capacity free.old }
+    ensures as_many { length free.new.items + length claims.new.items ≡
+        length free.old.items + length claims.old.items }
+{
+    if let Some(claim) = claims.pop_front() {
+        if claim.is_of(reader) {
+            free.push_reserved(claim.body);
+        } else {
+            claims.push_back_reserved(claim);
+        }
+    }
+}
+
+/// What came lies in the slot that is claimed for the block of this index of the reader.
+pub(super) fn fill_claims(claims: &mut [Claimed], reader: u8, index: u16, block: &[u8])
+    requires { length block.now ≡ 4096 }
+    ensures { claims.new ≡ map (claim_filled reader index block.now) claims.old }
+{
+    for claim in claims.iter_mut() {
+        claim.fill(reader, index, block);
+    }
+}

@@ -1,0 +1,174 @@
+//! Groups of pages with keys of their own, and the rests that their pages wait for.
+ghost use Rattle.std.specs.Prelude.{◌≡◌, ◌+◌, ◌^◌, ◌<◌, ◌≤◌, ◌++◌, All, IfSome, IsTrue, false};
+ghost use Rattle.std.specs.Prelude.{filter_map, length, map, slice_get, take, vec_capacity};
+ghost use Rattle.std.specs.List.{list_any};
+ghost use Rattle.std.specs.VecDeque.{deque_capacity};
+ghost use Rattle.write_cache.specs.Rests.{IsPart, awaits, base_behind, claim_brought, completed_at};
+ghost use Rattle.write_cache.specs.Rests.{page_moved, pages_appended, rests_filled};
+ghost use Rattle.write_cache.specs.Slots.{claims_of, has_number, turned, without_claims};
+
+use super::Cache;
+use crate::rests::NewPage;
+use crate::slots::{Claimed, Pending};
+use std::collections::VecDeque;
+use ufs_bytes::Body;
+
+impl Cache {
+    /// Puts the group of these pages behind all that are pending, each in the slot that the reader
+    /// claimed for the block of its index, and answers its number. What else the reader claimed is
+    /// free.
+    pub fn append_pages(&mut self, reader: u8, pages: &[NewPage<'_>]) -> u64
+        requires numbered { IsTrue (has_number self.old) }
+        requires parts { All IsPart pages.now }
+        requires few { length pages.now < 2 ^ 16 }
+        ensures number { result ≡ self.old.last + 1 }
+        ensures after { self.new ≡ pages_appended self.old reader pages.now }
+    {
+        let number = self.last + 1;
+        bring_all(self.claims.make_contiguous(), &self.pages, reader, pages);
+        move_pages(
+            &mut self.claims,
+            &mut self.pages,
+            &mut self.free,
+            reader,
+            number,
+            pages,
+        );
+        self.last = number;
+        number
+    }
+
+    /// Gives their rest to all pages that wait for the read that the page with this number and index
+    /// waits for, which brought these 4096 bytes. The own blocks of each page stay. The first takes
+    /// its rest from what was read, and each later one from the one before it.
+    pub fn fill_rests(&mut self, number: u64, index: u16, block: &[u8])
+        requires { length block.now ≡ 4096 }
+        ensures after { self.new ≡ record self.old {
+          pages = rests_filled number index block.now self.old.pages;
+        } }
+        // None of them waits any more.
+        ensures none_waits { list_any (awaits number index) self.new.pages ≡ false }
+    {
+        fill_pages(self.pages.make_contiguous(), number, index, block);
+    }
+}
+
+/// The bytes of each of these pages lie in the slot that the reader claimed for it.
+fn bring_all(claims: &mut [Claimed], pending: &VecDeque<Pending>, reader: u8, pages: &[NewPage<'_>])
+    requires { All IsPart pages.now }
+    ensures { claims.new ≡ map (claim_brought pending.now.items reader pages.now) claims.old }
+{
+    for claim in claims.iter_mut() {
+        bring_one(claim, pending, reader, pages);
+    }
+}
+
+/// The bytes of the page lie in the slot that was claimed for it, if the reader claimed this slot.
+fn bring_one(claim: &mut Claimed, pending: &VecDeque<Pending>, reader: u8, pages: &[NewPage<'_>])
+    requires { All IsPart pages.now }
+    ensures { claim.new ≡ claim_brought pending.now.items reader pages.now claim.old }
+{
+    if claim.is_of(reader) {
+        if let Some(page) = pages.get(claim.index as usize) {
+            claim.bring(page, pending);
+        }
+    }
+}
+
+/// The slots that the reader claimed become pages of the group, in their order, or are free where
+/// the group has no page of their index; the other claims stay.
+fn move_pages(
+    claims: &mut VecDeque<Claimed>,
+    pending: &mut VecDeque<Pending>,
+    free: &mut Vec<Body>,
+    reader: u8,
+    number: u64,
+    pages: &[NewPage<'_>],
+)
+    requires few { length pages.now < 2 ^ 16 }
+    requires room { length pending.old.items + length claims.old.items ≤ deque_capacity pending.old }
+    requires free_room { length free.old.items + length claims.old.items ≤ vec_capacity free.old }
+    ensures left { claims.new.items ≡ without_claims claims.old.items reader }
+    ensures claim_room { deque_capacity claims.new ≡ deque_capacity claims.old }
+    ensures moved { pending.new.items ≡ pending.old.items
+        ++ filter_map (page_moved number pages.now) (claims_of claims.old.items reader) }
+    ensures page_room { deque_capacity pending.new ≡ deque_capacity pending.old }
+    ensures free_stays { vec_capacity free.new ≡ vec_capacity free.old }
+    ensures as_many { length free.new.items + length pending.new.items + length claims.new.items
+        ≡ length free.old.items + length pending.old.items + length claims.old.items }
+    ensures pages_fit { length pending.new.items + length claims.new.items ≤
+        length pending.old.items + length claims.old.items }
+    ensures free_fit { length free.new.items + length claims.new.items ≤
+        length free.old.items + length claims.old.items }
+{
+    for _ in 0..claims.len() {
+        move_page(claims, pending, free, reader, number, pages);
+    }
+}
+
+/// The first claim becomes a page of the group or is free, if the reader claimed it; else it is
+/// the last from then on.
+fn move_page(
+    claims: &mut VecDeque<Claimed>,
+    pending: &mut VecDeque<Pending>,
+    free: &mut Vec<Body>,
+    reader: u8,
+    number: u64,
+    pages: &[NewPage<'_>],
+)
+    requires few { length pages.now < 2 ^ 16 }
+    requires room { length pending.old.items + length claims.old.items ≤ deque_capacity pending.old }
+    requires free_room { length free.old.items + length claims.old.items ≤ vec_capacity free.old }
+    ensures left { claims.new.items ≡ turned reader claims.old.items }
+    ensures claim_room { deque_capacity claims.new ≡ deque_capacity claims.old }
+    ensures moved { pending.new.items ≡ pending.old.items
+        ++ filter_map (page_moved number pages.now) (claims_of (take 1 claims.old.items) reader) }
+    ensures page_room { deque_capacity pending.new ≡ deque_capacity pending.old }
+    ensures free_stays { vec_capacity free.new ≡ vec_capacity free.old }
+    ensures as_many { length free.new.items + length pending.new.items + length claims.new.items
+        ≡ length free.old.items + length pending.old.items + length claims.old.items }
+    ensures pages_fit { length pending.new.items + length claims.new.items ≤
+        length pending.old.items + length claims.old.items }
+    ensures free_fit { length free.new.items + length claims.new.items ≤
+        length free.old.items + length claims.old.items }
+{
+    if let Some(claim) = claims.pop_front() {
+        if !claim.is_of(reader) {
+            claims.push_back_reserved(claim);
+        } else if let Some(page) = pages.get(claim.index as usize) {
+            pending.push_back_reserved(claim.into_new_page(page, number, pages.len() as u16));
+        } else {
+            free.push_reserved(claim.body);
+        }
+    }
+}
+
+/// Each page that waits for that read has its content.
+fn fill_pages(pages: &mut [Pending], number: u64, index: u16, block: &[u8])
+    requires { length block.now ≡ 4096 }
+    ensures { pages.new ≡ rests_filled number index block.now pages.old }
+{
+    let mut filled = None;
+    for at in 0..pages.len() {
+        if pages[at].awaits(number, index) {
+            complete_at(pages, at, filled, block);
+            filled = Some(at);
+        }
+    }
+}
+
+/// The page at this position has its content: its rest is from the page that was filled last, or
+/// from what was read.
+fn complete_at(pages: &mut [Pending], at: usize, filled: Option<usize>, block: &[u8])
+    requires there { at < length pages.old }
+    requires before { IfSome filled (λ k. k < at) }
+    requires long { length block.now ≡ 4096 }
+    ensures { pages.new ≡
+        completed_at (base_behind block.now pages.old filled) pages.old at (slice_get pages.old at) }
+{
+    let (before, from) = pages.split_at_mut(at);
+    match filled {
+        Some(last) => from[0].complete(before[last].body.block()),
+        None => from[0].complete(block),
+    }
+}

@@ -1,0 +1,191 @@
+//! Pages of which a command brings only some blocks of 256 bytes, and the rest that they wait for.
+ghost use Rattle.std.specs.Prelude.{◌≡◌, ◌+◌, ◌*◌, Some, find, length, min, option_and_then};
+ghost use Rattle.std.specs.Prelude.{option_copied};
+ghost use Rattle.write_cache.specs.Rests.{IsPart, awaits, base_in, claim_with, comes_by, completed};
+ghost use Rattle.write_cache.specs.Rests.{content_of, page_of, part_of, rest_by, with_part_of};
+ghost use Rattle.write_cache.specs.Slots.{is_named};
+
+use crate::slots::{Claimed, Pending};
+use std::collections::VecDeque;
+use ufs_bytes::Body;
+use ufs_spec::{Block, Key};
+
+/// Some of the sixteen blocks of 256 bytes of a page, one after another: which is the first, and
+/// how many there are.
+#[derive(Clone, Copy)]
+pub struct Part {
+    pub first: u8,
+    pub blocks: u8,
+}
+
+/// What a page waits for of which a command brought only this part: its rest comes by the read that
+/// the page with this number and index waits for.
+#[derive(Clone, Copy)]
+pub struct Rest {
+    pub number: u64,
+    pub index: u16,
+    pub part: Part,
+}
+
+/// Where the rest of a page comes from that a command brings.
+#[derive(Clone, Copy)]
+pub enum RestSource {
+    /// From nothing: its key was never written, or the command brings the whole page. The rest is
+    /// what lies in the claimed slot, which is zeros.
+    Nothing,
+    /// From the pending page with this number and index, whose content is all there.
+    Slot { number: u64, index: u16 },
+    /// From a page that is still to be read: by the read that the page with this number and index
+    /// waits for, which may be the new page itself.
+    Read { number: u64, index: u16 },
+}
+
+/// A page of a group as a command brings it: its key, the blocks of it that the command has, their
+/// bytes, and where the rest comes from.
+#[derive(Clone, Copy)]
+pub struct NewPage<'a> {
+    pub key: Key,
+    pub part: Part,
+    pub bytes: &'a [u8],
+    pub source: RestSource,
+}
+
+impl Part {
+    /// Where the part begins in its page; a page ends after 4096 bytes.
+    fn start(self) -> usize
+        ensures { result ≡ min (256 * self.first) 4096 }
+    {
+        (256 * self.first as usize).min(4096)
+    }
+
+    /// Where the part ends in its page.
+    fn end(self) -> usize
+        ensures { result ≡ min (256 * (self.first + self.blocks)) 4096 }
+    {
+        (256 * (self.first as usize + self.blocks as usize)).min(4096)
+    }
+}
+
+impl Rest {
+    /// Whether it comes by the read that the page with this number and index waits for.
+    fn comes_by(&self, number: u64, index: u16) -> bool
+        ensures { result ≡ comes_by number index (Some self.now) }
+    {
+        self.number == number && self.index == index
+    }
+}
+
+impl RestSource {
+    /// What a page waits for that has this part, if its rest is still to be read.
+    fn rest(self, part: Part) -> Option<Rest>
+        ensures { result ≡ rest_by part self }
+    {
+        match self {
+            RestSource::Read { number, index } => Some(Rest {
+                number,
+                index,
+                part,
+            }),
+            _ => None,
+        }
+    }
+}
+
+impl Pending {
+    /// Its 4096 bytes, which a READ gets and a program writes; `None` while it waits for its rest.
+    pub fn content(&self) -> Option<&Block>
+        ensures { option_copied result ≡ content_of self.now }
+    {
+        match self.rest {
+            Some(_) => None,
+            None => Some(self.body.block()),
+        }
+    }
+
+    /// Whether it waits for the read that the page with this number and index waits for.
+    pub(crate) fn awaits(&self, number: u64, index: u16) -> bool
+        ensures { result ≡ awaits number index self.now }
+    {
+        match &self.rest {
+            Some(rest) => rest.comes_by(number, index),
+            None => false,
+        }
+    }
+
+    /// Its content is there, if it waits for its rest: its own blocks stay, and the rest is from
+    /// these bytes.
+    pub(crate) fn complete(&mut self, base: &[u8])
+        requires { length base.now ≡ 4096 }
+        ensures { self.new ≡ completed base.now self.old }
+    {
+        if let Some(rest) = self.rest {
+            take_around(&mut self.body, rest.part, base);
+            self.rest = None;
+        }
+    }
+}
+
+impl Claimed {
+    /// The bytes of the page lie in the slot: its own blocks over their base.
+    pub(crate) fn bring(&mut self, page: &NewPage<'_>, pages: &VecDeque<Pending>)
+        requires { IsPart page.now }
+        ensures { self.new ≡ claim_with pages.now.items (Some page.now) self.old }
+    {
+        take_base(&mut self.body, page.source, pages);
+        self.body.set_part(page.part.start(), page.bytes);
+    }
+
+    /// The page of a group of so many pages whose bytes lie in the slot.
+    pub(crate) fn into_new_page(self, page: &NewPage<'_>, number: u64, size: u16) -> Pending
+        ensures { result ≡ page_of number size self self.body page.now }
+    {
+        Pending {
+            key: page.key,
+            number,
+            index: self.index,
+            size,
+            written: None,
+            rest: page.source.rest(page.part),
+            body: self.body,
+        }
+    }
+}
+
+/// The slot holds the content of the pending page that is the source, if one is; else what it held.
+fn take_base(body: &mut Body, source: RestSource, pages: &VecDeque<Pending>)
+    ensures { body.new ≡ base_in pages.now.items body.old source }
+{
+    if let RestSource::Slot { number, index } = source {
+        if let Some(block) = content_named(pages, number, index) {
+            body.set(block);
+        }
+    }
+}
+
+/// The content of the page with this number and index, if it is pending and all there.
+fn content_named(pages: &VecDeque<Pending>, number: u64, index: u16) -> Option<&Block>
+    ensures { option_copied result ≡
+        option_and_then content_of (find (is_named number index) pages.now.items) }
+{
+    let page = page_named(pages, number, index)?;
+    page.content()
+}
+
+/// The page with this number and index, if it is pending.
+fn page_named(pages: &VecDeque<Pending>, number: u64, index: u16) -> Option<&Pending>
+    ensures { option_copied result ≡ find (is_named number index) pages.now.items }
+{
+    pages.iter().find(|page| page.is_named(number, index))
+}
+
+/// All but the part is from these bytes from now on.
+fn take_around(body: &mut Body, part: Part, base: &[u8])
+    requires { length base.now ≡ 4096 }
+    ensures { body.new ≡ with_part_of part (part_of part body.old) base.now }
+{
+    let end = part.end();
+    // A body holds 4096 bytes.
+    let _bytes: &[u8] = body.block();
+    body.set_part(0, &base[..part.start()]);
+    body.set_part(end, &base[end..]);
+}
