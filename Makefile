@@ -18,8 +18,8 @@ INSTALLED = $(foreach it,$(PROGRAMS),bin/$(it) share/man/man1/$(it).1 share/bash
 help:
 	@echo 'make demo                  shows a write, a read and six stops; builds without proving, two minutes'
 	@echo 'make test                  runs every test, example and stored case; proves nothing; about 8 minutes'
-	@echo 'make prove                 proves everything, tries every wrong body, and runs what was proved: hours'
-	@echo '                           from nothing; what has not changed is kept, so later runs take minutes'
+	@echo 'make prove                 proves everything, tries every wrong body, and runs what was proved: an hour'
+	@echo '                           or more from nothing; what has not changed is kept, so later runs take minutes'
 	@echo 'make format                lays out the code and the proofs of every crate as make prove wants them'
 	@echo 'make install PREFIX=DIR    proves and builds ufsim and ufstool, and copies them to DIR/bin, with'
 	@echo '                           their manual pages and completions to DIR/share'
@@ -51,7 +51,7 @@ test:
 prove:
 	@python3 tools/prove.py
 
-# Without it `rt ci` counts a crate as not proved, and each crate above it: it takes a minute, the proofs hours.
+# Without it `rt ci` counts a crate as not proved, and each crate above it: it takes a minute, the proofs an hour.
 format:
 	@for it in crates/*/; do (cd "$$it" && rt fmt) || exit 1; done
 	@python3 tools/wrong_bodies.py --texts
