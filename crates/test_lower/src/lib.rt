@@ -1,6 +1,7 @@
 //! Each public function of the lower crates once, what the worked rows say of contents, the
-//! comparison of journals, victims and plans, and area pages that are written in part. Expected bytes
-//! come from the device's formats and from the standards, never from the program's own output.
+//! comparison of journals, victims and plans, area pages that are written in part, and what queries
+//! and units tell. Expected bytes come from the device's formats and from the standards, never from
+//! the program's own output.
 #![tactic(auto)]
 
 #[cfg(test)]
@@ -20,10 +21,14 @@ mod page_contents;
 #[cfg(test)]
 mod plain_rows;
 #[cfg(test)]
+mod query_rows;
+#[cfg(test)]
 mod rpmb_rows;
 #[cfg(test)]
 mod scans;
 #[cfg(test)]
 mod scans_by_workers;
+#[cfg(test)]
+mod unit_rows;
 #[cfg(test)]
 mod victims;

@@ -1,0 +1,4 @@
+pub mod Answers
+pub mod Asks
+pub mod Codes
+pub mod States

@@ -1,0 +1,164 @@
+//! The answer to a query.
+ghost use Rattle.std.specs.Prelude.{◌≡◌, ◌==◌, ◌&&◌, ◌||◌, Bool, Some, false, not, true};
+ghost use Rattle.ufs_spec.specs.Keys.{flag_byte};
+ghost use Rattle.ufs_spec.specs.Plain.{Plain, apply};
+ghost use Rattle.ufs_spec.specs.Queries.{Query, descriptor_told, flag_told, has_wrong_value};
+ghost use Rattle.ufs_spec.specs.Queries.{query_code, setting_of, sets_power_on, value_told};
+ghost use Rattle.descriptors.specs.Answers.{Says, code_of, command_in, command_of, succeeds};
+ghost use Rattle.descriptors.specs.Asks.{HasSettings, query_of};
+
+use crate::codes::{
+    PERMANENT_WP_EN, POWER_ON_WP_EN, READ_ATTRIBUTE, READ_FLAG, SET_FLAG, WRITE_ATTRIBUTE,
+};
+use crate::descriptors::{Descriptor, descriptor_told};
+use crate::queries::{QueryRequest, QuerySettings};
+use crate::responses::ResponseCode;
+use crate::table::{first_line, sets_permanent};
+use ufs_spec::Numbers;
+
+/// What a query is answered.
+#[derive(Drop)]
+pub enum QueryAnswer {
+    /// Nothing but this response code: why it is refused, or success of no operation.
+    Code(ResponseCode),
+    /// Success, and this is told at once.
+    Told(Told),
+    /// This is to be accepted as a command; success is told once it is durable.
+    Setting(Setting),
+}
+
+/// What is told of a query that succeeds.
+#[derive(Drop)]
+pub struct Told {
+    /// The first bytes of a descriptor, if one is read.
+    pub bytes: Descriptor,
+    /// The attribute or the flag, as it is after the query.
+    pub value: u32,
+    /// fPowerOnWPEn is set from now on.
+    pub sets_power_on: bool,
+}
+
+/// A setting, which is a command.
+#[derive(Clone, Copy)]
+pub enum Setting {
+    /// bBootLunEn becomes 0, 1 or 2.
+    Boot(u8),
+    /// fPermanentWPEn is set.
+    Permanent,
+}
+
+impl Setting {
+    /// The value that is told once the setting is durable: the one that it set.
+    pub fn value(self) -> u32
+        ensures { (p : Plain) (power_on : Bool) (q : Query) →
+            setting_of q ≡ Some (command_of self) →
+            result ≡ value_told (apply p (command_of self)) power_on q }
+    {
+        match self {
+            Setting::Boot(boot) => u32::from(boot),
+            Setting::Permanent => 1,
+        }
+    }
+}
+
+/// The answer to a query that finds these settings. A setting is refused if none can be accepted
+/// (`may_accept`).
+pub fn answer(
+    numbers: &Numbers,
+    settings: QuerySettings,
+    may_accept: bool,
+    query: &QueryRequest,
+) -> QueryAnswer
+    // The response code is that of the first line of the table that applies.
+    ensures code { (p : Plain) → HasSettings settings p →
+        code_of result ≡ query_code numbers.now p may_accept (query_of query.now) }
+    // A query that no line refuses is told or is a setting, but for no operation.
+    ensures succeeds { (p : Plain) → HasSettings settings p →
+        succeeds result ≡ (query_code numbers.now p may_accept (query_of query.now) == 0x00)
+        && not (query.now.asked.opcode == 0) }
+    ensures says { (p : Plain) → HasSettings settings p →
+        Says numbers.now p settings.is_power_on (query_of query.now) result }
+{
+    match first_line(numbers, settings.is_permanent, may_accept, query) {
+        Some(code) => QueryAnswer::Code(code),
+        None => passed(numbers, settings, query),
+    }
+}
+
+// The answer to a query that no line refuses.
+fn passed(numbers: &Numbers, settings: QuerySettings, query: &QueryRequest) -> QueryAnswer
+    requires { has_wrong_value (query_of query.now) ≡ false }
+    ensures code { code_of result ≡ 0 }
+    ensures succeeds { succeeds result ≡ true }
+    ensures says { (p : Plain) → HasSettings settings p →
+        Says numbers.now p settings.is_power_on (query_of query.now) result }
+{
+    match setting_of(query) {
+        Some(setting) => QueryAnswer::Setting(setting),
+        None => QueryAnswer::Told(told_at_once(numbers, settings, query)),
+    }
+}
+
+// The setting that a query is, if it is one.
+fn setting_of(query: &QueryRequest) -> Option<Setting>
+    requires { has_wrong_value (query_of query.now) ≡ false }
+    ensures { command_in result ≡ setting_of (query_of query.now) }
+{
+    if query.asked.opcode == WRITE_ATTRIBUTE {
+        Some(Setting::Boot(query.value as u8))
+    } else if sets_permanent(query) {
+        Some(Setting::Permanent)
+    } else {
+        None
+    }
+}
+
+// What is told of a query that is no setting.
+fn told_at_once(numbers: &Numbers, settings: QuerySettings, query: &QueryRequest) -> Told
+    ensures bytes { result.bytes.items ≡ descriptor_told numbers.now (query_of query.now) }
+    ensures value { (p : Plain) → HasSettings settings p → result.value ≡ value_told p
+        (settings.is_power_on || sets_power_on (query_of query.now)) (query_of query.now) }
+    ensures power_on { result.sets_power_on ≡ sets_power_on (query_of query.now) }
+{
+    let sets_power_on = sets_power_on(query);
+    let settings = QuerySettings {
+        is_power_on: settings.is_power_on || sets_power_on,
+        ..settings
+    };
+    Told {
+        bytes: descriptor_told(numbers, query),
+        value: value_told(settings, query),
+        sets_power_on,
+    }
+}
+
+// Whether fPowerOnWPEn is set.
+fn sets_power_on(query: &QueryRequest) -> bool
+    ensures { result ≡ sets_power_on (query_of query.now) }
+{
+    query.asked.opcode == SET_FLAG && query.asked.idn == POWER_ON_WP_EN
+}
+
+// The value of the attribute or flag that is asked for.
+fn value_told(settings: QuerySettings, query: &QueryRequest) -> u32
+    ensures { (p : Plain) → HasSettings settings p →
+        result ≡ value_told p settings.is_power_on (query_of query.now) }
+{
+    match query.asked.opcode {
+        READ_ATTRIBUTE | WRITE_ATTRIBUTE => u32::from(settings.boot),
+        READ_FLAG | SET_FLAG => u32::from(flag_told(settings, query.asked.idn)),
+        _ => 0,
+    }
+}
+
+// Whether a flag is set. Nothing is left to initialize, so fDeviceInit never is.
+fn flag_told(settings: QuerySettings, idn: u8) -> bool
+    ensures { (p : Plain) → HasSettings settings p →
+        flag_byte result ≡ flag_told p settings.is_power_on idn }
+{
+    match idn {
+        PERMANENT_WP_EN => settings.is_permanent,
+        POWER_ON_WP_EN => settings.is_power_on,
+        _ => false,
+    }
+}

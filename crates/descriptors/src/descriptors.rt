@@ -1,0 +1,106 @@
+//! The bytes of the descriptors (JESD220, 14.1.4).
+ghost use Rattle.std.specs.Prelude.{◌≡◌, ◌≤◌, length, take};
+ghost use Rattle.std.specs.List.{list_any};
+ghost use Rattle.ufs_spec.specs.Queries.{boots, descriptor_told, device_descriptor};
+ghost use Rattle.ufs_spec.specs.Queries.{unit_descriptor};
+ghost use Rattle.descriptors.specs.Asks.{query_of};
+
+use crate::codes::{DEVICE_DESCRIPTOR, READ_DESCRIPTOR};
+use crate::queries::QueryRequest;
+use arrayvec::ArrayVec;
+use ufs_spec::{Numbers, UnitSpec, write_u32, write_u64};
+
+/// How many bytes the device descriptor has, the longest that there is.
+const DEVICE_LENGTH: usize = 64;
+
+/// How many bytes the descriptor of a unit has.
+const UNIT_LENGTH: usize = 35;
+
+/// The bytes of a descriptor, as many as were asked for.
+pub type Descriptor = ArrayVec<u8, DEVICE_LENGTH>;
+
+/// The device descriptor (JESD220, 14.1.4.2).
+pub fn device_descriptor(numbers: &Numbers) -> [u8; 64]
+    ensures { result ≡ device_descriptor numbers.now }
+{
+    let mut bytes = [0; DEVICE_LENGTH];
+    // bLength; bDescriptorIDN is 00h.
+    bytes[0x00] = 0x40;
+    // bNumberLU and bNumberWLU.
+    bytes[0x06] = numbers.units.len() as u8;
+    bytes[0x07] = 4;
+    // bBootEnable.
+    bytes[0x08] = u8::from(has_boot_unit(numbers));
+    // bDescrAccessEn.
+    bytes[0x09] = 1;
+    // bSecurityLU: there is an RPMB.
+    bytes[0x0D] = 1;
+    // wSpecVersion: 2.1.
+    bytes[0x10] = 0x02;
+    bytes[0x11] = 0x10;
+    bytes
+}
+
+// Whether a unit has a boot number.
+fn has_boot_unit(numbers: &Numbers) -> bool
+    ensures { result ≡ list_any boots numbers.now.units.items }
+{
+    numbers.units.as_slice().iter().any(|unit| unit.boot != 0)
+}
+
+/// The descriptor of the unit with this index (JESD220, 14.1.4.5).
+pub fn unit_descriptor(index: u8, unit: &UnitSpec) -> [u8; 35]
+    ensures { result ≡ unit_descriptor index unit.now }
+{
+    let mut bytes = [0; UNIT_LENGTH];
+    // bLength and bDescriptorIDN.
+    bytes[0x00] = 0x23;
+    bytes[0x01] = 0x02;
+    // bUnitIndex, and bLUEnable.
+    bytes[0x02] = index;
+    bytes[0x03] = 1;
+    // bBootLunID and bLUWriteProtect.
+    bytes[0x04] = unit.boot;
+    bytes[0x05] = unit.protect;
+    // bDataReliability.
+    bytes[0x09] = 1;
+    // bLogicalBlockSize: 2 to the power of 12 bytes.
+    bytes[0x0A] = 12;
+    // qLogicalBlockCount.
+    write_u64(&mut bytes, 0x0B, u64::from(unit.blocks));
+    // dEraseBlockSize.
+    write_u32(&mut bytes, 0x13, 1);
+    // bProvisioningType: thin provisioning, and unmapped blocks read as zeros.
+    bytes[0x17] = 3;
+    // qPhyMemResourceCount.
+    write_u64(&mut bytes, 0x18, u64::from(unit.blocks));
+    bytes
+}
+
+/// The first bytes of the descriptor that a query reads, as many as it asks for.
+pub fn descriptor_told(numbers: &Numbers, query: &QueryRequest) -> Descriptor
+    ensures { result.items ≡ descriptor_told numbers.now (query_of query.now) }
+{
+    if query.asked.opcode != READ_DESCRIPTOR {
+        return ArrayVec::new();
+    }
+    if query.asked.idn == DEVICE_DESCRIPTOR {
+        return front(&device_descriptor(numbers), query.length);
+    }
+    let index = query.asked.index;
+    match numbers.units.as_slice().get(usize::from(index)) {
+        None => ArrayVec::new(),
+        Some(unit) => front(&unit_descriptor(index, unit), query.length),
+    }
+}
+
+// The first bytes of a descriptor, as many as are asked for.
+fn front(descriptor: &[u8], asked: u16) -> Descriptor
+    requires { length descriptor.now ≤ 64 }
+    ensures { result.items ≡ take asked descriptor.now }
+{
+    let mut told = ArrayVec::new();
+    let count = usize::from(asked).min(descriptor.len());
+    let _ = told.try_extend_from_slice(&descriptor[..count]);
+    told
+}

@@ -1,0 +1,131 @@
+//! What LUN bytes name.
+ghost use Rattle.std.specs.Prelude.{◌≡◌, ◌==◌, ◌<◌, IfSome, length, position};
+ghost use Rattle.ufs_spec.specs.Messages.{is_among};
+ghost use Rattle.ufs_spec.specs.Refusals.{all_but_security, boot_unit, operations_of, unit_named};
+ghost use Rattle.ufs_spec.specs.Refusals.{well_known};
+ghost use Rattle.ufs_spec.specs.declared.UnitSpec.{UnitSpec as Spec};
+ghost use Rattle.lun_route.specs.Luns.{lun_in, lun_named, lun_of};
+
+use crate::operations::{
+    INQUIRY, READ_6, READ_10, READ_CAPACITY_10, REPORT_LUNS, REQUEST_SENSE, SECURITY_IN,
+    SECURITY_OUT, SYNCHRONIZE_CACHE_10, TEST_UNIT_READY, UNMAP, WRITE_6, WRITE_10,
+};
+use ufs_spec::{Numbers, UnitSpec};
+
+/// What a LUN byte names (JESD220, 10.8.5).
+#[derive(Clone, Copy)]
+pub enum Lun {
+    /// The unit of the configuration with this number, 00h to 07h.
+    Unit(u8),
+    /// 81h, the well-known unit REPORT LUNS.
+    ReportLuns,
+    /// B0h, the well-known unit BOOT: the blocks of the unit that boots.
+    Boot,
+    /// C4h, the well-known unit RPMB.
+    Rpmb,
+    /// D0h, the well-known unit UFS DEVICE.
+    Device,
+}
+
+/// What the LUN byte names: a unit of the configuration, or else a well-known unit.
+pub fn named_lun(numbers: &Numbers, byte: u8) -> Option<Lun>
+    ensures { lun_in result ≡ lun_named numbers.now byte }
+{
+    if usize::from(byte) < numbers.units.len() {
+        Some(Lun::Unit(byte))
+    } else {
+        well_known(byte)
+    }
+}
+
+// The well-known unit with this LUN byte.
+fn well_known(byte: u8) -> Option<Lun>
+    ensures { lun_in result ≡ well_known byte }
+{
+    match byte {
+        0x81 => Some(Lun::ReportLuns),
+        0xB0 => Some(Lun::Boot),
+        0xC4 => Some(Lun::Rpmb),
+        0xD0 => Some(Lun::Device),
+        _ => None,
+    }
+}
+
+/// The unit that the boot setting names: the one with this boot number, if it is not 0 (bBootLunEn;
+/// JESD220, 13.1).
+pub fn boot_unit(numbers: &Numbers, boot: u8) -> Option<u8>
+    ensures { result ≡ boot_unit numbers.now boot }
+{
+    if boot == 0 {
+        return None;
+    }
+    let place = place_of(numbers.units.as_slice(), boot)?;
+    Some(place as u8)
+}
+
+// The place of the unit with this boot number.
+fn place_of(units: &[UnitSpec], boot: u8) -> Option<usize>
+    ensures place { result ≡ position (λ (u : Spec). u.boot == boot) units.now }
+    ensures within { IfSome result (λ place. place < length units.now) }
+{
+    units.iter().position(|unit| unit.boot == boot)
+}
+
+impl Lun {
+    /// The unit whose blocks are read or written through it, if it has blocks.
+    pub fn unit(self, numbers: &Numbers, boot: u8) -> Option<u8>
+        ensures { result ≡ unit_named numbers.now boot (lun_of self) }
+    {
+        match self {
+            Lun::Unit(unit) => Some(unit),
+            Lun::Boot => boot_unit(numbers, boot),
+            Lun::ReportLuns | Lun::Rpmb | Lun::Device => None,
+        }
+    }
+
+    /// Whether it takes this operation code.
+    pub fn takes(self, operation: u8) -> bool
+        ensures { result ≡ is_among (operations_of (lun_of self)) operation }
+    {
+        match self {
+            Lun::Unit(_) => unit_takes(operation),
+            Lun::ReportLuns => matches!(
+                operation,
+                TEST_UNIT_READY | REQUEST_SENSE | INQUIRY | REPORT_LUNS
+            ),
+            Lun::Boot => matches!(
+                operation,
+                TEST_UNIT_READY | REQUEST_SENSE | INQUIRY | READ_6 | READ_10 | READ_CAPACITY_10
+            ),
+            Lun::Rpmb => matches!(
+                operation,
+                TEST_UNIT_READY | REQUEST_SENSE | INQUIRY | SECURITY_IN | SECURITY_OUT
+            ),
+            Lun::Device => matches!(
+                operation,
+                TEST_UNIT_READY | REQUEST_SENSE | INQUIRY | SYNCHRONIZE_CACHE_10
+            ),
+        }
+    }
+}
+
+// Whether a unit of the configuration takes this operation code: all but those of the SECURITY
+// PROTOCOL commands.
+fn unit_takes(operation: u8) -> bool
+    ensures { result ≡ is_among all_but_security operation }
+{
+    matches!(
+        operation,
+        TEST_UNIT_READY
+            | REQUEST_SENSE
+            | READ_6
+            | WRITE_6
+            | INQUIRY
+            | READ_CAPACITY_10
+            | READ_10
+            | WRITE_10
+            | SYNCHRONIZE_CACHE_10
+            | UNMAP
+            | REPORT_LUNS
+    )
+}

@@ -1,0 +1,71 @@
+//! Units and what is told of them, as worked by hand, over the configuration of the worked rows: the
+//! bytes are those of SPC, and the LUN bytes those of JESD220, 10.8.5.
+use lun_route::{Lun, inquiry_bytes, luns_bytes, route_of, units_listed};
+use std::test::Fail;
+use ufs_spec::Sense;
+use workbench::row_config;
+
+/// READ(10), and SYNCHRONIZE CACHE(10).
+const READ: u8 = 0x28;
+
+const SYNCHRONIZE: u8 = 0x35;
+
+/// INQUIRY tells 36 bytes, and of a well-known unit another device type.
+#[test]
+fn inquiry_tells_what_a_unit_is(rt: HostRuntime) {
+    let told = [
+        0x00, 0x00, 0x06, 0x02, 0x1F, 0x00, 0x00, 0x02, 0x50, 0x52, 0x4F, 0x46, 0x49, 0x4C, 0x45,
+        0x20, 0x55, 0x46, 0x53, 0x20, 0x50, 0x52, 0x4F, 0x46, 0x49, 0x4C, 0x45, 0x20, 0x32, 0x2E,
+        0x31, 0x20, 0x30, 0x30, 0x30, 0x31,
+    ];
+    assert!(rt; inquiry_bytes(7) == told);
+    assert!(rt; inquiry_bytes(0xD0)[0] == 0x1E);
+}
+
+/// REPORT LUNS lists three units, four well-known ones, or all seven.
+#[test]
+fn units_are_listed(rt: HostRuntime) -> Result<(), Fail> {
+    let config = row_config()?;
+    let numbers = config.numbers();
+    let names = [
+        [0x00, 0x00],
+        [0x00, 0x01],
+        [0x00, 0x02],
+        [0xC1, 0x01],
+        [0xC1, 0x30],
+        [0xC1, 0x44],
+        [0xC1, 0x50],
+    ];
+    let mut all = [0; 64];
+    all[3] = 0x38;
+    for place in 0..7usize {
+        all[8 + 8 * place] = names[place][0];
+        all[9 + 8 * place] = names[place][1];
+    }
+    assert!(rt; luns_bytes(numbers, 2).as_slice() == &all[..]);
+    assert!(rt; units_listed(numbers, 2) == 7);
+    let units = luns_bytes(numbers, 0);
+    assert!(rt; units.as_slice()[..4] == [0, 0, 0, 0x18]);
+    assert!(rt; units.as_slice()[8..] == all[8..32]);
+    let others = luns_bytes(numbers, 1);
+    assert!(rt; others.as_slice()[..4] == [0, 0, 0, 0x20]);
+    assert!(rt; others.as_slice()[8..] == all[32..]);
+    Ok(())
+}
+
+/// The boot setting says whose blocks are read on B0h; without a boot unit there are none.
+#[test]
+fn the_boot_setting_names_a_unit(rt: HostRuntime) -> Result<(), Fail> {
+    let config = row_config()?;
+    let numbers = config.numbers();
+    for boot in 1..3u8 {
+        let route = route_of(numbers, boot, 0xB0, READ);
+        assert!(rt; matches!(route, Ok(route) if route.unit == Some(boot)));
+    }
+    assert!(rt; matches!(route_of(numbers, 0, 0xB0, READ), Err(Sense::NO_UNIT)));
+    assert!(rt; matches!(route_of(numbers, 0, 3, READ), Err(Sense::NO_UNIT)));
+    assert!(rt; matches!(route_of(numbers, 0, 0xD0, READ), Err(Sense::INVALID_OPCODE)));
+    let device = route_of(numbers, 0, 0xD0, SYNCHRONIZE);
+    assert!(rt; matches!(device, Ok(route) if matches!(route.lun, Lun::Device)));
+    Ok(())
+}
