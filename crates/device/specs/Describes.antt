@@ -26,6 +26,7 @@ use Rattle.ufs_spec.specs.declared.flash.Job.{Job}
 use Rattle.ufs_spec.specs.declared.messages.Message.{Message}
 use Rattle.power_loss.specs.Exchange.{IsTied}
 use Rattle.power_loss.specs.Shown.{ShowsReads}
+use Rattle.settings.specs.Told.{settings_now}
 use Rattle.ftl_core.specs.Public as layer
 use Rattle.ftl_core.specs.Public.{AreClaimed, Claims}
 use Rattle.task_set.specs.declared.tasks.Phase.{Phase}
@@ -209,7 +210,7 @@ IsTold count task = IsToldIn count task.deed
 
 -- what is kept of each part of a state, whether or not a lock was told to it
 pub record Keeps (d : DeviceCore) (s : State) : Type 0 where
-  pub permanent : d.is_permanent ≡ (plain_now s).permanent
+  pub settings : d.settings ≡ settings_now (plain_now s)
   pub layer_kept : layer.Describes d.ftl s.translation
   pub few : length s.tasks ≤ most_tasks
   pub tasks : TasksKept (before_accepted s.translation.ledger) d.tasks s.tasks

@@ -43,7 +43,7 @@ pub record IsTaskOpened (before after : DeviceCore) (flags lun tag expected : �
     pub phase : Phase
     -- the plan is the one that the table of refusals has for it
     pub todo : Result Plan Status
-    pub plan : (s : State) (r : Request) → Describes before.ftl s.translation → IsBare s before.is_permanent →
+    pub plan : (s : State) (r : Request) → Describes before.ftl s.translation → IsBare s before.settings.is_permanent →
         IsRequest r flags lun expected bytes → IsPlanned s r todo
     pub begun : (t : Translation) (claims : Claims) → IsLayerWith before.ftl t claims →
         HasBegun layer t claims tag todo phase

@@ -9,7 +9,7 @@ use Rattle.device.specs.Kept.{DeviceCore, WorldState}
 abbrev pub core_of : Inside → DeviceCore
 core_of d = record {
   ftl = d.ftl;
-  is_permanent = d.is_permanent;
+  settings = d.settings;
   tasks = d.set.tasks;
   shorts = d.set.shorts;
 }

@@ -179,7 +179,7 @@ impl Device {
         expected: u32,
         cdb: &[u8; 16],
     ) -> Result<Plan, Status>
-        ensures { (s : State) (r : Request) → IsLayer self.now.ftl s.translation → IsBare s self.now.is_permanent →
+        ensures { (s : State) (r : Request) → IsLayer self.now.ftl s.translation → IsBare s self.now.settings.is_permanent →
             IsRequest r flags lun expected cdb.now → IsPlanned s r result }
     {
         let Some(unit) = self.ftl.unit(lun) else {
@@ -202,10 +202,10 @@ impl Device {
     ) -> Result<Plan, Status>
         ensures planned { IfOk result (λ todo. IsTakenCdb cdb.now → todo ≡ plan_of unit lun expected cdb.now) }
         ensures passed { IsOk result → (s : State) (r : Request) → IsLayer self.now.ftl s.translation →
-            IsBare s self.now.is_permanent → unit_numbers_of s r ≡ Some unit → r.flags ≡ flags → r.expected ≡ expected →
+            IsBare s self.now.settings.is_permanent → unit_numbers_of s r ≡ Some unit → r.flags ≡ flags → r.expected ≡ expected →
             IsTakenCdb cdb.now → first_line (lines_for s r cdb.now) ≡ None }
         ensures refused { IfErr result (λ told. (s : State) (r : Request) → IsLayer self.now.ftl s.translation →
-            IsBare s self.now.is_permanent → unit_numbers_of s r ≡ Some unit → r.flags ≡ flags → r.expected ≡ expected →
+            IsBare s self.now.settings.is_permanent → unit_numbers_of s r ≡ Some unit → r.flags ≡ flags → r.expected ≡ expected →
             IsTakenCdb cdb.now → first_line (lines_for s r cdb.now) ≡ Some (status_kept told)) }
     {
         match self.refusal(unit, flags, expected, cdb) {
@@ -217,7 +217,7 @@ impl Device {
     /// Why a command of the unit that is taken is refused, if it is.
     fn refusal(&self, unit: UnitSpec, flags: u8, expected: u32, cdb: &Cdb) -> Option<Status>
         ensures what { (s : State) (r : Request) → IsLayer self.now.ftl s.translation →
-            IsBare s self.now.is_permanent → unit_numbers_of s r ≡ Some unit → r.flags ≡ flags → r.expected ≡ expected →
+            IsBare s self.now.settings.is_permanent → unit_numbers_of s r ≡ Some unit → r.flags ≡ flags → r.expected ≡ expected →
             IsTakenCdb cdb.now → first_line (lines_for s r cdb.now) ≡ option_map status_kept result }
         ensures few { result ≡ None → blocks_of cdb.now ≤ greatest_command }
     {
@@ -261,10 +261,10 @@ impl Device {
     /// Whether the command writes to a protected unit or a locked device, or flushes a locked device
     /// with something pending.
     fn is_refused_write(&self, unit: UnitSpec, cdb: &Cdb) -> bool
-        ensures { (s : State) → IsLayer self.now.ftl s.translation → IsBare s self.now.is_permanent →
+        ensures { (s : State) → IsLayer self.now.ftl s.translation → IsBare s self.now.settings.is_permanent →
             IsTakenCdb cdb.now → result ≡ is_refused_write s (Some unit) cdb.now }
     {
-        let is_protected = unit.protect == 2 && self.is_permanent;
+        let is_protected = unit.protect == 2 && self.settings.is_permanent;
         let is_locked = self.ftl.is_locked();
         (writes(cdb) && (is_protected || is_locked))
             || (flushes(cdb) && is_locked && self.ftl.has_pending())

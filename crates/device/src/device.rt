@@ -22,6 +22,7 @@ use geometry::Config;
 use nand_model::Die;
 use page_tag::{UnsealedJob, tag_read};
 use recovery::{Found, scan};
+use settings::Settings;
 use std::alloc::{AllocError, Global};
 use std::marker::Model;
 use task_set::TaskSet;
@@ -32,9 +33,8 @@ use ufs_spec::{Block, Job, OpenFault, Outcome, Tag};
 pub struct Device {
     /// The translation layer, which keeps for each READ what its blocks were when the COMMAND came.
     pub(crate) ftl: Ftl,
-    /// Whether the units that are protected for ever are so from now on, as the settings say that were
-    /// found. No command changes it yet.
-    pub(crate) is_permanent: bool,
+    /// The settings that were found, with the RPMB key and the write counter. No command changes them yet.
+    pub(crate) settings: Settings,
     /// The tasks that are open, the exchanges of one reply, and the blocks that dies read for the tasks.
     pub(crate) set: TaskSet,
 }
@@ -84,23 +84,23 @@ impl Device {
         ensures memory { IfErr result (λ e. e ≡ OpenFault.NoMemory) }
     {
         config.has_no_fault();
-        let is_permanent = found.is_permanent;
+        let settings = found.settings;
         let Ok(ftl) = Ftl::new(alloc, config, found) else {
             return Err(OpenFault::NoMemory);
         };
-        match Device::idle(alloc, ftl, is_permanent) {
+        match Device::idle(alloc, ftl, settings) {
             Ok(device) => Ok(device),
             Err(_) => Err(OpenFault::NoMemory),
         }
     }
 
-    /// A device over this layer, with no task open.
-    fn idle(alloc: Global, ftl: Ftl, is_permanent: bool) -> Result<Device, AllocError>
-        ensures { IfOk result (λ d. d ≡ idle_device ftl is_permanent) }
+    /// A device over this layer, with these settings and no task open.
+    fn idle(alloc: Global, ftl: Ftl, settings: Settings) -> Result<Device, AllocError>
+        ensures { IfOk result (λ d. d ≡ idle_device ftl settings) }
     {
         Ok(Device {
             ftl,
-            is_permanent,
+            settings,
             set: TaskSet::new(alloc)?,
         })
     }

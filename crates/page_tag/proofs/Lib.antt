@@ -1,5 +1,4 @@
 pub mod Filled
 pub mod MarkRead
 pub mod Sealed
-pub mod SettingsRead
 pub mod Told

@@ -5,7 +5,7 @@ ghost use Rattle.ufs_spec.specs.Cells.{IsCell};
 use crate::facts::bytes_are_a_block;
 use crate::mark_read::mark_in;
 use crate::page::open;
-use crate::settings::is_settings_body;
+use settings::is_settings_page;
 use ufs_spec::{Block, Fence, Numbers, Opened, Page, Tag};
 
 /// What a mark says: its number among marks, the frontier that it records, its fence, if it has
@@ -45,7 +45,7 @@ pub fn content_of(page: &Page) -> Content
             None => Content::Nothing,
         };
     }
-    if opened.tag.kind == Tag::SETTINGS && !is_settings_body(&opened.body) {
+    if opened.tag.kind == Tag::SETTINGS && !is_settings_page(&opened.body) {
         return Content::Nothing;
     }
     Content::Group(opened)

@@ -1,5 +1,5 @@
 -- What a scan finds on dies, in the words of its contract, clause by clause.
-use Rattle.std.specs.Prelude.{◌≡◌, ◌==◌, ◌+◌, ℕ, suc, IfErr, IfOk, List, Result, length, slice_index}
+use Rattle.std.specs.Prelude.{◌≡◌, ◌+◌, ℕ, suc, IfErr, IfOk, List, Result, length}
 use Rattle.std.specs.List.{All}
 use Rattle.ufs_spec.specs.Cells.{AreWithin, Cells, Shows}
 use Rattle.ufs_spec.specs.Dies.{DieState, IsOfSize}
@@ -10,6 +10,7 @@ use Rattle.ufs_spec.specs.Plain.{Plain}
 use Rattle.ufs_spec.specs.Sound.{CellsSound, Sound}
 use Rattle.ufs_spec.specs.declared.configs.Numbers.{Numbers}
 use Rattle.ufs_spec.specs.declared.faults.OpenFault.{OpenFault}
+use Rattle.settings.specs.Told.{settings_in}
 use Rattle.recovery.specs.Found.{IsFound, IsScanFault, newest_found}
 use Rattle.recovery.specs.Reading.{IsFaultOf, IsTable, IsTableOf, NoLower, ShowsDies}
 use Rattle.recovery.specs.Stood.{IsStoodFor}
@@ -24,8 +25,8 @@ IsTableOver n dies t = (c : Cells) → Shows (array_of dies) c → IsTable n c t
 pub record IsFoundOn (n : Numbers) (dies : List DieState) (f : Found) : Type 0 where
   pub found : (c : Cells) → Shows (array_of dies) c → IsFound n c (bad_of dies) f
   pub stands : Sound (array_of dies) → (p : Plain) × IsStoodFor n (array_of dies) f p
-  pub permanent : (c : Cells) → Shows (array_of dies) c → CellsSound c (newest_found f) → (x : List ℕ) →
-      Holds c (newest_found f) (suc f.kept) settings_key x → f.is_permanent ≡ (slice_index x 1 == 1)
+  pub settings : (c : Cells) → Shows (array_of dies) c → CellsSound c (newest_found f) → (x : List ℕ) →
+      Holds c (newest_found f) (suc f.kept) settings_key x → f.settings ≡ settings_in x
 
 -- why the scan of the dies was refused
 abbrev pub IsFaultOn : Numbers → List DieState → List ℕ → List ℕ → OpenFault → Type 0

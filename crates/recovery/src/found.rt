@@ -1,5 +1,5 @@
 //! What the dies stand for when a device is opened over them.
-ghost use Rattle.std.specs.Prelude.{◌≡◌, ◌≤◌, ◌^◌, ◌↔◌, ◌==◌, ℕ, suc, Bool, List, Some, IfErr, IfOk, IsTrue, length, map, option_map, slice_get, slice_index};
+ghost use Rattle.std.specs.Prelude.{◌≡◌, ◌≤◌, ◌^◌, ◌↔◌, ◌==◌, ℕ, suc, Bool, List, Some, IfErr, IfOk, IsTrue, length, map, option_map, slice_get};
 ghost use Rattle.ufs_spec.specs.Pages.{greatest_number};
 ghost use Rattle.ufs_spec.specs.Cells as cells;
 ghost use Rattle.ufs_spec.specs.Cells.{AreWithin, Cells, Shows};
@@ -10,6 +10,7 @@ ghost use Rattle.ufs_spec.specs.Lives.{Fit, array_of, bad_of};
 ghost use Rattle.ufs_spec.specs.Plain.{Plain};
 ghost use Rattle.ufs_spec.specs.Sound.{CellsSound, CellsSuit, Sound};
 ghost use Rattle.ufs_spec.specs.Translation.{spots};
+ghost use Rattle.settings.specs.Told.{settings_in};
 ghost use Rattle.page_tag.specs.Contents.{mark_of};
 ghost use Rattle.recovery.specs.Found.{IsFound, IsScanFault, newest_found};
 ghost use Rattle.recovery.specs.Scanned.{IsFaultOn, IsFoundOn, IsTableOver};
@@ -25,10 +26,11 @@ use crate::keys::{FoundBlock, are_known, block_states, content_pages, lost_keys}
 use crate::outside::outside_pages;
 use crate::pages::FoundPage;
 use crate::reading::{Table, read_all};
-use crate::settings::is_permanent;
+use crate::settings_found::found_settings;
 use geometry::Config;
 use nand_model::Die;
 use page_tag::Mark;
+use settings::Settings;
 use std::alloc::{AllocError, Global};
 use ufs_spec::{Fence, Key, Numbers, OpenFault};
 
@@ -49,8 +51,8 @@ pub struct Found {
     pub lost: Vec<Key>,
     /// For each block of each die, in order, what it is.
     pub blocks: Vec<FoundBlock>,
-    /// Whether the settings say that write protection is permanent.
-    pub is_permanent: bool,
+    /// The settings, with the RPMB key and the write counter; those of a new device if no page has them.
+    pub settings: Settings,
 }
 
 /// Reads all pages of the dies, bad blocks too, each once, then again the page that has the settings'
@@ -71,10 +73,10 @@ pub fn scan<D: Die>(alloc: Global, dies: &mut [D], config: &Config) -> Result<Fo
     // for, and they stand for no other.
     ensures stands { IfOk result (λ f. Sound (array_of (map D.state dies.old)) →
         (p : Plain) × IsStoodFor config.now (array_of (map D.state dies.old)) f p) }
-    // Over sound pages it tells what the settings say.
-    ensures permanent { IfOk result (λ f. (c : Cells) → Shows (array_of (map D.state dies.old)) c →
+    // Over sound pages its settings are those that the content of their key says.
+    ensures settings { IfOk result (λ f. (c : Cells) → Shows (array_of (map D.state dies.old)) c →
         CellsSound c (newest_found f) → (x : List ℕ) →
-        Holds c (newest_found f) (suc f.kept) settings_key x → f.is_permanent ≡ (slice_index x 1 == 1)) }
+        Holds c (newest_found f) (suc f.kept) settings_key x → f.settings ≡ settings_in x) }
     ensures fault { IfErr result (λ e. (c : Cells) → Shows (array_of (map D.state dies.old)) c →
         IsScanFault config.now c (map D.failed dies.old) (map D.failed dies.new) e) }
 {
@@ -114,8 +116,8 @@ pub(crate) fn found_over<D: Die>(
     let Ok(mut found) = found_in(alloc, table, bad.as_slice(), numbers) else {
         return Err(OpenFault::NoMemory);
     };
-    match is_permanent(dies, numbers, &found) {
-        Ok(is_permanent) => found.is_permanent = is_permanent,
+    match found_settings(dies, numbers, &found) {
+        Ok(settings) => found.settings = settings,
         Err(fault) => return Err(fault),
     }
     Ok(found)
@@ -183,6 +185,6 @@ fn found_in(
         contents,
         lost,
         blocks,
-        is_permanent: false,
+        settings: Settings::new(),
     })
 }

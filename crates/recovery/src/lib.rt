@@ -9,7 +9,7 @@ mod keys;
 mod outside;
 mod pages;
 mod reading;
-mod settings;
+mod settings_found;
 mod sizes;
 mod workers;
 

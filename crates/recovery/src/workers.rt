@@ -1,5 +1,5 @@
 //! A scan by several threads.
-ghost use Rattle.std.specs.Prelude.{◌≡◌, ◌⊎◌, ◌==◌, ℕ, suc, List, Ok, Err, IfErr, IfOk, map, slice_index};
+ghost use Rattle.std.specs.Prelude.{◌≡◌, ◌⊎◌, ℕ, suc, List, Ok, Err, IfErr, IfOk, map};
 ghost use Rattle.std.specs.Thread.{IsSend, IsSync};
 ghost use Rattle.ufs_spec.specs.Cells.{Cells, Shows};
 ghost use Rattle.ufs_spec.specs.Keys.{settings_key};
@@ -7,6 +7,7 @@ ghost use Rattle.ufs_spec.specs.Kept.{Holds};
 ghost use Rattle.ufs_spec.specs.Lives.{Fit, array_of, bad_of};
 ghost use Rattle.ufs_spec.specs.Plain.{Plain};
 ghost use Rattle.ufs_spec.specs.Sound.{CellsSound, Sound};
+ghost use Rattle.settings.specs.Told.{settings_in};
 ghost use Rattle.recovery.specs.Found.{IsFound, IsScanFault, newest_found};
 ghost use Rattle.recovery.specs.Reading.{IsJoined};
 ghost use Rattle.recovery.specs.Scanned.{CanRead, HasRead};
@@ -44,10 +45,10 @@ pub fn scan_parallel<R: Threads + Sync, D: Die + Send>(
     // for, and they stand for no other.
     ensures stands { IfOk result (λ f. Sound (array_of (map D.state dies.old)) →
         (p : Plain) × IsStoodFor config.now (array_of (map D.state dies.old)) f p) }
-    // Over sound pages it tells what the settings say.
-    ensures permanent { IfOk result (λ f. (c : Cells) → Shows (array_of (map D.state dies.old)) c →
+    // Over sound pages its settings are those that the content of their key says.
+    ensures settings { IfOk result (λ f. (c : Cells) → Shows (array_of (map D.state dies.old)) c →
         CellsSound c (newest_found f) → (x : List ℕ) →
-        Holds c (newest_found f) (suc f.kept) settings_key x → f.is_permanent ≡ (slice_index x 1 == 1)) }
+        Holds c (newest_found f) (suc f.kept) settings_key x → f.settings ≡ settings_in x) }
     ensures fault { IfErr result (λ e. (c : Cells) → Shows (array_of (map D.state dies.old)) c →
         IsScanFault config.now c (map D.failed dies.old) (map D.failed dies.new) e) }
 {

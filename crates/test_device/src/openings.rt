@@ -47,7 +47,7 @@ fn are_same(one: &Found, other: &Found) -> bool {
         && one.contents.as_slice() == other.contents.as_slice()
         && one.lost.as_slice() == other.lost.as_slice()
         && one.blocks.as_slice() == other.blocks.as_slice()
-        && one.is_permanent == other.is_permanent
+        && one.settings == other.settings
 }
 
 /// What dies that fit stand for, read by the caller alone.

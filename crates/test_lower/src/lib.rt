@@ -29,6 +29,8 @@ mod scans;
 #[cfg(test)]
 mod scans_by_workers;
 #[cfg(test)]
+mod settings_pages;
+#[cfg(test)]
 mod unit_rows;
 #[cfg(test)]
 mod victims;

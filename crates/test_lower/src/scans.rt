@@ -12,7 +12,7 @@ use recovery::{Found, FoundBlock, fit, scan};
 use std::alloc::Global;
 use std::process::Abort;
 use std::test::Fail;
-use ufs_spec::{Fence, Job, OpenFault, Page, Place, Tag, UnitSpec};
+use ufs_spec::{Block, Fence, Job, OpenFault, Page, Place, Tag, UnitSpec};
 use workbench::row_config;
 
 /// New dies hold nothing. A block that is bad is told bad, and no other is.
@@ -191,13 +191,13 @@ fn settings_tell_permanent_protection(rt: HostRuntime) -> Result<(), Fail> {
     let config = row_config()?;
     let mut dies = row_dies(rt.alloc())?;
     let found = scanned(&rt, rt.alloc(), &config, dies.as_mut_slice())?;
-    assert!(rt; !found.is_permanent);
+    assert!(rt; !found.settings.is_permanent);
     put(&rt, dies.as_mut_slice(), at(1, 0, 0), &settings(1, true));
     let found = scanned(&rt, rt.alloc(), &config, dies.as_mut_slice())?;
-    assert!(rt; found.is_permanent && lies_at(&found, 416, at(1, 0, 0)));
+    assert!(rt; found.settings.is_permanent && lies_at(&found, 416, at(1, 0, 0)));
     put(&rt, dies.as_mut_slice(), at(1, 0, 1), &settings(2, false));
     let found = scanned(&rt, rt.alloc(), &config, dies.as_mut_slice())?;
-    assert!(rt; !found.is_permanent && lies_at(&found, 416, at(1, 0, 1)));
+    assert!(rt; !found.settings.is_permanent && lies_at(&found, 416, at(1, 0, 1)));
     Ok(())
 }
 
@@ -235,6 +235,15 @@ pub(crate) fn data(address: u32, number: u64, part: (u16, u16)) -> Page
 pub(crate) fn settings(number: u64, is_permanent: bool) -> Page
     requires { (1 ≤ number) × (number ≤ 2 ^ 62) }
 {
+    let mut body = [0; 4096];
+    body[1] = u8::from(is_permanent);
+    sealed_settings(number, &body)
+}
+
+/// A page of the settings, with its group's number and these data.
+pub(crate) fn sealed_settings(number: u64, body: &Block) -> Page
+    requires { (1 ≤ number) × (number ≤ 2 ^ 62) }
+{
     let tag = Tag {
         kind: Tag::SETTINGS,
         unit: 0,
@@ -244,9 +253,7 @@ pub(crate) fn settings(number: u64, is_permanent: bool) -> Page
         size: 1,
         frontier: 0,
     };
-    let mut body = [0u8; 4096];
-    body[1] = u8::from(is_permanent);
-    seal(&tag, &body)
+    seal(&tag, body)
 }
 
 /// A mark with its number and what it records.
@@ -275,7 +282,7 @@ pub(crate) fn put(rt: &impl Abort, dies: &mut [MemDie], place: Place, page: &Pag
 }
 
 /// What the dies stand for. They have to fit the configuration.
-fn scanned<D: Die>(
+pub(crate) fn scanned<D: Die>(
     rt: &impl Abort,
     alloc: Global,
     config: &Config,

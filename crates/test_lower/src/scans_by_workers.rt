@@ -21,7 +21,7 @@ fn any_number_of_workers_finds_the_same(rt: HostRuntime) -> Result<(), Fail> {
     let Ok(found) = scan(rt.alloc(), dies.as_mut_slice(), &config) else {
         panic!(rt; "the scan was refused")
     };
-    assert!(rt; found.kept == 5 && found.is_permanent && found.lost.len() == 1);
+    assert!(rt; found.kept == 5 && found.settings.is_permanent && found.lost.len() == 1);
     for workers in [0usize, 1, 2, 3, 4, 8] {
         let Ok(other) = by_workers(&rt, rt.alloc(), &config, workers, dies.as_mut_slice()) else {
             panic!(rt; "the scan by workers was refused")
@@ -71,7 +71,7 @@ fn are_same(one: &Found, other: &Found) -> bool {
         && one.contents.as_slice() == other.contents.as_slice()
         && one.lost.as_slice() == other.lost.as_slice()
         && one.blocks.as_slice() == other.blocks.as_slice()
-        && one.is_permanent == other.is_permanent
+        && one.settings == other.settings
 }
 
 /// The number of the newest mark; 0 without one.

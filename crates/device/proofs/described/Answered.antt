@@ -210,7 +210,7 @@ locked_fit s (y ∷ us) (suc k) b at fits = locked_fit s us k b at fits.1
 keeps_locked : (e : DeviceCore) (s : State) → IsTied (with_lock s) → Keeps e s →
     Keeps (record e { tasks = map (task_after (event.Locked s.translation.ledger.frontier)) e.tasks }) (with_lock s)
 keeps_locked e s tied k = record {
-  permanent = k.permanent;
+  settings = k.settings;
   layer_kept = k.layer_kept;
   few = subst (λ n. n ≤ most_tasks) (sym (length-map s.tasks (task_locked s))) k.few;
   tasks =

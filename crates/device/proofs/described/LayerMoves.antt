@@ -32,7 +32,7 @@ pub layer_moves : (d : DeviceCore) (after : Core) (s : State) (array : Array) (u
     layer_kept.Describes after u → AreClaimed after (claims_of s.tasks) → Leaves s.translation u →
     Keeps (record d { ftl = after }) (record s { array = array; translation = u })
 layer_moves d after s array u k layer claims leaves = record {
-  permanent = k.permanent;
+  settings = k.settings;
   layer_kept = layer;
   few = k.few;
   tasks = subst (λ n. TasksKept n d.tasks s.tasks) (sym leaves.before) k.tasks;
@@ -125,7 +125,7 @@ pub unmended_moves : (d : DeviceCore) (after : Core) (s : State) (u : Translatio
     layer_kept.Describes after u → AreClaimed after (claims_of s.tasks) → Repairs s.translation u →
     Keeps (record d { ftl = after }) (record s { translation = u })
 unmended_moves d after s u k tied layer claims repairs = record {
-  permanent = k.permanent;
+  settings = k.settings;
   layer_kept = layer;
   few = k.few;
   tasks = kept_else (numbers_of s) (length s.accepted) (before_accepted s.translation.ledger) (before_accepted u.ledger)

@@ -1,7 +1,6 @@
 -- A device over dies whose pages are sound is the one that the definitions open over them.
-use Rattle.ufs_spec.specs.Plain.{region_of}
-use Rattle.std.proofs.Common.{◌≡◌, ◌∙◌, ℕ, suc, ◌≤◌, ◌==◌, Bool, List, [], ap, arith, subst}
-use Rattle.std.specs.Prelude.{IfOk, Result, slice_index}
+use Rattle.std.proofs.Common.{◌≡◌, ◌∙◌, suc, ◌≤◌, Bool, List, [], ap, arith, subst}
+use Rattle.std.specs.Prelude.{IfOk, Result}
 use Rattle.std.proofs.lemmas.Result.{IfOk-weaker}
 use Rattle.ufs_spec.specs.Cells.{AreWithin, Array, Cells, Shows}
 use Rattle.ufs_spec.specs.Configs.{IsConfig}
@@ -17,18 +16,20 @@ use Rattle.ufs_spec.specs.Translation.{Translation}
 use Rattle.ufs_spec.specs.declared.configs.Numbers.{Numbers}
 use Rattle.ufs_laws.proofs.array_cells.StandsForOne.{cells_one, kept_one, mark_one}
 use Rattle.ufs_laws.proofs.pages.PageIsOneCell.{one_cell}
-use Rattle.ufs_laws.proofs.pages.SettingsBodies.{permanent_back}
+use Rattle.ufs_laws.proofs.plain_contents.CommandsKeepPlain.{settings_ranges}
 use Rattle.power_loss.specs.Book.{CellsRight}
 use Rattle.power_loss.specs.Exchange.{IsArrayOf}
 use Rattle.power_loss.proofs.die_pages.BlankOutsideDies.{fit_inside}
 use Rattle.power_loss.proofs.openings.OpenedFromPages.{cells_right, cells_within}
 use Rattle.power_loss.proofs.stops.SealedCells.{ranges_of}
+use Rattle.settings.specs.Told.{settings_in, settings_now}
+use Rattle.settings.proofs.SettingsRead.{said_again}
 use Rattle.recovery.specs.Found.{IsFound, newest_found}
 use Rattle.recovery.specs.declared.found.Found.{Found}
 use Rattle.ftl_core.specs.Public.{AreClaimed, Core, Describes as IsLayer}
 use Rattle.device.specs.Describes.{Describes}
 use Rattle.device.specs.Kept.{DeviceCore, idle_device}
-use Rattle.device.specs.Opened.{OpensOver, TellsPermanent}
+use Rattle.device.specs.Opened.{OpensOver, TellsSettings}
 use Rattle.device.proofs.die_calls.CallsRight.{opens_right}
 
 -- what is found suits the configuration
@@ -51,7 +52,7 @@ OpensLayer n f layer =
 
 module _ (n : Numbers) (array : Array) (bad : Spot → Bool) (s : State) (f : Found) (layer : Core) (config : IsConfig n)
     (inside : IsArrayOf n array) (sound : Sound array) (opened : IsOpened n array bad s)
-    (found : (c : Cells) → Shows array c → IsFound n c bad f) (told : (c : Cells) → Shows array c → TellsPermanent c f)
+    (found : (c : Cells) → Shows array c → IsFound n c bad f) (told : (c : Cells) → Shows array c → TellsSettings c f)
     (opens : OpensLayer n f layer) (none : AreClaimed layer (λ tag. [])) where
   found_here : IsFound n opened.cells bad f
   found_here = found opened.cells opened.shown
@@ -85,12 +86,12 @@ module _ (n : Numbers) (array : Array) (bad : Spot → Bool) (s : State) (f : Fo
       (subst (λ k. Holds opened.cells s.translation.ledger.newest (suc k) settings_key
       (s.translation.ledger.base settings_key)) same_kept (opened.translation.ledger.holds settings_key IsSettings))
 
-  permanent_is : f.is_permanent ≡ s.base.permanent
-  permanent_is =
+  settings_are : f.settings ≡ settings_now s.base
+  settings_are =
       told opened.cells opened.shown (subst (CellsSound opened.cells) same_newest sound_here)
       (s.translation.ledger.base settings_key) held
-      ∙ (ap (λ body. slice_index body 1 == 1) (opened.contents settings_key IsSettings)
-      ∙ permanent_back s.base.boot s.base.permanent (region_of s.base 0).key (region_of s.base 0).counter)
+      ∙ (ap settings_in (opened.contents settings_key IsSettings)
+      ∙ said_again (settings_now s.base) (settings_ranges s.base opened.stands.2.plain))
 
   layer_is : IsLayer layer s.translation
   layer_is =
@@ -98,8 +99,8 @@ module _ (n : Numbers) (array : Array) (bad : Spot → Bool) (s : State) (f : Fo
       opens opened.cells bad s.translation (omega arith) (cells_right array opened.shown)
       (cells_within opened.cells inside opened.shown) sound_here found_here opened.translation
 
-  pub device_opens : Describes (idle_device layer f.is_permanent) s
-  device_opens = opens_right n array bad s layer f.is_permanent config inside sound opened layer_is none permanent_is
+  pub device_opens : Describes (idle_device layer f.settings) s
+  device_opens = opens_right n array bad s layer f.settings config inside sound opened layer_is none settings_are
 
 -- Over dies
 
@@ -107,13 +108,13 @@ module _ (n : Numbers) (array : Array) (bad : Spot → Bool) (s : State) (f : Fo
 -- the configuration
 module _ (n : Numbers) (dies : List DieState) (fit : Fit n dies) (f : Found)
     (found : (c : Cells) → Shows (array_of dies) c → IsFound n c (bad_of dies) f)
-    (told : (c : Cells) → Shows (array_of dies) c → TellsPermanent c f) {E : Type 0} (r : Result DeviceCore E)
+    (told : (c : Cells) → Shows (array_of dies) c → TellsSettings c f) {E : Type 0} (r : Result DeviceCore E)
     (opens : IfOk r (OpensOver n f)) where
   pub opened_described : IfOk r (λ d. (s : State) → Sound (array_of dies) →
       IsOpened n (array_of dies) (bad_of dies) s → Describes d s)
   opened_described = IfOk-weaker r _ _
       (λ d makes s. makes (array_of dies) (bad_of dies) s
-      (record { inside = fit_inside n dies fit; found = found; permanent = told }))
+      (record { inside = fit_inside n dies fit; found = found; settings = told }))
       opens
 
   pub opened_suits : IfOk r (λ d. Sound (array_of dies) → Suits n (array_of dies))

@@ -25,6 +25,8 @@ use Rattle.ufs_laws.proofs.array_cells.CrashedCells.{cell_crash}
 use Rattle.power_loss.specs.Exchange.{IsArrayOf, IsTied}
 use Rattle.power_loss.proofs.jobs_owed.ProgramsAndErases.{program_owed}
 use Rattle.power_loss.proofs.openings.OpenedStates.{opened_state as opened_valid}
+use Rattle.settings.specs.Told.{settings_now}
+use Rattle.settings.specs.declared.page.Settings.{Settings}
 use Rattle.ftl_core.specs.Public as layer_kept
 use Rattle.ftl_core.specs.Public.{AreClaimed, Core}
 use Rattle.device.specs.Describes.{Describes, IsAnswered, IsGiven, TasksKept, IsTold, Keeps, claims_of}
@@ -146,17 +148,17 @@ turns_right d s due after h is layer claims =
 
 -- A device that is opened
 
-pub opens_right : (n : Numbers) (array : Array) (bad : Spot → Bool) (s : State) (layer : Core) (permanent : Bool) →
+pub opens_right : (n : Numbers) (array : Array) (bad : Spot → Bool) (s : State) (layer : Core) (settings : Settings) →
     IsConfig n → IsArrayOf n array → Sound array → IsOpened n array bad s → layer_kept.Describes layer s.translation →
-    AreClaimed layer (λ tag. []) → permanent ≡ s.base.permanent → Describes (idle_device layer permanent) s
-opens_right n array bad s layer permanent config inside sound opened kept none same =
+    AreClaimed layer (λ tag. []) → settings ≡ settings_now s.base → Describes (idle_device layer settings) s
+opens_right n array bad s layer settings config inside sound opened kept none same =
     let t = s.translation in
     record {
       tied = (opened_valid n array bad s config inside sound opened).tied;
       shows = opened_shows n array bad s opened;
       kept = record {
-        permanent = same
-            ∙ sym (ap (λ (commands : List Command). (after_all s.base commands).permanent) opened.none_accepted);
+        settings = same
+            ∙ sym (ap (λ (commands : List Command). settings_now (after_all s.base commands)) opened.none_accepted);
         layer_kept = kept;
         few = subst (λ us. length us ≤ most_tasks) (sym opened.no_tasks) (omega arith);
         tasks = subst (TasksKept (before_accepted t.ledger) []) (sym opened.no_tasks) tt;

@@ -154,7 +154,7 @@ module _ (d : DeviceCore) (s : State) (die tag index : ℕ) (place : Place) (aft
       TasksKept before ts (map (task_read tag index state) s.tasks) →
       Keeps (record d { ftl = after; tasks = ts }) (read_state s tag index state s.array (over ending))
   keeps_then state ending ts ends are same_before layer tasks = record {
-    permanent = h.kept.permanent;
+    settings = h.kept.settings;
     layer_kept = layer;
     few = few state;
     tasks = subst (λ n. TasksKept n ts (map (task_read tag index state) s.tasks)) (sym same_before) tasks;

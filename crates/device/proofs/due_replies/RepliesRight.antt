@@ -137,7 +137,7 @@ shorts_right d s r rs h is =
     h.tied.tasks.shorts_differ))))
     (record {
       keeps = record {
-        permanent = h.kept.permanent;
+        settings = h.kept.settings;
         layer_kept = h.kept.layer_kept;
         few = h.kept.few;
         tasks = h.kept.tasks;

@@ -134,7 +134,7 @@ module _ (d : DeviceCore) (s : State) (k : ℕ) (a : OpenTask) (b : exchange.Tas
       Keeps (with_layer after (without_task d k)) (task_goes_on (record s { translation = u }) b None))
       o.kept.tag
       (λ its. record {
-        permanent = h.kept.permanent;
+        settings = h.kept.settings;
         layer_kept = its;
         few = few_gone;
         tasks = one_gone (before_accepted s.translation.ledger) k d.tasks s.tasks b h.kept.tasks
@@ -169,7 +169,7 @@ module _ (d : DeviceCore) (s : State) (k : ℕ) (a : OpenTask) (b : exchange.Tas
       IsBehind (with_layer after (with_event d k e)) (set_deed s b.tag deed)
   does_now after e p deed is doing stays same told layer claims = record {
     keeps = record {
-      permanent = h.kept.permanent;
+      settings = h.kept.settings;
       layer_kept = layer;
       few = few_set deed;
       tasks = happened_to e p deed is doing (stays ∙ (o.kept.read ∙ same.read));
@@ -201,7 +201,7 @@ module _ (d : DeviceCore) (s : State) (k : ℕ) (a : OpenTask) (b : exchange.Tas
       o.kept.tag
       (λ its. record {
         keeps = record {
-          permanent = h.kept.permanent;
+          settings = h.kept.settings;
           layer_kept = its;
           few = few_set deed;
           tasks = happened_to event.BlockSent (phase.SendBlocks x) deed is doing (sym read);

@@ -39,7 +39,7 @@ use Rattle.device.specs.Kept.{DeviceCore, IsLayerWith}
 use Rattle.task_set.specs.Lists.{task_happened}
 use Rattle.task_set.specs.Tasks.{asked_next, block_after, group_done, phase_after}
 use Rattle.device.proofs.due_replies.ReplyMoves.{few_set, happened_to}
-use Rattle.device.proofs.host_messages.GroupOfBlocks.{group_written, permanent_still}
+use Rattle.device.proofs.host_messages.GroupOfBlocks.{group_written, settings_still}
 use Rattle.device.proofs.host_messages.NumbersAwaited.{number_awaited}
 use Rattle.device.proofs.host_messages.SlotsFilled.{all_came, next_filled}
 use Rattle.device.proofs.open_tasks.KeptByTag.{WantedForAll, claimed_last, claimed_own, claims_set, deed_changed}
@@ -163,7 +163,7 @@ module _ (d : DeviceCore) (s : State) (tag : ℕ) (bytes : List ℕ) (x : Transf
       Keeps (core_with after event.BlockGathered) (set_deed s r.b.tag (Gathering purpose all false))
   more_keeps after layer more =
       record {
-        permanent = h.kept.permanent;
+        settings = h.kept.settings;
         layer_kept = layer.0;
         few = few_set d s r.k r.a r.b h r.opened (Gathering purpose all false);
         tasks =
@@ -249,7 +249,7 @@ module _ (d : DeviceCore) (s : State) (tag : ℕ) (bytes : List ℕ) (x : Transf
         (set_deed (with_moves s (Release x.blocks ∷ [])) r.b.tag (Answering exchange.write_error r.b.length))
     refused_keeps after layer claims =
         record {
-          permanent = h.kept.permanent;
+          settings = h.kept.settings;
           layer_kept = subst (λ n. layer_kept.Describes after (moved s.translation (Release n))) count layer;
           few = few_set d s r.k r.a r.b h r.opened (Answering exchange.write_error r.b.length);
           tasks =
@@ -277,7 +277,7 @@ module _ (d : DeviceCore) (s : State) (tag : ℕ) (bytes : List ℕ) (x : Transf
         (set_deed (accepts s written x.blocks) r.b.tag (write_deed x.forced (length s.accepted + 1) r.b.length))
     accepted_keeps after layer claims =
         record {
-          permanent = h.kept.permanent ∙ sym (permanent_still s.base s.accepted g.unit g.address bodies);
+          settings = h.kept.settings ∙ sym (settings_still s.base s.accepted g.unit g.address bodies);
           layer_kept = subst (λ (m : Move). layer_kept.Describes after (moved s.translation m)) (sym move_is) layer;
           few = few_set d s r.k r.a r.b h r.opened (write_deed x.forced (length s.accepted + 1) r.b.length);
           tasks =

@@ -22,7 +22,7 @@ pub short_more : (d : DeviceCore) (s : State) (r : kept.Short) → Describes d s
     IsBehind (with_short d r) (machine.with_short s (short_kept r))
 short_more d s r h = record {
   keeps = record {
-    permanent = h.kept.permanent;
+    settings = h.kept.settings;
     layer_kept = h.kept.layer_kept;
     few = h.kept.few;
     tasks = h.kept.tasks;

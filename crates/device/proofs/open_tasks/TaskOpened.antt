@@ -91,7 +91,7 @@ module _ (d : DeviceCore) (s : State) (r : Request) (h : Describes d s) (free : 
       TaskKept (before_accepted s.translation.ledger) a (opened r command n deed) →
       Keeps (with_task (record d { ftl = c }) a) (machine.with_task (record s { translation = u }) r command n deed)
   open_keeps c u command n deed a layer before begins claims task = record {
-    permanent = h.kept.permanent;
+    settings = h.kept.settings;
     layer_kept = layer;
     few = (let more = length-append s.tasks (b ∷ []) in omega arith);
     tasks = subst (λ m. TasksKept m (d.tasks ++ a ∷ []) (s.tasks ++ b ∷ [])) (sym before)

@@ -1,9 +1,8 @@
 -- The page that has the settings' content lies on the dies, and over sound pages its body is their content.
-use Rattle.std.proofs.Common.{◌≡◌, ◌∙◌, ◌==◌, ◌<◌, ◌+◌, ℕ, suc, Bool, false, List, Option, Some, None, ap, arith, inl}
+use Rattle.std.proofs.Common.{◌≡◌, ◌∙◌, ◌<◌, ◌+◌, ℕ, suc, Bool, List, Option, Some, None, ap, arith, inl}
 use Rattle.std.proofs.Common.{length, refl}
 use Rattle.std.proofs.Common.{subst, sym, ⊎_elim}
-use Rattle.std.proofs.lemmas.List.{get_or-replicate}
-use Rattle.std.specs.Prelude.{slice_get, slice_index, slice_index_or, sum}
+use Rattle.std.specs.Prelude.{slice_get, slice_index_or, sum}
 use Rattle.ufs_spec.specs.Cells.{Array, Cells, GroupPage, IsCell, Shows}
 use Rattle.ufs_spec.specs.Dies.{DieState, LiesOnDie, new_die}
 use Rattle.ufs_spec.specs.Disk.{Spot}
@@ -19,6 +18,8 @@ use Rattle.ufs_spec.specs.declared.flash.Tag.{Tag}
 use Rattle.ufs_spec.proofs.CellKinds.{page_not_nothing}
 use Rattle.ufs_laws.proofs.array_cells.StandsForOne.{content_one}
 use Rattle.ufs_laws.proofs.deciding.SearchOverPlaces.{is_place}
+use Rattle.settings.specs.Told.{settings_in}
+use Rattle.settings.specs.declared.page.Settings.{Settings}
 use Rattle.recovery.specs.Found.{HasSettings, IsFound, newest_found}
 use Rattle.geometry.specs.Keys.{AtSettings}
 use Rattle.recovery.specs.Listed.{IsContentPage, outside}
@@ -39,10 +40,10 @@ has_settings n c bad f found = record {
       (AtSettings refl refl refl refl);
 }
 
--- what was found stays so, whatever the settings say
-pub still_found : (n : Numbers) (c : Cells) (bad : Spot → Bool) (f : Found) (is : Bool) → IsFound n c bad f →
-    IsFound n c bad (record f { is_permanent = is })
-still_found n c bad f is found = record {
+-- what was found stays so, whatever its settings are
+pub still_found : (n : Numbers) (c : Cells) (bad : Spot → Bool) (f : Found) (s : Settings) → IsFound n c bad f →
+    IsFound n c bad (record f { settings = s })
+still_found n c bad f s found = record {
   basis = record {
     within = found.basis.within;
     newest = found.basis.newest;
@@ -60,15 +61,7 @@ still_found n c bad f is found = record {
   blocks = found.blocks;
 }
 
--- What the settings say
-
-abbrev pub says : List ℕ → Bool
-says body = slice_index body 1 == 1
-
--- zeros say nothing
-zeros_say : false ≡ says zero_block
-unfolding zero_block
-zeros_say = ap (λ (n : ℕ). n == 1) (sym (get_or-replicate 4096 1 0 0 (omega arith)))
+-- What the settings are
 
 -- a page's body is that of what stands there
 body_there : (array : Array) (c : Cells) (p : Place) (t : Tag) (body : List ℕ) → Shows array c →
@@ -129,23 +122,24 @@ module _ (n : Numbers) (bad : Spot → Bool) (dies : List DieState) (f : Found) 
       (is_place n e.place)
 
 -- the page says what the content says
-pub page_says : (n : Numbers) (bad : Spot → Bool) (array : Array) (f : Found) (e : FoundPage) (is : Bool) →
-    is ≡ says (array e.place).body → IsSettingsPage n bad array f (Some e) → (c : Cells) → Shows array c →
+pub page_says : (n : Numbers) (bad : Spot → Bool) (array : Array) (f : Found) (e : FoundPage) (s : Settings) →
+    s ≡ settings_in (array e.place).body → IsSettingsPage n bad array f (Some e) → (c : Cells) → Shows array c →
     CellsSound c (newest_found f) → (x : List ℕ) →
-    Holds c (newest_found f) (suc f.kept) settings_key x → is ≡ says x
-page_says n bad array f e is same page c shown sound x holds =
+    Holds c (newest_found f) (suc f.kept) settings_key x → s ≡ settings_in x
+page_says n bad array f e s same page c shown sound x holds =
     let h = page_for n c bad f (Some e) (page c shown) sound in
-    same ∙ ap says (body_there array c e.place e.tag h.0 shown h.1.counts.there
+    same ∙ ap settings_in (body_there array c e.place e.tag h.0 shown h.1.counts.there
     ∙ content_one c (newest_found f) (suc f.kept) settings_key h.0 x sound (inl (e.place, e.tag, h.1)) holds)
 
--- without a page the content is zeros
-pub none_says : (n : Numbers) (bad : Spot → Bool) (array : Array) (f : Found) → IsSettingsPage n bad array f None →
+-- without a page the content is zeros, and the settings are what zeros say
+pub none_says : (n : Numbers) (bad : Spot → Bool) (array : Array) (f : Found) (s : Settings) →
+    s ≡ settings_in zero_block → IsSettingsPage n bad array f None →
     (c : Cells) → Shows array c → CellsSound c (newest_found f) → (x : List ℕ) →
-    Holds c (newest_found f) (suc f.kept) settings_key x → false ≡ says x
-none_says n bad array f page c shown sound x holds = ⊎_elim
+    Holds c (newest_found f) (suc f.kept) settings_key x → s ≡ settings_in x
+none_says n bad array f s zeros page c shown sound x holds = ⊎_elim
     (λ (h : (p : Place) × (t : Tag) × IsNewest c (newest_found f) (suc f.kept) settings_key p t x).
     let l = page_for n c bad f None (page c shown) sound h.0 h.1 x h.2.counts h.2.key in
     let w = h.2.within in
     absurd (omega (arith, l, w)))
     (λ (h : HasNone c (newest_found f) (suc f.kept) settings_key × (x ≡ zero_block)).
-    zeros_say ∙ ap says (sym h.1)) holds
+    zeros ∙ ap settings_in (sym h.1)) holds

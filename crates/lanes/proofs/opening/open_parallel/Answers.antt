@@ -5,9 +5,9 @@ use Rattle.lanes.proofs.opening.open_parallel.Goals as goal
 pub returns-clause-described : goal.returns-clause-described
 returns-clause-described g c =
     opened_described c.args.config (map g.D.Die.state c.args.dies.now) c.requires.fit c.in_ok-found.found
-    c.in_ok-found.ensures.found c.in_ok-found.ensures.permanent c.from_found.result c.from_found.ensures.described
+    c.in_ok-found.ensures.found c.in_ok-found.ensures.settings c.from_found.result c.from_found.ensures.described
 
 pub returns-clause-suits : goal.returns-clause-suits
 returns-clause-suits g c =
     opened_suits c.args.config (map g.D.Die.state c.args.dies.now) c.requires.fit c.in_ok-found.found
-    c.in_ok-found.ensures.found c.in_ok-found.ensures.permanent c.from_found.result c.from_found.ensures.described
+    c.in_ok-found.ensures.found c.in_ok-found.ensures.settings c.from_found.result c.from_found.ensures.described

@@ -24,8 +24,8 @@ returns c =
     let group = is_group_page c.args.page.now c.in-Some.opened.tag c.in-Some.opened.body sealed.0 sealed.1
     c.bytes_are_a_block.ensures c.if-opened-eq-MARK.false in
     elim c.else-opened-eq-SETTINGS.branch [
-      | goal.else-opened-eq-SETTINGS-via-then-opened-eq-SETTINGS+else-not-is_settings_body w ↦
-          group (λ _. w.is_settings_body.ensures.0 w.if-not-is_settings_body.false)
+      | goal.else-opened-eq-SETTINGS-via-then-opened-eq-SETTINGS+else-not-is_settings_page w ↦
+          group (λ _. w.is_settings_page.ensures.0 w.if-not-is_settings_page.false)
       | goal.else-opened-eq-SETTINGS-via-else-opened-eq-SETTINGS w ↦
           group (λ kind. absurd (w.if-opened-eq-SETTINGS.false kind))
     ]

@@ -39,8 +39,8 @@ found_in-requires-clause-marks g c =
     records_fit c.numbers-numbers.result.now (array_of (map g.D.Die.state c.args.dies.now)) c.args.table
     over
 
-pub is_permanent-requires-clause-settings : goal.is_permanent-requires-clause-settings
-is_permanent-requires-clause-settings g c = λ cells now.
+pub found_settings-requires-clause-settings : goal.found_settings-requires-clause-settings
+found_settings-requires-clause-settings g c = λ cells now.
     let dies = map g.D.Die.state c.args.dies.now in
     let over = subst (λ n. IsTableOver n (map g.D.Die.state c.args.dies.now) c.args.table)
     (sym c.numbers-numbers.ensures.value) c.requires.read in
@@ -63,7 +63,7 @@ returns-clause-told g c =
     (sym c.numbers-numbers.ensures.value) c.requires.read in
     let table = over cells shown in
     let is = c.numbers-numbers.ensures.value in
-    still_found c.args.config.now cells (bad_of dies) c.in-Ok-found_in.found c.in-Ok-is_permanent.is_permanent
+    still_found c.args.config.now cells (bad_of dies) c.in-Ok-found_in.found c.in-Ok-found_settings.settings
     (subst (λ n. IsFound n cells (bad_of dies) c.in-Ok-found_in.found) is
     (c.in-Ok-found_in.ensures cells (bad_of dies) table (shown_in_range (array_of dies) cells shown)
     (subst (λ n. AreWithin n cells) (sym is) (shown_within c.args.config.now dies cells c.requires.fit shown))
@@ -77,5 +77,5 @@ returns-clause-told g c =
       stands =
           found_stands c.args.config.now (array_of dies) (bad_of dies) _
           (fit_inside c.args.config.now dies c.requires.fit) found;
-      permanent = c.in-Ok-is_permanent.ensures.told;
+      settings = c.in-Ok-found_settings.ensures.told;
     }

@@ -30,11 +30,11 @@ returns-in-Ok-clause-stands g c =
     (map g.D.Die.state c.read_all.new.dies) f c.in-Ok.ensures.same h).stands)
     c.found_over.ensures.told
 
-pub returns-in-Ok-clause-permanent : goal.returns-in-Ok-clause-permanent
-returns-in-Ok-clause-permanent g c =
+pub returns-in-Ok-clause-settings : goal.returns-in-Ok-clause-settings
+returns-in-Ok-clause-settings g c =
     IfOk-weaker c.found_over.result _ _
     (λ f h. (found_before c.args.config.now (map g.D.Die.state c.args.dies.now)
-    (map g.D.Die.state c.read_all.new.dies) f c.in-Ok.ensures.same h).permanent)
+    (map g.D.Die.state c.read_all.new.dies) f c.in-Ok.ensures.same h).settings)
     c.found_over.ensures.told
 
 pub returns-in-Ok-clause-fault : goal.returns-in-Ok-clause-fault

@@ -28,7 +28,7 @@ returns-then-is_locked c =
     subst
     (λ (d : DeviceCore). core_of (record {
       ftl = c.self.inside.ftl;
-      is_permanent = c.self.inside.is_permanent;
+      settings = c.self.inside.settings;
       set = c.lock.new.self;
     }) ≡ lock_told t d)
     c.self.view_is

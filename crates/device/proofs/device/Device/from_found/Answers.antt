@@ -9,4 +9,4 @@ returns-in-Ok-idle-clause-described c =
     λ array bad s over sound opened.
     subst (λ (d : DeviceCore). Describes d s) (sym c.in-Ok-idle.ensures)
     (device_opens c.args.config array bad s c.args.found c.in-Ok.ftl c.has_no_fault.ensures over.inside sound opened
-    over.found over.permanent c.in-Ok.ensures.described c.in-Ok.ensures.claims)
+    over.found over.settings c.in-Ok.ensures.described c.in-Ok.ensures.claims)

@@ -11,7 +11,7 @@ returns-in-Ok c =
     let there = sym (c.unit.ensures.described s.translation layer) ∙ c.in-Some.is in
     let about = spec s r c.args.flags c.args.lun c.args.expected c.args.cdb.now is c.in-Some.unit there in
     read_planned s r c.args.flags c.args.lun c.args.expected c.args.cdb.now is c.in-Some.unit there c.in-Ok.cdb
-    c.in-Ok.ensures.read c.in-Ok.ensures.taken c.args.self.now.ftl c.args.self.now.is_permanent c.plan_taken.result
+    c.in-Ok.ensures.read c.in-Ok.ensures.taken c.args.self.now.ftl c.args.self.now.settings.is_permanent c.plan_taken.result
     h bare c.plan_taken.ensures.planned
     (λ ok. c.plan_taken.ensures.passed ok s r h bare about is.flags_are is.expected_is c.in-Ok.ensures.read.1)
     c.plan_taken.ensures.refused

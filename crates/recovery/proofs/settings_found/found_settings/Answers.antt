@@ -4,11 +4,10 @@ use Rattle.std.proofs.lemmas.List.{length-map}
 use Rattle.ufs_spec.specs.Lives.{array_of, bad_of}
 use Rattle.recovery.proofs.settings_pages.SettingsPages.{IsSettingsPage, lies_there, none_says, page_says}
 use Rattle.recovery.proofs.settings_pages.SettingsPages.{settings_there}
-use Rattle.recovery.proofs.settings.is_permanent.Goals as goal
+use Rattle.recovery.proofs.settings_found.found_settings.Goals as goal
 
--- src/settings.rt:43:26
-pub says_permanent-requires-clause-die : goal.says_permanent-requires-clause-die
-says_permanent-requires-clause-die g c =
+pub settings_at-requires-clause-die : goal.settings_at-requires-clause-die
+settings_at-requires-clause-die g c =
     let dies = map g.D.Die.state c.args.dies.now in
     let page : IsSettingsPage c.args.numbers.now (bad_of dies) (array_of dies) c.args.found.now
     (Some c.in-Some.content) =
@@ -21,9 +20,8 @@ says_permanent-requires-clause-die g c =
       length-map c.args.dies.now g.D.Die.state,
     )
 
--- src/settings.rt:43:26
-pub says_permanent-requires-clause-there : goal.says_permanent-requires-clause-there
-says_permanent-requires-clause-there g c =
+pub settings_at-requires-clause-there : goal.settings_at-requires-clause-there
+settings_at-requires-clause-there g c =
     let dies = map g.D.Die.state c.args.dies.now in
     let page : IsSettingsPage c.args.numbers.now (bad_of dies) (array_of dies) c.args.found.now
     (Some c.in-Some.content) =
@@ -32,7 +30,6 @@ says_permanent-requires-clause-there g c =
     c.settings_page.result c.requires.settings c.as_slice.ensures.value c.settings_page.ensures) in
     (lies_there c.args.numbers.now (bad_of dies) dies c.args.found.now c.requires.fit c.in-Some.content page).1
 
--- src/settings.rt:27:1
 pub returns-in-Some-clause-told : goal.returns-in-Some-clause-told
 returns-in-Some-clause-told g c =
     let dies = map g.D.Die.state c.args.dies.now in
@@ -41,13 +38,12 @@ returns-in-Some-clause-told g c =
     subst (IsSettingsPage c.args.numbers.now (bad_of dies) (array_of dies) c.args.found.now) c.in-Some.is
     (settings_there c.args.numbers.now (bad_of dies) (array_of dies) c.args.found.now c.as_slice.result.now
     c.settings_page.result c.requires.settings c.as_slice.ensures.value c.settings_page.ensures) in
-    IfOk-weaker c.says_permanent.result _ _
-    (λ is told cells shown sound x holds.
-    page_says c.args.numbers.now (bad_of dies) (array_of dies) c.args.found.now c.in-Some.content is told page
+    IfOk-weaker c.settings_at.result _ _
+    (λ s told cells shown sound x holds.
+    page_says c.args.numbers.now (bad_of dies) (array_of dies) c.args.found.now c.in-Some.content s told page
     cells shown sound x holds)
-    c.says_permanent.ensures.told
+    c.settings_at.ensures.told
 
--- src/settings.rt:27:1
 pub returns-in-None-clause-told : goal.returns-in-None-clause-told
 returns-in-None-clause-told g c = λ cells shown sound x holds.
     let dies = map g.D.Die.state c.args.dies.now in
@@ -55,4 +51,5 @@ returns-in-None-clause-told g c = λ cells shown sound x holds.
     subst (IsSettingsPage c.args.numbers.now (bad_of dies) (array_of dies) c.args.found.now) c.in-None.is
     (settings_there c.args.numbers.now (bad_of dies) (array_of dies) c.args.found.now c.as_slice.result.now
     c.settings_page.result c.requires.settings c.as_slice.ensures.value c.settings_page.ensures) in
-    none_says c.args.numbers.now (bad_of dies) (array_of dies) c.args.found.now page cells shown sound x holds
+    none_says c.args.numbers.now (bad_of dies) (array_of dies) c.args.found.now c.new.result c.new.ensures.zeros page
+    cells shown sound x holds

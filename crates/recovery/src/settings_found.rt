@@ -1,5 +1,5 @@
-//! What the settings that were found say of permanent write protection.
-ghost use Rattle.std.specs.Prelude.{◌≡◌, ◌+◌, ◌<◌, ◌==◌, ℕ, suc, List, Option, Some, IfErr, IfOk, length, map, slice_get, slice_index, slice_index_or, sum};
+//! The settings that were found.
+ghost use Rattle.std.specs.Prelude.{◌≡◌, ◌+◌, ◌<◌, ℕ, suc, List, Option, Some, IfErr, IfOk, length, map, slice_get, slice_index_or, sum};
 ghost use Rattle.ufs_spec.specs.Cells.{Cells, Shows};
 ghost use Rattle.ufs_spec.specs.Dies.{LiesOnDie, new_die};
 ghost use Rattle.ufs_spec.specs.Keys.{area_pages, settings_key};
@@ -7,6 +7,7 @@ ghost use Rattle.ufs_spec.specs.Kept.{Holds};
 ghost use Rattle.ufs_spec.specs.Lives.{Fit, array_of, bad_of};
 ghost use Rattle.ufs_spec.specs.Plain.{shape_of_numbers};
 ghost use Rattle.ufs_spec.specs.Sound.{CellsSound};
+ghost use Rattle.settings.specs.Told.{settings_in};
 ghost use Rattle.recovery.specs.Found.{HasSettings, newest_found};
 ghost use Rattle.recovery.specs.Reading.{IsReadingFault};
 ghost use Rattle.recovery.specs.declared.pages.FoundPage.{FoundPage};
@@ -16,32 +17,33 @@ use crate::pages::FoundPage;
 use crate::reading::fetch;
 use geometry::settings_index;
 use nand_model::Die;
+use settings::Settings;
 use ufs_spec::{Numbers, OpenFault, Page, Place};
 
-/// Whether the settings say that write protection is permanent. It reads the page that has their
-/// content, if there is one.
+/// The settings that were found. It reads the page that has their content, if there is one; without
+/// one they are those of a new device.
 ///
 /// # Errors
 ///
 /// `ReadFault` if this read failed.
-pub(crate) fn is_permanent<D: Die>(
+pub(crate) fn found_settings<D: Die>(
     dies: &mut [D],
     numbers: &Numbers,
     found: &Found,
-) -> Result<bool, OpenFault>
+) -> Result<Settings, OpenFault>
     requires fit { Fit numbers.now (map D.state dies.old) }
     requires settings { (c : Cells) → Shows (array_of (map D.state dies.old)) c →
         HasSettings numbers.now c (bad_of (map D.state dies.old)) found.now }
     ensures same { map D.state dies.new ≡ map D.state dies.old }
-    // Over sound pages it is what the content of the settings says.
-    ensures told { IfOk result (λ is. (c : Cells) → Shows (array_of (map D.state dies.old)) c →
+    // Over sound pages they are what the content of their key says.
+    ensures told { IfOk result (λ s. (c : Cells) → Shows (array_of (map D.state dies.old)) c →
         CellsSound c (newest_found found.now) → (x : List ℕ) →
-        Holds c (newest_found found.now) (suc found.now.kept) settings_key x → is ≡ (slice_index x 1 == 1)) }
+        Holds c (newest_found found.now) (suc found.now.kept) settings_key x → s ≡ settings_in x) }
     ensures fault { IfErr result (IsReadingFault (map D.failed dies.old) (map D.failed dies.new)) }
 {
     match settings_page(found.contents.as_slice(), numbers) {
-        Some(content) => says_permanent(dies, content.place),
-        None => Ok(false),
+        Some(content) => settings_at(dies, content.place),
+        None => Ok(Settings::new()),
     }
 }
 
@@ -56,13 +58,13 @@ fn settings_page(contents: &[Option<FoundPage>], numbers: &Numbers) -> Option<Fo
     }
 }
 
-/// Whether the settings page there says it.
-fn says_permanent<D: Die>(dies: &mut [D], place: Place) -> Result<bool, OpenFault>
+/// What the settings page there says.
+fn settings_at<D: Die>(dies: &mut [D], place: Place) -> Result<Settings, OpenFault>
     requires die { place.die < length dies.old }
     requires there { let state = slice_index_or (map D.state dies.old) place.die (new_die 0 0) in
         LiesOnDie state place.block place.page }
     ensures same { map D.state dies.new ≡ map D.state dies.old }
-    ensures told { IfOk result (λ is. is ≡ (slice_index (array_of (map D.state dies.old) place).body 1 == 1)) }
+    ensures told { IfOk result (λ s. s ≡ settings_in (array_of (map D.state dies.old) place).body) }
     ensures fault { IfErr result (IsReadingFault (map D.failed dies.old) (map D.failed dies.new)) }
 {
     let mut page = Page {
@@ -72,5 +74,5 @@ fn says_permanent<D: Die>(dies: &mut [D], place: Place) -> Result<bool, OpenFaul
     if let Err(fault) = fetch(dies, place, &mut page) {
         return Err(fault);
     }
-    Ok(page.body[1] == 1)
+    Ok(Settings::from_page(&page.body))
 }

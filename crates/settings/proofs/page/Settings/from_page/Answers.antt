@@ -1,0 +1,20 @@
+use Rattle.std.proofs.Common.{◌≡◌, ◌∙◌, ◌==◌, ap, slice_index}
+use Rattle.settings.specs.Told.{settings_in}
+use Rattle.settings.proofs.SettingsRead.{said_again}
+use Rattle.settings.proofs.page.Settings.from_page.Goals as goal
+
+pub returns-clause-spelled : goal.returns-clause-spelled
+returns-clause-spelled c =
+    let page = c.args.page.now in
+    let said : record {
+      boot = slice_index page 0;
+      is_permanent = slice_index page 1 == 1;
+      key = c.set_key.result;
+      counter = c.read_u32.result;
+    } ≡ settings_in page = λ i. record {
+      boot = slice_index page 0;
+      is_permanent = slice_index page 1 == 1;
+      key = c.set_key.ensures i;
+      counter = c.read_u32.ensures i;
+    } in
+    λ s h spelled. said ∙ ap settings_in spelled ∙ said_again s h

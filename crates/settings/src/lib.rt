@@ -1,0 +1,8 @@
+//! The settings, with the key and the write counter of the RPMB region: what a settings page says,
+//! and the page that says it. Its layout is this profile's, version 1; JESD220, 14 has the attributes
+//! and flags, and 12.4 the key and the counter.
+#![tactic(auto)]
+
+mod page;
+
+pub use page::{Settings, is_settings_page};
