@@ -1,6 +1,7 @@
 -- Which replies are due, what they say, and what becomes of their tasks.
 use Rattle.std.specs.Prelude.{◌≡◌, ℕ, ◌+◌, ◌-◌, ◌*◌, ◌≤◌, ◌++◌, min, nat_le, nat_lt, Bool, true, false, if◌then◌else◌}
 use Rattle.std.specs.Prelude.{find, ⊤, List, [], remove, take, Option, Some, None, option_map}
+use Rattle.std.specs.List.{list_any}
 use Rattle.byteorder.specs.Endian.{big_bytes}
 use Rattle.ufs_spec.specs.Exchanges as exchange
 use Rattle.ufs_spec.specs.Exchanges.{response}
@@ -9,7 +10,7 @@ use Rattle.ufs_spec.specs.Machine.{no_sense}
 use Rattle.ufs_spec.specs.Messages.{spelling, zeros}
 use Rattle.ufs_spec.specs.Moves.{Acknowledge, LetGo, LetGoAll, WantPage, is_pin_of, moved}
 use Rattle.ufs_spec.specs.Plain.{zero_block}
-use Rattle.ufs_spec.specs.Translation.{Pin, Translation}
+use Rattle.ufs_spec.specs.Translation.{Pin, Rest, Translation, is_rest_of}
 use Rattle.ufs_spec.specs.declared.messages.Asked.{Asked}
 use Rattle.ufs_spec.specs.declared.messages.Message.{Message}
 use Rattle.ufs_spec.specs.declared.messages.Message.TheVariants as message
@@ -35,21 +36,22 @@ use Rattle.task_set.specs.Tasks.{data_length, status_kept}
 
 -- Blocks
 
--- a block that was looked up, once it is there: zeros if nothing was ever written, the body in the slot, or what was
--- read
-abbrev pub block_at : Ledger → Option (List ℕ) → Looked → Option (List ℕ)
-block_at l read Unwritten = Some zero_block
-block_at l read (InSlot name) = option_map (λ (e : Entry). e.item.body) (entry_of l name)
-block_at l read (OnPage name place) = read
+-- a block that was looked up, once it is there: zeros if nothing was ever written, the body in the slot unless this waits
+-- for its rest, or what was read
+abbrev pub block_at : List Rest → Ledger → Option (List ℕ) → Looked → Option (List ℕ)
+block_at rests l read Unwritten = Some zero_block
+block_at rests l read (InSlot name) =
+    if list_any (is_rest_of name) rests then read else option_map (λ (e : Entry). e.item.body) (entry_of l name)
+block_at rests l read (OnPage name place) = read
 
 -- the block of what a reader keeps, once it is there; none where it keeps nothing
-abbrev pub block_of : Ledger → Option (List ℕ) → Option Pin → Option (List ℕ)
-block_of l read None = None
-block_of l read (Some pin) = block_at l read pin.looked
+abbrev pub block_of : List Rest → Ledger → Option (List ℕ) → Option Pin → Option (List ℕ)
+block_of rests l read None = None
+block_of rests l read (Some pin) = block_at rests l read pin.looked
 
 -- the block of this index that is kept for a tag, once it is there
 abbrev pub block_for : Translation → Option (List ℕ) → ℕ → ℕ → Option (List ℕ)
-block_for t read tag index = block_of t.ledger read (find (is_pin_of tag index) t.pins)
+block_for t read tag index = block_of t.work.rests t.ledger read (find (is_pin_of tag index) t.pins)
 
 -- Messages
 

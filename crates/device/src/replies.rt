@@ -8,6 +8,7 @@ ghost use Rattle.ufs_spec.specs.Moves.{Acknowledge, LetGo, LetGoAll, WantPage, m
 ghost use Rattle.ufs_spec.specs.Plain.{zero_block};
 ghost use Rattle.ufs_spec.specs.Refusals.{State};
 ghost use Rattle.ufs_spec.specs.Translation.{Translation, is_mended};
+ghost use Rattle.ufs_spec.specs.declared.layer.Looked.TheVariants.{InSlot};
 ghost use Rattle.power_loss.specs.Book.{book};
 ghost use Rattle.power_loss.specs.Invariant.{LookedRight};
 ghost use Rattle.ftl_core.specs.Public.{AreClaimed, Claims, Describes as IsLayer};
@@ -23,7 +24,7 @@ ghost use Rattle.device.specs.Replies.{moved_on, owed_by, owed_in, without_first
 use crate::device::Device;
 use crate::responses::{write_answer, write_block, write_data, write_ready, write_short};
 use task_set::{Phase, Sending, Status, Task, TaskEvent};
-use ufs_spec::{Block, Looked, Upiu};
+use ufs_spec::{Block, Looked, Name, Upiu};
 
 /// A block of zeros, as an address reads that was never written.
 static ZEROS: Block = [0; 4096];
@@ -149,12 +150,26 @@ impl Device {
         requires { index < length self.now.tasks }
         ensures { (t : Translation) → IsLayer self.now.ftl t → is_mended t.work.mending ≡ true →
             LookedRight (book t) t.ledger.frontier t.disk.cells t.disk.finished t.disk.erasing looked →
-            option_copied result ≡ block_at t.ledger (read_at self.now.tasks index) looked }
+            option_copied result ≡ block_at t.work.rests t.ledger (read_at self.now.tasks index) looked }
     {
         match looked {
             Looked::Unwritten => Some(zeros()),
-            Looked::InSlot(name) => self.ftl.slot(name),
+            Looked::InSlot(name) => self.block_in_slot(index, name),
             Looked::OnPage(_, _) => self.block_read(index),
+        }
+    }
+
+    /// The block in the slot of this name. Of a slot that waits for its rest it is the one that a die read
+    /// for the task at this position.
+    fn block_in_slot(&self, index: usize, name: Name) -> Option<&Block>
+        requires { index < length self.now.tasks }
+        ensures { (t : Translation) → IsLayer self.now.ftl t → is_mended t.work.mending ≡ true →
+            LookedRight (book t) t.ledger.frontier t.disk.cells t.disk.finished t.disk.erasing (InSlot name) →
+            option_copied result ≡ block_at t.work.rests t.ledger (read_at self.now.tasks index) (InSlot name) }
+    {
+        match self.ftl.slot(name) {
+            Some(block) => Some(block),
+            None => self.block_read(index),
         }
     }
 

@@ -8,6 +8,7 @@ pub mod look_and_accept
 pub mod opened
 pub mod pages
 pub mod pins
+pub mod rests_owed
 pub mod small_calls
 pub mod steps_ordered
 pub mod stopped

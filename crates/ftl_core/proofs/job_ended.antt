@@ -12,6 +12,8 @@ pub mod ReadsGiven
 pub mod RepairContent
 pub mod RepairLedger
 pub mod RepairsEnded
+pub mod RestsEnded
+pub mod RestsRead
 pub mod SameClaims
 pub mod StepContent
 pub mod StepsEnded

@@ -8,6 +8,7 @@ pub mod NextNames
 pub mod NextPages
 pub mod NextStarts
 pub mod OpenBlocks
+pub mod OwedReads
 pub mod ReadsTaken
 pub mod StepPages
 pub mod Takings

@@ -1,3 +1,4 @@
+pub mod BroughtPins
 pub mod CopiesLive
 pub mod DurableLive
 pub mod JobsLive
@@ -7,5 +8,7 @@ pub mod OpenedLive
 pub mod PinRooms
 pub mod PinsCounted
 pub mod ProgramsLive
+pub mod RestPins
+pub mod RestRooms
 pub mod SameLive
 pub mod StoredPages

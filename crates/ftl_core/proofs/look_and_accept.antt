@@ -1,3 +1,6 @@
+pub mod BroughtBodies
+pub mod BroughtLists
+pub mod BroughtPages
 pub mod GroupsAccepted
 pub mod KeptBlocks
 pub mod KeysBehind
@@ -6,4 +9,6 @@ pub mod LookedPages
 pub mod LookedUp
 pub mod MoreGroups
 pub mod Numbers
+pub mod PagesAccepted
 pub mod SlotBodies
+pub mod SourcesFound

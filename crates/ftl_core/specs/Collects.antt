@@ -6,11 +6,11 @@ use Rattle.ufs_spec.specs.Translation.{least_of, wanted_room}
 use Rattle.block_table.specs.Blocks.{is_bad}
 use Rattle.block_table.specs.Lives.{gains, live_count, spots_in}
 use Rattle.ftl_core.specs.Core.{Core}
-use Rattle.ftl_core.specs.Moves.{free_blocks, keeps, state_of}
+use Rattle.ftl_core.specs.Moves.{free_blocks, has_pin, state_of}
 
--- a reader keeps a page of the block
+-- a reader keeps a page of the block, or the rest of a page is still to be read from it
 abbrev pub is_pinned : Core → Spot → Bool
-is_pinned c s = list_any (keeps s.die s.block) c.pins
+is_pinned c s = has_pin c s.die s.block
 
 -- the block has no pin, and something is gained by collecting it
 abbrev pub may_be_victim : Core → Spot → Bool

@@ -1,5 +1,4 @@
--- How what the layer keeps describes the translation layer as it is specified. In this stage the pages of each group
--- that is accepted are data of a unit.
+-- How what the layer keeps describes the translation layer as it is specified.
 use Rattle.std.specs.Prelude.{◌≡◌, ◌≢◌, ℕ, suc, ◌+◌, ◌<◌, ◌≤◌, nat_lt, Bool, true, false, List, [], ◌∷◌, count_by, drop}
 use Rattle.std.specs.Prelude.{All, AllPairs, find, is_some, length, map, slice_get, Option, Some, None, option_map}
 use Rattle.std.specs.List.{list_any}
@@ -23,8 +22,7 @@ use Rattle.ufs_spec.specs.declared.flash.Tag.{Tag}
 use Rattle.ufs_spec.specs.declared.layer.Looked.{Looked}
 use Rattle.ufs_spec.specs.declared.layer.Looked.TheVariants.{InSlot, OnPage, Unwritten}
 use Rattle.ufs_spec.specs.declared.layer.Name.{Name}
-use Rattle.ufs_spec.specs.declared.layer.Reader.{Reader}
-use Rattle.ufs_spec.specs.declared.layer.Reader.TheVariants.{ForRest, ForStep, ForTask}
+use Rattle.ufs_spec.specs.declared.layer.Reader.TheVariants.{ForStep, ForTask}
 use Rattle.power_loss.specs.Invariant.{Valid}
 use Rattle.collector.specs.Plans.{Collection, layer_plan}
 use Rattle.collector.specs.declared.PlannedCopy.{PlannedCopy}
@@ -48,6 +46,7 @@ use Rattle.unit_map.specs.Places.{stored_in}
 use Rattle.ftl_core.specs.Core.{Core}
 use Rattle.ftl_core.specs.KnownLive.{KnowsLive}
 use Rattle.ftl_core.specs.Moves.{is_pin_of, repairs_in}
+use Rattle.ftl_core.specs.RestsKept.{RestsKept, waiting}
 use Rattle.ftl_core.specs.Takes.{is_group_page, next_place, step_wants}
 
 -- Blocks
@@ -85,11 +84,6 @@ IsFilling n blocks die (Some o) =
 abbrev pub IsNext : ℕ → Option OpenBlock → Place → Type 0
 IsNext die filling place = (o : OpenBlock) × (filling ≡ Some o) × (next_place die o ≡ place)
 
--- a read is for the rest of a page of which a command has only a part: in this stage none is
-abbrev pub is_for_rest : Reader → Bool
-is_for_rest (ForRest number index) = true
-is_for_rest reader = false
-
 -- the page of the step under way: a mark with its number, the page of a repair, or the copy of a page that was read
 abbrev pub IsStepCell : Option kept_step.Step → Cell → Type 0
 IsStepCell (Some (steps.Mark n fence)) (MarkPage m) = m.number ≡ n
@@ -103,8 +97,7 @@ IsStepCell step cell = ⊥
 abbrev pub IsFlight : Numbers → Option kept_step.Step → ℕ → Option OpenBlock → Option Flight → Option disk.Flight →
     Type 0
 IsFlight n step die filling None None = Unit {0}
-IsFlight n step die filling (Some (flight.Read place reader)) (Some (disk.Reading who p)) =
-    (p ≡ place) × (who ≡ reader) × (is_for_rest reader ≡ false)
+IsFlight n step die filling (Some (flight.Read place reader)) (Some (disk.Reading who p)) = (p ≡ place) × (who ≡ reader)
 IsFlight n step die filling (Some (flight.Step place)) (Some (disk.Programming p cell)) =
     (p ≡ place) × IsNext die filling place × IsStepCell step cell
 IsFlight n step die filling (Some (flight.Group place number i)) (Some (disk.Programming p (GroupPage tag body))) =
@@ -148,15 +141,16 @@ pub record PagesFly (standing : Standing) (flights : ℕ → Option disk.Flight)
 abbrev pub name_at : ℕ → ℕ → Name
 name_at n i = record { number = n; index = i }
 
--- the page of this name: its number, its index, what it holds, the size of its group, where it stands, and that its
--- content is all there
+-- the page of this name: its number, its index, what it has, the size of its group, and where it stands. It holds what
+-- it has unless it waits for its rest
 pub record PageKept (standing : Standing) (entries : Name → Option Entry) (p : Pending) (name : Name) : Type 0 where
   pub number : p.number ≡ name.number
   pub index : p.index ≡ name.index
-  pub entry : entries name ≡ Some (record { item = record { key = p.key; body = p.body }; size = p.size })
+  pub body : List ℕ
+  pub entry : entries name ≡ Some (record { item = record { key = p.key; body = body }; size = p.size })
   pub group_page : is_group_page p ≡ true
   pub stands : standing name.number name.index ≡ p.written
-  pub whole : p.rest ≡ None
+  pub whole : p.rest ≡ None → p.body ≡ body
 
 -- the pending pages are kept page by page, in the order of number and index
 abbrev pub PagesKept : Standing → (Name → Option Entry) → List Pending → List Name → Type 0
@@ -306,7 +300,6 @@ pub record WorkKept (mending : kept.Mending) (left : List Key) (step : Option ke
   pub mending_is : w.mending ≡ mending_kept mending left
   pub step_is : StepKept l step content w.step
   pub to_repair : is_mended w.mending ≡ false → AreToRepair l (keys_to_repair step left)
-  pub no_rests : w.rests ≡ []
   pub next_mark : next ≡ suc l.marks
   -- once the device is mended each repair is durable
   pub repaired : is_mended w.mending ≡ true → before_accepted l ≤ l.frontier
@@ -353,13 +346,14 @@ pub record CopiesKnown (cells : Cells) (plan : Option Collection) (step : Option
   pub named : (name : Name) (from : Place) → step ≡ Some (copying name from) →
       (tag : Tag) (body : List ℕ) → cells from ≡ GroupPage tag body → name_of tag ≡ name
 
--- what is kept describes the layer, this is one that a life may come to, and it is known which pages are live and which
--- are copied
+-- what is kept describes the layer, this is one that a life may come to, and it is known which pages are live, which are
+-- copied, and which wait for their rests
 pub record Describes (c : Core) (t : Translation) : Type 0 where
   pub valid : Valid t
   pub kept : Kept c t
   pub live : KnowsLive c.numbers c.places c.pages c.live
   pub copies : CopiesKnown t.disk.cells c.plan t.work.step
+  pub rests : RestsKept t (waiting c.pages)
 
 -- What the calls tell
 

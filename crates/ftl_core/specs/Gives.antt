@@ -1,6 +1,6 @@
 -- How a job in flight ends, as the code does it: what is kept then, and what is given to whoever waits for it. `IsTold`
 -- of Describes says what that means.
-use Rattle.std.specs.Prelude.{◌≡◌, ℕ, ◌==◌, Bool, true, false, ◌&&◌, if◌then◌else◌, List, map, Option, Some, None}
+use Rattle.std.specs.Prelude.{◌≡◌, ℕ, ◌==◌, Bool, true, false, ◌&&◌, if◌then◌else◌, List, find, map, Option, Some, None}
 use Rattle.ufs_spec.specs.Keys.{IsBlock}
 use Rattle.ufs_spec.specs.Pages.{IsTag, seal_page}
 use Rattle.ufs_spec.specs.declared.flash.Key.{Key}
@@ -13,6 +13,8 @@ use Rattle.ufs_spec.specs.declared.layer.Looked.{Looked}
 use Rattle.ufs_spec.specs.declared.layer.Looked.TheVariants.{OnPage}
 use Rattle.ufs_spec.specs.declared.layer.Reader.{Reader}
 use Rattle.ufs_spec.specs.declared.layer.Reader.TheVariants.{ForNobody, ForRest, ForStep, ForTask}
+use Rattle.write_cache.specs.declared.slots.Pending.{Pending}
+use Rattle.write_cache.specs.Slots.{is_named}
 use Rattle.block_table.specs.declared.rows.DieRow.{DieRow}
 use Rattle.block_table.specs.declared.rows.Flight.{Flight}
 use Rattle.block_table.specs.declared.rows.Flight.TheVariants as flight
@@ -22,8 +24,9 @@ use Rattle.ftl_core.specs.declared.books.Step.TheVariants as step
 use Rattle.ftl_core.specs.declared.ftl.Ended.{Ended}
 use Rattle.ftl_core.specs.declared.ftl.Ended.TheVariants as ended
 use Rattle.ftl_core.specs.Core.{Core}
-use Rattle.ftl_core.specs.Moves.{erased, is_pin_of, page_written, pin_of, went_bad, with_row}
+use Rattle.ftl_core.specs.Moves.{erased, is_pin_of, page_written, pin_of, rest_look, went_bad, with_row}
 use Rattle.ftl_core.specs.Ends.{pending_written, settled, step_failed, step_written, with_content}
+use Rattle.ftl_core.specs.Rests.{with_rest}
 
 -- Programs and erases
 
@@ -128,12 +131,20 @@ abbrev pub IsContentRead : Option Step → Outcome → Option (List ℕ) → Typ
 IsContentRead s (outcome.Read page) body = IsContentOf s page body
 IsContentRead s _ body = body ≡ None
 
+-- what a read gives for the rest of a pending page: the body, if it is the page that the rest is read from; a read that
+-- failed gives none, and neither does one for a page that is not pending
+abbrev pub IsRestRead : Option Pending → Outcome → Option (List ℕ) → Type 0
+IsRestRead (Some p) (outcome.Read page) body = IsBodyLooked page p.key (rest_look p.rest) body
+IsRestRead _ o body = body ≡ None
+
 -- what is kept once a read for this reader is over, of a page with this tag
 abbrev pub IsReadOver : Core → Outcome → Option Tag → Reader → Core → Type 0
 IsReadOver c o found (ForTask tag index) new = new ≡ record c { pins = map (wanted_no_more tag index) c.pins }
 IsReadOver c o found ForStep new =
     (body : Option (List ℕ)) × IsContentRead c.step o body × (new ≡ with_content c found body)
-IsReadOver c o found (ForRest number index) new = new ≡ c
+IsReadOver c o found (ForRest number index) new =
+    (body : Option (List ℕ)) × IsRestRead (find (is_named number index) c.pages) o body
+    × (new ≡ with_rest c (record { number = number; index = index }) body)
 IsReadOver c o found ForNobody new = new ≡ c
 
 -- what is kept after a read: its die is idle, and its reader has what it waited for. An outcome that is not one of a

@@ -5,10 +5,12 @@ pub mod Done
 pub mod Ends
 pub mod Gives
 pub mod KnownLive
-pub mod Limits
 pub mod Moves
 pub mod PinCounts
+pub mod Pinned
 pub mod Public
+pub mod Rests
+pub mod RestsKept
 pub mod Rooms
 pub mod Stops
 pub mod Takes

@@ -46,6 +46,7 @@ use Rattle.write_cache.specs.Rests.{content_of}
 use Rattle.write_cache.specs.Slots.{claim_filled, empty_claim, is_claim_of, is_named, key_at, last_page, page_claimed}
 use Rattle.ftl_core.specs.Core.{Core}
 use Rattle.ftl_core.specs.KnownLive.{lives_of_places}
+pub use Rattle.ftl_core.specs.Pinned.{has_pin, keeps, keeps_page, look_of_source, reads_block, rest_look}
 
 -- At the start
 
@@ -168,15 +169,6 @@ with_row c die b = record c { rows = slice_set c.rows die b }
 abbrev pub free_blocks : Core → ℕ
 free_blocks c = count_by is_free c.states
 
--- a reader keeps a page of the block
-abbrev pub keeps_page : ℕ → ℕ → Looked → Bool
-keeps_page die block (OnPage name place) = (place.die == die) && (place.block == block)
-keeps_page die block _ = false
-
--- a reader keeps a page of this block, so the block may not be erased
-abbrev pub keeps : ℕ → ℕ → Pin → Bool
-keeps die block p = keeps_page die block p.looked
-
 -- two states are the same
 abbrev pub is_so : BlockState → BlockState → Bool
 is_so state.Free state.Free = true
@@ -187,9 +179,9 @@ is_so state.Closed state.Closed = true
 is_so state.Bad state.Bad = true
 is_so a b = false
 
--- a block that is so, and of which no reader keeps a page, may be used
+-- a block that is so, and has no pin, may be used
 abbrev pub may_be_used : Core → ℕ → BlockState → ℕ → Bool
-may_be_used c die s block = is_so (state_of c die block) s && not (list_any (keeps die block) c.pins)
+may_be_used c die s block = is_so (state_of c die block) s && not (has_pin c die block)
 
 -- some block is stale, so no step is ordered before it was erased
 abbrev pub has_stale : Core → Bool

@@ -1,4 +1,5 @@
--- How many pins each block has: one for each page of it that a reader keeps (this profile).
+-- How many pins each block has: one for each page of it that a reader keeps, and one for each page that is still to be
+-- read from it for a rest (this profile).
 use Rattle.std.specs.Prelude.{◌≡◌, ℕ, ◌+◌, ◌-◌, ◌*◌, ◌^◌, Bool, false, true, if◌then◌else◌, min}
 use Rattle.std.specs.Prelude.{List, filter, length, replicate, slice_get, Some}
 use Rattle.ufs_spec.specs.Disk.{Spot, spot_of}
@@ -8,7 +9,8 @@ use Rattle.ufs_spec.specs.declared.layer.Looked.TheVariants.{InSlot, OnPage, Unw
 use Rattle.block_table.specs.Lives.{Lives, block_place, has_block, pins_of, with_pins}
 use Rattle.unit_map.specs.declared.Stored.{Stored}
 use Rattle.ftl_core.specs.declared.books.Pin.{Pin}
-use Rattle.ftl_core.specs.Moves.{keeps}
+use Rattle.write_cache.specs.declared.slots.Pending.{Pending}
+use Rattle.ftl_core.specs.Pinned.{keeps, reads_block}
 
 -- What is counted
 
@@ -16,10 +18,15 @@ use Rattle.ftl_core.specs.Moves.{keeps}
 abbrev pub pins_on : Spot → List Pin → ℕ
 pins_on s ps = length (filter (keeps s.die s.block) ps)
 
+-- how many of the pending pages still have their rest to be read from the block
+abbrev pub rests_on : Spot → List Pending → ℕ
+rests_on s pages = length (filter (reads_block s.die s.block) pages)
+
 -- each block of the dies has so many pins
-abbrev pub ArePinsCounted : Lives → List Pin → Type 0
-ArePinsCounted l ps =
-    (s : Spot) → has_block l.sizes s ≡ true → slice_get l.pins (block_place l.sizes s) ≡ Some (pins_on s ps)
+abbrev pub ArePinsCounted : Lives → List Pin → List Pending → Type 0
+ArePinsCounted l ps pages =
+    (s : Spot) → has_block l.sizes s ≡ true →
+    slice_get l.pins (block_place l.sizes s) ≡ Some (pins_on s ps + rests_on s pages)
 
 -- which pages are live, without the pins of the blocks: these follow from what readers keep
 abbrev pub without_pins : Lives → Lives

@@ -5,8 +5,8 @@ use Rattle.ftl_core.specs.Moves.{claims_for}
 use Rattle.ftl_core.specs.Tells.{claims_of_blocks}
 pub use Rattle.ftl_core.specs.Core.{Core}
 pub use Rattle.ftl_core.specs.Describes.{Describes, IsTaken, IsTold, given}
-pub use Rattle.ftl_core.specs.Limits.{InThisStage, in_this_stage}
-pub use Rattle.ftl_core.specs.Tells.{IsAwaited, IsReadOf, PinsDiffer, group_of_blocks, items_behind}
+pub use Rattle.ftl_core.specs.Tells.{IsAwaited, IsGroupBrought, IsItemBrought, IsReadOf, PinsDiffer}
+pub use Rattle.ftl_core.specs.Tells.{group_of_blocks, items_behind}
 pub use Rattle.ftl_core.specs.Tells.{keeps_for, keeps_of, key_behind, looked_of}
 
 -- the reader has claimed a slot for each of these blocks, in which the block lies, in the order of their indexes

@@ -58,4 +58,4 @@ pub record IsRoomy (f : Inside) : Type 0 where
   -- the pins of each block are counted
   pub live_dies : f.live.sizes.dies ≡ length f.blocks.rows
   pub live_blocks : f.live.sizes.blocks ≡ f.config.blocks
-  pub pinned : ArePinsCounted f.live f.pins.items
+  pub pinned : ArePinsCounted f.live f.pins.items f.cache.pages

@@ -14,7 +14,7 @@ use Rattle.ufs_spec.specs.declared.flash.Key.{Key}
 use Rattle.ufs_spec.specs.declared.flash.Place.{Place}
 use Rattle.ufs_spec.specs.declared.layer.Looked.{Looked}
 use Rattle.ufs_spec.specs.declared.layer.Looked.TheVariants.{OnPage}
-use Rattle.ufs_spec.specs.declared.layer.Reader.TheVariants.{ForStep, ForTask}
+use Rattle.ufs_spec.specs.declared.layer.Reader.TheVariants.{ForRest, ForStep, ForTask}
 use Rattle.block_table.specs.declared.BlockState.{BlockState}
 use Rattle.block_table.specs.declared.BlockState.TheVariants as state
 use Rattle.block_table.specs.declared.rows.OpenBlock.{OpenBlock}
@@ -30,8 +30,8 @@ use Rattle.ftl_core.specs.declared.books.Waiting.TheVariants as waiting
 use Rattle.ftl_core.specs.Core.{Core}
 pub use Rattle.block_table.specs.Rows.{flight_writes, is_step_flight, reads_for, writes_page}
 pub use Rattle.block_table.specs.Rows.{writes_step}
-use Rattle.ftl_core.specs.Moves.{first_page, has_room_for_groups, is_owed_by, mark_key, may_be_used, may_open}
-use Rattle.ftl_core.specs.Moves.{single_tag, started}
+use Rattle.ftl_core.specs.Moves.{first_page, has_room_for_groups, is_owed_by, looks_on, mark_key, may_be_used, may_open}
+use Rattle.ftl_core.specs.Moves.{rest_look, single_tag, started}
 use Rattle.write_cache.specs.Rests.{content_of}
 use Rattle.write_cache.specs.Slots.{is_named}
 use Rattle.ftl_core.specs.Moves.{tag_of_page}
@@ -146,9 +146,26 @@ step_read_at c die (Some place) =
 abbrev pub step_read : Core → ℕ → Option Flight
 step_read c die = step_read_at c die (step_wants c.step)
 
--- the read that is owed to the die: to a reader, else to the step under way
+-- the page is owed the read of its rest from a page of this die: it waits for it, and no die reads for it
+abbrev pub owes_rest : List DieRow → ℕ → Pending → Bool
+owes_rest rows die p = looks_on die (rest_look p.rest) && not (list_any (reads_for (ForRest p.number p.index)) rows)
+
+-- the read of the page from which the rest of a pending page is taken
+abbrev pub rest_read_of : Pending → Option Flight
+rest_read_of p = option_map (λ place. flight.Read place (ForRest p.number p.index)) (place_in (rest_look p.rest))
+
+-- the read that the first pending page is owed that is owed one of a page of this die
+abbrev pub rest_read : Core → ℕ → Option Flight
+rest_read c die = option_and_then rest_read_of (find (owes_rest c.rows die) c.pages)
+
+-- the read of the step, if it is owed one, else that of a rest
+abbrev pub own_read : Option Flight → Option Flight → Option Flight
+own_read (Some f) rest = Some f
+own_read None rest = rest
+
+-- the read that is owed to the die: to a reader, else to the step under way, else to a page that waits for its rest
 abbrev pub owed_read : Core → ℕ → Option ℕ → Option Flight
-owed_read c die None = step_read c die
+owed_read c die None = own_read (step_read c die) (rest_read c die)
 owed_read c die (Some k) = option_and_then read_of (slice_get c.pins k)
 
 -- the erase of a stale block goes before all that waits
@@ -163,10 +180,18 @@ owed_flight c die filling (Some f) = Some f
 
 -- What the die is told
 
--- only data of a unit is programmed as a group, and only what its tag can name
+-- a tag can name the key
+abbrev pub is_sealable : Key → Bool
+is_sealable k =
+    if k.kind == 1 then nat_le k.unit 7
+    else if k.kind == 2 then k.unit == 0
+    else if k.kind == 3 then (k.unit == 0) && (k.address == 0)
+    else false
+
+-- only what its tag can name is programmed as a group
 abbrev pub is_group_page : Pending → Bool
 is_group_page p =
-    (p.key.kind == 1) && nat_le p.key.unit 7 && nat_le 1 p.number && nat_le p.number greatest_number
+    is_sealable p.key && nat_le 1 p.number && nat_le p.number greatest_number
     && nat_lt p.index p.size && nat_le p.size group_bound
 
 -- the program of the page of a pending group with this content
@@ -188,14 +213,6 @@ group_job c place number index = group_job_of c place (find (is_named number ind
 abbrev pub mark_program : Core → Place → ℕ → Option Fence → Job
 mark_program c place n fence =
     job.Program place (seal_page (single_tag mark_key n c.frontier) (mark_bytes c.numbers fence))
-
--- a tag can name the key
-abbrev pub is_sealable : Key → Bool
-is_sealable k =
-    if k.kind == 1 then nat_le k.unit 7
-    else if k.kind == 2 then k.unit == 0
-    else if k.kind == 3 then (k.unit == 0) && (k.address == 0)
-    else false
 
 -- the page of a repair holds the content of its key
 abbrev pub repair_program : Core → Place → ℕ → Key → Job

@@ -1,11 +1,12 @@
 -- What the calls of the layer tell of the layer that is specified.
-use Rattle.std.specs.Prelude.{◌≡◌, ℕ, ◌+◌, ◌==◌, Bool, true, false, List, [], ◌∷◌, find, map, Some}
+use Rattle.std.specs.Prelude.{◌≡◌, ℕ, ◌+◌, ◌==◌, Bool, true, false, List, [], ◌∷◌, Contains}
+use Rattle.std.specs.Prelude.{find, length, map, slice_get, Some}
 use Rattle.std.specs.List.{list_any}
-use Rattle.ufs_spec.specs.Keys.{Group, below}
-use Rattle.ufs_spec.specs.Ledger.{look}
+use Rattle.ufs_spec.specs.Keys.{Group, Item, below}
+use Rattle.ufs_spec.specs.Ledger.{all_contents, look}
 use Rattle.ufs_spec.specs.Moves.{Keep, Move, is_pin_of}
 use Rattle.ufs_spec.specs.Translation as layer
-use Rattle.ufs_spec.specs.Translation.{Translation}
+use Rattle.ufs_spec.specs.Translation.{FromPage, Translation, is_in_part}
 use Rattle.ufs_spec.specs.declared.flash.Key.{Key}
 use Rattle.ufs_spec.specs.declared.flash.Place.{Place}
 use Rattle.ufs_spec.specs.declared.layer.Looked.{Looked}
@@ -14,6 +15,8 @@ use Rattle.ufs_spec.specs.declared.layer.Name.{Name}
 use Rattle.ufs_spec.specs.declared.layer.Reader.{Reader}
 use Rattle.ufs_spec.specs.declared.layer.Reader.TheVariants.{ForNobody, ForRest, ForStep, ForTask}
 use Rattle.write_cache.specs.declared.slots.Claimed.{Claimed}
+use Rattle.write_cache.specs.Rests.{with_part_of}
+use Rattle.ftl_core.specs.declared.books.Brought.{Brought}
 
 -- the pin is one of this reader
 abbrev pub keeps_for : ℕ → layer.Pin → Bool
@@ -31,12 +34,13 @@ pub record IsAwaited (t : Translation) (tag index : ℕ) (place : Place) : Type 
   pub name : Name
   pub looks : pin.looked ≡ OnPage name place
 
--- a read in flight is for a reader who waits for it, for the step under way, or for nobody; rests read nothing yet
+-- a read in flight is for a reader who waits for it, for the step under way, for nobody, or for a rest that is owed
 abbrev pub IsReadOf : Translation → Place → Reader → Type 0
 IsReadOf t place (ForTask tag index) = IsAwaited t tag index place
 IsReadOf t place ForStep = Unit {0}
 IsReadOf t place ForNobody = Unit {0}
-IsReadOf t place (ForRest number index) = ⊥
+IsReadOf t place (ForRest number index) =
+    Contains t.work.rests (record { name = record { number = number; index = index }; source = FromPage place })
 
 -- no block of a reader is kept twice
 abbrev pub PinsDiffer : List layer.Pin → Type 0
@@ -65,6 +69,19 @@ items_behind k i (body ∷ bodies) = record { key = key_behind k i; body = body 
 -- the group that a WRITE of these blocks makes, the first at this address
 abbrev pub group_of_blocks : Key → List (List ℕ) → Group
 group_of_blocks k bodies = items_behind k 0 bodies
+
+-- the item is of the page's key, and its content is what the command brings of it, laid over the content that the key
+-- has after all groups; a key that no command has in part comes whole
+pub record IsItemBrought (t : Translation) (item : Item) (x : Brought) : Type 0 where
+  pub key : item.key ≡ x.key
+  pub body : item.body ≡ with_part_of x.part x.bytes.now (all_contents t.ledger x.key)
+  pub whole : is_in_part x.key ≡ false → x.part.blocks ≡ 16
+
+-- the group has these pages, in this order
+pub record IsGroupBrought (t : Translation) (g : Group) (xs : List Brought) : Type 0 where
+  pub as_many : length g ≡ length xs
+  pub each : (i : ℕ) (item : Item) (x : Brought) → slice_get g i ≡ Some item → slice_get xs i ≡ Some x →
+      IsItemBrought t item x
 
 -- what lies in the slots that the reader has claimed
 abbrev pub claim_at : ℕ → ℕ → List ℕ → Claimed

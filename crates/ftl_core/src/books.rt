@@ -1,6 +1,16 @@
 //! What the translation layer writes down of readers, of the mending and of its steps.
 use ufs_spec::{Fence, Key, Looked, Place, Tag};
 use unit_map::Stored;
+use write_cache::Part;
+
+/// A page that a command brings under a key of its own: the blocks of 256 bytes that it has of the page,
+/// and their bytes.
+#[derive(Clone, Copy)]
+pub struct Brought<'a> {
+    pub key: Key,
+    pub part: Part,
+    pub bytes: &'a [u8],
+}
 
 /// What a reader keeps of its block of this index from being erased or given up, and whether its page is
 /// still to be read.

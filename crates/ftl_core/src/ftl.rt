@@ -13,7 +13,7 @@ ghost use Rattle.ufs_spec.specs.Ledger.{next_number as next_of_layer, Entry, bef
 ghost use Rattle.ufs_spec.specs.Moves.{Accept, Acknowledge, Claim, IsAllowedMove, LetGo, LetGoAll, Release, WantPage, moved, is_pin_of as is_layer_pin_of};
 ghost use Rattle.ufs_spec.specs.Pages.{greatest_number};
 ghost use Rattle.ufs_spec.specs.Plain.{shape_of_numbers, zero_block};
-ghost use Rattle.ufs_spec.specs.Translation.{Translation, free_slots as layer_slots, is_live as is_live_page, is_locked as is_layer_locked, is_mended, has_pending};
+ghost use Rattle.ufs_spec.specs.Translation.{Translation, free_slots as layer_slots, is_live as is_live_page, is_locked as is_layer_locked, is_mended, is_rest_of, has_pending};
 ghost use Rattle.ufs_spec.specs.Cells.{AreWithin, Cells};
 ghost use Rattle.ufs_spec.specs.Sound.{CellsSound};
 ghost use Rattle.power_loss.specs.Book.{CellsRight, book};
@@ -31,6 +31,7 @@ ghost use Rattle.ftl_core.specs.Public.{AreClaimed, Claims, AreClaimedBy, with_b
 mod ends;
 mod facts;
 mod pin_counts;
+mod rests;
 mod room;
 mod takes;
 mod turns;
@@ -70,7 +71,8 @@ pub struct Ftl {
     /// Where the durable content of each key is.
     places: UnitMap,
     /// Which pages are live: those where such a content stands, and those written for pending groups;
-    /// and how many pins each block has: one for each page of it that a reader keeps.
+    /// and how many pins each block has: one for each page of it that a reader keeps, and one for each
+    /// that is still to be read for a rest.
     live: LivePages,
     /// The slots: pages of pending groups, and claims for groups to come; and their numbers.
     cache: Cache,
@@ -590,6 +592,7 @@ impl Ftl {
     {
         let key = key_at(key, index);
         let looked = self.look(key);
+        self.has_few_slots();
         pin_block(&mut self.live, &looked);
         self.pins.push_reserved(Pin {
             reader,
@@ -671,7 +674,10 @@ impl Ftl {
         ensures core { option_copied result ≡ slot_of self.now name }
         ensures described { (t : Translation) (e : Entry) → Describes self.now t → is_mended t.work.mending ≡ true →
             t.ledger.frontier < name.number → entry_of t.ledger name ≡ Some e →
-            option_copied result ≡ Some e.item.body }
+            list_any (is_rest_of name) t.work.rests ≡ false → option_copied result ≡ Some e.item.body }
+        // A page that waits for its rest has nothing to show.
+        ensures described_waiting { (t : Translation) → Describes self.now t →
+            list_any (is_rest_of name) t.work.rests ≡ true → option_copied result ≡ None }
     {
         let page = self.cache.page_named(name.number, name.index)?;
         page.content()

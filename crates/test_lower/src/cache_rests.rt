@@ -4,7 +4,7 @@ ghost use Rattle.std.specs.Prelude.{◌≡◌, ◌+◌, ◌*◌, ◌^◌, ◌<�
 ghost use Rattle.write_cache.specs.Rests.{IsPart};
 
 use std::test::Fail;
-use ufs_spec::{Key, Tag};
+use ufs_spec::{Key, Name, Place, Tag};
 use write_cache::{Cache, NewPage, Part, RestSource};
 
 /// Blocks of a page of the RPMB area as a command brings them, from this one on.
@@ -88,41 +88,54 @@ fn waits(cache: &Cache, number: u64, index: u16) -> bool {
 #[test]
 fn writes_of_one_area_page_stand_one_over_another(rt: HostRuntime) -> Result<(), Fail> {
     let mut cache = Cache::new(rt.alloc(), 8, 7)?;
-    let owed = RestSource::Read {
+    let name = Name {
         number: 8,
         index: 0,
     };
+    let on_page = RestSource::Page {
+        name: Name {
+            number: 2,
+            index: 1,
+        },
+        place: Place {
+            die: 0,
+            block: 3,
+            page: 4,
+        },
+    };
+    assert!(rt; !cache.has_rests());
     let first = write(
         &mut cache,
         &[
-            area_page(5, 15, 1, &[0xA1; 256], owed),
+            area_page(5, 15, 1, &[0xA1; 256], on_page),
             area_page(6, 0, 2, &[0xA2; 512], RestSource::Nothing),
             settings_page(&[0x11; 4096]),
         ],
     );
     assert!(rt; first == Some(8));
     assert!(rt; cache.free_slots() == 5);
-    assert!(rt; waits(&cache, 8, 0));
+    assert!(rt; waits(&cache, 8, 0) && cache.has_rests());
     assert!(rt; has(&cache, 8, 1, 511, 0xA2) && has(&cache, 8, 1, 512, 0));
     assert!(rt; has(&cache, 8, 2, 4095, 0x11));
     let second = write(
         &mut cache,
         &[
-            area_page(5, 14, 1, &[0xB1; 256], owed),
+            area_page(5, 14, 1, &[0xB1; 256], RestSource::Owed(name)),
             settings_page(&[0x22; 4096]),
         ],
     );
     assert!(rt; second == Some(9));
     assert!(rt; cache.free_slots() == 3 && cache.pending() == 5);
     assert!(rt; waits(&cache, 9, 0) && has(&cache, 9, 1, 0, 0x22));
-    cache.fill_rests(8, 0, &[0xC1; 4096]);
+    cache.fill_rests(name, &[0xC1; 4096]);
+    assert!(rt; !cache.has_rests());
     assert!(rt; has(&cache, 8, 0, 3839, 0xC1) && has(&cache, 8, 0, 3840, 0xA1));
     assert!(rt; has(&cache, 9, 0, 3583, 0xC1) && has(&cache, 9, 0, 3584, 0xB1));
     assert!(rt; has(&cache, 9, 0, 3839, 0xB1) && has(&cache, 9, 0, 3840, 0xA1));
-    let there = RestSource::Slot {
+    let there = RestSource::Slot(Name {
         number: 9,
         index: 0,
-    };
+    });
     let third = write(
         &mut cache,
         &[

@@ -6,10 +6,11 @@ use Rattle.std.specs.List.{list_any}
 use Rattle.std.proofs.Math.ListN.{get_or-append}
 use Rattle.std.proofs.lemmas.Option.{slice_get_read}
 use Rattle.ufs_spec.proofs.Facts.{none-some, same_Some}
+use Rattle.ufs_spec.specs.declared.layer.Name.{Name}
 use Rattle.write_cache.specs.declared.rests.Rest.{Rest}
 use Rattle.write_cache.specs.declared.slots.Pending.{Pending}
-use Rattle.write_cache.specs.Rests.{awaits, base_behind, body_or, comes_by, completed, completed_at, completed_by}
-use Rattle.write_cache.specs.Rests.{rests_filled}
+use Rattle.write_cache.specs.Rests.{awaited_by, awaits, base_behind, body_or, comes_by, completed, completed_at}
+use Rattle.write_cache.specs.Rests.{completed_by, own_name, rests_filled}
 use Rattle.write_cache.specs.Rooms.{AreInOrder}
 
 -- Order
@@ -19,105 +20,105 @@ number_kept base None p = refl
 number_kept base (Some r) p = refl
 
 -- no page changes its number
-pub rests_order : (n i a b : ℕ) (base : List ℕ) (ps : List Pending) → AreInOrder a b ps →
-    AreInOrder a b (rests_filled n i base ps)
-rests_order n i a b base [] h = tt
-rests_order n i a b base (p ∷ ps) h = by (awaits n i p)
-    (subst (λ (m : ℕ). (a ≤ m) × (m ≤ b) × AreInOrder m b (rests_filled n i (completed base p).body ps))
-    (sym (number_kept base p.rest p)) (h.0, h.1, rests_order n i p.number b (completed base p).body ps h.2))
-    (h.0, h.1, rests_order n i p.number b base ps h.2)
+pub rests_order : (name : Name) (a b : ℕ) (base : List ℕ) (ps : List Pending) → AreInOrder a b ps →
+    AreInOrder a b (rests_filled name base ps)
+rests_order name a b base [] h = tt
+rests_order name a b base (p ∷ ps) h = by (awaits name p)
+    (subst (λ (m : ℕ). (a ≤ m) × (m ≤ b) × AreInOrder m b (rests_filled name (completed base p).body ps))
+    (sym (number_kept base p.rest p)) (h.0, h.1, rests_order name p.number b (completed base p).body ps h.2))
+    (h.0, h.1, rests_order name p.number b base ps h.2)
   where
-    by : (c : Bool) → AreInOrder a b (completed base p ∷ rests_filled n i (completed base p).body ps) →
-        AreInOrder a b (p ∷ rests_filled n i base ps) → AreInOrder a b
-        (cond c (completed base p ∷ rests_filled n i (completed base p).body ps) (p ∷ rests_filled n i base ps))
+    by : (c : Bool) → AreInOrder a b (completed base p ∷ rests_filled name (completed base p).body ps) →
+        AreInOrder a b (p ∷ rests_filled name base ps) → AreInOrder a b
+        (cond c (completed base p ∷ rests_filled name (completed base p).body ps) (p ∷ rests_filled name base ps))
     by true filled same = filled
     by false filled same = same
 
 -- and there are as many
-pub rests_length : (n i : ℕ) (base : List ℕ) (ps : List Pending) → length (rests_filled n i base ps) ≡ length ps
-rests_length n i base [] = refl
-rests_length n i base (p ∷ ps) = by (awaits n i p) (rests_length n i (completed base p).body ps)
-    (rests_length n i base ps)
+pub rests_length : (name : Name) (base : List ℕ) (ps : List Pending) → length (rests_filled name base ps) ≡ length ps
+rests_length name base [] = refl
+rests_length name base (p ∷ ps) = by (awaits name p) (rests_length name (completed base p).body ps)
+    (rests_length name base ps)
   where
-    by : (c : Bool) → length (rests_filled n i (completed base p).body ps) ≡ length ps →
-        length (rests_filled n i base ps) ≡ length ps → length
-        (cond c (completed base p ∷ rests_filled n i (completed base p).body ps) (p ∷ rests_filled n i base ps))
+    by : (c : Bool) → length (rests_filled name (completed base p).body ps) ≡ length ps →
+        length (rests_filled name base ps) ≡ length ps → length
+        (cond c (completed base p ∷ rests_filled name (completed base p).body ps) (p ∷ rests_filled name base ps))
         ≡ suc (length ps)
     by true filled same = ap suc filled
     by false filled same = ap suc same
 
 -- none of them waits for that read any more
-rest_gone : (n i : ℕ) (base : List ℕ) (o : Option Rest) (p : Pending) → p.rest ≡ o →
-    awaits n i (completed_by base o p) ≡ false
-rest_gone n i base None p e = ap (comes_by n i) e
-rest_gone n i base (Some r) p e = refl
+rest_gone : (name : Name) (base : List ℕ) (o : Option Rest) (p : Pending) → p.rest ≡ o →
+    awaits name (completed_by base o p) ≡ false
+rest_gone name base None p e = ap (λ (o : Option Rest). comes_by name (awaited_by (own_name p) o)) e
+rest_gone name base (Some r) p e = refl
 
-pub none_waits : (n i : ℕ) (base : List ℕ) (ps : List Pending) →
-    list_any (awaits n i) (rests_filled n i base ps) ≡ false
-none_waits n i base [] = refl
-none_waits n i base (p ∷ ps) = by (awaits n i p) refl (none_waits n i (completed base p).body ps)
-    (none_waits n i base ps)
+pub none_waits : (name : Name) (base : List ℕ) (ps : List Pending) →
+    list_any (awaits name) (rests_filled name base ps) ≡ false
+none_waits name base [] = refl
+none_waits name base (p ∷ ps) = by (awaits name p) refl (none_waits name (completed base p).body ps)
+    (none_waits name base ps)
   where
-    by : (c : Bool) → awaits n i p ≡ c →
-        list_any (awaits n i) (rests_filled n i (completed base p).body ps) ≡ false →
-        list_any (awaits n i) (rests_filled n i base ps) ≡ false → list_any (awaits n i)
-        (cond c (completed base p ∷ rests_filled n i (completed base p).body ps) (p ∷ rests_filled n i base ps))
+    by : (c : Bool) → awaits name p ≡ c →
+        list_any (awaits name) (rests_filled name (completed base p).body ps) ≡ false →
+        list_any (awaits name) (rests_filled name base ps) ≡ false → list_any (awaits name)
+        (cond c (completed base p ∷ rests_filled name (completed base p).body ps) (p ∷ rests_filled name base ps))
         ≡ false
     by true e filled same =
-        ap (λ (b : Bool). b || list_any (awaits n i) (rests_filled n i (completed base p).body ps))
-        (rest_gone n i base p.rest p refl)
+        ap (λ (b : Bool). b || list_any (awaits name) (rests_filled name (completed base p).body ps))
+        (rest_gone name base p.rest p refl)
         ∙ filled
-    by false e filled same = ap (λ (b : Bool). b || list_any (awaits n i) (rests_filled n i base ps)) e ∙ same
+    by false e filled same = ap (λ (b : Bool). b || list_any (awaits name) (rests_filled name base ps)) e ∙ same
 
 -- One page further
 
-further : (n i : ℕ) (base block : List ℕ) (ps : List Pending) (k : ℕ) (p : Pending) → slice_get ps k ≡ Some p →
-    awaits n i p ≡ true →
-    take k ps ++ rests_filled n i base (drop k ps)
+further : (name : Name) (base block : List ℕ) (ps : List Pending) (k : ℕ) (p : Pending) → slice_get ps k ≡ Some p →
+    awaits name p ≡ true →
+    take k ps ++ rests_filled name base (drop k ps)
     ≡ take (suc k) (slice_set ps k (completed base p))
-    ++ rests_filled n i (body_or block (slice_get (slice_set ps k (completed base p)) k))
+    ++ rests_filled name (body_or block (slice_get (slice_set ps k (completed base p)) k))
     (drop (suc k) (slice_set ps k (completed base p)))
-further n i base block [] k p at w = absurd (none-some p at)
-further n i base block (x ∷ ps) zero p at w =
-    ap (λ (y : Pending). rests_filled n i base (y ∷ ps)) (same_Some x p at)
-    ∙ ap (λ (c : Bool). cond c (completed base p ∷ rests_filled n i (completed base p).body ps)
-    (p ∷ rests_filled n i base ps)) w
-further n i base block (x ∷ ps) (suc k) p at w =
-    ap (λ (qs : List Pending). x ∷ qs) (further n i base block ps k p at w)
+further name base block [] k p at w = absurd (none-some p at)
+further name base block (x ∷ ps) zero p at w =
+    ap (λ (y : Pending). rests_filled name base (y ∷ ps)) (same_Some x p at)
+    ∙ ap (λ (c : Bool). cond c (completed base p ∷ rests_filled name (completed base p).body ps)
+    (p ∷ rests_filled name base ps)) w
+further name base block (x ∷ ps) (suc k) p at w =
+    ap (λ (qs : List Pending). x ∷ qs) (further name base block ps k p at w)
 
-beyond : (n i : ℕ) (base : List ℕ) (ps : List Pending) (k : ℕ) (p : Pending) → slice_get ps k ≡ Some p →
-    awaits n i p ≡ false →
-    take k ps ++ rests_filled n i base (drop k ps) ≡ take (suc k) ps ++ rests_filled n i base (drop (suc k) ps)
-beyond n i base [] k p at w = absurd (none-some p at)
-beyond n i base (x ∷ ps) zero p at w =
-    ap (λ (c : Bool). cond c (completed base x ∷ rests_filled n i (completed base x).body ps)
-    (x ∷ rests_filled n i base ps)) (ap (awaits n i) (same_Some x p at) ∙ w)
-beyond n i base (x ∷ ps) (suc k) p at w =
-    ap (λ (qs : List Pending). x ∷ qs) (beyond n i base ps k p at w)
+beyond : (name : Name) (base : List ℕ) (ps : List Pending) (k : ℕ) (p : Pending) → slice_get ps k ≡ Some p →
+    awaits name p ≡ false →
+    take k ps ++ rests_filled name base (drop k ps) ≡ take (suc k) ps ++ rests_filled name base (drop (suc k) ps)
+beyond name base [] k p at w = absurd (none-some p at)
+beyond name base (x ∷ ps) zero p at w =
+    ap (λ (c : Bool). cond c (completed base x ∷ rests_filled name (completed base x).body ps)
+    (x ∷ rests_filled name base ps)) (ap (awaits name) (same_Some x p at) ∙ w)
+beyond name base (x ∷ ps) (suc k) p at w =
+    ap (λ (qs : List Pending). x ∷ qs) (beyond name base ps k p at w)
 
 one : (k : ℕ) → suc k ≡ k + 1
 one k = omega arith
 
 -- a page that waits has its content then
-pub filled_more : (n i : ℕ) (base block : List ℕ) (ps qs : List Pending) (k : ℕ) (p : Pending) →
-    slice_get ps k ≡ Some p → awaits n i p ≡ true → qs ≡ completed_at base ps k (slice_get ps k) →
-    take k ps ++ rests_filled n i base (drop k ps)
-    ≡ take (k + 1) qs ++ rests_filled n i (base_behind block qs (Some k)) (drop (k + 1) qs)
-filled_more n i base block ps qs k p at w is =
-    further n i base block ps k p at w
-    ∙ ap (λ (m : ℕ). take m rs ++ rests_filled n i (base_behind block rs (Some k)) (drop m rs)) (one k)
-    ∙ ap (λ (zs : List Pending). take (k + 1) zs ++ rests_filled n i (base_behind block zs (Some k)) (drop (k + 1) zs))
+pub filled_more : (name : Name) (base block : List ℕ) (ps qs : List Pending) (k : ℕ) (p : Pending) →
+    slice_get ps k ≡ Some p → awaits name p ≡ true → qs ≡ completed_at base ps k (slice_get ps k) →
+    take k ps ++ rests_filled name base (drop k ps)
+    ≡ take (k + 1) qs ++ rests_filled name (base_behind block qs (Some k)) (drop (k + 1) qs)
+filled_more name base block ps qs k p at w is =
+    further name base block ps k p at w
+    ∙ ap (λ (m : ℕ). take m rs ++ rests_filled name (base_behind block rs (Some k)) (drop m rs)) (one k)
+    ∙ ap (λ (zs : List Pending). take (k + 1) zs ++ rests_filled name (base_behind block zs (Some k)) (drop (k + 1) zs))
     (sym (is ∙ ap (completed_at base ps k) at))
   where
     rs : List Pending
     rs = slice_set ps k (completed base p)
 
 -- and any other page stays
-pub passed_more : (n i : ℕ) (base : List ℕ) (ps : List Pending) (k : ℕ) (p : Pending) → slice_get ps k ≡ Some p →
-    awaits n i p ≡ false →
-    take k ps ++ rests_filled n i base (drop k ps) ≡ take (k + 1) ps ++ rests_filled n i base (drop (k + 1) ps)
-passed_more n i base ps k p at w =
-    beyond n i base ps k p at w ∙ ap (λ (m : ℕ). take m ps ++ rests_filled n i base (drop m ps)) (one k)
+pub passed_more : (name : Name) (base : List ℕ) (ps : List Pending) (k : ℕ) (p : Pending) → slice_get ps k ≡ Some p →
+    awaits name p ≡ false →
+    take k ps ++ rests_filled name base (drop k ps) ≡ take (k + 1) ps ++ rests_filled name base (drop (k + 1) ps)
+passed_more name base ps k p at w =
+    beyond name base ps k p at w ∙ ap (λ (m : ℕ). take m ps ++ rests_filled name base (drop m ps)) (one k)
 
 -- what was filled before one place was so before the next
 pub later : (o : Option ℕ) (m : ℕ) → IfSome o (λ k. k < m) → IfSome o (λ k. k < m + 1)

@@ -4,3 +4,4 @@ pub mod Deques
 pub mod Fills
 pub mod Order
 pub mod Parts
+pub mod Waiting

@@ -1,10 +1,14 @@
 -- Pages of which a command brings only some blocks of 256 bytes: the rest that such a page waits for, a group of such
 -- pages, and what the read of a rest makes of them (JESD220, 12.4).
-use Rattle.std.specs.Prelude.{◌≡◌, ℕ, ◌+◌, ◌*◌, ◌≤◌, ◌==◌, ◌&&◌, Bool, false, if◌then◌else◌, List, [], ◌∷◌, ◌++◌}
-use Rattle.std.specs.Prelude.{drop, filter_map, find, length, option_and_then, option_map, slice_get, slice_set, take}
-use Rattle.std.specs.Prelude.{unwrap_or, Option, Some, None}
+use Rattle.std.specs.Prelude.{◌≡◌, ℕ, ◌+◌, ◌*◌, ◌≤◌, Bool, false, if◌then◌else◌, List, [], ◌∷◌, ◌++◌, drop, filter_map}
+use Rattle.std.specs.Prelude.{find, is_some, length, option_and_then, option_map, slice_get, slice_set, take, unwrap_or}
+use Rattle.std.specs.Prelude.{Option, Some, None}
+use Rattle.ufs_spec.specs.Ledger.{same_name}
 use Rattle.ufs_spec.specs.Plain.{with_part}
+use Rattle.ufs_spec.specs.declared.layer.Name.{Name}
 use Rattle.write_cache.specs.declared.rests.NewPage.{NewPage}
+use Rattle.write_cache.specs.declared.rests.OwedSource.{OwedSource}
+use Rattle.write_cache.specs.declared.rests.OwedSource.TheVariants as owed
 use Rattle.write_cache.specs.declared.rests.Part.{Part}
 use Rattle.write_cache.specs.declared.rests.Rest.{Rest}
 use Rattle.write_cache.specs.declared.rests.RestSource.{RestSource}
@@ -42,9 +46,10 @@ IsPart x = (length x.bytes.now ≡ 256 * x.part.blocks) × (x.part.first + x.par
 -- the bytes over which the blocks of a new page are put: the content of a pending page, or what lies in its own slot
 abbrev pub base_in : List Pending → List ℕ → RestSource → List ℕ
 base_in ps body source.Nothing = body
-base_in ps body (source.Slot number index) =
-    unwrap_or (option_and_then content_of (find (is_named number index) ps)) body
-base_in ps body (source.Read number index) = body
+base_in ps body (source.Slot name) =
+    unwrap_or (option_and_then content_of (find (is_named name.number name.index) ps)) body
+base_in ps body (source.Page name place) = body
+base_in ps body (source.Owed name) = body
 
 -- the bytes in the slot of a new page: its own blocks over their base
 abbrev pub body_brought : List Pending → NewPage → List ℕ → List ℕ
@@ -52,9 +57,10 @@ body_brought ps x body = with_part_of x.part x.bytes.now (base_in ps body x.sour
 
 -- what the part waits for, if its rest is still to be read
 abbrev pub rest_by : Part → RestSource → Option Rest
-rest_by part (source.Read number index) = Some (record { number = number; index = index; part = part })
 rest_by part source.Nothing = None
-rest_by part (source.Slot number index) = None
+rest_by part (source.Slot name) = None
+rest_by part (source.Page name place) = Some (record { source = owed.Page name place; part = part })
+rest_by part (source.Owed name) = Some (record { source = owed.Slot name; part = part })
 
 -- the new page in the slot that was claimed for it, which holds these bytes now
 abbrev pub page_of : (number size : ℕ) → Claimed → List ℕ → NewPage → Pending
@@ -102,14 +108,36 @@ page_moved number xs claim =
 
 -- The read of a rest
 
--- the rest comes by the read that the page with this number and index waits for
-abbrev pub comes_by : ℕ → ℕ → Option Rest → Bool
-comes_by number index None = false
-comes_by number index (Some rest) = (rest.number == number) && (rest.index == index)
+-- the page waits for its rest
+abbrev pub waits : Pending → Bool
+waits p = is_some p.rest
+
+-- the name of the pending page
+abbrev pub own_name : Pending → Name
+own_name p = record { number = p.number; index = p.index }
+
+-- the pending page whose read brings the rest of the page of this name: itself if its rest is read from a page, else
+-- the one that is named
+abbrev pub read_by : Name → OwedSource → Name
+read_by own (owed.Page name place) = own
+read_by own (owed.Slot name) = name
+
+-- the read that brings the rest of the page of this name, if it waits for one
+abbrev pub awaited_by : Name → Option Rest → Option Name
+awaited_by own rest = option_map (λ (r : Rest). read_by own r.source) rest
+
+-- the read that the page waits for, by the name of the page for which it is done; None if its content is all there
+abbrev pub awaited : Pending → Option Name
+awaited p = awaited_by (own_name p) p.rest
+
+-- what is awaited is the read that is done for the page of this name
+abbrev pub comes_by : Name → Option Name → Bool
+comes_by name None = false
+comes_by name (Some read) = same_name read name
 
 -- the page waits for that read
-abbrev pub awaits : ℕ → ℕ → Pending → Bool
-awaits number index p = comes_by number index p.rest
+abbrev pub awaits : Name → Pending → Bool
+awaits name p = comes_by name (awaited p)
 
 -- the page waits no more: its own blocks stand over these bytes
 abbrev pub completed_by : List ℕ → Option Rest → Pending → Pending
@@ -123,12 +151,12 @@ completed base p = completed_by base p.rest p
 
 -- each page that waits for that read has its content. The first has its rest from what was read, and each later
 -- one from the one before it: all of them are of one key
-abbrev pub rests_filled : (number index : ℕ) → (base : List ℕ) → List Pending → List Pending
-rests_filled number index base [] = []
-rests_filled number index base (p ∷ ps) =
-    if awaits number index p
-    then completed base p ∷ rests_filled number index (completed base p).body ps
-    else p ∷ rests_filled number index base ps
+abbrev pub rests_filled : Name → (base : List ℕ) → List Pending → List Pending
+rests_filled name base [] = []
+rests_filled name base (p ∷ ps) =
+    if awaits name p
+    then completed base p ∷ rests_filled name (completed base p).body ps
+    else p ∷ rests_filled name base ps
 
 -- the bytes of the page that was found, and these where none was
 abbrev pub body_or : List ℕ → Option Pending → List ℕ

@@ -36,6 +36,8 @@ pub struct Cache {
     pages: VecDeque<Pending>,
     /// The slots that are claimed for groups to come, those of a reader in the order of its blocks.
     claims: VecDeque<Claimed>,
+    /// How many pages wait for their rest.
+    waiting: usize,
     /// Every group up to this number is durable or lost. It is at most `last`.
     frontier: u64,
     /// The greatest number that was given. It is at most 2^62.
@@ -77,6 +79,7 @@ impl Cache {
             free,
             pages: VecDeque::with_capacity(alloc, room)?,
             claims: VecDeque::with_capacity(alloc, room)?,
+            waiting: 0,
             frontier: last,
             last,
         })
@@ -261,6 +264,7 @@ impl Cache {
         ensures after { self.new ≡ record self.old { pages = drop 1 self.old.pages } }
     {
         let page = self.pages.pop_front()?;
+        self.waiting -= page.rests();
         let landed = Landed {
             key: page.key,
             number: page.number,

@@ -6,5 +6,5 @@ mod rests;
 mod slots;
 
 pub use cache::Cache;
-pub use rests::{NewPage, Part, Rest, RestSource};
+pub use rests::{NewPage, OwedSource, Part, Rest, RestSource};
 pub use slots::{Claimed, Landed, Pending, WholeGroup, key_at};

@@ -1,14 +1,15 @@
 //! Pages of which a command brings only some blocks of 256 bytes, and the rest that they wait for.
 ghost use Rattle.std.specs.Prelude.{◌≡◌, ◌+◌, ◌*◌, Some, find, length, min, option_and_then};
-ghost use Rattle.std.specs.Prelude.{option_copied};
-ghost use Rattle.write_cache.specs.Rests.{IsPart, awaits, base_in, claim_with, comes_by, completed};
-ghost use Rattle.write_cache.specs.Rests.{content_of, page_of, part_of, rest_by, with_part_of};
+ghost use Rattle.std.specs.Prelude.{option_copied, if◌then◌else◌};
+ghost use Rattle.write_cache.specs.Rests.{IsPart, awaited, awaits, base_in, claim_with, completed};
+ghost use Rattle.write_cache.specs.Rests.{content_of, own_name, page_of, part_of, read_by, rest_by};
+ghost use Rattle.write_cache.specs.Rests.{waits, with_part_of};
 ghost use Rattle.write_cache.specs.Slots.{is_named};
 
 use crate::slots::{Claimed, Pending};
 use std::collections::VecDeque;
 use ufs_bytes::Body;
-use ufs_spec::{Block, Key};
+use ufs_spec::{Block, Key, Name, Place};
 
 /// Some of the sixteen blocks of 256 bytes of a page, one after another: which is the first, and
 /// how many there are.
@@ -18,12 +19,21 @@ pub struct Part {
     pub blocks: u8,
 }
 
-/// What a page waits for of which a command brought only this part: its rest comes by the read that
-/// the page with this number and index waits for.
+/// Where a rest comes from that a pending page waits for. One read may bring the rests of several
+/// pages, one over another; it is called by the name of the first, for which it is done.
+#[derive(Clone, Copy)]
+pub enum OwedSource {
+    /// From the page of this name, which is at this place: it is read for the pending page itself.
+    Page { name: Name, place: Place },
+    /// From the slot of a page that waits itself: by the read that is done for the pending page of
+    /// this name.
+    Slot(Name),
+}
+
+/// What a page waits for of which a command brought only this part.
 #[derive(Clone, Copy)]
 pub struct Rest {
-    pub number: u64,
-    pub index: u16,
+    pub source: OwedSource,
     pub part: Part,
 }
 
@@ -33,11 +43,13 @@ pub enum RestSource {
     /// From nothing: its key was never written, or the command brings the whole page. The rest is
     /// what lies in the claimed slot, which is zeros.
     Nothing,
-    /// From the pending page with this number and index, whose content is all there.
-    Slot { number: u64, index: u16 },
-    /// From a page that is still to be read: by the read that the page with this number and index
-    /// waits for, which may be the new page itself.
-    Read { number: u64, index: u16 },
+    /// From the pending page of this name, whose content is all there.
+    Slot(Name),
+    /// From the page of this name, which is at this place: it is to be read for the new page.
+    Page { name: Name, place: Place },
+    /// From a pending page whose content is not all there: by the read that this page awaits
+    /// (`Pending::awaited`), and that is done for the pending page of this name.
+    Owed(Name),
 }
 
 /// A page of a group as a command brings it: its key, the blocks of it that the command has, their
@@ -66,12 +78,15 @@ impl Part {
     }
 }
 
-impl Rest {
-    /// Whether it comes by the read that the page with this number and index waits for.
-    fn comes_by(&self, number: u64, index: u16) -> bool
-        ensures { result ≡ comes_by number index (Some self.now) }
+impl OwedSource {
+    /// The pending page whose read brings the rest of the page of this name.
+    fn read_by(self, own: Name) -> Name
+        ensures { result ≡ read_by own self }
     {
-        self.number == number && self.index == index
+        match self {
+            OwedSource::Page { .. } => own,
+            OwedSource::Slot(name) => name,
+        }
     }
 }
 
@@ -80,14 +95,12 @@ impl RestSource {
     fn rest(self, part: Part) -> Option<Rest>
         ensures { result ≡ rest_by part self }
     {
-        match self {
-            RestSource::Read { number, index } => Some(Rest {
-                number,
-                index,
-                part,
-            }),
-            _ => None,
-        }
+        let source = match self {
+            RestSource::Nothing | RestSource::Slot(_) => return None,
+            RestSource::Page { name, place } => OwedSource::Page { name, place },
+            RestSource::Owed(name) => OwedSource::Slot(name),
+        };
+        Some(Rest { source, part })
     }
 }
 
@@ -102,12 +115,46 @@ impl Pending {
         }
     }
 
-    /// Whether it waits for the read that the page with this number and index waits for.
-    pub(crate) fn awaits(&self, number: u64, index: u16) -> bool
-        ensures { result ≡ awaits number index self.now }
+    /// Its name: the number of its group, and its index there.
+    pub fn name(&self) -> Name
+        ensures { result ≡ own_name self.now }
     {
-        match &self.rest {
-            Some(rest) => rest.comes_by(number, index),
+        let (number, index) = (self.number, self.index);
+        Name { number, index }
+    }
+
+    /// Whether it waits for its rest.
+    pub(crate) fn waits(&self) -> bool
+        ensures { result ≡ waits self.now }
+    {
+        self.rest.is_some()
+    }
+
+    /// How many rests it waits for: one or none.
+    pub(crate) fn rests(&self) -> usize
+        ensures { result ≡ (if waits self.now then 1 else 0) }
+    {
+        match self.rest {
+            Some(_) => 1,
+            None => 0,
+        }
+    }
+
+    /// The pending page whose read brings the rest that it waits for, which may be itself; `None`
+    /// if its content is all there.
+    pub fn awaited(&self) -> Option<Name>
+        ensures { result ≡ awaited self.now }
+    {
+        let rest = self.rest?;
+        Some(rest.source.read_by(self.name()))
+    }
+
+    /// Whether it waits for the read that is done for the page of this name.
+    pub(crate) fn awaits(&self, name: Name) -> bool
+        ensures { result ≡ awaits name self.now }
+    {
+        match self.awaited() {
+            Some(read) => read == name,
             None => false,
         }
     }
@@ -155,27 +202,29 @@ impl Claimed {
 fn take_base(body: &mut Body, source: RestSource, pages: &VecDeque<Pending>)
     ensures { body.new ≡ base_in pages.now.items body.old source }
 {
-    if let RestSource::Slot { number, index } = source {
-        if let Some(block) = content_named(pages, number, index) {
+    if let RestSource::Slot(name) = source {
+        if let Some(block) = content_named(pages, name) {
             body.set(block);
         }
     }
 }
 
-/// The content of the page with this number and index, if it is pending and all there.
-fn content_named(pages: &VecDeque<Pending>, number: u64, index: u16) -> Option<&Block>
+/// The content of the page of this name, if it is pending and all there.
+fn content_named(pages: &VecDeque<Pending>, name: Name) -> Option<&Block>
     ensures { option_copied result ≡
-        option_and_then content_of (find (is_named number index) pages.now.items) }
+        option_and_then content_of (find (is_named name.number name.index) pages.now.items) }
 {
-    let page = page_named(pages, number, index)?;
+    let page = page_named(pages, name)?;
     page.content()
 }
 
-/// The page with this number and index, if it is pending.
-fn page_named(pages: &VecDeque<Pending>, number: u64, index: u16) -> Option<&Pending>
-    ensures { option_copied result ≡ find (is_named number index) pages.now.items }
+/// The page of this name, if it is pending.
+fn page_named(pages: &VecDeque<Pending>, name: Name) -> Option<&Pending>
+    ensures { option_copied result ≡ find (is_named name.number name.index) pages.now.items }
 {
-    pages.iter().find(|page| page.is_named(number, index))
+    pages
+        .iter()
+        .find(|page| page.is_named(name.number, name.index))
 }
 
 /// All but the part is from these bytes from now on.

@@ -47,6 +47,7 @@ layer_moves d after s array u k layer claims leaves = record {
 abbrev pub IsForNone : Flight → Type 0
 IsForNone (Reading ForNobody place) = Unit {0}
 IsForNone (Reading ForStep place) = Unit {0}
+IsForNone (Reading (ForRest number index) place) = Unit {0}
 IsForNone (Reading reader place) = ⊥
 IsForNone flight = Unit {0}
 
@@ -67,7 +68,7 @@ job_leaves t die (Programming place (MarkPage m)) (WentWrong left) none =
     by false = record { before = refl; wanted = λ n k. refl }
 job_leaves t die (Reading (ForTask tag index) place) ending none = absurd none
 job_leaves t die (Reading ForStep place) ReadRight none = record { before = refl; wanted = λ n k. refl }
-job_leaves t die (Reading (ForRest number index) place) ending none = absurd none
+job_leaves t die (Reading (ForRest number index) place) ReadRight none = record { before = refl; wanted = λ n k. refl }
 job_leaves t die (Reading ForNobody place) ReadRight none = record { before = refl; wanted = λ n k. refl }
 job_leaves t die (Programming place Nothing) WentWell none = record { before = refl; wanted = λ n k. refl }
 job_leaves t die (Erasing spot) WentWell none = record { before = refl; wanted = λ n k. refl }

@@ -23,7 +23,7 @@ use Rattle.ufs_spec.specs.declared.flash.Outcome.TheVariants as outcome
 use Rattle.ufs_spec.specs.declared.flash.Place.{Place}
 use Rattle.ufs_spec.specs.declared.flash.Tag.{Tag}
 use Rattle.ufs_spec.specs.declared.layer.Reader.{Reader}
-use Rattle.ufs_spec.specs.declared.layer.Reader.TheVariants.{ForNobody, ForStep, ForTask}
+use Rattle.ufs_spec.specs.declared.layer.Reader.TheVariants.{ForNobody, ForRest, ForStep, ForTask}
 use Rattle.power_loss.specs.Book.{book}
 use Rattle.power_loss.specs.Invariant.{IsGroupPage, LookedRight}
 use Rattle.power_loss.proofs.open_tasks.FoundInLists.{found_is}
@@ -194,6 +194,10 @@ none_noted s (Reading ForStep place) ReadRight none = refl
 none_noted s (Reading ForStep place) ReadWrong none = refl
 none_noted s (Reading ForStep place) WentWell none = refl
 none_noted s (Reading ForStep place) (WentWrong cells) none = refl
+none_noted s (Reading (ForRest number index) place) ReadRight none = refl
+none_noted s (Reading (ForRest number index) place) ReadWrong none = refl
+none_noted s (Reading (ForRest number index) place) WentWell none = refl
+none_noted s (Reading (ForRest number index) place) (WentWrong cells) none = refl
 none_noted s (Reading reader place) ending none = absurd none
 none_noted s (Programming place cell) ending none = refl
 none_noted s (Erasing spot) ending none = refl
@@ -258,7 +262,8 @@ module _ (d : DeviceCore) (s : State) (die : ℕ) (left : Array) (after : Core) 
       nothing_keeps (Reading ForNobody place) ending tt is tells layer
   job_keeps (Some (Reading ForStep place)) ending reads is fit tells layer =
       nothing_keeps (Reading ForStep place) ending tt is tells layer
-  job_keeps (Some (Reading who place)) ending reads is fit tells layer = absurd (reads who place is)
+  job_keeps (Some (Reading (ForRest number index) place)) ending reads is fit tells layer =
+      nothing_keeps (Reading (ForRest number index) place) ending tt is tells layer
   job_keeps (Some (Programming place cell)) ending reads is fit tells layer =
       nothing_keeps (Programming place cell) ending tt is tells layer
   job_keeps (Some (Erasing spot)) ending reads is fit tells layer =

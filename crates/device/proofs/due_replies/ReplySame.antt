@@ -1,7 +1,8 @@
 -- The reply that a task owes is the one that the definitions say is due.
 use Rattle.std.proofs.Common.{◌≡◌, ◌∙◌, ℕ, ◌+◌, ◌-◌, ◌*◌, ◌<◌, ◌≤◌, ◌==◌, ◌&&◌, Bool, true, false}
-use Rattle.std.proofs.Common.{List, [], Option, Some, None, length, refl, sym, ap, subst, ⊎_elim, arith}
-use Rattle.std.specs.Prelude.{find, if◌then◌else◌, min, nat_le, nat_lt, option_map, slice_get, take}
+use Rattle.std.proofs.Common.{List, Option, Some, None, length, refl, sym, ap, subst, ⊎_elim, arith}
+use Rattle.std.specs.Prelude.{find, if◌then◌else◌, min, nat_le, nat_lt, not, option_map, slice_get, take}
+use Rattle.std.specs.List.{list_any}
 use Rattle.std.specs.Int.{div_ceil}
 use Rattle.std.proofs.lemmas.Bool.{le-ltb}
 use Rattle.std.proofs.lemmas.Bool.Decides.{nat_tests}
@@ -19,7 +20,7 @@ use Rattle.ufs_spec.specs.Machine.{block_reply, deed_reply, is_at_hand, needs_no
 use Rattle.ufs_spec.specs.Moves.{is_pin_of}
 use Rattle.ufs_spec.specs.Refusals.{State, numbers_of}
 use Rattle.ufs_spec.specs.Translation as layer
-use Rattle.ufs_spec.specs.Translation.{Pin, is_mended}
+use Rattle.ufs_spec.specs.Translation.{Pin, is_mended, is_rest_of}
 use Rattle.ufs_spec.specs.declared.flash.Key.{Key}
 use Rattle.ufs_spec.specs.declared.layer.Looked.{Looked}
 use Rattle.ufs_spec.specs.declared.layer.Looked.TheVariants.{InSlot, OnPage, Unwritten}
@@ -30,7 +31,6 @@ use Rattle.power_loss.specs.Shown.{IsShown, ShowsBlock, ShowsRight}
 use Rattle.power_loss.proofs.open_tasks.FoundInLists.{found_is}
 use Rattle.power_loss.proofs.books.SmallFacts.{if_false, if_true, two_ways}
 use Rattle.power_loss.proofs.ordered_lists.ElementsAndOrders.{all_in, found_in}
-use Rattle.ftl_core.specs.Public.{in_this_stage}
 use Rattle.task_set.specs.declared.tasks.Phase.{Phase}
 use Rattle.task_set.specs.declared.tasks.Phase.TheVariants as phase
 use Rattle.task_set.specs.declared.tasks.Sending.{Sending as Sends}
@@ -80,7 +80,8 @@ some_left total blocks sent all more =
 -- Blocks
 
 -- a block is at hand, or was read, just where the definitions say so
-module _ (l : Ledger) (read : Option (List ℕ)) (a : Task) (b : exchange.Task) (x : Sends) (sent : ℕ) (key : Key)
+module _ (rests : List layer.Rest) (l : Ledger) (read : Option (List ℕ)) (a : Task) (b : exchange.Task) (x : Sends)
+    (sent : ℕ) (key : Key)
     (body : List ℕ) (same : exchange.block_message b sent body ≡ block_message a x body) where
   -- a slot has the body of its page
   in_slot : (name : Name) → IsShown l key (InSlot name) body →
@@ -93,13 +94,25 @@ module _ (l : Ledger) (read : Option (List ℕ)) (a : Task) (b : exchange.Task) 
 
   in_hand : (state : ReadState) (kept : Looked) → IsShown l key kept body → is_lost state ≡ false →
       read ≡ read_by body state →
-      block_reply b sent body state (needs_no_read [] kept) ≡ option_map (block_message a x)
-      (block_at l read kept)
+      block_reply b sent body state (needs_no_read rests kept) ≡ option_map (block_message a x)
+      (block_at rests l read kept)
   in_hand NotRead kept shown fine was = absurd (false≢true (sym fine))
   in_hand Unread Unwritten shown fine was = ap (λ z. Some z) (same ∙ ap (block_message a x) shown)
   in_hand WasRead Unwritten shown fine was = ap (λ z. Some z) (same ∙ ap (block_message a x) shown)
-  in_hand Unread (InSlot name) shown fine was = in_slot name shown
-  in_hand WasRead (InSlot name) shown fine was = in_slot name shown
+  in_hand Unread (InSlot name) shown fine was = by (list_any (is_rest_of name) rests)
+    where
+      by : (w : Bool) → (if not w then Some (exchange.block_message b sent body) else None)
+          ≡ option_map (block_message a x)
+          (if w then read else option_map (λ (e : Entry). e.item.body) (entry_of l name))
+      by true = ap (option_map (block_message a x)) (sym was)
+      by false = in_slot name shown
+  in_hand WasRead (InSlot name) shown fine was = by (list_any (is_rest_of name) rests)
+    where
+      by : (w : Bool) → Some (exchange.block_message b sent body)
+          ≡ option_map (block_message a x)
+          (if w then read else option_map (λ (e : Entry). e.item.body) (entry_of l name))
+      by true = ap (λ z. Some z) same ∙ ap (option_map (block_message a x)) (sym was)
+      by false = in_slot name shown
   in_hand Unread (OnPage name place) shown fine was = ap (option_map (block_message a x)) (sym was)
   in_hand WasRead (OnPage name place) shown fine was =
       ap (λ z. Some z) same ∙ ap (option_map (block_message a x)) (sym was)
@@ -172,15 +185,13 @@ module _ (d : DeviceCore) (s : State) (a : OpenTask) (b : exchange.Task) (h : De
       ≡ option_map (block_message (task_in a) x) (block_for s.translation a.block a.tag x.sent)
   sending_same x blocks sent deed is =
       ap (next_block_reply s b sent) there
-      ∙ (ap (λ (rests : List layer.Rest). block_reply b sent block.body block.state
-      (is_at_hand rests (machine.pin_of s b sent)))
-      (in_this_stage d.ftl s.translation h.kept.layer_kept).rests
-      ∙ (ap (λ p. block_reply b sent block.body block.state (is_at_hand [] p)) pin.found
-      ∙ (in_hand s.translation.ledger a.block (task_in a) b x sent pin.key block.body
+      ∙ (ap (λ p. block_reply b sent block.body block.state (is_at_hand s.translation.work.rests p)) pin.found
+      ∙ (in_hand s.translation.work.rests s.translation.ledger a.block (task_in a) b x sent pin.key block.body
       (same_block x sent block.body is.total_is is.sent_is
       (some_left (min a.expected x.length) x.blocks x.sent is.all is.more))
       block.state pin.pin.looked pin.shown (is.readable block there) read
-      ∙ ap (λ p. option_map (block_message (task_in a) x) (block_of s.translation.ledger a.block p)) (sym pinned))))
+      ∙ ap (λ p. option_map (block_message (task_in a) x)
+      (block_of s.translation.work.rests s.translation.ledger a.block p)) (sym pinned)))
     where
       next : (block : ReadBlock) × (slice_get blocks sent ≡ Some block)
       next = let count = is.count in let at = is.sent_is in let more = is.more in get_there blocks sent (omega arith)

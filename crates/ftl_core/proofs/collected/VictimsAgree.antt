@@ -8,7 +8,6 @@ use Rattle.ufs_spec.proofs.Facts.{and_parts, ltb-true}
 use Rattle.ufs_spec.specs.Disk as disk
 use Rattle.ufs_spec.specs.Disk.{Spot, place_in}
 use Rattle.ufs_spec.specs.Keys.{below}
-use Rattle.ufs_spec.specs.Ledger.{entry_of}
 use Rattle.ufs_spec.specs.Translation as layer
 use Rattle.ufs_spec.specs.Translation.{Translation, count_blocks, least_of, spots, wanted_room}
 use Rattle.block_table.specs.Blocks.{is_bad, is_free}
@@ -53,7 +52,7 @@ module _ (c : Core) (t : Translation) (h : Describes c t) where
 
   -- a reader keeps a page of a block where a task does
   pinned_agree : (s : Spot) → is_pinned c s ≡ layer.is_pinned t s
-  pinned_agree s = pinned_as t.ledger.frontier (entry_of t.ledger) t s c.pins h.kept.work.no_rests h.kept.pins
+  pinned_agree s = pinned_as c t s h
 
   -- the state that is kept of a block of the dies is its state
   state_agrees : (s : Spot) → has_block (sizes_of t.numbers) s ≡ true →

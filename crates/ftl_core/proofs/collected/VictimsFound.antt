@@ -25,13 +25,13 @@ module _ (f : Inside) (r : IsRoomy f) where
   state_found s =
       ap (λ (blocks : ℕ). unwrap_or (slice_get f.blocks.states (s.die * blocks + s.block)) state.Bad) r.blocks
 
-  -- a block of the dies has pins in the table exactly if a reader keeps a page of it
+  -- a block of the dies has pins in the table exactly if a reader keeps a page of it, or a rest is to be read from it
   pinned_found : (s : Spot) → has_block f.live.sizes s ≡ true →
       lives.is_pinned f.live s ≡ is_pinned (core_of f) s
   pinned_found s there =
       let u : (nat_lt s.die f.live.sizes.dies ≡ true) × (nat_lt s.block f.live.sizes.blocks ≡ true) =
       and_parts _ _ there in
-      pinned_is f.live f.pins.items s.die s.block r.pinned (ltb-true s.die f.live.sizes.dies u.0)
+      pinned_is f.live f.pins.items f.cache.pages s.die s.block r.pinned (ltb-true s.die f.live.sizes.dies u.0)
       (ltb-true s.block f.live.sizes.blocks u.1)
 
   -- so the same blocks may be collected

@@ -94,6 +94,7 @@ pages_put st en name place ps names k p h at named differ =
     put = record {
       number = here.number;
       index = here.index;
+      body = here.body;
       entry = here.entry;
       group_page = here.group_page;
       stands = at_here st name name place refl;
@@ -107,6 +108,7 @@ pages_put st en name place ps names k p h at named differ =
         record {
           number = there.number;
           index = there.index;
+          body = there.body;
           entry = there.entry;
           group_page = there.group_page;
           stands = at_other st name m place

@@ -208,7 +208,7 @@ unfolding settled_by after
 settled_end zero c ends = refl
 settled_end (suc n) c ends = is_after n c ∙ ap (after n c) ends
 
-settled_on : (n : ℕ) (c : Core) (number : ℕ) → front_written c ≡ Some number →
+pub settled_on : (n : ℕ) (c : Core) (number : ℕ) → front_written c ≡ Some number →
     settled_by (suc n) c ≡ settled_by n (group_durable c number)
 unfolding after
 settled_on n c number e = is_after n c ∙ ap (after n c) e

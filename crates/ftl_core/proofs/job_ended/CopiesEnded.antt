@@ -147,7 +147,6 @@ module _ (c : Core) (t : Translation) (die : ℕ) (b : DieRow) (o : OpenBlock) (
         mending_is = h.kept.work.mending_is;
         step_is = subst (StepKept (with_page t.ledger name place) None c.content) (sym ends_with_page) tt;
         to_repair = λ e. absurd (false≢true (sym e ∙ mended));
-        no_rests = h.kept.work.no_rests;
         next_mark = h.kept.work.next_mark;
         repaired = h.kept.work.repaired;
       };

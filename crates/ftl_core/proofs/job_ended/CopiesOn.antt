@@ -70,7 +70,7 @@ marked_again t fence name from e = by (has_mark_number t) e
     by false f = cc
 
 -- a mark that is ordered again leaves the pages
-again_cells : (t : Translation) (fence : Option Fence) (p : Place) →
+pub again_cells : (t : Translation) (fence : Option Fence) (p : Place) →
     t.disk.cells p ≡ (mark_again t fence).disk.cells p
 again_cells t fence p = by (has_mark_number t)
   where
@@ -83,7 +83,7 @@ again_cells t fence p = by (has_mark_number t)
 -- The page
 
 -- a page there was the one that is there
-abbrev Stays : Cells → Cells → Place → Type 0
+abbrev pub Stays : Cells → Cells → Place → Type 0
 Stays cells now p = (tag : Tag) (body : List ℕ) → now p ≡ GroupPage tag body → cells p ≡ GroupPage tag body
 
 -- a page that a program goes to is nothing before
@@ -96,21 +96,21 @@ module _ (t : Translation) (v : Valid t) (from : Place) (tag : Tag) (body : List
   apart : (p : Place) → t.disk.cells p ≡ Nothing → from ≢ p
   apart p none e = page_not_nothing (t.disk.cells from) tag body there (ap t.disk.cells e ∙ none)
 
-  stays_put : (die : ℕ) (p : Place) (cell : Cell) → t.disk.flights die ≡ Some (disk.Programming p cell) →
+  pub stays_put : (die : ℕ) (p : Place) (cell : Cell) → t.disk.flights die ≡ Some (disk.Programming p cell) →
       Stays t.disk.cells (at_place t.disk.cells p cell) from
   stays_put die p cell flies u b e = ⊎_elim
       (λ h. absurd (apart p (blank_there t v die p cell flies) h.0))
       (λ h. sym h.1 ∙ e)
       (at_place_cases t.disk.cells p cell from)
 
-  stays_erased : (s : Spot) → Stays t.disk.cells (λ p. if same_spot (spot_of p) s then Nothing else t.disk.cells p) from
+  pub stays_erased : (s : Spot) → Stays t.disk.cells (λ p. if same_spot (spot_of p) s then Nothing else t.disk.cells p) from
   stays_erased s u b e = by (same_spot (spot_of from) s) e
     where
       by : (x : Bool) → (if x then Nothing else t.disk.cells from) ≡ GroupPage u b → t.disk.cells from ≡ GroupPage u b
       by true f = absurd (page_not_nothing Nothing u b f refl)
       by false f = f
 
-  stays_left : (die : ℕ) (left : Cells) → CellCrash t.disk.cells (flight_alone t.disk.flights die) left →
+  pub stays_left : (die : ℕ) (left : Cells) → CellCrash t.disk.cells (flight_alone t.disk.flights die) left →
       Stays t.disk.cells left from
   stays_left die left crash u b e = ⊎_elim
       (λ same. sym same ∙ e)
@@ -137,7 +137,7 @@ module _ (t : Translation) (v : Valid t) (from : Place) (tag : Tag) (body : List
 -- The end of a job
 
 -- a block that is freed keeps its pages
-freed_cells : (d : disk.Disk) (o : Option layer.Plan) → (moves.freed d o).cells ≡ d.cells
+pub freed_cells : (d : disk.Disk) (o : Option layer.Plan) → (moves.freed d o).cells ≡ d.cells
 freed_cells d None = refl
 freed_cells d (Some p) = refl
 

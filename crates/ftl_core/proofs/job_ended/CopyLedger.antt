@@ -47,6 +47,7 @@ pages_beside standing entries name p (q ∷ qs) (m ∷ ms) apart h = (
   record {
     number = h.0.number;
     index = h.0.index;
+    body = h.0.body;
     entry = h.0.entry;
     group_page = h.0.group_page;
     stands = at_other standing name m p (apart 0 m refl) ∙ h.0.stands;

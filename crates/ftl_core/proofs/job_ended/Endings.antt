@@ -13,7 +13,7 @@ use Rattle.ufs_spec.specs.declared.flash.Place.{Place}
 use Rattle.ufs_spec.specs.declared.flash.Tag.{Tag}
 use Rattle.ufs_spec.specs.declared.flash.Outcome.TheVariants as outcome
 use Rattle.ufs_spec.specs.declared.layer.Reader.{Reader}
-use Rattle.ufs_spec.specs.declared.layer.Reader.TheVariants.{ForNobody, ForStep, ForTask}
+use Rattle.ufs_spec.specs.declared.layer.Reader.TheVariants.{ForNobody, ForRest, ForStep, ForTask}
 use Rattle.page_tag.specs.Jobs.{IsTagRead}
 use Rattle.power_loss.proofs.moves.MovesKeepValid.{all_keep}
 use Rattle.block_table.specs.declared.rows.DieRow.{DieRow}
@@ -37,7 +37,9 @@ use Rattle.ftl_core.specs.Takes.{next_place}
 use Rattle.block_table.specs.declared.rows.OpenBlock.{OpenBlock}
 use Rattle.ftl_core.proofs.job_taken.NextStarts.{outside}
 use Rattle.ftl_core.proofs.job_ended.ReadsEnded.{idle_kept, read_ends, task_kept}
-use Rattle.ftl_core.proofs.job_ended.ReadsGiven.{lost_told, step_told, task_told}
+use Rattle.ftl_core.proofs.job_ended.ReadsGiven.{lost_told, rest_told, step_told, task_told}
+use Rattle.ftl_core.proofs.job_ended.RestsEnded.{rests_of}
+use Rattle.ftl_core.proofs.job_ended.RestsRead.{rest_read_ends}
 use Rattle.ftl_core.proofs.job_taken.FlightKinds.{flight_cases}
 use Rattle.ftl_core.proofs.live_pages.JobsLive.{live_of}
 
@@ -72,11 +74,11 @@ no_row c t die h there = h.kept.dies.no_more die (outside c t die h.kept there)
 
 kept_then : (c : Core) (t : Translation) (die : ℕ) (o : Outcome) (tag : Option Tag) (ending : Ending) (b : DieRow)
     (after : Core) → IsTagRead o tag → Describes c t → slice_get c.rows die ≡ Some b →
-    IsEndingOf t.disk.cells (t.disk.flights die) o ending →
+    IsEndingOf t.disk.cells (t.disk.flights die) o ending → MayEnd t.disk die (t.disk.flights die) ending →
     IsFlightAfter c die b b.flight o tag after → Kept after (moved t (EndJob die ending))
-kept_then c t die o tag ending b after found h there is new =
+kept_then c t die o tag ending b after found h there is may new =
     flight_cases t.numbers c.step die b.filling Goal (λ does flies now new. absurd (false≢true now.0)) reads contents
-    lost steps groups erases b.flight (t.disk.flights die) (h.kept.dies.each die b there).job refl refl is new
+    lost owed steps groups erases b.flight (t.disk.flights die) (h.kept.dies.each die b there).job refl refl is new
   where
     Goal : Option Flight → Option disk.Flight → Type 0
     Goal f g = b.flight ≡ f → t.disk.flights die ≡ g → IsEndingOf t.disk.cells g o ending →
@@ -102,6 +104,12 @@ kept_then c t die o tag ending b after found h there is new =
         read_ends (λ d e. IsReadAfter d c die b o tag ForNobody after →
         Kept after (end_flight t die (Some (disk.Reading ForNobody place)) e)) t.disk.cells ForNobody place
         (λ e. same _ _ kept e) (λ e. same _ _ kept e) o ending now new
+
+    owed : (place : Place) (number index : ℕ) →
+        Goal (Some (flight.Read place (ForRest number index))) (Some (disk.Reading (ForRest number index) place))
+    owed place number index does flies now new =
+        (rest_read_ends c t die number index b place h there flies o tag ending after now
+        (subst (λ (g : Option disk.Flight). MayEnd t.disk die g ending) flies may) new).kept
 
     steps : (filled : OpenBlock) (cell : Cell) → b.filling ≡ Some filled → IsStepCell c.step cell →
         Goal (Some (flight.Step (next_place die filled))) (Some (disk.Programming (next_place die filled) cell))
@@ -135,13 +143,13 @@ kept_then c t die o tag ending b after found h there is new =
 
 kept_of : (c : Core) (t : Translation) (die : ℕ) (o : Outcome) (tag : Option Tag) (ending : Ending)
     (book : Option DieRow) (after : Core) → IsTagRead o tag → Describes c t → slice_get c.rows die ≡ book →
-    IsEndingOf t.disk.cells (t.disk.flights die) o ending →
+    IsEndingOf t.disk.cells (t.disk.flights die) o ending → MayEnd t.disk die (t.disk.flights die) ending →
     IsRowAfter c die book o tag after → Kept after (moved t (EndJob die ending))
-kept_of c t die o tag ending None after found h there is new =
+kept_of c t die o tag ending None after found h there is may new =
     absurd (false≢true (subst (λ (g : Option disk.Flight). IsEndingOf t.disk.cells g o ending)
     (no_row c t die h there) is).0)
-kept_of c t die o tag ending (Some b) after found h there is new =
-    kept_then c t die o tag ending b after found h there is new
+kept_of c t die o tag ending (Some b) after found h there is may new =
+    kept_then c t die o tag ending b after found h there is may new
 
 -- what is kept once a job ended so describes the layer in which it did
 pub ends_right : (c after : Core) (die : ℕ) (o : Outcome) (tag : Option Tag) → IsTagRead o tag →
@@ -150,10 +158,11 @@ pub ends_right : (c after : Core) (die : ℕ) (o : Outcome) (tag : Option Tag) �
     Describes after (moved t (EndJob die ending))
 ends_right c after die o tag found new t ending h is may = record {
   valid = all_keep t (EndJob die ending) h.valid may;
-  kept = kept_of c t die o tag ending (slice_get c.rows die) after found h refl is new;
+  kept = kept_of c t die o tag ending (slice_get c.rows die) after found h refl is may new;
   live = live_of c t die o tag (slice_get c.rows die) after h refl new;
   copies = copies_on t h.valid c.plan h.kept.plan.plan_is h.copies after.plan (same_plan c after die o tag new) die
       ending may;
+  rests = rests_of c t die o tag ending (slice_get c.rows die) after h refl is may new;
 }
 
 -- What is told
@@ -164,6 +173,7 @@ told_then : (c : Core) (t : Translation) (die : ℕ) (o : Outcome) (ending : End
     (e : Ended) × (r ≡ Some e) × IsTold t.disk.cells (t.disk.flights die) ending e
 told_then c t die o ending r b h there is answer =
     flight_cases t.numbers c.step die b.filling Goal (λ flies now told. absurd (false≢true now.0)) reads contents lost
+    owed
     (λ filled cell fills page flies now told. programs (next_place die filled) cell now told)
     (λ filled tag body fills no_repair flies now told.
     programs (next_place die filled) (GroupPage tag body) now told)
@@ -189,6 +199,10 @@ told_then c t die o ending r b h there is answer =
 
     lost : (place : Place) → Goal (Some (flight.Read place ForNobody)) (Some (disk.Reading ForNobody place))
     lost place flies now told = lost_told c t.disk.cells place o ending r now told
+
+    owed : (place : Place) (number index : ℕ) →
+        Goal (Some (flight.Read place (ForRest number index))) (Some (disk.Reading (ForRest number index) place))
+    owed place number index flies now told = rest_told c t.disk.cells number index place o ending r now told
 
     programs : (p : Place) (cell : Cell) → IsEndingOf t.disk.cells (Some (disk.Programming p cell)) o ending →
         r ≡ option_map other_for (gives.ending o) →
@@ -253,6 +267,8 @@ known_then c t die o r b h there answer =
     read_known c (ForTask tag index) r (is_read o) o told ∙ reads_suit (ForTask tag index) place o)
     (λ place told. read_known c ForStep r (is_read o) o told ∙ reads_suit ForStep place o)
     (λ place told. read_known c ForNobody r (is_read o) o told ∙ reads_suit ForNobody place o)
+    (λ place number index told.
+    read_known c (ForRest number index) r (is_read o) o told ∙ reads_suit (ForRest number index) place o)
     (λ filled cell fills page told. ap is_some told ∙ programs_suit (next_place die filled) cell o)
     (λ filled tag body fills no_repair told.
     ap is_some told ∙ programs_suit (next_place die filled) (GroupPage tag body) o)

@@ -159,7 +159,6 @@ module _ (c : Core) (t : Translation) (die : ℕ) (b : DieRow) (o : OpenBlock) (
             left_kept t.ledger (record t.ledger { newest = Some m }) c.step n fence left step
             (λ k. record { differ = k.differ; unrepaired = k.unrepaired })
             (h.kept.work.to_repair (behind_unmended t.work.mending e));
-        no_rests = h.kept.work.no_rests;
         next_mark = h.kept.work.next_mark;
         repaired = durable_behind t n fence h.valid layer_step h.kept.work.repaired;
       }
@@ -282,7 +281,6 @@ module _ (c : Core) (t : Translation) (die : ℕ) (b : DieRow) (o : OpenBlock) (
             subst (AreToRepair (record t.ledger { marks = marks })) (sym same)
             (left_kept t.ledger (record t.ledger { marks = marks }) c.step n fence (drop c.repaired c.lost) step
             (λ k. record { differ = k.differ; unrepaired = k.unrepaired }) (h.kept.work.to_repair e));
-        no_rests = h.kept.work.no_rests;
         next_mark = numbered;
         repaired = h.kept.work.repaired;
       }

@@ -118,7 +118,6 @@ plan_frees c t k free = by c.plan refl
         mending_is = k.work.mending_is;
         step_is = k.work.step_is;
         to_repair = k.work.to_repair;
-        no_rests = k.work.no_rests;
         next_mark = k.work.next_mark;
         repaired = k.work.repaired;
       };
@@ -156,7 +155,6 @@ plan_frees c t k free = by c.plan refl
         mending_is = k.work.mending_is;
         step_is = k.work.step_is;
         to_repair = k.work.to_repair;
-        no_rests = k.work.no_rests;
         next_mark = k.work.next_mark;
         repaired = k.work.repaired;
       };

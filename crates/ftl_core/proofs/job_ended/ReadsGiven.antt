@@ -19,7 +19,7 @@ use Rattle.ufs_spec.specs.declared.layer.Looked.{Looked}
 use Rattle.ufs_spec.specs.declared.layer.Looked.TheVariants.{OnPage}
 use Rattle.ufs_spec.specs.declared.layer.Name.{Name}
 use Rattle.ufs_spec.specs.declared.layer.Reader.{Reader}
-use Rattle.ufs_spec.specs.declared.layer.Reader.TheVariants.{ForNobody, ForStep, ForTask}
+use Rattle.ufs_spec.specs.declared.layer.Reader.TheVariants.{ForNobody, ForRest, ForStep, ForTask}
 use Rattle.ufs_laws.proofs.pages.SealedOnce.{body_opened}
 use Rattle.power_loss.specs.Book.{IsPageAt, book}
 use Rattle.power_loss.specs.Invariant.{IsGroupPage, LookedRight, Valid}
@@ -206,6 +206,19 @@ pub lost_told : (c : Core) (cells : Cells) (place : Place) (o : Outcome) (ending
 lost_told c cells place o ending r = other_told c cells ForNobody ForNobody place o ending r (λ e k. k) by
   where
     by : (x : Ending) → IsTold cells (Some (disk.Reading ForNobody place)) x ended.Other
+    by ReadRight = refl
+    by ReadWrong = refl
+    by WentWell = refl
+    by (WentWrong left) = refl
+
+pub rest_told : (c : Core) (cells : Cells) (number index : ℕ) (place : Place) (o : Outcome) (ending : Ending)
+    (r : Option Ended) → IsEndingOf cells (Some (disk.Reading (ForRest number index) place)) o ending →
+    GivesIf (is_read o) c o (ForRest number index) r →
+    (e : Ended) × (r ≡ Some e) × IsTold cells (Some (disk.Reading (ForRest number index) place)) ending e
+rest_told c cells number index place o ending r =
+    other_told c cells (ForRest number index) (ForRest number index) place o ending r (λ e k. k) by
+  where
+    by : (x : Ending) → IsTold cells (Some (disk.Reading (ForRest number index) place)) x ended.Other
     by ReadRight = refl
     by ReadWrong = refl
     by WentWell = refl

@@ -200,7 +200,6 @@ module _ (c : Core) (t : Translation) (die : ℕ) (b : DieRow) (place : Place) (
       step_is = there_now t.ledger step_read.number step_read.key step_read.stored c.content t.work.step repair;
       to_repair = λ e. subst (λ (z : Option Step). AreToRepair t.ledger (keys_to_repair z (drop c.repaired c.lost)))
           step_read.is (h.kept.work.to_repair e);
-      no_rests = h.kept.work.no_rests;
       next_mark = h.kept.work.next_mark;
       repaired = h.kept.work.repaired;
     };

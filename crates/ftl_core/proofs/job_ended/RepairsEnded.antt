@@ -176,7 +176,6 @@ module _ (c : Core) (t : Translation) (die : ℕ) (b : DieRow) (o : OpenBlock) (
           differ = λ i j d less within. to_repair.differ (suc i) (suc j) d (omega arith) (omega arith);
           unrepaired = λ i d within. to_repair.unrepaired (suc i) d (omega arith);
         };
-        no_rests = h.kept.work.no_rests;
         next_mark = h.kept.work.next_mark;
         repaired = λ e. absurd (false≢true (sym not_mended ∙ e));
       }
@@ -228,7 +227,6 @@ module _ (c : Core) (t : Translation) (die : ℕ) (b : DieRow) (o : OpenBlock) (
       step_is = k0.work.step_is;
       to_repair = λ e. repaired_left (with_page t.ledger name place) k left item low alone refl
           (record { differ = to_repair.differ; unrepaired = to_repair.unrepaired });
-      no_rests = k0.work.no_rests;
       next_mark = k0.work.next_mark;
       repaired = λ e. absurd (false≢true (sym not_mended ∙ e));
     };

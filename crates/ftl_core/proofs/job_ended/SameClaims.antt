@@ -27,6 +27,8 @@ use Rattle.write_cache.specs.Slots.{is_named, is_of_group}
 use Rattle.ftl_core.specs.Ends.{pending_written, settled_by, step_again, step_over, with_content}
 use Rattle.ftl_core.specs.Gives.{IsReadAfter, IsReadOver, change_after, change_ended, ending, is_read}
 use Rattle.ftl_core.specs.Ends.{settled}
+use Rattle.ftl_core.specs.Rests.{with_rest}
+use Rattle.ufs_spec.specs.declared.layer.Name.{Name}
 use Rattle.ftl_core.specs.Moves.{page_written, stored_of, with_row}
 use Rattle.ftl_core.specs.Public.{AreClaimed, Claims}
 use Rattle.write_cache.specs.Slots.{is_claim_of}
@@ -159,11 +161,16 @@ content : (c : Core) (tag : Option Tag) (o : Option (List ℕ)) → Stays c (wit
 content c tag None = same c
 content c tag (Some body) = record { claims = refl; plan = λ p e. e }
 
+rest : (c : Core) (name : Name) (o : Option (List ℕ)) → Stays c (with_rest c name o)
+rest c name None = same c
+rest c name (Some body) = record { claims = refl; plan = λ p e. e }
+
 read_over : (c : Core) (o : Outcome) (found : Option Tag) (reader : Reader) (new : Core) →
     IsReadOver c o found reader new → Stays c new
 read_over c o found (ForTask tag index) new h = is_as c new _ h (record { claims = refl; plan = λ p e. e })
 read_over c o found ForStep new h = is_as c new _ h.2 (content c found h.0)
-read_over c o found (ForRest number index) new h = is_as c new c h (same c)
+read_over c o found (ForRest number index) new h =
+    is_as c new _ h.2 (rest c (record { number = number; index = index }) h.0)
 read_over c o found ForNobody new h = is_as c new c h (same c)
 
 read_after : (known : Bool) (c : Core) (die : ℕ) (b : DieRow) (o : Outcome) (found : Option Tag) (reader : Reader)

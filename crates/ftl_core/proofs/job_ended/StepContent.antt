@@ -151,7 +151,6 @@ module _ (c : Core) (t : Translation) (die : ℕ) (b : DieRow) (place : Place) (
       step_is = copy_kept;
       to_repair = λ e. subst (λ (z : Option Step). AreToRepair t.ledger (keys_to_repair z (drop c.repaired c.lost)))
           copy.is (h.kept.work.to_repair e);
-      no_rests = h.kept.work.no_rests;
       next_mark = h.kept.work.next_mark;
       repaired = h.kept.work.repaired;
     };

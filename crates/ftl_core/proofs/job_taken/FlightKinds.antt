@@ -21,7 +21,7 @@ use Rattle.block_table.specs.declared.rows.Flight.TheVariants as flight
 use Rattle.block_table.specs.declared.rows.OpenBlock.{OpenBlock}
 use Rattle.ftl_core.specs.declared.books.Step.{Step}
 use Rattle.ftl_core.specs.Describes.{IsFlight, IsStepCell}
-use Rattle.ftl_core.specs.Describes.{is_for_rest, spot_at}
+use Rattle.ftl_core.specs.Describes.{spot_at}
 use Rattle.ftl_core.specs.Moves.{repairs_in}
 use Rattle.ftl_core.specs.Takes.{next_place}
 
@@ -82,6 +82,8 @@ module _ (n : Numbers) (step : Option Step) (die : ℕ) (filling : Option OpenBl
     P (Some (flight.Read place (ForTask tag index))) (Some (disk.Reading (ForTask tag index) place)))
     (reads_on : (place : Place) → P (Some (flight.Read place ForStep)) (Some (disk.Reading ForStep place)))
     (gone : (place : Place) → P (Some (flight.Read place ForNobody)) (Some (disk.Reading ForNobody place)))
+    (rests : (place : Place) (number index : ℕ) →
+    P (Some (flight.Read place (ForRest number index))) (Some (disk.Reading (ForRest number index) place)))
     (pages : (o : OpenBlock) (cell : Cell) → filling ≡ Some o → IsStepCell step cell →
     P (Some (flight.Step (next_place die o))) (Some (disk.Programming (next_place die o) cell)))
     (groups : (o : OpenBlock) (tag : Tag) (body : List ℕ) → filling ≡ Some o → repairs_in step ≡ 0 →
@@ -89,18 +91,17 @@ module _ (n : Numbers) (step : Option Step) (die : ℕ) (filling : Option OpenBl
     (Some (disk.Programming (next_place die o) (GroupPage tag body))))
     (erases : (block : ℕ) → block < n.blocks →
     P (Some (flight.Erase block)) (Some (disk.Erasing (spot_at die block)))) where
-  read_cases : (place : Place) (r : Reader) → is_for_rest r ≡ false →
-      P (Some (flight.Read place r)) (Some (disk.Reading r place))
-  read_cases place (ForTask tag index) h = reads place tag index
-  read_cases place ForStep h = reads_on place
-  read_cases place ForNobody h = gone place
-  read_cases place (ForRest number index) h = absurd (true≢false h)
+  read_cases : (place : Place) (r : Reader) → P (Some (flight.Read place r)) (Some (disk.Reading r place))
+  read_cases place (ForTask tag index) = reads place tag index
+  read_cases place ForStep = reads_on place
+  read_cases place ForNobody = gone place
+  read_cases place (ForRest number index) = rests place number index
 
   pub flight_cases : (f : Option Flight) (g : Option disk.Flight) → IsFlight n step die filling f g → P f g
   flight_cases None None h = none
   flight_cases (Some (flight.Read place r)) (Some (disk.Reading who p)) h =
       subst (λ (z : Place × Reader). P (Some (flight.Read place r)) (Some (disk.Reading z.1 z.0)))
-      (λ i. (sym h.0 i, sym h.1 i)) (read_cases place r h.2)
+      (λ i. (sym h.0 i, sym h.1 i)) (read_cases place r)
   flight_cases (Some (flight.Step place)) (Some (disk.Programming p cell)) h =
       subst (λ (z : Place × Place). P (Some (flight.Step z.0)) (Some (disk.Programming z.1 cell)))
       (λ i. (h.1.2 i, (h.1.2 ∙ sym h.0) i)) (pages h.1.0 cell h.1.1 h.2)

@@ -87,7 +87,7 @@ pub reads_agree : (c : Core) (t : Translation) (reader : Reader) → Kept c t �
 reads_agree c t reader k = rows_agree c t (reads_for reader) (flies_reader reader) k
     (λ die b at h. flight_cases t.numbers c.step die b.filling
     (λ (f : Option Flight) (g : Option disk.Flight). flight_reads reader f ≡ flies_reader reader g)
-    refl (λ place tag i. refl) (λ place. refl) (λ place. refl) (λ o cell fills page. refl)
+    refl (λ place tag i. refl) (λ place. refl) (λ place. refl) (λ place m i. refl) (λ o cell fills page. refl)
     (λ o tag body fills no_repair. refl) (λ block within. refl) b.flight (t.disk.flights die) h)
 
 -- the page that is copied has the name of the copy
@@ -123,7 +123,7 @@ pub writes_agree : (c : Core) (t : Translation) (name : Name) → Kept c t →
 writes_agree c t name k new no_repairs = rows_agree c t (writes_page name.number name.index) (flies_name name) k
     (λ die b at h. flight_cases t.numbers c.step die b.filling
     (λ (f : Option Flight) (g : Option disk.Flight). flight_writes name.number name.index f ≡ flies_name name g)
-    refl (λ place tag i. refl) (λ place. refl) (λ place. refl)
+    refl (λ place tag i. refl) (λ place. refl) (λ place. refl) (λ place m i. refl)
     (λ o cell fills page. no_name t.ledger c.step c.content t.work.step name (next_place die o) cell k.work.step_is
     new no_repairs page)
     (λ o tag body fills no_repair. refl)
@@ -141,7 +141,7 @@ pub marks_agree : (c : Core) (t : Translation) (number : ℕ) (fence : Option Fe
 marks_agree c t number fence k is = rows_agree c t writes_step flies_mark k
     (λ die b at h. flight_cases t.numbers (Some (steps.Mark number fence)) die b.filling
     (λ (f : Option Flight) (g : Option disk.Flight). is_step_flight f ≡ flies_mark g)
-    refl (λ place tag i. refl) (λ place. refl) (λ place. refl)
+    refl (λ place tag i. refl) (λ place. refl) (λ place. refl) (λ place m i. refl)
     (λ o cell fills page. mark_page number fence (next_place die o) cell page)
     (λ o tag body fills no_repair. refl) (λ block within. refl) b.flight (t.disk.flights die)
     (subst (λ (s : Option Step). IsFlight t.numbers s die b.filling b.flight (t.disk.flights die)) is h))
@@ -162,7 +162,7 @@ pub repairs_agree : (c : Core) (t : Translation) (number : ℕ) (key : Key) (fro
 repairs_agree c t number key from there k is = rows_agree c t writes_step (flies_name (name_at number 0)) k
     (λ die b at h. flight_cases t.numbers (Some (steps.Repair number key from there)) die b.filling
     (λ (f : Option Flight) (g : Option disk.Flight). is_step_flight f ≡ flies_name (name_at number 0) g)
-    refl (λ place tag i. refl) (λ place. refl) (λ place. refl)
+    refl (λ place tag i. refl) (λ place. refl) (λ place. refl) (λ place m i. refl)
     (λ o cell fills page. repair_page number key from there (next_place die o) cell page)
     (λ o tag body fills no_repair. absurd (omega (arith, no_repair))) (λ block within. refl)
     b.flight (t.disk.flights die)
@@ -186,7 +186,7 @@ pub copies_agree : (c : Core) (t : Translation) (number : ℕ) (key : Key) (from
 copies_agree c t number key from read name k copy is = rows_agree c t writes_step (flies_name name) k
     (λ die b at h. flight_cases t.numbers (Some (steps.Copy number key from read)) die b.filling
     (λ (f : Option Flight) (g : Option disk.Flight). b.flight ≡ f → is_step_flight f ≡ flies_name name g)
-    (λ f. refl) (λ place tag i f. refl) (λ place f. refl) (λ place f. refl)
+    (λ f. refl) (λ place tag i f. refl) (λ place f. refl) (λ place f. refl) (λ place m i f. refl)
     (λ o cell fills page f. copied_page t.ledger number key from read c.content name (next_place die o) cell copy page)
     (λ o tag body fills no_repair f. ⊎_elim
     (λ (e : (same_name name (name_of tag) ≡ true) × (name ≡ name_of tag)).

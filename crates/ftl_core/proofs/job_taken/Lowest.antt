@@ -4,7 +4,6 @@ use Rattle.std.proofs.Common.{◌≡◌, ◌∙◌, ℕ, zero, suc, ◌<◌, ◌
 use Rattle.std.proofs.Common.{inl, inr, ap, arith, refl, sym}
 use Rattle.std.proofs.Math.Nat.{eq-or-lt_of_le}
 use Rattle.std.proofs.Common.{slice_get, option_map, unwrap_or, not, true≢false}
-use Rattle.std.specs.List.{list_any}
 use Rattle.std.specs.Prelude.{◌&&◌}
 use Rattle.std.proofs.lemmas.Map.Keys.{any_passes_from_place}
 use Rattle.block_table.specs.Blocks.{is_stale}
@@ -12,7 +11,7 @@ use Rattle.block_table.specs.declared.BlockState.{BlockState}
 use Rattle.block_table.specs.declared.BlockState.TheVariants as state
 use Rattle.block_table.specs.declared.rows.Flight.TheVariants as flight
 use Rattle.ftl_core.specs.Core.{Core}
-use Rattle.ftl_core.specs.Moves.{has_stale, is_so, keeps, may_be_used, state_index}
+use Rattle.ftl_core.specs.Moves.{has_pin, has_stale, is_so, may_be_used, state_index}
 use Rattle.ftl_core.specs.Takes.{erase_of, found_or, lowest_below}
 
 pub none_below : (test : ℕ → Bool) (n : ℕ) → ((k : ℕ) → k < n → test k ≡ false) → lowest_below test n ≡ None
@@ -53,5 +52,5 @@ pub none_stale : (c : Core) (die : ℕ) → has_stale c ≡ false → erase_of c
 none_stale c die none =
     ap (option_map flight.Erase)
     (none_below (may_be_used c die state.Stale) c.numbers.blocks (λ block less.
-    ap (λ b. b && not (list_any (keeps die block) c.pins))
+    ap (λ b. b && not (has_pin c die block))
     (not_stale c die block (slice_get c.states (state_index c die block)) refl none)))

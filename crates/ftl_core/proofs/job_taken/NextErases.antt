@@ -5,7 +5,6 @@ use Rattle.std.specs.Prelude.{unwrap_or}
 use Rattle.ufs_spec.proofs.Facts.{and_parts, false≢true}
 use Rattle.ufs_spec.specs.Disk as disk
 use Rattle.ufs_spec.specs.Disk.{Spot}
-use Rattle.ufs_spec.specs.Ledger.{entry_of}
 use Rattle.ufs_spec.specs.Translation as layer
 use Rattle.ufs_spec.specs.Translation.{Translation, next_erase}
 use Rattle.ufs_spec.specs.declared.configs.Numbers.{Numbers}
@@ -96,8 +95,7 @@ module _ (c : Core) (t : Translation) (die : ℕ) (s : BlockState) (is : disk.Va
   usable_is block within =
       let so = ap (λ (z : BlockState). is_so z s) (state_is c t die block h there within)
       ∙ means (t.disk.blocks (spot_at die block)) (t.disk.vacancies (spot_at die block)) in
-      let pinned = pinned_as t.ledger.frontier (entry_of t.ledger) t
-      (spot_at die block) c.pins h.kept.work.no_rests h.kept.pins in
+      let pinned = pinned_as c t (spot_at die block) h in
       λ i. so i && not (pinned i)
 
   lowest_same : lowest c die s ≡ lowest_below (λ b. layer.may_be_used t is (spot_at die b)) t.numbers.blocks

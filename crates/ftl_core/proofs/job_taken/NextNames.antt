@@ -3,6 +3,8 @@ use Rattle.std.proofs.Common.{◌≡◌, ◌∙◌, ℕ, zero, suc, ◌+◌, ◌
 use Rattle.std.proofs.Common.{[], ◌∷◌, ◌++◌, Option, Some, None, length, drop, map, slice_get, find, option_map, refl}
 use Rattle.std.proofs.Common.{sym, ap, ⊎_elim, arith, is_none}
 use Rattle.std.specs.List.{list_any}
+use Rattle.ufs_spec.proofs.Facts.{none_is}
+use Rattle.write_cache.specs.Slots.{is_named}
 use Rattle.ufs_spec.specs.Keys as keys
 use Rattle.ufs_spec.specs.Keys.{below}
 use Rattle.ufs_spec.specs.Ledger.{Entry, accepted_groups, before_accepted, entry_of, pending}
@@ -13,7 +15,7 @@ use Rattle.ufs_spec.specs.declared.flash.Place.{Place}
 use Rattle.ufs_spec.specs.declared.layer.Name.{Name}
 use Rattle.power_loss.specs.Book.{IsPageAt, book}
 use Rattle.power_loss.proofs.books.PagesByName.{new_page}
-use Rattle.power_loss.proofs.books.SmallFacts.{two_ways}
+use Rattle.power_loss.proofs.books.SmallFacts.{and_true, two_ways}
 use Rattle.power_loss.proofs.books.FrontierClimbs.{get_drop}
 use Rattle.write_cache.specs.declared.slots.Pending.{Pending}
 use Rattle.ftl_core.specs.Core.{Core}
@@ -21,7 +23,12 @@ use Rattle.ftl_core.specs.Describes.{Describes, PageKept, names_pending}
 use Rattle.ftl_core.specs.Takes.{page_waiting, page_waits, writes_page}
 use Rattle.ftl_core.proofs.job_taken.Flown.{writes_agree}
 use Rattle.ftl_core.proofs.job_taken.Mended.{no_repair, none_accepted, none_waiting}
-use Rattle.ftl_core.proofs.job_taken.NextPages.{page_name, pages_found}
+use Rattle.ftl_core.proofs.job_taken.NextPages.{IsProgrammed, page_name, pages_found}
+use Rattle.ftl_core.proofs.pages.NamesBehind.{name_is}
+use Rattle.ftl_core.proofs.rests_owed.RestsNamed.{one_page, rest_named}
+use Rattle.ftl_core.specs.Rests.{own_name, waits}
+use Rattle.power_loss.proofs.ordered_lists.ElementsAndOrders.{IsIn, found_in}
+use Rattle.write_cache.specs.declared.rests.Rest.{Rest}
 use Rattle.ufs_spec.proofs.Lists.{find_behind, get_below, get_there}
 
 -- Names
@@ -74,38 +81,39 @@ page_there t j i g at u =
     back : (top j : ℕ) → top + suc j - top - 1 ≡ j
     back top j = omega arith
 
-and_nothing : {X : Type 0} (a b : Bool) (test : X → Bool) (xs : List X) → xs ≡ [] →
-    (a && b && not (list_any test xs)) ≡ (a && b)
-and_nothing true true test xs h = rw h refl
-and_nothing true false test xs h = refl
-and_nothing false b test xs h = refl
-
 -- a page waits if its name does
 waits_alike : (c : Core) (t : Translation) → Describes c t → is_mended t.work.mending ≡ true → (p : Pending)
-    (name : Name) → PageKept t.ledger.standing (entry_of t.ledger) p name →
+    (name : Name) → IsIn p c.pages → PageKept t.ledger.standing (entry_of t.ledger) p name →
     page_waits c.rows p ≡ layer.waits t name
-waits_alike c t h mended p name k =
-    sym (and_nothing (not (is_some (t.ledger.standing name.number name.index)))
-    (not (some_flight t (flies_name name)))
-    (is_rest_of name)
-    t.work.rests h.kept.work.no_rests
-    ∙ (λ i. not (is_some (k.stands i)) && not (some_flight t (flies_name name)))
+waits_alike c t h mended p name here k =
+    sym ((λ i. not (is_some (t.ledger.standing name.number name.index)) && not (some_flight t (flies_name name))
+    && not (rest_there i))
+    ∙ and_same (not (is_some (t.ledger.standing name.number name.index)) && not (some_flight t (flies_name name)))
+    (is_none p.written && not (list_any (writes_page p.number p.index) c.rows)) (waits p) (is_none p.rest)
+    ((λ i. not (is_some (k.stands i)) && not (some_flight t (flies_name name)))
     ∙ by p.written refl
     ∙ (λ i. not (is_some p.written) && not (list_any (writes_page (sym k.number i) (sym k.index i)) c.rows))
-    ∙ none_is p.written (not (list_any (writes_page p.number p.index) c.rows))
-    ∙ there (is_none p.written) (not (list_any (writes_page p.number p.index) c.rows))
-    ∙ (λ i. is_none p.written && not (list_any (writes_page p.number p.index) c.rows) && is_none (sym k.whole i)))
+    ∙ none_is p.written (not (list_any (writes_page p.number p.index) c.rows)))
+    (not_waits p.rest))
   where
+    own : name ≡ own_name p
+    own = name_is name (sym k.number) (sym k.index)
+
+    rest_there : list_any (is_rest_of name) t.work.rests ≡ waits p
+    rest_there = ap (λ (n : Name). list_any (is_rest_of n) t.work.rests) own ∙ rest_named c t h p here
+
+    not_waits : (o : Option Rest) → not (is_some o) ≡ is_none o
+    not_waits None = refl
+    not_waits (Some rest) = refl
+
+    and_same : (a b w n : Bool) → a ≡ b → not w ≡ n → (a && not w) ≡ (b && n)
+    and_same a b w n e f = λ i. e i && f i
+
     by : (o : Option Place) → p.written ≡ o →
         (not (is_some o) && not (some_flight t (flies_name name)))
         ≡ (not (is_some o) && not (list_any (writes_page name.number name.index) c.rows))
     by None e = ap not (sym (writes_agree c t name h.kept (k.stands ∙ e) (no_repair c t h mended)))
     by (Some place) e = refl
-
-    there : (a b : Bool) → (a && b) ≡ (a && b && true)
-    there true true = refl
-    there true false = refl
-    there false b = refl
 
     none_is : (o : Option Place) (b : Bool) → (not (is_some o) && b) ≡ (is_none o && b)
     none_is None b = refl
@@ -149,3 +157,15 @@ next_name c t h = ⊎_elim (mended_name c t h) none (two_ways (is_mended t.work.
         ap (λ z. find (layer.waits t) (names_after (before_accepted t.ledger) z)) (none_accepted t h.valid unmended)
         ∙ ap (λ (ps : List Pending). option_map page_name (find (page_waits c.rows) ps))
         (sym (none_waiting c t h unmended))
+
+-- the page that waits first is the one as which its name is programmed, and it waits for no rest
+pub first_whole : (c : Core) (t : Translation) (p : Pending) → Describes c t →
+    (r : IsProgrammed c t (page_name p)) → page_waiting c ≡ Some p → r.page.rest ≡ None
+first_whole c t p h r first =
+    let mine = found_in (page_waits c.rows) c.pages p first in
+    let its = found_in (is_named p.number p.index) c.pages r.page r.found in
+    let same : r.page ≡ p = one_page c t h r.page p its.0 mine.0
+    (λ i. record { number = r.kept.number i; index = r.kept.index i }) in
+    ap (λ (q : Pending). q.rest) same
+    ∙ none_is p.rest (and_true (is_none p.written && not (list_any (writes_page p.number p.index) c.rows))
+    (is_none p.rest) mine.1).1

@@ -1,5 +1,6 @@
 -- Pending pages and their names: which of them passes a test first, and what it is programmed as.
 use Rattle.std.proofs.Common.{◌≡◌, ◌∙◌, Bool, true, false, List, [], ◌∷◌, Option, Some, refl, sym, ap, subst}
+use Rattle.std.proofs.Common.{inl, inr}
 use Rattle.std.specs.Prelude.{cond, find, option_map}
 use Rattle.ufs_spec.specs.Cells.{GroupPage}
 use Rattle.ufs_spec.specs.Ledger.{Entry, entry_of}
@@ -25,13 +26,14 @@ module _ (standing : Standing) (entries : Name → Option Entry) where
 
   -- the first page that passes has the first name that does, where each page passes if its name does
   pub pages_found : (test : Pending → Bool) (is : Name → Bool) (ps : List Pending) (names : List Name) →
-      ((p : Pending) (name : Name) → PageKept standing entries p name → test p ≡ is name) →
+      ((p : Pending) (name : Name) → IsIn p ps → PageKept standing entries p name → test p ≡ is name) →
       PagesKept standing entries ps names → find is names ≡ option_map page_name (find test ps)
   pages_found test is [] [] same k = refl
   pages_found test is [] (name ∷ names) same k = absurd k
   pages_found test is (p ∷ ps) [] same k = absurd k
   pages_found test is (p ∷ ps) (name ∷ names) same k =
-      by (test p) (is name) (same p name k.0) (pages_found test is ps names same k.1)
+      by (test p) (is name) (same p name (inl refl) k.0)
+      (pages_found test is ps names (λ q n there kept. same q n (inr there) kept) k.1)
     where
       by : (a b : Bool) → a ≡ b → find is names ≡ option_map page_name (find test ps) →
           cond b (Some name) (find is names) ≡ option_map page_name (cond a (Some p) (find test ps))
@@ -56,7 +58,7 @@ pub record IsProgrammed (c : Core) (t : Translation) (name : Name) : Type 0 wher
   pub found : find (is_named name.number name.index) c.pages ≡ Some page
   pub kept : PageKept t.ledger.standing (entry_of t.ledger) page name
   pub cell : cell_now t.ledger name ≡ GroupPage
-      (tag_of_page page.key page.number page.index page.size c.frontier) page.body
+      (tag_of_page page.key page.number page.index page.size c.frontier) kept.body
 
 pub page_programmed : (c : Core) (t : Translation) (test : Pending → Bool) (p : Pending) → Describes c t →
     find test c.pages ≡ Some p → IsProgrammed c t (page_name p)
@@ -66,7 +68,7 @@ page_programmed c t test p h found = record {
   kept = q.2;
   cell = ap (λ (e : Option Entry). cell_of_entry (page_name p) e t.ledger.frontier) q.2.entry
       ∙ (λ i. GroupPage (tag_of_page q.0.key (sym q.2.number i) (sym q.2.index i) q.0.size
-      (sym h.kept.ledger_kept.frontier i)) q.0.body);
+      (sym h.kept.ledger_kept.frontier i)) q.2.body);
 }
   where
     q : (q : Pending) × (find (is_named p.number p.index) c.pages ≡ Some q)

@@ -7,7 +7,7 @@ use Rattle.ufs_spec.proofs.Facts.{false≢true, true≢false}
 use Rattle.ufs_spec.specs.Cells.{Cell, Cells, GroupPage}
 use Rattle.ufs_spec.specs.Disk as disk
 use Rattle.ufs_spec.specs.Disk.{Spot, at_die, job_of as told_by}
-use Rattle.ufs_spec.specs.Moves.{GiveJob}
+use Rattle.ufs_spec.specs.Moves.{GiveJob, moved}
 use Rattle.ufs_spec.specs.Translation.{MayTake, Translation, Want, flies_name, is_idle, next_flight, some_flight, taken}
 use Rattle.ufs_spec.specs.Translation.{want_at, wants_on}
 use Rattle.ufs_spec.specs.Translation as layer
@@ -25,6 +25,8 @@ use Rattle.block_table.specs.declared.rows.DieRow.{DieRow}
 use Rattle.block_table.specs.declared.rows.Flight.{Flight}
 use Rattle.block_table.specs.declared.rows.Flight.TheVariants as flight
 use Rattle.block_table.specs.declared.rows.OpenBlock.{OpenBlock}
+use Rattle.ftl_core.specs.RestsKept.{RestsKept, waiting}
+use Rattle.ftl_core.proofs.rests_owed.RestsStay.{gives_rests}
 use Rattle.ftl_core.specs.Core.{Core}
 use Rattle.ftl_core.specs.Describes.{BlocksKept, CopiesKnown, Describes, IsFilling, IsFlight, IsTaken, Kept, PagesFly}
 use Rattle.ftl_core.specs.Describes.{IsWanted, ReadsKept, Standing, StepReadsKept, WritesGroup, given, spot_at}
@@ -155,7 +157,7 @@ blocks_stay : (n : Numbers) (step : Option Step) (d : disk.Disk) (die : ℕ) (fi
 unfolding blocks_given
 blocks_stay n step d die filling f g fills is =
     flight_cases n step die filling (λ (f : Option Flight) (g : Option disk.Flight). blocks_given d g ≡ d.blocks)
-    refl (λ place tag i. refl) (λ place. refl) (λ place. refl) (λ o cell e page. programs o cell e)
+    refl (λ place tag i. refl) (λ place. refl) (λ place. refl) (λ place m i. refl) (λ o cell e page. programs o cell e)
     (λ o tag body e no_repair. programs o (GroupPage tag body) e) (λ block within. refl) f g is
   where
     programs : (o : OpenBlock) (cell : Cell) → filling ≡ Some o →
@@ -314,6 +316,11 @@ copies_begun : (c : Core) (die : ℕ) (filling : Option OpenBlock) (f : Flight) 
 copies_begun c die filling f None cells step h = h
 copies_begun c die filling f (Some block) cells step h = h
 
+rests_begun : (c : Core) (die : ℕ) (filling : Option OpenBlock) (f : Flight) (o : Option ℕ) (t : Translation) →
+    RestsKept t (waiting c.pages) → RestsKept t (waiting (started_with c die filling f o).pages)
+rests_begun c die filling f None t h = h
+rests_begun c die filling f (Some block) t h = h
+
 -- or a job
 begun_is : (c : Core) (t : Translation) (die : ℕ) (b : DieRow) (f : Flight) (job : disk.Flight) → Describes c t →
     slice_get c.rows die ≡ Some b → flight_taken c die ≡ Some f → job_of c die f ≡ Some (told_by job) →
@@ -329,6 +336,8 @@ begun_is c t die b f job h there taken told kept may = record {
         kept = kept;
         live = live_begun c die b.filling f (begins b.filling f) h.live;
         copies = copies_begun c die b.filling f (begins b.filling f) t.disk.cells t.work.step h.copies;
+        rests = rests_begun c die b.filling f (begins b.filling f) (moved t (GiveJob die job))
+            (gives_rests t (waiting c.pages) die job h.valid h.rests may);
       });
 }
   where

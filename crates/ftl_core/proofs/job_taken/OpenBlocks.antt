@@ -54,7 +54,7 @@ erases_agree : (c : Core) (t : Translation) → Kept c t → list_any erases c.r
 erases_agree c t k = rows_agree c t erases flies_erase k
     (λ die b at h. flight_cases t.numbers c.step die b.filling
     (λ (f : Option Flight) (g : Option disk.Flight). flight_erases f ≡ flies_erase g)
-    refl (λ place tag i. refl) (λ place. refl) (λ place. refl) (λ o cell fills page. refl)
+    refl (λ place tag i. refl) (λ place. refl) (λ place. refl) (λ place n i. refl) (λ o cell fills page. refl)
     (λ o tag body fills no_repair. refl) (λ block within. refl) b.flight (t.disk.flights die) h)
 
 -- a block is open on both sides or on none

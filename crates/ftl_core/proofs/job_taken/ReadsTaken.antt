@@ -1,42 +1,42 @@
--- Which reads are owed to a die: those that readers and the step under way want of its pages, where no die reads for
--- them.
+-- A read that is owed to a die is given to it: of a reader, of the step under way, or of a page for its rest.
 use Rattle.std.proofs.Common.{◌≡◌, ◌∙◌, ℕ, zero, suc, Bool, true, false, List, [], ◌∷◌, ◌++◌, Option, Some, None, refl}
 use Rattle.std.proofs.Common.{sym, ap, subst, arith}
-use Rattle.std.proofs.lemmas.List.{append-nil}
-use Rattle.std.proofs.lemmas.List.Elements.{Contains-append_left, filter-append}
-use Rattle.std.specs.Prelude.{◌&&◌, ◌||◌, ◌==◌, if◌then◌else◌, Contains, filter_map, slice_get, filter, find, not}
+use Rattle.std.proofs.lemmas.List.Elements.{Contains-append_left}
+use Rattle.std.specs.Prelude.{◌&&◌, ◌||◌, ◌==◌, if◌then◌else◌, Contains, filter_map, slice_get, find, not}
 use Rattle.std.specs.Prelude.{option_and_then, option_map}
 use Rattle.std.specs.List.{list_any, cons_option}
-use Rattle.ufs_spec.specs.Ledger.{Entry, Ledger, entry_of}
+use Rattle.ufs_spec.specs.Ledger.{entry_of}
 use Rattle.ufs_spec.specs.Translation as layer
-use Rattle.ufs_spec.specs.Translation.{Rest, Translation, Want, flies_reader, is_of_die, is_unread, some_flight}
-use Rattle.ufs_spec.specs.Translation.{want_at, want_from, want_of_look, want_of_pin, want_of_rest, wants_of_step}
+use Rattle.ufs_spec.specs.Translation.{Translation, Want, is_of_die, is_unread}
+use Rattle.ufs_spec.specs.Translation.{want_at, want_from, want_of_look, want_of_pin, want_of_rest}
 use Rattle.ufs_spec.specs.Translation.{wants_on}
 use Rattle.ufs_spec.specs.declared.flash.Place.{Place}
 use Rattle.power_loss.proofs.books.PagesByName.{none_some, some_is}
-use Rattle.power_loss.proofs.books.SmallFacts.{and_true, if_false, if_true, eq_self, eq_told}
+use Rattle.power_loss.proofs.books.SmallFacts.{and_true, eq_self, eq_told}
 use Rattle.std.proofs.lemmas.Bool.Decides.{nat_tests}
 use Rattle.ftl_core.specs.declared.books.Pin.{Pin}
 use Rattle.ftl_core.specs.Core.{Core}
-use Rattle.ftl_core.specs.Describes.{Describes, IsTaken, IsWanted, Kept, PinKept, PinsKept, ReadersDiffer}
-use Rattle.ftl_core.specs.Describes.{StepKept}
-use Rattle.ftl_core.specs.Moves.{is_owed_by, is_pin_of, looks_on, reads_for}
-use Rattle.ftl_core.proofs.job_taken.Flown.{die_within, no_job, reads_agree}
+use Rattle.ftl_core.specs.Describes.{Describes, IsTaken, IsWanted, Kept, PinKept, ReadersDiffer}
+use Rattle.ftl_core.specs.Moves.{is_owed_by, is_pin_of, looks_on, reads_for, rest_look}
+use Rattle.write_cache.specs.declared.rests.OwedSource.TheVariants as owed
+use Rattle.write_cache.specs.declared.slots.Pending.{Pending}
+use Rattle.power_loss.proofs.ordered_lists.ElementsAndOrders.{IsIn, found_in, has_at}
+use Rattle.ftl_core.proofs.job_taken.Flown.{die_within, no_job}
 use Rattle.ufs_spec.proofs.Facts.{false≢true}
 use Rattle.ufs_spec.specs.Disk as disk
 use Rattle.ufs_spec.specs.declared.layer.Looked.{Looked}
 use Rattle.ufs_spec.specs.declared.layer.Looked.TheVariants.{InSlot, OnPage, Unwritten}
 use Rattle.ufs_spec.specs.declared.layer.Name.{Name}
-use Rattle.ufs_spec.specs.declared.layer.Reader.{Reader}
-use Rattle.ufs_spec.specs.declared.layer.Reader.TheVariants.{ForStep, ForTask}
+use Rattle.ufs_spec.specs.declared.layer.Reader.TheVariants.{ForRest, ForStep, ForTask}
 use Rattle.block_table.specs.declared.rows.DieRow.{DieRow}
 use Rattle.block_table.specs.declared.rows.Flight.{Flight}
 use Rattle.block_table.specs.declared.rows.Flight.TheVariants as flight
-use Rattle.ftl_core.specs.declared.books.Step.{Step}
-use Rattle.ftl_core.specs.declared.books.Step.TheVariants as steps
 use Rattle.ftl_core.specs.Takes as takes
 use Rattle.ftl_core.specs.Takes.{core_taken, first_owed, idle_flight, job_taken, owed_flight, owed_read, read_of}
-use Rattle.ftl_core.specs.Takes.{step_read, step_read_at, step_wants}
+use Rattle.ftl_core.specs.Takes.{own_read, owes_rest, rest_read, rest_read_of, step_read, step_read_at, step_wants}
+use Rattle.ftl_core.proofs.job_taken.OwedReads.{all_want, kept_here, left, no_step_left, one_left, one_wanted}
+use Rattle.ftl_core.proofs.job_taken.OwedReads.{owed_passes, own_left, page_passes, page_want, passes, rests_want}
+use Rattle.ftl_core.proofs.job_taken.OwedReads.{step_free, step_left}
 use Rattle.ftl_core.proofs.job_taken.NextStarts.{is_free_die, job_begun}
 use Rattle.ftl_core.proofs.pins.FoundPins.{position_missed}
 use Rattle.ftl_core.proofs.pins.PinsAlike.{pins_at}
@@ -67,192 +67,15 @@ own_pin (x ∷ xs) (suc k) p differ e =
     apart : (a b c d : Bool) → a ≡ c → b ≡ d → (c && d) ≡ false → (a && b) ≡ false
     apart a b c d e f h = (λ i. e i && f i) ∙ h
 
--- What a pin wants
-
--- the want is one that is still to be begun on the die
-abbrev passes : (Want → Bool) → (Want → Bool) → Option Want → Bool
-passes g h None = false
-passes g h (Some w) = g w && h w
-
--- what a pin wants passes if its reader is owed the read of a page of the die
-want_passes : (unread : Reader → Bool) (die : ℕ) (reader : Reader) (w u : Bool) (look : Looked) → u ≡ unread reader →
-    (w && looks_on die look && u)
-    ≡ passes (λ (x : Want). unread x.reader) (is_of_die die) (if w then want_of_look reader look else None)
-want_passes unread die reader false u look same = refl
-want_passes unread die reader true u Unwritten same = refl
-want_passes unread die reader true u (InSlot name) same = refl
-want_passes unread die reader true u (OnPage name place) same =
-    turned (place.die == die) u ∙ (λ i. same i && (place.die == die))
-  where
-    turned : (a b : Bool) → (true && a && b) ≡ (b && a)
-    turned true true = refl
-    turned true false = refl
-    turned false true = refl
-    turned false false = refl
-
--- no die reads for the reader
-abbrev is_free : Translation → Reader → Bool
-is_free t reader = not (some_flight t (flies_reader reader))
-
-owed_passes : (c : Core) (t : Translation) (die : ℕ) (p : Pin) (q : layer.Pin) → Kept c t →
-    PinKept t.ledger.frontier (entry_of t.ledger) p q →
-    is_owed_by c.rows die p ≡ passes (is_unread t) (is_of_die die) (want_of_pin q)
-owed_passes c t die p q k h =
-    want_passes (is_free t) die (ForTask p.reader p.index) p.wanted
-    (not (list_any (reads_for (ForTask p.reader p.index)) c.rows)) p.looked (ap not (reads_agree c t (ForTask p.reader p.index) k))
-    ∙ (λ i. passes (is_unread t) (is_of_die die)
-    (if sym h.wanted i then want_of_look (ForTask (sym h.tag i) (sym h.index i)) (sym h.looked i) else None))
-
--- Lists of wants
-
-module _ (g h : Want → Bool) where
-  -- one that does not pass is not among those that do
-  dropped : (o : Option Want) (ws : List Want) → passes g h o ≡ false →
-      filter h (filter g (cons_option o ws)) ≡ filter h (filter g ws)
-  dropped None ws fails = refl
-  dropped (Some w) ws fails = by (g w) (h w) refl refl fails
-    where
-      by : (a b : Bool) → g w ≡ a → h w ≡ b → (a && b) ≡ false → filter h (filter g (w ∷ ws)) ≡ filter h (filter g ws)
-      by true true e f clash = cc
-      by true false e f clash =
-          ap (filter h) (if_true (g w) (w ∷ filter g ws) (filter g ws) e)
-          ∙ if_false (h w) (w ∷ filter h (filter g ws)) _ f
-      by false b e f clash = ap (filter h) (if_false (g w) (w ∷ filter g ws) (filter g ws) e)
-
-  -- where none passes, none is left
-  none_left : (frontier : ℕ) (entries : Name → Option Entry) (owed : Pin → Bool) (ps : List Pin) (qs : List layer.Pin) →
-      ((p : Pin) (q : layer.Pin) → PinKept frontier entries p q → owed p ≡ passes g h (want_of_pin q)) →
-      PinsKept frontier entries ps qs → ((j : ℕ) (p : Pin) → slice_get ps j ≡ Some p → owed p ≡ false) →
-      filter h (filter g (filter_map want_of_pin qs)) ≡ []
-  none_left frontier entries owed [] [] same kept none = refl
-  none_left frontier entries owed [] (q ∷ qs) same kept none = absurd kept
-  none_left frontier entries owed (p ∷ ps) [] same kept none = absurd kept
-  none_left frontier entries owed (p ∷ ps) (q ∷ qs) same kept none =
-      dropped (want_of_pin q) (filter_map want_of_pin qs) (sym (same p q kept.0) ∙ none 0 p refl)
-      ∙ none_left frontier entries owed ps qs same kept.1 (λ j x e. none (suc j) x e)
-
-  -- what passes is among them
-  kept_here : (w : Want) (ws : List Want) → passes g h (Some w) ≡ true → Contains (filter h (filter g (w ∷ ws))) w
-  kept_here w ws does =
-      let r = and_true (g w) (h w) does in
-      subst (λ (xs : List Want). Contains xs w)
-      (sym (ap (filter h) (if_true (g w) (w ∷ filter g ws) (filter g ws) r.0)
-      ∙ if_true (h w) (w ∷ filter h (filter g ws)) _ r.1))
-      (0, omega arith, refl)
-
-  kept_behind : (o : Option Want) (ws : List Want) (w : Want) → Contains (filter h (filter g ws)) w →
-      Contains (filter h (filter g (cons_option o ws))) w
-  kept_behind None ws w has = has
-  kept_behind (Some x) ws w has = by (g x) (h x) refl refl
-    where
-      by : (a b : Bool) → g x ≡ a → h x ≡ b → Contains (filter h (filter g (x ∷ ws))) w
-      by true true e f =
-          subst (λ (xs : List Want). Contains xs w)
-          (sym (ap (filter h) (if_true (g x) (x ∷ filter g ws) (filter g ws) e)
-          ∙ if_true (h x) (x ∷ filter h (filter g ws)) _ f))
-          (let l = has.1 in (suc has.0, omega (arith, l), has.2))
-      by true false e f = subst (λ (xs : List Want). Contains xs w) (sym (dropped (Some x) ws (λ i. e i && f i))) has
-      by false b e f = subst (λ (xs : List Want). Contains xs w) (sym (dropped (Some x) ws (λ i. e i && h x))) has
-
-  one_left : (qs : List layer.Pin) (k : ℕ) (q : layer.Pin) (w : Want) →
-      slice_get qs k ≡ Some q → want_of_pin q ≡ Some w → passes g h (Some w) ≡ true →
-      Contains (filter h (filter g (filter_map want_of_pin qs))) w
-  one_left [] k q w at is does = absurd (none_some q at)
-  one_left (x ∷ qs) zero q w at is does =
-      subst (λ (o : Option Want). Contains (filter h (filter g (cons_option o (filter_map want_of_pin qs)))) w)
-      (sym (ap want_of_pin (some_is x q at) ∙ is)) (kept_here w (filter_map want_of_pin qs) does)
-  one_left (x ∷ qs) (suc k) q w at is does =
-      kept_behind (want_of_pin x) (filter_map want_of_pin qs) w (one_left qs k q w at is does)
-
--- What a die is owed
-
--- the step under way wants one page or none
-step_want : (l : Ledger) (kept : Option Step) (content : List ℕ) (step : Option layer.Step) →
-    StepKept l kept content step → wants_of_step step ≡ cons_option (want_from (step_wants kept)) []
-step_want l None content None h = refl
-step_want l None content (Some s) h = absurd h
-step_want l (Some (steps.Mark n fence)) content None h = absurd h
-step_want l (Some (steps.Mark n fence)) content (Some s) h = ap (λ (x : layer.Step). wants_of_step (Some x)) h
-step_want l (Some (steps.Repair n k from there)) content None h = absurd h
-step_want l (Some (steps.Copy n k from read)) content None h = absurd h
-step_want l (Some (steps.Copy n k from None)) content (Some s) h =
-    ap (λ (x : layer.Step). wants_of_step (Some x)) h.1
-step_want l (Some (steps.Copy n k from (Some read))) content (Some s) h =
-    ap (λ (x : layer.Step). wants_of_step (Some x)) h.1
-step_want l (Some (steps.Repair n k None true)) content (Some s) h =
-    ap (λ (x : layer.Step). wants_of_step (Some x)) h.0
-step_want l (Some (steps.Repair n k None false)) content (Some s) h =
-    ap (λ (x : layer.Step). wants_of_step (Some x)) h.0
-step_want l (Some (steps.Repair n k (Some at) true)) content (Some s) h =
-    ap (λ (x : layer.Step). wants_of_step (Some x)) h.0
-step_want l (Some (steps.Repair n k (Some at) false)) content (Some s) h =
-    ap (λ (x : layer.Step). wants_of_step (Some x)) h.0
-
--- those of the wants that are still to be begun on the die
-abbrev left : Translation → ℕ → List Want → List Want
-left t die ws = filter (is_of_die die) (filter (is_unread t) ws)
-
-left_joined : (t : Translation) (die : ℕ) (xs ys : List Want) → left t die (xs ++ ys) ≡ left t die xs ++ left t die ys
-left_joined t die xs ys =
-    ap (filter (is_of_die die)) (filter-append (is_unread t) xs ys)
-    ∙ filter-append (is_of_die die) (filter (is_unread t) xs) (filter (is_unread t) ys)
-
--- a die is owed what pins want of it, and what the step under way wants
-two_want : (c : Core) (t : Translation) (die : ℕ) → Kept c t →
-    wants_on t die
-    ≡ left t die (filter_map want_of_pin t.pins) ++ left t die (cons_option (want_from (step_wants c.step)) [])
-two_want c t die k =
-    ap (λ (rs : List Rest). left t die (filter_map want_of_pin t.pins ++ wants_of_step t.work.step
-    ++ filter_map want_of_rest rs)) k.work.no_rests
-    ∙ ap (left t die) (append-nil (filter_map want_of_pin t.pins ++ wants_of_step t.work.step))
-    ∙ ap (λ (ws : List Want). left t die (filter_map want_of_pin t.pins ++ ws))
-    (step_want t.ledger c.step c.content t.work.step k.work.step_is)
-    ∙ left_joined t die (filter_map want_of_pin t.pins) (cons_option (want_from (step_wants c.step)) [])
-
--- where no reader is owed one, the step's is left
-step_left : (c : Core) (t : Translation) (die : ℕ) → Kept c t →
-    ((j : ℕ) (p : Pin) → slice_get c.pins j ≡ Some p → is_owed_by c.rows die p ≡ false) →
-    wants_on t die ≡ left t die (cons_option (want_from (step_wants c.step)) [])
-step_left c t die k none =
-    two_want c t die k
-    ∙ ap (λ (ws : List Want). ws ++ left t die (cons_option (want_from (step_wants c.step)) []))
-    (none_left (is_unread t) (is_of_die die) t.ledger.frontier (entry_of t.ledger)
-    (is_owed_by c.rows die) c.pins t.pins
-    (λ p q h. owed_passes c t die p q k h) k.pins none)
-
--- whether the step's read is still to be begun on the die
-step_free : (c : Core) (t : Translation) (die : ℕ) (place : Place) → Kept c t →
-    passes (is_unread t) (is_of_die die) (Some (want_at ForStep place))
-    ≡ (not (list_any (reads_for ForStep) c.rows) && (place.die == die))
-step_free c t die place k = ap (λ (b : Bool). not b && (place.die == die)) (sym (reads_agree c t ForStep k))
-
--- where neither a reader nor the step is owed one, none is owed to the die
-pub none_read : (c : Core) (t : Translation) (die : ℕ) → Kept c t →
-    ((j : ℕ) (p : Pin) → slice_get c.pins j ≡ Some p → is_owed_by c.rows die p ≡ false) → step_read c die ≡ None →
-    wants_on t die ≡ []
-none_read c t die k none unread = step_left c t die k none ∙ by (step_wants c.step) unread
-  where
-    passed : (a r : Bool) (f : Flight) → (if not a || r then None else Some f) ≡ None → (not r && a) ≡ false
-    passed true true f e = refl
-    passed true false f e = absurd (none_some f (sym e))
-    passed false true f e = refl
-    passed false false f e = refl
-
-    by : (o : Option Place) → step_read_at c die o ≡ None → left t die (cons_option (want_from o) []) ≡ []
-    by None e = refl
-    by (Some place) e = dropped (is_unread t) (is_of_die die) (Some (want_at ForStep place)) []
-        (step_free c t die place k
-        ∙ passed (place.die == die) (list_any (reads_for ForStep) c.rows) (flight.Read place ForStep) e)
-
 -- the read that a reader is owed is one of them
 one_read : (c : Core) (t : Translation) (die k : ℕ) (p : Pin) (q : layer.Pin) (place : Place) → Kept c t →
     slice_get t.pins k ≡ Some q → PinKept t.ledger.frontier (entry_of t.ledger) p q → is_owed_by c.rows die p ≡ true →
     want_of_pin q ≡ Some (want_at (ForTask p.reader p.index) place) →
     Contains (wants_on t die) (want_at (ForTask p.reader p.index) place)
 one_read c t die k p q place kept at h owed want =
-    subst (λ (ws : List Want). Contains ws (want_at (ForTask p.reader p.index) place)) (sym (two_want c t die kept))
+    subst (λ (ws : List Want). Contains ws (want_at (ForTask p.reader p.index) place)) (sym (all_want c t die kept))
     (Contains-append_left (left t die (filter_map want_of_pin t.pins))
-    (left t die (cons_option (want_from (step_wants c.step)) [])) (want_at (ForTask p.reader p.index) place)
+    (own_left c t die) (want_at (ForTask p.reader p.index) place)
     (one_left (is_unread t) (is_of_die die) t.pins k q (want_at (ForTask p.reader p.index) place)
     at want
     (ap (passes (is_unread t) (is_of_die die)) (sym want) ∙ sym (owed_passes c t die p q kept h) ∙ owed)))
@@ -284,10 +107,10 @@ step_taken c t die b f h there idle none_owed read = by (step_wants c.step) refl
         job_begun c t die b (flight.Read place ForStep) (disk.Reading ForStep place) h there
         (ap (takes.flight_for c die) there ∙ ap (idle_flight c die b.filling) idle
         ∙ ap (λ (k : Option ℕ). owed_flight c die b.filling (owed_read c die k)) none_owed
-        ∙ ap (owed_flight c die b.filling) (read ∙ sym (taken_is (place.die == die) (list_any (reads_for ForStep) c.rows)
-        (flight.Read place ForStep) f e)))
+        ∙ ap (owed_flight c die b.filling) (ap (λ (x : Option Flight). own_read x (rest_read c die)) read
+        ∙ sym (taken_is (place.die == die) (list_any (reads_for ForStep) c.rows) (flight.Read place ForStep) f e)))
         refl
-        (refl, refl, refl)
+        (refl, refl)
         (record {
           alone = λ name e. absurd (false≢true e);
           fresh = λ p n i e. cc;
@@ -297,11 +120,62 @@ step_taken c t die b f h there idle none_owed read = by (step_wants c.step) refl
           is_free_die t die (die_within c t die b h.kept there) (no_job c t die b h.kept there idle),
           subst (λ (ws : List Want). Contains ws (want_at ForStep place))
               (sym (step_left c t die h.kept (position_missed (is_owed_by c.rows die) c.pins none_owed)
-              ∙ ap (λ (o : Option Place). left t die (cons_option (want_from o) [])) is))
+              ∙ ap (λ (o : Option Place). left t die (cons_option (want_from o) [])
+              ++ left t die (filter_map want_of_rest t.work.rests)) is))
+              (Contains-append_left (left t die (cons_option (want_from (Some place)) []))
+              (left t die (filter_map want_of_rest t.work.rests)) (want_at ForStep place)
               (kept_here (is_unread t) (is_of_die die) (want_at ForStep place) []
               (step_free c t die place h.kept
-              ∙ passed (place.die == die) (list_any (reads_for ForStep) c.rows) (flight.Read place ForStep) f e)),
+              ∙ passed (place.die == die) (list_any (reads_for ForStep) c.rows) (flight.Read place ForStep) f e))),
         )
+
+-- The read that a page is owed for its rest
+
+pub rest_taken : (c : Core) (t : Translation) (die : ℕ) (b : DieRow) (f : Flight) → Describes c t →
+    slice_get c.rows die ≡ Some b → b.flight ≡ None → first_owed c die ≡ None → step_read c die ≡ None →
+    rest_read c die ≡ Some f → IsTaken t die (job_taken c die) (core_taken c die)
+rest_taken c t die b f h there idle none_owed unread read = by (find (owes_rest c.rows die) c.pages) refl read
+  where
+    owed_is : owed_read c die (first_owed c die) ≡ Some f
+    owed_is = ap (owed_read c die) none_owed ∙ (λ i. own_read (unread i) (read i))
+
+    taken : (p : Pending) → IsIn p c.pages × (owes_rest c.rows die p ≡ true) → (l : Looked) → rest_look p.rest ≡ l →
+        option_map (λ place. flight.Read place (ForRest p.number p.index)) (takes.place_in l) ≡ Some f →
+        IsTaken t die (job_taken c die) (core_taken c die)
+    taken p owes Unwritten looks e = absurd (none_some f e)
+    taken p owes (InSlot name) looks e = absurd (none_some f e)
+    taken p owes (OnPage name place) looks e =
+        job_begun c t die b (flight.Read place (ForRest p.number p.index))
+        (disk.Reading (ForRest p.number p.index) place) h there
+        (ap (takes.flight_for c die) there ∙ ap (idle_flight c die b.filling) idle
+        ∙ ap (owed_flight c die b.filling) (owed_is ∙ sym e))
+        refl
+        (refl, refl)
+        (record {
+          alone = λ name e. absurd (false≢true e);
+          fresh = λ p n i e. cc;
+          wanted = λ tag index p e. cc;
+          step_wanted = λ p e. cc;
+        }) (
+          is_free_die t die (die_within c t die b h.kept there) (no_job c t die b h.kept there idle),
+          subst (λ (ws : List Want). Contains ws (want_at (ForRest p.number p.index) place))
+              (sym (step_left c t die h.kept (position_missed (is_owed_by c.rows die) c.pins none_owed)
+              ∙ ap (λ (ws : List Want). ws ++ left t die (filter_map want_of_rest t.work.rests))
+              (no_step_left c t die h.kept unread)
+              ∙ ap (left t die) (rests_want c t h)))
+              (let at = has_at c.pages p owes.0 in
+              one_wanted (is_unread t) (is_of_die die) c.pages at.0 p (want_at (ForRest p.number p.index) place) at.1
+              wants
+              (ap (passes (is_unread t) (is_of_die die)) (sym wants) ∙ sym (page_passes c t die p h.kept) ∙ owes.1)),
+        )
+      where
+        wants : page_want p ≡ Some (want_at (ForRest p.number p.index) place)
+        wants = ap (λ (l : Looked). option_map (want_at (ForRest p.number p.index)) (takes.place_in l)) looks
+
+    by : (o : Option Pending) → find (owes_rest c.rows die) c.pages ≡ o → option_and_then rest_read_of o ≡ Some f →
+        IsTaken t die (job_taken c die) (core_taken c die)
+    by None found e = absurd (none_some f e)
+    by (Some p) found e = taken p (found_in (owes_rest c.rows die) c.pages p found) (rest_look p.rest) refl e
 
 -- A read that a reader is owed
 
@@ -332,7 +206,7 @@ read_taken c t die k b h there idle owed =
     ∙ ap (λ (l : Looked). option_map (λ place. flight.Read place (ForTask p.reader p.index)) (takes.place_in l))
     told.3))
     refl
-    (refl, refl, refl)
+    (refl, refl)
     (record {
       alone = λ name e. absurd (false≢true e);
       fresh = λ place n i e. cc;

@@ -60,7 +60,7 @@ mark_records t (Some f) v right = by t.work.mending right v.mending
 -- Keys
 
 -- a tag can name each key of a device
-sealable : (s : Shape) (k : Key) → length s.blocks ≤ 8 → IsKey s k → is_sealable k ≡ true
+pub sealable : (s : Shape) (k : Key) → length s.blocks ≤ 8 → IsKey s k → is_sealable k ≡ true
 sealable s k few (IsData unit address low within) = le-leb unit 7 (omega arith)
 sealable s k few (IsArea region page there within) = eq-eqb region 0 (omega (arith, there))
 sealable s k few IsSettings = refl

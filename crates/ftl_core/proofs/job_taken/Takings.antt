@@ -1,5 +1,5 @@
 -- The job that a die is given is one that is owed to it.
-use Rattle.std.proofs.Common.{◌≡◌, ◌∙◌, ℕ, ◌<◌, ◌≤◌, Bool, true, false, [], Option, Some, None, length, refl}
+use Rattle.std.proofs.Common.{◌≡◌, ◌∙◌, ℕ, ◌<◌, ◌≤◌, Bool, true, false, List, [], Option, Some, None, length, refl}
 use Rattle.std.proofs.Common.{sym, ap, subst, inl, inr, is_none}
 use Rattle.std.specs.Prelude.{if◌then◌else◌, ◌&&◌, not, slice_get, option_and_then, option_map}
 use Rattle.std.specs.List.{list_any}
@@ -33,19 +33,21 @@ use Rattle.ftl_core.specs.Moves.{first_page, has_room_for_groups, is_owed_by, ma
 use Rattle.ftl_core.specs.Takes as takes
 use Rattle.ftl_core.specs.Takes.{core_taken, erase_of, first_owed, flight_into, flight_taken, group_job_of, idle_flight}
 use Rattle.ftl_core.specs.Takes.{is_group_page, job_of, job_taken, lowest, next_place, owed_flight, owed_read}
-use Rattle.ftl_core.specs.Takes.{page_flight, page_of_group, page_waiting, page_waits, step_read, step_waits}
+use Rattle.ftl_core.specs.Takes.{own_read, page_flight, page_of_group, page_waiting, page_waits, rest_read, step_read}
+use Rattle.ftl_core.specs.Takes.{step_waits}
 use Rattle.ftl_core.specs.Takes.{unread_flight, waiting_flight, waiting_group, waiting_of, waiting_page, writes_page}
 use Rattle.ftl_core.proofs.job_taken.Flown.{die_within, no_job, writes_agree}
 use Rattle.ftl_core.proofs.job_taken.Mended.{mended_with, no_repair}
 use Rattle.ftl_core.proofs.job_taken.NextErases.{block_free, block_right, erased_next, free_means, lowest_is}
 use Rattle.ftl_core.proofs.job_taken.NextErases.{ready_means, stale_means}
-use Rattle.ftl_core.proofs.job_taken.NextNames.{next_name}
+use Rattle.ftl_core.proofs.job_taken.NextNames.{first_whole, next_name}
 use Rattle.ftl_core.proofs.job_taken.NextPages.{IsProgrammed, kept_found, page_name, page_programmed}
 use Rattle.ftl_core.proofs.job_taken.NextStarts.{MayBegin, is_free_die, job_begun, job_opened, next_may, not_idle}
 use Rattle.ftl_core.proofs.job_taken.NextStarts.{nothing_taken, opening_place, outside}
 use Rattle.ftl_core.proofs.job_taken.OpenBlocks.{group_alike, room_alike, step_alike}
 use Rattle.ftl_core.proofs.pins.FoundPins.{found_passes, position_missed}
-use Rattle.ftl_core.proofs.job_taken.ReadsTaken.{none_read, read_taken, step_taken}
+use Rattle.ftl_core.proofs.job_taken.OwedReads.{none_read}
+use Rattle.ftl_core.proofs.job_taken.ReadsTaken.{read_taken, rest_taken, step_taken}
 use Rattle.ftl_core.proofs.job_taken.StepPages.{StepPage, step_page}
 use Rattle.ftl_core.proofs.opened.Spots.{next_found}
 
@@ -74,7 +76,8 @@ not-true' true e = cc
 not-true' false e = refl
 
 module _ (c : Core) (t : Translation) (die : ℕ) (b : DieRow) (h : Describes c t) (there : slice_get c.rows die ≡ Some b)
-    (idle : b.flight ≡ None) (none_owed : first_owed c die ≡ None) (step_unread : step_read c die ≡ None) where
+    (idle : b.flight ≡ None) (none_owed : first_owed c die ≡ None) (step_unread : step_read c die ≡ None)
+    (rests_unread : rest_read c die ≡ None) where
   flies_none : t.disk.flights die ≡ None
   flies_none = no_job c t die b h.kept there idle
 
@@ -82,7 +85,7 @@ module _ (c : Core) (t : Translation) (die : ℕ) (b : DieRow) (h : Describes c 
   free = is_free_die t die (die_within c t die b h.kept there) flies_none
 
   unread : wants_on t die ≡ []
-  unread = none_read c t die h.kept (position_missed (is_owed_by c.rows die) c.pins none_owed) step_unread
+  unread = none_read c t die h (position_missed (is_owed_by c.rows die) c.pins none_owed) step_unread rests_unread
 
   here : die < t.numbers.dies
   here = die_within c t die b h.kept there
@@ -92,7 +95,7 @@ module _ (c : Core) (t : Translation) (die : ℕ) (b : DieRow) (h : Describes c 
   unread_is =
       ap (takes.flight_for c die) there ∙ ap (idle_flight c die b.filling) idle
       ∙ ap (λ (k : Option ℕ). owed_flight c die b.filling (owed_read c die k)) none_owed
-      ∙ ap (owed_flight c die b.filling) step_unread
+      ∙ ap (owed_flight c die b.filling) (λ i. own_read (step_unread i) (rests_unread i))
 
   -- none is taken
   nothing_waits : flight_taken c die ≡ None → next_flight t die ≡ None →
@@ -220,7 +223,7 @@ module _ (c : Core) (t : Translation) (die : ℕ) (b : DieRow) (h : Describes c 
         has_room_for_groups c ≡ true → page_waiting c ≡ Some p →
         IsTaken t die (job_taken c die) (core_taken c die)
     group_taken p no_step no_page room first =
-        waiting_taken (waiting_page p) (GroupPage tag_now r.page.body)
+        waiting_taken (waiting_page p) (GroupPage tag_now r.kept.body)
         (λ o. record {
           told = job_is (next_place die o);
           is = (refl, (o, refl, refl), r.kept.number, r.kept.index, no_repair c t h mended);
@@ -262,6 +265,9 @@ module _ (c : Core) (t : Translation) (die : ℕ) (b : DieRow) (h : Describes c 
             (and_true (is_none p.written && not (list_any (writes_page p.number p.index) c.rows)) (is_none p.rest)
             (found_passes (page_waits c.rows) c.pages p first)).0
 
+        whole : r.page.rest ≡ None
+        whole = first_whole c t p h r first
+
         new : t.ledger.standing p.number p.index ≡ None
         new = k.stands ∙ none_is p.written waits_here.0
 
@@ -270,13 +276,13 @@ module _ (c : Core) (t : Translation) (die : ℕ) (b : DieRow) (h : Describes c 
             ∙ not-true' (list_any (writes_page p.number p.index) c.rows) waits_here.1
 
         job_is : (place : Place) → job_of c die (flight.Group place p.number p.index)
-            ≡ Some (told_by (disk.Programming place (GroupPage tag_now r.page.body)))
+            ≡ Some (told_by (disk.Programming place (GroupPage tag_now r.kept.body)))
         job_is place =
             ap (group_job_of c place) r.found
             ∙ if_true (is_group_page r.page) (option_map (page_of_group c place r.page) (content_of r.page)) None
             r.kept.group_page
-            ∙ ap (λ (rest : Option Rest). option_map (page_of_group c place r.page) (content_by rest r.page.body))
-            r.kept.whole
+            ∙ ap (λ (rest : Option Rest). option_map (page_of_group c place r.page) (content_by rest r.page.body)) whole
+            ∙ ap (λ (body : List ℕ). Some (page_of_group c place r.page body)) (r.kept.whole whole)
 
         -- the page that is begun is that one
         begun_is : (place q : Place) (n i : ℕ) → flight.Group place p.number p.index ≡ flight.Group q n i →
@@ -284,7 +290,7 @@ module _ (c : Core) (t : Translation) (die : ℕ) (b : DieRow) (h : Describes c 
         begun_is place q n i e = let number : p.number ≡ n = cc in let index : p.index ≡ i = cc in (number, index)
 
         begins : (place : Place) → MayBegin c t (flight.Group place p.number p.index)
-            (disk.Programming place (GroupPage tag_now r.page.body))
+            (disk.Programming place (GroupPage tag_now r.kept.body))
         begins place = record {
           alone = λ name e.
               let is : name ≡ page_name p = name_told name (name_of tag_now) e
@@ -360,8 +366,13 @@ takes_right c after die told is new few t h =
         IsTaken t die (job_taken c die) (core_taken c die)
     by_owed b there idle None owed = by_read (step_read c die) refl
       where
+        by_rest : step_read c die ≡ None → (f : Option Flight) → rest_read c die ≡ f →
+            IsTaken t die (job_taken c die) (core_taken c die)
+        by_rest unread None rest = unread_taken c t die b h there idle owed unread rest few
+        by_rest unread (Some f) rest = rest_taken c t die b f h there idle owed unread rest
+
         by_read : (f : Option Flight) → step_read c die ≡ f → IsTaken t die (job_taken c die) (core_taken c die)
-        by_read None read = unread_taken c t die b h there idle owed read few
+        by_read None read = by_rest read (rest_read c die) refl
         by_read (Some f) read = step_taken c t die b f h there idle owed read
     by_owed b there idle (Some k) owed = read_taken c t die k b h there idle owed
 

@@ -7,7 +7,7 @@ use Rattle.ufs_spec.specs.Disk as disk
 use Rattle.ufs_spec.specs.Translation.{Translation}
 use Rattle.ufs_spec.specs.declared.flash.Outcome.{Outcome}
 use Rattle.ufs_spec.specs.declared.flash.Tag.{Tag}
-use Rattle.ufs_spec.specs.declared.layer.Reader.TheVariants.{ForNobody, ForStep, ForTask}
+use Rattle.ufs_spec.specs.declared.layer.Reader.TheVariants.{ForNobody, ForRest, ForStep, ForTask}
 use Rattle.block_table.specs.declared.rows.OpenBlock.{OpenBlock}
 use Rattle.collector.specs.Plans.{Collection}
 use Rattle.block_table.specs.declared.rows.DieRow.{DieRow}
@@ -25,7 +25,7 @@ use Rattle.ftl_core.specs.Takes.{next_place}
 use Rattle.ftl_core.proofs.job_ended.CopiesEnded.{copy_knows}
 use Rattle.ftl_core.proofs.job_taken.FlightKinds.{flight_cases}
 use Rattle.ftl_core.proofs.live_pages.ProgramsLive.{group_live, repair_live}
-use Rattle.ftl_core.proofs.live_pages.SameLive.{Knows, again_same, facts, knows_on, read_same, written_same}
+use Rattle.ftl_core.proofs.live_pages.SameLive.{Knows, again_same, facts, knows_on, read_known, written_same}
 
 -- The step under way
 
@@ -80,9 +80,11 @@ module _ (c : Core) (t : Translation) (die : ℕ) (o : Outcome) (tag : Option Ta
       flight_cases t.numbers c.step die b.filling Goal
       (λ does flies new. knows_on c after (ap facts new) h.live)
       (λ place reader index does flies new.
-      knows_on c after (read_same (is_read o) c die b o tag (ForTask reader index) after new) h.live)
-      (λ place does flies new. knows_on c after (read_same (is_read o) c die b o tag ForStep after new) h.live)
-      (λ place does flies new. knows_on c after (read_same (is_read o) c die b o tag ForNobody after new) h.live)
+      read_known (is_read o) c die b o tag (ForTask reader index) after new h.live)
+      (λ place does flies new. read_known (is_read o) c die b o tag ForStep after new h.live)
+      (λ place does flies new. read_known (is_read o) c die b o tag ForNobody after new h.live)
+      (λ place number index does flies new.
+      read_known (is_read o) c die b o tag (ForRest number index) after new h.live)
       steps_end groups_end erases_end
       b.flight (t.disk.flights die) (h.kept.dies.each die b there).job refl refl new
     where

@@ -8,6 +8,7 @@ use Rattle.block_table.specs.declared.Sizes.{Sizes}
 use Rattle.unit_map.specs.declared.Stored.{Stored}
 use Rattle.block_table.specs.declared.rows.DieRow.{DieRow}
 use Rattle.block_table.specs.Rows.{idle_row}
+use Rattle.write_cache.specs.declared.slots.Pending.{Pending}
 use Rattle.ftl_core.specs.declared.books.Pin.{Pin}
 use Rattle.ftl_core.specs.declared.ftl.Ftl.TheInside.{Inside}
 use Rattle.ftl_core.specs.KnownLive.{none_live, with_stored}
@@ -18,13 +19,15 @@ use Rattle.ftl_core.proofs.live_pages.PinsCounted.{gone_bare, gone_counted, look
 use Rattle.ftl_core.proofs.live_pages.PinsCounted.{none_counted, pinned_bare, pinned_counted, stored_counted}
 use Rattle.ftl_core.proofs.live_pages.PinsCounted.{stored_sizes}
 
-counted_as : (l m : Lives) (ps qs : List Pin) → l ≡ m → ps ≡ qs → ArePinsCounted m qs → ArePinsCounted l ps
-counted_as l m ps qs e g h =
-    subst (λ (z : Lives). ArePinsCounted z ps) (sym e) (subst (λ (z : List Pin). ArePinsCounted m z) (sym g) h)
+pub counted_as : (l m : Lives) (ps qs : List Pin) (pages : List Pending) → l ≡ m → ps ≡ qs →
+    ArePinsCounted m qs pages → ArePinsCounted l ps pages
+counted_as l m ps qs pages e g h =
+    subst (λ (z : Lives). ArePinsCounted z ps pages) (sym e)
+    (subst (λ (z : List Pin). ArePinsCounted m z pages) (sym g) h)
 
 -- other pins, and as many as there are now of each block
 roomy_on : (f : Inside) (l : Lives) (ps : Vec Pin Global) → IsRoomy f → without_pins l ≡ without_pins f.live →
-    length ps.items ≤ 1024 → 1024 ≤ vec_capacity ps → ArePinsCounted l ps.items →
+    length ps.items ≤ 1024 → 1024 ≤ vec_capacity ps → ArePinsCounted l ps.items f.cache.pages →
     IsRoomy (record f { live = l; pins = ps })
 roomy_on f l ps h same few room counted = record {
   blocks = h.blocks;
@@ -46,14 +49,14 @@ roomy_on f l ps h same few room counted = record {
 -- a pin more
 pub roomy_pinned : (f : Inside) (l : Lives) (ps : Vec Pin Global) (p : Pin) → IsRoomy f →
     l ≡ block_pinned f.live p.looked → ps.items ≡ f.pins.items ++ p ∷ [] → length f.pins.items < 1024 →
-    1024 ≤ vec_capacity ps → IsRoomy (record f { live = l; pins = ps })
-roomy_pinned f l ps p h is items few room =
+    length f.cache.pages ≤ 1024 → 1024 ≤ vec_capacity ps → IsRoomy (record f { live = l; pins = ps })
+roomy_pinned f l ps p h is items few few_pages room =
     roomy_on f l ps h (ap without_pins is ∙ pinned_bare f.live p.looked)
     (let e = ap (λ (xs : List Pin). length xs) items in
     let g = length-append f.pins.items (p ∷ []) in omega (arith, e, g, few))
     room
-    (counted_as l (block_pinned f.live p.looked) ps.items (f.pins.items ++ p ∷ []) is items
-    (pinned_counted f.live f.pins.items p h.pinned h.pins))
+    (counted_as l (block_pinned f.live p.looked) ps.items (f.pins.items ++ p ∷ []) f.cache.pages is items
+    (pinned_counted f.live f.pins.items f.cache.pages p h.pinned h.pins few_pages))
 
 -- pins that go
 pub roomy_left : (goes : Pin → Bool) (f : Inside) (l : Lives) (ps : Vec Pin Global) (seen : List Pin) → IsRoomy f →
@@ -64,22 +67,22 @@ roomy_left goes f l ps seen h read is items fewer room =
     roomy_on f l ps h (ap without_pins is ∙ gone_bare goes seen f.live)
     (let g = h.pins in omega (arith, fewer, g)) (let g = h.pin_room in omega (arith, g, room))
     (counted_as l (fold (let_go goes) f.live f.pins.items) ps.items (filter (λ p. not (goes p)) f.pins.items)
-    (is ∙ ap (λ (xs : List Pin). fold (let_go goes) f.live xs) read) items
-    (gone_counted goes f.pins.items f.live h.pinned))
+    f.cache.pages (is ∙ ap (λ (xs : List Pin). fold (let_go goes) f.live xs) read) items
+    (gone_counted goes f.pins.items f.cache.pages f.live h.pinned))
 
 -- pins that keep a page in the place of its slot
 pub roomy_moved : (st : Stored) (f : Inside) (l : Lives) (ps : Vec Pin Global) (seen : List Pin) →
     IsRoomy f → seen ≡ f.pins.items → l ≡ fold (pin_moves st) f.live seen →
     ps.items ≡ map (moved_pin st) f.pins.items → vec_capacity ps ≡ vec_capacity f.pins →
-    IsRoomy (record f { live = l; pins = ps })
-roomy_moved st f l ps seen h read is items room =
+    length f.cache.pages ≤ 1024 → IsRoomy (record f { live = l; pins = ps })
+roomy_moved st f l ps seen h read is items room few_pages =
     roomy_on f l ps h (ap without_pins is ∙ moves_bare st seen f.live)
     (let e = ap (λ (xs : List Pin). length xs) items in
     let g = length-map f.pins.items (moved_pin st) in let k = h.pins in omega (arith, e, g, k))
     (let g = h.pin_room in omega (arith, g, room))
     (counted_as l (fold (pin_moves st) f.live f.pins.items) ps.items (map (moved_pin st) f.pins.items)
-    (is ∙ ap (λ (xs : List Pin). fold (pin_moves st) f.live xs) read) items
-    (moved_counted st f.pins.items f.live h.pinned h.pins))
+    f.cache.pages (is ∙ ap (λ (xs : List Pin). fold (pin_moves st) f.live xs) read) items
+    (moved_counted st f.pins.items f.cache.pages f.live h.pinned h.pins few_pages))
 
 -- pins that look at the same
 pub roomy_looked : (g : Pin → Pin) (f : Inside) (ps : Vec Pin Global) → IsRoomy f →
@@ -90,14 +93,17 @@ roomy_looked g f ps h same items room =
     (let e = ap (λ (xs : List Pin). length xs) items in
     let m = length-map f.pins.items g in let k = h.pins in omega (arith, e, m, k))
     (let m = h.pin_room in omega (arith, m, room))
-    (subst (λ (z : List Pin). ArePinsCounted f.live z) (sym items) (looked_counted g same f.live f.pins.items h.pinned))
+    (subst (λ (z : List Pin). ArePinsCounted f.live z f.cache.pages) (sym items)
+    (looked_counted g same f.live f.pins.items f.cache.pages h.pinned))
 
 -- at first there are none
 pub first_counted : (n : Sizes) (l : Lives) (places : List (Option Stored)) (ps : List Pin) →
-    l ≡ fold with_stored (none_live n) places → ps ≡ [] → ArePinsCounted l ps
-first_counted n l places ps is none =
-    counted_as l (fold with_stored (none_live n) places) ps [] is none
-    (stored_counted places (none_live n) [] (none_counted n))
+    (pages : List Pending) → l ≡ fold with_stored (none_live n) places → ps ≡ [] → pages ≡ [] →
+    ArePinsCounted l ps pages
+first_counted n l places ps pages is none no_pages =
+    counted_as l (fold with_stored (none_live n) places) ps [] pages is none
+    (subst (λ (qs : List Pending). ArePinsCounted (fold with_stored (none_live n) places) [] qs) (sym no_pages)
+    (stored_counted places (none_live n) [] [] (none_counted n)))
 
 first_sizes : (n : Sizes) (l : Lives) (places : List (Option Stored)) → l ≡ fold with_stored (none_live n) places →
     l.sizes ≡ n

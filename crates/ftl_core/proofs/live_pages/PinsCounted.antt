@@ -1,5 +1,6 @@
--- Each block has as many pins as readers keep pages of it, and goes on to have as many.
-use Rattle.std.proofs.Common.{◌≡◌, ◌≢◌, ◌∙◌, ◌⊎◌, ℕ, suc, ◌+◌, ◌-◌, ◌*◌, ◌<◌, ◌≤◌, ◌++◌, ◌||◌, Bool, true, false}
+-- Each block has as many pins as readers keep pages of it and rests are still to be read from it, and goes on to have
+-- as many while the pins of readers change. RestPins has what changes the rests.
+use Rattle.std.proofs.Common.{◌≡◌, ◌≢◌, ◌∙◌, ◌⊎◌, ℕ, zero, suc, ◌+◌, ◌-◌, ◌*◌, ◌<◌, ◌≤◌, ◌++◌, ◌||◌, Bool, true, false}
 use Rattle.std.proofs.Common.{cond, not, List, [], ◌∷◌, Option, Some, None, ap, arith, length, length-append, refl, sym}
 use Rattle.std.proofs.Common.{inl, inr, map, min}
 use Rattle.std.specs.Prelude.{◌^◌, filter, fold, if◌then◌else◌, nat_lt, slice_get, slice_set, unwrap_or}
@@ -20,10 +21,11 @@ use Rattle.block_table.specs.declared.Sizes.{Sizes}
 use Rattle.block_table.proofs.LiveCounts.{one, one_spot, spot_inside}
 use Rattle.unit_map.specs.declared.Stored.{Stored}
 use Rattle.ftl_core.specs.declared.books.Pin.{Pin}
+use Rattle.write_cache.specs.declared.slots.Pending.{Pending}
 use Rattle.ftl_core.specs.KnownLive.{none_live, with_stored}
-use Rattle.ftl_core.specs.Moves.{keeps, keeps_page, moved_pin, now_stored}
+use Rattle.ftl_core.specs.Moves.{keeps, keeps_page, moved_pin, now_stored, reads_block}
 use Rattle.ftl_core.specs.PinCounts.{ArePinsCounted, block_pinned, block_unpinned, is_slot_of, let_go, pin_moves}
-use Rattle.ftl_core.specs.PinCounts.{pins_on, without_pins}
+use Rattle.ftl_core.specs.PinCounts.{pins_on, rests_on, without_pins}
 
 -- Counts of blocks
 
@@ -31,7 +33,7 @@ use Rattle.ftl_core.specs.PinCounts.{pins_on, without_pins}
 abbrev pub HasCounts : Lives → (Spot → ℕ) → Type 0
 HasCounts l c = (s : Spot) → has_block l.sizes s ≡ true → slice_get l.pins (block_place l.sizes s) ≡ Some (c s)
 
-counts_as : (l : Lives) (c d : Spot → ℕ) → ((s : Spot) → c s ≡ d s) → HasCounts l c → HasCounts l d
+pub counts_as : (l : Lives) (c d : Spot → ℕ) → ((s : Spot) → c s ≡ d s) → HasCounts l c → HasCounts l d
 counts_as l c d same kept s there = kept s there ∙ ap (λ (n : ℕ). Some n) (same s)
 
 -- the count that is read is that of the block
@@ -82,10 +84,10 @@ keeps_beside s name p apart = by (spot_cases (spot_of p) s)
 abbrev pub on_block : Spot → Looked → ℕ
 on_block s k = one (keeps_page s.die s.block k)
 
-least : (n : ℕ) → n ≤ 1024 → min (n + 1) (2 ^ 32 - 1) ≡ n + 1
+least : (n : ℕ) → n ≤ 4096 → min (n + 1) (2 ^ 32 - 1) ≡ n + 1
 least n l = min-eq_left (omega (arith, l))
 
-block_counted : (l : Lives) (k : Looked) (c d : Spot → ℕ) → HasCounts l c → ((s : Spot) → c s ≤ 1024) →
+pub block_counted : (l : Lives) (k : Looked) (c d : Spot → ℕ) → HasCounts l c → ((s : Spot) → c s ≤ 4096) →
     ((s : Spot) → d s ≡ on_block s k + c s) → HasCounts (block_pinned l k) d
 block_counted l (OnPage name p) c d kept few is =
     counts_set l t (min (pins_of l t + 1) (2 ^ 32 - 1)) c d kept
@@ -102,7 +104,7 @@ block_counted l (OnPage name p) c d kept few is =
 block_counted l (InSlot name) c d kept few is = counts_as l c d (λ s. let f = is s in omega (arith, f)) kept
 block_counted l Unwritten c d kept few is = counts_as l c d (λ s. let f = is s in omega (arith, f)) kept
 
-block_uncounted : (l : Lives) (k : Looked) (c d : Spot → ℕ) → HasCounts l c →
+pub block_uncounted : (l : Lives) (k : Looked) (c d : Spot → ℕ) → HasCounts l c →
     ((s : Spot) → c s ≡ on_block s k + d s) → HasCounts (block_unpinned l k) d
 block_uncounted l (OnPage name p) c d kept is =
     counts_set l t (pins_of l t - 1) c d kept
@@ -120,21 +122,29 @@ block_uncounted l Unwritten c d kept is = counts_as l c d (λ s. let f = is s in
 
 -- Pins of a list
 
-one_more : (p : Pin) (ps : List Pin) (b : Bool) → length (cond b (p ∷ ps) ps) ≡ one b + length ps
+pub one_more : {A : Type 0} (p : A) (ps : List A) (b : Bool) → length (cond b (p ∷ ps) ps) ≡ one b + length ps
 one_more p ps true = omega arith
 one_more p ps false = omega arith
+
+pub bit : (b : Bool) → one b ≤ 1
+bit true = omega arith
+bit false = omega arith
+
+-- no more of a list pass than it has
+pub passed_few : {A : Type 0} (test : A → Bool) (ps : List A) → length (filter test ps) ≤ length ps
+passed_few test [] = omega arith
+passed_few test (p ∷ ps) =
+    let e = one_more p (filter test ps) (test p) in
+    let f = passed_few test ps in let g = bit (test p) in omega (arith, e, f, g)
 
 pins_next : (s : Spot) (p : Pin) (ps : List Pin) → pins_on s (p ∷ ps) ≡ on_block s p.looked + pins_on s ps
 pins_next s p ps = one_more p (filter (keeps s.die s.block) ps) (keeps s.die s.block p)
 
-pins_few : (s : Spot) (ps : List Pin) → pins_on s ps ≤ length ps
-pins_few s [] = omega arith
-pins_few s (p ∷ ps) =
-    let e = pins_next s p ps in let f = pins_few s ps in let g = bit (keeps s.die s.block p) in omega (arith, e, f, g)
-  where
-    bit : (b : Bool) → one b ≤ 1
-    bit true = omega arith
-    bit false = omega arith
+pub pins_few : (s : Spot) (ps : List Pin) → pins_on s ps ≤ length ps
+pins_few s ps = passed_few (keeps s.die s.block) ps
+
+rests_few : (s : Spot) (pages : List Pending) → rests_on s pages ≤ length pages
+rests_few s pages = passed_few (reads_block s.die s.block) pages
 
 pins_behind : (s : Spot) (ps : List Pin) (p : Pin) → pins_on s (ps ++ p ∷ []) ≡ on_block s p.looked + pins_on s ps
 pins_behind s ps p =
@@ -145,11 +155,13 @@ pins_behind s ps p =
     omega (arith, e, f, g)
 
 -- a pin more
-pub pinned_counted : (l : Lives) (ps : List Pin) (p : Pin) → ArePinsCounted l ps → length ps ≤ 1024 →
-    ArePinsCounted (block_pinned l p.looked) (ps ++ p ∷ [])
-pinned_counted l ps p kept few =
-    block_counted l p.looked (λ s. pins_on s ps) (λ s. pins_on s (ps ++ p ∷ [])) kept
-    (λ s. let h = pins_few s ps in omega (arith, h, few)) (λ s. pins_behind s ps p)
+pub pinned_counted : (l : Lives) (ps : List Pin) (pages : List Pending) (p : Pin) → ArePinsCounted l ps pages →
+    length ps ≤ 1024 → length pages ≤ 1024 → ArePinsCounted (block_pinned l p.looked) (ps ++ p ∷ []) pages
+pinned_counted l ps pages p kept few few_pages =
+    block_counted l p.looked (λ s. pins_on s ps + rests_on s pages)
+    (λ s. pins_on s (ps ++ p ∷ []) + rests_on s pages) kept
+    (λ s. let h = pins_few s ps in let r = rests_few s pages in omega (arith, h, few, r, few_pages))
+    (λ s. let e = pins_behind s ps p in omega (arith, e))
 
 -- the pins that pass go
 gone : (goes : Pin → Bool) (ps : List Pin) (l : Lives) (c : Spot → ℕ) → HasCounts l (λ s. pins_on s ps + c s) →
@@ -174,16 +186,13 @@ gone goes (p ∷ ps) l c kept = by (goes p) (λ m d h. gone goes ps m d h)
         (counts_as l (λ s. pins_on s (p ∷ ps) + c s) (λ s. pins_on s ps + (on_block s p.looked + c s))
         (λ s. let e = pins_next s p ps in omega (arith, e)) kept))
 
-pub gone_counted : (goes : Pin → Bool) (ps : List Pin) (l : Lives) → ArePinsCounted l ps →
-    ArePinsCounted (fold (let_go goes) l ps) (filter (λ p. not (goes p)) ps)
-gone_counted goes ps l kept =
-    counts_as (fold (let_go goes) l ps) (λ s. pins_on s (filter (λ p. not (goes p)) ps) + 0)
-    (λ s. pins_on s (filter (λ p. not (goes p)) ps)) (λ s. omega arith)
-    (gone goes ps l (λ s. 0) (counts_as l (λ s. pins_on s ps) (λ s. pins_on s ps + 0) (λ s. omega arith) kept))
+pub gone_counted : (goes : Pin → Bool) (ps : List Pin) (pages : List Pending) (l : Lives) →
+    ArePinsCounted l ps pages → ArePinsCounted (fold (let_go goes) l ps) (filter (λ p. not (goes p)) ps) pages
+gone_counted goes ps pages l kept = gone goes ps l (λ s. rests_on s pages) kept
 
 -- the pins of a slot are those of a block
 module _ (st : Stored) where
-  moved_once : (l : Lives) (k : Looked) (c : Spot → ℕ) → ((s : Spot) → c s ≤ 1024) →
+  moved_once : (l : Lives) (k : Looked) (c : Spot → ℕ) → ((s : Spot) → c s ≤ 4096) →
       HasCounts l (λ s. on_block s k + c s) →
       HasCounts (if is_slot_of st k then block_pinned l (OnPage st.name st.place) else l)
       (λ s. on_block s (now_stored st k) + c s)
@@ -197,11 +206,7 @@ module _ (st : Stored) where
   moved_once l (OnPage name p) c few kept = kept
   moved_once l Unwritten c few kept = kept
 
-  bit : (b : Bool) → one b ≤ 1
-  bit true = omega arith
-  bit false = omega arith
-
-  moves : (ps : List Pin) (l : Lives) (c : Spot → ℕ) → ((s : Spot) → length ps + c s ≤ 1024) →
+  moves : (ps : List Pin) (l : Lives) (c : Spot → ℕ) → ((s : Spot) → length ps + c s ≤ 4096) →
       HasCounts l (λ s. pins_on s ps + c s) →
       HasCounts (fold (pin_moves st) l ps) (λ s. pins_on s (map (moved_pin st) ps) + c s)
   moves [] l c few kept = kept
@@ -223,13 +228,11 @@ module _ (st : Stored) where
       (counts_as l (λ s. pins_on s (p ∷ ps) + c s) (λ s. on_block s p.looked + (pins_on s ps + c s))
       (λ s. let e = pins_next s p ps in omega (arith, e)) kept))))
 
-  pub moved_counted : (ps : List Pin) (l : Lives) → ArePinsCounted l ps → length ps ≤ 1024 →
-      ArePinsCounted (fold (pin_moves st) l ps) (map (moved_pin st) ps)
-  moved_counted ps l kept few =
-      counts_as (fold (pin_moves st) l ps) (λ s. pins_on s (map (moved_pin st) ps) + 0)
-      (λ s. pins_on s (map (moved_pin st) ps)) (λ s. omega arith)
-      (moves ps l (λ s. 0) (λ s. omega (arith, few))
-      (counts_as l (λ s. pins_on s ps) (λ s. pins_on s ps + 0) (λ s. omega arith) kept))
+  pub moved_counted : (ps : List Pin) (pages : List Pending) (l : Lives) → ArePinsCounted l ps pages →
+      length ps ≤ 1024 → length pages ≤ 1024 → ArePinsCounted (fold (pin_moves st) l ps) (map (moved_pin st) ps) pages
+  moved_counted ps pages l kept few few_pages =
+      moves ps l (λ s. rests_on s pages)
+      (λ s. let r = rests_few s pages in omega (arith, few, r, few_pages)) kept
 
 -- pins that go on to look at the same
 as_looked : (g : Pin → Pin) → ((p : Pin) → (g p).looked ≡ p.looked) → (s : Spot) (ps : List Pin) →
@@ -242,30 +245,44 @@ as_looked g same s (p ∷ ps) =
     let k : on_block s (g p).looked ≡ on_block s p.looked = ap (on_block s) (same p) in
     omega (arith, e, f, h, k)
 
-pub looked_counted : (g : Pin → Pin) → ((p : Pin) → (g p).looked ≡ p.looked) → (l : Lives) (ps : List Pin) →
-    ArePinsCounted l ps → ArePinsCounted l (map g ps)
-looked_counted g same l ps kept =
-    counts_as l (λ s. pins_on s ps) (λ s. pins_on s (map g ps)) (λ s. sym (as_looked g same s ps)) kept
+pub looked_counted : (g : Pin → Pin) → ((p : Pin) → (g p).looked ≡ p.looked) → (l : Lives) (ps : List Pin)
+    (pages : List Pending) → ArePinsCounted l ps pages → ArePinsCounted l (map g ps) pages
+looked_counted g same l ps pages kept =
+    counts_as l (λ s. pins_on s ps + rests_on s pages) (λ s. pins_on s (map g ps) + rests_on s pages)
+    (λ s. ap (λ (n : ℕ). n + rests_on s pages) (sym (as_looked g same s ps))) kept
 
--- A block with pins is one of which a page is kept
+-- A block with pins is one of which a page is kept, or from which a rest is still to be read
 
-some_kept : (die block : ℕ) (ps : List Pin) →
-    nat_lt 0 (length (filter (keeps die block) ps)) ≡ list_any (keeps die block) ps
-some_kept die block [] = refl
-some_kept die block (p ∷ ps) = by (keeps die block p) (some_kept die block ps)
+some_passes : {A : Type 0} (test : A → Bool) (ps : List A) → nat_lt 0 (length (filter test ps)) ≡ list_any test ps
+some_passes test [] = refl
+some_passes test (p ∷ ps) = by (test p) (some_passes test ps)
   where
-    by : (b : Bool) → nat_lt 0 (length (filter (keeps die block) ps)) ≡ list_any (keeps die block) ps →
-        nat_lt 0 (length (cond b (p ∷ filter (keeps die block) ps) (filter (keeps die block) ps)))
-        ≡ (b || list_any (keeps die block) ps)
-    by true rest = lt-ltb 0 (suc (length (filter (keeps die block) ps))) (omega arith)
+    by : (b : Bool) → nat_lt 0 (length (filter test ps)) ≡ list_any test ps →
+        nat_lt 0 (length (cond b (p ∷ filter test ps) (filter test ps))) ≡ (b || list_any test ps)
+    by true rest = lt-ltb 0 (suc (length (filter test ps))) (omega arith)
     by false rest = rest
 
-pub pinned_is : (l : Lives) (ps : List Pin) (die block : ℕ) → ArePinsCounted l ps → die < l.sizes.dies →
-    block < l.sizes.blocks → nat_lt 0 (pins_of l (record { die = die; block = block })) ≡ list_any (keeps die block) ps
-pinned_is l ps die block kept in_dies in_blocks =
-    ap (nat_lt 0) (counted_pins l (record { die = die; block = block }) (λ s. pins_on s ps) kept
+none_before : (n : ℕ) → 0 + n ≡ n
+none_before n = omega arith
+
+some_of_both : (a b : ℕ) → nat_lt 0 (a + b) ≡ (nat_lt 0 a || nat_lt 0 b)
+some_of_both zero b = ap (nat_lt 0) (none_before b)
+some_of_both (suc a) b =
+    lt-ltb 0 (suc a + b) (omega arith)
+    ∙ sym (ap (λ (x : Bool). x || nat_lt 0 b) (lt-ltb 0 (suc a) (omega arith)))
+
+pub pinned_is : (l : Lives) (ps : List Pin) (pages : List Pending) (die block : ℕ) → ArePinsCounted l ps pages →
+    die < l.sizes.dies → block < l.sizes.blocks →
+    nat_lt 0 (pins_of l (record { die = die; block = block }))
+    ≡ (list_any (keeps die block) ps || list_any (reads_block die block) pages)
+pinned_is l ps pages die block kept in_dies in_blocks =
+    ap (nat_lt 0) (counted_pins l at (λ s. pins_on s ps + rests_on s pages) kept
     (and_from _ _ (lt-ltb die l.sizes.dies in_dies) (lt-ltb block l.sizes.blocks in_blocks)))
-    ∙ some_kept die block ps
+    ∙ some_of_both (pins_on at ps) (rests_on at pages)
+    ∙ (λ i. some_passes (keeps die block) ps i || some_passes (reads_block die block) pages i)
+  where
+    at : Spot
+    at = record { die = die; block = block }
 
 -- Which pages are live, without the pins of blocks
 
@@ -274,7 +291,7 @@ pinned_bare l (OnPage name p) = refl
 pinned_bare l (InSlot name) = refl
 pinned_bare l Unwritten = refl
 
-unpinned_bare : (l : Lives) (k : Looked) → without_pins (block_unpinned l k) ≡ without_pins l
+pub unpinned_bare : (l : Lives) (k : Looked) → without_pins (block_unpinned l k) ≡ without_pins l
 unpinned_bare l (OnPage name p) = refl
 unpinned_bare l (InSlot name) = refl
 unpinned_bare l Unwritten = refl
@@ -312,11 +329,11 @@ stored_sizes [] l = refl
 stored_sizes (None ∷ ps) l = stored_sizes ps l
 stored_sizes (Some s ∷ ps) l = stored_sizes ps (with_live l s.place true)
 
-pub stored_counted : (ps : List (Option Stored)) (l : Lives) (pins : List Pin) → ArePinsCounted l pins →
-    ArePinsCounted (fold with_stored l ps) pins
-stored_counted [] l pins kept = kept
-stored_counted (None ∷ ps) l pins kept = stored_counted ps l pins kept
-stored_counted (Some s ∷ ps) l pins kept = stored_counted ps (with_live l s.place true) pins kept
+pub stored_counted : (ps : List (Option Stored)) (l : Lives) (pins : List Pin) (pages : List Pending) →
+    ArePinsCounted l pins pages → ArePinsCounted (fold with_stored l ps) pins pages
+stored_counted [] l pins pages kept = kept
+stored_counted (None ∷ ps) l pins pages kept = stored_counted ps l pins pages kept
+stored_counted (Some s ∷ ps) l pins pages kept = stored_counted ps (with_live l s.place true) pins pages kept
 
-pub none_counted : (n : Sizes) → ArePinsCounted (none_live n) []
+pub none_counted : (n : Sizes) → ArePinsCounted (none_live n) [] []
 none_counted n s there = get_replicate (n.dies * n.blocks) (block_place n s) 0 (spot_inside n s there)

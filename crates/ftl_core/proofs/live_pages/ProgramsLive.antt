@@ -209,7 +209,7 @@ module _ (c : Core) (t : Translation) (die : ℕ) (o : OpenBlock) (tag : Tag) (b
 
     key_is : named.page.key ≡ key_of tag
     key_is = key_named kept_page.0 (record {
-      item = record { key = named.page.key; body = named.page.body };
+      item = record { key = named.page.key; body = kept_page.2.body };
       size = named.page.size;
     }) same kept_page.2.entry
 

@@ -1,5 +1,6 @@
 -- What changes neither places of contents nor which pages are live.
 use Rattle.std.proofs.Common.{◌≡◌, ◌∙◌, ℕ, Bool, true, false, List, [], ◌∷◌, Option, Some, None, refl, ap, subst, sym}
+use Rattle.std.proofs.Common.{inl, inr, ⊎_elim}
 use Rattle.std.specs.Prelude.{if◌then◌else◌, nat_le, nat_lt, ◌-◌}
 use Rattle.ufs_spec.specs.Pages.{greatest_number}
 use Rattle.ufs_spec.specs.declared.configs.Numbers.{Numbers}
@@ -15,10 +16,15 @@ use Rattle.write_cache.specs.declared.slots.Pending.{Pending}
 use Rattle.ftl_core.specs.Core.{Core}
 use Rattle.ftl_core.specs.Ends.{step_again, with_content}
 use Rattle.ftl_core.specs.Gives.{IsReadAfter, IsReadOver}
-use Rattle.ftl_core.specs.KnownLive.{KnowsLive}
+use Rattle.ftl_core.specs.KnownLive.{IsWrittenAt, KnowsLive}
 use Rattle.collector.specs.Plans.{Collection}
 use Rattle.collector.specs.declared.PlannedCopy.{PlannedCopy}
-use Rattle.ftl_core.specs.Moves.{mark_ordered, page_written}
+use Rattle.ftl_core.specs.Moves.{mark_ordered, page_written, with_row}
+use Rattle.ftl_core.specs.Rests.{awaits, rests_filled, with_rest}
+use Rattle.write_cache.specs.Rests.{completed, completed_by}
+use Rattle.write_cache.specs.declared.rests.Rest.{Rest}
+use Rattle.ufs_spec.specs.declared.flash.Place.{Place}
+use Rattle.ufs_spec.specs.declared.layer.Name.{Name}
 use Rattle.ftl_core.specs.Turns.{IsCollectionTurned, IsStepTurned, IsTurned, plan_next, plan_turned, repair_turned}
 use Rattle.ftl_core.specs.declared.books.Mending.{Mending}
 use Rattle.ftl_core.specs.declared.books.Mending.TheVariants as mendings
@@ -66,17 +72,65 @@ content : (c : Core) (tag : Option Tag) (o : Option (List ℕ)) → facts (with_
 content c tag None = refl
 content c tag (Some body) = refl
 
-read_over : (c : Core) (o : Outcome) (found : Option Tag) (reader : Reader) (new : Core) →
-    IsReadOver c o found reader new → facts new ≡ facts c
-read_over c o found (ForTask tag index) new h = ap facts h
-read_over c o found ForStep new h = ap facts h.2 ∙ content c found h.0
-read_over c o found (ForRest number index) new h = ap facts h
-read_over c o found ForNobody new h = ap facts h
+-- a page that has its rest is written where it was
+completed_written : (base : List ℕ) (o : Option Rest) (p : Pending) → (completed_by base o p).written ≡ p.written
+completed_written base None p = refl
+completed_written base (Some rest) p = refl
 
-pub read_same : (known : Bool) (c : Core) (die : ℕ) (b : DieRow) (o : Outcome) (found : Option Tag) (reader : Reader)
-    (new : Core) → IsReadAfter known c die b o found reader new → facts new ≡ facts c
-read_same false c die b o found reader new h = ap facts h
-read_same true c die b o found reader new h = read_over _ o found reader new h
+filled_before : (name : Name) (base : List ℕ) (ps : List Pending) (at : Place) →
+    IsWrittenAt (rests_filled name base ps) at → IsWrittenAt ps at
+filled_before name base [] at w = w
+filled_before name base (p ∷ ps) at w =
+    by (awaits name p) (filled_before name (completed base p).body ps at) (filled_before name base ps at) w
+  where
+    by : (b : Bool) → (IsWrittenAt (rests_filled name (completed base p).body ps) at → IsWrittenAt ps at) →
+        (IsWrittenAt (rests_filled name base ps) at → IsWrittenAt ps at) →
+        IsWrittenAt (if b then completed base p ∷ rests_filled name (completed base p).body ps
+        else p ∷ rests_filled name base ps) at → IsWrittenAt (p ∷ ps) at
+    by true filled same (inl e) = inl (sym (completed_written base p.rest p) ∙ e)
+    by true filled same (inr x) = inr (filled x)
+    by false filled same (inl e) = inl e
+    by false filled same (inr x) = inr (same x)
+
+filled_behind : (name : Name) (base : List ℕ) (ps : List Pending) (at : Place) → IsWrittenAt ps at →
+    IsWrittenAt (rests_filled name base ps) at
+filled_behind name base [] at w = w
+filled_behind name base (p ∷ ps) at w =
+    by (awaits name p) (filled_behind name (completed base p).body ps at) (filled_behind name base ps at) w
+  where
+    by : (b : Bool) → (IsWrittenAt ps at → IsWrittenAt (rests_filled name (completed base p).body ps) at) →
+        (IsWrittenAt ps at → IsWrittenAt (rests_filled name base ps) at) → IsWrittenAt (p ∷ ps) at →
+        IsWrittenAt (if b then completed base p ∷ rests_filled name (completed base p).body ps
+        else p ∷ rests_filled name base ps) at
+    by true filled same (inl e) = inl (completed_written base p.rest p ∙ e)
+    by true filled same (inr x) = inr (filled x)
+    by false filled same (inl e) = inl e
+    by false filled same (inr x) = inr (same x)
+
+-- so the same pages are live once rests were brought
+rest_known : (c : Core) (name : Name) (o : Option (List ℕ)) → Knows (facts c) → Knows (facts (with_rest c name o))
+rest_known c name None h = h
+rest_known c name (Some body) h = record {
+  sizes = h.sizes;
+  marks = h.marks;
+  held = λ p e. ⊎_elim (λ at. inl at) (λ w. inr (filled_behind name body c.pages p w)) (h.held p e);
+  lives = λ p at. h.lives p (⊎_elim (λ x. inl x) (λ w. inr (filled_before name body c.pages p w)) at);
+}
+
+read_over : (c : Core) (o : Outcome) (found : Option Tag) (reader : Reader) (new : Core) →
+    IsReadOver c o found reader new → Knows (facts c) → Knows (facts new)
+read_over c o found (ForTask tag index) new h k = knows_on c new (ap facts h) k
+read_over c o found ForStep new h k = knows_on c new (ap facts h.2 ∙ content c found h.0) k
+read_over c o found (ForRest number index) new h k =
+    let name : Name = record { number = number; index = index } in
+    subst (λ (z : Core). Knows (facts z)) (sym h.2) (rest_known c name h.0 k)
+read_over c o found ForNobody new h k = knows_on c new (ap facts h) k
+
+pub read_known : (known : Bool) (c : Core) (die : ℕ) (b : DieRow) (o : Outcome) (found : Option Tag) (reader : Reader)
+    (new : Core) → IsReadAfter known c die b o found reader new → Knows (facts c) → Knows (facts new)
+read_known false c die b o found reader new h k = knows_on c new (ap facts h) k
+read_known true c die b o found reader new h k =
+    read_over (with_row c die record { filling = b.filling; flight = None }) o found reader new h k
 
 -- Steps
 

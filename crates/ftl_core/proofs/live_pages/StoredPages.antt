@@ -197,7 +197,7 @@ module _ (c : Core) (t : Translation) (v : Valid t) (h : Kept c t) where
       let above = (in_names t.ledger.frontier (pending t.ledger) name
       (at_has (names_pending t.ledger) j name r.1)).above in
       let stands = kept.stands ∙ written in
-      let entry : Entry = record { item = record { key = p.key; body = p.body }; size = p.size } in (
+      let entry : Entry = record { item = record { key = p.key; body = kept.body }; size = p.size } in (
         subst (λ (n : Numbers). IsKey (shape_of_numbers n) p.key) (sym h.numbers)
             (v.book_right.keys name.number name.index entry kept.entry),
         subst (λ (n : ℕ). IsPageOf c.numbers t.disk.cells p.key n place) (sym kept.number)
@@ -229,11 +229,11 @@ module _ (c : Core) (t : Translation) (v : Valid t) (h : Kept c t) where
       let b = pages_get t.ledger.standing (entry_of t.ledger) c.pages (names_pending t.ledger) j q h.ledger_kept.pages
       there in
       let numbers : a.0.number ≡ b.0.number = sym a.2.number ∙ number ∙ b.2.number in
-      let f : Entry = record { item = record { key = q.key; body = q.body }; size = q.size } in
+      let f : Entry = record { item = record { key = q.key; body = b.2.body }; size = q.size } in
       let second : IsPageAt (book t) a.0.number b.0.index f =
       subst (λ (n : ℕ). IsPageAt (book t) n b.0.index f) (sym numbers) b.2.entry in
       let indexes = v.book_right.differ a.0.number a.0.index b.0.index
-      (record { item = record { key = p.key; body = p.body }; size = p.size }) f a.2.entry second key in
+      (record { item = record { key = p.key; body = a.2.body }; size = p.size }) f a.2.entry second key in
       names_differ t.ledger.frontier (pending t.ledger) i j a.0 a.1
       (b.1 ∙ ap (λ (z : Name). Some z) (name_is b.0 a.0 (sym numbers) (sym indexes)))
 

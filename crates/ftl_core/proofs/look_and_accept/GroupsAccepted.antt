@@ -1,6 +1,6 @@
 -- The group of the blocks that a reader gathered is accepted: its pages are those of its claims.
 use Rattle.std.proofs.Common.{⊎_elim, inl, inr}
-use Rattle.std.proofs.Common.{◌≡◌, ◌∙◌, ℕ, zero, suc, ◌+◌, ◌≤◌, ◌==◌, ◌&&◌, true, List, [], ◌∷◌, ◌++◌, Option, Some}
+use Rattle.std.proofs.Common.{◌≡◌, ◌∙◌, ℕ, zero, suc, ◌+◌, ◌≤◌, ◌==◌, ◌&&◌, true, List, [], ◌∷◌, ◌++◌, Some}
 use Rattle.std.proofs.Common.{length, map, filter, not, refl, sym, ap, subst, arith, drop}
 use Rattle.std.specs.Prelude.{nat_le, nat_lt, slice_get}
 use Rattle.std.proofs.lemmas.List.{length-map}
@@ -12,10 +12,10 @@ use Rattle.ufs_spec.specs.Pages.{greatest_number}
 use Rattle.ufs_spec.specs.Configs.{InRange}
 use Rattle.ufs_spec.specs.Keys.{Group, IsKey, Item, below}
 use Rattle.ufs_spec.specs.Ledger as ledger
-use Rattle.ufs_spec.specs.Ledger.{Ledger, entry_of}
+use Rattle.ufs_spec.specs.Ledger.{entry_of}
 use Rattle.ufs_spec.specs.Moves.{Accept, IsAllowedMove, moved}
 use Rattle.ufs_spec.specs.Plain.{shape_of_numbers}
-use Rattle.ufs_spec.specs.Translation.{Rest, Translation, Work, is_in_part, names_of, rests_of}
+use Rattle.ufs_spec.specs.Translation.{Rest, Translation, is_in_part, names_of, rests_of}
 use Rattle.ufs_spec.specs.declared.flash.Key.{Key}
 use Rattle.ufs_spec.specs.declared.flash.Place.{Place}
 use Rattle.ufs_spec.specs.declared.layer.Name.{Name}
@@ -28,17 +28,24 @@ use Rattle.power_loss.proofs.ordered_lists.ElementsAndOrders.{mapped_at}
 use Rattle.power_loss.proofs.pending_groups.DurableInOrder as durable
 use Rattle.power_loss.proofs.pending_groups.PendingByFrontier.{beyond}
 use Rattle.write_cache.specs.declared.slots.Claimed.{Claimed}
-use Rattle.ftl_core.specs.declared.books.Mending.{Mending}
 use Rattle.write_cache.specs.declared.slots.Pending.{Pending}
-use Rattle.ftl_core.specs.declared.books.Step.{Step}
+use Rattle.std.specs.Prelude.{Contains, cond}
+use Rattle.std.proofs.lemmas.List.{append-nil}
+use Rattle.ufs_spec.specs.Translation.{FromPage}
+use Rattle.power_loss.proofs.laid_rests.AllMoves.{laid_move}
+use Rattle.power_loss.proofs.books.SmallFacts.{if_true}
+use Rattle.ftl_core.specs.Rests.{waits}
+use Rattle.ftl_core.specs.RestsKept.{RestsKept, waiting}
+use Rattle.ftl_core.specs.Takes.{is_sealable}
+use Rattle.ftl_core.proofs.rests_owed.RestsGrow.{rest_grows}
 use Rattle.ftl_core.specs.Core.{Core}
 use Rattle.ftl_core.specs.KnownLive.{IsWrittenAt, KnowsLive}
-use Rattle.ftl_core.specs.Describes.{Describes, PageKept, PagesKept, WorkKept, name_at}
+use Rattle.ftl_core.specs.Describes.{Describes, PageKept, PagesKept, name_at}
 use Rattle.ftl_core.specs.Moves.{accepted, claims_for, next_number, pages_claimed}
 use Rattle.write_cache.specs.Slots.{is_claim_of, key_at, page_claimed}
 use Rattle.ftl_core.specs.Tells.{claim_at, claims_behind, claims_of_blocks, group_of_blocks, items_behind, key_behind}
 use Rattle.ftl_core.proofs.look_and_accept.KeysBehind.{keys_same}
-use Rattle.ftl_core.proofs.look_and_accept.MoreGroups.{ledger_more, pins_kept_more, with_group, work_more}
+use Rattle.ftl_core.proofs.look_and_accept.MoreGroups.{ledger_more, pins_kept_more, rests_more, with_group, work_more}
 use Rattle.ftl_core.proofs.look_and_accept.Numbers.{numbers_right, repairs_mended}
 use Rattle.ftl_core.proofs.pages.NamesBehind.{get_name}
 use Rattle.ftl_core.proofs.pages.PagesNamed.{pages_kept}
@@ -112,12 +119,13 @@ page_kept : (t : Translation) (k : Key) (bodies : List (List ℕ)) (reader i : �
 page_kept t k bodies reader i body v is at = record {
   number = refl;
   index = refl;
+  body = body;
   entry = added_page (book t) (group_of_blocks k bodies) number i
       (record { item = record { key = key_at k i; body = body }; size = length bodies })
       (record { last = omega arith; item = item; size = sym (items_length k 0 bodies) });
-  group_page = λ j. kind j && unit j && one j && most j && index j && short j;
+  group_page = λ j. sealable j && one j && most j && index j && short j;
   stands = beyond number i v.frontier (omega arith);
-  whole = refl;
+  whole = λ none. refl;
 }
   where
     number : ℕ
@@ -131,11 +139,9 @@ page_kept t k bodies reader i body v is at = record {
         ∙ (ap (λ (n : ℕ). Some (item_at k n body)) (at_zero i)
         ∙ ap (λ (x : Key). Some (record { key = x; body = body })) (sym (is.keys i body at)))
 
-    kind : (k.kind == 1) ≡ true
-    kind = eq-eqb k.kind 1 is.kind
-
-    unit : nat_le k.unit 7 ≡ true
-    unit = le-leb k.unit 7 is.unit
+    sealable : is_sealable (key_at k i) ≡ true
+    sealable =
+        if_true (k.kind == 1) (nat_le k.unit 7) _ (eq-eqb k.kind 1 is.kind) ∙ le-leb k.unit 7 is.unit
 
     one : nat_le 1 (ledger.next_number t.ledger) ≡ true
     one = le-leb 1 (ledger.next_number t.ledger) (omega arith)
@@ -202,19 +208,6 @@ none_in_part t k bodies kind =
     ap (λ (x : Item). is_in_part x.key) (get_or_from_slice_get (group_of_blocks k bodies) i item.0 other item.1)
     ∙ ap (λ (n : ℕ). n == 2) (kind_there k 0 bodies i item.0 item.1 ∙ kind))
 
--- still no rest is to be read
-rests_more : (m : Mending) (left : List Key) (step : Option Step) (content : List ℕ) (next : ℕ) (w : Work) (l : Ledger)
-    (rests : List Rest) → rests ≡ [] → WorkKept m left step content next w l →
-    WorkKept m left step content next (record w { rests = rests }) l
-rests_more m left step content next w l rests none k = record {
-  mending_is = k.mending_is;
-  step_is = k.step_is;
-  to_repair = k.to_repair;
-  no_rests = none;
-  next_mark = k.next_mark;
-  repaired = k.repaired;
-}
-
 -- a group that is accepted has no page that is written
 
 written_behind : (ps : List Pending) (k : Key) (number size : ℕ) (claims : List Claimed) (p : Place) →
@@ -240,6 +233,14 @@ none_written c k reader h = record {
       (length (claims_for c reader)) (claims_for c reader) p w)) at);
 }
 
+-- and none that waits for its rest
+claimed_whole : (ps : List Pending) (k : Key) (number size : ℕ) (claims : List Claimed) →
+    waiting (ps ++ map (page_claimed k number size) claims) ≡ waiting ps
+claimed_whole [] k number size [] = refl
+claimed_whole [] k number size (x ∷ xs) = claimed_whole [] k number size xs
+claimed_whole (p ∷ ps) k number size claims =
+    ap (λ (qs : List Pending). cond (waits p) (p ∷ qs) qs) (claimed_whole ps k number size claims)
+
 accepts_right : (c : Core) (t : Translation) (k : Key) (bodies : List (List ℕ)) (reader : ℕ) → InRange c.numbers →
     Describes c t → k.kind ≡ 1 → k.unit ≤ 7 → claims_for c reader ≡ claims_of_blocks reader bodies →
     IsAllowedMove t (Accept (length bodies) (group_of_blocks k bodies)) →
@@ -248,6 +249,17 @@ accepts_right c t k bodies reader ranges h kind unit claimed may = record {
   valid = all_keep t (Accept (length bodies) (group_of_blocks k bodies)) h.valid may;
   live = none_written c k reader h.live;
   copies = h.copies;
+  rests = subst (RestsKept (moved t (Accept (length bodies) g)))
+      (sym (claimed_whole c.pages k (next_number c) (length (claims_for c reader)) (claims_for c reader)))
+      (record {
+        are = (λ i. t.work.rests ++ none_in_part t k bodies kind i) ∙ append-nil t.work.rests ∙ h.rests.are;
+        laid = laid_move t (Accept (length bodies) g) h.valid h.rests.laid may;
+        each = λ p rest there e. rest_grows (book t) g t.disk.cells p rest (h.rests.each p rest there e);
+        reads = λ die n i place e. subst (λ (rests : List Rest). Contains rests
+            (record { name = record { number = n; index = i }; source = FromPage place }))
+            (sym ((λ i. t.work.rests ++ none_in_part t k bodies kind i) ∙ append-nil t.work.rests))
+            (h.rests.reads die n i place e);
+      });
   kept = record {
     numbers = h.kept.numbers;
     blocks = h.kept.blocks;
@@ -259,7 +271,6 @@ accepts_right c t k bodies reader ranges h kind unit claimed may = record {
         (names_of (ledger.next_number t.ledger) g)) pages (pages_gathered t k bodies reader h.valid gathered));
     work = rests_more c.mending (drop c.repaired c.lost) c.step c.content c.next_mark t.work (with_group t.ledger g)
         (t.work.rests ++ rests_of t g)
-        (ap (λ (rests : List Rest). rests ++ rests_of t g) h.kept.work.no_rests ∙ none_in_part t k bodies kind)
         (work_more c.mending (drop c.repaired c.lost) c.step c.content c.next_mark t.work t.ledger
         (with_group t.ledger g) may.0 (repairs_mended c t h may.0) refl (h.kept.work.repaired may.0)
         (λ name e is. page_grows (book t) g name.number name.index e is) (λ name p is. (p, is)) h.kept.work);

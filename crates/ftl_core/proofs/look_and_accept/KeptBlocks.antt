@@ -21,6 +21,8 @@ use Rattle.power_loss.specs.Invariant.{Valid}
 use Rattle.power_loss.proofs.moves.MovesKeepValid.{all_keep}
 use Rattle.power_loss.proofs.open_tasks.FoundInLists.{found_more}
 use Rattle.power_loss.proofs.ordered_lists.ElementsAndOrders.{mapped_at}
+use Rattle.ftl_core.specs.RestsKept.{waiting}
+use Rattle.ftl_core.proofs.rests_owed.RestsStay.{same_rests}
 use Rattle.ftl_core.specs.declared.books.Pin.{Pin}
 use Rattle.ftl_core.specs.Core.{Core}
 use Rattle.ftl_core.specs.Describes.{Describes, IsLookOf, PinKept, PinsKept}
@@ -127,6 +129,7 @@ keeps_block c t k p q h mended is looks kept new = record {
   valid = all_keep t (Keep k q) h.valid (is, looks);
   live = h.live;
   copies = h.copies;
+  rests = same_rests t (moved t (Keep k q)) (waiting c.pages) refl refl refl refl h.rests.laid h.rests;
   kept = record {
     numbers = h.kept.numbers;
     blocks = h.kept.blocks;

@@ -91,7 +91,7 @@ none_is k ps none =
 -- Names in order
 
 -- the numbers of names rise
-numbers_rise : (n : ℕ) (gs : List keys.Group) (i j : ℕ) (x y : Name) → i ≤ j →
+pub numbers_rise : (n : ℕ) (gs : List keys.Group) (i j : ℕ) (x y : Name) → i ≤ j →
     slice_get (names_after n gs) i ≡ Some x → slice_get (names_after n gs) j ≡ Some y → x.number ≤ y.number
 numbers_rise n [] i j x y l h k = absurd (none-some x h)
 numbers_rise n (g ∷ gs) i j x y l h k =
@@ -166,7 +166,7 @@ module _ (t : Translation) (v : Valid t) (ps : List Pending)
       kept at in
       let above = (in_names t.ledger.frontier (behind t.ledger) r.0
       (at_has (names_after t.ledger.frontier (behind t.ledger)) b r.0 r.1)).above in
-      let entry : Entry = record { item = record { key = q.key; body = q.body }; size = q.size } in
+      let entry : Entry = record { item = record { key = q.key; body = r.2.body }; size = q.size } in
       let g = group_above t r.0 entry v above r.2.entry in
       record {
         name = r.0;
@@ -228,7 +228,7 @@ module _ (t : Translation) (v : Valid t) (ps : List Pending)
       key : page.0.key ≡ k
       key =
           ap (λ (e : Entry). e.item.key)
-          (same_Some (record { item = record { key = page.0.key; body = page.0.body }; size = page.0.size })
+          (same_Some (record { item = record { key = page.0.key; body = page.2.body }; size = page.0.size })
           (record { item = l.item; size = length l.group }) (sym page.2.entry ∙ there))
           ∙ l.key
 

@@ -8,7 +8,7 @@ use Rattle.ufs_spec.proofs.Facts.{true≢false}
 use Rattle.ufs_spec.specs.Ledger.{Entry, Ledger, before_accepted, entry_of}
 use Rattle.ufs_spec.specs.Ledger.{latest_durable, latest_in, next_number, pending}
 use Rattle.ufs_spec.specs.Translation as layer
-use Rattle.ufs_spec.specs.Translation.{Translation, Work, is_mended, names_after, names_of}
+use Rattle.ufs_spec.specs.Translation.{Rest, Translation, Work, is_mended, names_after, names_of}
 use Rattle.ufs_spec.specs.declared.flash.Key.{Key}
 use Rattle.ufs_spec.specs.declared.flash.Place.{Place}
 use Rattle.ufs_spec.specs.declared.layer.Looked.{Looked}
@@ -99,7 +99,6 @@ work_more m left step content next w l after mended none marks repaired known st
   mending_is = k.mending_is;
   step_is = step_same step w.step none k.step_is;
   to_repair = λ e. absurd (true≢false (sym mended ∙ e));
-  no_rests = k.no_rests;
   next_mark = k.next_mark ∙ ap suc (sym marks);
   repaired = λ e. repaired;
 }
@@ -126,6 +125,18 @@ work_more m left step content next w l after mended none marks repaired known st
             copied = r.2.copied;
           },
         )
+
+-- what is known of the other work does not depend on rests
+pub rests_more : (m : Mending) (left : List Key) (step : Option Step) (content : List ℕ) (next : ℕ) (w : Work)
+    (l : Ledger) (rests : List Rest) → WorkKept m left step content next w l →
+    WorkKept m left step content next (record w { rests = rests }) l
+rests_more m left step content next w l rests k = record {
+  mending_is = k.mending_is;
+  step_is = k.step_is;
+  to_repair = k.to_repair;
+  next_mark = k.next_mark;
+  repaired = k.repaired;
+}
 
 -- Pins
 

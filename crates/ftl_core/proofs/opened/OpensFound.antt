@@ -44,6 +44,8 @@ use Rattle.block_table.specs.declared.rows.DieRow.{DieRow}
 use Rattle.block_table.specs.declared.rows.Flight.TheVariants as flight
 use Rattle.ufs_spec.proofs.Facts.{same_Some}
 use Rattle.unit_map.specs.declared.Stored.{Stored}
+use Rattle.power_loss.proofs.laid_rests.AllMoves.{laid_opened}
+use Rattle.power_loss.proofs.ordered_lists.ElementsAndOrders.{contained_in}
 use Rattle.ftl_core.specs.Core.{Core}
 use Rattle.ftl_core.specs.Describes.{AreToRepair, RowKept, Describes, DiesKept, Kept}
 use Rattle.ftl_core.specs.Describes.{LedgerKept, PagesKept, PinsKept, Standing, StepKept, WorkKept, mending_kept}
@@ -247,7 +249,6 @@ work_found n f c bad t content h o = record {
     unrepaired = every (λ (k : Key). latest_durable t.ledger k ≡ t.ledger.first_page k)
         (λ k. latest_first t.ledger k o.ledger.none_new) f.lost.items;
   });
-  no_rests = o.no_rests;
   next_mark = next_found f.newest t.ledger.marks h.marks h.marks_within;
   repaired = λ mended. omega (arith, o.ledger.none_repaired, o.ledger.frontier);
 }
@@ -303,6 +304,12 @@ opens_right n f c bad t pages right within sound found o =
       copies = record {
         planned = λ p e. cc;
         named = λ name from is. absurd (none_some _ (sym o.no_step ∙ is));
+      };
+      rests = record {
+        are = o.no_rests;
+        laid = laid_opened n c bad t o;
+        each = λ p rest there. absurd (contained_in [] there);
+        reads = λ die number index place e. absurd (none_some _ (sym (o.disk.idle die) ∙ e));
       };
     }
 

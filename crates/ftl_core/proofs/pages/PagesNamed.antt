@@ -146,6 +146,7 @@ pub page_same : (st other : Standing) (en changed : Name → Option Entry) (p : 
 page_same st other en changed p name stands entry h = record {
   number = h.number;
   index = h.index;
+  body = h.body;
   entry = entry ∙ h.entry;
   group_page = h.group_page;
   stands = stands ∙ h.stands;
@@ -163,7 +164,8 @@ pages_known st en changed (p ∷ ps) (x ∷ names) known h = (
   record {
     number = h.0.number;
     index = h.0.index;
-    entry = known x (record { item = record { key = p.key; body = p.body }; size = p.size }) h.0.entry;
+    body = h.0.body;
+    entry = known x (record { item = record { key = p.key; body = h.0.body }; size = p.size }) h.0.entry;
     group_page = h.0.group_page;
     stands = h.0.stands;
     whole = h.0.whole;

@@ -1,5 +1,5 @@
 -- What readers keep is what tasks keep, pin by pin.
-use Rattle.std.proofs.Common.{◌≡◌, ◌∙◌, ℕ, zero, suc, Bool, true, false, List, [], ◌∷◌, ◌++◌, Option, Some, refl, sym}
+use Rattle.std.proofs.Common.{◌≡◌, ◌∙◌, ℕ, zero, suc, List, [], ◌∷◌, ◌++◌, Option, Some, refl, sym}
 use Rattle.std.proofs.Common.{ap, subst}
 use Rattle.std.specs.Prelude.{◌||◌, map, slice_get}
 use Rattle.std.specs.List.{list_any}
@@ -11,6 +11,11 @@ use Rattle.ufs_spec.specs.declared.layer.Looked.{Looked}
 use Rattle.ufs_spec.specs.declared.layer.Looked.TheVariants.{InSlot, OnPage, Unwritten}
 use Rattle.ufs_spec.specs.declared.layer.Name.{Name}
 use Rattle.power_loss.proofs.books.PagesByName.{none_some, some_is}
+use Rattle.ufs_spec.specs.Ledger.{entry_of}
+use Rattle.ftl_core.specs.Core.{Core}
+use Rattle.ftl_core.specs.Describes.{Describes}
+use Rattle.ftl_core.specs.Moves.{has_pin}
+use Rattle.ftl_core.proofs.rests_owed.RestsNamed.{rests_read}
 use Rattle.ftl_core.specs.declared.books.Pin.{Pin}
 use Rattle.ftl_core.specs.Describes.{PinKept, PinsKept}
 use Rattle.ftl_core.specs.Moves.{keeps, keeps_page}
@@ -66,19 +71,8 @@ pinned_alike frontier entries s (p ∷ ps) [] k = absurd k
 pinned_alike frontier entries s (p ∷ ps) (q ∷ qs) k =
     λ i. looks_alike s p.looked q.looked k.0.looked i || pinned_alike frontier entries s ps qs k.1 i
 
--- where no rest of a page is to be read, tasks alone keep pages
-tasks_keep : (t : Translation) (s : Spot) → t.work.rests ≡ [] →
-    list_any (λ (pin : layer.Pin). layer.looks_into s pin.looked) t.pins ≡ layer.is_pinned t s
-tasks_keep t s none =
-    sym (or_nothing (list_any (λ (pin : layer.Pin). layer.looks_into s pin.looked) t.pins))
-    ∙ ap (λ (rests : List layer.Rest). list_any (λ (pin : layer.Pin). layer.looks_into s pin.looked) t.pins
-    || list_any (λ (rest : layer.Rest). layer.reads_from s rest.source) rests) (sym none)
-  where
-    or_nothing : (b : Bool) → (b || false) ≡ b
-    or_nothing true = refl
-    or_nothing false = refl
-
-pub pinned_as : (frontier : ℕ) (entries : Name → Option Entry) (t : Translation) (s : Spot) (ps : List Pin) →
-    t.work.rests ≡ [] →
-    PinsKept frontier entries ps t.pins → list_any (keeps s.die s.block) ps ≡ layer.is_pinned t s
-pinned_as frontier entries t s ps none h = pinned_alike frontier entries s ps t.pins h ∙ tasks_keep t s none
+-- a block has a pin where it has one in the layer
+pub pinned_as : (c : Core) (t : Translation) (s : Spot) → Describes c t →
+    has_pin c s.die s.block ≡ layer.is_pinned t s
+pinned_as c t s h = λ i. pinned_alike t.ledger.frontier (entry_of t.ledger) s c.pins t.pins h.kept.pins i
+    || rests_read c t h s i

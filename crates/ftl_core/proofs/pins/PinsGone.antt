@@ -25,7 +25,7 @@ use Rattle.block_table.specs.declared.rows.OpenBlock.{OpenBlock}
 use Rattle.ftl_core.specs.declared.books.Pin.{Pin}
 use Rattle.ftl_core.specs.declared.books.Step.{Step}
 use Rattle.ftl_core.specs.Core.{Core}
-use Rattle.ftl_core.specs.Describes.{RowKept, IsFlight, Kept, PinsKept, WritesGroup, is_for_rest}
+use Rattle.ftl_core.specs.Describes.{RowKept, IsFlight, Kept, PinsKept, WritesGroup}
 use Rattle.ftl_core.specs.Moves.{flight_without, flight_without_block, is_of_reader, is_pin_of, without_block}
 use Rattle.ftl_core.specs.Moves.{without_reader}
 use Rattle.ftl_core.proofs.pins.FoundPins.{found_kept, pin_told}
@@ -59,18 +59,13 @@ is_kept gone q = not (gone q.tag q.index)
 
 -- The reads in flight
 
--- it is for nobody now, or stays
-no_rest_left : (b : Bool) (r : Reader) → is_for_rest r ≡ false → is_for_rest (if b then ForNobody else r) ≡ false
-no_rest_left true r h = refl
-no_rest_left false r h = h
-
 -- the job in flight is as it was, or is a read that is for nobody now
 flight_gone : (n : Numbers) (step : Option Step) (gone : ℕ → ℕ → Bool) (die : ℕ) (filling : Option OpenBlock)
     (f : Option Flight) (g : Option disk.Flight) → IsFlight n step die filling f g →
     IsFlight n step die filling (flight_left gone f) (layer_without (is_gone gone) g)
 flight_gone n step gone die filling None None h = h
 flight_gone n step gone die filling (Some (flight.Read place r)) (Some (disk.Reading who p)) h =
-    (h.0, ap (λ (x : Reader). if is_gone gone x then ForNobody else x) h.1, no_rest_left (is_gone gone r) r h.2)
+    (h.0, ap (λ (x : Reader). if is_gone gone x then ForNobody else x) h.1)
 flight_gone n step gone die filling (Some (flight.Step place)) (Some (disk.Programming p cell)) h = h
 flight_gone n step gone die filling (Some (flight.Group place m i)) (Some (disk.Programming p (GroupPage tag body))) h =
     h

@@ -1,8 +1,8 @@
 -- A read in flight is for a reader who keeps its page and waits for it, for the step under way, or for nobody.
-use Rattle.std.proofs.Common.{◌≡◌, ◌∙◌, ℕ, false, Option, Some, None, refl}
+use Rattle.std.proofs.Common.{◌≡◌, ◌∙◌, ℕ, Option, Some, None, refl}
 use Rattle.std.proofs.Common.{sym, ap, subst, inl, inr, ◌⊎◌}
 use Rattle.std.specs.Prelude.{slice_get}
-use Rattle.ufs_spec.proofs.Facts.{none-some, true≢false}
+use Rattle.ufs_spec.proofs.Facts.{none-some}
 use Rattle.ufs_spec.specs.Disk as disk
 use Rattle.ufs_spec.specs.Disk.{Reading}
 use Rattle.ufs_spec.specs.Ledger.{entry_of}
@@ -17,24 +17,27 @@ use Rattle.block_table.specs.declared.rows.Flight.TheVariants as flight
 use Rattle.block_table.specs.declared.rows.OpenBlock.{OpenBlock}
 use Rattle.ftl_core.specs.declared.books.Step.{Step}
 use Rattle.ftl_core.specs.Core.{Core}
-use Rattle.ftl_core.specs.Describes.{Describes, IsFlight, is_for_rest}
+use Rattle.ftl_core.specs.Describes.{Describes, IsFlight}
 use Rattle.ftl_core.proofs.pins.FoundPins.{pin_found}
 use Rattle.ftl_core.specs.Tells.{IsAwaited, IsReadOf}
 use Rattle.ftl_core.proofs.job_taken.NextStarts.{outside}
 
 -- Jobs
 
+-- for nobody or for the step, for a task, or for a rest
+abbrev IsReader : Reader → Type 0
+IsReader who = ((who ≡ ForNobody) ⊎ (who ≡ ForStep)) ⊎ (((tag : ℕ) × (index : ℕ) × (who ≡ ForTask tag index))
+    ⊎ ((number : ℕ) × (index : ℕ) × (who ≡ ForRest number index)))
+
 reader_is : (n : Numbers) (step : Option Step) (die : ℕ) (filling : Option OpenBlock) (f : Option Flight) (who : Reader)
-    (place : Place) → IsFlight n step die filling f (Some (Reading who place)) →
-    ((who ≡ ForNobody) ⊎ (who ≡ ForStep)) ⊎ ((tag : ℕ) × (index : ℕ) × (who ≡ ForTask tag index))
-reader_is n step die filling (Some (flight.Read p reader)) who place h = known reader h.1 h.2
+    (place : Place) → IsFlight n step die filling f (Some (Reading who place)) → IsReader who
+reader_is n step die filling (Some (flight.Read p reader)) who place h = known reader h.1
   where
-    known : (reader : Reader) → who ≡ reader → is_for_rest reader ≡ false →
-        ((who ≡ ForNobody) ⊎ (who ≡ ForStep)) ⊎ ((tag : ℕ) × (index : ℕ) × (who ≡ ForTask tag index))
-    known (ForTask tag index) e no_rest = inr (tag, index, e)
-    known ForStep e no_rest = inl (inr e)
-    known ForNobody e no_rest = inl (inl e)
-    known (ForRest number index) e no_rest = absurd (true≢false no_rest)
+    known : (reader : Reader) → who ≡ reader → IsReader who
+    known (ForTask tag index) e = inr (inl (tag, index, e))
+    known ForStep e = inl (inr e)
+    known ForNobody e = inl (inl e)
+    known (ForRest number index) e = inr (inr (number, index, e))
 reader_is n step die filling f who place h = absurd h
 
 task_reads : (c : Core) (t : Translation) (die tag index : ℕ) (place : Place) → Describes c t →
@@ -54,12 +57,13 @@ pub read_awaited : (c : Core) (die : ℕ) (t : Translation) (who : Reader) (plac
     t.disk.flights die ≡ Some (Reading who place) → IsReadOf t place who
 read_awaited c die t who place h flies = by (slice_get c.rows die) refl
   where
-    known : ((who ≡ ForNobody) ⊎ (who ≡ ForStep)) ⊎ ((tag : ℕ) × (index : ℕ) × (who ≡ ForTask tag index)) →
-        IsReadOf t place who
+    known : IsReader who → IsReadOf t place who
     known (inl (inl e)) = subst (IsReadOf t place) (sym e) tt
     known (inl (inr e)) = subst (IsReadOf t place) (sym e) tt
-    known (inr e) = subst (IsReadOf t place) (sym e.2)
+    known (inr (inl e)) = subst (IsReadOf t place) (sym e.2)
         (task_reads c t die e.0 e.1 place h (flies ∙ ap (λ (x : Reader). Some (Reading x place)) e.2))
+    known (inr (inr e)) = subst (IsReadOf t place) (sym e.2)
+        (h.rests.reads die e.0 e.1 place (flies ∙ ap (λ (x : Reader). Some (Reading x place)) e.2))
 
     by : (b : Option DieRow) → slice_get c.rows die ≡ b → IsReadOf t place who
     by None e = absurd (none-some _ (sym (h.kept.dies.no_more die (outside c t die h.kept e)) ∙ flies))

@@ -12,6 +12,8 @@ use Rattle.ufs_spec.specs.Translation.{Translation}
 use Rattle.power_loss.proofs.moves.MovesKeepValid.{all_keep}
 use Rattle.power_loss.proofs.jobs.ReadsAndTasks.{releases}
 use Rattle.write_cache.specs.declared.slots.Claimed.{Claimed}
+use Rattle.ftl_core.specs.RestsKept.{waiting}
+use Rattle.ftl_core.proofs.rests_owed.RestsStay.{same_rests}
 use Rattle.ftl_core.specs.Core.{Core}
 use Rattle.ftl_core.specs.Describes.{Describes, Kept}
 use Rattle.ftl_core.specs.Moves.{claimed_all, claims_for, filled, free_slots}
@@ -46,6 +48,7 @@ claims_right : (c : Core) (t : Translation) (reader blocks : ℕ) → Describes 
 claims_right c t reader blocks h room = record {
   live = h.live;
   copies = h.copies;
+  rests = same_rests t (moved t (Claim blocks)) (waiting c.pages) refl refl refl refl h.rests.laid h.rests;
   valid = all_keep t (Claim blocks) h.valid
       (let l = leb-true blocks (free_slots c) room in let same = slots_right c t h in omega (arith, l, same));
   kept = claims_kept c t (c.claims ++ map (empty_claim reader) (below blocks)) (t.claims + blocks) h.kept
@@ -74,6 +77,8 @@ releases_right c t reader h = record {
   valid = releases t (length (claims_for c reader)) h.valid;
   live = h.live;
   copies = h.copies;
+  rests = same_rests t (moved t (Release (length (claims_for c reader)))) (waiting c.pages) refl refl refl refl
+      h.rests.laid h.rests;
   kept = claims_kept c t (filter (λ claim. not (is_claim_of reader claim)) c.claims)
       (t.claims - length (claims_for c reader)) h.kept
       (let both = left_beside reader c.claims (filter (λ claim. not (is_claim_of reader claim)) c.claims) refl in
@@ -93,6 +98,7 @@ fills_right c t reader index body h = record {
   valid = h.valid;
   live = h.live;
   copies = h.copies;
+  rests = h.rests;
   kept = claims_kept c t (map (claim_filled reader index body) c.claims) t.claims h.kept
       (length-map c.claims (claim_filled reader index body) ∙ h.kept.claims);
 }

@@ -4,13 +4,16 @@ use Rattle.std.specs.Prelude.{IsSome, filter, find, not, option_map}
 use Rattle.ufs_spec.proofs.Facts.{cases_Bool, false≢true}
 use Rattle.ufs_spec.specs.Ledger.{Ledger, before_accepted, entry_of}
 use Rattle.ufs_spec.specs.Moves as move
-use Rattle.ufs_spec.specs.Moves.{Acknowledge, LetGo, LetGoAll, WantPage, moved}
+use Rattle.ufs_spec.specs.Moves.{Acknowledge, LetGo, LetGoAll, WantPage, is_for, is_for_task, moved}
 use Rattle.ufs_spec.specs.Translation as layer
 use Rattle.ufs_spec.specs.Translation.{Translation}
 use Rattle.ufs_spec.specs.declared.flash.Key.{Key}
 use Rattle.power_loss.specs.Book.{book}
 use Rattle.power_loss.specs.Invariant.{PinsRight}
 use Rattle.power_loss.proofs.moves.MovesKeepValid.{all_keep}
+use Rattle.power_loss.proofs.laid_rests.AllMoves.{laid_move}
+use Rattle.ftl_core.specs.RestsKept.{waiting}
+use Rattle.ftl_core.proofs.rests_owed.RestsStay.{gone_rests, same_rests}
 use Rattle.ftl_core.specs.declared.books.Mending.{Mending}
 use Rattle.ftl_core.specs.declared.books.Pin.{Pin}
 use Rattle.ftl_core.specs.declared.books.Step.{Step}
@@ -62,6 +65,8 @@ unpins_right c t reader h = record {
   kept = let_go_kept c t reader h.kept;
   live = h.live;
   copies = h.copies;
+  rests = gone_rests t (waiting c.pages) (is_for_task reader) (λ n i. refl) (moved t (LetGoAll reader)) refl refl refl
+      refl (laid_move t (LetGoAll reader) h.valid h.rests.laid tt) h.rests;
 }
 
 pub unpins_told : (c after : Core) (reader : ℕ) → after ≡ unpinned c reader → (t : Translation) → Describes c t →
@@ -82,6 +87,8 @@ lets_go_right c t reader index h = record {
   kept = let_one_go_kept c t reader index h.kept;
   live = h.live;
   copies = h.copies;
+  rests = gone_rests t (waiting c.pages) (is_for reader index) (λ n i. refl) (moved t (LetGo reader index)) refl refl
+      refl refl (laid_move t (LetGo reader index) h.valid h.rests.laid tt) h.rests;
 }
 
 pub wants_right : (c : Core) (t : Translation) (reader index : ℕ) → Describes c t →
@@ -91,6 +98,7 @@ wants_right c t reader index h = record {
   kept = wants_kept c t reader index h.kept;
   live = h.live;
   copies = h.copies;
+  rests = same_rests t (moved t (WantPage reader index)) (waiting c.pages) refl refl refl refl h.rests.laid h.rests;
 }
 
 -- and the next one is wanted
@@ -115,7 +123,6 @@ work_held m left step content next w l held k = record {
   mending_is = k.mending_is;
   step_is = step_held step w.step k.step_is;
   to_repair = λ e. let r = k.to_repair e in record { differ = r.differ; unrepaired = r.unrepaired };
-  no_rests = k.no_rests;
   next_mark = k.next_mark;
   repaired = k.repaired;
 }
@@ -160,6 +167,7 @@ acknowledges_right c t count h allowed = record {
   valid = all_keep t (Acknowledge count) h.valid allowed;
   live = h.live;
   copies = h.copies;
+  rests = same_rests t (moved t (Acknowledge count)) (waiting c.pages) refl refl refl refl h.rests.laid h.rests;
   kept = record {
     numbers = h.kept.numbers;
     blocks = h.kept.blocks;

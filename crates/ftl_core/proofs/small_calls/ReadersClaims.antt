@@ -108,7 +108,7 @@ claims_more reader i (x ∷ bodies) body =
     next i n = omega arith
 
 -- what is claimed holds zeros
-zeros_claimed : (reader n : ℕ) →
+pub zeros_claimed : (reader n : ℕ) →
     map (empty_claim reader) (below n) ≡ claims_of_blocks reader (replicate n zero_block)
 zeros_claimed reader zero = refl
 zeros_claimed reader (suc n) =

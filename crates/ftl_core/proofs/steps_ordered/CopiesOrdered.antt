@@ -48,7 +48,6 @@ kept_planned c t plan w k now = record {
     mending_is = k.work.mending_is;
     step_is = k.work.step_is;
     to_repair = k.work.to_repair;
-    no_rests = k.work.no_rests;
     next_mark = k.work.next_mark;
     repaired = k.work.repaired;
   };
@@ -110,7 +109,6 @@ copy_waits c t x k none page = record {
     );
     to_repair = λ un. subst (λ (o : Option Step). AreToRepair t.ledger (keys_to_repair o (drop c.repaired c.lost))) none
         (k.work.to_repair un);
-    no_rests = k.work.no_rests;
     next_mark = k.work.next_mark;
     repaired = k.work.repaired;
   };

@@ -93,7 +93,6 @@ mark_waits c t fence n m k none next same marks = record {
     to_repair = λ un. marked_to_repair t.ledger m (drop c.repaired c.lost)
         (subst (λ (o : Option Step). AreToRepair t.ledger (keys_to_repair o (drop c.repaired c.lost))) none
         (k.work.to_repair un));
-    no_rests = k.work.no_rests;
     next_mark = omega arith;
     repaired = k.work.repaired;
   };

@@ -205,7 +205,6 @@ repair_waits c t k left h none repairing at mending q = record {
     );
     to_repair = λ un. subst (λ (ks : List Key). AreToRepair (with_repair t.ledger k) (k ∷ ks)) (sym next.0)
         (repaired_to_repair t.ledger k (k ∷ left) q.frontier to_repair);
-    no_rests = h.kept.work.no_rests;
     next_mark = h.kept.work.next_mark;
     repaired = no_more_mended left;
   };

@@ -9,13 +9,16 @@ use Rattle.ufs_spec.specs.Translation.{Order, OrderMark, OrderRepair, Repairing,
 use Rattle.ufs_spec.specs.declared.flash.Fence.{Fence}
 use Rattle.ufs_spec.specs.declared.flash.Key.{Key}
 use Rattle.power_loss.proofs.moves.MovesKeepValid.{all_keep}
+use Rattle.write_cache.specs.declared.slots.Pending.{Pending}
+use Rattle.ftl_core.specs.RestsKept.{RestsKept, waiting}
 use Rattle.ftl_core.specs.declared.books.Mending as kept
 use Rattle.ftl_core.specs.declared.books.Mending.TheVariants as mendings
 use Rattle.ftl_core.specs.Core.{Core}
 use Rattle.ftl_core.specs.Describes.{Describes, Kept, mending_kept}
 use Rattle.ftl_core.specs.Moves.{has_mark_number, has_stale, mark_ordered, repair_ordered}
 use Rattle.ftl_core.specs.Turns.{IsStepTurned, IsTurned, is_repair_due, is_step_due, is_turn_due, repair_turned}
-use Rattle.ftl_core.proofs.live_pages.SameLive.{Knows, facts, knows_on, turned_same}
+use Rattle.ftl_core.proofs.live_pages.SameLive.{Facts, Knows, facts, knows_on, turned_same}
+use Rattle.ftl_core.proofs.rests_owed.RestsStay.{turns_rests}
 use Rattle.ftl_core.proofs.steps_ordered.CollectionsOrdered.{collection_due, collection_turned}
 use Rattle.ftl_core.proofs.steps_ordered.CopiesOrdered.{IsOrdered, mark_copies}
 use Rattle.ftl_core.proofs.steps_ordered.CopiesOrdered.{mark_turn, none_copied, order_if, repair_is_none}
@@ -133,4 +136,7 @@ turns_told c after due is new t h =
       kept = ordered.kept;
       live = turned_live c after h.live due new;
       copies = ordered.copies;
+      rests = subst (λ (ps : List Pending). RestsKept (moved t TakeStep) (waiting ps))
+          (sym (ap (λ (f : Facts). f.3) (turned_same c after due new)))
+          (turns_rests t (waiting c.pages) h.valid h.rests);
     }

@@ -59,13 +59,18 @@ fn body_of<'a>(page: &'a Page, tag: &Option<Tag>, key: Key, number: u64) -> Opti
     }
 }
 
-/// The block of the page, where the pin keeps a page and this is it.
-fn body_looked<'a>(page: &'a Page, tag: &Option<Tag>, pin: &Pin) -> Option<&'a Block>
+/// The block of the page, where a page is looked at for the address and this is it.
+pub(super) fn body_looked<'a>(
+    page: &'a Page,
+    tag: &Option<Tag>,
+    key: Key,
+    looked: &Looked,
+) -> Option<&'a Block>
     requires { IsTagOf page.now tag.now }
-    ensures { IsBodyLooked page.now pin.now.key pin.now.looked (option_copied result) }
+    ensures { IsBodyLooked page.now key looked.now (option_copied result) }
 {
-    match pin.looked {
-        Looked::OnPage(name, _) => body_of(page, tag, pin.key, name.number),
+    match looked {
+        Looked::OnPage(name, _) => body_of(page, tag, key, name.number),
         _ => None,
     }
 }
@@ -76,7 +81,7 @@ fn body_given<'a>(outcome: &'a Outcome, tag: &Option<Tag>, pin: &Pin) -> Option<
     ensures { IsGiven outcome.now pin.now (option_copied result) }
 {
     match outcome {
-        Outcome::Read(page) => body_looked(page, tag, pin),
+        Outcome::Read(page) => body_looked(page, tag, pin.key, &pin.looked),
         _ => None,
     }
 }
@@ -370,7 +375,7 @@ impl Ftl {
             return;
         };
         let old = page.written;
-        self.cache.mark_written(number, index, place);
+        self.note_written(number, index, place);
         move_page(&mut self.live, old, place);
     }
 
@@ -419,6 +424,7 @@ impl Ftl {
         ensures { self.new ≡ pins_moved (noted self.old key stored) stored }
     {
         self.note_place(key, stored);
+        self.has_few_slots();
         pin_moves(&mut self.live, self.pins.as_slice(), stored);
         move_pins(self.pins.as_mut_slice(), stored);
     }
@@ -442,7 +448,7 @@ impl Ftl {
         ensures { self.new ≡ pages_landed self.old pages }
     {
         for _ in 0..pages {
-            if let Some(page) = self.cache.land() {
+            if let Some(page) = self.land() {
                 self.landed(page);
             }
         }
@@ -481,7 +487,7 @@ impl Ftl {
         ensures { self.new ≡ group_ended self.old die row place number index is_done }
     {
         if is_done {
-            self.cache.mark_written(number, index, place);
+            self.note_written(number, index, place);
             self.live.set_live(place);
             self.page_written(die, row);
             self.settle();
@@ -562,7 +568,7 @@ impl Ftl {
     }
 
     /// What the end of the read gives: to its reader the block, where the page is the one that was looked
-    /// up; to the step under way its content.
+    /// up; to the step under way its content; to a page that waits for it its rest.
     fn give(&mut self, reader: Reader, outcome: &Outcome, tag_found: &Option<Tag>) -> Ended
         requires { IsTagRead outcome.now tag_found.now }
         ensures answer { Gives self.old outcome.now reader result }
@@ -578,8 +584,10 @@ impl Ftl {
                 self.take_content(outcome, tag_found);
                 Ended::Other
             }
-            // In this stage no page of a group waits for its rest.
-            Reader::ForRest { .. } => Ended::Other,
+            Reader::ForRest { number, index } => {
+                self.take_rest(Name { number, index }, outcome, tag_found);
+                Ended::Other
+            }
             Reader::ForNobody => Ended::Other,
         }
     }
@@ -659,7 +667,8 @@ impl Ftl {
         ensures told { (t : Translation) (ending : Ending) → Describes self.old t →
             IsEndingOf t.disk.cells (t.disk.flights die) outcome.now ending →
             (e : Ended) × (result ≡ Some e) × IsTold t.disk.cells (t.disk.flights die) ending e }
-        // A read was for a reader who keeps its page and waits for it, or for nobody.
+        // A read was for a reader who keeps its page and waits for it, for a rest that is owed, for the step
+        // under way, or for nobody.
         ensures read { (t : Translation) (who : Reader) (place : Place) → Describes self.old t →
             t.disk.flights die ≡ Some (Reading who place) → IsReadOf t place who }
         ensures claims { (claims : Claims) → AreClaimed self.old claims → AreClaimed self.new claims }

@@ -2,15 +2,15 @@
 ghost use Rattle.std.specs.Prelude.{◌≡◌, ℕ, ◌<◌, ◌≤◌, ◌+◌, ◌^◌, IfNone, IfSome, length, slice_get, slice_set, Some, None};
 ghost use Rattle.std.specs.Prelude.{true, false, if◌then◌else◌, unwrap_or, count_by, find, option_copied, option_map, position};
 ghost use Rattle.std.specs.List.{list_any};
-ghost use Rattle.ufs_spec.specs.Pages.{IsTag, greatest_number};
+ghost use Rattle.ufs_spec.specs.Pages.{IsTag, greatest_number, group_bound};
 ghost use Rattle.ftl_core.specs.Takes.{copy_program, core_taken, erase_of, first_owed, flight_into, group_job};
 ghost use Rattle.ftl_core.specs.Takes.{is_group_page, is_sealable, is_step_there, job_of, job_taken, lowest};
 ghost use Rattle.ftl_core.specs.Takes.{mark_program, next_place, opening_flight, owed_flight, owed_read, page_flight};
 ghost use Rattle.ftl_core.specs.Takes.{page_of_group, page_waiting, page_waits, read_of};
 ghost use Rattle.ftl_core.specs.Takes.{repair_job, repair_program, writes_step};
 ghost use Rattle.ftl_core.specs.Takes.{step_job, step_read, step_waits, step_wants, waiting_flight, waiting_of};
-ghost use Rattle.ftl_core.specs.Takes.{unread_flight, waiting_page};
-ghost use Rattle.ftl_core.specs.Moves.{begins, first_page, in_flight, is_owed_by, keeps, looks_on};
+ghost use Rattle.ftl_core.specs.Takes.{own_read, owes_rest, rest_read, rest_read_of, unread_flight, waiting_page};
+ghost use Rattle.ftl_core.specs.Moves.{begins, first_page, has_pin, in_flight, is_owed_by, looks_on};
 ghost use Rattle.ftl_core.specs.Moves.{may_be_used, reads_for, single_tag, started, started_with, state_of, tag_of_page};
 ghost use Rattle.ufs_spec.specs.Translation.{Translation};
 ghost use Rattle.ftl_core.specs.Describes.{Describes, IsTaken, spot_at};
@@ -21,10 +21,13 @@ ghost use Rattle.ufs_spec.specs.declared.layer.Reader.TheVariants.{ForStep};
 ghost use Rattle.block_table.specs.declared.BlockState.TheVariants as state;
 
 use super::Ftl;
+use super::rests::rest_look;
 use crate::books::{Pin, Step, Waiting};
 use block_table::{BlockState, BlockTable, DieRow, Flight, OpenBlock};
 use page_tag::{UnsealedJob, mark_body};
-use ufs_spec::{Fence, GREATEST_COMMAND, GREATEST_NUMBER, Job, Key, Looked, Place, Reader, Tag};
+use ufs_spec::{
+    Block, Fence, GREATEST_COMMAND, GREATEST_NUMBER, Job, Key, Looked, Place, Reader, Tag,
+};
 use write_cache::Pending;
 
 /// The position of the first reader who is owed the read of a page of this die.
@@ -66,6 +69,22 @@ fn read_of(pin: &Pin) -> Option<Flight>
             reader: Reader::ForTask {
                 tag: pin.reader,
                 index: pin.index,
+            },
+        }),
+        _ => None,
+    }
+}
+
+/// The read of the page from which the rest of this one is taken.
+fn rest_read_of(page: &Pending) -> Option<Flight>
+    ensures { result ≡ rest_read_of page.now }
+{
+    match rest_look(&page.rest) {
+        Looked::OnPage(_, place) => Some(Flight::Read {
+            place,
+            reader: Reader::ForRest {
+                number: page.number,
+                index: page.index,
             },
         }),
         _ => None,
@@ -117,7 +136,7 @@ fn is_step_there(step: &Option<Step>) -> bool
     }
 }
 
-/// Whether a tag can name the key of a repair.
+/// Whether a tag can name the key.
 fn is_sealable(key: &Key) -> bool
     ensures { result ≡ is_sealable key.now }
 {
@@ -129,12 +148,11 @@ fn is_sealable(key: &Key) -> bool
     }
 }
 
-/// Whether the page is data of a unit, and its tag can name it.
+/// Whether a tag can name the page.
 fn is_group_page(page: &Pending) -> bool
     ensures { result ≡ is_group_page page.now }
 {
-    page.key.kind == Tag::DATA
-        && page.key.unit <= 7
+    is_sealable(&page.key)
         && page.number >= 1
         && page.number <= GREATEST_NUMBER
         && page.index < page.size
@@ -236,16 +254,16 @@ impl Ftl {
         self.blocks.set_flight(die, flight);
     }
 
-    /// Whether a reader keeps a page of the block.
+    /// Whether a reader keeps a page of the block, or one is still to be read for a rest.
     fn is_pinned(&self, die: u8, block: u16) -> bool
         requires die_there { die < length self.now.rows }
         requires block_there { block < self.now.numbers.blocks }
-        ensures { result ≡ list_any (keeps die block) self.now.pins }
+        ensures { result ≡ has_pin self.now die block }
     {
         self.live.is_pinned(die, block)
     }
 
-    /// Whether the block is so and no reader keeps a page of it.
+    /// Whether the block is so and has no pin.
     fn may_be_used(&self, die: u8, state: BlockState, block: u16) -> bool
         requires die_there { die < length self.now.rows }
         requires block_there { block < self.now.numbers.blocks }
@@ -411,7 +429,7 @@ impl Ftl {
     }
 
     /// The program of the page with this number and index, if it is pending and its content is all
-    /// there. Only data of a unit is programmed as a group.
+    /// there.
     fn group_job(&self, place: Place, number: u64, index: u16) -> Option<UnsealedJob>
         ensures { result ≡ group_job self.now place number index }
     {
@@ -420,8 +438,18 @@ impl Ftl {
             return None;
         }
         let body = page.content()?;
+        Some(self.group_program(place, page, body))
+    }
+
+    /// The program of the page of a group with this content.
+    fn group_program(&self, place: Place, page: &Pending, body: &Block) -> UnsealedJob
+        requires numbered { (1 ≤ page.now.number) × (page.now.number ≤ greatest_number) }
+        requires named { is_sealable page.now.key ≡ true }
+        requires sized { (page.now.index < page.now.size) × (page.now.size ≤ group_bound) }
+        ensures { result ≡ page_of_group self.now place page.now body.now }
+    {
         let tag = tag_of_page(page, self.cache.frontier());
-        Some(UnsealedJob::program(place, &tag, body))
+        UnsealedJob::program(place, &tag, body)
     }
 
     /// What the die is told to do.
@@ -519,13 +547,52 @@ impl Ftl {
         })
     }
 
-    /// The read that is owed to the die: to a reader, else to the step under way.
+    /// Whether the page waits for its rest from a page of this die, and no die reads for it.
+    fn owes_rest(&self, page: &Pending, die: u8) -> bool
+        ensures { result ≡ owes_rest self.now.rows die page.now }
+    {
+        let reader = Reader::ForRest {
+            number: page.number,
+            index: page.index,
+        };
+        looks_on(&rest_look(&page.rest), die) && !self.blocks.reads_for(reader)
+    }
+
+    /// The read that the first pending page is owed that waits for its rest from a page of this die. No page
+    /// is looked at where none waits.
+    fn rest_read(&self, die: u8) -> Option<Flight>
+        ensures { result ≡ rest_read self.now die }
+    {
+        if !self.cache.has_rests() {
+            return None;
+        }
+        for at in 0..self.cache.pending() {
+            let page = self.cache.page(at)?;
+            if self.owes_rest(page, die) {
+                return rest_read_of(page);
+            }
+        }
+        None
+    }
+
+    /// The read that the device owes itself of a page of this die: for the step under way, else for a page
+    /// that waits for its rest.
+    fn own_read(&self, die: u8) -> Option<Flight>
+        ensures { result ≡ own_read (step_read self.now die) (rest_read self.now die) }
+    {
+        match self.step_read(die) {
+            Some(flight) => Some(flight),
+            None => self.rest_read(die),
+        }
+    }
+
+    /// The read that is owed to the die: to a reader, else to the device itself.
     fn owed_read(&self, die: u8) -> Option<Flight>
         ensures { result ≡ owed_read self.now die (first_owed self.now die) }
     {
         match self.first_owed(die) {
             Some(index) => read_of(&self.pins[index]),
-            None => self.step_read(die),
+            None => self.own_read(die),
         }
     }
 

@@ -1,10 +1,11 @@
 //! Groups of pages with keys of their own, and the rests that their pages wait for.
 ghost use Rattle.std.specs.Prelude.{◌≡◌, ◌+◌, ◌^◌, ◌<◌, ◌≤◌, ◌++◌, All, IfSome, IsTrue, false};
-ghost use Rattle.std.specs.Prelude.{filter_map, length, map, slice_get, take, vec_capacity};
+ghost use Rattle.std.specs.Prelude.{count_by, filter_map, length, map, slice_get, take};
+ghost use Rattle.std.specs.Prelude.{vec_capacity};
 ghost use Rattle.std.specs.List.{list_any};
 ghost use Rattle.std.specs.VecDeque.{deque_capacity};
 ghost use Rattle.write_cache.specs.Rests.{IsPart, awaits, base_behind, claim_brought, completed_at};
-ghost use Rattle.write_cache.specs.Rests.{page_moved, pages_appended, rests_filled};
+ghost use Rattle.write_cache.specs.Rests.{page_moved, pages_appended, rests_filled, waits};
 ghost use Rattle.write_cache.specs.Slots.{claims_of, has_number, turned, without_claims};
 
 use super::Cache;
@@ -12,6 +13,7 @@ use crate::rests::NewPage;
 use crate::slots::{Claimed, Pending};
 use std::collections::VecDeque;
 use ufs_bytes::Body;
+use ufs_spec::Name;
 
 impl Cache {
     /// Puts the group of these pages behind all that are pending, each in the slot that the reader
@@ -34,23 +36,39 @@ impl Cache {
             number,
             pages,
         );
+        self.waiting = count_waiting(&self.pages);
         self.last = number;
         number
     }
 
-    /// Gives their rest to all pages that wait for the read that the page with this number and index
-    /// waits for, which brought these 4096 bytes. The own blocks of each page stay. The first takes
-    /// its rest from what was read, and each later one from the one before it.
-    pub fn fill_rests(&mut self, number: u64, index: u16, block: &[u8])
+    /// Gives their rest to all pages that wait for the read that is done for the page of this name,
+    /// which brought these 4096 bytes. The own blocks of each page stay. The first takes its rest
+    /// from what was read, and each later one from the one before it.
+    pub fn fill_rests(&mut self, name: Name, block: &[u8])
         requires { length block.now ≡ 4096 }
         ensures after { self.new ≡ record self.old {
-          pages = rests_filled number index block.now self.old.pages;
+          pages = rests_filled name block.now self.old.pages;
         } }
         // None of them waits any more.
-        ensures none_waits { list_any (awaits number index) self.new.pages ≡ false }
+        ensures none_waits { list_any (awaits name) self.new.pages ≡ false }
     {
-        fill_pages(self.pages.make_contiguous(), number, index, block);
+        fill_pages(self.pages.make_contiguous(), name, block);
+        self.waiting = count_waiting(&self.pages);
     }
+
+    /// Whether a pending page waits for its rest.
+    pub fn has_rests(&self) -> bool
+        ensures { result ≡ list_any waits self.now.pages }
+    {
+        self.waiting > 0
+    }
+}
+
+/// How many of the pages wait for their rest.
+fn count_waiting(pages: &VecDeque<Pending>) -> usize
+    ensures { result ≡ count_by waits pages.now.items }
+{
+    pages.iter().filter(|page| page.waits()).count()
 }
 
 /// The bytes of each of these pages lie in the slot that the reader claimed for it.
@@ -144,13 +162,13 @@ fn move_page(
 }
 
 /// Each page that waits for that read has its content.
-fn fill_pages(pages: &mut [Pending], number: u64, index: u16, block: &[u8])
+fn fill_pages(pages: &mut [Pending], name: Name, block: &[u8])
     requires { length block.now ≡ 4096 }
-    ensures { pages.new ≡ rests_filled number index block.now pages.old }
+    ensures { pages.new ≡ rests_filled name block.now pages.old }
 {
     let mut filled = None;
     for at in 0..pages.len() {
-        if pages[at].awaits(number, index) {
+        if pages[at].awaits(name) {
             complete_at(pages, at, filled, block);
             filled = Some(at);
         }

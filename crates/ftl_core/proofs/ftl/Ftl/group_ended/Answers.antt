@@ -1,7 +1,8 @@
-use Rattle.std.proofs.Common.{◌∙◌, ap, sym}
+use Rattle.std.proofs.Common.{◌∙◌, ap, sym, true}
+use Rattle.block_table.specs.Lives.{with_live}
 use Rattle.ftl_core.specs.Core.{Core}
 use Rattle.ftl_core.specs.Rooms.{core_of}
-use Rattle.ftl_core.specs.Ends.{pending_written, settled}
+use Rattle.ftl_core.specs.Ends.{settled}
 use Rattle.ftl_core.specs.Gives.{group_ended}
 use Rattle.ftl_core.specs.Moves.{page_written}
 use Rattle.ftl_core.proofs.ftl.Ftl.group_ended.Goals as goal
@@ -12,10 +13,8 @@ returns-then-is_done c =
     c.settle.ensures
     ∙ ap (λ (z : Core). settled z)
     (c.page_written.ensures
-    ∙ (λ i. page_written (core_of (record c.self.inside {
-      cache = c.mark_written.ensures i;
-      live = c.set_live.ensures i;
-    })) c.args.die b b.filling)
-    ∙ ap (λ (z : Core). page_written (pending_written z c.args.number c.args.index c.args.place) c.args.die b b.filling)
-    c.self.view_is)
+    ∙ (λ i. page_written (core_of (record c.self.inside { live = c.set_live.ensures i })) c.args.die b b.filling)
+    ∙ ap (λ (z : Core).
+    page_written (record z { live = with_live z.live c.args.place true }) c.args.die b b.filling)
+    (c.self.view_is ∙ c.note_written.ensures))
     ∙ sym (ap (group_ended c.args.self.now c.args.die b c.args.place c.args.number c.args.index) c.if-is_done.true)

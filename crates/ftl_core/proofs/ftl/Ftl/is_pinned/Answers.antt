@@ -1,7 +1,6 @@
 use Rattle.std.proofs.Common.{◌∙◌, ap, arith, length}
-use Rattle.std.specs.List.{list_any}
 use Rattle.ftl_core.specs.Core.{Core}
-use Rattle.ftl_core.specs.Moves.{keeps}
+use Rattle.ftl_core.specs.Moves.{has_pin}
 use Rattle.ftl_core.proofs.live_pages.PinsCounted.{pinned_is}
 use Rattle.ftl_core.proofs.ftl.Ftl.is_pinned.Goals as goal
 
@@ -15,6 +14,6 @@ returns c =
     let die_there = c.requires.die_there in
     let block_there = c.requires.block_there in
     c.is_pinned.ensures
-    ∙ pinned_is f.live f.pins.items c.args.die c.args.block c.self.invariant.pinned
+    ∙ pinned_is f.live f.pins.items f.cache.pages c.args.die c.args.block c.self.invariant.pinned
     (omega (arith, seen, dies, die_there)) (omega (arith, numbers, blocks, block_there))
-    ∙ ap (λ (z : Core). list_any (keeps c.args.die c.args.block) z.pins) c.self.view_is
+    ∙ ap (λ (z : Core). has_pin z c.args.die c.args.block) c.self.view_is

@@ -1,4 +1,5 @@
-use Rattle.std.proofs.Common.{◌≡◌, ◌∙◌, ◌<◌, ◌≤◌, arith, rules, sym, true}
+use Rattle.std.proofs.Common.{◌≡◌, ◌∙◌, ◌<◌, ◌≤◌, ap, arith, false, rules, sym, true, ⊎_elim}
+use Rattle.std.proofs.lemmas.Bool.{cases_lt}
 use Rattle.ftl_core.specs.Moves.{may_be_used}
 use Rattle.ftl_core.proofs.job_taken.Lowest.{lowest, none_below}
 use Rattle.ftl_core.proofs.ftl.Ftl.lowest.Goals as goal
@@ -11,6 +12,17 @@ returns-then-may_be_used c =
     sym c.may_be_used.ensures ∙ c.if-may_be_used.true in
     sym (lowest (may_be_used core c.args.die c.args.state) core.numbers.blocks c.loop-block.block within right
     c.loop-block.invariant)
+
+pub loop-block-preserved : goal.loop-block-preserved
+loop-block-preserved c =
+    let test = may_be_used c.args.self.now c.args.die c.args.state in
+    let fails : test c.loop-block.block ≡ false = sym c.may_be_used.ensures ∙ c.if-may_be_used.false in
+    λ k less.
+    ⊎_elim
+    (λ (low : k < c.loop-block.block). c.loop-block.invariant k low)
+    (λ (high : c.loop-block.block ≤ k).
+    let same : k ≡ c.loop-block.block = omega (arith, less, high) in ap test same ∙ fails)
+    (cases_lt k c.loop-block.block)
 
 pub returns : goal.returns
 returns c =

@@ -49,5 +49,6 @@ invariant_of-result c =
       plan_pages = search rules;
       live_dies = first_dies (sizes_of n) l stored c.in_ok-new.field-0.rows live idle;
       live_blocks = first_blocks (sizes_of n) l stored live;
-      pinned = first_counted (sizes_of n) l stored c.in_ok-with_capacity.field-0.items live none;
+      pinned = first_counted (sizes_of n) l stored c.in_ok-with_capacity.field-0.items
+          c.in_ok-new-2.field-0.pages live none (search rules);
     }

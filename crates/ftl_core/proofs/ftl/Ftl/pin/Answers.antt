@@ -9,5 +9,7 @@ invariant_of-self c =
     let seen = ap (λ (z : Core). length z.pins) c.self.view_is in
     let room = c.self.invariant.pin_room in
     let kept = c.push_reserved.ensures.capacity in
+    let slots = c.has_few_slots.ensures in
+    let pages = ap (λ (z : Core). length z.pages) c.self.view_is in
     roomy_pinned c.self.inside c.pin_block.new.live c.push_reserved.new.self _ c.self.invariant c.pin_block.ensures.is
-    c.push_reserved.ensures.items (omega (arith, few, seen)) (omega (arith, room, kept))
+    c.push_reserved.ensures.items (omega (arith, few, seen)) (omega (arith, slots, pages)) (omega (arith, room, kept))

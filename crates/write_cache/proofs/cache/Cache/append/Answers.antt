@@ -1,8 +1,11 @@
-use Rattle.std.proofs.Common.{◌+◌, arith, List, subst, sym}
+use Rattle.std.proofs.Common.{◌∙◌, ◌+◌, ap, arith, List, subst, sym}
+use Rattle.std.specs.Prelude.{count_by}
 use Rattle.write_cache.specs.declared.slots.Pending.{Pending}
+use Rattle.write_cache.specs.Rests.{waits}
 use Rattle.write_cache.specs.Rooms.{AreInOrder}
 use Rattle.write_cache.specs.Slots.{claims_of}
 use Rattle.write_cache.proofs.Order.{claimed_number, order_more}
+use Rattle.write_cache.proofs.Waiting.{claimed_same}
 use Rattle.write_cache.proofs.cache.Cache.append.Goals as goal
 
 pub invariant_of-self : goal.invariant_of-self
@@ -19,4 +22,8 @@ invariant_of-self c = record {
       c.self.invariant.in_order
       (claimed_number c.args.key (c.self.inside.last + 1) c.claimed-size.result
       (claims_of c.self.inside.claims.items c.args.reader)) (omega arith) (omega arith));
+  waiting = c.self.invariant.waiting
+      ∙ sym (ap (count_by waits) c.move_claims.ensures.moved
+      ∙ claimed_same c.self.inside.pages.items c.args.key (c.self.inside.last + 1) c.claimed-size.result
+      (claims_of c.self.inside.claims.items c.args.reader));
 }

@@ -39,6 +39,7 @@ invariant_of-self c =
           (order_more (old.last + 1) 0 old.last old.pages.items _ c.self.invariant.in_order
           (moved_number (old.last + 1) c.args.pages.now (claims_of c.bring_all.new.claims c.args.reader))
           (omega arith) (omega arith));
+      waiting = c.count_waiting-self-inside.ensures;
     }
 
 pub returns-clause-after : goal.returns-clause-after

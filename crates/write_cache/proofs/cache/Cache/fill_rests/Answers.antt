@@ -9,14 +9,13 @@ use Rattle.write_cache.proofs.cache.Cache.fill_rests.Goals as goal
 
 pub invariant_of-self : goal.invariant_of-self
 invariant_of-self c =
-    let n = c.args.number in
-    let i = c.args.index in
+    let name = c.args.name in
     let block = c.args.block.now in
     let ps = c.self.inside.pages.items in
-    let is : c.fill_pages.new.pages ≡ rests_filled n i block ps =
-    c.fill_pages.ensures ∙ ap (rests_filled n i block) c.make_contiguous.ensures.value in
+    let is : c.fill_pages.new.pages ≡ rests_filled name block ps =
+    c.fill_pages.ensures ∙ ap (rests_filled name block) c.make_contiguous.ensures.value in
     let long : length c.fill_pages.new.pages ≡ length ps =
-    ap (λ (qs : List Pending). length qs) is ∙ rests_length n i block ps in
+    ap (λ (qs : List Pending). length qs) is ∙ rests_length name block ps in
     let slots = c.self.invariant.slots in
     let all = refilled c.self.inside.pages.len ps c.fill_pages.new.pages c.self.inside.pages.ok.0 long in
     let many = ap (λ (qs : List Pending). length qs) all in
@@ -29,16 +28,16 @@ invariant_of-self c =
       frontier = c.self.invariant.frontier;
       numbers = c.self.invariant.numbers;
       in_order = subst (λ (qs : List Pending). AreInOrder 0 c.self.inside.last qs) (sym (all ∙ is))
-          (rests_order n i 0 c.self.inside.last block ps c.self.invariant.in_order);
+          (rests_order name 0 c.self.inside.last block ps c.self.invariant.in_order);
+      waiting = c.count_waiting-self-inside.ensures;
     }
 
 pub returns-clause-none_waits : goal.returns-clause-none_waits
 returns-clause-none_waits c =
-    let n = c.args.number in
-    let i = c.args.index in
+    let name = c.args.name in
     let block = c.args.block.now in
     let ps = c.self.inside.pages.items in
-    let is = c.fill_pages.ensures ∙ ap (rests_filled n i block) c.make_contiguous.ensures.value in
-    let long = ap (λ (qs : List Pending). length qs) is ∙ rests_length n i block ps in
+    let is = c.fill_pages.ensures ∙ ap (rests_filled name block) c.make_contiguous.ensures.value in
+    let long = ap (λ (qs : List Pending). length qs) is ∙ rests_length name block ps in
     let all = refilled c.self.inside.pages.len ps c.fill_pages.new.pages c.self.inside.pages.ok.0 long in
-    ap (list_any (awaits n i)) (all ∙ is) ∙ none_waits n i block ps
+    ap (list_any (awaits name)) (all ∙ is) ∙ none_waits name block ps

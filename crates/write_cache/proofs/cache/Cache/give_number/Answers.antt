@@ -13,4 +13,5 @@ invariant_of-self c = record {
   numbers = grind (arith, c.requires);
   in_order = order_wider 0 0 c.self.inside.last _ c.self.inside.pages.items c.self.invariant.in_order (omega arith)
       (omega arith);
+  waiting = c.self.invariant.waiting;
 }

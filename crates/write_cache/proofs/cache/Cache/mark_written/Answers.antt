@@ -7,6 +7,7 @@ use Rattle.write_cache.specs.Rooms.{cache_of}
 use Rattle.write_cache.specs.Slots.{page_written}
 use Rattle.write_cache.proofs.Deques.{unfound_told, written_told}
 use Rattle.write_cache.proofs.Order.{order_kept}
+use Rattle.write_cache.proofs.Waiting.{as_many}
 use Rattle.write_cache.proofs.cache.Cache.mark_written.Goals as goal
 
 pub invariant_of-self : goal.invariant_of-self
@@ -26,6 +27,10 @@ invariant_of-self c =
       in_order = order_kept 0 c.self.inside.last c.in-Some.at ps p _ c.self.invariant.in_order
           (slice_get_read ps (length ps) c.in-Some.at p refl c.in-Some-get_mut.ensures.item.3.0
           c.in-Some-get_mut.ensures.value) refl;
+      waiting = c.self.invariant.waiting
+          ∙ sym (as_many ps c.in-Some.at p (record p { written = Some c.args.place })
+          (slice_get_read ps (length ps) c.in-Some.at p refl c.in-Some-get_mut.ensures.item.3.0
+          c.in-Some-get_mut.ensures.value) refl);
     }
 
 pub returns-in-Some-get_mut : goal.returns-in-Some-get_mut

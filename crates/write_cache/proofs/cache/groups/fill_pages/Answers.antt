@@ -9,8 +9,7 @@ use Rattle.write_cache.proofs.cache.groups.fill_pages.Goals.{then-awaits, else-a
 
 pub loop-at-preserved : goal.loop-at-preserved
 loop-at-preserved c =
-    let n = c.args.number in
-    let i = c.args.index in
+    let name = c.args.name in
     let block = c.args.block.now in
     let at = c.loop-at.at in
     let ps = c.loop-at.pages in
@@ -27,9 +26,9 @@ loop-at-preserved c =
         long = c.if-awaits.auto.pages ∙ long;
         filled_so_far =
             c.loop-at.invariant.filled_so_far
-            ∙ filled_more n i base block ps qs at p there (sym c.awaits.ensures ∙ w.if-awaits.true)
+            ∙ filled_more name base block ps qs at p there (sym c.awaits.ensures ∙ w.if-awaits.true)
             (w.pages-is ∙ w.complete_at.ensures)
-            ∙ ap (λ o. take (at + 1) qs ++ rests_filled n i (base_behind block qs o) (drop (at + 1) qs))
+            ∙ ap (λ o. take (at + 1) qs ++ rests_filled name (base_behind block qs o) (drop (at + 1) qs))
             (sym w.filled-is);
       }
       | else-awaits w ↦ record {
@@ -38,9 +37,9 @@ loop-at-preserved c =
         long = c.if-awaits.auto.pages ∙ long;
         filled_so_far =
             c.loop-at.invariant.filled_so_far
-            ∙ passed_more n i base ps at p there (sym c.awaits.ensures ∙ w.if-awaits.false)
+            ∙ passed_more name base ps at p there (sym c.awaits.ensures ∙ w.if-awaits.false)
             ∙ (λ j. take (at + 1) (sym w.pages-is j)
-            ++ rests_filled n i (base_behind block (sym w.pages-is j) (sym w.filled-is j))
+            ++ rests_filled name (base_behind block (sym w.pages-is j) (sym w.filled-is j))
             (drop (at + 1) (sym w.pages-is j)));
       }
     ]

@@ -7,7 +7,7 @@ abbrev pub invariant-loop-at : goal.invariant-loop-at
 invariant-loop-at l = record {
   before : IfSome l.filled (λ k. k < l.at);
   long : length l.pages ≡ length l.initial.pages;
-  filled_so_far : rests_filled l.number l.index l.block l.initial.pages
+  filled_so_far : rests_filled l.name l.block l.initial.pages
       ≡ take l.at l.pages
-      ++ rests_filled l.number l.index (base_behind l.block l.pages l.filled) (drop l.at l.pages);
+      ++ rests_filled l.name (base_behind l.block l.pages l.filled) (drop l.at l.pages);
 }

@@ -1,0 +1,8 @@
+use Rattle.std.proofs.Common.{◌≡◌, drop}
+use Rattle.std.specs.Prelude.{fold}
+use Rattle.ftl_core.specs.Rests.{rest_pinned}
+use Rattle.ftl_core.proofs.ftl.pin_counts.pin_rests.Given as goal
+
+abbrev pub invariant-loop-at : goal.invariant-loop-at
+invariant-loop-at l =
+    fold rest_pinned l.live (drop l.at l.cache.pages) ≡ fold rest_pinned l.initial.live (drop l.before l.cache.pages)
