@@ -43,9 +43,7 @@ LIMITS = (
         ("ufs_laws/proofs/exchanges/BytesHeard.antt",
          "is_taken (cdb.Inquiry allocation) = no (λ (h : ⊥). h)\n"
          "is_taken (cdb.Unmap list) = no (λ (h : ⊥). h)\n"
-         "is_taken (cdb.ReportLuns select allocation) = no (λ (h : ⊥). h)\n"
-         "is_taken (cdb.SecurityIn region length) = no (λ (h : ⊥). h)\n"
-         "is_taken (cdb.SecurityOut region length) = no (λ (h : ⊥). h)\n",
+         "is_taken (cdb.ReportLuns select allocation) = no (λ (h : ⊥). h)\n",
          ""),
     )),
 )

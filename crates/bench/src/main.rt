@@ -1,18 +1,21 @@
-//! Times FUA writes and reads of one block through the device's five calls, scans of dies that are
-//! written in part, and the plain cost of one SHA-256 over a page, in one run. It prints the times and
-//! their ratios on standard error. With the word `lanes` it times instead a device and scans among threads.
-//! With the word `collection` it counts what is programmed and hashed for each block that is written, once
-//! collections are due.
+//! Times FUA writes and reads of one block through the device's five calls, writes of the replay
+//! protected memory block, scans of dies that are written in part, and the plain cost of one
+//! SHA-256 over a page, in one run. It prints the times and their ratios on standard error. With
+//! the word `lanes` it times instead a device and scans among threads. With the word `collection`
+//! it counts what is programmed and hashed for each block that is written, once collections are
+//! due.
 #![tactic(auto)]
 
 mod clock;
 mod collection;
+mod frames;
 mod groups;
 mod scans;
 mod threads;
 
 use crate::clock::{each, percent, since, time_hash};
 use crate::collection::count_collections;
+use crate::frames::time_requests;
 use crate::groups::time_groups;
 use crate::scans::time_scans;
 use crate::threads::time_threads;
@@ -46,7 +49,8 @@ fn open(alloc: Global) -> Result<Workbench> {
     Ok(Workbench::new(alloc, config, dies)?)
 }
 
-/// A FUA write of one block: COMMAND, READY TO TRANSFER, DATA OUT, program, RESPONSE. Whether it is GOOD.
+/// A FUA write of one block: COMMAND, READY TO TRANSFER, DATA OUT, program, RESPONSE. Whether it is
+/// GOOD.
 fn write(bench: &mut Workbench, address: u32, out: &[u8; 4128]) -> bool {
     bench.send(&command(0, WRITE, FUA, address, 1)).is_ok()
         && bench.hear()
@@ -109,6 +113,7 @@ fn time_calls<R: Clock + Eprint>(rt: &R, alloc: Global) -> Result<()> {
 /// Times what this program times.
 fn time_all(rt: &HostRuntime) -> Result<()> {
     time_calls(rt, rt.alloc())?;
+    time_requests(rt, rt.alloc())?;
     time_groups(rt, rt.alloc())?;
     time_scans(rt, rt.alloc())
 }

@@ -1,6 +1,9 @@
+pub mod BlockEnds
 pub mod FewPins
 pub mod KeptByTag
 pub mod OpenTasks
+pub mod PageEnds
+pub mod PartsPut
 pub mod ReadProgress
 pub mod ReadsEnded
 pub mod TaskOpened

@@ -1,6 +1,6 @@
 -- What the calls make of the layer and of what the device keeps.
-use Rattle.std.specs.Prelude.{◌≡◌, ℕ, ◌+◌, ◌-◌, ◌≤◌, ◌<◌, nat_le, Bool, true, false, if◌then◌else◌, List, []}
-use Rattle.std.specs.Prelude.{fold, length, map, replicate, Option, Some, None, Result, Ok, Err}
+use Rattle.std.specs.Prelude.{◌≡◌, ℕ, ◌+◌, ◌-◌, ◌==◌, ◌≤◌, ◌<◌, nat_le, Bool, true, false, if◌then◌else◌, List, []}
+use Rattle.std.specs.Prelude.{fold, length, map, replicate, slice_get, Option, Some, None, Result, Ok, Err}
 use Rattle.std.specs.List.{list_any}
 use Rattle.ufs_spec.specs.Keys.{IsKey}
 use Rattle.ufs_spec.specs.Ledger.{Ledger, next_number}
@@ -22,7 +22,12 @@ use Rattle.task_set.specs.declared.tasks.TaskEvent.{TaskEvent}
 use Rattle.task_set.specs.declared.tasks.TaskEvent.TheVariants as event
 use Rattle.task_set.specs.declared.tasks.Transfer.{Transfer}
 use Rattle.device.specs.Kept.{DeviceCore, IsLayerWith}
+use Rattle.task_set.specs.Lists.{task_happened}
 use Rattle.task_set.specs.Tasks.{after_lost_read, after_read, next_transfer, task_after}
+
+-- this happened to the task at this position
+abbrev pub with_event : DeviceCore → ℕ → TaskEvent → DeviceCore
+with_event d k e = record d { tasks = task_happened d.tasks k e (slice_get d.tasks k) }
 
 -- A task begins
 
@@ -62,6 +67,21 @@ pub record HasClaimed (after : Core) (t : Translation) (claims : Claims) (tag : 
   pub layer : claims tag ≡ [] → IsLayerWith after (if has_slots t blocks then moved t (Claim blocks) else t)
       (if has_slots t blocks then with_claimed claims tag (replicate blocks zero_block) else claims)
 
+-- how many slots a SECURITY PROTOCOL OUT claims: for two pages of the area and the settings
+abbrev pub frame_slots : ℕ
+frame_slots = 3
+
+-- how far a SECURITY PROTOCOL OUT is that begins, and the layer then: it claims its slots
+pub record HasClaimedFrames (after : Core) (t : Translation) (claims : Claims) (tag size : ℕ) (p : Phase) : Type 0
+  where
+    pub phase_is : p ≡ (if has_slots t frame_slots then phase.AskFrames size else phase.Answer status.Busy 0)
+    pub layer : claims tag ≡ [] → IsLayerWith after (if has_slots t frame_slots then moved t (Claim frame_slots) else t)
+        (if has_slots t frame_slots then with_claimed claims tag (replicate frame_slots zero_block) else claims)
+
+-- how far a SECURITY PROTOCOL IN is that begins: where its host takes nothing, it is done
+abbrev pub frames_phase : ℕ → ℕ → Phase
+frames_phase size taken = if taken == 0 then phase.Answer status.Good size else phase.SendFrames size
+
 -- the number of the last group, so that what waits for it waits for all that was accepted
 abbrev pub last_number : Ledger → ℕ
 last_number l = next_number l - 1
@@ -73,6 +93,9 @@ HasBegun after t claims tag (Ok (plan.Write key blocks forced)) p = HasClaimed a
 HasBegun after t claims tag (Err refused) p = (p ≡ phase.Answer refused 0) × IsLayerWith after t claims
 HasBegun after t claims tag (Ok (plan.Nothing n)) p = (p ≡ phase.Answer status.Good n) × IsLayerWith after t claims
 HasBegun after t claims tag (Ok (plan.Send x)) p = (p ≡ phase.SendData x) × IsLayerWith after t claims
+HasBegun after t claims tag (Ok (plan.AskFrames size)) p = HasClaimedFrames after t claims tag size p
+HasBegun after t claims tag (Ok (plan.TakeFrames size taken)) p =
+    (p ≡ frames_phase size taken) × IsLayerWith after t claims
 HasBegun after t claims tag (Ok plan.Flush) p =
     (p ≡ phase.AwaitFrontier (last_number t.ledger) 0) × IsLayerWith after t claims
 
@@ -115,12 +138,12 @@ abbrev pub lock_told : Translation → DeviceCore → DeviceCore
 lock_told t d =
     if is_locked t then record d { tasks = map (task_after (event.Locked t.ledger.frontier)) d.tasks } else d
 
--- what the die gave to the task of this tag: a block, or none, which ends the task
-abbrev pub read_told : DeviceCore → ℕ → Option (List ℕ) → DeviceCore
-read_told d tag (Some body) = record d { tasks = map (after_read tag body) d.tasks }
-read_told d tag None = record d { tasks = map (after_lost_read tag) d.tasks }
+-- what the die gave to the task of this tag of its block or page of this index: the block, or none
+abbrev pub read_told : DeviceCore → ℕ → ℕ → Option (List ℕ) → DeviceCore
+read_told d tag index (Some body) = record d { tasks = map (after_read tag index body) d.tasks }
+read_told d tag index None = record d { tasks = map (after_lost_read tag index) d.tasks }
 
 -- what the end of a job tells the tasks: a read for one gives it its block or none, and any other job tells nothing
 abbrev pub told : DeviceCore → Ended → DeviceCore
-told d (ended.Read reader body) = read_told d reader body
+told d (ended.Read reader index body) = read_told d reader index body
 told d ended.Other = d

@@ -2,33 +2,41 @@
 -- fields that it reads. No command sets a protection yet.
 use Rattle.std.specs.Prelude.{◌≡◌, ℕ, zero, suc, ◌+◌, ◌*◌, ◌≤◌, ◌<◌, ◌==◌, ◌&&◌, min, nat_le, nat_lt, true, false}
 use Rattle.std.specs.Prelude.{All, List}
-use Rattle.std.specs.Prelude.{[], ◌∷◌, drop, find, if◌then◌else◌, length, map, slice_get, take, Bool, Option}
+use Rattle.std.specs.Prelude.{[], ◌∷◌, drop, find, if◌then◌else◌, length, map, replicate, slice_get, take, Bool, Option}
 use Rattle.std.specs.Prelude.{Some}
 use Rattle.std.specs.Prelude.{None, option_map, Result}
 use Rattle.std.specs.Int.{div_ceil}
+use Rattle.std.specs.List.{list_any}
 use Rattle.ufs_spec.specs.Plain.{greatest_command}
 use Rattle.ufs_spec.specs.Disk.{Flight, job_of}
 use Rattle.ufs_spec.specs.Exchanges as exchange
-use Rattle.ufs_spec.specs.Exchanges.{Answering, Awaiting, Deed, ForWrite, Gathering, Purpose, ReadBlock, Sending, Short}
-use Rattle.ufs_spec.specs.Exchanges.{NotRead, SendingBytes, Unread, WasRead, short_reply, task_of}
+use Rattle.ufs_spec.specs.Exchanges.{Answering, Awaiting, Deed, ForFrames, ForWrite, Gathering, Purpose, ReadBlock}
+use Rattle.ufs_spec.specs.Exchanges.{NotRead, ReadingArea, RpmbRequest, Sending, SendingBytes, Short, Unread, WasRead}
+use Rattle.ufs_spec.specs.Exchanges.{is_unfilled, short_reply, task_of}
+use Rattle.ufs_spec.specs.FrameRequests.{reads_area}
+use Rattle.ufs_spec.specs.Frames.{Frame, frame_in}
 use Rattle.ufs_spec.specs.Keys.{data_key}
 use Rattle.ufs_spec.specs.Ledger.{before_accepted}
 use Rattle.ufs_spec.specs.Machine.{Allowed, Answer, Call, Heard, Host, IsHeard, OfHost, OfReply, OfTake, Reply, Take}
-use Rattle.ufs_spec.specs.Machine.{durable, observe}
+use Rattle.ufs_spec.specs.Machine.{durable, is_to_fill, observe}
 use Rattle.ufs_spec.specs.Messages.{spelling}
 use Rattle.ufs_spec.specs.Moves.{is_pin_of}
-use Rattle.ufs_spec.specs.Plain.{zero_block}
-use Rattle.ufs_spec.specs.Refusals.{State, locked, plain_now}
+use Rattle.ufs_spec.specs.Plain.{region_of, zero_block}
+use Rattle.ufs_spec.specs.Refusals.{State, locked, plain_now, sends_frames}
 use Rattle.ufs_spec.specs.Exchanges.{most_tasks}
 use Rattle.ufs_spec.specs.Translation.{Pin}
 use Rattle.ufs_spec.specs.declared.faults.HostFault.{HostFault}
 use Rattle.ufs_spec.specs.declared.flash.Job.{Job}
 use Rattle.ufs_spec.specs.declared.messages.Message.{Message}
+use Rattle.power_loss.specs.AreaReads.{AreaReads}
 use Rattle.power_loss.specs.Exchange.{IsTied}
 use Rattle.power_loss.specs.Shown.{ShowsReads}
-use Rattle.settings.specs.Told.{settings_now}
+use Rattle.power_loss.specs.WaitingFrames.{FramesWait}
 use Rattle.ftl_core.specs.Public as layer
 use Rattle.ftl_core.specs.Public.{AreClaimed, Claims}
+use Rattle.task_set.specs.Frames.{area_part, pages_read}
+use Rattle.task_set.specs.declared.frames.AreaPart.{AreaPart}
+use Rattle.task_set.specs.declared.frames.AreaReading.{AreaReading}
 use Rattle.task_set.specs.declared.tasks.Phase.{Phase}
 use Rattle.task_set.specs.declared.tasks.Phase.TheVariants as phase
 use Rattle.task_set.specs.declared.tasks.Sending.{Sending as Sends}
@@ -36,10 +44,15 @@ use Rattle.task_set.specs.declared.tasks.Short as kept
 use Rattle.task_set.specs.declared.tasks.Status.{Status}
 use Rattle.task_set.specs.declared.tasks.Status.TheVariants as status
 use Rattle.task_set.specs.declared.tasks.Transfer.{Transfer}
+use Rattle.rpmb.specs.Kept.{IsKept}
 use Rattle.task_set.specs.Kept.{OpenTask}
+use Rattle.task_set.specs.declared.frames.Frames.{Frames}
+use Rattle.task_set.specs.declared.frames.Frames.TheVariants.{Answered, Decided, NotBrought, Undecided}
+use Rattle.device.specs.Calls.{frame_slots}
+use Rattle.device.specs.Frames.{part_held, part_of_page}
 use Rattle.device.specs.Kept.{DeviceCore}
 use Rattle.device.specs.Replies.{short_message}
-use Rattle.task_set.specs.Tasks.{data_length, read_error, status_kept}
+use Rattle.task_set.specs.Tasks.{data_length, is_sender, read_error, status_kept}
 use Rattle.device.specs.Replies.{data_bytes}
 
 -- Tasks
@@ -91,17 +104,43 @@ pub record IsLost (blocks : List ReadBlock) (sent : ℕ) (told : Status) (size :
   pub few : length blocks ≤ greatest_command
   pub behind : (i : ℕ) (other : ReadBlock) → sent < i → slice_get blocks i ≡ Some other → other.state ≡ Unread
 
+-- frames for region 0, the only one
+abbrev pub IsForFrames : Purpose → Type 0
+IsForFrames (ForFrames region) = region ≡ 0
+IsForFrames purpose = ⊥
+
+-- a SECURITY PROTOCOL OUT of so many bytes, all of which are to come in one message
+pub record IsGatheringFrames (size total : ℕ) (purpose : Purpose) (gathered : List ℕ) : Type 0 where
+  pub for_frames : IsForFrames purpose
+  pub none_came : gathered ≡ []
+  pub total_is : total ≡ size
+  pub some : 1 ≤ size
+  pub few : size ≤ 4096
+
+-- the pages of the area are read that the request asks for, of a command of so many bytes: as many, and how each read
+-- ended
+pub record IsReadingArea (r : AreaReading) (total : ℕ) (pages : List ReadBlock) : Type 0 where
+  pub total_is : total ≡ r.length
+  pub reads : map (λ (page : ReadBlock). page.state) pages ≡ pages_read r
+
 -- what a phase of the device is to the specified one; a group's number counts from those before the accepted commands
 abbrev pub IsDoing : (before expected total : ℕ) → Phase → Deed → Type 0
 IsDoing before expected total (phase.AskData x) (Gathering purpose gathered asked) =
     IsGathering x total purpose gathered × (asked ≡ false)
 IsDoing before expected total (phase.AwaitData x) (Gathering purpose gathered asked) =
     IsGathering x total purpose gathered × (asked ≡ true)
+IsDoing before expected total (phase.AskFrames size) (Gathering purpose gathered asked) =
+    IsGatheringFrames size total purpose gathered × (asked ≡ false)
+IsDoing before expected total (phase.AwaitFrames size) (Gathering purpose gathered asked) =
+    IsGatheringFrames size total purpose gathered × (asked ≡ true)
+IsDoing before expected total (phase.SendFrames size) (SendingBytes bytes) =
+    (length bytes ≡ size) × (total ≡ size) × (1 ≤ min expected size)
 IsDoing before expected total (phase.AwaitFrontier n size) (Awaiting commands) =
     (n ≡ before + commands) × (total ≡ size)
 IsDoing before expected total (phase.SendData x) (SendingBytes bytes) =
     (bytes ≡ data_bytes x) × (total ≡ data_length x) × (1 ≤ min expected (data_length x))
 IsDoing before expected total (phase.SendBlocks x) (Sending blocks sent) = IsSending x expected total blocks sent
+IsDoing before expected total (phase.ReadArea r) (ReadingArea pages) = IsReadingArea r total pages
 IsDoing before expected total (phase.Answer told n) (Answering s carried) = (s ≡ status_kept told) × (carried ≡ n)
 IsDoing before expected total (phase.Answer told n) (Sending blocks sent) = IsLost blocks sent told n
 IsDoing before expected total kept deed = ⊥
@@ -122,14 +161,93 @@ abbrev pub read_in : Deed → Option (List ℕ)
 read_in (Sending blocks sent) = read_of (slice_get blocks sent)
 read_in deed = None
 
+-- Frames
+
+-- the first frame of the request is the one that is kept
+abbrev pub IsFirstFrame : List ℕ → List Frame → Type 0
+IsFirstFrame bytes [] = ⊥
+IsFirstFrame bytes (f ∷ fs) = f ≡ frame_in (take 512 bytes)
+
+-- the request is to region 0, has this result and the first frame that is kept, and is yet to fill its register
+pub record IsAsked (code : ℕ) (held : Option (List ℕ)) (request : Option RpmbRequest) : Type 0 where
+  pub bytes : List ℕ
+  pub is_held : held ≡ Some bytes
+  pub long : length bytes ≡ 4096
+  pub asked : RpmbRequest
+  pub is : request ≡ Some asked
+  pub region : asked.region ≡ 0
+  pub result : asked.result ≡ code
+  pub unfilled : asked.filled ≡ false
+  pub first : IsFirstFrame bytes asked.frames
+
+-- what a task has to do with frames is what the specified one has
+abbrev pub AreFramesKept : Frames → Option (List ℕ) → Option RpmbRequest → Type 0
+AreFramesKept NotBrought held request = request ≡ None
+AreFramesKept Undecided held request = request ≡ None
+AreFramesKept (Decided code) held request = IsAsked code held request
+AreFramesKept Answered held request = is_unfilled request ≡ false
+
+-- a task in this phase reads the blocks that its request asks for, which has this first frame and this result; in any
+-- other phase its request asks for none, or failed a check
+abbrev pub ReadsFor : Phase → Frame → ℕ → Type 0
+ReadsFor (phase.ReadArea r) f code = (reads_area f code ≡ true) × (r.address ≡ f.address) × (r.count ≡ f.count)
+ReadsFor p f code = reads_area f code ≡ false
+
+-- so it is of the frame that a task keeps whose request is yet to fill its register
+abbrev pub ReadsAsked : Phase → Frames → Option (List ℕ) → Type 0
+ReadsAsked p (Decided code) (Some bytes) = ReadsFor p (frame_in (take 512 bytes)) code
+ReadsAsked p f held = Unit {0}
+
+-- the part that is asked for of a page that was read stands in the block of its task
+pub record StandsIn (held : Option (List ℕ)) (p : AreaPart) (body : List ℕ) : Type 0 where
+  pub bytes : List ℕ
+  pub is_held : held ≡ Some bytes
+  pub long : length bytes ≡ 4096
+  pub same : part_held p bytes ≡ part_of_page p body
+
+-- each page that was read stands so
+abbrev pub PartsStand : AreaReading → Option (List ℕ) → Deed → Type 0
+PartsStand r held (ReadingArea pages) =
+    (i : ℕ) (block : ReadBlock) → slice_get pages i ≡ Some block → block.state ≡ WasRead →
+    StandsIn held (area_part r i) block.body
+PartsStand r held deed = ⊥
+
+-- frames that a task sends are the first bytes of what it keeps
+pub record IsSentFrom (size : ℕ) (held : Option (List ℕ)) (deed : Deed) : Type 0 where
+  pub all : List ℕ
+  pub is_held : held ≡ Some all
+  pub long : length all ≡ 4096
+  pub deed_is : deed ≡ SendingBytes (take size all)
+
+-- the frames are a request, whether it has filled its register or not
+abbrev pub HasRequest : Frames → Type 0
+HasRequest NotBrought = ⊥
+HasRequest Undecided = ⊥
+HasRequest (Decided code) = Unit {0}
+HasRequest Answered = Unit {0}
+
+-- what a task in this phase may have to do with frames: one that gathers or sends has no request yet
+abbrev pub FramesFit : Phase → Frames → Option (List ℕ) → Deed → Type 0
+FramesFit (phase.AskData x) f held deed = f ≡ NotBrought
+FramesFit (phase.AwaitData x) f held deed = f ≡ NotBrought
+FramesFit (phase.AskFrames size) f held deed = f ≡ Undecided
+FramesFit (phase.AwaitFrames size) f held deed = f ≡ Undecided
+FramesFit (phase.SendBlocks x) f held deed = f ≡ NotBrought
+FramesFit (phase.SendData x) f held deed = f ≡ NotBrought
+FramesFit (phase.SendFrames size) f held deed = (f ≡ NotBrought) × IsSentFrom size held deed
+FramesFit (phase.ReadArea r) f held deed = HasRequest f × PartsStand r held deed
+FramesFit p f held deed = Unit {0}
+
 -- the kept task is the specified one: its unit, its tag, the bytes that its host expects, how far it is, and the block
 -- that a die read for it; `before` is the number of the last group before the accepted commands
 pub record TaskKept (before : ℕ) (a : OpenTask) (b : exchange.Task) : Type 0 where
   pub lun : b.lun ≡ a.lun
   pub tag : b.tag ≡ a.tag
   pub expected : b.expected ≡ a.expected
-  -- no SECURITY PROTOCOL OUT is taken yet
-  pub request : b.request ≡ None
+  pub sends : sends_frames b.command ≡ is_sender a
+  pub request : AreFramesKept a.frames a.held b.request
+  pub asks : ReadsAsked a.phase a.frames a.held
+  pub fits : FramesFit a.phase a.frames a.held b.deed
   pub doing : IsDoing before a.expected b.length a.phase b.deed
   pub read : a.block ≡ read_in b.deed
 
@@ -150,16 +268,19 @@ abbrev pub wanted_of : Bool → Option ReadBlock → Option Bool
 wanted_of next None = None
 wanted_of next (Some block) = Some (next && is_unread block.state)
 
--- the blocks that were not handed out are kept, and the next one is wanted until it was read
-abbrev pub wanted_in : ℕ → Deed → Option Bool
-wanted_in index (Sending blocks sent) =
+-- the blocks that were not handed out are kept, and the next one is wanted until it was read. The pages of the area that
+-- a request asks for are kept until it has filled its register, and each is wanted until it was read
+abbrev pub wanted_in : ℕ → Option RpmbRequest → Deed → Option Bool
+wanted_in index request (Sending blocks sent) =
     if nat_lt index sent then None else wanted_of (index == sent) (slice_get blocks index)
-wanted_in index deed = None
+wanted_in index request (ReadingArea pages) =
+    if is_unfilled request then wanted_of true (slice_get pages index) else None
+wanted_in index request deed = None
 
 -- what is kept for a task, or for a tag that none has
 abbrev pub wanted_by : ℕ → Option exchange.Task → Option Bool
 wanted_by index None = None
-wanted_by index (Some task) = wanted_in index task.deed
+wanted_by index (Some task) = wanted_in index task.request task.deed
 
 -- Blocks of WRITEs
 
@@ -172,9 +293,11 @@ abbrev pub blocks_gathered : ℕ → List ℕ → List (List ℕ)
 blocks_gathered zero bytes = []
 blocks_gathered (suc n) bytes = block_or_zeros bytes ∷ blocks_gathered n (drop 4096 bytes)
 
--- what a task that gathers data has claimed: a WRITE one slot for each block of its command, any other none
+-- what a task that gathers data has claimed: a WRITE one slot for each block of its command, frames three that hold
+-- zeros
 abbrev pub claimed_for : Purpose → List ℕ → List (List ℕ)
 claimed_for (ForWrite unit address blocks forced) gathered = blocks_gathered blocks gathered
+claimed_for (ForFrames region) gathered = replicate frame_slots zero_block
 claimed_for purpose gathered = []
 
 -- a WRITE that gathers has claimed a slot for each of its blocks, in which it lies once it came
@@ -206,14 +329,29 @@ IsToldIn count deed = Unit {0}
 abbrev pub IsTold : ℕ → exchange.Task → Type 0
 IsTold count task = IsToldIn count task.deed
 
+-- Requests
+
+-- no other task than one brings frames
+abbrev pub OneSends : List OpenTask → Type 0
+OneSends [] = Unit {0}
+OneSends (a ∷ ours) = (is_sender a ≡ true → list_any is_sender ours ≡ false) × OneSends ours
+
+-- no request is to fill its register: each whose GOOD is due has done so
+abbrev pub HaveAnswered : State → Type 0
+HaveAnswered s = All (λ task. is_to_fill s task ≡ false) s.tasks
+
 -- All of it
 
 -- what is kept of each part of a state, whether or not a lock was told to it
 pub record Keeps (d : DeviceCore) (s : State) : Type 0 where
-  pub settings : d.settings ≡ settings_now (plain_now s)
+  pub boot : d.boot ≡ (plain_now s).boot
+  pub permanent : d.is_permanent ≡ (plain_now s).permanent
+  pub region : IsKept d.rpmb.region (region_of (plain_now s) 0)
+  pub registers : s.registers 0 ≡ d.rpmb.registers
   pub layer_kept : layer.Describes d.ftl s.translation
   pub few : length s.tasks ≤ most_tasks
   pub tasks : TasksKept (before_accepted s.translation.ledger) d.tasks s.tasks
+  pub one_sends : OneSends d.tasks
   pub wanted : (tag index : ℕ) → wanted_kept s.translation.pins tag index ≡ wanted_by index (task_of tag s.tasks)
   pub claims : AreClaimed d.ftl (claims_of s.tasks)
   pub shorts : s.shorts ≡ map short_kept d.shorts
@@ -225,7 +363,12 @@ pub record Describes (d : DeviceCore) (s : State) : Type 0 where
   -- the blocks that they send
   pub tied : IsTied s
   pub shows : ShowsReads s
+  -- what waits in registers are frames
+  pub waits : FramesWait s
+  -- what is read of the area for a request is the area as it is now
+  pub reads : AreaReads s
   pub kept : Keeps d s
+  pub answered : HaveAnswered s
   -- if the device is locked, the tasks were told so
   pub told : locked s ≡ true → All (IsTold (durable s)) s.tasks
 

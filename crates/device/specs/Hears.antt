@@ -1,6 +1,6 @@
 -- What a message of the host is answered, and what it makes of what the device keeps.
 use Rattle.std.specs.Prelude.{◌≡◌, ℕ, Bool, List, [], ◌∷◌, ◌++◌}
-use Rattle.std.specs.Prelude.{slice_get, Option, Some, None, Result, Ok, Err}
+use Rattle.std.specs.Prelude.{Option, Some, None, Result, Ok, Err}
 use Rattle.ufs_spec.specs.Refusals.{Request, State}
 use Rattle.ufs_spec.specs.Translation.{Translation}
 use Rattle.ufs_spec.specs.declared.faults.HostFault.{HostFault}
@@ -11,12 +11,17 @@ use Rattle.task_set.specs.declared.tasks.Phase.{Phase}
 use Rattle.device.specs.declared.plans.Plan.{Plan}
 use Rattle.task_set.specs.declared.tasks.Short.{Short}
 use Rattle.task_set.specs.declared.tasks.Status.{Status}
-use Rattle.task_set.specs.Kept.{OpenTask}
+use Rattle.task_set.specs.Kept.{OpenTask, newly_open}
 use Rattle.task_set.specs.declared.tasks.TaskEvent.{TaskEvent}
+pub use Rattle.device.specs.Calls.{with_event}
 use Rattle.device.specs.Calls.{HasBegun, HasGathered, lock_told}
+use Rattle.device.specs.Frames.{HasDecided, HasFilled, frames_brought, frames_taken}
+use Rattle.task_set.specs.declared.tasks.Transfer.{Transfer}
+use Rattle.task_set.specs.declared.tasks.Wanted.{Wanted}
+use Rattle.task_set.specs.declared.tasks.Wanted.TheVariants as wanted
 use Rattle.device.specs.Kept.{DeviceCore, IsLayerWith}
 use Rattle.device.specs.Plans.{IsBare, IsPlanned, IsRequest}
-use Rattle.task_set.specs.Lists.{asked_among, asked_at, is_in_use, short_allowed, task_happened}
+use Rattle.task_set.specs.Lists.{asked_among, is_in_use, short_allowed}
 
 -- Commands
 
@@ -43,36 +48,53 @@ pub record IsTaskOpened (before after : DeviceCore) (flags lun tag expected : �
     pub phase : Phase
     -- the plan is the one that the table of refusals has for it
     pub todo : Result Plan Status
-    pub plan : (s : State) (r : Request) → Describes before.ftl s.translation → IsBare s before.settings.is_permanent →
+    pub plan : (s : State) (r : Request) → Describes before.ftl s.translation → IsBare s before →
         IsRequest r flags lun expected bytes → IsPlanned s r todo
     pub begun : (t : Translation) (claims : Claims) → IsLayerWith before.ftl t claims →
         HasBegun layer t claims tag todo phase
     pub more : after ≡
-        record (with_task before (record { tag = tag; lun = lun; expected = expected; phase = phase; block = None }))
-        { ftl = layer }
+        frames_taken
+        (record
+        (with_task before (newly_open (record {
+          tag = tag;
+          lun = lun;
+          expected = expected;
+          phase = phase;
+          frames = frames_brought todo;
+        })))
+        { ftl = layer }) todo
 
 -- Data
 
--- what the task at the position that was found asked for at this offset, if one was found
-abbrev pub asked_of : DeviceCore → ℕ → ℕ → Option ℕ → Option AskedFor
-asked_of d lun offset at = asked_at d.tasks lun offset at
-
--- the task that asked for these data, and what is to come
+-- the task that asked for these data, and what it asked for
 abbrev pub asked_for : DeviceCore → ℕ → ℕ → ℕ → ℕ → Option AskedFor
 asked_for d lun tag offset count = asked_among d.tasks lun tag offset count
 
--- this happened to the task at this position
-abbrev pub with_event : DeviceCore → ℕ → TaskEvent → DeviceCore
-with_event d k e = record d { tasks = task_happened d.tasks k e (slice_get d.tasks k) }
+-- so many bytes are what was asked for: a block of 4096, or the frames
+abbrev pub HasLength : Wanted → ℕ → Type 0
+HasLength (wanted.Block x) count = count ≡ 4096
+HasLength (wanted.Frames size) count = count ≡ size
 
--- a block of a task came, with the last its group was accepted or not, and then the lock was told
-pub record IsDataTaken (before after : DeviceCore) (tag : ℕ) (asked : AskedFor) (bytes : List ℕ) : Type 0 where
+-- a block of a WRITE came, with the last its group was accepted or not
+pub record HasBlock (before after : DeviceCore) (tag index : ℕ) (x : Transfer) (bytes : List ℕ) : Type 0 where
   pub layer : Core
   pub event : TaskEvent
   pub taken : (t : Translation) (claims : Claims) → IsLayerWith before.ftl t claims →
-      HasGathered layer t claims tag asked.transfer bytes event
-  pub told : (t : Translation) → Describes layer t →
-      after ≡ lock_told t (record (with_event before asked.index event) { ftl = layer })
+      HasGathered layer t claims tag x bytes event
+  pub after_is : after ≡ record (with_event before index event) { ftl = layer }
+
+-- what was asked for came: a block of a WRITE, or all frames of a SECURITY PROTOCOL OUT
+abbrev pub HasCome : DeviceCore → DeviceCore → ℕ → ℕ → Wanted → List ℕ → Type 0
+HasCome before after tag index (wanted.Block x) bytes = HasBlock before after tag index x bytes
+HasCome before after tag index (wanted.Frames size) bytes = HasDecided before after tag index bytes
+
+-- what a task asked for came; then what became due filled its register, and the lock was told
+pub record IsDataTaken (before after : DeviceCore) (tag : ℕ) (asked : AskedFor) (bytes : List ℕ) : Type 0 where
+  pub come : DeviceCore
+  pub has_come : HasCome before come tag asked.index asked.wanted bytes
+  pub filled : DeviceCore
+  pub has_filled : HasFilled come filled
+  pub told : (t : Translation) → Describes filled.ftl t → after ≡ lock_told t filled
 
 -- data are taken that a task asked for
 abbrev pub IsDataHeard : DeviceCore → DeviceCore → ℕ → List ℕ → Option AskedFor → Result Unit HostFault → Type 0

@@ -1,5 +1,7 @@
 pub mod Calls
 pub mod Describes
+pub mod Frames
+pub mod Groups
 pub mod Hears
 pub mod Kept
 pub mod Leftovers
@@ -7,4 +9,5 @@ pub mod Opened
 pub mod Plans
 pub mod Replies
 pub mod Rooms
+pub mod Targets
 pub mod Worlds

@@ -30,7 +30,9 @@ use Rattle.task_set.specs.declared.tasks.Task.{Task}
 use Rattle.task_set.specs.declared.tasks.TaskEvent.TheVariants as event
 use Rattle.task_set.specs.declared.tasks.ShortData.TheVariants as sent
 use Rattle.task_set.specs.Kept.{OpenTask, task_in}
-use Rattle.device.specs.Hears.{with_event}
+use Rattle.task_set.specs.declared.frames.Frames.{Frames}
+use Rattle.task_set.specs.declared.frames.Frames.TheVariants.{Answered, Decided, NotBrought, Undecided}
+use Rattle.device.specs.Calls.{with_event}
 use Rattle.device.specs.Kept.{DeviceCore, IsLayerWith}
 use Rattle.task_set.specs.Tasks.{data_length, status_kept}
 
@@ -93,20 +95,44 @@ data_count expected x =
 abbrev pub data_message : Task → ShortData → Message
 data_message t x = message.DataIn t.lun t.tag 0 (record { items = take (data_count t.expected x) (data_padded x) })
 
+-- how many bytes of frames are sent: as many as the host expects, at least one and at most 4096
+abbrev pub frames_count : ℕ → ℕ → ℕ
+frames_count expected size = count_in (min expected size)
+
+-- the DATA IN of frames of so many bytes: all that the host expects of them in one message
+abbrev pub frames_message : Task → ℕ → List ℕ → Message
+frames_message t size held =
+    message.DataIn t.lun t.tag 0 (record { items = take (frames_count t.expected size) held })
+
+-- whether a request has filled its register
+abbrev pub has_filled : Frames → Bool
+has_filled Answered = true
+has_filled NotBrought = false
+has_filled Undecided = false
+has_filled (Decided code) = false
+
+-- the GOOD of a request for data of the area, once it filled its register
+abbrev pub area_reply : Task → ℕ → Option Message
+area_reply t size = if has_filled t.frames then Some (answer_of t status.Good size) else None
+
 -- the reply that is due in a phase: a request for the next block, a DATA IN, or the RESPONSE. None is due while data of
 -- the host, a durable group or the read of a block is awaited
-abbrev pub owed_in : Translation → Option (List ℕ) → Task → Phase → Option Message
-owed_in t read a (phase.AskData x) = Some (message.ReadyToTransfer a.lun a.tag (4096 * x.gathered) 4096)
-owed_in t read a (phase.AwaitData x) = None
-owed_in t read a (phase.AwaitFrontier n size) =
+abbrev pub owed_in : Translation → (read held : Option (List ℕ)) → Task → Phase → Option Message
+owed_in t read held a (phase.AskData x) = Some (message.ReadyToTransfer a.lun a.tag (4096 * x.gathered) 4096)
+owed_in t read held a (phase.AwaitData x) = None
+owed_in t read held a (phase.AwaitFrontier n size) =
     if nat_le n t.ledger.frontier then Some (answer_of a status.Good size) else None
-owed_in t read a (phase.SendBlocks x) = option_map (block_message a x) (block_for t read a.tag x.sent)
-owed_in t read a (phase.SendData x) = Some (data_message a x)
-owed_in t read a (phase.Answer s n) = Some (answer_of a s n)
+owed_in t read held a (phase.SendBlocks x) = option_map (block_message a x) (block_for t read a.tag x.sent)
+owed_in t read held a (phase.SendData x) = Some (data_message a x)
+owed_in t read held a (phase.AskFrames size) = Some (message.ReadyToTransfer a.lun a.tag 0 size)
+owed_in t read held a (phase.AwaitFrames size) = None
+owed_in t read held a (phase.ReadArea r) = area_reply a r.length
+owed_in t read held a (phase.SendFrames size) = option_map (frames_message a size) held
+owed_in t read held a (phase.Answer s n) = Some (answer_of a s n)
 
 -- the reply that the task owes now, by what the layer keeps and what was read
 abbrev pub owed_by : Translation → OpenTask → Option Message
-owed_by t a = owed_in t a.block (task_in a) a.phase
+owed_by t a = owed_in t a.block a.held (task_in a) a.phase
 
 -- the bytes are those of the reply that is owed; or there is none, and nothing is said of them
 abbrev pub IsWritten : Bool → List ℕ → Option Message → Type 0
@@ -128,6 +154,10 @@ moved_on d k (phase.AwaitData x) = d
 moved_on d k (phase.AwaitFrontier n size) = without_task d k
 moved_on d k (phase.SendData x) = with_event d k event.DataSent
 moved_on d k (phase.SendBlocks x) = with_event d k event.BlockSent
+moved_on d k (phase.AskFrames size) = with_event d k event.DataAskedFor
+moved_on d k (phase.AwaitFrames size) = d
+moved_on d k (phase.ReadArea r) = without_task d k
+moved_on d k (phase.SendFrames size) = with_event d k event.DataSent
 moved_on d k (phase.Answer s n) = without_task d k
 
 -- the layer then: a block that was handed out is let go; a task that ends keeps nothing, and what it waited for is
@@ -141,6 +171,10 @@ HasMoved after t claims tag (phase.AwaitFrontier n size) =
     IsLayerWith after (moved (moved t (Acknowledge commands)) (LetGoAll tag)) claims
 HasMoved after t claims tag (phase.SendBlocks x) =
     IsLayerWith after (moved (moved t (LetGo tag x.sent)) (WantPage tag (x.sent + 1))) claims
+HasMoved after t claims tag (phase.AskFrames size) = IsLayerWith after t claims
+HasMoved after t claims tag (phase.AwaitFrames size) = IsLayerWith after t claims
+HasMoved after t claims tag (phase.SendFrames size) = IsLayerWith after t claims
+HasMoved after t claims tag (phase.ReadArea r) = IsLayerWith after (moved t (LetGoAll tag)) claims
 HasMoved after t claims tag (phase.Answer s n) = IsLayerWith after (moved t (LetGoAll tag)) claims
 
 -- Short exchanges

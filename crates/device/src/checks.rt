@@ -1,30 +1,42 @@
 //! The checks of a command, in the order in which the first that applies ends it.
-ghost use Rattle.std.specs.Prelude.{◌≡◌, ◌≤◌, ℕ, ◌+◌, ◌*◌, ◌&&◌, nat_lt, not, option_map, IfErr, IfOk, IsOk, None};
+ghost use Rattle.std.specs.Prelude.{◌≡◌, ◌≤◌, ℕ, ◌*◌, ◌&&◌, false, not, option_map, IfErr, IfOk, IsOk, None};
 ghost use Rattle.std.specs.Prelude.{Some};
 ghost use Rattle.ufs_spec.specs.Plain.{greatest_command};
 ghost use Rattle.ufs_spec.specs.Cdbs.{IsTakenCdb, address_of, blocks_of, direction_of, operation_of};
 ghost use Rattle.ufs_spec.specs.Cdbs.{length_of as length_of_command};
-ghost use Rattle.ufs_spec.specs.Refusals.{Request, State, first_line, flushes, is_refused_write, lacks_data};
-ghost use Rattle.ufs_spec.specs.Refusals.{mended, numbers_of};
-ghost use Rattle.ufs_spec.specs.Translation.{free_slots};
+ghost use Rattle.ufs_spec.specs.Refusals.{Request, State, first_line, flushes, has_other_response};
+ghost use Rattle.ufs_spec.specs.Refusals.{is_crowded, is_frames, is_past, is_protected, is_refused_write};
+ghost use Rattle.ufs_spec.specs.Refusals.{is_too_long, lacks_data, lacks_response, lines_for, mended};
+ghost use Rattle.ufs_spec.specs.Refusals.{needs_mended, slots_needed, unit_numbers_of, writes};
 ghost use Rattle.ufs_spec.specs.Keys.{data_key};
-ghost use Rattle.ufs_spec.specs.Refusals.{lines_for, needs_mended, slots_needed, unit_numbers_of, writes};
 ghost use Rattle.ufs_spec.specs.declared.configs.Numbers.{Numbers};
 ghost use Rattle.ftl_core.specs.Public.{Describes as IsLayer};
-ghost use Rattle.device.specs.Plans.{IsBare, IsPlanned, IsRequest, data_plan, plan_of, read_plan, write_plan};
+ghost use Rattle.device.specs.Plans.{IsBare, IsOfRegion, IsPlanned, IsRequest, data_plan, lines_now};
+ghost use Rattle.device.specs.Plans.{plan_of, read_plan, write_plan};
+ghost use Rattle.device.specs.Targets.{unit_named};
 ghost use Rattle.task_set.specs.Tasks.{status_kept};
 
 use crate::device::Device;
 use crate::plans::Plan;
+use crate::targets::Target;
 use scsi_cdb::{address_of, blocks_of, length_of};
 use task_set::{BLOCK_BYTES, ShortData, Status};
-use ufs_spec::{Cdb, GREATEST_COMMAND, Key, Sense, Tag, UnitSpec};
+use ufs_spec::{Cdb, GREATEST_COMMAND, Key, Sense, Tag};
 
 /// The flags of a COMMAND whose data go to the device, and of one whose data come from it (JESD220,
 /// 10.7.1).
 const WRITES: u8 = 0x20;
 
 const READS: u8 = 0x40;
+
+/// How many bytes a frame of the RPMB has (JESD220, 12.4).
+const FRAME_BYTES: u32 = 512;
+
+/// How many frames a command has at most.
+const MOST_FRAMES: u32 = 8;
+
+/// How many slots a SECURITY PROTOCOL OUT claims: for two pages of the area and the settings.
+pub(crate) const FRAME_SLOTS: u16 = 3;
 
 /// Whether the flag of the direction of the command's data is not set, or the host has fewer bytes to
 /// write than the command.
@@ -35,25 +47,40 @@ fn lacks_data(cdb: &Cdb, flags: u8, expected: u32) -> bool
     let length = length_of(0, cdb);
     match cdb {
         Cdb::TestUnitReady | Cdb::SynchronizeCache10 { .. } => false,
-        Cdb::Write6 { .. } | Cdb::Write10 { .. } => {
+        Cdb::Write6 { .. } | Cdb::Write10 { .. } | Cdb::SecurityOut { .. } => {
             length > 0 && (flags != WRITES || expected < length)
         }
         _ => length > 0 && flags != READS,
     }
 }
 
-/// Whether the command has more blocks than a command may have.
-fn has_too_many_blocks(cdb: &Cdb) -> bool
-    ensures { result ≡ nat_lt greatest_command (blocks_of cdb.now) }
+/// Whether the command has more blocks than a command may have, or a length that is not that of one to
+/// eight frames.
+fn is_too_long(cdb: &Cdb) -> bool
+    ensures what { (n : Numbers) → result ≡ is_too_long n cdb.now }
+    ensures few { result ≡ false → blocks_of cdb.now ≤ greatest_command }
 {
-    blocks_of(cdb) > u32::from(GREATEST_COMMAND)
+    match cdb {
+        Cdb::SecurityIn { length, .. } | Cdb::SecurityOut { length, .. } => !are_frames(*length),
+        _ => blocks_of(cdb) > u32::from(GREATEST_COMMAND),
+    }
+}
+
+/// Whether so many bytes are one to eight frames.
+fn are_frames(length: u32) -> bool
+    ensures { result ≡ is_frames length }
+{
+    (FRAME_BYTES..=MOST_FRAMES * FRAME_BYTES).contains(&length) && length % FRAME_BYTES == 0
 }
 
 /// Whether a block of the command lies past the unit.
-fn is_out_of_range(cdb: &Cdb, unit: UnitSpec) -> bool
-    ensures { result ≡ nat_lt unit.blocks (address_of cdb.now + blocks_of cdb.now) }
+fn is_out_of_range(cdb: &Cdb, target: Target) -> bool
+    ensures { result ≡ is_past cdb.now (unit_named target) }
 {
-    address_of(cdb) as u64 + blocks_of(cdb) as u64 > unit.blocks as u64
+    match target {
+        Target::Unit(unit) => address_of(cdb) as u64 + blocks_of(cdb) as u64 > unit.blocks as u64,
+        Target::Rpmb => false,
+    }
 }
 
 /// Whether the command is taken only once the device is mended: all but REQUEST SENSE and READ CAPACITY.
@@ -81,20 +108,22 @@ fn flushes(cdb: &Cdb) -> bool
     matches!(cdb, Cdb::SynchronizeCache10 { .. })
 }
 
-/// How many slots the command needs: one a block that it writes.
+/// How many slots the command needs: one a block that it writes, and three for the pages of an RPMB
+/// write.
 fn slots_needed(cdb: &Cdb) -> u32
     ensures { (n : Numbers) → IsTakenCdb cdb.now → result ≡ slots_needed n cdb.now }
 {
     match cdb {
         Cdb::Write6 { .. } | Cdb::Write10 { .. } => blocks_of(cdb),
+        Cdb::SecurityOut { .. } => u32::from(FRAME_SLOTS),
         _ => 0,
     }
 }
 
 /// What a command that passed the checks does.
-fn plan_of(cdb: &Cdb, unit: UnitSpec, lun: u8, expected: u32) -> Plan
+fn plan_of(cdb: &Cdb, target: Target, lun: u8, expected: u32) -> Plan
     requires { blocks_of cdb.now ≤ greatest_command }
-    ensures { IsTakenCdb cdb.now → result ≡ plan_of unit lun expected cdb.now }
+    ensures { IsTakenCdb cdb.now → result ≡ plan_of target lun expected cdb.now }
 {
     let key = Key {
         kind: Tag::DATA,
@@ -113,10 +142,15 @@ fn plan_of(cdb: &Cdb, unit: UnitSpec, lun: u8, expected: u32) -> Plan
         ),
         Cdb::ReadCapacity10 => data_plan(
             ShortData::Capacity {
-                blocks: unit.blocks,
+                blocks: target.blocks(),
             },
             expected,
         ),
+        Cdb::SecurityOut { length, .. } => Plan::AskFrames { length: *length },
+        Cdb::SecurityIn { length, .. } => Plan::TakeFrames {
+            length: *length,
+            taken: expected.min(*length),
+        },
         Cdb::SynchronizeCache10 {
             immediate: false,
             ..
@@ -179,64 +213,85 @@ impl Device {
         expected: u32,
         cdb: &[u8; 16],
     ) -> Result<Plan, Status>
-        ensures { (s : State) (r : Request) → IsLayer self.now.ftl s.translation → IsBare s self.now.settings.is_permanent →
+        ensures { (s : State) (r : Request) → IsLayer self.now.ftl s.translation → IsBare s self.now →
             IsRequest r flags lun expected cdb.now → IsPlanned s r result }
     {
-        let Some(unit) = self.ftl.unit(lun) else {
+        let Some(target) = self.target(lun) else {
             return Err(Status::CheckCondition(Sense::NO_UNIT));
         };
+        if !target.takes(cdb[0]) {
+            return Err(Status::CheckCondition(Sense::INVALID_OPCODE));
+        }
         match scsi_cdb::read(cdb) {
-            Ok(cdb) => self.plan_taken(lun, flags, expected, unit, &cdb),
+            Ok(cdb) => self.plan_taken(lun, flags, expected, target, &cdb),
             Err(sense) => Err(Status::CheckCondition(sense)),
         }
     }
 
-    /// What a command that is taken does to the unit.
+    /// What a command that is taken does.
     fn plan_taken(
         &self,
         lun: u8,
         flags: u8,
         expected: u32,
-        unit: UnitSpec,
+        target: Target,
         cdb: &Cdb,
     ) -> Result<Plan, Status>
-        ensures planned { IfOk result (λ todo. IsTakenCdb cdb.now → todo ≡ plan_of unit lun expected cdb.now) }
+        ensures planned { IfOk result (λ todo. IsTakenCdb cdb.now → todo ≡ plan_of target lun expected cdb.now) }
         ensures passed { IsOk result → (s : State) (r : Request) → IsLayer self.now.ftl s.translation →
-            IsBare s self.now.settings.is_permanent → unit_numbers_of s r ≡ Some unit → r.flags ≡ flags → r.expected ≡ expected →
-            IsTakenCdb cdb.now → first_line (lines_for s r cdb.now) ≡ None }
+            IsBare s self.now → unit_numbers_of s r ≡ unit_named target → r.flags ≡ flags →
+            r.expected ≡ expected → IsTakenCdb cdb.now → IsOfRegion cdb.now →
+            first_line (lines_for s r cdb.now) ≡ None }
         ensures refused { IfErr result (λ told. (s : State) (r : Request) → IsLayer self.now.ftl s.translation →
-            IsBare s self.now.settings.is_permanent → unit_numbers_of s r ≡ Some unit → r.flags ≡ flags → r.expected ≡ expected →
-            IsTakenCdb cdb.now → first_line (lines_for s r cdb.now) ≡ Some (status_kept told)) }
+            IsBare s self.now → unit_numbers_of s r ≡ unit_named target → r.flags ≡ flags →
+            r.expected ≡ expected → IsTakenCdb cdb.now → IsOfRegion cdb.now →
+            first_line (lines_for s r cdb.now) ≡ Some (status_kept told)) }
     {
-        match self.refusal(unit, flags, expected, cdb) {
+        match self.refusal(target, flags, expected, cdb) {
             Some(refused) => Err(refused),
-            None => Ok(plan_of(cdb, unit, lun, expected)),
+            None => Ok(plan_of(cdb, target, lun, expected)),
         }
     }
 
-    /// Why a command of the unit that is taken is refused, if it is.
-    fn refusal(&self, unit: UnitSpec, flags: u8, expected: u32, cdb: &Cdb) -> Option<Status>
+    /// Why a command that is taken is refused, if it is.
+    fn refusal(&self, target: Target, flags: u8, expected: u32, cdb: &Cdb) -> Option<Status>
         ensures what { (s : State) (r : Request) → IsLayer self.now.ftl s.translation →
-            IsBare s self.now.settings.is_permanent → unit_numbers_of s r ≡ Some unit → r.flags ≡ flags → r.expected ≡ expected →
-            IsTakenCdb cdb.now → first_line (lines_for s r cdb.now) ≡ option_map status_kept result }
+            IsBare s self.now → unit_numbers_of s r ≡ unit_named target → r.flags ≡ flags →
+            r.expected ≡ expected → IsTakenCdb cdb.now → IsOfRegion cdb.now →
+            first_line (lines_for s r cdb.now) ≡ option_map status_kept result }
         ensures few { result ≡ None → blocks_of cdb.now ≤ greatest_command }
     {
-        if has_too_many_blocks(cdb) {
+        if is_too_long(cdb) {
             return Some(Status::CheckCondition(Sense::INVALID_FIELD));
         }
         if lacks_data(cdb, flags, expected) {
             return Some(Status::CheckCondition(Sense::INVALID_FIELD));
         }
-        if is_out_of_range(cdb, unit) {
+        if is_out_of_range(cdb, target) {
             return Some(Status::CheckCondition(Sense::OUT_OF_RANGE));
         }
+        self.refusal_now(target, cdb)
+    }
+
+    /// The same by what the device is now.
+    fn refusal_now(&self, target: Target, cdb: &Cdb) -> Option<Status>
+        ensures { (s : State) → IsLayer self.now.ftl s.translation → IsBare s self.now →
+            IsTakenCdb cdb.now → IsOfRegion cdb.now →
+            first_line (lines_now s (unit_named target) cdb.now) ≡ option_map status_kept result }
+    {
         if self.is_too_early(cdb) {
             return Some(Status::CheckCondition(Sense::NOT_READY));
         }
-        if self.is_refused_write(unit, cdb) {
+        if self.is_refused_write(target, cdb) {
             return Some(Status::CheckCondition(Sense::WRITE_PROTECTED));
         }
-        if self.lacks_slots(cdb) {
+        if self.lacks_response(cdb) {
+            return Some(Status::CheckCondition(Sense::COMMAND_SEQUENCE));
+        }
+        if self.has_other_response(cdb) {
+            return Some(Status::CheckCondition(Sense::INVALID_FIELD));
+        }
+        if self.is_crowded(cdb) {
             return Some(Status::Busy);
         }
         None
@@ -250,23 +305,56 @@ impl Device {
         needs_mended(cdb) && !self.ftl.is_mended()
     }
 
-    /// Whether the command needs more slots than are free.
-    fn lacks_slots(&self, cdb: &Cdb) -> bool
-        ensures { (s : State) → IsLayer self.now.ftl s.translation → IsTakenCdb cdb.now →
-            result ≡ nat_lt (free_slots s.translation) (slots_needed (numbers_of s) cdb.now) }
+    /// Whether it asks for the response to a request, and none waits.
+    fn lacks_response(&self, cdb: &Cdb) -> bool
+        ensures { (s : State) → IsBare s self.now → IsOfRegion cdb.now → result ≡ lacks_response s cdb.now }
     {
-        self.ftl.free_slots() < slots_needed(cdb) as usize
+        match cdb {
+            Cdb::SecurityIn { .. } => self.rpmb.waiting() == 0,
+            _ => false,
+        }
+    }
+
+    /// Whether it asks for a response of another length than the one that waits.
+    fn has_other_response(&self, cdb: &Cdb) -> bool
+        ensures { (s : State) → IsBare s self.now → IsOfRegion cdb.now →
+            result ≡ has_other_response s cdb.now }
+    {
+        match cdb {
+            Cdb::SecurityIn { length, .. } => self.rpmb.waiting() != *length as usize,
+            _ => false,
+        }
+    }
+
+    /// Whether it brings frames while another command that does is open, or needs more slots than are
+    /// free.
+    fn is_crowded(&self, cdb: &Cdb) -> bool
+        ensures { (s : State) → IsLayer self.now.ftl s.translation → IsBare s self.now →
+            IsTakenCdb cdb.now → result ≡ is_crowded s cdb.now }
+    {
+        let brings = matches!(cdb, Cdb::SecurityOut { .. });
+        (brings && self.set.has_sender()) || self.ftl.free_slots() < slots_needed(cdb) as usize
     }
 
     /// Whether the command writes to a protected unit or a locked device, or flushes a locked device
     /// with something pending.
-    fn is_refused_write(&self, unit: UnitSpec, cdb: &Cdb) -> bool
-        ensures { (s : State) → IsLayer self.now.ftl s.translation → IsBare s self.now.settings.is_permanent →
-            IsTakenCdb cdb.now → result ≡ is_refused_write s (Some unit) cdb.now }
+    fn is_refused_write(&self, target: Target, cdb: &Cdb) -> bool
+        ensures { (s : State) → IsLayer self.now.ftl s.translation → IsBare s self.now →
+            IsTakenCdb cdb.now → result ≡ is_refused_write s (unit_named target) cdb.now }
     {
-        let is_protected = unit.protect == 2 && self.settings.is_permanent;
+        let is_protected = self.is_protected(target);
         let is_locked = self.ftl.is_locked();
         (writes(cdb) && (is_protected || is_locked))
             || (flushes(cdb) && is_locked && self.ftl.has_pending())
+    }
+
+    /// Whether it is a unit that is protected.
+    fn is_protected(&self, target: Target) -> bool
+        ensures { (s : State) → IsBare s self.now → result ≡ is_protected s (unit_named target) }
+    {
+        match target {
+            Target::Unit(unit) => unit.protect == 2 && self.is_permanent,
+            Target::Rpmb => false,
+        }
     }
 }

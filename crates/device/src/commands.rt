@@ -1,8 +1,8 @@
 //! Messages of the host: a COMMAND opens a task, a DATA OUT brings what a task asked for.
-ghost use Rattle.std.specs.Prelude.{◌≡◌, ◌<◌, length, ◌∷◌, ◌++◌, []};
+ghost use Rattle.std.specs.Prelude.{◌≡◌, ◌<◌, ◌≤◌, length, ◌∷◌, ◌++◌, []};
 ghost use Rattle.std.specs.Prelude.{IfSome, OnErr, OnOk};
 ghost use Rattle.device.specs.Calls.{HasBegun, HasClaimed, HasGathered, HasKept, HasTaken};
-ghost use Rattle.device.specs.Hears.{IsDataHeard, IsTaskOpened, asked_for};
+ghost use Rattle.device.specs.Hears.{HasBlock, HasCome, HasLength, IsDataHeard, IsTaskOpened, asked_for};
 ghost use Rattle.device.specs.Hears.{short_answer, with_event, uses, with_short, with_task};
 ghost use Rattle.task_set.specs.Kept.{newly_open};
 ghost use Rattle.ufs_spec.specs.Exchanges.{most_tasks};
@@ -18,8 +18,9 @@ ghost use Rattle.ufs_spec.specs.declared.Message.{Message};
 
 use crate::device::Device;
 use crate::plans::Plan;
+use crate::requests::{frames_of, frames_phase};
 use crate::responses::STANDARD_WRITE;
-use task_set::{AskedFor, Phase, Sending, ShortReply, Status, Task, TaskEvent, Transfer};
+use task_set::{AskedFor, Phase, Sending, ShortReply, Status, Task, TaskEvent, Transfer, Wanted};
 use ufs_spec::{HostFault, Key, Message};
 
 impl Device {
@@ -144,7 +145,9 @@ impl Device {
             lun,
             expected,
             phase,
+            frames: frames_of(planned),
         });
+        self.take_frames(planned);
     }
 
     /// One task more.
@@ -188,6 +191,8 @@ impl Device {
                 },
             ) => self.begin_write(tag, key, blocks, forced),
             Ok(Plan::Send { data }) => Phase::SendData { data },
+            Ok(Plan::AskFrames { length }) => self.begin_frames(tag, length),
+            Ok(Plan::TakeFrames { length, taken }) => frames_phase(length, taken),
             Ok(Plan::Flush) => Phase::AwaitFrontier {
                 number: self.ftl.last_number(),
                 length: 0,
@@ -239,16 +244,18 @@ impl Device {
         }
     }
 
-    /// The task that asked for these data, and what is to come.
+    /// The task that asked for these data, and what it asked for.
     fn asked_for(&self, lun: u8, tag: u8, offset: u32, count: usize) -> Option<AskedFor>
         ensures what { result ≡ asked_for self.now lun tag offset count }
         ensures within { IfSome result (λ asked. asked.index < length self.now.tasks) }
+        ensures long { IfSome result (λ asked. HasLength asked.wanted count) }
     {
         self.set.asked_for(lun, tag, offset, count)
     }
 
-    /// A DATA OUT brings the block that a task asked for.
+    /// A DATA OUT brings the block that a task asked for, or all its frames.
     fn data_out(&mut self, lun: u8, tag: u8, offset: u32, data: &[u8]) -> Result<(), HostFault>
+        requires few { length «data».now ≤ 4096 }
         ensures refused { OnErr result (self.new ≡ self.old) }
         ensures heard { IsDataHeard self.old self.new tag data.now
             (asked_for self.old lun tag offset (length data.now)) result }
@@ -256,10 +263,33 @@ impl Device {
         let Some(asked) = self.asked_for(lun, tag, offset, data.len()) else {
             return Err(HostFault::NotAskedFor);
         };
-        let event = self.gather(tag, asked.transfer, data);
-        self.happen(asked.index, event);
+        self.take_data(asked.index, tag, asked.wanted, data);
+        self.fill_register();
         self.end_waiting();
         Ok(())
+    }
+
+    /// What the task of this position and tag asked for came.
+    fn take_data(&mut self, index: usize, tag: u8, wanted: Wanted, bytes: &[u8])
+        requires there { index < length self.old.tasks }
+        requires long { HasLength wanted (length bytes.now) }
+        requires few { length bytes.now ≤ 4096 }
+        ensures { HasCome self.old self.new tag index wanted bytes.now }
+    {
+        match wanted {
+            Wanted::Block { transfer } => self.hear_block(index, tag, transfer, bytes),
+            Wanted::Frames { length: _ } => self.hear_frames(index, tag, bytes),
+        }
+    }
+
+    /// The next block of the WRITE of this position and tag came.
+    fn hear_block(&mut self, index: usize, tag: u8, transfer: Transfer, block: &[u8])
+        requires there { index < length self.old.tasks }
+        requires long { length block.now ≡ 4096 }
+        ensures { HasBlock self.old self.new tag index transfer block.now }
+    {
+        let event = self.gather(tag, transfer, block);
+        self.happen(index, event);
     }
 
     /// This happened to the task at this position.

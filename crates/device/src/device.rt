@@ -1,5 +1,5 @@
 //! The device and its five calls.
-ghost use Rattle.std.specs.Prelude.{◌≡◌, ◌<◌, ◌≤◌, ◌+◌, IfOk, map};
+ghost use Rattle.std.specs.Prelude.{◌≡◌, ◌<◌, ◌≤◌, ◌+◌, ◌*◌, IfOk, map};
 ghost use Rattle.std.specs.Prelude.{false, if◌then◌else◌, IfErr, IfNone};
 ghost use Rattle.device.specs.Calls.{lock_told, read_told, told};
 ghost use Rattle.std.specs.Prelude.{true, ◌++◌};
@@ -22,19 +22,34 @@ use geometry::Config;
 use nand_model::Die;
 use page_tag::{UnsealedJob, tag_read};
 use recovery::{Found, scan};
+use rpmb::Rpmb;
 use settings::Settings;
 use std::alloc::{AllocError, Global};
 use std::marker::Model;
 use task_set::TaskSet;
 use ufs_spec::{Block, Job, OpenFault, Outcome, Tag};
 
+/// How many blocks of 256 bytes the area of a region has in each of its steps (JESD220, 12.4: 128 KiB).
+const STEP_BLOCKS: u32 = 512;
+
+/// How many blocks of 256 bytes an area of so many steps has.
+fn area_blocks(steps: u8) -> u32
+    ensures { result ≡ 512 * steps }
+{
+    STEP_BLOCKS * u32::from(steps)
+}
+
 /// A device: the translation layer, and the tasks that are open.
 #[derive(Drop)]
 pub struct Device {
     /// The translation layer, which keeps for each READ what its blocks were when the COMMAND came.
     pub(crate) ftl: Ftl,
-    /// The settings that were found, with the RPMB key and the write counter. No command changes them yet.
-    pub(crate) settings: Settings,
+    /// bBootLunEn, the boot unit that is used, 0 for none (JESD220, 14). No command changes it yet.
+    pub(crate) boot: u8,
+    /// Whether the units that are protected for ever are so from now on. No command changes it yet.
+    pub(crate) is_permanent: bool,
+    /// The replay protected memory block of region 0, the only one: its key and counter, and its registers.
+    pub(crate) rpmb: Rpmb,
     /// The tasks that are open, the exchanges of one reply, and the blocks that dies read for the tasks.
     pub(crate) set: TaskSet,
 }
@@ -85,22 +100,26 @@ impl Device {
     {
         config.has_no_fault();
         let settings = found.settings;
+        let blocks = area_blocks(config.numbers().rpmb);
         let Ok(ftl) = Ftl::new(alloc, config, found) else {
             return Err(OpenFault::NoMemory);
         };
-        match Device::idle(alloc, ftl, settings) {
+        match Device::idle(alloc, ftl, &settings, blocks) {
             Ok(device) => Ok(device),
             Err(_) => Err(OpenFault::NoMemory),
         }
     }
 
-    /// A device over this layer, with these settings and no task open.
-    fn idle(alloc: Global, ftl: Ftl, settings: Settings) -> Result<Device, AllocError>
-        ensures { IfOk result (λ d. d ≡ idle_device ftl settings) }
+    /// A device over this layer, with these settings, an area of so many blocks of 256 bytes, and no task
+    /// open.
+    fn idle(alloc: Global, ftl: Ftl, settings: &Settings, blocks: u32) -> Result<Device, AllocError>
+        ensures { IfOk result (λ d. d ≡ idle_device ftl settings.now blocks) }
     {
         Ok(Device {
             ftl,
-            settings,
+            boot: settings.boot,
+            is_permanent: settings.is_permanent,
+            rpmb: Rpmb::new(alloc, settings.key, settings.counter, blocks)?,
             set: TaskSet::new(alloc)?,
         })
     }
@@ -153,6 +172,7 @@ impl Device {
             return false;
         };
         self.tell(ended);
+        self.fill_register();
         self.end_waiting();
         true
     }
@@ -162,7 +182,11 @@ impl Device {
         ensures { self.new ≡ told self.old ended }
     {
         match ended {
-            Ended::Read { reader, body } => self.read_ended(reader, body),
+            Ended::Read {
+                reader,
+                index,
+                body,
+            } => self.read_ended(reader, index, body),
             Ended::Other => {}
         }
     }
@@ -176,13 +200,14 @@ impl Device {
         self.ftl.turn()
     }
 
-    /// What the die read for the task of this tag gave: its block, or nothing, which ends the task.
-    fn read_ended(&mut self, tag: u8, body: Option<Block>)
-        ensures { self.new ≡ read_told self.old tag body }
+    /// What a die read for the task of this tag gave of its block or page of this index: the block, or
+    /// nothing. That ends a READ, and a request for data is answered with a read failure.
+    fn read_ended(&mut self, tag: u8, index: u16, body: Option<Block>)
+        ensures { self.new ≡ read_told self.old tag index body }
     {
         match body {
-            Some(body) => self.set.load(tag, &body),
-            None => self.set.lose(tag),
+            Some(body) => self.set.load(tag, index, &body),
+            None => self.set.lose(tag, index),
         }
     }
 

@@ -2,13 +2,17 @@
 //! dies, and `run` plays a list of events on one.
 #![tactic(auto)]
 
+mod area;
 mod checks;
 mod commands;
 mod device;
+mod groups;
 mod leftovers;
 mod plans;
 mod replies;
+mod requests;
 mod responses;
+mod targets;
 mod world;
 
 pub use device::Device;

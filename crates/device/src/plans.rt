@@ -15,4 +15,9 @@ pub enum Plan {
     Send { data: ShortData },
     /// It is answered GOOD once all that was accepted before it is durable.
     Flush,
+    /// It asks for frames, so many bytes.
+    AskFrames { length: u32 },
+    /// It takes the frames that wait in the response register, so many bytes, of which its host takes so
+    /// many.
+    TakeFrames { length: u32, taken: u32 },
 }

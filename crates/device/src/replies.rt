@@ -18,12 +18,17 @@ ghost use Rattle.device.specs.Describes.{Describes, IsAnswered, IsReplied};
 ghost use Rattle.device.specs.Hears.{with_event};
 ghost use Rattle.device.specs.Replies.{HasMoved, IsWritten, answer_of, block_at, block_for, block_message, short_message};
 ghost use Rattle.task_set.specs.Kept.{OpenTask};
-ghost use Rattle.task_set.specs.Lists.{read_at, task_at};
-ghost use Rattle.device.specs.Replies.{moved_on, owed_by, owed_in, without_first, without_task};
+ghost use Rattle.task_set.specs.Lists.{held_at, read_at, task_at};
+ghost use Rattle.device.specs.Replies.{area_reply, frames_message, moved_on, owed_by, owed_in, without_first};
+ghost use Rattle.device.specs.Replies.{without_task};
+ghost use Rattle.std.specs.Prelude.{length as count_tasks};
 
 use crate::device::Device;
-use crate::responses::{write_answer, write_block, write_data, write_ready, write_short};
-use task_set::{Phase, Sending, Status, Task, TaskEvent};
+use crate::responses::{
+    write_answer, write_block, write_data, write_frames, write_ready, write_ready_frames,
+    write_short,
+};
+use task_set::{Frames, Phase, Sending, Status, Task, TaskEvent};
 use ufs_spec::{Block, Looked, Name, Upiu};
 
 /// A block of zeros, as an address reads that was never written.
@@ -31,7 +36,7 @@ static ZEROS: Block = [0; 4096];
 
 /// What an address reads that was never written.
 #[tactic(auto, unfolding(ufs_spec::specs::Plain::zero_block))]
-fn zeros() -> &'static Block
+pub(crate) fn zeros() -> &'static Block
     ensures { result.now ≡ zero_block }
 {
     &ZEROS
@@ -42,6 +47,18 @@ fn zeros() -> &'static Block
 struct DueReply {
     index: usize,
     task: Task,
+}
+
+/// Writes the GOOD of a request for data, of a command of so many bytes, once it filled its register.
+fn write_area_read(task: &Task, length: u32, into: &mut Upiu) -> bool
+    ensures nothing { result ≡ false → into.new ≡ into.old }
+    ensures owed { IsWritten result into.new.items (area_reply task.now length) }
+{
+    if task.frames != Frames::Answered {
+        return false;
+    }
+    write_answer(task, Status::Good, length, into);
+    true
 }
 
 impl Device {
@@ -65,7 +82,8 @@ impl Device {
         ensures within { IfSome result (λ due. due.index < length self.now.tasks) }
         ensures there { IfSome result (λ due. task_at self.now.tasks due.index ≡ Some due.task) }
         ensures owed { IfSome result (λ due. (t : Translation) → IsLayer self.now.ftl t → IsWritten true into.new.items
-            (owed_in t (read_at self.now.tasks due.index) due.task due.task.phase)) }
+            (owed_in t (read_at self.now.tasks due.index) (held_at self.now.tasks due.index) due.task
+            due.task.phase)) }
         ensures nothing { IfNone result (into.new ≡ into.old) }
         ensures none { IfNone result ((t : Translation) (k : ℕ) (task : OpenTask) → IsLayer self.now.ftl t →
             slice_get self.now.tasks k ≡ Some task → owed_by t task ≡ None) }
@@ -84,18 +102,25 @@ impl Device {
         requires { index < length self.now.tasks }
         ensures nothing { result ≡ false → into.new ≡ into.old }
         ensures owed { (t : Translation) → IsLayer self.now.ftl t → IsWritten result into.new.items
-            (owed_in t (read_at self.now.tasks index) task.now task.now.phase) }
+            (owed_in t (read_at self.now.tasks index) (held_at self.now.tasks index) task.now task.now.phase) }
     {
         match task.phase {
             Phase::AskData { transfer } => {
                 write_ready(task, transfer, into);
                 true
             }
+            Phase::AskFrames { length } => {
+                write_ready_frames(task, length, into);
+                true
+            }
             Phase::AwaitData { transfer: _ } => false,
+            Phase::AwaitFrames { length: _ } => false,
             Phase::AwaitFrontier { number, length } => {
                 self.write_durable(task, number, length, into)
             }
+            Phase::ReadArea { reading } => write_area_read(task, reading.length, into),
             Phase::SendBlocks { sending } => self.write_next(index, task, sending, into),
+            Phase::SendFrames { length } => self.write_held(index, task, length, into),
             Phase::SendData { data } => {
                 write_data(task, data, into);
                 true
@@ -132,6 +157,20 @@ impl Device {
             return false;
         };
         write_block(task, sending, block, into);
+        true
+    }
+
+    /// Writes the DATA IN of the frames that the task at this position keeps.
+    fn write_held(&self, index: usize, task: &Task, length: u32, into: &mut Upiu) -> bool
+        requires { index < count_tasks self.now.tasks }
+        ensures nothing { result ≡ false → into.new ≡ into.old }
+        ensures owed { IsWritten result into.new.items
+            (option_map (frames_message task.now length) (held_at self.now.tasks index)) }
+    {
+        let Some(held) = self.set.held(index) else {
+            return false;
+        };
+        write_frames(task, length, held, into);
         true
     }
 
@@ -189,13 +228,14 @@ impl Device {
             HasMoved self.new.ftl t claims task.tag task.phase }
     {
         match task.phase {
-            Phase::AskData { transfer: _ } => {
+            Phase::AskData { transfer: _ } | Phase::AskFrames { length: _ } => {
                 self.happen(index, TaskEvent::DataAskedFor);
             }
-            Phase::AwaitData { transfer: _ } => {}
-            Phase::SendData { data: _ } => {
+            Phase::AwaitData { transfer: _ } | Phase::AwaitFrames { length: _ } => {}
+            Phase::SendData { data: _ } | Phase::SendFrames { length: _ } => {
                 self.happen(index, TaskEvent::DataSent);
             }
+            Phase::ReadArea { reading: _ } => self.end_task(index, task.tag),
             Phase::SendBlocks { sending } => {
                 self.block_sent(index, task.tag, sending.sent);
             }

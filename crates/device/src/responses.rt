@@ -5,7 +5,7 @@ ghost use Rattle.ufs_spec.specs.Exchanges.{CheckCondition, response, sense_data}
 ghost use Rattle.ufs_spec.specs.Messages.{IsMessage, IsQueryFunction, spelling};
 ghost use Rattle.upiu.specs.Replies.{message_of};
 ghost use Rattle.ufs_spec.specs.declared.Message.{Message};
-ghost use Rattle.device.specs.Replies.{answer_of, block_message, count_of, data_message, data_padded};
+ghost use Rattle.device.specs.Replies.{answer_of, block_message, count_of, data_message, data_padded, frames_message};
 ghost use Rattle.device.specs.Replies.{function_of, not_queried, short_message};
 ghost use Rattle.task_set.specs.Tasks.{status_kept};
 
@@ -254,4 +254,19 @@ pub(crate) fn write_ready(task: &Task, transfer: Transfer, into: &mut Upiu)
 {
     let offset = transfer.offset();
     upiu::write_ready_to_transfer(task.lun, task.tag, offset, BLOCK_BYTES, into);
+}
+
+/// Writes the READY TO TRANSFER for frames, which are asked for all at once (JESD220, 10.7.5).
+pub(crate) fn write_ready_frames(task: &Task, length: u32, into: &mut Upiu)
+    ensures { into.new.items ≡ spelling (Message.ReadyToTransfer task.now.lun task.now.tag 0 length) }
+{
+    upiu::write_ready_to_transfer(task.lun, task.tag, 0, length, into);
+}
+
+/// Writes the DATA IN of frames: the first of so many bytes, as many as the host expects, and at least one.
+pub(crate) fn write_frames(task: &Task, length: u32, held: &Block, into: &mut Upiu)
+    ensures { into.new.items ≡ spelling (frames_message task.now length held.now) }
+{
+    let count = (task.expected.min(length) as usize).clamp(1, BLOCK_BYTES as usize);
+    upiu::write_data_in(task.lun, task.tag, 0, &held[..count], into);
 }

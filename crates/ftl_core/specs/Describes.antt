@@ -370,9 +370,9 @@ pub record IsTaken (t : Translation) (die : ℕ) (told : Option Job) (after : Co
   pub shown : told ≡ option_map disk.job_of job
   pub describes : Describes after (given t die job)
 
--- what the end of a job tells: a read for a reader its block, or that it could not be had
+-- what the end of a job tells: a read for a reader the index of its block, and the block or that it could not be had
 abbrev pub IsTold : Cells → Option disk.Flight → Ending → Ended → Type 0
 IsTold cells (Some (disk.Reading (ForTask tag index) place)) ReadRight e =
-    (t : Tag) × (body : List ℕ) × (cells place ≡ GroupPage t body) × (e ≡ ended.Read tag (Some body))
-IsTold cells (Some (disk.Reading (ForTask tag index) place)) ReadWrong e = e ≡ ended.Read tag None
+    (t : Tag) × (body : List ℕ) × (cells place ≡ GroupPage t body) × (e ≡ ended.Read tag index (Some body))
+IsTold cells (Some (disk.Reading (ForTask tag index) place)) ReadWrong e = e ≡ ended.Read tag index None
 IsTold cells flight ending e = e ≡ ended.Other

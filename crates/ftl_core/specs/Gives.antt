@@ -110,7 +110,7 @@ IsGivenTo o (Some p) body = IsGiven o p body
 -- what the end of a read gives to its reader, if it has one still
 abbrev pub Gives : Core → Outcome → Reader → Ended → Type 0
 Gives c o (ForTask tag index) e =
-    (body : Option (List ℕ)) × IsGivenTo o (pin_of c tag index) body × (e ≡ ended.Read tag body)
+    (body : Option (List ℕ)) × IsGivenTo o (pin_of c tag index) body × (e ≡ ended.Read tag index body)
 Gives c o r e = e ≡ ended.Other
 
 -- a read is answered only if the outcome is one of a read; else the call has no answer

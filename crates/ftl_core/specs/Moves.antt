@@ -328,14 +328,19 @@ pin_of c reader index = find (is_pin_of reader index) c.pins
 abbrev pub looked_by : ℕ → ℕ → List Pin → Option Looked
 looked_by reader index ps = option_map (λ (p : Pin). p.looked) (find (is_pin_of reader index) ps)
 
--- what is kept of one of the blocks of a reader: what its address has now. The first is wanted
-abbrev pub pin_now : Core → ℕ → Key → ℕ → Pin
-pin_now c reader k i =
-    record { reader = reader; index = i; key = key_at k i; looked = look_of c (key_at k i); wanted = i == 0 }
+-- what is kept of one of the pages of a reader: what its address has now. All are wanted at once, or the first alone
+abbrev pub pin_now : Core → ℕ → Key → Bool → ℕ → Pin
+pin_now c reader k all i = record {
+  reader = reader;
+  index = i;
+  key = key_at k i;
+  looked = look_of c (key_at k i);
+  wanted = all || (i == 0);
+}
 
--- each of so many blocks from an address on is kept
-abbrev pub kept_all : Core → ℕ → Key → ℕ → Core
-kept_all c reader k n = record c { pins = c.pins ++ map (pin_now c reader k) (below n) }
+-- each of so many pages from an address on is kept
+abbrev pub kept_all : Core → ℕ → Key → Bool → ℕ → Core
+kept_all c reader k all n = record c { pins = c.pins ++ map (pin_now c reader k all) (below n) }
 
 -- the reader keeps nothing any more
 abbrev pub unpinned : Core → ℕ → Core

@@ -2,12 +2,13 @@
 -- what the calls tell, and which blocks lie in the slots that readers have claimed. How it is kept is no part of it.
 use Rattle.std.specs.Prelude.{◌≡◌, ℕ, ◌==◌, if◌then◌else◌, List, slice_set}
 use Rattle.ftl_core.specs.Moves.{claims_for}
+pub use Rattle.ftl_core.specs.Moves.{has_number}
 use Rattle.ftl_core.specs.Tells.{claims_of_blocks}
 pub use Rattle.ftl_core.specs.Core.{Core}
 pub use Rattle.ftl_core.specs.Describes.{Describes, IsTaken, IsTold, given}
 pub use Rattle.ftl_core.specs.Tells.{IsAwaited, IsGroupBrought, IsItemBrought, IsReadOf, PinsDiffer}
 pub use Rattle.ftl_core.specs.Tells.{group_of_blocks, items_behind}
-pub use Rattle.ftl_core.specs.Tells.{keeps_for, keeps_of, key_behind, looked_of}
+pub use Rattle.ftl_core.specs.Tells.{keeps_area_of, keeps_for, keeps_of, key_behind, looked_of}
 
 -- the reader has claimed a slot for each of these blocks, in which the block lies, in the order of their indexes
 abbrev pub AreClaimedBy : Core → ℕ → List (List ℕ) → Type 0

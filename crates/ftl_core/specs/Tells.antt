@@ -1,5 +1,5 @@
 -- What the calls of the layer tell of the layer that is specified.
-use Rattle.std.specs.Prelude.{◌≡◌, ℕ, ◌+◌, ◌==◌, Bool, true, false, List, [], ◌∷◌, Contains}
+use Rattle.std.specs.Prelude.{◌≡◌, ℕ, ◌+◌, ◌==◌, ◌||◌, Bool, true, false, List, [], ◌∷◌, Contains}
 use Rattle.std.specs.Prelude.{find, length, map, slice_get, Some}
 use Rattle.std.specs.List.{list_any}
 use Rattle.ufs_spec.specs.Keys.{Group, Item, below}
@@ -51,15 +51,20 @@ PinsDiffer (pin ∷ pins) = (list_any (is_pin_of pin.tag pin.index) pins ≡ fal
 abbrev pub key_behind : Key → ℕ → Key
 key_behind k i = record { kind = k.kind; unit = k.unit; address = k.address + i }
 
--- what is kept of each of so many blocks of a reader, from an address on: what its address has now. The first is wanted
-abbrev pub keep_at : Translation → ℕ → Key → ℕ → Move
-keep_at t reader k i =
+-- a reader keeps one of its pages, of those from an address on: what its address has now. All are wanted at once, or
+-- the first alone
+abbrev pub keep_at : Translation → ℕ → Key → Bool → ℕ → Move
+keep_at t reader k all i =
     Keep (key_behind k i)
-    (record { tag = reader; index = i; looked = look t.ledger (key_behind k i); wanted = i == 0 })
+    (record { tag = reader; index = i; looked = look t.ledger (key_behind k i); wanted = all || (i == 0) })
 
--- the moves by which a reader keeps so many blocks, from an address on
+-- the moves by which a reader keeps so many blocks, from an address on: the first is wanted
 abbrev pub keeps_of : Translation → ℕ → Key → ℕ → List Move
-keeps_of t reader k n = map (keep_at t reader k) (below n)
+keeps_of t reader k n = map (keep_at t reader k false) (below n)
+
+-- the moves by which a reader keeps so many pages of an area, from this one on: each is wanted at once
+abbrev pub keeps_area_of : Translation → ℕ → Key → ℕ → List Move
+keeps_area_of t reader k n = map (keep_at t reader k true) (below n)
 
 -- the items of a group of these blocks, from an address on
 abbrev pub items_behind : Key → ℕ → List (List ℕ) → Group

@@ -1,18 +1,17 @@
 //! The translation layer and its calls.
-ghost use Rattle.std.specs.Prelude.{◌≡◌, ℕ, ◌<◌, ◌≤◌, ◌+◌, ◌^◌, length, IsTrue, vec_capacity, IfOk, IsSome, IfSome, nat_le, nat_lt, ◌-◌, ◌++◌, ◌∷◌, [], if◌then◌else◌, slice_get, map, filter, not, None, true, option_copied, position, replicate, reverse, Bool, false, find, option_map, fold, List, take};
+ghost use Rattle.std.specs.Prelude.{◌≡◌, ℕ, ◌<◌, ◌≤◌, ◌+◌, ◌^◌, length, IsTrue, vec_capacity, IfOk, IsSome, IfSome, nat_le, nat_lt, ◌-◌, [], if◌then◌else◌, slice_get, map, filter, not, None, true, option_copied, position, replicate, reverse, Bool, false, find, option_map, fold, List, take};
 ghost use Rattle.std.specs.List.{list_any};
 ghost use Rattle.ftl_core.specs.Moves.{accepted, first_fence, first_mending, idle_row, is_bad_found};
 ghost use Rattle.ftl_core.specs.Moves.{is_over, mark_number_behind, opened, state_of_found};
-ghost use Rattle.ftl_core.specs.Moves.{stored_of_found, slot_of, is_pin_of, is_of_reader, looked_by, looked_on, pin_of, pin_now, kept_all, next_wanted, unpinned, look_of, stored_of, free_slots, is_locked, has_number, next_number, without_reader, without_block, wanted_now};
+ghost use Rattle.ftl_core.specs.Moves.{stored_of_found, slot_of, is_pin_of, is_of_reader, looked_by, looked_on, pin_of, next_wanted, unpinned, look_of, stored_of, free_slots, is_locked, has_number, next_number, without_reader, without_block, wanted_now};
 ghost use Rattle.unit_map.specs.Places.{position_of};
-ghost use Rattle.write_cache.specs.Slots.{is_page_of, key_at, last_of, last_page, is_named};
+ghost use Rattle.write_cache.specs.Slots.{is_page_of, last_of, last_page, is_named};
 ghost use Rattle.ftl_core.specs.Moves.{claims_for, claimed_all, released, filled};
 ghost use Rattle.write_cache.specs.Slots.{is_claim_of, empty_claim, claim_filled, page_claimed};
-ghost use Rattle.ufs_spec.specs.Keys.{IsKey, below};
 ghost use Rattle.ufs_spec.specs.Ledger.{next_number as next_of_layer, Entry, before_accepted, entry_of};
 ghost use Rattle.ufs_spec.specs.Moves.{Accept, Acknowledge, Claim, IsAllowedMove, LetGo, LetGoAll, Release, WantPage, moved, is_pin_of as is_layer_pin_of};
 ghost use Rattle.ufs_spec.specs.Pages.{greatest_number};
-ghost use Rattle.ufs_spec.specs.Plain.{shape_of_numbers, zero_block};
+ghost use Rattle.ufs_spec.specs.Plain.{zero_block};
 ghost use Rattle.ufs_spec.specs.Translation.{Translation, free_slots as layer_slots, is_live as is_live_page, is_locked as is_layer_locked, is_mended, is_rest_of, has_pending};
 ghost use Rattle.ufs_spec.specs.Cells.{AreWithin, Cells};
 ghost use Rattle.ufs_spec.specs.Sound.{CellsSound};
@@ -25,18 +24,19 @@ ghost use Rattle.ftl_core.specs.Describes.{Describes};
 ghost use Rattle.ftl_core.specs.Stops.{StopsRight};
 ghost use Rattle.ftl_core.specs.KnownLive.{live_moved, none_live, page_moved, with_stored};
 ghost use Rattle.block_table.specs.Lives.{is_live};
-ghost use Rattle.ftl_core.specs.Tells.{PinsDiffer, group_of_blocks, keeps_for, keeps_of, key_behind, looked_of};
+ghost use Rattle.ftl_core.specs.Tells.{group_of_blocks, looked_of};
 ghost use Rattle.ftl_core.specs.Public.{AreClaimed, Claims, AreClaimedBy, with_block, with_claimed};
 
 mod ends;
 mod facts;
+mod keeps;
 mod pin_counts;
 mod rests;
 mod room;
 mod takes;
 mod turns;
 
-use self::pin_counts::{pin_block, unpin_block_of, unpin_blocks};
+use self::pin_counts::{unpin_block_of, unpin_blocks};
 use crate::books::{Mending, Pin, Step};
 use block_table::{BlockState, BlockTable, LivePages, Sizes};
 use collector::Plan;
@@ -48,16 +48,20 @@ use ufs_spec::{
     Block, Fence, GREATEST_COMMAND, GREATEST_NUMBER, Key, Looked, MOST_TASKS, Name, Place, UnitSpec,
 };
 use unit_map::{Stored, UnitMap};
-use write_cache::{Cache, key_at};
+use write_cache::Cache;
 
 /// How many blocks readers may keep: each task those of a command.
 const MOST_PINS: usize = MOST_TASKS * GREATEST_COMMAND as usize;
 
-/// How a job ended, for whoever waits for it: a read gives its reader the block that it wants next, or
-/// nothing where it failed or the page is not the one that was looked up.
+/// How a job ended, for whoever waits for it: a read gives its reader the block of this index, or nothing
+/// where it failed or the page is not the one that was looked up.
 #[derive(Drop)]
 pub enum Ended {
-    Read { reader: u8, body: Option<Block> },
+    Read {
+        reader: u8,
+        index: u16,
+        body: Option<Block>,
+    },
     Other,
 }
 
@@ -547,60 +551,6 @@ impl Ftl {
         ensures described { (t : Translation) → Describes self.now t → result ≡ is_live_page t place }
     {
         self.live.is_live(place)
-    }
-
-    /// Keeps for this reader what each of so many addresses has now, from this one on. The reader is owed
-    /// the read of one at a time, the first of them first: where it is a page or becomes one. False, and
-    /// nothing is kept, where more than 1024 blocks would be kept.
-    pub fn keep(&mut self, reader: u8, key: Key, blocks: u16) -> bool
-        ensures found { result ≡ nat_le (length self.old.pins + blocks) 1024 }
-        ensures after { self.new ≡ (if result then kept_all self.old reader key blocks else self.old) }
-        ensures described_found { (t : Translation) → Describes self.old t →
-            result ≡ nat_le (length t.pins + blocks) 1024 }
-        // No block of a reader is kept twice, so that no more is kept than readers have blocks.
-        ensures described_differ { (t : Translation) → Describes self.old t → PinsDiffer t.pins }
-        // It is what the addresses look at, of a reader who keeps nothing yet.
-        ensures described { (t : Translation) → Describes self.old t → is_mended t.work.mending ≡ true →
-            key.kind ≡ 1 →
-            ((i : ℕ) → i < blocks → IsKey (shape_of_numbers t.numbers) (key_behind key i)) →
-            list_any (keeps_for reader) t.pins ≡ false →
-            Describes self.new (if result then fold moved t (keeps_of t reader key blocks) else t) }
-        ensures claims { (claims : Claims) → AreClaimed self.old claims → AreClaimed self.new claims }
-    {
-        self.has_numbers_in_range();
-        if self.pins.len() + blocks as usize > MOST_PINS {
-            return false;
-        }
-        self.pin_all(reader, key, blocks);
-        true
-    }
-
-    /// Keeps each of the blocks.
-    fn pin_all(&mut self, reader: u8, key: Key, blocks: u16)
-        requires { length self.old.pins + blocks ≤ 1024 }
-        ensures { self.new ≡ kept_all self.old reader key blocks }
-    {
-        for index in 0..blocks {
-            self.pin(reader, key, index);
-        }
-    }
-
-    /// Keeps one of the blocks.
-    fn pin(&mut self, reader: u8, key: Key, index: u16)
-        requires { length self.old.pins < 1024 }
-        ensures { self.new ≡ record self.old { pins = self.old.pins ++ pin_now self.old reader key index ∷ [] } }
-    {
-        let key = key_at(key, index);
-        let looked = self.look(key);
-        self.has_few_slots();
-        pin_block(&mut self.live, &looked);
-        self.pins.push_reserved(Pin {
-            reader,
-            index,
-            key,
-            looked,
-            wanted: index == 0,
-        });
     }
 
     /// The reader keeps nothing any more.

@@ -1,16 +1,23 @@
 -- Lists that are filled from the front, and the units of a device that are filled one after another.
 use Rattle.std.proofs.Common.{◌≡◌, ℕ, ◌+◌, ◌<◌, ◌≤◌, List, [], ◌∷◌, ◌++◌, length, map, take, drop, get_or}
-use Rattle.std.proofs.Common.{slice_set, sym, ap, ◌∙◌, refl, arith, append_assoc, drop-cons, suc}
+use Rattle.std.proofs.Common.{slice_set, sym, ap, ◌∙◌, refl, arith, append_assoc, drop-cons, suc, slice_index_or}
+use Rattle.std.proofs.Common.{Option, None, Some, subst}
+use Rattle.std.proofs.Common.{false, is_some, true}
+use Rattle.std.specs.Prelude.{IfSome}
+use Rattle.std.proofs.lemmas.Bool.{false≢true}
 use Rattle.std.proofs.Math.ListN.{set}
 use Rattle.std.proofs.lemmas.Grind.{common_steps}
 use Rattle.std.proofs.lemmas.List.{append-nil, drop_all, get_or-map, get_or-set_same, length-map}
 use Rattle.std.proofs.lemmas.List.{length-take-le, set_at, take_all, take_more, take_more_same}
-use Rattle.ufs_spec.specs.Plain.{Plain, Shape, shape_of, shape_of_numbers, unit_of, with_blocks, with_part, zero}
+use Rattle.ufs_spec.specs.Plain.{Plain, Shape, area_len, shape_of, shape_of_numbers, unit_of, with_blocks, with_part}
+use Rattle.ufs_spec.specs.Plain.{empty_region, new_region, region_of, with_region, zero, zero_area}
+use Rattle.ufs_spec.specs.Rpmb.{Region}
 use Rattle.std.specs.declared.vec.Vec.{Vec}
 use Rattle.ufs_spec.specs.declared.configs.Numbers.{Numbers}
 use Rattle.ufs_spec.specs.declared.configs.UnitSpec.{UnitSpec}
 use Rattle.ufs_spec.proofs.PlainFacts.{new_shape, one_part}
-use Rattle.journal.specs.Shown.{AreUnits, holding}
+use Rattle.journal.specs.Shown.{AreUnits, IsArea, area_found, holding}
+use Rattle.journal.specs.declared.kept.FoundRegion.{FoundRegion}
 
 -- one element more comes from the new list, the rest is still the old one's
 pub fill_more : {X : Type 0} (new old : List X) (i : ℕ) (x d : X) → i < length new → i < length old →
@@ -124,10 +131,106 @@ units_many {Z} blocks specs all =
     let third = length-map specs (λ (u : UnitSpec). u.blocks) in
     omega arith
 
--- the shape of a device whose units have their counts
-pub held_shape : (n : Numbers) (units : List (List (List ℕ))) → AreUnits n units →
-    shape_of (holding n units) ≡ shape_of_numbers n
-held_shape n units all =
-    ap (λ (bs : List ℕ). record { blocks = bs; areas = (shape_of (zero n)).areas }) all
-    ∙ ap (λ (areas : List ℕ). record { blocks = (shape_of_numbers n).blocks; areas = areas })
-    (ap (λ (s : Shape). s.areas) (new_shape n))
+-- ## The region
+
+-- the area of a new device has all its bytes
+zero_long : (n : Numbers) → length (zero_area n) ≡ area_len n
+zero_long n = ap (λ (s : Shape). slice_index_or s.areas 0 0) (new_shape n)
+
+-- the area that was found has them too
+found_long : (n : Numbers) (key : Option (List ℕ)) (area : List ℕ) →
+    IfSome key (λ (bytes : List ℕ). length area ≡ area_len n) → length (area_found n key area) ≡ area_len n
+found_long n None area h = zero_long n
+found_long n (Some bytes) area h = h
+
+-- ## The device
+
+-- the device with these units, whose region is new
+abbrev pub with_units : Numbers → List (List (List ℕ)) → Plain
+with_units n units = record (zero n) { units = units }
+
+-- the shape of a device whose units have their counts, and whose area has all its bytes
+pub held_shape : (n : Numbers) (units : List (List (List ℕ))) (region : FoundRegion) → AreUnits n units →
+    IsArea n region → shape_of (holding n units region) ≡ shape_of_numbers n
+held_shape n units region all whole =
+    ap (λ (bs : List ℕ). record { blocks = bs; areas = (shape_of (holding n units region)).areas }) all
+    ∙ ap (λ (long : ℕ). record { blocks = (shape_of_numbers n).blocks; areas = long ∷ [] })
+    (found_long n region.key region.area.now whole)
+
+-- a part as long as the whole is the whole
+whole_part : (new old : List ℕ) → length new ≡ length old → with_part 0 new old ≡ new
+whole_part new old same =
+    ap (λ (ys : List ℕ). new ++ ys) (drop_all (0 + length new) old (omega (arith, same))) ∙ append-nil new
+
+-- a region whose area, key and counter are set one after another
+abbrev pub set_all : Plain → List ℕ → Option (List ℕ) → ℕ → Plain
+set_all p bytes key counter =
+    let r = region_of p 0 in
+    let p1 = with_region 0 (record r { area = with_part 0 bytes r.area }) p in
+    let p2 = with_region 0 (record (region_of p1 0) { key = key }) p1 in
+    with_region 0 (record (region_of p2 0) { counter = counter }) p2
+
+pub all_set : (n : Numbers) (p : Plain) (bytes : List ℕ) (key : Option (List ℕ)) (counter : ℕ) →
+    p.regions ≡ new_region n ∷ [] → length bytes ≡ area_len n →
+    set_all p bytes key counter ≡ with_region 0 (record { key = key; area = bytes; counter = counter }) p
+all_set n p bytes key counter e long =
+    subst
+    (λ (rs : List Region). set_all (record p { regions = rs }) bytes key counter
+    ≡ with_region 0 (record { key = key; area = bytes; counter = counter }) (record p { regions = rs }))
+    (sym e)
+    (ap (λ (area : List ℕ). record p { regions = record { key = key; area = area; counter = counter } ∷ [] })
+    (whole_part bytes (zero_area n) (long ∙ sym (zero_long n))))
+
+-- without a key the area stays as it is
+abbrev pub set_rest : Plain → Option (List ℕ) → ℕ → Plain
+set_rest p key counter =
+    let p1 = with_region 0 (record (region_of p 0) { key = key }) p in
+    with_region 0 (record (region_of p1 0) { counter = counter }) p1
+
+pub rest_set : (n : Numbers) (p : Plain) (key : Option (List ℕ)) (counter : ℕ) → p.regions ≡ new_region n ∷ [] →
+    set_rest p key counter ≡ with_region 0 (record { key = key; area = zero_area n; counter = counter }) p
+rest_set n p key counter e =
+    subst
+    (λ (rs : List Region). set_rest (record p { regions = rs }) key counter
+    ≡ with_region 0 (record { key = key; area = zero_area n; counter = counter }) (record p { regions = rs }))
+    (sym e) refl
+
+-- under a key the area of a new region has room for the bytes that were found
+pub room_for : (n : Numbers) (p : Plain) (key : Option (List ℕ)) (bytes : List ℕ) → is_some key ≡ true →
+    p.regions ≡ new_region n ∷ [] → IfSome key (λ (k : List ℕ). length bytes ≡ area_len n) →
+    0 + length bytes ≤ length (region_of p 0).area
+room_for n p None bytes some e whole = absurd (false≢true some)
+room_for n p (Some k) bytes some e whole =
+    let here : length (region_of p 0).area ≡ length (zero_area n) =
+    ap (λ (rs : List Region). length (slice_index_or rs 0 empty_region).area) e in
+    let long = zero_long n in
+    omega (arith, here, long, whole)
+
+-- this key is set
+abbrev key_set : Option (List ℕ) → Plain → Plain
+key_set key p = with_region 0 (record (region_of p 0) { key = key }) p
+
+-- this counter is set
+abbrev counter_set : ℕ → Plain → Plain
+counter_set counter p = with_region 0 (record (region_of p 0) { counter = counter }) p
+
+-- under a key the area, the key and the counter were set
+pub found_set : (n : Numbers) (p p1 p2 p3 : Plain) (key : Option (List ℕ)) (bytes : List ℕ) (counter : ℕ) →
+    is_some key ≡ true → p.regions ≡ new_region n ∷ [] → IfSome key (λ (k : List ℕ). length bytes ≡ area_len n) →
+    p1 ≡ with_region 0 (record (region_of p 0) { area = with_part 0 bytes (region_of p 0).area }) p →
+    p2 ≡ with_region 0 (record (region_of p1 0) { key = key }) p1 →
+    p3 ≡ with_region 0 (record (region_of p2 0) { counter = counter }) p2 →
+    p3 ≡ with_region 0 (record { key = key; area = area_found n key bytes; counter = counter }) p
+found_set n p p1 p2 p3 None bytes counter some e whole first second third = absurd (false≢true some)
+found_set n p p1 p2 p3 (Some k) bytes counter some e whole first second third =
+    third ∙ ap (counter_set counter) (second ∙ ap (key_set (Some k)) first) ∙ all_set n p bytes (Some k) counter e whole
+
+-- without a key the counter was set, and the key to none
+pub none_set : (n : Numbers) (p p1 p2 p3 : Plain) (key : Option (List ℕ)) (bytes : List ℕ) (counter : ℕ) →
+    is_some key ≡ false → p.regions ≡ new_region n ∷ [] → p1 ≡ p →
+    p2 ≡ with_region 0 (record (region_of p1 0) { key = key }) p1 →
+    p3 ≡ with_region 0 (record (region_of p2 0) { counter = counter }) p2 →
+    p3 ≡ with_region 0 (record { key = key; area = area_found n key bytes; counter = counter }) p
+none_set n p p1 p2 p3 None bytes counter none e first second third =
+    third ∙ ap (counter_set counter) (second ∙ ap (key_set None) first) ∙ rest_set n p None counter e
+none_set n p p1 p2 p3 (Some k) bytes counter none e first second third = absurd (false≢true (sym none))

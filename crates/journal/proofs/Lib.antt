@@ -1,2 +1,4 @@
+mod AcceptedFrames
+mod AreaBlocks
 mod HeldUnits
 mod ShownFacts

@@ -4,10 +4,10 @@ use Rattle.std.proofs.Common.{slice_index_or, sym, ap, ◌∙◌, refl, subst, a
 use Rattle.std.proofs.lemmas.Bool.{cases_lt}
 use Rattle.std.proofs.lemmas.List.{length-map, get_or-map}
 use Rattle.ufs_spec.specs.Commands.{Command}
-use Rattle.ufs_spec.specs.Plain.{Plain, Shape, after, apply, shape_of, shape_of_numbers, unit_of}
+use Rattle.ufs_spec.specs.Plain.{CanApply, Plain, Shape, after, apply, shape_of, shape_of_numbers, unit_of}
 use Rattle.ufs_spec.specs.declared.configs.Numbers.{Numbers}
 use Rattle.ufs_spec.specs.declared.configs.UnitSpec.{UnitSpec}
-use Rattle.journal.specs.Shown.{IsShownAt}
+use Rattle.journal.specs.Shown.{CanFollow, IsShownAt}
 
 -- a unit that the numbers name is there, with as many blocks
 pub unit_there : (n : Numbers) (specs : List UnitSpec) (p : Plain) (i : ℕ) (d : UnitSpec) →
@@ -56,3 +56,10 @@ pub after_more : (p : Plain) (cs : List Command) (i : ℕ) (d : Command) → i <
 after_more p cs i d lt =
     let next : i + 1 ≡ suc i = omega arith in
     ap (λ (j : ℕ). after p (take j cs)) next ∙ after_next p cs i d lt
+
+-- a command of a list may come after the ones before it, if each may
+pub can_at : (p : Plain) (cs : List Command) (i : ℕ) (d : Command) → CanFollow p cs → i < length cs →
+    CanApply (after p (take i cs)) (get_or cs i d)
+can_at p [] i d h lt = absurd (omega arith)
+can_at p (c ∷ cs) zero d h lt = h.0
+can_at p (c ∷ cs) (suc i) d h lt = can_at (apply p c) cs i d h.1 (omega (arith, lt))

@@ -1,29 +1,36 @@
--- What the messages of a host and the replies to them tell of a life (JESD220, 10.7; SBC). A WRITE is accepted with
--- its last DATA OUT, unless a block is bad. What was accepted is acknowledged as durable by GOOD: a WRITE with FUA and
--- all before it by the WRITE's own, and what was accepted before the COMMAND of a SYNCHRONIZE CACHE without IMMED by
+-- What the messages of a host and the replies to them tell of a life (JESD220, 10.7 and 12.4; SBC; SPC). A WRITE is
+-- accepted with its last DATA OUT, unless a block is bad, and a key or a write of the RPMB with its frames, if they pass
+-- their checks. What was accepted is acknowledged as durable by GOOD: a WRITE with FUA, a key or a write of the RPMB, and
+-- all before it, by the command's own, and what was accepted before the COMMAND of a SYNCHRONIZE CACHE without IMMED by
 -- that one's.
 use Rattle.std.specs.Prelude.{ℕ, ◌+◌, ◌==◌, ◌&&◌, nat_le, not, max, Bool, false, if◌then◌else◌}
 use Rattle.std.specs.Prelude.{List, [], ◌∷◌, ◌++◌, length, take, drop, position, remove, slice_get, slice_index}
 use Rattle.std.specs.Prelude.{Option, Some, None}
 use Rattle.ufs_bytes.specs.Fields.{field_at}
 use Rattle.ufs_spec.specs.CdbFields.{is_forced, is_immediate, six_address}
-use Rattle.ufs_spec.specs.Cdbs.{six_blocks, synchronize_cache_10, write_10, write_6}
+use Rattle.ufs_spec.specs.Cdbs.{security_out, six_blocks, synchronize_cache_10, write_10, write_6}
 use Rattle.ufs_spec.specs.Commands.{Command}
 use Rattle.ufs_spec.specs.Messages.{is_short}
+use Rattle.rpmb.specs.Requests.{frames_of}
+use Rattle.rpmb.specs.declared.regions.RegionState.{RegionState}
+use Rattle.journal.specs.Requests.{accepted_by, state_after}
 use Rattle.journal.specs.Writes.{WriteBegun, is_whole, with_block, write_of}
+use Rattle.journal.specs.declared.messages.Awaited.{Awaited}
+use Rattle.journal.specs.declared.messages.Awaited.TheVariants.{Blocks, Frames, Nothing}
 use Rattle.journal.specs.declared.messages.OpenTask.{OpenTask}
 
--- the WRITEs that the life accepted, in order; how many of them, from the first on, were acknowledged as durable; the
--- commands that have no RESPONSE yet; whether a block is bad
+-- the commands that the life accepted, in order; how many of them, from the first on, were acknowledged as durable; the
+-- commands that have no RESPONSE yet; whether a block is bad; the key and the counter that the accepted ones made
 pub record Heard : Type 0 where
   pub commands : List Command
   pub held : ℕ
   pub tasks : List OpenTask
   pub locked : Bool
+  pub region : RegionState
 
--- a life begins: whatever it begins with, nothing came yet
-abbrev pub life_begun : Heard
-life_begun = record { commands = []; held = 0; tasks = []; locked = false }
+-- a life begins with this key and this counter: whatever else it begins with, nothing came yet
+abbrev pub life_begun : RegionState → Heard
+life_begun region = record { commands = []; held = 0; tasks = []; locked = false; region = region }
 
 -- ## The open commands
 
@@ -73,6 +80,16 @@ asked_write unit cdb =
 abbrev pub is_flush : List ℕ → Bool
 is_flush cdb = (slice_index cdb 0 == synchronize_cache_10) && not (is_immediate cdb)
 
+-- a command waits for the blocks of its WRITE, if it is one
+abbrev pub awaited_blocks : Option WriteBegun → Awaited
+awaited_blocks None = Nothing
+awaited_blocks (Some w) = Blocks w
+
+-- the data that a command with this CDB waits for: SECURITY PROTOCOL OUT brings frames (SPC)
+abbrev pub awaited_by : ℕ → List ℕ → Awaited
+awaited_by unit cdb =
+    if slice_index cdb 0 == security_out then Frames else awaited_blocks (asked_write unit cdb)
+
 -- how many of the accepted commands the GOOD of a CDB acknowledges, as it came
 abbrev pub promised_by : ℕ → List ℕ → ℕ
 promised_by accepted cdb = if is_flush cdb then accepted else 0
@@ -81,7 +98,7 @@ promised_by accepted cdb = if is_flush cdb then accepted else 0
 abbrev pub begun : Heard → ℕ → ℕ → List ℕ → Heard
 begun j unit tag cdb =
     with_open (record j { tasks = without tag j.tasks })
-    (record { tag = tag; write = asked_write unit cdb; promised = promised_by (length j.commands) cdb })
+    (record { tag = tag; awaited = awaited_by unit cdb; promised = promised_by (length j.commands) cdb })
 
 -- ## A DATA OUT
 
@@ -89,36 +106,49 @@ begun j unit tag cdb =
 abbrev pub block_of : List ℕ → Option (List ℕ)
 block_of message = if nat_le 4128 (length message) then Some (take 4096 (drop 32 message)) else None
 
--- the WRITE is accepted: its GOOD acknowledges it and all before it, if it has FUA
-abbrev pub accepted : Heard → OpenTask → WriteBegun → Heard
-accepted j t w =
-    with_open (record j { commands = j.commands ++ write_of w ∷ [] })
-    (record t { write = None; promised = (if w.forced then length j.commands + 1 else t.promised) })
+-- the command of this tag is open again, and waits for this; its GOOD acknowledges so many commands
+abbrev pub open_again : Heard → ℕ → ℕ → Awaited → Heard
+open_again j tag promised awaited = with_open j (record { tag = tag; awaited = awaited; promised = promised })
 
--- the WRITE of an open command has one block more: with its last it is accepted, unless a block is bad
-abbrev pub gathered : Heard → OpenTask → WriteBegun → Heard
-gathered j t w =
-    if is_whole w then if j.locked then with_open j (record t { write = None }) else accepted j t w
-    else with_open j (record t { write = Some w })
+-- the command is accepted
+abbrev pub with_command : Heard → Command → Heard
+with_command j c = record j { commands = j.commands ++ c ∷ [] }
 
--- a block came for this command: only a WRITE takes it
-abbrev pub taken : Heard → OpenTask → Option WriteBegun → List ℕ → Heard
-taken j t None block = with_open j t
-taken j t (Some w) block = gathered j t (with_block w block)
+-- all blocks of the WRITE came: it is accepted, unless a block is bad. Its GOOD acknowledges it and all before it, if it
+-- has FUA
+abbrev pub written : Heard → ℕ → ℕ → WriteBegun → Heard
+written j tag promised w =
+    if j.locked then open_again j tag promised Nothing
+    else open_again (with_command j (write_of w)) tag (if w.forced then length j.commands + 1 else promised) Nothing
+
+-- the WRITE has one block more; less than a block changes nothing
+abbrev pub gathered : Heard → ℕ → ℕ → WriteBegun → Option (List ℕ) → Heard
+gathered j tag promised w None = open_again j tag promised (Blocks w)
+gathered j tag promised w (Some block) =
+    if is_whole (with_block w block) then written j tag promised (with_block w block)
+    else open_again j tag promised (Blocks (with_block w block))
+
+-- the frames of a request came, of which this command is accepted, if one is: its GOOD acknowledges it and all before it
+abbrev pub brought : Heard → ℕ → ℕ → Option Command → Heard
+brought j tag promised None = open_again j tag promised Nothing
+brought j tag promised (Some c) =
+    open_again (record (with_command j c) { region = state_after j.region (Some c) }) tag (length j.commands + 1) Nothing
+
+-- the data of this message came for this command
+abbrev pub taken : Heard → OpenTask → Awaited → List ℕ → Heard
+taken j t Nothing message = open_again j t.tag t.promised Nothing
+taken j t (Blocks w) message = gathered j t.tag t.promised w (block_of message)
+taken j t Frames message =
+    brought j t.tag t.promised (accepted_by j.region j.locked (frames_of (drop 32 message)))
 
 -- data whose tag no open command has change nothing
 abbrev pub taken_by : Heard → Option OpenTask → List ℕ → Heard
-taken_by j None block = j
-taken_by j (Some t) block = taken j t t.write block
+taken_by j None message = j
+taken_by j (Some t) message = taken j t t.awaited message
 
--- a block came for the command with this tag
+-- the data of this message came for the command with this tag
 abbrev pub received : Heard → ℕ → List ℕ → Heard
-received j tag block = taken_by (record j { tasks = without tag j.tasks }) (open_with tag j.tasks) block
-
--- a DATA OUT with less than a block changes nothing
-abbrev pub received_from : Heard → ℕ → Option (List ℕ) → Heard
-received_from j tag None = j
-received_from j tag (Some block) = received j tag block
+received j tag message = taken_by (record j { tasks = without tag j.tasks }) (open_with tag j.tasks) message
 
 -- ## What a message and a reply tell
 
@@ -128,7 +158,7 @@ heard j message =
     if is_short message then j
     else if slice_index message 0 == 0x01
     then begun j (slice_index message 2) (slice_index message 3) (drop 16 message)
-    else if slice_index message 0 == 0x02 then received_from j (slice_index message 3) (block_of message)
+    else if slice_index message 0 == 0x02 then received j (slice_index message 3) message
     else j
 
 -- the response and the status are zero: target success, and GOOD

@@ -1,3 +1,4 @@
 pub mod Heard
+pub mod Requests
 pub mod Shown
 pub mod Writes

@@ -1,8 +1,12 @@
--- What it means that found blocks are those of a plain device, and the plain device that a life begins with.
-use Rattle.std.specs.Prelude.{◌≡◌, ◌<◌, ℕ, List, [], length, map, slice_get, slice_index_or, Some}
-use Rattle.ufs_spec.specs.Commands.{Command, Write}
-use Rattle.ufs_spec.specs.Plain.{Plain, FitsIn, block_at, shape_of_numbers, unit_of, zero}
+-- What it means that what was found is what a plain device holds, and the plain device that a life begins with.
+use Rattle.std.specs.Prelude.{◌≡◌, ◌<◌, ℕ, List, [], ◌∷◌, length, map, slice_get, slice_index_or, IfSome, Option, Some}
+use Rattle.std.specs.Prelude.{None}
+use Rattle.ufs_spec.specs.Commands.{Command}
+use Rattle.ufs_spec.specs.Plain.{CanApply, Plain, apply, area_len, block_at, region_of, shape_of_numbers, unit_of}
+use Rattle.ufs_spec.specs.Plain.{with_region, zero, zero_area}
+use Rattle.ufs_spec.specs.Rpmb.{Region}
 use Rattle.ufs_spec.specs.declared.configs.Numbers.{Numbers}
+use Rattle.journal.specs.declared.kept.FoundRegion.{FoundRegion}
 
 -- at this address of this unit the block of the plain device was found
 abbrev pub IsShownAt : List (List (List ℕ)) → Plain → ℕ → ℕ → Type 0
@@ -13,15 +17,42 @@ abbrev pub Shows : List (List (List ℕ)) → Plain → Type 0
 Shows found p =
     (unit address : ℕ) → unit < length p.units → address < length (unit_of unit p) → IsShownAt found p unit address
 
--- the command is a write of 1 to 32 blocks that are there; no other kind of command comes from a script
-abbrev pub IsWriteWithin : Numbers → Command → Type 0
-IsWriteWithin n (Write unit address blocks) = FitsIn n (Write unit address blocks)
-IsWriteWithin n _ = ⊥
+-- the key and the counter of the region were found, and under a key the bytes of its area. Without a key no area can be
+-- read, and none was ever written
+abbrev pub ShowsRegion : FoundRegion → Region → Type 0
+ShowsRegion found region =
+    (found.key ≡ region.key) × (found.counter ≡ region.counter)
+    × IfSome found.key (λ key. found.area.now ≡ region.area)
+
+-- all of it was found: the blocks of each unit and the RPMB region
+abbrev pub ShowsAll : List (List (List ℕ)) → FoundRegion → Plain → Type 0
+ShowsAll found region p = Shows found p × ShowsRegion region (region_of p 0)
+
+-- each of the commands may come in the state that the ones before it make
+abbrev pub CanFollow : Plain → List Command → Type 0
+CanFollow p [] = Unit {0}
+CanFollow p (c ∷ cs) = CanApply p c × CanFollow (apply p c) cs
+
+-- ## The plain device that a life begins with
 
 -- these are blocks of as many units as the numbers say, for each unit as many as it has
 abbrev pub AreUnits : Numbers → List (List (List ℕ)) → Type 0
 AreUnits n units = map length units ≡ (shape_of_numbers n).blocks
 
--- the plain device whose units hold these blocks, and which is new in all else
-abbrev pub holding : Numbers → List (List (List ℕ)) → Plain
-holding n units = record (zero n) { units = units }
+-- under a key the whole area was found
+abbrev pub IsArea : Numbers → FoundRegion → Type 0
+IsArea n found = IfSome found.key (λ key. length found.area.now ≡ area_len n)
+
+-- the bytes of the area, which are zeros without a key
+abbrev pub area_found : Numbers → Option (List ℕ) → List ℕ → List ℕ
+area_found n None area = zero_area n
+area_found n (Some key) area = area
+
+-- the region that was found
+abbrev pub region_found : Numbers → FoundRegion → Region
+region_found n found =
+    record { key = found.key; area = area_found n found.key found.area.now; counter = found.counter }
+
+-- the plain device whose units hold these blocks, with this RPMB region, and which is new in all else
+abbrev pub holding : Numbers → List (List (List ℕ)) → FoundRegion → Plain
+holding n units region = with_region 0 (region_found n region) (record (zero n) { units = units })

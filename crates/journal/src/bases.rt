@@ -1,13 +1,15 @@
-//! The plain device that a life begins with, made of the blocks that were read.
-ghost use Rattle.std.specs.Prelude.{◌≡◌, ◌<◌, IfNone, IfOk, IfSome, false, length, map, slice_set, true};
-ghost use Rattle.ufs_spec.specs.Plain.{shape_of, shape_of_numbers, unit_of};
-ghost use Rattle.journal.specs.Shown.{AreUnits, holding};
+//! The plain device that a life begins with, made of what was read.
+ghost use Rattle.std.specs.Prelude.{◌≡◌, ◌<◌, ◌∷◌, [], IfNone, IfOk, IfSome, false, length, map, slice_set, true};
+ghost use Rattle.ufs_spec.specs.Plain.{new_region, shape_of, shape_of_numbers, unit_of, with_region};
+ghost use Rattle.ufs_spec.specs.declared.configs.Numbers.{Numbers};
+ghost use Rattle.journal.specs.Shown.{AreUnits, IsArea, holding, region_found};
 
+use crate::kept::{FoundRegion, area_bytes};
 use std::alloc::Global;
 use ufs_spec::{Block, NoMemory, Numbers, PlainDevice, UnitSpec};
 
-/// A plain device that holds these blocks, unit by unit, and is new in all else; `None` where a unit is
-/// missing, one is too many, or one has not its count of blocks.
+/// A plain device that holds these blocks, unit by unit, and this region, and is new in all else; `None` where a
+/// unit is missing, one is too many, one has not its count of blocks, or the area has not its count of bytes.
 ///
 /// # Errors
 ///
@@ -16,13 +18,16 @@ pub fn device_holding(
     alloc: Global,
     numbers: &Numbers,
     blocks: &[Vec<Block>],
+    region: &FoundRegion<'_>,
 ) -> Result<Option<PlainDevice>, NoMemory>
-    ensures some { IfOk result (λ o. IfSome o (λ p. p ≡ holding numbers.now (map (λ v. v.items) blocks.now))) }
+    ensures some { IfOk result (λ o. IfSome o (λ p.
+        p ≡ holding numbers.now (map (λ v. v.items) blocks.now) region.now)) }
     ensures shape { IfOk result (λ o. IfSome o (λ p. shape_of p ≡ shape_of_numbers numbers.now)) }
-    ensures none { IfOk result (λ o. IfNone o (AreUnits numbers.now (map (λ v. v.items) blocks.now) → ⊥)) }
+    ensures none { IfOk result (λ o. IfNone o (AreUnits numbers.now (map (λ v. v.items) blocks.now) →
+        IsArea numbers.now region.now → ⊥)) }
 {
     let specs = numbers.units.as_slice();
-    if !are_units(specs, blocks) {
+    if !are_units(specs, blocks) || !is_area(numbers, region) {
         return Ok(None);
     }
     let mut plain = PlainDevice::new(alloc, numbers)?;
@@ -34,7 +39,32 @@ pub fn device_holding(
             blocks[index].as_slice(),
         );
     }
+    set_region(&mut plain, region);
     Ok(Some(plain))
+}
+
+/// Whether the whole area was found, if there is a key.
+fn is_area(numbers: &Numbers, region: &FoundRegion<'_>) -> bool
+    ensures whole { result ≡ true → IsArea numbers.now region.now }
+    ensures other { result ≡ false → IsArea numbers.now region.now → ⊥ }
+{
+    match region.key {
+        Some(_) => region.area.len() == area_bytes(numbers),
+        None => true,
+    }
+}
+
+/// The region of a device in which it is new becomes this one.
+fn set_region(plain: &mut PlainDevice, region: &FoundRegion<'_>)
+    requires { (n : Numbers) × (plain.old.regions ≡ new_region n ∷ []) × IsArea n region.now }
+    ensures { (n : Numbers) → plain.old.regions ≡ new_region n ∷ [] → IsArea n region.now →
+        plain.new ≡ with_region 0 (region_found n region.now) plain.old }
+{
+    if region.key.is_some() {
+        plain.set_area(0, 0, region.area);
+    }
+    plain.set_key(0, region.key);
+    plain.set_counter(0, region.counter);
 }
 
 /// Whether there are as many units, each with its count of blocks.

@@ -1,13 +1,29 @@
-//! Whether the blocks that a device shows are those of a plain device after a prefix of commands.
-ghost use Rattle.std.specs.Prelude.{◌≡◌, ◌+◌, ◌<◌, ◌≤◌, ◌↔◌, ℕ, All, IfNone, IfSome, None, false, length, map};
-ghost use Rattle.std.specs.Prelude.{slice_get, slice_index_or, Some, take, true};
+//! Whether what a device shows is what a plain device holds after a prefix of commands.
+ghost use Rattle.std.specs.Prelude.{◌≡◌, ◌+◌, ◌*◌, ◌^◌, ◌<◌, ◌≤◌, ◌↔◌, ℕ, IfErr, IfNone, IfSome, IsOk, None, false, length};
+ghost use Rattle.std.specs.Prelude.{map, slice_get, slice_index_or, Some, take, true};
 ghost use Rattle.ufs_spec.specs.Commands.{command_of};
-ghost use Rattle.ufs_spec.specs.Plain.{Plain, CanApply, after, apply, block_at, greatest_command, shape_of, shape_of_numbers, unit_of};
-ghost use Rattle.journal.specs.Shown.{IsShownAt, IsWriteWithin, Shows};
+ghost use Rattle.ufs_spec.specs.Plain.{CanApply, FindsCounter, FitsIn, IsAreaPart, LiesWithin, Plain, after, apply};
+ghost use Rattle.ufs_spec.specs.Plain.{area_len, block_at, greatest_command, region_of, shape_of, shape_of_numbers, unit_of};
+ghost use Rattle.journal.specs.Shown.{CanFollow, IsShownAt, Shows, ShowsAll};
 
+use ufs_spec::codes::REGIONS;
 use ufs_spec::{
     Block, Cmd, GREATEST_COMMAND, Numbers, PlainDevice, UnitSpec, commands_keep_the_shape,
 };
+
+/// How many bytes a key has.
+const KEY: usize = 32;
+
+/// What was found of the region of the replay protected memory block.
+#[derive(Clone, Copy)]
+pub struct FoundRegion<'a> {
+    /// The key, if one is set.
+    pub key: Option<[u8; 32]>,
+    /// How many writes the area has had.
+    pub counter: u32,
+    /// The bytes of the area, if a key is set: without one none can be read.
+    pub area: &'a [u8],
+}
 
 /// Where a block is.
 #[derive(Clone, Copy)]
@@ -16,22 +32,23 @@ struct Spot {
     address: u32,
 }
 
-/// Whether the first commands, the first `held` of them at least, make of the base a device whose blocks
-/// are those found, unit by unit. The base is led through the commands, so it is used up.
+/// Whether the first commands, the first `held` of them at least, make of the base a device which holds what was
+/// found: these blocks, unit by unit, and this region. The base is led through the commands, so it is used up.
 pub fn is_kept(
     numbers: &Numbers,
     base: PlainDevice,
     commands: &[Cmd],
     held: usize,
     found: &[Vec<Block>],
+    region: &FoundRegion<'_>,
 ) -> bool
     requires shape { shape_of base ≡ shape_of_numbers numbers.now }
     ensures kept { result ≡ true → (k : ℕ) × (held ≤ k) × (k ≤ length commands.now)
-        × Shows (map (λ v. v.items) found.now) (after base (take k (map command_of commands.now))) }
-    // Where each command is a write within the numbers, the answer false says that no prefix is there.
-    ensures lost { result ≡ false → All (IsWriteWithin numbers.now) (map command_of commands.now)
+        × ShowsAll (map (λ v. v.items) found.now) region.now (after base (take k (map command_of commands.now))) }
+    // Where each command can come when it does, the answer false says that no prefix is there.
+    ensures lost { result ≡ false → CanFollow base (map command_of commands.now)
         → (k : ℕ) → held ≤ k → k ≤ length commands.now
-        → Shows (map (λ v. v.items) found.now) (after base (take k (map command_of commands.now))) → ⊥ }
+        → ShowsAll (map (λ v. v.items) found.now) region.now (after base (take k (map command_of commands.now))) → ⊥ }
 {
     let mut plain = base;
     // A block that was not the plain device's. While it is not, no other has to be looked at.
@@ -41,23 +58,23 @@ pub fn is_kept(
     };
     for (index, command) in commands.iter().enumerate() {
         if index >= held {
-            match difference(numbers, found, &plain, other) {
-                Some(spot) => other = spot,
-                None => return true,
+            match compare(numbers, found, region, &plain, other) {
+                Err(spot) => other = spot,
+                Ok(()) => return true,
             }
         }
-        if !is_write_within(numbers, command) {
+        if !can_apply(numbers, &plain, command) {
             return false;
         }
         apply_command(numbers, &mut plain, command);
     }
-    held <= commands.len() && difference(numbers, found, &plain, other).is_none()
+    held <= commands.len() && compare(numbers, found, region, &plain, other).is_ok()
 }
 
-/// Does a command that lies within the numbers.
+/// Does a command that can come.
 fn apply_command(numbers: &Numbers, plain: &mut PlainDevice, command: &Cmd)
     requires shape { shape_of plain.old ≡ shape_of_numbers numbers.now }
-    requires within { IsWriteWithin numbers.now (command_of command.now) }
+    requires can { CanApply plain.old (command_of command.now) }
     ensures applied { plain.new ≡ apply plain.old (command_of command.now) }
     ensures shape { shape_of plain.new ≡ shape_of_numbers numbers.now }
 {
@@ -65,18 +82,60 @@ fn apply_command(numbers: &Numbers, plain: &mut PlainDevice, command: &Cmd)
     plain.apply(command);
 }
 
-/// Whether the command is a write of blocks that are there.
-pub fn is_write_within(numbers: &Numbers, command: &Cmd) -> bool
-    ensures within { result ≡ true → IsWriteWithin numbers.now (command_of command.now) }
-    ensures beyond { result ≡ false → IsWriteWithin numbers.now (command_of command.now) → ⊥ }
+/// Whether the command can come in this state: it names only what is there, and a write of the replay protected
+/// memory block finds the counter below its end.
+pub fn can_apply(numbers: &Numbers, plain: &PlainDevice, command: &Cmd) -> bool
+    requires { shape_of plain.now ≡ shape_of_numbers numbers.now }
+    ensures can { result ≡ true → CanApply plain.now (command_of command.now) }
+    ensures cannot { result ≡ false → CanApply plain.now (command_of command.now) → ⊥ }
 {
+    fits_in(numbers, command) && finds_counter(plain, command)
+}
+
+/// Whether the command names only what a device with these numbers has.
+fn fits_in(numbers: &Numbers, command: &Cmd) -> bool
+    ensures fits { result ≡ true → FitsIn numbers.now (command_of command.now) }
+    ensures beyond { result ≡ false → FitsIn numbers.now (command_of command.now) → ⊥ }
+{
+    let units = numbers.units.as_slice();
     match command {
         Cmd::Write {
             unit,
             address,
             blocks,
-        } => is_within(numbers.units.as_slice(), *unit, *address, blocks.len()),
-        _ => false,
+        } => is_within(units, *unit, *address, blocks.len()),
+        Cmd::Zero {
+            unit,
+            address,
+            count,
+        } => is_within(units, *unit, *address, usize::from(*count)),
+        Cmd::SetKey { region, key } => *region < REGIONS && is_key(key),
+        Cmd::RpmbWrite {
+            region,
+            address,
+            bytes,
+        } => *region < REGIONS && is_area_part(numbers, *address, bytes.len()),
+        Cmd::SetBoot(boot) => *boot <= 2,
+        Cmd::SetPermanent => true,
+    }
+}
+
+/// Whether these are as many bytes as a key has.
+fn is_key(bytes: &[u8]) -> bool
+    ensures { result ≡ true ↔ length bytes.now ≡ 32 }
+{
+    bytes.len() == KEY
+}
+
+/// Whether it is no write of the replay protected memory block, or finds the counter below its end.
+fn finds_counter(plain: &PlainDevice, command: &Cmd) -> bool
+    requires { LiesWithin (shape_of plain.now) (command_of command.now) }
+    ensures below { result ≡ true → FindsCounter plain.now (command_of command.now) }
+    ensures ended { result ≡ false → FindsCounter plain.now (command_of command.now) → ⊥ }
+{
+    match command {
+        Cmd::RpmbWrite { region, .. } => plain.counter(*region) < u32::MAX,
+        _ => true,
     }
 }
 
@@ -92,6 +151,89 @@ fn is_within(units: &[UnitSpec], unit: u8, address: u32, count: usize) -> bool
                 && address as usize + count <= spec.blocks as usize
         }
         None => false,
+    }
+}
+
+/// Whether so many bytes are 1 to 8 blocks of 256 bytes, all of them in an area from this address on.
+fn is_area_part(numbers: &Numbers, address: u16, count: usize) -> bool
+    ensures { result ≡ true ↔ IsAreaPart (shape_of_numbers numbers.now) 0 address count }
+{
+    are_area_blocks(count) && 256 * usize::from(address) + count <= area_bytes(numbers)
+}
+
+/// Whether so many bytes are 1 to 8 blocks of 256 bytes.
+fn are_area_blocks(count: usize) -> bool
+    ensures { result ≡ true ↔ ((blocks : ℕ) × (count ≡ 256 * blocks) × (1 ≤ blocks) × (blocks ≤ 8)) }
+{
+    if count == 0 {
+        return false;
+    }
+    count <= 2048 && count % 256 == 0
+}
+
+/// How many bytes the area has.
+pub(crate) fn area_bytes(numbers: &Numbers) -> usize
+    ensures long { result ≡ area_len numbers.now }
+    ensures fits { result < 2 ^ 26 }
+{
+    131_072 * usize::from(numbers.rpmb)
+}
+
+/// Whether this is what the plain device holds. If it is not, a block is told that was not found, so far as one is
+/// known; from the hint on it is looked for first.
+fn compare(
+    numbers: &Numbers,
+    found: &[Vec<Block>],
+    region: &FoundRegion<'_>,
+    plain: &PlainDevice,
+    hint: Spot,
+) -> Result<(), Spot>
+    requires { shape_of plain.now ≡ shape_of_numbers numbers.now }
+    ensures same { IsOk result → ShowsAll (map (λ v. v.items) found.now) region.now plain.now }
+    ensures other { IfErr result (λ s. ShowsAll (map (λ v. v.items) found.now) region.now plain.now → ⊥) }
+{
+    // Each write of the area has another counter, so that bytes of the area are seldom looked at.
+    if !is_same_key(region.key, plain.key(0)) || region.counter != plain.counter(0) {
+        return Err(hint);
+    }
+    if let Some(spot) = difference(numbers, found, plain, hint) {
+        return Err(spot);
+    }
+    if has_area(region, plain) {
+        Ok(())
+    } else {
+        Err(hint)
+    }
+}
+
+/// Whether both have the same key, or none.
+fn is_same_key(one: Option<[u8; 32]>, other: Option<[u8; 32]>) -> bool
+    ensures same { result ≡ true → one ≡ other }
+    ensures differ { result ≡ false → one ≡ other → ⊥ }
+{
+    match (one, other) {
+        (Some(one), Some(other)) => is_equal(&one, &other),
+        (None, None) => true,
+        _ => false,
+    }
+}
+
+/// Whether the bytes are equal.
+fn is_equal(bytes: &[u8], other: &[u8]) -> bool
+    ensures same { result ≡ true → bytes.now ≡ other.now }
+    ensures differ { result ≡ false → bytes.now ≡ other.now → ⊥ }
+{
+    bytes == other
+}
+
+/// Whether the bytes of the area are those of the plain device, if there is a key.
+fn has_area(region: &FoundRegion<'_>, plain: &PlainDevice) -> bool
+    ensures same { result ≡ true → IfSome region.now.key (λ key. region.now.area.now ≡ (region_of plain.now 0).area) }
+    ensures other { result ≡ false → IfSome region.now.key (λ key. region.now.area.now ≡ (region_of plain.now 0).area) → ⊥ }
+{
+    match region.key {
+        Some(_) => is_equal(region.area, plain.area(0)),
+        None => true,
     }
 }
 
@@ -173,12 +315,4 @@ fn is_block(blocks: &[Block], address: u32, block: &Block) -> bool
 {
     let at = address as usize;
     at < blocks.len() && is_equal(&blocks[at], block)
-}
-
-/// Whether the two blocks are equal.
-fn is_equal(block: &Block, other: &Block) -> bool
-    ensures same { result ≡ true → block.now ≡ other.now }
-    ensures differ { result ≡ false → block.now ≡ other.now → ⊥ }
-{
-    block == other
 }

@@ -2,10 +2,15 @@
 //! as far as the messages of its host and its replies tell.
 ghost use Rattle.std.specs.Prelude.{◌≡◌, ◌++◌, ◌∷◌, [], ◌+◌, ◌<◌, ◌≤◌, IfOk, IfSome, OnOk, length, map, position, true};
 ghost use Rattle.ufs_spec.specs.Commands.{command_of};
-ghost use Rattle.journal.specs.Heard.{answered, asked_write, begun, begun_write, block_of, has_tag, heard, is_flush};
+ghost use Rattle.journal.specs.Heard.{answered, asked_write, awaited_by, begun, begun_write, block_of, brought};
+ghost use Rattle.journal.specs.Heard.{gathered, has_tag, heard, is_flush, written};
 ghost use Rattle.journal.specs.Heard.{life_begun, open_with, received, taken, told, with_open, without};
+ghost use Rattle.journal.specs.Requests.{accepted_by};
 ghost use Rattle.journal.specs.Writes.{is_whole, with_block, write_of};
+ghost use Rattle.rpmb.specs.Requests.{frames_of};
 
+use crate::requests::{accepted_by, command_of, raise};
+use rpmb::{RegionState, whole_frames};
 use std::alloc::Global;
 use std::marker::Model;
 use ufs_spec::codes::{COMMAND, DATA_OUT, RESPONSE};
@@ -20,6 +25,8 @@ pub struct Journal {
     tasks: Vec<OpenTask>,
     /// Whether a block went bad, so that no further write is accepted.
     is_locked: bool,
+    /// What the commands made of the key and the counter of the replay protected memory block.
+    region: RegionState,
 }
 
 impl Model for Journal {
@@ -34,6 +41,7 @@ impl Model for Journal {
       held = j.held;
       tasks = j.tasks.items;
       locked = j.is_locked;
+      region = j.region;
     } };
 }
 
@@ -41,10 +49,20 @@ impl Model for Journal {
 #[derive(Drop)]
 struct OpenTask {
     tag: u8,
-    /// The write whose data come; `None` once they came, and for another command.
-    write: Option<OpenWrite>,
+    awaited: Awaited,
     /// How many commands, from the first one on, its GOOD acknowledges as durable.
     promised: usize,
+}
+
+/// The data that are still to come for a command.
+#[derive(Drop)]
+enum Awaited {
+    /// None: they came, or it has none.
+    Nothing,
+    /// The blocks of a write.
+    Blocks(OpenWrite),
+    /// The frames of a request to the replay protected memory block.
+    Frames,
 }
 
 /// A write of `count` blocks, and those of them that came.
@@ -77,6 +95,8 @@ const WRITE_10: u8 = 0x2A;
 
 const SYNCHRONIZE_CACHE_10: u8 = 0x35;
 
+const SECURITY_OUT: u8 = 0xB5;
+
 /// FUA, bit 3 of byte 1 of a CDB.
 const FUA: u8 = 0x08;
 
@@ -87,15 +107,16 @@ const IMMED: u8 = 0x02;
 const HEADER: usize = 32;
 
 impl Journal {
-    /// A life begins.
-    pub fn new(alloc: Global) -> Journal
-        ensures { result ≡ life_begun }
+    /// A life begins, with this key and this counter of the replay protected memory block.
+    pub fn new(alloc: Global, region: RegionState) -> Journal
+        ensures { result ≡ life_begun region }
     {
         Journal {
             commands: Vec::new(alloc),
             held: 0,
             tasks: Vec::new(alloc),
             is_locked: false,
+            region,
         }
     }
 
@@ -114,6 +135,13 @@ impl Journal {
         self.held
     }
 
+    /// What all commands made of the key and the counter of the replay protected memory block.
+    pub fn region(&self) -> RegionState
+        ensures { result ≡ self.now.region }
+    {
+        self.region
+    }
+
     /// The device took a message of the host.
     ///
     /// # Errors
@@ -127,10 +155,7 @@ impl Journal {
         }
         match message[0] {
             COMMAND => self.begin(alloc, message[2], message[3], &message[16..]),
-            DATA_OUT => match block_in(message) {
-                Some(block) => self.receive(message[3], block),
-                None => Ok(()),
-            },
+            DATA_OUT => self.receive(alloc, message[3], message),
             _ => Ok(()),
         }
     }
@@ -146,10 +171,10 @@ impl Journal {
         } else {
             0
         };
-        let write = write_asked(alloc, unit, cdb);
+        let awaited = awaited_by(alloc, unit, cdb);
         self.open_task(OpenTask {
             tag,
-            write,
+            awaited,
             promised,
         })
     }
@@ -164,30 +189,53 @@ impl Journal {
         }
     }
 
-    // A block came for the open command with this tag.
-    fn receive(&mut self, tag: u8, block: Block) -> Result<(), NoMemory>
-        ensures { OnOk result (self.new ≡ received self.old tag block) }
+    // The data of this message came for the open command with this tag.
+    fn receive(&mut self, alloc: Global, tag: u8, message: &[u8]) -> Result<(), NoMemory>
+        requires { 32 ≤ length message.now }
+        ensures { OnOk result (self.new ≡ received self.old tag message.now) }
     {
         match close(&mut self.tasks, tag) {
-            Some(task) => self.take_block(task, block),
+            Some(task) => self.take_data(alloc, task, message),
             None => Ok(()),
         }
     }
 
-    // A block came for this command, which is open again afterwards. With the last block its write is
-    // accepted, if no block of the device is bad.
-    fn take_block(&mut self, task: OpenTask, block: Block) -> Result<(), NoMemory>
-        ensures { OnOk result (self.new ≡ taken self.old task task.write block) }
+    // The data of this message came for this command, which is open again afterwards.
+    fn take_data(&mut self, alloc: Global, task: OpenTask, message: &[u8]) -> Result<(), NoMemory>
+        requires { 32 ≤ length message.now }
+        ensures { OnOk result (self.new ≡ taken self.old task task.awaited message.now) }
     {
         let OpenTask {
             tag,
-            write,
+            awaited,
             promised,
         } = task;
-        let Some(mut write) = write else {
+        match awaited {
+            Awaited::Nothing => self.open_task(OpenTask {
+                tag,
+                awaited: Awaited::Nothing,
+                promised,
+            }),
+            Awaited::Blocks(write) => self.take_block(tag, promised, write, block_in(message)),
+            Awaited::Frames => self.take_frames(alloc, tag, promised, &message[HEADER..]),
+        }
+    }
+
+    // A block came for this write of the command with this tag, or less than a block, which changes nothing.
+    fn take_block(
+        &mut self,
+        tag: u8,
+        promised: usize,
+        write: OpenWrite,
+        block: Option<Block>,
+    ) -> Result<(), NoMemory>
+        ensures { OnOk result (self.new ≡ gathered self.old tag promised write block) }
+    {
+        let mut write = write;
+        let Some(block) = block else {
             return self.open_task(OpenTask {
                 tag,
-                write: None,
+                awaited: Awaited::Blocks(write),
                 promised,
             });
         };
@@ -195,14 +243,21 @@ impl Journal {
         if !write.is_whole() {
             return self.open_task(OpenTask {
                 tag,
-                write: Some(write),
+                awaited: Awaited::Blocks(write),
                 promised,
             });
         }
+        self.take_write(tag, promised, write)
+    }
+
+    // All blocks of this write came: it is accepted, if no block of the device is bad.
+    fn take_write(&mut self, tag: u8, promised: usize, write: OpenWrite) -> Result<(), NoMemory>
+        ensures { OnOk result (self.new ≡ written self.old tag promised write) }
+    {
         if self.is_locked {
             return self.open_task(OpenTask {
                 tag,
-                write: None,
+                awaited: Awaited::Nothing,
                 promised,
             });
         }
@@ -210,8 +265,34 @@ impl Journal {
         let accepted = self.accept(write.into_command())?;
         self.open_task(OpenTask {
             tag,
-            write: None,
+            awaited: Awaited::Nothing,
             promised: if is_forced { accepted } else { promised },
+        })
+    }
+
+    // The frames of a request came. What it changes is accepted, and its GOOD acknowledges that and all before
+    // it.
+    fn take_frames(
+        &mut self,
+        alloc: Global,
+        tag: u8,
+        promised: usize,
+        bytes: &[u8],
+    ) -> Result<(), NoMemory>
+        ensures { OnOk result (self.new
+            ≡ brought self.old tag promised (accepted_by self.old.region self.old.locked (frames_of bytes.now))) }
+    {
+        let frames = whole_frames(bytes);
+        let accepted = accepted_by(&self.region, frames, self.is_locked);
+        let promised = match command_of(alloc, frames, &accepted)? {
+            Some(command) => self.accept(command)?,
+            None => promised,
+        };
+        raise(&mut self.region, &accepted);
+        self.open_task(OpenTask {
+            tag,
+            awaited: Awaited::Nothing,
+            promised,
         })
     }
 
@@ -332,6 +413,20 @@ pub fn block_in(message: &[u8]) -> Option<Block>
     let mut block = [0; 4096];
     block.copy_from_slice(&message[HEADER..HEADER + 4096]);
     Some(block)
+}
+
+// The data that a command with this CDB waits for.
+fn awaited_by(alloc: Global, unit: u8, cdb: &[u8]) -> Awaited
+    requires { 16 ≤ length cdb.now }
+    ensures { result ≡ awaited_by unit cdb.now }
+{
+    if cdb[0] == SECURITY_OUT {
+        return Awaited::Frames;
+    }
+    match write_asked(alloc, unit, cdb) {
+        Some(write) => Awaited::Blocks(write),
+        None => Awaited::Nothing,
+    }
 }
 
 // The write that a CDB asks for, if it is one of 1 block or more (SBC, WRITE (6), WRITE (10)).

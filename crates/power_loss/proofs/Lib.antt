@@ -1,6 +1,7 @@
 mod Common
 mod MachineWords
 pub mod accepted_groups
+pub mod area_reads
 pub mod books
 pub mod calls
 pub mod collected_blocks

@@ -18,3 +18,4 @@ pub mod Stops
 pub mod Shown
 pub mod WaitingFrames
 pub mod LaidRests
+pub mod AreaReads

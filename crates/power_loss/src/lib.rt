@@ -2,6 +2,7 @@
 //! do nothing: their contracts are the laws.
 #![tactic(auto)]
 
+mod area_shown;
 mod collection;
 mod erasing;
 mod exchange;
@@ -35,6 +36,7 @@ ghost use Rattle.power_loss.specs.Book.{CellsRight};
 ghost use Rattle.power_loss.specs.Invariant.{IsPrefix, Valid};
 ghost use Rattle.power_loss.specs.Stops.{IsFront};
 
+pub use area_shown::a_request_reads_the_area_as_it_is;
 pub use collection::{
     collection_is_due_when_it_should, the_victim_has_the_fewest_live_pages,
     too_many_bad_blocks_lock,

@@ -1,12 +1,10 @@
 -- Whether two MACs are the same, and where the MAC of a request is.
-use Rattle.std.proofs.Common.{◌≡◌, ◌↔◌, ◌∙◌, ◌==◌, ℕ, ◌+◌, ◌-◌, ◌<◌, Bool, true, false, IsTrue, List, [], ◌∷◌}
-use Rattle.std.proofs.Common.{◌++◌, Some, ap, arith, drop, get_or, length, map, not, option_map, refl, slice_get, subst}
-use Rattle.std.proofs.Common.{sym, take}
+use Rattle.std.proofs.Common.{◌≡◌, ◌↔◌, ◌∙◌, ◌==◌, ℕ, ◌-◌, Bool, true, false, IsTrue, List, [], ◌∷◌, Some, ap, arith}
+use Rattle.std.proofs.Common.{length, map, not, option_map, refl, slice_get, subst, sym}
 use Rattle.std.proofs.lemmas.Bool.{and_parts, eq-eqb, eqb-true, false≢true}
-use Rattle.std.proofs.lemmas.List.{flat_map_more, length-map, map_more, take_more}
+use Rattle.std.proofs.lemmas.List.{length-map}
 use Rattle.std.proofs.lemmas.Option.{same_Some, slice_get-map}
-use Rattle.std.specs.List.{flat_map}
-use Rattle.ufs_spec.specs.Frames.{Frame, covered_bytes, frame_in}
+use Rattle.ufs_spec.specs.Frames.{Frame, frame_in}
 use Rattle.ufs_spec.specs.Rpmb.{frames_mac, has_wrong_mac, last_mac, same_bytes}
 
 same_refl : (xs : List ℕ) → same_bytes xs xs ≡ true
@@ -32,16 +30,6 @@ same_told xs ys false is = sym (false_unless (same_bytes xs ys) (λ e. false≢t
     false_unless true none = absurd (none refl)
     false_unless false none = refl
 
--- one more frame is covered
-pub covered_more : (frames : List (List ℕ)) (i : ℕ) (part : List ℕ) → i < length frames
-    → part ≡ covered_bytes (frame_in (get_or frames i []))
-    → flat_map covered_bytes (map frame_in (take i frames)) ++ part
-    ≡ flat_map covered_bytes (map frame_in (take (i + 1) frames))
-covered_more frames i part within e =
-    ap (λ (p : List ℕ). flat_map covered_bytes (map frame_in (take i frames)) ++ p) e
-    ∙ flat_map_more covered_bytes [] (map frame_in (take i frames)) (frame_in (get_or frames i []))
-    ∙ ap (flat_map covered_bytes) (sym (map_more frame_in frames i [] within))
-
 -- the last frame has the MAC of a request
 last_at : (f g : Frame) (fs : List Frame) → slice_get (f ∷ fs) (length fs) ≡ Some g → g.key_or_mac ≡ last_mac f fs
 last_at f g [] e = ap (λ (h : Frame). h.key_or_mac) (sym (same_Some f g e))
@@ -65,12 +53,3 @@ wrong_told key frames last came made told is_came is_made is value f fs e =
     ap not
     (same_told came made told is
     ∙ (λ i. same_bytes ((is_came ∙ last_told frames last f fs e value) i) ((is_made ∙ ap (frames_mac key) (sym e)) i)))
-
--- the bytes from 228 on of one more frame
-pub part_more : (frames : List (List ℕ)) (i : ℕ) (part : List ℕ) → i < length frames
-    → part ≡ drop 228 (get_or frames i [])
-    → flat_map (drop 228) (take i frames) ++ part ≡ flat_map (drop 228) (take (i + 1) frames)
-part_more frames i part within e =
-    ap (λ (p : List ℕ). flat_map (drop 228) (take i frames) ++ p) e
-    ∙ flat_map_more (drop 228) [] (take i frames) (get_or frames i [])
-    ∙ ap (flat_map (drop 228)) (sym (take_more frames i [] within))

@@ -1,6 +1,5 @@
 -- Outcomes of requests, in the words of the definitions.
-use Rattle.std.specs.Prelude.{ℕ, ◌<◌, Bool, if◌then◌else◌, List, Option, Some, None}
-use Rattle.std.specs.List.{flat_map}
+use Rattle.std.specs.Prelude.{◌≡◌, ℕ, ◌<◌, Bool, false, if◌then◌else◌, List, Option, Some, None}
 use Rattle.ufs_spec.specs.Commands as command
 use Rattle.ufs_spec.specs.Commands.{Command}
 use Rattle.ufs_spec.specs.Exchanges.{Registers, Status, invalid_list_field, sequence_error}
@@ -8,6 +7,7 @@ use Rattle.ufs_spec.specs.Frames.{Frame}
 use Rattle.ufs_spec.specs.Rpmb as rules
 use Rattle.ufs_spec.specs.Rpmb.{Region, RpmbOutcome, checks, command_in, first_failed, lacks_result, outcome_after}
 use Rattle.ufs_spec.specs.Plain.{counter_end}
+use Rattle.rpmb.specs.Requests.{payloads}
 use Rattle.rpmb.specs.declared.regions.RegionState.{RegionState}
 use Rattle.rpmb.specs.declared.outcomes.Accepted.{Accepted}
 use Rattle.rpmb.specs.declared.outcomes.Accepted.TheVariants as accepted
@@ -37,7 +37,7 @@ abbrev pub command_of : ℕ → List Frame → Accepted → Option Command
 command_of number fs accepted.Nothing = None
 command_of number fs (accepted.Key bytes) = Some (command.SetKey number bytes)
 command_of number fs (accepted.Write address) =
-    Some (command.RpmbWrite number address (flat_map (λ (f : Frame). f.payload) fs))
+    Some (command.RpmbWrite number address (payloads fs))
 
 -- the outcome of these frames in the region of this number
 abbrev pub outcome_of : ℕ → List Frame → Outcome → RpmbOutcome
@@ -60,3 +60,10 @@ MayChange (accepted.Write address) s = s.counter < counter_end
 abbrev pub MayFollow : Outcome → RegionState → Type 0
 MayFollow (outcome.Refused why) s = Unit {0}
 MayFollow (outcome.Results result what) s = MayChange what s
+
+-- whatever the outcome is, a locked device accepts nothing
+abbrev pub AcceptsUnlocked : Bool → Outcome → Type 0
+AcceptsUnlocked locked (outcome.Refused why) = Unit {0}
+AcceptsUnlocked locked (outcome.Results result accepted.Nothing) = Unit {0}
+AcceptsUnlocked locked (outcome.Results result (accepted.Key bytes)) = locked ≡ false
+AcceptsUnlocked locked (outcome.Results result (accepted.Write address)) = locked ≡ false

@@ -1,9 +1,13 @@
 -- What frames ask for, in the words of the definitions.
-use Rattle.std.specs.Prelude.{◌≡◌, ◌≢◌, ◌<◌, ◌/◌, ℕ, true, false, List, [], ◌∷◌, Option, length, option_map, slice_get}
-use Rattle.ufs_spec.specs.Frames.{Frame, frames_in}
+use Rattle.std.specs.Prelude.{◌≡◌, ◌≢◌, ◌<◌, ◌/◌, ℕ, Bool, true, false, List, [], ◌∷◌, Option, Some, None, if◌then◌else◌}
+use Rattle.std.specs.Prelude.{length, option_map, slice_get}
+use Rattle.std.specs.List.{flat_map}
+use Rattle.ufs_spec.specs.Frames.{Frame, frame_in, frames_in}
 use Rattle.ufs_spec.specs.Rpmb.{is_well_formed, program_key, read_counter, read_data, read_result, write_data}
 use Rattle.ufs_spec.specs.Plain.{counter_end}
 use Rattle.rpmb.specs.declared.regions.RegionState.{RegionState}
+use Rattle.ufs_spec.specs.FrameRequests.{reads_area}
+use Rattle.rpmb.specs.declared.requests.AreaBlocks.{AreaBlocks}
 use Rattle.rpmb.specs.declared.requests.Request.{Request}
 use Rattle.rpmb.specs.declared.requests.Request.TheVariants as request
 
@@ -14,6 +18,20 @@ frames_of bytes = frames_in (length bytes / 512) bytes
 -- the data of a frame
 abbrev pub data_at : List Frame → ℕ → Option (List ℕ)
 data_at fs index = option_map (λ (f : Frame). f.payload) (slice_get fs index)
+
+-- the data of the frame that these bytes are
+abbrev pub payload_in : List ℕ → List ℕ
+payload_in bytes = (frame_in bytes).payload
+
+-- the data of all frames, one block of 256 bytes after another
+abbrev pub payloads : List Frame → List ℕ
+payloads fs = flat_map (λ (f : Frame). f.payload) fs
+
+-- the blocks of the area that are read for these frames, a request with this result, if it asks for data and passed its
+-- checks
+abbrev pub area_asked : List Frame → ℕ → Option AreaBlocks
+area_asked [] code = None
+area_asked (f ∷ fs) code = if reads_area f code then Some (record { address = f.address; count = f.count }) else None
 
 -- the request says what the frame says
 abbrev pub IsRequest : Request → Frame → Type 0
@@ -50,3 +68,11 @@ MayPass request.ReadCounter s = Unit {0}
 MayPass (request.Write counter address count) s = s.counter < counter_end
 MayPass (request.Read address count) s = Unit {0}
 MayPass request.ReadResult s = Unit {0}
+
+-- a key or a write passes its checks only if the device is not locked
+abbrev pub PassesUnlocked : Bool → Request → Type 0
+PassesUnlocked locked (request.ProgramKey key) = locked ≡ false
+PassesUnlocked locked request.ReadCounter = Unit {0}
+PassesUnlocked locked (request.Write counter address count) = locked ≡ false
+PassesUnlocked locked (request.Read address count) = Unit {0}
+PassesUnlocked locked request.ReadResult = Unit {0}

@@ -12,4 +12,6 @@ mod responses;
 pub use machine::Rpmb;
 pub use outcomes::{Accepted, Failure, Outcome, Refusal};
 pub use regions::RegionState;
-pub use requests::{Request, asked_by, data_of};
+pub use requests::{
+    AreaBlocks, Request, all_data, asked_area, asked_by, data_of, request_of, whole_frames,
+};

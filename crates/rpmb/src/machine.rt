@@ -1,10 +1,11 @@
 //! The machine of a region and its calls.
-ghost use Rattle.std.specs.Prelude.{◌≡◌, ◌≤◌, ◌∷◌, ◌++◌, ℕ, [], IfOk, List, Some, drop, is_some};
+ghost use Rattle.std.specs.Prelude.{◌≡◌, ◌≤◌, ◌*◌, ◌∷◌, ◌++◌, ℕ, [], IfOk, List, Some, drop, is_some};
 ghost use Rattle.std.specs.Prelude.{length, map, min, option_copied, take};
 ghost use Rattle.rpmb.specs.Answers.{AreFew, HasAskedData, HasPlaces, IsRead, registered};
 ghost use Rattle.rpmb.specs.Answers.{waiting_in};
 ghost use Rattle.rpmb.specs.Kept.{IsKept};
-ghost use Rattle.rpmb.specs.Outcomes.{MayChange, MayFollow, command_of, outcome_formed, outcome_of};
+ghost use Rattle.rpmb.specs.Outcomes.{AcceptsUnlocked, MayChange, MayFollow, command_of};
+ghost use Rattle.rpmb.specs.Outcomes.{outcome_formed, outcome_of};
 ghost use Rattle.rpmb.specs.Requests.{IsRequest, frames_of};
 ghost use Rattle.rpmb_frame.specs.Fields.{frame_of};
 ghost use Rattle.ufs_spec.specs.Exchanges.{ReadState, empty_registers};
@@ -79,6 +80,13 @@ impl Rpmb {
         })
     }
 
+    /// What is kept of the region beside its area.
+    pub fn region(&self) -> RegionState
+        ensures { result ≡ self.now.region }
+    {
+        self.region
+    }
+
     /// Whether the key is set.
     pub fn key_set(&self) -> bool
         ensures { result ≡ is_some self.now.region.key }
@@ -101,12 +109,13 @@ impl Rpmb {
     }
 
     /// What SECURITY PROTOCOL OUT does with its data, whole frames of 512 bytes, while the device
-    /// is locked or not. It changes nothing yet.
+    /// is locked or not: a locked device accepts nothing. It changes nothing yet.
     pub fn out(&self, frames: &[u8], locked: bool) -> Outcome
         ensures outcome { (number : ℕ) (region : Region) → IsKept self.now.region region →
             rpmb_outcome number region self.now.registers locked (frames_of frames.now)
             ≡ outcome_of number (frames_of frames.now) result }
         ensures may_change { MayFollow result self.now.region }
+        ensures unlocked { AcceptsUnlocked locked result }
     {
         self.outcome(whole_frames(frames), locked)
     }
@@ -117,6 +126,7 @@ impl Rpmb {
             rpmb_outcome number region self.now.registers locked (map frame_in frames.now)
             ≡ outcome_of number (map frame_in frames.now) result }
         ensures may_change { MayFollow result self.now.region }
+        ensures unlocked { AcceptsUnlocked locked result }
     {
         match request_of(frames) {
             None => Outcome::Refused(Refusal::Malformed),
@@ -132,6 +142,7 @@ impl Rpmb {
             outcome_formed number region self.now.registers locked f fs
             ≡ outcome_of number (f ∷ fs) result }
         ensures may_change { MayFollow result self.now.region }
+        ensures unlocked { AcceptsUnlocked locked result }
     {
         if self.lacks_result(request) {
             Outcome::Refused(Refusal::NoResult)
@@ -323,6 +334,7 @@ impl Rpmb {
     /// How many bytes wait for SECURITY PROTOCOL IN; 0 if no response waits.
     pub fn waiting(&self) -> usize
         ensures bytes { result ≡ length (waiting_in self.now.registers) }
+        ensures frames { result ≡ 512 * length self.now.registers.response }
         ensures most { result ≤ 4096 }
     {
         self.response.as_flattened().len()

@@ -5,8 +5,9 @@ ghost use Rattle.std.specs.Prelude.{if◌then◌else◌, bit_or, Bool, true, fal
 ghost use Rattle.rpmb.specs.Checks.{asked_checks, key_checks, read_checks, write_checks, is_past};
 ghost use Rattle.rpmb.specs.Kept.{IsKept};
 ghost use Rattle.ufs_spec.specs.Commands.{Command};
-ghost use Rattle.rpmb.specs.Outcomes.{MayChange, MayFollow, code_of, command_of, outcome_of};
-ghost use Rattle.rpmb.specs.Requests.{IsRequest, MayPass};
+ghost use Rattle.rpmb.specs.Outcomes.{AcceptsUnlocked, MayChange, MayFollow, code_of};
+ghost use Rattle.rpmb.specs.Outcomes.{command_of, outcome_of};
+ghost use Rattle.rpmb.specs.Requests.{IsRequest, MayPass, PassesUnlocked};
 ghost use Rattle.ufs_spec.specs.Frames.{Frame, frame_in};
 ghost use Rattle.ufs_spec.specs.Plain.{counter_end};
 ghost use Rattle.ufs_spec.specs.Rpmb as rules;
@@ -38,6 +39,7 @@ impl RegionState {
             outcome_after region (command_in number f fs) (first_failed (checks region locked f fs))
             ≡ outcome_of number (f ∷ fs) result }
         ensures may_change { MayFollow result self.now }
+        ensures unlocked { AcceptsUnlocked locked result }
     {
         match self.failure(request, frames, locked) {
             Some(failure) => self.failed(failure),
@@ -51,6 +53,7 @@ impl RegionState {
             first_failed (asked_checks self.now locked request.now f fs)
             ≡ option_map code_of result }
         ensures may_pass { result ≡ None → MayPass request.now self.now }
+        ensures unlocked { result ≡ None → PassesUnlocked locked request.now }
     {
         match request {
             Request::ProgramKey { .. } => self.key_failure(locked),
@@ -67,7 +70,8 @@ impl RegionState {
 
     // The first check of a key that fails.
     fn key_failure(&self, locked: bool) -> Option<Failure>
-        ensures { first_failed (key_checks self.now locked) ≡ option_map code_of result }
+        ensures first { first_failed (key_checks self.now locked) ≡ option_map code_of result }
+        ensures unlocked { result ≡ None → locked ≡ false }
     {
         if self.key.is_some() {
             Some(Failure::KeySet)
@@ -102,6 +106,7 @@ impl RegionState {
             first_failed (write_checks self.now locked counter address count f fs)
             ≡ option_map code_of result }
         ensures below_end { result ≡ None → self.now.counter < counter_end }
+        ensures unlocked { result ≡ None → locked ≡ false }
     {
         if self.key.is_none() {
             Some(Failure::NoKey)
@@ -156,6 +161,7 @@ impl RegionState {
             IsKept self.now region →
             outcome_after region c (Some (code_of failure)) ≡ outcome_of number fs result }
         ensures may_change { MayFollow result self.now }
+        ensures unlocked { (locked : Bool) → AcceptsUnlocked locked result }
     {
         Outcome::Results {
             result: with_end_bit(self.key.is_some(), u64::from(self.counter), failure.code()),
@@ -169,6 +175,7 @@ impl RegionState {
             IsKept self.now region → IsRequest request.now f →
             outcome_after region (command_in number f fs) None ≡ outcome_of number (f ∷ fs) result }
         ensures may_change { MayPass request.now self.now → MayFollow result self.now }
+        ensures unlocked { (locked : Bool) → PassesUnlocked locked request.now → AcceptsUnlocked locked result }
     {
         let key_set = self.key.is_some();
         let counter = u64::from(self.counter);

@@ -1,17 +1,23 @@
 //! Requests: what frames ask for.
-ghost use Rattle.std.specs.Prelude.{◌≡◌, ◌∷◌, MatchOption, map, option_copied, true};
+ghost use Rattle.std.specs.Prelude.{◌≡◌, ◌≤◌, ◌*◌, ◌/◌, ◌∷◌, [], MatchOption, length, map, option_copied, true};
 ghost use Rattle.std.specs.List.{list_all};
 ghost use Rattle.rpmb.specs.Requests.{AreMalformed, Asks, IsRequest, IsUnknown, data_at, frames_of};
+ghost use Rattle.rpmb.specs.Requests.{area_asked, payload_in, payloads};
 ghost use Rattle.rpmb_frame.specs.Fields.{frame_of};
 ghost use Rattle.ufs_spec.specs.Frames.{frame_in};
 ghost use Rattle.ufs_spec.specs.Rpmb.{agrees, is_well_formed};
 
+use crate::responses::is_success;
+use arrayvec::ArrayVec;
 use rpmb_frame::{Frame, codes};
 
 // Where the data of a frame are.
 const DATA: usize = 228;
 
 const DATA_END: usize = 484;
+
+// How many bytes of data the frames of a request have at most, as many as 4096 bytes have room for.
+const MOST_DATA: usize = 2048;
 
 // How many blocks a request for data may ask for.
 const MOST_BLOCKS: u16 = 8;
@@ -40,6 +46,38 @@ pub enum Request {
     ReadResult,
 }
 
+/// The blocks of the area that a request asks for: so many from this address on.
+#[derive(Clone, Copy, Debug, PartialEq, Eq)]
+pub struct AreaBlocks {
+    pub address: u16,
+    pub count: u16,
+}
+
+/// The blocks of the area that have to be read for these frames, a request with this result: it asks for data
+/// and passed its checks. `None` for any other request.
+pub fn asked_area(frames: &[u8], code: u16) -> Option<AreaBlocks>
+    ensures { result ≡ area_asked (frames_of frames.now) code }
+{
+    match whole_frames(frames) {
+        [] => None,
+        [first, ..] => area_of(&Frame::read(first), code),
+    }
+}
+
+// The same of the first frame.
+fn area_of(first: &Frame, code: u16) -> Option<AreaBlocks>
+    ensures { result ≡ area_asked (frame_of first.now ∷ []) code }
+{
+    if first.message_type == codes::DATA_READ_REQUEST && is_success(code) {
+        Some(AreaBlocks {
+            address: first.address,
+            count: first.block_count,
+        })
+    } else {
+        None
+    }
+}
+
 /// What the data of SECURITY PROTOCOL OUT, whole frames of 512 bytes, ask for; `None` if they are
 /// malformed.
 pub fn asked_by(frames: &[u8]) -> Option<Request>
@@ -57,6 +95,36 @@ pub fn data_of(frames: &[u8], index: usize) -> Option<&[u8]>
         None => None,
         Some(frame) => Some(&frame[DATA..DATA_END]),
     }
+}
+
+/// The data of all frames, one block of 256 bytes after another.
+pub fn all_data(frames: &[u8]) -> ArrayVec<u8, MOST_DATA>
+    requires { length frames.now ≤ 4096 }
+    ensures joined { result.items ≡ payloads (frames_of frames.now) }
+    ensures long { length result.items ≡ 256 * (length frames.now / 512) }
+{
+    data_of_all(whole_frames(frames))
+}
+
+// The data of these frames, one block of 256 bytes after another.
+fn data_of_all(frames: &[[u8; 512]]) -> ArrayVec<u8, MOST_DATA>
+    requires { length frames.now ≤ 8 }
+    ensures joined { result.items ≡ payloads (map frame_in frames.now) }
+    ensures long { length result.items ≡ 256 * length frames.now }
+{
+    let mut data = ArrayVec::new();
+    for frame in frames {
+        let _ = data.try_extend_from_slice(data_in(frame));
+    }
+    data
+}
+
+// The data of a frame.
+fn data_in(frame: &[u8; 512]) -> &[u8]
+    ensures payload { result.now ≡ payload_in frame.now }
+    ensures long { length result.now ≡ 256 }
+{
+    &frame[DATA..DATA_END]
 }
 
 /// The whole frames that these bytes are; bytes behind the last one are left out.

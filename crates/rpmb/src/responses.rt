@@ -11,9 +11,8 @@ ghost use Rattle.ufs_spec.specs.RpmbResponses.{is_success, key_response, respons
 ghost use Rattle.ufs_spec.specs.RpmbResponses.{write_response};
 ghost use Rattle.ufs_spec.specs.Rpmb.{Region};
 
-use crate::macs::frames_mac;
 use hmac_sha256::mac;
-use rpmb_frame::{Frame, codes, covered};
+use rpmb_frame::{Frame, codes, covered, frames_mac};
 
 // Where the MAC of a frame is.
 const MAC: usize = 196;
@@ -135,8 +134,8 @@ fn push_data(response: &mut Vec<[u8; 512]>, asked: &Frame, code: u16, blocks: &[
     }
 }
 
-// Whether a request with this result did what it asked for.
-fn is_success(code: u16) -> bool
+/// Whether a request with this result did what it asked for.
+pub fn is_success(code: u16) -> bool
     ensures { result ≡ is_success code }
 {
     code == codes::OPERATION_OK || code == codes::COUNTER_EXPIRED

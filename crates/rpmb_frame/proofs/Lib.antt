@@ -1,1 +1,2 @@
+pub mod CoveredFrames
 pub mod Written

@@ -16,7 +16,7 @@ use ufs_spec::{Cdb, REGIONS, Sense};
 
 mod demands;
 mod laws;
-mod operations;
+pub mod operations;
 mod spelling;
 
 use operations::{
@@ -33,8 +33,8 @@ const IMMED: u8 = 0x02;
 /// The 21 bits of an address in bytes 0 to 3 of READ(6) and WRITE(6).
 const SIX_ADDRESS: u32 = 0x1F_FFFF;
 
-/// Reads a CDB: each command of the table is known, and of these all are taken but INQUIRY, UNMAP,
-/// REPORT LUNS and the SECURITY PROTOCOL commands.
+/// Reads a CDB: each command of the table is known, and of these all are taken but INQUIRY, UNMAP and
+/// REPORT LUNS.
 ///
 /// # Errors
 ///
@@ -220,8 +220,8 @@ fn has_selection(cdb: &Cdb) -> bool
     }
 }
 
-// Whether this stage takes the operation code: each of the table but those of INQUIRY, UNMAP,
-// REPORT LUNS and the SECURITY PROTOCOL commands.
+// Whether this stage takes the operation code: each of the table but those of INQUIRY, UNMAP and
+// REPORT LUNS.
 fn has_taken_operation(bytes: &[u8; 16]) -> bool
     ensures { IsTrue result ↔ IsTakenOperation bytes.now }
 {
@@ -235,20 +235,17 @@ fn has_taken_operation(bytes: &[u8; 16]) -> bool
             | READ_10
             | WRITE_10
             | SYNCHRONIZE_CACHE_10
+            | SECURITY_IN
+            | SECURITY_OUT
     )
 }
 
-// Whether this stage takes the command: each of the table but INQUIRY, UNMAP, REPORT LUNS and the
-// SECURITY PROTOCOL commands.
+// Whether this stage takes the command: each of the table but INQUIRY, UNMAP and REPORT LUNS.
 fn is_taken(cdb: &Cdb) -> bool
     ensures { IsTrue result ↔ IsTakenCdb cdb.now }
 {
     !matches!(
         cdb,
-        Cdb::Inquiry { .. }
-            | Cdb::Unmap { .. }
-            | Cdb::ReportLuns { .. }
-            | Cdb::SecurityIn { .. }
-            | Cdb::SecurityOut { .. }
+        Cdb::Inquiry { .. } | Cdb::Unmap { .. } | Cdb::ReportLuns { .. }
     )
 }

@@ -1,24 +1,37 @@
 -- What a set of tasks keeps, as its contracts see it.
 use Rattle.std.specs.Prelude.{ℕ, List, [], Option, None}
+use Rattle.task_set.specs.declared.frames.Frames.{Frames}
 use Rattle.task_set.specs.declared.tasks.Phase.{Phase}
 use Rattle.task_set.specs.declared.tasks.Short.{Short}
 use Rattle.task_set.specs.declared.tasks.Task.{Task}
 
--- an open task: what it still owes its host, and the next block that it sends, once a die read it
+-- an open task: what it still owes its host, what it has to do with frames, the next block that it sends, once a die
+-- read it, and the frames that it keeps with the data behind them
 pub record OpenTask : Type 0 where
   pub tag : ℕ
   pub lun : ℕ
   pub expected : ℕ
   pub phase : Phase
+  pub frames : Frames
   pub block : Option (List ℕ)
+  pub held : Option (List ℕ)
 
 -- what it still owes its host
 abbrev pub task_in : OpenTask → Task
-task_in t = record { tag = t.tag; lun = t.lun; expected = t.expected; phase = t.phase }
+task_in t = record { tag = t.tag; lun = t.lun; expected = t.expected; phase = t.phase; frames = t.frames }
 
--- nothing was read for it yet
+-- nothing was read for it yet, and it keeps nothing
 abbrev pub newly_open : Task → OpenTask
-newly_open t = record { tag = t.tag; lun = t.lun; expected = t.expected; phase = t.phase; block = None }
+newly_open t =
+    record {
+      tag = t.tag;
+      lun = t.lun;
+      expected = t.expected;
+      phase = t.phase;
+      frames = t.frames;
+      block = None;
+      held = None;
+    }
 
 -- the open tasks in the order of their COMMANDs, and the exchanges of one reply that was not handed out yet
 pub record Tasks : Type 0 where

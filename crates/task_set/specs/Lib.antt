@@ -1,3 +1,4 @@
+pub mod Frames
 pub mod Kept
 pub mod Lists
 pub mod Rooms

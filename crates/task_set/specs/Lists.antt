@@ -1,5 +1,5 @@
 -- What the lists of a set of tasks say: which tags are in use, which data were asked for, which blocks were read.
-use Rattle.std.specs.Prelude.{ℕ, ◌*◌, ◌==◌, ◌&&◌, ◌||◌, nat_le, Bool, if◌then◌else◌, List, length}
+use Rattle.std.specs.Prelude.{ℕ, ◌==◌, ◌&&◌, ◌||◌, nat_le, Bool, if◌then◌else◌, List, length}
 use Rattle.std.specs.Prelude.{option_map, position, slice_get, slice_set, is_some, Option, Some, None}
 use Rattle.std.specs.Prelude.{Result, Ok, Err}
 use Rattle.std.specs.List.{list_any}
@@ -12,8 +12,10 @@ use Rattle.task_set.specs.declared.tasks.Phase.TheVariants as phase
 use Rattle.task_set.specs.declared.tasks.Short.{Short}
 use Rattle.task_set.specs.declared.tasks.Task.{Task}
 use Rattle.task_set.specs.declared.tasks.TaskEvent.{TaskEvent}
+use Rattle.task_set.specs.declared.tasks.Wanted.{Wanted}
+use Rattle.task_set.specs.declared.tasks.Wanted.TheVariants as wanted
 use Rattle.task_set.specs.Kept.{OpenTask, task_in}
-use Rattle.task_set.specs.Tasks.{is_task_of, task_after}
+use Rattle.task_set.specs.Tasks.{bytes_kept, is_task_of, is_wanted, task_after}
 
 -- Tags
 
@@ -34,31 +36,45 @@ short_allowed tasks shorts tag =
 
 -- Data that were asked for
 
--- what the task asked data for at this offset
-abbrev pub asked_in : ℕ → ℕ → ℕ → OpenTask → Phase → Option AskedFor
-asked_in lun offset k task (phase.AwaitData x) =
-    if (task.lun == lun) && (4096 * x.gathered == offset) then Some (record { index = k; transfer = x }) else None
-asked_in lun offset k task _ = None
+-- what a task asked for that still awaits all of it
+abbrev pub wanted_in : Phase → Option Wanted
+wanted_in (phase.AwaitData x) = Some (wanted.Block x)
+wanted_in (phase.AwaitFrames size) = Some (wanted.Frames size)
+wanted_in p = None
+
+-- the task at this position, if so many bytes at this offset are what it asked for
+abbrev pub asked_what : ℕ → ℕ → ℕ → ℕ → OpenTask → Option Wanted → Option AskedFor
+asked_what lun offset count k task None = None
+asked_what lun offset count k task (Some w) =
+    if (task.lun == lun) && is_wanted w offset count then Some (record { index = k; wanted = w }) else None
+
+-- the same of what it asked for in its phase
+abbrev pub asked_in : ℕ → ℕ → ℕ → ℕ → OpenTask → Option AskedFor
+asked_in lun offset count k task = asked_what lun offset count k task (wanted_in task.phase)
 
 -- what the task asked for, if there is a task
-abbrev pub asked_by : ℕ → ℕ → ℕ → Option OpenTask → Option AskedFor
-asked_by lun offset k None = None
-asked_by lun offset k (Some task) = asked_in lun offset k task task.phase
+abbrev pub asked_by : ℕ → ℕ → ℕ → ℕ → Option OpenTask → Option AskedFor
+asked_by lun offset count k None = None
+asked_by lun offset count k (Some task) = asked_in lun offset count k task
 
 -- what the task at the position that was found asked for, if one was found
-abbrev pub asked_at : List OpenTask → ℕ → ℕ → Option ℕ → Option AskedFor
-asked_at tasks lun offset None = None
-asked_at tasks lun offset (Some k) = asked_by lun offset k (slice_get tasks k)
+abbrev pub asked_at : List OpenTask → ℕ → ℕ → ℕ → Option ℕ → Option AskedFor
+asked_at tasks lun offset count None = None
+asked_at tasks lun offset count (Some k) = asked_by lun offset count k (slice_get tasks k)
 
--- the task that asked for so many bytes at this offset, and what is to come
+-- the task that asked for so many bytes at this offset, and what it asked for
 abbrev pub asked_among : List OpenTask → ℕ → ℕ → ℕ → ℕ → Option AskedFor
-asked_among tasks lun tag offset count =
-    if count == 4096 then asked_at tasks lun offset (position (is_task_of tag) tasks) else None
+asked_among tasks lun tag offset count = asked_at tasks lun offset count (position (is_task_of tag) tasks)
 
 -- this happened to the task at this position, if there is one
 abbrev pub task_happened : List OpenTask → ℕ → TaskEvent → Option OpenTask → List OpenTask
 task_happened tasks k e None = tasks
 task_happened tasks k e (Some task) = slice_set tasks k (task_after e task)
+
+-- the task at this position keeps these frames, if there is one
+abbrev pub task_keeps : List OpenTask → ℕ → List ℕ → Option OpenTask → List OpenTask
+task_keeps tasks k frames None = tasks
+task_keeps tasks k frames (Some task) = slice_set tasks k (bytes_kept frames task)
 
 -- What stands at a position
 
@@ -74,3 +90,12 @@ read_of (Some task) = task.block
 -- the block that a die read for the task at this position
 abbrev pub read_at : List OpenTask → ℕ → Option (List ℕ)
 read_at tasks k = read_of (slice_get tasks k)
+
+-- what the task keeps of frames, if there is a task
+abbrev pub held_of : Option OpenTask → Option (List ℕ)
+held_of None = None
+held_of (Some task) = task.held
+
+-- what the task at this position keeps of frames
+abbrev pub held_at : List OpenTask → ℕ → Option (List ℕ)
+held_at tasks k = held_of (slice_get tasks k)

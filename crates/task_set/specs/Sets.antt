@@ -5,7 +5,7 @@ use Rattle.task_set.specs.declared.tasks.Task.{Task}
 use Rattle.task_set.specs.declared.tasks.TaskEvent.{TaskEvent}
 use Rattle.task_set.specs.declared.tasks.TaskEvent.TheVariants as event
 use Rattle.task_set.specs.Kept.{Tasks, newly_open}
-use Rattle.task_set.specs.Lists.{task_happened}
+use Rattle.task_set.specs.Lists.{task_happened, task_keeps}
 use Rattle.task_set.specs.Tasks.{after_lost_read, after_read, task_after}
 
 -- a command became a task, which is open behind all others
@@ -15,6 +15,10 @@ opened s task = record s { tasks = s.tasks ++ newly_open task ∷ [] }
 -- this happened to the task at this position
 abbrev pub happened : Tasks → ℕ → TaskEvent → Tasks
 happened s k e = record s { tasks = task_happened s.tasks k e (slice_get s.tasks k) }
+
+-- the task at this position keeps these frames
+abbrev pub frames_kept : Tasks → ℕ → List ℕ → Tasks
+frames_kept s k frames = record s { tasks = task_keeps s.tasks k frames (slice_get s.tasks k) }
 
 -- the task at this position has ended
 abbrev pub ended : Tasks → ℕ → Tasks
@@ -28,13 +32,13 @@ short_opened s short = record s { shorts = s.shorts ++ short ∷ [] }
 abbrev pub short_ended : Tasks → Tasks
 short_ended s = record s { shorts = remove s.shorts 0 }
 
--- a die read this block for the task of this tag
-abbrev pub block_loaded : Tasks → ℕ → List ℕ → Tasks
-block_loaded s tag body = record s { tasks = map (after_read tag body) s.tasks }
+-- a die read this block, or the page of the area of this index, for the task of this tag
+abbrev pub block_loaded : Tasks → ℕ → ℕ → List ℕ → Tasks
+block_loaded s tag index body = record s { tasks = map (after_read tag index body) s.tasks }
 
--- the block of the task of this tag could not be read
-abbrev pub block_lost : Tasks → ℕ → Tasks
-block_lost s tag = record s { tasks = map (after_lost_read tag) s.tasks }
+-- the block or the page of this index could not be read for the task of this tag
+abbrev pub block_lost : Tasks → ℕ → ℕ → Tasks
+block_lost s tag index = record s { tasks = map (after_lost_read tag index) s.tasks }
 
 -- the device is locked, and each group up to this number is durable
 abbrev pub locked : Tasks → ℕ → Tasks

@@ -1,5 +1,6 @@
 -- What becomes of a task.
-use Rattle.std.specs.Prelude.{ℕ, ◌+◌, ◌*◌, ◌==◌, min, nat_lt, Bool, true, false, if◌then◌else◌, List, Option, Some, None}
+use Rattle.std.specs.Prelude.{ℕ, ◌+◌, ◌*◌, ◌==◌, ◌&&◌, min, nat_lt, Bool, true, false, if◌then◌else◌, List, Option}
+use Rattle.std.specs.Prelude.{Some, None, option_map}
 use Rattle.ufs_spec.specs.Exchanges as exchange
 use Rattle.ufs_spec.specs.declared.scsi.Sense.{Sense}
 use Rattle.task_set.specs.declared.tasks.Status.{Status}
@@ -12,6 +13,12 @@ use Rattle.task_set.specs.declared.tasks.ShortData.TheVariants as sent
 use Rattle.task_set.specs.declared.tasks.TaskEvent.{TaskEvent}
 use Rattle.task_set.specs.declared.tasks.TaskEvent.TheVariants as event
 use Rattle.task_set.specs.declared.tasks.Transfer.{Transfer}
+use Rattle.task_set.specs.declared.frames.Frames.{Frames}
+use Rattle.task_set.specs.declared.frames.Frames.TheVariants.{Answered, Decided, NotBrought, Undecided}
+use Rattle.task_set.specs.declared.frames.PageRead.TheVariants as page
+use Rattle.task_set.specs.declared.tasks.Wanted.{Wanted}
+use Rattle.task_set.specs.declared.tasks.Wanted.TheVariants as wanted
+use Rattle.task_set.specs.Frames.{frames_after, page_ended, page_put, reading_of}
 use Rattle.task_set.specs.Kept.{OpenTask}
 
 -- the sense of a READ whose block could not be read: MEDIUM ERROR, 3/11/00
@@ -65,6 +72,24 @@ abbrev pub data_length : ShortData → ℕ
 data_length (sent.NoSense allocation) = min allocation 18
 data_length (sent.Capacity blocks) = 8
 
+-- whether so many bytes at this offset are what was asked for: the next block of a WRITE, or all frames
+abbrev pub is_wanted : Wanted → ℕ → ℕ → Bool
+is_wanted (wanted.Block x) offset count = (4096 * x.gathered == offset) && (count == 4096)
+is_wanted (wanted.Frames size) offset count = (offset == 0) && (count == size)
+
+-- the table of phases for the frames of the RPMB (JESD220, 12.4): all are asked for at once, and decided once they came
+abbrev pub frame_phase_after : Phase → TaskEvent → Phase
+frame_phase_after (phase.AskFrames size) event.DataAskedFor = phase.AwaitFrames size
+frame_phase_after (phase.AwaitFrames size) (event.FramesRefused sense) = failed sense size
+frame_phase_after (phase.AwaitFrames size) (event.RequestAnswered code) = phase.Answer status.Good size
+frame_phase_after (phase.AwaitFrames size) (event.RequestAccepted code number) = phase.AwaitFrontier number size
+frame_phase_after (phase.AwaitFrames size) (event.AreaAsked code address count) =
+    phase.ReadArea (reading_of address count size)
+frame_phase_after (phase.ReadArea r) (event.PageLoaded index) = phase.ReadArea (page_ended r index page.WasRead)
+frame_phase_after (phase.ReadArea r) (event.BlockLost index) = phase.ReadArea (page_ended r index page.NotRead)
+frame_phase_after (phase.SendFrames size) event.DataSent = phase.Answer status.Good size
+frame_phase_after p e = p
+
 -- the table of a task's phases: how far it is after this happened; what does not concern its phase changes nothing
 abbrev pub phase_after : Phase → TaskEvent → Phase
 phase_after (phase.AskData x) event.DataAskedFor = phase.AwaitData x
@@ -75,8 +100,8 @@ phase_after (phase.AwaitFrontier number size) (event.Locked frontier) =
     if nat_lt frontier number then failed write_error size else phase.AwaitFrontier number size
 phase_after (phase.SendBlocks x) event.BlockSent = sent_next x (next_sending x)
 phase_after (phase.SendData x) event.DataSent = phase.Answer status.Good (data_length x)
-phase_after (phase.SendBlocks x) event.BlockLost = failed read_error (4096 * x.sent)
-phase_after p e = p
+phase_after (phase.SendBlocks x) (event.BlockLost index) = failed read_error (4096 * x.sent)
+phase_after p e = frame_phase_after p e
 
 -- the block that a die read for a task in this phase: once it was handed out it is not there, and nothing else
 -- changes it
@@ -86,16 +111,54 @@ block_after e p block = block
 
 -- this happened to the task
 abbrev pub task_after : TaskEvent → OpenTask → OpenTask
-task_after e t = record t { phase = phase_after t.phase e; block = block_after e t.phase t.block }
+task_after e t =
+    record t {
+      phase = phase_after t.phase e;
+      frames = frames_after t.frames e;
+      block = block_after e t.phase t.block;
+    }
 
--- a die read this block for the task of this tag
-abbrev pub after_read : ℕ → List ℕ → OpenTask → OpenTask
-after_read tag body t = if t.tag == tag then record t { block = Some body } else t
+-- a die read this for a task in this phase: the page of the area of this index, of which the part that is asked for is
+-- put behind the frame; else the next block that the task sends
+abbrev pub read_for : ℕ → List ℕ → OpenTask → Phase → OpenTask
+read_for index body t (phase.ReadArea r) =
+    task_after (event.PageLoaded index) (record t { held = option_map (page_put r index body) t.held })
+read_for index body t p = record t { block = Some body; held = None }
 
--- the block of the task of this tag could not be read
-abbrev pub after_lost_read : ℕ → OpenTask → OpenTask
-after_lost_read tag t = if t.tag == tag then task_after event.BlockLost t else t
+-- a die read this for the task of this tag
+abbrev pub after_read : ℕ → ℕ → List ℕ → OpenTask → OpenTask
+after_read tag index body t = if t.tag == tag then read_for index body t t.phase else t
+
+-- the block or the page of this index could not be read for the task of this tag
+abbrev pub after_lost_read : ℕ → ℕ → OpenTask → OpenTask
+after_lost_read tag index t = if t.tag == tag then task_after (event.BlockLost index) t else t
+
+-- the task keeps these frames from now on
+abbrev pub bytes_kept : List ℕ → OpenTask → OpenTask
+bytes_kept frames t = record t { block = None; held = Some frames }
 
 -- the task has this tag
 abbrev pub is_task_of : ℕ → OpenTask → Bool
 is_task_of tag t = t.tag == tag
+
+-- the command of a task that has this to do with frames brings some
+abbrev pub brings_frames : Frames → Bool
+brings_frames NotBrought = false
+brings_frames Undecided = true
+brings_frames (Decided code) = true
+brings_frames Answered = true
+
+-- the command of the task brings frames
+abbrev pub is_sender : OpenTask → Bool
+is_sender t = brings_frames t.frames
+
+-- the request is yet to fill its register
+abbrev pub is_unanswered : Frames → Bool
+is_unanswered (Decided code) = true
+is_unanswered NotBrought = false
+is_unanswered Undecided = false
+is_unanswered Answered = false
+
+-- the task has such a request
+abbrev pub is_decided : OpenTask → Bool
+is_decided t = is_unanswered t.frames

@@ -2,12 +2,14 @@
 //! still owes its host, the exchanges of one reply, and the tags that are in use (JESD220, 10.9).
 #![tactic(auto)]
 
+mod frames;
 mod open_task;
 mod set;
 mod tasks;
 
+pub use frames::{AreaPart, AreaReading, Frames, PageRead};
 pub use set::TaskSet;
 pub use tasks::{
     AskedFor, BLOCK_BYTES, Phase, Sending, Short, ShortData, ShortReply, Status, Task, TaskEvent,
-    Transfer,
+    Transfer, Wanted,
 };

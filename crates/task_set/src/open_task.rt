@@ -1,21 +1,50 @@
-//! An open task with the block that a die read for it.
+//! An open task with its block of the pool.
 ghost use Rattle.std.specs.Prelude.{◌≡◌, option_copied, length};
 ghost use Rattle.task_set.specs.Kept.{newly_open, task_in};
-ghost use Rattle.task_set.specs.Tasks.{after_lost_read, after_read, is_task_of, task_after};
+ghost use Rattle.task_set.specs.Frames.{page_put};
+ghost use Rattle.task_set.specs.Rooms.{block_in, held_in};
+ghost use Rattle.task_set.specs.Tasks.{after_lost_read, after_read, block_after, bytes_kept, is_decided};
+ghost use Rattle.task_set.specs.Tasks.{is_sender, is_task_of, read_for, task_after};
+ghost use Rattle.std.specs.Prelude.{ℕ, List, option_map};
 
+use crate::frames::{AreaReading, Frames};
 use crate::tasks::{Phase, Task, TaskEvent};
 use std::marker::Model;
 use ufs_bytes::{Block, Body};
+
+/// What lies in a task's block of the pool.
+#[derive(Clone, Copy)]
+pub enum Holds {
+    /// Nothing that counts.
+    Nothing,
+    /// The next block that it sends, which a die read.
+    Block,
+    /// Frames that it sends, or the first frame of its request and the data that it asks for.
+    Frames,
+}
+
+impl Holds {
+    /// The block is no longer there.
+    fn without_block(self) -> Holds
+        ensures block { (body : List ℕ) → block_in result body ≡ None }
+        ensures held { (body : List ℕ) → held_in result body ≡ held_in self body }
+    {
+        match self {
+            Holds::Block => Holds::Nothing,
+            holds => holds,
+        }
+    }
+}
 
 /// An open task, and its block of the pool.
 #[derive(Drop)]
 pub struct OpenTask {
     /// What it still owes its host.
     task: Task,
-    /// The next block that it sends, once a die read it. Before that what it holds means nothing.
+    /// Its block of the pool.
     body: Body,
-    /// Whether a die read that block.
-    is_read: bool,
+    /// What that block holds.
+    holds: Holds,
 }
 
 impl Model for OpenTask {
@@ -36,7 +65,7 @@ impl OpenTask {
         OpenTask {
             task,
             body,
-            is_read: false,
+            holds: Holds::Nothing,
         }
     }
 
@@ -58,11 +87,42 @@ impl OpenTask {
     pub fn block(&self) -> Option<&Block>
         ensures { option_copied result ≡ self.now.block }
     {
-        if self.is_read {
-            Some(self.body.block())
-        } else {
-            None
+        match self.holds {
+            Holds::Block => Some(self.body.block()),
+            _ => None,
         }
+    }
+
+    /// The frames that it keeps, and the data behind them.
+    pub fn held(&self) -> Option<&Block>
+        ensures { option_copied result ≡ self.now.held }
+    {
+        match self.holds {
+            Holds::Frames => Some(self.body.block()),
+            _ => None,
+        }
+    }
+
+    /// It keeps these frames, with what is behind them, from now on.
+    pub fn keep(&mut self, frames: &Block)
+        ensures { self.new ≡ bytes_kept frames.now self.old }
+    {
+        self.body.set(frames);
+        self.holds = Holds::Frames;
+    }
+
+    /// Whether its command brings frames.
+    pub fn is_sender(&self) -> bool
+        ensures { result ≡ is_sender self.now }
+    {
+        !matches!(self.task.frames, Frames::NotBrought)
+    }
+
+    /// Whether it has a request that is yet to fill its register.
+    pub fn is_decided(&self) -> bool
+        ensures { result ≡ is_decided self.now }
+    {
+        matches!(self.task.frames, Frames::Decided { .. })
     }
 
     /// Its block of the pool; the task has ended.
@@ -74,28 +134,66 @@ impl OpenTask {
     pub fn happen(&mut self, event: TaskEvent)
         ensures { self.new ≡ task_after event self.old }
     {
-        if let (Phase::SendBlocks { sending: _ }, TaskEvent::BlockSent) = (self.task.phase, event) {
-            self.is_read = false;
-        }
+        self.give_up(event);
         self.task.phase = self.task.phase.after(event);
+        self.task.frames = self.task.frames.after(event);
     }
 
-    /// A die read this block for the task of this tag.
-    pub fn load_for(&mut self, tag: u8, block: &Block)
-        ensures { self.new ≡ after_read tag block.now self.old }
+    /// A block that was handed out is no longer there.
+    fn give_up(&mut self, event: TaskEvent)
+        ensures { self.new ≡ record self.old {
+          block = block_after event self.old.phase self.old.block;
+        } }
     {
-        if self.task.tag == tag {
-            self.body.set(block);
-            self.is_read = true;
+        if let (Phase::SendBlocks { sending: _ }, TaskEvent::BlockSent) = (self.task.phase, event) {
+            self.holds = self.holds.without_block();
         }
     }
 
-    /// A die could not read the next block of the task of this tag.
-    pub fn lose_for(&mut self, tag: u8)
-        ensures { self.new ≡ after_lost_read tag self.old }
+    /// A die read this block, or this page of the area, for the task of this tag.
+    pub fn load_for(&mut self, tag: u8, index: u16, block: &Block)
+        ensures { self.new ≡ after_read tag index block.now self.old }
     {
         if self.task.tag == tag {
-            self.happen(TaskEvent::BlockLost);
+            self.load(index, block);
+        }
+    }
+
+    /// A die read this block, or this page of the area, for it.
+    fn load(&mut self, index: u16, block: &Block)
+        ensures { self.new ≡ read_for index block.now self.old self.old.phase }
+    {
+        match self.task.phase {
+            Phase::ReadArea { reading } => {
+                self.put_page(reading, index, block);
+                self.happen(TaskEvent::PageLoaded { index });
+            }
+            _ => {
+                self.body.set(block);
+                self.holds = Holds::Block;
+            }
+        }
+    }
+
+    /// What is asked for of this page stands in its place, behind the frame that it keeps.
+    fn put_page(&mut self, reading: AreaReading, index: u16, page: &Block)
+        ensures { self.new ≡ record self.old {
+          held = option_map (page_put reading index page.now) self.old.held;
+        } }
+    {
+        if let Holds::Frames = self.holds {
+            let part = reading.part(index);
+            self.body
+                .set_part(part.at, &page[part.from..part.from + part.length]);
+        }
+    }
+
+    /// A die could not read the block or the page of this index for the task of this tag.
+    pub fn lose_for(&mut self, tag: u8, index: u16)
+        ensures { self.new ≡ after_lost_read tag index self.old }
+    {
+        if self.task.tag == tag {
+            self.happen(TaskEvent::BlockLost { index });
         }
     }
 }

@@ -4,21 +4,22 @@ ghost use Rattle.std.specs.Prelude.{IfNone, IfOk, IfSome, OnErr, OnOk, option_co
 ghost use Rattle.std.specs.List.{list_any};
 ghost use Rattle.ufs_spec.specs.Exchanges.{most_tasks};
 ghost use Rattle.task_set.specs.Kept.{no_tasks};
-ghost use Rattle.task_set.specs.Lists.{asked_among, asked_by, asked_in, is_in_use, is_short_of, read_at};
-ghost use Rattle.task_set.specs.Lists.{short_allowed, task_at};
-ghost use Rattle.task_set.specs.Sets.{block_loaded, block_lost, ended, happened, locked, opened};
+ghost use Rattle.task_set.specs.Lists.{asked_among, asked_by, asked_in, held_at, is_in_use, is_short_of};
+ghost use Rattle.task_set.specs.Lists.{read_at, short_allowed, task_at, wanted_in};
+ghost use Rattle.task_set.specs.Sets.{block_loaded, block_lost, ended, frames_kept, happened, locked, opened};
 ghost use Rattle.task_set.specs.Sets.{short_ended, short_opened};
-ghost use Rattle.task_set.specs.Tasks.{after_lost_read, after_read, is_task_of, task_after};
+ghost use Rattle.task_set.specs.Tasks.{after_lost_read, after_read, is_decided, is_sender, is_task_of};
+ghost use Rattle.task_set.specs.Tasks.{task_after};
 
 use crate::open_task::OpenTask;
-use crate::tasks::{AskedFor, BLOCK_BYTES, Phase, Short, ShortReply, Task, TaskEvent};
+use crate::tasks::{AskedFor, Phase, Short, ShortReply, Task, TaskEvent, Wanted};
 use std::alloc::{AllocError, Global};
 use std::collections::VecDeque;
 use std::marker::Model;
 use ufs_bytes::{Block, Body};
 use ufs_spec::{HostFault, MOST_SHORT_EXCHANGES, MOST_TASKS};
 
-/// The open tasks of a device, each with the block that a die read for it, and the exchanges of one reply.
+/// The open tasks of a device, each with its block of the pool, and the exchanges of one reply.
 /// It takes its memory when it is made, and none later.
 #[derive(Drop)]
 pub struct TaskSet {
@@ -96,6 +97,37 @@ impl TaskSet {
         self.tasks[index].block()
     }
 
+    /// What the task at this position keeps of frames, and the data behind them.
+    pub fn held(&self, index: usize) -> Option<&Block>
+        requires { index < length self.now.tasks }
+        ensures { option_copied result ≡ held_at self.now.tasks index }
+    {
+        self.tasks[index].held()
+    }
+
+    /// The task at this position keeps these frames, with what is behind them, from now on.
+    pub fn keep(&mut self, index: usize, frames: &Block)
+        requires { index < length self.old.tasks }
+        ensures { self.new ≡ frames_kept self.old index frames.now }
+    {
+        self.tasks[index].keep(frames);
+    }
+
+    /// Whether the command of an open task brings frames.
+    pub fn has_sender(&self) -> bool
+        ensures { result ≡ list_any is_sender self.now.tasks }
+    {
+        has_sender(self.tasks.as_slice())
+    }
+
+    /// The position of the first task with a request that is yet to fill its register.
+    pub fn decided(&self) -> Option<usize>
+        ensures first { result ≡ position is_decided self.now.tasks }
+        ensures within { IfSome result (λ k. k < length self.now.tasks) }
+    {
+        decided_at(self.tasks.as_slice())
+    }
+
     /// One task more is open, the last one.
     pub fn open(&mut self, task: Task)
         requires { length self.old.tasks < most_tasks }
@@ -123,26 +155,22 @@ impl TaskSet {
         self.spare.push_reserved(ended.into_body());
     }
 
-    /// The task of this tag and unit that asked for so many bytes at this offset, and what is to come.
-    /// Only a whole block is ever asked for.
+    /// The task of this tag and unit that asked for so many bytes at this offset, and what it asked for.
     pub fn asked_for(&self, lun: u8, tag: u8, offset: u32, count: usize) -> Option<AskedFor>
         ensures what { result ≡ asked_among self.now.tasks lun tag offset count }
         ensures within { IfSome result (λ asked. asked.index < length self.now.tasks) }
     {
-        if count != BLOCK_BYTES as usize {
-            return None;
-        }
         let index = task_at(self.tasks.as_slice(), tag)?;
-        self.asked_by(lun, offset, index)
+        self.asked_by(lun, offset, count, index)
     }
 
     /// The same of the task at this position.
-    fn asked_by(&self, lun: u8, offset: u32, index: usize) -> Option<AskedFor>
+    fn asked_by(&self, lun: u8, offset: u32, count: usize, index: usize) -> Option<AskedFor>
         requires { index < length self.now.tasks }
-        ensures what { result ≡ asked_by lun offset index (slice_get self.now.tasks index) }
+        ensures what { result ≡ asked_by lun offset count index (slice_get self.now.tasks index) }
         ensures within { IfSome result (λ asked. asked.index < length self.now.tasks) }
     {
-        asked_of(&self.tasks[index], lun, offset, index)
+        asked_of(&self.tasks[index], lun, offset, count, index)
     }
 
     /// An exchange of one reply is open from now on, the last one.
@@ -177,18 +205,20 @@ impl TaskSet {
         self.shorts.pop_front()
     }
 
-    /// A die read this block for the task of this tag: the next one that it sends.
-    pub fn load(&mut self, tag: u8, block: &Block)
-        ensures { self.new ≡ block_loaded self.old tag block.now }
+    /// A die read this block for the task of this tag: the next one that it sends, or the page of the area
+    /// of this index.
+    pub fn load(&mut self, tag: u8, index: u16, block: &Block)
+        ensures { self.new ≡ block_loaded self.old tag index block.now }
     {
-        load_for(self.tasks.as_mut_slice(), tag, block);
+        load_for(self.tasks.as_mut_slice(), tag, index, block);
     }
 
-    /// The next block of the READ of this tag could not be read: the READ fails.
-    pub fn lose(&mut self, tag: u8)
-        ensures { self.new ≡ block_lost self.old tag }
+    /// The block of this index of the task of this tag could not be read: a READ fails, and a request is
+    /// answered with a read failure.
+    pub fn lose(&mut self, tag: u8, index: u16)
+        ensures { self.new ≡ block_lost self.old tag index }
     {
-        end_read(self.tasks.as_mut_slice(), tag);
+        end_read(self.tasks.as_mut_slice(), tag, index);
     }
 
     /// The device is locked from now on, and each group up to this number is durable: what waits for a
@@ -240,34 +270,59 @@ fn is_short_of(short: &Short, tag: u8) -> bool
     short.tag == tag
 }
 
-/// What the task at this position asked data for at this offset, if it was told so and none came.
-fn asked_of(kept: &OpenTask, lun: u8, offset: u32, index: usize) -> Option<AskedFor>
-    ensures { result ≡ asked_in lun offset index kept.now kept.now.phase }
+/// The task at this position, if so many bytes at this offset are what it asked for and none came.
+fn asked_of(kept: &OpenTask, lun: u8, offset: u32, count: usize, index: usize) -> Option<AskedFor>
+    ensures { result ≡ asked_in lun offset count index kept.now }
 {
-    let task = kept.task();
-    match task.phase {
-        Phase::AwaitData { transfer } if task.lun == lun && transfer.offset() == offset => {
-            Some(AskedFor { index, transfer })
-        }
+    let wanted = wanted_in(kept)?;
+    if kept.task().lun == lun && wanted.is(offset, count) {
+        Some(AskedFor { index, wanted })
+    } else {
+        None
+    }
+}
+
+/// What the task was told to be asked for, while none of it came.
+fn wanted_in(kept: &OpenTask) -> Option<Wanted>
+    ensures { result ≡ wanted_in kept.now.phase }
+{
+    match kept.task().phase {
+        Phase::AwaitData { transfer } => Some(Wanted::Block { transfer }),
+        Phase::AwaitFrames { length } => Some(Wanted::Frames { length }),
         _ => None,
     }
 }
 
+/// Whether one of the tasks brings frames.
+fn has_sender(tasks: &[OpenTask]) -> bool
+    ensures { result ≡ list_any is_sender tasks.now }
+{
+    tasks.iter().any(|task| task.is_sender())
+}
+
+/// The position of the first task with a request that is yet to fill its register.
+fn decided_at(tasks: &[OpenTask]) -> Option<usize>
+    ensures first { result ≡ position is_decided tasks.now }
+    ensures within { IfSome result (λ k. k < length tasks.now) }
+{
+    tasks.iter().position(|task| task.is_decided())
+}
+
 /// A die read this block for the task of this tag.
-fn load_for(tasks: &mut [OpenTask], tag: u8, block: &Block)
-    ensures { tasks.new ≡ map (after_read tag block.now) tasks.old }
+fn load_for(tasks: &mut [OpenTask], tag: u8, index: u16, block: &Block)
+    ensures { tasks.new ≡ map (after_read tag index block.now) tasks.old }
 {
     for task in tasks.iter_mut() {
-        task.load_for(tag, block);
+        task.load_for(tag, index, block);
     }
 }
 
-/// A block that could not be read ends its task.
-fn end_read(tasks: &mut [OpenTask], tag: u8)
-    ensures { tasks.new ≡ map (after_lost_read tag) tasks.old }
+/// The block of this index could not be read for the task of this tag.
+fn end_read(tasks: &mut [OpenTask], tag: u8, index: u16)
+    ensures { tasks.new ≡ map (after_lost_read tag index) tasks.old }
 {
     for task in tasks.iter_mut() {
-        task.lose_for(tag);
+        task.lose_for(tag, index);
     }
 }
 

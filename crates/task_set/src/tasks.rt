@@ -1,7 +1,9 @@
 //! The tasks that are open, and what each still owes its host (JESD220, 10.9).
 ghost use Rattle.std.specs.Prelude.{◌≡◌, ◌*◌};
-ghost use Rattle.task_set.specs.Tasks.{data_length, failed, group_taken, next_sending, next_transfer, phase_after};
+ghost use Rattle.task_set.specs.Tasks.{data_length, failed, frame_phase_after, group_taken, is_wanted, next_sending};
+ghost use Rattle.task_set.specs.Tasks.{next_transfer, phase_after};
 
+use crate::frames::{AreaReading, Frames, PageRead};
 use ufs_spec::{Asked, Key, Sense};
 
 /// How many bytes a block has.
@@ -98,12 +100,20 @@ pub enum Phase {
     AskData { transfer: Transfer },
     /// Its DATA OUT has not come.
     AwaitData { transfer: Transfer },
+    /// A READY TO TRANSFER for its frames, so many bytes, is due.
+    AskFrames { length: u32 },
+    /// The DATA OUT with its frames has not come.
+    AwaitFrames { length: u32 },
     /// GOOD is due once every group up to this number is durable; `length` bytes were the command's.
     AwaitFrontier { number: u64, length: u32 },
+    /// GOOD is due once each of these pages of the RPMB area is at hand, was read or could not be read.
+    ReadArea { reading: AreaReading },
     /// A DATA IN is due once the next block that the task keeps is there.
     SendBlocks { sending: Sending },
     /// A DATA IN with these data is due.
     SendData { data: ShortData },
+    /// A DATA IN with the frames that the task's block holds, so many bytes, is due.
+    SendFrames { length: u32 },
     /// The RESPONSE is due: `length` bytes were the command's or were carried.
     Answer { status: Status, length: u32 },
 }
@@ -119,12 +129,24 @@ pub enum TaskEvent {
     GroupAccepted { number: u64 },
     /// The last block that it asked for came, and the device is locked: it is told as not written.
     GroupRefused,
+    /// Its frames came, and they are refused with this sense.
+    FramesRefused { sense: Sense },
+    /// Its frames came: a request that has this result at once.
+    RequestAnswered { code: u16 },
+    /// Its frames came: a request with this result, whose group was accepted under this number.
+    RequestAccepted { code: u16, number: u64 },
+    /// Its frames came: a request for so many blocks of the area from this address on.
+    AreaAsked { code: u16, address: u16, count: u16 },
+    /// A die read the page of the area of this index.
+    PageLoaded { index: u16 },
+    /// Its request filled its register.
+    RegisterFilled,
     /// The DATA IN with its next block was handed out.
     BlockSent,
     /// The DATA IN with its other data was handed out.
     DataSent,
-    /// The die could not read its next block: what is before it was carried.
-    BlockLost,
+    /// The die could not read the block or the page of this index. What is before a block was carried.
+    BlockLost { index: u16 },
     /// The device is locked from now on, and each group up to this number is durable. What waits for
     /// a later one is told that it was not written, though it was carried.
     Locked { frontier: u64 },
@@ -202,9 +224,40 @@ impl Phase {
                 if number > frontier => { Phase::failed(Sense::WRITE_ERROR, length) }
             (Phase::SendBlocks { sending }, TaskEvent::BlockSent) => Phase::sent(sending),
             (Phase::SendData { data }, TaskEvent::DataSent) => Phase::good(data.length()),
-            (Phase::SendBlocks { sending }, TaskEvent::BlockLost) => {
+            (Phase::SendBlocks { sending }, TaskEvent::BlockLost { .. }) => {
                 Phase::failed(Sense::READ_ERROR, sending.offset())
             }
+            (phase, event) => phase.after_frames(event),
+        }
+    }
+
+    /// The same for the frames of the RPMB and what a request reads.
+    fn after_frames(self, event: TaskEvent) -> Phase
+        ensures { result ≡ frame_phase_after self event }
+    {
+        match (self, event) {
+            (Phase::AskFrames { length }, TaskEvent::DataAskedFor) => Phase::AwaitFrames { length },
+            (Phase::AwaitFrames { length }, TaskEvent::FramesRefused { sense }) => {
+                Phase::failed(sense, length)
+            }
+            (Phase::AwaitFrames { length }, TaskEvent::RequestAnswered { .. }) => Phase::good(
+                length,
+            ),
+            (Phase::AwaitFrames { length }, TaskEvent::RequestAccepted { number, .. }) => {
+                Phase::AwaitFrontier { number, length }
+            }
+            (Phase::AwaitFrames { length }, TaskEvent::AreaAsked { address, count, .. }) => {
+                Phase::ReadArea {
+                    reading: AreaReading::new(address, count, length),
+                }
+            }
+            (Phase::ReadArea { reading }, TaskEvent::PageLoaded { index }) => Phase::ReadArea {
+                reading: reading.ended(index, PageRead::WasRead),
+            },
+            (Phase::ReadArea { reading }, TaskEvent::BlockLost { index }) => Phase::ReadArea {
+                reading: reading.ended(index, PageRead::NotRead),
+            },
+            (Phase::SendFrames { length }, TaskEvent::DataSent) => Phase::good(length),
             (phase, _) => phase,
         }
     }
@@ -217,6 +270,7 @@ pub struct Task {
     pub lun: u8,
     pub expected: u32,
     pub phase: Phase,
+    pub frames: Frames,
 }
 
 /// Data that a task sends in one DATA IN, other than a block.
@@ -261,9 +315,32 @@ pub enum ShortReply {
     NotQueried { writing: bool, asked: Asked },
 }
 
-/// A task whose data came: its position among the open tasks, and what is to come.
+/// What a task asked its host for.
+#[derive(Clone, Copy, Debug, PartialEq, Eq)]
+pub enum Wanted {
+    /// The next block of a WRITE.
+    Block { transfer: Transfer },
+    /// All frames of a SECURITY PROTOCOL OUT, so many bytes.
+    Frames { length: u32 },
+}
+
+impl Wanted {
+    /// Whether so many bytes at this offset are what was asked for.
+    pub fn is(self, offset: u32, count: usize) -> bool
+        ensures { result ≡ is_wanted self offset count }
+    {
+        match self {
+            Wanted::Block { transfer } => {
+                transfer.offset() == offset && count == BLOCK_BYTES as usize
+            }
+            Wanted::Frames { length } => offset == 0 && count == length as usize,
+        }
+    }
+}
+
+/// A task whose data came: its position among the open tasks, and what it had asked for.
 #[derive(Clone, Copy, Debug, PartialEq, Eq)]
 pub struct AskedFor {
     pub index: usize,
-    pub transfer: Transfer,
+    pub wanted: Wanted,
 }

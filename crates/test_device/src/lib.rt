@@ -29,4 +29,6 @@ mod openings;
 #[cfg(test)]
 mod players;
 #[cfg(test)]
+mod rpmb_counter_end;
+#[cfg(test)]
 mod worlds;

@@ -1,7 +1,10 @@
-//! Rows of many writes, over dies of 4,096 pages: too long to be tried without LLVM. Short ones like them
-//! stand in `test_device` and `test_scripts`. A test hands the device that it is done with to `drop`, as those do.
+//! Rows of many writes, over dies of 4,096 pages, and stops at each job of a long script: too long
+//! to be tried without LLVM. Short ones like them stand in `test_device` and `test_scripts`. A test
+//! hands the device that it is done with to `drop`, as those do.
 #![tactic(auto)]
 
+#[cfg(test)]
+mod checked_script;
 #[cfg(test)]
 mod collections;
 #[cfg(test)]

@@ -1,7 +1,7 @@
 //! A frame of the replay protected memory block, spelled byte by byte. The offsets are those of
 //! JESD220, 12.4.
 use hmac_sha256::{Hmac, mac};
-use rpmb_frame::{Frame, covered};
+use rpmb_frame::{Frame, covered, frames_mac};
 
 /// Bytes 500 to 511: write counter, address, block count, result and message type.
 const NUMBERS: [u8; 12] = [1, 2, 3, 4, 5, 6, 7, 8, 9, 10, 11, 12];
@@ -49,4 +49,21 @@ fn a_mac_covers_the_last_284_bytes(rt: HostRuntime) {
     hmac.update(covered(&bytes));
     assert!(rt; covered(&bytes).len() == 284);
     assert!(rt; hmac.finish() == mac(b"Jefe", &bytes[228..]));
+}
+
+/// The last 284 bytes of two frames, one after the other.
+fn joined(first: &[u8; 512], second: &[u8; 512]) -> [u8; 568] {
+    let mut bytes = [0; 568];
+    bytes[..284].copy_from_slice(&first[228..]);
+    bytes[284..].copy_from_slice(&second[228..]);
+    bytes
+}
+
+/// The MAC of two frames is that of their last 284 bytes, one after the other.
+#[test]
+fn frames_have_one_mac(rt: HostRuntime) {
+    let key = [0x0B; 32];
+    let frames = [spelled(), [0x5A; 512]];
+    let bytes = joined(&frames[0], &frames[1]);
+    assert!(rt; frames_mac(&key, &frames) == mac(&key, &bytes));
 }

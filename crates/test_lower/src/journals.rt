@@ -1,7 +1,8 @@
 //! The comparison, on blocks that are a prefix of what was written and on blocks that are none, and what a
 //! journal takes from messages.
 use geometry::Config;
-use journal::{Journal, device_holding, is_kept};
+use journal::{FoundRegion, Journal, device_holding, is_kept};
+use rpmb::RegionState;
 use std::alloc::Global;
 use std::process::Abort;
 use std::test::Fail;
@@ -59,13 +60,20 @@ fn three_writes(alloc: Global) -> Result<Vec<Cmd>, Fail> {
     Ok(commands)
 }
 
+/// A region as it is found where nothing was done with it.
+const NEW_REGION: FoundRegion<'static> = FoundRegion {
+    key: None,
+    counter: 0,
+    area: &[],
+};
+
 /// Whether these blocks are those that a prefix of the commands, with the held ones in it, makes of a new
 /// device.
 fn keeps(alloc: Global, commands: &[Cmd], held: usize, found: &[Vec<Block>]) -> Result<bool, Fail> {
     let config = config()?;
     commands_keep_the_shape();
     let base = PlainDevice::new(alloc, config.numbers())?;
-    Ok(is_kept(config.numbers(), base, commands, held, found))
+    Ok(is_kept(config.numbers(), base, commands, held, found, &NEW_REGION))
 }
 
 /// The same over a device that holds the blocks of the base; `None` where those are not the units'.
@@ -77,10 +85,11 @@ fn keeps_over(
     found: &[Vec<Block>],
 ) -> Result<Option<bool>, Fail> {
     let config = config()?;
-    match device_holding(alloc, config.numbers(), base)? {
-        Some(base) => Ok(Some(is_kept(config.numbers(), base, commands, held, found))),
-        None => Ok(None),
-    }
+    let Some(base) = device_holding(alloc, config.numbers(), base, &NEW_REGION)? else {
+        return Ok(None);
+    };
+    let kept = is_kept(config.numbers(), base, commands, held, found, &NEW_REGION);
+    Ok(Some(kept))
 }
 
 /// Each prefix that has the held writes is kept.
@@ -173,6 +182,16 @@ fn write_6(tag: u8) -> [u8; 32] {
     command(tag, 0x0A, 0xE1, 0x0203_0100, 0)
 }
 
+/// A life begins, without a key.
+fn begun(alloc: Global) -> Journal {
+    let region = RegionState {
+        key: None,
+        counter: 0,
+        blocks: 512,
+    };
+    Journal::new(alloc, region)
+}
+
 /// Compares how many writes the journal has, and how many of them are held.
 fn expect_counts(rt: &impl Abort, journal: &Journal, accepted: usize, held: usize) {
     assert!(rt; journal.commands().len() == accepted);
@@ -184,7 +203,7 @@ fn expect_counts(rt: &impl Abort, journal: &Journal, accepted: usize, held: usiz
 #[test]
 fn writes_of_several_tasks_are_accepted_in_order(rt: HostRuntime) -> Result<(), Fail> {
     let alloc = rt.alloc();
-    let mut journal = Journal::new(alloc);
+    let mut journal = begun(alloc);
     journal.hear(alloc, &write_10(1, false))?;
     journal.hear(alloc, &write_10(2, true))?;
     journal.hear(alloc, &write_10(3, false))?;
@@ -210,7 +229,7 @@ fn writes_of_several_tasks_are_accepted_in_order(rt: HostRuntime) -> Result<(), 
 #[test]
 fn a_flush_holds_the_writes_before_it(rt: HostRuntime) -> Result<(), Fail> {
     let alloc = rt.alloc();
-    let mut journal = Journal::new(alloc);
+    let mut journal = begun(alloc);
     journal.hear(alloc, &write_10(1, false))?;
     journal.hear(alloc, &block_out(1, 0, 0x11))?;
     journal.hear(alloc, &flush(9, true))?;
@@ -237,7 +256,7 @@ fn is_write_at(command: Option<&Cmd>, wanted: u32) -> bool {
 #[test]
 fn write_6_is_accepted_and_an_empty_or_locked_write_is_not(rt: HostRuntime) -> Result<(), Fail> {
     let alloc = rt.alloc();
-    let mut journal = Journal::new(alloc);
+    let mut journal = begun(alloc);
     journal.hear(alloc, &write_6(1))?;
     journal.hear(alloc, &block_out(1, 0, 0x11))?;
     assert!(rt; is_write_at(journal.commands().first(), 0x01_0203));

@@ -23,6 +23,8 @@ mod plain_rows;
 #[cfg(test)]
 mod query_rows;
 #[cfg(test)]
+mod rpmb_journals;
+#[cfg(test)]
 mod rpmb_rows;
 #[cfg(test)]
 mod scans;

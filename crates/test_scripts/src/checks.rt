@@ -1,13 +1,16 @@
-//! Stops at each program and each erase of a script, also second ones and different ones on two dies.
-use crate::steps::Step::{Command, Good, Lines, Send, Settle};
+//! Stops at each program and each erase of a script, also second ones and different ones on two
+//! dies.
+use crate::frames::KEY_REQUEST;
+use crate::rpmb_write_stopped::{AT_13, EIGHT};
+use crate::steps::Step::{Command, Frames, Good, GoodFrames, Lines, Send, Settle};
 use crate::steps::{Script, Step};
 use ufsim::Stops;
 
 /// Two dies, units of 4 and of 2 blocks.
 const SMALL: &str = "config 2 20 16 1 64 0\nunit 4 0 0\nunit 2 1 0\n";
 
-/// Two writes without FUA, which are answered at once, each in flight on a die of its own; the second is done
-/// first.
+/// Two writes without FUA, which are answered at once, each in flight on a die of its own; the
+/// second is done first.
 const TWO_IN_FLIGHT: [Step<'static>; 10] = [
     Settle("4"),
     Command("012000", "01", "00001000", "2a0000000000000001"),
@@ -24,9 +27,9 @@ const TWO_IN_FLIGHT: [Step<'static>; 10] = [
 /// A stop that tears the first write, and the mending.
 const TORN_AND_MENDED: [Step<'static>; 2] = [Lines("stop 0:torn", "stop ok"), Settle("8")];
 
-/// The stops of two writes in flight on two dies. The first mark of new dies takes two erases and a program,
-/// and the writes two programs: five moments. A stop that tears the first write leaves a gap, whose mending
-/// takes two erases, two marks and a repair: five moments more.
+/// The stops of two writes in flight on two dies. The first mark of new dies takes two erases and a
+/// program, and the writes two programs: five moments. A stop that tears the first write leaves a
+/// gap, whose mending takes two erases, two marks and a repair: five moments more.
 #[test]
 fn each_stop_with_two_writes_in_flight_is_good(rt: HostRuntime) {
     let mut script = Script::over(rt.alloc(), SMALL);
@@ -44,14 +47,51 @@ fn each_pair_of_leftovers_is_good(rt: HostRuntime) {
     script.check_each(&rt, Stops::Pairs, b"check stops 24 bad 0\n");
 }
 
-/// A second stop in each mending. Without a mark on the dies it takes three programs and erases: after six
-/// stops inside the first erases and two inside the first mark. With a gap it takes five: after each of the
-/// fifteen stops inside its mending but that whose last mark is whole. After that one nothing is mended, but
-/// the first blocks of both dies are free, have older pages, and are erased. Each has three contents.
+/// A second stop in each mending. Without a mark on the dies it takes three programs and erases:
+/// after six stops inside the first erases and two inside the first mark. With a gap it takes five:
+/// after each of the fifteen stops inside its mending but that whose last mark is whole. After that
+/// one nothing is mended, but the first blocks of both dies are free, have older pages, and are
+/// erased. Each has three contents.
 #[test]
 fn a_second_stop_in_each_mending_is_good(rt: HostRuntime) {
     let mut script = Script::over(rt.alloc(), SMALL);
     script.add(&TWO_IN_FLIGHT);
     script.add(&TORN_AND_MENDED);
     script.check_each(&rt, Stops::Second, b"check stops 318 bad 0\n");
+}
+
+/// The RPMB key is programmed, and a write of eight blocks covers two pages of the area in part.
+/// Two of its three pages are in flight at once.
+const TWO_PAGES_IN_FLIGHT: [Step<'static>; 10] = [
+    Settle("4"),
+    Frames("01", &[KEY_REQUEST]),
+    Settle("1"),
+    GoodFrames("01"),
+    Frames("02", &EIGHT),
+    Lines("take 0", "take 0 program 0 2"),
+    Lines("take 1", "take 1 program 0 0"),
+    Lines("done 1 ok\ndone 0 ok", "done 1 yes\ndone 0 yes"),
+    Settle("1"),
+    GoodFrames("02"),
+];
+
+/// A stop in the mending of which nothing is written, and a write of one of the eight blocks.
+const WRITTEN_AFTER_A_STOP: [Step<'static>; 5] = [
+    Lines("stop", "stop ok"),
+    Settle("8"),
+    Frames("02", &[AT_13]),
+    Settle("4"),
+    GoodFrames("02"),
+];
+
+/// The blocks of the RPMB area, the key and the counter come back together. The first mark takes
+/// two erases and a program, the key one program and the writes three and two; after the script's
+/// own stop each die erases a block once more: eleven moments. At one of them both dies program.
+#[test]
+fn each_stop_of_rpmb_writes_is_good(rt: HostRuntime) {
+    let mut script = Script::over(rt.alloc(), SMALL);
+    script.add(&TWO_PAGES_IN_FLIGHT);
+    script.add(&WRITTEN_AFTER_A_STOP);
+    script.run(&rt);
+    script.check_each(&rt, Stops::Pairs, b"check stops 42 bad 0\n");
 }

@@ -9,11 +9,19 @@ mod checks;
 #[cfg(test)]
 mod commands;
 #[cfg(test)]
+mod frames;
+#[cfg(test)]
 mod gap;
 #[cfg(test)]
 mod groups;
 #[cfg(test)]
 mod messages;
+#[cfg(test)]
+mod rpmb_commands;
+#[cfg(test)]
+mod rpmb_refusals;
+#[cfg(test)]
+mod rpmb_write_stopped;
 #[cfg(test)]
 mod scripts;
 #[cfg(test)]

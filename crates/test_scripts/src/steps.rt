@@ -1,14 +1,16 @@
 //! Scripts with the output that is expected of them, as lists of steps.
+use crate::frames::{Frame, length_of};
 use crate::scripts::{Outcome, Text};
 use Step::{
-    Block, Command, DataIn, Good, Host, Lines, NopOut, Refusal, Reply, Response, Send, Settle,
+    Answer, Block, Command, DataIn, Frames, Good, GoodFrames, Host, Lines, NopOut, Refusal, Reply,
+    Request, Response, Send, Settle,
 };
 use std::alloc::Global;
 use std::process::Abort;
 use ufsim::Stops;
 
-/// The first lines of a script with the row configuration: 4 dies of 16 blocks of 64 pages, units of
-/// 256, 64 and 64 blocks, one step of RPMB, 64 slots, 4 spare blocks.
+/// The first lines of a script with the row configuration: 4 dies of 16 blocks of 64 pages, units
+/// of 256, 64 and 64 blocks, one step of RPMB, 64 slots, 4 spare blocks.
 pub const FIRST_LINES: &str = "config 4 16 64 1 64 4\nunit 256 0 0\nunit 64 1 0\nunit 64 2 0\n";
 
 /// The task tags from 0 to 63.
@@ -27,9 +29,9 @@ pub const OFFSETS: [&str; 32] = [
     "00018000", "00019000", "0001a000", "0001b000", "0001c000", "0001d000", "0001e000", "0001f000",
 ];
 
-/// Lines of a script with the lines that they print. Bytes of messages are spelled in hexadecimal digits,
-/// without the zero bytes behind them. The head of a message is what stands before its task tag: code, flags
-/// and LUN.
+/// Lines of a script with the lines that they print. Bytes of messages are spelled in hexadecimal
+/// digits, without the zero bytes behind them. The head of a message is what stands before its task
+/// tag: code, flags and LUN.
 #[derive(Clone, Copy)]
 pub enum Step<'a> {
     /// Some lines, and what they print. The end of the last line is left out.
@@ -42,21 +44,32 @@ pub enum Step<'a> {
     NopOut(&'a str),
     /// A COMMAND, which is taken: head, tag, expected length and CDB.
     Command(&'a str, &'a str, &'a str, &'a str),
-    /// The data of the WRITE with this tag, so many blocks of one byte: the device asks for each of them by
-    /// READY TO TRANSFER, and gets it by DATA OUT.
+    /// The data of the WRITE with this tag, so many blocks of one byte: the device asks for each of
+    /// them by READY TO TRANSFER, and gets it by DATA OUT.
     Send(&'a str, &'a str, usize),
+    /// A SECURITY PROTOCOL OUT with this tag to the unit RPMB: the device asks for these frames all
+    /// at once by READY TO TRANSFER, and gets them by DATA OUT.
+    Frames(&'a str, &'a [Frame<'a>]),
+    /// The same, which is answered GOOD at once.
+    Request(&'a str, &'a [Frame<'a>]),
+    /// A SECURITY PROTOCOL IN with this tag to the unit RPMB, which gets these frames by DATA IN,
+    /// and GOOD.
+    Answer(&'a str, &'a [Frame<'a>]),
     /// A message from the device: its header, and the data behind it.
     Reply(&'a str, &'a str),
     /// A DATA IN with this tag: one block of this byte, from offset 0 on.
     Block(&'a str, &'a str),
-    /// A DATA IN of equal bytes: tag, offset, their count as the header has it, the byte, and their count.
+    /// A DATA IN of equal bytes: tag, offset, their count as the header has it, the byte, and their
+    /// count.
     DataIn(&'a str, &'a str, &'a str, &'a str, usize),
     /// A RESPONSE with this tag: GOOD, without a residual.
     Good(&'a str),
+    /// A RESPONSE of the unit RPMB with this tag: GOOD, without a residual.
+    GoodFrames(&'a str),
     /// A RESPONSE without sense data: head, tag, response and status, residual.
     Response(&'a str, &'a str, &'a str, &'a str),
-    /// A RESPONSE with CHECK CONDITION: head, tag, residual, sense key, additional sense code with its
-    /// qualifier.
+    /// A RESPONSE with CHECK CONDITION: head, tag, residual, sense key, additional sense code with
+    /// its qualifier.
     Refusal(&'a str, &'a str, &'a str, &'a str, &'a str),
 }
 
@@ -103,12 +116,16 @@ impl Script {
                 "host ok",
             ),
             Send(tag, byte, blocks) => self.send(tag, byte, blocks),
+            Frames(tag, frames) => self.frames(tag, frames),
+            Request(tag, frames) => self.request(tag, frames),
+            Answer(tag, frames) => self.answer(tag, frames),
             Reply(header, data) => self.reply(&[(header, 32), (data, 0)]),
             Block(tag, byte) => self.data_in(tag, OFFSETS[0], "1000", byte, 4096),
             DataIn(tag, offset, count, byte, bytes) => {
                 self.data_in(tag, offset, count, byte, bytes);
             }
             Good(tag) => self.reply(&[("210000", 3), (tag, 29)]),
+            GoodFrames(tag) => self.reply(&[("2100c4", 3), (tag, 29)]),
             Response(head, tag, status, residual) => {
                 self.reply(&[(head, 3), (tag, 3), (status, 6), (residual, 20)]);
             }
@@ -170,6 +187,50 @@ impl Script {
         self.lines(" 4096", "host ok");
     }
 
+    // The frames of a request: they are asked for all at once, and brought.
+    fn frames<'b>(&mut self, tag: &'b str, frames: &[Frame<'_>]) {
+        let length = length_of(frames.len());
+        self.command_of_frames("0120c4", tag, length, "b5ec0001");
+        self.reply(&[("3100c4", 3), (tag, 15), (length, 14)]);
+        self.script.add("host ");
+        self.script
+            .add_fields(&[("0200c4", 3), (tag, 7), (length, 8), (length, 14)]);
+        self.script.add_frames(frames);
+        self.lines("", "host ok");
+    }
+
+    // A COMMAND to the unit RPMB: the first half of its length's CDB is the operation code and what
+    // is zero but for the security protocol ECh and the protocol's number 1.
+    fn command_of_frames<'b>(
+        &mut self,
+        head: &'b str,
+        tag: &'b str,
+        length: &'b str,
+        cdb: &'b str,
+    ) {
+        self.host(
+            &[(head, 3), (tag, 11), (length, 2), (cdb, 8), (length, 8)],
+            "host ok",
+        );
+    }
+
+    fn request<'b>(&mut self, tag: &'b str, frames: &[Frame<'_>]) {
+        self.frames(tag, frames);
+        self.reply(&[("2100c4", 3), (tag, 29)]);
+    }
+
+    // The response that waits is fetched.
+    fn answer<'b>(&mut self, tag: &'b str, frames: &[Frame<'_>]) {
+        let length = length_of(frames.len());
+        self.command_of_frames("0140c4", tag, length, "a2ec0001");
+        self.output.add("reply ");
+        self.output
+            .add_fields(&[("2200c4", 3), (tag, 7), (length, 8), (length, 14)]);
+        self.output.add_frames(frames);
+        self.lines("reply", "");
+        self.reply(&[("2100c4", 3), (tag, 29)]);
+    }
+
     fn data_in<'b>(
         &mut self,
         tag: &'b str,
@@ -191,8 +252,8 @@ impl Script {
         self.lines("reply", "");
     }
 
-    // Response 01h and status 02h, and 20 bytes of data: the length of the sense data, which are 18 bytes of
-    // response code 70h.
+    // Response 01h and status 02h, and 20 bytes of data: the length of the sense data, which are 18
+    // bytes of response code 70h.
     fn refusal<'b>(
         &mut self,
         head: &'b str,

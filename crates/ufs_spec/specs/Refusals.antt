@@ -293,7 +293,7 @@ is_crowded s command =
     (is_security_out command && list_any (λ (task : Task). sends_frames task.command) s.tasks)
     || nat_lt (free_slots s.translation) (slots_needed (numbers_of s) command)
 
--- ## The table. Line 0 comes before it: TASK SET FULL (28h) if 32 tasks are open (`command_taken` in Machine)
+-- ## The table. Line 0 comes before it: TASK SET FULL (28h) if 32 tasks are open (`command_taken` in Begins)
 
 -- a line of the table: whether it applies to the request, and the status that it answers with
 pub record Line : Type 0 where

@@ -1,10 +1,11 @@
 //! Stops a script's device inside each of its programs and erases, and looks whether the device that
-//! opens afterwards holds what a prefix of the accepted commands makes, with each acknowledged one in it.
+//! opens afterwards holds what a prefix of the accepted commands makes, with each acknowledged one in it: the
+//! blocks of the units, and the key, the counter and the area of the replay protected memory block.
 ghost use Rattle.std.specs.Prelude.{◌≡◌, IfOk, IfSome};
 ghost use Rattle.ufs_spec.specs.Plain.{shape_of, shape_of_numbers};
 
 use crate::fault::Word;
-use crate::reading::{Visit, blocks_held};
+use crate::reading::{Holdings, Visit, read_dies};
 use crate::stopped::{
     CONTENTS, copied_dies, has_bad, is_at_work, is_write, pair_stopped, stopped_dies,
 };
@@ -12,8 +13,12 @@ use device::World;
 use geometry::Config;
 use journal::{Journal, device_holding, is_kept};
 use nand_model::MemDie;
+use rpmb::RegionState;
 use std::alloc::Global;
-use ufs_spec::{Block, Event, Numbers, Output, PlainDevice, commands_keep_the_shape};
+use ufs_spec::{Event, Numbers, Output, PlainDevice, commands_keep_the_shape};
+
+/// How many blocks of 256 bytes the area has in each of its steps of 128 KiB (JESD220, 12.4).
+const STEP_BLOCKS: u32 = 512;
 
 /// Which stops are tried at a program or an erase.
 #[derive(Clone, Copy)]
@@ -32,8 +37,8 @@ pub enum Stops {
 pub(crate) struct Check {
     config: Config,
     tries: Stops,
-    /// The blocks that the life began with, unit by unit; `None` where it began over new dies.
-    base: Option<Vec<Vec<Block>>>,
+    /// What the life began with; `None` where it began over new dies.
+    base: Option<Holdings>,
     journal: Journal,
     /// How many stops were tried.
     pub stops: usize,
@@ -44,11 +49,12 @@ pub(crate) struct Check {
 impl Check {
     /// Nothing was tried yet, over new dies.
     pub fn new(alloc: Global, config: Config, tries: Stops) -> Check {
+        let journal = Journal::new(alloc, region_of(config.numbers(), None, 0));
         Check {
             config,
             tries,
             base: None,
-            journal: Journal::new(alloc),
+            journal,
             stops: 0,
             bad: 0,
         }
@@ -98,10 +104,12 @@ impl Check {
     fn begin_life(&mut self, alloc: Global, world: &World) -> Result<(), Word> {
         let dies = copied_dies(alloc, world.dies())?;
         let is_bad = has_bad(dies.as_slice());
-        match blocks_held(alloc, &self.config, dies)? {
-            Some(blocks) => {
-                self.base = Some(blocks);
-                self.journal = Journal::new(alloc);
+        match read_dies(alloc, &self.config, dies, self.key())? {
+            Some(found) => {
+                let (key, counter) = (found.region.key, found.region.counter());
+                let region = region_of(self.config.numbers(), key, counter);
+                self.base = Some(found);
+                self.journal = Journal::new(alloc, region);
             }
             None => self.bad = self.bad.saturating_add(1),
         }
@@ -126,16 +134,21 @@ impl Check {
         }
     }
 
+    // The key that the life programmed or began with. No other can be set after a stop.
+    fn key(&self) -> Option<[u8; 32]> {
+        self.journal.region().key
+    }
+
     // Opens a device over these dies, lets it mend, and compares what it holds.
     fn try_stop(&mut self, alloc: Global, dies: Vec<MemDie>) -> Result<(), Word> {
-        let found = blocks_held(alloc, &self.config, dies)?;
+        let found = read_dies(alloc, &self.config, dies, self.key())?;
         self.count(alloc, found)
     }
 
-    // Counts a stop after which these blocks were found; `None` where not each one was read.
-    fn count(&mut self, alloc: Global, found: Option<Vec<Vec<Block>>>) -> Result<(), Word> {
+    // Counts a stop after which this was found; `None` where it was not told rightly.
+    fn count(&mut self, alloc: Global, found: Option<Holdings>) -> Result<(), Word> {
         let is_good = match found {
-            Some(blocks) => self.is_kept(alloc, blocks.as_slice())?,
+            Some(found) => self.is_kept(alloc, &found)?,
             None => false,
         };
         self.stops = self.stops.saturating_add(1);
@@ -145,24 +158,34 @@ impl Check {
         Ok(())
     }
 
-    // Whether these blocks are those after a prefix of what was accepted in the life.
-    fn is_kept(&self, alloc: Global, found: &[Vec<Block>]) -> Result<bool, Word> {
-        let numbers = self.config.numbers();
-        let commands = self.journal.commands();
-        match self.base(alloc)? {
-            Some(base) => Ok(is_kept(numbers, base, commands, self.journal.held(), found)),
-            None => Ok(false),
-        }
+    // Whether this is what is there after a prefix of what was accepted in the life.
+    fn is_kept(&self, alloc: Global, found: &Holdings) -> Result<bool, Word> {
+        let Some(base) = self.base(alloc)? else {
+            return Ok(false);
+        };
+        Ok(is_kept(
+            self.config.numbers(),
+            base,
+            self.journal.commands(),
+            self.journal.held(),
+            found.units.as_slice(),
+            &found.region.found(),
+        ))
     }
 
-    // The plain device that the life began with; `None` where the blocks that were read are not those of
-    // the units.
+    // The plain device that the life began with; `None` where what was read is not as large as the units and
+    // the area.
     fn base(&self, alloc: Global) -> Result<Option<PlainDevice>, Word>
         ensures { IfOk result (λ o. IfSome o (λ p. shape_of p ≡ shape_of_numbers self.now.config)) }
     {
         let numbers = self.config.numbers();
         match &self.base {
-            Some(blocks) => Ok(device_holding(alloc, numbers, blocks.as_slice())?),
+            Some(base) => Ok(device_holding(
+                alloc,
+                numbers,
+                base.units.as_slice(),
+                &base.region.found(),
+            )?),
             None => new_device(alloc, numbers),
         }
     }
@@ -182,7 +205,7 @@ impl Check {
                 break;
             }
         }
-        let found = visit.blocks(self.config.numbers().units.as_slice())?;
+        let found = visit.read_all(self.config.numbers(), self.key())?;
         self.count(alloc, found)
     }
 
@@ -237,6 +260,15 @@ impl Check {
             }
         }
         Ok(())
+    }
+}
+
+// What is kept of a region with this key and this counter.
+fn region_of(numbers: &Numbers, key: Option<[u8; 32]>, counter: u32) -> RegionState {
+    RegionState {
+        key,
+        counter,
+        blocks: STEP_BLOCKS.saturating_mul(u32::from(numbers.rpmb)),
     }
 }
 

@@ -10,6 +10,7 @@ mod leftovers;
 mod lines;
 mod outputs;
 mod reading;
+mod regions;
 mod run;
 mod spelling;
 mod stopped;

@@ -1,27 +1,38 @@
 //! Opens a device again over dies, and reads by messages all that it holds.
 use crate::fault::{Word, word_of};
+use crate::regions::Region;
 use device::World;
 use geometry::Config;
 use journal::block_in;
 use nand_model::MemDie;
 use std::alloc::Global;
 use ufs_spec::codes::{COMMAND, DATA_IN, RESPONSE};
-use ufs_spec::{Block, Event, Output, RunFaultKind, UnitSpec, Upiu, write_u32};
+use ufs_spec::{Block, Event, Numbers, Output, RunFaultKind, UnitSpec, Upiu, write_u32};
 
-/// How many replies and jobs a READ of one block may need.
-const READ_ROUNDS: usize = 8;
+/// How many rounds of a job of each die a reply may need.
+const REPLY_ROUNDS: usize = 8;
 
-/// The blocks of each unit as a device reads them that is opened over these dies and mended; `None` where
-/// it does not open, or does not answer each READ with its block.
-pub(crate) fn blocks_held(
+/// All that a device holds.
+#[derive(Drop)]
+pub(crate) struct Holdings {
+    /// The blocks of each unit, by their addresses.
+    pub units: Vec<Vec<Block>>,
+    /// The region of the replay protected memory block.
+    pub region: Region,
+}
+
+/// What a device holds that is opened over these dies and mended; `None` where it does not open, or does not answer
+/// each READ with its block, and each request for the region rightly under this key.
+pub(crate) fn read_dies(
     alloc: Global,
     config: &Config,
     dies: Vec<MemDie>,
-) -> Result<Option<Vec<Vec<Block>>>, Word> {
+    key: Option<[u8; 32]>,
+) -> Result<Option<Holdings>, Word> {
     match Visit::open(alloc, config, dies)? {
         Some(mut visit) => {
             visit.mend()?;
-            visit.blocks(config.numbers().units.as_slice())
+            visit.read_all(config.numbers(), key)
         }
         None => Ok(None),
     }
@@ -30,7 +41,7 @@ pub(crate) fn blocks_held(
 /// A device that is read by messages.
 #[derive(Drop)]
 pub(crate) struct Visit {
-    alloc: Global,
+    pub alloc: Global,
     pub world: World,
     pub dies: u8,
 }
@@ -100,8 +111,23 @@ impl Visit {
         Ok(has_worked)
     }
 
-    /// The blocks of each unit; `None` where a READ has not its block.
-    pub fn blocks(&mut self, units: &[UnitSpec]) -> Result<Option<Vec<Vec<Block>>>, Word> {
+    /// All that the device holds; `None` where it does not tell it rightly.
+    pub fn read_all(
+        &mut self,
+        numbers: &Numbers,
+        key: Option<[u8; 32]>,
+    ) -> Result<Option<Holdings>, Word> {
+        let Some(units) = self.blocks(numbers.units.as_slice())? else {
+            return Ok(None);
+        };
+        match self.region(key, numbers.rpmb)? {
+            Some(region) => Ok(Some(Holdings { units, region })),
+            None => Ok(None),
+        }
+    }
+
+    // The blocks of each unit; `None` where a READ has not its block.
+    fn blocks(&mut self, units: &[UnitSpec]) -> Result<Option<Vec<Vec<Block>>>, Word> {
         let mut all = Vec::new(self.alloc);
         for (index, unit) in units.iter().enumerate() {
             let Ok(number) = u8::try_from(index) else {
@@ -129,36 +155,47 @@ impl Visit {
 
     // Reads a block; `None` where the READ is not answered with it and with GOOD.
     fn block(&mut self, unit: u8, address: u32) -> Result<Option<Block>, Word> {
-        let message = Vec::from_array(self.alloc, read_command(unit, address))?;
-        let mut found = None;
-        if let Output::Host(Err(_)) = self.step(&Event::Host(message))? {
-            return Ok(found);
+        if !self.send(&read_command(unit, address))? {
+            return Ok(None);
         }
-        for _ in 0..READ_ROUNDS {
-            match self.step(&Event::Reply)? {
-                Output::Reply(Some(reply)) if is_of(&reply, DATA_IN) => {
-                    found = block_in(reply.as_slice());
-                }
-                Output::Reply(Some(reply)) => return Ok(found.filter(|_| is_good(&reply))),
-                _ => {
-                    self.work()?;
-                }
+        let found = match self.hear()? {
+            Some(reply) if is_of(&reply, DATA_IN) => block_in(reply.as_slice()),
+            _ => return Ok(None),
+        };
+        match self.hear()? {
+            Some(reply) if is_good(&reply) => Ok(found),
+            _ => Ok(None),
+        }
+    }
+
+    /// Whether the device takes the message.
+    pub fn send<const N: usize>(&mut self, message: &[u8; N]) -> Result<bool, Word> {
+        let message = Vec::from_slice(self.alloc, message)?;
+        Ok(matches!(self.step(&Event::Host(message))?, Output::Host(Ok(_))))
+    }
+
+    /// The next reply, after as much work as it needs.
+    pub fn hear(&mut self) -> Result<Option<Upiu>, Word> {
+        for _ in 0..REPLY_ROUNDS {
+            if let Output::Reply(Some(reply)) = self.step(&Event::Reply)? {
+                return Ok(Some(reply));
             }
+            self.work()?;
         }
         Ok(None)
     }
 }
 
-// Whether the reply is of this kind.
-fn is_of(reply: &Upiu, code: u8) -> bool {
+/// Whether the reply is of this kind.
+pub(crate) fn is_of(reply: &Upiu, code: u8) -> bool {
     match reply.as_slice().first() {
         Some(first) => *first == code,
         None => false,
     }
 }
 
-// Whether the reply is a RESPONSE with the status GOOD.
-fn is_good(reply: &Upiu) -> bool {
+/// Whether the reply is a RESPONSE with the status GOOD.
+pub(crate) fn is_good(reply: &Upiu) -> bool {
     let bytes = reply.as_slice();
     is_of(reply, RESPONSE) && bytes.len() >= 32 && bytes[6] == 0 && bytes[7] == 0
 }

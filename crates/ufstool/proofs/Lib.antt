@@ -1,2 +1,1 @@
-mod Covered
 mod Sent

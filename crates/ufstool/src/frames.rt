@@ -1,14 +1,13 @@
 //! Frames of the replay protected memory block in words (JESD220, 12.4).
-use crate::macs::frames_mac;
 use crate::messages::write_contents;
 use crate::names::{frame_name, frame_result_name};
 use hmac_sha256::same_mac;
-use rpmb_frame::Frame;
 use rpmb_frame::codes::{
     COUNTER_EXPIRED, COUNTER_READ_REQUEST, COUNTER_READ_RESPONSE, DATA_READ_REQUEST,
     DATA_READ_RESPONSE, DATA_WRITE_REQUEST, DATA_WRITE_RESPONSE, KEY_PROGRAMMING_REQUEST,
     KEY_PROGRAMMING_RESPONSE,
 };
+use rpmb_frame::{Frame, frames_mac};
 use std::io::Write;
 use std::{fmt, io};
 use ufs_spec::Message;

@@ -9,7 +9,6 @@ mod frame_lines;
 mod frames;
 mod host;
 mod lines;
-mod macs;
 mod messages;
 mod names;
 mod outputs;

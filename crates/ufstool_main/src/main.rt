@@ -5,13 +5,13 @@
 mod asked;
 mod files;
 mod program;
-mod rpmb;
+mod rpmb_calls;
 mod rpmb_words;
 
 use crate::asked::{Call, KeySource, read_call};
 use crate::files::{file_bytes, key_bytes};
 use crate::program::program;
-use crate::rpmb::run_rpmb;
+use crate::rpmb_calls::run_rpmb;
 use clap::ArgMatches;
 use clap::error::ErrorKind;
 use die_map::{Form, draw};

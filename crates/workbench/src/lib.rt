@@ -11,6 +11,7 @@ ghost use Rattle.device.specs.Describes.{Describes};
 mod blocks;
 pub mod collected;
 mod config;
+pub mod frames;
 pub mod messages;
 
 pub use config::{row_config, small_config};

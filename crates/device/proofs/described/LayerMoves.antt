@@ -32,10 +32,14 @@ pub layer_moves : (d : DeviceCore) (after : Core) (s : State) (array : Array) (u
     layer_kept.Describes after u → AreClaimed after (claims_of s.tasks) → Leaves s.translation u →
     Keeps (record d { ftl = after }) (record s { array = array; translation = u })
 layer_moves d after s array u k layer claims leaves = record {
-  settings = k.settings;
+  boot = k.boot;
+  permanent = k.permanent;
+  region = k.region;
+  registers = k.registers;
   layer_kept = layer;
   few = k.few;
   tasks = subst (λ n. TasksKept n d.tasks s.tasks) (sym leaves.before) k.tasks;
+  one_sends = k.one_sends;
   wanted = λ tag index. leaves.wanted tag index ∙ k.wanted tag index;
   claims = claims;
   shorts = k.shorts;
@@ -76,9 +80,15 @@ job_leaves t die flight ending none = record { before = refl; wanted = λ n k. r
 
 -- A step
 
+-- the same is kept, and the same pages wait for their rests
+pub record KeepsReads (t u : Translation) : Type 0 where
+  pub pins : u.pins ≡ t.pins
+  pub rests : u.work.rests ≡ t.work.rests
+
 -- what a step is to the tasks that is no repair; it locks nothing
 pub record Stays (t u : Translation) : Type 0 where
   pub leaves : Leaves t u
+  pub reads : KeepsReads t u
   pub frontier : u.ledger.frontier ≡ t.ledger.frontier
   pub lock : layer.is_locked u ≡ layer.is_locked t
 
@@ -86,31 +96,50 @@ pub record Stays (t u : Translation) : Type 0 where
 pub record Repairs (t u : Translation) : Type 0 where
   pub unmended : layer.is_mended t.work.mending ≡ false
   pub wanted : (tag index : ℕ) → wanted_kept u.pins tag index ≡ wanted_kept t.pins tag index
+  pub reads : KeepsReads t u
 
 abbrev pub StepLeaves : Translation → Translation → Type 0
 StepLeaves t u = Stays t u ⊎ Repairs t u
 
 nothing_moves : (t : Translation) → Stays t t
-nothing_moves t =
-    record { leaves = record { before = refl; wanted = λ n k. refl }; frontier = refl; lock = refl }
+nothing_moves t = record {
+  leaves = record { before = refl; wanted = λ n k. refl };
+  reads = record { pins = refl; rests = refl };
+  frontier = refl;
+  lock = refl;
+}
 
 copy_leaves : (t : Translation) (p : Place) (cell : Cell) → Stays t (copy_begun t p cell)
-copy_leaves t p (GroupPage tag body) =
-    record { leaves = record { before = refl; wanted = λ n k. refl }; frontier = refl; lock = refl }
+copy_leaves t p (GroupPage tag body) = record {
+  leaves = record { before = refl; wanted = λ n k. refl };
+  reads = record { pins = refl; rests = refl };
+  frontier = refl;
+  lock = refl;
+}
 copy_leaves t p cell = nothing_moves t
 
 order_leaves : (t : Translation) (o : Order) → IsDue t o → StepLeaves t (ordered t o)
 order_leaves t (OrderRepair k left) due =
-    inr (record { unmended = ap layer.is_mended due.1; wanted = λ n k. refl })
+    inr (record {
+      unmended = ap layer.is_mended due.1;
+      wanted = λ n k. refl;
+      reads = record { pins = refl; rests = refl };
+    })
 order_leaves t (OrderCopy victim p left) due =
     let h = copy_leaves (with_plan t victim left) p (t.disk.cells p) in
     inl (record {
       leaves = record { before = h.leaves.before; wanted = h.leaves.wanted };
+      reads = record { pins = h.reads.pins; rests = h.reads.rests };
       frontier = h.frontier;
       lock = h.lock;
     })
 order_leaves t order due =
-    inl (record { leaves = record { before = refl; wanted = λ n k. refl }; frontier = refl; lock = refl })
+    inl (record {
+      leaves = record { before = refl; wanted = λ n k. refl };
+      reads = record { pins = refl; rests = refl };
+      frontier = refl;
+      lock = refl;
+    })
 
 pub step_leaves : (t : Translation) → StepLeaves t (moved t TakeStep)
 step_leaves t =
@@ -126,11 +155,15 @@ pub unmended_moves : (d : DeviceCore) (after : Core) (s : State) (u : Translatio
     layer_kept.Describes after u → AreClaimed after (claims_of s.tasks) → Repairs s.translation u →
     Keeps (record d { ftl = after }) (record s { translation = u })
 unmended_moves d after s u k tied layer claims repairs = record {
-  settings = k.settings;
+  boot = k.boot;
+  permanent = k.permanent;
+  region = k.region;
+  registers = k.registers;
   layer_kept = layer;
   few = k.few;
   tasks = kept_else (numbers_of s) (length s.accepted) (before_accepted s.translation.ledger) (before_accepted u.ledger)
       d.tasks s.tasks (unmended_fit s tied repairs.unmended) k.tasks;
+  one_sends = k.one_sends;
   wanted = λ tag index. repairs.wanted tag index ∙ k.wanted tag index;
   claims = claims;
   shorts = k.shorts;

@@ -1,5 +1,5 @@
 -- A device over dies whose pages are sound is the one that the definitions open over them.
-use Rattle.std.proofs.Common.{◌≡◌, ◌∙◌, suc, ◌≤◌, Bool, List, [], ap, arith, subst}
+use Rattle.std.proofs.Common.{◌≡◌, ◌∙◌, suc, ◌*◌, ◌≤◌, Bool, List, [], ap, arith, subst}
 use Rattle.std.specs.Prelude.{IfOk, Result}
 use Rattle.std.proofs.lemmas.Result.{IfOk-weaker}
 use Rattle.ufs_spec.specs.Cells.{AreWithin, Array, Cells, Shows}
@@ -99,7 +99,7 @@ module _ (n : Numbers) (array : Array) (bad : Spot → Bool) (s : State) (f : Fo
       opens opened.cells bad s.translation (omega arith) (cells_right array opened.shown)
       (cells_within opened.cells inside opened.shown) sound_here found_here opened.translation
 
-  pub device_opens : Describes (idle_device layer f.settings) s
+  pub device_opens : Describes (idle_device layer f.settings (512 * n.rpmb)) s
   device_opens = opens_right n array bad s layer f.settings config inside sound opened layer_is none settings_are
 
 -- Over dies

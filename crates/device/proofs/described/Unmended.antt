@@ -3,8 +3,8 @@ use Rattle.std.proofs.Common.{◌≡◌, ℕ, Bool, true, false, All, List, [], 
 use Rattle.std.proofs.lemmas.List.Elements.{All-cons, All-nil}
 use Rattle.ufs_spec.proofs.Facts.{false≢true}
 use Rattle.ufs_spec.specs.Exchanges as exchange
-use Rattle.ufs_spec.specs.Exchanges.{Answering, Awaiting, Deed, Gathering, Sending, SendingBytes, task_of}
-use Rattle.ufs_spec.specs.Exchanges.{is_task_of}
+use Rattle.ufs_spec.specs.Exchanges.{Answering, Awaiting, Deed, Gathering, ReadingArea, Sending, SendingBytes}
+use Rattle.ufs_spec.specs.Exchanges.{is_task_of, task_of}
 use Rattle.ufs_spec.specs.declared.configs.Numbers.{Numbers}
 use Rattle.power_loss.specs.Exchange.{DeedFits, DeedsFit, claim_of}
 use Rattle.power_loss.proofs.open_tasks.TaggedLists.{each_found}
@@ -21,7 +21,7 @@ deed_told n accepted claimed total count (Awaiting commands) h = absurd (false�
 deed_told n accepted claimed total count (Gathering purpose gathered asked) h = tt
 deed_told n accepted claimed total count (Sending blocks sent) h = tt
 deed_told n accepted claimed total count (SendingBytes bytes) h = tt
-deed_told n accepted claimed total count (exchange.ReadingArea pages) h = tt
+deed_told n accepted claimed total count (ReadingArea pages) h = tt
 deed_told n accepted claimed total count (Answering status carried) h = tt
 
 pub none_waits : (n : Numbers) (accepted count : ℕ) (us : List exchange.Task) → DeedsFit n accepted false us →
@@ -42,8 +42,14 @@ doing_else n accepted claimed total before other expected (phase.AskData x) (Gat
     fits h = h
 doing_else n accepted claimed total before other expected (phase.AwaitData x) (Gathering purpose gathered asked)
     fits h = h
+doing_else n accepted claimed total before other expected (phase.AskFrames size) (Gathering purpose gathered asked)
+    fits h = h
+doing_else n accepted claimed total before other expected (phase.AwaitFrames size) (Gathering purpose gathered asked)
+    fits h = h
+doing_else n accepted claimed total before other expected (phase.SendFrames size) (SendingBytes bytes) fits h = h
 doing_else n accepted claimed total before other expected (phase.SendBlocks x) (Sending blocks sent) fits h = h
 doing_else n accepted claimed total before other expected (phase.SendData x) (SendingBytes bytes) fits h = h
+doing_else n accepted claimed total before other expected (phase.ReadArea r) (ReadingArea pages) fits h = h
 doing_else n accepted claimed total before other expected (phase.Answer told m) (Answering x carried) fits h = h
 doing_else n accepted claimed total before other expected (phase.Answer told m) (Sending blocks sent) fits h = h
 doing_else n accepted claimed total before other expected p deed fits h = absurd h
@@ -56,7 +62,10 @@ kept_else n accepted before other (x ∷ ts) (y ∷ us) fits h = (
     lun = h.0.lun;
     tag = h.0.tag;
     expected = h.0.expected;
+    sends = h.0.sends;
     request = h.0.request;
+    asks = h.0.asks;
+    fits = h.0.fits;
     doing = doing_else n accepted (claim_of n y) y.length before other x.expected x.phase y.deed fits.0 h.0.doing;
     read = h.0.read;
   },

@@ -1,6 +1,6 @@
 -- The calls of the dies and of the device itself are answered as the definitions say.
 use Rattle.std.proofs.Common.{◌≡◌, ◌∙◌, ℕ, ◌==◌, ◌||◌, Bool, true, false, List, [], Option, Some, None, length}
-use Rattle.std.proofs.Common.{refl, sym, ap, subst, arith, All, inl, inr}
+use Rattle.std.proofs.Common.{refl, sym, ap, subst, arith, get_or, ◌*◌, All, inl, inr}
 use Rattle.std.specs.Prelude.{if◌then◌else◌, ◌-◌, ◌≤◌, count_by, nat_lt}
 use Rattle.ufs_spec.specs.Cells.{Array, Cell, Cells, IsCell}
 use Rattle.ufs_spec.specs.Commands.{Command}
@@ -8,7 +8,11 @@ use Rattle.ufs_spec.specs.Configs.{IsConfig}
 use Rattle.ufs_spec.specs.Disk.{CellCrash, Erasing, Flight, Programming, Reading, Spot, flight_alone, page_of}
 use Rattle.ufs_spec.specs.Exchanges as exchange
 use Rattle.ufs_spec.specs.Lives.{IsOpened}
-use Rattle.ufs_spec.specs.Machine.{Take, OfTake, MayLeave, Turn, OfTurn, behind, durable}
+use Rattle.ufs_spec.specs.Exchanges.{empty_registers}
+use Rattle.ufs_spec.specs.Machine.{Take, OfTake, MayLeave, Turn, OfTurn, behind, durable, is_to_fill}
+use Rattle.ufs_spec.specs.Plain.{Plain, Shape, region_of, shape_of, shape_of_numbers}
+use Rattle.ufs_spec.proofs.RegionPages.{area_there}
+use Rattle.rpmb.specs.Kept.{IsKept}
 use Rattle.ufs_spec.specs.Moves.{Ending, GiveJob, IsEndingOf, MayEnd, MayLeaveCells, ReadRight, ReadWrong, TakeStep}
 use Rattle.ufs_spec.specs.Moves.{WentWell, WentWrong, moved}
 use Rattle.ufs_spec.specs.Plain.{after as after_all}
@@ -29,18 +33,22 @@ use Rattle.settings.specs.Told.{settings_now}
 use Rattle.settings.specs.declared.page.Settings.{Settings}
 use Rattle.ftl_core.specs.Public as layer_kept
 use Rattle.ftl_core.specs.Public.{AreClaimed, Core}
-use Rattle.device.specs.Describes.{Describes, IsAnswered, IsGiven, TasksKept, IsTold, Keeps, claims_of}
+use Rattle.device.specs.Describes.{Describes, HaveAnswered, IsAnswered, IsGiven, TasksKept, IsTold, Keeps, claims_of}
 use Rattle.device.specs.Describes.{wanted_by, wanted_kept}
-use Rattle.device.specs.Kept.{DeviceCore, idle_device}
+use Rattle.device.specs.Kept.{DeviceCore, idle_device, idle_machine}
 use Rattle.device.proofs.die_calls.EndsTold.{meant_fits}
 use Rattle.device.proofs.dies_of_world.DieParts.{begun_bad}
 use Rattle.device.proofs.dies_of_world.DiesFit.{named_next}
 use Rattle.std.proofs.lemmas.List.Elements.{All-nil}
 use Rattle.ufs_spec.specs.Ledger.{before_accepted, next_number}
 use Rattle.ufs_spec.specs.Exchanges.{most_tasks}
+use Rattle.power_loss.proofs.area_reads.AreaStays.{opened_reads}
 use Rattle.power_loss.proofs.shown_blocks.LivesShowBlocks.{opened_shows}
+use Rattle.power_loss.proofs.spoken_replies.FramesStay.{opened_frames}
 use Rattle.device.proofs.described.Answered.{IsBehind, answered}
-use Rattle.device.proofs.described.LayerMoves.{StepLeaves, layer_moves, step_leaves, unmended_fit, unmended_moves}
+use Rattle.device.proofs.described.LayerMoves.{KeepsReads, StepLeaves, layer_moves, step_leaves, unmended_fit}
+use Rattle.device.proofs.described.LayerMoves.{unmended_moves}
+use Rattle.device.proofs.described.Settled.{ReadsStay, kept_stays, still_answered, unmended_answered}
 use Rattle.device.proofs.described.Unmended.{none_waits}
 
 -- A job is given
@@ -75,6 +83,14 @@ gives_told : (s : State) (die : ℕ) (flight : Option Flight) → MayTake s.tran
 gives_told s die None may told lock = told lock
 gives_told s die (Some flight) may told lock = told (sym (gives_locked s die flight may) ∙ lock)
 
+-- and nothing becomes due
+gives_answered : (d : DeviceCore) (s : State) (die : ℕ) (flight : Option Flight) → Describes d s →
+    HaveAnswered (behind s (Take die) (OfTake flight))
+gives_answered d s die None h = h.answered
+gives_answered d s die (Some flight) h =
+    still_answered s (behind s (Take die) (OfTake (Some flight))) s.tasks
+    (kept_stays s.translation (moved s.translation (GiveJob die flight)) s.tasks refl refl) refl h.answered
+
 pub gives_right : (d : DeviceCore) (s : State) (die : ℕ) (job : Option Job) (after : Core) → Describes d s →
     layer_kept.IsTaken s.translation die job after → AreClaimed after (claims_of s.tasks) →
     IsGiven s die job (record d { ftl = after })
@@ -85,6 +101,7 @@ gives_right d s die job after h taken claims = record {
       answered d (record d { ftl = after }) s (Take die) (OfTake taken.job) h tt taken.right
       (record {
         keeps = gives d s die taken.job after h.kept taken.describes claims;
+        answered = gives_answered d s die taken.job h;
         told = gives_told s die taken.job taken.right h.told;
       });
 }
@@ -133,14 +150,21 @@ turns_right d s due after h is layer claims =
     turned : Translation
     turned = moved s.translation TakeStep
 
+    reads_stay : KeepsReads s.translation turned → ReadsStay s.translation turned s.tasks
+    reads_stay k = kept_stays s.translation turned s.tasks k.pins k.rests
+
     by : StepLeaves s.translation turned → IsBehind (record d { ftl = after }) (record s { translation = turned })
     by (inl step) = record {
       keeps = layer_moves d after s s.array turned h.kept layer claims step.leaves;
+      answered = still_answered s (record s { translation = turned }) s.tasks (reads_stay step.reads)
+          (λ i. step.frontier i - step.leaves.before i) h.answered;
       told = λ lock. subst (λ n. All (IsTold n) s.tasks) (sym (λ i. step.frontier i - step.leaves.before i))
           (h.told (sym step.lock ∙ lock));
     }
     by (inr repair) = record {
       keeps = unmended_moves d after s turned h.kept h.tied layer claims repair;
+      answered = unmended_answered (numbers_of s) (length s.accepted) s (record s { translation = turned }) s.tasks
+          (reads_stay repair.reads) (unmended_fit s h.tied repair.unmended) h.answered;
       told = λ lock. none_waits (numbers_of s) (length s.accepted)
           (turned.ledger.frontier - before_accepted turned.ledger) s.tasks
           (unmended_fit s h.tied repair.unmended);
@@ -148,25 +172,51 @@ turns_right d s due after h is layer claims =
 
 -- A device that is opened
 
+-- the region of a plain state of the configuration is kept as the settings of the state tell
+region_opened : (n : Numbers) (p : Plain) (settings : Settings) → settings ≡ settings_now p →
+    shape_of p ≡ shape_of_numbers n → IsKept (idle_machine settings (512 * n.rpmb)).region (region_of p 0)
+region_opened n p settings same shape = record {
+  key = ap (λ (x : Settings). x.key) same;
+  counter = ap (λ (x : Settings). x.counter) same;
+  area = (
+      let its : length (region_of p 0).area ≡ 131072 * n.rpmb =
+      sym (area_there p 0) ∙ ap (λ (x : Shape). get_or x.areas 0 0) shape in
+      omega arith
+      );
+}
+
 pub opens_right : (n : Numbers) (array : Array) (bad : Spot → Bool) (s : State) (layer : Core) (settings : Settings) →
     IsConfig n → IsArrayOf n array → Sound array → IsOpened n array bad s → layer_kept.Describes layer s.translation →
-    AreClaimed layer (λ tag. []) → settings ≡ settings_now s.base → Describes (idle_device layer settings) s
+    AreClaimed layer (λ tag. []) → settings ≡ settings_now s.base →
+    Describes (idle_device layer settings (512 * n.rpmb)) s
 opens_right n array bad s layer settings config inside sound opened kept none same =
     let t = s.translation in
     record {
       tied = (opened_valid n array bad s config inside sound opened).tied;
       shows = opened_shows n array bad s opened;
+      waits = opened_frames n array bad s opened;
+      reads = opened_reads n array bad s opened;
       kept = record {
-        settings = same
-            ∙ sym (ap (λ (commands : List Command). settings_now (after_all s.base commands)) opened.none_accepted);
+        boot = ap (λ (x : Settings). x.boot) same
+            ∙ sym (ap (λ (commands : List Command). (after_all s.base commands).boot) opened.none_accepted);
+        permanent = ap (λ (x : Settings). x.is_permanent) same
+            ∙ sym (ap (λ (commands : List Command). (after_all s.base commands).permanent) opened.none_accepted);
+        region =
+            subst (λ (commands : List Command). IsKept (idle_machine settings (512 * n.rpmb)).region
+            (region_of (after_all s.base commands) 0)) (sym opened.none_accepted)
+            (region_opened n s.base settings same opened.stands.2.shape);
+        registers = ap (λ (f : ℕ → exchange.Registers). f 0) opened.no_registers;
         layer_kept = kept;
         few = subst (λ us. length us ≤ most_tasks) (sym opened.no_tasks) (omega arith);
         tasks = subst (TasksKept (before_accepted t.ledger) []) (sym opened.no_tasks) tt;
+        one_sends = tt;
         wanted = λ tag index. ap (λ (pins : List Pin). wanted_kept pins tag index) opened.translation.no_pins
             ∙ sym (ap (λ us. wanted_by index (exchange.task_of tag us)) opened.no_tasks);
         claims = subst (λ us. AreClaimed layer (claims_of us)) (sym opened.no_tasks) none;
         shorts = opened.no_shorts;
         power_off = opened.power_off;
       };
+      answered = subst (All (λ task. is_to_fill s task ≡ false)) (sym opened.no_tasks)
+          (All-nil (λ task. is_to_fill s task ≡ false));
       told = λ lock. subst (All (IsTold (durable s))) (sym opened.no_tasks) (All-nil (IsTold (durable s)));
     }

@@ -1,11 +1,11 @@
 -- A job's end tells the right things, and what is kept then describes what it makes of the state.
-use Rattle.std.proofs.Common.{◌≡◌, ◌∙◌, ℕ, suc, ◌≤◌, Bool, true, false, cond, List, [], ◌∷◌, length, map}
+use Rattle.std.proofs.Common.{◌≡◌, ◌∙◌, ℕ, suc, ◌≤◌, Bool, true, false, cond, List, [], ◌∷◌, inl, inr, length, map}
 use Rattle.std.proofs.Common.{Option, Some, None, slice_get, refl, sym, ap, subst, arith}
 use Rattle.std.specs.Prelude.{Contains, find, option_map}
 use Rattle.std.proofs.lemmas.List.{length-map}
 use Rattle.std.proofs.lemmas.List.Elements.{All-contains}
 use Rattle.ufs_spec.proofs.Facts.{and_parts, eqb-true, false≢true, none-some, same_Some}
-use Rattle.ufs_spec.specs.Cells.{Array, Cell, Cells, GroupPage}
+use Rattle.ufs_spec.specs.Cells.{Array, Cell, Cells, GroupPage, key_of}
 use Rattle.ufs_spec.specs.Disk.{Erasing, Flight, Programming, Reading}
 use Rattle.ufs_spec.specs.Exchanges.{NotRead, ReadState, WasRead, task_of}
 use Rattle.ufs_spec.specs.Ledger.{before_accepted}
@@ -17,7 +17,7 @@ use Rattle.ufs_spec.specs.Moves.{is_read_outcome, same_bool}
 use Rattle.ufs_spec.specs.Moves.{job_ended, moved, with_wanted}
 use Rattle.ufs_spec.specs.Refusals.{State}
 use Rattle.ufs_spec.specs.Exchanges.{most_tasks}
-use Rattle.ufs_spec.specs.Translation.{Pin, Translation}
+use Rattle.ufs_spec.specs.Translation.{Pin, Translation, name_of}
 use Rattle.ufs_spec.specs.declared.flash.Outcome.{Outcome}
 use Rattle.ufs_spec.specs.declared.flash.Outcome.TheVariants as outcome
 use Rattle.ufs_spec.specs.declared.flash.Place.{Place}
@@ -27,23 +27,31 @@ use Rattle.ufs_spec.specs.declared.layer.Reader.TheVariants.{ForNobody, ForRest,
 use Rattle.power_loss.specs.Book.{book}
 use Rattle.power_loss.specs.Invariant.{IsGroupPage, LookedRight}
 use Rattle.power_loss.proofs.open_tasks.FoundInLists.{found_is}
-use Rattle.power_loss.proofs.shown_blocks.LivesShowBlocks.{page_body}
+use Rattle.power_loss.proofs.shown_blocks.LivesShowBlocks.{area_body, page_body}
 use Rattle.ftl_core.specs.Public as layer_kept
 use Rattle.ftl_core.specs.Public.{AreClaimed, Core, IsAwaited, IsReadOf, IsTold, with_claimed}
 use Rattle.ftl_core.specs.declared.ftl.Ended.{Ended}
 use Rattle.ftl_core.specs.declared.ftl.Ended.TheVariants as ended
 use Rattle.device.specs.Calls.{lock_told, told}
 use Rattle.device.specs.Describes.{Describes, IsAnswered, Keeps, TasksKept, claimed_by, claimed_in}
-use Rattle.device.specs.Describes.{claims_of, is_unread, wanted_by, wanted_kept}
+use Rattle.device.specs.Describes.{OneSends, claims_of, is_unread, wanted_by, wanted_kept}
 use Rattle.task_set.specs.Kept.{OpenTask}
 use Rattle.task_set.specs.Tasks.{after_lost_read, after_read}
 use Rattle.device.specs.Kept.{DeviceCore}
+use Rattle.power_loss.specs.Exchange.{IsTied}
+use Rattle.power_loss.proofs.calls.CallsKeepTied.{first_keeps}
+use Rattle.power_loss.proofs.calls.RightChanges.{right_keeps as right_keeps_tied}
+use Rattle.power_loss.proofs.jobs.EndsOfJobs.{ends_right as job_right}
+use Rattle.ufs_laws.proofs.walk.SmallChanges.{job_over}
+use Rattle.device.specs.Frames.{HasFilled}
 use Rattle.device.proofs.described.Answered.{answered_told}
+use Rattle.device.proofs.described.OneSender.{each_sends}
 use Rattle.device.proofs.described.LayerMoves.{IsForNone, Leaves, job_leaves, layer_moves}
 use Rattle.device.proofs.open_tasks.KeptByTag.{WantedFor, WantedForAll, claimed_same, claims_changed, one_changes}
 use Rattle.device.proofs.open_tasks.ReadProgress.{want_other_tag}
-use Rattle.device.proofs.open_tasks.ReadsEnded.{IsReading, is_reading, reads_one, task_ended, tasks_lost}
-use Rattle.device.proofs.open_tasks.ReadsEnded.{tasks_read, wanted_then}
+use Rattle.device.proofs.open_tasks.BlockEnds.{set_read}
+use Rattle.device.proofs.open_tasks.ReadsEnded.{IsReadFor, IsReading, claims_none, is_reading, lost_sends, read_sends}
+use Rattle.device.proofs.open_tasks.ReadsEnded.{reads_one, task_ended, tasks_lost, tasks_read, wanted_then}
 
 -- An ending that may come fits the job
 
@@ -76,7 +84,7 @@ found_among p (y ∷ ys) x e = by (p y) e (λ k. found_among p ys x k)
 bodies_same : (a b : Tag) (x y : List ℕ) → GroupPage a x ≡ GroupPage b y → x ≡ y
 bodies_same a b x y e = cc
 
--- the page that was read for a READ is the block that it sends
+-- the page that was read is the block that its task sends, or the page of the area that it reads
 content_read : (d : DeviceCore) (s : State) (tag index : ℕ) (place : Place) (page : Tag) (body : List ℕ) →
     Describes d s →
     (w : IsAwaited s.translation tag index place) → (r : IsReading tag index s.tasks) →
@@ -93,12 +101,26 @@ content_read d s tag index place page body h w r cell =
     t.pins w.pin
     h.tied.valid.pins.each among) in
     bodies_same page g.tag body g.body (sym cell ∙ g.there)
-    ∙ page_body s w.pin r.task r.blocks index r.block w.name place h.tied h.shows among
-    (ap (λ n. task_of n s.tasks) tag_is ∙ r.found) r.deed
-    (ap (slice_get r.blocks) index_is ∙ r.there) w.looks g
+    ∙ shown g among (ap (λ n. task_of n s.tasks) tag_is ∙ r.found) (ap (slice_get r.blocks) index_is ∙ r.there) r.deed
   where
     t : Translation
     t = s.translation
+
+    shown : (g : IsGroupPage t.disk.cells t.disk.finished t.disk.erasing w.name place) → Contains t.pins w.pin →
+        task_of w.pin.tag s.tasks ≡ Some r.task → slice_get r.blocks w.pin.index ≡ Some r.block →
+        IsReadFor index r.task r.blocks → g.body ≡ r.block.body
+    shown g among there at (inl deed) =
+        page_body s w.pin r.task r.blocks index r.block w.name place h.tied h.shows among there deed at w.looks g
+    shown g among there at (inr deed) =
+        area_body s w.pin r.task r.blocks r.block w.name place h.tied h.shows among there deed.0 at w.looks g
+
+-- and it is a whole block
+whole_read : (s : State) (place : Place) (page : Tag) (body : List ℕ) → IsTied s →
+    s.translation.disk.cells place ≡ GroupPage page body → length body ≡ 4096
+whole_read s place page body tied cell =
+    (tied.fits.entries (name_of page).number (name_of page).index
+    (record { item = record { key = key_of page; body = body }; size = page.size })
+    (tied.valid.pages.known place page body cell)).0.block.0
 
 -- What is kept then
 
@@ -139,25 +161,31 @@ module _ (d : DeviceCore) (s : State) (die tag index : ℕ) (place : Place) (aft
       (wanted_then tag index s.tasks reading state ends s.translation.pins (h.kept.wanted tag)))
       (λ n other k. want_other_tag tag index false n k s.translation.pins other)
 
-  -- no READ has claimed a slot
+  -- no task that reads has claimed a slot
   claims_now : (state : ReadState) → claims_of (map (task_read tag index state) s.tasks) ≡ claims_of s.tasks
   claims_now state =
+      let none = claims_none tag index s.tasks reading state in
       claims_changed s.tasks (task_read tag index state) tag reading.task (reads_one tag index state) reading.found
       ∙ (ap (λ task. with_claimed (claims_of s.tasks) tag (claimed_by (Some task)))
       (task_ended tag index s.tasks reading state)
-      ∙ claimed_same (claims_of s.tasks) tag [] (ap claimed_by reading.found ∙ ap claimed_in reading.deed))
+      ∙ claimed_same (claims_of s.tasks) tag (claimed_in (set_read index state reading.task).deed)
+      (ap claimed_by reading.found ∙ (none.0 ∙ sym none.1)))
 
   -- once these are our tasks
   keeps_then : (state : ReadState) (ending : Ending) (ts : List OpenTask) → is_unread state ≡ false →
       (over ending).pins ≡ pins → before_accepted (over ending).ledger ≡ before →
       layer_kept.Describes after (over ending) →
-      TasksKept before ts (map (task_read tag index state) s.tasks) →
+      TasksKept before ts (map (task_read tag index state) s.tasks) → OneSends ts →
       Keeps (record d { ftl = after; tasks = ts }) (read_state s tag index state s.array (over ending))
-  keeps_then state ending ts ends are same_before layer tasks = record {
-    settings = h.kept.settings;
+  keeps_then state ending ts ends are same_before layer tasks once = record {
+    boot = h.kept.boot;
+    permanent = h.kept.permanent;
+    region = h.kept.region;
+    registers = h.kept.registers;
     layer_kept = layer;
     few = few state;
     tasks = subst (λ n. TasksKept n ts (map (task_read tag index state) s.tasks)) (sym same_before) tasks;
+    one_sends = once;
     wanted = subst (λ (ps : List Pin). (n k : ℕ) → wanted_kept ps n k
         ≡ wanted_by k (task_of n (map (task_read tag index state) s.tasks))) (sym are)
         (wanted_now state ends);
@@ -168,19 +196,22 @@ module _ (d : DeviceCore) (s : State) (die tag index : ℕ) (place : Place) (aft
 
   pub right_keeps : (page : Tag) (body : List ℕ) → s.translation.disk.cells place ≡ GroupPage page body →
       layer_kept.Describes after (over ReadRight) →
-      Keeps (told (record d { ftl = after }) (ended.Read tag (Some body)))
+      Keeps (told (record d { ftl = after }) (ended.Read tag index (Some body)))
       (read_state s tag index WasRead s.array (over ReadRight))
   right_keeps page body cell layer =
-      keeps_then WasRead ReadRight (map (after_read tag body) d.tasks) refl refl refl layer
+      keeps_then WasRead ReadRight (map (after_read tag index body) d.tasks) refl refl refl layer
       (tasks_read before tag index s.tasks h.tied.tasks.tasks_differ reading body
-      (content_read d s tag index place page body h w reading cell) d.tasks h.kept.tasks)
+      (whole_read s place page body h.tied cell) (content_read d s tag index place page body h w reading cell) d.tasks
+      h.kept.tasks)
+      (each_sends (after_read tag index body) (read_sends tag index body) d.tasks h.kept.one_sends)
 
   pub wrong_keeps : layer_kept.Describes after (over ReadWrong) →
-      Keeps (told (record d { ftl = after }) (ended.Read tag None))
+      Keeps (told (record d { ftl = after }) (ended.Read tag index None))
       (read_state s tag index NotRead s.array (over ReadWrong))
   wrong_keeps layer =
-      keeps_then NotRead ReadWrong (map (after_lost_read tag) d.tasks) refl refl refl layer
+      keeps_then NotRead ReadWrong (map (after_lost_read tag index) d.tasks) refl refl refl layer
       (tasks_lost before tag index s.tasks h.tied.tasks.tasks_differ reading d.tasks h.kept.tasks)
+      (each_sends (after_lost_read tag index) (lost_sends tag index) d.tasks h.kept.one_sends)
 
 -- Each job
 
@@ -237,7 +268,7 @@ module _ (d : DeviceCore) (s : State) (die : ℕ) (left : Array) (after : Core) 
       let same = moved_is s.translation die (Reading (ForTask tag index) place) ReadRight is in
       subst (λ x. Keeps (told (record d { ftl = after }) x) (ends_with s die (Reads tag index place) ReadRight left))
       (sym tells.3)
-      (subst (λ u. Keeps (told (record d { ftl = after }) (ended.Read tag (Some tells.1)))
+      (subst (λ u. Keeps (told (record d { ftl = after }) (ended.Read tag index (Some tells.1)))
       (read_state s tag index WasRead s.array u)) (sym same)
       (right_keeps d s die tag index place after h w claims tells.0 tells.1 tells.2
       (subst (layer_kept.Describes after) same layer)))
@@ -245,7 +276,7 @@ module _ (d : DeviceCore) (s : State) (die : ℕ) (left : Array) (after : Core) 
       let same = moved_is s.translation die (Reading (ForTask tag index) place) ReadWrong is in
       subst (λ x. Keeps (told (record d { ftl = after }) x) (ends_with s die (Reads tag index place) ReadWrong left))
       (sym tells)
-      (subst (λ u. Keeps (told (record d { ftl = after }) (ended.Read tag None))
+      (subst (λ u. Keeps (told (record d { ftl = after }) (ended.Read tag index None))
       (read_state s tag index NotRead s.array u))
       (sym same) (wrong_keeps d s die tag index place after h w claims (subst (layer_kept.Describes after) same layer)))
   task_keeps tag index place WentWell w is fit tells layer = absurd (false≢true fit)
@@ -270,7 +301,7 @@ module _ (d : DeviceCore) (s : State) (die : ℕ) (left : Array) (after : Core) 
       nothing_keeps (Erasing spot) ending tt is tells layer
 
 -- the job is told, and then the lock
-pub ends_right : (d new : DeviceCore) (s : State) (die : ℕ) (o : Outcome) (ending : Ending) (left : Array)
+pub ends_right : (d full new : DeviceCore) (s : State) (die : ℕ) (o : Outcome) (ending : Ending) (left : Array)
     (after : Core)
     (e : Ended) → Describes d s → IsEndingOf s.translation.disk.cells (s.translation.disk.flights die) o ending →
     MayLeave s die ending left → layer_kept.Describes after (moved s.translation (EndJob die ending)) →
@@ -278,11 +309,17 @@ pub ends_right : (d new : DeviceCore) (s : State) (die : ℕ) (o : Outcome) (end
     IsTold s.translation.disk.cells (s.translation.disk.flights die) ending e →
     ((who : Reader) (place : Place) → s.translation.disk.flights die ≡ Some (Reading who place) →
     IsReadOf s.translation place who) →
-    ((t : Translation) → layer_kept.Describes (told (record d { ftl = after }) e).ftl t →
-    new ≡ lock_told t (told (record d { ftl = after }) e)) →
+    HasFilled (told (record d { ftl = after }) e) full →
+    ((t : Translation) → layer_kept.Describes full.ftl t → new ≡ lock_told t full) →
     IsAnswered s (Done die ending left) (OfDone true) new
-ends_right d new s die o ending left after e h is leaves layer claims tells reads told_then =
+ends_right d full new s die o ending left after e h is leaves layer claims tells reads filled told_then =
     let fit = meant_fits s.translation.disk.cells (s.translation.disk.flights die) o ending is in
-    answered_told d (told (record d { ftl = after }) e) new s (Done die ending left) (OfDone true) h leaves (sym fit)
+    answered_told d (told (record d { ftl = after }) e) full new s (Done die ending left) (OfDone true) h leaves
+    (sym fit)
+    (right_keeps_tied (job_right s die (s.translation.disk.flights die) ending left first) first)
     (job_keeps d s die left after e h claims (s.translation.disk.flights die) ending reads refl fit tells layer)
-    told_then
+    filled told_then
+  where
+    first : IsTied (job_over s die (s.translation.disk.flights die) ending left)
+    first = first_keeps (Done die ending left) (OfDone true) h.tied leaves
+        (sym (meant_fits s.translation.disk.cells (s.translation.disk.flights die) o ending is))

@@ -31,7 +31,6 @@ use Rattle.ufs_laws.proofs.deciding.SearchOverPlaces.{is_place, split}
 use Rattle.ufs_laws.proofs.exchanges.RequestsSettled.{settled_jobs}
 use Rattle.ufs_laws.proofs.lives.EventsLead.{well_fits}
 use Rattle.ufs_laws.specs.Flights.{die_of_flight}
-use Rattle.ufs_laws.specs.Requests.{HaveNoneToFill}
 use Rattle.power_loss.proofs.openings.FirstBlocks.{bad_as_before, never_filling}
 use Rattle.power_loss.specs.Exchange.{IsTied}
 use Rattle.power_loss.proofs.jobs_owed.ProgramsAndErases.{OpensReady, program_owed, take_inside}
@@ -39,7 +38,7 @@ use Rattle.power_loss.proofs.books.SmallFacts.{at_die_is, spot_is}
 use Rattle.device.specs.Worlds.{BlocksFit, DiesFit, FitState, die_at, job_at, jobs_given, next_of}
 use Rattle.device.proofs.dies_of_world.DieParts.{begun_blocks, die_size, erase_blocks, erase_pages, program_blocks}
 use Rattle.device.proofs.dies_of_world.DieParts.{program_pages, put_jobs, put_same, put_sizes}
-use Rattle.device.proofs.dies_of_world.FinishDies.{blocks_behind, flights_behind, seen_behind, vacancies_behind}
+use Rattle.device.proofs.dies_of_world.FinishDies.{blocks_behind, doing_behind, seen_behind, vacancies_behind}
 use Rattle.device.proofs.dies_of_world.FreedBlock.{written_fits}
 use Rattle.device.proofs.dies_of_world.QuietDies.{Seen, hears_same, replied_same, seen, seen_over, step_same, told_same}
 
@@ -106,6 +105,19 @@ named_next t p h =
     h
 
 -- Calls
+
+-- dies whose jobs are the same fit, for whomever they read
+same_doing : (dies : List DieState) (jobs : List (Option Job)) (f g : ℕ → Option Flight) (k : Seen) →
+    ((die : ℕ) → option_map job_of (g die) ≡ option_map job_of (f die)) → FitSeen dies jobs f k → FitSeen dies jobs g k
+same_doing dies jobs f g k same h = record {
+  sizes = h.sizes;
+  pages = h.pages;
+  as_many = h.as_many;
+  jobs_are = λ die. h.jobs_are die ∙ sym (same die);
+  blocks_fit = h.blocks_fit;
+  erases = λ die spot e. h.erases die spot
+      (is_erase (f die) spot (sym (ap (option_map job_of) e) ∙ same die));
+}
 
 module _ (dies : List DieState) (jobs : List (Option Job)) (s : State) (fit : FitState dies jobs s) where
   -- what changes no job, no block and no page
@@ -291,12 +303,12 @@ module _ (dies : List DieState) (jobs : List (Option Job)) (s : State) (fit : Fi
 
   -- behind the end of a job the dies that hold what is behind it fit
   pub ended_fits : (die : ℕ) (flight : Flight) (ending : Ending) (left : Array) (after : List DieState) (array : Array)
-      (blocks : Spot → BlockState) (vacancies : Spot → Vacancy) → HaveNoneToFill s.tasks → flights die ≡ Some flight →
+      (blocks : Spot → BlockState) (vacancies : Spot → Vacancy) → flights die ≡ Some flight →
       ending_fits (Some flight) ending ≡ true → Fit n after → AreBehind n after array blocks vacancies →
       seen (observe s (Done die ending left) (OfDone true))
       ≡ seen_over array (record { numbers = n; blocks = blocks; vacancies = vacancies }) →
       FitState after (slice_set jobs die None) (observe s (Done die ending left) (OfDone true))
-  ended_fits die flight ending left after array blocks vacancies none flies right sizes put looks =
+  ended_fits die flight ending left after array blocks vacancies flies right sizes put looks =
       let u = observe s (Done die ending left) (OfDone true) in
       let l = is_inside die flight flies in
       let as_many = fit.as_many in
@@ -316,23 +328,21 @@ module _ (dies : List DieState) (jobs : List (Option Job)) (s : State) (fit : Fi
             (at_die_is flights die None other (Some (Erasing spot)) e);
       } in
       subst (FitSeen after (slice_set jobs die None) u.translation.disk.flights) (sym looks)
-      (subst
-      (λ (g : ℕ → Option Flight).
-      FitSeen after (slice_set jobs die None) g
-      (seen_over array (record { numbers = n; blocks = blocks; vacancies = vacancies })))
-      (sym (flights_behind s die flight ending left none flies (lies_home die flight flies) right)) known)
+      (same_doing after (slice_set jobs die None) (at_die flights die None) u.translation.disk.flights
+      (seen_over array (record { numbers = n; blocks = blocks; vacancies = vacancies }))
+      (doing_behind s die flight ending left flies (lies_home die flight flies) right) known)
 
-  pub finish_fits : (die : ℕ) (flight : Flight) → HaveNoneToFill s.tasks → flights die ≡ Some flight →
+  pub finish_fits : (die : ℕ) (flight : Flight) → flights die ≡ Some flight →
       FitState (done_by die flight) (slice_set jobs die None)
       (observe s (Done die (ended_well flight) s.array) (OfDone true))
-  finish_fits die flight none flies =
+  finish_fits die flight flies =
       let array = array_after s flight (ended_well flight) s.array in
       let blocks = blocks_behind s.translation flight in
       let vacancies = vacancies_behind s.translation flight in
       let put : AreBehind n (done_by die flight) array blocks vacancies =
       subst (λ (e : ℕ). flights e ≡ Some flight → AreBehind n (done_by e flight) array blocks vacancies)
       (lies_home die flight flies) (are_behind flight) flies in
-      ended_fits die flight (ended_well flight) s.array (done_by die flight) array blocks vacancies none flies
+      ended_fits die flight (ended_well flight) s.array (done_by die flight) array blocks vacancies flies
       (well_fits flight) (put_sizes n dies die (job_of flight) fit.sizes (is_inside die flight flies)) put
       (seen_behind s die flight flies)
 

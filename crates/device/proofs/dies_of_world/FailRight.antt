@@ -4,7 +4,6 @@ use Rattle.std.specs.Prelude.{slice_set, Ok}
 use Rattle.ufs_spec.specs.Cells.{Array, Cell, Cells}
 use Rattle.ufs_spec.specs.Disk.{Erasing, Flight, Programming, Reading, Spot}
 use Rattle.ufs_spec.specs.Disk.{job_of, spot_of}
-use Rattle.ufs_spec.specs.Ledger.{before_accepted}
 use Rattle.ufs_spec.specs.Lives.{Fit, IsFailure, IsLawfulLeftover, IsLeft, IsLeftoverOf, array_of, die_of}
 use Rattle.ufs_spec.specs.Machine.{Done, OfDone, MayLeave, observe}
 use Rattle.ufs_spec.specs.Moves.{Ending, IsEndingOf, ReadWrong, WentWrong, ending_fits}
@@ -34,7 +33,6 @@ use Rattle.device.proofs.dies_of_world.LeftDies.{leftover_on_dies, spot_left}
 use Rattle.device.proofs.dies_of_world.LeftoversChecked.{home, lawful_of, may_of, of_flight, to_die}
 use Rattle.device.proofs.dies_of_world.QuietDies.{seen, seen_over}
 use Rattle.device.proofs.dies_of_world.WentRight.{has_flight, went_on}
-use Rattle.device.proofs.open_tasks.OpenTasks.{no_requests}
 
 -- what a device is told of a job that ended so
 abbrev pub IsToldOf : State → ℕ → Outcome → DeviceCore → Type 0
@@ -103,7 +101,7 @@ module _ (w : WorldState) (s : State) (die : ℕ) (l : Leftover) (fit : Fits w s
       refl answered
       (ended_fits w.dies w.jobs s fit.dies_fit fit.describes.tied die flight (WentWrong c) left
       (dies_failed w.dies die l) left (blocks_failed s.translation (spot_left l)) s.translation.disk.vacancies
-      (no_requests (before_accepted s.translation.ledger) w.core.tasks s.tasks fit.describes.kept.tasks) flies right
+      flies right
       sizes (behind left is_left) looks)
 
   -- the spot of the job is that of the leftover
@@ -209,7 +207,7 @@ module _ (w : WorldState) (s : State) (die : ℕ) (fit : Fits w s) where
       (refl, tt)) tt)
       (ended_fits w.dies w.jobs s fit.dies_fit fit.describes.tied die (Reading reader p) ReadWrong s.array w.dies
       s.array s.translation.disk.blocks s.translation.disk.vacancies
-      (no_requests (before_accepted s.translation.ledger) w.core.tasks s.tasks fit.describes.kept.tasks) flies refl
+      flies refl
       fit.dies_fit.sizes record { pages = fit.dies_fit.pages; blocks_fit = fit.dies_fit.blocks_fit }
       (seen_unread s die reader p s.array flies))
 

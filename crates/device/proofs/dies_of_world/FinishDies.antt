@@ -1,5 +1,6 @@
 -- What the end of a job makes of the pages and of the state of each block.
-use Rattle.std.proofs.Common.{◌≡◌, ℕ, true, Option, Some, None, refl, sym, ap, ◌∙◌}
+use Rattle.std.proofs.Common.{◌≡◌, ◌==◌, ℕ, Bool, true, Option, Some, None, option_map, refl, sym, ap, ◌∙◌}
+use Rattle.std.specs.Prelude.{if◌then◌else◌}
 use Rattle.ufs_spec.proofs.Facts.{if_both}
 use Rattle.ufs_spec.specs.Cells.{Array, Cell, Cells, GroupPage, MarkPage, Nothing}
 use Rattle.ufs_spec.specs.Disk.{Bad, BlockState, Erasing, Flight, Programming}
@@ -15,9 +16,13 @@ use Rattle.ufs_spec.specs.Translation.{Translation, has_mark_number}
 use Rattle.ufs_spec.specs.declared.flash.Place.{Place}
 use Rattle.ufs_spec.specs.declared.layer.Reader.{Reader}
 use Rattle.ufs_spec.specs.declared.layer.Reader.TheVariants.{ForNobody, ForRest, ForStep, ForTask}
-use Rattle.ufs_laws.proofs.jobs.JobsInFlight.{jobs_behind}
+use Rattle.ufs_laws.proofs.jobs.JobsInFlight.{ended_flight, ended_others}
+use Rattle.power_loss.proofs.books.SmallFacts.{eq_self}
+use Rattle.ufs_spec.proofs.Facts.{false≢true}
+use Rattle.ufs_spec.specs.Disk.{job_of}
+use Rattle.ufs_spec.specs.Machine.{Allowed}
+use Rattle.device.proofs.open_tasks.ReadProgress.{by_tag}
 use Rattle.ufs_laws.specs.Flights.{die_of_flight}
-use Rattle.ufs_laws.specs.Requests.{HaveNoneToFill}
 use Rattle.device.proofs.dies_of_world.QuietDies.{LayerSeen, layer_seen, seen, seen_over, told_same}
 
 -- the state of each block behind the end of a job that went well: the end of a mark frees the block of its plan
@@ -137,11 +142,22 @@ seen_erase_failed s die spot c left flies = seen_ended s die (Erasing spot) (Wen
 
 -- The jobs in flight
 
-pub flights_behind : (s : State) (die : ℕ) (flight : Flight) (ending : Ending) (left : Array) → HaveNoneToFill s.tasks →
+-- the die has none, and each other one does what it did: a request that fills its register lets a read for it go on for
+-- nobody, which is the same job
+pub doing_behind : (s : State) (die : ℕ) (flight : Flight) (ending : Ending) (left : Array) →
     s.translation.disk.flights die ≡ Some flight → die_of_flight flight ≡ die →
-    ending_fits (Some flight) ending ≡ true →
-    (observe s (Done die ending left) (OfDone true)).translation.disk.flights
-    ≡ at_die s.translation.disk.flights die None
-flights_behind s die flight ending left none flies home fit =
-    jobs_behind s die flight ending left none flies home
-    (sym fit ∙ ap (λ (o : Option Flight). ending_fits o ending) (sym flies))
+    ending_fits (Some flight) ending ≡ true → (other : ℕ) →
+    option_map job_of ((observe s (Done die ending left) (OfDone true)).translation.disk.flights other)
+    ≡ option_map job_of (at_die s.translation.disk.flights die None other)
+doing_behind s die flight ending left flies home fit other =
+    by_tag
+    (λ (n : ℕ). option_map job_of ((observe s (Done die ending left) (OfDone true)).translation.disk.flights n)
+    ≡ option_map job_of (at_die s.translation.disk.flights die None n)) die
+    (ap (option_map job_of) (ended_flight s die flight ending left flies home right)
+    ∙ sym (ap (λ (b : Bool). option_map job_of (if b then None else s.translation.disk.flights die)) (eq_self die)))
+    (λ n apart. ended_others s die flight ending left flies home right n
+    (λ same. false≢true (sym apart ∙ (ap (λ (m : ℕ). m == die) same ∙ eq_self die)))
+    ∙ sym (ap (λ (b : Bool). option_map job_of (if b then None else s.translation.disk.flights n)) apart)) other
+  where
+    right : Allowed s (Done die ending left) (OfDone true)
+    right = sym fit ∙ ap (λ (o : Option Flight). ending_fits o ending) (sym flies)

@@ -24,8 +24,6 @@ use Rattle.ufs_spec.specs.declared.events.Event.TheVariants as event
 use Rattle.ufs_spec.specs.declared.events.Output.{Output}
 use Rattle.ufs_spec.specs.declared.events.Output.TheVariants as output
 use Rattle.power_loss.proofs.books.PagesByName.{none_some, some_is}
-use Rattle.ufs_spec.specs.Ledger.{before_accepted}
-use Rattle.device.proofs.open_tasks.OpenTasks.{no_requests}
 use Rattle.power_loss.proofs.calls.CallsLeaveTheDevice.{call_kept}
 use Rattle.power_loss.proofs.lives.EachEventKeeps.{one_event, well_leaves as leaves_well}
 
@@ -147,4 +145,4 @@ finish_went w after s die j o fit is out answered =
     (observe s call (OfDone true)))
     f.2
     (finish_fits w.dies w.jobs s fit.dies_fit fit.describes.tied die f.0
-    (no_requests (before_accepted s.translation.ledger) w.core.tasks s.tasks fit.describes.kept.tasks) f.1))
+    f.1))

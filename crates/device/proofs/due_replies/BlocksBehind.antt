@@ -1,5 +1,5 @@
--- What is kept for a READ whose next block was handed out: that of the block is gone, that of the one behind it is
--- wanted, and behind the last one there is nothing.
+-- What is kept for a READ, which has no request, once its next block was handed out: that of the block is gone, that of
+-- the one behind it is wanted, and behind the last one there is nothing.
 use Rattle.std.proofs.Common.{◌≡◌, ◌∙◌, ℕ, ◌+◌, ◌<◌, ◌≤◌, ◌==◌, ◌&&◌, Bool, true, false, List, Option, Some, None}
 use Rattle.std.proofs.Common.{length, refl, sym, ap, subst, arith}
 use Rattle.std.specs.Prelude.{if◌then◌else◌, nat_lt, option_map, slice_get}
@@ -28,7 +28,7 @@ none_read_behind blocks sent unread = by (slice_get blocks (sent + 1)) refl
 
 -- what is kept for a READ of which so many blocks were handed out
 abbrev KeptBlocks : List Pin → ℕ → List ReadBlock → ℕ → Type 0
-KeptBlocks pins tag blocks sent = (index : ℕ) → wanted_kept pins tag index ≡ wanted_in index (Sending blocks sent)
+KeptBlocks pins tag blocks sent = (index : ℕ) → wanted_kept pins tag index ≡ wanted_in index None (Sending blocks sent)
 
 -- Which index
 
@@ -40,7 +40,7 @@ is_less sent = grind (arith, nat_tests)
 
 -- what is wanted of a block at an index that was not handed out
 wanted_at : (index sent : ℕ) (blocks : List ReadBlock) → sent ≤ index →
-    wanted_in index (Sending blocks sent) ≡ wanted_of (index == sent) (slice_get blocks index)
+    wanted_in index None (Sending blocks sent) ≡ wanted_of (index == sent) (slice_get blocks index)
 wanted_at index sent blocks most =
     ap (λ z. if z then None else wanted_of (index == sent) (slice_get blocks index)) (le-ltb index sent most)
 
@@ -59,7 +59,8 @@ by_index P sent here next others index = by (index == sent) (index == (sent + 1)
 pub more_kept : (tag sent : ℕ) (pins : List Pin) (blocks : List ReadBlock) → KeptBlocks pins tag blocks sent →
     AreUnread blocks sent → KeptBlocks (with_next tag sent pins) tag blocks (sent + 1)
 more_kept tag sent pins blocks kept unread =
-    by_index (λ index. wanted_kept (with_next tag sent pins) tag index ≡ wanted_in index (Sending blocks (sent + 1)))
+    by_index
+    (λ index. wanted_kept (with_next tag sent pins) tag index ≡ wanted_in index None (Sending blocks (sent + 1)))
     sent
     (next_gone tag sent pins
     ∙ sym (ap (λ z. if z then None else wanted_of (sent == (sent + 1)) (slice_get blocks sent)) (is_less sent)))
@@ -70,7 +71,7 @@ more_kept tag sent pins blocks kept unread =
     ∙ (kept index ∙ same index (sym (was_sent index sent first)) (first ∙ sym second)))
   where
     same : (index : ℕ) → nat_lt index sent ≡ nat_lt index (sent + 1) → (index == sent) ≡ (index == (sent + 1)) →
-        wanted_in index (Sending blocks sent) ≡ wanted_in index (Sending blocks (sent + 1))
+        wanted_in index None (Sending blocks sent) ≡ wanted_in index None (Sending blocks (sent + 1))
     same index less next i = if less i then None else wanted_of (next i) (slice_get blocks index)
 
     wanted : (o : Option ReadBlock) → slice_get blocks (sent + 1) ≡ o →
@@ -91,7 +92,7 @@ none_kept tag sent pins blocks kept most =
     (λ index first second. next_elsewhere tag sent index pins first second
     ∙ (kept index ∙ by index first (nat_lt index sent) refl))
   where
-    none : (index : ℕ) → sent < index → wanted_in index (Sending blocks sent) ≡ None
+    none : (index : ℕ) → sent < index → wanted_in index None (Sending blocks sent) ≡ None
     none index above =
         wanted_at index sent blocks (omega arith)
         ∙ ap (wanted_of (index == sent)) (slice_get_past blocks index (omega arith))
@@ -100,6 +101,6 @@ none_kept tag sent pins blocks kept most =
     above_is index other least = grind (arith, nat_tests)
 
     by : (index : ℕ) → (index == sent) ≡ false → (b : Bool) → nat_lt index sent ≡ b →
-        wanted_in index (Sending blocks sent) ≡ None
+        wanted_in index None (Sending blocks sent) ≡ None
     by index other true e = ap (λ z. if z then None else wanted_of (index == sent) (slice_get blocks index)) e
     by index other false e = none index (above_is index other e)

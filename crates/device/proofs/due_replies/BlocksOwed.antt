@@ -11,7 +11,7 @@ use Rattle.power_loss.proofs.ordered_lists.ElementsAndOrders.{all_in, found_in}
 use Rattle.ftl_core.specs.Public.{looked_of}
 use Rattle.device.specs.Replies.{block_at, block_for, block_of}
 
-abbrev IsRight : Translation → Looked → Type 0
+abbrev pub IsRight : Translation → Looked → Type 0
 IsRight t kept = LookedRight (book t) t.ledger.frontier t.disk.cells t.disk.finished t.disk.erasing kept
 
 -- what is said of whatever the reader looks at is said of what is kept for it

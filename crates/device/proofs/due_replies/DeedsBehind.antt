@@ -6,7 +6,7 @@ use Rattle.ufs_spec.proofs.Facts.{false≢true, leb-true, ltb-false, ltb-true, n
 use Rattle.ufs_spec.proofs.Lists.{get_there}
 use Rattle.ufs_spec.specs.Exchanges as exchange
 use Rattle.ufs_spec.specs.Exchanges.{Answering, Awaiting, Deed, Gathering, Good, NotRead, Purpose, ReadBlock, ReadState}
-use Rattle.ufs_spec.specs.Exchanges.{Sending, SendingBytes, Unread, WasRead, task_of}
+use Rattle.ufs_spec.specs.Exchanges.{ReadingArea, Sending, SendingBytes, Unread, WasRead, is_unfilled, task_of}
 use Rattle.ufs_spec.specs.Ledger.{before_accepted}
 use Rattle.ufs_spec.specs.Machine.{deed_after, deed_after_block, deed_after_state, moves_after, set_deed}
 use Rattle.ufs_spec.specs.Machine.{task_goes_on}
@@ -25,7 +25,8 @@ use Rattle.task_set.specs.declared.tasks.ShortData.{ShortData}
 use Rattle.task_set.specs.declared.tasks.TaskEvent.TheVariants as event
 use Rattle.task_set.specs.Kept.{OpenTask, task_in}
 use Rattle.task_set.specs.declared.tasks.Transfer.{Transfer}
-use Rattle.device.specs.Describes.{Describes, IsDoing, IsGathering, IsSending}
+use Rattle.device.specs.Describes.{AreFramesKept, Describes, FramesFit, IsDoing, IsGathering, IsGatheringFrames}
+use Rattle.device.specs.Describes.{IsSending}
 use Rattle.device.specs.Describes.{claimed_in, claims_of, is_lost, read_in}
 use Rattle.device.specs.Describes.{wanted_by, wanted_in, wanted_kept}
 use Rattle.device.specs.Hears.{with_event}
@@ -35,7 +36,8 @@ use Rattle.task_set.specs.Tasks.{data_length, next_sending, sent_next}
 use Rattle.device.proofs.described.Answered.{IsBehind}
 use Rattle.device.proofs.open_tasks.OpenTasks.{IsOpen}
 use Rattle.device.proofs.due_replies.BlocksBehind.{more_kept, none_kept, none_read_behind}
-use Rattle.device.proofs.due_replies.ReplyMoves.{does_now, goes, sends, sent_layer, told_gone, with_layer}
+use Rattle.device.proofs.due_replies.ReplyMoves.{answered_gone, does_now, goes, none_asked, sends, sent_layer}
+use Rattle.device.proofs.due_replies.ReplyMoves.{told_gone, with_layer}
 use Rattle.device.proofs.due_replies.PinsLetGo.{gone_again}
 
 -- what the definitions make of a task
@@ -70,6 +72,10 @@ sends_more x expected total blocks n is more = record {
 
 module _ (d : DeviceCore) (s : State) (k : ℕ) (a : OpenTask) (b : exchange.Task) (h : Describes d s)
     (o : IsOpen (before_accepted s.translation.ledger) k d.tasks s.tasks a b) where
+  -- what its phase has to do with frames
+  its_frames : (p : Phase) → a.phase ≡ p → FramesFit p a.frames a.held b.deed
+  its_frames p is = subst (λ q. FramesFit q a.frames a.held b.deed) is o.kept.fits
+
   asks : (after : Core) (x : Transfer) (purpose : Purpose) (gathered : List ℕ) (asked : Bool) →
       a.phase ≡ phase.AskData x → b.deed ≡ Gathering purpose gathered asked → IsGathering x b.length purpose gathered →
       layer_kept.Describes after s.translation → AreClaimed after (claims_of s.tasks) →
@@ -77,9 +83,10 @@ module _ (d : DeviceCore) (s : State) (k : ℕ) (a : OpenTask) (b : exchange.Tas
       (set_deed s b.tag (Gathering purpose gathered true))
   asks after x purpose gathered asked is deed its layer claims =
       does_now d s k a b h o after event.DataAskedFor (phase.AskData x) (Gathering purpose gathered true) is
-      (its, refl) refl
+      (its, refl) refl (its_frames (phase.AskData x) is)
+      (none_asked d s k a b h o (its_frames (phase.AskData x) is)) refl
       (record {
-        wanted = λ index. ap (wanted_in index) deed;
+        wanted = λ index. ap (wanted_in index b.request) deed;
         read = ap read_in deed;
         claimed = ap claimed_in deed;
       })
@@ -92,9 +99,45 @@ module _ (d : DeviceCore) (s : State) (k : ℕ) (a : OpenTask) (b : exchange.Tas
       IsBehind (with_layer after (with_event d k event.DataSent))
       (set_deed s b.tag (Answering Good b.length))
   sends_data after x bytes here deed is layer claims =
-      does_now d s k a b h o after event.DataSent (phase.SendData x) (Answering Good b.length) here (refl, is) refl
+      does_now d s k a b h o after event.DataSent (phase.SendData x) (Answering Good b.length) here (refl, is) refl tt
+      (none_asked d s k a b h o (its_frames (phase.SendData x) here)) refl
       (record {
-        wanted = λ index. ap (wanted_in index) deed;
+        wanted = λ index. ap (wanted_in index b.request) deed;
+        read = ap read_in deed;
+        claimed = ap claimed_in deed;
+      })
+      tt layer claims
+
+  -- its frames are asked for
+  asks_frames : (after : Core) (size : ℕ) (purpose : Purpose) (gathered : List ℕ) (asked : Bool) →
+      a.phase ≡ phase.AskFrames size → b.deed ≡ Gathering purpose gathered asked →
+      IsGatheringFrames size b.length purpose gathered →
+      layer_kept.Describes after s.translation → AreClaimed after (claims_of s.tasks) →
+      IsBehind (with_layer after (with_event d k event.DataAskedFor))
+      (set_deed s b.tag (Gathering purpose gathered true))
+  asks_frames after size purpose gathered asked is deed its layer claims =
+      does_now d s k a b h o after event.DataAskedFor (phase.AskFrames size) (Gathering purpose gathered true) is
+      (its, refl) refl (its_frames (phase.AskFrames size) is)
+      (ap is_unfilled
+      (subst (λ f. AreFramesKept f a.held b.request) (its_frames (phase.AskFrames size) is) o.kept.request))
+      refl
+      (record {
+        wanted = λ index. ap (wanted_in index b.request) deed;
+        read = ap read_in deed;
+        claimed = ap claimed_in deed;
+      })
+      tt layer claims
+
+  -- its frames were handed out
+  sends_frames : (after : Core) (size : ℕ) (bytes : List ℕ) → a.phase ≡ phase.SendFrames size →
+      b.deed ≡ SendingBytes bytes → b.length ≡ size → layer_kept.Describes after s.translation →
+      AreClaimed after (claims_of s.tasks) →
+      IsBehind (with_layer after (with_event d k event.DataSent)) (set_deed s b.tag (Answering Good b.length))
+  sends_frames after size bytes here deed is layer claims =
+      does_now d s k a b h o after event.DataSent (phase.SendFrames size) (Answering Good b.length) here (refl, is)
+      refl tt (none_asked d s k a b h o (its_frames (phase.SendFrames size) here).0) refl
+      (record {
+        wanted = λ index. ap (wanted_in index b.request) deed;
         read = ap read_in deed;
         claimed = ap claimed_in deed;
       })
@@ -105,6 +148,7 @@ module _ (d : DeviceCore) (s : State) (k : ℕ) (a : OpenTask) (b : exchange.Tas
       IsBehind (with_layer after (without_task d k)) (task_goes_on s b None)
   ends after claims none layer = record {
     keeps = goes d s k a b h o after s.translation.ledger.held claims none layer;
+    answered = answered_gone d s k a b h o s.translation.ledger.held;
     told = told_gone d s k a b h o;
   }
 
@@ -114,6 +158,7 @@ module _ (d : DeviceCore) (s : State) (k : ℕ) (a : OpenTask) (b : exchange.Tas
       (task_goes_on (with_moves s (Acknowledge commands ∷ [])) b None)
   awaits after commands claims none layer = record {
     keeps = goes d s k a b h o after (max s.translation.ledger.held commands) claims none layer;
+    answered = answered_gone d s k a b h o (max s.translation.ledger.held commands);
     told = told_gone d s k a b h o;
   }
 
@@ -166,8 +211,8 @@ module _ (d : DeviceCore) (s : State) (k : ℕ) (a : OpenTask) (b : exchange.Tas
       its : layer_kept.Describes after (sent_layer s.translation a.tag n)
       its = subst (λ m. layer_kept.Describes after (sent_layer s.translation a.tag m)) (sym is.sent_is) layer
 
-      kept : (index : ℕ) → wanted_kept s.translation.pins b.tag index ≡ wanted_in index (Sending blocks n)
-      kept index = h.kept.wanted b.tag index ∙ (ap (wanted_by index) found ∙ ap (wanted_in index) deed)
+      kept : (index : ℕ) → wanted_kept s.translation.pins b.tag index ≡ wanted_in index None (Sending blocks n)
+      kept index = h.kept.wanted b.tag index ∙ (ap (wanted_by index) found ∙ ap (wanted_in index b.request) deed)
 
       same_test : nat_lt (n + 1) (length blocks) ≡ nat_lt (x.sent + 1) x.blocks
       same_test i = nat_lt (is.sent_is i + 1) (is.count i)
@@ -192,13 +237,20 @@ module _ (d : DeviceCore) (s : State) (k : ℕ) (a : OpenTask) (b : exchange.Tas
           (λ z. IsDoing (before_accepted s.translation.ledger) a.expected b.length (sent_next x (next_if x z)) deed)
           (sym e)
 
+      fits_then : (deed : Deed) (more : Bool) → nat_lt (x.sent + 1) x.blocks ≡ more →
+          FramesFit (sent_next x (next_if x more)) a.frames a.held deed →
+          FramesFit (sent_next x (next_sending x)) a.frames a.held deed
+      fits_then deed more e =
+          subst (λ z. FramesFit (sent_next x (next_if x z)) a.frames a.held deed) (sym e)
+
       by : (more : Bool) → nat_lt (x.sent + 1) x.blocks ≡ more →
           IsBehind (with_layer after (moved_on d k (phase.SendBlocks x))) (task_does s b (Sending blocks n))
       by true e =
           path true e
           (sends d s k a b h o after n x (Sending blocks (n + 1)) here
           (does (Sending blocks (n + 1)) true e
-          (sends_more x a.expected b.length blocks n is (ltb-true (x.sent + 1) x.blocks e))) tt
+          (sends_more x a.expected b.length blocks n is (ltb-true (x.sent + 1) x.blocks e)))
+          (fits_then (Sending blocks (n + 1)) true e (its_frames (phase.SendBlocks x) here)) tt
           (more_kept b.tag n s.translation.pins blocks kept is.behind) (none_read_behind blocks n is.behind)
           (ap claimed_in deed) claims its)
       by false e =
@@ -207,7 +259,8 @@ module _ (d : DeviceCore) (s : State) (k : ℕ) (a : OpenTask) (b : exchange.Tas
           let last = ltb-false (x.sent + 1) x.blocks e in
           path false e
           (sends d s k a b h o after n x (Answering Good b.length) here
-          (does (Answering Good b.length) false e (refl, is.total_is)) tt
+          (does (Answering Good b.length) false e (refl, is.total_is))
+          (fits_then (Answering Good b.length) false e tt) tt
           (none_kept b.tag n s.translation.pins blocks kept (omega arith)) refl (ap claimed_in deed) claims
           its)
 
@@ -218,7 +271,7 @@ module _ (d : DeviceCore) (s : State) (k : ℕ) (a : OpenTask) (b : exchange.Tas
 
   moves_in : (after : Core) (p : Phase) (deed : Deed) (m : Message) → a.phase ≡ p → b.deed ≡ deed →
       IsDoing (before_accepted s.translation.ledger) a.expected b.length p deed →
-      owed_in s.translation a.block (task_in a) p ≡ Some m →
+      owed_in s.translation a.block a.held (task_in a) p ≡ Some m →
       HasMoved after s.translation (claims_of s.tasks) a.tag p →
       IsBehind (with_layer after (moved_on d k p)) (task_does s b deed)
   moves_in after (phase.AskData x) (Gathering purpose gathered asked) m here e doing due new =
@@ -226,6 +279,11 @@ module _ (d : DeviceCore) (s : State) (k : ℕ) (a : OpenTask) (b : exchange.Tas
   moves_in after (phase.AwaitData x) deed m here e doing due new = absurd (none-some m due)
   moves_in after (phase.SendData x) (SendingBytes bytes) m here e doing due new =
       sends_data after x bytes here e doing.1 new.0 new.1
+  moves_in after (phase.AskFrames size) (Gathering purpose gathered asked) m here e doing due new =
+      asks_frames after size purpose gathered asked here e doing.0 new.0 new.1
+  moves_in after (phase.AwaitFrames size) deed m here e doing due new = absurd (none-some m due)
+  moves_in after (phase.SendFrames size) (SendingBytes bytes) m here e doing due new =
+      sends_frames after size bytes here e doing.1 new.0 new.1
   moves_in after (phase.AwaitFrontier n size) (Awaiting commands) m here e doing due new =
       let frontier = s.translation.ledger.frontier in
       let low = leb-true n frontier (durable_told (nat_le n frontier) _ m due) in
@@ -234,6 +292,8 @@ module _ (d : DeviceCore) (s : State) (k : ℕ) (a : OpenTask) (b : exchange.Tas
       awaits after commands its.1 (ap claimed_in e) its.0
   moves_in after (phase.SendBlocks x) (Sending blocks sent) m here e doing due new =
       sends_next after x blocks sent here e doing new.1 new.0
+  moves_in after (phase.ReadArea r) (ReadingArea pages) m here e doing due new =
+      ends after new.1 (ap claimed_in e) new.0
   moves_in after (phase.Answer told n) (Answering x carried) m here e doing due new =
       ends after new.1 (ap claimed_in e) new.0
   moves_in after (phase.Answer told n) (Sending blocks sent) m here e doing due new =

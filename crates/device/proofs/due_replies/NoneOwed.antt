@@ -5,12 +5,12 @@ use Rattle.std.proofs.Math.Nat.{eq-or-lt_of_le}
 use Rattle.ufs_spec.specs.Translation.{Translation}
 use Rattle.task_set.specs.declared.tasks.Task.{Task}
 use Rattle.task_set.specs.Kept.{OpenTask}
-use Rattle.task_set.specs.Lists.{read_at, task_at}
+use Rattle.task_set.specs.Lists.{held_at, read_at, task_at}
 use Rattle.device.specs.Replies.{owed_by, owed_in}
 use Rattle.device.proofs.open_tasks.OpenTasks.{stands_there}
 
 pub none_owed : (t : Translation) (tasks : List OpenTask) (index : ℕ) (here : Task) →
-    task_at tasks index ≡ Some here → owed_in t (read_at tasks index) here here.phase ≡ None →
+    task_at tasks index ≡ Some here → owed_in t (read_at tasks index) (held_at tasks index) here here.phase ≡ None →
     ((k : ℕ) (task : OpenTask) → k < index → slice_get tasks k ≡ Some task → owed_by t task ≡ None) →
     (k : ℕ) (task : OpenTask) → k < index + 1 → slice_get tasks k ≡ Some task → owed_by t task ≡ None
 none_owed t tasks index here there none before k task less at =
@@ -18,6 +18,6 @@ none_owed t tasks index here there none before k task less at =
     elim (eq-or-lt_of_le most) [
       | inl is ↦
           let its = stands_there tasks index here task there (ap (slice_get tasks) (sym is) ∙ at) in
-          sym (λ i. owed_in t (its.1 i) (its.0 i) (its.0 i).phase) ∙ none
+          sym (λ i. owed_in t (its.1 i) (its.2 i) (its.0 i) (its.0 i).phase) ∙ none
       | inr below ↦ before k task below at
     ]

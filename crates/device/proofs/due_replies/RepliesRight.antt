@@ -17,7 +17,7 @@ use Rattle.power_loss.proofs.open_tasks.TaskLists.{found_short, found_task, no_t
 use Rattle.device.specs.Describes.{Describes, IsAnswered, claims_of, short_kept}
 use Rattle.device.specs.Kept.{DeviceCore}
 use Rattle.device.specs.Replies.{HasMoved, answer_of, block_for, block_message, data_message, moved_on, owed_by}
-use Rattle.device.specs.Replies.{owed_in, short_message, short_said, without_first}
+use Rattle.device.specs.Replies.{frames_message, has_filled, owed_in, short_message, short_said, without_first}
 use Rattle.task_set.specs.declared.tasks.Phase.{Phase}
 use Rattle.task_set.specs.declared.tasks.Phase.TheVariants as phase
 use Rattle.task_set.specs.declared.tasks.Short as kept
@@ -26,7 +26,7 @@ use Rattle.task_set.specs.declared.tasks.ShortReply.TheVariants as short_reply
 use Rattle.task_set.specs.declared.tasks.Status.TheVariants as status
 use Rattle.task_set.specs.declared.tasks.Task.{Task}
 use Rattle.task_set.specs.Kept.{OpenTask, task_in}
-use Rattle.task_set.specs.Lists.{read_at, task_at}
+use Rattle.task_set.specs.Lists.{held_at, read_at, task_at}
 use Rattle.device.proofs.described.Answered.{answered, answered_as, stays}
 use Rattle.device.proofs.open_tasks.OpenTasks.{one_there, our_task, stands_there, their_task}
 use Rattle.device.proofs.due_replies.DeedsBehind.{moves_on, task_does}
@@ -36,23 +36,35 @@ use Rattle.power_loss.proofs.host_commands.HandedOutReplies.{one_tag as same_tag
 -- Tags
 
 -- a reply has its task's tag
-reply_tag : (t : Translation) (read : Option (List ℕ)) (a : Task) (p : Phase) (m : Message) →
-    owed_in t read a p ≡ Some m →
+reply_tag : (t : Translation) (read held : Option (List ℕ)) (a : Task) (p : Phase) (m : Message) →
+    owed_in t read held a p ≡ Some m →
     tag_in m ≡ a.tag
-reply_tag t read a (phase.AskData x) m h = same_tag _ m a.tag h refl
-reply_tag t read a (phase.AwaitData x) m h = absurd (none-some m h)
-reply_tag t read a (phase.AwaitFrontier n size) m h = by (nat_le n t.ledger.frontier) h
+reply_tag t read held a (phase.AskData x) m h = same_tag _ m a.tag h refl
+reply_tag t read held a (phase.AwaitData x) m h = absurd (none-some m h)
+reply_tag t read held a (phase.AskFrames size) m h = same_tag _ m a.tag h refl
+reply_tag t read held a (phase.AwaitFrames size) m h = absurd (none-some m h)
+reply_tag t read held a (phase.ReadArea r) m h = by (has_filled a.frames) h
+  where
+    by : (x : Bool) → (if x then Some (answer_of a status.Good r.length) else None) ≡ Some m → tag_in m ≡ a.tag
+    by true e = same_tag (answer_of a status.Good r.length) m a.tag e refl
+    by false e = absurd (none-some m e)
+reply_tag t read held a (phase.SendFrames size) m h = by held h
+  where
+    by : (o : Option (List ℕ)) → option_map (frames_message a size) o ≡ Some m → tag_in m ≡ a.tag
+    by None e = absurd (none-some m e)
+    by (Some bytes) e = same_tag (frames_message a size bytes) m a.tag e refl
+reply_tag t read held a (phase.AwaitFrontier n size) m h = by (nat_le n t.ledger.frontier) h
   where
     by : (x : Bool) → (if x then Some (answer_of a status.Good size) else None) ≡ Some m → tag_in m ≡ a.tag
     by true e = same_tag (answer_of a status.Good size) m a.tag e refl
     by false e = absurd (none-some m e)
-reply_tag t read a (phase.SendBlocks x) m h = by (block_for t read a.tag x.sent) h
+reply_tag t read held a (phase.SendBlocks x) m h = by (block_for t read a.tag x.sent) h
   where
     by : (o : Option (List ℕ)) → option_map (block_message a x) o ≡ Some m → tag_in m ≡ a.tag
     by None e = absurd (none-some m e)
     by (Some body) e = same_tag (block_message a x body) m a.tag e refl
-reply_tag t read a (phase.SendData x) m h = same_tag (data_message a x) m a.tag h refl
-reply_tag t read a (phase.Answer told n) m h = same_tag (answer_of a told n) m a.tag h refl
+reply_tag t read held a (phase.SendData x) m h = same_tag (data_message a x) m a.tag h refl
+reply_tag t read held a (phase.Answer told n) m h = same_tag (answer_of a told n) m a.tag h refl
 
 -- Replies of tasks
 
@@ -63,7 +75,8 @@ open_right : (d e : DeviceCore) (s : State) (k : ℕ) (a : OpenTask) (m : Messag
 open_right d e s k a m h there due left layer =
     let r = their_task (before_accepted s.translation.ledger) k d.tasks s.tasks a h.kept.tasks there in
     let found : task_of r.0.tag s.tasks ≡ Some r.0 = found_task s.tasks k r.0 h.tied.tasks.tasks_differ r.1.theirs in
-    let tag : tag_in m ≡ r.0.tag = reply_tag s.translation a.block (task_in a) a.phase m due ∙ sym r.1.kept.tag in
+    let tag : tag_in m ≡ r.0.tag =
+    reply_tag s.translation a.block a.held (task_in a) a.phase m due ∙ sym r.1.kept.tag in
     let path : replied s m ≡ task_does s r.0 r.0.deed =
     ap (replied_by s (tag_in m)) (ap (λ n. task_of n s.tasks) tag ∙ found) in
     subst (λ (x : DeviceCore). IsAnswered s Reply (OfReply (Some m)) x) (sym left)
@@ -74,7 +87,8 @@ open_right d e s k a m h there due left layer =
 
 -- the same by what is told of the task at a position
 pub replies_right : (d e : DeviceCore) (s : State) (k : ℕ) (task : Task) (m : Message) → Describes d s →
-    task_at d.tasks k ≡ Some task → owed_in s.translation (read_at d.tasks k) task task.phase ≡ Some m →
+    task_at d.tasks k ≡ Some task →
+    owed_in s.translation (read_at d.tasks k) (held_at d.tasks k) task task.phase ≡ Some m →
     e ≡ record (moved_on d k task.phase) { ftl = e.ftl } →
     HasMoved e.ftl s.translation (claims_of s.tasks) task.tag task.phase →
     IsAnswered s Reply (OfReply (Some m)) e
@@ -82,7 +96,7 @@ replies_right d e s k task m h there due left layer =
     let one = one_there d.tasks k task there in
     let its = stands_there d.tasks k task one.0 there one.1 in
     open_right d e s k one.0 m h one.1
-    (sym (λ i. owed_in s.translation (its.1 i) (its.0 i) (its.0 i).phase) ∙ due)
+    (sym (λ i. owed_in s.translation (its.1 i) (its.2 i) (its.0 i) (its.0 i).phase) ∙ due)
     (left ∙ (λ i. record (moved_on d k (its.0 i).phase) { ftl = e.ftl }))
     (subst (λ (x : Task). HasMoved e.ftl s.translation (claims_of s.tasks) x.tag x.phase) its.0 layer)
 
@@ -137,15 +151,20 @@ shorts_right d s r rs h is =
     h.tied.tasks.shorts_differ))))
     (record {
       keeps = record {
-        settings = h.kept.settings;
+        boot = h.kept.boot;
+        permanent = h.kept.permanent;
+        region = h.kept.region;
+        registers = h.kept.registers;
         layer_kept = h.kept.layer_kept;
         few = h.kept.few;
         tasks = h.kept.tasks;
+        one_sends = h.kept.one_sends;
         wanted = h.kept.wanted;
         claims = h.kept.claims;
         shorts = ap (map short_kept) (sym (ap (λ (xs : List kept.Short). remove xs 0) is));
         power_off = h.kept.power_off;
       };
+      answered = h.answered;
       told = h.told;
     })
 

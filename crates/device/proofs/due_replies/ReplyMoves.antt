@@ -1,15 +1,17 @@
 -- What is kept of all tasks once one of them has handed out a reply: it does something else from now on, or it goes.
-use Rattle.std.proofs.Common.{◌≡◌, ◌∙◌, ℕ, ◌+◌, ◌≤◌, ◌==◌, Bool, true, false, All, List, [], Some, None, length}
+use Rattle.std.proofs.Common.{◌≡◌, ◌∙◌, ℕ, ◌+◌, ◌≤◌, ◌==◌, Bool, true, false, All, List, [], Option, Some}
+use Rattle.std.proofs.Common.{None, length}
 use Rattle.std.proofs.Common.{map, refl, sym, ap, subst, arith}
 use Rattle.std.specs.Prelude.{filter, if◌then◌else◌, not, slice_get}
 use Rattle.std.proofs.lemmas.List.{length-map}
 use Rattle.std.proofs.lemmas.List.Elements.{All-filter, All-map, All-weaker}
 use Rattle.std.proofs.lemmas.List.Filters.{length-filter_both}
 use Rattle.ufs_spec.specs.Exchanges as exchange
-use Rattle.ufs_spec.specs.Exchanges.{Deed, task_of, with_deed}
+use Rattle.ufs_spec.proofs.Facts.{eqb-true, false≢true, same_Some}
+use Rattle.ufs_spec.specs.Exchanges.{Deed, RpmbRequest, is_unfilled, task_of, with_deed}
 use Rattle.ufs_spec.specs.Ledger.{before_accepted}
-use Rattle.ufs_spec.specs.Machine.{durable, set_deed, task_goes_on}
-use Rattle.ufs_spec.specs.Moves.{LetGo, LetGoAll, WantPage, moved}
+use Rattle.ufs_spec.specs.Machine.{durable, is_at_hand, set_deed, task_goes_on}
+use Rattle.ufs_spec.specs.Moves.{LetGo, LetGoAll, WantPage, is_pin_of, moved}
 use Rattle.ufs_spec.specs.Refusals.{State, locked}
 use Rattle.ufs_spec.specs.Exchanges.{most_tasks}
 use Rattle.ufs_spec.specs.Translation.{Pin, Translation}
@@ -22,17 +24,24 @@ use Rattle.task_set.specs.declared.tasks.Sending.{Sending}
 use Rattle.task_set.specs.declared.tasks.TaskEvent.{TaskEvent}
 use Rattle.task_set.specs.declared.tasks.TaskEvent.TheVariants as event
 use Rattle.task_set.specs.Kept.{OpenTask}
-use Rattle.device.specs.Describes.{Describes, IsDoing, IsTold, IsToldIn, Keeps, TasksKept}
+use Rattle.device.specs.Describes.{AreFramesKept, Describes, FramesFit, HaveAnswered, IsDoing, IsTold, IsToldIn, Keeps}
+use Rattle.device.specs.Describes.{OneSends, ReadsAsked, TasksKept}
 use Rattle.device.specs.Describes.{claimed_by, claimed_in, claims_of, read_in, wanted_by, wanted_in, wanted_kept}
 use Rattle.task_set.specs.Lists.{task_happened}
-use Rattle.task_set.specs.Tasks.{block_after, next_sending, phase_after, sent_next, task_after}
+use Rattle.task_set.specs.Frames.{frames_after}
+use Rattle.task_set.specs.Tasks.{block_after, brings_frames, next_sending, phase_after, sent_next, task_after}
+use Rattle.task_set.specs.declared.frames.Frames.{Frames}
+use Rattle.task_set.specs.declared.frames.Frames.TheVariants as frames
 use Rattle.device.specs.Hears.{with_event}
 use Rattle.device.specs.Kept.{DeviceCore}
 use Rattle.device.specs.Replies.{without_task}
 use Rattle.device.proofs.described.Answered.{IsBehind}
+use Rattle.device.proofs.described.OneSender.{one_removed, one_set}
+use Rattle.device.proofs.described.Settled.{SameAtHand, left_answered, others_stay, set_answered, still_answered}
 use Rattle.device.proofs.open_tasks.OpenTasks.{IsOpen, one_changed, one_gone}
 use Rattle.device.proofs.open_tasks.KeptByTag.{WantedFor, WantedForAll, claimed_same, claims_left, claims_set}
 use Rattle.device.proofs.open_tasks.KeptByTag.{deed_changed, one_goes}
+use Rattle.device.proofs.open_tasks.ReadProgress.{gone_finds_others, sent_finds_others, want_finds_others}
 use Rattle.device.proofs.due_replies.PinsLetGo.{gone_pins, next_of_others, other_pins, with_next}
 
 -- What stays
@@ -47,9 +56,18 @@ set_told n tag deed us new h =
     by x k true = new
     by x k false = k
 
--- a deed that says as much of blocks as another
-pub record SaysAsMuch (old new : Deed) : Type 0 where
-  pub wanted : (index : ℕ) → wanted_in index old ≡ wanted_in index new
+-- a task whose request filled its register, if it has one, reads nothing for it
+asks_nothing : (p : Phase) (f : Frames) (held : Option (List ℕ)) (request : Option RpmbRequest) →
+    AreFramesKept f held request → is_unfilled request ≡ false → ReadsAsked p f held
+asks_nothing p frames.NotBrought held request its none = tt
+asks_nothing p frames.Undecided held request its none = tt
+asks_nothing p (frames.Decided code) held request its none =
+    absurd (false≢true (sym none ∙ (ap is_unfilled its.is ∙ ap not its.unfilled)))
+asks_nothing p frames.Answered held request its none = tt
+
+-- a deed that says as much of blocks as another, with this request
+pub record SaysAsMuch (request : Option RpmbRequest) (old new : Deed) : Type 0 where
+  pub wanted : (index : ℕ) → wanted_in index request old ≡ wanted_in index request new
   pub read : read_in old ≡ read_in new
   pub claimed : claimed_in old ≡ claimed_in new
 
@@ -74,10 +92,11 @@ module _ (d : DeviceCore) (s : State) (k : ℕ) (a : OpenTask) (b : exchange.Tas
   -- this happened to it in the phase in which it is
   pub happened_to : (e : TaskEvent) (p : Phase) (deed : Deed) → a.phase ≡ p →
       IsDoing (before_accepted s.translation.ledger) a.expected b.length (phase_after p e) deed →
-      block_after e p a.block ≡ read_in deed →
+      frames_after a.frames e ≡ a.frames → FramesFit (phase_after p e) a.frames a.held deed →
+      is_unfilled b.request ≡ false → block_after e p a.block ≡ read_in deed →
       TasksKept (before_accepted s.translation.ledger) (task_happened d.tasks k e (slice_get d.tasks k))
       (map (with_deed b.tag deed) s.tasks)
-  happened_to e p deed is doing read =
+  happened_to e p deed is doing still fits none read =
       subst (λ x. TasksKept (before_accepted s.translation.ledger) (task_happened d.tasks k e x)
       (map (with_deed b.tag deed) s.tasks)) (sym o.ours)
       (one_changed (before_accepted s.translation.ledger) k d.tasks s.tasks (task_after e a) b deed h.kept.tasks
@@ -86,12 +105,26 @@ module _ (d : DeviceCore) (s : State) (k : ℕ) (a : OpenTask) (b : exchange.Tas
         lun = o.kept.lun;
         tag = o.kept.tag;
         expected = o.kept.expected;
-        request = o.kept.request;
+        sends = o.kept.sends ∙ sym (ap brings_frames still);
+        request = subst (λ (f : Frames). AreFramesKept f a.held b.request) (sym still) o.kept.request;
+        asks =
+            subst (λ (f : Frames). ReadsAsked (phase_after a.phase e) f a.held) (sym still)
+            (asks_nothing (phase_after a.phase e) a.frames a.held b.request o.kept.request none);
+        fits =
+            subst (λ (f : Frames). FramesFit (phase_after a.phase e) f a.held deed) (sym still)
+            (subst (λ q. FramesFit (phase_after q e) a.frames a.held deed) (sym is) fits);
         doing =
             subst (λ q. IsDoing (before_accepted s.translation.ledger) a.expected b.length (phase_after q e) deed)
             (sym is) doing;
         read = ap (λ q. block_after e q a.block) is ∙ read;
       }))
+
+  -- it brings frames still, or still brings none
+  pub happened_sends : (e : TaskEvent) → frames_after a.frames e ≡ a.frames →
+      OneSends (task_happened d.tasks k e (slice_get d.tasks k))
+  happened_sends e still =
+      subst (λ x. OneSends (task_happened d.tasks k e x)) (sym o.ours)
+      (one_set k d.tasks a (task_after e a) o.ours (ap brings_frames still) h.kept.one_sends)
 
   -- what the tags have claimed stays
   same_claims : (deed : Deed) → claimed_in b.deed ≡ claimed_in deed →
@@ -134,9 +167,13 @@ module _ (d : DeviceCore) (s : State) (k : ℕ) (a : OpenTask) (b : exchange.Tas
       Keeps (with_layer after (without_task d k)) (task_goes_on (record s { translation = u }) b None))
       o.kept.tag
       (λ its. record {
-        settings = h.kept.settings;
+        boot = h.kept.boot;
+        permanent = h.kept.permanent;
+        region = h.kept.region;
+        registers = h.kept.registers;
         layer_kept = its;
         few = few_gone;
+        one_sends = one_removed k d.tasks h.kept.one_sends;
         tasks = one_gone (before_accepted s.translation.ledger) k d.tasks s.tasks b h.kept.tasks
             h.tied.tasks.tasks_differ o.theirs;
         wanted =
@@ -158,21 +195,60 @@ module _ (d : DeviceCore) (s : State) (k : ℕ) (a : OpenTask) (b : exchange.Tas
       pins : List Pin
       pins = filter (λ pin. not (pin.tag == b.tag)) s.translation.pins
 
+  -- and those that are left have answered
+  pub answered_gone : (held : ℕ) →
+      HaveAnswered (task_goes_on (record s { translation = with_held s.translation held }) b None)
+  answered_gone held =
+      left_answered s (task_goes_on (record s { translation = with_held s.translation held }) b None) b.tag s.tasks
+      (λ tag other index. ap (is_at_hand s.translation.work.rests)
+      (gone_finds_others b.tag tag index s.translation.pins other)) refl h.answered
+
+  -- the task has no request that is to fill its register
+  pub none_asked : a.frames ≡ frames.NotBrought → is_unfilled b.request ≡ false
+  none_asked none =
+      ap is_unfilled (subst (λ (f : Frames). AreFramesKept f a.held b.request) none o.kept.request)
+
+  -- nothing became due where such a task does something else
+  pub answered_set : (u : Translation) (deed : Deed) → is_unfilled b.request ≡ false →
+      ((tag : ℕ) → (tag == b.tag) ≡ false → SameAtHand s.translation u tag) →
+      durable (record s { translation = u }) ≡ durable s →
+      HaveAnswered (set_deed (record s { translation = u }) b.tag deed)
+  answered_set u deed none others same =
+      set_answered v b.tag deed s.tasks its_none
+      (still_answered s v s.tasks (others_stay s.translation u b.tag s.tasks its_none others) same h.answered)
+    where
+      v : State
+      v = set_deed (record s { translation = u }) b.tag deed
+
+      its_none : (j : ℕ) (x : exchange.Task) → slice_get s.tasks j ≡ Some x → exchange.is_task_of b.tag x ≡ true →
+          is_unfilled x.request ≡ false
+      its_none j x at is =
+          ap (λ (y : exchange.Task). is_unfilled y.request)
+          (same_Some x b (sym (found_task s.tasks j x h.tied.tasks.tasks_differ at)
+          ∙ (ap (λ (n : ℕ). task_of n s.tasks) (eqb-true x.tag b.tag is) ∙ found)))
+          ∙ none
+
   pub told_gone : locked s ≡ true → All (IsTold (durable s)) (exchange.without_task b.tag s.tasks)
   told_gone lock = All-filter (λ x. not (exchange.is_task_of b.tag x)) (IsTold (durable s)) s.tasks (h.told lock)
 
   -- what happened changes no block of it, and tells as much of blocks, over the layer as it is
   pub does_now : (after : Core) (e : TaskEvent) (p : Phase) (deed : Deed) → a.phase ≡ p →
       IsDoing (before_accepted s.translation.ledger) a.expected b.length (phase_after p e) deed →
-      block_after e p a.block ≡ a.block → SaysAsMuch b.deed deed →
+      frames_after a.frames e ≡ a.frames → FramesFit (phase_after p e) a.frames a.held deed →
+      is_unfilled b.request ≡ false →
+      block_after e p a.block ≡ a.block → SaysAsMuch b.request b.deed deed →
       IsToldIn (durable s) deed → layer_kept.Describes after s.translation → AreClaimed after (claims_of s.tasks) →
       IsBehind (with_layer after (with_event d k e)) (set_deed s b.tag deed)
-  does_now after e p deed is doing stays same told layer claims = record {
+  does_now after e p deed is doing still fits none stays same told layer claims = record {
     keeps = record {
-      settings = h.kept.settings;
+      boot = h.kept.boot;
+      permanent = h.kept.permanent;
+      region = h.kept.region;
+      registers = h.kept.registers;
       layer_kept = layer;
       few = few_set deed;
-      tasks = happened_to e p deed is doing (stays ∙ (o.kept.read ∙ same.read));
+      tasks = happened_to e p deed is doing still fits none (stays ∙ (o.kept.read ∙ same.read));
+      one_sends = happened_sends e still;
       wanted =
           set_wanted s.translation.pins deed
           (λ index. h.kept.wanted b.tag index ∙ (ap (wanted_by index) found ∙ same.wanted index))
@@ -181,19 +257,22 @@ module _ (d : DeviceCore) (s : State) (k : ℕ) (a : OpenTask) (b : exchange.Tas
       shorts = h.kept.shorts;
       power_off = h.kept.power_off;
     };
+    answered = answered_set s.translation deed none (λ tag other index. refl) refl;
     told = λ lock. set_told (durable s) b.tag deed s.tasks told (h.told lock);
   }
 
   -- its next block was handed out
   pub sends : (after : Core) (n : ℕ) (x : Sending) (deed : Deed) → a.phase ≡ phase.SendBlocks x →
       IsDoing (before_accepted s.translation.ledger) a.expected b.length (sent_next x (next_sending x)) deed →
+      FramesFit (sent_next x (next_sending x)) a.frames a.held deed →
       IsToldIn (durable s) deed →
-      ((index : ℕ) → wanted_kept (with_next b.tag n s.translation.pins) b.tag index ≡ wanted_in index deed) →
+      ((index : ℕ) →
+      wanted_kept (with_next b.tag n s.translation.pins) b.tag index ≡ wanted_in index b.request deed) →
       read_in deed ≡ None → claimed_in b.deed ≡ claimed_in deed → AreClaimed after (claims_of s.tasks) →
       layer_kept.Describes after (sent_layer s.translation a.tag n) →
       IsBehind (with_layer after (with_event d k event.BlockSent))
       (set_deed (record s { translation = sent_layer s.translation b.tag n }) b.tag deed)
-  sends after n x deed is doing told wanted read same claims layer =
+  sends after n x deed is doing fits told wanted read same claims layer =
       subst
       (λ tag. layer_kept.Describes after (sent_layer s.translation tag n) →
       IsBehind (with_layer after (with_event d k event.BlockSent))
@@ -201,10 +280,14 @@ module _ (d : DeviceCore) (s : State) (k : ℕ) (a : OpenTask) (b : exchange.Tas
       o.kept.tag
       (λ its. record {
         keeps = record {
-          settings = h.kept.settings;
+          boot = h.kept.boot;
+          permanent = h.kept.permanent;
+          region = h.kept.region;
+          registers = h.kept.registers;
           layer_kept = its;
           few = few_set deed;
-          tasks = happened_to event.BlockSent (phase.SendBlocks x) deed is doing (sym read);
+          tasks = happened_to event.BlockSent (phase.SendBlocks x) deed is doing refl fits none (sym read);
+          one_sends = happened_sends event.BlockSent refl;
           wanted =
               set_wanted (with_next b.tag n s.translation.pins) deed wanted
               (λ tag index other. next_of_others b.tag n tag index s.translation.pins other);
@@ -212,6 +295,14 @@ module _ (d : DeviceCore) (s : State) (k : ℕ) (a : OpenTask) (b : exchange.Tas
           shorts = h.kept.shorts;
           power_off = h.kept.power_off;
         };
+        answered = answered_set (sent_layer s.translation b.tag n) deed none
+            (λ tag other index. ap (is_at_hand s.translation.work.rests)
+            (want_finds_others b.tag (n + 1) true tag index
+            (filter (λ pin. not (is_pin_of b.tag n pin)) s.translation.pins) other
+            ∙ sent_finds_others b.tag n tag index s.translation.pins other)) refl;
         told = λ lock. set_told (durable s) b.tag deed s.tasks told (h.told lock);
       })
       layer
+    where
+      none : is_unfilled b.request ≡ false
+      none = none_asked (subst (λ q. FramesFit q a.frames a.held b.deed) is o.kept.fits)

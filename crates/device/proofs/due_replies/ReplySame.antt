@@ -7,18 +7,20 @@ use Rattle.std.specs.Int.{div_ceil}
 use Rattle.std.proofs.lemmas.Bool.{le-ltb}
 use Rattle.std.proofs.lemmas.Bool.Decides.{nat_tests}
 use Rattle.std.proofs.lemmas.Grind.{div_ceil_times}
+use Rattle.std.proofs.lemmas.List.{length-take, take-take}
 use Rattle.ufs_spec.proofs.Facts.{and_parts, eqb-true, false≢true, ltb-false, ltb-true, none-some, same_Some}
 use Rattle.ufs_spec.proofs.Lists.{get_there}
 use Rattle.ufs_spec.specs.Exchanges as exchange
 use Rattle.ufs_spec.specs.Exchanges.{Answering, Awaiting, Deed, Gathering, Good, NotRead, Purpose, ReadBlock, ReadState}
-use Rattle.ufs_spec.specs.Exchanges.{Sending}
-use Rattle.ufs_spec.specs.Exchanges.{SendingBytes, Unread, WasRead, bytes_sent, count_at, ready_message, response}
-use Rattle.ufs_spec.specs.Exchanges.{task_of}
+use Rattle.ufs_spec.specs.Exchanges.{ReadingArea, Sending}
+use Rattle.ufs_spec.specs.Exchanges.{SendingBytes, Unread, WasRead, bytes_sent, count_at, is_task_of, is_unfilled}
+use Rattle.ufs_spec.specs.Exchanges.{ready_message, response, task_of}
 use Rattle.ufs_spec.specs.Ledger.{Entry, Ledger, before_accepted, entry_of}
 use Rattle.ufs_spec.specs.Machine as machine
-use Rattle.ufs_spec.specs.Machine.{block_reply, deed_reply, is_at_hand, needs_no_read, next_block_reply}
+use Rattle.ufs_spec.specs.Machine.{block_reply, deed_reply, is_at_hand, is_to_fill, needs_no_read, next_block_reply}
 use Rattle.ufs_spec.specs.Moves.{is_pin_of}
 use Rattle.ufs_spec.specs.Refusals.{State, numbers_of}
+use Rattle.ufs_spec.specs.Replies.{is_area_read}
 use Rattle.ufs_spec.specs.Translation as layer
 use Rattle.ufs_spec.specs.Translation.{Pin, is_mended, is_rest_of}
 use Rattle.ufs_spec.specs.declared.flash.Key.{Key}
@@ -31,6 +33,9 @@ use Rattle.power_loss.specs.Shown.{IsShown, ShowsBlock, ShowsRight}
 use Rattle.power_loss.proofs.open_tasks.FoundInLists.{found_is}
 use Rattle.power_loss.proofs.books.SmallFacts.{if_false, if_true, two_ways}
 use Rattle.power_loss.proofs.ordered_lists.ElementsAndOrders.{all_in, found_in}
+use Rattle.task_set.specs.declared.frames.AreaReading.{AreaReading}
+use Rattle.task_set.specs.declared.frames.Frames.{Frames}
+use Rattle.task_set.specs.declared.frames.Frames.TheVariants.{Answered, Decided, NotBrought, Undecided}
 use Rattle.task_set.specs.declared.tasks.Phase.{Phase}
 use Rattle.task_set.specs.declared.tasks.Phase.TheVariants as phase
 use Rattle.task_set.specs.declared.tasks.Sending.{Sending as Sends}
@@ -39,14 +44,17 @@ use Rattle.task_set.specs.declared.tasks.Status.{Status}
 use Rattle.task_set.specs.declared.tasks.Task.{Task}
 use Rattle.task_set.specs.Kept.{OpenTask, task_in}
 use Rattle.task_set.specs.declared.tasks.Transfer.{Transfer}
-use Rattle.device.specs.Describes.{Describes, IsDoing, IsGathering, IsLost, IsSending, TaskKept, is_lost, is_unread}
+use Rattle.device.specs.Describes.{AreFramesKept, Describes, FramesFit, HasRequest, IsDoing, IsGathering}
+use Rattle.device.specs.Describes.{IsGatheringFrames, IsLost, IsReadingArea, IsSending, IsSentFrom}
+use Rattle.device.specs.Describes.{TaskKept, is_lost, is_unread}
 use Rattle.device.specs.Describes.{read_by, read_in, read_of, wanted_by, wanted_in, wanted_kept, wanted_of}
 use Rattle.device.specs.Kept.{DeviceCore}
 use Rattle.device.specs.Replies.{answer_of, block_at, block_for, block_message, block_of, count_in}
-use Rattle.device.specs.Replies.{data_message, owed_by, owed_in}
+use Rattle.device.specs.Replies.{area_reply, data_message, frames_count, frames_message, has_filled, owed_by, owed_in}
 use Rattle.task_set.specs.Tasks.{data_length, status_kept}
 use Rattle.device.specs.Replies.{data_bytes}
 use Rattle.device.proofs.described.Unmended.{waits_mended}
+use Rattle.device.proofs.due_replies.AreasRead.{none_needed}
 use Rattle.device.proofs.due_replies.BytesSent.{bytes_same}
 
 -- Messages
@@ -132,6 +140,22 @@ same_test before n frontier commands above is = grind (arith, nat_tests)
 whole_block : (blocks gathered : ℕ) → gathered < blocks → min 4096 (4096 * blocks - 4096 * gathered) ≡ 4096
 whole_block blocks gathered more = omega arith
 
+-- frames are no more than a message carries
+all_at_once : (size : ℕ) → size ≤ 4096 → min 4096 (size - 0) ≡ size
+all_at_once size few = omega arith
+
+cut_same : (expected size : ℕ) (all : List ℕ) → 1 ≤ min expected size → size ≤ 4096 →
+    take (min expected size) (take size all) ≡ take (frames_count expected size) all
+cut_same expected size all some few =
+    take-take (min expected size) size all (omega arith)
+    ∙ ap (λ (n : ℕ). take n all) (least (min expected size) some (omega arith))
+  where
+    least : (n : ℕ) → 1 ≤ n → n ≤ size → n ≡ count_in n
+    least n low high = sized n high few ∙ counts n low
+      where
+        sized : (n : ℕ) → n ≤ size → size ≤ 4096 → n ≡ min 4096 n
+        sized n high few = omega arith
+
 -- Each deed
 
 module _ (d : DeviceCore) (s : State) (a : OpenTask) (b : exchange.Task) (h : Describes d s)
@@ -158,7 +182,7 @@ module _ (d : DeviceCore) (s : State) (a : OpenTask) (b : exchange.Task) (h : De
       kept =
           h.kept.wanted b.tag sent
           ∙ (ap (wanted_by sent) found
-          ∙ (ap (wanted_in sent) deed
+          ∙ (ap (wanted_in sent b.request) deed
           ∙ (ap (λ z. if z then None else wanted_of (sent == sent) (slice_get blocks sent))
           (le-ltb sent sent (omega arith))
           ∙ ap (wanted_of (sent == sent)) there)))
@@ -222,7 +246,8 @@ module _ (d : DeviceCore) (s : State) (a : OpenTask) (b : exchange.Task) (h : De
 
   awaiting_same : (n size commands : ℕ) → b.deed ≡ Awaiting commands →
       n ≡ before_accepted s.translation.ledger + commands → b.length ≡ size →
-      deed_reply s b (Awaiting commands) ≡ owed_in s.translation a.block (task_in a) (phase.AwaitFrontier n size)
+      deed_reply s b (Awaiting commands)
+      ≡ owed_in s.translation a.block a.held (task_in a) (phase.AwaitFrontier n size)
   awaiting_same n size commands deed is whole =
       let mended = waits_mended (numbers_of s) (length s.accepted) (is_mended s.translation.work.mending) s.tasks b
       b.tag commands h.tied.tasks.deeds found deed in
@@ -242,6 +267,38 @@ module _ (d : DeviceCore) (s : State) (a : OpenTask) (b : exchange.Task) (h : De
       ∙ ap (λ (n : ℕ). Some (message.ReadyToTransfer a.lun a.tag (4096 * x.gathered) n))
       (whole_block x.blocks x.gathered its.more))
 
+  -- all frames are asked for at once
+  asking_frames : (size : ℕ) (purpose : Purpose) (gathered : List ℕ) (asked : Bool) →
+      IsGatheringFrames size b.length purpose gathered → asked ≡ false →
+      (if asked then None else Some (ready_message b gathered))
+      ≡ Some (message.ReadyToTransfer a.lun a.tag 0 size)
+  asking_frames size purpose gathered asked its is =
+      ap (λ z. if z then None else Some (ready_message b gathered)) is
+      ∙ ((λ i. Some (message.ReadyToTransfer (k.lun i) (k.tag i) (length (its.none_came i))
+      (count_at (its.total_is i) (length (its.none_came i)))))
+      ∙ ap (λ (n : ℕ). Some (message.ReadyToTransfer a.lun a.tag 0 n)) (all_at_once size its.few))
+
+  -- the frames that are kept, as many bytes as the host expects
+  frames_same : (size : ℕ) (bytes : List ℕ) → (length bytes ≡ size) × (b.length ≡ size) × (1 ≤ min a.expected size) →
+      (x : IsSentFrom size a.held (SendingBytes bytes)) →
+      exchange.data_message b 0 (take (bytes_sent b) bytes) ≡ frames_message (task_in a) size x.all
+  frames_same size bytes is x =
+      (λ i. message.DataIn (k.lun i) (k.tag i) 0
+      (record { items = take (min (k.expected i) (is.1 i)) (bytes_in x.deed_is i) }))
+      ∙ ap (λ (xs : List ℕ). message.DataIn a.lun a.tag 0 (record { items = xs }))
+      (cut_same a.expected size x.all is.2 (few_of bytes (bytes_in x.deed_is)))
+    where
+      bytes_in : {xs ys : List ℕ} → SendingBytes xs ≡ SendingBytes ys → xs ≡ ys
+      bytes_in e = cc
+
+      few_of : (xs : List ℕ) → xs ≡ take size x.all → size ≤ 4096
+      few_of xs e =
+          let long = x.long in
+          let cut = length-take size x.all in
+          let same = ap length e in
+          let whole : length xs ≡ size = ap length (e ∙ sym (bytes_in x.deed_is)) ∙ is.0 in
+          omega arith
+
   -- the first of the data, as many as the host expects
   data_same : (bytes : List ℕ) (x : ShortData) → bytes ≡ data_bytes x → b.length ≡ data_length x →
       1 ≤ min a.expected (data_length x) →
@@ -250,21 +307,64 @@ module _ (d : DeviceCore) (s : State) (a : OpenTask) (b : exchange.Task) (h : De
       (λ i. message.DataIn (k.lun i) (k.tag i) 0 (record { items = take (min (k.expected i) (length i)) (is i) }))
       ∙ ap (λ (xs : List ℕ). message.DataIn a.lun a.tag 0 (record { items = xs })) (bytes_same a.expected x some)
 
+  -- a request that is yet to fill its register has a page that needs a read
+  area_awaited : (code : ℕ) (pages : List ReadBlock) → b.deed ≡ ReadingArea pages →
+      AreFramesKept (Decided code) a.held b.request → is_area_read s b pages ≡ false
+  area_awaited code pages deed its =
+      sym (ap (λ (x : Bool). x && is_area_read s b pages) (ap is_unfilled its.is ∙ ap not its.unfilled))
+      ∙ (sym (ap (λ (x : Deed). is_unfilled b.request && machine.is_good_due s b x) deed)
+      ∙ all_in (λ (task : exchange.Task). is_to_fill s task ≡ false) b s.tasks h.answered
+      (found_in (is_task_of b.tag) s.tasks b found).0)
+
+  -- nothing is kept for one that has filled it
+  area_there : (pages : List ReadBlock) → b.deed ≡ ReadingArea pages → is_unfilled b.request ≡ false →
+      is_area_read s b pages ≡ true
+  area_there pages deed none =
+      none_needed s b pages
+      (λ index. h.kept.wanted b.tag index
+      ∙ (ap (wanted_by index) found
+      ∙ (ap (wanted_in index b.request) deed
+      ∙ ap (λ (x : Bool). if x then wanted_of true (slice_get pages index) else None) none)))
+
+  -- so GOOD is due where its request filled its register
+  area_same : (r : AreaReading) (pages : List ReadBlock) → b.deed ≡ ReadingArea pages →
+      IsReadingArea r b.length pages → HasRequest a.frames →
+      deed_reply s b (ReadingArea pages) ≡ area_reply (task_in a) r.length
+  area_same r pages deed is has =
+      ap (λ (x : Bool). if x then Some (response b.lun b.tag b.expected b.length Good) else None)
+      (by a.frames has k.request)
+      ∙ ap (λ (m : Message). if has_filled a.frames then Some m else None)
+      (answer_same b.length r.length Good Good is.total_is refl)
+    where
+      by : (f : Frames) → HasRequest f → AreFramesKept f a.held b.request → is_area_read s b pages ≡ has_filled f
+      by NotBrought has its = absurd has
+      by Undecided has its = absurd has
+      by (Decided code) has its = area_awaited code pages deed its
+      by Answered has its = area_there pages deed its
+
   same_in : (p : Phase) (deed : Deed) → b.deed ≡ deed →
       IsDoing (before_accepted s.translation.ledger) a.expected b.length p deed →
-      deed_reply s b deed ≡ owed_in s.translation a.block (task_in a) p
-  same_in (phase.AskData x) (Gathering purpose gathered asked) e is =
-      asking_same x purpose gathered asked is.0 is.1
-  same_in (phase.AwaitData x) (Gathering purpose gathered asked) e is =
+      FramesFit p a.frames a.held deed → deed_reply s b deed ≡ owed_in s.translation a.block a.held (task_in a) p
+  same_in (phase.AskFrames size) (Gathering purpose gathered asked) e is fits =
+      asking_frames size purpose gathered asked is.0 is.1
+  same_in (phase.AwaitFrames size) (Gathering purpose gathered asked) e is fits =
       ap (λ z. if z then None else Some (ready_message b gathered)) is.1
-  same_in (phase.AwaitFrontier n size) (Awaiting commands) e is = awaiting_same n size commands e is.0 is.1
-  same_in (phase.SendData x) (SendingBytes bytes) e is = ap (λ z. Some z) (data_same bytes x is.0 is.1 is.2)
-  same_in (phase.SendBlocks x) (Sending blocks sent) e is = sending_same x blocks sent e is
-  same_in (phase.Answer told n) (Answering x carried) e is =
+  same_in (phase.SendFrames size) (SendingBytes bytes) e is fits =
+      ap (λ z. Some z) (frames_same size bytes is fits.1)
+      ∙ sym (ap (option_map (frames_message (task_in a) size)) fits.1.is_held)
+  same_in (phase.AskData x) (Gathering purpose gathered asked) e is fits =
+      asking_same x purpose gathered asked is.0 is.1
+  same_in (phase.AwaitData x) (Gathering purpose gathered asked) e is fits =
+      ap (λ z. if z then None else Some (ready_message b gathered)) is.1
+  same_in (phase.AwaitFrontier n size) (Awaiting commands) e is fits = awaiting_same n size commands e is.0 is.1
+  same_in (phase.SendData x) (SendingBytes bytes) e is fits = ap (λ z. Some z) (data_same bytes x is.0 is.1 is.2)
+  same_in (phase.SendBlocks x) (Sending blocks sent) e is fits = sending_same x blocks sent e is
+  same_in (phase.ReadArea r) (ReadingArea pages) e is fits = area_same r pages e is fits.0
+  same_in (phase.Answer told n) (Answering x carried) e is fits =
       ap (λ z. Some z) (answer_same carried n x (status_kept told) is.1 is.0)
-  same_in (phase.Answer told n) (Sending blocks sent) e is = lost_same blocks sent told n is
-  same_in p deed e is = absurd is
+  same_in (phase.Answer told n) (Sending blocks sent) e is fits = lost_same blocks sent told n is
+  same_in p deed e is fits = absurd is
 
   -- the same reply is due of both sides' task
   pub same_reply : deed_reply s b b.deed ≡ owed_by s.translation a
-  same_reply = same_in a.phase b.deed refl k.doing
+  same_reply = same_in a.phase b.deed refl k.doing k.fits

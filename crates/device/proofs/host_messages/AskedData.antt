@@ -2,18 +2,21 @@
 use Rattle.std.proofs.Common.{◌≡◌, ◌∙◌, ◌⊎◌, ℕ, ◌*◌, ◌==◌, ◌&&◌, Bool, true, false, cond, List, Option, Some, None}
 use Rattle.std.proofs.Common.{length, refl, ap, inl, inr, arith}
 use Rattle.std.proofs.lemmas.Bool.Decides.{nat_tests}
-use Rattle.ufs_spec.proofs.Facts.{eqb-true}
+use Rattle.ufs_spec.proofs.Facts.{and_parts, eqb-true}
 use Rattle.ufs_spec.specs.Exchanges as exchange
-use Rattle.ufs_spec.specs.Exchanges.{Answering, Awaiting, Deed, Gathering, Purpose, Sending, SendingBytes}
+use Rattle.ufs_spec.specs.Exchanges.{Answering, Awaiting, Deed, Gathering, Purpose, ReadingArea, Sending, SendingBytes}
 use Rattle.ufs_spec.specs.Exchanges.{count_at, is_asked_in, is_asked_of, task_of}
 use Rattle.task_set.specs.declared.tasks.AskedFor.{AskedFor}
 use Rattle.task_set.specs.declared.tasks.Phase.{Phase}
 use Rattle.task_set.specs.declared.tasks.Phase.TheVariants as phase
 use Rattle.task_set.specs.Kept.{OpenTask}
 use Rattle.task_set.specs.declared.tasks.Transfer.{Transfer}
-use Rattle.device.specs.Describes.{IsDoing, IsGathering, TasksKept}
-use Rattle.task_set.specs.Lists.{asked_by, asked_in}
-use Rattle.device.specs.Hears.{asked_for, asked_of}
+use Rattle.task_set.specs.declared.tasks.Wanted.{Wanted}
+use Rattle.task_set.specs.declared.tasks.Wanted.TheVariants as wanted
+use Rattle.device.specs.Describes.{IsDoing, IsGathering, IsGatheringFrames, TasksKept}
+use Rattle.task_set.specs.Lists.{asked_at, asked_by, asked_what, wanted_in}
+use Rattle.task_set.specs.Tasks.{is_wanted}
+use Rattle.device.specs.Hears.{HasLength, asked_for}
 use Rattle.device.specs.Kept.{DeviceCore}
 use Rattle.device.proofs.open_tasks.OpenTasks.{Stands, StandsOrNot, tag_stands}
 
@@ -21,10 +24,10 @@ use Rattle.device.proofs.open_tasks.OpenTasks.{Stands, StandsOrNot, tag_stands}
 pub record HasAsked (before tag count : ℕ) (ours : List OpenTask) (theirs : List exchange.Task)
     (asked : Option AskedFor) : Type 0 where
   pub stands : Stands before tag ours theirs
-  pub transfer : Transfer
-  pub phase_is : stands.a.phase ≡ phase.AwaitData transfer
-  pub count_is : count ≡ 4096
-  pub asked_is : asked ≡ Some (record { index = stands.k; transfer = transfer })
+  pub wanted : Wanted
+  pub wants : wanted_in stands.a.phase ≡ Some wanted
+  pub count_is : HasLength wanted count
+  pub asked_is : asked ≡ Some (record { index = stands.k; wanted = wanted })
 
 -- both sides asked for the data, or neither
 abbrev pub AreAsked : ℕ → ℕ → ℕ → List OpenTask → List exchange.Task → Option AskedFor → Bool → Type 0
@@ -35,14 +38,10 @@ abbrev none_asked : Option AskedFor
 none_asked = None
 
 -- what the task at this position asked for
-abbrev asks : ℕ → Transfer → Option AskedFor
-asks k x = Some (record { index = k; transfer = x })
+abbrev asks : ℕ → Wanted → Option AskedFor
+asks k w = Some (record { index = k; wanted = w })
 
-no_data : (b : Bool) → cond b none_asked none_asked ≡ none_asked
-no_data true = refl
-no_data false = refl
-
--- The next block of a WRITE
+-- The next block of a WRITE, and frames
 
 other_side : (m n : ℕ) → (m == n) ≡ (n == m)
 other_side m n = grind (arith, nat_tests)
@@ -59,36 +58,68 @@ next_count : (x : Transfer) (total : ℕ) (purpose : Purpose) (gathered : List �
 next_count x total purpose gathered h =
     let came = h.came in let more = h.more in let all = h.total_is in omega arith
 
--- what the two sides say of data: neither asked for them, or both tests are those of the next block
-abbrev SaySame : ℕ → ℕ → ℕ → ℕ → OpenTask → exchange.Task → Phase → Deed → Type 0
-SaySame lun offset count k a b p deed =
-    ((asked_in lun offset k a p ≡ none_asked) × (is_asked_in b lun offset count deed ≡ false))
-    ⊎ ((x : Transfer) × (p ≡ phase.AwaitData x)
-    × (is_asked_in b lun offset count deed
-    ≡ ((true && (b.lun == lun)) && (4096 * x.gathered == offset)) && (count == 4096)))
+-- frames come all at once
+frames_count : (size total : ℕ) (purpose : Purpose) (gathered : List ℕ) →
+    IsGatheringFrames size total purpose gathered → count_at total (length gathered) ≡ size
+frames_count size total purpose gathered h =
+    let none = ap length h.none_came in let few = h.few in let all = h.total_is in omega arith
+
+three : (a b c : Bool) → ((a && b) && c) ≡ (a && (b && c))
+three true b c = refl
+three false b c = refl
+
+-- what the two sides say of data: neither asked for them, or both tests are those of what is wanted
+abbrev SaySame : ℕ → ℕ → ℕ → exchange.Task → Phase → Deed → Type 0
+SaySame lun offset count b p deed =
+    ((wanted_in p ≡ None) × (is_asked_in b lun offset count deed ≡ false))
+    ⊎ ((w : Wanted) × (wanted_in p ≡ Some w)
+    × (is_asked_in b lun offset count deed ≡ ((b.lun == lun) && is_wanted w offset count)))
 
 -- the tests of the two sides agree
-asked_same : (lun offset count k : ℕ) (a : OpenTask) (b : exchange.Task) (before expected : ℕ) (p : Phase)
-    (deed : Deed) → IsDoing before expected b.length p deed → SaySame lun offset count k a b p deed
-asked_same lun offset count k a b before expected (phase.AwaitData x) (Gathering purpose gathered asked) h =
+asked_same : (lun offset count : ℕ) (b : exchange.Task) (before expected : ℕ) (p : Phase) (deed : Deed) →
+    IsDoing before expected b.length p deed → SaySame lun offset count b p deed
+asked_same lun offset count b before expected (phase.AwaitData x) (Gathering purpose gathered asked) h =
     inr (
-      x,
+      wanted.Block x,
       refl,
-      λ i. ((h.1 i && (b.lun == lun)) && next_offset x b.length offset purpose gathered h.0 i) &&
-          (count == next_count x b.length purpose gathered h.0 i),
+      (λ i. ((h.1 i && (b.lun == lun)) && next_offset x b.length offset purpose gathered h.0 i) &&
+          (count == next_count x b.length purpose gathered h.0 i))
+          ∙ three (b.lun == lun) (4096 * x.gathered == offset) (count == 4096),
     )
-asked_same lun offset count k a b before expected (phase.AskData x) (Gathering purpose gathered asked) h =
+asked_same lun offset count b before expected (phase.AwaitFrames size) (Gathering purpose gathered asked) h =
+    inr (
+      wanted.Frames size,
+      refl,
+      (λ i. ((h.1 i && (b.lun == lun)) && (offset == length (h.0.none_came i))) &&
+          (count == frames_count size b.length purpose gathered h.0 i))
+          ∙ three (b.lun == lun) (offset == 0) (count == size),
+    )
+asked_same lun offset count b before expected (phase.AskData x) (Gathering purpose gathered asked) h =
     inl (
       refl,
       ap (λ x. ((x && (b.lun == lun)) && (offset == length gathered)) &&
           (count == count_at b.length (length gathered))) h.1,
     )
-asked_same lun offset count k a b before expected (phase.AwaitFrontier n size) (Awaiting commands) h = inl (refl, refl)
-asked_same lun offset count k a b before expected (phase.SendData x) (SendingBytes bytes) h = inl (refl, refl)
-asked_same lun offset count k a b before expected (phase.SendBlocks x) (Sending blocks sent) h = inl (refl, refl)
-asked_same lun offset count k a b before expected (phase.Answer s n) (Answering status carried) h = inl (refl, refl)
-asked_same lun offset count k a b before expected (phase.Answer s n) (Sending blocks sent) h = inl (refl, refl)
-asked_same lun offset count k a b before expected p deed h = absurd h
+asked_same lun offset count b before expected (phase.AskFrames size) (Gathering purpose gathered asked) h =
+    inl (
+      refl,
+      ap (λ x. ((x && (b.lun == lun)) && (offset == length gathered)) &&
+          (count == count_at b.length (length gathered))) h.1,
+    )
+asked_same lun offset count b before expected (phase.AwaitFrontier n size) (Awaiting commands) h = inl (refl, refl)
+asked_same lun offset count b before expected (phase.SendData x) (SendingBytes bytes) h = inl (refl, refl)
+asked_same lun offset count b before expected (phase.SendFrames x) (SendingBytes bytes) h = inl (refl, refl)
+asked_same lun offset count b before expected (phase.SendBlocks x) (Sending blocks sent) h = inl (refl, refl)
+asked_same lun offset count b before expected (phase.ReadArea r) (ReadingArea pages) h = inl (refl, refl)
+asked_same lun offset count b before expected (phase.Answer s n) (Answering status carried) h = inl (refl, refl)
+asked_same lun offset count b before expected (phase.Answer s n) (Sending blocks sent) h = inl (refl, refl)
+asked_same lun offset count b before expected p deed h = absurd h
+
+-- what is wanted tells how many bytes come
+long_enough : (w : Wanted) (offset count : ℕ) → is_wanted w offset count ≡ true → HasLength w count
+long_enough (wanted.Block x) offset count e =
+    eqb-true count 4096 (and_parts (4096 * x.gathered == offset) (count == 4096) e).1
+long_enough (wanted.Frames size) offset count e = eqb-true count size (and_parts (offset == 0) (count == size) e).1
 
 -- the data are asked for by the task of the tag on both sides, or on neither
 pub data_asked : (d : DeviceCore) (before lun tag offset count : ℕ) (theirs : List exchange.Task) →
@@ -101,54 +132,45 @@ data_asked d before lun tag offset count theirs h = by (tag_stands before tag d.
         AreAsked before tag count d.tasks theirs (asked_for d lun tag offset count)
         (is_asked_of (task_of tag theirs) lun offset count)
     by (inl none) = inl (
-      ap (λ x. cond (count == 4096) (asked_of d lun offset x) none_asked) none.0 ∙ no_data (count == 4096),
+      ap (asked_at d.tasks lun offset count) none.0,
       ap (λ x. is_asked_of x lun offset count) none.1,
     )
     by (inr r) =
-        found (asked_same lun offset count r.k r.a r.b before r.a.expected r.a.phase r.b.deed r.opened.kept.doing)
+        found (asked_same lun offset count r.b before r.a.expected r.a.phase r.b.deed r.opened.kept.doing)
       where
-        ours : asked_for d lun tag offset count
-            ≡ cond (count == 4096) (asked_in lun offset r.k r.a r.a.phase) none_asked
+        ours : asked_for d lun tag offset count ≡ asked_what lun offset count r.k r.a (wanted_in r.a.phase)
         ours =
-            ap (λ x. cond (count == 4096) (asked_of d lun offset x) none_asked) r.at
-            ∙ ap (λ x. cond (count == 4096) (asked_by lun offset r.k x) none_asked) r.opened.ours
+            ap (asked_at d.tasks lun offset count) r.at
+            ∙ ap (asked_by lun offset count r.k) r.opened.ours
 
         its : is_asked_of (task_of tag theirs) lun offset count ≡ is_asked_in r.b lun offset count r.b.deed
         its = ap (λ x. is_asked_of x lun offset count) r.found
 
-        tests : (x : Transfer) (l o c : Bool) → r.a.phase ≡ phase.AwaitData x → (count == 4096) ≡ c →
-            asked_for d lun tag offset count ≡ cond c (cond (l && o) (asks r.k x) none_asked) none_asked →
-            is_asked_of (task_of tag theirs) lun offset count ≡ ((true && l) && o) && c →
+        tests : (w : Wanted) (c : Bool) → wanted_in r.a.phase ≡ Some w →
+            ((r.a.lun == lun) && is_wanted w offset count) ≡ c →
+            asked_for d lun tag offset count ≡ cond c (asks r.k w) none_asked →
+            is_asked_of (task_of tag theirs) lun offset count ≡ c →
             AreAsked before tag count d.tasks theirs (asked_for d lun tag offset count)
             (is_asked_of (task_of tag theirs) lun offset count)
-        tests x true true true p c mine is =
+        tests w true p c mine is =
             inr (
               record {
                 stands = r;
-                transfer = x;
-                phase_is = p;
-                count_is = eqb-true count 4096 c;
+                wanted = w;
+                wants = p;
+                count_is = long_enough w offset count
+                    (and_parts (r.a.lun == lun) (is_wanted w offset count) c).1;
                 asked_is = mine;
               },
               is,
             )
-        tests x false true true p c mine is = inl (mine, is)
-        tests x true false true p c mine is = inl (mine, is)
-        tests x false false true p c mine is = inl (mine, is)
-        tests x true true false p c mine is = inl (mine, is)
-        tests x false true false p c mine is = inl (mine, is)
-        tests x true false false p c mine is = inl (mine, is)
-        tests x false false false p c mine is = inl (mine, is)
+        tests w false p c mine is = inl (mine, is)
 
-        found : SaySame lun offset count r.k r.a r.b r.a.phase r.b.deed →
+        found : SaySame lun offset count r.b r.a.phase r.b.deed →
             AreAsked before tag count d.tasks theirs (asked_for d lun tag offset count)
             (is_asked_of (task_of tag theirs) lun offset count)
-        found (inl none) = inl (
-          ours ∙ (ap (λ x. cond (count == 4096) x none_asked) none.0 ∙ no_data (count == 4096)),
-          its ∙ none.1,
-        )
+        found (inl none) = inl (ours ∙ ap (asked_what lun offset count r.k r.a) none.0, its ∙ none.1)
         found (inr is) =
-            tests is.0 (r.a.lun == lun) (4096 * is.0.gathered == offset) (count == 4096) is.1 refl
-            (ours ∙ ap (λ p. cond (count == 4096) (asked_in lun offset r.k r.a p) none_asked) is.1)
-            (its ∙ (is.2 ∙ ap (λ (n : ℕ).
-            ((true && (n == lun)) && (4096 * is.0.gathered == offset)) && (count == 4096)) r.opened.kept.lun))
+            tests is.0 ((r.a.lun == lun) && is_wanted is.0 offset count) is.1 refl
+            (ours ∙ ap (asked_what lun offset count r.k r.a) is.1)
+            (its ∙ (is.2 ∙ ap (λ (n : ℕ). (n == lun) && is_wanted is.0 offset count) r.opened.kept.lun))

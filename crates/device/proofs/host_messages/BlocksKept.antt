@@ -33,7 +33,7 @@ kept_are k f (x ∷ xs) t =
 -- Lists made from functions of the place
 
 -- what is found of a place
-abbrev at : {X : Type 0} → (ℕ → X) → ℕ → Bool → Option X
+abbrev pub at : {X : Type 0} → (ℕ → X) → ℕ → Bool → Option X
 at f i b = if b then Some (f i) else None
 
 found_below : {X : Type 0} (p : X → Bool) (f : ℕ → X) (i : ℕ) → ((j : ℕ) → p (f j) ≡ (j == i)) → (m : ℕ) →
@@ -85,7 +85,7 @@ made_is f m i x there =
 
 -- Pins
 
-abbrev wanted : Option Pin → Option Bool
+abbrev pub wanted : Option Pin → Option Bool
 wanted o = option_map (λ (pin : Pin). pin.wanted) o
 
 -- pins more for a tag that had none, each under its index
@@ -99,7 +99,7 @@ module _ (before : List Pin) (tag m : ℕ) (f : ℕ → Pin) (tags : (j : ℕ) �
   more n i = ap wanted (find-append (is_pin_of n i) before (map f (below m)))
 
   -- of the tag they are found
-  own_found : (i : ℕ) → wanted_kept kept tag i ≡ wanted (at f i (nat_lt i m))
+  pub own_found : (i : ℕ) → wanted_kept kept tag i ≡ wanted (at f i (nat_lt i m))
   own_found i = more tag i
       ∙ (behind (find (is_pin_of tag i) before) (none i)
       ∙ ap wanted (found_below (is_pin_of tag i) f i
@@ -112,21 +112,24 @@ module _ (before : List Pin) (tag m : ℕ) (f : ℕ → Pin) (tags : (j : ℕ) �
       behind (Some x) e = absurd (none-some x.wanted (sym e))
 
   -- and of no other
-  pub others_wanted : (n i : ℕ) → (n == tag) ≡ false → wanted_kept kept n i ≡ wanted_kept before n i
-  others_wanted n i other = more n i
-      ∙ (ap (λ x. wanted (option_or (find (is_pin_of n i) before) x))
+  pub others_found : (n i : ℕ) → (n == tag) ≡ false → find (is_pin_of n i) kept ≡ find (is_pin_of n i) before
+  others_found n i other = find-append (is_pin_of n i) before (map f (below m))
+      ∙ (ap (option_or (find (is_pin_of n i) before))
       (none_made (is_pin_of n i) f
       (λ j. (λ k. (tags j k == n) && ((f j).index == i)) ∙ ap (λ b. b && ((f j).index == i)) (other_way n tag other))
       (below m))
-      ∙ ap wanted (still (find (is_pin_of n i) before)))
+      ∙ still (find (is_pin_of n i) before))
     where
       still : (o : Option Pin) → option_or o None ≡ o
       still None = refl
       still (Some x) = refl
 
+  pub others_wanted : (n i : ℕ) → (n == tag) ≡ false → wanted_kept kept n i ≡ wanted_kept before n i
+  others_wanted n i other = ap wanted (others_found n i other)
+
   -- so the blocks that the task sends are kept, and the first is wanted
   pub own_wanted : (g : ℕ → ReadBlock) → ((j : ℕ) → (g j).state ≡ Unread) → ((j : ℕ) → (f j).wanted ≡ (j == 0)) →
-      (i : ℕ) → wanted_kept kept tag i ≡ wanted_in i (Sending (map g (below m)) 0)
+      (i : ℕ) → wanted_kept kept tag i ≡ wanted_in i None (Sending (map g (below m)) 0)
   own_wanted g unread first i = own_found i ∙ sym (sent i)
     where
       both : (b : Bool) (x : ReadState) → x ≡ Unread → (b && is_unread x) ≡ b
@@ -137,7 +140,7 @@ module _ (before : List Pin) (tag m : ℕ) (f : ℕ → Pin) (tags : (j : ℕ) �
       by i true = ap (λ b. Some b) (both (i == 0) (g i).state (unread i) ∙ sym (first i))
       by i false = refl
 
-      sent : (i : ℕ) → wanted_in i (Sending (map g (below m)) 0) ≡ wanted (at f i (nat_lt i m))
+      sent : (i : ℕ) → wanted_in i None (Sending (map g (below m)) 0) ≡ wanted (at f i (nat_lt i m))
       sent i =
           ap (λ b. if b then None else wanted_of (i == 0) (slice_get (map g (below m)) i)) (le-ltb i 0 (omega arith))
           ∙ (ap (wanted_of (i == 0)) (made_at g m i) ∙ by i (nat_lt i m))

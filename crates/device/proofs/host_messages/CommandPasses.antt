@@ -10,7 +10,7 @@ use Rattle.std.proofs.lemmas.List.{length-drop}
 use Rattle.std.proofs.lemmas.List.Sums.{get_or-le-sum_by}
 use Rattle.ufs_spec.proofs.Facts.{eqb-true, false≢true, ltb-false, or_parts}
 use Rattle.ufs_spec.specs.Plain.{greatest_command}
-use Rattle.ufs_spec.specs.Cdbs.{IsTakenCdb, address_of, blocks_of, direction_of, operation_of}
+use Rattle.ufs_spec.specs.Cdbs.{IsTakenCdb, blocks_of, direction_of, operation_of}
 use Rattle.ufs_spec.specs.Exchanges.{Busy, Task, invalid_field, invalid_operation, list_length_error, no_unit}
 use Rattle.ufs_spec.specs.Exchanges.{not_ready, out_of_range, sequence_error, write_protected}
 use Rattle.ufs_spec.specs.Keys.{Group}
@@ -19,9 +19,8 @@ use Rattle.ufs_spec.specs.Refusals.{Request, State, first_line, has_other_respon
 use Rattle.ufs_spec.specs.Refusals.{is_crowded, is_past, is_refused_write, is_security_out, is_too_long, lacks_data}
 use Rattle.ufs_spec.specs.Refusals.{lacks_response, lacks_unit, length_in, lines_after, lines_for, locked, lun_of}
 use Rattle.ufs_spec.specs.Refusals.{mended, needs_mended, not_taken, numbers_of, refusal, sends_frames, slots_needed}
-use Rattle.ufs_spec.specs.Refusals.{unit_numbers_at, unit_numbers_of, unit_of_request}
+use Rattle.ufs_spec.specs.Refusals.{unit_numbers_of}
 use Rattle.ufs_spec.specs.Translation.{free_slots, has_pending}
-use Rattle.ufs_spec.specs.declared.configs.UnitSpec.{UnitSpec}
 use Rattle.ufs_spec.specs.declared.scsi.Cdb.{Cdb}
 use Rattle.ufs_spec.specs.declared.scsi.Cdb.TheVariants as cdb
 use Rattle.ufs_laws.proofs.exchanges.TakenCommandsKnown.{passed_line}
@@ -29,15 +28,19 @@ use Rattle.ufs_laws.proofs.plain_contents.GroupsOfCommands.{length-groups}
 use Rattle.power_loss.specs.Exchange.{IsTied}
 use Rattle.device.specs.declared.plans.Plan.{Plan}
 use Rattle.device.specs.Plans.{Passes}
-use Rattle.device.proofs.host_messages.CommandTable.{unit_is}
+use Rattle.device.specs.Targets.{unit_named}
+use Rattle.device.specs.declared.targets.Target.{Target}
+use Rattle.device.proofs.host_messages.CommandTable.{spec_is}
 
 -- Lines
 
 pub record Checked (s : State) (r : Request) (command : Cdb) : Type 0 where
+  pub no_response : lacks_response s command ≡ false
   pub too_long : is_too_long (numbers_of s) command ≡ false
   pub past : is_past command (unit_numbers_of s r) ≡ false
   pub unmended : (needs_mended (operation_of command) && not (mended s)) ≡ false
   pub refused : is_refused_write s (unit_numbers_of s r) command ≡ false
+  pub response : has_other_response s command ≡ false
   pub crowded : is_crowded s command ≡ false
 
 checked : (s : State) (r : Request) (command : Cdb) → r.cdb ≡ Some command → refusal s r ≡ None → Checked s r command
@@ -55,14 +58,25 @@ checked s r command is none =
     let j = passed_line (lacks_response s command) sequence_error _ i.1 in
     let k = passed_line (has_other_response s command) invalid_field _ j.1 in
     let l = passed_line (is_crowded s command) Busy _ k.1 in
-    record { too_long = c.0; past = f.0; unmended = g.0; refused = i.0; crowded = l.0 }
+    record {
+      no_response = j.0;
+      too_long = c.0;
+      past = f.0;
+      unmended = g.0;
+      refused = i.0;
+      response = k.0;
+      crowded = l.0;
+    }
 
 -- what is known of a command that passed
-pub record IsFree (s : State) (r : Request) (unit : UnitSpec) (command : Cdb) : Type 0 where
-  pub unit_is : unit_of_request s r ≡ Some r.lun
-  pub spec_is : unit_numbers_of s r ≡ Some unit
+pub record IsFree (s : State) (r : Request) (to : Target) (command : Cdb) : Type 0 where
+  pub spec_is : unit_numbers_of s r ≡ unit_named to
   pub few : blocks_of command ≤ greatest_command
-  pub within : address_of command + blocks_of command ≤ unit.blocks
+  pub within : is_past command (unit_named to) ≡ false
+  pub not_long : is_too_long (numbers_of s) command ≡ false
+  pub response : has_other_response s command ≡ false
+  pub alone : (is_security_out command && list_any (λ (task : Task). sends_frames task.command) s.tasks) ≡ false
+  pub no_response : lacks_response s command ≡ false
   pub mended : needs_mended (operation_of command) ≡ true → mended s ≡ true
   pub slots : slots_needed (numbers_of s) command ≤ free_slots s.translation
   pub refused : is_refused_write s (unit_numbers_of s r) command ≡ false
@@ -81,6 +95,8 @@ few_told s (cdb.Write10 address blocks forced) taken h =
     ltb-false greatest_command (blocks_of (cdb.Write10 address blocks forced)) h
 few_told s (cdb.SynchronizeCache10 address blocks immediate) taken h =
     ltb-false greatest_command (blocks_of (cdb.SynchronizeCache10 address blocks immediate)) h
+few_told s (cdb.SecurityIn region size) taken h = omega arith
+few_told s (cdb.SecurityOut region size) taken h = omega arith
 few_told s command taken h = absurd taken
 
 mended_told : (a b : Bool) → (a && not b) ≡ false → a ≡ true → b ≡ true
@@ -88,22 +104,23 @@ mended_told true true h e = refl
 mended_told true false h e = sym h
 mended_told false b h e = absurd (false≢true e)
 
-pub free_told : (s : State) (r : Request) (todo : Plan) → (h : Passes s r todo) → IsFree s r h.unit h.command
+pub free_told : (s : State) (r : Request) (todo : Plan) → (h : Passes s r todo) → IsFree s r h.target h.command
 free_told s r todo h =
     let k = checked s r h.command h.is h.passed in
-    let unit = unit_is s r h.unit h.there in
-    let spec : unit_numbers_of s r ≡ Some h.unit = ap (unit_numbers_at (numbers_of s)) unit ∙ h.there in
+    let spec = spec_is s r h.target h.there in
+    let both = or_parts
+    (is_security_out h.command && list_any (λ (task : Task). sends_frames task.command) s.tasks)
+    (nat_lt (free_slots s.translation) (slots_needed (numbers_of s) h.command)) k.crowded in
     record {
-      unit_is = unit;
       spec_is = spec;
       few = few_told s h.command h.taken k.too_long;
-      within = ltb-false h.unit.blocks (address_of h.command + blocks_of h.command)
-          (sym (ap (is_past h.command) spec) ∙ k.past);
+      within = sym (ap (is_past h.command) spec) ∙ k.past;
+      not_long = k.too_long;
+      response = k.response;
+      no_response = k.no_response;
+      alone = both.0;
       mended = mended_told (needs_mended (operation_of h.command)) (mended s) k.unmended;
-      slots = ltb-false (free_slots s.translation) (slots_needed (numbers_of s) h.command)
-          (or_parts
-          (is_security_out h.command && list_any (λ (task : Task). sends_frames task.command) s.tasks)
-          (nat_lt (free_slots s.translation) (slots_needed (numbers_of s) h.command)) k.crowded).1;
+      slots = ltb-false (free_slots s.translation) (slots_needed (numbers_of s) h.command) both.1;
       refused = k.refused;
     }
 

@@ -9,14 +9,15 @@ use Rattle.ufs_spec.specs.Exchanges as exchange
 use Rattle.ufs_spec.specs.Exchanges.{is_short_of, task_of}
 use Rattle.ufs_spec.specs.Ledger.{before_accepted}
 use Rattle.ufs_spec.specs.Machine.{in_use, opening_fault, result_of}
-use Rattle.ufs_spec.specs.Refusals.{State}
+use Rattle.ufs_spec.specs.Refusals.{State, sends_frames}
 use Rattle.ufs_spec.specs.declared.faults.HostFault.TheVariants.{Backlog, TagInUse}
 use Rattle.task_set.specs.declared.tasks.Short as kept
-use Rattle.device.specs.Describes.{Describes, short_kept}
+use Rattle.task_set.specs.Kept.{OpenTask}
+use Rattle.device.specs.Describes.{Describes, TasksKept, short_kept}
 use Rattle.task_set.specs.Lists as ours
 use Rattle.device.specs.Hears.{short_answer, uses}
 use Rattle.device.specs.Kept.{DeviceCore}
-use Rattle.task_set.specs.Tasks.{is_task_of}
+use Rattle.task_set.specs.Tasks.{is_sender, is_task_of}
 use Rattle.device.proofs.open_tasks.OpenTasks.{StandsOrNot, as_many, tag_stands}
 
 any_is_found : {X : Type 0} (p : X → Bool) (xs : List X) → list_any p xs ≡ is_some (find p xs)
@@ -39,6 +40,17 @@ tasks_use d s tag h = any_is_found (exchange.is_task_of tag) s.tasks
 
 pub tasks_count : (d : DeviceCore) (s : State) → Describes d s → length s.tasks ≡ length d.tasks
 tasks_count d s h = as_many (before_accepted s.translation.ledger) d.tasks s.tasks h.kept.tasks
+
+-- a command that is open brings frames on both sides, or on none
+pub others_send : (d : DeviceCore) (s : State) → Describes d s →
+    list_any (λ (task : exchange.Task). sends_frames task.command) s.tasks ≡ list_any is_sender d.tasks
+others_send d s h = all d.tasks s.tasks h.kept.tasks
+  where
+    all : (ts : List OpenTask) (us : List exchange.Task) → TasksKept (before_accepted s.translation.ledger) ts us →
+        list_any (λ (task : exchange.Task). sends_frames task.command) us ≡ list_any is_sender ts
+    all [] [] k = refl
+    all (x ∷ ts) (y ∷ us) k = λ i. k.0.sends i || all ts us k.1 i
+    all ts us k = absurd k
 
 shorts_use : (tag : ℕ) (rs : List kept.Short) →
     list_any (is_short_of tag) (map short_kept rs) ≡ list_any (ours.is_short_of tag) rs

@@ -19,7 +19,6 @@ use Rattle.ufs_spec.specs.declared.messages.Message.TheVariants as message
 use Rattle.ufs_spec.specs.declared.scsi.Cdb.{Cdb}
 use Rattle.ufs_laws.proofs.exchanges.BytesHeard.{is_heard}
 use Rattle.power_loss.proofs.open_tasks.FoundInLists.{none_found}
-use Rattle.settings.specs.declared.page.Settings.{Settings}
 use Rattle.task_set.specs.declared.tasks.Short as kept
 use Rattle.task_set.specs.declared.tasks.ShortReply.TheVariants as reply
 use Rattle.device.specs.Describes.{Describes, IsHeardAs, short_kept}
@@ -27,7 +26,7 @@ use Rattle.device.specs.Hears.{IsTaskOpened, short_answer, uses, with_short}
 use Rattle.device.specs.Kept.{DeviceCore}
 use Rattle.device.proofs.described.Answered.{IsBehind, stays}
 use Rattle.device.proofs.host_messages.CommandBegins.{planned_begins}
-use Rattle.device.proofs.host_messages.CommandTags.{tag_used, task_fault, tasks_count}
+use Rattle.device.proofs.host_messages.CommandTags.{others_send, tag_used, task_fault, tasks_count}
 use Rattle.device.proofs.host_messages.ShortsOpened.{short_heard, spelled_heard}
 
 -- a message is heard, whatever its CDB spells
@@ -101,7 +100,12 @@ module _ (d : DeviceCore) (s : State) (flags lun tag expected : ℕ) (cdb_bytes 
       (sym k.more)
       (planned_begins d s (request command.0) h free few k.layer k.todo k.phase
       (k.plan s (request command.0) h.kept.layer_kept
-      (record { power_off = h.kept.power_off; permanent_is = ap (λ (x : Settings). x.is_permanent) h.kept.settings })
+      (record {
+        power_off = h.kept.power_off;
+        permanent_is = h.kept.permanent;
+        registers_are = h.kept.registers;
+        senders_are = others_send d s h;
+      })
       (record { flags_are = refl; lun_is = refl; expected_is = refl; bytes_are = refl; spelled = command.1 }))
       (k.begun s.translation _ (h.kept.layer_kept, h.kept.claims))))
     where

@@ -10,16 +10,66 @@ use Rattle.ufs_spec.specs.Refusals.{State}
 use Rattle.ufs_spec.specs.declared.faults.HostFault.{HostFault}
 use Rattle.ufs_spec.specs.declared.faults.HostFault.TheVariants.{NotAskedFor}
 use Rattle.ufs_spec.specs.declared.messages.Message.TheVariants as message
+use Rattle.std.proofs.Common.{Some}
+use Rattle.ufs_spec.proofs.Facts.{none-some}
+use Rattle.ufs_spec.specs.Machine.{data_heard}
+use Rattle.ufs_spec.specs.Messages.{AreBytes}
+use Rattle.power_loss.proofs.calls.RightChanges.{right_keeps}
+use Rattle.power_loss.proofs.host_commands.GatheredData.{data_right}
+use Rattle.task_set.specs.Lists.{wanted_in}
 use Rattle.task_set.specs.declared.tasks.AskedFor.{AskedFor}
-use Rattle.device.specs.Describes.{Describes, IsAnswered, IsDoing, IsHeardAs}
-use Rattle.device.specs.Hears.{IsDataHeard, asked_for, with_event}
+use Rattle.task_set.specs.declared.tasks.Phase.{Phase}
+use Rattle.task_set.specs.declared.tasks.Phase.TheVariants as phase
+use Rattle.task_set.specs.declared.tasks.Transfer.{Transfer}
+use Rattle.task_set.specs.declared.tasks.Wanted.{Wanted}
+use Rattle.task_set.specs.declared.tasks.Wanted.TheVariants as wanted
+use Rattle.device.specs.Describes.{Describes, IsAnswered, IsDoing, IsHeardAs, Keeps}
+use Rattle.device.specs.Hears.{HasCome, HasLength, IsDataHeard, asked_for}
 use Rattle.device.specs.Kept.{DeviceCore}
 use Rattle.device.proofs.described.Answered.{answered, answered_told, stays}
 use Rattle.device.proofs.host_messages.AskedData.{AreAsked, data_asked}
-use Rattle.device.proofs.host_messages.BlocksCome.{block_keeps, gathers}
+use Rattle.device.proofs.host_messages.BlocksCome.{block_keeps}
+use Rattle.device.proofs.host_messages.BlocksGathered.{gathers}
+use Rattle.device.proofs.host_messages.FramesCome.{frames_keep}
+use Rattle.device.proofs.open_tasks.OpenTasks.{Stands}
 
 abbrev call_of : ℕ → ℕ → ℕ → ArrayVec ℕ → Call
 call_of lun tag offset «data» = Host (Spelled (message.DataOut lun tag offset «data») None)
+
+-- what a task asks for in its phase
+wants_block : (p : Phase) (x : Transfer) → wanted_in p ≡ Some (wanted.Block x) → p ≡ phase.AwaitData x
+wants_block (phase.AwaitData y) x e = ap phase.AwaitData (same y x e)
+  where
+    same : (y x : Transfer) → Some (wanted.Block y) ≡ Some (wanted.Block x) → y ≡ x
+    same y x k = cc
+wants_block (phase.AwaitFrames size) x e = absurd (other size x e)
+  where
+    other : (size : ℕ) (x : Transfer) → Some (wanted.Frames size) ≡ Some (wanted.Block x) → ⊥
+    other size x k = cc
+wants_block (phase.AskData y) x e = absurd (none-some (wanted.Block x) e)
+wants_block (phase.AskFrames size) x e = absurd (none-some (wanted.Block x) e)
+wants_block (phase.AwaitFrontier n size) x e = absurd (none-some (wanted.Block x) e)
+wants_block (phase.ReadArea r) x e = absurd (none-some (wanted.Block x) e)
+wants_block (phase.SendBlocks y) x e = absurd (none-some (wanted.Block x) e)
+wants_block (phase.SendData y) x e = absurd (none-some (wanted.Block x) e)
+wants_block (phase.SendFrames size) x e = absurd (none-some (wanted.Block x) e)
+wants_block (phase.Answer told n) x e = absurd (none-some (wanted.Block x) e)
+
+-- what was asked for came, and is kept of the state behind it
+come_keeps : (d come : DeviceCore) (s : State) (tag : ℕ) (bytes : List ℕ)
+    (r : Stands (before_accepted s.translation.ledger) tag d.tasks s.tasks) (w : Wanted) → Describes d s →
+    wanted_in r.a.phase ≡ Some w → HasLength w (length bytes) → AreBytes bytes →
+    HasCome d come tag r.k w bytes → Keeps come (data_heard s (task_of tag s.tasks) bytes)
+come_keeps d come s tag bytes r (wanted.Block x) h wants long are did =
+    let at = wants_block r.a.phase x wants in
+    let g = gathers (before_accepted s.translation.ledger) r.a.expected r.b.length x r.b.deed
+    (subst (λ p. IsDoing (before_accepted s.translation.ledger) r.a.expected r.b.length p r.b.deed) at
+    r.opened.kept.doing) in
+    subst (λ (y : DeviceCore). Keeps y (data_heard s (task_of tag s.tasks) bytes)) (sym did.after_is)
+    (block_keeps d s tag bytes x h r at g long are did.layer did.event
+    (did.taken s.translation _ (h.kept.layer_kept, h.kept.claims)))
+come_keeps d come s tag bytes r (wanted.Frames size) h wants long are did =
+    frames_keep d come s tag bytes size h r wants long are did
 
 -- what a DATA OUT is answered, whether it was asked for or not
 each_right : (d e : DeviceCore) (s : State) (lun tag offset : ℕ) («data» : ArrayVec ℕ) (whole : List ℕ)
@@ -37,18 +87,14 @@ each_right d e s lun tag offset «data» whole asked is result h heard is_is (in
     (ap (λ (b : Bool). result_of (asked_fault b)) (sym (is_is ∙ not_asked))) (stays d s h)))
 each_right d e s lun tag offset «data» whole asked is result h heard is_is (inr (x, told)) did =
     let its = subst (λ (y : Option AskedFor). IsDataHeard d e tag «data».items y result) x.asked_is did in
-    let r = x.stands in
-    let g = gathers (before_accepted s.translation.ledger) r.a.expected r.b.length x.transfer r.b.deed
-    (subst (λ p. IsDoing (before_accepted s.translation.ledger) r.a.expected r.b.length p r.b.deed) x.phase_is
-    r.opened.kept.doing) in
     let new = its.1 in
-    let next = record (with_event d r.k new.event) { ftl = new.layer } in
     subst (λ (y : Result Unit HostFault). IsAnswered s (call_of lun tag offset «data») (OfHost y) e) (sym its.0)
-    (answered_told d next e s (call_of lun tag offset «data»)
+    (answered_told d new.come new.filled e s (call_of lun tag offset «data»)
     (OfHost (Ok tt)) h (whole, heard) (ap (λ (b : Bool). result_of (asked_fault b)) (sym (is_is ∙ told)))
-    (block_keeps d s tag «data».items x.transfer h r x.phase_is g x.count_is heard.0.0.3.2 new.layer new.event
-    (new.taken s.translation _ (h.kept.layer_kept, h.kept.claims)))
-    new.told)
+    (right_keeps (data_right lun tag offset «data».items h.tied
+    (ap asked_fault (is_is ∙ told)) heard.0.0.3.2) h.tied)
+    (come_keeps d new.come s tag «data».items x.stands x.wanted h x.wants x.count_is heard.0.0.3.2 new.has_come)
+    new.has_filled new.told)
 
 -- bytes that spell a DATA OUT are heard as it, and answered so
 pub data_heard_as : (d e : DeviceCore) (s : State) (lun tag offset : ℕ) («data» : ArrayVec ℕ) (items whole : List ℕ)

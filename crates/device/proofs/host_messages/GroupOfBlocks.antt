@@ -9,10 +9,9 @@ use Rattle.std.proofs.lemmas.Simd.{map-map}
 use Rattle.ufs_spec.specs.Commands.{Command}
 use Rattle.ufs_spec.specs.Commands as command
 use Rattle.ufs_spec.specs.Keys.{Item, below, content, data_key, group_of}
-use Rattle.ufs_spec.specs.Plain.{CanApply, Plain, after, apply, with_part}
+use Rattle.ufs_spec.specs.Plain.{region_of, CanApply, Plain, after, apply, with_part}
 use Rattle.ufs_spec.specs.declared.flash.Key.{Key}
 use Rattle.ufs_laws.proofs.plain_contents.ListParts.{made_of}
-use Rattle.settings.specs.Told.{settings_now}
 use Rattle.ftl_core.specs.Public.{group_of_blocks, items_behind, key_behind}
 
 -- The content of a written block
@@ -85,8 +84,20 @@ group_written p unit address blocks can =
 
 -- What it leaves
 
--- a WRITE leaves the settings as they are
-pub settings_still : (p : Plain) (cs : List Command) (unit address : ℕ) (blocks : List (List ℕ)) →
-    settings_now (after p (cs ++ command.Write unit address blocks ∷ [])) ≡ settings_now (after p cs)
-settings_still p cs unit address blocks =
-    ap settings_now (fold-append apply p cs (command.Write unit address blocks ∷ []))
+-- a WRITE leaves each region as it is
+pub region_still : (p : Plain) (cs : List Command) (unit address : ℕ) (blocks : List (List ℕ)) →
+    region_of (after p (cs ++ command.Write unit address blocks ∷ [])) 0 ≡ region_of (after p cs) 0
+region_still p cs unit address blocks =
+    ap (λ (q : Plain). region_of q 0) (fold-append apply p cs (command.Write unit address blocks ∷ []))
+
+-- a WRITE leaves the protection for ever as it is
+pub permanent_still : (p : Plain) (cs : List Command) (unit address : ℕ) (blocks : List (List ℕ)) →
+    (after p (cs ++ command.Write unit address blocks ∷ [])).permanent ≡ (after p cs).permanent
+permanent_still p cs unit address blocks =
+    ap (λ (q : Plain). q.permanent) (fold-append apply p cs (command.Write unit address blocks ∷ []))
+
+-- a WRITE leaves the boot setting as it is
+pub boot_still : (p : Plain) (cs : List Command) (unit address : ℕ) (blocks : List (List ℕ)) →
+    (after p (cs ++ command.Write unit address blocks ∷ [])).boot ≡ (after p cs).boot
+boot_still p cs unit address blocks =
+    ap (λ (q : Plain). q.boot) (fold-append apply p cs (command.Write unit address blocks ∷ []))

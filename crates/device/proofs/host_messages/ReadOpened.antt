@@ -3,15 +3,16 @@ use Rattle.std.proofs.Common.{◌≡◌, ℕ, ◌+◌, ◌<◌, ◌≤◌, ◌==
 use Rattle.std.proofs.Common.{length, map, refl, sym, ap, subst}
 use Rattle.std.specs.Prelude.{fold, min, slice_get}
 use Rattle.std.specs.Int.{div_ceil}
+use Rattle.ufs_spec.proofs.Facts.{false≢true}
 use Rattle.ufs_spec.specs.Plain.{greatest_command}
 use Rattle.ufs_spec.specs.Exchanges.{ReadBlock, Sending, Unread, most_tasks, task_of}
 use Rattle.ufs_spec.specs.Keys.{below, data_key}
 use Rattle.ufs_spec.specs.Ledger.{before_accepted}
-use Rattle.ufs_spec.specs.Machine.{durable, keeps, kept_at, read_blocks, with_moves}
+use Rattle.ufs_spec.specs.Machine.{durable, is_at_hand, keeps, kept_at, read_blocks, with_moves}
 use Rattle.ufs_spec.specs.Machine as machine
 use Rattle.ufs_spec.specs.Moves.{moved}
 use Rattle.ufs_spec.specs.Plain.{block_at}
-use Rattle.ufs_spec.specs.Refusals.{Request, State, locked, plain_now}
+use Rattle.ufs_spec.specs.Refusals.{Request, State, locked, plain_now, sends_frames}
 use Rattle.ufs_spec.specs.Translation.{Pin, Translation}
 use Rattle.ufs_spec.specs.declared.scsi.Cdb.{Cdb}
 use Rattle.ufs_laws.proofs.plain_contents.ListParts.{length-made}
@@ -20,19 +21,27 @@ use Rattle.ftl_core.specs.Public.{AreClaimed, Core}
 use Rattle.task_set.specs.declared.tasks.Phase.{Phase}
 use Rattle.task_set.specs.declared.tasks.Phase.TheVariants as phase
 use Rattle.task_set.specs.declared.tasks.Sending.{Sending as Sends}
-use Rattle.device.specs.Describes.{Describes, IsTold, claims_of, is_lost, read_by, read_of, wanted_in}
+use Rattle.task_set.specs.Kept.{newly_open}
+use Rattle.task_set.specs.declared.frames.Frames.{Frames}
+use Rattle.task_set.specs.declared.frames.Frames.TheVariants as frames
+use Rattle.device.specs.Describes.{Describes, HaveAnswered, IsTold, claims_of, is_lost, read_by, read_of, wanted_in}
 use Rattle.device.specs.Describes.{wanted_kept}
 use Rattle.device.specs.Hears.{with_task}
 use Rattle.device.specs.Kept.{DeviceCore}
 use Rattle.device.proofs.described.Answered.{IsBehind}
-use Rattle.device.proofs.host_messages.BlocksKept.{kept_are, made_is, others_wanted, own_wanted}
-use Rattle.device.proofs.open_tasks.TaskOpened.{none_wanted, open_keeps, open_told, still_claimed}
+use Rattle.device.proofs.host_messages.BlocksKept.{kept_are, made_is, others_found, others_wanted, own_wanted}
+use Rattle.device.proofs.open_tasks.TaskOpened.{none_wanted, open_answered, open_keeps, open_told, still_claimed}
 
--- the device with the new task, over the layer as it is then
-abbrev pub core_opened : DeviceCore → Request → Core → Phase → DeviceCore
-core_opened d r after p =
-    record (with_task d (record { tag = r.tag; lun = r.lun; expected = r.expected; phase = p; block = None }))
+-- the device with the new task, which has this to do with frames, over the layer as it is then
+abbrev pub core_with : DeviceCore → Request → Core → Phase → Frames → DeviceCore
+core_with d r after p f =
+    record
+    (with_task d (newly_open (record { tag = r.tag; lun = r.lun; expected = r.expected; phase = p; frames = f })))
     { ftl = after }
+
+-- the same of a task that brings none
+abbrev pub core_opened : DeviceCore → Request → Core → Phase → DeviceCore
+core_opened d r after p = core_with d r after p frames.NotBrought
 
 abbrev pub block_now : State → (unit address i : ℕ) → ReadBlock
 block_now s unit address i = record { body = block_at unit (address + i) (plain_now s); state = Unread }
@@ -48,12 +57,12 @@ reading_at s r command n address m =
 
 module _ (d : DeviceCore) (s : State) (r : Request) (h : Describes d s) (free : task_of r.tag s.tasks ≡ None)
     (few : length s.tasks < most_tasks) (after : Core) where
-  pub read_opened : (command : Cdb) (n address m : ℕ) → 1 ≤ m → m ≤ greatest_command →
-      m ≡ div_ceil (min r.expected n) 4096 →
+  pub read_opened : (command : Cdb) (n address m : ℕ) → sends_frames (Some command) ≡ false → 1 ≤ m →
+      m ≤ greatest_command → m ≡ div_ceil (min r.expected n) 4096 →
       layer_kept.Describes after (fold moved s.translation (keeps s r.tag r.lun address m)) →
       AreClaimed after (claims_of s.tasks) →
       IsBehind (core_opened d r after (phase.SendBlocks (sending_now m 0 n))) (reading_at s r command n address m)
-  read_opened command n address m some most all layer claims = record {
+  read_opened command n address m sends some most all layer claims = record {
     keeps =
         open_keeps d s r h free few after (fold moved s.translation (keeps s r.tag r.lun address m)) (Some command) n
         (Sending (read_blocks s r.lun address m) 0) _ layer
@@ -61,7 +70,7 @@ module _ (d : DeviceCore) (s : State) (r : Request) (h : Describes d s) (free : 
         (record {
           wanted =
               subst (λ (t : Translation). (i : ℕ) → wanted_kept t.pins r.tag i
-              ≡ wanted_in i (Sending (read_blocks s r.lun address m) 0)) (sym are)
+              ≡ wanted_in i None (Sending (read_blocks s r.lun address m) 0)) (sym are)
               (own_wanted s.translation.pins r.tag m keeps_at (λ j. refl) (λ j. refl) none (block_now s r.lun address)
               (λ j. refl) (λ j. refl));
           others_want =
@@ -74,7 +83,10 @@ module _ (d : DeviceCore) (s : State) (r : Request) (h : Describes d s) (free : 
           lun = refl;
           tag = refl;
           expected = refl;
+          sends = sends;
           request = refl;
+          asks = tt;
+          fits = refl;
           doing = record {
             count = length-made (block_now s r.lun address) m;
             sent_is = refl;
@@ -87,7 +99,16 @@ module _ (d : DeviceCore) (s : State) (r : Request) (h : Describes d s) (free : 
           };
           read = sym (unread_first (slice_get (read_blocks s r.lun address m) 0)
               (λ block there. state_now 0 block there));
-        });
+        }) (λ e. absurd (false≢true e));
+    answered =
+        subst
+        (λ (t : Translation). HaveAnswered (machine.with_task (record s { translation = t }) r (Some command) n
+        (Sending (read_blocks s r.lun address m) 0))) (sym are)
+        (open_answered d s r h free few
+        (record s.translation { pins = s.translation.pins ++ map keeps_at (below m) }) (Some command) n
+        (Sending (read_blocks s r.lun address m) 0)
+        (λ tag other index. ap (is_at_hand s.translation.work.rests)
+        (others_found s.translation.pins r.tag m keeps_at (λ j. refl) (λ j. refl) none tag index other)) refl);
     told =
         subst
         (λ (t : Translation). locked (record s { translation = t }) ≡ true →

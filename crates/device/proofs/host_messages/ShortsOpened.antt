@@ -22,15 +22,20 @@ pub short_more : (d : DeviceCore) (s : State) (r : kept.Short) → Describes d s
     IsBehind (with_short d r) (machine.with_short s (short_kept r))
 short_more d s r h = record {
   keeps = record {
-    settings = h.kept.settings;
+    boot = h.kept.boot;
+    permanent = h.kept.permanent;
+    region = h.kept.region;
+    registers = h.kept.registers;
     layer_kept = h.kept.layer_kept;
     few = h.kept.few;
     tasks = h.kept.tasks;
+    one_sends = h.kept.one_sends;
     wanted = h.kept.wanted;
     claims = h.kept.claims;
     shorts = ap (λ (xs : List Short). xs ++ short_kept r ∷ []) h.kept.shorts ∙ one_more d.shorts;
     power_off = h.kept.power_off;
   };
+  answered = h.answered;
   told = h.told;
 }
   where

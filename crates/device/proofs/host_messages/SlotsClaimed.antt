@@ -10,7 +10,7 @@ use Rattle.ftl_core.specs.Public.{Claims, Core, with_claimed}
 use Rattle.task_set.specs.declared.tasks.Phase.{Phase}
 use Rattle.task_set.specs.declared.tasks.Phase.TheVariants as phase
 use Rattle.task_set.specs.declared.tasks.Status.TheVariants as status
-use Rattle.device.specs.Calls.{HasClaimed, has_slots}
+use Rattle.device.specs.Calls.{HasClaimed, HasClaimedFrames, frame_slots, has_slots}
 use Rattle.device.specs.Describes.{blocks_gathered}
 use Rattle.device.specs.Kept.{IsLayerWith}
 
@@ -38,4 +38,20 @@ pub slots_claimed : (after : Core) (t : Translation) (claims : Claims) (tag : �
 slots_claimed after t claims tag key blocks forced p b is phase_is layer = record {
   phase_is = phase_is ∙ ap (write_phase key blocks forced) is;
   layer = λ none. subst (LayerThen after t claims tag blocks) is (layer none);
+}
+
+-- the same of a SECURITY PROTOCOL OUT
+
+abbrev pub frames_asked : ℕ → Bool → Phase
+frames_asked size found = if found then phase.AskFrames size else phase.Answer status.Busy 0
+
+pub frames_claimed : (after : Core) (t : Translation) (claims : Claims) (tag size : ℕ) (p : Phase) (found : Bool) →
+    found ≡ has_slots t frame_slots → p ≡ frames_asked size found →
+    (claims tag ≡ [] → IsLayerWith after (if found then moved t (Claim frame_slots) else t)
+    (if found then with_claimed claims tag (replicate frame_slots zero_block) else claims)) →
+    HasClaimedFrames after t claims tag size p
+frames_claimed after t claims tag size p found is phase_is layer = record {
+  phase_is = phase_is ∙ ap (frames_asked size) is;
+  layer = λ none. subst (λ (b : Bool). IsLayerWith after (if b then moved t (Claim frame_slots) else t)
+      (if b then with_claimed claims tag (replicate frame_slots zero_block) else claims)) is (layer none);
 }

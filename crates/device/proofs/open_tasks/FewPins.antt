@@ -1,7 +1,7 @@
 -- There is room for what a READ keeps: each pin is of a block of an open task, no two are of the same, and a task has
 -- at most as many blocks as a command may have.
-use Rattle.std.proofs.Common.{◌≡◌, ◌∙◌, ℕ, ◌+◌, ◌*◌, ◌<◌, ◌≤◌, ◌==◌, Bool, true, false, cond, List, [], ◌∷◌, length}
-use Rattle.std.proofs.Common.{map, Option, Some, None, inl, inr, refl, sym, ap, subst, arith}
+use Rattle.std.proofs.Common.{◌≡◌, ◌∙◌, ℕ, suc, ◌+◌, ◌*◌, ◌<◌, ◌≤◌, ◌==◌, Bool, true, false, cond, List, [], ◌∷◌}
+use Rattle.std.proofs.Common.{length, map, Option, Some, None, inl, inr, refl, sym, ap, subst, arith}
 use Rattle.std.specs.Prelude.{◌&&◌, ◌||◌, filter, find, nat_lt, not, option_map, slice_get}
 use Rattle.std.specs.List.{AllByRecursion, IsDistinct, list_any}
 use Rattle.std.proofs.Math.Dec.{eqb}
@@ -15,21 +15,24 @@ use Rattle.std.proofs.lemmas.Map.Views.{any-filter_same}
 use Rattle.ufs_spec.proofs.Facts.{and_parts, eqb-true, false≢true, none-some, or_parts, same_Some}
 use Rattle.ufs_spec.specs.Plain.{greatest_command}
 use Rattle.ufs_spec.specs.Exchanges as exchange
-use Rattle.ufs_spec.specs.Exchanges.{Answering, Awaiting, Deed, Gathering, ReadBlock, Sending, SendingBytes}
-use Rattle.ufs_spec.specs.Exchanges.{is_task_of, most_tasks, task_of}
+use Rattle.ufs_spec.specs.Exchanges.{Answering, Awaiting, Deed, Gathering, ReadBlock, ReadingArea, RpmbRequest}
+use Rattle.ufs_spec.specs.Exchanges.{Sending, SendingBytes, is_task_of, is_unfilled, most_tasks, task_of}
 use Rattle.ufs_spec.specs.Ledger.{before_accepted}
 use Rattle.ufs_spec.specs.Moves.{is_pin_of}
 use Rattle.ufs_spec.specs.Refusals.{State}
 use Rattle.ufs_spec.specs.Translation.{Pin}
 use Rattle.power_loss.proofs.books.SmallFacts.{eq_self}
 use Rattle.power_loss.proofs.open_tasks.TaggedLists.{any_fewer, other_way}
-use Rattle.ftl_core.specs.Public.{PinsDiffer}
+use Rattle.ftl_core.specs.Public.{PinsDiffer, keeps_for}
+use Rattle.task_set.specs.declared.frames.AreaReading.{AreaReading}
 use Rattle.task_set.specs.declared.tasks.Phase.{Phase}
 use Rattle.task_set.specs.declared.tasks.Phase.TheVariants as phase
 use Rattle.device.specs.Calls.{has_room}
-use Rattle.device.specs.Describes.{Describes, IsDoing, Keeps, wanted_by, wanted_in, wanted_of}
+use Rattle.device.specs.Describes.{Describes, IsDoing, IsReadingArea, Keeps, wanted_by, wanted_in, wanted_kept}
+use Rattle.device.specs.Describes.{wanted_of}
 use Rattle.device.specs.Kept.{DeviceCore}
 use Rattle.device.proofs.open_tasks.OpenTasks.{StandsOrNot, tag_stands}
+use Rattle.device.proofs.open_tasks.PageEnds.{few_read}
 
 any_found : {X : Type 0} (p : X → Bool) (xs : List X) (x : X) → find p xs ≡ Some x → list_any p xs ≡ true
 any_found p [] x e = cc
@@ -165,25 +168,14 @@ some_found p (x ∷ xs) h = by (p x) h (some_found p xs)
     by true e rest = (x, refl)
     by false e rest = rest e
 
--- a task that keeps something sends blocks, of which this is one
-kept_block : (index : ℕ) (wanted : Bool) (deed : Deed) → wanted_in index deed ≡ Some wanted →
-    (blocks : List ReadBlock) × (sent : ℕ) × (deed ≡ Sending blocks sent) × (index < length blocks)
-kept_block index wanted (Sending blocks sent) e = (blocks, sent, refl, by (nat_lt index sent) e)
+-- what is wanted is of a block that is there
+of_block : (index : ℕ) (wanted next : Bool) (blocks : List ReadBlock) →
+    wanted_of next (slice_get blocks index) ≡ Some wanted → index < length blocks
+of_block index wanted next blocks = by (slice_get blocks index) refl
   where
-    of_block : (o : Option ReadBlock) → slice_get blocks index ≡ o → wanted_of (index == sent) o ≡ Some wanted →
-        index < length blocks
-    of_block None at k = absurd (none-some wanted k)
-    of_block (Some block) at k = slice_get_within blocks index block at
-
-    by : (b : Bool) → cond b None (wanted_of (index == sent) (slice_get blocks index)) ≡ Some wanted →
-        index < length blocks
-    by true k = absurd (none-some wanted k)
-    by false k = of_block (slice_get blocks index) refl k
-kept_block index wanted (Gathering purpose gathered asked) e = absurd (none-some wanted e)
-kept_block index wanted (exchange.ReadingArea pages) e = absurd (none-some wanted e)
-kept_block index wanted (SendingBytes bytes) e = absurd (none-some wanted e)
-kept_block index wanted (Awaiting commands) e = absurd (none-some wanted e)
-kept_block index wanted (Answering told carried) e = absurd (none-some wanted e)
+    by : (o : Option ReadBlock) → slice_get blocks index ≡ o → wanted_of next o ≡ Some wanted → index < length blocks
+    by None at k = absurd (none-some wanted k)
+    by (Some block) at k = slice_get_within blocks index block at
 
 few_blocks : (before expected total : ℕ) (p : Phase) (blocks : List ReadBlock) (sent : ℕ) →
     IsDoing before expected total p (Sending blocks sent) → length blocks ≤ greatest_command
@@ -191,6 +183,43 @@ few_blocks before expected total (phase.SendBlocks x) blocks sent h =
     let count = h.count in let few = h.few in omega arith
 few_blocks before expected total (phase.Answer told n) blocks sent h = h.few
 few_blocks before expected total p blocks sent h = absurd h
+
+-- a request for data reads one page or two
+few_pages : (r : AreaReading) (total : ℕ) (pages : List ReadBlock) → IsReadingArea r total pages → length pages ≤ 2
+few_pages r total pages h =
+    let same : length (map (λ (page : ReadBlock). page.state) pages) ≡ length pages =
+    length-map pages (λ (page : ReadBlock). page.state) in
+    let reads = ap length h.reads in
+    let few = few_read r in
+    omega arith
+
+-- a task that keeps something sends a command's blocks or reads pages of the area, and this is one of them
+few_doing : (before expected total index : ℕ) (wanted : Bool) (request : Option RpmbRequest) (p : Phase) (deed : Deed) →
+    IsDoing before expected total p deed → wanted_in index request deed ≡ Some wanted → index < greatest_command
+few_doing before expected total index wanted request p (Sending blocks sent) h e =
+    let few = few_blocks before expected total p blocks sent h in
+    let low = sent_block (nat_lt index sent) e in
+    omega arith
+  where
+    sent_block : (b : Bool) → cond b None (wanted_of (index == sent) (slice_get blocks index)) ≡ Some wanted →
+        index < length blocks
+    sent_block true k = absurd (none-some wanted k)
+    sent_block false k = of_block index wanted (index == sent) blocks k
+few_doing before expected total index wanted request (phase.ReadArea r) (ReadingArea pages) h e =
+    let few = few_pages r total pages h in
+    let low = read_page (is_unfilled request) e in
+    omega arith
+  where
+    read_page : (b : Bool) → cond b (wanted_of true (slice_get pages index)) None ≡ Some wanted →
+        index < length pages
+    read_page true k = of_block index wanted true pages k
+    read_page false k = absurd (none-some wanted k)
+few_doing before expected total index wanted request p (Gathering purpose gathered asked) h e =
+    absurd (none-some wanted e)
+few_doing before expected total index wanted request p (SendingBytes bytes) h e = absurd (none-some wanted e)
+few_doing before expected total index wanted request p (Awaiting commands) h e = absurd (none-some wanted e)
+few_doing before expected total index wanted request p (Answering told carried) h e = absurd (none-some wanted e)
+few_doing before expected total index wanted request p (ReadingArea pages) h e = absurd h
 
 kept_for_task : (d : DeviceCore) (s : State) → Keeps d s → AreOf s.tasks s.translation.pins
 kept_for_task d s k tag index there =
@@ -202,16 +231,14 @@ kept_for_task d s k tag index there =
     before : ℕ
     before = before_accepted s.translation.ledger
 
-    its : (task : exchange.Task) → task_of tag s.tasks ≡ Some task → wanted_in index task.deed ≡ Some found.0.wanted →
+    its : (task : exchange.Task) → task_of tag s.tasks ≡ Some task →
+        wanted_in index task.request task.deed ≡ Some found.0.wanted →
         StandsOrNot before tag d.tasks s.tasks → index < greatest_command
     its task is wanted (inl none) = absurd (none-some task (sym none.1 ∙ is))
     its task is wanted (inr r) =
-        let b = kept_block index found.0.wanted task.deed wanted in
-        let deed = ap (λ (x : exchange.Task). x.deed) (same_Some r.b task (sym r.found ∙ is)) ∙ b.2 in
-        let few = few_blocks before r.a.expected r.b.length r.a.phase b.0 b.1
-        (subst (IsDoing before r.a.expected r.b.length r.a.phase) deed r.opened.kept.doing) in
-        let within = b.3 in
-        omega arith
+        few_doing before r.a.expected r.b.length index found.0.wanted r.b.request r.a.phase r.b.deed
+        r.opened.kept.doing
+        (ap (λ (x : exchange.Task). wanted_in index x.request x.deed) (same_Some r.b task (sym r.found ∙ is)) ∙ wanted)
 
     of_task : (o : Option exchange.Task) → task_of tag s.tasks ≡ o → wanted_by index o ≡ Some found.0.wanted →
         (index < greatest_command) × (list_any (is_task_of tag) s.tasks ≡ true)
@@ -221,9 +248,84 @@ kept_for_task d s k tag index there =
       any_found (is_task_of tag) s.tasks task is,
     )
 
+-- some pin of the tag has an index
+some_kept : (tag : ℕ) (pins : List Pin) → list_any (keeps_for tag) pins ≡ true →
+    (index : ℕ) × (list_any (is_pin_of tag index) pins ≡ true)
+some_kept tag [] h = absurd (false≢true h)
+some_kept tag (p ∷ pins) h = by (p.tag == tag) refl h (some_kept tag pins)
+  where
+    by : (b : Bool) → (p.tag == tag) ≡ b → (b || list_any (keeps_for tag) pins) ≡ true →
+        (list_any (keeps_for tag) pins ≡ true → (index : ℕ) × (list_any (is_pin_of tag index) pins ≡ true)) →
+        (index : ℕ) × (list_any (is_pin_of tag index) (p ∷ pins) ≡ true)
+    by true e k rest =
+        (p.index, (λ i. (e i && eq_self p.index i) || list_any (is_pin_of tag p.index) pins))
+    by false e k rest =
+        let r = rest k in
+        (r.0, ap (λ (b : Bool). (b && (p.index == r.0)) || list_any (is_pin_of tag r.0) pins) e ∙ r.1)
+
+-- fewer tasks are left where one goes
+one_fewer : (tag : ℕ) (us : List exchange.Task) (task : exchange.Task) → task_of tag us ≡ Some task →
+    length (exchange.without_task tag us) < length us
+one_fewer tag [] task found = absurd (none-some task found)
+one_fewer tag (u ∷ us) task found = by (is_task_of tag u) found (one_fewer tag us task) (left us)
+  where
+    left : (xs : List exchange.Task) → length (exchange.without_task tag xs) ≤ length xs
+    left xs =
+        let both = length-filter_both (is_task_of tag) (λ x. not (is_task_of tag x)) (λ x. refl) xs in
+        omega arith
+
+    by : (b : Bool) → cond b (Some u) (task_of tag us) ≡ Some task →
+        (task_of tag us ≡ Some task → length (exchange.without_task tag us) < length us) →
+        length (exchange.without_task tag us) ≤ length us →
+        length (cond (not b) (u ∷ exchange.without_task tag us) (exchange.without_task tag us)) < suc (length us)
+    by true e rest fewer = omega arith
+    by false e rest fewer = let less = rest e in omega arith
+
 -- so a task more finds room for its blocks
 pub pin_has_room : (d : DeviceCore) (s : State) (blocks : ℕ) → Describes d s → PinsDiffer s.translation.pins →
     length s.tasks < most_tasks → blocks ≤ greatest_command → has_room s.translation blocks ≡ true
 pin_has_room d s blocks h differ few most =
     let pins = few_pins s.tasks s.translation.pins differ (kept_for_task d s h.kept) in
     le-leb (length s.translation.pins + blocks) 1024 (omega arith)
+
+-- A request for data
+
+-- a tag for which nothing is wanted has no pins
+pub none_kept : (tag : ℕ) (pins : List Pin) → ((index : ℕ) → wanted_kept pins tag index ≡ None) →
+    list_any (keeps_for tag) pins ≡ false
+none_kept tag pins none = by (list_any (keeps_for tag) pins) refl
+  where
+    by : (b : Bool) → list_any (keeps_for tag) pins ≡ b → list_any (keeps_for tag) pins ≡ false
+    by false e = e
+    by true e = absurd (not_none (some_kept tag pins e))
+      where
+        not_none : (index : ℕ) × (list_any (is_pin_of tag index) pins ≡ true) → ⊥
+        not_none k =
+            let found = some_found (is_pin_of tag k.0) pins k.1 in
+            none-some found.0.wanted (sym (none k.0) ∙ ap (option_map (λ (pin : Pin). pin.wanted)) found.1)
+
+-- so its task, which stands among all tasks, leaves room for two pages
+pub area_has_room : (d : DeviceCore) (s : State) (tag : ℕ) (task : exchange.Task) → Keeps d s →
+    PinsDiffer s.translation.pins → task_of tag s.tasks ≡ Some task →
+    ((index : ℕ) → wanted_kept s.translation.pins tag index ≡ None) → length s.translation.pins + 2 ≤ 1024
+area_has_room d s tag task k differ found none =
+    let pins = few_pins (exchange.without_task tag s.tasks) s.translation.pins differ others in
+    let fewer = one_fewer tag s.tasks task found in
+    let few = k.few in
+    omega arith
+  where
+    others : AreOf (exchange.without_task tag s.tasks) s.translation.pins
+    others n index there = by (n == tag) refl (kept_for_task d s k n index there)
+      where
+        by : (b : Bool) → (n == tag) ≡ b → (index < greatest_command) × (list_any (is_task_of n) s.tasks ≡ true) →
+            (index < greatest_command) × (list_any (is_task_of n) (exchange.without_task tag s.tasks) ≡ true)
+        by true e its =
+            let pin = some_found (is_pin_of n index) s.translation.pins there in
+            absurd (none-some pin.0.wanted
+            (sym (none index) ∙ (ap (λ (m : ℕ). wanted_kept s.translation.pins m index) (sym (eqb-true n tag e))
+            ∙ ap (option_map (λ (x : Pin). x.wanted)) pin.1)))
+        by false e its = (
+          its.0,
+          any-filter_same (is_task_of n) (λ task. not (is_task_of tag task)) true
+              (λ (x : exchange.Task) is. ap not (ap (λ (m : ℕ). m == tag) (eqb-true x.tag n is) ∙ e)) s.tasks ∙ its.1,
+        )

@@ -139,7 +139,8 @@ claims_more us b free = one_claims us (us ++ b ∷ []) b.tag (Some b) (comes us 
 -- where each task changes, and nothing that tells of blocks
 pub record SameDeed (f : exchange.Task → exchange.Task) : Type 0 where
   pub tags : KeepsTag f
-  pub wanted : (index : ℕ) (x : exchange.Task) → wanted_in index (f x).deed ≡ wanted_in index x.deed
+  pub wanted : (index : ℕ) (x : exchange.Task) →
+      wanted_in index (f x).request (f x).deed ≡ wanted_in index x.request x.deed
   pub claimed : (x : exchange.Task) → claimed_in (f x).deed ≡ claimed_in x.deed
 
 pub each_wants : (pins : List Pin) (us : List exchange.Task) (f : exchange.Task → exchange.Task) →

@@ -6,15 +6,14 @@ use Rattle.std.specs.Prelude.{nat_lt, not, option_map, position, remove, slice_g
 use Rattle.std.specs.List.{list_any, position_or_len}
 use Rattle.ufs_spec.proofs.Facts.{eqb-true, none-some, or_parts, same_Some}
 use Rattle.ufs_spec.specs.Exchanges as exchange
-use Rattle.ufs_spec.specs.Exchanges.{Deed, is_task_of, is_unfilled, task_of, with_deed}
-use Rattle.ufs_laws.specs.Requests.{HaveNoneToFill}
+use Rattle.ufs_spec.specs.Exchanges.{Deed, is_task_of, task_of, with_deed}
 use Rattle.power_loss.specs.Exchange.{TasksDiffer}
 use Rattle.power_loss.proofs.books.SmallFacts.{eq_self, if_false, if_true}
 use Rattle.power_loss.proofs.open_tasks.TaggedLists.{other_way}
 use Rattle.power_loss.proofs.open_tasks.TaskLists.{none_changed}
 use Rattle.task_set.specs.declared.tasks.Task.{Task}
 use Rattle.task_set.specs.Kept.{OpenTask, task_in}
-use Rattle.task_set.specs.Lists.{read_at, read_of, task_at}
+use Rattle.task_set.specs.Lists.{held_at, held_of, read_at, read_of, task_at}
 use Rattle.device.specs.Describes.{TaskKept, TasksKept}
 use Rattle.task_set.specs.Tasks as ours
 
@@ -50,10 +49,11 @@ our_task before k ts us b h at = absurd h
 
 -- what is told of the task at a position
 pub stands_there : (ts : List OpenTask) (k : ℕ) (task : Task) (a : OpenTask) → task_at ts k ≡ Some task →
-    slice_get ts k ≡ Some a → (task ≡ task_in a) × (read_at ts k ≡ a.block)
+    slice_get ts k ≡ Some a → (task ≡ task_in a) × (read_at ts k ≡ a.block) × (held_at ts k ≡ a.held)
 stands_there ts k task a there at = (
   same_Some task (task_in a) (sym there ∙ ap (option_map task_in) at),
   ap read_of at,
+  ap held_of at,
 )
 
 -- there is one
@@ -71,12 +71,6 @@ pub as_many : (before : ℕ) (ts : List OpenTask) (us : List exchange.Task) → 
 as_many before [] [] h = refl
 as_many before (x ∷ ts) (y ∷ us) h = ap suc (as_many before ts us h.1)
 as_many before ts us h = absurd h
-
-pub no_requests : (before : ℕ) (ts : List OpenTask) (us : List exchange.Task) → TasksKept before ts us →
-    HaveNoneToFill us
-no_requests before [] [] h = tt
-no_requests before (x ∷ ts) (y ∷ us) h = (ap is_unfilled h.0.request, no_requests before ts us h.1)
-no_requests before ts us h = absurd h
 
 -- the task of a tag stands at one place on both sides
 pub record Stands (before tag : ℕ) (ts : List OpenTask) (us : List exchange.Task) : Type 0 where
@@ -206,6 +200,47 @@ one_changed before (suc k) (x ∷ ts) (y ∷ us) a b deed h differ at new =
     let other = if_false (is_task_of b.tag y) (record y { deed = deed }) y (other_tag y.tag k us b differ.0 at) in
     (subst (TaskKept before x) (sym other) h.0, one_changed before k ts us a b deed h.1 differ.1 at new)
 one_changed before k ts us a b deed h differ at new = absurd h
+
+-- where none has the tag, a change of the task of the tag changes none
+none_set : (tag : ℕ) (g : exchange.Task → exchange.Task) → ((x : exchange.Task) → is_task_of tag x ≡ false → g x ≡ x) →
+    (us : List exchange.Task) → list_any (is_task_of tag) us ≡ false → map g us ≡ us
+none_set tag g stays [] h = refl
+none_set tag g stays (y ∷ us) h =
+    let both = or_parts (is_task_of tag y) (list_any (is_task_of tag) us) h in
+    λ i. stays y both.0 i ∷ none_set tag g stays us both.1 i
+
+-- the task at a position changes by a change of the task of its tag
+pub one_goes_over : (before k : ℕ) (ts : List OpenTask) (us : List exchange.Task) (a : OpenTask) (b : exchange.Task)
+    (g : exchange.Task → exchange.Task) → ((x : exchange.Task) → is_task_of b.tag x ≡ false → g x ≡ x) →
+    TasksKept before ts us → TasksDiffer us → slice_get us k ≡ Some b → TaskKept before a (g b) →
+    TasksKept before (slice_set ts k a) (map g us)
+one_goes_over before k [] [] a b g stays h differ at new = tt
+one_goes_over before zero (x ∷ ts) (y ∷ us) a b g stays h differ at new =
+    let same : y ≡ b = same_Some y b at in (
+      subst (λ (z : exchange.Task). TaskKept before a (g z)) (sym same) new,
+      subst (TasksKept before ts)
+          (sym (none_set b.tag g stays us
+          (subst (λ (z : exchange.Task). list_any (is_task_of z.tag) us ≡ false) same differ.0))) h.1,
+    )
+one_goes_over before (suc k) (x ∷ ts) (y ∷ us) a b g stays h differ at new = (
+  subst (TaskKept before x) (sym (stays y (other_tag y.tag k us b differ.0 at))) h.0,
+  one_goes_over before k ts us a b g stays h.1 differ.1 at new,
+)
+one_goes_over before k ts us a b g stays h differ at new = absurd h
+
+-- what is set twice is as the last time
+pub set_again : (ts : List OpenTask) (k : ℕ) (a b : OpenTask) →
+    slice_set (slice_set ts k a) k b ≡ slice_set ts k b
+set_again [] zero a b = refl
+set_again [] (suc k) a b = refl
+set_again (x ∷ ts) zero a b = refl
+set_again (x ∷ ts) (suc k) a b = ap (λ (ys : List OpenTask). x ∷ ys) (set_again ts k a b)
+
+pub set_stands : (ts : List OpenTask) (k : ℕ) (a b : OpenTask) → slice_get ts k ≡ Some a →
+    slice_get (slice_set ts k b) k ≡ Some b
+set_stands [] k a b at = absurd (none-some a at)
+set_stands (x ∷ ts) zero a b at = refl
+set_stands (x ∷ ts) (suc k) a b at = set_stands ts k a b at
 
 -- where none has the tag, none goes
 none_goes : (tag : ℕ) (us : List exchange.Task) → list_any (is_task_of tag) us ≡ false →

@@ -176,13 +176,18 @@ want_set_else one k wanted tag index pins differ =
     (λ pin e. ap (λ b. (if b then record pin { wanted = wanted } else pin).wanted)
     (differ pin (found_is (is_pin_of tag index) pins pin e)))
 
+-- a pin of another tag is another
+other_pin : (one k tag index : ℕ) → (tag == one) ≡ false → (pin : Pin) → is_pin_of tag index pin ≡ true →
+    is_pin_of one k pin ≡ false
+other_pin one k tag index other pin e =
+    ap (λ (n : ℕ). (n == one) && (pin.index == k)) (eqb-true pin.tag tag (and_parts _ _ e).0)
+    ∙ ap (λ b. b && (pin.index == k)) other
+
 -- that of another tag
 pub want_other_tag : (one k : ℕ) (wanted : Bool) (tag index : ℕ) (pins : List Pin) → (tag == one) ≡ false →
     wanted_kept (map (with_wanted one k wanted) pins) tag index ≡ wanted_kept pins tag index
 want_other_tag one k wanted tag index pins other =
-    want_set_else one k wanted tag index pins
-    (λ pin e. ap (λ (n : ℕ). (n == one) && (pin.index == k)) (eqb-true pin.tag tag (and_parts _ _ e).0)
-    ∙ ap (λ b. b && (pin.index == k)) other)
+    want_set_else one k wanted tag index pins (other_pin one k tag index other)
 
 -- that of another index
 pub want_other_index : (one k : ℕ) (wanted : Bool) (tag index : ℕ) (pins : List Pin) → (index == k) ≡ false →
@@ -195,6 +200,46 @@ want_other_index one k wanted tag index pins other =
     right : (b : Bool) → (b && false) ≡ false
     right true = refl
     right false = refl
+
+-- What is found for other tags than one
+
+-- where all pins of the one go
+pub gone_finds_others : (one tag index : ℕ) (pins : List Pin) → (tag == one) ≡ false →
+    find (is_pin_of tag index) (filter (λ pin. not (pin.tag == one)) pins) ≡ find (is_pin_of tag index) pins
+gone_finds_others one tag index pins other =
+    find_left (is_pin_of tag index) (λ pin. not (pin.tag == one))
+    (λ pin e. ap not (ap (λ (n : ℕ). n == one) (eqb-true pin.tag tag (and_parts _ _ e).0) ∙ other)) pins
+
+-- where one of them goes
+pub sent_finds_others : (one k tag index : ℕ) (pins : List Pin) → (tag == one) ≡ false →
+    find (is_pin_of tag index) (filter (λ pin. not (is_pin_of one k pin)) pins) ≡ find (is_pin_of tag index) pins
+sent_finds_others one k tag index pins other =
+    find_left (is_pin_of tag index) (λ pin. not (is_pin_of one k pin))
+    (λ pin e. ap not (other_pin one k tag index other pin e)) pins
+
+-- where one of them is wanted, or is not any more
+pub want_finds_others : (one k : ℕ) (wanted : Bool) (tag index : ℕ) (pins : List Pin) → (tag == one) ≡ false →
+    find (is_pin_of tag index) (map (with_wanted one k wanted) pins) ≡ find (is_pin_of tag index) pins
+want_finds_others one k wanted tag index pins other =
+    find_map (is_pin_of tag index) (with_wanted one k wanted) (want_keeps one k wanted tag index) pins
+    ∙ still (find (is_pin_of tag index) pins) refl
+  where
+    still : (o : Option Pin) → find (is_pin_of tag index) pins ≡ o → option_map (with_wanted one k wanted) o ≡ o
+    still None e = refl
+    still (Some pin) e =
+        ap (λ b. Some (if b then record pin { wanted = wanted } else pin))
+        (other_pin one k tag index other pin (found_is (is_pin_of tag index) pins pin e))
+
+-- where pins come, none of which is looked for
+pub more_finds_others : (tag index : ℕ) (pins more : List Pin) → find (is_pin_of tag index) more ≡ None →
+    find (is_pin_of tag index) (pins ++ more) ≡ find (is_pin_of tag index) pins
+more_finds_others tag index pins more none =
+    find-append (is_pin_of tag index) pins more
+    ∙ (ap (option_or (find (is_pin_of tag index) pins)) none ∙ or_none (find (is_pin_of tag index) pins))
+  where
+    or_none : (o : Option Pin) → option_or o None ≡ o
+    or_none None = refl
+    or_none (Some x) = refl
 
 -- to set whether the pin itself is wanted, if it is there
 pub want_set : (one k : ℕ) (wanted : Bool) (pins : List Pin) →

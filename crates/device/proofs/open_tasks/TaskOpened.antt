@@ -10,7 +10,7 @@ use Rattle.ufs_spec.specs.Exchanges as exchange
 use Rattle.ufs_spec.specs.Exchanges.{Deed, task_of}
 use Rattle.ufs_spec.specs.Ledger.{before_accepted}
 use Rattle.ufs_spec.specs.Machine as machine
-use Rattle.ufs_spec.specs.Machine.{durable}
+use Rattle.ufs_spec.specs.Machine.{durable, is_to_fill}
 use Rattle.ufs_spec.specs.Refusals.{Request, State, locked}
 use Rattle.ufs_spec.specs.Exchanges.{most_tasks}
 use Rattle.ufs_spec.specs.Translation.{Pin, Translation}
@@ -19,12 +19,15 @@ use Rattle.power_loss.specs.Shown.{ShowsRight}
 use Rattle.ftl_core.specs.Public as layer_kept
 use Rattle.ftl_core.specs.Public.{AreClaimed, Core, keeps_for, with_claimed}
 use Rattle.task_set.specs.Kept.{OpenTask}
-use Rattle.device.specs.Describes.{Describes, IsTold, IsToldIn, Keeps, TaskKept, TasksKept}
+use Rattle.task_set.specs.Tasks.{is_sender}
+use Rattle.device.specs.Describes.{Describes, HaveAnswered, IsTold, IsToldIn, Keeps, OneSends, TaskKept, TasksKept}
 use Rattle.device.specs.Describes.{claimed_by, claimed_in, claims_of, wanted_in, wanted_kept}
 use Rattle.device.specs.Hears.{with_task}
 use Rattle.device.specs.Kept.{DeviceCore, IsLayerWith}
 use Rattle.device.proofs.described.Answered.{IsBehind}
 use Rattle.device.proofs.open_tasks.KeptByTag.{WantedFor, claimed_same, claims_more, one_comes}
+use Rattle.device.proofs.described.OneSender.{one_more_sends}
+use Rattle.device.proofs.described.Settled.{SameAtHand, none_stay, still_answered}
 use Rattle.device.proofs.open_tasks.OpenTasks.{one_more}
 
 -- the specified task that is opened
@@ -40,14 +43,14 @@ opened r command n deed =
       request = None;
     }
 
--- the deed tells of no block
+-- the deed of a task without a request tells of no block
 pub record TellsNothing (deed : Deed) : Type 0 where
-  pub wanted : (index : ℕ) → wanted_in index deed ≡ None
+  pub wanted : (index : ℕ) → wanted_in index None deed ≡ None
   pub claimed : claimed_in deed ≡ []
 
 -- what is wanted for the tag is what its deed tells, and for other tags nothing changes
 pub record TagBegins (before : List Pin) (tag : ℕ) (deed : Deed) (pins : List Pin) : Type 0 where
-  pub wanted : (index : ℕ) → wanted_kept pins tag index ≡ wanted_in index deed
+  pub wanted : (index : ℕ) → wanted_kept pins tag index ≡ wanted_in index None deed
   pub others_want : (n index : ℕ) → (n == tag) ≡ false → wanted_kept pins n index ≡ wanted_kept before n index
 
 module _ (d : DeviceCore) (s : State) (r : Request) (h : Describes d s) (free : task_of r.tag s.tasks ≡ None)
@@ -83,19 +86,29 @@ module _ (d : DeviceCore) (s : State) (r : Request) (h : Describes d s) (free : 
   pub nobody : list_any (keeps_for r.tag) s.translation.pins ≡ false
   nobody = nobody_in s.translation.pins h.shows
 
+  -- where the new task brings frames no other does
+  pub sends_once : (a : OpenTask) → (is_sender a ≡ true → list_any is_sender d.tasks ≡ false) →
+      OneSends (d.tasks ++ a ∷ [])
+  sends_once a alone = one_more_sends d.tasks a alone h.kept.one_sends
+
   pub open_keeps : (c : Core) (u : Translation) (command : Option Cdb) (n : ℕ) (deed : Deed) (a : OpenTask) →
       layer_kept.Describes c u →
       before_accepted u.ledger ≡ before_accepted s.translation.ledger →
       TagBegins s.translation.pins r.tag deed u.pins →
       AreClaimed c (with_claimed (claims_of s.tasks) r.tag (claimed_in deed)) →
       TaskKept (before_accepted s.translation.ledger) a (opened r command n deed) →
+      (is_sender a ≡ true → list_any is_sender d.tasks ≡ false) →
       Keeps (with_task (record d { ftl = c }) a) (machine.with_task (record s { translation = u }) r command n deed)
-  open_keeps c u command n deed a layer before begins claims task = record {
-    settings = h.kept.settings;
+  open_keeps c u command n deed a layer before begins claims task alone = record {
+    boot = h.kept.boot;
+    permanent = h.kept.permanent;
+    region = h.kept.region;
+    registers = h.kept.registers;
     layer_kept = layer;
     few = (let more = length-append s.tasks (b ∷ []) in omega arith);
     tasks = subst (λ m. TasksKept m (d.tasks ++ a ∷ []) (s.tasks ++ b ∷ [])) (sym before)
         (one_more (before_accepted s.translation.ledger) d.tasks s.tasks a b h.kept.tasks task);
+    one_sends = sends_once a alone;
     wanted =
         one_comes s.translation.pins u.pins s.tasks b h.kept.wanted free begins.wanted
         (λ tag other index. begins.others_want tag index other);
@@ -113,19 +126,33 @@ module _ (d : DeviceCore) (s : State) (r : Request) (h : Describes d s) (free : 
   open_told command n deed new lock =
       All-push (IsTold (durable s)) s.tasks (opened r command n deed) (h.told lock) (new lock)
 
+  -- a task that is opened has no request, and of the others none becomes due
+  pub open_answered : (u : Translation) (command : Option Cdb) (n : ℕ) (deed : Deed) →
+      ((tag : ℕ) → (tag == r.tag) ≡ false → SameAtHand s.translation u tag) →
+      durable (record s { translation = u }) ≡ durable s →
+      HaveAnswered (machine.with_task (record s { translation = u }) r command n deed)
+  open_answered u command n deed stay same =
+      All-push (λ task. is_to_fill v task ≡ false) s.tasks (opened r command n deed)
+      (still_answered s v s.tasks (none_stay s.translation u r.tag s.tasks free stay) same h.answered) refl
+    where
+      v : State
+      v = machine.with_task (record s { translation = u }) r command n deed
+
   -- where the layer stays
   pub opens_still : (c : Core) (command : Option Cdb) (n : ℕ) (deed : Deed) (a : OpenTask) →
       IsLayerWith c s.translation (claims_of s.tasks) → TellsNothing deed →
       (locked s ≡ true → IsToldIn (durable s) deed) →
       TaskKept (before_accepted s.translation.ledger) a (opened r command n deed) →
+      (is_sender a ≡ true → list_any is_sender d.tasks ≡ false) →
       IsBehind (with_task (record d { ftl = c }) a) (machine.with_task s r command n deed)
-  opens_still c command n deed a layer none new task = record {
+  opens_still c command n deed a layer none new task alone = record {
     keeps =
         open_keeps c s.translation command n deed a layer.0 refl
         (record {
           wanted = λ index. none_wanted index ∙ sym (none.wanted index);
           others_want = λ m index other. refl;
         })
-        (still_claimed c deed none.claimed layer.1) task;
+        (still_claimed c deed none.claimed layer.1) task alone;
+    answered = open_answered s.translation command n deed (λ tag other index. refl) refl;
     told = open_told command n deed new;
   }

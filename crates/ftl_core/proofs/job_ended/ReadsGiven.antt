@@ -140,22 +140,22 @@ given_told : (cells : Cells) (reader index : ℕ) (place : Place) (o : Outcome) 
     (name : Name) (given : Option (List ℕ)) →
     x.looked ≡ OnPage name place → IsPageOf cells place x.key name.number →
     IsEndingOf cells (Some (disk.Reading (ForTask reader index) place)) o ending →
-    IsGivenTo o (Some x) given → e ≡ ended.Read reader given →
+    IsGivenTo o (Some x) given → e ≡ ended.Read reader index given →
     IsTold cells (Some (disk.Reading (ForTask reader index) place)) ending e
 given_told cells reader index place (outcome.Read page) ReadRight e x name given looks w is gives told = (
   w.tag,
   w.body,
   w.there,
-  told ∙ ap (ended.Read reader)
+  told ∙ ap (ended.Read reader index)
       (right_body page cells place x.key name.number given w is.1
       (subst (λ (l : Looked). IsBodyLooked page x.key l given) looks gives)),
 )
 given_told cells reader index place (outcome.Read page) ReadWrong e x name given looks w is gives told =
-    told ∙ ap (ended.Read reader)
+    told ∙ ap (ended.Read reader index)
     (wrong_body page cells place x.key name.number given w is.1
     (subst (λ (l : Looked). IsBodyLooked page x.key l given) looks gives))
 given_told cells reader index place outcome.ReadFailed ReadWrong e x name given looks w is gives told = told
-    ∙ ap (ended.Read reader) gives
+    ∙ ap (ended.Read reader index) gives
 given_told cells reader index place outcome.Done ending e x name given looks w is gives told = absurd (false≢true is.0)
 given_told cells reader index place outcome.Failed ending e x name given looks w is gives told = absurd (false≢true is.0)
 given_told cells reader index place o ending e x name given looks w is gives told = absurd is.1

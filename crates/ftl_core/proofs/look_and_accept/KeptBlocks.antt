@@ -1,7 +1,7 @@
 -- The blocks that a reader keeps: each stays kept as the next is, and looks at what its address has.
-use Rattle.std.proofs.Common.{◌≡◌, ◌∙◌, ℕ, zero, suc, ◌+◌, ◌-◌, ◌<◌, ◌≤◌, ◌==◌, ◌||◌, true, false, List, []}
+use Rattle.std.proofs.Common.{◌≡◌, ◌∙◌, ℕ, zero, suc, ◌+◌, ◌-◌, ◌<◌, ◌≤◌, ◌==◌, ◌||◌, Bool, true, false, List, []}
 use Rattle.std.proofs.Common.{◌∷◌, ◌++◌, Option, Some, length, map, refl, sym, ap, subst, ⊎_elim, arith, length-append}
-use Rattle.std.specs.Prelude.{fold, slice_get}
+use Rattle.std.specs.Prelude.{fold, if◌then◌else◌, nat_le, slice_get}
 use Rattle.std.specs.List.{list_any}
 use Rattle.std.proofs.lemmas.Bool.{and_parts, eqb-true}
 use Rattle.std.proofs.lemmas.List.{append-nil, append_assoc, length-map, map-append}
@@ -11,7 +11,7 @@ use Rattle.ufs_spec.proofs.Lists.{any_none, get_below, length-below, none_passes
 use Rattle.ufs_spec.specs.Configs.{InRange}
 use Rattle.ufs_spec.specs.Keys.{IsKey, below}
 use Rattle.ufs_spec.specs.Ledger.{Entry, entry_of, look}
-use Rattle.ufs_spec.specs.Moves.{Keep, moved}
+use Rattle.ufs_spec.specs.Moves.{Keep, Move, moved}
 use Rattle.ufs_spec.specs.Plain.{shape_of_numbers}
 use Rattle.ufs_spec.specs.Translation as layer
 use Rattle.ufs_spec.specs.Translation.{Translation, is_mended}
@@ -26,9 +26,10 @@ use Rattle.ftl_core.proofs.rests_owed.RestsStay.{same_rests}
 use Rattle.ftl_core.specs.declared.books.Pin.{Pin}
 use Rattle.ftl_core.specs.Core.{Core}
 use Rattle.ftl_core.specs.Describes.{Describes, IsLookOf, PinKept, PinsKept}
-use Rattle.ftl_core.specs.Moves.{is_of_reader, is_pin_of, kept_all, look_of, pin_now}
+use Rattle.ftl_core.specs.Moves.{claims_for, is_of_reader, is_pin_of, kept_all, look_of, pin_now}
 use Rattle.write_cache.specs.Slots.{key_at}
-use Rattle.ftl_core.specs.Tells.{PinsDiffer, keep_at, keeps_for, keeps_of, key_behind}
+use Rattle.ftl_core.specs.Public.{AreClaimed, Claims}
+use Rattle.ftl_core.specs.Tells.{PinsDiffer, keep_at, keeps_for, key_behind}
 use Rattle.ftl_core.proofs.look_and_accept.KeysBehind.{keys_same}
 use Rattle.ftl_core.proofs.look_and_accept.LookedPages.{looked_there}
 use Rattle.ftl_core.proofs.look_and_accept.LookedUp.{looks}
@@ -64,16 +65,19 @@ pins_count c t h = as_many_pins t.ledger.frontier (entry_of t.ledger) c.pins t.p
 -- One block more
 
 -- what is kept of a block, as it is specified
-abbrev pub pin_at : Translation → ℕ → Key → ℕ → layer.Pin
-pin_at t reader k i = record {
+abbrev pub pin_at : Translation → ℕ → Key → Bool → ℕ → layer.Pin
+pin_at t reader k all i = record {
   tag = reader;
   index = i;
   looked = look t.ledger (key_behind k i);
-  wanted = i == 0;
+  wanted = all || (i == 0);
 }
 
-abbrev pub pins_at : Translation → ℕ → Key → ℕ → List layer.Pin
-pins_at t reader k n = map (pin_at t reader k) (below n)
+abbrev pub pins_at : Translation → ℕ → Key → Bool → ℕ → List layer.Pin
+pins_at t reader k all n = map (pin_at t reader k all) (below n)
+
+abbrev pub keeps_at : Translation → ℕ → Key → Bool → ℕ → List Move
+keeps_at t reader k all n = map (keep_at t reader k all) (below n)
 
 -- the blocks are kept one after another
 made_more : {X : Type 0} (f : ℕ → X) (xs : List X) (n : ℕ) →
@@ -82,42 +86,44 @@ made_more {X} f xs n =
     append_assoc xs (map f (below n)) (f n ∷ [])
     ∙ ap (λ (ys : List X). xs ++ ys) (sym (map-append f (below n) (n ∷ [])))
 
-kept_more : (c : Core) (reader : ℕ) (k : Key) (n : ℕ) →
-    record c { pins = (c.pins ++ map (pin_now c reader k) (below n)) ++ pin_now c reader k n ∷ [] } ≡
-    kept_all c reader k (suc n)
-kept_more c reader k n = ap (λ (ps : List Pin). record c { pins = ps }) (made_more (pin_now c reader k) c.pins n)
+kept_more : (c : Core) (reader : ℕ) (k : Key) (all : Bool) (n : ℕ) →
+    record c { pins = (c.pins ++ map (pin_now c reader k all) (below n)) ++ pin_now c reader k all n ∷ [] } ≡
+    kept_all c reader k all (suc n)
+kept_more c reader k all n =
+    ap (λ (ps : List Pin). record c { pins = ps }) (made_more (pin_now c reader k all) c.pins n)
 
-pub kept_next : (c now after : Core) (reader : ℕ) (k : Key) (n : ℕ) → now ≡ kept_all c reader k n →
-    after ≡ record now { pins = now.pins ++ pin_now now reader k n ∷ [] } → after ≡ kept_all c reader k (n + 1)
-kept_next c now after reader k n is new =
+pub kept_next : (c now after : Core) (reader : ℕ) (k : Key) (all : Bool) (n : ℕ) → now ≡ kept_all c reader k all n →
+    after ≡ record now { pins = now.pins ++ pin_now now reader k all n ∷ [] } → after ≡ kept_all c reader k all (n + 1)
+kept_next c now after reader k all n is new =
     new
-    ∙ (ap (λ (x : Core). record x { pins = x.pins ++ pin_now x reader k n ∷ [] }) is
-    ∙ (kept_more c reader k n ∙ ap (kept_all c reader k) (next n)))
+    ∙ (ap (λ (x : Core). record x { pins = x.pins ++ pin_now x reader k all n ∷ [] }) is
+    ∙ (kept_more c reader k all n ∙ ap (kept_all c reader k all) (next n)))
   where
     next : (n : ℕ) → suc n ≡ n + 1
     next n = omega arith
 
-pub kept_count : (c now : Core) (reader : ℕ) (k : Key) (n : ℕ) → now ≡ kept_all c reader k n →
+pub kept_count : (c now : Core) (reader : ℕ) (k : Key) (all : Bool) (n : ℕ) → now ≡ kept_all c reader k all n →
     length now.pins ≡ length c.pins + n
-kept_count c now reader k n is =
+kept_count c now reader k all n is =
     ap (λ (x : Core). length x.pins) is
-    ∙ (length-append c.pins (map (pin_now c reader k) (below n))
-    ∙ ap (λ (m : ℕ). length c.pins + m) (length-map (below n) (pin_now c reader k) ∙ length-below n))
+    ∙ (length-append c.pins (map (pin_now c reader k all) (below n))
+    ∙ ap (λ (m : ℕ). length c.pins + m) (length-map (below n) (pin_now c reader k all) ∙ length-below n))
 
 -- as it is specified
-moved_more : (t : Translation) (reader : ℕ) (k : Key) (n : ℕ) →
-    record t { pins = (t.pins ++ pins_at t reader k n) ++ pin_at t reader k n ∷ [] } ≡
-    record t { pins = t.pins ++ pins_at t reader k (suc n) }
-moved_more t reader k n =
-    ap (λ (ps : List layer.Pin). record t { pins = ps }) (made_more (pin_at t reader k) t.pins n)
+moved_more : (t : Translation) (reader : ℕ) (k : Key) (all : Bool) (n : ℕ) →
+    record t { pins = (t.pins ++ pins_at t reader k all n) ++ pin_at t reader k all n ∷ [] } ≡
+    record t { pins = t.pins ++ pins_at t reader k all (suc n) }
+moved_more t reader k all n =
+    ap (λ (ps : List layer.Pin). record t { pins = ps }) (made_more (pin_at t reader k all) t.pins n)
 
-pub moved_all : (t : Translation) (reader : ℕ) (k : Key) (n : ℕ) →
-    fold moved t (keeps_of t reader k n) ≡ record t { pins = t.pins ++ pins_at t reader k n }
-moved_all t reader k zero = ap (λ (ps : List layer.Pin). record t { pins = ps }) (sym (append-nil t.pins))
-moved_all t reader k (suc n) =
-    ap (fold moved t) (map-append (keep_at t reader k) (below n) (n ∷ []))
-    ∙ (fold-append moved t (keeps_of t reader k n) (keep_at t reader k n ∷ [])
-    ∙ (ap (λ (x : Translation). moved x (keep_at t reader k n)) (moved_all t reader k n) ∙ moved_more t reader k n))
+pub moved_all : (t : Translation) (reader : ℕ) (k : Key) (all : Bool) (n : ℕ) →
+    fold moved t (keeps_at t reader k all n) ≡ record t { pins = t.pins ++ pins_at t reader k all n }
+moved_all t reader k all zero = ap (λ (ps : List layer.Pin). record t { pins = ps }) (sym (append-nil t.pins))
+moved_all t reader k all (suc n) =
+    ap (fold moved t) (map-append (keep_at t reader k all) (below n) (n ∷ []))
+    ∙ (fold-append moved t (keeps_at t reader k all n) (keep_at t reader k all n ∷ [])
+    ∙ (ap (λ (x : Translation). moved x (keep_at t reader k all n)) (moved_all t reader k all n)
+    ∙ moved_more t reader k all n))
 
 -- One block that is kept
 
@@ -157,9 +163,10 @@ pub record IsKeepable (c : Core) (t : Translation) (k : Key) (i : ℕ) : Type 0 
   pub same : key_at k i ≡ key_behind k i
   pub looks : look_of c (key_behind k i) ≡ look t.ledger (key_behind k i)
 
-block_kept : (c : Core) (t : Translation) (reader : ℕ) (k : Key) (i : ℕ) → Valid t → is_mended t.work.mending ≡ true →
-    IsKeepable c t k i → PinKept t.ledger.frontier (entry_of t.ledger) (pin_now c reader k i) (pin_at t reader k i)
-block_kept c t reader k i v mended may = record {
+block_kept : (c : Core) (t : Translation) (reader : ℕ) (k : Key) (all : Bool) (i : ℕ) → Valid t →
+    is_mended t.work.mending ≡ true → IsKeepable c t k i →
+    PinKept t.ledger.frontier (entry_of t.ledger) (pin_now c reader k all i) (pin_at t reader k all i)
+block_kept c t reader k all i v mended may = record {
   tag = refl;
   index = refl;
   looked = sym may.looks ∙ ap (look_of c) (sym may.same);
@@ -169,12 +176,12 @@ block_kept c t reader k i v mended may = record {
 }
 
 -- a reader who kept nothing does not keep the next block
-next_new : (c : Core) (reader : ℕ) (k : Key) (n : ℕ) → list_any (is_of_reader reader) c.pins ≡ false →
-    list_any (is_pin_of reader n) (c.pins ++ map (pin_now c reader k) (below n)) ≡ false
-next_new c reader k n none =
-    none_passes (is_pin_of reader n) (c.pins ++ map (pin_now c reader k) (below n)) found
+next_new : (c : Core) (reader : ℕ) (k : Key) (all : Bool) (n : ℕ) → list_any (is_of_reader reader) c.pins ≡ false →
+    list_any (is_pin_of reader n) (c.pins ++ map (pin_now c reader k all) (below n)) ≡ false
+next_new c reader k all n none =
+    none_passes (is_pin_of reader n) (c.pins ++ map (pin_now c reader k all) (below n)) found
   where
-    found : (j : ℕ) (p : Pin) → slice_get (c.pins ++ map (pin_now c reader k) (below n)) j ≡ Some p →
+    found : (j : ℕ) (p : Pin) → slice_get (c.pins ++ map (pin_now c reader k all) (below n)) j ≡ Some p →
         is_pin_of reader n p ≡ true → ⊥
     found j p h is =
         let both = and_parts (p.reader == reader) (p.index == n) is in
@@ -182,54 +189,74 @@ next_new c reader k n none =
         (λ (old : (j < length c.pins) × (slice_get c.pins j ≡ Some p)).
         false≢true (sym (any_none (is_of_reader reader) c.pins j p none old.1) ∙ both.0))
         (λ (made : (length c.pins ≤ j)
-        × (slice_get (map (pin_now c reader k) (below n)) (j - length c.pins) ≡ Some p)).
-        let r = mapped_at (pin_now c reader k) (below n) (j - length c.pins) p made.1 in
+        × (slice_get (map (pin_now c reader k all) (below n)) (j - length c.pins) ≡ Some p)).
+        let r = mapped_at (pin_now c reader k all) (below n) (j - length c.pins) p made.1 in
         let s = get_below n (j - length c.pins) r.0 r.1 in
         let same : r.0 ≡ n = ap (λ (x : Pin). x.index) r.2 ∙ eqb-true p.index n both.1 in
         let less = s.1 in
         absurd (omega (arith, same, less)))
-        (get_either c.pins (map (pin_now c reader k) (below n)) j p h)
+        (get_either c.pins (map (pin_now c reader k all) (below n)) j p h)
 
-kept_all_right : (c : Core) (t : Translation) (reader : ℕ) (k : Key) (blocks : ℕ) → Describes c t →
+kept_all_right : (c : Core) (t : Translation) (reader : ℕ) (k : Key) (all : Bool) (blocks : ℕ) → Describes c t →
     is_mended t.work.mending ≡ true → ((i : ℕ) → i < blocks → IsKeepable c t k i) →
     list_any (is_of_reader reader) c.pins ≡ false → (n : ℕ) → n ≤ blocks →
-    Describes (kept_all c reader k n) (record t { pins = t.pins ++ pins_at t reader k n })
-kept_all_right c t reader k blocks h mended each none zero l =
-    subst (λ (ps : List layer.Pin). Describes (kept_all c reader k zero) (record t { pins = ps }))
+    Describes (kept_all c reader k all n) (record t { pins = t.pins ++ pins_at t reader k all n })
+kept_all_right c t reader k all blocks h mended each none zero l =
+    subst (λ (ps : List layer.Pin). Describes (kept_all c reader k all zero) (record t { pins = ps }))
     (sym (append-nil t.pins))
     (subst (λ (ps : List Pin). Describes (record c { pins = ps }) t) (sym (append-nil c.pins)) h)
-kept_all_right c t reader k blocks h mended each none (suc n) l =
+kept_all_right c t reader k all blocks h mended each none (suc n) l =
     let may = each n (omega arith) in
-    let so_far = kept_all_right c t reader k blocks h mended each none n (omega arith) in
-    let next = keeps_block (kept_all c reader k n) (record t { pins = t.pins ++ pins_at t reader k n })
-    (key_behind k n) (pin_now c reader k n) (pin_at t reader k n) so_far mended may.key refl
-    (block_kept c t reader k n h.valid mended may) (next_new c reader k n none) in
-    subst (Describes (kept_all c reader k (suc n))) (moved_more t reader k n)
+    let so_far = kept_all_right c t reader k all blocks h mended each none n (omega arith) in
+    let next = keeps_block (kept_all c reader k all n) (record t { pins = t.pins ++ pins_at t reader k all n })
+    (key_behind k n) (pin_now c reader k all n) (pin_at t reader k all n) so_far mended may.key refl
+    (block_kept c t reader k all n h.valid mended may) (next_new c reader k all n none) in
+    subst (Describes (kept_all c reader k all (suc n))) (moved_more t reader k all n)
     (subst (λ (x : Core). Describes x
-    (record t { pins = (t.pins ++ pins_at t reader k n) ++ pin_at t reader k n ∷ [] })) (kept_more c reader k n) next)
+    (record t { pins = (t.pins ++ pins_at t reader k all n) ++ pin_at t reader k all n ∷ [] }))
+    (kept_more c reader k all n) next)
 
 -- a reader who keeps nothing keeps what each of the blocks has
-pub keeps_all : (c : Core) (t : Translation) (reader : ℕ) (k : Key) (blocks : ℕ) → Describes c t →
+pub keeps_all : (c : Core) (t : Translation) (reader : ℕ) (k : Key) (all : Bool) (blocks : ℕ) → Describes c t →
     is_mended t.work.mending ≡ true → ((i : ℕ) → i < blocks → IsKeepable c t k i) →
     list_any (keeps_for reader) t.pins ≡ false →
-    Describes (kept_all c reader k blocks) (fold moved t (keeps_of t reader k blocks))
-keeps_all c t reader k blocks h mended each none =
-    subst (Describes (kept_all c reader k blocks)) (sym (moved_all t reader k blocks))
-    (kept_all_right c t reader k blocks h mended each
+    Describes (kept_all c reader k all blocks) (fold moved t (keeps_at t reader k all blocks))
+keeps_all c t reader k all blocks h mended each none =
+    subst (Describes (kept_all c reader k all blocks)) (sym (moved_all t reader k all blocks))
+    (kept_all_right c t reader k all blocks h mended each
     (reader_keeps t.ledger.frontier (entry_of t.ledger) reader c.pins t.pins h.kept.pins ∙ none) blocks (omega arith))
 
--- once the device is mended, and has the keys of all of them
-pub keeps_told : (c after : Core) (reader : ℕ) (k : Key) (blocks : ℕ) → after ≡ kept_all c reader k blocks →
+each_keepable : (c : Core) (t : Translation) (k : Key) (blocks : ℕ) → InRange c.numbers → Describes c t →
+    is_mended t.work.mending ≡ true →
+    ((i : ℕ) → i < blocks → IsKey (shape_of_numbers t.numbers) (key_behind k i)) →
+    (i : ℕ) → i < blocks → IsKeepable c t k i
+each_keepable c t k blocks ranges h mended keys i l = record {
+  key = keys i l;
+  same = keys_same t.numbers k i (subst InRange h.kept.numbers ranges) (keys i l);
+  looks = looks c t h mended (key_behind k i) (keys i l);
+}
+
+-- once the device is mended, and has the keys of all of them. Where there is no room for all, nothing is kept
+pub keeps_told : (c after : Core) (reader : ℕ) (k : Key) (all : Bool) (blocks : ℕ) (room : Bool) →
+    after ≡ (if room then kept_all c reader k all blocks else c) →
     InRange c.numbers → (t : Translation) → Describes c t → is_mended t.work.mending ≡ true →
     ((i : ℕ) → i < blocks → IsKey (shape_of_numbers t.numbers) (key_behind k i)) →
-    list_any (keeps_for reader) t.pins ≡ false → Describes after (fold moved t (keeps_of t reader k blocks))
-keeps_told c after reader k blocks is ranges t h mended keys none =
-    subst (λ (x : Core). Describes x (fold moved t (keeps_of t reader k blocks))) (sym is)
-    (keeps_all c t reader k blocks h mended each none)
-  where
-    each : (i : ℕ) → i < blocks → IsKeepable c t k i
-    each i l = record {
-      key = keys i l;
-      same = keys_same t.numbers k i (subst InRange h.kept.numbers ranges) (keys i l);
-      looks = looks c t h mended (key_behind k i) (keys i l);
-    }
+    list_any (keeps_for reader) t.pins ≡ false →
+    Describes after (if room then fold moved t (keeps_at t reader k all blocks) else t)
+keeps_told c after reader k all blocks true is ranges t h mended keys none =
+    subst (λ (x : Core). Describes x (fold moved t (keeps_at t reader k all blocks))) (sym is)
+    (keeps_all c t reader k all blocks h mended (each_keepable c t k blocks ranges h mended keys) none)
+keeps_told c after reader k all blocks false is ranges t h mended keys none =
+    subst (λ (x : Core). Describes x t) (sym is) h
+
+-- there is room for as many as the layer that is specified has room for
+pub room_told : (c : Core) (t : Translation) (blocks : ℕ) → Describes c t →
+    nat_le (length c.pins + blocks) 1024 ≡ nat_le (length t.pins + blocks) 1024
+room_told c t blocks h = ap (λ (n : ℕ). nat_le (n + blocks) 1024) (pins_count c t h)
+
+-- the claims of readers stay
+pub claims_stay : (c after : Core) (reader : ℕ) (k : Key) (all : Bool) (blocks : ℕ) (room : Bool) →
+    after ≡ (if room then kept_all c reader k all blocks else c) → (claims : Claims) → AreClaimed c claims →
+    AreClaimed after claims
+claims_stay c after reader k all blocks true is claims h = λ other. ap (λ (x : Core). claims_for x other) is ∙ h other
+claims_stay c after reader k all blocks false is claims h = λ other. ap (λ (x : Core). claims_for x other) is ∙ h other

@@ -578,7 +578,11 @@ impl Ftl {
             Reader::ForTask { tag, index } => {
                 let body = self.body_for(tag, index, outcome, tag_found).copied();
                 end_wants(self.pins.as_mut_slice(), tag, index);
-                Ended::Read { reader: tag, body }
+                Ended::Read {
+                    reader: tag,
+                    index,
+                    body,
+                }
             }
             Reader::ForStep => {
                 self.take_content(outcome, tag_found);

@@ -154,7 +154,8 @@ hears_shows : {s : State} (x : Heard) (done : Unit {0}) → IsTied s → MayCome
 hears_shows {s} (Spelled m c) done v may right h = heard_shows m c v may (no_fault (message_fault s m) right) h
 hears_shows (Faulty fault) done v may right h = h
 
-behind_shows : {s : State} (call : Call) (answer : Answer) → IsTied s → MayCome s call → Allowed s call answer →
+-- before registers are filled
+pub behind_shows : {s : State} (call : Call) (answer : Answer) → IsTied s → MayCome s call → Allowed s call answer →
     ShowsReads s → ShowsReads (behind s call answer)
 behind_shows {s} (Host x) (OfHost (Ok done)) v may right h = hears_shows x done v may right h
 behind_shows (Take die) (OfTake (Some flight)) v may right h = h

@@ -302,6 +302,14 @@ area_behind (Take die) answer v is may = area_left (Take die) answer v tt may
 area_behind Turn answer v is may = area_left Turn answer v tt may
 area_behind Reply answer v is may = area_left Reply answer v tt may
 
+-- behind each call, before registers are filled
+pub behind_frames : {s : State} (call : Call) (answer : Answer) → IsTied s → IsSpoken call → Allowed s call answer →
+    FramesWait s → FramesWait (behind s call answer)
+behind_frames {s} call answer v is may h =
+    subst (λ (n : Numbers). FramesWaitOf (shape_of_numbers n).areas (behind s call answer).tasks
+    (behind s call answer).registers)
+    (sym (behind_kept s call answer).0) (behind_waits call answer v is may h)
+
 pub call_waits : {s : State} (call : Call) (answer : Answer) → IsTied s → IsSpoken call → Allowed s call answer →
     FramesWait s → FramesWait (observe s call answer)
 call_waits {s} call answer v is may h =

@@ -101,8 +101,6 @@ is_taken : (c : Cdb) → Dec (IsTakenCdb c)
 is_taken (cdb.Inquiry allocation) = no (λ (h : ⊥). h)
 is_taken (cdb.Unmap list) = no (λ (h : ⊥). h)
 is_taken (cdb.ReportLuns select allocation) = no (λ (h : ⊥). h)
-is_taken (cdb.SecurityIn region length) = no (λ (h : ⊥). h)
-is_taken (cdb.SecurityOut region length) = no (λ (h : ⊥). h)
 is_taken command = yes tt
 
 -- ## What bytes spell

@@ -1,9 +1,9 @@
 use Rattle.std.proofs.Common.{◌∙◌, ap, arith, length, map, replicate, slice_set, sym}
 use Rattle.std.proofs.lemmas.List.{get_or-map, length-map}
-use Rattle.ufs_spec.specs.Plain.{Plain, shape_of, zero, zero_block}
+use Rattle.ufs_spec.specs.Plain.{Plain, shape_of, with_region, zero, zero_block}
 use Rattle.ufs_spec.specs.declared.configs.UnitSpec.{UnitSpec}
-use Rattle.journal.specs.Shown.{holding}
-use Rattle.journal.proofs.HeldUnits.{count_equal, fill_more, filled, held_shape, units_many}
+use Rattle.journal.specs.Shown.{region_found}
+use Rattle.journal.proofs.HeldUnits.{count_equal, fill_more, filled, held_shape, units_many, with_units}
 use Rattle.journal.proofs.bases.device_holding.Goals as goal
 
 pub fill_unit-requires-clause-count : goal.fill_unit-requires-clause-count
@@ -36,10 +36,16 @@ loop-index-preserved c = record {
       ∙ sym (get_or-map (λ v. v.items) vecs i v unit (omega (arith, less, many))) in
       c.fill_unit.ensures
       ∙ ap (λ (p : Plain). record p { units = slice_set p.units i unit }) c.loop-index.invariant.held
-      ∙ ap (holding n) (fill_more units (zero n).units i unit unit (omega (arith, less, many, first))
+      ∙ ap (with_units n) (fill_more units (zero n).units i unit unit (omega (arith, less, many, first))
       (omega (arith, less, same, second)) here);
 }
 
+-- the regions of a device whose units alone are not new
+pub set_region-requires : goal.set_region-requires
+set_region-requires c =
+    (c.args.numbers.now, ap (λ (p : Plain). p.regions) c.loop-index.invariant.held, c.is_area.ensures.whole c.if-not-is_area.false)
+
+-- at the end all blocks are those that were read
 pub returns-clause-shape : goal.returns-clause-shape
 returns-clause-shape c =
     let n = c.args.numbers.now in
@@ -53,5 +59,9 @@ returns-clause-shape c =
     let second = length-map n.units.items (λ (u : UnitSpec). replicate u.blocks zero_block) in
     let whole = filled units (zero n).units c.loop-index.index (omega (arith, many, same, first, second))
     (omega (arith, past, many, first)) in
-    ap shape_of (c.loop-index.invariant.held ∙ ap (holding n) whole)
-    ∙ held_shape n units (all ∙ ap (map (λ (u : UnitSpec). u.blocks)) c.loop-index.invariant.same)
+    let fills = c.loop-index.invariant.held ∙ ap (with_units n) whole in
+    let area = c.is_area.ensures.whole c.if-not-is_area.false in
+    let set = c.set_region.ensures n (ap (λ (p : Plain). p.regions) c.loop-index.invariant.held) area in
+    ap shape_of (set ∙ ap (with_region 0 (region_found n c.args.region.now)) fills)
+    ∙ held_shape n units c.args.region.now (all ∙ ap (map (λ (u : UnitSpec). u.blocks)) c.loop-index.invariant.same)
+    area

@@ -7,7 +7,7 @@ use Rattle.task_set.proofs.set.end_read.Goals as goal
 pub loop-task-preserved : goal.loop-task-preserved
 loop-task-preserved c =
     let i = c.loop-task.task-index in
-    let f = after_lost_read c.args.tag in
+    let f = after_lost_read c.args.tag c.args.index in
     let less : i < length c.loop-task.tasks = omega arith in
     let new = c.lose_for.new.self in
     let x = get_or c.loop-task.tasks i new in

@@ -1,7 +1,8 @@
 use Rattle.std.proofs.Common.{◌∙◌, refl, sym, subst, ap}
-use Rattle.device.proofs.described.SameDevice.{same_core, same_layer}
+use Rattle.device.proofs.described.SameDevice.{same_core}
 use Rattle.std.specs.Prelude.{is_some}
-use Rattle.device.specs.Calls.{lock_told}
+use Rattle.device.specs.Frames.{HasFilled}
+use Rattle.device.specs.Kept.{DeviceCore}
 use Rattle.power_loss.proofs.books.PagesByName.{none_some, some_is}
 use Rattle.ftl_core.specs.Public.{IsTold}
 use Rattle.device.proofs.die_calls.CallsRight.{may_end}
@@ -38,11 +39,10 @@ returns-clause-ended c =
     subst (IsTold s.translation.disk.cells (s.translation.disk.flights c.args.die) ending)
     (some_is t.0 c.in-Some.ended (sym t.1 ∙ c.in-Some.is)) t.2 in (
       refl,
-      ends_right _ c.end_waiting.new.self s c.args.die c.args.outcome.now ending left c.done.new.self
+      ends_right _ c.fill_register.new.self c.end_waiting.new.self s c.args.die c.args.outcome.now ending left c.done.new.self
           c.in-Some.ended d is leaves (c.done.ensures.described s.translation ending layer is may)
           (c.done.ensures.claims _ d.kept.claims) ended
           (λ who place flies. c.done.ensures.read s.translation who place layer flies)
-          (λ u kept.
-          c.end_waiting.ensures u (same_layer c.tell.new.self _ u c.tell.ensures kept)
-          ∙ ap (lock_told u) c.tell.ensures),
+          (subst (λ (x : DeviceCore). HasFilled x c.fill_register.new.self) c.tell.ensures c.fill_register.ensures)
+          c.end_waiting.ensures,
     )

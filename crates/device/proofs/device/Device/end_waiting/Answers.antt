@@ -28,7 +28,9 @@ returns-then-is_locked c =
     subst
     (λ (d : DeviceCore). core_of (record {
       ftl = c.self.inside.ftl;
-      settings = c.self.inside.settings;
+      boot = c.self.inside.boot;
+      is_permanent = c.self.inside.is_permanent;
+      rpmb = c.self.inside.rpmb;
       set = c.lock.new.self;
     }) ≡ lock_told t d)
     c.self.view_is

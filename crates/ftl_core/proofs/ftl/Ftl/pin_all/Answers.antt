@@ -4,11 +4,11 @@ use Rattle.ftl_core.proofs.ftl.Ftl.pin_all.Goals as goal
 
 pub pin-requires : goal.pin-requires
 pin-requires c =
-    let many = kept_count c.args.self.now c.loop-index.self c.args.reader c.args.key c.loop-index.index
+    let many = kept_count c.args.self.now c.loop-index.self c.args.reader c.args.key c.args.all c.loop-index.index
     c.loop-index.invariant in
     omega (arith, many)
 
 pub loop-index-preserved : goal.loop-index-preserved
 loop-index-preserved c =
-    kept_next c.args.self.now c.loop-index.self c.pin.new.self c.args.reader c.args.key c.loop-index.index
+    kept_next c.args.self.now c.loop-index.self c.pin.new.self c.args.reader c.args.key c.args.all c.loop-index.index
     c.loop-index.invariant c.pin.ensures

@@ -1,0 +1,264 @@
+-- What was read for a request whose GOOD is due is what it asks for: of a request for data the blocks of the area as it
+-- is now, unless a page of them could not be read, and of any other request nothing.
+use Rattle.std.proofs.Common.{◌≡◌, ◌∙◌, ℕ, ◌+◌, ◌*◌, ◌-◌, ◌/◌, ◌==◌, ◌≤◌, ◌&&◌, ◌++◌, true, false, List, [], ◌∷◌}
+use Rattle.std.proofs.Common.{length, map}
+use Rattle.std.proofs.Common.{Option, Some, None, refl, sym, ap, subst, arith}
+use Rattle.std.specs.Prelude.{drop, not, slice_get, slice_index_or, take}
+use Rattle.std.proofs.lemmas.List.{length-take, take-take}
+use Rattle.ufs_spec.proofs.Facts.{and_parts, false≢true}
+use Rattle.ufs_spec.proofs.RegionPages.{area_there}
+use Rattle.ufs_spec.specs.Exchanges as exchange
+use Rattle.ufs_spec.specs.Exchanges.{Answering, Awaiting, Deed, Gathering, ReadBlock, ReadState, ReadingArea, Registers}
+use Rattle.ufs_spec.specs.Exchanges.{RpmbRequest, Sending, SendingBytes, is_task_of, is_unfilled, task_of}
+use Rattle.ufs_spec.specs.FrameRequests.{reads_area, result_now}
+use Rattle.ufs_spec.specs.Frames.{Frame, frame_in, frames_in}
+use Rattle.ufs_spec.specs.Keys.{area_page}
+use Rattle.ufs_spec.specs.Ledger.{before_accepted}
+use Rattle.ufs_spec.specs.Plain.{Shape, region_of, shape_of_numbers}
+use Rattle.ufs_spec.specs.Refusals.{State, numbers_of, plain_now}
+use Rattle.ufs_spec.specs.Rpmb.{Region, read_data}
+use Rattle.ufs_spec.specs.RpmbResponses.{filled_with, is_success, with_reads}
+use Rattle.power_loss.specs.AreaReads.{AreaReads, ArePagesOf}
+use Rattle.power_loss.specs.Exchange.{IsTied}
+use Rattle.power_loss.specs.Shown.{ShowsReads}
+use Rattle.power_loss.specs.WaitingFrames.{AsksInside, AsksRightly, FramesAsk, FramesWait, RequestAsks}
+use Rattle.power_loss.proofs.area_reads.PagesRead.{pages_found}
+use Rattle.power_loss.proofs.host_commands.AcceptedCommands.{shape_tied}
+use Rattle.power_loss.proofs.open_tasks.TaggedLists.{each_found}
+use Rattle.rpmb.specs.Answers.{HasAskedData, IsRead}
+use Rattle.rpmb.specs.Requests.{frames_of}
+use Rattle.task_set.specs.Frames.{area_part, read_kept, second_read}
+use Rattle.task_set.specs.Kept.{OpenTask}
+use Rattle.task_set.specs.declared.frames.AreaReading.{AreaReading}
+use Rattle.task_set.specs.declared.frames.Frames.{Frames}
+use Rattle.task_set.specs.declared.frames.Frames.TheVariants as frames
+use Rattle.task_set.specs.declared.frames.PageRead.{PageRead}
+use Rattle.task_set.specs.declared.tasks.Phase.{Phase}
+use Rattle.task_set.specs.declared.tasks.Phase.TheVariants as phase
+use Rattle.device.specs.Describes.{FramesFit, IsAsked, IsDoing, IsFirstFrame, PartsStand, ReadsAsked, ReadsFor}
+use Rattle.device.specs.Describes.{TaskKept}
+use Rattle.device.specs.Frames.{data_for, is_due_in, is_page_there, is_second_there, joined, part_of_page, part_read}
+use Rattle.device.specs.Frames.{second_part}
+use Rattle.device.proofs.described.AreaParts.{AreAsked, one_part, part, two_parts}
+use Rattle.device.proofs.described.GoodDue.{same_first, same_rest, some_left}
+use Rattle.device.proofs.described.PagesThere.{one_read, page_part, two_read}
+use Rattle.device.proofs.open_tasks.KeptByTag.{WantedForAll}
+
+-- The first frame
+
+-- the bytes of the first frame are one frame
+one_frame : (bytes : List ℕ) → length bytes ≡ 4096 → frames_of (take 512 bytes) ≡ frame_in (take 512 bytes) ∷ []
+one_frame bytes long =
+    let size = length-take 512 bytes in
+    ap (λ (n : ℕ). frames_in n (take 512 bytes)) (one (length (take 512 bytes)) (omega arith))
+    ∙ ap (λ (x : List ℕ). frame_in x ∷ []) (take-take 512 512 bytes (omega arith))
+  where
+    one : (n : ℕ) → n ≡ 512 → n / 512 ≡ 1
+    one n e = omega arith
+
+-- it decides alone
+pub filled_by_first : (region : Region) (bytes : List ℕ) (result : ℕ) (fs : List Frame) (r : Registers) →
+    length bytes ≡ 4096 → IsFirstFrame bytes fs →
+    filled_with region fs result r ≡ filled_with region (frames_of (take 512 bytes)) result r
+filled_by_first region bytes result [] r long h = absurd h
+filled_by_first region bytes result (f ∷ fs) r long h =
+    ap (λ (g : Frame). filled_with region (g ∷ fs) result r) h
+    ∙ ap (λ (xs : List Frame). filled_with region xs result r) (sym (one_frame bytes long))
+
+frames_are : (bytes : List ℕ) (fs : List Frame) → IsFirstFrame bytes fs →
+    (rest : List Frame) × (fs ≡ frame_in (take 512 bytes) ∷ rest)
+frames_are bytes [] h = absurd h
+frames_are bytes (f ∷ fs) h = (fs, ap (λ (g : Frame). g ∷ fs) h)
+
+-- How the reads ended
+
+-- those of the pages that a task reads for its request
+abbrev pub reads_of : Deed → List ReadState
+reads_of (ReadingArea pages) = map (λ (page : ReadBlock). page.state) pages
+reads_of deed = []
+
+pub result_is : (deed : Deed) (result : ℕ) → result_now deed result ≡ with_reads (reads_of deed) result
+result_is (Gathering purpose gathered asked) result = refl
+result_is (Sending blocks sent) result = refl
+result_is (SendingBytes bytes) result = refl
+result_is (Awaiting commands) result = refl
+result_is (ReadingArea pages) result = refl
+result_is (Answering status carried) result = refl
+
+-- Nothing is read
+
+nothing_asked : (region : Region) (g : Frame) (code : ℕ) → reads_area g code ≡ false →
+    IsRead region (g ∷ []) code [] (Some [])
+nothing_asked region g code none =
+    (refl, λ kind good. absurd (false≢true (sym none ∙ (λ i. (kind i == read_data) && good i))))
+
+-- Pages are read
+
+-- the blocks that the reading asks for are those that the frame asks for
+data_asked : (region : Region) (g : Frame) (code : ℕ) (r : AreaReading) (bytes : List ℕ) → r.address ≡ g.address →
+    r.count ≡ g.count → (g.kind ≡ read_data → is_success code ≡ true → AreAsked r region.area bytes) →
+    HasAskedData region (g ∷ []) code bytes
+data_asked region g code r bytes address count are = λ kind good.
+    let its = are kind good in (
+      its.0 ∙ ap (λ (n : ℕ). 256 * n) count,
+      its.1 ∙ (λ i. take (256 * count i) (drop (256 * address i) region.area)),
+    )
+
+-- the request that a task has is for data, and passed its checks
+module _ (v : State) (a : OpenTask) (b : exchange.Task) (pages : List ReadBlock) (r : AreaReading) (g : Frame)
+    (code : ℕ) (shows : ShowsReads v) (wanted : WantedForAll v.translation.pins v.tasks) (tag_is : b.tag ≡ a.tag)
+    (found : task_of b.tag v.tasks ≡ Some b) (deed : b.deed ≡ ReadingArea pages)
+    (unfilled : is_unfilled b.request ≡ true) (stand : PartsStand r a.held (ReadingArea pages))
+    (address : r.address ≡ g.address) (count : r.count ≡ g.count)
+    (their : ArePagesOf (plain_now v) 0 g pages)
+    (inside : g.kind ≡ read_data → is_success code ≡ true →
+    AsksInside (length (region_of (plain_now v) 0).area) g) where
+  abbrev region : Region
+  region = region_of (plain_now v) 0
+
+  body_is : (i : ℕ) (block : ReadBlock) → slice_get pages i ≡ Some block →
+      block.body ≡ area_page (r.address / 16 + i) region.area
+  body_is i block at = their.each i block at ∙ ap (λ (n : ℕ). area_page (n / 16 + i) region.area) (sym address)
+
+  many : (n : ℕ) → length pages ≡ n → n ≡ (r.address + r.count - 1) / 16 + 1 - r.address / 16
+  many n is = sym is ∙ (their.count ∙ sym (λ i. (address i + count i - 1) / 16 + 1 - address i / 16))
+
+  within : AsksInside (length region.area) g →
+      (1 ≤ r.count) × (r.count ≤ 8) × (256 * (r.address + r.count) ≤ length region.area)
+  within h =
+      let low = h.some in
+      let high = h.few in
+      let end = h.within in
+      let from = address in
+      let so = count in
+      (omega arith, omega arith, omega arith)
+
+  one_asked : (x : List ℕ) → x ≡ part r region.area 0 → 1 ≡ (r.address + r.count - 1) / 16 + 1 - r.address / 16 →
+      HasAskedData region (g ∷ []) code (x ++ [])
+  one_asked x is one =
+      data_asked region g code r (x ++ []) address count
+      (λ kind good. let its = within (inside kind good) in
+      subst (λ (y : List ℕ). AreAsked r region.area (y ++ [])) (sym is)
+      (one_part r region.area its.0 its.1 its.2 one))
+
+  two_asked : (x y : List ℕ) → x ≡ part r region.area 0 → y ≡ part r region.area 1 →
+      2 ≡ (r.address + r.count - 1) / 16 + 1 - r.address / 16 → HasAskedData region (g ∷ []) code (x ++ y)
+  two_asked x y is next two =
+      data_asked region g code r (x ++ y) address count
+      (λ kind good. let its = within (inside kind good) in
+      subst (AreAsked r region.area) (sym (λ i. is i ++ next i))
+      (two_parts r region.area its.0 its.1 its.2 two))
+
+  its_part : (i : ℕ) (block : ReadBlock) → slice_get pages i ≡ Some block →
+      part_of_page (area_part r i) block.body ≡ part r region.area i
+  its_part i block at = ap (part_of_page (area_part r i)) (body_is i block at)
+
+  data_read : (ps : List ReadBlock) → pages ≡ ps → (first : PageRead) (second : Option PageRead) →
+      map (λ (page : ReadBlock). page.state) ps ≡ read_kept first ∷ second_read second →
+      is_page_there v.translation a.tag 0 first ≡ true → is_second_there v.translation a.tag second ≡ true →
+      IsRead region (g ∷ []) code (map (λ (page : ReadBlock). page.state) ps)
+      (joined (part_read v.translation a r 0 first) (second_part v.translation a r second))
+  data_read [] same first second e one two = absurd (some_left (sym e))
+  data_read (p ∷ []) same first None e one two =
+      let at = ap (λ (qs : List ReadBlock). slice_get qs 0) same in
+      one_read region (g ∷ []) code p.state (part_of_page (area_part r 0) p.body) (part_read v.translation a r 0 first)
+      (page_part v a b pages r shows wanted tag_is found deed unfilled stand 0 first p at (same_first e) one)
+      (one_asked (part_of_page (area_part r 0) p.body) (its_part 0 p at) (many 1 (ap length same)))
+  data_read (p ∷ []) same first (Some how) e one two = absurd (some_left (sym (same_rest e)))
+  data_read (p ∷ q ∷ []) same first (Some how) e one two =
+      let at = ap (λ (qs : List ReadBlock). slice_get qs 0) same in
+      let next = ap (λ (qs : List ReadBlock). slice_get qs 1) same in
+      two_read region (g ∷ []) code p.state q.state (part_of_page (area_part r 0) p.body)
+      (part_of_page (area_part r 1) q.body) (part_read v.translation a r 0 first) (part_read v.translation a r 1 how)
+      (page_part v a b pages r shows wanted tag_is found deed unfilled stand 0 first p at (same_first e) one)
+      (page_part v a b pages r shows wanted tag_is found deed unfilled stand 1 how q next
+      (same_first (same_rest e)) two)
+      (two_asked (part_of_page (area_part r 0) p.body) (part_of_page (area_part r 1) q.body) (its_part 0 p at)
+      (its_part 1 q next) (many 2 (ap length same)))
+  data_read (p ∷ q ∷ ps) same first None e one two = absurd (some_left (same_rest e))
+  data_read (p ∷ q ∷ w ∷ ps) same first (Some how) e one two = absurd (some_left (same_rest (same_rest e)))
+
+-- What a task reads for its request
+
+module _ (v : State) (tied : IsTied v) (shows : ShowsReads v) (waits : FramesWait v) (reads : AreaReads v)
+    (wanted : WantedForAll v.translation.pins v.tasks) (a : OpenTask) (b : exchange.Task)
+    (kept : TaskKept (before_accepted v.translation.ledger) a b) (found : task_of b.tag v.tasks ≡ Some b) (code : ℕ)
+    (decided : a.frames ≡ frames.Decided code) (x : IsAsked code a.held b.request) where
+  abbrev region_now : Region
+  region_now = region_of (plain_now v) 0
+
+  abbrev first : Frame
+  first = frame_in (take 512 x.bytes)
+
+  rest : (fs : List Frame) × (x.asked.frames ≡ first ∷ fs)
+  rest = frames_are x.bytes x.asked.frames x.first
+
+  unfilled : is_unfilled b.request ≡ true
+  unfilled = ap is_unfilled x.is ∙ ap not x.unfilled
+
+  asks : ReadsFor a.phase first code
+  asks =
+      subst (ReadsAsked a.phase (frames.Decided code)) x.is_held
+      (subst (λ (f : Frames). ReadsAsked a.phase f a.held) decided kept.asks)
+
+  abbrev areas : List ℕ
+  areas = (shape_of_numbers (numbers_of v)).areas
+
+  -- it asks rightly
+  rightly : AsksRightly (slice_index_or areas 0 0) first code
+  rightly =
+      subst (FramesAsk (slice_index_or areas 0 0) (first ∷ rest.0)) x.result
+      (subst (λ (fs : List Frame). FramesAsk (slice_index_or areas 0 0) fs x.asked.result) rest.1
+      (subst (λ (n : ℕ). FramesAsk (slice_index_or areas n 0) x.asked.frames x.asked.result) x.region
+      (subst (RequestAsks areas) x.is
+      (each_found (λ (task : exchange.Task). RequestAsks areas task.request) (is_task_of b.tag) v.tasks b waits.requests
+      found))))
+
+  area_long : slice_index_or areas 0 0 ≡ length region_now.area
+  area_long =
+      sym (ap (λ (s : Shape). slice_index_or s.areas 0 0) (shape_tied tied)) ∙ area_there (plain_now v) 0
+
+  inside : first.kind ≡ read_data → is_success code ≡ true → AsksInside (length region_now.area) first
+  inside kind good = subst (λ (n : ℕ). AsksInside n first) area_long (rightly.inside kind good)
+
+  their : (pages : List ReadBlock) → b.deed ≡ ReadingArea pages → ArePagesOf (plain_now v) 0 first pages
+  their pages deed =
+      subst (λ (n : ℕ). ArePagesOf (plain_now v) n first pages) x.region
+      (pages_found v b.tag b pages x.asked first rest.0 reads found deed x.is rest.1)
+
+  by_phase : (p : Phase) (deed : Deed) → b.deed ≡ deed →
+      IsDoing (before_accepted v.translation.ledger) a.expected b.length p deed → FramesFit p a.frames a.held deed →
+      ReadsFor p first code → is_due_in v.translation a.tag p ≡ true →
+      IsRead region_now (first ∷ []) code (reads_of deed) (data_for v.translation a p)
+  by_phase (phase.ReadArea r) (ReadingArea pages) deed doing fits asked due =
+      let there = and_parts _ _ due in
+      data_read v a b pages r first code shows wanted kept.tag found deed unfilled fits.1 asked.1 asked.2
+      (their pages deed) inside pages refl r.first r.second doing.reads there.0 there.1
+  by_phase (phase.AwaitFrontier n size) (Awaiting commands) deed doing fits asked due =
+      nothing_asked region_now first code asked
+  by_phase (phase.Answer told n) (Answering status carried) deed doing fits asked due =
+      nothing_asked region_now first code asked
+  by_phase (phase.Answer told n) (Sending blocks sent) deed doing fits asked due =
+      nothing_asked region_now first code asked
+  by_phase (phase.AskData y) (Gathering purpose gathered told) deed doing fits asked due =
+      nothing_asked region_now first code asked
+  by_phase (phase.AwaitData y) (Gathering purpose gathered told) deed doing fits asked due =
+      nothing_asked region_now first code asked
+  by_phase (phase.AskFrames y) (Gathering purpose gathered told) deed doing fits asked due =
+      nothing_asked region_now first code asked
+  by_phase (phase.AwaitFrames y) (Gathering purpose gathered told) deed doing fits asked due =
+      nothing_asked region_now first code asked
+  by_phase (phase.SendBlocks y) (Sending blocks sent) deed doing fits asked due =
+      nothing_asked region_now first code asked
+  by_phase (phase.SendData y) (SendingBytes bytes) deed doing fits asked due =
+      nothing_asked region_now first code asked
+  by_phase (phase.SendFrames y) (SendingBytes bytes) deed doing fits asked due =
+      nothing_asked region_now first code asked
+  by_phase p deed is doing fits asked due = absurd doing
+
+  pub read_right : is_due_in v.translation a.tag a.phase ≡ true →
+      IsRead region_now (frames_of (take 512 x.bytes)) code (reads_of b.deed) (data_for v.translation a a.phase)
+  read_right due =
+      subst (λ (fs : List Frame). IsRead region_now fs code (reads_of b.deed) (data_for v.translation a a.phase))
+      (sym (one_frame x.bytes x.long))
+      (by_phase a.phase b.deed refl kept.doing kept.fits asks due)

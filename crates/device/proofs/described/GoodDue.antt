@@ -1,0 +1,135 @@
+-- GOOD is due to a task of the device just where it is due to the specified one: at once, once its group is durable, or
+-- once each page of the RPMB area that it reads is there.
+use Rattle.std.proofs.Common.{◌≡◌, ◌∙◌, ℕ, zero, suc, ◌+◌, ◌≤◌, ◌-◌, ◌&&◌, Bool, true, false, List, [], ◌∷◌, map}
+use Rattle.std.proofs.Common.{Option, Some, None, refl, sym, ap, arith}
+use Rattle.std.specs.Prelude.{find, nat_le, not, slice_get}
+use Rattle.std.proofs.lemmas.Bool.Decides.{nat_tests}
+use Rattle.std.proofs.lemmas.List.Elements.{All-cons, All-nil}
+use Rattle.ufs_spec.specs.Exchanges as exchange
+use Rattle.ufs_spec.specs.Exchanges.{Answering, Awaiting, Deed, Gathering, ReadBlock, ReadState, ReadingArea}
+use Rattle.ufs_spec.specs.Exchanges.{RpmbRequest}
+use Rattle.ufs_spec.specs.Exchanges.{Sending, SendingBytes, is_good, is_unfilled}
+use Rattle.ufs_spec.specs.Ledger.{before_accepted}
+use Rattle.ufs_spec.specs.Machine.{is_at_hand, is_good_due, is_to_fill}
+use Rattle.ufs_spec.specs.Moves.{is_pin_of}
+use Rattle.ufs_spec.specs.Refusals.{State}
+use Rattle.ufs_spec.specs.Replies.{is_area_read, is_read}
+use Rattle.ufs_spec.specs.Translation.{Translation}
+use Rattle.task_set.specs.Frames.{read_kept, second_read}
+use Rattle.task_set.specs.Kept.{OpenTask}
+use Rattle.task_set.specs.Tasks.{is_decided, is_unanswered, status_kept}
+use Rattle.task_set.specs.declared.frames.Frames.{Frames}
+use Rattle.task_set.specs.declared.frames.Frames.TheVariants as frames
+use Rattle.task_set.specs.declared.frames.PageRead.{PageRead}
+use Rattle.task_set.specs.declared.tasks.Phase.{Phase}
+use Rattle.task_set.specs.declared.tasks.Phase.TheVariants as phase
+use Rattle.task_set.specs.declared.tasks.Status as kept_status
+use Rattle.task_set.specs.declared.tasks.Status.TheVariants as status
+use Rattle.device.specs.Describes.{AreFramesKept, IsDoing, TaskKept, TasksKept}
+use Rattle.device.specs.Frames.{is_due_in, is_page_there, is_second_there}
+use Rattle.device.proofs.described.Settled.{AreAnswered}
+
+-- Pages of the area
+
+-- what is read of two lists that are the same
+pub same_first : {X : Type 0} {x y : X} {xs ys : List X} → x ∷ xs ≡ y ∷ ys → x ≡ y
+same_first e = cc
+
+pub same_rest : {X : Type 0} {x y : X} {xs ys : List X} → x ∷ xs ≡ y ∷ ys → xs ≡ ys
+same_rest e = cc
+
+pub some_left : {X : Type 0} {x : X} {xs : List X} → x ∷ xs ≡ [] → ⊥
+some_left e = cc
+
+right_true : (b : Bool) → (b && true) ≡ b
+right_true true = refl
+right_true false = refl
+
+-- one page is read or two are, and none of them needs a read any more on both sides, or on none
+module _ (s : State) (b : exchange.Task) where
+  abbrev is_there : ℕ → ReadState → Bool
+  is_there index state =
+      is_read state (is_at_hand s.translation.work.rests (find (is_pin_of b.tag index) s.translation.pins))
+
+  pub same_pages : (pages : List ReadBlock) (first : PageRead) (second : Option PageRead) →
+      map (λ (page : ReadBlock). page.state) pages ≡ read_kept first ∷ second_read second →
+      is_area_read s b pages
+      ≡ (is_page_there s.translation b.tag 0 first && is_second_there s.translation b.tag second)
+  same_pages [] first second e = absurd (some_left (sym e))
+  same_pages (p ∷ []) first None e = λ i. is_there 0 (same_first e i) && true
+  same_pages (p ∷ []) first (Some how) e = absurd (some_left (sym (same_rest e)))
+  same_pages (p ∷ q ∷ []) first (Some how) e =
+      (λ i. is_there 0 (same_first e i) && (is_there 1 (same_first (same_rest e) i) && true))
+      ∙ ap (λ (c : Bool). is_there 0 (read_kept first) && c) (right_true (is_there 1 (read_kept how)))
+  same_pages (p ∷ q ∷ pages) first None e = absurd (some_left (same_rest e))
+  same_pages (p ∷ q ∷ w ∷ pages) first (Some how) e = absurd (some_left (same_rest (same_rest e)))
+
+-- Whose GOOD is due
+
+-- a request is to fill its register on both sides, or on none
+pub same_unfilled : (f : Frames) (held : Option (List ℕ)) (request : Option RpmbRequest) →
+    AreFramesKept f held request → is_unfilled request ≡ is_unanswered f
+same_unfilled frames.NotBrought held request h = ap is_unfilled h
+same_unfilled frames.Undecided held request h = ap is_unfilled h
+same_unfilled (frames.Decided code) held request h = ap is_unfilled h.is ∙ ap not h.unfilled
+same_unfilled frames.Answered held request h = h
+
+good_told : (told : kept_status.Status) (t : Translation) (tag n : ℕ) →
+    is_good (status_kept told) ≡ is_due_in t tag (phase.Answer told n)
+good_told status.Good t tag n = refl
+good_told (status.CheckCondition sense) t tag n = refl
+good_told status.Busy t tag n = refl
+good_told status.TaskSetFull t tag n = refl
+
+same_test : (before n frontier commands : ℕ) → before ≤ frontier → n ≡ before + commands →
+    nat_le commands (frontier - before) ≡ nat_le n frontier
+same_test before n frontier commands above is = grind (arith, nat_tests)
+
+-- each repair is durable if something waits
+abbrev pub IsLow : State → Deed → Type 0
+IsLow v deed =
+    (commands : ℕ) → deed ≡ Awaiting commands → before_accepted v.translation.ledger ≤ v.translation.ledger.frontier
+
+-- GOOD is due to both sides' task, or to none
+module _ (v : State) (b : exchange.Task) where
+  same_good : (expected : ℕ) (p : Phase) (deed : Deed) → IsLow v deed →
+      IsDoing (before_accepted v.translation.ledger) expected b.length p deed →
+      is_good_due v b deed ≡ is_due_in v.translation b.tag p
+  same_good expected (phase.AwaitFrontier n size) (Awaiting commands) low h =
+      same_test (before_accepted v.translation.ledger) n v.translation.ledger.frontier commands (low commands refl) h.0
+  same_good expected (phase.ReadArea r) (ReadingArea pages) low h = same_pages v b pages r.first r.second h.reads
+  same_good expected (phase.Answer told n) (Answering x carried) low h =
+      ap is_good h.0 ∙ good_told told v.translation b.tag n
+  same_good expected (phase.Answer told n) (Sending blocks sent) low h =
+      sym (ap (λ (y : kept_status.Status). is_due_in v.translation b.tag (phase.Answer y n)) h.told_is)
+  same_good expected (phase.AskData x) (Gathering purpose gathered asked) low h = refl
+  same_good expected (phase.AwaitData x) (Gathering purpose gathered asked) low h = refl
+  same_good expected (phase.AskFrames x) (Gathering purpose gathered asked) low h = refl
+  same_good expected (phase.AwaitFrames x) (Gathering purpose gathered asked) low h = refl
+  same_good expected (phase.SendBlocks x) (Sending blocks sent) low h = refl
+  same_good expected (phase.SendData x) (SendingBytes bytes) low h = refl
+  same_good expected (phase.SendFrames x) (SendingBytes bytes) low h = refl
+  same_good expected p deed low h = absurd h
+
+-- Whose register is filled
+
+pub same_fill : (v : State) (a : OpenTask) (b : exchange.Task) → IsLow v b.deed →
+    TaskKept (before_accepted v.translation.ledger) a b →
+    is_to_fill v b ≡ (is_decided a && is_due_in v.translation a.tag a.phase)
+same_fill v a b low h = λ i.
+    same_unfilled a.frames a.held b.request h.request i
+    && (same_good v b a.expected a.phase b.deed low h.doing
+    ∙ ap (λ (tag : ℕ). is_due_in v.translation tag a.phase) h.tag) i
+
+-- where no task of the device is to fill a register now, none of the specified ones is
+pub all_answered : (v : State) (ts : List OpenTask) (us : List exchange.Task) →
+    ((k : ℕ) (b : exchange.Task) → slice_get us k ≡ Some b → IsLow v b.deed) →
+    ((k : ℕ) (a : OpenTask) → slice_get ts k ≡ Some a →
+    (is_decided a && is_due_in v.translation a.tag a.phase) ≡ false) →
+    TasksKept (before_accepted v.translation.ledger) ts us → AreAnswered v us
+all_answered v [] [] low none h = All-nil (λ task. is_to_fill v task ≡ false)
+all_answered v (x ∷ ts) (y ∷ us) low none h =
+    All-cons (λ task. is_to_fill v task ≡ false) y us
+    (same_fill v x y (low zero y refl) h.0 ∙ none zero x refl)
+    (all_answered v ts us (λ k b at. low (suc k) b at) (λ k a at. none (suc k) a at) h.1)
+all_answered v ts us low none h = absurd h

@@ -1,0 +1,348 @@
+-- Once the lock is told to the tasks, what the device keeps describes the state in which the lock is told.
+use Rattle.std.proofs.Common.{◌≡◌, ◌∙◌, ℕ, ◌+◌, ◌-◌, ◌≤◌, Bool, true, false, cond, All, List, [], ◌∷◌, map, refl, sym}
+use Rattle.std.proofs.Common.{ap, subst, arith, Option}
+use Rattle.std.specs.Prelude.{length, nat_lt, nat_le, slice_get, take, zero, suc, Some, None}
+use Rattle.std.proofs.lemmas.List.{length-map}
+use Rattle.std.proofs.lemmas.List.Elements.{All-cons, All-head, All-nil, All-tail}
+use Rattle.std.proofs.lemmas.Bool.{le-ltb, lt-ltb}
+use Rattle.ufs_spec.proofs.Facts.{false≢true, leb-false, leb-true, none-some, same_Some}
+use Rattle.ufs_spec.specs.Exchanges.{Answering, Awaiting, Deed, Gathering, Sending, SendingBytes, Short}
+use Rattle.ufs_spec.specs.Frames.{Frame, frame_in}
+use Rattle.ufs_spec.specs.Ledger.{before_accepted}
+use Rattle.ufs_spec.specs.Machine.{deed_locked, durable}
+use Rattle.ufs_spec.specs.Machine.{lock_applied}
+use Rattle.ufs_spec.specs.Machine.{short_locked, task_locked}
+use Rattle.ufs_spec.specs.Refusals.{State, locked, numbers_of}
+use Rattle.ufs_spec.specs.Exchanges.{most_tasks}
+use Rattle.ufs_spec.specs.Translation.{is_mended}
+use Rattle.ufs_spec.specs.declared.configs.Numbers.{Numbers}
+use Rattle.power_loss.specs.AreaReads.{AreaReads}
+use Rattle.power_loss.specs.Exchange.{DeedFits, DeedsFit, IsTied, claim_of}
+use Rattle.power_loss.specs.Shown.{ShowsReads}
+use Rattle.power_loss.specs.WaitingFrames.{FramesWait}
+use Rattle.task_set.specs.declared.tasks.Phase.{Phase}
+use Rattle.task_set.specs.declared.tasks.Short as kept
+use Rattle.task_set.specs.Kept.{OpenTask}
+use Rattle.device.specs.Calls.{lock_told}
+use Rattle.device.specs.Describes.{Describes, FramesFit, HaveAnswered, IsDoing, IsTold, IsToldIn, Keeps}
+use Rattle.device.specs.Describes.{PartsStand, ReadsAsked, ReadsFor, TaskKept, claimed_in, read_in, short_kept}
+use Rattle.device.specs.Describes.{wanted_in}
+use Rattle.task_set.specs.declared.frames.Frames.{Frames}
+use Rattle.task_set.specs.declared.frames.Frames.TheVariants as frames
+use Rattle.device.proofs.described.OneSender.{each_sends}
+use Rattle.device.proofs.described.Settled.{told_answered}
+use Rattle.device.specs.Kept.{DeviceCore}
+use Rattle.task_set.specs.Tasks.{write_error, phase_after, task_after}
+use Rattle.device.proofs.open_tasks.OpenTasks.{each_changed}
+use Rattle.device.proofs.open_tasks.KeptByTag.{SameDeed, each_claims, each_wants}
+use Rattle.ufs_spec.specs.Exchanges as exchange
+use Rattle.ftl_core.specs.Public.{AreClaimed}
+use Rattle.task_set.specs.declared.tasks.Phase.TheVariants as phase
+use Rattle.task_set.specs.declared.tasks.Status.TheVariants as status
+use Rattle.task_set.specs.declared.tasks.TaskEvent.TheVariants as event
+
+-- Once the lock is told
+
+-- a task that waits for nothing, or for durable commands, stays
+told_stays : (s : State) (task : exchange.Task) (deed : Deed) → IsToldIn (durable s) deed →
+    deed_locked s task deed ≡ deed
+told_stays s task (Awaiting commands) h =
+    ap (λ b. cond b (Awaiting commands) (Answering exchange.write_error task.length)) h
+told_stays s task (Gathering purpose gathered asked) h = refl
+told_stays s task (Sending blocks sent) h = refl
+told_stays s task (SendingBytes bytes) h = refl
+told_stays s task (exchange.ReadingArea pages) h = refl
+told_stays s task (Answering status carried) h = refl
+
+all_stay : (s : State) (us : List exchange.Task) → All (IsTold (durable s)) us → map (task_locked s) us ≡ us
+all_stay s [] h = refl
+all_stay s (y ∷ us) h = λ i.
+    record y { deed = told_stays s y y.deed (All-head (IsTold (durable s)) y us h) i }
+    ∷ all_stay s us (All-tail (IsTold (durable s)) y us h) i
+
+-- a short exchange of this device waits for nothing
+shorts_stay : (s : State) (rs : List kept.Short) → map (short_locked s) (map short_kept rs) ≡ map short_kept rs
+shorts_stay s [] = refl
+shorts_stay s (r ∷ rs) = ap (λ (xs : List Short). short_kept r ∷ xs) (shorts_stay s rs)
+
+kept_shorts : (s : State) (shorts : List Short) (rs : List kept.Short) → shorts ≡ map short_kept rs →
+    map (short_locked s) shorts ≡ map short_kept rs
+kept_shorts s shorts rs is = ap (map (short_locked s)) is ∙ shorts_stay s rs
+
+abbrev with_lock : State → State
+with_lock s = record s { tasks = map (task_locked s) s.tasks; shorts = map (short_locked s) s.shorts }
+
+-- so the lock changes nothing
+pub lock_stays : (s : State) (rs : List kept.Short) → s.shorts ≡ map short_kept rs →
+    (locked s ≡ true → All (IsTold (durable s)) s.tasks) →
+    lock_applied s ≡ s
+lock_stays s rs shorts told = by (locked s) told
+  where
+    by : (b : Bool) → (b ≡ true → All (IsTold (durable s)) s.tasks) → cond b (with_lock s) s ≡ s
+    by true h = λ i. record s {
+      tasks = all_stay s s.tasks (h refl) i;
+      shorts = (kept_shorts s s.shorts rs shorts ∙ sym shorts) i;
+    }
+    by false h = refl
+
+-- When the lock is told
+
+deed_told : (s : State) (task : exchange.Task) (deed : Deed) → IsToldIn (durable s) (deed_locked s task deed)
+deed_told s task (Awaiting commands) = by (nat_le commands (durable s)) refl
+  where
+    by : (b : Bool) → nat_le commands (durable s) ≡ b →
+        IsToldIn (durable s) (cond b (Awaiting commands) (Answering exchange.write_error task.length))
+    by true e = e
+    by false e = tt
+deed_told s task (Gathering purpose gathered asked) = tt
+deed_told s task (Sending blocks sent) = tt
+deed_told s task (SendingBytes bytes) = tt
+deed_told s task (exchange.ReadingArea pages) = tt
+deed_told s task (Answering status carried) = tt
+
+all_told : (s : State) (us : List exchange.Task) → All (IsTold (durable s)) (map (task_locked s) us)
+all_told s [] = All-nil (IsTold (durable s))
+all_told s (y ∷ us) = All-cons (IsTold (durable s)) (task_locked s y) (map (task_locked s) us) (deed_told s y y.deed)
+    (all_told s us)
+
+-- what a deed tells of blocks it tells once the lock is told
+same_told : {X : Type 0} (G : Deed → X) → ((commands n : ℕ) (status : exchange.Status) →
+    G (Answering status n) ≡ G (Awaiting commands)) → (s : State) (task : exchange.Task) (deed : Deed) →
+    G (deed_locked s task deed) ≡ G deed
+same_told G same s task (Awaiting commands) = by (nat_le commands (durable s))
+  where
+    by : (b : Bool) → G (cond b (Awaiting commands) (Answering exchange.write_error task.length)) ≡ G
+        (Awaiting commands)
+    by true = refl
+    by false = same commands task.length exchange.write_error
+same_told G same s task (Gathering purpose gathered asked) = refl
+same_told G same s task (Sending blocks sent) = refl
+same_told G same s task (SendingBytes bytes) = refl
+same_told G same s task (exchange.ReadingArea pages) = refl
+same_told G same s task (Answering status carried) = refl
+
+lock_same : (s : State) → SameDeed (task_locked s)
+lock_same s = record {
+  tags = λ x. refl;
+  wanted = λ index x. same_told (wanted_in index x.request) (λ commands n status. refl) s x x.deed;
+  claimed = λ x. same_told claimed_in (λ commands n status. refl) s x x.deed;
+}
+
+-- the block of a number is durable for both sides, or for none
+same_test : (before n frontier commands : ℕ) → (nat_le commands (frontier - before) ≡ true → before ≤ frontier) →
+    n ≡ before + commands → nat_lt frontier n ≡ cond (nat_le commands (frontier - before)) false true
+same_test before n frontier commands low is = by (nat_le commands (frontier - before)) refl low
+  where
+    by : (b : Bool) → nat_le commands (frontier - before) ≡ b → (b ≡ true → before ≤ frontier) →
+        nat_lt frontier n ≡ cond b false true
+    by true e below = let above = below refl in let few = leb-true commands (frontier - before) e in
+        le-ltb frontier n (omega arith)
+    by false e below = let many = leb-false commands (frontier - before) e in lt-ltb frontier n (omega arith)
+
+-- what waits still, once the lock is told, finds the device mended, and each repair durable
+waits_low : (s : State) (n : Numbers) (accepted claimed commands total : ℕ) (mended b : Bool) →
+    (mended ≡ true → before_accepted s.translation.ledger ≤ s.translation.ledger.frontier) →
+    DeedFits n accepted mended claimed total (cond b (Awaiting commands) (Answering exchange.write_error total)) →
+    b ≡ true → before_accepted s.translation.ledger ≤ s.translation.ledger.frontier
+waits_low s n accepted claimed commands total mended true low fits is = low fits.1
+waits_low s n accepted claimed commands total mended false low fits is = absurd (false≢true is)
+
+deed_kept : (s : State) (n : Numbers) (accepted claimed : ℕ) (mended : Bool) (frontier expected : ℕ)
+    (task : exchange.Task) (p : Phase) (deed : Deed) → frontier ≡ s.translation.ledger.frontier →
+    (mended ≡ true → before_accepted s.translation.ledger ≤ s.translation.ledger.frontier) →
+    DeedFits n accepted mended claimed task.length (deed_locked s task deed) →
+    IsDoing (before_accepted s.translation.ledger) expected task.length p deed →
+    IsDoing (before_accepted s.translation.ledger) expected task.length (phase_after p (event.Locked frontier))
+    (deed_locked s task deed)
+deed_kept s n all claimed mended frontier expected task (phase.AwaitFrontier m size) (Awaiting commands) same low fits h
+    =
+    subst (λ b. IsDoing before expected task.length (cond b failed (phase.AwaitFrontier m size))
+    (deed_locked s task (Awaiting commands)))
+    (sym (ap (λ f. nat_lt f m) same
+    ∙ same_test before m s.translation.ledger.frontier commands
+    (waits_low s n all claimed commands task.length mended (nat_le commands (durable s)) low fits) h.0))
+    (by (nat_le commands (durable s)))
+  where
+    before : ℕ
+    before = before_accepted s.translation.ledger
+
+    failed : Phase
+    failed = phase.Answer (status.CheckCondition write_error) size
+
+    by : (b : Bool) → IsDoing before expected task.length (cond (cond b false true) failed (phase.AwaitFrontier m size))
+        (cond b (Awaiting commands) (Answering exchange.write_error task.length))
+    by true = h
+    by false = (refl, h.1)
+deed_kept s n all claimed mended frontier expected task (phase.AskData x) (Gathering purpose gathered asked)
+    same low fits h = h
+deed_kept s n all claimed mended frontier expected task (phase.AwaitData x) (Gathering purpose gathered asked)
+    same low fits h = h
+deed_kept s n all claimed mended frontier expected task (phase.AskFrames size) (Gathering purpose gathered asked)
+    same low fits h = h
+deed_kept s n all claimed mended frontier expected task (phase.AwaitFrames size) (Gathering purpose gathered asked)
+    same low fits h = h
+deed_kept s n all claimed mended frontier expected task (phase.SendFrames size) (SendingBytes bytes) same low fits h = h
+deed_kept s n all claimed mended frontier expected task (phase.SendBlocks x) (Sending blocks sent) same low fits h = h
+deed_kept s n all claimed mended frontier expected task (phase.SendData x) (SendingBytes bytes) same low fits h = h
+deed_kept s n all claimed mended frontier expected task (phase.ReadArea r) (exchange.ReadingArea pages) same low fits h
+    = h
+deed_kept s n all claimed mended frontier expected task (phase.Answer told m) (Answering x carried) same low fits h = h
+deed_kept s n all claimed mended frontier expected task (phase.Answer told m) (Sending blocks sent) same low fits h = h
+deed_kept s n all claimed mended frontier expected task p deed same low fits h = absurd h
+
+-- what a task has to do with frames stays
+frames_fit : (s : State) (task : exchange.Task) (frontier : ℕ) (p : Phase) (f : Frames) (held : Option (List ℕ))
+    (deed : Deed) → FramesFit p f held deed →
+    FramesFit (phase_after p (event.Locked frontier)) f held (deed_locked s task deed)
+frames_fit s task frontier (phase.AwaitFrontier n size) f held deed h = by (nat_lt frontier n)
+  where
+    failed : Phase
+    failed = phase.Answer (status.CheckCondition write_error) size
+
+    by : (b : Bool) → FramesFit (cond b failed (phase.AwaitFrontier n size)) f held (deed_locked s task deed)
+    by true = tt
+    by false = tt
+frames_fit s task frontier (phase.SendFrames size) f held deed h = (
+  h.0,
+  record {
+    all = h.1.all;
+    is_held = h.1.is_held;
+    long = h.1.long;
+    deed_is = ap (deed_locked s task) h.1.deed_is;
+  },
+)
+frames_fit s task frontier (phase.AskData x) f held deed h = h
+frames_fit s task frontier (phase.AwaitData x) f held deed h = h
+frames_fit s task frontier (phase.AskFrames size) f held deed h = h
+frames_fit s task frontier (phase.AwaitFrames size) f held deed h = h
+frames_fit s task frontier (phase.ReadArea r) f held deed h = (h.0, parts_stand deed h.1)
+  where
+    parts_stand : (d : Deed) → PartsStand r held d → PartsStand r held (deed_locked s task d)
+    parts_stand (exchange.ReadingArea pages) k = k
+    parts_stand (Gathering purpose gathered asked) k = absurd k
+    parts_stand (Sending blocks sent) k = absurd k
+    parts_stand (SendingBytes bytes) k = absurd k
+    parts_stand (Awaiting commands) k = absurd k
+    parts_stand (Answering status carried) k = absurd k
+frames_fit s task frontier (phase.SendBlocks x) f held deed h = h
+frames_fit s task frontier (phase.SendData x) f held deed h = h
+frames_fit s task frontier (phase.Answer told n) f held deed h = h
+
+-- and so does what it has to read
+asks_stay : (frontier : ℕ) (p : Phase) (f : Frames) (held : Option (List ℕ)) → ReadsAsked p f held →
+    ReadsAsked (phase_after p (event.Locked frontier)) f held
+asks_stay frontier p frames.NotBrought held h = tt
+asks_stay frontier p frames.Undecided held h = tt
+asks_stay frontier p frames.Answered held h = tt
+asks_stay frontier p (frames.Decided code) None h = tt
+asks_stay frontier p (frames.Decided code) (Some bytes) h = reads_stay p h
+  where
+    frame : Frame
+    frame = frame_in (take 512 bytes)
+
+    reads_stay : (q : Phase) → ReadsFor q frame code → ReadsFor (phase_after q (event.Locked frontier)) frame code
+    reads_stay (phase.AwaitFrontier n size) k = by (nat_lt frontier n)
+      where
+        failed : Phase
+        failed = phase.Answer (status.CheckCondition write_error) size
+
+        by : (b : Bool) → ReadsFor (cond b failed (phase.AwaitFrontier n size)) frame code
+        by true = k
+        by false = k
+    reads_stay (phase.AskData x) k = k
+    reads_stay (phase.AwaitData x) k = k
+    reads_stay (phase.AskFrames size) k = k
+    reads_stay (phase.AwaitFrames size) k = k
+    reads_stay (phase.ReadArea r) k = k
+    reads_stay (phase.SendBlocks x) k = k
+    reads_stay (phase.SendData x) k = k
+    reads_stay (phase.SendFrames size) k = k
+    reads_stay (phase.Answer told n) k = k
+
+task_kept : (s : State) (n : Numbers) (accepted claimed : ℕ) (mended : Bool) (frontier : ℕ) (a : OpenTask)
+    (b : exchange.Task) → frontier ≡ s.translation.ledger.frontier →
+    (mended ≡ true → before_accepted s.translation.ledger ≤ s.translation.ledger.frontier) →
+    DeedFits n accepted mended claimed b.length (deed_locked s b b.deed) →
+    TaskKept (before_accepted s.translation.ledger) a b →
+    TaskKept (before_accepted s.translation.ledger) (task_after (event.Locked frontier) a) (task_locked s b)
+task_kept s n accepted claimed mended frontier a b same low fits h = record {
+  lun = h.lun;
+  tag = h.tag;
+  expected = h.expected;
+  sends = h.sends;
+  request = h.request;
+  asks = asks_stay frontier a.phase a.frames a.held h.asks;
+  fits = frames_fit s b frontier a.phase a.frames a.held b.deed h.fits;
+  doing = deed_kept s n accepted claimed mended frontier a.expected b a.phase b.deed same low fits h.doing;
+  read = h.read ∙ sym (same_told read_in (λ commands n status. refl) s b b.deed);
+}
+
+-- the tasks fit once the lock is told
+locked_fit : (s : State) (us : List exchange.Task) (k : ℕ) (b : exchange.Task) → slice_get us k ≡ Some b →
+    DeedsFit (numbers_of s) (length s.accepted) (is_mended s.translation.work.mending) (map (task_locked s) us) →
+    DeedFits (numbers_of s) (length s.accepted) (is_mended s.translation.work.mending)
+    (claim_of (numbers_of s) (task_locked s b)) b.length (deed_locked s b b.deed)
+locked_fit s [] k b at fits = absurd (none-some b at)
+locked_fit s (y ∷ us) zero b at fits =
+    subst
+    (λ (z : exchange.Task). DeedFits (numbers_of s) (length s.accepted) (is_mended s.translation.work.mending)
+    (claim_of (numbers_of s) (task_locked s z)) z.length (deed_locked s z z.deed))
+    (same_Some y b at) fits.0
+locked_fit s (y ∷ us) (suc k) b at fits = locked_fit s us k b at fits.1
+
+keeps_locked : (e : DeviceCore) (s : State) → IsTied (with_lock s) → Keeps e s →
+    Keeps (record e { tasks = map (task_after (event.Locked s.translation.ledger.frontier)) e.tasks }) (with_lock s)
+keeps_locked e s tied k = record {
+  boot = k.boot;
+  permanent = k.permanent;
+  region = k.region;
+  registers = k.registers;
+  layer_kept = k.layer_kept;
+  few = subst (λ n. n ≤ most_tasks) (sym (length-map s.tasks (task_locked s))) k.few;
+  tasks =
+      each_changed before before (task_after (event.Locked frontier)) (task_locked s) e.tasks s.tasks
+      (λ j a b at h. task_kept s (numbers_of s) (length s.accepted) (claim_of (numbers_of s) (task_locked s b))
+      (is_mended s.translation.work.mending) frontier a b refl tied.repaired
+      (locked_fit s s.tasks j b at tied.tasks.deeds) h) k.tasks;
+  one_sends = each_sends (task_after (event.Locked frontier)) (λ a. refl) e.tasks k.one_sends;
+  wanted = each_wants s.translation.pins s.tasks (task_locked s) k.wanted (lock_same s);
+  claims = subst (AreClaimed e.ftl) (sym (each_claims s.tasks (task_locked s) (lock_same s))) k.claims;
+  shorts = kept_shorts s s.shorts e.shorts k.shorts;
+  power_off = k.power_off;
+}
+  where
+    before : ℕ
+    before = before_accepted s.translation.ledger
+
+    frontier : ℕ
+    frontier = s.translation.ledger.frontier
+
+-- what is kept while a call is answered describes the state once both sides told the lock
+pub describes_told : (e : DeviceCore) (s : State) → IsTied (lock_applied s) → ShowsReads (lock_applied s) →
+    FramesWait (lock_applied s) → AreaReads (lock_applied s) → Keeps e s → HaveAnswered s →
+    Describes (lock_told s.translation e) (lock_applied s)
+describes_told e s tied shows waits reads k answered = by (locked s) refl tied shows waits reads
+  where
+    by : (b : Bool) → locked s ≡ b → IsTied (cond b (with_lock s) s) → ShowsReads (cond b (with_lock s) s) →
+        FramesWait (cond b (with_lock s) s) → AreaReads (cond b (with_lock s) s) →
+        Describes
+        (cond b (record e { tasks = map (task_after (event.Locked s.translation.ledger.frontier)) e.tasks }) e)
+        (cond b (with_lock s) s)
+    by true is v w z r = record {
+      tied = v;
+      shows = w;
+      waits = z;
+      reads = r;
+      kept = keeps_locked e s v k;
+      answered = told_answered s s.tasks answered;
+      told = λ l. all_told s s.tasks;
+    }
+    by false is v w z r = record {
+      tied = v;
+      shows = w;
+      waits = z;
+      reads = r;
+      kept = k;
+      answered = answered;
+      told = λ l. absurd (false≢true (sym is ∙ l));
+    }

@@ -1,0 +1,92 @@
+-- The task whose request is answered, and what its answer is made of.
+use Rattle.std.proofs.Common.{◌≡◌, ◌∙◌, ℕ, suc, Bool, true, false, cond, List, [], ◌∷◌, Option, Some, None, refl, sym, ap, subst}
+use Rattle.std.specs.Prelude.{if◌then◌else◌, option_map, position, slice_get, take}
+use Rattle.ufs_spec.proofs.Facts.{false≢true, none-some, same_Some}
+use Rattle.ufs_spec.specs.Exchanges.{ReadState}
+use Rattle.ufs_spec.specs.Rpmb.{Region}
+use Rattle.ufs_spec.specs.RpmbResponses.{filled_with, with_reads}
+use Rattle.ufs_spec.specs.Translation.{Translation}
+use Rattle.rpmb.specs.Answers.{IsRead}
+use Rattle.rpmb.specs.Kept.{IsKept, Machine}
+use Rattle.rpmb.specs.Requests.{frames_of}
+use Rattle.task_set.specs.Kept.{OpenTask}
+use Rattle.task_set.specs.Lists.{held_at, held_of}
+use Rattle.task_set.specs.Tasks.{is_decided, is_unanswered}
+use Rattle.task_set.specs.declared.frames.Frames.{Frames}
+use Rattle.task_set.specs.declared.frames.Frames.TheVariants as frames
+use Rattle.device.specs.Frames.{HasResponded, due_at, first_held, is_due_in, is_due_to, to_answer}
+use Rattle.device.specs.Kept.{DeviceCore}
+use Rattle.device.proofs.open_tasks.OpenTasks.{position_step}
+
+-- the machine responds to what a task at a position keeps
+pub responds : (tasks : List OpenTask) (index code : ℕ) (held : List ℕ) (task : OpenTask) (read : Option (List ℕ))
+    (old machine : Machine) → Some held ≡ held_at tasks index → slice_get tasks index ≡ Some task →
+    ((region : Region) (pages : List ReadState) → IsKept old.region region →
+    IsRead region (frames_of (take 512 held)) code pages read →
+    machine ≡ record old {
+      registers = filled_with region (frames_of (take 512 held)) (with_reads pages code) old.registers;
+    }) → HasResponded old machine task code read
+responds tasks index code held task read old machine keeps at told =
+    subst
+    (λ (xs : List ℕ). (region : Region) (pages : List ReadState) → IsKept old.region region →
+    IsRead region (frames_of xs) code pages read →
+    machine ≡ record old {
+      registers = filled_with region (frames_of xs) (with_reads pages code) old.registers;
+    }) (ap first_held (keeps ∙ ap held_of at)) told
+
+-- what stands where the first that passes was found
+found_there : {X : Type 0} (p : X → Bool) (xs : List X) (k : ℕ) → position p xs ≡ Some k →
+    (x : X) × (slice_get xs k ≡ Some x) × (p x ≡ true)
+found_there p [] k e = absurd (none-some k e)
+found_there p (x ∷ xs) k e = by (p x) refl (position p xs) refl (λ j h. found_there p xs j h)
+  where
+    first : (c : Bool) → p x ≡ c → (o : Option ℕ) → position p xs ≡ o → cond c (Some 0) (option_map suc o) ≡ Some k
+    first c is o at =
+        sym (position_step p x xs ∙ (λ i. cond (is i) (Some 0) (option_map suc (at i)))) ∙ e
+
+    by : (c : Bool) → p x ≡ c → (o : Option ℕ) → position p xs ≡ o →
+        ((j : ℕ) → position p xs ≡ Some j → (y : _) × (slice_get xs j ≡ Some y) × (p y ≡ true)) →
+        (y : _) × (slice_get (x ∷ xs) k ≡ Some y) × (p y ≡ true)
+    by true is o at rest = (x, ap (slice_get (x ∷ xs)) (sym (same_Some 0 k (first true is o at))), is)
+    by false is None at rest = absurd (none-some k (first false is None at))
+    by false is (Some j) at rest =
+        let r = rest j at in
+        (r.0, ap (slice_get (x ∷ xs)) (sym (same_Some (suc j) k (first false is (Some j) at))) ∙ r.1, r.2)
+
+-- the task whose request is answered has its GOOD due, and a result
+pub record Answers (t : Translation) (d : DeviceCore) (k : ℕ) : Type 0 where
+  pub task : OpenTask
+  pub there : slice_get d.tasks k ≡ Some task
+  pub due : is_due_in t task.tag task.phase ≡ true
+  pub code : ℕ
+  pub decided : task.frames ≡ frames.Decided code
+
+has_code : (f : Frames) → is_unanswered f ≡ true → (code : ℕ) × (f ≡ frames.Decided code)
+has_code (frames.Decided code) e = (code, refl)
+has_code frames.NotBrought e = absurd (false≢true e)
+has_code frames.Undecided e = absurd (false≢true e)
+has_code frames.Answered e = absurd (false≢true e)
+
+pub answers_at : (t : Translation) (d : DeviceCore) (k : ℕ) → to_answer t d ≡ Some k → Answers t d k
+answers_at t d k e = by (position is_decided d.tasks) refl e
+  where
+    by : (o : Option ℕ) → position is_decided d.tasks ≡ o → due_at t d o ≡ Some k → Answers t d k
+    by None at due = absurd (none-some k due)
+    by (Some j) at due = tested (is_due_to t (slice_get d.tasks j)) refl due
+      where
+        its : (x : OpenTask) × (slice_get d.tasks j ≡ Some x) × (is_decided x ≡ true)
+        its = found_there is_decided d.tasks j at
+
+        code : (n : ℕ) × (its.0.frames ≡ frames.Decided n)
+        code = has_code its.0.frames its.2
+
+        tested : (c : Bool) → is_due_to t (slice_get d.tasks j) ≡ c → (if c then Some j else None) ≡ Some k →
+            Answers t d k
+        tested true now is = record {
+          task = its.0;
+          there = ap (slice_get d.tasks) (sym (same_Some j k is)) ∙ its.1;
+          due = ap (is_due_to t) (sym its.1) ∙ now;
+          code = code.0;
+          decided = code.1;
+        }
+        tested false now is = absurd (none-some k is)

@@ -1,0 +1,32 @@
+use Rattle.std.proofs.Common.{◌≡◌, ◌∙◌, ap, subst}
+use Rattle.rpmb.specs.Kept.{Machine}
+use Rattle.rpmb.specs.Requests.{frames_of}
+use Rattle.device.specs.Calls.{with_event}
+use Rattle.device.specs.Frames.{IsDecided, with_emptied, with_held, with_zeros}
+use Rattle.device.specs.Kept.{DeviceCore}
+use Rattle.device.specs.Rooms.{core_of}
+use Rattle.device.proofs.device.Device.begin_request.Goals as goal
+
+pub returns : goal.returns
+returns c =
+    let kept = with_held c.args.self.now c.args.index (with_zeros c.args.frames.now) in
+    let new = c.decide-event.new.self in
+    let left : new ≡ record kept { ftl = new.ftl; rpmb = new.rpmb } =
+    c.decide-event.ensures.left
+    ∙ ap (λ (d : DeviceCore). record d { ftl = new.ftl; rpmb = new.rpmb }) c.keep_frames.ensures in
+    record {
+      layer = new.ftl;
+      rpmb = new.rpmb;
+      event = c.decide-event.result;
+      decided =
+          subst (λ (d : DeviceCore). IsDecided kept d c.args.tag (frames_of c.args.frames.now) c.args.code
+          c.args.accepted.now c.decide-event.result) left
+          (subst (λ (d : DeviceCore). IsDecided d new c.args.tag (frames_of c.args.frames.now) c.args.code
+          c.args.accepted.now c.decide-event.result) c.keep_frames.ensures c.decide-event.ensures.done);
+      after_is =
+          c.happen.ensures
+          ∙ (ap (λ (m : Machine). with_event (record (core_of c.self.inside) { rpmb = m }) c.args.index
+          c.decide-event.result) c.begin.ensures
+          ∙ ap (λ (d : DeviceCore). with_event (with_emptied d (frames_of c.args.frames.now)) c.args.index
+          c.decide-event.result) (c.self.view_is ∙ left));
+    }

@@ -1,0 +1,17 @@
+use Rattle.std.proofs.Common.{◌≡◌, ◌∙◌, Some, ap, subst, sym}
+use Rattle.std.specs.Option.{option_copied}
+use Rattle.std.specs.Prelude.{slice_get}
+use Rattle.task_set.specs.Kept.{OpenTask}
+use Rattle.device.specs.Frames.{HasResponded}
+use Rattle.device.specs.Kept.{DeviceCore}
+use Rattle.device.proofs.described.Responded.{responds}
+use Rattle.device.proofs.device.Device.respond.Goals as goal
+
+pub returns-in-Some-clause-responded : goal.returns-in-Some-clause-responded
+returns-in-Some-clause-responded c =
+    subst
+    (λ (d : DeviceCore). (task : OpenTask) → slice_get d.tasks c.args.index ≡ Some task →
+    HasResponded d.rpmb c.respond.new.self task c.args.code (option_copied c.args.«data»)) c.self.view_is
+    (λ task at.
+    responds c.self.inside.set.tasks c.args.index c.args.code c.in-Some.held.now task (option_copied c.args.«data»)
+    c.self.inside.rpmb c.respond.new.self (sym (ap option_copied c.in-Some.is) ∙ c.held.ensures) at c.respond.ensures)

@@ -1,0 +1,106 @@
+-- What is accepted of frames that came: it may come now, and what it leaves of key, counter and contents.
+use Rattle.std.proofs.Common.{◌≡◌, ◌∙◌, ℕ, ◌==◌, ◌&&◌, ◌++◌, Bool, true, false, List, [], ◌∷◌, Some, None, drop}
+use Rattle.std.proofs.Common.{length, not, take, refl, sym, ap, subst, arith, get_or}
+use Rattle.std.proofs.lemmas.List.{take-append-drop}
+use Rattle.std.proofs.lemmas.List.Sums.{fold-append}
+use Rattle.ufs_spec.proofs.Facts.{eqb-true, none-some}
+use Rattle.ufs_spec.proofs.PlainFacts.{shape_after}
+use Rattle.ufs_spec.proofs.RegionPages.{area_there}
+use Rattle.ufs_spec.specs.Commands.{Command, RpmbWrite, SetKey}
+use Rattle.ufs_spec.specs.Exchanges.{Registers, invalid_list_field, sequence_error}
+use Rattle.ufs_spec.specs.FrameRequests.{reads_area}
+use Rattle.ufs_spec.specs.Frames.{Frame}
+use Rattle.ufs_spec.specs.Keys.{Contents, Group, IsCommand, IsKey, IsPlain, content, put_groups}
+use Rattle.ufs_spec.specs.Ledger.{accepted_groups, all_contents}
+use Rattle.ufs_spec.specs.Plain.{CanApply, Plain, Shape, after, apply, changed_by, region_of, shape_of_numbers}
+use Rattle.ufs_spec.specs.Refusals.{State, numbers_of, plain_now}
+use Rattle.ufs_spec.specs.Translation.{Translation}
+use Rattle.ufs_spec.specs.declared.flash.Key.{Key}
+use Rattle.power_loss.specs.Exchange.{IsTied}
+use Rattle.power_loss.specs.Invariant.{Valid}
+use Rattle.ufs_spec.specs.Rpmb.{Region, Results, checks, command_in, first_failed, is_well_formed, lacks_result}
+use Rattle.ufs_spec.specs.Rpmb.{read_data, rpmb_outcome}
+use Rattle.ufs_spec.specs.RpmbResponses.{is_success}
+use Rattle.ufs_laws.proofs.plain_contents.GroupsOfCommands.{many_commands, put_groups-same}
+use Rattle.ufs_laws.proofs.rpmb_frames.Regions.{named_changed}
+use Rattle.ufs_laws.proofs.rpmb_frames.RightWrites.{none_failed, not_refused}
+use Rattle.ufs_laws.specs.RpmbWrites.{region_named}
+use Rattle.power_loss.proofs.pending_groups.PendingByFrontier.{put_more}
+use Rattle.power_loss.proofs.stops.ImageContents.{after_none}
+
+-- Contents
+
+-- repairs change no content
+accepted_alone : {t : Translation} → Valid t →
+    put_groups t.ledger.base t.ledger.groups ≡ put_groups t.ledger.base (accepted_groups t.ledger)
+accepted_alone {t} v =
+    ap (put_groups base) (sym (take-append-drop repairs groups))
+    ∙ (put_more base (take repairs groups) (drop repairs groups)
+    ∙ ap (λ f. put_groups f (drop repairs groups)) (after_none groups repairs repairs v.history.contents (omega arith)))
+  where
+    base : Contents
+    base = t.ledger.base
+
+    repairs : ℕ
+    repairs = t.ledger.repairs
+
+    groups : List Group
+    groups = t.ledger.groups
+
+-- all groups give the contents of the plain state as it is now
+pub contents_now : (s : State) (k : Key) → IsTied s → IsKey (shape_of_numbers (numbers_of s)) k →
+    all_contents s.translation.ledger k ≡ content (plain_now s) k
+contents_now s k v is =
+    sym (many_commands s.base s.accepted v.commands k (subst (λ (z : Shape). IsKey z k) (sym v.base.1) is)
+    ∙ (ap (λ (gs : List Group). put_groups (content s.base) gs k) (sym v.groups)
+    ∙ (put_groups-same (content s.base) s.translation.ledger.base (accepted_groups s.translation.ledger) k
+    (sym (v.contents k is)) ∙ ap (λ (f : Contents). f k) (sym (accepted_alone v.valid)))))
+
+-- What is accepted
+
+-- a request for data accepts nothing
+pub reads_none : (number : ℕ) (region : Region) (r : Registers) (locked : Bool) (f : Frame) (fs : List Frame) (code : ℕ)
+    (c : Command) → rpmb_outcome number region r locked (f ∷ fs) ≡ Results code (Some c) → reads_area f code ≡ false
+reads_none number region r locked f fs code c e = by (f.kind == read_data) refl
+  where
+    its : command_in number f fs ≡ Some c
+    its =
+        let formed = not_refused (not (is_well_formed f fs)) invalid_list_field _ code c e in
+        let there = not_refused (lacks_result f r) sequence_error _ code c formed.1 in
+        (none_failed region (command_in number f fs) (first_failed (checks region locked f fs)) code c there.1).1
+
+    of_data : f.kind ≡ read_data → command_in number f fs ≡ None
+    of_data kind = rw kind refl
+
+    by : (b : Bool) → (f.kind == read_data) ≡ b → (b && is_success code) ≡ false
+    by false is = refl
+    by true is = absurd (none-some c (sym (of_data (eqb-true f.kind read_data is)) ∙ its))
+
+-- What it leaves
+
+-- the key or a write leaves the boot setting as it is
+pub boot_stays : (p : Plain) (c : Command) → region_named c ≡ Some 0 → (apply p c).boot ≡ p.boot
+boot_stays p (SetKey number bytes) e = refl
+boot_stays p (RpmbWrite number address bytes) e = refl
+boot_stays p c e = absurd (none-some 0 e)
+
+-- the key or a write leaves the protection for ever as it is
+pub permanent_stays : (p : Plain) (c : Command) → region_named c ≡ Some 0 → (apply p c).permanent ≡ p.permanent
+permanent_stays p (SetKey number bytes) e = refl
+permanent_stays p (RpmbWrite number address bytes) e = refl
+permanent_stays p c e = absurd (none-some 0 e)
+
+-- it changes its region
+pub region_changed : (p : Plain) (cs : List Command) (c : Command) → IsPlain (after p cs) → region_named c ≡ Some 0 →
+    region_of (after p (cs ++ c ∷ [])) 0 ≡ changed_by (region_of (after p cs) 0) c
+region_changed p cs c plain e =
+    ap (λ (q : Plain). region_of q 0) (fold-append apply p cs (c ∷ []))
+    ∙ named_changed (after p cs) c 0 (let count = plain.regions_count in omega arith) e
+
+-- and no area gets another length
+pub area_stays : (p : Plain) (c : Command) → IsPlain p → IsCommand c → CanApply p c → region_named c ≡ Some 0 →
+    length (changed_by (region_of p 0) c).area ≡ length (region_of p 0).area
+area_stays p c plain is can e =
+    ap (λ (r : Region). length r.area) (sym (named_changed p c 0 (let count = plain.regions_count in omega arith) e))
+    ∙ (sym (area_there (apply p c) 0)
+    ∙ (ap (λ (x : Shape). get_or x.areas 0 0) (shape_after p (c ∷ []) (is, can, tt)) ∙ area_there p 0))

@@ -1,0 +1,181 @@
+-- All frames of a SECURITY PROTOCOL OUT came: what was decided of them is kept of the state behind them.
+use Rattle.std.proofs.Common.{◌≡◌, ◌∙◌, ℕ, Bool, false, List, [], cond, length, refl, sym, ap, subst, arith}
+use Rattle.std.specs.Prelude.{nat_lt, Some, None}
+use Rattle.std.specs.List.{flat_map}
+use Rattle.std.proofs.lemmas.Bool.{le-ltb}
+use Rattle.ufs_spec.specs.Changes.{ends_with_status}
+use Rattle.ufs_spec.specs.Commands.{RpmbWrite, SetKey}
+use Rattle.ufs_spec.specs.Exchanges as exchange
+use Rattle.ufs_spec.specs.Exchanges.{Answering, CheckCondition, Deed, Registers, task_of, with_deed}
+use Rattle.ufs_spec.specs.FrameRequests.{request_decided}
+use Rattle.ufs_spec.specs.Frames.{Frame}
+use Rattle.ufs_spec.specs.Ledger.{before_accepted}
+use Rattle.ufs_spec.specs.Machine.{data_for, data_heard}
+use Rattle.ufs_spec.specs.Messages.{AreBytes}
+use Rattle.ufs_spec.specs.Moves.{Release, moved}
+use Rattle.ufs_spec.specs.Plain.{region_of}
+use Rattle.ufs_spec.specs.Refusals.{State, locked, numbers_of, plain_now}
+use Rattle.ufs_spec.specs.Rpmb.{Results, rpmb_outcome}
+use Rattle.ufs_spec.specs.declared.scsi.Sense.{Sense}
+use Rattle.power_loss.specs.Exchange.{claim_of}
+use Rattle.power_loss.proofs.books.SmallFacts.{eq_self, if_false}
+use Rattle.ftl_core.specs.Public.{with_claimed}
+use Rattle.rpmb.specs.Outcomes.{outcome_of, status_of}
+use Rattle.rpmb.specs.Requests.{frames_of}
+use Rattle.rpmb.specs.declared.outcomes.Accepted.TheVariants as accepted
+use Rattle.rpmb.specs.declared.outcomes.Outcome.{Outcome}
+use Rattle.rpmb.specs.declared.outcomes.Outcome.TheVariants as outcome
+use Rattle.rpmb.specs.declared.outcomes.Refusal.{Refusal}
+use Rattle.task_set.specs.Kept.{OpenTask}
+use Rattle.task_set.specs.Lists.{task_happened, wanted_in as wanted_of}
+use Rattle.task_set.specs.Tasks.{phase_after, task_after}
+use Rattle.task_set.specs.declared.frames.Frames.{Frames}
+use Rattle.task_set.specs.declared.frames.Frames.TheVariants as frames
+use Rattle.task_set.specs.declared.tasks.Phase.{Phase}
+use Rattle.task_set.specs.declared.tasks.TaskEvent.TheVariants as event
+use Rattle.task_set.specs.declared.tasks.Wanted.TheVariants as wanted
+use Rattle.device.specs.Describes.{Describes, FramesFit, IsDoing, Keeps, ReadsAsked, TaskKept}
+use Rattle.device.specs.Describes.{claimed_in, claims_of, read_in, wanted_by}
+use Rattle.device.specs.Frames.{HasDecided, HasDone, HasRefused}
+use Rattle.device.specs.Hears.{HasLength}
+use Rattle.device.specs.Kept.{DeviceCore, IsLayerWith}
+use Rattle.device.proofs.host_messages.FramesGathered.{AllCame, frames_are, gathers_frames}
+use Rattle.device.proofs.host_messages.FramesGathered.{not_wanted, released, undecided, wants_frames}
+use Rattle.device.proofs.host_messages.RequestsAccepted.{command_keeps}
+use Rattle.device.proofs.host_messages.RequestsAnswered.{answered_keeps}
+use Rattle.device.proofs.host_messages.TaskBecomes.{becomes_kept, device_then}
+use Rattle.device.proofs.open_tasks.OpenTasks.{Stands}
+use Rattle.device.proofs.open_tasks.ReadProgress.{deed_changes}
+
+module _ {d : DeviceCore} {s : State} {tag : ℕ} {bytes : List ℕ} (c : AllCame d s tag bytes) where
+  -- The frames are refused
+
+  module _ (come : DeviceCore) (why : Refusal) (sense : Sense) (is : CheckCondition sense ≡ status_of why)
+      (did : HasRefused d come tag c.stands.k sense) where
+    abbrev new : OpenTask
+    new = task_after (event.FramesRefused sense) c.stands.a
+
+    abbrev answering : Deed
+    answering = Answering (status_of why) c.stands.b.length
+
+    refused_task : TaskKept (before_accepted s.translation.ledger) new (record c.stands.b { deed = answering })
+    refused_task = record {
+      lun = c.stands.opened.kept.lun;
+      tag = c.stands.opened.kept.tag;
+      expected = c.stands.opened.kept.expected;
+      sends = c.stands.opened.kept.sends;
+      request = c.stands.opened.kept.request;
+      asks =
+          subst
+          (λ (f : Frames). ReadsAsked (phase_after c.stands.a.phase (event.FramesRefused sense)) f c.stands.a.held)
+          (sym (undecided c)) tt;
+      fits =
+          subst (λ (p : Phase). FramesFit (phase_after p (event.FramesRefused sense)) c.stands.a.frames c.stands.a.held
+          answering) (sym c.awaits) tt;
+      doing =
+          subst (λ (p : Phase). IsDoing (before_accepted s.translation.ledger) c.stands.a.expected c.stands.b.length
+          (phase_after p (event.FramesRefused sense)) answering) (sym c.awaits) (sym is, c.gathers.total_is);
+      read = c.stands.opened.kept.read ∙ ap read_in c.gathers.deed_is;
+    }
+
+    core_is : come ≡ device_then d c.stands.k new did.layer d.rpmb
+    core_is =
+        did.after_is
+        ∙ (λ i. record d {
+          ftl = did.layer;
+          tasks = task_happened d.tasks c.stands.k (event.FramesRefused sense) (c.stands.opened.ours i);
+        })
+
+    refused_keeps : Keeps come (ends_with_status s c.stands.b (status_of why))
+    refused_keeps =
+        subst (λ (y : DeviceCore). Keeps y (ends_with_status s c.stands.b (status_of why))) (sym core_is)
+        (becomes_kept d s c.stands.k c.stands.a new c.stands.b (with_deed c.stands.b.tag answering) did.layer d.rpmb
+        (moved s.translation (Release (claim_of (numbers_of s) c.stands.b))) s.accepted s.registers c.described
+        c.stands.opened
+        (record {
+          changes = deed_changes c.stands.b.tag answering;
+          boot = refl;
+          permanent = refl;
+          region = c.described.kept.region;
+          registers_are = c.described.kept.registers;
+          layer_is =
+              subst (λ (y : exchange.Task). IsLayerWith did.layer
+              (moved s.translation (Release (claim_of (numbers_of s) c.stands.b)))
+              (with_claimed (claims_of s.tasks) c.stands.b.tag (claimed_in y.deed))) (sym changed)
+              (released c did.layer (λ n. [])
+              (did.released s.translation (claims_of s.tasks) (c.described.kept.layer_kept, c.described.kept.claims)));
+          before = refl;
+          task = subst (TaskKept (before_accepted s.translation.ledger) new) (sym changed) refused_task;
+          sends = refl;
+          wanted = λ index. not_wanted c index ∙ sym (ap (λ (y : exchange.Task). wanted_by index (Some y)) changed);
+          others_wanted = λ n other index. refl;
+        }))
+      where
+        changed : with_deed c.stands.b.tag answering c.stands.b ≡ record c.stands.b { deed = answering }
+        changed =
+            ap (λ (b : Bool). cond b (record c.stands.b { deed = answering }) c.stands.b) (eq_self c.stands.b.tag)
+
+  -- What was decided
+
+  decided_keeps : AreBytes bytes → (come : DeviceCore) (o : Outcome) →
+      rpmb_outcome 0 (region_of (plain_now s) 0) (s.registers 0) (locked s) (frames_of bytes)
+      ≡ outcome_of 0 (frames_of bytes) o →
+      HasDone d come tag c.stands.k bytes o →
+      Keeps come (request_decided s c.stands.b 0 (frames_of bytes) (outcome_of 0 (frames_of bytes) o))
+  decided_keeps are come (outcome.Refused why) passed did = refused_keeps come why did.0 did.1 did.2
+  decided_keeps are come (outcome.Results code accepted.Nothing) passed did =
+      subst (λ (fs : List Frame). Keeps come (request_decided s c.stands.b 0 fs (Results code None)))
+      (sym (frames_are c)) (answered_keeps c come code did
+      (sym (ap (rpmb_outcome 0 (region_of (plain_now s) 0) (s.registers 0) (locked s)) (frames_are c)) ∙ passed))
+  decided_keeps are come (outcome.Results code (accepted.Key key)) passed did =
+      command_keeps c are code (accepted.Key key) (SetKey 0 key) refl refl passed come did did.decided
+  decided_keeps are come (outcome.Results code (accepted.Write address)) passed did =
+      command_keeps c are code (accepted.Write address)
+      (RpmbWrite 0 address (flat_map (λ (f : Frame). f.payload) (frames_of bytes))) refl refl passed come did
+      did.decided
+
+  -- the frames are all there
+  complete_is : data_heard s (task_of tag s.tasks) bytes
+      ≡ request_decided s c.stands.b 0 (frames_of bytes)
+      (rpmb_outcome 0 (region_of (plain_now s) 0) (s.registers 0) (locked s) (frames_of bytes))
+  complete_is =
+      ap (λ o. data_heard s o bytes) c.stands.found
+      ∙ (ap (λ (deed : Deed). data_for s c.stands.b deed bytes) c.gathers.deed_is
+      ∙ if_false (nat_lt (length bytes) c.stands.b.length) _ _ all_came)
+    where
+      all_came : nat_lt (length bytes) c.stands.b.length ≡ false
+      all_came =
+          le-ltb (length bytes) c.stands.b.length (let total = c.gathers.total_is in let long = c.long in omega arith)
+
+  come_keeps : AreBytes bytes → (come : DeviceCore) → HasDecided d come tag c.stands.k bytes →
+      Keeps come (data_heard s (task_of tag s.tasks) bytes)
+  come_keeps are come did =
+      subst (Keeps come) (sym (complete_is ∙ ap (request_decided s c.stands.b 0 (frames_of bytes)) passed))
+      (decided_keeps are come did.outcome passed did.done)
+    where
+      passed : rpmb_outcome 0 (region_of (plain_now s) 0) (s.registers 0) (locked s) (frames_of bytes)
+          ≡ outcome_of 0 (frames_of bytes) did.outcome
+      passed =
+          ap (λ (x : Registers). rpmb_outcome 0 (region_of (plain_now s) 0) x (locked s) (frames_of bytes))
+          c.described.kept.registers
+          ∙ did.outcome_is s.translation 0 (region_of (plain_now s) 0) c.described.kept.layer_kept
+          c.described.kept.region
+
+pub frames_keep : (d come : DeviceCore) (s : State) (tag : ℕ) (bytes : List ℕ) (size : ℕ) → Describes d s →
+    (r : Stands (before_accepted s.translation.ledger) tag d.tasks s.tasks) →
+    wanted_of r.a.phase ≡ Some (wanted.Frames size) → HasLength (wanted.Frames size) (length bytes) → AreBytes bytes →
+    HasDecided d come tag r.k bytes → Keeps come (data_heard s (task_of tag s.tasks) bytes)
+frames_keep d come s tag bytes size h r wants long are did =
+    let at = wants_frames r.a.phase size wants in
+    come_keeps
+    (record {
+      described = h;
+      stands = r;
+      size = size;
+      awaits = at;
+      gathers =
+          gathers_frames (before_accepted s.translation.ledger) r.a.expected r.b.length size r.b.deed
+          (subst (λ p. IsDoing (before_accepted s.translation.ledger) r.a.expected r.b.length p r.b.deed) at
+          r.opened.kept.doing);
+      long = long;
+    }) are come did

@@ -1,0 +1,339 @@
+-- All frames of a SECURITY PROTOCOL OUT came: what its task has gathered and claimed, and what becomes of it once they
+-- are a request.
+use Rattle.std.proofs.Common.{◌≡◌, ◌∙◌, ℕ, zero, suc, ◌-◌, ◌/◌, ◌≤◌, ◌==◌, Bool, true, false, List, [], ◌∷◌, drop}
+use Rattle.std.proofs.Common.{Some, None, cond, length, replicate, refl, sym, ap, subst, arith}
+use Rattle.std.specs.Prelude.{fold, slice_get, slice_set, take}
+use Rattle.std.proofs.lemmas.List.{length-append, length-drop, take-append-le}
+use Rattle.ufs_spec.proofs.Facts.{none-some}
+use Rattle.ufs_spec.specs.Commands.{Command}
+use Rattle.ufs_spec.specs.Exchanges as exchange
+use Rattle.ufs_spec.specs.Exchanges.{Deed, ForFrames, Gathering, Registers, RpmbRequest, task_of}
+use Rattle.ufs_spec.specs.FrameRequests.{requested, with_request}
+use Rattle.ufs_spec.specs.Frames.{Frame, frame_in, frames_in}
+use Rattle.ufs_spec.specs.Ledger.{before_accepted}
+use Rattle.ufs_spec.specs.Moves.{Move, Release, moved}
+use Rattle.ufs_spec.specs.Plain.{after, region_of, zero_block}
+use Rattle.ufs_spec.specs.Refusals.{State, numbers_of, plain_now}
+use Rattle.ufs_spec.specs.RpmbResponses.{emptied_by}
+use Rattle.ufs_spec.specs.Translation.{Translation, is_mended}
+use Rattle.power_loss.specs.Exchange.{DeedFits, FramesFit as WaitsFrames, claim_of}
+use Rattle.power_loss.proofs.books.SmallFacts.{eq_self}
+use Rattle.power_loss.proofs.open_tasks.TaskLists.{found_fits}
+use Rattle.ftl_core.specs.Public.{Claims, Core, with_claimed}
+use Rattle.rpmb.specs.Kept.{IsKept, Machine}
+use Rattle.rpmb.specs.Requests.{frames_of}
+use Rattle.rpmb.specs.declared.outcomes.Accepted.{Accepted}
+use Rattle.task_set.specs.Frames.{frames_after}
+use Rattle.task_set.specs.Kept.{OpenTask}
+use Rattle.task_set.specs.Lists.{task_happened, task_keeps, wanted_in as wanted_of}
+use Rattle.task_set.specs.Tasks.{block_after, brings_frames, bytes_kept, phase_after, task_after}
+use Rattle.task_set.specs.declared.frames.Frames.{Frames}
+use Rattle.task_set.specs.declared.frames.Frames.TheVariants as frames
+use Rattle.task_set.specs.declared.tasks.Phase.{Phase}
+use Rattle.task_set.specs.declared.tasks.Phase.TheVariants as phase
+use Rattle.task_set.specs.declared.tasks.TaskEvent.{TaskEvent}
+use Rattle.task_set.specs.declared.tasks.Transfer.{Transfer}
+use Rattle.task_set.specs.declared.tasks.Wanted.TheVariants as wanted
+use Rattle.device.specs.Calls.{frame_slots}
+use Rattle.device.specs.Describes.{AreFramesKept, Describes, FramesFit, IsDoing, Keeps, ReadsAsked, ReadsFor, TaskKept}
+use Rattle.device.specs.Describes.{claimed_by, claimed_in, claims_of, read_in, wanted_by, wanted_in, wanted_kept}
+use Rattle.device.specs.Frames.{HasRequested, with_held, with_zeros}
+use Rattle.device.specs.Kept.{DeviceCore, IsLayerWith}
+use Rattle.device.proofs.host_messages.FramesTaken.{zero_length}
+use Rattle.device.proofs.host_messages.TaskBecomes.{becomes_kept, device_then}
+use Rattle.device.proofs.open_tasks.OpenTasks.{Stands, set_again, set_stands}
+use Rattle.device.proofs.open_tasks.ReadProgress.{ChangesOne}
+
+-- What the task gathered
+
+pub record GathersFrames (size total : ℕ) (deed : Deed) : Type 0 where
+  pub deed_is : deed ≡ Gathering (ForFrames 0) [] true
+  pub total_is : total ≡ size
+
+pub gathers_frames : (before expected total size : ℕ) (deed : Deed) →
+    IsDoing before expected total (phase.AwaitFrames size) deed → GathersFrames size total deed
+gathers_frames before expected total size (Gathering (ForFrames region) gathered asked) h = record {
+  deed_is = λ i. Gathering (ForFrames (h.0.for_frames i)) (h.0.none_came i) (h.1 i);
+  total_is = h.0.total_is;
+}
+gathers_frames before expected total size (Gathering purpose gathered asked) h = absurd h.0.for_frames
+gathers_frames before expected total size deed h = absurd h
+
+pub wants_frames : (p : Phase) (size : ℕ) → wanted_of p ≡ Some (wanted.Frames size) → p ≡ phase.AwaitFrames size
+wants_frames (phase.AwaitFrames n) size e = ap phase.AwaitFrames (same n size e)
+  where
+    same : (n size : ℕ) → Some (wanted.Frames n) ≡ Some (wanted.Frames size) → n ≡ size
+    same n size k = cc
+wants_frames (phase.AwaitData x) size e = absurd (other x size e)
+  where
+    other : (x : Transfer) (size : ℕ) → Some (wanted.Block x) ≡ Some (wanted.Frames size) → ⊥
+    other x size k = cc
+wants_frames (phase.AskData y) size e = absurd (none-some (wanted.Frames size) e)
+wants_frames (phase.AskFrames n) size e = absurd (none-some (wanted.Frames size) e)
+wants_frames (phase.AwaitFrontier n m) size e = absurd (none-some (wanted.Frames size) e)
+wants_frames (phase.ReadArea r) size e = absurd (none-some (wanted.Frames size) e)
+wants_frames (phase.SendBlocks y) size e = absurd (none-some (wanted.Frames size) e)
+wants_frames (phase.SendData y) size e = absurd (none-some (wanted.Frames size) e)
+wants_frames (phase.SendFrames n) size e = absurd (none-some (wanted.Frames size) e)
+wants_frames (phase.Answer told n) size e = absurd (none-some (wanted.Frames size) e)
+
+-- all frames came that the task of this tag asked for
+pub record AllCame (d : DeviceCore) (s : State) (tag : ℕ) (bytes : List ℕ) : Type 0 where
+  pub described : Describes d s
+  pub stands : Stands (before_accepted s.translation.ledger) tag d.tasks s.tasks
+  pub size : ℕ
+  pub awaits : stands.a.phase ≡ phase.AwaitFrames size
+  pub gathers : GathersFrames size stands.b.length stands.b.deed
+  pub long : length bytes ≡ size
+
+-- The request
+
+-- the first of the frames, and those behind it
+abbrev pub first_frame : List ℕ → Frame
+first_frame bytes = frame_in (take 512 bytes)
+
+abbrev pub all_frames : List ℕ → List Frame
+all_frames bytes = first_frame bytes ∷ frames_in (length bytes / 512 - 1) (drop 512 bytes)
+
+-- the request as the definitions have it
+abbrev pub request_of : List ℕ → ℕ → RpmbRequest
+request_of bytes code = record { region = 0; frames = all_frames bytes; result = code; filled = false }
+
+-- its task, with the frames that it keeps
+abbrev pub kept_task : List ℕ → OpenTask → OpenTask
+kept_task bytes a = bytes_kept (with_zeros bytes) a
+
+-- a task of the specified device has the request, and does this
+abbrev pub asking : exchange.Task → List ℕ → ℕ → Deed → exchange.Task
+asking b bytes code deed = record b { deed = deed; request = Some (request_of bytes code) }
+
+-- no other task changes where one gets a request
+request_changes : (tag : ℕ) (request : RpmbRequest) (deed : Deed) → ChangesOne (with_request tag request deed) tag
+request_changes tag request deed = record {
+  tags = λ x. by x (exchange.is_task_of tag x);
+  others = λ x e. ap (λ (b : Bool). cond b (record x { deed = deed; request = Some request }) x) e;
+}
+  where
+    by : (x : exchange.Task) (b : Bool) → (cond b (record x { deed = deed; request = Some request }) x).tag ≡ x.tag
+    by x true = refl
+    by x false = refl
+
+module _ {d : DeviceCore} {s : State} {tag : ℕ} {bytes : List ℕ} (c : AllCame d s tag bytes) where
+  pub undecided : c.stands.a.frames ≡ frames.Undecided
+  undecided =
+      subst (λ (p : Phase). FramesFit p c.stands.a.frames c.stands.a.held c.stands.b.deed) c.awaits
+      c.stands.opened.kept.fits
+
+  pub found : task_of c.stands.b.tag s.tasks ≡ Some c.stands.b
+  found = ap (λ (n : ℕ). task_of n s.tasks) c.stands.tag_is ∙ c.stands.found
+
+  -- what the tasks have claimed, where the task has claimed nothing any more
+  abbrev pub given_up : Claims
+  given_up = with_claimed (claims_of s.tasks) c.stands.b.tag []
+
+  pub its_slots : claims_of s.tasks c.stands.b.tag ≡ replicate frame_slots zero_block
+  its_slots = ap claimed_by found ∙ ap claimed_in c.gathers.deed_is
+
+  pub fits : WaitsFrames (is_mended s.translation.work.mending) 0 c.stands.b.length []
+      (claim_of (numbers_of s) c.stands.b)
+  fits =
+      subst (DeedFits (numbers_of s) (length s.accepted) (is_mended s.translation.work.mending)
+      (claim_of (numbers_of s) c.stands.b) c.stands.b.length) c.gathers.deed_is
+      (found_fits (numbers_of s) (length s.accepted) (is_mended s.translation.work.mending) tag s.tasks c.stands.b
+      c.described.tied.tasks.deeds c.stands.found).0
+
+  -- the layer of both sides once the slots are given back and these moves are made
+  pub released : (layer : Core) (moves : ℕ → List Move) →
+      IsLayerWith layer (fold moved (moved s.translation (Release (length (claims_of s.tasks tag)))) (moves tag))
+      (with_claimed (claims_of s.tasks) tag []) →
+      IsLayerWith layer
+      (fold moved (moved s.translation (Release (claim_of (numbers_of s) c.stands.b))) (moves c.stands.b.tag)) given_up
+  released layer moves its =
+      subst
+      (λ (n : ℕ). IsLayerWith layer (fold moved (moved s.translation (Release n)) (moves c.stands.b.tag)) given_up)
+      (ap length its_slots ∙ (three ∙ sym fits.claimed_is))
+      (subst (λ (n : ℕ). IsLayerWith layer
+      (fold moved (moved s.translation (Release (length (claims_of s.tasks n)))) (moves n))
+      (with_claimed (claims_of s.tasks) n [])) (sym c.stands.tag_is) its)
+    where
+      three : length (replicate frame_slots zero_block) ≡ 3
+      three = refl
+
+  -- nothing is wanted for it
+  pub not_wanted : (index : ℕ) → wanted_kept s.translation.pins c.stands.b.tag index ≡ None
+  not_wanted index =
+      c.described.kept.wanted c.stands.b.tag index
+      ∙ (ap (wanted_by index) found ∙ ap (wanted_in index c.stands.b.request) c.gathers.deed_is)
+
+  -- as many bytes as whole frames have
+  pub frames_long : (1 ≤ length bytes / 512) × (512 ≤ length bytes) × (length bytes ≤ 4096)
+  frames_long =
+      let count = fits.count in
+      let low = fits.some in
+      let few = fits.few in
+      let total = fits.total_is in
+      let size_is = c.gathers.total_is in
+      let long = c.long in
+      (omega arith, omega arith, omega arith)
+
+  pub frames_are : frames_of bytes ≡ all_frames bytes
+  frames_are = by (length bytes / 512) frames_long.0
+    where
+      by : (n : ℕ) → 1 ≤ n → frames_in n bytes ≡ first_frame bytes ∷ frames_in (n - 1) (drop 512 bytes)
+      by zero low = absurd (omega arith)
+      by (suc n) low = ap (λ (m : ℕ). first_frame bytes ∷ frames_in m (drop 512 bytes)) (less n)
+        where
+          less : (n : ℕ) → n ≡ suc n - 1
+          less n = omega arith
+
+  zeros_long : length (with_zeros bytes) ≡ 4096
+  zeros_long =
+      let joined = length-append bytes (drop (length bytes) zero_block) in
+      let rest = length-drop (length bytes) zero_block in
+      let zeros = zero_length in
+      let few = frames_long.2 in
+      omega arith
+
+  first_kept : take 512 (with_zeros bytes) ≡ take 512 bytes
+  first_kept = take-append-le 512 bytes (drop (length bytes) zero_block) frames_long.1
+
+  -- this happened to the task, which has the request from now on
+  pub record Happens (code : ℕ) (e : TaskEvent) (p : Phase) (deed : Deed) : Type 0 where
+    pub phase_is : phase_after (phase.AwaitFrames c.size) e ≡ p
+    pub frames_are_kept : frames_after frames.Undecided e ≡ frames.Decided code
+    pub no_block : block_after e (phase.AwaitFrames c.size) None ≡ None
+    pub asks : ReadsFor p (first_frame bytes) code
+    pub fits_in : FramesFit p (frames.Decided code) (Some (with_zeros bytes)) deed
+    pub doing : IsDoing (before_accepted s.translation.ledger) c.stands.a.expected c.stands.b.length p deed
+    pub none_sent : read_in deed ≡ None
+
+  pub asking_kept : (code : ℕ) (e : TaskEvent) (p : Phase) (deed : Deed) → Happens code e p deed →
+      TaskKept (before_accepted s.translation.ledger) (task_after e (kept_task bytes c.stands.a))
+      (asking c.stands.b bytes code deed)
+  asking_kept code e p deed x = record {
+    lun = c.stands.opened.kept.lun;
+    tag = c.stands.opened.kept.tag;
+    expected = c.stands.opened.kept.expected;
+    sends = c.stands.opened.kept.sends ∙ (ap brings_frames undecided ∙ sym (ap brings_frames frames_is));
+    request =
+        subst (λ (f : Frames). AreFramesKept f (Some (with_zeros bytes)) (Some (request_of bytes code))) (sym frames_is)
+        (record {
+          bytes = with_zeros bytes;
+          is_held = refl;
+          long = zeros_long;
+          asked = request_of bytes code;
+          is = refl;
+          region = refl;
+          result = refl;
+          unfilled = refl;
+          first = ap frame_in (sym first_kept);
+        });
+    asks =
+        subst (λ (f : Frames). ReadsAsked (phase_after c.stands.a.phase e) f (Some (with_zeros bytes))) (sym frames_is)
+        (subst (λ (q : Phase). ReadsFor q (frame_in (take 512 (with_zeros bytes))) code) (sym phase_is)
+        (subst (λ (bs : List ℕ). ReadsFor p (frame_in bs) code) (sym first_kept) x.asks));
+    fits =
+        subst (λ (f : Frames). FramesFit (phase_after c.stands.a.phase e) f (Some (with_zeros bytes)) deed)
+        (sym frames_is)
+        (subst (λ (q : Phase). FramesFit q (frames.Decided code) (Some (with_zeros bytes)) deed) (sym phase_is)
+        x.fits_in);
+    doing =
+        subst
+        (λ (q : Phase). IsDoing (before_accepted s.translation.ledger) c.stands.a.expected c.stands.b.length q deed)
+        (sym phase_is) x.doing;
+    read = ap (λ (q : Phase). block_after e q None) c.awaits ∙ (x.no_block ∙ sym x.none_sent);
+  }
+    where
+      frames_is : frames_after c.stands.a.frames e ≡ frames.Decided code
+      frames_is = ap (λ (f : Frames). frames_after f e) undecided ∙ x.frames_are_kept
+
+      phase_is : phase_after c.stands.a.phase e ≡ p
+      phase_is = ap (λ (q : Phase). phase_after q e) c.awaits ∙ x.phase_is
+
+  -- What is kept of the state with the request
+
+  -- what becomes of the layer, of key and counter and of the accepted commands
+  pub record Leads (layer : Core) (m : Machine) (u : Translation) (cs : List Command) (code : ℕ) (deed : Deed) : Type 0
+    where
+      pub boot : (after s.base cs).boot ≡ (plain_now s).boot
+      pub permanent : (after s.base cs).permanent ≡ (plain_now s).permanent
+      pub region : IsKept m.region (region_of (after s.base cs) 0)
+      pub registers : m.registers ≡ d.rpmb.registers
+      pub layer_is : IsLayerWith layer u given_up
+      pub none_claimed : claimed_in deed ≡ []
+      pub before : before_accepted u.ledger ≡ before_accepted s.translation.ledger
+      pub wanted : (index : ℕ) → wanted_kept u.pins c.stands.b.tag index
+          ≡ wanted_by index (Some (asking c.stands.b bytes code deed))
+      pub others_wanted : (n : ℕ) → (n == c.stands.b.tag) ≡ false → (index : ℕ) →
+          wanted_kept u.pins n index ≡ wanted_kept s.translation.pins n index
+
+  pub requested_keeps : (come : DeviceCore) (code : ℕ) (what : Accepted)
+      (did : HasRequested d come tag c.stands.k bytes code what) (e : TaskEvent) (p : Phase) (deed : Deed)
+      (u : Translation) (cs : List Command) → did.event ≡ e → Happens code e p deed →
+      Leads did.layer did.rpmb u cs code deed →
+      Keeps come (requested (record s { translation = u; accepted = cs }) c.stands.b 0 (all_frames bytes) code deed)
+  requested_keeps come code what did e p deed u cs event_is x leads =
+      subst
+      (λ (y : DeviceCore). Keeps y
+      (requested (record s { translation = u; accepted = cs }) c.stands.b 0 (all_frames bytes) code deed)) (sym core_is)
+      (becomes_kept d s c.stands.k c.stands.a new c.stands.b change did.layer machine_then u cs registers_then
+      c.described c.stands.opened
+      (record {
+        changes = request_changes c.stands.b.tag (request_of bytes code) deed;
+        boot = leads.boot;
+        permanent = leads.permanent;
+        region = leads.region;
+        registers_are =
+            (λ i. emptied_by (all_frames bytes) (c.described.kept.registers i))
+            ∙ sym (ap (emptied_by (all_frames bytes)) leads.registers);
+        layer_is =
+            subst (λ (y : exchange.Task). IsLayerWith did.layer u
+            (with_claimed (claims_of s.tasks) c.stands.b.tag (claimed_in y.deed))) (sym changed)
+            (subst (λ (blocks : List (List ℕ)). IsLayerWith did.layer u
+            (with_claimed (claims_of s.tasks) c.stands.b.tag blocks)) (sym leads.none_claimed) leads.layer_is);
+        before = leads.before;
+        task = subst (TaskKept (before_accepted s.translation.ledger) new) (sym changed) (asking_kept code e p deed x);
+        sends =
+            ap (λ (f : Frames). brings_frames (frames_after f e)) undecided
+            ∙ (ap brings_frames x.frames_are_kept ∙ sym (ap brings_frames undecided));
+        wanted = λ index. leads.wanted index ∙ sym (ap (λ (y : exchange.Task). wanted_by index (Some y)) changed);
+        others_wanted = leads.others_wanted;
+      }))
+    where
+      change : exchange.Task → exchange.Task
+      change = with_request c.stands.b.tag (request_of bytes code) deed
+
+      changed : change c.stands.b ≡ asking c.stands.b bytes code deed
+      changed =
+          ap (λ (b : Bool). cond b (asking c.stands.b bytes code deed) c.stands.b) (eq_self c.stands.b.tag)
+
+      new : OpenTask
+      new = task_after e (kept_task bytes c.stands.a)
+
+      machine_then : Machine
+      machine_then = record did.rpmb { registers = emptied_by (all_frames bytes) did.rpmb.registers }
+
+      registers_then : ℕ → Registers
+      registers_then = exchange.at_region s.registers 0 (emptied_by (all_frames bytes) (s.registers 0))
+
+      tasks_are : (with_held d c.stands.k (with_zeros bytes)).tasks
+          ≡ slice_set d.tasks c.stands.k (kept_task bytes c.stands.a)
+      tasks_are = ap (task_keeps d.tasks c.stands.k (with_zeros bytes)) c.stands.opened.ours
+
+      tasks_then : task_happened (slice_set d.tasks c.stands.k (kept_task bytes c.stands.a)) c.stands.k e
+          (slice_get (slice_set d.tasks c.stands.k (kept_task bytes c.stands.a)) c.stands.k)
+          ≡ slice_set d.tasks c.stands.k new
+      tasks_then =
+          ap (task_happened (slice_set d.tasks c.stands.k (kept_task bytes c.stands.a)) c.stands.k e)
+          (set_stands d.tasks c.stands.k c.stands.a (kept_task bytes c.stands.a) c.stands.opened.ours)
+          ∙ set_again d.tasks c.stands.k (kept_task bytes c.stands.a) new
+
+      core_is : come ≡ device_then d c.stands.k new did.layer machine_then
+      core_is =
+          did.after_is
+          ∙ ((λ i. record d {
+            ftl = did.layer;
+            rpmb = record did.rpmb { registers = emptied_by (frames_are i) did.rpmb.registers };
+            tasks = task_happened (tasks_are i) c.stands.k (event_is i) (slice_get (tasks_are i) c.stands.k);
+          })
+          ∙ ap (λ (ts : List OpenTask). record d { ftl = did.layer; rpmb = machine_then; tasks = ts }) tasks_then)

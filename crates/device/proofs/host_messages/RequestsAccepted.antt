@@ -1,0 +1,163 @@
+-- The frames are a key or a write: its group is accepted, and its task waits until that is durable.
+use Rattle.std.proofs.Common.{◌≡◌, ◌∙◌, ℕ, ◌+◌, ◌/◌, ◌≤◌, ◌++◌, false, List, [], ◌∷◌, Some, length}
+use Rattle.std.proofs.Common.{replicate, refl, sym, ap, subst, arith}
+use Rattle.std.proofs.lemmas.List.Sums.{fold-append}
+use Rattle.ufs_spec.specs.Changes.{accepts, claimed_by as claimed_by_deed}
+use Rattle.ufs_spec.specs.Commands.{Command}
+use Rattle.ufs_spec.specs.Exchanges.{Awaiting, Deed}
+use Rattle.ufs_spec.specs.FrameRequests.{reads_area, request_decided, requested}
+use Rattle.ufs_spec.specs.Frames.{Frame}
+use Rattle.ufs_spec.specs.Keys.{group_of}
+use Rattle.ufs_spec.specs.Ledger.{next_number}
+use Rattle.ufs_spec.specs.Messages.{AreBytes}
+use Rattle.ufs_spec.specs.Moves.{Accept, IsAllowedMove, Move, moved}
+use Rattle.ufs_spec.specs.Plain.{Plain, apply, changed_by, region_of, zero_block}
+use Rattle.ufs_spec.specs.Refusals.{State, locked, numbers_of, plain_now}
+use Rattle.ufs_spec.specs.Rpmb.{Region, Results, applied, rpmb_outcome}
+use Rattle.ufs_spec.specs.Translation.{is_mended}
+use Rattle.ufs_laws.proofs.rpmb_frames.FramesRead.{first_frames}
+use Rattle.ufs_laws.specs.RpmbWrites.{region_named}
+use Rattle.power_loss.specs.Exchange.{claim_of}
+use Rattle.power_loss.proofs.commands.RequestedCommands.{length-frames_in}
+use Rattle.power_loss.proofs.host_commands.AcceptedCommands.{IsComing, command_allowed, plain_tied}
+use Rattle.power_loss.proofs.host_commands.ListsAndFrames.{FramesCame, frames_coming}
+use Rattle.power_loss.proofs.open_tasks.TaskLists.{found_fits}
+use Rattle.ftl_core.specs.Public.{with_claimed}
+use Rattle.rpmb.specs.Kept.{IsKept}
+use Rattle.rpmb.specs.Outcomes.{command_of}
+use Rattle.rpmb.specs.Requests.{frames_of}
+use Rattle.rpmb.specs.declared.outcomes.Accepted.{Accepted}
+use Rattle.task_set.specs.declared.tasks.Phase.TheVariants as phase
+use Rattle.task_set.specs.declared.tasks.TaskEvent.TheVariants as event
+use Rattle.device.specs.Calls.{frame_slots}
+use Rattle.device.specs.Describes.{Keeps, claims_of}
+use Rattle.device.specs.Frames.{HasAccepted, HasRequested, IsPlainOf, with_held, with_zeros}
+use Rattle.device.specs.Kept.{DeviceCore, IsLayerWith}
+use Rattle.device.proofs.host_messages.FramesAccepted.{area_stays, boot_stays, contents_now, permanent_stays}
+use Rattle.device.proofs.host_messages.FramesAccepted.{reads_none, region_changed}
+use Rattle.device.proofs.host_messages.FramesGathered.{AllCame, all_frames, first_frame, fits, frames_are, frames_long}
+use Rattle.device.proofs.host_messages.FramesGathered.{given_up, its_slots, not_wanted, requested_keeps}
+use Rattle.device.proofs.host_messages.NumbersAwaited.{number_awaited}
+
+module _ {d : DeviceCore} {s : State} {tag : ℕ} {bytes : List ℕ} (c : AllCame d s tag bytes)
+    (are : AreBytes bytes) (code : ℕ) (what : Accepted) (command : Command)
+    (is_command : command_of 0 (frames_of bytes) what ≡ Some command)
+    (named : region_named command ≡ Some 0)
+    (passed : rpmb_outcome 0 (region_of (plain_now s) 0) (s.registers 0) (locked s) (frames_of bytes)
+    ≡ Results code (Some command)) where
+  came : FramesCame s c.stands.b 0 (frames_of bytes)
+  came = record {
+    region_in = (fits c).region_in;
+    each = first_frames (length bytes / 512) bytes (omega arith) are;
+    few =
+        let n = length-frames_in (length bytes / 512) bytes in
+        let most = (frames_long c).2 in
+        omega arith;
+    claim = (fits c).claimed_is;
+    is_mended = (fits c).is_mended;
+  }
+
+  coming : IsComing s command (claim_of (numbers_of s) c.stands.b)
+  coming = frames_coming c.described.tied came passed
+
+  few_claimed : claim_of (numbers_of s) c.stands.b ≤ s.translation.claims
+  few_claimed =
+      let its = (found_fits (numbers_of s) (length s.accepted) (is_mended s.translation.work.mending) tag s.tasks
+      c.stands.b c.described.tied.tasks.deeds c.stands.found).2 in
+      let claimed = c.described.tied.tasks.claimed in
+      omega arith
+
+  -- the group is put in the place of so many slots
+  abbrev taking : ℕ → Move
+  taking n = Accept n (group_of (plain_now s) command)
+
+  allowed : IsAllowedMove s.translation (taking 3)
+  allowed =
+      subst (λ (n : ℕ). IsAllowedMove s.translation (taking n)) (fits c).claimed_is
+      (command_allowed c.described.tied coming few_claimed)
+
+  plain_is : IsPlainOf (with_held d c.stands.k (with_zeros bytes)) s.translation (plain_now s)
+  plain_is = record {
+    plain = plain_tied c.described.tied;
+    contents = λ k is. contents_now s k c.described.tied is;
+    boot = c.described.kept.boot;
+    permanent = c.described.kept.permanent;
+    region = c.described.kept.region;
+  }
+
+  -- no page of the area is read
+  asks_none : reads_area (first_frame bytes) code ≡ false
+  asks_none =
+      reads_none 0 (region_of (plain_now s) 0) (s.registers 0) (locked s) (first_frame bytes) _ code command
+      (sym (ap (rpmb_outcome 0 (region_of (plain_now s) 0) (s.registers 0) (locked s)) (frames_are c)) ∙ passed)
+
+  abbrev number : ℕ
+  number = next_number s.translation.ledger
+
+  abbrev awaits : Deed
+  awaits = Awaiting (length s.accepted + 1)
+
+  accepted_keeps : (come : DeviceCore) (did : HasRequested d come tag c.stands.k bytes code what) →
+      HasAccepted (with_held d c.stands.k (with_zeros bytes))
+      (record (with_held d c.stands.k (with_zeros bytes)) { ftl = did.layer; rpmb = did.rpmb }) tag (frames_of bytes)
+      code what did.event →
+      Keeps come
+      (requested (accepts s command (claimed_by_deed (numbers_of s) c.stands.b.deed c.stands.b.command)) c.stands.b 0
+      (all_frames bytes) code awaits)
+  accepted_keeps come did took =
+      requested_keeps c come code what did (event.RequestAccepted code number) (phase.AwaitFrontier number c.size)
+      awaits (moved s.translation (taking (claim_of (numbers_of s) c.stands.b))) (s.accepted ++ command ∷ [])
+      (took.event_is s.translation c.described.kept.layer_kept)
+      (record {
+        phase_is = refl;
+        frames_are_kept = refl;
+        no_block = refl;
+        asks = asks_none;
+        fits_in = tt;
+        doing = (number_awaited s c.described.tied, c.gathers.total_is);
+        none_sent = refl;
+      })
+      (record {
+        boot =
+            ap (λ (q : Plain). q.boot) (fold-append apply s.base s.accepted (command ∷ []))
+            ∙ boot_stays (plain_now s) command named;
+        permanent =
+            ap (λ (q : Plain). q.permanent) (fold-append apply s.base s.accepted (command ∷ []))
+            ∙ permanent_stays (plain_now s) command named;
+        region =
+            subst (IsKept did.rpmb.region)
+            (region_is ∙ sym (region_changed s.base s.accepted command (plain_tied c.described.tied) named))
+            (took.region 0 (region_of (plain_now s) 0) c.described.kept.region
+            (ap (λ (x : Region). length x.area) region_is
+            ∙ area_stays (plain_now s) command (plain_tied c.described.tied) coming.is coming.can named));
+        registers = took.registers;
+        layer_is = layer;
+        none_claimed = refl;
+        before = refl;
+        wanted = not_wanted c;
+        others_wanted = λ n other index. refl;
+      })
+    where
+      region_is : applied (region_of (plain_now s) 0) (command_of 0 (frames_of bytes) what)
+          ≡ changed_by (region_of (plain_now s) 0) command
+      region_is = ap (applied (region_of (plain_now s) 0)) is_command
+
+      layer : IsLayerWith did.layer (moved s.translation (taking (claim_of (numbers_of s) c.stands.b))) (given_up c)
+      layer =
+          subst (λ (n : ℕ). IsLayerWith did.layer (moved s.translation (taking n)) (given_up c))
+          (sym (fits c).claimed_is)
+          (subst (λ (n : ℕ). IsLayerWith did.layer (moved s.translation (taking 3))
+          (with_claimed (claims_of s.tasks) n [])) (sym c.stands.tag_is)
+          (took.layer s.translation (claims_of s.tasks) (plain_now s) command
+          (c.described.kept.layer_kept, c.described.kept.claims)
+          (subst (λ (n : ℕ). claims_of s.tasks n ≡ replicate frame_slots zero_block) c.stands.tag_is (its_slots c))
+          (record { command = is_command; is = coming.is; plain = plain_is; can = coming.can; allowed = allowed })))
+
+  -- the same of the frames as they came
+  pub command_keeps : (come : DeviceCore) (did : HasRequested d come tag c.stands.k bytes code what) →
+      HasAccepted (with_held d c.stands.k (with_zeros bytes))
+      (record (with_held d c.stands.k (with_zeros bytes)) { ftl = did.layer; rpmb = did.rpmb }) tag (frames_of bytes)
+      code what did.event → Keeps come (request_decided s c.stands.b 0 (frames_of bytes) (Results code (Some command)))
+  command_keeps come did took =
+      subst (λ (fs : List Frame). Keeps come (request_decided s c.stands.b 0 fs (Results code (Some command))))
+      (sym (frames_are c)) (accepted_keeps come did took)

@@ -1,0 +1,154 @@
+-- A COMMAND begins a task that answers at once, sends data that are known, or waits for all that was accepted.
+use Rattle.std.proofs.Common.{◌≡◌, ℕ, ◌+◌, ◌<◌, Bool, true, false, List, Option, Some, None, length}
+use Rattle.std.proofs.Common.{refl, sym, subst, arith}
+use Rattle.std.specs.Prelude.{◌==◌, if◌then◌else◌, min, nat_le, Result, Ok}
+use Rattle.std.specs.List.{list_any}
+use Rattle.ufs_spec.proofs.Facts.{false≢true}
+use Rattle.ufs_spec.specs.Exchanges.{Answering, Awaiting, Good, SendingBytes, Status, most_tasks, task_of}
+use Rattle.ufs_spec.specs.Ledger.{before_accepted}
+use Rattle.ufs_spec.specs.Machine.{data_begun, durable, flush_begun}
+use Rattle.ufs_spec.specs.Machine as machine
+use Rattle.ufs_spec.specs.Refusals.{Request, State, locked, sends_frames}
+use Rattle.ufs_spec.specs.declared.scsi.Cdb.{Cdb}
+use Rattle.ftl_core.specs.Public.{Core}
+use Rattle.task_set.specs.declared.tasks.Phase.{Phase}
+use Rattle.task_set.specs.declared.tasks.Phase.TheVariants as phase
+use Rattle.task_set.specs.declared.tasks.ShortData.{ShortData}
+use Rattle.task_set.specs.declared.tasks.Status as kept_status
+use Rattle.task_set.specs.declared.tasks.Status.TheVariants as status
+use Rattle.task_set.specs.declared.frames.Frames.TheVariants as frames
+use Rattle.task_set.specs.Kept.{newly_open}
+use Rattle.task_set.specs.Tasks.{data_length, is_sender, status_kept}
+use Rattle.device.specs.declared.plans.Plan.{Plan}
+use Rattle.device.specs.declared.plans.Plan.TheVariants as plan
+use Rattle.device.specs.Calls.{HasBegun, last_number}
+use Rattle.device.specs.Describes.{Describes, claims_of}
+use Rattle.device.specs.Frames.{frames_brought, frames_taken}
+use Rattle.device.specs.Kept.{DeviceCore, IsLayerWith}
+use Rattle.device.specs.Plans.{data_plan}
+use Rattle.device.specs.Replies.{data_bytes}
+use Rattle.device.proofs.described.Answered.{IsBehind}
+use Rattle.device.proofs.host_messages.CommandPasses.{some_told}
+use Rattle.device.proofs.host_messages.NumbersAwaited.{number_awaited}
+use Rattle.device.proofs.host_messages.ReadOpened.{core_opened, core_with}
+use Rattle.device.proofs.open_tasks.TaskOpened.{opens_still}
+
+-- what was planned begins, over the layer as it is then
+abbrev pub HasBegunFor : State → Request → Core → Result Plan kept_status.Status → Phase → Type 0
+HasBegunFor s r after todo p = HasBegun after s.translation (claims_of s.tasks) r.tag todo p
+
+-- the device once this was planned and its task is so far
+abbrev pub opened_for : DeviceCore → Request → Core → Result Plan kept_status.Status → Phase → DeviceCore
+opened_for d r after todo p = frames_taken (core_with d r after p (frames_brought todo)) todo
+
+pub same_phase : (d : DeviceCore) (r : Request) (after : Core) (p q : Phase) (v : State) → p ≡ q →
+    IsBehind (core_opened d r after q) v → IsBehind (core_opened d r after p) v
+same_phase d r after p q v same = subst (λ (x : Phase). IsBehind (core_opened d r after x) v) (sym same)
+
+-- a task that brings no frames
+pub quiet_task : (d : DeviceCore) (r : Request) (p : Phase) → is_sender (newly_open (record {
+  tag = r.tag;
+  lun = r.lun;
+  expected = r.expected;
+  phase = p;
+  frames = frames.NotBrought;
+})) ≡ true → list_any is_sender d.tasks ≡ false
+quiet_task d r p e = absurd (false≢true e)
+
+module _ (d : DeviceCore) (s : State) (r : Request) (h : Describes d s) (free : task_of r.tag s.tasks ≡ None)
+    (few : length s.tasks < most_tasks) (after : Core) where
+  abbrev Begins : Result Plan kept_status.Status → Phase → Type 0
+  Begins todo p = HasBegunFor s r after todo p
+
+  abbrev Opens : Result Plan kept_status.Status → Phase → State → Type 0
+  Opens todo p v = IsBehind (opened_for d r after todo p) v
+
+  -- a task that answers at once
+  pub answer_opened : (command : Option Cdb) (n carried : ℕ) (answer : Status) (told : kept_status.Status) (m : ℕ) →
+      sends_frames command ≡ false → IsLayerWith after s.translation (claims_of s.tasks) →
+      answer ≡ status_kept told → carried ≡ m →
+      IsBehind (core_opened d r after (phase.Answer told m))
+      (machine.with_task s r command n (Answering answer carried))
+  answer_opened command n carried answer told m quiet layer same count =
+      opens_still d s r h free few after command n (Answering answer carried) _ layer
+      (record { wanted = λ i. refl; claimed = refl }) (λ l. tt)
+      (record {
+        lun = refl;
+        tag = refl;
+        expected = refl;
+        sends = quiet;
+        request = refl;
+        asks = tt;
+        fits = tt;
+        doing = (same, count);
+        read = refl;
+      }) (quiet_task d r (phase.Answer told m))
+
+  -- so it answers GOOD where nothing is to be done
+  pub nothing_begins : (command : Cdb) (n : ℕ) (p : Phase) → sends_frames (Some command) ≡ false →
+      Begins (Ok (plan.Nothing n)) p →
+      Opens (Ok (plan.Nothing n)) p (machine.with_task s r (Some command) n (Answering Good n))
+  nothing_begins command n p quiet begun =
+      same_phase d r after p (phase.Answer status.Good n) _ begun.0
+      (answer_opened (Some command) n n Good status.Good n quiet begun.1 refl refl)
+
+  -- data that are sent in one message
+
+  abbrev data_at : Cdb → ℕ → List ℕ → Bool → State
+  data_at command n bytes b =
+      machine.with_task s r (Some command) n (if b then Answering Good n else SendingBytes bytes)
+
+  pub data_begins : (command : Cdb) (x : ShortData) (p : Phase) → sends_frames (Some command) ≡ false →
+      length (data_bytes x) ≡ data_length x → Begins (Ok (data_plan r.expected x)) p →
+      Opens (Ok (data_plan r.expected x)) p (data_begun s r command (data_bytes x))
+  data_begins command x p quiet long begun =
+      subst (Opens (Ok (data_plan r.expected x)) p)
+      (sym (λ i. data_at command (long i) (data_bytes x) (min r.expected (long i) == 0)))
+      (by (min r.expected (data_length x) == 0) refl begun)
+    where
+      by : (b : Bool) → (min r.expected (data_length x) == 0) ≡ b →
+          Begins (Ok (if b then plan.Nothing (data_length x) else plan.Send x)) p →
+          Opens (Ok (if b then plan.Nothing (data_length x) else plan.Send x)) p
+          (data_at command (data_length x) (data_bytes x) b)
+      by true e k = nothing_begins command (data_length x) p quiet k
+      by false e k =
+          same_phase d r after p (phase.SendData x) _ k.0
+          (opens_still d s r h free few after (Some command) (data_length x) (SendingBytes (data_bytes x)) _ k.1
+          (record { wanted = λ i. refl; claimed = refl }) (λ l. tt)
+          (record {
+            lun = refl;
+            tag = refl;
+            expected = refl;
+            sends = quiet;
+            request = refl;
+            asks = tt;
+            fits = refl;
+            doing = (refl, refl, some_told (min r.expected (data_length x)) e);
+            read = refl;
+          }) (quiet_task d r (phase.SendData x)))
+
+  -- a flush
+
+  pub flush_begins : (command : Cdb) (immediate : Bool) (p : Phase) → sends_frames (Some command) ≡ false →
+      (locked s ≡ true → nat_le (length s.accepted) (durable s) ≡ true) →
+      Begins (Ok (if immediate then plan.Nothing 0 else plan.Flush)) p →
+      Opens (Ok (if immediate then plan.Nothing 0 else plan.Flush)) p (flush_begun s r command immediate)
+  flush_begins command true p quiet told begun = nothing_begins command 0 p quiet begun
+  flush_begins command false p quiet told begun =
+      same_phase d r after p (phase.AwaitFrontier (last_number s.translation.ledger) 0) _ begun.0
+      (opens_still d s r h free few after (Some command) 0 (Awaiting (length s.accepted)) _ begun.1
+      (record { wanted = λ i. refl; claimed = refl }) told
+      (record {
+        lun = refl;
+        tag = refl;
+        expected = refl;
+        sends = quiet;
+        request = refl;
+        asks = tt;
+        fits = tt;
+        doing = (last, refl);
+        read = refl;
+      }) (quiet_task d r (phase.AwaitFrontier (last_number s.translation.ledger) 0)))
+    where
+      last : last_number s.translation.ledger ≡ before_accepted s.translation.ledger + length s.accepted
+      last = let next = number_awaited s h.tied in omega arith

@@ -1,0 +1,334 @@
+-- Frames of the RPMB: what is decided of those that a SECURITY PROTOCOL OUT brought, what a request leaves in the
+-- registers, and what a SECURITY PROTOCOL IN takes from them (JESD220, 12.4).
+use Rattle.std.specs.Prelude.{◌≡◌, ℕ, ◌+◌, ◌-◌, ◌==◌, ◌<◌, ◌≤◌, ◌&&◌, min, nat_le, Bool, true, false}
+use Rattle.std.specs.Prelude.{if◌then◌else◌, List, [], ◌∷◌, ◌++◌, find, option_map}
+use Rattle.std.specs.List.{list_any}
+use Rattle.std.specs.Prelude.{drop, fold, length, map, position, replicate, slice_get, take, Option, Some, None, Result, Ok}
+use Rattle.ufs_spec.specs.Commands.{Command}
+use Rattle.ufs_spec.specs.Exchanges.{CheckCondition, ReadState}
+use Rattle.ufs_spec.specs.FrameRequests.{first_page, pages_named, reads_area}
+use Rattle.ufs_spec.specs.Frames.{Frame}
+use Rattle.ufs_spec.specs.Keys.{IsCommand, IsKey, IsPlain, area_key, below, content, group_of}
+use Rattle.ufs_spec.specs.Ledger.{all_contents, look, next_number}
+use Rattle.ufs_spec.specs.Moves.{Accept, IsAllowedMove, Keep, LetGoAll, Move, Release, is_pin_of, moved}
+use Rattle.ufs_spec.specs.Plain.{CanApply, Plain, region_of, shape_of_numbers, zero_block}
+use Rattle.ufs_spec.specs.Rpmb.{Region, applied, rpmb_outcome}
+use Rattle.ufs_spec.specs.RpmbResponses.{emptied_by, filled_with, with_reads}
+use Rattle.ufs_spec.specs.Replies.{is_at_hand, is_read}
+use Rattle.ufs_spec.specs.Translation.{Translation, is_locked, is_mended}
+use Rattle.ufs_spec.specs.declared.flash.Key.{Key}
+use Rattle.ufs_spec.specs.declared.scsi.Sense.{Sense}
+use Rattle.ftl_core.specs.Public.{Claims, Core, Describes, PinsDiffer, keeps_for, with_claimed}
+use Rattle.rpmb.specs.Answers.{IsRead, waiting_in}
+use Rattle.rpmb.specs.Kept.{IsKept, Machine}
+use Rattle.rpmb.specs.Outcomes.{command_of, outcome_of, status_of}
+use Rattle.rpmb.specs.Requests.{frames_of}
+use Rattle.rpmb.specs.declared.requests.AreaBlocks.{AreaBlocks}
+use Rattle.rpmb.specs.declared.outcomes.Accepted.{Accepted}
+use Rattle.rpmb.specs.declared.outcomes.Accepted.TheVariants as accepted
+use Rattle.rpmb.specs.declared.outcomes.Outcome.{Outcome}
+use Rattle.rpmb.specs.declared.outcomes.Outcome.TheVariants as outcome
+use Rattle.task_set.specs.Kept.{OpenTask}
+use Rattle.task_set.specs.Lists.{task_keeps}
+use Rattle.task_set.specs.Tasks.{is_decided}
+use Rattle.task_set.specs.Frames.{area_part, read_kept}
+use Rattle.task_set.specs.declared.frames.AreaPart.{AreaPart}
+use Rattle.task_set.specs.declared.frames.AreaReading.{AreaReading}
+use Rattle.task_set.specs.declared.frames.PageRead.{PageRead}
+use Rattle.task_set.specs.declared.frames.PageRead.TheVariants as page
+use Rattle.task_set.specs.declared.frames.Frames.{Frames}
+use Rattle.task_set.specs.declared.frames.Frames.TheVariants.{Answered, Decided, NotBrought, Undecided}
+use Rattle.task_set.specs.declared.tasks.Phase.{Phase}
+use Rattle.task_set.specs.declared.tasks.Phase.TheVariants as phase
+use Rattle.task_set.specs.declared.tasks.Status.{Status}
+use Rattle.task_set.specs.declared.tasks.Status.TheVariants as status
+use Rattle.task_set.specs.declared.tasks.TaskEvent.{TaskEvent}
+use Rattle.task_set.specs.declared.tasks.TaskEvent.TheVariants as event
+use Rattle.device.specs.Calls.{frame_slots, with_event}
+use Rattle.device.specs.Kept.{DeviceCore, IsLayerWith}
+use Rattle.device.specs.Replies.{block_for}
+use Rattle.device.specs.declared.plans.Plan.{Plan}
+use Rattle.device.specs.declared.plans.Plan.TheVariants as plan
+
+-- Tasks that begin
+
+-- what a task has to do with frames for which this was planned
+abbrev pub frames_brought : Result Plan Status → Frames
+frames_brought (Ok (plan.AskFrames size)) = Undecided
+frames_brought planned = NotBrought
+
+-- bytes of a block of the pool: these, and zeros behind them
+abbrev pub with_zeros : List ℕ → List ℕ
+with_zeros bytes = bytes ++ drop (length bytes) zero_block
+
+-- a block of the pool in which stands what waits for SECURITY PROTOCOL IN, as much as it has room for
+abbrev pub waiting_in_block : Machine → List ℕ → List ℕ
+waiting_in_block m block =
+    take (min (length (waiting_in m.registers)) 4096) (waiting_in m.registers)
+    ++ drop (min (length (waiting_in m.registers)) 4096) block
+
+-- the same with zeros behind it
+abbrev pub waiting_held : Machine → List ℕ
+waiting_held m = waiting_in_block m zero_block
+
+-- nothing waits in the response register
+abbrev pub with_none_waiting : Machine → Machine
+with_none_waiting m = record m { registers = record m.registers { response = [] } }
+
+-- the task at this position keeps these bytes in its block of the pool
+abbrev pub with_held : DeviceCore → ℕ → List ℕ → DeviceCore
+with_held d k bytes = record d { tasks = task_keeps d.tasks k bytes (slice_get d.tasks k) }
+
+-- what waits goes to the task at this position
+abbrev pub handed_over : DeviceCore → ℕ → DeviceCore
+handed_over d k = record (with_held d k (waiting_held d.rpmb)) { rpmb = with_none_waiting d.rpmb }
+
+-- what waits goes to the last task, where that was planned for it
+abbrev pub frames_taken : DeviceCore → Result Plan Status → DeviceCore
+frames_taken d (Ok (plan.TakeFrames size taken)) = handed_over d (length d.tasks - 1)
+frames_taken d planned = d
+
+-- Frames that came
+
+-- the layer, where the reader gave back what it had claimed
+abbrev pub HasReleased : Core → Core → ℕ → Type 0
+HasReleased before after tag =
+    (t : Translation) (claims : Claims) → IsLayerWith before t claims →
+    IsLayerWith after (moved t (Release (length (claims tag)))) (with_claimed claims tag [])
+
+-- frames are refused with this sense: their task gives back its slots, and nothing else changes
+pub record HasRefused (before after : DeviceCore) (tag index : ℕ) (sense : Sense) : Type 0 where
+  pub layer : Core
+  pub released : HasReleased before.ftl layer tag
+  pub after_is : after ≡ record (with_event before index (event.FramesRefused sense)) { ftl = layer }
+
+-- what a request without a command does: one for data that passed its checks reads its pages, any other is answered
+abbrev pub answer_event : List Frame → ℕ → TaskEvent
+answer_event [] code = event.RequestAnswered code
+answer_event (f ∷ fs) code =
+    if reads_area f code then event.AreaAsked code f.address f.count else event.RequestAnswered code
+
+-- the moves by which the pages of the area are kept that a request for data reads: each of them is wanted at once
+abbrev pub area_keeps : Translation → ℕ → Frame → List Move
+area_keeps t tag f =
+    map
+    (λ i. Keep (area_key 0 (first_page f + i))
+    (record { tag = tag; index = i; looked = look t.ledger (area_key 0 (first_page f + i)); wanted = true }))
+    (below (pages_named f))
+
+-- the moves of a request without a command
+abbrev pub answer_moves : Translation → ℕ → List Frame → ℕ → List Move
+answer_moves t tag [] code = []
+answer_moves t tag (f ∷ fs) code = if reads_area f code then area_keeps t tag f else []
+
+-- the reader may keep the pages in which the blocks lie that this frame asks for: it keeps nothing yet, they are pages of
+-- the area, one or two, and there is room for two, as no block is kept twice
+pub record MayKeepArea (t : Translation) (tag : ℕ) (f : Frame) : Type 0 where
+  pub mended : is_mended t.work.mending ≡ true
+  pub some : 1 ≤ f.count
+  pub few : f.count ≤ 8
+  pub keys : (i : ℕ) → i < pages_named f → IsKey (shape_of_numbers t.numbers) (area_key 0 (first_page f + i))
+  pub none : list_any (keeps_for tag) t.pins ≡ false
+  pub room : PinsDiffer t.pins → length t.pins + 2 ≤ 1024
+
+-- the pages in which these blocks lie are kept, each of them wanted at once, if they may be
+abbrev pub HasKeptArea : Core → Translation → Claims → ℕ → AreaBlocks → Type 0
+HasKeptArea after t claims tag asked =
+    (f : Frame) → f.address ≡ asked.address → f.count ≡ asked.count → MayKeepArea t tag f →
+    IsLayerWith after (fold moved t (area_keeps t tag f)) claims
+
+-- if these frames ask for data and passed their checks, their pages may be kept
+abbrev pub MayAnswer : Translation → ℕ → List Frame → ℕ → Type 0
+MayAnswer t tag [] code = Unit {0}
+MayAnswer t tag (f ∷ fs) code = reads_area f code ≡ true → MayKeepArea t tag f
+
+-- a request without a command gives its slots back, and keeps the pages that it reads
+pub record HasAnswered (before after : Core) (tag : ℕ) (frames : List Frame) (code : ℕ) (e : TaskEvent) : Type 0 where
+  pub event_is : e ≡ answer_event frames code
+  pub layer : (t : Translation) (claims : Claims) → IsLayerWith before t claims → MayAnswer t tag frames code →
+      IsLayerWith after
+      (fold moved (moved t (Release (length (claims tag)))) (answer_moves t tag frames code)) (with_claimed claims tag [])
+
+-- what is kept is that of this plain state, whose contents are those that all accepted groups leave
+pub record IsPlainOf (d : DeviceCore) (t : Translation) (p : Plain) : Type 0 where
+  pub plain : IsPlain p
+  pub contents : (k : Key) → IsKey (shape_of_numbers t.numbers) k → all_contents t.ledger k ≡ content p k
+  pub boot : d.boot ≡ p.boot
+  pub permanent : d.is_permanent ≡ p.permanent
+  pub region : IsKept d.rpmb.region (region_of p 0)
+
+-- this command may come now, and it is what these frames have accepted
+pub record MayComeNow (d : DeviceCore) (t : Translation) (p : Plain) (frames : List Frame) (what : Accepted)
+    (c : Command) : Type 0 where
+  pub command : command_of 0 frames what ≡ Some c
+  pub is : IsCommand c
+  pub plain : IsPlainOf d t p
+  pub can : CanApply p c
+  pub allowed : IsAllowedMove t (Accept frame_slots (group_of p c))
+
+-- a request is accepted: its group is put behind all that are pending, in the place of its slots; the key is set or the
+-- counter rises
+pub record HasAccepted (before after : DeviceCore) (tag : ℕ) (frames : List Frame) (code : ℕ) (what : Accepted)
+    (e : TaskEvent) : Type 0 where
+  pub event_is : (t : Translation) → Describes before.ftl t → e ≡ event.RequestAccepted code (next_number t.ledger)
+  pub layer : (t : Translation) (claims : Claims) (p : Plain) (c : Command) → IsLayerWith before.ftl t claims →
+      claims tag ≡ replicate frame_slots zero_block → MayComeNow before t p frames what c →
+      IsLayerWith after.ftl (moved t (Accept frame_slots (group_of p c))) (with_claimed claims tag [])
+  pub registers : after.rpmb.registers ≡ before.rpmb.registers
+  pub region : (number : ℕ) (region : Region) → IsKept before.rpmb.region region →
+      length (applied region (command_of number frames what)).area ≡ length region.area →
+      IsKept after.rpmb.region (applied region (command_of number frames what))
+
+-- what a request does, by what is accepted of it
+abbrev pub IsDecided : DeviceCore → DeviceCore → ℕ → List Frame → ℕ → Accepted → TaskEvent → Type 0
+IsDecided before after tag frames code accepted.Nothing e =
+    HasAnswered before.ftl after.ftl tag frames code e × (after.rpmb ≡ before.rpmb)
+IsDecided before after tag frames code what e = HasAccepted before after tag frames code what e
+
+-- the response register is emptied, by a key or a write the result register too
+abbrev pub with_emptied : DeviceCore → List Frame → DeviceCore
+with_emptied d frames =
+    record d { rpmb = record d.rpmb { registers = emptied_by frames d.rpmb.registers } }
+
+-- the frames are a request with this result, of which this is accepted: its task keeps them, and the registers are
+-- emptied
+pub record HasRequested (before after : DeviceCore) (tag index : ℕ) (bytes : List ℕ) (code : ℕ) (what : Accepted) : Type 0
+  where
+    pub layer : Core
+    pub rpmb : Machine
+    pub event : TaskEvent
+    pub decided : IsDecided (with_held before index (with_zeros bytes))
+        (record (with_held before index (with_zeros bytes)) { ftl = layer; rpmb = rpmb }) tag (frames_of bytes) code what
+        event
+    pub after_is : after ≡
+        with_event
+        (with_emptied (record (with_held before index (with_zeros bytes)) { ftl = layer; rpmb = rpmb })
+        (frames_of bytes)) index event
+
+-- what is done by what was decided
+abbrev pub HasDone : DeviceCore → DeviceCore → ℕ → ℕ → List ℕ → Outcome → Type 0
+HasDone before after tag index bytes (outcome.Refused why) =
+    (sense : Sense) × (CheckCondition sense ≡ status_of why) × HasRefused before after tag index sense
+HasDone before after tag index bytes (outcome.Results code what) =
+    HasRequested before after tag index bytes code what
+
+-- the frames are decided by key, counter and registers as they stand, and by the lock
+pub record HasDecided (before after : DeviceCore) (tag index : ℕ) (bytes : List ℕ) : Type 0 where
+  pub outcome : Outcome
+  pub outcome_is : (t : Translation) (number : ℕ) (region : Region) → Describes before.ftl t →
+      IsKept before.rpmb.region region →
+      rpmb_outcome number region before.rpmb.registers (is_locked t) (frames_of bytes)
+      ≡ outcome_of number (frames_of bytes) outcome
+  pub done : HasDone before after tag index bytes outcome
+
+-- Requests that fill a register
+
+-- a page of the area needs no read any more: it was read or could not be read, or what the reader keeps of it is at hand
+abbrev pub is_page_there : Translation → ℕ → ℕ → PageRead → Bool
+is_page_there t tag index how =
+    is_read (read_kept how) (is_at_hand t.work.rests (find (is_pin_of tag index) t.pins))
+
+-- the same of the second page, if there is one
+abbrev pub is_second_there : Translation → ℕ → Option PageRead → Bool
+is_second_there t tag None = true
+is_second_there t tag (Some how) = is_page_there t tag 1 how
+
+-- whether GOOD is due to the task of this tag in this phase that has a request: at once, once its group is durable, or
+-- once no page of the area needs a read any more
+abbrev pub is_due_in : Translation → ℕ → Phase → Bool
+is_due_in t tag (phase.AwaitFrontier number size) = nat_le number t.ledger.frontier
+is_due_in t tag (phase.ReadArea r) = is_page_there t tag 0 r.first && is_second_there t tag r.second
+is_due_in t tag (phase.Answer status.Good size) = true
+is_due_in t tag p = false
+
+-- the same of the task at a position, if there is one
+abbrev pub is_due_to : Translation → Option OpenTask → Bool
+is_due_to t None = false
+is_due_to t (Some a) = is_due_in t a.tag a.phase
+
+-- the position of a task whose GOOD is due
+abbrev pub due_at : Translation → DeviceCore → Option ℕ → Option ℕ
+due_at t d None = None
+due_at t d (Some k) = if is_due_to t (slice_get d.tasks k) then Some k else None
+
+-- the position of the task whose request fills its register now: only one task at a time has a request
+abbrev pub to_answer : Translation → DeviceCore → Option ℕ
+to_answer t d = due_at t d (position is_decided d.tasks)
+
+-- the first frame of what is kept, if something is
+abbrev pub first_held : Option (List ℕ) → List ℕ
+first_held None = []
+first_held (Some bytes) = take 512 bytes
+
+-- the first frame of the request that a task keeps
+abbrev pub frame_held : OpenTask → List ℕ
+frame_held a = first_held a.held
+
+-- the part of a page that was read, as it stands in the block of its task
+abbrev pub part_held : AreaPart → List ℕ → List ℕ
+part_held p held = take p.length (drop p.at held)
+
+-- the part of a page that is asked for, in the page
+abbrev pub part_of_page : AreaPart → List ℕ → List ℕ
+part_of_page p body = take p.length (drop p.from body)
+
+-- the part that is asked for of the page of this index: from the block of the task if the page was read, from what the task
+-- keeps if the page is at hand; none if it could not be read
+abbrev pub part_read : Translation → OpenTask → AreaReading → ℕ → PageRead → Option (List ℕ)
+part_read t a r index page.WasRead = option_map (part_held (area_part r index)) a.held
+part_read t a r index page.Unread = option_map (part_of_page (area_part r index)) (block_for t None a.tag index)
+part_read t a r index page.NotRead = None
+
+-- two parts in one piece, if both are there
+abbrev pub joined : Option (List ℕ) → Option (List ℕ) → Option (List ℕ)
+joined None later = None
+joined (Some first) None = None
+joined (Some first) (Some later) = Some (first ++ later)
+
+-- the part that is asked for of the second page: nothing if all blocks lie in the first one
+abbrev pub second_part : Translation → OpenTask → AreaReading → Option PageRead → Option (List ℕ)
+second_part t a r None = Some []
+second_part t a r (Some how) = part_read t a r 1 how
+
+-- the data that a request asks for, in one piece; none if one of its pages could not be read
+abbrev pub area_data : Translation → OpenTask → AreaReading → Option (List ℕ)
+area_data t a r = joined (part_read t a r 0 r.first) (second_part t a r r.second)
+
+-- what was read for the request of a task in this phase: nothing, unless it asks for data
+abbrev pub data_for : Translation → OpenTask → Phase → Option (List ℕ)
+data_for t a (phase.ReadArea r) = area_data t a r
+data_for t a p = Some []
+
+-- the request of the task fills its register, by what was read for it
+abbrev pub HasResponded : Machine → Machine → OpenTask → ℕ → Option (List ℕ) → Type 0
+HasResponded before after a code read =
+    (region : Region) (pages : List ReadState) → IsKept before.region region →
+    IsRead region (frames_of (frame_held a)) code pages read →
+    after
+    ≡ record before {
+      registers = filled_with region (frames_of (frame_held a)) (with_reads pages code) before.registers;
+    }
+
+-- the task at this position fills its register, and keeps nothing any more
+pub record HasFilledAt (before after : DeviceCore) (t : Translation) (claims : Claims) (k : ℕ) : Type 0 where
+  pub task : OpenTask
+  pub there : slice_get before.tasks k ≡ Some task
+  pub due : is_due_in t task.tag task.phase ≡ true
+  pub code : ℕ
+  pub decided : task.frames ≡ Decided code
+  pub layer : Core
+  pub layer_is : IsLayerWith layer (moved t (LetGoAll task.tag)) claims
+  pub rpmb : Machine
+  pub responded : HasResponded before.rpmb rpmb task code (data_for t task task.phase)
+  pub after_is : after ≡ record (with_event before k event.RegisterFilled) { ftl = layer; rpmb = rpmb }
+
+-- the task whose GOOD is due fills its register, if one does
+abbrev pub HasFilledBy : DeviceCore → DeviceCore → Translation → Claims → Option ℕ → Type 0
+HasFilledBy before after t claims None = after ≡ before
+HasFilledBy before after t claims (Some k) = HasFilledAt before after t claims k
+
+-- what became due fills its register
+abbrev pub HasFilled : DeviceCore → DeviceCore → Type 0
+HasFilled before after =
+    (t : Translation) (claims : Claims) → IsLayerWith before.ftl t claims →
+    HasFilledBy before after t claims (to_answer t before)

@@ -1,0 +1,287 @@
+//! The frames of a SECURITY PROTOCOL OUT: what is decided of them, and what answers them
+//! (JESD220, 12.4).
+ghost use Rattle.std.specs.Prelude.{◌≡◌, ◌≤◌, ◌<◌, ℕ, IfSome, Some, length, option_copied};
+ghost use Rattle.std.specs.Prelude.{slice_get};
+ghost use Rattle.ufs_spec.specs.Exchanges.{CheckCondition};
+ghost use Rattle.ufs_spec.specs.Moves.{LetGoAll, moved};
+ghost use Rattle.ufs_spec.specs.Translation.{Translation};
+ghost use Rattle.ftl_core.specs.Public.{Claims, Describes as IsLayer};
+ghost use Rattle.device.specs.Calls.{HasClaimedFrames, frames_phase, with_event};
+ghost use Rattle.device.specs.Frames.{HasAnswered, HasDecided, HasFilled, HasRefused, HasRequested};
+ghost use Rattle.device.specs.Frames.{HasResponded, IsDecided, data_for, frames_brought};
+ghost use Rattle.device.specs.Frames.{frames_taken, handed_over, is_due_to, to_answer};
+ghost use Rattle.device.specs.Frames.{waiting_in_block, with_held, with_none_waiting, with_zeros};
+ghost use Rattle.rpmb.specs.Answers.{AreFew};
+ghost use Rattle.device.specs.Groups.{HasNumberFor};
+ghost use Rattle.device.specs.Kept.{IsLayerWith};
+ghost use Rattle.rpmb.specs.Outcomes.{MayChange};
+ghost use Rattle.rpmb.specs.Requests.{frames_of};
+ghost use Rattle.task_set.specs.Kept.{OpenTask};
+
+use crate::checks::FRAME_SLOTS;
+use crate::device::Device;
+use crate::plans::Plan;
+use crate::replies::zeros;
+use rpmb::{Accepted, Outcome, Rpmb, asked_area};
+use task_set::{Frames, Phase, Status, TaskEvent};
+use ufs_spec::{Block, Sense};
+
+/// How many bytes a frame has.
+const FRAME: usize = 512;
+
+/// How far a SECURITY PROTOCOL IN is that begins, with frames of so many bytes of which its host
+/// takes so many: where that is none, it is done.
+pub(crate) fn frames_phase(length: u32, taken: u32) -> Phase
+    ensures { result ≡ frames_phase length taken }
+{
+    if taken == 0 {
+        Phase::good(length)
+    } else {
+        Phase::SendFrames { length }
+    }
+}
+
+/// What a task has to do with frames for which this was planned.
+pub(crate) fn frames_of(planned: Result<Plan, Status>) -> Frames
+    ensures { result ≡ frames_brought planned }
+{
+    match planned {
+        Ok(Plan::AskFrames { length: _ }) => Frames::Undecided,
+        _ => Frames::NotBrought,
+    }
+}
+
+/// A block in which these bytes stand, with zeros behind them.
+#[tactic(auto, unfolding(ufs_spec::specs::Plain::zero_block))]
+fn block_of(bytes: &[u8]) -> Block
+    requires { length bytes.now ≤ 4096 }
+    ensures { result ≡ with_zeros bytes.now }
+{
+    let mut block = [0; 4096];
+    block[..bytes.len()].copy_from_slice(bytes);
+    block
+}
+
+/// What waits stands in the block, as much as there is room for, and waits no longer.
+fn take_waiting(rpmb: &mut Rpmb, into: &mut Block)
+    ensures block { into.new ≡ waiting_in_block rpmb.old into.old }
+    ensures emptied { rpmb.new ≡ with_none_waiting rpmb.old }
+{
+    rpmb.input(into);
+}
+
+impl Device {
+    /// A SECURITY PROTOCOL OUT claims slots for the pages that an RPMB write may have.
+    pub(crate) fn begin_frames(&mut self, tag: u8, length: u32) -> Phase
+        ensures left { self.new ≡ record self.old { ftl = self.new.ftl } }
+        ensures begun { (t : Translation) (claims : Claims) → IsLayerWith self.old.ftl t claims →
+            HasClaimedFrames self.new.ftl t claims tag length result }
+    {
+        if self.ftl.reserve(tag, FRAME_SLOTS) {
+            Phase::AskFrames { length }
+        } else {
+            Phase::Answer {
+                status: Status::Busy,
+                length: 0,
+            }
+        }
+    }
+
+    /// The frames that wait go to the last task, if this was planned for it: the response register
+    /// is empty from now on.
+    pub(crate) fn take_frames(&mut self, planned: Result<Plan, Status>)
+        requires { 0 < length self.old.tasks }
+        ensures { self.new ≡ frames_taken self.old planned }
+    {
+        if let Ok(
+            Plan::TakeFrames {
+                length: _,
+                taken: _,
+            },
+        ) = planned
+        {
+            let last = self.set.count() - 1;
+            self.hand_over(last);
+        }
+    }
+
+    /// The frames that wait go to the task at this position.
+    fn hand_over(&mut self, index: usize)
+        requires { index < length self.old.tasks }
+        ensures { self.new ≡ handed_over self.old index }
+    {
+        let mut frames: Block = *zeros();
+        take_waiting(&mut self.rpmb, &mut frames);
+        self.set.keep(index, &frames);
+    }
+
+    /// All frames of the task of this position and tag came.
+    #[tactic(auto, using(crate::proofs::host_messages::RequestPut::number_left))]
+    pub(crate) fn hear_frames(&mut self, index: usize, tag: u8, frames: &[u8])
+        requires there { index < length self.old.tasks }
+        requires few { length frames.now ≤ 4096 }
+        ensures { HasDecided self.old self.new tag index frames.now }
+    {
+        let is_locked = self.ftl.is_locked();
+        match self.rpmb.out(frames, is_locked) {
+            Outcome::Refused(why) => self.refuse_frames(index, tag, why.sense()),
+            Outcome::Results { result, accepted } => {
+                self.begin_request(index, tag, frames, result, &accepted);
+            }
+        }
+    }
+
+    /// The frames are refused with this sense, and change nothing.
+    fn refuse_frames(&mut self, index: usize, tag: u8, sense: Sense)
+        requires { index < length self.old.tasks }
+        ensures { HasRefused self.old self.new tag index sense }
+    {
+        self.ftl.release(tag);
+        self.happen(index, TaskEvent::FramesRefused { sense });
+    }
+
+    /// The frames are a request with this result, of which this is accepted.
+    fn begin_request(
+        &mut self,
+        index: usize,
+        tag: u8,
+        frames: &[u8],
+        code: u16,
+        accepted: &Accepted,
+    )
+        requires there { index < length self.old.tasks }
+        requires few { length frames.now ≤ 4096 }
+        requires may { MayChange accepted.now self.old.rpmb.region }
+        requires numbered { HasNumberFor accepted.now self.old.ftl }
+        ensures { HasRequested self.old self.new tag index frames.now code accepted.now }
+    {
+        self.keep_frames(index, frames);
+        let event = self.decide(tag, frames, code, accepted);
+        self.rpmb.begin(frames);
+        self.happen(index, event);
+    }
+
+    /// The task at this position keeps the frames, with zeros behind them.
+    fn keep_frames(&mut self, index: usize, frames: &[u8])
+        requires there { index < length self.old.tasks }
+        requires few { length frames.now ≤ 4096 }
+        ensures { self.new ≡ with_held self.old index (with_zeros frames.now) }
+    {
+        self.set.keep(index, &block_of(frames));
+    }
+
+    /// What a request with this result does: what is accepted is put behind all that was accepted;
+    /// any other request is answered, or reads what it asks for.
+    fn decide(&mut self, tag: u8, frames: &[u8], code: u16, accepted: &Accepted) -> TaskEvent
+        requires few { length frames.now ≤ 4096 }
+        requires may { MayChange accepted.now self.old.rpmb.region }
+        requires numbered { HasNumberFor accepted.now self.old.ftl }
+        ensures left { self.new ≡ record self.old { ftl = self.new.ftl; rpmb = self.new.rpmb } }
+        ensures done { IsDecided self.old self.new tag (frames_of frames.now) code accepted.now
+            result }
+    {
+        match accepted {
+            Accepted::Nothing => self.answer_request(tag, frames, code),
+            Accepted::Key(_) => self.accept_request(tag, frames, code, accepted),
+            Accepted::Write { .. } => self.accept_request(tag, frames, code, accepted),
+        }
+    }
+
+    /// A request that accepts nothing gives its slots back. One for data that passed its checks
+    /// reads its pages; any other is answered at once.
+    fn answer_request(&mut self, tag: u8, frames: &[u8], code: u16) -> TaskEvent
+        ensures left { self.new ≡ record self.old { ftl = self.new.ftl } }
+        ensures answered { HasAnswered self.old.ftl self.new.ftl tag (frames_of frames.now) code
+            result }
+    {
+        self.ftl.release(tag);
+        match asked_area(frames, code) {
+            None => TaskEvent::RequestAnswered { code },
+            Some(asked) => self.ask_area(tag, code, asked),
+        }
+    }
+
+    /// The position of the task whose request has its GOOD due now and is yet to fill its register.
+    fn to_answer(&self) -> Option<usize>
+        ensures what { (t : Translation) → IsLayer self.now.ftl t → result ≡ to_answer t self.now }
+        ensures within { IfSome result (λ k. k < length self.now.tasks) }
+    {
+        let index = self.set.decided()?;
+        self.is_good_due(index).then_some(index)
+    }
+
+    /// A request whose GOOD is due fills its register, and its task keeps nothing any more.
+    pub(crate) fn fill_register(&mut self)
+        ensures { HasFilled self.old self.new }
+    {
+        if let Some(index) = self.to_answer() {
+            self.answer(index);
+            self.end_request(index);
+        }
+    }
+
+    /// The request of the task at this position has filled its register, and its task keeps nothing
+    /// any more.
+    fn end_request(&mut self, index: usize)
+        requires { index < length self.old.tasks }
+        ensures left { self.new
+            ≡ record (with_event self.old index TaskEvent.RegisterFilled) { ftl = self.new.ftl } }
+        ensures layer { (t : Translation) (claims : Claims) (task : OpenTask) →
+            IsLayerWith self.old.ftl t claims → slice_get self.old.tasks index ≡ Some task →
+            IsLayerWith self.new.ftl (moved t (LetGoAll task.tag)) claims }
+    {
+        let task = self.set.task(index);
+        self.ftl.unpin(task.tag);
+        self.happen(index, TaskEvent::RegisterFilled);
+    }
+
+    /// The request of the task at this position fills its register.
+    fn answer(&mut self, index: usize)
+        requires { index < length self.old.tasks }
+        ensures left { self.new ≡ record self.old { rpmb = self.new.rpmb } }
+        ensures responded { (t : Translation) (task : OpenTask) (code : ℕ) →
+            IsLayer self.old.ftl t → slice_get self.old.tasks index ≡ Some task →
+            task.frames ≡ Frames.Decided code →
+            HasResponded self.old.rpmb self.new.rpmb task code (data_for t task task.phase) }
+    {
+        let task = self.set.task(index);
+        if let Frames::Decided { code } = task.frames {
+            match self.data_for(index, &task) {
+                None => self.respond(index, code, None),
+                Some(data) => self.respond(index, code, Some(data.as_slice())),
+            }
+        }
+    }
+
+    /// The request of the task at this position, which has this result, fills its register by these
+    /// data that were read for it: none if a page of them could not be read.
+    fn respond(&mut self, index: usize, code: u16, data: Option<&[u8]>)
+        requires there { index < length self.old.tasks }
+        requires few { AreFew (option_copied «data») }
+        ensures left { self.new ≡ record self.old { rpmb = self.new.rpmb } }
+        ensures responded { (task : OpenTask) → slice_get self.old.tasks index ≡ Some task →
+            HasResponded self.old.rpmb self.new.rpmb task code (option_copied «data».entry) }
+    {
+        if let Some(held) = self.set.held(index) {
+            self.rpmb.respond(&held[..FRAME], code, data);
+        }
+    }
+
+    /// Whether GOOD is due to the task at this position.
+    fn is_good_due(&self, index: usize) -> bool
+        requires { index < length self.now.tasks }
+        ensures { (t : Translation) → IsLayer self.now.ftl t →
+            result ≡ is_due_to t (slice_get self.now.tasks index) }
+    {
+        let task = self.set.task(index);
+        match task.phase {
+            Phase::AwaitFrontier { number, length: _ } => number <= self.ftl.frontier(),
+            Phase::ReadArea { reading } => self.is_area_there(task.tag, reading),
+            Phase::Answer {
+                status: Status::Good,
+                length: _,
+            } => true,
+            _ => false,
+        }
+    }
+}

@@ -1,0 +1,21 @@
+use Rattle.std.proofs.Common.{◌∙◌, true}
+use Rattle.ftl_core.proofs.look_and_accept.KeptBlocks.{claims_stay, keeps_told, pins_differ, room_told}
+use Rattle.ftl_core.proofs.ftl.Ftl.keep_area.Goals as goal
+
+pub returns-clause-described_found : goal.returns-clause-described_found
+returns-clause-described_found c =
+    λ t h. c.keep_all.ensures.found ∙ room_told c.args.self.now t c.args.pages h
+
+pub returns-clause-described_differ : goal.returns-clause-described_differ
+returns-clause-described_differ c = λ t h. pins_differ c.args.self.now t h
+
+pub returns-clause-described : goal.returns-clause-described
+returns-clause-described c =
+    λ t h mended.
+    keeps_told c.args.self.now c.keep_all.new.self c.args.reader c.args.key true c.args.pages c.keep_all.result
+    c.keep_all.ensures.after c.has_numbers_in_range.ensures t h mended
+
+pub returns-clause-claims : goal.returns-clause-claims
+returns-clause-claims c =
+    claims_stay c.args.self.now c.keep_all.new.self c.args.reader c.args.key true c.args.pages c.keep_all.result
+    c.keep_all.ensures.after

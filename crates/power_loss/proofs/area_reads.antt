@@ -1,0 +1,4 @@
+pub mod AreaKept
+pub mod AreaStays
+pub mod OneAtATime
+pub mod PagesRead

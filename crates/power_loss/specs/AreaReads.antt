@@ -1,0 +1,77 @@
+-- What a request for data reads of the RPMB area: it shows the area as it is now, as long as the request is open, since
+-- only one task at a time can change the area (JESD220, 12.4).
+use Rattle.std.specs.Prelude.{◌≡◌, ℕ, ◌+◌, Bool, true, false, List, [], ◌∷◌, length, map, slice_get, Option, Some, None}
+use Rattle.std.specs.List.{AllByRecursion, list_any}
+use Rattle.ufs_spec.specs.Exchanges.{Answering, Awaiting, Deed, ForFrames, ForUnmap, ForWrite, Gathering, Purpose}
+use Rattle.ufs_spec.specs.Exchanges.{ReadBlock, ReadingArea, RpmbRequest, Sending, SendingBytes, Task}
+use Rattle.ufs_spec.specs.FrameRequests.{first_page, pages_named}
+use Rattle.ufs_spec.specs.Frames.{Frame}
+use Rattle.ufs_spec.specs.Keys.{area_key, below, content}
+use Rattle.ufs_spec.specs.Plain.{Plain}
+use Rattle.ufs_spec.specs.Refusals.{State, plain_now, sends_frames}
+use Rattle.ufs_spec.specs.declared.scsi.Cdb.{Cdb}
+
+-- ## Pages
+
+-- the pages of a region's area that a request names by its first frame, as they are in this plain state
+abbrev pub area_bodies : Plain → ℕ → Frame → List (List ℕ)
+area_bodies p region f = map (λ i. content p (area_key region (first_page f + i))) (below (pages_named f))
+
+-- the pages that are read have these bodies; a request that reads pages has a frame
+abbrev pub FramesShow : Plain → ℕ → List Frame → List ReadBlock → Type 0
+FramesShow p region [] pages = ⊥
+FramesShow p region (f ∷ fs) pages = map (λ (page : ReadBlock). page.body) pages ≡ area_bodies p region f
+
+-- the same of the request of a task; a task that reads the area has one
+abbrev pub RequestShows : Plain → Option RpmbRequest → List ReadBlock → Type 0
+RequestShows p None pages = ⊥
+RequestShows p (Some request) pages = FramesShow p request.region request.frames pages
+
+-- ## Tasks
+
+-- what gathers frames is a SECURITY PROTOCOL OUT
+abbrev pub GathersRightly : Purpose → Option Cdb → Type 0
+GathersRightly (ForFrames region) command = sends_frames command ≡ true
+GathersRightly (ForWrite unit address blocks forced) command = Unit {0}
+GathersRightly (ForUnmap unit) command = Unit {0}
+
+-- and so is what reads the area, and the pages that it reads are as they are in this plain state
+abbrev pub DeedShows : Plain → Option Cdb → Option RpmbRequest → Deed → Type 0
+DeedShows p command request (Gathering purpose gathered asked) = GathersRightly purpose command
+DeedShows p command request (ReadingArea pages) = (sends_frames command ≡ true) × RequestShows p request pages
+DeedShows p command request (Sending blocks sent) = Unit {0}
+DeedShows p command request (SendingBytes bytes) = Unit {0}
+DeedShows p command request (Awaiting commands) = Unit {0}
+DeedShows p command request (Answering status carried) = Unit {0}
+
+-- the same of a task
+abbrev pub ShowsArea : Plain → Task → Type 0
+ShowsArea p task = DeedShows p task.command task.request task.deed
+
+-- the task brings frames, or has brought them: it is a SECURITY PROTOCOL OUT that was not refused
+abbrev pub brings_frames : Task → Bool
+brings_frames task = sends_frames task.command
+
+-- no more than one of the tasks brings frames
+abbrev pub OneBrings : List Task → Type 0
+OneBrings [] = Unit {0}
+OneBrings (task ∷ tasks) = (brings_frames task ≡ true → list_any brings_frames tasks ≡ false) × OneBrings tasks
+
+-- no more than one of the tasks brings frames, and each that reads the area shows it as it is in this plain state
+pub record AreaReadsOf (p : Plain) (tasks : List Task) : Type 0 where
+  pub one : OneBrings tasks
+  pub shows : AllByRecursion (ShowsArea p) tasks
+
+-- the same of a state, as it is now
+abbrev pub AreaReads : State → Type 0
+AreaReads s = AreaReadsOf (plain_now s) s.tasks
+
+-- ## For use
+
+-- the pages are those that the first frame of a request names of the region's area: as many, each with its content in
+-- this plain state
+pub record ArePagesOf (p : Plain) (region : ℕ) (f : Frame) (pages : List ReadBlock) : Type 0 where
+  pub bodies : map (λ (page : ReadBlock). page.body) pages ≡ area_bodies p region f
+  pub count : length pages ≡ pages_named f
+  pub each : (i : ℕ) (page : ReadBlock) → slice_get pages i ≡ Some page →
+      page.body ≡ content p (area_key region (first_page f + i))

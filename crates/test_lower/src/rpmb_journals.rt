@@ -1,0 +1,230 @@
+//! What a journal takes from requests to the replay protected memory block, and the comparison of
+//! what was found of it. The MACs are those of another HMAC with SHA-256.
+use geometry::Config;
+use journal::{FoundRegion, Journal, can_apply, device_holding, is_kept};
+use rpmb::RegionState;
+use std::alloc::Global;
+use std::process::Abort;
+use std::test::Fail;
+use ufs_spec::{Block, Cmd, PlainDevice, UnitSpec, commands_keep_the_shape};
+use workbench::frames::{FrameBytes, Numbers, frame, frames_command, frames_good, frames_out};
+
+/// The key.
+const KEY: [u8; 32] = [0x0B; 32];
+
+/// The MACs of a write of a block of bytes 77h to address 3, under the counter 0 and under the
+/// counter 1.
+const FIRST: [u8; 32] = [
+    0x29, 0x11, 0xE5, 0xE9, 0x43, 0x96, 0x32, 0xF4, 0x5F, 0xE7, 0x6C, 0xB3, 0x0D, 0xFC, 0x67, 0xE7,
+    0x3E, 0xA6, 0x77, 0x4C, 0x18, 0xE2, 0x7B, 0x09, 0x77, 0x9C, 0xBC, 0x7C, 0xA5, 0x15, 0x17, 0x76,
+];
+
+const NEXT: [u8; 32] = [
+    0x47, 0x15, 0x68, 0x25, 0x98, 0x6A, 0xD4, 0xBA, 0xE3, 0x53, 0x11, 0x97, 0x1A, 0x40, 0x51, 0x49,
+    0x3F, 0xE8, 0xD0, 0xE7, 0x37, 0x43, 0xE8, 0x86, 0xA1, 0x2F, 0xEC, 0x56, 0x8A, 0x02, 0xC7, 0x75,
+];
+
+/// How many bytes the area has.
+const AREA: usize = 131_072;
+
+/// The frame that programs the key.
+fn key_request() -> FrameBytes {
+    let numbers = Numbers {
+        counter: 0,
+        address: 0,
+        count: 0,
+        code: 0,
+        kind: 1,
+    };
+    frame(&KEY, 0, numbers)
+}
+
+/// The write under this counter, with this MAC.
+fn write_request(mac: &[u8; 32], counter: u32) -> FrameBytes {
+    let numbers = Numbers {
+        counter,
+        address: 3,
+        count: 1,
+        code: 0,
+        kind: 3,
+    };
+    frame(mac, 0x77, numbers)
+}
+
+/// The journal hears a request of this frame, with this tag.
+fn bring(alloc: Global, journal: &mut Journal, tag: u8, asked: &FrameBytes) -> Result<(), Fail> {
+    journal.hear(alloc, &frames_command(tag, 1))?;
+    Ok(journal.hear(alloc, frames_out(tag, &[*asked]).as_slice())?)
+}
+
+/// Compares how many commands the journal has, how many of them are held, and the counter.
+fn expect_counts(rt: &impl Abort, journal: &Journal, accepted: usize, held: usize, counter: u32) {
+    assert!(rt; journal.commands().len() == accepted);
+    assert!(rt; journal.held() == held);
+    assert!(rt; journal.region().counter == counter);
+}
+
+/// A key and a write are accepted with their frames, and each is held once it is answered GOOD. A
+/// second key, a wrong MAC, the same write again, and one on a locked device are not accepted.
+#[test]
+fn accepted_requests_are_noted(rt: HostRuntime) -> Result<(), Fail> {
+    let alloc = rt.alloc();
+    let region = RegionState {
+        key: None,
+        counter: 0,
+        blocks: 512,
+    };
+    let mut journal = Journal::new(alloc, region);
+    bring(alloc, &mut journal, 1, &write_request(&FIRST, 0))?;
+    expect_counts(&rt, &journal, 0, 0, 0);
+    bring(alloc, &mut journal, 1, &key_request())?;
+    expect_counts(&rt, &journal, 1, 0, 0);
+    assert!(rt; journal.region().key == Some(KEY));
+    journal.tell(&frames_good(1));
+    expect_counts(&rt, &journal, 1, 1, 0);
+    bring(alloc, &mut journal, 2, &key_request())?;
+    bring(alloc, &mut journal, 3, &write_request(&NEXT, 0))?;
+    bring(alloc, &mut journal, 4, &write_request(&NEXT, 1))?;
+    expect_counts(&rt, &journal, 1, 1, 0);
+    bring(alloc, &mut journal, 5, &write_request(&FIRST, 0))?;
+    bring(alloc, &mut journal, 6, &write_request(&FIRST, 0))?;
+    journal.tell(&frames_good(6));
+    expect_counts(&rt, &journal, 2, 1, 1);
+    journal.tell(&frames_good(5));
+    expect_counts(&rt, &journal, 2, 2, 1);
+    journal.lock();
+    bring(alloc, &mut journal, 7, &write_request(&NEXT, 1))?;
+    expect_counts(&rt, &journal, 2, 2, 1);
+    Ok(())
+}
+
+/// One unit of one block.
+fn config() -> Result<Config, Fail> {
+    let units = [UnitSpec {
+        blocks: 1,
+        boot: 0,
+        protect: 0,
+    }];
+    Ok(Config::new(2, 32, 64, &units, 1, 64, 4)?)
+}
+
+/// The write of two blocks at address 3.
+fn rpmb_write(alloc: Global) -> Result<Cmd, Fail> {
+    let mut bytes = Vec::new(alloc);
+    bytes.resize(512, 0x77)?;
+    Ok(Cmd::RpmbWrite {
+        region: 0,
+        address: 3,
+        bytes,
+    })
+}
+
+/// A key, and that write.
+fn key_and_write(alloc: Global) -> Result<Vec<Cmd>, Fail> {
+    let mut commands = Vec::new(alloc);
+    commands.push(Cmd::SetKey {
+        region: 0,
+        key: KEY,
+    })?;
+    commands.push(rpmb_write(alloc)?)?;
+    Ok(commands)
+}
+
+/// An area of zeros, with so many bytes 77h from address 3 on.
+fn area(alloc: Global, written: usize) -> Result<Vec<u8>, Fail> {
+    let mut area = Vec::new(alloc);
+    area.resize(768, 0)?;
+    area.resize(768 + written.min(4096), 0x77)?;
+    area.resize(AREA, 0)?;
+    Ok(area)
+}
+
+/// The unit's block, which nobody wrote.
+fn units(alloc: Global) -> Result<Vec<Vec<Block>>, Fail> {
+    let mut blocks = Vec::new(alloc);
+    blocks.push([0; 4096])?;
+    let mut all = Vec::new(alloc);
+    all.push(blocks)?;
+    Ok(all)
+}
+
+/// Whether this region is found after a prefix of the two commands with so many of them held.
+fn keeps(
+    alloc: Global,
+    held: usize,
+    key: Option<[u8; 32]>,
+    counter: u32,
+    area: &[u8],
+) -> Result<bool, Fail> {
+    let config = config()?;
+    commands_keep_the_shape();
+    let base = PlainDevice::new(alloc, config.numbers())?;
+    let commands = key_and_write(alloc)?;
+    let found = units(alloc)?;
+    let region = FoundRegion { key, counter, area };
+    let (commands, found) = (commands.as_slice(), found.as_slice());
+    Ok(is_kept(config.numbers(), base, commands, held, found, &region))
+}
+
+/// The key, the counter and the bytes go together: each prefix is kept, and no mixture of two.
+#[test]
+fn a_region_is_kept_as_a_whole(rt: HostRuntime) -> Result<(), Fail> {
+    let alloc = rt.alloc();
+    let (zeros, half, written) = (area(alloc, 0)?, area(alloc, 256)?, area(alloc, 512)?);
+    let (zeros, half, written) = (zeros.as_slice(), half.as_slice(), written.as_slice());
+    for held in 0..3usize {
+        assert!(rt; keeps(alloc, held, None, 0, &[])? == (held == 0));
+        assert!(rt; keeps(alloc, held, Some(KEY), 0, zeros)? == (held < 2));
+        assert!(rt; keeps(alloc, held, Some(KEY), 1, written)?);
+    }
+    assert!(rt; !keeps(alloc, 0, Some(KEY), 1, zeros)?);
+    assert!(rt; !keeps(alloc, 0, Some(KEY), 1, half)?);
+    assert!(rt; !keeps(alloc, 0, Some(KEY), 0, written)?);
+    assert!(rt; !keeps(alloc, 0, Some([0x0C; 32]), 1, written)?);
+    assert!(rt; !keeps(alloc, 0, None, 1, &[])?);
+    Ok(())
+}
+
+/// A life begins over a region that was found: its counter, its key and its bytes are in each
+/// prefix.
+#[test]
+fn a_life_begins_over_a_region(rt: HostRuntime) -> Result<(), Fail> {
+    let alloc = rt.alloc();
+    let config = config()?;
+    let (found, bytes) = (units(alloc)?, area(alloc, 512)?);
+    let region = FoundRegion {
+        key: Some(KEY),
+        counter: 7,
+        area: bytes.as_slice(),
+    };
+    let Some(base) = device_holding(alloc, config.numbers(), found.as_slice(), &region)? else {
+        panic!(rt; "the area is whole");
+    };
+    assert!(rt; is_kept(config.numbers(), base, &[], 0, found.as_slice(), &region));
+    let short = FoundRegion {
+        area: &[],
+        ..region
+    };
+    let none = device_holding(alloc, config.numbers(), found.as_slice(), &short)?;
+    assert!(rt; none.is_none());
+    Ok(())
+}
+
+/// At its end the counter takes no write any more, and no region but the first is there.
+#[test]
+fn commands_that_cannot_come(rt: HostRuntime) -> Result<(), Fail> {
+    let alloc = rt.alloc();
+    let config = config()?;
+    commands_keep_the_shape();
+    let mut plain = PlainDevice::new(alloc, config.numbers())?;
+    let write = rpmb_write(alloc)?;
+    let key = Cmd::SetKey {
+        region: 1,
+        key: KEY,
+    };
+    assert!(rt; can_apply(config.numbers(), &plain, &write));
+    assert!(rt; !can_apply(config.numbers(), &plain, &key));
+    plain.set_counter(0, u32::MAX);
+    assert!(rt; !can_apply(config.numbers(), &plain, &write));
+    Ok(())
+}

@@ -1,0 +1,251 @@
+//! Reads by messages what the replay protected memory block holds (JESD220, 12.4).
+use crate::fault::Word;
+use crate::reading::{Visit, is_good, is_of};
+use hmac_sha256::same_mac;
+use journal::FoundRegion;
+use rpmb_frame::codes::{
+    COUNTER_EXPIRED, COUNTER_READ_REQUEST, COUNTER_READ_RESPONSE, DATA_READ_REQUEST,
+    DATA_READ_RESPONSE, KEY_NOT_PROGRAMMED, OPERATION_OK,
+};
+use rpmb_frame::{Frame, frames_mac};
+use ufs_spec::codes::{COMMAND, DATA_IN, DATA_OUT, READY_TO_TRANSFER};
+use ufs_spec::{Upiu, write_u16};
+
+/// The LUN byte of the replay protected memory block (JESD220, 10.8.5).
+const RPMB: u8 = 0xC4;
+
+/// The operation codes of SECURITY PROTOCOL IN and OUT (SPC), and the flags of their COMMANDs.
+const SECURITY_IN: u8 = 0xA2;
+
+const SECURITY_OUT: u8 = 0xB5;
+
+const READS: u8 = 0x40;
+
+const WRITES: u8 = 0x20;
+
+/// How long a message is before its data.
+const HEADER: usize = 32;
+
+/// How many bytes a frame has.
+const FRAME: u16 = 512;
+
+/// How many blocks of 256 bytes a request asks for.
+const BLOCKS: u16 = 8;
+
+/// How many such requests the area has for each of its steps of 128 KiB.
+const REQUESTS: u16 = 64;
+
+/// What each request sends, for its response to repeat.
+const NONCE: [u8; 16] = *b"after each stop!";
+
+/// What was read of a region: its key, its counter, and under a key the bytes of its area.
+#[derive(Drop)]
+pub(crate) struct Region {
+    pub key: Option<[u8; 32]>,
+    counter: u32,
+    area: Vec<u8>,
+}
+
+impl Region {
+    /// The same, for a comparison.
+    pub fn found(&self) -> FoundRegion<'_> {
+        FoundRegion {
+            key: self.key,
+            counter: self.counter,
+            area: self.area.as_slice(),
+        }
+    }
+
+    pub fn counter(&self) -> u32 {
+        self.counter
+    }
+}
+
+impl Visit {
+    /// What the region holds, with so many steps of its area; `None` where a request is not answered rightly: under
+    /// this key, if one is set, else without a MAC.
+    pub fn region(&mut self, key: Option<[u8; 32]>, steps: u8) -> Result<Option<Region>, Word> {
+        let Some(frame) = self.counter_frame(key)? else {
+            return Ok(None);
+        };
+        let counter = frame.write_counter;
+        if frame.result == KEY_NOT_PROGRAMMED {
+            return Ok(Some(Region {
+                key: None,
+                counter,
+                area: Vec::new(self.alloc),
+            }));
+        }
+        match key {
+            Some(bytes) => Ok(
+                self.area(&bytes, steps)?
+                    .map(|area| Region { key, counter, area }),
+            ),
+            None => Ok(None),
+        }
+    }
+
+    // The response to a request for the counter.
+    fn counter_frame(&mut self, key: Option<[u8; 32]>) -> Result<Option<Frame>, Word> {
+        let asked = request(COUNTER_READ_REQUEST, 0, 0);
+        let Some(answer) = self.response(&asked, FRAME)? else {
+            return Ok(None);
+        };
+        let (frames, _) = data_of(&answer).as_chunks::<512>();
+        let Some(bytes) = frames.first() else {
+            return Ok(None);
+        };
+        let frame = Frame::read(bytes);
+        let is_right = is_answer(&frame, COUNTER_READ_RESPONSE, 0, 0)
+            && is_signed(&frame, frames, key);
+        Ok(is_right.then_some(frame))
+    }
+
+    // The bytes of the area; `None` where a request for some of them is not answered rightly.
+    fn area(&mut self, key: &[u8; 32], steps: u8) -> Result<Option<Vec<u8>>, Word> {
+        let mut area = Vec::new(self.alloc);
+        for index in 0..REQUESTS.saturating_mul(u16::from(steps)) {
+            if !self.read_blocks(key, index.saturating_mul(BLOCKS), &mut area)? {
+                return Ok(None);
+            }
+        }
+        Ok(Some(area))
+    }
+
+    // Adds the blocks from this address on; false where the request for them is not answered rightly.
+    fn read_blocks(
+        &mut self,
+        key: &[u8; 32],
+        address: u16,
+        area: &mut Vec<u8>,
+    ) -> Result<bool, Word> {
+        let asked = request(DATA_READ_REQUEST, address, BLOCKS);
+        let Some(answer) = self.response(&asked, FRAME * BLOCKS)? else {
+            return Ok(false);
+        };
+        let (frames, _) = data_of(&answer).as_chunks::<512>();
+        for bytes in frames {
+            let frame = Frame::read(bytes);
+            if !is_answer(&frame, DATA_READ_RESPONSE, address, BLOCKS) || !is_success(&frame) {
+                return Ok(false);
+            }
+            area.extend_from_slice(&frame.data)?;
+        }
+        Ok(frames.len() == usize::from(BLOCKS) && has_mac(frames, key))
+    }
+
+    // The DATA IN with the response to a request, of so many bytes; `None` where a step of the exchange fails.
+    fn response(&mut self, asked: &Frame, length: u16) -> Result<Option<Upiu>, Word> {
+        if !self.brings(asked)? || !self.send(&command(READS, SECURITY_IN, length))? {
+            return Ok(None);
+        }
+        let Some(answer) = self.hear()? else {
+            return Ok(None);
+        };
+        let is_whole = is_of(&answer, DATA_IN) && answer.len() == HEADER + usize::from(length);
+        let has_ended = self.hears_good()?;
+        Ok((is_whole && has_ended).then_some(answer))
+    }
+
+    // Brings the frame of a request: whether it is answered GOOD.
+    fn brings(&mut self, asked: &Frame) -> Result<bool, Word> {
+        if !self.send(&command(WRITES, SECURITY_OUT, FRAME))? {
+            return Ok(false);
+        }
+        match self.hear()? {
+            Some(reply) if is_of(&reply, READY_TO_TRANSFER) => {}
+            _ => return Ok(false),
+        }
+        Ok(self.send(&frame_out(asked))? && self.hears_good()?)
+    }
+
+    // Whether the next reply is a RESPONSE with the status GOOD.
+    fn hears_good(&mut self) -> Result<bool, Word> {
+        match self.hear()? {
+            Some(reply) => Ok(is_good(&reply)),
+            None => Ok(false),
+        }
+    }
+}
+
+// The data of a message.
+fn data_of(message: &Upiu) -> &[u8] {
+    match message.as_slice().get(HEADER..) {
+        Some(data) => data,
+        None => &[],
+    }
+}
+
+// A request of this type for so many blocks from this address on.
+fn request(kind: u16, address: u16, count: u16) -> Frame {
+    Frame {
+        stuff: [0; 196],
+        key_or_mac: [0; 32],
+        data: [0; 256],
+        nonce: NONCE,
+        write_counter: 0,
+        address,
+        block_count: count,
+        result: 0,
+        message_type: kind,
+    }
+}
+
+// Whether the frame is a response of this type to such a request.
+fn is_answer(frame: &Frame, kind: u16, address: u16, count: u16) -> bool {
+    frame.message_type == kind
+        && frame.nonce == NONCE
+        && frame.address == address
+        && frame.block_count == count
+}
+
+// Whether the frame says that the request did what it asked for. The counter may be at its end.
+fn is_success(frame: &Frame) -> bool {
+    frame.result & !COUNTER_EXPIRED == OPERATION_OK
+}
+
+// Whether a response without a key has no MAC, and any other one the MAC under the key.
+fn is_signed(frame: &Frame, frames: &[[u8; 512]], key: Option<[u8; 32]>) -> bool {
+    if frame.result == KEY_NOT_PROGRAMMED {
+        return frame.key_or_mac == [0; 32];
+    }
+    match key {
+        Some(key) => is_success(frame) && has_mac(frames, &key),
+        None => false,
+    }
+}
+
+// Whether the last frame has the MAC of all under the key.
+fn has_mac(frames: &[[u8; 512]], key: &[u8; 32]) -> bool {
+    match frames.last() {
+        Some(last) => same_mac(&Frame::read(last).key_or_mac, &frames_mac(key, frames)),
+        None => false,
+    }
+}
+
+// The COMMAND with the tag 0 that brings or fetches so many bytes of frames (JESD220, 10.7.1; SPC).
+fn command(flags: u8, operation: u8, length: u16) -> [u8; HEADER] {
+    let mut message = [0; HEADER];
+    message[0] = COMMAND;
+    message[1] = flags;
+    message[2] = RPMB;
+    write_u16(&mut message, 14, length);
+    message[16] = operation;
+    message[17] = 0xEC;
+    message[19] = 0x01;
+    write_u16(&mut message, 24, length);
+    message
+}
+
+// The DATA OUT with the tag 0 of one frame (JESD220, 10.7.4).
+fn frame_out(frame: &Frame) -> [u8; 544] {
+    let mut bytes = [0; 512];
+    frame.write_to(&mut bytes);
+    let mut message = [0; 544];
+    message[0] = DATA_OUT;
+    message[2] = RPMB;
+    write_u16(&mut message, 10, FRAME);
+    write_u16(&mut message, 18, FRAME);
+    message[HEADER..].copy_from_slice(&bytes);
+    message
+}
