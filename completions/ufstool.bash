@@ -5,10 +5,16 @@ _ufstool_words() {
     read6 | write6) echo "--address --blocks $command" ;;
     read10 | write10) echo "--address --blocks --fua $command" ;;
     synchronize-cache | flush) echo "--immediate $command" ;;
-    request-sense) echo "--allocation $command" ;;
+    request-sense | inquiry) echo "--allocation $command" ;;
+    report-luns) echo "--select --allocation $command" ;;
     test-unit-ready | read-capacity) echo "$command" ;;
     nop) echo '--task --help' ;;
     data-out) echo '--unit --task --offset --bytes --fill --help' ;;
+    read-device-descriptor) echo '--length --task --help' ;;
+    read-unit-descriptor) echo '--index --length --task --help' ;;
+    read-boot-lun-en) echo '--task --help' ;;
+    write-boot-lun-en) echo '--value --task --help' ;;
+    read-flag | set-flag | clear-flag | toggle-flag) echo '--flag --task --help' ;;
     rpmb-key) echo '--key --key-file --task --help' ;;
     rpmb-write) echo '--address --counter --data --blocks --fill --key --key-file --task --help' ;;
     rpmb-read) echo '--address --blocks --nonce --task --help' ;;
@@ -19,12 +25,14 @@ _ufstool_words() {
 
 _ufstool() {
     local current=${COMP_WORDS[COMP_CWORD]} words=
-    local messages='read6 write6 read10 write10 synchronize-cache flush test-unit-ready request-sense read-capacity nop data-out rpmb-key rpmb-write rpmb-read rpmb-counter rpmb-result'
+    local messages='read6 write6 read10 write10 synchronize-cache flush test-unit-ready request-sense read-capacity inquiry report-luns nop data-out read-device-descriptor read-unit-descriptor read-boot-lun-en write-boot-lun-en read-flag set-flag clear-flag toggle-flag rpmb-key rpmb-write rpmb-read rpmb-counter rpmb-result'
     COMPREPLY=()
     if [ "$COMP_CWORD" -eq 1 ]; then
         words='explain host draw help --help --version'
     elif [ "${COMP_WORDS[1]}" = host ] && [ "$COMP_CWORD" -eq 2 ]; then
         words="$messages --help"
+    elif [ "${COMP_WORDS[1]}" = host ] && [ "${COMP_WORDS[COMP_CWORD - 1]}" = --flag ]; then
+        words='fDeviceInit fPermanentWPEn fPowerOnWPEn'
     elif [ "${COMP_WORDS[1]}" = host ]; then
         words=$(_ufstool_words "${COMP_WORDS[2]}")
     elif [[ $current == -* ]]; then

@@ -1,7 +1,10 @@
 # Completion of ufstool in fish.
 set -l messages read6 write6 read10 write10 synchronize-cache flush test-unit-ready request-sense \
-    read-capacity nop data-out rpmb-key rpmb-write rpmb-read rpmb-counter rpmb-result
-set -l commands read6 write6 read10 write10 synchronize-cache flush test-unit-ready request-sense read-capacity
+    read-capacity inquiry report-luns nop data-out read-device-descriptor read-unit-descriptor \
+    read-boot-lun-en write-boot-lun-en read-flag set-flag clear-flag toggle-flag rpmb-key rpmb-write rpmb-read \
+    rpmb-counter rpmb-result
+set -l commands read6 write6 read10 write10 synchronize-cache flush test-unit-ready request-sense read-capacity \
+    inquiry report-luns
 
 complete -c ufstool -f
 complete -c ufstool -n __fish_use_subcommand -a explain -d 'Say what a script and its output tell'
@@ -20,10 +23,15 @@ complete -c ufstool -n '__fish_seen_subcommand_from read6 write6 read10 write10 
 complete -c ufstool -n '__fish_seen_subcommand_from read6 write6 read10 write10 rpmb-write rpmb-read' -l blocks -x -d 'How many blocks'
 complete -c ufstool -n '__fish_seen_subcommand_from read10 write10' -l fua -d 'Set FUA'
 complete -c ufstool -n '__fish_seen_subcommand_from synchronize-cache flush' -l immediate -d 'Set IMMED'
-complete -c ufstool -n '__fish_seen_subcommand_from request-sense' -l allocation -x -d 'The allocation length'
+complete -c ufstool -n '__fish_seen_subcommand_from request-sense inquiry report-luns' -l allocation -x -d 'The allocation length'
+complete -c ufstool -n '__fish_seen_subcommand_from report-luns' -l select -x -a '0 1 2' -d 'Which units are listed'
 complete -c ufstool -n '__fish_seen_subcommand_from data-out' -l offset -x -d 'Where the data are in those of the command'
 complete -c ufstool -n '__fish_seen_subcommand_from data-out' -l bytes -x -d 'How many bytes'
 complete -c ufstool -n '__fish_seen_subcommand_from data-out rpmb-write' -l fill -x -d 'The byte, two hexadecimal digits'
+complete -c ufstool -n '__fish_seen_subcommand_from read-device-descriptor read-unit-descriptor' -l length -x -d 'How many bytes of the descriptor'
+complete -c ufstool -n '__fish_seen_subcommand_from read-unit-descriptor' -l index -x -d 'The index of the unit'
+complete -c ufstool -n '__fish_seen_subcommand_from write-boot-lun-en' -l value -x -a '0 1 2' -d 'The boot unit: none, A or B'
+complete -c ufstool -n '__fish_seen_subcommand_from read-flag set-flag clear-flag toggle-flag' -l flag -x -a 'fDeviceInit fPermanentWPEn fPowerOnWPEn' -d 'The flag'
 complete -c ufstool -n '__fish_seen_subcommand_from explain' -l frames -d 'Frames in hexadecimal digits'
 complete -c ufstool -n '__fish_seen_subcommand_from explain rpmb-key rpmb-write' -l key -x -d 'The key, 64 hexadecimal digits'
 complete -c ufstool -n '__fish_seen_subcommand_from explain rpmb-key rpmb-write' -l key-file -r -F -d 'A file with the key'

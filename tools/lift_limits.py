@@ -35,15 +35,11 @@ class Limit(NamedTuple):
 
 LIMITS = (
     Limit("most_bad", STAGES, "most_bad n = n.spare"),
-    Limit("taken_luns", STAGES, "taken_luns = 0x81 ∷ 0xB0 ∷ 0xC4 ∷ 0xD0 ∷ []"),
     Limit("manages_tasks", STAGES, "manages_tasks = true"),
-    Limit("answers_queries", STAGES, "answers_queries = true"),
     Limit("taken_operations", CDBS, "taken_operations = known_operations"),
     Limit("IsTakenCdb", CDBS, "IsTakenCdb cdb = Unit {0}", (
         ("ufs_laws/proofs/exchanges/BytesHeard.antt",
-         "is_taken (cdb.Inquiry allocation) = no (λ (h : ⊥). h)\n"
-         "is_taken (cdb.Unmap list) = no (λ (h : ⊥). h)\n"
-         "is_taken (cdb.ReportLuns select allocation) = no (λ (h : ⊥). h)\n",
+         "is_taken (cdb.Unmap list) = no (λ (h : ⊥). h)\n",
          ""),
     )),
 )
@@ -63,9 +59,8 @@ def lifted(copy, limit):
     if not found:
         return False
     text = lines.sub(lambda old: old[1] + limit.last + "\n", text)
-    for name, sign in (("true", " true"), ("◌∷◌", " ∷ ")):
-        if sign in limit.last:
-            text = imported(text, name)
+    if " true" in limit.last:
+        text = imported(text, "true")
     copy.write(path, text)
     for file, old, new in limit.mends:
         if not copy.mend(file, old, new):

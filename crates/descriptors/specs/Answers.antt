@@ -2,8 +2,7 @@
 use Rattle.std.specs.Prelude.{◌≡◌, ◌||◌, ℕ, Bool, true, false, Option, Some, None}
 use Rattle.ufs_spec.specs.Commands.{Command, SetBoot, SetPermanent}
 use Rattle.ufs_spec.specs.Plain.{Plain}
-use Rattle.ufs_spec.specs.Queries.{Query, descriptor_told, sets_power_on, setting_of, value_told}
-use Rattle.ufs_spec.specs.declared.configs.Numbers.{Numbers}
+use Rattle.ufs_spec.specs.Queries.{Query, sets_power_on, setting_of, value_told}
 use Rattle.descriptors.specs.Codes.{response_byte}
 use Rattle.descriptors.specs.declared.answers.QueryAnswer.{QueryAnswer}
 use Rattle.descriptors.specs.declared.answers.QueryAnswer.TheVariants as answer
@@ -33,16 +32,21 @@ succeeds (answer.Code code) = false
 succeeds (answer.Told told) = true
 succeeds (answer.Setting s) = true
 
--- what is told of a query that is no setting: the bytes of a descriptor or the value, which tells fPowerOnWPEn as the
--- query leaves it
-pub record IsTold (n : Numbers) (p : Plain) (was_on : Bool) (q : Query) (told : Told) : Type 0 where
+-- the answer is that the query is a setting
+abbrev pub is_setting : QueryAnswer → Bool
+is_setting (answer.Code code) = false
+is_setting (answer.Told told) = false
+is_setting (answer.Setting s) = true
+
+-- what is told of a query that is no setting, beside the bytes of a descriptor: the value, which tells fPowerOnWPEn as
+-- the query leaves it
+pub record IsTold (p : Plain) (was_on : Bool) (q : Query) (told : Told) : Type 0 where
   pub no_setting : setting_of q ≡ None
-  pub bytes : told.bytes.items ≡ descriptor_told n q
   pub value : told.value ≡ value_told p (was_on || sets_power_on q) q
   pub power_on : told.sets_power_on ≡ sets_power_on q
 
 -- what the answer says beside its response code: what is told, or which setting the query is
-abbrev pub Says : Numbers → Plain → Bool → Query → QueryAnswer → Type 0
-Says n p was_on q (answer.Code code) = Unit {0}
-Says n p was_on q (answer.Told told) = IsTold n p was_on q told
-Says n p was_on q (answer.Setting s) = setting_of q ≡ Some (command_of s)
+abbrev pub Says : Plain → Bool → Query → QueryAnswer → Type 0
+Says p was_on q (answer.Code code) = Unit {0}
+Says p was_on q (answer.Told told) = IsTold p was_on q told
+Says p was_on q (answer.Setting s) = setting_of q ≡ Some (command_of s)

@@ -1,23 +1,22 @@
 //! The answer to a query.
-ghost use Rattle.std.specs.Prelude.{◌≡◌, ◌==◌, ◌&&◌, ◌||◌, Bool, Some, false, not, true};
+ghost use Rattle.std.specs.Prelude.{◌≡◌, ◌==◌, ◌&&◌, ◌||◌, Bool, Some, false, is_none, not, true};
 ghost use Rattle.ufs_spec.specs.Keys.{flag_byte};
 ghost use Rattle.ufs_spec.specs.Plain.{Plain, apply};
-ghost use Rattle.ufs_spec.specs.Queries.{Query, descriptor_told, flag_told, has_wrong_value};
+ghost use Rattle.ufs_spec.specs.Queries.{Query, flag_told, has_wrong_value};
 ghost use Rattle.ufs_spec.specs.Queries.{query_code, setting_of, sets_power_on, value_told};
-ghost use Rattle.descriptors.specs.Answers.{Says, code_of, command_in, command_of, succeeds};
+ghost use Rattle.descriptors.specs.Answers.{Says, code_of, command_in, command_of, is_setting, succeeds};
 ghost use Rattle.descriptors.specs.Asks.{HasSettings, query_of};
 
 use crate::codes::{
     PERMANENT_WP_EN, POWER_ON_WP_EN, READ_ATTRIBUTE, READ_FLAG, SET_FLAG, WRITE_ATTRIBUTE,
 };
-use crate::descriptors::{Descriptor, descriptor_told};
 use crate::queries::{QueryRequest, QuerySettings};
 use crate::responses::ResponseCode;
 use crate::table::{first_line, sets_permanent};
 use ufs_spec::Numbers;
 
 /// What a query is answered.
-#[derive(Drop)]
+#[derive(Clone, Copy)]
 pub enum QueryAnswer {
     /// Nothing but this response code: why it is refused, or success of no operation.
     Code(ResponseCode),
@@ -27,11 +26,10 @@ pub enum QueryAnswer {
     Setting(Setting),
 }
 
-/// What is told of a query that succeeds.
-#[derive(Drop)]
+/// What is told of a query that succeeds, beside the bytes of a descriptor
+/// ([`descriptor_told`](crate::descriptor_told)).
+#[derive(Clone, Copy)]
 pub struct Told {
-    /// The first bytes of a descriptor, if one is read.
-    pub bytes: Descriptor,
     /// The attribute or the flag, as it is after the query.
     pub value: u32,
     /// fPowerOnWPEn is set from now on.
@@ -77,25 +75,28 @@ pub fn answer(
         succeeds result ≡ (query_code numbers.now p may_accept (query_of query.now) == 0x00)
         && not (query.now.asked.opcode == 0) }
     ensures says { (p : Plain) → HasSettings settings p →
-        Says numbers.now p settings.is_power_on (query_of query.now) result }
+        Says p settings.is_power_on (query_of query.now) result }
+    // A query is a setting only if one can be accepted.
+    ensures may { is_setting result ≡ true → may_accept ≡ true }
 {
     match first_line(numbers, settings.is_permanent, may_accept, query) {
         Some(code) => QueryAnswer::Code(code),
-        None => passed(numbers, settings, query),
+        None => passed(settings, query),
     }
 }
 
 // The answer to a query that no line refuses.
-fn passed(numbers: &Numbers, settings: QuerySettings, query: &QueryRequest) -> QueryAnswer
+fn passed(settings: QuerySettings, query: &QueryRequest) -> QueryAnswer
     requires { has_wrong_value (query_of query.now) ≡ false }
     ensures code { code_of result ≡ 0 }
     ensures succeeds { succeeds result ≡ true }
     ensures says { (p : Plain) → HasSettings settings p →
-        Says numbers.now p settings.is_power_on (query_of query.now) result }
+        Says p settings.is_power_on (query_of query.now) result }
+    ensures setting { is_setting result ≡ true → is_none (setting_of (query_of query.now)) ≡ false }
 {
     match setting_of(query) {
         Some(setting) => QueryAnswer::Setting(setting),
-        None => QueryAnswer::Told(told_at_once(numbers, settings, query)),
+        None => QueryAnswer::Told(told_at_once(settings, query)),
     }
 }
 
@@ -114,8 +115,7 @@ fn setting_of(query: &QueryRequest) -> Option<Setting>
 }
 
 // What is told of a query that is no setting.
-fn told_at_once(numbers: &Numbers, settings: QuerySettings, query: &QueryRequest) -> Told
-    ensures bytes { result.bytes.items ≡ descriptor_told numbers.now (query_of query.now) }
+fn told_at_once(settings: QuerySettings, query: &QueryRequest) -> Told
     ensures value { (p : Plain) → HasSettings settings p → result.value ≡ value_told p
         (settings.is_power_on || sets_power_on (query_of query.now)) (query_of query.now) }
     ensures power_on { result.sets_power_on ≡ sets_power_on (query_of query.now) }
@@ -126,7 +126,6 @@ fn told_at_once(numbers: &Numbers, settings: QuerySettings, query: &QueryRequest
         ..settings
     };
     Told {
-        bytes: descriptor_told(numbers, query),
         value: value_told(settings, query),
         sets_power_on,
     }

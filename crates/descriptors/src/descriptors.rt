@@ -1,14 +1,12 @@
 //! The bytes of the descriptors (JESD220, 14.1.4).
-ghost use Rattle.std.specs.Prelude.{◌≡◌, ◌≤◌, length, take};
+ghost use Rattle.std.specs.Prelude.{◌≡◌, ◌≤◌, length, slice_get, take};
 ghost use Rattle.std.specs.List.{list_any};
-ghost use Rattle.ufs_spec.specs.Queries.{boots, descriptor_told, device_descriptor};
-ghost use Rattle.ufs_spec.specs.Queries.{unit_descriptor};
-ghost use Rattle.descriptors.specs.Asks.{query_of};
+ghost use Rattle.ufs_spec.specs.Queries.{Query, boots, descriptor_told, device_descriptor};
+ghost use Rattle.ufs_spec.specs.Queries.{unit_descriptor, unit_descriptor_at};
 
 use crate::codes::{DEVICE_DESCRIPTOR, READ_DESCRIPTOR};
-use crate::queries::QueryRequest;
 use arrayvec::ArrayVec;
-use ufs_spec::{Numbers, UnitSpec, write_u32, write_u64};
+use ufs_spec::{Asked, Numbers, UnitSpec, write_u32, write_u64};
 
 /// How many bytes the device descriptor has, the longest that there is.
 const DEVICE_LENGTH: usize = 64;
@@ -77,20 +75,31 @@ pub fn unit_descriptor(index: u8, unit: &UnitSpec) -> [u8; 35]
     bytes
 }
 
-/// The first bytes of the descriptor that a query reads, as many as it asks for.
-pub fn descriptor_told(numbers: &Numbers, query: &QueryRequest) -> Descriptor
-    ensures { result.items ≡ descriptor_told numbers.now (query_of query.now) }
+/// The first bytes of the descriptor that is read, as many as are asked for; none if none is read.
+/// A query that succeeds tells them. They hang on nothing that changes, so they are the same at the
+/// query and when its response is handed out.
+pub fn descriptor_told(numbers: &Numbers, asked: Asked, length: u16) -> Descriptor
+    ensures { (q : Query) → q.asked ≡ asked → q.length ≡ length →
+        result.items ≡ descriptor_told numbers.now q }
 {
-    if query.asked.opcode != READ_DESCRIPTOR {
-        return ArrayVec::new();
+    if asked.opcode != READ_DESCRIPTOR {
+        ArrayVec::new()
+    } else if asked.idn == DEVICE_DESCRIPTOR {
+        front(&device_descriptor(numbers), length)
+    } else {
+        unit_told(numbers, asked.index, length)
     }
-    if query.asked.idn == DEVICE_DESCRIPTOR {
-        return front(&device_descriptor(numbers), query.length);
-    }
-    let index = query.asked.index;
+}
+
+// The first bytes of the descriptor of the unit with this index, as many as are asked for; none if
+// there is no such unit.
+fn unit_told(numbers: &Numbers, index: u8, length: u16) -> Descriptor
+    ensures { result.items
+        ≡ take length (unit_descriptor_at index (slice_get numbers.now.units.items index)) }
+{
     match numbers.units.as_slice().get(usize::from(index)) {
         None => ArrayVec::new(),
-        Some(unit) => front(&unit_descriptor(index, unit), query.length),
+        Some(unit) => front(&unit_descriptor(index, unit), length),
     }
 }
 

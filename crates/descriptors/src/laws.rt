@@ -2,7 +2,7 @@
 ghost use Rattle.std.specs.Prelude.{◌≡◌, ◌==◌, ◌&&◌, ℕ, not};
 ghost use Rattle.ufs_spec.specs.Queries.{Query};
 ghost use Rattle.ufs_spec.specs.QueryAnswers.{query_answered};
-ghost use Rattle.ufs_spec.specs.Refusals.{State, numbers_of, plain_now};
+ghost use Rattle.ufs_spec.specs.Refusals.{State, plain_now};
 ghost use Rattle.descriptors.specs.Answers.{Says, code_of, succeeds};
 ghost use Rattle.descriptors.specs.States.{answered_by};
 ghost use Rattle.descriptors.specs.declared.answers.QueryAnswer.{QueryAnswer};
@@ -13,6 +13,6 @@ pub fn answers_decide_the_state()
     ensures { (s : State) (tag code : ℕ) (q : Query) (answer : QueryAnswer) →
         code_of answer ≡ code →
         succeeds answer ≡ (code == 0x00) && not (q.asked.opcode == 0) →
-        Says (numbers_of s) (plain_now s) s.power_on q answer →
+        Says (plain_now s) s.power_on q answer →
         query_answered s tag q code ≡ answered_by s tag q answer }
 {}

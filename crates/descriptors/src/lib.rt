@@ -12,6 +12,7 @@ mod responses;
 mod table;
 
 pub use answers::{QueryAnswer, Setting, Told, answer};
+pub use codes::{STANDARD_READ, STANDARD_WRITE};
 pub use descriptors::{Descriptor, descriptor_told, device_descriptor, unit_descriptor};
 pub use laws::answers_decide_the_state;
 pub use queries::{QueryRequest, QuerySettings};

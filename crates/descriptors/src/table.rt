@@ -31,6 +31,7 @@ pub fn first_line(
         is_none result ≡ (query_code numbers.now p may_accept (query_of query.now) == 0x00)
         && not (query.now.asked.opcode == 0) }
     ensures value { result ≡ None → has_wrong_value (query_of query.now) ≡ false }
+    ensures open { result ≡ None → is_shut may_accept (query_of query.now) ≡ false }
 {
     let asked = &query.asked;
     if has_wrong_opcode(query) {

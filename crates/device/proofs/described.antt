@@ -15,4 +15,5 @@ pub mod PagesThere
 pub mod Responded
 pub mod SameDevice
 pub mod Settled
+pub mod ShortExchanges
 pub mod Unmended

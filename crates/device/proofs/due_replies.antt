@@ -8,3 +8,4 @@ pub mod PinsLetGo
 pub mod RepliesRight
 pub mod ReplyMoves
 pub mod ReplySame
+pub mod ShortsDue

@@ -23,6 +23,7 @@ use Rattle.task_set.specs.declared.tasks.TaskEvent.TheVariants as event
 use Rattle.task_set.specs.declared.tasks.Transfer.{Transfer}
 use Rattle.device.specs.Kept.{DeviceCore, IsLayerWith}
 use Rattle.task_set.specs.Lists.{task_happened}
+use Rattle.task_set.specs.Shorts.{short_locked}
 use Rattle.task_set.specs.Tasks.{after_lost_read, after_read, next_transfer, task_after}
 
 -- this happened to the task at this position
@@ -78,9 +79,10 @@ pub record HasClaimedFrames (after : Core) (t : Translation) (claims : Claims) (
     pub layer : claims tag ≡ [] → IsLayerWith after (if has_slots t frame_slots then moved t (Claim frame_slots) else t)
         (if has_slots t frame_slots then with_claimed claims tag (replicate frame_slots zero_block) else claims)
 
--- how far a SECURITY PROTOCOL IN is that begins: where its host takes nothing, it is done
-abbrev pub frames_phase : ℕ → ℕ → Phase
-frames_phase size taken = if taken == 0 then phase.Answer status.Good size else phase.SendFrames size
+-- how far a command is that begins with what its task keeps to send, so many bytes: where its host takes nothing, it is
+-- done
+abbrev pub held_phase : ℕ → ℕ → Phase
+held_phase size taken = if taken == 0 then phase.Answer status.Good size else phase.SendHeld size
 
 -- the number of the last group, so that what waits for it waits for all that was accepted
 abbrev pub last_number : Ledger → ℕ
@@ -95,7 +97,9 @@ HasBegun after t claims tag (Ok (plan.Nothing n)) p = (p ≡ phase.Answer status
 HasBegun after t claims tag (Ok (plan.Send x)) p = (p ≡ phase.SendData x) × IsLayerWith after t claims
 HasBegun after t claims tag (Ok (plan.AskFrames size)) p = HasClaimedFrames after t claims tag size p
 HasBegun after t claims tag (Ok (plan.TakeFrames size taken)) p =
-    (p ≡ frames_phase size taken) × IsLayerWith after t claims
+    (p ≡ held_phase size taken) × IsLayerWith after t claims
+HasBegun after t claims tag (Ok (plan.Tell told size taken)) p =
+    (p ≡ held_phase size taken) × IsLayerWith after t claims
 HasBegun after t claims tag (Ok plan.Flush) p =
     (p ≡ phase.AwaitFrontier (last_number t.ledger) 0) × IsLayerWith after t claims
 
@@ -133,10 +137,16 @@ HasGathered after t claims tag x bytes e =
 
 -- What the end of a job told
 
--- where the layer is locked, each task that waits for a block that is not durable ends
+-- where the layer is locked, each task and each short exchange that waits for a block that is not durable ends
 abbrev pub lock_told : Translation → DeviceCore → DeviceCore
 lock_told t d =
-    if is_locked t then record d { tasks = map (task_after (event.Locked t.ledger.frontier)) d.tasks } else d
+    if is_locked t
+    then
+    record d {
+      tasks = map (task_after (event.Locked t.ledger.frontier)) d.tasks;
+      shorts = map (short_locked t.ledger.frontier) d.shorts;
+    }
+    else d
 
 -- what the die gave to the task of this tag of its block or page of this index: the block, or none
 abbrev pub read_told : DeviceCore → ℕ → ℕ → Option (List ℕ) → DeviceCore

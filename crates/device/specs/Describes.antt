@@ -1,5 +1,5 @@
 -- How what the device keeps describes the specified device: one relation for each part of its state, each over the
--- fields that it reads. No command sets a protection yet.
+-- fields that it reads.
 use Rattle.std.specs.Prelude.{◌≡◌, ℕ, zero, suc, ◌+◌, ◌*◌, ◌≤◌, ◌<◌, ◌==◌, ◌&&◌, min, nat_le, nat_lt, true, false}
 use Rattle.std.specs.Prelude.{All, List}
 use Rattle.std.specs.Prelude.{[], ◌∷◌, drop, find, if◌then◌else◌, length, map, replicate, slice_get, take, Bool, Option}
@@ -12,7 +12,7 @@ use Rattle.ufs_spec.specs.Disk.{Flight, job_of}
 use Rattle.ufs_spec.specs.Exchanges as exchange
 use Rattle.ufs_spec.specs.Exchanges.{Answering, Awaiting, Deed, ForFrames, ForWrite, Gathering, Purpose, ReadBlock}
 use Rattle.ufs_spec.specs.Exchanges.{NotRead, ReadingArea, RpmbRequest, Sending, SendingBytes, Short, Unread, WasRead}
-use Rattle.ufs_spec.specs.Exchanges.{is_unfilled, short_reply, task_of}
+use Rattle.ufs_spec.specs.Exchanges.{is_unfilled, task_of}
 use Rattle.ufs_spec.specs.FrameRequests.{reads_area}
 use Rattle.ufs_spec.specs.Frames.{Frame, frame_in}
 use Rattle.ufs_spec.specs.Keys.{data_key}
@@ -22,9 +22,10 @@ use Rattle.ufs_spec.specs.Machine.{durable, is_to_fill, observe}
 use Rattle.ufs_spec.specs.Messages.{spelling}
 use Rattle.ufs_spec.specs.Moves.{is_pin_of}
 use Rattle.ufs_spec.specs.Plain.{region_of, zero_block}
-use Rattle.ufs_spec.specs.Refusals.{State, locked, plain_now, sends_frames}
+use Rattle.ufs_spec.specs.Refusals.{State, locked, numbers_of, plain_now, sends_frames}
 use Rattle.ufs_spec.specs.Exchanges.{most_tasks}
 use Rattle.ufs_spec.specs.Translation.{Pin}
+use Rattle.ufs_spec.specs.declared.configs.Numbers.{Numbers}
 use Rattle.ufs_spec.specs.declared.faults.HostFault.{HostFault}
 use Rattle.ufs_spec.specs.declared.flash.Job.{Job}
 use Rattle.ufs_spec.specs.declared.messages.Message.{Message}
@@ -51,9 +52,9 @@ use Rattle.task_set.specs.declared.frames.Frames.TheVariants.{Answered, Decided,
 use Rattle.device.specs.Calls.{frame_slots}
 use Rattle.device.specs.Frames.{part_held, part_of_page}
 use Rattle.device.specs.Kept.{DeviceCore}
-use Rattle.device.specs.Replies.{short_message}
 use Rattle.task_set.specs.Tasks.{data_length, is_sender, read_error, status_kept}
-use Rattle.device.specs.Replies.{data_bytes}
+use Rattle.task_set.specs.Shorts.{reply_locked}
+use Rattle.device.specs.Replies.{data_bytes, short_message, short_said}
 
 -- Tasks
 
@@ -133,16 +134,17 @@ IsDoing before expected total (phase.AskFrames size) (Gathering purpose gathered
     IsGatheringFrames size total purpose gathered × (asked ≡ false)
 IsDoing before expected total (phase.AwaitFrames size) (Gathering purpose gathered asked) =
     IsGatheringFrames size total purpose gathered × (asked ≡ true)
-IsDoing before expected total (phase.SendFrames size) (SendingBytes bytes) =
+IsDoing before expected total (phase.SendHeld size) (SendingBytes bytes) =
     (length bytes ≡ size) × (total ≡ size) × (1 ≤ min expected size)
-IsDoing before expected total (phase.AwaitFrontier n size) (Awaiting commands) =
-    (n ≡ before + commands) × (total ≡ size)
+IsDoing before expected total (phase.AwaitFrontier number size) (Awaiting commands) =
+    (number ≡ before + commands) × (total ≡ size)
 IsDoing before expected total (phase.SendData x) (SendingBytes bytes) =
     (bytes ≡ data_bytes x) × (total ≡ data_length x) × (1 ≤ min expected (data_length x))
 IsDoing before expected total (phase.SendBlocks x) (Sending blocks sent) = IsSending x expected total blocks sent
 IsDoing before expected total (phase.ReadArea r) (ReadingArea pages) = IsReadingArea r total pages
-IsDoing before expected total (phase.Answer told n) (Answering s carried) = (s ≡ status_kept told) × (carried ≡ n)
-IsDoing before expected total (phase.Answer told n) (Sending blocks sent) = IsLost blocks sent told n
+IsDoing before expected total (phase.Answer told size) (Answering s carried) =
+    (s ≡ status_kept told) × (carried ≡ size)
+IsDoing before expected total (phase.Answer told size) (Sending blocks sent) = IsLost blocks sent told size
 IsDoing before expected total kept deed = ⊥
 
 -- what a die read of a block: its body once it was read; none before that, or where the read failed
@@ -212,7 +214,7 @@ PartsStand r held (ReadingArea pages) =
     StandsIn held (area_part r i) block.body
 PartsStand r held deed = ⊥
 
--- frames that a task sends are the first bytes of what it keeps
+-- what a task sends are the first bytes of what it keeps
 pub record IsSentFrom (size : ℕ) (held : Option (List ℕ)) (deed : Deed) : Type 0 where
   pub all : List ℕ
   pub is_held : held ≡ Some all
@@ -234,7 +236,7 @@ FramesFit (phase.AskFrames size) f held deed = f ≡ Undecided
 FramesFit (phase.AwaitFrames size) f held deed = f ≡ Undecided
 FramesFit (phase.SendBlocks x) f held deed = f ≡ NotBrought
 FramesFit (phase.SendData x) f held deed = f ≡ NotBrought
-FramesFit (phase.SendFrames size) f held deed = (f ≡ NotBrought) × IsSentFrom size held deed
+FramesFit (phase.SendHeld size) f held deed = (f ≡ NotBrought) × IsSentFrom size held deed
 FramesFit (phase.ReadArea r) f held deed = HasRequest f × PartsStand r held deed
 FramesFit p f held deed = Unit {0}
 
@@ -268,8 +270,8 @@ abbrev pub wanted_of : Bool → Option ReadBlock → Option Bool
 wanted_of next None = None
 wanted_of next (Some block) = Some (next && is_unread block.state)
 
--- the blocks that were not handed out are kept, and the next one is wanted until it was read. The pages of the area that
--- a request asks for are kept until it has filled its register, and each is wanted until it was read
+-- the blocks that were not handed out are kept, and the next one is wanted until it was read. The pages of the area
+-- that a request asks for are kept until it has filled its register, and each is wanted until it was read
 abbrev pub wanted_in : ℕ → Option RpmbRequest → Deed → Option Bool
 wanted_in index request (Sending blocks sent) =
     if nat_lt index sent then None else wanted_of (index == sent) (slice_get blocks index)
@@ -316,9 +318,30 @@ claims_of tasks tag = claimed_by (task_of tag tasks)
 
 -- Short exchanges and the lock
 
--- a short exchange as the specified device has it: its tag and the one reply that is due for it
-abbrev pub short_kept : kept.Short → Short
-short_kept short = short_reply short.tag (short_message short)
+-- a short exchange waits for the number of a group as the specified one for so many commands; neither waits, or both do
+abbrev pub IsAwaiting : (before : ℕ) → Option ℕ → Option ℕ → Type 0
+IsAwaiting before None None = Unit {0}
+IsAwaiting before (Some number) (Some commands) = number ≡ before + commands
+IsAwaiting before ours theirs = ⊥
+
+-- one that waits is told this if a lock ends it
+abbrev pub IsLockTold : Numbers → kept.Short → Option ℕ → Message → Type 0
+IsLockTold n a None said = Unit {0}
+IsLockTold n a (Some number) said = said ≡ short_said n a.tag (reply_locked a.reply)
+
+-- the kept short exchange is the specified one: its tag, its reply, what it waits for, and what a lock makes of it;
+-- `before` is the number of the last group before the accepted commands
+pub record ShortKept (n : Numbers) (before : ℕ) (a : kept.Short) (b : Short) : Type 0 where
+  pub tag : b.tag ≡ a.tag
+  pub reply : b.reply ≡ short_message n a
+  pub awaits : IsAwaiting before a.awaits b.awaits
+  pub locked : IsLockTold n a a.awaits b.locked_reply
+
+-- the short exchanges are kept one by one, in the same order
+abbrev pub ShortsKept : Numbers → ℕ → List kept.Short → List Short → Type 0
+ShortsKept n before [] [] = Unit {0}
+ShortsKept n before (a ∷ ours) (b ∷ theirs) = ShortKept n before a b × ShortsKept n before ours theirs
+ShortsKept n before ours theirs = ⊥
 
 -- what waits for commands waits for durable ones
 abbrev pub IsToldIn : ℕ → Deed → Type 0
@@ -328,6 +351,15 @@ IsToldIn count deed = Unit {0}
 -- the task was told that the device is locked: if it still waits, all that it waits for is durable
 abbrev pub IsTold : ℕ → exchange.Task → Type 0
 IsTold count task = IsToldIn count task.deed
+
+-- so it is of what a short exchange waits for
+abbrev pub IsMetIn : ℕ → Option ℕ → Type 0
+IsMetIn count None = Unit {0}
+IsMetIn count (Some commands) = nat_le commands count ≡ true
+
+-- the short exchange was told that the device is locked
+abbrev pub IsShortTold : ℕ → Short → Type 0
+IsShortTold count short = IsMetIn count short.awaits
 
 -- Requests
 
@@ -354,8 +386,8 @@ pub record Keeps (d : DeviceCore) (s : State) : Type 0 where
   pub one_sends : OneSends d.tasks
   pub wanted : (tag index : ℕ) → wanted_kept s.translation.pins tag index ≡ wanted_by index (task_of tag s.tasks)
   pub claims : AreClaimed d.ftl (claims_of s.tasks)
-  pub shorts : s.shorts ≡ map short_kept d.shorts
-  pub power_off : s.power_on ≡ false
+  pub shorts : ShortsKept (numbers_of s) (before_accepted s.translation.ledger) d.shorts s.shorts
+  pub power_on : d.is_power_on ≡ s.power_on
 
 -- what is kept describes the state: it agrees with the state part by part, and the state is one that a life can come to
 pub record Describes (d : DeviceCore) (s : State) : Type 0 where
@@ -369,8 +401,9 @@ pub record Describes (d : DeviceCore) (s : State) : Type 0 where
   pub reads : AreaReads s
   pub kept : Keeps d s
   pub answered : HaveAnswered s
-  -- if the device is locked, the tasks were told so
+  -- if the device is locked, the tasks were told so, and the short exchanges too
   pub told : locked s ≡ true → All (IsTold (durable s)) s.tasks
+  pub shorts_told : locked s ≡ true → All (IsShortTold (durable s)) s.shorts
 
 -- What a call is answered
 

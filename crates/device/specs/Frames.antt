@@ -1,13 +1,15 @@
 -- Frames of the RPMB: what is decided of those that a SECURITY PROTOCOL OUT brought, what a request leaves in the
 -- registers, and what a SECURITY PROTOCOL IN takes from them (JESD220, 12.4).
-use Rattle.std.specs.Prelude.{◌≡◌, ℕ, ◌+◌, ◌-◌, ◌==◌, ◌<◌, ◌≤◌, ◌&&◌, min, nat_le, Bool, true, false}
+use Rattle.std.specs.Prelude.{◌≡◌, ℕ, ◌+◌, ◌-◌, ◌<◌, ◌≤◌, ◌&&◌, min, nat_le, Bool, true, false}
 use Rattle.std.specs.Prelude.{if◌then◌else◌, List, [], ◌∷◌, ◌++◌, find, option_map}
 use Rattle.std.specs.List.{list_any}
-use Rattle.std.specs.Prelude.{drop, fold, length, map, position, replicate, slice_get, take, Option, Some, None, Result, Ok}
+use Rattle.std.specs.Prelude.{drop, fold, length, map, position, replicate, slice_get, take, Option, Some, None}
+use Rattle.std.specs.Prelude.{Result, Ok}
 use Rattle.ufs_spec.specs.Commands.{Command}
 use Rattle.ufs_spec.specs.Exchanges.{CheckCondition, ReadState}
 use Rattle.ufs_spec.specs.FrameRequests.{first_page, pages_named, reads_area}
 use Rattle.ufs_spec.specs.Frames.{Frame}
+use Rattle.ufs_spec.specs.Identities.{inquiry_bytes, luns_bytes}
 use Rattle.ufs_spec.specs.Keys.{IsCommand, IsKey, IsPlain, area_key, below, content, group_of}
 use Rattle.ufs_spec.specs.Ledger.{all_contents, look, next_number}
 use Rattle.ufs_spec.specs.Moves.{Accept, IsAllowedMove, Keep, LetGoAll, Move, Release, is_pin_of, moved}
@@ -16,6 +18,7 @@ use Rattle.ufs_spec.specs.Rpmb.{Region, applied, rpmb_outcome}
 use Rattle.ufs_spec.specs.RpmbResponses.{emptied_by, filled_with, with_reads}
 use Rattle.ufs_spec.specs.Replies.{is_at_hand, is_read}
 use Rattle.ufs_spec.specs.Translation.{Translation, is_locked, is_mended}
+use Rattle.ufs_spec.specs.declared.configs.Numbers.{Numbers}
 use Rattle.ufs_spec.specs.declared.flash.Key.{Key}
 use Rattle.ufs_spec.specs.declared.scsi.Sense.{Sense}
 use Rattle.ftl_core.specs.Public.{Claims, Core, Describes, PinsDiffer, keeps_for, with_claimed}
@@ -37,7 +40,7 @@ use Rattle.task_set.specs.declared.frames.AreaReading.{AreaReading}
 use Rattle.task_set.specs.declared.frames.PageRead.{PageRead}
 use Rattle.task_set.specs.declared.frames.PageRead.TheVariants as page
 use Rattle.task_set.specs.declared.frames.Frames.{Frames}
-use Rattle.task_set.specs.declared.frames.Frames.TheVariants.{Answered, Decided, NotBrought, Undecided}
+use Rattle.task_set.specs.declared.frames.Frames.TheVariants.{Decided, NotBrought, Undecided}
 use Rattle.task_set.specs.declared.tasks.Phase.{Phase}
 use Rattle.task_set.specs.declared.tasks.Phase.TheVariants as phase
 use Rattle.task_set.specs.declared.tasks.Status.{Status}
@@ -47,6 +50,8 @@ use Rattle.task_set.specs.declared.tasks.TaskEvent.TheVariants as event
 use Rattle.device.specs.Calls.{frame_slots, with_event}
 use Rattle.device.specs.Kept.{DeviceCore, IsLayerWith}
 use Rattle.device.specs.Replies.{block_for}
+use Rattle.device.specs.declared.plans.Identity.{Identity}
+use Rattle.device.specs.declared.plans.Identity.TheVariants as identity
 use Rattle.device.specs.declared.plans.Plan.{Plan}
 use Rattle.device.specs.declared.plans.Plan.TheVariants as plan
 
@@ -83,10 +88,17 @@ with_held d k bytes = record d { tasks = task_keeps d.tasks k bytes (slice_get d
 abbrev pub handed_over : DeviceCore → ℕ → DeviceCore
 handed_over d k = record (with_held d k (waiting_held d.rpmb)) { rpmb = with_none_waiting d.rpmb }
 
--- what waits goes to the last task, where that was planned for it
-abbrev pub frames_taken : DeviceCore → Result Plan Status → DeviceCore
-frames_taken d (Ok (plan.TakeFrames size taken)) = handed_over d (length d.tasks - 1)
-frames_taken d planned = d
+-- what is told of the units of a device with this configuration (SPC, INQUIRY and REPORT LUNS)
+abbrev pub identity_bytes : Numbers → Identity → List ℕ
+identity_bytes n (identity.Unit lun) = inquiry_bytes lun
+identity_bytes n (identity.Luns select) = luns_bytes n select
+
+-- where that was planned for it, the last task keeps what it sends: what waits, or what it tells of the units
+abbrev pub sent_kept : Numbers → DeviceCore → Result Plan Status → DeviceCore
+sent_kept n d (Ok (plan.TakeFrames size taken)) = handed_over d (length d.tasks - 1)
+sent_kept n d (Ok (plan.Tell told size taken)) =
+    with_held d (length d.tasks - 1) (with_zeros (identity_bytes n told))
+sent_kept n d planned = d
 
 -- Frames that came
 
@@ -121,8 +133,8 @@ abbrev pub answer_moves : Translation → ℕ → List Frame → ℕ → List Mo
 answer_moves t tag [] code = []
 answer_moves t tag (f ∷ fs) code = if reads_area f code then area_keeps t tag f else []
 
--- the reader may keep the pages in which the blocks lie that this frame asks for: it keeps nothing yet, they are pages of
--- the area, one or two, and there is room for two, as no block is kept twice
+-- the reader may keep the pages in which the blocks lie that this frame asks for: it keeps nothing yet, they are pages
+-- of the area, one or two, and there is room for two, as no block is kept twice
 pub record MayKeepArea (t : Translation) (tag : ℕ) (f : Frame) : Type 0 where
   pub mended : is_mended t.work.mending ≡ true
   pub some : 1 ≤ f.count
@@ -223,7 +235,8 @@ pub record HasDecided (before after : DeviceCore) (tag index : ℕ) (bytes : Lis
 
 -- Requests that fill a register
 
--- a page of the area needs no read any more: it was read or could not be read, or what the reader keeps of it is at hand
+-- a page of the area needs no read any more: it was read or could not be read, or what the reader keeps of it is at
+-- hand
 abbrev pub is_page_there : Translation → ℕ → ℕ → PageRead → Bool
 is_page_there t tag index how =
     is_read (read_kept how) (is_at_hand t.work.rests (find (is_pin_of tag index) t.pins))
@@ -272,8 +285,8 @@ part_held p held = take p.length (drop p.at held)
 abbrev pub part_of_page : AreaPart → List ℕ → List ℕ
 part_of_page p body = take p.length (drop p.from body)
 
--- the part that is asked for of the page of this index: from the block of the task if the page was read, from what the task
--- keeps if the page is at hand; none if it could not be read
+-- the part that is asked for of the page of this index: from the block of the task if the page was read, from what the
+-- task keeps if the page is at hand; none if it could not be read
 abbrev pub part_read : Translation → OpenTask → AreaReading → ℕ → PageRead → Option (List ℕ)
 part_read t a r index page.WasRead = option_map (part_held (area_part r index)) a.held
 part_read t a r index page.Unread = option_map (part_of_page (area_part r index)) (block_for t None a.tag index)

@@ -1,6 +1,7 @@
--- The groups of RPMB requests that are accepted (JESD220, 12.4): the pages of the area that a write brings, most often in
--- part, and the settings with the key or the counter.
-use Rattle.std.specs.Prelude.{◌≡◌, ℕ, ◌+◌, ◌-◌, ◌*◌, ◌/◌, ◌%◌, nat_le, if◌then◌else◌, IsTrue, List, [], ◌∷◌, ◌++◌, drop, length}
+-- The groups of RPMB requests and of settings that are accepted (JESD220, 12.4 and 14): the pages of the area that a
+-- write brings, most often in part, and the settings with the key and the counter.
+use Rattle.std.specs.Prelude.{◌≡◌, ℕ, ◌+◌, ◌-◌, ◌*◌, ◌/◌, ◌%◌, nat_le, if◌then◌else◌, IsTrue, List, [], ◌∷◌, ◌++◌}
+use Rattle.std.specs.Prelude.{drop, length}
 use Rattle.std.specs.Prelude.{replicate, take}
 use Rattle.ufs_spec.specs.Keys.{Group, Item, area_key, settings_key}
 use Rattle.ufs_spec.specs.Ledger.{all_contents, next_number}
@@ -13,7 +14,6 @@ use Rattle.ftl_core.specs.declared.books.Brought.{Brought}
 use Rattle.rpmb.specs.declared.outcomes.Accepted.{Accepted}
 use Rattle.rpmb.specs.declared.outcomes.Accepted.TheVariants as accepted
 use Rattle.settings.specs.declared.page.Settings.{Settings}
-use Rattle.device.specs.Calls.{frame_slots}
 use Rattle.device.specs.Kept.{DeviceCore, IsLayerWith}
 
 -- the settings that the device keeps
@@ -64,7 +64,7 @@ area_items t page first bytes =
 
 -- Groups
 
--- the group of a key: the settings alone
+-- the group of a key or of a setting: the settings alone
 abbrev pub key_group : List ℕ → Translation → Group
 key_group page t = settings_item t page ∷ []
 
@@ -72,9 +72,10 @@ key_group page t = settings_item t page ∷ []
 abbrev pub write_group : ℕ → List ℕ → List ℕ → Translation → Group
 write_group address bytes page t = area_items t (address / 16) (address % 16) bytes ++ settings_item t page ∷ []
 
--- the group is put behind all that are pending under the next number, in the place of the slots that frames claim
+-- the group is put behind all that are pending under the next number, in the place of the slots that its tag has
+-- claimed
 pub record HasPut (before after : Core) (tag : ℕ) (group : Translation → Group) (number : ℕ) : Type 0 where
   pub number_is : (t : Translation) → Describes before t → number ≡ next_number t.ledger
-  pub layer : (t : Translation) (claims : Claims) → IsLayerWith before t claims →
-      claims tag ≡ replicate frame_slots zero_block → IsAllowedMove t (Accept frame_slots (group t)) →
-      IsLayerWith after (moved t (Accept frame_slots (group t))) (with_claimed claims tag [])
+  pub layer : (t : Translation) (claims : Claims) (claimed : ℕ) → IsLayerWith before t claims →
+      claims tag ≡ replicate claimed zero_block → IsAllowedMove t (Accept claimed (group t)) →
+      IsLayerWith after (moved t (Accept claimed (group t))) (with_claimed claims tag [])

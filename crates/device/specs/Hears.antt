@@ -15,12 +15,13 @@ use Rattle.task_set.specs.Kept.{OpenTask, newly_open}
 use Rattle.task_set.specs.declared.tasks.TaskEvent.{TaskEvent}
 pub use Rattle.device.specs.Calls.{with_event}
 use Rattle.device.specs.Calls.{HasBegun, HasGathered, lock_told}
-use Rattle.device.specs.Frames.{HasDecided, HasFilled, frames_brought, frames_taken}
+use Rattle.device.specs.Frames.{HasDecided, HasFilled, frames_brought, sent_kept}
 use Rattle.task_set.specs.declared.tasks.Transfer.{Transfer}
 use Rattle.task_set.specs.declared.tasks.Wanted.{Wanted}
 use Rattle.task_set.specs.declared.tasks.Wanted.TheVariants as wanted
 use Rattle.device.specs.Kept.{DeviceCore, IsLayerWith}
-use Rattle.device.specs.Plans.{IsBare, IsPlanned, IsRequest}
+use Rattle.device.specs.Bare.{IsBare}
+use Rattle.device.specs.Plans.{IsPlanned, IsRequest}
 use Rattle.task_set.specs.Lists.{asked_among, is_in_use, short_allowed}
 
 -- Commands
@@ -52,8 +53,10 @@ pub record IsTaskOpened (before after : DeviceCore) (flags lun tag expected : �
         IsRequest r flags lun expected bytes → IsPlanned s r todo
     pub begun : (t : Translation) (claims : Claims) → IsLayerWith before.ftl t claims →
         HasBegun layer t claims tag todo phase
-    pub more : after ≡
-        frames_taken
+    -- then its task keeps what it sends
+    pub more : (t : Translation) → Describes layer t →
+        after
+        ≡ sent_kept t.numbers
         (record
         (with_task before (newly_open (record {
           tag = tag;

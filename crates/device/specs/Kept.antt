@@ -1,5 +1,5 @@
 -- What the device keeps, as its contracts see it.
-use Rattle.std.specs.Prelude.{ℕ, Bool, List, [], Option}
+use Rattle.std.specs.Prelude.{ℕ, Bool, false, List, [], Option}
 use Rattle.ufs_spec.specs.declared.configs.Numbers.{Numbers}
 use Rattle.ufs_spec.specs.declared.flash.Job.{Job}
 use Rattle.ufs_spec.specs.Dies.{DieState}
@@ -15,12 +15,14 @@ use Rattle.task_set.specs.declared.tasks.Short.{Short}
 abbrev pub IsLayerWith : Core → Translation → Claims → Type 0
 IsLayerWith c t claims = Describes c t × AreClaimed c claims
 
--- the translation layer, the boot setting, whether units are protected for ever, the RPMB machine of region 0 with its key
--- and its counter, the open tasks with what lies in their blocks of the pool, and the short exchanges
+-- the translation layer, the boot setting, whether units are protected for ever or until the next power cycle, the RPMB
+-- machine of region 0 with its key and its counter, the open tasks with what lies in their blocks of the pool, and the
+-- short exchanges
 pub record DeviceCore : Type 0 where
   pub ftl : Core
   pub boot : ℕ
   pub is_permanent : Bool
+  pub is_power_on : Bool
   pub rpmb : Machine
   pub tasks : List OpenTask
   pub shorts : List Short
@@ -38,6 +40,7 @@ idle_device layer settings blocks = record {
   ftl = layer;
   boot = settings.boot;
   is_permanent = settings.is_permanent;
+  is_power_on = false;
   rpmb = idle_machine settings blocks;
   tasks = [];
   shorts = [];

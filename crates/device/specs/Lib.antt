@@ -1,3 +1,4 @@
+pub mod Bare
 pub mod Calls
 pub mod Describes
 pub mod Frames
@@ -7,6 +8,7 @@ pub mod Kept
 pub mod Leftovers
 pub mod Opened
 pub mod Plans
+pub mod Queries
 pub mod Replies
 pub mod Rooms
 pub mod Targets

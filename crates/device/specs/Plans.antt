@@ -1,39 +1,32 @@
 -- What a command does, or the status that ends it: the first line of the table that applies decides.
-use Rattle.std.specs.Prelude.{◌≡◌, ℕ, ◌*◌, ◌==◌, ◌&&◌, ◌||◌, min, not, Bool, true, false, if◌then◌else◌, List, [], ◌∷◌, Option}
-use Rattle.std.specs.Prelude.{Some, None, Result, Ok}
-use Rattle.std.specs.Prelude.{Err}
+use Rattle.std.specs.Prelude.{◌≡◌, ℕ, ◌*◌, ◌==◌, ◌&&◌, ◌||◌, min, not, Bool, false, if◌then◌else◌, List, [], ◌∷◌}
+use Rattle.std.specs.Prelude.{Option}
+use Rattle.std.specs.Prelude.{Some, None, Result, Ok, Err}
 use Rattle.std.specs.Int.{div_ceil}
-use Rattle.std.specs.List.{list_any}
-use Rattle.ufs_spec.specs.Cdbs.{IsTakenCdb, operation_of, six_blocks}
-use Rattle.ufs_spec.specs.Exchanges.{Busy, Task, invalid_field, not_ready, sequence_error, write_protected}
+use Rattle.ufs_spec.specs.Cdbs.{IsTakenCdb, length_of, operation_of, six_blocks}
+use Rattle.ufs_spec.specs.Begins.{unit_or_first}
+use Rattle.ufs_spec.specs.Exchanges.{Busy, invalid_field, not_ready, sequence_error, write_protected}
 use Rattle.ufs_spec.specs.Keys.{data_key}
 use Rattle.ufs_spec.specs.Machine.{IsCdbIn}
 use Rattle.ufs_spec.specs.Refusals.{Line, Request, State, has_other_response, is_crowded, is_refused_write}
-use Rattle.ufs_spec.specs.Refusals.{lacks_response, line, mended, needs_mended, numbers_of, plain_now, refusal}
-use Rattle.ufs_spec.specs.Refusals.{operations_of, sends_frames}
-use Rattle.ufs_spec.specs.Messages.{is_among}
+use Rattle.ufs_spec.specs.Refusals.{lacks_response, line, mended, needs_mended, numbers_of, operation_in, refusal}
+use Rattle.ufs_spec.specs.Refusals.{units_listed}
+use Rattle.ufs_spec.specs.declared.configs.Numbers.{Numbers}
 use Rattle.ufs_spec.specs.declared.configs.UnitSpec.{UnitSpec}
 use Rattle.ufs_spec.specs.declared.scsi.Cdb.{Cdb}
 use Rattle.ufs_spec.specs.declared.scsi.Cdb.TheVariants as cdb
+use Rattle.device.specs.declared.plans.Identity.{Identity}
+use Rattle.device.specs.declared.plans.Identity.TheVariants as identity
 use Rattle.device.specs.declared.plans.Plan.{Plan}
 use Rattle.device.specs.declared.plans.Plan.TheVariants as plan
 use Rattle.task_set.specs.declared.tasks.ShortData.{ShortData}
 use Rattle.task_set.specs.declared.tasks.ShortData.TheVariants as sent
 use Rattle.task_set.specs.declared.tasks.Status.{Status}
-use Rattle.task_set.specs.Tasks.{data_length, is_sender, status_kept}
-use Rattle.device.specs.Kept.{DeviceCore}
-use Rattle.device.specs.Targets.{blocks_in, lun_named, target_of}
+use Rattle.task_set.specs.Tasks.{data_length, status_kept}
+use Rattle.device.specs.Targets.{IsNamed, blocks_in, target_of}
 use Rattle.device.specs.declared.targets.Target.{Target}
 
 -- What is checked
-
--- what is kept of a state beside its layer that the checks read; no command sets fPowerOnWPEn yet
-pub record IsBare (s : State) (d : DeviceCore) : Type 0 where
-  pub power_off : s.power_on ≡ false
-  pub permanent_is : d.is_permanent ≡ (plain_now s).permanent
-  -- the registers of region 0, the only one, and whether an open task brings frames
-  pub registers_are : s.registers 0 ≡ d.rpmb.registers
-  pub senders_are : list_any (λ (task : Task). sends_frames task.command) s.tasks ≡ list_any is_sender d.tasks
 
 -- a COMMAND of these fields; its command is the one that its CDB spells
 pub record IsRequest (r : Request) (flags lun expected : ℕ) (bytes : List ℕ) : Type 0 where
@@ -76,31 +69,52 @@ write_plan lun address blocks forced =
 abbrev pub data_plan : ℕ → ShortData → Plan
 data_plan expected x = if min expected (data_length x) == 0 then plan.Nothing (data_length x) else plan.Send x
 
--- what a command does that passed the table, where the host expects so many bytes
-abbrev pub plan_of : Target → ℕ → ℕ → Cdb → Plan
-plan_of to lun expected (cdb.RequestSense allocation) = data_plan expected (sent.NoSense allocation)
-plan_of to lun expected (cdb.Read6 address blocks) = read_plan lun expected address (six_blocks blocks)
-plan_of to lun expected (cdb.Write6 address blocks) = write_plan lun address (six_blocks blocks) false
-plan_of to lun expected cdb.ReadCapacity10 = data_plan expected (sent.Capacity (blocks_in to))
-plan_of to lun expected (cdb.Read10 address blocks forced) = read_plan lun expected address blocks
-plan_of to lun expected (cdb.Write10 address blocks forced) = write_plan lun address blocks forced
-plan_of to lun expected (cdb.SynchronizeCache10 address blocks immediate) =
+-- how many bytes of data a command has on a device with this configuration
+abbrev pub length_on : Numbers → Cdb → ℕ
+length_on n command = length_of (units_listed n command) command
+
+-- what a command about this target tells of the units
+abbrev pub identity_of : Target → Cdb → Option Identity
+identity_of to (cdb.Inquiry allocation) = Some (identity.Unit to.lun)
+identity_of to (cdb.ReportLuns select allocation) = Some (identity.Luns select)
+identity_of to command = None
+
+-- what a command does that tells this of the units in so many bytes
+abbrev pub tell_plan : ℕ → Identity → ℕ → Plan
+tell_plan expected told size = plan.Tell told size (min expected size)
+
+-- what a command about this target does that passed the table, on a device with this configuration, where the host
+-- expects so many bytes
+abbrev pub plan_of : Numbers → Target → ℕ → Cdb → Plan
+plan_of n to expected (cdb.RequestSense allocation) = data_plan expected (sent.NoSense allocation)
+plan_of n to expected (cdb.Inquiry allocation) =
+    tell_plan expected (identity.Unit to.lun) (length_on n (cdb.Inquiry allocation))
+plan_of n to expected (cdb.ReportLuns select allocation) =
+    tell_plan expected (identity.Luns select) (length_on n (cdb.ReportLuns select allocation))
+plan_of n to expected cdb.ReadCapacity10 = data_plan expected (sent.Capacity (blocks_in to.spec))
+plan_of n to expected (cdb.Read6 address blocks) =
+    read_plan (unit_or_first to.unit) expected address (six_blocks blocks)
+plan_of n to expected (cdb.Write6 address blocks) =
+    write_plan (unit_or_first to.unit) address (six_blocks blocks) false
+plan_of n to expected (cdb.Read10 address blocks forced) = read_plan (unit_or_first to.unit) expected address blocks
+plan_of n to expected (cdb.Write10 address blocks forced) =
+    write_plan (unit_or_first to.unit) address blocks forced
+plan_of n to expected (cdb.SynchronizeCache10 address blocks immediate) =
     if immediate then plan.Nothing 0 else plan.Flush
-plan_of to lun expected (cdb.SecurityOut region size) = plan.AskFrames size
-plan_of to lun expected (cdb.SecurityIn region size) = plan.TakeFrames size (min expected size)
-plan_of to lun expected command = plan.Nothing 0
+plan_of n to expected (cdb.SecurityOut region size) = plan.AskFrames size
+plan_of n to expected (cdb.SecurityIn region size) = plan.TakeFrames size (min expected size)
+plan_of n to expected command = plan.Nothing 0
 
 -- a request that no line of the table refuses, and what it does
 pub record Passes (s : State) (r : Request) (todo : Plan) : Type 0 where
   pub passed : refusal s r ≡ None
-  pub target : Target
-  pub there : target_of (numbers_of s) r.lun ≡ Some target
+  pub named : IsNamed s r
   pub command : Cdb
   pub is : r.cdb ≡ Some command
+  pub spelled : operation_of command ≡ operation_in r
   pub taken : IsTakenCdb command
   pub in_region : IsOfRegion command
-  pub takes_it : is_among (operations_of (lun_named r.lun target)) (operation_of command) ≡ true
-  pub todo_is : todo ≡ plan_of target r.lun r.expected command
+  pub todo_is : todo ≡ plan_of (numbers_of s) (target_of s r) r.expected command
 
 -- the plan of a request, or the status that ends it
 abbrev pub IsPlanned : State → Request → Result Plan Status → Type 0

@@ -1,6 +1,6 @@
 -- Which replies are due, what they say, and what becomes of their tasks.
 use Rattle.std.specs.Prelude.{◌≡◌, ℕ, ◌+◌, ◌-◌, ◌*◌, ◌≤◌, ◌++◌, min, nat_le, nat_lt, Bool, true, false, if◌then◌else◌}
-use Rattle.std.specs.Prelude.{find, ⊤, List, [], remove, take, Option, Some, None, option_map}
+use Rattle.std.specs.Prelude.{find, length, ⊤, List, remove, slice_get, take, Option, Some, None, option_map}
 use Rattle.std.specs.List.{list_any}
 use Rattle.byteorder.specs.Endian.{big_bytes}
 use Rattle.ufs_spec.specs.Exchanges as exchange
@@ -10,15 +10,18 @@ use Rattle.ufs_spec.specs.Machine.{no_sense}
 use Rattle.ufs_spec.specs.Messages.{spelling, zeros}
 use Rattle.ufs_spec.specs.Moves.{Acknowledge, LetGo, LetGoAll, WantPage, is_pin_of, moved}
 use Rattle.ufs_spec.specs.Plain.{zero_block}
+use Rattle.ufs_spec.specs.Queries.{Query, descriptor_told}
+use Rattle.ufs_spec.specs.QueryAnswers.{query_failed}
 use Rattle.ufs_spec.specs.Translation.{Pin, Rest, Translation, is_rest_of}
-use Rattle.ufs_spec.specs.declared.messages.Asked.{Asked}
+use Rattle.ufs_spec.specs.declared.configs.Numbers.{Numbers}
 use Rattle.ufs_spec.specs.declared.messages.Message.{Message}
 use Rattle.ufs_spec.specs.declared.messages.Message.TheVariants as message
 use Rattle.ufs_spec.specs.declared.layer.Looked.{Looked}
 use Rattle.ufs_spec.specs.declared.layer.Looked.TheVariants.{InSlot, OnPage, Unwritten}
-use Rattle.ftl_core.specs.Public.{Claims, Core}
+use Rattle.ftl_core.specs.Public.{Claims, Core, Describes}
 use Rattle.task_set.specs.declared.tasks.Phase.{Phase}
 use Rattle.task_set.specs.declared.tasks.Phase.TheVariants as phase
+use Rattle.task_set.specs.declared.tasks.Queried.{Queried}
 use Rattle.task_set.specs.declared.tasks.Sending.{Sending}
 use Rattle.task_set.specs.declared.tasks.Short.{Short}
 use Rattle.task_set.specs.declared.tasks.ShortData.{ShortData}
@@ -30,6 +33,7 @@ use Rattle.task_set.specs.declared.tasks.Task.{Task}
 use Rattle.task_set.specs.declared.tasks.TaskEvent.TheVariants as event
 use Rattle.task_set.specs.declared.tasks.ShortData.TheVariants as sent
 use Rattle.task_set.specs.Kept.{OpenTask, task_in}
+use Rattle.task_set.specs.Shorts.{is_short_due}
 use Rattle.task_set.specs.declared.frames.Frames.{Frames}
 use Rattle.task_set.specs.declared.frames.Frames.TheVariants.{Answered, Decided, NotBrought, Undecided}
 use Rattle.device.specs.Calls.{with_event}
@@ -38,8 +42,8 @@ use Rattle.task_set.specs.Tasks.{data_length, status_kept}
 
 -- Blocks
 
--- a block that was looked up, once it is there: zeros if nothing was ever written, the body in the slot unless this waits
--- for its rest, or what was read
+-- a block that was looked up, once it is there: zeros if nothing was ever written, the body in the slot unless this
+-- waits for its rest, or what was read
 abbrev pub block_at : List Rest → Ledger → Option (List ℕ) → Looked → Option (List ℕ)
 block_at rests l read Unwritten = Some zero_block
 block_at rests l read (InSlot name) =
@@ -95,11 +99,11 @@ data_count expected x =
 abbrev pub data_message : Task → ShortData → Message
 data_message t x = message.DataIn t.lun t.tag 0 (record { items = take (data_count t.expected x) (data_padded x) })
 
--- how many bytes of frames are sent: as many as the host expects, at least one and at most 4096
+-- how many bytes of what a task keeps are sent: as many as the host expects, at least one and at most 4096
 abbrev pub frames_count : ℕ → ℕ → ℕ
 frames_count expected size = count_in (min expected size)
 
--- the DATA IN of frames of so many bytes: all that the host expects of them in one message
+-- the DATA IN of what a task keeps, so many bytes: all that the host expects of them in one message
 abbrev pub frames_message : Task → ℕ → List ℕ → Message
 frames_message t size held =
     message.DataIn t.lun t.tag 0 (record { items = take (frames_count t.expected size) held })
@@ -127,7 +131,7 @@ owed_in t read held a (phase.SendData x) = Some (data_message a x)
 owed_in t read held a (phase.AskFrames size) = Some (message.ReadyToTransfer a.lun a.tag 0 size)
 owed_in t read held a (phase.AwaitFrames size) = None
 owed_in t read held a (phase.ReadArea r) = area_reply a r.length
-owed_in t read held a (phase.SendFrames size) = option_map (frames_message a size) held
+owed_in t read held a (phase.SendHeld size) = option_map (frames_message a size) held
 owed_in t read held a (phase.Answer s n) = Some (answer_of a s n)
 
 -- the reply that the task owes now, by what the layer keeps and what was read
@@ -157,7 +161,7 @@ moved_on d k (phase.SendBlocks x) = with_event d k event.BlockSent
 moved_on d k (phase.AskFrames size) = with_event d k event.DataAskedFor
 moved_on d k (phase.AwaitFrames size) = d
 moved_on d k (phase.ReadArea r) = without_task d k
-moved_on d k (phase.SendFrames size) = with_event d k event.DataSent
+moved_on d k (phase.SendHeld size) = with_event d k event.DataSent
 moved_on d k (phase.Answer s n) = without_task d k
 
 -- the layer then: a block that was handed out is let go; a task that ends keeps nothing, and what it waited for is
@@ -173,7 +177,7 @@ HasMoved after t claims tag (phase.SendBlocks x) =
     IsLayerWith after (moved (moved t (LetGo tag x.sent)) (WantPage tag (x.sent + 1))) claims
 HasMoved after t claims tag (phase.AskFrames size) = IsLayerWith after t claims
 HasMoved after t claims tag (phase.AwaitFrames size) = IsLayerWith after t claims
-HasMoved after t claims tag (phase.SendFrames size) = IsLayerWith after t claims
+HasMoved after t claims tag (phase.SendHeld size) = IsLayerWith after t claims
 HasMoved after t claims tag (phase.ReadArea r) = IsLayerWith after (moved t (LetGoAll tag)) claims
 HasMoved after t claims tag (phase.Answer s n) = IsLayerWith after (moved t (LetGoAll tag)) claims
 
@@ -184,21 +188,41 @@ abbrev pub function_of : Bool → ℕ
 function_of true = 0x81
 function_of false = 0x01
 
--- the answer FEh, invalid opcode, to a query: no query is answered otherwise yet (JESD220, 10.7.9)
-abbrev pub not_queried : ℕ → ℕ → Asked → Message
-not_queried tag function asked = message.QueryResponse tag function 0xFE asked 0 0 (record { items = [] })
+-- what a short exchange keeps of a query, with this value
+abbrev pub query_with : Queried → ℕ → Query
+query_with q value =
+    record { function = function_of q.writing; asked = q.asked; length = q.length; value = value }
 
--- what a reply of one says with its tag
-abbrev pub short_said : ℕ → ShortReply → Message
-short_said tag (reply.TaskSetFull lun expected) = response lun tag expected 0 exchange.TaskSetFull
-short_said tag reply.NopIn = message.NopIn tag
-short_said tag (reply.NotManaged lun) = message.TaskResponse lun tag 0x04
-short_said tag (reply.NotQueried writing asked) = not_queried tag (function_of writing) asked
+-- the answer to a query that succeeded: the descriptor that it asked for, or this value (JESD220, 10.7.9)
+abbrev pub query_answer : Numbers → ℕ → Query → ℕ → Message
+query_answer n tag q value =
+    message.QueryResponse tag q.function 0x00 q.asked (length (descriptor_told n q)) value
+    (record { items = descriptor_told n q })
+
+-- what a reply of one says with its tag, on a device with this configuration
+abbrev pub short_said : Numbers → ℕ → ShortReply → Message
+short_said n tag (reply.TaskSetFull lun expected) = response lun tag expected 0 exchange.TaskSetFull
+short_said n tag reply.NopIn = message.NopIn tag
+short_said n tag (reply.NotManaged lun) = message.TaskResponse lun tag 0x04
+short_said n tag (reply.QueryFailed query code) = query_failed tag (query_with query 0) code
+short_said n tag (reply.QueryDone query value) = query_answer n tag (query_with query 0) value
 
 -- the one reply that a short exchange is owed
-abbrev pub short_message : Short → Message
-short_message short = short_said short.tag short.reply
+abbrev pub short_message : Numbers → Short → Message
+short_message n short = short_said n short.tag short.reply
 
--- the short exchange that came first has its reply, and its tag is free again
-abbrev pub without_first : DeviceCore → DeviceCore
-without_first d = record d { shorts = remove d.shorts 0 }
+-- the short exchange at this position has its reply, and its tag is free again
+abbrev pub without_short : DeviceCore → ℕ → DeviceCore
+without_short d k = record d { shorts = remove d.shorts k }
+
+-- the first short exchange that is due has handed out its reply, in these bytes, and what it waited for may be
+-- acknowledged
+pub record IsShortReplied (before after : DeviceCore) (bytes : List ℕ) : Type 0 where
+  pub index : ℕ
+  pub short : Short
+  pub there : slice_get before.shorts index ≡ Some short
+  pub due : (t : Translation) → Describes before.ftl t → is_short_due t.ledger.frontier short ≡ true
+  pub said : (t : Translation) → Describes before.ftl t → bytes ≡ spelling (short_message t.numbers short)
+  pub after_is : after ≡ without_short before index
+  pub told : (t : Translation) (count : ℕ) → Describes before.ftl t →
+      before_accepted t.ledger + count ≤ t.ledger.frontier → Describes after.ftl (moved t (Acknowledge count))

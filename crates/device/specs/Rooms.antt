@@ -11,6 +11,7 @@ core_of d = record {
   ftl = d.ftl;
   boot = d.boot;
   is_permanent = d.is_permanent;
+  is_power_on = d.is_power_on;
   rpmb = d.rpmb;
   tasks = d.set.tasks;
   shorts = d.set.shorts;

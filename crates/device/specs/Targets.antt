@@ -1,32 +1,30 @@
--- What the LUN byte of a command names: a unit of the configuration, or the replay protected memory block (JESD220,
--- 10.8.5).
-use Rattle.std.specs.Prelude.{ℕ, ◌==◌, if◌then◌else◌, slice_get, Option, Some, None}
-use Rattle.ufs_spec.specs.Refusals.{Lun, RpmbUnit, UnitOf}
-use Rattle.ufs_spec.specs.declared.configs.Numbers.{Numbers}
+-- What a command is about: the unit whose blocks it reads or writes (JESD220, 10.8).
+use Rattle.std.specs.Prelude.{◌≡◌, ℕ, true, false, Option, Some, None, Result, Ok, Err}
+use Rattle.ufs_spec.specs.Exchanges.{CheckCondition}
+use Rattle.ufs_spec.specs.Messages.{is_among}
+use Rattle.ufs_spec.specs.Refusals.{Lun, Request, State, lacks_unit, lun_of, numbers_of, operation_in, operations_of}
+use Rattle.ufs_spec.specs.Refusals.{refusal, unit_numbers_of, unit_of_request}
 use Rattle.ufs_spec.specs.declared.configs.UnitSpec.{UnitSpec}
+use Rattle.ufs_spec.specs.declared.scsi.Sense.{Sense}
 use Rattle.device.specs.declared.targets.Target.{Target}
-use Rattle.device.specs.declared.targets.Target.TheVariants as target
 
--- what the definitions call it
-abbrev pub lun_named : ℕ → Target → Lun
-lun_named lun (target.Unit unit) = UnitOf lun
-lun_named lun target.Rpmb = RpmbUnit
+-- how many blocks a unit has, if there is one
+abbrev pub blocks_in : Option UnitSpec → ℕ
+blocks_in None = 0
+blocks_in (Some u) = u.blocks
 
--- its unit, if it has blocks
-abbrev pub unit_named : Target → Option UnitSpec
-unit_named (target.Unit unit) = Some unit
-unit_named target.Rpmb = None
+-- what a request is about
+abbrev pub target_of : State → Request → Target
+target_of s r = record { lun = r.lun; unit = unit_of_request s r; spec = unit_numbers_of s r }
 
--- how many blocks it has
-abbrev pub blocks_in : Target → ℕ
-blocks_in (target.Unit unit) = unit.blocks
-blocks_in target.Rpmb = 0
+-- the LUN byte of the request names a unit that is there and takes the operation code
+pub record IsNamed (s : State) (r : Request) : Type 0 where
+  pub lun : Lun
+  pub named : lun_of (numbers_of s) r.lun ≡ Some lun
+  pub there : lacks_unit s r (Some lun) ≡ false
+  pub takes_it : is_among (operations_of lun) (operation_in r) ≡ true
 
--- a unit of the configuration, if it is one; else C4h is the replay protected memory block
-abbrev pub target_or : ℕ → Option UnitSpec → Option Target
-target_or lun (Some unit) = Some (target.Unit unit)
-target_or lun None = if lun == 0xC4 then Some target.Rpmb else None
-
--- what the byte names on a device of this configuration
-abbrev pub target_of : Numbers → ℕ → Option Target
-target_of n lun = target_or lun (slice_get n.units.items lun)
+-- what the request is about; or the status that ends it, where its unit is not there or does not take the code
+abbrev pub IsRouted : State → Request → Result Target Sense → Type 0
+IsRouted s r (Ok target) = IsNamed s r × (target ≡ target_of s r)
+IsRouted s r (Err sense) = refusal s r ≡ Some (CheckCondition sense)

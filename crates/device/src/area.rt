@@ -25,7 +25,7 @@ use task_set::{AreaReading, PageRead, Phase, Task, TaskEvent};
 use ufs_spec::{Block, Key, Looked, Tag};
 
 /// How many blocks of the area a page has.
-const PAGE_BLOCKS: u16 = 16;
+pub(crate) const PAGE_BLOCKS: u16 = 16;
 
 /// How many blocks a request may ask for.
 const MOST_BLOCKS: u16 = 8;
@@ -34,7 +34,7 @@ const MOST_BLOCKS: u16 = 8;
 pub(crate) type AreaData = ArrayVec<u8, 2048>;
 
 /// The key of a page of the area.
-fn area_key(page: u16) -> Key
+pub(crate) fn area_key(page: u16) -> Key
     ensures { result ≡ area_key 0 page }
 {
     Key {

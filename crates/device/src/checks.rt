@@ -7,21 +7,23 @@ ghost use Rattle.ufs_spec.specs.Cdbs.{length_of as length_of_command};
 ghost use Rattle.ufs_spec.specs.Refusals.{Request, State, first_line, flushes, has_other_response};
 ghost use Rattle.ufs_spec.specs.Refusals.{is_crowded, is_frames, is_past, is_protected, is_refused_write};
 ghost use Rattle.ufs_spec.specs.Refusals.{is_too_long, lacks_data, lacks_response, lines_for, mended};
-ghost use Rattle.ufs_spec.specs.Refusals.{needs_mended, slots_needed, unit_numbers_of, writes};
+ghost use Rattle.ufs_spec.specs.Refusals.{needs_mended, numbers_of, slots_needed, unit_numbers_of, units_listed};
+ghost use Rattle.ufs_spec.specs.Refusals.{writes};
 ghost use Rattle.ufs_spec.specs.Keys.{data_key};
 ghost use Rattle.ufs_spec.specs.declared.configs.Numbers.{Numbers};
 ghost use Rattle.ftl_core.specs.Public.{Describes as IsLayer};
-ghost use Rattle.device.specs.Plans.{IsBare, IsOfRegion, IsPlanned, IsRequest, data_plan, lines_now};
-ghost use Rattle.device.specs.Plans.{plan_of, read_plan, write_plan};
-ghost use Rattle.device.specs.Targets.{unit_named};
+ghost use Rattle.device.specs.Bare.{IsBare};
+ghost use Rattle.device.specs.Plans.{IsOfRegion, IsPlanned, IsRequest, data_plan, identity_of, lines_now};
+ghost use Rattle.device.specs.Plans.{plan_of, read_plan, tell_plan, write_plan};
 ghost use Rattle.task_set.specs.Tasks.{status_kept};
 
 use crate::device::Device;
-use crate::plans::Plan;
+use crate::plans::{Identity, Plan};
 use crate::targets::Target;
+use lun_route::units_listed;
 use scsi_cdb::{address_of, blocks_of, length_of};
 use task_set::{BLOCK_BYTES, ShortData, Status};
-use ufs_spec::{Cdb, GREATEST_COMMAND, Key, Sense, Tag};
+use ufs_spec::{Cdb, GREATEST_COMMAND, Key, Numbers, Sense, Tag, UnitSpec};
 
 /// The flags of a COMMAND whose data go to the device, and of one whose data come from it (JESD220,
 /// 10.7.1).
@@ -35,16 +37,32 @@ const FRAME_BYTES: u32 = 512;
 /// How many frames a command has at most.
 const MOST_FRAMES: u32 = 8;
 
+/// The protection of a unit while fPowerOnWPEn is set, and of one while fPermanentWPEn is set (JESD220,
+/// 14.1.4.5).
+const POWER_ON: u8 = 1;
+
+const PERMANENT: u8 = 2;
+
 /// How many slots a SECURITY PROTOCOL OUT claims: for two pages of the area and the settings.
 pub(crate) const FRAME_SLOTS: u16 = 3;
 
-/// Whether the flag of the direction of the command's data is not set, or the host has fewer bytes to
-/// write than the command.
-fn lacks_data(cdb: &Cdb, flags: u8, expected: u32) -> bool
-    ensures { (r : Request) → IsTakenCdb cdb.now → r.flags ≡ flags → r.expected ≡ expected →
-        result ≡ lacks_data r (direction_of cdb.now) (length_of_command 0 cdb.now) }
+/// How many units a REPORT LUNS lists; no other command lists any.
+fn listed_by(numbers: &Numbers, cdb: &Cdb) -> u8
+    ensures { result ≡ units_listed numbers.now cdb.now }
 {
-    let length = length_of(0, cdb);
+    match cdb {
+        Cdb::ReportLuns { select, .. } => units_listed(numbers, *select),
+        _ => 0,
+    }
+}
+
+/// Whether the flag of the direction of the command's data is not set, or the host has fewer bytes to
+/// write than the command. A REPORT LUNS lists so many units.
+fn lacks_data(listed: u8, cdb: &Cdb, flags: u8, expected: u32) -> bool
+    ensures { (r : Request) → IsTakenCdb cdb.now → r.flags ≡ flags → r.expected ≡ expected →
+        result ≡ lacks_data r (direction_of cdb.now) (length_of_command listed cdb.now) }
+{
+    let length = length_of(listed, cdb);
     match cdb {
         Cdb::TestUnitReady | Cdb::SynchronizeCache10 { .. } => false,
         Cdb::Write6 { .. } | Cdb::Write10 { .. } | Cdb::SecurityOut { .. } => {
@@ -74,20 +92,27 @@ fn are_frames(length: u32) -> bool
 }
 
 /// Whether a block of the command lies past the unit.
-fn is_out_of_range(cdb: &Cdb, target: Target) -> bool
-    ensures { result ≡ is_past cdb.now (unit_named target) }
+fn is_out_of_range(cdb: &Cdb, unit: Option<UnitSpec>) -> bool
+    ensures { result ≡ is_past cdb.now unit }
 {
-    match target {
-        Target::Unit(unit) => address_of(cdb) as u64 + blocks_of(cdb) as u64 > unit.blocks as u64,
-        Target::Rpmb => false,
+    match unit {
+        Some(unit) => address_of(cdb) as u64 + blocks_of(cdb) as u64 > unit.blocks as u64,
+        None => false,
     }
 }
 
-/// Whether the command is taken only once the device is mended: all but REQUEST SENSE and READ CAPACITY.
+/// Whether the command is taken only once the device is mended: all but those that tell of the device
+/// and of its units.
 fn needs_mended(cdb: &Cdb) -> bool
     ensures { IsTakenCdb cdb.now → result ≡ needs_mended (operation_of cdb.now) }
 {
-    !matches!(cdb, Cdb::RequestSense { .. } | Cdb::ReadCapacity10)
+    !matches!(
+        cdb,
+        Cdb::RequestSense { .. }
+            | Cdb::ReadCapacity10
+            | Cdb::Inquiry { .. }
+            | Cdb::ReportLuns { .. }
+    )
 }
 
 /// Whether the command writes blocks.
@@ -120,14 +145,48 @@ fn slots_needed(cdb: &Cdb) -> u32
     }
 }
 
-/// What a command that passed the checks does.
-fn plan_of(cdb: &Cdb, target: Target, lun: u8, expected: u32) -> Plan
+/// What a command about this target does that passed the checks.
+fn plan_of(numbers: &Numbers, cdb: &Cdb, target: Target, expected: u32) -> Plan
     requires { blocks_of cdb.now ≤ greatest_command }
-    ensures { IsTakenCdb cdb.now → result ≡ plan_of target lun expected cdb.now }
+    ensures { IsTakenCdb cdb.now → result ≡ plan_of numbers.now target expected cdb.now }
+{
+    match identity_of(cdb, target) {
+        Some(told) => tell_plan(told, length_of(listed_by(numbers, cdb), cdb), expected),
+        None => other_plan(cdb, target, expected),
+    }
+}
+
+/// What a command about this target tells of the units.
+fn identity_of(cdb: &Cdb, target: Target) -> Option<Identity>
+    ensures { result ≡ identity_of target cdb.now }
+{
+    match cdb {
+        Cdb::Inquiry { .. } => Some(Identity::Unit { lun: target.lun }),
+        Cdb::ReportLuns { select, .. } => Some(Identity::Luns { select: *select }),
+        _ => None,
+    }
+}
+
+/// What a command does that tells of the units in so many bytes.
+fn tell_plan(told: Identity, length: u32, expected: u32) -> Plan
+    ensures { result ≡ tell_plan expected told length }
+{
+    Plan::Tell {
+        told,
+        length,
+        taken: expected.min(length),
+    }
+}
+
+/// The plan of a command that does not tell of the units.
+fn other_plan(cdb: &Cdb, target: Target, expected: u32) -> Plan
+    requires { blocks_of cdb.now ≤ greatest_command }
+    ensures { (n : Numbers) → IsTakenCdb cdb.now → identity_of target cdb.now ≡ None →
+        result ≡ plan_of n target expected cdb.now }
 {
     let key = Key {
         kind: Tag::DATA,
-        unit: lun,
+        unit: target.unit_of_blocks(),
         address: address_of(cdb),
     };
     match cdb {
@@ -216,14 +275,12 @@ impl Device {
         ensures { (s : State) (r : Request) → IsLayer self.now.ftl s.translation → IsBare s self.now →
             IsRequest r flags lun expected cdb.now → IsPlanned s r result }
     {
-        let Some(target) = self.target(lun) else {
-            return Err(Status::CheckCondition(Sense::NO_UNIT));
+        let target = match self.target(lun, cdb[0]) {
+            Ok(target) => target,
+            Err(sense) => return Err(Status::CheckCondition(sense)),
         };
-        if !target.takes(cdb[0]) {
-            return Err(Status::CheckCondition(Sense::INVALID_OPCODE));
-        }
         match scsi_cdb::read(cdb) {
-            Ok(cdb) => self.plan_taken(lun, flags, expected, target, &cdb),
+            Ok(cdb) => self.plan_taken(flags, expected, target, &cdb),
             Err(sense) => Err(Status::CheckCondition(sense)),
         }
     }
@@ -231,32 +288,32 @@ impl Device {
     /// What a command that is taken does.
     fn plan_taken(
         &self,
-        lun: u8,
         flags: u8,
         expected: u32,
         target: Target,
         cdb: &Cdb,
     ) -> Result<Plan, Status>
-        ensures planned { IfOk result (λ todo. IsTakenCdb cdb.now → todo ≡ plan_of target lun expected cdb.now) }
+        ensures planned { IfOk result (λ todo. (s : State) → IsLayer self.now.ftl s.translation → IsTakenCdb cdb.now →
+            todo ≡ plan_of (numbers_of s) target expected cdb.now) }
         ensures passed { IsOk result → (s : State) (r : Request) → IsLayer self.now.ftl s.translation →
-            IsBare s self.now → unit_numbers_of s r ≡ unit_named target → r.flags ≡ flags →
+            IsBare s self.now → unit_numbers_of s r ≡ target.spec → r.flags ≡ flags →
             r.expected ≡ expected → IsTakenCdb cdb.now → IsOfRegion cdb.now →
             first_line (lines_for s r cdb.now) ≡ None }
         ensures refused { IfErr result (λ told. (s : State) (r : Request) → IsLayer self.now.ftl s.translation →
-            IsBare s self.now → unit_numbers_of s r ≡ unit_named target → r.flags ≡ flags →
+            IsBare s self.now → unit_numbers_of s r ≡ target.spec → r.flags ≡ flags →
             r.expected ≡ expected → IsTakenCdb cdb.now → IsOfRegion cdb.now →
             first_line (lines_for s r cdb.now) ≡ Some (status_kept told)) }
     {
-        match self.refusal(target, flags, expected, cdb) {
+        match self.refusal(target.spec, flags, expected, cdb) {
             Some(refused) => Err(refused),
-            None => Ok(plan_of(cdb, target, lun, expected)),
+            None => Ok(plan_of(self.ftl.numbers(), cdb, target, expected)),
         }
     }
 
     /// Why a command that is taken is refused, if it is.
-    fn refusal(&self, target: Target, flags: u8, expected: u32, cdb: &Cdb) -> Option<Status>
+    fn refusal(&self, unit: Option<UnitSpec>, flags: u8, expected: u32, cdb: &Cdb) -> Option<Status>
         ensures what { (s : State) (r : Request) → IsLayer self.now.ftl s.translation →
-            IsBare s self.now → unit_numbers_of s r ≡ unit_named target → r.flags ≡ flags →
+            IsBare s self.now → unit_numbers_of s r ≡ unit → r.flags ≡ flags →
             r.expected ≡ expected → IsTakenCdb cdb.now → IsOfRegion cdb.now →
             first_line (lines_for s r cdb.now) ≡ option_map status_kept result }
         ensures few { result ≡ None → blocks_of cdb.now ≤ greatest_command }
@@ -264,25 +321,25 @@ impl Device {
         if is_too_long(cdb) {
             return Some(Status::CheckCondition(Sense::INVALID_FIELD));
         }
-        if lacks_data(cdb, flags, expected) {
+        if lacks_data(listed_by(self.ftl.numbers(), cdb), cdb, flags, expected) {
             return Some(Status::CheckCondition(Sense::INVALID_FIELD));
         }
-        if is_out_of_range(cdb, target) {
+        if is_out_of_range(cdb, unit) {
             return Some(Status::CheckCondition(Sense::OUT_OF_RANGE));
         }
-        self.refusal_now(target, cdb)
+        self.refusal_now(unit, cdb)
     }
 
     /// The same by what the device is now.
-    fn refusal_now(&self, target: Target, cdb: &Cdb) -> Option<Status>
+    fn refusal_now(&self, unit: Option<UnitSpec>, cdb: &Cdb) -> Option<Status>
         ensures { (s : State) → IsLayer self.now.ftl s.translation → IsBare s self.now →
             IsTakenCdb cdb.now → IsOfRegion cdb.now →
-            first_line (lines_now s (unit_named target) cdb.now) ≡ option_map status_kept result }
+            first_line (lines_now s unit cdb.now) ≡ option_map status_kept result }
     {
         if self.is_too_early(cdb) {
             return Some(Status::CheckCondition(Sense::NOT_READY));
         }
-        if self.is_refused_write(target, cdb) {
+        if self.is_refused_write(unit, cdb) {
             return Some(Status::CheckCondition(Sense::WRITE_PROTECTED));
         }
         if self.lacks_response(cdb) {
@@ -338,23 +395,27 @@ impl Device {
 
     /// Whether the command writes to a protected unit or a locked device, or flushes a locked device
     /// with something pending.
-    fn is_refused_write(&self, target: Target, cdb: &Cdb) -> bool
+    fn is_refused_write(&self, unit: Option<UnitSpec>, cdb: &Cdb) -> bool
         ensures { (s : State) → IsLayer self.now.ftl s.translation → IsBare s self.now →
-            IsTakenCdb cdb.now → result ≡ is_refused_write s (unit_named target) cdb.now }
+            IsTakenCdb cdb.now → result ≡ is_refused_write s unit cdb.now }
     {
-        let is_protected = self.is_protected(target);
+        let is_protected = self.is_protected(unit);
         let is_locked = self.ftl.is_locked();
         (writes(cdb) && (is_protected || is_locked))
             || (flushes(cdb) && is_locked && self.ftl.has_pending())
     }
 
-    /// Whether it is a unit that is protected.
-    fn is_protected(&self, target: Target) -> bool
-        ensures { (s : State) → IsBare s self.now → result ≡ is_protected s (unit_named target) }
+    /// Whether it is a unit that is protected: until the next power cycle, or for ever (JESD220,
+    /// 14.1.4.5).
+    fn is_protected(&self, unit: Option<UnitSpec>) -> bool
+        ensures { (s : State) → IsBare s self.now → result ≡ is_protected s unit }
     {
-        match target {
-            Target::Unit(unit) => unit.protect == 2 && self.is_permanent,
-            Target::Rpmb => false,
+        match unit {
+            Some(unit) => {
+                (unit.protect == POWER_ON && self.is_power_on)
+                    || (unit.protect == PERMANENT && self.is_permanent)
+            }
+            None => false,
         }
     }
 }

@@ -14,13 +14,17 @@ ghost use Rattle.ufs_spec.specs.Messages.{Spells, host_fault_of};
 ghost use Rattle.ufs_spec.specs.Translation.{Translation};
 ghost use Rattle.ftl_core.specs.Public.{Claims};
 ghost use Rattle.device.specs.Kept.{IsLayerWith};
+ghost use Rattle.device.specs.Queries.{at_once};
 ghost use Rattle.ufs_spec.specs.declared.Message.{Message};
 
 use crate::device::Device;
 use crate::plans::Plan;
-use crate::requests::{frames_of, frames_phase};
-use crate::responses::STANDARD_WRITE;
-use task_set::{AskedFor, Phase, Sending, ShortReply, Status, Task, TaskEvent, Transfer, Wanted};
+use crate::queries::at_once;
+use crate::requests::{frames_of, held_phase};
+use descriptors::STANDARD_WRITE;
+use task_set::{
+    AskedFor, Phase, Queried, Sending, ShortReply, Status, Task, TaskEvent, Transfer, Wanted,
+};
 use ufs_spec::{HostFault, Key, Message};
 
 impl Device {
@@ -82,13 +86,16 @@ impl Device {
                 tag,
                 function,
                 asked,
+                length,
+                value,
                 ..
             } => {
-                let reply = ShortReply::NotQueried {
+                let query = Queried {
                     writing: *function == STANDARD_WRITE,
                     asked: *asked,
+                    length: *length,
                 };
-                self.open_short(*tag, reply)
+                self.query(*tag, query, *value)
             }
             _ => Err(HostFault::Code),
         }
@@ -147,7 +154,7 @@ impl Device {
             phase,
             frames: frames_of(planned),
         });
-        self.take_frames(planned);
+        self.keep_sent(planned);
     }
 
     /// One task more.
@@ -158,14 +165,16 @@ impl Device {
         self.set.open(task);
     }
 
-    /// An exchange of one reply is open from now on, if its tag is free and fewer are open than may be.
+    /// An exchange whose reply is due at once is open from now on, if its tag is free and fewer are open
+    /// than may be.
     fn open_short(&mut self, tag: u8, reply: ShortReply) -> Result<(), HostFault>
         ensures refused { OnErr result (self.new ≡ self.old) }
         ensures answer { result ≡ short_answer self.old tag }
-        ensures after { OnOk result (self.new ≡
-            with_short self.old (record { tag = tag; reply = reply })) }
+        ensures after { OnOk result (self.new ≡ with_short self.old (at_once tag reply)) }
     {
-        self.set.open_short(tag, reply)
+        self.set.may_open_short(tag)?;
+        self.push_short(at_once(tag, reply));
+        Ok(())
     }
 
     /// Begins what a command does, or answers why it does not.
@@ -192,7 +201,14 @@ impl Device {
             ) => self.begin_write(tag, key, blocks, forced),
             Ok(Plan::Send { data }) => Phase::SendData { data },
             Ok(Plan::AskFrames { length }) => self.begin_frames(tag, length),
-            Ok(Plan::TakeFrames { length, taken }) => frames_phase(length, taken),
+            Ok(Plan::TakeFrames { length, taken }) => held_phase(length, taken),
+            Ok(
+                Plan::Tell {
+                    told: _,
+                    length,
+                    taken,
+                },
+            ) => held_phase(length, taken),
             Ok(Plan::Flush) => Phase::AwaitFrontier {
                 number: self.ftl.last_number(),
                 length: 0,

@@ -44,10 +44,13 @@ fn area_blocks(steps: u8) -> u32
 pub struct Device {
     /// The translation layer, which keeps for each READ what its blocks were when the COMMAND came.
     pub(crate) ftl: Ftl,
-    /// bBootLunEn, the boot unit that is used, 0 for none (JESD220, 14). No command changes it yet.
+    /// bBootLunEn as it was accepted, durable or not: the boot unit that is used, 0 for none (JESD220,
+    /// 14.3).
     pub(crate) boot: u8,
-    /// Whether the units that are protected for ever are so from now on. No command changes it yet.
+    /// fPermanentWPEn as it was accepted: units are protected for ever (JESD220, 14.2).
     pub(crate) is_permanent: bool,
+    /// fPowerOnWPEn: units are protected until the next power cycle (JESD220, 14.2).
+    pub(crate) is_power_on: bool,
     /// The replay protected memory block of region 0, the only one: its key and counter, and its registers.
     pub(crate) rpmb: Rpmb,
     /// The tasks that are open, the exchanges of one reply, and the blocks that dies read for the tasks.
@@ -119,6 +122,7 @@ impl Device {
             ftl,
             boot: settings.boot,
             is_permanent: settings.is_permanent,
+            is_power_on: false,
             rpmb: Rpmb::new(alloc, settings.key, settings.counter, blocks)?,
             set: TaskSet::new(alloc)?,
         })
@@ -211,7 +215,7 @@ impl Device {
         }
     }
 
-    /// A lock ends each task that waits for a group to become durable.
+    /// A lock ends each task and each short exchange that waits for a group to become durable.
     pub(crate) fn end_waiting(&mut self)
         ensures { (t : Translation) → IsLayer self.old.ftl t → self.new ≡ lock_told t self.old }
     {

@@ -1,4 +1,5 @@
-//! The groups of RPMB requests that are accepted: the pages that a key or a write brings (JESD220, 12.4).
+//! The groups that are accepted of RPMB requests and of settings: the pages that they bring (JESD220,
+//! 12.4 and 14).
 ghost use Rattle.std.specs.Prelude.{◌≡◌, ◌≤◌, ◌+◌, ◌*◌, ◌/◌, IsTrue, length};
 ghost use Rattle.device.specs.Frames.{HasAccepted};
 ghost use Rattle.device.specs.Groups.{HasPut, IsBrought, key_group, settings_kept, write_group};
@@ -8,6 +9,7 @@ ghost use Rattle.rpmb.specs.Requests.{frames_of};
 ghost use Rattle.settings.specs.Told.{bytes_of};
 ghost use Rattle.ufs_spec.specs.Keys.{area_key, settings_key};
 
+use crate::area::{PAGE_BLOCKS, area_key};
 use crate::device::Device;
 use ftl_core::{Brought, Part};
 use rpmb::{Accepted, all_data};
@@ -17,9 +19,6 @@ use ufs_spec::{Block, Key, Tag};
 
 /// How many bytes the area has in each of its blocks (JESD220, 12.4).
 const BLOCK: usize = 256;
-
-/// How many such blocks a page has.
-const PAGE_BLOCKS: u16 = 16;
 
 /// The settings page, which is brought whole.
 fn settings_brought(page: &Block) -> Brought<'_>
@@ -46,11 +45,7 @@ fn area_brought(page: u16, first: u8, bytes: &[u8]) -> Brought<'_>
     ensures { IsBrought (area_key 0 page) first bytes.now result }
 {
     Brought {
-        key: Key {
-            kind: Tag::RPMB_AREA,
-            unit: 0,
-            address: u32::from(page),
-        },
+        key: area_key(page),
         part: Part {
             first,
             blocks: (bytes.len() / BLOCK) as u8,
@@ -61,7 +56,7 @@ fn area_brought(page: u16, first: u8, bytes: &[u8]) -> Brought<'_>
 
 impl Device {
     /// The settings as the device has them now.
-    fn settings(&self) -> Settings
+    pub(crate) fn settings(&self) -> Settings
         ensures { result ≡ settings_kept self.now }
     {
         let region = self.rpmb.region();
@@ -99,8 +94,8 @@ impl Device {
         TaskEvent::RequestAccepted { code, number }
     }
 
-    /// The settings page is put behind all that are pending, and has this number.
-    fn put_settings(&mut self, tag: u8, settings: &Block) -> u64
+    /// The settings page is put behind all that are pending, as a group of its own, which has this number.
+    pub(crate) fn put_settings(&mut self, tag: u8, settings: &Block) -> u64
         requires { IsTrue (has_number self.old.ftl) }
         ensures left { self.new ≡ record self.old { ftl = self.new.ftl } }
         ensures put { HasPut self.old.ftl self.new.ftl tag (key_group settings.now) result }

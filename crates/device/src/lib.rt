@@ -9,6 +9,7 @@ mod device;
 mod groups;
 mod leftovers;
 mod plans;
+mod queries;
 mod replies;
 mod requests;
 mod responses;

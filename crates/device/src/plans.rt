@@ -2,22 +2,54 @@
 use task_set::ShortData;
 use ufs_spec::Key;
 
+/// What a command tells of the units.
+#[derive(Clone, Copy, Debug, PartialEq, Eq)]
+pub enum Identity {
+    /// What the unit with this LUN byte is (SPC, INQUIRY).
+    Unit { lun: u8 },
+    /// Which units there are, of those that are selected (SPC, REPORT LUNS).
+    Luns { select: u8 },
+}
+
 /// What a command that passed all checks does.
 #[derive(Clone, Copy, Debug, PartialEq, Eq)]
 pub enum Plan {
     /// It is answered GOOD at once: it has no block, or its host takes none.
-    Nothing { length: u32 },
+    Nothing {
+        length: u32,
+    },
     /// It sends so many blocks from this address on, of a command of so many bytes.
-    Read { key: Key, blocks: u16, length: u32 },
+    Read {
+        key: Key,
+        blocks: u16,
+        length: u32,
+    },
     /// It asks for so many blocks from this address on.
-    Write { key: Key, blocks: u16, forced: bool },
+    Write {
+        key: Key,
+        blocks: u16,
+        forced: bool,
+    },
     /// It sends these data, of which its host takes some.
-    Send { data: ShortData },
+    Send {
+        data: ShortData,
+    },
+    /// It tells this of the units, the first so many bytes of it, of which its host takes so many.
+    Tell {
+        told: Identity,
+        length: u32,
+        taken: u32,
+    },
     /// It is answered GOOD once all that was accepted before it is durable.
     Flush,
     /// It asks for frames, so many bytes.
-    AskFrames { length: u32 },
+    AskFrames {
+        length: u32,
+    },
     /// It takes the frames that wait in the response register, so many bytes, of which its host takes so
     /// many.
-    TakeFrames { length: u32, taken: u32 },
+    TakeFrames {
+        length: u32,
+        taken: u32,
+    },
 }

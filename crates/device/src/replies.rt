@@ -1,5 +1,5 @@
 //! Replies: which are due, what they say, and what becomes of their tasks.
-ghost use Rattle.std.specs.Prelude.{◌≡◌, ◌<◌, ◌≤◌, ◌+◌, ℕ, false, length, nat_le, nat_lt, true, slice_get};
+ghost use Rattle.std.specs.Prelude.{◌≡◌, ◌<◌, ◌≤◌, ◌+◌, ℕ, false, length, nat_le, position, true, slice_get};
 ghost use Rattle.std.specs.Prelude.{if◌then◌else◌, IfSome, IfNone, Some, None, option_copied, option_map};
 ghost use Rattle.ufs_spec.specs.Ledger.{before_accepted};
 ghost use Rattle.ufs_spec.specs.Machine.{Reply, OfReply};
@@ -19,8 +19,9 @@ ghost use Rattle.device.specs.Hears.{with_event};
 ghost use Rattle.device.specs.Replies.{HasMoved, IsWritten, answer_of, block_at, block_for, block_message, short_message};
 ghost use Rattle.task_set.specs.Kept.{OpenTask};
 ghost use Rattle.task_set.specs.Lists.{held_at, read_at, task_at};
-ghost use Rattle.device.specs.Replies.{area_reply, frames_message, moved_on, owed_by, owed_in, without_first};
-ghost use Rattle.device.specs.Replies.{without_task};
+ghost use Rattle.device.specs.Replies.{IsShortReplied, area_reply, frames_message, moved_on, owed_by, owed_in};
+ghost use Rattle.device.specs.Replies.{without_short, without_task};
+ghost use Rattle.task_set.specs.Shorts.{is_short_due};
 ghost use Rattle.std.specs.Prelude.{length as count_tasks};
 
 use crate::device::Device;
@@ -120,7 +121,7 @@ impl Device {
             }
             Phase::ReadArea { reading } => write_area_read(task, reading.length, into),
             Phase::SendBlocks { sending } => self.write_next(index, task, sending, into),
-            Phase::SendFrames { length } => self.write_held(index, task, length, into),
+            Phase::SendHeld { length } => self.write_held(index, task, length, into),
             Phase::SendData { data } => {
                 write_data(task, data, into);
                 true
@@ -232,7 +233,7 @@ impl Device {
                 self.happen(index, TaskEvent::DataAskedFor);
             }
             Phase::AwaitData { transfer: _ } | Phase::AwaitFrames { length: _ } => {}
-            Phase::SendData { data: _ } | Phase::SendFrames { length: _ } => {
+            Phase::SendData { data: _ } | Phase::SendHeld { length: _ } => {
                 self.happen(index, TaskEvent::DataSent);
             }
             Phase::ReadArea { reading: _ } => self.end_task(index, task.tag),
@@ -276,18 +277,30 @@ impl Device {
         self.set.end(index);
     }
 
-    /// Hands out the reply of the first short exchange.
+    /// Hands out the reply of the first short exchange that is due; false, and nothing changes, where none
+    /// is.
     fn reply_short(&mut self, into: &mut Upiu) -> bool
-        ensures found { result ≡ nat_lt 0 (length self.old.shorts) }
         ensures nothing { result ≡ false → (self.new ≡ self.old) × (into.new ≡ into.old) }
-        ensures said { (short : Short) → slice_get self.old.shorts 0 ≡ Some short →
-            into.new.items ≡ spelling (short_message short) }
-        ensures after { result ≡ true → self.new ≡ without_first self.old }
+        ensures none { result ≡ false → (t : Translation) → IsLayer self.old.ftl t →
+            position (is_short_due t.ledger.frontier) self.old.shorts ≡ None }
+        ensures replied { result ≡ true → IsShortReplied self.old self.new into.new.items }
     {
-        let Some(short) = self.set.take_short() else {
+        let frontier = self.ftl.frontier();
+        let Some(index) = self.set.due_short(frontier) else {
             return false;
         };
-        write_short(&short, into);
+        self.hand_out_short(index, into);
         true
+    }
+
+    /// Hands out the reply of the short exchange at this position, which is over then.
+    fn hand_out_short(&mut self, index: usize, into: &mut Upiu)
+        requires { index < length self.old.shorts }
+        ensures after { self.new ≡ without_short self.old index }
+        ensures said { (t : Translation) (short : Short) → IsLayer self.old.ftl t →
+            slice_get self.old.shorts index ≡ Some short → into.new.items ≡ spelling (short_message t.numbers short) }
+    {
+        let short = self.set.take_short(index);
+        write_short(self.ftl.numbers(), &short, into);
     }
 }

@@ -6,10 +6,10 @@ ghost use Rattle.ufs_spec.specs.Exchanges.{CheckCondition};
 ghost use Rattle.ufs_spec.specs.Moves.{LetGoAll, moved};
 ghost use Rattle.ufs_spec.specs.Translation.{Translation};
 ghost use Rattle.ftl_core.specs.Public.{Claims, Describes as IsLayer};
-ghost use Rattle.device.specs.Calls.{HasClaimedFrames, frames_phase, with_event};
+ghost use Rattle.device.specs.Calls.{HasClaimedFrames, held_phase, with_event};
 ghost use Rattle.device.specs.Frames.{HasAnswered, HasDecided, HasFilled, HasRefused, HasRequested};
 ghost use Rattle.device.specs.Frames.{HasResponded, IsDecided, data_for, frames_brought};
-ghost use Rattle.device.specs.Frames.{frames_taken, handed_over, is_due_to, to_answer};
+ghost use Rattle.device.specs.Frames.{handed_over, identity_bytes, is_due_to, sent_kept, to_answer};
 ghost use Rattle.device.specs.Frames.{waiting_in_block, with_held, with_none_waiting, with_zeros};
 ghost use Rattle.rpmb.specs.Answers.{AreFew};
 ghost use Rattle.device.specs.Groups.{HasNumberFor};
@@ -20,8 +20,9 @@ ghost use Rattle.task_set.specs.Kept.{OpenTask};
 
 use crate::checks::FRAME_SLOTS;
 use crate::device::Device;
-use crate::plans::Plan;
+use crate::plans::{Identity, Plan};
 use crate::replies::zeros;
+use lun_route::{inquiry_bytes, luns_bytes};
 use rpmb::{Accepted, Outcome, Rpmb, asked_area};
 use task_set::{Frames, Phase, Status, TaskEvent};
 use ufs_spec::{Block, Sense};
@@ -29,15 +30,15 @@ use ufs_spec::{Block, Sense};
 /// How many bytes a frame has.
 const FRAME: usize = 512;
 
-/// How far a SECURITY PROTOCOL IN is that begins, with frames of so many bytes of which its host
+/// How far a command is that begins with what its task keeps to send, so many bytes of which its host
 /// takes so many: where that is none, it is done.
-pub(crate) fn frames_phase(length: u32, taken: u32) -> Phase
-    ensures { result ≡ frames_phase length taken }
+pub(crate) fn held_phase(length: u32, taken: u32) -> Phase
+    ensures { result ≡ held_phase length taken }
 {
     if taken == 0 {
         Phase::good(length)
     } else {
-        Phase::SendFrames { length }
+        Phase::SendHeld { length }
     }
 }
 
@@ -87,21 +88,44 @@ impl Device {
         }
     }
 
-    /// The frames that wait go to the last task, if this was planned for it: the response register
-    /// is empty from now on.
-    pub(crate) fn take_frames(&mut self, planned: Result<Plan, Status>)
+    /// The last task keeps what it sends, if this was planned for it: the frames that wait, of which the
+    /// response register is empty from now on, or what it tells of the units.
+    pub(crate) fn keep_sent(&mut self, planned: Result<Plan, Status>)
         requires { 0 < length self.old.tasks }
-        ensures { self.new ≡ frames_taken self.old planned }
+        ensures { (t : Translation) → IsLayer self.old.ftl t →
+            self.new ≡ sent_kept t.numbers self.old planned }
     {
-        if let Ok(
-            Plan::TakeFrames {
-                length: _,
-                taken: _,
-            },
-        ) = planned
-        {
-            let last = self.set.count() - 1;
-            self.hand_over(last);
+        let last = self.set.count() - 1;
+        match planned {
+            Ok(
+                Plan::TakeFrames {
+                    length: _,
+                    taken: _,
+                },
+            ) => self.hand_over(last),
+            Ok(
+                Plan::Tell {
+                    told,
+                    length: _,
+                    taken: _,
+                },
+            ) => self.keep_identity(last, told),
+            _ => {}
+        }
+    }
+
+    /// The task at this position keeps what it tells of the units, with zeros behind it.
+    fn keep_identity(&mut self, index: usize, told: Identity)
+        requires { index < length self.old.tasks }
+        ensures { (t : Translation) → IsLayer self.old.ftl t →
+            self.new ≡ with_held self.old index (with_zeros (identity_bytes t.numbers told)) }
+    {
+        match told {
+            Identity::Unit { lun } => self.keep_bytes(index, &inquiry_bytes(lun)),
+            Identity::Luns { select } => {
+                let list = luns_bytes(self.ftl.numbers(), select);
+                self.keep_bytes(index, list.as_slice());
+            }
         }
     }
 
@@ -155,19 +179,19 @@ impl Device {
         requires numbered { HasNumberFor accepted.now self.old.ftl }
         ensures { HasRequested self.old self.new tag index frames.now code accepted.now }
     {
-        self.keep_frames(index, frames);
+        self.keep_bytes(index, frames);
         let event = self.decide(tag, frames, code, accepted);
         self.rpmb.begin(frames);
         self.happen(index, event);
     }
 
-    /// The task at this position keeps the frames, with zeros behind them.
-    fn keep_frames(&mut self, index: usize, frames: &[u8])
+    /// The task at this position keeps these bytes, with zeros behind them.
+    fn keep_bytes(&mut self, index: usize, bytes: &[u8])
         requires there { index < length self.old.tasks }
-        requires few { length frames.now ≤ 4096 }
-        ensures { self.new ≡ with_held self.old index (with_zeros frames.now) }
+        requires few { length bytes.now ≤ 4096 }
+        ensures { self.new ≡ with_held self.old index (with_zeros bytes.now) }
     {
-        self.set.keep(index, &block_of(frames));
+        self.set.keep(index, &block_of(bytes));
     }
 
     /// What a request with this result does: what is accepted is put behind all that was accepted;

@@ -2,16 +2,20 @@
 ghost use Rattle.std.specs.Prelude.{◌≡◌, ◌≤◌, ◌==◌, ◌*◌, length, take, if◌then◌else◌, Some, None, ◌∷◌, []};
 ghost use Rattle.ufs_spec.specs.Cdbs.{residual_of};
 ghost use Rattle.ufs_spec.specs.Exchanges.{CheckCondition, response, sense_data};
-ghost use Rattle.ufs_spec.specs.Messages.{IsMessage, IsQueryFunction, spelling};
+ghost use Rattle.ufs_spec.specs.Messages.{AreBytes, IsMessage, IsQueryFunction, spelling};
 ghost use Rattle.upiu.specs.Replies.{message_of};
 ghost use Rattle.ufs_spec.specs.declared.Message.{Message};
 ghost use Rattle.device.specs.Replies.{answer_of, block_message, count_of, data_message, data_padded, frames_message};
-ghost use Rattle.device.specs.Replies.{function_of, not_queried, short_message};
+ghost use Rattle.device.specs.Replies.{function_of, query_answer, query_with, short_message};
+ghost use Rattle.ufs_spec.specs.QueryAnswers.{query_failed};
 ghost use Rattle.task_set.specs.Tasks.{status_kept};
 
-use task_set::{BLOCK_BYTES, Sending, Short, ShortData, ShortReply, Status, Task, Transfer};
+use descriptors::{STANDARD_READ, STANDARD_WRITE, descriptor_told};
+use task_set::{
+    BLOCK_BYTES, Queried, Sending, Short, ShortData, ShortReply, Status, Task, Transfer,
+};
 use ufs_bytes::{Block, write_u32};
-use ufs_spec::{Asked, Data, Message, Sense, Upiu};
+use ufs_spec::{Data, Message, Numbers, Sense, Upiu};
 use upiu::Response;
 
 /// The flag of a RESPONSE that says that less than expected was carried (JESD220, 10.7.2).
@@ -37,13 +41,8 @@ const TARGET_FAILURE: u8 = 0x01;
 /// The service response of a function that is not supported (JESD220, 10.7.7).
 const NOT_SUPPORTED: u8 = 0x04;
 
-/// The functions of a query (JESD220, 10.7.8).
-const STANDARD_READ: u8 = 0x01;
-
-pub(crate) const STANDARD_WRITE: u8 = 0x81;
-
-/// The response of a query whose opcode is invalid (JESD220, 10.7.9).
-const INVALID_OPCODE: u8 = 0xFE;
+/// The response of a query that succeeded (JESD220, 10.7.9).
+const SUCCESS: u8 = 0x00;
 
 /// The flags of a RESPONSE and its residual count.
 #[derive(Clone, Copy)]
@@ -139,9 +138,9 @@ pub(crate) fn write_answer(task: &Task, status: Status, length: u32, into: &mut 
     upiu::write_response(&said, into);
 }
 
-/// Writes the reply of a short exchange.
-pub(crate) fn write_short(short: &Short, into: &mut Upiu)
-    ensures { into.new.items ≡ spelling (short_message short.now) }
+/// Writes the reply of a short exchange, on a device with this configuration.
+pub(crate) fn write_short(numbers: &Numbers, short: &Short, into: &mut Upiu)
+    ensures { into.new.items ≡ spelling (short_message numbers.now short.now) }
 {
     let tag = short.tag;
     match short.reply {
@@ -151,8 +150,11 @@ pub(crate) fn write_short(short: &Short, into: &mut Upiu)
         }
         ShortReply::NopIn => upiu::write(&Message::NopIn { tag }, into),
         ShortReply::NotManaged { lun } => upiu::write(&task_response(lun, tag), into),
-        ShortReply::NotQueried { writing, asked } => {
-            upiu::write(&query_response(tag, writing, asked), into);
+        ShortReply::QueryFailed { query, response } => {
+            upiu::write(&query_failed(tag, query, response), into);
+        }
+        ShortReply::QueryDone { query, value } => {
+            upiu::write(&query_done(numbers, tag, query, value), into);
         }
     }
 }
@@ -169,24 +171,53 @@ fn task_response(lun: u8, tag: u8) -> Message
     }
 }
 
-/// The QUERY RESPONSE to a query that is not answered yet.
-fn query_response(tag: u8, writing: bool, asked: Asked) -> Message
-    ensures what { result ≡ not_queried tag (function_of writing) asked }
+/// The QUERY RESPONSE with this response code, which tells nothing (JESD220, 10.7.9).
+fn query_failed(tag: u8, query: Queried, response: u8) -> Message
+    ensures what { result ≡ query_failed tag (query_with query 0) response }
     ensures message { IsMessage result }
 {
     Message::QueryResponse {
         tag,
-        function: query_function(writing),
-        response: INVALID_OPCODE,
-        asked,
+        function: query_function(query.writing),
+        response,
+        asked: query.asked,
         length: 0,
         value: 0,
         data: Data::new(),
     }
 }
 
+/// The QUERY RESPONSE of a query that succeeded: it tells the descriptor that was asked for, or this value
+/// (JESD220, 10.7.9).
+fn query_done(numbers: &Numbers, tag: u8, query: Queried, value: u32) -> Message
+    ensures what { result ≡ query_answer numbers.now tag (query_with query 0) value }
+    ensures message { IsMessage result }
+{
+    let told = descriptor_told(numbers, query.asked, query.length);
+    Message::QueryResponse {
+        tag,
+        function: query_function(query.writing),
+        response: SUCCESS,
+        asked: query.asked,
+        length: told.len() as u16,
+        value,
+        data: data_of(told.as_slice()),
+    }
+}
+
+/// These bytes as the data of a message.
+fn data_of(bytes: &[u8]) -> Data
+    requires { length bytes.now ≤ 4096 }
+    ensures items { result.items ≡ bytes.now }
+    ensures are_bytes { AreBytes result.items }
+{
+    let mut data = Data::new();
+    let _ = data.try_extend_from_slice(bytes);
+    data
+}
+
 /// The function of a query.
-fn query_function(writing: bool) -> u8
+pub(crate) fn query_function(writing: bool) -> u8
     ensures what { result ≡ function_of writing }
     ensures known { IsQueryFunction result }
 {

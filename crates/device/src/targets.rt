@@ -1,91 +1,72 @@
-//! What the LUN byte of a command names.
-ghost use Rattle.std.specs.Prelude.{◌≡◌, ℕ};
-ghost use Rattle.ufs_spec.specs.Messages.{is_among};
-ghost use Rattle.ufs_spec.specs.Refusals.{RpmbUnit, all_but_security, operations_of};
-ghost use Rattle.ufs_spec.specs.Translation.{Translation};
+//! What a command is about: the unit whose blocks it reads or writes (JESD220, 10.8).
+ghost use Rattle.std.specs.Prelude.{◌≡◌};
 ghost use Rattle.ftl_core.specs.Public.{Describes as IsLayer};
-ghost use Rattle.device.specs.Targets.{blocks_in, lun_named, target_of};
+ghost use Rattle.ufs_spec.specs.Begins.{unit_or_first};
+ghost use Rattle.ufs_spec.specs.Refusals.{Request, State, operation_in, unit_numbers_at};
+ghost use Rattle.device.specs.Bare.{IsBare};
+ghost use Rattle.device.specs.Targets.{IsRouted, blocks_in};
 
 use crate::device::Device;
-use scsi_cdb::operations::{
-    INQUIRY, READ_6, READ_10, READ_CAPACITY_10, REPORT_LUNS, REQUEST_SENSE, SECURITY_IN,
-    SECURITY_OUT, SYNCHRONIZE_CACHE_10, TEST_UNIT_READY, UNMAP, WRITE_6, WRITE_10,
-};
-use ufs_spec::UnitSpec;
+use lun_route::route_of;
+use ufs_spec::{Numbers, Sense, UnitSpec};
 
-/// The LUN byte of the replay protected memory block (JESD220, 10.8.5).
-const RPMB: u8 = 0xC4;
-
-/// What a LUN byte names.
+/// What a command is about.
 #[derive(Clone, Copy)]
-pub enum Target {
-    /// A unit of the configuration.
-    Unit(UnitSpec),
-    /// The replay protected memory block.
-    Rpmb,
+pub struct Target {
+    /// Its LUN byte.
+    pub lun: u8,
+    /// The unit whose blocks it reads or writes, if it has one.
+    pub unit: Option<u8>,
+    /// The numbers of this unit.
+    pub spec: Option<UnitSpec>,
 }
 
 impl Target {
-    /// Whether it takes this operation code.
-    pub fn takes(self, operation: u8) -> bool
-        ensures { (lun : ℕ) → result ≡ is_among (operations_of (lun_named lun self)) operation }
-    {
-        match self {
-            Target::Unit(_) => is_block_operation(operation),
-            Target::Rpmb => is_frame_operation(operation),
-        }
-    }
-
-    /// How many blocks it has.
+    /// How many blocks the unit has.
     pub fn blocks(self) -> u32
-        ensures { result ≡ blocks_in self }
+        ensures { result ≡ blocks_in self.spec }
     {
-        match self {
-            Target::Unit(unit) => unit.blocks,
-            Target::Rpmb => 0,
+        match self.spec {
+            Some(unit) => unit.blocks,
+            None => 0,
+        }
+    }
+
+    /// The unit of the blocks that the command names. Any number does for a command that names none.
+    pub fn unit_of_blocks(self) -> u8
+        ensures { result ≡ unit_or_first self.unit }
+    {
+        match self.unit {
+            Some(unit) => unit,
+            None => 0,
         }
     }
 }
 
-/// Whether a unit with blocks takes the operation code: all but the SECURITY PROTOCOL commands.
-fn is_block_operation(operation: u8) -> bool
-    ensures { result ≡ is_among all_but_security operation }
+/// The numbers of a unit, if there is one.
+fn spec_of(numbers: &Numbers, unit: Option<u8>) -> Option<UnitSpec>
+    ensures { result ≡ unit_numbers_at numbers.now unit }
 {
-    matches!(
-        operation,
-        TEST_UNIT_READY
-            | REQUEST_SENSE
-            | READ_6
-            | WRITE_6
-            | INQUIRY
-            | READ_CAPACITY_10
-            | READ_10
-            | WRITE_10
-            | SYNCHRONIZE_CACHE_10
-            | UNMAP
-            | REPORT_LUNS
-    )
-}
-
-/// Whether the replay protected memory block takes the operation code.
-fn is_frame_operation(operation: u8) -> bool
-    ensures { result ≡ is_among (operations_of RpmbUnit) operation }
-{
-    matches!(
-        operation,
-        TEST_UNIT_READY | REQUEST_SENSE | INQUIRY | SECURITY_IN | SECURITY_OUT
-    )
+    let unit = unit?;
+    numbers.units.as_slice().get(usize::from(unit)).copied()
 }
 
 impl Device {
-    /// What the LUN byte names; `None` where it names nothing that takes commands.
-    pub(crate) fn target(&self, lun: u8) -> Option<Target>
-        ensures { (t : Translation) → IsLayer self.now.ftl t → result ≡ target_of t.numbers lun }
+    /// What a command with this LUN byte and this operation code is about.
+    ///
+    /// # Errors
+    ///
+    /// Why it is refused, where there is no such unit, or the unit does not take the operation code.
+    pub(crate) fn target(&self, lun: u8, operation: u8) -> Result<Target, Sense>
+        ensures { (s : State) (r : Request) → IsLayer self.now.ftl s.translation →
+            IsBare s self.now → r.lun ≡ lun → operation_in r ≡ operation → IsRouted s r result }
     {
-        match self.ftl.unit(lun) {
-            Some(unit) => Some(Target::Unit(unit)),
-            None if lun == RPMB => Some(Target::Rpmb),
-            None => None,
-        }
+        let numbers = self.ftl.numbers();
+        let route = route_of(numbers, self.boot, lun, operation)?;
+        Ok(Target {
+            lun,
+            unit: route.unit,
+            spec: spec_of(numbers, route.unit),
+        })
     }
 }

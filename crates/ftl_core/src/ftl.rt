@@ -45,7 +45,7 @@ use recovery::{Found, FoundBlock, FoundPage};
 use std::alloc::{AllocError, Global};
 use std::marker::Model;
 use ufs_spec::{
-    Block, Fence, GREATEST_COMMAND, GREATEST_NUMBER, Key, Looked, MOST_TASKS, Name, Place, UnitSpec,
+    Block, Fence, GREATEST_COMMAND, GREATEST_NUMBER, Key, Looked, MOST_TASKS, Name, Numbers, Place,
 };
 use unit_map::{Stored, UnitMap};
 use write_cache::Cache;
@@ -420,6 +420,10 @@ impl Ftl {
     pub fn frontier(&self) -> u64
         ensures core { result ≡ self.now.frontier }
         ensures described { (t : Translation) → Describes self.now t → result ≡ t.ledger.frontier }
+        // What waits for no later number may be acknowledged as durable.
+        ensures told { (t : Translation) (count : ℕ) → Describes self.now t →
+            before_accepted t.ledger + count ≤ t.ledger.frontier →
+            Describes self.now (moved t (Acknowledge count)) }
     {
         self.cache.frontier()
     }
@@ -442,20 +446,13 @@ impl Ftl {
         self.cache.free_slots()
     }
 
-    /// The unit; `None` where there is no such unit.
-    #[tactic(auto, using(crate::proofs::small_calls::SmallCalls::units_right))]
-    pub fn unit(&self, unit: u8) -> Option<UnitSpec>
-        ensures core { result ≡ slice_get self.now.numbers.units.items unit }
-        ensures described { (t : Translation) → Describes self.now t →
-            result ≡ slice_get t.numbers.units.items unit }
+    /// The numbers of the configuration.
+    #[tactic(auto, using(crate::proofs::small_calls::SmallCalls::numbers_kept))]
+    pub fn numbers(&self) -> &Numbers
+        ensures core { result.now ≡ self.now.numbers }
+        ensures described { (t : Translation) → Describes self.now t → result.now ≡ t.numbers }
     {
-        let units = self.config.numbers().units.as_slice();
-        let unit = unit as usize;
-        if unit < units.len() {
-            Some(units[unit])
-        } else {
-            None
-        }
+        self.config.numbers()
     }
 
     /// Claims a slot for each of so many blocks of this reader, where as many are free; else nothing.
@@ -468,6 +465,8 @@ impl Ftl {
         // The slots of a reader who had claimed none hold zeros, and those of the others what they held.
         ensures claims { (claims : Claims) → AreClaimed self.old claims → claims reader ≡ [] → AreClaimed self.new
             (if result then with_claimed claims reader (replicate blocks zero_block) else claims) }
+        // It takes no number.
+        ensures number { has_number self.new ≡ has_number self.old }
     {
         self.claim_slots(reader, blocks)
     }

@@ -1,6 +1,6 @@
 -- What is accepted of frames, by the outcome that is told of them.
-use Rattle.std.proofs.Common.{◌≡◌, ◌∙◌, ◌∷◌, ◌==◌, ◌*◌, ℕ, Bool, true, false, not, if◌then◌else◌, List, [], Option, None}
-use Rattle.std.proofs.Common.{Some, ap, refl, sym}
+use Rattle.std.proofs.Common.{◌≡◌, ◌∙◌, ◌∷◌, ◌==◌, ◌*◌, ℕ, Bool, true, false, not, if◌then◌else◌, List, [], Option}
+use Rattle.std.proofs.Common.{None, Some, ap, refl, sym}
 use Rattle.std.proofs.lemmas.Bool.{and_parts, eqb-true}
 use Rattle.std.proofs.lemmas.List.{length-replicate}
 use Rattle.std.specs.List.{flat_map}

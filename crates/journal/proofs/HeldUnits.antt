@@ -16,8 +16,8 @@ use Rattle.std.specs.declared.vec.Vec.{Vec}
 use Rattle.ufs_spec.specs.declared.configs.Numbers.{Numbers}
 use Rattle.ufs_spec.specs.declared.configs.UnitSpec.{UnitSpec}
 use Rattle.ufs_spec.proofs.PlainFacts.{new_shape, one_part}
-use Rattle.journal.specs.Shown.{AreUnits, IsArea, area_found, holding}
-use Rattle.journal.specs.declared.kept.FoundRegion.{FoundRegion}
+use Rattle.journal.specs.Shown.{AreUnits, IsArea, area_found, holding_region}
+use Rattle.journal.specs.declared.found.FoundRegion.{FoundRegion}
 
 -- one element more comes from the new list, the rest is still the old one's
 pub fill_more : {X : Type 0} (new old : List X) (i : ℕ) (x d : X) → i < length new → i < length old →
@@ -151,9 +151,9 @@ with_units n units = record (zero n) { units = units }
 
 -- the shape of a device whose units have their counts, and whose area has all its bytes
 pub held_shape : (n : Numbers) (units : List (List (List ℕ))) (region : FoundRegion) → AreUnits n units →
-    IsArea n region → shape_of (holding n units region) ≡ shape_of_numbers n
+    IsArea n region → shape_of (holding_region n units region) ≡ shape_of_numbers n
 held_shape n units region all whole =
-    ap (λ (bs : List ℕ). record { blocks = bs; areas = (shape_of (holding n units region)).areas }) all
+    ap (λ (bs : List ℕ). record { blocks = bs; areas = (shape_of (holding_region n units region)).areas }) all
     ∙ ap (λ (long : ℕ). record { blocks = (shape_of_numbers n).blocks; areas = long ∷ [] })
     (found_long n region.key region.area.now whole)
 

@@ -1,13 +1,12 @@
--- Counts of blocks by the numbers, units shown one after another, and one command more.
-use Rattle.std.proofs.Common.{◌≡◌, ℕ, zero, suc, ◌+◌, ◌<◌, ◌≤◌, List, [], ◌∷◌, length, map, take, get_or}
-use Rattle.std.proofs.Common.{slice_index_or, sym, ap, ◌∙◌, refl, subst, arith, ⊎_elim}
+-- Counts of blocks by the numbers, and units shown one after another.
+use Rattle.std.proofs.Common.{◌≡◌, ℕ, ◌+◌, ◌<◌, ◌≤◌, List, [], length, map, get_or}
+use Rattle.std.proofs.Common.{slice_index_or, sym, ap, ◌∙◌, subst, arith, ⊎_elim}
 use Rattle.std.proofs.lemmas.Bool.{cases_lt}
 use Rattle.std.proofs.lemmas.List.{length-map, get_or-map}
-use Rattle.ufs_spec.specs.Commands.{Command}
-use Rattle.ufs_spec.specs.Plain.{CanApply, Plain, Shape, after, apply, shape_of, shape_of_numbers, unit_of}
+use Rattle.ufs_spec.specs.Plain.{Plain, Shape, shape_of, shape_of_numbers, unit_of}
 use Rattle.ufs_spec.specs.declared.configs.Numbers.{Numbers}
 use Rattle.ufs_spec.specs.declared.configs.UnitSpec.{UnitSpec}
-use Rattle.journal.specs.Shown.{CanFollow, IsShownAt}
+use Rattle.journal.specs.Shown.{IsShownAt}
 
 -- a unit that the numbers name is there, with as many blocks
 pub unit_there : (n : Numbers) (specs : List UnitSpec) (p : Plain) (i : ℕ) (d : UnitSpec) →
@@ -43,23 +42,3 @@ shows_more found p i below here unit address lt there inside =
     let same : i ≡ unit = omega arith in
     subst (λ (u : ℕ). address < length (unit_of u p) → IsShownAt found p u address) same (here address) inside)
     (cases_lt unit i)
-
--- one command more
-after_next : (p : Plain) (cs : List Command) (i : ℕ) (d : Command) → i < length cs →
-    after p (take (suc i) cs) ≡ apply (after p (take i cs)) (get_or cs i d)
-after_next p [] i d lt = absurd (omega arith)
-after_next p (c ∷ cs) zero d lt = refl
-after_next p (c ∷ cs) (suc i) d lt = after_next (apply p c) cs i d (omega (arith, lt))
-
-pub after_more : (p : Plain) (cs : List Command) (i : ℕ) (d : Command) → i < length cs →
-    after p (take (i + 1) cs) ≡ apply (after p (take i cs)) (get_or cs i d)
-after_more p cs i d lt =
-    let next : i + 1 ≡ suc i = omega arith in
-    ap (λ (j : ℕ). after p (take j cs)) next ∙ after_next p cs i d lt
-
--- a command of a list may come after the ones before it, if each may
-pub can_at : (p : Plain) (cs : List Command) (i : ℕ) (d : Command) → CanFollow p cs → i < length cs →
-    CanApply (after p (take i cs)) (get_or cs i d)
-can_at p [] i d h lt = absurd (omega arith)
-can_at p (c ∷ cs) zero d h lt = h.0
-can_at p (c ∷ cs) (suc i) d h lt = can_at (apply p c) cs i d h.1 (omega (arith, lt))

@@ -1,10 +1,12 @@
 -- What the messages of a host and the replies to them tell of a life (JESD220, 10.7 and 12.4; SBC; SPC). A WRITE is
--- accepted with its last DATA OUT, unless a block is bad, and a key or a write of the RPMB with its frames, if they pass
--- their checks. What was accepted is acknowledged as durable by GOOD: a WRITE with FUA, a key or a write of the RPMB, and
--- all before it, by the command's own, and what was accepted before the COMMAND of a SYNCHRONIZE CACHE without IMMED by
--- that one's.
-use Rattle.std.specs.Prelude.{ℕ, ◌+◌, ◌==◌, ◌&&◌, nat_le, not, max, Bool, false, if◌then◌else◌}
+-- accepted with its last DATA OUT, unless a block is bad, and a key or a write of the RPMB with its frames, if they
+-- pass their checks. What was accepted is acknowledged as durable by GOOD: a WRITE with FUA, a key or a write of the
+-- RPMB, and all before it, by the command's own, and what was accepted before the COMMAND of a SYNCHRONIZE CACHE
+-- without IMMED by that one's. A setting is accepted with its QUERY REQUEST or refused at once, which its answer tells;
+-- one that was accepted, and all before it, is acknowledged by the response code 00h.
+use Rattle.std.specs.Prelude.{ℕ, ◌+◌, ◌==◌, ◌&&◌, nat_le, nat_lt, not, max, Bool, false, if◌then◌else◌}
 use Rattle.std.specs.Prelude.{List, [], ◌∷◌, ◌++◌, length, take, drop, position, remove, slice_get, slice_index}
+use Rattle.std.specs.Prelude.{slice_index_or, slice_set}
 use Rattle.std.specs.Prelude.{Option, Some, None}
 use Rattle.ufs_bytes.specs.Fields.{field_at}
 use Rattle.ufs_spec.specs.CdbFields.{is_forced, is_immediate, six_address}
@@ -13,16 +15,20 @@ use Rattle.ufs_spec.specs.Commands.{Command}
 use Rattle.ufs_spec.specs.Messages.{is_short}
 use Rattle.rpmb.specs.Requests.{frames_of}
 use Rattle.rpmb.specs.declared.regions.RegionState.{RegionState}
+use Rattle.journal.specs.Entries.{Accepted, Doubted, Noted, Refused, setting_command}
+use Rattle.journal.specs.Queries.{asked_setting, query_in}
 use Rattle.journal.specs.Requests.{accepted_by, state_after}
 use Rattle.journal.specs.Writes.{WriteBegun, is_whole, with_block, write_of}
+use Rattle.journal.specs.declared.entries.Setting.{Setting}
 use Rattle.journal.specs.declared.messages.Awaited.{Awaited}
-use Rattle.journal.specs.declared.messages.Awaited.TheVariants.{Blocks, Frames, Nothing}
+use Rattle.journal.specs.declared.messages.Awaited.TheVariants.{Blocks, Frames, Nothing, Verdict}
 use Rattle.journal.specs.declared.messages.OpenTask.{OpenTask}
 
--- the commands that the life accepted, in order; how many of them, from the first on, were acknowledged as durable; the
--- commands that have no RESPONSE yet; whether a block is bad; the key and the counter that the accepted ones made
+-- what is noted of the commands of the life, in order; up to how many of them, from the first on, what was accepted was
+-- acknowledged as durable; the commands and settings that have no answer yet; whether a block is bad; the key and the
+-- counter that the accepted ones made
 pub record Heard : Type 0 where
-  pub commands : List Command
+  pub entries : List Noted
   pub held : ℕ
   pub tasks : List OpenTask
   pub locked : Bool
@@ -30,7 +36,7 @@ pub record Heard : Type 0 where
 
 -- a life begins with this key and this counter: whatever else it begins with, nothing came yet
 abbrev pub life_begun : RegionState → Heard
-life_begun region = record { commands = []; held = 0; tasks = []; locked = false; region = region }
+life_begun region = record { entries = []; held = 0; tasks = []; locked = false; region = region }
 
 -- ## The open commands
 
@@ -98,7 +104,7 @@ promised_by accepted cdb = if is_flush cdb then accepted else 0
 abbrev pub begun : Heard → ℕ → ℕ → List ℕ → Heard
 begun j unit tag cdb =
     with_open (record j { tasks = without tag j.tasks })
-    (record { tag = tag; awaited = awaited_by unit cdb; promised = promised_by (length j.commands) cdb })
+    (record { tag = tag; awaited = awaited_by unit cdb; promised = promised_by (length j.entries) cdb })
 
 -- ## A DATA OUT
 
@@ -112,14 +118,14 @@ open_again j tag promised awaited = with_open j (record { tag = tag; awaited = a
 
 -- the command is accepted
 abbrev pub with_command : Heard → Command → Heard
-with_command j c = record j { commands = j.commands ++ c ∷ [] }
+with_command j c = record j { entries = j.entries ++ Accepted c ∷ [] }
 
--- all blocks of the WRITE came: it is accepted, unless a block is bad. Its GOOD acknowledges it and all before it, if it
--- has FUA
+-- all blocks of the WRITE came: it is accepted, unless a block is bad. Its GOOD acknowledges it and all before it, if
+-- it has FUA
 abbrev pub written : Heard → ℕ → ℕ → WriteBegun → Heard
 written j tag promised w =
     if j.locked then open_again j tag promised Nothing
-    else open_again (with_command j (write_of w)) tag (if w.forced then length j.commands + 1 else promised) Nothing
+    else open_again (with_command j (write_of w)) tag (if w.forced then length j.entries + 1 else promised) Nothing
 
 -- the WRITE has one block more; less than a block changes nothing
 abbrev pub gathered : Heard → ℕ → ℕ → WriteBegun → Option (List ℕ) → Heard
@@ -128,16 +134,19 @@ gathered j tag promised w (Some block) =
     if is_whole (with_block w block) then written j tag promised (with_block w block)
     else open_again j tag promised (Blocks (with_block w block))
 
--- the frames of a request came, of which this command is accepted, if one is: its GOOD acknowledges it and all before it
+-- the frames of a request came, of which this command is accepted, if one is: its GOOD acknowledges it and all before
+-- it
 abbrev pub brought : Heard → ℕ → ℕ → Option Command → Heard
 brought j tag promised None = open_again j tag promised Nothing
 brought j tag promised (Some c) =
-    open_again (record (with_command j c) { region = state_after j.region (Some c) }) tag (length j.commands + 1) Nothing
+    let after = record (with_command j c) { region = state_after j.region (Some c) } in
+    open_again after tag (length j.entries + 1) Nothing
 
 -- the data of this message came for this command
 abbrev pub taken : Heard → OpenTask → Awaited → List ℕ → Heard
 taken j t Nothing message = open_again j t.tag t.promised Nothing
 taken j t (Blocks w) message = gathered j t.tag t.promised w (block_of message)
+taken j t (Verdict place) message = open_again j t.tag t.promised (Verdict place)
 taken j t Frames message =
     brought j t.tag t.promised (accepted_by j.region j.locked (frames_of (drop 32 message)))
 
@@ -150,15 +159,29 @@ taken_by j (Some t) message = taken j t t.awaited message
 abbrev pub received : Heard → ℕ → List ℕ → Heard
 received j tag message = taken_by (record j { tasks = without tag j.tasks }) (open_with tag j.tasks) message
 
+-- ## A QUERY REQUEST
+
+-- a setting is asked for, and its answer is open: until it comes the setting is in doubt
+abbrev pub doubted : Heard → ℕ → Setting → Heard
+doubted j tag s =
+    with_open (record j { entries = j.entries ++ Doubted s ∷ []; tasks = without tag j.tasks })
+    (record { tag = tag; awaited = Verdict (length j.entries); promised = 0 })
+
+-- a query with this tag asks for this setting, if for one. Once a block is bad the device refuses each
+abbrev pub asked : Heard → ℕ → Option Setting → Heard
+asked j tag None = j
+asked j tag (Some s) = if j.locked then j else doubted j tag s
+
 -- ## What a message and a reply tell
 
--- the device took this message: a COMMAND (01h), a DATA OUT (02h) or another one
+-- the device took this message: a COMMAND (01h), a DATA OUT (02h), a QUERY REQUEST (16h) or another one
 abbrev pub heard : Heard → List ℕ → Heard
 heard j message =
     if is_short message then j
     else if slice_index message 0 == 0x01
     then begun j (slice_index message 2) (slice_index message 3) (drop 16 message)
     else if slice_index message 0 == 0x02 then received j (slice_index message 3) message
+    else if slice_index message 0 == 0x16 then asked j (slice_index message 3) (asked_setting (query_in message))
     else j
 
 -- the response and the status are zero: target success, and GOOD
@@ -178,9 +201,51 @@ answered j tag good =
       held = (if good then max j.held (promised_to (open_with tag j.tasks)) else j.held);
     }
 
--- the device handed out this reply: a RESPONSE (21h) or another one
+-- what the response code of its answer makes of a setting in doubt: 00h says that it was accepted, and any other code
+-- that it was refused. But once a block is bad FFh may also be told of a setting that was accepted before, and then
+-- waited: it stays in doubt (JESD220, 10.7.9)
+abbrev pub settled_by : Bool → ℕ → Setting → Noted
+settled_by locked code s =
+    if code == 0x00 then Accepted (setting_command s)
+    else if (code == 0xFF) && locked then Doubted s
+    else Refused
+
+-- what an answer makes of an entry: only one in doubt changes
+abbrev pub settled : Bool → ℕ → Noted → Noted
+settled locked code (Accepted c) = Accepted c
+settled locked code (Doubted s) = settled_by locked code s
+settled locked code Refused = Refused
+
+-- the answer to the setting that is noted at this place has this code; 00h acknowledges it and all before it
+abbrev pub ruled : Heard → ℕ → ℕ → Heard
+ruled j place code =
+    if nat_lt place (length j.entries)
+    then record j {
+      entries = slice_set j.entries place (settled j.locked code (slice_index_or j.entries place Refused));
+      held = (if code == 0x00 then max j.held (place + 1) else j.held);
+    }
+    else j
+
+-- what the answer to a query tells, if the exchange was open and waits for this
+abbrev pub ruled_on : Heard → Awaited → ℕ → Heard
+ruled_on j (Verdict place) code = ruled j place code
+ruled_on j Nothing code = j
+ruled_on j (Blocks w) code = j
+ruled_on j Frames code = j
+
+-- what it tells of the open exchange with its tag, if there is one
+abbrev pub ruled_by : Heard → Option OpenTask → ℕ → Heard
+ruled_by j None code = j
+ruled_by j (Some t) code = ruled_on j t.awaited code
+
+-- the query with the tag is answered with this code
+abbrev pub query_answered : Heard → ℕ → ℕ → Heard
+query_answered j tag code = ruled_by (record j { tasks = without tag j.tasks }) (open_with tag j.tasks) code
+
+-- the device handed out this reply: a RESPONSE (21h), a QUERY RESPONSE (36h) or another one
 abbrev pub told : Heard → List ℕ → Heard
 told j reply =
     if is_short reply then j
     else if slice_index reply 0 == 0x21 then answered j (slice_index reply 3) (says_good reply)
+    else if slice_index reply 0 == 0x36 then query_answered j (slice_index reply 3) (slice_index reply 6)
     else j

@@ -1,4 +1,6 @@
+pub mod Entries
 pub mod Heard
+pub mod Queries
 pub mod Requests
 pub mod Shown
 pub mod Writes

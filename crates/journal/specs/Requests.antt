@@ -1,13 +1,13 @@
 -- What requests to the replay protected memory block change, as far as their frames tell it (JESD220, 12.4).
-use Rattle.std.specs.Prelude.{ℕ, ◌*◌, Bool, List, replicate, Option, None, Some}
+use Rattle.std.specs.Prelude.{◌*◌, Bool, List, replicate, Option, None, Some}
 use Rattle.ufs_spec.specs.Commands.{Command}
 use Rattle.ufs_spec.specs.Exchanges.{empty_registers}
 use Rattle.ufs_spec.specs.Frames.{Frame}
 use Rattle.ufs_spec.specs.Rpmb.{Refused, Region, Results, RpmbOutcome, changed_by, rpmb_outcome}
 use Rattle.rpmb.specs.declared.regions.RegionState.{RegionState}
 
--- a region with this key, this counter and so many blocks of 256 bytes: what becomes of a request does not depend on the
--- bytes in them
+-- a region with this key, this counter and so many blocks of 256 bytes: what becomes of a request does not depend on
+-- the bytes in them
 abbrev pub region_like : RegionState → Region
 region_like s = record { key = s.key; area = replicate (256 * s.blocks) 0; counter = s.counter }
 

@@ -1,12 +1,13 @@
 -- What it means that what was found is what a plain device holds, and the plain device that a life begins with.
-use Rattle.std.specs.Prelude.{◌≡◌, ◌<◌, ℕ, List, [], ◌∷◌, length, map, slice_get, slice_index_or, IfSome, Option, Some}
-use Rattle.std.specs.Prelude.{None}
-use Rattle.ufs_spec.specs.Commands.{Command}
-use Rattle.ufs_spec.specs.Plain.{CanApply, Plain, apply, area_len, block_at, region_of, shape_of_numbers, unit_of}
+use Rattle.std.specs.Prelude.{◌≡◌, ◌<◌, ℕ, List, [], length, map, slice_get, slice_index_or, IfSome, Option, Some}
+use Rattle.std.specs.Prelude.{None, true}
+use Rattle.ufs_spec.specs.Plain.{Plain, area_len, block_at, region_of, shape_of_numbers, unit_of}
 use Rattle.ufs_spec.specs.Plain.{with_region, zero, zero_area}
 use Rattle.ufs_spec.specs.Rpmb.{Region}
 use Rattle.ufs_spec.specs.declared.configs.Numbers.{Numbers}
-use Rattle.journal.specs.declared.kept.FoundRegion.{FoundRegion}
+use Rattle.journal.specs.declared.found.FoundRegion.{FoundRegion}
+use Rattle.journal.specs.declared.found.FoundRest.{FoundRest}
+use Rattle.journal.specs.declared.settings.ShownSettings.{ShownSettings}
 
 -- at this address of this unit the block of the plain device was found
 abbrev pub IsShownAt : List (List (List ℕ)) → Plain → ℕ → ℕ → Type 0
@@ -24,14 +25,18 @@ ShowsRegion found region =
     (found.key ≡ region.key) × (found.counter ≡ region.counter)
     × IfSome found.key (λ key. found.area.now ≡ region.area)
 
--- all of it was found: the blocks of each unit and the RPMB region
-abbrev pub ShowsAll : List (List (List ℕ)) → FoundRegion → Plain → Type 0
-ShowsAll found region p = Shows found p × ShowsRegion region (region_of p 0)
+-- both settings were found
+abbrev pub ShowsSettings : FoundRest → Plain → Type 0
+ShowsSettings found p = (found.boot ≡ p.boot) × (found.is_permanent ≡ p.permanent)
 
--- each of the commands may come in the state that the ones before it make
-abbrev pub CanFollow : Plain → List Command → Type 0
-CanFollow p [] = Unit {0}
-CanFollow p (c ∷ cs) = CanApply p c × CanFollow (apply p c) cs
+-- all of it was found: the blocks of each unit, both settings and the RPMB region
+abbrev pub ShowsAll : List (List (List ℕ)) → FoundRest → Plain → Type 0
+ShowsAll found rest p = Shows found p × ShowsSettings rest p × ShowsRegion rest.region (region_of p 0)
+
+-- all but the settings was found, and both settings that were found may be there
+abbrev pub MayShow : List (List (List ℕ)) → FoundRest → Plain → ShownSettings → Type 0
+MayShow found rest p may =
+    Shows found p × (may.boot ≡ true) × (may.permanent ≡ true) × ShowsRegion rest.region (region_of p 0)
 
 -- ## The plain device that a life begins with
 
@@ -54,5 +59,10 @@ region_found n found =
     record { key = found.key; area = area_found n found.key found.area.now; counter = found.counter }
 
 -- the plain device whose units hold these blocks, with this RPMB region, and which is new in all else
-abbrev pub holding : Numbers → List (List (List ℕ)) → FoundRegion → Plain
-holding n units region = with_region 0 (region_found n region) (record (zero n) { units = units })
+abbrev pub holding_region : Numbers → List (List (List ℕ)) → FoundRegion → Plain
+holding_region n units region = with_region 0 (region_found n region) (record (zero n) { units = units })
+
+-- the same with these settings
+abbrev pub holding : Numbers → List (List (List ℕ)) → FoundRest → Plain
+holding n units rest =
+    record (holding_region n units rest.region) { boot = rest.boot; permanent = rest.is_permanent }

@@ -1,15 +1,17 @@
 //! The plain device that a life begins with, made of what was read.
-ghost use Rattle.std.specs.Prelude.{◌≡◌, ◌<◌, ◌∷◌, [], IfNone, IfOk, IfSome, false, length, map, slice_set, true};
+ghost use Rattle.std.specs.Prelude.{◌≡◌, ◌<◌, ◌≤◌, ◌∷◌, [], IfNone, IfOk, IfSome, false, length, map, slice_set, true};
 ghost use Rattle.ufs_spec.specs.Plain.{new_region, shape_of, shape_of_numbers, unit_of, with_region};
 ghost use Rattle.ufs_spec.specs.declared.configs.Numbers.{Numbers};
-ghost use Rattle.journal.specs.Shown.{AreUnits, IsArea, holding, region_found};
+ghost use Rattle.journal.specs.Shown.{AreUnits, IsArea, holding, holding_region, region_found};
 
-use crate::kept::{FoundRegion, area_bytes};
+use crate::found::{FoundRegion, FoundRest};
+use crate::kept::area_bytes;
 use std::alloc::Global;
 use ufs_spec::{Block, NoMemory, Numbers, PlainDevice, UnitSpec};
 
-/// A plain device that holds these blocks, unit by unit, and this region, and is new in all else; `None` where a
-/// unit is missing, one is too many, one has not its count of blocks, or the area has not its count of bytes.
+/// A plain device that holds these blocks, unit by unit, these settings and this region; `None` where a unit is
+/// missing, one is too many, one has not its count of blocks, the area has not its count of bytes, or the boot setting
+/// is none.
 ///
 /// # Errors
 ///
@@ -18,10 +20,45 @@ pub fn device_holding(
     alloc: Global,
     numbers: &Numbers,
     blocks: &[Vec<Block>],
+    rest: &FoundRest<'_>,
+) -> Result<Option<PlainDevice>, NoMemory>
+    ensures some { IfOk result (λ o. IfSome o (λ p.
+        p ≡ holding numbers.now (map (λ v. v.items) blocks.now) rest.now)) }
+    ensures shape { IfOk result (λ o. IfSome o (λ p. shape_of p ≡ shape_of_numbers numbers.now)) }
+    ensures none { IfOk result (λ o. IfNone o (AreUnits numbers.now (map (λ v. v.items) blocks.now) →
+        IsArea numbers.now rest.now.region → rest.now.boot ≤ 2 → ⊥)) }
+{
+    if rest.boot > 2 {
+        return Ok(None);
+    }
+    match units_holding(alloc, numbers, blocks, &rest.region)? {
+        Some(plain) => Ok(Some(with_settings(plain, rest))),
+        None => Ok(None),
+    }
+}
+
+/// The same device with these settings.
+fn with_settings(plain: PlainDevice, rest: &FoundRest<'_>) -> PlainDevice
+    requires { rest.now.boot ≤ 2 }
+    ensures settings { result ≡ record plain { boot = rest.now.boot; permanent = rest.now.is_permanent } }
+    ensures shape { shape_of result ≡ shape_of plain }
+{
+    let mut plain = plain;
+    plain.set_boot(rest.boot);
+    plain.set_permanent(rest.is_permanent);
+    plain
+}
+
+/// A plain device that holds these blocks and this region, and is new in all else; `None` where a unit is missing,
+/// one is too many, one has not its count of blocks, or the area has not its count of bytes.
+fn units_holding(
+    alloc: Global,
+    numbers: &Numbers,
+    blocks: &[Vec<Block>],
     region: &FoundRegion<'_>,
 ) -> Result<Option<PlainDevice>, NoMemory>
     ensures some { IfOk result (λ o. IfSome o (λ p.
-        p ≡ holding numbers.now (map (λ v. v.items) blocks.now) region.now)) }
+        p ≡ holding_region numbers.now (map (λ v. v.items) blocks.now) region.now)) }
     ensures shape { IfOk result (λ o. IfSome o (λ p. shape_of p ≡ shape_of_numbers numbers.now)) }
     ensures none { IfOk result (λ o. IfNone o (AreUnits numbers.now (map (λ v. v.items) blocks.now) →
         IsArea numbers.now region.now → ⊥)) }

@@ -1,11 +1,15 @@
-//! Whether what a device shows is what a plain device holds after a prefix of commands.
+//! Whether what a device shows is what a plain device may hold after a prefix of a life's entries.
 ghost use Rattle.std.specs.Prelude.{◌≡◌, ◌+◌, ◌*◌, ◌^◌, ◌<◌, ◌≤◌, ◌↔◌, ℕ, IfErr, IfNone, IfSome, IsOk, None, false, length};
 ghost use Rattle.std.specs.Prelude.{map, slice_get, slice_index_or, Some, take, true};
 ghost use Rattle.ufs_spec.specs.Commands.{command_of};
-ghost use Rattle.ufs_spec.specs.Plain.{CanApply, FindsCounter, FitsIn, IsAreaPart, LiesWithin, Plain, after, apply};
+ghost use Rattle.ufs_spec.specs.Plain.{CanApply, FindsCounter, FitsIn, IsAreaPart, LiesWithin, Plain, apply};
 ghost use Rattle.ufs_spec.specs.Plain.{area_len, block_at, greatest_command, region_of, shape_of, shape_of_numbers, unit_of};
-ghost use Rattle.journal.specs.Shown.{CanFollow, IsShownAt, Shows, ShowsAll};
+ghost use Rattle.journal.specs.Entries.{CanCome, CanFollow, IsAfter, noted_of, surely};
+ghost use Rattle.journal.specs.Shown.{IsShownAt, MayShow, Shows, ShowsAll, ShowsRegion};
 
+use crate::entries::Entry;
+use crate::found::{FoundRegion, FoundRest};
+use crate::settings::ShownSettings;
 use ufs_spec::codes::REGIONS;
 use ufs_spec::{
     Block, Cmd, GREATEST_COMMAND, Numbers, PlainDevice, UnitSpec, commands_keep_the_shape,
@@ -14,17 +18,6 @@ use ufs_spec::{
 /// How many bytes a key has.
 const KEY: usize = 32;
 
-/// What was found of the region of the replay protected memory block.
-#[derive(Clone, Copy)]
-pub struct FoundRegion<'a> {
-    /// The key, if one is set.
-    pub key: Option<[u8; 32]>,
-    /// How many writes the area has had.
-    pub counter: u32,
-    /// The bytes of the area, if a key is set: without one none can be read.
-    pub area: &'a [u8],
-}
-
 /// Where a block is.
 #[derive(Clone, Copy)]
 struct Spot {
@@ -32,43 +25,73 @@ struct Spot {
     address: u32,
 }
 
-/// Whether the first commands, the first `held` of them at least, make of the base a device which holds what was
-/// found: these blocks, unit by unit, and this region. The base is led through the commands, so it is used up.
+/// Whether the first entries, the first `held` of them at least, can make of the base a device which
+/// holds what was found: these blocks, unit by unit, both settings and the region. A setting in doubt
+/// may be there or not. The base is led through the entries, so it is used up.
 pub fn is_kept(
     numbers: &Numbers,
     base: PlainDevice,
-    commands: &[Cmd],
+    entries: &[Entry],
     held: usize,
     found: &[Vec<Block>],
-    region: &FoundRegion<'_>,
+    rest: &FoundRest<'_>,
 ) -> bool
     requires shape { shape_of base ≡ shape_of_numbers numbers.now }
-    ensures kept { result ≡ true → (k : ℕ) × (held ≤ k) × (k ≤ length commands.now)
-        × ShowsAll (map (λ v. v.items) found.now) region.now (after base (take k (map command_of commands.now))) }
-    // Where each command can come when it does, the answer false says that no prefix is there.
-    ensures lost { result ≡ false → CanFollow base (map command_of commands.now)
-        → (k : ℕ) → held ≤ k → k ≤ length commands.now
-        → ShowsAll (map (λ v. v.items) found.now) region.now (after base (take k (map command_of commands.now))) → ⊥ }
+    ensures kept { result ≡ true → (k : ℕ) × (held ≤ k) × (k ≤ length entries.now) × (p : Plain)
+        × IsAfter base (take k (map noted_of entries.now)) p
+        × ShowsAll (map (λ v. v.items) found.now) rest.now p }
+    // Where each accepted command can come when it does, the answer false says that no prefix is there.
+    ensures lost { result ≡ false → CanFollow base (map noted_of entries.now)
+        → (k : ℕ) → held ≤ k → k ≤ length entries.now
+        → (p : Plain) → IsAfter base (take k (map noted_of entries.now)) p
+        → ShowsAll (map (λ v. v.items) found.now) rest.now p → ⊥ }
 {
+    let mut may = ShownSettings::over(&base, rest);
     let mut plain = base;
     // A block that was not the plain device's. While it is not, no other has to be looked at.
     let mut other = Spot {
         unit: 0,
         address: 0,
     };
-    for (index, command) in commands.iter().enumerate() {
+    for (index, entry) in entries.iter().enumerate() {
         if index >= held {
-            match compare(numbers, found, region, &plain, other) {
+            match compare(numbers, found, rest, &plain, may, other) {
                 Err(spot) => other = spot,
                 Ok(()) => return true,
             }
         }
-        if !can_apply(numbers, &plain, command) {
+        if !can_come(numbers, &plain, entry) {
             return false;
         }
-        apply_command(numbers, &mut plain, command);
+        may = may.after(entry, rest);
+        follow(numbers, &mut plain, entry);
     }
-    held <= commands.len() && compare(numbers, found, region, &plain, other).is_ok()
+    held <= entries.len() && compare(numbers, found, rest, &plain, may, other).is_ok()
+}
+
+/// Whether what the entry says can come: a command that was accepted names only what is there, and a
+/// write of the replay protected memory block finds the counter below its end.
+fn can_come(numbers: &Numbers, plain: &PlainDevice, entry: &Entry) -> bool
+    requires { shape_of plain.now ≡ shape_of_numbers numbers.now }
+    ensures can { result ≡ true → CanCome plain.now (noted_of entry.now) }
+    ensures cannot { result ≡ false → CanCome plain.now (noted_of entry.now) → ⊥ }
+{
+    match entry {
+        Entry::Accepted(command) => can_apply(numbers, plain, command),
+        Entry::Doubted(_) | Entry::Refused => true,
+    }
+}
+
+/// Does what an entry says for sure, which can come.
+fn follow(numbers: &Numbers, plain: &mut PlainDevice, entry: &Entry)
+    requires shape { shape_of plain.old ≡ shape_of_numbers numbers.now }
+    requires can { CanCome plain.old (noted_of entry.now) }
+    ensures followed { plain.new ≡ surely plain.old (noted_of entry.now) }
+    ensures shape { shape_of plain.new ≡ shape_of_numbers numbers.now }
+{
+    if let Entry::Accepted(command) = entry {
+        apply_command(numbers, plain, command);
+    }
 }
 
 /// Does a command that can come.
@@ -179,9 +202,29 @@ pub(crate) fn area_bytes(numbers: &Numbers) -> usize
     131_072 * usize::from(numbers.rpmb)
 }
 
-/// Whether this is what the plain device holds. If it is not, a block is told that was not found, so far as one is
-/// known; from the hint on it is looked for first.
+/// Whether this is what the plain device holds, but that its settings may be those that were found. If
+/// it is not, a block is told that was not found, so far as one is known; from the hint on it is
+/// looked for first.
 fn compare(
+    numbers: &Numbers,
+    found: &[Vec<Block>],
+    rest: &FoundRest<'_>,
+    plain: &PlainDevice,
+    may: ShownSettings,
+    hint: Spot,
+) -> Result<(), Spot>
+    requires { shape_of plain.now ≡ shape_of_numbers numbers.now }
+    ensures same { IsOk result → MayShow (map (λ v. v.items) found.now) rest.now plain.now may }
+    ensures other { IfErr result (λ s. MayShow (map (λ v. v.items) found.now) rest.now plain.now may → ⊥) }
+{
+    if !may.are_both() {
+        return Err(hint);
+    }
+    compare_held(numbers, found, &rest.region, plain, hint)
+}
+
+/// The same without the settings.
+fn compare_held(
     numbers: &Numbers,
     found: &[Vec<Block>],
     region: &FoundRegion<'_>,
@@ -189,8 +232,10 @@ fn compare(
     hint: Spot,
 ) -> Result<(), Spot>
     requires { shape_of plain.now ≡ shape_of_numbers numbers.now }
-    ensures same { IsOk result → ShowsAll (map (λ v. v.items) found.now) region.now plain.now }
-    ensures other { IfErr result (λ s. ShowsAll (map (λ v. v.items) found.now) region.now plain.now → ⊥) }
+    ensures shown { IsOk result → Shows (map (λ v. v.items) found.now) plain.now }
+    ensures region { IsOk result → ShowsRegion region.now (region_of plain.now 0) }
+    ensures other { IfErr result (λ s. Shows (map (λ v. v.items) found.now) plain.now →
+        ShowsRegion region.now (region_of plain.now 0) → ⊥) }
 {
     // Each write of the area has another counter, so that bytes of the area are seldom looked at.
     if !is_same_key(region.key, plain.key(0)) || region.counter != plain.counter(0) {

@@ -3,10 +3,18 @@
 #![tactic(auto)]
 
 mod bases;
+mod entries;
+mod found;
 mod kept;
 mod messages;
+mod queries;
 mod requests;
+mod settings;
+mod writes;
 
 pub use bases::device_holding;
-pub use kept::{FoundRegion, can_apply, is_kept};
+pub use entries::{Entry, Setting};
+pub use found::{FoundRegion, FoundRest};
+pub use kept::{can_apply, is_kept};
 pub use messages::{Journal, block_in};
+pub use queries::settings_pass_the_table;

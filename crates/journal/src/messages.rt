@@ -1,27 +1,31 @@
-//! The commands that a device accepted in a life, and how many of them were acknowledged as durable,
+//! The commands that a device accepted in a life, and up to which of them they were acknowledged as durable,
 //! as far as the messages of its host and its replies tell.
 ghost use Rattle.std.specs.Prelude.{◌≡◌, ◌++◌, ◌∷◌, [], ◌+◌, ◌<◌, ◌≤◌, IfOk, IfSome, OnOk, length, map, position, true};
+ghost use Rattle.std.specs.Prelude.{slice_index_or, slice_set};
 ghost use Rattle.ufs_spec.specs.Commands.{command_of};
-ghost use Rattle.journal.specs.Heard.{answered, asked_write, awaited_by, begun, begun_write, block_of, brought};
-ghost use Rattle.journal.specs.Heard.{gathered, has_tag, heard, is_flush, written};
+ghost use Rattle.journal.specs.Entries.{Accepted, Doubted, Refused, noted_of};
+ghost use Rattle.journal.specs.Heard.{answered, asked, awaited_by, begun, block_of, brought, doubted};
+ghost use Rattle.journal.specs.Heard.{gathered, has_tag, heard, is_flush, query_answered, ruled, settled, written};
 ghost use Rattle.journal.specs.Heard.{life_begun, open_with, received, taken, told, with_open, without};
 ghost use Rattle.journal.specs.Requests.{accepted_by};
-ghost use Rattle.journal.specs.Writes.{is_whole, with_block, write_of};
 ghost use Rattle.rpmb.specs.Requests.{frames_of};
 
+use crate::entries::{Entry, SUCCESS, Setting, settle};
+use crate::queries::setting_asked;
 use crate::requests::{accepted_by, command_of, raise};
+use crate::writes::{OpenWrite, write_asked};
 use rpmb::{RegionState, whole_frames};
 use std::alloc::Global;
 use std::marker::Model;
-use ufs_spec::codes::{COMMAND, DATA_OUT, RESPONSE};
-use ufs_spec::{Block, Cmd, NoMemory, read_u16, read_u32};
+use ufs_spec::codes::{COMMAND, DATA_OUT, QUERY_REQUEST, QUERY_RESPONSE, RESPONSE};
+use ufs_spec::{Block, Cmd, NoMemory};
 
 /// What the host of one life wrote.
 #[derive(Drop)]
 pub struct Journal {
-    commands: Vec<Cmd>,
+    entries: Vec<Entry>,
     held: usize,
-    /// The commands that have no RESPONSE yet, no two with one tag.
+    /// The commands and settings that have no answer yet, no two with one tag.
     tasks: Vec<OpenTask>,
     /// Whether a block went bad, so that no further write is accepted.
     is_locked: bool,
@@ -31,13 +35,13 @@ pub struct Journal {
 
 impl Model for Journal {
     ghost use Rattle.std.specs.Prelude.{map};
-    ghost use Rattle.ufs_spec.specs.Commands.{command_of};
+    ghost use Rattle.journal.specs.Entries.{noted_of};
     ghost use Rattle.journal.specs.Heard.{Heard};
 
     ghost Value = { Heard };
 
     ghost view = { λ j. record {
-      commands = map command_of j.commands.items;
+      entries = map noted_of j.entries.items;
       held = j.held;
       tasks = j.tasks.items;
       locked = j.is_locked;
@@ -45,60 +49,31 @@ impl Model for Journal {
     } };
 }
 
-/// A command whose RESPONSE was not handed out yet.
+/// A command or a setting whose answer was not handed out yet.
 #[derive(Drop)]
 struct OpenTask {
     tag: u8,
     awaited: Awaited,
-    /// How many commands, from the first one on, its GOOD acknowledges as durable.
+    /// How many entries, from the first one on, the GOOD of a command acknowledges as durable.
     promised: usize,
 }
 
-/// The data that are still to come for a command.
+/// What is still to come for a command or a setting, beside the RESPONSE of a command.
 #[derive(Drop)]
 enum Awaited {
-    /// None: they came, or it has none.
+    /// Nothing: the data came, or it has none.
     Nothing,
     /// The blocks of a write.
     Blocks(OpenWrite),
     /// The frames of a request to the replay protected memory block.
     Frames,
+    /// The QUERY RESPONSE to a setting, which tells whether the device accepted it: the entry at this place.
+    Verdict(usize),
 }
-
-/// A write of `count` blocks, and those of them that came.
-#[derive(Drop)]
-struct OpenWrite {
-    unit: u8,
-    address: u32,
-    count: usize,
-    is_forced: bool,
-    blocks: Vec<Block>,
-}
-
-impl Model for OpenWrite {
-    ghost use Rattle.journal.specs.Writes.{WriteBegun};
-
-    ghost Value = { WriteBegun };
-
-    ghost view = { λ w. record {
-      unit = w.unit;
-      address = w.address;
-      count = w.count;
-      forced = w.is_forced;
-      blocks = w.blocks.items;
-    } };
-}
-
-const WRITE_6: u8 = 0x0A;
-
-const WRITE_10: u8 = 0x2A;
 
 const SYNCHRONIZE_CACHE_10: u8 = 0x35;
 
 const SECURITY_OUT: u8 = 0xB5;
-
-/// FUA, bit 3 of byte 1 of a CDB.
-const FUA: u8 = 0x08;
 
 /// IMMED, bit 1 of byte 1 of a CDB.
 const IMMED: u8 = 0x02;
@@ -112,7 +87,7 @@ impl Journal {
         ensures { result ≡ life_begun region }
     {
         Journal {
-            commands: Vec::new(alloc),
+            entries: Vec::new(alloc),
             held: 0,
             tasks: Vec::new(alloc),
             is_locked: false,
@@ -120,14 +95,14 @@ impl Journal {
         }
     }
 
-    /// The commands that were accepted in the life, in order.
-    pub fn commands(&self) -> &[Cmd]
-        ensures { map command_of result.now ≡ self.now.commands }
+    /// What was noted of the commands of the life, in order.
+    pub fn entries(&self) -> &[Entry]
+        ensures { map noted_of result.now ≡ self.now.entries }
     {
-        self.commands.as_slice()
+        self.entries.as_slice()
     }
 
-    /// How many of the commands, from the first one on, a stop has to keep: those up to the last that was
+    /// How many of the entries, from the first one on, a stop has to keep: those up to the last that was
     /// acknowledged as durable.
     pub fn held(&self) -> usize
         ensures { result ≡ self.now.held }
@@ -156,6 +131,7 @@ impl Journal {
         match message[0] {
             COMMAND => self.begin(alloc, message[2], message[3], &message[16..]),
             DATA_OUT => self.receive(alloc, message[3], message),
+            QUERY_REQUEST => self.ask(message[3], setting_asked(message)),
             _ => Ok(()),
         }
     }
@@ -166,11 +142,7 @@ impl Journal {
         ensures { OnOk result (self.new ≡ begun self.old unit tag cdb.now) }
     {
         close(&mut self.tasks, tag);
-        let promised = if is_flush(cdb) {
-            self.commands.len()
-        } else {
-            0
-        };
+        let promised = if is_flush(cdb) { self.entries.len() } else { 0 };
         let awaited = awaited_by(alloc, unit, cdb);
         self.open_task(OpenTask {
             tag,
@@ -179,7 +151,31 @@ impl Journal {
         })
     }
 
-    // One command more is open.
+    // A query with this tag asks for this setting, if for one. A device with a bad block accepts none.
+    fn ask(&mut self, tag: u8, setting: Option<Setting>) -> Result<(), NoMemory>
+        ensures { OnOk result (self.new ≡ asked self.old tag setting) }
+    {
+        match setting {
+            Some(setting) if !self.is_locked => self.doubt(tag, setting),
+            _ => Ok(()),
+        }
+    }
+
+    // This setting was accepted or refused, which its answer will tell. Its tag was free.
+    fn doubt(&mut self, tag: u8, setting: Setting) -> Result<(), NoMemory>
+        ensures { OnOk result (self.new ≡ doubted self.old tag setting) }
+    {
+        let _ = close(&mut self.tasks, tag);
+        let place = self.entries.len();
+        add_entry(&mut self.entries, Entry::Doubted(setting))?;
+        self.open_task(OpenTask {
+            tag,
+            awaited: Awaited::Verdict(place),
+            promised: 0,
+        })
+    }
+
+    // One command or setting more is open.
     fn open_task(&mut self, task: OpenTask) -> Result<(), NoMemory>
         ensures { OnOk result (self.new ≡ with_open self.old task) }
     {
@@ -218,6 +214,11 @@ impl Journal {
             }),
             Awaited::Blocks(write) => self.take_block(tag, promised, write, block_in(message)),
             Awaited::Frames => self.take_frames(alloc, tag, promised, &message[HEADER..]),
+            Awaited::Verdict(place) => self.open_task(OpenTask {
+                tag,
+                awaited: Awaited::Verdict(place),
+                promised,
+            }),
         }
     }
 
@@ -296,13 +297,13 @@ impl Journal {
         })
     }
 
-    // One command more was accepted. How many there are now.
+    // One command more was accepted. How many entries there are now.
     fn accept(&mut self, command: Cmd) -> Result<usize, NoMemory>
         ensures accepted { OnOk result (self.new ≡
-            record self.old { commands = self.old.commands ++ command_of command ∷ [] }) }
-        ensures count { IfOk result (λ n. n ≡ length self.old.commands + 1) }
+            record self.old { entries = self.old.entries ++ Accepted (command_of command) ∷ [] }) }
+        ensures count { IfOk result (λ n. n ≡ length self.old.entries + 1) }
     {
-        add_command(&mut self.commands, command)
+        add_entry(&mut self.entries, Entry::Accepted(command))
     }
 
     /// The device handed out a reply.
@@ -312,8 +313,10 @@ impl Journal {
         if message.len() < HEADER {
             return;
         }
-        if message[0] == RESPONSE {
-            self.answer(message[3], message[6] == 0 && message[7] == 0);
+        match message[0] {
+            RESPONSE => self.answer(message[3], message[6] == 0 && message[7] == 0),
+            QUERY_RESPONSE => self.answer_query(message[3], message[6]),
+            _ => {}
         }
     }
 
@@ -328,47 +331,34 @@ impl Journal {
         }
     }
 
+    // The query with this tag is answered with this response code.
+    fn answer_query(&mut self, tag: u8, code: u8)
+        ensures { self.new ≡ query_answered self.old tag code }
+    {
+        if let Some(task) = close(&mut self.tasks, tag) {
+            if let Awaited::Verdict(place) = task.awaited {
+                self.rule(place, code);
+            }
+        }
+    }
+
+    // The setting that is the entry at this place is answered with this response code.
+    fn rule(&mut self, place: usize, code: u8)
+        ensures { self.new ≡ ruled self.old place code }
+    {
+        if place < self.entries.len() {
+            settle_at(&mut self.entries, place, self.is_locked, code);
+            if code == SUCCESS {
+                self.held = self.held.max(place + 1);
+            }
+        }
+    }
+
     /// A block went bad.
     pub fn lock(&mut self)
         ensures { self.new ≡ record self.old { locked = true } }
     {
         self.is_locked = true;
-    }
-}
-
-impl OpenWrite {
-    // One block more came.
-    fn add(&mut self, block: Block) -> Result<(), NoMemory>
-        ensures { OnOk result (self.new ≡ with_block self.old block) }
-    {
-        match self.blocks.push(block) {
-            Ok(()) => Ok(()),
-            Err(_) => Err(NoMemory),
-        }
-    }
-
-    // Whether all its blocks came.
-    fn is_whole(&self) -> bool
-        ensures { result ≡ is_whole self.now }
-    {
-        self.blocks.len() >= self.count
-    }
-
-    fn is_forced(&self) -> bool
-        ensures { result ≡ self.now.forced }
-    {
-        self.is_forced
-    }
-
-    // The command that it is.
-    fn into_command(self) -> Cmd
-        ensures { command_of result ≡ write_of self }
-    {
-        Cmd::Write {
-            unit: self.unit,
-            address: self.address,
-            blocks: self.blocks,
-        }
     }
 }
 
@@ -391,16 +381,25 @@ fn place_of(tasks: &[OpenTask], tag: u8) -> Option<usize>
     tasks.iter().position(|task| task.tag == tag)
 }
 
-// One command more. How many there are now.
-fn add_command(commands: &mut Vec<Cmd>, command: Cmd) -> Result<usize, NoMemory>
-    ensures added { OnOk result (map command_of commands.new.items
-        ≡ map command_of commands.old.items ++ command_of command ∷ []) }
-    ensures count { IfOk result (λ n. n ≡ length (map command_of commands.old.items) + 1) }
+// One entry more. How many there are now.
+fn add_entry(entries: &mut Vec<Entry>, entry: Entry) -> Result<usize, NoMemory>
+    ensures added { OnOk result (map noted_of entries.new.items
+        ≡ map noted_of entries.old.items ++ noted_of entry ∷ []) }
+    ensures count { IfOk result (λ n. n ≡ length (map noted_of entries.old.items) + 1) }
 {
-    match commands.push(command) {
-        Ok(()) => Ok(commands.len()),
+    match entries.push(entry) {
+        Ok(()) => Ok(entries.len()),
         Err(_) => Err(NoMemory),
     }
+}
+
+// The entry at this place is settled by this response code.
+fn settle_at(entries: &mut Vec<Entry>, place: usize, is_locked: bool, code: u8)
+    requires { place < length entries.old.items }
+    ensures { let old = map noted_of entries.old.items in map noted_of entries.new.items
+        ≡ slice_set old place (settled is_locked code (slice_index_or old place Refused)) }
+{
+    settle(&mut entries[place], is_locked, code);
 }
 
 /// The block of a message with data.
@@ -427,51 +426,6 @@ fn awaited_by(alloc: Global, unit: u8, cdb: &[u8]) -> Awaited
         Some(write) => Awaited::Blocks(write),
         None => Awaited::Nothing,
     }
-}
-
-// The write that a CDB asks for, if it is one of 1 block or more (SBC, WRITE (6), WRITE (10)).
-fn write_asked(alloc: Global, unit: u8, cdb: &[u8]) -> Option<OpenWrite>
-    requires { 16 ≤ length cdb.now }
-    ensures { result ≡ asked_write unit cdb.now }
-{
-    match cdb[0] {
-        WRITE_6 => {
-            let address = read_u32(cdb, 0) & 0x1F_FFFF;
-            // No blocks mean 256.
-            let count = match cdb[4] {
-                0 => 256,
-                count => count as usize,
-            };
-            begun_write(alloc, unit, address, count, false)
-        }
-        WRITE_10 => {
-            let count = read_u16(cdb, 7) as usize;
-            begun_write(alloc, unit, read_u32(cdb, 2), count, cdb[1] & FUA != 0)
-        }
-        _ => None,
-    }
-}
-
-// A write of 1 block or more, none of which came yet.
-fn begun_write(
-    alloc: Global,
-    unit: u8,
-    address: u32,
-    count: usize,
-    is_forced: bool,
-) -> Option<OpenWrite>
-    ensures { result ≡ begun_write unit address count is_forced }
-{
-    if count == 0 {
-        return None;
-    }
-    Some(OpenWrite {
-        unit,
-        address,
-        count,
-        is_forced,
-        blocks: Vec::new(alloc),
-    })
 }
 
 // Whether the CDB is a SYNCHRONIZE CACHE(10) that is answered only once all is durable that was

@@ -1,10 +1,10 @@
 //! What LUN bytes name.
 ghost use Rattle.std.specs.Prelude.{◌≡◌, ◌==◌, ◌<◌, IfSome, length, position};
 ghost use Rattle.ufs_spec.specs.Messages.{is_among};
-ghost use Rattle.ufs_spec.specs.Refusals.{all_but_security, boot_unit, operations_of, unit_named};
-ghost use Rattle.ufs_spec.specs.Refusals.{well_known};
+ghost use Rattle.ufs_spec.specs.Refusals.{all_but_security, boot_unit, lun_of, operations_of};
+ghost use Rattle.ufs_spec.specs.Refusals.{unit_named, well_known};
 ghost use Rattle.ufs_spec.specs.declared.UnitSpec.{UnitSpec as Spec};
-ghost use Rattle.lun_route.specs.Luns.{lun_in, lun_named, lun_of};
+ghost use Rattle.lun_route.specs.Luns.{lun_in, lun_meant};
 
 use crate::operations::{
     INQUIRY, READ_6, READ_10, READ_CAPACITY_10, REPORT_LUNS, REQUEST_SENSE, SECURITY_IN,
@@ -29,7 +29,7 @@ pub enum Lun {
 
 /// What the LUN byte names: a unit of the configuration, or else a well-known unit.
 pub fn named_lun(numbers: &Numbers, byte: u8) -> Option<Lun>
-    ensures { lun_in result ≡ lun_named numbers.now byte }
+    ensures { lun_in result ≡ lun_of numbers.now byte }
 {
     if usize::from(byte) < numbers.units.len() {
         Some(Lun::Unit(byte))
@@ -74,7 +74,7 @@ fn place_of(units: &[UnitSpec], boot: u8) -> Option<usize>
 impl Lun {
     /// The unit whose blocks are read or written through it, if it has blocks.
     pub fn unit(self, numbers: &Numbers, boot: u8) -> Option<u8>
-        ensures { result ≡ unit_named numbers.now boot (lun_of self) }
+        ensures { result ≡ unit_named numbers.now boot (lun_meant self) }
     {
         match self {
             Lun::Unit(unit) => Some(unit),
@@ -85,7 +85,7 @@ impl Lun {
 
     /// Whether it takes this operation code.
     pub fn takes(self, operation: u8) -> bool
-        ensures { result ≡ is_among (operations_of (lun_of self)) operation }
+        ensures { result ≡ is_among (operations_of (lun_meant self)) operation }
     {
         match self {
             Lun::Unit(_) => unit_takes(operation),

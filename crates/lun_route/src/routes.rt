@@ -1,7 +1,7 @@
 //! Where a command goes.
 ghost use Rattle.std.specs.Prelude.{◌≡◌, IfOk, Some};
-ghost use Rattle.ufs_spec.specs.Refusals.{is_boot_read, unit_named};
-ghost use Rattle.lun_route.specs.Luns.{lun_named, lun_of};
+ghost use Rattle.ufs_spec.specs.Refusals.{is_boot_read, lun_of, unit_named};
+ghost use Rattle.lun_route.specs.Luns.{lun_meant};
 ghost use Rattle.lun_route.specs.Routes.{lacks_blocks, refused_by, routing_refusal};
 
 use crate::luns::{Lun, named_lun};
@@ -23,9 +23,9 @@ pub struct Route {
 /// no unit boots; else [`Sense::INVALID_OPCODE`] if the unit does not take the operation code.
 pub fn route_of(numbers: &Numbers, boot: u8, byte: u8, operation: u8) -> Result<Route, Sense>
     ensures refused { refused_by result
-        ≡ routing_refusal numbers.now boot operation (lun_named numbers.now byte) }
-    ensures lun { IfOk result (λ r. lun_named numbers.now byte ≡ Some (lun_of r.lun)) }
-    ensures unit { IfOk result (λ r. r.unit ≡ unit_named numbers.now boot (lun_of r.lun)) }
+        ≡ routing_refusal numbers.now boot operation (lun_of numbers.now byte) }
+    ensures lun { IfOk result (λ r. lun_of numbers.now byte ≡ Some (lun_meant r.lun)) }
+    ensures unit { IfOk result (λ r. r.unit ≡ unit_named numbers.now boot (lun_meant r.lun)) }
 {
     let lun = named_lun(numbers, byte).ok_or(Sense::NO_UNIT)?;
     let unit = lun.unit(numbers, boot);
@@ -40,7 +40,7 @@ pub fn route_of(numbers: &Numbers, boot: u8, byte: u8, operation: u8) -> Result<
 
 // Whether the blocks of the boot unit are needed, and no unit boots.
 fn lacks_blocks(lun: Lun, unit: Option<u8>, operation: u8) -> bool
-    ensures { result ≡ lacks_blocks operation (lun_of lun) unit }
+    ensures { result ≡ lacks_blocks operation (lun_meant lun) unit }
 {
     matches!(lun, Lun::Boot) && is_boot_read(operation) && unit.is_none()
 }

@@ -5,7 +5,10 @@ ghost use Rattle.ufs_spec.specs.Cdbs.{carried, cdb_bytes, fixed_sense, known_ope
 ghost use Rattle.ufs_spec.specs.Machine.{no_sense};
 ghost use Rattle.ufs_spec.specs.declared.scsi.TheConstants.Sense.{INVALID_FIELD};
 ghost use Rattle.ufs_spec.specs.declared.Cdb.{Cdb};
-ghost use Rattle.ufs_spec.specs.declared.Cdb.TheVariants.{Inquiry, Read10, Read6, ReadCapacity10, RequestSense, SecurityIn, SecurityOut, SynchronizeCache10, TestUnitReady, Write10};
+ghost use Rattle.ufs_spec.specs.declared.Cdb.TheVariants.{Inquiry, Read10, Read6, ReadCapacity10};
+ghost use Rattle.ufs_spec.specs.declared.Cdb.TheVariants.{ReportLuns, RequestSense, SecurityIn};
+ghost use Rattle.ufs_spec.specs.declared.Cdb.TheVariants.{SecurityOut, SynchronizeCache10};
+ghost use Rattle.ufs_spec.specs.declared.Cdb.TheVariants.{TestUnitReady, Write10};
 
 /// No two commands have the same bytes.
 pub fn one_cdb()
@@ -24,8 +27,8 @@ pub fn one_operation()
 
 /// The bytes of some commands and sense data: a FUA write of one block at address FFh, a read of 33
 /// blocks, a read of six bytes of 256 blocks, TEST UNIT READY, INQUIRY for 36 bytes, READ CAPACITY,
-/// SYNCHRONIZE CACHE with IMMED, one frame sent to RPMB region 0 and one asked of region 3, an invalid
-/// field in a CDB, nothing to tell.
+/// SYNCHRONIZE CACHE with IMMED, REPORT LUNS of all units for 64 bytes, one frame sent to RPMB
+/// region 0 and one asked of region 3, an invalid field in a CDB, nothing to tell.
 pub fn worked_bytes()
     ensures write { cdb_bytes (Write10 0xFF 1 true) ≡ 0x2A ∷ 8 ∷ 0 ∷ 0 ∷ 0 ∷ 0xFF ∷ 0 ∷ 0 ∷ 1 ∷ replicate 7 0 }
     ensures read { cdb_bytes (Read10 0 33 false) ≡ 0x28 ∷ 0 ∷ 0 ∷ 0 ∷ 0 ∷ 0 ∷ 0 ∷ 0 ∷ 0x21 ∷ replicate 7 0 }
@@ -34,6 +37,8 @@ pub fn worked_bytes()
     ensures inquiry { cdb_bytes (Inquiry 36) ≡ 0x12 ∷ 0 ∷ 0 ∷ 0 ∷ 0x24 ∷ replicate 11 0 }
     ensures capacity { cdb_bytes ReadCapacity10 ≡ 0x25 ∷ replicate 15 0 }
     ensures synchronize { cdb_bytes (SynchronizeCache10 0 0 true) ≡ 0x35 ∷ 2 ∷ replicate 14 0 }
+    ensures list { cdb_bytes (ReportLuns 2 64)
+        ≡ 0xA0 ∷ 0 ∷ 2 ∷ 0 ∷ 0 ∷ 0 ∷ 0 ∷ 0 ∷ 0 ∷ 0x40 ∷ replicate 6 0 }
     ensures frame_out { cdb_bytes (SecurityOut 0 512)
         ≡ 0xB5 ∷ 0xEC ∷ 0 ∷ 1 ∷ 0 ∷ 0 ∷ 0 ∷ 0 ∷ 2 ∷ replicate 7 0 }
     ensures frame_in { cdb_bytes (SecurityIn 3 512)
@@ -50,11 +55,12 @@ pub fn regions_are_few()
 {}
 
 /// Some lengths and residuals: READ(6) of 0, which are 256 blocks; INQUIRY for 64 bytes, which has
-/// 36; REQUEST SENSE for 4; READ CAPACITY; two blocks of which nothing was carried; a block of which
-/// 512 bytes were expected.
+/// 36; REPORT LUNS for 64, where three units are listed; REQUEST SENSE for 4; READ CAPACITY; two
+/// blocks of which nothing was carried; a block of which 512 bytes were expected.
 pub fn worked_residuals()
     ensures blocks { length_of 0 (Read6 0 0) ≡ 256 * 4096 }
     ensures inquiry { length_of 0 (Inquiry 64) ≡ 36 }
+    ensures list { length_of 3 (ReportLuns 0 64) ≡ 32 }
     ensures request { length_of 0 (RequestSense 4) ≡ 4 }
     ensures capacity { length_of 0 ReadCapacity10 ≡ 8 }
     ensures nothing { residual_of 8192 0 ≡ record { flags = 0x20; count = 8192 } }

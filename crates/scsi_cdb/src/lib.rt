@@ -33,8 +33,7 @@ const IMMED: u8 = 0x02;
 /// The 21 bits of an address in bytes 0 to 3 of READ(6) and WRITE(6).
 const SIX_ADDRESS: u32 = 0x1F_FFFF;
 
-/// Reads a CDB: each command of the table is known, and of these all are taken but INQUIRY, UNMAP and
-/// REPORT LUNS.
+/// Reads a CDB: each command of the table is known, and of these all are taken but UNMAP.
 ///
 /// # Errors
 ///
@@ -220,8 +219,7 @@ fn has_selection(cdb: &Cdb) -> bool
     }
 }
 
-// Whether this stage takes the operation code: each of the table but those of INQUIRY, UNMAP and
-// REPORT LUNS.
+// Whether this stage takes the operation code: each of the table but that of UNMAP.
 fn has_taken_operation(bytes: &[u8; 16]) -> bool
     ensures { IsTrue result ↔ IsTakenOperation bytes.now }
 {
@@ -231,21 +229,20 @@ fn has_taken_operation(bytes: &[u8; 16]) -> bool
             | REQUEST_SENSE
             | READ_6
             | WRITE_6
+            | INQUIRY
             | READ_CAPACITY_10
             | READ_10
             | WRITE_10
             | SYNCHRONIZE_CACHE_10
+            | REPORT_LUNS
             | SECURITY_IN
             | SECURITY_OUT
     )
 }
 
-// Whether this stage takes the command: each of the table but INQUIRY, UNMAP and REPORT LUNS.
+// Whether this stage takes the command: each of the table but UNMAP.
 fn is_taken(cdb: &Cdb) -> bool
     ensures { IsTrue result ↔ IsTakenCdb cdb.now }
 {
-    !matches!(
-        cdb,
-        Cdb::Inquiry { .. } | Cdb::Unmap { .. } | Cdb::ReportLuns { .. }
-    )
+    !matches!(cdb, Cdb::Unmap { .. })
 }

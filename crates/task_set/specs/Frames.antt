@@ -1,5 +1,6 @@
 -- What a task has to do with the frames of the RPMB (JESD220, 12.4), and where the data stand that a request asks for.
-use Rattle.std.specs.Prelude.{ℕ, ◌+◌, ◌-◌, ◌*◌, ◌%◌, ◌==◌, min, nat_lt, if◌then◌else◌, List, [], ◌∷◌, ◌++◌, drop, length}
+use Rattle.std.specs.Prelude.{ℕ, ◌+◌, ◌-◌, ◌*◌, ◌%◌, ◌==◌, min, nat_lt, if◌then◌else◌, List, [], ◌∷◌, ◌++◌, drop}
+use Rattle.std.specs.Prelude.{length}
 use Rattle.std.specs.Prelude.{option_map, take, Option, Some, None}
 use Rattle.ufs_spec.specs.Exchanges as exchange
 use Rattle.task_set.specs.declared.frames.AreaPart.{AreaPart}
@@ -35,7 +36,8 @@ second_read (Some how) = read_kept how ∷ []
 abbrev pub pages_read : AreaReading → List exchange.ReadState
 pages_read r = read_kept r.first ∷ second_read r.second
 
--- so many blocks of 256 bytes from this address on, at most eight, lie in one page of sixteen or in two; none is read yet
+-- so many blocks of 256 bytes from this address on, at most eight, lie in one page of sixteen or in two; none is read
+-- yet
 abbrev pub reading_of : ℕ → ℕ → ℕ → AreaReading
 reading_of address count size =
     record {

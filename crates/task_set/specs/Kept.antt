@@ -6,7 +6,7 @@ use Rattle.task_set.specs.declared.tasks.Short.{Short}
 use Rattle.task_set.specs.declared.tasks.Task.{Task}
 
 -- an open task: what it still owes its host, what it has to do with frames, the next block that it sends, once a die
--- read it, and the frames that it keeps with the data behind them
+-- read it, and what it keeps in its block: bytes that it sends, or its first frame with the data behind it
 pub record OpenTask : Type 0 where
   pub tag : ℕ
   pub lun : ℕ

@@ -71,7 +71,7 @@ abbrev pub task_happened : List OpenTask → ℕ → TaskEvent → Option OpenTa
 task_happened tasks k e None = tasks
 task_happened tasks k e (Some task) = slice_set tasks k (task_after e task)
 
--- the task at this position keeps these frames, if there is one
+-- the task at this position keeps these bytes, if there is one
 abbrev pub task_keeps : List OpenTask → ℕ → List ℕ → Option OpenTask → List OpenTask
 task_keeps tasks k frames None = tasks
 task_keeps tasks k frames (Some task) = slice_set tasks k (bytes_kept frames task)
@@ -91,11 +91,11 @@ read_of (Some task) = task.block
 abbrev pub read_at : List OpenTask → ℕ → Option (List ℕ)
 read_at tasks k = read_of (slice_get tasks k)
 
--- what the task keeps of frames, if there is a task
+-- what the task keeps to send or of its request, if there is a task
 abbrev pub held_of : Option OpenTask → Option (List ℕ)
 held_of None = None
 held_of (Some task) = task.held
 
--- what the task at this position keeps of frames
+-- what the task at this position keeps so
 abbrev pub held_at : List OpenTask → ℕ → Option (List ℕ)
 held_at tasks k = held_of (slice_get tasks k)

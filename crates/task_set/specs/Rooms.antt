@@ -1,6 +1,5 @@
 -- How the fields of a set of tasks are seen, and the room that they keep.
 use Rattle.std.specs.Prelude.{◌≡◌, ◌≤◌, ◌+◌, ℕ, List, length, vec_capacity, Option, Some, None}
-use Rattle.std.specs.VecDeque.{deque_capacity}
 use Rattle.ufs_spec.specs.Exchanges.{most_short_exchanges, most_tasks}
 use Rattle.task_set.specs.Kept.{OpenTask, Tasks}
 use Rattle.task_set.specs.declared.open_task.Holds.{Holds}
@@ -14,7 +13,7 @@ block_in holds.Block body = Some body
 block_in holds.Nothing body = None
 block_in holds.Frames body = None
 
--- the frames that are kept, if they lie there
+-- the bytes that are kept, frames or others, if they lie there
 abbrev pub held_in : Holds → List ℕ → Option (List ℕ)
 held_in holds.Frames body = Some body
 held_in holds.Nothing body = None
@@ -39,7 +38,7 @@ tasks_of s = record { tasks = s.tasks.items; shorts = s.shorts.items }
 -- no list grows past its room, and each block of the pool is a task's or spare
 pub record IsRoomy (s : Inside) : Type 0 where
   pub tasks : most_tasks ≤ vec_capacity s.tasks
-  pub shorts : most_short_exchanges ≤ deque_capacity s.shorts
+  pub shorts : most_short_exchanges ≤ vec_capacity s.shorts
   pub few_shorts : length s.shorts.items ≤ most_short_exchanges
   pub spare : most_tasks ≤ vec_capacity s.spare
   pub bodies : length s.tasks.items + length s.spare.items ≡ most_tasks

@@ -6,6 +6,7 @@ use Rattle.task_set.specs.declared.tasks.TaskEvent.{TaskEvent}
 use Rattle.task_set.specs.declared.tasks.TaskEvent.TheVariants as event
 use Rattle.task_set.specs.Kept.{Tasks, newly_open}
 use Rattle.task_set.specs.Lists.{task_happened, task_keeps}
+use Rattle.task_set.specs.Shorts.{short_locked}
 use Rattle.task_set.specs.Tasks.{after_lost_read, after_read, task_after}
 
 -- a command became a task, which is open behind all others
@@ -16,7 +17,7 @@ opened s task = record s { tasks = s.tasks ++ newly_open task ∷ [] }
 abbrev pub happened : Tasks → ℕ → TaskEvent → Tasks
 happened s k e = record s { tasks = task_happened s.tasks k e (slice_get s.tasks k) }
 
--- the task at this position keeps these frames
+-- the task at this position keeps these bytes
 abbrev pub frames_kept : Tasks → ℕ → List ℕ → Tasks
 frames_kept s k frames = record s { tasks = task_keeps s.tasks k frames (slice_get s.tasks k) }
 
@@ -28,9 +29,9 @@ ended s k = record s { tasks = remove s.tasks k }
 abbrev pub short_opened : Tasks → Short → Tasks
 short_opened s short = record s { shorts = s.shorts ++ short ∷ [] }
 
--- the first short exchange has ended
-abbrev pub short_ended : Tasks → Tasks
-short_ended s = record s { shorts = remove s.shorts 0 }
+-- the short exchange at this position has ended
+abbrev pub short_ended : Tasks → ℕ → Tasks
+short_ended s k = record s { shorts = remove s.shorts k }
 
 -- a die read this block, or the page of the area of this index, for the task of this tag
 abbrev pub block_loaded : Tasks → ℕ → ℕ → List ℕ → Tasks
@@ -42,4 +43,7 @@ block_lost s tag index = record s { tasks = map (after_lost_read tag index) s.ta
 
 -- the device is locked, and each group up to this number is durable
 abbrev pub locked : Tasks → ℕ → Tasks
-locked s frontier = record s { tasks = map (task_after (event.Locked frontier)) s.tasks }
+locked s frontier = record {
+  tasks = map (task_after (event.Locked frontier)) s.tasks;
+  shorts = map (short_locked frontier) s.shorts;
+}

@@ -87,7 +87,7 @@ frame_phase_after (phase.AwaitFrames size) (event.AreaAsked code address count) 
     phase.ReadArea (reading_of address count size)
 frame_phase_after (phase.ReadArea r) (event.PageLoaded index) = phase.ReadArea (page_ended r index page.WasRead)
 frame_phase_after (phase.ReadArea r) (event.BlockLost index) = phase.ReadArea (page_ended r index page.NotRead)
-frame_phase_after (phase.SendFrames size) event.DataSent = phase.Answer status.Good size
+frame_phase_after (phase.SendHeld size) event.DataSent = phase.Answer status.Good size
 frame_phase_after p e = p
 
 -- the table of a task's phases: how far it is after this happened; what does not concern its phase changes nothing
@@ -133,7 +133,7 @@ after_read tag index body t = if t.tag == tag then read_for index body t t.phase
 abbrev pub after_lost_read : ℕ → ℕ → OpenTask → OpenTask
 after_lost_read tag index t = if t.tag == tag then task_after (event.BlockLost index) t else t
 
--- the task keeps these frames from now on
+-- the task keeps these bytes from now on
 abbrev pub bytes_kept : List ℕ → OpenTask → OpenTask
 bytes_kept frames t = record t { block = None; held = Some frames }
 

@@ -19,7 +19,7 @@ pub enum Holds {
     Nothing,
     /// The next block that it sends, which a die read.
     Block,
-    /// Frames that it sends, or the first frame of its request and the data that it asks for.
+    /// What it sends in one DATA IN, or the first frame of its request and the data that it asks for.
     Frames,
 }
 
@@ -93,7 +93,7 @@ impl OpenTask {
         }
     }
 
-    /// The frames that it keeps, and the data behind them.
+    /// What it keeps to send, or the first frame of its request with the data behind it.
     pub fn held(&self) -> Option<&Block>
         ensures { option_copied result ≡ self.now.held }
     {
@@ -103,7 +103,7 @@ impl OpenTask {
         }
     }
 
-    /// It keeps these frames, with what is behind them, from now on.
+    /// It keeps these bytes, frames or others, with what is behind them, from now on.
     pub fn keep(&mut self, frames: &Block)
         ensures { self.new ≡ bytes_kept frames.now self.old }
     {

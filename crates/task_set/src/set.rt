@@ -1,20 +1,20 @@
 //! The tasks and the short exchanges that are open.
 ghost use Rattle.std.specs.Prelude.{◌≡◌, ◌<◌, ◌≤◌, length, map, nat_le, slice_get, position, Some};
-ghost use Rattle.std.specs.Prelude.{IfNone, IfOk, IfSome, OnErr, OnOk, option_copied, vec_capacity};
+ghost use Rattle.std.specs.Prelude.{IfOk, IfSome, option_copied, vec_capacity};
 ghost use Rattle.std.specs.List.{list_any};
-ghost use Rattle.ufs_spec.specs.Exchanges.{most_tasks};
+ghost use Rattle.ufs_spec.specs.Exchanges.{most_short_exchanges, most_tasks};
 ghost use Rattle.task_set.specs.Kept.{no_tasks};
 ghost use Rattle.task_set.specs.Lists.{asked_among, asked_by, asked_in, held_at, is_in_use, is_short_of};
 ghost use Rattle.task_set.specs.Lists.{read_at, short_allowed, task_at, wanted_in};
 ghost use Rattle.task_set.specs.Sets.{block_loaded, block_lost, ended, frames_kept, happened, locked, opened};
 ghost use Rattle.task_set.specs.Sets.{short_ended, short_opened};
+ghost use Rattle.task_set.specs.Shorts.{is_short_due, short_locked};
 ghost use Rattle.task_set.specs.Tasks.{after_lost_read, after_read, is_decided, is_sender, is_task_of};
 ghost use Rattle.task_set.specs.Tasks.{task_after};
 
 use crate::open_task::OpenTask;
-use crate::tasks::{AskedFor, Phase, Short, ShortReply, Task, TaskEvent, Wanted};
+use crate::tasks::{AskedFor, Phase, Short, Task, TaskEvent, Wanted};
 use std::alloc::{AllocError, Global};
-use std::collections::VecDeque;
 use std::marker::Model;
 use ufs_bytes::{Block, Body};
 use ufs_spec::{HostFault, MOST_SHORT_EXCHANGES, MOST_TASKS};
@@ -27,7 +27,7 @@ pub struct TaskSet {
     tasks: Vec<OpenTask>,
     /// The exchanges of one reply that was not handed out yet. No tag is in use twice, here or among the
     /// tasks.
-    shorts: VecDeque<Short>,
+    shorts: Vec<Short>,
     /// The blocks of the pool that no task has: what they hold means nothing.
     spare: Vec<Body>,
 }
@@ -55,7 +55,7 @@ impl TaskSet {
     {
         Ok(TaskSet {
             tasks: Vec::with_capacity(alloc, MOST_TASKS)?,
-            shorts: VecDeque::with_capacity(alloc, MOST_SHORT_EXCHANGES)?,
+            shorts: Vec::with_capacity(alloc, MOST_SHORT_EXCHANGES)?,
             spare: spare_bodies(alloc)?,
         })
     }
@@ -64,7 +64,7 @@ impl TaskSet {
     pub fn uses(&self, tag: u8) -> bool
         ensures { result ≡ is_in_use self.now.tasks self.now.shorts tag }
     {
-        task_at(self.tasks.as_slice(), tag).is_some() || is_short(&self.shorts, tag)
+        task_at(self.tasks.as_slice(), tag).is_some() || is_short(self.shorts.as_slice(), tag)
     }
 
     /// Whether as many tasks are open as may be.
@@ -173,17 +173,15 @@ impl TaskSet {
         asked_of(&self.tasks[index], lun, offset, count, index)
     }
 
-    /// An exchange of one reply is open from now on, the last one.
+    /// Whether one more short exchange of this tag may be open.
     ///
     /// # Errors
     ///
     /// `TagInUse` if a task or a short exchange has the tag, else `Backlog` if as many short exchanges
-    /// are open as may be. Nothing changes then.
-    pub fn open_short(&mut self, tag: u8, reply: ShortReply) -> Result<(), HostFault>
-        ensures refused { OnErr result (self.new ≡ self.old) }
-        ensures answer { result ≡ short_allowed self.old.tasks self.old.shorts tag }
-        ensures after { OnOk result (self.new ≡
-            short_opened self.old (record { tag = tag; reply = reply })) }
+    /// are open as may be.
+    pub fn may_open_short(&self, tag: u8) -> Result<(), HostFault>
+        ensures answer { result ≡ short_allowed self.now.tasks self.now.shorts tag }
+        ensures room { IfOk result (λ _. length self.now.shorts < most_short_exchanges) }
     {
         if self.uses(tag) {
             return Err(HostFault::TagInUse);
@@ -191,18 +189,34 @@ impl TaskSet {
         if self.shorts.len() >= MOST_SHORT_EXCHANGES {
             return Err(HostFault::Backlog);
         }
-        self.shorts.push_back_reserved(Short { tag, reply });
         Ok(())
     }
 
-    /// Takes out the short exchange that was opened first, whose reply is handed out now; `None`, and
-    /// nothing changes, if none is open.
-    pub fn take_short(&mut self) -> Option<Short>
-        ensures first { result ≡ slice_get self.old.shorts 0 }
-        ensures nothing { IfNone result (self.new ≡ self.old) }
-        ensures after { IfSome result (λ _. self.new ≡ short_ended self.old) }
+    /// This short exchange is open from now on, the last one.
+    pub fn open_short(&mut self, short: Short)
+        requires { length self.old.shorts < most_short_exchanges }
+        ensures { self.new ≡ short_opened self.old short }
     {
-        self.shorts.pop_front()
+        self.shorts.push_reserved(short);
+    }
+
+    /// The position of the first short exchange whose reply is due, where each group up to this number is
+    /// durable.
+    pub fn due_short(&self, frontier: u64) -> Option<usize>
+        ensures first { result ≡ position (is_short_due frontier) self.now.shorts }
+        ensures within { IfSome result (λ k. k < length self.now.shorts) }
+    {
+        due_at(self.shorts.as_slice(), frontier)
+    }
+
+    /// Takes out the short exchange at this position, whose reply is handed out now. Those after it move up
+    /// by one position.
+    pub fn take_short(&mut self, index: usize) -> Short
+        requires { index < length self.old.shorts }
+        ensures there { slice_get self.old.shorts index ≡ Some result }
+        ensures after { self.new ≡ short_ended self.old index }
+    {
+        self.shorts.remove(index)
     }
 
     /// A die read this block for the task of this tag: the next one that it sends, or the page of the area
@@ -227,6 +241,7 @@ impl TaskSet {
         ensures { self.new ≡ locked self.old frontier }
     {
         end_waiting(self.tasks.as_mut_slice(), frontier);
+        lock_shorts(self.shorts.as_mut_slice(), frontier);
     }
 }
 
@@ -251,14 +266,7 @@ fn task_at(tasks: &[OpenTask], tag: u8) -> Option<usize>
 }
 
 /// Whether a short exchange of this tag is open.
-fn is_short(shorts: &VecDeque<Short>, tag: u8) -> bool
-    ensures { result ≡ list_any (is_short_of tag) shorts.now.items }
-{
-    let (first, last) = shorts.as_slices();
-    is_short_among(first, tag) || is_short_among(last, tag)
-}
-
-fn is_short_among(shorts: &[Short], tag: u8) -> bool
+fn is_short(shorts: &[Short], tag: u8) -> bool
     ensures { result ≡ list_any (is_short_of tag) shorts.now }
 {
     shorts.iter().any(|short| is_short_of(short, tag))
@@ -308,6 +316,14 @@ fn decided_at(tasks: &[OpenTask]) -> Option<usize>
     tasks.iter().position(|task| task.is_decided())
 }
 
+/// The position of the first short exchange whose reply is due.
+fn due_at(shorts: &[Short], frontier: u64) -> Option<usize>
+    ensures first { result ≡ position (is_short_due frontier) shorts.now }
+    ensures within { IfSome result (λ k. k < length shorts.now) }
+{
+    shorts.iter().position(|short| short.is_due(frontier))
+}
+
 /// A die read this block for the task of this tag.
 fn load_for(tasks: &mut [OpenTask], tag: u8, index: u16, block: &Block)
     ensures { tasks.new ≡ map (after_read tag index block.now) tasks.old }
@@ -332,5 +348,14 @@ fn end_waiting(tasks: &mut [OpenTask], frontier: u64)
 {
     for task in tasks.iter_mut() {
         task.happen(TaskEvent::Locked { frontier });
+    }
+}
+
+/// The short exchanges after the lock began: none waits for the frontier any more.
+fn lock_shorts(shorts: &mut [Short], frontier: u64)
+    ensures { shorts.new ≡ map (short_locked frontier) shorts.old }
+{
+    for short in shorts.iter_mut() {
+        *short = short.locked(frontier);
     }
 }

@@ -1,6 +1,7 @@
 //! The tasks that are open, and what each still owes its host (JESD220, 10.9).
 ghost use Rattle.std.specs.Prelude.{◌≡◌, ◌*◌};
 ghost use Rattle.task_set.specs.Tasks.{data_length, failed, frame_phase_after, group_taken, is_wanted, next_sending};
+ghost use Rattle.task_set.specs.Shorts.{is_short_due, reply_locked, short_locked};
 ghost use Rattle.task_set.specs.Tasks.{next_transfer, phase_after};
 
 use crate::frames::{AreaReading, Frames, PageRead};
@@ -112,8 +113,8 @@ pub enum Phase {
     SendBlocks { sending: Sending },
     /// A DATA IN with these data is due.
     SendData { data: ShortData },
-    /// A DATA IN with the frames that the task's block holds, so many bytes, is due.
-    SendFrames { length: u32 },
+    /// A DATA IN with what the task's block holds, so many bytes, is due.
+    SendHeld { length: u32 },
     /// The RESPONSE is due: `length` bytes were the command's or were carried.
     Answer { status: Status, length: u32 },
 }
@@ -257,7 +258,7 @@ impl Phase {
             (Phase::ReadArea { reading }, TaskEvent::BlockLost { index }) => Phase::ReadArea {
                 reading: reading.ended(index, PageRead::NotRead),
             },
-            (Phase::SendFrames { length }, TaskEvent::DataSent) => Phase::good(length),
+            (Phase::SendHeld { length }, TaskEvent::DataSent) => Phase::good(length),
             (phase, _) => phase,
         }
     }
@@ -294,11 +295,55 @@ impl ShortData {
     }
 }
 
+/// The response code of a query that failed for no reason of its own (JESD220, 10.7.9).
+const GENERAL_FAILURE: u8 = 0xFF;
+
 /// An exchange of one reply that was not handed out yet.
 #[derive(Clone, Copy, Debug, PartialEq, Eq)]
 pub struct Short {
     pub tag: u8,
+    /// The number of the group that is durable before the reply is due; `None` where it is due at once.
+    pub awaits: Option<u64>,
     pub reply: ShortReply,
+}
+
+impl Short {
+    /// Whether its reply is due, where each group up to this number is durable.
+    pub fn is_due(self, frontier: u64) -> bool
+        ensures { result ≡ is_short_due frontier self }
+    {
+        match self.awaits {
+            None => true,
+            Some(number) => number <= frontier,
+        }
+    }
+
+    /// The exchange after the device was locked, where each group up to this number is durable: what
+    /// waits for a later one has failed.
+    pub fn locked(self, frontier: u64) -> Short
+        ensures { result ≡ short_locked frontier self }
+    {
+        if self.is_due(frontier) {
+            self
+        } else {
+            Short {
+                tag: self.tag,
+                awaits: None,
+                reply: self.reply.locked(),
+            }
+        }
+    }
+}
+
+/// What a query asked, as far as its answer says it again (JESD220, 10.7.9).
+#[derive(Clone, Copy, Debug, PartialEq, Eq)]
+pub struct Queried {
+    /// Whether its function is standard write (81h), and not standard read (01h).
+    pub writing: bool,
+    /// The opcode with IDN, index and selector.
+    pub asked: Asked,
+    /// How many bytes of a descriptor were asked for.
+    pub length: u16,
 }
 
 /// What the reply of a short exchange says.
@@ -310,9 +355,25 @@ pub enum ShortReply {
     NopIn,
     /// This device manages no tasks yet: function not supported (JESD220, 10.7.7).
     NotManaged { lun: u8 },
-    /// This device answers no queries yet, neither standard reads nor standard writes: invalid opcode
-    /// (JESD220, 10.7.9).
-    NotQueried { writing: bool, asked: Asked },
+    /// A query is answered with this response code and tells nothing (JESD220, 10.7.9).
+    QueryFailed { query: Queried, response: u8 },
+    /// A query succeeded: it tells the descriptor that it asked for, or this value (JESD220, 10.7.9).
+    QueryDone { query: Queried, value: u32 },
+}
+
+impl ShortReply {
+    /// What is said in its place where a lock ends the exchange: a setting is told a general failure.
+    pub fn locked(self) -> ShortReply
+        ensures { result ≡ reply_locked self }
+    {
+        match self {
+            ShortReply::QueryDone { query, value: _ } => ShortReply::QueryFailed {
+                query,
+                response: GENERAL_FAILURE,
+            },
+            reply => reply,
+        }
+    }
 }
 
 /// What a task asked its host for.

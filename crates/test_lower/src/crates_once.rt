@@ -177,9 +177,9 @@ fn cdbs_are_taken_or_refused_by_their_tables(rt: HostRuntime) {
     let verify = [0x2F, 0, 0, 0, 0, 0, 0, 0, 1, 0, 0, 0, 0, 0, 0, 0];
     assert!(rt; is_refused(&verify, Sense::INVALID_OPCODE));
     assert!(rt; matches!(scsi_cdb::read(&[0; 16]), Ok(Cdb::TestUnitReady)));
-    // INQUIRY is known, and not taken in this stage.
-    let inquiry = [0x12, 0, 0, 0, 0x24, 0, 0, 0, 0, 0, 0, 0, 0, 0, 0, 0];
-    assert!(rt; is_refused(&inquiry, Sense::INVALID_OPCODE));
+    // UNMAP is known, and not taken in this stage.
+    let unmap = [0x42, 0, 0, 0, 0, 0, 0, 0, 0x18, 0, 0, 0, 0, 0, 0, 0];
+    assert!(rt; is_refused(&unmap, Sense::INVALID_OPCODE));
     assert!(rt; scsi_cdb::blocks_of(&taken) == 1);
     assert!(rt; scsi_cdb::address_of(&taken) == 255);
     assert!(rt; scsi_cdb::length_of(0, &taken) == 4096);
@@ -189,6 +189,58 @@ fn cdbs_are_taken_or_refused_by_their_tables(rt: HostRuntime) {
         0x70, 0, 5, 0, 0, 0, 0, 0x0A, 0, 0, 0, 0, 0x24, 0, 0, 0, 0, 0,
     ];
     assert!(rt; scsi_cdb::sense_bytes(&Sense::INVALID_FIELD) == sense);
+}
+
+/// INQUIRY has its allocation length in bytes 3 and 4 (SPC, INQUIRY command). It tells 36 bytes,
+/// and takes neither EVPD nor a page code.
+#[test]
+fn inquiry_is_taken_without_a_page(rt: HostRuntime) {
+    let inquiry = [0x12, 0, 0, 0x01, 0x24, 0, 0, 0, 0, 0, 0, 0, 0, 0, 0, 0];
+    let taken = Cdb::Inquiry { allocation: 0x0124 };
+    assert!(rt; scsi_cdb::bytes_of(&taken) == inquiry);
+    assert!(rt;
+        matches!(
+            scsi_cdb::read(&inquiry),
+            Ok(Cdb::Inquiry { allocation: 0x0124 })
+        )
+    );
+    assert!(rt; scsi_cdb::length_of(0, &taken) == 36);
+    assert!(rt; scsi_cdb::length_of(0, &Cdb::Inquiry { allocation: 5 }) == 5);
+    for place in [1usize, 2, 5, 6, 15] {
+        let mut other = inquiry;
+        other[place] = 0x01;
+        assert!(rt; is_refused(&other, Sense::INVALID_FIELD));
+    }
+}
+
+/// REPORT LUNS has its selection in byte 2 and its allocation length in bytes 6 to 9 (SPC, REPORT
+/// LUNS command). Three selections are there.
+#[test]
+fn report_luns_is_taken_with_its_selection(rt: HostRuntime) {
+    let report = [0xA0, 0, 2, 0, 0, 0, 0, 0, 0x01, 0x40, 0, 0, 0, 0, 0, 0];
+    let taken = Cdb::ReportLuns {
+        select: 2,
+        allocation: 0x0140,
+    };
+    assert!(rt; scsi_cdb::bytes_of(&taken) == report);
+    assert!(rt;
+        matches!(
+            scsi_cdb::read(&report),
+            Ok(Cdb::ReportLuns {
+                select: 2,
+                allocation: 0x0140
+            })
+        )
+    );
+    // Eight bytes, and eight for each unit.
+    assert!(rt; scsi_cdb::length_of(7, &taken) == 64);
+    let fourth = [0xA0, 0, 3, 0, 0, 0, 0, 0, 0x01, 0x40, 0, 0, 0, 0, 0, 0];
+    assert!(rt; is_refused(&fourth, Sense::INVALID_FIELD));
+    for place in [1usize, 3, 5, 10, 11] {
+        let mut other = report;
+        other[place] = 0x01;
+        assert!(rt; is_refused(&other, Sense::INVALID_FIELD));
+    }
 }
 
 /// Whether a CDB is refused with this sense.

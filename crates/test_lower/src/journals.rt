@@ -1,7 +1,7 @@
 //! The comparison, on blocks that are a prefix of what was written and on blocks that are none, and what a
 //! journal takes from messages.
 use geometry::Config;
-use journal::{FoundRegion, Journal, device_holding, is_kept};
+use journal::{Entry, FoundRegion, FoundRest, Journal, device_holding, is_kept};
 use rpmb::RegionState;
 use std::alloc::Global;
 use std::process::Abort;
@@ -42,17 +42,17 @@ fn blocks(alloc: Global, first: [u8; 4], second: [u8; 2]) -> Result<Vec<Vec<Bloc
     Ok(all)
 }
 
-fn write(alloc: Global, unit: u8, address: u32, byte: u8) -> Result<Cmd, Fail> {
+fn write(alloc: Global, unit: u8, address: u32, byte: u8) -> Result<Entry, Fail> {
     let blocks = [[byte; 4096]].to_vec(alloc)?;
-    Ok(Cmd::Write {
+    Ok(Entry::Accepted(Cmd::Write {
         unit,
         address,
         blocks,
-    })
+    }))
 }
 
 /// Three writes: 11h and 22h to the first two blocks of unit 0, 33h to the last block of unit 1.
-fn three_writes(alloc: Global) -> Result<Vec<Cmd>, Fail> {
+fn three_writes(alloc: Global) -> Result<Vec<Entry>, Fail> {
     let mut commands = Vec::new(alloc);
     commands.push(write(alloc, 0, 0, 0x11)?)?;
     commands.push(write(alloc, 0, 1, 0x22)?)?;
@@ -60,35 +60,44 @@ fn three_writes(alloc: Global) -> Result<Vec<Cmd>, Fail> {
     Ok(commands)
 }
 
-/// A region as it is found where nothing was done with it.
-const NEW_REGION: FoundRegion<'static> = FoundRegion {
-    key: None,
-    counter: 0,
-    area: &[],
+/// What is found beside the blocks where nothing was done with it.
+const NEW_REST: FoundRest<'static> = FoundRest {
+    boot: 0,
+    is_permanent: false,
+    region: FoundRegion {
+        key: None,
+        counter: 0,
+        area: &[],
+    },
 };
 
 /// Whether these blocks are those that a prefix of the commands, with the held ones in it, makes of a new
 /// device.
-fn keeps(alloc: Global, commands: &[Cmd], held: usize, found: &[Vec<Block>]) -> Result<bool, Fail> {
+fn keeps(
+    alloc: Global,
+    commands: &[Entry],
+    held: usize,
+    found: &[Vec<Block>],
+) -> Result<bool, Fail> {
     let config = config()?;
     commands_keep_the_shape();
     let base = PlainDevice::new(alloc, config.numbers())?;
-    Ok(is_kept(config.numbers(), base, commands, held, found, &NEW_REGION))
+    Ok(is_kept(config.numbers(), base, commands, held, found, &NEW_REST))
 }
 
 /// The same over a device that holds the blocks of the base; `None` where those are not the units'.
 fn keeps_over(
     alloc: Global,
     base: &[Vec<Block>],
-    commands: &[Cmd],
+    commands: &[Entry],
     held: usize,
     found: &[Vec<Block>],
 ) -> Result<Option<bool>, Fail> {
     let config = config()?;
-    let Some(base) = device_holding(alloc, config.numbers(), base, &NEW_REGION)? else {
+    let Some(base) = device_holding(alloc, config.numbers(), base, &NEW_REST)? else {
         return Ok(None);
     };
-    let kept = is_kept(config.numbers(), base, commands, held, found, &NEW_REGION);
+    let kept = is_kept(config.numbers(), base, commands, held, found, &NEW_REST);
     Ok(Some(kept))
 }
 
@@ -194,7 +203,7 @@ fn begun(alloc: Global) -> Journal {
 
 /// Compares how many writes the journal has, and how many of them are held.
 fn expect_counts(rt: &impl Abort, journal: &Journal, accepted: usize, held: usize) {
-    assert!(rt; journal.commands().len() == accepted);
+    assert!(rt; journal.entries().len() == accepted);
     assert!(rt; journal.held() == held);
 }
 
@@ -245,9 +254,9 @@ fn a_flush_holds_the_writes_before_it(rt: HostRuntime) -> Result<(), Fail> {
 }
 
 /// Whether the command is a WRITE to unit 0 at this address.
-fn is_write_at(command: Option<&Cmd>, wanted: u32) -> bool {
-    match command {
-        Some(Cmd::Write { unit, address, .. }) => *unit == 0 && *address == wanted,
+fn is_write_at(entry: Option<&Entry>, wanted: u32) -> bool {
+    match entry {
+        Some(Entry::Accepted(Cmd::Write { unit, address, .. })) => *unit == 0 && *address == wanted,
         _ => false,
     }
 }
@@ -259,7 +268,7 @@ fn write_6_is_accepted_and_an_empty_or_locked_write_is_not(rt: HostRuntime) -> R
     let mut journal = begun(alloc);
     journal.hear(alloc, &write_6(1))?;
     journal.hear(alloc, &block_out(1, 0, 0x11))?;
-    assert!(rt; is_write_at(journal.commands().first(), 0x01_0203));
+    assert!(rt; is_write_at(journal.entries().first(), 0x01_0203));
     journal.hear(alloc, &command(2, WRITE, FUA, 1, 0))?;
     journal.hear(alloc, &block_out(2, 0, 0x22))?;
     journal.tell(&good(2));

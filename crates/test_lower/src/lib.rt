@@ -31,6 +31,8 @@ mod scans;
 #[cfg(test)]
 mod scans_by_workers;
 #[cfg(test)]
+mod setting_journals;
+#[cfg(test)]
 mod settings_pages;
 #[cfg(test)]
 mod unit_rows;

@@ -1,8 +1,8 @@
 //! Queries and their answers as worked by hand, over the configuration of the worked rows: offsets
 //! and codes are those of JESD220, 10.7.9 and 14.1.4.
 use descriptors::{
-    Descriptor, QueryAnswer, QueryRequest, QuerySettings, Setting, answer, device_descriptor,
-    unit_descriptor,
+    Descriptor, QueryAnswer, QueryRequest, QuerySettings, Setting, answer, descriptor_told,
+    device_descriptor, unit_descriptor,
 };
 use std::test::Fail;
 use ufs_spec::{Asked, Numbers};
@@ -42,7 +42,7 @@ fn code(numbers: &Numbers, query: &QueryRequest) -> Option<u8> {
 /// The bytes that are told on a new device, none if nothing is told.
 fn bytes_told(numbers: &Numbers, query: &QueryRequest) -> Descriptor {
     match answer(numbers, NEW, true, query) {
-        QueryAnswer::Told(told) => told.bytes,
+        QueryAnswer::Told(_) => descriptor_told(numbers, query.asked, query.length),
         _ => Descriptor::new(),
     }
 }

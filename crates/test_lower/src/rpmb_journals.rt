@@ -1,7 +1,7 @@
 //! What a journal takes from requests to the replay protected memory block, and the comparison of
 //! what was found of it. The MACs are those of another HMAC with SHA-256.
 use geometry::Config;
-use journal::{FoundRegion, Journal, can_apply, device_holding, is_kept};
+use journal::{Entry, FoundRegion, FoundRest, Journal, can_apply, device_holding, is_kept};
 use rpmb::RegionState;
 use std::alloc::Global;
 use std::process::Abort;
@@ -59,7 +59,7 @@ fn bring(alloc: Global, journal: &mut Journal, tag: u8, asked: &FrameBytes) -> R
 
 /// Compares how many commands the journal has, how many of them are held, and the counter.
 fn expect_counts(rt: &impl Abort, journal: &Journal, accepted: usize, held: usize, counter: u32) {
-    assert!(rt; journal.commands().len() == accepted);
+    assert!(rt; journal.entries().len() == accepted);
     assert!(rt; journal.held() == held);
     assert!(rt; journal.region().counter == counter);
 }
@@ -120,14 +120,14 @@ fn rpmb_write(alloc: Global) -> Result<Cmd, Fail> {
 }
 
 /// A key, and that write.
-fn key_and_write(alloc: Global) -> Result<Vec<Cmd>, Fail> {
-    let mut commands = Vec::new(alloc);
-    commands.push(Cmd::SetKey {
+fn key_and_write(alloc: Global) -> Result<Vec<Entry>, Fail> {
+    let mut entries = Vec::new(alloc);
+    entries.push(Entry::Accepted(Cmd::SetKey {
         region: 0,
         key: KEY,
-    })?;
-    commands.push(rpmb_write(alloc)?)?;
-    Ok(commands)
+    }))?;
+    entries.push(Entry::Accepted(rpmb_write(alloc)?))?;
+    Ok(entries)
 }
 
 /// An area of zeros, with so many bytes 77h from address 3 on.
@@ -148,6 +148,15 @@ fn units(alloc: Global) -> Result<Vec<Vec<Block>>, Fail> {
     Ok(all)
 }
 
+/// This region, and settings with which nothing was done.
+fn rest_with(region: FoundRegion<'_>) -> FoundRest<'_> {
+    FoundRest {
+        boot: 0,
+        is_permanent: false,
+        region,
+    }
+}
+
 /// Whether this region is found after a prefix of the two commands with so many of them held.
 fn keeps(
     alloc: Global,
@@ -159,11 +168,11 @@ fn keeps(
     let config = config()?;
     commands_keep_the_shape();
     let base = PlainDevice::new(alloc, config.numbers())?;
-    let commands = key_and_write(alloc)?;
+    let entries = key_and_write(alloc)?;
     let found = units(alloc)?;
-    let region = FoundRegion { key, counter, area };
-    let (commands, found) = (commands.as_slice(), found.as_slice());
-    Ok(is_kept(config.numbers(), base, commands, held, found, &region))
+    let rest = rest_with(FoundRegion { key, counter, area });
+    let (entries, found) = (entries.as_slice(), found.as_slice());
+    Ok(is_kept(config.numbers(), base, entries, held, found, &rest))
 }
 
 /// The key, the counter and the bytes go together: each prefix is kept, and no mixture of two.
@@ -197,14 +206,15 @@ fn a_life_begins_over_a_region(rt: HostRuntime) -> Result<(), Fail> {
         counter: 7,
         area: bytes.as_slice(),
     };
-    let Some(base) = device_holding(alloc, config.numbers(), found.as_slice(), &region)? else {
+    let rest = rest_with(region);
+    let Some(base) = device_holding(alloc, config.numbers(), found.as_slice(), &rest)? else {
         panic!(rt; "the area is whole");
     };
-    assert!(rt; is_kept(config.numbers(), base, &[], 0, found.as_slice(), &region));
-    let short = FoundRegion {
+    assert!(rt; is_kept(config.numbers(), base, &[], 0, found.as_slice(), &rest));
+    let short = rest_with(FoundRegion {
         area: &[],
         ..region
-    };
+    });
     let none = device_holding(alloc, config.numbers(), found.as_slice(), &short)?;
     assert!(rt; none.is_none());
     Ok(())

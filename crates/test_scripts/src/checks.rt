@@ -2,7 +2,7 @@
 //! dies.
 use crate::frames::KEY_REQUEST;
 use crate::rpmb_write_stopped::{AT_13, EIGHT};
-use crate::steps::Step::{Command, Frames, Good, GoodFrames, Lines, Send, Settle};
+use crate::steps::Step::{Command, Frames, Good, GoodFrames, Lines, Query, Send, Settle, Told};
 use crate::steps::{Script, Step};
 use ufsim::Stops;
 
@@ -94,4 +94,62 @@ fn each_stop_of_rpmb_writes_is_good(rt: HostRuntime) {
     script.add(&WRITTEN_AFTER_A_STOP);
     script.run(&rt);
     script.check_each(&rt, Stops::Pairs, b"check stops 42 bad 0\n");
+}
+
+/// A write of block 0, which is answered at once.
+const WRITE: [Step<'static>; 3] = [
+    Command("012000", "02", "00001000", "2a0000000000000001"),
+    Send("02", "11", 1),
+    Good("02"),
+];
+
+/// bBootLunEn becomes 1, and the page of this setting and that of a write are in flight at once. Then
+/// fPermanentWPEn is set. Both answers are told at the end.
+const BOOT_IN_FLIGHT: [Step<'static>; 1] = [Query("01", "81", "04000000", "", "00000001")];
+
+const PERMANENT_BEHIND_IT: [Step<'static>; 7] = [
+    Lines("take 0", "take 0 program 0 1"),
+    Lines("take 1", "take 1 program 0 0"),
+    Lines("done 1 ok\ndone 0 ok", "done 1 yes\ndone 0 yes"),
+    Told("01", "8100", "04000000", "", "00000001", ""),
+    Query("03", "81", "06020000", "", ""),
+    Settle("2"),
+    Told("03", "8100", "06020000", "", "00000001", ""),
+];
+
+/// A stop of the script itself, and then bBootLunEn becomes 2.
+const BOOT_AFTER_A_STOP: [Step<'static>; 5] = [
+    Lines("stop", "stop ok"),
+    Settle("8"),
+    Query("01", "81", "04000000", "", "00000002"),
+    Settle("2"),
+    Told("01", "8100", "04000000", "", "00000002", ""),
+];
+
+/// The settings come back in the order of the commands. The first mark takes two erases and a program;
+/// two settings and the write a program each: six moments, and at one of them both dies program. After
+/// the script's own stop each die erases a block, and the setting takes a program: three moments more.
+#[test]
+fn each_stop_of_settings_is_good(rt: HostRuntime) {
+    let mut script = Script::over(rt.alloc(), SMALL);
+    script.add(&[Settle("4")]);
+    script.add(&BOOT_IN_FLIGHT);
+    script.add(&WRITE);
+    script.add(&PERMANENT_BEHIND_IT);
+    script.add(&BOOT_AFTER_A_STOP);
+    script.run(&rt);
+    script.check_each(&rt, Stops::Pairs, b"check stops 36 bad 0\n");
+}
+
+/// A setting that came before the device was mended is refused at once. As long as its answer is not
+/// handed out the check does not know it, and takes the write behind it with the setting or without.
+#[test]
+fn a_setting_that_is_not_answered_may_be_missing(rt: HostRuntime) {
+    let mut script = Script::over(rt.alloc(), SMALL);
+    script.add(&BOOT_IN_FLIGHT);
+    script.add(&[Settle("4")]);
+    script.add(&WRITE);
+    script.add(&[Settle("2"), Told("01", "81ff", "04000000", "", "", "")]);
+    script.run(&rt);
+    script.check_each(&rt, Stops::One, b"check stops 12 bad 0\n");
 }

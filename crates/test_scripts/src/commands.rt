@@ -95,20 +95,15 @@ fn write_6_and_read_6_carry_a_block(rt: HostRuntime) {
     );
 }
 
-/// Task management and queries are answered, though none is carried out yet: function not supported
-/// (04h), invalid opcode (FEh). A code that no table has is refused as before.
+/// Task management is answered, though none is carried out yet: function not supported (04h).
 #[test]
-fn task_management_and_queries_are_not_carried_out(rt: HostRuntime) {
+fn task_management_is_not_carried_out(rt: HostRuntime) {
     expect(
         &rt,
         rt.alloc(),
         &[
             Host("040000090080000000000000000000000000000700", 32, "host ok"),
             Reply("24000009000000000000000000000004", ""),
-            Host("1600000a0001000000000000010201000000000000", 32, "host ok"),
-            Reply("3600000a0001fe0000000000010201", ""),
-            Command("014000", "0e", "00000024", "1200000024"),
-            Refusal("212000", "0e", "00000024", "05", "2000"),
         ],
     );
 }

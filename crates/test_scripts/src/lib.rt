@@ -17,6 +17,8 @@ mod groups;
 #[cfg(test)]
 mod messages;
 #[cfg(test)]
+mod query_rows;
+#[cfg(test)]
 mod rpmb_commands;
 #[cfg(test)]
 mod rpmb_refusals;
@@ -28,5 +30,7 @@ mod scripts;
 mod steps;
 #[cfg(test)]
 mod stops;
+#[cfg(test)]
+mod unit_rows;
 #[cfg(test)]
 mod worked_rows;

@@ -2,8 +2,8 @@
 use crate::frames::{Frame, length_of};
 use crate::scripts::{Outcome, Text};
 use Step::{
-    Answer, Block, Command, DataIn, Frames, Good, GoodFrames, Host, Lines, NopOut, Refusal, Reply,
-    Request, Response, Send, Settle,
+    Answer, Block, BlockOf, Command, DataIn, Frames, Good, GoodFrames, Host, Lines, NopOut, Query,
+    Refusal, Reply, Request, Response, Send, SendTo, Settle, Told,
 };
 use std::alloc::Global;
 use std::process::Abort;
@@ -47,6 +47,14 @@ pub enum Step<'a> {
     /// The data of the WRITE with this tag, so many blocks of one byte: the device asks for each of
     /// them by READY TO TRANSFER, and gets it by DATA OUT.
     Send(&'a str, &'a str, usize),
+    /// The data of the WRITE of one block to this LUN with this tag, the block being this byte.
+    SendTo(&'a str, &'a str, &'a str),
+    /// A QUERY REQUEST, which is taken: tag, function, then opcode, IDN, index and selector, then
+    /// length and value.
+    Query(&'a str, &'a str, &'a str, &'a str, &'a str),
+    /// Its QUERY RESPONSE: tag, function with the response code, then opcode, IDN, index and
+    /// selector, then length and value, and the data behind it.
+    Told(&'a str, &'a str, &'a str, &'a str, &'a str, &'a str),
     /// A SECURITY PROTOCOL OUT with this tag to the unit RPMB: the device asks for these frames all
     /// at once by READY TO TRANSFER, and gets them by DATA OUT.
     Frames(&'a str, &'a [Frame<'a>]),
@@ -59,6 +67,8 @@ pub enum Step<'a> {
     Reply(&'a str, &'a str),
     /// A DATA IN with this tag: one block of this byte, from offset 0 on.
     Block(&'a str, &'a str),
+    /// A DATA IN from this LUN with this tag: one block of this byte, from offset 0 on.
+    BlockOf(&'a str, &'a str, &'a str),
     /// A DATA IN of equal bytes: tag, offset, their count as the header has it, the byte, and their
     /// count.
     DataIn(&'a str, &'a str, &'a str, &'a str, usize),
@@ -116,13 +126,36 @@ impl Script {
                 "host ok",
             ),
             Send(tag, byte, blocks) => self.send(tag, byte, blocks),
+            SendTo(lun, tag, byte) => self.send_block(lun, tag, OFFSETS[0], byte),
+            Query(tag, function, asked, length, value) => self.host(
+                &[
+                    ("160000", 3),
+                    (tag, 2),
+                    (function, 7),
+                    (asked, 6),
+                    (length, 2),
+                    (value, 12),
+                ],
+                "host ok",
+            ),
+            Told(tag, response, asked, length, value, data) => self.reply(&[
+                ("360000", 3),
+                (tag, 2),
+                (response, 5),
+                (if data.is_empty() { "" } else { length }, 2),
+                (asked, 6),
+                (length, 2),
+                (value, 12),
+                (data, 0),
+            ]),
             Frames(tag, frames) => self.frames(tag, frames),
             Request(tag, frames) => self.request(tag, frames),
             Answer(tag, frames) => self.answer(tag, frames),
             Reply(header, data) => self.reply(&[(header, 32), (data, 0)]),
-            Block(tag, byte) => self.data_in(tag, OFFSETS[0], "1000", byte, 4096),
+            Block(tag, byte) => self.data_in("00", tag, OFFSETS[0], "1000", byte, 4096),
+            BlockOf(lun, tag, byte) => self.data_in(lun, tag, OFFSETS[0], "1000", byte, 4096),
             DataIn(tag, offset, count, byte, bytes) => {
-                self.data_in(tag, offset, count, byte, bytes);
+                self.data_in("00", tag, offset, count, byte, bytes);
             }
             Good(tag) => self.reply(&[("210000", 3), (tag, 29)]),
             GoodFrames(tag) => self.reply(&[("2100c4", 3), (tag, 29)]),
@@ -162,21 +195,23 @@ impl Script {
 
     fn send(&mut self, tag: &str, byte: &str, blocks: usize) {
         for offset in OFFSETS.iter().take(blocks) {
-            self.ready(tag, offset);
-            self.data_out(tag, offset, byte);
+            self.send_block("00", tag, offset, byte);
         }
     }
 
-    // The device asks for one block.
-    fn ready<'b>(&mut self, tag: &'b str, offset: &'b str) {
-        self.reply(&[("310000", 3), (tag, 9), (offset, 4), ("00001000", 16)]);
-    }
-
-    // It gets that block.
-    fn data_out<'b>(&mut self, tag: &'b str, offset: &'b str, byte: &str) {
+    // The device asks for one block, and gets it.
+    fn send_block<'b>(&mut self, lun: &'b str, tag: &'b str, offset: &'b str, byte: &str) {
+        self.reply(&[
+            ("3100", 2),
+            (lun, 1),
+            (tag, 9),
+            (offset, 4),
+            ("00001000", 16),
+        ]);
         self.script.add("fill ");
         self.script.add_fields(&[
-            ("020000", 3),
+            ("0200", 2),
+            (lun, 1),
             (tag, 7),
             ("1000", 2),
             (offset, 4),
@@ -233,6 +268,7 @@ impl Script {
 
     fn data_in<'b>(
         &mut self,
+        lun: &'b str,
         tag: &'b str,
         offset: &'b str,
         count: &'b str,
@@ -241,7 +277,8 @@ impl Script {
     ) {
         self.output.add("reply ");
         self.output.add_fields(&[
-            ("220000", 3),
+            ("2200", 2),
+            (lun, 1),
             (tag, 7),
             (count, 2),
             (offset, 4),

@@ -1,2 +1,3 @@
 pub mod ListsJudged
+pub mod SettingsCarried
 pub mod SettingsWait

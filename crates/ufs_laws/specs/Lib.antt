@@ -8,4 +8,5 @@ pub mod Requests
 pub mod Replies
 pub mod RpmbWrites
 pub mod Runs
+pub mod SettingsPages
 pub mod Table

@@ -1,18 +1,24 @@
-//! What is decided of UNMAP's list, and of settings.
+//! What is decided of UNMAP's list, and of settings; and what a settings page says.
 ghost use Rattle.std.specs.Prelude.{◌≡◌, ◌≢◌, ◌<◌, ◌≤◌, ◌+◌, ◌-◌, ◌*◌, ◌++◌, ◌∷◌, [], ℕ, Bool, true, false, List, length, take, Some, None};
 ghost use Rattle.ufs_bytes.specs.Fields.{field_at};
 ghost use Rattle.ufs_laws.specs.Decisions.{boot_query, IsListed, list_of, PassesList, permanent_query};
+ghost use Rattle.ufs_laws.specs.FrameLaws.{outcome_in};
+ghost use Rattle.ufs_laws.specs.SettingsPages.{AddsPage, ChangesSettings, settings_after};
+ghost use Rattle.ufs_laws.specs.SettingsPages.{settings_after_all, settings_in};
 ghost use Rattle.ufs_spec.specs.declared.Numbers.{Numbers};
 ghost use Rattle.ufs_spec.specs.Changes.{accepts, claimed_by, ends_with_status, set_deed, with_short};
-ghost use Rattle.ufs_spec.specs.Commands.{Command, SetBoot, SetPermanent, Zero};
+ghost use Rattle.ufs_spec.specs.Commands.{Command, RpmbWrite, SetBoot, SetPermanent, Zero};
 ghost use Rattle.ufs_spec.specs.DataOuts.{has_list_header, is_past_unit, is_wrong_descriptor, unmap_complete};
 ghost use Rattle.ufs_spec.specs.Exchanges.{Answering, Good, Short, Status, Task, invalid_list_field, out_of_range, short_reply, write_error};
+ghost use Rattle.ufs_spec.specs.FrameRequests.{frames_complete};
+ghost use Rattle.ufs_spec.specs.Frames.{Frame};
 ghost use Rattle.ufs_spec.specs.Machine.{durable, is_durable, lock_applied, short_locked};
-ghost use Rattle.ufs_spec.specs.Plain.{LiesWithin, Plain, apply, block_at, shape_of};
+ghost use Rattle.ufs_spec.specs.Plain.{LiesWithin, Plain, after, apply, block_at, region_of, shape_of};
 ghost use Rattle.ufs_spec.specs.Plain.{zero_block};
 ghost use Rattle.ufs_spec.specs.Queries.{Query, query_code, setting_of, value_told};
 ghost use Rattle.ufs_spec.specs.QueryAnswers.{may_set, query_answered, query_done, query_failed, query_passed};
 ghost use Rattle.ufs_spec.specs.Refusals.{State, locked, mended, numbers_of, plain_now, unit_numbers_at};
+ghost use Rattle.ufs_spec.specs.Rpmb.{Results};
 ghost use Rattle.ufs_spec.specs.Translation.{free_slots};
 
 /// A wrong header or descriptor of UNMAP's list is refused with 5/26/00, a descriptor past the unit
@@ -103,4 +109,51 @@ pub fn a_setting_waits_until_it_is_durable()
         query_code n p false permanent_query ≡ 0xFF }
     ensures nothing { (s : State) (tag : ℕ) (q : Query) (code : ℕ) → code ≢ 0x00 →
         query_answered s tag q code ≡ with_short s (short_reply tag (query_failed tag q code)) }
+{}
+
+/// The boot setting, the permanent protection (JESD220, 14), and the key and write counter of RPMB
+/// region 0 (JESD220, 12.4) lie on one page. A command that changes one of them puts the whole page
+/// behind all groups that were accepted before it. The page carries all four as the commands before
+/// it, durable or not, and its own leave them. So a setting and an RPMB write in flight together
+/// never undo each other: whichever comes second carries what both did.
+pub fn a_settings_page_carries_all_before_it()
+    // What commands make of the four: each changes one at most, and no other.
+    ensures commands { (p : Plain) (cs : List Command) → 0 < length p.regions →
+        settings_in (after p cs) ≡ settings_after_all (settings_in p) cs }
+    // The page of a command says what all commands of this life so far, and its own, made of the
+    // settings with which the life began.
+    ensures page { (s : State) (c : Command) (claimed : ℕ) → 0 < length s.base.regions →
+        ChangesSettings c → AddsPage s (accepts s c claimed)
+        (settings_after_all (settings_in s.base) (s.accepted ++ c ∷ [])) }
+    // It says what the device has from then on, as a host sees it.
+    ensures as_it_is { (s : State) (c : Command) (claimed : ℕ) → ChangesSettings c →
+        AddsPage s (accepts s c claimed) (settings_in (plain_now (accepts s c claimed))) }
+    // The page of the second of two commands says what both made, in either order of a setting and
+    // a write.
+    ensures second { (s : State) (c d : Command) (m n : ℕ) → 0 < length s.base.regions →
+        ChangesSettings d → AddsPage (accepts s c m) (accepts (accepts s c m) d n)
+        (settings_after (settings_after (settings_in (plain_now s)) c) d) }
+    ensures setting_after_write { (s : State) (address boot m n : ℕ) (bytes : List ℕ) →
+        0 < length s.base.regions → AddsPage (accepts s (RpmbWrite 0 address bytes) m)
+        (accepts (accepts s (RpmbWrite 0 address bytes) m) (SetBoot boot) n)
+        (record (settings_in (plain_now s)) {
+          boot = boot;
+          counter = (region_of (plain_now s) 0).counter + 1;
+        }) }
+    ensures write_after_setting { (s : State) (address boot m n : ℕ) (bytes : List ℕ) →
+        0 < length s.base.regions → AddsPage (accepts s (SetBoot boot) m)
+        (accepts (accepts s (SetBoot boot) m) (RpmbWrite 0 address bytes) n)
+        (record (settings_in (plain_now s)) {
+          boot = boot;
+          counter = (region_of (plain_now s) 0).counter + 1;
+        }) }
+    // So it is when a query sets something, and when an RPMB request is accepted.
+    ensures setting { (s : State) (tag : ℕ) (q : Query) (c : Command) → 0 < length s.base.regions →
+        setting_of q ≡ Some c → AddsPage s (query_passed s tag q (setting_of q))
+        (settings_after (settings_in (plain_now s)) c) }
+    ensures request { (s : State) (task : Task) (f : Frame) (fs : List Frame) (result : ℕ)
+        (c : Command) → 0 < length s.base.regions →
+        outcome_in s 0 (f ∷ fs) ≡ Results result (Some c) →
+        AddsPage s (frames_complete s task 0 (f ∷ fs))
+        (settings_after (settings_in (plain_now s)) c) }
 {}

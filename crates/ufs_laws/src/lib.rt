@@ -28,7 +28,10 @@ pub use calls::{
 pub use contents::{
     command_replaces_its_keys, commands_keep_plain, new_device_is_zero, plain_state_is_its_contents,
 };
-pub use decisions::{a_setting_waits_until_it_is_durable, an_unmap_judges_its_list, worked_lists};
+pub use decisions::{
+    a_setting_waits_until_it_is_durable, a_settings_page_carries_all_before_it,
+    an_unmap_judges_its_list, worked_lists,
+};
 pub use exchange::{
     a_command_is_never_unknown_once_taken, a_read_sends_its_blocks, data_are_asked_for_in_order,
     every_byte_string_is_heard, nothing_of_an_aborted_tag_follows,

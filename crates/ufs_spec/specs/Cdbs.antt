@@ -154,14 +154,13 @@ IsCdb (ReportLuns select allocation) = (select ≤ 2) × (allocation < 2 ^ 32)
 IsCdb (SecurityIn region length) = (region < regions) × (length < 2 ^ 32)
 IsCdb (SecurityOut region length) = (region < regions) × (length < 2 ^ 32)
 
--- ## The limit of this stage: INQUIRY, UNMAP and REPORT LUNS are not taken
+-- ## The limit of this stage: UNMAP is not taken
 
--- the operation codes that are taken; any other is answered 5/20/00. INQUIRY and REPORT LUNS come with descriptors,
--- settings and boot units, UNMAP with task management and bad blocks
+-- the operation codes that are taken; any other is answered 5/20/00. UNMAP comes with task management and bad blocks
 abbrev pub taken_operations : List ℕ
 taken_operations =
-    test_unit_ready ∷ request_sense ∷ read_6 ∷ write_6 ∷ read_capacity_10 ∷ read_10 ∷ write_10
-    ∷ synchronize_cache_10 ∷ security_in ∷ security_out ∷ []
+    test_unit_ready ∷ request_sense ∷ read_6 ∷ write_6 ∷ inquiry ∷ read_capacity_10 ∷ read_10 ∷ write_10
+    ∷ synchronize_cache_10 ∷ report_luns ∷ security_in ∷ security_out ∷ []
 
 -- byte 0 is an operation code that is taken
 abbrev pub IsTakenOperation : List ℕ → Type 0
@@ -173,10 +172,12 @@ IsTakenCdb TestUnitReady = Unit {0}
 IsTakenCdb (RequestSense allocation) = Unit {0}
 IsTakenCdb (Read6 address blocks) = Unit {0}
 IsTakenCdb (Write6 address blocks) = Unit {0}
+IsTakenCdb (Inquiry allocation) = Unit {0}
 IsTakenCdb ReadCapacity10 = Unit {0}
 IsTakenCdb (Read10 address blocks forced) = Unit {0}
 IsTakenCdb (Write10 address blocks forced) = Unit {0}
 IsTakenCdb (SynchronizeCache10 address blocks immediate) = Unit {0}
+IsTakenCdb (ReportLuns select allocation) = Unit {0}
 IsTakenCdb (SecurityIn region length) = Unit {0}
 IsTakenCdb (SecurityOut region length) = Unit {0}
 IsTakenCdb cdb = ⊥

@@ -8,7 +8,6 @@ use Rattle.ufs_spec.specs.Moves.{Claim}
 use Rattle.ufs_spec.specs.Plain.{Plain, apply}
 use Rattle.ufs_spec.specs.Queries.{Query, descriptor_told, query_code, sets_power_on, setting_of, value_told}
 use Rattle.ufs_spec.specs.Refusals.{State, locked, mended, numbers_of, plain_now}
-use Rattle.ufs_spec.specs.Stages.{answers_queries}
 use Rattle.ufs_spec.specs.Translation.{free_slots}
 use Rattle.ufs_spec.specs.declared.configs.Numbers.{Numbers}
 use Rattle.ufs_spec.specs.declared.messages.Message.{Message}
@@ -57,9 +56,6 @@ query_answered s tag q code =
     if (code == 0x00) && not (q.asked.opcode == 0) then query_passed s tag q (setting_of q)
     else with_short s (short_reply tag (query_failed tag q code))
 
--- what a QUERY REQUEST makes of the state (JESD220, 10.7.8 and 10.7.9). Until queries are answered by their table each
--- is answered FEh, invalid opcode
+-- what a QUERY REQUEST makes of the state (JESD220, 10.7.8 and 10.7.9): it is answered by its table
 abbrev pub query_heard : State → ℕ → Query → State
-query_heard s tag q =
-    query_answered s tag q
-    (if answers_queries then query_code (numbers_of s) (plain_now s) (may_set s) q else 0xFE)
+query_heard s tag q = query_answered s tag q (query_code (numbers_of s) (plain_now s) (may_set s) q)

@@ -15,7 +15,6 @@ use Rattle.ufs_spec.specs.Exchanges.{list_length_error, no_unit, not_ready, out_
 use Rattle.ufs_spec.specs.Exchanges.{write_protected}
 use Rattle.ufs_spec.specs.Messages.{is_among}
 use Rattle.ufs_spec.specs.Plain.{Plain, after}
-use Rattle.ufs_spec.specs.Stages.{taken_luns}
 use Rattle.ufs_spec.specs.Translation.{Translation, free_slots, has_pending, is_locked, is_mended}
 use Rattle.ufs_spec.specs.declared.configs.Numbers.{Numbers}
 use Rattle.ufs_spec.specs.declared.configs.UnitSpec.{UnitSpec}
@@ -73,7 +72,7 @@ pub data Lun : Type 0 where
   -- D0h: the device as a whole
   DeviceUnit : Lun
 
--- the well-known unit with this LUN byte, taken yet or not
+-- the well-known unit with this LUN byte
 abbrev pub well_known : ℕ → Option Lun
 well_known byte =
     if byte == 0x81 then Some ReportLunsUnit
@@ -82,12 +81,9 @@ well_known byte =
     else if byte == 0xD0 then Some DeviceUnit
     else None
 
--- what a LUN byte names on a device of this configuration; of the well-known units only those that are taken by now
+-- what a LUN byte names on a device of this configuration: a unit of it, or a well-known one
 abbrev pub lun_of : Numbers → ℕ → Option Lun
-lun_of n byte =
-    if nat_lt byte (length n.units.items) then Some (UnitOf byte)
-    else if is_among taken_luns byte then well_known byte
-    else None
+lun_of n byte = if nat_lt byte (length n.units.items) then Some (UnitOf byte) else well_known byte
 
 -- what a unit of the configuration takes: all operation codes but those of the security commands
 abbrev pub all_but_security : List ℕ

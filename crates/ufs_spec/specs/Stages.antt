@@ -1,6 +1,6 @@
 -- What the device does not take yet. Each limit is one definition here, or one of `taken_operations` and `IsTakenCdb`
 -- (Cdbs), and goes with the stage that it names. All that comes after a limit is defined as if it were not there.
-use Rattle.std.specs.Prelude.{ℕ, Bool, false, List, [], ◌∷◌}
+use Rattle.std.specs.Prelude.{ℕ, Bool, false}
 use Rattle.ufs_spec.specs.declared.configs.Numbers.{Numbers}
 
 -- how many RPMB regions (JESD220, 12.4.2) a device has: region 0 alone, until the profile with four regions
@@ -12,17 +12,7 @@ regions = 1
 abbrev pub most_bad : Numbers → ℕ
 most_bad n = 0
 
--- the well-known LUNs (JESD220, 10.8.5) that take commands: RPMB. A command to another one gets 5/25/00. The stage of
--- descriptors, settings and boot units adds 81h, B0h and D0h
-abbrev pub taken_luns : List ℕ
-taken_luns = 0xC4 ∷ []
-
 -- whether a task management request (JESD220, 10.7.6) is carried out. Until the stage of task management each is
 -- answered 04h, not supported, even if its LUN is not there
 abbrev pub manages_tasks : Bool
 manages_tasks = false
-
--- whether queries are answered by their table (JESD220, 10.7.9). Until the stage of descriptors, settings and boot
--- units each is answered FEh, invalid opcode
-abbrev pub answers_queries : Bool
-answers_queries = false

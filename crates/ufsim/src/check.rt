@@ -1,6 +1,7 @@
 //! Stops a script's device inside each of its programs and erases, and looks whether the device that
 //! opens afterwards holds what a prefix of the accepted commands makes, with each acknowledged one in it: the
-//! blocks of the units, and the key, the counter and the area of the replay protected memory block.
+//! blocks of the units, the settings bBootLunEn and fPermanentWPEn, and the key, the counter and the area of
+//! the replay protected memory block.
 ghost use Rattle.std.specs.Prelude.{◌≡◌, IfOk, IfSome};
 ghost use Rattle.ufs_spec.specs.Plain.{shape_of, shape_of_numbers};
 
@@ -166,26 +167,21 @@ impl Check {
         Ok(is_kept(
             self.config.numbers(),
             base,
-            self.journal.commands(),
+            self.journal.entries(),
             self.journal.held(),
             found.units.as_slice(),
-            &found.region.found(),
+            &found.rest(),
         ))
     }
 
     // The plain device that the life began with; `None` where what was read is not as large as the units and
-    // the area.
+    // the area, or has no boot setting.
     fn base(&self, alloc: Global) -> Result<Option<PlainDevice>, Word>
         ensures { IfOk result (λ o. IfSome o (λ p. shape_of p ≡ shape_of_numbers self.now.config)) }
     {
         let numbers = self.config.numbers();
         match &self.base {
-            Some(base) => Ok(device_holding(
-                alloc,
-                numbers,
-                base.units.as_slice(),
-                &base.region.found(),
-            )?),
+            Some(base) => Ok(device_holding(alloc, numbers, base.units.as_slice(), &base.rest())?),
             None => new_device(alloc, numbers),
         }
     }

@@ -12,6 +12,7 @@ mod outputs;
 mod reading;
 mod regions;
 mod run;
+mod settings_shown;
 mod spelling;
 mod stopped;
 mod words;

@@ -1,9 +1,10 @@
 //! Opens a device again over dies, and reads by messages all that it holds.
 use crate::fault::{Word, word_of};
 use crate::regions::Region;
+use crate::settings_shown::Settings;
 use device::World;
 use geometry::Config;
-use journal::block_in;
+use journal::{FoundRest, block_in};
 use nand_model::MemDie;
 use std::alloc::Global;
 use ufs_spec::codes::{COMMAND, DATA_IN, RESPONSE};
@@ -17,12 +18,24 @@ const REPLY_ROUNDS: usize = 8;
 pub(crate) struct Holdings {
     /// The blocks of each unit, by their addresses.
     pub units: Vec<Vec<Block>>,
+    settings: Settings,
     /// The region of the replay protected memory block.
     pub region: Region,
 }
 
+impl Holdings {
+    /// All but the blocks, for a comparison.
+    pub fn rest(&self) -> FoundRest<'_> {
+        FoundRest {
+            boot: self.settings.boot,
+            is_permanent: self.settings.is_permanent,
+            region: self.region.found(),
+        }
+    }
+}
+
 /// What a device holds that is opened over these dies and mended; `None` where it does not open, or does not answer
-/// each READ with its block, and each request for the region rightly under this key.
+/// each READ with its block, each query for a setting rightly, and each request for the region rightly under this key.
 pub(crate) fn read_dies(
     alloc: Global,
     config: &Config,
@@ -120,8 +133,15 @@ impl Visit {
         let Some(units) = self.blocks(numbers.units.as_slice())? else {
             return Ok(None);
         };
+        let Some(settings) = self.settings()? else {
+            return Ok(None);
+        };
         match self.region(key, numbers.rpmb)? {
-            Some(region) => Ok(Some(Holdings { units, region })),
+            Some(region) => Ok(Some(Holdings {
+                units,
+                settings,
+                region,
+            })),
             None => Ok(None),
         }
     }

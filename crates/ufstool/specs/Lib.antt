@@ -1,1 +1,3 @@
+pub mod HostMessages
+pub mod HostQueries
 pub mod Requests

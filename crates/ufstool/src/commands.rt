@@ -51,8 +51,27 @@ fn write_fields<W: fmt::Write>(f: &mut fmt::Formatter<W>, command: &Cdb) -> fmt:
             ..
         } => f.write_str(" with IMMED"),
         Cdb::RequestSense { allocation } => write!(f, " of at most {allocation} bytes"),
+        Cdb::Inquiry { allocation } => write!(f, " of at most {allocation} bytes"),
+        Cdb::ReportLuns { select, allocation } => write_selection(f, *select, *allocation),
         _ => Ok(()),
     }
+}
+
+// Which units a list has (SPC, REPORT LUNS, select report).
+fn write_selection<W: fmt::Write>(
+    f: &mut fmt::Formatter<W>,
+    select: u8,
+    allocation: u32,
+) -> fmt::Result {
+    let units = match select {
+        0x00 => "the units that are not well known",
+        0x01 => "the well known units",
+        _ => "all units",
+    };
+    write!(
+        f,
+        " of {units} (select report {select:02X}h), of at most {allocation} bytes"
+    )
 }
 
 // How many blocks from which address on.

@@ -1,14 +1,24 @@
 //! The lines of a script that hand a device a message.
 ghost use Rattle.std.specs.Prelude.{◌≡◌, ◌≤◌, ◌∷◌, ◌++◌, [], IfOk, codes, length};
 ghost use Rattle.hex.specs.Hex.{encode_lower};
-ghost use Rattle.ufs_spec.specs.Messages.{spelling, AreFlags, IsMessage};
+ghost use Rattle.ufs_spec.specs.Cdbs.{direction_of};
+ghost use Rattle.ufs_spec.specs.Codes.{data_out_code};
+ghost use Rattle.ufs_spec.specs.Messages.{header, padding, spelling, transfer, zeros};
+ghost use Rattle.ufs_spec.specs.Messages.{AreFlags, IsMessage};
+ghost use Rattle.ufstool.specs.HostMessages.{bytes_wanted, command_spelled, expected_of, flags_of};
+ghost use Rattle.ufs_spec.specs.declared.messages.Message.TheVariants.{Command as CommandMessage};
+ghost use Rattle.ufstool.specs.declared.host.HostMessage.TheVariants.{DataOut, NopOut};
 
+use crate::queries::{HostQuery, query_message};
 use scsi_cdb::{bytes_of, length_of};
 use std::alloc::{AllocError, Global};
 use std::io;
 use std::io::Write;
 use thiserror::Error;
 use ufs_spec::{Cdb, Data, Message, Upiu};
+
+/// REPORT LUNS lists no more than eight units and four well known ones.
+const MOST_UNITS: u8 = 12;
 
 /// A message that a line can be written for.
 #[derive(Clone, Copy)]
@@ -17,7 +27,8 @@ pub enum HostMessage {
     NopOut {
         task: u8,
     },
-    /// COMMAND. `expected` is how many bytes the host sends or has room for; without it, all bytes of the command.
+    /// COMMAND. `expected` is how many bytes the host sends or has room for; without it, all bytes
+    /// of the command, and of REPORT LUNS those of a list of twelve units.
     Command {
         unit: u8,
         task: u8,
@@ -32,6 +43,11 @@ pub enum HostMessage {
         count: u16,
         fill: u8,
     },
+    /// QUERY REQUEST.
+    Query {
+        task: u8,
+        query: HostQuery,
+    },
 }
 
 /// Why a line cannot be written.
@@ -40,6 +56,9 @@ pub enum LineFault {
     /// The fields of the command do not fit its bytes.
     #[error("the address has more than the 21 bits of READ(6) and WRITE(6); take read10 or write10")]
     Address,
+    /// REPORT LUNS has no such selection.
+    #[error("the selection of REPORT LUNS is 0, 1 or 2")]
+    Selection,
     /// A DATA OUT has 1 to 4096 bytes.
     #[error("a DATA OUT has 1 to 4096 bytes; give such a number to --bytes")]
     Count,
@@ -101,7 +120,8 @@ fn try_line<W: Write>(alloc: Global, wanted: &HostMessage, out: &mut W) -> Resul
 
 /// The message, if its fields fit their bytes.
 pub fn message_of(wanted: &HostMessage) -> Result<Message, LineFault>
-    ensures { IfOk result IsMessage }
+    ensures message { IfOk result IsMessage }
+    ensures bytes { IfOk result (λ message. spelling message ≡ bytes_wanted wanted.now) }
 {
     match *wanted {
         HostMessage::NopOut { task } => Ok(nop_message(task)),
@@ -118,35 +138,48 @@ pub fn message_of(wanted: &HostMessage) -> Result<Message, LineFault>
             count,
             fill,
         } => data_out_of(unit, task, offset, count, fill),
+        HostMessage::Query { task, query } => Ok(query_message(task, query)),
     }
 }
 
 // The NOP OUT with this tag (JESD220, 10.7.11).
 fn nop_message(tag: u8) -> Message
-    ensures { IsMessage result }
+    ensures message { IsMessage result }
+    ensures bytes { spelling result ≡ bytes_wanted (NopOut tag) }
 {
     Message::NopOut { tag }
 }
 
 // The COMMAND, if its bytes are read as this command again.
 fn command_of(unit: u8, task: u8, command: Cdb, expected: Option<u32>) -> Result<Message, LineFault>
-    ensures { IfOk result IsMessage }
+    ensures message { IfOk result IsMessage }
+    ensures bytes { IfOk result (λ message. spelling message
+        ≡ command_spelled unit task command (expected_of command expected)) }
 {
     let cdb = bytes_of(&command);
     if scsi_cdb::read(&cdb) != Ok(command) {
-        return Err(LineFault::Address);
+        return Err(field_fault(&command));
     }
     let length = match expected {
         Some(length) => length,
-        None => length_of(0, &command),
+        None => length_of(MOST_UNITS, &command),
     };
     Ok(command_message(direction_of(&command), unit, task, length, cdb))
+}
+
+// Why the fields of a command do not fit its bytes.
+fn field_fault(command: &Cdb) -> LineFault {
+    match command {
+        Cdb::ReportLuns { .. } => LineFault::Selection,
+        _ => LineFault::Address,
+    }
 }
 
 /// The COMMAND with these fields (JESD220, 10.7.1).
 pub fn command_message(flags: u8, lun: u8, tag: u8, expected: u32, cdb: [u8; 16]) -> Message
     requires { AreFlags flags }
-    ensures { IsMessage result }
+    ensures message { IsMessage result }
+    ensures bytes { spelling result ≡ spelling (CommandMessage flags lun tag expected cdb) }
 {
     Message::Command {
         flags,
@@ -159,7 +192,9 @@ pub fn command_message(flags: u8, lun: u8, tag: u8, expected: u32, cdb: [u8; 16]
 
 // The DATA OUT, if it has 1 to 4096 bytes.
 fn data_out_of(unit: u8, task: u8, offset: u32, count: u16, fill: u8) -> Result<Message, LineFault>
-    ensures { IfOk result IsMessage }
+    ensures message { IfOk result IsMessage }
+    ensures bytes { IfOk result (λ message. spelling message
+        ≡ bytes_wanted (DataOut unit task offset count fill)) }
 {
     let bytes = [fill; 4096];
     let count = count as usize;
@@ -172,7 +207,9 @@ fn data_out_of(unit: u8, task: u8, offset: u32, count: u16, fill: u8) -> Result<
 /// The DATA OUT with these bytes (JESD220, 10.7.3).
 pub fn data_message(lun: u8, tag: u8, offset: u32, bytes: &[u8]) -> Message
     requires { (1 ≤ length bytes.now) × (length bytes.now ≤ 4096) }
-    ensures { IsMessage result }
+    ensures message { IsMessage result }
+    ensures bytes { spelling result ≡ header data_out_code 0 lun tag 0 0 0 (length bytes.now)
+        (transfer offset (length bytes.now)) ++ bytes.now ++ zeros (padding (length bytes.now)) }
 {
     let mut data = Data::new();
     let _ = data.try_extend_from_slice(bytes);
@@ -186,14 +223,15 @@ pub fn data_message(lun: u8, tag: u8, offset: u32, bytes: &[u8]) -> Message
 
 // The flags of a COMMAND: where its data go (JESD220, 10.7.1).
 fn direction_of(command: &Cdb) -> u8
-    ensures { AreFlags result }
+    ensures flags { AreFlags result }
+    ensures direction { result ≡ flags_of (direction_of command.now) }
 {
     match command {
-        Cdb::Write6 { .. } | Cdb::Write10 { .. } => 0x20,
-        Cdb::Read6 { .. } | Cdb::Read10 { .. } | Cdb::ReadCapacity10 | Cdb::RequestSense { .. } => {
-            0x40
+        Cdb::TestUnitReady | Cdb::SynchronizeCache10 { .. } => 0x00,
+        Cdb::Write6 { .. } | Cdb::Write10 { .. } | Cdb::Unmap { .. } | Cdb::SecurityOut { .. } => {
+            0x20
         }
-        _ => 0x00,
+        _ => 0x40,
     }
 }
 

@@ -1,11 +1,13 @@
 //! Messages in words.
 use crate::commands::write_command;
 use crate::names::{
-    additional_sense_name, known_unit_name, query_name, query_response_name, sense_key_name,
-    service_name, status_name, task_function_name,
+    additional_sense_name, known_unit_name, sense_key_name, service_name, status_name,
+    task_function_name,
 };
+use crate::query_words;
+use crate::query_words::QueryFields;
 use std::fmt;
-use ufs_spec::{Asked, Message, Sense};
+use ufs_spec::{Message, Sense};
 
 /// A message in words, on one line.
 #[derive(Clone, Copy)]
@@ -19,6 +21,7 @@ impl fmt::Display for MessageWords<'_> {
         let (name, tag) = head_of(self.0);
         write!(f, "{name} task {tag:02X}h")?;
         if let Some(lun) = lun_of(self.0) {
+            f.write_str(", ")?;
             write_lun(f, lun)?;
         }
         write_fields(f, self.0)
@@ -56,10 +59,11 @@ fn lun_of(message: &Message) -> Option<u8> {
     }
 }
 
-fn write_lun<W: fmt::Write>(f: &mut fmt::Formatter<W>, lun: u8) -> fmt::Result {
+/// The unit with this LUN.
+pub fn write_lun<W: fmt::Write>(f: &mut fmt::Formatter<W>, lun: u8) -> fmt::Result {
     match known_unit_name(lun) {
-        Some(name) => write!(f, ", well known unit {name}"),
-        None => write!(f, ", unit {lun}"),
+        Some(name) => write!(f, "well known unit {name}"),
+        None => write!(f, "unit {lun}"),
     }
 }
 
@@ -83,20 +87,53 @@ fn write_fields<W: fmt::Write>(f: &mut fmt::Formatter<W>, message: &Message) -> 
             sense,
             ..
         } => write_response(f, *flags, *status, *residual, sense),
-        Message::QueryRequest { asked, .. } => {
-            f.write_str(": ")?;
-            write_query(f, asked)
-        }
-        Message::QueryResponse {
-            response,
-            asked,
-            ..
-        } => {
-            let name = query_response_name(*response);
-            write!(f, ": {name} ({response:02X}h) to ")?;
-            write_query(f, asked)
+        Message::QueryRequest { .. } | Message::QueryResponse { .. } => {
+            write_query_fields(f, message)
         }
         _ => write_short_fields(f, message),
+    }
+}
+
+// QUERY REQUEST and QUERY RESPONSE.
+fn write_query_fields<W: fmt::Write>(f: &mut fmt::Formatter<W>, message: &Message) -> fmt::Result {
+    match message {
+        Message::QueryRequest {
+            function,
+            asked,
+            length,
+            value,
+            data,
+            ..
+        } => query_words::write_request(
+            f,
+            &QueryFields {
+                function: *function,
+                asked: *asked,
+                length: *length,
+                value: *value,
+                data: data.as_slice(),
+            },
+        ),
+        Message::QueryResponse {
+            function,
+            response,
+            asked,
+            length,
+            value,
+            data,
+            ..
+        } => query_words::write_response(
+            f,
+            *response,
+            &QueryFields {
+                function: *function,
+                asked: *asked,
+                length: *length,
+                value: *value,
+                data: data.as_slice(),
+            },
+        ),
+        _ => Ok(()),
     }
 }
 
@@ -204,18 +241,4 @@ fn write_residual<W: fmt::Write>(
             )
         }
     }
-}
-
-fn write_query<W: fmt::Write>(f: &mut fmt::Formatter<W>, asked: &Asked) -> fmt::Result {
-    let Asked {
-        opcode,
-        idn,
-        index,
-        selector,
-    } = *asked;
-    let name = query_name(opcode);
-    write!(
-        f,
-        "{name} ({opcode:02X}h), IDN {idn:02X}h, index {index:02X}h, selector {selector:02X}h"
-    )
 }

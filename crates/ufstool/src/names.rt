@@ -2,8 +2,8 @@
 use rpmb_frame::codes;
 use ufs_spec::{HostFault, Sense};
 
-// The name of a code among these.
-fn name_in(names: &[(u8, &'static str)], code: u8) -> Option<&'static str> {
+/// The name of a code among these.
+pub fn name_in(names: &[(u8, &'static str)], code: u8) -> Option<&'static str> {
     for (known, name) in names {
         if *known == code {
             return Some(*name);

@@ -3,21 +3,22 @@ ghost use Rattle.std.specs.Prelude.{◌≡◌, ◌≤◌};
 
 use crate::cause::Cause;
 use crate::first_lines::{ConfigLine, UnitLine, UnitSum, missing_line};
-use crate::frames::write_frames_of;
 use crate::lines::{Line, Lines, first_word, line_text};
 use crate::messages::MessageWords;
 use crate::names::host_fault_words;
 use crate::outputs::{Answer, read_answer};
+use crate::parts::{Commands, write_parts};
 use crate::script::{Request, read_left, read_request};
 use std::alloc::Global;
 use std::fmt;
 use std::io::Write;
 
 /// Says line by line what a script of `ufsim` asks for, on `out`. With the output that `ufsim run`
-/// printed for it, what was answered comes after each line that has an answer. Frames that a message
-/// brings come in lines of their own, and under a key it is told whether their MAC is right. What is
-/// wrong is told in one line on `faults`, with the number of the script's line, its cause and what to
-/// do; nothing is told of the lines after it.
+/// printed for it, what was answered comes after each line that has an answer. Frames that a
+/// message brings come in lines of their own, and under a key it is told whether their MAC is
+/// right. The fields of a descriptor, and what INQUIRY and REPORT LUNS tell, come in lines of their
+/// own too. What is wrong is told in one line on `faults`, with the number of the script's line,
+/// its cause and what to do; nothing is told of the lines after it.
 ///
 /// The status is 0 if every line was told, else 1.
 pub fn explain<W: Write, F: Write>(
@@ -38,6 +39,7 @@ pub fn explain<W: Write, F: Write>(
         last_unit: 0,
         is_open: false,
         answers: lines_of(output),
+        commands: Commands::new(),
         key,
         number: 0,
     };
@@ -71,6 +73,8 @@ struct Told<'a> {
     is_open: bool,
     // What is left of the output, if there is one.
     answers: Option<Lines<'a>>,
+    // The commands that the device has taken.
+    commands: Commands,
     // The key of frames, if it is known.
     key: Option<&'a [u8; 32]>,
     // The line of the script that was read last.
@@ -189,13 +193,23 @@ impl Told<'_> {
         match read_answer(self.alloc, request, text) {
             Some(answer) => {
                 writeln!(out, "    -> {answer}")?;
+                self.note_taken(request, &answer);
                 self.tell_received(&answer, out)
             }
             None => Err(wrong),
         }
     }
 
-    // Tells the frames that the host sends.
+    // Notes a message that the device has taken: data that come later are those of its command.
+    fn note_taken(&mut self, request: &Request<'_>, answer: &Answer) {
+        if let (Request::Host(bytes), Answer::Taken) = (request, answer) {
+            if let Ok(message) = upiu::read_host(bytes.as_slice()) {
+                self.commands.hear(&message);
+            }
+        }
+    }
+
+    // Tells what the data are that the host sends.
     fn tell_sent<W: Write>(
         &self,
         request: &Request<'_>,
@@ -203,17 +217,17 @@ impl Told<'_> {
     ) -> Result<(), Cause<'static>> {
         if let Request::Host(bytes) = request {
             if let Ok(message) = upiu::read_host(bytes.as_slice()) {
-                write_frames_of(&message, self.key, out)?;
+                write_parts(&message, &self.commands, self.key, out)?;
             }
         }
         Ok(())
     }
 
-    // Tells the frames that the device sends.
+    // Tells what the data are that the device sends.
     fn tell_received<W: Write>(&self, answer: &Answer, out: &mut W) -> Result<(), Cause<'static>> {
         if let Answer::Reply(bytes) = answer {
             if let Ok(message) = upiu::read(bytes.as_slice()) {
-                write_frames_of(&message, self.key, out)?;
+                write_parts(&message, &self.commands, self.key, out)?;
             }
         }
         Ok(())

@@ -1,4 +1,5 @@
 //! What the words of the program ask for.
+use crate::query_calls::read_query;
 use clap::ArgMatches;
 use die_map::Form;
 use ufstool::{Cdb, HostMessage, RpmbRequest, spelled};
@@ -69,7 +70,8 @@ pub enum RpmbCall<'a> {
 /// What is wrong with a word that clap takes.
 pub type WordFault = &'static str;
 
-const MISSING: WordFault = "a word is missing";
+/// A word is missing that had to be there.
+pub const MISSING: WordFault = "a word is missing";
 
 const FILL: WordFault = "--fill takes two hexadecimal digits";
 
@@ -170,6 +172,9 @@ fn read_fill(matches: &ArgMatches<'_>) -> Result<u8, WordFault> {
 
 fn read_host(name: &str, matches: &ArgMatches<'_>) -> Result<HostMessage, WordFault> {
     let task = byte_in(matches, "task");
+    if let Some(query) = read_query(name, matches)? {
+        return Ok(HostMessage::Query { task, query });
+    }
     match name {
         "nop" => Ok(HostMessage::NopOut { task }),
         "data-out" => Ok(HostMessage::DataOut {
@@ -199,6 +204,13 @@ fn read_cdb(name: &str, matches: &ArgMatches<'_>) -> Cdb {
             allocation: byte_in(matches, "allocation"),
         },
         "read-capacity" => Cdb::ReadCapacity10,
+        "inquiry" => Cdb::Inquiry {
+            allocation: short_in(matches, "allocation"),
+        },
+        "report-luns" => Cdb::ReportLuns {
+            select: byte_in(matches, "select"),
+            allocation: long_in(matches, "allocation"),
+        },
         "test-unit-ready" => Cdb::TestUnitReady,
         _ => read_transfer(name, matches),
     }
@@ -228,16 +240,18 @@ fn read_transfer(name: &str, matches: &ArgMatches<'_>) -> Cdb {
     }
 }
 
-// The number of an option. The words were refused if it is missing or does not fit its type, so no 0
-// stands for another number here; so with the next two.
-fn byte_in(matches: &ArgMatches<'_>, name: &str) -> u8 {
+/// The number of an option, of 8 bits. The words were refused if it is missing or does not fit its
+/// type, so no 0 stands for another number here; so with the next two.
+pub fn byte_in(matches: &ArgMatches<'_>, name: &str) -> u8 {
     matches.get_one(name).unwrap_or(0)
 }
 
-fn short_in(matches: &ArgMatches<'_>, name: &str) -> u16 {
+/// The number of an option, of 16 bits.
+pub fn short_in(matches: &ArgMatches<'_>, name: &str) -> u16 {
     matches.get_one(name).unwrap_or(0)
 }
 
-fn long_in(matches: &ArgMatches<'_>, name: &str) -> u32 {
+/// The number of an option, of 32 bits.
+pub fn long_in(matches: &ArgMatches<'_>, name: &str) -> u32 {
     matches.get_one(name).unwrap_or(0)
 }

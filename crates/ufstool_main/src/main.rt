@@ -5,6 +5,8 @@
 mod asked;
 mod files;
 mod program;
+mod query_calls;
+mod query_words;
 mod rpmb_calls;
 mod rpmb_words;
 

@@ -1,4 +1,5 @@
 //! The words of the program.
+use crate::query_words::{with_inquiries, with_queries};
 use crate::rpmb_words::{with_key, with_rpmb};
 use clap::{Arg, ArgAction, Command, value_parser};
 use std::alloc::{AllocError, Global};
@@ -75,6 +76,7 @@ fn host_command<'a>(alloc: Global) -> Made<'a> {
     let host = with_transfers(alloc, Ok(host));
     let host = with_flush(alloc, host);
     let host = with_others(alloc, host);
+    let host = with_queries(alloc, host);
     with_rpmb(alloc, host)
 }
 
@@ -96,12 +98,13 @@ fn with_flush<'a>(alloc: Global, host: Made<'a>) -> Made<'a> {
 fn with_others<'a>(alloc: Global, host: Made<'a>) -> Made<'a> {
     let host = with(host, request_sense(alloc));
     let host = with(host, plain(alloc, "read-capacity", "READ CAPACITY(10)"));
+    let host = with_inquiries(alloc, host);
     let host = with(host, nop(alloc));
     with(host, data_out(alloc))
 }
 
-// A command with its unit, its task and how many bytes are expected.
-fn plain<'a>(alloc: Global, name: &'a str, about: &'a str) -> Made<'a> {
+/// A command with its unit, its task and how many bytes are expected.
+pub fn plain<'a>(alloc: Global, name: &'a str, about: &'a str) -> Made<'a> {
     let command = Command::new(alloc, name).about(about);
     let command = with_arg(command.arg(unit(alloc)), task(alloc));
     with_arg(command, expected(alloc))

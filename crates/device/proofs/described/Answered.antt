@@ -16,7 +16,7 @@ use Rattle.power_loss.proofs.spoken_replies.FramesStay.{behind_frames, call_wait
 use Rattle.ufs_laws.specs.Exchange.{IsSpoken}
 use Rattle.power_loss.proofs.shown_blocks.LivesShowBlocks.{behind_shows, call_shows}
 use Rattle.device.specs.Calls.{lock_told}
-use Rattle.device.specs.Describes.{Describes, HaveAnswered, IsAnswered, IsTold, Keeps}
+use Rattle.device.specs.Describes.{Describes, HaveAnswered, IsAnswered, IsShortTold, IsTold, Keeps}
 use Rattle.device.specs.Frames.{HasFilled}
 use Rattle.device.proofs.described.Filled.{keeps_filled}
 use Rattle.device.proofs.described.Settled.{fills_nothing}
@@ -55,11 +55,30 @@ answered_told d e f new s call answer h may right tied k filled told =
           (call_reads call answer h.tied h.reads) its.0 its.1);
     }
 
+-- a call behind which no request is to fill its register, and then the lock is told
+pub answered_locked : (d e new : DeviceCore) (s : State) (call : Call) (answer : Answer) → Describes d s →
+    MayCome s call → Allowed s call answer → Keeps e (behind s call answer) → HaveAnswered (behind s call answer) →
+    ((t : Translation) → layer_kept.Describes e.ftl t → new ≡ lock_told t e) → IsAnswered s call answer new
+answered_locked d e new s call answer h may right k none told =
+    let v = behind s call answer in
+    let is = ap lock_applied (fills_nothing v none) in
+    record {
+      right = right;
+      describes =
+          subst (λ (x : DeviceCore). Describes x (observe s call answer)) (sym (told v.translation k.layer_kept))
+          (subst (Describes (lock_told v.translation e)) (sym is)
+          (describes_told e v (subst IsTied is (call_keeps s call answer h.tied may right))
+          (subst ShowsReads is (call_shows s call answer h.tied may right h.shows))
+          (subst FramesWait is (call_waits call answer h.tied (spoken s call may) right h.waits))
+          (subst AreaReads is (call_reads call answer h.tied h.reads)) k none));
+    }
+
 -- what is kept of the state behind a call, if nothing became due there and the lock has nothing to tell
 pub record IsBehind (e : DeviceCore) (v : State) : Type 0 where
   pub keeps : Keeps e v
   pub answered : HaveAnswered v
   pub told : locked v ≡ true → All (IsTold (durable v)) v.tasks
+  pub shorts_told : locked v ≡ true → All (IsShortTold (durable v)) v.shorts
 
 -- such a call
 pub answered : (d e : DeviceCore) (s : State) (call : Call) (answer : Answer) → Describes d s → MayCome s call →
@@ -67,7 +86,7 @@ pub answered : (d e : DeviceCore) (s : State) (call : Call) (answer : Answer) �
     IsBehind e (behind s call answer) → IsAnswered s call answer e
 answered d e s call answer h may right b =
     let v = behind s call answer in
-    let is = ap lock_applied (fills_nothing v b.answered) ∙ lock_stays v e.shorts b.keeps.shorts b.told in
+    let is = ap lock_applied (fills_nothing v b.answered) ∙ lock_stays v b.told b.shorts_told in
     record {
       right = right;
       describes =
@@ -80,6 +99,7 @@ answered d e s call answer h may right b =
             kept = b.keeps;
             answered = b.answered;
             told = b.told;
+            shorts_told = b.shorts_told;
           });
     }
 
@@ -92,4 +112,4 @@ answered_as d e s v call answer h may right is b =
 
 -- a state that stays
 pub stays : (d : DeviceCore) (s : State) → Describes d s → IsBehind d s
-stays d s h = record { keeps = h.kept; answered = h.answered; told = h.told }
+stays d s h = record { keeps = h.kept; answered = h.answered; told = h.told; shorts_told = h.shorts_told }

@@ -11,12 +11,14 @@ use Rattle.ufs_spec.specs.Moves.{Move, Release, moved}
 use Rattle.ufs_spec.specs.Plain.{shape_of_numbers}
 use Rattle.ufs_spec.specs.Translation.{Translation, is_mended}
 use Rattle.ufs_spec.specs.declared.flash.Key.{Key}
-use Rattle.ftl_core.specs.Public.{Claims, Core, Describes, PinsDiffer, keeps_area_of, keeps_for, key_behind, with_claimed}
+use Rattle.ftl_core.specs.Public.{Claims, Core, Describes, PinsDiffer, keeps_area_of, keeps_for, key_behind}
+use Rattle.ftl_core.specs.Public.{with_claimed}
 use Rattle.rpmb.specs.Requests.{area_asked}
 use Rattle.rpmb.specs.declared.requests.AreaBlocks.{AreaBlocks}
 use Rattle.task_set.specs.declared.tasks.TaskEvent.{TaskEvent}
 use Rattle.task_set.specs.declared.tasks.TaskEvent.TheVariants as event
-use Rattle.device.specs.Frames.{HasAnswered, HasKeptArea, MayAnswer, MayKeepArea, answer_event, answer_moves, area_keeps}
+use Rattle.device.specs.Frames.{HasAnswered, HasKeptArea, MayAnswer, MayKeepArea, answer_event, answer_moves}
+use Rattle.device.specs.Frames.{area_keeps}
 use Rattle.device.specs.Kept.{IsLayerWith}
 
 -- the layer was asked to keep so many pages, from this key on, for the blocks that were asked for

@@ -9,7 +9,7 @@ use Rattle.ufs_spec.proofs.Facts.{and_parts, false≢true}
 use Rattle.ufs_spec.proofs.RegionPages.{area_there}
 use Rattle.ufs_spec.specs.Exchanges as exchange
 use Rattle.ufs_spec.specs.Exchanges.{Answering, Awaiting, Deed, Gathering, ReadBlock, ReadState, ReadingArea, Registers}
-use Rattle.ufs_spec.specs.Exchanges.{RpmbRequest, Sending, SendingBytes, is_task_of, is_unfilled, task_of}
+use Rattle.ufs_spec.specs.Exchanges.{Sending, SendingBytes, is_task_of, is_unfilled, task_of}
 use Rattle.ufs_spec.specs.FrameRequests.{reads_area, result_now}
 use Rattle.ufs_spec.specs.Frames.{Frame, frame_in, frames_in}
 use Rattle.ufs_spec.specs.Keys.{area_page}
@@ -252,7 +252,7 @@ module _ (v : State) (tied : IsTied v) (shows : ShowsReads v) (waits : FramesWai
       nothing_asked region_now first code asked
   by_phase (phase.SendData y) (SendingBytes bytes) deed doing fits asked due =
       nothing_asked region_now first code asked
-  by_phase (phase.SendFrames y) (SendingBytes bytes) deed doing fits asked due =
+  by_phase (phase.SendHeld y) (SendingBytes bytes) deed doing fits asked due =
       nothing_asked region_now first code asked
   by_phase p deed is doing fits asked due = absurd doing
 

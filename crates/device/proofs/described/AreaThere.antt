@@ -1,5 +1,6 @@
 -- Which of the pages that a task keeps need no read.
-use Rattle.std.proofs.Common.{◌≡◌, ◌∙◌, ℕ, Bool, true, false, Bor, List, Option, Some, None, ap, is_some, refl, subst, sym}
+use Rattle.std.proofs.Common.{◌≡◌, ◌∙◌, ℕ, Bool, true, false, Bor, List, Option, Some, None, ap, is_some, refl, subst}
+use Rattle.std.proofs.Common.{sym}
 use Rattle.std.specs.Prelude.{find, if◌then◌else◌, not, option_copied, option_map}
 use Rattle.std.specs.List.{list_any}
 use Rattle.ufs_spec.proofs.Facts.{none-some, same_Some}

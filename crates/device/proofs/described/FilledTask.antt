@@ -102,7 +102,7 @@ phase_stays (phase.AwaitFrames x) = refl
 phase_stays (phase.ReadArea r) = refl
 phase_stays (phase.SendBlocks x) = refl
 phase_stays (phase.SendData x) = refl
-phase_stays (phase.SendFrames x) = refl
+phase_stays (phase.SendHeld x) = refl
 
 frames_fit : (t : Translation) (tag : ℕ) (p : Phase) (code : ℕ) (held : Option (List ℕ)) (deed : Deed) →
     is_due_in t tag p ≡ true → FramesFit p (frames.Decided code) held deed → FramesFit p frames.Answered held deed
@@ -115,7 +115,7 @@ frames_fit t tag (phase.AskFrames x) code held deed due h = absurd (false≢true
 frames_fit t tag (phase.AwaitFrames x) code held deed due h = absurd (false≢true due)
 frames_fit t tag (phase.SendBlocks x) code held deed due h = absurd (false≢true due)
 frames_fit t tag (phase.SendData x) code held deed due h = absurd (false≢true due)
-frames_fit t tag (phase.SendFrames x) code held deed due h = absurd (false≢true due)
+frames_fit t tag (phase.SendHeld x) code held deed due h = absurd (false≢true due)
 
 -- One fills
 
@@ -307,7 +307,7 @@ module _ (e : DeviceCore) (v : State) (k : Keeps e v) (n : ℕ) (a : OpenTask) (
         wanted = wants;
         claims = subst (AreClaimed h.layer) (sym same_claims) h.layer_is.1;
         shorts = k.shorts;
-        power_off = k.power_off;
+        power_on = k.power_on;
       })
     where
       decided : a.frames ≡ frames.Decided h.code

@@ -15,16 +15,18 @@ use Rattle.ufs_spec.specs.Translation.{mark_ordered, name_of, ordered, with_plan
 use Rattle.ufs_spec.specs.declared.flash.Place.{Place}
 use Rattle.ufs_spec.specs.declared.layer.Reader.TheVariants.{ForNobody, ForRest, ForStep, ForTask}
 use Rattle.ufs_laws.proofs.walk.LayerEffects.{IsDue, order_due, turned_if}
-use Rattle.power_loss.specs.Exchange.{DeedsFit, IsTied}
+use Rattle.power_loss.specs.Exchange.{DeedsFit, IsTied, ShortsFit}
 use Rattle.ftl_core.specs.Public as layer_kept
 use Rattle.ftl_core.specs.Public.{AreClaimed, Core}
-use Rattle.device.specs.Describes.{Keeps, TasksKept, claims_of, wanted_kept}
+use Rattle.device.specs.Describes.{Keeps, ShortsKept, TasksKept, claims_of, wanted_kept}
 use Rattle.device.specs.Kept.{DeviceCore}
+use Rattle.device.proofs.described.ShortExchanges.{same_shorts, shorts_else}
 use Rattle.device.proofs.described.Unmended.{kept_else}
 use Rattle.device.proofs.open_tasks.ReadProgress.{wanted_same}
 
--- groups count from the same number, and for each block the same is wanted
+-- the device has the same numbers, groups count from the same number, and for each block the same is wanted
 pub record Leaves (t u : Translation) : Type 0 where
+  pub numbers : u.numbers ≡ t.numbers
   pub before : before_accepted u.ledger ≡ before_accepted t.ledger
   pub wanted : (tag index : ℕ) → wanted_kept u.pins tag index ≡ wanted_kept t.pins tag index
 
@@ -42,8 +44,9 @@ layer_moves d after s array u k layer claims leaves = record {
   one_sends = k.one_sends;
   wanted = λ tag index. leaves.wanted tag index ∙ k.wanted tag index;
   claims = claims;
-  shorts = k.shorts;
-  power_off = k.power_off;
+  shorts = same_shorts (numbers_of s) u.numbers (before_accepted s.translation.ledger) (before_accepted u.ledger)
+      d.shorts s.shorts leaves.numbers leaves.before k.shorts;
+  power_on = k.power_on;
 }
 
 -- The end of a job that is for no task
@@ -58,6 +61,7 @@ IsForNone flight = Unit {0}
 pub job_leaves : (t : Translation) (die : ℕ) (flight : Flight) (ending : Ending) → IsForNone flight →
     Leaves t (job_ended t die flight ending)
 job_leaves t die (Programming place (GroupPage tag body)) WentWell none = record {
+  numbers = refl;
   before = refl;
   wanted = λ n k. wanted_same (settled_pin (page_stands t.ledger (name_of tag) place)) (λ pin. refl) (λ pin. refl)
       (λ pin. refl) n k t.pins;
@@ -68,15 +72,18 @@ job_leaves t die (Programming place (MarkPage m)) (WentWrong left) none =
     by : (b : Bool) → Leaves t
         (if b then mark_ordered (record t { disk = program_failed t.disk place left }) m.fence
         else record (record t { disk = program_failed t.disk place left }) { work = record t.work { step = None } })
-    by true = record { before = refl; wanted = λ n k. refl }
-    by false = record { before = refl; wanted = λ n k. refl }
+    by true = record { numbers = refl; before = refl; wanted = λ n k. refl }
+    by false = record { numbers = refl; before = refl; wanted = λ n k. refl }
 job_leaves t die (Reading (ForTask tag index) place) ending none = absurd none
-job_leaves t die (Reading ForStep place) ReadRight none = record { before = refl; wanted = λ n k. refl }
-job_leaves t die (Reading (ForRest number index) place) ReadRight none = record { before = refl; wanted = λ n k. refl }
-job_leaves t die (Reading ForNobody place) ReadRight none = record { before = refl; wanted = λ n k. refl }
-job_leaves t die (Programming place Nothing) WentWell none = record { before = refl; wanted = λ n k. refl }
-job_leaves t die (Erasing spot) WentWell none = record { before = refl; wanted = λ n k. refl }
-job_leaves t die flight ending none = record { before = refl; wanted = λ n k. refl }
+job_leaves t die (Reading ForStep place) ReadRight none = record { numbers = refl; before = refl; wanted = λ n k. refl }
+job_leaves t die (Reading (ForRest number index) place) ReadRight none =
+    record { numbers = refl; before = refl; wanted = λ n k. refl }
+job_leaves t die (Reading ForNobody place) ReadRight none =
+    record { numbers = refl; before = refl; wanted = λ n k. refl }
+job_leaves t die (Programming place Nothing) WentWell none =
+    record { numbers = refl; before = refl; wanted = λ n k. refl }
+job_leaves t die (Erasing spot) WentWell none = record { numbers = refl; before = refl; wanted = λ n k. refl }
+job_leaves t die flight ending none = record { numbers = refl; before = refl; wanted = λ n k. refl }
 
 -- A step
 
@@ -95,6 +102,7 @@ pub record Stays (t u : Translation) : Type 0 where
 -- a repair comes only before the device is mended; groups count from one number more then
 pub record Repairs (t u : Translation) : Type 0 where
   pub unmended : layer.is_mended t.work.mending ≡ false
+  pub numbers : u.numbers ≡ t.numbers
   pub wanted : (tag index : ℕ) → wanted_kept u.pins tag index ≡ wanted_kept t.pins tag index
   pub reads : KeepsReads t u
 
@@ -103,7 +111,7 @@ StepLeaves t u = Stays t u ⊎ Repairs t u
 
 nothing_moves : (t : Translation) → Stays t t
 nothing_moves t = record {
-  leaves = record { before = refl; wanted = λ n k. refl };
+  leaves = record { numbers = refl; before = refl; wanted = λ n k. refl };
   reads = record { pins = refl; rests = refl };
   frontier = refl;
   lock = refl;
@@ -111,7 +119,7 @@ nothing_moves t = record {
 
 copy_leaves : (t : Translation) (p : Place) (cell : Cell) → Stays t (copy_begun t p cell)
 copy_leaves t p (GroupPage tag body) = record {
-  leaves = record { before = refl; wanted = λ n k. refl };
+  leaves = record { numbers = refl; before = refl; wanted = λ n k. refl };
   reads = record { pins = refl; rests = refl };
   frontier = refl;
   lock = refl;
@@ -122,20 +130,21 @@ order_leaves : (t : Translation) (o : Order) → IsDue t o → StepLeaves t (ord
 order_leaves t (OrderRepair k left) due =
     inr (record {
       unmended = ap layer.is_mended due.1;
+      numbers = refl;
       wanted = λ n k. refl;
       reads = record { pins = refl; rests = refl };
     })
 order_leaves t (OrderCopy victim p left) due =
     let h = copy_leaves (with_plan t victim left) p (t.disk.cells p) in
     inl (record {
-      leaves = record { before = h.leaves.before; wanted = h.leaves.wanted };
+      leaves = record { numbers = h.leaves.numbers; before = h.leaves.before; wanted = h.leaves.wanted };
       reads = record { pins = h.reads.pins; rests = h.reads.rests };
       frontier = h.frontier;
       lock = h.lock;
     })
 order_leaves t order due =
     inl (record {
-      leaves = record { before = refl; wanted = λ n k. refl };
+      leaves = record { numbers = refl; before = refl; wanted = λ n k. refl };
       reads = record { pins = refl; rests = refl };
       frontier = refl;
       lock = refl;
@@ -149,6 +158,11 @@ pub unmended_fit : (s : State) → IsTied s → layer.is_mended s.translation.wo
     DeedsFit (numbers_of s) (length s.accepted) false s.tasks
 unmended_fit s tied unmended =
     subst (λ b. DeedsFit (numbers_of s) (length s.accepted) b s.tasks) unmended tied.tasks.deeds
+
+pub unmended_shorts : (s : State) → IsTied s → layer.is_mended s.translation.work.mending ≡ false →
+    ShortsFit (length s.accepted) false s.shorts
+unmended_shorts s tied unmended =
+    subst (λ b. ShortsFit (length s.accepted) b s.shorts) unmended tied.tasks.waits
 
 -- where the device is not mended, groups may count from another number
 pub unmended_moves : (d : DeviceCore) (after : Core) (s : State) (u : Translation) → Keeps d s → IsTied s →
@@ -166,6 +180,9 @@ unmended_moves d after s u k tied layer claims repairs = record {
   one_sends = k.one_sends;
   wanted = λ tag index. repairs.wanted tag index ∙ k.wanted tag index;
   claims = claims;
-  shorts = k.shorts;
-  power_off = k.power_off;
+  shorts = shorts_else u.numbers (length s.accepted) (before_accepted s.translation.ledger) (before_accepted u.ledger)
+      d.shorts s.shorts (unmended_shorts s tied repairs.unmended)
+      (subst (λ n. ShortsKept n (before_accepted s.translation.ledger) d.shorts s.shorts) (sym repairs.numbers)
+      k.shorts);
+  power_on = k.power_on;
 }

@@ -6,7 +6,7 @@ use Rattle.std.proofs.lemmas.List.{length-map}
 use Rattle.std.proofs.lemmas.List.Elements.{All-cons, All-head, All-nil, All-tail}
 use Rattle.std.proofs.lemmas.Bool.{le-ltb, lt-ltb}
 use Rattle.ufs_spec.proofs.Facts.{false≢true, leb-false, leb-true, none-some, same_Some}
-use Rattle.ufs_spec.specs.Exchanges.{Answering, Awaiting, Deed, Gathering, Sending, SendingBytes, Short}
+use Rattle.ufs_spec.specs.Exchanges.{Answering, Awaiting, Deed, Gathering, Sending, SendingBytes}
 use Rattle.ufs_spec.specs.Frames.{Frame, frame_in}
 use Rattle.ufs_spec.specs.Ledger.{before_accepted}
 use Rattle.ufs_spec.specs.Machine.{deed_locked, durable}
@@ -21,16 +21,16 @@ use Rattle.power_loss.specs.Exchange.{DeedFits, DeedsFit, IsTied, claim_of}
 use Rattle.power_loss.specs.Shown.{ShowsReads}
 use Rattle.power_loss.specs.WaitingFrames.{FramesWait}
 use Rattle.task_set.specs.declared.tasks.Phase.{Phase}
-use Rattle.task_set.specs.declared.tasks.Short as kept
+use Rattle.task_set.specs.Shorts as ours
 use Rattle.task_set.specs.Kept.{OpenTask}
 use Rattle.device.specs.Calls.{lock_told}
-use Rattle.device.specs.Describes.{Describes, FramesFit, HaveAnswered, IsDoing, IsTold, IsToldIn, Keeps}
-use Rattle.device.specs.Describes.{PartsStand, ReadsAsked, ReadsFor, TaskKept, claimed_in, read_in, short_kept}
-use Rattle.device.specs.Describes.{wanted_in}
+use Rattle.device.specs.Describes.{Describes, FramesFit, HaveAnswered, IsDoing, IsShortTold, IsTold, IsToldIn, Keeps}
+use Rattle.device.specs.Describes.{PartsStand, ReadsAsked, ReadsFor, TaskKept, claimed_in, read_in, wanted_in}
 use Rattle.task_set.specs.declared.frames.Frames.{Frames}
 use Rattle.task_set.specs.declared.frames.Frames.TheVariants as frames
 use Rattle.device.proofs.described.OneSender.{each_sends}
 use Rattle.device.proofs.described.Settled.{told_answered}
+use Rattle.device.proofs.described.ShortExchanges.{all_shorts_told, shorts_locked, shorts_stay}
 use Rattle.device.specs.Kept.{DeviceCore}
 use Rattle.task_set.specs.Tasks.{write_error, phase_after, task_after}
 use Rattle.device.proofs.open_tasks.OpenTasks.{each_changed}
@@ -60,30 +60,21 @@ all_stay s (y ∷ us) h = λ i.
     record y { deed = told_stays s y y.deed (All-head (IsTold (durable s)) y us h) i }
     ∷ all_stay s us (All-tail (IsTold (durable s)) y us h) i
 
--- a short exchange of this device waits for nothing
-shorts_stay : (s : State) (rs : List kept.Short) → map (short_locked s) (map short_kept rs) ≡ map short_kept rs
-shorts_stay s [] = refl
-shorts_stay s (r ∷ rs) = ap (λ (xs : List Short). short_kept r ∷ xs) (shorts_stay s rs)
-
-kept_shorts : (s : State) (shorts : List Short) (rs : List kept.Short) → shorts ≡ map short_kept rs →
-    map (short_locked s) shorts ≡ map short_kept rs
-kept_shorts s shorts rs is = ap (map (short_locked s)) is ∙ shorts_stay s rs
-
 abbrev with_lock : State → State
 with_lock s = record s { tasks = map (task_locked s) s.tasks; shorts = map (short_locked s) s.shorts }
 
 -- so the lock changes nothing
-pub lock_stays : (s : State) (rs : List kept.Short) → s.shorts ≡ map short_kept rs →
-    (locked s ≡ true → All (IsTold (durable s)) s.tasks) →
-    lock_applied s ≡ s
-lock_stays s rs shorts told = by (locked s) told
+pub lock_stays : (s : State) → (locked s ≡ true → All (IsTold (durable s)) s.tasks) →
+    (locked s ≡ true → All (IsShortTold (durable s)) s.shorts) → lock_applied s ≡ s
+lock_stays s told shorts_told = by (locked s) told shorts_told
   where
-    by : (b : Bool) → (b ≡ true → All (IsTold (durable s)) s.tasks) → cond b (with_lock s) s ≡ s
-    by true h = λ i. record s {
+    by : (b : Bool) → (b ≡ true → All (IsTold (durable s)) s.tasks) →
+        (b ≡ true → All (IsShortTold (durable s)) s.shorts) → cond b (with_lock s) s ≡ s
+    by true h k = λ i. record s {
       tasks = all_stay s s.tasks (h refl) i;
-      shorts = (kept_shorts s s.shorts rs shorts ∙ sym shorts) i;
+      shorts = shorts_stay s s.shorts (k refl) i;
     }
-    by false h = refl
+    by false h k = refl
 
 -- When the lock is told
 
@@ -181,7 +172,7 @@ deed_kept s n all claimed mended frontier expected task (phase.AskFrames size) (
     same low fits h = h
 deed_kept s n all claimed mended frontier expected task (phase.AwaitFrames size) (Gathering purpose gathered asked)
     same low fits h = h
-deed_kept s n all claimed mended frontier expected task (phase.SendFrames size) (SendingBytes bytes) same low fits h = h
+deed_kept s n all claimed mended frontier expected task (phase.SendHeld size) (SendingBytes bytes) same low fits h = h
 deed_kept s n all claimed mended frontier expected task (phase.SendBlocks x) (Sending blocks sent) same low fits h = h
 deed_kept s n all claimed mended frontier expected task (phase.SendData x) (SendingBytes bytes) same low fits h = h
 deed_kept s n all claimed mended frontier expected task (phase.ReadArea r) (exchange.ReadingArea pages) same low fits h
@@ -202,7 +193,7 @@ frames_fit s task frontier (phase.AwaitFrontier n size) f held deed h = by (nat_
     by : (b : Bool) → FramesFit (cond b failed (phase.AwaitFrontier n size)) f held (deed_locked s task deed)
     by true = tt
     by false = tt
-frames_fit s task frontier (phase.SendFrames size) f held deed h = (
+frames_fit s task frontier (phase.SendHeld size) f held deed h = (
   h.0,
   record {
     all = h.1.all;
@@ -256,7 +247,7 @@ asks_stay frontier p (frames.Decided code) (Some bytes) h = reads_stay p h
     reads_stay (phase.ReadArea r) k = k
     reads_stay (phase.SendBlocks x) k = k
     reads_stay (phase.SendData x) k = k
-    reads_stay (phase.SendFrames size) k = k
+    reads_stay (phase.SendHeld size) k = k
     reads_stay (phase.Answer told n) k = k
 
 task_kept : (s : State) (n : Numbers) (accepted claimed : ℕ) (mended : Bool) (frontier : ℕ) (a : OpenTask)
@@ -290,8 +281,14 @@ locked_fit s (y ∷ us) zero b at fits =
     (same_Some y b at) fits.0
 locked_fit s (y ∷ us) (suc k) b at fits = locked_fit s us k b at fits.1
 
+abbrev told_core : ℕ → DeviceCore → DeviceCore
+told_core frontier e = record e {
+  tasks = map (task_after (event.Locked frontier)) e.tasks;
+  shorts = map (ours.short_locked frontier) e.shorts;
+}
+
 keeps_locked : (e : DeviceCore) (s : State) → IsTied (with_lock s) → Keeps e s →
-    Keeps (record e { tasks = map (task_after (event.Locked s.translation.ledger.frontier)) e.tasks }) (with_lock s)
+    Keeps (told_core s.translation.ledger.frontier e) (with_lock s)
 keeps_locked e s tied k = record {
   boot = k.boot;
   permanent = k.permanent;
@@ -307,8 +304,9 @@ keeps_locked e s tied k = record {
   one_sends = each_sends (task_after (event.Locked frontier)) (λ a. refl) e.tasks k.one_sends;
   wanted = each_wants s.translation.pins s.tasks (task_locked s) k.wanted (lock_same s);
   claims = subst (AreClaimed e.ftl) (sym (each_claims s.tasks (task_locked s) (lock_same s))) k.claims;
-  shorts = kept_shorts s s.shorts e.shorts k.shorts;
-  power_off = k.power_off;
+  shorts = shorts_locked s (numbers_of s) (length s.accepted) (is_mended s.translation.work.mending) e.shorts s.shorts
+      tied.repaired tied.tasks.waits k.shorts;
+  power_on = k.power_on;
 }
   where
     before : ℕ
@@ -325,9 +323,7 @@ describes_told e s tied shows waits reads k answered = by (locked s) refl tied s
   where
     by : (b : Bool) → locked s ≡ b → IsTied (cond b (with_lock s) s) → ShowsReads (cond b (with_lock s) s) →
         FramesWait (cond b (with_lock s) s) → AreaReads (cond b (with_lock s) s) →
-        Describes
-        (cond b (record e { tasks = map (task_after (event.Locked s.translation.ledger.frontier)) e.tasks }) e)
-        (cond b (with_lock s) s)
+        Describes (cond b (told_core s.translation.ledger.frontier e) e) (cond b (with_lock s) s)
     by true is v w z r = record {
       tied = v;
       shows = w;
@@ -336,6 +332,7 @@ describes_told e s tied shows waits reads k answered = by (locked s) refl tied s
       kept = keeps_locked e s v k;
       answered = told_answered s s.tasks answered;
       told = λ l. all_told s s.tasks;
+      shorts_told = λ l. all_shorts_told s s.shorts;
     }
     by false is v w z r = record {
       tied = v;
@@ -345,4 +342,5 @@ describes_told e s tied shows waits reads k answered = by (locked s) refl tied s
       kept = k;
       answered = answered;
       told = λ l. absurd (false≢true (sym is ∙ l));
+      shorts_told = λ l. absurd (false≢true (sym is ∙ l));
     }

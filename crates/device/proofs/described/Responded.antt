@@ -1,5 +1,6 @@
 -- The task whose request is answered, and what its answer is made of.
-use Rattle.std.proofs.Common.{◌≡◌, ◌∙◌, ℕ, suc, Bool, true, false, cond, List, [], ◌∷◌, Option, Some, None, refl, sym, ap, subst}
+use Rattle.std.proofs.Common.{◌≡◌, ◌∙◌, ℕ, suc, Bool, true, false, cond, List, [], ◌∷◌, Option, Some, None, refl, sym}
+use Rattle.std.proofs.Common.{ap, subst}
 use Rattle.std.specs.Prelude.{if◌then◌else◌, option_map, position, slice_get, take}
 use Rattle.ufs_spec.proofs.Facts.{false≢true, none-some, same_Some}
 use Rattle.ufs_spec.specs.Exchanges.{ReadState}
@@ -35,7 +36,7 @@ responds tasks index code held task read old machine keeps at told =
     }) (ap first_held (keeps ∙ ap held_of at)) told
 
 -- what stands where the first that passes was found
-found_there : {X : Type 0} (p : X → Bool) (xs : List X) (k : ℕ) → position p xs ≡ Some k →
+pub found_there : {X : Type 0} (p : X → Bool) (xs : List X) (k : ℕ) → position p xs ≡ Some k →
     (x : X) × (slice_get xs k ≡ Some x) × (p x ≡ true)
 found_there p [] k e = absurd (none-some k e)
 found_there p (x ∷ xs) k e = by (p x) refl (position p xs) refl (λ j h. found_there p xs j h)

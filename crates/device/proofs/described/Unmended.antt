@@ -46,7 +46,7 @@ doing_else n accepted claimed total before other expected (phase.AskFrames size)
     fits h = h
 doing_else n accepted claimed total before other expected (phase.AwaitFrames size) (Gathering purpose gathered asked)
     fits h = h
-doing_else n accepted claimed total before other expected (phase.SendFrames size) (SendingBytes bytes) fits h = h
+doing_else n accepted claimed total before other expected (phase.SendHeld size) (SendingBytes bytes) fits h = h
 doing_else n accepted claimed total before other expected (phase.SendBlocks x) (Sending blocks sent) fits h = h
 doing_else n accepted claimed total before other expected (phase.SendData x) (SendingBytes bytes) fits h = h
 doing_else n accepted claimed total before other expected (phase.ReadArea r) (ReadingArea pages) fits h = h

@@ -8,7 +8,6 @@ use Rattle.ufs_spec.specs.Configs.{IsConfig}
 use Rattle.ufs_spec.specs.Disk.{CellCrash, Erasing, Flight, Programming, Reading, Spot, flight_alone, page_of}
 use Rattle.ufs_spec.specs.Exchanges as exchange
 use Rattle.ufs_spec.specs.Lives.{IsOpened}
-use Rattle.ufs_spec.specs.Exchanges.{empty_registers}
 use Rattle.ufs_spec.specs.Machine.{Take, OfTake, MayLeave, Turn, OfTurn, behind, durable, is_to_fill}
 use Rattle.ufs_spec.specs.Plain.{Plain, Shape, region_of, shape_of, shape_of_numbers}
 use Rattle.ufs_spec.proofs.RegionPages.{area_there}
@@ -33,8 +32,8 @@ use Rattle.settings.specs.Told.{settings_now}
 use Rattle.settings.specs.declared.page.Settings.{Settings}
 use Rattle.ftl_core.specs.Public as layer_kept
 use Rattle.ftl_core.specs.Public.{AreClaimed, Core}
-use Rattle.device.specs.Describes.{Describes, HaveAnswered, IsAnswered, IsGiven, TasksKept, IsTold, Keeps, claims_of}
-use Rattle.device.specs.Describes.{wanted_by, wanted_kept}
+use Rattle.device.specs.Describes.{Describes, HaveAnswered, IsAnswered, IsGiven, IsShortTold, IsTold, Keeps, ShortsKept}
+use Rattle.device.specs.Describes.{TasksKept, claims_of, wanted_by, wanted_kept}
 use Rattle.device.specs.Kept.{DeviceCore, idle_device, idle_machine}
 use Rattle.device.proofs.die_calls.EndsTold.{meant_fits}
 use Rattle.device.proofs.dies_of_world.DieParts.{begun_bad}
@@ -47,8 +46,9 @@ use Rattle.power_loss.proofs.shown_blocks.LivesShowBlocks.{opened_shows}
 use Rattle.power_loss.proofs.spoken_replies.FramesStay.{opened_frames}
 use Rattle.device.proofs.described.Answered.{IsBehind, answered}
 use Rattle.device.proofs.described.LayerMoves.{KeepsReads, StepLeaves, layer_moves, step_leaves, unmended_fit}
-use Rattle.device.proofs.described.LayerMoves.{unmended_moves}
+use Rattle.device.proofs.described.LayerMoves.{unmended_moves, unmended_shorts}
 use Rattle.device.proofs.described.Settled.{ReadsStay, kept_stays, still_answered, unmended_answered}
+use Rattle.device.proofs.described.ShortExchanges.{no_short_waits}
 use Rattle.device.proofs.described.Unmended.{none_waits}
 
 -- A job is given
@@ -58,10 +58,10 @@ gives : (d : DeviceCore) (s : State) (die : ℕ) (flight : Option Flight) (after
     layer_kept.Describes after (layer_kept.given s.translation die flight) → AreClaimed after (claims_of s.tasks) →
     Keeps (record d { ftl = after }) (behind s (Take die) (OfTake flight))
 gives d s die None after k layer claims = layer_moves d after s s.array s.translation k layer claims
-    (record { before = refl; wanted = λ tag index. refl })
+    (record { numbers = refl; before = refl; wanted = λ tag index. refl })
 gives d s die (Some flight) after k layer claims =
     layer_moves d after s s.array (moved s.translation (GiveJob die flight)) k layer claims
-    (record { before = refl; wanted = λ tag index. refl })
+    (record { numbers = refl; before = refl; wanted = λ tag index. refl })
 
 -- a program that is handed out goes to a good block, which stays good
 gives_locked : (s : State) (die : ℕ) (flight : Flight) → MayTake s.translation die (Some flight) →
@@ -83,6 +83,13 @@ gives_told : (s : State) (die : ℕ) (flight : Option Flight) → MayTake s.tran
 gives_told s die None may told lock = told lock
 gives_told s die (Some flight) may told lock = told (sym (gives_locked s die flight may) ∙ lock)
 
+gives_shorts_told : (s : State) (die : ℕ) (flight : Option Flight) → MayTake s.translation die flight →
+    (locked s ≡ true → All (IsShortTold (durable s)) s.shorts) →
+    locked (behind s (Take die) (OfTake flight)) ≡ true →
+    All (IsShortTold (durable (behind s (Take die) (OfTake flight)))) (behind s (Take die) (OfTake flight)).shorts
+gives_shorts_told s die None may told lock = told lock
+gives_shorts_told s die (Some flight) may told lock = told (sym (gives_locked s die flight may) ∙ lock)
+
 -- and nothing becomes due
 gives_answered : (d : DeviceCore) (s : State) (die : ℕ) (flight : Option Flight) → Describes d s →
     HaveAnswered (behind s (Take die) (OfTake flight))
@@ -103,6 +110,7 @@ gives_right d s die job after h taken claims = record {
         keeps = gives d s die taken.job after h.kept taken.describes claims;
         answered = gives_answered d s die taken.job h;
         told = gives_told s die taken.job taken.right h.told;
+        shorts_told = gives_shorts_told s die taken.job taken.right h.shorts_told;
       });
 }
 
@@ -160,6 +168,8 @@ turns_right d s due after h is layer claims =
           (λ i. step.frontier i - step.leaves.before i) h.answered;
       told = λ lock. subst (λ n. All (IsTold n) s.tasks) (sym (λ i. step.frontier i - step.leaves.before i))
           (h.told (sym step.lock ∙ lock));
+      shorts_told = λ lock. subst (λ n. All (IsShortTold n) s.shorts)
+          (sym (λ i. step.frontier i - step.leaves.before i)) (h.shorts_told (sym step.lock ∙ lock));
     }
     by (inr repair) = record {
       keeps = unmended_moves d after s turned h.kept h.tied layer claims repair;
@@ -168,6 +178,9 @@ turns_right d s due after h is layer claims =
       told = λ lock. none_waits (numbers_of s) (length s.accepted)
           (turned.ledger.frontier - before_accepted turned.ledger) s.tasks
           (unmended_fit s h.tied repair.unmended);
+      shorts_told = λ lock. no_short_waits (length s.accepted)
+          (turned.ledger.frontier - before_accepted turned.ledger) s.shorts
+          (unmended_shorts s h.tied repair.unmended);
     }
 
 -- A device that is opened
@@ -213,10 +226,12 @@ opens_right n array bad s layer settings config inside sound opened kept none sa
         wanted = λ tag index. ap (λ (pins : List Pin). wanted_kept pins tag index) opened.translation.no_pins
             ∙ sym (ap (λ us. wanted_by index (exchange.task_of tag us)) opened.no_tasks);
         claims = subst (λ us. AreClaimed layer (claims_of us)) (sym opened.no_tasks) none;
-        shorts = opened.no_shorts;
-        power_off = opened.power_off;
+        shorts = subst (ShortsKept (numbers_of s) (before_accepted t.ledger) []) (sym opened.no_shorts) tt;
+        power_on = sym opened.power_off;
       };
       answered = subst (All (λ task. is_to_fill s task ≡ false)) (sym opened.no_tasks)
           (All-nil (λ task. is_to_fill s task ≡ false));
       told = λ lock. subst (All (IsTold (durable s))) (sym opened.no_tasks) (All-nil (IsTold (durable s)));
+      shorts_told = λ lock. subst (All (IsShortTold (durable s))) (sym opened.no_shorts)
+          (All-nil (IsShortTold (durable s)));
     }

@@ -15,7 +15,7 @@ use Rattle.ufs_spec.specs.Moves.{EndJob, Ending, IsEndingOf, Means, ReadRight, R
 use Rattle.ufs_spec.specs.Moves.{cell_read, end_flight, ending_fits, is_pin_of, is_read_ending, is_read_job}
 use Rattle.ufs_spec.specs.Moves.{is_read_outcome, same_bool}
 use Rattle.ufs_spec.specs.Moves.{job_ended, moved, with_wanted}
-use Rattle.ufs_spec.specs.Refusals.{State}
+use Rattle.ufs_spec.specs.Refusals.{State, numbers_of}
 use Rattle.ufs_spec.specs.Exchanges.{most_tasks}
 use Rattle.ufs_spec.specs.Translation.{Pin, Translation, name_of}
 use Rattle.ufs_spec.specs.declared.flash.Outcome.{Outcome}
@@ -46,6 +46,7 @@ use Rattle.ufs_laws.proofs.walk.SmallChanges.{job_over}
 use Rattle.device.specs.Frames.{HasFilled}
 use Rattle.device.proofs.described.Answered.{answered_told}
 use Rattle.device.proofs.described.OneSender.{each_sends}
+use Rattle.device.proofs.described.ShortExchanges.{same_shorts}
 use Rattle.device.proofs.described.LayerMoves.{IsForNone, Leaves, job_leaves, layer_moves}
 use Rattle.device.proofs.open_tasks.KeptByTag.{WantedFor, WantedForAll, claimed_same, claims_changed, one_changes}
 use Rattle.device.proofs.open_tasks.ReadProgress.{want_other_tag}
@@ -173,11 +174,11 @@ module _ (d : DeviceCore) (s : State) (die tag index : ℕ) (place : Place) (aft
 
   -- once these are our tasks
   keeps_then : (state : ReadState) (ending : Ending) (ts : List OpenTask) → is_unread state ≡ false →
-      (over ending).pins ≡ pins → before_accepted (over ending).ledger ≡ before →
+      (over ending).pins ≡ pins → (over ending).numbers ≡ numbers_of s → before_accepted (over ending).ledger ≡ before →
       layer_kept.Describes after (over ending) →
       TasksKept before ts (map (task_read tag index state) s.tasks) → OneSends ts →
       Keeps (record d { ftl = after; tasks = ts }) (read_state s tag index state s.array (over ending))
-  keeps_then state ending ts ends are same_before layer tasks once = record {
+  keeps_then state ending ts ends are numbers same_before layer tasks once = record {
     boot = h.kept.boot;
     permanent = h.kept.permanent;
     region = h.kept.region;
@@ -190,8 +191,9 @@ module _ (d : DeviceCore) (s : State) (die tag index : ℕ) (place : Place) (aft
         ≡ wanted_by k (task_of n (map (task_read tag index state) s.tasks))) (sym are)
         (wanted_now state ends);
     claims = subst (AreClaimed after) (sym (claims_now state)) same;
-    shorts = h.kept.shorts;
-    power_off = h.kept.power_off;
+    shorts = same_shorts (numbers_of s) (over ending).numbers before (before_accepted (over ending).ledger) d.shorts
+        s.shorts numbers same_before h.kept.shorts;
+    power_on = h.kept.power_on;
   }
 
   pub right_keeps : (page : Tag) (body : List ℕ) → s.translation.disk.cells place ≡ GroupPage page body →
@@ -199,7 +201,7 @@ module _ (d : DeviceCore) (s : State) (die tag index : ℕ) (place : Place) (aft
       Keeps (told (record d { ftl = after }) (ended.Read tag index (Some body)))
       (read_state s tag index WasRead s.array (over ReadRight))
   right_keeps page body cell layer =
-      keeps_then WasRead ReadRight (map (after_read tag index body) d.tasks) refl refl refl layer
+      keeps_then WasRead ReadRight (map (after_read tag index body) d.tasks) refl refl refl refl layer
       (tasks_read before tag index s.tasks h.tied.tasks.tasks_differ reading body
       (whole_read s place page body h.tied cell) (content_read d s tag index place page body h w reading cell) d.tasks
       h.kept.tasks)
@@ -209,7 +211,7 @@ module _ (d : DeviceCore) (s : State) (die tag index : ℕ) (place : Place) (aft
       Keeps (told (record d { ftl = after }) (ended.Read tag index None))
       (read_state s tag index NotRead s.array (over ReadWrong))
   wrong_keeps layer =
-      keeps_then NotRead ReadWrong (map (after_lost_read tag index) d.tasks) refl refl refl layer
+      keeps_then NotRead ReadWrong (map (after_lost_read tag index) d.tasks) refl refl refl refl layer
       (tasks_lost before tag index s.tasks h.tied.tasks.tasks_differ reading d.tasks h.kept.tasks)
       (each_sends (after_lost_read tag index) (lost_sends tag index) d.tasks h.kept.one_sends)
 

@@ -129,13 +129,13 @@ module _ (d : DeviceCore) (s : State) (k : ℕ) (a : OpenTask) (b : exchange.Tas
       tt layer claims
 
   -- its frames were handed out
-  sends_frames : (after : Core) (size : ℕ) (bytes : List ℕ) → a.phase ≡ phase.SendFrames size →
+  sends_frames : (after : Core) (size : ℕ) (bytes : List ℕ) → a.phase ≡ phase.SendHeld size →
       b.deed ≡ SendingBytes bytes → b.length ≡ size → layer_kept.Describes after s.translation →
       AreClaimed after (claims_of s.tasks) →
       IsBehind (with_layer after (with_event d k event.DataSent)) (set_deed s b.tag (Answering Good b.length))
   sends_frames after size bytes here deed is layer claims =
-      does_now d s k a b h o after event.DataSent (phase.SendFrames size) (Answering Good b.length) here (refl, is)
-      refl tt (none_asked d s k a b h o (its_frames (phase.SendFrames size) here).0) refl
+      does_now d s k a b h o after event.DataSent (phase.SendHeld size) (Answering Good b.length) here (refl, is)
+      refl tt (none_asked d s k a b h o (its_frames (phase.SendHeld size) here).0) refl
       (record {
         wanted = λ index. ap (wanted_in index b.request) deed;
         read = ap read_in deed;
@@ -150,6 +150,7 @@ module _ (d : DeviceCore) (s : State) (k : ℕ) (a : OpenTask) (b : exchange.Tas
     keeps = goes d s k a b h o after s.translation.ledger.held claims none layer;
     answered = answered_gone d s k a b h o s.translation.ledger.held;
     told = told_gone d s k a b h o;
+    shorts_told = h.shorts_told;
   }
 
   awaits : (after : Core) (commands : ℕ) → AreClaimed after (claims_of s.tasks) → claimed_in b.deed ≡ [] →
@@ -160,6 +161,7 @@ module _ (d : DeviceCore) (s : State) (k : ℕ) (a : OpenTask) (b : exchange.Tas
     keeps = goes d s k a b h o after (max s.translation.ledger.held commands) claims none layer;
     answered = answered_gone d s k a b h o (max s.translation.ledger.held commands);
     told = told_gone d s k a b h o;
+    shorts_told = h.shorts_told;
   }
 
   -- it could not send the block, and has answered so
@@ -282,7 +284,7 @@ module _ (d : DeviceCore) (s : State) (k : ℕ) (a : OpenTask) (b : exchange.Tas
   moves_in after (phase.AskFrames size) (Gathering purpose gathered asked) m here e doing due new =
       asks_frames after size purpose gathered asked here e doing.0 new.0 new.1
   moves_in after (phase.AwaitFrames size) deed m here e doing due new = absurd (none-some m due)
-  moves_in after (phase.SendFrames size) (SendingBytes bytes) m here e doing due new =
+  moves_in after (phase.SendHeld size) (SendingBytes bytes) m here e doing due new =
       sends_frames after size bytes here e doing.1 new.0 new.1
   moves_in after (phase.AwaitFrontier n size) (Awaiting commands) m here e doing due new =
       let frontier = s.translation.ledger.frontier in

@@ -1,35 +1,40 @@
 -- A reply that is handed out is due, and none is due where none is handed out.
-use Rattle.std.proofs.Common.{◌≡◌, ◌∙◌, ℕ, suc, Bool, true, false, List, [], ◌∷◌, Option, Some, None, length, map, refl}
+use Rattle.std.proofs.Common.{◌≡◌, ◌∙◌, ◌⊎◌, ℕ, ◌+◌, ◌≤◌, Bool, true, false, List, Option, Some, None, length, refl}
 use Rattle.std.proofs.Common.{sym, ap, subst, inl, inr, arith}
-use Rattle.std.specs.Prelude.{◌==◌, if◌then◌else◌, nat_le, nat_lt, not, option_map, remove, slice_get}
-use Rattle.std.proofs.lemmas.Bool.Decides.{nat_tests}
-use Rattle.std.specs.List.{list_any}
-use Rattle.ufs_spec.proofs.Facts.{none-some, or_parts}
-use Rattle.ufs_spec.specs.Exchanges.{Short, is_short_of, task_of, without_short}
+use Rattle.std.specs.Prelude.{if◌then◌else◌, max, nat_le, option_map, position, slice_get}
+use Rattle.ufs_spec.proofs.Facts.{leb-true, none-some, true≢false}
+use Rattle.ufs_spec.proofs.Lists.{position_cases}
+use Rattle.ufs_spec.specs.Exchanges.{Short, task_of, without_short}
 use Rattle.ufs_spec.specs.Ledger.{before_accepted}
-use Rattle.ufs_spec.specs.Machine.{Due, OfReply, Reply, deed_reply, replied, replied_by, short_replied, tag_in}
-use Rattle.ufs_spec.specs.Refusals.{State}
-use Rattle.ufs_spec.specs.Translation.{Translation}
+use Rattle.ufs_spec.specs.Machine.{Due, OfReply, Reply, acknowledges, deed_reply, durable, is_durable, replied}
+use Rattle.ufs_spec.specs.Machine.{replied_by, short_replied, tag_in, with_moves}
+use Rattle.ufs_spec.specs.Messages.{spelling}
+use Rattle.ufs_spec.specs.Moves.{Acknowledge, moved}
+use Rattle.ufs_spec.specs.Refusals.{State, numbers_of}
+use Rattle.ufs_spec.specs.Translation.{Translation, is_mended}
 use Rattle.ufs_spec.specs.declared.messages.Message.{Message}
-use Rattle.power_loss.specs.Exchange.{ShortsDiffer}
-use Rattle.power_loss.proofs.books.SmallFacts.{eq_self, if_false, if_true}
-use Rattle.power_loss.proofs.open_tasks.TaskLists.{found_short, found_task, no_task_found}
-use Rattle.device.specs.Describes.{Describes, IsAnswered, claims_of, short_kept}
+use Rattle.power_loss.specs.Exchange.{ShortAwaits, ShortFits}
+use Rattle.power_loss.proofs.open_tasks.TaskLists.{found_short, found_task, no_task_found, short_fits_at}
+use Rattle.ftl_core.specs.Public as layer_kept
+use Rattle.device.specs.Describes.{Describes, IsAnswered, IsReplied, claims_of}
 use Rattle.device.specs.Kept.{DeviceCore}
-use Rattle.device.specs.Replies.{HasMoved, answer_of, block_for, block_message, data_message, moved_on, owed_by}
-use Rattle.device.specs.Replies.{frames_message, has_filled, owed_in, short_message, short_said, without_first}
+use Rattle.device.specs.Replies.{HasMoved, IsShortReplied, answer_of, block_for, block_message, data_message, moved_on}
+use Rattle.device.specs.Replies.{frames_message, has_filled, owed_by, owed_in, without_short as without_short_at}
 use Rattle.task_set.specs.declared.tasks.Phase.{Phase}
 use Rattle.task_set.specs.declared.tasks.Phase.TheVariants as phase
 use Rattle.task_set.specs.declared.tasks.Short as kept
-use Rattle.task_set.specs.declared.tasks.ShortReply.{ShortReply}
-use Rattle.task_set.specs.declared.tasks.ShortReply.TheVariants as short_reply
 use Rattle.task_set.specs.declared.tasks.Status.TheVariants as status
 use Rattle.task_set.specs.declared.tasks.Task.{Task}
 use Rattle.task_set.specs.Kept.{OpenTask, task_in}
 use Rattle.task_set.specs.Lists.{held_at, read_at, task_at}
-use Rattle.device.proofs.described.Answered.{answered, answered_as, stays}
+use Rattle.task_set.specs.Shorts.{is_short_due}
+use Rattle.device.proofs.described.Answered.{IsBehind, answered, answered_as, stays}
+use Rattle.device.proofs.described.Settled.{kept_stays, still_answered}
+use Rattle.device.proofs.described.ShortExchanges.{IsOpenShort, due_same, one_gone_told, one_short_gone, our_short}
+use Rattle.device.proofs.described.ShortExchanges.{their_short}
 use Rattle.device.proofs.open_tasks.OpenTasks.{one_there, our_task, stands_there, their_task}
 use Rattle.device.proofs.due_replies.DeedsBehind.{moves_on, task_does}
+use Rattle.device.proofs.due_replies.ReplyMoves.{with_held}
 use Rattle.device.proofs.due_replies.ReplySame.{same_reply}
 use Rattle.power_loss.proofs.host_commands.HandedOutReplies.{one_tag as same_tag}
 
@@ -48,7 +53,7 @@ reply_tag t read held a (phase.ReadArea r) m h = by (has_filled a.frames) h
     by : (x : Bool) → (if x then Some (answer_of a status.Good r.length) else None) ≡ Some m → tag_in m ≡ a.tag
     by true e = same_tag (answer_of a status.Good r.length) m a.tag e refl
     by false e = absurd (none-some m e)
-reply_tag t read held a (phase.SendFrames size) m h = by held h
+reply_tag t read held a (phase.SendHeld size) m h = by held h
   where
     by : (o : Option (List ℕ)) → option_map (frames_message a size) o ≡ Some m → tag_in m ≡ a.tag
     by None e = absurd (none-some m e)
@@ -102,91 +107,147 @@ replies_right d e s k task m h there due left layer =
 
 -- Replies of short exchanges
 
-pub first_of : (rs : List kept.Short) → nat_lt 0 (length rs) ≡ true →
-    (r : kept.Short) × (more : List kept.Short) × (rs ≡ r ∷ more)
-first_of [] some = cc
-first_of (r ∷ rs) some = (r, rs, refl)
+module _ (d : DeviceCore) (s : State) (k : ℕ) (a : kept.Short) (b : Short) (h : Describes d s)
+    (o : IsOpenShort (numbers_of s) (before_accepted s.translation.ledger) k d.shorts s.shorts a b) where
+  -- it fits the device
+  its_fit : ShortFits (length s.accepted) (is_mended s.translation.work.mending) b
+  its_fit = short_fits_at s.shorts k b h.tied.tasks.waits o.theirs
 
-pub none_in : (rs : List kept.Short) → nat_lt 0 (length rs) ≡ false → rs ≡ []
-none_in [] none = refl
-none_in (r ∷ rs) none = absurd (no none)
+  -- its reply is due on both sides, or on none
+  pub short_due : is_short_due s.translation.ledger.frontier a ≡ is_durable s b.awaits
+  short_due =
+      due_same s (numbers_of s) (length s.accepted) (is_mended s.translation.work.mending) a b h.tied.repaired
+      its_fit.awaits o.kept
+
+  -- the state without it, once so many commands are held
+  abbrev state_without : ℕ → State
+  state_without held =
+      record s { translation = with_held s.translation held; shorts = without_short b.tag s.shorts }
+
+  short_gone : (held : ℕ) → layer_kept.Describes d.ftl (with_held s.translation held) →
+      IsBehind (without_short_at d k) (state_without held)
+  short_gone held layer = record {
+    keeps = record {
+      boot = h.kept.boot;
+      permanent = h.kept.permanent;
+      region = h.kept.region;
+      registers = h.kept.registers;
+      layer_kept = layer;
+      few = h.kept.few;
+      tasks = h.kept.tasks;
+      one_sends = h.kept.one_sends;
+      wanted = h.kept.wanted;
+      claims = h.kept.claims;
+      shorts =
+          one_short_gone (numbers_of s) (before_accepted s.translation.ledger) k d.shorts s.shorts b h.kept.shorts
+          h.tied.tasks.shorts_differ o.theirs;
+      power_on = h.kept.power_on;
+    };
+    answered =
+        still_answered s (state_without held) s.tasks
+        (kept_stays s.translation (with_held s.translation held) s.tasks refl refl) refl h.answered;
+    told = h.told;
+    shorts_told = λ lock. one_gone_told (durable s) b.tag s.shorts (h.shorts_told lock);
+  }
+
+  -- what it waited for is durable, each repair being so
+  low_told : (commands : ℕ) → ShortAwaits (length s.accepted) (is_mended s.translation.work.mending) (Some commands) →
+      nat_le commands (durable s) ≡ true →
+      before_accepted s.translation.ledger + commands ≤ s.translation.ledger.frontier
+  low_told commands fits e =
+      let few = leb-true commands (durable s) e in
+      let low = h.tied.repaired fits.1 in
+      omega arith
+
+  -- and is acknowledged
+  abbrev state_after : Option ℕ → State
+  state_after y = with_moves (record s { shorts = without_short b.tag s.shorts }) (acknowledges y)
+
+  waited_gone : (y : Option ℕ) → ShortAwaits (length s.accepted) (is_mended s.translation.work.mending) y →
+      is_durable s y ≡ true →
+      ((count : ℕ) → before_accepted s.translation.ledger + count ≤ s.translation.ledger.frontier →
+      layer_kept.Describes d.ftl (moved s.translation (Acknowledge count))) →
+      IsBehind (without_short_at d k) (state_after y)
+  waited_gone None fits e told = short_gone s.translation.ledger.held h.kept.layer_kept
+  waited_gone (Some commands) fits e told =
+      short_gone (max s.translation.ledger.held commands) (told commands (low_told commands fits e))
+
+  -- this becomes of the state
+  goes_out : replied s b.reply ≡ state_after b.awaits
+  goes_out =
+      ap (λ (n : ℕ). replied_by s n (task_of n s.tasks)) its_fit.reply
+      ∙ (ap (replied_by s b.tag) (no_task_found s.shorts s.tasks k b h.tied.tasks.apart o.theirs)
+      ∙ ap (short_replied s) (found_short s.shorts k b h.tied.tasks.shorts_differ o.theirs))
+
+  pub short_right : is_short_due s.translation.ledger.frontier a ≡ true →
+      ((count : ℕ) → before_accepted s.translation.ledger + count ≤ s.translation.ledger.frontier →
+      layer_kept.Describes d.ftl (moved s.translation (Acknowledge count))) →
+      IsAnswered s Reply (OfReply (Some b.reply)) (without_short_at d k)
+  short_right due told =
+      let durable_now = sym short_due ∙ due in
+      answered_as d (without_short_at d k) s (state_after b.awaits) Reply (OfReply (Some b.reply)) h tt
+      (inr (k, b, o.theirs, durable_now, refl)) goes_out
+      (waited_gone b.awaits its_fit.awaits durable_now told)
+
+pub shorts_right : (d e : DeviceCore) (s : State) (bytes : List ℕ) → Describes d s → IsShortReplied d e bytes →
+    IsReplied s bytes e
+shorts_right d e s bytes h r =
+    by
+    (their_short (numbers_of s) (before_accepted s.translation.ledger) r.index d.shorts s.shorts r.short
+    h.kept.shorts r.there)
   where
-    no : nat_lt 0 (suc (length rs)) ≡ false → ⊥
-    no e = grind (arith, nat_tests)
-
--- where none has the tag, none goes
-none_goes : (tag : ℕ) (xs : List Short) → list_any (is_short_of tag) xs ≡ false → without_short tag xs ≡ xs
-none_goes tag [] h = refl
-none_goes tag (x ∷ xs) h =
-    let both = or_parts (is_short_of tag x) (list_any (is_short_of tag) xs) h in
-    if_true (not (is_short_of tag x)) (x ∷ without_short tag xs) (without_short tag xs) (ap not both.0)
-    ∙ ap (λ (ys : List Short). x ∷ ys) (none_goes tag xs both.1)
-
--- the first goes, and no other
-first_goes : (all xs : List Short) (x : Short) → all ≡ x ∷ xs → ShortsDiffer all → without_short x.tag all ≡ xs
-first_goes all xs x is differ =
-    ap (without_short x.tag) is
-    ∙ (if_false (not (x.tag == x.tag)) (x ∷ without_short x.tag xs) (without_short x.tag xs) (ap not (eq_self x.tag))
-    ∙ none_goes x.tag xs (subst ShortsDiffer is differ).0)
-
--- the reply of a short exchange has its tag
-said_tag : (tag : ℕ) (reply : ShortReply) → tag_in (short_said tag reply) ≡ tag
-said_tag tag (short_reply.TaskSetFull lun expected) = refl
-said_tag tag short_reply.NopIn = refl
-said_tag tag (short_reply.NotManaged lun) = refl
-said_tag tag (short_reply.NotQueried writing asked) = refl
-
-pub shorts_right : (d : DeviceCore) (s : State) (r : kept.Short) (rs : List kept.Short) → Describes d s →
-    d.shorts ≡ r ∷ rs → IsAnswered s Reply (OfReply (Some (short_message r))) (without_first d)
-shorts_right d s r rs h is =
-    let all : s.shorts ≡ short_kept r ∷ map short_kept rs = h.kept.shorts ∙ ap (map short_kept) is in
-    let at : slice_get s.shorts 0 ≡ Some (short_kept r) = ap (λ (xs : List Short). slice_get xs 0) all in
-    answered_as d (without_first d) s (record s { shorts = map short_kept rs }) Reply
-    (OfReply (Some (short_message r))) h tt
-    (inr (0, short_kept r, at, refl, refl))
-    (ap (λ (n : ℕ). replied_by s n (task_of n s.tasks)) (said_tag r.tag r.reply)
-    ∙ (ap (replied_by s r.tag) (no_task_found s.shorts s.tasks 0 (short_kept r) h.tied.tasks.apart at)
-    ∙ (ap (short_replied s) (found_short s.shorts 0 (short_kept r) h.tied.tasks.shorts_differ at)
-    ∙ ap (λ (xs : List Short). record s { shorts = xs }) (first_goes s.shorts (map short_kept rs) (short_kept r) all
-    h.tied.tasks.shorts_differ))))
-    (record {
-      keeps = record {
-        boot = h.kept.boot;
-        permanent = h.kept.permanent;
-        region = h.kept.region;
-        registers = h.kept.registers;
-        layer_kept = h.kept.layer_kept;
-        few = h.kept.few;
-        tasks = h.kept.tasks;
-        one_sends = h.kept.one_sends;
-        wanted = h.kept.wanted;
-        claims = h.kept.claims;
-        shorts = ap (map short_kept) (sym (ap (λ (xs : List kept.Short). remove xs 0) is));
-        power_off = h.kept.power_off;
-      };
-      answered = h.answered;
-      told = h.told;
-    })
+    by : (b : Short)
+        × IsOpenShort (numbers_of s) (before_accepted s.translation.ledger) r.index d.shorts s.shorts r.short b →
+        IsReplied s bytes e
+    by (b, o) = record {
+      reply = b.reply;
+      shown = r.said s.translation h.kept.layer_kept ∙ ap spelling (sym o.kept.reply);
+      answered =
+          subst (λ (x : DeviceCore). IsAnswered s Reply (OfReply (Some b.reply)) x) (sym r.after_is)
+          (short_right d s r.index r.short b h o (r.due s.translation h.kept.layer_kept)
+          (λ count low. subst (λ (x : DeviceCore). layer_kept.Describes x.ftl (moved s.translation (Acknowledge count)))
+          r.after_is (r.told s.translation count h.kept.layer_kept low)));
+    }
 
 -- No reply
 
 abbrev pub OwesNone : DeviceCore → Translation → Type 0
 OwesNone d t = (k : ℕ) (task : OpenTask) → slice_get d.tasks k ≡ Some task → owed_by t task ≡ None
 
+-- no short exchange is due
+abbrev pub NoneDue : DeviceCore → Translation → Type 0
+NoneDue d t = position (is_short_due t.ledger.frontier) d.shorts ≡ None
+
 no_message : (x y : Option Message) (m : Message) → x ≡ Some m → x ≡ y → y ≡ None → ⊥
 no_message x y m e f g = cc
 
-none_due : (d : DeviceCore) (s : State) → Describes d s → OwesNone d s.translation → d.shorts ≡ [] →
+not_due : (frontier k : ℕ) (rs : List kept.Short) (a : kept.Short) → position (is_short_due frontier) rs ≡ None →
+    slice_get rs k ≡ Some a → is_short_due frontier a ≡ false
+not_due frontier k rs a none at = by (position_cases (is_short_due frontier) rs)
+  where
+    by : ((j : ℕ) × (x : kept.Short) × (position (is_short_due frontier) rs ≡ Some j) × (slice_get rs j ≡ Some x)
+        × (is_short_due frontier x ≡ true)) ⊎ ((position (is_short_due frontier) rs ≡ None)
+        × ((j : ℕ) (y : kept.Short) → slice_get rs j ≡ Some y → is_short_due frontier y ≡ false)) →
+        is_short_due frontier a ≡ false
+    by (inl found) = absurd (none-some found.0 (sym none ∙ found.2))
+    by (inr each) = each.1 k a at
+
+none_due : (d : DeviceCore) (s : State) → Describes d s → OwesNone d s.translation → NoneDue d s.translation →
     (m : Message) → Due s m → ⊥
-none_due d s h none empty m (inl due) =
+none_due d s h none none_short m (inl due) =
     let r = our_task (before_accepted s.translation.ledger) due.0 d.tasks s.tasks due.1 h.kept.tasks due.2 in
     no_message (deed_reply s due.1 due.1.deed) (owed_by s.translation r.0) m due.3
     (same_reply d s r.0 due.1 h r.1.kept (found_task s.tasks due.0 due.1 h.tied.tasks.tasks_differ due.2))
     (none due.0 r.0 r.1.ours)
-none_due d s h none empty m (inr due) =
-    none-some due.1
-    (sym (ap (λ (xs : List Short). slice_get xs due.0) (h.kept.shorts ∙ ap (map short_kept) empty)) ∙ due.2)
+none_due d s h none none_short m (inr due) =
+    let r = our_short (numbers_of s) (before_accepted s.translation.ledger) due.0 d.shorts s.shorts due.1 h.kept.shorts
+    due.2 in
+    true≢false
+    (sym due.3
+    ∙ (sym (short_due d s due.0 r.0 due.1 h r.1)
+    ∙ not_due s.translation.ledger.frontier due.0 d.shorts r.0 none_short r.1.ours))
 
-pub silence_right : (d : DeviceCore) (s : State) → Describes d s → OwesNone d s.translation → d.shorts ≡ [] →
-    IsAnswered s Reply (OfReply None) d
-silence_right d s h none empty = answered d d s Reply (OfReply None) h tt (none_due d s h none empty) (stays d s h)
+pub silence_right : (d : DeviceCore) (s : State) → Describes d s → OwesNone d s.translation →
+    NoneDue d s.translation → IsAnswered s Reply (OfReply None) d
+silence_right d s h none none_short =
+    answered d d s Reply (OfReply None) h tt (none_due d s h none none_short) (stays d s h)

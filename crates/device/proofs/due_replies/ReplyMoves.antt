@@ -185,7 +185,7 @@ module _ (d : DeviceCore) (s : State) (k : ℕ) (a : OpenTask) (b : exchange.Tas
             (sym (claims_left s.tasks b.tag
             ∙ claimed_same (claims_of s.tasks) b.tag [] (ap claimed_by found ∙ none))) claims;
         shorts = h.kept.shorts;
-        power_off = h.kept.power_off;
+        power_on = h.kept.power_on;
       })
       layer
     where
@@ -255,10 +255,11 @@ module _ (d : DeviceCore) (s : State) (k : ℕ) (a : OpenTask) (b : exchange.Tas
           (λ n index other. refl);
       claims = subst (AreClaimed after) (sym (same_claims deed same.claimed)) claims;
       shorts = h.kept.shorts;
-      power_off = h.kept.power_off;
+      power_on = h.kept.power_on;
     };
     answered = answered_set s.translation deed none (λ tag other index. refl) refl;
     told = λ lock. set_told (durable s) b.tag deed s.tasks told (h.told lock);
+    shorts_told = h.shorts_told;
   }
 
   -- its next block was handed out
@@ -293,7 +294,7 @@ module _ (d : DeviceCore) (s : State) (k : ℕ) (a : OpenTask) (b : exchange.Tas
               (λ tag index other. next_of_others b.tag n tag index s.translation.pins other);
           claims = subst (AreClaimed after) (sym (same_claims deed same)) claims;
           shorts = h.kept.shorts;
-          power_off = h.kept.power_off;
+          power_on = h.kept.power_on;
         };
         answered = answered_set (sent_layer s.translation b.tag n) deed none
             (λ tag other index. ap (is_at_hand s.translation.work.rests)
@@ -301,6 +302,7 @@ module _ (d : DeviceCore) (s : State) (k : ℕ) (a : OpenTask) (b : exchange.Tas
             (filter (λ pin. not (is_pin_of b.tag n pin)) s.translation.pins) other
             ∙ sent_finds_others b.tag n tag index s.translation.pins other)) refl;
         told = λ lock. set_told (durable s) b.tag deed s.tasks told (h.told lock);
+        shorts_told = h.shorts_told;
       })
       layer
     where

@@ -349,7 +349,7 @@ module _ (d : DeviceCore) (s : State) (a : OpenTask) (b : exchange.Task) (h : De
       asking_frames size purpose gathered asked is.0 is.1
   same_in (phase.AwaitFrames size) (Gathering purpose gathered asked) e is fits =
       ap (λ z. if z then None else Some (ready_message b gathered)) is.1
-  same_in (phase.SendFrames size) (SendingBytes bytes) e is fits =
+  same_in (phase.SendHeld size) (SendingBytes bytes) e is fits =
       ap (λ z. Some z) (frames_same size bytes is fits.1)
       ∙ sym (ap (option_map (frames_message (task_in a) size)) fits.1.is_held)
   same_in (phase.AskData x) (Gathering purpose gathered asked) e is fits =

@@ -108,7 +108,7 @@ asked_same lun offset count b before expected (phase.AskFrames size) (Gathering 
     )
 asked_same lun offset count b before expected (phase.AwaitFrontier n size) (Awaiting commands) h = inl (refl, refl)
 asked_same lun offset count b before expected (phase.SendData x) (SendingBytes bytes) h = inl (refl, refl)
-asked_same lun offset count b before expected (phase.SendFrames x) (SendingBytes bytes) h = inl (refl, refl)
+asked_same lun offset count b before expected (phase.SendHeld x) (SendingBytes bytes) h = inl (refl, refl)
 asked_same lun offset count b before expected (phase.SendBlocks x) (Sending blocks sent) h = inl (refl, refl)
 asked_same lun offset count b before expected (phase.ReadArea r) (ReadingArea pages) h = inl (refl, refl)
 asked_same lun offset count b before expected (phase.Answer s n) (Answering status carried) h = inl (refl, refl)

@@ -28,16 +28,11 @@ use Rattle.ufs_laws.proofs.plain_contents.GroupsOfCommands.{length-groups}
 use Rattle.power_loss.specs.Exchange.{IsTied}
 use Rattle.device.specs.declared.plans.Plan.{Plan}
 use Rattle.device.specs.Plans.{Passes}
-use Rattle.device.specs.Targets.{unit_named}
-use Rattle.device.specs.declared.targets.Target.{Target}
-use Rattle.device.proofs.host_messages.CommandTable.{spec_is}
 
 -- Lines
 
 pub record Checked (s : State) (r : Request) (command : Cdb) : Type 0 where
-  pub no_response : lacks_response s command ≡ false
   pub too_long : is_too_long (numbers_of s) command ≡ false
-  pub past : is_past command (unit_numbers_of s r) ≡ false
   pub unmended : (needs_mended (operation_of command) && not (mended s)) ≡ false
   pub refused : is_refused_write s (unit_numbers_of s r) command ≡ false
   pub response : has_other_response s command ≡ false
@@ -59,9 +54,7 @@ checked s r command is none =
     let k = passed_line (has_other_response s command) invalid_field _ j.1 in
     let l = passed_line (is_crowded s command) Busy _ k.1 in
     record {
-      no_response = j.0;
       too_long = c.0;
-      past = f.0;
       unmended = g.0;
       refused = i.0;
       response = k.0;
@@ -69,14 +62,11 @@ checked s r command is none =
     }
 
 -- what is known of a command that passed
-pub record IsFree (s : State) (r : Request) (to : Target) (command : Cdb) : Type 0 where
-  pub spec_is : unit_numbers_of s r ≡ unit_named to
+pub record IsFree (s : State) (r : Request) (command : Cdb) : Type 0 where
   pub few : blocks_of command ≤ greatest_command
-  pub within : is_past command (unit_named to) ≡ false
   pub not_long : is_too_long (numbers_of s) command ≡ false
   pub response : has_other_response s command ≡ false
   pub alone : (is_security_out command && list_any (λ (task : Task). sends_frames task.command) s.tasks) ≡ false
-  pub no_response : lacks_response s command ≡ false
   pub mended : needs_mended (operation_of command) ≡ true → mended s ≡ true
   pub slots : slots_needed (numbers_of s) command ≤ free_slots s.translation
   pub refused : is_refused_write s (unit_numbers_of s r) command ≡ false
@@ -88,6 +78,9 @@ few_told s (cdb.RequestSense allocation) taken h =
     ltb-false greatest_command (blocks_of (cdb.RequestSense allocation)) h
 few_told s (cdb.Read6 address blocks) taken h = ltb-false greatest_command (blocks_of (cdb.Read6 address blocks)) h
 few_told s (cdb.Write6 address blocks) taken h = ltb-false greatest_command (blocks_of (cdb.Write6 address blocks)) h
+few_told s (cdb.Inquiry allocation) taken h = ltb-false greatest_command (blocks_of (cdb.Inquiry allocation)) h
+few_told s (cdb.ReportLuns select allocation) taken h =
+    ltb-false greatest_command (blocks_of (cdb.ReportLuns select allocation)) h
 few_told s cdb.ReadCapacity10 taken h = ltb-false greatest_command (blocks_of cdb.ReadCapacity10) h
 few_told s (cdb.Read10 address blocks forced) taken h =
     ltb-false greatest_command (blocks_of (cdb.Read10 address blocks forced)) h
@@ -104,20 +97,16 @@ mended_told true true h e = refl
 mended_told true false h e = sym h
 mended_told false b h e = absurd (false≢true e)
 
-pub free_told : (s : State) (r : Request) (todo : Plan) → (h : Passes s r todo) → IsFree s r h.target h.command
+pub free_told : (s : State) (r : Request) (todo : Plan) → (h : Passes s r todo) → IsFree s r h.command
 free_told s r todo h =
     let k = checked s r h.command h.is h.passed in
-    let spec = spec_is s r h.target h.there in
     let both = or_parts
     (is_security_out h.command && list_any (λ (task : Task). sends_frames task.command) s.tasks)
     (nat_lt (free_slots s.translation) (slots_needed (numbers_of s) h.command)) k.crowded in
     record {
-      spec_is = spec;
       few = few_told s h.command h.taken k.too_long;
-      within = sym (ap (is_past h.command) spec) ∙ k.past;
       not_long = k.too_long;
       response = k.response;
-      no_response = k.no_response;
       alone = both.0;
       mended = mended_told (needs_mended (operation_of h.command)) (mended s) k.unmended;
       slots = ltb-false (free_slots s.translation) (slots_needed (numbers_of s) h.command) both.1;

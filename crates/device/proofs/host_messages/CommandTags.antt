@@ -1,23 +1,21 @@
 -- Whether a message may open an exchange.
-use Rattle.std.proofs.Common.{◌≡◌, ◌∙◌, ℕ, Bool, true, false, List, [], ◌∷◌, None, length, map, refl, sym, ap}
+use Rattle.std.proofs.Common.{◌≡◌, ◌∙◌, ℕ, Bool, true, false, List, [], ◌∷◌, None, length, refl, sym, ap}
 use Rattle.std.proofs.Common.{inl, inr, cond}
-use Rattle.std.specs.Prelude.{◌||◌, ◌==◌, if◌then◌else◌, find, nat_le, is_some, position, Ok, Err, Some}
+use Rattle.std.specs.Prelude.{◌||◌, if◌then◌else◌, find, nat_le, is_some, position, Ok, Err, Some}
 use Rattle.std.specs.List.{list_any}
-use Rattle.std.proofs.lemmas.List.{length-map}
 use Rattle.ufs_spec.specs.Exchanges.{most_short_exchanges}
 use Rattle.ufs_spec.specs.Exchanges as exchange
 use Rattle.ufs_spec.specs.Exchanges.{is_short_of, task_of}
 use Rattle.ufs_spec.specs.Ledger.{before_accepted}
 use Rattle.ufs_spec.specs.Machine.{in_use, opening_fault, result_of}
-use Rattle.ufs_spec.specs.Refusals.{State, sends_frames}
+use Rattle.ufs_spec.specs.Refusals.{State, numbers_of, sends_frames}
 use Rattle.ufs_spec.specs.declared.faults.HostFault.TheVariants.{Backlog, TagInUse}
-use Rattle.task_set.specs.declared.tasks.Short as kept
 use Rattle.task_set.specs.Kept.{OpenTask}
-use Rattle.device.specs.Describes.{Describes, TasksKept, short_kept}
-use Rattle.task_set.specs.Lists as ours
+use Rattle.device.specs.Describes.{Describes, TasksKept}
 use Rattle.device.specs.Hears.{short_answer, uses}
 use Rattle.device.specs.Kept.{DeviceCore}
 use Rattle.task_set.specs.Tasks.{is_sender, is_task_of}
+use Rattle.device.proofs.described.ShortExchanges.{as_many_shorts, same_short_tags}
 use Rattle.device.proofs.open_tasks.OpenTasks.{StandsOrNot, as_many, tag_stands}
 
 any_is_found : {X : Type 0} (p : X → Bool) (xs : List X) → list_any p xs ≡ is_some (find p xs)
@@ -52,16 +50,11 @@ others_send d s h = all d.tasks s.tasks h.kept.tasks
     all (x ∷ ts) (y ∷ us) k = λ i. k.0.sends i || all ts us k.1 i
     all ts us k = absurd k
 
-shorts_use : (tag : ℕ) (rs : List kept.Short) →
-    list_any (is_short_of tag) (map short_kept rs) ≡ list_any (ours.is_short_of tag) rs
-shorts_use tag [] = refl
-shorts_use tag (r ∷ rs) = ap (λ (b : Bool). (r.tag == tag) || b) (shorts_use tag rs)
-
 pub tag_used : (d : DeviceCore) (s : State) (tag : ℕ) → Describes d s → in_use s tag ≡ uses d tag
 tag_used d s tag h =
     ap (λ (b : Bool). b || list_any (is_short_of tag) s.shorts) (tasks_use d s tag h)
-    ∙ ap (λ (b : Bool). is_some (position (is_task_of tag) d.tasks) || b) (ap (list_any (is_short_of tag)) h.kept.shorts
-    ∙ shorts_use tag d.shorts)
+    ∙ ap (λ (b : Bool). is_some (position (is_task_of tag) d.tasks) || b)
+    (same_short_tags (numbers_of s) (before_accepted s.translation.ledger) tag d.shorts s.shorts h.kept.shorts)
 
 -- the fault of what opens a task, by the tests of the device
 pub task_fault : (d : DeviceCore) (s : State) (tag : ℕ) → Describes d s →
@@ -77,7 +70,8 @@ short_fault d s tag h =
     ∙ by (uses d tag) (nat_le most_short_exchanges (length d.shorts))
   where
     shorts : length s.shorts ≡ length d.shorts
-    shorts = ap length h.kept.shorts ∙ length-map d.shorts short_kept
+    shorts =
+        as_many_shorts (numbers_of s) (before_accepted s.translation.ledger) d.shorts s.shorts h.kept.shorts
 
     by : (b c : Bool) → result_of (if b then Some TagInUse else if c then Some Backlog else None)
         ≡ (if b then Err TagInUse else if c then Err Backlog else Ok tt)

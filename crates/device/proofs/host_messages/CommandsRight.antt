@@ -6,12 +6,12 @@ use Rattle.std.specs.List.{list_any}
 use Rattle.std.proofs.lemmas.Bool.{leb-false}
 use Rattle.ufs_spec.proofs.Facts.{none-some, or_parts}
 use Rattle.ufs_spec.proofs.ReadBack.{one_message}
-use Rattle.ufs_spec.specs.Exchanges.{is_short_of, is_task_of, most_tasks, task_of}
+use Rattle.ufs_spec.specs.Exchanges.{Short, is_short_of, is_task_of, most_tasks, short_reply, task_of}
 use Rattle.ufs_spec.specs.Machine.{Faulty, Heard, IsCdbIn, IsHeard, Spelled, cdb_of, command_taken, message_fault}
 use Rattle.ufs_spec.specs.Machine.{refused_or_begun, opening_fault, result_of}
 use Rattle.ufs_spec.specs.Machine as machine
 use Rattle.ufs_spec.specs.Messages.{Spells, host_fault_of}
-use Rattle.ufs_spec.specs.Refusals.{Request, State, refusal}
+use Rattle.ufs_spec.specs.Refusals.{Request, State, numbers_of, refusal}
 use Rattle.ufs_spec.specs.declared.faults.HostFault.{HostFault}
 use Rattle.ufs_spec.specs.declared.faults.HostFault.TheVariants.{TagInUse}
 use Rattle.ufs_spec.specs.declared.messages.Message.{Message}
@@ -19,15 +19,19 @@ use Rattle.ufs_spec.specs.declared.messages.Message.TheVariants as message
 use Rattle.ufs_spec.specs.declared.scsi.Cdb.{Cdb}
 use Rattle.ufs_laws.proofs.exchanges.BytesHeard.{is_heard}
 use Rattle.power_loss.proofs.open_tasks.FoundInLists.{none_found}
-use Rattle.task_set.specs.declared.tasks.Short as kept
+use Rattle.task_set.specs.declared.tasks.ShortReply.{ShortReply}
 use Rattle.task_set.specs.declared.tasks.ShortReply.TheVariants as reply
-use Rattle.device.specs.Describes.{Describes, IsHeardAs, short_kept}
+use Rattle.device.specs.Describes.{Describes, IsHeardAs}
 use Rattle.device.specs.Hears.{IsTaskOpened, short_answer, uses, with_short}
 use Rattle.device.specs.Kept.{DeviceCore}
+use Rattle.device.specs.Plans.{IsPlanned}
+use Rattle.device.specs.Queries.{at_once}
+use Rattle.device.specs.Replies.{short_said}
 use Rattle.device.proofs.described.Answered.{IsBehind, stays}
 use Rattle.device.proofs.host_messages.CommandBegins.{planned_begins}
 use Rattle.device.proofs.host_messages.CommandTags.{others_send, tag_used, task_fault, tasks_count}
 use Rattle.device.proofs.host_messages.ShortsOpened.{short_heard, spelled_heard}
+use Rattle.device.proofs.host_messages.TasksBegin.{HasBegunFor, opened_as, opened_for}
 
 -- a message is heard, whatever its CDB spells
 is_read : (m : Message) (bytes : List ℕ) → Spells m bytes → host_fault_of bytes ≡ None → (c : Option Cdb)
@@ -51,8 +55,12 @@ module _ (d : DeviceCore) (s : State) (flags lun tag expected : ℕ) (cdb_bytes 
   abbrev said : Message
   said = message.Command flags lun tag expected cdb_bytes
 
-  abbrev full_reply : kept.Short
-  full_reply = record { tag = tag; reply = reply.TaskSetFull lun expected }
+  abbrev full_reply : ShortReply
+  full_reply = reply.TaskSetFull lun expected
+
+  -- the exchange that refuses it
+  abbrev refusing : Short
+  refusing = short_reply tag (short_said (numbers_of s) tag full_reply)
 
   -- what it is, as its CDB spells it
   command : (c : Option Cdb) × IsCdbIn (Some cdb_bytes) c
@@ -64,9 +72,9 @@ module _ (d : DeviceCore) (s : State) (flags lun tag expected : ℕ) (cdb_bytes 
 
   -- the command is refused as a short exchange, or opens a task
   command_is : (c : Option Cdb) (b : Bool) → nat_le most_tasks (length s.tasks) ≡ b →
-      command_taken s (request c) ≡ (if b then machine.with_short s (short_kept full_reply)
+      command_taken s (request c) ≡ (if b then machine.with_short s refusing
       else refused_or_begun s (request c) (refusal s (request c)))
-  command_is c b e = ap (λ (x : Bool). if x then machine.with_short s (short_kept full_reply)
+  command_is c b e = ap (λ (x : Bool). if x then machine.with_short s refusing
       else refused_or_begun s (request c) (refusal s (request c))) e
 
   fault_is : (b : Bool) → nat_le most_tasks (length s.tasks) ≡ b → message_fault s said ≡ opening_fault s tag b
@@ -74,10 +82,10 @@ module _ (d : DeviceCore) (s : State) (flags lun tag expected : ℕ) (cdb_bytes 
 
   -- as many tasks are open as may be: the command opens a short exchange
   pub full_right : (e : DeviceCore) (answer : Result Unit HostFault) → nat_le most_tasks (length d.tasks) ≡ true →
-      answer ≡ short_answer d tag → OnErr answer (e ≡ d) → OnOk answer (e ≡ with_short d full_reply) →
+      answer ≡ short_answer d tag → OnErr answer (e ≡ d) → OnOk answer (e ≡ with_short d (at_once tag full_reply)) →
       IsHeardAs s whole answer e
   full_right e answer many told refused taken =
-      short_heard d e s whole said command.0 full_reply answer h spells none command.1
+      short_heard d e s whole said command.0 tag full_reply answer h spells none command.1
       (fault_is true (many_is true many)) (command_is command.0 true (many_is true many)) told refused taken
 
   -- the tag is in use
@@ -97,17 +105,7 @@ module _ (d : DeviceCore) (s : State) (flags lun tag expected : ℕ) (cdb_bytes 
       ∙ ap (λ (b : Bool). if b then Some TagInUse else None) used))))
       (command_is command.0 false (many_is false many))
       (subst (λ (x : DeviceCore). IsBehind x (refused_or_begun s (request command.0) (refusal s (request command.0))))
-      (sym k.more)
-      (planned_begins d s (request command.0) h free few k.layer k.todo k.phase
-      (k.plan s (request command.0) h.kept.layer_kept
-      (record {
-        power_off = h.kept.power_off;
-        permanent_is = h.kept.permanent;
-        registers_are = h.kept.registers;
-        senders_are = others_send d s h;
-      })
-      (record { flags_are = refl; lun_is = refl; expected_is = refl; bytes_are = refl; spelled = command.1 }))
-      (k.begun s.translation _ (h.kept.layer_kept, h.kept.claims))))
+      (sym (opened_as d s (request command.0) h e k.layer k.todo k.phase _ begun behind.keeps.layer_kept k.more)) behind)
     where
       free : task_of tag s.tasks ≡ None
       free = none_found (is_task_of tag) s.tasks
@@ -116,3 +114,22 @@ module _ (d : DeviceCore) (s : State) (flags lun tag expected : ℕ) (cdb_bytes 
 
       few : length s.tasks < most_tasks
       few = leb-false most_tasks (length s.tasks) (many_is false many)
+
+      begun : HasBegunFor s (request command.0) k.layer k.todo k.phase
+      begun = k.begun s.translation _ (h.kept.layer_kept, h.kept.claims)
+
+      planned : IsPlanned s (request command.0) k.todo
+      planned =
+          k.plan s (request command.0) h.kept.layer_kept
+          (record {
+            boot_is = h.kept.boot;
+            permanent_is = h.kept.permanent;
+            power_on_is = h.kept.power_on;
+            registers_are = h.kept.registers;
+            senders_are = others_send d s h;
+          })
+          (record { flags_are = refl; lun_is = refl; expected_is = refl; bytes_are = refl; spelled = command.1 })
+
+      behind : IsBehind (opened_for d (request command.0) k.layer k.todo k.phase)
+          (refused_or_begun s (request command.0) (refusal s (request command.0)))
+      behind = planned_begins d s (request command.0) h free few k.layer k.todo k.phase planned begun

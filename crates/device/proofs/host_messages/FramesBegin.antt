@@ -64,7 +64,7 @@ module _ (d : DeviceCore) (s : State) (r : Request) (h : Describes d s) (free : 
   frames_opened region n is long alone layer claims = record {
     keeps =
         open_keeps d s r h free few after (moved s.translation (Claim 3)) (Some (cdb.SecurityOut region n)) n
-        (gathering region) _ layer refl
+        (gathering region) _ layer refl refl
         (record {
           wanted = none_wanted d s r h free few;
           others_want = λ m i other. refl;
@@ -94,6 +94,7 @@ module _ (d : DeviceCore) (s : State) (r : Request) (h : Describes d s) (free : 
         open_answered d s r h free few (moved s.translation (Claim 3)) (Some (cdb.SecurityOut region n)) n
         (gathering region) (λ tag other index. refl) refl;
     told = open_told d s r h free few (Some (cdb.SecurityOut region n)) n (gathering region) (λ l. tt);
+    shorts_told = h.shorts_told;
   }
 
   pub asked_begins : (region n : ℕ) (p : Phase) → region ≡ 0 → not (is_frames n) ≡ false →

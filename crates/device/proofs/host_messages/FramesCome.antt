@@ -30,7 +30,6 @@ use Rattle.task_set.specs.Kept.{OpenTask}
 use Rattle.task_set.specs.Lists.{task_happened, wanted_in as wanted_of}
 use Rattle.task_set.specs.Tasks.{phase_after, task_after}
 use Rattle.task_set.specs.declared.frames.Frames.{Frames}
-use Rattle.task_set.specs.declared.frames.Frames.TheVariants as frames
 use Rattle.task_set.specs.declared.tasks.Phase.{Phase}
 use Rattle.task_set.specs.declared.tasks.TaskEvent.TheVariants as event
 use Rattle.task_set.specs.declared.tasks.Wanted.TheVariants as wanted
@@ -104,6 +103,7 @@ module _ {d : DeviceCore} {s : State} {tag : ℕ} {bytes : List ℕ} (c : AllCam
               (with_claimed (claims_of s.tasks) c.stands.b.tag (claimed_in y.deed))) (sym changed)
               (released c did.layer (λ n. [])
               (did.released s.translation (claims_of s.tasks) (c.described.kept.layer_kept, c.described.kept.claims)));
+          numbers = refl;
           before = refl;
           task = subst (TaskKept (before_accepted s.translation.ledger) new) (sym changed) refused_task;
           sends = refl;

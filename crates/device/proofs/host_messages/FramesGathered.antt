@@ -3,7 +3,7 @@
 use Rattle.std.proofs.Common.{◌≡◌, ◌∙◌, ℕ, zero, suc, ◌-◌, ◌/◌, ◌≤◌, ◌==◌, Bool, true, false, List, [], ◌∷◌, drop}
 use Rattle.std.proofs.Common.{Some, None, cond, length, replicate, refl, sym, ap, subst, arith}
 use Rattle.std.specs.Prelude.{fold, slice_get, slice_set, take}
-use Rattle.std.proofs.lemmas.List.{length-append, length-drop, take-append-le}
+use Rattle.std.proofs.lemmas.List.{take-append-le}
 use Rattle.ufs_spec.proofs.Facts.{none-some}
 use Rattle.ufs_spec.specs.Commands.{Command}
 use Rattle.ufs_spec.specs.Exchanges as exchange
@@ -39,7 +39,7 @@ use Rattle.device.specs.Describes.{AreFramesKept, Describes, FramesFit, IsDoing,
 use Rattle.device.specs.Describes.{claimed_by, claimed_in, claims_of, read_in, wanted_by, wanted_in, wanted_kept}
 use Rattle.device.specs.Frames.{HasRequested, with_held, with_zeros}
 use Rattle.device.specs.Kept.{DeviceCore, IsLayerWith}
-use Rattle.device.proofs.host_messages.FramesTaken.{zero_length}
+use Rattle.device.proofs.host_messages.HeldBegins.{zeros_length}
 use Rattle.device.proofs.host_messages.TaskBecomes.{becomes_kept, device_then}
 use Rattle.device.proofs.open_tasks.OpenTasks.{Stands, set_again, set_stands}
 use Rattle.device.proofs.open_tasks.ReadProgress.{ChangesOne}
@@ -74,7 +74,7 @@ wants_frames (phase.AwaitFrontier n m) size e = absurd (none-some (wanted.Frames
 wants_frames (phase.ReadArea r) size e = absurd (none-some (wanted.Frames size) e)
 wants_frames (phase.SendBlocks y) size e = absurd (none-some (wanted.Frames size) e)
 wants_frames (phase.SendData y) size e = absurd (none-some (wanted.Frames size) e)
-wants_frames (phase.SendFrames n) size e = absurd (none-some (wanted.Frames size) e)
+wants_frames (phase.SendHeld n) size e = absurd (none-some (wanted.Frames size) e)
 wants_frames (phase.Answer told n) size e = absurd (none-some (wanted.Frames size) e)
 
 -- all frames came that the task of this tag asked for
@@ -187,12 +187,7 @@ module _ {d : DeviceCore} {s : State} {tag : ℕ} {bytes : List ℕ} (c : AllCam
           less n = omega arith
 
   zeros_long : length (with_zeros bytes) ≡ 4096
-  zeros_long =
-      let joined = length-append bytes (drop (length bytes) zero_block) in
-      let rest = length-drop (length bytes) zero_block in
-      let zeros = zero_length in
-      let few = frames_long.2 in
-      omega arith
+  zeros_long = zeros_length bytes frames_long.2
 
   first_kept : take 512 (with_zeros bytes) ≡ take 512 bytes
   first_kept = take-append-le 512 bytes (drop (length bytes) zero_block) frames_long.1
@@ -261,6 +256,7 @@ module _ {d : DeviceCore} {s : State} {tag : ℕ} {bytes : List ℕ} (c : AllCam
       pub registers : m.registers ≡ d.rpmb.registers
       pub layer_is : IsLayerWith layer u given_up
       pub none_claimed : claimed_in deed ≡ []
+      pub numbers : u.numbers ≡ s.translation.numbers
       pub before : before_accepted u.ledger ≡ before_accepted s.translation.ledger
       pub wanted : (index : ℕ) → wanted_kept u.pins c.stands.b.tag index
           ≡ wanted_by index (Some (asking c.stands.b bytes code deed))
@@ -291,6 +287,7 @@ module _ {d : DeviceCore} {s : State} {tag : ℕ} {bytes : List ℕ} (c : AllCam
             (with_claimed (claims_of s.tasks) c.stands.b.tag (claimed_in y.deed))) (sym changed)
             (subst (λ (blocks : List (List ℕ)). IsLayerWith did.layer u
             (with_claimed (claims_of s.tasks) c.stands.b.tag blocks)) (sym leads.none_claimed) leads.layer_is);
+        numbers = leads.numbers;
         before = leads.before;
         task = subst (TaskKept (before_accepted s.translation.ledger) new) (sym changed) (asking_kept code e p deed x);
         sends =

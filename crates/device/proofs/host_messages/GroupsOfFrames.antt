@@ -21,7 +21,7 @@ use Rattle.device.specs.Groups.{area_item, key_group, room_from, settings_item, 
 use Rattle.device.proofs.host_messages.AreaPages.{LiesInPage, page_written}
 
 -- the settings page of a plain state comes whole
-settings_whole : (t : Translation) (p : Plain) (body page : List ℕ) → IsPlain p → length page ≡ 4096 →
+pub settings_whole : (t : Translation) (p : Plain) (body page : List ℕ) → IsPlain p → length page ≡ 4096 →
     all_contents t.ledger settings_key ≡ content p settings_key → page ≡ body →
     with_part 0 page (all_contents t.ledger settings_key) ≡ body
 settings_whole t p body page plain long old is =

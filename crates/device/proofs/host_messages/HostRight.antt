@@ -1,10 +1,9 @@
 -- What a host's bytes are answered.
-use Rattle.std.proofs.Common.{◌≡◌, ◌==◌, ℕ, List, [], ◌∷◌, None, Some, refl, sym, ap, subst}
+use Rattle.std.proofs.Common.{◌≡◌, ℕ, List, None, Some, refl, sym, ap, subst}
 use Rattle.std.specs.Prelude.{OnErr, OnOk, Result, Err}
 use Rattle.ufs_spec.specs.Machine as machine
 use Rattle.ufs_spec.specs.Machine.{Faulty, Host, IsHeard, OfHost, cdb_of, heard, message_fault}
-use Rattle.ufs_spec.specs.Exchanges.{short_reply}
-use Rattle.ufs_spec.specs.Messages.{IsQueryFunction, Spells, host_fault_of}
+use Rattle.ufs_spec.specs.Messages.{Spells, host_fault_of}
 use Rattle.ufs_spec.specs.Refusals.{State}
 use Rattle.ufs_spec.specs.declared.faults.HostFault.{HostFault}
 use Rattle.ufs_spec.specs.declared.faults.HostFault.TheVariants.{Code}
@@ -12,12 +11,11 @@ use Rattle.arrayvec.specs.ArrayVec.{ArrayVec}
 use Rattle.ufs_spec.specs.declared.messages.Asked.{Asked}
 use Rattle.ufs_spec.specs.declared.messages.Message.{Message}
 use Rattle.ufs_spec.specs.declared.messages.Message.TheVariants as message
-use Rattle.upiu.proofs.HostFault.{of_each}
 use Rattle.task_set.specs.declared.tasks.ShortReply.TheVariants as reply
 use Rattle.device.specs.Describes.{Describes, IsHeardAs}
 use Rattle.device.specs.Hears.{short_answer, with_short}
 use Rattle.device.specs.Kept.{DeviceCore}
-use Rattle.device.specs.Replies.{function_of, not_queried}
+use Rattle.device.specs.Queries.{at_once}
 use Rattle.device.proofs.described.Answered.{answered, stays}
 use Rattle.device.proofs.host_messages.ShortsOpened.{short_heard, spelled_heard}
 
@@ -30,38 +28,22 @@ faults_right d s bytes fault h heard = record {
   answered = answered d d s (Host (Faulty fault)) (OfHost (Err fault)) h (bytes, heard) refl (stays d s h);
 }
 
--- a query that is taken is a standard read or a standard write
-function_is : (function : ℕ) → IsQueryFunction function → function_of (function == 0x81) ≡ function
-function_is function among =
-    of_each (λ (n : ℕ). function_of (n == 0x81) ≡ n) (0x01 ∷ 0x81 ∷ []) function (refl, (refl, tt)) among
-
 -- messages that open a short exchange
 module _ (d e : DeviceCore) (s : State) (bytes : List ℕ) (answer : Result Unit HostFault) (h : Describes d s)
     (none : host_fault_of bytes ≡ None) (refused : OnErr answer (e ≡ d)) where
   pub nop_right : (tag : ℕ) → Spells (message.NopOut tag) bytes → answer ≡ short_answer d tag →
-      OnOk answer (e ≡ with_short d (record { tag = tag; reply = reply.NopIn })) → IsHeardAs s bytes answer e
+      OnOk answer (e ≡ with_short d (at_once tag reply.NopIn)) → IsHeardAs s bytes answer e
   nop_right tag spells told taken =
-      short_heard d e s bytes (message.NopOut tag) None (record { tag = tag; reply = reply.NopIn }) answer h spells none
-      refl refl refl told refused taken
+      short_heard d e s bytes (message.NopOut tag) None tag reply.NopIn answer h spells none refl refl refl told refused
+      taken
 
   -- no tasks are managed, so that nothing is aborted
   pub managing_right : (lun tag function meant : ℕ) → Spells (message.TaskRequest lun tag function meant) bytes →
       answer ≡ short_answer d tag →
-      OnOk answer (e ≡ with_short d (record { tag = tag; reply = reply.NotManaged lun })) → IsHeardAs s bytes answer e
+      OnOk answer (e ≡ with_short d (at_once tag (reply.NotManaged lun))) → IsHeardAs s bytes answer e
   managing_right lun tag function meant spells told taken =
-      short_heard d e s bytes (message.TaskRequest lun tag function meant) None
-      (record { tag = tag; reply = reply.NotManaged lun }) answer h spells none refl refl refl told refused taken
-
-  pub query_right : (tag function : ℕ) (asked : Asked) (size value : ℕ) («data» : ArrayVec ℕ) →
-      Spells (message.QueryRequest tag function asked size value «data») bytes → answer ≡ short_answer d tag →
-      OnOk answer (e ≡ with_short d (record { tag = tag; reply = reply.NotQueried (function == 0x81) asked })) →
-      IsHeardAs s bytes answer e
-  query_right tag function asked size value «data» spells told taken =
-      short_heard d e s bytes (message.QueryRequest tag function asked size value «data») None
-      (record { tag = tag; reply = reply.NotQueried (function == 0x81) asked }) answer h spells none refl refl
-      (ap (λ (n : ℕ). machine.with_short s (short_reply tag (not_queried tag n asked)))
-      (sym (function_is function spells.0.1)))
-      told refused taken
+      short_heard d e s bytes (message.TaskRequest lun tag function meant) None tag (reply.NotManaged lun) answer h
+      spells none refl refl refl told refused taken
 
 -- a kind of message that a device sends has a wrong transaction code
 abbrev IsOfDevice : State → Message → Type 0

@@ -13,7 +13,6 @@ use Rattle.ufs_spec.specs.declared.flash.Key.{Key}
 use Rattle.ftl_core.specs.Public.{AreClaimed, AreClaimedBy, Claims, Core, Describes, IsGroupBrought, IsItemBrought}
 use Rattle.ftl_core.specs.Public.{with_claimed}
 use Rattle.ftl_core.specs.declared.books.Brought.{Brought}
-use Rattle.device.specs.Calls.{frame_slots}
 use Rattle.device.specs.Groups.{HasPut, IsBrought, area_item, laid_item, room_from, settings_item, write_group}
 use Rattle.std.proofs.lemmas.Option.{same_Some}
 
@@ -72,8 +71,8 @@ pub has_put : (before after : Core) (tag : ℕ) (group : Translation → Group) 
 has_put before after tag group number xs numbered described claimed brought = record {
   number_is = numbered;
   layer =
-      λ t claims its slots allowed. (
-        described t (group t) frame_slots its.0 (subst (AreClaimedBy before tag) slots (its.1 tag)) (brought t) allowed,
+      λ t claims n its slots allowed. (
+        described t (group t) n its.0 (subst (AreClaimedBy before tag) slots (its.1 tag)) (brought t) allowed,
         claimed claims its.1,
       );
 }

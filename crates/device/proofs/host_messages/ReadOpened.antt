@@ -24,7 +24,8 @@ use Rattle.task_set.specs.declared.tasks.Sending.{Sending as Sends}
 use Rattle.task_set.specs.Kept.{newly_open}
 use Rattle.task_set.specs.declared.frames.Frames.{Frames}
 use Rattle.task_set.specs.declared.frames.Frames.TheVariants as frames
-use Rattle.device.specs.Describes.{Describes, HaveAnswered, IsTold, claims_of, is_lost, read_by, read_of, wanted_in}
+use Rattle.device.specs.Describes.{Describes, HaveAnswered, IsShortTold, IsTold, claims_of, is_lost, read_by, read_of}
+use Rattle.device.specs.Describes.{wanted_in}
 use Rattle.device.specs.Describes.{wanted_kept}
 use Rattle.device.specs.Hears.{with_task}
 use Rattle.device.specs.Kept.{DeviceCore}
@@ -49,36 +50,36 @@ block_now s unit address i = record { body = block_at unit (address + i) (plain_
 abbrev pub sending_now : ℕ → ℕ → ℕ → Sends
 sending_now blocks sent n = record { blocks = blocks; sent = sent; length = n }
 
--- the state with the task of a READ of n bytes, of which m blocks are sent
-abbrev pub reading_at : State → Request → Cdb → (n address m : ℕ) → State
-reading_at s r command n address m =
-    machine.with_task (with_moves s (keeps s r.tag r.lun address m)) r (Some command) n
-    (Sending (read_blocks s r.lun address m) 0)
+-- the state with the task of a READ of n bytes of this unit, of which m blocks are sent
+abbrev pub reading_at : State → Request → Cdb → (n unit address m : ℕ) → State
+reading_at s r command n unit address m =
+    machine.with_task (with_moves s (keeps s r.tag unit address m)) r (Some command) n
+    (Sending (read_blocks s unit address m) 0)
 
 module _ (d : DeviceCore) (s : State) (r : Request) (h : Describes d s) (free : task_of r.tag s.tasks ≡ None)
     (few : length s.tasks < most_tasks) (after : Core) where
-  pub read_opened : (command : Cdb) (n address m : ℕ) → sends_frames (Some command) ≡ false → 1 ≤ m →
+  pub read_opened : (command : Cdb) (n unit address m : ℕ) → sends_frames (Some command) ≡ false → 1 ≤ m →
       m ≤ greatest_command → m ≡ div_ceil (min r.expected n) 4096 →
-      layer_kept.Describes after (fold moved s.translation (keeps s r.tag r.lun address m)) →
+      layer_kept.Describes after (fold moved s.translation (keeps s r.tag unit address m)) →
       AreClaimed after (claims_of s.tasks) →
-      IsBehind (core_opened d r after (phase.SendBlocks (sending_now m 0 n))) (reading_at s r command n address m)
-  read_opened command n address m sends some most all layer claims = record {
+      IsBehind (core_opened d r after (phase.SendBlocks (sending_now m 0 n))) (reading_at s r command n unit address m)
+  read_opened command n unit address m sends some most all layer claims = record {
     keeps =
-        open_keeps d s r h free few after (fold moved s.translation (keeps s r.tag r.lun address m)) (Some command) n
-        (Sending (read_blocks s r.lun address m) 0) _ layer
-        (ap (λ (t : Translation). before_accepted t.ledger) are)
+        open_keeps d s r h free few after (fold moved s.translation (keeps s r.tag unit address m)) (Some command) n
+        (Sending (read_blocks s unit address m) 0) _ layer
+        (ap (λ (t : Translation). t.numbers) are) (ap (λ (t : Translation). before_accepted t.ledger) are)
         (record {
           wanted =
               subst (λ (t : Translation). (i : ℕ) → wanted_kept t.pins r.tag i
-              ≡ wanted_in i None (Sending (read_blocks s r.lun address m) 0)) (sym are)
-              (own_wanted s.translation.pins r.tag m keeps_at (λ j. refl) (λ j. refl) none (block_now s r.lun address)
+              ≡ wanted_in i None (Sending (read_blocks s unit address m) 0)) (sym are)
+              (own_wanted s.translation.pins r.tag m keeps_at (λ j. refl) (λ j. refl) none (block_now s unit address)
               (λ j. refl) (λ j. refl));
           others_want =
               subst (λ (t : Translation). (n i : ℕ) → (n == r.tag) ≡ false → wanted_kept t.pins n i
               ≡ wanted_kept s.translation.pins n i) (sym are)
               (others_wanted s.translation.pins r.tag m keeps_at (λ j. refl) (λ j. refl) none);
         })
-        (still_claimed d s r h free few after (Sending (read_blocks s r.lun address m) 0) refl claims)
+        (still_claimed d s r h free few after (Sending (read_blocks s unit address m) 0) refl claims)
         (record {
           lun = refl;
           tag = refl;
@@ -88,7 +89,7 @@ module _ (d : DeviceCore) (s : State) (r : Request) (h : Describes d s) (free : 
           asks = tt;
           fits = refl;
           doing = record {
-            count = length-made (block_now s r.lun address) m;
+            count = length-made (block_now s unit address) m;
             sent_is = refl;
             more = some;
             total_is = refl;
@@ -97,39 +98,43 @@ module _ (d : DeviceCore) (s : State) (r : Request) (h : Describes d s) (free : 
             readable = λ block there. ap is_lost (state_now 0 block there);
             behind = λ i block later there. state_now i block there;
           };
-          read = sym (unread_first (slice_get (read_blocks s r.lun address m) 0)
+          read = sym (unread_first (slice_get (read_blocks s unit address m) 0)
               (λ block there. state_now 0 block there));
         }) (λ e. absurd (false≢true e));
     answered =
         subst
         (λ (t : Translation). HaveAnswered (machine.with_task (record s { translation = t }) r (Some command) n
-        (Sending (read_blocks s r.lun address m) 0))) (sym are)
+        (Sending (read_blocks s unit address m) 0))) (sym are)
         (open_answered d s r h free few
         (record s.translation { pins = s.translation.pins ++ map keeps_at (below m) }) (Some command) n
-        (Sending (read_blocks s r.lun address m) 0)
+        (Sending (read_blocks s unit address m) 0)
         (λ tag other index. ap (is_at_hand s.translation.work.rests)
         (others_found s.translation.pins r.tag m keeps_at (λ j. refl) (λ j. refl) none tag index other)) refl);
     told =
         subst
         (λ (t : Translation). locked (record s { translation = t }) ≡ true →
-        All (IsTold (durable (record s { translation = t }))) (reading_at s r command n address m).tasks) (sym are)
-        (open_told d s r h free few (Some command) n (Sending (read_blocks s r.lun address m) 0) (λ l. tt));
+        All (IsTold (durable (record s { translation = t }))) (reading_at s r command n unit address m).tasks) (sym are)
+        (open_told d s r h free few (Some command) n (Sending (read_blocks s unit address m) 0) (λ l. tt));
+    shorts_told =
+        subst
+        (λ (t : Translation). locked (record s { translation = t }) ≡ true →
+        All (IsShortTold (durable (record s { translation = t }))) s.shorts) (sym are) h.shorts_told;
   }
     where
       keeps_at : ℕ → Pin
-      keeps_at = kept_at s r.tag r.lun address
+      keeps_at = kept_at s r.tag unit address
 
       none : (i : ℕ) → wanted_kept s.translation.pins r.tag i ≡ None
       none = none_wanted d s r h free few
 
-      are : fold moved s.translation (keeps s r.tag r.lun address m)
+      are : fold moved s.translation (keeps s r.tag unit address m)
           ≡ record s.translation { pins = s.translation.pins ++ map keeps_at (below m) }
-      are = kept_are (λ i. data_key r.lun (address + i)) keeps_at (below m) s.translation
+      are = kept_are (λ i. data_key unit (address + i)) keeps_at (below m) s.translation
 
-      state_now : (i : ℕ) (block : ReadBlock) → slice_get (read_blocks s r.lun address m) i ≡ Some block →
+      state_now : (i : ℕ) (block : ReadBlock) → slice_get (read_blocks s unit address m) i ≡ Some block →
           block.state ≡ Unread
       state_now i block there =
-          ap (λ (x : ReadBlock). x.state) (made_is (block_now s r.lun address) m i block there)
+          ap (λ (x : ReadBlock). x.state) (made_is (block_now s unit address) m i block there)
 
       unread_first : (o : Option ReadBlock) → ((block : ReadBlock) → o ≡ Some block → block.state ≡ Unread) →
           read_of o ≡ None

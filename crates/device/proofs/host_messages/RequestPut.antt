@@ -96,7 +96,7 @@ module _ (before : DeviceCore) (m : Machine) (after : Core) (tag : ℕ) (frames 
         λ t claims p c its slots may.
         (let same = grouped t p c may in
         subst (λ (g : Group). IsLayerWith after (moved t (Accept frame_slots g)) (with_claimed claims tag [])) same
-        (put.layer t claims its slots
+        (put.layer t claims frame_slots its slots
         (subst (λ (g : Group). IsAllowedMove t (Accept frame_slots g)) (sym same) may.allowed)));
     registers = registers;
     region = region;

@@ -133,6 +133,7 @@ module _ {d : DeviceCore} {s : State} {tag : ℕ} {bytes : List ℕ} (c : AllCam
         registers = took.registers;
         layer_is = layer;
         none_claimed = refl;
+        numbers = refl;
         before = refl;
         wanted = not_wanted c;
         others_wanted = λ n other index. refl;

@@ -1,6 +1,6 @@
 -- The frames are a request that accepts nothing: one for data that passed its checks keeps its pages of the area, and
 -- any other is answered at once.
-use Rattle.std.proofs.Common.{◌≡◌, ◌∙◌, ℕ, ◌+◌, ◌-◌, ◌<◌, ◌==◌, ◌++◌, Bool, true, false, List, [], cond}
+use Rattle.std.proofs.Common.{◌≡◌, ◌∙◌, ℕ, ◌+◌, ◌<◌, ◌==◌, ◌++◌, Bool, true, false, List, [], cond}
 use Rattle.std.proofs.Common.{length, map, Some, None, refl, sym, ap, subst, arith}
 use Rattle.std.specs.Prelude.{fold, if◌then◌else◌}
 use Rattle.ufs_spec.proofs.Facts.{and_parts, eqb-true, true≢false}
@@ -104,6 +104,7 @@ module _ {d : DeviceCore} {s : State} {tag : ℕ} {bytes : List ℕ} (c : AllCam
         registers = ap (λ (m : Machine). m.registers) did.decided.1;
         layer_is = layer_is false none (λ reads. absurd (true≢false (sym reads ∙ none)));
         none_claimed = refl;
+        numbers = refl;
         before = refl;
         wanted = not_wanted c;
         others_wanted = λ n other index. refl;
@@ -191,6 +192,7 @@ module _ {d : DeviceCore} {s : State} {tag : ℕ} {bytes : List ℕ} (c : AllCam
           registers = ap (λ (m : Machine). m.registers) did.decided.1;
           layer_is = layer_is true reads (λ e. may_keep);
           none_claimed = refl;
+          numbers = ap (λ (t : Translation). t.numbers) kept_is;
           before = ap (λ (t : Translation). before_accepted t.ledger) kept_is;
           wanted =
               λ index. ap (λ (t : Translation). wanted_kept t.pins c.stands.b.tag index) kept_is

@@ -1,26 +1,33 @@
 -- A message that opens a short exchange is answered as the definitions say.
-use Rattle.std.proofs.Common.{◌≡◌, ◌∙◌, ℕ, true, List, [], ◌∷◌, ◌++◌, Option, None, map, refl, sym, ap, subst}
+use Rattle.std.proofs.Common.{◌≡◌, ◌∙◌, ℕ, true, List, Option, None, refl, sym, ap, subst}
 use Rattle.std.specs.Prelude.{OnErr, OnOk, Result, Ok, Err}
-use Rattle.ufs_spec.specs.Exchanges.{Short}
+use Rattle.ufs_spec.specs.Exchanges.{Short, short_reply}
 use Rattle.ufs_spec.specs.Machine as machine
-use Rattle.ufs_spec.specs.Machine.{Host, IsCdbIn, OfHost, Spelled, cdb_of, heard, message_fault, opening_fault}
+use Rattle.ufs_spec.specs.Ledger.{before_accepted}
+use Rattle.ufs_spec.specs.Machine.{Host, IsCdbIn, OfHost, Spelled, cdb_of, durable, heard, message_fault, opening_fault}
 use Rattle.ufs_spec.specs.Machine.{result_of}
 use Rattle.ufs_spec.specs.Messages.{Spells, host_fault_of}
-use Rattle.ufs_spec.specs.Refusals.{State}
+use Rattle.ufs_spec.specs.Refusals.{State, numbers_of}
 use Rattle.ufs_spec.specs.declared.faults.HostFault.{HostFault}
 use Rattle.ufs_spec.specs.declared.messages.Message.{Message}
 use Rattle.ufs_spec.specs.declared.scsi.Cdb.{Cdb}
 use Rattle.task_set.specs.declared.tasks.Short as kept
-use Rattle.device.specs.Describes.{Describes, IsHeardAs, short_kept}
+use Rattle.task_set.specs.declared.tasks.ShortReply.{ShortReply}
+use Rattle.device.specs.Describes.{Describes, IsHeardAs, IsShortTold, ShortKept}
 use Rattle.device.specs.Hears.{short_answer, with_short}
 use Rattle.device.specs.Kept.{DeviceCore}
+use Rattle.device.specs.Queries.{at_once}
+use Rattle.device.specs.Replies.{short_said}
 use Rattle.device.proofs.described.Answered.{IsBehind, answered_as, stays}
+use Rattle.device.proofs.described.ShortExchanges.{kept_at_once, one_more_told, one_short_more}
 use Rattle.device.proofs.host_messages.CommandTags.{short_fault}
 
--- what is kept with one short exchange more is kept of the state with one more
-pub short_more : (d : DeviceCore) (s : State) (r : kept.Short) → Describes d s →
-    IsBehind (with_short d r) (machine.with_short s (short_kept r))
-short_more d s r h = record {
+-- what is kept with one short exchange more is kept of the state with one more, where it waits for nothing that a lock
+-- ends
+pub short_more : (d : DeviceCore) (s : State) (r : kept.Short) (b : Short) → Describes d s →
+    ShortKept (numbers_of s) (before_accepted s.translation.ledger) r b → IsShortTold (durable s) b →
+    IsBehind (with_short d r) (machine.with_short s b)
+short_more d s r b h kept told = record {
   keeps = record {
     boot = h.kept.boot;
     permanent = h.kept.permanent;
@@ -32,16 +39,22 @@ short_more d s r h = record {
     one_sends = h.kept.one_sends;
     wanted = h.kept.wanted;
     claims = h.kept.claims;
-    shorts = ap (λ (xs : List Short). xs ++ short_kept r ∷ []) h.kept.shorts ∙ one_more d.shorts;
-    power_off = h.kept.power_off;
+    shorts = one_short_more (numbers_of s) (before_accepted s.translation.ledger) d.shorts s.shorts r b h.kept.shorts
+        kept;
+    power_on = h.kept.power_on;
   };
   answered = h.answered;
   told = h.told;
+  shorts_told = λ lock. one_more_told (durable s) s.shorts b told (h.shorts_told lock);
 }
-  where
-    one_more : (rs : List kept.Short) → map short_kept rs ++ short_kept r ∷ [] ≡ map short_kept (rs ++ r ∷ [])
-    one_more [] = refl
-    one_more (x ∷ xs) = ap (λ (ys : List Short). short_kept x ∷ ys) (one_more xs)
+
+-- so it is of one whose reply is due at once
+pub once_more : (d : DeviceCore) (s : State) (tag : ℕ) (said : ShortReply) → Describes d s →
+    IsBehind (with_short d (at_once tag said))
+    (machine.with_short s (short_reply tag (short_said (numbers_of s) tag said)))
+once_more d s tag said h =
+    short_more d s (at_once tag said) (short_reply tag (short_said (numbers_of s) tag said)) h
+    (kept_at_once (numbers_of s) (before_accepted s.translation.ledger) tag said) tt
 
 -- a message is heard with this answer, whatever the device keeps then
 pub spelled_heard : (d e : DeviceCore) (s v : State) (bytes : List ℕ) (m : Message) (c : Option Cdb)
@@ -54,20 +67,24 @@ spelled_heard d e s v bytes m c answer h spells none cdb right is behind = recor
   answered = answered_as d e s v (Host (Spelled m c)) (OfHost answer) h (bytes, (spells, none, cdb)) right is behind;
 }
 
--- the message opens a short exchange, if its tag is free and there is room
-pub short_heard : (d e : DeviceCore) (s : State) (bytes : List ℕ) (m : Message) (c : Option Cdb) (r : kept.Short)
-    (answer : Result Unit HostFault) → Describes d s → Spells m bytes → host_fault_of bytes ≡ None →
-    IsCdbIn (cdb_of m) c → message_fault s m ≡ opening_fault s r.tag true →
-    heard s m c ≡ machine.with_short s (short_kept r) → answer ≡ short_answer d r.tag → OnErr answer (e ≡ d) →
-    OnOk answer (e ≡ with_short d r) → IsHeardAs s bytes answer e
-short_heard d e s bytes m c r answer h spells none cdb fault opens told refused taken =
-    by answer (told ∙ sym (ap result_of fault ∙ short_fault d s r.tag h)) refused taken
+-- the message opens a short exchange whose reply is due at once, if its tag is free and there is room
+pub short_heard : (d e : DeviceCore) (s : State) (bytes : List ℕ) (m : Message) (c : Option Cdb) (tag : ℕ)
+    (said : ShortReply) (answer : Result Unit HostFault) → Describes d s → Spells m bytes →
+    host_fault_of bytes ≡ None → IsCdbIn (cdb_of m) c → message_fault s m ≡ opening_fault s tag true →
+    heard s m c ≡ machine.with_short s (short_reply tag (short_said (numbers_of s) tag said)) →
+    answer ≡ short_answer d tag → OnErr answer (e ≡ d) → OnOk answer (e ≡ with_short d (at_once tag said)) →
+    IsHeardAs s bytes answer e
+short_heard d e s bytes m c tag said answer h spells none cdb fault opens told refused taken =
+    by answer (told ∙ sym (ap result_of fault ∙ short_fault d s tag h)) refused taken
   where
+    opened : State
+    opened = machine.with_short s (short_reply tag (short_said (numbers_of s) tag said))
+
     by : (x : Result Unit HostFault) → x ≡ result_of (message_fault s m) → OnErr x (e ≡ d) →
-        OnOk x (e ≡ with_short d r) → IsHeardAs s bytes x e
+        OnOk x (e ≡ with_short d (at_once tag said)) → IsHeardAs s bytes x e
     by (Ok done) right stayed more =
-        spelled_heard d e s (machine.with_short s (short_kept r)) bytes m c (Ok done) h spells none cdb right opens
-        (subst (λ (x : DeviceCore). IsBehind x (machine.with_short s (short_kept r))) (sym more) (short_more d s r h))
+        spelled_heard d e s opened bytes m c (Ok done) h spells none cdb right opens
+        (subst (λ (x : DeviceCore). IsBehind x opened) (sym more) (once_more d s tag said h))
     by (Err f) right stayed more =
         spelled_heard d e s s bytes m c (Err f) h spells none cdb right refl
         (subst (λ (x : DeviceCore). IsBehind x s) (sym stayed) (stays d s h))

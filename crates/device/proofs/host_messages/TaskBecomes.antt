@@ -8,7 +8,7 @@ use Rattle.ufs_spec.specs.Exchanges as exchange
 use Rattle.ufs_spec.specs.Exchanges.{Registers, most_tasks, task_of}
 use Rattle.ufs_spec.specs.Ledger.{before_accepted}
 use Rattle.ufs_spec.specs.Plain.{after, region_of}
-use Rattle.ufs_spec.specs.Refusals.{State, plain_now}
+use Rattle.ufs_spec.specs.Refusals.{State, numbers_of, plain_now}
 use Rattle.ufs_spec.specs.Translation.{Translation}
 use Rattle.power_loss.proofs.open_tasks.TaskLists.{found_task}
 use Rattle.ftl_core.specs.Public.{AreClaimed, Core, with_claimed}
@@ -18,6 +18,7 @@ use Rattle.task_set.specs.Tasks.{is_sender}
 use Rattle.device.specs.Describes.{Describes, Keeps, TaskKept, TasksKept, claimed_in, claims_of, wanted_by, wanted_kept}
 use Rattle.device.specs.Kept.{DeviceCore, IsLayerWith}
 use Rattle.device.proofs.described.OneSender.{one_set}
+use Rattle.device.proofs.described.ShortExchanges.{same_shorts}
 use Rattle.device.proofs.open_tasks.KeptByTag.{claims_changed, one_changes}
 use Rattle.device.proofs.open_tasks.OpenTasks.{IsOpen, one_goes_over}
 use Rattle.device.proofs.open_tasks.ReadProgress.{ChangesOne}
@@ -40,6 +41,7 @@ pub record Becomes (s : State) (a new : OpenTask) (b : exchange.Task) (f : excha
   pub region : IsKept m.region (region_of (after s.base cs) 0)
   pub registers_are : registers 0 ≡ m.registers
   pub layer_is : IsLayerWith layer u (with_claimed (claims_of s.tasks) b.tag (claimed_in (f b).deed))
+  pub numbers : u.numbers ≡ s.translation.numbers
   pub before : before_accepted u.ledger ≡ before_accepted s.translation.ledger
   pub task : TaskKept (before_accepted s.translation.ledger) new (f b)
   pub sends : is_sender new ≡ is_sender a
@@ -66,8 +68,9 @@ becomes_kept d s k a new b f layer m u cs registers h o x = record {
   wanted =
       one_changes s.translation.pins u.pins s.tasks f b.tag b h.kept.wanted x.changes found x.wanted x.others_wanted;
   claims = subst (AreClaimed layer) (sym (claims_changed s.tasks f b.tag b x.changes found)) x.layer_is.1;
-  shorts = h.kept.shorts;
-  power_off = h.kept.power_off;
+  shorts = same_shorts (numbers_of s) u.numbers (before_accepted s.translation.ledger) (before_accepted u.ledger)
+      d.shorts s.shorts x.numbers x.before h.kept.shorts;
+  power_on = h.kept.power_on;
 }
   where
     found : task_of b.tag s.tasks ≡ Some b

@@ -1,7 +1,7 @@
 -- A COMMAND begins a task that answers at once, sends data that are known, or waits for all that was accepted.
 use Rattle.std.proofs.Common.{◌≡◌, ℕ, ◌+◌, ◌<◌, Bool, true, false, List, Option, Some, None, length}
-use Rattle.std.proofs.Common.{refl, sym, subst, arith}
-use Rattle.std.specs.Prelude.{◌==◌, if◌then◌else◌, min, nat_le, Result, Ok}
+use Rattle.std.proofs.Common.{◌∙◌, refl, sym, ap, subst, arith}
+use Rattle.std.specs.Prelude.{◌==◌, if◌then◌else◌, min, nat_le, Result, Ok, Err}
 use Rattle.std.specs.List.{list_any}
 use Rattle.ufs_spec.proofs.Facts.{false≢true}
 use Rattle.ufs_spec.specs.Exchanges.{Answering, Awaiting, Good, SendingBytes, Status, most_tasks, task_of}
@@ -9,7 +9,10 @@ use Rattle.ufs_spec.specs.Ledger.{before_accepted}
 use Rattle.ufs_spec.specs.Machine.{data_begun, durable, flush_begun}
 use Rattle.ufs_spec.specs.Machine as machine
 use Rattle.ufs_spec.specs.Refusals.{Request, State, locked, sends_frames}
+use Rattle.ufs_spec.specs.Translation.{Translation}
+use Rattle.ufs_spec.specs.declared.configs.Numbers.{Numbers}
 use Rattle.ufs_spec.specs.declared.scsi.Cdb.{Cdb}
+use Rattle.ftl_core.specs.Public as layer_kept
 use Rattle.ftl_core.specs.Public.{Core}
 use Rattle.task_set.specs.declared.tasks.Phase.{Phase}
 use Rattle.task_set.specs.declared.tasks.Phase.TheVariants as phase
@@ -23,7 +26,7 @@ use Rattle.device.specs.declared.plans.Plan.{Plan}
 use Rattle.device.specs.declared.plans.Plan.TheVariants as plan
 use Rattle.device.specs.Calls.{HasBegun, last_number}
 use Rattle.device.specs.Describes.{Describes, claims_of}
-use Rattle.device.specs.Frames.{frames_brought, frames_taken}
+use Rattle.device.specs.Frames.{frames_brought, sent_kept}
 use Rattle.device.specs.Kept.{DeviceCore, IsLayerWith}
 use Rattle.device.specs.Plans.{data_plan}
 use Rattle.device.specs.Replies.{data_bytes}
@@ -37,9 +40,29 @@ use Rattle.device.proofs.open_tasks.TaskOpened.{opens_still}
 abbrev pub HasBegunFor : State → Request → Core → Result Plan kept_status.Status → Phase → Type 0
 HasBegunFor s r after todo p = HasBegun after s.translation (claims_of s.tasks) r.tag todo p
 
--- the device once this was planned and its task is so far
+-- the device once this was planned and its task is so far, which keeps what it sends
 abbrev pub opened_for : DeviceCore → Request → Core → Result Plan kept_status.Status → Phase → DeviceCore
-opened_for d r after todo p = frames_taken (core_with d r after p (frames_brought todo)) todo
+opened_for d r after todo p = sent_kept d.ftl.numbers (core_with d r after p (frames_brought todo)) todo
+
+-- the device that was opened is that one: the layer has the configuration of which a task tells, before and after
+pub opened_as : (d : DeviceCore) (s : State) (r : Request) → Describes d s → (e : DeviceCore) (after : Core)
+    (todo : Result Plan kept_status.Status) (p : Phase) (u : Translation) → HasBegunFor s r after todo p →
+    layer_kept.Describes (opened_for d r after todo p).ftl u →
+    ((t : Translation) → layer_kept.Describes after t →
+    e ≡ sent_kept t.numbers (core_with d r after p (frames_brought todo)) todo) →
+    e ≡ opened_for d r after todo p
+opened_as d s r h e after (Ok (plan.Tell told size taken)) p u begun layer more =
+    more s.translation begun.1.0
+    ∙ ap (λ (n : Numbers). sent_kept n (core_with d r after p frames.NotBrought) (Ok (plan.Tell told size taken)))
+    (sym h.kept.layer_kept.kept.numbers)
+opened_as d s r h e after (Ok (plan.TakeFrames size taken)) p u begun layer more = more u layer
+opened_as d s r h e after (Ok (plan.Nothing n)) p u begun layer more = more u layer
+opened_as d s r h e after (Ok (plan.Read key blocks size)) p u begun layer more = more u layer
+opened_as d s r h e after (Ok (plan.Write key blocks forced)) p u begun layer more = more u layer
+opened_as d s r h e after (Ok (plan.Send x)) p u begun layer more = more u layer
+opened_as d s r h e after (Ok plan.Flush) p u begun layer more = more u layer
+opened_as d s r h e after (Ok (plan.AskFrames size)) p u begun layer more = more u layer
+opened_as d s r h e after (Err told) p u begun layer more = more u layer
 
 pub same_phase : (d : DeviceCore) (r : Request) (after : Core) (p q : Phase) (v : State) → p ≡ q →
     IsBehind (core_opened d r after q) v → IsBehind (core_opened d r after p) v

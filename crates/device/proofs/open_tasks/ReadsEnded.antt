@@ -129,7 +129,7 @@ read_sends_in index body a (phase.AwaitFrames size) = refl
 read_sends_in index body a (phase.AwaitFrontier n size) = refl
 read_sends_in index body a (phase.SendBlocks x) = refl
 read_sends_in index body a (phase.SendData x) = refl
-read_sends_in index body a (phase.SendFrames size) = refl
+read_sends_in index body a (phase.SendHeld size) = refl
 read_sends_in index body a (phase.Answer told n) = refl
 
 pub read_sends : (tag index : ℕ) (body : List ℕ) (a : OpenTask) → is_sender (after_read tag index body a) ≡ is_sender a

@@ -11,7 +11,7 @@ use Rattle.ufs_spec.specs.Exchanges.{Deed, task_of}
 use Rattle.ufs_spec.specs.Ledger.{before_accepted}
 use Rattle.ufs_spec.specs.Machine as machine
 use Rattle.ufs_spec.specs.Machine.{durable, is_to_fill}
-use Rattle.ufs_spec.specs.Refusals.{Request, State, locked}
+use Rattle.ufs_spec.specs.Refusals.{Request, State, locked, numbers_of}
 use Rattle.ufs_spec.specs.Exchanges.{most_tasks}
 use Rattle.ufs_spec.specs.Translation.{Pin, Translation}
 use Rattle.ufs_spec.specs.declared.scsi.Cdb.{Cdb}
@@ -27,6 +27,7 @@ use Rattle.device.specs.Kept.{DeviceCore, IsLayerWith}
 use Rattle.device.proofs.described.Answered.{IsBehind}
 use Rattle.device.proofs.open_tasks.KeptByTag.{WantedFor, claimed_same, claims_more, one_comes}
 use Rattle.device.proofs.described.OneSender.{one_more_sends}
+use Rattle.device.proofs.described.ShortExchanges.{same_shorts}
 use Rattle.device.proofs.described.Settled.{SameAtHand, none_stay, still_answered}
 use Rattle.device.proofs.open_tasks.OpenTasks.{one_more}
 
@@ -92,14 +93,14 @@ module _ (d : DeviceCore) (s : State) (r : Request) (h : Describes d s) (free : 
   sends_once a alone = one_more_sends d.tasks a alone h.kept.one_sends
 
   pub open_keeps : (c : Core) (u : Translation) (command : Option Cdb) (n : ℕ) (deed : Deed) (a : OpenTask) →
-      layer_kept.Describes c u →
+      layer_kept.Describes c u → u.numbers ≡ s.translation.numbers →
       before_accepted u.ledger ≡ before_accepted s.translation.ledger →
       TagBegins s.translation.pins r.tag deed u.pins →
       AreClaimed c (with_claimed (claims_of s.tasks) r.tag (claimed_in deed)) →
       TaskKept (before_accepted s.translation.ledger) a (opened r command n deed) →
       (is_sender a ≡ true → list_any is_sender d.tasks ≡ false) →
       Keeps (with_task (record d { ftl = c }) a) (machine.with_task (record s { translation = u }) r command n deed)
-  open_keeps c u command n deed a layer before begins claims task alone = record {
+  open_keeps c u command n deed a layer numbers before begins claims task alone = record {
     boot = h.kept.boot;
     permanent = h.kept.permanent;
     region = h.kept.region;
@@ -113,8 +114,9 @@ module _ (d : DeviceCore) (s : State) (r : Request) (h : Describes d s) (free : 
         one_comes s.translation.pins u.pins s.tasks b h.kept.wanted free begins.wanted
         (λ tag other index. begins.others_want tag index other);
     claims = subst (AreClaimed c) (sym (claims_more s.tasks b free)) claims;
-    shorts = h.kept.shorts;
-    power_off = h.kept.power_off;
+    shorts = same_shorts (numbers_of s) u.numbers (before_accepted s.translation.ledger) (before_accepted u.ledger)
+        d.shorts s.shorts numbers before h.kept.shorts;
+    power_on = h.kept.power_on;
   }
     where
       b : exchange.Task
@@ -147,7 +149,7 @@ module _ (d : DeviceCore) (s : State) (r : Request) (h : Describes d s) (free : 
       IsBehind (with_task (record d { ftl = c }) a) (machine.with_task s r command n deed)
   opens_still c command n deed a layer none new task alone = record {
     keeps =
-        open_keeps c s.translation command n deed a layer.0 refl
+        open_keeps c s.translation command n deed a layer.0 refl refl
         (record {
           wanted = λ index. none_wanted index ∙ sym (none.wanted index);
           others_want = λ m index other. refl;
@@ -155,4 +157,5 @@ module _ (d : DeviceCore) (s : State) (r : Request) (h : Describes d s) (free : 
         (still_claimed c deed none.claimed layer.1) task alone;
     answered = open_answered s.translation command n deed (λ tag other index. refl) refl;
     told = open_told command n deed new;
+    shorts_told = h.shorts_told;
   }

@@ -1,6 +1,6 @@
 -- What the smaller calls tell.
 use Rattle.std.proofs.Common.{◌≡◌, ℕ, ◌+◌, Bool, length, ap, arith}
-use Rattle.std.specs.Prelude.{◌-◌, ◌||◌, nat_lt, count_by, not, slice_get}
+use Rattle.std.specs.Prelude.{◌-◌, ◌||◌, nat_lt, count_by, not}
 use Rattle.std.proofs.lemmas.Bool.Decides.{nat_tests}
 use Rattle.ufs_spec.specs.Pages.{greatest_number}
 use Rattle.ufs_spec.specs.Disk.{Spot}
@@ -34,8 +34,7 @@ pending_right c t h = ap (nat_lt 0) (kept_length c t h)
 
 -- How far the mending is
 
--- The units
+-- The configuration
 
-pub units_right : (c : Core) (t : Translation) (unit : ℕ) → Describes c t →
-    slice_get c.numbers.units.items unit ≡ slice_get t.numbers.units.items unit
-units_right c t unit h i = slice_get (h.kept.numbers i).units.items unit
+pub numbers_kept : (c : Core) (t : Translation) → Describes c t → c.numbers ≡ t.numbers
+numbers_kept c t h = h.kept.numbers

@@ -1,5 +1,5 @@
 -- No more than one of the tasks brings frames, where one is opened, goes or changes.
-use Rattle.power_loss.proofs.Common.{◌≡◌, ℕ, Bool, true, false, cond, not, List, [], ◌∷◌, ◌++◌, Some, map, sym, ap}
+use Rattle.power_loss.proofs.Common.{◌≡◌, ℕ, Bool, true, false, cond, List, [], ◌∷◌, ◌++◌, Some, map, sym, ap}
 use Rattle.power_loss.proofs.Common.{◌∙◌, refl, subst, filter, list_any, false≢true, none-some, same_Some}
 use Rattle.power_loss.proofs.Common.{AllByRecursion, or_left, or_parts, or_right}
 use Rattle.power_loss.proofs.MachineWords.{Task, is_task_of, task_of}

@@ -10,8 +10,6 @@ use Rattle.power_loss.proofs.MachineWords.{needs_mended, not_taken, numbers_of, 
 use Rattle.power_loss.proofs.MachineWords.{takes, unit_in, unit_of_request, UnitSpec, Cdb}
 use Rattle.std.specs.Prelude.{if◌then◌else◌}
 use Rattle.ufs_spec.specs.Cdbs.{unmap, write_10, write_6}
-use Rattle.ufs_spec.specs.Messages.{is_among}
-use Rattle.ufs_spec.specs.Stages.{taken_luns}
 use Rattle.ufs_spec.specs.Refusals.{has_wrong_list, is_crowded, is_too_long}
 use Rattle.ufs_spec.specs.Refusals.{unit_numbers_of, well_known}
 
@@ -73,14 +71,13 @@ well_known_none byte unit h = by (byte == 0x81) (byte == 0xB0) (byte == 0xC4) (b
 
 pub lun_told : (n : Numbers) {byte unit : ℕ} → lun_of n byte ≡ Some (UnitOf unit) →
     (byte < length n.units.items) × (unit ≡ byte)
-lun_told n {byte} {unit} h = by (nat_lt byte (length n.units.items)) (is_among taken_luns byte) refl h
+lun_told n {byte} {unit} h = by (nat_lt byte (length n.units.items)) refl h
   where
-    by : (b c : Bool) → nat_lt byte (length n.units.items) ≡ b →
-        (if b then Some (UnitOf byte) else if c then well_known byte else None) ≡ Some (UnitOf unit) →
+    by : (b : Bool) → nat_lt byte (length n.units.items) ≡ b →
+        (if b then Some (UnitOf byte) else well_known byte) ≡ Some (UnitOf unit) →
         (byte < length n.units.items) × (unit ≡ byte)
-    by true c e k = (ltb-true byte (length n.units.items) e, cc)
-    by false true e k = absurd (well_known_none byte unit k)
-    by false false e k = cc
+    by true e k = (ltb-true byte (length n.units.items) e, cc)
+    by false e k = absurd (well_known_none byte unit k)
 
 -- ordinary units alone are written by WRITE and UNMAP
 abbrev pub TakenByUnits : ℕ → Type 0

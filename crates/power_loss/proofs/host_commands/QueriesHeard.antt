@@ -11,10 +11,9 @@ use Rattle.std.proofs.lemmas.List.{map-id}
 use Rattle.ufs_spec.specs.Commands.{SetBoot, SetPermanent}
 use Rattle.ufs_spec.specs.Keys.{keys}
 use Rattle.ufs_spec.specs.Queries.{Query, QueryLine, first_code, has_wrong_index, has_wrong_idn, has_wrong_opcode}
-use Rattle.ufs_spec.specs.Queries.{has_wrong_size, has_wrong_value, is_not_writable, is_shut, query_code, query_line}
+use Rattle.ufs_spec.specs.Queries.{has_wrong_size, has_wrong_value, is_not_writable, is_shut, query_line}
 use Rattle.ufs_spec.specs.Queries.{setting_of, sets_permanent, sets_power_on}
 use Rattle.ufs_spec.specs.QueryAnswers.{may_set, query_done, query_failed, query_heard, query_passed, setting_accepted}
-use Rattle.ufs_spec.specs.Stages.{answers_queries}
 use Rattle.ufs_laws.proofs.walk.Happenings.{code_of_query}
 use Rattle.ufs_laws.proofs.walk.SmallChanges.{Accepts, Both, One, SetsPowerOn, same_task}
 use Rattle.power_loss.proofs.calls.RightChanges.{Right, right_keeps, right_move}
@@ -30,11 +29,6 @@ line_passed : (b : Bool) (code rest : ℕ) → (code == 0) ≡ false → ((if b 
 line_passed true code rest other e = absurd (true≢false (sym e ∙ other))
 line_passed false code rest other e = (refl, e)
 
--- the queries that are answered by their table, or by FEh
-by_table : (b : Bool) (code : ℕ) → ((if b then code else 0xFE) == 0) ≡ true → (code == 0) ≡ true
-by_table true code e = e
-by_table false code e = absurd (false≢true e)
-
 -- what the table lets through: a value in its range, and a setting only while one may come
 record IsLetThrough (s : State) (q : Query) : Type 0 where
   value : has_wrong_value q ≡ false
@@ -45,8 +39,7 @@ let_through : (s : State) (q : Query) → (code_of_query s q == 0x00) ≡ true �
 let_through s q code some =
     let n = numbers_of s in
     let p = plain_now s in
-    let all = by_table answers_queries (query_code n p (may_set s) q) code in
-    let one = line_passed (has_wrong_opcode q) 0xFE _ refl all in
+    let one = line_passed (has_wrong_opcode q) 0xFE _ refl code in
     let two : (first_code (lines s q) == 0) ≡ true =
     sym (ap (λ (x : ℕ). x == 0) (cond-false (q.asked.opcode == 0) 0x00 (first_code (lines s q)) some)) ∙ one.1 in
     let three = line_passed (has_wrong_idn q) 0xFD _ refl two in

@@ -14,10 +14,9 @@ use Rattle.ufs_spec.specs.Keys.{flag_byte}
 use Rattle.ufs_spec.specs.Messages.{IsQueryFunction, is_among}
 use Rattle.ufs_spec.specs.Queries.{Query, QueryLine, boots, descriptor, descriptor_told, device_descriptor, first_code}
 use Rattle.ufs_spec.specs.Queries.{has_wrong_idn, has_wrong_index, has_wrong_opcode, has_wrong_size, has_wrong_value}
-use Rattle.ufs_spec.specs.Queries.{is_not_writable, is_shut, query_code, query_line, sets_permanent}
+use Rattle.ufs_spec.specs.Queries.{is_not_writable, is_shut, query_line, sets_permanent}
 use Rattle.ufs_spec.specs.Queries.{unit_descriptor, unit_descriptor_at, value_told}
 use Rattle.ufs_spec.specs.QueryAnswers.{may_set, query_done, query_failed}
-use Rattle.ufs_spec.specs.Stages.{answers_queries}
 use Rattle.ufs_spec.specs.declared.messages.Asked.{Asked}
 use Rattle.power_loss.proofs.Common.{◌<◌, ◌^◌, ◌++◌, ◌⊎◌, ◌&&◌, AllByRecursion, Plain, eqb-true}
 use Rattle.power_loss.proofs.Common.{if_both, min, not, replicate, take, ⊎_elim}
@@ -167,8 +166,8 @@ code_byte [] all = omega arith
 code_byte (l ∷ ls) all = if_both IsByte l.applies all.0 (code_byte ls all.1)
 
 pub code_is : (s : State) (q : Query) → IsByte (code_of_query s q)
-code_is s q = byte_if answers_queries (query_code (numbers_of s) (plain_now s) (may_set s) q) 0xFE
-    (code_byte
+code_is s q =
+    code_byte
     (query_line (has_wrong_opcode q) 0xFE
     ∷ query_line (q.asked.opcode == 0) 0x00
     ∷ query_line (has_wrong_idn q) 0xFD
@@ -203,4 +202,4 @@ code_is s q = byte_if answers_queries (query_code (numbers_of s) (plain_now s) (
           ),
         ),
       ),
-    )) (omega arith)
+    )

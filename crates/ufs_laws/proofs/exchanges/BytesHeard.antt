@@ -96,11 +96,9 @@ is_cdb (cdb.SecurityIn region length) = dec_and (dec_lt region regions) (dec_lt 
 is_cdb (cdb.SecurityOut region length) = dec_and (dec_lt region regions) (dec_lt length (2 ^ 32))
 is_cdb command = yes tt
 
--- whether it is taken; a case for each limit
+-- whether it is taken: all are but UNMAP
 is_taken : (c : Cdb) → Dec (IsTakenCdb c)
-is_taken (cdb.Inquiry allocation) = no (λ (h : ⊥). h)
 is_taken (cdb.Unmap list) = no (λ (h : ⊥). h)
-is_taken (cdb.ReportLuns select allocation) = no (λ (h : ⊥). h)
 is_taken command = yes tt
 
 -- ## What bytes spell

@@ -19,6 +19,9 @@ zero_or_end region = end_bit (has_key region && (region.counter == counter_end))
 same_result : (n result : ℕ) (a : Option Command) (c : Command) → Results n a ≡ Results result (Some c) → result ≡ n
 same_result n result a c e = cc
 
+same_command : (n result : ℕ) (a : Option Command) (c : Command) → Results n a ≡ Results result (Some c) → a ≡ Some c
+same_command n result a c e = cc
+
 behind : (region : Region) (a : Option Command) (failed : Option ℕ) (result : ℕ) (c : Command) →
     outcome_after region a failed ≡ Results result (Some c) → (result ≡ 0) ⊎ (result ≡ 0x80)
 behind region a (Some r) result c e = absurd (no_command (with_end_bit region r) result c e)
@@ -38,4 +41,17 @@ pub accepted_result : (number : ℕ) (region : Region) (r : Registers) (locked :
 accepted_result number region r locked [] result c e = absurd (refused _ result c e)
 accepted_result number region r locked (f ∷ fs) result c e =
     behind region (command_in number f fs) (first_failed (checks region locked f fs)) result c
+    (chosen _ (lacks_result f r) _ _ _ result c e)
+
+-- the command of a request that is accepted is the one that its frames name
+named : (region : Region) (a : Option Command) (failed : Option ℕ) (result : ℕ) (c : Command) →
+    outcome_after region a failed ≡ Results result (Some c) → a ≡ Some c
+named region a (Some r) result c e = absurd (no_command (with_end_bit region r) result c e)
+named region a None result c e = same_command (with_end_bit (applied region a) 0) result a c e
+
+pub accepted_command : (number : ℕ) (region : Region) (r : Registers) (locked : Bool) (f : Frame) (fs : List Frame)
+    (result : ℕ) (c : Command) → rpmb_outcome number region r locked (f ∷ fs) ≡ Results result (Some c) →
+    command_in number f fs ≡ Some c
+accepted_command number region r locked f fs result c e =
+    named region (command_in number f fs) (first_failed (checks region locked f fs)) result c
     (chosen _ (lacks_result f r) _ _ _ result c e)

@@ -1,5 +1,5 @@
 -- Commands leave a plain state plain.
-use Rattle.std.proofs.Common.{All, List, Some, [], arith, drop, length, map, replicate, slice_index_or, slice_set}
+use Rattle.std.proofs.Common.{All, List, [], arith, drop, length, map, replicate, slice_index_or, slice_set}
 use Rattle.std.proofs.Common.{inl, inr, subst, sym, take, ℕ, ◌*◌, ◌++◌, ◌+◌, ◌/◌, ◌<◌, ◌∙◌, ◌∷◌, ◌≡◌, ◌≤◌}
 use Rattle.std.proofs.lemmas.List.{length-map, length-set}
 use Rattle.std.proofs.lemmas.List.Elements.{All-append, All-drop, All-replicate, All-set, All-take}

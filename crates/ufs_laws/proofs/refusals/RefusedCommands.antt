@@ -9,8 +9,6 @@ use Rattle.ufs_spec.specs.Exchanges.{Answering, Status, Task, check, invalid_fie
 use Rattle.ufs_spec.specs.Exchanges.{out_of_range, response, response_message}
 use Rattle.ufs_spec.specs.Machine.{Reply, Heard, Host, OfReply, Spelled, fills, lock_applied, observe, refused_or_begun}
 use Rattle.ufs_spec.specs.Machine.{short_locked, task_locked, with_task}
-use Rattle.ufs_spec.specs.Messages.{is_among}
-use Rattle.ufs_spec.specs.Stages.{taken_luns}
 use Rattle.ufs_spec.specs.Refusals.{Request, State, UnitOf, first_line, lacks_unit, line, lines_after, locked, lun_of}
 use Rattle.ufs_spec.specs.Refusals.{not_taken, refusal, well_known}
 use Rattle.ufs_spec.specs.declared.messages.Message.{Message}
@@ -117,16 +115,9 @@ answer_under : (lun tag expected asc : ℕ) → 0 < expected →
 answer_under lun tag expected asc more =
     ap (λ r. response_message r lun tag (check 0x05 asc)) (residual_under expected more)
 
--- whatever well-known units take commands
 no_such_unit : (lun : ℕ) → 3 ≤ lun → well_known lun ≡ None → lun_of row lun ≡ None
 no_such_unit lun high other =
-    ap (λ (b : Bool). if b then Some (UnitOf lun) else if is_among taken_luns lun then well_known lun else None)
-    (le-ltb lun 3 high)
-    ∙ by (is_among taken_luns lun)
-  where
-    by : (b : Bool) → (if b then well_known lun else None) ≡ None
-    by true = other
-    by false = refl
+    ap (λ (b : Bool). if b then Some (UnitOf lun) else well_known lun) (le-ltb lun 3 high) ∙ other
 
 pub lacks : (s : State) (r : Request) → 3 ≤ r.lun → well_known r.lun ≡ None → refusal (idle_state s) r ≡ Some no_unit
 lacks s r high other =

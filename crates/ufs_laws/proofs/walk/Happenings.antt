@@ -22,7 +22,6 @@ use Rattle.ufs_spec.specs.Plain.{apply}
 use Rattle.ufs_spec.specs.Queries.{Query, query_code, sets_power_on, setting_of}
 use Rattle.ufs_spec.specs.QueryAnswers.{may_set, query_done, query_failed, query_heard, query_passed}
 use Rattle.ufs_spec.specs.Refusals.{Request, State, numbers_of, plain_now, refusal, unit_of_request}
-use Rattle.ufs_spec.specs.Stages.{answers_queries}
 use Rattle.ufs_spec.specs.Exchanges.{most_tasks}
 use Rattle.ufs_spec.specs.declared.faults.HostFault.{HostFault}
 use Rattle.ufs_spec.specs.declared.faults.HostFault.TheVariants.{NotAskedFor, TagInUse}
@@ -107,7 +106,7 @@ IsQueryOf call t q = ⊥
 
 -- the code by which a query is answered
 abbrev pub code_of_query : State → Query → ℕ
-code_of_query s q = if answers_queries then query_code (numbers_of s) (plain_now s) (may_set s) q else 0xFE
+code_of_query s q = query_code (numbers_of s) (plain_now s) (may_set s) q
 
 -- the query succeeds
 pub record IsSuccess (s : State) (call : Call) (tag : ℕ) (q : Query) : Type 0 where

@@ -13,7 +13,7 @@ returns c =
     let new = c.decide-event.new.self in
     let left : new ≡ record kept { ftl = new.ftl; rpmb = new.rpmb } =
     c.decide-event.ensures.left
-    ∙ ap (λ (d : DeviceCore). record d { ftl = new.ftl; rpmb = new.rpmb }) c.keep_frames.ensures in
+    ∙ ap (λ (d : DeviceCore). record d { ftl = new.ftl; rpmb = new.rpmb }) c.keep_bytes.ensures in
     record {
       layer = new.ftl;
       rpmb = new.rpmb;
@@ -22,7 +22,7 @@ returns c =
           subst (λ (d : DeviceCore). IsDecided kept d c.args.tag (frames_of c.args.frames.now) c.args.code
           c.args.accepted.now c.decide-event.result) left
           (subst (λ (d : DeviceCore). IsDecided d new c.args.tag (frames_of c.args.frames.now) c.args.code
-          c.args.accepted.now c.decide-event.result) c.keep_frames.ensures c.decide-event.ensures.done);
+          c.args.accepted.now c.decide-event.result) c.keep_bytes.ensures c.decide-event.ensures.done);
       after_is =
           c.happen.ensures
           ∙ (ap (λ (m : Machine). with_event (record (core_of c.self.inside) { rpmb = m }) c.args.index

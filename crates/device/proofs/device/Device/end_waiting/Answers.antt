@@ -2,6 +2,7 @@ use Rattle.std.proofs.Common.{◌≡◌, ◌∙◌, ℕ, true, ap, map, subst, s
 use Rattle.ufs_spec.specs.Translation.{Translation, is_locked}
 use Rattle.power_loss.proofs.books.SmallFacts.{if_false, if_true}
 use Rattle.task_set.specs.Kept.{Tasks}
+use Rattle.task_set.specs.Shorts.{short_locked}
 use Rattle.task_set.specs.Tasks.{task_after}
 use Rattle.task_set.specs.declared.tasks.TaskEvent.TheVariants as event
 use Rattle.device.specs.Calls.{lock_told}
@@ -12,14 +13,18 @@ use Rattle.device.proofs.device.Device.end_waiting.Goals as goal
 
 -- by hand, so that a lock that is told otherwise does not fit at once
 
+abbrev told_at : DeviceCore → ℕ → DeviceCore
+told_at d n = record d {
+  tasks = map (task_after (event.Locked n)) d.tasks;
+  shorts = map (short_locked n) d.shorts;
+}
+
 told : (t : Translation) (d : DeviceCore) (set : Tasks) (n : ℕ) → is_locked t ≡ true → n ≡ t.ledger.frontier →
-    set ≡ record { tasks = map (task_after (event.Locked n)) d.tasks; shorts = d.shorts } →
+    set ≡ record { tasks = map (task_after (event.Locked n)) d.tasks; shorts = map (short_locked n) d.shorts } →
     record d { tasks = set.tasks; shorts = set.shorts } ≡ lock_told t d
 told t d set n locked is new =
     ap (λ (s : Tasks). record d { tasks = s.tasks; shorts = s.shorts }) new
-    ∙ (ap (λ (m : ℕ). record d { tasks = map (task_after (event.Locked m)) d.tasks }) is
-    ∙ sym (if_true (is_locked t) (record d { tasks = map (task_after (event.Locked t.ledger.frontier)) d.tasks }) d
-    locked))
+    ∙ (ap (told_at d) is ∙ sym (if_true (is_locked t) (told_at d t.ledger.frontier) d locked))
 
 pub returns-then-is_locked : goal.returns-then-is_locked
 returns-then-is_locked c =
@@ -30,6 +35,7 @@ returns-then-is_locked c =
       ftl = c.self.inside.ftl;
       boot = c.self.inside.boot;
       is_permanent = c.self.inside.is_permanent;
+      is_power_on = c.self.inside.is_power_on;
       rpmb = c.self.inside.rpmb;
       set = c.lock.new.self;
     }) ≡ lock_told t d)
@@ -43,5 +49,5 @@ returns-else-is_locked c =
     λ t h.
     let now = c.args.self.now in
     let layer = same_layer _ _ t c.self.view_is h in
-    sym (if_false (is_locked t) (record now { tasks = map (task_after (event.Locked t.ledger.frontier)) now.tasks }) now
+    sym (if_false (is_locked t) (told_at now t.ledger.frontier) now
     (sym (c.is_locked.ensures.described t layer) ∙ c.if-is_locked.false))

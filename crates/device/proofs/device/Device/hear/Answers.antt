@@ -1,6 +1,7 @@
 use Rattle.std.proofs.Common.{refl, subst}
 use Rattle.ufs_spec.specs.Messages.{Spells}
-use Rattle.device.proofs.host_messages.HostRight.{device_kind, managing_right, nop_right, query_right}
+use Rattle.device.proofs.host_messages.HostRight.{device_kind, managing_right, nop_right}
+use Rattle.device.proofs.host_messages.QueriesRight.{query_right}
 use Rattle.device.proofs.device.Device.hear.Goals as goal
 
 pub returns-in-NopOut-clause-heard : goal.returns-in-NopOut-clause-heard
@@ -21,11 +22,10 @@ returns-in-TaskRequest-clause-heard c =
 pub returns-in-QueryRequest-clause-heard : goal.returns-in-QueryRequest-clause-heard
 returns-in-QueryRequest-clause-heard c =
     λ s bytes h spells none.
-    query_right c.args.self.now c.open_short-in-QueryRequest.new.self s bytes c.open_short-in-QueryRequest.result h
-    none c.open_short-in-QueryRequest.ensures.refused c.in-QueryRequest.tag c.in-QueryRequest.function
-    c.in-QueryRequest.asked c.in-QueryRequest.length c.in-QueryRequest.value c.in-QueryRequest.data
-    (subst (λ m. Spells m bytes) c.in-QueryRequest.is spells)
-    c.open_short-in-QueryRequest.ensures.answer c.open_short-in-QueryRequest.ensures.after
+    query_right c.args.self.now s bytes h none c.in-QueryRequest.tag c.in-QueryRequest.function c.in-QueryRequest.asked
+    c.in-QueryRequest.length c.in-QueryRequest.value c.in-QueryRequest.data
+    (subst (λ m. Spells m bytes) c.in-QueryRequest.is spells) c.query.new.self c.query.result c.query.ensures.refused
+    c.query.ensures.answer c.query.ensures.after
 
 pub returns-in_default : goal.returns-in_default
 returns-in_default c = record {

@@ -1,5 +1,6 @@
-use Rattle.std.proofs.Common.{◌∙◌, ap}
-use Rattle.device.specs.Frames.{frames_taken}
+use Rattle.std.proofs.Common.{◌∙◌, ap, subst, sym}
+use Rattle.ftl_core.specs.Public.{Describes}
+use Rattle.device.specs.Frames.{sent_kept}
 use Rattle.device.specs.Hears.{with_task}
 use Rattle.device.specs.Kept.{DeviceCore}
 use Rattle.task_set.specs.Kept.{newly_open}
@@ -12,8 +13,10 @@ returns c = record {
   todo = c.plan-planned.result;
   plan = c.plan-planned.ensures;
   begun = c.begin-phase.ensures.begun;
-  more = c.take_frames.ensures
-      ∙ ap (λ (d : DeviceCore). frames_taken d c.plan-planned.result)
+  more =
+      λ t layer.
+      c.keep_sent.ensures t (subst (λ (d : DeviceCore). Describes d.ftl t) (sym c.push_task.ensures) layer)
+      ∙ ap (λ (d : DeviceCore). sent_kept t.numbers d c.plan-planned.result)
       (c.push_task.ensures
       ∙ ((λ i. with_task (c.begin-phase.ensures.left i) (newly_open (record {
         tag = c.args.tag;

@@ -1,35 +1,41 @@
 use Rattle.std.proofs.Common.{◌∙◌, true, false, refl, sym}
-use Rattle.device.proofs.host_messages.CommandTable.{told_by, told_early}
+use Rattle.device.proofs.described.SameDevice.{same_layer}
+use Rattle.device.proofs.host_messages.CommandTable.{data_lacking, told_by, told_early}
 use Rattle.ufs_spec.specs.Refusals.{numbers_of}
-use Rattle.device.specs.Targets.{unit_named}
 use Rattle.device.proofs.device.Device.refusal.Goals as goal
 
 pub returns-then-is_too_long-clause-what : goal.returns-then-is_too_long-clause-what
 returns-then-is_too_long-clause-what c =
     λ s r h bare spec flags expected taken region.
-    told_early s r (unit_named c.args.target) c.args.cdb.now taken spec true _ _ refl
+    told_early s r c.args.unit c.args.cdb.now taken spec true _ _ refl
     (sym (c.is_too_long.ensures.what (numbers_of s)) ∙ c.if-is_too_long.true) refl refl
 
 pub returns-then-lacks_data-clause-what : goal.returns-then-lacks_data-clause-what
 returns-then-lacks_data-clause-what c =
     λ s r h bare spec flags expected taken region.
-    told_early s r (unit_named c.args.target) c.args.cdb.now taken spec false true _ refl
+    told_early s r c.args.unit c.args.cdb.now taken spec false true _ refl
     (sym (c.is_too_long.ensures.what (numbers_of s)) ∙ c.if-is_too_long.false)
-    (sym (c.lacks_data.ensures r taken flags expected) ∙ c.if-lacks_data.true) refl
+    (data_lacking s r c.args.cdb.now c.numbers.result.now c.listed_by.result true
+    (c.numbers.ensures.described s.translation (same_layer _ _ s.translation c.self.view_is h)) c.listed_by.ensures
+    (sym (c.lacks_data.ensures r taken flags expected) ∙ c.if-lacks_data.true)) refl
 
 pub returns-then-is_out_of_range-clause-what : goal.returns-then-is_out_of_range-clause-what
 returns-then-is_out_of_range-clause-what c =
     λ s r h bare spec flags expected taken region.
-    told_early s r (unit_named c.args.target) c.args.cdb.now taken spec false false true refl
+    told_early s r c.args.unit c.args.cdb.now taken spec false false true refl
     (sym (c.is_too_long.ensures.what (numbers_of s)) ∙ c.if-is_too_long.false)
-    (sym (c.lacks_data.ensures r taken flags expected) ∙ c.if-lacks_data.false)
+    (data_lacking s r c.args.cdb.now c.numbers.result.now c.listed_by.result false
+    (c.numbers.ensures.described s.translation (same_layer _ _ s.translation c.self.view_is h)) c.listed_by.ensures
+    (sym (c.lacks_data.ensures r taken flags expected) ∙ c.if-lacks_data.false))
     (sym c.is_out_of_range.ensures ∙ c.if-is_out_of_range.true)
 
 pub returns-clause-what : goal.returns-clause-what
 returns-clause-what c =
     λ s r h bare spec flags expected taken region.
-    told_by s r (unit_named c.args.target) c.args.cdb.now taken spec false false false c.refusal_now.result
+    told_by s r c.args.unit c.args.cdb.now taken spec false false false c.refusal_now.result
     (sym (c.is_too_long.ensures.what (numbers_of s)) ∙ c.if-is_too_long.false)
-    (sym (c.lacks_data.ensures r taken flags expected) ∙ c.if-lacks_data.false)
+    (data_lacking s r c.args.cdb.now c.numbers.result.now c.listed_by.result false
+    (c.numbers.ensures.described s.translation (same_layer _ _ s.translation c.self.view_is h)) c.listed_by.ensures
+    (sym (c.lacks_data.ensures r taken flags expected) ∙ c.if-lacks_data.false))
     (sym c.is_out_of_range.ensures ∙ c.if-is_out_of_range.false)
     (c.refusal_now.ensures s h bare taken region)

@@ -1,12 +1,11 @@
-use Rattle.std.proofs.Common.{◌≡◌, ◌∙◌, ℕ, List, Option, true, Some, None, ap, refl, slice_get, sym, subst}
+use Rattle.std.proofs.Common.{◌≡◌, ℕ, List, Option, true, Some, None, refl, sym, subst}
 use Rattle.ufs_spec.specs.Messages.{spelling}
 use Rattle.ufs_spec.specs.declared.messages.Message.{Message}
 use Rattle.ufs_spec.specs.Machine.{Reply, OfReply}
 use Rattle.device.specs.Describes.{IsAnswered}
-use Rattle.task_set.specs.declared.tasks.Short.{Short}
 use Rattle.device.specs.Kept.{DeviceCore}
-use Rattle.device.specs.Replies.{IsWritten, short_message}
-use Rattle.device.proofs.due_replies.RepliesRight.{first_of, none_in, replies_right, shorts_right, silence_right}
+use Rattle.device.specs.Replies.{IsWritten}
+use Rattle.device.proofs.due_replies.RepliesRight.{replies_right, shorts_right, silence_right}
 use Rattle.device.proofs.device.Device.reply.Goals as goal
 
 -- the reply that is owed to a task for which it is written
@@ -31,19 +30,11 @@ returns-in-Some-clause-replied c =
 
 pub returns-clause-replied : goal.returns-clause-replied
 returns-clause-replied c =
-    λ s h yes.
-    let r = first_of c.args.self.now.shorts (sym c.reply_short.ensures.found ∙ yes) in
-    record {
-      reply = short_message r.0;
-      shown = c.reply_short.ensures.said r.0 (ap (λ (rs : List Short). slice_get rs 0) r.2);
-      answered =
-          subst (λ (x : DeviceCore). IsAnswered s Reply (OfReply (Some (short_message r.0))) x)
-          (sym (c.reply_short.ensures.after yes)) (shorts_right c.args.self.now s r.0 r.1 h r.2);
-    }
+    λ s h yes. shorts_right c.args.self.now c.reply_short.new.self s _ h (c.reply_short.ensures.replied yes)
 
 pub returns-clause-silent : goal.returns-clause-silent
 returns-clause-silent c =
     λ s h no.
     subst (λ (x : DeviceCore). IsAnswered s Reply (OfReply None) x) (sym (c.reply_short.ensures.nothing no).0)
     (silence_right c.args.self.now s h (λ k task. c.in_default.ensures.none s.translation k task h.kept.layer_kept)
-    (none_in c.args.self.now.shorts (sym c.reply_short.ensures.found ∙ no)))
+    (c.reply_short.ensures.none no s.translation h.kept.layer_kept))

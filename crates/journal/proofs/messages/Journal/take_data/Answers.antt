@@ -1,7 +1,7 @@
-use Rattle.std.proofs.Common.{◌≡◌, ◌∙◌, ◌-◌, List, OnOk, ap, arith, drop, length, subst, sym, take, ℕ}
+use Rattle.std.proofs.Common.{◌≡◌, ◌-◌, List, OnOk, arith, drop, length, subst, sym, take, ℕ}
 use Rattle.std.proofs.lemmas.List.{length-drop, take_all}
 use Rattle.rpmb.specs.Requests.{frames_of}
-use Rattle.journal.specs.Heard.{Heard, brought, taken}
+use Rattle.journal.specs.Heard.{brought, taken}
 use Rattle.journal.specs.Requests.{accepted_by}
 use Rattle.journal.specs.declared.messages.Awaited.{Awaited}
 use Rattle.journal.proofs.messages.Journal.take_data.Goals as goal

@@ -1,0 +1,96 @@
+-- What a query is answered is right, and a settings page is put in a slot that was free.
+use Rattle.std.proofs.Common.{◌≡◌, ◌∙◌, ℕ, ◌==◌, ◌&&◌, Bool, true, false, cond, List, [], not, refl, sym, ap}
+use Rattle.std.proofs.Common.{subst}
+use Rattle.std.specs.Prelude.{nat_le, replicate}
+use Rattle.ufs_spec.proofs.Facts.{eqb-true}
+use Rattle.ufs_spec.specs.Ledger.{next_number}
+use Rattle.ufs_spec.specs.Moves.{Claim, moved}
+use Rattle.ufs_spec.specs.Plain.{Plain, zero_block}
+use Rattle.ufs_spec.specs.Queries.{Query, query_code}
+use Rattle.ufs_spec.specs.QueryAnswers.{may_set}
+use Rattle.ufs_spec.specs.Refusals.{State, numbers_of, plain_now}
+use Rattle.ufs_spec.specs.Translation.{Translation, free_slots}
+use Rattle.ufs_spec.specs.declared.configs.Numbers.{Numbers}
+use Rattle.descriptors.specs.Answers.{Says, code_of, is_setting, succeeds}
+use Rattle.descriptors.specs.Asks.{HasSettings, query_of}
+use Rattle.descriptors.specs.declared.answers.QueryAnswer.{QueryAnswer}
+use Rattle.descriptors.specs.declared.queries.QueryRequest.{QueryRequest}
+use Rattle.descriptors.specs.declared.queries.QuerySettings.{QuerySettings}
+use Rattle.ftl_core.specs.Public.{AreClaimed, AreClaimedBy, Claims, Core, Describes, with_claimed}
+use Rattle.device.specs.Bare.{IsBare}
+use Rattle.device.specs.Groups.{HasPut, key_group}
+use Rattle.device.specs.Kept.{DeviceCore, IsLayerWith}
+use Rattle.device.specs.Queries.{HasPutSetting, IsAnswerTo, settings_found, with_slot}
+use Rattle.device.proofs.open_tasks.KeptByTag.{claimed_own}
+
+-- The answer
+
+-- what is answered over what the device keeps is the answer in the state
+pub answer_is : (s : State) (d : DeviceCore) (n : Numbers) (settings : QuerySettings) (may : Bool) (r : QueryRequest)
+    (q : Query) (x : QueryAnswer) → IsBare s d → n ≡ numbers_of s → settings ≡ settings_found d → may ≡ may_set s →
+    query_of r ≡ q →
+    ((p : Plain) → HasSettings settings p → code_of x ≡ query_code n p may (query_of r)) →
+    ((p : Plain) → HasSettings settings p →
+    succeeds x ≡ (query_code n p may (query_of r) == 0x00) && not (r.asked.opcode == 0)) →
+    ((p : Plain) → HasSettings settings p → Says p settings.is_power_on (query_of r) x) →
+    (is_setting x ≡ true → may ≡ true) → IsAnswerTo s q x
+answer_is s d n settings may r q x bare n_is found may_is q_is code succeeding says only = record {
+  code = code (plain_now s) has ∙ (λ i. query_code (n_is i) (plain_now s) (may_is i) (q_is i));
+  succeeds_is =
+      succeeding (plain_now s) has
+      ∙ (λ i. (query_code (n_is i) (plain_now s) (may_is i) (q_is i) == 0x00) && not ((q_is i).asked.opcode == 0));
+  says =
+      subst (λ (y : Query). Says (plain_now s) s.power_on y x) q_is
+      (subst (λ (b : Bool). Says (plain_now s) b (query_of r) x)
+      (ap (λ (y : QuerySettings). y.is_power_on) found ∙ bare.power_on_is) (says (plain_now s) has));
+  may = λ e. sym may_is ∙ only e;
+}
+  where
+    has : HasSettings settings (plain_now s)
+    has =
+        subst (λ (y : QuerySettings). HasSettings y (plain_now s)) (sym found)
+        (record { boot = sym bare.boot_is; permanent = sym bare.permanent_is })
+
+-- The page
+
+-- a tag that had claimed nothing has claimed nothing once its slot is taken
+slot_taken : (claims : Claims) (tag : ℕ) (blocks : List (List ℕ)) → claims tag ≡ [] → (other : ℕ) →
+    with_claimed (with_claimed claims tag blocks) tag [] other ≡ claims other
+slot_taken claims tag blocks none other = by (other == tag) refl
+  where
+    by : (b : Bool) → (other == tag) ≡ b → cond b [] (cond b blocks (claims other)) ≡ claims other
+    by true e = sym (ap claims (eqb-true other tag e) ∙ none)
+    by false e = refl
+
+-- a slot is claimed, where one is free, and the page is put into it
+pub setting_put : (before middle after : Core) (tag number : ℕ) (page : List ℕ) (found : Bool) →
+    ((t : Translation) → Describes before t → found ≡ nat_le 1 (free_slots t)) →
+    ((t : Translation) → Describes before t → Describes middle (cond found (moved t (Claim 1)) t)) →
+    ((claims : Claims) → AreClaimed before claims → claims tag ≡ [] →
+    AreClaimed middle (cond found (with_claimed claims tag (replicate 1 zero_block)) claims)) →
+    HasPut middle after tag (key_group page) number → HasPutSetting before after tag page number
+setting_put before middle after tag number page found found_is described claimed put = record {
+  number_is = λ t h. numbered t found (described t h);
+  layer =
+      λ t claims h none room allowed.
+      (let its = put.layer (with_slot t) (with_claimed claims tag (replicate 1 zero_block)) 1
+      (there t claims (found_is t h.0 ∙ room) (described t h.0, claimed claims h.1 none))
+      (claimed_own claims tag (replicate 1 zero_block)) allowed in (
+        its.0,
+        λ reader. subst (AreClaimedBy after reader)
+            (slot_taken claims tag (replicate 1 zero_block) none reader) (its.1 reader),
+      ));
+}
+  where
+    numbered : (t : Translation) (b : Bool) → Describes middle (cond b (moved t (Claim 1)) t) →
+        number ≡ next_number t.ledger
+    numbered t true h = put.number_is (moved t (Claim 1)) h
+    numbered t false h = put.number_is t h
+
+    there : (t : Translation) (claims : Claims) → found ≡ true →
+        IsLayerWith middle (cond found (moved t (Claim 1)) t)
+        (cond found (with_claimed claims tag (replicate 1 zero_block)) claims) →
+        IsLayerWith middle (with_slot t) (with_claimed claims tag (replicate 1 zero_block))
+    there t claims is h =
+        subst (λ (b : Bool). IsLayerWith middle (cond b (moved t (Claim 1)) t)
+        (cond b (with_claimed claims tag (replicate 1 zero_block)) claims)) is h

@@ -1,0 +1,146 @@
+-- INQUIRY and REPORT LUNS begin tasks that keep what they tell of the units.
+use Rattle.std.proofs.Common.{◌≡◌, ◌∙◌, ℕ, ◌<◌, ◌≤◌, Bool, true, false, List, [], ◌∷◌, ◌++◌, Some, None, length}
+use Rattle.std.proofs.Common.{refl, sym, ap, subst, arith}
+use Rattle.std.specs.Prelude.{◌*◌, ◌+◌, ◌==◌, if◌then◌else◌, map, min, take, Result, Ok}
+use Rattle.std.specs.List.{flat_map}
+use Rattle.byteorder.specs.Endian.{big_bytes}
+use Rattle.std.proofs.lemmas.List.{length-append, length-take, take_min}
+use Rattle.std.proofs.lemmas.List.Concat.{flat_map-cons}
+use Rattle.ufs_spec.proofs.ConfigFacts.{config_tests, ranges}
+use Rattle.ufs_spec.specs.Exchanges.{most_tasks, task_of}
+use Rattle.ufs_spec.specs.Identities.{inquiry_bytes, luns_bytes, luns_listed, unit_entry}
+use Rattle.ufs_spec.specs.Keys.{below}
+use Rattle.ufs_spec.specs.Machine.{data_begun}
+use Rattle.ufs_spec.specs.Messages.{zeros}
+use Rattle.ufs_spec.specs.Refusals.{Request, State, numbers_of, sends_frames, units_listed}
+use Rattle.ufs_spec.specs.declared.configs.Numbers.{Numbers}
+use Rattle.ufs_spec.specs.declared.scsi.Cdb.{Cdb}
+use Rattle.ufs_spec.specs.declared.scsi.Cdb.TheVariants as cdb
+use Rattle.ufs_laws.proofs.exchanges.ListedUnits.{luns_size}
+use Rattle.power_loss.specs.Exchange.{IsTied}
+use Rattle.ftl_core.specs.Public.{Core}
+use Rattle.lun_route.proofs.Listed.{listed_count}
+use Rattle.task_set.specs.declared.tasks.Phase.{Phase}
+use Rattle.task_set.specs.declared.tasks.Status as kept_status
+use Rattle.device.specs.declared.plans.Identity.{Identity}
+use Rattle.device.specs.declared.plans.Identity.TheVariants as identity
+use Rattle.device.specs.declared.plans.Plan.{Plan}
+use Rattle.device.specs.Describes.{Describes}
+use Rattle.device.specs.Frames.{identity_bytes, with_zeros}
+use Rattle.device.specs.Kept.{DeviceCore}
+use Rattle.device.specs.Plans.{length_on, tell_plan}
+use Rattle.device.proofs.described.Answered.{IsBehind}
+use Rattle.device.proofs.host_messages.HeldBegins.{core_keeping, held_begins, last_held}
+use Rattle.device.proofs.host_messages.TasksBegin.{HasBegunFor, opened_for}
+
+-- How many bytes they tell
+
+pub inquiry_size : (lun : ℕ) → length (inquiry_bytes lun) ≡ 36
+inquiry_size lun = refl
+
+-- each entry has eight bytes
+abbrev AreEntries : List (List ℕ) → Type 0
+AreEntries [] = Unit {0}
+AreEntries (e ∷ es) = (length e ≡ 8) × AreEntries es
+
+entries_append : (xs ys : List (List ℕ)) → AreEntries xs → AreEntries ys → AreEntries (xs ++ ys)
+entries_append [] ys h k = k
+entries_append (x ∷ xs) ys h k = (h.0, entries_append xs ys h.1 k)
+
+entries_of : (high : ℕ) (units : List ℕ) → AreEntries (map (unit_entry high) units)
+entries_of high [] = tt
+entries_of high (u ∷ us) = (refl, entries_of high us)
+
+joined_size : (es : List (List ℕ)) → AreEntries es → length (flat_map (λ (e : List ℕ). e) es) ≡ 8 * length es
+joined_size [] h = refl
+joined_size (e ∷ es) h =
+    let rest = joined_size es h.1 in
+    let first = h.0 in
+    let both = length-append e (flat_map (λ (x : List ℕ). x) es) in
+    ap length (flat_map-cons (λ (x : List ℕ). x) e es) ∙ omega arith
+
+listed : (n : Numbers) (select : ℕ) → AreEntries (luns_listed n select)
+listed n select =
+    entries_append (if select == 1 then [] else map (unit_entry 0x00) (below (length n.units.items)))
+    (if select == 0 then [] else map (unit_entry 0xC1) (0x01 ∷ 0x30 ∷ 0x44 ∷ 0x50 ∷ []))
+    (if_entries (select == 1) 0x00 (below (length n.units.items)))
+    (if_entries (select == 0) 0xC1 (0x01 ∷ 0x30 ∷ 0x44 ∷ 0x50 ∷ []))
+  where
+    if_entries : (b : Bool) (high : ℕ) (units : List ℕ) → AreEntries (if b then [] else map (unit_entry high) units)
+    if_entries true high units = tt
+    if_entries false high units = entries_of high units
+
+pub luns_length : (n : Numbers) (select allocation : ℕ) →
+    length (luns_bytes n select) ≡ 8 + 8 * units_listed n (cdb.ReportLuns select allocation)
+luns_length n select allocation =
+    let list : List ℕ = flat_map (λ (e : List ℕ). e) (luns_listed n select) in
+    let count = listed_count n select allocation in
+    let size = joined_size (luns_listed n select) (listed n select) in
+    let behind = length-append (zeros 4) list in
+    let all = length-append (big_bytes 4 (8 * length (luns_listed n select))) (zeros 4 ++ list) in
+    omega arith
+
+few_luns : (s : State) → IsTied s → (select : ℕ) → length (luns_bytes (numbers_of s) select) ≤ 4096
+few_luns s v select =
+    let few = (ranges (numbers_of s) (config_tests (numbers_of s) v.config).0).units_bound in
+    let size = luns_size (numbers_of s) select (omega arith) in
+    omega arith
+
+module _ (d : DeviceCore) (s : State) (r : Request) (h : Describes d s) (free : task_of r.tag s.tasks ≡ None)
+    (few : length s.tasks < most_tasks) (after : Core) where
+  abbrev Begins : Result Plan kept_status.Status → Phase → Type 0
+  Begins todo p = HasBegunFor s r after todo p
+
+  abbrev Opens : Result Plan kept_status.Status → Phase → State → Type 0
+  Opens todo p v = IsBehind (opened_for d r after todo p) v
+
+  -- what is told is told of the configuration of the state
+  tells_begins : (command : Cdb) (told : Identity) (allocation size : ℕ) (p : Phase) →
+      sends_frames (Some command) ≡ false → length (identity_bytes (numbers_of s) told) ≤ 4096 →
+      size ≡ min allocation (length (identity_bytes (numbers_of s) told)) →
+      Begins (Ok (tell_plan r.expected told size)) p →
+      Opens (Ok (tell_plan r.expected told size)) p
+      (data_begun s r command (take allocation (identity_bytes (numbers_of s) told)))
+  tells_begins command told allocation size p quiet short size_is begun =
+      subst (λ (x : DeviceCore). IsBehind x (data_begun s r command bytes))
+      (sym (last_held d r after p (with_zeros (identity_bytes d.ftl.numbers told))
+      ∙ (λ i. core_keeping d r after (begun.0 i) (with_zeros (identity_bytes (same i) told)))))
+      (held_begins d s r h free few after command all bytes size short first long quiet begun.1)
+    where
+      same : d.ftl.numbers ≡ numbers_of s
+      same = h.kept.layer_kept.kept.numbers
+
+      all : List ℕ
+      all = identity_bytes (numbers_of s) told
+
+      bytes : List ℕ
+      bytes = take allocation all
+
+      first : take size all ≡ bytes
+      first = ap (λ (n : ℕ). take n all) size_is ∙ take_min allocation all
+
+      long : length bytes ≡ size
+      long = length-take allocation all ∙ sym size_is
+
+  pub inquiry_begins : (allocation : ℕ) (p : Phase) →
+      Begins
+      (Ok (tell_plan r.expected (identity.Unit r.lun) (length_on (numbers_of s) (cdb.Inquiry allocation)))) p →
+      Opens
+      (Ok (tell_plan r.expected (identity.Unit r.lun) (length_on (numbers_of s) (cdb.Inquiry allocation)))) p
+      (data_begun s r (cdb.Inquiry allocation) (take allocation (inquiry_bytes r.lun)))
+  inquiry_begins allocation p begun =
+      tells_begins (cdb.Inquiry allocation) (identity.Unit r.lun) allocation (min allocation 36) p refl
+      (let size = inquiry_size r.lun in omega arith) (ap (min allocation) (sym (inquiry_size r.lun))) begun
+
+  pub luns_begin : (select allocation : ℕ) (p : Phase) →
+      Begins
+      (Ok (tell_plan r.expected (identity.Luns select)
+      (length_on (numbers_of s) (cdb.ReportLuns select allocation)))) p →
+      Opens
+      (Ok (tell_plan r.expected (identity.Luns select)
+      (length_on (numbers_of s) (cdb.ReportLuns select allocation)))) p
+      (data_begun s r (cdb.ReportLuns select allocation) (take allocation (luns_bytes (numbers_of s) select)))
+  luns_begin select allocation p begun =
+      tells_begins (cdb.ReportLuns select allocation) (identity.Luns select) allocation
+      (length_on (numbers_of s) (cdb.ReportLuns select allocation)) p refl (few_luns s h.tied select)
+      (ap (min allocation) (sym (luns_length (numbers_of s) select allocation))) begun

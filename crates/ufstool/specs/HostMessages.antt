@@ -1,0 +1,35 @@
+-- The messages that are written, byte by byte (JESD220, 10.7).
+use Rattle.std.specs.Prelude.{ℕ, List, ◌++◌, replicate, Option, Some, None}
+use Rattle.ufs_spec.specs.Cdbs.{Direction, NoData, ToDevice, ToHost, cdb_bytes, direction_of, length_of}
+use Rattle.ufs_spec.specs.Codes.{data_out_code}
+use Rattle.ufs_spec.specs.Messages.{header, padding, spelling, transfer, zeros}
+use Rattle.ufs_spec.specs.declared.Cdb.{Cdb}
+use Rattle.ufs_spec.specs.declared.messages.Message.TheVariants.{Command as CommandMessage, NopOut as NopOutMessage}
+use Rattle.ufstool.specs.HostQueries.{query_asked, query_spelled}
+use Rattle.ufstool.specs.declared.host.HostMessage.{HostMessage}
+use Rattle.ufstool.specs.declared.host.HostMessage.TheVariants.{NopOut, Command, DataOut, Query}
+
+-- the flags of a COMMAND: no data, a write, or a read (JESD220, 10.7.1)
+abbrev pub flags_of : Direction → ℕ
+flags_of NoData = 0x00
+flags_of ToDevice = 0x20
+flags_of ToHost = 0x40
+
+-- how many bytes a host expects: so many, or all of the command, where REPORT LUNS lists twelve units
+abbrev pub expected_of : Cdb → Option ℕ → ℕ
+expected_of cdb None = length_of 12 cdb
+expected_of cdb (Some n) = n
+
+-- the bytes of a COMMAND
+abbrev pub command_spelled : ℕ → ℕ → Cdb → ℕ → List ℕ
+command_spelled unit task cdb expected =
+    spelling (CommandMessage (flags_of (direction_of cdb)) unit task expected (cdb_bytes cdb))
+
+-- the bytes of a message
+abbrev pub bytes_wanted : HostMessage → List ℕ
+bytes_wanted (NopOut task) = spelling (NopOutMessage task)
+bytes_wanted (Command unit task cdb expected) = command_spelled unit task cdb (expected_of cdb expected)
+bytes_wanted (DataOut unit task offset count fill) =
+    header data_out_code 0 unit task 0 0 0 count (transfer offset count)
+    ++ replicate count fill ++ zeros (padding count)
+bytes_wanted (Query task query) = query_spelled task (query_asked query)
