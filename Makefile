@@ -13,7 +13,7 @@ PROGRAMS := ufsim ufstool
 INSTALLED = $(foreach it,$(PROGRAMS),bin/$(it) share/man/man1/$(it).1 share/bash-completion/completions/$(it) \
 	share/zsh/site-functions/_$(it) share/fish/vendor_completions.d/$(it).fish)
 
-.PHONY: help demo test prove format install uninstall bench collection wrong-bodies turned-rules lifted-limits refused-memory power-cycles
+.PHONY: help demo test prove format install uninstall bench collection stress wrong-bodies turned-rules refused-memory power-cycles
 
 help:
 	@echo 'make demo                  shows a write, a read and six stops; builds without proving, two minutes'
@@ -27,15 +27,15 @@ help:
 	@echo 'make bench                 times writes and reads, also among threads, after it proves what they need'
 	@echo 'make collection            counts the pages that a device programs for each that is written, once it'
 	@echo '                           collects, and the same of a simulation'
+	@echo 'make stress                runs what was built a thousand times with 1 to 8 dies and hosts in threads'
 	@echo 'make wrong-bodies          tries the wrong bodies that changed, and sees that the prover refuses each'
 	@echo 'make turned-rules          turns rules of the specification around, and sees that a law refuses each'
-	@echo 'make lifted-limits         lifts the limits of this stage in a copy, and proves the laws there'
 	@echo 'make refused-memory        refuses each allocation of each call that takes memory, one at a time'
 	@echo 'make power-cycles          proves and plays rows of 10,000 lives, each of which ends with a stop: hours'
 
 # Without the kit nothing can be proved or built. Under -q make runs nothing, adds no line of its own,
 # and ends with status 1.
-ifneq ($(filter demo test prove format install bench collection wrong-bodies turned-rules lifted-limits refused-memory power-cycles,$(MAKECMDGOALS)),)
+ifneq ($(filter demo test prove format install bench collection wrong-bodies turned-rules refused-memory power-cycles,$(MAKECMDGOALS)),)
 ifeq ($(shell command -v rt 2>/dev/null),)
 $(shell echo "butcherford: the Rattle kit's command rt is not on the PATH; it is needed to prove and build" >&2)
 MAKEFLAGS += -q
@@ -93,14 +93,14 @@ collection:
 	@python3 tools/collector_simulation.py --blocks 256 --pages 16 --fill 95 100
 	@python3 tools/collector_simulation.py --blocks 256 --pages 16 --slots 288 --fill 100
 
+stress:
+	@python3 tools/stress.py
+
 wrong-bodies:
 	@python3 tools/wrong_bodies.py
 
 turned-rules:
 	@python3 tools/turn_rules.py
-
-lifted-limits:
-	@python3 tools/lift_limits.py
 
 refused-memory:
 	@python3 tools/refuse_memory.py

@@ -10,6 +10,9 @@ _ufstool_words() {
     test-unit-ready | read-capacity) echo "$command" ;;
     nop) echo '--task --help' ;;
     data-out) echo '--unit --task --offset --bytes --fill --help' ;;
+    unmap) echo '--address --blocks --unit --task --help' ;;
+    abort-task | query-task) echo '--meant --unit --task --help' ;;
+    abort-task-set | clear-task-set | reset-unit | query-task-set) echo '--unit --task --help' ;;
     read-device-descriptor) echo '--length --task --help' ;;
     read-unit-descriptor) echo '--index --length --task --help' ;;
     read-boot-lun-en) echo '--task --help' ;;
@@ -25,7 +28,7 @@ _ufstool_words() {
 
 _ufstool() {
     local current=${COMP_WORDS[COMP_CWORD]} words=
-    local messages='read6 write6 read10 write10 synchronize-cache flush test-unit-ready request-sense read-capacity inquiry report-luns nop data-out read-device-descriptor read-unit-descriptor read-boot-lun-en write-boot-lun-en read-flag set-flag clear-flag toggle-flag rpmb-key rpmb-write rpmb-read rpmb-counter rpmb-result'
+    local messages='read6 write6 read10 write10 unmap synchronize-cache flush test-unit-ready request-sense read-capacity inquiry report-luns nop data-out abort-task abort-task-set clear-task-set reset-unit query-task query-task-set read-device-descriptor read-unit-descriptor read-boot-lun-en write-boot-lun-en read-flag set-flag clear-flag toggle-flag rpmb-key rpmb-write rpmb-read rpmb-counter rpmb-result'
     COMPREPLY=()
     if [ "$COMP_CWORD" -eq 1 ]; then
         words='explain host draw help --help --version'
@@ -38,9 +41,9 @@ _ufstool() {
     elif [[ $current == -* ]]; then
         words='--help'
         if [ "${COMP_WORDS[1]}" = draw ]; then
-            words='--line --svg --help'
+            words='--line --image --svg --help'
         elif [ "${COMP_WORDS[1]}" = explain ]; then
-            words='--frames --key --key-file --help'
+            words='--frames --image --key --key-file --help'
         fi
     else
         compopt -o filenames 2>/dev/null

@@ -1,10 +1,12 @@
 # Completion of ufstool in fish.
-set -l messages read6 write6 read10 write10 synchronize-cache flush test-unit-ready request-sense \
-    read-capacity inquiry report-luns nop data-out read-device-descriptor read-unit-descriptor \
-    read-boot-lun-en write-boot-lun-en read-flag set-flag clear-flag toggle-flag rpmb-key rpmb-write rpmb-read \
-    rpmb-counter rpmb-result
+set -l messages read6 write6 read10 write10 unmap synchronize-cache flush test-unit-ready \
+    request-sense read-capacity inquiry report-luns nop data-out abort-task abort-task-set \
+    clear-task-set reset-unit query-task query-task-set read-device-descriptor \
+    read-unit-descriptor read-boot-lun-en write-boot-lun-en read-flag set-flag clear-flag \
+    toggle-flag rpmb-key rpmb-write rpmb-read rpmb-counter rpmb-result
 set -l commands read6 write6 read10 write10 synchronize-cache flush test-unit-ready request-sense read-capacity \
     inquiry report-luns
+set -l tasks abort-task abort-task-set clear-task-set reset-unit query-task query-task-set
 
 complete -c ufstool -f
 complete -c ufstool -n __fish_use_subcommand -a explain -d 'Say what a script and its output tell'
@@ -17,10 +19,10 @@ complete -c ufstool -n '__fish_seen_subcommand_from draw' -l line -x -d 'Run the
 complete -c ufstool -n '__fish_seen_subcommand_from draw' -l svg -d 'Draw SVG'
 complete -c ufstool -n "__fish_seen_subcommand_from host; and not __fish_seen_subcommand_from $messages" -a "$messages"
 complete -c ufstool -n "__fish_seen_subcommand_from $messages" -l task -x -d 'The task tag'
-complete -c ufstool -n "__fish_seen_subcommand_from $commands data-out" -l unit -x -d 'The LUN'
+complete -c ufstool -n "__fish_seen_subcommand_from $commands $tasks unmap data-out" -l unit -x -d 'The LUN'
 complete -c ufstool -n "__fish_seen_subcommand_from $commands" -l expected -x -d 'How many bytes the host sends or has room for'
-complete -c ufstool -n '__fish_seen_subcommand_from read6 write6 read10 write10 rpmb-write rpmb-read' -l address -x -d 'The first block'
-complete -c ufstool -n '__fish_seen_subcommand_from read6 write6 read10 write10 rpmb-write rpmb-read' -l blocks -x -d 'How many blocks'
+complete -c ufstool -n '__fish_seen_subcommand_from read6 write6 read10 write10 unmap rpmb-write rpmb-read' -l address -x -d 'The first block'
+complete -c ufstool -n '__fish_seen_subcommand_from read6 write6 read10 write10 unmap rpmb-write rpmb-read' -l blocks -x -d 'How many blocks'
 complete -c ufstool -n '__fish_seen_subcommand_from read10 write10' -l fua -d 'Set FUA'
 complete -c ufstool -n '__fish_seen_subcommand_from synchronize-cache flush' -l immediate -d 'Set IMMED'
 complete -c ufstool -n '__fish_seen_subcommand_from request-sense inquiry report-luns' -l allocation -x -d 'The allocation length'
@@ -28,10 +30,12 @@ complete -c ufstool -n '__fish_seen_subcommand_from report-luns' -l select -x -a
 complete -c ufstool -n '__fish_seen_subcommand_from data-out' -l offset -x -d 'Where the data are in those of the command'
 complete -c ufstool -n '__fish_seen_subcommand_from data-out' -l bytes -x -d 'How many bytes'
 complete -c ufstool -n '__fish_seen_subcommand_from data-out rpmb-write' -l fill -x -d 'The byte, two hexadecimal digits'
+complete -c ufstool -n '__fish_seen_subcommand_from abort-task query-task' -l meant -x -d 'The tag of the task that is meant'
 complete -c ufstool -n '__fish_seen_subcommand_from read-device-descriptor read-unit-descriptor' -l length -x -d 'How many bytes of the descriptor'
 complete -c ufstool -n '__fish_seen_subcommand_from read-unit-descriptor' -l index -x -d 'The index of the unit'
 complete -c ufstool -n '__fish_seen_subcommand_from write-boot-lun-en' -l value -x -a '0 1 2' -d 'The boot unit: none, A or B'
 complete -c ufstool -n '__fish_seen_subcommand_from read-flag set-flag clear-flag toggle-flag' -l flag -x -a 'fDeviceInit fPermanentWPEn fPowerOnWPEn' -d 'The flag'
+complete -c ufstool -n '__fish_seen_subcommand_from explain draw' -l image -d 'An image of dies'
 complete -c ufstool -n '__fish_seen_subcommand_from explain' -l frames -d 'Frames in hexadecimal digits'
 complete -c ufstool -n '__fish_seen_subcommand_from explain rpmb-key rpmb-write' -l key -x -d 'The key, 64 hexadecimal digits'
 complete -c ufstool -n '__fish_seen_subcommand_from explain rpmb-key rpmb-write' -l key-file -r -F -d 'A file with the key'

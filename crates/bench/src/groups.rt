@@ -1,4 +1,4 @@
-//! Times commands of 32 blocks, and 32 tasks at once: on a small device and on a large one, with few slots
+//! Times commands of 32 blocks, UNMAP too, and 32 tasks at once: on a small device and on a large one, with few slots
 //! and with many.
 use crate::clock::{each, percent, since, time_hash};
 use anyhow::{Result, ensure};
@@ -7,7 +7,7 @@ use std::alloc::Global;
 use std::rt::Clock;
 use std::time::Instant;
 use ufs_spec::UnitSpec;
-use workbench::messages::{FUA, READ, SYNCHRONIZE, WRITE, block_out, command};
+use workbench::messages::{FUA, READ, SYNCHRONIZE, WRITE, block_out, command, unmap, unmap_list};
 use workbench::{Workbench, new_dies};
 
 /// How many blocks a command has, how many commands make a row, and how many blocks that are.
@@ -154,6 +154,24 @@ fn flush(bench: &mut Workbench, dies: u8) -> bool {
     bench.send(&command(0, SYNCHRONIZE, 0, 0, 0)).is_ok() && is_good(bench, dies)
 }
 
+/// UNMAP of 32 blocks, which is answered once it is accepted.
+fn unmap_blocks(bench: &mut Workbench, address: u32) -> bool {
+    bench.send(&unmap(0)).is_ok()
+        && bench.hear()
+        && bench.send(&unmap_list(0, address, BLOCKS)).is_ok()
+        && is_good(bench, 0)
+}
+
+/// So many of them, one after another, each of which is made durable by a flush.
+fn unmap_all(bench: &mut Workbench, commands: u32, dies: u8) -> bool {
+    for index in 0..commands {
+        if !unmap_blocks(bench, index.saturating_mul(32)) || !flush(bench, dies) {
+            return false;
+        }
+    }
+    true
+}
+
 /// 32 FUA writes of a block each are open at once.
 fn write_at_once(bench: &mut Workbench, dies: u8, out: &mut [u8; 4128]) -> bool {
     for tag in 0..32u8 {
@@ -180,9 +198,10 @@ fn write_at_once(bench: &mut Workbench, dies: u8, out: &mut [u8; 4128]) -> bool 
 /// What is timed.
 #[derive(Clone, Copy)]
 enum Row {
-    /// Writes with FUA, and reads from dies.
+    /// Writes with FUA, reads from dies, and UNMAPs that are flushed.
     Durable,
     Read,
+    Unmap,
     /// Writes without FUA that fill half the slots, reads of what lies in slots, and one flush.
     Fill,
     Pending,
@@ -202,6 +221,7 @@ fn play(bench: &mut Workbench, shape: Shape, row: Row, out: &mut [u8; 4128]) -> 
     match row {
         Row::Durable => write_all(bench, FUA, COMMANDS, dies, out),
         Row::Read => read_all(bench, COMMANDS, dies),
+        Row::Unmap => unmap_all(bench, COMMANDS, dies),
         Row::Fill => write_all(bench, 0, half(shape), 0, out),
         Row::Pending => read_all(bench, half(shape), 0),
         Row::Flush => flush(bench, dies),
@@ -212,8 +232,7 @@ fn play(bench: &mut Workbench, shape: Shape, row: Row, out: &mut [u8; 4128]) -> 
 /// How many blocks a row writes or reads.
 fn count_of(shape: Shape, row: Row) -> u32 {
     match row {
-        Row::Durable => COUNT,
-        Row::Read => COUNT,
+        Row::Durable | Row::Read | Row::Unmap => COUNT,
         Row::AtOnce => 32,
         _ => u32::from(shape.slots / 64) * 32,
     }
@@ -237,6 +256,7 @@ fn time_row<R: Clock>(
 struct Times {
     durable: u64,
     read: u64,
+    unmapped: u64,
     filled: u64,
     pending: u64,
     cached: u64,
@@ -250,6 +270,8 @@ fn measure<R: Clock>(rt: &R, bench: &mut Workbench, shape: Shape) -> Result<Time
     let durable = percent(durable, time_hash(rt, COUNT)?);
     let read = time_row(rt, bench, shape, Row::Read, &mut out)?;
     let read = percent(read, time_hash(rt, COUNT)?);
+    let unmapped = time_row(rt, bench, shape, Row::Unmap, &mut out)?;
+    let unmapped = percent(unmapped, time_hash(rt, COUNT)?);
     let filled = time_row(rt, bench, shape, Row::Fill, &mut out)?;
     let pending = time_row(rt, bench, shape, Row::Pending, &mut out)?;
     let flushed = time_row(rt, bench, shape, Row::Flush, &mut out)?;
@@ -258,6 +280,7 @@ fn measure<R: Clock>(rt: &R, bench: &mut Workbench, shape: Shape) -> Result<Time
     Ok(Times {
         durable,
         read,
+        unmapped,
         filled: percent(filled, hash),
         pending: percent(pending, hash),
         cached: percent(filled.saturating_add(flushed), hash),
@@ -272,6 +295,7 @@ fn tell<R: Eprint>(rt: &R, shape: Shape, times: Times) -> Result<()> {
     let slots = shape.slots;
     let durable = times.durable;
     let read = times.read;
+    let unmapped = times.unmapped;
     let filled = times.filled;
     let cached = times.cached;
     let pending = times.pending;
@@ -280,6 +304,7 @@ fn tell<R: Eprint>(rt: &R, shape: Shape, times: Times) -> Result<()> {
         "{dies} dies of {blocks} blocks, {slots} slots, for a block, in percent of a hash:"
     )?;
     eprintln!(rt; "  writes of 32 blocks with FUA {durable}, reads of 32 blocks from dies {read}")?;
+    eprintln!(rt; "  UNMAPs of 32 blocks, each with a flush after it {unmapped}")?;
     eprintln!(rt;
         "  writes of 32 blocks without FUA {filled}, and with one flush after them {cached}"
     )?;

@@ -8,12 +8,11 @@ use Rattle.block_table.specs.declared.rows.OpenBlock.{OpenBlock}
 use Rattle.block_table.specs.declared.Sizes.{Sizes}
 use Rattle.block_table.specs.Rows.{rows_failed, rows_filling, rows_in_flight}
 
--- what each block is, in order by die and block, what is known of each die, and whether a block is bad
+-- what each block is, in order by die and block, and what is known of each die
 pub record Blocks : Type 0 where
   pub sizes : Sizes
   pub states : List BlockState
   pub rows : List DieRow
-  pub has_bad : Bool
 
 -- the block holds nothing that is needed, so it may be erased
 abbrev pub is_free : BlockState → Bool
@@ -89,5 +88,4 @@ gone_bad t die block =
     record t {
       states = slice_set t.states (block_index t die block) state.Bad;
       rows = rows_failed t.rows die block;
-      has_bad = true;
     }

@@ -2,7 +2,7 @@
 //! job each die has; and beside it which pages are live, and which block is to be collected.
 #![tactic(auto)]
 
-ghost use Rattle.std.specs.Prelude.{◌≡◌, ◌≤◌, ◌*◌, IfOk, None, Some, count_by, length, map, replicate, slice_get, slice_set};
+ghost use Rattle.std.specs.Prelude.{◌≡◌, ◌≤◌, ◌<◌, ◌+◌, ◌*◌, ◌^◌, IfOk, None, Some, count_by, if◌then◌else◌, length, map, replicate, slice_get, slice_set};
 ghost use Rattle.std.specs.List.{list_any};
 ghost use Rattle.block_table.specs.Blocks.{Blocks, block_index, erased_at, freed, freed_state, gone_bad, is_bad, is_free, is_stale, opened_at, page_written, state_of};
 ghost use Rattle.block_table.specs.Rows.{erases, filling_but, fills, idle_row, reads_for, rows_filling, rows_in_flight, without_block, without_reader, writes_page, writes_step};
@@ -56,8 +56,8 @@ pub struct BlockTable {
     free: usize,
     /// How many blocks are stale, which are free as well.
     stale: usize,
-    /// Whether any block is bad; it stays so.
-    has_bad: bool,
+    /// How many blocks are bad.
+    bad: usize,
 }
 
 impl Model for BlockTable {
@@ -87,19 +87,18 @@ impl BlockTable {
           sizes = sizes;
           states = states.items;
           rows = replicate sizes.dies idle_row;
-          has_bad = list_any is_bad states.items;
         }) }
     {
         let free = count_free(states.as_slice());
         let stale = count_stale(states.as_slice());
-        let has_bad = any_bad(states.as_slice());
+        let bad = count_bad(states.as_slice());
         Ok(BlockTable {
             sizes,
             states,
             rows: vec![in alloc; DieRow::default(); sizes.dies as usize]?,
             free,
             stale,
-            has_bad,
+            bad,
         })
     }
 
@@ -125,11 +124,11 @@ impl BlockTable {
         self.stale > 0
     }
 
-    /// Whether any block is bad.
-    pub fn has_bad(&self) -> bool
-        ensures { result ≡ self.now.has_bad }
+    /// How many blocks of all dies are bad.
+    pub fn bad_blocks(&self) -> usize
+        ensures { result ≡ count_by is_bad self.now.states }
     {
-        self.has_bad
+        self.bad
     }
 
     /// What is known of the die; `None` if there is no such die.
@@ -272,7 +271,6 @@ impl BlockTable {
         ensures { self.new ≡ gone_bad self.old die block }
     {
         self.set_state(die, block, BlockState::Bad);
-        self.has_bad = true;
         if let Some(row) = self.row(die) {
             self.job_over(die, filling_but(row.filling, block));
         }
@@ -285,7 +283,7 @@ impl BlockTable {
         die as usize * self.sizes.blocks as usize + block as usize
     }
 
-    /// Notes what the block is from now on, and counts the free ones.
+    /// Notes what the block is from now on, and counts anew those that are free, stale or bad.
     fn set_state(&mut self, die: u8, block: u16, state: BlockState)
         ensures { self.new ≡ record self.old {
           states = slice_set self.old.states (block_index self.old die block) state;
@@ -295,18 +293,10 @@ impl BlockTable {
         if index >= self.states.len() {
             return;
         }
-        if is_free(&self.states[index]) {
-            self.free -= 1;
-        }
-        if is_free(&state) {
-            self.free += 1;
-        }
-        if is_stale(&self.states[index]) {
-            self.stale -= 1;
-        }
-        if is_stale(&state) {
-            self.stale += 1;
-        }
+        let was = self.states[index];
+        self.free = recounted(self.free, is_free(&was), is_free(&state));
+        self.stale = recounted(self.stale, is_stale(&was), is_stale(&state));
+        self.bad = recounted(self.bad, is_bad(&was), is_bad(&state));
         self.states[index] = state;
     }
 
@@ -336,6 +326,15 @@ impl BlockTable {
     }
 }
 
+/// How many blocks count once one changed that counted or not, and counts now or not.
+fn recounted(count: usize, counted: bool, counts: bool) -> usize
+    requires counted { (if counted then 1 else 0) ≤ count }
+    requires room { count < 2 ^ 63 }
+    ensures { result + (if counted then 1 else 0) ≡ count + (if counts then 1 else 0) }
+{
+    count - usize::from(counted) + usize::from(counts)
+}
+
 /// How many of the blocks are free.
 fn count_free(states: &[BlockState]) -> usize
     ensures { result ≡ count_by is_free states.now }
@@ -350,11 +349,11 @@ fn count_stale(states: &[BlockState]) -> usize
     states.iter().filter(|state| is_stale(state)).count()
 }
 
-/// Whether any of the blocks is bad.
-fn any_bad(states: &[BlockState]) -> bool
-    ensures { result ≡ list_any is_bad states.now }
+/// How many of the blocks are bad.
+fn count_bad(states: &[BlockState]) -> usize
+    ensures { result ≡ count_by is_bad states.now }
 {
-    states.iter().any(|state| is_bad(state))
+    states.iter().filter(|state| is_bad(state)).count()
 }
 
 /// Whether a block that is so is free.

@@ -6,7 +6,7 @@ use Rattle.clap.specs.Words.{with_subcommand}
 use Rattle.clap.specs.declared.builder.action.ArgAction.TheVariants.{Set}
 use Rattle.clap.specs.declared.builder.value_parser.ValueParser.TheVariants.{Signed}
 use Rattle.command_line.specs.declared.asked.Call.{Call}
-use Rattle.command_line.specs.declared.asked.Call.TheVariants.{Check, Run, Stress}
+use Rattle.command_line.specs.declared.asked.Call.TheVariants.{Check, Load, Run, Save, Stress}
 
 -- the one argument of a command, the name of a script's file
 abbrev pub script : Rule
@@ -29,6 +29,20 @@ running =
 abbrev pub scripts : App
 scripts = with_subcommand running (of_script (codes "check")).top
 
+-- an argument that has no option's name
+abbrev pub needed : Text → Rule
+needed name = record (new_rule name) { required = true; action = Some Set }
+
+-- the command `image`: what is done, the image's file and the script's
+abbrev pub image : App
+image =
+    with_rule (with_rule (with_rule (new_app (codes "image")) (needed (codes "action"))) (needed (codes "image")))
+    (needed (codes "script"))
+
+-- the commands that take a script, and `image`
+abbrev pub with_image : App
+with_image = with_subcommand scripts image.top
+
 -- an argument `--NAME N`, a whole number from 1 to 8
 abbrev pub count : Text → Rule
 count name = record (new_rule name) {
@@ -43,7 +57,7 @@ abbrev pub stress : App
 stress = with_rule (with_rule (new_app (codes "stress")) (count (codes "dies"))) (count (codes "hosts"))
 
 abbrev pub program : App
-program = with_subcommand scripts stress.top
+program = with_subcommand with_image stress.top
 
 -- the rows of a command have this script
 abbrev pub IsScriptIn : List Row → Text → Type 0
@@ -54,10 +68,22 @@ abbrev pub IsNumberIn : Text → List Row → ℕ → Type 0
 IsNumberIn name rows n =
     (text : Text) × (one_of name rows ≡ Some text) × (digits_value 10 (without_leading_plus text) ≡ n)
 
+-- the rows have an action, and the files of the call that it asks for
+abbrev pub IsImageAsked : List Row → Call → Type 0
+IsImageAsked rows (Save file script) =
+    (first_of (codes "action") rows ≡ Some (codes "save")) × (first_of (codes "image") rows ≡ Some file.now)
+    × IsScriptIn rows script.now
+IsImageAsked rows (Load file script) =
+    (first_of (codes "action") rows ≡ Some (codes "load")) × (first_of (codes "image") rows ≡ Some file.now)
+    × IsScriptIn rows script.now
+IsImageAsked rows _ = ⊥
+
 -- the command that is asked for, with its script or its numbers
 abbrev pub IsCommand : Text → List Row → Call → Type 0
 IsCommand name rows (Run file) = (name ≡ codes "run") × IsScriptIn rows file.now
 IsCommand name rows (Check file) = (name ≡ codes "check") × IsScriptIn rows file.now
+IsCommand name rows (Save file script) = (name ≡ codes "image") × IsImageAsked rows (Save file script)
+IsCommand name rows (Load file script) = (name ≡ codes "image") × IsImageAsked rows (Load file script)
 IsCommand name rows (Stress dies hosts) =
     (name ≡ codes "stress") × IsNumberIn (codes "dies") rows dies × IsNumberIn (codes "hosts") rows hosts
 

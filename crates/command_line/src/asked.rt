@@ -8,6 +8,10 @@ pub enum Call<'a> {
     Run(&'a str),
     /// Try stops at each program and erase of the script in the file of this name.
     Check(&'a str),
+    /// Run the script in the second file, and write the image of its dies to the first one.
+    Save { image: &'a str, script: &'a str },
+    /// Run the script in the second file over the dies of the image in the first one.
+    Load { image: &'a str, script: &'a str },
     /// Have so many hosts at work on one device with so many dies, each in a thread of its own.
     Stress { dies: u8, hosts: u8 },
 }

@@ -21,6 +21,9 @@ pub mod GroupsOfFrames
 pub mod HeldBegins
 pub mod HostRight
 pub mod LastBlock
+pub mod ListsBegin
+pub mod ListsCome
+pub mod ListsGathered
 pub mod NumbersAwaited
 pub mod PagesAsked
 pub mod PagesBrought
@@ -37,3 +40,5 @@ pub mod SlotsFilled
 pub mod TaskBecomes
 pub mod TasksBegin
 pub mod UnitsTold
+pub mod ZerosAccepted
+pub mod ZerosPut

@@ -22,6 +22,7 @@ use Rattle.task_set.specs.declared.tasks.TaskEvent.{TaskEvent}
 use Rattle.task_set.specs.declared.tasks.TaskEvent.TheVariants as event
 use Rattle.task_set.specs.declared.tasks.Transfer.{Transfer}
 use Rattle.device.specs.Kept.{DeviceCore, IsLayerWith}
+use Rattle.device.specs.Lists.{list_slots}
 use Rattle.task_set.specs.Lists.{task_happened}
 use Rattle.task_set.specs.Shorts.{short_locked}
 use Rattle.task_set.specs.Tasks.{after_lost_read, after_read, next_transfer, task_after}
@@ -58,26 +59,30 @@ pub record HasKept (after : Core) (t : Translation) (claims : Claims) (tag : ℕ
 abbrev pub has_slots : Translation → ℕ → Bool
 has_slots t blocks = nat_le blocks (free_slots t)
 
--- how far a WRITE is that begins, and the layer then: it claims a slot for each block
-pub record HasClaimed (after : Core) (t : Translation) (claims : Claims) (tag : ℕ) (key : Key) (blocks : ℕ)
-    (forced : Bool) (p : Phase) : Type 0 where
-  pub phase_is : p ≡
-      (if has_slots t blocks
-      then phase.AskData (record { key = key; blocks = blocks; gathered = 0; forced = forced })
-      else phase.Answer status.Busy 0)
-  pub layer : claims tag ≡ [] → IsLayerWith after (if has_slots t blocks then moved t (Claim blocks) else t)
-      (if has_slots t blocks then with_claimed claims tag (replicate blocks zero_block) else claims)
+-- how far a command is that begins, and the layer then, if it claims so many slots: with them it asks for its data
+pub record HasClaimedFor (after : Core) (t : Translation) (claims : Claims) (tag slots : ℕ) (asks p : Phase) : Type 0
+  where
+    pub phase_is : p ≡ (if has_slots t slots then asks else phase.Answer status.Busy 0)
+    pub layer : claims tag ≡ [] → IsLayerWith after (if has_slots t slots then moved t (Claim slots) else t)
+        (if has_slots t slots then with_claimed claims tag (replicate slots zero_block) else claims)
+
+-- a WRITE of which no block came
+abbrev pub write_asks : Key → ℕ → Bool → Phase
+write_asks key blocks forced = phase.AskData (record { key = key; blocks = blocks; gathered = 0; forced = forced })
+
+-- so it is of a WRITE, which claims a slot for each block
+abbrev pub HasClaimed : Core → Translation → Claims → ℕ → Key → ℕ → Bool → Phase → Type 0
+HasClaimed after t claims tag key blocks forced p =
+    HasClaimedFor after t claims tag blocks (write_asks key blocks forced) p
 
 -- how many slots a SECURITY PROTOCOL OUT claims: for two pages of the area and the settings
 abbrev pub frame_slots : ℕ
 frame_slots = 3
 
--- how far a SECURITY PROTOCOL OUT is that begins, and the layer then: it claims its slots
-pub record HasClaimedFrames (after : Core) (t : Translation) (claims : Claims) (tag size : ℕ) (p : Phase) : Type 0
-  where
-    pub phase_is : p ≡ (if has_slots t frame_slots then phase.AskFrames size else phase.Answer status.Busy 0)
-    pub layer : claims tag ≡ [] → IsLayerWith after (if has_slots t frame_slots then moved t (Claim frame_slots) else t)
-        (if has_slots t frame_slots then with_claimed claims tag (replicate frame_slots zero_block) else claims)
+-- so it is of a SECURITY PROTOCOL OUT
+abbrev pub HasClaimedFrames : Core → Translation → Claims → ℕ → ℕ → Phase → Type 0
+HasClaimedFrames after t claims tag size p =
+    HasClaimedFor after t claims tag frame_slots (phase.AskFrames size) p
 
 -- how far a command is that begins with what its task keeps to send, so many bytes: where its host takes nothing, it is
 -- done
@@ -96,6 +101,8 @@ HasBegun after t claims tag (Err refused) p = (p ≡ phase.Answer refused 0) × 
 HasBegun after t claims tag (Ok (plan.Nothing n)) p = (p ≡ phase.Answer status.Good n) × IsLayerWith after t claims
 HasBegun after t claims tag (Ok (plan.Send x)) p = (p ≡ phase.SendData x) × IsLayerWith after t claims
 HasBegun after t claims tag (Ok (plan.AskFrames size)) p = HasClaimedFrames after t claims tag size p
+HasBegun after t claims tag (Ok (plan.AskList unit size)) p =
+    HasClaimedFor after t claims tag (list_slots size) (phase.AskList unit size) p
 HasBegun after t claims tag (Ok (plan.TakeFrames size taken)) p =
     (p ≡ held_phase size taken) × IsLayerWith after t claims
 HasBegun after t claims tag (Ok (plan.Tell told size taken)) p =

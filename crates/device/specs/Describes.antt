@@ -10,7 +10,8 @@ use Rattle.std.specs.List.{list_any}
 use Rattle.ufs_spec.specs.Plain.{greatest_command}
 use Rattle.ufs_spec.specs.Disk.{Flight, job_of}
 use Rattle.ufs_spec.specs.Exchanges as exchange
-use Rattle.ufs_spec.specs.Exchanges.{Answering, Awaiting, Deed, ForFrames, ForWrite, Gathering, Purpose, ReadBlock}
+use Rattle.ufs_spec.specs.Exchanges.{Answering, Awaiting, Deed, ForFrames, ForUnmap, ForWrite, Gathering, Purpose}
+use Rattle.ufs_spec.specs.Exchanges.{ReadBlock}
 use Rattle.ufs_spec.specs.Exchanges.{NotRead, ReadingArea, RpmbRequest, Sending, SendingBytes, Short, Unread, WasRead}
 use Rattle.ufs_spec.specs.Exchanges.{is_unfilled, task_of}
 use Rattle.ufs_spec.specs.FrameRequests.{reads_area}
@@ -22,7 +23,7 @@ use Rattle.ufs_spec.specs.Machine.{durable, is_to_fill, observe}
 use Rattle.ufs_spec.specs.Messages.{spelling}
 use Rattle.ufs_spec.specs.Moves.{is_pin_of}
 use Rattle.ufs_spec.specs.Plain.{region_of, zero_block}
-use Rattle.ufs_spec.specs.Refusals.{State, locked, numbers_of, plain_now, sends_frames}
+use Rattle.ufs_spec.specs.Refusals.{State, locked, numbers_of, plain_now, sends_frames, sends_frames_to}
 use Rattle.ufs_spec.specs.Exchanges.{most_tasks}
 use Rattle.ufs_spec.specs.Translation.{Pin}
 use Rattle.ufs_spec.specs.declared.configs.Numbers.{Numbers}
@@ -52,6 +53,7 @@ use Rattle.task_set.specs.declared.frames.Frames.TheVariants.{Answered, Decided,
 use Rattle.device.specs.Calls.{frame_slots}
 use Rattle.device.specs.Frames.{part_held, part_of_page}
 use Rattle.device.specs.Kept.{DeviceCore}
+use Rattle.device.specs.Lists.{IsOfList, list_slots}
 use Rattle.task_set.specs.Tasks.{data_length, is_sender, read_error, status_kept}
 use Rattle.task_set.specs.Shorts.{reply_locked}
 use Rattle.device.specs.Replies.{data_bytes, short_message, short_said}
@@ -118,6 +120,13 @@ pub record IsGatheringFrames (size total : ℕ) (purpose : Purpose) (gathered : 
   pub some : 1 ≤ size
   pub few : size ≤ 4096
 
+-- an UNMAP of this unit with a list of so many bytes, all of which are to come in one message
+pub record IsGatheringList (unit size total : ℕ) (purpose : Purpose) (gathered : List ℕ) : Type 0 where
+  pub for_list : purpose ≡ ForUnmap unit
+  pub none_came : gathered ≡ []
+  pub total_is : total ≡ size
+  pub of_list : IsOfList size
+
 -- the pages of the area are read that the request asks for, of a command of so many bytes: as many, and how each read
 -- ended
 pub record IsReadingArea (r : AreaReading) (total : ℕ) (pages : List ReadBlock) : Type 0 where
@@ -134,6 +143,10 @@ IsDoing before expected total (phase.AskFrames size) (Gathering purpose gathered
     IsGatheringFrames size total purpose gathered × (asked ≡ false)
 IsDoing before expected total (phase.AwaitFrames size) (Gathering purpose gathered asked) =
     IsGatheringFrames size total purpose gathered × (asked ≡ true)
+IsDoing before expected total (phase.AskList unit size) (Gathering purpose gathered asked) =
+    IsGatheringList unit size total purpose gathered × (asked ≡ false)
+IsDoing before expected total (phase.AwaitList unit size) (Gathering purpose gathered asked) =
+    IsGatheringList unit size total purpose gathered × (asked ≡ true)
 IsDoing before expected total (phase.SendHeld size) (SendingBytes bytes) =
     (length bytes ≡ size) × (total ≡ size) × (1 ≤ min expected size)
 IsDoing before expected total (phase.AwaitFrontier number size) (Awaiting commands) =
@@ -234,6 +247,8 @@ FramesFit (phase.AskData x) f held deed = f ≡ NotBrought
 FramesFit (phase.AwaitData x) f held deed = f ≡ NotBrought
 FramesFit (phase.AskFrames size) f held deed = f ≡ Undecided
 FramesFit (phase.AwaitFrames size) f held deed = f ≡ Undecided
+FramesFit (phase.AskList unit size) f held deed = f ≡ NotBrought
+FramesFit (phase.AwaitList unit size) f held deed = f ≡ NotBrought
 FramesFit (phase.SendBlocks x) f held deed = f ≡ NotBrought
 FramesFit (phase.SendData x) f held deed = f ≡ NotBrought
 FramesFit (phase.SendHeld size) f held deed = (f ≡ NotBrought) × IsSentFrom size held deed
@@ -247,6 +262,7 @@ pub record TaskKept (before : ℕ) (a : OpenTask) (b : exchange.Task) : Type 0 w
   pub tag : b.tag ≡ a.tag
   pub expected : b.expected ≡ a.expected
   pub sends : sends_frames b.command ≡ is_sender a
+  pub sends_here : sends_frames_to 0 b.command ≡ is_sender a
   pub request : AreFramesKept a.frames a.held b.request
   pub asks : ReadsAsked a.phase a.frames a.held
   pub fits : FramesFit a.phase a.frames a.held b.deed
@@ -295,22 +311,23 @@ abbrev pub blocks_gathered : ℕ → List ℕ → List (List ℕ)
 blocks_gathered zero bytes = []
 blocks_gathered (suc n) bytes = block_or_zeros bytes ∷ blocks_gathered n (drop 4096 bytes)
 
--- what a task that gathers data has claimed: a WRITE one slot for each block of its command, frames three that hold
--- zeros
-abbrev pub claimed_for : Purpose → List ℕ → List (List ℕ)
-claimed_for (ForWrite unit address blocks forced) gathered = blocks_gathered blocks gathered
-claimed_for (ForFrames region) gathered = replicate frame_slots zero_block
-claimed_for purpose gathered = []
+-- what a task of so many bytes has claimed that gathers data: a WRITE one slot for each block of its command, frames
+-- three that hold zeros, and the list of an UNMAP those of the blocks that it may name, which hold zeros too
+abbrev pub claimed_for : ℕ → Purpose → List ℕ → List (List ℕ)
+claimed_for total (ForWrite unit address blocks forced) gathered = blocks_gathered blocks gathered
+claimed_for total (ForFrames region) gathered = replicate frame_slots zero_block
+claimed_for total (ForUnmap unit) gathered = replicate (list_slots total) zero_block
 
--- a WRITE that gathers has claimed a slot for each of its blocks, in which it lies once it came
-abbrev pub claimed_in : Deed → List (List ℕ)
-claimed_in (Gathering purpose gathered asked) = claimed_for purpose gathered
-claimed_in deed = []
+-- what a task of so many bytes has claimed by what it does: a WRITE that gathers a slot for each of its blocks, in
+-- which it lies once it came
+abbrev pub claimed_in : ℕ → Deed → List (List ℕ)
+claimed_in total (Gathering purpose gathered asked) = claimed_for total purpose gathered
+claimed_in total deed = []
 
 -- what a task has claimed, and nothing where there is none
 abbrev pub claimed_by : Option exchange.Task → List (List ℕ)
 claimed_by None = []
-claimed_by (Some task) = claimed_in task.deed
+claimed_by (Some task) = claimed_in task.length task.deed
 
 -- what the task of each tag has claimed
 abbrev pub claims_of : List exchange.Task → Claims
@@ -402,6 +419,13 @@ pub record Describes (d : DeviceCore) (s : State) : Type 0 where
   pub kept : Keeps d s
   pub answered : HaveAnswered s
   -- if the device is locked, the tasks were told so, and the short exchanges too
+  pub told : locked s ≡ true → All (IsTold (durable s)) s.tasks
+  pub shorts_told : locked s ≡ true → All (IsShortTold (durable s)) s.shorts
+
+-- what is kept of the state behind a call, if nothing became due there and the lock has nothing to tell
+pub record IsBehind (d : DeviceCore) (s : State) : Type 0 where
+  pub keeps : Keeps d s
+  pub answered : HaveAnswered s
   pub told : locked s ≡ true → All (IsTold (durable s)) s.tasks
   pub shorts_told : locked s ≡ true → All (IsShortTold (durable s)) s.shorts
 

@@ -22,6 +22,7 @@ use Rattle.task_set.specs.declared.tasks.Wanted.TheVariants as wanted
 use Rattle.device.specs.Kept.{DeviceCore, IsLayerWith}
 use Rattle.device.specs.Bare.{IsBare}
 use Rattle.device.specs.Plans.{IsPlanned, IsRequest}
+use Rattle.device.specs.Unmaps.{HasListCome}
 use Rattle.task_set.specs.Lists.{asked_among, is_in_use, short_allowed}
 
 -- Commands
@@ -73,10 +74,11 @@ pub record IsTaskOpened (before after : DeviceCore) (flags lun tag expected : �
 abbrev pub asked_for : DeviceCore → ℕ → ℕ → ℕ → ℕ → Option AskedFor
 asked_for d lun tag offset count = asked_among d.tasks lun tag offset count
 
--- so many bytes are what was asked for: a block of 4096, or the frames
+-- so many bytes are what was asked for: a block of 4096, the frames, or the list
 abbrev pub HasLength : Wanted → ℕ → Type 0
 HasLength (wanted.Block x) count = count ≡ 4096
 HasLength (wanted.Frames size) count = count ≡ size
+HasLength (wanted.List unit size) count = count ≡ size
 
 -- a block of a WRITE came, with the last its group was accepted or not
 pub record HasBlock (before after : DeviceCore) (tag index : ℕ) (x : Transfer) (bytes : List ℕ) : Type 0 where
@@ -86,10 +88,11 @@ pub record HasBlock (before after : DeviceCore) (tag index : ℕ) (x : Transfer)
       HasGathered layer t claims tag x bytes event
   pub after_is : after ≡ record (with_event before index event) { ftl = layer }
 
--- what was asked for came: a block of a WRITE, or all frames of a SECURITY PROTOCOL OUT
+-- what was asked for came: a block of a WRITE, all frames of a SECURITY PROTOCOL OUT, or the list of an UNMAP
 abbrev pub HasCome : DeviceCore → DeviceCore → ℕ → ℕ → Wanted → List ℕ → Type 0
 HasCome before after tag index (wanted.Block x) bytes = HasBlock before after tag index x bytes
 HasCome before after tag index (wanted.Frames size) bytes = HasDecided before after tag index bytes
+HasCome before after tag index (wanted.List unit size) bytes = HasListCome before after tag index unit bytes
 
 -- what a task asked for came; then what became due filled its register, and the lock was told
 pub record IsDataTaken (before after : DeviceCore) (tag : ℕ) (asked : AskedFor) (bytes : List ℕ) : Type 0 where

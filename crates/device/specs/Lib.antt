@@ -6,10 +6,13 @@ pub mod Groups
 pub mod Hears
 pub mod Kept
 pub mod Leftovers
+pub mod Lists
+pub mod Manages
 pub mod Opened
 pub mod Plans
 pub mod Queries
 pub mod Replies
 pub mod Rooms
 pub mod Targets
+pub mod Unmaps
 pub mod Worlds

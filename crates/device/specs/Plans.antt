@@ -3,7 +3,7 @@ use Rattle.std.specs.Prelude.{◌≡◌, ℕ, ◌*◌, ◌==◌, ◌&&◌, ◌||
 use Rattle.std.specs.Prelude.{Option}
 use Rattle.std.specs.Prelude.{Some, None, Result, Ok, Err}
 use Rattle.std.specs.Int.{div_ceil}
-use Rattle.ufs_spec.specs.Cdbs.{IsTakenCdb, length_of, operation_of, six_blocks}
+use Rattle.ufs_spec.specs.Cdbs.{length_of, operation_of, six_blocks}
 use Rattle.ufs_spec.specs.Begins.{unit_or_first}
 use Rattle.ufs_spec.specs.Exchanges.{Busy, invalid_field, not_ready, sequence_error, write_protected}
 use Rattle.ufs_spec.specs.Keys.{data_key}
@@ -69,6 +69,10 @@ write_plan lun address blocks forced =
 abbrev pub data_plan : ℕ → ShortData → Plan
 data_plan expected x = if min expected (data_length x) == 0 then plan.Nothing (data_length x) else plan.Send x
 
+-- an UNMAP without a list is done at once; any other asks for its list
+abbrev pub list_plan : ℕ → ℕ → Plan
+list_plan unit list = if list == 0 then plan.Nothing 0 else plan.AskList unit list
+
 -- how many bytes of data a command has on a device with this configuration
 abbrev pub length_on : Numbers → Cdb → ℕ
 length_on n command = length_of (units_listed n command) command
@@ -101,6 +105,7 @@ plan_of n to expected (cdb.Write10 address blocks forced) =
     write_plan (unit_or_first to.unit) address blocks forced
 plan_of n to expected (cdb.SynchronizeCache10 address blocks immediate) =
     if immediate then plan.Nothing 0 else plan.Flush
+plan_of n to expected (cdb.Unmap list) = list_plan (unit_or_first to.unit) list
 plan_of n to expected (cdb.SecurityOut region size) = plan.AskFrames size
 plan_of n to expected (cdb.SecurityIn region size) = plan.TakeFrames size (min expected size)
 plan_of n to expected command = plan.Nothing 0
@@ -112,7 +117,6 @@ pub record Passes (s : State) (r : Request) (todo : Plan) : Type 0 where
   pub command : Cdb
   pub is : r.cdb ≡ Some command
   pub spelled : operation_of command ≡ operation_in r
-  pub taken : IsTakenCdb command
   pub in_region : IsOfRegion command
   pub todo_is : todo ≡ plan_of (numbers_of s) (target_of s r) r.expected command
 

@@ -130,6 +130,8 @@ owed_in t read held a (phase.SendBlocks x) = option_map (block_message a x) (blo
 owed_in t read held a (phase.SendData x) = Some (data_message a x)
 owed_in t read held a (phase.AskFrames size) = Some (message.ReadyToTransfer a.lun a.tag 0 size)
 owed_in t read held a (phase.AwaitFrames size) = None
+owed_in t read held a (phase.AskList unit size) = Some (message.ReadyToTransfer a.lun a.tag 0 size)
+owed_in t read held a (phase.AwaitList unit size) = None
 owed_in t read held a (phase.ReadArea r) = area_reply a r.length
 owed_in t read held a (phase.SendHeld size) = option_map (frames_message a size) held
 owed_in t read held a (phase.Answer s n) = Some (answer_of a s n)
@@ -160,6 +162,8 @@ moved_on d k (phase.SendData x) = with_event d k event.DataSent
 moved_on d k (phase.SendBlocks x) = with_event d k event.BlockSent
 moved_on d k (phase.AskFrames size) = with_event d k event.DataAskedFor
 moved_on d k (phase.AwaitFrames size) = d
+moved_on d k (phase.AskList unit size) = with_event d k event.DataAskedFor
+moved_on d k (phase.AwaitList unit size) = d
 moved_on d k (phase.ReadArea r) = without_task d k
 moved_on d k (phase.SendHeld size) = with_event d k event.DataSent
 moved_on d k (phase.Answer s n) = without_task d k
@@ -177,6 +181,8 @@ HasMoved after t claims tag (phase.SendBlocks x) =
     IsLayerWith after (moved (moved t (LetGo tag x.sent)) (WantPage tag (x.sent + 1))) claims
 HasMoved after t claims tag (phase.AskFrames size) = IsLayerWith after t claims
 HasMoved after t claims tag (phase.AwaitFrames size) = IsLayerWith after t claims
+HasMoved after t claims tag (phase.AskList unit size) = IsLayerWith after t claims
+HasMoved after t claims tag (phase.AwaitList unit size) = IsLayerWith after t claims
 HasMoved after t claims tag (phase.SendHeld size) = IsLayerWith after t claims
 HasMoved after t claims tag (phase.ReadArea r) = IsLayerWith after (moved t (LetGoAll tag)) claims
 HasMoved after t claims tag (phase.Answer s n) = IsLayerWith after (moved t (LetGoAll tag)) claims
@@ -203,7 +209,7 @@ query_answer n tag q value =
 abbrev pub short_said : Numbers → ℕ → ShortReply → Message
 short_said n tag (reply.TaskSetFull lun expected) = response lun tag expected 0 exchange.TaskSetFull
 short_said n tag reply.NopIn = message.NopIn tag
-short_said n tag (reply.NotManaged lun) = message.TaskResponse lun tag 0x04
+short_said n tag (reply.Managed lun service) = message.TaskResponse lun tag service
 short_said n tag (reply.QueryFailed query code) = query_failed tag (query_with query 0) code
 short_said n tag (reply.QueryDone query value) = query_answer n tag (query_with query 0) value
 

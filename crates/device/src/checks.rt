@@ -2,9 +2,10 @@
 ghost use Rattle.std.specs.Prelude.{◌≡◌, ◌≤◌, ℕ, ◌*◌, ◌&&◌, false, not, option_map, IfErr, IfOk, IsOk, None};
 ghost use Rattle.std.specs.Prelude.{Some};
 ghost use Rattle.ufs_spec.specs.Plain.{greatest_command};
-ghost use Rattle.ufs_spec.specs.Cdbs.{IsTakenCdb, address_of, blocks_of, direction_of, operation_of};
+ghost use Rattle.ufs_spec.specs.Cdbs.{address_of, blocks_of, direction_of, operation_of};
 ghost use Rattle.ufs_spec.specs.Cdbs.{length_of as length_of_command};
 ghost use Rattle.ufs_spec.specs.Refusals.{Request, State, first_line, flushes, has_other_response};
+ghost use Rattle.ufs_spec.specs.Refusals.{has_wrong_list};
 ghost use Rattle.ufs_spec.specs.Refusals.{is_crowded, is_frames, is_past, is_protected, is_refused_write};
 ghost use Rattle.ufs_spec.specs.Refusals.{is_too_long, lacks_data, lacks_response, lines_for, mended};
 ghost use Rattle.ufs_spec.specs.Refusals.{needs_mended, numbers_of, slots_needed, unit_numbers_of, units_listed};
@@ -14,12 +15,13 @@ ghost use Rattle.ufs_spec.specs.declared.configs.Numbers.{Numbers};
 ghost use Rattle.ftl_core.specs.Public.{Describes as IsLayer};
 ghost use Rattle.device.specs.Bare.{IsBare};
 ghost use Rattle.device.specs.Plans.{IsOfRegion, IsPlanned, IsRequest, data_plan, identity_of, lines_now};
-ghost use Rattle.device.specs.Plans.{plan_of, read_plan, tell_plan, write_plan};
+ghost use Rattle.device.specs.Plans.{list_plan, plan_of, read_plan, tell_plan, write_plan};
 ghost use Rattle.task_set.specs.Tasks.{status_kept};
 
 use crate::device::Device;
 use crate::plans::{Identity, Plan};
 use crate::targets::Target;
+use crate::unmap::{LIST_HEADER, LIST_OF_ONE, list_slots};
 use lun_route::units_listed;
 use scsi_cdb::{address_of, blocks_of, length_of};
 use task_set::{BLOCK_BYTES, ShortData, Status};
@@ -59,15 +61,14 @@ fn listed_by(numbers: &Numbers, cdb: &Cdb) -> u8
 /// Whether the flag of the direction of the command's data is not set, or the host has fewer bytes to
 /// write than the command. A REPORT LUNS lists so many units.
 fn lacks_data(listed: u8, cdb: &Cdb, flags: u8, expected: u32) -> bool
-    ensures { (r : Request) → IsTakenCdb cdb.now → r.flags ≡ flags → r.expected ≡ expected →
+    ensures { (r : Request) → r.flags ≡ flags → r.expected ≡ expected →
         result ≡ lacks_data r (direction_of cdb.now) (length_of_command listed cdb.now) }
 {
     let length = length_of(listed, cdb);
     match cdb {
         Cdb::TestUnitReady | Cdb::SynchronizeCache10 { .. } => false,
-        Cdb::Write6 { .. } | Cdb::Write10 { .. } | Cdb::SecurityOut { .. } => {
-            length > 0 && (flags != WRITES || expected < length)
-        }
+        Cdb::Write6 { .. } | Cdb::Write10 { .. } | Cdb::Unmap { .. } | Cdb::SecurityOut { .. } =>
+            length > 0 && (flags != WRITES || expected < length),
         _ => length > 0 && flags != READS,
     }
 }
@@ -81,6 +82,16 @@ fn is_too_long(cdb: &Cdb) -> bool
     match cdb {
         Cdb::SecurityIn { length, .. } | Cdb::SecurityOut { length, .. } => !are_frames(*length),
         _ => blocks_of(cdb) > u32::from(GREATEST_COMMAND),
+    }
+}
+
+/// Whether it is an UNMAP whose list is not empty, nor a header alone, nor a header with one descriptor.
+fn has_wrong_list(cdb: &Cdb) -> bool
+    ensures { result ≡ has_wrong_list cdb.now }
+{
+    match cdb {
+        Cdb::Unmap { list } => *list != 0 && *list != LIST_HEADER && *list != LIST_OF_ONE,
+        _ => false,
     }
 }
 
@@ -104,7 +115,7 @@ fn is_out_of_range(cdb: &Cdb, unit: Option<UnitSpec>) -> bool
 /// Whether the command is taken only once the device is mended: all but those that tell of the device
 /// and of its units.
 fn needs_mended(cdb: &Cdb) -> bool
-    ensures { IsTakenCdb cdb.now → result ≡ needs_mended (operation_of cdb.now) }
+    ensures { result ≡ needs_mended (operation_of cdb.now) }
 {
     !matches!(
         cdb,
@@ -115,13 +126,14 @@ fn needs_mended(cdb: &Cdb) -> bool
     )
 }
 
-/// Whether the command writes blocks.
+/// Whether the command changes blocks: a WRITE of some, or an UNMAP whose list has a descriptor.
 fn writes(cdb: &Cdb) -> bool
-    ensures { IsTakenCdb cdb.now → result ≡ writes cdb.now }
+    ensures { result ≡ writes cdb.now }
 {
     match cdb {
         Cdb::Write6 { .. } => true,
         Cdb::Write10 { blocks, .. } => *blocks > 0,
+        Cdb::Unmap { list } => *list == LIST_OF_ONE,
         _ => false,
     }
 }
@@ -133,13 +145,14 @@ fn flushes(cdb: &Cdb) -> bool
     matches!(cdb, Cdb::SynchronizeCache10 { .. })
 }
 
-/// How many slots the command needs: one a block that it writes, and three for the pages of an RPMB
-/// write.
+/// How many slots the command needs: one a block that it writes, as many as a command may have blocks
+/// for a descriptor of an UNMAP, and three for the pages of an RPMB write.
 fn slots_needed(cdb: &Cdb) -> u32
-    ensures { (n : Numbers) → IsTakenCdb cdb.now → result ≡ slots_needed n cdb.now }
+    ensures { (n : Numbers) → result ≡ slots_needed n cdb.now }
 {
     match cdb {
         Cdb::Write6 { .. } | Cdb::Write10 { .. } => blocks_of(cdb),
+        Cdb::Unmap { list } => u32::from(list_slots(u32::from(*list))),
         Cdb::SecurityOut { .. } => u32::from(FRAME_SLOTS),
         _ => 0,
     }
@@ -148,7 +161,7 @@ fn slots_needed(cdb: &Cdb) -> u32
 /// What a command about this target does that passed the checks.
 fn plan_of(numbers: &Numbers, cdb: &Cdb, target: Target, expected: u32) -> Plan
     requires { blocks_of cdb.now ≤ greatest_command }
-    ensures { IsTakenCdb cdb.now → result ≡ plan_of numbers.now target expected cdb.now }
+    ensures { result ≡ plan_of numbers.now target expected cdb.now }
 {
     match identity_of(cdb, target) {
         Some(told) => tell_plan(told, length_of(listed_by(numbers, cdb), cdb), expected),
@@ -181,7 +194,7 @@ fn tell_plan(told: Identity, length: u32, expected: u32) -> Plan
 /// The plan of a command that does not tell of the units.
 fn other_plan(cdb: &Cdb, target: Target, expected: u32) -> Plan
     requires { blocks_of cdb.now ≤ greatest_command }
-    ensures { (n : Numbers) → IsTakenCdb cdb.now → identity_of target cdb.now ≡ None →
+    ensures { (n : Numbers) → identity_of target cdb.now ≡ None →
         result ≡ plan_of n target expected cdb.now }
 {
     let key = Key {
@@ -205,6 +218,7 @@ fn other_plan(cdb: &Cdb, target: Target, expected: u32) -> Plan
             },
             expected,
         ),
+        Cdb::Unmap { list } => list_plan(key.unit, u32::from(*list)),
         Cdb::SecurityOut { length, .. } => Plan::AskFrames { length: *length },
         Cdb::SecurityIn { length, .. } => Plan::TakeFrames {
             length: *length,
@@ -251,6 +265,18 @@ fn write_plan(key: Key, blocks: u32, forced: bool) -> Plan
     }
 }
 
+/// What an UNMAP of this unit does whose list has so many bytes: without a list there is nothing to
+/// unmap.
+fn list_plan(unit: u8, length: u32) -> Plan
+    ensures { result ≡ list_plan unit length }
+{
+    if length == 0 {
+        Plan::Nothing { length: 0 }
+    } else {
+        Plan::AskList { unit, length }
+    }
+}
+
 /// What a command does that sends these data: nothing is sent to a host that expects none.
 fn data_plan(sent: ShortData, expected: u32) -> Plan
     ensures { result ≡ data_plan expected sent }
@@ -285,7 +311,7 @@ impl Device {
         }
     }
 
-    /// What a command that is taken does.
+    /// What a command does.
     fn plan_taken(
         &self,
         flags: u8,
@@ -293,15 +319,15 @@ impl Device {
         target: Target,
         cdb: &Cdb,
     ) -> Result<Plan, Status>
-        ensures planned { IfOk result (λ todo. (s : State) → IsLayer self.now.ftl s.translation → IsTakenCdb cdb.now →
+        ensures planned { IfOk result (λ todo. (s : State) → IsLayer self.now.ftl s.translation →
             todo ≡ plan_of (numbers_of s) target expected cdb.now) }
         ensures passed { IsOk result → (s : State) (r : Request) → IsLayer self.now.ftl s.translation →
             IsBare s self.now → unit_numbers_of s r ≡ target.spec → r.flags ≡ flags →
-            r.expected ≡ expected → IsTakenCdb cdb.now → IsOfRegion cdb.now →
+            r.expected ≡ expected → IsOfRegion cdb.now →
             first_line (lines_for s r cdb.now) ≡ None }
         ensures refused { IfErr result (λ told. (s : State) (r : Request) → IsLayer self.now.ftl s.translation →
             IsBare s self.now → unit_numbers_of s r ≡ target.spec → r.flags ≡ flags →
-            r.expected ≡ expected → IsTakenCdb cdb.now → IsOfRegion cdb.now →
+            r.expected ≡ expected → IsOfRegion cdb.now →
             first_line (lines_for s r cdb.now) ≡ Some (status_kept told)) }
     {
         match self.refusal(target.spec, flags, expected, cdb) {
@@ -310,16 +336,19 @@ impl Device {
         }
     }
 
-    /// Why a command that is taken is refused, if it is.
+    /// Why a command is refused, if it is.
     fn refusal(&self, unit: Option<UnitSpec>, flags: u8, expected: u32, cdb: &Cdb) -> Option<Status>
         ensures what { (s : State) (r : Request) → IsLayer self.now.ftl s.translation →
             IsBare s self.now → unit_numbers_of s r ≡ unit → r.flags ≡ flags →
-            r.expected ≡ expected → IsTakenCdb cdb.now → IsOfRegion cdb.now →
+            r.expected ≡ expected → IsOfRegion cdb.now →
             first_line (lines_for s r cdb.now) ≡ option_map status_kept result }
         ensures few { result ≡ None → blocks_of cdb.now ≤ greatest_command }
     {
         if is_too_long(cdb) {
             return Some(Status::CheckCondition(Sense::INVALID_FIELD));
+        }
+        if has_wrong_list(cdb) {
+            return Some(Status::CheckCondition(Sense::LIST_LENGTH));
         }
         if lacks_data(listed_by(self.ftl.numbers(), cdb), cdb, flags, expected) {
             return Some(Status::CheckCondition(Sense::INVALID_FIELD));
@@ -333,7 +362,7 @@ impl Device {
     /// The same by what the device is now.
     fn refusal_now(&self, unit: Option<UnitSpec>, cdb: &Cdb) -> Option<Status>
         ensures { (s : State) → IsLayer self.now.ftl s.translation → IsBare s self.now →
-            IsTakenCdb cdb.now → IsOfRegion cdb.now →
+            IsOfRegion cdb.now →
             first_line (lines_now s unit cdb.now) ≡ option_map status_kept result }
     {
         if self.is_too_early(cdb) {
@@ -356,7 +385,7 @@ impl Device {
 
     /// Whether the command is taken only once the device is mended, and it is not.
     fn is_too_early(&self, cdb: &Cdb) -> bool
-        ensures { (s : State) → IsLayer self.now.ftl s.translation → IsTakenCdb cdb.now →
+        ensures { (s : State) → IsLayer self.now.ftl s.translation →
             result ≡ needs_mended (operation_of cdb.now) && not (mended s) }
     {
         needs_mended(cdb) && !self.ftl.is_mended()
@@ -387,7 +416,7 @@ impl Device {
     /// free.
     fn is_crowded(&self, cdb: &Cdb) -> bool
         ensures { (s : State) → IsLayer self.now.ftl s.translation → IsBare s self.now →
-            IsTakenCdb cdb.now → result ≡ is_crowded s cdb.now }
+            result ≡ is_crowded s cdb.now }
     {
         let brings = matches!(cdb, Cdb::SecurityOut { .. });
         (brings && self.set.has_sender()) || self.ftl.free_slots() < slots_needed(cdb) as usize
@@ -397,7 +426,7 @@ impl Device {
     /// with something pending.
     fn is_refused_write(&self, unit: Option<UnitSpec>, cdb: &Cdb) -> bool
         ensures { (s : State) → IsLayer self.now.ftl s.translation → IsBare s self.now →
-            IsTakenCdb cdb.now → result ≡ is_refused_write s unit cdb.now }
+            result ≡ is_refused_write s unit cdb.now }
     {
         let is_protected = self.is_protected(unit);
         let is_locked = self.ftl.is_locked();

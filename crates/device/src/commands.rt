@@ -79,9 +79,12 @@ impl Device {
     {
         match message {
             Message::NopOut { tag } => self.open_short(*tag, ShortReply::NopIn),
-            Message::TaskRequest { lun, tag, .. } => {
-                self.open_short(*tag, ShortReply::NotManaged { lun: *lun })
-            }
+            Message::TaskRequest {
+                lun,
+                tag,
+                function,
+                meant,
+            } => self.manage(*lun, *tag, *function, *meant),
             Message::QueryRequest {
                 tag,
                 function,
@@ -201,6 +204,7 @@ impl Device {
             ) => self.begin_write(tag, key, blocks, forced),
             Ok(Plan::Send { data }) => Phase::SendData { data },
             Ok(Plan::AskFrames { length }) => self.begin_frames(tag, length),
+            Ok(Plan::AskList { unit, length }) => self.begin_list(tag, unit, length),
             Ok(Plan::TakeFrames { length, taken }) => held_phase(length, taken),
             Ok(
                 Plan::Tell {
@@ -269,7 +273,7 @@ impl Device {
         self.set.asked_for(lun, tag, offset, count)
     }
 
-    /// A DATA OUT brings the block that a task asked for, or all its frames.
+    /// A DATA OUT brings the block that a task asked for, or all its frames or its list.
     fn data_out(&mut self, lun: u8, tag: u8, offset: u32, data: &[u8]) -> Result<(), HostFault>
         requires few { length «data».now ≤ 4096 }
         ensures refused { OnErr result (self.new ≡ self.old) }
@@ -295,6 +299,7 @@ impl Device {
         match wanted {
             Wanted::Block { transfer } => self.hear_block(index, tag, transfer, bytes),
             Wanted::Frames { length: _ } => self.hear_frames(index, tag, bytes),
+            Wanted::List { unit, length: _ } => self.hear_list(index, tag, unit, bytes),
         }
     }
 

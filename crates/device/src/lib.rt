@@ -8,12 +8,14 @@ mod commands;
 mod device;
 mod groups;
 mod leftovers;
+mod management;
 mod plans;
 mod queries;
 mod replies;
 mod requests;
 mod responses;
 mod targets;
+mod unmap;
 mod world;
 
 pub use device::Device;

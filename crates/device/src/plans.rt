@@ -46,6 +46,11 @@ pub enum Plan {
     AskFrames {
         length: u32,
     },
+    /// It asks for the list of what to unmap in this unit, so many bytes (SBC, UNMAP).
+    AskList {
+        unit: u8,
+        length: u32,
+    },
     /// It takes the frames that wait in the response register, so many bytes, of which its host takes so
     /// many.
     TakeFrames {

@@ -26,8 +26,7 @@ ghost use Rattle.std.specs.Prelude.{length as count_tasks};
 
 use crate::device::Device;
 use crate::responses::{
-    write_answer, write_block, write_data, write_frames, write_ready, write_ready_frames,
-    write_short,
+    write_answer, write_block, write_data, write_frames, write_ready, write_ready_all, write_short,
 };
 use task_set::{Frames, Phase, Sending, Status, Task, TaskEvent};
 use ufs_spec::{Block, Looked, Name, Upiu};
@@ -111,11 +110,16 @@ impl Device {
                 true
             }
             Phase::AskFrames { length } => {
-                write_ready_frames(task, length, into);
+                write_ready_all(task, length, into);
+                true
+            }
+            Phase::AskList { unit: _, length } => {
+                write_ready_all(task, length, into);
                 true
             }
             Phase::AwaitData { transfer: _ } => false,
             Phase::AwaitFrames { length: _ } => false,
+            Phase::AwaitList { unit: _, length: _ } => false,
             Phase::AwaitFrontier { number, length } => {
                 self.write_durable(task, number, length, into)
             }
@@ -229,10 +233,14 @@ impl Device {
             HasMoved self.new.ftl t claims task.tag task.phase }
     {
         match task.phase {
-            Phase::AskData { transfer: _ } | Phase::AskFrames { length: _ } => {
+            Phase::AskData { transfer: _ }
+            | Phase::AskFrames { length: _ }
+            | Phase::AskList { unit: _, length: _ } => {
                 self.happen(index, TaskEvent::DataAskedFor);
             }
-            Phase::AwaitData { transfer: _ } | Phase::AwaitFrames { length: _ } => {}
+            Phase::AwaitData { transfer: _ }
+            | Phase::AwaitFrames { length: _ }
+            | Phase::AwaitList { unit: _, length: _ } => {}
             Phase::SendData { data: _ } | Phase::SendHeld { length: _ } => {
                 self.happen(index, TaskEvent::DataSent);
             }

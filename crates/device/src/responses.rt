@@ -38,9 +38,6 @@ const TARGET_SUCCESS: u8 = 0x00;
 
 const TARGET_FAILURE: u8 = 0x01;
 
-/// The service response of a function that is not supported (JESD220, 10.7.7).
-const NOT_SUPPORTED: u8 = 0x04;
-
 /// The response of a query that succeeded (JESD220, 10.7.9).
 const SUCCESS: u8 = 0x00;
 
@@ -149,7 +146,9 @@ pub(crate) fn write_short(numbers: &Numbers, short: &Short, into: &mut Upiu)
             upiu::write_response(&said, into);
         }
         ShortReply::NopIn => upiu::write(&Message::NopIn { tag }, into),
-        ShortReply::NotManaged { lun } => upiu::write(&task_response(lun, tag), into),
+        ShortReply::Managed { lun, service } => {
+            upiu::write(&task_response(lun, tag, service), into);
+        }
         ShortReply::QueryFailed { query, response } => {
             upiu::write(&query_failed(tag, query, response), into);
         }
@@ -159,16 +158,12 @@ pub(crate) fn write_short(numbers: &Numbers, short: &Short, into: &mut Upiu)
     }
 }
 
-/// The TASK MANAGEMENT RESPONSE to a function that is not supported.
-fn task_response(lun: u8, tag: u8) -> Message
-    ensures what { result ≡ Message.TaskResponse lun tag 0x04 }
+/// The TASK MANAGEMENT RESPONSE with this service response (JESD220, 10.7.7).
+fn task_response(lun: u8, tag: u8, service: u8) -> Message
+    ensures what { result ≡ Message.TaskResponse lun tag service }
     ensures message { IsMessage result }
 {
-    Message::TaskResponse {
-        lun,
-        tag,
-        service: NOT_SUPPORTED,
-    }
+    Message::TaskResponse { lun, tag, service }
 }
 
 /// The QUERY RESPONSE with this response code, which tells nothing (JESD220, 10.7.9).
@@ -287,8 +282,8 @@ pub(crate) fn write_ready(task: &Task, transfer: Transfer, into: &mut Upiu)
     upiu::write_ready_to_transfer(task.lun, task.tag, offset, BLOCK_BYTES, into);
 }
 
-/// Writes the READY TO TRANSFER for frames, which are asked for all at once (JESD220, 10.7.5).
-pub(crate) fn write_ready_frames(task: &Task, length: u32, into: &mut Upiu)
+/// Writes the READY TO TRANSFER for frames or a list, which are asked for all at once (JESD220, 10.7.5).
+pub(crate) fn write_ready_all(task: &Task, length: u32, into: &mut Upiu)
     ensures { into.new.items ≡ spelling (Message.ReadyToTransfer task.now.lun task.now.tag 0 length) }
 {
     upiu::write_ready_to_transfer(task.lun, task.tag, 0, length, into);

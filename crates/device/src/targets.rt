@@ -44,7 +44,7 @@ impl Target {
 }
 
 /// The numbers of a unit, if there is one.
-fn spec_of(numbers: &Numbers, unit: Option<u8>) -> Option<UnitSpec>
+pub(crate) fn spec_of(numbers: &Numbers, unit: Option<u8>) -> Option<UnitSpec>
     ensures { result ≡ unit_numbers_at numbers.now unit }
 {
     let unit = unit?;

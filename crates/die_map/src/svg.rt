@@ -1,7 +1,6 @@
 //! The dies as a picture: SVG with a row for each block and a square for each page.
 use crate::survey::{BlockState, PageState, Survey, block_state, number_of};
 use crate::text::Counts;
-use device::World;
 use nand_model::{Die, MemDie};
 use std::io::Write;
 use std::{fmt, io};
@@ -19,15 +18,15 @@ const HEADING: &str =
     " font-family=\"monospace\" font-size=\"8\">\n<title>Dies, blocks and pages</title>";
 
 /// Writes the dies as SVG.
-pub fn write_svg<W: Write>(survey: &Survey, world: &World, out: &mut W) -> io::Result<()> {
-    let (width, height) = size_of(world.dies());
+pub fn write_svg<W: Write>(survey: &Survey, dies: &[MemDie], out: &mut W) -> io::Result<()> {
+    let (width, height) = size_of(dies);
     writeln!(
         out,
         "<svg xmlns=\"http://www.w3.org/2000/svg\" width=\"{width}\" height=\"{height}\"\n\
          {HEADING}"
     )?;
     let mut top = 0u32;
-    for (index, die) in world.dies().iter().enumerate() {
+    for (index, die) in dies.iter().enumerate() {
         write_die(survey, number_of(index), die, top, out)?;
         top = top.saturating_add(height_of(die));
     }

@@ -14,12 +14,19 @@ const LETTERS: u16 = 64;
 
 const KEY: &str = ". free, L live, d dead, x torn, M newest mark, m older mark";
 
-/// Writes the dies as text.
-pub fn write_text<W: Write>(survey: &Survey, world: &World, out: &mut W) -> io::Result<()> {
-    for (index, die) in world.dies().iter().enumerate() {
+/// Writes the dies as text, with the jobs that are in flight in a world.
+pub fn write_text<W: Write>(
+    survey: &Survey,
+    dies: &[MemDie],
+    world: Option<&World>,
+    out: &mut W,
+) -> io::Result<()> {
+    for (index, die) in dies.iter().enumerate() {
         let number = number_of(index);
         write_die(survey, number, die, out)?;
-        write_job(world, number, out)?;
+        if let Some(world) = world {
+            write_job(world, number, out)?;
+        }
     }
     writeln!(out, "pages: {KEY}")
 }

@@ -6,7 +6,7 @@ use Rattle.ufs_spec.specs.Translation.{least_of, wanted_room}
 use Rattle.block_table.specs.Blocks.{is_bad}
 use Rattle.block_table.specs.Lives.{gains, live_count, spots_in}
 use Rattle.ftl_core.specs.Core.{Core}
-use Rattle.ftl_core.specs.Moves.{free_blocks, has_pin, state_of}
+use Rattle.ftl_core.specs.Moves.{bad_blocks, free_blocks, has_pin, state_of}
 
 -- a reader keeps a page of the block, or the rest of a page is still to be read from it
 abbrev pub is_pinned : Core → Spot → Bool
@@ -30,4 +30,4 @@ has_few_free c = nat_lt (free_blocks c) (wanted_room c.numbers)
 
 -- few blocks are free, or a bad block holds live pages
 abbrev pub wants_collection : Core → Bool
-wants_collection c = has_few_free c || c.has_bad && list_any (is_bad_with_live c) (spots_in c.live.sizes)
+wants_collection c = has_few_free c || nat_lt 0 (bad_blocks c) && list_any (is_bad_with_live c) (spots_in c.live.sizes)

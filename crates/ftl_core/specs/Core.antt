@@ -1,5 +1,5 @@
 -- What the translation layer keeps, as its contracts see it.
-use Rattle.std.specs.Prelude.{ℕ, Bool, List, Option}
+use Rattle.std.specs.Prelude.{ℕ, List, Option}
 use Rattle.ufs_spec.specs.declared.configs.Numbers.{Numbers}
 use Rattle.ufs_spec.specs.declared.flash.Key.{Key}
 use Rattle.block_table.specs.Lives.{Lives}
@@ -21,7 +21,6 @@ pub record Core : Type 0 where
   pub numbers : Numbers
   pub states : List BlockState
   pub rows : List DieRow
-  pub has_bad : Bool
   pub places : List (Option Stored)
   pub live : Lives
   pub pages : List Pending

@@ -1,5 +1,5 @@
 -- How what the layer keeps describes the translation layer as it is specified.
-use Rattle.std.specs.Prelude.{◌≡◌, ◌≢◌, ℕ, suc, ◌+◌, ◌<◌, ◌≤◌, nat_lt, Bool, true, false, List, [], ◌∷◌, count_by, drop}
+use Rattle.std.specs.Prelude.{◌≡◌, ◌≢◌, ℕ, suc, ◌+◌, ◌<◌, ◌≤◌, Bool, true, false, List, [], ◌∷◌, drop}
 use Rattle.std.specs.Prelude.{All, AllPairs, find, is_some, length, map, slice_get, Option, Some, None, option_map}
 use Rattle.std.specs.List.{list_any}
 use Rattle.ufs_spec.specs.Cells.{Cell, Cells, GroupPage, MarkPage, key_of}
@@ -61,11 +61,9 @@ block_kept (disk.Filling next) v = state.Open
 block_kept disk.Closed v = state.Closed
 block_kept disk.Bad v = state.Bad
 
--- the state of each block of each die, in order, and whether one is bad
-pub record BlocksKept (n : Numbers) (blocks : Spot → disk.BlockState) (vacancies : Spot → disk.Vacancy)
-    (states : List BlockState) (has_bad : Bool) : Type 0 where
-  pub all : states ≡ map (λ (s : Spot). block_kept (blocks s) (vacancies s)) (spots n)
-  pub bad : has_bad ≡ nat_lt 0 (count_by (λ (s : Spot). is_bad (blocks s)) (spots n))
+-- the state of each block of each die, in order
+abbrev pub BlocksKept : Numbers → (Spot → disk.BlockState) → (Spot → disk.Vacancy) → List BlockState → Type 0
+BlocksKept n blocks vacancies states = states ≡ map (λ (s : Spot). block_kept (blocks s) (vacancies s)) (spots n)
 
 -- Dies
 
@@ -316,7 +314,7 @@ pub record PlanKept (n : Numbers) (plan : Option Collection) (w : Option layer.P
 -- what the layer keeps agrees with the specified layer, part by part
 pub record Kept (c : Core) (t : Translation) : Type 0 where
   pub numbers : c.numbers ≡ t.numbers
-  pub blocks : BlocksKept t.numbers t.disk.blocks t.disk.vacancies c.states c.has_bad
+  pub blocks : BlocksKept t.numbers t.disk.blocks t.disk.vacancies c.states
   pub dies : DiesKept t.numbers t.disk.blocks t.disk.flights c.step c.rows
   pub fly : PagesFly t.ledger.standing t.disk.flights c.rows
   pub ledger_kept : LedgerKept c.numbers c.places c.pages c.frontier c.last t.ledger

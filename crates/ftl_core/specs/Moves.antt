@@ -37,13 +37,14 @@ use Rattle.recovery.specs.declared.found.Found.{Found}
 use Rattle.recovery.specs.declared.keys.FoundBlock.{FoundBlock}
 use Rattle.recovery.specs.declared.keys.FoundBlock.TheVariants as found
 use Rattle.recovery.specs.declared.pages.FoundPage.{FoundPage}
-use Rattle.block_table.specs.Blocks.{is_free, is_stale}
+use Rattle.block_table.specs.Blocks.{is_bad, is_free, is_stale}
 pub use Rattle.block_table.specs.Rows.{erases, fills, flight_erases, flight_reads, flight_set, flight_without}
 pub use Rattle.block_table.specs.Rows.{flight_without_block, idle_row, reads_for, rows_failed, rows_in_flight}
 pub use Rattle.block_table.specs.Rows.{without_block, without_reader}
 use Rattle.unit_map.specs.Places.{stored_in}
 use Rattle.write_cache.specs.Rests.{content_of}
-use Rattle.write_cache.specs.Slots.{claim_filled, empty_claim, is_claim_of, is_named, key_at, last_page, page_claimed}
+use Rattle.write_cache.specs.Slots.{claim_filled, empty_claim, is_claim_behind, is_claim_of, is_named, key_at}
+use Rattle.write_cache.specs.Slots.{last_page, page_claimed}
 use Rattle.ftl_core.specs.Core.{Core}
 use Rattle.ftl_core.specs.KnownLive.{lives_of_places}
 pub use Rattle.ftl_core.specs.Pinned.{has_pin, keeps, keeps_page, look_of_source, reads_block, rest_look}
@@ -57,13 +58,6 @@ state_of_found found.Free = state.Free
 state_of_found found.Stale = state.Stale
 state_of_found found.Closed = state.Closed
 state_of_found found.Bad = state.Bad
-
--- the scan found the block bad
-abbrev pub is_bad_found : FoundBlock → Bool
-is_bad_found found.Free = false
-is_bad_found found.Stale = false
-is_bad_found found.Closed = false
-is_bad_found found.Bad = true
 
 -- the found page of a content: its name, and the place where it stands
 abbrev pub stored_of_found : FoundPage → Stored
@@ -100,7 +94,6 @@ opened n f = record {
   numbers = n;
   states = map state_of_found f.blocks.items;
   rows = replicate n.dies idle_row;
-  has_bad = list_any is_bad_found f.blocks.items;
   places = map (option_map stored_of_found) f.contents.items;
   live = lives_of_places n (map (option_map stored_of_found) f.contents.items);
   pages = [];
@@ -143,9 +136,13 @@ next_number c = c.last + 1
 abbrev pub has_number : Core → Bool
 has_number c = nat_lt c.last greatest_number
 
--- no group is accepted any more: a block is bad, or all numbers are given
+-- how many blocks of all dies are bad
+abbrev pub bad_blocks : Core → ℕ
+bad_blocks c = count_by is_bad c.states
+
+-- no group is accepted any more: more blocks are bad than the configuration has spare ones, or all numbers are given
 abbrev pub is_locked : Core → Bool
-is_locked c = c.has_bad || not (has_number c)
+is_locked c = nat_lt c.numbers.spare (bad_blocks c) || not (has_number c)
 
 -- Blocks and dies
 
@@ -286,7 +283,7 @@ page_written c die b (Some o) =
 -- the block is bad from now on; the die has no job, and fills this block no more
 abbrev pub went_bad : Core → ℕ → ℕ → Core
 went_bad c die block =
-    record (with_state c die block state.Bad) { has_bad = true; rows = rows_failed c.rows die block }
+    record (with_state c die block state.Bad) { rows = rows_failed c.rows die block }
 
 -- an erase ended well: the block may be filled; the die has no job, and fills what it filled before
 abbrev pub erased : Core → ℕ → ℕ → Core
@@ -388,6 +385,11 @@ claimed_all c reader n = record c { claims = c.claims ++ map (empty_claim reader
 -- the reader has claimed nothing any more
 abbrev pub released : Core → ℕ → Core
 released c reader = record c { claims = filter (λ claim. not (is_claim_of reader claim)) c.claims }
+
+-- the reader has claimed no slot any more but for its first so many blocks
+abbrev pub released_behind : Core → ℕ → ℕ → Core
+released_behind c reader count =
+    record c { claims = filter (λ claim. not (is_claim_behind reader count claim)) c.claims }
 
 -- what came for this block of the reader lies in its slot
 abbrev pub filled : Core → ℕ → ℕ → List ℕ → Core

@@ -14,7 +14,6 @@ core_of f = record {
   numbers = f.config;
   states = f.blocks.states;
   rows = f.blocks.rows;
-  has_bad = f.blocks.has_bad;
   places = f.places.places;
   live = without_pins f.live;
   pages = f.cache.pages;

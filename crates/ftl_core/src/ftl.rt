@@ -1,12 +1,12 @@
 //! The translation layer and its calls.
 ghost use Rattle.std.specs.Prelude.{◌≡◌, ℕ, ◌<◌, ◌≤◌, ◌+◌, ◌^◌, length, IsTrue, vec_capacity, IfOk, IsSome, IfSome, nat_le, nat_lt, ◌-◌, [], if◌then◌else◌, slice_get, map, filter, not, None, true, option_copied, position, replicate, reverse, Bool, false, find, option_map, fold, List, take};
 ghost use Rattle.std.specs.List.{list_any};
-ghost use Rattle.ftl_core.specs.Moves.{accepted, first_fence, first_mending, idle_row, is_bad_found};
+ghost use Rattle.ftl_core.specs.Moves.{accepted, first_fence, first_mending, idle_row};
 ghost use Rattle.ftl_core.specs.Moves.{is_over, mark_number_behind, opened, state_of_found};
 ghost use Rattle.ftl_core.specs.Moves.{stored_of_found, slot_of, is_pin_of, is_of_reader, looked_by, looked_on, pin_of, next_wanted, unpinned, look_of, stored_of, free_slots, is_locked, has_number, next_number, without_reader, without_block, wanted_now};
 ghost use Rattle.unit_map.specs.Places.{position_of};
 ghost use Rattle.write_cache.specs.Slots.{is_page_of, last_of, last_page, is_named};
-ghost use Rattle.ftl_core.specs.Moves.{claims_for, claimed_all, released, filled};
+ghost use Rattle.ftl_core.specs.Moves.{claims_for, claimed_all, released, released_behind, filled};
 ghost use Rattle.write_cache.specs.Slots.{is_claim_of, empty_claim, claim_filled, page_claimed};
 ghost use Rattle.ufs_spec.specs.Ledger.{next_number as next_of_layer, Entry, before_accepted, entry_of};
 ghost use Rattle.ufs_spec.specs.Moves.{Accept, Acknowledge, Claim, IsAllowedMove, LetGo, LetGoAll, Release, WantPage, moved, is_pin_of as is_layer_pin_of};
@@ -41,6 +41,7 @@ use crate::books::{Mending, Pin, Step};
 use block_table::{BlockState, BlockTable, LivePages, Sizes};
 use collector::Plan;
 use geometry::{Config, key_count};
+use page_tag::ZeroSeal;
 use recovery::{Found, FoundBlock, FoundPage};
 use std::alloc::{AllocError, Global};
 use std::marker::Model;
@@ -98,6 +99,8 @@ pub struct Ftl {
     content: Block,
     /// The number of the next mark, from 1 to the greatest and one more; the last means that none is left.
     next_mark: u64,
+    /// What pages are sealed with whose block is zeros, as those of an UNMAP are.
+    zeros: ZeroSeal,
 }
 
 impl Model for Ftl {
@@ -381,6 +384,7 @@ impl Ftl {
             step: None,
             content: zeros(),
             next_mark,
+            zeros: ZeroSeal::new(),
         })
     }
 
@@ -396,14 +400,16 @@ impl Ftl {
         }
     }
 
-    /// Whether writes are refused from now on: a block is bad (in this stage none may be), or no
-    /// number is left.
+    /// Whether writes are refused from now on: more blocks are bad than the configuration has spare
+    /// ones, or no number is left.
     #[tactic(auto, using(crate::proofs::small_calls::SmallCalls::locks_right))]
     pub fn is_locked(&self) -> bool
         ensures core { result ≡ is_locked self.now }
         ensures described { (t : Translation) → Describes self.now t → result ≡ is_layer_locked t }
+        // A layer that is not locked has a number left.
+        ensures numbered { result ≡ false → IsTrue (has_number self.now) }
     {
-        self.blocks.has_bad() || !self.cache.has_number()
+        self.blocks.bad_blocks() > self.config.numbers().spare as usize || !self.cache.has_number()
     }
 
     /// The greatest number that was given: every pending group has one, and so has the repair under way.
@@ -498,6 +504,28 @@ impl Ftl {
         ensures { self.new ≡ released self.old reader }
     {
         self.cache.release(reader);
+    }
+
+    /// Gives back the slots that the reader has claimed from this index on, and keeps those of its
+    /// first `count` blocks.
+    pub fn release_behind(&mut self, reader: u8, count: u16)
+        ensures after { self.new ≡ released_behind self.old reader count }
+        ensures described { (t : Translation) (blocks : List (List ℕ)) → Describes self.old t →
+            AreClaimedBy self.old reader blocks →
+            Describes self.new (moved t (Release (length blocks - count))) }
+        ensures claims { (claims : Claims) → AreClaimed self.old claims →
+            AreClaimed self.new (with_claimed claims reader (take count (claims reader))) }
+        // It takes no number.
+        ensures number { has_number self.new ≡ has_number self.old }
+    {
+        self.release_slots_behind(reader, count);
+    }
+
+    /// Gives the slots back.
+    fn release_slots_behind(&mut self, reader: u8, count: u16)
+        ensures { self.new ≡ released_behind self.old reader count }
+    {
+        self.cache.release_behind(reader, count);
     }
 
     /// Puts the 4096 bytes of a block that came into the slot that was claimed for it: that of this index of

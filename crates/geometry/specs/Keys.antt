@@ -3,7 +3,7 @@ use Rattle.std.specs.Prelude.{◌≡◌, ℕ, ◌+◌, ◌<◌, ◌==◌, ◌&&�
 use Rattle.std.specs.Prelude.{slice_index_or, sum, take}
 use Rattle.ufs_spec.specs.Keys.{area_pages, region_pages}
 use Rattle.ufs_spec.specs.Plain.{Shape}
-use Rattle.ufs_spec.specs.Stages.{regions}
+use Rattle.ufs_spec.specs.Plain.{regions}
 use Rattle.ufs_spec.specs.declared.flash.Key.{Key}
 
 -- Indexes

@@ -3,7 +3,7 @@ ghost use Rattle.std.specs.Prelude.{◌≡◌, ◌↔◌, ℕ, ◌+◌, ◌*◌,
 ghost use Rattle.ufs_spec.specs.Keys.{IsKey, area_pages, region_pages};
 ghost use Rattle.ufs_spec.specs.Openings.{IsBefore};
 ghost use Rattle.ufs_spec.specs.Plain.{area_len, shape_of_numbers};
-ghost use Rattle.ufs_spec.specs.Stages.{regions};
+ghost use Rattle.ufs_spec.specs.Plain.{regions};
 ghost use Rattle.ufs_spec.specs.declared.configs.UnitSpec.{UnitSpec};
 ghost use Rattle.ufs_spec.specs.declared.flash.Key.{Key};
 ghost use Rattle.geometry.specs.Keys.{IsIndex, index_of, key_total};

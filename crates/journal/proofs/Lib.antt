@@ -6,3 +6,4 @@ mod HeldUnits
 mod KeptEntries
 mod SettingLines
 mod ShownFacts
+mod UnmapLists

@@ -41,7 +41,7 @@ pub enum Entry {
 /// The response code of success (JESD220, 10.7.9).
 pub(crate) const SUCCESS: u8 = 0x00;
 
-/// The one of a setting that was not accepted, or whose wait ended when a block went bad.
+/// The one of a setting that was not accepted, or whose wait ended when the device was locked.
 const GENERAL_FAILURE: u8 = 0xFF;
 
 /// An entry in doubt is settled by the response code of its answer.

@@ -10,6 +10,8 @@ mod messages;
 mod queries;
 mod requests;
 mod settings;
+mod tasks;
+mod unmaps;
 mod writes;
 
 pub use bases::device_holding;
@@ -18,3 +20,4 @@ pub use found::{FoundRegion, FoundRest};
 pub use kept::{can_apply, is_kept};
 pub use messages::{Journal, block_in};
 pub use queries::settings_pass_the_table;
+pub use unmaps::unmaps_are_those_accepted;

@@ -1,33 +1,38 @@
 //! The commands that a device accepted in a life, and up to which of them they were acknowledged as durable,
 //! as far as the messages of its host and its replies tell.
-ghost use Rattle.std.specs.Prelude.{◌≡◌, ◌++◌, ◌∷◌, [], ◌+◌, ◌<◌, ◌≤◌, IfOk, IfSome, OnOk, length, map, position, true};
+ghost use Rattle.std.specs.Prelude.{◌≡◌, ◌++◌, ◌∷◌, [], ◌+◌, ◌<◌, ◌≤◌, IfOk, OnOk, length, map, true};
 ghost use Rattle.std.specs.Prelude.{slice_index_or, slice_set};
 ghost use Rattle.ufs_spec.specs.Commands.{command_of};
 ghost use Rattle.journal.specs.Entries.{Accepted, Doubted, Refused, noted_of};
 ghost use Rattle.journal.specs.Heard.{answered, asked, awaited_by, begun, block_of, brought, doubted};
-ghost use Rattle.journal.specs.Heard.{gathered, has_tag, heard, is_flush, query_answered, ruled, settled, written};
-ghost use Rattle.journal.specs.Heard.{life_begun, open_with, received, taken, told, with_open, without};
+ghost use Rattle.journal.specs.Heard.{gathered, heard, is_flush, name_in, query_answered, ruled, settled};
+ghost use Rattle.journal.specs.Heard.{life_begun, received, taken, told, unmapped, with_open, written};
 ghost use Rattle.journal.specs.Requests.{accepted_by};
+ghost use Rattle.journal.specs.Unmaps.{zeros_accepted};
 ghost use Rattle.rpmb.specs.Requests.{frames_of};
 
 use crate::entries::{Entry, SUCCESS, Setting, settle};
 use crate::queries::setting_asked;
 use crate::requests::{accepted_by, command_of, raise};
+use crate::tasks::{Awaited, OpenTask, TaskName, abort, close};
+use crate::unmaps::zeros_asked;
 use crate::writes::{OpenWrite, write_asked};
 use rpmb::{RegionState, whole_frames};
 use std::alloc::Global;
 use std::marker::Model;
-use ufs_spec::codes::{COMMAND, DATA_OUT, QUERY_REQUEST, QUERY_RESPONSE, RESPONSE};
-use ufs_spec::{Block, Cmd, NoMemory};
+use ufs_spec::codes::{COMMAND, DATA_OUT, QUERY_REQUEST, QUERY_RESPONSE, RESPONSE, TASK_REQUEST};
+use ufs_spec::{Block, Cmd, NoMemory, Numbers};
 
 /// What the host of one life wrote.
 #[derive(Drop)]
 pub struct Journal {
+    /// The numbers of the device.
+    numbers: Numbers,
     entries: Vec<Entry>,
     held: usize,
     /// The commands and settings that have no answer yet, no two with one tag.
     tasks: Vec<OpenTask>,
-    /// Whether a block went bad, so that no further write is accepted.
+    /// Whether the device is locked, so that it accepts nothing more.
     is_locked: bool,
     /// What the commands made of the key and the counter of the replay protected memory block.
     region: RegionState,
@@ -41,6 +46,7 @@ impl Model for Journal {
     ghost Value = { Heard };
 
     ghost view = { λ j. record {
+      numbers = j.numbers;
       entries = map noted_of j.entries.items;
       held = j.held;
       tasks = j.tasks.items;
@@ -49,29 +55,9 @@ impl Model for Journal {
     } };
 }
 
-/// A command or a setting whose answer was not handed out yet.
-#[derive(Drop)]
-struct OpenTask {
-    tag: u8,
-    awaited: Awaited,
-    /// How many entries, from the first one on, the GOOD of a command acknowledges as durable.
-    promised: usize,
-}
-
-/// What is still to come for a command or a setting, beside the RESPONSE of a command.
-#[derive(Drop)]
-enum Awaited {
-    /// Nothing: the data came, or it has none.
-    Nothing,
-    /// The blocks of a write.
-    Blocks(OpenWrite),
-    /// The frames of a request to the replay protected memory block.
-    Frames,
-    /// The QUERY RESPONSE to a setting, which tells whether the device accepted it: the entry at this place.
-    Verdict(usize),
-}
-
 const SYNCHRONIZE_CACHE_10: u8 = 0x35;
+
+const UNMAP: u8 = 0x42;
 
 const SECURITY_OUT: u8 = 0xB5;
 
@@ -82,11 +68,13 @@ const IMMED: u8 = 0x02;
 const HEADER: usize = 32;
 
 impl Journal {
-    /// A life begins, with this key and this counter of the replay protected memory block.
-    pub fn new(alloc: Global, region: RegionState) -> Journal
-        ensures { result ≡ life_begun region }
+    /// A life of a device with these numbers begins, with this key and this counter of the replay protected memory
+    /// block.
+    pub fn new(alloc: Global, numbers: &Numbers, region: RegionState) -> Journal
+        ensures { result ≡ life_begun numbers.now region }
     {
         Journal {
+            numbers: numbers.copied(),
             entries: Vec::new(alloc),
             held: 0,
             tasks: Vec::new(alloc),
@@ -129,47 +117,51 @@ impl Journal {
             return Ok(());
         }
         match message[0] {
-            COMMAND => self.begin(alloc, message[2], message[3], &message[16..]),
+            COMMAND => self.begin(alloc, name_in(message), &message[16..]),
             DATA_OUT => self.receive(alloc, message[3], message),
-            QUERY_REQUEST => self.ask(message[3], setting_asked(message)),
+            TASK_REQUEST => {
+                abort(&mut self.tasks, message[5], message[2], message[19]);
+                Ok(())
+            }
+            QUERY_REQUEST => self.ask(name_in(message), setting_asked(message)),
             _ => Ok(()),
         }
     }
 
     // A command is open from now on. Its tag was free.
-    fn begin(&mut self, alloc: Global, unit: u8, tag: u8, cdb: &[u8]) -> Result<(), NoMemory>
+    fn begin(&mut self, alloc: Global, name: TaskName, cdb: &[u8]) -> Result<(), NoMemory>
         requires { 16 ≤ length cdb.now }
-        ensures { OnOk result (self.new ≡ begun self.old unit tag cdb.now) }
+        ensures { OnOk result (self.new ≡ begun self.old name cdb.now) }
     {
-        close(&mut self.tasks, tag);
+        close(&mut self.tasks, name.tag);
         let promised = if is_flush(cdb) { self.entries.len() } else { 0 };
-        let awaited = awaited_by(alloc, unit, cdb);
+        let awaited = awaited_by(alloc, name.lun, cdb);
         self.open_task(OpenTask {
-            tag,
+            name,
             awaited,
             promised,
         })
     }
 
-    // A query with this tag asks for this setting, if for one. A device with a bad block accepts none.
-    fn ask(&mut self, tag: u8, setting: Option<Setting>) -> Result<(), NoMemory>
-        ensures { OnOk result (self.new ≡ asked self.old tag setting) }
+    // A query of this name asks for this setting, if for one. A locked device accepts none.
+    fn ask(&mut self, name: TaskName, setting: Option<Setting>) -> Result<(), NoMemory>
+        ensures { OnOk result (self.new ≡ asked self.old name setting) }
     {
         match setting {
-            Some(setting) if !self.is_locked => self.doubt(tag, setting),
+            Some(setting) if !self.is_locked => self.doubt(name, setting),
             _ => Ok(()),
         }
     }
 
     // This setting was accepted or refused, which its answer will tell. Its tag was free.
-    fn doubt(&mut self, tag: u8, setting: Setting) -> Result<(), NoMemory>
-        ensures { OnOk result (self.new ≡ doubted self.old tag setting) }
+    fn doubt(&mut self, name: TaskName, setting: Setting) -> Result<(), NoMemory>
+        ensures { OnOk result (self.new ≡ doubted self.old name setting) }
     {
-        let _ = close(&mut self.tasks, tag);
+        let _ = close(&mut self.tasks, name.tag);
         let place = self.entries.len();
         add_entry(&mut self.entries, Entry::Doubted(setting))?;
         self.open_task(OpenTask {
-            tag,
+            name,
             awaited: Awaited::Verdict(place),
             promised: 0,
         })
@@ -202,40 +194,36 @@ impl Journal {
         ensures { OnOk result (self.new ≡ taken self.old task task.awaited message.now) }
     {
         let OpenTask {
-            tag,
+            name,
             awaited,
             promised,
         } = task;
         match awaited {
-            Awaited::Nothing => self.open_task(OpenTask {
-                tag,
-                awaited: Awaited::Nothing,
-                promised,
-            }),
-            Awaited::Blocks(write) => self.take_block(tag, promised, write, block_in(message)),
-            Awaited::Frames => self.take_frames(alloc, tag, promised, &message[HEADER..]),
-            Awaited::Verdict(place) => self.open_task(OpenTask {
-                tag,
-                awaited: Awaited::Verdict(place),
+            Awaited::Blocks(write) => self.take_block(name, promised, write, block_in(message)),
+            Awaited::UnmapList => self.take_list(name, promised, &message[HEADER..]),
+            Awaited::Frames => self.take_frames(alloc, name, promised, &message[HEADER..]),
+            Awaited::Nothing | Awaited::Verdict(_) => self.open_task(OpenTask {
+                name,
+                awaited,
                 promised,
             }),
         }
     }
 
-    // A block came for this write of the command with this tag, or less than a block, which changes nothing.
+    // A block came for this write of the command of this name, or less than a block, which changes nothing.
     fn take_block(
         &mut self,
-        tag: u8,
+        name: TaskName,
         promised: usize,
         write: OpenWrite,
         block: Option<Block>,
     ) -> Result<(), NoMemory>
-        ensures { OnOk result (self.new ≡ gathered self.old tag promised write block) }
+        ensures { OnOk result (self.new ≡ gathered self.old name promised write block) }
     {
         let mut write = write;
         let Some(block) = block else {
             return self.open_task(OpenTask {
-                tag,
+                name,
                 awaited: Awaited::Blocks(write),
                 promised,
             });
@@ -243,21 +231,26 @@ impl Journal {
         write.add(block)?;
         if !write.is_whole() {
             return self.open_task(OpenTask {
-                tag,
+                name,
                 awaited: Awaited::Blocks(write),
                 promised,
             });
         }
-        self.take_write(tag, promised, write)
+        self.take_write(name, promised, write)
     }
 
-    // All blocks of this write came: it is accepted, if no block of the device is bad.
-    fn take_write(&mut self, tag: u8, promised: usize, write: OpenWrite) -> Result<(), NoMemory>
-        ensures { OnOk result (self.new ≡ written self.old tag promised write) }
+    // All blocks of this write came: it is accepted, if the device is not locked.
+    fn take_write(
+        &mut self,
+        name: TaskName,
+        promised: usize,
+        write: OpenWrite,
+    ) -> Result<(), NoMemory>
+        ensures { OnOk result (self.new ≡ written self.old name promised write) }
     {
         if self.is_locked {
             return self.open_task(OpenTask {
-                tag,
+                name,
                 awaited: Awaited::Nothing,
                 promised,
             });
@@ -265,9 +258,26 @@ impl Journal {
         let is_forced = write.is_forced();
         let accepted = self.accept(write.into_command())?;
         self.open_task(OpenTask {
-            tag,
+            name,
             awaited: Awaited::Nothing,
             promised: if is_forced { accepted } else { promised },
+        })
+    }
+
+    // The list of an UNMAP came: it is accepted, if it names blocks and the device is not locked.
+    fn take_list(&mut self, name: TaskName, promised: usize, list: &[u8]) -> Result<(), NoMemory>
+        ensures { OnOk result (self.new
+            ≡ unmapped self.old name promised (zeros_accepted self.old.numbers self.old.locked name.lun list.now)) }
+    {
+        if !self.is_locked {
+            if let Some(command) = zeros_asked(&self.numbers, name.lun, list) {
+                self.accept(command)?;
+            }
+        }
+        self.open_task(OpenTask {
+            name,
+            awaited: Awaited::Nothing,
+            promised,
         })
     }
 
@@ -276,12 +286,12 @@ impl Journal {
     fn take_frames(
         &mut self,
         alloc: Global,
-        tag: u8,
+        name: TaskName,
         promised: usize,
         bytes: &[u8],
     ) -> Result<(), NoMemory>
         ensures { OnOk result (self.new
-            ≡ brought self.old tag promised (accepted_by self.old.region self.old.locked (frames_of bytes.now))) }
+            ≡ brought self.old name promised (accepted_by self.old.region self.old.locked (frames_of bytes.now))) }
     {
         let frames = whole_frames(bytes);
         let accepted = accepted_by(&self.region, frames, self.is_locked);
@@ -291,7 +301,7 @@ impl Journal {
         };
         raise(&mut self.region, &accepted);
         self.open_task(OpenTask {
-            tag,
+            name,
             awaited: Awaited::Nothing,
             promised,
         })
@@ -354,31 +364,12 @@ impl Journal {
         }
     }
 
-    /// A block went bad.
+    /// The device is locked from now on: more blocks are bad than it has spare ones.
     pub fn lock(&mut self)
         ensures { self.new ≡ record self.old { locked = true } }
     {
         self.is_locked = true;
     }
-}
-
-// Takes out the open command with this tag.
-fn close(tasks: &mut Vec<OpenTask>, tag: u8) -> Option<OpenTask>
-    ensures which { result ≡ open_with tag tasks.old.items }
-    ensures rest { tasks.new.items ≡ without tag tasks.old.items }
-{
-    match place_of(tasks.as_slice(), tag) {
-        Some(at) => Some(tasks.remove(at)),
-        None => None,
-    }
-}
-
-// Which of the open commands has the tag.
-fn place_of(tasks: &[OpenTask], tag: u8) -> Option<usize>
-    ensures place { result ≡ position (has_tag tag) tasks.now }
-    ensures within { IfSome result (λ at. at < length tasks.now) }
-{
-    tasks.iter().position(|task| task.tag == tag)
 }
 
 // One entry more. How many there are now.
@@ -402,6 +393,17 @@ fn settle_at(entries: &mut Vec<Entry>, place: usize, is_locked: bool, code: u8)
     settle(&mut entries[place], is_locked, code);
 }
 
+// The LUN and the tag of a message.
+fn name_in(message: &[u8]) -> TaskName
+    requires { 32 ≤ length message.now }
+    ensures { result ≡ name_in message.now }
+{
+    TaskName {
+        lun: message[2],
+        tag: message[3],
+    }
+}
+
 /// The block of a message with data.
 pub fn block_in(message: &[u8]) -> Option<Block>
     ensures { result ≡ block_of message.now }
@@ -419,12 +421,13 @@ fn awaited_by(alloc: Global, unit: u8, cdb: &[u8]) -> Awaited
     requires { 16 ≤ length cdb.now }
     ensures { result ≡ awaited_by unit cdb.now }
 {
-    if cdb[0] == SECURITY_OUT {
-        return Awaited::Frames;
-    }
-    match write_asked(alloc, unit, cdb) {
-        Some(write) => Awaited::Blocks(write),
-        None => Awaited::Nothing,
+    match cdb[0] {
+        SECURITY_OUT => Awaited::Frames,
+        UNMAP => Awaited::UnmapList,
+        _ => match write_asked(alloc, unit, cdb) {
+            Some(write) => Awaited::Blocks(write),
+            None => Awaited::Nothing,
+        },
     }
 }
 

@@ -3,6 +3,7 @@ pub mod Dealing
 pub mod DoneJobs
 pub mod Ended
 pub mod Growing
+pub mod LateReplies
 pub mod Made
 pub mod Moves
 pub mod Opened

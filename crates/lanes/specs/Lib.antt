@@ -1,3 +1,4 @@
+pub mod Aborted
 pub mod Attempts
 pub mod Callers
 pub mod Legal

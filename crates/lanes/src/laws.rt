@@ -1,6 +1,6 @@
 //! The laws of what threads do: it is a life of the specified device, and a stop may come at any
 //! moment of it.
-ghost use Rattle.std.specs.Prelude.{◌≤◌, ℕ, [], List, map};
+ghost use Rattle.std.specs.Prelude.{◌≤◌, ◌∷◌, ◌++◌, ℕ, [], All, List, map};
 ghost use Rattle.std.specs.Global.{Vec};
 ghost use Rattle.atomic_table.specs.Table as tables;
 ghost use Rattle.ufs_spec.specs.Dies.{CanDo, Did, DieState, IsOfSize};
@@ -14,6 +14,7 @@ ghost use Rattle.ufs_spec.specs.declared.Outcome.{Outcome};
 ghost use Rattle.power_loss.specs.Runs.{AreNewDies};
 ghost use Rattle.device.specs.Describes.{Describes};
 ghost use Rattle.device.specs.Kept.{DeviceCore};
+ghost use Rattle.lanes.specs.Aborted.{Aborts, AbortsBehind, IsReplyOf, IsTakenOf};
 ghost use Rattle.lanes.specs.Legal.{Legal};
 ghost use Rattle.lanes.specs.Promised.{IsAsLeft, IsLife, IsStoppedSafely, KeepsItsPromise};
 ghost use Rattle.lanes.specs.Promised.{KeepsItsPromiseStopped, MayBeStopped};
@@ -45,6 +46,23 @@ pub fn legal_steps_are_a_life()
 pub fn what_was_seen_keeps_the_promise<D: Die>()
     ensures { (opening : Opening D) (list : List Entry) → IsOpening D.state opening →
         IsLegal D.state opening list → KeepsItsPromise D.state opening list [] [] }
+{}
+
+/// No reply of an aborted task is handed out, at whichever port and whatever the other threads do. The
+/// device takes a request that aborts a task (JESD220, 10.7.6): behind this step no reply has the tag
+/// of the task, up to the next message with this tag that the device takes.
+pub fn no_reply_of_an_aborted_task_is_handed_out<D: Die>()
+    ensures steps { (opening : Opening D) (start s end : State) (before between after : List Entry)
+        (abort reply : Entry) (tag : ℕ) → IsOpening D.state opening →
+        IsStart D.state opening start → Legal start before s → Aborts s tag abort.made →
+        All (λ e. IsTakenOf tag e.made → ⊥) between →
+        Legal s (abort ∷ between ++ reply ∷ after) end → IsReplyOf tag reply.made → ⊥ }
+    // So it is in whatever a caller has seen.
+    ensures seen { (opening : Opening D) (before between after : List Entry)
+        (abort reply : Entry) (tag : ℕ) → IsOpening D.state opening →
+        IsLegal D.state opening (before ++ (abort ∷ between ++ reply ∷ after)) →
+        AbortsBehind D.state opening before tag abort.made →
+        All (λ e. IsTakenOf tag e.made → ⊥) between → IsReplyOf tag reply.made → ⊥ }
 {}
 
 /// Stopped at any moment, inside any job of any lane and under every order of the threads' steps,

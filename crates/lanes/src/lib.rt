@@ -23,7 +23,8 @@ pub use keeper::Keeper;
 pub use lane::Lane;
 pub use laws::{
     a_device_over_new_dies_may_be_shared, a_job_that_is_done_may_be_left,
-    a_stop_among_threads_leaves_a_prefix, legal_steps_are_a_life, what_was_seen_keeps_the_promise,
+    a_stop_among_threads_leaves_a_prefix, legal_steps_are_a_life,
+    no_reply_of_an_aborted_task_is_handed_out, what_was_seen_keeps_the_promise,
 };
 pub use meeting::meet;
 pub use opening::open_parallel;

@@ -2,9 +2,7 @@
 use Rattle.std.specs.Prelude.{ℕ, ◌&&◌, Bool, true, false, is_none, not, [], ◌∷◌, Option, Some, None, Result, Ok}
 use Rattle.std.specs.Prelude.{Err}
 use Rattle.ufs_spec.specs.Exchanges.{CheckCondition, Status, invalid_operation, no_unit}
-use Rattle.ufs_spec.specs.Messages.{is_among}
-use Rattle.ufs_spec.specs.Refusals.{BootUnit, Lun, first_line, is_boot_read, line, operations_of}
-use Rattle.ufs_spec.specs.Refusals.{unit_named}
+use Rattle.ufs_spec.specs.Refusals.{BootUnit, Lun, first_line, is_boot_read, line, takes, unit_named}
 use Rattle.ufs_spec.specs.declared.configs.Numbers.{Numbers}
 use Rattle.ufs_spec.specs.declared.scsi.Sense.{Sense}
 use Rattle.lun_route.specs.declared.routes.Route.{Route}
@@ -19,10 +17,10 @@ abbrev pub lacks_unit_at : Numbers → ℕ → ℕ → Option Lun → Bool
 lacks_unit_at n boot operation None = true
 lacks_unit_at n boot operation (Some lun) = lacks_blocks operation lun (unit_named n boot lun)
 
--- line 2: the unit does not take the operation code
+-- line 2: the unit does not take the operation code. It is `not_taken` of Refusals, by what that looks at
 abbrev pub not_taken_by : ℕ → Option Lun → Bool
 not_taken_by operation None = false
-not_taken_by operation (Some lun) = not (is_among (operations_of lun) operation)
+not_taken_by operation (Some lun) = not (takes lun operation)
 
 -- what the first of the two lines says that applies
 abbrev pub routing_refusal : Numbers → ℕ → ℕ → Option Lun → Option Status

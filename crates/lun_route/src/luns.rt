@@ -1,8 +1,8 @@
 //! What LUN bytes name.
 ghost use Rattle.std.specs.Prelude.{◌≡◌, ◌==◌, ◌<◌, IfSome, length, position};
 ghost use Rattle.ufs_spec.specs.Messages.{is_among};
-ghost use Rattle.ufs_spec.specs.Refusals.{all_but_security, boot_unit, lun_of, operations_of};
-ghost use Rattle.ufs_spec.specs.Refusals.{unit_named, well_known};
+ghost use Rattle.ufs_spec.specs.Refusals.{all_but_security, boot_unit, lun_of, takes, unit_named};
+ghost use Rattle.ufs_spec.specs.Refusals.{well_known};
 ghost use Rattle.ufs_spec.specs.declared.UnitSpec.{UnitSpec as Spec};
 ghost use Rattle.lun_route.specs.Luns.{lun_in, lun_meant};
 
@@ -85,7 +85,7 @@ impl Lun {
 
     /// Whether it takes this operation code.
     pub fn takes(self, operation: u8) -> bool
-        ensures { result ≡ is_among (operations_of (lun_meant self)) operation }
+        ensures { result ≡ takes (lun_meant self) operation }
     {
         match self {
             Lun::Unit(_) => unit_takes(operation),

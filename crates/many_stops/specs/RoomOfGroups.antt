@@ -1,8 +1,8 @@
 -- How many free blocks a mended life leaves once it has programmed for its host, and what its plan may still take.
 use Rattle.std.specs.Prelude.{◌≡◌, ◌≢◌, ◌⊎◌, ℕ, ◌+◌, ◌-◌, ◌<◌, ◌≤◌, if◌then◌else◌, Bool, true, false, List, length}
 use Rattle.std.specs.Prelude.{Option, Some, None, count_by, sum_by}
-use Rattle.ufs_spec.specs.Cells.{GroupPage}
-use Rattle.ufs_spec.specs.Disk.{BlockState, Bad, Filling, Flight, Programming, Spot}
+use Rattle.ufs_spec.specs.Cells.{Cells, GroupPage, Nothing}
+use Rattle.ufs_spec.specs.Disk.{BlockState, Bad, Filling, Flight, Programming, Spot, spot_of}
 use Rattle.ufs_spec.specs.Keys.{below}
 use Rattle.ufs_spec.specs.Kept.{fence_in}
 use Rattle.ufs_spec.specs.Ledger.{before_accepted}
@@ -15,6 +15,12 @@ use Rattle.ufs_spec.specs.declared.flash.Tag.{Tag}
 use Rattle.ufs_spec.specs.declared.layer.Name.{Name}
 use Rattle.power_loss.specs.Exchange.{IsSpot}
 use Rattle.power_loss.specs.Invariant.{Flights, Standing}
+
+-- Bad blocks
+
+-- nothing stands in a bad block: so it is of new dies, and where no program and no erase fails no other block goes bad
+abbrev pub AreBlankIfBad : Cells → (Spot → Bool) → Type 0
+AreBlankIfBad cells bad = (p : Place) → bad (spot_of p) ≡ true → cells p ≡ Nothing
 
 -- Pages of the host
 
@@ -107,15 +113,16 @@ pub record IsOneShort (n : Numbers) (blocks : Spot → BlockState) (flights : Fl
   pub is : plan ≡ Some under_way
   pub fits : pages_of_plan plan step ≤ room_on_dies n blocks step flights
 
--- the plan is of a block of the dies, and does not program as many pages as fill a block
-pub record PlanGains (n : Numbers) (step : Option Step) (plan : Plan) : Type 0 where
+-- the plan is of a block of the dies that is not bad, and does not program as many pages as fill a block
+pub record PlanGains (n : Numbers) (blocks : Spot → BlockState) (step : Option Step) (plan : Plan) : Type 0 where
   pub inside : IsSpot n plan.victim
+  pub good : blocks plan.victim ≢ Bad
   pub less : pages_of_plan (Some plan) step ≤ n.pages
 
-pub record LeavesRoom (n : Numbers) (before : ℕ) (standing : Standing) (blocks : Spot → BlockState) (flights : Flights)
-    (mended : Bool) (step : Option Step) (plan : Option Plan) : Type 0 where
-  -- no block is bad
-  pub good : (s : Spot) → blocks s ≢ Bad
+pub record LeavesRoom (n : Numbers) (before : ℕ) (standing : Standing) (cells : Cells) (blocks : Spot → BlockState)
+    (flights : Flights) (mended : Bool) (step : Option Step) (plan : Option Plan) : Type 0 where
+  -- nothing stands in a bad block
+  pub blank : (p : Place) → blocks (spot_of p) ≡ Bad → cells p ≡ Nothing
   -- no two dies program pages of one name
   pub one_die : (d e : ℕ) (p q : Place) (a b : Tag) (x y : List ℕ) → flights d ≡ Some (Programming p (GroupPage a x)) →
       flights e ≡ Some (Programming q (GroupPage b y)) → name_of a ≡ name_of b → d ≡ e
@@ -125,7 +132,7 @@ pub record LeavesRoom (n : Numbers) (before : ℕ) (standing : Standing) (blocks
       (p : Place) × (standing name.number name.index ≡ Some p)
   -- once the device is mended each step is one of a plan
   pub planned : mended ≡ true → (s : Step) → step ≡ Some s → (pl : Plan) × (plan ≡ Some pl)
-  pub gains : (pl : Plan) → plan ≡ Some pl → PlanGains n step pl
+  pub gains : (pl : Plan) → plan ≡ Some pl → PlanGains n blocks step pl
   -- once a page of the host was handed out, as many blocks are free as groups leave, or one less is and a plan under
   -- way needs none
   pub room : IsHandedOut before standing flights →
@@ -133,8 +140,8 @@ pub record LeavesRoom (n : Numbers) (before : ℕ) (standing : Standing) (blocks
 
 -- what holds of a life in which no job fails: groups leave the device's own pages their room
 abbrev pub LeavesOwnRoom : Translation → Type 0
-LeavesOwnRoom t = LeavesRoom t.numbers (before_accepted t.ledger) t.ledger.standing t.disk.blocks t.disk.flights
-    (is_mended t.work.mending) t.work.step t.work.plan
+LeavesOwnRoom t = LeavesRoom t.numbers (before_accepted t.ledger) t.ledger.standing t.disk.cells t.disk.blocks
+    t.disk.flights (is_mended t.work.mending) t.work.step t.work.plan
 
 -- Nothing to mend
 

@@ -2,8 +2,8 @@
 use Rattle.std.specs.Prelude.{◌≡◌, ◌≢◌, ◌⊎◌, ℕ, ◌+◌, ◌*◌, ◌≤◌, Bool, true, false, List, count_by}
 use Rattle.std.specs.Int.{div_ceil}
 use Rattle.std.specs.List.{list_any}
-use Rattle.ufs_spec.specs.Cells.{Cells, GroupPage}
-use Rattle.ufs_spec.specs.Disk.{BlockState, Bad, Free, Spot, spot_of}
+use Rattle.ufs_spec.specs.Cells.{Array, Cells, GroupPage, IsCell, Nothing}
+use Rattle.ufs_spec.specs.Disk.{Bad, Free, Spot, spot_of}
 use Rattle.ufs_spec.specs.Lives.{Life, Lived}
 use Rattle.ufs_spec.specs.Refusals.{State, mended}
 use Rattle.ufs_spec.specs.Translation.{Translation, count_blocks, is_free, is_mended, spots}
@@ -23,10 +23,11 @@ mending_blocks n = div_ceil n.slots n.pages + 1
 abbrev pub HoldsLost : Cells → ℕ → Spot → Type 0
 HoldsLost c low s = (p : Place) (t : Tag) (body : List ℕ) → spot_of p ≡ s → c p ≡ GroupPage t body → low ≤ t.number
 
--- the block is free, or will be at the next opening, once the first mark of this life is finished: its pages are lost,
--- or marks
+-- the block is free, or will be at the next opening, once the first mark of this life is finished: it is not bad, and
+-- its pages are lost, or marks
 abbrev pub IsFreeOrLost : Translation → Spot → Type 0
-IsFreeOrLost t s = (t.disk.blocks s ≡ Free) ⊎ HoldsLost t.disk.cells t.ledger.first_lost s
+IsFreeOrLost t s =
+    (t.disk.blocks s ≡ Free) ⊎ ((t.disk.blocks s ≢ Bad) × HoldsLost t.disk.cells t.ledger.first_lost s)
 
 -- there is room for a mending, and, with blocks that hold nothing but what is lost, for the one after it
 pub record HasSpareBlocks (t : Translation) : Type 0 where
@@ -39,9 +40,9 @@ pub record HasSpareBlocks (t : Translation) : Type 0 where
 abbrev pub FindsRoom : Translation → Type 0
 FindsRoom t = (is_mended t.work.mending ≡ true) ⊎ HasSpareBlocks t
 
--- no block is bad
-abbrev pub AreNoneBad : (Spot → BlockState) → Type 0
-AreNoneBad blocks = (s : Spot) → blocks s ≢ Bad
+-- no page of a bad block opens, as in new dies
+abbrev pub OpensNoneIfBad : Array → (Spot → Bool) → Type 0
+OpensNoneIfBad array bad = (p : Place) → bad (spot_of p) ≡ true → IsCell (array p) Nothing
 
 -- no program and no erase fails in these events
 abbrev pub NoneFails : List Event → Type 0

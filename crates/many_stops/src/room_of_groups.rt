@@ -10,16 +10,16 @@ ghost use Rattle.ufs_spec.specs.declared.configs.Numbers.{Numbers};
 ghost use Rattle.power_loss.specs.FewRepairs.{HasFewRepairs};
 ghost use Rattle.power_loss.specs.Invariant.{Valid};
 ghost use Rattle.power_loss.specs.MendingRoom.{fails_job};
-ghost use Rattle.many_stops.specs.RoomOfGroups.{HasHandedOut, HasNothingToMend, LeavesOwnRoom};
+ghost use Rattle.many_stops.specs.RoomOfGroups.{AreBlankIfBad, HasHandedOut, HasNothingToMend, LeavesOwnRoom};
 
-/// Where no program and no erase fails and no block is bad, a life that has handed a page of an
-/// accepted command to a die has as many blocks free as groups leave to the device's own pages, or
-/// one less while it collects a block. For below that room a block is opened only where none is
-/// being filled, and a plan takes no more pages than a block has; so the plan ends in the block that
-/// it opened, and frees another.
+/// Where no program and no erase fails and bad blocks hold nothing, a life that has handed a page
+/// of an accepted command to a die has as many blocks free as groups leave to the device's own
+/// pages, or one less while it collects a block. For below that room a block is opened only where
+/// none is being filled, and a plan takes no more pages than a block has; so the plan ends in the
+/// block that it opened, and frees another.
 pub fn groups_leave_their_room_at_each_stop()
     ensures opened { (n : Numbers) (c : Cells) (bad : Spot → Bool) (t : Translation) →
-        ((s : Spot) → bad s ≡ false) → IsOpenedTranslation n c bad t → LeavesOwnRoom t }
+        AreBlankIfBad c bad → IsOpenedTranslation n c bad t → LeavesOwnRoom t }
     ensures each_move { (t : Translation) (move : Move) → Valid t → IsAllowedMove t move → fails_job move ≡ false →
         LeavesOwnRoom t → LeavesOwnRoom (moved t move) }
     ensures stop { (t : Translation) → LeavesOwnRoom t → HasHandedOut t →

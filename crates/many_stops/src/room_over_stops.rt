@@ -1,5 +1,5 @@
 //! The laws of room over stops: each opening finds room for its mending, so no device is ever locked out.
-ghost use Rattle.std.specs.Prelude.{◌≡◌, ◌+◌, ◌*◌, ◌≤◌, ◌∷◌, ℕ, All, Bool, false, List};
+ghost use Rattle.std.specs.Prelude.{◌≡◌, ◌+◌, ◌*◌, ◌≤◌, ◌∷◌, ℕ, All, Bool, false, List, count_by};
 ghost use Rattle.std.specs.List.{list_any};
 ghost use Rattle.ufs_spec.specs.Cells.{AreWithin, Array, Cells, Nothing};
 ghost use Rattle.ufs_spec.specs.Configs.{IsConfig};
@@ -10,7 +10,7 @@ ghost use Rattle.ufs_spec.specs.Moves.{Move};
 ghost use Rattle.ufs_spec.specs.Openings.{IsOpenedTranslation};
 ghost use Rattle.ufs_spec.specs.Refusals.{State, mended};
 ghost use Rattle.ufs_spec.specs.Sound.{CellsSound, Sound};
-ghost use Rattle.ufs_spec.specs.Translation.{Translation, is_bad, own_room};
+ghost use Rattle.ufs_spec.specs.Translation.{Translation, is_bad, own_room, spots};
 ghost use Rattle.ufs_spec.specs.declared.configs.Numbers.{Numbers};
 ghost use Rattle.ufs_spec.specs.declared.events.Event.{Event};
 ghost use Rattle.ufs_spec.specs.declared.events.Leftover.{Leftover};
@@ -22,50 +22,53 @@ ghost use Rattle.power_loss.specs.FewRepairs.{ArrayHasFewLost, HasFewLost};
 ghost use Rattle.power_loss.specs.Mending.{AreAllowedMoves, moved_by};
 ghost use Rattle.power_loss.specs.MendingRoom.{MayGoOn, fails_job};
 ghost use Rattle.power_loss.specs.Runs.{AreNewDies};
-ghost use Rattle.many_stops.specs.RoomOverStops.{FindsRoom, NoneFails, OpensWithRoom, mending_blocks};
+ghost use Rattle.many_stops.specs.RoomOfGroups.{AreBlankIfBad};
+ghost use Rattle.many_stops.specs.RoomOverStops.{FindsRoom, NoneFails, OpensNoneIfBad, OpensWithRoom, mending_blocks};
 
-/// Where no program and no erase fails and no block is bad, new dies have room for their mending, and
-/// if an opening finds room, so does the next one, at whatever moment a stop comes. A device that is
-/// not mended at once finds free as many blocks as one mending may need; and twice as many are free or
-/// hold only what is lost: those are free at the next opening, once the first mark is finished.
+/// Where no program and no erase fails and bad blocks hold nothing, new dies of which no more
+/// blocks are bad than there are spare ones have room for their mending, and if an opening finds
+/// room, so does the next one, at whatever moment a stop comes. A device that is not mended at once
+/// finds free as many blocks as one mending may need; and twice as many are free or hold only what
+/// is lost: those are free at the next opening, once the first mark is finished.
 pub fn each_opening_finds_room()
     ensures blocks { (n : Numbers) → IsConfig n →
         (n.slots + 2 ≤ n.pages * mending_blocks n) × (own_room n ≡ n.dies + 2 * mending_blocks n) }
     ensures new_dies { (n : Numbers) (c : Cells) (bad : Spot → Bool) (t : Translation) →
-        IsConfig n → ((p : Place) → c p ≡ Nothing) → ((s : Spot) → bad s ≡ false) →
+        IsConfig n → ((p : Place) → c p ≡ Nothing) → count_by bad (spots n) ≤ n.spare →
         IsOpenedTranslation n c bad t → FindsRoom t }
     ensures life { (n : Numbers) (c left : Cells) (bad : Spot → Bool) (t next : Translation)
         (moves : List Move) → IsConfig n → CellsRight c → AreWithin n c →
         CellsSound c t.ledger.newest → HasFewLost n c t.ledger.newest →
-        ((s : Spot) → bad s ≡ false) → IsOpenedTranslation n c bad t → FindsRoom t →
+        AreBlankIfBad c bad → IsOpenedTranslation n c bad t → FindsRoom t →
         AreAllowedMoves t moves → list_any fails_job moves ≡ false →
         CellCrash (moved_by t moves).disk.cells (moved_by t moves).disk.flights left →
         IsOpenedTranslation n left (λ s. is_bad ((moved_by t moves).disk.blocks s)) next →
         FindsRoom next }
 {}
 
-/// So over any number of stops, from new dies on, no device is locked out: a life may go on until it
-/// is mended, whatever a host sends, however reads end, and wherever the lives before it stopped.
+/// So over any number of stops, from new dies on of which no more blocks are bad than there are
+/// spare ones, no device is locked out: a life may go on until it is mended, whatever a host sends,
+/// however reads end, and wherever the lives before it stopped.
 pub fn no_life_is_locked_out()
     ensures goes_on { (n : Numbers) (array : Array) (bad : Spot → Bool) (s t : State)
         (es : List Event) (os : List Output) → IsConfig n → IsArrayOf n array → Sound array →
-        ArrayHasFewLost n array → ((a : Spot) → bad a ≡ false) → IsOpened n array bad s →
+        ArrayHasFewLost n array → OpensNoneIfBad array bad → IsOpened n array bad s →
         FindsRoom s.translation → Life s es os t → NoneFails es → mended t ≡ false →
         MayGoOn t.translation }
     ensures stop { (n : Numbers) (array : Array) (bad : Spot → Bool) (s t next : State)
         (es : List Event) (os : List Output) (lefts : List Leftover) (left : Array) →
         IsConfig n → IsArrayOf n array → Sound array → ArrayHasFewLost n array →
-        ((a : Spot) → bad a ≡ false) → IsOpened n array bad s → FindsRoom s.translation →
+        OpensNoneIfBad array bad → IsOpened n array bad s → FindsRoom s.translation →
         Life s es os t → NoneFails es → Stops t lefts left → IsOpened n left (bad_in t) next →
         FindsRoom next.translation }
     ensures lives { (n : Numbers) (array : Array) (bad : Spot → Bool) (first : Lived)
         (later : List Lived) (es : List Event) (os : List Output) → IsConfig n →
         IsArrayOf n array → Sound array → ArrayHasFewLost n array →
-        ((a : Spot) → bad a ≡ false) → FindsRoom first.start.translation → NoneFails es →
+        OpensNoneIfBad array bad → FindsRoom first.start.translation → NoneFails es →
         Lives n array bad first later es os → All OpensWithRoom (first ∷ later) }
     ensures runs { (n : Numbers) (dies : List DieState) (s t : State) (es : List Event)
         (os : List Output) → IsConfig n → AreNewDies n dies →
-        ((a : Spot) → bad_of dies a ≡ false) → IsOpened n (array_of dies) (bad_of dies) s →
+        count_by (bad_of dies) (spots n) ≤ n.spare → IsOpened n (array_of dies) (bad_of dies) s →
         Runs n s es os t → NoneFails es →
         (first : Lived) × (later : List Lived)
         × Lives n (array_of dies) (bad_of dies) first later es os

@@ -12,13 +12,13 @@ use Rattle.page_tag.specs.declared.jobs.Order.TheVariants as order
 
 -- the job that it becomes when its page is sealed
 abbrev pub job_sealed : Order → Job
-job_sealed (order.Program place tag body) = job.Program place (seal_page tag body)
+job_sealed (order.Program place tag body zeros) = job.Program place (seal_page tag body)
 job_sealed (order.Read place) = job.Read place
 job_sealed (order.Erase die block) = job.Erase die block
 
 -- a page can be sealed with its tag
 abbrev pub IsSealable : Order → Type 0
-IsSealable (order.Program place tag body) = IsTag tag
+IsSealable (order.Program place tag body zeros) = IsTag tag
 IsSealable (order.Read place) = Unit {0}
 IsSealable (order.Erase die block) = Unit {0}
 

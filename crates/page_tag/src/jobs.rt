@@ -6,15 +6,24 @@ ghost use Rattle.ufs_spec.specs.declared.flash.Job.TheVariants as job;
 ghost use Rattle.page_tag.specs.Jobs.{IsTagRead};
 
 use crate::page::{seal, sealed_tag};
+use crate::zeros::ZeroSeal;
 use std::marker::Model;
-use ufs_spec::{Block, Job, Outcome, Place, Tag};
+use ufs_spec::{Block, Job, Outcome, Page, Place, Tag};
 
 /// What a die is told to do, before a page is sealed.
 #[derive(Drop)]
 enum Order {
-    Program { place: Place, tag: Tag, body: Block },
+    Program {
+        place: Place,
+        tag: Tag,
+        body: Block,
+        zeros: Option<ZeroSeal>,
+    },
     Read(Place),
-    Erase { die: u8, block: u16 },
+    Erase {
+        die: u8,
+        block: u16,
+    },
 }
 
 /// A job of a die whose page, if it is a program, is sealed later. Contracts see the job that it
@@ -42,11 +51,28 @@ impl UnsealedJob {
         requires { IsTag tag.now }
         ensures { result ≡ job.Program place (seal_page tag.now body.now) }
     {
+        UnsealedJob::program_by(None, place, tag, body)
+    }
+
+    /// The same, where the block may well be zeros: then its page is sealed in less time.
+    pub fn program_with(zeros: &ZeroSeal, place: Place, tag: &Tag, body: &Block) -> UnsealedJob
+        requires { IsTag tag.now }
+        ensures { result ≡ job.Program place (seal_page tag.now body.now) }
+    {
+        UnsealedJob::program_by(Some(zeros.another()), place, tag, body)
+    }
+
+    // The program of this page with this tag and this block, and what its page is sealed with.
+    fn program_by(zeros: Option<ZeroSeal>, place: Place, tag: &Tag, body: &Block) -> UnsealedJob
+        requires { IsTag tag.now }
+        ensures { result ≡ job.Program place (seal_page tag.now body.now) }
+    {
         UnsealedJob {
             order: Order::Program {
                 place,
                 tag: *tag,
                 body: *body,
+                zeros,
             },
         }
     }
@@ -69,18 +95,35 @@ impl UnsealedJob {
         }
     }
 
-    /// The job. If it is a program its page is sealed, which takes one SHA-256.
+    /// The job. If it is a program its page is sealed, which takes one SHA-256; that of 64 bytes
+    /// alone where the block is zeros and [`UnsealedJob::program_with`] made the job.
     pub fn sealed(&self) -> Job
         ensures { result ≡ self.now }
     {
         match &self.order {
-            Order::Program { place, tag, body } => Job::Program(*place, seal(tag, body)),
+            Order::Program {
+                place,
+                tag,
+                body,
+                zeros,
+            } => Job::Program(*place, sealed_by(zeros, tag, body)),
             Order::Read(place) => Job::Read(*place),
             Order::Erase { die, block } => Job::Erase {
                 die: *die,
                 block: *block,
             },
         }
+    }
+}
+
+// The page of a tag and a block.
+fn sealed_by(zeros: &Option<ZeroSeal>, tag: &Tag, body: &Block) -> Page
+    requires { IsTag tag.now }
+    ensures { result ≡ seal_page tag.now body.now }
+{
+    match zeros {
+        Some(zeros) => zeros.seal(tag, body),
+        None => seal(tag, body),
     }
 }
 

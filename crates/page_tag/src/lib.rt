@@ -11,9 +11,11 @@ mod jobs;
 mod mark;
 mod mark_read;
 mod page;
+mod zeros;
 
 pub use contents::{Content, Mark, content_of};
 pub use facts::one_seal;
 pub use jobs::{UnsealedJob, tag_read};
 pub use mark::mark_body;
 pub use page::{leftover_ok, open, reopened, seal, sealed_tag};
+pub use zeros::ZeroSeal;

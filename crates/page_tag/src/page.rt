@@ -1,5 +1,5 @@
 //! Sealed pages.
-ghost use Rattle.std.specs.Prelude.{◌≡◌, ◌↔◌, ℕ, List, IfSome, IsTrue, None, Some};
+ghost use Rattle.std.specs.Prelude.{◌≡◌, ◌↔◌, ◌++◌, ℕ, List, IfSome, IsTrue, None, Some};
 ghost use Rattle.ufs_spec.specs.Pages.{IsTag, MayBeLeft, seal_page};
 ghost use Rattle.ufs_spec.specs.declared.flash.Tag.{Tag};
 
@@ -14,9 +14,17 @@ pub fn seal(tag: &Tag, body: &Block) -> Page
 {
     let front = front_of(tag);
     let check = check_bytes(body, &front);
+    page_of(body, &front, &check)
+}
+
+/// The page of a block, its first 64 spare bytes and its check.
+pub(crate) fn page_of(body: &Block, front: &[u8; 64], check: &[u8; 32]) -> Page
+    ensures { result ≡ record { body = body.now; spare = front.now ++ check.now } }
+{
     let mut spare = [0; 96];
-    spare[..64].copy_from_slice(&front);
-    spare[64..].copy_from_slice(&check);
+    let (first, last) = spare.split_at_mut(64);
+    first.copy_from_slice(front);
+    last.copy_from_slice(check);
     Page { body: *body, spare }
 }
 

@@ -1,4 +1,8 @@
+pub mod FailedJobs
 pub mod FailedWrite
+pub mod FailingJobs
+pub mod LeftOfJobs
+pub mod MovedPage
 pub mod StoppedLives
 pub mod StoppedPages
 pub mod StoppedWrite

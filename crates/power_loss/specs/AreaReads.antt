@@ -1,7 +1,10 @@
--- What a request for data reads of the RPMB area: it shows the area as it is now, as long as the request is open, since
--- only one task at a time can change the area (JESD220, 12.4).
-use Rattle.std.specs.Prelude.{◌≡◌, ℕ, ◌+◌, Bool, true, false, List, [], ◌∷◌, length, map, slice_get, Option, Some, None}
+-- What open tasks are by their commands: what gathers data does so for its command, and what a request for data reads
+-- of the RPMB area shows the area as it is now, as long as the request is open, since only one task at a time can
+-- change the area (JESD220, 12.4).
+use Rattle.std.specs.Prelude.{◌≡◌, ◌⊎◌, ℕ, ◌+◌, Bool, true, false, List, [], ◌∷◌, length, map, slice_get, Option, Some}
+use Rattle.std.specs.Prelude.{None}
 use Rattle.std.specs.List.{AllByRecursion, list_any}
+use Rattle.ufs_spec.specs.Cdbs.{address_of, blocks_of, operation_of, write_10, write_6}
 use Rattle.ufs_spec.specs.Exchanges.{Answering, Awaiting, Deed, ForFrames, ForUnmap, ForWrite, Gathering, Purpose}
 use Rattle.ufs_spec.specs.Exchanges.{ReadBlock, ReadingArea, RpmbRequest, Sending, SendingBytes, Task}
 use Rattle.ufs_spec.specs.FrameRequests.{first_page, pages_named}
@@ -10,6 +13,7 @@ use Rattle.ufs_spec.specs.Keys.{area_key, below, content}
 use Rattle.ufs_spec.specs.Plain.{Plain}
 use Rattle.ufs_spec.specs.Refusals.{State, plain_now, sends_frames}
 use Rattle.ufs_spec.specs.declared.scsi.Cdb.{Cdb}
+use Rattle.ufs_spec.specs.declared.scsi.Cdb.TheVariants as cdb
 
 -- ## Pages
 
@@ -29,24 +33,31 @@ RequestShows p (Some request) pages = FramesShow p request.region request.frames
 
 -- ## Tasks
 
--- what gathers frames is a SECURITY PROTOCOL OUT
-abbrev pub GathersRightly : Purpose → Option Cdb → Type 0
-GathersRightly (ForFrames region) command = sends_frames command ≡ true
-GathersRightly (ForWrite unit address blocks forced) command = Unit {0}
-GathersRightly (ForUnmap unit) command = Unit {0}
+-- the command is a WRITE of so many blocks from this address on
+abbrev pub IsWriteOf : ℕ → ℕ → Option Cdb → Type 0
+IsWriteOf address blocks command =
+    (c : Cdb) × (command ≡ Some c) × (address_of c ≡ address) × (blocks_of c ≡ blocks)
+    × ((operation_of c ≡ write_6) ⊎ (operation_of c ≡ write_10))
 
--- and so is what reads the area, and the pages that it reads are as they are in this plain state
-abbrev pub DeedShows : Plain → Option Cdb → Option RpmbRequest → Deed → Type 0
-DeedShows p command request (Gathering purpose gathered asked) = GathersRightly purpose command
-DeedShows p command request (ReadingArea pages) = (sends_frames command ≡ true) × RequestShows p request pages
-DeedShows p command request (Sending blocks sent) = Unit {0}
-DeedShows p command request (SendingBytes bytes) = Unit {0}
-DeedShows p command request (Awaiting commands) = Unit {0}
-DeedShows p command request (Answering status carried) = Unit {0}
+-- what gathers so many bytes is a command that has them: a WRITE of these blocks, an UNMAP with a list of so many
+-- bytes, or a SECURITY PROTOCOL OUT of so many for the region
+abbrev pub GathersRightly : Purpose → ℕ → Option Cdb → Type 0
+GathersRightly (ForWrite unit address blocks forced) total command = IsWriteOf address blocks command
+GathersRightly (ForUnmap unit) total command = command ≡ Some (cdb.Unmap total)
+GathersRightly (ForFrames region) total command = command ≡ Some (cdb.SecurityOut region total)
+
+-- what reads the area brought frames, and the pages that it reads are as they are in this plain state
+abbrev pub DeedShows : Plain → Option Cdb → ℕ → Option RpmbRequest → Deed → Type 0
+DeedShows p command total request (Gathering purpose gathered asked) = GathersRightly purpose total command
+DeedShows p command total request (ReadingArea pages) = (sends_frames command ≡ true) × RequestShows p request pages
+DeedShows p command total request (Sending blocks sent) = Unit {0}
+DeedShows p command total request (SendingBytes bytes) = Unit {0}
+DeedShows p command total request (Awaiting commands) = Unit {0}
+DeedShows p command total request (Answering status carried) = Unit {0}
 
 -- the same of a task
 abbrev pub ShowsArea : Plain → Task → Type 0
-ShowsArea p task = DeedShows p task.command task.request task.deed
+ShowsArea p task = DeedShows p task.command task.length task.request task.deed
 
 -- the task brings frames, or has brought them: it is a SECURITY PROTOCOL OUT that was not refused
 abbrev pub brings_frames : Task → Bool
@@ -57,7 +68,8 @@ abbrev pub OneBrings : List Task → Type 0
 OneBrings [] = Unit {0}
 OneBrings (task ∷ tasks) = (brings_frames task ≡ true → list_any brings_frames tasks ≡ false) × OneBrings tasks
 
--- no more than one of the tasks brings frames, and each that reads the area shows it as it is in this plain state
+-- no more than one of the tasks brings frames, each that gathers data does so for its command, and each that reads the
+-- area shows it as it is in this plain state
 pub record AreaReadsOf (p : Plain) (tasks : List Task) : Type 0 where
   pub one : OneBrings tasks
   pub shows : AllByRecursion (ShowsArea p) tasks

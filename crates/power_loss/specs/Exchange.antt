@@ -17,7 +17,7 @@ use Rattle.ufs_spec.specs.Messages.{AreBytes}
 use Rattle.ufs_spec.specs.Pages.{group_bound}
 use Rattle.ufs_spec.specs.Plain.{shape_of, shape_of_numbers}
 use Rattle.ufs_spec.specs.Refusals.{State, numbers_of, slots_for_frames}
-use Rattle.ufs_spec.specs.Stages.{regions}
+use Rattle.ufs_spec.specs.Plain.{regions}
 use Rattle.ufs_spec.specs.Translation.{is_mended}
 use Rattle.ufs_spec.specs.declared.configs.Numbers.{Numbers}
 use Rattle.ufs_spec.specs.declared.flash.Place.{Place}
@@ -63,11 +63,12 @@ abbrev pub AwaitsFit : ℕ → Bool → ℕ → Type 0
 AwaitsFit accepted mended commands = (commands ≤ accepted) × (mended ≡ true)
 
 -- an UNMAP that gathers its list, of 8 bytes or of 24, is for a unit that is there, and has less than its length. With
--- a list of 24 bytes it has claimed a slot for each block that a command may have
+-- a list of 24 bytes it has claimed a slot for each block that a command may have, with one of 8 bytes none
 pub record UnmapFits (n : Numbers) (mended : Bool) (unit total : ℕ) (gathered : List ℕ) (claimed : ℕ) : Type 0 where
   pub unit_in : unit < length n.units.items
-  pub list : (total ≡ 8) ⊎ ((total ≡ 24) × (claimed ≡ command_blocks n))
+  pub list : ((total ≡ 8) × (claimed ≡ 0)) ⊎ ((total ≡ 24) × (claimed ≡ command_blocks n))
   pub short : length gathered < total
+  pub bytes : AreBytes gathered
   pub is_mended : mended ≡ true
 
 -- a SECURITY PROTOCOL OUT that gathers its frames, one to eight of them, is for a region that is there, and has less

@@ -1,6 +1,7 @@
 pub mod Book
 pub mod Invariant
 pub mod Exchange
+pub mod FailedWrites
 pub mod FewRepairs
 pub mod FreeBlocks
 pub mod Collection

@@ -1,29 +1,23 @@
 -- Worked lives of a new device that is told to write one block with FUA: it is stopped while the block's page is
--- programmed, or while another die erases a block too, or the program fails.
-use Rattle.std.specs.Prelude.{◌≡◌, ◌⊎◌, ℕ, Bool, true, List, [], ◌∷◌, ◌++◌, take, Some}
+-- programmed, or while another die erases a block too.
+use Rattle.std.specs.Prelude.{◌≡◌, ◌⊎◌, ℕ, Bool, List, [], ◌∷◌, ◌++◌, take, Some}
 use Rattle.std.specs.Global.{Vec}
 use Rattle.std.specs.List.{All}
 use Rattle.ufs_laws.specs.GapRows.{write_page}
-use Rattle.ufs_laws.specs.Runs.{Gets, IsNew, begins, data_program, pending_events, pending_outputs, place_of, row, told}
+use Rattle.ufs_laws.specs.Runs.{IsNew, begins, data_program, pending_events, pending_outputs, row}
 use Rattle.ufs_laws.specs.Runs.{write_events, write_outputs}
-use Rattle.ufs_spec.specs.Cdbs.{fixed_sense}
 use Rattle.ufs_spec.specs.Cells.{Array}
 use Rattle.ufs_spec.specs.Commands.{Write}
 use Rattle.ufs_spec.specs.Dies.{blank_page}
-use Rattle.ufs_spec.specs.Disk.{Erasing, Flight, Spot, at_place, page_of, spot_of}
-use Rattle.ufs_spec.specs.Exchanges.{sense}
-use Rattle.ufs_spec.specs.Lives.{IsOpened, Leads, Life, Runs, Stops, bad_in, held}
-use Rattle.ufs_spec.specs.Machine.{Reply, OfReply}
+use Rattle.ufs_spec.specs.Disk.{Erasing, Flight, Spot, page_of}
+use Rattle.ufs_spec.specs.Lives.{IsOpened, Life, Runs, Stops, bad_in, held}
 use Rattle.ufs_spec.specs.Pages.{IsCheckRight}
 use Rattle.ufs_spec.specs.Plain.{after, block_at, zero, zero_block}
-use Rattle.ufs_spec.specs.Refusals.{State, locked}
+use Rattle.ufs_spec.specs.Refusals.{State}
 use Rattle.ufs_spec.specs.declared.events.Event.TheVariants as event
-use Rattle.ufs_spec.specs.declared.events.Leftover.TheVariants as leftover
 use Rattle.ufs_spec.specs.declared.events.Leftover.{Leftover}
 use Rattle.ufs_spec.specs.declared.events.Output.TheVariants as output
 use Rattle.ufs_spec.specs.declared.flash.Page.{Page}
-use Rattle.ufs_spec.specs.declared.messages.Message.TheVariants as message
-use Rattle.ufs_spec.specs.declared.messages.Message.{Message}
 
 -- the page of the block
 abbrev pub written_page : List ℕ → Page
@@ -53,33 +47,6 @@ pub record IsStoppedWrite (body : List ℕ) (write block : Vec ℕ) (lefts : Vec
   pub prefix : (other : State) (bad : Spot → Bool) → IsOpened row (left now.array) bad other →
       other.base ≡ after now.base (take k now.accepted)
   pub block_found : block_at 0 0xFF next.base ≡ found
-
--- CHECK CONDITION with MEDIUM ERROR, write error (3/0C), and no residual
-abbrev pub write_failed : Message
-write_failed = message.Response 0x00 0 7 0x01 0x02 0 (Some (0 ∷ 0x12 ∷ fixed_sense (sense 0x03 0x0C)))
-
--- the program of the block's page fails and leaves this page
-pub record IsFailedWrite (body : List ℕ) (write block : Vec ℕ) (page : Page) : Type 0 where
-  -- the life of a new device up to the program
-  pub start : State
-  pub is_new : IsNew start
-  pub before : State
-  pub life : Life start (write_events write block) (write_outputs body) before
-  -- the job fails: the block of the die is bad, and the device is locked
-  pub failed : State
-  pub fails : Leads before (event.Fail 0 (Some (leftover.Page (place_of 1) page))) output.Ended failed
-  pub array : failed.array ≡ at_place before.array (place_of 1) page
-  pub bad : bad_in failed (spot_of (place_of 1)) ≡ true
-  pub is_locked : locked failed ≡ true
-  -- the WRITE is answered with a write error, and by nothing else
-  pub answered : Gets failed Reply (OfReply (Some write_failed))
-  pub now : State
-  pub told_so : Leads failed event.Reply (told write_failed) now
-  -- its command stays accepted and is not acknowledged; no task is open
-  pub accepted : now.accepted ≡ Write 0 0xFF (body ∷ []) ∷ []
-  pub none_held : held now ≡ 0
-  pub none_open : now.tasks ≡ []
-  pub still_locked : locked now ≡ true
 
 -- the erase of a block of another die, which waits for the same page
 abbrev pub other_erase : Flight

@@ -2,7 +2,6 @@
 ghost use Rattle.std.specs.Prelude.{◌≡◌, ◌≢◌, ◌⊎◌, ◌<◌, ◌^◌, true, Option, Some, None};
 ghost use Rattle.ufs_spec.specs.Disk.{Spot};
 ghost use Rattle.ufs_spec.specs.Ledger.{next_number};
-ghost use Rattle.ufs_spec.specs.Stages.{most_bad};
 ghost use Rattle.ufs_spec.specs.Pages.{greatest_number};
 ghost use Rattle.ufs_spec.specs.Translation.{Plan, Translation, count_blocks, is_bad, is_locked, is_mended, is_step_due, turned, victim};
 ghost use Rattle.power_loss.specs.Collection.{CanBeCollected, IsCollectionDue, IsVictim};
@@ -24,10 +23,11 @@ pub fn collection_is_due_when_it_should()
         (plan : Plan) × ((turned t).work.plan ≡ Some plan) × IsVictim t plan.victim }
 {}
 
-/// The device is locked exactly if more blocks are bad than may be, or no number is left.
+/// The device is locked exactly if more blocks are bad than the configuration has spare ones, or no
+/// number is left.
 pub fn too_many_bad_blocks_lock()
     ensures locks { (t : Translation) →
-        (most_bad t.numbers < count_blocks t is_bad) ⊎ (greatest_number < next_number t.ledger) → is_locked t ≡ true }
+        (t.numbers.spare < count_blocks t is_bad) ⊎ (greatest_number < next_number t.ledger) → is_locked t ≡ true }
     ensures only { (t : Translation) →
-        is_locked t ≡ true → (most_bad t.numbers < count_blocks t is_bad) ⊎ (greatest_number < next_number t.ledger) }
+        is_locked t ≡ true → (t.numbers.spare < count_blocks t is_bad) ⊎ (greatest_number < next_number t.ledger) }
 {}

@@ -64,9 +64,9 @@ pub use pending::pending_groups_become_durable_in_order;
 pub use promises::good_promises_durability;
 pub use rests::rests_are_laid_over_one_page;
 pub use runs::{
-    a_failed_write_is_answered, a_job_may_fail_at_any_moment, a_run_keeps_the_promise,
-    a_stop_may_come_at_any_moment, a_stopped_write_opens, any_sound_array_opens, new_dies_fit,
-    one_array_is_left, two_dies_torn_at_once_open,
+    a_failed_page_goes_elsewhere, a_failed_write_is_answered, a_job_may_fail_at_any_moment,
+    a_run_keeps_the_promise, a_stop_may_come_at_any_moment, a_stopped_write_opens,
+    any_sound_array_opens, new_dies_fit, one_array_is_left, two_dies_torn_at_once_open,
 };
 pub use settled_slots::a_durable_slot_becomes_its_page;
 pub use shown::kept_content_is_what_is_sent;

@@ -24,8 +24,9 @@ ghost use Rattle.ufs_spec.specs.declared.Page.{Page};
 ghost use Rattle.ufs_spec.specs.declared.Place.{Place};
 ghost use Rattle.ufs_spec.specs.declared.layer.Reader.{Reader};
 ghost use Rattle.power_loss.specs.Exchange.{IsArrayOf, ValidState};
+ghost use Rattle.power_loss.specs.FailedWrites.{Failures, IsFailedWrite, IsMovedWrite, MayBeLeftSo};
 ghost use Rattle.power_loss.specs.Runs.{AreNewDies, IsNewDie, LivesRight, MayBeOpened, last_state};
-ghost use Rattle.power_loss.specs.StoppedWrites.{AreTorn, IsFailedWrite, IsStoppedWrite, IsTornTwice, written_page};
+ghost use Rattle.power_loss.specs.StoppedWrites.{AreTorn, IsStoppedWrite, IsTornTwice, written_page};
 
 /// A stop with these leftovers leaves one array at most, and so does a failed job with its leftover: each page that a
 /// leftover names is as it says, and every other page is as it was.
@@ -128,12 +129,22 @@ pub fn a_stopped_write_opens()
     ensures torn_page { (torn : Page) × (IsCheckRight torn → ⊥) }
 {}
 
-/// The program of the same write fails; it leaves the page as it was, the new one, or a torn one. The bad block locks
-/// the device, the write is answered with a write error, and nothing is acknowledged.
+/// As many jobs fail as the device has spare blocks: the program of the same write, and on each
+/// other die the erase of a block for its page. Whatever they leave, the device is not locked. The
+/// page is programmed into another block, and then the write is answered GOOD and is held.
+pub fn a_failed_page_goes_elsewhere()
+    ensures { (body : List ℕ) (write block : Vec ℕ) (f : Failures) → length body ≡ 4096 →
+        IsHeard write.items the_write → IsHeard block.items (the_data body) → MayBeLeftSo body f →
+        IsMovedWrite body write block f }
+{}
+
+/// The program into that other block fails too; it leaves the page as it was, the new one, or a
+/// torn one. Now more blocks are bad than there are spare ones: the device is locked, the write is
+/// answered with a write error, and nothing is acknowledged.
 pub fn a_failed_write_is_answered()
-    ensures { (body : List ℕ) (write block : Vec ℕ) (page : Page) → length body ≡ 4096 →
-        IsHeard write.items the_write → IsHeard block.items (the_data body) →
-        MayBeLeft blank_page (written_page body) page → IsFailedWrite body write block page }
+    ensures { (body : List ℕ) (write block : Vec ℕ) (f : Failures) (last : Page) → length body ≡ 4096 →
+        IsHeard write.items the_write → IsHeard block.items (the_data body) → MayBeLeftSo body f →
+        MayBeLeft blank_page (written_page body) last → IsFailedWrite body write block f last }
 {}
 
 /// A stop comes while one die programs the block's page and another erases a block, and both are torn: the one accepted

@@ -1,1 +1,2 @@
+pub mod ListRead
 pub mod Named

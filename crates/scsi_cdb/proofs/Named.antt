@@ -4,29 +4,29 @@ use Rattle.std.proofs.Common.{None, sym, ap, ◌∙◌, subst, arith}
 use Rattle.std.proofs.lemmas.Nat.{and_le_r}
 use Rattle.ufs_spec.proofs.CdbsBack.{again}
 use Rattle.ufs_bytes.specs.Fields.{field_at}
-use Rattle.ufs_spec.specs.Cdbs.{IsCdb}
+use Rattle.ufs_spec.specs.Cdbs.{IsCdb, SpellsCdb}
 use Rattle.ufs_spec.specs.declared.scsi.Cdb.{Cdb}
 use Rattle.ufs_spec.specs.declared.scsi.Cdb.TheVariants.{TestUnitReady, RequestSense, Read6, Write6, Inquiry}
 use Rattle.ufs_spec.specs.declared.scsi.Cdb.TheVariants.{ReadCapacity10, Read10, Write10, SynchronizeCache10, Unmap}
 use Rattle.ufs_spec.specs.declared.scsi.Cdb.TheVariants.{ReportLuns, SecurityIn, SecurityOut}
 use Rattle.ufs_spec.specs.CdbFields.{is_forced, is_immediate, named_cdb, named_six, named_ten, named_twelve}
 use Rattle.ufs_spec.specs.CdbFields.{six_address}
-use Rattle.scsi_cdb.specs.Reading.{HasSelection, Writes}
+use Rattle.scsi_cdb.specs.Reading.{HasSelection}
 use Rattle.ufs_bytes.proofs.FieldRanges.{field_fits}
 use Rattle.ufs_spec.proofs.Facts.{none-some, same_Some}
 
 -- ## What is read again from the bytes of a command
 
 -- bytes that are those of a command name that command
-pub written_named : (cdb : Cdb) (bytes : List ℕ) → Writes cdb bytes → named_cdb bytes ≡ Some cdb
-written_named cdb bytes (h, e) = ap named_cdb e ∙ again cdb h
+pub spelled_named : (cdb : Cdb) (bytes : List ℕ) → SpellsCdb cdb bytes → named_cdb bytes ≡ Some cdb
+spelled_named cdb bytes (h, e) = ap named_cdb e ∙ again cdb h
 
 -- bytes that are not those of the command that their fields name are those of none
-pub written_by_none : (named : Cdb) (bytes : List ℕ) → named_cdb bytes ≡ Some named → (Writes named bytes → ⊥) →
-    (cdb : Cdb) → Writes cdb bytes → ⊥
-written_by_none named bytes e other cdb writes =
-    let same : cdb ≡ named = same_Some cdb named (sym (written_named cdb bytes writes) ∙ e) in
-    other (subst (λ (one : Cdb). Writes one bytes) same writes)
+pub spelled_by_none : (named : Cdb) (bytes : List ℕ) → named_cdb bytes ≡ Some named → (SpellsCdb named bytes → ⊥) →
+    (cdb : Cdb) → SpellsCdb cdb bytes → ⊥
+spelled_by_none named bytes e other cdb spells =
+    let same : cdb ≡ named = same_Some cdb named (sym (spelled_named cdb bytes spells) ∙ e) in
+    other (subst (λ (one : Cdb). SpellsCdb one bytes) same spells)
 
 -- ## What the fields name fits its ranges
 

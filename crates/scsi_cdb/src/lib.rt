@@ -1,23 +1,28 @@
-//! Reads the commands of a host from the sixteen bytes of a CDB, and writes sense data (SPC, SBC).
+//! Reads the commands of a host from the sixteen bytes of a CDB, reads UNMAP's parameter list, and
+//! writes sense data (SPC, SBC).
 #![tactic(auto)]
 
 ghost use Rattle.std.specs.Prelude.{◌≡◌, ◌↔◌, slice_index, Some, IfOk, IfErr, IsTrue};
-ghost use Rattle.ufs_spec.specs.Cdbs.{cdb_bytes, fixed_sense, IsKnownOperation, IsTakenCdb, IsTakenOperation, SpellsCdb};
+ghost use Rattle.ufs_spec.specs.Cdbs.{cdb_bytes, fixed_sense, IsKnownOperation, SpellsCdb};
 ghost use Rattle.ufs_spec.specs.declared.Cdb.{Cdb};
 ghost use Rattle.ufs_spec.specs.CdbFields.{is_forced, is_immediate, named_cdb, named_six, named_ten, named_twelve};
 ghost use Rattle.ufs_spec.specs.Machine.{no_sense};
-ghost use Rattle.scsi_cdb.specs.Reading.{HasSelection, Writes};
+ghost use Rattle.scsi_cdb.specs.Reading.{HasSelection};
 
 pub use demands::{address_of, blocks_of, length_of};
-pub use laws::{one_cdb, one_operation, regions_are_few, worked_bytes, worked_residuals};
+pub use laws::{
+    one_cdb, one_operation, regions_are_few, worked_bytes, worked_lists, worked_residuals,
+};
 pub use spelling::bytes_of;
 use ufs_bytes::{read_u16, read_u32};
 use ufs_spec::{Cdb, REGIONS, Sense};
+pub use unmap_list::{UnmapList, read_unmap_list};
 
 mod demands;
 mod laws;
 pub mod operations;
 mod spelling;
+mod unmap_list;
 
 use operations::{
     INQUIRY, READ_6, READ_10, READ_CAPACITY_10, REPORT_LUNS, REQUEST_SENSE, SECURITY_IN,
@@ -33,26 +38,28 @@ const IMMED: u8 = 0x02;
 /// The 21 bits of an address in bytes 0 to 3 of READ(6) and WRITE(6).
 const SIX_ADDRESS: u32 = 0x1F_FFFF;
 
-/// Reads a CDB: each command of the table is known, and of these all are taken but UNMAP.
+/// Reads a CDB.
 ///
 /// # Errors
 ///
-/// [`Sense::INVALID_OPCODE`] where the operation code in byte 0 is not taken, else
-/// [`Sense::INVALID_FIELD`] where a byte or a bit that no field names is not zero.
+/// [`Sense::INVALID_OPCODE`] where the operation code in byte 0 is not one of the table, else
+/// [`Sense::INVALID_FIELD`] where a byte or a bit that no field names is not zero, or a field has a
+/// value that the table does not know.
 pub fn read(bytes: &[u8; 16]) -> Result<Cdb, Sense>
     // What is read is spelled so, each byte of it.
     ensures read { IfOk result (λ cdb. SpellsCdb cdb bytes.now) }
     // What is spelled so is read.
-    ensures taken { (cdb : Cdb) → SpellsCdb cdb bytes.now → result ≡ Ok cdb }
-    ensures operation { (IsTakenOperation bytes.now → ⊥) → result ≡ Err Sense.INVALID_OPCODE }
-    ensures field { IfErr result (λ sense. IsTakenOperation bytes.now →
+    ensures every { (cdb : Cdb) → SpellsCdb cdb bytes.now → result ≡ Ok cdb }
+    ensures operation { (IsKnownOperation bytes.now → ⊥) → result ≡ Err Sense.INVALID_OPCODE }
+    ensures field { IfErr result (λ sense. IsKnownOperation bytes.now →
         (sense ≡ Sense.INVALID_FIELD) × ((cdb : Cdb) → SpellsCdb cdb bytes.now → ⊥)) }
 {
-    if !has_taken_operation(bytes) {
-        return Err(Sense::INVALID_OPCODE);
+    let cdb = command_in(bytes).ok_or(Sense::INVALID_OPCODE)?;
+    if is_spelled(&cdb, bytes) {
+        Ok(cdb)
+    } else {
+        Err(Sense::INVALID_FIELD)
     }
-    let cdb = command_of(bytes)?;
-    is_taken(&cdb).then_some(cdb).ok_or(Sense::INVALID_FIELD)
 }
 
 /// The eighteen bytes of fixed sense data (SPC, fixed format sense data).
@@ -74,24 +81,6 @@ pub fn no_sense() -> [u8; 18]
     ensures { result ≡ no_sense }
 {
     sense_bytes(&Sense::default())
-}
-
-// The command of the table that the bytes are.
-fn command_of(bytes: &[u8; 16]) -> Result<Cdb, Sense>
-    // What is read is written so, each byte of it.
-    ensures read { IfOk result (λ cdb. Writes cdb bytes.now) }
-    // What is written so is read.
-    ensures every { (cdb : Cdb) → Writes cdb bytes.now → result ≡ Ok cdb }
-    ensures operation { (IsKnownOperation bytes.now → ⊥) → result ≡ Err Sense.INVALID_OPCODE }
-    ensures field { IfErr result (λ sense. IsKnownOperation bytes.now →
-        (sense ≡ Sense.INVALID_FIELD) × ((cdb : Cdb) → Writes cdb bytes.now → ⊥)) }
-{
-    let cdb = command_in(bytes).ok_or(Sense::INVALID_OPCODE)?;
-    if is_written(&cdb, bytes) {
-        Ok(cdb)
-    } else {
-        Err(Sense::INVALID_FIELD)
-    }
 }
 
 // The command that the fields name, whether or not the bytes are written so. The highest three bits of the
@@ -193,9 +182,9 @@ fn twelve_in(bytes: &[u8; 16]) -> Option<Cdb>
 
 // Whether the bytes are those of the command that their fields name: REPORT LUNS has a selection of
 // the table, the RPMB region is there, and what no field names is zero.
-fn is_written(cdb: &Cdb, bytes: &[u8; 16]) -> bool
+fn is_spelled(cdb: &Cdb, bytes: &[u8; 16]) -> bool
     requires { named_cdb bytes.now ≡ Some cdb.now }
-    ensures { IsTrue result ↔ Writes cdb.now bytes.now }
+    ensures { IsTrue result ↔ SpellsCdb cdb.now bytes.now }
 {
     has_selection(cdb) && has_bytes(cdb, bytes)
 }
@@ -217,32 +206,4 @@ fn has_selection(cdb: &Cdb) -> bool
         Cdb::SecurityIn { region, .. } | Cdb::SecurityOut { region, .. } => *region < REGIONS,
         _ => true,
     }
-}
-
-// Whether this stage takes the operation code: each of the table but that of UNMAP.
-fn has_taken_operation(bytes: &[u8; 16]) -> bool
-    ensures { IsTrue result ↔ IsTakenOperation bytes.now }
-{
-    matches!(
-        bytes[0],
-        TEST_UNIT_READY
-            | REQUEST_SENSE
-            | READ_6
-            | WRITE_6
-            | INQUIRY
-            | READ_CAPACITY_10
-            | READ_10
-            | WRITE_10
-            | SYNCHRONIZE_CACHE_10
-            | REPORT_LUNS
-            | SECURITY_IN
-            | SECURITY_OUT
-    )
-}
-
-// Whether this stage takes the command: each of the table but UNMAP.
-fn is_taken(cdb: &Cdb) -> bool
-    ensures { IsTrue result ↔ IsTakenCdb cdb.now }
-{
-    !matches!(cdb, Cdb::Unmap { .. })
 }

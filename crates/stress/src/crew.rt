@@ -171,7 +171,8 @@ impl Crew {
         }
     }
 
-    /// Ends all threads: how many writes were bad, and replies that nobody waited for.
+    /// Ends all threads: how many writes were bad, and replies that nobody waited for or that came of
+    /// aborted tasks.
     pub fn end<R: Threads + Wait>(mut self, rt: &R) -> Result<u64, StressFault> {
         self.common.stop.store(true, Ordering::SeqCst);
         let mut bad = Ok(0);
@@ -181,7 +182,7 @@ impl Crew {
         while let Some(child) = self.servers.pop() {
             child.join(rt);
         }
-        let left = self.common.replies.lock(rt).left();
+        let left = self.common.drawn.lock(rt).left();
         Ok(added(bad, Ok(left))?)
     }
 }

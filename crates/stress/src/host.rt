@@ -1,6 +1,10 @@
-//! A host: it writes blocks of its own, and reads each of them back.
-use crate::messages::{asked, bring, good, is_ready, read_one, shown, write_one};
-use crate::replies::{Replies, code_of, tag_of};
+//! A host: it writes blocks of its own, and reads each of them back. Now and then it aborts a task.
+use crate::aborted::{Aborted, aborted_beside};
+use crate::drawn::Drawn;
+use crate::messages::{
+    abort, abort_tag, aborted, asked, bring, good, is_ready, read_one, shown, write_one,
+};
+use crate::replies::{code_of, tag_of};
 use crate::shared::Common;
 use lanes::{Port, Tried};
 use nand_model::MemDie;
@@ -9,9 +13,7 @@ use std::sync::atomic::Ordering;
 use std::sync::{Arc, Wait};
 use std::{mem, thread};
 use ufs_spec::Upiu;
-
-/// The transaction code of a DATA IN (JESD220, 10.5).
-const DATA_IN: u8 = 0x22;
+use ufs_spec::codes::DATA_IN;
 
 /// A host with its port, what it sends next, what it has to hear then, and what it heard last.
 #[derive(Drop)]
@@ -22,17 +24,19 @@ pub(crate) struct Host {
     message: Upiu,
     expected: Upiu,
     heard: Upiu,
+    /// Whether its task was aborted that had its tag last.
+    is_aborted: bool,
 }
 
 /// One look for a reply with this tag: first among those that others put by, then at the port. True if
-/// it is in `heard`; a reply with another tag is put by.
+/// it is in `heard`; a reply with another tag is put by, and one of an aborted task is counted.
 fn draw(
     port: &mut Port<MemDie>,
     tag: u8,
-    replies: &mut Replies,
+    drawn: &mut Drawn,
     heard: &mut Upiu,
 ) -> Result<bool, AllocError> {
-    if let Some(reply) = replies.take(tag) {
+    if let Some(reply) = drawn.replies.take(tag) {
         *heard = reply;
         return Ok(true);
     }
@@ -40,10 +44,13 @@ fn draw(
         Tried::Did(true) => {}
         _ => return Ok(false),
     }
+    if drawn.aborts.is_late(tag_of(heard.as_slice())) {
+        return Ok(false);
+    }
     if tag_of(heard.as_slice()) == tag {
         return Ok(true);
     }
-    replies.put(mem::replace(heard, Upiu::new()))?;
+    drawn.replies.put(mem::replace(heard, Upiu::new()))?;
     Ok(false)
 }
 
@@ -57,6 +64,7 @@ impl Host {
             message: Upiu::new(),
             expected: Upiu::new(),
             heard: Upiu::new(),
+            is_aborted: false,
         }
     }
 
@@ -66,7 +74,7 @@ impl Host {
         self.wait_until_ready(rt)?;
         let mut bad = 0u64;
         for write in 0..=u8::MAX {
-            if !self.write_and_read(rt, write)? {
+            if !self.write_and_read(rt, write, aborted_beside(write))? {
                 bad = bad.saturating_add(1);
             }
             self.common.done.fetch_add(1, Ordering::SeqCst);
@@ -79,7 +87,8 @@ impl Host {
         is_ready(self.number, &mut self.message);
         good(self.number, &mut self.expected);
         for _ in rt.forever() {
-            if self.ask(rt)? || self.common.stop.load(Ordering::SeqCst) {
+            let is_good = self.send(rt) && self.hear(rt, self.number)?;
+            if is_good || self.common.stop.load(Ordering::SeqCst) {
                 return Ok(());
             }
             thread::yield_now();
@@ -87,52 +96,164 @@ impl Host {
         unreachable!()
     }
 
-    /// Whether a block was written and read back as it should.
-    fn write_and_read<R: Wait>(&mut self, rt: &R, write: u8) -> Result<bool, AllocError> {
-        Ok(self.write(rt, write)? && self.read(rt, write)?)
+    /// Whether a block was written and read back as it should, and what was aborted beside this was
+    /// answered so.
+    fn write_and_read<R: Wait>(
+        &mut self,
+        rt: &R,
+        write: u8,
+        aborted: Aborted,
+    ) -> Result<bool, AllocError> {
+        Ok(
+            self.abort_write(rt, write, aborted)?
+                && self.write(rt, write)?
+                && self.abort_read(rt, write, aborted)?
+                && self.read(rt, write)?,
+        )
+    }
+
+    /// Begins the WRITE with another block and aborts it, where this is to be: whether all went well.
+    fn abort_write<R: Wait>(
+        &mut self,
+        rt: &R,
+        write: u8,
+        aborted: Aborted,
+    ) -> Result<bool, AllocError> {
+        match aborted {
+            Aborted::WriteAtOnce => Ok(self.begin_write(rt, write) && self.abort(rt)?),
+            Aborted::WriteBehindData => Ok(
+                self.begin_write(rt, write) && self.bring(rt, u8::MAX - write)? && self.abort(rt)?,
+            ),
+            _ => Ok(true),
+        }
+    }
+
+    /// Begins the READ and aborts it, where this is to be: whether all went well.
+    fn abort_read<R: Wait>(
+        &mut self,
+        rt: &R,
+        write: u8,
+        aborted: Aborted,
+    ) -> Result<bool, AllocError> {
+        match aborted {
+            Aborted::ReadAtOnce => Ok(self.begin_read(rt, write) && self.abort(rt)?),
+            Aborted::ReadBehindData => Ok(
+                self.begin_read(rt, write) && self.is_shown(rt, write)? && self.abort(rt)?,
+            ),
+            _ => Ok(true),
+        }
     }
 
     /// Whether a block was written.
     fn write<R: Wait>(&mut self, rt: &R, write: u8) -> Result<bool, AllocError> {
-        write_one(self.number, write, &mut self.message);
-        asked(self.number, &mut self.expected);
-        if !self.ask(rt)? {
+        if !self.begin_write(rt, write) || !self.bring(rt, write)? {
             return Ok(false);
         }
-        bring(self.number, write, &mut self.message);
         good(self.number, &mut self.expected);
-        self.ask(rt)
+        self.hear(rt, self.number)
     }
 
     /// Whether the block is read as it was written.
     fn read<R: Wait>(&mut self, rt: &R, write: u8) -> Result<bool, AllocError> {
-        read_one(self.number, write, &mut self.message);
-        shown(self.number, write, &mut self.expected);
-        let is_shown = self.ask(rt)?;
+        if !self.begin_read(rt, write) {
+            return Ok(false);
+        }
+        let is_shown = self.is_shown(rt, write)?;
         // A RESPONSE that comes at once has ended the task.
         if code_of(self.heard.as_slice()) != DATA_IN {
             return Ok(false);
         }
         good(self.number, &mut self.expected);
-        let is_good = self.hear(rt)?;
+        let is_good = self.hear(rt, self.number)?;
         Ok(is_shown && is_good)
     }
 
-    /// Sends the message, and waits for a reply: whether it is the expected one.
-    fn ask<R: Wait>(&mut self, rt: &R) -> Result<bool, AllocError> {
-        self.heard.clear();
-        let stop = &self.common.stop;
-        let answer = self.port.send(rt, self.message.as_slice(), stop);
-        Ok(matches!(answer, Some(Ok(()))) && self.hear(rt)?)
+    /// Sends the WRITE: whether the device takes it.
+    fn begin_write<R: Wait>(&mut self, rt: &R, write: u8) -> bool {
+        write_one(self.number, write, &mut self.message);
+        self.begin(rt)
     }
 
-    /// Waits for a reply: whether it is the expected one. None comes after the end was called.
-    fn hear<R: Wait>(&mut self, rt: &R) -> Result<bool, AllocError> {
+    /// Sends the block with this content once the device asks for it: whether it asks, and takes the
+    /// block.
+    fn bring<R: Wait>(&mut self, rt: &R, content: u8) -> Result<bool, AllocError> {
+        asked(self.number, &mut self.expected);
+        if !self.hear(rt, self.number)? {
+            return Ok(false);
+        }
+        bring(self.number, content, &mut self.message);
+        Ok(self.send(rt))
+    }
+
+    /// Sends the READ: whether the device takes it.
+    fn begin_read<R: Wait>(&mut self, rt: &R, write: u8) -> bool {
+        read_one(self.number, write, &mut self.message);
+        self.begin(rt)
+    }
+
+    /// Whether the block comes as it was written.
+    fn is_shown<R: Wait>(&mut self, rt: &R, write: u8) -> Result<bool, AllocError> {
+        shown(self.number, write, &mut self.expected);
+        self.hear(rt, self.number)
+    }
+
+    /// Aborts the task: whether the device answers that this is done.
+    fn abort<R: Wait>(&mut self, rt: &R) -> Result<bool, AllocError> {
+        abort(self.number, &mut self.message);
+        aborted(self.number, &mut self.expected);
+        Ok(self.end(rt) && self.hear(rt, abort_tag(self.number))?)
+    }
+
+    /// Sends the request to abort with the lock of what is drawn: so a reply of the task was drawn
+    /// before, and is dropped, or comes after it, and is late.
+    fn end<R: Wait>(&mut self, rt: &R) -> bool {
+        let mut drawn = self.common.drawn.lock(rt);
+        let answer = self
+            .port
+            .send(rt, self.message.as_slice(), &self.common.stop);
+        let is_taken = matches!(answer, Some(Ok(())));
+        if is_taken {
+            drawn.abort(self.number);
+            self.is_aborted = true;
+        }
+        is_taken
+    }
+
+    /// Sends a COMMAND: whether the device takes it. Behind an abort this needs the lock of what is
+    /// drawn: so a reply with the tag that is drawn later is one of the new task.
+    fn begin<R: Wait>(&mut self, rt: &R) -> bool {
+        if !self.is_aborted {
+            return self.send(rt);
+        }
+        let mut drawn = self.common.drawn.lock(rt);
+        let answer = self
+            .port
+            .send(rt, self.message.as_slice(), &self.common.stop);
+        let is_taken = matches!(answer, Some(Ok(())));
+        if is_taken {
+            drawn.aborts.end(self.number);
+            self.is_aborted = false;
+        }
+        is_taken
+    }
+
+    /// Sends the message: whether the device takes it.
+    fn send<R: Wait>(&mut self, rt: &R) -> bool {
+        let answer = self
+            .port
+            .send(rt, self.message.as_slice(), &self.common.stop);
+        matches!(answer, Some(Ok(())))
+    }
+
+    /// Waits for a reply with this tag: whether it is the expected one. None comes after the end was
+    /// called.
+    fn hear<R: Wait>(&mut self, rt: &R, tag: u8) -> Result<bool, AllocError> {
+        self.heard.clear();
         for _ in rt.forever() {
             if self.common.stop.load(Ordering::SeqCst) {
                 return Ok(false);
             }
-            if self.look(rt)? {
+            if self.look(rt, tag)? {
                 return Ok(self.heard.as_slice() == self.expected.as_slice());
             }
             thread::yield_now();
@@ -140,9 +261,9 @@ impl Host {
         unreachable!()
     }
 
-    /// One look for a reply, with the lock of those that were put by.
-    fn look<R: Wait>(&mut self, rt: &R) -> Result<bool, AllocError> {
-        let mut replies = self.common.replies.lock(rt);
-        draw(&mut self.port, self.number, &mut replies, &mut self.heard)
+    /// One look for a reply with this tag, with the lock of what is drawn.
+    fn look<R: Wait>(&mut self, rt: &R, tag: u8) -> Result<bool, AllocError> {
+        let mut drawn = self.common.drawn.lock(rt);
+        draw(&mut self.port, tag, &mut drawn, &mut self.heard)
     }
 }

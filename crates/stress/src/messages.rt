@@ -1,12 +1,24 @@
-//! What a host sends, and what it has to hear. The task tag is the host's number.
+//! What a host sends, and what it has to hear. The task tag of a command is the host's number.
 ghost use Rattle.std.specs.Prelude.{◌≡◌, ◌≤◌, length};
 ghost use Rattle.ufs_spec.specs.Cdbs.{cdb_bytes};
 ghost use Rattle.ufs_spec.specs.Messages.{spelling, AreFlags, IsMessage};
 ghost use Rattle.ufs_spec.specs.declared.Message.{Message};
-ghost use Rattle.stress.specs.Messages.{asked, bring, good, is_ready, read_one, shown, write_one};
+ghost use Rattle.stress.specs.Messages.{
+  abort,
+  aborted,
+  abort_tag,
+  asked,
+  bring,
+  good,
+  is_ready,
+  read_one,
+  shown,
+  write_one,
+};
 
 use crate::contents::{address_of, content_of};
 use scsi_cdb::bytes_of;
+use ufs_spec::codes::{ABORT_TASK, FUNCTION_COMPLETE};
 use ufs_spec::{Cdb, Data, Message, Upiu};
 use upiu::{Response, write_data_in, write_ready_to_transfer, write_response};
 
@@ -78,6 +90,52 @@ pub(crate) fn shown(host: u8, write: u8, into: &mut Upiu)
 {
     let content = content_of(host, write);
     write_data_in(0, host, 0, content.as_slice(), into);
+}
+
+/// The task tag of the host's request to abort its command. No host has it as its number.
+pub(crate) fn abort_tag(host: u8) -> u8
+    ensures { result ≡ abort_tag host }
+{
+    u8::MAX - host
+}
+
+/// Writes the TASK MANAGEMENT REQUEST that aborts the command of the host in place of what was there.
+pub(crate) fn abort(host: u8, into: &mut Upiu)
+    ensures { into.new.items ≡ spelling (abort host) }
+{
+    upiu::write(&abort_request(host), into);
+}
+
+/// Writes the TASK MANAGEMENT RESPONSE that says that this was done in place of what was there.
+pub(crate) fn aborted(host: u8, into: &mut Upiu)
+    ensures { into.new.items ≡ spelling (aborted host) }
+{
+    upiu::write(&abort_response(host), into);
+}
+
+// The TASK MANAGEMENT REQUEST for unit 0 with these fields.
+fn abort_request(host: u8) -> Message
+    ensures message { result ≡ abort host }
+    ensures fields { IsMessage result }
+{
+    Message::TaskRequest {
+        lun: 0,
+        tag: abort_tag(host),
+        function: ABORT_TASK,
+        meant: host,
+    }
+}
+
+// Its TASK MANAGEMENT RESPONSE.
+fn abort_response(host: u8) -> Message
+    ensures message { result ≡ aborted host }
+    ensures fields { IsMessage result }
+{
+    Message::TaskResponse {
+        lun: 0,
+        tag: abort_tag(host),
+        service: FUNCTION_COMPLETE,
+    }
 }
 
 // Writes a COMMAND for unit 0.

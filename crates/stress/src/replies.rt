@@ -76,6 +76,14 @@ impl Replies {
         Ok(())
     }
 
+    /// Drops the replies with this tag that were put by.
+    pub fn clear(&mut self, tag: u8)
+        ensures cleared { slice_get self.new tag ≡ Some [] }
+        ensures others { OthersStay self.old tag self.new }
+    {
+        self.queues[tag as usize].clear();
+    }
+
     /// How many replies nobody took.
     pub fn left(&self) -> u64 {
         let mut left = 0u64;

@@ -16,7 +16,8 @@ const WRITES: u64 = 256;
 
 /// Runs a device over so many new dies for so many hosts: a thread for each die, one for the keeper, and
 /// one for each host, which writes 256 blocks with FUA to addresses of its own, and reads each of them
-/// back. It writes the line `stress dies D hosts H writes W bad B` to `out`, or the one line of a fault
+/// back. Before or after each second write the host begins one more WRITE or READ and aborts it: a reply of
+/// an aborted task is as bad as a block that is lost. It writes the line `stress dies D hosts H writes W bad B` to `out`, or the one line of a fault
 /// to `faults`. The status is 0 if no write was bad, else 1.
 pub fn stress_text<R: Threads + Wait + Clock + Clone + Send + 'static, W: Write, F: Write>(
     rt: &R,

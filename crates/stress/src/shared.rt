@@ -1,5 +1,5 @@
 //! What all threads share beside the device.
-use crate::replies::Replies;
+use crate::drawn::Drawn;
 use std::alloc::{AllocError, Global};
 use std::sync::Mutex;
 use std::sync::atomic::{AtomicBool, AtomicU64};
@@ -7,9 +7,9 @@ use std::sync::atomic::{AtomicBool, AtomicU64};
 /// What all threads share beside the device.
 #[derive(Drop)]
 pub(crate) struct Common {
-    /// The replies that a host drew for another one. Who draws a reply has this lock until the reply
-    /// is where its host looks: so replies with the same tag stay in their order.
-    pub replies: Mutex<Replies>,
+    /// What was drawn from the device. Who draws a reply has this lock until the reply is where its host
+    /// looks: so replies with the same tag stay in their order.
+    pub drawn: Mutex<Drawn>,
     /// Set at the end: each thread ends then.
     pub stop: AtomicBool,
     /// How many writes are done, well or not.
@@ -19,7 +19,7 @@ pub(crate) struct Common {
 impl Common {
     pub fn new(alloc: Global) -> Result<Common, AllocError> {
         Ok(Common {
-            replies: Mutex::new(Replies::new(alloc)?),
+            drawn: Mutex::new(Drawn::new(alloc)?),
             stop: AtomicBool::new(false),
             done: AtomicU64::new(0),
         })

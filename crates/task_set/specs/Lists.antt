@@ -40,6 +40,7 @@ short_allowed tasks shorts tag =
 abbrev pub wanted_in : Phase → Option Wanted
 wanted_in (phase.AwaitData x) = Some (wanted.Block x)
 wanted_in (phase.AwaitFrames size) = Some (wanted.Frames size)
+wanted_in (phase.AwaitList unit size) = Some (wanted.List unit size)
 wanted_in p = None
 
 -- the task at this position, if so many bytes at this offset are what it asked for

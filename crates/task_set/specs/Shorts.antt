@@ -20,7 +20,7 @@ reply_locked (reply.QueryDone query value) = reply.QueryFailed query 0xFF
 reply_locked (reply.QueryFailed query response) = reply.QueryFailed query response
 reply_locked (reply.TaskSetFull lun expected) = reply.TaskSetFull lun expected
 reply_locked reply.NopIn = reply.NopIn
-reply_locked (reply.NotManaged lun) = reply.NotManaged lun
+reply_locked (reply.Managed lun service) = reply.Managed lun service
 
 -- the exchange after the device was locked: what waits for a group that is not durable has failed
 abbrev pub short_locked : ℕ → Short → Short

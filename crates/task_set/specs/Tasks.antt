@@ -7,6 +7,7 @@ use Rattle.task_set.specs.declared.tasks.Status.{Status}
 use Rattle.task_set.specs.declared.tasks.Status.TheVariants as status
 use Rattle.task_set.specs.declared.tasks.Phase.{Phase}
 use Rattle.task_set.specs.declared.tasks.Phase.TheVariants as phase
+use Rattle.task_set.specs.declared.tasks.Meant.{Meant}
 use Rattle.task_set.specs.declared.tasks.Sending.{Sending}
 use Rattle.task_set.specs.declared.tasks.ShortData.{ShortData}
 use Rattle.task_set.specs.declared.tasks.ShortData.TheVariants as sent
@@ -72,10 +73,18 @@ abbrev pub data_length : ShortData → ℕ
 data_length (sent.NoSense allocation) = min allocation 18
 data_length (sent.Capacity blocks) = 8
 
--- whether so many bytes at this offset are what was asked for: the next block of a WRITE, or all frames
+-- whether so many bytes at this offset are what was asked for: the next block of a WRITE, all frames, or the list
 abbrev pub is_wanted : Wanted → ℕ → ℕ → Bool
 is_wanted (wanted.Block x) offset count = (4096 * x.gathered == offset) && (count == 4096)
 is_wanted (wanted.Frames size) offset count = (offset == 0) && (count == size)
+is_wanted (wanted.List unit size) offset count = (offset == 0) && (count == size)
+
+-- the table of phases for the list of an UNMAP (SBC): all of it is asked for at once, and decided once it came
+abbrev pub list_phase_after : Phase → TaskEvent → Phase
+list_phase_after (phase.AskList unit size) event.DataAskedFor = phase.AwaitList unit size
+list_phase_after (phase.AwaitList unit size) (event.ListRefused sense) = failed sense size
+list_phase_after (phase.AwaitList unit size) event.ListTaken = phase.Answer status.Good size
+list_phase_after p e = p
 
 -- the table of phases for the frames of the RPMB (JESD220, 12.4): all are asked for at once, and decided once they came
 abbrev pub frame_phase_after : Phase → TaskEvent → Phase
@@ -88,7 +97,7 @@ frame_phase_after (phase.AwaitFrames size) (event.AreaAsked code address count) 
 frame_phase_after (phase.ReadArea r) (event.PageLoaded index) = phase.ReadArea (page_ended r index page.WasRead)
 frame_phase_after (phase.ReadArea r) (event.BlockLost index) = phase.ReadArea (page_ended r index page.NotRead)
 frame_phase_after (phase.SendHeld size) event.DataSent = phase.Answer status.Good size
-frame_phase_after p e = p
+frame_phase_after p e = list_phase_after p e
 
 -- the table of a task's phases: how far it is after this happened; what does not concern its phase changes nothing
 abbrev pub phase_after : Phase → TaskEvent → Phase
@@ -136,6 +145,19 @@ after_lost_read tag index t = if t.tag == tag then task_after (event.BlockLost i
 -- the task keeps these bytes from now on
 abbrev pub bytes_kept : List ℕ → OpenTask → OpenTask
 bytes_kept frames t = record t { block = None; held = Some frames }
+
+-- the tag is the one that is meant; without one all are
+abbrev pub is_tag_meant : Option ℕ → ℕ → Bool
+is_tag_meant None tag = true
+is_tag_meant (Some meant) tag = meant == tag
+
+-- whether a task of this LUN byte and tag is one of those that a task management request is about (JESD220, 10.7.6)
+abbrev pub is_meant : Meant → ℕ → ℕ → Bool
+is_meant m lun tag = (m.lun == lun) && is_tag_meant m.tag tag
+
+-- the task is one of them
+abbrev pub is_task_meant : Meant → OpenTask → Bool
+is_task_meant m t = is_meant m t.lun t.tag
 
 -- the task has this tag
 abbrev pub is_task_of : ℕ → OpenTask → Bool

@@ -4,11 +4,11 @@ ghost use Rattle.task_set.specs.Kept.{newly_open, task_in};
 ghost use Rattle.task_set.specs.Frames.{page_put};
 ghost use Rattle.task_set.specs.Rooms.{block_in, held_in};
 ghost use Rattle.task_set.specs.Tasks.{after_lost_read, after_read, block_after, bytes_kept, is_decided};
-ghost use Rattle.task_set.specs.Tasks.{is_sender, is_task_of, read_for, task_after};
+ghost use Rattle.task_set.specs.Tasks.{is_sender, is_task_meant, is_task_of, read_for, task_after};
 ghost use Rattle.std.specs.Prelude.{ℕ, List, option_map};
 
 use crate::frames::{AreaReading, Frames};
-use crate::tasks::{Phase, Task, TaskEvent};
+use crate::tasks::{Meant, Phase, Task, TaskEvent};
 use std::marker::Model;
 use ufs_bytes::{Block, Body};
 
@@ -81,6 +81,13 @@ impl OpenTask {
         ensures { result ≡ is_task_of tag self.now }
     {
         self.task.tag == tag
+    }
+
+    /// Whether it is one of those that a task management request is about.
+    pub fn is_meant(&self, meant: Meant) -> bool
+        ensures { result ≡ is_task_meant meant self.now }
+    {
+        meant.is(self.task.lun, self.task.tag)
     }
 
     /// The block that a die read for it, if it is there.

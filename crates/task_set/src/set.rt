@@ -10,10 +10,10 @@ ghost use Rattle.task_set.specs.Sets.{block_loaded, block_lost, ended, frames_ke
 ghost use Rattle.task_set.specs.Sets.{short_ended, short_opened};
 ghost use Rattle.task_set.specs.Shorts.{is_short_due, short_locked};
 ghost use Rattle.task_set.specs.Tasks.{after_lost_read, after_read, is_decided, is_sender, is_task_of};
-ghost use Rattle.task_set.specs.Tasks.{task_after};
+ghost use Rattle.task_set.specs.Tasks.{is_task_meant, task_after};
 
 use crate::open_task::OpenTask;
-use crate::tasks::{AskedFor, Phase, Short, Task, TaskEvent, Wanted};
+use crate::tasks::{AskedFor, Meant, Phase, Short, Task, TaskEvent, Wanted};
 use std::alloc::{AllocError, Global};
 use std::marker::Model;
 use ufs_bytes::{Block, Body};
@@ -126,6 +126,14 @@ impl TaskSet {
         ensures within { IfSome result (λ k. k < length self.now.tasks) }
     {
         decided_at(self.tasks.as_slice())
+    }
+
+    /// The position of the first task of those that are meant.
+    pub fn find(&self, meant: Meant) -> Option<usize>
+        ensures first { result ≡ position (is_task_meant meant) self.now.tasks }
+        ensures within { IfSome result (λ k. k < length self.now.tasks) }
+    {
+        meant_at(self.tasks.as_slice(), meant)
     }
 
     /// One task more is open, the last one.
@@ -297,6 +305,7 @@ fn wanted_in(kept: &OpenTask) -> Option<Wanted>
     match kept.task().phase {
         Phase::AwaitData { transfer } => Some(Wanted::Block { transfer }),
         Phase::AwaitFrames { length } => Some(Wanted::Frames { length }),
+        Phase::AwaitList { unit, length } => Some(Wanted::List { unit, length }),
         _ => None,
     }
 }
@@ -314,6 +323,14 @@ fn decided_at(tasks: &[OpenTask]) -> Option<usize>
     ensures within { IfSome result (λ k. k < length tasks.now) }
 {
     tasks.iter().position(|task| task.is_decided())
+}
+
+/// The position of the first task of those that are meant.
+fn meant_at(tasks: &[OpenTask], meant: Meant) -> Option<usize>
+    ensures first { result ≡ position (is_task_meant meant) tasks.now }
+    ensures within { IfSome result (λ k. k < length tasks.now) }
+{
+    tasks.iter().position(|task| task.is_meant(meant))
 }
 
 /// The position of the first short exchange whose reply is due.

@@ -1,8 +1,9 @@
 //! The tasks that are open, and what each still owes its host (JESD220, 10.9).
 ghost use Rattle.std.specs.Prelude.{◌≡◌, ◌*◌};
-ghost use Rattle.task_set.specs.Tasks.{data_length, failed, frame_phase_after, group_taken, is_wanted, next_sending};
+ghost use Rattle.task_set.specs.Tasks.{is_meant};
+ghost use Rattle.task_set.specs.Tasks.{data_length, failed, frame_phase_after, group_taken, is_wanted, list_phase_after};
 ghost use Rattle.task_set.specs.Shorts.{is_short_due, reply_locked, short_locked};
-ghost use Rattle.task_set.specs.Tasks.{next_transfer, phase_after};
+ghost use Rattle.task_set.specs.Tasks.{next_sending, next_transfer, phase_after};
 
 use crate::frames::{AreaReading, Frames, PageRead};
 use ufs_spec::{Asked, Key, Sense};
@@ -105,6 +106,10 @@ pub enum Phase {
     AskFrames { length: u32 },
     /// The DATA OUT with its frames has not come.
     AwaitFrames { length: u32 },
+    /// A READY TO TRANSFER for its list of what to unmap in this unit, so many bytes, is due.
+    AskList { unit: u8, length: u32 },
+    /// The DATA OUT with its list has not come.
+    AwaitList { unit: u8, length: u32 },
     /// GOOD is due once every group up to this number is durable; `length` bytes were the command's.
     AwaitFrontier { number: u64, length: u32 },
     /// GOOD is due once each of these pages of the RPMB area is at hand, was read or could not be read.
@@ -130,6 +135,10 @@ pub enum TaskEvent {
     GroupAccepted { number: u64 },
     /// The last block that it asked for came, and the device is locked: it is told as not written.
     GroupRefused,
+    /// Its list of what to unmap came, and it is refused with this sense.
+    ListRefused { sense: Sense },
+    /// Its list came: what it names is unmapped, which may be nothing.
+    ListTaken,
     /// Its frames came, and they are refused with this sense.
     FramesRefused { sense: Sense },
     /// Its frames came: a request that has this result at once.
@@ -259,6 +268,22 @@ impl Phase {
                 reading: reading.ended(index, PageRead::NotRead),
             },
             (Phase::SendHeld { length }, TaskEvent::DataSent) => Phase::good(length),
+            (phase, event) => phase.after_list(event),
+        }
+    }
+
+    /// The same for the list of an UNMAP.
+    fn after_list(self, event: TaskEvent) -> Phase
+        ensures { result ≡ list_phase_after self event }
+    {
+        match (self, event) {
+            (Phase::AskList { unit, length }, TaskEvent::DataAskedFor) => {
+                Phase::AwaitList { unit, length }
+            }
+            (Phase::AwaitList { length, .. }, TaskEvent::ListRefused { sense }) => {
+                Phase::failed(sense, length)
+            }
+            (Phase::AwaitList { length, .. }, TaskEvent::ListTaken) => Phase::good(length),
             (phase, _) => phase,
         }
     }
@@ -353,8 +378,8 @@ pub enum ShortReply {
     TaskSetFull { lun: u8, expected: u32 },
     /// A NOP IN (JESD220, 10.7.12).
     NopIn,
-    /// This device manages no tasks yet: function not supported (JESD220, 10.7.7).
-    NotManaged { lun: u8 },
+    /// The service response to a task management request about this LUN (JESD220, 10.7.7).
+    Managed { lun: u8, service: u8 },
     /// A query is answered with this response code and tells nothing (JESD220, 10.7.9).
     QueryFailed { query: Queried, response: u8 },
     /// A query succeeded: it tells the descriptor that it asked for, or this value (JESD220, 10.7.9).
@@ -383,6 +408,8 @@ pub enum Wanted {
     Block { transfer: Transfer },
     /// All frames of a SECURITY PROTOCOL OUT, so many bytes.
     Frames { length: u32 },
+    /// The list of an UNMAP of this unit, so many bytes.
+    List { unit: u8, length: u32 },
 }
 
 impl Wanted {
@@ -395,7 +422,29 @@ impl Wanted {
                 transfer.offset() == offset && count == BLOCK_BYTES as usize
             }
             Wanted::Frames { length } => offset == 0 && count == length as usize,
+            Wanted::List { length, .. } => offset == 0 && count == length as usize,
         }
+    }
+}
+
+/// The tasks that a task management request is about (JESD220, 10.7.6): those of this LUN byte, all of them or
+/// the one with this tag.
+#[derive(Clone, Copy, Debug, PartialEq, Eq)]
+pub struct Meant {
+    pub lun: u8,
+    pub tag: Option<u8>,
+}
+
+impl Meant {
+    /// Whether a task of this LUN byte and tag is one of them.
+    pub fn is(self, lun: u8, tag: u8) -> bool
+        ensures { result ≡ is_meant self lun tag }
+    {
+        let of_tag = match self.tag {
+            Some(meant) => meant == tag,
+            None => true,
+        };
+        self.lun == lun && of_tag
     }
 }
 

@@ -31,4 +31,6 @@ mod players;
 #[cfg(test)]
 mod rpmb_counter_end;
 #[cfg(test)]
+mod spares;
+#[cfg(test)]
 mod worlds;

@@ -1,7 +1,6 @@
-//! Bad blocks and failed jobs, over a device without a world: the stage's script has no line for a
-//! failed job.
+//! Bad blocks and failed jobs of a device without spare blocks, which the first bad block locks.
 use crate::answers::{PROTECTED, READ_FAILED, WRITE_FAILED};
-use crate::dies::{at_rest, row, row_dies};
+use crate::dies::{at_rest, small, small_dies};
 use nand_model::Die;
 use std::process::Abort;
 use ufs_spec::{Job, Outcome};
@@ -32,7 +31,7 @@ fn fail_program(rt: &impl Abort, bench: &mut Workbench) {
 #[test]
 fn a_failed_program_locks(rt: HostRuntime) {
     let alloc = rt.alloc();
-    let mut bench = at_rest(&rt, alloc, row(&rt), row_dies(&rt, alloc));
+    let mut bench = at_rest(&rt, alloc, small(&rt), small_dies(&rt, alloc));
     expect_begun(&rt, &mut bench);
     fail_program(&rt, &mut bench);
     assert!(rt; bench.hears(&WRITE_FAILED));
@@ -55,21 +54,22 @@ fn fail_read(rt: &impl Abort, bench: &mut Workbench) {
 #[test]
 fn a_failed_read_ends_its_command(rt: HostRuntime) {
     let alloc = rt.alloc();
-    let mut bench = at_rest(&rt, alloc, row(&rt), row_dies(&rt, alloc));
+    let mut bench = at_rest(&rt, alloc, small(&rt), small_dies(&rt, alloc));
     assert!(rt; bench.writes(3, 0x44));
     fail_read(&rt, &mut bench);
     assert!(rt; bench.hears(&READ_FAILED) && bench.reads(3, 0x44));
     drop(bench);
 }
 
-/// New dies may have bad blocks: the device is then locked from the start, and reads go on.
+/// New dies may have bad blocks: a device without spare ones is then locked from the start, and reads go
+/// on.
 #[test]
 fn a_bad_block_at_the_start_locks(rt: HostRuntime) {
     let alloc = rt.alloc();
-    let mut dies = row_dies(&rt, alloc);
-    assert!(rt; 2 < dies.len() && 0 < dies[2].blocks());
-    dies[2].set_bad(0);
-    let mut bench = at_rest(&rt, alloc, row(&rt), dies);
+    let mut dies = small_dies(&rt, alloc);
+    assert!(rt; 1 < dies.len() && 0 < dies[1].blocks());
+    dies[1].set_bad(0);
+    let mut bench = at_rest(&rt, alloc, small(&rt), dies);
     expect_protected(&rt, &mut bench);
     assert!(rt; bench.reads(3, 0));
     drop(bench);

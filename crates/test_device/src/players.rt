@@ -1,6 +1,7 @@
 //! A world over small dies at work, one of whose jobs may fail.
 use crate::dies::small;
 use device::World;
+use geometry::Config;
 use nand_model::{Die, MemDie};
 use std::alloc::Global;
 use std::process::Abort;
@@ -8,16 +9,17 @@ use ufs_spec::{Event, Job, Leftover, Output, Page, Place, Upiu};
 use workbench::collected::{Left, blank, torn};
 use workbench::messages::{FUA, READ, WRITE, block_out, command, good, is_block};
 
-/// A world, and the number of the job that fails in it, counted from 1.
+/// A world, and the numbers of the jobs that fail in it, counted from 1.
 #[derive(Drop)]
 pub struct Player {
     pub alloc: Global,
     pub world: World,
     /// How many jobs were given out.
     pub jobs: u32,
-    pub failing: u32,
+    pub failing: [u32; 2],
     pub left: Left,
-    /// Whether the job that failed was a read; whether it was a program or an erase.
+    /// Whether the job that failed was a read; whether it was a program or an erase, which locks a device
+    /// without spare blocks.
     pub has_failed_read: bool,
     pub is_locked: bool,
 }
@@ -38,7 +40,19 @@ impl Player {
         failing: u32,
         left: Left,
     ) -> Player {
-        let Ok(world) = World::new(alloc, small(rt), dies) else {
+        Player::over(rt, alloc, small(rt), dies, [failing, 0], left)
+    }
+
+    /// A world over dies that fit the configuration, in which these jobs fail.
+    pub fn over(
+        rt: &impl Abort,
+        alloc: Global,
+        config: Config,
+        dies: Vec<MemDie>,
+        failing: [u32; 2],
+        left: Left,
+    ) -> Player {
+        let Ok(world) = World::new(alloc, config, dies) else {
             panic!(rt; "the dies fit");
         };
         Player {
@@ -97,7 +111,7 @@ impl Player {
 
     /// The end of the job that was given out last.
     fn end_of(&mut self, rt: &impl Abort, die: u8, job: &Job) -> Event {
-        if self.jobs != self.failing {
+        if self.jobs != self.failing[0] && self.jobs != self.failing[1] {
             return Event::Finish(die);
         }
         self.has_failed_read = matches!(job, Job::Read(_));

@@ -149,3 +149,25 @@ fn writes_of_one_area_page_stand_one_over_another(rt: HostRuntime) -> Result<(),
     assert!(rt; has(&cache, 9, 0, 0, 0xC1));
     Ok(())
 }
+
+/// A group takes the slots that its shortened claim has left, and the other slots are free. The
+/// claim of another task stays.
+#[test]
+fn a_shortened_claim_keeps_its_first_slots(rt: HostRuntime) -> Result<(), Fail> {
+    let mut cache = Cache::new(rt.alloc(), 8, 7)?;
+    assert!(rt; cache.reserve(3, 5) && cache.reserve(4, 2));
+    cache.release_behind(3, 2);
+    assert!(rt; cache.free_slots() == 4);
+    let key = Key {
+        kind: Tag::DATA,
+        unit: 0,
+        address: 9,
+    };
+    if cache.has_number() {
+        assert!(rt; cache.append(3, key) == 8);
+    }
+    assert!(rt; cache.pending() == 2 && cache.free_slots() == 4);
+    cache.release_behind(4, 0);
+    assert!(rt; cache.free_slots() == 6);
+    Ok(())
+}

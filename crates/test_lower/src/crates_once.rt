@@ -177,9 +177,6 @@ fn cdbs_are_taken_or_refused_by_their_tables(rt: HostRuntime) {
     let verify = [0x2F, 0, 0, 0, 0, 0, 0, 0, 1, 0, 0, 0, 0, 0, 0, 0];
     assert!(rt; is_refused(&verify, Sense::INVALID_OPCODE));
     assert!(rt; matches!(scsi_cdb::read(&[0; 16]), Ok(Cdb::TestUnitReady)));
-    // UNMAP is known, and not taken in this stage.
-    let unmap = [0x42, 0, 0, 0, 0, 0, 0, 0, 0x18, 0, 0, 0, 0, 0, 0, 0];
-    assert!(rt; is_refused(&unmap, Sense::INVALID_OPCODE));
     assert!(rt; scsi_cdb::blocks_of(&taken) == 1);
     assert!(rt; scsi_cdb::address_of(&taken) == 255);
     assert!(rt; scsi_cdb::length_of(0, &taken) == 4096);

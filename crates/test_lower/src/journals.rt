@@ -192,13 +192,13 @@ fn write_6(tag: u8) -> [u8; 32] {
 }
 
 /// A life begins, without a key.
-fn begun(alloc: Global) -> Journal {
+fn begun(alloc: Global) -> Result<Journal, Fail> {
     let region = RegionState {
         key: None,
         counter: 0,
         blocks: 512,
     };
-    Journal::new(alloc, region)
+    Ok(Journal::new(alloc, config()?.numbers(), region))
 }
 
 /// Compares how many writes the journal has, and how many of them are held.
@@ -212,7 +212,7 @@ fn expect_counts(rt: &impl Abort, journal: &Journal, accepted: usize, held: usiz
 #[test]
 fn writes_of_several_tasks_are_accepted_in_order(rt: HostRuntime) -> Result<(), Fail> {
     let alloc = rt.alloc();
-    let mut journal = begun(alloc);
+    let mut journal = begun(alloc)?;
     journal.hear(alloc, &write_10(1, false))?;
     journal.hear(alloc, &write_10(2, true))?;
     journal.hear(alloc, &write_10(3, false))?;
@@ -238,7 +238,7 @@ fn writes_of_several_tasks_are_accepted_in_order(rt: HostRuntime) -> Result<(), 
 #[test]
 fn a_flush_holds_the_writes_before_it(rt: HostRuntime) -> Result<(), Fail> {
     let alloc = rt.alloc();
-    let mut journal = begun(alloc);
+    let mut journal = begun(alloc)?;
     journal.hear(alloc, &write_10(1, false))?;
     journal.hear(alloc, &block_out(1, 0, 0x11))?;
     journal.hear(alloc, &flush(9, true))?;
@@ -265,7 +265,7 @@ fn is_write_at(entry: Option<&Entry>, wanted: u32) -> bool {
 #[test]
 fn write_6_is_accepted_and_an_empty_or_locked_write_is_not(rt: HostRuntime) -> Result<(), Fail> {
     let alloc = rt.alloc();
-    let mut journal = begun(alloc);
+    let mut journal = begun(alloc)?;
     journal.hear(alloc, &write_6(1))?;
     journal.hear(alloc, &block_out(1, 0, 0x11))?;
     assert!(rt; is_write_at(journal.entries().first(), 0x01_0203));

@@ -1,7 +1,7 @@
 //! Each public function of the lower crates once, what the worked rows say of contents, the
-//! comparison of journals, victims and plans, area pages that are written in part, and what queries
-//! and units tell. Expected bytes come from the device's formats and from the standards, never from
-//! the program's own output.
+//! comparison of journals, victims and plans, area pages that are written in part, what queries and
+//! units tell, lists of UNMAP, and pages of zeros. Expected bytes come from the device's formats and
+//! from the standards, never from the program's own output.
 #![tactic(auto)]
 
 #[cfg(test)]
@@ -37,4 +37,10 @@ mod settings_pages;
 #[cfg(test)]
 mod unit_rows;
 #[cfg(test)]
+mod unmap_journals;
+#[cfg(test)]
+mod unmap_lists;
+#[cfg(test)]
 mod victims;
+#[cfg(test)]
+mod zero_seals;

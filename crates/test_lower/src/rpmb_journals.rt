@@ -74,7 +74,7 @@ fn accepted_requests_are_noted(rt: HostRuntime) -> Result<(), Fail> {
         counter: 0,
         blocks: 512,
     };
-    let mut journal = Journal::new(alloc, region);
+    let mut journal = Journal::new(alloc, config()?.numbers(), region);
     bring(alloc, &mut journal, 1, &write_request(&FIRST, 0))?;
     expect_counts(&rt, &journal, 0, 0, 0);
     bring(alloc, &mut journal, 1, &key_request())?;

@@ -43,13 +43,13 @@ fn answer(tag: u8, code: u8) -> [u8; 32] {
 }
 
 /// A life begins, without a key.
-fn begun(alloc: Global) -> Journal {
+fn begun(alloc: Global) -> Result<Journal, Fail> {
     let region = RegionState {
         key: None,
         counter: 0,
         blocks: 512,
     };
-    Journal::new(alloc, region)
+    Ok(Journal::new(alloc, config()?.numbers(), region))
 }
 
 /// Whether it is noted that bBootLunEn became this.
@@ -71,7 +71,7 @@ fn expect_counts(rt: &impl Abort, journal: &Journal, entries: usize, held: usize
 fn an_answered_setting_is_held(rt: HostRuntime) -> Result<(), Fail> {
     settings_pass_the_table();
     let alloc = rt.alloc();
-    let mut journal = begun(alloc);
+    let mut journal = begun(alloc)?;
     journal.hear(alloc, &command(1, WRITE, 0, 1, 1))?;
     journal.hear(alloc, &block_out(1, 0, 0x11))?;
     journal.hear(alloc, &set_boot(2, 1))?;
@@ -108,7 +108,7 @@ fn an_answered_setting_is_held(rt: HostRuntime) -> Result<(), Fail> {
 #[test]
 fn a_refused_setting_is_none(rt: HostRuntime) -> Result<(), Fail> {
     let alloc = rt.alloc();
-    let mut journal = begun(alloc);
+    let mut journal = begun(alloc)?;
     journal.hear(alloc, &query(1, 0x01, 0x03, 0x00, 0))?;
     journal.hear(alloc, &query(1, 0x81, 0x06, 0x03, 0))?;
     journal.hear(alloc, &query(1, 0x81, 0x08, 0x02, 0))?;
@@ -132,12 +132,12 @@ fn a_refused_setting_is_none(rt: HostRuntime) -> Result<(), Fail> {
     Ok(())
 }
 
-/// Once a block is bad each setting is refused. One that waited then is answered FFh too, and stays in
-/// doubt, unless it was durable before.
+/// Once the device is locked each setting is refused. One that waited then is answered FFh too, and stays
+/// in doubt, unless it was durable before.
 #[test]
-fn a_bad_block_leaves_a_setting_in_doubt(rt: HostRuntime) -> Result<(), Fail> {
+fn a_lock_leaves_a_setting_in_doubt(rt: HostRuntime) -> Result<(), Fail> {
     let alloc = rt.alloc();
-    let mut journal = begun(alloc);
+    let mut journal = begun(alloc)?;
     journal.hear(alloc, &set_boot(1, 1))?;
     journal.hear(alloc, &set_boot(2, 2))?;
     journal.lock();
@@ -161,7 +161,7 @@ fn a_bad_block_leaves_a_setting_in_doubt(rt: HostRuntime) -> Result<(), Fail> {
 #[test]
 fn other_answers_hold_the_settings_before_them(rt: HostRuntime) -> Result<(), Fail> {
     let alloc = rt.alloc();
-    let mut journal = begun(alloc);
+    let mut journal = begun(alloc)?;
     journal.hear(alloc, &set_boot(1, 1))?;
     journal.hear(alloc, &command(2, SYNCHRONIZE, 0, 0, 0))?;
     journal.hear(alloc, &command(3, WRITE, FUA, 1, 1))?;

@@ -5,10 +5,12 @@ use std::test::Fail;
 use ufs_spec::Sense;
 use workbench::row_config;
 
-/// READ(10), and SYNCHRONIZE CACHE(10).
+/// READ(10), SYNCHRONIZE CACHE(10), and UNMAP.
 const READ: u8 = 0x28;
 
 const SYNCHRONIZE: u8 = 0x35;
+
+const UNMAP: u8 = 0x42;
 
 /// INQUIRY tells 36 bytes, and of a well-known unit another device type.
 #[test]
@@ -67,5 +69,26 @@ fn the_boot_setting_names_a_unit(rt: HostRuntime) -> Result<(), Fail> {
     assert!(rt; matches!(route_of(numbers, 0, 0xD0, READ), Err(Sense::INVALID_OPCODE)));
     let device = route_of(numbers, 0, 0xD0, SYNCHRONIZE);
     assert!(rt; matches!(device, Ok(route) if matches!(route.lun, Lun::Device)));
+    Ok(())
+}
+
+/// UNMAP is for the units of the configuration alone, not for the unit that boots on B0h.
+#[test]
+fn units_of_the_configuration_take_unmap(rt: HostRuntime) -> Result<(), Fail> {
+    let config = row_config()?;
+    let numbers = config.numbers();
+    for unit in 0..3u8 {
+        let route = route_of(numbers, 0, unit, UNMAP);
+        assert!(rt; matches!(route, Ok(route) if route.unit == Some(unit)));
+    }
+    assert!(rt; matches!(route_of(numbers, 0, 3, UNMAP), Err(Sense::NO_UNIT)));
+    for byte in [0x81u8, 0xB0, 0xC4, 0xD0] {
+        assert!(rt;
+            matches!(
+                route_of(numbers, 1, byte, UNMAP),
+                Err(Sense::INVALID_OPCODE)
+            )
+        );
+    }
     Ok(())
 }

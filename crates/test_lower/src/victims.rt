@@ -201,6 +201,7 @@ fn a_plan_copies_live_pages_and_then_marks(rt: HostRuntime) -> Result<(), Fail> 
     blocks.freed(0, 3);
     blocks.freed(1, 1);
     assert!(rt; blocks.free_blocks() == 2);
+    assert!(rt; blocks.bad_blocks() == 1);
     live.pin(1, 1);
     assert!(rt; !plan.plan(&live, &blocks, &map, &cache));
     assert!(rt; plan.victim().is_none());

@@ -94,16 +94,3 @@ fn write_6_and_read_6_carry_a_block(rt: HostRuntime) {
         ],
     );
 }
-
-/// Task management is answered, though none is carried out yet: function not supported (04h).
-#[test]
-fn task_management_is_not_carried_out(rt: HostRuntime) {
-    expect(
-        &rt,
-        rt.alloc(),
-        &[
-            Host("040000090080000000000000000000000000000700", 32, "host ok"),
-            Reply("24000009000000000000000000000004", ""),
-        ],
-    );
-}

@@ -15,6 +15,12 @@ mod gap;
 #[cfg(test)]
 mod groups;
 #[cfg(test)]
+mod images;
+#[cfg(test)]
+mod locks;
+#[cfg(test)]
+mod managed_tasks;
+#[cfg(test)]
 mod messages;
 #[cfg(test)]
 mod query_rows;
@@ -32,5 +38,9 @@ mod steps;
 mod stops;
 #[cfg(test)]
 mod unit_rows;
+#[cfg(test)]
+mod unmap_lists;
+#[cfg(test)]
+mod unmapped;
 #[cfg(test)]
 mod worked_rows;

@@ -3,7 +3,7 @@
 use crate::frames::{COUNTER_1, COUNTER_REQUEST, KEY_REQUEST};
 use crate::rpmb_write_stopped::EIGHT;
 use crate::steps::Step::{Answer, Frames, GoodFrames, Lines, Query, Request, Settle, Told};
-use crate::steps::{Script, Step, expect};
+use crate::steps::{Script, Step, WITHOUT_SPARE, expect};
 use std::alloc::Global;
 use std::process::Abort;
 
@@ -113,26 +113,24 @@ fn the_device_is_initialized(rt: HostRuntime) {
 /// A setting that waits is told FFh where a failed program locks the device; it stays accepted.
 #[test]
 fn a_lock_ends_a_setting_that_waits(rt: HostRuntime) {
-    expect(
-        &rt,
-        rt.alloc(),
-        &[
-            Settle("4"),
-            Query("01", "81", "04000000", "", "00000002"),
-            Lines("take 0", "take 0 program 0 1"),
-            Lines("done 0 fail", "done 0 yes"),
-            Told("01", "81ff", "04000000", "", "", ""),
-            Query("02", "01", "03000000", "", ""),
-            Told("02", "0100", "03000000", "", "00000002", ""),
-            Query("02", "81", "04000000", "", "00000001"),
-            Told("02", "81ff", "04000000", "", "", ""),
-            Settle("4"),
-            Lines("stop", "stop ok"),
-            Settle("16"),
-            Query("02", "01", "03000000", "", ""),
-            Told("02", "0100", "03000000", "", "00000002", ""),
-        ],
-    );
+    let mut script = Script::over(rt.alloc(), WITHOUT_SPARE);
+    script.add(&[
+        Settle("4"),
+        Query("01", "81", "04000000", "", "00000002"),
+        Lines("take 0", "take 0 program 0 1"),
+        Lines("done 0 fail", "done 0 yes"),
+        Told("01", "81ff", "04000000", "", "", ""),
+        Query("02", "01", "03000000", "", ""),
+        Told("02", "0100", "03000000", "", "00000002", ""),
+        Query("02", "81", "04000000", "", "00000001"),
+        Told("02", "81ff", "04000000", "", "", ""),
+        Settle("4"),
+        Lines("stop", "stop ok"),
+        Settle("16"),
+        Query("02", "01", "03000000", "", ""),
+        Told("02", "0100", "03000000", "", "00000002", ""),
+    ]);
+    script.run(&rt);
 }
 
 /// The boot setting becomes 2, and its page is being programmed.

@@ -5,7 +5,7 @@ use crate::frames::{
     RESULT_REQUEST, ZEROS,
 };
 use crate::steps::Step::{Answer, Command, Frames, GoodFrames, Lines, Refusal, Request, Settle};
-use crate::steps::{Script, Step};
+use crate::steps::{Script, Step, WITHOUT_SPARE};
 
 /// The write of a block of bytes 5Ah at address 12, under the counter 0.
 const WRITE: Frame<'static> = Frame {
@@ -294,11 +294,11 @@ fn malformed_frames_change_nothing(rt: HostRuntime) {
     script.run(&rt);
 }
 
-/// A program that fails locks the device. The write that waits for it ends with a write error and
+/// A program that fails locks a device without spare blocks. The write that waits for it ends with a write error and
 /// leaves no result, and each later write has the result write failure.
 #[test]
 fn a_locked_device_writes_no_frames(rt: HostRuntime) {
-    let mut script = Script::new(rt.alloc());
+    let mut script = Script::over(rt.alloc(), WITHOUT_SPARE);
     script.add(&PROGRAMMED);
     script.add(&[
         Frames("17", &[WRITE]),

@@ -1,7 +1,8 @@
 //! What the tests share: texts made piece by piece, and what the program writes of a script.
 use std::alloc::Global;
+use std::io::{Read, Write};
 use std::process::Abort;
-use ufsim::{Stops, check_each_text, check_text, run_text};
+use ufsim::{Stops, check_each_text, check_text, load_text, run_text, save_text};
 
 /// A text that is made piece by piece. If memory was refused for a piece, the text lacks it, and `bytes` ends the
 /// test.
@@ -84,6 +85,22 @@ impl Outcome {
     pub fn of_check_each(alloc: Global, script: &[u8], tries: Stops) -> Outcome {
         let mut found = Outcome::new(alloc);
         found.status = check_each_text(alloc, script, tries, &mut found.out, &mut found.faults);
+        found
+    }
+
+    /// That of a run of this script which saves the image `a.img`.
+    pub fn of_save<W: Write>(alloc: Global, script: &[u8], image: &mut W) -> Outcome {
+        let mut found = Outcome::new(alloc);
+        let (out, faults) = (&mut found.out, &mut found.faults);
+        found.status = save_text(alloc, script, "a.img", image, out, faults);
+        found
+    }
+
+    /// That of a run of this script over the image `a.img`.
+    pub fn of_load<R: Read>(alloc: Global, script: &[u8], image: &mut R) -> Outcome {
+        let mut found = Outcome::new(alloc);
+        let (out, faults) = (&mut found.out, &mut found.faults);
+        found.status = load_text(alloc, script, "a.img", image, out, faults);
         found
     }
 

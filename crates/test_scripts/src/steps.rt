@@ -2,8 +2,8 @@
 use crate::frames::{Frame, length_of};
 use crate::scripts::{Outcome, Text};
 use Step::{
-    Answer, Block, BlockOf, Command, DataIn, Frames, Good, GoodFrames, Host, Lines, NopOut, Query,
-    Refusal, Reply, Request, Response, Send, SendTo, Settle, Told,
+    Answer, Block, BlockOf, Command, DataIn, Frames, Good, GoodFrames, Host, Lines, List, Manage,
+    Managed, NopOut, Query, Refusal, Reply, Request, Response, Send, SendTo, Settle, Told,
 };
 use std::alloc::Global;
 use std::process::Abort;
@@ -12,6 +12,9 @@ use ufsim::Stops;
 /// The first lines of a script with the row configuration: 4 dies of 16 blocks of 64 pages, units
 /// of 256, 64 and 64 blocks, one step of RPMB, 64 slots, 4 spare blocks.
 pub const FIRST_LINES: &str = "config 4 16 64 1 64 4\nunit 256 0 0\nunit 64 1 0\nunit 64 2 0\n";
+
+/// The same without spare blocks: a device that one bad block locks.
+pub const WITHOUT_SPARE: &str = "config 4 16 64 1 64 0\nunit 256 0 0\nunit 64 1 0\nunit 64 2 0\n";
 
 /// The task tags from 0 to 63.
 pub const TAGS: [&str; 64] = [
@@ -49,6 +52,13 @@ pub enum Step<'a> {
     Send(&'a str, &'a str, usize),
     /// The data of the WRITE of one block to this LUN with this tag, the block being this byte.
     SendTo(&'a str, &'a str, &'a str),
+    /// An UNMAP of unit 0 with this tag, and its list: the length of the list, and its bytes. The
+    /// device asks for the list by READY TO TRANSFER, and gets it by DATA OUT.
+    List(&'a str, &'a str, &'a str),
+    /// A TASK MANAGEMENT REQUEST, which is taken: LUN, tag, function, and the tag that is meant.
+    Manage(&'a str, &'a str, &'a str, &'a str),
+    /// Its TASK MANAGEMENT RESPONSE: LUN, tag, and service response.
+    Managed(&'a str, &'a str, &'a str),
     /// A QUERY REQUEST, which is taken: tag, function, then opcode, IDN, index and selector, then
     /// length and value.
     Query(&'a str, &'a str, &'a str, &'a str, &'a str),
@@ -127,6 +137,21 @@ impl Script {
             ),
             Send(tag, byte, blocks) => self.send(tag, byte, blocks),
             SendTo(lun, tag, byte) => self.send_block(lun, tag, OFFSETS[0], byte),
+            List(tag, length, list) => self.list(tag, length, list),
+            Manage(lun, tag, function, meant) => self.host(
+                &[
+                    ("0400", 2),
+                    (lun, 1),
+                    (tag, 2),
+                    (function, 10),
+                    (lun, 4),
+                    (meant, 13),
+                ],
+                "host ok",
+            ),
+            Managed(lun, tag, service) => {
+                self.reply(&[("2400", 2), (lun, 1), (tag, 12), (service, 17)]);
+            }
             Query(tag, function, asked, length, value) => self.host(
                 &[
                     ("160000", 3),
@@ -222,6 +247,30 @@ impl Script {
         self.lines(" 4096", "host ok");
     }
 
+    // An UNMAP whose list is asked for all at once, and brought.
+    fn list<'b>(&mut self, tag: &'b str, length: &'b str, list: &'b str) {
+        self.host(
+            &[
+                ("012000", 3),
+                (tag, 12),
+                (length, 1),
+                ("42", 8),
+                (length, 8),
+            ],
+            "host ok",
+        );
+        self.reply(&[("310000", 3), (tag, 16), (length, 13)]);
+        self.script.add("host ");
+        self.script.add_fields(&[
+            ("020000", 3),
+            (tag, 8),
+            (length, 8),
+            (length, 13),
+            (list, 0),
+        ]);
+        self.lines("", "host ok");
+    }
+
     // The frames of a request: they are asked for all at once, and brought.
     fn frames<'b>(&mut self, tag: &'b str, frames: &[Frame<'_>]) {
         let length = length_of(frames.len());
@@ -314,6 +363,21 @@ impl Script {
     /// The script prints what is expected, and no fault.
     pub fn run(&self, rt: &impl Abort) {
         Outcome::of_run(self.alloc, self.script.bytes(rt)).expect(rt, self.output.bytes(rt), b"");
+    }
+
+    /// The same, and the image that is saved then.
+    pub fn save(&self, rt: &impl Abort) -> Vec<u8> {
+        let mut image = Vec::new(self.alloc);
+        let saved = Outcome::of_save(self.alloc, self.script.bytes(rt), &mut image);
+        saved.expect(rt, self.output.bytes(rt), b"");
+        image
+    }
+
+    /// Over the dies of this image the script prints what is expected, and no fault.
+    pub fn load(&self, rt: &impl Abort, image: &[u8]) {
+        let mut rest = image;
+        let loaded = Outcome::of_load(self.alloc, self.script.bytes(rt), &mut rest);
+        loaded.expect(rt, self.output.bytes(rt), b"");
     }
 
     /// A check of the script says this.

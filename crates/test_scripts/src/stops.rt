@@ -1,6 +1,6 @@
 //! Stops and failed jobs, as scripts.
 use crate::steps::Step::{Block, Command, Good, Lines, Refusal, Send, Settle};
-use crate::steps::{Script, Step};
+use crate::steps::{Script, Step, WITHOUT_SPARE};
 use std::alloc::Global;
 use std::process::Abort;
 
@@ -137,11 +137,11 @@ fn a_stop_with_all_dies_at_work_is_mended(rt: HostRuntime) {
     );
 }
 
-/// A program that fails locks the device, and its write ends with a write error; a read that fails ends its
-/// READ with a read error.
+/// A program that fails locks a device without spare blocks, and its write ends with a write error; a read
+/// that fails ends its READ with a read error.
 #[test]
 fn failed_jobs_are_told_and_a_failed_program_locks(rt: HostRuntime) {
-    let mut script = Script::new(rt.alloc());
+    let mut script = Script::over(rt.alloc(), WITHOUT_SPARE);
     script.add(&BEGUN);
     script.add(&[
         Lines("done 0 fail", "done 0 yes"),

@@ -1,3 +1,4 @@
 pub mod ListsJudged
 pub mod SettingsCarried
 pub mod SettingsWait
+pub mod UnmapSlots

@@ -4,6 +4,7 @@ pub mod DataInOrder
 pub mod DeedLaws
 pub mod HeardOnce
 pub mod ListedUnits
+pub mod ManagedTasks
 pub mod ReadSendsBlocks
 pub mod ReplySizes
 pub mod RequestsSettled

@@ -1,3 +1,4 @@
+pub mod BadBlocks
 pub mod JobsInFlight
 pub mod JobsOnTheirDies
 pub mod JobsStay

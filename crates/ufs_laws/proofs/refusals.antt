@@ -1,2 +1,4 @@
+pub mod LockedFlush
 pub mod RefusedCommands
 pub mod TableLines
+pub mod TakenRequests

@@ -1,3 +1,4 @@
+pub mod AskedQueries
 pub mod Decisions
 pub mod Exchange
 pub mod Flights
@@ -10,3 +11,5 @@ pub mod RpmbWrites
 pub mod Runs
 pub mod SettingsPages
 pub mod Table
+pub mod TaskRequests
+pub mod Unmaps

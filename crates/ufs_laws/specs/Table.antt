@@ -1,10 +1,12 @@
 -- Requests that more than one line of the table refuses.
-use Rattle.std.specs.Prelude.{ℕ, Bool, true, false, List, Some, None}
-use Rattle.ufs_laws.specs.Runs.{IsAnswered}
+use Rattle.std.specs.Prelude.{ℕ, Bool, true, false, List, [], ◌∷◌, Some, None}
+use Rattle.ufs_laws.specs.Runs.{IsAnswered, unit}
 use Rattle.ufs_spec.specs.Cdbs.{cdb_bytes}
+use Rattle.ufs_spec.specs.Configs.{numbers_of}
 use Rattle.ufs_spec.specs.Exchanges.{Status, response}
 use Rattle.ufs_spec.specs.Machine.{Heard, Spelled}
 use Rattle.ufs_spec.specs.Refusals.{Request, State}
+use Rattle.ufs_spec.specs.declared.configs.Numbers.{Numbers}
 use Rattle.ufs_spec.specs.declared.messages.Message.TheVariants as message
 use Rattle.ufs_spec.specs.declared.scsi.Cdb.{Cdb}
 use Rattle.ufs_spec.specs.declared.scsi.Cdb.TheVariants as cdb
@@ -42,6 +44,11 @@ write_at address = cdb.Write10 address 1 true
 -- SYNCHRONIZE CACHE(10) of a whole unit
 abbrev pub flush : Bool → Cdb
 flush immediate = cdb.SynchronizeCache10 0 0 immediate
+
+-- three units of the row of Runs: unit 1 is protected by fPowerOnWPEn, and unit 2 by fPermanentWPEn
+abbrev pub protected_row : Numbers
+protected_row =
+    numbers_of 4 16 64 (unit 256 0 ∷ record (unit 64 1) { protect = 1 } ∷ record (unit 64 2) { protect = 2 } ∷ []) 1 64 4
 
 -- the request as the device hears it, with the command that its CDB spells or with none
 abbrev pub heard_as : Request → Heard

@@ -15,7 +15,7 @@ ghost use Rattle.ufs_spec.specs.Cells.{Array, Cell, Cells, IsCell, Nothing, Show
 ghost use Rattle.ufs_spec.specs.Dies.{blank_page};
 ghost use Rattle.ufs_spec.specs.Disk.{CellCrash, Crash, Erasing, Flight, Programming, Reading, Spot, Touches, at_place, job_of, page_of, same_spot, spot_of, at_die};
 ghost use Rattle.ufs_spec.specs.Lives.{IsCall, IsOpened, Leads, Life};
-ghost use Rattle.ufs_spec.specs.Machine.{Allowed, Answer, Reply, Call, Due, Faulty, Done, OfDone, Take, OfTake, Heard, OfHost, Host, IsHeard, OfReply, Spelled, Turn, OfTurn, aborts, carried_out, fills, heard, in_block, observe, service, service_of, with_short};
+ghost use Rattle.ufs_spec.specs.Machine.{Allowed, Answer, Reply, Call, Due, Faulty, Done, OfDone, Take, OfTake, Heard, OfHost, Host, IsHeard, OfReply, Spelled, Turn, OfTurn, aborts, carried_out, fills, heard, in_block, observe, service, with_short};
 ghost use Rattle.ufs_spec.specs.Exchanges.{short_reply};
 ghost use Rattle.ufs_spec.specs.Messages.{IsAmong, code_of, host_codes, known_codes, read_fault_of};
 ghost use Rattle.ufs_spec.specs.Moves.{Ending};
@@ -189,9 +189,9 @@ pub fn refused_management_aborts_nothing()
         heard s (message.TaskRequest lun tag function meant) c
         ≡ with_short s (short_reply tag (message.TaskResponse lun tag (service s lun function meant))) }
     ensures no_unit { (s : State) (lun function meant : ℕ) → lun_of (numbers_of s) lun ≡ None →
-        service_of s lun function meant ≡ 0x09 }
+        service s lun function meant ≡ 0x09 }
     ensures aborts { (s : State) (lun function meant : ℕ) (unit : Lun) → lun_of (numbers_of s) lun ≡ Some unit →
-        aborts function ≡ true → service_of s lun function meant ≡ 0x00 }
+        aborts function ≡ true → service s lun function meant ≡ 0x00 }
 {}
 
 /// What is heard is of a kind that a host sends, and what is read without a fault of a kind that there is.

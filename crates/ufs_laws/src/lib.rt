@@ -8,12 +8,17 @@ mod contents;
 mod decisions;
 mod exchange;
 mod held;
+mod lock;
+mod management;
+mod queries;
 mod requests;
 mod rows;
 mod rpmb;
 mod runs;
 mod table;
 mod tables;
+mod units;
+mod unmap;
 mod vacancies;
 
 pub use arrays::{
@@ -37,6 +42,16 @@ pub use exchange::{
     every_byte_string_is_heard, nothing_of_an_aborted_tag_follows,
 };
 pub use held::{acknowledged_commands_are_held, held_commands_stay_held};
+pub use lock::{
+    a_bad_block_counts_once, a_locked_device_can_be_read, the_lock_begins_past_the_spare_blocks,
+};
+pub use management::{
+    a_query_of_tasks_tells_which_are_open, an_abort_takes_back_nothing,
+    each_function_aborts_its_tasks,
+};
+pub use queries::{
+    a_query_tells_what_is_set, each_line_of_the_query_table_counts, worked_descriptors,
+};
 pub use requests::{
     a_failed_request_changes_nothing, a_register_is_filled_once,
     a_request_for_data_reads_its_pages, an_abort_empties_the_registers, frames_are_handed_out_once,
@@ -49,8 +64,18 @@ pub use rpmb::{
     worked_requests, worked_responses,
 };
 pub use runs::{a_refused_read_says_why, a_written_block_is_read};
-pub use table::{each_line_of_the_table_counts, lines_that_never_meet};
+pub use table::{
+    commands_are_refused_before_the_mending, each_line_of_the_table_counts, lines_that_never_meet,
+};
 pub use tables::{failed_request_accepts_nothing, worked_queries, worked_sense};
+pub use units::{
+    a_protected_unit_is_not_changed, each_protection_has_its_flag, the_boot_setting_names_a_unit,
+    worked_identities,
+};
+pub use unmap::{
+    an_unmap_claims_slots_for_its_list, an_unmap_gives_back_what_it_does_not_need,
+    an_unmap_is_one_group_of_zeros,
+};
 pub use vacancies::{
     freed_victims_are_stale, ready_blocks_are_filled_first, stale_blocks_are_erased_first,
     vacancies_are_by_cells,

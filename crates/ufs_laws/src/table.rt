@@ -80,3 +80,33 @@ pub fn lines_that_never_meet()
     ensures response_or_slots { (s : State) (c : Cdb) → lacks_response s c ≡ true → is_crowded s c ≡ false }
     ensures other_response_or_slots { (s : State) (c : Cdb) → has_other_response s c ≡ true → is_crowded s c ≡ false }
 {}
+
+/// Before the mending is over each command that reads or changes what the device holds is refused
+/// as not ready, and so is TEST UNIT READY (SPC); `each_line_of_the_table_counts` says it of SECURITY
+/// PROTOCOL IN. What only tells of the device is taken all the same.
+pub fn commands_are_refused_before_the_mending()
+    ensures test_unit_ready { (s : State) (tag : ℕ) → IsIdle s → mended s ≡ false →
+        IsRefused s (asks 0x00 0 tag cdb.TestUnitReady) not_ready }
+    ensures read { (s : State) (tag : ℕ) → IsIdle s → mended s ≡ false →
+        IsRefused s (asks 0x40 0 tag (read_at 0 1)) not_ready }
+    ensures short_read { (s : State) (tag : ℕ) → IsIdle s → mended s ≡ false →
+        IsRefused s (asks 0x40 0 tag (cdb.Read6 0 1)) not_ready }
+    ensures write { (s : State) (tag : ℕ) → IsIdle s → mended s ≡ false →
+        IsRefused s (asks 0x20 0 tag (write_at 0)) not_ready }
+    ensures short_write { (s : State) (tag : ℕ) → IsIdle s → mended s ≡ false →
+        IsRefused s (asks 0x20 0 tag (cdb.Write6 0 1)) not_ready }
+    ensures unmap { (s : State) (tag : ℕ) → IsIdle s → mended s ≡ false →
+        IsRefused s (asks 0x20 0 tag (cdb.Unmap 24)) not_ready }
+    ensures flush { (s : State) (tag : ℕ) (immediate : Bool) → IsIdle s → mended s ≡ false →
+        IsRefused s (asks 0x00 0 tag (flush immediate)) not_ready }
+    ensures frames { (s : State) (tag : ℕ) → IsIdle s → mended s ≡ false →
+        IsRefused s (asks 0x20 0xC4 tag (cdb.SecurityOut 0 512)) not_ready }
+    ensures request_sense { (s : State) (tag : ℕ) → IsIdle s →
+        refusal s (asks 0x40 0 tag (cdb.RequestSense 18)) ≡ None }
+    ensures inquiry { (s : State) (tag : ℕ) → IsIdle s →
+        refusal s (asks 0x40 0 tag (cdb.Inquiry 36)) ≡ None }
+    ensures capacity { (s : State) (tag : ℕ) → IsIdle s →
+        refusal s (asks 0x40 0 tag cdb.ReadCapacity10) ≡ None }
+    ensures luns { (s : State) (tag : ℕ) → IsIdle s →
+        refusal s (asks 0x40 0 tag (cdb.ReportLuns 0 32)) ≡ None }
+{}

@@ -16,7 +16,7 @@ use Rattle.ufs_spec.specs.Commands.{Command, Write, Zero, SetKey, RpmbWrite}
 use Rattle.ufs_spec.specs.Plain.{Plain, Region, zero_block, zero_area, area_len, new_region, empty_region, region_of}
 use Rattle.ufs_spec.specs.Plain.{zero, with_part, changed_by, apply, after, Shape, shape_of, shape_of_numbers}
 use Rattle.ufs_spec.specs.Plain.{LiesWithin}
-use Rattle.ufs_spec.specs.Stages.{regions}
+use Rattle.ufs_spec.specs.Plain.{regions}
 use Rattle.ufs_spec.proofs.RegionPages.{alike, area_there}
 
 -- Lists

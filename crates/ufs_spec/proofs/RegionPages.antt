@@ -5,7 +5,7 @@ use Rattle.std.proofs.Math.ListN as lists
 use Rattle.std.proofs.lemmas.List.{get_or-map, get_or-replicate, length-replicate}
 use Rattle.ufs_spec.specs.Keys.{region_pages}
 use Rattle.ufs_spec.specs.Plain.{Plain, Region, area_len, empty_region, region_of, shape_of, shape_of_numbers}
-use Rattle.ufs_spec.specs.Stages.{regions}
+use Rattle.ufs_spec.specs.Plain.{regions}
 use Rattle.ufs_spec.specs.declared.configs.Numbers.{Numbers}
 
 -- a function of equal elements

@@ -5,7 +5,7 @@ use Rattle.std.specs.Prelude.{◌≡◌, ◌<◌, ◌≤◌, ◌+◌, ◌-◌, �
 use Rattle.std.specs.Prelude.{replicate, slice_index, if◌then◌else◌}
 use Rattle.byteorder.specs.Endian.{big_bytes}
 use Rattle.ufs_spec.specs.Messages.{IsAmong}
-use Rattle.ufs_spec.specs.Stages.{regions}
+use Rattle.ufs_spec.specs.Plain.{regions}
 use Rattle.ufs_spec.specs.declared.scsi.Cdb.{Cdb}
 use Rattle.ufs_spec.specs.declared.scsi.Cdb.TheVariants.{TestUnitReady, RequestSense, Read6, Write6, Inquiry}
 use Rattle.ufs_spec.specs.declared.scsi.Cdb.TheVariants.{ReadCapacity10, Read10, Write10, SynchronizeCache10, Unmap}
@@ -82,7 +82,7 @@ operation_of (ReportLuns select allocation) = report_luns
 operation_of (SecurityIn region length) = security_in
 operation_of (SecurityOut region length) = security_out
 
--- the operation codes of the whole table, taken yet or not
+-- the operation codes that some unit takes
 abbrev pub known_operations : List ℕ
 known_operations =
     test_unit_ready ∷ request_sense ∷ read_6 ∷ write_6 ∷ inquiry ∷ read_capacity_10 ∷ read_10 ∷ write_10
@@ -154,37 +154,9 @@ IsCdb (ReportLuns select allocation) = (select ≤ 2) × (allocation < 2 ^ 32)
 IsCdb (SecurityIn region length) = (region < regions) × (length < 2 ^ 32)
 IsCdb (SecurityOut region length) = (region < regions) × (length < 2 ^ 32)
 
--- ## The limit of this stage: UNMAP is not taken
-
--- the operation codes that are taken; any other is answered 5/20/00. UNMAP comes with task management and bad blocks
-abbrev pub taken_operations : List ℕ
-taken_operations =
-    test_unit_ready ∷ request_sense ∷ read_6 ∷ write_6 ∷ inquiry ∷ read_capacity_10 ∷ read_10 ∷ write_10
-    ∷ synchronize_cache_10 ∷ report_luns ∷ security_in ∷ security_out ∷ []
-
--- byte 0 is an operation code that is taken
-abbrev pub IsTakenOperation : List ℕ → Type 0
-IsTakenOperation bytes = IsAmong taken_operations (slice_index bytes 0)
-
--- the command is one whose operation code is taken
-abbrev pub IsTakenCdb : Cdb → Type 0
-IsTakenCdb TestUnitReady = Unit {0}
-IsTakenCdb (RequestSense allocation) = Unit {0}
-IsTakenCdb (Read6 address blocks) = Unit {0}
-IsTakenCdb (Write6 address blocks) = Unit {0}
-IsTakenCdb (Inquiry allocation) = Unit {0}
-IsTakenCdb ReadCapacity10 = Unit {0}
-IsTakenCdb (Read10 address blocks forced) = Unit {0}
-IsTakenCdb (Write10 address blocks forced) = Unit {0}
-IsTakenCdb (SynchronizeCache10 address blocks immediate) = Unit {0}
-IsTakenCdb (ReportLuns select allocation) = Unit {0}
-IsTakenCdb (SecurityIn region length) = Unit {0}
-IsTakenCdb (SecurityOut region length) = Unit {0}
-IsTakenCdb cdb = ⊥
-
--- the bytes are those of a command that is taken, and each of its numbers fits its field
+-- the bytes are those of the command, and each of its numbers fits its field
 abbrev pub SpellsCdb : Cdb → List ℕ → Type 0
-SpellsCdb cdb bytes = IsCdb cdb × IsTakenCdb cdb × (bytes ≡ cdb_bytes cdb)
+SpellsCdb cdb bytes = IsCdb cdb × (bytes ≡ cdb_bytes cdb)
 
 -- ## What a command asks for
 

@@ -1,5 +1,5 @@
 -- Small changes of a state: those of which the answers to messages are made (JESD220, 10.7).
-use Rattle.std.specs.Prelude.{List, None, Option, Some, [], fold, length, map, ℕ, ◌++◌, ◌∷◌}
+use Rattle.std.specs.Prelude.{List, None, Option, Some, [], fold, map, ℕ, ◌++◌, ◌∷◌}
 use Rattle.ufs_spec.specs.Commands.{Command}
 use Rattle.ufs_spec.specs.Exchanges.{Answering, Awaiting, Deed, Gathering, ReadingArea, Sending, SendingBytes, Short}
 use Rattle.ufs_spec.specs.Exchanges.{Status, Task, with_deed}

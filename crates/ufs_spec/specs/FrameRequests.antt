@@ -7,7 +7,7 @@ use Rattle.ufs_spec.specs.Exchanges.{RpmbRequest, Sending, SendingBytes, Task, U
 use Rattle.ufs_spec.specs.Frames.{Frame}
 use Rattle.ufs_spec.specs.Keys.{area_key, below, content}
 use Rattle.ufs_spec.specs.Ledger.{look}
-use Rattle.ufs_spec.specs.Moves.{Keep, Move, Release}
+use Rattle.ufs_spec.specs.Moves.{Keep, Move}
 use Rattle.ufs_spec.specs.Plain.{Plain, region_of}
 use Rattle.ufs_spec.specs.Refusals.{State, locked, numbers_of, plain_now}
 use Rattle.ufs_spec.specs.Rpmb.{Refused, Results, RpmbOutcome, read_data, rpmb_outcome}

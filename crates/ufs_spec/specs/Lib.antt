@@ -33,5 +33,4 @@ pub mod Replies
 pub mod Rpmb
 pub mod RpmbResponses
 pub mod Sound
-pub mod Stages
 pub mod Translation

@@ -39,7 +39,7 @@ pub use Rattle.ufs_spec.specs.FrameRequests.{filled_registers}
 pub use Rattle.ufs_spec.specs.DataOuts.{blocks_in, complete, data_for, data_heard, gathered_more, write_complete}
 pub use Rattle.ufs_spec.specs.DataOuts.{write_deed}
 pub use Rattle.ufs_spec.specs.Management.{abort_moves, aborts, carried_out, is_aborted, is_named, managed}
-pub use Rattle.ufs_spec.specs.Management.{registers_after, service, service_found, service_of, without_tasks}
+pub use Rattle.ufs_spec.specs.Management.{registers_after, service, service_found, without_tasks}
 use Rattle.ufs_spec.specs.declared.layer.Reader.{Reader}
 use Rattle.ufs_spec.specs.declared.layer.Reader.TheVariants.{ForNobody, ForRest, ForStep, ForTask}
 

@@ -7,7 +7,6 @@ use Rattle.ufs_spec.specs.Exchanges.{Registers, Task, empty_registers}
 use Rattle.ufs_spec.specs.Messages.{is_among}
 use Rattle.ufs_spec.specs.Moves.{LetGoAll, Move, Release}
 use Rattle.ufs_spec.specs.Refusals.{State, lun_of, numbers_of, sends_frames_to}
-use Rattle.ufs_spec.specs.Stages.{manages_tasks}
 use Rattle.ufs_spec.specs.declared.configs.Numbers.{Numbers}
 
 -- the task is the one that a task management request means: it has that LUN and that tag
@@ -32,17 +31,13 @@ service_found false = 0x00
 
 -- the service response (JESD220, 10.7.7): 09h if the LUN names no unit; 00h, complete, for a function that aborts,
 -- whether or not a task is there; 00h or 08h for one that asks for tasks; 04h, not supported, for any other
-abbrev pub service_of : State → ℕ → ℕ → ℕ → ℕ
-service_of s lun function meant =
+abbrev pub service : State → ℕ → ℕ → ℕ → ℕ
+service s lun function meant =
     if is_none (lun_of (numbers_of s) lun) then 0x09
     else if aborts function then 0x00
     else if function == 0x80 then service_found (list_any (is_named lun meant) s.tasks)
     else if function == 0x81 then service_found (list_any (λ (task : Task). task.lun == lun) s.tasks)
     else 0x04
-
--- until task management is built, every request is answered 04h, not supported, also for a LUN that is not there
-abbrev pub service : State → ℕ → ℕ → ℕ → ℕ
-service s lun function meant = if manages_tasks then service_of s lun function meant else 0x04
 
 -- an aborted task gives back its claims and lets go of all that it keeps; what it had accepted stays accepted
 abbrev pub abort_moves : Numbers → Task → List Move

@@ -6,7 +6,10 @@ use Rattle.std.specs.Prelude.{replicate, slice_index_or, slice_set, [], Option, 
 unfoldable pub use Rattle.ufs_bytes.specs.Blocks.{zero_block}
 use Rattle.ufs_spec.specs.declared.configs.Numbers.{Numbers}
 use Rattle.ufs_spec.specs.Commands.{Command, Write, Zero, SetKey, RpmbWrite, SetBoot, SetPermanent}
-use Rattle.ufs_spec.specs.Stages.{regions}
+
+-- how many RPMB regions a device has (JESD220, 12.4.2): in this profile region 0 alone
+abbrev pub regions : ℕ
+regions = 1
 
 -- what an RPMB region holds (JESD220, 12.4): its key, once it is programmed, the bytes of its area, and its write
 -- counter

@@ -5,7 +5,7 @@ use Rattle.std.specs.Prelude.{is_none, List, [], ◌∷◌, length, position, sl
 use Rattle.std.specs.List.{list_any}
 use Rattle.ufs_spec.specs.Cdbs.{Direction, NoData, ToDevice, ToHost, address_of, blocks_of, direction_of, inquiry}
 use Rattle.ufs_spec.specs.Cdbs.{length_of, operation_of, read_10, read_6, read_capacity_10, report_luns, request_sense}
-use Rattle.ufs_spec.specs.Cdbs.{security_in, security_out, synchronize_cache_10, taken_operations, test_unit_ready}
+use Rattle.ufs_spec.specs.Cdbs.{security_in, security_out, synchronize_cache_10, test_unit_ready}
 use Rattle.ufs_spec.specs.Cdbs.{unmap, write_10, write_6}
 use Rattle.ufs_spec.specs.Cells.{Array}
 use Rattle.ufs_spec.specs.Commands.{Command}
@@ -99,9 +99,9 @@ operations_of BootUnit = test_unit_ready ∷ request_sense ∷ inquiry ∷ read_
 operations_of RpmbUnit = test_unit_ready ∷ request_sense ∷ inquiry ∷ security_in ∷ security_out ∷ []
 operations_of DeviceUnit = test_unit_ready ∷ request_sense ∷ inquiry ∷ synchronize_cache_10 ∷ []
 
--- the unit takes this operation code, and the code is one that is taken by now
+-- the unit takes this operation code
 abbrev pub takes : Lun → ℕ → Bool
-takes lun operation = is_among (operations_of lun) operation && is_among taken_operations operation
+takes lun operation = is_among (operations_of lun) operation
 
 -- the unit whose boot number is the boot setting, if that is not 0 (JESD220, 13.1)
 abbrev pub boot_unit : Numbers → ℕ → Option ℕ
@@ -123,7 +123,7 @@ pub record Request : Type 0 where
   pub tag : ℕ
   -- E: how many bytes the host sends or has room for
   pub expected : ℕ
-  -- the CDB, and the command that it spells, if it spells one that is taken
+  -- the CDB, and the command that it spells, if it spells one
   pub bytes : List ℕ
   pub cdb : Option Cdb
 
@@ -305,7 +305,7 @@ abbrev pub first_line : List Line → Option Status
 first_line [] = None
 first_line (l ∷ ls) = if l.applies then Some l.status else first_line ls
 
--- lines 4 to 11, for a CDB that spells a command that is taken
+-- lines 4 to 11, for a CDB that spells a command
 abbrev pub lines_for : State → Request → Cdb → List Line
 lines_for s r command =
     line (is_too_long (numbers_of s) command) invalid_field

@@ -15,7 +15,6 @@ use Rattle.ufs_spec.specs.Ledger.{Entry, Ledger, accepted_groups, before_accepte
 use Rattle.ufs_spec.specs.Ledger.{is_name, is_standing, latest_durable, next_number, pending, same_name}
 use Rattle.ufs_spec.specs.Ledger.{look}
 use Rattle.ufs_spec.specs.Pages.{greatest_number}
-use Rattle.ufs_spec.specs.Stages.{most_bad}
 use Rattle.ufs_spec.specs.declared.configs.Numbers.{Numbers}
 use Rattle.ufs_spec.specs.declared.flash.Fence.{Fence}
 use Rattle.ufs_spec.specs.declared.flash.Key.{Key}
@@ -151,9 +150,10 @@ is_pinned t s =
     list_any (λ (pin : Pin). looks_into s pin.looked) t.pins
     || list_any (λ (rest : Rest). reads_from s rest.source) t.work.rests
 
--- the lock: more blocks are bad than may be, or no number is left for the next group. It never goes again in a life
+-- the lock: more blocks are bad than the configuration has spare ones, or no number is left for the next group. It
+-- never goes again in a life
 abbrev pub is_locked : Translation → Bool
-is_locked t = nat_lt (most_bad t.numbers) (count_blocks t is_bad) || nat_lt greatest_number (next_number t.ledger)
+is_locked t = nat_lt t.numbers.spare (count_blocks t is_bad) || nat_lt greatest_number (next_number t.ledger)
 
 -- Slots
 

@@ -1,5 +1,6 @@
-//! The transaction codes of the eleven kinds of messages, bits 5 to 0 of byte 0 (JESD220, 10.5), and how
-//! many of them may be open at once (this profile).
+//! The transaction codes of the eleven kinds of messages, bits 5 to 0 of byte 0 (JESD220, 10.5), the
+//! codes of task management (JESD220, 10.7.6 and 10.7.7), and how many exchanges may be open at once
+//! (this profile).
 
 /// A host asks whether the device answers at all.
 pub const NOP_OUT: u8 = 0x00;
@@ -33,6 +34,36 @@ pub const READY_TO_TRANSFER: u8 = 0x31;
 
 /// A device answers a query.
 pub const QUERY_RESPONSE: u8 = 0x36;
+
+/// A task management function: the task with this LUN and tag is aborted.
+pub const ABORT_TASK: u8 = 0x01;
+
+/// A task management function: all tasks of the LUN are aborted.
+pub const ABORT_TASK_SET: u8 = 0x02;
+
+/// The same, of several hosts; there is one host here.
+pub const CLEAR_TASK_SET: u8 = 0x04;
+
+/// The same, and no more in this profile.
+pub const LOGICAL_UNIT_RESET: u8 = 0x08;
+
+/// A task management function: is the task with this LUN and tag open?
+pub const QUERY_TASK: u8 = 0x80;
+
+/// A task management function: is any task of the LUN open?
+pub const QUERY_TASK_SET: u8 = 0x81;
+
+/// A service response: the function was carried out, or the task that was asked for is not there.
+pub const FUNCTION_COMPLETE: u8 = 0x00;
+
+/// A service response: there is no such function here.
+pub const FUNCTION_NOT_SUPPORTED: u8 = 0x04;
+
+/// A service response: the task that was asked for is there.
+pub const FUNCTION_SUCCEEDED: u8 = 0x08;
+
+/// A service response: there is no such unit.
+pub const INCORRECT_LUN: u8 = 0x09;
 
 /// How many tasks may be open.
 pub const MOST_TASKS: usize = 32;

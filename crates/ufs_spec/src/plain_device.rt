@@ -3,7 +3,7 @@ ghost use Rattle.std.specs.Prelude.{◌≡◌, ◌+◌, ◌*◌, ◌<◌, ◌≤
 ghost use Rattle.ufs_spec.specs.Commands.{Command, RpmbWrite, command_of};
 ghost use Rattle.ufs_spec.specs.Plain.{Plain, zero_block, zero_area, area_len, new_region, zero, with_part, unit_of, block_at, with_blocks, region_of, with_region, changed_by, counter_end, apply, after, shape_of, shape_of_numbers, LiesWithin, CanApply};
 ghost use Rattle.ufs_spec.specs.PlainRegions.{region_seen};
-ghost use Rattle.ufs_spec.specs.Stages.{regions};
+ghost use Rattle.ufs_spec.specs.Plain.{regions};
 
 use crate::codes::REGIONS;
 use crate::commands::Cmd;

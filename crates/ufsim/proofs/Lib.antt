@@ -1,1 +1,3 @@
+pub mod ImageLemmas
+mod ImageParts
 pub mod SpellingLemmas

@@ -8,7 +8,7 @@ ghost use Rattle.ufs_spec.specs.Plain.{shape_of, shape_of_numbers};
 use crate::fault::Word;
 use crate::reading::{Holdings, Visit, read_dies};
 use crate::stopped::{
-    CONTENTS, copied_dies, has_bad, is_at_work, is_write, pair_stopped, stopped_dies,
+    CONTENTS, bad_blocks, copied_dies, is_at_work, is_write, pair_stopped, stopped_dies,
 };
 use device::World;
 use geometry::Config;
@@ -50,7 +50,8 @@ pub(crate) struct Check {
 impl Check {
     /// Nothing was tried yet, over new dies.
     pub fn new(alloc: Global, config: Config, tries: Stops) -> Check {
-        let journal = Journal::new(alloc, region_of(config.numbers(), None, 0));
+        let numbers = config.numbers();
+        let journal = Journal::new(alloc, numbers, region_of(numbers, None, 0));
         Check {
             config,
             tries,
@@ -78,7 +79,7 @@ impl Check {
             }
             Output::Take(Some(job)) if is_write(job) => self.stop_here(alloc, world),
             Output::Ended => {
-                self.end(event);
+                self.end(world, event);
                 Ok(())
             }
             Output::Stopped => self.begin_life(alloc, world),
@@ -94,9 +95,16 @@ impl Check {
         }
     }
 
-    // A job ended. After a program or an erase that failed no write is accepted.
-    fn end(&mut self, event: &Event) {
+    // A job ended. A program or an erase that failed made a block bad.
+    fn end(&mut self, world: &World, event: &Event) {
         if let Event::Fail(_, Some(_)) = event {
+            self.lock(world.dies());
+        }
+    }
+
+    // Where more blocks of the dies are bad than the device has spare ones, it accepts nothing more.
+    fn lock(&mut self, dies: &[MemDie]) {
+        if bad_blocks(dies) > usize::from(self.config.numbers().spare) {
             self.journal.lock();
         }
     }
@@ -104,19 +112,16 @@ impl Check {
     // The script's own stop: the base of the next life is what the dies then read as.
     fn begin_life(&mut self, alloc: Global, world: &World) -> Result<(), Word> {
         let dies = copied_dies(alloc, world.dies())?;
-        let is_bad = has_bad(dies.as_slice());
         match read_dies(alloc, &self.config, dies, self.key())? {
             Some(found) => {
-                let (key, counter) = (found.region.key, found.region.counter());
-                let region = region_of(self.config.numbers(), key, counter);
+                let numbers = self.config.numbers();
+                let region = region_of(numbers, found.region.key, found.region.counter());
+                self.journal = Journal::new(alloc, numbers, region);
                 self.base = Some(found);
-                self.journal = Journal::new(alloc, region);
             }
             None => self.bad = self.bad.saturating_add(1),
         }
-        if is_bad {
-            self.journal.lock();
-        }
+        self.lock(world.dies());
         Ok(())
     }
 

@@ -1,5 +1,6 @@
 //! The first lines of a script: one `config` and one or more `unit`, of which a device is made.
 use crate::fault::{ScriptFault, Word};
+use crate::image::Sizes;
 use crate::lines::{Line, Lines};
 use crate::words::{Words, expect};
 use arrayvec::ArrayVec;
@@ -95,10 +96,25 @@ impl<'a> FirstLines<'a> {
     pub fn open(&self, alloc: Global) -> Result<World, Word> {
         let config = self.config()?;
         let dies = new_dies(alloc, self.dies, self.blocks, self.pages)?;
-        match World::new(alloc, config, dies) {
-            Ok(world) => Ok(world),
-            Err(fault) => Err(refused(&fault)),
+        open_on(alloc, config, dies)
+    }
+
+    /// The sizes of the dies of these lines.
+    pub fn sizes(&self) -> Sizes {
+        Sizes {
+            dies: self.dies,
+            blocks: self.blocks,
+            pages: self.pages,
         }
+    }
+}
+
+/// The device of this configuration over these dies: `Config` where it is refused, and `Memory` for want of
+/// memory.
+pub(crate) fn open_on(alloc: Global, config: Config, dies: Vec<MemDie>) -> Result<World, Word> {
+    match World::new(alloc, config, dies) {
+        Ok(world) => Ok(world),
+        Err(fault) => Err(refused(&fault)),
     }
 }
 

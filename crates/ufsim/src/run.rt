@@ -4,11 +4,13 @@ ghost use Rattle.std.specs.Prelude.{◌≡◌, ◌≤◌};
 use crate::check::{Check, Stops};
 use crate::commands::{Command, Content, Left};
 use crate::fault::{ScriptFault, Word, word_of};
-use crate::first_lines::FirstLines;
+use crate::first_lines::{FirstLines, open_on};
 use crate::leftovers::leftover;
 use crate::lines::Lines;
 use crate::outputs::show;
 use device::World;
+use geometry::Config;
+use nand_model::MemDie;
 use std::alloc::Global;
 use std::io::Write;
 use ufs_spec::{Event, Job, Leftover, Output};
@@ -105,14 +107,30 @@ fn run_script<W: Write>(alloc: Global, script: &[u8], out: &mut W) -> Result<boo
     Ok(true)
 }
 
-// Runs the lines behind these ones, and writes the output of each.
-fn print_script<W: Write>(
+/// Runs the lines behind these ones over new dies, and writes the output of each. It answers the device with
+/// its dies after the last one.
+pub(crate) fn print_script<W: Write>(
     alloc: Global,
     first: FirstLines<'_>,
     out: &mut W,
-) -> Result<(), ScriptFault> {
+) -> Result<World, ScriptFault> {
     let mut runner = first.last.told(Runner::new(alloc, &first))?;
-    runner.print_each(first.rest, out)
+    runner.print_each(first.rest, out)?;
+    Ok(runner.world)
+}
+
+/// As `print_script`, over these dies, with the configuration that the lines give.
+pub(crate) fn print_on<W: Write>(
+    alloc: Global,
+    first: FirstLines<'_>,
+    config: Config,
+    dies: Vec<MemDie>,
+    out: &mut W,
+) -> Result<World, ScriptFault> {
+    let world = first.last.told(open_on(alloc, config, dies))?;
+    let mut runner = Runner::over(alloc, world, first.dies, None);
+    runner.print_each(first.rest, out)?;
+    Ok(runner.world)
 }
 
 /// The device with its dies after the lines of a script up to the one with the number `last`. With a number

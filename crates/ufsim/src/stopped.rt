@@ -19,18 +19,23 @@ pub(crate) fn copied_dies(alloc: Global, dies: &[MemDie]) -> Result<Vec<MemDie>,
     Ok(all)
 }
 
-/// Whether any block of the dies is bad.
-pub(crate) fn has_bad(dies: &[MemDie]) -> bool {
-    dies.iter().any(|die| has_bad_block(die))
+/// How many blocks of the dies are bad.
+pub(crate) fn bad_blocks(dies: &[MemDie]) -> usize {
+    let mut count = 0usize;
+    for die in dies {
+        count = count.saturating_add(bad_blocks_of(die));
+    }
+    count
 }
 
-fn has_bad_block(die: &MemDie) -> bool {
+fn bad_blocks_of(die: &MemDie) -> usize {
+    let mut count = 0usize;
     for block in 0..die.blocks() {
         if die.is_bad(block) {
-            return true;
+            count = count.saturating_add(1);
         }
     }
-    false
+    count
 }
 
 /// Whether the die has a program or an erase in flight.

@@ -2,12 +2,15 @@
 //! work on one.
 #![tactic(auto)]
 
+mod files;
+
+use files::{LateFile, NewFile};
 use std::io::ErrorKind;
 use std::process::ExitCode;
 use std::rt::{Env, Files};
 use std::{env, fs, io};
 use stress::stress_text;
-use ufsim::{Call, CallFault, call, check_text, run_text};
+use ufsim::{Call, CallFault, call, check_text, load_text, run_text, save_text};
 
 fn main(rt: HostRuntime) -> ExitCode {
     let words = match words(&rt) {
@@ -17,6 +20,8 @@ fn main(rt: HostRuntime) -> ExitCode {
     match call(rt.alloc(), words.as_slice()) {
         Ok(Call::Run(script)) => run(&rt, script),
         Ok(Call::Check(script)) => check(&rt, script),
+        Ok(Call::Save { image, script }) => save(&rt, image, script),
+        Ok(Call::Load { image, script }) => load(&rt, image, script),
         Ok(Call::Stress { dies, hosts }) => {
             let (alloc, mut out, mut faults) = (rt.alloc(), io::writer(&rt), rt.stderr());
             let status = stress_text(&rt, alloc, dies, hosts, &mut out, &mut faults);
@@ -67,7 +72,51 @@ fn check(rt: &HostRuntime, name: &str) -> ExitCode {
     }
 }
 
-// A script that cannot be read.
+fn save(rt: &HostRuntime, image: &str, name: &str) -> ExitCode {
+    let script = match fs::read(rt, name) {
+        Ok(script) => script,
+        Err(error) => return unread(rt, name, error.kind()),
+    };
+    let mut file = NewFile::new(rt, image);
+    let (mut out, mut faults) = (io::writer(rt), rt.stderr());
+    let status = save_text(
+        rt.alloc(),
+        script.as_slice(),
+        image,
+        &mut file,
+        &mut out,
+        &mut faults,
+    );
+    if status != 0 {
+        file.give_up();
+        return ExitCode::from(status);
+    }
+    match file.replace() {
+        Ok(()) => ExitCode::SUCCESS,
+        Err(error) => unread(rt, image, error.kind()),
+    }
+}
+
+fn load(rt: &HostRuntime, image: &str, name: &str) -> ExitCode {
+    match fs::read(rt, name) {
+        Ok(script) => {
+            let mut file = LateFile::new(rt, image);
+            let (mut out, mut faults) = (io::writer(rt), rt.stderr());
+            let status = load_text(
+                rt.alloc(),
+                script.as_slice(),
+                image,
+                &mut file,
+                &mut out,
+                &mut faults,
+            );
+            ExitCode::from(status)
+        }
+        Err(error) => unread(rt, name, error.kind()),
+    }
+}
+
+// A file that cannot be read or written.
 fn unread(rt: &impl Eprint, name: &str, kind: ErrorKind) -> ExitCode {
     let _ = match kind {
         ErrorKind::OutOfMemory => rt.eprintln("ufsim: memory"),

@@ -1,2 +1,5 @@
+mod Consumed
 mod Filled
+mod ImageFacts
 mod Sent
+mod Written

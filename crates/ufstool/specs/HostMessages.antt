@@ -1,13 +1,15 @@
 -- The messages that are written, byte by byte (JESD220, 10.7).
-use Rattle.std.specs.Prelude.{ℕ, List, ◌++◌, replicate, Option, Some, None}
+use Rattle.std.specs.Prelude.{ℕ, List, [], ◌∷◌, ◌++◌, codes, replicate, Option, Some, None}
+use Rattle.hex.specs.Hex.{encode_lower}
 use Rattle.ufs_spec.specs.Cdbs.{Direction, NoData, ToDevice, ToHost, cdb_bytes, direction_of, length_of}
 use Rattle.ufs_spec.specs.Codes.{data_out_code}
 use Rattle.ufs_spec.specs.Messages.{header, padding, spelling, transfer, zeros}
 use Rattle.ufs_spec.specs.declared.Cdb.{Cdb}
 use Rattle.ufs_spec.specs.declared.messages.Message.TheVariants.{Command as CommandMessage, NopOut as NopOutMessage}
 use Rattle.ufstool.specs.HostQueries.{query_asked, query_spelled}
+use Rattle.ufstool.specs.HostTasks.{task_spelled}
 use Rattle.ufstool.specs.declared.host.HostMessage.{HostMessage}
-use Rattle.ufstool.specs.declared.host.HostMessage.TheVariants.{NopOut, Command, DataOut, Query}
+use Rattle.ufstool.specs.declared.host.HostMessage.TheVariants.{NopOut, Command, DataOut, Query, Tasks}
 
 -- the flags of a COMMAND: no data, a write, or a read (JESD220, 10.7.1)
 abbrev pub flags_of : Direction → ℕ
@@ -33,3 +35,8 @@ bytes_wanted (DataOut unit task offset count fill) =
     header data_out_code 0 unit task 0 0 0 count (transfer offset count)
     ++ replicate count fill ++ zeros (padding count)
 bytes_wanted (Query task query) = query_spelled task (query_asked query)
+bytes_wanted (Tasks unit task call) = task_spelled unit task call
+
+-- the line of a script that hands a device these bytes, in hexadecimal digits
+abbrev pub line_of : List ℕ → List ℕ
+line_of bytes = codes "host " ++ encode_lower bytes ++ 10 ∷ []

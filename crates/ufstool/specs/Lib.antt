@@ -1,3 +1,7 @@
 pub mod HostMessages
 pub mod HostQueries
+pub mod HostTasks
+pub mod HostUnmaps
+pub mod Images
 pub mod Requests
+pub mod UnmapLists

@@ -17,8 +17,8 @@ impl Range {
         self.low <= self.number && self.number <= self.high
     }
 
-    // What is wrong, where it is not.
-    fn write<W: fmt::Write>(&self, f: &mut fmt::Formatter<W>) -> fmt::Result {
+    /// What is wrong, where it is not.
+    pub fn write<W: fmt::Write>(&self, f: &mut fmt::Formatter<W>) -> fmt::Result {
         let Range {
             name,
             number,

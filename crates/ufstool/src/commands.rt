@@ -50,6 +50,7 @@ fn write_fields<W: fmt::Write>(f: &mut fmt::Formatter<W>, command: &Cdb) -> fmt:
             immediate: true,
             ..
         } => f.write_str(" with IMMED"),
+        Cdb::Unmap { list } => write!(f, " with a list of {list} bytes"),
         Cdb::RequestSense { allocation } => write!(f, " of at most {allocation} bytes"),
         Cdb::Inquiry { allocation } => write!(f, " of at most {allocation} bytes"),
         Cdb::ReportLuns { select, allocation } => write_selection(f, *select, *allocation),

@@ -1,7 +1,11 @@
-//! The fields of descriptors and of INQUIRY data in words, each in a line of its own.
+//! The fields of descriptors, of INQUIRY data and of UNMAP's list in words, each in a line of its own.
+ghost use Rattle.std.specs.Prelude.{◌≡◌};
+ghost use Rattle.ufstool.specs.UnmapLists.{is_right_field};
+
 use crate::query_names::{boot_words, descriptor_name};
 use std::io::Write;
 use std::{fmt, io};
+use ufs_spec::GREATEST_COMMAND;
 
 /// A layout of bytes that has fields.
 #[derive(Clone, Copy)]
@@ -12,6 +16,8 @@ pub enum Layout {
     Unit,
     /// INQUIRY data (SPC, standard INQUIRY data).
     Inquiry,
+    /// UNMAP's list (SBC, UNMAP parameter list), of so many bytes.
+    UnmapList(usize),
 }
 
 // How a field is told.
@@ -110,6 +116,15 @@ const INQUIRY_FIELDS: [Field; 11] = [
     ("product revision level", 4, Shape::Text),
 ];
 
+const LIST_FIELDS: [Field; 6] = [
+    ("UNMAP data length", 2, Shape::Count),
+    ("UNMAP block descriptor data length", 2, Shape::Count),
+    ("bytes 4 to 7", 4, Shape::Quiet),
+    ("UNMAP logical block address", 8, Shape::Count),
+    ("number of logical blocks", 4, Shape::Count),
+    ("bytes 20 to 23", 4, Shape::Quiet),
+];
+
 /// Says in a line for each what the fields are, as far as the bytes go. Of bytes behind the last
 /// field those are told that are not zero.
 pub fn write_fields<W: Write>(out: &mut W, layout: Layout, bytes: &[u8]) -> io::Result<()> {
@@ -117,6 +132,7 @@ pub fn write_fields<W: Write>(out: &mut W, layout: Layout, bytes: &[u8]) -> io::
         Layout::Device => write_each(out, layout, &DEVICE_FIELDS, bytes),
         Layout::Unit => write_each(out, layout, &UNIT_FIELDS, bytes),
         Layout::Inquiry => write_each(out, layout, &INQUIRY_FIELDS, bytes),
+        Layout::UnmapList(_) => write_each(out, layout, &LIST_FIELDS, bytes),
     }
 }
 
@@ -316,6 +332,7 @@ fn words_of(layout: Layout, place: usize, value: u64) -> &'static str {
         Layout::Device => device_words(place, value),
         Layout::Unit => unit_words(place, value),
         Layout::Inquiry => inquiry_words(place, value),
+        Layout::UnmapList(length) => list_words(length, place, value),
     }
 }
 
@@ -362,5 +379,30 @@ fn inquiry_words(place: usize, value: u64) -> &'static str {
         (2, 0x06) => "SPC-4",
         (7, 0x02) => "CMDQUE: commands are queued",
         _ => "",
+    }
+}
+
+fn list_words(length: usize, place: usize, value: u64) -> &'static str {
+    if is_right_field(length, place, value) {
+        return "";
+    }
+    match place {
+        0 => "malformed: it has to count the bytes behind this field",
+        2 => "malformed: it has to count the bytes behind the header",
+        16 => "malformed: a command has at most 32 blocks",
+        _ => "malformed: they have to be zero",
+    }
+}
+
+// Whether a field of UNMAP's list is as it has to be, in a list of so many bytes.
+fn is_right_field(length: usize, place: usize, value: u64) -> bool
+    ensures { result ≡ is_right_field length place value }
+{
+    match place {
+        0 => value == length.saturating_sub(2) as u64,
+        2 => value == length.saturating_sub(8) as u64,
+        16 => value <= u64::from(GREATEST_COMMAND),
+        4 | 20 => value == 0,
+        _ => true,
     }
 }

@@ -144,7 +144,8 @@ fn keep_ranges(ranges: &[Range]) -> Result<(), Cause<'static>> {
     Ok(())
 }
 
-fn range(name: &'static str, number: u32, low: u32, high: u32) -> Range {
+/// A number, and what it has to be.
+pub fn range(name: &'static str, number: u32, low: u32, high: u32) -> Range {
     Range {
         name,
         number,

@@ -1,15 +1,17 @@
 //! The lines of a script that hand a device a message.
-ghost use Rattle.std.specs.Prelude.{◌≡◌, ◌≤◌, ◌∷◌, ◌++◌, [], IfOk, codes, length};
+ghost use Rattle.std.specs.Prelude.{◌≡◌, ◌≤◌, ◌++◌, IfOk, OnOk, length};
 ghost use Rattle.hex.specs.Hex.{encode_lower};
 ghost use Rattle.ufs_spec.specs.Cdbs.{direction_of};
 ghost use Rattle.ufs_spec.specs.Codes.{data_out_code};
 ghost use Rattle.ufs_spec.specs.Messages.{header, padding, spelling, transfer, zeros};
 ghost use Rattle.ufs_spec.specs.Messages.{AreFlags, IsMessage};
-ghost use Rattle.ufstool.specs.HostMessages.{bytes_wanted, command_spelled, expected_of, flags_of};
+ghost use Rattle.std.specs.Io.KnownBytes.{Appends};
+ghost use Rattle.ufstool.specs.HostMessages.{bytes_wanted, command_spelled, expected_of, flags_of, line_of};
 ghost use Rattle.ufs_spec.specs.declared.messages.Message.TheVariants.{Command as CommandMessage};
 ghost use Rattle.ufstool.specs.declared.host.HostMessage.TheVariants.{DataOut, NopOut};
 
 use crate::queries::{HostQuery, query_message};
+use crate::tasks::{TaskCall, task_message};
 use scsi_cdb::{bytes_of, length_of};
 use std::alloc::{AllocError, Global};
 use std::io;
@@ -47,6 +49,12 @@ pub enum HostMessage {
     Query {
         task: u8,
         query: HostQuery,
+    },
+    /// TASK MANAGEMENT REQUEST.
+    Tasks {
+        unit: u8,
+        task: u8,
+        call: TaskCall,
     },
 }
 
@@ -139,6 +147,7 @@ pub fn message_of(wanted: &HostMessage) -> Result<Message, LineFault>
             fill,
         } => data_out_of(unit, task, offset, count, fill),
         HostMessage::Query { task, query } => Ok(query_message(task, query)),
+        HostMessage::Tasks { unit, task, call } => Ok(task_message(unit, task, call)),
     }
 }
 
@@ -235,10 +244,20 @@ fn direction_of(command: &Cdb) -> u8
     }
 }
 
+/// Writes the line `host HEX` of a message.
+pub fn write_line<W: Write>(alloc: Global, message: &Message, out: &mut W) -> Result<(), LineFault>
+    requires { IsMessage message.now }
+    ensures { OnOk result
+        (Appends (W.contents out.old) (W.contents out.new) (line_of (spelling message.now))) }
+{
+    let line = host_line(alloc, message)?;
+    Ok(out.write_all(line.as_slice())?)
+}
+
 /// The line `host HEX` of a message: its one spelling, in hexadecimal digits.
 pub fn host_line(alloc: Global, message: &Message) -> Result<Vec<u8>, AllocError>
     requires { IsMessage message.now }
-    ensures { IfOk result (λ line. line.items ≡ codes "host " ++ encode_lower (spelling message.now) ++ 10 ∷ []) }
+    ensures { IfOk result (λ line. line.items ≡ line_of (spelling message.now)) }
 {
     let mut bytes = Upiu::new();
     upiu::write(message, &mut bytes);

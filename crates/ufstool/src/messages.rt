@@ -7,6 +7,7 @@ use crate::names::{
 use crate::query_words;
 use crate::query_words::QueryFields;
 use std::fmt;
+use ufs_spec::codes::{ABORT_TASK, QUERY_TASK};
 use ufs_spec::{Message, Sense};
 
 /// A message in words, on one line.
@@ -147,15 +148,30 @@ fn write_short_fields<W: fmt::Write>(f: &mut fmt::Formatter<W>, message: &Messag
             function,
             meant,
             ..
-        } => {
-            let name = task_function_name(*function);
-            write!(f, ": {name} ({function:02X}h) of task {meant:02X}h")
-        }
+        } => write_function(f, *function, *meant),
         Message::TaskResponse { service, .. } => {
             let name = service_name(*service);
             write!(f, ": {name} ({service:02X}h)")
         }
         _ => Ok(()),
+    }
+}
+
+// A task management function, and the task that is meant. A function of all tasks of a unit means none.
+fn write_function<W: fmt::Write>(
+    f: &mut fmt::Formatter<W>,
+    function: u8,
+    meant: u8,
+) -> fmt::Result {
+    let name = task_function_name(function);
+    write!(f, ": {name} ({function:02X}h)")?;
+    match function {
+        ABORT_TASK | QUERY_TASK => write!(f, " of task {meant:02X}h"),
+        _ if meant == 0 => Ok(()),
+        _ => write!(
+            f,
+            "; byte 19 has the tag {meant:02X}h, which says nothing here"
+        ),
     }
 }
 

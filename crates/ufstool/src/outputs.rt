@@ -1,5 +1,6 @@
 //! The lines that `ufsim run` prints, one for each line of a script after the first ones.
 use crate::lines::{Words, number};
+use crate::malformed::write_wrong_byte;
 use crate::messages::MessageWords;
 use crate::names::{host_fault_of, host_fault_words};
 use crate::script::{Request, decoded};
@@ -160,7 +161,8 @@ fn write_reply<W: fmt::Write>(f: &mut fmt::Formatter<W>, bytes: &[u8]) -> fmt::R
         }
         Err(fault) => {
             let words = host_fault_words(fault);
-            write!(f, "no message: {words}")
+            write!(f, "no message: {words}")?;
+            write_wrong_byte(f, bytes)
         }
     }
 }

@@ -2,7 +2,7 @@
 use crate::fields::{Layout, write_fields};
 use crate::frames::write_frames_of;
 use crate::luns::write_luns;
-use scsi_cdb::operations::{INQUIRY, REPORT_LUNS, TEST_UNIT_READY};
+use scsi_cdb::operations::{INQUIRY, REPORT_LUNS, TEST_UNIT_READY, UNMAP};
 use std::io;
 use std::io::Write;
 use ufs_spec::{Asked, Message};
@@ -34,7 +34,8 @@ impl Commands {
     }
 }
 
-/// Says what the data of a message are: frames, a descriptor, or what INQUIRY and REPORT LUNS tell.
+/// Says what the data of a message are: frames, a descriptor, UNMAP's list, or what INQUIRY and
+/// REPORT LUNS tell.
 /// Of other data nothing is said.
 pub fn write_parts<W: Write>(
     message: &Message,
@@ -45,6 +46,14 @@ pub fn write_parts<W: Write>(
     match message {
         Message::QueryRequest { asked, data, .. } | Message::QueryResponse { asked, data, .. } => {
             write_descriptor(out, asked, data.as_slice())
+        }
+        Message::DataOut {
+            tag,
+            offset: 0,
+            data,
+            ..
+        } if commands.operation(*tag) == UNMAP => {
+            write_fields(out, Layout::UnmapList(data.len()), data.as_slice())
         }
         Message::DataIn {
             tag,

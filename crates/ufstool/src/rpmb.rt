@@ -3,7 +3,7 @@ ghost use Rattle.std.specs.Prelude.{◌≡◌, ◌≤◌};
 ghost use Rattle.ufs_spec.specs.Messages.{IsMessage};
 
 use crate::frames::RPMB_UNIT;
-use crate::host::{LineFault, command_message, data_message, host_line};
+use crate::host::{LineFault, command_message, data_message, write_line};
 use crate::requests::frames_of;
 use scsi_cdb::bytes_of;
 use std::alloc::Global;
@@ -87,13 +87,6 @@ fn try_lines<W: Write>(
         out.write_all(b"reply\nreply\n")?;
     }
     Ok(out.flush()?)
-}
-
-fn write_line<W: Write>(alloc: Global, message: &Message, out: &mut W) -> Result<(), LineFault>
-    requires { IsMessage message.now }
-{
-    let line = host_line(alloc, message)?;
-    Ok(out.write_all(line.as_slice())?)
 }
 
 // The COMMAND that sends frames.

@@ -4,6 +4,7 @@ ghost use Rattle.std.specs.Prelude.{◌≡◌, ◌≤◌};
 use crate::cause::Cause;
 use crate::first_lines::{ConfigLine, UnitLine, UnitSum, missing_line};
 use crate::lines::{Line, Lines, first_word, line_text};
+use crate::malformed::write_wrong_byte;
 use crate::messages::MessageWords;
 use crate::names::host_fault_words;
 use crate::outputs::{Answer, read_answer};
@@ -181,6 +182,7 @@ impl Told<'_> {
         out: &mut W,
     ) -> Result<(), Cause<'static>> {
         let Some(answers) = &mut self.answers else {
+            self.note_sent(request);
             return Ok(());
         };
         let Some(line) = answers.next() else {
@@ -200,9 +202,16 @@ impl Told<'_> {
         }
     }
 
-    // Notes a message that the device has taken: data that come later are those of its command.
+    // Notes a message that the device has taken.
     fn note_taken(&mut self, request: &Request<'_>, answer: &Answer) {
-        if let (Request::Host(bytes), Answer::Taken) = (request, answer) {
+        if matches!(answer, Answer::Taken) {
+            self.note_sent(request);
+        }
+    }
+
+    // Notes a message of the host: data that come later are those of its command.
+    fn note_sent(&mut self, request: &Request<'_>) {
+        if let Request::Host(bytes) = request {
             if let Ok(message) = upiu::read_host(bytes.as_slice()) {
                 self.commands.hear(&message);
             }
@@ -290,7 +299,8 @@ fn write_message<W: fmt::Write>(f: &mut fmt::Formatter<W>, bytes: &[u8]) -> fmt:
         Err(fault) => {
             let count = bytes.len();
             let words = host_fault_words(fault);
-            write!(f, "{count} bytes that are no message of a host: {words}")
+            write!(f, "{count} bytes that are no message of a host: {words}")?;
+            write_wrong_byte(f, bytes)
         }
     }
 }

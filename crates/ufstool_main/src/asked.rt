@@ -1,8 +1,9 @@
 //! What the words of the program ask for.
 use crate::query_calls::read_query;
+use crate::unit_calls::{read_tasks, read_unmap};
 use clap::ArgMatches;
 use die_map::Form;
-use ufstool::{Cdb, HostMessage, RpmbRequest, spelled};
+use ufstool::{Cdb, HostMessage, HostUnmap, RpmbRequest, spelled};
 
 /// What the program is asked to do.
 #[derive(Clone, Copy)]
@@ -18,14 +19,25 @@ pub enum Call<'a> {
         file: &'a str,
         key: Option<KeySource<'a>>,
     },
+    /// Say in words what an image of dies is.
+    ExplainImage {
+        file: &'a str,
+    },
     /// Draw what a script leaves on the dies, up to the line with the number `last`.
     Draw {
         script: &'a str,
         last: usize,
         form: Form,
     },
+    /// Draw the dies of an image.
+    DrawImage {
+        file: &'a str,
+        form: Form,
+    },
     /// Write the line of a script that hands a device this message.
     Host(HostMessage),
+    /// Write the lines of a script that bring this UNMAP to a device.
+    Unmap(HostUnmap),
     /// Write the lines of a script that bring this request to the unit RPMB.
     Rpmb {
         task: u8,
@@ -85,12 +97,7 @@ pub fn read_call<'a>(matches: &ArgMatches<'a>) -> Result<Call<'a>, WordFault> {
         return read_explain(explain);
     }
     if let Some(draw) = matches.subcommand_matches("draw") {
-        let is_svg = draw.get_flag("svg");
-        return Ok(Call::Draw {
-            script: draw.get_str("SCRIPT").ok_or(MISSING)?,
-            last: draw.get_one("line").unwrap_or(usize::MAX),
-            form: if is_svg { Form::Svg } else { Form::Text },
-        });
+        return read_draw(draw);
     }
     let host = matches.subcommand_matches("host").ok_or(MISSING)?;
     let (name, matches) = host.subcommand().ok_or(MISSING)?;
@@ -100,11 +107,31 @@ pub fn read_call<'a>(matches: &ArgMatches<'a>) -> Result<Call<'a>, WordFault> {
             call: read_rpmb(name, matches)?,
         });
     }
-    Ok(Call::Host(read_host(name, matches)?))
+    match name {
+        "unmap" => Ok(Call::Unmap(read_unmap(matches))),
+        _ => Ok(Call::Host(read_host(name, matches)?)),
+    }
+}
+
+fn read_draw<'a>(matches: &ArgMatches<'a>) -> Result<Call<'a>, WordFault> {
+    let file = matches.get_str("SCRIPT").ok_or(MISSING)?;
+    let is_svg = matches.get_flag("svg");
+    let form = if is_svg { Form::Svg } else { Form::Text };
+    if matches.get_flag("image") {
+        return Ok(Call::DrawImage { file, form });
+    }
+    Ok(Call::Draw {
+        script: file,
+        last: matches.get_one("line").unwrap_or(usize::MAX),
+        form,
+    })
 }
 
 fn read_explain<'a>(matches: &ArgMatches<'a>) -> Result<Call<'a>, WordFault> {
     let script = matches.get_str("SCRIPT").ok_or(MISSING)?;
+    if matches.get_flag("image") {
+        return Ok(Call::ExplainImage { file: script });
+    }
     let key = read_key(matches)?;
     if matches.get_flag("frames") {
         return Ok(Call::ExplainFrames { file: script, key });
@@ -174,6 +201,10 @@ fn read_host(name: &str, matches: &ArgMatches<'_>) -> Result<HostMessage, WordFa
     let task = byte_in(matches, "task");
     if let Some(query) = read_query(name, matches)? {
         return Ok(HostMessage::Query { task, query });
+    }
+    if let Some(call) = read_tasks(name, matches) {
+        let unit = byte_in(matches, "unit");
+        return Ok(HostMessage::Tasks { unit, task, call });
     }
     match name {
         "nop" => Ok(HostMessage::NopOut { task }),

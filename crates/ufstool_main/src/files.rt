@@ -1,6 +1,7 @@
 //! The files that the words of the program name.
 use crate::asked::KeySource;
 use std::fs;
+use std::fs::File;
 use std::io::ErrorKind as FileError;
 use std::process::ExitCode;
 
@@ -8,6 +9,14 @@ use std::process::ExitCode;
 pub fn file_bytes(rt: &HostRuntime, name: &str) -> Result<Vec<u8>, ExitCode> {
     match fs::read(rt, name) {
         Ok(bytes) => Ok(bytes),
+        Err(error) => Err(unread(rt, name, why_unread(error.kind()))),
+    }
+}
+
+/// A file that is read in pieces; the status, where it could not be opened and why was told.
+pub fn open_file(rt: &HostRuntime, name: &str) -> Result<File, ExitCode> {
+    match fs::open(rt, name) {
+        Ok(file) => Ok(file),
         Err(error) => Err(unread(rt, name, why_unread(error.kind()))),
     }
 }

@@ -1,5 +1,5 @@
 //! The program `ufstool`: says in words what scripts of `ufsim` and their outputs tell, writes lines of
-//! scripts, and draws the dies that a script leaves.
+//! scripts, and draws dies.
 #![tactic(auto)]
 
 mod asked;
@@ -9,18 +9,20 @@ mod query_calls;
 mod query_words;
 mod rpmb_calls;
 mod rpmb_words;
+mod unit_calls;
+mod unit_words;
 
 use crate::asked::{Call, KeySource, read_call};
-use crate::files::{file_bytes, key_bytes};
+use crate::files::{file_bytes, key_bytes, open_file};
 use crate::program::program;
 use crate::rpmb_calls::run_rpmb;
 use clap::ArgMatches;
 use clap::error::ErrorKind;
-use die_map::{Form, draw};
+use die_map::{Form, draw, draw_image};
 use std::process::ExitCode;
 use std::rt::{Env, Files};
 use std::{env, io};
-use ufstool::{explain, explain_frames, write_host_line};
+use ufstool::{explain, explain_frames, explain_image, write_host_line, write_unmap_lines};
 
 fn main(rt: HostRuntime) -> ExitCode {
     match words(&rt) {
@@ -76,10 +78,17 @@ fn run_call(rt: &HostRuntime, call: &Call<'_>) -> Result<ExitCode, ExitCode> {
             key,
         } => run_explain(rt, script, output, key),
         Call::ExplainFrames { file, key } => run_explain_frames(rt, file, key),
+        Call::ExplainImage { file } => run_explain_image(rt, file),
         Call::Draw { script, last, form } => run_draw(rt, script, last, form),
+        Call::DrawImage { file, form } => run_draw_image(rt, file, form),
         Call::Host(message) => {
             let mut out = io::writer(rt);
             let status = write_host_line(rt.alloc(), &message, &mut out, &mut rt.stderr());
+            Ok(ExitCode::from(status))
+        }
+        Call::Unmap(wanted) => {
+            let mut out = io::writer(rt);
+            let status = write_unmap_lines(rt.alloc(), &wanted, &mut out, &mut rt.stderr());
             Ok(ExitCode::from(status))
         }
         Call::Rpmb { task, call } => run_rpmb(rt, task, &call),
@@ -98,6 +107,20 @@ fn run_draw(rt: &HostRuntime, script: &str, last: usize, form: Form) -> Result<E
         &mut out,
         &mut faults,
     );
+    Ok(ExitCode::from(status))
+}
+
+fn run_draw_image(rt: &HostRuntime, name: &str, form: Form) -> Result<ExitCode, ExitCode> {
+    let mut file = open_file(rt, name)?;
+    let (mut out, mut faults) = (io::writer(rt), rt.stderr());
+    let status = draw_image(rt.alloc(), &mut file, form, &mut out, &mut faults);
+    Ok(ExitCode::from(status))
+}
+
+fn run_explain_image(rt: &HostRuntime, name: &str) -> Result<ExitCode, ExitCode> {
+    let mut file = open_file(rt, name)?;
+    let (mut out, mut faults) = (io::writer(rt), rt.stderr());
+    let status = explain_image(&mut file, &mut out, &mut faults);
     Ok(ExitCode::from(status))
 }
 

@@ -1,6 +1,7 @@
 //! The words of the program.
 use crate::query_words::{with_inquiries, with_queries};
 use crate::rpmb_words::{with_key, with_rpmb};
+use crate::unit_words::{with_tasks, with_unmap};
 use clap::{Arg, ArgAction, Command, value_parser};
 use std::alloc::{AllocError, Global};
 
@@ -47,15 +48,25 @@ fn explain_command<'a>(alloc: Global) -> Made<'a> {
     let help =
         "The script has frames in hexadecimal digits, one or more in a line, in place of events";
     let explain = with_arg(explain, flag(alloc, "frames", help));
-    with_key(alloc, explain, false)
+    let image = image(alloc)
+        .conflicts_with("OUTPUT")?
+        .conflicts_with("frames")?;
+    let image = image.conflicts_with("key")?.conflicts_with("key-file")?;
+    with_key(alloc, with_arg(explain, image), false)
 }
 
 fn draw_command<'a>(alloc: Global) -> Made<'a> {
     let draw = Command::new(alloc, "draw").about(
-        "Runs a script and draws the dies with their blocks and pages",
+        "Draws the dies that a script leaves, with their blocks and pages",
     );
     let draw = with_arg(draw.arg(script(alloc)), line(alloc));
+    let draw = with_arg(draw, image(alloc).conflicts_with("line")?);
     with_arg(draw, flag(alloc, "svg", "Draws SVG in place of text"))
+}
+
+fn image<'a>(alloc: Global) -> Arg<'a> {
+    let help = "The file is an image of dies, as 'ufsim image save' writes it, and no script";
+    flag(alloc, "image", help)
 }
 
 fn line<'a>(alloc: Global) -> Arg<'a> {
@@ -74,8 +85,10 @@ fn host_command<'a>(alloc: Global) -> Made<'a> {
         .subcommand_required(true)
         .arg_required_else_help(true);
     let host = with_transfers(alloc, Ok(host));
+    let host = with_unmap(alloc, host);
     let host = with_flush(alloc, host);
     let host = with_others(alloc, host);
+    let host = with_tasks(alloc, host);
     let host = with_queries(alloc, host);
     with_rpmb(alloc, host)
 }
@@ -195,7 +208,8 @@ pub fn fill<'a>(alloc: Global) -> Arg<'a> {
     option(alloc, "fill", "BYTE", help).default_value("00")
 }
 
-fn unit<'a>(alloc: Global) -> Arg<'a> {
+/// The LUN of the unit.
+pub fn unit<'a>(alloc: Global) -> Arg<'a> {
     option(alloc, "unit", "LUN", "The LUN of the unit, 0 to 255")
         .value_parser(value_parser!(u8))
         .default_value("0")

@@ -31,14 +31,21 @@ pub fn row_config() -> Result<Config, ConfigFault>
     Config::new(4, 16, 64, &units, 1, 64, 4)
 }
 
-/// Two dies of 20 blocks of 16 pages, and a unit of 64 blocks.
+/// Two dies of 20 blocks of 16 pages, a unit of 64 blocks, and no spare block.
 pub fn small_config() -> Result<Config, ConfigFault>
     ensures { IfOk result (λ c. (c.dies ≡ 2) × (c.blocks ≡ 20) × (c.pages ≡ 16)) }
+{
+    spared_config(2, 0)
+}
+
+/// So many dies of 20 blocks of 16 pages, of which so many are spare, and a unit of 64 blocks.
+pub fn spared_config(dies: u8, spare: u16) -> Result<Config, ConfigFault>
+    ensures { IfOk result (λ c. (c.dies ≡ dies) × (c.blocks ≡ 20) × (c.pages ≡ 16)) }
 {
     let units = [UnitSpec {
         blocks: 64,
         boot: 0,
         protect: 0,
     }];
-    Config::new(2, 20, 16, &units, 1, 64, 0)
+    Config::new(dies, 20, 16, &units, 1, 64, spare)
 }

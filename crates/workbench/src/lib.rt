@@ -14,7 +14,7 @@ mod config;
 pub mod frames;
 pub mod messages;
 
-pub use config::{row_config, small_config};
+pub use config::{row_config, small_config, spared_config};
 use device::Device;
 use geometry::Config;
 use nand_model::{MemDie, work};

@@ -1,11 +1,13 @@
 //! The messages of a host to unit 0, and the device's answers, as the standards lay them out.
 
-/// The operation codes of READ(10), WRITE(10) and SYNCHRONIZE CACHE(10), and the bit that asks for FUA.
+/// The operation codes of READ(10), WRITE(10), SYNCHRONIZE CACHE(10) and UNMAP, and the bit that asks for FUA.
 pub const READ: u8 = 0x28;
 
 pub const WRITE: u8 = 0x2A;
 
 pub const SYNCHRONIZE: u8 = 0x35;
+
+pub const UNMAP: u8 = 0x42;
 
 pub const FUA: u8 = 0x08;
 
@@ -49,6 +51,32 @@ pub fn block_out(tag: u8, offset: u32, byte: u8) -> [u8; 4128] {
     let mut message = [byte; 4128];
     message[..32].copy_from_slice(&data_out(tag, offset));
     message
+}
+
+/// The COMMAND of an UNMAP whose list has one descriptor.
+pub fn unmap(tag: u8) -> [u8; 32] {
+    let mut bytes = [0u8; 32];
+    bytes[0] = 0x01;
+    bytes[1] = 0x20;
+    bytes[3] = tag;
+    bytes[15] = 24;
+    bytes[16] = UNMAP;
+    bytes[24] = 24;
+    bytes
+}
+
+/// The DATA OUT of that list: its header, and the descriptor of so many blocks from this address on.
+pub fn unmap_list(tag: u8, address: u32, blocks: u16) -> [u8; 56] {
+    let mut bytes = [0u8; 56];
+    bytes[0] = 0x02;
+    bytes[3] = tag;
+    bytes[11] = 24;
+    bytes[19] = 24;
+    bytes[33] = 22;
+    bytes[35] = 16;
+    bytes[44..48].copy_from_slice(&address.to_be_bytes());
+    bytes[50..52].copy_from_slice(&blocks.to_be_bytes());
+    bytes
 }
 
 /// The READY TO TRANSFER that asks for one block.

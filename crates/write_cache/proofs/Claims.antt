@@ -6,34 +6,34 @@ use Rattle.std.proofs.lemmas.List.{append-nil, map-append, take_more}
 use Rattle.std.proofs.lemmas.List.Elements.{filter-append}
 use Rattle.write_cache.specs.declared.slots.Claimed.{Claimed}
 use Rattle.write_cache.specs.declared.slots.Pending.{Pending}
-use Rattle.write_cache.specs.Slots.{claims_of, empty_claim, is_claim_of, turned, without_claims}
+use Rattle.std.specs.Prelude.{◌&&◌, nat_le}
+use Rattle.std.proofs.lemmas.Bool.Decides.{nat_tests}
+use Rattle.write_cache.specs.Slots.{claims_but, claims_of, empty_claim, is_claim_of, turned_but}
+use Rattle.write_cache.specs.Slots.{without_claims, without_claims_behind}
 
--- those of others, with this one behind them
-one_more : (reader : ℕ) (claim : Claimed) (behind front : List Claimed) →
-    turned reader (claim ∷ behind ++ without_claims front reader)
-    ≡ behind ++ without_claims (front ++ claim ∷ []) reader
-one_more reader claim behind front =
-    by (is_claim_of reader claim) refl
-    ∙ ap (λ (xs : List Claimed). behind ++ xs)
-    (sym (filter-append (λ x. not (is_claim_of reader x)) front (claim ∷ [])))
+-- those that stay, with this one behind them
+one_more : (goes : Claimed → Bool) (claim : Claimed) (behind front : List Claimed) →
+    turned_but goes (claim ∷ behind ++ claims_but goes front) ≡ behind ++ claims_but goes (front ++ claim ∷ [])
+one_more goes claim behind front =
+    by (goes claim) refl
+    ∙ ap (λ (xs : List Claimed). behind ++ xs) (sym (filter-append (λ x. not (goes x)) front (claim ∷ [])))
   where
-    by : (b : Bool) → is_claim_of reader claim ≡ b →
-        cond b (behind ++ without_claims front reader) ((behind ++ without_claims front reader) ++ claim ∷ [])
-        ≡ behind ++ (without_claims front reader ++ cond (not b) (claim ∷ []) [])
-    by true e = ap (λ (xs : List Claimed). behind ++ xs) (sym (append-nil (without_claims front reader)))
-    by false e = append_assoc behind (without_claims front reader) (claim ∷ [])
+    by : (b : Bool) → goes claim ≡ b →
+        cond b (behind ++ claims_but goes front) ((behind ++ claims_but goes front) ++ claim ∷ [])
+        ≡ behind ++ (claims_but goes front ++ cond (not b) (claim ∷ []) [])
+    by true e = ap (λ (xs : List Claimed). behind ++ xs) (sym (append-nil (claims_but goes front)))
+    by false e = append_assoc behind (claims_but goes front) (claim ∷ [])
 
 -- one claim further
-pub turned_more : (reader i : ℕ) (claims turning : List Claimed) → i < length claims →
-    turning ≡ drop i claims ++ without_claims (take i claims) reader →
-    turned reader turning ≡ drop (i + 1) claims ++ without_claims (take (i + 1) claims) reader
-turned_more reader i claims turning less is =
-    ap (turned reader) is
-    ∙ ap (λ (xs : List Claimed). turned reader (xs ++ without_claims (take i claims) reader))
-    (drop-cons claims i d less)
-    ∙ one_more reader (get_or claims i d) (drop (suc i) claims) (take i claims)
-    ∙ ap (λ (n : ℕ). drop n claims ++ without_claims (take i claims ++ get_or claims i d ∷ []) reader) (one i)
-    ∙ ap (λ (xs : List Claimed). drop (i + 1) claims ++ without_claims xs reader) (sym (take_more claims i d less))
+pub turned_more : (goes : Claimed → Bool) (i : ℕ) (claims turning : List Claimed) → i < length claims →
+    turning ≡ drop i claims ++ claims_but goes (take i claims) →
+    turned_but goes turning ≡ drop (i + 1) claims ++ claims_but goes (take (i + 1) claims)
+turned_more goes i claims turning less is =
+    ap (turned_but goes) is
+    ∙ ap (λ (xs : List Claimed). turned_but goes (xs ++ claims_but goes (take i claims))) (drop-cons claims i d less)
+    ∙ one_more goes (get_or claims i d) (drop (suc i) claims) (take i claims)
+    ∙ ap (λ (n : ℕ). drop n claims ++ claims_but goes (take i claims ++ get_or claims i d ∷ [])) (one i)
+    ∙ ap (λ (xs : List Claimed). drop (i + 1) claims ++ claims_but goes xs) (sym (take_more claims i d less))
   where
     d : Claimed
     d = empty_claim 0 0
@@ -64,3 +64,15 @@ moved_more reader i f claims turning pages less is =
     (first_next reader i claims turning less is)
     ∙ sym (filter-append (is_claim_of reader) (take i claims) (get_or claims i (empty_claim 0 0) ∷ []))
     ∙ ap (λ (xs : List Claimed). claims_of xs reader) (sym (take_more claims i (empty_claim 0 0) less))))
+
+-- behind the first none are all that the reader claimed
+pub all_behind : (claims : List Claimed) (reader : ℕ) →
+    without_claims_behind claims reader 0 ≡ without_claims claims reader
+all_behind claims reader = λ i. claims_but (λ claim. by (is_claim_of reader claim) claim.index i) claims
+  where
+    any : (n : ℕ) → nat_le 0 n ≡ true
+    any n = grind (arith, nat_tests)
+
+    by : (b : Bool) (n : ℕ) → (b && nat_le 0 n) ≡ b
+    by true n = any n
+    by false n = refl

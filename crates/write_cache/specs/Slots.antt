@@ -1,5 +1,5 @@
 -- What a slot holds, and what the calls of the write cache make of it.
-use Rattle.std.specs.Prelude.{ℕ, ◌+◌, ◌-◌, ◌==◌, min, nat_lt, Bool, false, ◌&&◌, ◌||◌, not}
+use Rattle.std.specs.Prelude.{ℕ, ◌+◌, ◌-◌, ◌==◌, min, nat_le, nat_lt, Bool, false, ◌&&◌, ◌||◌, not}
 use Rattle.std.specs.Prelude.{if◌then◌else◌, List, [], ◌∷◌, ◌++◌, filter}
 use Rattle.std.specs.Prelude.{is_none, length, map, position, reverse, slice_get, slice_set, Option, Some, None}
 use Rattle.std.specs.Prelude.{option_and_then, option_map}
@@ -118,14 +118,30 @@ empty_claim reader i = record { reader = reader; index = i; body = zero_block }
 abbrev pub claimed_all : WriteCache → ℕ → ℕ → WriteCache
 claimed_all c reader n = record c { claims = c.claims ++ map (empty_claim reader) (below n) }
 
+-- the claims but those that go
+abbrev pub claims_but : (Claimed → Bool) → List Claimed → List Claimed
+claims_but goes claims = filter (λ claim. not (goes claim)) claims
+
 -- the reader has claimed nothing any more
 abbrev pub without_claims : List Claimed → ℕ → List Claimed
-without_claims claims reader = filter (λ claim. not (is_claim_of reader claim)) claims
+without_claims claims reader = claims_but (is_claim_of reader) claims
+
+-- the reader has claimed this slot, for a block behind its first so many
+abbrev pub is_claim_behind : ℕ → ℕ → Claimed → Bool
+is_claim_behind reader count claim = is_claim_of reader claim && nat_le count claim.index
+
+-- the reader has claimed no slot any more but for its first so many blocks
+abbrev pub without_claims_behind : List Claimed → ℕ → ℕ → List Claimed
+without_claims_behind claims reader count = claims_but (is_claim_behind reader count) claims
+
+-- the first claim is gone, if it goes; else it is the last
+abbrev pub turned_but : (Claimed → Bool) → List Claimed → List Claimed
+turned_but goes [] = []
+turned_but goes (claim ∷ claims) = if goes claim then claims else claims ++ claim ∷ []
 
 -- the first claim is gone, if the reader has claimed it; else it is the last
 abbrev pub turned : ℕ → List Claimed → List Claimed
-turned reader [] = []
-turned reader (claim ∷ claims) = if is_claim_of reader claim then claims else claims ++ claim ∷ []
+turned reader claims = turned_but (is_claim_of reader) claims
 
 -- what came for this block of the reader lies in its slot
 abbrev pub claim_filled : ℕ → ℕ → List ℕ → Claimed → Claimed

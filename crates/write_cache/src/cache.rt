@@ -11,7 +11,7 @@ ghost use Rattle.write_cache.specs.Slots.{appended, claim_filled, claimed_all, c
 ghost use Rattle.write_cache.specs.Slots.{free_slots, front_written, goes_on, has_number, empty_claim};
 ghost use Rattle.write_cache.specs.Slots.{is_claim_of, is_named, is_of_group, is_page_of, is_there};
 ghost use Rattle.write_cache.specs.Slots.{landed, last_page, page_claimed, page_written, risen, turned};
-ghost use Rattle.write_cache.specs.Slots.{without_claims};
+ghost use Rattle.write_cache.specs.Slots.{without_claims, without_claims_behind};
 
 mod claims;
 mod groups;
@@ -180,10 +180,21 @@ impl Cache {
     }
 
     /// Gives back all slots that the reader has claimed.
+    #[tactic(auto, using(crate::proofs::Claims::all_behind))]
     pub fn release(&mut self, reader: u8)
         ensures { self.new ≡ record self.old { claims = without_claims self.old.claims reader } }
     {
-        free_claims(&mut self.claims, &mut self.free, reader);
+        free_claims(&mut self.claims, &mut self.free, reader, 0);
+    }
+
+    /// Gives back the slots that the reader has claimed from this index on, and keeps those of its
+    /// first `count` blocks.
+    pub fn release_behind(&mut self, reader: u8, count: u16)
+        ensures { self.new ≡ record self.old {
+          claims = without_claims_behind self.old.claims reader count;
+        } }
+    {
+        free_claims(&mut self.claims, &mut self.free, reader, count);
     }
 
     /// Puts the 4096 bytes of a block that came into the slot that was claimed for it: that of this index of

@@ -1,7 +1,7 @@
 //! What lies in a slot.
 ghost use Rattle.std.specs.Prelude.{length, ◌≡◌};
 ghost use Rattle.ufs_spec.specs.Plain.{zero_block};
-ghost use Rattle.write_cache.specs.Slots.{claim_filled, empty_claim, ends_run, is_claim_of, is_named};
+ghost use Rattle.write_cache.specs.Slots.{claim_filled, empty_claim, ends_run, is_claim_behind, is_claim_of, is_named};
 ghost use Rattle.write_cache.specs.Slots.{is_of_group, is_page_of, is_there, key_at, page_claimed};
 
 use crate::rests::Rest;
@@ -114,6 +114,13 @@ impl Claimed {
         ensures { result ≡ is_claim_of reader self.now }
     {
         self.reader == reader
+    }
+
+    /// Whether the slot is claimed by the reader, for a block behind its first so many.
+    pub(crate) fn is_behind(&self, reader: u8, count: u16) -> bool
+        ensures { result ≡ is_claim_behind reader count self.now }
+    {
+        self.is_of(reader) && self.index >= count
     }
 
     /// The page of a group for which the slot was claimed, from an address on. Its body stays where it is.

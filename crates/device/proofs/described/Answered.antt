@@ -1,10 +1,10 @@
 -- A call is answered rightly if its answer is right and what the device keeps is kept of the state behind the call:
 -- what became due fills its register there and the lock is told, and nothing else is to be shown of a call.
-use Rattle.std.proofs.Common.{◌≡◌, ◌∙◌, true, All, sym}
+use Rattle.std.proofs.Common.{◌≡◌, ◌∙◌, sym}
 use Rattle.std.proofs.Common.{ap, subst}
-use Rattle.ufs_spec.specs.Machine.{Allowed, Answer, Call, Done, Host, Reply, Take, Turn, behind, durable, fills}
+use Rattle.ufs_spec.specs.Machine.{Allowed, Answer, Call, Done, Host, Reply, Take, Turn, behind, fills}
 use Rattle.ufs_spec.specs.Machine.{lock_applied, observe}
-use Rattle.ufs_spec.specs.Refusals.{State, locked}
+use Rattle.ufs_spec.specs.Refusals.{State}
 use Rattle.ufs_spec.specs.Translation.{Translation}
 use Rattle.power_loss.specs.AreaReads.{AreaReads}
 use Rattle.power_loss.specs.Exchange.{IsTied, MayCome}
@@ -16,7 +16,8 @@ use Rattle.power_loss.proofs.spoken_replies.FramesStay.{behind_frames, call_wait
 use Rattle.ufs_laws.specs.Exchange.{IsSpoken}
 use Rattle.power_loss.proofs.shown_blocks.LivesShowBlocks.{behind_shows, call_shows}
 use Rattle.device.specs.Calls.{lock_told}
-use Rattle.device.specs.Describes.{Describes, HaveAnswered, IsAnswered, IsShortTold, IsTold, Keeps}
+use Rattle.device.specs.Describes.{Describes, HaveAnswered, IsAnswered, Keeps}
+pub use Rattle.device.specs.Describes.{IsBehind}
 use Rattle.device.specs.Frames.{HasFilled}
 use Rattle.device.proofs.described.Filled.{keeps_filled}
 use Rattle.device.proofs.described.Settled.{fills_nothing}
@@ -72,13 +73,6 @@ answered_locked d e new s call answer h may right k none told =
           (subst FramesWait is (call_waits call answer h.tied (spoken s call may) right h.waits))
           (subst AreaReads is (call_reads call answer h.tied h.reads)) k none));
     }
-
--- what is kept of the state behind a call, if nothing became due there and the lock has nothing to tell
-pub record IsBehind (e : DeviceCore) (v : State) : Type 0 where
-  pub keeps : Keeps e v
-  pub answered : HaveAnswered v
-  pub told : locked v ≡ true → All (IsTold (durable v)) v.tasks
-  pub shorts_told : locked v ≡ true → All (IsShortTold (durable v)) v.shorts
 
 -- such a call
 pub answered : (d e : DeviceCore) (s : State) (call : Call) (answer : Answer) → Describes d s → MayCome s call →

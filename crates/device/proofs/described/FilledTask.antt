@@ -69,10 +69,14 @@ filled_tag v x = by (is_to_fill v x)
     by true = refl
     by false = refl
 
-filled_claims : (v : State) (x : exchange.Task) → claimed_in (task_filled v x).deed ≡ claimed_in x.deed
+filled_claims : (v : State) (x : exchange.Task) →
+    claimed_in (task_filled v x).length (task_filled v x).deed ≡ claimed_in x.length x.deed
 filled_claims v x = by (is_to_fill v x)
   where
-    by : (b : Bool) → claimed_in (cond b (record x { request = filled x.request }) x).deed ≡ claimed_in x.deed
+    by : (b : Bool) →
+        claimed_in (cond b (record x { request = filled x.request }) x).length
+        (cond b (record x { request = filled x.request }) x).deed
+        ≡ claimed_in x.length x.deed
     by true = refl
     by false = refl
 
@@ -98,7 +102,9 @@ phase_stays (phase.Answer told n) = refl
 phase_stays (phase.AskData x) = refl
 phase_stays (phase.AwaitData x) = refl
 phase_stays (phase.AskFrames x) = refl
+phase_stays (phase.AskList unit x) = refl
 phase_stays (phase.AwaitFrames x) = refl
+phase_stays (phase.AwaitList unit x) = refl
 phase_stays (phase.ReadArea r) = refl
 phase_stays (phase.SendBlocks x) = refl
 phase_stays (phase.SendData x) = refl
@@ -112,7 +118,9 @@ frames_fit t tag (phase.ReadArea r) code held deed due h = (tt, h.1)
 frames_fit t tag (phase.AskData x) code held deed due h = absurd (false≢true due)
 frames_fit t tag (phase.AwaitData x) code held deed due h = absurd (false≢true due)
 frames_fit t tag (phase.AskFrames x) code held deed due h = absurd (false≢true due)
+frames_fit t tag (phase.AskList unit x) code held deed due h = absurd (false≢true due)
 frames_fit t tag (phase.AwaitFrames x) code held deed due h = absurd (false≢true due)
+frames_fit t tag (phase.AwaitList unit x) code held deed due h = absurd (false≢true due)
 frames_fit t tag (phase.SendBlocks x) code held deed due h = absurd (false≢true due)
 frames_fit t tag (phase.SendData x) code held deed due h = absurd (false≢true due)
 frames_fit t tag (phase.SendHeld x) code held deed due h = absurd (false≢true due)
@@ -172,6 +180,7 @@ module _ (e : DeviceCore) (v : State) (k : Keeps e v) (n : ℕ) (a : OpenTask) (
       tag = o.kept.tag;
       expected = o.kept.expected;
       sends = o.kept.sends ∙ (ap brings_frames decided ∙ sym (ap brings_frames (ap task_frames decided)));
+      sends_here = o.kept.sends_here ∙ (ap brings_frames decided ∙ sym (ap brings_frames (ap task_frames decided)));
       request = subst (λ (f : Frames). AreFramesKept f a.held (filled b.request)) (sym (ap task_frames decided))
           (filled_done b.request);
       asks = subst (λ (f : Frames). ReadsAsked (phase_after a.phase event.RegisterFilled) f a.held)

@@ -116,7 +116,7 @@ lock_same : (s : State) → SameDeed (task_locked s)
 lock_same s = record {
   tags = λ x. refl;
   wanted = λ index x. same_told (wanted_in index x.request) (λ commands n status. refl) s x x.deed;
-  claimed = λ x. same_told claimed_in (λ commands n status. refl) s x x.deed;
+  claimed = λ x. same_told (claimed_in x.length) (λ commands n status. refl) s x x.deed;
 }
 
 -- the block of a number is durable for both sides, or for none
@@ -170,7 +170,11 @@ deed_kept s n all claimed mended frontier expected task (phase.AwaitData x) (Gat
     same low fits h = h
 deed_kept s n all claimed mended frontier expected task (phase.AskFrames size) (Gathering purpose gathered asked)
     same low fits h = h
+deed_kept s n all claimed mended frontier expected task (phase.AskList unit size) (Gathering purpose gathered asked)
+    same low fits h = h
 deed_kept s n all claimed mended frontier expected task (phase.AwaitFrames size) (Gathering purpose gathered asked)
+    same low fits h = h
+deed_kept s n all claimed mended frontier expected task (phase.AwaitList unit size) (Gathering purpose gathered asked)
     same low fits h = h
 deed_kept s n all claimed mended frontier expected task (phase.SendHeld size) (SendingBytes bytes) same low fits h = h
 deed_kept s n all claimed mended frontier expected task (phase.SendBlocks x) (Sending blocks sent) same low fits h = h
@@ -205,7 +209,9 @@ frames_fit s task frontier (phase.SendHeld size) f held deed h = (
 frames_fit s task frontier (phase.AskData x) f held deed h = h
 frames_fit s task frontier (phase.AwaitData x) f held deed h = h
 frames_fit s task frontier (phase.AskFrames size) f held deed h = h
+frames_fit s task frontier (phase.AskList unit size) f held deed h = h
 frames_fit s task frontier (phase.AwaitFrames size) f held deed h = h
+frames_fit s task frontier (phase.AwaitList unit size) f held deed h = h
 frames_fit s task frontier (phase.ReadArea r) f held deed h = (h.0, parts_stand deed h.1)
   where
     parts_stand : (d : Deed) → PartsStand r held d → PartsStand r held (deed_locked s task d)
@@ -243,7 +249,9 @@ asks_stay frontier p (frames.Decided code) (Some bytes) h = reads_stay p h
     reads_stay (phase.AskData x) k = k
     reads_stay (phase.AwaitData x) k = k
     reads_stay (phase.AskFrames size) k = k
+    reads_stay (phase.AskList unit size) k = k
     reads_stay (phase.AwaitFrames size) k = k
+    reads_stay (phase.AwaitList unit size) k = k
     reads_stay (phase.ReadArea r) k = k
     reads_stay (phase.SendBlocks x) k = k
     reads_stay (phase.SendData x) k = k
@@ -261,6 +269,7 @@ task_kept s n accepted claimed mended frontier a b same low fits h = record {
   tag = h.tag;
   expected = h.expected;
   sends = h.sends;
+  sends_here = h.sends_here;
   request = h.request;
   asks = asks_stay frontier a.phase a.frames a.held h.asks;
   fits = frames_fit s b frontier a.phase a.frames a.held b.deed h.fits;

@@ -44,7 +44,11 @@ doing_else n accepted claimed total before other expected (phase.AwaitData x) (G
     fits h = h
 doing_else n accepted claimed total before other expected (phase.AskFrames size) (Gathering purpose gathered asked)
     fits h = h
+doing_else n accepted claimed total before other expected (phase.AskList unit size) (Gathering purpose gathered asked)
+    fits h = h
 doing_else n accepted claimed total before other expected (phase.AwaitFrames size) (Gathering purpose gathered asked)
+    fits h = h
+doing_else n accepted claimed total before other expected (phase.AwaitList unit size) (Gathering purpose gathered asked)
     fits h = h
 doing_else n accepted claimed total before other expected (phase.SendHeld size) (SendingBytes bytes) fits h = h
 doing_else n accepted claimed total before other expected (phase.SendBlocks x) (Sending blocks sent) fits h = h
@@ -63,6 +67,7 @@ kept_else n accepted before other (x ∷ ts) (y ∷ us) fits h = (
     tag = h.0.tag;
     expected = h.0.expected;
     sends = h.0.sends;
+    sends_here = h.0.sends_here;
     request = h.0.request;
     asks = h.0.asks;
     fits = h.0.fits;

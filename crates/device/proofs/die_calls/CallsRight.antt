@@ -18,7 +18,6 @@ use Rattle.ufs_spec.specs.Plain.{after as after_all}
 use Rattle.ufs_spec.specs.Refusals.{State, locked, numbers_of}
 use Rattle.ufs_spec.specs.Sound.{Sound}
 use Rattle.ufs_spec.specs.Pages.{greatest_number}
-use Rattle.ufs_spec.specs.Stages.{most_bad}
 use Rattle.ufs_spec.specs.Translation.{MayTake, Pin, Translation, is_step_due, spots}
 use Rattle.ufs_spec.specs.declared.configs.Numbers.{Numbers}
 use Rattle.ufs_spec.specs.declared.flash.Job.{Job}
@@ -73,7 +72,7 @@ gives_locked s die (Programming p cell) may =
     let good = (named_next t p (program_owed t die p cell may).place.next).0 in
     ap
     (λ (is : Spot → Bool).
-    nat_lt (most_bad t.numbers) (count_by is (spots t.numbers)) || nat_lt greatest_number (next_number t.ledger))
+    nat_lt t.numbers.spare (count_by is (spots t.numbers)) || nat_lt greatest_number (next_number t.ledger))
     (λ i spot. begun_bad t.disk.blocks p good spot i)
 
 gives_told : (s : State) (die : ℕ) (flight : Option Flight) → MayTake s.translation die flight →

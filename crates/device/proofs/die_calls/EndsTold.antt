@@ -169,7 +169,8 @@ module _ (d : DeviceCore) (s : State) (die tag index : ℕ) (place : Place) (aft
       claims_changed s.tasks (task_read tag index state) tag reading.task (reads_one tag index state) reading.found
       ∙ (ap (λ task. with_claimed (claims_of s.tasks) tag (claimed_by (Some task)))
       (task_ended tag index s.tasks reading state)
-      ∙ claimed_same (claims_of s.tasks) tag (claimed_in (set_read index state reading.task).deed)
+      ∙ claimed_same (claims_of s.tasks) tag
+      (claimed_in (set_read index state reading.task).length (set_read index state reading.task).deed)
       (ap claimed_by reading.found ∙ (none.0 ∙ sym none.1)))
 
   -- once these are our tasks

@@ -26,7 +26,7 @@ use Rattle.task_set.specs.declared.tasks.TaskEvent.TheVariants as event
 use Rattle.task_set.specs.Kept.{OpenTask, task_in}
 use Rattle.task_set.specs.declared.tasks.Transfer.{Transfer}
 use Rattle.device.specs.Describes.{AreFramesKept, Describes, FramesFit, IsDoing, IsGathering, IsGatheringFrames}
-use Rattle.device.specs.Describes.{IsSending}
+use Rattle.device.specs.Describes.{IsGatheringList, IsSending}
 use Rattle.device.specs.Describes.{claimed_in, claims_of, is_lost, read_in}
 use Rattle.device.specs.Describes.{wanted_by, wanted_in, wanted_kept}
 use Rattle.device.specs.Hears.{with_event}
@@ -88,7 +88,7 @@ module _ (d : DeviceCore) (s : State) (k : ℕ) (a : OpenTask) (b : exchange.Tas
       (record {
         wanted = λ index. ap (wanted_in index b.request) deed;
         read = ap read_in deed;
-        claimed = ap claimed_in deed;
+        claimed = λ total. ap (claimed_in total) deed;
       })
       tt layer claims
 
@@ -104,7 +104,7 @@ module _ (d : DeviceCore) (s : State) (k : ℕ) (a : OpenTask) (b : exchange.Tas
       (record {
         wanted = λ index. ap (wanted_in index b.request) deed;
         read = ap read_in deed;
-        claimed = ap claimed_in deed;
+        claimed = λ total. ap (claimed_in total) deed;
       })
       tt layer claims
 
@@ -124,7 +124,25 @@ module _ (d : DeviceCore) (s : State) (k : ℕ) (a : OpenTask) (b : exchange.Tas
       (record {
         wanted = λ index. ap (wanted_in index b.request) deed;
         read = ap read_in deed;
-        claimed = ap claimed_in deed;
+        claimed = λ total. ap (claimed_in total) deed;
+      })
+      tt layer claims
+
+  -- its list is asked for
+  asks_list : (after : Core) (unit size : ℕ) (purpose : Purpose) (gathered : List ℕ) (asked : Bool) →
+      a.phase ≡ phase.AskList unit size → b.deed ≡ Gathering purpose gathered asked →
+      IsGatheringList unit size b.length purpose gathered →
+      layer_kept.Describes after s.translation → AreClaimed after (claims_of s.tasks) →
+      IsBehind (with_layer after (with_event d k event.DataAskedFor))
+      (set_deed s b.tag (Gathering purpose gathered true))
+  asks_list after unit size purpose gathered asked is deed its layer claims =
+      does_now d s k a b h o after event.DataAskedFor (phase.AskList unit size) (Gathering purpose gathered true) is
+      (its, refl) refl (its_frames (phase.AskList unit size) is)
+      (none_asked d s k a b h o (its_frames (phase.AskList unit size) is)) refl
+      (record {
+        wanted = λ index. ap (wanted_in index b.request) deed;
+        read = ap read_in deed;
+        claimed = λ total. ap (claimed_in total) deed;
       })
       tt layer claims
 
@@ -139,11 +157,11 @@ module _ (d : DeviceCore) (s : State) (k : ℕ) (a : OpenTask) (b : exchange.Tas
       (record {
         wanted = λ index. ap (wanted_in index b.request) deed;
         read = ap read_in deed;
-        claimed = ap claimed_in deed;
+        claimed = λ total. ap (claimed_in total) deed;
       })
       tt layer claims
 
-  ends : (after : Core) → AreClaimed after (claims_of s.tasks) → claimed_in b.deed ≡ [] →
+  ends : (after : Core) → AreClaimed after (claims_of s.tasks) → claimed_in b.length b.deed ≡ [] →
       layer_kept.Describes after (moved s.translation (LetGoAll a.tag)) →
       IsBehind (with_layer after (without_task d k)) (task_goes_on s b None)
   ends after claims none layer = record {
@@ -153,7 +171,7 @@ module _ (d : DeviceCore) (s : State) (k : ℕ) (a : OpenTask) (b : exchange.Tas
     shorts_told = h.shorts_told;
   }
 
-  awaits : (after : Core) (commands : ℕ) → AreClaimed after (claims_of s.tasks) → claimed_in b.deed ≡ [] →
+  awaits : (after : Core) (commands : ℕ) → AreClaimed after (claims_of s.tasks) → claimed_in b.length b.deed ≡ [] →
       layer_kept.Describes after (moved (moved s.translation (Acknowledge commands)) (LetGoAll a.tag)) →
       IsBehind (with_layer after (without_task d k))
       (task_goes_on (with_moves s (Acknowledge commands ∷ [])) b None)
@@ -173,7 +191,7 @@ module _ (d : DeviceCore) (s : State) (k : ℕ) (a : OpenTask) (b : exchange.Tas
       IsBehind (with_layer after (without_task d k)) (task_goes_on (sent_state n) b None)
   loses after blocks n deed claims layer =
       subst (IsBehind (with_layer after (without_task d k))) (sym same)
-      (ends after claims (ap claimed_in deed) layer)
+      (ends after claims (ap (claimed_in b.length) deed) layer)
     where
       same : task_goes_on (sent_state n) b None ≡ task_goes_on s b None
       same =
@@ -254,7 +272,7 @@ module _ (d : DeviceCore) (s : State) (k : ℕ) (a : OpenTask) (b : exchange.Tas
           (sends_more x a.expected b.length blocks n is (ltb-true (x.sent + 1) x.blocks e)))
           (fits_then (Sending blocks (n + 1)) true e (its_frames (phase.SendBlocks x) here)) tt
           (more_kept b.tag n s.translation.pins blocks kept is.behind) (none_read_behind blocks n is.behind)
-          (ap claimed_in deed) claims its)
+          (ap (claimed_in b.length) deed) claims its)
       by false e =
           let count = is.count in
           let at = is.sent_is in
@@ -263,7 +281,7 @@ module _ (d : DeviceCore) (s : State) (k : ℕ) (a : OpenTask) (b : exchange.Tas
           (sends d s k a b h o after n x (Answering Good b.length) here
           (does (Answering Good b.length) false e (refl, is.total_is))
           (fits_then (Answering Good b.length) false e tt) tt
-          (none_kept b.tag n s.translation.pins blocks kept (omega arith)) refl (ap claimed_in deed) claims
+          (none_kept b.tag n s.translation.pins blocks kept (omega arith)) refl (ap (claimed_in b.length) deed) claims
           its)
 
   -- a block that is durable is told so
@@ -283,7 +301,10 @@ module _ (d : DeviceCore) (s : State) (k : ℕ) (a : OpenTask) (b : exchange.Tas
       sends_data after x bytes here e doing.1 new.0 new.1
   moves_in after (phase.AskFrames size) (Gathering purpose gathered asked) m here e doing due new =
       asks_frames after size purpose gathered asked here e doing.0 new.0 new.1
+  moves_in after (phase.AskList unit size) (Gathering purpose gathered asked) m here e doing due new =
+      asks_list after unit size purpose gathered asked here e doing.0 new.0 new.1
   moves_in after (phase.AwaitFrames size) deed m here e doing due new = absurd (none-some m due)
+  moves_in after (phase.AwaitList unit size) deed m here e doing due new = absurd (none-some m due)
   moves_in after (phase.SendHeld size) (SendingBytes bytes) m here e doing due new =
       sends_frames after size bytes here e doing.1 new.0 new.1
   moves_in after (phase.AwaitFrontier n size) (Awaiting commands) m here e doing due new =
@@ -291,13 +312,13 @@ module _ (d : DeviceCore) (s : State) (k : ℕ) (a : OpenTask) (b : exchange.Tas
       let low = leb-true n frontier (durable_told (nat_le n frontier) _ m due) in
       let is = doing.0 in
       let its = new commands (omega arith) in
-      awaits after commands its.1 (ap claimed_in e) its.0
+      awaits after commands its.1 (ap (claimed_in b.length) e) its.0
   moves_in after (phase.SendBlocks x) (Sending blocks sent) m here e doing due new =
       sends_next after x blocks sent here e doing new.1 new.0
   moves_in after (phase.ReadArea r) (ReadingArea pages) m here e doing due new =
-      ends after new.1 (ap claimed_in e) new.0
+      ends after new.1 (ap (claimed_in b.length) e) new.0
   moves_in after (phase.Answer told n) (Answering x carried) m here e doing due new =
-      ends after new.1 (ap claimed_in e) new.0
+      ends after new.1 (ap (claimed_in b.length) e) new.0
   moves_in after (phase.Answer told n) (Sending blocks sent) m here e doing due new =
       subst (IsBehind (with_layer after (moved_on d k (phase.Answer told n))))
       (sym (sending_path blocks sent doing.block None doing.there (ap (deed_after_state b blocks sent) doing.lost)))

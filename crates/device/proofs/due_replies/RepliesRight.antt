@@ -47,7 +47,9 @@ reply_tag : (t : Translation) (read held : Option (List ℕ)) (a : Task) (p : Ph
 reply_tag t read held a (phase.AskData x) m h = same_tag _ m a.tag h refl
 reply_tag t read held a (phase.AwaitData x) m h = absurd (none-some m h)
 reply_tag t read held a (phase.AskFrames size) m h = same_tag _ m a.tag h refl
+reply_tag t read held a (phase.AskList unit size) m h = same_tag _ m a.tag h refl
 reply_tag t read held a (phase.AwaitFrames size) m h = absurd (none-some m h)
+reply_tag t read held a (phase.AwaitList unit size) m h = absurd (none-some m h)
 reply_tag t read held a (phase.ReadArea r) m h = by (has_filled a.frames) h
   where
     by : (x : Bool) → (if x then Some (answer_of a status.Good r.length) else None) ≡ Some m → tag_in m ≡ a.tag

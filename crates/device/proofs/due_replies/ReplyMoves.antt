@@ -69,7 +69,7 @@ asks_nothing p frames.Answered held request its none = tt
 pub record SaysAsMuch (request : Option RpmbRequest) (old new : Deed) : Type 0 where
   pub wanted : (index : ℕ) → wanted_in index request old ≡ wanted_in index request new
   pub read : read_in old ≡ read_in new
-  pub claimed : claimed_in old ≡ claimed_in new
+  pub claimed : (total : ℕ) → claimed_in total old ≡ claimed_in total new
 
 abbrev pub with_held : Translation → ℕ → Translation
 with_held t held = record t { ledger = record t.ledger { held = held } }
@@ -106,6 +106,7 @@ module _ (d : DeviceCore) (s : State) (k : ℕ) (a : OpenTask) (b : exchange.Tas
         tag = o.kept.tag;
         expected = o.kept.expected;
         sends = o.kept.sends ∙ sym (ap brings_frames still);
+        sends_here = o.kept.sends_here ∙ sym (ap brings_frames still);
         request = subst (λ (f : Frames). AreFramesKept f a.held b.request) (sym still) o.kept.request;
         asks =
             subst (λ (f : Frames). ReadsAsked (phase_after a.phase e) f a.held) (sym still)
@@ -127,11 +128,11 @@ module _ (d : DeviceCore) (s : State) (k : ℕ) (a : OpenTask) (b : exchange.Tas
       (one_set k d.tasks a (task_after e a) o.ours (ap brings_frames still) h.kept.one_sends)
 
   -- what the tags have claimed stays
-  same_claims : (deed : Deed) → claimed_in b.deed ≡ claimed_in deed →
+  same_claims : (deed : Deed) → claimed_in b.length b.deed ≡ claimed_in b.length deed →
       claims_of (map (with_deed b.tag deed) s.tasks) ≡ claims_of s.tasks
   same_claims deed same =
       claims_set s.tasks b.tag b deed found
-      ∙ claimed_same (claims_of s.tasks) b.tag (claimed_in deed) (ap claimed_by found ∙ same)
+      ∙ claimed_same (claims_of s.tasks) b.tag (claimed_in b.length deed) (ap claimed_by found ∙ same)
 
   -- what is wanted for each tag, where only that of this one changes
   set_wanted : (pins : List Pin) (deed : Deed) → WantedFor pins b.tag (Some (record b { deed = deed })) →
@@ -157,7 +158,7 @@ module _ (d : DeviceCore) (s : State) (k : ℕ) (a : OpenTask) (b : exchange.Tas
       twice false = refl
 
   -- it goes, and keeps nothing
-  pub goes : (after : Core) (held : ℕ) → AreClaimed after (claims_of s.tasks) → claimed_in b.deed ≡ [] →
+  pub goes : (after : Core) (held : ℕ) → AreClaimed after (claims_of s.tasks) → claimed_in b.length b.deed ≡ [] →
       layer_kept.Describes after (moved (with_held s.translation held) (LetGoAll a.tag)) →
       Keeps (with_layer after (without_task d k))
       (task_goes_on (record s { translation = with_held s.translation held }) b None)
@@ -253,7 +254,7 @@ module _ (d : DeviceCore) (s : State) (k : ℕ) (a : OpenTask) (b : exchange.Tas
           set_wanted s.translation.pins deed
           (λ index. h.kept.wanted b.tag index ∙ (ap (wanted_by index) found ∙ same.wanted index))
           (λ n index other. refl);
-      claims = subst (AreClaimed after) (sym (same_claims deed same.claimed)) claims;
+      claims = subst (AreClaimed after) (sym (same_claims deed (same.claimed b.length))) claims;
       shorts = h.kept.shorts;
       power_on = h.kept.power_on;
     };
@@ -269,7 +270,8 @@ module _ (d : DeviceCore) (s : State) (k : ℕ) (a : OpenTask) (b : exchange.Tas
       IsToldIn (durable s) deed →
       ((index : ℕ) →
       wanted_kept (with_next b.tag n s.translation.pins) b.tag index ≡ wanted_in index b.request deed) →
-      read_in deed ≡ None → claimed_in b.deed ≡ claimed_in deed → AreClaimed after (claims_of s.tasks) →
+      read_in deed ≡ None → claimed_in b.length b.deed ≡ claimed_in b.length deed →
+      AreClaimed after (claims_of s.tasks) →
       layer_kept.Describes after (sent_layer s.translation a.tag n) →
       IsBehind (with_layer after (with_event d k event.BlockSent))
       (set_deed (record s { translation = sent_layer s.translation b.tag n }) b.tag deed)

@@ -45,7 +45,8 @@ use Rattle.task_set.specs.declared.tasks.Task.{Task}
 use Rattle.task_set.specs.Kept.{OpenTask, task_in}
 use Rattle.task_set.specs.declared.tasks.Transfer.{Transfer}
 use Rattle.device.specs.Describes.{AreFramesKept, Describes, FramesFit, HasRequest, IsDoing, IsGathering}
-use Rattle.device.specs.Describes.{IsGatheringFrames, IsLost, IsReadingArea, IsSending, IsSentFrom}
+use Rattle.device.specs.Lists.{IsOfList}
+use Rattle.device.specs.Describes.{IsGatheringFrames, IsGatheringList, IsLost, IsReadingArea, IsSending, IsSentFrom}
 use Rattle.device.specs.Describes.{TaskKept, is_lost, is_unread}
 use Rattle.device.specs.Describes.{read_by, read_in, read_of, wanted_by, wanted_in, wanted_kept, wanted_of}
 use Rattle.device.specs.Kept.{DeviceCore}
@@ -143,6 +144,10 @@ whole_block blocks gathered more = omega arith
 -- frames are no more than a message carries
 all_at_once : (size : ℕ) → size ≤ 4096 → min 4096 (size - 0) ≡ size
 all_at_once size few = omega arith
+
+-- and so is a list
+list_few : (size : ℕ) → IsOfList size → size ≤ 4096
+list_few size = ⊎_elim (λ is. omega arith) (λ is. omega arith)
 
 cut_same : (expected size : ℕ) (all : List ℕ) → 1 ≤ min expected size → size ≤ 4096 →
     take (min expected size) (take size all) ≡ take (frames_count expected size) all
@@ -278,6 +283,16 @@ module _ (d : DeviceCore) (s : State) (a : OpenTask) (b : exchange.Task) (h : De
       (count_at (its.total_is i) (length (its.none_came i)))))
       ∙ ap (λ (n : ℕ). Some (message.ReadyToTransfer a.lun a.tag 0 n)) (all_at_once size its.few))
 
+  asking_list : (unit size : ℕ) (purpose : Purpose) (gathered : List ℕ) (asked : Bool) →
+      IsGatheringList unit size b.length purpose gathered → asked ≡ false →
+      (if asked then None else Some (ready_message b gathered))
+      ≡ Some (message.ReadyToTransfer a.lun a.tag 0 size)
+  asking_list unit size purpose gathered asked its is =
+      ap (λ z. if z then None else Some (ready_message b gathered)) is
+      ∙ ((λ i. Some (message.ReadyToTransfer (k.lun i) (k.tag i) (length (its.none_came i))
+      (count_at (its.total_is i) (length (its.none_came i)))))
+      ∙ ap (λ (n : ℕ). Some (message.ReadyToTransfer a.lun a.tag 0 n)) (all_at_once size (list_few size its.of_list)))
+
   -- the frames that are kept, as many bytes as the host expects
   frames_same : (size : ℕ) (bytes : List ℕ) → (length bytes ≡ size) × (b.length ≡ size) × (1 ≤ min a.expected size) →
       (x : IsSentFrom size a.held (SendingBytes bytes)) →
@@ -347,7 +362,11 @@ module _ (d : DeviceCore) (s : State) (a : OpenTask) (b : exchange.Task) (h : De
       FramesFit p a.frames a.held deed → deed_reply s b deed ≡ owed_in s.translation a.block a.held (task_in a) p
   same_in (phase.AskFrames size) (Gathering purpose gathered asked) e is fits =
       asking_frames size purpose gathered asked is.0 is.1
+  same_in (phase.AskList unit size) (Gathering purpose gathered asked) e is fits =
+      asking_list unit size purpose gathered asked is.0 is.1
   same_in (phase.AwaitFrames size) (Gathering purpose gathered asked) e is fits =
+      ap (λ z. if z then None else Some (ready_message b gathered)) is.1
+  same_in (phase.AwaitList unit size) (Gathering purpose gathered asked) e is fits =
       ap (λ z. if z then None else Some (ready_message b gathered)) is.1
   same_in (phase.SendHeld size) (SendingBytes bytes) e is fits =
       ap (λ z. Some z) (frames_same size bytes is fits.1)

@@ -1,5 +1,5 @@
 -- Which data the device asked for, and that the specification asks for the same.
-use Rattle.std.proofs.Common.{◌≡◌, ◌∙◌, ◌⊎◌, ℕ, ◌*◌, ◌==◌, ◌&&◌, Bool, true, false, cond, List, Option, Some, None}
+use Rattle.std.proofs.Common.{◌≡◌, ◌∙◌, ◌⊎◌, ℕ, ◌*◌, ◌==◌, ◌≤◌, ◌&&◌, Bool, true, false, cond, List, Option, Some, None}
 use Rattle.std.proofs.Common.{length, refl, ap, inl, inr, arith}
 use Rattle.std.proofs.lemmas.Bool.Decides.{nat_tests}
 use Rattle.ufs_spec.proofs.Facts.{and_parts, eqb-true}
@@ -13,11 +13,12 @@ use Rattle.task_set.specs.Kept.{OpenTask}
 use Rattle.task_set.specs.declared.tasks.Transfer.{Transfer}
 use Rattle.task_set.specs.declared.tasks.Wanted.{Wanted}
 use Rattle.task_set.specs.declared.tasks.Wanted.TheVariants as wanted
-use Rattle.device.specs.Describes.{IsDoing, IsGathering, IsGatheringFrames, TasksKept}
+use Rattle.device.specs.Describes.{IsDoing, IsGathering, IsGatheringFrames, IsGatheringList, TasksKept}
 use Rattle.task_set.specs.Lists.{asked_at, asked_by, asked_what, wanted_in}
 use Rattle.task_set.specs.Tasks.{is_wanted}
 use Rattle.device.specs.Hears.{HasLength, asked_for}
 use Rattle.device.specs.Kept.{DeviceCore}
+use Rattle.device.specs.Lists.{IsOfList}
 use Rattle.device.proofs.open_tasks.OpenTasks.{Stands, StandsOrNot, tag_stands}
 
 -- the task of the tag asked for these data
@@ -41,7 +42,7 @@ none_asked = None
 abbrev asks : ℕ → Wanted → Option AskedFor
 asks k w = Some (record { index = k; wanted = w })
 
--- The next block of a WRITE, and frames
+-- The next block of a WRITE, frames, and a list
 
 other_side : (m n : ℕ) → (m == n) ≡ (n == m)
 other_side m n = grind (arith, nat_tests)
@@ -63,6 +64,19 @@ frames_count : (size total : ℕ) (purpose : Purpose) (gathered : List ℕ) →
     IsGatheringFrames size total purpose gathered → count_at total (length gathered) ≡ size
 frames_count size total purpose gathered h =
     let none = ap length h.none_came in let few = h.few in let all = h.total_is in omega arith
+
+-- so does a list, which fits into one message
+list_count : (unit size total : ℕ) (purpose : Purpose) (gathered : List ℕ) →
+    IsGatheringList unit size total purpose gathered → count_at total (length gathered) ≡ size
+list_count unit size total purpose gathered h =
+    let none = ap length h.none_came in
+    let all = h.total_is in
+    let few = short h.of_list in
+    omega arith
+  where
+    short : IsOfList size → size ≤ 4096
+    short (inl header) = omega arith
+    short (inr whole) = omega arith
 
 three : (a b c : Bool) → ((a && b) && c) ≡ (a && (b && c))
 three true b c = refl
@@ -94,6 +108,14 @@ asked_same lun offset count b before expected (phase.AwaitFrames size) (Gatherin
           (count == frames_count size b.length purpose gathered h.0 i))
           ∙ three (b.lun == lun) (offset == 0) (count == size),
     )
+asked_same lun offset count b before expected (phase.AwaitList unit size) (Gathering purpose gathered asked) h =
+    inr (
+      wanted.List unit size,
+      refl,
+      (λ i. ((h.1 i && (b.lun == lun)) && (offset == length (h.0.none_came i))) &&
+          (count == list_count unit size b.length purpose gathered h.0 i))
+          ∙ three (b.lun == lun) (offset == 0) (count == size),
+    )
 asked_same lun offset count b before expected (phase.AskData x) (Gathering purpose gathered asked) h =
     inl (
       refl,
@@ -101,6 +123,12 @@ asked_same lun offset count b before expected (phase.AskData x) (Gathering purpo
           (count == count_at b.length (length gathered))) h.1,
     )
 asked_same lun offset count b before expected (phase.AskFrames size) (Gathering purpose gathered asked) h =
+    inl (
+      refl,
+      ap (λ x. ((x && (b.lun == lun)) && (offset == length gathered)) &&
+          (count == count_at b.length (length gathered))) h.1,
+    )
+asked_same lun offset count b before expected (phase.AskList unit size) (Gathering purpose gathered asked) h =
     inl (
       refl,
       ap (λ x. ((x && (b.lun == lun)) && (offset == length gathered)) &&
@@ -120,6 +148,7 @@ long_enough : (w : Wanted) (offset count : ℕ) → is_wanted w offset count ≡
 long_enough (wanted.Block x) offset count e =
     eqb-true count 4096 (and_parts (4096 * x.gathered == offset) (count == 4096) e).1
 long_enough (wanted.Frames size) offset count e = eqb-true count size (and_parts (offset == 0) (count == size) e).1
+long_enough (wanted.List unit size) offset count e = eqb-true count size (and_parts (offset == 0) (count == size) e).1
 
 -- the data are asked for by the task of the tag on both sides, or on neither
 pub data_asked : (d : DeviceCore) (before lun tag offset count : ℕ) (theirs : List exchange.Task) →

@@ -1,39 +1,36 @@
 -- A READ begins, which keeps its blocks, or a WRITE, which claims a slot for each of its blocks.
-use Rattle.std.proofs.Common.{◌≡◌, ◌∙◌, ℕ, ◌+◌, ◌<◌, ◌≤◌, Bool, true, false, Some, None, length, replicate}
+use Rattle.std.proofs.Common.{◌≡◌, ◌∙◌, ℕ, ◌+◌, ◌<◌, ◌≤◌, Bool, true, false, Some, None, length}
 use Rattle.std.proofs.Common.{refl, sym, ap, subst, arith, []}
 use Rattle.std.specs.Prelude.{◌*◌, ◌||◌, ◌==◌, ◌∷◌, fold, if◌then◌else◌, min, Result, Ok}
 use Rattle.std.specs.Int.{div_ceil}
-use Rattle.std.proofs.lemmas.Bool.{le-leb}
-use Rattle.ufs_spec.specs.Exchanges.{Answering, Deed, ForWrite, Gathering, Good, most_tasks, task_of}
+use Rattle.ufs_spec.specs.Exchanges.{Answering, ForWrite, Gathering, Good, most_tasks, task_of}
 use Rattle.ufs_spec.specs.Keys.{IsKey, data_key}
 use Rattle.ufs_spec.specs.Machine.{keeps, read_begun, read_blocks, sending, with_moves}
 use Rattle.ufs_spec.specs.Machine as machine
 use Rattle.ufs_spec.specs.Moves.{Claim, moved}
-use Rattle.ufs_spec.specs.Plain.{greatest_command, shape_of_numbers, zero_block}
+use Rattle.ufs_spec.specs.Plain.{greatest_command, shape_of_numbers}
 use Rattle.ufs_spec.specs.Refusals.{Request, State, mended, numbers_of, sends_frames}
 use Rattle.ufs_spec.specs.Translation.{free_slots}
 use Rattle.ufs_spec.specs.declared.scsi.Cdb.{Cdb}
 use Rattle.ufs_laws.proofs.plain_contents.ListParts.{length-made}
-use Rattle.ftl_core.specs.Public as layer_kept
 use Rattle.ftl_core.specs.Public.{AreClaimed, Core, with_claimed}
 use Rattle.task_set.specs.declared.tasks.Phase.{Phase}
 use Rattle.task_set.specs.declared.tasks.Phase.TheVariants as phase
 use Rattle.task_set.specs.declared.tasks.Status as kept_status
 use Rattle.task_set.specs.declared.tasks.Status.TheVariants as status
-use Rattle.task_set.specs.declared.tasks.Transfer.{Transfer}
 use Rattle.device.specs.declared.plans.Plan.{Plan}
 use Rattle.device.specs.declared.plans.Plan.TheVariants as plan
-use Rattle.device.specs.Calls.{has_room, has_slots}
+use Rattle.device.specs.Calls.{has_room, write_asks}
 use Rattle.device.specs.Describes.{Describes, claims_of}
 use Rattle.device.specs.Kept.{DeviceCore, IsLayerWith}
 use Rattle.device.proofs.described.Answered.{IsBehind}
 use Rattle.device.proofs.host_messages.BlocksKept.{sends}
 use Rattle.device.proofs.host_messages.CommandPasses.{none_expected, some_expected, some_told}
 use Rattle.device.proofs.host_messages.ReadOpened.{block_now, core_opened, read_opened, reading_at, sending_now}
-use Rattle.device.proofs.host_messages.SlotsClaimed.{none_gathered}
+use Rattle.device.proofs.host_messages.SlotsClaimed.{LayerThen, none_gathered, slots_found}
 use Rattle.device.proofs.host_messages.TasksBegin.{HasBegunFor, nothing_begins, opened_for, quiet_task, same_phase}
 use Rattle.device.proofs.open_tasks.FewPins.{pin_has_room}
-use Rattle.device.proofs.open_tasks.TaskOpened.{nobody, none_claimed, none_wanted, open_answered, open_keeps, open_told}
+use Rattle.device.proofs.open_tasks.TaskOpened.{nobody, none_claimed, opens_gathering, quiet_here}
 
 module _ (d : DeviceCore) (s : State) (r : Request) (h : Describes d s) (free : task_of r.tag s.tasks ≡ None)
     (few : length s.tasks < most_tasks) (after : Core) where
@@ -118,48 +115,6 @@ module _ (d : DeviceCore) (s : State) (r : Request) (h : Describes d s) (free : 
 
   -- WRITE
 
-  abbrev gathering : ℕ → ℕ → ℕ → Bool → Deed
-  gathering unit address blocks forced = Gathering (ForWrite unit address blocks forced) [] false
-
-  abbrev transfer_now : ℕ → ℕ → ℕ → Bool → Transfer
-  transfer_now unit address blocks forced =
-      record { key = data_key unit address; blocks = blocks; gathered = 0; forced = forced }
-
-  write_opened : (command : Cdb) (unit address blocks : ℕ) (forced : Bool) → sends_frames (Some command) ≡ false →
-      1 ≤ blocks →
-      layer_kept.Describes after (moved s.translation (Claim blocks)) →
-      AreClaimed after (with_claimed (claims_of s.tasks) r.tag (replicate blocks zero_block)) →
-      IsBehind (core_opened d r after (phase.AskData (transfer_now unit address blocks forced)))
-      (machine.with_task (with_moves s (Claim blocks ∷ [])) r (Some command) (4096 * blocks)
-      (gathering unit address blocks forced))
-  write_opened command unit address blocks forced quiet some layer claims = record {
-    keeps =
-        open_keeps d s r h free few after (moved s.translation (Claim blocks)) (Some command) (4096 * blocks)
-        (gathering unit address blocks forced) _ layer refl refl
-        (record {
-          wanted = none_wanted d s r h free few;
-          others_want = λ n i other. refl;
-        })
-        (subst (AreClaimed after) (ap (with_claimed (claims_of s.tasks) r.tag) (none_gathered blocks)) claims)
-        (record {
-          lun = refl;
-          tag = refl;
-          expected = refl;
-          sends = quiet;
-          request = refl;
-          asks = tt;
-          fits = refl;
-          doing = (record { write = (refl, refl, refl); came = refl; more = some; total_is = refl }, refl);
-          read = refl;
-        }) (quiet_task d r (phase.AskData (transfer_now unit address blocks forced)));
-    answered =
-        open_answered d s r h free few (moved s.translation (Claim blocks)) (Some command) (4096 * blocks)
-        (gathering unit address blocks forced) (λ tag other index. refl) refl;
-    told =
-        open_told d s r h free few (Some command) (4096 * blocks) (gathering unit address blocks forced) (λ l. tt);
-    shorts_told = h.shorts_told;
-  }
-
   -- what is planned for it
   abbrev write_todo : (unit address blocks : ℕ) → Bool → Bool → Plan
   write_todo unit address blocks forced b =
@@ -178,18 +133,27 @@ module _ (d : DeviceCore) (s : State) (r : Request) (h : Describes d s) (free : 
   write_begins command unit address blocks forced p quiet slots true e begun =
       nothing_begins d s r h free few after command 0 p quiet begun
   write_begins command unit address blocks forced p quiet slots false e begun =
-      same_phase d r after p (phase.AskData (transfer_now unit address blocks forced)) _
-      (begun.phase_is ∙ ap (λ (x : Bool). if x then phase.AskData (transfer_now unit address blocks forced)
-      else phase.Answer status.Busy 0) left)
-      (write_opened command unit address blocks forced quiet (some_told blocks e)
-      its.0 its.1)
+      same_phase d r after p asks _ its.0
+      (opens_gathering d s r h free few after (Some command) (4096 * blocks) blocks
+      (ForWrite unit address blocks forced) _
+      (its.1.0, subst (AreClaimed after) (ap (with_claimed (claims_of s.tasks) r.tag) (none_gathered blocks)) its.1.1)
+      (record {
+        lun = refl;
+        tag = refl;
+        expected = refl;
+        sends = quiet;
+        sends_here = quiet_here 0 (Some command) quiet;
+        request = refl;
+        asks = tt;
+        fits = refl;
+        doing = (record { write = (refl, refl, refl); came = refl; more = some_told blocks e; total_is = refl }, refl);
+        read = refl;
+      }) (quiet_task d r asks))
     where
-      left : has_slots s.translation blocks ≡ true
-      left = le-leb blocks (free_slots s.translation) slots
+      asks : Phase
+      asks = write_asks (data_key unit address) blocks forced
 
-      its : IsLayerWith after (moved s.translation (Claim blocks))
-          (with_claimed (claims_of s.tasks) r.tag (replicate blocks zero_block))
+      its : (p ≡ asks) × LayerThen after s.translation (claims_of s.tasks) r.tag blocks true
       its =
-          subst (λ (x : Bool). IsLayerWith after (if x then moved s.translation (Claim blocks) else s.translation)
-          (if x then with_claimed (claims_of s.tasks) r.tag (replicate blocks zero_block) else claims_of s.tasks)) left
-          (begun.layer (none_claimed d s r h free few))
+          slots_found after s.translation (claims_of s.tasks) r.tag blocks asks p slots (none_claimed d s r h free few)
+          begun

@@ -120,7 +120,7 @@ module _ (d : DeviceCore) (s : State) (tag : ℕ) (x : Transfer) (h : Describes 
   abbrev claiming : List (List ℕ) → Claims
   claiming = with_claimed (claims_of s.tasks) r.b.tag
 
-  pub its_claims : (after : Core) (deed : Deed) (blocks : List (List ℕ)) → claimed_in deed ≡ blocks →
+  pub its_claims : (after : Core) (deed : Deed) (blocks : List (List ℕ)) → claimed_in r.b.length deed ≡ blocks →
       AreClaimed after (claiming blocks) → AreClaimed after (claims_of (map (with_deed r.b.tag deed) s.tasks))
   its_claims after deed blocks is =
       subst (AreClaimed after) (sym (claims_set s.tasks r.b.tag r.b deed found ∙ ap claiming is))
@@ -130,5 +130,6 @@ module _ (d : DeviceCore) (s : State) (tag : ℕ) (x : Transfer) (h : Describes 
       with_block (claims_of s.tasks) r.b.tag x.gathered bytes
       ≡ claiming (blocks_gathered x.blocks (g.gathered ++ bytes))
   slots_filled bytes long =
-      ap (λ blocks. claiming (slice_set blocks x.gathered bytes)) (ap claimed_by found ∙ ap claimed_in g.deed_is)
+      ap (λ blocks. claiming (slice_set blocks x.gathered bytes))
+      (ap claimed_by found ∙ ap (claimed_in r.b.length) g.deed_is)
       ∙ ap claiming (next_filled x.blocks x.gathered g.gathered bytes g.more g.came long)

@@ -10,7 +10,7 @@ use Rattle.ufs_spec.proofs.Facts.{false≢true, true≢false}
 use Rattle.ufs_spec.proofs.Lists.{position_told}
 use Rattle.ufs_spec.specs.Begins.{begun_if_any, capacity_bytes, data_begun, no_sense, read_begun, refused_or_begun}
 use Rattle.ufs_spec.specs.Begins.{unit_or_first}
-use Rattle.ufs_spec.specs.Cdbs.{IsTakenCdb, address_of, blocks_of, operation_of, read_capacity_10, six_blocks}
+use Rattle.ufs_spec.specs.Cdbs.{address_of, blocks_of, operation_of, read_capacity_10, six_blocks}
 use Rattle.ufs_spec.specs.Exchanges.{most_tasks, task_of}
 use Rattle.ufs_spec.specs.Keys.{IsKey, data_key}
 use Rattle.ufs_spec.specs.Messages.{is_among}
@@ -41,6 +41,7 @@ use Rattle.device.proofs.host_messages.BlocksBegin.{read_begins, write_begins}
 use Rattle.device.proofs.host_messages.CommandPasses.{IsFree, flush_durable, free_told}
 use Rattle.device.proofs.host_messages.CommandTags.{others_send}
 use Rattle.device.proofs.host_messages.FramesBegin.{asked_begins, taken_begins}
+use Rattle.device.proofs.host_messages.ListsBegin.{list_begins}
 use Rattle.device.proofs.host_messages.ReadOpened.{core_opened}
 use Rattle.device.proofs.host_messages.TasksBegin.{HasBegunFor, answer_opened, data_begins, flush_begins}
 use Rattle.device.proofs.host_messages.TasksBegin.{nothing_begins, opened_for, same_phase}
@@ -131,44 +132,45 @@ module _ (d : DeviceCore) (s : State) (r : Request) (h : Describes d s) (free : 
       none u k = cc
 
   command_begins : (command : Cdb) (p : Phase) → operation_of command ≡ operation_in r → IsNamed s r →
-      Passed s r command → IsFree s r command → IsTakenCdb command → IsOfRegion command →
+      Passed s r command → IsFree s r command → IsOfRegion command →
       Begins (Ok (planned command)) p → Opens (Ok (planned command)) p (begun_if_any s r (Some command))
-  command_begins cdb.TestUnitReady p spelled named lets k taken within begun =
+  command_begins cdb.TestUnitReady p spelled named lets k within begun =
       nothing_begins d s r h free few after cdb.TestUnitReady 0 p refl begun
-  command_begins (cdb.RequestSense allocation) p spelled named lets k taken within begun =
+  command_begins (cdb.RequestSense allocation) p spelled named lets k within begun =
       data_begins d s r h free few after (cdb.RequestSense allocation) (sent.NoSense allocation) p refl
       (length-take allocation no_sense) begun
-  command_begins (cdb.Inquiry allocation) p spelled named lets k taken within begun =
+  command_begins (cdb.Inquiry allocation) p spelled named lets k within begun =
       inquiry_begins d s r h free few after allocation p begun
-  command_begins (cdb.ReportLuns select allocation) p spelled named lets k taken within begun =
+  command_begins (cdb.ReportLuns select allocation) p spelled named lets k within begun =
       luns_begin d s r h free few after select allocation p begun
-  command_begins cdb.ReadCapacity10 p spelled named lets k taken within begun =
+  command_begins cdb.ReadCapacity10 p spelled named lets k within begun =
       capacity_begins p (unit_numbers_of s r) (capacity_there s r named (sym spelled)) begun
-  command_begins (cdb.Read6 address blocks) p spelled named lets k taken within begun =
+  command_begins (cdb.Read6 address blocks) p spelled named lets k within begun =
       subst (λ (n : ℕ). Opens (Ok (planned (cdb.Read6 address blocks))) p
       (read_begun s r (cdb.Read6 address blocks) unit_now address n))
       (bytes_of (six_blocks blocks))
       (read_begins d s r h free few after (cdb.Read6 address blocks) unit_now address (six_blocks blocks) p refl
       k.few (read_keys (cdb.Read6 address blocks) (six_blocks blocks) refl (inl (sym spelled)) lets) (k.mended refl)
       ((six_blocks blocks == 0) || (r.expected == 0)) refl begun)
-  command_begins (cdb.Read10 address blocks forced) p spelled named lets k taken within begun =
+  command_begins (cdb.Read10 address blocks forced) p spelled named lets k within begun =
       read_begins d s r h free few after (cdb.Read10 address blocks forced) unit_now address blocks p refl
       k.few (read_keys (cdb.Read10 address blocks forced) blocks refl (inr (sym spelled)) lets) (k.mended refl)
       ((blocks == 0) || (r.expected == 0)) refl begun
-  command_begins (cdb.Write6 address blocks) p spelled named lets k taken within begun =
+  command_begins (cdb.Write6 address blocks) p spelled named lets k within begun =
       write_begins d s r h free few after (cdb.Write6 address blocks) unit_now address (six_blocks blocks) false p
       refl k.slots (six_blocks blocks == 0) refl begun
-  command_begins (cdb.Write10 address blocks forced) p spelled named lets k taken within begun =
+  command_begins (cdb.Write10 address blocks forced) p spelled named lets k within begun =
       write_begins d s r h free few after (cdb.Write10 address blocks forced) unit_now address blocks forced p refl
       k.slots (blocks == 0) refl begun
-  command_begins (cdb.SynchronizeCache10 address blocks immediate) p spelled named lets k taken within begun =
+  command_begins (cdb.SynchronizeCache10 address blocks immediate) p spelled named lets k within begun =
       flush_begins d s r h free few after (cdb.SynchronizeCache10 address blocks immediate) immediate p refl
       (flush_durable s true h.tied k.refused refl) begun
-  command_begins (cdb.SecurityOut region n) p spelled named lets k taken within begun =
+  command_begins (cdb.SecurityOut region n) p spelled named lets k within begun =
       asked_begins d s r h free few after region n p within k.not_long (sym (others_send d s h) ∙ k.alone) k.slots begun
-  command_begins (cdb.SecurityIn region n) p spelled named lets k taken within begun =
+  command_begins (cdb.SecurityIn region n) p spelled named lets k within begun =
       taken_begins d s r h free few after region n p within k.response k.not_long begun
-  command_begins command p spelled named lets k taken within begun = absurd taken
+  command_begins (cdb.Unmap list) p spelled named lets k within begun =
+      list_begins d s r h free few after unit_now list p k.listed k.slots (list == 0) refl begun
 
   passes_begin : (todo : Plan) (p : Phase) → Passes s r todo → Begins (Ok todo) p →
       Opens (Ok todo) p (begun_if_any s r r.cdb)
@@ -177,7 +179,7 @@ module _ (d : DeviceCore) (s : State) (r : Request) (h : Describes d s) (free : 
       (subst (λ (x : Plan). Opens (Ok x) p (begun_if_any s r (Some passes.command)))
       (sym passes.todo_is)
       (command_begins passes.command p passes.spelled passes.named (passed s r passes.command passes.is passes.passed)
-      (free_told s r todo passes) passes.taken passes.in_region
+      (free_told s r todo passes) passes.in_region
       (subst (λ (x : Plan). Begins (Ok x) p) passes.todo_is begun)))
 
   -- what is planned begins, and is described then

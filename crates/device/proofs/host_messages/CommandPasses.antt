@@ -10,7 +10,7 @@ use Rattle.std.proofs.lemmas.List.{length-drop}
 use Rattle.std.proofs.lemmas.List.Sums.{get_or-le-sum_by}
 use Rattle.ufs_spec.proofs.Facts.{eqb-true, false≢true, ltb-false, or_parts}
 use Rattle.ufs_spec.specs.Plain.{greatest_command}
-use Rattle.ufs_spec.specs.Cdbs.{IsTakenCdb, blocks_of, direction_of, operation_of}
+use Rattle.ufs_spec.specs.Cdbs.{blocks_of, direction_of, operation_of}
 use Rattle.ufs_spec.specs.Exchanges.{Busy, Task, invalid_field, invalid_operation, list_length_error, no_unit}
 use Rattle.ufs_spec.specs.Exchanges.{not_ready, out_of_range, sequence_error, write_protected}
 use Rattle.ufs_spec.specs.Keys.{Group}
@@ -33,6 +33,7 @@ use Rattle.device.specs.Plans.{Passes}
 
 pub record Checked (s : State) (r : Request) (command : Cdb) : Type 0 where
   pub too_long : is_too_long (numbers_of s) command ≡ false
+  pub listed : has_wrong_list command ≡ false
   pub unmended : (needs_mended (operation_of command) && not (mended s)) ≡ false
   pub refused : is_refused_write s (unit_numbers_of s r) command ≡ false
   pub response : has_other_response s command ≡ false
@@ -55,6 +56,7 @@ checked s r command is none =
     let l = passed_line (is_crowded s command) Busy _ k.1 in
     record {
       too_long = c.0;
+      listed = d.0;
       unmended = g.0;
       refused = i.0;
       response = k.0;
@@ -65,32 +67,18 @@ checked s r command is none =
 pub record IsFree (s : State) (r : Request) (command : Cdb) : Type 0 where
   pub few : blocks_of command ≤ greatest_command
   pub not_long : is_too_long (numbers_of s) command ≡ false
+  pub listed : has_wrong_list command ≡ false
   pub response : has_other_response s command ≡ false
   pub alone : (is_security_out command && list_any (λ (task : Task). sends_frames task.command) s.tasks) ≡ false
   pub mended : needs_mended (operation_of command) ≡ true → mended s ≡ true
   pub slots : slots_needed (numbers_of s) command ≤ free_slots s.translation
   pub refused : is_refused_write s (unit_numbers_of s r) command ≡ false
 
-few_told : (s : State) (command : Cdb) → IsTakenCdb command → is_too_long (numbers_of s) command ≡ false →
+few_told : (s : State) (command : Cdb) → is_too_long (numbers_of s) command ≡ false →
     blocks_of command ≤ greatest_command
-few_told s cdb.TestUnitReady taken h = ltb-false greatest_command (blocks_of cdb.TestUnitReady) h
-few_told s (cdb.RequestSense allocation) taken h =
-    ltb-false greatest_command (blocks_of (cdb.RequestSense allocation)) h
-few_told s (cdb.Read6 address blocks) taken h = ltb-false greatest_command (blocks_of (cdb.Read6 address blocks)) h
-few_told s (cdb.Write6 address blocks) taken h = ltb-false greatest_command (blocks_of (cdb.Write6 address blocks)) h
-few_told s (cdb.Inquiry allocation) taken h = ltb-false greatest_command (blocks_of (cdb.Inquiry allocation)) h
-few_told s (cdb.ReportLuns select allocation) taken h =
-    ltb-false greatest_command (blocks_of (cdb.ReportLuns select allocation)) h
-few_told s cdb.ReadCapacity10 taken h = ltb-false greatest_command (blocks_of cdb.ReadCapacity10) h
-few_told s (cdb.Read10 address blocks forced) taken h =
-    ltb-false greatest_command (blocks_of (cdb.Read10 address blocks forced)) h
-few_told s (cdb.Write10 address blocks forced) taken h =
-    ltb-false greatest_command (blocks_of (cdb.Write10 address blocks forced)) h
-few_told s (cdb.SynchronizeCache10 address blocks immediate) taken h =
-    ltb-false greatest_command (blocks_of (cdb.SynchronizeCache10 address blocks immediate)) h
-few_told s (cdb.SecurityIn region size) taken h = omega arith
-few_told s (cdb.SecurityOut region size) taken h = omega arith
-few_told s command taken h = absurd taken
+few_told s (cdb.SecurityIn region size) h = omega arith
+few_told s (cdb.SecurityOut region size) h = omega arith
+few_told s command h = ltb-false greatest_command (blocks_of command) h
 
 mended_told : (a b : Bool) → (a && not b) ≡ false → a ≡ true → b ≡ true
 mended_told true true h e = refl
@@ -104,8 +92,9 @@ free_told s r todo h =
     (is_security_out h.command && list_any (λ (task : Task). sends_frames task.command) s.tasks)
     (nat_lt (free_slots s.translation) (slots_needed (numbers_of s) h.command)) k.crowded in
     record {
-      few = few_told s h.command h.taken k.too_long;
+      few = few_told s h.command k.too_long;
       not_long = k.too_long;
+      listed = k.listed;
       response = k.response;
       alone = both.0;
       mended = mended_told (needs_mended (operation_of h.command)) (mended s) k.unmended;

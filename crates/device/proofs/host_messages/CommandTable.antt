@@ -3,8 +3,7 @@ use Rattle.std.proofs.Common.{◌≡◌, ◌∙◌, ℕ, Bool, true, false, List
 use Rattle.std.proofs.Common.{refl, sym, ap}
 use Rattle.std.specs.Prelude.{◌||◌, ◌&&◌, if◌then◌else◌, not, option_map}
 use Rattle.ufs_spec.proofs.Facts.{true≢false}
-use Rattle.ufs_spec.specs.Cdbs.{IsTakenCdb, direction_of}
-use Rattle.ufs_spec.specs.Cdbs.{length_of, operation_of}
+use Rattle.ufs_spec.specs.Cdbs.{direction_of, length_of, operation_of}
 use Rattle.ufs_spec.specs.Exchanges.{Busy, invalid_field, list_length_error}
 use Rattle.ufs_spec.specs.Exchanges.{not_ready, out_of_range, sequence_error, write_protected}
 use Rattle.ufs_spec.specs.Refusals.{Line, Request, State}
@@ -15,9 +14,8 @@ use Rattle.ufs_spec.specs.Refusals.{unit_numbers_of, units_listed}
 use Rattle.ufs_spec.specs.declared.configs.Numbers.{Numbers}
 use Rattle.ufs_spec.specs.declared.configs.UnitSpec.{UnitSpec}
 use Rattle.ufs_spec.specs.declared.scsi.Cdb.{Cdb}
-use Rattle.ufs_spec.specs.declared.scsi.Cdb.TheVariants as cdb
 use Rattle.ufs_spec.specs.declared.scsi.Sense.{Sense}
-use Rattle.ufs_spec.specs.declared.scsi.TheConstants.Sense.{COMMAND_SEQUENCE, INVALID_FIELD, NOT_READY}
+use Rattle.ufs_spec.specs.declared.scsi.TheConstants.Sense.{COMMAND_SEQUENCE, INVALID_FIELD, LIST_LENGTH, NOT_READY}
 use Rattle.ufs_spec.specs.declared.scsi.TheConstants.Sense.{OUT_OF_RANGE, WRITE_PROTECTED}
 use Rattle.device.specs.Plans.{lines_now}
 use Rattle.task_set.specs.declared.tasks.Status as kept_status
@@ -30,22 +28,6 @@ abbrev lines_at : Bool → Bool → Bool → Bool → List Line → List Line
 lines_at a w b p rest =
     line a invalid_field ∷ line w list_length_error ∷ line b invalid_field ∷ line p out_of_range ∷ rest
 
--- no command that is taken has a list
-no_list : (c : Cdb) → IsTakenCdb c → has_wrong_list c ≡ false
-no_list cdb.TestUnitReady k = refl
-no_list (cdb.RequestSense allocation) k = refl
-no_list (cdb.Read6 address blocks) k = refl
-no_list (cdb.Write6 address blocks) k = refl
-no_list cdb.ReadCapacity10 k = refl
-no_list (cdb.Read10 address blocks forced) k = refl
-no_list (cdb.Write10 address blocks forced) k = refl
-no_list (cdb.SynchronizeCache10 address blocks immediate) k = refl
-no_list (cdb.Inquiry allocation) k = refl
-no_list (cdb.ReportLuns select allocation) k = refl
-no_list (cdb.SecurityIn region size) k = refl
-no_list (cdb.SecurityOut region size) k = refl
-no_list command k = absurd k
-
 -- what is lacking of the data of a command that lists so many units
 pub data_lacking : (s : State) (r : Request) (c : Cdb) (n : Numbers) (listed : ℕ) (b : Bool) → n ≡ numbers_of s →
     listed ≡ units_listed n c → lacks_data r (direction_of c) (length_of listed c) ≡ b →
@@ -57,46 +39,53 @@ abbrev check : Sense → Option kept_status.Status
 check sense = Some (status.CheckCondition sense)
 
 -- what the code's first checks give, in their order, and then the rest
-abbrev pub checks_of : Bool → Bool → Bool → Option kept_status.Status → Option kept_status.Status
-checks_of a b p rest =
+abbrev pub checks_of : Bool → Bool → Bool → Bool → Option kept_status.Status → Option kept_status.Status
+checks_of a w b p rest =
     if a then check INVALID_FIELD
+    else if w then check LIST_LENGTH
     else if b then check INVALID_FIELD
     else if p then check OUT_OF_RANGE
     else rest
 
-pub told_by : (s : State) (r : Request) (unit : Option UnitSpec) (c : Cdb) → IsTakenCdb c →
-    unit_numbers_of s r ≡ unit → (a b p : Bool) (rest : Option kept_status.Status) →
-    is_too_long (numbers_of s) c ≡ a → lacks_data r (direction_of c) (length_in s c) ≡ b → is_past c unit ≡ p →
+-- the lines of a command that these checks find so
+lines_found : (s : State) (r : Request) (unit : Option UnitSpec) (c : Cdb) → unit_numbers_of s r ≡ unit →
+    (a w b p : Bool) → is_too_long (numbers_of s) c ≡ a → has_wrong_list c ≡ w →
+    lacks_data r (direction_of c) (length_in s c) ≡ b → is_past c unit ≡ p →
+    first_line (lines_for s r c) ≡ first_line (lines_at a w b p (lines_now s unit c))
+lines_found s r unit c spec a w b p ka kw kb kp = λ i.
+    first_line (lines_at (ka i) (kw i) (kb i) ((ap (is_past c) spec ∙ kp) i) (lines_now s (spec i) c))
+
+pub told_by : (s : State) (r : Request) (unit : Option UnitSpec) (c : Cdb) → unit_numbers_of s r ≡ unit →
+    (a w b p : Bool) (rest : Option kept_status.Status) → is_too_long (numbers_of s) c ≡ a → has_wrong_list c ≡ w →
+    lacks_data r (direction_of c) (length_in s c) ≡ b → is_past c unit ≡ p →
     first_line (lines_now s unit c) ≡ option_map status_kept rest →
-    first_line (lines_for s r c) ≡ option_map status_kept (checks_of a b p rest)
-told_by s r unit c taken spec a b p rest ka kb kp now =
-    (λ i. first_line (lines_at (ka i) (no_list c taken i)
-    (kb i) ((ap (is_past c) spec ∙ kp) i) (lines_now s (spec i) c)))
-    ∙ by a b p
+    first_line (lines_for s r c) ≡ option_map status_kept (checks_of a w b p rest)
+told_by s r unit c spec a w b p rest ka kw kb kp now =
+    lines_found s r unit c spec a w b p ka kw kb kp ∙ by a w b p
   where
-    by : (a b p : Bool) →
-        first_line (lines_at a false b p (lines_now s unit c)) ≡ option_map status_kept (checks_of a b p rest)
-    by true b p = refl
-    by false true p = refl
-    by false false true = refl
-    by false false false = now
+    by : (a w b p : Bool) →
+        first_line (lines_at a w b p (lines_now s unit c)) ≡ option_map status_kept (checks_of a w b p rest)
+    by true w b p = refl
+    by false true b p = refl
+    by false false true p = refl
+    by false false false true = refl
+    by false false false false = now
 
 -- where one of the first checks ends it
-pub told_early : (s : State) (r : Request) (unit : Option UnitSpec) (c : Cdb) → IsTakenCdb c →
-    unit_numbers_of s r ≡ unit → (a b p : Bool) → (a || (b || p)) ≡ true → is_too_long (numbers_of s) c ≡ a →
+pub told_early : (s : State) (r : Request) (unit : Option UnitSpec) (c : Cdb) → unit_numbers_of s r ≡ unit →
+    (a w b p : Bool) → (a || (w || (b || p))) ≡ true → is_too_long (numbers_of s) c ≡ a → has_wrong_list c ≡ w →
     lacks_data r (direction_of c) (length_in s c) ≡ b → is_past c unit ≡ p →
-    first_line (lines_for s r c) ≡ option_map status_kept (checks_of a b p None)
-told_early s r unit c taken spec a b p early ka kb kp =
-    (λ i. first_line (lines_at (ka i) (no_list c taken i)
-    (kb i) ((ap (is_past c) spec ∙ kp) i) (lines_now s (spec i) c)))
-    ∙ by a b p early
+    first_line (lines_for s r c) ≡ option_map status_kept (checks_of a w b p None)
+told_early s r unit c spec a w b p early ka kw kb kp =
+    lines_found s r unit c spec a w b p ka kw kb kp ∙ by a w b p early
   where
-    by : (a b p : Bool) → (a || (b || p)) ≡ true →
-        first_line (lines_at a false b p (lines_now s unit c)) ≡ option_map status_kept (checks_of a b p None)
-    by true b p e = refl
-    by false true p e = refl
-    by false false true e = refl
-    by false false false e = absurd (true≢false (sym e))
+    by : (a w b p : Bool) → (a || (w || (b || p))) ≡ true →
+        first_line (lines_at a w b p (lines_now s unit c)) ≡ option_map status_kept (checks_of a w b p None)
+    by true w b p e = refl
+    by false true b p e = refl
+    by false false true p e = refl
+    by false false false true e = refl
+    by false false false false e = absurd (true≢false (sym e))
 
 -- what the checks by what the device is now give
 abbrev pub checks_now : Bool → Bool → Bool → Bool → Bool → Option kept_status.Status

@@ -31,6 +31,7 @@ use Rattle.device.proofs.host_messages.AskedData.{AreAsked, data_asked}
 use Rattle.device.proofs.host_messages.BlocksCome.{block_keeps}
 use Rattle.device.proofs.host_messages.BlocksGathered.{gathers}
 use Rattle.device.proofs.host_messages.FramesCome.{frames_keep}
+use Rattle.device.proofs.host_messages.ListsCome.{list_keeps}
 use Rattle.device.proofs.open_tasks.OpenTasks.{Stands}
 
 abbrev call_of : ℕ → ℕ → ℕ → ArrayVec ℕ → Call
@@ -46,8 +47,13 @@ wants_block (phase.AwaitFrames size) x e = absurd (other size x e)
   where
     other : (size : ℕ) (x : Transfer) → Some (wanted.Frames size) ≡ Some (wanted.Block x) → ⊥
     other size x k = cc
+wants_block (phase.AwaitList unit size) x e = absurd (other unit size x e)
+  where
+    other : (unit size : ℕ) (x : Transfer) → Some (wanted.List unit size) ≡ Some (wanted.Block x) → ⊥
+    other unit size x k = cc
 wants_block (phase.AskData y) x e = absurd (none-some (wanted.Block x) e)
 wants_block (phase.AskFrames size) x e = absurd (none-some (wanted.Block x) e)
+wants_block (phase.AskList unit size) x e = absurd (none-some (wanted.Block x) e)
 wants_block (phase.AwaitFrontier n size) x e = absurd (none-some (wanted.Block x) e)
 wants_block (phase.ReadArea r) x e = absurd (none-some (wanted.Block x) e)
 wants_block (phase.SendBlocks y) x e = absurd (none-some (wanted.Block x) e)
@@ -70,6 +76,8 @@ come_keeps d come s tag bytes r (wanted.Block x) h wants long are did =
     (did.taken s.translation _ (h.kept.layer_kept, h.kept.claims)))
 come_keeps d come s tag bytes r (wanted.Frames size) h wants long are did =
     frames_keep d come s tag bytes size h r wants long are did
+come_keeps d come s tag bytes r (wanted.List unit size) h wants long are did =
+    list_keeps d come s tag bytes unit size h r wants long are did
 
 -- what a DATA OUT is answered, whether it was asked for or not
 each_right : (d e : DeviceCore) (s : State) (lun tag offset : ℕ) («data» : ArrayVec ℕ) (whole : List ℕ)

@@ -1,37 +1,30 @@
 -- Frames: a SECURITY PROTOCOL OUT begins that asks for them, or a SECURITY PROTOCOL IN that takes those that wait.
-use Rattle.std.proofs.Common.{◌≡◌, ◌∙◌, ℕ, ◌<◌, ◌≤◌, Bool, true, false, [], Some, None, length, replicate}
+use Rattle.std.proofs.Common.{◌≡◌, ℕ, ◌<◌, ◌≤◌, Bool, true, false, Some, None, length}
 use Rattle.std.proofs.Common.{refl, sym, ap, subst, arith}
-use Rattle.std.specs.Prelude.{◌%◌, ◌&&◌, ◌==◌, ◌∷◌, if◌then◌else◌, min, nat_le, not, Result, Ok}
+use Rattle.std.specs.Prelude.{◌%◌, ◌&&◌, ◌==◌, min, nat_le, not, Result, Ok}
 use Rattle.std.specs.List.{list_any}
-use Rattle.std.proofs.lemmas.Bool.{le-leb}
 use Rattle.ufs_spec.proofs.Facts.{false≢true, leb-true}
 use Rattle.ufs_spec.specs.Begins.{frames_begun, gathering_begun}
-use Rattle.ufs_spec.specs.Exchanges.{Deed, ForFrames, Gathering, most_tasks, task_of}
-use Rattle.ufs_spec.specs.Machine as machine
-use Rattle.ufs_spec.specs.Machine.{with_moves}
-use Rattle.ufs_spec.specs.Moves.{Claim, moved}
-use Rattle.ufs_spec.specs.Plain.{zero_block}
+use Rattle.ufs_spec.specs.Exchanges.{ForFrames, most_tasks, task_of}
 use Rattle.ufs_spec.specs.Refusals.{Request, State, has_other_response, is_frames}
 use Rattle.ufs_spec.specs.Translation.{free_slots}
 use Rattle.ufs_spec.specs.declared.scsi.Cdb.TheVariants as cdb
-use Rattle.ftl_core.specs.Public as layer_kept
-use Rattle.ftl_core.specs.Public.{AreClaimed, Core, with_claimed}
+use Rattle.ftl_core.specs.Public.{Core}
 use Rattle.task_set.specs.declared.tasks.Phase.{Phase}
 use Rattle.task_set.specs.declared.tasks.Phase.TheVariants as phase
 use Rattle.task_set.specs.declared.tasks.Status as kept_status
-use Rattle.task_set.specs.declared.tasks.Status.TheVariants as status
 use Rattle.task_set.specs.declared.frames.Frames.TheVariants as frames
 use Rattle.task_set.specs.Tasks.{is_sender}
 use Rattle.device.specs.declared.plans.Plan.{Plan}
 use Rattle.device.specs.declared.plans.Plan.TheVariants as plan
-use Rattle.device.specs.Calls.{has_slots}
 use Rattle.device.specs.Describes.{Describes, claims_of}
-use Rattle.device.specs.Kept.{DeviceCore, IsLayerWith}
+use Rattle.device.specs.Kept.{DeviceCore}
 use Rattle.device.proofs.described.Answered.{IsBehind}
 use Rattle.device.proofs.host_messages.FramesTaken.{taken_opened}
 use Rattle.device.proofs.host_messages.ReadOpened.{core_with}
+use Rattle.device.proofs.host_messages.SlotsClaimed.{LayerThen, slots_found}
 use Rattle.device.proofs.host_messages.TasksBegin.{HasBegunFor, opened_for}
-use Rattle.device.proofs.open_tasks.TaskOpened.{none_claimed, none_wanted, open_answered, open_keeps, open_told}
+use Rattle.device.proofs.open_tasks.TaskOpened.{none_claimed, opens_gathering}
 
 -- one to eight frames
 frames_few : (n : ℕ) → not (is_frames n) ≡ false → (512 ≤ n) × (n ≤ 4096)
@@ -52,69 +45,39 @@ module _ (d : DeviceCore) (s : State) (r : Request) (h : Describes d s) (free : 
   Opens todo p v = IsBehind (opened_for d r after todo p) v
 
   -- a SECURITY PROTOCOL OUT that gathers its frames
-
-  abbrev gathering : ℕ → Deed
-  gathering region = Gathering (ForFrames region) [] false
-
-  frames_opened : (region n : ℕ) → region ≡ 0 → (512 ≤ n) × (n ≤ 4096) → list_any is_sender d.tasks ≡ false →
-      layer_kept.Describes after (moved s.translation (Claim 3)) →
-      AreClaimed after (with_claimed (claims_of s.tasks) r.tag (replicate 3 zero_block)) →
-      IsBehind (core_with d r after (phase.AskFrames n) frames.Undecided)
-      (machine.with_task (with_moves s (Claim 3 ∷ [])) r (Some (cdb.SecurityOut region n)) n (gathering region))
-  frames_opened region n is long alone layer claims = record {
-    keeps =
-        open_keeps d s r h free few after (moved s.translation (Claim 3)) (Some (cdb.SecurityOut region n)) n
-        (gathering region) _ layer refl refl
-        (record {
-          wanted = none_wanted d s r h free few;
-          others_want = λ m i other. refl;
-        })
-        claims
-        (record {
-          lun = refl;
-          tag = refl;
-          expected = refl;
-          sends = refl;
-          request = refl;
-          asks = tt;
-          fits = refl;
-          doing = (
-            record {
-              for_frames = is;
-              none_came = refl;
-              total_is = refl;
-              some = (let low = long.0 in omega arith);
-              few = long.1;
-            },
-            refl,
-          );
-          read = refl;
-        }) (λ e. alone);
-    answered =
-        open_answered d s r h free few (moved s.translation (Claim 3)) (Some (cdb.SecurityOut region n)) n
-        (gathering region) (λ tag other index. refl) refl;
-    told = open_told d s r h free few (Some (cdb.SecurityOut region n)) n (gathering region) (λ l. tt);
-    shorts_told = h.shorts_told;
-  }
-
   pub asked_begins : (region n : ℕ) (p : Phase) → region ≡ 0 → not (is_frames n) ≡ false →
       list_any is_sender d.tasks ≡ false → 3 ≤ free_slots s.translation → Begins (Ok (plan.AskFrames n)) p →
       Opens (Ok (plan.AskFrames n)) p (gathering_begun s r (cdb.SecurityOut region n) n (ForFrames region))
   asked_begins region n p is long alone slots begun =
       subst (λ (x : Phase). IsBehind (core_with d r after x frames.Undecided)
-      (gathering_begun s r (cdb.SecurityOut region n) n (ForFrames region)))
-      (sym (begun.phase_is ∙ ap (λ (x : Bool). if x then phase.AskFrames n else phase.Answer status.Busy 0) left))
-      (frames_opened region n is (frames_few n long) alone its.0 its.1)
+      (gathering_begun s r (cdb.SecurityOut region n) n (ForFrames region))) (sym its.0)
+      (opens_gathering d s r h free few after (Some (cdb.SecurityOut region n)) n 3 (ForFrames region) _ its.1
+      (record {
+        lun = refl;
+        tag = refl;
+        expected = refl;
+        sends = refl;
+        sends_here = ap (λ (other : ℕ). other == 0) is;
+        request = refl;
+        asks = tt;
+        fits = refl;
+        doing = (
+          record {
+            for_frames = is;
+            none_came = refl;
+            total_is = refl;
+            some = (let low = (frames_few n long).0 in omega arith);
+            few = (frames_few n long).1;
+          },
+          refl,
+        );
+        read = refl;
+      }) (λ e. alone))
     where
-      left : has_slots s.translation 3 ≡ true
-      left = le-leb 3 (free_slots s.translation) slots
-
-      its : IsLayerWith after (moved s.translation (Claim 3))
-          (with_claimed (claims_of s.tasks) r.tag (replicate 3 zero_block))
+      its : (p ≡ phase.AskFrames n) × LayerThen after s.translation (claims_of s.tasks) r.tag 3 true
       its =
-          subst (λ (x : Bool). IsLayerWith after (if x then moved s.translation (Claim 3) else s.translation)
-          (if x then with_claimed (claims_of s.tasks) r.tag (replicate 3 zero_block) else claims_of s.tasks)) left
-          (begun.layer (none_claimed d s r h free few))
+          slots_found after s.translation (claims_of s.tasks) r.tag 3 (phase.AskFrames n) p slots
+          (none_claimed d s r h free few) begun
 
   -- a SECURITY PROTOCOL IN takes the frames that wait
 

@@ -63,6 +63,7 @@ module _ {d : DeviceCore} {s : State} {tag : ℕ} {bytes : List ℕ} (c : AllCam
       tag = c.stands.opened.kept.tag;
       expected = c.stands.opened.kept.expected;
       sends = c.stands.opened.kept.sends;
+      sends_here = c.stands.opened.kept.sends_here;
       request = c.stands.opened.kept.request;
       asks =
           subst
@@ -100,7 +101,7 @@ module _ {d : DeviceCore} {s : State} {tag : ℕ} {bytes : List ℕ} (c : AllCam
           layer_is =
               subst (λ (y : exchange.Task). IsLayerWith did.layer
               (moved s.translation (Release (claim_of (numbers_of s) c.stands.b)))
-              (with_claimed (claims_of s.tasks) c.stands.b.tag (claimed_in y.deed))) (sym changed)
+              (with_claimed (claims_of s.tasks) c.stands.b.tag (claimed_in y.length y.deed))) (sym changed)
               (released c did.layer (λ n. [])
               (did.released s.translation (claims_of s.tasks) (c.described.kept.layer_kept, c.described.kept.claims)));
           numbers = refl;

@@ -68,8 +68,13 @@ wants_frames (phase.AwaitData x) size e = absurd (other x size e)
   where
     other : (x : Transfer) (size : ℕ) → Some (wanted.Block x) ≡ Some (wanted.Frames size) → ⊥
     other x size k = cc
+wants_frames (phase.AwaitList unit n) size e = absurd (other unit n size e)
+  where
+    other : (unit n size : ℕ) → Some (wanted.List unit n) ≡ Some (wanted.Frames size) → ⊥
+    other unit n size k = cc
 wants_frames (phase.AskData y) size e = absurd (none-some (wanted.Frames size) e)
 wants_frames (phase.AskFrames n) size e = absurd (none-some (wanted.Frames size) e)
+wants_frames (phase.AskList unit n) size e = absurd (none-some (wanted.Frames size) e)
 wants_frames (phase.AwaitFrontier n m) size e = absurd (none-some (wanted.Frames size) e)
 wants_frames (phase.ReadArea r) size e = absurd (none-some (wanted.Frames size) e)
 wants_frames (phase.SendBlocks y) size e = absurd (none-some (wanted.Frames size) e)
@@ -132,7 +137,7 @@ module _ {d : DeviceCore} {s : State} {tag : ℕ} {bytes : List ℕ} (c : AllCam
   given_up = with_claimed (claims_of s.tasks) c.stands.b.tag []
 
   pub its_slots : claims_of s.tasks c.stands.b.tag ≡ replicate frame_slots zero_block
-  its_slots = ap claimed_by found ∙ ap claimed_in c.gathers.deed_is
+  its_slots = ap claimed_by found ∙ ap (claimed_in c.stands.b.length) c.gathers.deed_is
 
   pub fits : WaitsFrames (is_mended s.translation.work.mending) 0 c.stands.b.length []
       (claim_of (numbers_of s) c.stands.b)
@@ -209,7 +214,8 @@ module _ {d : DeviceCore} {s : State} {tag : ℕ} {bytes : List ℕ} (c : AllCam
     lun = c.stands.opened.kept.lun;
     tag = c.stands.opened.kept.tag;
     expected = c.stands.opened.kept.expected;
-    sends = c.stands.opened.kept.sends ∙ (ap brings_frames undecided ∙ sym (ap brings_frames frames_is));
+    sends = c.stands.opened.kept.sends ∙ still_brings;
+    sends_here = c.stands.opened.kept.sends_here ∙ still_brings;
     request =
         subst (λ (f : Frames). AreFramesKept f (Some (with_zeros bytes)) (Some (request_of bytes code))) (sym frames_is)
         (record {
@@ -242,6 +248,9 @@ module _ {d : DeviceCore} {s : State} {tag : ℕ} {bytes : List ℕ} (c : AllCam
       frames_is : frames_after c.stands.a.frames e ≡ frames.Decided code
       frames_is = ap (λ (f : Frames). frames_after f e) undecided ∙ x.frames_are_kept
 
+      still_brings : brings_frames c.stands.a.frames ≡ brings_frames (frames_after c.stands.a.frames e)
+      still_brings = ap brings_frames undecided ∙ sym (ap brings_frames frames_is)
+
       phase_is : phase_after c.stands.a.phase e ≡ p
       phase_is = ap (λ (q : Phase). phase_after q e) c.awaits ∙ x.phase_is
 
@@ -255,7 +264,7 @@ module _ {d : DeviceCore} {s : State} {tag : ℕ} {bytes : List ℕ} (c : AllCam
       pub region : IsKept m.region (region_of (after s.base cs) 0)
       pub registers : m.registers ≡ d.rpmb.registers
       pub layer_is : IsLayerWith layer u given_up
-      pub none_claimed : claimed_in deed ≡ []
+      pub none_claimed : claimed_in c.stands.b.length deed ≡ []
       pub numbers : u.numbers ≡ s.translation.numbers
       pub before : before_accepted u.ledger ≡ before_accepted s.translation.ledger
       pub wanted : (index : ℕ) → wanted_kept u.pins c.stands.b.tag index
@@ -284,7 +293,7 @@ module _ {d : DeviceCore} {s : State} {tag : ℕ} {bytes : List ℕ} (c : AllCam
             ∙ sym (ap (emptied_by (all_frames bytes)) leads.registers);
         layer_is =
             subst (λ (y : exchange.Task). IsLayerWith did.layer u
-            (with_claimed (claims_of s.tasks) c.stands.b.tag (claimed_in y.deed))) (sym changed)
+            (with_claimed (claims_of s.tasks) c.stands.b.tag (claimed_in y.length y.deed))) (sym changed)
             (subst (λ (blocks : List (List ℕ)). IsLayerWith did.layer u
             (with_claimed (claims_of s.tasks) c.stands.b.tag blocks)) (sym leads.none_claimed) leads.layer_is);
         numbers = leads.numbers;

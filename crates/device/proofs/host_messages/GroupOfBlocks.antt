@@ -45,7 +45,7 @@ block_written units unit address i blocks at there within =
 abbrev item : Key → List ℕ → Item
 item k body = record { key = k; body = body }
 
-items_length : (k : Key) (i : ℕ) (bodies : List (List ℕ)) → length (items_behind k i bodies) ≡ length bodies
+pub items_length : (k : Key) (i : ℕ) (bodies : List (List ℕ)) → length (items_behind k i bodies) ≡ length bodies
 items_length k i [] = refl
 items_length k i (body ∷ bodies) = ap suc (items_length k (i + 1) bodies)
 

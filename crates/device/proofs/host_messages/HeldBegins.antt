@@ -26,7 +26,7 @@ use Rattle.device.specs.Kept.{DeviceCore, IsLayerWith}
 use Rattle.device.proofs.described.Answered.{IsBehind}
 use Rattle.device.proofs.host_messages.CommandPasses.{some_told}
 use Rattle.device.proofs.host_messages.ReadOpened.{core_opened}
-use Rattle.device.proofs.open_tasks.TaskOpened.{opens_still}
+use Rattle.device.proofs.open_tasks.TaskOpened.{opens_still, quiet_here}
 
 -- The block of the pool
 
@@ -114,12 +114,13 @@ module _ (d : DeviceCore) (s : State) (r : Request) (h : Describes d s) (free : 
       by : (b : Bool) → (min r.expected size == 0) ≡ b → IsBehind (held_at b) (data_at size b)
       by true e =
           opens_still d s r h free few after (Some command) size (Answering Good size) _ layer
-          (record { wanted = λ i. refl; claimed = refl }) (λ l. tt)
+          (record { wanted = λ i. refl; claimed = λ total. refl }) (λ l. tt)
           (record {
             lun = refl;
             tag = refl;
             expected = refl;
             sends = quiet;
+            sends_here = quiet_here 0 (Some command) quiet;
             request = refl;
             asks = tt;
             fits = tt;
@@ -128,12 +129,13 @@ module _ (d : DeviceCore) (s : State) (r : Request) (h : Describes d s) (free : 
           }) (λ e. absurd (false≢true e))
       by false e =
           opens_still d s r h free few after (Some command) size (SendingBytes bytes) _ layer
-          (record { wanted = λ i. refl; claimed = refl }) (λ l. tt)
+          (record { wanted = λ i. refl; claimed = λ total. refl }) (λ l. tt)
           (record {
             lun = refl;
             tag = refl;
             expected = refl;
             sends = quiet;
+            sends_here = quiet_here 0 (Some command) quiet;
             request = refl;
             asks = tt;
             fits = (

@@ -28,22 +28,14 @@ faults_right d s bytes fault h heard = record {
   answered = answered d d s (Host (Faulty fault)) (OfHost (Err fault)) h (bytes, heard) refl (stays d s h);
 }
 
--- messages that open a short exchange
-module _ (d e : DeviceCore) (s : State) (bytes : List ℕ) (answer : Result Unit HostFault) (h : Describes d s)
-    (none : host_fault_of bytes ≡ None) (refused : OnErr answer (e ≡ d)) where
-  pub nop_right : (tag : ℕ) → Spells (message.NopOut tag) bytes → answer ≡ short_answer d tag →
-      OnOk answer (e ≡ with_short d (at_once tag reply.NopIn)) → IsHeardAs s bytes answer e
-  nop_right tag spells told taken =
-      short_heard d e s bytes (message.NopOut tag) None tag reply.NopIn answer h spells none refl refl refl told refused
-      taken
-
-  -- no tasks are managed, so that nothing is aborted
-  pub managing_right : (lun tag function meant : ℕ) → Spells (message.TaskRequest lun tag function meant) bytes →
-      answer ≡ short_answer d tag →
-      OnOk answer (e ≡ with_short d (at_once tag (reply.NotManaged lun))) → IsHeardAs s bytes answer e
-  managing_right lun tag function meant spells told taken =
-      short_heard d e s bytes (message.TaskRequest lun tag function meant) None tag (reply.NotManaged lun) answer h
-      spells none refl refl refl told refused taken
+-- a NOP OUT opens a short exchange
+pub nop_right : (d e : DeviceCore) (s : State) (bytes : List ℕ) (answer : Result Unit HostFault) → Describes d s →
+    host_fault_of bytes ≡ None → OnErr answer (e ≡ d) → (tag : ℕ) → Spells (message.NopOut tag) bytes →
+    answer ≡ short_answer d tag → OnOk answer (e ≡ with_short d (at_once tag reply.NopIn)) →
+    IsHeardAs s bytes answer e
+nop_right d e s bytes answer h none refused tag spells told taken =
+    short_heard d e s bytes (message.NopOut tag) None tag reply.NopIn answer h spells none refl refl refl told refused
+    taken
 
 -- a kind of message that a device sends has a wrong transaction code
 abbrev IsOfDevice : State → Message → Type 0

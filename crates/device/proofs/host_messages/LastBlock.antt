@@ -43,7 +43,7 @@ write_sends : (forced : Bool) (position n : ℕ) → SendsNone (write_deed force
 write_sends true position n = record { wanted = λ index request. refl; read = refl }
 write_sends false position n = record { wanted = λ index request. refl; read = refl }
 
-write_claims : (forced : Bool) (position n : ℕ) → claimed_in (write_deed forced position n) ≡ []
+write_claims : (forced : Bool) (position n : ℕ) → claimed_in n (write_deed forced position n) ≡ []
 write_claims true position n = refl
 write_claims false position n = refl
 

@@ -31,7 +31,8 @@ use Rattle.device.specs.Hears.{with_task}
 use Rattle.device.specs.Kept.{DeviceCore}
 use Rattle.device.proofs.described.Answered.{IsBehind}
 use Rattle.device.proofs.host_messages.BlocksKept.{kept_are, made_is, others_found, others_wanted, own_wanted}
-use Rattle.device.proofs.open_tasks.TaskOpened.{none_wanted, open_answered, open_keeps, open_told, still_claimed}
+use Rattle.device.proofs.open_tasks.TaskOpened.{none_wanted, open_answered, open_keeps, open_told, quiet_here}
+use Rattle.device.proofs.open_tasks.TaskOpened.{still_claimed}
 
 -- the device with the new task, which has this to do with frames, over the layer as it is then
 abbrev pub core_with : DeviceCore → Request → Core → Phase → Frames → DeviceCore
@@ -79,12 +80,13 @@ module _ (d : DeviceCore) (s : State) (r : Request) (h : Describes d s) (free : 
               ≡ wanted_kept s.translation.pins n i) (sym are)
               (others_wanted s.translation.pins r.tag m keeps_at (λ j. refl) (λ j. refl) none);
         })
-        (still_claimed d s r h free few after (Sending (read_blocks s unit address m) 0) refl claims)
+        (still_claimed d s r h free few after n (Sending (read_blocks s unit address m) 0) refl claims)
         (record {
           lun = refl;
           tag = refl;
           expected = refl;
           sends = sends;
+          sends_here = quiet_here 0 (Some command) sends;
           request = refl;
           asks = tt;
           fits = refl;

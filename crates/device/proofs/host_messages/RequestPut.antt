@@ -1,8 +1,8 @@
 -- A key or a write whose group was put behind all that are pending is accepted.
-use Rattle.std.proofs.Common.{◌≡◌, ◌∙◌, ℕ, ◌||◌, Bool, true, false, IsTrue, not, List, [], Some}
+use Rattle.std.proofs.Common.{◌≡◌, ◌∙◌, ℕ, Bool, false, IsTrue, List, [], Some}
 use Rattle.std.proofs.Common.{length, refl, sym, ap, subst, arith}
 use Rattle.std.proofs.lemmas.Option.{same_Some}
-use Rattle.ufs_spec.proofs.Facts.{none-some, true≢false}
+use Rattle.ufs_spec.proofs.Facts.{none-some}
 use Rattle.ufs_spec.specs.Commands.{Command, RpmbWrite, SetKey}
 use Rattle.ufs_spec.specs.Frames.{Frame}
 use Rattle.ufs_spec.specs.Keys.{Group, IsSettings, group_of, settings_bytes, settings_key, settings_of}
@@ -32,18 +32,13 @@ use Rattle.device.proofs.host_messages.GroupsOfFrames.{key_grouped, write_groupe
 
 -- What a locked device does not accept
 
--- a layer that is not locked has a number left
-left_over : (bad number : Bool) → (bad || not number) ≡ false → IsTrue number
-left_over false true free = refl
-left_over false false free = absurd (true≢false free)
-left_over true number free = absurd (true≢false free)
-
--- so there is one for what is accepted
-pub number_left : (locked : Bool) (code : ℕ) (what : Accepted) (c : Core) → locked ≡ (c.has_bad || not (has_number c)) →
-    AcceptsUnlocked locked (outcome.Results code what) → HasNumberFor what c
-number_left locked code accepted.Nothing c is free = tt
-number_left locked code (accepted.Key bytes) c is free = left_over c.has_bad (has_number c) (sym is ∙ free)
-number_left locked code (accepted.Write address) c is free = left_over c.has_bad (has_number c) (sym is ∙ free)
+-- a layer that is not locked has a number left for what is accepted
+pub number_left : (locked : Bool) (code : ℕ) (what : Accepted) (c : Core) →
+    (locked ≡ false → IsTrue (has_number c)) → AcceptsUnlocked locked (outcome.Results code what) →
+    HasNumberFor what c
+number_left locked code accepted.Nothing c left free = tt
+number_left locked code (accepted.Key bytes) c left free = left free
+number_left locked code (accepted.Write address) c left free = left free
 
 -- What is put
 

@@ -24,24 +24,24 @@ use Rattle.device.proofs.host_messages.CommandTags.{short_fault}
 
 -- what is kept with one short exchange more is kept of the state with one more, where it waits for nothing that a lock
 -- ends
-pub short_more : (d : DeviceCore) (s : State) (r : kept.Short) (b : Short) → Describes d s →
+pub short_behind : (d : DeviceCore) (s : State) (r : kept.Short) (b : Short) → IsBehind d s →
     ShortKept (numbers_of s) (before_accepted s.translation.ledger) r b → IsShortTold (durable s) b →
     IsBehind (with_short d r) (machine.with_short s b)
-short_more d s r b h kept told = record {
+short_behind d s r b h kept told = record {
   keeps = record {
-    boot = h.kept.boot;
-    permanent = h.kept.permanent;
-    region = h.kept.region;
-    registers = h.kept.registers;
-    layer_kept = h.kept.layer_kept;
-    few = h.kept.few;
-    tasks = h.kept.tasks;
-    one_sends = h.kept.one_sends;
-    wanted = h.kept.wanted;
-    claims = h.kept.claims;
-    shorts = one_short_more (numbers_of s) (before_accepted s.translation.ledger) d.shorts s.shorts r b h.kept.shorts
+    boot = h.keeps.boot;
+    permanent = h.keeps.permanent;
+    region = h.keeps.region;
+    registers = h.keeps.registers;
+    layer_kept = h.keeps.layer_kept;
+    few = h.keeps.few;
+    tasks = h.keeps.tasks;
+    one_sends = h.keeps.one_sends;
+    wanted = h.keeps.wanted;
+    claims = h.keeps.claims;
+    shorts = one_short_more (numbers_of s) (before_accepted s.translation.ledger) d.shorts s.shorts r b h.keeps.shorts
         kept;
-    power_on = h.kept.power_on;
+    power_on = h.keeps.power_on;
   };
   answered = h.answered;
   told = h.told;
@@ -53,7 +53,7 @@ pub once_more : (d : DeviceCore) (s : State) (tag : ℕ) (said : ShortReply) →
     IsBehind (with_short d (at_once tag said))
     (machine.with_short s (short_reply tag (short_said (numbers_of s) tag said)))
 once_more d s tag said h =
-    short_more d s (at_once tag said) (short_reply tag (short_said (numbers_of s) tag said)) h
+    short_behind d s (at_once tag said) (short_reply tag (short_said (numbers_of s) tag said)) (stays d s h)
     (kept_at_once (numbers_of s) (before_accepted s.translation.ledger) tag said) tt
 
 -- a message is heard with this answer, whatever the device keeps then

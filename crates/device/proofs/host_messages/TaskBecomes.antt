@@ -40,7 +40,7 @@ pub record Becomes (s : State) (a new : OpenTask) (b : exchange.Task) (f : excha
   pub permanent : (after s.base cs).permanent ≡ (plain_now s).permanent
   pub region : IsKept m.region (region_of (after s.base cs) 0)
   pub registers_are : registers 0 ≡ m.registers
-  pub layer_is : IsLayerWith layer u (with_claimed (claims_of s.tasks) b.tag (claimed_in (f b).deed))
+  pub layer_is : IsLayerWith layer u (with_claimed (claims_of s.tasks) b.tag (claimed_in (f b).length (f b).deed))
   pub numbers : u.numbers ≡ s.translation.numbers
   pub before : before_accepted u.ledger ≡ before_accepted s.translation.ledger
   pub task : TaskKept (before_accepted s.translation.ledger) new (f b)

@@ -34,7 +34,7 @@ use Rattle.device.proofs.described.Answered.{IsBehind}
 use Rattle.device.proofs.host_messages.CommandPasses.{some_told}
 use Rattle.device.proofs.host_messages.NumbersAwaited.{number_awaited}
 use Rattle.device.proofs.host_messages.ReadOpened.{core_opened, core_with}
-use Rattle.device.proofs.open_tasks.TaskOpened.{opens_still}
+use Rattle.device.proofs.open_tasks.TaskOpened.{opens_still, quiet_here}
 
 -- what was planned begins, over the layer as it is then
 abbrev pub HasBegunFor : State → Request → Core → Result Plan kept_status.Status → Phase → Type 0
@@ -62,6 +62,7 @@ opened_as d s r h e after (Ok (plan.Write key blocks forced)) p u begun layer mo
 opened_as d s r h e after (Ok (plan.Send x)) p u begun layer more = more u layer
 opened_as d s r h e after (Ok plan.Flush) p u begun layer more = more u layer
 opened_as d s r h e after (Ok (plan.AskFrames size)) p u begun layer more = more u layer
+opened_as d s r h e after (Ok (plan.AskList unit size)) p u begun layer more = more u layer
 opened_as d s r h e after (Err told) p u begun layer more = more u layer
 
 pub same_phase : (d : DeviceCore) (r : Request) (after : Core) (p q : Phase) (v : State) → p ≡ q →
@@ -94,12 +95,13 @@ module _ (d : DeviceCore) (s : State) (r : Request) (h : Describes d s) (free : 
       (machine.with_task s r command n (Answering answer carried))
   answer_opened command n carried answer told m quiet layer same count =
       opens_still d s r h free few after command n (Answering answer carried) _ layer
-      (record { wanted = λ i. refl; claimed = refl }) (λ l. tt)
+      (record { wanted = λ i. refl; claimed = λ total. refl }) (λ l. tt)
       (record {
         lun = refl;
         tag = refl;
         expected = refl;
         sends = quiet;
+        sends_here = quiet_here 0 command quiet;
         request = refl;
         asks = tt;
         fits = tt;
@@ -137,12 +139,13 @@ module _ (d : DeviceCore) (s : State) (r : Request) (h : Describes d s) (free : 
       by false e k =
           same_phase d r after p (phase.SendData x) _ k.0
           (opens_still d s r h free few after (Some command) (data_length x) (SendingBytes (data_bytes x)) _ k.1
-          (record { wanted = λ i. refl; claimed = refl }) (λ l. tt)
+          (record { wanted = λ i. refl; claimed = λ total. refl }) (λ l. tt)
           (record {
             lun = refl;
             tag = refl;
             expected = refl;
             sends = quiet;
+            sends_here = quiet_here 0 (Some command) quiet;
             request = refl;
             asks = tt;
             fits = refl;
@@ -160,12 +163,13 @@ module _ (d : DeviceCore) (s : State) (r : Request) (h : Describes d s) (free : 
   flush_begins command false p quiet told begun =
       same_phase d r after p (phase.AwaitFrontier (last_number s.translation.ledger) 0) _ begun.0
       (opens_still d s r h free few after (Some command) 0 (Awaiting (length s.accepted)) _ begun.1
-      (record { wanted = λ i. refl; claimed = refl }) told
+      (record { wanted = λ i. refl; claimed = λ total. refl }) told
       (record {
         lun = refl;
         tag = refl;
         expected = refl;
         sends = quiet;
+        sends_here = quiet_here 0 (Some command) quiet;
         request = refl;
         asks = tt;
         fits = tt;

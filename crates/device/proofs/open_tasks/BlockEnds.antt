@@ -128,6 +128,7 @@ module _ (before index : ℕ) (a : OpenTask) (b : exchange.Task) (blocks : List 
         tag = h.tag;
         expected = h.expected;
         sends = h.sends ∙ ap brings_frames quiet;
+        sends_here = h.sends_here ∙ ap brings_frames quiet;
         request = none_asked;
         asks = tt;
         fits = refl;
@@ -160,6 +161,7 @@ module _ (before index : ℕ) (a : OpenTask) (b : exchange.Task) (blocks : List 
         tag = h.tag;
         expected = h.expected;
         sends = h.sends ∙ ap brings_frames quiet;
+        sends_here = h.sends_here ∙ ap brings_frames quiet;
         request = none_asked;
         asks = tt;
         fits = tt;

@@ -114,13 +114,13 @@ one_claims us vs one o is stay = λ i tag.
 
 pub claims_changed : (us : List exchange.Task) (f : exchange.Task → exchange.Task) (one : ℕ) (b : exchange.Task) →
     ChangesOne f one → task_of one us ≡ Some b →
-    claims_of (map f us) ≡ with_claimed (claims_of us) one (claimed_in (f b).deed)
+    claims_of (map f us) ≡ with_claimed (claims_of us) one (claimed_in (f b).length (f b).deed)
 claims_changed us f one b changes found =
     one_claims us (map f us) one (Some (f b)) (one_goes_on f us one b changes.tags found)
     (λ tag. others_go_on f us one tag changes)
 
 pub claims_set : (us : List exchange.Task) (one : ℕ) (b : exchange.Task) (deed : Deed) → task_of one us ≡ Some b →
-    claims_of (map (with_deed one deed) us) ≡ with_claimed (claims_of us) one (claimed_in deed)
+    claims_of (map (with_deed one deed) us) ≡ with_claimed (claims_of us) one (claimed_in b.length deed)
 claims_set us one b deed found =
     one_claims us (map (with_deed one deed) us) one (Some (record b { deed = deed })) (deed_set one deed us b found)
     (λ tag. others_go_on (with_deed one deed) us one tag (deed_changes one deed))
@@ -131,7 +131,7 @@ claims_left us one =
     one_claims us (exchange.without_task one us) one None (task_gone one us) (λ tag. others_left one tag us)
 
 pub claims_more : (us : List exchange.Task) (b : exchange.Task) → task_of b.tag us ≡ None →
-    claims_of (us ++ b ∷ []) ≡ with_claimed (claims_of us) b.tag (claimed_in b.deed)
+    claims_of (us ++ b ∷ []) ≡ with_claimed (claims_of us) b.tag (claimed_in b.length b.deed)
 claims_more us b free = one_claims us (us ++ b ∷ []) b.tag (Some b) (comes us b free) (others_come us b)
 
 -- Each task
@@ -141,7 +141,7 @@ pub record SameDeed (f : exchange.Task → exchange.Task) : Type 0 where
   pub tags : KeepsTag f
   pub wanted : (index : ℕ) (x : exchange.Task) →
       wanted_in index (f x).request (f x).deed ≡ wanted_in index x.request x.deed
-  pub claimed : (x : exchange.Task) → claimed_in (f x).deed ≡ claimed_in x.deed
+  pub claimed : (x : exchange.Task) → claimed_in (f x).length (f x).deed ≡ claimed_in x.length x.deed
 
 pub each_wants : (pins : List Pin) (us : List exchange.Task) (f : exchange.Task → exchange.Task) →
     WantedForAll pins us → SameDeed f → WantedForAll pins (map f us)

@@ -287,6 +287,7 @@ module _ (before index : ℕ) (a : OpenTask) (b : exchange.Task) (pages : List R
     tag = h.tag;
     expected = h.expected;
     sends = h.sends ∙ ap brings_frames decision.is;
+    sends_here = h.sends_here ∙ ap brings_frames decision.is;
     request = asked_same decision.code row new b.request long same asked_row;
     asks = reads_same its.r index decision.code how row new same asks;
     fits = (tt, stand);

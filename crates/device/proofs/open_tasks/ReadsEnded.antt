@@ -125,7 +125,9 @@ read_sends_in index body a (phase.ReadArea r) = refl
 read_sends_in index body a (phase.AskData x) = refl
 read_sends_in index body a (phase.AwaitData x) = refl
 read_sends_in index body a (phase.AskFrames size) = refl
+read_sends_in index body a (phase.AskList unit size) = refl
 read_sends_in index body a (phase.AwaitFrames size) = refl
+read_sends_in index body a (phase.AwaitList unit size) = refl
 read_sends_in index body a (phase.AwaitFrontier n size) = refl
 read_sends_in index body a (phase.SendBlocks x) = refl
 read_sends_in index body a (phase.SendData x) = refl
@@ -308,10 +310,18 @@ module _ (tag index : ℕ) (us : List exchange.Task) (r : IsReading tag index us
           ∙ sym (ap (λ x. wanted_in k r.task.request (deed_read index state x)) deed.0)
 
   -- it has claimed no slot
-  pub claims_none : (claimed_in r.task.deed ≡ []) × (claimed_in (deed_read index state r.task.deed) ≡ [])
+  pub claims_none : (claimed_in r.task.length r.task.deed ≡ [])
+      × (claimed_in r.task.length (deed_read index state r.task.deed) ≡ [])
   claims_none = by r.deed
     where
       by : IsReadFor index r.task r.blocks →
-          (claimed_in r.task.deed ≡ []) × (claimed_in (deed_read index state r.task.deed) ≡ [])
-      by (inl deed) = (ap claimed_in deed, ap (λ x. claimed_in (deed_read index state x)) deed)
-      by (inr deed) = (ap claimed_in deed.0, ap (λ x. claimed_in (deed_read index state x)) deed.0)
+          (claimed_in r.task.length r.task.deed ≡ [])
+          × (claimed_in r.task.length (deed_read index state r.task.deed) ≡ [])
+      by (inl deed) = (
+        ap (claimed_in r.task.length) deed,
+        ap (λ x. claimed_in r.task.length (deed_read index state x)) deed,
+      )
+      by (inr deed) = (
+        ap (claimed_in r.task.length) deed.0,
+        ap (λ x. claimed_in r.task.length (deed_read index state x)) deed.0,
+      )

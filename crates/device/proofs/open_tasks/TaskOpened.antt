@@ -1,27 +1,29 @@
 -- A COMMAND opens a task: what the device keeps then is kept of the state with the new task.
 use Rattle.std.proofs.Common.{◌≡◌, ◌∙◌, ℕ, ◌<◌, ◌==◌, Bool, true, false, All, List, [], ◌∷◌, ◌++◌, Option}
-use Rattle.std.proofs.Common.{None, length, refl, sym, ap, subst, arith}
+use Rattle.std.proofs.Common.{Some, None, length, refl, sym, ap, subst, arith}
 use Rattle.std.specs.Prelude.{◌||◌}
 use Rattle.std.specs.List.{list_any}
 use Rattle.std.proofs.lemmas.List.{length-append}
 use Rattle.std.proofs.lemmas.List.Elements.{All-head, All-push, All-tail}
-use Rattle.ufs_spec.proofs.Facts.{eqb-true, none-some}
+use Rattle.ufs_spec.proofs.Facts.{eqb-true, none-some, true≢false}
 use Rattle.ufs_spec.specs.Exchanges as exchange
-use Rattle.ufs_spec.specs.Exchanges.{Deed, task_of}
+use Rattle.ufs_spec.specs.Exchanges.{Deed, Gathering, Purpose, task_of}
 use Rattle.ufs_spec.specs.Ledger.{before_accepted}
 use Rattle.ufs_spec.specs.Machine as machine
-use Rattle.ufs_spec.specs.Machine.{durable, is_to_fill}
-use Rattle.ufs_spec.specs.Refusals.{Request, State, locked, numbers_of}
+use Rattle.ufs_spec.specs.Machine.{durable, is_to_fill, with_moves}
+use Rattle.ufs_spec.specs.Moves.{Claim, moved}
+use Rattle.ufs_spec.specs.Refusals.{Request, State, locked, numbers_of, sends_frames, sends_frames_to}
 use Rattle.ufs_spec.specs.Exchanges.{most_tasks}
 use Rattle.ufs_spec.specs.Translation.{Pin, Translation}
 use Rattle.ufs_spec.specs.declared.scsi.Cdb.{Cdb}
+use Rattle.ufs_spec.specs.declared.scsi.Cdb.TheVariants as cdb
 use Rattle.power_loss.specs.Shown.{ShowsRight}
 use Rattle.ftl_core.specs.Public as layer_kept
 use Rattle.ftl_core.specs.Public.{AreClaimed, Core, keeps_for, with_claimed}
 use Rattle.task_set.specs.Kept.{OpenTask}
 use Rattle.task_set.specs.Tasks.{is_sender}
 use Rattle.device.specs.Describes.{Describes, HaveAnswered, IsTold, IsToldIn, Keeps, OneSends, TaskKept, TasksKept}
-use Rattle.device.specs.Describes.{claimed_by, claimed_in, claims_of, wanted_in, wanted_kept}
+use Rattle.device.specs.Describes.{claimed_by, claimed_for, claimed_in, claims_of, wanted_in, wanted_kept}
 use Rattle.device.specs.Hears.{with_task}
 use Rattle.device.specs.Kept.{DeviceCore, IsLayerWith}
 use Rattle.device.proofs.described.Answered.{IsBehind}
@@ -44,10 +46,17 @@ opened r command n deed =
       request = None;
     }
 
+-- a command that brings no frames brings none to a region
+pub quiet_here : (region : ℕ) (command : Option Cdb) → sends_frames command ≡ false →
+    sends_frames_to region command ≡ false
+quiet_here region None quiet = refl
+quiet_here region (Some (cdb.SecurityOut other size)) quiet = absurd (true≢false quiet)
+quiet_here region (Some command) quiet = refl
+
 -- the deed of a task without a request tells of no block
 pub record TellsNothing (deed : Deed) : Type 0 where
   pub wanted : (index : ℕ) → wanted_in index None deed ≡ None
-  pub claimed : claimed_in deed ≡ []
+  pub claimed : (total : ℕ) → claimed_in total deed ≡ []
 
 -- what is wanted for the tag is what its deed tells, and for other tags nothing changes
 pub record TagBegins (before : List Pin) (tag : ℕ) (deed : Deed) (pins : List Pin) : Type 0 where
@@ -64,11 +73,12 @@ module _ (d : DeviceCore) (s : State) (r : Request) (h : Describes d s) (free : 
   none_claimed = ap claimed_by free
 
   -- where its deed claims nothing, what is claimed stays
-  pub still_claimed : (after : Core) (deed : Deed) → claimed_in deed ≡ [] → AreClaimed after (claims_of s.tasks) →
-      AreClaimed after (with_claimed (claims_of s.tasks) r.tag (claimed_in deed))
-  still_claimed after deed none =
+  pub still_claimed : (after : Core) (total : ℕ) (deed : Deed) → claimed_in total deed ≡ [] →
+      AreClaimed after (claims_of s.tasks) →
+      AreClaimed after (with_claimed (claims_of s.tasks) r.tag (claimed_in total deed))
+  still_claimed after total deed none =
       subst (AreClaimed after)
-      (sym (claimed_same (claims_of s.tasks) r.tag (claimed_in deed) (none_claimed ∙ sym none)))
+      (sym (claimed_same (claims_of s.tasks) r.tag (claimed_in total deed) (none_claimed ∙ sym none)))
 
   nobody_in : (pins : List Pin) → All (ShowsRight s.translation.ledger s.tasks) pins →
       list_any (keeps_for r.tag) pins ≡ false
@@ -96,7 +106,7 @@ module _ (d : DeviceCore) (s : State) (r : Request) (h : Describes d s) (free : 
       layer_kept.Describes c u → u.numbers ≡ s.translation.numbers →
       before_accepted u.ledger ≡ before_accepted s.translation.ledger →
       TagBegins s.translation.pins r.tag deed u.pins →
-      AreClaimed c (with_claimed (claims_of s.tasks) r.tag (claimed_in deed)) →
+      AreClaimed c (with_claimed (claims_of s.tasks) r.tag (claimed_in n deed)) →
       TaskKept (before_accepted s.translation.ledger) a (opened r command n deed) →
       (is_sender a ≡ true → list_any is_sender d.tasks ≡ false) →
       Keeps (with_task (record d { ftl = c }) a) (machine.with_task (record s { translation = u }) r command n deed)
@@ -154,8 +164,27 @@ module _ (d : DeviceCore) (s : State) (r : Request) (h : Describes d s) (free : 
           wanted = λ index. none_wanted index ∙ sym (none.wanted index);
           others_want = λ m index other. refl;
         })
-        (still_claimed c deed none.claimed layer.1) task alone;
+        (still_claimed c n deed (none.claimed n) layer.1) task alone;
     answered = open_answered s.translation command n deed (λ tag other index. refl) refl;
     told = open_told command n deed new;
+    shorts_told = h.shorts_told;
+  }
+
+  -- where it claims slots and gathers what comes
+  pub opens_gathering : (c : Core) (command : Option Cdb) (n slots : ℕ) (purpose : Purpose) (a : OpenTask) →
+      IsLayerWith c (moved s.translation (Claim slots))
+      (with_claimed (claims_of s.tasks) r.tag (claimed_for n purpose [])) →
+      TaskKept (before_accepted s.translation.ledger) a (opened r command n (Gathering purpose [] false)) →
+      (is_sender a ≡ true → list_any is_sender d.tasks ≡ false) →
+      IsBehind (with_task (record d { ftl = c }) a)
+      (machine.with_task (with_moves s (Claim slots ∷ [])) r command n (Gathering purpose [] false))
+  opens_gathering c command n slots purpose a layer task alone = record {
+    keeps =
+        open_keeps c (moved s.translation (Claim slots)) command n (Gathering purpose [] false) a layer.0 refl refl
+        (record { wanted = none_wanted; others_want = λ m index other. refl }) layer.1 task alone;
+    answered =
+        open_answered (moved s.translation (Claim slots)) command n (Gathering purpose [] false)
+        (λ tag other index. refl) refl;
+    told = open_told command n (Gathering purpose [] false) (λ l. tt);
     shorts_told = h.shorts_told;
   }

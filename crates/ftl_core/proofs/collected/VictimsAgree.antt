@@ -10,7 +10,7 @@ use Rattle.ufs_spec.specs.Disk.{Spot, place_in}
 use Rattle.ufs_spec.specs.Keys.{below}
 use Rattle.ufs_spec.specs.Translation as layer
 use Rattle.ufs_spec.specs.Translation.{Translation, count_blocks, least_of, spots, wanted_room}
-use Rattle.block_table.specs.Blocks.{is_bad, is_free}
+use Rattle.block_table.specs.Blocks.{is_bad}
 use Rattle.block_table.specs.Lives.{gains, has_block, is_live, live_count, spots_in}
 use Rattle.block_table.specs.declared.Sizes.{Sizes}
 use Rattle.block_table.proofs.Relations.{any_same, victim_same}
@@ -18,21 +18,13 @@ use Rattle.ftl_core.specs.Collects.{has_few_free, is_bad_with_live, is_pinned, m
 use Rattle.ftl_core.specs.Core.{Core}
 use Rattle.ftl_core.specs.Describes.{Describes, block_kept}
 use Rattle.ftl_core.specs.KnownLive.{sizes_of}
-use Rattle.ftl_core.specs.Moves.{state_of}
+use Rattle.ftl_core.specs.Moves.{bad_blocks, state_of}
 use Rattle.ftl_core.proofs.job_taken.NextErases.{state_is}
 use Rattle.ftl_core.proofs.live_pages.NamesLive.{live_named}
 use Rattle.ftl_core.proofs.opened.FoundBlocks.{some_one}
-use Rattle.ftl_core.proofs.opened.Spots.{free_counted}
+use Rattle.ftl_core.proofs.job_taken.OpenBlocks.{bad_alike, free_alike}
+use Rattle.ftl_core.proofs.opened.Spots.{same_bad}
 use Rattle.ftl_core.proofs.pins.PinsAlike.{pinned_as}
-
--- the same blocks are bad
-same_bad : (b : disk.BlockState) (v : disk.Vacancy) → is_bad (block_kept b v) ≡ layer.is_bad b
-same_bad disk.Free disk.Untouched = refl
-same_bad disk.Free disk.Stale = refl
-same_bad disk.Free disk.Ready = refl
-same_bad (disk.Filling next) v = refl
-same_bad disk.Closed v = refl
-same_bad disk.Bad v = refl
 
 -- the live pages of a block are the same, in the same order
 pub lives_agree : (c : Core) (t : Translation) → Describes c t → (s : Spot) →
@@ -87,9 +79,7 @@ module _ (c : Core) (t : Translation) (h : Describes c t) where
   -- few blocks are free on both sides or on none
   few_agree : has_few_free c ≡
       nat_lt (count_blocks t layer.is_free) (wanted_room t.numbers)
-  few_agree =
-      let free = ap (count_by is_free) h.kept.blocks.all ∙ free_counted t.numbers t.disk.blocks t.disk.vacancies in
-      λ i. nat_lt (free i) (wanted_room (h.kept.numbers i))
+  few_agree = λ i. nat_lt (free_alike c t h.kept i) (wanted_room (h.kept.numbers i))
 
 -- the block that is found to be collected is the one that the layer is to collect
 pub victims_agree : (c : Core) (t : Translation) → Describes c t → victim c ≡ layer.victim t
@@ -112,7 +102,7 @@ none_bad bad test only (s ∷ ss) e = by (bad s) refl e (none_bad bad test only 
 
 -- something is to be collected exactly where the layer has few free blocks or a bad one with live pages
 pub wants_agree : (c : Core) (t : Translation) → Describes c t → wants_collection c ≡ layer.wants_collection t
-wants_agree c t h = by c.has_bad h.kept.blocks.bad
+wants_agree c t h = by (nat_lt 0 (bad_blocks c)) (ap (nat_lt 0) (bad_alike c t h.kept))
   where
     bad : list_any (is_bad_with_live c) (spots_in c.live.sizes)
         ≡ list_any (layer.is_bad_with_live t) (spots t.numbers)

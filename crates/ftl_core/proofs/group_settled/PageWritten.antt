@@ -9,7 +9,7 @@ use Rattle.ufs_spec.specs.Keys as keys
 use Rattle.ufs_spec.specs.Ledger.{Entry}
 use Rattle.ufs_spec.specs.Moves.{step_after}
 use Rattle.ufs_spec.specs.Translation.{Mended, Mending, Repairing, Step, Translation, Unmarked, flies_name}
-use Rattle.ufs_spec.specs.Translation.{is_bad, is_mended, name_of, names_after}
+use Rattle.ufs_spec.specs.Translation.{is_mended, name_of, names_after}
 use Rattle.ufs_spec.specs.declared.configs.Numbers.{Numbers}
 use Rattle.ufs_spec.specs.declared.flash.Place.{Place}
 use Rattle.ufs_spec.specs.declared.flash.Tag.{Tag}
@@ -161,7 +161,7 @@ module _ (c : Core) (t : Translation) (die : ℕ) (b : DieRow) (o : OpenBlock) (
 
   -- what is kept, with these states of blocks and this open block of the die
   kept_written : (x : disk.BlockState) (states : List BlockState) (filling : Option OpenBlock) →
-      BlocksKept t.numbers (at_spot t.disk.blocks (spot_at die o.block) x) t.disk.vacancies states c.has_bad →
+      BlocksKept t.numbers (at_spot t.disk.blocks (spot_at die o.block) x) t.disk.vacancies states →
       IsFilling t.numbers (at_spot t.disk.blocks (spot_at die o.block) x) die filling →
       Kept
       (record c {
@@ -204,12 +204,11 @@ module _ (c : Core) (t : Translation) (die : ℕ) (b : DieRow) (o : OpenBlock) (
       (written_at t die o tag body) (ap (λ (n : Numbers). n.pages) h.kept.numbers)
       (h.valid.blocks.filling (spot_at die o.block) o.next is_open.1)
       (kept_written (disk.Filling (o.next + 1)) c.states (Some (record { block = o.block; next = o.next + 1 }))
-      (blocks_on t.numbers t.disk.blocks t.disk.vacancies c.states c.has_bad (spot_at die o.block) o.next
+      (blocks_on t.numbers t.disk.blocks t.disk.vacancies c.states (spot_at die o.block) o.next
       (o.next + 1) is_open.1 h.kept.blocks)
       (filling_on t.numbers t.disk.blocks die o (o.next + 1) is_open))
       (kept_written disk.Closed (states_with c die o.block state.Closed) None
-      (blocks_put c t die o.block disk.Closed h.kept (die_within c t die b h.kept f.there) is_open.0
-      (ap is_bad is_open.1) refl)
+      (blocks_put c t die o.block disk.Closed h.kept (die_within c t die b h.kept f.there) is_open.0)
       (filling_over t.numbers t.disk.blocks die o disk.Closed closed_fills is_open))
     where
       is_open : IsFilling t.numbers t.disk.blocks die (Some o)

@@ -2,14 +2,14 @@
 use Rattle.std.proofs.Common.{◌≡◌, ◌≢◌, ◌∙◌, ◌⊎◌, ℕ, ◌+◌, ◌<◌, Bool, true, false, List, [], Option, Some, None, map}
 use Rattle.std.proofs.Common.{refl, sym, ap, subst, inl, inr, ⊎_elim, arith, lt-ltb}
 use Rattle.std.proofs.lemmas.Bool.Decides.{eqb_tells, nat_tests}
-use Rattle.std.specs.Prelude.{◌-◌, ◌*◌, ◌==◌, count_by, drop, nat_lt, slice_get, slice_set}
+use Rattle.std.specs.Prelude.{◌-◌, ◌*◌, ◌==◌, drop, nat_lt, slice_get, slice_set}
 use Rattle.ufs_spec.specs.Cells.{Cells, Mark}
 use Rattle.ufs_spec.specs.declared.configs.Numbers.{Numbers}
 use Rattle.ufs_spec.specs.declared.flash.Place.{Place}
 use Rattle.ufs_spec.specs.Disk as disk
 use Rattle.ufs_spec.specs.Disk.{Spot, at_die, at_spot, state_after}
 use Rattle.ufs_spec.specs.Ledger.{Ledger, entry_of}
-use Rattle.ufs_spec.specs.Translation.{Translation, Work, is_bad, is_mended, spots}
+use Rattle.ufs_spec.specs.Translation.{Translation, Work, is_mended, spots}
 use Rattle.power_loss.proofs.books.SmallFacts.{at_spot_cases, if_false, if_true}
 use Rattle.ftl_core.specs.Core.{Core}
 use Rattle.block_table.specs.declared.BlockState.{BlockState}
@@ -37,12 +37,11 @@ filling_kept c t die b o k there is =
 -- What is known once it ended
 
 -- some of what is kept is other than it was
-abbrev pub changed : Core → List BlockState → List DieRow → Bool → List Pending → Mending → Option Step → ℕ → Core
-changed c states rows has_bad pages mending step next =
+abbrev pub changed : Core → List BlockState → List DieRow → List Pending → Mending → Option Step → ℕ → Core
+changed c states rows pages mending step next =
     record c {
       states = states;
       rows = rows;
-      has_bad = has_bad;
       pages = pages;
       mending = mending;
       step = step;
@@ -92,10 +91,10 @@ StepSuits n step after die rows flights =
 -- the job of one die ended that was no read: the pins are as they were, one block has another state, and the step may
 -- be another
 pub kept_beside : (c : Core) (t : Translation) (die block : ℕ) (b : DieRow) (x : disk.BlockState) (f : Option OpenBlock)
-    (states : List BlockState) (has_bad : Bool) (pages : List Pending) (mending : Mending) (step : Option Step)
+    (states : List BlockState) (pages : List Pending) (mending : Mending) (step : Option Step)
     (next : ℕ) (cells : Cells) (finished : Place → Bool) (erasing : Spot → Bool) (ledger : Ledger) (work : Work) →
     Kept c t → slice_get c.rows die ≡ Some b →
-    BlocksKept t.numbers (blocks_with t die block x) t.disk.vacancies states has_bad →
+    BlocksKept t.numbers (blocks_with t die block x) t.disk.vacancies states →
     IsFilling t.numbers (blocks_with t die block x) die f →
     PagesFly ledger.standing (at_die t.disk.flights die None) (rows_with c die f) →
     LedgerKept c.numbers c.places pages c.frontier c.last ledger →
@@ -104,9 +103,9 @@ pub kept_beside : (c : Core) (t : Translation) (die block : ℕ) (b : DieRow) (x
     StepSuits t.numbers c.step step die c.rows t.disk.flights →
     StepReadsKept (at_die t.disk.flights die None) step → work.plan ≡ t.work.plan →
     (is_mended work.mending ≡ false → c.pins ≡ []) →
-    Kept (changed c states (rows_with c die f) has_bad pages mending step next)
+    Kept (changed c states (rows_with c die f) pages mending step next)
     (over t die (blocks_with t die block x) cells finished erasing ledger work)
-kept_beside c t die block b x f states has_bad pages mending step next cells finished erasing ledger work k there bs fs
+kept_beside c t die block b x f states pages mending step next cells finished erasing ledger work k there bs fs
     flies ls ws ps suits reads plan readers = record {
       numbers = k.numbers;
       blocks = bs;
@@ -127,21 +126,21 @@ kept_beside c t die block b x f states has_bad pages mending step next cells fin
 
 -- the same where the step and the mending stay
 pub kept_over : (c : Core) (t : Translation) (die block : ℕ) (b : DieRow) (x : disk.BlockState) (f : Option OpenBlock)
-    (states : List BlockState) (has_bad : Bool) (pages : List Pending)
+    (states : List BlockState) (pages : List Pending)
     (cells : Cells) (finished : Place → Bool) (erasing : Spot → Bool) (ledger : Ledger) (work : Work) →
     Kept c t → slice_get c.rows die ≡ Some b →
-    BlocksKept t.numbers (blocks_with t die block x) t.disk.vacancies states has_bad →
+    BlocksKept t.numbers (blocks_with t die block x) t.disk.vacancies states →
     IsFilling t.numbers (blocks_with t die block x) die f →
     PagesFly ledger.standing (at_die t.disk.flights die None) (rows_with c die f) →
     LedgerKept c.numbers c.places pages c.frontier c.last ledger →
     WorkKept c.mending (drop c.repaired c.lost) c.step c.content c.next_mark work ledger →
     PinsKept ledger.frontier (entry_of ledger) c.pins t.pins → work.plan ≡ t.work.plan →
     (is_mended work.mending ≡ false → c.pins ≡ []) →
-    Kept (changed c states (rows_with c die f) has_bad pages c.mending c.step c.next_mark)
+    Kept (changed c states (rows_with c die f) pages c.mending c.step c.next_mark)
     (over t die (blocks_with t die block x) cells finished erasing ledger work)
-kept_over c t die block b x f states has_bad pages cells finished erasing ledger work k there bs fs flies ls ws ps
+kept_over c t die block b x f states pages cells finished erasing ledger work k there bs fs flies ls ws ps
     plan readers =
-    kept_beside c t die block b x f states has_bad pages c.mending c.step c.next_mark cells finished erasing ledger
+    kept_beside c t die block b x f states pages c.mending c.step c.next_mark cells finished erasing ledger
     work k there bs fs flies ls ws ps (λ e y apart got is. is)
     (step_reads_over t.disk.flights die c.step k.step_reads) plan readers
 
@@ -181,27 +180,22 @@ same_put {A} f s x is = λ i a. one a i
 
 -- what is kept of the blocks is as it was
 pub blocks_same : (n : Numbers) (blocks now : Spot → disk.BlockState) (vacancies : Spot → disk.Vacancy)
-    (states : List BlockState) (has_bad : Bool) →
+    (states : List BlockState) →
     ((s : Spot) → block_kept (now s) (vacancies s) ≡ block_kept (blocks s) (vacancies s)) →
-    ((s : Spot) → is_bad (now s) ≡ is_bad (blocks s)) →
-    BlocksKept n blocks vacancies states has_bad → BlocksKept n now vacancies states has_bad
-blocks_same n blocks now vacancies states has_bad same bad k = record {
-  all = k.all ∙ ap (λ (f : Spot → BlockState). map f (spots n)) (λ i s. sym (same s) i);
-  bad = k.bad ∙ ap (λ (f : Spot → Bool). nat_lt 0 (count_by f (spots n))) (λ i s. sym (bad s) i);
-}
+    BlocksKept n blocks vacancies states → BlocksKept n now vacancies states
+blocks_same n blocks now vacancies states same k =
+    k ∙ ap (λ (f : Spot → BlockState). map f (spots n)) (λ i s. sym (same s) i)
 
 -- a block that is filled is filled on
 pub blocks_on : (n : Numbers) (blocks : Spot → disk.BlockState) (vacancies : Spot → disk.Vacancy)
-    (states : List BlockState) (has_bad : Bool) (s : Spot) (next more : ℕ) → blocks s ≡ disk.Filling next →
-    BlocksKept n blocks vacancies states has_bad →
-    BlocksKept n (at_spot blocks s (disk.Filling more)) vacancies states has_bad
-blocks_on n blocks vacancies states has_bad s next more fills k =
-    blocks_same n blocks (at_spot blocks s (disk.Filling more)) vacancies states has_bad
+    (states : List BlockState) (s : Spot) (next more : ℕ) → blocks s ≡ disk.Filling next →
+    BlocksKept n blocks vacancies states →
+    BlocksKept n (at_spot blocks s (disk.Filling more)) vacancies states
+blocks_on n blocks vacancies states s next more fills k =
+    blocks_same n blocks (at_spot blocks s (disk.Filling more)) vacancies states
     (λ a. ⊎_elim
     (λ h. ap (kept_at a) h.1 ∙ sym (ap (kept_at a) (ap blocks h.0 ∙ fills)))
     (λ h. ap (kept_at a) h.1)
-    (at_spot_cases blocks s (disk.Filling more) a))
-    (λ a. ⊎_elim (λ h. ap is_bad h.1 ∙ sym (ap is_bad (ap blocks h.0 ∙ fills))) (λ h. ap is_bad h.1)
     (at_spot_cases blocks s (disk.Filling more) a))
     k
   where
@@ -211,44 +205,40 @@ blocks_on n blocks vacancies states has_bad s next more fills k =
 -- the state of a block is another, at the place where what is kept has it
 pub blocks_put : (c : Core) (t : Translation) (die block : ℕ) (x : disk.BlockState) → Kept c t → die < t.numbers.dies →
     block < t.numbers.blocks →
-    is_bad (t.disk.blocks (spot_at die block)) ≡ false → is_bad x ≡ false →
     BlocksKept t.numbers (at_spot t.disk.blocks (spot_at die block) x) t.disk.vacancies
-    (states_with c die block (block_kept x (t.disk.vacancies (spot_at die block)))) c.has_bad
-blocks_put c t die block x k there within was is =
+    (states_with c die block (block_kept x (t.disk.vacancies (spot_at die block))))
+blocks_put c t die block x k there within =
     subst (λ (n : Numbers). BlocksKept t.numbers (at_spot t.disk.blocks (spot_at die block) x) t.disk.vacancies
-    (slice_set c.states (die * n.blocks + block) (block_kept x (t.disk.vacancies (spot_at die block)))) c.has_bad)
+    (slice_set c.states (die * n.blocks + block) (block_kept x (t.disk.vacancies (spot_at die block)))))
     (sym k.numbers)
-    (block_put t.numbers t.disk.blocks t.disk.vacancies c.states c.has_bad (spot_at die block) x k.blocks there within
-    was is)
+    (block_put t.numbers t.disk.blocks t.disk.vacancies c.states (spot_at die block) x k.blocks there within)
 
--- a block that is not bad is free, and what is in it is so
+-- a block is free, and what is in it is so
 pub blocks_vacant : (c : Core) (t : Translation) (die block : ℕ) (v : disk.Vacancy) → Kept c t →
-    die < t.numbers.dies → block < t.numbers.blocks → is_bad (t.disk.blocks (spot_at die block)) ≡ false →
+    die < t.numbers.dies → block < t.numbers.blocks →
     BlocksKept t.numbers (at_spot t.disk.blocks (spot_at die block) disk.Free)
-    (at_spot t.disk.vacancies (spot_at die block) v) (states_with c die block (block_kept disk.Free v)) c.has_bad
-blocks_vacant c t die block v k there within was =
+    (at_spot t.disk.vacancies (spot_at die block) v) (states_with c die block (block_kept disk.Free v))
+blocks_vacant c t die block v k there within =
     subst (λ (n : Numbers). BlocksKept t.numbers (at_spot t.disk.blocks (spot_at die block) disk.Free)
     (at_spot t.disk.vacancies (spot_at die block) v)
-    (slice_set c.states (die * n.blocks + block) (block_kept disk.Free v)) c.has_bad) (sym k.numbers)
-    (block_vacant t.numbers t.disk.blocks t.disk.vacancies c.states c.has_bad (spot_at die block) v k.blocks there
-    within was)
+    (slice_set c.states (die * n.blocks + block) (block_kept disk.Free v))) (sym k.numbers)
+    (block_vacant t.numbers t.disk.blocks t.disk.vacancies c.states (spot_at die block) v k.blocks there within)
 
 -- a block is bad, whatever is in it
 pub blocks_lost_with : (c : Core) (t : Translation) (die block : ℕ) (held : Spot → disk.Vacancy) → Kept c t →
     die < t.numbers.dies → block < t.numbers.blocks →
     ((s : Spot) → s ≢ spot_at die block → held s ≡ t.disk.vacancies s) →
-    BlocksKept t.numbers (at_spot t.disk.blocks (spot_at die block) disk.Bad) held
-    (states_with c die block state.Bad) true
+    BlocksKept t.numbers (at_spot t.disk.blocks (spot_at die block) disk.Bad) held (states_with c die block state.Bad)
 blocks_lost_with c t die block held k there within beside =
     subst (λ (n : Numbers). BlocksKept t.numbers (at_spot t.disk.blocks (spot_at die block) disk.Bad) held
-    (slice_set c.states (die * n.blocks + block) state.Bad) true) (sym k.numbers)
-    (block_lost t.numbers t.disk.blocks t.disk.vacancies held c.states c.has_bad (spot_at die block) k.blocks there
-    within beside)
+    (slice_set c.states (die * n.blocks + block) state.Bad)) (sym k.numbers)
+    (block_lost t.numbers t.disk.blocks t.disk.vacancies held c.states (spot_at die block) k.blocks there within
+    beside)
 
 pub blocks_lost : (c : Core) (t : Translation) (die block : ℕ) → Kept c t → die < t.numbers.dies →
     block < t.numbers.blocks →
     BlocksKept t.numbers (at_spot t.disk.blocks (spot_at die block) disk.Bad) t.disk.vacancies
-    (states_with c die block state.Bad) true
+    (states_with c die block state.Bad)
 blocks_lost c t die block k there within =
     blocks_lost_with c t die block t.disk.vacancies k there within (λ s apart. refl)
 

@@ -1,10 +1,10 @@
 -- A page's program fails, or a block is erased or could not be.
-use Rattle.std.proofs.Common.{◌≡◌, ℕ, ◌<◌, true, false, List, Some, None, refl, sym, ap, subst}
+use Rattle.std.proofs.Common.{◌≡◌, ℕ, ◌<◌, false, List, Some, None, refl, sym, subst}
 use Rattle.std.specs.Prelude.{slice_get}
 use Rattle.ufs_spec.specs.Cells.{Cells}
 use Rattle.ufs_spec.specs.Disk as disk
 use Rattle.ufs_spec.specs.Disk.{Spot, at_place, at_spot}
-use Rattle.ufs_spec.specs.Translation.{Translation, is_bad}
+use Rattle.ufs_spec.specs.Translation.{Translation}
 use Rattle.power_loss.specs.Invariant.{EraseRight}
 use Rattle.ftl_core.specs.Core.{Core}
 use Rattle.block_table.specs.Rows.{filling_but}
@@ -27,10 +27,10 @@ pub page_ends_wrong : (c : Core) (t : Translation) (die : ℕ) (b : DieRow) (o :
     Describes c t → slice_get c.rows die ≡ Some b → b.filling ≡ Some o →
     Kept (went_bad c die o.block) (record t { disk = disk.program_failed t.disk (next_place die o) left })
 page_ends_wrong c t die b o left h there fills =
-    subst (λ (rows : List DieRow). Kept (changed c (states_with c die o.block state.Bad) rows true c.pages c.mending
+    subst (λ (rows : List DieRow). Kept (changed c (states_with c die o.block state.Bad) rows c.pages c.mending
     c.step c.next_mark) (record t { disk = disk.program_failed t.disk (next_place die o) left }))
     (sym (failed_rows c die o.block b there))
-    (kept_over c t die o.block b disk.Bad (filling_but o.block b.filling) (states_with c die o.block state.Bad) true
+    (kept_over c t die o.block b disk.Bad (filling_but o.block b.filling) (states_with c die o.block state.Bad)
     c.pages left
     (at_place t.disk.finished (next_place die o) false) t.disk.erasing t.ledger t.work
     h.kept there (blocks_lost c t die o.block h.kept (die_within c t die b h.kept there) is_open.0)
@@ -51,13 +51,12 @@ module _ (c : Core) (t : Translation) (die : ℕ) (b : DieRow) (block : ℕ) (h 
 
   -- the block was free, and may be filled now
   blocks_ready : BlocksKept t.numbers t.disk.blocks (at_spot t.disk.vacancies (spot_at die block) disk.Ready)
-      (states_with c die block state.Ready) c.has_bad
+      (states_with c die block state.Ready)
   blocks_ready =
       subst (λ (x : Spot → disk.BlockState). BlocksKept t.numbers x
-      (at_spot t.disk.vacancies (spot_at die block) disk.Ready) (states_with c die block state.Ready) c.has_bad)
+      (at_spot t.disk.vacancies (spot_at die block) disk.Ready) (states_with c die block state.Ready))
       (same_put t.disk.blocks (spot_at die block) disk.Free erase_right.free)
-      (blocks_vacant c t die block disk.Ready h.kept (die_within c t die b h.kept there) within
-      (ap is_bad erase_right.free))
+      (blocks_vacant c t die block disk.Ready h.kept (die_within c t die b h.kept there) within)
 
   -- the die has no job, and fills what it filled
   idle : Kept (with_row c die (record { filling = b.filling; flight = None }))
@@ -66,7 +65,7 @@ module _ (c : Core) (t : Translation) (die : ℕ) (b : DieRow) (block : ℕ) (h 
 
   pub erase_ends_well : Kept (erased c die block) (record t { disk = disk.erased t.disk (spot_at die block) })
   erase_ends_well =
-      subst (λ (rows : List DieRow). Kept (changed c (states_with c die block state.Ready) rows c.has_bad c.pages
+      subst (λ (rows : List DieRow). Kept (changed c (states_with c die block state.Ready) rows c.pages
       c.mending c.step c.next_mark) (record t { disk = disk.erased t.disk (spot_at die block) }))
       (sym (idle_rows c die b there))
       (record {
@@ -88,10 +87,10 @@ module _ (c : Core) (t : Translation) (die : ℕ) (b : DieRow) (block : ℕ) (h 
   pub erase_ends_wrong : (left : Cells) →
       Kept (went_bad c die block) (record t { disk = disk.erase_failed t.disk (spot_at die block) left })
   erase_ends_wrong left =
-      subst (λ (rows : List DieRow). Kept (changed c (states_with c die block state.Bad) rows true c.pages c.mending
+      subst (λ (rows : List DieRow). Kept (changed c (states_with c die block state.Bad) rows c.pages c.mending
       c.step c.next_mark) (record t { disk = disk.erase_failed t.disk (spot_at die block) left }))
       (sym (failed_rows c die block b there))
-      (kept_over c t die block b disk.Bad (filling_but block b.filling) (states_with c die block state.Bad) true c.pages
+      (kept_over c t die block b disk.Bad (filling_but block b.filling) (states_with c die block state.Bad) c.pages
       left t.disk.finished t.disk.erasing t.ledger t.work h.kept there
       (blocks_lost c t die block h.kept (die_within c t die b h.kept there) within)
       (filling_failed t.numbers t.disk.blocks die block b.filling within (h.kept.dies.each die b there).filling)

@@ -129,7 +129,7 @@ module _ (c : Core) (t : Translation) (die : ℕ) (b : DieRow) (o : OpenBlock) (
     now = record c { step = None; places = places; pages = pages; live = live }
 
     kept_copied : (x : disk.BlockState) (states : List BlockState) (filling : Option OpenBlock) →
-        BlocksKept t.numbers (at_spot t.disk.blocks (spot_at die o.block) x) t.disk.vacancies states c.has_bad →
+        BlocksKept t.numbers (at_spot t.disk.blocks (spot_at die o.block) x) t.disk.vacancies states →
         IsFilling t.numbers (at_spot t.disk.blocks (spot_at die o.block) x) die filling →
         Kept (record now { states = states; rows = rows_with c die filling }) (written_at t die o tag body x)
     kept_copied x states filling blocks is_open = record {
@@ -164,12 +164,11 @@ module _ (c : Core) (t : Translation) (die : ℕ) (b : DieRow) (o : OpenBlock) (
         page_ends now die b o t.numbers.pages (written_at t die o tag body)
         (ap (λ (m : Numbers). m.pages) h.kept.numbers) (h.valid.blocks.filling (spot_at die o.block) o.next is_open.1)
         (kept_copied (disk.Filling (o.next + 1)) c.states (Some (record { block = o.block; next = o.next + 1 }))
-        (blocks_on t.numbers t.disk.blocks t.disk.vacancies c.states c.has_bad (spot_at die o.block) o.next
+        (blocks_on t.numbers t.disk.blocks t.disk.vacancies c.states (spot_at die o.block) o.next
         (o.next + 1) is_open.1 h.kept.blocks)
         (filling_on t.numbers t.disk.blocks die o (o.next + 1) is_open))
         (kept_copied disk.Closed (states_with c die o.block state.Closed) None
-        (blocks_put c t die o.block disk.Closed h.kept (die_within c t die b h.kept there) is_open.0
-        (ap is_bad is_open.1) refl)
+        (blocks_put c t die o.block disk.Closed h.kept (die_within c t die b h.kept there) is_open.0)
         (filling_over t.numbers t.disk.blocks die o disk.Closed closed_fills is_open))
       where
         is_open : IsFilling t.numbers t.disk.blocks die (Some o)

@@ -139,12 +139,12 @@ module _ (c : Core) (t : Translation) (die : ℕ) (b : DieRow) (o : OpenBlock) (
   filling = filling_kept c t die b (Some o) h.kept there fills
 
   mark_parts : (x : disk.BlockState) (states : List BlockState) (f : Option OpenBlock) →
-      BlocksKept t.numbers (blocks_with t die o.block x) t.disk.vacancies states c.has_bad →
+      BlocksKept t.numbers (blocks_with t die o.block x) t.disk.vacancies states →
       IsFilling t.numbers (blocks_with t die o.block x) die f →
-      Kept (changed c states (rows_with c die f) c.has_bad c.pages (ends.mending_after c.mending) None c.next_mark)
+      Kept (changed c states (rows_with c die f) c.pages (ends.mending_after c.mending) None c.next_mark)
       (mark_stands t die o m x)
   mark_parts x states f bs fs =
-      kept_beside c t die o.block b x f states c.has_bad c.pages (ends.mending_after c.mending) None c.next_mark
+      kept_beside c t die o.block b x f states c.pages (ends.mending_after c.mending) None c.next_mark
       (at_place t.disk.cells (next_place die o) (MarkPage m))
       (at_place t.disk.finished (next_place die o) true) t.disk.erasing
       (record t.ledger { newest = Some m })
@@ -168,19 +168,18 @@ module _ (c : Core) (t : Translation) (die : ℕ) (b : DieRow) (o : OpenBlock) (
       (λ e. h.kept.readers (behind_unmended t.work.mending e))
 
   mark_on : Kept (changed c c.states (rows_with c die (Some (record { block = o.block; next = o.next + 1 })))
-      c.has_bad c.pages (ends.mending_after c.mending) None c.next_mark)
+      c.pages (ends.mending_after c.mending) None c.next_mark)
       (mark_stands t die o m (disk.Filling (o.next + 1)))
   mark_on = mark_parts (disk.Filling (o.next + 1)) c.states (Some (record { block = o.block; next = o.next + 1 }))
-      (blocks_on t.numbers t.disk.blocks t.disk.vacancies c.states c.has_bad (spot_at die o.block) o.next
+      (blocks_on t.numbers t.disk.blocks t.disk.vacancies c.states (spot_at die o.block) o.next
       (o.next + 1) filling.1 h.kept.blocks)
       (filling_on t.numbers t.disk.blocks die o (o.next + 1) filling)
 
   mark_last : Kept (changed c (states_with c die o.block state.Closed)
-      (rows_with c die None) c.has_bad c.pages (ends.mending_after c.mending) None c.next_mark)
+      (rows_with c die None) c.pages (ends.mending_after c.mending) None c.next_mark)
       (mark_stands t die o m disk.Closed)
   mark_last = mark_parts disk.Closed (states_with c die o.block state.Closed) None
-      (blocks_put c t die o.block disk.Closed h.kept (die_within c t die b h.kept there) filling.0
-      (ap is_bad filling.1) refl)
+      (blocks_put c t die o.block disk.Closed h.kept (die_within c t die b h.kept there) filling.0)
       (filling_over t.numbers t.disk.blocks die o disk.Closed closed_fills filling)
 
   mark_done : Kept (page_written (mark_over c) die b (Some o))
@@ -260,12 +259,12 @@ module _ (c : Core) (t : Translation) (die : ℕ) (b : DieRow) (o : OpenBlock) (
       (at_place t.disk.finished (next_place die o) false) t.disk.erasing
       (record t.ledger { marks = marks }) (record t.work { step = w }))
   fail_parts s next marks w no_repair same is numbered =
-      subst (λ (rows : List DieRow). Kept (changed c (states_with c die o.block state.Bad) rows true c.pages c.mending s
+      subst (λ (rows : List DieRow). Kept (changed c (states_with c die o.block state.Bad) rows c.pages c.mending s
       next) (over t die (blocks_with t die o.block disk.Bad) cells
       (at_place t.disk.finished (next_place die o) false) t.disk.erasing
       (record t.ledger { marks = marks }) (record t.work { step = w })))
       (sym (failed_rows c die o.block b there))
-      (kept_beside c t die o.block b disk.Bad (filling_but o.block b.filling) (states_with c die o.block state.Bad) true
+      (kept_beside c t die o.block b disk.Bad (filling_but o.block b.filling) (states_with c die o.block state.Bad)
       c.pages c.mending s next
       cells (at_place t.disk.finished (next_place die o) false) t.disk.erasing
       (record t.ledger { marks = marks }) (record t.work { step = w })

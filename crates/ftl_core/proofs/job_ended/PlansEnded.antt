@@ -1,7 +1,7 @@
 -- The collection that is begun is over: its block is free, unless it is bad.
 use Rattle.std.proofs.Common.{◌≡◌, ◌∙◌, ◌⊎◌, ℕ, ◌<◌, Bool, true, false, List, Option, Some, None, refl, sym, ap}
 use Rattle.std.proofs.Common.{subst, ⊎_elim}
-use Rattle.std.specs.Prelude.{◌-◌, count_by, if◌then◌else◌, nat_lt, option_map}
+use Rattle.std.specs.Prelude.{◌-◌, if◌then◌else◌, nat_lt, option_map}
 use Rattle.ufs_spec.proofs.Facts.{none-some}
 use Rattle.ufs_spec.specs.Disk as disk
 use Rattle.ufs_spec.specs.Disk.{Spot, at_spot}
@@ -18,7 +18,7 @@ use Rattle.ftl_core.specs.Core.{Core}
 use Rattle.ftl_core.specs.Describes.{BlocksKept, Kept, block_kept}
 use Rattle.ftl_core.specs.Ends.{plan_freed, plan_over}
 use Rattle.ftl_core.specs.Moves.{page_written, state_of}
-use Rattle.ftl_core.proofs.job_ended.ChangeParts.{bad_fills, blocks_lost_with, blocks_vacant, closed_fills, same_put}
+use Rattle.ftl_core.proofs.job_ended.ChangeParts.{bad_fills, blocks_lost_with, blocks_vacant, closed_fills}
 use Rattle.ftl_core.proofs.job_ended.ChangeParts.{states_with}
 use Rattle.ftl_core.proofs.job_ended.JobsOver.{filling_beside}
 use Rattle.ftl_core.proofs.job_taken.NextErases.{state_kept}
@@ -69,32 +69,25 @@ module _ (c : Core) (t : Translation) (k : Kept c t) (s : Spot) (h : IsFreeable 
 
   told : (x : disk.BlockState) → t.disk.blocks s ≡ x →
       BlocksKept t.numbers (at_spot t.disk.blocks s (moves.freed_state x)) held
-      (states_with c s.die s.block (freed_state (block_kept x (t.disk.vacancies s)))) c.has_bad →
-      BlocksKept t.numbers now held states c.has_bad
+      (states_with c s.die s.block (freed_state (block_kept x (t.disk.vacancies s)))) →
+      BlocksKept t.numbers now held states
   told x is b = subst (λ (z : disk.BlockState × BlockState).
       BlocksKept t.numbers (at_spot t.disk.blocks s (moves.freed_state z.0)) held
-      (states_with c s.die s.block (freed_state z.1)) c.has_bad)
+      (states_with c s.die s.block (freed_state z.1)))
       (λ i. (
         sym is i,
         (ap (λ (y : disk.BlockState). block_kept y (t.disk.vacancies s)) (sym is)
             ∙ sym (state_kept c t s.die s.block k h.die h.block)) i,
       )) b
 
-  blocks_freed : BlocksKept t.numbers now held states c.has_bad
+  blocks_freed : BlocksKept t.numbers now held states
   blocks_freed = ⊎_elim
       (λ (closed : t.disk.blocks s ≡ disk.Closed). told disk.Closed closed
-      (blocks_vacant c t s.die s.block disk.Stale k h.die h.block (ap is_bad closed)))
+      (blocks_vacant c t s.die s.block disk.Stale k h.die h.block))
       (λ (bad : t.disk.blocks s ≡ disk.Bad).
-      let lost = blocks_lost_with c t s.die s.block held k h.die h.block
-      (λ a apart. at_spot_other t.disk.vacancies s disk.Stale a apart) in
       told disk.Bad bad
-      (record {
-        all = lost.all;
-        -- a bad block stays so
-        bad = k.blocks.bad
-            ∙ ap (λ (f : Spot → disk.BlockState). nat_lt 0 (count_by (λ (a : Spot). is_bad (f a)) (spots t.numbers)))
-            (sym (same_put t.disk.blocks s disk.Bad bad));
-      }))
+      (blocks_lost_with c t s.die s.block held k h.die h.block
+      (λ a apart. at_spot_other t.disk.vacancies s disk.Stale a apart)))
       h.state
 
 -- All of it

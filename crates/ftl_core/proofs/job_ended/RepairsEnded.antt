@@ -157,12 +157,12 @@ module _ (c : Core) (t : Translation) (die : ℕ) (b : DieRow) (o : OpenBlock) (
 
   -- what is kept before the frontier climbs, with these states of blocks and this open block of the die
   page_stands : (x : disk.BlockState) (states : List BlockState) (f : Option OpenBlock) →
-      BlocksKept t.numbers (at_spot t.disk.blocks (spot_at die o.block) x) t.disk.vacancies states c.has_bad →
+      BlocksKept t.numbers (at_spot t.disk.blocks (spot_at die o.block) x) t.disk.vacancies states →
       IsFilling t.numbers (at_spot t.disk.blocks (spot_at die o.block) x) die f →
-      Kept (changed c states (rows_with c die f) c.has_bad c.pages c.mending None c.next_mark)
+      Kept (changed c states (rows_with c die f) c.pages c.mending None c.next_mark)
       (repair_written t die o tag body x)
   page_stands x states f bs fs =
-      kept_beside c t die o.block b x f states c.has_bad c.pages c.mending None c.next_mark
+      kept_beside c t die o.block b x f states c.pages c.mending None c.next_mark
       (at_place t.disk.cells place (GroupPage tag body)) (at_place t.disk.finished place true) t.disk.erasing
       (with_page t.ledger name place) (record t.work { step = step_after name t.work.step })
       h.kept there bs fs
@@ -209,9 +209,9 @@ module _ (c : Core) (t : Translation) (die : ℕ) (b : DieRow) (o : OpenBlock) (
       (ap (λ (m : ℕ). name_at m 0) (sym repair.right.next) ∙ sym same_name)
 
   page_durable : (x : disk.BlockState) (states : List BlockState) (f : Option OpenBlock) →
-      Kept (changed c states (rows_with c die f) c.has_bad c.pages c.mending None c.next_mark)
+      Kept (changed c states (rows_with c die f) c.pages c.mending None c.next_mark)
       (repair_written t die o tag body x) →
-      Kept (noted (record (changed c states (rows_with c die f) c.has_bad c.pages c.mending None c.next_mark) {
+      Kept (noted (record (changed c states (rows_with c die f) c.pages c.mending None c.next_mark) {
         frontier = risen c;
       }) k stored) (raised_to (repair_written t die o tag body x) (suc t.ledger.frontier))
   page_durable x states f k0 = record {
@@ -219,7 +219,7 @@ module _ (c : Core) (t : Translation) (die : ℕ) (b : DieRow) (o : OpenBlock) (
     blocks = k0.blocks;
     dies = k0.dies;
     fly = k0.fly;
-    ledger_kept = ledger_repaired (changed c states (rows_with c die f) c.has_bad c.pages c.mending None c.next_mark)
+    ledger_kept = ledger_repaired (changed c states (rows_with c die f) c.pages c.mending None c.next_mark)
         (with_page t.ledger name place) k stored item k0.ledger_kept low all_repairs no_pages alone refl known number
         (ap (λ (m : ℕ). name_at m 0) number) stands;
     work = record {
@@ -249,13 +249,12 @@ module _ (c : Core) (t : Translation) (die : ℕ) (b : DieRow) (o : OpenBlock) (
       (ap (λ (m : Numbers). m.pages) h.kept.numbers) (h.valid.blocks.filling (spot_at die o.block) o.next filling.1)
       (page_durable (disk.Filling (o.next + 1)) c.states (Some (record { block = o.block; next = o.next + 1 }))
       (page_stands (disk.Filling (o.next + 1)) c.states (Some (record { block = o.block; next = o.next + 1 }))
-      (blocks_on t.numbers t.disk.blocks t.disk.vacancies c.states c.has_bad (spot_at die o.block) o.next
+      (blocks_on t.numbers t.disk.blocks t.disk.vacancies c.states (spot_at die o.block) o.next
       (o.next + 1) filling.1 h.kept.blocks)
       (filling_on t.numbers t.disk.blocks die o (o.next + 1) filling)))
       (page_durable disk.Closed (states_with c die o.block state.Closed) None
       (page_stands disk.Closed (states_with c die o.block state.Closed) None
-      (blocks_put c t die o.block disk.Closed h.kept (die_within c t die b h.kept there) filling.0
-      (ap is_bad filling.1) refl)
+      (blocks_put c t die o.block disk.Closed h.kept (die_within c t die b h.kept there) filling.0)
       (filling_over t.numbers t.disk.blocks die o disk.Closed closed_fills filling)))
 
   climbs_to : climbed (is_standing (with_page t.ledger name place)) t.ledger.frontier (behind t.ledger)

@@ -47,7 +47,7 @@ pub state_kept : (c : Core) (t : Translation) (die block : ℕ) → Kept c t →
     state_of c die block ≡ block_kept (t.disk.blocks (spot_at die block)) (t.disk.vacancies (spot_at die block))
 state_kept c t die block k there within =
     ap (λ (z : Numbers). unwrap_or (slice_get c.states (die * z.blocks + block)) state.Bad) k.numbers
-    ∙ ap (λ z. unwrap_or (slice_get z (die * t.numbers.blocks + block)) state.Bad) k.blocks.all
+    ∙ ap (λ z. unwrap_or (slice_get z (die * t.numbers.blocks + block)) state.Bad) k.blocks
     ∙ ap (λ z. unwrap_or z state.Bad)
     (state_there t.numbers (λ (s : Spot). block_kept (t.disk.blocks s) (t.disk.vacancies s)) die block there within)
 

@@ -100,7 +100,7 @@ pub record MayBegin (c : Core) (t : Translation) (kept : Flight) (job : disk.Fli
 -- a job is given, and the die fills this block then
 kept_given : (c : Core) (t : Translation) (die : ℕ) (b : DieRow) (f : Flight) (job : disk.Flight)
     (states : List BlockState) (filling : Option OpenBlock) → Kept c t → slice_get c.rows die ≡ Some b →
-    BlocksKept t.numbers (disk.blocks_begun t.disk job) t.disk.vacancies states c.has_bad →
+    BlocksKept t.numbers (disk.blocks_begun t.disk job) t.disk.vacancies states →
     ((s : Spot) → s.die ≢ die → disk.blocks_begun t.disk job s ≡ t.disk.blocks s) →
     IsFilling t.numbers (disk.blocks_begun t.disk job) die filling →
     IsFlight t.numbers c.step die filling (Some f) (Some job) → MayBegin c t f job →
@@ -190,7 +190,7 @@ kept_begun c t die b f job k at is may =
     subst (λ (o : Option ℕ). Kept (started_with c die b.filling f o) (taken t die job))
     (sym (begins_none t.numbers c.step die b.filling f (Some job) is))
     (kept_given c t die b f job c.states b.filling k at
-    (subst (λ (x : Spot → disk.BlockState). BlocksKept t.numbers x t.disk.vacancies c.states c.has_bad) (sym stay)
+    (subst (λ (x : Spot → disk.BlockState). BlocksKept t.numbers x t.disk.vacancies c.states) (sym stay)
     k.blocks)
     (λ s apart i. stay i s)
     (subst (λ (x : Spot → disk.BlockState). IsFilling t.numbers x die b.filling) (sym stay) row.filling) is may)
@@ -218,7 +218,7 @@ kept_opened c t die block b w cell k at closed within free is may =
     subst (λ (z : Core). Kept z (taken t die (disk.Programming (opening_place die block) cell))) (sym begun)
     (kept_given c t die b (page_flight (opening_place die block) w)
     (disk.Programming (opening_place die block) cell) (states_with c die block state.Open) (Some (first_page block)) k
-    at (blocks_put c t die block (disk.Filling 0) k (die_within c t die b k at) within (ap layer.is_bad free) refl)
+    at (blocks_put c t die block (disk.Filling 0) k (die_within c t die b k at) within)
     (elsewhere t.disk.blocks die block (disk.Filling 0))
     (filling_begun t.numbers t.disk.blocks die block 0 within
     (subst (λ (x : Option OpenBlock). IsFilling t.numbers t.disk.blocks die x) closed (k.dies.each die b at).filling))

@@ -9,23 +9,27 @@ use Rattle.ufs_spec.specs.Keys.{below}
 use Rattle.ufs_spec.specs.Translation as layer
 use Rattle.ufs_spec.specs.Translation.{Translation, count_blocks, flies_erase, own_room, some_flight}
 use Rattle.ufs_spec.specs.declared.flash.Place.{Place}
-use Rattle.block_table.specs.Blocks.{is_free}
+use Rattle.block_table.specs.Blocks.{is_bad, is_free}
 use Rattle.block_table.specs.declared.rows.OpenBlock.{OpenBlock}
 use Rattle.block_table.specs.declared.rows.Flight.{Flight}
 use Rattle.ftl_core.specs.Core.{Core}
 use Rattle.ftl_core.specs.Describes.{Describes, Kept}
-use Rattle.ftl_core.specs.Moves.{erases, fills, flight_erases, free_blocks, has_open_block, has_room_for_groups}
-use Rattle.ftl_core.specs.Moves.{may_open_for_group, may_open_for_step}
+use Rattle.ftl_core.specs.Moves.{bad_blocks, erases, fills, flight_erases, free_blocks, has_open_block}
+use Rattle.ftl_core.specs.Moves.{has_room_for_groups, may_open_for_group, may_open_for_step}
 use Rattle.ftl_core.specs.Takes.{next_place}
 use Rattle.ftl_core.proofs.job_taken.FlightKinds.{flight_cases}
 use Rattle.ftl_core.proofs.job_taken.Flown.{rows_agree, dies_agree}
-use Rattle.ftl_core.proofs.opened.Spots.{free_counted, next_found}
+use Rattle.ftl_core.proofs.opened.Spots.{bad_counted, free_counted, next_found}
 
--- Free blocks
+-- Free and bad blocks
 
 -- as many blocks are free
 pub free_alike : (c : Core) (t : Translation) → Kept c t → free_blocks c ≡ count_blocks t layer.is_free
-free_alike c t k = ap (count_by is_free) k.blocks.all ∙ free_counted t.numbers t.disk.blocks t.disk.vacancies
+free_alike c t k = ap (count_by is_free) k.blocks ∙ free_counted t.numbers t.disk.blocks t.disk.vacancies
+
+-- as many are bad
+pub bad_alike : (c : Core) (t : Translation) → Kept c t → bad_blocks c ≡ count_blocks t layer.is_bad
+bad_alike c t k = ap (count_by is_bad) k.blocks ∙ bad_counted t.numbers t.disk.blocks t.disk.vacancies
 
 -- room is for groups on both sides or on none
 pub room_alike : (c : Core) (t : Translation) → Describes c t →

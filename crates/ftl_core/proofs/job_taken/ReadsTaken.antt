@@ -18,7 +18,6 @@ use Rattle.ftl_core.specs.declared.books.Pin.{Pin}
 use Rattle.ftl_core.specs.Core.{Core}
 use Rattle.ftl_core.specs.Describes.{Describes, IsTaken, IsWanted, Kept, PinKept, ReadersDiffer}
 use Rattle.ftl_core.specs.Moves.{is_owed_by, is_pin_of, looks_on, reads_for, rest_look}
-use Rattle.write_cache.specs.declared.rests.OwedSource.TheVariants as owed
 use Rattle.write_cache.specs.declared.slots.Pending.{Pending}
 use Rattle.power_loss.proofs.ordered_lists.ElementsAndOrders.{IsIn, found_in, has_at}
 use Rattle.ftl_core.proofs.job_taken.Flown.{die_within, no_job}

@@ -9,7 +9,7 @@ use Rattle.ufs_spec.proofs.Facts.{and_parts, cases_lt, false≢true, none-some, 
 use Rattle.ufs_spec.proofs.Lists.{get_take, take_get}
 use Rattle.ufs_spec.specs.Keys.{area_pages, region_pages}
 use Rattle.ufs_spec.specs.Plain.{Shape, area_len, shape_of_numbers}
-use Rattle.ufs_spec.specs.Stages.{regions}
+use Rattle.ufs_spec.specs.Plain.{regions}
 use Rattle.ufs_spec.specs.declared.configs.Numbers.{Numbers}
 use Rattle.ufs_spec.specs.declared.flash.Key.{Key}
 use Rattle.ufs_spec.specs.declared.flash.Place.{Place}

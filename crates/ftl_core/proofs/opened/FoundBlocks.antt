@@ -8,7 +8,7 @@ use Rattle.std.proofs.lemmas.List.Sums.{sum_by-cons}
 use Rattle.ufs_spec.proofs.Facts.{same_Some}
 use Rattle.ufs_spec.specs.Disk as disk
 use Rattle.ufs_spec.specs.Disk.{Spot}
-use Rattle.ufs_spec.specs.Translation.{is_bad, spots}
+use Rattle.ufs_spec.specs.Translation.{spots}
 use Rattle.ufs_spec.specs.declared.configs.Numbers.{Numbers}
 use Rattle.recovery.specs.KeysInOrder.{state_of_found as layer_state}
 use Rattle.recovery.specs.Opened.{IsVacancyOf}
@@ -16,7 +16,7 @@ use Rattle.recovery.specs.declared.keys.FoundBlock.{FoundBlock}
 use Rattle.recovery.specs.declared.keys.FoundBlock.TheVariants as found
 use Rattle.recovery.specs.declared.found.Found.{Found}
 use Rattle.ftl_core.specs.Describes.{BlocksKept, block_kept}
-use Rattle.ftl_core.specs.Moves.{is_bad_found, state_of_found}
+use Rattle.ftl_core.specs.Moves.{state_of_found}
 
 -- Some block is bad
 
@@ -61,36 +61,13 @@ state_same found.Stale x v is in_it = (λ i. block_kept (is i) (in_it i))
 state_same found.Closed x v is in_it = ap (λ (y : disk.BlockState). block_kept y v) is
 state_same found.Bad x v is in_it = ap (λ (y : disk.BlockState). block_kept y v) is
 
-bad_same : (b : FoundBlock) → is_bad_found b ≡ is_bad (layer_state b)
-bad_same found.Free = refl
-bad_same found.Stale = refl
-bad_same found.Closed = refl
-bad_same found.Bad = refl
-
-blocks_listed : (n : Numbers) (blocks : Spot → disk.BlockState) (vacancies : Spot → disk.Vacancy)
-    (bs : List FoundBlock) → map layer_state bs ≡ map blocks (spots n) →
-    map state_of_found bs ≡ map (λ (s : Spot). block_kept (blocks s) (vacancies s)) (spots n) →
-    BlocksKept n blocks vacancies (map state_of_found bs) (list_any is_bad_found bs)
-blocks_listed n blocks vacancies bs same kept = record {
-  all = kept;
-  bad =
-      ap (λ (f : FoundBlock → Bool). list_any f bs) (λ i b. bad_same b i)
-      ∙ (sym (any_mapped is_bad layer_state bs)
-      ∙ (ap (list_any is_bad) same
-      ∙ (any_mapped is_bad blocks (spots n) ∙ some_one (λ (s : Spot). is_bad (blocks s)) (spots n))));
-}
-
 pub blocks_found : (n m : Numbers) (f : Found) (blocks : Spot → disk.BlockState) (vacancies : Spot → disk.Vacancy) →
     n ≡ m → length f.blocks.items ≡ length (spots n) →
     ((i : ℕ) (s : Spot) → slice_get (spots n) i ≡ Some s →
     (b : FoundBlock) × (slice_get f.blocks.items i ≡ Some b) × (blocks s ≡ layer_state b)
     × IsVacancyOf b (vacancies s)) →
-    BlocksKept m blocks vacancies (map state_of_found f.blocks.items) (list_any is_bad_found f.blocks.items)
+    BlocksKept m blocks vacancies (map state_of_found f.blocks.items)
 blocks_found n m f blocks vacancies same as_many each =
-    subst (λ (x : Numbers). BlocksKept x blocks vacancies (map state_of_found f.blocks.items)
-    (list_any is_bad_found f.blocks.items)) same
-    (blocks_listed n blocks vacancies f.blocks.items
-    (all_alike blocks layer_state (spots n) f.blocks.items as_many
-    (λ i s at. let r = each i s at in (r.0, r.1, r.2)))
+    subst (λ (x : Numbers). BlocksKept x blocks vacancies (map state_of_found f.blocks.items)) same
     (all_alike (λ (s : Spot). block_kept (blocks s) (vacancies s)) state_of_found (spots n) f.blocks.items as_many
-    (λ i s at. let r = each i s at in (r.0, r.1, state_same r.0 (blocks s) (vacancies s) r.2 r.3))))
+    (λ i s at. let r = each i s at in (r.0, r.1, state_same r.0 (blocks s) (vacancies s) r.2 r.3)))

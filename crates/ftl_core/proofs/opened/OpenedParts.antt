@@ -1,20 +1,17 @@
 -- What is kept when the layer is opened, from what its parts are then.
-use Rattle.std.proofs.Common.{◌≡◌, ◌∙◌, ◌||◌, ℕ, Bool, List, [], ◌∷◌, None, Option, ap, map, min, refl, replicate, take}
+use Rattle.std.proofs.Common.{◌≡◌, ◌∙◌, ℕ, List, [], None, Option, ap, map, min, replicate, take}
 use Rattle.std.specs.Prelude.{option_map}
-use Rattle.std.specs.List.{list_any}
 use Rattle.geometry.specs.Keys.{key_total}
 use Rattle.ufs_spec.specs.Pages.{greatest_number}
 use Rattle.ufs_spec.specs.Plain.{shape_of_numbers, zero_block}
 use Rattle.ufs_spec.specs.declared.configs.Numbers.{Numbers}
 use Rattle.ufs_spec.specs.declared.flash.Key.{Key}
-use Rattle.block_table.specs.Blocks.{Blocks, is_bad}
+use Rattle.block_table.specs.Blocks.{Blocks}
 use Rattle.collector.specs.Plans.{Collection}
 use Rattle.block_table.specs.Lives.{Lives}
 use Rattle.block_table.specs.declared.BlockState.{BlockState}
 use Rattle.block_table.specs.declared.Sizes.{Sizes}
 use Rattle.recovery.specs.declared.found.Found.{Found}
-use Rattle.recovery.specs.declared.keys.FoundBlock.{FoundBlock}
-use Rattle.recovery.specs.declared.keys.FoundBlock.TheVariants as found
 use Rattle.unit_map.specs.Places.{UnitMap}
 use Rattle.unit_map.specs.declared.Stored.{Stored}
 use Rattle.write_cache.specs.Kept.{WriteCache}
@@ -23,23 +20,10 @@ use Rattle.ftl_core.specs.declared.books.Mending.{Mending}
 use Rattle.ftl_core.specs.declared.books.Pin.{Pin}
 use Rattle.ftl_core.specs.Core.{Core}
 use Rattle.ftl_core.specs.KnownLive.{lives_of_places, none_live, sizes_of}
-use Rattle.ftl_core.specs.Moves.{first_mending, is_bad_found, mark_number_behind, opened, state_of_found}
+use Rattle.ftl_core.specs.Moves.{first_mending, mark_number_behind, opened, state_of_found}
 use Rattle.ftl_core.specs.Moves.{idle_row, stored_of_found}
 use Rattle.ftl_core.specs.PinCounts.{without_pins}
 use Rattle.ftl_core.proofs.live_pages.PinsCounted.{stored_bare}
-
--- bad blocks were found to be so
-bad_same : (bs : List FoundBlock) → list_any is_bad (map state_of_found bs) ≡ list_any is_bad_found bs
-bad_same [] = refl
-bad_same (b ∷ bs) =
-    ap (λ (x : Bool). x || list_any is_bad (map state_of_found bs)) (one b)
-    ∙ ap (λ (x : Bool). is_bad_found b || x) (bad_same bs)
-  where
-    one : (x : FoundBlock) → is_bad (state_of_found x) ≡ is_bad_found x
-    one found.Free = refl
-    one found.Stale = refl
-    one found.Closed = refl
-    one found.Bad = refl
 
 -- the parts together
 abbrev pub core_with : Numbers → Blocks → UnitMap → Lives → WriteCache → List Pin →
@@ -48,7 +32,6 @@ core_with n blocks places live cache pins plan mending lost content next = recor
   numbers = n;
   states = blocks.states;
   rows = blocks.rows;
-  has_bad = blocks.has_bad;
   places = places.places;
   live = live;
   pages = cache.pages;
@@ -66,12 +49,11 @@ core_with n blocks places live cache pins plan mending lost content next = recor
 }
 
 -- what the lists of blocks and places give
-abbrev with_lists : Numbers → Found → List BlockState → List DieRow → Bool → List (Option Stored) → ℕ → Core
-with_lists n f states rows has_bad places last = record {
+abbrev with_lists : Numbers → Found → List BlockState → List DieRow → List (Option Stored) → ℕ → Core
+with_lists n f states rows places last = record {
   numbers = n;
   states = states;
   rows = rows;
-  has_bad = has_bad;
   places = places;
   live = lives_of_places n places;
   pages = [];
@@ -95,7 +77,6 @@ pub opened_as : (n : Numbers) (f : Found) (blocks : Blocks) (map_is : UnitMap) (
       sizes = sizes;
       states = states;
       rows = replicate n.dies idle_row;
-      has_bad = list_any is_bad states;
     } →
     map_is ≡ record { numbers = n; places = places } →
     live ≡ lives_of_places n places →
@@ -108,8 +89,7 @@ pub opened_as : (n : Numbers) (f : Found) (blocks : Blocks) (map_is : UnitMap) (
 opened_as n f blocks map_is live cache pins plan mending content next sizes states places last
     eb em eq ec es ep el en ed ez ek en_plan =
     (λ i. core_with n (eb i) (em i) (bare i) (ec i) (en i) (en_plan i) (ed i) f.lost.items (ez i) (ek i))
-    ∙ (λ i. with_lists n f (es i) (replicate n.dies idle_row) (list_any is_bad (es i)) (ep i) (el i))
-    ∙ ap (λ (b : Bool). record (opened n f) { has_bad = b }) (bad_same f.blocks.items)
+    ∙ (λ i. with_lists n f (es i) (replicate n.dies idle_row) (ep i) (el i))
   where
     bare : without_pins live ≡ lives_of_places n places
     bare =

@@ -1,8 +1,8 @@
 -- The states of all blocks, in order by die and block.
 use Rattle.std.proofs.Common.{◌≡◌, ◌≢◌, ◌∙◌, ◌⊎◌, ℕ, zero, suc, ◌+◌, ◌<◌, ◌≤◌, Bool, true, false, List, [], ◌∷◌, ◌++◌}
 use Rattle.std.proofs.Common.{Option, Some, None, length, map, refl, sym, ap, subst, inl, inr, ⊎_elim, arith, cond, set}
-use Rattle.std.proofs.Common.{get_or, flat_map, lt-ltb}
-use Rattle.std.specs.Prelude.{◌-◌, ◌*◌, ◌==◌, nat_lt, count_by, filter_map, find, slice_get, slice_set, option_map}
+use Rattle.std.proofs.Common.{get_or, flat_map}
+use Rattle.std.specs.Prelude.{◌-◌, ◌*◌, ◌==◌, count_by, filter_map, find, slice_get, slice_set, option_map}
 use Rattle.std.specs.List.{cons_option}
 use Rattle.std.specs.Option.{option_or}
 use Rattle.std.proofs.Math.Nat.{mul-le-mul_left}
@@ -12,13 +12,12 @@ use Rattle.std.proofs.lemmas.List.{get_or-append_right, get_or-set_other, get_or
 use Rattle.std.proofs.lemmas.List.{length-set, map-append, set-append_left, set-append_right}
 use Rattle.std.proofs.lemmas.List.Elements.{filter_map-append}
 use Rattle.std.proofs.lemmas.List.Folds.{find-append, fold-map}
-use Rattle.std.proofs.lemmas.List.Sums.{get_or-le-sum_by}
 use Rattle.std.proofs.lemmas.Option.{slice_get-get_or, slice_get-map}
 use Rattle.ufs_spec.specs.Disk as disk
 use Rattle.ufs_spec.specs.Disk.{Spot, at_spot}
 use Rattle.ufs_spec.specs.Keys.{below}
 use Rattle.ufs_spec.specs.Translation as layer
-use Rattle.ufs_spec.specs.Translation.{first_of, is_bad, next_in, spots, spots_of}
+use Rattle.ufs_spec.specs.Translation.{first_of, next_in, spots, spots_of}
 use Rattle.ufs_spec.specs.declared.configs.Numbers.{Numbers}
 use Rattle.ufs_spec.specs.declared.flash.Place.{Place}
 use Rattle.ufs_laws.proofs.plain_contents.ListParts.{get_or-made, joined_next, joined_same, length-joined, length-made}
@@ -28,7 +27,7 @@ use Rattle.block_table.specs.declared.BlockState.{BlockState}
 use Rattle.block_table.specs.declared.BlockState.TheVariants as state
 use Rattle.block_table.specs.declared.rows.OpenBlock.{OpenBlock}
 use Rattle.ftl_core.specs.Describes.{BlocksKept, IsFilling, block_kept, spot_at}
-use Rattle.block_table.specs.Blocks.{is_free}
+use Rattle.block_table.specs.Blocks.{is_bad, is_free}
 use Rattle.ftl_core.specs.Takes.{lowest_below, next_place, found_or}
 
 -- Rows of the same length
@@ -198,6 +197,14 @@ same_free (disk.Filling next) v = refl
 same_free disk.Closed v = refl
 same_free disk.Bad v = refl
 
+pub same_bad : (s : disk.BlockState) (v : disk.Vacancy) → is_bad (block_kept s v) ≡ layer.is_bad s
+same_bad disk.Free disk.Untouched = refl
+same_bad disk.Free disk.Stale = refl
+same_bad disk.Free disk.Ready = refl
+same_bad (disk.Filling next) v = refl
+same_bad disk.Closed v = refl
+same_bad disk.Bad v = refl
+
 -- the free blocks, counted by either of their states
 pub free_counted : (n : Numbers) (f : Spot → disk.BlockState) (g : Spot → disk.Vacancy) →
     count_by is_free (map (λ (s : Spot). block_kept (f s) (g s)) (spots n))
@@ -205,6 +212,14 @@ pub free_counted : (n : Numbers) (f : Spot → disk.BlockState) (g : Spot → di
 free_counted n f g =
     fold-map (λ (a : ℕ) (x : BlockState). a + cond (is_free x) 1 0) (λ (s : Spot). block_kept (f s) (g s)) 0 (spots n)
     ∙ ap (λ (test : Spot → Bool). count_by test (spots n)) (λ i s. same_free (f s) (g s) i)
+
+-- the bad blocks, counted by either of their states
+pub bad_counted : (n : Numbers) (f : Spot → disk.BlockState) (g : Spot → disk.Vacancy) →
+    count_by is_bad (map (λ (s : Spot). block_kept (f s) (g s)) (spots n))
+    ≡ count_by (λ (s : Spot). layer.is_bad (f s)) (spots n)
+bad_counted n f g =
+    fold-map (λ (a : ℕ) (x : BlockState). a + cond (is_bad x) 1 0) (λ (s : Spot). block_kept (f s) (g s)) 0 (spots n)
+    ∙ ap (λ (test : Spot → Bool). count_by test (spots n)) (λ i s. same_bad (f s) (g s) i)
 
 found_last : {X : Type 0} (g : ℕ → X) (o : Option ℕ) (b : Bool) (n : ℕ) →
     option_or (option_map g o) (cond b (Some (g n)) None) ≡ option_map g (found_or o b n)
@@ -305,83 +320,50 @@ states_put n was is s there within other =
     (λ e. apart (ap (λ (u : Spot). u.die) e, ap (λ (u : Spot). u.block) e))))
     ∙ sym (mapped is spot_at n.blocks n.dies))
 
--- a block and what is in it change, and it is bad neither before nor then
+-- a block and what is in it change
 block_changed : (n : Numbers) (blocks now : Spot → disk.BlockState) (vacancies held : Spot → disk.Vacancy)
-    (states : List BlockState) (has_bad : Bool) (s : Spot) → BlocksKept n blocks vacancies states has_bad →
+    (states : List BlockState) (s : Spot) → BlocksKept n blocks vacancies states →
     s.die < n.dies → s.block < n.blocks → ((t : Spot) → t ≢ s → now t ≡ blocks t) →
-    ((t : Spot) → t ≢ s → held t ≡ vacancies t) → is_bad (now s) ≡ is_bad (blocks s) →
-    BlocksKept n now held (slice_set states (s.die * n.blocks + s.block) (block_kept (now s) (held s))) has_bad
-block_changed n blocks now vacancies held states has_bad s h die block others beside as_bad = record {
-  all = ap (λ (xs : List BlockState). set xs (s.die * n.blocks + s.block) (block_kept (now s) (held s))) h.all
-      ∙ states_put n (λ (t : Spot). block_kept (blocks t) (vacancies t)) (λ (t : Spot). block_kept (now t) (held t)) s
-      die block (λ t apart. (λ i. block_kept (others t apart i) (beside t apart i)));
-  bad = h.bad ∙ ap (λ (test : Spot → Bool). nat_lt 0 (count_by test (spots n))) (λ i t. sym (same t) i);
-}
-  where
-    same : (t : Spot) → is_bad (now t) ≡ is_bad (blocks t)
-    same t = ⊎_elim
-        (λ k. ap (λ (u : Spot). is_bad (now u)) k.0 ∙ (as_bad ∙ ap (λ (u : Spot). is_bad (blocks u)) (sym k.0)))
-        (λ k. ap is_bad (others t k.0)) (at_spot_cases blocks s disk.Bad t)
+    ((t : Spot) → t ≢ s → held t ≡ vacancies t) →
+    BlocksKept n now held (slice_set states (s.die * n.blocks + s.block) (block_kept (now s) (held s)))
+block_changed n blocks now vacancies held states s h die block others beside =
+    ap (λ (xs : List BlockState). set xs (s.die * n.blocks + s.block) (block_kept (now s) (held s))) h
+    ∙ states_put n (λ (t : Spot). block_kept (blocks t) (vacancies t)) (λ (t : Spot). block_kept (now t) (held t)) s
+    die block (λ t apart. (λ i. block_kept (others t apart i) (beside t apart i)))
 
--- a block's state changes, and it is bad neither before nor then
+-- a block's state changes
 pub block_put : (n : Numbers) (blocks : Spot → disk.BlockState) (vacancies : Spot → disk.Vacancy)
-    (states : List BlockState) (has_bad : Bool) (s : Spot) (x : disk.BlockState) →
-    BlocksKept n blocks vacancies states has_bad → s.die < n.dies → s.block < n.blocks →
-    is_bad (blocks s) ≡ false → is_bad x ≡ false →
+    (states : List BlockState) (s : Spot) (x : disk.BlockState) →
+    BlocksKept n blocks vacancies states → s.die < n.dies → s.block < n.blocks →
     BlocksKept n (at_spot blocks s x) vacancies
-    (slice_set states (s.die * n.blocks + s.block) (block_kept x (vacancies s))) has_bad
-block_put n blocks vacancies states has_bad s x h die block was is =
+    (slice_set states (s.die * n.blocks + s.block) (block_kept x (vacancies s)))
+block_put n blocks vacancies states s x h die block =
     subst (λ (y : disk.BlockState). BlocksKept n (at_spot blocks s x) vacancies
-    (slice_set states (s.die * n.blocks + s.block) (block_kept y (vacancies s))) has_bad) (put_here blocks s x)
-    (block_changed n blocks (at_spot blocks s x) vacancies vacancies states has_bad s h die block
-    (λ t apart. put_beside blocks s x t apart) (λ t apart. refl)
-    (ap is_bad (put_here blocks s x) ∙ is ∙ sym was))
+    (slice_set states (s.die * n.blocks + s.block) (block_kept y (vacancies s)))) (put_here blocks s x)
+    (block_changed n blocks (at_spot blocks s x) vacancies vacancies states s h die block
+    (λ t apart. put_beside blocks s x t apart) (λ t apart. refl))
 
--- a block that is not bad is free from now on, and what is in it is so
+-- a block is free from now on, and what is in it is so
 pub block_vacant : (n : Numbers) (blocks : Spot → disk.BlockState) (vacancies : Spot → disk.Vacancy)
-    (states : List BlockState) (has_bad : Bool) (s : Spot) (v : disk.Vacancy) →
-    BlocksKept n blocks vacancies states has_bad → s.die < n.dies → s.block < n.blocks → is_bad (blocks s) ≡ false →
+    (states : List BlockState) (s : Spot) (v : disk.Vacancy) →
+    BlocksKept n blocks vacancies states → s.die < n.dies → s.block < n.blocks →
     BlocksKept n (at_spot blocks s disk.Free) (at_spot vacancies s v)
-    (slice_set states (s.die * n.blocks + s.block) (block_kept disk.Free v)) has_bad
-block_vacant n blocks vacancies states has_bad s v h die block was =
+    (slice_set states (s.die * n.blocks + s.block) (block_kept disk.Free v))
+block_vacant n blocks vacancies states s v h die block =
     subst (λ (y : BlockState). BlocksKept n (at_spot blocks s disk.Free) (at_spot vacancies s v)
-    (slice_set states (s.die * n.blocks + s.block) y) has_bad)
+    (slice_set states (s.die * n.blocks + s.block) y))
     (λ i. block_kept (put_here blocks s disk.Free i) (put_here vacancies s v i))
-    (block_changed n blocks (at_spot blocks s disk.Free) vacancies (at_spot vacancies s v) states has_bad s h die block
-    (λ t apart. put_beside blocks s disk.Free t apart) (λ t apart. put_beside vacancies s v t apart)
-    (ap is_bad (put_here blocks s disk.Free) ∙ sym was))
-
-some_counted : (k count : ℕ) → k ≡ 1 → k ≤ count → nat_lt 0 count ≡ true
-some_counted k count one within = lt-ltb 0 count (omega arith)
+    (block_changed n blocks (at_spot blocks s disk.Free) vacancies (at_spot vacancies s v) states s h die block
+    (λ t apart. put_beside blocks s disk.Free t apart) (λ t apart. put_beside vacancies s v t apart))
 
 -- a block goes bad, whatever is in it
 pub block_lost : (n : Numbers) (blocks : Spot → disk.BlockState) (vacancies held : Spot → disk.Vacancy)
-    (states : List BlockState) (has_bad : Bool) (s : Spot) →
-    BlocksKept n blocks vacancies states has_bad → s.die < n.dies → s.block < n.blocks →
+    (states : List BlockState) (s : Spot) →
+    BlocksKept n blocks vacancies states → s.die < n.dies → s.block < n.blocks →
     ((t : Spot) → t ≢ s → held t ≡ vacancies t) →
-    BlocksKept n (at_spot blocks s disk.Bad) held (slice_set states (s.die * n.blocks + s.block) state.Bad) true
-block_lost n blocks vacancies held states has_bad s h die block beside = record {
-  all = ap (λ (xs : List BlockState). set xs (s.die * n.blocks + s.block) state.Bad) h.all
-      ∙ (ap (λ (y : BlockState). set (map was (spots n)) (s.die * n.blocks + s.block) y)
-      (sym (ap (λ (y : disk.BlockState). block_kept y (held s)) (put_here blocks s disk.Bad)))
-      ∙ states_put n was is_now s die block
-      (λ t apart. (λ i. block_kept (put_beside blocks s disk.Bad t apart i) (beside t apart i))));
-  bad = sym (some_counted (one (get_or (spots n) (s.die * n.blocks + s.block) s)) (count_by is (spots n)) counted
-      (get_or-le-sum_by one (spots n) (s.die * n.blocks + s.block) s (place_of_block n s.die s.block die block)));
-}
-  where
-    was : Spot → BlockState
-    was t = block_kept (blocks t) (vacancies t)
-
-    is_now : Spot → BlockState
-    is_now t = block_kept (at_spot blocks s disk.Bad t) (held t)
-
-    is : Spot → Bool
-    is t = is_bad (at_spot blocks s disk.Bad t)
-
-    one : Spot → ℕ
-    one t = cond (is t) 1 0
-
-    counted : one (get_or (spots n) (s.die * n.blocks + s.block) s) ≡ 1
-    counted = ap one (spot_there n s.die s.block s die block)
-        ∙ ap (λ (b : disk.BlockState). cond (is_bad b) 1 0) (put_here blocks s disk.Bad)
+    BlocksKept n (at_spot blocks s disk.Bad) held (slice_set states (s.die * n.blocks + s.block) state.Bad)
+block_lost n blocks vacancies held states s h die block beside =
+    subst (λ (y : disk.BlockState). BlocksKept n (at_spot blocks s disk.Bad) held
+    (slice_set states (s.die * n.blocks + s.block) (block_kept y (held s)))) (put_here blocks s disk.Bad)
+    (block_changed n blocks (at_spot blocks s disk.Bad) vacancies held states s h die block
+    (λ t apart. put_beside blocks s disk.Bad t apart) beside)

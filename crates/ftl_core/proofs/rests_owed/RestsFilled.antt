@@ -1,6 +1,6 @@
 -- A read brings the rest of all pages that wait for it: the first of them is laid over what was read, and each later one
 -- over the one before it, so that each has what its group has.
-use Rattle.std.proofs.Common.{◌≡◌, ◌∙◌, ◌⊎◌, ℕ, suc, ◌+◌, ◌<◌, ◌≤◌, Bool, true, false, List, [], ◌∷◌, Option}
+use Rattle.std.proofs.Common.{◌≡◌, ◌∙◌, ℕ, suc, ◌+◌, ◌<◌, ◌≤◌, Bool, true, false, List, [], ◌∷◌, Option}
 use Rattle.std.proofs.Common.{Some, refl, sym, ap, subst, ⊎_elim, arith, Contains, is_some}
 use Rattle.std.specs.Prelude.{filter_map, if◌then◌else◌, slice_get}
 use Rattle.std.proofs.lemmas.Bool.{cases_lt}

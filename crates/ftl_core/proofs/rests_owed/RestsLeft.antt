@@ -1,5 +1,5 @@
 -- Which read brings the rest of a page, and which pages wait still once a read came.
-use Rattle.std.proofs.Common.{◌≡◌, ◌∙◌, ◌⊎◌, ℕ, Bool, true, false, List, [], ◌∷◌, Option}
+use Rattle.std.proofs.Common.{◌≡◌, ◌∙◌, ℕ, Bool, true, false, List, [], ◌∷◌, Option}
 use Rattle.std.proofs.Common.{Some, None, refl, sym, ap, ⊎_elim, is_some}
 use Rattle.std.specs.Prelude.{cond, filter, filter_map, if◌then◌else◌, not}
 use Rattle.std.specs.List.{cons_option}

@@ -1,5 +1,5 @@
 -- Which pending pages wait for their rests: by name as the layer says it, and by the block that they are read from.
-use Rattle.std.proofs.Common.{◌≡◌, ◌∙◌, ◌⊎◌, ℕ, Bool, true, false, List, [], ◌∷◌, Option, Some, None, refl, sym, ap}
+use Rattle.std.proofs.Common.{◌≡◌, ◌∙◌, ℕ, Bool, true, false, List, [], ◌∷◌, Option, Some, None, refl, sym, ap}
 use Rattle.std.proofs.Common.{subst, ⊎_elim, is_some}
 use Rattle.std.specs.Prelude.{◌||◌, cond, filter_map, slice_get}
 use Rattle.std.specs.List.{cons_option, list_any}

@@ -1,5 +1,5 @@
 -- What is kept of the rests goes on to describe them along each move that neither accepts a group nor brings a rest.
-use Rattle.std.proofs.Common.{◌≡◌, ◌≢◌, ◌∙◌, ◌⊎◌, ℕ, Bool, true, false, List, [], ◌∷◌, Option, Some, None, refl, sym, ap}
+use Rattle.std.proofs.Common.{◌≡◌, ◌≢◌, ◌∙◌, ℕ, Bool, true, false, List, [], ◌∷◌, Option, Some, None, refl, sym, ap}
 use Rattle.std.proofs.Common.{subst, inl, inr, ⊎_elim, Contains}
 use Rattle.std.specs.Prelude.{filter_map, if◌then◌else◌}
 use Rattle.ufs_spec.proofs.Facts.{none-some, same_Some}

@@ -19,7 +19,7 @@ use Rattle.ftl_core.proofs.small_calls.ReadersClaims.{claims_either, claims_fill
 use Rattle.ftl_core.proofs.small_calls.ReadersClaims.{others_either, others_filled}
 
 -- what one reader has claimed changes, and nothing of another
-one_claims : (c after : Core) (claims : Claims) (reader : ℕ) (blocks : List (List ℕ)) → AreClaimed c claims →
+pub one_claims : (c after : Core) (claims : Claims) (reader : ℕ) (blocks : List (List ℕ)) → AreClaimed c claims →
     AreClaimedBy after reader blocks →
     ((other : ℕ) → (other ≡ reader → ⊥) → claims_for after other ≡ claims_for c other) →
     AreClaimed after (with_claimed claims reader blocks)

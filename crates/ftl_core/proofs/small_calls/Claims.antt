@@ -25,7 +25,7 @@ use Rattle.ftl_core.proofs.small_calls.SmallCalls.{slots_right}
 -- What they are to the layer
 
 -- claims show in the layer by their number alone
-claims_kept : (c : Core) (t : Translation) (claims : List Claimed) (m : ℕ) → Kept c t → length claims ≡ m →
+pub claims_kept : (c : Core) (t : Translation) (claims : List Claimed) (m : ℕ) → Kept c t → length claims ≡ m →
     Kept (record c { claims = claims }) (record t { claims = m })
 claims_kept c t claims m k same = record {
   numbers = k.numbers;

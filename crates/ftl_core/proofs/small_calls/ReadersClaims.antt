@@ -28,7 +28,7 @@ none_left {A} p (x ∷ xs) = by (p x) refl (none_left p xs)
         (filter p (filter (λ y. not (p y)) xs)) e ∙ rest
 
 -- and what passes another test is
-others_left : {A : Type 0} (p q : A → Bool) (xs : List A) → ((x : A) → p x ≡ true → q x ≡ false) →
+pub others_left : {A : Type 0} (p q : A → Bool) (xs : List A) → ((x : A) → p x ≡ true → q x ≡ false) →
     filter q (filter (λ x. not (p x)) xs) ≡ filter q xs
 others_left p q [] apart = refl
 others_left {A} p q (x ∷ xs) apart = by (p x) refl (others_left p q xs apart)
@@ -63,7 +63,7 @@ map_left {A} q f (x ∷ xs) same = by (q x) refl (map_left q f xs same)
 
 -- Readers
 
-other_claim : (reader other : ℕ) → (other ≡ reader → ⊥) → (claim : Claimed) → is_claim_of reader claim ≡ true →
+pub other_claim : (reader other : ℕ) → (other ≡ reader → ⊥) → (claim : Claimed) → is_claim_of reader claim ≡ true →
     is_claim_of other claim ≡ false
 other_claim reader other apart claim e =
     ⊎_elim

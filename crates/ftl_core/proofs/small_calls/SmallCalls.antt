@@ -1,15 +1,15 @@
 -- What the smaller calls tell.
 use Rattle.std.proofs.Common.{◌≡◌, ℕ, ◌+◌, Bool, length, ap, arith}
-use Rattle.std.specs.Prelude.{◌-◌, ◌||◌, nat_lt, count_by, not}
+use Rattle.std.specs.Prelude.{◌-◌, ◌||◌, nat_lt, not}
 use Rattle.std.proofs.lemmas.Bool.Decides.{nat_tests}
 use Rattle.ufs_spec.specs.Pages.{greatest_number}
-use Rattle.ufs_spec.specs.Disk.{Spot}
 use Rattle.ufs_spec.specs.Ledger as ledger
 use Rattle.ufs_spec.specs.Translation as layer
-use Rattle.ufs_spec.specs.Translation.{Translation, is_bad, spots}
+use Rattle.ufs_spec.specs.Translation.{Translation}
 use Rattle.ftl_core.specs.Core.{Core}
 use Rattle.ftl_core.specs.Describes.{Describes}
-use Rattle.ftl_core.specs.Moves.{free_slots, is_locked}
+use Rattle.ftl_core.specs.Moves.{bad_blocks, free_slots, is_locked}
+use Rattle.ftl_core.proofs.job_taken.OpenBlocks.{bad_alike}
 use Rattle.ftl_core.proofs.look_and_accept.Numbers.{kept_length, numbers_right}
 
 -- no number is left where the next one is above the greatest
@@ -21,8 +21,9 @@ lock_same a b x y most e f = (λ i. e i || numbers i)
 
 pub locks_right : (c : Core) (t : Translation) → Describes c t → is_locked c ≡ layer.is_locked t
 locks_right c t h =
-    lock_same c.has_bad (nat_lt 0 (count_by (λ (s : Spot). is_bad (t.disk.blocks s)) (spots t.numbers)))
-    c.last (ledger.next_number t.ledger) greatest_number h.kept.blocks.bad (numbers_right c t h)
+    lock_same (nat_lt c.numbers.spare (bad_blocks c)) (nat_lt t.numbers.spare (layer.count_blocks t layer.is_bad))
+    c.last (ledger.next_number t.ledger) greatest_number
+    (λ i. nat_lt (h.kept.numbers i).spare (bad_alike c t h.kept i)) (numbers_right c t h)
 
 pub slots_right : (c : Core) (t : Translation) → Describes c t → free_slots c ≡ layer.free_slots t
 slots_right c t h =

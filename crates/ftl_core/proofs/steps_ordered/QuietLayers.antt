@@ -106,7 +106,7 @@ some_if false x = refl
 -- a block is kept as stale where it is free, and what is in it opens
 pub stale_agrees : (c : Core) (t : Translation) → Kept c t → has_stale c ≡ layer.has_stale t
 stale_agrees c t k =
-    ap (list_any is_stale) k.blocks.all
+    ap (list_any is_stale) k.blocks
     ∙ any_mapped is_stale (λ (s : Spot). block_kept (t.disk.blocks s) (t.disk.vacancies s)) (spots t.numbers)
     ∙ ap (λ (test : Spot → Bool). list_any test (spots t.numbers))
     (λ i s. one (t.disk.blocks s) (t.disk.vacancies s) i)

@@ -382,7 +382,7 @@ impl Ftl {
         ensures { result ≡ repair_program self.now place number key }
     {
         let tag = tag_of(key, number, self.cache.frontier());
-        UnsealedJob::program(place, &tag, &self.content)
+        UnsealedJob::program_with(&self.zeros, place, &tag, &self.content)
     }
 
     /// The program of the repair, if a tag can name its key.
@@ -412,7 +412,7 @@ impl Ftl {
             size: tag.size,
             frontier: self.cache.frontier(),
         };
-        UnsealedJob::program(place, &copy, &self.content)
+        UnsealedJob::program_with(&self.zeros, place, &copy, &self.content)
     }
 
     /// The program of the page of the step under way.
@@ -449,7 +449,7 @@ impl Ftl {
         ensures { result ≡ page_of_group self.now place page.now body.now }
     {
         let tag = tag_of_page(page, self.cache.frontier());
-        UnsealedJob::program(place, &tag, body)
+        UnsealedJob::program_with(&self.zeros, place, &tag, body)
     }
 
     /// What the die is told to do.

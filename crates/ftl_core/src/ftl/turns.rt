@@ -81,7 +81,7 @@ impl Ftl {
     fn wants_collection(&self) -> bool
         ensures { result ≡ wants_collection self.now }
     {
-        self.has_few_free() || (self.blocks.has_bad() && self.has_bad_with_live())
+        self.has_few_free() || (self.blocks.bad_blocks() > 0 && self.has_bad_with_live())
     }
 
     /// Whether a bad block without a pin holds live pages.

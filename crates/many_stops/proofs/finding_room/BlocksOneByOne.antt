@@ -4,10 +4,10 @@ use Rattle.std.proofs.Common.{◌≡◌, ◌⊎◌, ℕ, suc, ◌+◌, ◌*◌, 
 use Rattle.std.proofs.Common.{refl, sym, ap, ◌∙◌, subst, arith}
 use Rattle.std.proofs.Math.Nat.{mul-le-mul_left}
 use Rattle.ufs_laws.proofs.walk.LayerEffects.{IsDue, order_due, turned_if}
-use Rattle.ufs_spec.proofs.Facts.{at_most, true≢false}
+use Rattle.ufs_spec.proofs.Facts.{at_most, cases_Bool, true≢false}
 use Rattle.ufs_spec.proofs.Updates.{at_die_cases}
 use Rattle.ufs_spec.specs.Cells.{Cell, GroupPage, Mark, MarkPage, Nothing}
-use Rattle.ufs_spec.specs.Disk.{BlockState, Closed, Erasing, Filling, Flight}
+use Rattle.ufs_spec.specs.Disk.{BlockState, Bad, Closed, Erasing, Filling, Flight}
 use Rattle.ufs_spec.specs.Disk.{Free, Programming, Reading, Spot, at_spot, spot_of, state_after}
 use Rattle.ufs_spec.specs.Moves.{EndJob, Ending, GiveJob, IsAllowedMove, Move, ReadRight, ReadWrong, TakeStep, WentWell}
 use Rattle.ufs_spec.specs.Moves.{WentWrong, end_flight, mark_written, moved, step_after, step_there}
@@ -197,14 +197,18 @@ first_filled : (pages free room step : ℕ) → 1 ≤ pages → room ≤ pages *
 first_filled pages free room step some h = omega (arith, some, h)
 
 pub opening_filled : (n : Numbers) (c : Cells) (bad : Spot → Bool) (t : Translation) → 1 ≤ t.numbers.pages →
-    IsOpenedTranslation n c bad t → ((s : Spot) → bad s ≡ false) → Filled t
-opening_filled n c bad t some o good =
+    IsOpenedTranslation n c bad t → Filled t
+opening_filled n c bad t some o =
     inr (first_filled t.numbers.pages (free_count t.numbers t.disk.blocks) (room_in t.numbers t.disk.blocks)
     (page_of_step t.work.step) some
     (free_room_alone t.numbers t.disk.blocks
-    (λ s next i is. ⊎_elim (λ e. free_apart (sym e ∙ is)) (λ e. closed_apart (sym e ∙ is))
-    (o.disk.blocks.were_good s (good s)))))
+    (λ s next i is. ⊎_elim (λ e. bad_apart (sym (o.disk.blocks.were_bad s e) ∙ is))
+    (λ e. ⊎_elim (λ k. free_apart (sym k ∙ is)) (λ k. closed_apart (sym k ∙ is)) (o.disk.blocks.were_good s e))
+    (cases_Bool (bad s)))))
   where
+    bad_apart : {next : ℕ} → Bad ≡ Filling next → ⊥
+    bad_apart e = cc
+
     free_apart : {next : ℕ} → Free ≡ Filling next → ⊥
     free_apart e = cc
 

@@ -1,7 +1,7 @@
 -- Over any number of lives in which no program and no erase fails, from new dies on, each opening finds room for its
 -- mending, and no life is locked out.
 use Rattle.std.proofs.Common.{◌≡◌, ℕ, ◌∷◌, ◌+◌, ◌-◌, ◌*◌, ◌<◌, ◌≤◌, Bool, true, false, cond, List}
-use Rattle.std.proofs.Common.{[], length, map, inl, inr, ⊎_elim, sym, ap, ◌∙◌, subst, arith}
+use Rattle.std.proofs.Common.{[], length, map, Option, Some, None, inl, inr, ⊎_elim, refl, sym, ap, ◌∙◌, subst, arith}
 use Rattle.std.proofs.Math.Nat.{lt_of_mul-lt-mul_right, mul-le-mul_left}
 use Rattle.std.proofs.lemmas.Grind.{div_ceil_times}
 use Rattle.std.proofs.lemmas.List.{length-map}
@@ -11,13 +11,16 @@ use Rattle.std.proofs.lemmas.List.Sums.{sum_by-cons}
 use Rattle.std.specs.Int.{div_ceil}
 use Rattle.std.specs.List.{All, count_by, list_any, sum_by}
 use Rattle.ufs_laws.proofs.new_dies.FirstLife.{none_there}
+use Rattle.ufs_laws.proofs.pages.BlankPages.{nothing_is_blank}
+use Rattle.ufs_laws.proofs.pages.PageIsOneCell.{one_cell}
 use Rattle.ufs_spec.proofs.ConfigFacts.{config_tests, ranges}
 use Rattle.ufs_spec.proofs.Facts.{ltb-false, true≢false}
 use Rattle.ufs_spec.proofs.Lists.{length-below}
-use Rattle.ufs_spec.specs.Cells.{AreWithin, Array, Cells, Nothing}
+use Rattle.ufs_spec.specs.Cells.{AreWithin, Array, Cell, Cells, IsCell, Nothing}
 use Rattle.ufs_spec.specs.Configs.{IsConfig, blocks_left, blocks_needed, pages_kept}
 use Rattle.ufs_spec.specs.Dies.{DieState}
-use Rattle.ufs_spec.specs.Disk.{CellCrash, Free, Spot}
+use Rattle.ufs_spec.specs.Disk.{BlockState, Bad, CellCrash, Closed, Erasing, Filling, Flight, Free, Programming}
+use Rattle.ufs_spec.specs.Disk.{Reading, Spot, Touches, spot_of}
 use Rattle.ufs_spec.specs.Keys.{below}
 use Rattle.ufs_spec.specs.Lives.{IsOpened, Life, Lived, Lives, Runs, Stops, array_of, bad_in, bad_of}
 use Rattle.ufs_spec.specs.Moves.{Move}
@@ -52,10 +55,14 @@ use Rattle.power_loss.specs.MendingRoom.{MayGoOn, fails_job, makes_bad}
 use Rattle.power_loss.specs.Runs.{AreNewDies}
 use Rattle.many_stops.proofs.finding_room.RoomForAMending.{blocks_hold, own_room_twice}
 use Rattle.many_stops.proofs.finding_room.MendingLives.{LivesFrom, lives_begin, lives_on, stop_leaves}
-use Rattle.many_stops.proofs.finding_room.StopsOfAMending.{bad_is}
+use Rattle.many_stops.proofs.finding_room.StopsOfAMending.{were_unfilled}
+use Rattle.many_stops.proofs.finding_room.SinceTheOpening.{bad_is_not_free}
+use Rattle.power_loss.proofs.jobs.StandsSecurely.{filling_is_not_bad}
+use Rattle.power_loss.proofs.jobs_owed.ProgramsAndErases.{free_is}
+use Rattle.many_stops.specs.RoomOfGroups.{AreBlankIfBad}
 use Rattle.many_stops.proofs.finding_room.WithoutFailures.{fails_parts, life_holds, moves_hold, none_counted}
-use Rattle.many_stops.specs.RoomOverStops.{FindsRoom, HasSpareBlocks, IsNeverLockedOut, NoneFails, OpensWithRoom}
-use Rattle.many_stops.specs.RoomOverStops.{mending_blocks}
+use Rattle.many_stops.specs.RoomOverStops.{FindsRoom, HasSpareBlocks, IsNeverLockedOut, NoneFails, OpensNoneIfBad}
+use Rattle.many_stops.specs.RoomOverStops.{OpensWithRoom, mending_blocks}
 
 -- Configurations
 
@@ -78,12 +85,12 @@ few_rows pages slots kept filled needed some hold less =
     let r = lt_of_mul-lt-mul_right pages l in
     omega (arith, r)
 
-enough_blocks : (filled needed dies left blocks spare : ℕ) → 2 * filled ≤ needed + 1 →
-    needed + 4 * dies + 8 ≤ blocks - spare → 2 * (filled + 1) ≤ blocks
-enough_blocks filled needed dies left blocks spare few hold = omega (arith, few, hold)
+enough_blocks : (filled needed dies left : ℕ) → 2 * filled ≤ needed + 1 → needed + 4 * dies + 8 ≤ left →
+    2 * (filled + 1) ≤ left
+enough_blocks filled needed dies left few hold = omega (arith, few, hold)
 
--- a configuration has as many blocks as two mendings need
-config_blocks : (n : Numbers) → IsConfig n → 2 * mending_blocks n ≤ n.dies * n.blocks
+-- a configuration has as many blocks as two mendings need, also if all spare ones are bad
+config_blocks : (n : Numbers) → IsConfig n → 2 * mending_blocks n ≤ blocks_left n
 config_blocks n config =
     let tests = config_tests n config in
     let pages = has_pages n config in
@@ -92,7 +99,6 @@ config_blocks n config =
     let kept = (div_ceil_times (pages_kept n + 4 * n.slots) n.pages some).0 in
     let less = (div_ceil_times n.slots n.pages some).1 in
     enough_blocks (div_ceil n.slots n.pages) (div_ceil (pages_kept n + 4 * n.slots) n.pages) n.dies (blocks_left n)
-    (n.dies * n.blocks) n.spare
     (few_rows n.pages n.slots (pages_kept n) (div_ceil n.slots n.pages)
     (div_ceil (pages_kept n + 4 * n.slots) n.pages) some kept less) fits
 
@@ -104,17 +110,20 @@ sum_same f m (x ∷ xs) each =
     let r = sum_same f m xs each in
     omega (arith, a, e, r)
 
-all_pass : {A : Type 0} (test : A → Bool) (xs : List A) → ((x : A) → test x ≡ true) → length xs ≤ count_by test xs
-all_pass test [] each = omega arith
-all_pass {A} test (x ∷ xs) each =
+-- each element passes the one test or the other
+one_passes : {A : Type 0} (test other : A → Bool) (xs : List A) → ((x : A) → other x ≡ false → test x ≡ true) →
+    length xs ≤ count_by test xs + count_by other xs
+one_passes test other [] each = omega arith
+one_passes {A} test other (x ∷ xs) each =
     let a = sum_by-cons (λ (y : A). cond (test y) 1 0) x xs in
-    let l = passes (test x) (each x) in
-    let r = all_pass test xs each in
-    omega (arith, a, l, r)
+    let b = sum_by-cons (λ (y : A). cond (other y) 1 0) x xs in
+    let l = passes (test x) (other x) (each x) in
+    let r = one_passes test other xs each in
+    omega (arith, a, b, l, r)
   where
-    passes : (b : Bool) → b ≡ true → 1 ≤ cond b 1 0
-    passes true h = omega arith
-    passes false h = absurd (true≢false (sym h))
+    passes : (b c : Bool) → (c ≡ false → b ≡ true) → 1 ≤ cond b 1 0 + cond c 1 0
+    passes b true h = omega arith
+    passes b false h = let e = ap {B = ℕ} (λ (z : Bool). cond z 1 0) (h refl) in omega (arith, e)
 
 abbrev block_at : ℕ → ℕ → Spot
 block_at die block = record { die = die; block = block }
@@ -126,42 +135,50 @@ length_spots n =
     (λ die. length-map (below n.blocks) (λ block. block_at die block) ∙ length-below n.blocks)
     ∙ ap (λ k. k * n.blocks) (length-below n.dies)
 
--- where all blocks are free there is room for any mending
-all_free_spare : (t : Translation) → IsConfig t.numbers → ((s : Spot) → t.disk.blocks s ≡ Free) → HasSpareBlocks t
-all_free_spare t config free = record {
+left_over : (needed blocks spare bad free : ℕ) → needed ≤ blocks - spare → bad ≤ spare → blocks ≤ free + bad →
+    needed ≤ free
+left_over needed blocks spare bad free enough few all = omega (arith, enough, few, all)
+
+-- where all blocks are free that are not bad, and no more are bad than spare ones, there is room for any mending
+all_free_spare : (t : Translation) (bad : Spot → Bool) → IsConfig t.numbers →
+    count_by bad (spots t.numbers) ≤ t.numbers.spare → ((s : Spot) → bad s ≡ false → t.disk.blocks s ≡ Free) →
+    HasSpareBlocks t
+all_free_spare t bad config few free = record {
   free = omega (arith, two);
   spare = λ s. is_free (t.disk.blocks s);
-  each = λ s h. inl (free s);
+  each = λ s h. inl (free_is (t.disk.blocks s) h);
   many = two;
 }
   where
     two : 2 * mending_blocks t.numbers ≤ count_by (λ s. is_free (t.disk.blocks s)) (spots t.numbers)
     two =
-        let l = all_pass (λ s. is_free (t.disk.blocks s)) (spots t.numbers) (λ s. ap is_free (free s)) in
+        let l = one_passes (λ s. is_free (t.disk.blocks s)) bad (spots t.numbers) (λ s e. ap is_free (free s e)) in
         let e = length_spots t.numbers in
-        let c = config_blocks t.numbers config in
-        omega (arith, l, e, c)
+        left_over (2 * mending_blocks t.numbers) (t.numbers.dies * t.numbers.blocks) t.numbers.spare
+        (count_by bad (spots t.numbers)) (count_by (λ s. is_free (t.disk.blocks s)) (spots t.numbers))
+        (config_blocks t.numbers config) few (omega (arith, l, e))
 
 pub new_find_room : (n : Numbers) (c : Cells) (bad : Spot → Bool) (t : Translation) → IsConfig n →
-    ((p : Place) → c p ≡ Nothing) → ((s : Spot) → bad s ≡ false) → IsOpenedTranslation n c bad t → FindsRoom t
-new_find_room n c bad t config blank good o =
-    inr (all_free_spare t (subst IsConfig (sym o.numbers) config)
-    (λ s. ⊎_elim (λ e. e)
+    ((p : Place) → c p ≡ Nothing) → count_by bad (spots n) ≤ n.spare → IsOpenedTranslation n c bad t → FindsRoom t
+new_find_room n c bad t config blank few o =
+    inr (all_free_spare t bad (subst IsConfig (sym o.numbers) config)
+    (subst (λ k. count_by bad (spots k) ≤ k.spare) (sym o.numbers) few)
+    (λ s good. ⊎_elim (λ e. e)
     (λ e. (let k = o.disk.blocks.oldest_first s e in absurd (k.2 (blank k.0))))
-    (o.disk.blocks.were_good s (good s))))
+    (o.disk.blocks.were_good s good)))
 
 -- A life of the layer
 
 pub layer_finds_room : (n : Numbers) (c left : Cells) (bad : Spot → Bool) (t next : Translation) (moves : List Move) →
     IsConfig n → CellsRight c → AreWithin n c → CellsSound c t.ledger.newest → HasFewLost n c t.ledger.newest →
-    ((s : Spot) → bad s ≡ false) → IsOpenedTranslation n c bad t → FindsRoom t → AreAllowedMoves t moves →
+    AreBlankIfBad c bad → IsOpenedTranslation n c bad t → FindsRoom t → AreAllowedMoves t moves →
     list_any fails_job moves ≡ false →
     CellCrash (moved_by t moves).disk.cells (moved_by t moves).disk.flights left →
     IsOpenedTranslation n left (λ s. is_bad ((moved_by t moves).disk.blocks s)) next → FindsRoom next
-layer_finds_room n c left bad t next moves config right within sound few good o room may well crash start =
-    stop_leaves bad t (moved_by t moves) left next opens good
+layer_finds_room n c left bad t next moves config right within sound few blank o room may well crash start =
+    stop_leaves bad t (moved_by t moves) left next opens
     (subst (λ k. 1 ≤ k.dies) (sym numbers) (has_die n config)) (all_few t moves v first.few may).valid
-    (moves_hold (LivesFrom t) (lives_on t (λ s. o.disk.blocks.were_good s (good s))) t moves v may well first) crash
+    (moves_hold (LivesFrom t) (lives_on t (were_unfilled t bad opens)) t moves v may well first) crash
     (subst (λ k. IsOpenedTranslation k left (λ s. is_bad ((moved_by t moves).disk.blocks s)) next) (sym numbers) start)
   where
     pages : 2 ≤ n.pages
@@ -174,17 +191,38 @@ layer_finds_room n c left bad t next moves config right within sound few good o 
     v = opening_valid n c bad t (omega (arith, pages)) right within sound o
 
     first : LivesFrom t t
-    first = lives_begin bad t opens good v (subst (λ k. 2 ≤ k.pages) (sym o.numbers) pages)
+    first = lives_begin bad t opens (subst (λ z. AreBlankIfBad z bad) (sym o.disk.cells) blank) v
+        (subst (λ k. 2 ≤ k.pages) (sym o.numbers) pages)
         (subst (λ k. HasFewLost k t.disk.cells t.ledger.newest) (sym o.numbers)
         (subst (λ z. HasFewLost n z t.ledger.newest) (sym o.disk.cells) few)) room
 
     numbers : (moved_by t moves).numbers ≡ n
     numbers = (all_few t moves v first.few may).numbers ∙ o.numbers
 
+-- Bad blocks
+
+told_bad : (x : BlockState) → is_bad x ≡ true → x ≡ Bad
+told_bad Bad h = refl
+told_bad Free h = absurd (true≢false (sym h))
+told_bad Closed h = absurd (true≢false (sym h))
+told_bad (Filling next) h = absurd (true≢false (sym h))
+
+-- no job touches them
+untouched : {t : Translation} → Valid t → (f : Option Flight) (p : Place) (intended : Cell) → t.disk.flights p.die ≡ f →
+    Touches f p intended → t.disk.blocks (spot_of p) ≡ Bad → ⊥
+untouched v None p intended e touches bad = touches
+untouched v (Some (Reading reader place)) p intended e touches bad = touches
+untouched {t} v (Some (Programming q cell)) p intended e touches bad =
+    filling_is_not_bad
+    (subst (λ (z : Place). t.disk.blocks (spot_of z) ≡ Filling q.page) touches.0
+    (v.flights.programs p.die q cell e).next) bad
+untouched {t} v (Some (Erasing s)) p intended e touches bad =
+    bad_is_not_free bad (subst (λ z. t.disk.blocks z ≡ Free) touches.0 (v.flights.erases p.die s e).free)
+
 -- A life of a device
 
 module _ (n : Numbers) (array : Array) (bad : Spot → Bool) (s : State) (config : IsConfig n) (blank : IsArrayOf n array)
-    (sound : Sound array) (few : ArrayHasFewLost n array) (good : (a : Spot) → bad a ≡ false)
+    (sound : Sound array) (few : ArrayHasFewLost n array) (bare : OpensNoneIfBad array bad)
     (o : IsOpened n array bad s) (room : FindsRoom s.translation) where
   valid : ValidState s
   valid = opened_state n array bad s config blank sound o
@@ -192,8 +230,13 @@ module _ (n : Numbers) (array : Array) (bad : Spot → Bool) (s : State) (config
   opens : Opened bad s.translation
   opens = is_opened n array bad s config blank sound o
 
+  -- nothing stands in a bad block
+  bare_cells : AreBlankIfBad s.translation.disk.cells bad
+  bare_cells p h = one_cell (array p) (s.translation.disk.cells p) Nothing
+      (cells_shown n array bad s config blank sound o p) (bare p h)
+
   begun : LivesFrom s.translation s.translation
-  begun = lives_begin bad s.translation opens good (valid_is n array bad s config blank sound o)
+  begun = lives_begin bad s.translation opens bare_cells (valid_is n array bad s config blank sound o)
       (subst (λ k. 2 ≤ k.pages) (sym o.translation.numbers) (has_pages n config))
       (subst (λ k. HasFewLost k s.translation.disk.cells s.translation.ledger.newest) (sym o.translation.numbers)
       (few s.translation.disk.cells s.translation.ledger.newest (cells_shown n array bad s config blank sound o)
@@ -203,7 +246,7 @@ module _ (n : Numbers) (array : Array) (bad : Spot → Bool) (s : State) (config
       LivesFrom s.translation t.translation
   lives_at t es os life well =
       life_holds (LivesFrom s.translation)
-      (lives_on s.translation (λ a. o.translation.disk.blocks.were_good a (good a))) t es os valid life well begun
+      (lives_on s.translation (were_unfilled s.translation bad opens)) t es os valid life well begun
 
   numbers_at : (t : State) (es : List Event) (os : List Output) → Life s es os t → numbers_of t ≡ n
   numbers_at t es os life =
@@ -216,7 +259,7 @@ module _ (n : Numbers) (array : Array) (bad : Spot → Bool) (s : State) (config
       Life s es os t → NoneFails es → Stops t lefts left → IsOpened n left (bad_in t) next → FindsRoom next.translation
   next_finds_room t next es os lefts left life well stops p =
       let w = many_events s t es os valid life in
-      stop_leaves bad s.translation t.translation p.cells next.translation opens good
+      stop_leaves bad s.translation t.translation p.cells next.translation opens
       (subst (λ k. 1 ≤ k.dies) (sym (numbers_at t es os life)) (has_die n config)) w.tied.valid
       (lives_at t es os life well)
       (cell_crash t.array t.translation.disk.cells t.translation.disk.flights left w.tied.shown w.tied.flights
@@ -224,9 +267,16 @@ module _ (n : Numbers) (array : Array) (bad : Spot → Bool) (s : State) (config
       (subst (λ k. IsOpenedTranslation k p.cells (bad_in t) next.translation) (sym (numbers_at t es os life))
       p.translation)
 
-  pub still_good : (t : State) (es : List Event) (os : List Output) → Life s es os t → NoneFails es → (a : Spot) →
-      bad_in t a ≡ false
-  still_good t es os life well a = bad_is (t.translation.disk.blocks a) ((lives_at t es os life well).leaves.good a)
+  -- nothing stands in its bad blocks, whatever a stop leaves
+  pub left_bare : (t : State) (es : List Event) (os : List Output) (lefts : List Leftover) (left : Array) →
+      Life s es os t → NoneFails es → Stops t lefts left → OpensNoneIfBad left (bad_in t)
+  left_bare t es os lefts left life well stops p h =
+      let w = many_events s t es os valid life in
+      let bad = told_bad (t.translation.disk.blocks (spot_of p)) h in
+      ⊎_elim
+      (λ e. subst (λ x. IsCell x Nothing) (sym e)
+      (subst (IsCell (t.array p)) ((lives_at t es os life well).leaves.blank p bad) (w.tied.shown p)))
+      (λ k. absurd (untouched w.tied.valid (t.translation.disk.flights p.die) p k.0 refl k.1 bad)) (stops.crash p)
 
   -- and until it is mended it may go on
   pub goes_on : (t : State) (es : List Event) (os : List Output) → Life s es os t → NoneFails es → mended t ≡ false →
@@ -251,10 +301,10 @@ module _ (n : Numbers) (array : Array) (bad : Spot → Bool) (s : State) (config
 -- Lives
 
 pub never_locked_out : (n : Numbers) (array : Array) (bad : Spot → Bool) (l : Lived) → IsConfig n → IsArrayOf n array →
-    Sound array → ArrayHasFewLost n array → ((s : Spot) → bad s ≡ false) → IsOpened n array bad l.start →
+    Sound array → ArrayHasFewLost n array → OpensNoneIfBad array bad → IsOpened n array bad l.start →
     FindsRoom l.start.translation → IsNeverLockedOut l
-never_locked_out n array bad l config blank sound few good o room es os middle life well un =
-    goes_on n array bad l.start config blank sound few good o room middle es os life well un
+never_locked_out n array bad l config blank sound few bare o room es os middle life well un =
+    goes_on n array bad l.start config blank sound few bare o room middle es os life well un
 
 head_opened : {n : Numbers} {array : Array} {bad : Spot → Bool} (l : Lived) (later : List Lived) (es : List Event)
     (os : List Output) → Lives n array bad l later es os → IsOpened n array bad l.start
@@ -264,31 +314,32 @@ head_opened l (m ∷ ls) es os h = h.0.0
 -- a life that begins with room is never locked out, and neither is any behind it
 pub lives_find_room : (n : Numbers) (array : Array) (bad : Spot → Bool) (first : Lived) (later : List Lived)
     (es : List Event) (os : List Output) → IsConfig n → IsArrayOf n array → Sound array → ArrayHasFewLost n array →
-    ((s : Spot) → bad s ≡ false) → FindsRoom first.start.translation → NoneFails es →
+    OpensNoneIfBad array bad → FindsRoom first.start.translation → NoneFails es →
     Lives n array bad first later es os → All OpensWithRoom (first ∷ later)
-lives_find_room n array bad l [] es os config blank sound few good room well h =
+lives_find_room n array bad l [] es os config blank sound few bare room well h =
     All-cons OpensWithRoom l []
-    (room, never_locked_out n array bad l config blank sound few good h.0.0 room) (All-nil OpensWithRoom)
-lives_find_room n array bad l (m ∷ ls) es os config blank sound few good room well h =
+    (room, never_locked_out n array bad l config blank sound few bare h.0.0 room) (All-nil OpensWithRoom)
+lives_find_room n array bad l (m ∷ ls) es os config blank sound few bare room well h =
     let left : Array = h.1.3 in
     let behind : Left n l left = left_of (end_of_life bad config blank sound h.0) h.1.6 in
     let none = fails_parts l.events h.1.1 (event.Stop h.1.0) (subst NoneFails h.1.4 well) in
     let opened : IsOpened n left (bad_in l.finish) m.start = head_opened m ls h.1.1 h.1.2 h.1.7 in
     All-cons OpensWithRoom l (m ∷ ls)
-    (room, never_locked_out n array bad l config blank sound few good h.0.0 room)
+    (room, never_locked_out n array bad l config blank sound few bare h.0.0 room)
     (lives_find_room n left (bad_in l.finish) m ls h.1.1 h.1.2 config behind.inside behind.sound
     (stopped_few n array bad l.start config blank sound few h.0.0 l.finish l.events l.outputs h.1.0.items left h.0.1
     h.1.6)
-    (still_good n array bad l.start config blank sound few good h.0.0 room l.finish l.events l.outputs h.0.1 none.0)
-    (next_finds_room n array bad l.start config blank sound few good h.0.0 room l.finish m.start l.events l.outputs
+    (left_bare n array bad l.start config blank sound few bare h.0.0 room l.finish l.events l.outputs h.1.0.items left
+    h.0.1 none.0 h.1.6)
+    (next_finds_room n array bad l.start config blank sound few bare h.0.0 room l.finish m.start l.events l.outputs
     h.1.0.items left h.0.1 none.0 h.1.6 opened) none.1 h.1.7)
 
 pub runs_find_room : (n : Numbers) (dies : List DieState) (s t : State) (es : List Event) (os : List Output) →
-    IsConfig n → AreNewDies n dies → ((a : Spot) → bad_of dies a ≡ false) →
+    IsConfig n → AreNewDies n dies → count_by (bad_of dies) (spots n) ≤ n.spare →
     IsOpened n (array_of dies) (bad_of dies) s → Runs n s es os t → NoneFails es →
     (first : Lived) × (later : List Lived) × Lives n (array_of dies) (bad_of dies) first later es os
     × All OpensWithRoom (first ∷ later)
-runs_find_room n dies s t es os config new good opened runs well =
+runs_find_room n dies s t es os config new few opened runs well =
     let r = lives_of opened runs in
     let may = new_opens n dies new in
     let o = head_opened r.first r.later es os r.lives in (
@@ -296,8 +347,9 @@ runs_find_room n dies s t es os config new good opened runs well =
       r.later,
       r.lives,
       lives_find_room n (array_of dies) (bad_of dies) r.first r.later es os config may.inside may.sound
-          (new_few n (array_of dies) (new_blank n dies new)) good
+          (new_few n (array_of dies) (new_blank n dies new))
+          (λ p bad. subst (λ x. IsCell x Nothing) (sym (new_blank n dies new p)) nothing_is_blank)
           (new_find_room n o.cells (bad_of dies) r.first.start.translation config
-          (none_there n (array_of dies) (bad_of dies) r.first.start (new_blank n dies new) o) good o.translation) well
+          (none_there n (array_of dies) (bad_of dies) r.first.start (new_blank n dies new) o) few o.translation) well
           r.lives,
     )

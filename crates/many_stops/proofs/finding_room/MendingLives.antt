@@ -3,10 +3,11 @@
 use Rattle.std.proofs.Common.{◌≡◌, ◌≢◌, ℕ, ◌+◌, ◌-◌, ◌*◌, ◌≤◌, Bool, true, false, length, Option, Some, None}
 use Rattle.std.proofs.Common.{inl, inr, ⊎_elim, refl, sym, ap, ◌∙◌, subst, arith}
 use Rattle.ufs_spec.proofs.Facts.{cases_Bool, true≢false}
-use Rattle.ufs_spec.proofs.Updates.{at_die_cases, at_place_cases}
+use Rattle.ufs_spec.proofs.Updates.{at_die_cases, at_place_cases, at_spot_cases}
 use Rattle.ufs_spec.specs.Cells.{Cell, Cells, Mark, MarkPage}
-use Rattle.ufs_spec.specs.Disk.{CellCrash, Programming, Spot, Touches, at_die, at_place, programmed}
-use Rattle.ufs_spec.specs.Moves.{EndJob, IsAllowedMove, WentWell, end_flight, ending_fits, freed}
+use Rattle.ufs_spec.specs.Disk.{BlockState, Bad, CellCrash, Closed, Filling, Free, Programming, Spot, Touches, at_die}
+use Rattle.ufs_spec.specs.Disk.{at_place, at_spot, programmed, spot_of, state_after}
+use Rattle.ufs_spec.specs.Moves.{EndJob, IsAllowedMove, WentWell, end_flight, ending_fits, freed, freed_state}
 use Rattle.ufs_spec.specs.Moves.{mark_written, moved}
 use Rattle.ufs_spec.specs.Openings.{AreLost, IsOpenedTranslation}
 use Rattle.ufs_spec.specs.Translation.{Mended, Mending, Plan, Repairing, Translation, Unmarked, count_blocks, is_bad}
@@ -30,9 +31,10 @@ use Rattle.power_loss.specs.MendingRoom.{HasRoom, fails_job}
 use Rattle.power_loss.proofs.room_to_mend.DevicesWithRoom.{no_failure}
 use Rattle.many_stops.proofs.finding_room.BlocksOneByOne.{Filled, move_fills, opening_filled}
 use Rattle.many_stops.proofs.finding_room.RoomForAMending.{blocks_hold, own_room_twice}
-use Rattle.many_stops.proofs.finding_room.SinceTheOpening.{SinceOpening, WereGood, move_since}
+use Rattle.many_stops.proofs.finding_room.SinceTheOpening.{SinceOpening, WereUnfilled, move_since}
 use Rattle.many_stops.proofs.finding_room.SinceTheOpening.{opening_since}
 use Rattle.many_stops.proofs.finding_room.StopsOfAMending.{HasNewMark, HasNoNewMark, bad_is, new_mark}
+use Rattle.many_stops.proofs.finding_room.StopsOfAMending.{were_unfilled}
 use Rattle.many_stops.proofs.finding_room.StopsOfAMending.{repairing_leaves, unmarked_leaves}
 use Rattle.many_stops.proofs.finding_room.WithoutFailures.{IsKeptByMoves}
 use Rattle.many_stops.proofs.free_at_stops.MovesKeepFree.{move_keeps, none_fails_stale, opening_keeps}
@@ -41,7 +43,8 @@ use Rattle.many_stops.proofs.room_left.HandedPages.{handed_or_not}
 use Rattle.many_stops.proofs.room_left.IdleLives.{idle_stop}
 use Rattle.many_stops.proofs.room_left.MovesLeaveRoom.{move_leaves, opening_leaves}
 use Rattle.many_stops.specs.FreeOverStops.{KeepsFree}
-use Rattle.many_stops.specs.RoomOfGroups.{HasHandedOut, LeavesOwnRoom, free_count}
+use Rattle.many_stops.proofs.room_left.RoomStays.{not_bad_after}
+use Rattle.many_stops.specs.RoomOfGroups.{AreBlankIfBad, HasHandedOut, LeavesOwnRoom, free_count}
 use Rattle.many_stops.specs.RoomOverStops.{FindsRoom, HasSpareBlocks, mending_blocks}
 
 -- so many free blocks of an opening its mending leaves
@@ -62,8 +65,8 @@ pub record LivesFrom (o t : Translation) : Type 0 where
 
 -- Moves
 
-pub lives_on : (o : Translation) → WereGood o → IsKeptByMoves (LivesFrom o)
-lives_on o good t move v may well l = record {
+pub lives_on : (o : Translation) → WereUnfilled o → IsKeptByMoves (LivesFrom o)
+lives_on o unfilled t move v may well l = record {
   free = move_keeps t move v may (none_fails_stale t move well) l.free;
   leaves = move_leaves t move v may well l.leaves;
   few = move_few move v l.few;
@@ -74,7 +77,7 @@ lives_on o good t move v may well l = record {
         room = m.room;
         mends = move_mends move (blocks_over o)
             (subst (λ k. Mends k t) (no_failure (fails_job move) (blocks_over o) well) m.mends) un may;
-        since = move_since good v un m.mends.alone m.since move may well;
+        since = move_since unfilled v un m.mends.alone m.since move may well;
         filled = move_fills v un m.mends.alone m.filled move may well;
       };
 }
@@ -88,7 +91,7 @@ enough_over pages lost slots blocks free few hold enough = by (free - blocks) (o
     by : (over : ℕ) → free ≡ blocks + over → lost + 2 + over * pages ≤ pages * free
     by over e = rw e (omega (arith, few, hold))
 
-module _ (bad : Spot → Bool) (o : Translation) (opens : Opened bad o) (good : (s : Spot) → bad s ≡ false)
+module _ (bad : Spot → Bool) (o : Translation) (opens : Opened bad o) (blank : AreBlankIfBad o.disk.cells bad)
     (v : Valid o) (pages : 2 ≤ o.numbers.pages) (few : HasFewLost o.numbers o.disk.cells o.ledger.newest) where
   -- the keys that are lost, no more of them than slots
   pub lost_are : AreLost o.disk.cells o.ledger.first_lost o.ledger.greatest_seen (still_lost o.work.mending)
@@ -116,13 +119,13 @@ module _ (bad : Spot → Bool) (o : Translation) (opens : Opened bad o) (good : 
       room = first_room room;
     };
     since = opening_since o.numbers o.disk.cells bad o opens.start un;
-    filled = opening_filled o.numbers o.disk.cells bad o opens.pages opens.start good;
+    filled = opening_filled o.numbers o.disk.cells bad o opens.pages opens.start;
   }
 
   pub lives_begin : FindsRoom o → LivesFrom o o
   lives_begin room = record {
     free = opening_keeps o.numbers o.disk.cells bad o opens.start;
-    leaves = opening_leaves o.numbers o.disk.cells bad o good opens.start;
+    leaves = opening_leaves o.numbers o.disk.cells bad o blank opens.start;
     few = begins opens v few;
     mends = first_mends room;
   }
@@ -162,7 +165,7 @@ module _ (t : Translation) (left : Cells) (next : Translation) (dies : 1 ≤ t.n
 
 -- and so does a life that is not mended, where no mark is left that was in flight
 module _ (bad : Spot → Bool) (o t : Translation) (left : Cells) (next : Translation) (opens : Opened bad o)
-    (good : (s : Spot) → bad s ≡ false) (dies : 1 ≤ t.numbers.dies) (v : Valid t) (l : LivesFrom o t)
+    (dies : 1 ≤ t.numbers.dies) (v : Valid t) (l : LivesFrom o t)
     (crash : StopLeaves t left) (start : IsOpenedTranslation t.numbers left (λ s. is_bad (t.disk.blocks s)) next)
     (none : HasNoNewMark t left) where
   has_room : MendsFrom o t → HasRoom (free_count t.numbers o.disk.blocks - mending_blocks t.numbers) t
@@ -173,11 +176,11 @@ module _ (bad : Spot → Bool) (o t : Translation) (left : Cells) (next : Transl
       HasSpareBlocks next
   unmended_leaves un (Unmarked fence lost) is u =
       let m = l.mends un in
-      unmarked_leaves o t left next bad opens good v l.leaves.good un m.mends.alone m.since crash start none m.room
+      unmarked_leaves o t left next bad opens v l.leaves.blank un m.mends.alone m.since crash start none m.room
       fence lost is u
   unmended_leaves un (Repairing keys) is w =
       let m = l.mends un in
-      repairing_leaves o t left next bad opens good v l.leaves.good un m.mends.alone m.since crash start none m.room
+      repairing_leaves o t left next bad opens v l.leaves.blank un m.mends.alone m.since crash start none m.room
       keys is w dies m.filled (has_room m)
   unmended_leaves un Mended is w = absurd (true≢false (ap is_mended (sym is) ∙ un))
 
@@ -220,17 +223,42 @@ flights_freed t p m die = by t.work.plan
     by None = refl
     by (Some pl) = refl
 
+-- the end of a mark makes no block bad, and none good
+marked_bad : {t : Translation} → Valid t → (die : ℕ) (p : Place) (m : Mark) →
+    t.disk.flights die ≡ Some (Programming p (MarkPage m)) → (s : Spot) →
+    is_bad (t.disk.blocks s) ≡ is_bad ((mark_written t p m).disk.blocks s)
+marked_bad {t} v die p m e s = sym (by t.work.plan)
+  where
+    filled : (a : Spot) →
+        is_bad (at_spot t.disk.blocks (spot_of p) (state_after t.numbers.pages p.page) a) ≡ is_bad (t.disk.blocks a)
+    filled a = ⊎_elim
+        (λ k. ap is_bad k.1 ∙ bad_is (state_after t.numbers.pages p.page) (not_bad_after t.numbers.pages p.page)
+        ∙ sym (ap is_bad (ap t.disk.blocks k.0 ∙ (v.flights.programs die p (MarkPage m) e).next)))
+        (λ k. ap is_bad k.1) (at_spot_cases t.disk.blocks (spot_of p) (state_after t.numbers.pages p.page) a)
+
+    freed_bad : (x : BlockState) → is_bad (freed_state x) ≡ is_bad x
+    freed_bad Bad = refl
+    freed_bad Free = refl
+    freed_bad Closed = refl
+    freed_bad (Filling next) = refl
+
+    by : (plan : Option Plan) →
+        is_bad ((freed (programmed t.numbers.pages t.disk p (MarkPage m)) plan).blocks s) ≡ is_bad (t.disk.blocks s)
+    by None = filled s
+    by (Some pl) =
+        let blocks = at_spot t.disk.blocks (spot_of p) (state_after t.numbers.pages p.page) in
+        ⊎_elim
+        (λ k. ap is_bad k.1 ∙ (freed_bad (blocks pl.victim) ∙ (ap (λ z. is_bad (blocks z)) (sym k.0) ∙ filled s)))
+        (λ k. ap is_bad k.1 ∙ filled s) (at_spot_cases blocks pl.victim (freed_state (blocks pl.victim)) s)
+
 -- A stop of a life that found room leaves room
 
 module _ (bad : Spot → Bool) (o t : Translation) (left : Cells) (next : Translation) (opens : Opened bad o)
-    (good : (s : Spot) → bad s ≡ false) (dies : 1 ≤ t.numbers.dies) (v : Valid t) (l : LivesFrom o t)
+    (dies : 1 ≤ t.numbers.dies) (v : Valid t) (l : LivesFrom o t)
     (crash : StopLeaves t left)
     (start : IsOpenedTranslation t.numbers left (λ s. is_bad (t.disk.blocks s)) next) where
-  were_good : WereGood o
-  were_good s = opens.start.disk.blocks.were_good s (good s)
-
   marked_leaves : is_mended t.work.mending ≡ false → HasNewMark t left → FindsRoom next
-  marked_leaves un x = settled_leaves bad o (mark_written t x.place x.mark) left next opens good dies
+  marked_leaves un x = settled_leaves bad o (mark_written t x.place x.mark) left next opens dies
       (at_end Valid (all_keep t (EndJob x.die WentWell) v may)) behind left_behind
       (subst (λ b. IsOpenedTranslation t.numbers left b next) (λ i s. same s i) start) none_new
     where
@@ -241,14 +269,13 @@ module _ (bad : Spot → Bool) (o t : Translation) (left : Cells) (next : Transl
       at_end P h = subst (λ f. P (end_flight t x.die f WentWell)) x.flies h
 
       behind : LivesFrom o (mark_written t x.place x.mark)
-      behind = at_end (LivesFrom o) (lives_on o were_good t (EndJob x.die WentWell) v may refl l)
+      behind = at_end (LivesFrom o) (lives_on o (were_unfilled o bad opens) t (EndJob x.die WentWell) v may refl l)
 
       left_behind : StopLeaves (mark_written t x.place x.mark) left
       left_behind = mark_crash t left x.die x.place x.mark v crash x.flies x.there
 
       same : (s : Spot) → is_bad (t.disk.blocks s) ≡ is_bad ((mark_written t x.place x.mark).disk.blocks s)
-      same s = bad_is (t.disk.blocks s) (l.leaves.good s)
-          ∙ sym (bad_is ((mark_written t x.place x.mark).disk.blocks s) (behind.leaves.good s))
+      same s = marked_bad v x.die x.place x.mark x.flies s
 
       none_new : HasNoNewMark (mark_written t x.place x.mark) left
       none_new p m h = ⊎_elim (λ e. e)
@@ -260,5 +287,5 @@ module _ (bad : Spot → Bool) (o t : Translation) (left : Cells) (next : Transl
   pub stop_leaves : FindsRoom next
   stop_leaves = ⊎_elim (λ mended. mended_leaves t left next dies v crash start l.free l.leaves l.few mended)
       (λ un. ⊎_elim (λ x. marked_leaves un x)
-      (λ none. settled_leaves bad o t left next opens good dies v l crash start none)
+      (λ none. settled_leaves bad o t left next opens dies v l crash start none)
       (new_mark t left v crash next.ledger.newest start.ledger.newest)) (cases_Bool (is_mended t.work.mending))

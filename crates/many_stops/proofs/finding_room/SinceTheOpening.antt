@@ -6,9 +6,9 @@ use Rattle.ufs_laws.proofs.walk.LayerEffects.{IsDue, order_due, turned_if}
 use Rattle.ufs_spec.proofs.CellKinds.{one_mark, one_page, page_not_nothing}
 use Rattle.ufs_spec.proofs.Equalities.{name_told, spot_cases}
 use Rattle.ufs_spec.proofs.Facts.{false≢true, none-some, same_Some, true≢false}
-use Rattle.ufs_spec.proofs.Updates.{at_place_cases, at_place_is, at_spot_cases}
+use Rattle.ufs_spec.proofs.Updates.{at_place_cases, at_place_is, at_spot_cases, at_spot_is}
 use Rattle.ufs_spec.specs.Cells.{Cell, Cells, GroupPage, Mark, MarkPage, Nothing}
-use Rattle.ufs_spec.specs.Disk.{BlockState, Closed, Erasing, Filling, Flight}
+use Rattle.ufs_spec.specs.Disk.{BlockState, Bad, Closed, Erasing, Filling, Flight}
 use Rattle.ufs_spec.specs.Disk.{Free, Programming, Reading, Spot, at_place, at_spot, spot_of, state_after}
 use Rattle.ufs_spec.specs.Moves.{EndJob, Ending, GiveJob, IsAllowedMove, Move, ReadRight, ReadWrong, TakeStep, WentWell}
 use Rattle.ufs_spec.specs.Moves.{WentWrong, end_flight, mark_written, mending_after, moved, page_written, step_after}
@@ -33,6 +33,7 @@ use Rattle.power_loss.specs.Book.{book}
 use Rattle.power_loss.specs.Invariant.{StepKindRight, Valid}
 use Rattle.power_loss.specs.Losing.{is_marked}
 use Rattle.power_loss.specs.MendingRoom.{MendsAlone, fails_job, flies_kind}
+use Rattle.many_stops.proofs.room_left.RoomStays.{not_bad_after}
 
 -- a step of this kind is under way, with its content there or not
 abbrev pub step_of : StepKind → Bool → Option Step
@@ -46,6 +47,8 @@ pub record Since (o : Translation) (numbers : Numbers) (cells : Cells) (blocks :
   -- what was not free is as it was
   pub still : (s : Spot) → o.disk.blocks s ≢ Free → blocks s ≡ o.disk.blocks s
   pub unchanged : (p : Place) → o.disk.blocks (spot_of p) ≢ Free → cells p ≡ o.disk.cells p
+  -- no block went bad
+  pub no_worse : (s : Spot) → blocks s ≡ Bad → o.disk.blocks s ≡ Bad
   -- a block that was opened since holds nothing older than the first lost number
   pub new : (p : Place) (tag : Tag) (body : List ℕ) → o.disk.blocks (spot_of p) ≡ Free → blocks (spot_of p) ≢ Free →
       cells p ≡ GroupPage tag body → first_lost ≤ tag.number
@@ -62,9 +65,9 @@ abbrev pub SinceOpening : Translation → Translation → Type 0
 SinceOpening o t = Since o t.numbers t.disk.cells t.disk.blocks t.ledger.first_lost t.ledger.greatest_seen
     t.ledger.newest t.work.mending t.work.step
 
--- each block was free or closed at the opening
-abbrev pub WereGood : Translation → Type 0
-WereGood o = (s : Spot) → (o.disk.blocks s ≡ Free) ⊎ (o.disk.blocks s ≡ Closed)
+-- each block was free, closed or bad at the opening: none was being filled
+abbrev pub WereUnfilled : Translation → Type 0
+WereUnfilled o = (s : Spot) → (o.disk.blocks s ≡ Free) ⊎ ((o.disk.blocks s ≡ Closed) ⊎ (o.disk.blocks s ≡ Bad))
 
 -- Steps
 
@@ -113,22 +116,30 @@ behind_marked Mended h = true≢false h
 closed_apart : {next : ℕ} → Closed ≡ Filling next → ⊥
 closed_apart e = cc
 
+bad_apart : {next : ℕ} → Bad ≡ Filling next → ⊥
+bad_apart e = cc
+
+pub bad_is_not_free : {x : BlockState} → x ≡ Bad → x ≢ Free
+bad_is_not_free {x} e h = let no : Bad ≡ Free = sym e ∙ h in cc
+
 filling_not_free : {x : BlockState} {next : ℕ} → x ≡ Filling next → x ≢ Free
 filling_not_free {x} {next} e h = let no : Filling next ≡ Free = sym e ∙ h in cc
 
 -- What was not free
 
-module _ (o t : Translation) (good : WereGood o) (r : SinceOpening o t) where
+module _ (o t : Translation) (unfilled : WereUnfilled o) (r : SinceOpening o t) where
   -- what is being filled, or is free, was free
   pub filled_was_free : (s : Spot) (next : ℕ) → t.disk.blocks s ≡ Filling next → o.disk.blocks s ≡ Free
   filled_was_free s next is = ⊎_elim (λ e. e)
-      (λ e. absurd (closed_apart (sym e ∙ sym (r.still s (closed_is_not_free e)) ∙ is))) (good s)
+      (λ e. ⊎_elim (λ k. absurd (closed_apart (sym k ∙ sym (r.still s (closed_is_not_free k)) ∙ is)))
+      (λ k. absurd (bad_apart (sym k ∙ sym (r.still s (bad_is_not_free k)) ∙ is))) e) (unfilled s)
 
   pub free_was_free : (s : Spot) → t.disk.blocks s ≡ Free → o.disk.blocks s ≡ Free
   free_was_free s is = ⊎_elim (λ e. e)
-      (λ e. absurd (closed_is_not_free e (sym (r.still s (closed_is_not_free e)) ∙ is))) (good s)
+      (λ e. ⊎_elim (λ k. absurd (closed_is_not_free k (sym (r.still s (closed_is_not_free k)) ∙ is)))
+      (λ k. absurd (bad_is_not_free k (sym (r.still s (bad_is_not_free k)) ∙ is))) e) (unfilled s)
 
-module _ {o t : Translation} (good : WereGood o) (v : Valid t) (un : is_mended t.work.mending ≡ false)
+module _ {o t : Translation} (unfilled : WereUnfilled o) (v : Valid t) (un : is_mended t.work.mending ≡ false)
     (alone : MendsAlone t) (r : SinceOpening o t) where
   -- Jobs that begin
 
@@ -140,6 +151,8 @@ module _ {o t : Translation} (good : WereGood o) (v : Valid t) (un : is_mended t
     seen = r.seen;
     still = λ s not. ⊎_elim (λ k. absurd (not (ap o.disk.blocks k.0 ∙ was))) (λ k. k.1 ∙ r.still s not)
         (at_spot_cases t.disk.blocks (spot_of p) (Filling p.page) s);
+    no_worse = λ s h. ⊎_elim (λ k. absurd (bad_apart (sym k.1))) (λ k. r.no_worse s k.1)
+        (at_spot_is t.disk.blocks (spot_of p) (Filling p.page) s Bad h);
     unchanged = r.unchanged;
     new = λ q tag body free now h. ⊎_elim (λ k. inside q tag body k.0 free h)
         (λ k. r.new q tag body free (λ e. now (k.1 ∙ e)) h)
@@ -151,8 +164,8 @@ module _ {o t : Translation} (good : WereGood o) (v : Valid t) (un : is_mended t
   }
     where
       was : o.disk.blocks (spot_of p) ≡ Free
-      was = ⊎_elim (λ e. filled_was_free o t good r (spot_of p) p.page e)
-          (λ (k : OpensReady t p). free_was_free o t good r (spot_of p) k.free) next
+      was = ⊎_elim (λ e. filled_was_free o t unfilled r (spot_of p) p.page e)
+          (λ (k : OpensReady t p). free_was_free o t unfilled r (spot_of p) k.free) next
 
       inside : (q : Place) (tag : Tag) (body : List ℕ) → spot_of q ≡ spot_of p → o.disk.blocks (spot_of q) ≡ Free →
           t.disk.cells q ≡ GroupPage tag body → t.ledger.first_lost ≤ tag.number
@@ -190,9 +203,14 @@ module _ {o t : Translation} (good : WereGood o) (v : Valid t) (un : is_mended t
       t.disk.flights die ≡ Some (Programming p (GroupPage tag body)) → t.ledger.first_lost ≤ tag.number
   flies_new = flown_number
 
+  no_worse_behind : (p : Place) (s : Spot) →
+      at_spot t.disk.blocks (spot_of p) (state_after t.numbers.pages p.page) s ≡ Bad → o.disk.blocks s ≡ Bad
+  no_worse_behind p s h = ⊎_elim (λ k. absurd (not_bad_after t.numbers.pages p.page k.1)) (λ k. r.no_worse s k.1)
+      (at_spot_is t.disk.blocks (spot_of p) (state_after t.numbers.pages p.page) s Bad h)
+
   module _ (die : ℕ) (p : Place) (cell : Cell) (e : t.disk.flights die ≡ Some (Programming p cell)) where
     was_free : o.disk.blocks (spot_of p) ≡ Free
-    was_free = filled_was_free o t good r (spot_of p) p.page (v.flights.programs die p cell e).next
+    was_free = filled_was_free o t unfilled r (spot_of p) p.page (v.flights.programs die p cell e).next
 
     still_behind : (s : Spot) → o.disk.blocks s ≢ Free →
         at_spot t.disk.blocks (spot_of p) (state_after t.numbers.pages p.page) s ≡ o.disk.blocks s
@@ -228,6 +246,7 @@ module _ {o t : Translation} (good : WereGood o) (v : Valid t) (un : is_mended t
     lost = r.lost;
     seen = r.seen;
     still = still_behind die p (GroupPage tag body) e;
+    no_worse = no_worse_behind p;
     unchanged = unchanged_behind die p (GroupPage tag body) e;
     new = new_behind die p (GroupPage tag body) e
         (λ other more same. let n = ap (λ (x : Tag). x.number) (one_page tag other body more same).0 in
@@ -268,6 +287,7 @@ module _ {o t : Translation} (good : WereGood o) (v : Valid t) (un : is_mended t
         lost = r.lost;
         seen = r.seen;
         still = still_behind die p (MarkPage m) e;
+        no_worse = no_worse_behind p;
         unchanged = unchanged_behind die p (MarkPage m) e;
         new = new_behind die p (MarkPage m) e (λ tag body same. absurd (page_no_mark (sym same)));
         named = λ name from there h. absurd (none-some _ h);
@@ -288,6 +308,7 @@ module _ {o t : Translation} (good : WereGood o) (v : Valid t) (un : is_mended t
     lost = r.lost;
     seen = r.seen;
     still = r.still;
+    no_worse = r.no_worse;
     unchanged = λ q not. ⊎_elim (λ k. absurd (not (ap o.disk.blocks k.1 ∙ was)))
         (λ k. subst (λ b. (if b then Nothing else t.disk.cells q) ≡ o.disk.cells q) (sym k.0) (r.unchanged q not))
         (spot_cases (spot_of q) s);
@@ -308,7 +329,7 @@ module _ {o t : Translation} (good : WereGood o) (v : Valid t) (un : is_mended t
   }
     where
       was : o.disk.blocks s ≡ Free
-      was = free_was_free o t good r s (v.flights.erases die s e).free
+      was = free_was_free o t unfilled r s (v.flights.erases die s e).free
 
   -- Jobs that end
 
@@ -321,6 +342,7 @@ module _ {o t : Translation} (good : WereGood o) (v : Valid t) (un : is_mended t
     lost = r.lost;
     seen = r.seen;
     still = r.still;
+    no_worse = r.no_worse;
     unchanged = r.unchanged;
     new = r.new;
     named = named;
@@ -355,6 +377,7 @@ module _ {o t : Translation} (good : WereGood o) (v : Valid t) (un : is_mended t
     lost = r.lost;
     seen = r.seen;
     still = r.still;
+    no_worse = r.no_worse;
     unchanged = r.unchanged;
     new = r.new;
     named = λ name from there h. next_low t.ledger.first_lost t.ledger.greatest_seen (length t.ledger.groups)
@@ -402,6 +425,7 @@ opening_since n c bad t o un = record {
   lost = refl;
   seen = refl;
   still = λ s not. refl;
+  no_worse = λ s h. h;
   unchanged = λ p not. refl;
   new = λ p tag body free not h. absurd (not free);
   named = λ name from there h. absurd (none-some _ (sym o.no_step ∙ h));

@@ -8,7 +8,7 @@ use Rattle.ufs_laws.proofs.deciding.SearchOverPlaces.{is_place}
 use Rattle.ufs_spec.proofs.CellKinds.{mark_not_nothing, page_not_nothing}
 use Rattle.ufs_spec.proofs.Facts.{cases_Bool, true≢false}
 use Rattle.ufs_spec.specs.Cells.{Cell, Cells, GroupPage, IsPlace, Mark, MarkPage, Nothing}
-use Rattle.ufs_spec.specs.Disk.{BlockState, Bad, Erasing, Filling, Flight, Free, Programming, Reading, Spot}
+use Rattle.ufs_spec.specs.Disk.{BlockState, Bad, Closed, Erasing, Filling, Flight, Free, Programming, Reading, Spot}
 use Rattle.ufs_spec.specs.Disk.{Touches, spot_of}
 use Rattle.ufs_spec.specs.Kept.{IsFenced, IsKept, IsNewestMark, fence_in}
 use Rattle.ufs_spec.specs.Openings.{AreFirstBlocks, IsItOrFreeBefore, IsOpenedTranslation, IsSpare, lost_from}
@@ -35,16 +35,24 @@ use Rattle.power_loss.specs.MendingRoom.{HasRoom, MendsAlone, page_of_step, page
 use Rattle.many_stops.proofs.CountedBlocks.{no_fewer}
 use Rattle.many_stops.proofs.finding_room.BlocksOneByOne.{Filled}
 use Rattle.many_stops.proofs.finding_room.RoomForAMending.{counts_under, fewer_blocks, own_room_twice}
-use Rattle.many_stops.proofs.finding_room.SinceTheOpening.{SinceOpening, WereGood, filled_was_free, flies_new}
-use Rattle.many_stops.proofs.finding_room.SinceTheOpening.{free_was_free}
+use Rattle.many_stops.proofs.finding_room.SinceTheOpening.{SinceOpening, WereUnfilled, bad_is_not_free}
+use Rattle.many_stops.proofs.finding_room.SinceTheOpening.{filled_was_free, flies_new, free_was_free}
 use Rattle.many_stops.proofs.finding_room.ThinnerCells.{AreThinner, first_thinner, kept_thinner, newest_thinner}
 use Rattle.many_stops.proofs.finding_room.ThinnerCells.{page_was}
 use Rattle.many_stops.specs.RoomOfGroups.{free_count}
-use Rattle.many_stops.specs.RoomOverStops.{AreNoneBad, HasSpareBlocks, HoldsLost, IsFreeOrLost, mending_blocks}
+use Rattle.many_stops.specs.RoomOverStops.{HasSpareBlocks, HoldsLost, IsFreeOrLost, mending_blocks}
 
 pub bad_is : (x : BlockState) → x ≢ Bad → is_bad x ≡ false
 bad_is Bad not = absurd (not refl)
 bad_is x not = refl
+
+bad_is_not_closed : {x : BlockState} → x ≡ Bad → x ≢ Closed
+bad_is_not_closed {x} e h = let no : Bad ≡ Closed = sym e ∙ h in cc
+
+-- an opening fills no block
+pub were_unfilled : (o : Translation) (bad : Spot → Bool) → Opened bad o → WereUnfilled o
+were_unfilled o bad opens s = ⊎_elim (λ e. inr (inr (opens.start.disk.blocks.were_bad s e)))
+    (λ e. ⊎_elim (λ k. inl k) (λ k. inr (inl k)) (opens.start.disk.blocks.were_good s e)) (cases_Bool (bad s))
 
 one_if_true : (b : Bool) → b ≡ true → 1 ≤ cond b 1 0
 one_if_true true h = omega arith
@@ -89,34 +97,54 @@ module _ (t : Translation) (left : Cells) (v : Valid t) (crash : StopLeaves t le
       older there other p h (inr f) =
           let a = flying_above p v f n.0.0 m there in let b = n.1 p other h in absurd (omega (arith, a, b))
 
-  -- a block without a page that opens is free at the next opening
-  pub blank_is_free : (next : Translation) → AreNoneBad t.disk.blocks →
+  -- a block without a page that opens is free at the next opening, if it is not bad
+  pub blank_is_free : (next : Translation) →
       IsOpenedTranslation t.numbers left (λ s. is_bad (t.disk.blocks s)) next → (s : Spot) →
-      ((p : Place) → spot_of p ≡ s → left p ≡ Nothing) → next.disk.blocks s ≡ Free
-  blank_is_free next good start s blank = ⊎_elim (λ e. e)
+      t.disk.blocks s ≢ Bad → ((p : Place) → spot_of p ≡ s → left p ≡ Nothing) → next.disk.blocks s ≡ Free
+  blank_is_free next start s good blank = ⊎_elim (λ e. e)
       (λ e. let k = start.disk.blocks.oldest_first s e in absurd (k.2 (blank k.0 k.1)))
-      (start.disk.blocks.were_good s (bad_is (t.disk.blocks s) (good s)))
+      (start.disk.blocks.were_good s (bad_is (t.disk.blocks s) good))
 
 -- A stop of a mending that began with this opening
 
 module _ (o t : Translation) (left : Cells) (next : Translation) (bad : Spot → Bool) (opens : Opened bad o)
-    (good : (s : Spot) → bad s ≡ false) (v : Valid t) (now_good : AreNoneBad t.disk.blocks)
+    (v : Valid t) (blank : (p : Place) → t.disk.blocks (spot_of p) ≡ Bad → t.disk.cells p ≡ Nothing)
     (un : is_mended t.work.mending ≡ false) (alone : MendsAlone t) (r : SinceOpening o t) (crash : StopLeaves t left)
     (start : IsOpenedTranslation t.numbers left (λ s. is_bad (t.disk.blocks s)) next) (none : HasNoNewMark t left)
     (room : HasSpareBlocks o) where
-  were_good : WereGood o
-  were_good s = opens.start.disk.blocks.were_good s (good s)
+  unfilled : WereUnfilled o
+  unfilled = were_unfilled o bad opens
+
+  -- the same blocks are bad as at the opening
+  same_bad : (s : Spot) → is_bad (t.disk.blocks s) ≡ bad s
+  same_bad s = ⊎_elim
+      (λ e.
+      let was = opens.start.disk.blocks.were_bad s e in
+      ap is_bad (r.still s (bad_is_not_free was) ∙ was) ∙ sym e)
+      (λ e. bad_is (t.disk.blocks s) (λ now. good_was_good (bad s) e (opens.start.disk.blocks.were_good s e)
+      (r.no_worse s now)) ∙ sym e)
+      (cases_Bool (bad s))
+    where
+      good_was_good : (b : Bool) → b ≡ false → (o.disk.blocks s ≡ Free) ⊎ (o.disk.blocks s ≡ Closed) →
+          o.disk.blocks s ≡ Bad → ⊥
+      good_was_good b e (inl free) now = bad_is_not_free now free
+      good_was_good b e (inr closed) now = bad_is_not_closed now closed
+
+  -- a block that was not bad is not bad at the next opening
+  good_next : (s : Spot) → t.disk.blocks s ≢ Bad → next.disk.blocks s ≢ Bad
+  good_next s good now = ⊎_elim (λ e. bad_is_not_free now e) (λ e. bad_is_not_closed now e)
+      (start.disk.blocks.were_good s (bad_is (t.disk.blocks s) good))
 
   touched_was_free : (f : Option Flight) (p : Place) (intended : Cell) → t.disk.flights p.die ≡ f →
       Touches f p intended → o.disk.blocks (spot_of p) ≡ Free
   touched_was_free None p intended e touches = absurd touches
   touched_was_free (Some (Reading reader place)) p intended e touches = absurd touches
   touched_was_free (Some (Programming q cell)) p intended e touches =
-      filled_was_free o t were_good r (spot_of p) q.page
+      filled_was_free o t unfilled r (spot_of p) q.page
       (subst (λ (z : Place). t.disk.blocks (spot_of z) ≡ Filling q.page) touches.0
       (v.flights.programs p.die q cell e).next)
   touched_was_free (Some (Erasing s)) p intended e touches =
-      free_was_free o t were_good r (spot_of p)
+      free_was_free o t unfilled r (spot_of p)
       (subst (λ z. t.disk.blocks z ≡ Free) touches.0 (v.flights.erases p.die s e).free)
 
   -- what was not free at the opening is left as it was then
@@ -149,7 +177,8 @@ module _ (o t : Translation) (left : Cells) (next : Translation) (bad : Spot →
 
     thinner : AreThinner o.disk.cells o.disk.blocks left
     thinner p = ⊎_elim (λ free. free_page free (some_or_nothing (left p)))
-        (λ closed. inl (closed_left p (closed_is_not_free closed))) (were_good (spot_of p))
+        (λ e. inl (closed_left p (⊎_elim (λ closed. closed_is_not_free closed) (λ worse. bad_is_not_free worse) e)))
+        (unfilled (spot_of p))
       where
         free_page : o.disk.blocks (spot_of p) ≡ Free → (left p ≡ Nothing) ⊎ (left p ≢ Nothing) →
             (left p ≡ o.disk.cells p) ⊎ ((left p ≡ Nothing) × (o.disk.blocks (spot_of p) ≡ Free))
@@ -172,7 +201,7 @@ module _ (o t : Translation) (left : Cells) (next : Translation) (bad : Spot →
     blocks_same = blocks_one t.numbers left (within t left v crash) o.ledger.newest (λ s. is_bad (t.disk.blocks s))
         o.disk.blocks next.disk.blocks
         (first_thinner t.numbers o.disk.cells left o.disk.blocks thinner (within t left v crash) o.ledger.newest bad
-        (λ s. is_bad (t.disk.blocks s)) good (λ s. bad_is (t.disk.blocks s) (now_good s)) opens.start.disk.blocks)
+        (λ s. is_bad (t.disk.blocks s)) same_bad opens.start.disk.blocks)
         (subst (λ m. AreFirstBlocks left m (λ s. is_bad (t.disk.blocks s)) next.disk.blocks) newest_same
         start.disk.blocks)
 
@@ -189,7 +218,8 @@ module _ (o t : Translation) (left : Cells) (next : Translation) (bad : Spot →
 
     pub unmarked_leaves : HasSpareBlocks next
     unmarked_leaves = with_blocks
-        (λ s h. ⊎_elim (λ e. inl (sym (blocks_same s) ∙ e)) (λ k. inr (still_lost s k)) (room.each s h))
+        (λ s h. ⊎_elim (λ e. inl (sym (blocks_same s) ∙ e))
+        (λ k. inr ((λ now. k.0 (blocks_same s ∙ now)), still_lost s k.1)) (room.each s h))
         (let l = no_fewer t.numbers o.disk.blocks next.disk.blocks (λ s on free. sym (blocks_same s) ∙ free) in
         let f = free_at_first in
         omega (arith, l, f))
@@ -220,12 +250,12 @@ module _ (o t : Translation) (left : Cells) (next : Translation) (bad : Spot →
         (opened t.disk p crash some refl)) (some_or_nothing (left p))
 
     still_free : (s : Spot) → t.disk.blocks s ≡ Free → next.disk.blocks s ≡ Free
-    still_free s free = blank_is_free t left v crash next now_good start s
+    still_free s free = blank_is_free t left v crash next start s (λ now. bad_is_not_free now free)
         (λ p at. blank_left p (ap t.disk.blocks at ∙ free))
 
-    finished : (p : Place) → t.disk.finished p ≡ true
-    finished p = ⊎_elim (λ e. e) (λ e. absurd (now_good (spot_of p) (v.blocks.unfinished p e)))
-        (cases_Bool (t.disk.finished p))
+    finished : (p : Place) (m : Mark) → t.disk.cells p ≡ MarkPage m → t.disk.finished p ≡ true
+    finished p m here = ⊎_elim (λ e. e)
+        (λ e. absurd (mark_not_nothing _ _ here (blank p (v.blocks.unfinished p e)))) (cases_Bool (t.disk.finished p))
 
     newest_is : next.ledger.newest ≡ Some w.mark
     newest_is = by next.ledger.newest start.ledger.newest
@@ -238,7 +268,7 @@ module _ (o t : Translation) (left : Cells) (next : Translation) (bad : Spot →
         by (Some m) n =
             let there = none n.0.0 m n.0.1 in
             let up = n.1 w.right.stands.place w.mark stays in
-            let low = w.right.ended n.0.0 m there (finished n.0.0) in
+            let low = w.right.ended n.0.0 m there (finished n.0.0 m there) in
             ap Some (w.right.same n.0.0 w.right.stands.place m w.mark there w.right.stands.there
             (omega (arith, up, low)))
 
@@ -247,13 +277,13 @@ module _ (o t : Translation) (left : Cells) (next : Translation) (bad : Spot →
         ∙ ap (λ f. lost_from f start.ledger.kept) w.more.fence.is ∙ w.more.fence.first
 
     -- a block of lost pages that was closed at the opening is free now: all of it is in the fence
-    lost_is_free : (s : Spot) → o.disk.blocks s ≢ Free → HoldsLost o.disk.cells o.ledger.first_lost s →
-        next.disk.blocks s ≡ Free
-    lost_is_free s not lost = ⊎_elim (λ e. e)
+    lost_is_free : (s : Spot) → o.disk.blocks s ≢ Free → o.disk.blocks s ≢ Bad →
+        HoldsLost o.disk.cells o.ledger.first_lost s → next.disk.blocks s ≡ Free
+    lost_is_free s not good lost = ⊎_elim (λ e. e)
         (λ e. let k = start.disk.blocks.oldest_first s e in
         absurd (k.3 (subst (λ m. IsSpare left m (IsItOrFreeBefore left next.disk.blocks s) (left k.0)) (sym newest_is)
         (by k.0 k.1 (left k.0) refl k.2))))
-        (start.disk.blocks.were_good s (bad_is (t.disk.blocks s) (now_good s)))
+        (start.disk.blocks.were_good s (bad_is (t.disk.blocks s) (λ now. good (r.no_worse s now))))
       where
         was : (p : Place) → spot_of p ≡ s → left p ≡ o.disk.cells p
         was p at = closed_left p (λ free. not (sym (ap o.disk.blocks at) ∙ free))
@@ -288,16 +318,17 @@ module _ (o t : Translation) (left : Cells) (next : Translation) (bad : Spot →
         let k = lost_is in
         omega (arith, l, k))
         (λ job.
-        let l = flies_new were_good v un alone r p.die p tag body job in
+        let l = flies_new unfilled v un alone r p.die p tag body job in
         let k = lost_is in
         omega (arith, l, k))
         (opened t.disk p crash (page_not_nothing _ _ _ refl) (sym (ap (λ (c : Cells). c p) start.disk.cells) ∙ h))
 
     each_left : (s : Spot) → room.spare s ≡ true → IsFreeOrLost next s
     each_left s h = ⊎_elim
-        (λ free. ⊎_elim (λ e. inl (still_free s e)) (λ not. inr (filled_is_lost s free not))
+        (λ free. ⊎_elim (λ e. inl (still_free s e))
+        (λ not. inr (good_next s (λ now. bad_is_not_free (r.no_worse s now) free), filled_is_lost s free not))
         (free_or_not (t.disk.blocks s)))
-        (λ not. ⊎_elim (λ free. absurd (not free)) (λ lost. inl (lost_is_free s not lost)) (room.each s h))
+        (λ not. ⊎_elim (λ free. absurd (not free)) (λ lost. inl (lost_is_free s not lost.0 lost.1)) (room.each s h))
         (free_or_not (o.disk.blocks s))
 
     -- a spare block that is not free now was free at the opening
@@ -313,12 +344,13 @@ module _ (o t : Translation) (left : Cells) (next : Translation) (bad : Spot →
             let f = free_is (t.disk.blocks s) e in
             two_counted a (cond (is_free (next.disk.blocks s)) 1 0) (cond (is_free (o.disk.blocks s)) 1 0)
             (free_counts (next.disk.blocks s) (still_free s f))
-            (free_counts (o.disk.blocks s) (free_was_free o t were_good r s f))
+            (free_counts (o.disk.blocks s) (free_was_free o t unfilled r s f))
         by false false h e = omega arith
         by true false h e = ⊎_elim
             (λ free. let y = free_counts (o.disk.blocks s) free in omega (arith, y))
             (λ not. ⊎_elim (λ free. absurd (not free))
-            (λ lost. let x = free_counts (next.disk.blocks s) (lost_is_free s not lost) in omega (arith, x))
+            (λ lost.
+            let x = free_counts (next.disk.blocks s) (lost_is_free s not lost.0 lost.1) in omega (arith, x))
             (room.each s h)) (free_or_not (o.disk.blocks s))
 
     fewer : count_by room.spare (spots t.numbers) + free_count t.numbers t.disk.blocks

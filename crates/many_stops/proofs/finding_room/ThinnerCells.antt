@@ -6,7 +6,6 @@ use Rattle.ufs_laws.proofs.array_cells.StandsForOne.{kept_one}
 use Rattle.ufs_laws.proofs.deciding.SearchOverPlaces.{Greatest, greatest}
 use Rattle.ufs_spec.proofs.CellKinds.{mark_not_nothing, page_not_nothing}
 use Rattle.ufs_spec.proofs.Equalities.{spot_cases}
-use Rattle.ufs_spec.proofs.Facts.{true≢false}
 use Rattle.ufs_spec.specs.Cells.{AreWithin, Cell, Cells, GroupPage, Mark, MarkPage, Nothing}
 use Rattle.ufs_spec.specs.Disk.{BlockState, Closed, Free, Spot, same_spot, spot_of}
 use Rattle.ufs_spec.specs.Kept.{IsKept, IsNewestMark}
@@ -159,11 +158,11 @@ module _ (n : Numbers) (c left : Cells) (blocks : Spot → BlockState) (thin : A
 
   -- The blocks of the next opening
 
-  pub first_thinner : AreWithin n left → (m : Option Mark) (bad now : Spot → Bool) → ((s : Spot) → bad s ≡ false) →
-      ((s : Spot) → now s ≡ false) → AreFirstBlocks c m bad blocks → AreFirstBlocks left m now blocks
-  first_thinner within m bad now good still first = record {
-    were_bad = λ s e. absurd (true≢false (sym e ∙ still s));
-    were_good = λ s e. first.were_good s (good s);
+  pub first_thinner : AreWithin n left → (m : Option Mark) (bad now : Spot → Bool) → ((s : Spot) → now s ≡ bad s) →
+      AreFirstBlocks c m bad blocks → AreFirstBlocks left m now blocks
+  first_thinner within m bad now same first = record {
+    were_bad = λ s e. first.were_bad s (sym (same s) ∙ e);
+    were_good = λ s e. first.were_good s (sym (same s) ∙ e);
     spare = λ p free some.
         let was : c p ≡ left p = page_was some refl in
         spare_thinner m (left p)

@@ -2,9 +2,10 @@
 -- and leaves a mark without a fence: the next life is mended from its start.
 use Rattle.std.proofs.Common.{◌≡◌, ℕ, suc, ◌<◌, ◌≤◌, Bool, true, false, List, Option, Some, None, refl, sym, ap, ◌∙◌}
 use Rattle.std.proofs.Common.{subst, inl, inr, ⊎_elim, arith}
+use Rattle.ufs_spec.proofs.CellKinds.{page_not_nothing}
 use Rattle.ufs_spec.proofs.Facts.{at_most, false≢true, none-some}
 use Rattle.ufs_spec.specs.Cells.{Cells, GroupPage, Mark}
-use Rattle.ufs_spec.specs.Disk.{Spot, spot_of}
+use Rattle.ufs_spec.specs.Disk.{Spot}
 use Rattle.ufs_spec.specs.Kept.{IsKept, IsNewestMark, fence_in, recorded_in}
 use Rattle.ufs_spec.specs.Ledger.{before_accepted}
 use Rattle.ufs_spec.specs.Openings.{IsAtMost, IsMendingAt, IsOpenedTranslation, MayBeMended, lost_from}
@@ -25,20 +26,20 @@ module _ {t : Translation} {c : Cells} (v : Valid t) (r : LeavesOwnRoom t) (none
     (crash : StopLeaves t c) where
   -- Numbers that are shown
 
-  -- a page that is there ended well, since no block is bad
-  ended : (p : Place) → t.disk.finished p ≡ true
-  ended p = by (t.disk.finished p) refl
+  -- a page that is there ended well, since nothing stands in a bad block
+  ended : (p : Place) (tag : Tag) (body : List ℕ) → t.disk.cells p ≡ GroupPage tag body → t.disk.finished p ≡ true
+  ended p tag body here = by (t.disk.finished p) refl
     where
       by : (b : Bool) → t.disk.finished p ≡ b → b ≡ true
       by true e = refl
-      by false e = absurd (r.good (spot_of p) (v.blocks.unfinished p e))
+      by false e = absurd (page_not_nothing _ _ _ here (r.blank p (v.blocks.unfinished p e)))
 
   shown_number : (p : Place) (tag : Tag) (body : List ℕ) → c p ≡ GroupPage tag body →
       tag.number ≤ before_accepted t.ledger
   shown_number p tag body h = ⊎_elim (λ l. l)
       (λ behind. absurd (⊎_elim
       (λ here.
-      let s = v.pages.stands p tag body here (ended p) in
+      let s = v.pages.stands p tag body here (ended p tag body here) in
       none (inl (record { number = tag.number; index = tag.index; place = s.0; behind = behind; stands = s.1 })))
       (λ job. none (inr (record {
         die = p.die;

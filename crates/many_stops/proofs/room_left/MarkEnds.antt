@@ -1,11 +1,11 @@
 -- A mark that was programmed leaves the room: that of a plan frees its block.
-use Rattle.std.proofs.Common.{◌≡◌, ◌≢◌, ℕ, ◌+◌, ◌≤◌, ◌==◌, Bool, true, false, if◌then◌else◌, Option, Some, None, refl}
+use Rattle.std.proofs.Common.{◌≡◌, ◌≢◌, ℕ, ◌+◌, ◌≤◌, Option, Some, None, refl}
 use Rattle.std.proofs.Common.{sym, ◌∙◌, inl, ⊎_elim, arith}
 use Rattle.ufs_spec.proofs.Facts.{none-some}
 use Rattle.ufs_spec.proofs.Updates.{at_spot_cases, at_spot_is}
-use Rattle.ufs_spec.specs.Cells.{GroupPage, Mark, MarkPage}
-use Rattle.ufs_spec.specs.Disk.{BlockState, Bad, Closed, Filling, Free, Programming, Spot, at_die, at_spot, programmed}
-use Rattle.ufs_spec.specs.Disk.{spot_of, state_after}
+use Rattle.ufs_spec.specs.Cells.{Cells, GroupPage, Mark, MarkPage, Nothing}
+use Rattle.ufs_spec.specs.Disk.{BlockState, Bad, Closed, Filling, Free, Programming, Spot, at_die, at_place, at_spot}
+use Rattle.ufs_spec.specs.Disk.{programmed, spot_of, state_after}
 use Rattle.ufs_spec.specs.Ledger.{before_accepted}
 use Rattle.ufs_spec.specs.Moves.{freed, freed_state, mark_written, mending_after}
 use Rattle.ufs_spec.specs.Translation.{count_blocks, Plan, Translation, is_free, is_mended}
@@ -15,7 +15,7 @@ use Rattle.power_loss.proofs.jobs.StandsSecurely.{closed_is_not_free, free_is_no
 use Rattle.power_loss.proofs.room_to_mend.AloneKept.{ended_fewer}
 use Rattle.many_stops.specs.RoomOfGroups.{HasHandedOut, IsHandedOut, LeavesOwnRoom, LeavesRoom, free_count}
 use Rattle.many_stops.proofs.CountedBlocks.{one_more, others_free}
-use Rattle.many_stops.proofs.room_left.RoomStays.{handed_fewer, handed_mended}
+use Rattle.many_stops.proofs.room_left.RoomStays.{handed_fewer, handed_mended, not_bad_after, still_blank, still_good}
 
 module _ {t : Translation} (v : Valid t) (r : LeavesOwnRoom t) where
   -- A mark is programmed
@@ -27,13 +27,12 @@ module _ {t : Translation} (v : Valid t) (r : LeavesOwnRoom t) where
     mark_is : t.disk.blocks (spot_of p) ≡ Filling p.page
     mark_is = (v.flights.programs die p (MarkPage m) job).next
 
-    marked_good : (s : Spot) → marked s ≢ Bad
-    marked_good s h = ⊎_elim (λ k. by (p.page + 1 == t.numbers.pages) k.1) (λ k. r.good s k.1)
-        (at_spot_is t.disk.blocks (spot_of p) (state_after t.numbers.pages p.page) s Bad h)
-      where
-        by : (b : Bool) → (if b then Closed else Filling (p.page + 1)) ≡ Bad → ⊥
-        by true e = cc
-        by false e = cc
+    abbrev put : Cells
+    put = at_place t.disk.cells p (MarkPage m)
+
+    marked_blank : (q : Place) → marked (spot_of q) ≡ Bad → put q ≡ Nothing
+    marked_blank = still_blank t.disk.cells t.disk.blocks p (MarkPage m) (state_after t.numbers.pages p.page)
+        (not_bad_after t.numbers.pages p.page) r.blank
 
     -- once something is handed out, the mark is one of a plan
     its_plan : HasHandedOut t → (pl : Plan) × (t.work.plan ≡ Some pl)
@@ -44,13 +43,13 @@ module _ {t : Translation} (v : Valid t) (r : LeavesOwnRoom t) where
     mark_handed h = handed_fewer (ended_fewer t.disk.flights p.die) h
 
     abbrev LeftBy : (Spot → BlockState) → Type 0
-    LeftBy blocks = LeavesRoom t.numbers (before_accepted t.ledger) t.ledger.standing blocks
+    LeftBy blocks = LeavesRoom t.numbers (before_accepted t.ledger) t.ledger.standing put blocks
         (at_die t.disk.flights p.die None) (is_mended (mending_after t.work.mending)) None None
 
-    mark_leaves_with : (blocks : Spot → BlockState) → ((s : Spot) → blocks s ≢ Bad) →
+    mark_leaves_with : (blocks : Spot → BlockState) → ((q : Place) → blocks (spot_of q) ≡ Bad → put q ≡ Nothing) →
         (HasHandedOut t → 1 + count_blocks t is_free ≤ free_count t.numbers blocks) → LeftBy blocks
-    mark_leaves_with blocks good free = record {
-      good = good;
+    mark_leaves_with blocks blank free = record {
+      blank = blank;
       one_die = λ d e q z a b x y h k s. r.one_die d e q z a b x y
           (ended_fewer t.disk.flights p.die d q (GroupPage a x) h)
           (ended_fewer t.disk.flights p.die e z (GroupPage b y) k) s;
@@ -76,7 +75,8 @@ module _ {t : Translation} (v : Valid t) (r : LeavesOwnRoom t) where
     mark_leaves = by t.work.plan refl
       where
         with_flights : (o : Option Plan) → LeftBy (freed_with o) →
-            LeavesRoom t.numbers (before_accepted t.ledger) t.ledger.standing (freed_with o)
+            LeavesRoom t.numbers (before_accepted t.ledger) t.ledger.standing
+            (freed (programmed t.numbers.pages t.disk p (MarkPage m)) o).cells (freed_with o)
             (freed (programmed t.numbers.pages t.disk p (MarkPage m)) o).flights
             (is_mended (mending_after t.work.mending)) None None
         with_flights None h = h
@@ -88,16 +88,18 @@ module _ {t : Translation} (v : Valid t) (r : LeavesOwnRoom t) where
 
         of_plan : (pl : Plan) → t.work.plan ≡ Some pl → LeftBy (freed_with (Some pl))
         of_plan pl is = mark_leaves_with (freed_with (Some pl))
-            (λ s h. ⊎_elim (λ k. free_is_good (sym now ∙ k.1)) (λ k. marked_good s k.1)
-            (at_spot_is marked pl.victim (freed_state (marked pl.victim)) s Bad h))
+            (λ q h. ⊎_elim (λ k. absurd (free_is_good (sym now ∙ k.1))) (λ k. marked_blank q k.1)
+            (at_spot_is marked pl.victim (freed_state (marked pl.victim)) (spot_of q) Bad h))
             (λ handed. one_more t.numbers t.disk.blocks (freed_with (Some pl)) pl.victim (r.gains pl is).inside
             (λ s on. stay s) (closed_is_not_free closed) freed_now)
           where
             closed : t.disk.blocks pl.victim ≡ Closed
-            closed = ⊎_elim (λ e. e) (λ e. absurd (r.good pl.victim e)) (v.plan.one pl is).state
+            closed = ⊎_elim (λ e. e) (λ e. absurd ((r.gains pl is).good e)) (v.plan.one pl is).state
 
             now : freed_state (marked pl.victim) ≡ Free
-            now = victim_good pl (marked pl.victim) (marked_good pl.victim)
+            now = victim_good pl (marked pl.victim)
+                (still_good t.disk.blocks (spot_of p) (state_after t.numbers.pages p.page) pl.victim
+                (not_bad_after t.numbers.pages p.page) (r.gains pl is).good)
 
             free_is_good : Free ≡ Bad → ⊥
             free_is_good e = cc
@@ -114,9 +116,10 @@ module _ {t : Translation} (v : Valid t) (r : LeavesOwnRoom t) where
                 (at_spot_cases marked pl.victim (freed_state (marked pl.victim)) s)
 
         by : (o : Option Plan) → t.work.plan ≡ o →
-            LeavesRoom t.numbers (before_accepted t.ledger) t.ledger.standing (freed_with o)
+            LeavesRoom t.numbers (before_accepted t.ledger) t.ledger.standing
+            (freed (programmed t.numbers.pages t.disk p (MarkPage m)) o).cells (freed_with o)
             (freed (programmed t.numbers.pages t.disk p (MarkPage m)) o).flights
             (is_mended (mending_after t.work.mending)) None None
-        by None is = with_flights None (mark_leaves_with (freed_with None) marked_good
+        by None is = with_flights None (mark_leaves_with (freed_with None) marked_blank
             (λ handed. absurd (let pl = its_plan handed in none-some pl.0 (sym is ∙ pl.1))))
         by (Some pl) is = with_flights (Some pl) (of_plan pl is)

@@ -1,10 +1,10 @@
 -- Each move by which no job fails leaves the device's own pages their room, and a life begins so.
-use Rattle.std.proofs.Common.{◌≡◌, ℕ, Bool, false, Option, Some, None, refl, sym, ap, ◌∙◌, subst, inl, inr, ⊎_elim}
-use Rattle.std.proofs.Common.{arith}
-use Rattle.ufs_spec.proofs.Facts.{none-some, true≢false}
-use Rattle.ufs_spec.specs.Cells.{Cells, GroupPage, MarkPage, Nothing}
+use Rattle.std.proofs.Common.{◌≡◌, ℕ, Bool, true, false, if◌then◌else◌, Option, Some, None, refl, sym, ap, ◌∙◌, subst}
+use Rattle.std.proofs.Common.{inl, inr, ⊎_elim, arith}
+use Rattle.ufs_spec.proofs.Facts.{cases_Bool, none-some, true≢false}
+use Rattle.ufs_spec.specs.Cells.{Cell, Cells, GroupPage, MarkPage, Nothing}
 use Rattle.ufs_spec.specs.Disk.{Bad, Closed, Erasing, Flight, Free, Programming}
-use Rattle.ufs_spec.specs.Disk.{Reading, Spot, at_die}
+use Rattle.ufs_spec.specs.Disk.{Reading, Spot, at_die, same_spot, spot_of}
 use Rattle.ufs_spec.specs.Moves.{Accept, Acknowledge, Claim, EndJob, Ending, GiveJob, IsAllowedMove, Keep, LetGo}
 use Rattle.ufs_spec.specs.Moves.{LetGoAll, Move, ReadRight, ReadWrong, Release, TakeStep, WantPage, WentWell, WentWrong}
 use Rattle.ufs_spec.specs.Moves.{die_idle, end_flight, is_for, is_for_task, moved, read_right, read_wrong}
@@ -18,8 +18,8 @@ use Rattle.power_loss.specs.Invariant.{Valid}
 use Rattle.power_loss.specs.MendingRoom.{fails_job}
 use Rattle.power_loss.proofs.jobs.JobsBegin.{erase_is_no_program}
 use Rattle.power_loss.proofs.room_to_mend.AloneKept.{begun_fewer, ended_fewer, gone_fewer, read_is_no_program}
-use Rattle.many_stops.specs.RoomOfGroups.{HasHandedOut, LeavesOwnRoom}
-use Rattle.many_stops.proofs.room_left.RoomStays.{fewer_leaves, there_leaves}
+use Rattle.many_stops.specs.RoomOfGroups.{AreBlankIfBad, HasHandedOut, LeavesOwnRoom}
+use Rattle.many_stops.proofs.room_left.RoomStays.{blank_leaves, fewer_leaves, there_leaves}
 use Rattle.many_stops.proofs.room_left.MarkEnds.{mark_leaves}
 use Rattle.many_stops.proofs.room_left.PageEnds.{page_leaves}
 use Rattle.many_stops.proofs.room_left.ProgramBegins.{program_leaves}
@@ -52,7 +52,13 @@ module _ {t : Translation} (v : Valid t) (r : LeavesOwnRoom t) where
   ends die (Some (Programming p (GroupPage tag body))) WentWell e well = page_leaves v r die p tag body e
   ends die (Some (Programming p (MarkPage m))) WentWell e well = mark_leaves v r die p m e
   ends die (Some (Erasing s)) WentWell e well =
-      fewer_leaves (at_die t.disk.flights s.die None) (ended_fewer t.disk.flights s.die) r
+      blank_leaves (λ p. if same_spot (spot_of p) s then Nothing else t.disk.cells p)
+      (λ p none. erased_nothing (same_spot (spot_of p) s) none)
+      (fewer_leaves (at_die t.disk.flights s.die None) (ended_fewer t.disk.flights s.die) r)
+    where
+      erased_nothing : (b : Bool) {x : Cell} → x ≡ Nothing → (if b then Nothing else x) ≡ Nothing
+      erased_nothing true h = refl
+      erased_nothing false h = h
   ends die flight ending e well = r
 
   takes : (die : ℕ) (flight : Flight) → MayTake t die (Some flight) → LeavesOwnRoom (taken t die flight)
@@ -81,9 +87,9 @@ move_leaves t TakeStep v may well r = turns v r
 -- A life begins
 
 pub opening_leaves : (n : Numbers) (c : Cells) (bad : Spot → Bool) (t : Translation) →
-    ((s : Spot) → bad s ≡ false) → IsOpenedTranslation n c bad t → LeavesOwnRoom t
-opening_leaves n c bad t good o = record {
-  good = λ s h. ⊎_elim (λ e. free_bad (sym e ∙ h)) (λ e. closed_bad (sym e ∙ h)) (o.disk.blocks.were_good s (good s));
+    AreBlankIfBad c bad → IsOpenedTranslation n c bad t → LeavesOwnRoom t
+opening_leaves n c bad t blank o = record {
+  blank = λ p h. ap (λ (x : Cells). x p) o.disk.cells ∙ blank p (was_bad (spot_of p) h);
   one_die = λ d e p q a b x y h k same. absurd (none-some _ (sym (o.disk.idle d) ∙ h));
   copied = λ name from there e. absurd (none-some _ (sym o.no_step ∙ e));
   planned = λ mended s e. absurd (none-some s (sym o.no_step ∙ e));
@@ -96,6 +102,11 @@ opening_leaves n c bad t good o = record {
 
     closed_bad : Closed ≡ Bad → ⊥
     closed_bad e = cc
+
+    was_bad : (s : Spot) → t.disk.blocks s ≡ Bad → bad s ≡ true
+    was_bad s h = ⊎_elim (λ e. e)
+        (λ e. absurd (⊎_elim (λ k. free_bad (sym k ∙ h)) (λ k. closed_bad (sym k ∙ h)) (o.disk.blocks.were_good s e)))
+        (cases_Bool (bad s))
 
     none_handed : HasHandedOut t → ⊥
     none_handed (inl s) =

@@ -1,11 +1,11 @@
 -- A page that was programmed leaves the room: that of a group gives back what it took, and that of a step takes one of
 -- those that its plan needs.
-use Rattle.std.proofs.Common.{◌≡◌, ◌≢◌, ℕ, ◌+◌, ◌-◌, ◌<◌, ◌≤◌, ◌==◌, Bool, true, false, if◌then◌else◌, List, length}
+use Rattle.std.proofs.Common.{◌≡◌, ◌≢◌, ℕ, ◌+◌, ◌-◌, ◌<◌, ◌≤◌, Bool, true, false, if◌then◌else◌, List, length}
 use Rattle.std.proofs.Common.{Option, Some, None, refl, sym, ap, ◌∙◌, subst, inl, inr, ⊎_elim, arith}
 use Rattle.ufs_spec.proofs.Facts.{false≢true, none-some, true≢false}
-use Rattle.ufs_spec.proofs.Updates.{at_die_cases, at_name_cases, at_spot_is}
-use Rattle.ufs_spec.specs.Cells.{GroupPage}
-use Rattle.ufs_spec.specs.Disk.{BlockState, Bad, Closed, Filling, Flight, Programming, Spot, at_die, at_spot, spot_of}
+use Rattle.ufs_spec.proofs.Updates.{at_die_cases, at_name_cases}
+use Rattle.ufs_spec.specs.Cells.{Cells, GroupPage, Nothing}
+use Rattle.ufs_spec.specs.Disk.{BlockState, Bad, Filling, Flight, Programming, Spot, at_die, at_place, at_spot, spot_of}
 use Rattle.ufs_spec.specs.Disk.{state_after}
 use Rattle.ufs_spec.specs.Ledger.{at_name, before_accepted}
 use Rattle.ufs_spec.specs.Moves.{is_kind_of, page_written, step_after}
@@ -24,7 +24,8 @@ use Rattle.many_stops.specs.RoomOfGroups.{room_on_dies}
 use Rattle.many_stops.proofs.CountedBlocks.{none_fewer}
 use Rattle.many_stops.proofs.room_left.RoomInOpenBlocks.{die_room, other_dies, program_takes}
 use Rattle.many_stops.proofs.room_left.RoomInOpenBlocks.{rooms_less}
-use Rattle.many_stops.proofs.room_left.RoomStays.{IsNoLess, handed_fewer, handed_mended, kind_name, no_less, room_stays}
+use Rattle.many_stops.proofs.room_left.RoomStays.{IsNoLess, handed_fewer, handed_mended, kind_name, no_less}
+use Rattle.many_stops.proofs.room_left.RoomStays.{not_bad_after, room_stays, still_blank, still_good}
 
 module _ {t : Translation} (v : Valid t) (r : LeavesOwnRoom t) where
   -- A page is programmed
@@ -49,16 +50,12 @@ module _ {t : Translation} (v : Valid t) (r : LeavesOwnRoom t) where
     page_home : p.die ≡ die
     page_home = (v.flights.programs die p (GroupPage tag body) job).at_home
 
-    page_good : (s : Spot) → filled_blocks s ≢ Bad
-    page_good s h = ⊎_elim (λ k. state_good k.1) (λ k. r.good s k.1)
-        (at_spot_is t.disk.blocks (spot_of p) (state_after t.numbers.pages p.page) s Bad h)
-      where
-        state_good : state_after t.numbers.pages p.page ≡ Bad → ⊥
-        state_good e = by (p.page + 1 == t.numbers.pages) e
-          where
-            by : (b : Bool) → (if b then Closed else Filling (p.page + 1)) ≡ Bad → ⊥
-            by true e = cc
-            by false e = cc
+    abbrev put : Cells
+    put = at_place t.disk.cells p (GroupPage tag body)
+
+    page_blank : (q : Place) → filled_blocks (spot_of q) ≡ Bad → put q ≡ Nothing
+    page_blank = still_blank t.disk.cells t.disk.blocks p (GroupPage tag body) (state_after t.numbers.pages p.page)
+        (not_bad_after t.numbers.pages p.page) r.blank
 
     page_free : count_blocks t is_free ≤ free_count t.numbers filled_blocks
     page_free = none_fewer t.numbers t.disk.blocks (spot_of p) (state_after t.numbers.pages p.page)
@@ -95,10 +92,10 @@ module _ {t : Translation} (v : Valid t) (r : LeavesOwnRoom t) where
         pages_of_copy now ≤ pages_of_copy t.work.step →
         (HasHandedOut t → IsNoLess t.numbers t.disk.blocks filled_blocks t.disk.flights ended_flights t.work.step now
         t.work.plan) →
-        LeavesRoom t.numbers (before_accepted t.ledger) stood filled_blocks ended_flights
+        LeavesRoom t.numbers (before_accepted t.ledger) stood put filled_blocks ended_flights
         (is_mended t.work.mending) now t.work.plan
     page_leaves_with now keeps copies room = record {
-      good = page_good;
+      blank = page_blank;
       one_die = λ d e q z a b x y h k s. r.one_die d e q z a b x y
           (ended_fewer t.disk.flights p.die d q (GroupPage a x) h)
           (ended_fewer t.disk.flights p.die e z (GroupPage b y) k) s;
@@ -106,7 +103,12 @@ module _ {t : Translation} (v : Valid t) (r : LeavesOwnRoom t) where
       planned = λ mended s e. r.planned mended s (keeps s e);
       gains = λ pl e.
           let g = r.gains pl e in
-          record { inside = g.inside; less = less (length pl.copies) _ _ _ g.less copies };
+          record {
+            inside = g.inside;
+            good = still_good t.disk.blocks (spot_of p) (state_after t.numbers.pages p.page) pl.victim
+                (not_bad_after t.numbers.pages p.page) g.good;
+            less = less (length pl.copies) _ _ _ g.less copies;
+          };
       room = λ h.
           let handed = page_handed h in
           room_stays t.numbers t.disk.blocks filled_blocks t.disk.flights ended_flights t.work.step now t.work.plan
@@ -161,7 +163,7 @@ module _ {t : Translation} (v : Valid t) (r : LeavesOwnRoom t) where
     group_ends : step_after (name_of tag) t.work.step ≡ t.work.step →
         programs_name t.work.step (name_of tag) ≡ false → LeavesOwnRoom (page_written t p tag body)
     group_ends same other = subst
-        (λ now. LeavesRoom t.numbers (before_accepted t.ledger) stood filled_blocks ended_flights
+        (λ now. LeavesRoom t.numbers (before_accepted t.ledger) stood put filled_blocks ended_flights
         (is_mended t.work.mending) now t.work.plan) (sym same)
         (page_leaves_with t.work.step (λ s e. e) (omega arith)
         (λ handed fits. no_less (pages_of_plan t.work.plan t.work.step) (open_room t) _ fits (groups_room other)))
@@ -222,7 +224,8 @@ module _ {t : Translation} (v : Valid t) (r : LeavesOwnRoom t) where
               less a b c d l e k = omega (arith, l, e, k)
 
       step_ends : step_after (name_of tag) t.work.step ≡ None → LeavesOwnRoom (page_written t p tag body)
-      step_ends over = subst (λ now. LeavesRoom t.numbers (before_accepted t.ledger) stood filled_blocks ended_flights
+      step_ends over = subst
+          (λ now. LeavesRoom t.numbers (before_accepted t.ledger) stood put filled_blocks ended_flights
           (is_mended t.work.mending) now t.work.plan) (sym over)
           (page_leaves_with None (λ x e. absurd (none-some x e)) (omega arith) fits_still)
 

@@ -30,7 +30,7 @@ use Rattle.many_stops.proofs.CountedBlocks.{none_fewer, one_fewer}
 use Rattle.many_stops.proofs.room_left.RoomInOpenBlocks.{die_room, opened_room}
 use Rattle.many_stops.proofs.room_left.RoomInOpenBlocks.{room_is_filled, rooms_hold, rooms_no_less}
 use Rattle.many_stops.proofs.room_left.RoomInOpenBlocks.{same_room}
-use Rattle.many_stops.proofs.room_left.RoomStays.{RoomOf, handed_mended, home_of, no_less, room_stays}
+use Rattle.many_stops.proofs.room_left.RoomStays.{RoomOf, handed_mended, home_of, no_less, room_stays, still_good}
 
 -- What a die programs
 
@@ -227,12 +227,18 @@ module _ {t : Translation} (v : Valid t) (r : LeavesOwnRoom t) where
 
     pub program_leaves : LeavesOwnRoom (taken t die (Programming p cell))
     program_leaves = record {
-      good = λ s h. ⊎_elim (λ k. filling_is_not_bad refl k.1) (λ k. r.good s k.1)
-          (at_spot_is t.disk.blocks (spot_of p) (Filling p.page) s Bad h);
+      blank = λ q h. ⊎_elim (λ k. absurd (filling_is_not_bad refl k.1)) (λ k. r.blank q k.1)
+          (at_spot_is t.disk.blocks (spot_of p) (Filling p.page) (spot_of q) Bad h);
       one_die = λ d e q z a b x y h k same. one d e q z a b x y (is_this t h) (is_this t k) same;
       copied = r.copied;
       planned = r.planned;
-      gains = r.gains;
+      gains = λ pl e.
+          let g = r.gains pl e in
+          record {
+            inside = g.inside;
+            good = still_good t.disk.blocks (spot_of p) (Filling p.page) pl.victim (filling_is_not_bad refl) g.good;
+            less = g.less;
+          };
       room = λ h. ⊎_elim (λ w. for_step (step_owed t t.work.step cell refl w) h) (λ w. inl (for_group w.0)) owed.is;
     }
       where

@@ -1,10 +1,12 @@
 -- What leaves the room that groups leave: where no fewer blocks are free, and none is taken beside what the plan needs.
-use Rattle.std.proofs.Common.{◌≡◌, ◌⊎◌, ℕ, ◌+◌, ◌<◌, ◌≤◌, Bool, true, false, Option, Some, None, refl, sym, ap, ◌∙◌}
-use Rattle.std.proofs.Common.{inl, inr, ⊎_elim, arith}
+use Rattle.std.proofs.Common.{◌≡◌, ◌≢◌, ◌⊎◌, ℕ, ◌+◌, ◌<◌, ◌≤◌, ◌==◌, Bool, true, false, Option, Some, None, refl, sym}
+use Rattle.std.proofs.Common.{if◌then◌else◌, inl, inr, ap, ◌∙◌, ⊎_elim, arith}
 use Rattle.ufs_spec.proofs.Equalities.{name_told}
 use Rattle.ufs_spec.proofs.Facts.{false≢true, same_Some}
-use Rattle.ufs_spec.specs.Cells.{Cell, GroupPage}
-use Rattle.ufs_spec.specs.Disk.{BlockState, Flight, Programming, Spot}
+use Rattle.ufs_spec.proofs.Updates.{at_place_cases, at_spot_is}
+use Rattle.ufs_spec.specs.Cells.{Cell, Cells, GroupPage, Nothing}
+use Rattle.ufs_spec.specs.Disk.{BlockState, Bad, Closed, Filling, Flight, Programming, Spot, at_place, at_spot, spot_of}
+use Rattle.ufs_spec.specs.Disk.{state_after}
 use Rattle.ufs_spec.specs.Ledger.{Entry, before_accepted}
 use Rattle.ufs_spec.specs.Moves.{is_kind_of, step_there}
 use Rattle.ufs_spec.specs.Translation.{CopyStep, MarkStep, Plan, RepairStep, Step, StepKind, Translation, is_mended}
@@ -83,12 +85,13 @@ room_stays n blocks after flights flown step now plan free room (inr o) = inr (r
   fits = room o.fits;
 })
 
-pub fewer_leaves : {n : Numbers} {before : ℕ} {standing : Standing} {blocks : Spot → BlockState} {flights : Flights}
-    {mended : Bool} {step : Option Step} {plan : Option Plan} (now : Flights) → AreFewer flights now →
-    LeavesRoom n before standing blocks flights mended step plan →
-    LeavesRoom n before standing blocks now mended step plan
-fewer_leaves {n} {before} {standing} {blocks} {flights} {mended} {step} {plan} now fewer r = record {
-  good = r.good;
+pub fewer_leaves : {n : Numbers} {before : ℕ} {standing : Standing} {cells : Cells} {blocks : Spot → BlockState}
+    {flights : Flights} {mended : Bool} {step : Option Step} {plan : Option Plan} (now : Flights) →
+    AreFewer flights now →
+    LeavesRoom n before standing cells blocks flights mended step plan →
+    LeavesRoom n before standing cells blocks now mended step plan
+fewer_leaves {n} {before} {standing} {cells} {blocks} {flights} {mended} {step} {plan} now fewer r = record {
+  blank = r.blank;
   one_die = λ d e p q a b x y h k s.
       r.one_die d e p q a b x y (fewer d p (GroupPage a x) h) (fewer e q (GroupPage b y) k) s;
   copied = r.copied;
@@ -101,19 +104,57 @@ fewer_leaves {n} {before} {standing} {blocks} {flights} {mended} {step} {plan} n
       (r.room (handed_fewer fewer h));
 }
 
+-- Cells that were nothing still are
+
+pub blank_leaves : {n : Numbers} {before : ℕ} {standing : Standing} {cells : Cells} {blocks : Spot → BlockState}
+    {flights : Flights} {mended : Bool} {step : Option Step} {plan : Option Plan} (now : Cells) →
+    ((p : Place) → cells p ≡ Nothing → now p ≡ Nothing) →
+    LeavesRoom n before standing cells blocks flights mended step plan →
+    LeavesRoom n before standing now blocks flights mended step plan
+blank_leaves now still r = record {
+  blank = λ p bad. still p (r.blank p bad);
+  one_die = r.one_die;
+  copied = r.copied;
+  planned = r.planned;
+  gains = r.gains;
+  room = r.room;
+}
+
+-- Programs go to blocks that are not bad
+
+pub not_bad_after : (pages page : ℕ) → state_after pages page ≢ Bad
+not_bad_after pages page = by (page + 1 == pages)
+  where
+    by : (b : Bool) → (if b then Closed else Filling (page + 1)) ≡ Bad → ⊥
+    by true e = cc
+    by false e = cc
+
+-- a block that is not bad stays so where another state that is not bad is put in
+pub still_good : (blocks : Spot → BlockState) (s : Spot) (x : BlockState) (a : Spot) → x ≢ Bad → blocks a ≢ Bad →
+    at_spot blocks s x a ≢ Bad
+still_good blocks s x a put good h = ⊎_elim (λ k. put k.1) (λ k. good k.1) (at_spot_is blocks s x a Bad h)
+
+-- bad blocks stay blank where a page of another block is put in
+pub still_blank : (cells : Cells) (blocks : Spot → BlockState) (p : Place) (cell : Cell) (x : BlockState) → x ≢ Bad →
+    ((q : Place) → blocks (spot_of q) ≡ Bad → cells q ≡ Nothing) → (q : Place) →
+    at_spot blocks (spot_of p) x (spot_of q) ≡ Bad → at_place cells p cell q ≡ Nothing
+still_blank cells blocks p cell x put blank q h = ⊎_elim (λ k. absurd (put k.1))
+    (λ k. ⊎_elim (λ e. absurd (k.0 (ap spot_of e.0))) (λ e. e.1 ∙ blank q k.1) (at_place_cases cells p cell q))
+    (at_spot_is blocks (spot_of p) x (spot_of q) Bad h)
+
 -- The content of the step came
 
-pub there_leaves : {n : Numbers} {before : ℕ} {standing : Standing} {blocks : Spot → BlockState} {flights : Flights}
-    {mended : Bool} {plan : Option Plan} (step : Option Step) →
-    LeavesRoom n before standing blocks flights mended step plan →
-    LeavesRoom n before standing blocks flights mended (step_there step) plan
+pub there_leaves : {n : Numbers} {before : ℕ} {standing : Standing} {cells : Cells} {blocks : Spot → BlockState}
+    {flights : Flights} {mended : Bool} {plan : Option Plan} (step : Option Step) →
+    LeavesRoom n before standing cells blocks flights mended step plan →
+    LeavesRoom n before standing cells blocks flights mended (step_there step) plan
 there_leaves None r = r
 there_leaves {n} {blocks = blocks} {flights = flights} {plan = plan} (Some s) r = record {
-  good = r.good;
+  blank = r.blank;
   one_die = r.one_die;
   copied = λ name from there e. r.copied name from s.there (ap Some (kind (same_Some _ _ e)));
   planned = λ mended other e. r.planned mended s refl;
-  gains = λ pl e. let g = r.gains pl e in record { inside = g.inside; less = g.less };
+  gains = λ pl e. let g = r.gains pl e in record { inside = g.inside; good = g.good; less = g.less };
   room = λ h. room_stays n blocks blocks flights flights (Some s) (Some (record s { there = true })) plan (omega arith)
       (λ fits. no_less (pages_of_plan plan (Some (record s { there = true })))
       (room_on_dies n blocks (Some s) flights) _

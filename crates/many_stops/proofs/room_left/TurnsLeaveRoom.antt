@@ -1,15 +1,17 @@
 -- A turn leaves the room: a plan begins with no more pages than fill a block, and goes on with as many as it had left.
-use Rattle.std.proofs.Common.{◌≡◌, ℕ, suc, ◌+◌, ◌<◌, ◌≤◌, Bool, true, false, if◌then◌else◌, List, [], ◌∷◌, length}
+use Rattle.std.proofs.Common.{◌≡◌, ◌≢◌, ℕ, suc, ◌+◌, ◌<◌, ◌≤◌, Bool, true, false, if◌then◌else◌, List, [], ◌∷◌}
+use Rattle.std.proofs.Common.{length, map, filter}
 use Rattle.std.proofs.Common.{Option, Some, None, refl, sym, ap, ◌∙◌, subst, inl, inr, ⊎_elim, arith, All}
 use Rattle.ufs_spec.proofs.Facts.{false≢true, none-some, same_Some, true≢false}
 use Rattle.ufs_spec.specs.Cells.{GroupPage}
-use Rattle.ufs_spec.specs.Disk.{Flight, Programming, Spot}
+use Rattle.ufs_spec.specs.Disk.{Bad, BlockState, Closed, Flight, Programming, Spot, place_in}
+use Rattle.ufs_spec.specs.Keys.{below}
 use Rattle.ufs_spec.specs.Ledger.{before_accepted}
 use Rattle.ufs_spec.specs.Moves.{is_kind_of}
 use Rattle.ufs_spec.specs.Translation.{CopyStep, MarkStep, Mended, Mending, Order, OrderCopy, OrderMark, OrderPlanMark}
 use Rattle.ufs_spec.specs.Translation.{OrderRepair, Plan, RepairStep, Repairing, Step, Translation, Unmarked}
 use Rattle.ufs_spec.specs.Translation.{copy_begun, is_mended, mark_ordered, name_of, ordered, repair_ordered, turned}
-use Rattle.ufs_spec.specs.Translation.{with_plan}
+use Rattle.ufs_spec.specs.Translation.{is_live, is_live_cell, live_count, with_plan}
 use Rattle.ufs_spec.specs.declared.flash.Fence.{Fence}
 use Rattle.ufs_spec.specs.declared.flash.Key.{Key}
 use Rattle.ufs_spec.specs.declared.flash.Place.{Place}
@@ -26,19 +28,34 @@ use Rattle.many_stops.proofs.room_left.RoomInOpenBlocks.{rooms_no_less}
 use Rattle.many_stops.proofs.room_left.RoomStays.{RoomOf, handed_mended, mark_is_no_copy, no_less, one_copy}
 use Rattle.many_stops.proofs.room_left.RoomStays.{repair_is_no_copy, step_of}
 
+none_passes : (test : Place → Bool) (s : Spot) (pages : List ℕ) → ((page : ℕ) → test (place_in s page) ≡ false) →
+    filter test (map (place_in s) pages) ≡ []
+none_passes test s [] none = refl
+none_passes test s (page ∷ pages) none = rw (none page) (none_passes test s pages none)
+
+closed_is_good : {x : BlockState} → x ≡ Closed → x ≢ Bad
+closed_is_good e h = let no : Closed ≡ Bad = sym e ∙ h in cc
+
 module _ {t : Translation} (v : Valid t) (r : LeavesOwnRoom t) where
+  -- a bad block has no live page, since nothing stands in it
+  bad_is_dead : (s : Spot) → t.disk.blocks s ≡ Bad → 0 < live_count t s → ⊥
+  bad_is_dead s bad live =
+      let none = ap (λ (ps : List Place). length ps) (none_passes (is_live t) s (below t.numbers.pages)
+      (λ page. ap (is_live_cell t.ledger (place_in s page)) (r.blank (place_in s page) bad))) in
+      omega (arith, live, none)
+
   -- Turns
 
   module _ (none : t.work.step ≡ None) where
     abbrev StepsTo : Option Step → Option Plan → Type 0
-    StepsTo step plan = LeavesRoom t.numbers (before_accepted t.ledger) t.ledger.standing t.disk.blocks t.disk.flights
-        (is_mended t.work.mending) step plan
+    StepsTo step plan = LeavesRoom t.numbers (before_accepted t.ledger) t.ledger.standing t.disk.cells t.disk.blocks
+        t.disk.flights (is_mended t.work.mending) step plan
 
     idle_room : HasHandedOut t → RoomOf t.numbers t.disk.blocks t.disk.flights None t.work.plan
     idle_room handed = subst (λ z. RoomOf t.numbers t.disk.blocks t.disk.flights z t.work.plan) none (r.room handed)
 
-    idle_gains : (pl : Plan) → t.work.plan ≡ Some pl → PlanGains t.numbers None pl
-    idle_gains pl is = subst (λ z. PlanGains t.numbers z pl) none (r.gains pl is)
+    idle_gains : (pl : Plan) → t.work.plan ≡ Some pl → PlanGains t.numbers t.disk.blocks None pl
+    idle_gains pl is = subst (λ z. PlanGains t.numbers t.disk.blocks z pl) none (r.gains pl is)
 
     -- a step that begins takes no more room than no step
     begun_pages : (step : Step) (o : Option Flight) → page_of_group (Some step) o ≤ page_of_group None o
@@ -69,7 +86,7 @@ module _ {t : Translation} (v : Valid t) (r : LeavesOwnRoom t) where
 
     mark_begins : (fence : Option Fence) → is_mended t.work.mending ≡ false → LeavesOwnRoom (mark_ordered t fence)
     mark_begins fence un = record {
-      good = r.good;
+      blank = r.blank;
       one_die = r.one_die;
       copied = λ name from there e. absurd (apart e);
       planned = λ mended s e. absurd (true≢false (sym mended ∙ un));
@@ -84,7 +101,7 @@ module _ {t : Translation} (v : Valid t) (r : LeavesOwnRoom t) where
     repair_begins : (k : Key) (left : List Key) → is_mended t.work.mending ≡ false →
         LeavesOwnRoom (repair_ordered t k left)
     repair_begins k left un = record {
-      good = r.good;
+      blank = r.blank;
       one_die = r.one_die;
       copied = λ name from there e. absurd (apart e);
       planned = λ mended s e. absurd (false≢true mended);
@@ -124,13 +141,13 @@ module _ {t : Translation} (v : Valid t) (r : LeavesOwnRoom t) where
       abbrev its : Plan
       its = record { victim = s; copies = copies }
 
-      next_gains : PlanGains t.numbers None its
+      next_gains : PlanGains t.numbers t.disk.blocks None its
       next_gains = ⊎_elim (λ e. idle_gains its e)
           (λ k.
           let c = (victim_is t s k.1).can in
           let so_many = ap (λ (xs : List Place). length xs) k.2 in
-          let few = ⊎_elim (λ g. g.1) (λ g. absurd (r.good s g.0)) c.gain in
-          record { inside = c.inside; less = fits _ _ _ so_many few }) is
+          let gain = ⊎_elim (λ g. g) (λ g. absurd (bad_is_dead s g.0 g.1)) c.gain in
+          record { inside = c.inside; good = closed_is_good gain.0; less = fits _ _ _ so_many gain.1 }) is
         where
           fits : (a b c : ℕ) → a ≡ b → b < c → a + 0 + 1 ≤ c
           fits a b c e l = omega (arith, e, l)
@@ -147,13 +164,14 @@ module _ {t : Translation} (v : Valid t) (r : LeavesOwnRoom t) where
           pages_of_plan (Some (record { victim = s; copies = left })) (Some step) ≤ pages_of_plan (Some its) None →
           StepsTo (Some step) (Some (record { victim = s; copies = left }))
       plan_goes_on step left stands fewer = record {
-        good = r.good;
+        blank = r.blank;
         one_die = r.one_die;
         copied = λ name from there e. stands name from there (same_Some step _ e);
         planned = λ m x e. (record { victim = s; copies = left }, refl);
-        gains = λ pl e. subst (λ z. PlanGains t.numbers (Some step) z) (same_Some _ pl e)
+        gains = λ pl e. subst (λ z. PlanGains t.numbers t.disk.blocks (Some step) z) (same_Some _ pl e)
             (record {
               inside = next_gains.inside;
+              good = next_gains.good;
               less = no_less (pages_of_plan (Some (record { victim = s; copies = left })) (Some step))
                   (pages_of_plan (Some its) None) t.numbers.pages fewer next_gains.less;
             });

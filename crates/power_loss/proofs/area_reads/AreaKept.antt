@@ -41,19 +41,20 @@ request_same : (p q : Plain) (request : Option RpmbRequest) (pages : List ReadBl
 request_same p q None pages same h = h
 request_same p q (Some request) pages same h = frames_same p q request.region request.frames pages same h
 
-deed_same : (p q : Plain) (command : Option Cdb) (request : Option RpmbRequest) (deed : Deed) → p.regions ≡ q.regions →
-    DeedShows p command request deed → DeedShows q command request deed
-deed_same p q command request (ReadingArea pages) same h = (h.0, request_same p q request pages same h.1)
-deed_same p q command request (Gathering purpose gathered asked) same h = h
-deed_same p q command request (Sending blocks sent) same h = h
-deed_same p q command request (SendingBytes bytes) same h = h
-deed_same p q command request (Awaiting commands) same h = h
-deed_same p q command request (Answering status carried) same h = h
+deed_same : (p q : Plain) (command : Option Cdb) (total : ℕ) (request : Option RpmbRequest) (deed : Deed) →
+    p.regions ≡ q.regions →
+    DeedShows p command total request deed → DeedShows q command total request deed
+deed_same p q command total request (ReadingArea pages) same h = (h.0, request_same p q request pages same h.1)
+deed_same p q command total request (Gathering purpose gathered asked) same h = h
+deed_same p q command total request (Sending blocks sent) same h = h
+deed_same p q command total request (SendingBytes bytes) same h = h
+deed_same p q command total request (Awaiting commands) same h = h
+deed_same p q command total request (Answering status carried) same h = h
 
 pub each_same : (p q : Plain) (tasks : List Task) → p.regions ≡ q.regions → AllByRecursion (ShowsArea p) tasks →
     AllByRecursion (ShowsArea q) tasks
 each_same p q tasks same = each_weaker (ShowsArea p) (ShowsArea q)
-    (λ task h. deed_same p q task.command task.request task.deed same h) tasks
+    (λ task h. deed_same p q task.command task.length task.request task.deed same h) tasks
 
 -- ## Commands that name no region
 
@@ -98,14 +99,14 @@ accepted_none s task (ForUnmap unit) bytes c claimed deed is = subst NamesNone (
 accepted_none s task (ForFrames region) bytes c claimed deed is = absurd is
 
 -- which then is answered, or waits
-pub accepted_shows : (p : Plain) (command : Option Cdb) (request : Option RpmbRequest) (purpose : Purpose) (task : Task)
-    (deed : Deed) → IsAcceptedDeed purpose task deed → DeedShows p command request deed
-accepted_shows p command request purpose task (Answering status carried) is = tt
-accepted_shows p command request purpose task (Awaiting commands) is = tt
-accepted_shows p command request purpose task (Gathering other gathered asked) is = absurd is
-accepted_shows p command request purpose task (Sending blocks sent) is = absurd is
-accepted_shows p command request purpose task (SendingBytes bytes) is = absurd is
-accepted_shows p command request purpose task (ReadingArea pages) is = absurd is
+pub accepted_shows : (p : Plain) (command : Option Cdb) (total : ℕ) (request : Option RpmbRequest) (purpose : Purpose)
+    (task : Task) (deed : Deed) → IsAcceptedDeed purpose task deed → DeedShows p command total request deed
+accepted_shows p command total request purpose task (Answering status carried) is = tt
+accepted_shows p command total request purpose task (Awaiting commands) is = tt
+accepted_shows p command total request purpose task (Gathering other gathered asked) is = absurd is
+accepted_shows p command total request purpose task (Sending blocks sent) is = absurd is
+accepted_shows p command total request purpose task (SendingBytes bytes) is = absurd is
+accepted_shows p command total request purpose task (ReadingArea pages) is = absurd is
 
 -- ## Pages that are read
 
@@ -136,7 +137,7 @@ request_read p (Some request) pages index state h = frames_read request.frames h
 
 -- ## Tasks that go on
 
-shows_law : (p : Plain) (task : Task) → IsDeedLaw (DeedShows p task.command task.request) task
+shows_law : (p : Plain) (task : Task) → IsDeedLaw (DeedShows p task.command task.length task.request) task
 shows_law p task = record {
   asked = λ purpose gathered was d. d;
   next = λ blocks sent more d. tt;
@@ -147,28 +148,30 @@ shows_law p task = record {
 }
 
 pub goes_on : (p : Plain) (task : Task) (deed : Deed) → deed_after task task.deed ≡ Some deed → ShowsArea p task →
-    DeedShows p task.command task.request deed
-goes_on p task deed e h = goes (DeedShows p task.command task.request) task (shows_law p task) task.deed deed h e
+    DeedShows p task.command task.length task.request deed
+goes_on p task deed e h =
+    goes (DeedShows p task.command task.length task.request) task (shows_law p task) task.deed deed h e
 
 pub locked_shows : (p : Plain) (s : State) (task : Task) → ShowsArea p task → ShowsArea p (task_locked s task)
-locked_shows p s task h = locks (DeedShows p task.command task.request) task (shows_law p task) s task.deed h
+locked_shows p s task h =
+    locks (DeedShows p task.command task.length task.request) task (shows_law p task) s task.deed h
 
 pub read_shows : (p : Plain) (tag index : ℕ) (state : ReadState) (task : Task) → ShowsArea p task →
     ShowsArea p (task_read tag index state task)
 read_shows p tag index state task h = read_keeps (ShowsArea p) tag index state task
-    (reads (DeedShows p task.command task.request) task (shows_law p task) index state task.deed h) h
+    (reads (DeedShows p task.command task.length task.request) task (shows_law p task) index state task.deed h) h
 
 -- a register that is filled leaves the frames of its request
-filled_deed : (p : Plain) (command : Option Cdb) (request : Option RpmbRequest) (deed : Deed) →
-    DeedShows p command request deed → DeedShows p command (filled request) deed
-filled_deed p command None deed h = h
-filled_deed p command (Some request) (ReadingArea pages) h = h
-filled_deed p command (Some request) (Gathering purpose gathered asked) h = h
-filled_deed p command (Some request) (Sending blocks sent) h = h
-filled_deed p command (Some request) (SendingBytes bytes) h = h
-filled_deed p command (Some request) (Awaiting commands) h = h
-filled_deed p command (Some request) (Answering status carried) h = h
+filled_deed : (p : Plain) (command : Option Cdb) (total : ℕ) (request : Option RpmbRequest) (deed : Deed) →
+    DeedShows p command total request deed → DeedShows p command total (filled request) deed
+filled_deed p command total None deed h = h
+filled_deed p command total (Some request) (ReadingArea pages) h = h
+filled_deed p command total (Some request) (Gathering purpose gathered asked) h = h
+filled_deed p command total (Some request) (Sending blocks sent) h = h
+filled_deed p command total (Some request) (SendingBytes bytes) h = h
+filled_deed p command total (Some request) (Awaiting commands) h = h
+filled_deed p command total (Some request) (Answering status carried) h = h
 
 pub filled_shows : (p : Plain) (s : State) (task : Task) → ShowsArea p task → ShowsArea p (task_filled s task)
 filled_shows p s task h =
-    filled_keeps (ShowsArea p) s task (filled_deed p task.command task.request task.deed h) h
+    filled_keeps (ShowsArea p) s task (filled_deed p task.command task.length task.request task.deed h) h

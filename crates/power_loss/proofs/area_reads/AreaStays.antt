@@ -61,7 +61,7 @@ opened p tasks x alone shows h =
 
 -- one does something else
 sets : (p : Plain) (tasks : List Task) (task : Task) (deed : Deed) → TasksDiffer tasks →
-    task_of task.tag tasks ≡ Some task → DeedShows p task.command task.request deed → AreaReadsOf p tasks →
+    task_of task.tag tasks ≡ Some task → DeedShows p task.command task.length task.request deed → AreaReadsOf p tasks →
     AreaReadsOf p (map (with_deed task.tag deed) tasks)
 sets p tasks task deed differ found shows h = record {
   one = one_mapped (with_deed task.tag deed) (λ t. if_both (λ (x : Task). x.command ≡ t.command)
@@ -77,7 +77,8 @@ one_asks task request deed tasks h =
     (is_task_of task.tag t) refl refl) tasks h
 
 asks : (p : Plain) (tasks : List Task) (task : Task) (request : RpmbRequest) (deed : Deed) → TasksDiffer tasks →
-    task_of task.tag tasks ≡ Some task → DeedShows p task.command (Some request) deed → AreaReadsOf p tasks →
+    task_of task.tag tasks ≡ Some task → DeedShows p task.command task.length (Some request) deed →
+    AreaReadsOf p tasks →
     AreaReadsOf p (map (with_request task.tag request deed) tasks)
 asks p tasks task request deed differ found shows h = record {
   one = one_asks task request deed tasks h.one;
@@ -107,18 +108,21 @@ alone s r c e none brings =
     sym (ap (λ b. b && list_any brings_frames s.tasks) brings)
     ∙ (or_parts (is_security_out c && list_any brings_frames s.tasks) _ (passed s r c e none).room).0
 
-sending_shows : (p : Plain) (c : Cdb) (blocks : List ReadBlock) (n : ℕ) → DeedShows p (Some c) None (sending blocks n)
-sending_shows p c [] n = tt
-sending_shows p c (b ∷ bs) n = tt
+sending_shows : (p : Plain) (c : Cdb) (total : ℕ) (blocks : List ReadBlock) (n : ℕ) →
+    DeedShows p (Some c) total None (sending blocks n)
+sending_shows p c total [] n = tt
+sending_shows p c total (b ∷ bs) n = tt
 
-bytes_show : (p : Plain) (c : Cdb) (r : Request) (bytes : List ℕ) → DeedShows p (Some c) None (sending_bytes r bytes)
-bytes_show p c r bytes = if_both (DeedShows p (Some c) None) (carried r.expected (length bytes) == 0) tt tt
+bytes_show : (p : Plain) (c : Cdb) (total : ℕ) (r : Request) (bytes : List ℕ) →
+    DeedShows p (Some c) total None (sending_bytes r bytes)
+bytes_show p c total r bytes = if_both (DeedShows p (Some c) total None) (carried r.expected (length bytes) == 0) tt tt
 
 gathers_rightly : (n : Numbers) (unit : ℕ) (c : Cdb) (count : ℕ) (purpose : Purpose) (total : ℕ) →
-    IsGathered n unit c count purpose total → GathersRightly purpose (Some c)
-gathers_rightly n unit c count (ForFrames region) total is = ap is_security_out is
-gathers_rightly n unit c count (ForWrite u address blocks forced) total is = tt
-gathers_rightly n unit c count (ForUnmap u) total is = tt
+    IsGathered n unit c count purpose total → GathersRightly purpose total (Some c)
+gathers_rightly n unit c count (ForWrite u address blocks forced) total w =
+    (c, refl, sym w.address_is, w.all ∙ sym w.blocks_are, w.writes)
+gathers_rightly n unit c count (ForUnmap u) total is = ap (λ (x : Cdb). Some x) is.1
+gathers_rightly n unit c count (ForFrames region) total is = ap (λ (x : Cdb). Some x) is
 
 begun_reads : (s : State) (r : Request) (unit : ℕ) (c : Cdb) →
     (is_security_out c ≡ true → list_any brings_frames s.tasks ≡ false) → AreaReads s → AreaReads (begun s r unit c)
@@ -130,19 +134,19 @@ begun_reads s r unit c free h = begins_by AreaReads s r unit c one
     one : (b : Beginning) → WhyBegun s r unit c b → AreaReads (begun_as s r c b)
     one Answered why = opened p s.tasks _ free tt h
     one Waiting why = opened p s.tasks _ free tt h
-    one (Telling bytes) why = opened p s.tasks _ free (bytes_show p c r bytes) h
+    one (Telling bytes) why = opened p s.tasks _ free (bytes_show p c _ r bytes) h
     one (Handing region n) why =
-        opened p s.tasks _ (λ e. absurd (false≢true e)) (bytes_show p (cdb.SecurityIn region n) r _) h
-    one (Reading u address n) why = opened p s.tasks _ free (sending_shows p c _ n) h
+        opened p s.tasks _ (λ e. absurd (false≢true e)) (bytes_show p (cdb.SecurityIn region n) _ r _) h
+    one (Reading u address n) why = opened p s.tasks _ free (sending_shows p c _ _ n) h
     one (Gathered count purpose n) why =
         opened p s.tasks _ free (gathers_rightly (numbers_of s) unit c count purpose n why.4) h
 
 -- ## All data
 
 -- what gathers frames brings them
-brings : {purpose : Purpose} {region : ℕ} (command : Option Cdb) → purpose ≡ ForFrames region →
-    GathersRightly purpose command → sends_frames command ≡ true
-brings command is h = subst (λ (x : Purpose). GathersRightly x command) is h
+brings : {purpose : Purpose} {region : ℕ} (total : ℕ) (command : Option Cdb) → purpose ≡ ForFrames region →
+    GathersRightly purpose total command → sends_frames command ≡ true
+brings total command is h = ap sends_frames (subst (λ (x : Purpose). GathersRightly x total command) is h)
 
 -- what is kept of the pages has their content of this moment
 read_now : (s : State) (region : ℕ) (f : Frame) →
@@ -153,14 +157,14 @@ read_now s region f =
     (below (pages_named f))
 
 -- what brings no frames reads nothing of the area
-other_shows : (p q : Plain) (command : Option Cdb) (request : Option RpmbRequest) (deed : Deed) →
-    (sends_frames command ≡ true → ⊥) → DeedShows p command request deed → DeedShows q command request deed
-other_shows p q command request (ReadingArea pages) none h = absurd (none h.0)
-other_shows p q command request (Gathering purpose gathered asked) none h = h
-other_shows p q command request (Sending blocks sent) none h = h
-other_shows p q command request (SendingBytes bytes) none h = h
-other_shows p q command request (Awaiting commands) none h = h
-other_shows p q command request (Answering status carried) none h = h
+other_shows : (p q : Plain) (command : Option Cdb) (total : ℕ) (request : Option RpmbRequest) (deed : Deed) →
+    (sends_frames command ≡ true → ⊥) → DeedShows p command total request deed → DeedShows q command total request deed
+other_shows p q command total request (ReadingArea pages) none h = absurd (none h.0)
+other_shows p q command total request (Gathering purpose gathered asked) none h = h
+other_shows p q command total request (Sending blocks sent) none h = h
+other_shows p q command total request (SendingBytes bytes) none h = h
+other_shows p q command total request (Awaiting commands) none h = h
+other_shows p q command total request (Answering status carried) none h = h
 
 -- the one task that brings frames waits for its command, and no other reads the area, whatever it is then
 others_show : (p q : Plain) (tag : ℕ) (request : RpmbRequest) (commands : ℕ) (tasks : List Task) →
@@ -174,7 +178,7 @@ others_show p q tag request commands (t ∷ ts) only h =
         ShowsArea q (if b then record t { deed = Awaiting commands; request = Some request } else t)
     by true e = tt
     by false e =
-        other_shows p q t.command t.request t.deed (λ is. absurd (false≢true (sym e ∙ only.0 is))) h.0
+        other_shows p q t.command t.length t.request t.deed (λ is. absurd (false≢true (sym e ∙ only.0 is))) h.0
 
 accepts_frames : (s : State) (task : Task) (request : RpmbRequest) (c : Command) (claimed commands : ℕ) →
     task_of task.tag s.tasks ≡ Some task → sends_frames task.command ≡ true → AreaReads s →
@@ -186,14 +190,15 @@ accepts_frames s task request c claimed commands found is h = record {
 }
 
 completed_reads : (s : State) (task : Task) (purpose : Purpose) (all : List ℕ) (k : Completion) → TasksDiffer s.tasks →
-    task_of task.tag s.tasks ≡ Some task → GathersRightly purpose task.command → WhyCompleted s task purpose all k →
+    task_of task.tag s.tasks ≡ Some task → GathersRightly purpose task.length task.command →
+    WhyCompleted s task purpose all k →
     AreaReads s → AreaReads (completed s task k)
 completed_reads s task purpose all (Told status released) differ found gathers why h =
     sets (plain_now s) s.tasks task (Answering status task.length) differ found tt h
 completed_reads s task purpose all (Accepted c claimed deed) differ found gathers (free, is) h =
     let p = plain_now (accepts s c claimed) in
     sets p s.tasks task deed differ found
-    (accepted_shows p task.command task.request purpose task deed
+    (accepted_shows p task.command task.length task.request purpose task deed
     (accepted_deed s task purpose all c claimed deed is))
     (accepted s c claimed (accepted_none s task purpose all c claimed deed is) h)
 completed_reads s task purpose all (HasResult region frames result) differ found gathers why h =
@@ -201,10 +206,10 @@ completed_reads s task purpose all (HasResult region frames result) differ found
 completed_reads s task purpose all (ReadsArea region f fs result) differ found gathers (d, reads) h =
     asks (plain_now s) s.tasks task
     (record { region = region; frames = f ∷ fs; result = result; filled = false }) (ReadingArea (area_read s region f))
-    differ found (brings task.command d.purpose_is gathers, read_now s region f) h
+    differ found (brings task.length task.command d.purpose_is gathers, read_now s region f) h
 completed_reads s task purpose all (AcceptsFrames region frames result c) differ found gathers d h =
     accepts_frames s task _ c (claim_of_task s task) (length s.accepted + 1) found
-    (brings task.command d.purpose_is gathers) h
+    (brings task.length task.command d.purpose_is gathers) h
 
 -- ## What happens in a call
 
@@ -218,9 +223,9 @@ blocks_read s tag index state h =
 
 -- a task that gets data gathers for its purpose
 gathers_for : {s : State} {call : Call} {answer : Answer} (task : Task) (purpose : Purpose) →
-    GetsData s call answer task purpose → AreaReads s → GathersRightly purpose task.command
+    GetsData s call answer task purpose → AreaReads s → GathersRightly purpose task.length task.command
 gathers_for {s} task purpose d h =
-    subst (DeedShows (plain_now s) task.command task.request) d.deed
+    subst (DeedShows (plain_now s) task.command task.length task.request) d.deed
     (found_shows (plain_now s) s.tasks task d.found h)
 
 happens_reads : (s : State) (call : Call) (answer : Answer) (happening : Happening) → TasksDiffer s.tasks →

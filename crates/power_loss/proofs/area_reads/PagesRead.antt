@@ -47,7 +47,7 @@ task_pages p task pages request f fs h deed asked frames =
     are_pages p request.region f pages
     (subst (λ (gs : List Frame). FramesShow p request.region gs pages) frames
     (subst (λ (o : Option RpmbRequest). RequestShows p o pages) asked
-    (subst (DeedShows p task.command task.request) deed h).1))
+    (subst (DeedShows p task.command task.length task.request) deed h).1))
 
 -- of such a task of a state, found by its index
 pub pages_read : (s : State) (k : ℕ) (task : Task) (pages : List ReadBlock) (request : RpmbRequest) (f : Frame)

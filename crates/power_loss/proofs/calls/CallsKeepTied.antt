@@ -72,7 +72,7 @@ pub operation_is : (c : Option Cdb) (command : Cdb) (taken : List ℕ) → IsCdb
     slice_index taken 0 ≡ operation_of command
 operation_is c command taken h e =
     let spells : SpellsCdb command taken = subst (IsCdbIn (Some taken)) e h in
-    ap (λ (bytes : List ℕ). slice_index bytes 0) spells.2 ∙ first_byte command
+    ap (λ (bytes : List ℕ). slice_index bytes 0) spells.1 ∙ first_byte command
 
 heard_right : {s : State} (m : Message) (c : Option Cdb) (bytes : List ℕ) → IsTied s → Spells m bytes →
     IsCdbIn (cdb_of m) c → message_fault s m ≡ None → Right s (heard s m c)

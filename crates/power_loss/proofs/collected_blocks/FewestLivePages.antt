@@ -13,7 +13,6 @@ use Rattle.power_loss.proofs.Common.{spots, stepped, turned, victim, victim_orde
 use Rattle.power_loss.proofs.MachineWords.{IsBefore}
 use Rattle.std.proofs.Common.{max, nat_lt}
 use Rattle.ufs_spec.specs.Pages.{greatest_number}
-use Rattle.ufs_spec.specs.Stages.{most_bad}
 use Rattle.ufs_spec.specs.Translation.{count_blocks, gains, has_stale, is_bad, is_bad_with_live, is_stale, is_vacant}
 use Rattle.ufs_spec.specs.Translation.{least_of, live_count}
 use Rattle.ufs_spec.specs.Translation.{may_be_victim, own_room, wanted_room}
@@ -335,16 +334,16 @@ begins t d =
 -- The lock
 
 pub locks : (t : Translation) →
-    (most_bad t.numbers < count_blocks t is_bad) ⊎ (greatest_number < next_number t.ledger) →
+    (t.numbers.spare < count_blocks t is_bad) ⊎ (greatest_number < next_number t.ledger) →
     is_locked t ≡ true
 locks t h = ⊎_elim
-    (λ k. or_left (nat_lt (most_bad t.numbers) (count_blocks t is_bad)) (nat_lt greatest_number (next_number t.ledger))
-    (lt-ltb (most_bad t.numbers) (count_blocks t is_bad) k))
-    (λ k. or_right (nat_lt (most_bad t.numbers) (count_blocks t is_bad)) (nat_lt greatest_number (next_number t.ledger))
+    (λ k. or_left (nat_lt (t.numbers.spare) (count_blocks t is_bad)) (nat_lt greatest_number (next_number t.ledger))
+    (lt-ltb (t.numbers.spare) (count_blocks t is_bad) k))
+    (λ k. or_right (nat_lt (t.numbers.spare) (count_blocks t is_bad)) (nat_lt greatest_number (next_number t.ledger))
     (lt-ltb greatest_number (next_number t.ledger) k)) h
 
-pub locks_only : (t : Translation) → is_locked t ≡ true → (most_bad t.numbers < count_blocks t is_bad)
+pub locks_only : (t : Translation) → is_locked t ≡ true → (t.numbers.spare < count_blocks t is_bad)
     ⊎ (greatest_number < next_number t.ledger)
-locks_only t h = ⊎_elim (λ k. inl (ltb-true (most_bad t.numbers) (count_blocks t is_bad) k))
+locks_only t h = ⊎_elim (λ k. inl (ltb-true (t.numbers.spare) (count_blocks t is_bad) k))
     (λ k. inr (ltb-true greatest_number (next_number t.ledger) k))
-    (or_cases (nat_lt (most_bad t.numbers) (count_blocks t is_bad)) (nat_lt greatest_number (next_number t.ledger)) h)
+    (or_cases (nat_lt (t.numbers.spare) (count_blocks t is_bad)) (nat_lt greatest_number (next_number t.ledger)) h)

@@ -14,7 +14,7 @@ use Rattle.ufs_spec.proofs.RegionPages.{area_there, pages_held}
 use Rattle.ufs_laws.proofs.plain_contents.CommandsKeepPlain.{region_right}
 use Rattle.ufs_spec.specs.Moves.{IsItem}
 use Rattle.ufs_spec.specs.Plain.{LiesWithin}
-use Rattle.ufs_spec.specs.Stages.{regions}
+use Rattle.ufs_spec.specs.Plain.{regions}
 use Rattle.ufs_spec.proofs.Lists.{get_below}
 use Rattle.ufs_laws.proofs.plain_contents.CommandsKeepPlain.{kept_plain}
 use Rattle.ufs_laws.proofs.plain_contents.ListParts.{length-below}

@@ -17,7 +17,7 @@ use Rattle.ufs_spec.specs.FrameRequests.{area_read, first_page, keeps_area, page
 use Rattle.ufs_spec.specs.Frames.{Frame}
 use Rattle.ufs_spec.specs.Keys.{area_key}
 use Rattle.ufs_spec.specs.Machine.{gathered_more}
-use Rattle.ufs_spec.specs.Stages.{regions}
+use Rattle.ufs_spec.specs.Plain.{regions}
 use Rattle.ufs_laws.proofs.walk.Happenings.{is_asked as no_offence}
 use Rattle.ufs_laws.proofs.walk.SmallChanges.{Both, One, SetsRegisters, Still}
 use Rattle.ufs_laws.proofs.walk.WaysOfData.{Accepted, AcceptsFrames, Completion, HasResult, IsAccepted}
@@ -158,7 +158,7 @@ more_fits : (s : State) (task : Task) (purpose : Purpose) (gathered : List ℕ) 
 more_fits s task (ForWrite unit address blocks forced) gathered asked all h l is = write_more (λ k. k) l is
     (claim_same (numbers_of s) (ForWrite unit address blocks forced) (ForWrite unit address blocks forced)
     all gathered false asked task.command) h
-more_fits s task (ForUnmap unit) gathered asked all h l is = unmap_more (λ k. k) l
+more_fits s task (ForUnmap unit) gathered asked all h l is = unmap_more (λ k. k) l is
     (claim_same (numbers_of s) (ForUnmap unit) (ForUnmap unit) all gathered false asked task.command) h
 more_fits s task (ForFrames region) gathered asked all h l is = frames_more (λ k. k) l is
     (claim_same (numbers_of s) (ForFrames region) (ForFrames region) all gathered false asked task.command) h

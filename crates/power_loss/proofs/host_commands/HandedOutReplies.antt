@@ -89,7 +89,7 @@ asked_fits s task (ForWrite unit address blocks forced) gathered asked h =
     write_more (λ k. k) h.short (λ k. k) (claim_same (numbers_of s) p p gathered gathered true asked task.command) h
 asked_fits s task (ForUnmap unit) gathered asked h =
     let p : Purpose = ForUnmap unit in
-    unmap_more (λ k. k) h.short (claim_same (numbers_of s) p p gathered gathered true asked task.command) h
+    unmap_more (λ k. k) h.short (λ k. k) (claim_same (numbers_of s) p p gathered gathered true asked task.command) h
 asked_fits s task (ForFrames region) gathered asked h =
     let p : Purpose = ForFrames region in
     frames_more (λ k. k) h.short (λ k. k) (claim_same (numbers_of s) p p gathered gathered true asked task.command) h

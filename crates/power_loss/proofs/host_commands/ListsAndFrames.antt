@@ -25,7 +25,7 @@ use Rattle.ufs_spec.proofs.RegionPages.{pages_held}
 use Rattle.ufs_laws.proofs.plain_contents.CommandsKeepPlain.{its_region}
 use Rattle.ufs_spec.specs.Rpmb.{Results, read_data, region_of, rpmb_outcome}
 use Rattle.ufs_spec.specs.RpmbResponses.{is_success}
-use Rattle.ufs_spec.specs.Stages.{regions}
+use Rattle.ufs_spec.specs.Plain.{regions}
 use Rattle.ufs_spec.proofs.Facts.{eq-eqb, eqb-false}
 use Rattle.power_loss.specs.Exchange.{FramesFit}
 use Rattle.ufs_laws.proofs.plain_contents.ListParts.{length-below}
@@ -94,10 +94,12 @@ unmap_coming {s} {task} {unit} {gathered} {asked} list v g all right free = reco
     few = ltb-false (command_blocks (numbers_of s)) (field_at 4 16 list) (or_parts _ _ right.descriptor).0
 
     -- a list with a descriptor has claimed slots for all that it may have
-    claimed : (task.length ≡ 8)
+    claimed : ((task.length ≡ 8)
+        × (claimed_by (numbers_of s) (Gathering (ForUnmap unit) gathered asked) task.command ≡ 0))
         ⊎ ((task.length ≡ 24) × (claimed_by (numbers_of s) (Gathering (ForUnmap unit) gathered asked) task.command
         ≡ command_blocks (numbers_of s))) → claim_of (numbers_of s) task ≡ greatest_command
-    claimed (inl short) = absurd (false≢true (sym right.size ∙ eq-eqb (length list) 8 (all.long g.fits.short ∙ short)))
+    claimed (inl short) =
+        absurd (false≢true (sym right.size ∙ eq-eqb (length list) 8 (all.long g.fits.short ∙ short.0)))
     claimed (inr whole) = g.claim ∙ whole.1
 
 -- Frames

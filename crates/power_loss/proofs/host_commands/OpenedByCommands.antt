@@ -3,8 +3,7 @@ use Rattle.power_loss.proofs.Common.{◌≡◌, ℕ, ◌+◌, ◌==◌, ◌&&◌
 use Rattle.power_loss.proofs.Common.{length, map, get_or, min, refl, sym, ap, ◌∙◌, subst, inl, inr, arith, ⊎_elim, ◌<◌}
 use Rattle.power_loss.proofs.Common.{nat_le, nat_lt, list_any, length-map, ltb-false, none-some, or_parts, below}
 use Rattle.power_loss.proofs.Common.{data_key, Claim, free_slots, is_mended, Numbers, flat_map, not, ◌||◌, ◌⊎◌}
-use Rattle.power_loss.proofs.Common.{and_parts, cond-true, eqb-true, false≢true, leb-true, not-false, or_cases}
-use Rattle.ufs_spec.proofs.Facts.{eq-eqb}
+use Rattle.power_loss.proofs.Common.{and_parts, eqb-true, false≢true, leb-true, not-false, or_cases}
 use Rattle.power_loss.proofs.MachineWords.{address_of, blocks_of, operation_of, Answering, Awaiting, Deed, ForWrite}
 use Rattle.power_loss.proofs.MachineWords.{Gathering, Good, ReadBlock, Sending, Short, Status, Task, TaskSetFull}
 use Rattle.power_loss.proofs.MachineWords.{SendingBytes, is_short_of, is_task_of, response, short_reply, ForFrames}
@@ -17,7 +16,7 @@ use Rattle.std.specs.Prelude.{if◌then◌else◌, ◌%◌, ◌/◌}
 use Rattle.ufs_spec.specs.Begins.{frames_begun}
 use Rattle.ufs_spec.specs.Cdbs.{IsCdb}
 use Rattle.ufs_spec.specs.Messages.{is_among}
-use Rattle.ufs_spec.specs.Stages.{regions}
+use Rattle.ufs_spec.specs.Plain.{regions}
 use Rattle.ufs_spec.specs.declared.scsi.Cdb.TheVariants as cdb
 use Rattle.power_loss.specs.Exchange.{FramesFit, UnmapFits}
 use Rattle.ufs_spec.specs.Exchanges.{most_short_exchanges}
@@ -189,9 +188,9 @@ list_told n h some = by (or_cases (n == 0) _ (not-false _ h))
     by (inr more) = ⊎_elim (λ k. inl (eqb-true n 8 k)) (λ k. inr (last k)) (or_cases (n == 8) _ more)
 
 unmap_claims : (m : Numbers) (n : ℕ) → (n ≡ 8) ⊎ (n ≡ 24) →
-    (n ≡ 8) ⊎ ((n ≡ 24) × (slots_needed m (cdb.Unmap n) ≡ command_blocks m))
-unmap_claims m n (inl e) = inl e
-unmap_claims m n (inr e) = inr (e, cond-true (n == 24) (command_blocks m) 0 (eq-eqb n 24 e))
+    ((n ≡ 8) × (slots_needed m (cdb.Unmap n) ≡ 0)) ⊎ ((n ≡ 24) × (slots_needed m (cdb.Unmap n) ≡ command_blocks m))
+unmap_claims m n (inl e) = inl (e, ap (λ (x : ℕ). slots_needed m (cdb.Unmap x)) e)
+unmap_claims m n (inr e) = inr (e, ap (λ (x : ℕ). slots_needed m (cdb.Unmap x)) e)
 
 unmap_fits : {s : State} {r : Request} {unit n : ℕ} → Passed s r (cdb.Unmap n) → TakenByUnits (operation_in r) →
     unit ≡ unit_or_first (unit_of_request s r) → 0 < n →
@@ -205,6 +204,7 @@ unmap_fits {s} {r} {unit} {n} p taken unit_is some =
       unit_in = omega (arith, same, there);
       list = unmap_claims (numbers_of s) n (list_told n p.listed some);
       short = some;
+      bytes = bytes-nil;
       is_mended = ready_now s (cdb.Unmap n) refl p.ready;
     }
 

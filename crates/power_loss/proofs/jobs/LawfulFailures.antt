@@ -89,7 +89,7 @@ failure_leads {s} die {l} ending left flies fit h = record {
 }
 
 -- what a failure of the job leaves by the leftover
-abbrev Failure : State → ℕ → Flight → Leftover → Type 0
+abbrev pub Failure : State → ℕ → Flight → Leftover → Type 0
 Failure s die flight l = (c : Cells) × (left : Array) × IsFailure s die (Some flight) (Some l) (WentWrong c) left
 
 pub program_failure : {s : State} (die : ℕ) (p : Place) (cell : Cell) (l : Leftover) → ValidState s →
@@ -106,7 +106,7 @@ program_failure {s} die p cell l v e fit lawful = (
   ),
 )
 
-erase_failure : {s : State} (die : ℕ) (spot : Spot) (l : Leftover) → ValidState s →
+pub erase_failure : {s : State} (die : ℕ) (spot : Spot) (l : Leftover) → ValidState s →
     s.translation.disk.flights die ≡ Some (Erasing spot) → IsLeftoverOf (numbers_of s) (Some (Erasing spot)) l →
     IsLawfulLeftover s l → Failure s die (Erasing spot) l
 erase_failure {s} die spot l v e fit lawful = (

@@ -32,12 +32,13 @@ write_more up short bytes same h = assumption (bytes h.bytes, same ∙ h.claimed
 
 -- the same of an UNMAP, and of frames
 pub unmap_more : {n : Numbers} {m w : Bool} {unit total : ℕ} {some all : List ℕ} {claimed more : ℕ} →
-    (m ≡ true → w ≡ true) → length all < total → more ≡ claimed →
+    (m ≡ true → w ≡ true) → length all < total → (AreBytes some → AreBytes all) → more ≡ claimed →
     UnmapFits n m unit total some claimed → UnmapFits n w unit total all more
-unmap_more {n} {total = total} up short same h = record {
+unmap_more {n} {total = total} up short bytes same h = record {
   unit_in = h.unit_in;
-  list = subst (λ (c : ℕ). (total ≡ 8) ⊎ ((total ≡ 24) × (c ≡ command_blocks n))) (sym same) h.list;
+  list = subst (λ (c : ℕ). ((total ≡ 8) × (c ≡ 0)) ⊎ ((total ≡ 24) × (c ≡ command_blocks n))) (sym same) h.list;
   short = short;
+  bytes = bytes h.bytes;
   is_mended = up h.is_mended;
 }
 
@@ -60,7 +61,8 @@ deed_more : (n : Numbers) (a b : ℕ) {m w : Bool} (claimed total : ℕ) (deed :
     DeedFits n a m claimed total deed → DeedFits n b w claimed total deed
 deed_more n a b {m} {w} claimed total (Gathering (ForWrite unit address blocks forced) gathered asked) l up h =
     write_more up h.short (λ k. k) refl h
-deed_more n a b claimed total (Gathering (ForUnmap unit) gathered asked) l up h = unmap_more up h.short refl h
+deed_more n a b claimed total (Gathering (ForUnmap unit) gathered asked) l up h =
+    unmap_more up h.short (λ k. k) refl h
 deed_more n a b claimed total (Gathering (ForFrames region) gathered asked) l up h =
     frames_more up h.short (λ k. k) refl h
 deed_more n a b claimed total (Awaiting commands) l up h = (omega (arith, h.0), up h.1)

@@ -26,7 +26,7 @@ use Rattle.ufs_spec.specs.Keys.{area_key}
 use Rattle.ufs_spec.specs.Machine.{gathered_more}
 use Rattle.ufs_spec.specs.Queries.{Query, setting_of}
 use Rattle.ufs_spec.specs.QueryAnswers.{query_failed, query_heard, query_passed}
-use Rattle.ufs_spec.specs.Stages.{regions}
+use Rattle.ufs_spec.specs.Plain.{regions}
 use Rattle.ufs_spec.proofs.Facts.{if_cases}
 use Rattle.ufs_laws.proofs.walk.Happenings.{code_of_query, is_asked as no_offence}
 use Rattle.ufs_laws.proofs.walk.WaysOfData.{Accepted, AcceptsFrames, Completion, HasResult, ReadsArea, Told}

@@ -31,9 +31,8 @@ use Rattle.ufs_laws.proofs.exchanges.AbortedTasks.{every_at}
 use Rattle.ufs_laws.specs.Replies.{ShortSpeaks, ShortsSpeak}
 use Rattle.ufs_spec.specs.Machine.{aborts}
 use Rattle.ufs_spec.specs.Machine.{is_named}
-use Rattle.ufs_spec.specs.Machine.{service_found, service_of}
+use Rattle.ufs_spec.specs.Machine.{service_found}
 use Rattle.ufs_spec.specs.Messages.{IsByte, IsMessage, spelling}
-use Rattle.ufs_spec.specs.Stages.{manages_tasks}
 use Rattle.ufs_spec.specs.declared.messages.Message.TheVariants as message
 use Rattle.power_loss.proofs.open_tasks.OpenExchanges.{data_leaves, opened_adds, replied_leaves}
 use Rattle.power_loss.proofs.kept_promises.ShortExchangesEnd.{ends_shorts, given_shorts, managed_shorts}
@@ -68,15 +67,11 @@ found_byte : (b : Bool) → IsByte (service_found b)
 found_byte true = omega arith
 found_byte false = omega arith
 
-service_of_byte : (s : State) (lun function meant : ℕ) → IsByte (service_of s lun function meant)
-service_of_byte s lun function meant = byte_if (is_none (lun_of (numbers_of s) lun)) _ _ (omega arith)
+service_byte : (s : State) (lun function meant : ℕ) → IsByte (service s lun function meant)
+service_byte s lun function meant = byte_if (is_none (lun_of (numbers_of s) lun)) _ _ (omega arith)
     (byte_if (aborts function) _ _ (omega arith)
     (byte_if (function == 0x80) _ _ (found_byte (list_any (is_named lun meant) s.tasks))
     (byte_if (function == 0x81) _ _ (found_byte (list_any (λ (task : Task). task.lun == lun) s.tasks)) (omega arith))))
-
-service_byte : (s : State) (lun function meant : ℕ) → IsByte (service s lun function meant)
-service_byte s lun function meant = byte_if manages_tasks (service_of s lun function meant) 0x04
-    (service_of_byte s lun function meant) (omega arith)
 
 -- A QUERY REQUEST
 

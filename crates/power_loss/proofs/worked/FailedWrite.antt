@@ -1,175 +1,130 @@
--- A write of one block whose program fails: the device is locked, and the write is answered with a write error.
-use Rattle.power_loss.proofs.Common.{◌≡◌, ℕ, true, List, [], ◌∷◌, length, Some, refl, sym, ap, ◌∙◌, subst, Vec, Array}
-use Rattle.power_loss.proofs.Common.{Cell, Cells, at_place, page_of, spot_of, WentWrong, MayBeLeft, Page}
-use Rattle.power_loss.proofs.MachineWords.{write_page, Gets, IsNew, data_program, place_of, state_15, the_data}
-use Rattle.power_loss.proofs.MachineWords.{the_write, write_events, write_outputs, Write, blank_page, Answering}
-use Rattle.power_loss.proofs.MachineWords.{write_error, IsFailure, IsLawfulLeftover, Leads, Life, bad_in, held, Reply}
-use Rattle.power_loss.proofs.MachineWords.{Done, OfDone, IsHeard, OfReply, observe, State, locked, Leftover, ValidState}
+-- A write of one block whose program fails, and beside it as many jobs as there are spare blocks.
+use Rattle.power_loss.proofs.Common.{◌≡◌, ◌++◌, ℕ, List, [], ◌∷◌, length, Some, refl, sym, ◌∙◌, subst, Vec, Cell, Disk}
+use Rattle.power_loss.proofs.Common.{MayBeLeft, Page, page_of}
+use Rattle.power_loss.proofs.MachineWords.{write_page, IsNew, data_program, place_of, state_15, the_data, the_write}
+use Rattle.power_loss.proofs.MachineWords.{write_events, write_outputs, IsHeard, Leads, Life, State, ValidState, Event}
+use Rattle.power_loss.proofs.MachineWords.{Output, blank_page}
+use Rattle.ufs_laws.proofs.lives.LivesJoined.{join}
 use Rattle.ufs_laws.proofs.new_dies.NewDeviceState.{Open, open_in}
-use Rattle.ufs_laws.proofs.worked_run.RunEvents.{flies_15, is_15}
-use Rattle.ufs_laws.proofs.answers.OnlyAnswers.{reply_gets}
+use Rattle.ufs_laws.proofs.worked_run.RunEvents.{is_15}
 use Rattle.ufs_laws.proofs.worked_run.RunLife.{write_life}
-use Rattle.ufs_laws.proofs.worked_run.RunStates.{erased_array, marked_array, write_task, writing}
-use Rattle.ufs_laws.specs.Runs.{told}
-use Rattle.power_loss.specs.StoppedWrites.{IsFailedWrite, write_failed, written_page}
-use Rattle.power_loss.proofs.jobs.LawfulFailures.{failure_leads, program_failure}
-use Rattle.power_loss.proofs.stops.LawfulLeftovers.{stops_lawful}
-use Rattle.power_loss.proofs.stops.LeftoverLists.{first_contained, one_apart}
-use Rattle.power_loss.proofs.die_pages.LeftoversLeaveOneArray.{one_left}
-use Rattle.power_loss.proofs.worked.StoppedWrite.{one_page_left, page_stops, write_valid}
+use Rattle.ufs_laws.proofs.worked_run.RunStates.{erased_array, marked_array, writing, writing_disk}
+use Rattle.ufs_laws.specs.Runs.{begins}
+use Rattle.power_loss.specs.FailedWrites.{Failures, IsFailedWrite, IsMovedWrite, MayBeLeftSo, erase_of, failing_events}
+use Rattle.power_loss.specs.FailedWrites.{failing_outputs}
+use Rattle.power_loss.specs.StoppedWrites.{written_page}
+use Rattle.power_loss.proofs.jobs.LawfulFailures.{Failure}
+use Rattle.power_loss.proofs.lives.EachEventKeeps.{one_event}
+use Rattle.power_loss.proofs.worked.FailingJobs.{begins_so, erase_1, erase_2, erase_3, failed_on, page_failed}
+use Rattle.power_loss.proofs.worked.FailingJobs.{page_fails, waiting}
+use Rattle.power_loss.proofs.worked.FailedJobs.{Fallen, falls, leads_so, program_fails}
+use Rattle.power_loss.proofs.worked.MovedPage as moved
+use Rattle.power_loss.proofs.worked.StoppedLives.{valid_after}
 use Rattle.ufs_spec.specs.declared.events.Event.TheVariants as event
 use Rattle.ufs_spec.specs.declared.events.Leftover.TheVariants as leftover
 use Rattle.ufs_spec.specs.declared.events.Output.TheVariants as output
 
--- What is computed
-
-module _ (o : Open) (body : List ℕ) (c : Cells) (left : Array) where
-  failed : State
-  failed = observe (writing o body) (Done 0 (WentWrong c) left) (OfDone true)
-
-  replied : State
-  replied = observe failed Reply (OfReply (Some write_failed))
-
-  failed_array : failed.array ≡ left
-  unfolding failed writing
-  failed_array = refl
-
-  failed_bad : bad_in failed (spot_of (place_of 1)) ≡ true
-  unfolding failed writing
-  failed_bad = refl
-
-  failed_locked : locked failed ≡ true
-  unfolding failed writing
-  failed_locked = refl
-
-  failed_answers : Gets failed Reply (OfReply (Some write_failed))
-  unfolding failed writing
-  failed_answers = reply_gets failed (write_task (Answering write_error 4096)) write_failed refl refl refl
-
-  replied_accepted : replied.accepted ≡ Write 0 0xFF (body ∷ []) ∷ []
-  unfolding replied failed writing
-  replied_accepted = refl
-
-  replied_held : held replied ≡ 0
-  unfolding replied failed writing
-  replied_held = refl
-
-  replied_tasks : replied.tasks ≡ []
-  unfolding replied failed writing
-  replied_tasks = refl
-
-  replied_locked : locked replied ≡ true
-  unfolding replied failed writing
-  replied_locked = refl
-
--- The life
-
 module _ (body : List ℕ) (long : length body ≡ 4096) (write block : Vec ℕ) (w : IsHeard write.items the_write)
-    (b : IsHeard block.items (the_data body))
-    (s : State) (n : IsNew s) (page : Page) (may : MayBeLeft blank_page (written_page body) page) where
-  t : State
-  t = state_15 s body
-
+    (b : IsHeard block.items (the_data body)) (s : State) (n : IsNew s) (f : Failures) (may : MayBeLeftSo body f) where
   o : Open
   o = marked_array (erased_array (open_in s))
 
-  is : t ≡ writing o body
-  unfolding t o
-  is = is_15 s n body long
+  -- up to the program
 
-  valid : ValidState t
-  unfolding t
-  valid = write_valid body long write block w b s n
+  abbrev programs : State
+  programs = waiting o body o.array (writing_disk body)
 
-  flies : t.translation.disk.flights 0 ≡ Some (data_program body)
-  unfolding t
-  flies = flies_15 s n body long
+  is : state_15 s body ≡ programs
+  unfolding o
+  is = is_15 s n body long ∙ begins_so o body
 
-  blank_now : (writing o body).array (place_of 1) ≡ blank_page
-  unfolding writing o marked_array erased_array
+  lived : Life s (write_events write block) (write_outputs body) programs
+  lived = subst (Life s (write_events write block) (write_outputs body)) is (write_life s n body long write block w b)
+
+  valid : ValidState programs
+  valid = valid_after s n programs (write_events write block) (write_outputs body) lived
+
+  flies : programs.translation.disk.flights 0 ≡ Some (data_program body)
+  unfolding waiting writing
+  flies = refl
+
+  blank_now : programs.array (place_of 1) ≡ blank_page
+  unfolding waiting writing o marked_array erased_array
   blank_now = refl
+
+  -- the program fails
 
   abbrev intended : Cell
   intended = write_page 1 0xFF 0 body
 
-  abbrev the_leftover : Leftover
-  the_leftover = leftover.Page (place_of 1) page
+  page_may : MayBeLeft (programs.array (place_of 1)) (page_of intended) f.page
+  page_may = subst (λ old. MayBeLeft old (page_of intended) f.page) (sym blank_now) may.page
 
-  here : MayBeLeft (t.array (place_of 1)) (page_of intended) page
-  here = subst (λ old. MayBeLeft old (page_of intended) page) (sym (ap (λ x. x.array (place_of 1)) is ∙ blank_now)) may
+  failure : Failure programs 0 (data_program body) (leftover.Page (place_of 1) f.page)
+  failure = program_fails programs (place_of 1) intended f.page valid flies page_may
 
-  lawful : IsLawfulLeftover t the_leftover
-  lawful = stops_lawful t (the_leftover ∷ []) (at_place t.array (place_of 1) page)
-      (page_stops t (place_of 1) intended page flies here) the_leftover (first_contained {l = the_leftover} [])
+  abbrev behind_failure : State
+  behind_failure = waiting o body failure.1 (page_failed body failure.0)
 
-  c : Cells
-  c = (program_failure 0 (place_of 1) intended the_leftover valid flies refl lawful).0
+  leads : Leads programs (event.Fail 0 (Some (leftover.Page (place_of 1) f.page))) output.Ended behind_failure
+  unfolding failure
+  leads = subst (Leads programs (event.Fail 0 (Some (leftover.Page (place_of 1) f.page))) output.Ended)
+      (page_fails o body o.array failure.1 failure.0)
+      (leads_so programs (place_of 1) intended f.page valid flies page_may)
 
-  left : Array
-  left = (program_failure 0 (place_of 1) intended the_leftover valid flies refl lawful).1
+  -- and three erases
 
-  fails_so : IsFailure t 0 (Some (data_program body)) (Some the_leftover) (WentWrong c) left
-  unfolding c left
-  fails_so = (program_failure 0 (place_of 1) intended the_leftover valid flies refl lawful).2
+  first : Fallen o body 1 failure.1 (page_failed body failure.0) f.one
+  first = falls o body 1 failure.1 (page_failed body failure.0) f.one (erase_1 o body failure.0) may.one
+      (one_event programs behind_failure (event.Fail 0 (Some (leftover.Page (place_of 1) f.page))) output.Ended valid
+      leads)
 
-  left_is : left ≡ at_place t.array (place_of 1) page
-  left_is =
-      one_left t.array (the_leftover ∷ []) (one_apart the_leftover) left (at_place t.array (place_of 1) page) fails_so.1
-      (one_page_left t (place_of 1) intended page flies here)
+  abbrev two_bad : Disk
+  two_bad = failed_on 1 (page_failed body failure.0) first.cells
 
-  v : State
-  v = observe t (Done 0 (WentWrong c) left) (OfDone true)
+  second : Fallen o body 2 first.left two_bad f.two
+  second = falls o body 2 first.left two_bad f.two (erase_2 o body failure.0 first.cells) may.two first.valid
 
-  v_is : v ≡ failed o body c left
-  unfolding v failed
-  v_is = ap (λ x. observe x (Done 0 (WentWrong c) left) (OfDone true)) is
+  abbrev three_bad : Disk
+  three_bad = failed_on 2 two_bad second.cells
 
-  u : State
-  u = observe v Reply (OfReply (Some write_failed))
+  third : Fallen o body 3 second.left three_bad f.three
+  third = falls o body 3 second.left three_bad f.three (erase_3 o body failure.0 first.cells second.cells)
+      may.three second.valid
 
-  u_is : u ≡ replied o body c left
-  unfolding u replied
-  u_is = ap (λ x. observe x Reply (OfReply (Some write_failed))) v_is
+  abbrev four_bad : Disk
+  four_bad = failed_on 3 three_bad third.cells
 
-  v_answers : Gets v Reply (OfReply (Some write_failed))
-  v_answers = subst (λ x. Gets x Reply (OfReply (Some write_failed))) (sym v_is) (failed_answers o body c left)
+  abbrev spared : State
+  spared = waiting o body third.left four_bad
 
-  lived : Life s (write_events write block) (write_outputs body) t
-  unfolding t
-  lived = write_life s n body long write block w b
+  -- the three erases, one after another
 
-  fails : Leads t (event.Fail 0 (Some the_leftover)) output.Ended v
-  unfolding v
-  fails = failure_leads 0 {flight = (data_program body)} {l = (Some the_leftover)}
-      (WentWrong c) left flies refl fails_so
+  abbrev falls_on : ℕ → Vec Page → List Event
+  falls_on die pages = event.Take die ∷ event.Fail die (Some (leftover.Block die 0 pages)) ∷ []
 
-  told_so : Leads v event.Reply (told write_failed) u
-  unfolding u
-  told_so = record {
-    call = Reply;
-    answer = OfReply (Some write_failed);
-    is_call = refl;
-    is_shown = refl;
-    right = v_answers.right;
-    next = refl;
-  }
+  abbrev shown_on : ℕ → List Output
+  shown_on die = begins (erase_of die 0) ∷ output.Ended ∷ []
 
-  pub failed_write : IsFailedWrite body write block page
-  failed_write = record {
-    start = s;
-    is_new = n;
-    before = t;
-    life = lived;
-    failed = v;
-    fails = fails;
-    array = ap (λ x. x.array) v_is ∙ failed_array o body c left ∙ left_is;
-    bad = ap (λ x. bad_in x (spot_of (place_of 1))) v_is ∙ failed_bad o body c left;
-    is_locked = ap locked v_is ∙ failed_locked o body c left;
-    answered = v_answers;
-    now = u;
-    told_so = told_so;
-    accepted = ap (λ x. x.accepted) u_is ∙ replied_accepted o body c left;
-    none_held = ap held u_is ∙ replied_held o body c left;
-    none_open = ap (λ x. x.tasks) u_is ∙ replied_tasks o body c left;
-    still_locked = ap locked u_is ∙ replied_locked o body c left;
-  }
+  last_two : Life (waiting o body first.left two_bad) (falls_on 2 f.two ++ falls_on 3 f.three)
+      (shown_on 2 ++ shown_on 3) spared
+  last_two = join (waiting o body first.left two_bad) (falls_on 2 f.two) (falls_on 3 f.three) (shown_on 2) (shown_on 3)
+      (waiting o body second.left three_bad) spared second.life third.life
+
+  erases : Life behind_failure (falls_on 1 f.one ++ falls_on 2 f.two ++ falls_on 3 f.three)
+      (shown_on 1 ++ shown_on 2 ++ shown_on 3) spared
+  erases = join behind_failure (falls_on 1 f.one) (falls_on 2 f.two ++ falls_on 3 f.three) (shown_on 1)
+      (shown_on 2 ++ shown_on 3) (waiting o body first.left two_bad) spared first.life last_two
+
+  fails : Life s (write_events write block ++ failing_events f) (write_outputs body ++ failing_outputs) spared
+  fails = join s (write_events write block) (failing_events f) (write_outputs body) failing_outputs programs spared
+      lived (behind_failure, leads, erases)
+
+  pub moved_write : IsMovedWrite body write block f
+  moved_write = moved.moved_write o body failure.0 first.cells second.cells third.cells third.left write block f s n
+      fails
+
+  pub failed_write : (last : Page) → MayBeLeft blank_page (written_page body) last →
+      IsFailedWrite body write block f last
+  failed_write = moved.failed_write o body failure.0 first.cells second.cells third.cells third.left write block f s n
+      fails

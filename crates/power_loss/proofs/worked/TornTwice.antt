@@ -1,15 +1,14 @@
 -- Two dies are torn at once: one programs the block's page, the other erases a block.
-use Rattle.power_loss.proofs.Common.{◌≡◌, ◌≢◌, ◌⊎◌, ◌==◌, ◌&&◌, ◌++◌, ℕ, zero, suc, if◌then◌else◌, List, [], ◌∷◌}
-use Rattle.power_loss.proofs.Common.{length, Some, slice_get, refl, sym, ap, ◌∙◌, subst, inl, inr, ⊎_elim, arith}
-use Rattle.power_loss.proofs.Common.{All-cons, All-head, All-nil, All-tail, Vec, Contains, Array, Cell, IsCell}
-use Rattle.power_loss.proofs.Common.{MarkPage, Nothing, Shows, same_place, Touches, page_of, IsCheckRight, MayBeLeft}
-use Rattle.power_loss.proofs.Common.{block_at, Page, Place, none-some, same_Some, opened_check}
+use Rattle.power_loss.proofs.Common.{◌≡◌, ◌≢◌, ◌==◌, ◌&&◌, ◌++◌, ℕ, zero, suc, if◌then◌else◌, List, [], ◌∷◌}
+use Rattle.power_loss.proofs.Common.{length, Some, refl, sym, ap, ◌∙◌, subst, inr, ⊎_elim, arith}
+use Rattle.power_loss.proofs.Common.{All-cons, All-nil, Vec, Contains, Array, IsCell}
+use Rattle.power_loss.proofs.Common.{MarkPage, Nothing, Shows, same_place, IsCheckRight}
+use Rattle.power_loss.proofs.Common.{block_at, Page, Place}
 use Rattle.power_loss.proofs.MachineWords.{first_mark, write_page, Gets, IsNew, data_program, place_of, row, the_data}
-use Rattle.power_loss.proofs.MachineWords.{the_write, Write, blank_page, AreLeftovers, IsLawfulLeftover, IsLeftoverOf}
+use Rattle.power_loss.proofs.MachineWords.{the_write, Write, AreLeftovers, IsLawfulLeftover, IsLeftoverOf}
 use Rattle.power_loss.proofs.MachineWords.{IsOpened, Leads, Life, Stops, bad_in, die_of, held, page_left, Take, OfTake}
 use Rattle.power_loss.proofs.MachineWords.{IsHeard, observe, State, numbers_of, Event, Leftover, Output}
 use Rattle.std.proofs.lemmas.List.Kept.{AllPairs-cons}
-use Rattle.std.specs.List.{All}
 use Rattle.ufs_laws.proofs.pages.BlankPages.{nothing_is_blank}
 use Rattle.ufs_laws.proofs.lives.LivesJoined.{join}
 use Rattle.ufs_laws.proofs.new_dies.NewDeviceState.{Open, open_in}
@@ -23,6 +22,7 @@ use Rattle.ufs_spec.specs.Plain.{zero as zero_state}
 use Rattle.power_loss.specs.StoppedWrites.{AreTorn, IsTornTwice, other_erase}
 use Rattle.power_loss.proofs.stops.LawfulLeftovers.{each_stops}
 use Rattle.power_loss.proofs.stops.LeftoverLists.{contained_cases, one_apart, only_contained}
+use Rattle.power_loss.proofs.worked.LeftOfJobs.{IsBlankOrTorn, block_lawful, each_page, page_lawful, torn_cell}
 use Rattle.power_loss.proofs.worked.StoppedLives.{base_after, opens_after, run_after, start_zero, valid_after}
 use Rattle.power_loss.proofs.worked.StoppedLives.{zero_found}
 use Rattle.power_loss.proofs.worked.StoppedPages.{marked_cells, marked_either, marked_stands, outside_mark}
@@ -76,20 +76,6 @@ module _ (o : Open) (body : List ℕ) where
   busy_pages : (numbers_of two_busy).pages ≡ 64
   unfolding two_busy one_busy pending
   busy_pages = refl
-
--- Torn pages
-
-abbrev IsBlankOrTorn : Page → Type 0
-IsBlankOrTorn page = (page ≡ blank_page) ⊎ (IsCheckRight page → ⊥)
-
-torn_cell : {page : Page} → (IsCheckRight page → ⊥) → IsCell page Nothing
-torn_cell wrong = λ tag body o hold. wrong (opened_check _ _ _ o)
-
-each_page : (P : Page → Type 0) (pages : List Page) (i : ℕ) {page : Page} → All P pages →
-    slice_get pages i ≡ Some page → P page
-each_page P [] i {page} all e = absurd (none-some page e)
-each_page P (x ∷ xs) zero {page} all e = subst P (same_Some x page e) (All-head P x xs all)
-each_page P (x ∷ xs) (suc i) all e = each_page P xs i (All-tail P x xs all) e
 
 -- The life
 
@@ -181,32 +167,18 @@ module _ (body : List ℕ) (long : length body ≡ 4096) (write block : Vec ℕ)
   abbrev the_block : Leftover
   the_block = leftover.Block 1 0 pages
 
-  abbrev May : Place → Page → Type 0
-  May p page = (intended : Cell) × Touches (t.translation.disk.flights p.die) p intended ×
-      MayBeLeft (t.array p) (page_of intended) page
+  page_is_lawful : IsLawfulLeftover t the_page
+  page_is_lawful = page_lawful t (place_of 1) (write_page 1 0xFF 0 body) torn flies (inr (inr wrong))
 
-  page_lawful : IsLawfulLeftover t the_page
-  page_lawful p page h = subst (May p) (sym h.1)
-      (subst (λ q. May q torn) h.0 (
-        write_page 1 0xFF 0 body,
-        subst (λ f. Touches f (place_of 1) (write_page 1 0xFF 0 body)) (sym flies) (refl, refl),
-        inr (inr wrong),
-      ))
-
-  block_lawful : IsLawfulLeftover t the_block
-  block_lawful p page h = (
-    Nothing,
-    subst (λ f. Touches f p Nothing) (sym (ap t.translation.disk.flights (ap (λ x. x.die) h.0) ∙ erases))
-        (sym h.0, refl),
-    ⊎_elim (λ e. inr (inl e)) (λ bad. inr (inr bad)) (each_page IsBlankOrTorn pages.items p.page all h.1),
-  )
+  block_is_lawful : IsLawfulLeftover t the_block
+  block_is_lawful = block_lawful t 1 0 pages erases all
 
   abbrev both : List Leftover
   both = the_page ∷ the_block ∷ []
 
   lawful : (l : Leftover) → Contains both l → IsLawfulLeftover t l
-  lawful l there = ⊎_elim (λ e. subst (IsLawfulLeftover t) (sym e) page_lawful)
-      (λ later. subst (IsLawfulLeftover t) (sym (only_contained later)) block_lawful)
+  lawful l there = ⊎_elim (λ e. subst (IsLawfulLeftover t) (sym e) page_is_lawful)
+      (λ later. subst (IsLawfulLeftover t) (sym (only_contained later)) block_is_lawful)
       (contained_cases (the_block ∷ []) there)
 
   abbrev FitsJob : Leftover → Type 0

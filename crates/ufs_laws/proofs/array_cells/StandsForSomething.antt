@@ -14,7 +14,7 @@ use Rattle.ufs_spec.specs.Keys.{AreContents, Contents, HasWholeAreas, IsBlock, I
 use Rattle.ufs_spec.specs.Keys.{plain_of, settings_key}
 use Rattle.ufs_spec.specs.Kept.{CellsStandFor, Holds, IsKept, IsNewestMark, StandsFor}
 use Rattle.ufs_spec.specs.Plain.{Plain, Shape, area_len, shape_of, shape_of_numbers, zero_block}
-use Rattle.ufs_spec.specs.Stages.{regions}
+use Rattle.ufs_spec.specs.Plain.{regions}
 use Rattle.ufs_spec.specs.Plain as plain
 use Rattle.ufs_spec.specs.Sound.{Sound, Suits}
 use Rattle.ufs_spec.specs.declared.configs.Numbers.{Numbers}

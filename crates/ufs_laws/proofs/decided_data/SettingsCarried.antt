@@ -165,7 +165,7 @@ pub accepted : (s : State) (c : Command) (claimed : ℕ) → 0 < length s.base.r
 accepted s c claimed there changes = adds s (accepts s c claimed) c changes there refl
 
 -- the device has what the command makes of what it had
-now_applied : (s : State) (c : Command) (claimed : ℕ) → plain_now (accepts s c claimed) ≡ apply (plain_now s) c
+pub now_applied : (s : State) (c : Command) (claimed : ℕ) → plain_now (accepts s c claimed) ≡ apply (plain_now s) c
 now_applied s c claimed = fold-append apply s.base s.accepted (c ∷ [])
 
 pub as_it_is : (s : State) (c : Command) (claimed : ℕ) → ChangesSettings c →

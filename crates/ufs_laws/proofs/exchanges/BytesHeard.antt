@@ -9,7 +9,7 @@ use Rattle.ufs_spec.proofs.CdbsBack as cdbs
 use Rattle.ufs_spec.proofs.Facts.{false≢true, same_Some}
 use Rattle.ufs_spec.proofs.ReadBack.{again, message_of, one_message}
 use Rattle.ufs_spec.specs.CdbFields.{named_cdb}
-use Rattle.ufs_spec.specs.Cdbs.{IsCdb, IsTakenCdb, SpellsCdb, cdb_bytes}
+use Rattle.ufs_spec.specs.Cdbs.{IsCdb, SpellsCdb, cdb_bytes}
 use Rattle.ufs_spec.specs.Machine.{Faulty, Heard, IsCdbIn, IsHeard, Spelled, cdb_of}
 use Rattle.ufs_spec.specs.Messages.{IsByte, IsMessage, IsQuery, IsSense, IsTransferred, Spells, code_of, host_fault_of}
 use Rattle.ufs_spec.specs.Messages.{spelling}
@@ -20,7 +20,7 @@ use Rattle.ufs_spec.specs.declared.messages.Message.{Message}
 use Rattle.ufs_spec.specs.declared.messages.Message.TheVariants as message
 use Rattle.ufs_spec.specs.declared.scsi.Cdb.{Cdb}
 use Rattle.ufs_spec.specs.declared.scsi.Cdb.TheVariants as cdb
-use Rattle.ufs_spec.specs.Stages.{regions}
+use Rattle.ufs_spec.specs.Plain.{regions}
 
 -- ## What can be decided
 
@@ -96,25 +96,20 @@ is_cdb (cdb.SecurityIn region length) = dec_and (dec_lt region regions) (dec_lt 
 is_cdb (cdb.SecurityOut region length) = dec_and (dec_lt region regions) (dec_lt length (2 ^ 32))
 is_cdb command = yes tt
 
--- whether it is taken: all are but UNMAP
-is_taken : (c : Cdb) → Dec (IsTakenCdb c)
-is_taken (cdb.Unmap list) = no (λ (h : ⊥). h)
-is_taken command = yes tt
-
 -- ## What bytes spell
 
 spells : (m : Message) (bytes : List ℕ) → Dec (Spells m bytes)
 spells m bytes = dec_and (is_message m) (same_bytes bytes (spelling m))
 
 spells_cdb : (c : Cdb) (bytes : List ℕ) → Dec (SpellsCdb c bytes)
-spells_cdb c bytes = dec_three (is_cdb c) (is_taken c) (same_bytes bytes (cdb_bytes c))
+spells_cdb c bytes = dec_and (is_cdb c) (same_bytes bytes (cdb_bytes c))
 
 -- what bytes spell is what their fields name
 spelled_named : (m : Message) (bytes : List ℕ) → Spells m bytes → message_of (code_of bytes) bytes ≡ m
 spelled_named m bytes h = ap (λ (b : List ℕ). message_of (code_of b) b) h.1 ∙ again m h.0
 
 cdb_named : (c : Cdb) (bytes : List ℕ) → SpellsCdb c bytes → named_cdb bytes ≡ Some c
-cdb_named c bytes h = ap named_cdb h.2 ∙ cdbs.again c h.0
+cdb_named c bytes h = ap named_cdb h.1 ∙ cdbs.again c h.0
 
 cdb_in : (o : Option (List ℕ)) → (c : Option Cdb) × IsCdbIn o c
 cdb_in None = (None, refl)
@@ -157,7 +152,7 @@ one_taken None c d h k = h ∙ sym k
 one_taken (Some bytes) None None h k = refl
 one_taken (Some bytes) None (Some d) h k = absurd (h d k)
 one_taken (Some bytes) (Some c) None h k = absurd (k c h)
-one_taken (Some bytes) (Some c) (Some d) h k = ap Some (cdbs.one_cdb c d h.0 k.0 (sym h.2 ∙ k.2))
+one_taken (Some bytes) (Some c) (Some d) h k = ap Some (cdbs.one_cdb c d h.0 k.0 (sym h.1 ∙ k.1))
 
 pub one_spelled : (bytes : List ℕ) (m n : Message) (c d : Option Cdb) → IsHeard bytes (Spelled m c) →
     IsHeard bytes (Spelled n d) → (m ≡ n) × (c ≡ d)

@@ -9,12 +9,12 @@ use Rattle.ufs_laws.proofs.walk.WaysOfData.{IsAnswerOfData, IsGood, IsOutOfRange
 use Rattle.ufs_laws.proofs.walk.WaysOfData.{IsWrongField, answer_one}
 use Rattle.ufs_laws.proofs.walk.TaskLaws.{Any, any_asks, IsTaskLaw, task_for, tasks_kept}
 use Rattle.ufs_laws.specs.Exchange.{AllKnown, Every, IsKnownDeed, IsKnownTask, IsRequest, IsSpoken}
-use Rattle.ufs_spec.proofs.Facts.{and_parts, if_both, none-some, not-false}
+use Rattle.ufs_spec.proofs.Facts.{if_both, none-some, not-false}
 use Rattle.ufs_spec.specs.Cells.{Array}
 use Rattle.ufs_spec.specs.Disk.{Spot}
 use Rattle.ufs_spec.specs.Lives.{IsOpened}
 use Rattle.ufs_spec.specs.declared.configs.Numbers.{Numbers}
-use Rattle.ufs_spec.specs.Cdbs.{carried, operation_of, taken_operations}
+use Rattle.ufs_spec.specs.Cdbs.{carried, operation_of}
 use Rattle.ufs_spec.specs.Exchanges.{Answering, Awaiting, CheckCondition, Deed, Gathering, Good, ReadBlock, ReadingArea}
 use Rattle.ufs_spec.specs.Exchanges.{Sending, Status, Task, check, invalid_field, invalid_operation, no_unit}
 use Rattle.ufs_spec.specs.Exchanges.{write_error}
@@ -22,7 +22,7 @@ use Rattle.ufs_spec.specs.Machine.{Answer, Call, IsCdbIn, begun, blocks_expected
 use Rattle.ufs_spec.specs.Machine.{read_begun, sending_bytes, read_blocks, sending, unit_or_first, with_block, Allowed}
 use Rattle.ufs_spec.specs.Messages.{IsAmong}
 use Rattle.ufs_spec.specs.Refusals.{Lun, Request, State, first_line, lacks_unit, lines_after, lun_of, not_taken}
-use Rattle.ufs_spec.specs.Refusals.{numbers_of, operation_in, refusal, unit_of_request}
+use Rattle.ufs_spec.specs.Refusals.{numbers_of, operation_in, operations_of, refusal, unit_of_request}
 use Rattle.ufs_spec.specs.declared.scsi.Cdb.{Cdb}
 use Rattle.ufs_spec.specs.declared.scsi.Cdb.TheVariants as cdb
 use Rattle.ufs_spec.proofs.CdbsBack.{first_byte}
@@ -52,16 +52,19 @@ past s r e =
     let two = passed_line (not_taken r (lun_of (numbers_of s) r.lun)) invalid_operation _ one.1 in
     record { there = one.0; taken = two.0; later = two.1 }
 
-operation_taken : (s : State) (r : Request) → Past s r → IsAmong taken_operations (operation_in r)
-operation_taken s r p = by (lun_of (numbers_of s) r.lun) p.there p.taken
+-- the unit is there, and takes the operation code
+operation_taken : (s : State) (r : Request) → Past s r →
+    (unit : Lun) × (lun_of (numbers_of s) r.lun ≡ Some unit) × IsAmong (operations_of unit) (operation_in r)
+operation_taken s r p = by (lun_of (numbers_of s) r.lun) refl p.there p.taken
   where
-    by : (lun : Option Lun) → lacks_unit s r lun ≡ false → not_taken r lun ≡ false →
-        IsAmong taken_operations (operation_in r)
-    by None lacks taken = cc
-    by (Some lun) lacks taken = (and_parts _ _ (not-false _ taken)).1
+    by : (o : Option Lun) → lun_of (numbers_of s) r.lun ≡ o → lacks_unit s r o ≡ false → not_taken r o ≡ false →
+        (unit : Lun) × (lun_of (numbers_of s) r.lun ≡ Some unit) × IsAmong (operations_of unit) (operation_in r)
+    by None same lacks taken = cc
+    by (Some unit) same lacks taken = (unit, same, not-false _ taken)
 
-pub passes : (s : State) (r : Request) → IsRequest r → refusal s r ≡ None → (c : Cdb) × (r.cdb ≡ Some c)
-    × IsAmong taken_operations (operation_of c)
+pub passes : (s : State) (r : Request) → IsRequest r → refusal s r ≡ None →
+    (unit : Lun) × (c : Cdb) × (lun_of (numbers_of s) r.lun ≡ Some unit) × (r.cdb ≡ Some c)
+    × IsAmong (operations_of unit) (operation_of c)
 passes s r is e = by r.cdb refl is.1.2
   where
     p : Past s r
@@ -70,14 +73,16 @@ passes s r is e = by r.cdb refl is.1.2
     no_line : Some invalid_field ≡ None → ⊥
     no_line k = cc
 
-    by : (o : Option Cdb) → r.cdb ≡ o → IsCdbIn (Some r.bytes) o → (c : Cdb) × (r.cdb ≡ Some c)
-        × IsAmong taken_operations (operation_of c)
+    by : (o : Option Cdb) → r.cdb ≡ o → IsCdbIn (Some r.bytes) o →
+        (unit : Lun) × (c : Cdb) × (lun_of (numbers_of s) r.lun ≡ Some unit) × (r.cdb ≡ Some c)
+        × IsAmong (operations_of unit) (operation_of c)
     by None same spells = absurd
         (no_line (subst (λ (o : Option Cdb). first_line (lines_after s r o) ≡ None) same p.later))
     by (Some c) same spells =
-        let operation : operation_in r ≡ operation_of c = ap (λ (b : List ℕ). slice_index b 0) spells.2
+        let operation : operation_in r ≡ operation_of c = ap (λ (b : List ℕ). slice_index b 0) spells.1
         ∙ first_byte c in
-        (c, same, subst (IsAmong taken_operations) operation (operation_taken s r p))
+        let takes = operation_taken s r p in
+        (takes.0, c, takes.1, same, subst (IsAmong (operations_of takes.0)) operation takes.2)
 
 -- ## What begins
 

@@ -7,7 +7,7 @@ use Rattle.std.proofs.lemmas.Bool.{not-false}
 use Rattle.std.proofs.lemmas.Option.{none-some}
 use Rattle.ufs_spec.specs.Exchanges.{Task, short_reply}
 use Rattle.ufs_spec.specs.Machine.{IsHeard, Spelled, aborts, carried_out, service_found, heard, is_aborted, is_named}
-use Rattle.ufs_spec.specs.Machine.{service, service_of, with_short, without_tasks}
+use Rattle.ufs_spec.specs.Machine.{service, with_short, without_tasks}
 use Rattle.ufs_spec.specs.Messages.{IsAmong, code_of, fault_among, has_digest, has_extra_header, has_other_code}
 use Rattle.ufs_spec.specs.Messages.{has_wrong_length, host_codes, is_among, is_short, known_codes, read_fault_of}
 use Rattle.ufs_spec.specs.Refusals.{Lun, State, lun_of, numbers_of}
@@ -31,8 +31,8 @@ only_answered s lun tag function meant c other =
     ap (λ (t : State). with_short t (short_reply tag (message.TaskResponse lun tag (service s lun function meant))))
     (not_carried_out s lun function meant (service s lun function meant) other)
 
--- what a request is answered, once tasks are managed
-abbrev answer_of : State → ℕ → ℕ → ℕ → Option Lun → Bool → ℕ
+-- what a request is answered, by what its LUN names and whether its function aborts
+abbrev pub answer_of : State → ℕ → ℕ → ℕ → Option Lun → Bool → ℕ
 answer_of s lun function meant unit ends =
     if is_none unit then 0x09
     else if ends then 0x00
@@ -41,13 +41,13 @@ answer_of s lun function meant unit ends =
     else 0x04
 
 pub no_unit_answered : (s : State) (lun function meant : ℕ) → lun_of (numbers_of s) lun ≡ None →
-    service_of s lun function meant ≡ 0x09
+    service s lun function meant ≡ 0x09
 no_unit_answered s lun function meant none =
     ap (λ (o : Option Lun). answer_of s lun function meant o (aborts function)) none
 
 pub answered_complete : (s : State) (lun function meant : ℕ) (unit : Lun) → lun_of (numbers_of s) lun ≡ Some unit →
     aborts function ≡ true →
-    service_of s lun function meant ≡ 0x00
+    service s lun function meant ≡ 0x00
 answered_complete s lun function meant unit there ends =
     ap (λ (o : Option Lun). answer_of s lun function meant o (aborts function)) there
     ∙ ap (λ (b : Bool). answer_of s lun function meant (Some unit) b) ends

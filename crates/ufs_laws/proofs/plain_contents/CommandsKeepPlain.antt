@@ -7,7 +7,7 @@ use Rattle.ufs_spec.specs.Keys.{AreSettings, CanApplyAll, IsBlock, IsCommand, Is
 use Rattle.ufs_spec.specs.Messages.{AreBytes}
 use Rattle.ufs_spec.specs.Plain.{CanApply, Plain, Region, after, apply, changed_by, counter_end, empty_region}
 use Rattle.ufs_spec.specs.Plain.{region_of, with_part, with_region, zero_block}
-use Rattle.ufs_spec.specs.Stages.{regions}
+use Rattle.ufs_spec.specs.Plain.{regions}
 use Rattle.ufs_spec.specs.Commands.{Command}
 use Rattle.ufs_spec.specs.Commands as cmd
 use Rattle.ufs_spec.proofs.PlainFacts.{length-with_part}

@@ -5,7 +5,7 @@ use Rattle.std.proofs.lemmas.List.{get_or-replicate, length-replicate}
 use Rattle.std.proofs.lemmas.List.Elements.{All-map, All-replicate}
 use Rattle.ufs_spec.specs.Keys.{IsArea, IsBlock, IsData, IsKey, IsPlain, IsRegion, IsSettings, area_page, content}
 use Rattle.ufs_spec.specs.Plain.{Region, new_region, empty_region, shape_of_numbers, zero as zero_state, zero_block}
-use Rattle.ufs_spec.specs.Stages.{regions}
+use Rattle.ufs_spec.specs.Plain.{regions}
 use Rattle.ufs_spec.specs.declared.configs.Numbers.{Numbers}
 use Rattle.ufs_spec.specs.declared.configs.UnitSpec.{UnitSpec}
 use Rattle.ufs_spec.specs.declared.flash.Key.{Key}

@@ -9,7 +9,7 @@ use Rattle.ufs_spec.specs.Keys.{AreContents, Contents, HasWholeAreas, IsArea, Is
 use Rattle.ufs_spec.specs.Keys.{IsSettings, IsSettingsBody, area_key, area_page, below, content, data_key, key_in}
 use Rattle.ufs_spec.specs.Keys.{plain_of, region_in, region_pages, settings_key, settings_of}
 use Rattle.ufs_spec.specs.Plain.{Plain, Region, Shape, empty_region, region_of, shape_of}
-use Rattle.ufs_spec.specs.Stages.{regions}
+use Rattle.ufs_spec.specs.Plain.{regions}
 use Rattle.ufs_spec.specs.declared.flash.Key.{Key}
 use Rattle.ufs_spec.proofs.RegionPages.{pages_held}
 use Rattle.ufs_laws.proofs.pages.ByteLists.{bytes-joined, page_is_block}

@@ -100,7 +100,7 @@ crowded s tag h e k none = answers s (asks 0x20 0 tag (write_at 0)) Busy h
     (decides (nat_lt (free_slots (idle_state s).translation) 1) Busy _
     (lt-ltb (free_slots (idle_state s).translation) 1 (let few = slots_idle s h none in omega arith)))))
 
--- ## Past the limits of today
+-- ## The frames of the RPMB
 
 -- a command without blocks lies within any unit
 within : (s : State) (r : Request) (n : ℕ) → is_past (cdb.SecurityIn 0 n) (unit_numbers_of s r) ≡ false

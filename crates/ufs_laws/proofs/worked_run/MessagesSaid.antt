@@ -42,7 +42,7 @@ write_said = (
   (
     ((refl, omega arith, omega arith, omega arith, refl, looked_at (cdb_bytes write_cdb) refl), refl),
     refl,
-    ((omega arith, omega arith), tt, refl),
+    ((omega arith, omega arith), refl),
   ),
 )
 
@@ -52,7 +52,7 @@ read_said = (
   (
     ((refl, omega arith, omega arith, omega arith, refl, looked_at (cdb_bytes read_cdb) refl), refl),
     refl,
-    ((omega arith, omega arith), tt, refl),
+    ((omega arith, omega arith), refl),
   ),
 )
 

@@ -1,7 +1,7 @@
 //! What becomes of the slots that readers have claimed.
 ghost use Rattle.std.specs.Prelude.{◌≡◌, ◌≤◌, ◌+◌, ◌++◌, length, map, take, vec_capacity};
 ghost use Rattle.std.specs.VecDeque.{deque_capacity};
-ghost use Rattle.write_cache.specs.Slots.{claim_filled, claims_of, page_claimed, turned, without_claims};
+ghost use Rattle.write_cache.specs.Slots.{claim_filled, claims_of, is_claim_behind, page_claimed, turned, turned_but, without_claims, without_claims_behind};
 
 use crate::slots::{Claimed, Pending};
 use std::collections::VecDeque;
@@ -62,31 +62,38 @@ fn move_claim(
     }
 }
 
-/// The slots that the reader has claimed are free; the other claims stay.
-pub(super) fn free_claims(claims: &mut VecDeque<Claimed>, free: &mut Vec<Body>, reader: u8)
+/// The slots that the reader has claimed for blocks behind its first so many are free; the other
+/// claims stay.
+pub(super) fn free_claims(
+    claims: &mut VecDeque<Claimed>,
+    free: &mut Vec<Body>,
+    reader: u8,
+    count: u16,
+)
     requires { length free.old.items + length claims.old.items ≤ vec_capacity free.old }
-    ensures left { claims.new.items ≡ without_claims claims.old.items reader }
+    ensures left { claims.new.items ≡ without_claims_behind claims.old.items reader count }
     ensures claim_room { deque_capacity claims.new ≡ deque_capacity claims.old }
     ensures room { vec_capacity free.new ≡ vec_capacity free.old }
     ensures as_many { length free.new.items + length claims.new.items ≡
         length free.old.items + length claims.old.items }
 {
     for _ in 0..claims.len() {
-        free_claim(claims, free, reader);
+        free_claim(claims, free, reader, count);
     }
 }
 
-/// The slot of the first claim is free, if the reader has claimed it; else the claim is the last from then on.
-fn free_claim(claims: &mut VecDeque<Claimed>, free: &mut Vec<Body>, reader: u8)
+/// The slot of the first claim is free, if the reader has claimed it for a block behind its first
+/// so many; else the claim is the last from then on.
+fn free_claim(claims: &mut VecDeque<Claimed>, free: &mut Vec<Body>, reader: u8, count: u16)
     requires { length free.old.items + length claims.old.items ≤ vec_capacity free.old }
-    ensures left { claims.new.items ≡ turned reader claims.old.items }
+    ensures left { claims.new.items ≡ turned_but (is_claim_behind reader count) claims.old.items }
     ensures claim_room { deque_capacity claims.new ≡ deque_capacity claims.old }
     ensures room { vec_capacity free.new ≡ vec_capacity free.old }
     ensures as_many { length free.new.items + length claims.new.items ≡
         length free.old.items + length claims.old.items }
 {
     if let Some(claim) = claims.pop_front() {
-        if claim.is_of(reader) {
+        if claim.is_behind(reader, count) {
             free.push_reserved(claim.body);
         } else {
             claims.push_back_reserved(claim);

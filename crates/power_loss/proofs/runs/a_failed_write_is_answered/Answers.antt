@@ -3,5 +3,5 @@ use Rattle.power_loss.proofs.worked.FailedWrite.{failed_write}
 use Rattle.power_loss.proofs.runs.a_failed_write_is_answered.Goals as goal
 
 pub returns : goal.returns
-returns c = λ body write block page long w b may.
-    let s = new_opens in failed_write body long write block w b s.0 s.1 page may
+returns c = λ body write block f last long w b may left.
+    let s = new_opens in failed_write body long write block w b s.0 s.1 f may last left

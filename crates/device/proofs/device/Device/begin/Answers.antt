@@ -26,3 +26,10 @@ returns-in-Ok-AskFrames-clause-begun c = λ t claims h.
     let is : c.args.planned ≡ Ok (plan.AskFrames x.length) = search rules in
     subst (λ (o : Result Plan Status). HasBegun c.begin_frames.new.self.ftl t claims c.args.tag o c.begin_frames.result)
     (sym is) (c.begin_frames.ensures.begun t claims h)
+
+pub returns-in-Ok-AskList-clause-begun : goal.returns-in-Ok-AskList-clause-begun
+returns-in-Ok-AskList-clause-begun c = λ t claims h.
+    let x = c.in-Ok-AskList in
+    let is : c.args.planned ≡ Ok (plan.AskList x.unit x.length) = search rules in
+    subst (λ (o : Result Plan Status). HasBegun c.begin_list.new.self.ftl t claims c.args.tag o c.begin_list.result)
+    (sym is) (c.begin_list.ensures.begun t claims h)

@@ -1,6 +1,7 @@
 use Rattle.std.proofs.Common.{◌≡◌, ◌∙◌, ap, subst, sym}
+use Rattle.device.specs.Calls.{write_asks}
 use Rattle.device.specs.Kept.{DeviceCore, IsLayerWith}
-use Rattle.device.proofs.host_messages.SlotsClaimed.{slots_claimed, write_phase}
+use Rattle.device.proofs.host_messages.SlotsClaimed.{asks_or_busy, slots_claimed}
 use Rattle.device.proofs.device.Device.begin_write.Goals as goal
 use Rattle.device.proofs.device.Device.begin_write.Goals.{then-reserve, else-reserve}
 
@@ -8,11 +9,11 @@ pub returns-clause-begun : goal.returns-clause-begun
 returns-clause-begun c =
     λ t claims h.
     let layer = subst (λ (d : DeviceCore). IsLayerWith d.ftl t claims) (sym c.self.view_is) h in
-    let told = write_phase c.args.key c.args.blocks c.args.forced in
-    let phase : c.if-reserve.result ≡ told c.reserve.result = elim c.if-reserve.branch [
-      | then-reserve w ↦ w.result-is ∙ sym (ap told w.if-reserve.true)
-      | else-reserve w ↦ w.result-is ∙ sym (ap told w.if-reserve.false)
+    let asks = write_asks c.args.key c.args.blocks c.args.forced in
+    let phase : c.if-reserve.result ≡ asks_or_busy asks c.reserve.result = elim c.if-reserve.branch [
+      | then-reserve w ↦ w.result-is ∙ sym (ap (asks_or_busy asks) w.if-reserve.true)
+      | else-reserve w ↦ w.result-is ∙ sym (ap (asks_or_busy asks) w.if-reserve.false)
     ] in
-    slots_claimed c.reserve.new.self t claims c.args.tag c.args.key c.args.blocks c.args.forced c.if-reserve.result
-    c.reserve.result (c.reserve.ensures.described_found t layer.0) phase
+    slots_claimed c.reserve.new.self t claims c.args.tag c.args.blocks asks c.if-reserve.result c.reserve.result
+    (c.reserve.ensures.described_found t layer.0) phase
     (λ none. (c.reserve.ensures.described t layer.0, c.reserve.ensures.claims claims layer.1 none))

@@ -1,7 +1,8 @@
 use Rattle.std.proofs.Common.{refl, subst}
 use Rattle.ufs_spec.specs.Messages.{Spells}
-use Rattle.device.proofs.host_messages.HostRight.{device_kind, managing_right, nop_right}
+use Rattle.device.proofs.host_messages.HostRight.{device_kind, nop_right}
 use Rattle.device.proofs.host_messages.QueriesRight.{query_right}
+use Rattle.device.proofs.managed.ManagedRight.{managing_right}
 use Rattle.device.proofs.device.Device.hear.Goals as goal
 
 pub returns-in-NopOut-clause-heard : goal.returns-in-NopOut-clause-heard
@@ -14,10 +15,10 @@ returns-in-NopOut-clause-heard c =
 pub returns-in-TaskRequest-clause-heard : goal.returns-in-TaskRequest-clause-heard
 returns-in-TaskRequest-clause-heard c =
     λ s bytes h spells none.
-    managing_right c.args.self.now c.open_short-in-TaskRequest.new.self s bytes c.open_short-in-TaskRequest.result h
-    none c.open_short-in-TaskRequest.ensures.refused c.in-TaskRequest.lun c.in-TaskRequest.tag c.in-TaskRequest.function
-    c.in-TaskRequest.meant (subst (λ m. Spells m bytes) c.in-TaskRequest.is spells)
-    c.open_short-in-TaskRequest.ensures.answer c.open_short-in-TaskRequest.ensures.after
+    managing_right c.args.self.now s c.in-TaskRequest.lun c.in-TaskRequest.tag c.in-TaskRequest.function
+    c.in-TaskRequest.meant h c.manage.new.self bytes c.manage.result
+    (subst (λ m. Spells m bytes) c.in-TaskRequest.is spells) none c.manage.ensures.answer c.manage.ensures.refused
+    (c.manage.ensures.taken s h)
 
 pub returns-in-QueryRequest-clause-heard : goal.returns-in-QueryRequest-clause-heard
 returns-in-QueryRequest-clause-heard c =

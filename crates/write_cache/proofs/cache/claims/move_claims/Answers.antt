@@ -1,6 +1,6 @@
 use Rattle.std.proofs.Common.{◌∙◌, ◌++◌, List, ap, arith, map, take}
 use Rattle.write_cache.specs.declared.slots.Pending.{Pending}
-use Rattle.write_cache.specs.Slots.{claims_of, page_claimed}
+use Rattle.write_cache.specs.Slots.{claims_of, is_claim_of, page_claimed}
 use Rattle.write_cache.proofs.Claims.{moved_more, turned_more}
 use Rattle.write_cache.proofs.cache.claims.move_claims.Goals as goal
 
@@ -9,8 +9,8 @@ loop-preserved c =
     let f = page_claimed c.args.group.key c.args.group.number c.args.group.size in
     record {
       turning = c.move_claim.ensures.left
-          ∙ turned_more c.args.reader c.loop.counter c.args.claims.now.items c.loop.claims.items (omega arith)
-          c.loop.invariant.turning;
+          ∙ turned_more (is_claim_of c.args.reader) c.loop.counter c.args.claims.now.items
+          c.loop.claims.items (omega arith) c.loop.invariant.turning;
       claim_room = c.move_claim.ensures.claim_room ∙ c.loop.invariant.claim_room;
       moved = c.move_claim.ensures.moved
           ∙ ap (λ (xs : List Pending). xs ++ map f (claims_of (take 1 c.loop.claims.items) c.args.reader))

@@ -2,7 +2,7 @@ use Rattle.std.proofs.Common.{◌∙◌, ◌++◌, List, ap, arith, take}
 use Rattle.std.specs.Prelude.{filter_map}
 use Rattle.write_cache.specs.declared.slots.Pending.{Pending}
 use Rattle.write_cache.specs.Rests.{page_moved}
-use Rattle.write_cache.specs.Slots.{claims_of}
+use Rattle.write_cache.specs.Slots.{claims_of, is_claim_of}
 use Rattle.write_cache.proofs.Brought.{brought_more}
 use Rattle.write_cache.proofs.Claims.{turned_more}
 use Rattle.write_cache.proofs.cache.groups.move_pages.Goals as goal
@@ -16,8 +16,8 @@ loop-preserved c =
     let free_before = c.loop.invariant.free_fit in
     record {
       turning = c.move_page.ensures.left
-          ∙ turned_more c.args.reader c.loop.counter c.args.claims.now.items c.loop.claims.items (omega arith)
-          c.loop.invariant.turning;
+          ∙ turned_more (is_claim_of c.args.reader) c.loop.counter c.args.claims.now.items
+          c.loop.claims.items (omega arith) c.loop.invariant.turning;
       claim_room = c.move_page.ensures.claim_room ∙ c.loop.invariant.claim_room;
       moved = c.move_page.ensures.moved
           ∙ ap (λ (xs : List Pending). xs ++ filter_map f (claims_of (take 1 c.loop.claims.items) c.args.reader))

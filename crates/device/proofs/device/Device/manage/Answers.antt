@@ -1,0 +1,14 @@
+use Rattle.std.proofs.Common.{◌∙◌, ap}
+use Rattle.device.specs.Hears.{with_short}
+use Rattle.task_set.specs.declared.tasks.Short.{Short}
+use Rattle.device.proofs.managed.ManagedRight.{managing_taken}
+use Rattle.device.proofs.device.Device.manage.Goals as goal
+
+pub returns-clause-taken : goal.returns-clause-taken
+returns-clause-taken c =
+    λ s h.
+    managing_taken c.args.self.now s c.args.lun c.args.tag c.args.function c.args.meant h c.carry_out.new.self
+    c.push_short.new.self c.function_on-managing.result c.service-service.result
+    (c.function_on-managing.ensures s.translation h.kept.layer_kept) c.service-service.ensures
+    (c.carry_out.ensures.carried s h)
+    (c.push_short.ensures ∙ ap (λ (x : Short). with_short c.carry_out.new.self x) c.at_once.ensures)

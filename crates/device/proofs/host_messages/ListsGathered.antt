@@ -1,0 +1,242 @@
+-- The list of an UNMAP came: what its task has claimed, and what is kept once the task is answered.
+use Rattle.std.proofs.Common.{◌≡◌, ◌∙◌, ◌⊎◌, ℕ, Bool, true, List, [], Some, None, cond, length, replicate, inl, inr}
+use Rattle.std.proofs.Common.{refl, sym, ap, subst}
+use Rattle.std.proofs.lemmas.List.{length-replicate}
+use Rattle.ufs_spec.proofs.Facts.{none-some}
+use Rattle.ufs_spec.specs.Changes.{ends_with_status}
+use Rattle.ufs_spec.specs.Commands.{Command}
+use Rattle.ufs_spec.specs.Exchanges as exchange
+use Rattle.ufs_spec.specs.Exchanges.{Answering, Deed, ForUnmap, Gathering, task_of, with_deed}
+use Rattle.ufs_spec.specs.Ledger.{before_accepted}
+use Rattle.ufs_spec.specs.Messages.{AreBytes}
+use Rattle.ufs_spec.specs.Moves.{Release, moved}
+use Rattle.ufs_spec.specs.Plain.{after, greatest_command, region_of, zero_block}
+use Rattle.ufs_spec.specs.Refusals.{State, numbers_of, plain_now}
+use Rattle.ufs_spec.specs.Translation.{Pin, Translation}
+use Rattle.power_loss.specs.Exchange.{claim_of}
+use Rattle.power_loss.proofs.books.SmallFacts.{eq_self}
+use Rattle.power_loss.proofs.host_commands.GatheringTasks.{GathersIn, gathers_in}
+use Rattle.ftl_core.specs.Public.{Core, with_claimed}
+use Rattle.rpmb.specs.Kept.{IsKept}
+use Rattle.task_set.specs.Frames.{frames_after}
+use Rattle.task_set.specs.Kept.{OpenTask}
+use Rattle.task_set.specs.Lists.{task_happened, wanted_in as wanted_of}
+use Rattle.task_set.specs.Tasks.{block_after, brings_frames, phase_after, status_kept, task_after}
+use Rattle.task_set.specs.declared.frames.Frames.{Frames}
+use Rattle.task_set.specs.declared.frames.Frames.TheVariants as frames
+use Rattle.task_set.specs.declared.tasks.Phase.{Phase}
+use Rattle.task_set.specs.declared.tasks.Phase.TheVariants as phase
+use Rattle.task_set.specs.declared.tasks.Status.{Status}
+use Rattle.task_set.specs.declared.tasks.TaskEvent.{TaskEvent}
+use Rattle.task_set.specs.declared.tasks.Transfer.{Transfer}
+use Rattle.task_set.specs.declared.tasks.Wanted.TheVariants as wanted
+use Rattle.device.specs.Describes.{AreFramesKept, Describes, FramesFit, IsDoing, Keeps, ReadsAsked, TaskKept}
+use Rattle.device.specs.Describes.{claimed_by, claimed_in, claims_of, read_in, wanted_by, wanted_in, wanted_kept}
+use Rattle.device.specs.Kept.{DeviceCore, IsLayerWith}
+use Rattle.device.specs.Lists.{IsOfList, list_slots}
+use Rattle.device.specs.Unmaps.{HasGivenBack}
+use Rattle.device.proofs.host_messages.BlocksGathered.{core_then}
+use Rattle.device.proofs.host_messages.TaskBecomes.{becomes_kept, device_then, state_then}
+use Rattle.device.proofs.open_tasks.OpenTasks.{Stands}
+use Rattle.device.proofs.open_tasks.ReadProgress.{deed_changes}
+
+-- What the task gathered
+
+pub record GathersList (unit size total : ℕ) (deed : Deed) : Type 0 where
+  pub deed_is : deed ≡ Gathering (ForUnmap unit) [] true
+  pub total_is : total ≡ size
+  pub of_list : IsOfList size
+
+pub gathers_list : (before expected total unit size : ℕ) (deed : Deed) →
+    IsDoing before expected total (phase.AwaitList unit size) deed → GathersList unit size total deed
+gathers_list before expected total unit size (Gathering purpose gathered asked) h = record {
+  deed_is = λ i. Gathering (h.0.for_list i) (h.0.none_came i) (h.1 i);
+  total_is = h.0.total_is;
+  of_list = h.0.of_list;
+}
+gathers_list before expected total unit size deed h = absurd h
+
+pub wants_list : (p : Phase) (unit size : ℕ) → wanted_of p ≡ Some (wanted.List unit size) →
+    p ≡ phase.AwaitList unit size
+wants_list (phase.AwaitList other n) unit size e =
+    λ i. phase.AwaitList (same_unit other n unit size e i) (same_size other n unit size e i)
+  where
+    same_unit : (other n unit size : ℕ) → Some (wanted.List other n) ≡ Some (wanted.List unit size) → other ≡ unit
+    same_unit other n unit size k = cc
+
+    same_size : (other n unit size : ℕ) → Some (wanted.List other n) ≡ Some (wanted.List unit size) → n ≡ size
+    same_size other n unit size k = cc
+wants_list (phase.AwaitData x) unit size e = absurd (other x unit size e)
+  where
+    other : (x : Transfer) (unit size : ℕ) → Some (wanted.Block x) ≡ Some (wanted.List unit size) → ⊥
+    other x unit size k = cc
+wants_list (phase.AwaitFrames n) unit size e = absurd (other n unit size e)
+  where
+    other : (n unit size : ℕ) → Some (wanted.Frames n) ≡ Some (wanted.List unit size) → ⊥
+    other n unit size k = cc
+wants_list (phase.AskData y) unit size e = absurd (none-some (wanted.List unit size) e)
+wants_list (phase.AskFrames n) unit size e = absurd (none-some (wanted.List unit size) e)
+wants_list (phase.AskList other n) unit size e = absurd (none-some (wanted.List unit size) e)
+wants_list (phase.AwaitFrontier n m) unit size e = absurd (none-some (wanted.List unit size) e)
+wants_list (phase.ReadArea r) unit size e = absurd (none-some (wanted.List unit size) e)
+wants_list (phase.SendBlocks y) unit size e = absurd (none-some (wanted.List unit size) e)
+wants_list (phase.SendData y) unit size e = absurd (none-some (wanted.List unit size) e)
+wants_list (phase.SendHeld n) unit size e = absurd (none-some (wanted.List unit size) e)
+wants_list (phase.Answer told n) unit size e = absurd (none-some (wanted.List unit size) e)
+
+-- the list came that the task of this tag asked for
+pub record ListCame (d : DeviceCore) (s : State) (tag : ℕ) (list : List ℕ) : Type 0 where
+  pub described : Describes d s
+  pub stands : Stands (before_accepted s.translation.ledger) tag d.tasks s.tasks
+  pub unit : ℕ
+  pub size : ℕ
+  pub awaits : stands.a.phase ≡ phase.AwaitList unit size
+  pub gathers : GathersList unit size stands.b.length stands.b.deed
+  pub long : length list ≡ size
+  pub are_bytes : AreBytes list
+
+module _ {d : DeviceCore} {s : State} {tag : ℕ} {list : List ℕ} (c : ListCame d s tag list) where
+  pub gathers_its : GathersIn s c.stands.b (ForUnmap c.unit) [] true
+  gathers_its = gathers_in tag c.described.tied c.stands.found c.gathers.deed_is
+
+  found : task_of c.stands.b.tag s.tasks ≡ Some c.stands.b
+  found = gathers_its.there
+
+  none_brought : c.stands.a.frames ≡ frames.NotBrought
+  none_brought =
+      subst (λ (p : Phase). FramesFit p c.stands.a.frames c.stands.a.held c.stands.b.deed) c.awaits
+      c.stands.opened.kept.fits
+
+  -- zeros lie in its slots
+  pub its_slots : claims_of s.tasks tag ≡ replicate (claim_of (numbers_of s) c.stands.b) zero_block
+  its_slots =
+      ap claimed_by c.stands.found
+      ∙ (ap (claimed_in c.stands.b.length) c.gathers.deed_is
+      ∙ ap (λ (n : ℕ). replicate n zero_block) (sym (gathers_its.claim ∙ slots gathers_its.fits.list)))
+    where
+      slots : {claimed : ℕ} →
+          ((c.stands.b.length ≡ 8) × (claimed ≡ 0)) ⊎ ((c.stands.b.length ≡ 24) × (claimed ≡ greatest_command)) →
+          claimed ≡ list_slots c.stands.b.length
+      slots (inl header) = header.1 ∙ sym (ap list_slots header.0)
+      slots (inr whole) = whole.1 ∙ sym (ap list_slots whole.0)
+
+  pub slots_are : length (claims_of s.tasks tag) ≡ claim_of (numbers_of s) c.stands.b
+  slots_are = ap length its_slots ∙ length-replicate (claim_of (numbers_of s) c.stands.b) zero_block
+
+  -- nothing is wanted for it
+  not_wanted : (index : ℕ) → wanted_kept s.translation.pins c.stands.b.tag index ≡ None
+  not_wanted index =
+      c.described.kept.wanted c.stands.b.tag index
+      ∙ (ap (wanted_by index) found ∙ ap (wanted_in index c.stands.b.request) c.gathers.deed_is)
+
+  -- Its task is answered
+
+  -- what tells it so
+  pub record Tells (e : TaskEvent) (told : Status) : Type 0 where
+    pub phase_is : phase_after (phase.AwaitList c.unit c.size) e ≡ phase.Answer told c.size
+    pub frames_stay : frames_after c.stands.a.frames e ≡ c.stands.a.frames
+    pub block_stays : block_after e (phase.AwaitList c.unit c.size) c.stands.a.block ≡ c.stands.a.block
+
+  -- what becomes of the layer and of the accepted commands
+  pub record Leads (layer : Core) (u : Translation) (cs : List Command) : Type 0 where
+    pub boot : (after s.base cs).boot ≡ (plain_now s).boot
+    pub permanent : (after s.base cs).permanent ≡ (plain_now s).permanent
+    pub region : region_of (after s.base cs) 0 ≡ region_of (plain_now s) 0
+    pub layer_is : IsLayerWith layer u (with_claimed (claims_of s.tasks) tag [])
+    pub numbers : u.numbers ≡ s.translation.numbers
+    pub before : before_accepted u.ledger ≡ before_accepted s.translation.ledger
+    pub pins : u.pins ≡ s.translation.pins
+
+  module _ (e : TaskEvent) (told : Status) (tells : Tells e told) where
+    abbrev new : OpenTask
+    new = task_after e c.stands.a
+
+    abbrev answering : Deed
+    answering = Answering (status_kept told) c.stands.b.length
+
+    phase_is : phase_after c.stands.a.phase e ≡ phase.Answer told c.size
+    phase_is = ap (λ (p : Phase). phase_after p e) c.awaits ∙ tells.phase_is
+
+    still_brings : brings_frames c.stands.a.frames ≡ brings_frames (frames_after c.stands.a.frames e)
+    still_brings = sym (ap brings_frames tells.frames_stay)
+
+    told_task : TaskKept (before_accepted s.translation.ledger) new (record c.stands.b { deed = answering })
+    told_task = record {
+      lun = c.stands.opened.kept.lun;
+      tag = c.stands.opened.kept.tag;
+      expected = c.stands.opened.kept.expected;
+      sends = c.stands.opened.kept.sends ∙ still_brings;
+      sends_here = c.stands.opened.kept.sends_here ∙ still_brings;
+      request =
+          subst (λ (f : Frames). AreFramesKept f c.stands.a.held c.stands.b.request) (sym tells.frames_stay)
+          c.stands.opened.kept.request;
+      asks =
+          subst (λ (f : Frames). ReadsAsked (phase_after c.stands.a.phase e) f c.stands.a.held)
+          (sym (tells.frames_stay ∙ none_brought)) tt;
+      fits =
+          subst (λ (p : Phase). FramesFit p (frames_after c.stands.a.frames e) c.stands.a.held answering)
+          (sym phase_is) tt;
+      doing =
+          subst (λ (p : Phase). IsDoing (before_accepted s.translation.ledger) c.stands.a.expected c.stands.b.length p
+          answering) (sym phase_is) (refl, c.gathers.total_is);
+      read =
+          ap (λ (p : Phase). block_after e p c.stands.a.block) c.awaits
+          ∙ (tells.block_stays ∙ (c.stands.opened.kept.read ∙ ap read_in c.gathers.deed_is));
+    }
+
+    changed : with_deed c.stands.b.tag answering c.stands.b ≡ record c.stands.b { deed = answering }
+    changed =
+        ap (λ (b : Bool). cond b (record c.stands.b { deed = answering }) c.stands.b) (eq_self c.stands.b.tag)
+
+    core_is : (layer : Core) → core_then d c.stands.k layer e ≡ device_then d c.stands.k new layer d.rpmb
+    core_is layer = λ i. record d {
+      ftl = layer;
+      tasks = task_happened d.tasks c.stands.k e (c.stands.opened.ours i);
+    }
+
+    pub told_keeps : (layer : Core) (u : Translation) (cs : List Command) → Leads layer u cs →
+        Keeps (core_then d c.stands.k layer e)
+        (state_then s (with_deed c.stands.b.tag answering) u cs s.registers)
+    told_keeps layer u cs leads =
+        subst
+        (λ (y : DeviceCore). Keeps y (state_then s (with_deed c.stands.b.tag answering) u cs s.registers))
+        (sym (core_is layer))
+        (becomes_kept d s c.stands.k c.stands.a new c.stands.b (with_deed c.stands.b.tag answering) layer d.rpmb u cs
+        s.registers c.described c.stands.opened
+        (record {
+          changes = deed_changes c.stands.b.tag answering;
+          boot = leads.boot;
+          permanent = leads.permanent;
+          region = subst (IsKept d.rpmb.region) (sym leads.region) c.described.kept.region;
+          registers_are = c.described.kept.registers;
+          layer_is =
+              subst (λ (y : exchange.Task). IsLayerWith layer u
+              (with_claimed (claims_of s.tasks) c.stands.b.tag (claimed_in y.length y.deed))) (sym changed)
+              (subst (λ (n : ℕ). IsLayerWith layer u (with_claimed (claims_of s.tasks) n [])) (sym c.stands.tag_is)
+              leads.layer_is);
+          numbers = leads.numbers;
+          before = leads.before;
+          task = subst (TaskKept (before_accepted s.translation.ledger) new) (sym changed) told_task;
+          sends = ap brings_frames tells.frames_stay;
+          wanted =
+              λ index. ap (λ (pins : List Pin). wanted_kept pins c.stands.b.tag index) leads.pins
+              ∙ (not_wanted index ∙ sym (ap (λ (y : exchange.Task). wanted_by index (Some y)) changed));
+          others_wanted =
+              λ n other index. ap (λ (pins : List Pin). wanted_kept pins n index) leads.pins;
+        }))
+
+    -- where it gives back all that it claimed
+    pub ended_keeps : (layer : Core) → HasGivenBack layer s.translation (claims_of s.tasks) tag →
+        Keeps (core_then d c.stands.k layer e) (ends_with_status s c.stands.b (status_kept told))
+    ended_keeps layer given =
+        told_keeps layer (moved s.translation (Release (claim_of (numbers_of s) c.stands.b))) s.accepted (record {
+          boot = refl;
+          permanent = refl;
+          region = refl;
+          layer_is =
+              subst (λ (n : ℕ). IsLayerWith layer (moved s.translation (Release n))
+              (with_claimed (claims_of s.tasks) tag [])) slots_are given;
+          numbers = refl;
+          before = refl;
+          pins = refl;
+        })

@@ -1,0 +1,67 @@
+-- A task management request is answered as the definitions say.
+use Rattle.std.proofs.Common.{◌≡◌, ◌∙◌, ℕ, List, None, refl, sym, ap, subst}
+use Rattle.std.specs.Prelude.{OnErr, OnOk, Result, Ok, Err}
+use Rattle.ufs_spec.specs.Exchanges.{Short, short_reply}
+use Rattle.ufs_spec.specs.Ledger.{before_accepted}
+use Rattle.ufs_spec.specs.Machine as machine
+use Rattle.ufs_spec.specs.Machine.{heard, managed, message_fault, result_of, service}
+use Rattle.ufs_spec.specs.Messages.{Spells, host_fault_of}
+use Rattle.ufs_spec.specs.Refusals.{State, numbers_of}
+use Rattle.ufs_spec.specs.declared.faults.HostFault.{HostFault}
+use Rattle.ufs_spec.specs.declared.messages.Message.{Message}
+use Rattle.ufs_spec.specs.declared.messages.Message.TheVariants as message
+use Rattle.task_set.specs.declared.tasks.ShortReply.TheVariants as reply
+use Rattle.device.specs.Describes.{Describes, IsBehind, IsHeardAs}
+use Rattle.device.specs.Hears.{short_answer, with_short}
+use Rattle.device.specs.Kept.{DeviceCore}
+use Rattle.device.specs.Manages.{carried, function_on, service_by}
+use Rattle.device.specs.Queries.{at_once}
+use Rattle.device.specs.declared.management.Managing.{Managing}
+use Rattle.device.proofs.described.Answered.{stays}
+use Rattle.device.proofs.described.ShortExchanges.{kept_at_once}
+use Rattle.device.proofs.host_messages.CommandTags.{short_fault}
+use Rattle.device.proofs.host_messages.ShortsOpened.{short_behind, spelled_heard}
+use Rattle.device.proofs.managed.Services.{managed_same, service_same}
+
+module _ (d : DeviceCore) (s : State) (lun tag function meant : ℕ) (h : Describes d s) where
+  abbrev said : Message
+  said = message.TaskRequest lun tag function meant
+
+  abbrev told : ℕ → Short
+  told code = short_reply tag (message.TaskResponse lun tag code)
+
+  -- it was carried out, and its answer is due at once
+  pub managing_taken : (c e : DeviceCore) (m : Managing) (code : ℕ) →
+      m ≡ function_on (numbers_of s) lun function meant → code ≡ service_by d m → IsBehind c (carried s m) →
+      e ≡ with_short c (at_once tag (reply.Managed lun code)) → IsBehind e (heard s said None)
+  managing_taken c e m code decided answered behind after =
+      subst (λ (x : DeviceCore). IsBehind x (heard s said None)) (sym after)
+      (subst (IsBehind (with_short c (at_once tag (reply.Managed lun code)))) (sym is)
+      (short_behind c (carried s m) (at_once tag (reply.Managed lun code)) (told code) behind
+      (kept_at_once (numbers_of (carried s m)) (before_accepted (carried s m).translation.ledger) tag
+      (reply.Managed lun code)) tt))
+    where
+      made : managed s lun function meant ≡ carried s m
+      made = managed_same d s lun function meant h.kept.tasks ∙ ap (carried s) (sym decided)
+
+      responds : service s lun function meant ≡ code
+      responds =
+          service_same d s lun function meant h.kept.tasks ∙ sym (answered ∙ ap (service_by d) decided)
+
+      is : heard s said None ≡ machine.with_short (carried s m) (told code)
+      is i = machine.with_short (made i) (told (responds i))
+
+  -- so it is heard; if its tag is in use, or too many short exchanges are open, it is told so
+  pub managing_right : (e : DeviceCore) (bytes : List ℕ) (answer : Result Unit HostFault) → Spells said bytes →
+      host_fault_of bytes ≡ None → answer ≡ short_answer d tag → OnErr answer (e ≡ d) →
+      OnOk answer (IsBehind e (heard s said None)) → IsHeardAs s bytes answer e
+  managing_right e bytes answer spells none is refused taken =
+      by answer (is ∙ sym (short_fault d s tag h)) refused taken
+    where
+      by : (x : Result Unit HostFault) → x ≡ result_of (message_fault s said) → OnErr x (e ≡ d) →
+          OnOk x (IsBehind e (heard s said None)) → IsHeardAs s bytes x e
+      by (Ok done) right stayed behind =
+          spelled_heard d e s (heard s said None) bytes said None (Ok done) h spells none refl right refl behind
+      by (Err fault) right stayed behind =
+          spelled_heard d e s s bytes said None (Err fault) h spells none refl right refl
+          (subst (λ (x : DeviceCore). IsBehind x s) (sym stayed) (stays d s h))

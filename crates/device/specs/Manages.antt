@@ -1,0 +1,78 @@
+-- Task management over what the device keeps (JESD220, 10.7.6 and 10.7.7).
+use Rattle.std.specs.Prelude.{ℕ, ◌==◌, is_none, Bool, if◌then◌else◌, length, [], ◌∷◌, Some, None}
+use Rattle.std.specs.List.{list_any}
+use Rattle.ufs_spec.specs.Exchanges.{Task, empty_registers}
+use Rattle.ufs_spec.specs.Management.{service_found, without_tasks}
+use Rattle.ufs_spec.specs.Messages.{is_among}
+use Rattle.ufs_spec.specs.Moves.{LetGoAll, Release, moved}
+use Rattle.ufs_spec.specs.Refusals.{State, lun_of}
+use Rattle.ufs_spec.specs.Translation.{Translation}
+use Rattle.ufs_spec.specs.declared.configs.Numbers.{Numbers}
+use Rattle.ftl_core.specs.Public.{Claims, Core, with_claimed}
+use Rattle.rpmb.specs.Kept.{Machine}
+use Rattle.task_set.specs.Tasks.{brings_frames, is_meant, is_task_meant}
+use Rattle.task_set.specs.declared.frames.Frames.{Frames}
+use Rattle.task_set.specs.declared.tasks.Meant.{Meant}
+use Rattle.device.specs.Kept.{DeviceCore, IsLayerWith}
+use Rattle.device.specs.Replies.{without_task}
+use Rattle.device.specs.declared.management.Managing.{Managing}
+use Rattle.device.specs.declared.management.Managing.TheVariants as managing
+
+-- What is decided
+
+-- the task with this LUN byte and this tag
+abbrev pub one_task : ℕ → ℕ → Meant
+one_task lun tag = record { lun = lun; tag = Some tag }
+
+-- all tasks with this LUN byte
+abbrev pub all_tasks : ℕ → Meant
+all_tasks lun = record { lun = lun; tag = None }
+
+-- what the function comes to, with this LUN byte and the tag that is meant
+abbrev pub by_function : ℕ → ℕ → ℕ → Managing
+by_function lun function meant =
+    if function == 0x01 then managing.Aborts (one_task lun meant)
+    else if is_among (0x02 ∷ 0x04 ∷ 0x08 ∷ []) function then managing.Aborts (all_tasks lun)
+    else if function == 0x80 then managing.Asks (one_task lun meant)
+    else if function == 0x81 then managing.Asks (all_tasks lun)
+    else managing.NotSupported
+
+-- the same on a device with this configuration, where the LUN byte may name no unit
+abbrev pub function_on : Numbers → ℕ → ℕ → ℕ → Managing
+function_on n lun function meant = if is_none (lun_of n lun) then managing.NoUnit else by_function lun function meant
+
+-- its service response
+abbrev pub service_by : DeviceCore → Managing → ℕ
+service_by d (managing.Aborts aborted) = 0x00
+service_by d (managing.Asks asked) = service_found (list_any (is_task_meant asked) d.tasks)
+service_by d managing.NotSupported = 0x04
+service_by d managing.NoUnit = 0x09
+
+-- the specified task is one of those that are meant
+abbrev pub means : Meant → Task → Bool
+means who task = is_meant who task.lun task.tag
+
+-- what it makes of the state: the tasks that are aborted are gone
+abbrev pub carried : State → Managing → State
+carried s (managing.Aborts aborted) = without_tasks s (means aborted)
+carried s m = s
+
+-- One task is aborted
+
+-- the machine of the RPMB once a task is aborted that had this to do with frames: if it brought some, no register holds
+-- anything
+abbrev pub machine_after : Frames → Machine → Machine
+machine_after f m = record m { registers = if brings_frames f then empty_registers else m.registers }
+
+-- what the device keeps then
+abbrev pub forgotten : DeviceCore → Frames → DeviceCore
+forgotten d f = record d { rpmb = machine_after f d.rpmb }
+
+-- what the device keeps, but for its layer, once the task at this position is aborted, which had this to do with frames
+abbrev pub aborted_at : DeviceCore → ℕ → Frames → DeviceCore
+aborted_at d k f = forgotten (without_task d k) f
+
+-- the layer then: what was claimed for the tag is given back, and what is kept for it is let go
+abbrev pub HasLetGo : Core → Translation → Claims → ℕ → Type 0
+HasLetGo after t claims tag =
+    IsLayerWith after (moved (moved t (Release (length (claims tag)))) (LetGoAll tag)) (with_claimed claims tag [])

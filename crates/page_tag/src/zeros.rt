@@ -1,0 +1,102 @@
+//! Pages whose block is zeros: of these the SHA-256 of the block is taken once, and goes on with
+//! the spare bytes of each page.
+ghost use Rattle.std.specs.Prelude.{◌≡◌, ◌↔◌, IsTrue};
+ghost use Rattle.sha2.specs.Hashers.{Holds256};
+ghost use Rattle.ufs_bytes.specs.Blocks.{zero_block};
+ghost use Rattle.ufs_spec.specs.Pages.{IsTag, check_of, seal_page};
+
+use crate::check::check_bytes;
+use crate::front::front_of;
+use crate::page::page_of;
+use sha2::{Digest, Sha256};
+use std::marker::Model;
+use ufs_spec::{Block, Page, Tag};
+
+/// A SHA-256 that has taken in a block of zeros. A device makes one, and seals its pages with it:
+/// one whose block is zeros takes the SHA-256 of its 64 spare bytes alone.
+#[derive(Drop)]
+pub struct ZeroSeal {
+    begun: Sha256,
+}
+
+impl Model for ZeroSeal {
+    ghost use Rattle.sha2.specs.Hashers.{Holds256};
+    ghost use Rattle.ufs_bytes.specs.Blocks.{zero_block};
+
+    ghost Value = { Unit {0} };
+
+    ghost view = { λ s. tt };
+
+    ghost invariant = { λ s. Holds256 s.begun zero_block };
+}
+
+impl ZeroSeal {
+    /// Takes in the zeros: one SHA-256 of 4096 bytes.
+    pub fn new() -> ZeroSeal {
+        ZeroSeal {
+            begun: Sha256::new_with_prefix(&zeros()),
+        }
+    }
+
+    /// The page of a tag and a block, as [`crate::seal`] makes it.
+    pub fn seal(&self, tag: &Tag, body: &Block) -> Page
+        requires { IsTag tag.now }
+        ensures { result ≡ seal_page tag.now body.now }
+    {
+        let front = front_of(tag);
+        let check = self.check_bytes(body, &front);
+        page_of(body, &front, &check)
+    }
+
+    /// Another one.
+    pub(crate) fn another(&self) -> ZeroSeal {
+        ZeroSeal {
+            begun: self.begun(),
+        }
+    }
+
+    // The check of a block and of the first 64 spare bytes.
+    fn check_bytes(&self, body: &Block, front: &[u8; 64]) -> [u8; 32]
+        ensures { result ≡ check_of body.now front.now }
+    {
+        if is_zeros(body) {
+            self.check_of_zeros(front)
+        } else {
+            check_bytes(body, front)
+        }
+    }
+
+    // The check of zeros and of the first 64 spare bytes.
+    fn check_of_zeros(&self, front: &[u8; 64]) -> [u8; 32]
+        ensures { result ≡ check_of zero_block front.now }
+    {
+        let mut hasher = self.begun();
+        hasher.update(front);
+        hasher.finalize()
+    }
+
+    // The hash of zeros so far. No memory is needed for it.
+    fn begun(&self) -> Sha256
+        ensures { Holds256 result zero_block }
+    {
+        match self.begun.clone() {
+            Ok(begun) => begun,
+            Err(_) => unreachable!(),
+        }
+    }
+}
+
+// Whether a block is zeros.
+fn is_zeros(body: &Block) -> bool
+    ensures { IsTrue result ↔ (body.now ≡ zero_block) }
+{
+    *body == zeros()
+}
+
+// A block of zeros.
+#[tactic(auto, unfolding(ufs_bytes::specs::Blocks::zero_block))]
+fn zeros() -> Block
+    ensures { result ≡ zero_block }
+{
+    [0; 4096]
+}

@@ -1,0 +1,124 @@
+-- A flush with nothing to wait for is answered GOOD, on a locked device too.
+use Rattle.std.proofs.Common.{◌≡◌, ◌≤◌, ◌&&◌, ℕ, nat_le, nat_lt, not, Bool, true, false, if◌then◌else◌, [], ◌∷◌}
+use Rattle.std.proofs.Common.{map, length, Option, Some, None, Ok, refl, sym, ap, ◌∙◌, subst}
+use Rattle.ufs_laws.proofs.answers.OnlyAnswers.{host_gets, reply_gets}
+use Rattle.ufs_laws.proofs.refusals.RefusedCommands.{idle_is, idle_state}
+use Rattle.ufs_laws.proofs.refusals.TakenRequests.{needs_none, skips}
+use Rattle.ufs_laws.specs.Runs.{Gets, IsAnswered, IsIdle, heard}
+use Rattle.ufs_laws.specs.Table.{asks, flush, heard_as}
+use Rattle.ufs_spec.proofs.Facts.{cond-true, le-leb}
+use Rattle.ufs_spec.specs.Exchanges.{Answering, Awaiting, Busy, Deed, Good, Status, Task, not_ready, response}
+use Rattle.ufs_spec.specs.Exchanges.{write_error, write_protected}
+use Rattle.ufs_spec.specs.Machine.{Host, OfReply, Reply, deed_reply, durable, fills, lock_applied, observe}
+use Rattle.ufs_spec.specs.Machine.{refused_or_begun, short_locked, task_locked, with_task}
+use Rattle.ufs_spec.specs.Refusals.{Request, State, locked, mended, refusal}
+use Rattle.ufs_spec.specs.Translation.{free_slots, has_pending}
+use Rattle.ufs_spec.specs.declared.messages.Message.TheVariants as message
+
+-- ## The lock on one task
+
+-- the state with what a lock makes of it, if it is there
+abbrev under : State → Bool → State
+under s b = if b then record s { tasks = map (task_locked s) s.tasks; shorts = map (short_locked s) s.shorts } else s
+
+one_task : (s : State) (task : Task) → s.tasks ≡ task ∷ [] → task_locked s task ≡ task → (b : Bool) →
+    (under s b).tasks ≡ task ∷ []
+one_task s task one same false = one
+one_task s task one same true = ap (map (task_locked s)) one ∙ ap (λ (t : Task). t ∷ []) same
+
+no_shorts : (s : State) → s.shorts ≡ [] → (b : Bool) → (under s b).shorts ≡ []
+no_shorts s none false = none
+no_shorts s none true = ap (map (short_locked s)) none
+
+-- ## The flush
+
+abbrev flushes : ℕ → Bool → Request
+flushes tag immediate = asks 0x00 0 tag (flush immediate)
+
+abbrev waits : State → Bool → Deed
+waits s immediate = if immediate then Answering Good 0 else Awaiting (length s.accepted)
+
+abbrev flush_task : ℕ → Bool → Deed → Task
+flush_task tag immediate deed =
+    record {
+      lun = 0;
+      tag = tag;
+      expected = 4096;
+      command = Some (flush immediate);
+      length = 0;
+      deed = deed;
+      request = None;
+    }
+
+abbrev begun : State → ℕ → Bool → State
+begun s tag immediate =
+    with_task (idle_state s) (flushes tag immediate) (Some (flush immediate)) 0 (waits (idle_state s) immediate)
+
+pub and_with_false : (a b : Bool) → b ≡ false → (a && b) ≡ false
+and_with_false true b e = e
+and_with_false false b e = refl
+
+not_refused : (s : State) (tag : ℕ) (immediate : Bool) → mended s ≡ true →
+    has_pending (idle_state s).translation ≡ false → refusal (idle_state s) (flushes tag immediate) ≡ None
+not_refused s tag immediate e none =
+    skips (not (mended (idle_state s))) not_ready _ (ap not e)
+    (skips (locked (idle_state s) && has_pending (idle_state s).translation) write_protected _
+    (and_with_false (locked (idle_state s)) (has_pending (idle_state s).translation) none)
+    (skips (nat_lt (free_slots (idle_state s).translation) 0) Busy _ (needs_none (idle_state s)) refl))
+
+is_begun : (s : State) (tag : ℕ) (immediate : Bool) →
+    refusal (idle_state s) (flushes tag immediate) ≡ None →
+    observe (idle_state s) (Host (heard_as (flushes tag immediate))) heard ≡ lock_applied (fills (begun s tag immediate))
+is_begun s tag immediate e =
+    ap (λ (o : Option Status). lock_applied (fills (refused_or_begun (idle_state s) (flushes tag immediate) o))) e
+
+-- it says GOOD at once, whatever the lock
+says_good : (s : State) (tag : ℕ) (immediate : Bool) → length s.accepted ≤ durable s →
+    Gets (lock_applied (fills (begun s tag immediate))) Reply (OfReply (Some (response 0 tag 4096 0 Good)))
+says_good s tag true all =
+    let t = with_task (idle_state s) (flushes tag true) (Some (flush true)) 0 (Answering Good 0) in
+    let task = flush_task tag true (Answering Good 0) in
+    reply_gets (lock_applied t) task (response 0 tag 4096 0 Good) (one_task t task refl refl (locked t))
+    (no_shorts t refl (locked t)) refl
+says_good s tag false all =
+    let n = length s.accepted in
+    let t = with_task (idle_state s) (flushes tag false) (Some (flush false)) 0 (Awaiting n) in
+    let task = flush_task tag false (Awaiting n) in
+    reply_gets (lock_applied t) task (response 0 tag 4096 0 Good)
+    (one_task t task refl (stays t task n (due s)) (locked t)) (no_shorts t refl (locked t))
+    (told t task n (due s) (locked t))
+  where
+    due : (u : State) → nat_le (length s.accepted) (durable s) ≡ true
+    due u = le-leb (length s.accepted) (durable s) all
+
+    stays : (t : State) (task : Task) (n : ℕ) → nat_le n (durable t) ≡ true →
+        task_locked t (record task { deed = Awaiting n }) ≡ record task { deed = Awaiting n }
+    stays t task n e =
+        ap (λ (d : Deed). record task { deed = d })
+        (cond-true (nat_le n (durable t)) (Awaiting n) (Answering write_error task.length) e)
+
+    told : (t : State) (task : Task) (n : ℕ) → nat_le n (durable t) ≡ true → (b : Bool) →
+        deed_reply (under t b) task (Awaiting n) ≡ Some (response task.lun task.tag task.expected task.length Good)
+    told t task n e true = cond-true (nat_le n (durable t)) _ None e
+    told t task n e false = cond-true (nat_le n (durable t)) _ None e
+
+idle_answered : (s : State) (tag : ℕ) (immediate : Bool) → mended s ≡ true →
+    has_pending (idle_state s).translation ≡ false → length s.accepted ≤ durable s →
+    IsAnswered (idle_state s) (heard_as (flushes tag immediate)) (response 0 tag 4096 0 Good)
+idle_answered s tag immediate e none all = record {
+  taken =
+      host_gets (idle_state s)
+      (message.Command 0x00 0 tag 4096 (flushes tag immediate).bytes) (Some (flush immediate)) (Ok tt) refl;
+  reply =
+      subst (λ (t : State). Gets t Reply (OfReply (Some (response 0 tag 4096 0 Good))))
+      (sym (is_begun s tag immediate (not_refused s tag immediate e none))) (says_good s tag immediate all);
+}
+
+pub answered : (s : State) (tag : ℕ) (immediate : Bool) → IsIdle s → mended s ≡ true →
+    has_pending s.translation ≡ false → length s.accepted ≤ durable s →
+    IsAnswered s (heard_as (flushes tag immediate)) (response 0 tag 4096 0 Good)
+answered s tag immediate h e none all =
+    subst (λ (t : State). IsAnswered t (heard_as (flushes tag immediate)) (response 0 tag 4096 0 Good))
+    (sym (idle_is s h))
+    (idle_answered s tag immediate e
+    (subst (λ (t : State). has_pending t.translation ≡ false) (idle_is s h) none) all)

@@ -1,0 +1,168 @@
+-- Requests that no line of the table refuses, and those that only one line refuses.
+use Rattle.std.proofs.Common.{◌≡◌, ◌<◌, ◌≤◌, ◌||◌, ℕ, nat_lt, not, Bool, true, false, if◌then◌else◌, Option, Some, None}
+use Rattle.std.proofs.Common.{ap, refl, ◌∙◌, sym, subst, arith}
+use Rattle.std.proofs.lemmas.Bool.{le-ltb, lt-ltb}
+use Rattle.ufs_laws.proofs.refusals.RefusedCommands.{answers, idle_is, idle_state}
+use Rattle.ufs_laws.proofs.refusals.TableLines.{decides, leaves}
+use Rattle.ufs_laws.specs.Runs.{IsIdle}
+use Rattle.ufs_laws.specs.Table.{IsRefused, asks, protected_row, read_at, write_at}
+use Rattle.ufs_spec.proofs.Facts.{cond-false, or_with_false}
+use Rattle.ufs_spec.specs.Exchanges.{Busy, Status, not_ready, write_protected}
+use Rattle.ufs_spec.specs.Refusals.{Request, State, locked, mended, numbers_of, plain_now, refusal}
+use Rattle.ufs_spec.specs.Translation.{free_slots}
+use Rattle.ufs_spec.specs.declared.configs.Numbers.{Numbers}
+use Rattle.ufs_spec.specs.declared.scsi.Cdb.TheVariants as cdb
+
+-- a line that does not apply leaves it to the rest, which do not either
+pub skips : (b : Bool) (status : Status) (rest : Option Status) → b ≡ false → rest ≡ None →
+    (if b then Some status else rest) ≡ None
+skips b status rest e k = cond-false b (Some status) rest e ∙ k
+
+-- what is decided of an idle state
+pub idle_decided : (s : State) (r : Request) (o : Option Status) → IsIdle s → refusal (idle_state s) r ≡ o →
+    refusal s r ≡ o
+idle_decided s r o h e = subst (λ (t : State). refusal t r ≡ o) (sym (idle_is s h)) e
+
+pub idle_lock : (s : State) (b : Bool) → IsIdle s → locked s ≡ b → locked (idle_state s) ≡ b
+idle_lock s b h e = subst (λ (t : State). locked t ≡ b) (idle_is s h) e
+
+-- a command that needs no slot is never short of any
+pub needs_none : (s : State) → nat_lt (free_slots s.translation) 0 ≡ false
+needs_none s = le-ltb (free_slots s.translation) 0 (omega arith)
+
+-- ## UNMAP
+
+abbrev unmap : ℕ → ℕ → Request
+unmap tag list = asks 0x20 0 tag (cdb.Unmap list)
+
+pub crowded : (s : State) (tag : ℕ) → IsIdle s → mended s ≡ true → locked s ≡ false → free_slots s.translation < 32 →
+    IsRefused s (unmap tag 24) Busy
+crowded s tag h e k few =
+    answers s (unmap tag 24) Busy h
+    (leaves (not (mended (idle_state s))) not_ready Busy _ (ap not e)
+    (leaves (locked (idle_state s) || false) write_protected Busy _ (or_with_false _ ∙ idle_lock s false h k)
+    (decides (nat_lt (free_slots (idle_state s).translation) 32) Busy _
+    (lt-ltb (free_slots (idle_state s).translation) 32
+    (subst (λ (t : State). free_slots t.translation < 32) (idle_is s h) few)))))
+
+pub taken : (s : State) (tag : ℕ) → IsIdle s → mended s ≡ true → locked s ≡ false → 32 ≤ free_slots s.translation →
+    refusal s (unmap tag 24) ≡ None
+taken s tag h e k room =
+    idle_decided s (unmap tag 24) None h
+    (skips (not (mended (idle_state s))) not_ready _ (ap not e)
+    (skips (locked (idle_state s) || false) write_protected _ (or_with_false _ ∙ idle_lock s false h k)
+    (skips (nat_lt (free_slots (idle_state s).translation) 32) Busy _
+    (le-ltb (free_slots (idle_state s).translation) 32
+    (subst (λ (t : State). 32 ≤ free_slots t.translation) (idle_is s h) room)) refl)))
+
+pub header_taken : (s : State) (tag : ℕ) → IsIdle s → mended s ≡ true → refusal s (unmap tag 8) ≡ None
+header_taken s tag h e =
+    idle_decided s (unmap tag 8) None h
+    (skips (not (mended (idle_state s))) not_ready _ (ap not e)
+    (skips (nat_lt (free_slots (idle_state s).translation) 0) Busy _ (needs_none (idle_state s)) refl))
+
+pub unmap_protected : (s : State) (tag : ℕ) → IsIdle s → mended s ≡ true → locked s ≡ true →
+    IsRefused s (unmap tag 24) write_protected
+unmap_protected s tag h e k =
+    answers s (unmap tag 24) write_protected h
+    (leaves (not (mended (idle_state s))) not_ready write_protected _ (ap not e)
+    (decides (locked (idle_state s) || false) write_protected _ (or_with_false _ ∙ idle_lock s true h k)))
+
+-- ## Before the mending is over
+
+-- the line of the mending is the first that applies
+abbrev FirstUnready : State → Request → Type 0
+FirstUnready s r = (later : Option Status) ×
+    (refusal (idle_state s) r ≡ (if not (mended (idle_state s)) then Some not_ready else later))
+
+pub unready : (s : State) (r : Request) → FirstUnready s r → IsIdle s → mended s ≡ false → IsRefused s r not_ready
+unready s r (later, first) h e =
+    answers s r not_ready h (first ∙ decides (not (mended (idle_state s))) not_ready later (ap not e))
+
+-- a request that no line before the last can refuse, and that needs no slot
+abbrev NeedsNoSlot : State → Request → Type 0
+NeedsNoSlot s r =
+    refusal (idle_state s) r ≡ (if nat_lt (free_slots (idle_state s).translation) 0 then Some Busy else None)
+
+pub told : (s : State) (r : Request) → NeedsNoSlot s r → IsIdle s → refusal s r ≡ None
+told s r last h =
+    idle_decided s r None h
+    (last
+    ∙ skips (nat_lt (free_slots (idle_state s).translation) 0) Busy None (needs_none (idle_state s)) refl)
+
+-- ## A locked device
+
+pub read_taken : (s : State) (tag : ℕ) → IsIdle s → mended s ≡ true →
+    refusal s (asks 0x40 0 tag (read_at 0 1)) ≡ None
+read_taken s tag h e =
+    idle_decided s (asks 0x40 0 tag (read_at 0 1)) None h
+    (skips (not (mended (idle_state s))) not_ready _ (ap not e)
+    (skips (nat_lt (free_slots (idle_state s).translation) 0) Busy _ (needs_none (idle_state s)) refl))
+
+-- ## A protected unit
+
+-- the state with the numbers that it has
+abbrev pub numbered : State → Numbers → State
+numbered s n = record s { translation = record s.translation { numbers = n } }
+
+decided : (s : State) (n : Numbers) (r : Request) (o : Option Status) → numbers_of s ≡ n →
+    refusal (numbered s n) r ≡ o → refusal s r ≡ o
+decided s n r o h e =
+    subst (λ (t : State). refusal t r ≡ o) (λ i. record s { translation = record s.translation { numbers = sym h i } }) e
+
+-- of unit 1, which fPowerOnWPEn protects
+abbrev by_power_on : State → Bool → Bool
+by_power_on s flag = ((flag || false) || locked (numbered s protected_row)) || false
+
+-- of unit 2, which fPermanentWPEn protects
+abbrev by_permanent : State → Bool → Bool
+by_permanent s flag = (flag || locked (numbered s protected_row)) || false
+
+module _ (s : State) (tag : ℕ) (row : numbers_of s ≡ protected_row) (ready : mended s ≡ true) where
+  refused : (r : Request) (applies : Bool) (later : Option Status) →
+      refusal (numbered s protected_row) r
+      ≡ (if not (mended s) then Some not_ready else if applies then Some write_protected else later) →
+      applies ≡ true → refusal s r ≡ Some write_protected
+  refused r applies later lines is =
+      decided s protected_row r (Some write_protected) row
+      (lines
+      ∙ leaves (not (mended s)) not_ready write_protected _ (ap not ready) (decides applies write_protected later is))
+
+  pub power_on_write : s.power_on ≡ true → refusal s (asks 0x20 1 tag (write_at 0)) ≡ Some write_protected
+  power_on_write is =
+      refused (asks 0x20 1 tag (write_at 0)) (by_power_on s s.power_on) _ refl (ap (by_power_on s) is)
+
+  pub power_on_unmap : s.power_on ≡ true → refusal s (asks 0x20 1 tag (cdb.Unmap 24)) ≡ Some write_protected
+  power_on_unmap is =
+      refused (asks 0x20 1 tag (cdb.Unmap 24)) (by_power_on s s.power_on) _ refl (ap (by_power_on s) is)
+
+  pub permanent_write : (plain_now s).permanent ≡ true →
+      refusal s (asks 0x20 2 tag (write_at 0)) ≡ Some write_protected
+  permanent_write is =
+      refused (asks 0x20 2 tag (write_at 0)) (by_permanent s (plain_now s).permanent) _ refl (ap (by_permanent s) is)
+
+  pub permanent_unmap : (plain_now s).permanent ≡ true →
+      refusal s (asks 0x20 2 tag (cdb.Unmap 24)) ≡ Some write_protected
+  permanent_unmap is =
+      refused (asks 0x20 2 tag (cdb.Unmap 24)) (by_permanent s (plain_now s).permanent) _ refl (ap (by_permanent s) is)
+
+  passes : (r : Request) →
+      refusal (numbered s protected_row) r
+      ≡ (if not (mended s) then Some not_ready
+      else if nat_lt (free_slots (numbered s protected_row).translation) 0 then Some Busy else None) →
+      refusal s r ≡ None
+  passes r lines =
+      decided s protected_row r None row
+      (lines
+      ∙ skips (not (mended s)) not_ready _ (ap not ready)
+      (skips (nat_lt (free_slots (numbered s protected_row).translation) 0) Busy None
+      (needs_none (numbered s protected_row)) refl))
+
+  pub no_blocks : (forced : Bool) → refusal s (asks 0x20 1 tag (cdb.Write10 0 0 forced)) ≡ None
+  no_blocks forced = passes (asks 0x20 1 tag (cdb.Write10 0 0 forced)) refl
+
+  pub header : refusal s (asks 0x20 1 tag (cdb.Unmap 8)) ≡ None
+  header = passes (asks 0x20 1 tag (cdb.Unmap 8)) refl
+
+  pub no_list : refusal s (asks 0x20 1 tag (cdb.Unmap 0)) ≡ None
+  no_list = passes (asks 0x20 1 tag (cdb.Unmap 0)) refl
