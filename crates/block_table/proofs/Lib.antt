@@ -1,4 +1,9 @@
 pub mod Counts
 pub mod LiveCounts
+pub mod LowestWords
 pub mod Relations
 pub mod Searches
+pub mod States
+pub mod Unpinned
+pub mod VictimWords
+pub mod Words

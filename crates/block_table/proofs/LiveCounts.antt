@@ -21,7 +21,7 @@ use Rattle.block_table.specs.declared.Sizes.{Sizes}
 
 -- Places
 
-order : (a b : ℕ) → (a < b) ⊎ ((a ≡ b) ⊎ (b < a))
+pub order : (a b : ℕ) → (a < b) ⊎ ((a ≡ b) ⊎ (b < a))
 order a b = grind arith
 
 -- a column of a row has its own place
@@ -83,7 +83,7 @@ count_is f g (suc n) =
     ∙ length-append (filter f (map g (below n))) (filter f (g n ∷ []))
     ∙ (λ i. count_is f g n i + one_kept f (g n) i)
 
-count_same : (n : ℕ) (f g : ℕ → Bool) → ((k : ℕ) → k < n → f k ≡ g k) → count n f ≡ count n g
+pub count_same : (n : ℕ) (f g : ℕ → Bool) → ((k : ℕ) → k < n → f k ≡ g k) → count n f ≡ count n g
 count_same zero f g same = refl
 count_same (suc n) f g same =
     λ i. count_same n f g (λ k l. same k (omega arith)) i + one (same n (omega arith) i)
@@ -91,7 +91,7 @@ count_same (suc n) f g same =
 last : (k n : ℕ) → k < suc n → (k ≡ n) ⊎ (k < n)
 last k n l = grind arith
 
-count_more : (n : ℕ) (f g : ℕ → Bool) (k : ℕ) → k < n → f k ≡ false → g k ≡ true →
+pub count_more : (n : ℕ) (f g : ℕ → Bool) (k : ℕ) → k < n → f k ≡ false → g k ≡ true →
     ((j : ℕ) → j < n → j ≢ k → f j ≡ g j) → count n g ≡ count n f + 1
 count_more zero f g k l off on same = absurd (omega arith)
 count_more (suc n) f g k l off on same =
@@ -117,7 +117,7 @@ pub count_within : (n : ℕ) (f : ℕ → Bool) → count n f ≤ n
 count_within zero f = omega arith
 count_within (suc n) f = let u = count_within n f in let v = count_bit (f n) in omega arith
 
-count_room : (n : ℕ) (f : ℕ → Bool) (k : ℕ) → k < n → f k ≡ false → count n f < n
+pub count_room : (n : ℕ) (f : ℕ → Bool) (k : ℕ) → k < n → f k ≡ false → count n f < n
 count_room zero f k l off = absurd (omega arith)
 count_room (suc n) f k l off = by (last k n l) (λ m. count_room n f k m off)
   where
@@ -128,7 +128,7 @@ count_room (suc n) f k l off = by (last k n l) (λ m. count_room n f k m off)
         omega arith
     by (inr m) rest = let u = rest m in let v = count_bit (f n) in omega arith
 
-count_some : (n : ℕ) (f : ℕ → Bool) (k : ℕ) → k < n → f k ≡ true → 0 < count n f
+pub count_some : (n : ℕ) (f : ℕ → Bool) (k : ℕ) → k < n → f k ≡ true → 0 < count n f
 count_some zero f k l on = absurd (omega arith)
 count_some (suc n) f k l on = by (last k n l) (λ m. count_some n f k m on)
   where
@@ -136,7 +136,7 @@ count_some (suc n) f k l on = by (last k n l) (λ m. count_some n f k m on)
     by (inl e) rest = let v : one (f n) ≡ 1 = ap one (ap f (sym e) ∙ on) in omega arith
     by (inr m) rest = let u = rest m in omega arith
 
-count_zero : (n : ℕ) (f : ℕ → Bool) → ((k : ℕ) → f k ≡ false) → count n f ≡ 0
+pub count_zero : (n : ℕ) (f : ℕ → Bool) → ((k : ℕ) → f k ≡ false) → count n f ≡ 0
 count_zero zero f off = refl
 count_zero (suc n) f off = λ i. count_zero n f off i + one (off n i)
 
@@ -341,6 +341,14 @@ abbrev pub count_after : Bool → ℕ → ℕ
 count_after true c = c + 1
 count_after false c = c - 1
 
+pub change_within : {l : Lives} {p : Place} (b : Bool) {index : ℕ} (count : ℕ) → IsChange l p b index →
+    count ≡ live_count l (spot_of p) → count_after b count ≤ l.sizes.pages
+change_within {l} {p} true count c e = let h = change_room count c e in omega arith
+change_within {l} {p} false count c e =
+    let h = count_within l.sizes.pages (λ k. is_live l (place_in (spot_of p) k)) in
+    let f = live_count_is l (spot_of p) in
+    omega arith
+
 noted_count : {l : Lives} {p : Place} (b : Bool) {index : ℕ} → IsChange l p b index →
     live_count (noted l p b) (spot_of p) ≡ count_after b (live_count l (spot_of p))
 noted_count {l} {p} true c = noted_more l p c.there (subst (λ k. k < length l.live) c.index_is c.within) c.was
@@ -359,7 +367,7 @@ change_counted {l} {p} {b} {index} counts block count c kept e f =
 
 -- A count that is read
 
-count_there : (l now : Lives) (counts : List ℕ) (s : Spot) (place : ℕ) → l ≡ now → AreCounted l counts →
+pub count_there : (l now : Lives) (counts : List ℕ) (s : Spot) (place : ℕ) → l ≡ now → AreCounted l counts →
     has_block now.sizes s ≡ true → place ≡ block_place now.sizes s → slice_get counts place ≡ Some (live_count now s)
 count_there l now counts s place same kept there e =
     ap (λ (k : ℕ). slice_get counts k) e

@@ -1,8 +1,8 @@
 -- The plain search, block by block and die by die, and what it finds.
-use Rattle.std.proofs.Common.{◌≡◌, ◌∙◌, ◌⊎◌, ℕ, zero, suc, ◌+◌, ◌<◌, ◌≤◌, ◌&&◌, Bool, true, false, cond, not, List, []}
+use Rattle.std.proofs.Common.{◌≡◌, ◌∙◌, ◌⊎◌, ℕ, zero, suc, ◌<◌, ◌≤◌, ◌&&◌, Bool, true, false, cond, not, List, []}
 use Rattle.std.proofs.Common.{◌∷◌, ◌++◌, Option, Some, None, ap, arith, refl, sym, subst, inl, inr, ⊎_elim}
-use Rattle.std.proofs.Common.{add-one, if◌then◌else◌, MatchOption}
-use Rattle.std.specs.Prelude.{filter, find, map, nat_le, nat_lt, option_map}
+use Rattle.std.proofs.Common.{if◌then◌else◌}
+use Rattle.std.specs.Prelude.{filter, find, map, nat_le, nat_lt}
 use Rattle.std.specs.Option.{option_or}
 use Rattle.std.specs.List.{flat_map}
 use Rattle.std.proofs.lemmas.Grind.{flat_map-append}
@@ -18,12 +18,12 @@ use Rattle.ufs_spec.specs.Translation.{least_of}
 use Rattle.ufs_spec.specs.declared.flash.Place.{Place}
 use Rattle.block_table.specs.Blocks.{Blocks, state_of}
 use Rattle.block_table.specs.Lives.{Lives, gains, has_block, is_live, is_pinned}
-use Rattle.block_table.specs.Lives.{live_count, live_from, may_be_victim, spot, spot_at}
+use Rattle.block_table.specs.Lives.{live_count, live_from, may_be_victim, spot}
 use Rattle.block_table.specs.Lives.{places_in, victim}
 use Rattle.block_table.specs.Victims.{CanBeVictim, IsBefore, IsNoVictim, IsVictim}
 use Rattle.block_table.specs.declared.BlockState.{BlockState}
 use Rattle.block_table.specs.declared.BlockState.TheVariants as state
-use Rattle.block_table.specs.declared.live.BlockAt.{BlockAt}
+use Rattle.block_table.proofs.LiveCounts.{order}
 
 -- A list after another
 
@@ -52,21 +52,6 @@ die_more count may f n o =
     (flat_map-append f (below n) (n ∷ []) ∙ ap (λ xs. flat_map f (below n) ++ xs) (append-nil (f n)))
     ∙ ap (least_of count o) (filter-append may (flat_map f (below n)) (f n))
     ∙ least_append count o (filter may (flat_map f (below n))) (filter may (f n))
-
--- and so at a loop's end
-pub block_after : (count : Spot → ℕ) (may : Spot → Bool) (die n : ℕ) (o : Option Spot) →
-    least_of count (least_of count o (filter may (map (spot die) (below n)))) (filter may (spot die n ∷ []))
-    ≡ least_of count o (filter may (map (spot die) (below (n + 1))))
-block_after count may die n o =
-    sym (block_more count may die n o)
-    ∙ ap (λ (i : ℕ). least_of count o (filter may (map (spot die) (below i)))) (sym (add-one n))
-
-pub die_after : (count : Spot → ℕ) (may : Spot → Bool) (f : ℕ → List Spot) (n : ℕ) (o : Option Spot) →
-    least_of count (least_of count o (filter may (flat_map f (below n)))) (filter may (f n))
-    ≡ least_of count o (filter may (flat_map f (below (n + 1))))
-die_after count may f n o =
-    sym (die_more count may f n o)
-    ∙ ap (λ (i : ℕ). least_of count o (filter may (flat_map f (below i)))) (sym (add-one n))
 
 -- What is found
 
@@ -226,7 +211,7 @@ gain_shown : (l : Lives) (t : Blocks) (s : Spot) →
 gain_shown l t s (inl h) = ap (gains l s) h.0 ∙ lt-ltb (live_count l s) l.sizes.pages h.1
 gain_shown l t s (inr h) = ap (gains l s) h.0 ∙ lt-ltb 0 (live_count l s) h.1
 
-can_told : {l : Lives} {t : Blocks} {s : Spot} → CanBeVictim l t s →
+pub can_told : {l : Lives} {t : Blocks} {s : Spot} → CanBeVictim l t s →
     IsPassed (may_be_victim l t) l.sizes.blocks l.sizes.dies 0 s
 can_told {l} {t} {s} c =
     let u : (nat_lt s.die l.sizes.dies ≡ true) × (nat_lt s.block l.sizes.blocks ≡ true) = and_parts _ _ c.inside in (
@@ -235,7 +220,7 @@ can_told {l} {t} {s} c =
           (ap not c.unpinned) (gain_shown l t s c.gain),
     )
 
-can_shown : {l : Lives} {t : Blocks} {s : Spot} → IsPassed (may_be_victim l t) l.sizes.blocks l.sizes.dies 0 s →
+pub can_shown : {l : Lives} {t : Blocks} {s : Spot} → IsPassed (may_be_victim l t) l.sizes.blocks l.sizes.dies 0 s →
     CanBeVictim l t s
 can_shown {l} {t} {s} p =
     let b = and_parts (not (is_pinned l s)) (gains l s (state_of t s.die s.block)) p.1 in
@@ -250,22 +235,48 @@ can_shown {l} {t} {s} p =
         (lt-ltb s.die l.sizes.dies m) (lt-ltb s.block l.sizes.blocks k)
     inside (k, inr m) = let n = m.1 in absurd (omega arith)
 
--- what the plain search finds is the victim
-pub found_is : (l : Lives) (t : Blocks) (o : Option BlockAt) → option_map spot_at o ≡ victim l t →
-    MatchOption o (IsNoVictim l t) (λ at. IsVictim l t (spot_at at))
-found_is l t o e =
-    by o (subst (λ r. Finds (IsPassed (may_be_victim l t) l.sizes.blocks l.sizes.dies 0) (live_count l) r)
-    (sym e) (finds_dies (live_count l) (may_be_victim l t) l.sizes.blocks l.sizes.dies))
+same_best : {P : Spot → Type 0} {count : Spot → ℕ} (a b : Spot) → IsBest P count a → IsBest P count b → a ≡ b
+same_best {P} {count} a b h k = by (order a.die b.die) (order a.block b.block)
   where
-    by : (o : Option BlockAt) →
-        Finds (IsPassed (may_be_victim l t) l.sizes.blocks l.sizes.dies 0) (live_count l) (option_map spot_at o) →
-        MatchOption o (IsNoVictim l t) (λ at. IsVictim l t (spot_at at))
-    by None h = λ s c. h s (can_told c)
-    by (Some b) h = record {
-      can = can_shown h.is;
-      least = λ a c. h.least a (can_told c);
-      lowest = λ a c. h.first a (can_told c);
-    }
+    same : count a ≡ count b
+    same = let l = h.least b k.is in let m = k.least a h.is in omega arith
+
+    not_first : IsBefore a b → ⊥
+    not_first w = k.first a h.is same w
+
+    not_second : IsBefore b a → ⊥
+    not_second w = h.first b k.is (sym same) w
+
+    by : (a.die < b.die) ⊎ ((a.die ≡ b.die) ⊎ (b.die < a.die)) →
+        (a.block < b.block) ⊎ ((a.block ≡ b.block) ⊎ (b.block < a.block)) → a ≡ b
+    by (inl l) m = absurd (not_first (inl l))
+    by (inr (inr l)) m = absurd (not_second (inl l))
+    by (inr (inl e)) (inl m) = absurd (not_first (inr (e, m)))
+    by (inr (inl e)) (inr (inr m)) = absurd (not_second (inr (sym e, m)))
+    by (inr (inl e)) (inr (inl f)) = λ i. record { die = e i; block = f i }
+
+-- the victim is what the plain search finds
+pub victim_is : (l : Lives) (t : Blocks) (s : Spot) → IsVictim l t s → Some s ≡ victim l t
+victim_is l t s h =
+    by (victim l t) (finds_dies (live_count l) (may_be_victim l t) l.sizes.blocks l.sizes.dies)
+  where
+    by : (o : Option Spot) → Finds (IsPassed (may_be_victim l t) l.sizes.blocks l.sizes.dies 0) (live_count l) o →
+        Some s ≡ o
+    by None none = absurd (none s (can_told h.can))
+    by (Some b) best = ap (λ (x : Spot). Some x) (same_best s b (record {
+      is = can_told h.can;
+      least = λ a q. h.least a (can_shown q);
+      first = λ a q. h.lowest a (can_shown q);
+    }) best)
+
+pub no_victim_is : (l : Lives) (t : Blocks) → IsNoVictim l t → None ≡ victim l t
+no_victim_is l t h =
+    by (victim l t) (finds_dies (live_count l) (may_be_victim l t) l.sizes.blocks l.sizes.dies)
+  where
+    by : (o : Option Spot) → Finds (IsPassed (may_be_victim l t) l.sizes.blocks l.sizes.dies 0) (live_count l) o →
+        None ≡ o
+    by None none = refl
+    by (Some b) best = absurd (h b (can_shown best.is))
 
 -- The next live page
 

@@ -1,6 +1,11 @@
 pub mod Blocks
+pub mod BucketRooms
+pub mod Buckets
 pub mod LiveRooms
 pub mod Lives
+pub mod Lowest
+pub mod Probes
 pub mod Rooms
 pub mod Rows
+pub mod Sorted
 pub mod Victims

@@ -2,8 +2,10 @@
 //! job each die has; and beside it which pages are live, and which block is to be collected.
 #![tactic(auto)]
 
-ghost use Rattle.std.specs.Prelude.{◌≡◌, ◌≤◌, ◌<◌, ◌+◌, ◌*◌, ◌^◌, IfOk, None, Some, count_by, if◌then◌else◌, length, map, replicate, slice_get, slice_set};
+ghost use Rattle.std.specs.Prelude.{◌≡◌, ◌≤◌, ◌<◌, ◌+◌, ◌*◌, ◌^◌, IfOk, None, Some, ◌/◌, ◌%◌, count_by, true, unwrap_or, if◌then◌else◌, length, map, replicate, slice_get, slice_set};
 ghost use Rattle.std.specs.List.{list_any};
+ghost use Rattle.block_table.specs.declared.BlockState.TheVariants.{Bad};
+ghost use Rattle.block_table.specs.Sorted.{HasAll, IsSorted, IsWordOf, bucket_of, same_state};
 ghost use Rattle.block_table.specs.Blocks.{Blocks, block_index, erased_at, freed, freed_state, gone_bad, is_bad, is_free, is_stale, opened_at, page_written, state_of};
 ghost use Rattle.block_table.specs.Rows.{erases, filling_but, fills, idle_row, reads_for, rows_filling, rows_in_flight, without_block, without_reader, writes_page, writes_step};
 
@@ -11,10 +13,12 @@ use std::alloc::{AllocError, Global};
 use std::marker::Model;
 use ufs_spec::Reader;
 
+mod buckets;
 mod live;
 mod rows;
 
-pub use live::{BlockAt, LivePages};
+use buckets::{BlockBuckets, WORD, with_bit};
+pub use live::{BlockAt, LivePages, Probes};
 use rows::{is_read_for, without_block, without_reader};
 pub use rows::{DieRow, Flight, OpenBlock};
 
@@ -44,7 +48,8 @@ pub struct Sizes {
     pub pages: u16,
 }
 
-/// The blocks of all dies. No call counts them or walks over them.
+/// The blocks of all dies. No call counts them or walks over them: which blocks are so is kept as
+/// words of 64 blocks for each state.
 #[derive(Drop)]
 pub struct BlockTable {
     sizes: Sizes,
@@ -58,6 +63,8 @@ pub struct BlockTable {
     stale: usize,
     /// How many blocks are bad.
     bad: usize,
+    /// The blocks in a bucket for each state, at their places among all states.
+    sorted: BlockBuckets,
 }
 
 impl Model for BlockTable {
@@ -92,6 +99,7 @@ impl BlockTable {
         let free = count_free(states.as_slice());
         let stale = count_stale(states.as_slice());
         let bad = count_bad(states.as_slice());
+        let sorted = sorted(alloc, states.as_slice())?;
         Ok(BlockTable {
             sizes,
             states,
@@ -99,6 +107,7 @@ impl BlockTable {
             free,
             stale,
             bad,
+            sorted,
         })
     }
 
@@ -276,6 +285,47 @@ impl BlockTable {
         }
     }
 
+    /// A bit for each of 64 blocks of a device of these sizes, in order by die and block, the first
+    /// of which is the block of 64 times this number: whether it is so.
+    pub(crate) fn word(&self, state: BlockState, sizes: Sizes, number: usize) -> u64
+        requires { number < 2 ^ 32 }
+        ensures { IsWordOf self.now state sizes number result }
+    {
+        if self.has_all(sizes) {
+            self.sorted.word(bucket_of(state), number)
+        } else {
+            self.word_by_states(state, sizes, number)
+        }
+    }
+
+    /// The same, for a device whose blocks may have other places than those of the table.
+    fn word_by_states(&self, state: BlockState, sizes: Sizes, number: usize) -> u64
+        requires { number < 2 ^ 32 }
+        ensures { IsWordOf self.now state sizes number result }
+    {
+        let mut word = 0;
+        for place in 0..WORD {
+            let index = other_index(number * WORD + place, sizes.blocks, self.sizes.blocks);
+            word = with_bit(word, place, self.is_so(index, state));
+        }
+        word
+    }
+
+    /// Whether a device of these sizes has the same blocks at the same places.
+    fn has_all(&self, sizes: Sizes) -> bool
+        ensures { result ≡ true → HasAll self.now sizes }
+    {
+        sizes.blocks == self.sizes.blocks
+            && sizes.dies as usize * sizes.blocks as usize <= self.states.len()
+    }
+
+    /// Whether the block at this place among all states is so; one that is not there is bad.
+    fn is_so(&self, index: usize, state: BlockState) -> bool
+        ensures { result ≡ same_state (unwrap_or (slice_get self.now.states index) Bad) state }
+    {
+        bucket_of(self.states.get(index).copied().unwrap_or(BlockState::Bad)) == bucket_of(state)
+    }
+
     /// Where the block is among all blocks.
     fn index(&self, die: u8, block: u16) -> usize
         ensures { result ≡ block_index self.now die block }
@@ -297,6 +347,8 @@ impl BlockTable {
         self.free = recounted(self.free, is_free(&was), is_free(&state));
         self.stale = recounted(self.stale, is_stale(&was), is_stale(&state));
         self.bad = recounted(self.bad, is_bad(&was), is_bad(&state));
+        self.sorted
+            .move_block(index, bucket_of(was), bucket_of(state));
         self.states[index] = state;
     }
 
@@ -333,6 +385,42 @@ fn recounted(count: usize, counted: bool, counts: bool) -> usize
     ensures { result + (if counted then 1 else 0) ≡ count + (if counts then 1 else 0) }
 {
     count - usize::from(counted) + usize::from(counts)
+}
+
+/// Where the block of this place in a device with so many blocks a die is in one with so many.
+fn other_index(place: usize, blocks: u16, others: u16) -> usize
+    requires { place < 2 ^ 40 }
+    ensures { 0 < blocks → result ≡ place / blocks * others + place % blocks }
+{
+    if blocks == 0 {
+        return 0;
+    }
+    place / blocks as usize * others as usize + place % blocks as usize
+}
+
+/// The bucket for blocks that are so.
+fn bucket_of(state: BlockState) -> usize
+    ensures { result ≡ bucket_of state }
+{
+    match state {
+        BlockState::Free => 0,
+        BlockState::Stale => 1,
+        BlockState::Ready => 2,
+        BlockState::Open => 3,
+        BlockState::Closed => 4,
+        BlockState::Bad => 5,
+    }
+}
+
+/// The blocks in a bucket for each state.
+fn sorted(alloc: Global, states: &[BlockState]) -> Result<BlockBuckets, AllocError>
+    ensures { IfOk result (λ b. IsSorted states.now b) }
+{
+    let mut sorted = BlockBuckets::new(alloc, 6, states.len())?;
+    for place in 0..states.len() {
+        sorted.set(bucket_of(states[place]), place, true);
+    }
+    Ok(sorted)
 }
 
 /// How many of the blocks are free.

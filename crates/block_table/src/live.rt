@@ -1,12 +1,16 @@
 //! Which pages of each block are live, which blocks are pinned, and which block is to be collected.
 
-ghost use Rattle.std.specs.Prelude.{◌≡◌, ◌*◌, ◌+◌, ◌-◌, ◌^◌, ◌∷◌, [], IfOk, MatchOption, false, filter, find, if◌then◌else◌, min, nat_lt, option_map, replicate, slice_get, true, unwrap_or};
+ghost use Rattle.std.specs.Prelude.{ℕ, ◌≡◌, ◌≤◌, ◌<◌, ◌*◌, ◌+◌, ◌-◌, ◌/◌, ◌^◌, ◌&&◌, IfOk, MatchOption, false, find, if◌then◌else◌, min, option_map, replicate, slice_get, true, unwrap_or};
 ghost use Rattle.std.specs.List.{list_any};
-ghost use Rattle.ufs_spec.specs.Translation.{least_of};
-ghost use Rattle.block_table.specs.Lives.{block_place, gains, has_block, has_page, is_bad_with_live, is_live, is_pinned, live_count, live_from, may_be_victim, page_place, pins_of, places_in, spot, spot_at, spots_in, spots_of_die, victim, with_live, with_pins};
+ghost use Rattle.block_table.specs.Lives.{block_place, has_block, has_page, is_bad_with_live, is_live, is_pinned, live_count, live_from, page_place, pins_of, places_in, spot, spot_at, spots_in, victim, with_live, with_pins};
+ghost use Rattle.block_table.specs.Buckets.{IsWord, Stands, bit, in_first, words_for};
+ghost use Rattle.block_table.specs.Lowest.{IsFirstUsed, IsLowestBlock, is_used_from};
+ghost use Rattle.block_table.specs.Probes.{IsFirstVictim, has_unpinned, is_bad_at, is_victim_at, most_probes, spot_there};
+ghost use Rattle.block_table.specs.Sorted.{blocks_in};
 ghost use Rattle.block_table.specs.Victims.{IsNoVictim, IsVictim};
 
-use crate::{BlockState, BlockTable, Sizes, is_bad};
+use crate::buckets::{BlockBuckets, WORD, from_bit, lowest_bit};
+use crate::{BlockState, BlockTable, Sizes};
 use std::alloc::{AllocError, Global};
 use std::marker::Model;
 use ufs_spec::Place;
@@ -18,8 +22,25 @@ pub struct BlockAt {
     pub block: u16,
 }
 
+/// How many looks a search took. A probe is a look at whether any block stands in a bucket, or at
+/// one word of 64 blocks of a bucket, with the words of the same blocks that say what each is.
+#[derive(Clone, Copy, Debug, Default, PartialEq, Eq)]
+pub struct Probes {
+    pub count: u64,
+}
+
+impl Probes {
+    /// One look more. After 18,446,744,073,709,551,615 of them none is counted.
+    fn look(&mut self)
+        ensures { self.new.count ≡ min (self.old.count + 1) (2 ^ 64 - 1) }
+    {
+        self.count = self.count.saturating_add(1);
+    }
+}
+
 /// Of each block of all dies which pages are live, how many, and how many pins the block has. The
-/// numbers of live pages are kept as pages change: no call but `next_live` walks over pages.
+/// numbers of live pages are kept as pages change: no call but `next_live` walks over pages. A
+/// search looks at the blocks without a pin, at 64 of them at once.
 #[derive(Drop)]
 pub struct LivePages {
     sizes: Sizes,
@@ -29,6 +50,10 @@ pub struct LivePages {
     counts: Vec<u16>,
     /// How many pins each block has, in order by die and block.
     pins: Vec<u32>,
+    /// The blocks without a pin, at these places: in the bucket of the number of their live pages.
+    unpinned_with: BlockBuckets,
+    /// The blocks without a pin, at these places, in one bucket.
+    unpinned: BlockBuckets,
 }
 
 impl Model for LivePages {
@@ -63,6 +88,8 @@ impl LivePages {
             live: vec![in alloc; false; pages]?,
             counts: vec![in alloc; 0; blocks]?,
             pins: vec![in alloc; 0; blocks]?,
+            unpinned_with: first_full(alloc, sizes.pages as usize + 1, blocks)?,
+            unpinned: first_full(alloc, 1, blocks)?,
         })
     }
 
@@ -139,133 +166,170 @@ impl LivePages {
 
     /// The block to be collected: of those without a pin that are closed and not wholly live, or
     /// bad with live pages, the one with the fewest live pages. Of several it is that of the lowest
-    /// die, then the lowest block. It looks at each block of all dies once.
-    #[tactic(auto, using(crate::proofs::Searches::found_is))]
+    /// die, then the lowest block.
     pub fn victim(&self, blocks: &BlockTable) -> Option<BlockAt>
         ensures search { option_map spot_at result ≡ victim self.now blocks.now }
         ensures least { MatchOption result (IsNoVictim self.now blocks.now)
             (λ at. IsVictim self.now blocks.now (spot_at at)) }
     {
-        self.fewest(blocks)
+        let mut probes = Probes::default();
+        self.victim_counted(blocks, &mut probes)
     }
 
-    /// Whether a bad block without a pin holds live pages. It looks at each block.
+    /// As `victim`, and counts its probes: one for each number of live pages up to that of the
+    /// victim, and for each of these numbers that a block without a pin has, as many as there are
+    /// words of 64 blocks. Without a victim that is each number of live pages.
+    pub fn victim_counted(&self, blocks: &BlockTable, probes: &mut Probes) -> Option<BlockAt>
+        ensures search { option_map spot_at result ≡ victim self.now blocks.now }
+        ensures least { MatchOption result (IsNoVictim self.now blocks.now)
+            (λ at. IsVictim self.now blocks.now (spot_at at)) }
+        ensures bound { probes.new.count ≤ probes.old.count
+            + most_probes self.now (option_map spot_at result) }
+    {
+        for count in 0..self.sizes.pages as usize + 1 {
+            if let Some(place) = self.first_with(blocks, count, probes) {
+                return Some(self.block_at(place));
+            }
+        }
+        None
+    }
+
+    /// Whether a bad block without a pin holds live pages.
     pub fn has_bad_with_live(&self, blocks: &BlockTable) -> bool
         ensures { result ≡ list_any (is_bad_with_live self.now blocks.now)
             (spots_in self.now.sizes) }
     {
-        let sizes = self.sizes();
-        let mut found = false;
-        for die in 0..sizes.dies {
-            found = found || self.die_has_bad_with_live(blocks, die);
+        for number in 0..self.words() {
+            if self.bad_with_live(blocks, number) != 0 {
+                return true;
+            }
         }
-        found
+        false
     }
 
-    /// Whether a bad block of the die without a pin holds live pages.
-    fn die_has_bad_with_live(&self, blocks: &BlockTable, die: u8) -> bool
-        ensures { result ≡ list_any (is_bad_with_live self.now blocks.now)
-            (spots_of_die self.now.sizes die) }
+    /// The lowest block of the die that is so and has no pin, if there is one.
+    pub fn lowest_unpinned(&self, blocks: &BlockTable, die: u8, state: BlockState) -> Option<u16>
+        ensures { IsLowestBlock self.now blocks.now die state result }
     {
-        let sizes = self.sizes();
-        let mut found = false;
-        for block in 0..sizes.blocks {
-            found = found || self.is_bad_with_live(blocks, die, block);
+        let sizes = self.sizes;
+        if die >= sizes.dies {
+            return None;
         }
-        found
-    }
-
-    /// Whether the block is bad, has no pin and holds live pages.
-    fn is_bad_with_live(&self, blocks: &BlockTable, die: u8, block: u16) -> bool
-        ensures { result ≡ is_bad_with_live self.now blocks.now (spot die block) }
-    {
-        let state = blocks.state(die, block);
-        is_bad(&state) && !self.is_pinned(die, block) && self.live_count(die, block) > 0
-    }
-
-    /// The victim, found by looking at each block in order.
-    fn fewest(&self, blocks: &BlockTable) -> Option<BlockAt>
-        ensures { option_map spot_at result ≡ victim self.now blocks.now }
-    {
-        let sizes = self.sizes();
-        let mut best = None;
-        for die in 0..sizes.dies {
-            best = self.fewest_of_die(blocks, best, die);
+        let start = die as usize * sizes.blocks as usize;
+        let end = start + sizes.blocks as usize;
+        let Some(place) = self.first_used(blocks, state, start, end) else {
+            return None;
+        };
+        if place >= end {
+            return None;
         }
-        best
+        Some((place - start) as u16)
     }
 
-    /// The best so far or a block of the die, whichever comes first and has the fewest live pages.
-    fn fewest_of_die(&self, blocks: &BlockTable, best: Option<BlockAt>, die: u8) -> Option<BlockAt>
-        ensures { option_map spot_at result ≡ least_of (live_count self.now)
-            (option_map spot_at best)
-            (filter (may_be_victim self.now blocks.now) (spots_of_die self.now.sizes die)) }
+    /// The place of the first block from one place on that is so and has no pin; of those from the
+    /// end on perhaps none.
+    fn first_used(
+        &self,
+        blocks: &BlockTable,
+        state: BlockState,
+        start: usize,
+        end: usize,
+    ) -> Option<usize>
+        requires { end < 2 ^ 32 }
+        ensures { IsFirstUsed self.now blocks.now state start end result }
     {
-        let sizes = self.sizes();
-        let mut least = best;
-        for block in 0..sizes.blocks {
-            least = self.fewer(blocks, least, BlockAt { die, block });
+        for number in start / WORD..(end + (WORD - 1)) / WORD {
+            if let Some(bit) = lowest_bit(self.used(blocks, state, start, number)) {
+                return Some(number * WORD + bit);
+            }
         }
-        least
+        None
     }
 
-    /// The best so far, or this block if it may be collected and has fewer live pages.
-    fn fewer(&self, blocks: &BlockTable, best: Option<BlockAt>, at: BlockAt) -> Option<BlockAt>
-        ensures { option_map spot_at result ≡ least_of (live_count self.now)
-            (option_map spot_at best)
-            (filter (may_be_victim self.now blocks.now) (spot_at at ∷ [])) }
+    /// Of the blocks of the word of this number those from one place on that are so and have no pin.
+    fn used(&self, blocks: &BlockTable, state: BlockState, start: usize, number: usize) -> u64
+        requires from_there { start / 64 ≤ number }
+        requires few { number < 2 ^ 32 }
+        ensures { IsWord (is_used_from self.now blocks.now state start) number result }
     {
-        if !self.may_be_victim(blocks, at) {
-            return best;
+        let so = blocks.word(state, self.sizes, number);
+        let unpinned = self.unpinned.word(0, number);
+        from_bit(so & unpinned, start.saturating_sub(number * WORD))
+    }
+
+    /// Of the blocks of the word of this number those that are bad, have no pin and hold live pages.
+    fn bad_with_live(&self, blocks: &BlockTable, number: usize) -> u64
+        requires { number < 2 ^ 32 }
+        ensures { IsWord (is_bad_at self.now blocks.now) number result }
+    {
+        let bad = blocks.word(BlockState::Bad, self.sizes, number);
+        let unpinned = self.unpinned.word(0, number);
+        bad & unpinned & !self.unpinned_with.word(0, number)
+    }
+
+    /// The place of the first block with so many live pages that may be collected, if there is one.
+    /// No word is read unless a block without a pin has so many.
+    fn first_with(&self, blocks: &BlockTable, count: usize, probes: &mut Probes) -> Option<usize>
+        requires { count ≤ self.now.sizes.pages }
+        ensures first { IsFirstVictim self.now blocks.now count result }
+        ensures bound { probes.new.count ≤ probes.old.count + 1
+            + (if has_unpinned self.now count then words_for (blocks_in self.now.sizes) else 0) }
+    {
+        probes.look();
+        if self.unpinned_with.is_empty(count) {
+            return None;
         }
-        match best {
-            None => Some(at),
-            Some(least) => Some(self.lesser(least, at)),
+        self.first_victim(blocks, count, probes)
+    }
+
+    /// The same, by the words of its bucket.
+    fn first_victim(&self, blocks: &BlockTable, count: usize, probes: &mut Probes) -> Option<usize>
+        requires { count ≤ self.now.sizes.pages }
+        ensures first { IsFirstVictim self.now blocks.now count result }
+        ensures bound { probes.new.count ≤ probes.old.count
+            + words_for (blocks_in self.now.sizes) }
+    {
+        for number in 0..self.words() {
+            probes.look();
+            if let Some(bit) = lowest_bit(self.victims(blocks, count, number)) {
+                return Some(number * WORD + bit);
+            }
         }
+        None
     }
 
-    /// The second block if it has fewer live pages than the first, which else it is.
-    fn lesser(&self, least: BlockAt, at: BlockAt) -> BlockAt
-        ensures { spot_at result ≡
-            (if nat_lt (live_count self.now (spot_at at)) (live_count self.now (spot_at least))
-            then spot_at at else spot_at least) }
+    /// Of the blocks of the word of this number those with so many live pages that may be collected.
+    fn victims(&self, blocks: &BlockTable, count: usize, number: usize) -> u64
+        requires count_there { count ≤ self.now.sizes.pages }
+        requires few { number < 2 ^ 32 }
+        ensures { IsWord (is_victim_at self.now blocks.now count) number result }
     {
-        if self.live_count(at.die, at.block) < self.live_count(least.die, least.block) {
-            at
-        } else {
-            least
+        let closed = blocks.word(BlockState::Closed, self.sizes, number);
+        let bad = blocks.word(BlockState::Bad, self.sizes, number);
+        let pages = self.sizes.pages as usize;
+        let gain = only_if(closed, count < pages) | only_if(bad, count > 0);
+        self.unpinned_with.word(count, number) & gain
+    }
+
+    /// How many words of 64 blocks there are.
+    fn words(&self) -> usize
+        ensures all { result ≡ words_for (blocks_in self.now.sizes) }
+        ensures few { result < 2 ^ 32 }
+    {
+        (self.sizes.dies as usize * self.sizes.blocks as usize + (WORD - 1)) / WORD
+    }
+
+    /// The block at this place among all blocks.
+    fn block_at(&self, place: usize) -> BlockAt
+        requires { place < blocks_in self.now.sizes }
+        ensures { spot_at result ≡ spot_there self.now.sizes place }
+    {
+        let sizes = self.sizes;
+        let blocks = sizes.blocks as usize;
+        BlockAt {
+            die: (place / blocks) as u8,
+            block: (place % blocks) as u16,
         }
-    }
-
-    /// Whether the block may be collected, and something is gained by it.
-    fn may_be_victim(&self, blocks: &BlockTable, at: BlockAt) -> bool
-        ensures { result ≡ may_be_victim self.now blocks.now (spot_at at) }
-    {
-        let state = blocks.state(at.die, at.block);
-        !self.is_pinned(at.die, at.block) && self.gains(at, state)
-    }
-
-    /// Whether room is gained by collecting the block, which is so.
-    fn gains(&self, at: BlockAt, state: BlockState) -> bool
-        ensures { result ≡ gains self.now (spot_at at) state }
-    {
-        let live = self.live_count(at.die, at.block);
-        let sizes = self.sizes();
-        match state {
-            BlockState::Free => false,
-            BlockState::Stale => false,
-            BlockState::Ready => false,
-            BlockState::Open => false,
-            BlockState::Closed => live < sizes.pages,
-            BlockState::Bad => live > 0,
-        }
-    }
-
-    /// How many dies there are, and how many blocks a die and pages a block.
-    fn sizes(&self) -> Sizes
-        ensures { result ≡ self.now.sizes }
-    {
-        self.sizes
     }
 
     /// Whether there is such a block.
@@ -317,7 +381,10 @@ impl LivePages {
         }
         let block = self.block_place(place.die, place.block);
         let count = self.live_count(place.die, place.block);
-        self.counts[block] = if live { count + 1 } else { count - 1 };
+        let counted = if live { count + 1 } else { count - 1 };
+        self.unpinned_with
+            .move_block(block, count as usize, counted as usize);
+        self.counts[block] = counted;
         self.live[index] = live;
     }
 
@@ -340,8 +407,28 @@ impl LivePages {
             return;
         }
         let index = self.block_place(die, block);
-        if index < self.pins.len() {
-            self.pins[index] = count;
-        }
+        let live = self.live_count(die, block);
+        self.unpinned_with.set(live as usize, index, count == 0);
+        self.unpinned.set(0, index, count == 0);
+        self.pins[index] = count;
     }
+}
+
+/// So many buckets with places for so many blocks, which all stand in the first one.
+fn first_full(alloc: Global, buckets: usize, places: usize) -> Result<BlockBuckets, AllocError>
+    requires some { 0 < buckets }
+    requires few { places ≤ 2 ^ 63 }
+    requires room { buckets * words_for places < 2 ^ 60 }
+    ensures { IfOk result (λ b. Stands b buckets (words_for places) (in_first places)) }
+{
+    let mut full = BlockBuckets::new(alloc, buckets, places)?;
+    full.fill_first(places);
+    Ok(full)
+}
+
+/// The word, or one without a bit that is 1.
+fn only_if(word: u64, kept: bool) -> u64
+    ensures { (j : ℕ) → bit result j ≡ (kept && bit word j) }
+{
+    if kept { word } else { 0 }
 }

@@ -1,5 +1,5 @@
-//! Draws dies, as a script of `ufsim` leaves them or as an image has them: each block and each page with
-//! its state.
+//! Draws dies, as a script of `ufsim` leaves them or as an image has them: each block and each page
+//! with its state.
 #![tactic(auto)]
 
 ghost use Rattle.std.specs.Prelude.{◌≡◌, ◌≤◌};
@@ -89,8 +89,8 @@ pub fn draw<W: Write, F: Write>(
     told(try_draw(alloc, script, last, form, out), faults)
 }
 
-/// Draws the dies of an image on `out`. It is read once, to its end. What is wrong is told in one line on
-/// `faults`. The status is 0 if the dies were drawn, else 1.
+/// Draws the dies of an image on `out`. It is read once, to its end. What is wrong is told in one
+/// line on `faults`. The status is 0 if the dies were drawn, else 1.
 pub fn draw_image<R: Read, W: Write, F: Write>(
     alloc: Global,
     image: &mut R,

@@ -1,15 +1,18 @@
 //! What the pages of the dies hold, taken together.
-ghost use Rattle.std.specs.Prelude.{◌≡◌, ◌+◌, ◌<◌, ◌≤◌, if◌then◌else◌, length, min, OnOk, IfOk, IfNone, IfSome, Some};
+ghost use Rattle.std.specs.Prelude.{◌≡◌, ◌+◌, ◌<◌, ◌≤◌, if◌then◌else◌, length, min, OnOk, IfOk};
+ghost use Rattle.std.specs.Prelude.{IfNone, IfSome, Some};
 ghost use Rattle.ufs_spec.specs.Cells.{Cell, Cells, IsCell, Shows, same_place};
 ghost use Rattle.ufs_spec.specs.Lives.{Fit, array_of};
 ghost use Rattle.ufs_spec.specs.declared.configs.Numbers.{Numbers};
-ghost use Rattle.die_map.specs.Surveys.{ArePagesFound, IsSurvey, address_of, pages_after, with_page};
-ghost use Rattle.die_map.specs.Surveys.{Address, is_fenced, is_newer_page, is_within, same_address, written_at};
-ghost use Rattle.die_map.specs.Surveys.{IsDieShown, IsMarkFound, IsReadTo, is_newer, mark_after, newer_mark};
+ghost use Rattle.die_map.specs.Surveys.{ArePagesFound, IsSurvey, address_of, pages_after};
+ghost use Rattle.die_map.specs.Surveys.{with_page, Address, is_fenced, is_newer_page, is_within};
+ghost use Rattle.die_map.specs.Surveys.{same_address, written_at, IsDieShown, IsMarkFound};
+ghost use Rattle.die_map.specs.Surveys.{IsReadTo, is_newer, mark_after, newer_mark};
 ghost use Rattle.page_tag.specs.Contents.{cell_of, mark_of};
 ghost use Rattle.ufs_spec.specs.Dies.{LiesOnDie, page_at};
-ghost use Rattle.die_map.specs.States.{are_erased, block_state_of, cell_state_of, is_free, is_mark_at, is_page_at};
-ghost use Rattle.die_map.specs.States.{may_be_next, page_state_of, written_in};
+ghost use Rattle.die_map.specs.States.{are_erased, block_state_of, cell_state_of, is_free};
+ghost use Rattle.die_map.specs.States.{is_mark_at, is_page_at, may_be_next, page_state_of};
+ghost use Rattle.die_map.specs.States.{written_in};
 
 use nand_model::{Die, MemDie};
 use page_tag::{Content, Mark, content_of};

@@ -1,6 +1,7 @@
 //! The dies as text: a row of letters for each block that is not free.
 ghost use Rattle.std.specs.Prelude.{◌≡◌, ◌<◌, ◌+◌, ◌^◌, if◌then◌else◌};
-ghost use Rattle.die_map.specs.States.{counted, is_bad_state, is_closed_block, is_filling_block, is_free_block};
+ghost use Rattle.die_map.specs.States.{counted, is_bad_state, is_closed_block, is_filling_block};
+ghost use Rattle.die_map.specs.States.{is_free_block};
 
 use crate::survey::{BlockState, PageState, Survey, block_state, number_of};
 use device::World;
@@ -82,7 +83,7 @@ fn write_pages<W: Write>(
     Ok(())
 }
 
-// The letter of a page. The first one of a line stands behind four spaces, and the last one ends it.
+// The letter of a page. The first of a line stands behind four spaces, and the last one ends it.
 fn write_letter<W: Write>(letter: char, page: u16, last: u16, out: &mut W) -> io::Result<()> {
     let before = if page % LETTERS == 0 { "    " } else { "" };
     let after = if page % LETTERS == LETTERS - 1 || page == last {

@@ -12,3 +12,4 @@ pub mod OwedReads
 pub mod ReadsTaken
 pub mod StepPages
 pub mod Takings
+pub mod UsedBlocks

@@ -1,6 +1,7 @@
 pub mod BroughtPins
 pub mod CopiesLive
 pub mod DurableLive
+pub mod FirstLive
 pub mod JobsLive
 pub mod NamesLive
 pub mod NotedLive

@@ -48,7 +48,7 @@ use std::marker::Model;
 use ufs_spec::{
     Block, Fence, GREATEST_COMMAND, GREATEST_NUMBER, Key, Looked, MOST_TASKS, Name, Numbers, Place,
 };
-use unit_map::{Stored, UnitMap};
+use unit_map::{Stored, UnitMap, stored_at};
 use write_cache::Cache;
 
 /// How many blocks readers may keep: each task those of a command.
@@ -263,7 +263,7 @@ fn live_at(
 {
     let mut live = LivePages::new(alloc, sizes)?;
     for index in 0..keys {
-        set_stored(&mut live, places.get(index).copied().flatten());
+        set_stored(&mut live, stored_at(places, index));
     }
     Ok(live)
 }
@@ -373,7 +373,7 @@ impl Ftl {
         Ok(Ftl {
             blocks: BlockTable::new(alloc, sizes, states)?,
             live: live_at(alloc, sizes, places.as_slice(), keys)?,
-            places: UnitMap::new(config.copied(), places),
+            places: UnitMap::new(alloc, config.copied(), places)?,
             cache: Cache::new(alloc, slots, last)?,
             plan: Plan::new(alloc, sizes.pages)?,
             config,

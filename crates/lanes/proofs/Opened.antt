@@ -2,7 +2,7 @@
 use Rattle.std.proofs.Common.{◌≡◌, ◌∙◌, ◌≤◌, ℕ, zero, suc, List, [], ◌∷◌, length, map, refl, sym, ap, subst, arith}
 use Rattle.std.specs.Global.{Vec}
 use Rattle.std.specs.List.{All}
-use Rattle.std.specs.Prelude.{replicate}
+use Rattle.std.specs.Prelude.{None, Option, Some, replicate}
 use Rattle.std.specs.Vec.{with_items}
 use Rattle.std.proofs.lemmas.List.{length-replicate, with_items_is}
 use Rattle.ufs_spec.specs.Dies.{DieState, new_die}
@@ -17,6 +17,7 @@ use Rattle.power_loss.specs.Runs.{AreNewDies, IsNewDie}
 use Rattle.device.specs.Kept.{DeviceCore}
 use Rattle.device.specs.Worlds.{Fits}
 use Rattle.device.proofs.dies_of_world.OpenedWorld.{IsOpenedOver, opened_fits}
+use Rattle.lanes.specs.Callers.{IsOpenedWith, Undealt}
 use Rattle.lanes.specs.declared.view.Opening.{Opening}
 use Rattle.lanes.specs.Rule.{IsOpening, IsOpeningOf, IsStart, IsStartOver, opened_world, world_over}
 
@@ -128,3 +129,9 @@ pub memory_dies_fit : (n : Numbers) (v : Vec DieState) (lent : List DieState) �
 memory_dies_fit n v lent is new =
     let same = map_same lent in new_fit n (map (λ (d : DieState). d) lent)
     (are_new n (map (λ (d : DieState). d) lent) (same ∙ is ∙ new))
+
+-- with what the table was opened, no die is dealt yet
+pub undealt_opened : {D : Type 0} (opening : Option (Opening D)) (core : DeviceCore) (dies : List D) →
+    IsOpenedWith opening core dies → Undealt opening dies
+undealt_opened None core dies is = is
+undealt_opened (Some opening) core dies is = is.1

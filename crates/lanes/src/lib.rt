@@ -10,6 +10,7 @@ mod lane;
 mod laws;
 mod meeting;
 mod opening;
+mod patience;
 mod place;
 mod port;
 mod serving;
@@ -28,6 +29,7 @@ pub use laws::{
 };
 pub use meeting::meet;
 pub use opening::open_parallel;
+pub use patience::Patience;
 pub use port::Port;
 pub use shared::{Refused, Shared};
 pub use tried::Tried;

@@ -27,19 +27,19 @@ pub(crate) struct Crew {
 }
 
 /// What the thread of a die does.
-fn serve_lane<R: Wait>(rt: &R, mut lane: Lane<MemDie>, common: Arc<Common, Global>)
+fn serve_lane<R: Wait + Clock>(rt: &R, mut lane: Lane<MemDie>, common: Arc<Common, Global>)
     requires { lane.ended ≡ None }
 {
     lane.serve(rt, &common.stop);
 }
 
 /// What the keeper's thread does.
-fn serve_keeper<R: Wait>(rt: &R, mut keeper: Keeper<MemDie>, common: Arc<Common, Global>) {
+fn serve_keeper<R: Wait + Clock>(rt: &R, mut keeper: Keeper<MemDie>, common: Arc<Common, Global>) {
     keeper.serve(rt, &common.stop);
 }
 
 /// What a host's thread does. Want of memory ends all threads.
-fn serve_host<R: Wait>(
+fn serve_host<R: Wait + Clock>(
     rt: &R,
     mut host: Host,
     common: Arc<Common, Global>,
@@ -63,7 +63,7 @@ impl Crew {
     }
 
     /// Starts a thread for each die, one for the keeper, and one for each host.
-    pub fn start<R: Threads + Wait + Clone + Send + 'static>(
+    pub fn start<R: Threads + Wait + Clock + Clone + Send + 'static>(
         &mut self,
         rt: &R,
         shared: Shared<MemDie>,
@@ -82,7 +82,7 @@ impl Crew {
     }
 
     // What a new thread owns: the runtime, and what it shares with the others.
-    fn own<R: Threads + Wait + Clone + Send + 'static>(
+    fn own<R: Threads + Wait + Clock + Clone + Send + 'static>(
         &self,
         rt: &R,
     ) -> Result<(R, Arc<Common, Global>), StressFault> {
@@ -90,7 +90,7 @@ impl Crew {
         Ok((own, Arc::try_clone(&self.common)?))
     }
 
-    fn start_lanes<R: Threads + Wait + Clone + Send + 'static>(
+    fn start_lanes<R: Threads + Wait + Clock + Clone + Send + 'static>(
         &mut self,
         rt: &R,
         mut lanes: Vec<Lane<MemDie>>,
@@ -103,7 +103,7 @@ impl Crew {
         Ok(())
     }
 
-    fn start_lane<R: Threads + Wait + Clone + Send + 'static>(
+    fn start_lane<R: Threads + Wait + Clock + Clone + Send + 'static>(
         &mut self,
         rt: &R,
         lane: Lane<MemDie>,
@@ -117,7 +117,7 @@ impl Crew {
         }
     }
 
-    fn start_keeper<R: Threads + Wait + Clone + Send + 'static>(
+    fn start_keeper<R: Threads + Wait + Clock + Clone + Send + 'static>(
         &mut self,
         rt: &R,
         keeper: Keeper<MemDie>,
@@ -129,7 +129,7 @@ impl Crew {
         }
     }
 
-    fn start_hosts<R: Threads + Wait + Clone + Send + 'static>(
+    fn start_hosts<R: Threads + Wait + Clock + Clone + Send + 'static>(
         &mut self,
         rt: &R,
         mut ports: Vec<Port<MemDie>>,
@@ -142,7 +142,7 @@ impl Crew {
         Ok(())
     }
 
-    fn start_host<R: Threads + Wait + Clone + Send + 'static>(
+    fn start_host<R: Threads + Wait + Clock + Clone + Send + 'static>(
         &mut self,
         rt: &R,
         port: Port<MemDie>,

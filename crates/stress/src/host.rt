@@ -6,12 +6,13 @@ use crate::messages::{
 };
 use crate::replies::{code_of, tag_of};
 use crate::shared::Common;
-use lanes::{Port, Tried};
+use lanes::{Patience, Port, Tried};
 use nand_model::MemDie;
 use std::alloc::{AllocError, Global};
+use std::mem;
 use std::sync::atomic::Ordering;
 use std::sync::{Arc, Wait};
-use std::{mem, thread};
+use std::time::Clock;
 use ufs_spec::Upiu;
 use ufs_spec::codes::DATA_IN;
 
@@ -70,7 +71,7 @@ impl Host {
 
     /// Waits until the unit is ready, and does all writes: how many of them were bad. After the end was
     /// called each write that is left is bad.
-    pub fn run<R: Wait>(&mut self, rt: &R) -> Result<u64, AllocError> {
+    pub fn run<R: Wait + Clock>(&mut self, rt: &R) -> Result<u64, AllocError> {
         self.wait_until_ready(rt)?;
         let mut bad = 0u64;
         for write in 0..=u8::MAX {
@@ -83,22 +84,23 @@ impl Host {
     }
 
     /// Asks until the unit is ready: over new dies the device first writes a page of its own.
-    fn wait_until_ready<R: Wait>(&mut self, rt: &R) -> Result<(), AllocError> {
+    fn wait_until_ready<R: Wait + Clock>(&mut self, rt: &R) -> Result<(), AllocError> {
         is_ready(self.number, &mut self.message);
         good(self.number, &mut self.expected);
+        let mut patience = Patience::new();
         for _ in rt.forever() {
             let is_good = self.send(rt) && self.hear(rt, self.number)?;
             if is_good || self.common.stop.load(Ordering::SeqCst) {
                 return Ok(());
             }
-            thread::yield_now();
+            patience.did_nothing(rt);
         }
         unreachable!()
     }
 
     /// Whether a block was written and read back as it should, and what was aborted beside this was
     /// answered so.
-    fn write_and_read<R: Wait>(
+    fn write_and_read<R: Wait + Clock>(
         &mut self,
         rt: &R,
         write: u8,
@@ -113,7 +115,7 @@ impl Host {
     }
 
     /// Begins the WRITE with another block and aborts it, where this is to be: whether all went well.
-    fn abort_write<R: Wait>(
+    fn abort_write<R: Wait + Clock>(
         &mut self,
         rt: &R,
         write: u8,
@@ -129,7 +131,7 @@ impl Host {
     }
 
     /// Begins the READ and aborts it, where this is to be: whether all went well.
-    fn abort_read<R: Wait>(
+    fn abort_read<R: Wait + Clock>(
         &mut self,
         rt: &R,
         write: u8,
@@ -145,7 +147,7 @@ impl Host {
     }
 
     /// Whether a block was written.
-    fn write<R: Wait>(&mut self, rt: &R, write: u8) -> Result<bool, AllocError> {
+    fn write<R: Wait + Clock>(&mut self, rt: &R, write: u8) -> Result<bool, AllocError> {
         if !self.begin_write(rt, write) || !self.bring(rt, write)? {
             return Ok(false);
         }
@@ -154,7 +156,7 @@ impl Host {
     }
 
     /// Whether the block is read as it was written.
-    fn read<R: Wait>(&mut self, rt: &R, write: u8) -> Result<bool, AllocError> {
+    fn read<R: Wait + Clock>(&mut self, rt: &R, write: u8) -> Result<bool, AllocError> {
         if !self.begin_read(rt, write) {
             return Ok(false);
         }
@@ -169,14 +171,14 @@ impl Host {
     }
 
     /// Sends the WRITE: whether the device takes it.
-    fn begin_write<R: Wait>(&mut self, rt: &R, write: u8) -> bool {
+    fn begin_write<R: Wait + Clock>(&mut self, rt: &R, write: u8) -> bool {
         write_one(self.number, write, &mut self.message);
         self.begin(rt)
     }
 
     /// Sends the block with this content once the device asks for it: whether it asks, and takes the
     /// block.
-    fn bring<R: Wait>(&mut self, rt: &R, content: u8) -> Result<bool, AllocError> {
+    fn bring<R: Wait + Clock>(&mut self, rt: &R, content: u8) -> Result<bool, AllocError> {
         asked(self.number, &mut self.expected);
         if !self.hear(rt, self.number)? {
             return Ok(false);
@@ -186,19 +188,19 @@ impl Host {
     }
 
     /// Sends the READ: whether the device takes it.
-    fn begin_read<R: Wait>(&mut self, rt: &R, write: u8) -> bool {
+    fn begin_read<R: Wait + Clock>(&mut self, rt: &R, write: u8) -> bool {
         read_one(self.number, write, &mut self.message);
         self.begin(rt)
     }
 
     /// Whether the block comes as it was written.
-    fn is_shown<R: Wait>(&mut self, rt: &R, write: u8) -> Result<bool, AllocError> {
+    fn is_shown<R: Wait + Clock>(&mut self, rt: &R, write: u8) -> Result<bool, AllocError> {
         shown(self.number, write, &mut self.expected);
         self.hear(rt, self.number)
     }
 
     /// Aborts the task: whether the device answers that this is done.
-    fn abort<R: Wait>(&mut self, rt: &R) -> Result<bool, AllocError> {
+    fn abort<R: Wait + Clock>(&mut self, rt: &R) -> Result<bool, AllocError> {
         abort(self.number, &mut self.message);
         aborted(self.number, &mut self.expected);
         Ok(self.end(rt) && self.hear(rt, abort_tag(self.number))?)
@@ -206,7 +208,7 @@ impl Host {
 
     /// Sends the request to abort with the lock of what is drawn: so a reply of the task was drawn
     /// before, and is dropped, or comes after it, and is late.
-    fn end<R: Wait>(&mut self, rt: &R) -> bool {
+    fn end<R: Wait + Clock>(&mut self, rt: &R) -> bool {
         let mut drawn = self.common.drawn.lock(rt);
         let answer = self
             .port
@@ -221,7 +223,7 @@ impl Host {
 
     /// Sends a COMMAND: whether the device takes it. Behind an abort this needs the lock of what is
     /// drawn: so a reply with the tag that is drawn later is one of the new task.
-    fn begin<R: Wait>(&mut self, rt: &R) -> bool {
+    fn begin<R: Wait + Clock>(&mut self, rt: &R) -> bool {
         if !self.is_aborted {
             return self.send(rt);
         }
@@ -238,7 +240,7 @@ impl Host {
     }
 
     /// Sends the message: whether the device takes it.
-    fn send<R: Wait>(&mut self, rt: &R) -> bool {
+    fn send<R: Wait + Clock>(&mut self, rt: &R) -> bool {
         let answer = self
             .port
             .send(rt, self.message.as_slice(), &self.common.stop);
@@ -247,8 +249,9 @@ impl Host {
 
     /// Waits for a reply with this tag: whether it is the expected one. None comes after the end was
     /// called.
-    fn hear<R: Wait>(&mut self, rt: &R, tag: u8) -> Result<bool, AllocError> {
+    fn hear<R: Wait + Clock>(&mut self, rt: &R, tag: u8) -> Result<bool, AllocError> {
         self.heard.clear();
+        let mut patience = Patience::new();
         for _ in rt.forever() {
             if self.common.stop.load(Ordering::SeqCst) {
                 return Ok(false);
@@ -256,13 +259,13 @@ impl Host {
             if self.look(rt, tag)? {
                 return Ok(self.heard.as_slice() == self.expected.as_slice());
             }
-            thread::yield_now();
+            patience.did_nothing(rt);
         }
         unreachable!()
     }
 
     /// One look for a reply with this tag, with the lock of what is drawn.
-    fn look<R: Wait>(&mut self, rt: &R, tag: u8) -> Result<bool, AllocError> {
+    fn look<R: Wait + Clock>(&mut self, rt: &R, tag: u8) -> Result<bool, AllocError> {
         let mut drawn = self.common.drawn.lock(rt);
         draw(&mut self.port, tag, &mut drawn, &mut self.heard)
     }

@@ -9,6 +9,7 @@ use std::sync::Wait;
 use std::sync::atomic::{AtomicBool, Ordering};
 use std::thread;
 use std::thread::Threads;
+use std::time::Clock;
 use ufs_spec::Upiu;
 
 /// A block, 4096 times 5Ah, after this header.
@@ -19,7 +20,7 @@ pub(crate) fn with_block(header: &[u8; 32]) -> [u8; 4128] {
 }
 
 /// Sends a message, and waits for a reply: whether this one came.
-pub(crate) fn asks<R: Wait>(
+pub(crate) fn asks<R: Wait + Clock>(
     rt: &R,
     port: &mut Port<MemDie>,
     stop: &AtomicBool,
@@ -30,13 +31,18 @@ pub(crate) fn asks<R: Wait>(
 }
 
 /// Waits for a reply: whether this one came.
-fn hears<R: Wait>(rt: &R, port: &mut Port<MemDie>, stop: &AtomicBool, reply: &[u8]) -> bool {
+fn hears<R: Wait + Clock>(
+    rt: &R,
+    port: &mut Port<MemDie>,
+    stop: &AtomicBool,
+    reply: &[u8],
+) -> bool {
     let mut heard = Upiu::new();
     port.receive(rt, &mut heard, stop) && heard.as_slice() == reply
 }
 
 /// Asks until the unit is ready: over new dies the device first writes a page of its own.
-fn waits_until_ready<R: Wait>(rt: &R, port: &mut Port<MemDie>, stop: &AtomicBool) -> bool {
+fn waits_until_ready<R: Wait + Clock>(rt: &R, port: &mut Port<MemDie>, stop: &AtomicBool) -> bool {
     let mut good = WRITTEN;
     good[3] = 6;
     for _ in 0..1_000_000u32 {
@@ -49,7 +55,7 @@ fn waits_until_ready<R: Wait>(rt: &R, port: &mut Port<MemDie>, stop: &AtomicBool
 }
 
 /// The host: a block is written and read back, and then the flag is set.
-fn host<R: Wait>(rt: &R, port: &mut Port<MemDie>, stop: &AtomicBool) -> bool {
+fn host<R: Wait + Clock>(rt: &R, port: &mut Port<MemDie>, stop: &AtomicBool) -> bool {
     let is_right = waits_until_ready(rt, port, stop)
         && asks(rt, port, stop, &WRITE, &ASKED)
         && asks(rt, port, stop, &with_block(&DATA_OUT), &WRITTEN)
@@ -60,7 +66,7 @@ fn host<R: Wait>(rt: &R, port: &mut Port<MemDie>, stop: &AtomicBool) -> bool {
 }
 
 /// The keeper in a thread of its own, beside the host.
-fn keep<R: Threads + Wait + Sync>(
+fn keep<R: Threads + Wait + Clock + Sync>(
     rt: &R,
     keeper: &mut Keeper<MemDie>,
     port: &mut Port<MemDie>,
@@ -70,7 +76,7 @@ fn keep<R: Threads + Wait + Sync>(
 }
 
 /// A lane in a thread of its own, beside the keeper and the host.
-fn serve_one<R: Threads + Wait + Sync>(
+fn serve_one<R: Threads + Wait + Clock + Sync>(
     rt: &R,
     lane: &mut Lane<MemDie>,
     keeper: &mut Keeper<MemDie>,
@@ -92,7 +98,7 @@ fn serve_one<R: Threads + Wait + Sync>(
 }
 
 /// Another lane in a thread of its own, beside all of them.
-pub(crate) fn serve_both<R: Threads + Wait + Sync>(
+pub(crate) fn serve_both<R: Threads + Wait + Clock + Sync>(
     rt: &R,
     one: &mut Lane<MemDie>,
     other: &mut Lane<MemDie>,

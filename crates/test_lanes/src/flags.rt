@@ -13,6 +13,7 @@ use std::sync::Wait;
 use std::sync::atomic::{AtomicBool, Ordering};
 use std::thread;
 use std::thread::Threads;
+use std::time::Clock;
 use ufs_spec::{Job, Upiu};
 
 /// What the thread of a loop and the one beside it know of each other.
@@ -75,7 +76,7 @@ fn ready() -> [u8; 32] {
 }
 
 /// Whether the device becomes ready by turns of the keeper here, with a lane at work beside.
-fn is_ready_by_turns<R: Wait>(
+fn is_ready_by_turns<R: Wait + Clock>(
     rt: &R,
     keeper: &mut Keeper<MemDie>,
     port: &mut Port<MemDie>,
@@ -92,7 +93,7 @@ fn is_ready_by_turns<R: Wait>(
 }
 
 /// Whether the device becomes ready by jobs of the lane here, with a keeper at work beside.
-fn is_ready_by_jobs<R: Wait>(
+fn is_ready_by_jobs<R: Wait + Clock>(
     rt: &R,
     lane: &mut Lane<MemDie>,
     port: &mut Port<MemDie>,
@@ -111,7 +112,7 @@ fn is_ready_by_jobs<R: Wait>(
 }
 
 /// A lane serves beside: whether its jobs make the device ready, and it ends only at its flag.
-fn lane_serves<R: Threads + Wait + Sync>(
+fn lane_serves<R: Threads + Wait + Clock + Sync>(
     rt: &R,
     lane: &mut Lane<MemDie>,
     keeper: &mut Keeper<MemDie>,
@@ -138,7 +139,7 @@ fn lane_serves<R: Threads + Wait + Sync>(
 }
 
 /// A keeper serves beside: whether its turns make the device ready, and it ends only at its flag.
-fn keeper_serves<R: Threads + Wait + Sync>(
+fn keeper_serves<R: Threads + Wait + Clock + Sync>(
     rt: &R,
     keeper: &mut Keeper<MemDie>,
     lane: &mut Lane<MemDie>,
@@ -166,7 +167,12 @@ fn keeper_serves<R: Threads + Wait + Sync>(
 
 /// The reader of a block waits for both replies, and then for a third, which never comes: whether it has both, and
 /// gave up only at its flag. It tells once it has both.
-fn waits<R: Wait>(rt: &R, port: &mut Port<MemDie>, watch: &Watch, has_heard: &AtomicBool) -> bool {
+fn waits<R: Wait + Clock>(
+    rt: &R,
+    port: &mut Port<MemDie>,
+    watch: &Watch,
+    has_heard: &AtomicBool,
+) -> bool {
     let mut heard = Upiu::new();
     watch.begin();
     let has_both = port.receive(rt, &mut heard, &watch.stop)
@@ -181,7 +187,7 @@ fn waits<R: Wait>(rt: &R, port: &mut Port<MemDie>, watch: &Watch, has_heard: &At
 
 /// Tries to do a job of the lane until the reader has its replies. The device may be with the reader at each try, so
 /// one try is not enough.
-fn works_until_heard<R: Wait>(rt: &R, lane: &mut Lane<MemDie>, has_heard: &AtomicBool)
+fn works_until_heard<R: Wait + Clock>(rt: &R, lane: &mut Lane<MemDie>, has_heard: &AtomicBool)
     requires { lane.old.ended ≡ None }
 {
     for _ in 0..10_000_000u32 {
@@ -195,7 +201,7 @@ fn works_until_heard<R: Wait>(rt: &R, lane: &mut Lane<MemDie>, has_heard: &Atomi
 
 /// A READ waits for the job of a lane, which comes late: whether both replies are received, and the wait for a
 /// third ends only at its flag.
-fn port_receives<R: Threads + Wait + Sync>(
+fn port_receives<R: Threads + Wait + Clock + Sync>(
     rt: &R,
     port: &mut Port<MemDie>,
     lane: &mut Lane<MemDie>,
@@ -248,7 +254,7 @@ fn a_keeper_serves_until_its_flag_is_set(rt: HostRuntime) {
 }
 
 /// The loops of the keeper and of a lane do nothing: its step stays due, and then the lane's job.
-fn expect_due<R: Abort + Wait>(rt: &R, crew: &mut Crew<MemDie>, stop: &AtomicBool)
+fn expect_due<R: Abort + Wait + Clock>(rt: &R, crew: &mut Crew<MemDie>, stop: &AtomicBool)
     requires { crew.old.first.ended ≡ None }
 {
     crew.keeper.serve(rt, stop);
@@ -258,7 +264,7 @@ fn expect_due<R: Abort + Wait>(rt: &R, crew: &mut Crew<MemDie>, stop: &AtomicBoo
 }
 
 /// A port does not send a message, and does not receive a reply that is due.
-fn expect_unheard<R: Abort + Wait>(rt: &R, port: &mut Port<MemDie>, stop: &AtomicBool) {
+fn expect_unheard<R: Abort + Wait + Clock>(rt: &R, port: &mut Port<MemDie>, stop: &AtomicBool) {
     let mut heard = Upiu::new();
     assert!(rt; port.send(rt, &IS_READY, stop).is_none());
     assert!(rt; matches!(port.try_reply(&mut heard), Tried::Did(false)));
@@ -266,7 +272,7 @@ fn expect_unheard<R: Abort + Wait>(rt: &R, port: &mut Port<MemDie>, stop: &Atomi
 }
 
 /// It receives the reply, and sends a message.
-fn expect_heard<R: Abort + Wait>(rt: &R, port: &mut Port<MemDie>, stop: &AtomicBool) {
+fn expect_heard<R: Abort + Wait + Clock>(rt: &R, port: &mut Port<MemDie>, stop: &AtomicBool) {
     let mut heard = Upiu::new();
     assert!(rt; port.receive(rt, &mut heard, stop) && heard.len() == 52);
     assert!(rt; matches!(port.send(rt, &IS_READY, stop), Some(Ok(()))));

@@ -13,10 +13,11 @@ use std::sync::Wait;
 use std::sync::atomic::{AtomicBool, Ordering};
 use std::thread;
 use std::thread::Threads;
+use std::time::Clock;
 use ufs_spec::{Job, Upiu};
 
 /// The next job of the die, if one is due.
-pub(crate) fn one_job<R: Wait, D: Die>(rt: &R, lane: &mut Lane<D>)
+pub(crate) fn one_job<R: Wait + Clock, D: Die>(rt: &R, lane: &mut Lane<D>)
     requires { lane.old.ended ≡ None }
     ensures { lane.new.ended ≡ None }
 {
@@ -26,7 +27,7 @@ pub(crate) fn one_job<R: Wait, D: Die>(rt: &R, lane: &mut Lane<D>)
 }
 
 /// The keeper's steps and both dies' jobs, in sixteen rounds.
-pub(crate) fn settle<R: Wait, D: Die>(rt: &R, crew: &mut Crew<D>)
+pub(crate) fn settle<R: Wait + Clock, D: Die>(rt: &R, crew: &mut Crew<D>)
     requires { (crew.old.first.ended ≡ None) × (crew.old.second.ended ≡ None) }
     ensures lanes { (crew.new.first.ended ≡ None) × (crew.new.second.ended ≡ None) }
     ensures port { crew.new.port ≡ crew.old.port }
@@ -86,7 +87,12 @@ fn a_port_reads_what_another_wrote(rt: HostRuntime) {
 
 /// The host: a block that lies on the other die is read while the program is held, and only then the
 /// gate is opened, after which the write is answered.
-fn reads_beside<R: Wait>(rt: &R, port: &mut Port<GateDie>, gate: &Gate, stop: &AtomicBool) -> bool {
+fn reads_beside<R: Wait + Clock>(
+    rt: &R,
+    port: &mut Port<GateDie>,
+    gate: &Gate,
+    stop: &AtomicBool,
+) -> bool {
     let mut heard = Upiu::new();
     let is_right = matches!(port.send(rt, &READ, stop), Some(Ok(())))
         && port.receive(rt, &mut heard, stop)
@@ -100,7 +106,7 @@ fn reads_beside<R: Wait>(rt: &R, port: &mut Port<GateDie>, gate: &Gate, stop: &A
 }
 
 /// The lane in whose die the program is held, and the other one with the host, in threads.
-fn beside<R: Threads + Wait + Sync>(
+fn beside<R: Threads + Wait + Clock + Sync>(
     rt: &R,
     crew: &mut Crew<GateDie>,
     job: &Job,
@@ -125,7 +131,7 @@ fn beside<R: Threads + Wait + Sync>(
 }
 
 /// A lane in a thread of its own, beside the host.
-fn serve_beside<R: Threads + Wait + Sync>(
+fn serve_beside<R: Threads + Wait + Clock + Sync>(
     rt: &R,
     lane: &mut Lane<GateDie>,
     port: &mut Port<GateDie>,
@@ -146,7 +152,7 @@ fn serve_beside<R: Threads + Wait + Sync>(
 
 /// Block 0 is written on the first die, and the write of block 1 waits for the program that the other one
 /// is given.
-fn held_program<R: Abort + Wait>(rt: &R, crew: &mut Crew<GateDie>) -> Job
+fn held_program<R: Abort + Wait + Clock>(rt: &R, crew: &mut Crew<GateDie>) -> Job
     requires { (crew.old.first.ended ≡ None) × (crew.old.second.ended ≡ None) }
     ensures idle { (crew.new.first.ended ≡ None) × (crew.new.second.ended ≡ None) }
     ensures given { job_of crew.new.second.view.lane ≡ Some result }

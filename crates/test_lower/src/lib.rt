@@ -41,6 +41,8 @@ mod unmap_journals;
 #[cfg(test)]
 mod unmap_lists;
 #[cfg(test)]
+mod victim_searches;
+#[cfg(test)]
 mod victims;
 #[cfg(test)]
 mod zero_seals;

@@ -1,7 +1,7 @@
 //! Victims and plans of two dies of four blocks of four pages, by the rule: of the blocks without a
 //! pin that are closed and not wholly live, or bad with live pages, the one with the fewest live
 //! pages, and of several the lowest.
-use block_table::{BlockAt, BlockState, BlockTable, LivePages, Sizes};
+use block_table::{BlockAt, BlockState, BlockTable, LivePages, Probes, Sizes};
 use collector::{Plan, PlanStep, PlannedCopy};
 use geometry::Config;
 use std::alloc::Global;
@@ -57,7 +57,7 @@ fn third_block_at(alloc: Global, place: Place, number: u64) -> Result<UnitMap, F
     let config = Config::new(2, 32, 64, &units, 1, 64, 4)?;
     let name = Name { number, index: 0 };
     let places = [None, None, Some(Stored { name, place })];
-    Ok(UnitMap::new(config, Vec::from_array(alloc, places)?))
+    Ok(UnitMap::new(alloc, config, Vec::from_array(alloc, places)?)?)
 }
 
 /// A cache with one pending group, whose number is 8: its only page is of this key, and is written
@@ -86,13 +86,16 @@ fn is_victim(live: &LivePages, blocks: &BlockTable, die: u8, block: u16) -> bool
 }
 
 /// Blocks with equally few live pages are taken from the lowest on, unless they are pinned. An open
-/// and a free block and those that are wholly live are left.
+/// and a free block and those that are wholly live are left. A probe is for each of the numbers 0,
+/// 1 and 2 of live pages, and one for the only word of 64 blocks where blocks have 0 and 2.
 #[test]
 fn the_block_with_the_fewest_live_pages_is_the_victim(rt: HostRuntime) -> Result<(), Fail> {
     let blocks = blocks(rt.alloc())?;
     let mut live = lives(rt.alloc(), [0, 3, 2, 4, 2, 3, 4, 0])?;
     assert!(rt; live.live_count(0, 2) == 2);
-    assert!(rt; is_victim(&live, &blocks, 0, 2));
+    let mut probes = Probes::default();
+    assert!(rt; live.victim_counted(&blocks, &mut probes) == Some(BlockAt { die: 0, block: 2 }));
+    assert!(rt; probes.count == 5);
     live.pin(0, 2);
     live.pin(0, 2);
     live.unpin(0, 2);

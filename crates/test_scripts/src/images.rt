@@ -7,10 +7,10 @@ use std::process::Abort;
 use ufsim::{Call, CallFault, Sizes, call, read_image, write_image};
 
 /// A script with a small device: one die of 32 blocks of 16 pages. The device has erased a block.
-const SMALL: &[u8] = b"config 1 32 16 1 64 0\nunit 1 0 0\nturn\ntake 0\ndone 0 ok\n";
+pub const SMALL: &[u8] = b"config 1 32 16 1 64 0\nunit 1 0 0\nturn\ntake 0\ndone 0 ok\n";
 
 /// What it prints.
-const SMALL_PRINTED: &[u8] = b"turn yes\ntake 0 erase 0\ndone 0 yes\n";
+pub const SMALL_PRINTED: &[u8] = b"turn yes\ntake 0 erase 0\ndone 0 yes\n";
 
 /// Its sizes.
 const SMALL_SIZES: Sizes = Sizes {
@@ -19,13 +19,13 @@ const SMALL_SIZES: Sizes = Sizes {
     pages: 16,
 };
 
-/// How many bytes an image of the row configuration has: 14, and for each of 4 times 16 blocks one and
-/// 64 pages of 4192.
+/// How many bytes an image of the row configuration has: 14, and for each of 4 times 16 blocks one
+/// and 64 pages of 4192.
 const ROW_LENGTH: usize = 17_170_510;
 
-/// How many bytes an image of the small device has: 14, and for each of 32 blocks one and 16 pages of
-/// 4192.
-const SMALL_LENGTH: usize = 2_146_350;
+/// How many bytes an image of the small device has: 14, and for each of 32 blocks one and 16 pages
+/// of 4192.
+pub const SMALL_LENGTH: usize = 2_146_350;
 
 /// A FUA write at the last address of unit 0 is saved with the dies, and read back after a load.
 #[test]
@@ -57,8 +57,8 @@ fn a_saved_block_is_loaded_again(rt: HostRuntime) {
     script.load(&rt, image.as_slice());
 }
 
-// The image of the small device after these further lines, which print this.
-fn saved(rt: &(impl Abort + AllocGlobal), lines: &[u8], printed: &[u8]) -> Vec<u8> {
+/// The image of the small device after these further lines, which print this.
+pub fn saved(rt: &(impl Abort + AllocGlobal), lines: &[u8], printed: &[u8]) -> Vec<u8> {
     let mut image = Vec::new(rt.alloc());
     let script = joined(rt, SMALL, lines);
     let output = joined(rt, SMALL_PRINTED, printed);
@@ -66,7 +66,8 @@ fn saved(rt: &(impl Abort + AllocGlobal), lines: &[u8], printed: &[u8]) -> Vec<u
     image
 }
 
-fn joined(rt: &(impl Abort + AllocGlobal), first: &[u8], second: &[u8]) -> Vec<u8> {
+/// These bytes, and then those.
+pub fn joined(rt: &(impl Abort + AllocGlobal), first: &[u8], second: &[u8]) -> Vec<u8> {
     let mut all = Vec::new(rt.alloc());
     let first_fits = all.extend_from_slice(first).is_ok();
     let second_fits = all.extend_from_slice(second).is_ok();

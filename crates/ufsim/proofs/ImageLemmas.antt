@@ -1,6 +1,6 @@
 -- What stands in an image behind what.
 use Rattle.std.proofs.Common.{◌≡◌, ◌≢◌, ◌∙◌, ◌+◌, ◌<◌, ◌≤◌, ◌++◌, ℕ, List, [], ◌∷◌, All, ap, append-nil, arith, length, refl, subst, suc, sym, take, zero}
-use Rattle.std.specs.Prelude.{Bool, true, false, Option, Some, None, Result, Ok, Err, OnOk, slice_index_or, slice_set}
+use Rattle.std.specs.Prelude.{Bool, true, false, IfSome, Option, Some, None, Result, Ok, Err, OnOk, slice_index_or, slice_set}
 use Rattle.std.specs.List.{flat_map}
 use Rattle.std.specs.Io.KnownBytes.{Appends, Consumes, IsAtEnd, Keeps}
 use Rattle.std.proofs.lemmas.List.{append_assoc}
@@ -8,7 +8,7 @@ use Rattle.std.proofs.lemmas.List.{flat_map_more, get_or-set_same, take_more}
 use Rattle.std.proofs.lemmas.List.Elements.{All-push}
 use Rattle.ufs_spec.specs.Dies.{DieState, is_bad_block, pages_of}
 use Rattle.ufsim.specs.Images.{IsBlockRead, IsElseSame, IsOfImage, bad_byte, block_bytes, blocks_bytes, die_bytes, marked}
-use Rattle.ufsim.specs.Images.{page_bytes}
+use Rattle.ufsim.specs.Images.{IsImage, IsSomeImage, page_bytes}
 
 -- What is written and read
 
@@ -143,3 +143,9 @@ all_written a b c head front all same written kept =
 pub front_more : (xs : List DieState) (i : ℕ) (x : DieState) → i < length xs → slice_index_or xs i x ≡ x →
     take (i + 1) xs ≡ take i xs ++ x ∷ []
 front_more xs i x inside is = take_more xs i x inside ∙ ap (λ (t : DieState). take i xs ++ t ∷ []) is
+
+-- an image of these sizes is an image
+pub some_image : (found : Option (List ℕ)) (dies blocks pages : ℕ) → IfSome found (IsImage dies blocks pages) →
+    IfSome found IsSomeImage
+some_image None dies blocks pages is = is
+some_image (Some bytes) dies blocks pages is = (dies, blocks, pages, is)

@@ -1,7 +1,7 @@
 -- The bytes of an image, in which all dies stand in a row (this profile).
 use Rattle.std.specs.Prelude.{◌≡◌, ◌≢◌, ◌<◌, ℕ, zero, suc, Bool, true, false, List, [], ◌∷◌, ◌++◌, Option, Some, None, length, replicate}
 use Rattle.std.specs.Prelude.{IfSome, Result, Ok, Err}
-use Rattle.std.specs.Io.KnownBytes.{Consumes}
+use Rattle.std.specs.Io.KnownBytes.{Appends, Consumes}
 use Rattle.std.specs.List.{flat_map}
 use Rattle.byteorder.specs.Endian.{big_bytes}
 use Rattle.ufs_spec.specs.Dies.{DieState, is_bad_block, pages_of, with_bad}
@@ -39,6 +39,11 @@ head_bytes dies blocks pages =
 -- the whole image of dies
 abbrev pub image_bytes : ℕ → ℕ → ℕ → List DieState → List ℕ
 image_bytes dies blocks pages all = head_bytes dies blocks pages ++ flat_map die_bytes all
+
+-- the image of some dies was added behind what was there
+abbrev pub AppendsImage : Option (List ℕ) → Option (List ℕ) → Type 0
+AppendsImage before after =
+    (dies blocks pages : ℕ) × ((all : List DieState) × Appends before after (image_bytes dies blocks pages all))
 
 -- ## Which bytes are an image
 
@@ -78,6 +83,10 @@ IsHead dies blocks pages bytes = bytes ≡ head_bytes dies blocks pages
 -- an image of so many such dies
 abbrev pub IsImage : ℕ → ℕ → ℕ → List ℕ → Type 0
 IsImage dies blocks pages = InTurn (IsHead dies blocks pages) (AreParts (IsDie blocks pages) dies)
+
+-- an image of dies of some sizes
+abbrev pub IsSomeImage : List ℕ → Type 0
+IsSomeImage bytes = (dies blocks pages : ℕ) × IsImage dies blocks pages bytes
 
 -- ## What is read
 

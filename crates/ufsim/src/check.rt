@@ -1,7 +1,7 @@
-//! Stops a script's device inside each of its programs and erases, and looks whether the device that
-//! opens afterwards holds what a prefix of the accepted commands makes, with each acknowledged one in it: the
-//! blocks of the units, the settings bBootLunEn and fPermanentWPEn, and the key, the counter and the area of
-//! the replay protected memory block.
+//! Stops a script's device inside each of its programs and erases, and looks whether the device
+//! that opens afterwards holds what a prefix of the accepted commands makes, with each acknowledged
+//! one in it: the blocks of the units, the settings bBootLunEn and fPermanentWPEn, and the key, the
+//! counter and the area of the replay protected memory block.
 ghost use Rattle.std.specs.Prelude.{◌≡◌, IfOk, IfSome};
 ghost use Rattle.ufs_spec.specs.Plain.{shape_of, shape_of_numbers};
 
@@ -28,8 +28,8 @@ pub enum Stops {
     One,
     /// Such a one, and in the mending after it a second one at each program and each erase.
     Second,
-    /// Such a one, and for each two dies that program or erase one with each two contents, where the other
-    /// dies keep what they had.
+    /// Such a one, and for each two dies that program or erase one with each two contents, where
+    /// the other dies keep what they had.
     Pairs,
 }
 
@@ -62,8 +62,8 @@ impl Check {
         }
     }
 
-    /// An event of the script showed this. After a program or an erase was given to a die the stops are
-    /// tried.
+    /// An event of the script showed this. After a program or an erase was given to a die the stops
+    /// are tried.
     pub fn note(
         &mut self,
         alloc: Global,
@@ -102,7 +102,8 @@ impl Check {
         }
     }
 
-    // Where more blocks of the dies are bad than the device has spare ones, it accepts nothing more.
+    // Where more blocks of the dies are bad than the device has spare ones, nothing more is
+    // accepted.
     fn lock(&mut self, dies: &[MemDie]) {
         if bad_blocks(dies) > usize::from(self.config.numbers().spare) {
             self.journal.lock();
@@ -179,8 +180,8 @@ impl Check {
         ))
     }
 
-    // The plain device that the life began with; `None` where what was read is not as large as the units and
-    // the area, or has no boot setting.
+    // The plain device that the life began with; `None` where what was read is not as large as the
+    // units and the area, or has no boot setting.
     fn base(&self, alloc: Global) -> Result<Option<PlainDevice>, Word>
         ensures { IfOk result (λ o. IfSome o (λ p. shape_of p ≡ shape_of_numbers self.now.config)) }
     {

@@ -35,8 +35,8 @@ pub(crate) enum Content {
     Torn,
 }
 
-/// No message has more bytes than this, so one byte more stands for any longer message: it is refused
-/// for its length all the same.
+/// No message has more bytes than this, so one byte more stands for any longer message: it is
+/// refused for its length all the same.
 const LONGEST: usize = 4128;
 
 impl Command {

@@ -10,8 +10,8 @@ use nand_model::MemDie;
 use std::alloc::Global;
 use ufs_spec::{RunFault, RunFaultKind, UnitSpec};
 
-/// What the first lines say. A number that its field cannot hold stands there as the greatest that it
-/// can, which no configuration has.
+/// What the first lines say. A number that its field cannot hold stands there as the greatest that
+/// it can, which no configuration has.
 #[derive(Drop)]
 pub(crate) struct FirstLines<'a> {
     pub dies: u8,
@@ -91,8 +91,8 @@ impl<'a> FirstLines<'a> {
         }
     }
 
-    /// The device of these lines, over new dies: `Config` where it is refused, and `Memory` for want
-    /// of memory.
+    /// The device of these lines, over new dies: `Config` where it is refused, and `Memory` for
+    /// want of memory.
     pub fn open(&self, alloc: Global) -> Result<World, Word> {
         let config = self.config()?;
         let dies = new_dies(alloc, self.dies, self.blocks, self.pages)?;
@@ -109,8 +109,8 @@ impl<'a> FirstLines<'a> {
     }
 }
 
-/// The device of this configuration over these dies: `Config` where it is refused, and `Memory` for want of
-/// memory.
+/// The device of this configuration over these dies: `Config` where it is refused, and `Memory` for
+/// want of memory.
 pub(crate) fn open_on(alloc: Global, config: Config, dies: Vec<MemDie>) -> Result<World, Word> {
     match World::new(alloc, config, dies) {
         Ok(world) => Ok(world),

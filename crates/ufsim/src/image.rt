@@ -1,12 +1,14 @@
 //! Images: all dies in a row of bytes, as a file keeps them.
-ghost use Rattle.std.specs.Prelude.{◌≡◌, ◌≢◌, ◌<◌, ◌++◌, ◌∷◌, [], false, length, All, IfErr, IfOk, IfSome, OnOk};
+ghost use Rattle.std.specs.Prelude.{◌≡◌, ◌≢◌, ◌<◌, ◌++◌, ◌∷◌, [], false, length, All, IfErr, IfOk};
+ghost use Rattle.std.specs.Prelude.{IfSome, OnOk};
 ghost use Rattle.std.specs.Io.KnownBytes.{Appends, Consumes, IsAtEnd};
 ghost use Rattle.std.specs.List.{flat_map};
 ghost use Rattle.ufs_spec.specs.Dies.{is_bad_block, pages_of};
 ghost use Rattle.ufsim.specs.declared.image.ImageFault.TheVariants as image_fault;
-ghost use Rattle.ufsim.specs.Images.{AreParts, IsBadByte, IsBlock, IsDie, IsImage, IsLong, IsPage, Reads};
-ghost use Rattle.ufsim.specs.Images.{IsBlockRead, IsElseSame, IsOfImage, bad_byte, block_bytes, die_bytes, head_bytes};
-ghost use Rattle.ufsim.specs.Images.{image_bytes, marked, page_bytes};
+ghost use Rattle.ufsim.specs.Images.{AreParts, IsBadByte, IsBlock, IsDie, IsImage, IsLong, IsPage};
+ghost use Rattle.ufsim.specs.Images.{Reads, IsBlockRead, IsElseSame, IsOfImage, bad_byte};
+ghost use Rattle.ufsim.specs.Images.{block_bytes, die_bytes, head_bytes, image_bytes, marked};
+ghost use Rattle.ufsim.specs.Images.{page_bytes};
 
 use byteorder::{BigEndian, ByteOrder};
 use nand_model::{Die, MemDie, Page};
@@ -77,7 +79,8 @@ impl From<NoMemory> for ImageFault {
 ///
 /// # Errors
 ///
-/// `File` where a write failed, or `Memory` where it did so for want of memory. A part may be written then.
+/// `File` where a write failed, or `Memory` where it did so for want of memory. A part may be
+/// written then.
 pub fn write_image<W: Write>(image: &mut W, sizes: Sizes, dies: &[MemDie]) -> Result<(), ImageFault>
     ensures { OnOk result (Appends (W.contents image.old) (W.contents image.new)
         (image_bytes sizes.dies sizes.blocks sizes.pages dies.now)) }
@@ -89,13 +92,14 @@ pub fn write_image<W: Write>(image: &mut W, sizes: Sizes, dies: &[MemDie]) -> Re
     Ok(image.flush()?)
 }
 
-/// The dies of an image of these sizes, which is read to its end. It is read once, page by page, into dies that
-/// no one else has; so they are let go where it is malformed, and an image may come from a pipe.
+/// The dies of an image of these sizes, which is read to its end. It is read once, page by page,
+/// into dies that no one else has; so they are let go where it is malformed, and an image may come
+/// from a pipe.
 ///
 /// # Errors
 ///
-/// `Malformed` where the bytes are no image of these sizes, `File` where a read failed, and `Memory` for want of
-/// memory.
+/// `Malformed` where the bytes are no image of these sizes, `File` where a read failed, and
+/// `Memory` for want of memory.
 pub fn read_image<R: Read>(
     alloc: Global,
     image: &mut R,
@@ -105,9 +109,11 @@ pub fn read_image<R: Read>(
         bytes ≡ image_bytes sizes.dies sizes.blocks sizes.pages dies.items)) }
     ensures sizes { IfOk result (λ dies. (length dies.items ≡ sizes.dies)
         × All (IsOfImage sizes.blocks sizes.pages) dies.items) }
-    ensures image { OnOk result (IfSome (R.remaining image.old) (IsImage sizes.dies sizes.blocks sizes.pages)) }
+    ensures image { OnOk result
+        (IfSome (R.remaining image.old) (IsImage sizes.dies sizes.blocks sizes.pages)) }
     ensures malformed { IfErr result (λ fault. fault ≡ ImageFault.Malformed →
-        IfSome (R.remaining image.old) (λ bytes. IsImage sizes.dies sizes.blocks sizes.pages bytes → ⊥)) }
+        IfSome (R.remaining image.old) (λ bytes.
+        IsImage sizes.dies sizes.blocks sizes.pages bytes → ⊥)) }
 {
     let mut found = [0; 14];
     fill(image, &mut found)?;
@@ -136,7 +142,8 @@ fn head(sizes: Sizes) -> [u8; 14]
 }
 
 fn write_die<W: Write>(image: &mut W, die: &MemDie) -> Result<(), ImageFault>
-    ensures { OnOk result (Appends (W.contents image.old) (W.contents image.new) (die_bytes die.now)) }
+    ensures { OnOk result
+        (Appends (W.contents image.old) (W.contents image.new) (die_bytes die.now)) }
 {
     for block in 0..die.blocks() {
         write_block(image, die, block)?;
@@ -147,7 +154,8 @@ fn write_die<W: Write>(image: &mut W, die: &MemDie) -> Result<(), ImageFault>
 // Whether the block is bad, and its pages.
 fn write_block<W: Write>(image: &mut W, die: &MemDie, block: u16) -> Result<(), ImageFault>
     requires { block < length die.now.blocks }
-    ensures { OnOk result (Appends (W.contents image.old) (W.contents image.new) (block_bytes die.now block)) }
+    ensures { OnOk result
+        (Appends (W.contents image.old) (W.contents image.new) (block_bytes die.now block)) }
 {
     image.write_all(&[u8::from(die.is_bad(block))])?;
     for page in 0..die.pages() {
@@ -157,16 +165,19 @@ fn write_block<W: Write>(image: &mut W, die: &MemDie, block: u16) -> Result<(), 
 }
 
 fn write_page<W: Write>(image: &mut W, page: &Page) -> Result<(), ImageFault>
-    ensures { OnOk result (Appends (W.contents image.old) (W.contents image.new) (page_bytes page.now)) }
+    ensures { OnOk result
+        (Appends (W.contents image.old) (W.contents image.new) (page_bytes page.now)) }
 {
     image.write_all(&page.body)?;
     Ok(image.write_all(&page.spare)?)
 }
 
 fn read_die<R: Read>(alloc: Global, image: &mut R, sizes: Sizes) -> Result<MemDie, ImageFault>
-    ensures bytes { IfOk result (λ die. Consumes (R.remaining image.old) (R.remaining image.new) (die_bytes die)) }
+    ensures bytes { IfOk result (λ die.
+        Consumes (R.remaining image.old) (R.remaining image.new) (die_bytes die)) }
     ensures size { IfOk result (IsOfImage sizes.blocks sizes.pages) }
-    ensures kind { Reads (IsDie sizes.blocks sizes.pages) (R.remaining image.old) (R.remaining image.new) result }
+    ensures kind { Reads (IsDie sizes.blocks sizes.pages)
+        (R.remaining image.old) (R.remaining image.new) result }
 {
     let mut die = MemDie::new(alloc, sizes.blocks, sizes.pages)?;
     for block in 0..sizes.blocks {
@@ -185,8 +196,8 @@ fn read_block<R: Read>(image: &mut R, die: &mut MemDie, block: u16) -> Result<()
     ensures bytes { OnOk result
         (Consumes (R.remaining image.old) (R.remaining image.new) (block_bytes die.new block)) }
     ensures rest { OnOk result (IsBlockRead die.old block die.new) }
-    ensures kind { Reads (IsBlock (length (pages_of die.old block))) (R.remaining image.old) (R.remaining image.new)
-        result }
+    ensures kind { Reads (IsBlock (length (pages_of die.old block)))
+        (R.remaining image.old) (R.remaining image.new) result }
 {
     let is_bad = read_bad(image)?;
     mark(die, block, is_bad);
@@ -275,8 +286,10 @@ fn pass_interrupted(error: Error) -> Result<(), ImageFault>
 
 // Reads as many bytes as there is room for; `Malformed` where the image has fewer.
 fn fill<R: Read>(image: &mut R, into: &mut [u8]) -> Result<(), ImageFault>
-    ensures bytes { OnOk result (Consumes (R.remaining image.old) (R.remaining image.new) into.new) }
-    ensures kind { Reads (IsLong (length into.old)) (R.remaining image.old) (R.remaining image.new) result }
+    ensures bytes { OnOk result
+        (Consumes (R.remaining image.old) (R.remaining image.new) into.new) }
+    ensures kind { Reads (IsLong (length into.old))
+        (R.remaining image.old) (R.remaining image.new) result }
 {
     let mut at = 0;
     for _ in 0..u64::MAX {

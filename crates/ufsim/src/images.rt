@@ -1,5 +1,6 @@
 //! Scripts that end or begin with an image of the dies.
-ghost use Rattle.std.specs.Prelude.{◌≡◌, ◌≤◌};
+ghost use Rattle.std.specs.Prelude.{◌≡◌, ◌≤◌, IfSome, IsOk, OnOk};
+ghost use Rattle.ufsim.specs.Images.{AppendsImage, IsSomeImage};
 
 use crate::fault::ScriptFault;
 use crate::first_lines::FirstLines;
@@ -18,8 +19,9 @@ enum Fault {
     Image(#[from] ImageFault),
 }
 
-/// As `run_text`, and then writes the image of the dies to `image`, whose name is told where a write fails. A job
-/// in flight at the end of the script has done nothing yet. Nothing is written where a line has a fault.
+/// As `run_text`, and then writes the image of the dies to `image`, whose name is told where a
+/// write fails. A job in flight at the end of the script has done nothing yet. Nothing is written
+/// where a line has a fault.
 pub fn save_text<I: Write, W: Write, F: Write>(
     alloc: Global,
     script: &[u8],
@@ -30,12 +32,14 @@ pub fn save_text<I: Write, W: Write, F: Write>(
 ) -> u8
     ensures status { result ≤ 1 }
     ensures quiet { result ≡ 0 → faults.new ≡ faults.old }
+    ensures image { result ≡ 0 → AppendsImage (I.contents image.old) (I.contents image.new) }
 {
     status_of(save(alloc, script, image, out), name, faults)
 }
 
-/// As `run_text`, but over the dies of the image that is read from `image`, whose name is told where a read fails.
-/// Nothing is read of it where the first lines have a fault or give no configuration.
+/// As `run_text`, but over the dies of the image that is read from `image`, whose name is told
+/// where a read fails. Nothing is read of it where the first lines have a fault or give no
+/// configuration.
 pub fn load_text<I: Read, W: Write, F: Write>(
     alloc: Global,
     script: &[u8],
@@ -46,6 +50,7 @@ pub fn load_text<I: Read, W: Write, F: Write>(
 ) -> u8
     ensures status { result ≤ 1 }
     ensures quiet { result ≡ 0 → faults.new ≡ faults.old }
+    ensures image { result ≡ 0 → IfSome (I.remaining image.old) IsSomeImage }
 {
     status_of(load(alloc, script, image, out), name, faults)
 }
@@ -53,6 +58,7 @@ pub fn load_text<I: Read, W: Write, F: Write>(
 // The status of what ended so. A fault is told in one line.
 fn status_of<F: Write>(ended: Result<(), Fault>, name: &str, faults: &mut F) -> u8
     ensures status { result ≤ 1 }
+    ensures well { result ≡ 0 → IsOk ended }
     ensures quiet { result ≡ 0 → faults.new ≡ faults.old }
 {
     // Where the fault itself cannot be told, the status alone tells it.
@@ -69,7 +75,9 @@ fn save<I: Write, W: Write>(
     script: &[u8],
     image: &mut I,
     out: &mut W,
-) -> Result<(), Fault> {
+) -> Result<(), Fault>
+    ensures { OnOk result (AppendsImage (I.contents image.old) (I.contents image.new)) }
+{
     let first = FirstLines::read(script)?;
     let sizes = first.sizes();
     let world = print_script(alloc, first, out)?;
@@ -81,7 +89,9 @@ fn load<I: Read, W: Write>(
     script: &[u8],
     image: &mut I,
     out: &mut W,
-) -> Result<(), Fault> {
+) -> Result<(), Fault>
+    ensures { OnOk result (IfSome (I.remaining image.old) IsSomeImage) }
+{
     let first = FirstLines::read(script)?;
     let config = first.last.told(first.config())?;
     let dies = read_image(alloc, image, first.sizes())?;

@@ -1,5 +1,5 @@
-//! Runs scripts over a device whose dies lie in memory. A script is made of lines; each is one event
-//! of the device, or several, and each has one line of output.
+//! Runs scripts over a device whose dies lie in memory. A script is made of lines; each is one
+//! event of the device, or several, and each has one line of output.
 #![tactic(auto)]
 
 mod check;

@@ -34,8 +34,9 @@ impl Holdings {
     }
 }
 
-/// What a device holds that is opened over these dies and mended; `None` where it does not open, or does not answer
-/// each READ with its block, each query for a setting rightly, and each request for the region rightly under this key.
+/// What a device holds that is opened over these dies and mended; `None` where it does not open, or
+/// does not answer each READ with its block, each query for a setting rightly, and each request for
+/// the region rightly under this key.
 pub(crate) fn read_dies(
     alloc: Global,
     config: &Config,

@@ -62,8 +62,8 @@ impl Region {
 }
 
 impl Visit {
-    /// What the region holds, with so many steps of its area; `None` where a request is not answered rightly: under
-    /// this key, if one is set, else without a MAC.
+    /// What the region holds, with so many steps of its area; `None` where a request is not
+    /// answered rightly: under this key, if one is set, else without a MAC.
     pub fn region(&mut self, key: Option<[u8; 32]>, steps: u8) -> Result<Option<Region>, Word> {
         let Some(frame) = self.counter_frame(key)? else {
             return Ok(None);
@@ -112,7 +112,8 @@ impl Visit {
         Ok(Some(area))
     }
 
-    // Adds the blocks from this address on; false where the request for them is not answered rightly.
+    // Adds the blocks from this address on; false where the request for them is not answered
+    // rightly.
     fn read_blocks(
         &mut self,
         key: &[u8; 32],
@@ -134,7 +135,8 @@ impl Visit {
         Ok(frames.len() == usize::from(BLOCKS) && has_mac(frames, key))
     }
 
-    // The DATA IN with the response to a request, of so many bytes; `None` where a step of the exchange fails.
+    // The DATA IN with the response to a request, of so many bytes; `None` where a step of the
+    // exchange fails.
     fn response(&mut self, asked: &Frame, length: u16) -> Result<Option<Upiu>, Word> {
         if !self.brings(asked)? || !self.send(&command(READS, SECURITY_IN, length))? {
             return Ok(None);

@@ -26,11 +26,11 @@ pub fn run_text<W: Write, F: Write>(alloc: Global, script: &[u8], out: &mut W, f
 }
 
 /// Runs a script over new dies, and at each program and each erase that it gives to a die stops the
-/// device in a copy: with the old content, with the new one and with a torn one on all dies that program
-/// or erase. The device is opened again, mended and read by messages, and what it holds is compared with
-/// what each prefix of the accepted commands makes that has every acknowledged one. It writes the line
-/// `check stops S bad B` to `out`, or the one line of a fault to `faults`. The status is 0 if no stop was
-/// bad.
+/// device in a copy: with the old content, with the new one and with a torn one on all dies that
+/// program or erase. The device is opened again, mended and read by messages, and what it holds is
+/// compared with what each prefix of the accepted commands makes that has every acknowledged one.
+/// It writes the line `check stops S bad B` to `out`, or the one line of a fault to `faults`. The
+/// status is 0 if no stop was bad.
 pub fn check_text<W: Write, F: Write>(
     alloc: Global,
     script: &[u8],
@@ -107,8 +107,8 @@ fn run_script<W: Write>(alloc: Global, script: &[u8], out: &mut W) -> Result<boo
     Ok(true)
 }
 
-/// Runs the lines behind these ones over new dies, and writes the output of each. It answers the device with
-/// its dies after the last one.
+/// Runs the lines behind these ones over new dies, and writes the output of each. It answers the
+/// device with its dies after the last one.
 pub(crate) fn print_script<W: Write>(
     alloc: Global,
     first: FirstLines<'_>,
@@ -133,8 +133,8 @@ pub(crate) fn print_on<W: Write>(
     Ok(runner.world)
 }
 
-/// The device with its dies after the lines of a script up to the one with the number `last`. With a number
-/// of the first lines it is as it was opened. Nothing is printed.
+/// The device with its dies after the lines of a script up to the one with the number `last`. With
+/// a number of the first lines it is as it was opened. Nothing is printed.
 ///
 /// # Errors
 ///

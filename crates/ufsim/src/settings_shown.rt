@@ -47,7 +47,8 @@ impl Visit {
         }
     }
 
-    // The value that is told of an attribute or a flag; `None` where the query is not answered rightly.
+    // The value that is told of an attribute or a flag; `None` where the query is not answered
+    // rightly.
     fn value(&mut self, opcode: u8, idn: u8) -> Result<Option<u32>, Word> {
         if !self.send(&query(opcode, idn))? {
             return Ok(None);

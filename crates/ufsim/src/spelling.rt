@@ -9,8 +9,8 @@ use crate::fault::Word;
 use hex::FromHexError;
 use std::alloc::Global;
 
-/// The bytes that a script's HEX spells: two hexadecimal digits a byte, in either case, and one byte
-/// at least. It is `Hex` exactly where the text spells none, and else `Memory` where memory is
+/// The bytes that a script's HEX spells: two hexadecimal digits a byte, in either case, and one
+/// byte at least. It is `Hex` exactly where the text spells none, and else `Memory` where memory is
 /// refused.
 pub fn bytes(alloc: Global, text: &str) -> Result<Vec<u8>, Word>
     ensures value { IfOk result (λ found. spelled_bytes text.now ≡ Some found.items) }

@@ -67,7 +67,8 @@ pub(crate) fn stopped_dies(
     Ok(dies)
 }
 
-/// Copies of the dies as a stop leaves them with these contents on two dies. The others keep what they had.
+/// Copies of the dies as a stop leaves them with these contents on two dies. The others keep what
+/// they had.
 pub(crate) fn pair_stopped(
     alloc: Global,
     world: &World,

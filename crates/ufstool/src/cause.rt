@@ -138,7 +138,8 @@ impl Cause<'_> {
             Cause::Range(range) => range.write(f),
             Cause::Room { needed, left } => write!(
                 f,
-                "{needed} blocks are needed, {left} are there; give more, or fewer units, slots or spare ones"
+                "{needed} blocks are needed, {left} are there; give more, or fewer units, slots or \
+                 spare ones"
             ),
             Cause::BootTwice(boot) => {
                 write!(
@@ -155,7 +156,8 @@ impl Cause<'_> {
             }
             Cause::Answer(line) => write!(
                 f,
-                "line {line} of the output does not answer it; give what 'ufsim run' printed for this script"
+                "line {line} of the output does not answer it; give what 'ufsim run' printed for \
+                 this script"
             ),
             Cause::Ended(why) => write!(f, "the run ended here: {why}"),
             _ => f.write_str(self.plain_words()),

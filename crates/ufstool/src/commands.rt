@@ -4,8 +4,8 @@ use scsi_cdb::blocks_of;
 use std::fmt;
 use ufs_spec::{Cdb, Sense};
 
-/// What a COMMAND asks for, in words: its CDB, the direction of its data, and how many bytes its host
-/// expects.
+/// What a COMMAND asks for, in words: its CDB, the direction of its data, and how many bytes its
+/// host expects.
 pub fn write_command<W: fmt::Write>(
     f: &mut fmt::Formatter<W>,
     flags: u8,

@@ -8,7 +8,8 @@ use hex::FromHex;
 /// The `N` bytes that the digits spell, two a byte.
 pub fn spelled<const N: usize>(digits: &str) -> Option<[u8; N]>
     ensures value { IfSome result (λ bytes. decode_of digits.now ≡ Ok bytes) }
-    ensures found { IsSome result ↔ ((length digits.now ≡ 2 * N) × AllPass is_hex_digit digits.now) }
+    ensures found { IsSome result
+        ↔ ((length digits.now ≡ 2 * N) × AllPass is_hex_digit digits.now) }
 {
     <[u8; N] as FromHex>::from_hex(digits).ok()
 }

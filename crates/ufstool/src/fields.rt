@@ -1,4 +1,5 @@
-//! The fields of descriptors, of INQUIRY data and of UNMAP's list in words, each in a line of its own.
+//! The fields of descriptors, of INQUIRY data and of UNMAP's list in words, each in a line of its
+//! own.
 ghost use Rattle.std.specs.Prelude.{◌≡◌};
 ghost use Rattle.ufstool.specs.UnmapLists.{is_right_field};
 

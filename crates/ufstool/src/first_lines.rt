@@ -68,8 +68,8 @@ impl ConfigLine {
     }
 
     /// Sees that the dies have blocks enough for these units: what is needed is the blocks of the
-    /// units, 32 for each step of the RPMB area, two more and four times the slots, in pages; and four
-    /// blocks for each die and eight more (docs/FORMATS.md, "Configuration").
+    /// units, 32 for each step of the RPMB area, two more and four times the slots, in pages; and
+    /// four blocks for each die and eight more (docs/FORMATS.md, "Configuration").
     pub fn check_room(&self, units: &UnitSum) -> Result<(), Cause<'static>> {
         let kept = units
             .blocks
@@ -170,11 +170,13 @@ impl fmt::Display for ConfigLine {
             spare,
         } = *self;
         let area = u64::from(rpmb) * 128;
+        let noun = if dies == 1 { "die" } else { "dies" };
         write!(
             f,
-            "{dies} dies of {blocks} blocks of {pages} pages, {area} KiB for RPMB"
+            "{dies} {noun} of {blocks} blocks of {pages} pages, {area} KiB for RPMB"
         )?;
-        write!(f, ", a write cache of {slots} blocks, {spare} spare blocks")
+        let noun = if spare == 1 { "block" } else { "blocks" };
+        write!(f, ", a write cache of {slots} blocks, {spare} spare {noun}")
     }
 }
 
@@ -192,9 +194,10 @@ impl fmt::Display for UnitLine {
             2 => "protected by fPermanentWPEn",
             _ => "never protected",
         };
+        let noun = if blocks == 1 { "block" } else { "blocks" };
         write!(
             f,
-            "a unit of {blocks} blocks ({size} KiB), {boot}, {protect}"
+            "a unit of {blocks} {noun} ({size} KiB), {boot}, {protect}"
         )
     }
 }

@@ -10,9 +10,9 @@ use std::alloc::Global;
 use std::io::Write;
 
 /// Says what the frames of the replay protected memory block in a text are, on `out`: each line has
-/// one frame or several in hexadecimal digits, and the last frame of a line has the MAC of all. Under
-/// a key it is told whether the MAC is right. What is wrong is told in one line on `faults`, with the
-/// number of the line; nothing is told of the lines after it.
+/// one frame or several in hexadecimal digits, and the last frame of a line has the MAC of all.
+/// Under a key it is told whether the MAC is right. What is wrong is told in one line on `faults`,
+/// with the number of the line; nothing is told of the lines after it.
 ///
 /// The status is 0 if every line was told, else 1.
 pub fn explain_frames<W: Write, F: Write>(

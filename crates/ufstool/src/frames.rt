@@ -15,8 +15,8 @@ use ufs_spec::Message;
 /// The LUN of the well known unit RPMB (JESD220, 10.5).
 pub const RPMB_UNIT: u8 = 0xC4;
 
-/// Says in a line for each what the frames of a message are. Frames are the data that go to the unit
-/// RPMB or come from it, if they are frames as a whole; of other data nothing is said.
+/// Says in a line for each what the frames of a message are. Frames are the data that go to the
+/// unit RPMB or come from it, if they are frames as a whole; of other data nothing is said.
 pub fn write_frames_of<W: Write>(
     message: &Message,
     key: Option<&[u8; 32]>,

@@ -6,7 +6,8 @@ ghost use Rattle.ufs_spec.specs.Codes.{data_out_code};
 ghost use Rattle.ufs_spec.specs.Messages.{header, padding, spelling, transfer, zeros};
 ghost use Rattle.ufs_spec.specs.Messages.{AreFlags, IsMessage};
 ghost use Rattle.std.specs.Io.KnownBytes.{Appends};
-ghost use Rattle.ufstool.specs.HostMessages.{bytes_wanted, command_spelled, expected_of, flags_of, line_of};
+ghost use Rattle.ufstool.specs.HostMessages.{bytes_wanted, command_spelled, expected_of, flags_of};
+ghost use Rattle.ufstool.specs.HostMessages.{line_of};
 ghost use Rattle.ufs_spec.specs.declared.messages.Message.TheVariants.{Command as CommandMessage};
 ghost use Rattle.ufstool.specs.declared.host.HostMessage.TheVariants.{DataOut, NopOut};
 
@@ -62,7 +63,8 @@ pub enum HostMessage {
 #[derive(Clone, Copy, Debug, Error)]
 pub enum LineFault {
     /// The fields of the command do not fit its bytes.
-    #[error("the address has more than the 21 bits of READ(6) and WRITE(6); take read10 or write10")]
+    #[error("the address has more than the 21 bits of READ(6) and WRITE(6); take read10 or \
+             write10")]
     Address,
     /// REPORT LUNS has no such selection.
     #[error("the selection of REPORT LUNS is 0, 1 or 2")]
@@ -93,8 +95,8 @@ impl From<AllocError> for LineFault {
     }
 }
 
-/// Writes the line of a script that hands a device this message to `out`, or one line with what is wrong to
-/// `faults`. The status is 0 if the line was written, else 1.
+/// Writes the line of a script that hands a device this message to `out`, or one line with what is
+/// wrong to `faults`. The status is 0 if the line was written, else 1.
 pub fn write_host_line<W: Write, F: Write>(
     alloc: Global,
     wanted: &HostMessage,

@@ -1,9 +1,10 @@
 //! Images of dies, as `ufsim image save` writes them: what one has, and where one is malformed.
-ghost use Rattle.std.specs.Prelude.{◌≡◌, ◌<◌, ◌≤◌, ◌+◌, ◌↔◌, ℕ, List, Option, [], ◌∷◌, length, take};
-ghost use Rattle.std.specs.Prelude.{IfErr, IfNone, IfOk, IfSome, IsTrue, OnOk, Some};
+ghost use Rattle.std.specs.Prelude.{◌≡◌, ◌<◌, ◌≤◌, ◌+◌, ◌↔◌, ℕ, List, Option, [], ◌∷◌, length};
+ghost use Rattle.std.specs.Prelude.{take, IfErr, IfNone, IfOk, IfSome, IsTrue, OnOk, Some};
 ghost use Rattle.std.specs.Io.KnownBytes.{Consumes, IsAtEnd, Keeps};
-ghost use Rattle.ufstool.specs.Images.{AreInRange, IsFault, IsHeadFault, IsHeadPlace, IsImage, IsReadTo};
-ghost use Rattle.ufstool.specs.Images.{block_count, block_place, head_bytes, image_length, pages_length};
+ghost use Rattle.ufstool.specs.Images.{AreInRange, IsFault, IsHeadFault, IsHeadPlace, IsImage};
+ghost use Rattle.ufstool.specs.Images.{IsReadTo, block_count, block_place, head_bytes};
+ghost use Rattle.ufstool.specs.Images.{image_length, pages_length};
 
 use crate::cause::Range;
 use crate::first_lines::range;
@@ -65,15 +66,16 @@ const NAME: [u8; 8] = *b"UFSIMAGE";
 /// How many bytes a page has, with its spare ones.
 const PAGE: u64 = 4192;
 
-/// Says on `out` what the dies of an image are, and which of their blocks are bad. The image is read
-/// once, in pieces, to its end. What is wrong is told in one line on `faults`: where it is malformed,
-/// and how.
+/// Says on `out` what the dies of an image are, and which of their blocks are bad. The image is
+/// read once, in pieces, to its end. What is wrong is told in one line on `faults`: where it is
+/// malformed, and how.
 ///
 /// The status is 0 if all was told, else 1.
 pub fn explain_image<R: Read, W: Write, F: Write>(image: &mut R, out: &mut W, faults: &mut F) -> u8
     ensures status { result ≤ 1 }
     ensures quiet { result ≡ 0 → faults.new ≡ faults.old }
-    ensures whole { result ≡ 0 → IfSome (R.remaining image.old) (λ bytes. (s : Sizes) × IsImage s bytes) }
+    ensures whole { result ≡ 0 →
+        IfSome (R.remaining image.old) (λ bytes. (s : Sizes) × IsImage s bytes) }
 {
     // Where the fault itself cannot be told, the status alone tells it.
     let _ = match tell(image, out) {
@@ -353,9 +355,11 @@ fn short(sizes: Sizes, place: u64) -> ImageFault
 fn expect_end<R: Read>(image: &mut R, sizes: Sizes) -> Result<(), ImageFault>
     requires { AreInRange sizes }
     ensures right { OnOk result ((start : Option (List ℕ)) →
-        IsReadTo sizes (block_count sizes) start (R.remaining image.old) → IfSome start (IsImage sizes)) }
+        IsReadTo sizes (block_count sizes) start (R.remaining image.old) →
+        IfSome start (IsImage sizes)) }
     ensures wrong { IfErr result (λ fault. (start : Option (List ℕ)) →
-        IsReadTo sizes (block_count sizes) start (R.remaining image.old) → IfSome start (IsFault fault)) }
+        IsReadTo sizes (block_count sizes) start (R.remaining image.old) →
+        IfSome start (IsFault fault)) }
 {
     match next_byte(image)? {
         None => Ok(()),
@@ -430,7 +434,8 @@ impl fmt::Display for Sizes {
             blocks,
             pages,
         } = *self;
-        write!(f, "{dies} dies of {blocks} blocks of {pages} pages")
+        let noun = if dies == 1 { "die" } else { "dies" };
+        write!(f, "{dies} {noun} of {blocks} blocks of {pages} pages")
     }
 }
 
@@ -444,7 +449,8 @@ impl fmt::Display for Trouble {
             Trouble::Range(range) => range.write(f),
             Trouble::Bad { die, block, byte } => write!(
                 f,
-                "block {block} of die {die} begins with {byte:02X}h; it has to be 00h, or 01h if the block is bad"
+                "block {block} of die {die} begins with {byte:02X}h; it has to be 00h, or 01h if \
+                 the block is bad"
             ),
             Trouble::Short(Some(needed)) => {
                 write!(

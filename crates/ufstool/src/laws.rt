@@ -8,15 +8,15 @@ ghost use Rattle.scsi_cdb.specs.declared.unmap_list.UnmapList.TheVariants.{Descr
 ghost use Rattle.ufstool.specs.HostUnmaps.{unmap_list};
 ghost use Rattle.ufstool.specs.UnmapLists.{is_right_field};
 
-/// The list of an UNMAP that is written is read as what it was made of, if a command may have so many
-/// blocks.
+/// The list of an UNMAP that is written is read as what it was made of, if a command may have so
+/// many blocks.
 pub fn a_list_is_read_again()
     ensures { (n : Numbers) (address blocks : ℕ) → address < 2 ^ 64 → blocks ≤ 32 →
         list_read n (unmap_list address blocks) ≡ Descriptor address blocks }
 {}
 
-/// An explanation says of a field that it is malformed exactly where a device refuses the list for it:
-/// in a header the two lengths and four zeros, in a descriptor the count and four zeros.
+/// An explanation says of a field that it is malformed exactly where a device refuses the list for
+/// it: in a header the two lengths and four zeros, in a descriptor the count and four zeros.
 pub fn a_list_is_refused_for_a_field()
     ensures header { (list : List ℕ) → has_list_header list
         ≡ (is_right_field (length list) 0 (field_at 2 0 list)

@@ -88,7 +88,8 @@ pub struct Words<'a> {
 }
 
 impl<'a> Words<'a> {
-    /// The words of a line that has just `count` of them; `form` shows how the line is to be written.
+    /// The words of a line that has just `count` of them; `form` shows how the line is to be
+    /// written.
     pub fn new(line: &'a str, count: usize, form: &'static str) -> Result<Words<'a>, Cause<'a>> {
         if line.split_whitespace().any(|word| word.starts_with('#')) {
             return Err(Cause::Comment);

@@ -21,7 +21,8 @@ pub fn write_luns<W: Write>(out: &mut W, bytes: &[u8]) -> io::Result<()> {
         length = (length << 8) | u32::from(*byte);
     }
     let units = length / 8;
-    writeln!(out, "    LUN list length {length}: {units} units")?;
+    let noun = if units == 1 { "unit" } else { "units" };
+    writeln!(out, "    LUN list length {length}: {units} {noun}")?;
     let (entries, rest) = entries.as_chunks::<8>();
     for entry in entries {
         let words = Entry(entry);

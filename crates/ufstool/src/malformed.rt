@@ -6,8 +6,8 @@ use std::fmt;
 use ufs_spec::codes::{TASK_REQUEST, TASK_RESPONSE};
 use ufs_spec::{Message, Upiu};
 
-/// Of a task management message, says which byte is the first that is not what its fields ask for. Of
-/// all other bytes nothing is said.
+/// Of a task management message, says which byte is the first that is not what its fields ask for.
+/// Of all other bytes nothing is said.
 pub fn write_wrong_byte<W: fmt::Write>(f: &mut fmt::Formatter<W>, bytes: &[u8]) -> fmt::Result {
     let Some(message) = message_meant(bytes) else {
         return Ok(());
@@ -22,8 +22,9 @@ pub fn write_wrong_byte<W: fmt::Write>(f: &mut fmt::Formatter<W>, bytes: &[u8]) 
     }
 }
 
-// The task management message with the fields of these bytes, if their transaction code is one of it. Each byte of a
-// field may have any value; the LUN stands in two bytes, of which the first counts.
+// The task management message with the fields of these bytes, if their transaction code is one of
+// it. Each byte of a field may have any value; the LUN stands in two bytes, of which the first
+// counts.
 fn message_meant(bytes: &[u8]) -> Option<Message>
     ensures { IfSome result IsMessage }
 {

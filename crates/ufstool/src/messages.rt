@@ -157,7 +157,8 @@ fn write_short_fields<W: fmt::Write>(f: &mut fmt::Formatter<W>, message: &Messag
     }
 }
 
-// A task management function, and the task that is meant. A function of all tasks of a unit means none.
+// A task management function, and the task that is meant. A function of all tasks of a unit means
+// none.
 fn write_function<W: fmt::Write>(
     f: &mut fmt::Formatter<W>,
     function: u8,

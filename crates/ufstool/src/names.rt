@@ -184,7 +184,8 @@ pub fn host_fault_words(fault: HostFault) -> &'static str {
     match fault {
         HostFault::Short => "the message has fewer than 32 bytes",
         HostFault::Length => {
-            "the length in bytes 10 and 11 is not one of this kind, or not that of the bytes that follow"
+            "the length in bytes 10 and 11 is not one of this kind, or not that of the bytes that \
+             follow"
         }
         HostFault::Digest => "bit 7 or 6 of byte 0 asks for a digest, and there is none",
         HostFault::Ehs => "byte 8 tells of an extra header segment, and there is none",

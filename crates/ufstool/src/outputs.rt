@@ -25,7 +25,8 @@ pub enum Answer {
     Stopped,
 }
 
-/// What a line of output tells, as the answer to this line of the script; `None` if it is no answer to it.
+/// What a line of output tells, as the answer to this line of the script; `None` if it is no answer
+/// to it.
 pub fn read_answer(alloc: Global, asked: &Request<'_>, line: &str) -> Option<Answer> {
     match asked {
         Request::Host(_) => host_answer(line),

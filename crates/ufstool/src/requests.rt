@@ -1,12 +1,14 @@
 //! The frames of requests to the replay protected memory block (JESD220, 12.4).
-ghost use Rattle.std.specs.Prelude.{◌≡◌, ◌≤◌, ◌<◌, ◌+◌, ◌*◌, ◌++◌, ◌∷◌, [], ℕ, IfOk, List, Some, length};
+ghost use Rattle.std.specs.Prelude.{◌≡◌, ◌≤◌, ◌<◌, ◌+◌, ◌*◌, ◌++◌, ◌∷◌, [], ℕ, IfOk, List, Some};
+ghost use Rattle.std.specs.Prelude.{length};
 ghost use Rattle.std.specs.List.{flat_map};
 ghost use Rattle.rpmb_frame.specs.Fields.{frame_of};
 ghost use Rattle.ufs_spec.specs.Frames as defined;
 ghost use Rattle.ufs_spec.specs.Frames.{frame_bytes};
 ghost use Rattle.ufs_spec.specs.RpmbResponses.{signed};
-ghost use Rattle.ufstool.specs.Requests.{Gathers, HasWidths, block_request, blocks_asked, counter_asked, key_sent};
-ghost use Rattle.ufstool.specs.Requests.{plain_request, requested, write_requests};
+ghost use Rattle.ufstool.specs.Requests.{Gathers, HasWidths, block_request, blocks_asked};
+ghost use Rattle.ufstool.specs.Requests.{counter_asked, key_sent, plain_request, requested};
+ghost use Rattle.ufstool.specs.Requests.{write_requests};
 
 use crate::host::LineFault;
 use crate::rpmb::RpmbRequest;
@@ -23,7 +25,8 @@ const MOST_BLOCKS: usize = 8;
 
 /// The bytes of the frames of a request, one after another.
 pub fn frames_of(request: &RpmbRequest<'_>) -> Result<Data, LineFault>
-    ensures frames { IfOk result (λ bytes. bytes.items ≡ flat_map frame_bytes (requested request.now)) }
+    ensures frames { IfOk result (λ bytes.
+        bytes.items ≡ flat_map frame_bytes (requested request.now)) }
     ensures fits { IfOk result (λ bytes. (512 ≤ length bytes.items) × (length bytes.items ≤ 4096)) }
 {
     match *request {
@@ -82,7 +85,8 @@ fn counter_frame(nonce: [u8; 16]) -> Frame
 
 // The frame that asks for blocks, as bytes.
 fn asking_frame(address: u16, count: u16, nonce: [u8; 16]) -> Result<Data, LineFault>
-    ensures frame { IfOk result (λ bytes. bytes.items ≡ flat_map frame_bytes (blocks_asked address count nonce ∷ [])) }
+    ensures frame { IfOk result (λ bytes.
+        bytes.items ≡ flat_map frame_bytes (blocks_asked address count nonce ∷ [])) }
     ensures fits { IfOk result (λ bytes. length bytes.items ≡ 512) }
 {
     if count == 0 || usize::from(count) > MOST_BLOCKS {
@@ -152,8 +156,9 @@ struct Sent {
 impl Sent {
     // Adds the bytes of a frame.
     fn add(&mut self, bytes: &[u8; 512])
-        ensures { (key : List ℕ) (frames : List defined.Frame) (f : defined.Frame) → Gathers self.old key frames → HasWidths f →
-            bytes.now ≡ frame_bytes f → length frames < 8 → Gathers self.new key (frames ++ f ∷ []) }
+        ensures { (key : List ℕ) (frames : List defined.Frame) (f : defined.Frame) →
+            Gathers self.old key frames → HasWidths f → bytes.now ≡ frame_bytes f →
+            length frames < 8 → Gathers self.new key (frames ++ f ∷ []) }
     {
         self.hmac.update(covered(bytes));
         push_frame(&mut self.data, bytes);
@@ -161,9 +166,10 @@ impl Sent {
 
     // The bytes of all frames, with this one as the last, which gets the MAC.
     fn signed(self, last: Frame) -> Data
-        ensures { (key : List ℕ) (frames : List defined.Frame) → Gathers self key frames → HasWidths (frame_of last) →
-            length frames < 8 → (length result.items ≡ 512 * (length frames + 1))
-            × (result.items ≡ flat_map frame_bytes (signed (Some key) (frames ++ frame_of last ∷ []))) }
+        ensures { (key : List ℕ) (frames : List defined.Frame) → Gathers self key frames →
+            HasWidths (frame_of last) → length frames < 8 →
+            (length result.items ≡ 512 * (length frames + 1)) × (result.items
+            ≡ flat_map frame_bytes (signed (Some key) (frames ++ frame_of last ∷ []))) }
     {
         let Sent { mut hmac, mut data } = self;
         let mut last = last;

@@ -42,10 +42,11 @@ pub enum RpmbRequest<'a> {
     ReadResult,
 }
 
-/// Writes the lines of a script that bring this request to the unit RPMB to `out`: SECURITY PROTOCOL
-/// OUT with its frames; and, but for a key and a write, whose result is asked for by a request of its
-/// own, SECURITY PROTOCOL IN for the response. Between them are the lines that ask for replies. What
-/// is wrong is told in one line on `faults`. The status is 0 if the lines were written, else 1.
+/// Writes the lines of a script that bring this request to the unit RPMB to `out`: SECURITY
+/// PROTOCOL OUT with its frames; and, but for a key and a write, whose result is asked for by a
+/// request of its own, SECURITY PROTOCOL IN for the response. Between them are the lines that ask
+/// for replies. What is wrong is told in one line on `faults`. The status is 0 if the lines were
+/// written, else 1.
 pub fn write_rpmb_lines<W: Write, F: Write>(
     alloc: Global,
     task: u8,

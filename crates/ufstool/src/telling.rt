@@ -159,7 +159,8 @@ impl Told<'_> {
         self.answer(&request, out)
     }
 
-    // The first lines are over: what they say together is looked at. A fault is one of the last unit's line.
+    // The first lines are over: what they say together is looked at. A fault is one of the last
+    // unit's line.
     fn open(&mut self) -> Result<(), Cause<'static>> {
         if self.is_open {
             return Ok(());
@@ -255,7 +256,8 @@ pub fn is_silent(line: &[u8]) -> bool {
 fn why_ended(request: &Request<'_>) -> &'static str {
     match request {
         Request::Done { .. } => {
-            "'event'; this die has no job, so put 'take' before this line, and see that it gives a job"
+            "'event'; this die has no job, so put 'take' before this line, and see that it gives \
+             a job"
         }
         Request::Stop(_) => {
             "'event'; a die that is named has no program and no erase in flight, or is named twice"

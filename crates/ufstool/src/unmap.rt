@@ -25,9 +25,9 @@ pub struct HostUnmap {
     pub blocks: u32,
 }
 
-/// Writes the lines of a script that bring this UNMAP to a device to `out`: its COMMAND, its DATA OUT
-/// with the list, and behind each of them the line that asks for the reply. What is wrong is told in
-/// one line on `faults`. The status is 0 if the lines were written, else 1.
+/// Writes the lines of a script that bring this UNMAP to a device to `out`: its COMMAND, its DATA
+/// OUT with the list, and behind each of them the line that asks for the reply. What is wrong is
+/// told in one line on `faults`. The status is 0 if the lines were written, else 1.
 pub fn write_unmap_lines<W: Write, F: Write>(
     alloc: Global,
     wanted: &HostUnmap,

@@ -54,6 +54,13 @@ stored_beside n ps s key other at known there differ = by (position_of n other) 
         (λ (same : b ≡ at). differ (sym (one_position n key other known
         (there ∙ ap (λ (z : ℕ). Some z) (sym same) ∙ sym e)))))
 
+-- the name of a content that stands there
+pub named_there : (ps : List (Option Stored)) (place : Place) (i : ℕ) (s : Stored) →
+    flat (slice_get ps i) ≡ Some s → s.place ≡ place → name_there place (slice_get ps i) ≡ Some s.name
+named_there ps place i s there here =
+    let same : same_place s.place place ≡ true = ap (same_place s.place) (sym here) ∙ place_self s.place in
+    ap (name_if place) there ∙ ap (λ (b : Bool). cond b (Some s.name) None) same
+
 -- no key's content is on a page that no position names
 pub none_there : (n : Numbers) (ps : List (Option Stored)) (place : Place) →
     ((i : ℕ) → i < key_total (shape_of_numbers n) → name_there place (slice_get ps i) ≡ None) →
@@ -65,7 +72,4 @@ none_there n ps place none k s stored here = by (position_of n k) refl
     by (Some i) e =
         let there : flat (slice_get ps i) ≡ Some s =
         sym (ap (option_and_then (λ (p : ℕ). flat (slice_get ps p))) e) ∙ stored in
-        let same : same_place s.place place ≡ true = ap (same_place s.place) (sym here) ∙ place_self s.place in
-        none-some s.name
-        (sym (none i (index_below (shape_of_numbers n) k i e)) ∙ ap (name_if place) there
-        ∙ ap (λ (b : Bool). cond b (Some s.name) None) same)
+        none-some s.name (sym (none i (index_below (shape_of_numbers n) k i e)) ∙ named_there ps place i s there here)

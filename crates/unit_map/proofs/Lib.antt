@@ -1,1 +1,3 @@
 pub mod KeyPlaces
+pub mod PageIndexes
+pub mod TableKept

@@ -11,7 +11,6 @@ use Rattle.write_cache.specs.declared.slots.Pending.{Pending}
 use Rattle.write_cache.specs.Rests.{body_brought, claim_brought, claim_with, page_brought, page_moved, page_of}
 use Rattle.write_cache.specs.Slots.{claims_of, empty_claim, is_claim_of, without_claims}
 use Rattle.write_cache.proofs.Claims.{first_next}
-use Rattle.write_cache.proofs.Order.{AreOfNumber}
 
 -- One claim further
 
@@ -43,18 +42,6 @@ none_moved reader number xs claim claims ps first mine none =
     ∙ ap (λ (o : Option NewPage). ps
     ++ cons_option (option_map (λ (x : NewPage). page_of number (length xs) claim claim.body x) o) []) none
     ∙ append-nil ps)
-
--- the pages that take the place of claims are of the group
-pub moved_number : (number : ℕ) (xs : List NewPage) (claims : List Claimed) →
-    AreOfNumber number (filter_map (page_moved number xs) claims)
-moved_number number xs [] = tt
-moved_number number xs (claim ∷ claims) = by (slice_get xs claim.index) (moved_number number xs claims)
-  where
-    by : (o : Option NewPage) → AreOfNumber number (filter_map (page_moved number xs) claims) → AreOfNumber number
-        (cons_option (option_map (λ (x : NewPage). page_of number (length xs) claim claim.body x) o)
-        (filter_map (page_moved number xs) claims))
-    by None more = more
-    by (Some x) more = (refl, more)
 
 -- First the bytes, then the pages
 

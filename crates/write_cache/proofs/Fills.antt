@@ -1,6 +1,6 @@
 -- The pages whose rests come by one read, one after another.
 use Rattle.std.proofs.Common.{◌≡◌, ◌∙◌, ℕ, zero, suc, ◌+◌, ◌<◌, ◌≤◌, Bool, true, false, cond, List, [], ◌∷◌, ◌++◌}
-use Rattle.std.proofs.Common.{length, take, drop, get_or, refl, sym, ap, subst, arith, Option, None, Some, slice_get}
+use Rattle.std.proofs.Common.{length, map, take, drop, get_or, refl, sym, ap, arith, Option, None, Some, slice_get}
 use Rattle.std.specs.Prelude.{IfSome, ◌||◌, slice_set}
 use Rattle.std.specs.List.{list_any}
 use Rattle.std.proofs.Math.ListN.{get_or-append}
@@ -11,28 +11,27 @@ use Rattle.write_cache.specs.declared.rests.Rest.{Rest}
 use Rattle.write_cache.specs.declared.slots.Pending.{Pending}
 use Rattle.write_cache.specs.Rests.{awaited_by, awaits, base_behind, body_or, comes_by, completed, completed_at}
 use Rattle.write_cache.specs.Rests.{completed_by, own_name, rests_filled}
-use Rattle.write_cache.specs.Rooms.{AreInOrder}
+use Rattle.write_cache.specs.Ring.{Shown, shown}
 
--- Order
+-- What the ring knows of them
 
-number_kept : (base : List ℕ) (o : Option Rest) (p : Pending) → (completed_by base o p).number ≡ p.number
-number_kept base None p = refl
-number_kept base (Some r) p = refl
+shown_kept : (base : List ℕ) (o : Option Rest) (p : Pending) → shown (completed_by base o p) ≡ shown p
+shown_kept base None p = refl
+shown_kept base (Some r) p = refl
 
--- no page changes its number
-pub rests_order : (name : Name) (a b : ℕ) (base : List ℕ) (ps : List Pending) → AreInOrder a b ps →
-    AreInOrder a b (rests_filled name base ps)
-rests_order name a b base [] h = tt
-rests_order name a b base (p ∷ ps) h = by (awaits name p)
-    (subst (λ (m : ℕ). (a ≤ m) × (m ≤ b) × AreInOrder m b (rests_filled name (completed base p).body ps))
-    (sym (number_kept base p.rest p)) (h.0, h.1, rests_order name p.number b (completed base p).body ps h.2))
-    (h.0, h.1, rests_order name p.number b base ps h.2)
+-- no page changes its number, its index or where it is written
+pub rests_shown : (name : Name) (base : List ℕ) (ps : List Pending) →
+    map shown (rests_filled name base ps) ≡ map shown ps
+rests_shown name base [] = refl
+rests_shown name base (p ∷ ps) =
+    by (awaits name p) (rests_shown name (completed base p).body ps) (rests_shown name base ps)
   where
-    by : (c : Bool) → AreInOrder a b (completed base p ∷ rests_filled name (completed base p).body ps) →
-        AreInOrder a b (p ∷ rests_filled name base ps) → AreInOrder a b
+    by : (c : Bool) → map shown (rests_filled name (completed base p).body ps) ≡ map shown ps →
+        map shown (rests_filled name base ps) ≡ map shown ps → map shown
         (cond c (completed base p ∷ rests_filled name (completed base p).body ps) (p ∷ rests_filled name base ps))
-    by true filled same = filled
-    by false filled same = same
+        ≡ shown p ∷ map shown ps
+    by true filled same = λ i. shown_kept base p.rest p i ∷ filled i
+    by false filled same = ap (λ (xs : List Shown). shown p ∷ xs) same
 
 -- and there are as many
 pub rests_length : (name : Name) (base : List ℕ) (ps : List Pending) → length (rests_filled name base ps) ≡ length ps

@@ -1,7 +1,15 @@
 pub mod Brought
 pub mod Claims
 pub mod Deques
+pub mod Entries
 pub mod Fills
-pub mod Order
+pub mod Fronts
+pub mod Marks
 pub mod Parts
+pub mod Places
+pub mod Pushes
+pub mod Rows
+pub mod Runs
+pub mod Straights
+pub mod Told
 pub mod Waiting

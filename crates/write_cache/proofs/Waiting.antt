@@ -1,15 +1,16 @@
 -- The pages that wait for their rest are counted.
 use Rattle.std.proofs.Common.{◌≡◌, ◌∙◌, ℕ, zero, suc, ◌+◌, ◌-◌, Bool, true, false, cond, List, [], ◌∷◌, ◌++◌, map}
-use Rattle.std.proofs.Common.{refl, sym, ap, arith, lt-ltb, Some, slice_get}
-use Rattle.std.specs.Prelude.{◌||◌, count_by, nat_lt, slice_set}
+use Rattle.std.proofs.Common.{refl, sym, ap, arith, lt-ltb, Option, None, Some, slice_get}
+use Rattle.std.specs.Prelude.{◌||◌, count_by, nat_lt, position, slice_set}
 use Rattle.std.specs.List.{list_any}
 use Rattle.std.proofs.lemmas.List.Sums.{sum_by-append, sum_by-cons}
 use Rattle.ufs_spec.proofs.Facts.{none-some, same_Some}
 use Rattle.ufs_spec.specs.declared.flash.Key.{Key}
+use Rattle.ufs_spec.specs.declared.flash.Place.{Place}
 use Rattle.write_cache.specs.declared.slots.Claimed.{Claimed}
 use Rattle.write_cache.specs.declared.slots.Pending.{Pending}
 use Rattle.write_cache.specs.Rests.{waits}
-use Rattle.write_cache.specs.Slots.{page_claimed}
+use Rattle.write_cache.specs.Slots.{is_named, page_claimed, page_written, written_at, written_if}
 
 -- one page and those behind it
 one_more : (p : Pending) (ps : List Pending) →
@@ -44,6 +45,20 @@ as_many (x ∷ ps) (suc k) p q at same =
     one_more x (slice_set ps k q)
     ∙ ap (λ (n : ℕ). cond (waits x) 1 0 + n) (as_many ps k p q at same)
     ∙ sym (one_more x ps)
+
+-- as many wait once a page is written
+pub as_many_written : (ps : List Pending) (number index : ℕ) (place : Place) →
+    count_by waits (page_written ps number index place) ≡ count_by waits ps
+as_many_written ps number index place = by (position (is_named number index) ps)
+  where
+    at : (k : ℕ) (o : Option Pending) → slice_get ps k ≡ o →
+        count_by waits (written_at ps k place o) ≡ count_by waits ps
+    at k None e = refl
+    at k (Some p) e = as_many ps k p (record p { written = Some place }) e refl
+
+    by : (o : Option ℕ) → count_by waits (written_if ps place o) ≡ count_by waits ps
+    by None = refl
+    by (Some k) = at k (slice_get ps k) refl
 
 -- of the pages that came whole none waits
 none_claimed : (key : Key) (number size : ℕ) (claims : List Claimed) →

@@ -1,9 +1,8 @@
 -- How the cache's fields are seen, and the room that they keep.
-use Rattle.std.specs.Prelude.{◌≡◌, ◌≤◌, ◌<◌, ◌+◌, ◌^◌, ℕ, List, [], ◌∷◌, count_by, length, vec_capacity}
+use Rattle.std.specs.Prelude.{◌≡◌, ◌≤◌, ◌<◌, ◌+◌, ◌^◌, count_by, length, vec_capacity}
 use Rattle.std.specs.VecDeque.{deque_capacity}
 use Rattle.ufs_spec.specs.Pages.{greatest_number}
 use Rattle.write_cache.specs.declared.cache.Cache.TheInside.{Inside}
-use Rattle.write_cache.specs.declared.slots.Pending.{Pending}
 use Rattle.write_cache.specs.Kept.{WriteCache}
 use Rattle.write_cache.specs.Rests.{waits}
 
@@ -18,21 +17,15 @@ cache_of f = record {
   last = f.last;
 }
 
--- the numbers do not fall from page to page, and each lies between these two
-abbrev pub AreInOrder : (least greatest : ℕ) → List Pending → Type 0
-AreInOrder least greatest [] = Unit {0}
-AreInOrder least greatest (p ∷ ps) =
-    (least ≤ p.number) × (p.number ≤ greatest) × AreInOrder p.number greatest ps
-
--- each slot is free, claimed, or that of a page; pending groups stand in the order of their numbers, which were given;
--- the pages that wait for their rest are counted
+-- each slot is free, claimed, or that of a page; the numbers of pending groups were given; the pages that wait for
+-- their rest are counted
 pub record IsRoomy (f : Inside) : Type 0 where
   pub slots : length f.free.items + length f.pages.items + length f.claims.items ≡ f.slots
   pub fits : f.slots < 2 ^ 16
-  pub room : f.slots ≤ deque_capacity f.pages
+  pub room : f.pages.room ≡ f.slots
   pub claim_room : f.slots ≤ deque_capacity f.claims
   pub free_room : f.slots ≤ vec_capacity f.free
   pub frontier : f.frontier ≤ f.last
   pub numbers : f.last ≤ greatest_number
-  pub in_order : AreInOrder 0 f.last f.pages.items
+  pub given : f.pages.newest ≤ f.last
   pub waiting : f.waiting ≡ count_by waits f.pages.items

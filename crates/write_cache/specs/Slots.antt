@@ -1,5 +1,5 @@
 -- What a slot holds, and what the calls of the write cache make of it.
-use Rattle.std.specs.Prelude.{ℕ, ◌+◌, ◌-◌, ◌==◌, min, nat_le, nat_lt, Bool, false, ◌&&◌, ◌||◌, not}
+use Rattle.std.specs.Prelude.{ℕ, ◌+◌, ◌-◌, ◌==◌, min, nat_le, nat_lt, Bool, false, ◌&&◌, not}
 use Rattle.std.specs.Prelude.{if◌then◌else◌, List, [], ◌∷◌, ◌++◌, filter}
 use Rattle.std.specs.Prelude.{is_none, length, map, position, reverse, slice_get, slice_set, Option, Some, None}
 use Rattle.std.specs.Prelude.{option_and_then, option_map}
@@ -86,15 +86,6 @@ whole_group ps (Some p) = if list_any (is_unwritten p.number) ps then None else 
 -- the number of the first pending group, if all its pages are written
 abbrev pub front_written : List Pending → Option ℕ
 front_written ps = whole_group ps (slice_get ps 0)
-
--- the run of written pages of this group, from the first page on, ends before this page
-abbrev pub ends_run : ℕ → Pending → Bool
-ends_run number p = not (is_of_group number p) || is_none p.written
-
--- the page is there, and of the group
-abbrev pub goes_on : ℕ → Option Pending → Bool
-goes_on number None = false
-goes_on number (Some p) = is_of_group number p
 
 -- where a page is, once its slot is free
 abbrev pub landed : Pending → Landed

@@ -3,12 +3,11 @@ ghost use Rattle.std.specs.Prelude.{◌≡◌, ℕ, ◌<◌, ◌≤◌, ◌+◌,
 ghost use Rattle.std.specs.Prelude.{IfSome, IsSome, nat_le, nat_lt, ◌++◌, ◌∷◌, [], if◌then◌else◌, slice_get};
 ghost use Rattle.std.specs.Prelude.{map, filter, not, None, Some, option_copied, option_map, find, List};
 ghost use Rattle.std.specs.Prelude.{take, drop, position, reverse};
-ghost use Rattle.std.specs.List.{position_or_len};
-ghost use Rattle.std.specs.VecDeque.{deque_capacity};
 ghost use Rattle.ufs_spec.specs.Pages.{greatest_number};
 ghost use Rattle.write_cache.specs.Kept.{WriteCache};
-ghost use Rattle.write_cache.specs.Slots.{appended, claim_filled, claimed_all, claims_of, ends_run};
-ghost use Rattle.write_cache.specs.Slots.{free_slots, front_written, goes_on, has_number, empty_claim};
+ghost use Rattle.write_cache.specs.Ring.{IsStraight};
+ghost use Rattle.write_cache.specs.Slots.{appended, claim_filled, claimed_all, claims_of};
+ghost use Rattle.write_cache.specs.Slots.{free_slots, front_written, has_number, empty_claim};
 ghost use Rattle.write_cache.specs.Slots.{is_claim_of, is_named, is_of_group, is_page_of, is_there};
 ghost use Rattle.write_cache.specs.Slots.{landed, last_page, page_claimed, page_written, risen, turned};
 ghost use Rattle.write_cache.specs.Slots.{without_claims, without_claims_behind};
@@ -17,6 +16,8 @@ mod claims;
 mod groups;
 
 use self::claims::{NewGroup, fill_claims, free_claims, move_claims};
+use crate::pages::Pages;
+use crate::probes::Probes;
 use crate::slots::{Claimed, Landed, Pending, WholeGroup};
 use std::alloc::{AllocError, Global};
 use std::collections::VecDeque;
@@ -33,7 +34,7 @@ pub struct Cache {
     /// The slots that nobody holds.
     free: Vec<Body>,
     /// The pages of pending groups, in order of number and index.
-    pages: VecDeque<Pending>,
+    pages: Pages,
     /// The slots that are claimed for groups to come, those of a reader in the order of its blocks.
     claims: VecDeque<Claimed>,
     /// How many pages wait for their rest.
@@ -77,7 +78,7 @@ impl Cache {
         Ok(Cache {
             slots,
             free,
-            pages: VecDeque::with_capacity(alloc, room)?,
+            pages: Pages::new(alloc, slots)?,
             claims: VecDeque::with_capacity(alloc, room)?,
             waiting: 0,
             frontier: last,
@@ -121,36 +122,38 @@ impl Cache {
         ensures count { result ≡ length self.now.pages }
         ensures within { length self.now.pages + length self.now.claims ≤ self.now.slots }
     {
-        self.pages.len()
+        self.pages.all().len()
     }
 
     /// The page at this position, in order of number and index; `None` behind the last.
     pub fn page(&self, at: usize) -> Option<&Pending>
         ensures { option_copied result ≡ slice_get self.now.pages at }
     {
-        self.pages.get(at)
+        self.pages.page(at)
     }
 
     /// The last page of a pending group that is of the address.
     pub fn last_page(&self, key: Key) -> Option<&Pending>
         ensures { option_copied result ≡ last_page key self.now.pages }
     {
-        let behind = pages_behind(&self.pages, key)?;
-        self.pages.get(self.pages.len() - 1 - behind)
+        let pages = self.pages.all();
+        let behind = pages_behind(pages, key)?;
+        pages.get(pages.len() - 1 - behind)
     }
 
     /// The page with this number and index, if it is pending.
     pub fn page_named(&self, number: u64, index: u16) -> Option<&Pending>
         ensures { option_copied result ≡ find (is_named number index) self.now.pages }
     {
-        self.pages.iter().find(|page| page.is_named(number, index))
+        let at = self.pages.place_named(number, index, &mut Probes::none())?;
+        self.page(at)
     }
 
     /// The page of a pending group that is written there, if one is.
     pub fn page_there(&self, place: Place) -> Option<&Pending>
         ensures { option_copied result ≡ find (is_there place) self.now.pages }
     {
-        self.pages.iter().find(|page| page.is_there(place))
+        self.pages.all().iter().find(|page| page.is_there(place))
     }
 
     /// Claims a slot for each of so many blocks of this reader, where as many are free; else nothing.
@@ -245,12 +248,25 @@ impl Cache {
     pub fn mark_written(&mut self, number: u64, index: u16, place: Place)
         ensures { self.new ≡ record self.old { pages = page_written self.old.pages number index place } }
     {
-        let found = place_named(&self.pages, number, index);
-        if let Some(at) = found {
-            if let Some(page) = self.pages.get_mut(at) {
-                page.written = Some(place);
-            }
-        }
+        self.mark_written_counted(number, index, place, &mut Probes::none());
+    }
+
+    /// `mark_written`, with the probes that it takes counted: two at most, of the entry of the page's
+    /// group and of its slot, where the pending groups are straight.
+    pub fn mark_written_counted(
+        &mut self,
+        number: u64,
+        index: u16,
+        place: Place,
+        probes: &mut Probes,
+    )
+        requires counted { probes.old.count ≤ 2 ^ 63 }
+        ensures after { self.new ≡ record self.old {
+          pages = page_written self.old.pages number index place;
+        } }
+        ensures bound { IsStraight self.old → probes.new.count ≤ probes.old.count + 2 }
+    {
+        self.pages.mark_written(number, index, place, probes);
     }
 
     /// The first pending group, if all its pages are written: its number, and how many pages stand first in the order.
@@ -261,12 +277,22 @@ impl Cache {
             filter (λ p. not (is_of_group g.number p)) self.now.pages) }
         ensures some { IfSome result (λ g. (0 < g.pages) × (g.pages ≤ length self.now.pages)) }
     {
-        let number = self.pages.front()?.number;
-        let pages = run_length(&self.pages, number);
-        if goes_on(&self.pages, pages, number) {
-            return None;
-        }
-        Some(WholeGroup { number, pages })
+        self.front_written_counted(&mut Probes::none())
+    }
+
+    /// `front_written`, with the probes that it takes counted: one at most.
+    pub fn front_written_counted(&self, probes: &mut Probes) -> Option<WholeGroup>
+        requires counted { probes.old.count ≤ 2 ^ 63 }
+        ensures what { option_map (λ (g : WholeGroup). g.number) result
+            ≡ front_written self.now.pages }
+        ensures first { IfSome result (λ g. take g.pages self.now.pages ≡
+            filter (is_of_group g.number) self.now.pages) }
+        ensures others { IfSome result (λ g. drop g.pages self.now.pages ≡
+            filter (λ p. not (is_of_group g.number p)) self.now.pages) }
+        ensures some { IfSome result (λ g. (0 < g.pages) × (g.pages ≤ length self.now.pages)) }
+        ensures bound { probes.new.count ≤ probes.old.count + 1 }
+    {
+        self.pages.front_written(probes)
     }
 
     /// Takes the first page out of its slot, which is free from then on.
@@ -274,7 +300,18 @@ impl Cache {
         ensures where_it_is { result ≡ option_map landed (slice_get self.old.pages 0) }
         ensures after { self.new ≡ record self.old { pages = drop 1 self.old.pages } }
     {
-        let page = self.pages.pop_front()?;
+        self.land_counted(&mut Probes::none())
+    }
+
+    /// `land`, with the probes that it takes counted: three at most, of the slot, of the entry of
+    /// the page's group, and, with its last page, of that of the next group.
+    pub fn land_counted(&mut self, probes: &mut Probes) -> Option<Landed>
+        requires counted { probes.old.count ≤ 2 ^ 63 }
+        ensures where_it_is { result ≡ option_map landed (slice_get self.old.pages 0) }
+        ensures after { self.new ≡ record self.old { pages = drop 1 self.old.pages } }
+        ensures bound { probes.new.count ≤ probes.old.count + 3 }
+    {
+        let page = self.pages.take_first(probes)?;
         self.waiting -= page.rests();
         let landed = Landed {
             key: page.key,
@@ -300,33 +337,6 @@ fn pages_behind(pages: &VecDeque<Pending>, key: Key) -> Option<usize>
     ensures less { IfSome result (λ k. k < length pages.now.items) }
 {
     pages.iter().rev().position(|page| page.is_of(key))
-}
-
-/// The position of the page with this number and index, if it is pending.
-fn place_named(pages: &VecDeque<Pending>, number: u64, index: u16) -> Option<usize>
-    ensures { result ≡ position (is_named number index) pages.now.items }
-{
-    pages.iter().position(|page| page.is_named(number, index))
-}
-
-/// How many of the first pages are written and of the group with this number.
-fn run_length(pages: &VecDeque<Pending>, number: u64) -> usize
-    ensures { result ≡ position_or_len (ends_run number) pages.now.items }
-{
-    pages
-        .iter()
-        .position(|page| page.ends_run(number))
-        .unwrap_or(pages.len())
-}
-
-/// Whether the page at this position is there, and of the group with this number.
-fn goes_on(pages: &VecDeque<Pending>, at: usize, number: u64) -> bool
-    ensures { result ≡ goes_on number (slice_get pages.now.items at) }
-{
-    match pages.get(at) {
-        Some(page) => page.is_of_group(number),
-        None => false,
-    }
 }
 
 /// So many free slots.

@@ -6,8 +6,9 @@ ghost use Rattle.write_cache.specs.Rests.{content_of, own_name, page_of, part_of
 ghost use Rattle.write_cache.specs.Rests.{waits, with_part_of};
 ghost use Rattle.write_cache.specs.Slots.{is_named};
 
+use crate::pages::Pages;
+use crate::probes::Probes;
 use crate::slots::{Claimed, Pending};
-use std::collections::VecDeque;
 use ufs_bytes::Body;
 use ufs_spec::{Block, Key, Name, Place};
 
@@ -174,7 +175,7 @@ impl Pending {
 
 impl Claimed {
     /// The bytes of the page lie in the slot: its own blocks over their base.
-    pub(crate) fn bring(&mut self, page: &NewPage<'_>, pages: &VecDeque<Pending>)
+    pub(crate) fn bring(&mut self, page: &NewPage<'_>, pages: &Pages)
         requires { IsPart page.now }
         ensures { self.new ≡ claim_with pages.now.items (Some page.now) self.old }
     {
@@ -199,7 +200,7 @@ impl Claimed {
 }
 
 /// The slot holds the content of the pending page that is the source, if one is; else what it held.
-fn take_base(body: &mut Body, source: RestSource, pages: &VecDeque<Pending>)
+fn take_base(body: &mut Body, source: RestSource, pages: &Pages)
     ensures { body.new ≡ base_in pages.now.items body.old source }
 {
     if let RestSource::Slot(name) = source {
@@ -210,7 +211,7 @@ fn take_base(body: &mut Body, source: RestSource, pages: &VecDeque<Pending>)
 }
 
 /// The content of the page of this name, if it is pending and all there.
-fn content_named(pages: &VecDeque<Pending>, name: Name) -> Option<&Block>
+fn content_named(pages: &Pages, name: Name) -> Option<&Block>
     ensures { option_copied result ≡
         option_and_then content_of (find (is_named name.number name.index) pages.now.items) }
 {
@@ -219,12 +220,11 @@ fn content_named(pages: &VecDeque<Pending>, name: Name) -> Option<&Block>
 }
 
 /// The page of this name, if it is pending.
-fn page_named(pages: &VecDeque<Pending>, name: Name) -> Option<&Pending>
+fn page_named(pages: &Pages, name: Name) -> Option<&Pending>
     ensures { option_copied result ≡ find (is_named name.number name.index) pages.now.items }
 {
-    pages
-        .iter()
-        .find(|page| page.is_named(name.number, name.index))
+    let at = pages.place_named(name.number, name.index, &mut Probes::none())?;
+    pages.page(at)
 }
 
 /// All but the part is from these bytes from now on.

@@ -1,8 +1,9 @@
 //! What lies in a slot.
 ghost use Rattle.std.specs.Prelude.{length, ◌≡◌};
 ghost use Rattle.ufs_spec.specs.Plain.{zero_block};
-ghost use Rattle.write_cache.specs.Slots.{claim_filled, empty_claim, ends_run, is_claim_behind, is_claim_of, is_named};
-ghost use Rattle.write_cache.specs.Slots.{is_of_group, is_page_of, is_there, key_at, page_claimed};
+ghost use Rattle.write_cache.specs.Slots.{claim_filled, empty_claim, is_claim_behind};
+ghost use Rattle.write_cache.specs.Slots.{is_claim_of, is_named};
+ghost use Rattle.write_cache.specs.Slots.{is_page_of, is_there, key_at, page_claimed};
 
 use crate::rests::Rest;
 use ufs_bytes::Body;
@@ -69,20 +70,6 @@ impl Pending {
             Some(written) => written == place,
             None => false,
         }
-    }
-
-    /// Whether the run of written pages of the group with this number, from the first page on, ends before this one.
-    pub(crate) fn ends_run(&self, number: u64) -> bool
-        ensures { result ≡ ends_run number self.now }
-    {
-        self.number != number || self.written.is_none()
-    }
-
-    /// Whether the page is of the group with this number.
-    pub(crate) fn is_of_group(&self, number: u64) -> bool
-        ensures { result ≡ is_of_group number self.now }
-    {
-        self.number == number
     }
 }
 

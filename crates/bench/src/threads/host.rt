@@ -5,6 +5,7 @@ use nand_model::MemDie;
 use std::sync::Wait;
 use std::sync::atomic::AtomicBool;
 use std::thread;
+use std::time::Clock;
 use ufs_spec::Upiu;
 use workbench::messages::{READ, SYNCHRONIZE, WRITE, command};
 
@@ -34,12 +35,12 @@ enum Written {
 }
 
 impl Host {
-    fn sends<R: Wait>(&mut self, rt: &R, stop: &AtomicBool, message: &[u8]) -> bool {
+    fn sends<R: Wait + Clock>(&mut self, rt: &R, stop: &AtomicBool, message: &[u8]) -> bool {
         matches!(self.port.send(rt, message, stop), Some(Ok(())))
     }
 
     /// The status of the next reply, if it is a RESPONSE; `None` if it is another message or none came.
-    fn status<R: Wait>(&mut self, rt: &R, stop: &AtomicBool) -> Option<u8> {
+    fn status<R: Wait + Clock>(&mut self, rt: &R, stop: &AtomicBool) -> Option<u8> {
         if !self.port.receive(rt, &mut self.reply, stop) {
             return None;
         }
@@ -50,7 +51,7 @@ impl Host {
     }
 
     /// Asks until the unit is ready: over new dies the device first writes a page of its own.
-    pub fn waits_until_ready<R: Wait>(
+    pub fn waits_until_ready<R: Wait + Clock>(
         &mut self,
         rt: &R,
         stop: &AtomicBool,
@@ -67,7 +68,7 @@ impl Host {
     }
 
     /// The block that the device asked for last: whether it was taken.
-    fn brings<R: Wait>(&mut self, rt: &R, stop: &AtomicBool) -> bool {
+    fn brings<R: Wait + Clock>(&mut self, rt: &R, stop: &AtomicBool) -> bool {
         let Some(offset) = self.reply.as_slice().get(12..16) else {
             return false;
         };
@@ -76,7 +77,7 @@ impl Host {
     }
 
     /// WRITE(10) of 32 blocks: busy if too few slots are free.
-    fn write<R: Wait>(&mut self, rt: &R, stop: &AtomicBool, address: u32) -> Written {
+    fn write<R: Wait + Clock>(&mut self, rt: &R, stop: &AtomicBool, address: u32) -> Written {
         if !self.sends(rt, stop, &command(0, WRITE, 0, address, BLOCKS)) {
             return Written::Wrong;
         }
@@ -96,7 +97,7 @@ impl Host {
     }
 
     /// The same, again while the device is busy: whether it is answered GOOD.
-    fn writes<R: Wait>(&mut self, rt: &R, stop: &AtomicBool, address: u32) -> bool {
+    fn writes<R: Wait + Clock>(&mut self, rt: &R, stop: &AtomicBool, address: u32) -> bool {
         for _ in 0..1_000_000u32 {
             match self.write(rt, stop, address) {
                 Written::Good => return true,
@@ -108,7 +109,7 @@ impl Host {
     }
 
     /// Writes all blocks, and then has them made durable: whether all this is answered GOOD.
-    pub fn writes_all<R: Wait>(&mut self, rt: &R, stop: &AtomicBool) -> bool {
+    pub fn writes_all<R: Wait + Clock>(&mut self, rt: &R, stop: &AtomicBool) -> bool {
         for index in 0..COUNT / 32 {
             if !self.writes(rt, stop, index * 32) {
                 return false;
@@ -118,7 +119,7 @@ impl Host {
     }
 
     /// READ(10) of 32 blocks, eight of them open at a time: whether none ends in another way than GOOD.
-    fn reads_some<R: Wait>(&mut self, rt: &R, stop: &AtomicBool, first: u32) -> bool {
+    fn reads_some<R: Wait + Clock>(&mut self, rt: &R, stop: &AtomicBool, first: u32) -> bool {
         for tag in 0..OPEN {
             let address = first.saturating_add(u32::from(tag) * 32);
             if !self.sends(rt, stop, &command(tag, READ, 0, address, BLOCKS)) {
@@ -135,7 +136,7 @@ impl Host {
     }
 
     /// Reads all blocks: whether all of it is answered GOOD.
-    pub fn reads_all<R: Wait>(&mut self, rt: &R, stop: &AtomicBool) -> bool {
+    pub fn reads_all<R: Wait + Clock>(&mut self, rt: &R, stop: &AtomicBool) -> bool {
         for index in 0..COUNT / 256 {
             if !self.reads_some(rt, stop, index * 256) {
                 return false;

@@ -66,7 +66,7 @@ fn shared(alloc: Global, dies: u8) -> Result<Shared<MemDie>>
 }
 
 /// Each lane in a thread of its own, until the flag is set.
-fn serve<R: Threads + Wait + Sync>(rt: &R, lanes: &mut [Lane<MemDie>], stop: &AtomicBool)
+fn serve<R: Threads + Wait + Sync + Clock>(rt: &R, lanes: &mut [Lane<MemDie>], stop: &AtomicBool)
     requires { All (λ l. l.ended ≡ None) lanes.old }
 {
     let threads = lanes.len();

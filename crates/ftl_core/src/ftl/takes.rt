@@ -10,8 +10,8 @@ ghost use Rattle.ftl_core.specs.Takes.{page_of_group, page_waiting, page_waits, 
 ghost use Rattle.ftl_core.specs.Takes.{repair_job, repair_program, writes_step};
 ghost use Rattle.ftl_core.specs.Takes.{step_job, step_read, step_waits, step_wants, waiting_flight, waiting_of};
 ghost use Rattle.ftl_core.specs.Takes.{own_read, owes_rest, rest_read, rest_read_of, unread_flight, waiting_page};
-ghost use Rattle.ftl_core.specs.Moves.{begins, first_page, has_pin, in_flight, is_owed_by, looks_on};
-ghost use Rattle.ftl_core.specs.Moves.{may_be_used, reads_for, single_tag, started, started_with, state_of, tag_of_page};
+ghost use Rattle.ftl_core.specs.Moves.{begins, first_page, in_flight, is_owed_by, looks_on};
+ghost use Rattle.ftl_core.specs.Moves.{reads_for, single_tag, started, started_with, tag_of_page};
 ghost use Rattle.ufs_spec.specs.Translation.{Translation};
 ghost use Rattle.ftl_core.specs.Describes.{Describes, IsTaken, spot_at};
 ghost use Rattle.ftl_core.specs.Public.{AreClaimed, Claims};
@@ -233,13 +233,6 @@ fn begins(filling: Option<OpenBlock>, flight: Flight) -> Option<u16>
 }
 
 impl Ftl {
-    /// What the block is; `Bad` if there is no such block.
-    fn state(&self, die: u8, block: u16) -> BlockState
-        ensures { result ≡ state_of self.now die block }
-    {
-        self.blocks.state(die, block)
-    }
-
     /// What is known of the die; `None` if there is no such die.
     pub(super) fn row(&self, die: u8) -> Option<DieRow>
         ensures { result ≡ slice_get self.now.rows die }
@@ -254,35 +247,13 @@ impl Ftl {
         self.blocks.set_flight(die, flight);
     }
 
-    /// Whether a reader keeps a page of the block, or one is still to be read for a rest.
-    fn is_pinned(&self, die: u8, block: u16) -> bool
-        requires die_there { die < length self.now.rows }
-        requires block_there { block < self.now.numbers.blocks }
-        ensures { result ≡ has_pin self.now die block }
-    {
-        self.live.is_pinned(die, block)
-    }
-
-    /// Whether the block is so and has no pin.
-    fn may_be_used(&self, die: u8, state: BlockState, block: u16) -> bool
-        requires die_there { die < length self.now.rows }
-        requires block_there { block < self.now.numbers.blocks }
-        ensures { result ≡ may_be_used self.now die state block }
-    {
-        self.state(die, block) == state && !self.is_pinned(die, block)
-    }
-
-    /// The lowest block of the die that is so and has no pin.
+    /// The lowest block of the die that is so and has no pin: of which no reader keeps a page, and no
+    /// page is still to be read for a rest.
     fn lowest(&self, die: u8, state: BlockState) -> Option<u16>
         requires { die < length self.now.rows }
         ensures { result ≡ lowest self.now die state }
     {
-        for block in 0..self.config.numbers().blocks {
-            if self.may_be_used(die, state, block) {
-                return Some(block);
-            }
-        }
-        None
+        self.live.lowest_unpinned(&self.blocks, die, state)
     }
 
     /// The erase of the lowest block of the die that is so and has no pin.

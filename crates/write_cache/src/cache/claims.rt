@@ -3,7 +3,8 @@ ghost use Rattle.std.specs.Prelude.{◌≡◌, ◌≤◌, ◌+◌, ◌++◌, len
 ghost use Rattle.std.specs.VecDeque.{deque_capacity};
 ghost use Rattle.write_cache.specs.Slots.{claim_filled, claims_of, is_claim_behind, page_claimed, turned, turned_but, without_claims, without_claims_behind};
 
-use crate::slots::{Claimed, Pending};
+use crate::pages::Pages;
+use crate::slots::Claimed;
 use std::collections::VecDeque;
 use ufs_bytes::Body;
 use ufs_spec::Key;
@@ -19,16 +20,18 @@ pub(super) struct NewGroup {
 /// The slots that the reader has claimed become pages of the group, in their order; the other claims stay.
 pub(super) fn move_claims(
     claims: &mut VecDeque<Claimed>,
-    pages: &mut VecDeque<Pending>,
+    pages: &mut Pages,
     reader: u8,
     group: NewGroup,
 )
-    requires { length pages.old.items + length claims.old.items ≤ deque_capacity pages.old }
+    requires room { length pages.old.items + length claims.old.items ≤ pages.old.room }
+    requires newer { pages.old.newest ≤ group.number }
     ensures left { claims.new.items ≡ without_claims claims.old.items reader }
     ensures claim_room { deque_capacity claims.new ≡ deque_capacity claims.old }
     ensures moved { pages.new.items ≡ pages.old.items
         ++ map (page_claimed group.key group.number group.size) (claims_of claims.old.items reader) }
-    ensures page_room { deque_capacity pages.new ≡ deque_capacity pages.old }
+    ensures page_room { pages.new.room ≡ pages.old.room }
+    ensures not_newer { pages.new.newest ≤ group.number }
     ensures as_many { length pages.new.items + length claims.new.items ≡
         length pages.old.items + length claims.old.items }
 {
@@ -38,24 +41,21 @@ pub(super) fn move_claims(
 }
 
 /// The first claim becomes a page of the group, if the reader has claimed it; else it is the last from then on.
-fn move_claim(
-    claims: &mut VecDeque<Claimed>,
-    pages: &mut VecDeque<Pending>,
-    reader: u8,
-    group: NewGroup,
-)
-    requires { length pages.old.items + length claims.old.items ≤ deque_capacity pages.old }
+fn move_claim(claims: &mut VecDeque<Claimed>, pages: &mut Pages, reader: u8, group: NewGroup)
+    requires room { length pages.old.items + length claims.old.items ≤ pages.old.room }
+    requires newer { pages.old.newest ≤ group.number }
     ensures left { claims.new.items ≡ turned reader claims.old.items }
     ensures claim_room { deque_capacity claims.new ≡ deque_capacity claims.old }
     ensures moved { pages.new.items ≡ pages.old.items
         ++ map (page_claimed group.key group.number group.size) (claims_of (take 1 claims.old.items) reader) }
-    ensures page_room { deque_capacity pages.new ≡ deque_capacity pages.old }
+    ensures page_room { pages.new.room ≡ pages.old.room }
+    ensures not_newer { pages.new.newest ≤ group.number }
     ensures as_many { length pages.new.items + length claims.new.items ≡
         length pages.old.items + length claims.old.items }
 {
     if let Some(claim) = claims.pop_front() {
         if claim.is_of(reader) {
-            pages.push_back_reserved(claim.into_page(group.key, group.number, group.size));
+            pages.push(claim.into_page(group.key, group.number, group.size));
         } else {
             claims.push_back_reserved(claim);
         }

@@ -1,14 +1,15 @@
 //! Groups of pages with keys of their own, and the rests that their pages wait for.
-ghost use Rattle.std.specs.Prelude.{◌≡◌, ◌+◌, ◌^◌, ◌<◌, ◌≤◌, ◌++◌, All, IfSome, IsTrue, false};
-ghost use Rattle.std.specs.Prelude.{count_by, filter_map, length, map, slice_get, take};
+ghost use Rattle.std.specs.Prelude.{◌≡◌, ◌+◌, ◌^◌, ◌<◌, ◌≤◌, ◌++◌, All, IsTrue, false};
+ghost use Rattle.std.specs.Prelude.{count_by, filter_map, length, map, take};
 ghost use Rattle.std.specs.Prelude.{vec_capacity};
 ghost use Rattle.std.specs.List.{list_any};
 ghost use Rattle.std.specs.VecDeque.{deque_capacity};
-ghost use Rattle.write_cache.specs.Rests.{IsPart, awaits, base_behind, claim_brought, completed_at};
+ghost use Rattle.write_cache.specs.Rests.{IsPart, awaits, claim_brought};
 ghost use Rattle.write_cache.specs.Rests.{page_moved, pages_appended, rests_filled, waits};
 ghost use Rattle.write_cache.specs.Slots.{claims_of, has_number, turned, without_claims};
 
 use super::Cache;
+use crate::pages::Pages;
 use crate::rests::NewPage;
 use crate::slots::{Claimed, Pending};
 use std::collections::VecDeque;
@@ -36,7 +37,7 @@ impl Cache {
             number,
             pages,
         );
-        self.waiting = count_waiting(&self.pages);
+        self.waiting = count_waiting(self.pages.all());
         self.last = number;
         number
     }
@@ -52,8 +53,8 @@ impl Cache {
         // None of them waits any more.
         ensures none_waits { list_any (awaits name) self.new.pages ≡ false }
     {
-        fill_pages(self.pages.make_contiguous(), name, block);
-        self.waiting = count_waiting(&self.pages);
+        self.pages.fill_rests(name, block);
+        self.waiting = count_waiting(self.pages.all());
     }
 
     /// Whether a pending page waits for its rest.
@@ -72,7 +73,7 @@ fn count_waiting(pages: &VecDeque<Pending>) -> usize
 }
 
 /// The bytes of each of these pages lie in the slot that the reader claimed for it.
-fn bring_all(claims: &mut [Claimed], pending: &VecDeque<Pending>, reader: u8, pages: &[NewPage<'_>])
+fn bring_all(claims: &mut [Claimed], pending: &Pages, reader: u8, pages: &[NewPage<'_>])
     requires { All IsPart pages.now }
     ensures { claims.new ≡ map (claim_brought pending.now.items reader pages.now) claims.old }
 {
@@ -82,7 +83,7 @@ fn bring_all(claims: &mut [Claimed], pending: &VecDeque<Pending>, reader: u8, pa
 }
 
 /// The bytes of the page lie in the slot that was claimed for it, if the reader claimed this slot.
-fn bring_one(claim: &mut Claimed, pending: &VecDeque<Pending>, reader: u8, pages: &[NewPage<'_>])
+fn bring_one(claim: &mut Claimed, pending: &Pages, reader: u8, pages: &[NewPage<'_>])
     requires { All IsPart pages.now }
     ensures { claim.new ≡ claim_brought pending.now.items reader pages.now claim.old }
 {
@@ -97,20 +98,22 @@ fn bring_one(claim: &mut Claimed, pending: &VecDeque<Pending>, reader: u8, pages
 /// the group has no page of their index; the other claims stay.
 fn move_pages(
     claims: &mut VecDeque<Claimed>,
-    pending: &mut VecDeque<Pending>,
+    pending: &mut Pages,
     free: &mut Vec<Body>,
     reader: u8,
     number: u64,
     pages: &[NewPage<'_>],
 )
     requires few { length pages.now < 2 ^ 16 }
-    requires room { length pending.old.items + length claims.old.items ≤ deque_capacity pending.old }
+    requires room { length pending.old.items + length claims.old.items ≤ pending.old.room }
+    requires newer { pending.old.newest ≤ number }
     requires free_room { length free.old.items + length claims.old.items ≤ vec_capacity free.old }
     ensures left { claims.new.items ≡ without_claims claims.old.items reader }
     ensures claim_room { deque_capacity claims.new ≡ deque_capacity claims.old }
     ensures moved { pending.new.items ≡ pending.old.items
         ++ filter_map (page_moved number pages.now) (claims_of claims.old.items reader) }
-    ensures page_room { deque_capacity pending.new ≡ deque_capacity pending.old }
+    ensures page_room { pending.new.room ≡ pending.old.room }
+    ensures not_newer { pending.new.newest ≤ number }
     ensures free_stays { vec_capacity free.new ≡ vec_capacity free.old }
     ensures as_many { length free.new.items + length pending.new.items + length claims.new.items
         ≡ length free.old.items + length pending.old.items + length claims.old.items }
@@ -128,20 +131,22 @@ fn move_pages(
 /// the last from then on.
 fn move_page(
     claims: &mut VecDeque<Claimed>,
-    pending: &mut VecDeque<Pending>,
+    pending: &mut Pages,
     free: &mut Vec<Body>,
     reader: u8,
     number: u64,
     pages: &[NewPage<'_>],
 )
     requires few { length pages.now < 2 ^ 16 }
-    requires room { length pending.old.items + length claims.old.items ≤ deque_capacity pending.old }
+    requires room { length pending.old.items + length claims.old.items ≤ pending.old.room }
+    requires newer { pending.old.newest ≤ number }
     requires free_room { length free.old.items + length claims.old.items ≤ vec_capacity free.old }
     ensures left { claims.new.items ≡ turned reader claims.old.items }
     ensures claim_room { deque_capacity claims.new ≡ deque_capacity claims.old }
     ensures moved { pending.new.items ≡ pending.old.items
         ++ filter_map (page_moved number pages.now) (claims_of (take 1 claims.old.items) reader) }
-    ensures page_room { deque_capacity pending.new ≡ deque_capacity pending.old }
+    ensures page_room { pending.new.room ≡ pending.old.room }
+    ensures not_newer { pending.new.newest ≤ number }
     ensures free_stays { vec_capacity free.new ≡ vec_capacity free.old }
     ensures as_many { length free.new.items + length pending.new.items + length claims.new.items
         ≡ length free.old.items + length pending.old.items + length claims.old.items }
@@ -154,39 +159,9 @@ fn move_page(
         if !claim.is_of(reader) {
             claims.push_back_reserved(claim);
         } else if let Some(page) = pages.get(claim.index as usize) {
-            pending.push_back_reserved(claim.into_new_page(page, number, pages.len() as u16));
+            pending.push(claim.into_new_page(page, number, pages.len() as u16));
         } else {
             free.push_reserved(claim.body);
         }
-    }
-}
-
-/// Each page that waits for that read has its content.
-fn fill_pages(pages: &mut [Pending], name: Name, block: &[u8])
-    requires { length block.now ≡ 4096 }
-    ensures { pages.new ≡ rests_filled name block.now pages.old }
-{
-    let mut filled = None;
-    for at in 0..pages.len() {
-        if pages[at].awaits(name) {
-            complete_at(pages, at, filled, block);
-            filled = Some(at);
-        }
-    }
-}
-
-/// The page at this position has its content: its rest is from the page that was filled last, or
-/// from what was read.
-fn complete_at(pages: &mut [Pending], at: usize, filled: Option<usize>, block: &[u8])
-    requires there { at < length pages.old }
-    requires before { IfSome filled (λ k. k < at) }
-    requires long { length block.now ≡ 4096 }
-    ensures { pages.new ≡
-        completed_at (base_behind block.now pages.old filled) pages.old at (slice_get pages.old at) }
-{
-    let (before, from) = pages.split_at_mut(at);
-    match filled {
-        Some(last) => from[0].complete(before[last].body.block()),
-        None => from[0].complete(block),
     }
 }

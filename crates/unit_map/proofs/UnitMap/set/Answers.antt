@@ -2,6 +2,7 @@ use Rattle.std.proofs.Common.{◌∙◌, ap, rules, sym}
 use Rattle.ufs_spec.specs.declared.configs.Numbers.{Numbers}
 use Rattle.unit_map.specs.Places.{UnitMap, position_of, stored_in}
 use Rattle.unit_map.proofs.KeyPlaces.{stored_beside, stored_here}
+use Rattle.unit_map.proofs.TableKept.{noted_as_set, table_noted}
 use Rattle.unit_map.proofs.UnitMap.set.Goals as goal
 
 pub returns-then-index-len-clause-others : goal.returns-then-index-len-clause-others
@@ -18,3 +19,10 @@ returns-then-index-len-clause-there c =
     (ap (λ (n : Numbers). position_of n c.args.key) (sym c.numbers.ensures.value) ∙ sym c.key_index.ensures.value
     ∙ c.in-Some.is)
     (search rules)
+
+pub invariant_of-self : goal.invariant_of-self
+invariant_of-self c =
+    table_noted c.self.inside.config c.self.inside.places.items _ _ _ c.in-Some.index c.args.stored.place
+    c.self.inside.table c.note.new.self c.self.invariant
+    (noted_as_set c.self.inside.places.items _ c.in-Some.index c.args.stored (search rules))
+    (search rules) (search rules) (search rules)

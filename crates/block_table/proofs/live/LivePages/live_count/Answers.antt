@@ -11,12 +11,12 @@ returns-then-not-has_block c =
 pub index-requires : goal.index-requires
 index-requires c =
     let h = count_inside (lives_of c.self.inside) c.args.self.now c.self.inside.counts.items
-    (spot c.args.die c.args.block) c.block_place.result c.self.view_is c.self.invariant
+    (spot c.args.die c.args.block) c.block_place.result c.self.view_is c.self.invariant.counted
     (sym c.has_block.ensures ∙ c.if-not-has_block.false) c.block_place.ensures in
     omega (arith, c.self.inside.counts.ok.0)
 
 pub returns : goal.returns
 returns c =
     count_read (lives_of c.self.inside) c.args.self.now c.self.inside.counts.items
-    (spot c.args.die c.args.block) c.block_place.result c.index.result.now c.self.view_is c.self.invariant
+    (spot c.args.die c.args.block) c.block_place.result c.index.result.now c.self.view_is c.self.invariant.counted
     (sym c.has_block.ensures ∙ c.if-not-has_block.false) c.block_place.ensures c.index.ensures

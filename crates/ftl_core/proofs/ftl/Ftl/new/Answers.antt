@@ -12,8 +12,8 @@ use Rattle.ftl_core.proofs.ftl.Ftl.new.Goals as goal
 
 pub returns-clause-core : goal.returns-clause-core
 returns-clause-core c =
-    opened_as c.args.config c.args.found c.in_ok-new.field-0 c.new-2.result
-    c.in_ok-live_at.field-0 c.in_ok-new-2.field-0 c.in_ok-with_capacity.field-0.items c.in_ok-new-3.field-0.plan
+    opened_as c.args.config c.args.found c.in_ok-new.field-0 c.in_ok-new-2.field-0
+    c.in_ok-live_at.field-0 c.in_ok-new-3.field-0 c.in_ok-with_capacity.field-0.items c.in_ok-new-4.field-0.plan
     c.first_mending-mending.result c.zeros.result
     c.mark_number_behind-next_mark.result c.in_ok-new.field-0.sizes c.in_ok-states.states.items
     c.in_ok-places.places.items c.min-last.result
@@ -50,5 +50,5 @@ invariant_of-result c =
       live_dies = first_dies (sizes_of n) l stored c.in_ok-new.field-0.rows live idle;
       live_blocks = first_blocks (sizes_of n) l stored live;
       pinned = first_counted (sizes_of n) l stored c.in_ok-with_capacity.field-0.items
-          c.in_ok-new-2.field-0.pages live none (search rules);
+          c.in_ok-new-3.field-0.pages live none (search rules);
     }

@@ -2,12 +2,13 @@ use Rattle.std.proofs.Common.{rules, arith, ◌≡◌, ap, ◌∙◌, sym, subst
 use Rattle.std.specs.List.{All}
 use Rattle.std.specs.Arc.{arc_value}
 use Rattle.lanes.specs.Callers.{IsNewLane, IsNewPort}
-use Rattle.lanes.proofs.Opened.{few_dies}
+use Rattle.lanes.proofs.Opened.{few_dies, undealt_opened}
 use Rattle.lanes.proofs.shared.Shared.new.Goals as goal
 
 pub deal_lanes-lanes-requires-clause-dies : goal.deal_lanes-lanes-requires-clause-dies
 deal_lanes-lanes-requires-clause-dies g c =
-    let few = few_dies g.D.Die.state c.args.device c.args.dies.items c.requires in (search rules, omega arith)
+    let few = few_dies g.D.Die.state c.args.device c.args.dies.items c.requires in
+    (undealt_opened c.in-Ok.prepared.dealer.me.0.opening _ c.args.dies.items c.in-Ok.ensures.opening, omega arith)
 
 pub returns-clause-ports : goal.returns-clause-ports
 returns-clause-ports g c =

@@ -1,10 +1,7 @@
-use Rattle.std.proofs.Common.{◌∙◌, ◌+◌, ap, arith, List, subst, sym}
+use Rattle.std.proofs.Common.{◌∙◌, ◌+◌, ap, arith, sym}
 use Rattle.std.specs.Prelude.{count_by}
-use Rattle.write_cache.specs.declared.slots.Pending.{Pending}
 use Rattle.write_cache.specs.Rests.{waits}
-use Rattle.write_cache.specs.Rooms.{AreInOrder}
 use Rattle.write_cache.specs.Slots.{claims_of}
-use Rattle.write_cache.proofs.Order.{claimed_number, order_more}
 use Rattle.write_cache.proofs.Waiting.{claimed_same}
 use Rattle.write_cache.proofs.cache.Cache.append.Goals as goal
 
@@ -12,16 +9,12 @@ pub invariant_of-self : goal.invariant_of-self
 invariant_of-self c = record {
   slots = grind (arith, c.self.invariant.slots, c.move_claims.ensures.as_many);
   fits = c.self.invariant.fits;
-  room = grind (arith, c.self.invariant.room, c.move_claims.ensures.page_room);
+  room = c.move_claims.ensures.page_room ∙ c.self.invariant.room;
   claim_room = grind (arith, c.self.invariant.claim_room, c.move_claims.ensures.claim_room);
   free_room = c.self.invariant.free_room;
   frontier = let f = c.self.invariant.frontier in omega (arith, f);
   numbers = grind (arith, c.requires);
-  in_order = subst (λ (ps : List Pending). AreInOrder 0 (c.self.inside.last + 1) ps) (sym c.move_claims.ensures.moved)
-      (order_more (c.self.inside.last + 1) 0 c.self.inside.last c.self.inside.pages.items _
-      c.self.invariant.in_order
-      (claimed_number c.args.key (c.self.inside.last + 1) c.claimed-size.result
-      (claims_of c.self.inside.claims.items c.args.reader)) (omega arith) (omega arith));
+  given = c.move_claims.ensures.not_newer;
   waiting = c.self.invariant.waiting
       ∙ sym (ap (count_by waits) c.move_claims.ensures.moved
       ∙ claimed_same c.self.inside.pages.items c.args.key (c.self.inside.last + 1) c.claimed-size.result

@@ -1,15 +1,14 @@
-use Rattle.std.proofs.Common.{◌≡◌, ◌∙◌, ◌+◌, ◌++◌, List, ap, arith, length, map, subst, sym}
-use Rattle.std.specs.Prelude.{filter_map}
+use Rattle.std.proofs.Common.{◌≡◌, ◌∙◌, ◌+◌, ◌++◌, List, ap, arith, length, map}
+use Rattle.std.specs.Prelude.{count_by, filter_map}
 use Rattle.std.proofs.lemmas.List.{length-map}
 use Rattle.write_cache.specs.declared.slots.Claimed.{Claimed}
 use Rattle.write_cache.specs.declared.slots.Pending.{Pending}
 use Rattle.write_cache.specs.Kept.{WriteCache}
-use Rattle.write_cache.specs.Rests.{claim_brought, page_brought, page_moved, pages_appended}
-use Rattle.write_cache.specs.Rooms.{AreInOrder, cache_of}
+use Rattle.write_cache.specs.Rests.{claim_brought, page_brought, page_moved, pages_appended, waits}
+use Rattle.write_cache.specs.Rooms.{cache_of}
 use Rattle.write_cache.specs.Slots.{claims_of, without_claims}
-use Rattle.write_cache.proofs.Brought.{brought_left, brought_pages, moved_number}
+use Rattle.write_cache.proofs.Brought.{brought_left, brought_pages}
 use Rattle.write_cache.proofs.Deques.{refilled}
-use Rattle.write_cache.proofs.Order.{order_more}
 use Rattle.write_cache.proofs.cache.Cache.append_pages.Goals as goal
 
 pub invariant_of-self : goal.invariant_of-self
@@ -28,18 +27,13 @@ invariant_of-self c =
     record {
       slots = omega (arith, long, as_long, slots, many);
       fits = c.self.invariant.fits;
-      room = grind (arith, c.self.invariant.room, c.move_pages.ensures.page_room);
+      room = c.move_pages.ensures.page_room ∙ c.self.invariant.room;
       claim_room = grind (arith, c.self.invariant.claim_room, c.move_pages.ensures.claim_room);
       free_room = grind (arith, c.self.invariant.free_room, c.move_pages.ensures.free_stays);
       frontier = omega (arith, frontier);
       numbers = grind (arith, c.requires.numbered);
-      in_order = subst (λ (ps : List Pending). AreInOrder 0 (old.last + 1) ps) (sym (c.move_pages.ensures.moved
-          ∙ ap (λ (cs : List Claimed). old.pages.items
-          ++ filter_map (page_moved (old.last + 1) c.args.pages.now) (claims_of cs c.args.reader)) all))
-          (order_more (old.last + 1) 0 old.last old.pages.items _ c.self.invariant.in_order
-          (moved_number (old.last + 1) c.args.pages.now (claims_of c.bring_all.new.claims c.args.reader))
-          (omega arith) (omega arith));
-      waiting = c.count_waiting-self-inside.ensures;
+      given = c.move_pages.ensures.not_newer;
+      waiting = c.count_waiting-self-inside.ensures ∙ ap (λ (ps : List Pending). count_by waits ps) c.all.ensures;
     }
 
 pub returns-clause-after : goal.returns-clause-after

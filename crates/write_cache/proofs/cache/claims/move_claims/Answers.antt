@@ -18,5 +18,6 @@ loop-preserved c =
           ∙ moved_more c.args.reader c.loop.counter f c.args.claims.now.items c.loop.claims.items
           c.args.pages.now.items (omega arith) c.loop.invariant.turning;
       page_room = c.move_claim.ensures.page_room ∙ c.loop.invariant.page_room;
+      not_newer = c.move_claim.ensures.not_newer;
       as_many = c.move_claim.ensures.as_many ∙ c.loop.invariant.as_many;
     }

@@ -1,4 +1,4 @@
-use Rattle.std.proofs.Common.{◌≡◌, ◌+◌, ◌++◌, length, map, take, drop}
+use Rattle.std.proofs.Common.{◌≡◌, ◌≤◌, ◌+◌, ◌++◌, length, map, take, drop}
 use Rattle.std.specs.VecDeque.{deque_capacity}
 use Rattle.write_cache.specs.Slots.{claims_of, page_claimed, without_claims}
 use Rattle.write_cache.proofs.cache.claims.move_claims.Given as goal
@@ -12,7 +12,8 @@ invariant-loop l = record {
       ≡ l.initial.pages.items
       ++ map (page_claimed l.group.key l.group.number l.group.size)
       (claims_of (take l.counter l.initial.claims.items) l.reader);
-  page_room : deque_capacity l.pages ≡ deque_capacity l.initial.pages;
+  page_room : l.pages.room ≡ l.initial.pages.room;
+  not_newer : l.pages.newest ≤ l.group.number;
   as_many : length l.pages.items + length l.claims.items
       ≡ length l.initial.pages.items + length l.initial.claims.items;
 }

@@ -25,6 +25,7 @@ loop-preserved c =
           ∙ brought_more c.args.reader c.loop.counter f c.args.claims.now.items c.loop.claims.items
           c.args.pending.now.items (omega arith) c.loop.invariant.turning;
       page_room = c.move_page.ensures.page_room ∙ c.loop.invariant.page_room;
+      not_newer = c.move_page.ensures.not_newer;
       free_stays = c.move_page.ensures.free_stays ∙ c.loop.invariant.free_stays;
       as_many = c.move_page.ensures.as_many ∙ c.loop.invariant.as_many;
       pages_fit = omega (arith, pages, pages_before);

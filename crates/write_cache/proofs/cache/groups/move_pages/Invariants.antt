@@ -13,7 +13,8 @@ invariant-loop l = record {
   moved : l.pending.items
       ≡ l.initial.pending.items
       ++ filter_map (page_moved l.number l.pages) (claims_of (take l.counter l.initial.claims.items) l.reader);
-  page_room : deque_capacity l.pending ≡ deque_capacity l.initial.pending;
+  page_room : l.pending.room ≡ l.initial.pending.room;
+  not_newer : l.pending.newest ≤ l.number;
   free_stays : vec_capacity l.free ≡ vec_capacity l.initial.free;
   as_many : length l.free.items + length l.pending.items + length l.claims.items
       ≡ length l.initial.free.items + length l.initial.pending.items + length l.initial.claims.items;

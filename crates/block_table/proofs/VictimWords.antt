@@ -1,0 +1,498 @@
+-- Blocks that may be collected, word by word and bucket by bucket, and how many probes that takes.
+use Rattle.std.proofs.Common.{◌≡◌, ◌∙◌, ◌⊎◌, ℕ, zero, suc, ◌+◌, ◌-◌, ◌*◌, ◌/◌, ◌%◌, ◌^◌, ◌<◌, ◌≤◌, ◌&&◌, ◌||◌, Bool}
+use Rattle.std.proofs.Common.{true, false, cond, List, [], ◌∷◌, ◌++◌, Some, ap, arith, length, refl, sym, subst}
+use Rattle.std.proofs.Common.{add-one, inl, inr, not, if◌then◌else◌}
+use Rattle.std.specs.Prelude.{nat_lt, ◌==◌, slice_get, unwrap_or, count_by, map, bit_or, bit_and}
+use Rattle.std.specs.Int.{bit_not, trailing_zeros, w64}
+use Rattle.std.specs.List.{flat_map, list_any}
+use Rattle.std.proofs.Math.Nat.{mul_comm, mul-suc}
+use Rattle.std.proofs.lemmas.Grind.{flat_map-append}
+use Rattle.std.proofs.lemmas.List.{append-nil, map-append}
+use Rattle.std.proofs.lemmas.List.Folds.{list_any-append}
+use Rattle.std.proofs.lemmas.List.Sums.{sum_by-append}
+use Rattle.std.proofs.lemmas.Nat.{div-mul-add, mod-mul-add, mul-add-lt}
+use Rattle.ufs_spec.proofs.Facts.{and_from, and_parts, cases_lt, eq-eqb, eqb-true, false≢true}
+use Rattle.ufs_spec.proofs.Facts.{lt-ltb, ltb-true, or_left, or_right}
+use Rattle.ufs_spec.specs.Disk.{Spot}
+use Rattle.ufs_spec.specs.Keys.{below}
+use Rattle.block_table.specs.Blocks.{Blocks, is_bad, state_of}
+use Rattle.block_table.specs.Buckets.{Buckets, IsLowest, IsWord, bit, has, words_for}
+use Rattle.block_table.specs.LiveRooms.{AreCounted, has_no_pin, is_unpinned_with}
+use Rattle.block_table.specs.Lives.{Lives, block_place, gains, has_block, is_bad_with_live, is_pinned, live_count}
+use Rattle.block_table.specs.Lives.{may_be_victim, spot, spots_in, spots_of_die}
+use Rattle.block_table.specs.Probes.{has_unpinned, is_bad_at, is_victim_at, most_probes}
+use Rattle.block_table.specs.Probes.{spot_there}
+use Rattle.block_table.specs.Sorted.{IsWordOf, blocks_in, same_state, state_there}
+use Rattle.block_table.specs.Victims.{CanBeVictim, IsBefore, IsNoVictim, IsVictim}
+use Rattle.block_table.specs.declared.BlockState.{BlockState}
+use Rattle.block_table.specs.declared.BlockState.TheVariants as state
+use Rattle.block_table.specs.declared.Sizes.{Sizes}
+use Rattle.block_table.proofs.LiveCounts.{order, spot_inside}
+use Rattle.block_table.proofs.Relations.{any_same}
+use Rattle.block_table.proofs.Searches.{can_shown, can_told}
+use Rattle.block_table.proofs.Unpinned.{AreUnpinned, count_at_most, counted_there, no_pin_past, no_pin_there, place_there}
+use Rattle.block_table.proofs.Unpinned.{spot_block, spot_die}
+use Rattle.block_table.proofs.Words.{bit_both, bit_some, bit_turned, ge-ltb, lowest_is, ne-eqb}
+
+-- One block
+
+and_true : (a : Bool) → (a && true) ≡ a
+and_true true = refl
+and_true false = refl
+
+or_false : (a : Bool) → (a || false) ≡ a
+or_false true = refl
+or_false false = refl
+
+and_false : (a : Bool) → (a && false) ≡ false
+and_false true = refl
+and_false false = refl
+
+-- the block without a pin and with so many live pages, by its place
+pub unpinned_is : (l : Lives) (counts : List ℕ) (k p : ℕ) → AreCounted l counts → length l.pins ≡ blocks_in l.sizes →
+    p < blocks_in l.sizes →
+    is_unpinned_with counts l.pins k p
+    ≡ (not (is_pinned l (spot_there l.sizes p)) && (live_count l (spot_there l.sizes p) == k))
+unpinned_is l counts k p kept whole inside = λ i.
+    no_pin_there l p whole inside i && (unwrap_or (counted_there l counts p kept inside i) 0 == k)
+
+unpinned_past : (l : Lives) (counts : List ℕ) (k p : ℕ) → length l.pins ≡ blocks_in l.sizes → blocks_in l.sizes ≤ p →
+    is_unpinned_with counts l.pins k p ≡ false
+unpinned_past l counts k p whole out =
+    ap (λ (c : Bool). c && (unwrap_or (slice_get counts p) 0 == k)) (no_pin_past l.pins p (blocks_in l.sizes) whole out)
+
+-- what a block gains, by the words of its states
+gains_bits : (l : Lives) (s : Spot) (count : ℕ) (x : BlockState) → live_count l s ≡ count →
+    gains l s x
+    ≡ ((nat_lt count l.sizes.pages && same_state x state.Closed) || (nat_lt 0 count && same_state x state.Bad))
+gains_bits l s count x e = by x
+  where
+    neither : (a b : Bool) → false ≡ ((a && false) || (b && false))
+    neither true true = refl
+    neither true false = refl
+    neither false true = refl
+    neither false false = refl
+
+    first : (a b : Bool) → a ≡ ((a && true) || (b && false))
+    first true b = refl
+    first false true = refl
+    first false false = refl
+
+    second : (a b : Bool) → b ≡ ((a && false) || (b && true))
+    second true true = refl
+    second true false = refl
+    second false true = refl
+    second false false = refl
+
+    by : (x : BlockState) → gains l s x
+        ≡ ((nat_lt count l.sizes.pages && same_state x state.Closed) || (nat_lt 0 count && same_state x state.Bad))
+    by state.Free = neither (nat_lt count l.sizes.pages) (nat_lt 0 count)
+    by state.Stale = neither (nat_lt count l.sizes.pages) (nat_lt 0 count)
+    by state.Ready = neither (nat_lt count l.sizes.pages) (nat_lt 0 count)
+    by state.Open = neither (nat_lt count l.sizes.pages) (nat_lt 0 count)
+    by state.Closed =
+        ap (λ (c : ℕ). nat_lt c l.sizes.pages) e ∙ first (nat_lt count l.sizes.pages) (nat_lt 0 count)
+    by state.Bad = ap (nat_lt 0) e ∙ second (nat_lt count l.sizes.pages) (nat_lt 0 count)
+
+bad_is : (x : BlockState) → same_state x state.Bad ≡ is_bad x
+bad_is state.Free = refl
+bad_is state.Stale = refl
+bad_is state.Ready = refl
+bad_is state.Open = refl
+bad_is state.Closed = refl
+bad_is state.Bad = refl
+
+-- Words
+
+-- the blocks with so many live pages that may be collected
+pub victim_bits : (l : Lives) (t : Blocks) (counts : List ℕ) (b : Buckets) (count number closed bad gc gb stand : ℕ) →
+    count ≤ l.sizes.pages → length l.pins ≡ blocks_in l.sizes → AreCounted l counts →
+    AreUnpinned b l.sizes.pages counts l.pins → IsWordOf t state.Closed l.sizes number closed →
+    IsWordOf t state.Bad l.sizes number bad →
+    ((j : ℕ) → bit gc j ≡ (nat_lt count l.sizes.pages && bit closed j)) →
+    ((j : ℕ) → bit gb j ≡ (nat_lt 0 count && bit bad j)) → IsWord (has b count) number stand →
+    IsWord (is_victim_at l t count) number (bit_and stand (bit_or gc gb))
+victim_bits l t counts b count number closed bad gc gb stand few whole kept old is_closed is_bad is_gc is_gb is j m =
+    bit_both stand (bit_or gc gb) j
+    ∙ (λ i. unpinned i && gain i)
+    ∙ by (cases_lt (64 * number + j) (blocks_in l.sizes))
+  where
+    p : ℕ
+    p = 64 * number + j
+
+    s : Spot
+    s = spot_there l.sizes p
+
+    unpinned : bit stand j ≡ is_unpinned_with counts l.pins count p
+    unpinned = is j m ∙ old count p few
+
+    gain : bit (bit_or gc gb) j ≡ ((nat_lt count l.sizes.pages && bit closed j) || (nat_lt 0 count && bit bad j))
+    gain = bit_some gc gb j ∙ (λ i. is_gc j i || is_gb j i)
+
+    turned : (a b c : Bool) → ((a && b) && c) ≡ (b && (a && c))
+    turned true true c = refl
+    turned true false c = refl
+    turned false true c = refl
+    turned false false c = refl
+
+    gained : (c : Bool) → live_count l s == count ≡ c → p < blocks_in l.sizes →
+        ((not (is_pinned l s) && c)
+        && ((nat_lt count l.sizes.pages && bit closed j) || (nat_lt 0 count && bit bad j)))
+        ≡ (c && may_be_victim l t s)
+    gained true e inside =
+        (λ i. (not (is_pinned l s) && true)
+        && ((nat_lt count l.sizes.pages && is_closed j m inside i) || (nat_lt 0 count && is_bad j m inside i)))
+        ∙ ap (λ (g : Bool). (not (is_pinned l s) && true) && g)
+        (sym (gains_bits l s count (state_of t s.die s.block) (eqb-true (live_count l s) count e)))
+        ∙ turned (not (is_pinned l s)) true (gains l s (state_of t s.die s.block))
+    gained false e inside =
+        turned (not (is_pinned l s)) false
+        ((nat_lt count l.sizes.pages && bit closed j) || (nat_lt 0 count && bit bad j))
+
+    by : (p < blocks_in l.sizes) ⊎ (blocks_in l.sizes ≤ p) →
+        (is_unpinned_with counts l.pins count p
+        && ((nat_lt count l.sizes.pages && bit closed j) || (nat_lt 0 count && bit bad j)))
+        ≡ is_victim_at l t count p
+    by (inl inside) =
+        ap (λ (u : Bool). u && ((nat_lt count l.sizes.pages && bit closed j) || (nat_lt 0 count && bit bad j)))
+        (unpinned_is l counts count p kept whole inside)
+        ∙ gained (live_count l s == count) refl inside
+        ∙ sym (ap (λ (c : Bool). c && ((live_count l s == count) && may_be_victim l t s))
+        (lt-ltb p (blocks_in l.sizes) inside))
+    by (inr out) =
+        ap (λ (u : Bool). u && ((nat_lt count l.sizes.pages && bit closed j) || (nat_lt 0 count && bit bad j)))
+        (unpinned_past l counts count p whole out)
+        ∙ sym (ap (λ (c : Bool). c && ((live_count l s == count) && may_be_victim l t s))
+        (ge-ltb p (blocks_in l.sizes) out))
+
+-- the bad blocks without a pin that hold live pages
+pub bad_bits : (l : Lives) (t : Blocks) (counts : List ℕ) (b one : Buckets) (number bad free none : ℕ) →
+    length l.pins ≡ blocks_in l.sizes → AreCounted l counts → AreUnpinned b l.sizes.pages counts l.pins →
+    ((p : ℕ) → has one 0 p ≡ has_no_pin l.pins p) → none < 2 ^ 64 →
+    IsWordOf t state.Bad l.sizes number bad → IsWord (has one 0) number free → IsWord (has b 0) number none →
+    IsWord (is_bad_at l t) number (bit_and (bit_and bad free) (bit_not w64 none))
+bad_bits l t counts b one number bad free none whole kept old unpinned fits is_bad_word is_free is_none j m =
+    bit_both (bit_and bad free) (bit_not w64 none) j
+    ∙ (λ i. bit_both bad free j i && bit_turned none j fits m i)
+    ∙ (λ i. (bit bad j && frees i) && not (nones i))
+    ∙ by (cases_lt (64 * number + j) (blocks_in l.sizes))
+  where
+    p : ℕ
+    p = 64 * number + j
+
+    s : Spot
+    s = spot_there l.sizes p
+
+    frees : bit free j ≡ has_no_pin l.pins p
+    frees = is_free j m ∙ unpinned p
+
+    nones : bit none j ≡ is_unpinned_with counts l.pins 0 p
+    nones = is_none j m ∙ old 0 p (omega arith)
+
+    three : (a n : Bool) (x : ℕ) → ((a && n) && not (n && (x == 0))) ≡ ((a && n) && nat_lt 0 x)
+    three false n x = refl
+    three true false x = refl
+    three true true zero = refl
+    three true true (suc x) =
+        ap not (ne-eqb (suc x) 0 (λ e. omega arith)) ∙ sym (lt-ltb 0 (suc x) (omega arith))
+
+    by : (p < blocks_in l.sizes) ⊎ (blocks_in l.sizes ≤ p) →
+        ((bit bad j && has_no_pin l.pins p) && not (is_unpinned_with counts l.pins 0 p)) ≡ is_bad_at l t p
+    by (inl inside) =
+        (λ i. ((is_bad_word j m inside ∙ bad_is (state_there t l.sizes p)) i && no_pin_there l p whole inside i)
+        && not (unpinned_is l counts 0 p kept whole inside i))
+        ∙ three (is_bad (state_of t s.die s.block)) (not (is_pinned l s)) (live_count l s)
+        ∙ sym (ap (λ (c : Bool). c && is_bad_with_live l t s) (lt-ltb p (blocks_in l.sizes) inside))
+    by (inr out) =
+        ap (λ (c : Bool). (bit bad j && c) && not (is_unpinned_with counts l.pins 0 p))
+        (no_pin_past l.pins p (blocks_in l.sizes) whole out)
+        ∙ ap (λ (c : Bool). c && not (is_unpinned_with counts l.pins 0 p)) (and_false (bit bad j))
+        ∙ sym (ap (λ (c : Bool). c && is_bad_with_live l t s) (ge-ltb p (blocks_in l.sizes) out))
+
+-- one word more
+pub word_passed : (test : ℕ → Bool) (number word : ℕ) → IsWord test number word → ((j : ℕ) → bit word j ≡ false) →
+    ((p : ℕ) → p < 64 * number → test p ≡ false) → (p : ℕ) → p < 64 * (number + 1) → test p ≡ false
+word_passed test number word is off before p l = by (cases_lt p (64 * number))
+  where
+    by : (p < 64 * number) ⊎ (64 * number ≤ p) → test p ≡ false
+    by (inl m) = before p m
+    by (inr m) =
+        ap test (place p m) ∙ sym (is (p - 64 * number) (omega arith)) ∙ off (p - 64 * number)
+      where
+        place : (p : ℕ) → 64 * number ≤ p → p ≡ 64 * number + (p - 64 * number)
+        place p m = omega arith
+
+-- the word has the first that passes
+pub word_first : (test : ℕ → Bool) (number word k : ℕ) → IsWord test number word → IsLowest (bit word) k → k < 64 →
+    ((p : ℕ) → p < 64 * number → test p ≡ false) → IsLowest test (number * 64 + k)
+word_first test number word k is low l before = record {
+  passes = ap test (turned number k) ∙ sym (is k l) ∙ low.passes;
+  below = λ p m. by p m (cases_lt p (64 * number));
+}
+  where
+    turned : (n k : ℕ) → n * 64 + k ≡ 64 * n + k
+    turned n k = omega arith
+
+    place : (p : ℕ) → 64 * number ≤ p → p ≡ 64 * number + (p - 64 * number)
+    place p m = omega arith
+
+    by : (p : ℕ) → p < number * 64 + k → (p < 64 * number) ⊎ (64 * number ≤ p) → test p ≡ false
+    by p m (inl u) = before p u
+    by p m (inr u) =
+        ap test (place p u) ∙ sym (is (p - 64 * number) (omega arith)) ∙ low.below (p - 64 * number) (omega arith)
+
+-- and after all words nothing is left
+pub words_over : (n number : ℕ) → words_for n ≤ number → (p : ℕ) → p < n → p < 64 * number
+words_over n number l p m = omega arith
+
+pub no_victim_left : (l : Lives) (t : Blocks) (count number : ℕ) → words_for (blocks_in l.sizes) ≤ number →
+    ((p : ℕ) → p < 64 * number → is_victim_at l t count p ≡ false) → (p : ℕ) → is_victim_at l t count p ≡ false
+no_victim_left l t count number over before p = by (cases_lt p (blocks_in l.sizes))
+  where
+    by : (p < blocks_in l.sizes) ⊎ (blocks_in l.sizes ≤ p) → is_victim_at l t count p ≡ false
+    by (inl m) = before p (words_over (blocks_in l.sizes) number over p m)
+    by (inr m) = ap (λ (c : Bool). c && ((live_count l (spot_there l.sizes p) == count)
+        && may_be_victim l t (spot_there l.sizes p))) (ge-ltb p (blocks_in l.sizes) m)
+
+-- Some block of all
+
+any_one : (f : Spot → Bool) (die n k : ℕ) → k < n → f (spot die k) ≡ true → list_any f (map (spot die) (below n)) ≡ true
+any_one f die zero k l h = absurd (omega arith)
+any_one f die (suc n) k l h =
+    ap (list_any f) (map-append (spot die) (below n) (n ∷ []))
+    ∙ list_any-append f (map (spot die) (below n)) (spot die n ∷ [])
+    ∙ by (last k n l) (λ m. any_one f die n k m h)
+  where
+    last : (k n : ℕ) → k < suc n → (k < n) ⊎ (k ≡ n)
+    last k n l = grind arith
+
+    by : (k < n) ⊎ (k ≡ n) → (k < n → list_any f (map (spot die) (below n)) ≡ true) →
+        (list_any f (map (spot die) (below n)) || (f (spot die n) || false)) ≡ true
+    by (inl m) rest = or_left (list_any f (map (spot die) (below n))) (f (spot die n) || false) (rest m)
+    by (inr e) rest = or_right (list_any f (map (spot die) (below n))) (f (spot die n) || false)
+        (ap (λ (i : ℕ). f (spot die i) || false) (sym e) ∙ ap (λ (c : Bool). c || false) h)
+
+any_die : (f : Spot → Bool) (g : ℕ → List Spot) (n k : ℕ) → k < n → list_any f (g k) ≡ true →
+    list_any f (flat_map g (below n)) ≡ true
+any_die f g zero k l h = absurd (omega arith)
+any_die f g (suc n) k l h =
+    ap (list_any f) (flat_map-append g (below n) (n ∷ []) ∙ ap (λ xs. flat_map g (below n) ++ xs) (append-nil (g n)))
+    ∙ list_any-append f (flat_map g (below n)) (g n)
+    ∙ by (last k n l) (λ m. any_die f g n k m h)
+  where
+    last : (k n : ℕ) → k < suc n → (k < n) ⊎ (k ≡ n)
+    last k n l = grind arith
+
+    by : (k < n) ⊎ (k ≡ n) → (k < n → list_any f (flat_map g (below n)) ≡ true) →
+        (list_any f (flat_map g (below n)) || list_any f (g n)) ≡ true
+    by (inl m) rest = or_left (list_any f (flat_map g (below n))) (list_any f (g n)) (rest m)
+    by (inr e) rest = or_right (list_any f (flat_map g (below n))) (list_any f (g n))
+        (ap (λ (i : ℕ). list_any f (g i)) (sym e) ∙ h)
+
+-- the block at a place that passes is one of all
+pub any_there : (f : Spot → Bool) (n : Sizes) (p : ℕ) → p < blocks_in n → f (spot_there n p) ≡ true →
+    list_any f (spots_in n) ≡ true
+any_there f n p l h =
+    any_die f (spots_of_die n) n.dies (p / n.blocks) (spot_die n p l)
+    (any_one f (p / n.blocks) n.blocks (p % n.blocks) (spot_block n p l) h)
+
+none_any : (xs : List Spot) → list_any (λ (s : Spot). false) xs ≡ false
+none_any [] = refl
+none_any (x ∷ xs) = none_any xs
+
+pub spot_placed : (n : Sizes) (s : Spot) → has_block n s ≡ true → spot_there n (block_place n s) ≡ s
+spot_placed n s h =
+    let u = and_parts (nat_lt s.die n.dies) (nat_lt s.block n.blocks) h in
+    let b = ltb-true s.block n.blocks u.1 in
+    λ i. record { die = div-mul-add s.die n.blocks s.block b i; block = mod-mul-add s.die n.blocks s.block b i }
+
+-- and if none passes at its place, none of all does
+pub none_there : (f : Spot → Bool) (n : Sizes) → ((p : ℕ) → p < blocks_in n → f (spot_there n p) ≡ false) →
+    list_any f (spots_in n) ≡ false
+none_there f n off =
+    any_same n f (λ (s : Spot). false) (λ s h.
+    ap f (sym (spot_placed n s h)) ∙ off (block_place n s) (spot_inside n s h))
+    ∙ none_any (spots_in n)
+
+bad_parts : (l : Lives) (t : Blocks) (p : ℕ) → is_bad_at l t p ≡ true →
+    (p < blocks_in l.sizes) × (is_bad_with_live l t (spot_there l.sizes p) ≡ true)
+bad_parts l t p h =
+    let u = and_parts (nat_lt p (blocks_in l.sizes)) (is_bad_with_live l t (spot_there l.sizes p)) h in
+    (ltb-true p (blocks_in l.sizes) u.0, u.1)
+
+pub bad_found : (l : Lives) (t : Blocks) (number word : ℕ) → IsWord (is_bad_at l t) number word → 0 < word →
+    word < 2 ^ 64 → true ≡ list_any (is_bad_with_live l t) (spots_in l.sizes)
+bad_found l t number word is some fits =
+    let low = lowest_is word some fits in
+    let k = trailing_zeros w64 word in
+    let h : is_bad_at l t (64 * number + k) ≡ true = sym (is k low.0) ∙ low.1.passes in
+    let u = bad_parts l t (64 * number + k) h in
+    sym (any_there (is_bad_with_live l t) l.sizes (64 * number + k) u.0 u.1)
+
+pub bad_none : (l : Lives) (t : Blocks) (number : ℕ) → words_for (blocks_in l.sizes) ≤ number →
+    ((p : ℕ) → p < 64 * number → is_bad_at l t p ≡ false) →
+    false ≡ list_any (is_bad_with_live l t) (spots_in l.sizes)
+bad_none l t number over before =
+    sym (none_there (is_bad_with_live l t) l.sizes (λ p m.
+    sym (ap (λ (c : Bool). c && is_bad_with_live l t (spot_there l.sizes p)) (lt-ltb p (blocks_in l.sizes) m))
+    ∙ before p (words_over (blocks_in l.sizes) number over p m)))
+
+-- Buckets
+
+-- no block of an empty bucket may be collected
+pub empty_none : (l : Lives) (t : Blocks) (counts : List ℕ) (b : Buckets) (count : ℕ) → count ≤ l.sizes.pages →
+    length l.pins ≡ blocks_in l.sizes → AreCounted l counts → AreUnpinned b l.sizes.pages counts l.pins →
+    ((p : ℕ) → has b count p ≡ false) → (p : ℕ) → is_victim_at l t count p ≡ false
+empty_none l t counts b count few whole kept old empty p = by (cases_lt p (blocks_in l.sizes))
+  where
+    s : Spot
+    s = spot_there l.sizes p
+
+    none : (n c g : Bool) → (n && c) ≡ false → (c && (n && g)) ≡ false
+    none true true g h = absurd (false≢true (sym h))
+    none true false g h = refl
+    none false true g h = refl
+    none false false g h = refl
+
+    by : (p < blocks_in l.sizes) ⊎ (blocks_in l.sizes ≤ p) → is_victim_at l t count p ≡ false
+    by (inl inside) =
+        ap (λ (c : Bool). c && ((live_count l s == count) && may_be_victim l t s)) (lt-ltb p (blocks_in l.sizes) inside)
+        ∙ none (not (is_pinned l s)) (live_count l s == count) (gains l s (state_of t s.die s.block))
+        (sym (unpinned_is l counts count p kept whole inside) ∙ sym (old count p few) ∙ empty p)
+    by (inr out) =
+        ap (λ (c : Bool). c && ((live_count l s == count) && may_be_victim l t s)) (ge-ltb p (blocks_in l.sizes) out)
+
+-- and one that is not empty has a block without a pin
+pub held_unpinned : (l : Lives) (counts : List ℕ) (b : Buckets) (count : ℕ) → count ≤ l.sizes.pages →
+    length l.pins ≡ blocks_in l.sizes → AreCounted l counts → AreUnpinned b l.sizes.pages counts l.pins →
+    (p : ℕ) × (has b count p ≡ true) → has_unpinned l count ≡ true
+held_unpinned l counts b count few whole kept old (p, h) = by (cases_lt p (blocks_in l.sizes))
+  where
+    by : (p < blocks_in l.sizes) ⊎ (blocks_in l.sizes ≤ p) → has_unpinned l count ≡ true
+    by (inl inside) =
+        any_there (λ (s : Spot). not (is_pinned l s) && (live_count l s == count)) l.sizes p inside
+        (sym (unpinned_is l counts count p kept whole inside) ∙ sym (old count p few) ∙ h)
+    by (inr out) = absurd (false≢true (sym (unpinned_past l counts count p whole out) ∙ sym (old count p few) ∙ h))
+
+-- Victims
+
+at_place : {l : Lives} {t : Blocks} (s : Spot) → CanBeVictim l t s →
+    is_victim_at l t (live_count l s) (block_place l.sizes s) ≡ true
+at_place {l} {t} s can =
+    and_from (nat_lt (block_place l.sizes s) (blocks_in l.sizes))
+    ((live_count l (spot_there l.sizes (block_place l.sizes s)) == live_count l s)
+    && may_be_victim l t (spot_there l.sizes (block_place l.sizes s)))
+    (lt-ltb (block_place l.sizes s) (blocks_in l.sizes) (spot_inside l.sizes s can.inside))
+    (and_from (live_count l (spot_there l.sizes (block_place l.sizes s)) == live_count l s)
+    (may_be_victim l t (spot_there l.sizes (block_place l.sizes s)))
+    (eq-eqb (live_count l (spot_there l.sizes (block_place l.sizes s))) (live_count l s)
+    (ap (live_count l) (spot_placed l.sizes s can.inside)))
+    (ap (may_be_victim l t) (spot_placed l.sizes s can.inside) ∙ (can_told can).1))
+
+-- no block with at most so many live pages may be collected
+pub none_more : (l : Lives) (t : Blocks) (count : ℕ) → ((s : Spot) → CanBeVictim l t s → count ≤ live_count l s) →
+    ((p : ℕ) → is_victim_at l t count p ≡ false) → (s : Spot) → CanBeVictim l t s → count + 1 ≤ live_count l s
+none_more l t count before none s can = by (order count (live_count l s))
+  where
+    by : (count < live_count l s) ⊎ ((count ≡ live_count l s) ⊎ (live_count l s < count)) → count + 1 ≤ live_count l s
+    by (inl m) = omega arith
+    by (inr (inl e)) = absurd (false≢true (sym (none (block_place l.sizes s))
+        ∙ ap (λ (c : ℕ). is_victim_at l t c (block_place l.sizes s)) e ∙ at_place s can))
+    by (inr (inr m)) = let h = before s can in absurd (omega arith)
+
+pub none_left : (l : Lives) (t : Blocks) (count : ℕ) → l.sizes.pages + 1 ≤ count →
+    ((s : Spot) → CanBeVictim l t s → count ≤ live_count l s) → IsNoVictim l t
+none_left l t count over before s can =
+    let h = before s can in
+    let k = count_at_most l s in
+    omega arith
+
+-- blocks are counted in the order of their places
+place_before : (n : Sizes) (a b : Spot) → has_block n a ≡ true → has_block n b ≡ true → IsBefore a b →
+    block_place n a < block_place n b
+place_before n a b h k (inl m) =
+    let u = ltb-true a.block n.blocks (and_parts (nat_lt a.die n.dies) (nat_lt a.block n.blocks) h).1 in
+    let r = mul-add-lt a.die n.blocks a.block b.die m u in
+    let e = mul_comm n.blocks b.die in
+    omega arith
+place_before n a b h k (inr (e, m)) =
+    let f : a.die * n.blocks ≡ b.die * n.blocks = ap (λ (d : ℕ). d * n.blocks) e in
+    omega arith
+
+-- the first block of the least number of live pages is the victim
+pub first_is : (l : Lives) (t : Blocks) (count p : ℕ) → ((s : Spot) → CanBeVictim l t s → count ≤ live_count l s) →
+    IsLowest (is_victim_at l t count) p →
+    IsVictim l t (spot_there l.sizes p) × (live_count l (spot_there l.sizes p) ≡ count) × (p < blocks_in l.sizes)
+first_is l t count p before first = (
+  record {
+    can = can;
+    least = λ a q. subst (λ (c : ℕ). c ≤ live_count l a) (sym count_is) (before a q);
+    lowest = λ a q same w. false≢true (sym (first.below (block_place l.sizes a) (earlier a q w))
+        ∙ ap (λ (c : ℕ). is_victim_at l t c (block_place l.sizes a)) (sym (same ∙ count_is)) ∙ at_place a q);
+  },
+  count_is,
+  inside,
+)
+  where
+    s : Spot
+    s = spot_there l.sizes p
+
+    parts : (nat_lt p (blocks_in l.sizes) ≡ true) × (((live_count l s == count) && may_be_victim l t s) ≡ true)
+    parts = and_parts (nat_lt p (blocks_in l.sizes)) ((live_count l s == count) && may_be_victim l t s) first.passes
+
+    inner : ((live_count l s == count) ≡ true) × (may_be_victim l t s ≡ true)
+    inner = and_parts (live_count l s == count) (may_be_victim l t s) parts.1
+
+    inside : p < blocks_in l.sizes
+    inside = ltb-true p (blocks_in l.sizes) parts.0
+
+    count_is : live_count l s ≡ count
+    count_is = eqb-true (live_count l s) count inner.0
+
+    can : CanBeVictim l t s
+    can = can_shown ((spot_block l.sizes p inside, inl (spot_die l.sizes p inside)), inner.1)
+
+    earlier : (a : Spot) → CanBeVictim l t a → IsBefore a s → block_place l.sizes a < p
+    earlier a q w = subst (λ (k : ℕ). block_place l.sizes a < k) (place_there l.sizes p)
+        (place_before l.sizes a s q.inside can.inside w)
+
+-- Probes
+
+one_more : (f : ℕ → Bool) (n : ℕ) → count_by f (below (n + 1)) ≡ count_by f (below n) + cond (f n) 1 0
+one_more f n =
+    ap (λ (k : ℕ). count_by f (below k)) (add-one n)
+    ∙ sum_by-append (λ k. cond (f k) 1 0) (below n) (n ∷ [])
+    ∙ ap (λ (k : ℕ). count_by f (below n) + k) (zero_first (cond (f n) 1 0))
+  where
+    zero_first : (k : ℕ) → 0 + k ≡ k
+    zero_first k = omega arith
+
+-- the probes of one bucket more
+pub probes_more : (f : ℕ → Bool) (words count i x y : ℕ) → x ≤ i + (count + words * count_by f (below count)) →
+    y ≤ x + 1 + (if f count then words else 0) → y ≤ i + (count + 1 + words * count_by f (below (count + 1)))
+probes_more f words count i x y h k =
+    subst (λ (c : ℕ). y ≤ i + (count + 1 + words * c)) (sym (one_more f count)) (by (f count) k)
+  where
+    by : (b : Bool) → y ≤ x + 1 + (if b then words else 0) →
+        y ≤ i + (count + 1 + words * (count_by f (below count) + cond b 1 0))
+    by true m =
+        let e : words * (count_by f (below count) + 1) ≡ words * count_by f (below count) + words =
+        ap (λ (c : ℕ). words * c) (add-one (count_by f (below count))) ∙ mul-suc words (count_by f (below count)) in
+        let u : y ≤ x + 1 + words = m in
+        omega arith
+    by false m =
+        let e : words * (count_by f (below count) + 0) ≡ words * count_by f (below count) =
+        ap (λ (c : ℕ). words * c) (more_none (count_by f (below count))) in
+        let u : y ≤ x + 1 + 0 = m in
+        omega arith
+      where
+        more_none : (c : ℕ) → c + 0 ≡ c
+        more_none c = omega arith
+
+-- and those of the buckets up to the victim's
+pub probes_with : (l : Lives) (s : Spot) (count i x y : ℕ) → live_count l s ≡ count →
+    x ≤ i + (count + words_for (blocks_in l.sizes) * count_by (has_unpinned l) (below count)) →
+    y ≤ x + 1 + (if has_unpinned l count then words_for (blocks_in l.sizes) else 0) → y ≤ i + most_probes l (Some s)
+probes_with l s count i x y e h k =
+    subst (λ (c : ℕ). y ≤ i + (c + 1 + words_for (blocks_in l.sizes) * count_by (has_unpinned l) (below (c + 1)))) (sym e)
+    (probes_more (has_unpinned l) (words_for (blocks_in l.sizes)) count i x y h k)

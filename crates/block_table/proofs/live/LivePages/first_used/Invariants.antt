@@ -1,0 +1,7 @@
+use Rattle.std.proofs.Common.{◌≡◌, ℕ, ◌*◌, ◌<◌, false}
+use Rattle.block_table.specs.Lowest.{is_used_from}
+use Rattle.block_table.proofs.live.LivePages.first_used.Given as goal
+
+abbrev pub invariant-loop-number : goal.invariant-loop-number
+invariant-loop-number l =
+    (p : ℕ) → p < 64 * l.number → is_used_from l.self l.blocks l.state l.start p ≡ false

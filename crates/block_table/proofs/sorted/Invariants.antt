@@ -1,0 +1,7 @@
+use Rattle.std.proofs.Common.{length}
+use Rattle.block_table.specs.Buckets.{Stands, words_for}
+use Rattle.block_table.proofs.States.{sorted_to}
+use Rattle.block_table.proofs.sorted.Given as goal
+
+abbrev pub invariant-loop-place : goal.invariant-loop-place
+invariant-loop-place l = Stands l.sorted 6 (words_for (length l.states)) (sorted_to l.place l.states)

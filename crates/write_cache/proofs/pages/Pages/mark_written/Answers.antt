@@ -1,0 +1,93 @@
+use Rattle.std.proofs.Common.{◌≡◌, ◌∙◌, List, ap, arith, length, map, subst, sym}
+use Rattle.std.specs.Prelude.{slice_set}
+use Rattle.write_cache.specs.declared.pages.ring.GroupAt.{GroupAt}
+use Rattle.write_cache.specs.Kept.{Queue}
+use Rattle.write_cache.specs.Queue.{queue_of}
+use Rattle.write_cache.specs.Ring.{AreRuns, first_number, shown, written}
+use Rattle.write_cache.specs.Slots.{page_written}
+use Rattle.write_cache.proofs.Deques.{unfound_told}
+use Rattle.write_cache.proofs.Marks.{first_marked, marked_length, marked_runs, none_marked}
+use Rattle.write_cache.proofs.Told.{told_consecutive, told_few, told_rising, told_stands, told_straight}
+use Rattle.write_cache.specs.declared.slots.Pending.{Pending}
+use Rattle.write_cache.proofs.pages.Pages.mark_written.Goals as goal
+
+pub find-requires-clause-rising : goal.find-requires-clause-rising
+find-requires-clause-rising c = told_rising c.self.inside c.self.invariant
+
+pub find-requires-clause-few : goal.find-requires-clause-few
+find-requires-clause-few c = told_few c.self.inside c.self.invariant
+
+pub returns-in_default-clause-after : goal.returns-in_default-clause-after
+returns-in_default-clause-after c =
+    let f = c.self.inside in
+    sym c.self.view_is
+    ∙ ap (λ (ps : List Pending). record (queue_of f) { items = ps })
+    (unfound_told f.pages.items c.args.number c.args.index c.args.place
+    (none_marked f.landed f.front f.newest c.args.number c.args.index f.groups.entries.items f.pages.items
+    c.self.invariant.runs c.in_default.ensures.what))
+    ∙ ap (λ (z : Queue). record z { items = page_written z.items c.args.number c.args.index c.args.place })
+    c.self.view_is
+
+pub returns-in_default-clause-bound : goal.returns-in_default-clause-bound
+returns-in_default-clause-bound c = λ all.
+    let one = c.in_default.ensures.bound
+    (told_consecutive c.self.inside c.args.self.now c.self.invariant c.self.view_is all) in
+    omega (arith, one)
+
+pub place_in-found-requires-clause-stands : goal.place_in-found-requires-clause-stands
+place_in-found-requires-clause-stands c =
+    told_stands c.self.inside c.in-Some.entry.at c.in-Some.entry.group c.self.invariant c.in-Some.ensures.what.0
+
+pub place_in-found-requires-clause-counted : goal.place_in-found-requires-clause-counted
+place_in-found-requires-clause-counted c =
+    let few = told_few c.self.inside c.self.invariant in
+    let most = c.in-Some.ensures.most in
+    let counted = c.requires.counted in
+    omega (arith, few, most, counted)
+
+pub invariant_of-self : goal.invariant_of-self
+invariant_of-self c =
+    let f = c.self.inside in
+    let g = c.in-Some.entry.group in
+    let at = c.in-Some.entry.at in
+    let k = c.in-Some-found.at in
+    let is : c.set.new.self.entries.items ≡ slice_set f.groups.entries.items at (written g c.write_at-is_open.result) =
+    c.set.ensures.after ∙ ap (λ (h : GroupAt). slice_set f.groups.entries.items at h) c.written.ensures in
+    let long = ap (λ (ps : List Pending). length ps) c.write_at-is_open.ensures.after
+    ∙ marked_length k c.args.place f.pages.items in
+    let fits = c.self.invariant.fits in
+    let room = c.self.invariant.pages_room in
+    let ring_room = c.self.invariant.groups_room in
+    let same_room = c.write_at-is_open.ensures.room in
+    let same_ring_room = c.set.ensures.room in
+    record {
+      fits = omega (arith, long, fits);
+      few = c.self.invariant.few;
+      pages_room = omega (arith, room, same_room);
+      groups_room = omega (arith, ring_room, same_ring_room);
+      front = c.self.invariant.front
+          ∙ first_marked f.front at f.groups.entries.items g c.write_at-is_open.result c.in-Some.ensures.what.0
+          ∙ ap (first_number f.front) (sym is);
+      runs = subst (λ (gs : List GroupAt). AreRuns f.landed f.front f.newest gs
+          (map shown c.write_at-is_open.new.pages.items)) (sym is)
+          (marked_runs f.landed f.front f.newest at k c.args.index f.groups.entries.items f.pages.items
+          c.write_at-is_open.new.pages.items g c.args.place c.write_at-is_open.result c.self.invariant.runs
+          c.in-Some.ensures.what.0 (sym c.in-Some-found.ensures.what) c.write_at-is_open.ensures.was
+          c.write_at-is_open.ensures.after);
+      landed = c.self.invariant.landed;
+    }
+
+pub returns-in-Some-found-clause-bound : goal.returns-in-Some-found-clause-bound
+returns-in-Some-found-clause-bound c = λ all.
+    let one = c.in-Some.ensures.bound
+    (told_consecutive c.self.inside c.args.self.now c.self.invariant c.self.view_is all) in
+    let none = c.in-Some-found.ensures.bound (told_straight c.self.inside c.args.self.now c.self.view_is all) in
+    let last = c.write_at-is_open.ensures.probes in
+    omega (arith, one, none, last)
+
+pub returns-in_default-found-clause-bound : goal.returns-in_default-found-clause-bound
+returns-in_default-found-clause-bound c = λ all.
+    let one = c.in-Some.ensures.bound
+    (told_consecutive c.self.inside c.args.self.now c.self.invariant c.self.view_is all) in
+    let none = c.in_default-found.ensures.bound (told_straight c.self.inside c.args.self.now c.self.view_is all) in
+    omega (arith, one, none)

@@ -1,0 +1,64 @@
+use Rattle.std.proofs.Common.{◌∙◌, ap, arith, length, map}
+use Rattle.std.proofs.Common.{List}
+use Rattle.std.proofs.lemmas.List.{length-append, length-map}
+use Rattle.std.specs.Prelude.{◌-◌, ◌∷◌, []}
+use Rattle.write_cache.specs.declared.slots.Pending.{Pending}
+use Rattle.write_cache.specs.Kept.{Queue}
+use Rattle.write_cache.specs.Ring.{shown}
+use Rattle.write_cache.proofs.Pushes.{first_again, pushed}
+use Rattle.write_cache.proofs.Runs.{runs_length, short_at}
+use Rattle.write_cache.proofs.pages.Pages.push.Goals as goal
+
+pub note-requires-clause-room : goal.note-requires-clause-room
+note-requires-clause-room c =
+    let f = c.self.inside in
+    let less = runs_length f.landed f.front f.newest f.groups.entries.items (map shown f.pages.items)
+    c.self.invariant.runs in
+    let long = length-map f.pages.items shown in
+    let room = c.requires.room in
+    let length_is = ap (λ (z : Queue). length z.items) c.self.view_is in
+    let room_is = ap (λ (z : Queue). z.room) c.self.view_is in
+    let ring_room = c.self.invariant.groups_room in
+    omega (arith, less, long, room, length_is, room_is, ring_room)
+
+pub note-requires-clause-few : goal.note-requires-clause-few
+note-requires-clause-few c =
+    let f = c.self.inside in
+    let long = length-map f.pages.items shown in
+    let room = c.requires.room in
+    let length_is = ap (λ (z : Queue). length z.items) c.self.view_is in
+    let room_is = ap (λ (z : Queue). z.room) c.self.view_is in
+    let few = c.self.invariant.few in
+    short_at f.landed f.front f.newest (length f.groups.entries.items - 1) f.groups.entries.items
+    (map shown f.pages.items) c.self.invariant.runs (omega (arith, long, room, length_is, room_is, few))
+
+pub invariant_of-self : goal.invariant_of-self
+invariant_of-self c =
+    let f = c.self.inside in
+    let p = c.args.page in
+    let all = ap (λ (ps : List Pending). length ps) c.push_back_reserved.ensures.items
+    ∙ length-append f.pages.items (p ∷ []) in
+    let room = c.requires.room in
+    let length_is = ap (λ (z : Queue). length z.items) c.self.view_is in
+    let room_is = ap (λ (z : Queue). z.room) c.self.view_is in
+    let newest_is = ap (λ (z : Queue). z.newest) c.self.view_is in
+    let newer = c.requires.newer in
+    let few = c.self.invariant.few in
+    let pages_room = c.self.invariant.pages_room in
+    let same_pages = c.push_back_reserved.ensures.capacity in
+    let ring_room = c.self.invariant.groups_room in
+    let same_ring = c.note.ensures.room in
+    record {
+      fits = omega (arith, all, room, length_is, room_is);
+      few = few;
+      pages_room = omega (arith, pages_room, same_pages);
+      groups_room = omega (arith, ring_room, same_ring);
+      front = first_again f.front c.first_number-self-inside.result c.note.new.self.entries.items
+          c.first_number-self-inside.ensures.is;
+      runs = pushed f.landed f.front f.newest c.first_number-self-inside.result f.groups.entries.items
+          c.note.new.self.entries.items f.pages.items c.push_back_reserved.new.self.items p c.self.invariant.runs
+          c.note.ensures.after c.push_back_reserved.ensures.items (omega (arith, newer, newest_is))
+          c.requires.unwritten (omega (arith, room, length_is, room_is, few))
+          c.first_number-self-inside.ensures.is;
+      landed = c.self.invariant.landed;
+    }

@@ -1,0 +1,20 @@
+-- How the fields of the queue of pending pages are seen, and what the ring tells of the pages.
+use Rattle.std.specs.Prelude.{◌≡◌, ◌≤◌, ◌<◌, ◌^◌, length, map}
+use Rattle.std.specs.VecDeque.{deque_capacity}
+use Rattle.write_cache.specs.declared.pages.Pages.TheInside.{Inside}
+use Rattle.write_cache.specs.Kept.{Queue}
+use Rattle.write_cache.specs.Ring.{AreRuns, first_number, shown}
+
+-- what contracts see of the pages; the ring is not seen
+abbrev pub queue_of : Inside → Queue
+queue_of f = record { room = f.room; items = f.pages.items; newest = f.newest }
+
+-- there is room for as many pages as are promised, and for an entry for each; the ring tells of the pages
+pub record IsTold (f : Inside) : Type 0 where
+  pub fits : length f.pages.items ≤ f.room
+  pub few : f.room < 2 ^ 16
+  pub pages_room : f.room ≤ deque_capacity f.pages
+  pub groups_room : f.room ≤ deque_capacity f.groups.entries
+  pub front : f.front ≡ first_number f.front f.groups.entries.items
+  pub runs : AreRuns f.landed f.front f.newest f.groups.entries.items (map shown f.pages.items)
+  pub landed : f.landed < 2 ^ 16

@@ -1,0 +1,265 @@
+//! The pages of pending groups in order of number and index, with a ring that tells where each
+//! group stands.
+ghost use Rattle.std.specs.Prelude.{◌≡◌, ◌+◌, ◌-◌, ◌^◌, ◌<◌, ◌≤◌, ◌++◌, ◌∷◌, [], IfOk, IfSome};
+ghost use Rattle.std.specs.Prelude.{None, drop, filter, length, map, not, option_copied};
+ghost use Rattle.std.specs.Prelude.{option_map, position, slice_get, take};
+ghost use Rattle.std.specs.List.{position_from};
+ghost use Rattle.std.specs.VecDeque.{deque_capacity};
+ghost use Rattle.write_cache.specs.Kept.{Queue};
+ghost use Rattle.write_cache.specs.Rests.{rests_filled};
+ghost use Rattle.write_cache.specs.Ring.{AreStraight, Stands, is_open_at, shown};
+ghost use Rattle.write_cache.specs.Slots.{front_written, is_named, is_of_group, page_written};
+ghost use Rattle.write_cache.specs.Slots.{written_at};
+
+mod fill;
+mod ring;
+
+use self::fill::fill_pages;
+use self::ring::{GroupAt, Ring};
+use crate::probes::Probes;
+use crate::slots::{Pending, WholeGroup};
+use std::alloc::{AllocError, Global};
+use std::collections::VecDeque;
+use std::marker::Model;
+use ufs_spec::{Name, Place};
+
+/// The pages of pending groups, in order of number and index. All memory is taken by `new`.
+///
+/// The entries of the ring tell of all pages, one group after another: whose they are, how many,
+/// how many of them are not written, at which position they end, and how many of the last have
+/// indexes that rise by one. The numbers rise from entry to entry. There is room for as many
+/// entries as pages.
+#[derive(Drop)]
+pub(crate) struct Pages {
+    /// How many pages there may be.
+    room: u16,
+    /// The pages.
+    pages: VecDeque<Pending>,
+    /// What there is to tell of each group that has pages here.
+    groups: Ring,
+    /// The position of the first page: how many left before it, modulo 2^16.
+    landed: u16,
+    /// The number of the first group, while there is one.
+    front: u64,
+    /// The number of the page that was put in last.
+    newest: u64,
+}
+
+impl Model for Pages {
+    ghost use Rattle.write_cache.specs.Kept.{Queue};
+
+    ghost Value = { Queue };
+
+    ghost use Rattle.write_cache.specs.Queue.{IsTold, queue_of};
+
+    ghost view = { queue_of };
+
+    ghost invariant = { IsTold };
+}
+
+impl Pages {
+    /// Room for so many pages, and none yet.
+    ///
+    /// # Errors
+    ///
+    /// Only if memory was refused.
+    pub(crate) fn new(alloc: Global, room: u16) -> Result<Pages, AllocError>
+        ensures { IfOk result (λ q. q ≡ record { room = room; items = []; newest = 0 }) }
+    {
+        let pages = VecDeque::with_capacity(alloc, room as usize)?;
+        Ok(Pages {
+            room,
+            pages,
+            groups: Ring::new(alloc, room)?,
+            landed: 0,
+            front: 0,
+            newest: 0,
+        })
+    }
+
+    /// The pages, for calls that look at all of them and count no probes.
+    pub(crate) fn all(&self) -> &VecDeque<Pending>
+        ensures { result.now.items ≡ self.now.items }
+    {
+        &self.pages
+    }
+
+    /// The page at this place; `None` behind the last.
+    pub(crate) fn page(&self, at: usize) -> Option<&Pending>
+        ensures { option_copied result ≡ slice_get self.now.items at }
+    {
+        self.pages.get(at)
+    }
+
+    /// Puts a page behind all others, of their last group or of a later one.
+    pub(crate) fn push(&mut self, page: Pending)
+        requires room { length self.old.items < self.old.room }
+        requires newer { self.old.newest ≤ page.number }
+        requires unwritten { page.written ≡ None }
+        ensures { self.new ≡ record self.old {
+          items = self.old.items ++ page ∷ [];
+          newest = page.number;
+        } }
+    {
+        self.groups.note(self.landed, page.number, page.index);
+        self.front = self.groups.first_number(self.front, &mut Probes::none());
+        self.newest = page.number;
+        self.pages.push_back_reserved(page);
+    }
+
+    /// Takes the first page out. It takes three probes at most: for its slot, for the entry of its
+    /// group and, where it was the last page of this, for that of the next.
+    pub(crate) fn take_first(&mut self, probes: &mut Probes) -> Option<Pending>
+        requires counted { probes.old.count ≤ 2 ^ 63 }
+        ensures what { result ≡ slice_get self.old.items 0 }
+        ensures after { self.new ≡ record self.old { items = drop 1 self.old.items } }
+        ensures bound { probes.new.count ≤ probes.old.count + 3 }
+    {
+        probes.add();
+        let page = self.pages.pop_front()?;
+        self.groups.shorten(page.written.is_none(), probes);
+        self.front = self.groups.first_number(self.front, probes);
+        self.landed = self.landed.wrapping_add(1);
+        Some(page)
+    }
+
+    /// The first group, if all its pages are written. It takes one probe.
+    pub(crate) fn front_written(&self, probes: &mut Probes) -> Option<WholeGroup>
+        requires counted { probes.old.count ≤ 2 ^ 63 }
+        ensures what { option_map (λ (g : WholeGroup). g.number) result
+            ≡ front_written self.now.items }
+        ensures first { IfSome result (λ g. take g.pages self.now.items ≡
+            filter (is_of_group g.number) self.now.items) }
+        ensures others { IfSome result (λ g. drop g.pages self.now.items ≡
+            filter (λ p. not (is_of_group g.number p)) self.now.items) }
+        ensures some { IfSome result (λ g. (0 < g.pages) × (g.pages ≤ length self.now.items)) }
+        ensures bound { probes.new.count ≤ probes.old.count + 1 }
+    {
+        if self.groups.len() == 0 {
+            return None;
+        }
+        let group = self.groups.entry(0, probes);
+        if group.unwritten > 0 {
+            return None;
+        }
+        Some(WholeGroup {
+            number: group.number,
+            pages: group.pages as usize,
+        })
+    }
+
+    /// Where the page with this number and index stands, if it is pending.
+    pub(crate) fn place_named(&self, number: u64, index: u16, probes: &mut Probes) -> Option<usize>
+        requires counted { probes.old.count ≤ 2 ^ 63 }
+        ensures what { result ≡ position (is_named number index) self.now.items }
+        ensures bound { AreStraight (map shown self.now.items) →
+            probes.new.count ≤ probes.old.count + 1 }
+    {
+        let entry = self.groups.find(self.front, number, probes)?;
+        place_in(&self.pages, self.landed, entry.group, index, probes)
+    }
+
+    /// The page with this number and index is written there, if it is pending.
+    pub(crate) fn mark_written(
+        &mut self,
+        number: u64,
+        index: u16,
+        place: Place,
+        probes: &mut Probes,
+    )
+        requires counted { probes.old.count ≤ 2 ^ 63 }
+        ensures after { self.new ≡ record self.old {
+          items = page_written self.old.items number index place;
+        } }
+        ensures bound { AreStraight (map shown self.old.items) →
+            probes.new.count ≤ probes.old.count + 2 }
+    {
+        let Some(entry) = self.groups.find(self.front, number, probes) else {
+            return;
+        };
+        let found = place_in(&self.pages, self.landed, entry.group, index, probes);
+        if let Some(at) = found {
+            let is_open = write_at(&mut self.pages, at, place, probes);
+            self.groups.set(entry.at, entry.group.written(is_open));
+        }
+    }
+
+    /// Gives their rest to all pages that wait for the read that is done for the page of this name,
+    /// which brought these 4096 bytes.
+    pub(crate) fn fill_rests(&mut self, name: Name, block: &[u8])
+        requires { length block.now ≡ 4096 }
+        ensures { self.new ≡ record self.old {
+          items = rests_filled name block.now self.old.items;
+        } }
+    {
+        fill_pages(self.pages.make_contiguous(), name, block);
+    }
+}
+
+/// Where the page of this index stands that is of the group of this entry, if there is one. It
+/// takes no probe where the indexes of the group rise by one from page to page.
+fn place_in(
+    pages: &VecDeque<Pending>,
+    landed: u16,
+    group: GroupAt,
+    index: u16,
+    probes: &mut Probes,
+) -> Option<usize>
+    requires stands { Stands landed group (map shown pages.now.items) }
+    requires few { length pages.now.items < 2 ^ 16 }
+    requires counted { probes.old.count ≤ 2 ^ 63 + 2 ^ 16 }
+    ensures what { result ≡ position (is_named group.number index) pages.now.items }
+    ensures bound { AreStraight (map shown pages.now.items) → probes.new.count ≡ probes.old.count }
+    ensures most { probes.new.count ≤ probes.old.count + 2 ^ 16 }
+{
+    if group.is_straight() {
+        return group.place_of(landed, index);
+    }
+    let first = group.first(landed);
+    place_among(pages, first, group, index, probes)
+}
+
+/// Where the page of this index stands that is of the group of this entry, among as many from this
+/// place on as the group has.
+fn place_among(
+    pages: &VecDeque<Pending>,
+    first: usize,
+    group: GroupAt,
+    index: u16,
+    probes: &mut Probes,
+) -> Option<usize>
+    requires there { first + group.pages ≤ length pages.now.items }
+    requires counted { probes.old.count ≤ 2 ^ 63 + 2 ^ 16 }
+    ensures what { result ≡ position_from (is_named group.number index) first
+        (take group.pages (drop first pages.now.items)) }
+    ensures most { probes.new.count ≤ probes.old.count + 2 ^ 16 }
+{
+    for passed in 0..group.pages {
+        let at = first + passed as usize;
+        probes.add();
+        if pages[at].is_named(group.number, index) {
+            return Some(at);
+        }
+    }
+    None
+}
+
+/// The page at this place is written there, and whether it was not written before.
+fn write_at(pages: &mut VecDeque<Pending>, at: usize, place: Place, probes: &mut Probes) -> bool
+    requires counted { probes.old.count < 2 ^ 64 - 1 }
+    ensures was { result ≡ is_open_at (slice_get pages.old.items at) }
+    ensures after { pages.new.items ≡
+        written_at pages.old.items at place (slice_get pages.old.items at) }
+    ensures room { deque_capacity pages.new ≡ deque_capacity pages.old }
+    ensures probes { probes.new.count ≡ probes.old.count + 1 }
+{
+    probes.add();
+    match pages.get_mut(at) {
+        Some(page) => {
+            let is_open = page.written.is_none();
+            page.written = Some(place);
+            is_open
+        }
+        None => false,
+    }
+}
