@@ -1,0 +1,3 @@
+mod LaneByLane
+mod Tails
+mod Turns
