@@ -13,7 +13,7 @@ PROGRAMS := ufsim ufstool
 INSTALLED = $(foreach it,$(PROGRAMS),bin/$(it) share/man/man1/$(it).1 share/bash-completion/completions/$(it) \
 	share/zsh/site-functions/_$(it) share/fish/vendor_completions.d/$(it).fish)
 
-.PHONY: help demo test prove format install uninstall bench collection stress wrong-bodies turned-rules refused-memory power-cycles
+.PHONY: help demo test prove format install uninstall bench collection peers stress wrong-bodies turned-rules refused-memory power-cycles
 
 help:
 	@echo 'make demo                  shows a write, a read and six stops; builds without proving, two minutes'
@@ -24,9 +24,12 @@ help:
 	@echo 'make install PREFIX=DIR    proves and builds ufsim and ufstool, and copies them to DIR/bin, with'
 	@echo '                           their manual pages and completions to DIR/share'
 	@echo 'make uninstall PREFIX=DIR  removes what was installed (both: without PREFIX, DIR is $(PREFIX))'
-	@echo 'make bench                 times writes and reads, also among threads, after it proves what they need'
+	@echo 'make bench                 times writes and reads, also among threads, and each call by itself on a small'
+	@echo '                           and on a large device, after it proves what they need'
 	@echo 'make collection            counts the pages that a device programs for each that is written, once it'
 	@echo '                           collects, and the same of a simulation'
+	@echo 'make peers                 times durable writes and reads of SQLite, LMDB and RocksDB beside one SHA-256;'
+	@echo '                           installs them with apt-get, as root, where they are missing'
 	@echo 'make stress                runs what was built a thousand times with 1 to 8 dies and hosts in threads'
 	@echo 'make wrong-bodies          tries the wrong bodies that changed, and sees that the prover refuses each'
 	@echo 'make turned-rules          turns rules of the specification around, and sees that a law refuses each'
@@ -86,12 +89,16 @@ uninstall:
 bench:
 	@cd crates/bench && rt run
 	@cd crates/bench && rt run -- lanes
+	@cd crates/bench && rt run -- sizes
 
 collection:
 	@cd crates/bench && rt run -- collection
 	@python3 tools/collector_simulation.py
 	@python3 tools/collector_simulation.py --blocks 256 --pages 16 --fill 95 100
 	@python3 tools/collector_simulation.py --blocks 256 --pages 16 --slots 288 --fill 100
+
+peers:
+	@python3 tools/peers.py
 
 stress:
 	@python3 tools/stress.py

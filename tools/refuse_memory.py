@@ -29,7 +29,7 @@ from crates import ROOT
 
 CRATE = ROOT / "crates" / "memory_refused"
 # The number of the allocation that is refused.
-REFUSED = 400
+REFUSED = 600
 ROW = "row"
 
 
@@ -51,16 +51,16 @@ class Call(NamedTuple):
 
 
 CALLS = (
-    Call((ROW,), 190, 35),
+    Call((ROW,), 260, 35),
     Call(("refused", "MemDie::new"), 2, 40),
     Call(("refused", "scan"), 96, 40),
     Call(("refused", "scan_parallel"), 96, 50),
-    Call(("refused", "Device::open"), 96, 155),
-    Call(("refused", "open_parallel"), 96, 165),
-    Call(("refused", "Shared::new"), 175, 30),
-    Call(("refused", "World::new"), 102, 155),
-    Call(("refused", "World::step"), 233, 155),
-    Call(("refused", "run"), 102, 290),
+    Call(("refused", "Device::open"), 96, 225),
+    Call(("refused", "open_parallel"), 96, 235),
+    Call(("refused", "Shared::new"), 245, 30),
+    Call(("refused", "World::new"), 102, 225),
+    Call(("refused", "World::step"), 303, 225),
+    Call(("refused", "run"), 102, 430),
 )
 
 

@@ -3,7 +3,8 @@
 //! SHA-256 over a page, in one run. It prints the times and their ratios on standard error. With
 //! the word `lanes` it times instead a device and scans among threads. With the word `collection`
 //! it counts what is programmed and hashed for each block that is written, once collections are
-//! due.
+//! due. With the word `sizes` it times each of the five calls by itself, on a small device and on a
+//! large one.
 #![tactic(auto)]
 
 mod clock;
@@ -11,6 +12,7 @@ mod collection;
 mod frames;
 mod groups;
 mod scans;
+mod sizes;
 mod threads;
 
 use crate::clock::{each, percent, since, time_hash};
@@ -18,6 +20,7 @@ use crate::collection::count_collections;
 use crate::frames::time_requests;
 use crate::groups::time_groups;
 use crate::scans::time_scans;
+use crate::sizes::time_sizes;
 use crate::threads::time_threads;
 use anyhow::{Result, bail, ensure};
 use geometry::Config;
@@ -124,6 +127,7 @@ fn main(rt: HostRuntime) -> Result<()> {
         [_] => time_all(&rt),
         [_, word] if word.as_str() == "lanes" => time_threads(&rt, rt.alloc()),
         [_, word] if word.as_str() == "collection" => count_collections(&rt, rt.alloc()),
-        _ => bail!("usage: bench [lanes | collection]"),
+        [_, word] if word.as_str() == "sizes" => time_sizes(&rt, rt.alloc()),
+        _ => bail!("usage: bench [lanes | collection | sizes]"),
     }
 }

@@ -1,8 +1,15 @@
--- The first of a list that passes a test, looked for from the front.
-use Rattle.std.proofs.Common.{◌≡◌, ℕ, zero, suc, ◌+◌, Bool, true, false, List, [], ◌∷◌, Option, Some, None}
-use Rattle.std.proofs.Common.{arith, ap, refl, sym, ◌∙◌, subst, take}
-use Rattle.std.specs.Prelude.{find, if◌then◌else◌, slice_get}
-use Rattle.ufs_spec.proofs.Facts.{none-some}
+-- The first of a list that passes a test, looked for from the front, and only where a wider test passes.
+use Rattle.std.proofs.Common.{◌≡◌, ℕ, zero, suc, ◌+◌, ◌≤◌, ◌<◌, Bool, true, false, cond, not, List, [], ◌∷◌}
+use Rattle.std.proofs.Common.{Option, Some, None, arith, ap, refl, sym, ◌∙◌, subst, take, drop, length}
+use Rattle.std.specs.Prelude.{◌&&◌, find, if◌then◌else◌, is_none, is_some, slice_get}
+use Rattle.std.specs.List.{list_any, position_from}
+use Rattle.block_table.specs.declared.rows.DieRow.{DieRow}
+use Rattle.block_table.specs.Rows.{writes_page}
+use Rattle.ufs_spec.proofs.Facts.{none-some, same_Some, true≢false}
+use Rattle.write_cache.specs.declared.rests.Rest.{Rest}
+use Rattle.write_cache.specs.declared.slots.Pending.{Pending}
+use Rattle.write_cache.specs.Ready.{first_ready_from, is_ready}
+use Rattle.ftl_core.specs.Takes.{page_waits}
 use Rattle.ufs_spec.proofs.Lists.{find_behind}
 
 abbrev pub FoundOr : {A : Type 0} → Bool → A → Option A → Option A
@@ -47,3 +54,82 @@ none_yet test (y ∷ ys) (suc at) x none there fails =
   where
     one_more : (n : ℕ) → suc (n + 1) ≡ suc n + 1
     one_more n = omega arith
+
+-- Where a wider test passes
+
+-- each element that passes the one test passes the other
+abbrev IsWider : {A : Type 0} → (A → Bool) → (A → Bool) → Type 0
+IsWider {A} wide test = (x : A) → wide x ≡ false → test x ≡ false
+
+none_left : {A : Type 0} (wide test : A → Bool) (i : ℕ) (xs : List A) → IsWider wide test →
+    position_from wide i xs ≡ None → find test xs ≡ None
+none_left wide test i [] le e = refl
+none_left wide test i (x ∷ xs) le e = by (wide x) refl e (none_left wide test (i + 1) xs le)
+  where
+    by : (b : Bool) → wide x ≡ b → cond b (Some i) (position_from wide (i + 1) xs) ≡ None →
+        (position_from wide (i + 1) xs ≡ None → find test xs ≡ None) → find test (x ∷ xs) ≡ None
+    by true w e rest = absurd (none-some i (sym e))
+    by false w e rest = find_behind test x xs (le x w) ∙ rest e
+
+none_before : {A : Type 0} (wide test : A → Bool) (i at : ℕ) (xs : List A) → IsWider wide test →
+    position_from wide i xs ≡ Some at → (m : ℕ) × (at ≡ i + m) × (find test (take m xs) ≡ None)
+none_before wide test i at [] le e = absurd (none-some at e)
+none_before {A} wide test i at (x ∷ xs) le e = by (wide x) refl e (none_before wide test (i + 1) at xs le)
+  where
+    by : (b : Bool) → wide x ≡ b → cond b (Some i) (position_from wide (i + 1) xs) ≡ Some at →
+        (position_from wide (i + 1) xs ≡ Some at → (m : ℕ) × (at ≡ i + 1 + m) × (find test (take m xs) ≡ None)) →
+        (m : ℕ) × (at ≡ i + m) × (find test (take m (x ∷ xs)) ≡ None)
+    by true w e rest = (0, (let same = same_Some i at e in omega arith), refl)
+    by false w e rest =
+        let r = rest e in
+        let is = r.1 in
+        (suc r.0, omega (arith, is), find_behind test x (take r.0 xs) (le x w) ∙ r.2)
+
+take_more : {A : Type 0} (test : A → Bool) (from m at : ℕ) (xs : List A) → at ≡ from + m →
+    find test (take from xs) ≡ None → find test (take m (drop from xs)) ≡ None → find test (take at xs) ≡ None
+take_more test zero m at xs e none more =
+    subst (λ (k : ℕ). find test (take k xs) ≡ None) (let f : m ≡ at = omega arith in f) more
+take_more test (suc from) m zero xs e none more = absurd (omega arith)
+take_more test (suc from) m (suc at) [] e none more = refl
+take_more test (suc from) m (suc at) (x ∷ xs) e none more =
+    let r = one_less test x (take from xs) none in
+    find_behind test x (take at xs) r.0 ∙ take_more test from m at xs (omega arith) r.1 more
+
+take_all : {A : Type 0} (test : A → Bool) (from : ℕ) (xs : List A) → find test (take from xs) ≡ None →
+    find test (drop from xs) ≡ None → find test xs ≡ None
+take_all test zero xs none more = more
+take_all test (suc from) [] none more = refl
+take_all test (suc from) (x ∷ xs) none more =
+    let r = one_less test x (take from xs) none in
+    find_behind test x xs r.0 ∙ take_all test from xs r.1 more
+
+-- Pages that can be programmed now
+
+-- a page that waits can be programmed now
+wider : (rows : List DieRow) → IsWider is_ready (page_waits rows)
+wider rows p e = by (is_none p.written) p.rest e
+  where
+    by : (b : Bool) (o : Option Rest) → (b && not (is_some o)) ≡ false →
+        (b && not (list_any (writes_page p.number p.index) rows) && is_none o) ≡ false
+    by false o e = refl
+    by true None e = absurd (true≢false e)
+    by true (Some rest) e = no (not (list_any (writes_page p.number p.index) rows))
+      where
+        no : (b : Bool) → (b && false) ≡ false
+        no true = refl
+        no false = refl
+
+-- the pages before the next one that can be programmed do not wait
+pub none_to : (rows : List DieRow) (ps : List Pending) (from at : ℕ) → find (page_waits rows) (take from ps) ≡ None →
+    Some at ≡ first_ready_from ps from → (find (page_waits rows) (take at ps) ≡ None) × (from ≤ at)
+none_to rows ps from at none is =
+    let r = none_before is_ready (page_waits rows) from at (drop from ps) (wider rows) (sym is) in
+    let e = r.1 in
+    (take_more (page_waits rows) from r.0 at ps e none r.2, omega arith)
+
+-- and where there is no next one, no page does
+pub none_after_all : (rows : List DieRow) (ps : List Pending) (from : ℕ) →
+    find (page_waits rows) (take from ps) ≡ None → None ≡ first_ready_from ps from → find (page_waits rows) ps ≡ None
+none_after_all rows ps from none is =
+    take_all (page_waits rows) from ps none
+    (none_left is_ready (page_waits rows) from (drop from ps) (wider rows) (sym is))

@@ -1,4 +1,5 @@
 pub mod FoundPins
+pub mod OwedPins
 pub mod PinsAlike
 pub mod PinsDiffer
 pub mod PinsGone

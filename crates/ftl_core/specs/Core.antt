@@ -10,7 +10,7 @@ use Rattle.write_cache.specs.declared.slots.Claimed.{Claimed}
 use Rattle.unit_map.specs.declared.Stored.{Stored}
 use Rattle.ftl_core.specs.declared.books.Mending.{Mending}
 use Rattle.write_cache.specs.declared.slots.Pending.{Pending}
-use Rattle.ftl_core.specs.declared.books.Pin.{Pin}
+use Rattle.readers.specs.declared.pin.Pin.{Pin}
 use Rattle.ftl_core.specs.declared.books.Step.{Step}
 
 -- what is kept: by die and block the blocks' states, by die its open block and its job, by key the place of its durable

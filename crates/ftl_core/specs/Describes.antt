@@ -35,7 +35,7 @@ use Rattle.ftl_core.specs.declared.books.Mending as kept
 use Rattle.ftl_core.specs.declared.books.Mending.TheVariants as mendings
 use Rattle.block_table.specs.declared.rows.OpenBlock.{OpenBlock}
 use Rattle.write_cache.specs.declared.slots.Pending.{Pending}
-use Rattle.ftl_core.specs.declared.books.Pin.{Pin}
+use Rattle.readers.specs.declared.pin.Pin.{Pin}
 use Rattle.ftl_core.specs.declared.books.Step as kept_step
 use Rattle.ftl_core.specs.declared.books.Step.TheVariants as steps
 use Rattle.unit_map.specs.declared.Stored.{Stored}
@@ -45,7 +45,8 @@ use Rattle.geometry.specs.Keys.{key_total}
 use Rattle.unit_map.specs.Places.{stored_in}
 use Rattle.ftl_core.specs.Core.{Core}
 use Rattle.ftl_core.specs.KnownLive.{KnowsLive}
-use Rattle.ftl_core.specs.Moves.{is_pin_of, repairs_in}
+use Rattle.ftl_core.specs.Moves.{repairs_in}
+use Rattle.readers.specs.Pins.{is_pin_of}
 use Rattle.ftl_core.specs.RestsKept.{RestsKept, waiting}
 use Rattle.ftl_core.specs.Takes.{is_group_page, next_place, step_wants}
 

@@ -20,7 +20,8 @@ use Rattle.unit_map.specs.Places.{places_noted, position_of}
 use Rattle.write_cache.specs.Slots.{is_named, is_of_group, whole_group, page_written as page_at_written}
 use Rattle.ftl_core.specs.Core.{Core}
 use Rattle.ftl_core.specs.KnownLive.{live_moved, page_moved}
-use Rattle.ftl_core.specs.Moves.{mark_ordered, moved_pin, page_written, state_of, stored_of, went_bad, with_state}
+use Rattle.ftl_core.specs.Moves.{mark_ordered, page_written, state_of, stored_of, went_bad, with_state}
+use Rattle.readers.specs.Pins.{moved_pin}
 
 -- Groups
 

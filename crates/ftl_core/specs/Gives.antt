@@ -18,13 +18,14 @@ use Rattle.write_cache.specs.Slots.{is_named}
 use Rattle.block_table.specs.declared.rows.DieRow.{DieRow}
 use Rattle.block_table.specs.declared.rows.Flight.{Flight}
 use Rattle.block_table.specs.declared.rows.Flight.TheVariants as flight
-use Rattle.ftl_core.specs.declared.books.Pin.{Pin}
+use Rattle.readers.specs.declared.pin.Pin.{Pin}
 use Rattle.ftl_core.specs.declared.books.Step.{Step}
 use Rattle.ftl_core.specs.declared.books.Step.TheVariants as step
 use Rattle.ftl_core.specs.declared.ftl.Ended.{Ended}
 use Rattle.ftl_core.specs.declared.ftl.Ended.TheVariants as ended
 use Rattle.ftl_core.specs.Core.{Core}
-use Rattle.ftl_core.specs.Moves.{erased, is_pin_of, page_written, pin_of, rest_look, went_bad, with_row}
+use Rattle.ftl_core.specs.Moves.{erased, page_written, pin_of, rest_look, went_bad, with_row}
+use Rattle.readers.specs.Pins.{wanted_no_more}
 use Rattle.ftl_core.specs.Ends.{pending_written, settled, step_failed, step_written, with_content}
 use Rattle.ftl_core.specs.Rests.{with_rest}
 
@@ -75,10 +76,6 @@ abbrev pub is_read : Outcome → Bool
 is_read (outcome.Read page) = true
 is_read outcome.ReadFailed = true
 is_read _ = false
-
--- the page of this block of the reader is no longer to be read
-abbrev pub wanted_no_more : ℕ → ℕ → Pin → Pin
-wanted_no_more reader index p = record p { wanted = if is_pin_of reader index p then false else p.wanted }
 
 -- What is given
 

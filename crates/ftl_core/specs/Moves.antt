@@ -27,7 +27,8 @@ use Rattle.write_cache.specs.declared.slots.Claimed.{Claimed}
 use Rattle.write_cache.specs.declared.slots.Pending.{Pending}
 use Rattle.ftl_core.specs.declared.books.Mending.{Mending}
 use Rattle.ftl_core.specs.declared.books.Mending.TheVariants as mending
-use Rattle.ftl_core.specs.declared.books.Pin.{Pin}
+use Rattle.readers.specs.Pins.{is_of_reader, is_pin_of, wanted_now}
+use Rattle.readers.specs.declared.pin.Pin.{Pin}
 use Rattle.ftl_core.specs.declared.books.Step.{Step}
 use Rattle.ftl_core.specs.declared.books.Step.TheVariants as step
 use Rattle.ftl_core.specs.declared.books.Waiting.{Waiting}
@@ -186,15 +187,6 @@ has_stale c = list_any is_stale c.states
 
 -- What is owed to a die
 
--- what was looked up lies on this die
-abbrev pub looks_on : ℕ → Looked → Bool
-looks_on die (OnPage name place) = place.die == die
-looks_on die _ = false
-
--- the reader is owed the read of a page of this die: it wants it, and no die reads for it
-abbrev pub is_owed_by : List DieRow → ℕ → Pin → Bool
-is_owed_by rows die p = p.wanted && looks_on die p.looked && not (list_any (reads_for (ForTask p.reader p.index)) rows)
-
 -- pages of groups may be programmed: at least as many blocks are free as groups leave to the device's own pages
 abbrev pub has_room_for_groups : Core → Bool
 has_room_for_groups c = nat_le (own_room c.numbers) (free_blocks c)
@@ -309,14 +301,6 @@ looked_at None s = looked_on s
 abbrev pub look_of : Core → Key → Looked
 look_of c k = looked_at (last_page k c.pages) (stored_of c k)
 
--- the pin is of this block of the reader
-abbrev pub is_pin_of : ℕ → ℕ → Pin → Bool
-is_pin_of reader index p = (p.reader == reader) && (p.index == index)
-
--- the pin is of the reader
-abbrev pub is_of_reader : ℕ → Pin → Bool
-is_of_reader reader p = p.reader == reader
-
 -- what is kept of this block of the reader
 abbrev pub pin_of : Core → ℕ → ℕ → Option Pin
 pin_of c reader index = find (is_pin_of reader index) c.pins
@@ -347,10 +331,6 @@ unpinned c reader =
       pins = filter (λ p. not (is_of_reader reader p)) c.pins;
     }
 
--- the page of this block of the reader is wanted from now on
-abbrev pub wanted_now : ℕ → ℕ → Pin → Pin
-wanted_now reader index p = record p { wanted = if is_pin_of reader index p then true else p.wanted }
-
 -- a block of the reader is kept no more, and the next one is wanted
 abbrev pub next_wanted : Core → ℕ → ℕ → Core
 next_wanted c reader index =
@@ -358,15 +338,6 @@ next_wanted c reader index =
       rows = map (without_block reader index) c.rows;
       pins = map (wanted_now reader (index + 1)) (filter (λ p. not (is_pin_of reader index p)) c.pins);
     }
-
--- who kept the slot of a page keeps its place from now on
-abbrev pub now_stored : Stored → Looked → Looked
-now_stored s (InSlot name) = if same_name name s.name then OnPage s.name s.place else InSlot name
-now_stored s looked = looked
-
--- a pin on the slot of the page is on the page's place from now on; any other pin stays
-abbrev pub moved_pin : Stored → Pin → Pin
-moved_pin s p = record p { looked = now_stored s p.looked }
 
 -- the content of the pending page of this name, if it is all there
 abbrev pub slot_of : Core → Name → Option (List ℕ)

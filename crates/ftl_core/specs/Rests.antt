@@ -17,7 +17,7 @@ use Rattle.write_cache.specs.Slots.{is_named, last_page}
 use Rattle.ftl_core.specs.declared.books.Brought.{Brought}
 use Rattle.ftl_core.specs.Core.{Core}
 use Rattle.ftl_core.specs.Moves.{claims_for, next_number, released, rest_look, stored_of}
-use Rattle.ftl_core.specs.PinCounts.{block_pinned, block_unpinned}
+use Rattle.readers.specs.Pins.{block_pinned, block_unpinned}
 
 -- Where the rest of a page comes from
 

@@ -1,12 +1,13 @@
 -- How the layer's fields are seen, and the room that they keep.
-use Rattle.std.specs.Prelude.{◌≡◌, ◌≤◌, ◌+◌, ℕ, length, vec_capacity, IfSome, Option, Some, None}
+use Rattle.std.specs.Prelude.{◌≡◌, ◌≤◌, ◌+◌, ℕ, length, IfSome, Option, Some, None}
 use Rattle.ftl_core.specs.declared.ftl.Ftl.TheInside.{Inside}
 use Rattle.ftl_core.specs.declared.books.Step.{Step}
 use Rattle.ftl_core.specs.declared.books.Step.TheVariants as step
 use Rattle.ufs_spec.specs.Pages.{greatest_number}
 use Rattle.ufs_spec.specs.Pages.{IsTag}
 use Rattle.ftl_core.specs.Core.{Core}
-use Rattle.ftl_core.specs.PinCounts.{ArePinsCounted, without_pins}
+use Rattle.ftl_core.specs.PinCounts.{ArePinsCounted}
+use Rattle.readers.specs.Pins.{without_pins}
 
 -- of the live pages no count of pins is seen: it follows from the pins
 abbrev pub core_of : Inside → Core
@@ -20,7 +21,7 @@ core_of f = record {
   claims = f.cache.claims;
   frontier = f.cache.frontier;
   last = f.cache.last;
-  pins = f.pins.items;
+  pins = f.pins;
   plan = f.plan.plan;
   mending = f.mending;
   lost = f.lost.items;
@@ -50,11 +51,10 @@ pub record IsRoomy (f : Inside) : Type 0 where
   pub first_mark : 1 ≤ f.next_mark
   pub last_mark : f.next_mark ≤ greatest_number + 1
   pub step : IsStep f.step
-  pub pins : length f.pins.items ≤ 1024
-  pub pin_room : 1024 ≤ vec_capacity f.pins
+  pub pins : length f.pins ≤ 1024
   pub units : length f.config.units.items ≤ 8
   pub plan_pages : f.plan.pages ≡ f.config.pages
   -- the pins of each block are counted
   pub live_dies : f.live.sizes.dies ≡ length f.blocks.rows
   pub live_blocks : f.live.sizes.blocks ≡ f.config.blocks
-  pub pinned : ArePinsCounted f.live f.pins.items f.cache.pages
+  pub pinned : ArePinsCounted f.live f.pins f.cache.pages

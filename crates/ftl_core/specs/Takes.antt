@@ -22,7 +22,7 @@ use Rattle.block_table.specs.declared.rows.DieRow.{DieRow}
 use Rattle.block_table.specs.declared.rows.Flight.{Flight}
 use Rattle.block_table.specs.declared.rows.Flight.TheVariants as flight
 use Rattle.write_cache.specs.declared.slots.Pending.{Pending}
-use Rattle.ftl_core.specs.declared.books.Pin.{Pin}
+use Rattle.readers.specs.declared.pin.Pin.{Pin}
 use Rattle.ftl_core.specs.declared.books.Step.{Step}
 use Rattle.ftl_core.specs.declared.books.Step.TheVariants as step
 use Rattle.ftl_core.specs.declared.books.Waiting.{Waiting}
@@ -30,7 +30,8 @@ use Rattle.ftl_core.specs.declared.books.Waiting.TheVariants as waiting
 use Rattle.ftl_core.specs.Core.{Core}
 pub use Rattle.block_table.specs.Rows.{flight_writes, is_step_flight, reads_for, writes_page}
 pub use Rattle.block_table.specs.Rows.{writes_step}
-use Rattle.ftl_core.specs.Moves.{first_page, has_room_for_groups, is_owed_by, looks_on, mark_key, may_be_used, may_open}
+use Rattle.ftl_core.specs.Moves.{first_page, has_room_for_groups, mark_key, may_be_used, may_open}
+use Rattle.readers.specs.Pins.{is_owed_by, looks_on}
 use Rattle.ftl_core.specs.Moves.{rest_look, single_tag, started}
 use Rattle.write_cache.specs.Rests.{content_of}
 use Rattle.write_cache.specs.Slots.{is_named}

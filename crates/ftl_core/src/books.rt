@@ -1,5 +1,5 @@
-//! What the translation layer writes down of readers, of the mending and of its steps.
-use ufs_spec::{Fence, Key, Looked, Place, Tag};
+//! What the translation layer writes down of the mending and of its steps.
+use ufs_spec::{Fence, Key, Place, Tag};
 use unit_map::Stored;
 use write_cache::Part;
 
@@ -10,17 +10,6 @@ pub struct Brought<'a> {
     pub key: Key,
     pub part: Part,
     pub bytes: &'a [u8],
-}
-
-/// What a reader keeps of its block of this index from being erased or given up, and whether its page is
-/// still to be read.
-#[derive(Clone, Copy, Debug, Default, PartialEq, Eq)]
-pub struct Pin {
-    pub reader: u8,
-    pub index: u16,
-    pub key: Key,
-    pub looked: Looked,
-    pub wanted: bool,
 }
 
 /// How far the mending is.

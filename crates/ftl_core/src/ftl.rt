@@ -3,7 +3,7 @@ ghost use Rattle.std.specs.Prelude.{◌≡◌, ℕ, ◌<◌, ◌≤◌, ◌+◌,
 ghost use Rattle.std.specs.List.{list_any};
 ghost use Rattle.ftl_core.specs.Moves.{accepted, first_fence, first_mending, idle_row};
 ghost use Rattle.ftl_core.specs.Moves.{is_over, mark_number_behind, opened, state_of_found};
-ghost use Rattle.ftl_core.specs.Moves.{stored_of_found, slot_of, is_pin_of, is_of_reader, looked_by, looked_on, pin_of, next_wanted, unpinned, look_of, stored_of, free_slots, is_locked, has_number, next_number, without_reader, without_block, wanted_now};
+ghost use Rattle.ftl_core.specs.Moves.{stored_of_found, slot_of, looked_by, looked_on, pin_of, next_wanted, unpinned, look_of, stored_of, free_slots, is_locked, has_number, next_number, without_reader, without_block};
 ghost use Rattle.unit_map.specs.Places.{position_of};
 ghost use Rattle.write_cache.specs.Slots.{is_page_of, last_of, last_page, is_named};
 ghost use Rattle.ftl_core.specs.Moves.{claims_for, claimed_all, released, released_behind, filled};
@@ -36,23 +36,18 @@ mod room;
 mod takes;
 mod turns;
 
-use self::pin_counts::{unpin_block_of, unpin_blocks};
-use crate::books::{Mending, Pin, Step};
+use crate::books::{Mending, Step};
 use block_table::{BlockState, BlockTable, LivePages, Sizes};
 use collector::Plan;
 use geometry::{Config, key_count};
 use page_tag::ZeroSeal;
+use readers::{Pin, Pins};
 use recovery::{Found, FoundBlock, FoundPage};
 use std::alloc::{AllocError, Global};
 use std::marker::Model;
-use ufs_spec::{
-    Block, Fence, GREATEST_COMMAND, GREATEST_NUMBER, Key, Looked, MOST_TASKS, Name, Numbers, Place,
-};
+use ufs_spec::{Block, Fence, GREATEST_NUMBER, Key, Looked, Name, Numbers, Place};
 use unit_map::{Stored, UnitMap, stored_at};
 use write_cache::Cache;
-
-/// How many blocks readers may keep: each task those of a command.
-const MOST_PINS: usize = MOST_TASKS * GREATEST_COMMAND as usize;
 
 /// How a job ended, for whoever waits for it: a read gives its reader the block of this index, or nothing
 /// where it failed or the page is not the one that was looked up.
@@ -85,7 +80,7 @@ pub struct Ftl {
     /// copied before the block is free.
     plan: Plan,
     /// What readers keep, each block of a reader once: at most 1024, with room for all of them.
-    pins: Vec<Pin>,
+    pins: Pins,
     /// How far the mending is.
     mending: Mending,
     /// The keys with a lost page, each once, in order.
@@ -113,80 +108,6 @@ impl Model for Ftl {
     ghost view = { core_of };
 
     ghost invariant = { IsRoomy };
-}
-
-/// Whether the pin is of this block of the reader.
-fn is_pin_of(pin: &Pin, reader: u8, index: u16) -> bool
-    ensures { result ≡ is_pin_of reader index pin.now }
-{
-    pin.reader == reader && pin.index == index
-}
-
-/// Whether the pin is of the reader.
-fn is_of_reader(pin: &Pin, reader: u8) -> bool
-    ensures { result ≡ is_of_reader reader pin.now }
-{
-    pin.reader == reader
-}
-
-/// The reader keeps nothing any more.
-fn drop_pins(pins: &mut Vec<Pin>, reader: u8)
-    ensures left { pins.new.items ≡ filter (λ p. not (is_of_reader reader p)) pins.old.items }
-    ensures room { vec_capacity pins.new ≡ vec_capacity pins.old }
-    ensures fewer { length pins.new.items ≤ length pins.old.items }
-{
-    pins.retain(|pin| !is_of_reader(pin, reader));
-}
-
-/// This block of the reader is kept no more.
-fn drop_pin(pins: &mut Vec<Pin>, reader: u8, index: u16)
-    ensures left { pins.new.items ≡ filter (λ p. not (is_pin_of reader index p)) pins.old.items }
-    ensures room { vec_capacity pins.new ≡ vec_capacity pins.old }
-    ensures fewer { length pins.new.items ≤ length pins.old.items }
-{
-    pins.retain(|pin| !is_pin_of(pin, reader, index));
-}
-
-/// What is kept of a block, once the page of this block of the reader is wanted.
-fn wanted_now(pin: Pin, reader: u8, index: usize) -> Pin
-    ensures { result ≡ wanted_now reader index pin }
-{
-    let mut now = pin;
-    if pin.reader == reader && pin.index as usize == index {
-        now.wanted = true;
-    }
-    now
-}
-
-/// The page of this block of the reader is wanted from now on.
-fn want(pins: &mut [Pin], reader: u8, index: usize)
-    ensures { pins.new ≡ map (wanted_now reader index) pins.old }
-{
-    for pin in pins.iter_mut() {
-        *pin = wanted_now(*pin, reader, index);
-    }
-}
-
-/// The pin of this block of the reader; `None` where there is none.
-fn pin_found(pins: &[Pin], reader: u8, index: u16) -> Option<&Pin>
-    ensures { option_copied result ≡ find (is_pin_of reader index) pins.now }
-{
-    pins.iter().find(|pin| is_pin_of(pin, reader, index))
-}
-
-/// What is kept of this block of the reader; `None` where nothing is.
-fn found_pin(pins: &[Pin], reader: u8, index: u16) -> Option<Pin>
-    ensures { result ≡ find (is_pin_of reader index) pins.now }
-{
-    pin_found(pins, reader, index).copied()
-}
-
-/// What is looked at for this block of the reader; `None` where nothing is kept.
-fn looked_by(pins: &[Pin], reader: u8, index: u16) -> Option<Looked>
-    ensures { result ≡ looked_by reader index pins.now }
-{
-    let pin = found_pin(pins, reader, index)?;
-    Some(pin.looked)
 }
 
 /// What is looked at where the durable content of an address stands, or nowhere.
@@ -374,10 +295,10 @@ impl Ftl {
             blocks: BlockTable::new(alloc, sizes, states)?,
             live: live_at(alloc, sizes, places.as_slice(), keys)?,
             places: UnitMap::new(alloc, config.copied(), places)?,
-            cache: Cache::new(alloc, slots, last)?,
+            cache: Cache::new(alloc, config.copied(), slots, last)?,
             plan: Plan::new(alloc, sizes.pages)?,
             config,
-            pins: Vec::with_capacity(alloc, MOST_PINS)?,
+            pins: Pins::new(alloc)?,
             mending,
             lost: found.lost,
             repaired: 0,
@@ -591,8 +512,7 @@ impl Ftl {
         ensures claims { (claims : Claims) → AreClaimed self.old claims → AreClaimed self.new claims }
     {
         self.forget(reader);
-        unpin_blocks(&mut self.live, self.pins.as_slice(), reader);
-        drop_pins(&mut self.pins, reader);
+        self.pins.drop_all(&mut self.live, reader);
     }
 
     /// No die reads for the reader any more.
@@ -610,9 +530,8 @@ impl Ftl {
         ensures claims { (claims : Claims) → AreClaimed self.old claims → AreClaimed self.new claims }
     {
         self.forget_one(reader, index);
-        unpin_block_of(&mut self.live, self.pins.as_slice(), reader, index);
-        drop_pin(&mut self.pins, reader, index);
-        want(self.pins.as_mut_slice(), reader, index as usize + 1);
+        self.pins.drop_one(&mut self.live, reader, index);
+        self.pins.want(reader, index as usize + 1);
     }
 
     /// No die reads for this block of the reader any more.
@@ -635,14 +554,22 @@ impl Ftl {
         ensures described_there { (t : Translation) → Describes self.now t → PinsRight (book t) t.ledger.frontier
             t.disk.cells t.disk.finished t.disk.erasing t.pins }
     {
-        looked_by(self.pins.as_slice(), reader, index)
+        self.looked_by(reader, index)
+    }
+
+    /// What is looked at for this block of the reader.
+    fn looked_by(&self, reader: u8, index: u16) -> Option<Looked>
+        ensures { result ≡ looked_by reader index self.now.pins }
+    {
+        let pin = self.pins.find(reader, index)?;
+        Some(pin.looked)
     }
 
     /// What is kept of this block of the reader.
     fn pin_of(&self, reader: u8, index: u16) -> Option<Pin>
         ensures { result ≡ pin_of self.now reader index }
     {
-        found_pin(self.pins.as_slice(), reader, index)
+        self.pins.find(reader, index)
     }
 
     /// The block in the slot of the page of this name; `None` where no pending group has it, or its content

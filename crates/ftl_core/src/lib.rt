@@ -6,7 +6,8 @@ mod books;
 mod ftl;
 
 pub use block_table::{BlockState, DieRow, Flight, OpenBlock};
-pub use books::{Brought, Mending, Pin, Step, Waiting};
+pub use books::{Brought, Mending, Step, Waiting};
 pub use ftl::{Ended, Ftl};
+pub use readers::Pin;
 pub use unit_map::Stored;
 pub use write_cache::{Claimed, Part, Pending};

@@ -5,6 +5,7 @@ ghost use Rattle.write_cache.specs.Rests.{IsPart};
 
 use std::test::Fail;
 use ufs_spec::{Key, Name, Place, Tag};
+use workbench::row_config;
 use write_cache::{Cache, NewPage, Part, RestSource};
 
 /// Blocks of a page of the RPMB area as a command brings them, from this one on.
@@ -82,12 +83,27 @@ fn waits(cache: &Cache, number: u64, index: u16) -> bool {
     }
 }
 
+/// Writes over the area page in the slot of the second write, whose rest is there. The number.
+fn write_over_the_slot(cache: &mut Cache) -> Option<u64> {
+    let there = RestSource::Slot(Name {
+        number: 9,
+        index: 0,
+    });
+    write(
+        cache,
+        &[
+            area_page(5, 0, 1, &[0xD1; 256], there),
+            settings_page(&[0x33; 4096]),
+        ],
+    )
+}
+
 /// The first write has two area pages, of which one waits for the read of its page, and the
 /// settings page. The second has another block of the same page, and waits for the same read; it
 /// leaves a slot of its claim. The third comes when the read has ended.
 #[test]
 fn writes_of_one_area_page_stand_one_over_another(rt: HostRuntime) -> Result<(), Fail> {
-    let mut cache = Cache::new(rt.alloc(), 8, 7)?;
+    let mut cache = Cache::new(rt.alloc(), row_config()?, 8, 7)?;
     let name = Name {
         number: 8,
         index: 0,
@@ -132,18 +148,7 @@ fn writes_of_one_area_page_stand_one_over_another(rt: HostRuntime) -> Result<(),
     assert!(rt; has(&cache, 8, 0, 3839, 0xC1) && has(&cache, 8, 0, 3840, 0xA1));
     assert!(rt; has(&cache, 9, 0, 3583, 0xC1) && has(&cache, 9, 0, 3584, 0xB1));
     assert!(rt; has(&cache, 9, 0, 3839, 0xB1) && has(&cache, 9, 0, 3840, 0xA1));
-    let there = RestSource::Slot(Name {
-        number: 9,
-        index: 0,
-    });
-    let third = write(
-        &mut cache,
-        &[
-            area_page(5, 0, 1, &[0xD1; 256], there),
-            settings_page(&[0x33; 4096]),
-        ],
-    );
-    assert!(rt; third == Some(10));
+    assert!(rt; write_over_the_slot(&mut cache) == Some(10));
     assert!(rt; has(&cache, 10, 0, 255, 0xD1) && has(&cache, 10, 0, 256, 0xC1));
     assert!(rt; has(&cache, 10, 0, 3584, 0xB1) && has(&cache, 10, 0, 3840, 0xA1));
     assert!(rt; has(&cache, 9, 0, 0, 0xC1));
@@ -154,7 +159,7 @@ fn writes_of_one_area_page_stand_one_over_another(rt: HostRuntime) -> Result<(),
 /// claim of another task stays.
 #[test]
 fn a_shortened_claim_keeps_its_first_slots(rt: HostRuntime) -> Result<(), Fail> {
-    let mut cache = Cache::new(rt.alloc(), 8, 7)?;
+    let mut cache = Cache::new(rt.alloc(), row_config()?, 8, 7)?;
     assert!(rt; cache.reserve(3, 5) && cache.reserve(4, 2));
     cache.release_behind(3, 2);
     assert!(rt; cache.free_slots() == 4);

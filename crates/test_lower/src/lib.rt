@@ -1,7 +1,7 @@
 //! Each public function of the lower crates once, what the worked rows say of contents, the
-//! comparison of journals, victims and plans, area pages that are written in part, what queries and
-//! units tell, lists of UNMAP, and pages of zeros. Expected bytes come from the device's formats and
-//! from the standards, never from the program's own output.
+//! comparison of journals, victims and plans, area pages that are written in part, the newest pages
+//! of keys, what queries and units tell, lists of UNMAP, and pages of zeros. Expected bytes come
+//! from the device's formats and from the standards, never from the program's own output.
 #![tactic(auto)]
 
 #[cfg(test)]
@@ -14,6 +14,8 @@ mod faulty_die;
 mod frames;
 #[cfg(test)]
 mod journals;
+#[cfg(test)]
+mod last_pages;
 #[cfg(test)]
 mod macs;
 #[cfg(test)]

@@ -8,6 +8,7 @@ use std::alloc::Global;
 use std::test::Fail;
 use ufs_spec::{Key, Name, Place, Tag, UnitSpec};
 use unit_map::{Stored, UnitMap};
+use workbench::row_config;
 use write_cache::Cache;
 
 const SIZES: Sizes = Sizes {
@@ -63,7 +64,7 @@ fn third_block_at(alloc: Global, place: Place, number: u64) -> Result<UnitMap, F
 /// A cache with one pending group, whose number is 8: its only page is of this key, and is written
 /// there.
 fn pending_at(alloc: Global, place: Place, key: Key) -> Result<Cache, Fail> {
-    let mut cache = Cache::new(alloc, 2, 7)?;
+    let mut cache = Cache::new(alloc, row_config()?, 2, 7)?;
     if cache.reserve(0, 1) && cache.has_number() {
         let number = cache.append(0, key);
         cache.mark_written(number, 0, place);

@@ -10,7 +10,7 @@ use Rattle.write_cache.specs.declared.slots.Claimed.{Claimed}
 use Rattle.write_cache.specs.declared.slots.Pending.{Pending}
 use Rattle.write_cache.specs.Rests.{body_brought, claim_brought, claim_with, page_brought, page_moved, page_of}
 use Rattle.write_cache.specs.Slots.{claims_of, empty_claim, is_claim_of, without_claims}
-use Rattle.write_cache.proofs.Claims.{first_next}
+use Rattle.write_cache.proofs.Turns.{first_next}
 
 -- One claim further
 

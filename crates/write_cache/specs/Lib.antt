@@ -1,6 +1,9 @@
 pub mod Kept
 pub mod Slots
 pub mod Rooms
+pub mod Ready
 pub mod Rests
 pub mod Ring
+pub mod Newest
 pub mod Queue
+pub mod ClaimRows

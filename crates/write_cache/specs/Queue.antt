@@ -1,15 +1,18 @@
--- How the fields of the queue of pending pages are seen, and what the ring tells of the pages.
+-- How the fields of the queue of pending pages are seen, and what its ring and its table tell of the pages.
 use Rattle.std.specs.Prelude.{◌≡◌, ◌≤◌, ◌<◌, ◌^◌, length, map}
 use Rattle.std.specs.VecDeque.{deque_capacity}
 use Rattle.write_cache.specs.declared.pages.Pages.TheInside.{Inside}
 use Rattle.write_cache.specs.Kept.{Queue}
+use Rattle.write_cache.specs.Newest.{IsNewest}
+use Rattle.write_cache.specs.Ready.{IsReadyTold}
 use Rattle.write_cache.specs.Ring.{AreRuns, first_number, shown}
 
--- what contracts see of the pages; the ring is not seen
+-- what contracts see of the pages; the ring, the table and the set are not seen
 abbrev pub queue_of : Inside → Queue
 queue_of f = record { room = f.room; items = f.pages.items; newest = f.newest }
 
--- there is room for as many pages as are promised, and for an entry for each; the ring tells of the pages
+-- there is room for as many pages as are promised, and for an entry for each; the ring tells of the pages, the table
+-- where the last page of each key stands, and the set of places which pages can be programmed now
 pub record IsTold (f : Inside) : Type 0 where
   pub fits : length f.pages.items ≤ f.room
   pub few : f.room < 2 ^ 16
@@ -18,3 +21,5 @@ pub record IsTold (f : Inside) : Type 0 where
   pub front : f.front ≡ first_number f.front f.groups.entries.items
   pub runs : AreRuns f.landed f.front f.newest f.groups.entries.items (map shown f.pages.items)
   pub landed : f.landed < 2 ^ 16
+  pub positions : IsNewest f.positions f.landed f.pages.items
+  pub ready : IsReadyTold f.room f.ready f.pages.items

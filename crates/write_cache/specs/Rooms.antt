@@ -1,6 +1,5 @@
 -- How the cache's fields are seen, and the room that they keep.
 use Rattle.std.specs.Prelude.{◌≡◌, ◌≤◌, ◌<◌, ◌+◌, ◌^◌, count_by, length, vec_capacity}
-use Rattle.std.specs.VecDeque.{deque_capacity}
 use Rattle.ufs_spec.specs.Pages.{greatest_number}
 use Rattle.write_cache.specs.declared.cache.Cache.TheInside.{Inside}
 use Rattle.write_cache.specs.Kept.{WriteCache}
@@ -23,7 +22,7 @@ pub record IsRoomy (f : Inside) : Type 0 where
   pub slots : length f.free.items + length f.pages.items + length f.claims.items ≡ f.slots
   pub fits : f.slots < 2 ^ 16
   pub room : f.pages.room ≡ f.slots
-  pub claim_room : f.slots ≤ deque_capacity f.claims
+  pub claim_room : f.claims.room ≡ f.slots
   pub free_room : f.slots ≤ vec_capacity f.free
   pub frontier : f.frontier ≤ f.last
   pub numbers : f.last ≤ greatest_number

@@ -2,25 +2,25 @@
 ghost use Rattle.std.specs.Prelude.{◌≡◌, ℕ, ◌<◌, ◌≤◌, ◌+◌, ◌-◌, ◌^◌, length, IsTrue, vec_capacity, IfOk};
 ghost use Rattle.std.specs.Prelude.{IfSome, IsSome, nat_le, nat_lt, ◌++◌, ◌∷◌, [], if◌then◌else◌, slice_get};
 ghost use Rattle.std.specs.Prelude.{map, filter, not, None, Some, option_copied, option_map, find, List};
-ghost use Rattle.std.specs.Prelude.{take, drop, position, reverse};
+ghost use Rattle.std.specs.Prelude.{take, drop};
 ghost use Rattle.ufs_spec.specs.Pages.{greatest_number};
 ghost use Rattle.write_cache.specs.Kept.{WriteCache};
+ghost use Rattle.write_cache.specs.Ready.{first_ready_from};
 ghost use Rattle.write_cache.specs.Ring.{IsStraight};
 ghost use Rattle.write_cache.specs.Slots.{appended, claim_filled, claimed_all, claims_of};
 ghost use Rattle.write_cache.specs.Slots.{free_slots, front_written, has_number, empty_claim};
-ghost use Rattle.write_cache.specs.Slots.{is_claim_of, is_named, is_of_group, is_page_of, is_there};
+ghost use Rattle.write_cache.specs.Slots.{is_claim_of, is_named, is_of_group, is_there};
 ghost use Rattle.write_cache.specs.Slots.{landed, last_page, page_claimed, page_written, risen, turned};
 ghost use Rattle.write_cache.specs.Slots.{without_claims, without_claims_behind};
 
-mod claims;
 mod groups;
 
-use self::claims::{NewGroup, fill_claims, free_claims, move_claims};
+use crate::claims::{Claims, NewGroup};
 use crate::pages::Pages;
 use crate::probes::Probes;
 use crate::slots::{Claimed, Landed, Pending, WholeGroup};
+use geometry::Config;
 use std::alloc::{AllocError, Global};
-use std::collections::VecDeque;
 use std::marker::Model;
 use ufs_bytes::Body;
 use ufs_spec::{GREATEST_NUMBER, Key, Place};
@@ -36,7 +36,7 @@ pub struct Cache {
     /// The pages of pending groups, in order of number and index.
     pages: Pages,
     /// The slots that are claimed for groups to come, those of a reader in the order of its blocks.
-    claims: VecDeque<Claimed>,
+    claims: Claims,
     /// How many pages wait for their rest.
     waiting: usize,
     /// Every group up to this number is durable or lost. It is at most `last`.
@@ -58,12 +58,13 @@ impl Model for Cache {
 }
 
 impl Cache {
-    /// A cache of so many free slots, over an array in which this is the greatest number.
+    /// A cache of so many free slots for a device of this configuration, over an array in which
+    /// this is the greatest number.
     ///
     /// # Errors
     ///
     /// Only if memory was refused.
-    pub fn new(alloc: Global, slots: u16, last: u64) -> Result<Cache, AllocError>
+    pub fn new(alloc: Global, config: Config, slots: u16, last: u64) -> Result<Cache, AllocError>
         requires { last ≤ greatest_number }
         ensures { IfOk result (λ c. c ≡ record {
           slots = slots;
@@ -73,13 +74,12 @@ impl Cache {
           last = last;
         }) }
     {
-        let room = slots as usize;
         let free = bodies(alloc, slots)?;
         Ok(Cache {
             slots,
             free,
-            pages: Pages::new(alloc, slots)?,
-            claims: VecDeque::with_capacity(alloc, room)?,
+            pages: Pages::new(alloc, config, slots)?,
+            claims: Claims::new(alloc, slots)?,
             waiting: 0,
             frontier: last,
             last,
@@ -132,13 +132,22 @@ impl Cache {
         self.pages.page(at)
     }
 
-    /// The last page of a pending group that is of the address.
+    /// The first position at or behind this one whose page can be programmed now: it is neither
+    /// written nor waits for its rest.
+    pub fn first_ready(&self, from: usize) -> Option<usize>
+        ensures what { result ≡ first_ready_from self.now.pages from }
+        ensures less { IfSome result (λ k. k < length self.now.pages) }
+        ensures small { IfSome result (λ k. k < 2 ^ 16) }
+    {
+        self.pages.first_ready(from)
+    }
+
+    /// The last page of a pending group that is of the address. It looks at one page, unless no
+    /// device of this configuration has the address: then it looks at all.
     pub fn last_page(&self, key: Key) -> Option<&Pending>
         ensures { option_copied result ≡ last_page key self.now.pages }
     {
-        let pages = self.pages.all();
-        let behind = pages_behind(pages, key)?;
-        pages.get(pages.len() - 1 - behind)
+        self.pages.last_page(key)
     }
 
     /// The page with this number and index, if it is pending.
@@ -177,17 +186,16 @@ impl Cache {
     {
         if let Some(mut body) = self.free.pop() {
             body.clear();
-            self.claims
-                .push_back_reserved(Claimed::empty(reader, index, body));
+            self.claims.push(Claimed::empty(reader, index, body));
         }
     }
 
     /// Gives back all slots that the reader has claimed.
-    #[tactic(auto, using(crate::proofs::Claims::all_behind))]
+    #[tactic(auto, using(crate::proofs::Turns::all_behind))]
     pub fn release(&mut self, reader: u8)
         ensures { self.new ≡ record self.old { claims = without_claims self.old.claims reader } }
     {
-        free_claims(&mut self.claims, &mut self.free, reader, 0);
+        self.claims.free_claims(&mut self.free, reader, 0);
     }
 
     /// Gives back the slots that the reader has claimed from this index on, and keeps those of its
@@ -197,7 +205,7 @@ impl Cache {
           claims = without_claims_behind self.old.claims reader count;
         } }
     {
-        free_claims(&mut self.claims, &mut self.free, reader, count);
+        self.claims.free_claims(&mut self.free, reader, count);
     }
 
     /// Puts the 4096 bytes of a block that came into the slot that was claimed for it: that of this index of
@@ -206,7 +214,7 @@ impl Cache {
         requires { length block.now ≡ 4096 }
         ensures { self.new ≡ record self.old { claims = map (claim_filled reader index block.now) self.old.claims } }
     {
-        fill_claims(self.claims.make_contiguous(), reader, index, block);
+        self.claims.fill(reader, index, block);
     }
 
     /// Puts the group of the blocks that came for this reader behind all that are pending, in the place of
@@ -219,7 +227,7 @@ impl Cache {
         let number = self.last + 1;
         let size = self.claimed(reader);
         let group = NewGroup { key, number, size };
-        move_claims(&mut self.claims, &mut self.pages, reader, group);
+        self.claims.move_claims(&mut self.pages, reader, group);
         self.last = number;
         number
     }
@@ -228,10 +236,7 @@ impl Cache {
     fn claimed(&self, reader: u8) -> u16
         ensures { result ≡ length (claims_of self.now.claims reader) }
     {
-        self.claims
-            .iter()
-            .filter(|claim| claim.is_of(reader))
-            .count() as u16
+        self.claims.count(reader) as u16
     }
 
     /// The next number, which a group has that takes no slot.
@@ -329,14 +334,6 @@ impl Cache {
     {
         self.frontier = (self.frontier + 1).min(self.last);
     }
-}
-
-/// How many pages are behind the last one that is of the address.
-fn pages_behind(pages: &VecDeque<Pending>, key: Key) -> Option<usize>
-    ensures what { result ≡ position (is_page_of key) (reverse pages.now.items) }
-    ensures less { IfSome result (λ k. k < length pages.now.items) }
-{
-    pages.iter().rev().position(|page| page.is_of(key))
 }
 
 /// So many free slots.

@@ -2,6 +2,7 @@
 #![tactic(auto)]
 
 mod cache;
+mod claims;
 mod pages;
 mod probes;
 mod rests;

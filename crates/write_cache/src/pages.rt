@@ -6,29 +6,36 @@ ghost use Rattle.std.specs.Prelude.{option_map, position, slice_get, take};
 ghost use Rattle.std.specs.List.{position_from};
 ghost use Rattle.std.specs.VecDeque.{deque_capacity};
 ghost use Rattle.write_cache.specs.Kept.{Queue};
+ghost use Rattle.write_cache.specs.Ready.{first_ready_from};
 ghost use Rattle.write_cache.specs.Rests.{rests_filled};
 ghost use Rattle.write_cache.specs.Ring.{AreStraight, Stands, is_open_at, shown};
-ghost use Rattle.write_cache.specs.Slots.{front_written, is_named, is_of_group, page_written};
-ghost use Rattle.write_cache.specs.Slots.{written_at};
+ghost use Rattle.write_cache.specs.Slots.{front_written, is_named, is_of_group, last_page};
+ghost use Rattle.write_cache.specs.Slots.{page_written, written_at};
 
 mod fill;
+mod newest;
 mod ring;
 
 use self::fill::fill_pages;
+use self::newest::{Newest, last_among, page_if_of};
 use self::ring::{GroupAt, Ring};
 use crate::probes::Probes;
 use crate::slots::{Pending, WholeGroup};
+use geometry::Config;
 use std::alloc::{AllocError, Global};
 use std::collections::VecDeque;
 use std::marker::Model;
-use ufs_spec::{Name, Place};
+use ufs_spec::{Key, Name, Place};
+use word_set::QueueSet;
 
 /// The pages of pending groups, in order of number and index. All memory is taken by `new`.
 ///
 /// The entries of the ring tell of all pages, one group after another: whose they are, how many,
 /// how many of them are not written, at which position they end, and how many of the last have
 /// indexes that rise by one. The numbers rise from entry to entry. There is room for as many
-/// entries as pages.
+/// entries as pages. The table of positions tells of each key where its last page stands, while
+/// one is here. The set of places that are ready has those of all pages that are neither written
+/// nor wait for their rest, and no others; it has room for as many places as pages.
 #[derive(Drop)]
 pub(crate) struct Pages {
     /// How many pages there may be.
@@ -37,12 +44,16 @@ pub(crate) struct Pages {
     pages: VecDeque<Pending>,
     /// What there is to tell of each group that has pages here.
     groups: Ring,
+    /// Where the newest page of each key stands.
+    positions: Newest,
     /// The position of the first page: how many left before it, modulo 2^16.
     landed: u16,
     /// The number of the first group, while there is one.
     front: u64,
     /// The number of the page that was put in last.
     newest: u64,
+    /// The places of the pages that can be programmed now.
+    ready: QueueSet,
 }
 
 impl Model for Pages {
@@ -63,17 +74,20 @@ impl Pages {
     /// # Errors
     ///
     /// Only if memory was refused.
-    pub(crate) fn new(alloc: Global, room: u16) -> Result<Pages, AllocError>
+    pub(crate) fn new(alloc: Global, config: Config, room: u16) -> Result<Pages, AllocError>
         ensures { IfOk result (λ q. q ≡ record { room = room; items = []; newest = 0 }) }
     {
         let pages = VecDeque::with_capacity(alloc, room as usize)?;
+        let ready = QueueSet::new(alloc, room.max(1) as usize)?;
         Ok(Pages {
             room,
             pages,
             groups: Ring::new(alloc, room)?,
+            positions: Newest::new(alloc, config)?,
             landed: 0,
             front: 0,
             newest: 0,
+            ready,
         })
     }
 
@@ -91,6 +105,17 @@ impl Pages {
         self.pages.get(at)
     }
 
+    /// The last page that is of the key. It looks at one page, unless no device of this
+    /// configuration has the key: then it looks at all.
+    pub(crate) fn last_page(&self, key: Key) -> Option<&Pending>
+        ensures { option_copied result ≡ last_page key self.now.items }
+    {
+        match self.positions.place_of(key, self.landed) {
+            Some(at) => page_if_of(&self.pages, at, key),
+            None => last_among(&self.pages, key),
+        }
+    }
+
     /// Puts a page behind all others, of their last group or of a later one.
     pub(crate) fn push(&mut self, page: Pending)
         requires room { length self.old.items < self.old.room }
@@ -104,6 +129,9 @@ impl Pages {
         self.groups.note(self.landed, page.number, page.index);
         self.front = self.groups.first_number(self.front, &mut Probes::none());
         self.newest = page.number;
+        let position = self.landed.wrapping_add(self.pages.len() as u16);
+        self.positions.note_at(page.key, position);
+        self.ready.set(self.pages.len(), page.is_ready());
         self.pages.push_back_reserved(page);
     }
 
@@ -120,6 +148,7 @@ impl Pages {
         self.groups.shorten(page.written.is_none(), probes);
         self.front = self.groups.first_number(self.front, probes);
         self.landed = self.landed.wrapping_add(1);
+        self.ready.pass();
         Some(page)
     }
 
@@ -181,6 +210,7 @@ impl Pages {
         if let Some(at) = found {
             let is_open = write_at(&mut self.pages, at, place, probes);
             self.groups.set(entry.at, entry.group.written(is_open));
+            self.ready.set(at, false);
         }
     }
 
@@ -192,7 +222,18 @@ impl Pages {
           items = rests_filled name block.now self.old.items;
         } }
     {
-        fill_pages(self.pages.make_contiguous(), name, block);
+        let pages = self.pages.make_contiguous();
+        fill_pages(pages, &mut self.ready, name, block);
+    }
+
+    /// The first place at or behind this one whose page can be programmed now: it is neither
+    /// written nor waits for its rest.
+    pub(crate) fn first_ready(&self, from: usize) -> Option<usize>
+        ensures what { result ≡ first_ready_from self.now.items from }
+        ensures less { IfSome result (λ k. k < length self.now.items) }
+        ensures small { IfSome result (λ k. k < 2 ^ 16) }
+    {
+        self.ready.first_from(from)
     }
 }
 

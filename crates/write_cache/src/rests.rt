@@ -1,6 +1,7 @@
 //! Pages of which a command brings only some blocks of 256 bytes, and the rest that they wait for.
 ghost use Rattle.std.specs.Prelude.{◌≡◌, ◌+◌, ◌*◌, Some, find, length, min, option_and_then};
 ghost use Rattle.std.specs.Prelude.{option_copied, if◌then◌else◌};
+ghost use Rattle.write_cache.specs.Ready.{is_ready};
 ghost use Rattle.write_cache.specs.Rests.{IsPart, awaited, awaits, base_in, claim_with, completed};
 ghost use Rattle.write_cache.specs.Rests.{content_of, own_name, page_of, part_of, read_by, rest_by};
 ghost use Rattle.write_cache.specs.Rests.{waits, with_part_of};
@@ -129,6 +130,13 @@ impl Pending {
         ensures { result ≡ waits self.now }
     {
         self.rest.is_some()
+    }
+
+    /// Whether it can be programmed now: it is not written, and it waits for no rest.
+    pub(crate) fn is_ready(&self) -> bool
+        ensures { result ≡ is_ready self.now }
+    {
+        self.written.is_none() && !self.waits()
     }
 
     /// How many rests it waits for: one or none.

@@ -31,7 +31,7 @@ module _ (f : Inside) (r : IsRoomy f) where
   pinned_found s there =
       let u : (nat_lt s.die f.live.sizes.dies ≡ true) × (nat_lt s.block f.live.sizes.blocks ≡ true) =
       and_parts _ _ there in
-      pinned_is f.live f.pins.items f.cache.pages s.die s.block r.pinned (ltb-true s.die f.live.sizes.dies u.0)
+      pinned_is f.live f.pins f.cache.pages s.die s.block r.pinned (ltb-true s.die f.live.sizes.dies u.0)
       (ltb-true s.block f.live.sizes.blocks u.1)
 
   -- so the same blocks may be collected

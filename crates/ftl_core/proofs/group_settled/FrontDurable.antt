@@ -15,7 +15,7 @@ use Rattle.power_loss.proofs.books.FrontierClimbs.{climb}
 use Rattle.ftl_core.specs.Core.{Core}
 use Rattle.ftl_core.specs.Describes.{Kept, PagesKept}
 use Rattle.ftl_core.specs.Ends.{front_written, group_durable, settled}
-use Rattle.ftl_core.specs.Moves.{is_pin_of}
+use Rattle.readers.specs.Pins.{is_pin_of}
 use Rattle.ftl_core.proofs.group_settled.FrontLedger.{BehindKept, GroupsRight, IsNextWhole, goes_on, ledger_next, made}
 use Rattle.ftl_core.proofs.group_settled.FrontLedger.{made_is, next_whole, none_whole}
 use Rattle.ftl_core.proofs.group_settled.FrontPages.{entry_next}

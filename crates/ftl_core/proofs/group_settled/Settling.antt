@@ -8,7 +8,7 @@ use Rattle.power_loss.proofs.books.SmallFacts.{eq_self}
 use Rattle.block_table.specs.Lives.{Lives}
 use Rattle.write_cache.specs.declared.slots.Landed.{Landed}
 use Rattle.write_cache.specs.declared.slots.Pending.{Pending}
-use Rattle.ftl_core.specs.declared.books.Pin.{Pin}
+use Rattle.readers.specs.declared.pin.Pin.{Pin}
 use Rattle.unit_map.specs.declared.Stored.{Stored}
 use Rattle.ftl_core.specs.Core.{Core}
 use Rattle.ftl_core.specs.Ends.{front_written, group_durable, landed_at, page_landed, pages_landed}

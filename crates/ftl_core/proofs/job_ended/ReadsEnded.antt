@@ -19,11 +19,13 @@ use Rattle.ufs_spec.specs.declared.layer.Reader.TheVariants.{ForTask}
 use Rattle.power_loss.proofs.books.PagesByName.{none_some}
 use Rattle.power_loss.proofs.books.SmallFacts.{at_die_cases, two_ways}
 use Rattle.block_table.specs.declared.rows.DieRow.{DieRow}
-use Rattle.ftl_core.specs.declared.books.Pin.{Pin}
+use Rattle.readers.specs.declared.pin.Pin.{Pin}
 use Rattle.ftl_core.specs.Core.{Core}
 use Rattle.ftl_core.specs.Describes.{Describes, IsWanted, Kept, ReadsKept}
-use Rattle.ftl_core.specs.Gives.{is_read, wanted_no_more}
-use Rattle.ftl_core.specs.Moves.{is_pin_of, with_row}
+use Rattle.ftl_core.specs.Gives.{is_read}
+use Rattle.readers.specs.Pins.{wanted_no_more}
+use Rattle.ftl_core.specs.Moves.{with_row}
+use Rattle.readers.specs.Pins.{is_pin_of}
 use Rattle.ftl_core.proofs.job_taken.Flown.{dies_put, fly_over, reads_over, step_reads_over}
 use Rattle.ftl_core.proofs.pins.FoundPins.{found_mapped, found_passes, pin_told}
 use Rattle.ftl_core.proofs.pins.PinsAlike.{pins_mapped}

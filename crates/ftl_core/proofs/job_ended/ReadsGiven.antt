@@ -25,7 +25,7 @@ use Rattle.power_loss.specs.Book.{IsPageAt, book}
 use Rattle.power_loss.specs.Invariant.{IsGroupPage, LookedRight, Valid}
 use Rattle.power_loss.proofs.books.PagesByName.{page_one}
 use Rattle.power_loss.proofs.books.SmallFacts.{and_true, eq_self, eq_told}
-use Rattle.ftl_core.specs.declared.books.Pin.{Pin}
+use Rattle.readers.specs.declared.pin.Pin.{Pin}
 use Rattle.ftl_core.specs.declared.ftl.Ended.{Ended}
 use Rattle.ftl_core.specs.declared.ftl.Ended.TheVariants as ended
 use Rattle.ftl_core.specs.Core.{Core}
@@ -34,7 +34,7 @@ use Rattle.ftl_core.specs.Gives.{Gives, GivesIf, IsBodyLooked, IsBodyOf, IsGiven
 use Rattle.ftl_core.proofs.pins.PinsAlike.{pins_at}
 use Rattle.ftl_core.proofs.job_ended.ReadsEnded.{read_ends}
 use Rattle.ftl_core.proofs.pins.FoundPins.{found_there}
-use Rattle.ftl_core.specs.Moves.{is_pin_of}
+use Rattle.readers.specs.Pins.{is_pin_of}
 
 -- What is given
 

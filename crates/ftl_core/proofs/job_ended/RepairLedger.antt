@@ -17,7 +17,7 @@ use Rattle.power_loss.proofs.books.LastOfEachKey.{key_told}
 use Rattle.geometry.specs.Keys.{key_total}
 use Rattle.power_loss.proofs.books.PagesByName.{none_some, page_new, some_is}
 use Rattle.power_loss.proofs.books.SmallFacts.{if_true, two_ways}
-use Rattle.ftl_core.specs.declared.books.Pin.{Pin}
+use Rattle.readers.specs.declared.pin.Pin.{Pin}
 use Rattle.unit_map.specs.declared.Stored.{Stored}
 use Rattle.ftl_core.specs.Core.{Core}
 use Rattle.ftl_core.specs.Describes.{AreToRepair, LedgerKept, PinsKept, Standing, name_at, names_pending}

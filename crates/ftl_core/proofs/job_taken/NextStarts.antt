@@ -31,11 +31,12 @@ use Rattle.ftl_core.specs.Core.{Core}
 use Rattle.ftl_core.specs.Describes.{BlocksKept, CopiesKnown, Describes, IsFilling, IsFlight, IsTaken, Kept, PagesFly}
 use Rattle.ftl_core.specs.Describes.{IsWanted, ReadsKept, Standing, StepReadsKept, WritesGroup, given, spot_at}
 use Rattle.ftl_core.specs.KnownLive.{KnowsLive}
-use Rattle.ftl_core.specs.declared.books.Pin.{Pin}
+use Rattle.readers.specs.declared.pin.Pin.{Pin}
 use Rattle.ftl_core.specs.declared.books.Step.{Step}
 use Rattle.ftl_core.specs.declared.books.Waiting.{Waiting}
 use Rattle.ftl_core.specs.declared.books.Waiting.TheVariants as waiting
-use Rattle.ftl_core.specs.Moves.{begins, first_page, is_pin_of, started, started_with}
+use Rattle.ftl_core.specs.Moves.{begins, first_page, started, started_with}
+use Rattle.readers.specs.Pins.{is_pin_of}
 use Rattle.ftl_core.specs.Takes.{begun_if_any, core_taken, flight_taken, job_of, job_taken, next_place, page_flight}
 use Rattle.ftl_core.specs.Takes.{step_wants}
 use Rattle.ftl_core.proofs.job_ended.ChangeParts.{blocks_put, elsewhere, same_put, states_with}

@@ -16,11 +16,12 @@ use Rattle.ufs_spec.specs.Translation.{wants_on}
 use Rattle.ufs_spec.specs.declared.flash.Place.{Place}
 use Rattle.power_loss.proofs.books.PagesByName.{none_some, some_is}
 use Rattle.power_loss.proofs.books.SmallFacts.{and_true, if_false, if_true, two_ways}
-use Rattle.ftl_core.specs.declared.books.Pin.{Pin}
+use Rattle.readers.specs.declared.pin.Pin.{Pin}
 use Rattle.ftl_core.specs.Core.{Core}
 use Rattle.ftl_core.specs.Describes.{Describes, Kept, PinKept, PinsKept}
 use Rattle.ftl_core.specs.Describes.{StepKept}
-use Rattle.ftl_core.specs.Moves.{is_owed_by, look_of_source, looks_on, reads_for, rest_look}
+use Rattle.ftl_core.specs.Moves.{look_of_source, reads_for, rest_look}
+use Rattle.readers.specs.Pins.{is_owed_by, looks_on}
 use Rattle.ftl_core.specs.Rests.{own_name}
 use Rattle.ftl_core.specs.RestsKept.{rest_kept, rest_of_name, source_kept}
 use Rattle.ftl_core.proofs.rests_owed.RestsNamed.{all_rests}

@@ -14,10 +14,11 @@ use Rattle.ufs_spec.specs.declared.flash.Place.{Place}
 use Rattle.power_loss.proofs.books.PagesByName.{none_some, some_is}
 use Rattle.power_loss.proofs.books.SmallFacts.{and_true, eq_self, eq_told}
 use Rattle.std.proofs.lemmas.Bool.Decides.{nat_tests}
-use Rattle.ftl_core.specs.declared.books.Pin.{Pin}
+use Rattle.readers.specs.declared.pin.Pin.{Pin}
 use Rattle.ftl_core.specs.Core.{Core}
 use Rattle.ftl_core.specs.Describes.{Describes, IsTaken, IsWanted, Kept, PinKept, ReadersDiffer}
-use Rattle.ftl_core.specs.Moves.{is_owed_by, is_pin_of, looks_on, reads_for, rest_look}
+use Rattle.ftl_core.specs.Moves.{reads_for, rest_look}
+use Rattle.readers.specs.Pins.{is_owed_by, is_pin_of, looks_on}
 use Rattle.write_cache.specs.declared.slots.Pending.{Pending}
 use Rattle.power_loss.proofs.ordered_lists.ElementsAndOrders.{IsIn, found_in, has_at}
 use Rattle.ftl_core.proofs.job_taken.Flown.{die_within, no_job}

@@ -29,7 +29,8 @@ use Rattle.ftl_core.specs.declared.books.Waiting.{Waiting}
 use Rattle.ftl_core.specs.declared.books.Waiting.TheVariants as waiting
 use Rattle.ftl_core.specs.Core.{Core}
 use Rattle.ftl_core.specs.Describes.{Describes, IsFlight, IsTaken, PageKept, names_pending, spot_at}
-use Rattle.ftl_core.specs.Moves.{first_page, has_room_for_groups, is_owed_by, may_open, tag_of_page}
+use Rattle.ftl_core.specs.Moves.{first_page, has_room_for_groups, may_open, tag_of_page}
+use Rattle.readers.specs.Pins.{is_owed_by}
 use Rattle.ftl_core.specs.Takes as takes
 use Rattle.ftl_core.specs.Takes.{core_taken, erase_of, first_owed, flight_into, flight_taken, group_job_of, idle_flight}
 use Rattle.ftl_core.specs.Takes.{is_group_page, job_of, job_taken, lowest, next_place, owed_flight, owed_read}

@@ -71,7 +71,7 @@ used_there f room die block s die_there block_there =
     is_so (unwrap_or (slice_get f.blocks.states (die * n + block)) state.Bad) s && not (is_pinned f.live (spot die block)))
     room.blocks
     ∙ ap (λ (b : Bool). is_so (state_of (core_of f) die block) s && not b)
-    (pinned_is f.live f.pins.items f.cache.pages die block room.pinned in_dies in_blocks)
+    (pinned_is f.live f.pins f.cache.pages die block room.pinned in_dies in_blocks)
 
 -- the block that the table finds is the lowest of the die that may be used
 pub found_lowest : (f : Inside) → IsRoomy f → (die : ℕ) (s : BlockState) → die < length f.blocks.rows →

@@ -15,7 +15,7 @@ use Rattle.ftl_core.specs.declared.books.Brought.{Brought}
 use Rattle.ftl_core.specs.declared.ftl.Ftl.TheInside.{Inside}
 use Rattle.ftl_core.specs.Core.{Core}
 use Rattle.ftl_core.specs.Moves.{claims_for, next_number, released}
-use Rattle.ftl_core.specs.PinCounts.{without_pins}
+use Rattle.readers.specs.Pins.{without_pins}
 use Rattle.ftl_core.specs.Rests.{IsPartBrought, accepted_pages, new_page}
 use Rattle.ftl_core.specs.Rooms.{core_of}
 use Rattle.ftl_core.proofs.live_pages.PinsCounted.{passed_few}

@@ -1,6 +1,6 @@
 -- The layer's fields go on to be right after what changes pins.
 use Rattle.std.proofs.Common.{◌≡◌, ◌∙◌, ◌<◌, ◌≤◌, ◌++◌, Bool, not, List, [], ◌∷◌, Option, ap, arith, length}
-use Rattle.std.proofs.Common.{length-append, map, replicate, subst, sym, Global, Vec, vec_capacity}
+use Rattle.std.proofs.Common.{length-append, map, replicate, subst, sym}
 use Rattle.std.specs.Prelude.{filter, fold}
 use Rattle.std.proofs.lemmas.List.{length-map, length-replicate}
 use Rattle.block_table.specs.Lives.{Lives}
@@ -9,14 +9,17 @@ use Rattle.unit_map.specs.declared.Stored.{Stored}
 use Rattle.block_table.specs.declared.rows.DieRow.{DieRow}
 use Rattle.block_table.specs.Rows.{idle_row}
 use Rattle.write_cache.specs.declared.slots.Pending.{Pending}
-use Rattle.ftl_core.specs.declared.books.Pin.{Pin}
+use Rattle.readers.specs.declared.pin.Pin.{Pin}
 use Rattle.ftl_core.specs.declared.ftl.Ftl.TheInside.{Inside}
 use Rattle.ftl_core.specs.KnownLive.{none_live, with_stored}
-use Rattle.ftl_core.specs.Moves.{moved_pin}
-use Rattle.ftl_core.specs.PinCounts.{ArePinsCounted, block_pinned, let_go, pin_moves, without_pins}
+use Rattle.readers.specs.Pins.{moved_pin}
+use Rattle.ftl_core.specs.PinCounts.{ArePinsCounted}
+use Rattle.readers.specs.Pins.{block_pinned, let_go, pin_moves, without_pins}
 use Rattle.ftl_core.specs.Rooms.{IsRoomy}
-use Rattle.ftl_core.proofs.live_pages.PinsCounted.{gone_bare, gone_counted, looked_counted, moved_counted, moves_bare}
-use Rattle.ftl_core.proofs.live_pages.PinsCounted.{none_counted, pinned_bare, pinned_counted, stored_counted}
+use Rattle.ftl_core.proofs.live_pages.PinsCounted.{gone_counted, looked_counted, moved_counted}
+use Rattle.readers.proofs.BarePins.{gone_bare, moves_bare}
+use Rattle.ftl_core.proofs.live_pages.PinsCounted.{none_counted, passed_few, pinned_counted, stored_counted}
+use Rattle.readers.proofs.BarePins.{pinned_bare}
 use Rattle.ftl_core.proofs.live_pages.PinsCounted.{stored_sizes}
 
 pub counted_as : (l m : Lives) (ps qs : List Pin) (pages : List Pending) → l ≡ m → ps ≡ qs →
@@ -26,10 +29,9 @@ counted_as l m ps qs pages e g h =
     (subst (λ (z : List Pin). ArePinsCounted m z pages) (sym g) h)
 
 -- other pins, and as many as there are now of each block
-roomy_on : (f : Inside) (l : Lives) (ps : Vec Pin Global) → IsRoomy f → without_pins l ≡ without_pins f.live →
-    length ps.items ≤ 1024 → 1024 ≤ vec_capacity ps → ArePinsCounted l ps.items f.cache.pages →
-    IsRoomy (record f { live = l; pins = ps })
-roomy_on f l ps h same few room counted = record {
+roomy_on : (f : Inside) (l : Lives) (ps : List Pin) → IsRoomy f → without_pins l ≡ without_pins f.live →
+    length ps ≤ 1024 → ArePinsCounted l ps f.cache.pages → IsRoomy (record f { live = l; pins = ps })
+roomy_on f l ps h same few counted = record {
   blocks = h.blocks;
   block_pages = h.block_pages;
   keys = h.keys;
@@ -38,7 +40,6 @@ roomy_on f l ps h same few room counted = record {
   last_mark = h.last_mark;
   step = h.step;
   pins = few;
-  pin_room = room;
   units = h.units;
   plan_pages = h.plan_pages;
   live_dies = ap (λ (m : Lives). m.sizes.dies) same ∙ h.live_dies;
@@ -47,54 +48,47 @@ roomy_on f l ps h same few room counted = record {
 }
 
 -- a pin more
-pub roomy_pinned : (f : Inside) (l : Lives) (ps : Vec Pin Global) (p : Pin) → IsRoomy f →
-    l ≡ block_pinned f.live p.looked → ps.items ≡ f.pins.items ++ p ∷ [] → length f.pins.items < 1024 →
-    length f.cache.pages ≤ 1024 → 1024 ≤ vec_capacity ps → IsRoomy (record f { live = l; pins = ps })
-roomy_pinned f l ps p h is items few few_pages room =
+pub roomy_pinned : (f : Inside) (l : Lives) (ps : List Pin) (p : Pin) → IsRoomy f →
+    l ≡ block_pinned f.live p.looked → ps ≡ f.pins ++ p ∷ [] → length f.pins < 1024 →
+    length f.cache.pages ≤ 1024 → IsRoomy (record f { live = l; pins = ps })
+roomy_pinned f l ps p h is items few few_pages =
     roomy_on f l ps h (ap without_pins is ∙ pinned_bare f.live p.looked)
     (let e = ap (λ (xs : List Pin). length xs) items in
-    let g = length-append f.pins.items (p ∷ []) in omega (arith, e, g, few))
-    room
-    (counted_as l (block_pinned f.live p.looked) ps.items (f.pins.items ++ p ∷ []) f.cache.pages is items
-    (pinned_counted f.live f.pins.items f.cache.pages p h.pinned h.pins few_pages))
+    let g = length-append f.pins (p ∷ []) in omega (arith, e, g, few))
+    (counted_as l (block_pinned f.live p.looked) ps (f.pins ++ p ∷ []) f.cache.pages is items
+    (pinned_counted f.live f.pins f.cache.pages p h.pinned h.pins few_pages))
 
 -- pins that go
-pub roomy_left : (goes : Pin → Bool) (f : Inside) (l : Lives) (ps : Vec Pin Global) (seen : List Pin) → IsRoomy f →
-    seen ≡ f.pins.items → l ≡ fold (let_go goes) f.live seen →
-    ps.items ≡ filter (λ p. not (goes p)) f.pins.items → length ps.items ≤ length f.pins.items →
-    vec_capacity ps ≡ vec_capacity f.pins → IsRoomy (record f { live = l; pins = ps })
-roomy_left goes f l ps seen h read is items fewer room =
-    roomy_on f l ps h (ap without_pins is ∙ gone_bare goes seen f.live)
-    (let g = h.pins in omega (arith, fewer, g)) (let g = h.pin_room in omega (arith, g, room))
-    (counted_as l (fold (let_go goes) f.live f.pins.items) ps.items (filter (λ p. not (goes p)) f.pins.items)
-    f.cache.pages (is ∙ ap (λ (xs : List Pin). fold (let_go goes) f.live xs) read) items
-    (gone_counted goes f.pins.items f.cache.pages f.live h.pinned))
+pub roomy_left : (goes : Pin → Bool) (f : Inside) (l : Lives) (ps : List Pin) → IsRoomy f →
+    l ≡ fold (let_go goes) f.live f.pins → ps ≡ filter (λ p. not (goes p)) f.pins →
+    IsRoomy (record f { live = l; pins = ps })
+roomy_left goes f l ps h is items =
+    roomy_on f l ps h (ap without_pins is ∙ gone_bare goes f.pins f.live)
+    (let e = ap (λ (xs : List Pin). length xs) items in
+    let g = passed_few (λ p. not (goes p)) f.pins in let k = h.pins in omega (arith, e, g, k))
+    (counted_as l (fold (let_go goes) f.live f.pins) ps (filter (λ p. not (goes p)) f.pins) f.cache.pages is items
+    (gone_counted goes f.pins f.cache.pages f.live h.pinned))
 
 -- pins that keep a page in the place of its slot
-pub roomy_moved : (st : Stored) (f : Inside) (l : Lives) (ps : Vec Pin Global) (seen : List Pin) →
-    IsRoomy f → seen ≡ f.pins.items → l ≡ fold (pin_moves st) f.live seen →
-    ps.items ≡ map (moved_pin st) f.pins.items → vec_capacity ps ≡ vec_capacity f.pins →
-    length f.cache.pages ≤ 1024 → IsRoomy (record f { live = l; pins = ps })
-roomy_moved st f l ps seen h read is items room few_pages =
-    roomy_on f l ps h (ap without_pins is ∙ moves_bare st seen f.live)
+pub roomy_moved : (st : Stored) (f : Inside) (l : Lives) (ps : List Pin) → IsRoomy f →
+    l ≡ fold (pin_moves st) f.live f.pins → ps ≡ map (moved_pin st) f.pins → length f.cache.pages ≤ 1024 →
+    IsRoomy (record f { live = l; pins = ps })
+roomy_moved st f l ps h is items few_pages =
+    roomy_on f l ps h (ap without_pins is ∙ moves_bare st f.pins f.live)
     (let e = ap (λ (xs : List Pin). length xs) items in
-    let g = length-map f.pins.items (moved_pin st) in let k = h.pins in omega (arith, e, g, k))
-    (let g = h.pin_room in omega (arith, g, room))
-    (counted_as l (fold (pin_moves st) f.live f.pins.items) ps.items (map (moved_pin st) f.pins.items)
-    f.cache.pages (is ∙ ap (λ (xs : List Pin). fold (pin_moves st) f.live xs) read) items
-    (moved_counted st f.pins.items f.cache.pages f.live h.pinned h.pins few_pages))
+    let g = length-map f.pins (moved_pin st) in let k = h.pins in omega (arith, e, g, k))
+    (counted_as l (fold (pin_moves st) f.live f.pins) ps (map (moved_pin st) f.pins) f.cache.pages is items
+    (moved_counted st f.pins f.cache.pages f.live h.pinned h.pins few_pages))
 
 -- pins that look at the same
-pub roomy_looked : (g : Pin → Pin) (f : Inside) (ps : Vec Pin Global) → IsRoomy f →
-    ((p : Pin) → (g p).looked ≡ p.looked) → ps.items ≡ map g f.pins.items → vec_capacity ps ≡ vec_capacity f.pins →
-    IsRoomy (record f { pins = ps })
-roomy_looked g f ps h same items room =
+pub roomy_looked : (g : Pin → Pin) (f : Inside) (ps : List Pin) → IsRoomy f →
+    ((p : Pin) → (g p).looked ≡ p.looked) → ps ≡ map g f.pins → IsRoomy (record f { pins = ps })
+roomy_looked g f ps h same items =
     roomy_on f f.live ps h (λ i. without_pins f.live)
     (let e = ap (λ (xs : List Pin). length xs) items in
-    let m = length-map f.pins.items g in let k = h.pins in omega (arith, e, m, k))
-    (let m = h.pin_room in omega (arith, m, room))
+    let m = length-map f.pins g in let k = h.pins in omega (arith, e, m, k))
     (subst (λ (z : List Pin). ArePinsCounted f.live z f.cache.pages) (sym items)
-    (looked_counted g same f.live f.pins.items f.cache.pages h.pinned))
+    (looked_counted g same f.live f.pins f.cache.pages h.pinned))
 
 -- at first there are none
 pub first_counted : (n : Sizes) (l : Lives) (places : List (Option Stored)) (ps : List Pin) →

@@ -20,12 +20,15 @@ use Rattle.block_table.specs.Lives.{Lives, block_place, has_block, pins_of, with
 use Rattle.block_table.specs.declared.Sizes.{Sizes}
 use Rattle.block_table.proofs.LiveCounts.{one, one_spot, spot_inside}
 use Rattle.unit_map.specs.declared.Stored.{Stored}
-use Rattle.ftl_core.specs.declared.books.Pin.{Pin}
+use Rattle.readers.specs.declared.pin.Pin.{Pin}
 use Rattle.write_cache.specs.declared.slots.Pending.{Pending}
 use Rattle.ftl_core.specs.KnownLive.{none_live, with_stored}
-use Rattle.ftl_core.specs.Moves.{keeps, keeps_page, moved_pin, now_stored, reads_block}
-use Rattle.ftl_core.specs.PinCounts.{ArePinsCounted, block_pinned, block_unpinned, is_slot_of, let_go, pin_moves}
-use Rattle.ftl_core.specs.PinCounts.{pins_on, rests_on, without_pins}
+use Rattle.ftl_core.specs.Moves.{keeps, keeps_page, reads_block}
+use Rattle.readers.specs.Pins.{moved_pin, now_stored}
+use Rattle.ftl_core.specs.PinCounts.{ArePinsCounted}
+use Rattle.readers.specs.Pins.{block_pinned, block_unpinned, is_slot_of, let_go, pin_moves}
+use Rattle.ftl_core.specs.PinCounts.{pins_on, rests_on}
+use Rattle.readers.specs.Pins.{without_pins}
 
 -- Counts of blocks
 
@@ -283,38 +286,6 @@ pinned_is l ps pages die block kept in_dies in_blocks =
   where
     at : Spot
     at = record { die = die; block = block }
-
--- Which pages are live, without the pins of blocks
-
-pub pinned_bare : (l : Lives) (k : Looked) → without_pins (block_pinned l k) ≡ without_pins l
-pinned_bare l (OnPage name p) = refl
-pinned_bare l (InSlot name) = refl
-pinned_bare l Unwritten = refl
-
-pub unpinned_bare : (l : Lives) (k : Looked) → without_pins (block_unpinned l k) ≡ without_pins l
-unpinned_bare l (OnPage name p) = refl
-unpinned_bare l (InSlot name) = refl
-unpinned_bare l Unwritten = refl
-
-pub gone_bare : (goes : Pin → Bool) (ps : List Pin) (l : Lives) →
-    without_pins (fold (let_go goes) l ps) ≡ without_pins l
-gone_bare goes [] l = refl
-gone_bare goes (p ∷ ps) l = gone_bare goes ps (let_go goes l p) ∙ by (goes p)
-  where
-    by : (b : Bool) → without_pins (if b then block_unpinned l p.looked else l) ≡ without_pins l
-    by true = unpinned_bare l p.looked
-    by false = refl
-
-pub moves_bare : (st : Stored) (ps : List Pin) (l : Lives) →
-    without_pins (fold (pin_moves st) l ps) ≡ without_pins l
-moves_bare st [] l = refl
-moves_bare st (p ∷ ps) l = moves_bare st ps (pin_moves st l p) ∙ by (is_slot_of st p.looked)
-  where
-    by : (b : Bool) → without_pins (if b then block_pinned l (OnPage st.name st.place) else l) ≡ without_pins l
-    by true = refl
-    by false = refl
-
--- Which pages are live changes no pins
 
 -- At first no block has a pin
 

@@ -20,12 +20,14 @@ use Rattle.write_cache.specs.declared.slots.Pending.{Pending}
 use Rattle.write_cache.specs.Rests.{awaited_by, awaits, comes_by, completed, completed_by, own_name, read_by}
 use Rattle.write_cache.specs.Rests.{rests_filled}
 use Rattle.write_cache.specs.Slots.{page_claimed, page_written, written_at, written_if}
-use Rattle.ftl_core.specs.declared.books.Pin.{Pin}
+use Rattle.readers.specs.declared.pin.Pin.{Pin}
 use Rattle.ftl_core.specs.Pinned.{keeps_page, look_of_source, reads_block, rest_look}
-use Rattle.ftl_core.specs.PinCounts.{ArePinsCounted, block_unpinned, pins_on, rests_on, without_pins}
+use Rattle.ftl_core.specs.PinCounts.{ArePinsCounted, pins_on, rests_on}
+use Rattle.readers.specs.Pins.{block_unpinned, without_pins}
 use Rattle.ftl_core.specs.Rests.{first_unpinned, rest_pinned, rest_unpinned}
 use Rattle.ftl_core.proofs.live_pages.PinsCounted.{HasCounts, bit, block_counted, block_uncounted, counts_as, on_block}
-use Rattle.ftl_core.proofs.live_pages.PinsCounted.{one_more, passed_few, pinned_bare, pins_few, unpinned_bare}
+use Rattle.ftl_core.proofs.live_pages.PinsCounted.{one_more, passed_few, pins_few}
+use Rattle.readers.proofs.BarePins.{pinned_bare, unpinned_bare}
 
 -- Rests of a list
 

@@ -23,10 +23,11 @@ use Rattle.power_loss.proofs.open_tasks.FoundInLists.{found_more}
 use Rattle.power_loss.proofs.ordered_lists.ElementsAndOrders.{mapped_at}
 use Rattle.ftl_core.specs.RestsKept.{waiting}
 use Rattle.ftl_core.proofs.rests_owed.RestsStay.{same_rests}
-use Rattle.ftl_core.specs.declared.books.Pin.{Pin}
+use Rattle.readers.specs.declared.pin.Pin.{Pin}
 use Rattle.ftl_core.specs.Core.{Core}
 use Rattle.ftl_core.specs.Describes.{Describes, IsLookOf, PinKept, PinsKept}
-use Rattle.ftl_core.specs.Moves.{claims_for, is_of_reader, is_pin_of, kept_all, look_of, pin_now}
+use Rattle.ftl_core.specs.Moves.{claims_for, kept_all, look_of, pin_now}
+use Rattle.readers.specs.Pins.{is_of_reader, is_pin_of}
 use Rattle.write_cache.specs.Slots.{key_at}
 use Rattle.ftl_core.specs.Public.{AreClaimed, Claims}
 use Rattle.ftl_core.specs.Tells.{PinsDiffer, keep_at, keeps_for, key_behind}

@@ -19,7 +19,7 @@ use Rattle.power_loss.specs.Book.{book}
 use Rattle.power_loss.proofs.books.PagesByName.{page_grows}
 use Rattle.ftl_core.specs.declared.books.Mending.{Mending}
 use Rattle.write_cache.specs.declared.slots.Pending.{Pending}
-use Rattle.ftl_core.specs.declared.books.Pin.{Pin}
+use Rattle.readers.specs.declared.pin.Pin.{Pin}
 use Rattle.ftl_core.specs.declared.books.Step.{Step}
 use Rattle.ftl_core.specs.declared.books.Step.TheVariants as steps
 use Rattle.ftl_core.specs.Core.{Core}

@@ -17,12 +17,12 @@ use Rattle.unit_map.specs.declared.Stored.{Stored}
 use Rattle.write_cache.specs.Kept.{WriteCache}
 use Rattle.block_table.specs.declared.rows.DieRow.{DieRow}
 use Rattle.ftl_core.specs.declared.books.Mending.{Mending}
-use Rattle.ftl_core.specs.declared.books.Pin.{Pin}
+use Rattle.readers.specs.declared.pin.Pin.{Pin}
 use Rattle.ftl_core.specs.Core.{Core}
 use Rattle.ftl_core.specs.KnownLive.{lives_of_places, none_live, sizes_of}
 use Rattle.ftl_core.specs.Moves.{first_mending, mark_number_behind, opened, state_of_found}
 use Rattle.ftl_core.specs.Moves.{idle_row, stored_of_found}
-use Rattle.ftl_core.specs.PinCounts.{without_pins}
+use Rattle.readers.specs.Pins.{without_pins}
 use Rattle.ftl_core.proofs.live_pages.PinsCounted.{stored_bare}
 
 -- the parts together

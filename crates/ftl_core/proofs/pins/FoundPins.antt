@@ -10,9 +10,9 @@ use Rattle.ufs_spec.specs.Ledger.{Entry}
 use Rattle.ufs_spec.specs.Moves as move
 use Rattle.ufs_spec.specs.Translation as layer
 use Rattle.ufs_spec.specs.declared.layer.Name.{Name}
-use Rattle.ftl_core.specs.declared.books.Pin.{Pin}
+use Rattle.readers.specs.declared.pin.Pin.{Pin}
 use Rattle.ftl_core.specs.Describes.{PinKept, PinsKept}
-use Rattle.ftl_core.specs.Moves.{is_pin_of}
+use Rattle.readers.specs.Pins.{is_pin_of}
 
 -- Lists
 

@@ -16,7 +16,7 @@ use Rattle.ftl_core.specs.Core.{Core}
 use Rattle.ftl_core.specs.Describes.{Describes}
 use Rattle.ftl_core.specs.Moves.{has_pin}
 use Rattle.ftl_core.proofs.rests_owed.RestsNamed.{rests_read}
-use Rattle.ftl_core.specs.declared.books.Pin.{Pin}
+use Rattle.readers.specs.declared.pin.Pin.{Pin}
 use Rattle.ftl_core.specs.Describes.{PinKept, PinsKept}
 use Rattle.ftl_core.specs.Moves.{keeps, keeps_page}
 

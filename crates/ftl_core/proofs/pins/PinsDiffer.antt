@@ -9,9 +9,9 @@ use Rattle.ufs_spec.specs.Moves as move
 use Rattle.ufs_spec.specs.Translation as layer
 use Rattle.ufs_spec.specs.declared.layer.Name.{Name}
 use Rattle.power_loss.proofs.open_tasks.TaggedLists.{any_fewer, any_map, other_way}
-use Rattle.ftl_core.specs.declared.books.Pin.{Pin}
+use Rattle.readers.specs.declared.pin.Pin.{Pin}
 use Rattle.ftl_core.specs.Describes.{PinsKept, ReadersDiffer}
-use Rattle.ftl_core.specs.Moves.{is_pin_of}
+use Rattle.readers.specs.Pins.{is_pin_of}
 use Rattle.ftl_core.specs.Tells.{PinsDiffer}
 use Rattle.ftl_core.proofs.pins.FoundPins.{same_test}
 

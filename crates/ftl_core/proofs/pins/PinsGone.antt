@@ -22,11 +22,12 @@ use Rattle.block_table.specs.declared.rows.DieRow.{DieRow}
 use Rattle.block_table.specs.declared.rows.Flight.{Flight}
 use Rattle.block_table.specs.declared.rows.Flight.TheVariants as flight
 use Rattle.block_table.specs.declared.rows.OpenBlock.{OpenBlock}
-use Rattle.ftl_core.specs.declared.books.Pin.{Pin}
+use Rattle.readers.specs.declared.pin.Pin.{Pin}
 use Rattle.ftl_core.specs.declared.books.Step.{Step}
 use Rattle.ftl_core.specs.Core.{Core}
 use Rattle.ftl_core.specs.Describes.{RowKept, IsFlight, Kept, PinsKept, WritesGroup}
-use Rattle.ftl_core.specs.Moves.{flight_without, flight_without_block, is_of_reader, is_pin_of, without_block}
+use Rattle.ftl_core.specs.Moves.{flight_without, flight_without_block, without_block}
+use Rattle.readers.specs.Pins.{is_of_reader, is_pin_of}
 use Rattle.ftl_core.specs.Moves.{without_reader}
 use Rattle.ftl_core.proofs.pins.FoundPins.{found_kept, pin_told}
 use Rattle.ftl_core.proofs.pins.PinsDiffer.{differ_kept}

@@ -16,11 +16,11 @@ use Rattle.ufs_spec.specs.declared.layer.Looked.TheVariants.{InSlot, OnPage, Unw
 use Rattle.ufs_spec.specs.declared.layer.Name.{Name}
 use Rattle.power_loss.proofs.books.SmallFacts.{if_false, if_true, name_self}
 use Rattle.write_cache.specs.declared.slots.Pending.{Pending}
-use Rattle.ftl_core.specs.declared.books.Pin.{Pin}
+use Rattle.readers.specs.declared.pin.Pin.{Pin}
 use Rattle.ftl_core.specs.Core.{Core}
 use Rattle.ftl_core.specs.Describes.{IsLookOf, IsWanted, PinsKept, Standing, name_at}
 use Rattle.ftl_core.specs.Ends.{page_at, page_durable, page_durable_at}
-use Rattle.ftl_core.specs.Moves.{moved_pin, now_stored}
+use Rattle.readers.specs.Pins.{moved_pin, now_stored}
 use Rattle.ftl_core.proofs.group_settled.FrontPages.{AreStandingPages}
 use Rattle.ftl_core.proofs.pins.PinsAlike.{pins_mapped}
 

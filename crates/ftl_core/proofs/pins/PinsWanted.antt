@@ -8,10 +8,10 @@ use Rattle.ufs_spec.specs.Translation as layer
 use Rattle.ufs_spec.specs.Translation.{Translation}
 use Rattle.ufs_spec.specs.declared.flash.Place.{Place}
 use Rattle.ufs_spec.specs.declared.layer.Name.{Name}
-use Rattle.ftl_core.specs.declared.books.Pin.{Pin}
+use Rattle.readers.specs.declared.pin.Pin.{Pin}
 use Rattle.ftl_core.specs.Core.{Core}
 use Rattle.ftl_core.specs.Describes.{IsWanted, Kept, PinKept}
-use Rattle.ftl_core.specs.Moves.{is_pin_of, wanted_now}
+use Rattle.readers.specs.Pins.{is_pin_of, wanted_now}
 use Rattle.ftl_core.proofs.pins.FoundPins.{found_mapped, same_test}
 use Rattle.ftl_core.proofs.pins.PinsAlike.{pins_mapped}
 use Rattle.ftl_core.proofs.pins.PinsDiffer.{differ_mapped}

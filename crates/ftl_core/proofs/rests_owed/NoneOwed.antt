@@ -9,7 +9,8 @@ use Rattle.block_table.specs.declared.rows.DieRow.{DieRow}
 use Rattle.write_cache.specs.declared.rests.Rest.{Rest}
 use Rattle.write_cache.specs.declared.slots.Pending.{Pending}
 use Rattle.write_cache.specs.Rests.{waits}
-use Rattle.ftl_core.specs.Moves.{looks_on, reads_for, rest_look}
+use Rattle.ftl_core.specs.Moves.{reads_for, rest_look}
+use Rattle.readers.specs.Pins.{looks_on}
 use Rattle.ftl_core.specs.Takes.{owes_rest}
 
 looks_off : (die : ℕ) (o : Option Rest) → is_some o ≡ false → looks_on die (rest_look o) ≡ false

@@ -15,12 +15,13 @@ use Rattle.power_loss.proofs.laid_rests.AllMoves.{laid_move}
 use Rattle.ftl_core.specs.RestsKept.{waiting}
 use Rattle.ftl_core.proofs.rests_owed.RestsStay.{gone_rests, same_rests}
 use Rattle.ftl_core.specs.declared.books.Mending.{Mending}
-use Rattle.ftl_core.specs.declared.books.Pin.{Pin}
+use Rattle.readers.specs.declared.pin.Pin.{Pin}
 use Rattle.ftl_core.specs.declared.books.Step.{Step}
 use Rattle.ftl_core.specs.declared.books.Step.TheVariants as steps
 use Rattle.ftl_core.specs.Core.{Core}
 use Rattle.ftl_core.specs.Describes.{Describes, StepKept, WorkKept}
-use Rattle.ftl_core.specs.Moves.{is_pin_of, looked_by, next_wanted, unpinned, wanted_now, without_block}
+use Rattle.ftl_core.specs.Moves.{looked_by, next_wanted, unpinned, without_block}
+use Rattle.readers.specs.Pins.{is_pin_of, wanted_now}
 use Rattle.ftl_core.specs.Tells.{looked_of}
 use Rattle.ftl_core.proofs.pins.FoundPins.{FoundKept, pins_found}
 use Rattle.ftl_core.proofs.pins.PinsGone.{let_go_kept, let_one_go_kept}

@@ -24,7 +24,7 @@ use Rattle.power_loss.specs.Book.{BaseAt, BaseNone, Book, FirstRight, HasKey, bo
 use Rattle.power_loss.specs.Invariant.{Valid}
 use Rattle.ftl_core.specs.declared.books.Mending.TheVariants as mendings
 use Rattle.write_cache.specs.declared.slots.Pending.{Pending}
-use Rattle.ftl_core.specs.declared.books.Pin.{Pin}
+use Rattle.readers.specs.declared.pin.Pin.{Pin}
 use Rattle.ftl_core.specs.declared.books.Step.{Step}
 use Rattle.unit_map.specs.declared.Stored.{Stored}
 use Rattle.ftl_core.specs.Core.{Core}

@@ -4,10 +4,10 @@ ghost use Rattle.ftl_core.specs.Ends.{noted, page_durable, page_landed, pages_la
 ghost use Rattle.ftl_core.specs.Ends.{copy_durable, copy_over, copy_pending, index_in};
 ghost use Rattle.ftl_core.specs.Ends.{mark_over, mending_after, plan_over, repair_over, step_failed, step_there, step_written};
 ghost use Rattle.ftl_core.specs.Ends.{with_content};
-ghost use Rattle.ftl_core.specs.Gives.{Gives, GivesIf, IsBodyLooked, IsBodyOf, IsGiven, change_after, change_ended, ending, erase_ended, group_ended, is_read, names, other_for, IsGivenTo, wanted_no_more};
+ghost use Rattle.ftl_core.specs.Gives.{Gives, GivesIf, IsBodyLooked, IsBodyOf, IsGiven, change_after, change_ended, ending, erase_ended, group_ended, is_read, names, other_for, IsGivenTo};
 ghost use Rattle.ftl_core.specs.Gives.{IsContentOf, IsContentRead, IsReadAfter, IsReadOver, step_ended};
 ghost use Rattle.ftl_core.specs.Done.{FlightEnds, IsCoreEnded, IsEnded, IsFlightAfter};
-ghost use Rattle.ftl_core.specs.Moves.{moved_pin, erased, page_written, went_bad, pin_of, now_stored, stored_of};
+ghost use Rattle.ftl_core.specs.Moves.{erased, page_written, went_bad, pin_of, stored_of};
 ghost use Rattle.write_cache.specs.Slots.{is_named};
 ghost use Rattle.ufs_spec.specs.Moves.{EndJob, Ending, IsEndingOf, MayEnd, moved, outcome_fits};
 ghost use Rattle.ufs_spec.specs.Translation.{Translation};
@@ -22,11 +22,11 @@ ghost use Rattle.ftl_core.specs.Tells.{IsReadOf};
 ghost use Rattle.ftl_core.specs.declared.ftl.Ended.{Ended};
 
 use super::facts::bytes_are_a_block;
-use super::pin_counts::pin_moves;
 use super::{Ended, Ftl, move_live, move_page};
-use crate::books::{Mending, Pin, Step};
+use crate::books::{Mending, Step};
 use block_table::{DieRow, Flight};
 use page_tag::one_seal;
+use readers::Pin;
 use ufs_spec::{Block, Key, Looked, Name, Outcome, Page, Place, Reader, Tag};
 use unit_map::Stored;
 use write_cache::Landed;
@@ -106,60 +106,6 @@ fn ending(outcome: &Outcome) -> Option<bool>
         Outcome::Failed => Some(false),
         Outcome::Read(_) => None,
         Outcome::ReadFailed => None,
-    }
-}
-
-/// What the pin keeps: the page of this block of the reader is no longer to be read.
-fn wanted_no_more(pin: Pin, reader: u8, index: u16) -> Pin
-    ensures { result ≡ wanted_no_more reader index pin }
-{
-    let mut now = pin;
-    if pin.reader == reader && pin.index == index {
-        now.wanted = false;
-    }
-    now
-}
-
-/// The page of this block of the reader is no longer to be read.
-fn end_wants(pins: &mut [Pin], reader: u8, index: u16)
-    ensures { pins.new ≡ map (wanted_no_more reader index) pins.old }
-{
-    for pin in pins.iter_mut() {
-        *pin = wanted_no_more(*pin, reader, index);
-    }
-}
-
-/// What is looked at once this page is durable.
-fn now_stored(looked: Looked, stored: Stored) -> Looked
-    ensures { result ≡ now_stored stored looked }
-{
-    match looked {
-        Looked::InSlot(name) => {
-            if name == stored.name {
-                Looked::OnPage(stored.name, stored.place)
-            } else {
-                looked
-            }
-        }
-        _ => looked,
-    }
-}
-
-/// What the pin keeps once this page is durable.
-fn moved_pin(pin: Pin, stored: Stored) -> Pin
-    ensures { result ≡ moved_pin stored pin }
-{
-    let mut moved = pin;
-    moved.looked = now_stored(pin.looked, stored);
-    moved
-}
-
-/// Who kept the slot of this page keeps its place from now on.
-fn move_pins(pins: &mut [Pin], stored: Stored)
-    ensures { pins.new ≡ map (moved_pin stored) pins.old }
-{
-    for pin in pins.iter_mut() {
-        *pin = moved_pin(*pin, stored);
     }
 }
 
@@ -425,8 +371,7 @@ impl Ftl {
     {
         self.note_place(key, stored);
         self.has_few_slots();
-        pin_moves(&mut self.live, self.pins.as_slice(), stored);
-        move_pins(self.pins.as_mut_slice(), stored);
+        self.pins.move_to(&mut self.live, stored);
     }
 
     /// A page that left its slot is durable, if it is written.
@@ -577,7 +522,7 @@ impl Ftl {
         match reader {
             Reader::ForTask { tag, index } => {
                 let body = self.body_for(tag, index, outcome, tag_found).copied();
-                end_wants(self.pins.as_mut_slice(), tag, index);
+                self.pins.end_wants(tag, index);
                 Ended::Read {
                     reader: tag,
                     index,

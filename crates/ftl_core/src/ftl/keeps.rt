@@ -10,9 +10,8 @@ ghost use Rattle.ftl_core.specs.Moves.{kept_all, pin_now};
 ghost use Rattle.ftl_core.specs.Public.{AreClaimed, Claims};
 ghost use Rattle.ftl_core.specs.Tells.{PinsDiffer, keeps_area_of, keeps_for, keeps_of, key_behind};
 
-use super::pin_counts::pin_block;
-use super::{Ftl, MOST_PINS};
-use crate::books::Pin;
+use super::Ftl;
+use readers::{MOST_PINS, Pin, pin_block};
 use ufs_spec::Key;
 use write_cache::key_at;
 
@@ -92,7 +91,7 @@ impl Ftl {
         let looked = self.look(key);
         self.has_few_slots();
         pin_block(&mut self.live, &looked);
-        self.pins.push_reserved(Pin {
+        self.pins.push(Pin {
             reader,
             index,
             key,

@@ -10,7 +10,8 @@ ghost use Rattle.ftl_core.specs.Takes.{page_of_group, page_waiting, page_waits, 
 ghost use Rattle.ftl_core.specs.Takes.{repair_job, repair_program, writes_step};
 ghost use Rattle.ftl_core.specs.Takes.{step_job, step_read, step_waits, step_wants, waiting_flight, waiting_of};
 ghost use Rattle.ftl_core.specs.Takes.{own_read, owes_rest, rest_read, rest_read_of, unread_flight, waiting_page};
-ghost use Rattle.ftl_core.specs.Moves.{begins, first_page, in_flight, is_owed_by, looks_on};
+ghost use Rattle.ftl_core.specs.Moves.{begins, first_page, in_flight};
+ghost use Rattle.readers.specs.Pins.{looks_on};
 ghost use Rattle.ftl_core.specs.Moves.{reads_for, single_tag, started, started_with, tag_of_page};
 ghost use Rattle.ufs_spec.specs.Translation.{Translation};
 ghost use Rattle.ftl_core.specs.Describes.{Describes, IsTaken, spot_at};
@@ -22,42 +23,14 @@ ghost use Rattle.block_table.specs.declared.BlockState.TheVariants as state;
 
 use super::Ftl;
 use super::rests::rest_look;
-use crate::books::{Pin, Step, Waiting};
+use crate::books::{Step, Waiting};
 use block_table::{BlockState, BlockTable, DieRow, Flight, OpenBlock};
 use page_tag::{UnsealedJob, mark_body};
+use readers::{Pin, looks_on};
 use ufs_spec::{
     Block, Fence, GREATEST_COMMAND, GREATEST_NUMBER, Job, Key, Looked, Place, Reader, Tag,
 };
 use write_cache::Pending;
-
-/// The position of the first reader who is owed the read of a page of this die.
-fn first_owed(pins: &[Pin], blocks: &BlockTable, die: u8) -> Option<usize>
-    ensures what { result ≡ position (is_owed_by blocks.now.rows die) pins.now }
-    ensures less { IfSome result (λ k. k < length pins.now) }
-{
-    pins.iter().position(|pin| is_owed(pin, blocks, die))
-}
-
-/// Whether the reader is owed the read of a page of this die: it wants it, and no die reads for it.
-fn is_owed(pin: &Pin, blocks: &BlockTable, die: u8) -> bool
-    ensures { result ≡ is_owed_by blocks.now.rows die pin.now }
-{
-    let reader = Reader::ForTask {
-        tag: pin.reader,
-        index: pin.index,
-    };
-    pin.wanted && looks_on(&pin.looked, die) && !blocks.reads_for(reader)
-}
-
-/// Whether a page of the die is looked at.
-fn looks_on(looked: &Looked, die: u8) -> bool
-    ensures { result ≡ looks_on die looked.now }
-{
-    match looked {
-        Looked::OnPage(_, place) => place.die == die,
-        _ => false,
-    }
-}
 
 /// The read of the page that the reader keeps, if it keeps one.
 fn read_of(pin: &Pin) -> Option<Flight>
@@ -288,23 +261,18 @@ impl Ftl {
             && page.rest.is_none()
     }
 
-    /// The position of the first reader who is owed the read of a page of this die.
-    fn first_owed(&self, die: u8) -> Option<usize>
-        ensures what { result ≡ first_owed self.now die }
-        ensures less { IfSome result (λ k. k < length self.now.pins) }
-    {
-        first_owed(self.pins.as_slice(), &self.blocks, die)
-    }
-
-    /// The page of a group that waits first.
+    /// The page of a group that waits first. It looks only at pages that can be programmed now, of
+    /// which those in flight are passed over: a die has one at most.
     fn waiting_group(&self) -> Option<Waiting>
         ensures { result ≡ option_map waiting_page (page_waiting self.now) }
     {
-        for at in 0..self.cache.pending() {
+        let mut from = 0;
+        while let Some(at) = self.cache.first_ready(from) {
             let page = self.cache.page(at)?;
             if self.page_waits(page) {
                 return Some(waiting_page(page));
             }
+            from = at + 1;
         }
         None
     }
@@ -561,8 +529,8 @@ impl Ftl {
     fn owed_read(&self, die: u8) -> Option<Flight>
         ensures { result ≡ owed_read self.now die (first_owed self.now die) }
     {
-        match self.first_owed(die) {
-            Some(index) => read_of(&self.pins[index]),
+        match self.pins.first_owed(&self.blocks, die) {
+            Some(pin) => read_of(&pin),
             None => self.own_read(die),
         }
     }

@@ -13,7 +13,7 @@ use Rattle.ftl_core.proofs.ftl.Ftl.new.Goals as goal
 pub returns-clause-core : goal.returns-clause-core
 returns-clause-core c =
     opened_as c.args.config c.args.found c.in_ok-new.field-0 c.in_ok-new-2.field-0
-    c.in_ok-live_at.field-0 c.in_ok-new-3.field-0 c.in_ok-with_capacity.field-0.items c.in_ok-new-4.field-0.plan
+    c.in_ok-live_at.field-0 c.in_ok-new-3.field-0 c.in_ok-new-5.field-0 c.in_ok-new-4.field-0.plan
     c.first_mending-mending.result c.zeros.result
     c.mark_number_behind-next_mark.result c.in_ok-new.field-0.sizes c.in_ok-states.states.items
     c.in_ok-places.places.items c.min-last.result
@@ -34,7 +34,7 @@ invariant_of-result c =
     let stored = take (key_total (shape_of_numbers n)) c.in_ok-places.places.items in
     let live : l ≡ fold with_stored (none_live (sizes_of n)) stored = search rules in
     let idle : c.in_ok-new.field-0.rows ≡ replicate n.dies idle_row = search rules in
-    let none : c.in_ok-with_capacity.field-0.items ≡ [] = search rules in
+    let none : c.in_ok-new-5.field-0 ≡ [] = search rules in
     record {
       blocks = search rules;
       block_pages = search rules;
@@ -44,11 +44,10 @@ invariant_of-result c =
       last_mark = search rules;
       step = search rules;
       pins = search rules;
-      pin_room = search rules;
       units = search rules;
       plan_pages = search rules;
       live_dies = first_dies (sizes_of n) l stored c.in_ok-new.field-0.rows live idle;
       live_blocks = first_blocks (sizes_of n) l stored live;
-      pinned = first_counted (sizes_of n) l stored c.in_ok-with_capacity.field-0.items
+      pinned = first_counted (sizes_of n) l stored c.in_ok-new-5.field-0
           c.in_ok-new-3.field-0.pages live none (search rules);
     }

@@ -7,9 +7,7 @@ pub invariant_of-self : goal.invariant_of-self
 invariant_of-self c =
     let few = c.requires in
     let seen = ap (λ (z : Core). length z.pins) c.self.view_is in
-    let room = c.self.invariant.pin_room in
-    let kept = c.push_reserved.ensures.capacity in
     let slots = c.has_few_slots.ensures in
     let pages = ap (λ (z : Core). length z.pages) c.self.view_is in
-    roomy_pinned c.self.inside c.pin_block.new.live c.push_reserved.new.self _ c.self.invariant c.pin_block.ensures.is
-    c.push_reserved.ensures.items (omega (arith, few, seen)) (omega (arith, slots, pages)) (omega (arith, room, kept))
+    roomy_pinned c.self.inside c.pin_block.new.live c.push.new.self _ c.self.invariant c.pin_block.ensures.is
+    c.push.ensures (omega (arith, few, seen)) (omega (arith, slots, pages))

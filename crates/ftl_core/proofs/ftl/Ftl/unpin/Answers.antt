@@ -1,6 +1,6 @@
 use Rattle.std.proofs.Common.{arith}
 use Rattle.std.proofs.lemmas.Grind.{common_steps}
-use Rattle.ftl_core.specs.Moves.{is_of_reader}
+use Rattle.readers.specs.Pins.{is_of_reader}
 use Rattle.ftl_core.proofs.live_pages.PinRooms.{roomy_left}
 use Rattle.ftl_core.proofs.small_calls.PinCalls.{acknowledged_lets_go, unpins_told}
 use Rattle.ftl_core.proofs.ftl.Ftl.unpin.Goals as goal
@@ -13,6 +13,5 @@ returns-clause-described_told c = acknowledged_lets_go c.args.self.now _ c.args.
 
 pub invariant_of-self : goal.invariant_of-self
 invariant_of-self c =
-    roomy_left (is_of_reader c.args.reader) c.self.inside c.unpin_blocks.new.live c.drop_pins.new.pins
-    c.as_slice.result.now c.self.invariant c.as_slice.ensures.value c.unpin_blocks.ensures.is c.drop_pins.ensures.left
-    c.drop_pins.ensures.fewer c.drop_pins.ensures.room
+    roomy_left (is_of_reader c.args.reader) c.self.inside c.drop_all.new.live c.drop_all.new.self c.self.invariant
+    c.drop_all.ensures.blocks c.drop_all.ensures.left

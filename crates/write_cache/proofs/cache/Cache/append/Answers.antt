@@ -1,5 +1,6 @@
 use Rattle.std.proofs.Common.{◌∙◌, ◌+◌, ap, arith, sym}
 use Rattle.std.specs.Prelude.{count_by}
+use Rattle.write_cache.specs.ClaimRows.{ClaimQueue}
 use Rattle.write_cache.specs.Rests.{waits}
 use Rattle.write_cache.specs.Slots.{claims_of}
 use Rattle.write_cache.proofs.Waiting.{claimed_same}
@@ -10,7 +11,7 @@ invariant_of-self c = record {
   slots = grind (arith, c.self.invariant.slots, c.move_claims.ensures.as_many);
   fits = c.self.invariant.fits;
   room = c.move_claims.ensures.page_room ∙ c.self.invariant.room;
-  claim_room = grind (arith, c.self.invariant.claim_room, c.move_claims.ensures.claim_room);
+  claim_room = ap (λ (q : ClaimQueue). q.room) c.move_claims.ensures.left ∙ c.self.invariant.claim_room;
   free_room = c.self.invariant.free_room;
   frontier = let f = c.self.invariant.frontier in omega (arith, f);
   numbers = grind (arith, c.requires);

@@ -1,34 +1,31 @@
-use Rattle.std.proofs.Common.{◌≡◌, ◌∙◌, ◌+◌, ◌++◌, List, ap, arith, length, map}
+use Rattle.std.proofs.Common.{◌≡◌, ◌∙◌, ◌+◌, ◌++◌, List, ap, arith, length}
 use Rattle.std.specs.Prelude.{count_by, filter_map}
 use Rattle.std.proofs.lemmas.List.{length-map}
 use Rattle.write_cache.specs.declared.slots.Claimed.{Claimed}
 use Rattle.write_cache.specs.declared.slots.Pending.{Pending}
+use Rattle.write_cache.specs.ClaimRows.{ClaimQueue}
 use Rattle.write_cache.specs.Kept.{WriteCache}
 use Rattle.write_cache.specs.Rests.{claim_brought, page_brought, page_moved, pages_appended, waits}
 use Rattle.write_cache.specs.Rooms.{cache_of}
 use Rattle.write_cache.specs.Slots.{claims_of, without_claims}
 use Rattle.write_cache.proofs.Brought.{brought_left, brought_pages}
-use Rattle.write_cache.proofs.Deques.{refilled}
 use Rattle.write_cache.proofs.cache.Cache.append_pages.Goals as goal
 
 pub invariant_of-self : goal.invariant_of-self
 invariant_of-self c =
     let old = c.self.inside in
-    let is = c.bring_all.ensures ∙ ap (map (claim_brought old.pages.items c.args.reader c.args.pages.now))
-    c.make_contiguous.ensures.value in
-    let long : length c.bring_all.new.claims ≡ length old.claims.items =
-    ap (λ (cs : List Claimed). length cs) is
+    let long = ap (λ (q : ClaimQueue). length q.items) c.bring.ensures
     ∙ length-map old.claims.items (claim_brought old.pages.items c.args.reader c.args.pages.now) in
-    let all = refilled old.claims.len old.claims.items c.bring_all.new.claims old.claims.ok.0 long in
-    let as_long = ap (λ (cs : List Claimed). length cs) all in
     let slots = c.self.invariant.slots in
     let many = c.move_pages.ensures.as_many in
     let frontier = c.self.invariant.frontier in
     record {
-      slots = omega (arith, long, as_long, slots, many);
+      slots = omega (arith, long, slots, many);
       fits = c.self.invariant.fits;
       room = c.move_pages.ensures.page_room ∙ c.self.invariant.room;
-      claim_room = grind (arith, c.self.invariant.claim_room, c.move_pages.ensures.claim_room);
+      claim_room = ap (λ (q : ClaimQueue). q.room) c.move_pages.ensures.left
+          ∙ ap (λ (q : ClaimQueue). q.room) c.bring.ensures
+          ∙ c.self.invariant.claim_room;
       free_room = grind (arith, c.self.invariant.free_room, c.move_pages.ensures.free_stays);
       frontier = omega (arith, frontier);
       numbers = grind (arith, c.requires.numbered);
@@ -43,12 +40,10 @@ returns-clause-after c =
     let xs = c.args.pages.now in
     let n = old.last + 1 in
     let ps = old.pages.items in
-    let brought = c.bring_all.ensures ∙ ap (map (claim_brought ps reader xs)) c.make_contiguous.ensures.value in
-    let long : length c.bring_all.new.claims ≡ length old.claims.items =
-    ap (λ (cs : List Claimed). length cs) brought ∙ length-map old.claims.items (claim_brought ps reader xs) in
-    let is = refilled old.claims.len old.claims.items c.bring_all.new.claims old.claims.ok.0 long ∙ brought in
-    let left : c.move_pages.new.claims.items ≡ without_claims old.claims.items reader =
-    c.move_pages.ensures.left ∙ ap (λ (cs : List Claimed). without_claims cs reader) is
+    let is = ap (λ (q : ClaimQueue). q.items) c.bring.ensures in
+    let left : c.move_pages.new.self.items ≡ without_claims old.claims.items reader =
+    ap (λ (q : ClaimQueue). q.items) c.move_pages.ensures.left
+    ∙ ap (λ (cs : List Claimed). without_claims cs reader) is
     ∙ brought_left ps reader n xs old.claims.items in
     let pages : c.move_pages.new.pending.items
     ≡ ps ++ filter_map (page_brought ps n xs) (claims_of old.claims.items reader) =

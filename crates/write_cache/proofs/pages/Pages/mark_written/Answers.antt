@@ -1,4 +1,4 @@
-use Rattle.std.proofs.Common.{◌≡◌, ◌∙◌, List, ap, arith, length, map, subst, sym}
+use Rattle.std.proofs.Common.{◌≡◌, ◌∙◌, List, ap, arith, length, map, refl, slice_get, subst, sym}
 use Rattle.std.specs.Prelude.{slice_set}
 use Rattle.write_cache.specs.declared.pages.ring.GroupAt.{GroupAt}
 use Rattle.write_cache.specs.Kept.{Queue}
@@ -6,7 +6,9 @@ use Rattle.write_cache.specs.Queue.{queue_of}
 use Rattle.write_cache.specs.Ring.{AreRuns, first_number, shown, written}
 use Rattle.write_cache.specs.Slots.{page_written}
 use Rattle.write_cache.proofs.Deques.{unfound_told}
+use Rattle.write_cache.proofs.LastPlaces.{key_of, newest_same, written_keys}
 use Rattle.write_cache.proofs.Marks.{first_marked, marked_length, marked_runs, none_marked}
+use Rattle.write_cache.proofs.Readies.{found_within, written_ready}
 use Rattle.write_cache.proofs.Told.{told_consecutive, told_few, told_rising, told_stands, told_straight}
 use Rattle.write_cache.specs.declared.slots.Pending.{Pending}
 use Rattle.write_cache.proofs.pages.Pages.mark_written.Goals as goal
@@ -45,6 +47,15 @@ place_in-found-requires-clause-counted c =
     let counted = c.requires.counted in
     omega (arith, few, most, counted)
 
+pub set-requires-in-Some-found : goal.set-requires-in-Some-found
+set-requires-in-Some-found c =
+    let f = c.self.inside in
+    let within = found_within f.pages.items c.in-Some.entry.group.number c.args.index c.in-Some-found.at
+    c.in-Some-found.ensures.what in
+    let fits = c.self.invariant.fits in
+    let flags = c.self.invariant.ready.flags_room in
+    omega (arith, within, fits, flags)
+
 pub invariant_of-self : goal.invariant_of-self
 invariant_of-self c =
     let f = c.self.inside in
@@ -75,6 +86,14 @@ invariant_of-self c =
           c.in-Some.ensures.what.0 (sym c.in-Some-found.ensures.what) c.write_at-is_open.ensures.was
           c.write_at-is_open.ensures.after);
       landed = c.self.invariant.landed;
+      positions = newest_same f.positions f.landed f.pages.items c.write_at-is_open.new.pages.items
+          (ap (λ (ps : List Pending). map key_of ps) c.write_at-is_open.ensures.after
+          ∙ written_keys f.pages.items k c.args.place (slice_get f.pages.items k) refl)
+          c.self.invariant.positions;
+      ready = written_ready f.room k f.ready c.set-in-Some-found.new.self f.pages.items
+          c.write_at-is_open.new.pages.items c.args.place c.self.invariant.ready
+          (found_within f.pages.items g.number c.args.index k c.in-Some-found.ensures.what) fits
+          c.write_at-is_open.ensures.after c.set-in-Some-found.ensures;
     }
 
 pub returns-in-Some-found-clause-bound : goal.returns-in-Some-found-clause-bound

@@ -1,11 +1,12 @@
-use Rattle.std.proofs.Common.{◌∙◌, ap, arith, length, map}
-use Rattle.std.proofs.Common.{List}
+use Rattle.std.proofs.Common.{◌∙◌, ◌+◌, List, ap, arith, length, map, ℕ}
 use Rattle.std.proofs.lemmas.List.{length-append, length-map}
 use Rattle.std.specs.Prelude.{◌-◌, ◌∷◌, []}
 use Rattle.write_cache.specs.declared.slots.Pending.{Pending}
 use Rattle.write_cache.specs.Kept.{Queue}
-use Rattle.write_cache.specs.Ring.{shown}
+use Rattle.write_cache.specs.Ring.{shown, wrapped}
+use Rattle.write_cache.proofs.LastPlaces.{newest_pushed}
 use Rattle.write_cache.proofs.Pushes.{first_again, pushed}
+use Rattle.write_cache.proofs.Readies.{pushed_ready}
 use Rattle.write_cache.proofs.Runs.{runs_length, short_at}
 use Rattle.write_cache.proofs.pages.Pages.push.Goals as goal
 
@@ -31,6 +32,15 @@ note-requires-clause-few c =
     let few = c.self.invariant.few in
     short_at f.landed f.front f.newest (length f.groups.entries.items - 1) f.groups.entries.items
     (map shown f.pages.items) c.self.invariant.runs (omega (arith, long, room, length_is, room_is, few))
+
+pub set-requires : goal.set-requires
+set-requires c =
+    let long = c.len.ensures in
+    let room = c.requires.room in
+    let length_is = ap (λ (z : Queue). length z.items) c.self.view_is in
+    let room_is = ap (λ (z : Queue). z.room) c.self.view_is in
+    let flags = c.self.invariant.ready.flags_room in
+    omega (arith, long, room, length_is, room_is, flags)
 
 pub invariant_of-self : goal.invariant_of-self
 invariant_of-self c =
@@ -61,4 +71,13 @@ invariant_of-self c =
           c.requires.unwritten (omega (arith, room, length_is, room_is, few))
           c.first_number-self-inside.ensures.is;
       landed = c.self.invariant.landed;
+      positions = newest_pushed f.positions c.note_at.new.self f.landed _ f.pages.items
+          c.push_back_reserved.new.self.items p c.self.invariant.positions c.note_at.ensures.config
+          c.note_at.ensures.at (ap (λ (n : ℕ). wrapped (f.landed + n)) (c.len.ensures ∙ f.pages.ok.0))
+          c.push_back_reserved.ensures.items;
+      ready = pushed_ready f.room c.len-2.result f.ready c.set.new.self f.pages.items
+          c.push_back_reserved.new.self.items p c.is_ready.result c.self.invariant.ready
+          c.push_back_reserved.ensures.items (c.len-2.ensures ∙ f.pages.ok.0)
+          (let many = c.len-2.ensures ∙ f.pages.ok.0 in omega (arith, many, room, length_is, room_is))
+          c.is_ready.ensures c.set.ensures;
     }

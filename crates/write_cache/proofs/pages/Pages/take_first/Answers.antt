@@ -2,7 +2,9 @@ use Rattle.std.proofs.Common.{◌≡◌, ◌∙◌, Bool, List, ap, arith, lengt
 use Rattle.std.specs.Prelude.{is_none}
 use Rattle.write_cache.specs.declared.slots.Pending.{Pending}
 use Rattle.write_cache.specs.Ring.{shortened}
+use Rattle.write_cache.proofs.LastPlaces.{newest_taken}
 use Rattle.write_cache.proofs.Pushes.{first_again, taken}
+use Rattle.write_cache.proofs.Readies.{taken_ready}
 use Rattle.write_cache.proofs.pages.Pages.take_first.Goals as goal
 
 pub invariant_of-self-2 : goal.invariant_of-self-2
@@ -28,4 +30,8 @@ invariant_of-self-2 c =
           (c.shorten.ensures.after ∙ ap (λ (b : Bool). shortened b f.groups.entries.items) unwritten)
           c.first_number-self-inside.ensures.is;
       landed = omega arith;
+      positions = newest_taken f.positions f.landed f.pages.items c.pop_front.new.self.items c.in_ok-page.page
+          c.in_ok-page.ensures.items c.self.invariant.positions;
+      ready = taken_ready f.room f.ready c.pass.new.self f.pages.items c.pop_front.new.self.items c.in_ok-page.page
+          c.self.invariant.ready c.in_ok-page.ensures.items c.pass.ensures;
     }

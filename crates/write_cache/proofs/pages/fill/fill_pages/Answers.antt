@@ -1,9 +1,13 @@
-use Rattle.std.proofs.Common.{◌≡◌, ◌∙◌, ◌+◌, ◌<◌, ◌++◌, Some, ap, arith, drop, get_or, length, slice_get}
+use Rattle.std.proofs.Common.{◌≡◌, ◌∙◌, Bool, List, ◌+◌, ◌<◌, ◌++◌, Some, ap, arith, drop, get_or, length, slice_get}
 use Rattle.std.proofs.Common.{subst, sym, take}
 use Rattle.std.specs.Prelude.{IfSome}
 use Rattle.std.proofs.lemmas.Option.{slice_get-get_or}
+use Rattle.word_set.proofs.Flags.{set_length}
+use Rattle.write_cache.specs.declared.slots.Pending.{Pending}
+use Rattle.write_cache.specs.Ready.{AreTold, is_ready}
 use Rattle.write_cache.specs.Rests.{base_behind, rests_filled}
 use Rattle.write_cache.proofs.Fills.{filled_more, later, passed_more}
+use Rattle.write_cache.proofs.Readies.{filled_told}
 use Rattle.write_cache.proofs.pages.fill.fill_pages.Goals as goal
 use Rattle.write_cache.proofs.pages.fill.fill_pages.Goals.{then-awaits, else-awaits}
 
@@ -15,6 +19,7 @@ loop-at-preserved c =
     let ps = c.loop-at.pages in
     let qs = c.if-awaits.pages in
     let long = c.loop-at.invariant.long in
+    let places = c.loop-at.invariant.places in
     let within = c.loop-at-test.true in
     let less : at < length ps = omega (arith, long, within) in
     let base = base_behind block ps c.loop-at.filled in
@@ -24,6 +29,15 @@ loop-at-preserved c =
       | then-awaits w ↦ record {
         before = subst (λ o. IfSome o (λ k. k < at + 1)) (sym w.filled-is) (omega arith);
         long = c.if-awaits.auto.pages ∙ long;
+        places = ap (λ (fs : List Bool). length fs) (w.ready-is ∙ w.set.ensures)
+            ∙ set_length c.loop-at.ready at w.is_ready.result ∙ places;
+        told = subst (λ (fs : List Bool). AreTold fs qs) (sym w.ready-is)
+            (subst (λ (xs : List Pending). AreTold w.set.new.self xs) (sym w.pages-is)
+            (filled_told c.loop-at.ready w.set.new.self ps w.complete_at.new.pages at base
+            w.index-pages-at-then-awaits.result w.is_ready.result c.loop-at.invariant.told less
+            (let room = c.requires.room in omega (arith, room, places, long, less)) w.complete_at.ensures
+            w.index-pages-at-then-awaits.is
+            (w.is_ready.ensures ∙ ap is_ready (sym w.index-pages-at-then-awaits.is)) w.set.ensures));
         filled_so_far =
             c.loop-at.invariant.filled_so_far
             ∙ filled_more name base block ps qs at p there (sym c.awaits.ensures ∙ w.if-awaits.true)
@@ -35,6 +49,9 @@ loop-at-preserved c =
         before = subst (λ o. IfSome o (λ k. k < at + 1)) (sym w.filled-is)
             (later c.loop-at.filled at c.loop-at.invariant.before);
         long = c.if-awaits.auto.pages ∙ long;
+        places = ap (λ (fs : List Bool). length fs) w.ready-is ∙ places;
+        told = subst (λ (fs : List Bool). AreTold fs qs) (sym w.ready-is)
+            (subst (λ (xs : List Pending). AreTold c.loop-at.ready xs) (sym w.pages-is) c.loop-at.invariant.told);
         filled_so_far =
             c.loop-at.invariant.filled_so_far
             ∙ passed_more name base ps at p there (sym c.awaits.ensures ∙ w.if-awaits.false)

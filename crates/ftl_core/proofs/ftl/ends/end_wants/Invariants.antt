@@ -1,7 +1,0 @@
-use Rattle.std.proofs.Common.{◌≡◌, ◌++◌, map, take, drop}
-use Rattle.ftl_core.specs.Gives.{wanted_no_more}
-use Rattle.ftl_core.proofs.ftl.ends.end_wants.Given as goal
-
-abbrev pub invariant-loop-pin : goal.invariant-loop-pin
-invariant-loop-pin l =
-    l.pins ≡ map (wanted_no_more l.reader l.index) (take l.pin-index l.initial.pins) ++ drop l.pin-index l.initial.pins

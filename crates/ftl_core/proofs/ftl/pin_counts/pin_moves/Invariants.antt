@@ -1,7 +1,0 @@
-use Rattle.std.proofs.Common.{◌≡◌, take}
-use Rattle.std.specs.Prelude.{fold}
-use Rattle.ftl_core.specs.PinCounts.{pin_moves}
-use Rattle.ftl_core.proofs.ftl.pin_counts.pin_moves.Given as goal
-
-abbrev pub invariant-loop-pin : goal.invariant-loop-pin
-invariant-loop-pin l = l.live ≡ fold (pin_moves l.stored) l.initial.live (take l.pin-index l.pins)

@@ -1,0 +1,4 @@
+pub mod BarePins
+pub mod Rises
+pub mod RowWalks
+pub mod Stays

@@ -1,0 +1,7 @@
+use Rattle.std.proofs.Common.{◌≡◌, take}
+use Rattle.std.specs.Prelude.{fold}
+use Rattle.readers.specs.Pins.{pin_moves}
+use Rattle.readers.proofs.counts.pin_moves.Given as goal
+
+abbrev pub invariant-loop-pin : goal.invariant-loop-pin
+invariant-loop-pin l = l.live ≡ fold (pin_moves l.stored) l.initial.live (take l.pin-index l.pins)

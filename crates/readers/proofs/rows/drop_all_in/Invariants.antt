@@ -1,0 +1,22 @@
+use Rattle.std.proofs.Common.{◌≡◌, ◌+◌, ◌-◌, ◌++◌, ◌≤◌, drop, length, not, take, vec_capacity}
+use Rattle.std.specs.Prelude.{filter, fold}
+use Rattle.readers.specs.Pins.{is_of_reader, let_go}
+use Rattle.readers.specs.Rows.{pins_in}
+use Rattle.readers.proofs.rows.drop_all_in.Given as goal
+
+abbrev pub invariant-loop-at : goal.invariant-loop-at
+invariant-loop-at l = record {
+  within : l.at ≤ length l.rows.items;
+  left : pins_in (take l.at l.rows.items)
+      ++ filter (λ p. not (is_of_reader l.reader p)) (pins_in (drop l.at l.rows.items))
+      ≡ filter (λ p. not (is_of_reader l.reader p)) (pins_in l.initial.rows.items);
+  blocks : fold (let_go (is_of_reader l.reader)) l.live (pins_in (drop l.at l.rows.items))
+      ≡ fold (let_go (is_of_reader l.reader)) l.initial.live (pins_in l.initial.rows.items);
+  as_many : length l.rows.items + length l.spare.items
+      ≡ length l.initial.rows.items + length l.initial.spare.items;
+  rows_room : vec_capacity l.rows ≡ vec_capacity l.initial.rows;
+  spare_room : vec_capacity l.spare ≡ vec_capacity l.initial.spare;
+}
+
+abbrev pub decreases-loop-at : goal.decreases-loop-at
+decreases-loop-at l = length l.rows.items - l.at

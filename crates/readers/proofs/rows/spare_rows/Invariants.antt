@@ -1,0 +1,5 @@
+use Rattle.std.proofs.Common.{◌≡◌, length, vec_capacity}
+use Rattle.readers.proofs.rows.spare_rows.Given as goal
+
+abbrev pub invariant-loop : goal.invariant-loop
+invariant-loop l = (length l.rows.items ≡ l.counter) × (vec_capacity l.rows ≡ 32)

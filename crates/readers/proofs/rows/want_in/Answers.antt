@@ -1,0 +1,24 @@
+use Rattle.std.proofs.Common.{◌≡◌, ◌<◌, ◌∙◌, ap, arith, get_or, length, map, refl}
+use Rattle.std.proofs.lemmas.List.{get_or_default, map-append}
+use Rattle.readers.specs.Pins.{wanted_now}
+use Rattle.readers.specs.Rows.{with_pins, RowPins}
+use Rattle.readers.proofs.RowWalks.{walk_end, walk_on}
+use Rattle.readers.proofs.rows.want_in.Goals as goal
+
+pub loop-row-preserved : goal.loop-row-preserved
+loop-row-preserved c =
+    let i = c.loop-row.row-index in
+    let h = map (wanted_now c.args.reader c.args.index) in
+    let less : i < length c.loop-row.rows = omega arith in
+    let new = c.want.new.self in
+    let x = get_or c.loop-row.rows i new in
+    let is : new ≡ with_pins x (h x.pins) = c.want.ensures
+    ∙ ap (λ (r : RowPins). with_pins r (h r.pins)) (get_or_default c.loop-row.rows i _ new less) in
+    walk_on h (map-append (wanted_now c.args.reader c.args.index)) c.loop-row.rows i x new less
+    (get_or_default c.loop-row.rows i new x less) (ap (λ (r : RowPins). r.pins) is)
+    ∙ c.loop-row.invariant
+
+pub returns : goal.returns
+returns c =
+    walk_end (map (wanted_now c.args.reader c.args.index)) refl c.loop-row.rows c.loop-row.row-index (omega arith)
+    ∙ c.loop-row.invariant

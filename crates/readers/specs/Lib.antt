@@ -1,0 +1,4 @@
+pub mod PinRows
+pub mod Pins
+pub mod RowInside
+pub mod Rows

@@ -1,0 +1,14 @@
+use Rattle.std.proofs.Common.{Bool, ◌∙◌, ap, sym}
+use Rattle.word_set.specs.Tests.{bit, changed}
+use Rattle.word_set.proofs.WordBits.{bit_clear, bit_set}
+use Rattle.word_set.proofs.bits.with_bit.Goals as goal
+
+pub returns-then-one : goal.returns-then-one
+returns-then-one c = λ j l.
+    bit_set c.args.word c.args.place j c.requires
+    ∙ sym (ap (λ (b : Bool). changed (bit c.args.word) c.args.place b j) c.if-one.true)
+
+pub returns-else-one : goal.returns-else-one
+returns-else-one c = λ j l.
+    bit_clear c.args.word c.args.place j c.requires l
+    ∙ sym (ap (λ (b : Bool). changed (bit c.args.word) c.args.place b j) c.if-one.false)

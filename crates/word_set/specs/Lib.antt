@@ -1,0 +1,4 @@
+pub mod Flags
+pub mod QueueRooms
+pub mod Tests
+pub mod WordRooms

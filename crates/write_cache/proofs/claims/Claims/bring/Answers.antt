@@ -1,0 +1,20 @@
+use Rattle.std.proofs.Common.{◌≡◌, ◌∙◌, ◌++◌, List, ap, length, map, refl}
+use Rattle.std.specs.VecDeque.{deque_capacity}
+use Rattle.std.proofs.lemmas.List.{length-map}
+use Rattle.write_cache.specs.declared.slots.Claimed.{Claimed}
+use Rattle.write_cache.specs.ClaimRows.{all_claims}
+use Rattle.write_cache.specs.Rests.{claim_brought}
+use Rattle.write_cache.proofs.Deques.{refilled}
+use Rattle.write_cache.proofs.AllClaims.{made_joined, queue_made}
+use Rattle.write_cache.proofs.claims.Claims.bring.Goals as goal
+
+pub returns : goal.returns
+returns c =
+    let old = c.self.inside in
+    let f = claim_brought c.args.pending.now.items c.args.reader c.args.pages.now in
+    let is = c.bring_all.ensures ∙ ap (map f) c.make_contiguous.ensures.value in
+    let long : length c.bring_all.new.claims ≡ length old.rest.items =
+    ap (λ (xs : List Claimed). length xs) is ∙ length-map old.rest.items f in
+    let rest = refilled old.rest.len old.rest.items c.bring_all.new.claims old.rest.ok.0 long ∙ is in
+    queue_made (map f) (deque_capacity old.rest) _ (all_claims old.rows ++ old.rest.items) _ c.args.self.now
+    c.self.view_is refl (made_joined f old.rows c.bring.new.self old.rest.items _ c.bring.ensures rest)

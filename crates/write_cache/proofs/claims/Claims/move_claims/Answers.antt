@@ -1,0 +1,17 @@
+use Rattle.std.proofs.Common.{◌++◌}
+use Rattle.std.specs.VecDeque.{deque_capacity}
+use Rattle.write_cache.specs.ClaimRows.{all_claims}
+use Rattle.write_cache.specs.Slots.{claims_but, is_claim_of}
+use Rattle.write_cache.proofs.AllClaims.{left_joined, queue_made}
+use Rattle.write_cache.proofs.claims.Claims.move_claims.Goals as goal
+
+pub returns-clause-left : goal.returns-clause-left
+returns-clause-left c =
+    let old = c.self.inside in
+    let goes = is_claim_of c.args.reader in
+    let rows = c.move_claims.new.self in
+    let rest = c.move_claims-2.new.claims in
+    queue_made (claims_but goes) (deque_capacity old.rest) (deque_capacity rest)
+    (all_claims old.rows ++ old.rest.items) (all_claims rows ++ rest.items) c.args.self.now c.self.view_is
+    c.move_claims-2.ensures.claim_room
+    (left_joined goes old.rows rows old.rest.items rest.items c.move_claims.ensures.left c.move_claims-2.ensures.left)

@@ -1,0 +1,13 @@
+use Rattle.std.proofs.Common.{◌≡◌, ◌++◌, length, map, take, drop}
+use Rattle.std.specs.VecDeque.{deque_capacity}
+use Rattle.write_cache.specs.Rests.{claim_brought}
+use Rattle.write_cache.proofs.claims.rows.bring_rows.Given as goal
+
+abbrev pub invariant-loop-at : goal.invariant-loop-at
+invariant-loop-at l = record {
+  made : l.rows.items
+      ≡ map (map (claim_brought l.pending.items l.reader l.pages)) (take l.at l.initial.rows.items)
+      ++ drop l.at l.initial.rows.items;
+  long : length l.rows.items ≡ length l.initial.rows.items;
+  room : deque_capacity l.rows ≡ deque_capacity l.initial.rows;
+}

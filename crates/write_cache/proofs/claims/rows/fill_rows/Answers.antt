@@ -1,0 +1,19 @@
+use Rattle.std.proofs.Common.{◌<◌, ◌∙◌, ap, arith, length, map, slice_set}
+use Rattle.std.proofs.lemmas.List.Edits.{map_over_more}
+use Rattle.ufs_spec.proofs.Lists.{set_length}
+use Rattle.write_cache.specs.Slots.{claim_filled}
+use Rattle.write_cache.proofs.claims.rows.fill_rows.Goals as goal
+
+pub loop-at-preserved : goal.loop-at-preserved
+loop-at-preserved c =
+    let rows = c.loop-at.rows.items in
+    let i = c.loop-at.at in
+    let f = map (claim_filled c.args.reader c.args.index c.args.block.now) in
+    let less : i < length c.args.rows.now.items = omega arith in
+    record {
+      made = ap (slice_set rows i) c.fill.ensures
+          ∙ map_over_more f c.args.rows.now.items rows i c.index_mut.result.now less c.loop-at.invariant.made
+          c.index_mut.ensures.value;
+      long = set_length rows i c.fill.new.self ∙ c.loop-at.invariant.long;
+      room = c.loop-at.invariant.room;
+    }

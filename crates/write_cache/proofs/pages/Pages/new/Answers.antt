@@ -1,0 +1,29 @@
+use Rattle.std.proofs.Common.{List, ap, arith, length, map, subst, sym}
+use Rattle.write_cache.specs.declared.pages.ring.GroupAt.{GroupAt}
+use Rattle.write_cache.specs.declared.slots.Pending.{Pending}
+use Rattle.write_cache.specs.Ring.{AreRuns, first_number, shown}
+use Rattle.write_cache.specs.Newest.{IsNewest}
+use Rattle.write_cache.proofs.LastPlaces.{newest_none}
+use Rattle.write_cache.proofs.Readies.{none_ready}
+use Rattle.write_cache.proofs.pages.Pages.new.Goals as goal
+
+pub invariant_of-result : goal.invariant_of-result
+invariant_of-result c =
+    let ps = c.in_ok-pages.pages.items in
+    let none = c.in_ok-pages.ensures.items in
+    let many = ap (λ (xs : List Pending). length xs) none in
+    let most = c.max.ensures in
+    record {
+      fits = omega (arith, many);
+      few = omega arith;
+      pages_room = c.in_ok-pages.ensures.capacity;
+      groups_room = c.in_ok-new.ensures.room;
+      front = sym (ap (first_number 0) c.in_ok-new.ensures.none);
+      runs = subst (λ (gs : List GroupAt). AreRuns 0 0 0 gs (map shown ps)) (sym c.in_ok-new.ensures.none)
+          (ap (λ (xs : List Pending). map shown xs) none);
+      landed = omega arith;
+      positions = subst (λ (xs : List Pending). IsNewest c.in_ok-new-2.field-0 0 xs) (sym none)
+          (newest_none c.in_ok-new-2.field-0 c.args.config c.in_ok-new-2.ensures.config c.in_ok-new-2.ensures.at);
+      ready = none_ready c.args.room c.max.result c.in_ok-ready.ready ps c.in_ok-ready.ensures none
+          (omega (arith, most));
+    }
