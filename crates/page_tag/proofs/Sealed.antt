@@ -4,12 +4,14 @@ use Rattle.std.specs.Bool.{Decides}
 use Rattle.std.specs.Str.{bytes_eq}
 use Rattle.std.proofs.lemmas.Bool.Decides.{Decides-and, Decides-like}
 use Rattle.std.proofs.lemmas.List.{take-append-drop}
+use Rattle.std.proofs.lemmas.Option.{none-some}
 use Rattle.std.proofs.lemmas.Slice.Eq.{bytes_eq-Decides}
-use Rattle.ufs_spec.specs.Pages.{IsCheckRight, IsTag, check_of, seal_page, spare_front}
+use Rattle.ufs_spec.specs.Pages.{IsCheckRight, IsTag, check_of, seal_page, spare_front, tag_in}
 use Rattle.ufs_spec.specs.declared.flash.Opened.{Opened}
 use Rattle.ufs_spec.specs.declared.flash.Page.{Page}
 use Rattle.ufs_spec.specs.declared.flash.Tag.{Tag}
-use Rattle.ufs_spec.proofs.SealedPages.{tag_in-front, tag_of_sealed}
+use Rattle.page_tag.specs.Jobs.{IsTagOf}
+use Rattle.ufs_spec.proofs.SealedPages.{check_of_sealed, tag_in-front, tag_of_sealed}
 
 -- two pages are the same where their bodies and their spare bytes are
 pub same_page : (p q : Page) → Decides (bytes_eq p.body q.body && bytes_eq p.spare q.spare) (p ≡ q)
@@ -37,6 +39,30 @@ sealed p t front check =
     sym again ∙ ap (λ (f : List ℕ). f ++ drop 64 p.spare) front
     ∙ ap (λ (c : List ℕ). spare_front t ++ c) sealed_check in
     ap (λ (s : List ℕ). record { body = p.body; spare = s }) spare
+
+-- spare bytes with a tag's front say this tag
+pub tag_of_front : (spare : List ℕ) (t : Tag) → IsTag t → take 64 spare ≡ spare_front t → tag_in spare ≡ t
+tag_of_front spare t h front =
+    ap tag_in (sym (take-append-drop 64 spare) ∙ ap (λ (f : List ℕ). f ++ drop 64 spare) front)
+    ∙ tag_in-front t (drop 64 spare) h
+
+-- a page with the right check was sealed with the tag of its front, or with none
+pub tag_checked : (p : Page) (found : Option Tag)
+    → IfSome found (λ t. IsTag t × (take 64 p.spare ≡ spare_front t))
+    → (found ≡ None → (t : Tag) → IsTag t → ¬ (take 64 p.spare ≡ spare_front t))
+    → IsCheckRight p → IsTagOf p found
+tag_checked p None said refuses check = record {
+  sealed = tt;
+  refused = λ none t b h e. refuses none t h (front_of_sealed p t b e);
+}
+tag_checked p (Some t) said refuses check = record {
+  sealed = (said.0, sealed p t said.1 check);
+  refused = λ none. absurd (none-some t (sym none));
+}
+
+-- one with a wrong check was sealed with none
+pub no_tag_checked : (p : Page) → ¬ IsCheckRight p → (t : Tag) (b : List ℕ) → IsTag t → ¬ (p ≡ seal_page t b)
+no_tag_checked p wrong t b h e = wrong (check_of_sealed p t b e)
 
 -- one page seals one tag and one block
 pub one_tag : (t u : Tag) (b d : List ℕ) → IsTag t → IsTag u → seal_page t b ≡ seal_page u d → t ≡ u

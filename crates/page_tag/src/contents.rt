@@ -1,10 +1,14 @@
 //! What a page is.
+ghost use Rattle.std.specs.Prelude.{◌↔◌, ◌≤◌, IsTrue};
 ghost use Rattle.page_tag.specs.Contents.{cell_of};
+ghost use Rattle.page_tag.specs.Jobs.{IsTagOf};
 ghost use Rattle.ufs_spec.specs.Cells.{IsCell};
+ghost use Rattle.ufs_spec.specs.Pages.{IsCheckRight};
 
+use crate::check::are_checks_right;
 use crate::facts::bytes_are_a_block;
 use crate::mark_read::mark_in;
-use crate::page::open;
+use crate::page::{front_tag, sealed_tag};
 use settings::is_settings_page;
 use ufs_spec::{Block, Fence, Numbers, Opened, Page, Tag};
 
@@ -35,9 +39,68 @@ pub enum Content {
 pub fn content_of(page: &Page) -> Content
     ensures { IsCell page.now (cell_of result) }
 {
-    bytes_are_a_block(&page.body);
-    let Some(opened) = open(page) else {
+    content_with(page, sealed_tag(page))
+}
+
+/// What each of four pages is, in their order, as [`content_of`] has it of one. Where three or four
+/// want a SHA-256, these are taken side by side.
+pub fn contents_of_four(
+    a: &Page,
+    b: &Page,
+    c: &Page,
+    d: &Page,
+) -> (Content, Content, Content, Content)
+    ensures first { IsCell a.now (cell_of result.0) }
+    ensures second { IsCell b.now (cell_of result.1) }
+    ensures third { IsCell c.now (cell_of result.2) }
+    ensures fourth { IsCell d.now (cell_of result.3) }
+{
+    // Four side by side take the time of two, so one or two are no slower one by one.
+    if wants_hash(a) + wants_hash(b) + wants_hash(c) + wants_hash(d) < 3 {
+        return (content_of(a), content_of(b), content_of(c), content_of(d));
+    }
+    let right = are_checks_right(a, b, c, d);
+    (
+        content_checked(a, right.0),
+        content_checked(b, right.1),
+        content_checked(c, right.2),
+        content_checked(d, right.3),
+    )
+}
+
+// How many SHA-256 tell what a page is: one, or none if its first 64 spare bytes are wrong already.
+fn wants_hash(page: &Page) -> u8
+    ensures { result ≤ 1 }
+{
+    match front_tag(page) {
+        Some(_) => 1,
+        None => 0,
+    }
+}
+
+// What a page is whose check is right, or is not.
+fn content_checked(page: &Page, is_right: bool) -> Content
+    requires { IsTrue is_right ↔ IsCheckRight page.now }
+    ensures { IsCell page.now (cell_of result) }
+{
+    if !is_right {
         return Content::Nothing;
+    }
+    content_with(page, front_tag(page))
+}
+
+// What a page is that is sealed with this tag, or with none.
+fn content_with(page: &Page, tag: Option<Tag>) -> Content
+    requires { IsTagOf page.now tag }
+    ensures { IsCell page.now (cell_of result) }
+{
+    bytes_are_a_block(&page.body);
+    let Some(tag) = tag else {
+        return Content::Nothing;
+    };
+    let opened = Opened {
+        tag,
+        body: page.body,
     };
     if opened.tag.kind == Tag::MARK {
         return match mark_in(&opened) {

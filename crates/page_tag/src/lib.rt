@@ -13,7 +13,7 @@ mod mark_read;
 mod page;
 mod zeros;
 
-pub use contents::{Content, Mark, content_of};
+pub use contents::{Content, Mark, content_of, contents_of_four};
 pub use facts::one_seal;
 pub use jobs::{UnsealedJob, tag_read};
 pub use mark::mark_body;

@@ -1,6 +1,6 @@
 //! Sealed pages.
-ghost use Rattle.std.specs.Prelude.{◌≡◌, ◌↔◌, ◌++◌, ℕ, List, IfSome, IsTrue, None, Some};
-ghost use Rattle.ufs_spec.specs.Pages.{IsTag, MayBeLeft, seal_page};
+ghost use Rattle.std.specs.Prelude.{◌≡◌, ◌↔◌, ◌++◌, ℕ, List, IfSome, IsTrue, None, Some, take};
+ghost use Rattle.ufs_spec.specs.Pages.{IsTag, MayBeLeft, seal_page, spare_front};
 ghost use Rattle.ufs_spec.specs.declared.flash.Tag.{Tag};
 
 use crate::check::{check_bytes, is_check_right};
@@ -35,12 +35,27 @@ pub fn sealed_tag(page: &Page) -> Option<Tag>
     ensures sealed { IfSome result (λ t. IsTag t × (page.now ≡ seal_page t page.now.body)) }
     ensures refused { result ≡ None → (t : Tag) (b : List ℕ) → IsTag t → ¬ (page.now ≡ seal_page t b) }
 {
+    let Some(tag) = front_tag(page) else {
+        return None;
+    };
+    if !is_check_right(page) {
+        return None;
+    }
+    Some(tag)
+}
+
+/// The tag whose page has these first 64 spare bytes, whether or not its check is right. `None` is
+/// for a page whose first 64 spare bytes no tag within its ranges has. It takes no SHA-256.
+pub(crate) fn front_tag(page: &Page) -> Option<Tag>
+    ensures said { IfSome result (λ t. IsTag t × (take 64 page.now.spare ≡ spare_front t)) }
+    ensures refused { result ≡ None → (t : Tag) → IsTag t → ¬ (take 64 page.now.spare ≡ spare_front t) }
+{
     let tag = tag_of(&page.spare);
     if !is_tag(&tag) {
         return None;
     }
     let front = front_of(&tag);
-    if front[..] != page.spare[..64] || !is_check_right(page) {
+    if front[..] != page.spare[..64] {
         return None;
     }
     Some(tag)

@@ -2,7 +2,7 @@
 use Rattle.std.proofs.Common.{◌≡◌, ◌≢◌, ◌∙◌, ℕ, ◌+◌, ◌<◌, ◌≤◌, ◌==◌, true, false, List, [], Some, None}
 use Rattle.std.proofs.Common.{if◌then◌else◌, ⊎_elim, arith, refl, sym, subst, inl}
 use Rattle.std.specs.Prelude.{slice_get}
-use Rattle.ufs_spec.specs.Cells.{AreWithin, Cells, IsCell, Nothing, Shows}
+use Rattle.ufs_spec.specs.Cells.{AreWithin, Cell, Cells, IsCell, Nothing, Shows}
 use Rattle.ufs_spec.specs.Dies.{DieState, page_at}
 use Rattle.ufs_spec.specs.Disk.{at_place}
 use Rattle.ufs_spec.specs.Kept.{IsNewestMark}
@@ -14,6 +14,7 @@ use Rattle.ufs_spec.specs.declared.flash.Place.{Place}
 use Rattle.ufs_spec.proofs.CellKinds.{mark_not_nothing, page_not_nothing}
 use Rattle.ufs_spec.proofs.Facts.{cases_Bool, cases_lt, cond-false, cond-true, eq-eqb, eqb-true, none-some}
 use Rattle.ufs_laws.proofs.array_cells.StandsForSomething.{within_dies}
+use Rattle.ufs_laws.proofs.pages.PageIsOneCell.{one_cell}
 use Rattle.power_loss.proofs.die_pages.BlankOutsideDies.{fit_inside}
 use Rattle.recovery.specs.Listed.{AreListed, AreMarksListed, IsMarksRecord}
 use Rattle.recovery.specs.Reading.{AreRead, IsNoted, IsTable, IsTableOf, IsTableTo, ShowsDie, StandsBefore}
@@ -127,6 +128,15 @@ module _ (n : Numbers) (c : Cells) where
 
         whole : r.seen ≡ c
         whole = λ i p. each p i
+
+-- a page more, which was told as what it is and noted
+pub told_and_noted : (n : Numbers) (c : Cells) (d b g next : ℕ) (t u : Table) (page : Page) (x : Cell)
+    → next ≡ g + 1 → IsCell page x → IsCell page (c (place_at d b g)) → IsNoted (place_at d b g) x t u
+    → IsTableTo n d b g c t → IsTableTo n d b next c u
+told_and_noted n c d b g next t u page x more told is noted r =
+    let same : x ≡ c (place_at d b g) = one_cell page x (c (place_at d b g)) told is in
+    subst (λ (k : ℕ). IsTableTo n d b k c u) (sym more)
+    (page_read n c d b g t u page r is (subst (λ (y : Cell). IsNoted (place_at d b g) y t u) same noted))
 
 -- ## A die alone
 

@@ -12,8 +12,9 @@ returns-clause-read g c =
     on_ok_weaker c.note.result
     (λ h cells shown.
     let place = c.args.place in
-    let found : IsCell c.read.new.into (cells place) =
-    subst (λ (page : Page). IsCell page (cells place)) (sym c.in-Ok.ensures.found) (shown place refl) in
-    let same = one_cell c.read.new.into (cell_of c.content_of.result) (cells place) c.content_of.ensures found in
+    let page = c.read_into.new.page in
+    let found : IsCell page (cells place) =
+    subst (λ (p : Page). IsCell p (cells place)) (sym c.in_default.ensures.found) (shown place refl) in
+    let same = one_cell page (cell_of c.content_of.result) (cells place) c.content_of.ensures found in
     subst (λ (x : Cell). IsNoted place x c.args.table.now c.note.new.self) same h)
     c.note.ensures.noted

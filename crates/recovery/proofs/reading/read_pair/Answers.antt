@@ -1,0 +1,31 @@
+use Rattle.std.proofs.Common.{◌∙◌, ◌+◌, ap, arith, subst, sym}
+use Rattle.std.proofs.lemmas.Result.{IfErr-weaker, on_ok_weaker}
+use Rattle.ufs_spec.specs.Dies.{DieState, LiesOnDie, page_at}
+use Rattle.recovery.proofs.tables.Counts.{die_fault_later}
+use Rattle.recovery.proofs.reading.read_pair.Goals as goal
+
+pub read_into-requires : goal.read_into-requires
+read_into-requires g c = (c.requires.inside.0, omega (arith, c.requires.inside.1))
+
+pub read_into-requires-2 : goal.read_into-requires-2
+read_into-requires-2 g c =
+    subst (λ (die : DieState). LiesOnDie die c.args.spot.1 (c.args.index + 1)) (sym c.read_into.ensures.same)
+    c.requires.inside
+
+pub returns : goal.returns
+returns g c =
+    let same = c.read_into.ensures.same in
+    record {
+      same = c.read_into-2.ensures.same ∙ same;
+      counted = omega (arith, c.read_into.ensures.counted, c.read_into-2.ensures.counted);
+      one = on_ok_weaker c.read_into-2.result (λ _. c.in_default.ensures.found) c.read_into-2.ensures.found;
+      next =
+          on_ok_weaker c.read_into-2.result
+          (λ h. h ∙ ap (λ (die : DieState). page_at die c.args.spot.1 (c.args.index + 1)) same)
+          c.read_into-2.ensures.found;
+      fault =
+          IfErr-weaker c.read_into-2.result _ _
+          (λ e h. die_fault_later c.args.spot.0 (g.D.Die.failed c.args.die.now) (g.D.Die.failed c.read_into.new.die)
+          (g.D.Die.failed c.read_into-2.new.die) e c.read_into.ensures.counted h)
+          c.read_into-2.ensures.fault;
+    }
