@@ -1,6 +1,8 @@
 pub mod Counts
 pub mod LiveCounts
 pub mod LowestWords
+pub mod MarkedWords
+pub mod Marks
 pub mod Relations
 pub mod Searches
 pub mod States

@@ -1,15 +1,15 @@
 -- Blocks that may be collected, word by word and bucket by bucket, and how many probes that takes.
 use Rattle.std.proofs.Common.{◌≡◌, ◌∙◌, ◌⊎◌, ℕ, zero, suc, ◌+◌, ◌-◌, ◌*◌, ◌/◌, ◌%◌, ◌^◌, ◌<◌, ◌≤◌, ◌&&◌, ◌||◌, Bool}
 use Rattle.std.proofs.Common.{true, false, cond, List, [], ◌∷◌, ◌++◌, Some, ap, arith, length, refl, sym, subst}
-use Rattle.std.proofs.Common.{add-one, inl, inr, not, if◌then◌else◌}
+use Rattle.std.proofs.Common.{add-one, inl, inr, not}
 use Rattle.std.specs.Prelude.{nat_lt, ◌==◌, slice_get, unwrap_or, count_by, map, bit_or, bit_and}
 use Rattle.std.specs.Int.{bit_not, trailing_zeros, w64}
-use Rattle.std.specs.List.{flat_map, list_any}
-use Rattle.std.proofs.Math.Nat.{mul_comm, mul-suc}
+use Rattle.std.specs.List.{flat_map, list_any, sum_by}
+use Rattle.std.proofs.Math.Nat.{mul_comm}
 use Rattle.std.proofs.lemmas.Grind.{flat_map-append}
 use Rattle.std.proofs.lemmas.List.{append-nil, map-append}
 use Rattle.std.proofs.lemmas.List.Folds.{list_any-append}
-use Rattle.std.proofs.lemmas.List.Sums.{sum_by-append}
+use Rattle.std.proofs.lemmas.List.Sums.{sum_by_push}
 use Rattle.std.proofs.lemmas.Nat.{div-mul-add, mod-mul-add, mul-add-lt}
 use Rattle.ufs_spec.proofs.Facts.{and_from, and_parts, cases_lt, eq-eqb, eqb-true, false≢true}
 use Rattle.ufs_spec.proofs.Facts.{lt-ltb, ltb-true, or_left, or_right}
@@ -20,8 +20,8 @@ use Rattle.block_table.specs.Buckets.{Buckets, IsLowest, IsWord, bit, has, words
 use Rattle.block_table.specs.LiveRooms.{AreCounted, has_no_pin, is_unpinned_with}
 use Rattle.block_table.specs.Lives.{Lives, block_place, gains, has_block, is_bad_with_live, is_pinned, live_count}
 use Rattle.block_table.specs.Lives.{may_be_victim, spot, spots_in, spots_of_die}
-use Rattle.block_table.specs.Probes.{has_unpinned, is_bad_at, is_victim_at, most_probes}
-use Rattle.block_table.specs.Probes.{spot_there}
+use Rattle.block_table.specs.Probes.{has_unpinned, is_bad_at, is_unpinned_of, is_victim_at, most_probes}
+use Rattle.block_table.specs.Probes.{spot_there, word_probes}
 use Rattle.block_table.specs.Sorted.{IsWordOf, blocks_in, same_state, state_there}
 use Rattle.block_table.specs.Victims.{CanBeVictim, IsBefore, IsNoVictim, IsVictim}
 use Rattle.block_table.specs.declared.BlockState.{BlockState}
@@ -339,11 +339,11 @@ bad_none l t number over before =
 
 -- Buckets
 
--- no block of an empty bucket may be collected
+-- no block that does not stand in the bucket may be collected
 pub empty_none : (l : Lives) (t : Blocks) (counts : List ℕ) (b : Buckets) (count : ℕ) → count ≤ l.sizes.pages →
     length l.pins ≡ blocks_in l.sizes → AreCounted l counts → AreUnpinned b l.sizes.pages counts l.pins →
-    ((p : ℕ) → has b count p ≡ false) → (p : ℕ) → is_victim_at l t count p ≡ false
-empty_none l t counts b count few whole kept old empty p = by (cases_lt p (blocks_in l.sizes))
+    (p : ℕ) → has b count p ≡ false → is_victim_at l t count p ≡ false
+empty_none l t counts b count few whole kept old p empty = by (cases_lt p (blocks_in l.sizes))
   where
     s : Spot
     s = spot_there l.sizes p
@@ -358,21 +358,29 @@ empty_none l t counts b count few whole kept old empty p = by (cases_lt p (block
     by (inl inside) =
         ap (λ (c : Bool). c && ((live_count l s == count) && may_be_victim l t s)) (lt-ltb p (blocks_in l.sizes) inside)
         ∙ none (not (is_pinned l s)) (live_count l s == count) (gains l s (state_of t s.die s.block))
-        (sym (unpinned_is l counts count p kept whole inside) ∙ sym (old count p few) ∙ empty p)
+        (sym (unpinned_is l counts count p kept whole inside) ∙ sym (old count p few) ∙ empty)
     by (inr out) =
         ap (λ (c : Bool). c && ((live_count l s == count) && may_be_victim l t s)) (ge-ltb p (blocks_in l.sizes) out)
 
--- and one that is not empty has a block without a pin
+-- one that does has no pin
+pub held_there : (l : Lives) (counts : List ℕ) (b : Buckets) (count p : ℕ) → count ≤ l.sizes.pages →
+    length l.pins ≡ blocks_in l.sizes → AreCounted l counts → AreUnpinned b l.sizes.pages counts l.pins →
+    has b count p ≡ true → (p < blocks_in l.sizes) × (is_unpinned_of l count (spot_there l.sizes p) ≡ true)
+held_there l counts b count p few whole kept old h = by (cases_lt p (blocks_in l.sizes))
+  where
+    by : (p < blocks_in l.sizes) ⊎ (blocks_in l.sizes ≤ p) →
+        (p < blocks_in l.sizes) × (is_unpinned_of l count (spot_there l.sizes p) ≡ true)
+    by (inl inside) =
+        (inside, sym (unpinned_is l counts count p kept whole inside) ∙ sym (old count p few) ∙ h)
+    by (inr out) = absurd (false≢true (sym (unpinned_past l counts count p whole out) ∙ sym (old count p few) ∙ h))
+
+-- so a bucket that is not empty has a block without a pin
 pub held_unpinned : (l : Lives) (counts : List ℕ) (b : Buckets) (count : ℕ) → count ≤ l.sizes.pages →
     length l.pins ≡ blocks_in l.sizes → AreCounted l counts → AreUnpinned b l.sizes.pages counts l.pins →
     (p : ℕ) × (has b count p ≡ true) → has_unpinned l count ≡ true
-held_unpinned l counts b count few whole kept old (p, h) = by (cases_lt p (blocks_in l.sizes))
-  where
-    by : (p < blocks_in l.sizes) ⊎ (blocks_in l.sizes ≤ p) → has_unpinned l count ≡ true
-    by (inl inside) =
-        any_there (λ (s : Spot). not (is_pinned l s) && (live_count l s == count)) l.sizes p inside
-        (sym (unpinned_is l counts count p kept whole inside) ∙ sym (old count p few) ∙ h)
-    by (inr out) = absurd (false≢true (sym (unpinned_past l counts count p whole out) ∙ sym (old count p few) ∙ h))
+held_unpinned l counts b count few whole kept old (p, h) =
+    let u = held_there l counts b count p few whole kept old h in
+    any_there (is_unpinned_of l count) l.sizes p u.0 u.1
 
 -- Victims
 
@@ -458,41 +466,21 @@ first_is l t count p before first = (
 
 -- Probes
 
-one_more : (f : ℕ → Bool) (n : ℕ) → count_by f (below (n + 1)) ≡ count_by f (below n) + cond (f n) 1 0
-one_more f n =
-    ap (λ (k : ℕ). count_by f (below k)) (add-one n)
-    ∙ sum_by-append (λ k. cond (f k) 1 0) (below n) (n ∷ [])
-    ∙ ap (λ (k : ℕ). count_by f (below n) + k) (zero_first (cond (f n) 1 0))
-  where
-    zero_first : (k : ℕ) → 0 + k ≡ k
-    zero_first k = omega arith
+pub one_more : (f : ℕ → Bool) (n : ℕ) → count_by f (below (n + 1)) ≡ count_by f (below n) + cond (f n) 1 0
+one_more f n = ap (λ (k : ℕ). count_by f (below k)) (add-one n) ∙ sum_by_push (λ k. cond (f k) 1 0) (below n) n
 
 -- the probes of one bucket more
-pub probes_more : (f : ℕ → Bool) (words count i x y : ℕ) → x ≤ i + (count + words * count_by f (below count)) →
-    y ≤ x + 1 + (if f count then words else 0) → y ≤ i + (count + 1 + words * count_by f (below (count + 1)))
-probes_more f words count i x y h k =
-    subst (λ (c : ℕ). y ≤ i + (count + 1 + words * c)) (sym (one_more f count)) (by (f count) k)
-  where
-    by : (b : Bool) → y ≤ x + 1 + (if b then words else 0) →
-        y ≤ i + (count + 1 + words * (count_by f (below count) + cond b 1 0))
-    by true m =
-        let e : words * (count_by f (below count) + 1) ≡ words * count_by f (below count) + words =
-        ap (λ (c : ℕ). words * c) (add-one (count_by f (below count))) ∙ mul-suc words (count_by f (below count)) in
-        let u : y ≤ x + 1 + words = m in
-        omega arith
-    by false m =
-        let e : words * (count_by f (below count) + 0) ≡ words * count_by f (below count) =
-        ap (λ (c : ℕ). words * c) (more_none (count_by f (below count))) in
-        let u : y ≤ x + 1 + 0 = m in
-        omega arith
-      where
-        more_none : (c : ℕ) → c + 0 ≡ c
-        more_none c = omega arith
+pub probes_more : (f : ℕ → ℕ) (count i x y : ℕ) → x ≤ i + (count + sum_by f (below count)) → y ≤ x + 1 + f count →
+    y ≤ i + (count + 1 + sum_by f (below (count + 1)))
+probes_more f count i x y h k =
+    let e : sum_by f (below (count + 1)) ≡ sum_by f (below count) + f count =
+    ap (λ (n : ℕ). sum_by f (below n)) (add-one count) ∙ sum_by_push f (below count) count in
+    omega arith
 
 -- and those of the buckets up to the victim's
 pub probes_with : (l : Lives) (s : Spot) (count i x y : ℕ) → live_count l s ≡ count →
-    x ≤ i + (count + words_for (blocks_in l.sizes) * count_by (has_unpinned l) (below count)) →
-    y ≤ x + 1 + (if has_unpinned l count then words_for (blocks_in l.sizes) else 0) → y ≤ i + most_probes l (Some s)
+    x ≤ i + (count + sum_by (word_probes l) (below count)) → y ≤ x + 1 + word_probes l count →
+    y ≤ i + most_probes l (Some s)
 probes_with l s count i x y e h k =
-    subst (λ (c : ℕ). y ≤ i + (c + 1 + words_for (blocks_in l.sizes) * count_by (has_unpinned l) (below (c + 1)))) (sym e)
-    (probes_more (has_unpinned l) (words_for (blocks_in l.sizes)) count i x y h k)
+    subst (λ (c : ℕ). y ≤ i + (c + 1 + sum_by (word_probes l) (below (c + 1)))) (sym e)
+    (probes_more (word_probes l) count i x y h k)

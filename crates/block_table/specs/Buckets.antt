@@ -61,3 +61,12 @@ IsWord test number word = (j : ℕ) → j < 64 → bit word j ≡ test (64 * num
 pub record IsLowest (test : ℕ → Bool) (k : ℕ) : Type 0 where
   pub passes : test k ≡ true
   pub below : (j : ℕ) → j < k → test j ≡ false
+
+-- the bit for a word of 64 numbers is 1 if one of them passes, and 0 if none does
+abbrev pub IsMark : (ℕ → Bool) → ℕ → Bool → Type 0
+IsMark test number true = (j : ℕ) × ((j < 64) × (test (64 * number + j) ≡ true))
+IsMark test number false = (j : ℕ) → j < 64 → test (64 * number + j) ≡ false
+
+-- the word of the second level has a bit for each of 64 words, in order: whether one of the word's numbers passes
+abbrev pub AreMarks : (ℕ → Bool) → ℕ → ℕ → Type 0
+AreMarks test group marks = (j : ℕ) → j < 64 → IsMark test (64 * group + j) (bit marks j)

@@ -1,12 +1,13 @@
 -- Where the search for a victim looks: at the places of blocks, word by word, and how often.
-use Rattle.std.specs.Prelude.{ℕ, ◌+◌, ◌*◌, ◌/◌, ◌%◌, ◌≡◌, ◌==◌, ◌&&◌, nat_lt, not, Bool, false, count_by}
-use Rattle.std.specs.Prelude.{None, Option, Some}
-use Rattle.std.specs.List.{list_any}
+use Rattle.std.specs.Prelude.{ℕ, ◌+◌, ◌/◌, ◌%◌, ◌≡◌, ◌<◌, ◌==◌, ◌&&◌, nat_lt, not, Bool, false, count_by}
+use Rattle.std.specs.Prelude.{None, Option, Some, if◌then◌else◌}
+use Rattle.std.specs.List.{list_any, sum_by}
 use Rattle.ufs_spec.specs.Disk.{Spot}
 use Rattle.ufs_spec.specs.Keys.{below}
 use Rattle.block_table.specs.Blocks.{Blocks}
 use Rattle.block_table.specs.Buckets.{IsLowest, words_for}
-use Rattle.block_table.specs.Lives.{Lives, is_bad_with_live, is_pinned, live_count, may_be_victim, spots_in}
+use Rattle.block_table.specs.Lives.{Lives, block_place, is_bad_with_live, is_pinned, live_count, may_be_victim}
+use Rattle.block_table.specs.Lives.{spots_in}
 use Rattle.block_table.specs.Sorted.{blocks_in}
 use Rattle.block_table.specs.declared.Sizes.{Sizes}
 
@@ -29,17 +30,44 @@ abbrev pub IsFirstVictim : Lives → Blocks → ℕ → Option ℕ → Type 0
 IsFirstVictim l t count None = (p : ℕ) → is_victim_at l t count p ≡ false
 IsFirstVictim l t count (Some p) = IsLowest (is_victim_at l t count) p
 
+-- that place; without it, there is none before the end
+abbrev pub IsFirstVictimTo : Lives → Blocks → (count end : ℕ) → Option ℕ → Type 0
+IsFirstVictimTo l t count end None = (p : ℕ) → p < end → is_victim_at l t count p ≡ false
+IsFirstVictimTo l t count end (Some p) = IsLowest (is_victim_at l t count) p
+
+-- the block has no pin and so many live pages
+abbrev pub is_unpinned_of : Lives → ℕ → Spot → Bool
+is_unpinned_of l count s = not (is_pinned l s) && (live_count l s == count)
+
 -- some block without a pin has so many live pages
 abbrev pub has_unpinned : Lives → ℕ → Bool
-has_unpinned l count = list_any (λ s. not (is_pinned l s) && (live_count l s == count)) (spots_in l.sizes)
+has_unpinned l count = list_any (is_unpinned_of l count) (spots_in l.sizes)
+
+-- some block of this word of 64 blocks has no pin and so many live pages
+abbrev pub word_has : Lives → ℕ → ℕ → Bool
+word_has l count number =
+    list_any (λ s. (block_place l.sizes s / 64 == number) && is_unpinned_of l count s) (spots_in l.sizes)
+
+-- in how many of the first words of 64 blocks a block without a pin has so many live pages
+abbrev pub words_to : Lives → ℕ → ℕ → ℕ
+words_to l count n = count_by (word_has l count) (below n)
+
+-- in how many of all words of 64 blocks a block without a pin has so many live pages
+abbrev pub words_with : Lives → ℕ → ℕ
+words_with l count = words_to l count (words_for (blocks_in l.sizes))
+
+-- the probes of words for a number of live pages that a block without a pin has: one for each word of the second level,
+-- each of which tells of 64 words, and one for each word of 64 blocks in which such a block stands
+abbrev pub word_probes : Lives → ℕ → ℕ
+word_probes l count =
+    if has_unpinned l count then words_for (words_for (blocks_in l.sizes)) + words_with l count else 0
 
 -- how many numbers of live pages are at most that of the victim; without a victim, how many there are
 abbrev pub counts_to : Lives → Option Spot → ℕ
 counts_to l None = l.sizes.pages + 1
 counts_to l (Some s) = live_count l s + 1
 
--- a probe for each number of live pages up to the victim's, and for each of them that a block without a pin has, a
--- probe for each word of 64 blocks
+-- a probe for each number of live pages up to the victim's, and for each of them that a block without a pin has those
+-- of its words
 abbrev pub most_probes : Lives → Option Spot → ℕ
-most_probes l o =
-    counts_to l o + words_for (blocks_in l.sizes) * count_by (has_unpinned l) (below (counts_to l o))
+most_probes l o = counts_to l o + sum_by (word_probes l) (below (counts_to l o))

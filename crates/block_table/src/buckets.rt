@@ -1,7 +1,8 @@
-//! Blocks in buckets: which blocks stand in each bucket, as words of 64 blocks, and how many.
+//! Blocks in buckets: which blocks stand in each bucket, as words of 64 blocks, which of these
+//! words have any, and how many blocks.
 
 ghost use Rattle.std.specs.Prelude.{◌≡◌, ◌<◌, ◌≤◌, ◌*◌, ◌+◌, ◌^◌, ℕ, IfOk, IfSome, false, if◌then◌else◌, nat_le, true, ◌&&◌};
-ghost use Rattle.block_table.specs.Buckets.{IsLowest, IsWord, Stands, bit, has, in_first, in_none, moved, with_bit, with_block, words_for};
+ghost use Rattle.block_table.specs.Buckets.{AreMarks, IsLowest, IsWord, Stands, bit, has, in_first, in_none, moved, with_bit, with_block, words_for};
 
 use std::alloc::{AllocError, Global};
 use std::marker::Model;
@@ -9,7 +10,10 @@ use std::marker::Model;
 /// How many blocks a word has a bit for.
 pub(super) const WORD: usize = 64;
 
-/// Buckets of blocks. A block has the same place in each bucket, and stands in any of them.
+/// Buckets of blocks. A block has the same place in each bucket, and stands in any of them. Each
+/// bucket has two levels of words: a bit for each place, and a bit for each of these words.
+///
+/// A bit of the second level is 1 if a block of its word stands in the bucket, and 0 if none does.
 #[derive(Drop)]
 pub(super) struct BlockBuckets {
     /// How many words a bucket has.
@@ -18,6 +22,8 @@ pub(super) struct BlockBuckets {
     table: Vec<u64>,
     /// How many blocks stand in each bucket.
     held: Vec<usize>,
+    /// The second level of all buckets, in order: a bit for each word, 1 if the word is not 0.
+    marks: Vec<u64>,
 }
 
 impl Model for BlockBuckets {
@@ -47,11 +53,12 @@ impl BlockBuckets {
         requires room { buckets * words_for places < 2 ^ 60 }
         ensures { IfOk result (λ b. Stands b buckets (words_for places) in_none) }
     {
-        let words = (places + (WORD - 1)) / WORD;
+        let words = words_for(places);
         Ok(BlockBuckets {
             words,
             table: vec![in alloc; 0; buckets * words]?,
             held: vec![in alloc; 0; buckets]?,
+            marks: vec![in alloc; 0; buckets * words_for(words)]?,
         })
     }
 
@@ -74,7 +81,8 @@ impl BlockBuckets {
         ensures { Stands self.new self.old.buckets self.old.words
             (with_block (has self.old) bucket place stands) }
     {
-        let index = bucket * self.words + place / WORD;
+        let number = place / WORD;
+        let index = bucket * self.words + number;
         let word = self.table[index];
         if has_bit(word, place % WORD) == stands {
             return;
@@ -82,7 +90,11 @@ impl BlockBuckets {
         let held = self.held[bucket];
         let counted = if stands { held + 1 } else { held - 1 };
         self.held[bucket] = counted;
-        self.table[index] = with_bit(word, place % WORD, stands);
+        let after = with_bit(word, place % WORD, stands);
+        self.table[index] = after;
+        let group = bucket * words_for(self.words) + number / WORD;
+        let marks = self.marks[group];
+        self.marks[group] = with_bit(marks, number % WORD, after > 0);
     }
 
     /// The block stands in the second bucket from now on and no more in the first, if it did.
@@ -128,6 +140,27 @@ impl BlockBuckets {
         }
         self.table[bucket * self.words + word]
     }
+
+    /// The word of this number of the second level of the bucket: a bit for each of 64 words, 1 if
+    /// a block of the word stands there.
+    pub(super) fn marks(&self, bucket: usize, group: usize) -> u64
+        requires { bucket < self.now.buckets }
+        ensures { AreMarks (has self.now bucket) group result }
+    {
+        let groups = words_for(self.words);
+        if group >= groups {
+            return 0;
+        }
+        self.marks[bucket * groups + group]
+    }
+}
+
+/// How many words have a bit for each of so many places.
+pub(super) fn words_for(places: usize) -> usize
+    requires { places ≤ 2 ^ 63 }
+    ensures { result ≡ words_for places }
+{
+    (places + (WORD - 1)) / WORD
 }
 
 /// Whether the bit of the word is 1.

@@ -5,11 +5,11 @@ ghost use Rattle.std.specs.List.{list_any};
 ghost use Rattle.block_table.specs.Lives.{block_place, has_block, has_page, is_bad_with_live, is_live, is_pinned, live_count, live_from, page_place, pins_of, places_in, spot, spot_at, spots_in, victim, with_live, with_pins};
 ghost use Rattle.block_table.specs.Buckets.{IsWord, Stands, bit, in_first, words_for};
 ghost use Rattle.block_table.specs.Lowest.{IsFirstUsed, IsLowestBlock, is_used_from};
-ghost use Rattle.block_table.specs.Probes.{IsFirstVictim, has_unpinned, is_bad_at, is_victim_at, most_probes, spot_there};
+ghost use Rattle.block_table.specs.Probes.{IsFirstVictim, IsFirstVictimTo, is_bad_at, is_victim_at, most_probes, spot_there, word_probes, words_to, words_with};
 ghost use Rattle.block_table.specs.Sorted.{blocks_in};
 ghost use Rattle.block_table.specs.Victims.{IsNoVictim, IsVictim};
 
-use crate::buckets::{BlockBuckets, WORD, from_bit, lowest_bit};
+use crate::buckets::{BlockBuckets, WORD, from_bit, lowest_bit, words_for};
 use crate::{BlockState, BlockTable, Sizes};
 use std::alloc::{AllocError, Global};
 use std::marker::Model;
@@ -22,7 +22,8 @@ pub struct BlockAt {
     pub block: u16,
 }
 
-/// How many looks a search took. A probe is a look at whether any block stands in a bucket, or at
+/// How many looks a search took. A probe is a look at whether any block stands in a bucket, at one
+/// word of the second level of a bucket, which says of 64 words whether a block stands there, or at
 /// one word of 64 blocks of a bucket, with the words of the same blocks that say what each is.
 #[derive(Clone, Copy, Debug, Default, PartialEq, Eq)]
 pub struct Probes {
@@ -177,8 +178,9 @@ impl LivePages {
     }
 
     /// As `victim`, and counts its probes: one for each number of live pages up to that of the
-    /// victim, and for each of these numbers that a block without a pin has, as many as there are
-    /// words of 64 blocks. Without a victim that is each number of live pages.
+    /// victim; and for each of these numbers that a block without a pin has, one for each word of
+    /// the second level, which tells of 64 words, and one for each word of 64 blocks in which such a
+    /// block stands. Without a victim that is each number of live pages.
     pub fn victim_counted(&self, blocks: &BlockTable, probes: &mut Probes) -> Option<BlockAt>
         ensures search { option_map spot_at result ≡ victim self.now blocks.now }
         ensures least { MatchOption result (IsNoVictim self.now blocks.now)
@@ -272,8 +274,7 @@ impl LivePages {
     fn first_with(&self, blocks: &BlockTable, count: usize, probes: &mut Probes) -> Option<usize>
         requires { count ≤ self.now.sizes.pages }
         ensures first { IsFirstVictim self.now blocks.now count result }
-        ensures bound { probes.new.count ≤ probes.old.count + 1
-            + (if has_unpinned self.now count then words_for (blocks_in self.now.sizes) else 0) }
+        ensures bound { probes.new.count ≤ probes.old.count + 1 + word_probes self.now count }
     {
         probes.look();
         if self.unpinned_with.is_empty(count) {
@@ -287,13 +288,45 @@ impl LivePages {
         requires { count ≤ self.now.sizes.pages }
         ensures first { IsFirstVictim self.now blocks.now count result }
         ensures bound { probes.new.count ≤ probes.old.count
-            + words_for (blocks_in self.now.sizes) }
+            + (words_for (words_for (blocks_in self.now.sizes)) + words_with self.now count) }
     {
-        for number in 0..self.words() {
+        for group in 0..self.groups() {
+            if let Some(first) = self.first_of_group(blocks, count, group, probes) {
+                return Some(first);
+            }
+        }
+        None
+    }
+
+    /// The same, by the words that one word of the second level tells of. Those before have none.
+    fn first_of_group(
+        &self,
+        blocks: &BlockTable,
+        count: usize,
+        group: usize,
+        probes: &mut Probes,
+    ) -> Option<usize>
+        requires count_there { count ≤ self.now.sizes.pages }
+        requires few { group < 2 ^ 26 }
+        requires none { (p : ℕ) → p < 64 * (64 * group)
+            → is_victim_at self.now blocks.now count p ≡ false }
+        ensures first { IsFirstVictimTo self.now blocks.now count (64 * (64 * (group + 1))) result }
+        ensures bound { probes.new.count + words_to self.now count (64 * group)
+            ≤ probes.old.count + 1 + words_to self.now count (64 * (group + 1)) }
+    {
+        probes.look();
+        let marks = self.unpinned_with.marks(count, group);
+        let mut from = 0;
+        while from < WORD {
+            let Some(mark) = lowest_bit(from_bit(marks, from)) else {
+                return None;
+            };
             probes.look();
+            let number = group * WORD + mark;
             if let Some(bit) = lowest_bit(self.victims(blocks, count, number)) {
                 return Some(number * WORD + bit);
             }
+            from = mark + 1;
         }
         None
     }
@@ -317,6 +350,14 @@ impl LivePages {
         ensures few { result < 2 ^ 32 }
     {
         (self.sizes.dies as usize * self.sizes.blocks as usize + (WORD - 1)) / WORD
+    }
+
+    /// How many words the second level of a bucket has.
+    fn groups(&self) -> usize
+        ensures all { result ≡ words_for (words_for (blocks_in self.now.sizes)) }
+        ensures few { result ≤ 2 ^ 26 }
+    {
+        words_for(self.words())
     }
 
     /// The block at this place among all blocks.

@@ -58,7 +58,7 @@ none_yet test (y ∷ ys) (suc at) x none there fails =
 -- Where a wider test passes
 
 -- each element that passes the one test passes the other
-abbrev IsWider : {A : Type 0} → (A → Bool) → (A → Bool) → Type 0
+abbrev pub IsWider : {A : Type 0} → (A → Bool) → (A → Bool) → Type 0
 IsWider {A} wide test = (x : A) → wide x ≡ false → test x ≡ false
 
 none_left : {A : Type 0} (wide test : A → Bool) (i : ℕ) (xs : List A) → IsWider wide test →
@@ -103,6 +103,21 @@ take_all test (suc from) (x ∷ xs) none more =
     let r = one_less test x (take from xs) none in
     find_behind test x xs r.0 ∙ take_all test from xs r.1 more
 
+-- the elements before the next one that passes the wider test do not pass
+pub next_found : {A : Type 0} (wide test : A → Bool) (xs : List A) (from at : ℕ) → IsWider wide test →
+    find test (take from xs) ≡ None → position_from wide from (drop from xs) ≡ Some at →
+    (find test (take at xs) ≡ None) × (from ≤ at)
+next_found wide test xs from at le none is =
+    let r = none_before wide test from at (drop from xs) le is in
+    let e = r.1 in
+    (take_more test from r.0 at xs e none r.2, omega arith)
+
+-- and where there is no next one, no element does
+pub none_found : {A : Type 0} (wide test : A → Bool) (xs : List A) (from : ℕ) → IsWider wide test →
+    find test (take from xs) ≡ None → position_from wide from (drop from xs) ≡ None → find test xs ≡ None
+none_found wide test xs from le none is =
+    take_all test from xs none (none_left wide test from (drop from xs) le is)
+
 -- Pages that can be programmed now
 
 -- a page that waits can be programmed now
@@ -122,14 +137,9 @@ wider rows p e = by (is_none p.written) p.rest e
 -- the pages before the next one that can be programmed do not wait
 pub none_to : (rows : List DieRow) (ps : List Pending) (from at : ℕ) → find (page_waits rows) (take from ps) ≡ None →
     Some at ≡ first_ready_from ps from → (find (page_waits rows) (take at ps) ≡ None) × (from ≤ at)
-none_to rows ps from at none is =
-    let r = none_before is_ready (page_waits rows) from at (drop from ps) (wider rows) (sym is) in
-    let e = r.1 in
-    (take_more (page_waits rows) from r.0 at ps e none r.2, omega arith)
+none_to rows ps from at none is = next_found is_ready (page_waits rows) ps from at (wider rows) none (sym is)
 
 -- and where there is no next one, no page does
 pub none_after_all : (rows : List DieRow) (ps : List Pending) (from : ℕ) →
     find (page_waits rows) (take from ps) ≡ None → None ≡ first_ready_from ps from → find (page_waits rows) ps ≡ None
-none_after_all rows ps from none is =
-    take_all (page_waits rows) from ps none
-    (none_left is_ready (page_waits rows) from (drop from ps) (wider rows) (sym is))
+none_after_all rows ps from none is = none_found is_ready (page_waits rows) ps from (wider rows) none (sym is)

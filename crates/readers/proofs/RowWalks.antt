@@ -1,18 +1,19 @@
 -- A walk over rows, each of which changes or goes: what is done to the rows before a place and is still to be done to
 -- those from there on comes to the same from place to place.
-use Rattle.std.proofs.Common.{◌≡◌, ◌∙◌, ℕ, ◌+◌, ◌<◌, ◌≤◌, Bool, List, [], ◌∷◌, ◌++◌, append_assoc, drop, get_or}
-use Rattle.std.proofs.Common.{ap, arith, false, is_some, length, refl, slice_set, sym, take, true, Option, None, Some}
+use Rattle.std.proofs.Common.{◌≡◌, ◌∙◌, ℕ, ◌+◌, ◌-◌, ◌<◌, ◌≤◌, Bool, List, [], ◌∷◌, ◌++◌, append_assoc, drop, get_or}
+use Rattle.std.proofs.Common.{ap, arith, false, is_some, length, refl, slice_set, subst, sym, take, true, Option, None, Some}
 use Rattle.std.specs.Prelude.{◌==◌, find, fold, if◌then◌else◌}
 use Rattle.std.specs.Option.{option_or}
 use Rattle.std.proofs.lemmas.List.{append-nil, drop_all, drop_more, take_all, take_more_set, drop-set-lt}
 use Rattle.std.proofs.lemmas.List.{length-append, length-set, length-take, take-append-drop, take-set}
 use Rattle.std.proofs.Math.Seq.{drop-append_seam, take-append_seam}
 use Rattle.std.proofs.lemmas.List.Folds.{find-append}
+use Rattle.std.proofs.lemmas.Option.{slice_get_read}
 use Rattle.std.proofs.lemmas.List.Sums.{fold-append}
 use Rattle.ufs_spec.proofs.Facts.{eqb-true, false≢true, true≢false}
 use Rattle.block_table.specs.Lives.{Lives}
 use Rattle.readers.specs.declared.pin.Pin.{Pin}
-use Rattle.readers.specs.Rows.{RowPins, pins_in, row_of, with_pin}
+use Rattle.readers.specs.Rows.{AreFilled, RowPins, last_takes, pins_in, row_of, takes, takes_at, with_pin}
 
 pub pins_both : (rs ts : List RowPins) → pins_in (rs ++ ts) ≡ pins_in rs ++ pins_in ts
 pins_both [] ts = refl
@@ -120,6 +121,25 @@ pub none_there : (ps : List Pin) (b : Bool) → b ≡ (length ps == 0) → b ≡
 none_there [] b is told = refl
 none_there (p ∷ ps) b is told = absurd (omega (arith, eqb-true (length (p ∷ ps)) 0 (sym is ∙ told)))
 
+-- Filled rows
+
+filled_both : (rs ts : List RowPins) → AreFilled rs → AreFilled ts → AreFilled (rs ++ ts)
+filled_both [] ts a b = b
+filled_both (r ∷ rs) ts a b = (a.0, filled_both rs ts a.1 b)
+
+pub filled_on : (rs : List RowPins) (i : ℕ) (y : RowPins) (b : Bool) → i < length rs → b ≡ (length y.pins == 0) →
+    b ≡ false → AreFilled (take i rs) → AreFilled (take (i + 1) (slice_set rs i y))
+filled_on rs i y b less is told filled =
+    subst AreFilled (sym (take_more_set rs i y less))
+    (filled_both (take i rs) (y ∷ []) filled (sym is ∙ told, tt))
+
+pub filled_gone : (rs ts : List RowPins) (i : ℕ) (y : RowPins) → i < length rs →
+    ts ≡ take i (slice_set rs i y) ++ drop (i + 1) (slice_set rs i y) → AreFilled (take i rs) → AreFilled (take i ts)
+filled_gone rs ts i y less e filled = subst AreFilled (sym (front_stays rs ts i y less e)) filled
+
+pub filled_end : (rs : List RowPins) (i : ℕ) → length rs ≤ i → AreFilled (take i rs) → AreFilled rs
+filled_end rs i all filled = subst AreFilled (take_all i rs all) filled
+
 -- Searches
 
 -- what is not in the row at a place is behind it, if anywhere
@@ -176,6 +196,16 @@ last_more rs i x y ps last is new =
     ∙ ap (λ (qs : List Pin). front ++ qs) (append-nil y.pins ∙ new)
     ∙ sym (append_assoc front x.pins ps)
     ∙ ap (λ (qs : List Pin). qs ++ ps) (sym old)
+
+pub last_told : (rs : List RowPins) (p : Pin) (x : RowPins) → 0 < length rs → x ≡ get_or rs (length rs - 1) x →
+    takes x p ≡ last_takes rs p
+last_told rs p x some is =
+    sym (ap (λ (o : Option RowPins). takes_at o p)
+    (slice_get_read rs (length rs) (length rs - 1) x refl (omega (arith, some)) is))
+
+pub none_told : (rs : List RowPins) (p : Pin) → length rs ≡ 0 → false ≡ last_takes rs p
+none_told [] p none = refl
+none_told (r ∷ rs) p none = absurd (omega (arith, none))
 
 -- the last row takes the pin, or stays
 pub pushed : (b : Bool) (x y : RowPins) (p : Pin) → y ≡ (if b then with_pin x p else x) →

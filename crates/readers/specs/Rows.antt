@@ -1,6 +1,6 @@
 -- Rows of pins, each of one reader.
 use Rattle.std.specs.Prelude.{◌≡◌, ℕ, ◌+◌, ◌≤◌, ◌==◌, Bool, true, false, ◌&&◌, nat_le, nat_lt}
-use Rattle.std.specs.Prelude.{List, [], ◌∷◌, ◌++◌, length}
+use Rattle.std.specs.Prelude.{◌-◌, List, [], ◌∷◌, ◌++◌, length, slice_get, Option, None, Some}
 use Rattle.ufs_spec.specs.declared.layer.Looked.{Looked}
 use Rattle.ufs_spec.specs.declared.layer.Looked.TheVariants.{InSlot, OnPage, Unwritten}
 use Rattle.block_table.specs.Lives.{Lives}
@@ -20,6 +20,19 @@ row_of p = record { reader = p.reader; next = p.index + 1; pins = p ∷ [] }
 -- the row has room for the pin: it is of the reader, and its index is above all that were there
 abbrev pub takes : RowPins → Pin → Bool
 takes r p = (r.reader == p.reader) && (nat_le r.next p.index && nat_lt (length r.pins) 32)
+
+-- the last of the rows has room for the pin
+abbrev pub takes_at : Option RowPins → Pin → Bool
+takes_at None p = false
+takes_at (Some r) p = takes r p
+
+abbrev pub last_takes : List RowPins → Pin → Bool
+last_takes rs p = takes_at (slice_get rs (length rs - 1)) p
+
+-- each row holds a pin
+abbrev pub AreFilled : List RowPins → Type 0
+AreFilled [] = Unit {0}
+AreFilled (r ∷ rs) = ((length r.pins == 0) ≡ false) × AreFilled rs
 
 -- one pin more
 abbrev pub with_pin : RowPins → Pin → RowPins

@@ -1,9 +1,9 @@
 //! Walks over rows of pins, one row behind the other.
-ghost use Rattle.std.specs.Prelude.{◌≡◌, ◌+◌, ◌++◌, ◌≤◌, ◌∷◌, [], IfOk, filter, find, fold};
-ghost use Rattle.std.specs.Prelude.{if◌then◌else◌, length, map, not, vec_capacity};
+ghost use Rattle.std.specs.Prelude.{◌≡◌, ◌+◌, ◌++◌, ◌≤◌, ◌∷◌, ◌||◌, [], IfOk, filter, find, fold};
+ghost use Rattle.std.specs.Prelude.{if◌then◌else◌, length, map, nat_lt, not, vec_capacity};
 ghost use Rattle.readers.specs.Pins.{is_of_reader, is_owed_by, is_pin_of, let_go, moved_pin};
 ghost use Rattle.readers.specs.Pins.{pin_moves, wanted_no_more, wanted_now};
-ghost use Rattle.readers.specs.Rows.{pins_in};
+ghost use Rattle.readers.specs.Rows.{AreFilled, last_takes, pins_in};
 
 use crate::pin::Pin;
 use crate::row::Row;
@@ -42,6 +42,8 @@ pub(crate) fn count_in(rows: &[Row]) -> usize
 pub(crate) fn push_in(rows: &mut Vec<Row>, spare: &mut Vec<Row>, pin: Pin) -> bool
     requires few { length rows.old.items + length spare.old.items ≤ 32 }
     requires room { 32 ≤ vec_capacity rows.old }
+    ensures is { result ≡
+        (last_takes rows.old.items pin || nat_lt 0 (length spare.old.items)) }
     ensures pins { pins_in rows.new.items ≡
         pins_in rows.old.items ++ (if result then pin ∷ [] else []) }
     ensures as_many { length rows.new.items + length spare.new.items ≡
@@ -64,7 +66,8 @@ pub(crate) fn push_in(rows: &mut Vec<Row>, spare: &mut Vec<Row>, pin: Pin) -> bo
 
 /// The pin is behind all that the rows hold, if the last row takes it.
 fn push_in_last(rows: &mut [Row], pin: Pin) -> bool
-    ensures { pins_in rows.new ≡ pins_in rows.old ++ (if result then pin ∷ [] else []) }
+    ensures is { result ≡ last_takes rows.old pin }
+    ensures pins { pins_in rows.new ≡ pins_in rows.old ++ (if result then pin ∷ [] else []) }
 {
     let count = rows.len();
     if count == 0 {
@@ -152,6 +155,7 @@ pub(crate) fn drop_all_in(
         filter (λ p. not (is_of_reader reader p)) (pins_in rows.old.items) }
     ensures blocks { live.new ≡
         fold (let_go (is_of_reader reader)) live.old (pins_in rows.old.items) }
+    ensures filled { AreFilled rows.new.items }
     ensures as_many { length rows.new.items + length spare.new.items ≡
         length rows.old.items + length spare.old.items }
     ensures rows_room { vec_capacity rows.new ≡ vec_capacity rows.old }

@@ -1,39 +1,34 @@
 -- The pages whose rests come by one read, one after another.
 use Rattle.std.proofs.Common.{◌≡◌, ◌∙◌, ℕ, zero, suc, ◌+◌, ◌<◌, ◌≤◌, Bool, true, false, cond, List, [], ◌∷◌, ◌++◌}
-use Rattle.std.proofs.Common.{length, map, take, drop, get_or, refl, sym, ap, arith, Option, None, Some, slice_get}
-use Rattle.std.specs.Prelude.{IfSome, ◌||◌, slice_set}
+use Rattle.std.proofs.Common.{length, take, drop, get_or, refl, sym, ap, arith, Option, None, Some, slice_get}
+use Rattle.std.specs.Prelude.{◌||◌, is_some, option_and_then, option_map, slice_set}
 use Rattle.std.specs.List.{list_any}
-use Rattle.std.proofs.Math.ListN.{get_or-append}
-use Rattle.std.proofs.lemmas.Option.{slice_get_read}
-use Rattle.ufs_spec.proofs.Facts.{none-some, same_Some}
+use Rattle.std.proofs.lemmas.List.{append-nil, drop_all, take_all}
+use Rattle.ufs_spec.proofs.Facts.{none-some, same_Some, true≢false}
+use Rattle.ufs_spec.proofs.Lists.{set_length}
 use Rattle.ufs_spec.specs.declared.layer.Name.{Name}
+use Rattle.word_set.specs.Flags.{passes, tells}
 use Rattle.write_cache.specs.declared.rests.Rest.{Rest}
 use Rattle.write_cache.specs.declared.slots.Pending.{Pending}
 use Rattle.write_cache.specs.Rests.{awaited_by, awaits, base_behind, body_or, comes_by, completed, completed_at}
-use Rattle.write_cache.specs.Rests.{completed_by, own_name, rests_filled}
-use Rattle.write_cache.specs.Ring.{Shown, shown}
+use Rattle.write_cache.specs.Rests.{completed_by, own_name, rests_filled, waits}
+use Rattle.write_cache.specs.Ring.{shown}
 
--- What the ring knows of them
+-- What stays
 
-shown_kept : (base : List ℕ) (o : Option Rest) (p : Pending) → shown (completed_by base o p) ≡ shown p
+pub shown_kept : (base : List ℕ) (o : Option Rest) (p : Pending) → shown (completed_by base o p) ≡ shown p
 shown_kept base None p = refl
 shown_kept base (Some r) p = refl
 
--- no page changes its number, its index or where it is written
-pub rests_shown : (name : Name) (base : List ℕ) (ps : List Pending) →
-    map shown (rests_filled name base ps) ≡ map shown ps
-rests_shown name base [] = refl
-rests_shown name base (p ∷ ps) =
-    by (awaits name p) (rests_shown name (completed base p).body ps) (rests_shown name base ps)
-  where
-    by : (c : Bool) → map shown (rests_filled name (completed base p).body ps) ≡ map shown ps →
-        map shown (rests_filled name base ps) ≡ map shown ps → map shown
-        (cond c (completed base p ∷ rests_filled name (completed base p).body ps) (p ∷ rests_filled name base ps))
-        ≡ shown p ∷ map shown ps
-    by true filled same = λ i. shown_kept base p.rest p i ∷ filled i
-    by false filled same = ap (λ (xs : List Shown). shown p ∷ xs) same
+pub keys_kept : (base : List ℕ) (o : Option Rest) (p : Pending) → (completed_by base o p).key ≡ p.key
+keys_kept base None p = refl
+keys_kept base (Some r) p = refl
 
--- and there are as many
+pub places_kept : (base : List ℕ) (o : Option Rest) (p : Pending) → (completed_by base o p).written ≡ p.written
+places_kept base None p = refl
+places_kept base (Some r) p = refl
+
+-- there are as many pages
 pub rests_length : (name : Name) (base : List ℕ) (ps : List Pending) → length (rests_filled name base ps) ≡ length ps
 rests_length name base [] = refl
 rests_length name base (p ∷ ps) = by (awaits name p) (rests_length name (completed base p).body ps)
@@ -119,53 +114,72 @@ pub passed_more : (name : Name) (base : List ℕ) (ps : List Pending) (k : ℕ) 
 passed_more name base ps k p at w =
     beyond name base ps k p at w ∙ ap (λ (m : ℕ). take m ps ++ rests_filled name base (drop m ps)) (one k)
 
--- what was filled before one place was so before the next
-pub later : (o : Option ℕ) (m : ℕ) → IfSome o (λ k. k < m) → IfSome o (λ k. k < m + 1)
-later None m h = h
-later (Some k) m h = omega (arith, h)
+-- and so do all that wait for nothing
+past : (name : Name) (base : List ℕ) (ps : List Pending) (k : ℕ) → slice_get ps k ≡ None →
+    take k ps ++ rests_filled name base (drop k ps) ≡ take (suc k) ps ++ rests_filled name base (drop (suc k) ps)
+past name base [] zero e = refl
+past name base [] (suc k) e = refl
+past name base (x ∷ ps) zero e = absurd (none-some x (sym e))
+past name base (x ∷ ps) (suc k) e = ap (λ (qs : List Pending). x ∷ qs) (past name base ps k e)
 
--- One page
+not_awaited : (name : Name) (p : Pending) (o : Option Rest) → p.rest ≡ o → is_some o ≡ false → awaits name p ≡ false
+not_awaited name p None e w = ap (λ (o : Option Rest). comes_by name (awaited_by (own_name p) o)) e
+not_awaited name p (Some r) e w = absurd (true≢false w)
 
-there : (front : List Pending) (x : Pending) (back : List Pending) →
-    slice_get (front ++ x ∷ back) (length front) ≡ Some x
-there [] x back = refl
-there (y ∷ front) x back = there front x back
-
-put_there : (front : List Pending) (x y : Pending) (back : List Pending) →
-    slice_set (front ++ x ∷ back) (length front) y ≡ front ++ y ∷ back
-put_there [] x y back = refl
-put_there (z ∷ front) x y back = ap (λ (qs : List Pending). z ∷ qs) (put_there front x y back)
-
-first_of : (front back : List Pending) (base : List ℕ) (p : Pending) → 0 < length back → p ≡ get_or back 0 p →
-    front ++ slice_set back 0 (completed base p)
-    ≡ completed_at base (front ++ back) (length front) (slice_get (front ++ back) (length front))
-first_of front [] base p some is = absurd (omega (arith, some))
-first_of front (x ∷ back) base p some is =
-    ap (λ (y : Pending). front ++ completed base y ∷ back) is
-    ∙ sym (put_there front x (completed base x) back)
-    ∙ sym (ap (completed_at base (front ++ x ∷ back) (length front)) (there front x back))
-
--- the first page behind the others is the one at their end
-pub placed : (ps front back : List Pending) (at : ℕ) (base : List ℕ) (p q : Pending) → ps ≡ front ++ back →
-    length front ≡ at → at < length ps → 0 < length back → p ≡ get_or back 0 p → q ≡ completed base p →
-    front ++ slice_set back 0 q ≡ completed_at base ps at (slice_get ps at)
-placed ps front back at base p q is long within some first done =
-    ap (λ (y : Pending). front ++ slice_set back 0 y) done
-    ∙ first_of front back base p some first
-    ∙ ap (λ (m : ℕ). completed_at base (front ++ back) m (slice_get (front ++ back) m)) long
-    ∙ ap (λ (qs : List Pending). completed_at base qs at (slice_get qs at)) (sym is)
-
--- the bytes of the page that was filled last
-pub behind_is : (ps front back : List Pending) (block : List ℕ) (last : ℕ) (q : Pending) → ps ≡ front ++ back →
-    last < length front → q ≡ get_or front last q → base_behind block ps (Some last) ≡ q.body
-behind_is ps front back block last q is within at =
-    ap (λ (qs : List Pending). base_behind block qs (Some last)) is
-    ∙ ap (body_or block) (slice_get_read (front ++ back) (length (front ++ back)) last q refl long
-    (at ∙ sym (get_or-append front back q last within)))
+unwaited : (name : Name) (base : List ℕ) (ps : List Pending) (k : ℕ) → passes waits ps k ≡ false →
+    take k ps ++ rests_filled name base (drop k ps) ≡ take (suc k) ps ++ rests_filled name base (drop (suc k) ps)
+unwaited name base ps k none = by (slice_get ps k) refl none
   where
-    longer : (xs : List Pending) → length xs ≤ length (xs ++ back)
-    longer [] = omega arith
-    longer (x ∷ xs) = let l = longer xs in omega (arith, l)
+    by : (o : Option Pending) → slice_get ps k ≡ o → tells waits o ≡ false →
+        take k ps ++ rests_filled name base (drop k ps) ≡ take (suc k) ps ++ rests_filled name base (drop (suc k) ps)
+    by None e w = past name base ps k e
+    by (Some p) e w = beyond name base ps k p e (not_awaited name p p.rest refl w)
 
-    long : last < length (front ++ back)
-    long = let l = longer front in omega (arith, l, within)
+pub skipped : (name : Name) (base : List ℕ) (ps : List Pending) (from n at : ℕ) → at ≡ from + n →
+    ((j : ℕ) → from ≤ j → j < at → passes waits ps j ≡ false) →
+    take from ps ++ rests_filled name base (drop from ps) ≡ take at ps ++ rests_filled name base (drop at ps)
+skipped name base ps from zero at is none =
+    ap (λ (m : ℕ). take m ps ++ rests_filled name base (drop m ps)) (let e : from ≡ at = omega (arith, is) in e)
+skipped name base ps from (suc n) at is none =
+    unwaited name base ps from (none from (omega arith) (omega (arith, is)))
+    ∙ skipped name base ps (suc from) n at (omega (arith, is)) (λ j behind less. none j (omega (arith, behind)) less)
+
+-- so where none waits any more, all are filled
+pub all_filled : (name : Name) (base : List ℕ) (ps : List Pending) (from : ℕ) →
+    ((j : ℕ) → from ≤ j → passes waits ps j ≡ false) → take from ps ++ rests_filled name base (drop from ps) ≡ ps
+all_filled name base ps from none =
+    skipped name base ps from (length ps) (from + length ps) refl (λ j behind less. none j behind)
+    ∙ ap (λ (qs : List Pending). qs ++ rests_filled name base (drop (from + length ps) ps))
+    (take_all (from + length ps) ps (omega arith))
+    ∙ ap (λ (qs : List Pending). ps ++ rests_filled name base qs) (drop_all (from + length ps) ps (omega arith))
+    ∙ append-nil ps
+
+-- there are as many pages
+pub completed_length : (base : List ℕ) (ps : List Pending) (k : ℕ) →
+    length (completed_at base ps k (slice_get ps k)) ≡ length ps
+completed_length base ps k = by (slice_get ps k)
+  where
+    by : (o : Option Pending) → length (completed_at base ps k o) ≡ length ps
+    by None = refl
+    by (Some p) = set_length ps k (completed base p)
+
+-- The bytes of the page that was filled last
+
+pub base_there : (block body : List ℕ) (ps : List Pending) (o : Option ℕ) →
+    option_map (λ (p : Pending). p.body) (option_and_then (slice_get ps) o) ≡ Some body → base_behind block ps o ≡ body
+base_there block body ps None e = absurd (none-some body e)
+base_there block body ps (Some k) e = by (slice_get ps k) e
+  where
+    by : (o : Option Pending) → option_map (λ (p : Pending). p.body) o ≡ Some body → body_or block o ≡ body
+    by None e = absurd (none-some body e)
+    by (Some p) e = same_Some p.body body e
+
+-- or what was read
+pub base_read : (block : List ℕ) (ps : List Pending) (o : Option ℕ) →
+    option_map (λ (p : Pending). p.body) (option_and_then (slice_get ps) o) ≡ None → base_behind block ps o ≡ block
+base_read block ps None e = refl
+base_read block ps (Some k) e = by (slice_get ps k) e
+  where
+    by : (o : Option Pending) → option_map (λ (p : Pending). p.body) o ≡ None → body_or block o ≡ block
+    by None e = refl
+    by (Some p) e = absurd (none-some p.body (sym e))

@@ -2,7 +2,7 @@
 use Rattle.std.proofs.Common.{◌≡◌, ◌≢◌, ◌∙◌, ◌⊎◌, ℕ, zero, suc, ◌+◌, ◌-◌, ◌^◌, ◌<◌, Bool, true, false, cond, List, []}
 use Rattle.std.proofs.Common.{◌∷◌, ◌++◌, length, map, replicate, reverse, refl, sym, ap, arith, inl, inr}
 use Rattle.std.proofs.Common.{Option, None, Some, option_map, slice_get}
-use Rattle.std.specs.Prelude.{option_and_then, position, slice_set}
+use Rattle.std.specs.Prelude.{option_and_then, position}
 use Rattle.std.proofs.lemmas.List.{length-map, length-replicate, length-reverse, map-append, reverse-append}
 use Rattle.std.proofs.lemmas.Option.{slice_get-map, slice_get_within}
 use Rattle.geometry.specs.Keys.{index_of, key_total}
@@ -14,15 +14,11 @@ use Rattle.ufs_spec.specs.Keys.{same_key}
 use Rattle.ufs_spec.specs.Plain.{shape_of_numbers}
 use Rattle.ufs_spec.specs.declared.configs.Numbers.{Numbers}
 use Rattle.ufs_spec.specs.declared.flash.Key.{Key}
-use Rattle.ufs_spec.specs.declared.flash.Place.{Place}
-use Rattle.ufs_spec.specs.declared.layer.Name.{Name}
 use Rattle.write_cache.specs.declared.pages.newest.Newest.{Newest}
-use Rattle.write_cache.specs.declared.rests.Rest.{Rest}
 use Rattle.write_cache.specs.declared.slots.Pending.{Pending}
 use Rattle.write_cache.specs.Newest.{IsNewest, index_in, page_if, place_noted, positions_noted}
-use Rattle.write_cache.specs.Rests.{awaits, completed, completed_by, rests_filled}
 use Rattle.write_cache.specs.Ring.{back, wrapped}
-use Rattle.write_cache.specs.Slots.{is_page_of, last_of, last_page, written_at}
+use Rattle.write_cache.specs.Slots.{is_page_of, last_of, last_page}
 
 -- The last of some keys
 
@@ -296,37 +292,3 @@ newest_found t landed ps k at h small few is = by (last_of k ps) refl
         ∙ ap (page_if k) told.1
         ∙ ap (λ (b : Bool). cond b (Some told.0) None) told.2
         ∙ sym told.1
-
--- What the calls of the queue make of its pages
-
--- a page that is written keeps its key
-pub written_keys : (ps : List Pending) (k : ℕ) (place : Place) (o : Option Pending) → slice_get ps k ≡ o →
-    map key_of (written_at ps k place o) ≡ map key_of ps
-written_keys ps k place None e = refl
-written_keys ps k place (Some p) e = set_keys ps k p (record p { written = Some place }) e refl
-  where
-    set_keys : (ps : List Pending) (k : ℕ) (p q : Pending) → slice_get ps k ≡ Some p → q.key ≡ p.key →
-        map key_of (slice_set ps k q) ≡ map key_of ps
-    set_keys [] k p q e same = refl
-    set_keys (x ∷ ps) zero p q e same =
-        ap (λ (z : Key). z ∷ map key_of ps) (same ∙ sym (ap key_of (same_Some x p e)))
-    set_keys (x ∷ ps) (suc k) p q e same =
-        ap (λ (zs : List Key). x.key ∷ zs) (set_keys ps k p q e same)
-
-key_kept : (base : List ℕ) (o : Option Rest) (p : Pending) → (completed_by base o p).key ≡ p.key
-key_kept base None p = refl
-key_kept base (Some r) p = refl
-
--- and so does each that has its content
-pub rests_keys : (name : Name) (base : List ℕ) (ps : List Pending) →
-    map key_of (rests_filled name base ps) ≡ map key_of ps
-rests_keys name base [] = refl
-rests_keys name base (p ∷ ps) =
-    by (awaits name p) (rests_keys name (completed base p).body ps) (rests_keys name base ps)
-  where
-    by : (c : Bool) → map key_of (rests_filled name (completed base p).body ps) ≡ map key_of ps →
-        map key_of (rests_filled name base ps) ≡ map key_of ps → map key_of
-        (cond c (completed base p ∷ rests_filled name (completed base p).body ps) (p ∷ rests_filled name base ps))
-        ≡ p.key ∷ map key_of ps
-    by true filled same = λ i. key_kept base p.rest p i ∷ filled i
-    by false filled same = ap (λ (xs : List Key). p.key ∷ xs) same

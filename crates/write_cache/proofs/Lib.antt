@@ -13,7 +13,9 @@ pub mod Pushes
 pub mod Readies
 pub mod Rows
 pub mod Runs
+pub mod Same
 pub mod Straights
 pub mod Told
 pub mod Turns
 pub mod Waiting
+pub mod WrittenPlaces

@@ -1,27 +1,31 @@
--- The places of the pages that can be programmed now, as pages come, leave, and are written or filled.
-use Rattle.std.proofs.Common.{◌≡◌, ◌∙◌, ℕ, ◌+◌, ◌<◌, ◌≤◌, Bool, false, List, [], ◌∷◌, ◌++◌, length, replicate}
-use Rattle.std.proofs.Common.{refl, sym, ap, arith, Some, get_or, slice_get, zero, suc, drop}
-use Rattle.std.specs.Prelude.{position, slice_set}
-use Rattle.std.proofs.lemmas.Option.{get_or_from_slice_get, slice_get_within}
+-- The places of the pages that pass a test, as those that can be programmed now or wait for their rest: as pages
+-- come, leave, and are written or filled.
+use Rattle.std.proofs.Common.{◌≡◌, ◌⊎◌, ◌∙◌, inl, inr, ℕ, ◌+◌, ◌<◌, ◌≤◌, Bool, false, List, [], ◌∷◌, ◌++◌, length, replicate}
+use Rattle.std.proofs.Common.{map, refl, sym, ap, arith, Option, None, Some, slice_get, zero, suc, drop}
+use Rattle.std.specs.Prelude.{is_some, position, slice_set}
+use Rattle.std.proofs.lemmas.Option.{slice_get_within}
 use Rattle.std.proofs.lemmas.List.{length-append, length-drop}
+use Rattle.ufs_spec.proofs.Facts.{cases_lt, false≢true}
 use Rattle.ufs_spec.proofs.Lists.{get_there, position_told}
 use Rattle.ufs_spec.specs.declared.flash.Place.{Place}
-use Rattle.word_set.specs.Flags.{first_passing, is_set, passes}
-use Rattle.word_set.specs.Tests.{changed}
-use Rattle.word_set.proofs.Flags.{passes_drop, passes_more, passes_set, passes_shifted}
+use Rattle.word_set.specs.Flags.{first_passing, is_set, passes, tells}
+use Rattle.word_set.specs.Tests.{IsFirst, IsFirstFrom, changed}
+use Rattle.word_set.proofs.Flags.{first_told, passes_drop, passes_past, passes_more, passes_set, passes_shifted}
 use Rattle.word_set.proofs.Flags.{same_first, set_here, set_length}
+use Rattle.write_cache.specs.declared.rests.Rest.{Rest}
 use Rattle.write_cache.specs.declared.slots.Pending.{Pending}
-use Rattle.write_cache.specs.Ready.{AreTold, IsReadyTold, first_ready_from, is_ready}
-use Rattle.write_cache.specs.Rests.{completed, completed_at}
+use Rattle.write_cache.specs.Ready.{AreTold, IsSetOf, is_ready}
+use Rattle.write_cache.specs.Rests.{completed, completed_at, completed_by, waits}
 use Rattle.write_cache.specs.Slots.{is_named, written_at}
+use Rattle.write_cache.proofs.Same.{rest_of, same_passes}
 
 -- no page is there, and no flag is set
-pub none_ready : (room n : ℕ) (flags : List Bool) (ps : List Pending) → flags ≡ replicate n false → ps ≡ [] → room ≤ n →
-    IsReadyTold room flags ps
-none_ready room n flags ps is none fits = record {
+pub none_set : (test : Pending → Bool) (room n : ℕ) (flags : List Bool) (ps : List Pending) →
+    flags ≡ replicate n false → ps ≡ [] → room ≤ n → IsSetOf test room flags ps
+none_set test room n flags ps is none fits = record {
   flags_room = let e = ap (λ (xs : List Bool). length xs) is ∙ long n in omega (arith, e, fits);
   told = λ k. ap (λ (xs : List Bool). passes is_set xs k) is ∙ off n k
-      ∙ sym (ap (λ (qs : List Pending). passes is_ready qs k) none);
+      ∙ sym (ap (λ (qs : List Pending). passes test qs k) none);
 }
   where
     long : (n : ℕ) → length (replicate n false) ≡ n
@@ -34,42 +38,43 @@ none_ready room n flags ps is none fits = record {
     off (suc n) (suc k) = off n k
 
 -- one page more
-pub pushed_ready : (room n : ℕ) (flags fs : List Bool) (ps qs : List Pending) (p : Pending) (b : Bool) →
-    IsReadyTold room flags ps → qs ≡ ps ++ p ∷ [] → n ≡ length ps → n < room → b ≡ is_ready p →
-    fs ≡ slice_set flags n b → IsReadyTold room fs qs
-pushed_ready room n flags fs ps qs p b r all at less is set = record {
+pub pushed_set : (test : Pending → Bool) (room n : ℕ) (flags fs : List Bool) (ps qs : List Pending) (p : Pending)
+    (b : Bool) → IsSetOf test room flags ps → qs ≡ ps ++ p ∷ [] → n ≡ length ps → n < room → b ≡ test p →
+    fs ≡ slice_set flags n b → IsSetOf test room fs qs
+pushed_set test room n flags fs ps qs p b r all at less is set = record {
   flags_room = let e = ap (λ (xs : List Bool). length xs) set ∙ set_length flags n b in
       let f = r.flags_room in omega (arith, e, f);
   told = λ k. ap (λ (xs : List Bool). passes is_set xs k) set
       ∙ passes_set is_set flags n b (let f = r.flags_room in omega (arith, f, less)) k
       ∙ (λ i. changed (λ j. r.told j i) (at i) (is i) k)
-      ∙ sym (passes_more is_ready ps p k)
-      ∙ sym (ap (λ (xs : List Pending). passes is_ready xs k) all);
+      ∙ sym (passes_more test ps p k)
+      ∙ sym (ap (λ (xs : List Pending). passes test xs k) all);
 }
 
 -- one page fewer
-pub taken_ready : (room : ℕ) (flags fs : List Bool) (ps qs : List Pending) (p : Pending) → IsReadyTold room flags ps →
-    ps ≡ p ∷ qs → fs ≡ drop 1 flags ++ false ∷ [] → IsReadyTold room fs qs
-taken_ready room flags fs ps qs p r all set = record {
+pub taken_set : (test : Pending → Bool) (room : ℕ) (flags fs : List Bool) (ps qs : List Pending) (p : Pending) →
+    IsSetOf test room flags ps → ps ≡ p ∷ qs → fs ≡ drop 1 flags ++ false ∷ [] → IsSetOf test room fs qs
+taken_set test room flags fs ps qs p r all set = record {
   flags_room = let e = ap (λ (xs : List Bool). length xs) set in
       let a = length-append (drop 1 flags) (false ∷ []) in
       let d = length-drop 1 flags in
       let f = r.flags_room in omega (arith, e, a, d, f);
   told = λ k. ap (λ (xs : List Bool). passes is_set xs k) set
       ∙ passes_shifted flags k ∙ r.told (k + 1)
-      ∙ ap (λ (xs : List Pending). passes is_ready xs (k + 1)) all
-      ∙ sym (passes_drop is_ready 1 (p ∷ qs) k (k + 1) (omega arith));
+      ∙ ap (λ (xs : List Pending). passes test xs (k + 1)) all
+      ∙ sym (passes_drop test 1 (p ∷ qs) k (k + 1) (omega arith));
 }
 
 -- one page changed
-pub changed_told : (flags fs : List Bool) (ps qs : List Pending) (k : ℕ) (q : Pending) (b : Bool) → AreTold flags ps →
-    qs ≡ slice_set ps k q → k < length ps → k < length flags → b ≡ is_ready q → fs ≡ slice_set flags k b → AreTold fs qs
-changed_told flags fs ps qs k q b told all within less is set j =
+changed_told : (test : Pending → Bool) (flags fs : List Bool) (ps qs : List Pending) (k : ℕ) (q : Pending)
+    (b : Bool) → AreTold test flags ps → qs ≡ slice_set ps k q → k < length ps → k < length flags → b ≡ test q →
+    fs ≡ slice_set flags k b → AreTold test fs qs
+changed_told test flags fs ps qs k q b told all within less is set j =
     ap (λ (xs : List Bool). passes is_set xs j) set
     ∙ passes_set is_set flags k b less j
     ∙ (λ i. changed (λ m. told m i) k (is i) j)
-    ∙ sym (passes_set is_ready ps k q within j)
-    ∙ sym (ap (λ (xs : List Pending). passes is_ready xs j) all)
+    ∙ sym (passes_set test ps k q within j)
+    ∙ sym (ap (λ (xs : List Pending). passes test xs j) all)
 
 -- the page that was found is written
 pub found_within : (ps : List Pending) (number index k : ℕ) → Some k ≡ position (is_named number index) ps →
@@ -79,12 +84,12 @@ found_within ps number index k is =
     slice_get_within ps k t.0 t.1
 
 pub written_ready : (room k : ℕ) (flags fs : List Bool) (ps qs : List Pending) (place : Place) →
-    IsReadyTold room flags ps → k < length ps → length ps ≤ room → qs ≡ written_at ps k place (slice_get ps k) →
-    fs ≡ slice_set flags k false → IsReadyTold room fs qs
+    IsSetOf is_ready room flags ps → k < length ps → length ps ≤ room → qs ≡ written_at ps k place (slice_get ps k) →
+    fs ≡ slice_set flags k false → IsSetOf is_ready room fs qs
 written_ready room k flags fs ps qs place r within fits is set = record {
   flags_room = let e = ap (λ (xs : List Bool). length xs) set ∙ set_length flags k false in
       let f = r.flags_room in omega (arith, e, f);
-  told = changed_told flags fs ps qs k (record p { written = Some place }) false r.told
+  told = changed_told is_ready flags fs ps qs k (record p { written = Some place }) false r.told
       (is ∙ ap (written_at ps k place) (get_there ps k within).1) within
       (let f = r.flags_room in omega (arith, f, within, fits)) refl set;
 }
@@ -92,25 +97,56 @@ written_ready room k flags fs ps qs place r within fits is set = record {
     p : Pending
     p = (get_there ps k within).0
 
--- a page was filled, and is read again
-pub filled_told : (flags fs : List Bool) (ps qs : List Pending) (k : ℕ) (base : List ℕ) (r : Pending) (b : Bool) →
-    AreTold flags ps → k < length ps → k < length flags → qs ≡ completed_at base ps k (slice_get ps k) →
-    r ≡ get_or qs k r → b ≡ is_ready r → fs ≡ slice_set flags k b → AreTold fs qs
-filled_told flags fs ps qs k base r b told within less is read is_so set =
-    changed_told flags fs ps qs k (completed base p) b told all within less (is_so ∙ ap is_ready same) set
+-- no page changes what it waits for
+pub rests_kept : (room : ℕ) (flags : List Bool) (ps qs : List Pending) → map rest_of qs ≡ map rest_of ps →
+    IsSetOf waits room flags ps → IsSetOf waits room flags qs
+rests_kept room flags ps qs same r = record {
+  flags_room = r.flags_room;
+  told = λ k. r.told k ∙ sym (same_passes rest_of (λ (o : Option Rest). is_some o) ps qs same k);
+}
+
+-- a page was filled
+module _ (flags fs : List Bool) (ps qs : List Pending) (k : ℕ) (base : List ℕ) (p : Pending)
+    (there : slice_get ps k ≡ Some p) (less : k < length flags)
+    (is : qs ≡ completed_at base ps k (slice_get ps k)) where
+  all : qs ≡ slice_set ps k (completed base p)
+  all = is ∙ ap (completed_at base ps k) there
+
+  within : k < length ps
+  within = slice_get_within ps k p there
+
+  -- it can be programmed if it is so now
+  pub filled_ready : (b : Bool) → AreTold is_ready flags ps → b ≡ passes is_ready qs k → fs ≡ slice_set flags k b →
+      AreTold is_ready fs qs
+  filled_ready b told is_so set =
+      changed_told is_ready flags fs ps qs k (completed base p) b told all within less
+      (is_so ∙ ap (λ (xs : List Pending). passes is_ready xs k) all
+      ∙ ap (tells is_ready) (set_here ps k (completed base p) within)) set
+
+  -- and it waits no more
+  pub filled_waiting : AreTold waits flags ps → fs ≡ slice_set flags k false → AreTold waits fs qs
+  filled_waiting told set =
+      changed_told waits flags fs ps qs k (completed base p) false told all within less (sym (gone p.rest refl)) set
+    where
+      gone : (o : Option Rest) → p.rest ≡ o → waits (completed_by base o p) ≡ false
+      gone None e = ap (λ (o : Option Rest). is_some o) e
+      gone (Some r) e = refl
+
+-- the first page that passes
+pub first_is_told : (test : Pending → Bool) (from : ℕ) (flags : List Bool) (ps : List Pending) →
+    AreTold test flags ps → first_passing is_set from flags ≡ first_passing test from ps
+first_is_told test from flags ps told = same_first is_set test flags ps from told
+
+-- what the first place that is set says of the pages
+pub next_told : (test : Pending → Bool) (from : ℕ) (flags : List Bool) (ps : List Pending) (o : Option ℕ) →
+    AreTold test flags ps → o ≡ first_passing is_set from flags → IsFirstFrom (passes test ps) from o
+next_told test from flags ps o told is =
+    first_told test ps from o (is ∙ first_is_told test from flags ps told)
+
+-- it is that of a page
+pub next_within : (ps : List Pending) (from at : ℕ) → IsFirst (passes waits ps) from at → at < length ps
+next_within ps from at next = by (cases_lt at (length ps))
   where
-    p : Pending
-    p = (get_there ps k within).0
-
-    all : qs ≡ slice_set ps k (completed base p)
-    all = is ∙ ap (completed_at base ps k) (get_there ps k within).1
-
-    same : r ≡ completed base p
-    same = read
-        ∙ get_or_from_slice_get qs k (completed base p) r
-        (ap (λ (xs : List Pending). slice_get xs k) all ∙ set_here ps k (completed base p) within)
-
--- the first page that can be programmed
-pub first_ready_is : (room from : ℕ) (flags : List Bool) (ps : List Pending) → IsReadyTold room flags ps →
-    first_passing is_set from flags ≡ first_ready_from ps from
-first_ready_is room from flags ps r = same_first is_set is_ready flags ps from r.told
+    by : (at < length ps) ⊎ (length ps ≤ at) → at < length ps
+    by (inl less) = less
+    by (inr past) = absurd (false≢true (sym (passes_past waits ps at past) ∙ next.passes))

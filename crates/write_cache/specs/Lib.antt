@@ -5,5 +5,6 @@ pub mod Ready
 pub mod Rests
 pub mod Ring
 pub mod Newest
+pub mod WrittenAt
 pub mod Queue
 pub mod ClaimRows

@@ -1,12 +1,10 @@
 -- How the cache's fields are seen, and the room that they keep.
-use Rattle.std.specs.Prelude.{◌≡◌, ◌≤◌, ◌<◌, ◌+◌, ◌^◌, count_by, length, vec_capacity}
+use Rattle.std.specs.Prelude.{◌≡◌, ◌≤◌, ◌<◌, ◌+◌, ◌^◌, length, vec_capacity}
 use Rattle.ufs_spec.specs.Pages.{greatest_number}
 use Rattle.write_cache.specs.declared.cache.Cache.TheInside.{Inside}
 use Rattle.write_cache.specs.Kept.{WriteCache}
-use Rattle.write_cache.specs.Rests.{waits}
 
--- what contracts see of the cache: its pending pages and its claims; blocks without use and the count of pages that
--- wait are not seen
+-- what contracts see of the cache: its pending pages and its claims; blocks without use are not seen
 abbrev pub cache_of : Inside → WriteCache
 cache_of f = record {
   slots = f.slots;
@@ -16,8 +14,7 @@ cache_of f = record {
   last = f.last;
 }
 
--- each slot is free, claimed, or that of a page; the numbers of pending groups were given; the pages that wait for
--- their rest are counted
+-- each slot is free, claimed, or that of a page; the numbers of pending groups were given
 pub record IsRoomy (f : Inside) : Type 0 where
   pub slots : length f.free.items + length f.pages.items + length f.claims.items ≡ f.slots
   pub fits : f.slots < 2 ^ 16
@@ -27,4 +24,3 @@ pub record IsRoomy (f : Inside) : Type 0 where
   pub frontier : f.frontier ≤ f.last
   pub numbers : f.last ≤ greatest_number
   pub given : f.pages.newest ≤ f.last
-  pub waiting : f.waiting ≡ count_by waits f.pages.items

@@ -5,7 +5,7 @@ ghost use Rattle.std.specs.Prelude.{map, filter, not, None, Some, option_copied,
 ghost use Rattle.std.specs.Prelude.{take, drop};
 ghost use Rattle.ufs_spec.specs.Pages.{greatest_number};
 ghost use Rattle.write_cache.specs.Kept.{WriteCache};
-ghost use Rattle.write_cache.specs.Ready.{first_ready_from};
+ghost use Rattle.write_cache.specs.Ready.{first_ready_from, first_waiting_from};
 ghost use Rattle.write_cache.specs.Ring.{IsStraight};
 ghost use Rattle.write_cache.specs.Slots.{appended, claim_filled, claimed_all, claims_of};
 ghost use Rattle.write_cache.specs.Slots.{free_slots, front_written, has_number, empty_claim};
@@ -37,8 +37,6 @@ pub struct Cache {
     pages: Pages,
     /// The slots that are claimed for groups to come, those of a reader in the order of its blocks.
     claims: Claims,
-    /// How many pages wait for their rest.
-    waiting: usize,
     /// Every group up to this number is durable or lost. It is at most `last`.
     frontier: u64,
     /// The greatest number that was given. It is at most 2^62.
@@ -80,7 +78,6 @@ impl Cache {
             free,
             pages: Pages::new(alloc, config, slots)?,
             claims: Claims::new(alloc, slots)?,
-            waiting: 0,
             frontier: last,
             last,
         })
@@ -142,6 +139,15 @@ impl Cache {
         self.pages.first_ready(from)
     }
 
+    /// The first position at or behind this one whose page waits for its rest.
+    pub fn first_waiting(&self, from: usize) -> Option<usize>
+        ensures what { result ≡ first_waiting_from self.now.pages from }
+        ensures less { IfSome result (λ k. k < length self.now.pages) }
+        ensures small { IfSome result (λ k. k < 2 ^ 16) }
+    {
+        self.pages.first_waiting(from)
+    }
+
     /// The last page of a pending group that is of the address. It looks at one page, unless no
     /// device of this configuration has the address: then it looks at all.
     pub fn last_page(&self, key: Key) -> Option<&Pending>
@@ -158,11 +164,13 @@ impl Cache {
         self.page(at)
     }
 
-    /// The page of a pending group that is written there, if one is.
+    /// The page of a pending group that is written there, if one is. It looks at one page, unless no
+    /// device of this configuration has the place, or a page was ever marked as written where
+    /// another one was, or was marked twice: then it looks at all.
     pub fn page_there(&self, place: Place) -> Option<&Pending>
         ensures { option_copied result ≡ find (is_there place) self.now.pages }
     {
-        self.pages.all().iter().find(|page| page.is_there(place))
+        self.pages.page_there(place)
     }
 
     /// Claims a slot for each of so many blocks of this reader, where as many are free; else nothing.
@@ -317,7 +325,6 @@ impl Cache {
         ensures bound { probes.new.count ≤ probes.old.count + 3 }
     {
         let page = self.pages.take_first(probes)?;
-        self.waiting -= page.rests();
         let landed = Landed {
             key: page.key,
             number: page.number,

@@ -1,24 +1,27 @@
 //! The pages of pending groups in order of number and index, with a ring that tells where each
 //! group stands.
 ghost use Rattle.std.specs.Prelude.{◌≡◌, ◌+◌, ◌-◌, ◌^◌, ◌<◌, ◌≤◌, ◌++◌, ◌∷◌, [], IfOk, IfSome};
-ghost use Rattle.std.specs.Prelude.{None, drop, filter, length, map, not, option_copied};
-ghost use Rattle.std.specs.Prelude.{option_map, position, slice_get, take};
+ghost use Rattle.std.specs.Prelude.{None, drop, filter, find, length, map, not, option_and_then};
+ghost use Rattle.std.specs.Prelude.{option_copied, option_map, position, slice_get, take};
 ghost use Rattle.std.specs.List.{position_from};
 ghost use Rattle.std.specs.VecDeque.{deque_capacity};
 ghost use Rattle.write_cache.specs.Kept.{Queue};
-ghost use Rattle.write_cache.specs.Ready.{first_ready_from};
+ghost use Rattle.write_cache.specs.Ready.{first_ready_from, first_waiting_from};
 ghost use Rattle.write_cache.specs.Rests.{rests_filled};
 ghost use Rattle.write_cache.specs.Ring.{AreStraight, Stands, is_open_at, shown};
-ghost use Rattle.write_cache.specs.Slots.{front_written, is_named, is_of_group, last_page};
+ghost use Rattle.write_cache.specs.Slots.{front_written, is_named, is_of_group, is_there, last_page};
 ghost use Rattle.write_cache.specs.Slots.{page_written, written_at};
+ghost use Rattle.write_cache.specs.WrittenAt.{standing};
 
 mod fill;
 mod newest;
 mod ring;
+mod written_at;
 
 use self::fill::fill_pages;
 use self::newest::{Newest, last_among, page_if_of};
 use self::ring::{GroupAt, Ring};
+use self::written_at::{WrittenAt, first_there};
 use crate::probes::Probes;
 use crate::slots::{Pending, WholeGroup};
 use geometry::Config;
@@ -34,8 +37,10 @@ use word_set::QueueSet;
 /// how many of them are not written, at which position they end, and how many of the last have
 /// indexes that rise by one. The numbers rise from entry to entry. There is room for as many
 /// entries as pages. The table of positions tells of each key where its last page stands, while
-/// one is here. The set of places that are ready has those of all pages that are neither written
-/// nor wait for their rest, and no others; it has room for as many places as pages.
+/// one is here, and the table of what is written tells of each place of the dies which page is
+/// written there, if one is. The set of places that are ready has those of all pages that are
+/// neither written nor wait for their rest, and no others; the set of those that wait has those of
+/// all pages that wait. Each has room for as many places as pages.
 #[derive(Drop)]
 pub(crate) struct Pages {
     /// How many pages there may be.
@@ -46,6 +51,8 @@ pub(crate) struct Pages {
     groups: Ring,
     /// Where the newest page of each key stands.
     positions: Newest,
+    /// Which page is written at each place of the dies.
+    written: WrittenAt,
     /// The position of the first page: how many left before it, modulo 2^16.
     landed: u16,
     /// The number of the first group, while there is one.
@@ -54,6 +61,8 @@ pub(crate) struct Pages {
     newest: u64,
     /// The places of the pages that can be programmed now.
     ready: QueueSet,
+    /// The places of the pages that wait for their rest.
+    waiting: QueueSet,
 }
 
 impl Model for Pages {
@@ -78,16 +87,20 @@ impl Pages {
         ensures { IfOk result (λ q. q ≡ record { room = room; items = []; newest = 0 }) }
     {
         let pages = VecDeque::with_capacity(alloc, room as usize)?;
-        let ready = QueueSet::new(alloc, room.max(1) as usize)?;
+        let places = room.max(1) as usize;
+        let ready = QueueSet::new(alloc, places)?;
+        let waiting = QueueSet::new(alloc, places)?;
         Ok(Pages {
             room,
             pages,
             groups: Ring::new(alloc, room)?,
-            positions: Newest::new(alloc, config)?,
+            positions: Newest::new(alloc, config.copied())?,
+            written: WrittenAt::new(alloc, config)?,
             landed: 0,
             front: 0,
             newest: 0,
             ready,
+            waiting,
         })
     }
 
@@ -116,6 +129,17 @@ impl Pages {
         }
     }
 
+    /// The page that is written there, if one is. It looks at one page, unless the table cannot
+    /// tell: then it looks at all.
+    pub(crate) fn page_there(&self, place: Place) -> Option<&Pending>
+        ensures { option_copied result ≡ find (is_there place) self.now.items }
+    {
+        match self.written.told(place) {
+            Some(entry) => page_standing(&self.pages, self.written.standing(entry)),
+            None => first_there(&self.pages, place),
+        }
+    }
+
     /// Puts a page behind all others, of their last group or of a later one.
     pub(crate) fn push(&mut self, page: Pending)
         requires room { length self.old.items < self.old.room }
@@ -132,6 +156,7 @@ impl Pages {
         let position = self.landed.wrapping_add(self.pages.len() as u16);
         self.positions.note_at(page.key, position);
         self.ready.set(self.pages.len(), page.is_ready());
+        self.waiting.set(self.pages.len(), page.waits());
         self.pages.push_back_reserved(page);
     }
 
@@ -148,7 +173,9 @@ impl Pages {
         self.groups.shorten(page.written.is_none(), probes);
         self.front = self.groups.first_number(self.front, probes);
         self.landed = self.landed.wrapping_add(1);
+        self.written.leave(page.written);
         self.ready.pass();
+        self.waiting.pass();
         Some(page)
     }
 
@@ -211,6 +238,7 @@ impl Pages {
             let is_open = write_at(&mut self.pages, at, place, probes);
             self.groups.set(entry.at, entry.group.written(is_open));
             self.ready.set(at, false);
+            self.written.mark(place, at, is_open);
         }
     }
 
@@ -222,8 +250,13 @@ impl Pages {
           items = rests_filled name block.now self.old.items;
         } }
     {
-        let pages = self.pages.make_contiguous();
-        fill_pages(pages, &mut self.ready, name, block);
+        fill_pages(
+            &mut self.pages,
+            &mut self.ready,
+            &mut self.waiting,
+            name,
+            block,
+        );
     }
 
     /// The first place at or behind this one whose page can be programmed now: it is neither
@@ -235,6 +268,22 @@ impl Pages {
     {
         self.ready.first_from(from)
     }
+
+    /// The first place at or behind this one whose page waits for its rest.
+    pub(crate) fn first_waiting(&self, from: usize) -> Option<usize>
+        ensures what { result ≡ first_waiting_from self.now.items from }
+        ensures less { IfSome result (λ k. k < length self.now.items) }
+        ensures small { IfSome result (λ k. k < 2 ^ 16) }
+    {
+        self.waiting.first_from(from)
+    }
+}
+
+/// The page that stands there.
+fn page_standing(pages: &VecDeque<Pending>, at: Option<usize>) -> Option<&Pending>
+    ensures { option_copied result ≡ option_and_then (slice_get pages.now.items) at }
+{
+    pages.get(at?)
 }
 
 /// Where the page of this index stands that is of the group of this entry, if there is one. It

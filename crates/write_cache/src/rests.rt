@@ -139,16 +139,6 @@ impl Pending {
         self.written.is_none() && !self.waits()
     }
 
-    /// How many rests it waits for: one or none.
-    pub(crate) fn rests(&self) -> usize
-        ensures { result ≡ (if waits self.now then 1 else 0) }
-    {
-        match self.rest {
-            Some(_) => 1,
-            None => 0,
-        }
-    }
-
     /// The pending page whose read brings the rest that it waits for, which may be itself; `None`
     /// if its content is all there.
     pub fn awaited(&self) -> Option<Name>

@@ -1,9 +1,10 @@
 -- Each block goes on to have as many pins as rests are still to be read from it, while rests come and go.
 use Rattle.std.proofs.Common.{◌≡◌, ◌∙◌, ℕ, zero, suc, ◌+◌, ◌≤◌, ◌++◌, Bool, true, false, cond, List, [], ◌∷◌}
 use Rattle.std.proofs.Common.{Option, Some, None, ap, arith, drop, length, length-append, map, refl, sym}
-use Rattle.std.specs.Prelude.{filter, fold, if◌then◌else◌, slice_get, slice_set}
+use Rattle.std.specs.Prelude.{filter, fold, if◌then◌else◌, is_some, slice_get, slice_set}
+use Rattle.std.specs.List.{position_from}
 use Rattle.std.proofs.lemmas.List.Elements.{filter-append}
-use Rattle.ufs_spec.proofs.Facts.{none-some, same_Some}
+use Rattle.ufs_spec.proofs.Facts.{none-some, same_Some, true≢false}
 use Rattle.ufs_spec.specs.Disk.{Spot}
 use Rattle.ufs_spec.specs.Ledger.{same_name}
 use Rattle.ufs_spec.specs.declared.flash.Key.{Key}
@@ -18,8 +19,9 @@ use Rattle.write_cache.specs.declared.rests.Rest.{Rest}
 use Rattle.write_cache.specs.declared.slots.Claimed.{Claimed}
 use Rattle.write_cache.specs.declared.slots.Pending.{Pending}
 use Rattle.write_cache.specs.Rests.{awaited_by, awaits, comes_by, completed, completed_by, own_name, read_by}
-use Rattle.write_cache.specs.Rests.{rests_filled}
-use Rattle.write_cache.specs.Slots.{page_claimed, page_written, written_at, written_if}
+use Rattle.write_cache.specs.Ready.{first_waiting_from}
+use Rattle.write_cache.specs.Rests.{rests_filled, waits}
+use Rattle.write_cache.specs.Slots.{is_named, page_claimed, page_written, written_at, written_if}
 use Rattle.readers.specs.declared.pin.Pin.{Pin}
 use Rattle.ftl_core.specs.Pinned.{keeps_page, look_of_source, reads_block, rest_look}
 use Rattle.ftl_core.specs.PinCounts.{ArePinsCounted, pins_on, rests_on}
@@ -260,3 +262,66 @@ module _ (f : Lives → Pending → Lives) (at : Lives → Option Pending → Li
   pub walked : (ps : List Pending) (l : Lives) → fold f l (drop (length ps) ps) ≡ l
   walked [] l = refl
   walked (p ∷ ps) l = walked ps l
+
+-- And to the next page that waits
+
+still : (name : Name) (l : Lives) (p : Pending) (o : Option Rest) → p.rest ≡ o → is_some o ≡ false →
+    rest_unpinned name l p ≡ l
+still name l p None e w =
+    ap (λ (o : Option Rest). if is_named name.number name.index p then block_unpinned l (rest_look o) else l) e
+    ∙ by (is_named name.number name.index p)
+  where
+    by : (b : Bool) → (if b then l else l) ≡ l
+    by true = refl
+    by false = refl
+still name l p (Some r) e w = absurd (true≢false w)
+
+passed : (name : Name) (ps : List Pending) (i at : ℕ) (l : Lives) → position_from waits i ps ≡ Some at →
+    (m : ℕ) × (at ≡ i + m) × (fold (rest_unpinned name) l ps ≡ fold (rest_unpinned name) l (drop m ps))
+passed name [] i at l e = absurd (none-some at e)
+passed name (p ∷ ps) i at l e = by (waits p) refl e (passed name ps (i + 1) at l)
+  where
+    by : (b : Bool) → waits p ≡ b → cond b (Some i) (position_from waits (i + 1) ps) ≡ Some at →
+        (position_from waits (i + 1) ps ≡ Some at →
+        (m : ℕ) × (at ≡ i + 1 + m) × (fold (rest_unpinned name) l ps ≡ fold (rest_unpinned name) l (drop m ps))) →
+        (m : ℕ) × (at ≡ i + m) × (fold (rest_unpinned name) l (p ∷ ps) ≡ fold (rest_unpinned name) l (drop m (p ∷ ps)))
+    by true w e more = (0, (let same = same_Some i at e in omega (arith, same)), refl)
+    by false w e more =
+        let r = more e in
+        let is = r.1 in (
+          suc r.0,
+          omega (arith, is),
+          ap (λ (x : Lives). fold (rest_unpinned name) x ps) (still name l p p.rest refl w) ∙ r.2,
+        )
+
+-- the pages before it have no pin
+pub next_unpinned : (name : Name) (ps : List Pending) (from at : ℕ) (l : Lives) →
+    first_waiting_from ps from ≡ Some at →
+    (fold (rest_unpinned name) l (drop from ps) ≡ fold (rest_unpinned name) l (drop at ps)) × (from ≤ at)
+next_unpinned name ps from at l is =
+    let r = passed name (drop from ps) from at l is in
+    let e = r.1 in
+    (r.2 ∙ ap (fold (rest_unpinned name) l) (twice from r.0 at ps e), omega (arith, e))
+  where
+    twice : (n m k : ℕ) (ps : List Pending) → k ≡ n + m → drop m (drop n ps) ≡ drop k ps
+    twice zero m k ps e = ap (λ (j : ℕ). drop j ps) (let f : m ≡ k = omega (arith, e) in f)
+    twice (suc n) m zero ps e = absurd (omega (arith, e))
+    twice (suc n) zero (suc k) [] e = refl
+    twice (suc n) (suc m) (suc k) [] e = refl
+    twice (suc n) m (suc k) (p ∷ ps) e = twice n m k ps (omega (arith, e))
+
+-- and where there is none, no page has one
+pub none_unpinned : (name : Name) (ps : List Pending) (from : ℕ) (l : Lives) → first_waiting_from ps from ≡ None →
+    fold (rest_unpinned name) l (drop from ps) ≡ l
+none_unpinned name ps from l is = all (drop from ps) from is
+  where
+    all : (qs : List Pending) (i : ℕ) → position_from waits i qs ≡ None → fold (rest_unpinned name) l qs ≡ l
+    all [] i e = refl
+    all (p ∷ qs) i e = by (waits p) refl e (all qs (i + 1))
+      where
+        by : (b : Bool) → waits p ≡ b → cond b (Some i) (position_from waits (i + 1) qs) ≡ None →
+            (position_from waits (i + 1) qs ≡ None → fold (rest_unpinned name) l qs ≡ l) →
+            fold (rest_unpinned name) l (p ∷ qs) ≡ l
+        by true w e more = absurd (none-some i (sym e))
+        by false w e more =
+            ap (λ (x : Lives). fold (rest_unpinned name) x qs) (still name l p p.rest refl w) ∙ more e

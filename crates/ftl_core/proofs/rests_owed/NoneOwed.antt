@@ -1,29 +1,37 @@
--- Where no pending page waits for its rest, none is owed a read.
-use Rattle.std.proofs.Common.{◌≡◌, ◌∙◌, ℕ, Bool, false, List, [], ◌∷◌, Option, Some, None, ap, refl}
+-- Only a pending page that waits for its rest is owed a read.
+use Rattle.std.proofs.Common.{◌≡◌, ℕ, ◌≤◌, Bool, false, List, Option, Some, None, ap, refl, sym, take}
 use Rattle.std.specs.Prelude.{◌&&◌, find, is_some, not}
 use Rattle.std.specs.List.{list_any}
-use Rattle.ufs_spec.proofs.Facts.{or_parts, true≢false}
-use Rattle.ufs_spec.proofs.Lists.{find_behind}
+use Rattle.ufs_spec.proofs.Facts.{true≢false}
 use Rattle.ufs_spec.specs.declared.layer.Reader.TheVariants.{ForRest}
 use Rattle.block_table.specs.declared.rows.DieRow.{DieRow}
 use Rattle.write_cache.specs.declared.rests.Rest.{Rest}
 use Rattle.write_cache.specs.declared.slots.Pending.{Pending}
+use Rattle.write_cache.specs.Ready.{first_waiting_from}
 use Rattle.write_cache.specs.Rests.{waits}
 use Rattle.ftl_core.specs.Moves.{reads_for, rest_look}
 use Rattle.readers.specs.Pins.{looks_on}
 use Rattle.ftl_core.specs.Takes.{owes_rest}
+use Rattle.ftl_core.proofs.FirstWaiting.{IsWider, next_found, none_found}
 
 looks_off : (die : ℕ) (o : Option Rest) → is_some o ≡ false → looks_on die (rest_look o) ≡ false
 looks_off die None h = refl
 looks_off die (Some r) h = absurd (true≢false h)
 
-owes_none : (rows : List DieRow) (die : ℕ) (p : Pending) → waits p ≡ false → owes_rest rows die p ≡ false
-owes_none rows die p h =
+-- a page that is owed a read waits
+wider : (rows : List DieRow) (die : ℕ) → IsWider waits (owes_rest rows die)
+wider rows die p h =
     ap (λ (b : Bool). b && not (list_any (reads_for (ForRest p.number p.index)) rows)) (looks_off die p.rest h)
 
-pub none_owed : (rows : List DieRow) (die : ℕ) (ps : List Pending) → list_any waits ps ≡ false →
+-- the pages before the next one that waits are owed none
+pub none_owed_to : (rows : List DieRow) (die : ℕ) (ps : List Pending) (from at : ℕ) →
+    find (owes_rest rows die) (take from ps) ≡ None → Some at ≡ first_waiting_from ps from →
+    (find (owes_rest rows die) (take at ps) ≡ None) × (from ≤ at)
+none_owed_to rows die ps from at none is =
+    next_found waits (owes_rest rows die) ps from at (wider rows die) none (sym is)
+
+-- and where there is no next one, no page is
+pub none_owed : (rows : List DieRow) (die : ℕ) (ps : List Pending) (from : ℕ) →
+    find (owes_rest rows die) (take from ps) ≡ None → None ≡ first_waiting_from ps from →
     find (owes_rest rows die) ps ≡ None
-none_owed rows die [] h = refl
-none_owed rows die (p ∷ ps) h =
-    let r = or_parts _ _ h in
-    find_behind (owes_rest rows die) p ps (owes_none rows die p r.0) ∙ none_owed rows die ps r.1
+none_owed rows die ps from none is = none_found waits (owes_rest rows die) ps from (wider rows die) none (sym is)

@@ -41,13 +41,16 @@ fn unpin_rest(live: &mut LivePages, cache: &Cache, name: Name, at: usize)
     }
 }
 
-/// The blocks from which rests were to be read for the page of this name have no pins for it any more.
+/// The blocks from which rests were to be read for the page of this name have no pins for it any more. Only
+/// pages that wait are looked at.
 pub(super) fn unpin_rests(live: &mut LivePages, cache: &Cache, name: Name)
     ensures is { live.new ≡ fold (rest_unpinned name) live.old cache.now.pages }
     ensures same { without_pins live.new ≡ without_pins live.old }
 {
-    for at in 0..cache.pending() {
+    let mut from = 0;
+    while let Some(at) = cache.first_waiting(from) {
         unpin_rest(live, cache, name, at);
+        from = at + 1;
     }
 }
 

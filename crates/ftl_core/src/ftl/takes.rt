@@ -497,19 +497,18 @@ impl Ftl {
         looks_on(&rest_look(&page.rest), die) && !self.blocks.reads_for(reader)
     }
 
-    /// The read that the first pending page is owed that waits for its rest from a page of this die. No page
-    /// is looked at where none waits.
+    /// The read that the first pending page is owed that waits for its rest from a page of this die. It looks
+    /// only at pages that wait.
     fn rest_read(&self, die: u8) -> Option<Flight>
         ensures { result ≡ rest_read self.now die }
     {
-        if !self.cache.has_rests() {
-            return None;
-        }
-        for at in 0..self.cache.pending() {
+        let mut from = 0;
+        while let Some(at) = self.cache.first_waiting(from) {
             let page = self.cache.page(at)?;
             if self.owes_rest(page, die) {
                 return rest_read_of(page);
             }
+            from = at + 1;
         }
         None
     }

@@ -1,13 +1,11 @@
 //! Groups of pages with keys of their own, and the rests that their pages wait for.
-ghost use Rattle.std.specs.Prelude.{◌≡◌, ◌+◌, ◌^◌, ◌<◌, All, IsTrue, count_by, false, length};
+ghost use Rattle.std.specs.Prelude.{◌≡◌, ◌+◌, ◌^◌, ◌<◌, All, IsTrue, false, length};
 ghost use Rattle.std.specs.List.{list_any};
 ghost use Rattle.write_cache.specs.Rests.{IsPart, awaits, pages_appended, rests_filled, waits};
 ghost use Rattle.write_cache.specs.Slots.{has_number};
 
 use super::Cache;
 use crate::rests::NewPage;
-use crate::slots::Pending;
-use std::collections::VecDeque;
 use ufs_spec::Name;
 
 impl Cache {
@@ -25,7 +23,6 @@ impl Cache {
         self.claims.bring(&self.pages, reader, pages);
         self.claims
             .move_pages(&mut self.pages, &mut self.free, reader, number, pages);
-        self.waiting = count_waiting(self.pages.all());
         self.last = number;
         number
     }
@@ -42,20 +39,12 @@ impl Cache {
         ensures none_waits { list_any (awaits name) self.new.pages ≡ false }
     {
         self.pages.fill_rests(name, block);
-        self.waiting = count_waiting(self.pages.all());
     }
 
     /// Whether a pending page waits for its rest.
     pub fn has_rests(&self) -> bool
         ensures { result ≡ list_any waits self.now.pages }
     {
-        self.waiting > 0
+        self.pages.first_waiting(0).is_some()
     }
-}
-
-/// How many of the pages wait for their rest.
-fn count_waiting(pages: &VecDeque<Pending>) -> usize
-    ensures { result ≡ count_by waits pages.now.items }
-{
-    pages.iter().filter(|page| page.waits()).count()
 }

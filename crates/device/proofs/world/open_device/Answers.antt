@@ -3,7 +3,7 @@ use Rattle.std.proofs.lemmas.List.{map-id}
 use Rattle.ufs_spec.specs.Cells.{Shows}
 use Rattle.ufs_spec.specs.Dies.{DieState}
 use Rattle.ufs_spec.specs.Lives.{IsOpened, array_of, bad_of}
-use Rattle.ufs_spec.specs.Sound.{Sound}
+use Rattle.ufs_spec.specs.Sound.{Sound, Suits}
 use Rattle.device.proofs.dies_of_world.OpeningRefused.{opening_refused}
 use Rattle.device.proofs.world.open_device.Goals as goal
 
@@ -13,6 +13,13 @@ returns-in-Ok-clause-described c =
     let same = map-id c.args.dies.now in
     c.in-Ok.ensures.described s (subst (λ (ds : List DieState). Sound (array_of ds)) (sym same) sound)
     (subst (λ (ds : List DieState). IsOpened c.args.config (array_of ds) (bad_of ds) s) (sym same) opened)
+
+pub returns-in-Ok-clause-suits : goal.returns-in-Ok-clause-suits
+returns-in-Ok-clause-suits c =
+    λ sound.
+    let same = map-id c.args.dies.now in
+    subst (λ (ds : List DieState). Suits c.args.config (array_of ds)) same
+    (c.in-Ok.ensures.suits (subst (λ (ds : List DieState). Sound (array_of ds)) (sym same) sound))
 
 pub returns-in-Err-clause-refused : goal.returns-in-Err-clause-refused
 returns-in-Err-clause-refused c =

@@ -5,7 +5,7 @@ use Rattle.std.proofs.lemmas.List.Elements.{filter-append}
 use Rattle.readers.specs.declared.pin.Pin.{Pin}
 use Rattle.readers.specs.Pins.{is_of_reader, let_go}
 use Rattle.readers.specs.Rows.{RowPins}
-use Rattle.readers.proofs.RowWalks.{fold_gone, fold_on, gone_on, none_there, walk_on}
+use Rattle.readers.proofs.RowWalks.{filled_end, filled_gone, filled_on, fold_gone, fold_on, gone_on, none_there, walk_on}
 use Rattle.readers.proofs.rows.drop_all_in.Goals as goal
 
 pub loop-at-preserved : goal.loop-at-preserved
@@ -26,6 +26,8 @@ loop-at-preserved c =
       blocks = fold_on (let_go (is_of_reader c.args.reader)) rs i x new c.loop-at.live c.drop_all.new.live less
           c.index_mut.ensures.value c.drop_all.ensures.blocks
           ∙ c.loop-at.invariant.blocks;
+      filled = filled_on rs i new c.drop_all.result less c.drop_all.ensures.is c.if-drop_all.false
+          c.loop-at.invariant.filled;
       as_many = omega (arith, long, as_many);
       rows_room = c.loop-at.invariant.rows_room;
       spare_room = c.loop-at.invariant.spare_room;
@@ -57,7 +59,12 @@ loop-at-preserved-then-drop_all c =
       blocks = fold_gone (let_go (is_of_reader c.args.reader)) rs ts i x new c.loop-at.live c.drop_all.new.live less
           c.index_mut.ensures.value c.drop_all.ensures.blocks e
           ∙ c.loop-at.invariant.blocks;
+      filled = filled_gone rs ts i new less e c.loop-at.invariant.filled;
       as_many = omega (arith, fewer, put, as_many);
       rows_room = c.remove.ensures.capacity ∙ c.loop-at.invariant.rows_room;
       spare_room = c.push_reserved.ensures.capacity ∙ c.loop-at.invariant.spare_room;
     }
+
+pub returns-clause-filled : goal.returns-clause-filled
+returns-clause-filled c =
+    filled_end c.loop-at.rows.items c.loop-at.at (omega arith) c.loop-at.invariant.filled

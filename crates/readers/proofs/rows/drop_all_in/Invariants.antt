@@ -1,7 +1,7 @@
 use Rattle.std.proofs.Common.{◌≡◌, ◌+◌, ◌-◌, ◌++◌, ◌≤◌, drop, length, not, take, vec_capacity}
 use Rattle.std.specs.Prelude.{filter, fold}
 use Rattle.readers.specs.Pins.{is_of_reader, let_go}
-use Rattle.readers.specs.Rows.{pins_in}
+use Rattle.readers.specs.Rows.{AreFilled, pins_in}
 use Rattle.readers.proofs.rows.drop_all_in.Given as goal
 
 abbrev pub invariant-loop-at : goal.invariant-loop-at
@@ -12,6 +12,7 @@ invariant-loop-at l = record {
       ≡ filter (λ p. not (is_of_reader l.reader p)) (pins_in l.initial.rows.items);
   blocks : fold (let_go (is_of_reader l.reader)) l.live (pins_in (drop l.at l.rows.items))
       ≡ fold (let_go (is_of_reader l.reader)) l.initial.live (pins_in l.initial.rows.items);
+  filled : AreFilled (take l.at l.rows.items);
   as_many : length l.rows.items + length l.spare.items
       ≡ length l.initial.rows.items + length l.initial.spare.items;
   rows_room : vec_capacity l.rows ≡ vec_capacity l.initial.rows;

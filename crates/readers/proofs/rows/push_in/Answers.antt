@@ -15,5 +15,5 @@ returns-in-Some-clause-pins c =
     (written old.len old.items c.push_in_last.new.rows old.ok.0 (long ∙ ap length first))
     ∙ begun_more c.args.rows.now.items c.push_in_last.new.rows c.begin.new.self c.args.pin c.push_in_last.result
     c.if-push_in_last.false
-    (c.push_in_last.ensures ∙ ap (λ (rs : List RowPins). pins_in rs ++ came) c.as_mut_slice.ensures.value)
+    (c.push_in_last.ensures.pins ∙ ap (λ (rs : List RowPins). pins_in rs ++ came) c.as_mut_slice.ensures.value)
     c.begin.ensures

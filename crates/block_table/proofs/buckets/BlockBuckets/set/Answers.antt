@@ -1,6 +1,8 @@
 use Rattle.std.proofs.Common.{Bool, ◌∙◌, ap, arith, sym}
 use Rattle.std.specs.Bool.{beq}
+use Rattle.block_table.specs.Buckets.{words_for}
 use Rattle.block_table.proofs.LiveCounts.{count_after}
+use Rattle.block_table.proofs.Marks.{group_read, marked_at}
 use Rattle.block_table.proofs.Words.{held_after, held_room, held_some, is_read, stands_after}
 use Rattle.block_table.proofs.Words.{stands_already, whole_after}
 use Rattle.block_table.proofs.buckets.BlockBuckets.set.Goals as goal
@@ -41,14 +43,20 @@ invariant_of-self c =
       whole = whole_after c.self.inside.words c.self.inside.table.items c.self.inside.held.items _ _ _ _
           c.self.invariant.whole;
       few = c.self.invariant.few;
-      counted = held_after c.index-held.result.now _ c.with_bit.result c.has_bit.result c.args.stands r
+      counted = held_after c.index-held.result.now _ c.with_bit-after.result c.has_bit.result c.args.stands r
           c.self.invariant.counted c.index-held.ensures c.has_bit.ensures c.if-has_bit-stands.false
           (elim c.if-stands.branch [
             | then-stands w ↦ w.counted-is ∙ ap (λ (b : Bool). count_after b c.index-held.result.now)
                 (sym w.if-stands.true)
             | else-stands w ↦ w.counted-is ∙ ap (λ (b : Bool). count_after b c.index-held.result.now)
                 (sym w.if-stands.false)
-          ]) c.with_bit.ensures;
+          ]) c.with_bit-after.ensures;
+      level = whole_after (words_for c.self.inside.words) c.self.inside.marks.items c.self.inside.held.items _ _ _ _
+          c.self.invariant.level;
+      marked = marked_at c.words_for.result c.with_bit-after.result c.with_bit.result c.args.stands r
+          (group_read c.self.inside.marks.items c.words_for.result c.index-marks.result.now r c.self.invariant.level
+          c.words_for.ensures c.index-marks.ensures) c.self.invariant.marked c.words_for.ensures (omega arith)
+          c.with_bit-after.ensures c.with_bit.ensures;
     }
 
 pub returns : goal.returns
@@ -56,4 +64,4 @@ returns c =
     let r = is_read c.self.inside.words c.self.inside.table.items c.self.inside.held.items c.args.self.now c.args.bucket
     c.args.place c.index-word.result.now c.self.view_is c.requires.bucket_there c.requires.place_there
     c.self.invariant.whole c.index-word.ensures in
-    stands_after c.args.self.now _ c.with_bit.result c.args.stands r c.self.view_is c.with_bit.ensures
+    stands_after c.args.self.now _ c.with_bit-after.result c.args.stands r c.self.view_is c.with_bit-after.ensures

@@ -1,25 +1,36 @@
-use Rattle.std.proofs.Common.{arith}
-use Rattle.block_table.specs.Probes.{is_victim_at}
-use Rattle.block_table.proofs.VictimWords.{word_first, word_passed}
+use Rattle.std.proofs.Common.{◌≤◌, ◌+◌, ◌*◌, ℕ, arith, subst}
+use Rattle.block_table.specs.Probes.{word_has, words_with}
+use Rattle.block_table.proofs.MarkedWords.{group_probed, groups_probed}
+use Rattle.block_table.proofs.VictimWords.{no_victim_left}
 use Rattle.block_table.proofs.live.LivePages.first_victim.Goals as goal
 
-pub victims-requires-clause-few : goal.victims-requires-clause-few
-victims-requires-clause-few c = omega (arith, c.words-number-end.ensures.few)
+pub returns-in-Some-clause-bound : goal.returns-in-Some-clause-bound
+returns-in-Some-clause-bound c =
+    let l = c.args.self.now in
+    subst (λ (n : ℕ). c.first_of_group.new.probes.count ≤ c.args.probes.now.count + (n + words_with l c.args.count))
+    c.groups-group-end.ensures.all
+    (groups_probed l c.args.count c.args.probes.now.count c.first_of_group.new.probes.count
+    (64 * (c.loop-group.group + 1)) c.groups-group-end.result (c.loop-group.group + 1)
+    (group_probed (word_has l c.args.count) c.args.probes.now.count c.loop-group.probes.count
+    c.first_of_group.new.probes.count c.loop-group.group c.loop-group.invariant.few c.in-Some.ensures.bound)
+    (omega (arith, c.loop-group-test.true)))
 
-pub overflow_mul-result : goal.overflow_mul-result
-overflow_mul-result c = omega (arith, c.words-number-end.ensures.few)
-
-pub overflow_add-result : goal.overflow_add-result
-overflow_add-result c = omega (arith, c.words-number-end.ensures.few, c.in-Some.ensures.within)
-
-pub returns-in-Some-clause-first : goal.returns-in-Some-clause-first
-returns-in-Some-clause-first c =
-    word_first (is_victim_at c.args.self.now c.args.blocks.now c.args.count) c.loop-number.number c.victims.result
-    c.in-Some.bit c.victims.ensures c.in-Some.ensures.some c.in-Some.ensures.within c.loop-number.invariant.none
-
-pub loop-number-preserved : goal.loop-number-preserved
-loop-number-preserved c = record {
-  none = word_passed (is_victim_at c.args.self.now c.args.blocks.now c.args.count) c.loop-number.number
-      c.victims.result c.victims.ensures (c.lowest_bit.ensures.none c.in_default.is) c.loop-number.invariant.none;
-  few = omega (arith, c.loop-number.invariant.few, c.look.ensures);
+pub loop-group-preserved : goal.loop-group-preserved
+loop-group-preserved c = record {
+  none = c.in_default.ensures.first;
+  few = group_probed (word_has c.args.self.now c.args.count) c.args.probes.now.count c.loop-group.probes.count
+      c.first_of_group.new.probes.count c.loop-group.group c.loop-group.invariant.few c.in_default.ensures.bound;
 }
+
+pub returns-clause-first : goal.returns-clause-first
+returns-clause-first c =
+    no_victim_left c.args.self.now c.args.blocks.now c.args.count (64 * c.loop-group.group)
+    (omega (arith, c.loop-group-test.false, c.groups-group-end.ensures.all)) c.loop-group.invariant.none
+
+pub returns-clause-bound : goal.returns-clause-bound
+returns-clause-bound c =
+    let l = c.args.self.now in
+    subst (λ (n : ℕ). c.loop-group.probes.count ≤ c.args.probes.now.count + (n + words_with l c.args.count))
+    c.groups-group-end.ensures.all
+    (groups_probed l c.args.count c.args.probes.now.count c.loop-group.probes.count (64 * c.loop-group.group)
+    c.groups-group-end.result c.loop-group.group c.loop-group.invariant.few (omega arith))

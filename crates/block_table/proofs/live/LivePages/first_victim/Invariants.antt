@@ -1,9 +1,9 @@
 use Rattle.std.proofs.Common.{◌≡◌, ℕ, ◌+◌, ◌*◌, ◌<◌, ◌≤◌, false}
-use Rattle.block_table.specs.Probes.{is_victim_at}
+use Rattle.block_table.specs.Probes.{is_victim_at, words_to}
 use Rattle.block_table.proofs.live.LivePages.first_victim.Given as goal
 
-abbrev pub invariant-loop-number : goal.invariant-loop-number
-invariant-loop-number l = record {
-  none : (p : ℕ) → p < 64 * l.number → is_victim_at l.self l.blocks l.count p ≡ false;
-  few : l.probes.count ≤ l.initial.probes.count + l.number;
+abbrev pub invariant-loop-group : goal.invariant-loop-group
+invariant-loop-group l = record {
+  none : (p : ℕ) → p < 64 * (64 * l.group) → is_victim_at l.self l.blocks l.count p ≡ false;
+  few : l.probes.count ≤ l.initial.probes.count + (l.group + words_to l.self l.count (64 * l.group));
 }

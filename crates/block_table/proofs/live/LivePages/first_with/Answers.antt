@@ -1,8 +1,8 @@
-use Rattle.std.proofs.Common.{Bool, ℕ, ◌≡◌, ◌≤◌, ap, arith, false, if◌then◌else◌, subst, sym, true}
+use Rattle.std.proofs.Common.{Bool, ℕ, ◌≡◌, ◌+◌, ◌≤◌, ap, arith, false, if◌then◌else◌, subst, sym, true}
 use Rattle.block_table.specs.Buckets.{words_for}
 use Rattle.block_table.specs.LiveRooms.{lives_of}
 use Rattle.block_table.specs.Lives.{Lives}
-use Rattle.block_table.specs.Probes.{has_unpinned, is_victim_at}
+use Rattle.block_table.specs.Probes.{has_unpinned, is_victim_at, word_probes, words_with}
 use Rattle.block_table.specs.Sorted.{blocks_in}
 use Rattle.block_table.proofs.VictimWords.{empty_none, held_unpinned}
 use Rattle.block_table.proofs.live.LivePages.first_with.Goals as goal
@@ -10,10 +10,11 @@ use Rattle.block_table.proofs.live.LivePages.first_with.Goals as goal
 pub returns-then-is_empty-clause-first : goal.returns-then-is_empty-clause-first
 returns-then-is_empty-clause-first c =
     subst (λ (l : Lives). (p : ℕ) → is_victim_at l c.args.blocks.now c.args.count p ≡ false) c.self.view_is
-    (empty_none (lives_of c.self.inside) c.args.blocks.now c.self.inside.counts.items c.self.inside.unpinned_with
-    c.args.count (subst (λ (l : Lives). c.args.count ≤ l.sizes.pages) (sym c.self.view_is) c.requires)
-    c.self.invariant.whole c.self.invariant.counted c.self.invariant.by_count
-    (c.is_empty.ensures.empty c.if-is_empty.true))
+    (λ p. empty_none (lives_of c.self.inside) c.args.blocks.now c.self.inside.counts.items
+    c.self.inside.unpinned_with c.args.count
+    (subst (λ (l : Lives). c.args.count ≤ l.sizes.pages) (sym c.self.view_is) c.requires)
+    c.self.invariant.whole c.self.invariant.counted c.self.invariant.by_count p
+    (c.is_empty.ensures.empty c.if-is_empty.true p))
 
 pub returns-clause-bound : goal.returns-clause-bound
 returns-clause-bound c =
@@ -23,7 +24,6 @@ returns-clause-bound c =
     (subst (λ (l : Lives). c.args.count ≤ l.sizes.pages) (sym c.self.view_is) c.requires)
     c.self.invariant.whole c.self.invariant.counted c.self.invariant.by_count
     (c.is_empty.ensures.held c.if-is_empty.false)) in
-    let e : (if has_unpinned c.args.self.now c.args.count then words_for (blocks_in c.args.self.now.sizes) else 0)
-    ≡ words_for (blocks_in c.args.self.now.sizes) =
-    ap (λ (b : Bool). if b then words_for (blocks_in c.args.self.now.sizes) else 0) held in
+    let n = words_for (words_for (blocks_in c.args.self.now.sizes)) + words_with c.args.self.now c.args.count in
+    let e : word_probes c.args.self.now c.args.count ≡ n = ap (λ (b : Bool). if b then n else 0) held in
     omega (arith, e, c.first_victim.ensures.bound, c.look.ensures)

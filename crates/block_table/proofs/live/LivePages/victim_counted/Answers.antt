@@ -1,9 +1,7 @@
 use Rattle.std.proofs.Common.{Some, ◌+◌, ◌≤◌, ◌∙◌, ap, subst, sym}
 use Rattle.ufs_spec.specs.Disk.{Spot}
-use Rattle.block_table.specs.Buckets.{words_for}
 use Rattle.block_table.specs.Lives.{Lives, live_count, spot_at}
-use Rattle.block_table.specs.Probes.{has_unpinned}
-use Rattle.block_table.specs.Sorted.{blocks_in}
+use Rattle.block_table.specs.Probes.{word_probes}
 use Rattle.block_table.specs.Victims.{IsVictim}
 use Rattle.block_table.proofs.Searches.{no_victim_is, victim_is}
 use Rattle.block_table.proofs.VictimWords.{first_is, none_left, none_more, probes_more, probes_with}
@@ -33,9 +31,8 @@ pub loop-count-preserved : goal.loop-count-preserved
 loop-count-preserved c = record {
   none = none_more c.args.self.now c.args.blocks.now c.loop-count.count c.loop-count.invariant.none
       c.in_default.ensures.first;
-  few = probes_more (has_unpinned c.args.self.now) (words_for (blocks_in c.args.self.now.sizes)) c.loop-count.count
-      c.args.probes.now.count c.loop-count.probes.count c.first_with.new.probes.count c.loop-count.invariant.few
-      c.first_with.ensures.bound;
+  few = probes_more (word_probes c.args.self.now) c.loop-count.count c.args.probes.now.count
+      c.loop-count.probes.count c.first_with.new.probes.count c.loop-count.invariant.few c.first_with.ensures.bound;
 }
 
 pub returns-clause-search : goal.returns-clause-search

@@ -24,6 +24,15 @@ invariant_of-self-in-Err c =
       fit = subst (Fit c.self.inside.config) (sym same) c.self.invariant.fit;
     }
 
+pub returns-in-Ok-clause-same : goal.returns-in-Ok-clause-same
+returns-in-Ok-clause-same c =
+    let same = written_same c.self.inside.dies c.open_device.new.dies
+    (c.open_device.ensures.same ∙ c.as_mut_slice.ensures.value) in (
+      c.in-Ok.device,
+      ap (λ (ds : List DieState). record (world_of c.self.inside) { core = c.in-Ok.device; dies = ds }) same
+          ∙ ap (λ (w : WorldState). record w { core = c.in-Ok.device }) c.self.view_is,
+    )
+
 pub returns-in-Ok-clause-described : goal.returns-in-Ok-clause-described
 returns-in-Ok-clause-described c =
     opened_over c.args.self.now.config c.copied.result c.args.self.now.dies c.as_mut_slice.result.now c.in-Ok.device

@@ -1,32 +1,54 @@
-use Rattle.std.proofs.Common.{◌≡◌, ◌∙◌, Some, ap, false, rules, sym, true}
+use Rattle.std.proofs.Common.{◌≡◌, ◌∙◌, List, None, Some, ap, arith, false, length, rules, sym, true}
 use Rattle.std.specs.Prelude.{option_and_then, slice_get}
-use Rattle.std.specs.List.{list_any}
-use Rattle.write_cache.specs.Rests.{waits}
+use Rattle.write_cache.specs.declared.slots.Pending.{Pending}
+use Rattle.write_cache.specs.Ready.{first_waiting_from}
+use Rattle.ftl_core.specs.Core.{Core}
 use Rattle.ftl_core.specs.Takes.{owes_rest, rest_read_of}
 use Rattle.ftl_core.proofs.FirstWaiting.{first_found, none_yet}
-use Rattle.ftl_core.proofs.rests_owed.NoneOwed.{none_owed}
+use Rattle.ftl_core.proofs.rests_owed.NoneOwed.{none_owed, none_owed_to}
 use Rattle.ftl_core.proofs.ftl.Ftl.rest_read.Goals as goal
 
-pub returns-then-not-has_rests : goal.returns-then-not-has_rests
-returns-then-not-has_rests c =
-    let core = c.args.self.now in
-    let none : list_any waits core.pages ≡ false = search rules in
-    sym (ap (option_and_then rest_read_of) (none_owed core.rows c.args.die core.pages none))
+pub overflow_add-from : goal.overflow_add-from
+overflow_add-from c = omega (arith, c.in-Some.ensures.small)
 
 pub returns-then-owes_rest : goal.returns-then-owes_rest
 returns-then-owes_rest c =
     let core = c.args.self.now in
     let page = c.in_ok-page.page.now in
-    let there : slice_get core.pages c.loop-at.at ≡ Some page = search rules in
+    let same = ap (λ (z : Core). z.pages) c.self.view_is in
+    let next = none_owed_to core.rows c.args.die core.pages c.loop-at.from c.in-Some.at c.loop-at.invariant
+    (c.in-Some.ensures.what ∙ ap (λ (qs : List Pending). first_waiting_from qs c.loop-at.from) same) in
+    let there : slice_get core.pages c.in-Some.at ≡ Some page = search rules in
     let owes : owes_rest core.rows c.args.die page ≡ true = search rules in
     c.rest_read_of.ensures
     ∙ sym (ap (option_and_then rest_read_of)
-    (first_found (owes_rest core.rows c.args.die) core.pages c.loop-at.at page c.loop-at.invariant there owes))
+    (first_found (owes_rest core.rows c.args.die) core.pages c.in-Some.at page next.0 there owes))
+
+pub loop-at-smaller : goal.loop-at-smaller
+loop-at-smaller c =
+    let core = c.args.self.now in
+    let same = ap (λ (z : Core). z.pages) c.self.view_is in
+    let long = ap (λ (qs : List Pending). length qs) same in
+    let next = none_owed_to core.rows c.args.die core.pages c.loop-at.from c.in-Some.at c.loop-at.invariant
+    (c.in-Some.ensures.what ∙ ap (λ (qs : List Pending). first_waiting_from qs c.loop-at.from) same) in
+    let less = c.in-Some.ensures.less in
+    let behind = next.1 in
+    omega (arith, long, less, behind)
 
 pub loop-at-preserved : goal.loop-at-preserved
 loop-at-preserved c =
     let core = c.args.self.now in
     let page = c.in_ok-page.page.now in
-    let there : slice_get core.pages c.loop-at.at ≡ Some page = search rules in
+    let same = ap (λ (z : Core). z.pages) c.self.view_is in
+    let next = none_owed_to core.rows c.args.die core.pages c.loop-at.from c.in-Some.at c.loop-at.invariant
+    (c.in-Some.ensures.what ∙ ap (λ (qs : List Pending). first_waiting_from qs c.loop-at.from) same) in
+    let there : slice_get core.pages c.in-Some.at ≡ Some page = search rules in
     let fails : owes_rest core.rows c.args.die page ≡ false = search rules in
-    none_yet (owes_rest core.rows c.args.die) core.pages c.loop-at.at page c.loop-at.invariant there fails
+    none_yet (owes_rest core.rows c.args.die) core.pages c.in-Some.at page next.0 there fails
+
+pub returns : goal.returns
+returns c =
+    let same = ap (λ (z : Core). z.pages) c.self.view_is in
+    sym (ap (option_and_then rest_read_of)
+    (none_owed c.args.self.now.rows c.args.die c.args.self.now.pages c.loop-at.from c.loop-at.invariant
+    (c.in_default.ensures.what ∙ ap (λ (qs : List Pending). first_waiting_from qs c.loop-at.from) same)))

@@ -1,7 +1,10 @@
-use Rattle.std.proofs.Common.{◌≡◌, None, take}
+use Rattle.std.proofs.Common.{◌≡◌, ◌-◌, None, length, take}
 use Rattle.std.specs.Prelude.{find}
 use Rattle.ftl_core.specs.Takes.{owes_rest}
 use Rattle.ftl_core.proofs.ftl.Ftl.rest_read.Given as goal
 
 abbrev pub invariant-loop-at : goal.invariant-loop-at
-invariant-loop-at l = find (owes_rest l.self.rows l.die) (take l.at l.self.pages) ≡ None
+invariant-loop-at l = find (owes_rest l.self.rows l.die) (take l.from l.self.pages) ≡ None
+
+abbrev pub decreases-loop-at : goal.decreases-loop-at
+decreases-loop-at l = length l.self.pages - l.from

@@ -1,9 +1,5 @@
-use Rattle.std.proofs.Common.{◌∙◌, ◌+◌, ap, arith, sym}
-use Rattle.std.specs.Prelude.{count_by}
+use Rattle.std.proofs.Common.{◌∙◌, ap, arith}
 use Rattle.write_cache.specs.ClaimRows.{ClaimQueue}
-use Rattle.write_cache.specs.Rests.{waits}
-use Rattle.write_cache.specs.Slots.{claims_of}
-use Rattle.write_cache.proofs.Waiting.{claimed_same}
 use Rattle.write_cache.proofs.cache.Cache.append.Goals as goal
 
 pub invariant_of-self : goal.invariant_of-self
@@ -16,8 +12,4 @@ invariant_of-self c = record {
   frontier = let f = c.self.invariant.frontier in omega (arith, f);
   numbers = grind (arith, c.requires);
   given = c.move_claims.ensures.not_newer;
-  waiting = c.self.invariant.waiting
-      ∙ sym (ap (count_by waits) c.move_claims.ensures.moved
-      ∙ claimed_same c.self.inside.pages.items c.args.key (c.self.inside.last + 1) c.claimed-size.result
-      (claims_of c.self.inside.claims.items c.args.reader));
 }

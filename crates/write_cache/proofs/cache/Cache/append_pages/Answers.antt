@@ -1,11 +1,11 @@
 use Rattle.std.proofs.Common.{◌≡◌, ◌∙◌, ◌+◌, ◌++◌, List, ap, arith, length}
-use Rattle.std.specs.Prelude.{count_by, filter_map}
+use Rattle.std.specs.Prelude.{filter_map}
 use Rattle.std.proofs.lemmas.List.{length-map}
 use Rattle.write_cache.specs.declared.slots.Claimed.{Claimed}
 use Rattle.write_cache.specs.declared.slots.Pending.{Pending}
 use Rattle.write_cache.specs.ClaimRows.{ClaimQueue}
 use Rattle.write_cache.specs.Kept.{WriteCache}
-use Rattle.write_cache.specs.Rests.{claim_brought, page_brought, page_moved, pages_appended, waits}
+use Rattle.write_cache.specs.Rests.{claim_brought, page_brought, page_moved, pages_appended}
 use Rattle.write_cache.specs.Rooms.{cache_of}
 use Rattle.write_cache.specs.Slots.{claims_of, without_claims}
 use Rattle.write_cache.proofs.Brought.{brought_left, brought_pages}
@@ -30,7 +30,6 @@ invariant_of-self c =
       frontier = omega (arith, frontier);
       numbers = grind (arith, c.requires.numbered);
       given = c.move_pages.ensures.not_newer;
-      waiting = c.count_waiting-self-inside.ensures ∙ ap (λ (ps : List Pending). count_by waits ps) c.all.ensures;
     }
 
 pub returns-clause-after : goal.returns-clause-after

@@ -1,9 +1,7 @@
-use Rattle.std.proofs.Common.{◌∙◌, List, ap, arith, length}
-use Rattle.std.specs.Prelude.{count_by}
+use Rattle.std.proofs.Common.{◌∙◌, ap, arith, length}
 use Rattle.std.specs.List.{list_any}
-use Rattle.write_cache.specs.declared.slots.Pending.{Pending}
 use Rattle.write_cache.specs.Kept.{Queue}
-use Rattle.write_cache.specs.Rests.{awaits, waits}
+use Rattle.write_cache.specs.Rests.{awaits}
 use Rattle.write_cache.proofs.Fills.{none_waits, rests_length}
 use Rattle.write_cache.proofs.cache.Cache.fill_rests.Goals as goal
 
@@ -24,7 +22,6 @@ invariant_of-self c =
       given = (let same = ap (λ (q : Queue). q.newest) c.fill_rests.ensures in
           let given = c.self.invariant.given in
           omega (arith, same, given));
-      waiting = c.count_waiting-self-inside.ensures ∙ ap (λ (qs : List Pending). count_by waits qs) c.all.ensures;
     }
 
 pub returns-clause-none_waits : goal.returns-clause-none_waits

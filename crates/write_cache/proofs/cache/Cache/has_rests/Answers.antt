@@ -1,5 +1,5 @@
-use Rattle.std.proofs.Common.{◌∙◌, ap}
-use Rattle.std.specs.Prelude.{nat_lt}
+use Rattle.std.proofs.Common.{◌≡◌, ◌∙◌, ap, rules}
+use Rattle.std.specs.Prelude.{is_some}
 use Rattle.std.specs.List.{list_any}
 use Rattle.write_cache.specs.Kept.{WriteCache}
 use Rattle.write_cache.specs.Rests.{waits}
@@ -8,6 +8,7 @@ use Rattle.write_cache.proofs.cache.Cache.has_rests.Goals as goal
 
 pub returns : goal.returns
 returns c =
-    ap (nat_lt 0) c.self.invariant.waiting
-    ∙ some_waits c.self.inside.pages.items
+    let is : c.is_some.result ≡ is_some c.first_waiting.result = search rules in
+    is ∙ ap is_some c.first_waiting.ensures.what
+    ∙ some_waits 0 c.self.inside.pages.items
     ∙ ap (λ (z : WriteCache). list_any waits z.pages) c.self.view_is

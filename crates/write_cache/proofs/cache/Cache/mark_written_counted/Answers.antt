@@ -1,9 +1,6 @@
-use Rattle.std.proofs.Common.{◌∙◌, ap, arith, length, sym}
-use Rattle.std.specs.Prelude.{count_by}
+use Rattle.std.proofs.Common.{◌∙◌, ap, arith, length}
 use Rattle.write_cache.specs.Kept.{Queue}
-use Rattle.write_cache.specs.Rests.{waits}
 use Rattle.write_cache.proofs.Deques.{written_length}
-use Rattle.write_cache.proofs.Waiting.{as_many_written}
 use Rattle.write_cache.proofs.cache.Cache.mark_written_counted.Goals as goal
 
 pub invariant_of-self : goal.invariant_of-self
@@ -23,7 +20,4 @@ invariant_of-self c =
       given = (let same = ap (λ (q : Queue). q.newest) is in
           let given = c.self.invariant.given in
           omega (arith, same, given));
-      waiting = c.self.invariant.waiting
-          ∙ sym (ap (λ (q : Queue). count_by waits q.items) is
-          ∙ as_many_written ps c.args.number c.args.index c.args.place);
     }

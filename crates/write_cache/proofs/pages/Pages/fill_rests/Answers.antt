@@ -1,24 +1,36 @@
 use Rattle.std.proofs.Common.{◌≡◌, ◌∙◌, List, ap, arith, length, map, subst, sym}
 use Rattle.write_cache.specs.declared.slots.Pending.{Pending}
-use Rattle.write_cache.specs.Ready.{AreTold}
 use Rattle.write_cache.specs.Rests.{rests_filled}
 use Rattle.write_cache.specs.Ring.{AreRuns, Shown, shown}
-use Rattle.write_cache.proofs.Deques.{refilled}
-use Rattle.write_cache.proofs.Fills.{rests_length, rests_shown}
-use Rattle.write_cache.proofs.LastPlaces.{key_of, newest_same, rests_keys}
+use Rattle.write_cache.proofs.Fills.{keys_kept, places_kept, rests_length, shown_kept}
+use Rattle.write_cache.proofs.LastPlaces.{key_of, newest_same}
+use Rattle.write_cache.proofs.Same.{place_of, rests_same}
+use Rattle.write_cache.proofs.WrittenPlaces.{written_kept}
 use Rattle.write_cache.proofs.pages.Pages.fill_rests.Goals as goal
+
+pub fill_pages-requires-clause-few : goal.fill_pages-requires-clause-few
+fill_pages-requires-clause-few c =
+    let fits = c.self.invariant.fits in
+    let few = c.self.invariant.few in
+    omega (arith, fits, few)
 
 pub fill_pages-requires-clause-room : goal.fill_pages-requires-clause-room
 fill_pages-requires-clause-room c =
-    let long = ap (λ (qs : List Pending). length qs) c.make_contiguous-pages.ensures.value in
     let fits = c.self.invariant.fits in
     let flags = c.self.invariant.ready.flags_room in
-    omega (arith, long, fits, flags)
+    omega (arith, fits, flags)
+
+pub fill_pages-requires-clause-waiting_room : goal.fill_pages-requires-clause-waiting_room
+fill_pages-requires-clause-waiting_room c =
+    let fits = c.self.invariant.fits in
+    let flags = c.self.invariant.waiting.flags_room in
+    omega (arith, fits, flags)
 
 pub fill_pages-requires-clause-told : goal.fill_pages-requires-clause-told
-fill_pages-requires-clause-told c =
-    subst (λ (qs : List Pending). AreTold c.self.inside.ready qs) (sym c.make_contiguous-pages.ensures.value)
-    c.self.invariant.ready.told
+fill_pages-requires-clause-told c = c.self.invariant.ready.told
+
+pub fill_pages-requires-clause-waiting_told : goal.fill_pages-requires-clause-waiting_told
+fill_pages-requires-clause-waiting_told c = c.self.invariant.waiting.told
 
 pub invariant_of-self : goal.invariant_of-self
 invariant_of-self c =
@@ -26,29 +38,35 @@ invariant_of-self c =
     let name = c.args.name in
     let block = c.args.block.now in
     let ps = f.pages.items in
-    let is : c.fill_pages.new.pages ≡ rests_filled name block ps =
-    c.fill_pages.ensures.after ∙ ap (rests_filled name block) c.make_contiguous-pages.ensures.value in
-    let long : length c.fill_pages.new.pages ≡ length ps =
-    ap (λ (qs : List Pending). length qs) is ∙ rests_length name block ps in
-    let all = refilled f.pages.len ps c.fill_pages.new.pages f.pages.ok.0 long in
-    let many = ap (λ (qs : List Pending). length qs) all in
+    let is = c.fill_pages.ensures.after in
+    let long = ap (λ (qs : List Pending). length qs) is ∙ rests_length name block ps in
     let fits = c.self.invariant.fits in
+    let room = c.self.invariant.pages_room in
+    let same_room = c.fill_pages.ensures.pages_room in
     record {
-      fits = omega (arith, long, many, fits);
+      fits = omega (arith, long, fits);
       few = c.self.invariant.few;
-      pages_room = c.self.invariant.pages_room;
+      pages_room = omega (arith, room, same_room);
       groups_room = c.self.invariant.groups_room;
       front = c.self.invariant.front;
       runs = subst (λ (xs : List Shown). AreRuns f.landed f.front f.newest f.groups.entries.items xs)
-          (sym (ap (λ (qs : List Pending). map shown qs) (all ∙ is) ∙ rests_shown name block ps))
+          (sym (ap (λ (qs : List Pending). map shown qs) is ∙ rests_same shown shown_kept name block ps))
           c.self.invariant.runs;
       landed = c.self.invariant.landed;
       positions = newest_same f.positions f.landed ps _
-          (ap (λ (qs : List Pending). map key_of qs) (all ∙ is) ∙ rests_keys name block ps)
+          (ap (λ (qs : List Pending). map key_of qs) is ∙ rests_same key_of keys_kept name block ps)
           c.self.invariant.positions;
+      written = written_kept f.written ps _
+          (ap (λ (qs : List Pending). map place_of qs) is ∙ rests_same place_of places_kept name block ps)
+          c.self.invariant.written;
       ready = record {
         flags_room = let places = c.fill_pages.ensures.places in
             let flags = c.self.invariant.ready.flags_room in omega (arith, places, flags);
-        told = subst (λ (qs : List Pending). AreTold c.fill_pages.new.ready qs) (sym all) c.fill_pages.ensures.tells;
+        told = c.fill_pages.ensures.tells;
+      };
+      waiting = record {
+        flags_room = let places = c.fill_pages.ensures.waiting_places in
+            let flags = c.self.invariant.waiting.flags_room in omega (arith, places, flags);
+        told = c.fill_pages.ensures.waiting_tells;
       };
     }

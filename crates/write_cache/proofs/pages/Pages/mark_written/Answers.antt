@@ -6,10 +6,12 @@ use Rattle.write_cache.specs.Queue.{queue_of}
 use Rattle.write_cache.specs.Ring.{AreRuns, first_number, shown, written}
 use Rattle.write_cache.specs.Slots.{page_written}
 use Rattle.write_cache.proofs.Deques.{unfound_told}
-use Rattle.write_cache.proofs.LastPlaces.{key_of, newest_same, written_keys}
+use Rattle.write_cache.proofs.LastPlaces.{key_of, newest_same}
 use Rattle.write_cache.proofs.Marks.{first_marked, marked_length, marked_runs, none_marked}
-use Rattle.write_cache.proofs.Readies.{found_within, written_ready}
+use Rattle.write_cache.proofs.Readies.{found_within, rests_kept, written_ready}
+use Rattle.write_cache.proofs.Same.{rest_of, written_same}
 use Rattle.write_cache.proofs.Told.{told_consecutive, told_few, told_rising, told_stands, told_straight}
+use Rattle.write_cache.proofs.WrittenPlaces.{written_marked}
 use Rattle.write_cache.specs.declared.slots.Pending.{Pending}
 use Rattle.write_cache.proofs.pages.Pages.mark_written.Goals as goal
 
@@ -56,6 +58,15 @@ set-requires-in-Some-found c =
     let flags = c.self.invariant.ready.flags_room in
     omega (arith, within, fits, flags)
 
+pub mark-requires : goal.mark-requires
+mark-requires c =
+    let f = c.self.inside in
+    let within = found_within f.pages.items c.in-Some.entry.group.number c.args.index c.in-Some-found.at
+    c.in-Some-found.ensures.what in
+    let fits = c.self.invariant.fits in
+    let few = c.self.invariant.few in
+    omega (arith, within, fits, few)
+
 pub invariant_of-self : goal.invariant_of-self
 invariant_of-self c =
     let f = c.self.inside in
@@ -66,7 +77,9 @@ invariant_of-self c =
     c.set.ensures.after ∙ ap (λ (h : GroupAt). slice_set f.groups.entries.items at h) c.written.ensures in
     let long = ap (λ (ps : List Pending). length ps) c.write_at-is_open.ensures.after
     ∙ marked_length k c.args.place f.pages.items in
+    let within = found_within f.pages.items g.number c.args.index k c.in-Some-found.ensures.what in
     let fits = c.self.invariant.fits in
+    let few = c.self.invariant.few in
     let room = c.self.invariant.pages_room in
     let ring_room = c.self.invariant.groups_room in
     let same_room = c.write_at-is_open.ensures.room in
@@ -88,12 +101,19 @@ invariant_of-self c =
       landed = c.self.invariant.landed;
       positions = newest_same f.positions f.landed f.pages.items c.write_at-is_open.new.pages.items
           (ap (λ (ps : List Pending). map key_of ps) c.write_at-is_open.ensures.after
-          ∙ written_keys f.pages.items k c.args.place (slice_get f.pages.items k) refl)
+          ∙ written_same key_of f.pages.items k c.args.place (λ p. refl) (slice_get f.pages.items k) refl)
           c.self.invariant.positions;
+      written = written_marked f.written c.mark.new.self f.pages.items c.write_at-is_open.new.pages.items k c.args.place
+          c.write_at-is_open.result c.self.invariant.written within (omega (arith, fits, few))
+          c.write_at-is_open.ensures.was c.write_at-is_open.ensures.after c.mark.ensures.config c.mark.ensures.first
+          c.mark.ensures.at c.mark.ensures.shared;
       ready = written_ready f.room k f.ready c.set-in-Some-found.new.self f.pages.items
           c.write_at-is_open.new.pages.items c.args.place c.self.invariant.ready
-          (found_within f.pages.items g.number c.args.index k c.in-Some-found.ensures.what) fits
-          c.write_at-is_open.ensures.after c.set-in-Some-found.ensures;
+          within fits c.write_at-is_open.ensures.after c.set-in-Some-found.ensures;
+      waiting = rests_kept f.room f.waiting f.pages.items c.write_at-is_open.new.pages.items
+          (ap (λ (ps : List Pending). map rest_of ps) c.write_at-is_open.ensures.after
+          ∙ written_same rest_of f.pages.items k c.args.place (λ p. refl) (slice_get f.pages.items k) refl)
+          c.self.invariant.waiting;
     }
 
 pub returns-in-Some-found-clause-bound : goal.returns-in-Some-found-clause-bound

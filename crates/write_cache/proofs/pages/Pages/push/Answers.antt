@@ -3,11 +3,14 @@ use Rattle.std.proofs.lemmas.List.{length-append, length-map}
 use Rattle.std.specs.Prelude.{◌-◌, ◌∷◌, []}
 use Rattle.write_cache.specs.declared.slots.Pending.{Pending}
 use Rattle.write_cache.specs.Kept.{Queue}
+use Rattle.write_cache.specs.Ready.{is_ready}
+use Rattle.write_cache.specs.Rests.{waits}
 use Rattle.write_cache.specs.Ring.{shown, wrapped}
 use Rattle.write_cache.proofs.LastPlaces.{newest_pushed}
 use Rattle.write_cache.proofs.Pushes.{first_again, pushed}
-use Rattle.write_cache.proofs.Readies.{pushed_ready}
+use Rattle.write_cache.proofs.Readies.{pushed_set}
 use Rattle.write_cache.proofs.Runs.{runs_length, short_at}
+use Rattle.write_cache.proofs.WrittenPlaces.{written_pushed}
 use Rattle.write_cache.proofs.pages.Pages.push.Goals as goal
 
 pub note-requires-clause-room : goal.note-requires-clause-room
@@ -75,9 +78,16 @@ invariant_of-self c =
           c.push_back_reserved.new.self.items p c.self.invariant.positions c.note_at.ensures.config
           c.note_at.ensures.at (ap (λ (n : ℕ). wrapped (f.landed + n)) (c.len.ensures ∙ f.pages.ok.0))
           c.push_back_reserved.ensures.items;
-      ready = pushed_ready f.room c.len-2.result f.ready c.set.new.self f.pages.items
+      written = written_pushed f.written f.pages.items c.push_back_reserved.new.self.items p c.self.invariant.written
+          c.push_back_reserved.ensures.items c.requires.unwritten;
+      ready = pushed_set is_ready f.room c.len-2.result f.ready c.set.new.self f.pages.items
           c.push_back_reserved.new.self.items p c.is_ready.result c.self.invariant.ready
           c.push_back_reserved.ensures.items (c.len-2.ensures ∙ f.pages.ok.0)
           (let many = c.len-2.ensures ∙ f.pages.ok.0 in omega (arith, many, room, length_is, room_is))
           c.is_ready.ensures c.set.ensures;
+      waiting = pushed_set waits f.room c.len-3.result f.waiting c.set-2.new.self f.pages.items
+          c.push_back_reserved.new.self.items p c.waits.result c.self.invariant.waiting
+          c.push_back_reserved.ensures.items (c.len-3.ensures ∙ f.pages.ok.0)
+          (let many = c.len-3.ensures ∙ f.pages.ok.0 in omega (arith, many, room, length_is, room_is))
+          c.waits.ensures c.set-2.ensures;
     }

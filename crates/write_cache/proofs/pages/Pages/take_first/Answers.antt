@@ -1,10 +1,13 @@
 use Rattle.std.proofs.Common.{◌≡◌, ◌∙◌, Bool, List, ap, arith, length, rules}
 use Rattle.std.specs.Prelude.{is_none}
 use Rattle.write_cache.specs.declared.slots.Pending.{Pending}
+use Rattle.write_cache.specs.Ready.{is_ready}
+use Rattle.write_cache.specs.Rests.{waits}
 use Rattle.write_cache.specs.Ring.{shortened}
 use Rattle.write_cache.proofs.LastPlaces.{newest_taken}
 use Rattle.write_cache.proofs.Pushes.{first_again, taken}
-use Rattle.write_cache.proofs.Readies.{taken_ready}
+use Rattle.write_cache.proofs.Readies.{taken_set}
+use Rattle.write_cache.proofs.WrittenPlaces.{written_taken}
 use Rattle.write_cache.proofs.pages.Pages.take_first.Goals as goal
 
 pub invariant_of-self-2 : goal.invariant_of-self-2
@@ -32,6 +35,11 @@ invariant_of-self-2 c =
       landed = omega arith;
       positions = newest_taken f.positions f.landed f.pages.items c.pop_front.new.self.items c.in_ok-page.page
           c.in_ok-page.ensures.items c.self.invariant.positions;
-      ready = taken_ready f.room f.ready c.pass.new.self f.pages.items c.pop_front.new.self.items c.in_ok-page.page
-          c.self.invariant.ready c.in_ok-page.ensures.items c.pass.ensures;
+      written = written_taken f.written c.leave.new.self f.pages.items c.pop_front.new.self.items c.in_ok-page.page
+          c.self.invariant.written c.in_ok-page.ensures.items c.leave.ensures.config c.leave.ensures.shared
+          c.leave.ensures.first c.leave.ensures.at;
+      ready = taken_set is_ready f.room f.ready c.pass.new.self f.pages.items c.pop_front.new.self.items
+          c.in_ok-page.page c.self.invariant.ready c.in_ok-page.ensures.items c.pass.ensures;
+      waiting = taken_set waits f.room f.waiting c.pass-2.new.self f.pages.items c.pop_front.new.self.items
+          c.in_ok-page.page c.self.invariant.waiting c.in_ok-page.ensures.items c.pass-2.ensures;
     }

@@ -1,16 +1,21 @@
-use Rattle.std.proofs.Common.{◌≡◌, ◌<◌, ◌++◌, length, take, drop}
-use Rattle.std.specs.Prelude.{IfSome}
-use Rattle.write_cache.specs.Ready.{AreTold}
-use Rattle.write_cache.specs.Rests.{base_behind, rests_filled}
+use Rattle.std.proofs.Common.{◌≡◌, ◌-◌, ◌++◌, length, take, drop}
+use Rattle.std.specs.VecDeque.{deque_capacity}
+use Rattle.write_cache.specs.Ready.{AreTold, is_ready}
+use Rattle.write_cache.specs.Rests.{base_behind, rests_filled, waits}
 use Rattle.write_cache.proofs.pages.fill.fill_pages.Given as goal
 
 abbrev pub invariant-loop-at : goal.invariant-loop-at
 invariant-loop-at l = record {
-  before : IfSome l.filled (λ k. k < l.at);
-  long : length l.pages ≡ length l.initial.pages;
+  long : length l.pages.items ≡ length l.initial.pages.items;
+  pages_room : deque_capacity l.pages ≡ deque_capacity l.initial.pages;
   places : length l.ready ≡ length l.initial.ready;
-  told : AreTold l.ready l.pages;
-  filled_so_far : rests_filled l.name l.block l.initial.pages
-      ≡ take l.at l.pages
-      ++ rests_filled l.name (base_behind l.block l.pages l.filled) (drop l.at l.pages);
+  waiting_places : length l.waiting ≡ length l.initial.waiting;
+  told : AreTold is_ready l.ready l.pages.items;
+  waiting_told : AreTold waits l.waiting l.pages.items;
+  filled_so_far : rests_filled l.name l.block l.initial.pages.items
+      ≡ take l.from l.pages.items
+      ++ rests_filled l.name (base_behind l.block l.pages.items l.filled) (drop l.from l.pages.items);
 }
+
+abbrev pub decreases-loop-at : goal.decreases-loop-at
+decreases-loop-at l = length l.waiting - l.from

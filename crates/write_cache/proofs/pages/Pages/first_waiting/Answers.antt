@@ -1,0 +1,33 @@
+use Rattle.std.proofs.Common.{ℕ, ◌<◌, ◌∙◌, ap, arith, length}
+use Rattle.std.proofs.lemmas.Option.{IfSome_then}
+use Rattle.word_set.proofs.Flags.{first_less}
+use Rattle.write_cache.specs.Kept.{Queue}
+use Rattle.write_cache.specs.Ready.{first_waiting_from}
+use Rattle.write_cache.specs.Rests.{waits}
+use Rattle.write_cache.proofs.Readies.{first_is_told}
+use Rattle.write_cache.proofs.pages.Pages.first_waiting.Goals as goal
+
+pub returns-clause-what : goal.returns-clause-what
+returns-clause-what c =
+    let f = c.self.inside in
+    c.first_from.ensures.what
+    ∙ first_is_told waits c.args.from f.waiting f.pages.items c.self.invariant.waiting.told
+    ∙ ap (λ (z : Queue). first_waiting_from z.items c.args.from) c.self.view_is
+
+pub returns-clause-less : goal.returns-clause-less
+returns-clause-less c =
+    let f = c.self.inside in
+    first_less waits c.args.self.now.items c.args.from c.first_from.result
+    (c.first_from.ensures.what
+    ∙ first_is_told waits c.args.from f.waiting f.pages.items c.self.invariant.waiting.told
+    ∙ ap (λ (z : Queue). first_waiting_from z.items c.args.from) c.self.view_is)
+
+pub returns-clause-small : goal.returns-clause-small
+returns-clause-small c =
+    let f = c.self.inside in
+    let fits = c.self.invariant.fits in
+    let few = c.self.invariant.few in
+    IfSome_then c.first_from.result
+    (first_less waits f.pages.items c.args.from c.first_from.result
+    (c.first_from.ensures.what ∙ first_is_told waits c.args.from f.waiting f.pages.items c.self.invariant.waiting.told))
+    (λ (k : ℕ) (l : k < length f.pages.items). omega (arith, fits, few, l))
