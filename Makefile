@@ -13,7 +13,8 @@ PROGRAMS := ufsim ufstool
 INSTALLED = $(foreach it,$(PROGRAMS),bin/$(it) share/man/man1/$(it).1 share/bash-completion/completions/$(it) \
 	share/zsh/site-functions/_$(it) share/fish/vendor_completions.d/$(it).fish)
 
-.PHONY: help demo test prove format install uninstall bench collection peers stress wrong-bodies turned-rules refused-memory power-cycles
+.PHONY: help demo test prove format install uninstall bench collection peers stress fuzz wrong-bodies check-sees turned-rules \
+	refused-memory power-cycles
 
 help:
 	@echo 'make demo                  shows a write, a read and six stops; builds without proving, two minutes'
@@ -31,14 +32,18 @@ help:
 	@echo 'make peers                 times durable writes and reads of SQLite, LMDB and RocksDB beside one SHA-256;'
 	@echo '                           installs them with apt-get, as root, where they are missing'
 	@echo 'make stress                runs what was built a thousand times with 1 to 8 dies and hosts in threads'
+	@echo 'make fuzz                  plays 2,000 random scripts, and compares what comes with a plain model; builds'
+	@echo '                           without proving'
 	@echo 'make wrong-bodies          tries the wrong bodies that changed, and sees that the prover refuses each'
+	@echo 'make check-sees            sees that ufsim check tells of some wrong bodies; builds without proving'
 	@echo 'make turned-rules          turns rules of the specification around, and sees that a law refuses each'
-	@echo 'make refused-memory        refuses each allocation of each call that takes memory, one at a time'
+	@echo 'make refused-memory        refuses each allocation of each call that takes memory, and those of ufsim run'
+	@echo '                           and ufsim check, one at a time; builds without proving'
 	@echo 'make power-cycles          proves and plays rows of 10,000 lives, each of which ends with a stop: hours'
 
 # Without the kit nothing can be proved or built. Under -q make runs nothing, adds no line of its own,
 # and ends with status 1.
-ifneq ($(filter demo test prove format install bench collection wrong-bodies turned-rules refused-memory power-cycles,$(MAKECMDGOALS)),)
+ifneq ($(filter demo test prove format install bench collection fuzz wrong-bodies check-sees turned-rules refused-memory power-cycles,$(MAKECMDGOALS)),)
 ifeq ($(shell command -v rt 2>/dev/null),)
 $(shell echo "butcherford: the Rattle kit's command rt is not on the PATH; it is needed to prove and build" >&2)
 MAKEFLAGS += -q
@@ -103,14 +108,21 @@ peers:
 stress:
 	@python3 tools/stress.py
 
+fuzz:
+	@python3 -B tools/fuzz.py --bits --scripts 2000
+
 wrong-bodies:
 	@python3 tools/wrong_bodies.py
+
+check-sees:
+	@python3 tools/check_sees.py
 
 turned-rules:
 	@python3 tools/turn_rules.py
 
 refused-memory:
 	@python3 tools/refuse_memory.py
+	@python3 tools/refuse_in_ufsim.py
 
 power-cycles:
 	@cd crates/power_cycles && rt run -- all

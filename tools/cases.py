@@ -11,12 +11,15 @@ with the status in NAME.status (0, if there is no such file). The outputs of a s
 after its whole name, as NAME.txt.stdout.
 
 The program is built once, without a proof. With --proved both programs are run that `rt ci` has
-proved and built here: LLVM's, and that of Rattle's own compiler. With --write the stored files are
-written anew: read them then.
+proved and built here: LLVM's, and that of Rattle's own compiler. Those of ufsim are also run where
+standard output cannot be written, on a full disk and on a pipe that nobody reads, and have to say
+so. With --write the stored files are written anew: read them then.
 
 The last line is 'N passed, M failed'. The status is 0 if no case failed and there is one.
 """
 import argparse
+import contextlib
+import os
 import pathlib
 import re
 import shutil
@@ -40,6 +43,11 @@ TRY_SECONDS = 300
 # How a program is run: its output is read as text, and its status is looked at later.
 HOW = {"stdin": subprocess.DEVNULL, "capture_output": True, "encoding": "utf-8", "errors": "replace",
        "check": False}
+
+
+# What is run where standard output cannot be written, and what the program then says, with its status.
+UNWRITTEN = tuple((it, str(ROOT / "tools" / "refused_memory" / f"{it}.txt")) for it in ("run", "check"))
+SAID = ("ufsim: output\n", 1)
 
 
 class Output(NamedTuple):
@@ -97,8 +105,8 @@ def cases_of(program):
     return scripts() + cases_in(WRONG_WORDS) if program == "ufsim" else cases_in(EXAMPLES / program)
 
 
-def tried(program, cases):
-    """What the program printed in each case, as `rt try` builds it once, and what rt said."""
+def tried(program, cases, root=ROOT):
+    """What the program of a repository printed in each case, as `rt try` builds it once, and what rt said."""
     named = {word: file for case in cases for word, file in case.files().items()}
     data = [it for word, file in sorted(named.items()) for it in ("--data", f"{word}={file}")]
     with tempfile.TemporaryDirectory(prefix="cases.") as folder:
@@ -109,7 +117,7 @@ def tried(program, cases):
                 text = "".join(f"{it}\n" for it in case.words)
                 place.with_name(f"{case.name}.args").write_text(text, encoding="utf-8")
         command = ["rt", "try", "--steps", "1", "--seconds", str(TRY_SECONDS), "--cases", folder, *data]
-        done = subprocess.run(command, cwd=ROOT / "crates" / f"{program}_main", **HOW)
+        done = subprocess.run(command, cwd=root / "crates" / f"{program}_main", **HOW)
     outputs, endings = outputs_of(done.stdout), endings_of(done.stderr)
     return {name: Output(outputs.get(name, ""), *ending) for name, ending in endings.items()}, done.stderr
 
@@ -177,6 +185,42 @@ def judged(cases, found, said=""):
     return sum(is_good(case, found[case.name]) for case in cases if case.name in found)
 
 
+@contextlib.contextmanager
+def unread_pipe():
+    """The end of a pipe at which can be written, while nobody reads at the other."""
+    reader, writer = os.pipe()
+    os.close(reader)
+    with os.fdopen(writer, "wb") as end:
+        yield end
+
+
+# Where nothing can be written.
+UNWRITABLE = {"a full disk": lambda: open("/dev/full", "wb"), "a pipe that nobody reads": unread_pipe}
+
+
+def said_of_output(built, words, out):
+    """What the program said on standard error, and its status, where standard output is this."""
+    how = {**HOW, "capture_output": False, "stdout": out, "stderr": subprocess.PIPE}
+    try:
+        done = subprocess.run([built, *words], env={}, timeout=SECONDS, **how)
+    except (OSError, subprocess.TimeoutExpired) as fault:
+        return f"{fault}\n", -1
+    return done.stderr, done.returncode
+
+
+def told_of_output(built):
+    """How often the program said that standard output cannot be written, of the times that it could not."""
+    passed = 0
+    for name, opened in UNWRITABLE.items():
+        for words in UNWRITTEN:
+            with opened() as out:
+                said = said_of_output(built, words, out)
+            passed += said == SAID
+            if said != SAID:
+                print(f"{words[0]}, into {name}: it ended with status {said[1]}, and said: {said[0]!r}")
+    return passed
+
+
 def proved(program, cases):
     """How many cases come out right with the programs that rt ci has built, and how many there are."""
     folder = ROOT / "crates" / f"{program}_main" / "out"
@@ -185,7 +229,10 @@ def proved(program, cases):
     for place in [it for it in places if it not in there]:
         print(f"there is no {place.relative_to(ROOT)}: run `rt ci` at the top of the repository first")
     passed = sum(judged(cases, ran(str(place), cases)) for place in there)
-    return passed, len(places) * len(cases)
+    if program != "ufsim":
+        return passed, len(places) * len(cases)
+    passed += sum(told_of_output(str(place)) for place in there)
+    return passed, len(places) * (len(cases) + len(UNWRITABLE) * len(UNWRITTEN))
 
 
 def main():

@@ -77,6 +77,7 @@ def groups():
         Group("ufstool: stored cases", (PYTHON, "cases.py", "ufstool"), tools, 200),
         Group("no memory after the opening", (PYTHON, "refuse_memory.py", "--row"), tools, 90),
         Group("lives one after another", (PYTHON, "power_cycles.py"), tools, 150),
+        Group("fuzz: random scripts", (PYTHON, "-B", "fuzz.py", "--scripts", "50"), tools, 160),
         Group("texts of the wrong bodies", (PYTHON, "wrong_bodies.py", "--texts"), tools, 2),
         Group("texts of the wrong rules", (PYTHON, "turn_rules.py", "--texts"), tools, 2),
         Group("tests of the tools", (PYTHON, "-B", "-m", "unittest", "discover", "tests"), tools, 10),

@@ -119,9 +119,9 @@ def has_law(crate, law):
 
 
 class TrialCopy:
-    """A copy of crates, with what earlier checks left, so that a check does only what is new."""
+    """A copy of crates, with what earlier checks left, so that a check does only what is new, or without it."""
 
-    def __init__(self, crates, source=ROOT):
+    def __init__(self, crates, source=ROOT, leave_out=()):
         self.folder = pathlib.Path(tempfile.mkdtemp(prefix="trial_copy."))
         self.before = {}
         lines, wanted = needed(crates)
@@ -129,7 +129,8 @@ class TrialCopy:
         if (source / "HANDLES").exists():
             shutil.copy2(source / "HANDLES", self.folder)
         for crate in wanted:
-            shutil.copytree(source / "crates" / crate, self.folder / "crates" / crate, symlinks=True)
+            shutil.copytree(source / "crates" / crate, self.folder / "crates" / crate, symlinks=True,
+                            ignore=shutil.ignore_patterns(*leave_out))
 
     def remove(self):
         shutil.rmtree(self.folder, ignore_errors=True)

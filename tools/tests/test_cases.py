@@ -7,6 +7,8 @@ import unittest
 
 import cases
 
+# It says whether its output could be written.
+TELLS = '#!/bin/sh\ntrap "" PIPE\necho "$@" 2>/dev/null || { echo "ufsim: output" >&2; exit 1; }\n'
 PROGRAM = '#!/bin/sh\necho "$@"\ncat notes.txt 2>/dev/null\necho told >&2\nexit 3\n'
 
 
@@ -62,3 +64,17 @@ class Cases(unittest.TestCase):
 
 if __name__ == "__main__":
     unittest.main()
+
+    def told_of_output(self, text):
+        """How often this program tells that its output cannot be written, and what is said of it."""
+        self.write("program", text)
+        with contextlib.redirect_stdout(io.StringIO()) as printed:
+            return cases.told_of_output(str(self.folder / "program")), printed.getvalue()
+
+    def test_output_that_cannot_be_written_has_to_be_told(self):
+        count = len(cases.UNWRITABLE) * len(cases.UNWRITTEN)
+        self.assertEqual((count, ""), self.told_of_output(TELLS))
+        told, printed = self.told_of_output(TELLS.replace("exit 1", "exit 0"))
+        self.assertEqual(0, told)
+        self.assertEqual(count, printed.count("it ended with status 0"))
+        self.assertEqual(0, self.told_of_output(TELLS.replace("ufsim: output", "memory"))[0])

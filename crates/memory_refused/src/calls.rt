@@ -134,11 +134,53 @@ pub fn open_device<R: Threads + Sync>(
     let Some(device) = opened_at_last(rt, alloc, &config, dies.as_mut_slice(), readers) else {
         return Err(Fault::Wrong("the device is not opened, or the dies are changed"));
     };
+    expect(is_mended(device, dies), "the device is not mended")
+}
+
+/// Whether a device over these dies is mended, and gives a block.
+fn is_mended(device: Device, dies: Vec<MemDie>) -> bool {
     let mut bench = Workbench {
         device,
         dies,
         reply: Upiu::new(),
     };
     bench.settle(8, 2);
-    expect(bench.reads(3, 0x5A), "the device is not mended")
+    bench.reads(3, 0x5A)
+}
+
+/// A device over what a scan of the dies found. What is refused to the scan is refused before the
+/// call.
+fn device_found<R: Threads + Sync>(
+    rt: &R,
+    alloc: Global,
+    dies: &mut [MemDie],
+) -> Result<Result<Device, OpenFault>, Fault> {
+    let config = small_config()?;
+    let Ok(found) = scanned(rt, alloc, &config, dies, Readers::Caller) else {
+        return Err(Fault::Before);
+    };
+    Ok(Device::from_found(alloc, config, found))
+}
+
+/// The opening of a device over what was found, which is given up where memory is refused to it.
+pub fn open_found<R: Threads + Sync>(rt: &R, alloc: Global) -> Result<(), Fault> {
+    let config = small_config()?;
+    let mut dies = dies_of(alloc, &config, Written::Gap)?;
+    match device_found(rt, alloc, dies.as_mut_slice())? {
+        Ok(device) => expect(is_mended(device, dies), "the device is not mended"),
+        Err(OpenFault::NoMemory) => open_found_again(rt, alloc, dies),
+        Err(_) => Err(Fault::Wrong("another fault is told")),
+    }
+}
+
+/// The same, over what another scan finds, after memory was refused.
+fn open_found_again<R: Threads + Sync>(
+    rt: &R,
+    alloc: Global,
+    mut dies: Vec<MemDie>,
+) -> Result<(), Fault> {
+    match device_found(rt, alloc, dies.as_mut_slice())? {
+        Ok(device) => expect(is_mended(device, dies), "the device is not mended"),
+        Err(_) => Err(Fault::Wrong("the second call is refused")),
+    }
 }

@@ -1,13 +1,14 @@
 //! The worked row `write_read` by the device's five calls: a FUA write of one block and its read, over
 //! new dies in memory. It prints each reply as a line of hexadecimal digits. The five calls take no
-//! memory, so the last allocation of the program is one of the opening.
+//! memory, so each allocation of the row comes before the first of them.
 use anyhow::{Result, bail, ensure};
 use std::alloc::Global;
 use std::io::Write;
 use workbench::messages::{FUA, READ, WRITE, block_out, command};
 use workbench::{Workbench, new_dies, row_config};
 
-fn open(alloc: Global) -> Result<Workbench> {
+/// A device over new dies.
+pub fn open(alloc: Global) -> Result<Workbench> {
     let config = row_config()?;
     let dies = new_dies(alloc, 4, 16, 64)?;
     Ok(Workbench::new(alloc, config, dies)?)
@@ -26,7 +27,8 @@ fn show<W: Write>(bench: &mut Workbench, out: &mut W) -> Result<()> {
 }
 
 /// A FUA write of a block at address 255, and its read. The write is not answered before its program ended.
-fn play<W: Write>(bench: &mut Workbench, out: &mut W) -> Result<()> {
+/// What the device replies is printed.
+pub fn play<W: Write>(bench: &mut Workbench, out: &mut W) -> Result<()> {
     bench.settle(4, 4);
     bench.send(&command(7, WRITE, FUA, 255, 1))?;
     show(bench, out)?;
@@ -36,10 +38,4 @@ fn play<W: Write>(bench: &mut Workbench, out: &mut W) -> Result<()> {
     bench.send(&command(8, READ, 0, 255, 1))?;
     show(bench, out)?;
     show(bench, out)
-}
-
-/// Opens the device, and prints what it replies.
-pub fn play_five_calls<W: Write>(alloc: Global, out: &mut W) -> Result<()> {
-    let mut bench = open(alloc)?;
-    play(&mut bench, out)
 }

@@ -19,6 +19,10 @@ mod failures;
 #[cfg(test)]
 mod freed_blocks;
 #[cfg(test)]
+mod hostile_frames;
+#[cfg(test)]
+mod hostile_messages;
+#[cfg(test)]
 mod leftovers;
 #[cfg(test)]
 mod locks;

@@ -11,7 +11,7 @@ use workbench::Workbench;
 use workbench::frames::{FrameBytes, Numbers, frame};
 
 /// The key.
-const KEY: [u8; 32] = [0x0B; 32];
+pub(crate) const KEY: [u8; 32] = [0x0B; 32];
 
 /// The MAC of the last write, under the counter FFFFFFFEh, and of the next one.
 const LAST_WRITE: [u8; 32] = [
@@ -53,10 +53,10 @@ const READ: [u8; 32] = [
 ];
 
 /// No MAC.
-const NONE: [u8; 32] = [0; 32];
+pub(crate) const NONE: [u8; 32] = [0; 32];
 
 /// A frame of this type, of a block of this byte at address 3.
-fn at_3(mac: &[u8; 32], byte: u8, kind: u16, counter: u32, code: u16) -> FrameBytes {
+pub(crate) fn at_3(mac: &[u8; 32], byte: u8, kind: u16, counter: u32, code: u16) -> FrameBytes {
     let numbers = Numbers {
         counter,
         address: 3,
@@ -68,7 +68,7 @@ fn at_3(mac: &[u8; 32], byte: u8, kind: u16, counter: u32, code: u16) -> FrameBy
 }
 
 /// A frame without a block, of this type and at this address.
-fn told(mac: &[u8; 32], kind: u16, counter: u32, address: u16, code: u16) -> FrameBytes {
+pub(crate) fn told(mac: &[u8; 32], kind: u16, counter: u32, address: u16, code: u16) -> FrameBytes {
     let numbers = Numbers {
         counter,
         address,
@@ -106,14 +106,19 @@ fn dies_near_the_end(rt: &impl Abort, alloc: Global) -> Vec<MemDie> {
 }
 
 /// The counter is asked for: the device tells this one.
-fn expect_counter(rt: &impl Abort, bench: &mut Workbench, answer: &FrameBytes) {
+pub(crate) fn expect_counter(rt: &impl Abort, bench: &mut Workbench, answer: &FrameBytes) {
     assert!(rt; bench.requests(1, &[told(&NONE, 2, 0, 0, 0)]));
     assert!(rt; bench.fetches(2, &[*answer]));
 }
 
-/// The write of a block of bytes 5Ah is answered GOOD, and its result is this.
-fn expect_result(rt: &impl Abort, bench: &mut Workbench, write: &FrameBytes, answer: &FrameBytes) {
-    assert!(rt; bench.requests(1, &[*write]));
+/// The write of these frames is answered GOOD, and its result is this.
+pub(crate) fn expect_result(
+    rt: &impl Abort,
+    bench: &mut Workbench,
+    write: &[FrameBytes],
+    answer: &FrameBytes,
+) {
+    assert!(rt; bench.requests(1, write));
     assert!(rt; bench.requests(1, &[told(&NONE, 5, 0, 0, 0)]));
     assert!(rt; bench.fetches(2, &[*answer]));
 }
@@ -145,14 +150,14 @@ fn the_counter_comes_to_its_end(rt: HostRuntime) {
     expect_result(
         &rt,
         &mut bench,
-        &at_3(&LAST_WRITE, 0x5A, 3, 0xFFFF_FFFE, 0),
+        &[at_3(&LAST_WRITE, 0x5A, 3, 0xFFFF_FFFE, 0)],
         &told(&LAST_RESULT, 0x0300, 0xFFFF_FFFF, 3, 0x0080),
     );
     expect_the_end(&rt, &mut bench);
     expect_result(
         &rt,
         &mut bench,
-        &at_3(&NEXT_WRITE, 0x5A, 3, 0xFFFF_FFFF, 0),
+        &[at_3(&NEXT_WRITE, 0x5A, 3, 0xFFFF_FFFF, 0)],
         &told(&NEXT_RESULT, 0x0300, 0xFFFF_FFFF, 3, 0x0085),
     );
     expect_the_end(&rt, &mut bench);

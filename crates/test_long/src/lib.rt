@@ -4,10 +4,26 @@
 #![tactic(auto)]
 
 #[cfg(test)]
+mod areas;
+#[cfg(test)]
 mod checked_script;
 #[cfg(test)]
 mod collections;
 #[cfg(test)]
+mod commands;
+#[cfg(test)]
+mod failures;
+#[cfg(test)]
 mod held;
 #[cfg(test)]
+mod kept;
+#[cfg(test)]
+mod player;
+#[cfg(test)]
 mod read_beside;
+#[cfg(test)]
+mod rows;
+#[cfg(test)]
+mod script;
+#[cfg(test)]
+mod stops;

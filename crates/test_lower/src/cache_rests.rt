@@ -9,7 +9,7 @@ use workbench::row_config;
 use write_cache::{Cache, NewPage, Part, RestSource};
 
 /// Blocks of a page of the RPMB area as a command brings them, from this one on.
-fn area_page<'a>(
+pub(crate) fn area_page<'a>(
     address: u32,
     first: u8,
     blocks: u8,
@@ -33,7 +33,7 @@ fn area_page<'a>(
 }
 
 /// The settings page, which a command brings whole.
-fn settings_page<'a>(bytes: &'a [u8]) -> NewPage<'a>
+pub(crate) fn settings_page<'a>(bytes: &'a [u8]) -> NewPage<'a>
     requires { length bytes.now ≡ 4096 }
     ensures { IsPart result }
 {
@@ -53,7 +53,7 @@ fn settings_page<'a>(bytes: &'a [u8]) -> NewPage<'a>
 }
 
 /// A task claims three slots, and its group has these pages: the group's number.
-fn write(cache: &mut Cache, pages: &[NewPage<'_>]) -> Option<u64>
+pub(crate) fn write(cache: &mut Cache, pages: &[NewPage<'_>]) -> Option<u64>
     requires parts { All IsPart pages.now }
     requires few { length pages.now < 2 ^ 16 }
 {

@@ -13,6 +13,8 @@ mod faulty_die;
 #[cfg(test)]
 mod frames;
 #[cfg(test)]
+mod hostile_frames;
+#[cfg(test)]
 mod journals;
 #[cfg(test)]
 mod last_pages;
@@ -20,6 +22,8 @@ mod last_pages;
 mod macs;
 #[cfg(test)]
 mod page_contents;
+#[cfg(test)]
+mod place_searches;
 #[cfg(test)]
 mod plain_rows;
 #[cfg(test)]

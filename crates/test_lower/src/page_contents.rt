@@ -1,28 +1,32 @@
 //! What pages are told to be: pages of groups, marks, and nothing.
-use page_tag::{Content, content_of, mark_body, seal};
+use page_tag::{Content, content_of, contents_of_four, mark_body, seal};
 use std::test::Fail;
 use ufs_spec::{Block, Fence, Numbers, Page, Tag};
 use workbench::row_config;
 
+/// The tag of a page of data.
+const DATA: Tag = Tag {
+    kind: Tag::DATA,
+    unit: 2,
+    address: 5,
+    number: 7,
+    index: 0,
+    size: 1,
+    frontier: 6,
+};
+
+/// A blank page.
+const BLANK: Page = Page {
+    body: [0xFF; 4096],
+    spare: [0xFF; 96],
+};
+
 /// Data are told as they were sealed, and a blank page is nothing.
 #[test]
 fn data_are_told_as_they_were_sealed(rt: HostRuntime) {
-    let tag = Tag {
-        kind: Tag::DATA,
-        unit: 2,
-        address: 5,
-        number: 7,
-        index: 0,
-        size: 1,
-        frontier: 6,
-    };
-    let body: Block = [0x5A; 4096];
-    assert!(rt; is_group_page(&seal(&tag, &body), &tag, &body));
-    let blank = Page {
-        body: [0xFF; 4096],
-        spare: [0xFF; 96],
-    };
-    assert!(rt; is_nothing(&blank));
+    let (tag, body) = (DATA, [0x5A; 4096]);
+    assert!(rt; is_group_page(&content_of(&seal(&tag, &body)), &tag, &body));
+    assert!(rt; is_nothing(&content_of(&BLANK)));
 }
 
 /// Zeros are the settings of a new device. With one byte of the padding set they are nothing, and
@@ -39,12 +43,12 @@ fn settings_with_set_padding_are_nothing(rt: HostRuntime) {
         frontier: 0,
     };
     let mut body: Block = [0; 4096];
-    assert!(rt; is_group_page(&seal(&tag, &body), &tag, &body));
+    assert!(rt; is_group_page(&content_of(&seal(&tag, &body)), &tag, &body));
     body[40] = 1;
-    assert!(rt; is_nothing(&seal(&tag, &body)));
+    assert!(rt; is_nothing(&content_of(&seal(&tag, &body))));
     body[40] = 0;
     body[0] = 3;
-    assert!(rt; is_nothing(&seal(&tag, &body)));
+    assert!(rt; is_nothing(&content_of(&seal(&tag, &body))));
 }
 
 /// Marks with a fence and without one. A mark whose fence is empty is nothing.
@@ -53,10 +57,32 @@ fn a_mark_with_an_empty_fence_is_nothing(rt: HostRuntime) -> Result<(), Fail> {
     let config = row_config()?;
     let numbers = config.numbers();
     let fence = Some(Fence { first: 2, last: 9 });
-    assert!(rt; is_mark(&sealed_mark(numbers, fence), fence, numbers));
-    assert!(rt; is_mark(&sealed_mark(numbers, None), None, numbers));
+    assert!(rt; is_mark(&content_of(&sealed_mark(numbers, fence)), fence, numbers));
+    assert!(rt; is_mark(&content_of(&sealed_mark(numbers, None)), None, numbers));
     let empty = Some(Fence { first: 9, last: 2 });
-    assert!(rt; is_nothing(&sealed_mark(numbers, empty)));
+    assert!(rt; is_nothing(&content_of(&sealed_mark(numbers, empty))));
+    Ok(())
+}
+
+/// Of four pages each is told as it is alone: data, a mark, the same data with a bit turned, whose
+/// check is wrong, and data again; and so where two of them are blank.
+#[test]
+fn each_of_four_pages_is_told_as_it_is_alone(rt: HostRuntime) -> Result<(), Fail> {
+    let config = row_config()?;
+    let numbers = config.numbers();
+    let (tag, body) = (DATA, [0x5A; 4096]);
+    let data = seal(&tag, &body);
+    let mark = sealed_mark(numbers, None);
+    let mut torn = data;
+    torn.body[4095] ^= 1;
+    let told = contents_of_four(&data, &mark, &torn, &data);
+    assert!(rt; is_group_page(&told.0, &tag, &body));
+    assert!(rt; is_mark(&told.1, None, numbers));
+    assert!(rt; is_nothing(&told.2));
+    assert!(rt; is_group_page(&told.3, &tag, &body));
+    let told = contents_of_four(&BLANK, &torn, &mark, &BLANK);
+    assert!(rt; is_nothing(&told.0) && is_nothing(&told.1) && is_nothing(&told.3));
+    assert!(rt; is_mark(&told.2, None, numbers));
     Ok(())
 }
 
@@ -74,17 +100,17 @@ fn sealed_mark(numbers: &Numbers, fence: Option<Fence>) -> Page {
     seal(&tag, &mark_body(numbers, fence))
 }
 
-/// Whether the page is told as a page of a group with this tag and these data.
-fn is_group_page(page: &Page, tag: &Tag, body: &Block) -> bool {
-    match content_of(page) {
+/// Whether this is a page of a group with this tag and these data.
+fn is_group_page(content: &Content, tag: &Tag, body: &Block) -> bool {
+    match content {
         Content::Group(opened) => opened.tag == *tag && opened.body == *body,
         _ => false,
     }
 }
 
-/// Whether the page is told as the mark of number 3 that records frontier 8, with this fence.
-fn is_mark(page: &Page, fence: Option<Fence>, numbers: &Numbers) -> bool {
-    match content_of(page) {
+/// Whether this is the mark of number 3 that records frontier 8, with this fence.
+fn is_mark(content: &Content, fence: Option<Fence>, numbers: &Numbers) -> bool {
+    match content {
         Content::Mark(mark) => {
             mark.number == 3 && mark.records == 8 && mark.fence == fence && mark.numbers == *numbers
         }
@@ -92,7 +118,7 @@ fn is_mark(page: &Page, fence: Option<Fence>, numbers: &Numbers) -> bool {
     }
 }
 
-/// Whether the page is told as nothing.
-fn is_nothing(page: &Page) -> bool {
-    matches!(content_of(page), Content::Nothing)
+/// Whether this is nothing.
+fn is_nothing(content: &Content) -> bool {
+    matches!(content, Content::Nothing)
 }

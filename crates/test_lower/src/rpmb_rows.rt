@@ -6,7 +6,7 @@ use rpmb_frame::covered;
 use std::test::Fail;
 
 /// The key of the rows.
-const KEY: [u8; 32] = [0x0B; 32];
+pub(crate) const KEY: [u8; 32] = [0x0B; 32];
 
 /// A request of this type without a MAC.
 fn request(message_type: u8, counter: u32, address: u8, count: u8) -> [u8; 512] {
@@ -20,7 +20,7 @@ fn request(message_type: u8, counter: u32, address: u8, count: u8) -> [u8; 512] 
 }
 
 /// A write of one block of bytes 77h to address 3, under the key.
-fn right_write(counter: u32) -> [u8; 512] {
+pub(crate) fn right_write(counter: u32) -> [u8; 512] {
     let mut frame = request(3, counter, 3, 1);
     frame[228..484].copy_from_slice(&[0x77; 256]);
     let right = mac(&KEY, covered(&frame));
@@ -36,7 +36,7 @@ fn key_request() -> [u8; 512] {
 }
 
 /// Does the request, which reads no data, and tells its result; `None` if it is refused.
-fn result_of(rpmb: &mut Rpmb, frames: &[u8]) -> Option<u16> {
+pub(crate) fn result_of(rpmb: &mut Rpmb, frames: &[u8]) -> Option<u16> {
     match rpmb.out(frames, false) {
         Outcome::Refused(_) => None,
         Outcome::Results { result, accepted } => {

@@ -12,7 +12,7 @@ const SIZES: Sizes = Sizes {
 };
 
 /// The next number of a fixed row.
-fn next(number: u64) -> u64 {
+pub(crate) fn next(number: u64) -> u64 {
     number
         .wrapping_mul(6_364_136_223_846_793_005)
         .wrapping_add(1_442_695_040_888_963_407)

@@ -88,7 +88,8 @@ fn is_victim(live: &LivePages, blocks: &BlockTable, die: u8, block: u16) -> bool
 
 /// Blocks with equally few live pages are taken from the lowest on, unless they are pinned. An open
 /// and a free block and those that are wholly live are left. A probe is for each of the numbers 0,
-/// 1 and 2 of live pages, and one for the only word of 64 blocks where blocks have 0 and 2.
+/// 1 and 2 of live pages, and where blocks have 0 and 2 one for the only word of 64 blocks and one
+/// for the word of the second level that tells of it.
 #[test]
 fn the_block_with_the_fewest_live_pages_is_the_victim(rt: HostRuntime) -> Result<(), Fail> {
     let blocks = blocks(rt.alloc())?;
@@ -96,7 +97,7 @@ fn the_block_with_the_fewest_live_pages_is_the_victim(rt: HostRuntime) -> Result
     assert!(rt; live.live_count(0, 2) == 2);
     let mut probes = Probes::default();
     assert!(rt; live.victim_counted(&blocks, &mut probes) == Some(BlockAt { die: 0, block: 2 }));
-    assert!(rt; probes.count == 5);
+    assert!(rt; probes.count == 7);
     live.pin(0, 2);
     live.pin(0, 2);
     live.unpin(0, 2);

@@ -1,0 +1,638 @@
+#!/usr/bin/env python3
+"""Makes random and near-valid scripts for `ufsim run`, and compares each line that it prints with a plain model.
+
+usage: fuzz.py [--seed N] [--scripts M] [--first N] [--keep FOLDER] [--program UFSIM] [--bits]
+
+The model is tools/plain_host.py: what docs/FORMATS.md and docs/GUIDE.md say that a host can see. A script is made
+from the seed and its number alone. For each difference a line tells the seed, the number of the script, its line,
+what was wanted and what came, and --keep keeps the script in a folder. Then come counts of what was sent and
+answered. The last line is 'N passed, M failed', and the status is 0 only if none failed. --bits flips each bit of a
+COMMAND, a QUERY REQUEST and a TASK REQUEST that has to be zero, one by one. ufsim is built without a proof, once,
+but with --program that program is run.
+"""
+import argparse
+import collections
+import contextlib
+import itertools
+import os
+import pathlib
+import random
+import re
+import shutil
+import signal
+import subprocess
+import sys
+import tempfile
+import time
+
+import plain_host as plain
+from cases import TRY_SECONDS
+from crates import ROOT
+from every_command import big, frame, header, transfer
+from plain_host import MANY, SURE, Model, event_of
+
+# A script takes a second or two.
+SECONDS = 600
+NAMES = {plain.READY: "TEST UNIT READY", plain.SENSE: "REQUEST SENSE", plain.READ6: "READ(6)", plain.WRITE6: "WRITE(6)",
+         plain.INQUIRY: "INQUIRY", plain.CAPACITY: "READ CAPACITY", plain.READ: "READ(10)", plain.WRITE: "WRITE(10)",
+         plain.FLUSH: "SYNCHRONIZE CACHE", plain.UNMAP: "UNMAP", plain.LUNS: "REPORT LUNS",
+         plain.SECURITY_IN: "SECURITY PROTOCOL IN", plain.SECURITY_OUT: "SECURITY PROTOCOL OUT"}
+KINDS = {0x00: "NOP OUT", 0x01: "COMMAND", 0x02: "DATA OUT", 0x04: "TASK REQUEST", 0x16: "QUERY", 0x20: "NOP IN",
+         0x21: "RESPONSE", 0x22: "DATA IN", 0x24: "TASK RESPONSE", 0x31: "READY TO TRANSFER", 0x36: "QUERY RESPONSE"}
+FUNCTIONS = (0x01, 0x02, 0x04, 0x08, 0x80, 0x81)
+WRONG_LINES = ("reply now", "take x", "settle 4294967296", "host 0", "host 0g", "fill 00 5 4", "fill 00 555 4",
+               "turns", "done 0 never", "stop 0:odd", "stop x:old", "stop 0", "take 1 2", "   ", "done 200 ok",
+               "stop 0:old 0:old", "config 1 1 1 1 1 1", "fill 0g 5a x", "stop 300:new", "reply\tnow", "host caf\u00e9")
+
+
+def shape(chance):
+    """A configuration that is small enough to collect soon, and its units."""
+    dies = chance.choice((1, 1, 1, 2, 2, 3, 4))
+    units = [(chance.choice((8, 12, 20, 32, 40)), 0, 0),
+             (chance.randint(4, 12), chance.randint(0, 1), chance.randint(0, 1)),
+             (chance.randint(2, 8), chance.choice((0, 2)), chance.choice((0, 2, 2)))]
+    units = units[:chance.choice((1, 2, 3, 3, 3))] + [(4, 0, 1)] * chance.choice((0, 0, 1))
+    spare = chance.choice((0, 0, 0, 1, 2, 4))
+    least = -(-(sum(it[0] for it in units) + 32 + 2 + 4 * 64) // 16) + 4 * dies + 8 + spare
+    return (dies, max(16, -(-least // dies) + chance.randint(0, 3)), 16, 1, 64, spare), units
+
+
+class Script:
+    """The lines of a script, made with the model beside it, which says what seems to be the case."""
+
+    def __init__(self, seed, place):
+        self.random = random.Random(f"{seed}/{place}")
+        self.config, self.units = shape(self.random)
+        self.lines = ["config " + " ".join(map(str, self.config))]
+        self.lines += ["unit " + " ".join(map(str, it)) for it in self.units]
+        self.model = Model(self.config, self.units)
+        self.sent, self.payload, self.fails, self.address = 0, {}, 0, 0
+
+    def chance(self, odds):
+        return self.random.random() < odds
+
+    @property
+    def world(self):
+        return self.model.worlds[0]
+
+    def say(self, line):
+        self.lines.append(line)
+        self.model.hear(event_of(line))
+        self.model.worlds = self.model.worlds[-1:]
+
+    def make(self):
+        """The whole script."""
+        acts = {self.move: 7, self.flush: 1, self.unmap: 1, self.rpmb: 2, self.query: 1.5, self.manage: 1,
+                self.inform: 1, self.hand_wrong: 0.7, self.stop: 0.5, self.crowd: 0.5, self.tread: 2.5,
+                self.protect: 0.4, self.audit: 0.2}
+        favoured = self.random.sample(list(acts)[:-1], 3)
+        weights = [acts[it] * (4 if it in favoured else 1) for it in acts]
+        if self.chance(0.12):
+            self.churn()
+        self.fails = self.random.choice((0, 0, 0.05, 0.3, 0.3))
+        if self.chance(0.9):
+            self.say(f"settle {MANY}")
+        messages = self.random.randint(20, 80)
+        while self.sent < messages:
+            self.random.choices(list(acts), weights)[0]()
+            if self.chance(0.85):
+                self.pump()
+        self.pump()
+        if self.chance(0.5):
+            self.audit()
+        if self.chance(0.1):
+            self.lines.append(self.random.choice(WRONG_LINES))
+            self.lines.append("reply")
+        return self.lines
+
+    # Messages
+
+    def host(self, message):
+        self.sent += message[:1] != b"\2"
+        body = message.rstrip(message[-1:]) if len(message) > 96 else message
+        if len(message) - len(body) > 64 and body:
+            self.say(f"fill {body.hex()} {message[-1]:02x} {len(message) - len(body)}")
+        else:
+            digits = message.hex() or "00"
+            self.say(f"host {digits.upper() if self.chance(0.02) else digits}")
+
+    def near(self, message):
+        """The message with one thing changed."""
+        found, at = bytearray(message), self.random.randrange(min(32, len(message)))
+        how = self.random.randrange(5)
+        if how < 3:
+            found[at] ^= 1 << self.random.randrange(8)
+        elif how == 3:
+            found[at] = self.random.choice((0, 1, 0xFF, self.random.randrange(256)))
+        else:
+            found = found[:-1] if self.chance(0.5) else found + b"\0"
+        return bytes(found)
+
+    def send(self, message, odds=0.06):
+        self.host(self.near(message) if self.chance(odds) else message)
+
+    def tag(self):
+        used = list(self.world.open)
+        if used and self.chance(0.03):
+            return self.random.choice(used)
+        return self.random.choice([it for it in range(256) if it not in used])
+
+    def command(self, lun, cdb, flags, expected, tag=None):
+        """A COMMAND, often with something wrong."""
+        tag = self.tag() if tag is None else tag
+        cdb = bytearray(bytes(cdb).ljust(16, b"\0"))
+        wrong = self.random.randrange(8) if self.chance(0.12) else None
+        if wrong == 0:
+            lun = self.random.choice((*range(8), *plain.WELL_KNOWN, self.random.randrange(256)))
+        elif wrong == 1:
+            flags = self.random.choice((0, plain.TO_DEVICE, plain.TO_HOST))
+        elif wrong == 2:
+            expected = self.random.choice((0, 1, max(0, expected - 1), expected + 1, 0xFFFFFFFF))
+        elif wrong in (3, 4, 5):
+            cdb[self.random.randrange(16)] ^= 1 << self.random.randrange(8)
+        elif wrong == 6:
+            cdb[0] = self.random.choice(list(NAMES))
+        self.send(header(0x01, flags, lun, tag, fields=big(expected, 4) + bytes(cdb)), 0.03)
+        return tag
+
+    # Commands
+
+    def near_length(self, length):
+        """What a host may expect of so many bytes that come to it."""
+        return self.random.choice((length,) * 6 + (0, length // 2, max(0, length - 1), length + 1, length + 4096))
+
+    def move(self, count=None, unit=None, writes=None, fua=None):
+        """A READ or a WRITE."""
+        unit = self.random.randrange(len(self.units)) if unit is None else unit
+        writes = self.chance(0.6) if writes is None else writes
+        blocks = self.units[unit][0]
+        count = count or self.random.choice((1,) * 16 + (2, 2, 2, 3, 3, 4, 5, 7, 12, 32, 0, 0, 33))
+        address = self.random.randint(0, max(0, blocks - count))
+        if self.chance(0.05):
+            address = self.random.choice((blocks - count + 1 if count <= blocks else 1, blocks, 0xFFFFFFFF, 0x1FFFFF))
+        is_short = self.chance(0.15) and count and address < 1 << 21
+        fua = self.chance(0.4) if fua is None else fua
+        if is_short:
+            cdb = [plain.WRITE6 if writes else plain.READ6, *big(address, 3), count % 256]
+        else:
+            cdb = [plain.WRITE if writes else plain.READ, 8 * fua, *big(address, 4), 0, *big(count, 2)]
+        lun = plain.BOOT if self.chance(0.1) and not writes else unit
+        length = 4096 * count
+        if writes:
+            self.command(lun, cdb, plain.TO_DEVICE, length + self.random.choice((0, 0, 0, 0, 1, 4096)))
+        else:
+            self.command(lun, cdb, plain.TO_HOST, self.near_length(length))
+
+    def flush(self):
+        wide = [*big(self.random.randrange(1 << 32), 4), 0, *big(self.random.randrange(1 << 16), 2)] \
+            if self.chance(0.3) else []
+        lun = self.random.choice((plain.DEVICE, 0))
+        self.command(lun, [plain.FLUSH, 2 * self.chance(0.25), *wide], 0, self.random.choice((0, 0, 0, 512)))
+
+    def unmap(self):
+        unit = self.random.randrange(len(self.units))
+        size = self.random.choice((24,) * 8 + (8, 0, 16))
+        count = self.random.choice((1, 2, 7, min(32, self.units[unit][0]), 0, 33))
+        address = self.random.randint(0, max(0, self.units[unit][0] - count))
+        data = bytearray(big(size - 2, 2) + big(size - 8, 2) + bytes(4) if size else b"")
+        data += (big(address, 8) + big(count, 4) + bytes(4)) if size == 24 else bytes(max(0, size - 8))
+        if self.chance(0.15) and data:
+            data[self.random.randrange(len(data))] ^= 1 << self.random.randrange(8)
+        self.payload[self.command(unit, [plain.UNMAP, *bytes(6), *big(size, 2)], plain.TO_DEVICE, size)] = bytes(data)
+
+    def inform(self):
+        """A command that tells something."""
+        code = self.random.choice((plain.READY, plain.SENSE, plain.INQUIRY, plain.CAPACITY, plain.LUNS))
+        lun = self.random.choice((*range(len(self.units)), *plain.WELL_KNOWN))
+        if code == plain.LUNS and self.chance(0.7):
+            lun = plain.LIST
+        allocation = self.random.choice((0, 1, 8, 17, 18, 20, 36, 64, 255))
+        cdb = {plain.SENSE: [0, 0, 0, allocation], plain.INQUIRY: [0, 0, *big(allocation, 2)],
+               plain.LUNS: [0, self.random.choice((0, 1, 2)), 0, 0, 0, *big(allocation, 4)]}.get(code, [])
+        self.command(lun, [code, *cdb], 0 if code == plain.READY else plain.TO_HOST,
+                     self.near_length(8 if code == plain.CAPACITY else allocation) if code else 0)
+
+    # The RPMB
+
+    def rpmb(self):
+        """Requests to the RPMB, each with its response or without."""
+        is_first = self.world.plain.key is None and self.chance(0.7)
+        known = ((3, 5), (3, 5), (3, 4), (3, 3, 2), (4,), (2,), (5,), (1, 5), (1,))
+        for kind in ((1, 5) if is_first else ()) + self.random.choice(known) + self.random.choice(known):
+            if self.chance(0.6 if kind == 4 else 0.2):
+                self.rest()
+            self.ask(kind)
+
+    def ask(self, kind):
+        """A request to the RPMB, and often its response."""
+        self.secure(plain.SECURITY_OUT, b"".join(self.frames(kind)))
+        if self.chance(0.06):
+            self.manage()
+        if self.chance(0.95):
+            self.pump()
+        if self.chance(0.05 if kind in (1, 3) else 0.8):
+            response = self.world.response or [b""] * self.random.randint(1, 8)
+            self.secure(plain.SECURITY_IN, bytes(512 * (len(response) + self.chance(0.06))))
+            self.pump()
+
+    def frames(self, kind):
+        """The frames of a request, of which one is wrong at times."""
+        held = self.world.plain
+        address = self.random.choice((self.random.randint(0, 504), 14, 12, 511, *[self.address] * (3 * (kind == 4))))
+        self.address = address if kind == 3 else self.address
+        count = self.random.randint(1, 8)
+        nonce, key = self.random.randbytes(16), self.random.randbytes(32)
+        counter = (held.counter + self.random.choice((0,) * 14 + (1, -1))) % (1 << 32)
+        fields = {3: {"count": count, "address": address, "counter": counter}, 1: {"mac": key},
+                  2: {"nonce": nonce}, 4: {"count": count, "address": address, "nonce": nonce}}.get(kind, {})
+        frames = [frame(kind, data=bytes([self.random.randrange(256)]) * 256 if kind == 3 else bytes(256), **fields)
+                  for _ in range(count if kind == 3 else 1)]
+        changes = self.random.randrange(4) if self.chance(0.25) else None
+        at = self.random.randrange(len(frames))
+        if changes == 0:
+            frames[at] = frames[at][:500] + self.near(frames[at][500:])[:12].ljust(12, b"\0")
+        elif changes == 1:
+            frames.append(frames[-1])
+        if kind == 3:
+            frames = self.world.signed(frames)
+        if changes in (2, 3):
+            bits = bytearray(frames[at])
+            bits[self.random.randrange(512)] ^= 1 << self.random.randrange(8)
+            frames[at] = bytes(bits)
+        return frames[:8]
+
+    def secure(self, code, data):
+        size = len(data) + self.random.choice((0,) * 20 + (512, -512, 1))
+        out = code == plain.SECURITY_OUT
+        tag = self.command(plain.RPMB, [code, 0xEC, 0, 1, 0, 0, *big(max(0, size), 4)],
+                           plain.TO_DEVICE if out else plain.TO_HOST, size if out else self.near_length(max(0, size)))
+        if out:
+            self.payload[tag] = data.ljust(max(0, size), b"\0")[:max(0, size)]
+
+    # Other messages
+
+    def query(self):
+        usual = ((1, 0, 0, 0, 64, 0), (1, 2, self.random.randrange(len(self.units)), 0, 35, 0), (3, 0, 0, 0, 0, 0),
+                 (4, 0, 0, 0, 0, self.random.randrange(3)), (5, self.random.randint(1, 3), 0, 0, 0, 0),
+                 (6, self.random.randint(1, 3), 0, 0, 0, 0), (7, 1, 0, 0, 0, 0), (8, 3, 0, 0, 0, 0), (2, 0, 0, 0, 0, 0),
+                 (0, 0, 0, 0, 0, 0))
+        fields = list(self.random.choice(usual))
+        if self.chance(0.4):
+            at = self.random.randrange(6)
+            fields[at] = self.random.choice((0, 1, 2, 3, 9, 255, fields[at] + 1))
+        opcode, idn, index, selector, length, value = fields
+        function = (0x01 if opcode in (1, 3, 5) else 0x81) ^ (0x80 * self.chance(0.04))
+        segment = bytes(8) if opcode == 2 and self.chance(0.3) else b""
+        self.send(header(0x16, tag=self.tag(), five=function, segment=len(segment), fields=bytes(
+            [opcode, idn, index, selector & 255, 0, 0]) + big(length, 2) + big(value, 4)) + segment)
+
+    def protect(self):
+        """A flag of protection is set, or a protected unit is written."""
+        if self.chance(0.5):
+            self.send(header(0x16, tag=self.tag(), five=0x81, fields=bytes([6, self.random.choice((2, 3))])))
+        protected = [at for at, it in enumerate(self.units) if it[2]]
+        for unit in protected[:2]:
+            self.move(unit=unit, writes=True)
+
+    def manage(self):
+        """A TASK REQUEST."""
+        tasks = self.world.tasks()
+        it = self.random.choice(tasks) if tasks and self.chance(0.8) else None
+        lun = it.lun if it else self.random.choice((0, 1, 7, *plain.WELL_KNOWN, 0x55))
+        meant = it.tag if it else self.random.randrange(256)
+        function = self.random.choice(FUNCTIONS if self.chance(0.93) else range(256))
+        self.send(header(0x04, lun=lun, tag=self.tag(), five=function, fields=bytes([0, 0, 0, lun, 0, 0, 0, meant])))
+
+    def hand_wrong(self):
+        """A NOP OUT, or a message that is refused."""
+        tag, code = self.tag(), self.random.choice((*KINDS, self.random.randrange(64)))
+        wrong = [header(0, tag=tag), header(0, tag=tag)[:31], header(0, tag=tag) + b"\0", header(0x80, tag=tag),
+                 header(0x40 | code, tag=tag), header(code, tag=tag), transfer(0x02, 0, tag, 0, bytes(4096)),
+                 transfer(0x02, 0, tag, 0, bytes(6))[:-1] + b"\1", transfer(0x02, 0, tag, 0, b"\1\2", 3),
+                 header(code, tag=tag, segment=4097) + bytes(4100), bytes([0, 0, 0, tag, 0, 0, 0, 0, 1]) + bytes(23)]
+        self.send(self.random.choice(wrong if self.chance(0.7) else wrong[:1]), 0.2)
+
+    def crowd(self):
+        """More tasks, blocks or short exchanges than the device takes."""
+        how = self.random.choice((0, 0, 1, 1, 2))
+        for _ in range(self.random.randint(33, 36) if how else 4):
+            if how == 0:
+                self.move(32, 0, True)
+            elif how == 1:
+                self.move(1, 0, False)
+            else:
+                self.send(header(0, tag=self.tag()), 0.01)
+        for _ in range(self.random.randint(1, 3)):
+            self.random.choice((self.unmap, self.rpmb, self.query, self.move, self.manage))()
+
+    def churn(self):
+        """So many blocks are written that the device collects."""
+        for _ in range(self.random.randint(4, 12)):
+            self.move(min(32, self.units[0][0]), 0, True, False)
+            self.pump()
+            if self.chance(0.1):
+                self.interrupt()
+                self.say(f"settle {MANY}")
+
+    # Replies, dies and stops
+
+    def bring(self, it):
+        """The DATA OUT that is asked for."""
+        offset, count = it.asked
+        if it.code in plain.WRITES:
+            data = self.random.randbytes(count) if self.chance(0.02) else bytes([self.random.randrange(256)]) * count
+        else:
+            data = self.payload.get(it.tag, b"")[:count].ljust(count, b"\0")
+        self.send(transfer(0x02, it.lun, it.tag, offset, data), 0.03)
+
+    def pump(self):
+        """Takes what is due, and brings what is asked for, until nothing is left or the host gives up."""
+        for _ in range(150):
+            asked = [it for it in self.world.open.values() if it.asked]
+            if asked and self.chance(0.85):
+                self.bring(self.random.choice(asked))
+            elif any(self.world.due(it)[1] == SURE for it in self.world.open.values()):
+                self.say("reply")
+            elif not self.world.open or self.chance(0.02):
+                break
+            elif self.chance(0.004):
+                self.stop()
+            else:
+                self.work()
+        if self.chance(0.2):
+            self.say("reply")
+
+    def work(self):
+        """The dies do something."""
+        world = self.world
+        idle = [it for it in range(self.config[0]) if it not in world.flight]
+        reads = world.readers()
+        if world.queue and idle and (self.config[0] == 1 or not reads) or reads and idle and self.config[0] == 1 \
+                and world.queue == []:
+            self.say(f"take {self.random.choice(idle)}")
+            if self.chance(0.5):
+                return
+        if self.world.flight:
+            if self.chance(0.1):
+                self.stop()
+            else:
+                die = self.random.choice(list(self.world.flight))
+                self.say(f"done {die} {'fail' if self.chance(self.fails) else 'ok'}")
+        elif self.chance(0.9):
+            self.say(f"settle {world.rounds()}")
+        else:
+            others = ("turn", "settle 1", "settle 3", "reply", f"take {self.config[0]}", "take 300")
+            self.say(self.random.choice(others))
+
+    def rest(self):
+        """The dies come to rest, so that the model knows what they do next."""
+        for die in list(self.world.flight):
+            self.say(f"done {die} ok")
+        self.say(f"settle {MANY}")
+        self.say("turn")
+
+    def tread(self):
+        """Blocks are written and read step by step."""
+        self.rest()
+        for _ in range(self.random.randint(1, 4)):
+            self.move(self.random.choice((1, 1, 2, 3, 5)), None, self.chance(0.65))
+
+    def stop(self):
+        """The power fails, sometimes twice."""
+        named = [f" {die}:{self.random.choice(('old', 'new', 'torn'))}" for die, it in self.world.flight.items()
+                 if it[0] != "read" and self.chance(0.9)]
+        self.say("stop" + "".join(named))
+        if self.chance(0.4):
+            self.random.choice((self.inform, self.move, self.query, self.manage, self.rpmb))()
+        if self.chance(0.3):
+            self.interrupt()
+        if self.chance(0.9):
+            self.say(f"settle {MANY}")
+            if self.chance(0.7):
+                self.audit()
+
+    def interrupt(self):
+        """The power fails in a step of the device's own."""
+        self.say(f"settle {self.random.randint(0, 6)}")
+        for line in ("turn", *[f"take {die}" for die in range(self.config[0])], "stop"):
+            self.say(line)
+
+    def audit(self):
+        """Reads back units, the settings, and what the RPMB has."""
+        self.rest()
+        units = range(len(self.units))
+        for unit in units if self.chance(0.6) else [self.random.choice(units)]:
+            for at in range(0, self.units[unit][0], 8):
+                count = min(8, self.units[unit][0] - at)
+                self.host(header(0x01, plain.TO_HOST, unit, self.tag(), fields=big(4096 * count, 4) + bytes(
+                    [plain.READ, 0, *big(at, 4), 0, *big(count, 2)]).ljust(16, b"\0")))
+                self.pump()
+        for opcode, idn in ((3, 0), (5, 2), (5, 3)):
+            self.send(header(0x16, tag=self.tag(), five=0x01, fields=bytes([opcode, idn])))
+        for kind in (2, 4) if self.world.plain.key else ():
+            self.ask(kind)
+
+
+# Judging
+
+
+class Counts(collections.Counter):
+    """What was sent and answered, by kind."""
+
+    def note(self, event, printed):
+        if event[0] == "host":
+            message = event[1]
+            name = KINDS.get(message[0], "another code") if len(message) >= 32 else "too short"
+            if name == "COMMAND":
+                name += f" {NAMES.get(message[16], 'another operation')}"
+            elif name == "QUERY":
+                name += f" opcode {min(message[12], 9)}"
+            elif name == "TASK REQUEST":
+                name += f" {message[5]:02x}" if message[5] in FUNCTIONS else " another function"
+            self[f"sent: {name}"] += 1
+            self[f"heard: {printed}"] += 1
+        elif event[0] == "reply":
+            self[f"answered: {self.answer(printed[6:])}"] += 1
+        else:
+            words = printed.split()
+            self[f"dies: {event[0]}" + (f" {words[2]}" if event[0] == "take" else f" {event[2]}" if event[0] == "done"
+                                        else f" {words[1]}" if event[0] == "turn" else "")] += 1
+            for _, how in event[1] if event[0] == "stop" else ():
+                self[f"dies: stop {how}"] += 1
+
+    @staticmethod
+    def answer(digits):
+        if digits == "none":
+            return digits
+        data = bytes.fromhex(digits)
+        name = KINDS[data[0]]
+        if name == "RESPONSE" and data[7] == plain.CHECK:
+            return f"{name} {data[36]:x}/{data[46]:02x}/{data[47]:02x}"
+        if name == "DATA IN" and data[2] == plain.RPMB and plain.number(data, 10, 2) % 512 == 0:
+            return f"{name} of RPMB type {plain.number(data, 542, 2):04x} result {plain.number(data, 540, 2):04x}"
+        more = {0x21: f" status {data[7]:02x}", 0x36: f" {data[6]:02x}", 0x24: f" {data[15]:02x}"}
+        return name + more.get(data[0], "")
+
+
+def played(lines, printed, counts=None, until=None):
+    """The model after the lines, how they end, and the first difference: a line, what was wanted, what came."""
+    head, model, rest = [], None, iter(printed)
+    for place, line in enumerate(lines, 1):
+        if place == until:
+            break
+        if not line or line.startswith("#"):
+            continue
+        if model is None and line.startswith(("config ", "unit ")):
+            head.append(tuple(map(int, line.split()[1:])))
+            continue
+        model = model or Model(head[0], head[1:])
+        event = event_of(line)
+        fault = event if isinstance(event, str) else None if model.is_event(event) else "event"
+        if fault:
+            extra = next(rest, None)
+            return model, (1, f"ufsim: line {place}: {fault}\n"), extra and (place, "an end", extra)
+        found = next(rest, "nothing")
+        if not model.hear(event, found):
+            return model, (0, ""), (place, event, found)
+        if counts is not None:
+            counts.note(event, found)
+    extra = None if until else next(rest, None)
+    return model, (0, ""), extra and (len(lines), "an end", extra)
+
+
+def judged(lines, text, told, status, counts=None):
+    """What is wrong with the run of a script: the line, what was wanted and what came; or None."""
+    _, wanted, found = played(lines, text.splitlines(), counts)
+    if found and not isinstance(found[1], str):
+        place, event, came = found
+        model = played(lines, text.splitlines(), until=place)[0]
+        return place, model.wanted(event), came
+    if found:
+        return found
+    if (status, told) != wanted:
+        return len(lines), f"status {wanted[0]} {wanted[1]!r}", f"status {status} {told!r}"
+    return None
+
+
+# Running
+
+
+def text_of(lines):
+    return "".join(f"{it}\n" for it in lines).encode("latin-1")
+
+
+def built(folder):
+    """The words that run ufsim, as `rt try` builds it once: rt runs it on a script that is a pipe, and there it waits
+    until it was copied to the folder. Each case of rt would be built anew."""
+    cases, pipe, program = folder / "cases", folder / "pipe", folder / "ufsim"
+    cases.mkdir()
+    os.mkfifo(pipe)
+    cases.joinpath("fuzz").write_bytes(b"")
+    cases.joinpath("fuzz.args").write_text(f"run\n{pipe}\n", encoding="utf-8")
+    words = ["rt", "try", "--steps", "1", "--seconds", str(TRY_SECONDS), "--cases", str(cases)]
+    quiet = {it: subprocess.DEVNULL for it in ("stdin", "stdout", "stderr")}
+    rt = subprocess.Popen(words, cwd=ROOT / "crates" / "ufsim_main", **quiet)
+    runs, found = re.compile(rf"(.*\0)?([^\0]+)\0run\0{re.escape(str(pipe))}\0"), None
+    while rt.poll() is None and not found:
+        time.sleep(1)
+        for words in pathlib.Path("/proc").glob("[0-9]*/cmdline"):
+            with contextlib.suppress(OSError):
+                found = found or runs.fullmatch(words.read_bytes().decode("latin-1"))
+    if found:
+        # What stands before the program loads it.
+        shutil.copy(found[2], program)
+        pipe.write_bytes(text_of(["config 1 40 16 1 64 0", "unit 16 0 0"]))
+    rt.wait()
+    return [*(found[1] or "").split("\0")[:-1], str(program)] if found else []
+
+
+def by_program(program, scripts):
+    """What a program prints of each script, on standard output and on standard error, and its status."""
+    with tempfile.TemporaryDirectory(prefix="fuzz.") as folder:
+        for place, lines in scripts:
+            file = pathlib.Path(folder, "script")
+            file.write_bytes(text_of(lines))
+            try:
+                done = subprocess.run([*program, "run", str(file)], stdin=subprocess.DEVNULL, capture_output=True,
+                                      encoding="latin-1", timeout=SECONDS, check=False)
+                yield place, lines, done.stdout, done.stderr, done.returncode
+            except subprocess.TimeoutExpired:
+                yield place, lines, "", "it did not end", -1
+
+
+def short(text):
+    """The text, if it is short, or its ends."""
+    return text if len(text) < 200 else f"{text[:150]}..({len(text)} characters)"
+
+
+def zero_bits(message):
+    """The bits of a COMMAND, a QUERY REQUEST or a TASK REQUEST that have to be zero: their bytes and values."""
+    bits = {at: 0xFF for at in (8, *plain.ZERO_BYTES[message[0]])}
+    bits[0] = 0xC0
+    if message[0] == 0x01:
+        bits[1] = 0xFF ^ plain.TO_DEVICE ^ plain.TO_HOST
+        named = bytes.fromhex(plain.BITS[message[16]]).ljust(15, b"\0")
+        bits.update((17 + at, bit ^ 0xFF) for at, bit in enumerate(named))
+    return [(at, 1 << bit) for at in sorted(bits) for bit in range(8) if bits[at] >> bit & 1]
+
+
+def bit_scripts():
+    """A script for each kind of message: a right one, and then one with each bit that has to be zero set."""
+    messages = [header(0x16, tag=1, five=0x01, fields=bytes([3])), header(0x04, tag=1, five=0x80)]
+    for code in NAMES:
+        cdb = [code, 0xEC, 0, 1, 0, 0, 0, 0, 2, 0] if code in plain.SECURITY else [code]
+        lun = plain.RPMB if code in plain.SECURITY else 0
+        flags = plain.TO_DEVICE if code == plain.SECURITY_OUT else plain.TO_HOST
+        messages.append(header(0x01, flags, lun, 1, fields=big(4096, 4) + bytes(cdb).ljust(16, b"\0")))
+    for message in messages:
+        lines = ["config 1 40 16 1 64 0", "unit 16 0 0", f"settle {MANY}", f"host {message.hex()}", "reply", "reply"]
+        for at, bit in zero_bits(message):
+            wrong = bytearray(message)
+            wrong[3], wrong[at] = 2, wrong[at] ^ bit
+            lines += [f"host {wrong.hex()}", "reply"]
+        yield f"bits {message[0]:02x} {message[16]:02x}", lines
+
+
+def run(asked, program):
+    """Runs the scripts, and tells each difference and the counts."""
+    count = asked.scripts if asked.scripts is not None else 0 if asked.bits else 50
+    scripts = itertools.chain(bit_scripts() if asked.bits else (), (
+        (it, Script(asked.seed, it).make()) for it in range(asked.first, asked.first + count)))
+    counts, passed, failed = Counts(), 0, 0
+    for place, lines, text, told, status in by_program(program, scripts):
+        difference = judged(lines, text, told, status, counts)
+        passed, failed = passed + (not difference), failed + bool(difference)
+        if difference:
+            at, wanted, came = difference
+            print(f"seed {asked.seed} script {place} line {at}: {short(lines[at - 1])}: wanted {short(wanted)}; "
+                  f"came {short(came)}", flush=True)
+        if difference and asked.keep:
+            asked.keep.mkdir(parents=True, exist_ok=True)
+            asked.keep.joinpath(f"{asked.seed}_{place}.txt".replace(" ", "_")).write_bytes(text_of(lines))
+    for name, count in sorted(counts.items()):
+        print(f"{count:7} {name}")
+    print(f"{passed} passed, {failed} failed")
+    return 0 if passed and not failed else 1
+
+
+def main():
+    parser = argparse.ArgumentParser(description="Compares ufsim with a plain model on random scripts.")
+    parser.add_argument("--seed", type=int, default=1, help="what the scripts are made from (1)")
+    parser.add_argument("--scripts", type=int, help="how many scripts there are (50; with --bits none)")
+    parser.add_argument("--first", type=int, default=1, help="the number of the first script (1)")
+    parser.add_argument("--keep", type=pathlib.Path, help="a folder for the scripts that failed")
+    parser.add_argument("--program", type=pathlib.Path, help="ufsim, built already")
+    parser.add_argument("--bits", action="store_true", help="flip each bit that has to be zero")
+    asked = parser.parse_args()
+    with tempfile.TemporaryDirectory(prefix="fuzz.") as folder:
+        program = [str(asked.program.absolute())] if asked.program else built(pathlib.Path(folder))
+        if not program:
+            print("fuzz: rt built no ufsim", file=sys.stderr)
+            return 1
+        return run(asked, program)
+
+
+if __name__ == "__main__":
+    # So that what it made goes also if it is stopped.
+    signal.signal(signal.SIGTERM, lambda number, frame: sys.exit(128 + number))
+    sys.exit(main())
