@@ -1,6 +1,6 @@
 -- The first of a list that passes a test, looked for from the front, and only where a wider test passes.
-use Rattle.std.proofs.Common.{◌≡◌, ℕ, zero, suc, ◌+◌, ◌≤◌, ◌<◌, Bool, true, false, cond, not, List, [], ◌∷◌}
-use Rattle.std.proofs.Common.{Option, Some, None, arith, ap, refl, sym, ◌∙◌, subst, take, drop, length}
+use Rattle.std.proofs.Common.{◌≡◌, ℕ, zero, suc, ◌+◌, ◌≤◌, Bool, true, false, cond, not, List, [], ◌∷◌}
+use Rattle.std.proofs.Common.{Option, Some, None, arith, ap, refl, sym, ◌∙◌, subst, take, drop}
 use Rattle.std.specs.Prelude.{◌&&◌, find, if◌then◌else◌, is_none, is_some, slice_get}
 use Rattle.std.specs.List.{list_any, position_from}
 use Rattle.block_table.specs.declared.rows.DieRow.{DieRow}

@@ -6,7 +6,6 @@ use Rattle.std.specs.Prelude.{if◌then◌else◌, List, [], ◌++◌, length, m
 use Rattle.std.specs.Prelude.{Option, Some, None, unwrap_or, option_and_then, option_map, filter, find, is_none}
 use Rattle.std.specs.List.{list_any}
 use Rattle.ufs_spec.specs.Keys.{below}
-use Rattle.ufs_spec.specs.Ledger.{same_name}
 use Rattle.ufs_spec.specs.Plain.{zero_block}
 use Rattle.ufs_spec.specs.Translation.{name_of, own_room}
 use Rattle.ufs_spec.specs.declared.flash.Fence.{Fence}
@@ -15,7 +14,6 @@ use Rattle.ufs_spec.specs.declared.flash.Tag.{Tag}
 use Rattle.ufs_spec.specs.declared.layer.Looked.{Looked}
 use Rattle.ufs_spec.specs.declared.layer.Looked.TheVariants.{InSlot, OnPage, Unwritten}
 use Rattle.ufs_spec.specs.declared.layer.Name.{Name}
-use Rattle.ufs_spec.specs.declared.layer.Reader.TheVariants.{ForTask}
 use Rattle.block_table.specs.declared.BlockState.{BlockState}
 use Rattle.block_table.specs.declared.BlockState.TheVariants as state
 use Rattle.block_table.specs.declared.rows.OpenBlock.{OpenBlock}

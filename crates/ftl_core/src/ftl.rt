@@ -1,13 +1,10 @@
 //! The translation layer and its calls.
-ghost use Rattle.std.specs.Prelude.{◌≡◌, ℕ, ◌<◌, ◌≤◌, ◌+◌, ◌^◌, length, IsTrue, vec_capacity, IfOk, IsSome, IfSome, nat_le, nat_lt, ◌-◌, [], if◌then◌else◌, slice_get, map, filter, not, None, true, option_copied, position, replicate, reverse, Bool, false, find, option_map, fold, List, take};
+ghost use Rattle.std.specs.Prelude.{◌≡◌, ℕ, ◌<◌, ◌≤◌, ◌+◌, length, IsTrue, IfOk, IsSome, nat_le, nat_lt, ◌-◌, [], if◌then◌else◌, map, None, true, option_copied, replicate, Bool, false, find, option_map, fold, List, take};
 ghost use Rattle.std.specs.List.{list_any};
-ghost use Rattle.ftl_core.specs.Moves.{accepted, first_fence, first_mending, idle_row};
+ghost use Rattle.ftl_core.specs.Moves.{accepted, first_fence, first_mending};
 ghost use Rattle.ftl_core.specs.Moves.{is_over, mark_number_behind, opened, state_of_found};
 ghost use Rattle.ftl_core.specs.Moves.{stored_of_found, slot_of, looked_by, looked_on, pin_of, next_wanted, unpinned, look_of, stored_of, free_slots, is_locked, has_number, next_number, without_reader, without_block};
-ghost use Rattle.unit_map.specs.Places.{position_of};
-ghost use Rattle.write_cache.specs.Slots.{is_page_of, last_of, last_page, is_named};
 ghost use Rattle.ftl_core.specs.Moves.{claims_for, claimed_all, released, released_behind, filled};
-ghost use Rattle.write_cache.specs.Slots.{is_claim_of, empty_claim, claim_filled, page_claimed};
 ghost use Rattle.ufs_spec.specs.Ledger.{next_number as next_of_layer, Entry, before_accepted, entry_of};
 ghost use Rattle.ufs_spec.specs.Moves.{Accept, Acknowledge, Claim, IsAllowedMove, LetGo, LetGoAll, Release, WantPage, moved, is_pin_of as is_layer_pin_of};
 ghost use Rattle.ufs_spec.specs.Pages.{greatest_number};

@@ -1,6 +1,6 @@
 -- What one instruction on vectors does in each lane, and what rows are in one lane.
-use Rattle.std.proofs.Common.{◌≡◌, ℕ, zero, suc, ◌+◌, ◌-◌, ◌*◌, ◌/◌, ◌%◌, ◌<◌, ◌^◌, List, [], ◌∷◌, length}
-use Rattle.std.proofs.Common.{slice_index, slice_index_or, slice_set, bit_or, bit_xor, arith, refl, take, drop}
+use Rattle.std.proofs.Common.{◌≡◌, ℕ, zero, suc, ◌-◌, ◌*◌, ◌/◌, ◌%◌, ◌<◌, ◌^◌, List, [], ◌∷◌, length}
+use Rattle.std.proofs.Common.{slice_index, slice_set, bit_or, bit_xor, arith, refl, take, drop}
 use Rattle.std.proofs.lemmas.List.{map-set}
 use Rattle.std.proofs.Math.ListN.{get_or-map}
 use Rattle.std.proofs.lemmas.Simd.{Each1-get_or}

@@ -1,5 +1,5 @@
 //! Four hashes side by side, whose messages come in parts.
-ghost use Rattle.std.specs.Prelude.{◌≡◌, ℕ, ◌<◌, ◌%◌, ◌++◌, List, [], ◌∷◌, length};
+ghost use Rattle.std.specs.Prelude.{◌≡◌, ℕ, ◌%◌, ◌++◌, List, [], ◌∷◌, length};
 ghost use Rattle.sha2.specs.Sha256.{sha256};
 ghost use Rattle.sha256_lanes.specs.Hashes.{Holds, rows_of};
 ghost use Rattle.sha256_lanes.specs.Lanes.{lane};

@@ -1,6 +1,6 @@
 -- The pages whose rests come by one read, one after another.
 use Rattle.std.proofs.Common.{◌≡◌, ◌∙◌, ℕ, zero, suc, ◌+◌, ◌<◌, ◌≤◌, Bool, true, false, cond, List, [], ◌∷◌, ◌++◌}
-use Rattle.std.proofs.Common.{length, take, drop, get_or, refl, sym, ap, arith, Option, None, Some, slice_get}
+use Rattle.std.proofs.Common.{length, take, drop, refl, sym, ap, arith, Option, None, Some, slice_get}
 use Rattle.std.specs.Prelude.{◌||◌, is_some, option_and_then, option_map, slice_set}
 use Rattle.std.specs.List.{list_any}
 use Rattle.std.proofs.lemmas.List.{append-nil, drop_all, take_all}

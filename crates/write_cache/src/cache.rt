@@ -1,7 +1,7 @@
 //! The write cache and its calls.
-ghost use Rattle.std.specs.Prelude.{◌≡◌, ℕ, ◌<◌, ◌≤◌, ◌+◌, ◌-◌, ◌^◌, length, IsTrue, vec_capacity, IfOk};
-ghost use Rattle.std.specs.Prelude.{IfSome, IsSome, nat_le, nat_lt, ◌++◌, ◌∷◌, [], if◌then◌else◌, slice_get};
-ghost use Rattle.std.specs.Prelude.{map, filter, not, None, Some, option_copied, option_map, find, List};
+ghost use Rattle.std.specs.Prelude.{◌≡◌, ◌<◌, ◌≤◌, ◌+◌, ◌-◌, ◌^◌, length, IsTrue, vec_capacity, IfOk};
+ghost use Rattle.std.specs.Prelude.{IfSome, nat_le, ◌++◌, ◌∷◌, [], if◌then◌else◌, slice_get};
+ghost use Rattle.std.specs.Prelude.{map, filter, not, Some, option_copied, option_map, find};
 ghost use Rattle.std.specs.Prelude.{take, drop};
 ghost use Rattle.ufs_spec.specs.Pages.{greatest_number};
 ghost use Rattle.write_cache.specs.Kept.{WriteCache};
@@ -9,8 +9,8 @@ ghost use Rattle.write_cache.specs.Ready.{first_ready_from, first_waiting_from};
 ghost use Rattle.write_cache.specs.Ring.{IsStraight};
 ghost use Rattle.write_cache.specs.Slots.{appended, claim_filled, claimed_all, claims_of};
 ghost use Rattle.write_cache.specs.Slots.{free_slots, front_written, has_number, empty_claim};
-ghost use Rattle.write_cache.specs.Slots.{is_claim_of, is_named, is_of_group, is_there};
-ghost use Rattle.write_cache.specs.Slots.{landed, last_page, page_claimed, page_written, risen, turned};
+ghost use Rattle.write_cache.specs.Slots.{is_named, is_of_group, is_there};
+ghost use Rattle.write_cache.specs.Slots.{landed, last_page, page_written, risen};
 ghost use Rattle.write_cache.specs.Slots.{without_claims, without_claims_behind};
 
 mod groups;

@@ -11,7 +11,6 @@ ghost use Rattle.write_cache.specs.Rests.{rests_filled};
 ghost use Rattle.write_cache.specs.Ring.{AreStraight, Stands, is_open_at, shown};
 ghost use Rattle.write_cache.specs.Slots.{front_written, is_named, is_of_group, is_there, last_page};
 ghost use Rattle.write_cache.specs.Slots.{page_written, written_at};
-ghost use Rattle.write_cache.specs.WrittenAt.{standing};
 
 mod fill;
 mod newest;

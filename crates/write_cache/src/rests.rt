@@ -1,6 +1,6 @@
 //! Pages of which a command brings only some blocks of 256 bytes, and the rest that they wait for.
 ghost use Rattle.std.specs.Prelude.{◌≡◌, ◌+◌, ◌*◌, Some, find, length, min, option_and_then};
-ghost use Rattle.std.specs.Prelude.{option_copied, if◌then◌else◌};
+ghost use Rattle.std.specs.Prelude.{option_copied};
 ghost use Rattle.write_cache.specs.Ready.{is_ready};
 ghost use Rattle.write_cache.specs.Rests.{IsPart, awaited, awaits, base_in, claim_with, completed};
 ghost use Rattle.write_cache.specs.Rests.{content_of, own_name, page_of, part_of, read_by, rest_by};

@@ -1,5 +1,5 @@
 //! How a job in flight ends, and what a step of the device's own orders.
-ghost use Rattle.std.specs.Prelude.{◌≡◌, ℕ, ◌<◌, ◌≤◌, IfNone, List, Option, length, if◌then◌else◌, map, option_map, is_some, slice_get, Some, None, find, not, option_copied};
+ghost use Rattle.std.specs.Prelude.{◌≡◌, ℕ, ◌<◌, ◌≤◌, IfNone, List, Option, length, option_map, is_some, slice_get, Some, None, find, option_copied};
 ghost use Rattle.ftl_core.specs.Ends.{noted, page_durable, page_landed, pages_landed, risen, settled, pins_moved};
 ghost use Rattle.ftl_core.specs.Ends.{copy_durable, copy_over, copy_pending, index_in};
 ghost use Rattle.ftl_core.specs.Ends.{mark_over, mending_after, plan_over, repair_over, step_failed, step_there, step_written};

@@ -1,5 +1,5 @@
 //! The pins of blocks from which rests are still to be read: one for each such page.
-ghost use Rattle.std.specs.Prelude.{◌≡◌, ◌≤◌, ℕ, drop, fold, length, slice_get};
+ghost use Rattle.std.specs.Prelude.{◌≡◌, ◌≤◌, drop, fold, length, slice_get};
 ghost use Rattle.readers.specs.Pins.{without_pins};
 ghost use Rattle.ftl_core.specs.Rests.{first_unpinned, rest_pinned, rest_pinned_at, rest_unpinned, rest_unpinned_at};
 

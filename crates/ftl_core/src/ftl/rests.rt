@@ -1,5 +1,5 @@
 //! Groups of pages with keys of their own, and the rests that their pages wait for.
-ghost use Rattle.std.specs.Prelude.{◌≡◌, ℕ, ◌≤◌, ◌+◌, ◌^◌, All, IsTrue, List, [], Option, find, length, map, option_copied, option_map};
+ghost use Rattle.std.specs.Prelude.{◌≡◌, ℕ, ◌≤◌, All, IsTrue, List, [], Option, find, length, option_copied, option_map};
 ghost use Rattle.std.specs.Prelude.{◌-◌, Some, drop, min, replicate, slice_get};
 ghost use Rattle.ftl_core.specs.Moves.{has_number, next_number, rest_look};
 ghost use Rattle.ftl_core.specs.Rests.{IsPartBrought, accepted_pages, awaited, new_page, own_name, rests_filled};

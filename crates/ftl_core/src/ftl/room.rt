@@ -1,5 +1,5 @@
 //! How many blocks stay free, and where one may be opened.
-ghost use Rattle.std.specs.Prelude.{◌≡◌, ◌<◌, ◌≤◌, ◌^◌, is_some};
+ghost use Rattle.std.specs.Prelude.{◌≡◌, ◌<◌, ◌^◌};
 ghost use Rattle.std.specs.List.{list_any};
 ghost use Rattle.ufs_spec.specs.Configs.{InRange};
 ghost use Rattle.ufs_spec.specs.Translation.{own_room, wanted_room};

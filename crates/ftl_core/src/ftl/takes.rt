@@ -1,6 +1,6 @@
 //! Which job a die is given next.
-ghost use Rattle.std.specs.Prelude.{◌≡◌, ℕ, ◌<◌, ◌≤◌, ◌+◌, ◌^◌, IfNone, IfSome, length, slice_get, slice_set, Some, None};
-ghost use Rattle.std.specs.Prelude.{true, false, if◌then◌else◌, unwrap_or, count_by, find, option_copied, option_map, position};
+ghost use Rattle.std.specs.Prelude.{◌≡◌, ℕ, ◌<◌, ◌≤◌, ◌+◌, IfNone, length, slice_get, Some, None};
+ghost use Rattle.std.specs.Prelude.{true, false, option_map};
 ghost use Rattle.std.specs.List.{list_any};
 ghost use Rattle.ufs_spec.specs.Pages.{IsTag, greatest_number, group_bound};
 ghost use Rattle.ftl_core.specs.Takes.{copy_program, core_taken, erase_of, first_owed, flight_into, group_job};

@@ -1,5 +1,5 @@
 //! Steps of the mending and of the collection: which one is due, and how it is ordered.
-ghost use Rattle.std.specs.Prelude.{◌≡◌, ◌<◌, ◌+◌, ◌^◌, IsTrue, Option, length, if◌then◌else◌, nat_le, is_some, slice_get, Some, None};
+ghost use Rattle.std.specs.Prelude.{◌≡◌, ◌<◌, ◌+◌, IsTrue, Option, length, if◌then◌else◌, nat_le, is_some, slice_get, Some, None};
 ghost use Rattle.std.specs.List.{list_any};
 ghost use Rattle.ftl_core.specs.Moves.{has_number, mark_ordered};
 ghost use Rattle.ftl_core.specs.Collects.{is_bad_with_live, victim, wants_collection};

@@ -1,7 +1,7 @@
 //! The ring of the pending groups: an entry for each, in order of number.
 ghost use Rattle.std.specs.Prelude.{◌≡◌, ◌+◌, ◌-◌, ◌^◌, ◌<◌, ◌≤◌, IfOk, IfSome, MatchOption};
 ghost use Rattle.std.specs.Prelude.{Some, []};
-ghost use Rattle.std.specs.Prelude.{drop, length, min, slice_get, slice_set, if◌then◌else◌};
+ghost use Rattle.std.specs.Prelude.{length, min, slice_get, slice_set};
 ghost use Rattle.std.specs.VecDeque.{deque_capacity};
 ghost use Rattle.write_cache.specs.Ring.{AreConsecutive, IsRising, HasNone, back, begun};
 ghost use Rattle.write_cache.specs.Ring.{first_number, is_straight, longer, noted, place_of};
