@@ -20,7 +20,7 @@ core_of d = record {
 -- what contracts see of a world: the lists of its dies and of their jobs in flight, and the rest as it is
 abbrev pub world_of : World → WorldState
 world_of w = record {
-  core = w.device;
+  core = w.device.value;
   config = w.config;
   dies = w.dies.items;
   jobs = w.jobs.items;

@@ -33,7 +33,8 @@ pub struct World {
     alloc: Global,
     /// The configuration that the device is opened with again after a stop.
     config: Config,
-    device: Device,
+    /// The device, in one place: whoever gives a world up lets go of a pointer, and not of each part.
+    device: Box<Device>,
     /// The dies, of the number and sizes of the configuration. A job in flight has done nothing
     /// yet.
     dies: Vec<MemDie>,
@@ -135,6 +136,9 @@ impl World {
         let device = match open_device(alloc, config.copied(), dies.as_mut_slice()) {
             Ok(device) => device,
             Err(kind) => return Err(fault(alloc, kind, 0)),
+        };
+        let Ok(device) = Box::new(alloc, device) else {
+            return Err(fault(alloc, RunFaultKind::NoMemory, 0));
         };
         let Ok(jobs) = idle(alloc, dies.len()) else {
             return Err(fault(alloc, RunFaultKind::NoMemory, 0));
@@ -515,7 +519,7 @@ impl World {
     {
         match open_device(self.alloc, self.config.copied(), self.dies.as_mut_slice()) {
             Ok(device) => {
-                self.device = device;
+                *self.device = device;
                 Ok(Output::Stopped)
             }
             Err(kind) => Err(kind),

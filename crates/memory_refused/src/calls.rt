@@ -134,11 +134,22 @@ pub fn open_device<R: Threads + Sync>(
     let Some(device) = opened_at_last(rt, alloc, &config, dies.as_mut_slice(), readers) else {
         return Err(Fault::Wrong("the device is not opened, or the dies are changed"));
     };
-    expect(is_mended(device, dies), "the device is not mended")
+    expect(is_mended(alloc, device, dies), "the device is not mended")
+}
+
+/// The device behind a pointer. Where memory is refused for it, it is asked for once more.
+fn behind_a_pointer(alloc: Global, device: Device) -> Option<Box<Device>> {
+    match Box::new(alloc, device) {
+        Ok(device) => Some(device),
+        Err(refused) => Box::new(alloc, refused.value).ok(),
+    }
 }
 
 /// Whether a device over these dies is mended, and gives a block.
-fn is_mended(device: Device, dies: Vec<MemDie>) -> bool {
+fn is_mended(alloc: Global, device: Device, dies: Vec<MemDie>) -> bool {
+    let Some(device) = behind_a_pointer(alloc, device) else {
+        return false;
+    };
     let mut bench = Workbench {
         device,
         dies,
@@ -167,7 +178,7 @@ pub fn open_found<R: Threads + Sync>(rt: &R, alloc: Global) -> Result<(), Fault>
     let config = small_config()?;
     let mut dies = dies_of(alloc, &config, Written::Gap)?;
     match device_found(rt, alloc, dies.as_mut_slice())? {
-        Ok(device) => expect(is_mended(device, dies), "the device is not mended"),
+        Ok(device) => expect(is_mended(alloc, device, dies), "the device is not mended"),
         Err(OpenFault::NoMemory) => open_found_again(rt, alloc, dies),
         Err(_) => Err(Fault::Wrong("another fault is told")),
     }
@@ -180,7 +191,7 @@ fn open_found_again<R: Threads + Sync>(
     mut dies: Vec<MemDie>,
 ) -> Result<(), Fault> {
     match device_found(rt, alloc, dies.as_mut_slice())? {
-        Ok(device) => expect(is_mended(device, dies), "the device is not mended"),
+        Ok(device) => expect(is_mended(alloc, device, dies), "the device is not mended"),
         Err(_) => Err(Fault::Wrong("the second call is refused")),
     }
 }

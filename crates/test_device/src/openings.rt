@@ -9,7 +9,7 @@ use recovery::{Found, fit, scan, scan_parallel};
 use std::alloc::Global;
 use std::process::Abort;
 use std::thread::Threads;
-use ufs_spec::{Page, Upiu};
+use ufs_spec::{NoMemory, Page, Upiu};
 use workbench::Workbench;
 
 /// How many workers the dies of a test are scanned and opened by.
@@ -101,8 +101,11 @@ pub(crate) fn opened_by<R: Threads + Abort + Sync>(
     mut dies: Vec<MemDie>,
     workers: usize,
 ) -> Workbench {
+    let device = device_of(rt, alloc, config, dies.as_mut_slice(), workers);
     Workbench {
-        device: device_of(rt, alloc, config, dies.as_mut_slice(), workers),
+        device: Box::new(alloc, device)
+            .map_err(|_| NoMemory)
+            .expect(rt, "memory"),
         dies,
         reply: Upiu::new(),
     }

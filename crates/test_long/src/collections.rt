@@ -7,7 +7,7 @@ use recovery::fit;
 use std::alloc::Global;
 use std::process::Abort;
 use std::thread::Threads;
-use ufs_spec::Upiu;
+use ufs_spec::{NoMemory, Upiu};
 use workbench::collected::{
     EACH_LEFT, Left, collect_old_page, read_in_turn, stopped_in_erase, write_in_turn,
 };
@@ -70,8 +70,11 @@ fn at_rest_by<R: Threads + Abort + Sync>(
     mut dies: Vec<MemDie>,
     workers: usize,
 ) -> Workbench {
+    let device = device_of(rt, alloc, dies.as_mut_slice(), workers);
     let mut bench = Workbench {
-        device: device_of(rt, alloc, dies.as_mut_slice(), workers),
+        device: Box::new(alloc, device)
+            .map_err(|_| NoMemory)
+            .expect(rt, "memory"),
         dies,
         reply: Upiu::new(),
     };

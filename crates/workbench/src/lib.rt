@@ -25,7 +25,8 @@ use ufs_spec::{HostFault, Job, NoMemory, OpenFault, Upiu};
 /// The device, its dies, and the reply that was handed out last.
 #[derive(Drop)]
 pub struct Workbench {
-    pub device: Device,
+    /// The device, in one place: whoever gives a workbench up lets go of a pointer, and not of each part.
+    pub device: Box<Device>,
     pub dies: Vec<MemDie>,
     pub reply: Upiu,
 }
@@ -49,13 +50,16 @@ impl Workbench {
     /// `Device::open` answers. The dies are given up.
     pub fn new(alloc: Global, config: Config, dies: Vec<MemDie>) -> Result<Workbench, OpenFault>
         ensures { IfOk result (λ w. (s : State) → Sound (array_of dies.items) →
-            IsOpened config (array_of dies.items) (bad_of dies.items) s → Describes w.device s) }
+            IsOpened config (array_of dies.items) (bad_of dies.items) s → Describes w.device.value s) }
     {
         let mut dies = dies;
         if !fit(&config, dies.as_slice()) {
             return Err(OpenFault::OtherConfig);
         }
         let device = Device::open(alloc, config, dies.as_mut_slice())?;
+        let Ok(device) = Box::new(alloc, device) else {
+            return Err(OpenFault::NoMemory);
+        };
         Ok(Workbench {
             device,
             dies,

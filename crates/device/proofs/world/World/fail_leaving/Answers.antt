@@ -28,8 +28,9 @@ returns-clause-went c =
       dies = dies_failed c.args.self.now.dies c.args.die c.args.left.now;
     } = c.self.view_is ∙ c.end_job.ensures.after
     ∙ ap (λ (w : WorldState). record w { jobs = slice_set w.jobs c.args.die None }) c.leave_failed.ensures in
-    let core : Describes c.self.inside.device s =
-    subst (λ (d : DeviceCore). Describes d s) (sym (ap (λ (w : WorldState). w.core) ended)) h.describes in
+    let core : Describes c.deref_mut.result.now s =
+    subst (λ (d : DeviceCore). Describes d s)
+    (sym (c.deref_mut.ensures.value ∙ ap (λ (w : WorldState). w.core) ended)) h.describes in
     subst (λ (w : WorldState). Went s (event.Fail c.args.die (Some c.args.left.now))
     (record w { core = c.done.new.self }) (Ok output.Ended)) (sym ended)
     (fail_went c.args.self.now s c.args.die c.args.left.now h (c.is_left_of.ensures.of c.if-not-is_left_of.false)

@@ -22,8 +22,9 @@ returns-clause-went c =
     let ended : world_of c.self.inside ≡ record c.args.self.now {
       jobs = slice_set c.args.self.now.jobs c.args.die None;
     } = c.self.view_is ∙ c.end_job.ensures.after in
-    let core : Describes c.self.inside.device s =
-    subst (λ (d : DeviceCore). Describes d s) (sym (ap (λ (w : WorldState). w.core) ended)) h.describes in
+    let core : Describes c.deref_mut.result.now s =
+    subst (λ (d : DeviceCore). Describes d s)
+    (sym (c.deref_mut.ensures.value ∙ ap (λ (w : WorldState). w.core) ended)) h.describes in
     subst (λ (w : WorldState). Went s (event.Fail c.args.die None) (record w { core = c.done.new.self })
     (Ok output.Ended)) (sym ended)
     (fail_read_went c.args.self.now s c.args.die h c.done.new.self read.0 (sym c.job_of.ensures.what ∙ read.1)

@@ -40,8 +40,9 @@ returns-clause-went c =
     let out : c.in-Some-work.outcome ≡ outcome_of (die_at c.args.self.now.dies c.args.die) c.in-Some.job =
     c.in-Some-work.ensures.outcome ∙ ap (λ (w : WorldState). outcome_of (die_at w.dies c.args.die) c.in-Some.job)
     c.end_job.ensures.after in
-    let core : Describes c.self.inside.device s =
-    subst (λ (d : DeviceCore). Describes d s) (sym (ap (λ (w : WorldState). w.core) ended)) h.describes in
+    let core : Describes c.deref_mut.result.now s =
+    subst (λ (d : DeviceCore). Describes d s)
+    (sym (c.deref_mut.ensures.value ∙ ap (λ (w : WorldState). w.core) ended)) h.describes in
     subst (λ (w : WorldState). Went s (event.Finish c.args.die) (record w { core = c.done.new.self })
     (Ok output.Ended)) (sym ended)
     (finish_went c.args.self.now c.done.new.self s c.args.die c.in-Some.job c.in-Some-work.outcome h

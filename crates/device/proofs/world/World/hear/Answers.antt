@@ -1,7 +1,7 @@
 use Rattle.std.proofs.Common.{ℕ, List, refl, subst}
 use Rattle.ufs_spec.specs.declared.events.Event.TheVariants as event
 use Rattle.device.specs.Describes.{IsHeardAs}
-use Rattle.device.proofs.described.SameDevice.{same_world}
+use Rattle.device.proofs.described.SameDevice.{same_core, same_world}
 use Rattle.device.proofs.dies_of_world.WentRight.{heard_went}
 use Rattle.device.proofs.world.World.hear.Goals as goal
 
@@ -12,4 +12,4 @@ returns-clause-went c =
     heard_went _ c.host.new.self s (event.Host c.args.bytes.now) c.args.bytes.now.items c.host.result
     (λ heard is. (heard, is, refl)) f
     (subst (λ (b : List ℕ). IsHeardAs s b c.host.result c.host.new.self) c.as_slice.ensures.value
-    (c.host.ensures.heard s f.describes))
+    (c.host.ensures.heard s (same_core _ _ s c.deref_mut.ensures.value f.describes)))

@@ -2,7 +2,7 @@ use Rattle.std.proofs.Common.{◌∙◌, None, ap, length, refl, replicate, sym,
 use Rattle.std.proofs.lemmas.List.{length-replicate}
 use Rattle.ufs_spec.specs.Lives.{Fit}
 use Rattle.device.specs.Worlds.{IsOpeningFault}
-use Rattle.device.proofs.dies_of_world.OpenedWorld.{fit_same, opened_fits, opened_over, suits_over}
+use Rattle.device.proofs.dies_of_world.OpenedWorld.{IsOpenedOver, fit_same, opened_fits, opened_over, suits_over}
 use Rattle.device.proofs.dies_of_world.OpenedWorld.{written_same}
 use Rattle.device.proofs.world.World.new.Goals as goal
 
@@ -38,11 +38,18 @@ returns-clause-fits c =
     (c.fit.ensures.fit c.if-not-fit.false) in
     opened_fits _ c.args.config c.args.dies.items s fit refl same
     (c.in-Ok-idle.ensures ∙ ap (λ count. replicate count None) (c.len.ensures ∙ c.args.dies.ok.0))
+    (subst (IsOpenedOver c.args.config c.args.dies.items) (sym c.in-Ok-new.ensures.ok)
     (opened_over c.args.config c.copied.result c.args.dies.items c.as_mut_slice.result.now c.in-Ok.device
-    c.copied.ensures c.as_mut_slice.ensures.value c.in-Ok.ensures.described) sound opened
+    c.copied.ensures c.as_mut_slice.ensures.value c.in-Ok.ensures.described)) sound opened
 
 pub returns-in_default-clause-refused : goal.returns-in_default-clause-refused
 returns-in_default-clause-refused c =
     subst (IsOpeningFault c.args.config c.args.dies.items) (sym c.fault-in_default.ensures.kind)
+    (fit_same c.args.config c.as_slice.result.now c.args.dies.items c.as_slice.ensures.value
+    (c.fit.ensures.fit c.if-not-fit.false))
+
+pub returns-in_default-idle-clause-refused : goal.returns-in_default-idle-clause-refused
+returns-in_default-idle-clause-refused c =
+    subst (IsOpeningFault c.args.config c.args.dies.items) (sym c.fault-in_default-idle.ensures.kind)
     (fit_same c.args.config c.as_slice.result.now c.args.dies.items c.as_slice.ensures.value
     (c.fit.ensures.fit c.if-not-fit.false))

@@ -43,7 +43,7 @@ pub returns-in-Err-clause-same : goal.returns-in-Err-clause-same
 returns-in-Err-clause-same c =
     let same = written_same c.self.inside.dies c.open_device.new.dies
     (c.open_device.ensures.same ∙ c.as_mut_slice.ensures.value) in (
-      c.self.inside.device,
+      c.self.inside.device.value,
       ap (λ (ds : List DieState). record (world_of c.self.inside) { dies = ds }) same
-          ∙ ap (λ (w : WorldState). record w { core = c.self.inside.device }) c.self.view_is,
+          ∙ ap (λ (w : WorldState). record w { core = c.self.inside.device.value }) c.self.view_is,
     )
