@@ -9,9 +9,8 @@ use Rattle.ufs_spec.specs.Plain.{shape_of_numbers, zero_block}
 use Rattle.ufs_spec.specs.Translation.{Translation, free_slots, is_locked, is_mended}
 use Rattle.ufs_spec.specs.declared.flash.Key.{Key}
 use Rattle.ftl_core.specs.Public.{Claims, Core, PinsDiffer, group_of_blocks, keeps_for, keeps_of, key_behind}
-use Rattle.ftl_core.specs.Public.{with_block, with_claimed}
-use Rattle.ftl_core.specs.declared.ftl.Ended.{Ended}
-use Rattle.ftl_core.specs.declared.ftl.Ended.TheVariants as ended
+use Rattle.ftl_core.specs.Public.{EndedNow, with_block, with_claimed}
+use Rattle.ftl_core.specs.Ended as ended
 use Rattle.task_set.specs.declared.tasks.Status.{Status}
 use Rattle.task_set.specs.declared.tasks.Status.TheVariants as status
 use Rattle.task_set.specs.declared.tasks.Phase.{Phase}
@@ -161,6 +160,6 @@ read_told d tag index (Some body) = record d { tasks = map (after_read tag index
 read_told d tag index None = record d { tasks = map (after_lost_read tag index) d.tasks }
 
 -- what the end of a job tells the tasks: a read for one gives it its block or none, and any other job tells nothing
-abbrev pub told : DeviceCore → Ended → DeviceCore
+abbrev pub told : DeviceCore → EndedNow → DeviceCore
 told d (ended.Read reader index body) = read_told d reader index body
 told d ended.Other = d

@@ -1,6 +1,6 @@
 //! The device and its five calls.
 ghost use Rattle.std.specs.Prelude.{◌≡◌, ◌<◌, ◌≤◌, ◌+◌, ◌*◌, IfOk, map};
-ghost use Rattle.std.specs.Prelude.{false, if◌then◌else◌, IfErr, IfNone};
+ghost use Rattle.std.specs.Prelude.{false, if◌then◌else◌, IfErr, IfNone, option_copied};
 ghost use Rattle.device.specs.Calls.{lock_told, read_told, told};
 ghost use Rattle.std.specs.Prelude.{true, ◌++◌};
 ghost use Rattle.ufs_spec.specs.Cells.{Array, Cells, Shows};
@@ -9,7 +9,7 @@ ghost use Rattle.ufs_spec.specs.Machine.{Done, OfDone, MayLeave, Turn, OfTurn};
 ghost use Rattle.ufs_spec.specs.Moves.{Ending, IsEndingOf, outcome_fits};
 ghost use Rattle.ufs_spec.specs.Refusals.{State};
 ghost use Rattle.ufs_spec.specs.Translation.{Translation};
-ghost use Rattle.ftl_core.specs.Public.{Describes as IsLayer};
+ghost use Rattle.ftl_core.specs.Public.{Describes as IsLayer, ended_now};
 ghost use Rattle.device.specs.Describes.{Describes, IsAnswered, IsGiven};
 ghost use Rattle.device.specs.Kept.{idle_device};
 ghost use Rattle.device.specs.Opened.{OpensOver};
@@ -135,8 +135,7 @@ impl Device {
         // It is one that the specified device owes to the die then, and none where it owes none.
         ensures given { (s : State) → Describes self.old s → IsGiven s die result self.new }
     {
-        let job = self.take_unsealed(die)?;
-        Some(job.sealed())
+        self.ftl.take(die)
     }
 
     /// The job that `take` hands out, before its page is sealed: it takes no SHA-256.
@@ -145,7 +144,7 @@ impl Device {
         // It is one that the specified device owes to the die then, and none where it owes none.
         ensures given { (s : State) → Describes self.old s → IsGiven s die result self.new }
     {
-        self.ftl.take(die)
+        self.ftl.take_unsealed(die)
     }
 
     /// Ends the job in flight of the die. False, and nothing changes, where the die has no job in flight
@@ -182,8 +181,8 @@ impl Device {
     }
 
     /// What the end of a job told.
-    fn tell(&mut self, ended: Ended)
-        ensures { self.new ≡ told self.old ended }
+    fn tell(&mut self, ended: Ended<'_>)
+        ensures { self.new ≡ told self.old (ended_now ended.entry) }
     {
         match ended {
             Ended::Read {
@@ -206,11 +205,11 @@ impl Device {
 
     /// What a die read for the task of this tag gave of its block or page of this index: the block, or
     /// nothing. That ends a READ, and a request for data is answered with a read failure.
-    fn read_ended(&mut self, tag: u8, index: u16, body: Option<Block>)
-        ensures { self.new ≡ read_told self.old tag index body }
+    fn read_ended(&mut self, tag: u8, index: u16, body: Option<&Block>)
+        ensures { self.new ≡ read_told self.old tag index (option_copied body.entry) }
     {
         match body {
-            Some(body) => self.set.load(tag, index, &body),
+            Some(body) => self.set.load(tag, index, body),
             None => self.set.lose(tag, index),
         }
     }

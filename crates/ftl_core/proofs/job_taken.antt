@@ -1,6 +1,7 @@
 pub mod BegunRows
 pub mod FlightKinds
 pub mod Flown
+pub mod JobStays
 pub mod Lowest
 pub mod Mended
 pub mod NextErases

@@ -39,8 +39,8 @@ use Rattle.readers.specs.declared.pin.Pin.{Pin}
 use Rattle.ftl_core.specs.declared.books.Step as kept_step
 use Rattle.ftl_core.specs.declared.books.Step.TheVariants as steps
 use Rattle.unit_map.specs.declared.Stored.{Stored}
-use Rattle.ftl_core.specs.declared.ftl.Ended.{Ended}
-use Rattle.ftl_core.specs.declared.ftl.Ended.TheVariants as ended
+use Rattle.ftl_core.specs.Ended.{EndedNow}
+use Rattle.ftl_core.specs.Ended as ended
 use Rattle.geometry.specs.Keys.{key_total}
 use Rattle.unit_map.specs.Places.{stored_in}
 use Rattle.ftl_core.specs.Core.{Core}
@@ -370,7 +370,7 @@ pub record IsTaken (t : Translation) (die : ℕ) (told : Option Job) (after : Co
   pub describes : Describes after (given t die job)
 
 -- what the end of a job tells: a read for a reader the index of its block, and the block or that it could not be had
-abbrev pub IsTold : Cells → Option disk.Flight → Ending → Ended → Type 0
+abbrev pub IsTold : Cells → Option disk.Flight → Ending → EndedNow → Type 0
 IsTold cells (Some (disk.Reading (ForTask tag index) place)) ReadRight e =
     (t : Tag) × (body : List ℕ) × (cells place ≡ GroupPage t body) × (e ≡ ended.Read tag index (Some body))
 IsTold cells (Some (disk.Reading (ForTask tag index) place)) ReadWrong e = e ≡ ended.Read tag index None

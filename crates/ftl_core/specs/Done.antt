@@ -6,7 +6,7 @@ use Rattle.ufs_spec.specs.declared.flash.Tag.{Tag}
 use Rattle.block_table.specs.declared.rows.DieRow.{DieRow}
 use Rattle.block_table.specs.declared.rows.Flight.{Flight}
 use Rattle.block_table.specs.declared.rows.Flight.TheVariants as flight
-use Rattle.ftl_core.specs.declared.ftl.Ended.{Ended}
+use Rattle.ftl_core.specs.Ended.{EndedNow}
 use Rattle.ftl_core.specs.Core.{Core}
 use Rattle.ftl_core.specs.Gives.{GivesIf, IsReadAfter, change_after, ending, is_read, other_for}
 
@@ -32,20 +32,20 @@ abbrev pub IsCoreEnded : Core → ℕ → Outcome → Option Tag → Core → Ty
 IsCoreEnded c die o tag new = IsRowAfter c die (slice_get c.rows die) o tag new
 
 -- a program and an erase give nothing, and a read what its reader looked up
-abbrev pub JobEnds : Core → Flight → Outcome → Option Ended → Type 0
+abbrev pub JobEnds : Core → Flight → Outcome → Option EndedNow → Type 0
 JobEnds c (flight.Read place reader) o r = GivesIf (is_read o) c o reader r
 JobEnds c _ o r = r ≡ option_map other_for (ending o)
 
 -- the end of a job that the die does not have is answered with none
-abbrev pub FlightEnds : Core → Option Flight → Outcome → Option Ended → Type 0
+abbrev pub FlightEnds : Core → Option Flight → Outcome → Option EndedNow → Type 0
 FlightEnds c None o r = r ≡ None
 FlightEnds c (Some f) o r = JobEnds c f o r
 
 -- the end of a job of a die that the device does not have is answered with none
-abbrev pub RowEnds : Core → Option DieRow → Outcome → Option Ended → Type 0
+abbrev pub RowEnds : Core → Option DieRow → Outcome → Option EndedNow → Type 0
 RowEnds c None o r = r ≡ None
 RowEnds c (Some b) o r = FlightEnds c b.flight o r
 
 -- the answer to the end of the die's job
-abbrev pub IsEnded : Core → ℕ → Outcome → Option Ended → Type 0
+abbrev pub IsEnded : Core → ℕ → Outcome → Option EndedNow → Type 0
 IsEnded c die o r = RowEnds c (slice_get c.rows die) o r

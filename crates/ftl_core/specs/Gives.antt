@@ -21,8 +21,8 @@ use Rattle.block_table.specs.declared.rows.Flight.TheVariants as flight
 use Rattle.readers.specs.declared.pin.Pin.{Pin}
 use Rattle.ftl_core.specs.declared.books.Step.{Step}
 use Rattle.ftl_core.specs.declared.books.Step.TheVariants as step
-use Rattle.ftl_core.specs.declared.ftl.Ended.{Ended}
-use Rattle.ftl_core.specs.declared.ftl.Ended.TheVariants as ended
+use Rattle.ftl_core.specs.Ended.{EndedNow}
+use Rattle.ftl_core.specs.Ended as ended
 use Rattle.ftl_core.specs.Core.{Core}
 use Rattle.ftl_core.specs.Moves.{erased, page_written, pin_of, rest_look, went_bad, with_row}
 use Rattle.readers.specs.Pins.{wanted_no_more}
@@ -66,7 +66,7 @@ change_after c die b f None = c
 change_after c die b f (Some well) = change_ended c die b f well
 
 -- the end of a program or of an erase gives nothing to any task
-abbrev pub other_for : Bool → Ended
+abbrev pub other_for : Bool → EndedNow
 other_for well = ended.Other
 
 -- Reads
@@ -105,15 +105,15 @@ IsGivenTo o None body = body ≡ None
 IsGivenTo o (Some p) body = IsGiven o p body
 
 -- what the end of a read gives to its reader, if it has one still
-abbrev pub Gives : Core → Outcome → Reader → Ended → Type 0
+abbrev pub Gives : Core → Outcome → Reader → EndedNow → Type 0
 Gives c o (ForTask tag index) e =
     (body : Option (List ℕ)) × IsGivenTo o (pin_of c tag index) body × (e ≡ ended.Read tag index body)
 Gives c o r e = e ≡ ended.Other
 
 -- a read is answered only if the outcome is one of a read; else the call has no answer
-abbrev pub GivesIf : Bool → Core → Outcome → Reader → Option Ended → Type 0
+abbrev pub GivesIf : Bool → Core → Outcome → Reader → Option EndedNow → Type 0
 GivesIf false c o who r = r ≡ None
-GivesIf true c o who r = (e : Ended) × (r ≡ Some e) × Gives c o who e
+GivesIf true c o who r = (e : EndedNow) × (r ≡ Some e) × Gives c o who e
 
 -- What a read makes of what is kept
 

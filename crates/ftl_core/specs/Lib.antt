@@ -2,6 +2,7 @@ pub mod Collects
 pub mod Core
 pub mod Describes
 pub mod Done
+pub mod Ended
 pub mod Ends
 pub mod Gives
 pub mod KnownLive

@@ -48,12 +48,12 @@ use write_cache::Cache;
 
 /// How a job ended, for whoever waits for it: a read gives its reader the block of this index, or nothing
 /// where it failed or the page is not the one that was looked up.
-#[derive(Drop)]
-pub enum Ended {
+#[derive(Clone, Copy)]
+pub enum Ended<'a> {
     Read {
         reader: u8,
         index: u16,
-        body: Option<Block>,
+        body: Option<&'a Block>,
     },
     Other,
 }

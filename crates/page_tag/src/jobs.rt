@@ -5,7 +5,7 @@ ghost use Rattle.ufs_spec.specs.Pages.{IsTag, seal_page};
 ghost use Rattle.ufs_spec.specs.declared.flash.Job.TheVariants as job;
 ghost use Rattle.page_tag.specs.Jobs.{IsTagRead};
 
-use crate::page::{seal, sealed_tag};
+use crate::page::{sealed_tag, spare_with};
 use crate::zeros::ZeroSeal;
 use std::marker::Model;
 use ufs_spec::{Block, Job, Outcome, Page, Place, Tag};
@@ -96,7 +96,8 @@ impl UnsealedJob {
     }
 
     /// The job. If it is a program its page is sealed, which takes one SHA-256; that of 64 bytes
-    /// alone where the block is zeros and [`UnsealedJob::program_with`] made the job.
+    /// alone where the block is zeros and [`UnsealedJob::program_with`] made the job. Each arm returns
+    /// by itself: where arms join, a page is copied.
     pub fn sealed(&self) -> Job
         ensures { result ≡ self.now }
     {
@@ -106,24 +107,31 @@ impl UnsealedJob {
                 tag,
                 body,
                 zeros,
-            } => Job::Program(*place, sealed_by(zeros, tag, body)),
-            Order::Read(place) => Job::Read(*place),
-            Order::Erase { die, block } => Job::Erase {
-                die: *die,
-                block: *block,
-            },
+            } => {
+                let spare = spare_by(zeros, tag, body);
+                return Job::Program(*place, Page { body: *body, spare });
+            }
+            Order::Read(place) => {
+                return Job::Read(*place);
+            }
+            Order::Erase { die, block } => {
+                return Job::Erase {
+                    die: *die,
+                    block: *block,
+                };
+            }
         }
     }
 }
 
-// The page of a tag and a block.
-fn sealed_by(zeros: &Option<ZeroSeal>, tag: &Tag, body: &Block) -> Page
+// The spare bytes of the page of a tag and a block.
+fn spare_by(zeros: &Option<ZeroSeal>, tag: &Tag, body: &Block) -> [u8; 96]
     requires { IsTag tag.now }
-    ensures { result ≡ seal_page tag.now body.now }
+    ensures { result ≡ (seal_page tag.now body.now).spare }
 {
     match zeros {
-        Some(zeros) => zeros.seal(tag, body),
-        None => seal(tag, body),
+        Some(zeros) => zeros.spare(tag, body),
+        None => spare_with(tag, body),
     }
 }
 

@@ -10,6 +10,7 @@ mod front;
 mod jobs;
 mod mark;
 mod mark_read;
+mod owed;
 mod page;
 mod zeros;
 
@@ -17,5 +18,6 @@ pub use contents::{Content, Mark, content_of, contents_of_four};
 pub use facts::one_seal;
 pub use jobs::{UnsealedJob, tag_read};
 pub use mark::mark_body;
+pub use owed::OwedJob;
 pub use page::{leftover_ok, open, reopened, seal, sealed_tag};
 pub use zeros::ZeroSeal;

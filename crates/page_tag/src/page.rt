@@ -12,20 +12,29 @@ pub fn seal(tag: &Tag, body: &Block) -> Page
     requires { IsTag tag.now }
     ensures { result ≡ seal_page tag.now body.now }
 {
-    let front = front_of(tag);
-    let check = check_bytes(body, &front);
-    page_of(body, &front, &check)
+    let spare = spare_with(tag, body);
+    Page { body: *body, spare }
 }
 
-/// The page of a block, its first 64 spare bytes and its check.
-pub(crate) fn page_of(body: &Block, front: &[u8; 64], check: &[u8; 32]) -> Page
-    ensures { result ≡ record { body = body.now; spare = front.now ++ check.now } }
+/// The spare bytes of that page.
+pub(crate) fn spare_with(tag: &Tag, body: &Block) -> [u8; 96]
+    requires { IsTag tag.now }
+    ensures { result ≡ (seal_page tag.now body.now).spare }
+{
+    let front = front_of(tag);
+    let check = check_bytes(body, &front);
+    spare_of(&front, &check)
+}
+
+/// The spare bytes of these first 64 and a check.
+pub(crate) fn spare_of(front: &[u8; 64], check: &[u8; 32]) -> [u8; 96]
+    ensures { result ≡ front.now ++ check.now }
 {
     let mut spare = [0; 96];
     let (first, last) = spare.split_at_mut(64);
     first.copy_from_slice(front);
     last.copy_from_slice(check);
-    Page { body: *body, spare }
+    spare
 }
 
 /// The tag of a page that `seal` could have made; the page's data are the block. `None` is for every other

@@ -4,13 +4,17 @@ ghost use Rattle.std.specs.Prelude.{◌≡◌, ◌↔◌, IsTrue};
 ghost use Rattle.sha2.specs.Hashers.{Holds256};
 ghost use Rattle.ufs_bytes.specs.Blocks.{zero_block};
 ghost use Rattle.ufs_spec.specs.Pages.{IsTag, check_of, seal_page};
+ghost use Rattle.ufs_spec.specs.declared.flash.Page.{Page};
 
 use crate::check::check_bytes;
 use crate::front::front_of;
-use crate::page::page_of;
+use crate::page::spare_of;
 use sha2::{Digest, Sha256};
 use std::marker::Model;
 use ufs_spec::{Block, Page, Tag};
+
+// A block of zeros, in one place: who compares with it sets none.
+static ZEROS: Block = [0; 4096];
 
 /// A SHA-256 that has taken in a block of zeros. A device makes one, and seals its pages with it:
 /// one whose block is zeros takes the SHA-256 of its 64 spare bytes alone.
@@ -34,7 +38,7 @@ impl ZeroSeal {
     /// Takes in the zeros: one SHA-256 of 4096 bytes.
     pub fn new() -> ZeroSeal {
         ZeroSeal {
-            begun: Sha256::new_with_prefix(&zeros()),
+            begun: Sha256::new_with_prefix(zeros()),
         }
     }
 
@@ -43,9 +47,18 @@ impl ZeroSeal {
         requires { IsTag tag.now }
         ensures { result ≡ seal_page tag.now body.now }
     {
+        let spare = self.spare(tag, body);
+        Page { body: *body, spare }
+    }
+
+    /// The spare bytes of that page.
+    pub(crate) fn spare(&self, tag: &Tag, body: &Block) -> [u8; 96]
+        requires { IsTag tag.now }
+        ensures { result ≡ (seal_page tag.now body.now).spare }
+    {
         let front = front_of(tag);
         let check = self.check_bytes(body, &front);
-        page_of(body, &front, &check)
+        spare_of(&front, &check)
     }
 
     /// Another one.
@@ -90,13 +103,13 @@ impl ZeroSeal {
 fn is_zeros(body: &Block) -> bool
     ensures { IsTrue result ↔ (body.now ≡ zero_block) }
 {
-    *body == zeros()
+    body == zeros()
 }
 
 // A block of zeros.
 #[tactic(auto, unfolding(ufs_bytes::specs::Blocks::zero_block))]
-fn zeros() -> Block
-    ensures { result ≡ zero_block }
+fn zeros() -> &'static Block
+    ensures { result.now ≡ zero_block }
 {
-    [0; 4096]
+    &ZEROS
 }

@@ -29,9 +29,8 @@ use Rattle.power_loss.specs.Invariant.{IsGroupPage, LookedRight}
 use Rattle.power_loss.proofs.open_tasks.FoundInLists.{found_is}
 use Rattle.power_loss.proofs.shown_blocks.LivesShowBlocks.{area_body, page_body}
 use Rattle.ftl_core.specs.Public as layer_kept
-use Rattle.ftl_core.specs.Public.{AreClaimed, Core, IsAwaited, IsReadOf, IsTold, with_claimed}
-use Rattle.ftl_core.specs.declared.ftl.Ended.{Ended}
-use Rattle.ftl_core.specs.declared.ftl.Ended.TheVariants as ended
+use Rattle.ftl_core.specs.Public.{AreClaimed, Core, EndedNow, IsAwaited, IsReadOf, IsTold, with_claimed}
+use Rattle.ftl_core.specs.Ended as ended
 use Rattle.device.specs.Calls.{lock_told, told}
 use Rattle.device.specs.Describes.{Describes, IsAnswered, Keeps, TasksKept, claimed_by, claimed_in}
 use Rattle.device.specs.Describes.{OneSends, claims_of, is_unread, wanted_by, wanted_kept}
@@ -240,7 +239,7 @@ moved_is : (t : Translation) (die : ℕ) (flight : Flight) (ending : Ending) →
     moved t (EndJob die ending) ≡ job_ended t die flight ending
 moved_is t die flight ending e = ap (λ (x : Option Flight). end_flight t die x ending) e
 
-module _ (d : DeviceCore) (s : State) (die : ℕ) (left : Array) (after : Core) (e : Ended) (h : Describes d s)
+module _ (d : DeviceCore) (s : State) (die : ℕ) (left : Array) (after : Core) (e : EndedNow) (h : Describes d s)
     (claims : AreClaimed after (claims_of s.tasks)) where
   abbrev Reads : ℕ → ℕ → Place → Option Flight
   Reads tag index place = Some (Reading (ForTask tag index) place)
@@ -306,7 +305,7 @@ module _ (d : DeviceCore) (s : State) (die : ℕ) (left : Array) (after : Core) 
 -- the job is told, and then the lock
 pub ends_right : (d full new : DeviceCore) (s : State) (die : ℕ) (o : Outcome) (ending : Ending) (left : Array)
     (after : Core)
-    (e : Ended) → Describes d s → IsEndingOf s.translation.disk.cells (s.translation.disk.flights die) o ending →
+    (e : EndedNow) → Describes d s → IsEndingOf s.translation.disk.cells (s.translation.disk.flights die) o ending →
     MayLeave s die ending left → layer_kept.Describes after (moved s.translation (EndJob die ending)) →
     AreClaimed after (claims_of s.tasks) →
     IsTold s.translation.disk.cells (s.translation.disk.flights die) ending e →

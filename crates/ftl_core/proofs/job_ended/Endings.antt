@@ -20,7 +20,8 @@ use Rattle.block_table.specs.declared.rows.DieRow.{DieRow}
 use Rattle.block_table.specs.declared.rows.Flight.{Flight}
 use Rattle.block_table.specs.declared.rows.Flight.TheVariants as flight
 use Rattle.ftl_core.specs.declared.ftl.Ended.{Ended}
-use Rattle.ftl_core.specs.declared.ftl.Ended.TheVariants as ended
+use Rattle.ftl_core.specs.Ended.{EndedNow, ended_now}
+use Rattle.ftl_core.specs.Ended as ended
 use Rattle.ftl_core.specs.Core.{Core}
 use Rattle.ftl_core.specs.Describes.{Describes, IsStepCell, IsTold, Kept, spot_at}
 use Rattle.ftl_core.specs.Moves.{repairs_in}
@@ -167,10 +168,10 @@ ends_right c after die o tag found new t ending h is may = record {
 
 -- What is told
 
-told_then : (c : Core) (t : Translation) (die : ℕ) (o : Outcome) (ending : Ending) (r : Option Ended) (b : DieRow) →
+told_then : (c : Core) (t : Translation) (die : ℕ) (o : Outcome) (ending : Ending) (r : Option EndedNow) (b : DieRow) →
     Describes c t → slice_get c.rows die ≡ Some b →
     IsEndingOf t.disk.cells (t.disk.flights die) o ending → FlightEnds c b.flight o r →
-    (e : Ended) × (r ≡ Some e) × IsTold t.disk.cells (t.disk.flights die) ending e
+    (e : EndedNow) × (r ≡ Some e) × IsTold t.disk.cells (t.disk.flights die) ending e
 told_then c t die o ending r b h there is answer =
     flight_cases t.numbers c.step die b.filling Goal (λ flies now told. absurd (false≢true now.0)) reads contents lost
     owed
@@ -188,7 +189,7 @@ told_then c t die o ending r b h there is answer =
   where
     Goal : Option Flight → Option disk.Flight → Type 0
     Goal f g = t.disk.flights die ≡ g → IsEndingOf t.disk.cells g o ending → FlightEnds c f o r →
-        (e : Ended) × (r ≡ Some e) × IsTold t.disk.cells g ending e
+        (e : EndedNow) × (r ≡ Some e) × IsTold t.disk.cells g ending e
 
     reads : (place : Place) (tag index : ℕ) →
         Goal (Some (flight.Read place (ForTask tag index))) (Some (disk.Reading (ForTask tag index) place))
@@ -206,7 +207,7 @@ told_then c t die o ending r b h there is answer =
 
     programs : (p : Place) (cell : Cell) → IsEndingOf t.disk.cells (Some (disk.Programming p cell)) o ending →
         r ≡ option_map other_for (gives.ending o) →
-        (e : Ended) × (r ≡ Some e) × IsTold t.disk.cells (Some (disk.Programming p cell)) ending e
+        (e : EndedNow) × (r ≡ Some e) × IsTold t.disk.cells (Some (disk.Programming p cell)) ending e
     programs p cell now told = (
       ended.Other,
       program_ends (λ out e. r ≡ option_map other_for (gives.ending out) → r ≡ Some ended.Other) t.disk.cells p cell
@@ -214,25 +215,25 @@ told_then c t die o ending r b h there is answer =
       refl,
     )
 
-told_of : (c : Core) (t : Translation) (die : ℕ) (o : Outcome) (ending : Ending) (r : Option Ended)
+told_of : (c : Core) (t : Translation) (die : ℕ) (o : Outcome) (ending : Ending) (r : Option EndedNow)
     (book : Option DieRow) → Describes c t → slice_get c.rows die ≡ book →
     IsEndingOf t.disk.cells (t.disk.flights die) o ending → RowEnds c book o r →
-    (e : Ended) × (r ≡ Some e) × IsTold t.disk.cells (t.disk.flights die) ending e
+    (e : EndedNow) × (r ≡ Some e) × IsTold t.disk.cells (t.disk.flights die) ending e
 told_of c t die o ending r None h there is answer =
     absurd (false≢true (subst (λ (g : Option disk.Flight). IsEndingOf t.disk.cells g o ending)
     (no_row c t die h there) is).0)
 told_of c t die o ending r (Some b) h there is answer = told_then c t die o ending r b h there is answer
 
 -- the end of a job is told as the definitions say
-pub ends_told : (c : Core) (die : ℕ) (o : Outcome) (r : Option Ended) → IsEnded c die o r →
+pub ends_told : (c : Core) (die : ℕ) (o : Outcome) (r : Option EndedNow) → IsEnded c die o r →
     (t : Translation) (ending : Ending) → Describes c t → IsEndingOf t.disk.cells (t.disk.flights die) o ending →
-    (e : Ended) × (r ≡ Some e) × IsTold t.disk.cells (t.disk.flights die) ending e
+    (e : EndedNow) × (r ≡ Some e) × IsTold t.disk.cells (t.disk.flights die) ending e
 ends_told c die o r answer t ending h is = told_of c t die o ending r (slice_get c.rows die) h refl is answer
 
 -- Which outcomes are refused
 
 -- a read's outcome is one of a read
-read_known : (c : Core) (reader : Reader) (r : Option Ended) (d : Bool) (o : Outcome) → GivesIf d c o reader r →
+read_known : (c : Core) (reader : Reader) (r : Option EndedNow) (d : Bool) (o : Outcome) → GivesIf d c o reader r →
     is_some r ≡ d
 read_known c reader r false o gives = ap is_some gives
 read_known c reader r true o gives = ap is_some gives.1
@@ -257,7 +258,7 @@ erases_suit s outcome.Failed = refl
 erases_suit s (outcome.Read page) = refl
 erases_suit s outcome.ReadFailed = refl
 
-known_then : (c : Core) (t : Translation) (die : ℕ) (o : Outcome) (r : Option Ended) (b : DieRow) → Describes c t →
+known_then : (c : Core) (t : Translation) (die : ℕ) (o : Outcome) (r : Option EndedNow) (b : DieRow) → Describes c t →
     slice_get c.rows die ≡ Some b →
     FlightEnds c b.flight o r → is_some r ≡ outcome_fits (t.disk.flights die) o
 known_then c t die o r b h there answer =
@@ -275,14 +276,20 @@ known_then c t die o r b h there answer =
     (λ block within told. ap is_some told ∙ erases_suit (spot_at die block) o)
     b.flight (t.disk.flights die) (h.kept.dies.each die b there).job answer
 
-known_of : (c : Core) (t : Translation) (die : ℕ) (o : Outcome) (r : Option Ended) (book : Option DieRow) →
+known_of : (c : Core) (t : Translation) (die : ℕ) (o : Outcome) (r : Option EndedNow) (book : Option DieRow) →
     Describes c t → slice_get c.rows die ≡ book →
     RowEnds c book o r → is_some r ≡ outcome_fits (t.disk.flights die) o
 known_of c t die o r None h there answer = ap is_some answer
     ∙ ap (λ (g : Option disk.Flight). outcome_fits g o) (sym (no_row c t die h there))
 known_of c t die o r (Some b) h there answer = known_then c t die o r b h there answer
 
+-- an answer is there with its block behind a reference where it is there with the block itself
+same_there : (r : Option Ended) → is_some r ≡ is_some (option_map ended_now r)
+same_there None = refl
+same_there (Some e) = refl
+
 -- an answer is there exactly where the outcome is of the kind of the die's job
-pub ends_known : (c : Core) (die : ℕ) (o : Outcome) (r : Option Ended) → IsEnded c die o r →
+pub ends_known : (c : Core) (die : ℕ) (o : Outcome) (r : Option Ended) → IsEnded c die o (option_map ended_now r) →
     (t : Translation) → Describes c t → is_some r ≡ outcome_fits (t.disk.flights die) o
-ends_known c die o r answer t h = known_of c t die o r (slice_get c.rows die) h refl answer
+ends_known c die o r answer t h = same_there r
+    ∙ known_of c t die o (option_map ended_now r) (slice_get c.rows die) h refl answer

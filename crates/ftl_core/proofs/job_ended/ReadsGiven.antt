@@ -26,8 +26,8 @@ use Rattle.power_loss.specs.Invariant.{IsGroupPage, LookedRight, Valid}
 use Rattle.power_loss.proofs.books.PagesByName.{page_one}
 use Rattle.power_loss.proofs.books.SmallFacts.{and_true, eq_self, eq_told}
 use Rattle.readers.specs.declared.pin.Pin.{Pin}
-use Rattle.ftl_core.specs.declared.ftl.Ended.{Ended}
-use Rattle.ftl_core.specs.declared.ftl.Ended.TheVariants as ended
+use Rattle.ftl_core.specs.Ended.{EndedNow}
+use Rattle.ftl_core.specs.Ended as ended
 use Rattle.ftl_core.specs.Core.{Core}
 use Rattle.ftl_core.specs.Describes.{Describes, IsLookOf, IsTold, IsWanted, PinKept}
 use Rattle.ftl_core.specs.Gives.{Gives, GivesIf, IsBodyLooked, IsBodyOf, IsGivenTo, is_read, names}
@@ -136,7 +136,7 @@ page_of_pin c t k x name place h at looks =
     of_key = subst (IsLookOf t.ledger.frontier (entry_of t.ledger) x.key) looked r.2.there
 
 -- what its reader is told, who wants the page
-given_told : (cells : Cells) (reader index : ℕ) (place : Place) (o : Outcome) (ending : Ending) (e : Ended) (x : Pin)
+given_told : (cells : Cells) (reader index : ℕ) (place : Place) (o : Outcome) (ending : Ending) (e : EndedNow) (x : Pin)
     (name : Name) (given : Option (List ℕ)) →
     x.looked ≡ OnPage name place → IsPageOf cells place x.key name.number →
     IsEndingOf cells (Some (disk.Reading (ForTask reader index) place)) o ending →
@@ -165,11 +165,11 @@ read_is_over : (cells : Cells) (who : Reader) (place : Place) (o : Outcome) (end
 read_is_over cells who place = read_ends (λ (d : Bool) (e : Ending). d ≡ true) cells who place refl refl
 
 pub task_told : (c : Core) (t : Translation) (die reader index : ℕ) (place : Place) (o : Outcome) (ending : Ending)
-    (r : Option Ended) → Describes c t →
+    (r : Option EndedNow) → Describes c t →
     t.disk.flights die ≡ Some (disk.Reading (ForTask reader index) place) →
     IsEndingOf t.disk.cells (Some (disk.Reading (ForTask reader index) place)) o ending →
     GivesIf (is_read o) c o (ForTask reader index) r →
-    (e : Ended) × (r ≡ Some e) × IsTold t.disk.cells (Some (disk.Reading (ForTask reader index) place)) ending e
+    (e : EndedNow) × (r ≡ Some e) × IsTold t.disk.cells (Some (disk.Reading (ForTask reader index) place)) ending e
 task_told c t die reader index place o ending r h flies is gives = (
   given.0,
   given.1,
@@ -180,7 +180,7 @@ task_told c t die reader index place o ending r h flies is gives = (
       given.2.2,
 )
   where
-    given : (e : Ended) × (r ≡ Some e) × Gives c o (ForTask reader index) e
+    given : (e : EndedNow) × (r ≡ Some e) × Gives c o (ForTask reader index) e
     given = subst (λ (z : Bool). GivesIf z c o (ForTask reader index) r)
         (read_is_over t.disk.cells (ForTask reader index) place o ending is) gives
 
@@ -192,17 +192,17 @@ task_told c t die reader index place o ending r h flies is gives = (
 
 -- a read for nobody or for the step under way tells nothing
 pub other_told : (c : Core) (cells : Cells) (who : Reader) (reader : Reader) (place : Place) (o : Outcome)
-    (ending : Ending) (r : Option Ended) → ((e : Ended) → Gives c o reader e → e ≡ ended.Other) →
+    (ending : Ending) (r : Option EndedNow) → ((e : EndedNow) → Gives c o reader e → e ≡ ended.Other) →
     ((x : Ending) → IsTold cells (Some (disk.Reading who place)) x ended.Other) →
     IsEndingOf cells (Some (disk.Reading who place)) o ending → GivesIf (is_read o) c o reader r →
-    (e : Ended) × (r ≡ Some e) × IsTold cells (Some (disk.Reading who place)) ending e
+    (e : EndedNow) × (r ≡ Some e) × IsTold cells (Some (disk.Reading who place)) ending e
 other_told c cells who reader place o ending r nothing told is gives =
     let g = subst (λ (z : Bool). GivesIf z c o reader r) (read_is_over cells who place o ending is) gives in
     (g.0, g.1, subst (IsTold cells (Some (disk.Reading who place)) ending) (sym (nothing g.0 g.2)) (told ending))
 
-pub lost_told : (c : Core) (cells : Cells) (place : Place) (o : Outcome) (ending : Ending) (r : Option Ended) →
+pub lost_told : (c : Core) (cells : Cells) (place : Place) (o : Outcome) (ending : Ending) (r : Option EndedNow) →
     IsEndingOf cells (Some (disk.Reading ForNobody place)) o ending → GivesIf (is_read o) c o ForNobody r →
-    (e : Ended) × (r ≡ Some e) × IsTold cells (Some (disk.Reading ForNobody place)) ending e
+    (e : EndedNow) × (r ≡ Some e) × IsTold cells (Some (disk.Reading ForNobody place)) ending e
 lost_told c cells place o ending r = other_told c cells ForNobody ForNobody place o ending r (λ e k. k) by
   where
     by : (x : Ending) → IsTold cells (Some (disk.Reading ForNobody place)) x ended.Other
@@ -212,9 +212,9 @@ lost_told c cells place o ending r = other_told c cells ForNobody ForNobody plac
     by (WentWrong left) = refl
 
 pub rest_told : (c : Core) (cells : Cells) (number index : ℕ) (place : Place) (o : Outcome) (ending : Ending)
-    (r : Option Ended) → IsEndingOf cells (Some (disk.Reading (ForRest number index) place)) o ending →
+    (r : Option EndedNow) → IsEndingOf cells (Some (disk.Reading (ForRest number index) place)) o ending →
     GivesIf (is_read o) c o (ForRest number index) r →
-    (e : Ended) × (r ≡ Some e) × IsTold cells (Some (disk.Reading (ForRest number index) place)) ending e
+    (e : EndedNow) × (r ≡ Some e) × IsTold cells (Some (disk.Reading (ForRest number index) place)) ending e
 rest_told c cells number index place o ending r =
     other_told c cells (ForRest number index) (ForRest number index) place o ending r (λ e k. k) by
   where
@@ -224,9 +224,9 @@ rest_told c cells number index place o ending r =
     by WentWell = refl
     by (WentWrong left) = refl
 
-pub step_told : (c : Core) (cells : Cells) (place : Place) (o : Outcome) (ending : Ending) (r : Option Ended) →
+pub step_told : (c : Core) (cells : Cells) (place : Place) (o : Outcome) (ending : Ending) (r : Option EndedNow) →
     IsEndingOf cells (Some (disk.Reading ForStep place)) o ending → GivesIf (is_read o) c o ForStep r →
-    (e : Ended) × (r ≡ Some e) × IsTold cells (Some (disk.Reading ForStep place)) ending e
+    (e : EndedNow) × (r ≡ Some e) × IsTold cells (Some (disk.Reading ForStep place)) ending e
 step_told c cells place o ending r = other_told c cells ForStep ForStep place o ending r (λ e k. k) by
   where
     by : (x : Ending) → IsTold cells (Some (disk.Reading ForStep place)) x ended.Other

@@ -19,7 +19,7 @@ ghost use Rattle.ftl_core.specs.Public.{AreClaimed, Claims};
 ghost use Rattle.ftl_core.specs.Stops.{StopsRight};
 ghost use Rattle.page_tag.specs.Jobs.{IsTagOf, IsTagRead};
 ghost use Rattle.ftl_core.specs.Tells.{IsReadOf};
-ghost use Rattle.ftl_core.specs.declared.ftl.Ended.{Ended};
+ghost use Rattle.ftl_core.specs.Ended.{EndedNow, ended_now};
 
 use super::facts::bytes_are_a_block;
 use super::{Ended, Ftl, move_live, move_page};
@@ -480,14 +480,14 @@ impl Ftl {
     }
 
     /// The end of a program or an erase.
-    fn change_done(
+    fn change_done<'a>(
         &mut self,
         die: u8,
         row: DieRow,
         flight: Flight,
-        outcome: &Outcome,
-    ) -> Option<Ended>
-        ensures answer { result ≡ option_map other_for (ending outcome.now) }
+        outcome: &'a Outcome,
+    ) -> Option<Ended<'a>>
+        ensures answer { option_map ended_now result ≡ option_map other_for (ending outcome.now) }
         ensures after { self.new ≡ change_after self.old die row flight (ending outcome.now) }
     {
         let is_done = ending(outcome)?;
@@ -514,14 +514,19 @@ impl Ftl {
 
     /// What the end of the read gives: to its reader the block, where the page is the one that was looked
     /// up; to the step under way its content; to a page that waits for it its rest.
-    fn give(&mut self, reader: Reader, outcome: &Outcome, tag_found: &Option<Tag>) -> Ended
+    fn give<'a>(
+        &mut self,
+        reader: Reader,
+        outcome: &'a Outcome,
+        tag_found: &Option<Tag>,
+    ) -> Ended<'a>
         requires { IsTagRead outcome.now tag_found.now }
-        ensures answer { Gives self.old outcome.now reader result }
+        ensures answer { Gives self.old outcome.now reader (ended_now result) }
         ensures after { IsReadOver self.old outcome.now tag_found.now reader self.new }
     {
         match reader {
             Reader::ForTask { tag, index } => {
-                let body = self.body_for(tag, index, outcome, tag_found).copied();
+                let body = self.body_for(tag, index, outcome, tag_found);
                 self.pins.end_wants(tag, index);
                 Ended::Read {
                     reader: tag,
@@ -555,17 +560,17 @@ impl Ftl {
     }
 
     /// The end of a read.
-    fn read_ended(
+    fn read_ended<'a>(
         &mut self,
         die: u8,
         row: DieRow,
         reader: Reader,
-        outcome: &Outcome,
+        outcome: &'a Outcome,
         tag: &Option<Tag>,
-    ) -> Option<Ended>
+    ) -> Option<Ended<'a>>
         requires row { slice_get self.old.rows die ≡ Some row }
         requires tag { IsTagRead outcome.now tag.now }
-        ensures answer { GivesIf (is_read outcome.now) self.old outcome.now reader result }
+        ensures answer { GivesIf (is_read outcome.now) self.old outcome.now reader (option_map ended_now result) }
         ensures after { IsReadAfter (is_read outcome.now) self.old die row outcome.now tag.now reader self.new }
     {
         if !is_read(outcome) {
@@ -576,17 +581,17 @@ impl Ftl {
     }
 
     /// The end of the job that the die has in flight, if it has one.
-    fn job_ended(
+    fn job_ended<'a>(
         &mut self,
         die: u8,
         row: DieRow,
-        outcome: &Outcome,
+        outcome: &'a Outcome,
         tag: &Option<Tag>,
-    ) -> Option<Ended>
+    ) -> Option<Ended<'a>>
         requires row { slice_get self.old.rows die ≡ Some row }
         requires tag { IsTagRead outcome.now tag.now }
         ensures nothing { IfNone result (self.new ≡ self.old) }
-        ensures answer { FlightEnds self.old row.flight outcome.now result }
+        ensures answer { FlightEnds self.old row.flight outcome.now (option_map ended_now result) }
         ensures after { IsFlightAfter self.old die row row.flight outcome.now tag.now self.new }
     {
         match row.flight? {
@@ -598,10 +603,15 @@ impl Ftl {
     /// Ends the job in flight of the die. `None`, and nothing changes, where the die has no job in
     /// flight or the outcome is not of its kind. It takes no SHA-256: the tag of the page that was read is
     /// known (`page_tag::tag_read`).
-    pub fn done(&mut self, die: u8, outcome: &Outcome, tag: &Option<Tag>) -> Option<Ended>
+    pub fn done<'a>(
+        &mut self,
+        die: u8,
+        outcome: &'a Outcome,
+        tag: &Option<Tag>,
+    ) -> Option<Ended<'a>>
         requires { IsTagRead outcome.now tag.now }
         ensures nothing { IfNone result (self.new ≡ self.old) }
-        ensures answer { IsEnded self.old die outcome.now result }
+        ensures answer { IsEnded self.old die outcome.now (option_map ended_now result) }
         ensures after { IsCoreEnded self.old die outcome.now tag.now self.new }
         // It is known exactly where the outcome is of the kind of the job in flight.
         ensures known { (t : Translation) → Describes self.old t → is_some result ≡ outcome_fits (t.disk.flights die) outcome.now }
@@ -615,7 +625,7 @@ impl Ftl {
             StopsRight self.new (moved t (EndJob die ending)) }
         ensures told { (t : Translation) (ending : Ending) → Describes self.old t →
             IsEndingOf t.disk.cells (t.disk.flights die) outcome.now ending →
-            (e : Ended) × (result ≡ Some e) × IsTold t.disk.cells (t.disk.flights die) ending e }
+            (e : EndedNow) × (option_map ended_now result ≡ Some e) × IsTold t.disk.cells (t.disk.flights die) ending e }
         // A read was for a reader who keeps its page and waits for it, for a rest that is owed, for the step
         // under way, or for nobody.
         ensures read { (t : Translation) (who : Reader) (place : Place) → Describes self.old t →

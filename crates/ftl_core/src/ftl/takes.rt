@@ -1,6 +1,6 @@
 //! Which job a die is given next.
 ghost use Rattle.std.specs.Prelude.{◌≡◌, ℕ, ◌<◌, ◌≤◌, ◌+◌, IfNone, length, slice_get, Some, None};
-ghost use Rattle.std.specs.Prelude.{true, false, option_map};
+ghost use Rattle.std.specs.Prelude.{true, false, option_and_then, option_map};
 ghost use Rattle.std.specs.List.{list_any};
 ghost use Rattle.ufs_spec.specs.Pages.{IsTag, greatest_number, group_bound};
 ghost use Rattle.ftl_core.specs.Takes.{copy_program, core_taken, erase_of, first_owed, flight_into, group_job};
@@ -25,7 +25,7 @@ use super::Ftl;
 use super::rests::rest_look;
 use crate::books::{Step, Waiting};
 use block_table::{BlockState, BlockTable, DieRow, Flight, OpenBlock};
-use page_tag::{UnsealedJob, mark_body};
+use page_tag::{OwedJob, UnsealedJob};
 use readers::{Pin, looks_on};
 use ufs_spec::{
     Block, Fence, GREATEST_COMMAND, GREATEST_NUMBER, Job, Key, Looked, Place, Reader, Tag,
@@ -300,7 +300,7 @@ impl Ftl {
 
     /// The program of a mark: the configuration and this fence. Until the device is mended the
     /// frontier is the greatest number seen, which is the last of the fence.
-    fn mark_program(&self, place: Place, number: u64, fence: Option<Fence>) -> UnsealedJob
+    fn mark_program(&self, place: Place, number: u64, fence: Option<Fence>) -> OwedJob<'_>
         requires { (1 ≤ number) × (number ≤ greatest_number) }
         ensures { result ≡ mark_program self.now place number fence }
     {
@@ -310,22 +310,21 @@ impl Ftl {
             address: 0,
         };
         let tag = tag_of(key, number, self.cache.frontier());
-        let body = mark_body(self.config.numbers(), fence);
-        UnsealedJob::program(place, &tag, &body)
+        OwedJob::mark(place, tag, self.config.numbers(), fence)
     }
 
     /// The program of a repair.
-    fn repair_program(&self, place: Place, number: u64, key: Key) -> UnsealedJob
+    fn repair_program(&self, place: Place, number: u64, key: Key) -> OwedJob<'_>
         requires numbered { (1 ≤ number) × (number ≤ greatest_number) }
         requires named { is_sealable key ≡ true }
         ensures { result ≡ repair_program self.now place number key }
     {
         let tag = tag_of(key, number, self.cache.frontier());
-        UnsealedJob::program_with(&self.zeros, place, &tag, &self.content)
+        OwedJob::program(&self.zeros, place, tag, &self.content)
     }
 
     /// The program of the repair, if a tag can name its key.
-    fn repair_job(&self, place: Place, number: u64, key: Key) -> Option<UnsealedJob>
+    fn repair_job(&self, place: Place, number: u64, key: Key) -> Option<OwedJob<'_>>
         requires { (1 ≤ number) × (number ≤ greatest_number) }
         ensures { result ≡ repair_job self.now place number key }
     {
@@ -338,7 +337,7 @@ impl Ftl {
 
     /// The program of the copy of a page that was read with this tag: it has the same data and tag, but
     /// for the frontier that it records.
-    fn copy_program(&self, place: Place, tag: &Tag) -> UnsealedJob
+    fn copy_program<'a>(&'a self, place: Place, tag: &Tag) -> OwedJob<'a>
         requires { IsTag tag.now }
         ensures { result ≡ copy_program self.now place tag.now }
     {
@@ -351,11 +350,11 @@ impl Ftl {
             size: tag.size,
             frontier: self.cache.frontier(),
         };
-        UnsealedJob::program_with(&self.zeros, place, &copy, &self.content)
+        OwedJob::program(&self.zeros, place, copy, &self.content)
     }
 
     /// The program of the page of the step under way.
-    fn step_job(&self, place: Place) -> Option<UnsealedJob>
+    fn step_job(&self, place: Place) -> Option<OwedJob<'_>>
         ensures { result ≡ step_job self.now place self.now.step }
     {
         match self.step {
@@ -369,7 +368,7 @@ impl Ftl {
 
     /// The program of the page with this number and index, if it is pending and its content is all
     /// there.
-    fn group_job(&self, place: Place, number: u64, index: u16) -> Option<UnsealedJob>
+    fn group_job(&self, place: Place, number: u64, index: u16) -> Option<OwedJob<'_>>
         ensures { result ≡ group_job self.now place number index }
     {
         let page = self.cache.page_named(number, index)?;
@@ -381,29 +380,29 @@ impl Ftl {
     }
 
     /// The program of the page of a group with this content.
-    fn group_program(&self, place: Place, page: &Pending, body: &Block) -> UnsealedJob
+    fn group_program<'a>(&'a self, place: Place, page: &Pending, body: &'a Block) -> OwedJob<'a>
         requires numbered { (1 ≤ page.now.number) × (page.now.number ≤ greatest_number) }
         requires named { is_sealable page.now.key ≡ true }
         requires sized { (page.now.index < page.now.size) × (page.now.size ≤ group_bound) }
         ensures { result ≡ page_of_group self.now place page.now body.now }
     {
         let tag = tag_of_page(page, self.cache.frontier());
-        UnsealedJob::program_with(&self.zeros, place, &tag, body)
+        OwedJob::program(&self.zeros, place, tag, body)
     }
 
     /// What the die is told to do.
-    fn job_of(&self, die: u8, flight: Flight) -> Option<UnsealedJob>
+    fn job_of(&self, die: u8, flight: Flight) -> Option<OwedJob<'_>>
         ensures { result ≡ job_of self.now die flight }
     {
         match flight {
-            Flight::Read { place, .. } => Some(UnsealedJob::read(place)),
+            Flight::Read { place, .. } => Some(OwedJob::read(place)),
             Flight::Step { place } => self.step_job(place),
             Flight::Group {
                 place,
                 number,
                 index,
             } => self.group_job(place, number, index),
-            Flight::Erase { block } => Some(UnsealedJob::erase(die, block)),
+            Flight::Erase { block } => Some(OwedJob::erase(die, block)),
         }
     }
 
@@ -567,11 +566,38 @@ impl Ftl {
         self.set_flight(die, Some(flight));
     }
 
+    /// The job that the die has in flight from now on, where it is owed one: a read that is owed, else the
+    /// erase of a block whose pages open and may go, else the program of the first waiting page, else the
+    /// erase of a block to put it into.
+    fn next_flight(&mut self, die: u8) -> Option<Flight>
+        ensures nothing { IfNone result (self.new ≡ self.old) }
+        // What is to be programmed is the same once the job is in flight.
+        ensures job { option_and_then (job_of self.new die) result ≡ job_taken self.old die }
+        ensures after { self.new ≡ core_taken self.old die }
+        ensures described { (t : Translation) → Describes self.old t → IsTaken t die (job_taken self.old die) self.new }
+        ensures stop { (t : Translation) → Describes self.old t → StopsRightGiven t die (job_taken self.old die) self.new }
+        ensures erase { (t : Translation) (at block : ℕ) → Describes self.old t →
+            job_taken self.old die ≡ Some (job.Erase at block) → MayGo t die (spot_at at block) }
+        ensures claims { (claims : Claims) → AreClaimed self.old claims → AreClaimed self.new claims }
+    {
+        self.has_few_units();
+        let row = self.row(die)?;
+        if row.flight.is_some() {
+            return None;
+        }
+        let flight = self.owed_flight(die, row)?;
+        if self.job_of(die, flight).is_none() {
+            return None;
+        }
+        self.begin(die, row, flight);
+        Some(flight)
+    }
+
     /// The next job of the die, which is then in flight: a read that is owed, else the erase of a
     /// block whose pages open and may go, else the program of the first waiting page, else the erase
     /// of a block to put it into. `None` where the die is not one of the device, has a job in flight,
-    /// or is owed nothing. It takes no SHA-256: whoever has the job seals its page.
-    pub fn take(&mut self, die: u8) -> Option<UnsealedJob>
+    /// or is owed nothing. A page that is programmed is sealed, which takes one SHA-256.
+    pub fn take(&mut self, die: u8) -> Option<Job>
         ensures nothing { IfNone result (self.new ≡ self.old) }
         ensures job { result ≡ job_taken self.old die }
         ensures after { self.new ≡ core_taken self.old die }
@@ -584,17 +610,23 @@ impl Ftl {
             MayGo t die (spot_at at block) }
         ensures claims { (claims : Claims) → AreClaimed self.old claims → AreClaimed self.new claims }
     {
-        self.has_few_units();
-        let row = self.row(die)?;
-        if row.flight.is_some() {
-            return None;
-        }
-        let flight = self.owed_flight(die, row)?;
-        let job = self.job_of(die, flight);
-        if job.is_none() {
-            return None;
-        }
-        self.begin(die, row, flight);
-        job
+        let flight = self.next_flight(die)?;
+        self.job_of(die, flight)?.sealed()
+    }
+
+    /// The job that `take` hands out, before its page is sealed: it takes no SHA-256, and whoever has it
+    /// seals its page.
+    pub fn take_unsealed(&mut self, die: u8) -> Option<UnsealedJob>
+        ensures nothing { IfNone result (self.new ≡ self.old) }
+        ensures job { result ≡ job_taken self.old die }
+        ensures after { self.new ≡ core_taken self.old die }
+        ensures described { (t : Translation) → Describes self.old t → IsTaken t die result self.new }
+        ensures stop { (t : Translation) → Describes self.old t → StopsRightGiven t die result self.new }
+        ensures erase { (t : Translation) (at block : ℕ) → Describes self.old t → result ≡ Some (job.Erase at block) →
+            MayGo t die (spot_at at block) }
+        ensures claims { (claims : Claims) → AreClaimed self.old claims → AreClaimed self.new claims }
+    {
+        let flight = self.next_flight(die)?;
+        self.job_of(die, flight)?.unsealed()
     }
 }

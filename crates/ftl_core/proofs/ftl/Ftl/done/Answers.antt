@@ -1,4 +1,6 @@
 use Rattle.std.proofs.Common.{rules}
+use Rattle.std.specs.Prelude.{option_map}
+use Rattle.ftl_core.specs.Ended.{ended_now}
 use Rattle.ftl_core.proofs.job_ended.Endings.{ends_known, ends_right, ends_told}
 use Rattle.ftl_core.proofs.job_ended.SameClaims.{still_claimed}
 use Rattle.ftl_core.proofs.pins.ReadsAwaited.{read_awaited}
@@ -26,7 +28,7 @@ returns-clause-described c =
 
 pub returns-clause-told : goal.returns-clause-told
 returns-clause-told c =
-    ends_told c.args.self.now c.args.die c.args.outcome.now c.job_ended.result (search rules)
+    ends_told c.args.self.now c.args.die c.args.outcome.now (option_map ended_now c.job_ended.result) (search rules)
 
 pub returns-clause-read : goal.returns-clause-read
 returns-clause-read c = read_awaited c.args.self.now c.args.die

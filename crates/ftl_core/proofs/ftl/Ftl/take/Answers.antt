@@ -1,61 +1,17 @@
-use Rattle.std.proofs.Common.{None, rules}
-use Rattle.ftl_core.proofs.job_taken.Takings.{takes_right}
-use Rattle.ftl_core.proofs.stopped.EachStop.{takes_erase, takes_stop}
+use Rattle.std.proofs.Common.{◌≡◌, ◌∙◌, Option, rules, subst, sym}
+use Rattle.ufs_spec.specs.declared.flash.Job.{Job}
+use Rattle.ftl_core.specs.Stops.{StopsRightGiven}
+use Rattle.ftl_core.specs.Takes.{job_taken}
 use Rattle.ftl_core.proofs.ftl.Ftl.take.Goals as goal
-
-pub returns-then-is_some-clause-described : goal.returns-then-is_some-clause-described
-returns-then-is_some-clause-described c =
-    takes_right c.args.self.now c.args.self.now c.args.die None (search rules) (search rules)
-    c.has_few_units.ensures
-
-pub returns-in_err-flight-clause-described : goal.returns-in_err-flight-clause-described
-returns-in_err-flight-clause-described c =
-    takes_right c.args.self.now c.args.self.now c.args.die _ (search rules) (search rules)
-    c.has_few_units.ensures
-
-pub returns-then-is_none-clause-described : goal.returns-then-is_none-clause-described
-returns-then-is_none-clause-described c =
-    takes_right c.args.self.now c.args.self.now c.args.die _ (search rules) (search rules)
-    c.has_few_units.ensures
-
-pub returns-clause-described : goal.returns-clause-described
-returns-clause-described c =
-    takes_right c.args.self.now c.begin.new.self c.args.die c.job_of-job.result (search rules) (search rules)
-    c.has_few_units.ensures
-
-pub returns-then-is_some-clause-stop : goal.returns-then-is_some-clause-stop
-returns-then-is_some-clause-stop c =
-    takes_stop c.args.self.now c.args.self.now c.args.die None (returns-then-is_some-clause-described c)
-
-pub returns-then-is_some-clause-erase : goal.returns-then-is_some-clause-erase
-returns-then-is_some-clause-erase c =
-    takes_erase c.args.self.now c.args.self.now c.args.die None (returns-then-is_some-clause-described c)
 
 pub returns-in_err-flight-clause-stop : goal.returns-in_err-flight-clause-stop
 returns-in_err-flight-clause-stop c =
-    takes_stop c.args.self.now c.args.self.now c.args.die _ (returns-in_err-flight-clause-described c)
-
-pub returns-in_err-flight-clause-erase : goal.returns-in_err-flight-clause-erase
-returns-in_err-flight-clause-erase c =
-    takes_erase c.args.self.now c.args.self.now c.args.die _ (returns-in_err-flight-clause-described c)
-
-pub returns-then-is_none-clause-stop : goal.returns-then-is_none-clause-stop
-returns-then-is_none-clause-stop c =
-    takes_stop c.args.self.now c.args.self.now c.args.die _ (returns-then-is_none-clause-described c)
-
-pub returns-then-is_none-clause-erase : goal.returns-then-is_none-clause-erase
-returns-then-is_none-clause-erase c =
-    takes_erase c.args.self.now c.args.self.now c.args.die _ (returns-then-is_none-clause-described c)
-
-pub returns-clause-stop : goal.returns-clause-stop
-returns-clause-stop c =
-    takes_stop c.args.self.now c.begin.new.self c.args.die c.job_of-job.result (returns-clause-described c)
+    λ t h.
+    let told : job_taken c.args.self.now c.args.die ≡ c.from_residual.result = search rules in
+    subst (λ (j : Option Job). StopsRightGiven t c.args.die j c.next_flight.new.self) told (c.next_flight.ensures.stop t h)
 
 pub returns-clause-erase : goal.returns-clause-erase
 returns-clause-erase c =
-    takes_erase c.args.self.now c.begin.new.self c.args.die c.job_of-job.result (returns-clause-described c)
-
-pub returns-in_err-row-clause-stop : goal.returns-in_err-row-clause-stop
-returns-in_err-row-clause-stop c =
-    takes_stop c.args.self.now c.args.self.now c.args.die _
-    (takes_right c.args.self.now c.args.self.now c.args.die _ (search rules) (search rules) c.has_few_units.ensures)
+    λ t at block h is.
+    let told : job_taken c.args.self.now c.args.die ≡ c.sealed.result = search rules in
+    c.next_flight.ensures.erase t at block h (told ∙ is)

@@ -1,0 +1,17 @@
+use Rattle.std.proofs.Common.{◌≡◌, ◌∙◌, Option, rules, subst, sym}
+use Rattle.ufs_spec.specs.declared.flash.Job.{Job}
+use Rattle.ftl_core.specs.Stops.{StopsRightGiven}
+use Rattle.ftl_core.specs.Takes.{job_taken}
+use Rattle.ftl_core.proofs.ftl.Ftl.take_unsealed.Goals as goal
+
+pub returns-in_err-flight-clause-stop : goal.returns-in_err-flight-clause-stop
+returns-in_err-flight-clause-stop c =
+    λ t h.
+    let told : job_taken c.args.self.now c.args.die ≡ c.from_residual.result = search rules in
+    subst (λ (j : Option Job). StopsRightGiven t c.args.die j c.next_flight.new.self) told (c.next_flight.ensures.stop t h)
+
+pub returns-clause-erase : goal.returns-clause-erase
+returns-clause-erase c =
+    λ t at block h is.
+    let told : job_taken c.args.self.now c.args.die ≡ c.unsealed.result = search rules in
+    c.next_flight.ensures.erase t at block h (told ∙ is)
