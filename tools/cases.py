@@ -13,7 +13,8 @@ after its whole name, as NAME.txt.stdout.
 The program is built once, without a proof. With --proved both programs are run that `rt ci` has
 proved and built here: LLVM's, and that of Rattle's own compiler. Those of ufsim are also run where
 standard output cannot be written, on a full disk and on a pipe that nobody reads, and have to say
-so. With --write the stored files are written anew: read them then.
+so; and once where standard error is a terminal, on which a check has to show how far it is. With
+--write the stored files are written anew: read them then.
 
 The last line is 'N passed, M failed'. The status is 0 if no case failed and there is one.
 """
@@ -48,6 +49,10 @@ HOW = {"stdin": subprocess.DEVNULL, "capture_output": True, "encoding": "utf-8",
 # What is run where standard output cannot be written, and what the program then says, with its status.
 UNWRITTEN = tuple((it, str(ROOT / "tools" / "refused_memory" / f"{it}.txt")) for it in ("run", "check"))
 SAID = ("ufsim: output\n", 1)
+# What is checked where standard error is a terminal, what it prints, and what the terminal gets last.
+SHOWN = ("check", str(EXAMPLES / "stop_in_write.txt"))
+COUNTED = "check stops 72 bad 0\n"
+LAST_SHOWN = re.compile(r"\rcheck line \d+ of \d+ stops 72 bad 0\r\x1b\[K$")
 
 
 class Output(NamedTuple):
@@ -221,6 +226,35 @@ def told_of_output(built):
     return passed
 
 
+def written_to(terminal):
+    """All that programs write to the terminal of this end, until none has it open."""
+    parts = []
+    with contextlib.suppress(OSError):
+        while part := os.read(terminal, 4096):
+            parts.append(part)
+    os.close(terminal)
+    return b"".join(parts).decode(errors="replace")
+
+
+def shown_on_a_terminal(built):
+    """What the program's check printed, and what it showed on the terminal that its standard error is."""
+    ours, theirs = os.openpty()
+    how = {"stdin": subprocess.DEVNULL, "stdout": subprocess.PIPE, "stderr": theirs, "encoding": "utf-8", "env": {}}
+    with subprocess.Popen([built, *SHOWN], **how) as ran:
+        os.close(theirs)
+        shown = written_to(ours)
+        return ran.stdout.read(), shown
+
+
+def tells_how_far(built):
+    """Whether a check shows on a terminal how far it is, and takes the line away."""
+    said, shown = shown_on_a_terminal(built)
+    is_right = said == COUNTED and LAST_SHOWN.search(shown) is not None
+    if not is_right:
+        print(f"{built}: it printed {said!r}, and showed {shown[-200:]!r} on a terminal")
+    return is_right
+
+
 def proved(program, cases):
     """How many cases come out right with the programs that rt ci has built, and how many there are."""
     folder = ROOT / "crates" / f"{program}_main" / "out"
@@ -231,8 +265,8 @@ def proved(program, cases):
     passed = sum(judged(cases, ran(str(place), cases)) for place in there)
     if program != "ufsim":
         return passed, len(places) * len(cases)
-    passed += sum(told_of_output(str(place)) for place in there)
-    return passed, len(places) * (len(cases) + len(UNWRITABLE) * len(UNWRITTEN))
+    passed += sum(told_of_output(str(place)) + tells_how_far(str(place)) for place in there)
+    return passed, len(places) * (len(cases) + len(UNWRITABLE) * len(UNWRITTEN) + 1)
 
 
 def main():

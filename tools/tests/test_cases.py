@@ -9,6 +9,9 @@ import cases
 
 # It says whether its output could be written.
 TELLS = '#!/bin/sh\ntrap "" PIPE\necho "$@" 2>/dev/null || { echo "ufsim: output" >&2; exit 1; }\n'
+# It says how far it is where standard error is a terminal.
+SHOWS = ('#!/bin/sh\ntest -t 2 && printf "\\rcheck line 1 of 1 stops 72 bad 0\\r\\033[K" >&2\n'
+         'echo "check stops 72 bad 0"\n')
 PROGRAM = '#!/bin/sh\necho "$@"\ncat notes.txt 2>/dev/null\necho told >&2\nexit 3\n'
 
 
@@ -60,6 +63,14 @@ class Cases(unittest.TestCase):
         with contextlib.redirect_stdout(io.StringIO()) as printed:
             self.assertEqual(0, cases.judged(found, {}, "src/main.rt:1:1: error"))
         self.assertIn("not run: one", printed.getvalue())
+
+    def test_a_check_has_to_show_how_far_it_is(self):
+        for text, is_right in ((SHOWS, True), (SHOWS.replace("test -t 2", "false"), False),
+                               (SHOWS.replace("[K", ""), False), (SHOWS.replace('echo "', 'echo "so '), False)):
+            self.write("program", text)
+            with contextlib.redirect_stdout(io.StringIO()) as printed:
+                self.assertEqual(is_right, cases.tells_how_far(str(self.folder / "program")), printed.getvalue())
+            self.assertEqual(is_right, printed.getvalue() == "")
 
 
 if __name__ == "__main__":

@@ -28,9 +28,22 @@ pub enum Stops {
     One,
     /// Such a one, and in the mending after it a second one at each program and each erase.
     Second,
+    /// The same at some moments only, so that many checks, side by side, try all of them: at those
+    /// whose number, counted from 0, leaves `part` when it is divided by `parts`.
+    SecondOf { part: usize, parts: usize },
     /// Such a one, and for each two dies that program or erase one with each two contents, where
     /// the other dies keep what they had.
     Pairs,
+}
+
+impl Stops {
+    // Whether any are tried at the moment of this number.
+    fn are_at(&self, moment: usize) -> bool {
+        match self {
+            Stops::SecondOf { part, parts } => moment.checked_rem(*parts) == Some(*part),
+            _ => true,
+        }
+    }
 }
 
 /// What was tried so far.
@@ -41,6 +54,8 @@ pub(crate) struct Check {
     /// What the life began with; `None` where it began over new dies.
     base: Option<Holdings>,
     journal: Journal,
+    /// How often a program or an erase was given to a die.
+    moments: usize,
     /// How many stops were tried.
     pub stops: usize,
     /// How many of them the device did not come back from rightly.
@@ -57,6 +72,7 @@ impl Check {
             tries,
             base: None,
             journal,
+            moments: 0,
             stops: 0,
             bad: 0,
         }
@@ -126,12 +142,21 @@ impl Check {
         Ok(())
     }
 
-    // The stops at this moment.
+    // The stops at this moment, if any are tried at it.
     fn stop_here(&mut self, alloc: Global, world: &World) -> Result<(), Word> {
+        let moment = self.moments;
+        self.moments = moment.saturating_add(1);
+        if self.tries.are_at(moment) {
+            self.stop_now(alloc, world)?;
+        }
+        Ok(())
+    }
+
+    fn stop_now(&mut self, alloc: Global, world: &World) -> Result<(), Word> {
         for content in CONTENTS {
             let dies = stopped_dies(alloc, world, content)?;
             match self.tries {
-                Stops::Second => self.stop_twice(alloc, dies)?,
+                Stops::Second | Stops::SecondOf { .. } => self.stop_twice(alloc, dies)?,
                 _ => self.try_stop(alloc, dies)?,
             }
         }

@@ -24,5 +24,5 @@ pub use command_line::{Call, CallFault, call};
 pub use fault::{ScriptFault, Word};
 pub use image::{ImageFault, Sizes, read_image, write_image};
 pub use images::{load_text, save_text};
-pub use run::{check_each_text, check_text, run_text, world_after};
+pub use run::{check_each_text, check_shown, check_text, run_text, world_after};
 pub use spelling::{bytes, text};

@@ -12,6 +12,7 @@ use device::World;
 use geometry::Config;
 use nand_model::MemDie;
 use std::alloc::Global;
+use std::io;
 use std::io::Write;
 use ufs_spec::{Event, Job, Leftover, Output};
 
@@ -54,7 +55,24 @@ pub fn check_each_text<W: Write, F: Write>(
     ensures status { result ≤ 1 }
     ensures quiet { result ≡ 0 → faults.new ≡ faults.old }
 {
-    status_of(check_script(alloc, script, tries, out), faults)
+    status_of(check_script(alloc, script, tries, out, &mut Silent), faults)
+}
+
+/// As `check_text`, for a person who waits: behind each line of the script at which stops were tried
+/// it writes to `progress` which line it was, of how many, and what was counted so far. Each such
+/// line takes the place of the one before, and at the end the last one is taken away.
+pub fn check_shown<W: Write, P: Write, F: Write>(
+    alloc: Global,
+    script: &[u8],
+    out: &mut W,
+    progress: &mut P,
+    faults: &mut F,
+) -> u8
+    ensures status { result ≤ 1 }
+    ensures quiet { result ≡ 0 → faults.new ≡ faults.old }
+{
+    let ended = check_script(alloc, script, Stops::One, out, progress);
+    status_of(ended, faults)
 }
 
 // The status of what ended so, whether it went well or not. A fault is told in one line.
@@ -74,26 +92,53 @@ fn status_of<F: Write>(ended: Result<bool, ScriptFault>, faults: &mut F) -> u8
 }
 
 // Whether no stop was bad.
-fn check_script<W: Write>(
+fn check_script<W: Write, P: Write>(
     alloc: Global,
     script: &[u8],
     tries: Stops,
     out: &mut W,
+    progress: &mut P,
 ) -> Result<bool, ScriptFault> {
-    let (stops, bad) = count_stops(alloc, FirstLines::read(script)?, tries)?;
+    let counted = count_stops(alloc, FirstLines::read(script)?, tries, progress);
+    // Who cannot be told how far it is misses nothing of the result.
+    let _ = progress.write_all(NO_LINE);
+    let (stops, bad) = counted?;
     tell_stops(out, stops, bad)?;
     Ok(bad == 0)
 }
 
 // How many stops were tried, and how many of them were bad.
-fn count_stops(
+fn count_stops<P: Write>(
     alloc: Global,
     first: FirstLines<'_>,
     tries: Stops,
+    progress: &mut P,
 ) -> Result<(usize, usize), ScriptFault> {
     let mut runner = first.last.told(Runner::checking(alloc, &first, tries))?;
-    runner.run_to(first.rest, usize::MAX)?;
+    let all = last_number(first.rest);
+    let mut shown = 0;
+    for line in first.rest {
+        line.told(runner.run(line.bytes))?;
+        let (stops, bad) = runner.stops();
+        if stops != shown {
+            let number = line.number;
+            let _ = write!(
+                progress,
+                "\rcheck line {number} of {all} stops {stops} bad {bad}"
+            );
+            shown = stops;
+        }
+    }
     Ok(runner.stops())
+}
+
+// The number of the last of these lines; 0 where there is none.
+fn last_number(lines: Lines<'_>) -> usize {
+    let mut last = 0;
+    for line in lines {
+        last = line.number;
+    }
+    last
 }
 
 fn tell_stops<W: Write>(out: &mut W, stops: usize, bad: usize) -> Result<(), ScriptFault> {
@@ -144,6 +189,24 @@ pub fn world_after(alloc: Global, script: &[u8], last: usize) -> Result<World, S
     let mut runner = first.last.told(Runner::new(alloc, &first))?;
     runner.run_to(first.rest, last)?;
     Ok(runner.world)
+}
+
+// What takes a line of a terminal away: the cursor goes to its beginning, and all behind it is erased
+// (ECMA-48, CR and EL).
+const NO_LINE: &[u8] = b"\r\x1b[K";
+
+// Takes all that is written to it, and keeps nothing.
+#[derive(Drop)]
+struct Silent;
+
+impl Write for Silent {
+    fn write(&mut self, bytes: &[u8]) -> io::Result<usize> {
+        Ok(bytes.len())
+    }
+
+    fn flush(&mut self) -> io::Result<()> {
+        Ok(())
+    }
 }
 
 // A device with the line of output that was made last.

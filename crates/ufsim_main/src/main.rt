@@ -5,12 +5,12 @@
 mod files;
 
 use files::{LateFile, NewFile};
-use std::io::ErrorKind;
+use std::io::{ErrorKind, IsTerminal};
 use std::process::ExitCode;
 use std::rt::{Env, Files};
 use std::{env, fs, io};
 use stress::stress_text;
-use ufsim::{Call, CallFault, call, check_text, load_text, run_text, save_text};
+use ufsim::{Call, CallFault, call, check_shown, check_text, load_text, run_text, save_text};
 
 fn main(rt: HostRuntime) -> ExitCode {
     let words = match words(&rt) {
@@ -63,12 +63,18 @@ fn run(rt: &HostRuntime, name: &str) -> ExitCode {
 
 fn check(rt: &HostRuntime, name: &str) -> ExitCode {
     match fs::read(rt, name) {
-        Ok(script) => {
-            let mut out = io::writer(rt);
-            let status = check_text(rt.alloc(), script.as_slice(), &mut out, &mut rt.stderr());
-            ExitCode::from(status)
-        }
+        Ok(script) => ExitCode::from(check_script(rt, script.as_slice())),
         Err(error) => unread(rt, name, error.kind()),
+    }
+}
+
+// Where standard error is a terminal it shows how far the check is.
+fn check_script(rt: &HostRuntime, script: &[u8]) -> u8 {
+    let (alloc, mut out, mut faults) = (rt.alloc(), io::writer(rt), rt.stderr());
+    if faults.is_terminal() {
+        check_shown(alloc, script, &mut out, &mut rt.stderr(), &mut faults)
+    } else {
+        check_text(alloc, script, &mut out, &mut faults)
     }
 }
 
