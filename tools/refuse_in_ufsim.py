@@ -37,7 +37,8 @@ SCRIPTS = ROOT / "tools" / "refused_memory"
 ACTIONS = {"run": 1, "check": 7}
 # What is changed in the copy's main.rt. Each text stands there once.
 CHANGES = (
-    ("use std::io::ErrorKind;\n", "use std::alloc::AllocError;\nuse std::io::{ErrorKind, Read};\n"),
+    ("use std::io::{ErrorKind, IsTerminal};\n",
+     "use std::alloc::AllocError;\nuse std::io::{ErrorKind, IsTerminal, Read};\n"),
     ("fn main(rt: HostRuntime) -> ExitCode {\n", "fn main(rt: HostRuntime) -> ExitCode {\n    take_memory(&rt);\n"),
     ("=> run(&rt, script),\n", "=> tell_left(&rt, run(&rt, script)),\n"),
     ("=> check(&rt, script),\n", "=> tell_left(&rt, check(&rt, script)),\n"),
