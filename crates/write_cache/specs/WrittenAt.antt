@@ -45,6 +45,11 @@ entry_left n at (Some p) = entry_put at no_page (place_index n p)
 abbrev pub entry_of : WrittenAt → Place → Option ℕ
 entry_of t p = option_and_then (slice_get t.at.items) (place_index t.config p)
 
+-- where the page is written, if there is one and it is written
+abbrev pub place_before : Option Pending → Option Place
+place_before None = None
+place_before (Some p) = p.written
+
 -- the entry is there, and that of a page
 abbrev pub is_taken : Option ℕ → Bool
 is_taken None = false

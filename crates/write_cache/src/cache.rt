@@ -166,7 +166,7 @@ impl Cache {
 
     /// The page of a pending group that is written there, if one is. It looks at one page, unless no
     /// device of this configuration has the place, or a page was ever marked as written where
-    /// another one was, or was marked twice: then it looks at all.
+    /// another one was: then it looks at all.
     pub fn page_there(&self, place: Place) -> Option<&Pending>
         ensures { option_copied result ≡ find (is_there place) self.now.pages }
     {

@@ -9,6 +9,7 @@ ghost use Rattle.write_cache.specs.Kept.{Queue};
 ghost use Rattle.write_cache.specs.Ready.{first_ready_from, first_waiting_from};
 ghost use Rattle.write_cache.specs.Rests.{rests_filled};
 ghost use Rattle.write_cache.specs.Ring.{AreStraight, Stands, is_open_at, shown};
+ghost use Rattle.write_cache.specs.WrittenAt.{place_before};
 ghost use Rattle.write_cache.specs.Slots.{front_written, is_named, is_of_group, is_there, last_page};
 ghost use Rattle.write_cache.specs.Slots.{page_written, written_at};
 
@@ -234,10 +235,11 @@ impl Pages {
         };
         let found = place_in(&self.pages, self.landed, entry.group, index, probes);
         if let Some(at) = found {
+            let before = written_before(&self.pages, at);
             let is_open = write_at(&mut self.pages, at, place, probes);
             self.groups.set(entry.at, entry.group.written(is_open));
             self.ready.set(at, false);
-            self.written.mark(place, at, is_open);
+            self.written.mark(place, at, before);
         }
     }
 
@@ -331,6 +333,16 @@ fn place_among(
         }
     }
     None
+}
+
+/// Where the page at this place is written, if it is.
+fn written_before(pages: &VecDeque<Pending>, at: usize) -> Option<Place>
+    ensures { result ≡ place_before (slice_get pages.now.items at) }
+{
+    match pages.get(at) {
+        Some(page) => page.written,
+        None => None,
+    }
 }
 
 /// The page at this place is written there, and whether it was not written before.

@@ -1,5 +1,6 @@
 //! Which pending page is written at each place of the dies.
-ghost use Rattle.std.specs.Prelude.{◌≡◌, ◌^◌, ◌<◌, ◌||◌, IfOk, find, not, option_copied, replicate};
+ghost use Rattle.std.specs.Prelude.{◌≡◌, ◌^◌, ◌<◌, ◌||◌, IfOk, find, option_and_then, option_copied};
+ghost use Rattle.std.specs.Prelude.{replicate, slice_get};
 ghost use Rattle.write_cache.specs.Slots.{is_there};
 ghost use Rattle.write_cache.specs.WrittenAt.{entry_left, entry_of, entry_put, is_taken, no_page};
 ghost use Rattle.write_cache.specs.WrittenAt.{place_index, place_total, position_of, standing};
@@ -30,8 +31,7 @@ pub(crate) struct WrittenAt {
     at: Vec<u16>,
     /// The position of the first page.
     first: u16,
-    /// Whether a page was ever marked as written at a place where another one was, or was marked
-    /// twice. It then stays so.
+    /// Whether a page was ever marked as written at a place where another one was. It then stays so.
     shared: bool,
 }
 
@@ -55,18 +55,23 @@ impl WrittenAt {
         })
     }
 
-    /// The page at this place of the queue is written there from now on. It is open if it was not
-    /// written before.
-    pub(crate) fn mark(&mut self, place: Place, at: usize, is_open: bool)
+    /// The page at this place of the queue is written there from now on. Before, it was written at that
+    /// other place, if it was: a collection moves pages that are not durable too.
+    pub(crate) fn mark(&mut self, place: Place, at: usize, before: Option<Place>)
         requires { at < 2 ^ 16 }
-        ensures at { self.new.at.items ≡ entry_put self.old.at.items
+        ensures at { self.new.at.items ≡
+            entry_put (entry_left self.old.config self.old.at.items before)
             (position_of self.old.first at) (place_index self.old.config place) }
-        ensures shared { self.new.shared ≡
-            (self.old.shared || (not is_open || is_taken (entry_of self.old place))) }
+        ensures shared { self.new.shared ≡ (self.old.shared || is_taken
+            (option_and_then (slice_get (entry_left self.old.config self.old.at.items before))
+            (place_index self.old.config place))) }
         ensures config { self.new.config ≡ self.old.config }
         ensures first { self.new.first ≡ self.old.first }
     {
-        self.shared |= !is_open || self.is_taken(place);
+        if let Some(old) = before {
+            self.put(old, NO_PAGE);
+        }
+        self.shared |= self.is_taken(place);
         self.put(place, position_of(self.first, at));
     }
 

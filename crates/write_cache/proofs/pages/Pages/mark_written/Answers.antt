@@ -104,8 +104,8 @@ invariant_of-self c =
           ∙ written_same key_of f.pages.items k c.args.place (λ p. refl) (slice_get f.pages.items k) refl)
           c.self.invariant.positions;
       written = written_marked f.written c.mark.new.self f.pages.items c.write_at-is_open.new.pages.items k c.args.place
-          c.write_at-is_open.result c.self.invariant.written within (omega (arith, fits, few))
-          c.write_at-is_open.ensures.was c.write_at-is_open.ensures.after c.mark.ensures.config c.mark.ensures.first
+          c.written_before-before.result c.self.invariant.written within (omega (arith, fits, few))
+          c.written_before-before.ensures c.write_at-is_open.ensures.after c.mark.ensures.config c.mark.ensures.first
           c.mark.ensures.at c.mark.ensures.shared;
       ready = written_ready f.room k f.ready c.set-in-Some-found.new.self f.pages.items
           c.write_at-is_open.new.pages.items c.args.place c.self.invariant.ready
