@@ -12,7 +12,7 @@ use Rattle.ufs_spec.specs.Moves.{Ending, ReadRight, ReadWrong, GiveJob, moved}
 use Rattle.ufs_spec.specs.Plain.{shape_of_numbers}
 use Rattle.ufs_spec.specs.Translation as layer
 use Rattle.ufs_spec.specs.Translation.{CopyStep, MarkStep, MayTake, Mended, Mending, RepairStep, Repairing, Step}
-use Rattle.ufs_spec.specs.Translation.{Translation, Unmarked, Work, flies_name, is_bad, is_mended, name_of, names_after}
+use Rattle.ufs_spec.specs.Translation.{Translation, Unmarked, Work, flies_name, is_mended, name_of, names_after}
 use Rattle.ufs_spec.specs.Translation.{spots, tag_of}
 use Rattle.ufs_spec.specs.declared.configs.Numbers.{Numbers}
 use Rattle.ufs_spec.specs.declared.flash.Job.{Job}

@@ -1,6 +1,6 @@
 -- How a job in flight ends, as the code does it: what is kept then, and what is given to whoever waits for it. `IsTold`
 -- of Describes says what that means.
-use Rattle.std.specs.Prelude.{◌≡◌, ℕ, ◌==◌, Bool, true, false, ◌&&◌, if◌then◌else◌, List, find, map, Option, Some, None}
+use Rattle.std.specs.Prelude.{◌≡◌, ℕ, ◌==◌, Bool, true, false, ◌&&◌, List, find, map, Option, Some, None}
 use Rattle.ufs_spec.specs.Keys.{IsBlock}
 use Rattle.ufs_spec.specs.Pages.{IsTag, seal_page}
 use Rattle.ufs_spec.specs.declared.flash.Key.{Key}

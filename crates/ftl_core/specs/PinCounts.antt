@@ -1,13 +1,9 @@
 -- How many pins each block has: one for each page of it that a reader keeps, and one for each page that is still to be
 -- read from it for a rest (this profile).
-use Rattle.std.specs.Prelude.{◌≡◌, ℕ, ◌+◌, ◌-◌, ◌*◌, ◌^◌, Bool, false, true, if◌then◌else◌, min}
-use Rattle.std.specs.Prelude.{List, filter, length, replicate, slice_get, Some}
-use Rattle.ufs_spec.specs.Disk.{Spot, spot_of}
-use Rattle.ufs_spec.specs.Ledger.{same_name}
-use Rattle.ufs_spec.specs.declared.layer.Looked.{Looked}
-use Rattle.ufs_spec.specs.declared.layer.Looked.TheVariants.{InSlot, OnPage, Unwritten}
-use Rattle.block_table.specs.Lives.{Lives, block_place, has_block, pins_of, with_pins}
-use Rattle.unit_map.specs.declared.Stored.{Stored}
+use Rattle.std.specs.Prelude.{◌≡◌, ℕ, ◌+◌, true}
+use Rattle.std.specs.Prelude.{List, filter, length, slice_get, Some}
+use Rattle.ufs_spec.specs.Disk.{Spot}
+use Rattle.block_table.specs.Lives.{Lives, block_place, has_block}
 use Rattle.readers.specs.declared.pin.Pin.{Pin}
 use Rattle.write_cache.specs.declared.slots.Pending.{Pending}
 use Rattle.ftl_core.specs.Pinned.{keeps, reads_block}

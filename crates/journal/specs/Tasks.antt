@@ -1,5 +1,5 @@
 -- The commands and settings that have no answer yet (JESD220, 10.7).
-use Rattle.std.specs.Prelude.{ℕ, ◌==◌, ◌&&◌, ◌||◌, Bool, true, false, not, filter, if◌then◌else◌}
+use Rattle.std.specs.Prelude.{ℕ, ◌==◌, ◌&&◌, ◌||◌, Bool, true, false, not, filter}
 use Rattle.std.specs.Prelude.{List, position, remove, slice_get, Option, Some, None}
 use Rattle.ufs_spec.specs.Management.{aborts}
 use Rattle.journal.specs.declared.tasks.Awaited.{Awaited}

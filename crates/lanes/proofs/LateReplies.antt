@@ -1,7 +1,7 @@
 -- Behind an abort no reply has the tag of the task, up to the next message with this tag that is taken.
 use Rattle.std.proofs.Common.{◌≡◌, ◌≢◌, ◌∙◌, ℕ, ◌==◌, ◌&&◌, Bool, true, false, cond, not, List, [], ◌∷◌, ◌++◌, Option}
 use Rattle.std.proofs.Common.{Some, None, filter, find, length, map, nat_le, refl, sym, ap, subst, arith, inl, inr}
-use Rattle.std.specs.Prelude.{All, Err, Ok, Result, if◌then◌else◌, slice_get, slice_index}
+use Rattle.std.specs.Prelude.{All, Err, Ok, Result, slice_index}
 use Rattle.std.specs.List.{AllByRecursion, list_any}
 use Rattle.std.proofs.lemmas.Bool.{ne_eqb}
 use Rattle.std.proofs.lemmas.List.Elements.{recursion_from_All}
@@ -11,14 +11,14 @@ use Rattle.ufs_spec.specs.Commands.{Command}
 use Rattle.ufs_spec.specs.Dies.{DieState}
 use Rattle.ufs_spec.specs.Exchanges.{Short, Task, is_short_of, is_task_of, most_tasks, response, short_reply, task_of}
 use Rattle.ufs_spec.specs.Exchanges.{TaskSetFull}
-use Rattle.ufs_spec.specs.Lives.{IsCall, IsShown, Leads}
+use Rattle.ufs_spec.specs.Lives.{IsCall, IsShown}
 use Rattle.ufs_spec.specs.Machine.{Allowed, Answer, Call, Due, Faulty, Heard, Host, IsHeard, OfHost, OfReply, Reply}
 use Rattle.ufs_spec.specs.Machine.{Spelled, Done, OfDone, OfTake, OfTurn, Take, Turn}
 use Rattle.ufs_spec.specs.Machine.{behind, carried_out, command_taken, fills, heard, is_aborted, lock_applied, managed}
 use Rattle.ufs_spec.specs.Machine.{MayHear, message_fault, result_of}
 use Rattle.ufs_spec.specs.Machine.{observe, refused_or_begun, replied_by, service, short_locked, short_replied, tag_in}
-use Rattle.ufs_spec.specs.Machine.{task_filled, task_locked, with_short, without_tasks}
-use Rattle.ufs_spec.specs.Messages.{Spells, spelling}
+use Rattle.ufs_spec.specs.Machine.{task_filled, task_locked, with_short}
+use Rattle.ufs_spec.specs.Messages.{spelling}
 use Rattle.ufs_spec.specs.Queries.{Query, setting_of}
 use Rattle.ufs_spec.specs.QueryAnswers.{query_heard, query_passed}
 use Rattle.ufs_spec.specs.Refusals.{Request, State, locked, refusal}

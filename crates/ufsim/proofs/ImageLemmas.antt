@@ -1,6 +1,6 @@
 -- What stands in an image behind what.
-use Rattle.std.proofs.Common.{◌≡◌, ◌≢◌, ◌∙◌, ◌+◌, ◌<◌, ◌≤◌, ◌++◌, ℕ, List, [], ◌∷◌, All, ap, append-nil, arith, length, refl, subst, suc, sym, take, zero}
-use Rattle.std.specs.Prelude.{Bool, true, false, IfSome, Option, Some, None, Result, Ok, Err, OnOk, slice_index_or, slice_set}
+use Rattle.std.proofs.Common.{◌≡◌, ◌≢◌, ◌∙◌, ◌+◌, ◌<◌, ◌++◌, ℕ, List, [], ◌∷◌, All, ap, append-nil, arith, length, refl, subst, suc, sym, take, zero}
+use Rattle.std.specs.Prelude.{Bool, true, false, IfSome, Option, Some, None, Result, Ok, Err, OnOk, slice_index_or}
 use Rattle.std.specs.List.{flat_map}
 use Rattle.std.specs.Io.KnownBytes.{Appends, Consumes, IsAtEnd, Keeps}
 use Rattle.std.proofs.lemmas.List.{append_assoc}

@@ -8,7 +8,7 @@ use Rattle.std.specs.Io.KnownBytes.{Consumes, IsAtEnd}
 use Rattle.std.proofs.KnownBytes.{Consumes-nil, Consumes-trans}
 use Rattle.std.proofs.lemmas.List.{append_assoc, length-append}
 use Rattle.ufs_spec.specs.Dies.{DieState, pages_of}
-use Rattle.ufsim.specs.Images.{AreParts, InTurn, IsBadByte, IsBlock, IsDie, IsImage, IsLong, IsPage, Lacks, Reads, Took, marked}
+use Rattle.ufsim.specs.Images.{AreParts, InTurn, IsBadByte, IsBlock, IsDie, IsLong, IsPage, Lacks, Reads, Took, marked}
 use Rattle.ufsim.specs.declared.image.ImageFault.{ImageFault}
 use Rattle.ufsim.specs.declared.image.ImageFault.TheVariants.{File, Malformed, Memory}
 

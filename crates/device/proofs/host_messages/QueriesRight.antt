@@ -6,7 +6,7 @@ use Rattle.std.proofs.lemmas.Bool.{and_parts}
 use Rattle.ufs_spec.proofs.Facts.{false≢true}
 use Rattle.ufs_spec.specs.Exchanges.{is_task_of, short_reply, task_of}
 use Rattle.ufs_spec.specs.Machine as machine
-use Rattle.ufs_spec.specs.Machine.{Call, Host, IsHeard, OfHost, Spelled, durable, heard, opening_fault, result_of}
+use Rattle.ufs_spec.specs.Machine.{Call, Host, IsHeard, OfHost, Spelled, heard, opening_fault, result_of}
 use Rattle.ufs_spec.specs.Messages.{IsQueryFunction, Spells, host_fault_of}
 use Rattle.ufs_spec.specs.Queries.{Query}
 use Rattle.ufs_spec.specs.QueryAnswers.{query_heard}

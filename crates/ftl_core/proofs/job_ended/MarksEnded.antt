@@ -15,7 +15,7 @@ use Rattle.ufs_spec.specs.Ledger.{Ledger, before_accepted}
 use Rattle.ufs_spec.specs.Moves.{cell_failed, mark_again}
 use Rattle.ufs_spec.specs.Moves.{mark_written as layer_written, mending_after}
 use Rattle.ufs_spec.specs.Translation as layer
-use Rattle.ufs_spec.specs.Translation.{MarkStep, Mended, Mending, Repairing, StepKind, Translation, Unmarked, is_bad}
+use Rattle.ufs_spec.specs.Translation.{MarkStep, Mended, Mending, Repairing, StepKind, Translation, Unmarked}
 use Rattle.ufs_spec.specs.Translation.{is_mended}
 use Rattle.ufs_spec.specs.declared.layer.Name.{Name}
 use Rattle.power_loss.specs.Book.{book}

@@ -7,7 +7,7 @@ use Rattle.ufs_spec.specs.Disk as disk
 use Rattle.ufs_spec.specs.Disk.{Spot, at_spot}
 use Rattle.ufs_spec.specs.Moves as moves
 use Rattle.ufs_spec.specs.Translation as layer
-use Rattle.ufs_spec.specs.Translation.{Translation, is_bad, spots}
+use Rattle.ufs_spec.specs.Translation.{Translation}
 use Rattle.power_loss.proofs.jobs.StandsSecurely.{at_spot_other}
 use Rattle.block_table.specs.Blocks.{freed_state}
 use Rattle.block_table.specs.declared.BlockState.{BlockState}

@@ -12,7 +12,7 @@ use Rattle.ufs_spec.specs.Moves as moves
 use Rattle.ufs_spec.specs.Moves.{settled_pin, step_after}
 use Rattle.ufs_spec.specs.Plain.{shape_of_numbers}
 use Rattle.ufs_spec.specs.Translation as layer
-use Rattle.ufs_spec.specs.Translation.{RepairStep, Translation, flies_name, is_bad, is_mended, name_of}
+use Rattle.ufs_spec.specs.Translation.{RepairStep, Translation, flies_name, is_mended, name_of}
 use Rattle.ufs_spec.specs.declared.configs.Numbers.{Numbers}
 use Rattle.ufs_spec.specs.declared.flash.Key.{Key}
 use Rattle.ufs_spec.specs.declared.flash.Place.{Place}

@@ -1,16 +1,14 @@
 -- The lowest block of a die that may be used is the one that the table of live pages finds.
-use Rattle.std.proofs.Common.{◌≡◌, ◌∙◌, ℕ, ◌<◌, ◌&&◌, Bool, true, false, not, Option, None, Some, ap, arith, refl, sym}
+use Rattle.std.proofs.Common.{◌≡◌, ◌∙◌, ℕ, ◌<◌, ◌&&◌, Bool, true, not, Option, None, Some, ap, arith, refl, sym}
 use Rattle.std.proofs.Common.{◌*◌, ◌+◌, slice_get, unwrap_or, length, nat_lt}
 use Rattle.ufs_spec.proofs.Facts.{and_from, and_parts, lt-ltb, ltb-true}
-use Rattle.block_table.specs.Blocks.{Blocks, state_of as table_state}
-use Rattle.block_table.specs.Buckets.{IsLowest}
-use Rattle.block_table.specs.Lives.{Lives, has_block, is_pinned, spot}
+use Rattle.block_table.specs.Blocks.{state_of as table_state}
+use Rattle.block_table.specs.Lives.{has_block, is_pinned, spot}
 use Rattle.block_table.specs.Lowest.{IsLowestBlock, may_be_used as may_be_used_there}
 use Rattle.block_table.specs.Sorted.{same_state}
 use Rattle.block_table.specs.declared.BlockState.{BlockState}
 use Rattle.block_table.specs.declared.BlockState.TheVariants as state
-use Rattle.ftl_core.specs.Core.{Core}
-use Rattle.ftl_core.specs.Moves.{has_pin, is_so, may_be_used, state_of}
+use Rattle.ftl_core.specs.Moves.{is_so, may_be_used, state_of}
 use Rattle.ftl_core.specs.Rooms.{IsRoomy, core_of}
 use Rattle.ftl_core.specs.Takes.{lowest_below}
 use Rattle.ftl_core.specs.declared.ftl.Ftl.TheInside.{Inside}

@@ -1,5 +1,5 @@
 -- The pages where the contents of the first keys stand, one key after another.
-use Rattle.std.proofs.Common.{◌≡◌, ◌∙◌, ℕ, zero, suc, ◌+◌, List, [], ◌∷◌, Option, Some, None, ap, arith, refl, slice_get}
+use Rattle.std.proofs.Common.{◌≡◌, ◌∙◌, ℕ, zero, suc, ◌+◌, List, [], ◌∷◌, Option, ap, arith, refl, slice_get}
 use Rattle.std.proofs.Common.{sym, take}
 use Rattle.std.specs.Prelude.{fold}
 use Rattle.block_table.specs.Lives.{Lives}

@@ -1,8 +1,8 @@
-use Rattle.std.proofs.Common.{◌≡◌, ◌==◌, ◌+◌, ◌∙◌, List, Option, Some, ap, false, length, nat_lt, refl, rules, slice_get, sym}
+use Rattle.std.proofs.Common.{◌≡◌, ◌==◌, ◌+◌, ◌∙◌, List, Some, ap, false, length, nat_lt, refl, rules, slice_get, sym}
 use Rattle.std.proofs.Common.{true, ℕ}
 use Rattle.std.proofs.lemmas.Option.{slice_get_read}
 use Rattle.ufs_bytes.specs.Fields.{field_at}
-use Rattle.ufs_spec.specs.Commands.{Command, Zero}
+use Rattle.ufs_spec.specs.Commands.{Zero}
 use Rattle.ufs_spec.specs.Configs.{command_blocks}
 use Rattle.ufs_spec.specs.DataOuts.{has_list_header}
 use Rattle.ufs_spec.specs.declared.configs.UnitSpec.{UnitSpec}

@@ -1,4 +1,4 @@
-use Rattle.std.proofs.Common.{◌≡◌, ◌∙◌, length, sym, ap}
+use Rattle.std.proofs.Common.{◌∙◌, length, sym, ap}
 use Rattle.std.specs.Vec.{with_items}
 use Rattle.std.proofs.lemmas.List.{length-replicate}
 use Rattle.ufs_spec.specs.Dies.{new_die}

@@ -1,5 +1,5 @@
 use Rattle.std.proofs.Common.{◌∙◌, ap, length, subst}
-use Rattle.ufsim.specs.Images.{AreParts, IsBadByte, IsBlock, IsPage, Reads}
+use Rattle.ufsim.specs.Images.{AreParts, IsBadByte, IsPage, Reads}
 use Rattle.ufsim.proofs.ImageLemmas.{consumes_more, joined, then_ok}
 use Rattle.ufsim.proofs.ImageParts.{bad_byte_length, pages_marked, reads_rest}
 use Rattle.ufs_spec.specs.Dies.{DieState, pages_of}

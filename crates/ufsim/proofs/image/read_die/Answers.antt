@@ -1,4 +1,4 @@
-use Rattle.std.proofs.Common.{◌≡◌, ◌∙◌, ◌+◌, ◌*◌, ap, arith, rules, subst, sym}
+use Rattle.std.proofs.Common.{◌≡◌, ◌∙◌, ◌+◌, ◌*◌, arith, rules, subst, sym}
 use Rattle.std.proofs.lemmas.Grind.{common_steps}
 use Rattle.ufsim.specs.Images.{AreParts, IsBlock, IsDie, Lacks, Took}
 use Rattle.ufsim.proofs.ImageLemmas.{apart_above, block_read, consumes_more}

@@ -1,4 +1,4 @@
-use Rattle.std.proofs.Common.{◌≡◌, ◌∙◌, List, None, Some, ap, arith, false, length, rules, sym, true}
+use Rattle.std.proofs.Common.{◌≡◌, ◌∙◌, List, Some, ap, arith, false, length, rules, sym, true}
 use Rattle.std.specs.Prelude.{option_and_then, slice_get}
 use Rattle.write_cache.specs.declared.slots.Pending.{Pending}
 use Rattle.write_cache.specs.Ready.{first_waiting_from}

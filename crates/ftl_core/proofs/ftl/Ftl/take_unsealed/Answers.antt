@@ -1,4 +1,4 @@
-use Rattle.std.proofs.Common.{◌≡◌, ◌∙◌, Option, rules, subst, sym}
+use Rattle.std.proofs.Common.{◌≡◌, ◌∙◌, Option, rules, subst}
 use Rattle.ufs_spec.specs.declared.flash.Job.{Job}
 use Rattle.ftl_core.specs.Stops.{StopsRightGiven}
 use Rattle.ftl_core.specs.Takes.{job_taken}
