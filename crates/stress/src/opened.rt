@@ -1,7 +1,7 @@
 //! A device over new dies, shared by hosts.
 ghost use Rattle.std.specs.Prelude.{◌≡◌, IfOk, None, length, replicate};
 ghost use Rattle.std.specs.List.{All};
-ghost use Rattle.workbench.specs.RowShape.{row_shape};
+ghost use Rattle.row_messages.specs.RowShape.{row_shape};
 ghost use Rattle.ufs_spec.specs.Dies.{new_die};
 ghost use Rattle.ufs_spec.specs.Plain.{shape_of_numbers};
 

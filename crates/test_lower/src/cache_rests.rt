@@ -3,9 +3,9 @@
 ghost use Rattle.std.specs.Prelude.{◌≡◌, ◌+◌, ◌*◌, ◌^◌, ◌<◌, ◌≤◌, All, length};
 ghost use Rattle.write_cache.specs.Rests.{IsPart};
 
+use row_messages::row_config;
 use std::test::Fail;
 use ufs_spec::{Key, Name, Place, Tag};
-use workbench::row_config;
 use write_cache::{Cache, NewPage, Part, RestSource};
 
 /// Blocks of a page of the RPMB area as a command brings them, from this one on.

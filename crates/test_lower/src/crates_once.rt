@@ -2,12 +2,12 @@
 //! another implementation of SHA-256.
 use geometry::Config;
 use nand_model::{Die, MemDie, work};
+use row_messages::row_config;
 use std::test::Fail;
 use ufs_bytes::{Block, read_u16, read_u32, read_u64, write_u16, write_u32, write_u64};
 use ufs_spec::{
     Cdb, Cmd, ConfigFault, Fence, Job, Outcome, Page, Place, PlainDevice, Sense, Tag, UnitSpec,
 };
-use workbench::row_config;
 
 /// Fields are written and read with their highest byte first.
 #[test]

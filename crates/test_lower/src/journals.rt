@@ -2,12 +2,12 @@
 //! journal takes from messages.
 use geometry::Config;
 use journal::{Entry, FoundRegion, FoundRest, Journal, device_holding, is_kept};
+use row_messages::messages::{FUA, SYNCHRONIZE, WRITE, block_out, command, good};
 use rpmb::RegionState;
 use std::alloc::Global;
 use std::process::Abort;
 use std::test::Fail;
 use ufs_spec::{Block, Cmd, PlainDevice, UnitSpec, commands_keep_the_shape};
-use workbench::messages::{FUA, SYNCHRONIZE, WRITE, block_out, command, good};
 
 /// Two units, of 4 and of 2 blocks.
 fn config() -> Result<Config, Fail> {

@@ -1,7 +1,7 @@
 //! The newest pending page of a key, while pages of it come and leave.
+use row_messages::row_config;
 use std::test::Fail;
 use ufs_spec::{Key, Tag};
-use workbench::row_config;
 use write_cache::Cache;
 
 /// A block of a unit.

@@ -1,8 +1,8 @@
 //! What pages are told to be: pages of groups, marks, and nothing.
 use page_tag::{Content, content_of, contents_of_four, mark_body, seal};
+use row_messages::row_config;
 use std::test::Fail;
 use ufs_spec::{Block, Fence, Numbers, Page, Tag};
-use workbench::row_config;
 
 /// The tag of a page of data.
 const DATA: Tag = Tag {

@@ -2,9 +2,9 @@
 //! searches find them, while pages come, are written, have their rests, and leave.
 use crate::cache_rests::{area_page, settings_page, write};
 use crate::victim_searches::next;
+use row_messages::row_config;
 use std::test::Fail;
 use ufs_spec::{Name, Place};
-use workbench::row_config;
 use write_cache::{Cache, RestSource};
 
 /// The place of the number, on one of four dies or on a fifth, which the device has not.

@@ -1,14 +1,14 @@
 //! What the worked rows say of contents, on the plain device, which is exact by its definition.
 ghost use Rattle.std.specs.Prelude.{◌<◌, IfOk, slice_index_or};
-ghost use Rattle.workbench.specs.RowShape.{HasRowShape, row_shape};
+ghost use Rattle.row_messages.specs.RowShape.{HasRowShape, row_shape};
 ghost use Rattle.ufs_spec.specs.Commands.{command_of};
 ghost use Rattle.ufs_spec.specs.Plain.{CanApply};
 
+use row_messages::row_config;
 use std::alloc::Global;
 use std::process::Abort;
 use std::test::Fail;
 use ufs_spec::{Cmd, PlainDevice, commands_keep_the_shape};
-use workbench::row_config;
 
 /// The three writes that the gap's device accepts, each of one block of unit 0: its address and byte.
 const ACCEPTED: [(u32, u8); 3] = [(0, 0x11), (1, 0x22), (2, 0x33)];

@@ -4,9 +4,9 @@ use descriptors::{
     Descriptor, QueryAnswer, QueryRequest, QuerySettings, Setting, answer, descriptor_told,
     device_descriptor, unit_descriptor,
 };
+use row_messages::row_config;
 use std::test::Fail;
 use ufs_spec::{Asked, Numbers};
-use workbench::row_config;
 
 /// The settings of a new device.
 const NEW: QuerySettings = QuerySettings {

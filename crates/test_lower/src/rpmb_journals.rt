@@ -2,12 +2,12 @@
 //! what was found of it. The MACs are those of another HMAC with SHA-256.
 use geometry::Config;
 use journal::{Entry, FoundRegion, FoundRest, Journal, can_apply, device_holding, is_kept};
+use row_messages::frames::{FrameBytes, Numbers, frame, frames_command, frames_good, frames_out};
 use rpmb::RegionState;
 use std::alloc::Global;
 use std::process::Abort;
 use std::test::Fail;
 use ufs_spec::{Block, Cmd, PlainDevice, UnitSpec, commands_keep_the_shape};
-use workbench::frames::{FrameBytes, Numbers, frame, frames_command, frames_good, frames_out};
 
 /// The key.
 const KEY: [u8; 32] = [0x0B; 32];

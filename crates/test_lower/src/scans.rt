@@ -9,11 +9,11 @@ use geometry::Config;
 use nand_model::{Die, MemDie};
 use page_tag::{mark_body, seal};
 use recovery::{Found, FoundBlock, fit, scan};
+use row_messages::row_config;
 use std::alloc::Global;
 use std::process::Abort;
 use std::test::Fail;
 use ufs_spec::{Block, Fence, Job, OpenFault, Page, Place, Tag, UnitSpec};
-use workbench::row_config;
 
 /// New dies hold nothing. A block that is bad is told bad, and no other is.
 #[test]

@@ -4,12 +4,12 @@ use crate::scans::{at, data, mark, put, row_dies, settings};
 use geometry::Config;
 use nand_model::{Die, MemDie};
 use recovery::{Found, fit, scan, scan_parallel};
+use row_messages::row_config;
 use std::alloc::Global;
 use std::process::Abort;
 use std::test::Fail;
 use std::thread::Threads;
 use ufs_spec::{Fence, OpenFault};
-use workbench::row_config;
 
 /// Four dies with pages, an older mark behind the newest, a fence, a lost page, a bad block and
 /// settings, each die with some of it.

@@ -5,12 +5,12 @@ use journal::{
     Entry, FoundRegion, FoundRest, Journal, Setting, device_holding, is_kept,
     settings_pass_the_table,
 };
+use row_messages::messages::{FUA, SYNCHRONIZE, WRITE, block_out, command, good};
 use rpmb::RegionState;
 use std::alloc::Global;
 use std::process::Abort;
 use std::test::Fail;
 use ufs_spec::{Block, Cmd, PlainDevice, UnitSpec, commands_keep_the_shape};
-use workbench::messages::{FUA, SYNCHRONIZE, WRITE, block_out, command, good};
 
 /// A QUERY REQUEST with this function, opcode and IDN, and this value.
 fn query(tag: u8, function: u8, opcode: u8, idn: u8, value: u8) -> [u8; 32] {

@@ -1,9 +1,9 @@
 //! A settings page, with bytes that are written by hand from its layout.
 use crate::scans::{at, put, row_dies, scanned, sealed_settings};
+use row_messages::row_config;
 use settings::{Settings, is_settings_page};
 use std::test::Fail;
 use ufs_spec::Block;
-use workbench::row_config;
 
 /// Boot unit 2, permanent protection, a key and a counter: each is read from its bytes, and the page
 /// is written again.

@@ -1,9 +1,9 @@
 //! Units and what is told of them, as worked by hand, over the configuration of the worked rows: the
 //! bytes are those of SPC, and the LUN bytes those of JESD220, 10.8.5.
 use lun_route::{Lun, inquiry_bytes, luns_bytes, route_of, units_listed};
+use row_messages::row_config;
 use std::test::Fail;
 use ufs_spec::Sense;
-use workbench::row_config;
 
 /// READ(10), SYNCHRONIZE CACHE(10), and UNMAP.
 const READ: u8 = 0x28;

@@ -1,12 +1,12 @@
 //! What a journal takes from the lists of UNMAPs and from task management requests.
 use geometry::Config;
 use journal::{Entry, Journal, unmaps_are_those_accepted};
+use row_messages::messages::{FUA, SYNCHRONIZE, WRITE, block_out, command, good};
 use rpmb::RegionState;
 use std::alloc::Global;
 use std::process::Abort;
 use std::test::Fail;
 use ufs_spec::{Cmd, UnitSpec};
-use workbench::messages::{FUA, SYNCHRONIZE, WRITE, block_out, command, good};
 
 /// A life of a device with one unit of 64 blocks begins, without a key.
 fn begun(alloc: Global) -> Result<Journal, Fail> {

@@ -4,11 +4,11 @@
 use block_table::{BlockAt, BlockState, BlockTable, LivePages, Probes, Sizes};
 use collector::{Plan, PlanStep, PlannedCopy};
 use geometry::Config;
+use row_messages::row_config;
 use std::alloc::Global;
 use std::test::Fail;
 use ufs_spec::{Key, Name, Place, Tag, UnitSpec};
 use unit_map::{Stored, UnitMap};
-use workbench::row_config;
 use write_cache::Cache;
 
 const SIZES: Sizes = Sizes {

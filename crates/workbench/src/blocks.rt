@@ -1,6 +1,6 @@
 //! Writes and reads of single blocks of unit 0, one at a time.
 use crate::Workbench;
-use crate::messages::{FUA, READ, WRITE, block_out, command, good, is_block, ready};
+use row_messages::messages::{FUA, READ, WRITE, block_out, command, good, is_block, ready};
 
 /// The task tags of the writes and of the reads.
 const WRITING: u8 = 7;

@@ -1,7 +1,7 @@
 //! Devices that are written until blocks are collected.
 use crate::Workbench;
-use crate::messages::{READ, WRITE, block_out, command, good, is_block, ready};
 use nand_model::{Die, MemDie};
+use row_messages::messages::{READ, WRITE, block_out, command, good, is_block, ready};
 use std::alloc::Global;
 use ufs_spec::{Job, NoMemory, Page, Place};
 

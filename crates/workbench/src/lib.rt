@@ -1,5 +1,5 @@
-//! What tests and programs share: a device over dies in memory, driven by its five calls alone, the
-//! configuration of the worked rows, and the messages of a host. After `new` the device takes no memory.
+//! What tests and programs share: a device over dies in memory, driven by its five calls alone. After `new`
+//! the device takes no memory. What is said to it is `row_messages`, which is passed on here.
 #![tactic(auto)]
 
 ghost use Rattle.std.specs.Prelude.{IfOk};
@@ -10,15 +10,13 @@ ghost use Rattle.device.specs.Describes.{Describes};
 
 mod blocks;
 pub mod collected;
-mod config;
-pub mod frames;
-pub mod messages;
+mod requests;
 
-pub use config::{row_config, small_config, spared_config};
 use device::Device;
 use geometry::Config;
 use nand_model::{MemDie, work};
 use recovery::fit;
+pub use row_messages::{frames, messages, row_config, small_config, spared_config};
 use std::alloc::Global;
 use ufs_spec::{HostFault, Job, NoMemory, OpenFault, Upiu};
 

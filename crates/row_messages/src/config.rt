@@ -1,6 +1,6 @@
-//! The configuration of the worked rows, and a small one.
+//! The configuration of the worked rows, and two small ones.
 ghost use Rattle.std.specs.Prelude.{◌≡◌, IfOk};
-ghost use Rattle.workbench.specs.RowShape.{row_shape};
+ghost use Rattle.row_messages.specs.RowShape.{row_shape};
 ghost use Rattle.ufs_spec.specs.Plain.{shape_of_numbers};
 
 use geometry::Config;
