@@ -1,4 +1,5 @@
 """Finds the functions of a .rt file and their bodies, and which functions a changed text touches."""
+import functools
 import re
 from typing import NamedTuple, Tuple
 
@@ -101,6 +102,7 @@ def owners(text):
     return found
 
 
+@functools.lru_cache(maxsize=None)
 def functions(file, text):
     """The functions of a file; one within another counts as a part of it."""
     plain, found = blanked(text), []
@@ -113,7 +115,7 @@ def functions(file, text):
         begin = with_attributes(plain, head.start())
         is_plain = head["name"] != "main" and not ONLY_ONCE.search(plain, begin, head.start())
         found.append(Function(file, owner, head["name"], *body, begin, head.start("name"), is_plain and not of_trait))
-    return found
+    return tuple(found)
 
 
 def using(texts, name):

@@ -10,9 +10,13 @@ hold signatures with contracts, definitions and lemmas. A check of a crate reads
 one changed, rt says `checked=0` of the modules above. So where only bodies below changed, with the
 answers that prove them, the verdict is found by this sum.
 
+A third sum leaves out, of the crate's own functions, the bodies of those that the edit does not touch, and
+the files that prove them. A check of one function reads of the others their heads and contracts alone.
+
 Only a verdict that is as it must be is kept. All lies in the user's cache, none of it in the repository.
 """
 import contextlib
+import functools
 import hashlib
 import json
 import os
@@ -22,6 +26,7 @@ import sys
 import tempfile
 import time
 
+from bodies import functions
 from crates import below, lines_of
 
 HERE = pathlib.Path(__file__).resolve().parent
@@ -83,8 +88,9 @@ def texts_sum(root, crate):
     return sum_of(settings(root, names), [own_texts(root, name) for name in names])
 
 
-def stated_sum(root, crate):
-    """A sum of the texts of a crate and of what the crates below it state; None, if one is not built."""
+@functools.lru_cache(maxsize=None)
+def stated_below(root, crate):
+    """A sum of what the crates below a crate state, and of their lines; None, if one is not built."""
     names = below(crate, root)
     places = [root / "crates" / name / "out" / "rlib" / f"{name}.rlib" for name in names]
     if not all((place / part).is_dir() for place in places for part in STATED):
@@ -92,7 +98,37 @@ def stated_sum(root, crate):
     files = [(place.name, part, files_in(place / part)) for place in places for part in STATED]
     stated = [(name, part, [it for it in found if pathlib.PurePath(it[0]).name not in OF_BODIES])
               for name, part, found in files]
-    return sum_of(settings(root, [*names, crate]), own_texts(root, crate), stated)
+    return sum_of(settings(root, [*names, crate]), stated)
+
+
+def stated_sum(root, crate):
+    """A sum of the texts of a crate and of what the crates below it state; None, if one is not built."""
+    stated = stated_below(root, crate)
+    return stated and sum_of(own_texts(root, crate), stated)
+
+
+def without_bodies(file, text, kept):
+    """A text of code without the bodies of functions, but for these. A body that may not stand twice stays, since
+    others may be proved together with it."""
+    for it in reversed(functions(file, text)):
+        if it.may_be_copied and it not in kept:
+            text = text[: it.start] + text[it.end :]
+    return text
+
+
+def proves_another(path, kept):
+    """Whether a file of proofs/ proves a function, and none of these. One that proves a cycle may prove any."""
+    parts = pathlib.PurePath(path).parts
+    names = {it.name for it in kept}
+    return parts[-1] in OF_BODIES and not names & set(parts) and not any(it.startswith("+") for it in parts)
+
+
+def apart_sum(own, kept, stated):
+    """A sum of what a check of these functions of a crate reads, which has these texts, where those below it state
+    what has this sum."""
+    source, specs, proofs = own
+    code = [(path, without_bodies(f"src/{path}", text.decode(), kept)) for path, text in source]
+    return sum_of("apart", code, specs, [it for it in proofs if not proves_another(it[0], kept)], stated)
 
 
 class Verdicts:

@@ -47,7 +47,7 @@ from copies import AS_IT_STANDS, Ambiguous, added, copy_of
 from crates import ROOT, below
 from edits import Fault, changed, crates_of, edits_of, must_fail_edits, places, read_texts, together
 from round_copy import RoundCopy, build_below, is_built, is_of_gate, is_proved, prove
-from verdicts import Verdicts, stated_sum, texts_sum
+from verdicts import Verdicts, apart_sum, own_texts, stated_below, stated_sum, texts_sum
 
 # A check takes up to so much memory.
 CHECK_BYTES = 4_000_000_000
@@ -55,8 +55,8 @@ CHECK_BYTES = 4_000_000_000
 MOST = 100
 # A function that takes so many seconds is worth a line.
 LONG = 5
-# What a verdict is made from, in two sums. The first is there at once. The second leaves out the bodies
-# below and stays the same where only one of them changes; it wants the libraries below.
+# What a verdict is made from, in two sums over a whole crate. The first is there at once. The second leaves out
+# the bodies below and stays the same where only one of them changes; it wants the libraries below.
 READ = (texts_sum, stated_sum)
 # What rt must-fail calls unreadable: an error in the code, or in the edited text.
 UNREAD = re.compile(r"^(?:\./)?src/\S+?:\d+:\d+: error: (?!`)", re.MULTILINE)
@@ -105,15 +105,31 @@ class Crate:
         """Takes the verdicts that earlier runs kept over what is read: only the other edits are tried."""
         self.verdicts = verdicts
         self.sums.append(read(ROOT, self.name))
-        for edit in [it for it in self.all() if it not in self.kept] if self.sums[-1] else ():
-            name = verdicts.name_of(self.sums[-1], edit, self.control)
-            self.names.setdefault(edit.name, []).append(name)
-            words = verdicts.words(name)
-            if words:
-                self.keep(edit, words)
-                self.kept.append(edit)
-        self.good = list(self.kept)
-        self.is_control_proved = self.control in self.kept
+        for edit in self.left() if self.sums[-1] else ():
+            self.look_up_one(edit, self.sums[-1])
+
+    def look_up_apart(self):
+        """The same over what a check of the functions reads that an edit touches, if they are known. It needs the
+        whole crate proved, since this sum leaves out what the others do."""
+        own, stated = own_texts(ROOT, self.name), stated_below(ROOT, self.name)
+        for edit in self.left() if stated and not self.unproved else ():
+            if self.functions[edit.name]:
+                self.look_up_one(edit, apart_sum(own, self.functions[edit.name], stated))
+
+    def look_up_one(self, edit, read):
+        """Takes the verdict that an earlier run kept on an edit, where what is read has this sum."""
+        name = self.verdicts.name_of(read, edit, self.control)
+        self.names.setdefault(edit.name, []).append(name)
+        words = self.verdicts.words(name)
+        if words:
+            self.keep(edit, words)
+            self.kept.append(edit)
+            self.good.append(edit)
+            self.is_control_proved |= edit is self.control
+
+    def left(self):
+        """The edits that no earlier run kept a verdict of, with the control."""
+        return [it for it in self.all() if it not in self.kept]
 
     def keep(self, edit, words):
         """Keeps a verdict under each of its names."""
@@ -134,14 +150,17 @@ class Crate:
                 lines.append(f"{edit.path.relative_to(ROOT)}: {fault}")
         return lines
 
-    def plan(self):
-        """Puts the edits that are to be tried into rounds."""
+    def touch(self):
+        """Finds the functions that each edit touches."""
         for edit in self.all():
             self.places[edit.name] = places(edit, self.texts)
             parts = [touched(self.texts, *it[:3]) for it in self.places[edit.name] or []]
             # With a part outside of all bodies nobody knows what the edit touches.
             self.functions[edit.name] = {it for part in parts for it in part} if parts and all(parts) else set()
             self.copy(edit)
+
+    def plan(self):
+        """Puts the edits that are to be tried into rounds."""
         kept = self.functions[self.control.name] if self.control else set()
         left = [it for it in self.edits if it not in self.kept]
         # Those of one function come together, so that its copy with its own body is mostly in one round.
@@ -356,6 +375,7 @@ def lanes_here(asked):
 def listed(crates):
     """Shows the rounds of all edits."""
     for crate in crates:
+        crate.touch()
         crate.plan()
         for number, room in enumerate(crate.rounds, 1):
             print(f"{crate.name}, round {number}: {' '.join(edit.name for edit in room)}")
@@ -397,10 +417,13 @@ def tried(crates, after_gate, lanes):
         return 2
     for it in left:
         it.look_up(it.verdicts, stated_sum)
-        it.plan()
     left = [it for it in left if not it.is_done()]
     for it in sorted(left, key=lambda it: len(below(it.name))):
         it.stand_on_proof(of_gate)
+        it.touch()
+        it.look_up_apart()
+        it.plan()
+    left = [it for it in left if not it.is_done()]
     names = " ".join(it.name for it in left) or "none"
     print(f"wrong bodies: {len(left)} of {len(crates)} crates have some to be tried: {names}", flush=True)
     with concurrent.futures.ThreadPoolExecutor(lanes_here(lanes)) as pool:

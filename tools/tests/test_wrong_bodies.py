@@ -108,7 +108,8 @@ class WrongBodies(unittest.TestCase):
         self.assertEqual((tried, kept), found[:2], said)
         self.assertEqual(f"{passed} passed, {failed} failed", said.splitlines()[-1], said)
         self.assertEqual(1 if failed else 0, found[3], said)
-        self.assertEqual(tried > 0, bool(self.repository.checks()), said)
+        checks = self.repository.checks()
+        self.assertTrue(checks if tried else set(checks) <= {"upper lib"}, said)
 
     def test_nothing_is_tried_where_nothing_changed(self):
         before = self.repository.files()
@@ -123,9 +124,21 @@ class WrongBodies(unittest.TestCase):
         self.repository.change("wrong_bodies/upper/control.edit", "10 + 20", "15 + 15")
         self.sees(tried=ALL, kept=0)
 
-    def test_all_edits_are_tried_again_where_a_source_line_changed(self):
-        self.repository.change("crates/upper/src/lib.rt", "40", "39 + 1")
+    def test_all_edits_are_tried_again_where_a_line_outside_of_bodies_changed(self):
+        self.repository.change("crates/upper/src/lib.rt", "pub fn forty", "/// Forty.\npub fn forty")
         self.sees(tried=ALL, kept=0)
+
+    def test_the_edits_of_a_function_are_tried_again_where_a_line_of_its_body_changed(self):
+        self.repository.change("crates/upper/src/lib.rt", "20", "20 + 0")
+        self.sees(tried=1, kept=ALL - 1)
+
+    def test_no_edit_is_tried_again_where_only_the_body_of_another_function_changed(self):
+        self.repository.change("crates/upper/src/lib.rt", "40", "39 + 1")
+        self.repository.write("crates/upper/proofs/forty/Answers.antt", PROOF.replace("ten", "forty"))
+        self.sees(tried=0, kept=ALL)
+        self.repository.change("crates/upper/src/lib.rt", "39 + 1", "38 + 2")
+        self.repository.write("crates/upper/proofs/twenty/Answers.antt", PROOF.replace("ten", "twenty"))
+        self.sees(tried=1, kept=ALL - 1)
 
     def test_all_edits_are_tried_again_where_a_proof_or_a_definition_changed(self):
         self.repository.write("crates/upper/proofs/Lib.antt", "-- a line\n")
