@@ -1,6 +1,6 @@
-//! Times a device whose dies are served by one to four lanes, each in a thread of its own, and scans by one
-//! to four workers, beside SHA-256 alone on as many threads in the same run; and how long the core is held
-//! for a block.
+//! Times a device of one to four lanes with as many hosts, each in a thread of its own, and scans
+//! by one to four workers, beside SHA-256 alone on as many threads in the same run; and how long
+//! the core is held for a block.
 mod hashes;
 mod held;
 mod host;

@@ -1,4 +1,5 @@
-//! A device of one to four dies, each of which a lane in a thread of its own serves.
+//! A device of one to four dies and as many hosts. A thread of its own serves the lane of each die,
+//! and each host has one too.
 ghost use Rattle.std.specs.Prelude.{◌≡◌, ◌≤◌, IfOk, None, length, replicate};
 ghost use Rattle.std.specs.List.{All};
 ghost use Rattle.std.specs.Thread.{IsSync};
@@ -7,11 +8,11 @@ ghost use Rattle.ufs_spec.specs.Dies.{new_die};
 use crate::clock::{a_second, percent, since};
 use crate::threads::COUNT;
 use crate::threads::hashes::hashed_a_second;
-use crate::threads::host::Host;
+use crate::threads::host::{Host, OPEN, Round};
 use anyhow::{Result, bail, ensure};
 use device::Device;
 use geometry::Config;
-use lanes::{Keeper, Lane, Shared};
+use lanes::{Keeper, Lane, Port, Shared};
 use nand_model::MemDie;
 use std::alloc::Global;
 use std::rt::Clock;
@@ -28,7 +29,8 @@ const BLOCKS: u16 = 128;
 
 const PAGES: u16 = 64;
 
-/// So many dies with room for the blocks twice, and 256 slots.
+/// So many dies with room for the blocks twice, and a slot for each block of the commands that four
+/// hosts have open.
 fn config(dies: u8) -> Result<Config, ConfigFault>
     ensures { IfOk result (λ c. (c.dies ≡ dies) × (c.blocks ≡ 128) × (c.pages ≡ 64)) }
 {
@@ -37,7 +39,7 @@ fn config(dies: u8) -> Result<Config, ConfigFault>
         boot: 0,
         protect: 0,
     }];
-    Config::new(dies, BLOCKS, PAGES, &units, 1, 256, 4)
+    Config::new(dies, BLOCKS, PAGES, &units, 1, 512, 4)
 }
 
 /// So many new dies.
@@ -52,17 +54,34 @@ fn new_dies(alloc: Global, dies: u8) -> Result<Vec<MemDie>, NoMemory>
     Ok(all)
 }
 
-/// A device over new dies, shared with one host.
+/// A device over new dies, shared with as many hosts.
 fn shared(alloc: Global, dies: u8) -> Result<Shared<MemDie>>
     ensures { IfOk result (λ s. All (λ l. l.ended ≡ None) s.lanes.items) }
 {
+    let hosts = dies;
     let config = config(dies)?;
     let mut dies = new_dies(alloc, dies)?;
     let device = Device::open(alloc, config, dies.as_mut_slice())?;
-    let Ok(shared) = Shared::new(alloc, device, dies, 1) else {
+    let Ok(shared) = Shared::new(alloc, device, dies, hosts) else {
         bail!("no memory");
     };
     Ok(shared)
+}
+
+/// A host at each port.
+fn hosts_at(alloc: Global, ports: Vec<Port<MemDie>>) -> Result<Vec<Host>> {
+    let mut hosts = Vec::with_capacity(alloc, ports.len())?;
+    let mut first = 0u8;
+    for port in ports {
+        hosts.push(Host {
+            port,
+            first,
+            reply: Upiu::new(),
+            out: block_out(0, 0, 0x5A),
+        })?;
+        first = first.saturating_add(OPEN);
+    }
+    Ok(hosts)
 }
 
 /// Each lane in a thread of its own, until the flag is set.
@@ -79,6 +98,24 @@ fn serve<R: Threads + Wait + Sync + Clock>(rt: &R, lanes: &mut [Lane<MemDie>], s
     thread::for_each_mut(rt, lanes, threads, &serve);
 }
 
+/// What a round takes by hosts each of which is in a thread of its own, in nanoseconds.
+fn time_round<R: Threads + Wait + Sync + Clock>(
+    rt: &R,
+    hosts: &mut [Host],
+    round: &Round,
+) -> Result<u64> {
+    let threads = hosts.len();
+    ensure!(threads > 0, "there is no host");
+    let works = |_: usize, host: &mut Host|
+        requires { IsSync R.row }
+    { host.works(rt, round) };
+    let start = Instant::now(rt)?;
+    thread::for_each_mut(rt, hosts, threads, &works);
+    let passed = since(rt, start)?;
+    ensure!(round.is_good(), "a command was not answered GOOD");
+    Ok(passed)
+}
+
 /// What writes and reads took, in nanoseconds for all blocks.
 #[derive(Clone, Copy)]
 struct Times {
@@ -86,43 +123,42 @@ struct Times {
     reads: u64,
 }
 
-/// The host at work.
-fn measure<R: Wait + Clock>(
+/// The hosts at work.
+fn measure<R: Threads + Wait + Sync + Clock>(
     rt: &R,
-    host: &mut Host,
+    hosts: &mut [Host],
     keeper: &mut Keeper<MemDie>,
     stop: &AtomicBool,
 ) -> Result<Times> {
+    let Some(host) = hosts.first_mut() else {
+        bail!("there is no host");
+    };
     ensure!(
         host.waits_until_ready(rt, stop, keeper),
         "the device does not become ready"
     );
-    let start = Instant::now(rt)?;
-    ensure!(host.writes_all(rt, stop), "a write was not GOOD");
-    let writes = since(rt, start)?;
-    let start = Instant::now(rt)?;
-    ensure!(host.reads_all(rt, stop), "a read was not GOOD");
-    let reads = since(rt, start)?;
+    let writes = time_round(rt, hosts, &Round::of_writes())?;
+    let reads = time_round(rt, hosts, &Round::of_reads())?;
     Ok(Times { writes, reads })
 }
 
-/// The host, and then the end of all lanes. `None` where something went wrong.
-fn run_host<R: Wait + Clock>(
+/// The hosts, and then the end of all lanes. `None` where something went wrong.
+fn run_hosts<R: Threads + Wait + Sync + Clock>(
     rt: &R,
-    host: &mut Host,
+    hosts: &mut [Host],
     keeper: &mut Keeper<MemDie>,
     stop: &AtomicBool,
 ) -> Option<Times> {
-    let times = measure(rt, host, keeper, stop);
+    let times = measure(rt, hosts, keeper, stop);
     stop.store(true, Ordering::SeqCst);
     times.ok()
 }
 
-/// The lanes beside the host.
+/// The lanes beside the hosts.
 fn run<R: Threads + Wait + Sync + Clock>(
     rt: &R,
     lanes: &mut [Lane<MemDie>],
-    host: &mut Host,
+    hosts: &mut [Host],
     keeper: &mut Keeper<MemDie>,
 ) -> Option<Times>
     requires { All (λ l. l.ended ≡ None) lanes.old }
@@ -133,32 +169,27 @@ fn run<R: Threads + Wait + Sync + Clock>(
         ||
             requires { IsSync R.row × All (λ l. l.ended ≡ None) lanes.now }
         { serve(rt, lanes, &stop) },
-        || { run_host(rt, host, keeper, &stop) },
+        ||
+            requires { IsSync R.row }
+        { run_hosts(rt, hosts, keeper, &stop) },
     )
     .1
 }
 
-/// Writes and reads of all blocks by so many lanes, and as many threads that hash alone.
+/// Writes and reads of all blocks by so many lanes and hosts, and as many threads that hash alone.
 pub fn time_lanes<R: Threads + Wait + Sync + Clock + Eprint>(
     rt: &R,
     alloc: Global,
     count: u8,
 ) -> Result<()> {
     let Shared {
-        mut ports,
+        ports,
         mut lanes,
         mut keeper,
     } = shared(alloc, count)?;
-    let Some(port) = ports.pop() else {
-        bail!("there is no port");
-    };
-    let mut host = Host {
-        port,
-        reply: Upiu::new(),
-        out: block_out(0, 0, 0x5A),
-    };
+    let mut hosts = hosts_at(alloc, ports)?;
     let before = hashed_a_second(rt, alloc, count)?;
-    let Some(times) = run(rt, lanes.as_mut_slice(), &mut host, &mut keeper) else {
+    let Some(times) = run(rt, lanes.as_mut_slice(), hosts.as_mut_slice(), &mut keeper) else {
         bail!("a write or a read was not answered GOOD");
     };
     let after = hashed_a_second(rt, alloc, count)?;
