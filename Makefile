@@ -38,7 +38,7 @@ help:
 	@echo 'make check-sees            sees that ufsim check tells of some wrong bodies; builds without proving'
 	@echo 'make turned-rules          turns rules of the specification around, and sees that a law refuses each'
 	@echo 'make refused-memory        refuses each allocation of each call that takes memory, and those of ufsim run'
-	@echo '                           and ufsim check, one at a time; builds without proving'
+	@echo '                           and ufsim check, each in a run of its own; builds without proving: ten minutes'
 	@echo 'make power-cycles          proves and plays rows of 10,000 lives, each of which ends with a stop: hours'
 
 # Without the kit nothing can be proved or built. Under -q make runs nothing, adds no line of its own,

@@ -1,14 +1,15 @@
 #!/usr/bin/env python3
 """Refuses in turn the allocations that ufsim makes while it runs a script or checks one.
 
-usage: refuse_in_ufsim.py [--each N]
+usage: refuse_in_ufsim.py [--each N] [--jobs N]
 
 rt try refuses one allocation by its number, and gives those behind it. So a copy of ufsim takes memory
 before all else, once for each byte of standard input, so that any allocation of its own may come to have
-this number. At the end the copy tells how often it is given more. It is built twice without a proof: first
-to see what each script prints with memory and how many allocations it makes, and then for runs in which
-these are refused, one in each. The scripts stand in tools/refused_memory/. A check makes many allocations
-three times, for the three contents of pages at a stop, so of its own each seventh is refused.
+this number. At the end the copy tells how often it is given more. It is built once, without a proof, and run
+to see what each script prints with memory and how many allocations it makes. Then these are refused, one in
+a run, and as many runs go on side by side as there are processors, or as --jobs says, if that is less. The
+scripts stand in tools/refused_memory/. A check makes many allocations three times, for the three contents of
+pages at a stop, so of its own each seventh is refused.
 
 Where an allocation is refused, standard output has to be a beginning of what the script prints with
 memory, in whole lines. Standard error has the one line `ufsim: line L: memory`, where L is the line whose
@@ -16,8 +17,8 @@ output would come next, or the last `unit` line if it was the opening of the dev
 begun it is `ufsim: memory`. The status is 1. What is refused later never names an earlier line. Or the
 allocation was not needed: all is as it is with memory.
 
-With --each N it is each Nth of both, and with N = 1 it is all. The last line is 'N passed, M failed', one for
-each script. The status is 0 only if none failed.
+With --each N it is each Nth of both, and with N = 1 it is all. Each script has a line as its last run ends.
+The last line is 'N passed, M failed', one for each script. The status is 0 only if none failed.
 """
 import argparse
 import pathlib
@@ -29,10 +30,12 @@ import tempfile
 from typing import NamedTuple
 
 from crates import ROOT, needed
-from refusals import REFUSED, Case, Fault, tried
+from refusals import REFUSED, Case, Fault, built, jobs_here, say
 
 PROGRAM = "ufsim_main"
 SCRIPTS = ROOT / "tools" / "refused_memory"
+HEAD = ("butcherford: some 750 allocations of ufsim are refused, each in a run of its own; "
+        "about 2 minutes on four processors, 4 on two")
 # What is done with scripts, and which part of the allocations is refused.
 ACTIONS = {"run": 1, "check": 7}
 # What is changed in the copy's main.rt. Each text stands there once.
@@ -82,7 +85,7 @@ class Script(NamedTuple):
 
     def case(self, number):
         """The case in which the program's allocation of this number is refused; none, if it is REFUSED."""
-        return Case((self.action, self.file().name), b"." * (REFUSED - number))
+        return Case((self.action, self.file().name), "." * (REFUSED - number))
 
     def lines(self):
         """The numbers of the lines that say something: first those of which the device is opened, then the others."""
@@ -127,14 +130,6 @@ def write_copy(folder):
     main.write_text(text + ADDED, encoding="utf-8")
 
 
-def ran(folder, numbers):
-    """What came of each script with each of its allocations refused that has one of these numbers; REFUSED is none."""
-    names = {script: [f"{script.action}_{it}" for it in numbers[script]] for script in numbers}
-    cases = {name: script.case(number) for script in numbers for name, number in zip(names[script], numbers[script])}
-    runs = tried(folder / "crates" / PROGRAM, cases, [script.file() for script in numbers])
-    return {script: [runs[name] for name in names[script]] for script in numbers}
-
-
 def count_of(script, run):
     """How many allocations the program made in a run to which none was refused before its end."""
     lines = len(script.lines()[1]) if script.action == "run" else 1
@@ -152,37 +147,46 @@ def is_good(script, wanted, numbers, found):
             continue
         place = script.place(wanted, output)
         if place is None or place < last:
-            print(f"{script.action}: with its allocation {number} refused, behind one of line {last}, it ended with "
-                  f"status {output.status}, said {output.stderr!r}, and printed {output.stdout[-200:]!r}")
+            say(f"{script.action}: with its allocation {number} refused, behind one of line {last}, it ended "
+                f"with status {output.status}, said {output.stderr[:400]!r}, and printed "
+                f"{output.stdout[-200:]!r}")
             return False
         last = place
-    print(f"{script.action}: {len(numbers)} of {numbers.stop - 1} allocations were refused, the last at line {last}, "
-          f"and {free} of them were not needed")
+    say(f"{script.action}: {len(numbers)} of {numbers.stop - 1} allocations were refused, the last at line "
+        f"{last}, and {free} of them were not needed")
     return True
 
 
-def judged(folder, each):
-    """Whether each script is right."""
+def judged(folder, each, jobs):
+    """Whether each script is right, as soon as it is known."""
     write_copy(folder)
-    with_memory = {script: run for script, (run,) in ran(folder, {it: [REFUSED] for it in scripts()}).items()}
+    files = [script.file() for script in scripts()]
+    cases = [script.case(REFUSED) for script in scripts()]
+    program = built(folder / "crates" / PROGRAM, cases, folder, files)
+    with_memory = {script: program.seen[case] for script, case in zip(scripts(), cases)}
     numbers = {script: range(1, count_of(script, run) + 1, each or ACTIONS[script.action])
                for script, run in with_memory.items()}
-    return [is_good(script, with_memory[script].output, numbers[script], [it.output for it in runs])
-            for script, runs in ran(folder, numbers).items()]
+    groups = {script: [script.case(number) for number in numbers[script]] for script in numbers}
+    for script, found in program.refused(groups, jobs):
+        yield is_good(script, with_memory[script].output, numbers[script], found)
 
 
 def main():
     parser = argparse.ArgumentParser(description="Refuses the allocations of ufsim in turn.")
     parser.add_argument("--each", type=int, default=0, metavar="N", help="refuse each Nth allocation of both scripts")
-    each = max(0, parser.parse_args().each)
+    parser.add_argument("--jobs", type=int, default=0, metavar="N", help="run at most so many cases at once")
+    asked = parser.parse_args()
+    say(HEAD)
+    good = []
     with tempfile.TemporaryDirectory(prefix="refuse_in_ufsim.") as folder:
         try:
-            good = judged(pathlib.Path(folder), each)
+            for it in judged(pathlib.Path(folder), max(0, asked.each), jobs_here(asked.jobs)):
+                good.append(it)
         except Fault as fault:
-            print(fault)
-            good = [False] * len(scripts())
-    print(f"{good.count(True)} passed, {good.count(False)} failed")
-    return 0 if all(good) else 1
+            say(fault)
+    count = len(scripts())
+    say(f"{good.count(True)} passed, {count - good.count(True)} failed")
+    return 0 if good.count(True) == count else 1
 
 
 if __name__ == "__main__":

@@ -2,6 +2,7 @@
 import contextlib
 import io
 import pathlib
+import subprocess
 import sys
 import tempfile
 import unittest
@@ -103,7 +104,36 @@ class Calls(unittest.TestCase):
             found = [outputs[it] for it in told]
             self.assertEqual(is_good, quietly(refuse_memory.is_good, words, found), told)
 
+    def test_what_is_wrong_names_the_call_and_the_allocation(self):
+        found = [Output("", "no memory\n", 1), Output("scan: right\n", "", 0), Output("", "a fault\n", -6)]
+        with contextlib.redirect_stdout(io.StringIO()) as said:
+            self.assertFalse(refuse_memory.is_good(("refused", "scan"), found))
+        self.assertIn("scan: with its allocation 3 refused it ended with status -6", said.getvalue())
+
     def test_the_row_makes_no_allocation_once_its_device_is_open(self):
         row, opened = refuse_memory.ROW, refuse_memory.OPENED
         self.assertTrue(quietly(refuse_memory.is_row_good, {row: 9, opened: 9}))
         self.assertFalse(quietly(refuse_memory.is_row_good, {row: 10, opened: 9}))
+
+
+class ByItself(unittest.TestCase):
+    """A program is kept while rt runs it, and has to do by itself what it did there."""
+
+    def test_what_is_kept_is_run_in_the_cases_of_each_group(self):
+        with tempfile.TemporaryDirectory(prefix="refusals_test.") as name:
+            folder, there = pathlib.Path(name), pathlib.Path(name, "below", "of_rt", "run", "program")
+            there.parent.mkdir(parents=True)
+            there.write_text('cat\necho $1\necho "left $2" >&2\nexit $3\n', encoding="utf-8")
+            program = refusals.Program(folder)
+            with subprocess.Popen(["sh", str(there)], stdin=subprocess.PIPE, stdout=subprocess.DEVNULL,
+                                  stderr=subprocess.DEVNULL):
+                program.look(folder / "below")
+            there.unlink()
+            one, two = refusals.Case(("one", "7", "0")), refusals.Case(("two", "8", "1"), "given ")
+            program.seen = {one: refusals.Run(Output("one\n", "", 0), 7)}
+            found = list(program.refused({"first": [one, two], "last": [one]}, 2))
+            program.seen[two] = program.seen[one]
+            with self.assertRaises(refusals.Fault):
+                list(program.refused({"first": [one]}, 2))
+        of_one, of_two = Output("one\n", "", 0), Output("given two\n", "", 1)
+        self.assertEqual([("first", [of_one, of_two]), ("last", [of_one])], found)
