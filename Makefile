@@ -109,7 +109,7 @@ stress:
 	@python3 tools/stress.py
 
 fuzz:
-	@python3 -B tools/fuzz.py --bits --scripts 2000
+	@python3 -B tools/fuzz.py --bits --scripts 2000 --long 20 --over 20
 
 wrong-bodies:
 	@python3 tools/wrong_bodies.py

@@ -3,12 +3,13 @@
 
 usage: cases.py [--proved | --write] ufsim|ufstool
 
-A case of ufsim is a script examples/NAME.txt, which it runs, or wrong words in tools/bad_calls/. A
-case of ufstool lies in examples/ufstool/. NAME.args has the words of the case NAME, one a line; a
-word that names a file beside it or in examples/ is that file. The case has to print NAME.stdout on
-standard output and NAME.stderr on standard error (nothing, if there is no such file), and to end
-with the status in NAME.status (0, if there is no such file). The outputs of a script are named
-after its whole name, as NAME.txt.stdout.
+A case of ufsim is a script examples/NAME.txt, which it runs, a script over an image of dies in
+examples/version_1/, or wrong words in tools/bad_calls/. A case of ufstool lies in
+examples/ufstool/. NAME.args has the words of the case NAME, one a line; a word that names a file
+beside it or in examples/ is that file, also one that is packed as WORD.xz. The case has to print
+NAME.stdout on standard output and NAME.stderr on standard error (nothing, if there is no such
+file), and to end with the status in NAME.status (0, if there is no such file). The outputs of a
+script are named after its whole name, as NAME.txt.stdout.
 
 The program is built once, without a proof. With --proved both programs are run that `rt ci` has
 proved and built here: LLVM's, and that of Rattle's own compiler. Those of ufsim are also run where
@@ -20,6 +21,7 @@ The last line is 'N passed, M failed'. The status is 0 if no case failed and the
 """
 import argparse
 import contextlib
+import lzma
 import os
 import pathlib
 import re
@@ -34,6 +36,10 @@ from crates import ROOT
 
 EXAMPLES = ROOT / "examples"
 WRONG_WORDS = ROOT / "tools" / "bad_calls"
+# Scripts over dies that a program left which wrote pages of version 1.
+OLD_DIES = EXAMPLES / "version_1"
+# How the name of a packed file ends.
+PACKED = ".xz"
 ENDED = re.compile(r"^case=(\S+) run=(\w+)(?: status=(\d+))?.*$")
 # What rt ci calls the programs that it builds: by LLVM, and by Rattle's own compiler.
 BUILDS = ("", ".by-rattle")
@@ -89,10 +95,20 @@ class Case(NamedTuple):
                 self.file(suffix).unlink(missing_ok=True)
 
     def files(self):
-        """The files that words of the case name."""
+        """The files that words of the case name, some of them packed."""
         folders = (EXAMPLES, self.stem.parent)
-        places = [(word, folder / word) for word in self.words for folder in folders if word]
+        places = [(word, folder / f"{word}{ending}") for word in self.words for folder in folders if word
+                  for ending in ("", PACKED)]
         return {word: file for word, file in places if file.is_file()}
+
+
+def lay(file, place):
+    """Makes a copy of a file, unpacked if it is packed."""
+    if file.suffix != PACKED:
+        shutil.copyfile(file, place)
+        return
+    with lzma.open(file) as packed, open(place, "wb") as copy:
+        shutil.copyfileobj(packed, copy)
 
 
 def scripts():
@@ -107,14 +123,18 @@ def cases_in(folder):
 
 
 def cases_of(program):
-    return scripts() + cases_in(WRONG_WORDS) if program == "ufsim" else cases_in(EXAMPLES / program)
+    if program != "ufsim":
+        return cases_in(EXAMPLES / program)
+    return scripts() + cases_in(OLD_DIES) + cases_in(WRONG_WORDS)
 
 
 def tried(program, cases, root=ROOT):
     """What the program of a repository printed in each case, as `rt try` builds it once, and what rt said."""
     named = {word: file for case in cases for word, file in case.files().items()}
-    data = [it for word, file in sorted(named.items()) for it in ("--data", f"{word}={file}")]
-    with tempfile.TemporaryDirectory(prefix="cases.") as folder:
+    with tempfile.TemporaryDirectory(prefix="cases.") as folder, tempfile.TemporaryDirectory(prefix="data.") as laid:
+        for word, file in named.items():
+            lay(file, pathlib.Path(laid, word))
+        data = [it for word in sorted(named) for it in ("--data", f"{word}={pathlib.Path(laid, word)}")]
         for case in cases:
             place = pathlib.Path(folder, case.name)
             place.write_bytes(b"")
@@ -152,7 +172,7 @@ def ran(built, cases):
     for case in cases:
         with tempfile.TemporaryDirectory(prefix="cases.") as folder:
             for word, file in case.files().items():
-                shutil.copyfile(file, pathlib.Path(folder, word))
+                lay(file, pathlib.Path(folder, word))
             try:
                 done = subprocess.run([built, *case.words], cwd=folder, env={}, timeout=SECONDS, **HOW)
                 found[case.name] = Output(done.stdout, done.stderr, done.returncode)

@@ -1,19 +1,23 @@
 #!/usr/bin/env python3
 """Makes random and near-valid scripts for `ufsim run`, and compares each line that it prints with a plain model.
 
-usage: fuzz.py [--seed N] [--scripts M] [--first N] [--keep FOLDER] [--program UFSIM] [--bits]
+usage: fuzz.py [--seed N] [--scripts M] [--first N] [--keep FOLDER] [--program UFSIM] [--bits] [--over M] [--long M]
 
 The model is tools/plain_host.py: what docs/FORMATS.md and docs/GUIDE.md say that a host can see. A script is made
 from the seed and its number alone. For each difference a line tells the seed, the number of the script, its line,
 what was wanted and what came, and --keep keeps the script in a folder. Then come counts of what was sent and
 answered. The last line is 'N passed, M failed', and the status is 0 only if none failed. --bits flips each bit of a
-COMMAND, a QUERY REQUEST and a TASK REQUEST that has to be zero, one by one. ufsim is built without a proof, once,
-but with --program that program is run.
+COMMAND, a QUERY REQUEST and a TASK REQUEST that has to be zero, one by one. --over plays so many scripts over each
+image of dies in examples/version_1/, by `ufsim image load`: of the life before, NAME.life.xz has the script, and
+NAME.told.xz what the program of then printed. --long plays so many scripts on devices with 256 slots, which take
+commands of 128 blocks. ufsim is built without a proof, once, but with --program that program is run.
 """
 import argparse
 import collections
 import contextlib
+import copy
 import itertools
+import lzma
 import os
 import pathlib
 import random
@@ -24,9 +28,10 @@ import subprocess
 import sys
 import tempfile
 import time
+from typing import NamedTuple, Tuple
 
 import plain_host as plain
-from cases import TRY_SECONDS
+from cases import OLD_DIES, TRY_SECONDS, lay
 from crates import ROOT
 from every_command import big, frame, header, transfer
 from plain_host import MANY, SURE, Model, event_of
@@ -57,15 +62,46 @@ def shape(chance):
     return (dies, max(16, -(-least // dies) + chance.randint(0, 3)), 16, 1, 64, spare), units
 
 
+def long_shape(chance):
+    """A configuration whose device takes commands of 128 blocks, and its units."""
+    dies = chance.choice((1, 2, 4))
+    units = [(chance.choice((128, 130, 160)), 0, 0), (8, 1, 1)]
+    least = -(-(sum(it[0] for it in units) + 32 + 2 + 4 * 256) // 16) + 4 * dies + 8
+    return (dies, max(16, -(-least // dies) + chance.randint(0, 3)), 16, 1, 256, 0), units
+
+
+class Kept(NamedTuple):
+    """Dies that an earlier life left: the name of their image, the device, and the model once the power failed."""
+
+    name: str
+    config: Tuple[int, ...]
+    units: Tuple[Tuple[int, ...], ...]
+    model: Model
+
+    @staticmethod
+    def read(packed):
+        """The dies of a packed image, in the folder of which is the script of the life before, and what it printed."""
+        name = packed.name.split(".")[0]
+        lines, told = (lzma.open(packed.with_name(f"{name}.{it}.xz"), "rt", encoding="utf-8").read().splitlines()
+                       for it in ("life", "told"))
+        head = [tuple(map(int, it.split()[1:])) for it in lines if it.startswith(("config ", "unit "))]
+        model, _, difference = played([*lines, "stop"], [*told, "stop ok"])
+        if difference:
+            raise ValueError(f"{packed}: {difference}")
+        return Kept(name, head[0], tuple(head[1:]), model)
+
+
 class Script:
     """The lines of a script, made with the model beside it, which says what seems to be the case."""
 
-    def __init__(self, seed, place):
+    def __init__(self, seed, place, kept=None, is_long=False):
         self.random = random.Random(f"{seed}/{place}")
-        self.config, self.units = shape(self.random)
+        self.config, self.units = (kept.config, kept.units) if kept else \
+            long_shape(self.random) if is_long else shape(self.random)
+        self.most = plain.most_blocks(self.config)
         self.lines = ["config " + " ".join(map(str, self.config))]
         self.lines += ["unit " + " ".join(map(str, it)) for it in self.units]
-        self.model = Model(self.config, self.units)
+        self.model = copy.deepcopy(kept.model) if kept else Model(self.config, self.units)
         self.sent, self.payload, self.fails, self.address = 0, {}, 0, 0
 
     def chance(self, odds):
@@ -166,7 +202,8 @@ class Script:
         unit = self.random.randrange(len(self.units)) if unit is None else unit
         writes = self.chance(0.6) if writes is None else writes
         blocks = self.units[unit][0]
-        count = count or self.random.choice((1,) * 16 + (2, 2, 2, 3, 3, 4, 5, 7, 12, 32, 0, 0, 33))
+        count = count or self.random.choice(
+            (1,) * 16 + (2, 2, 2, 3, 3, 4, 5, 7, 12, self.most, 0, 0, self.most + 1))
         address = self.random.randint(0, max(0, blocks - count))
         if self.chance(0.05):
             address = self.random.choice((blocks - count + 1 if count <= blocks else 1, blocks, 0xFFFFFFFF, 0x1FFFFF))
@@ -192,7 +229,7 @@ class Script:
     def unmap(self):
         unit = self.random.randrange(len(self.units))
         size = self.random.choice((24,) * 8 + (8, 0, 16))
-        count = self.random.choice((1, 2, 7, min(32, self.units[unit][0]), 0, 33))
+        count = self.random.choice((1, 2, 7, min(self.most, self.units[unit][0]), 0, self.most + 1))
         address = self.random.randint(0, max(0, self.units[unit][0] - count))
         data = bytearray(big(size - 2, 2) + big(size - 8, 2) + bytes(4) if size else b"")
         data += (big(address, 8) + big(count, 4) + bytes(4)) if size == 24 else bytes(max(0, size - 8))
@@ -317,7 +354,7 @@ class Script:
         how = self.random.choice((0, 0, 1, 1, 2))
         for _ in range(self.random.randint(33, 36) if how else 4):
             if how == 0:
-                self.move(32, 0, True)
+                self.move(self.most, 0, True)
             elif how == 1:
                 self.move(1, 0, False)
             else:
@@ -328,7 +365,7 @@ class Script:
     def churn(self):
         """So many blocks are written that the device collects."""
         for _ in range(self.random.randint(4, 12)):
-            self.move(min(32, self.units[0][0]), 0, True, False)
+            self.move(min(self.most, self.units[0][0]), 0, True, False)
             self.pump()
             if self.chance(0.1):
                 self.interrupt()
@@ -347,7 +384,8 @@ class Script:
 
     def pump(self):
         """Takes what is due, and brings what is asked for, until nothing is left or the host gives up."""
-        for _ in range(150):
+        # A block needs a READY TO TRANSFER and a DATA OUT.
+        for _ in range(max(150, 3 * self.most)):
             asked = [it for it in self.world.open.values() if it.asked]
             if asked and self.chance(0.85):
                 self.bring(self.random.choice(asked))
@@ -474,18 +512,18 @@ class Counts(collections.Counter):
         return name + more.get(data[0], "")
 
 
-def played(lines, printed, counts=None, until=None):
+def played(lines, printed, counts=None, until=None, kept=None):
     """The model after the lines, how they end, and the first difference: a line, what was wanted, what came."""
-    head, model, rest = [], None, iter(printed)
+    head, model, rest, is_head = [], copy.deepcopy(kept.model) if kept else None, iter(printed), True
     for place, line in enumerate(lines, 1):
         if place == until:
             break
         if not line or line.startswith("#"):
             continue
-        if model is None and line.startswith(("config ", "unit ")):
+        if is_head and line.startswith(("config ", "unit ")):
             head.append(tuple(map(int, line.split()[1:])))
             continue
-        model = model or Model(head[0], head[1:])
+        is_head, model = False, model or Model(head[0], head[1:])
         event = event_of(line)
         fault = event if isinstance(event, str) else None if model.is_event(event) else "event"
         if fault:
@@ -500,12 +538,12 @@ def played(lines, printed, counts=None, until=None):
     return model, (0, ""), extra and (len(lines), "an end", extra)
 
 
-def judged(lines, text, told, status, counts=None):
+def judged(lines, text, told, status, counts=None, kept=None):
     """What is wrong with the run of a script: the line, what was wanted and what came; or None."""
-    _, wanted, found = played(lines, text.splitlines(), counts)
+    _, wanted, found = played(lines, text.splitlines(), counts, kept=kept)
     if found and not isinstance(found[1], str):
         place, event, came = found
-        model = played(lines, text.splitlines(), until=place)[0]
+        model = played(lines, text.splitlines(), until=place, kept=kept)[0]
         return place, model.wanted(event), came
     if found:
         return found
@@ -549,15 +587,24 @@ def built(folder):
 def by_program(program, scripts):
     """What a program prints of each script, on standard output and on standard error, and its status."""
     with tempfile.TemporaryDirectory(prefix="fuzz.") as folder:
-        for place, lines in scripts:
+        for place, lines, kept in scripts:
             file = pathlib.Path(folder, "script")
             file.write_bytes(text_of(lines))
+            words = ["image", "load", image_of(kept, folder)] if kept else ["run"]
             try:
-                done = subprocess.run([*program, "run", str(file)], stdin=subprocess.DEVNULL, capture_output=True,
+                done = subprocess.run([*program, *words, str(file)], stdin=subprocess.DEVNULL, capture_output=True,
                                       encoding="latin-1", timeout=SECONDS, check=False)
-                yield place, lines, done.stdout, done.stderr, done.returncode
+                yield place, lines, kept, done.stdout, done.stderr, done.returncode
             except subprocess.TimeoutExpired:
-                yield place, lines, "", "it did not end", -1
+                yield place, lines, kept, "", "it did not end", -1
+
+
+def image_of(kept, folder):
+    """The image of these dies, unpacked in the folder."""
+    image = pathlib.Path(folder, f"{kept.name}.img")
+    if not image.exists():
+        lay(OLD_DIES / f"{image.name}.xz", image)
+    return str(image)
 
 
 def short(text):
@@ -593,14 +640,34 @@ def bit_scripts():
         yield f"bits {message[0]:02x} {message[16]:02x}", lines
 
 
+def scripts_over(seed, count):
+    """So many scripts over each image."""
+    for packed in sorted(OLD_DIES.glob("*.img.xz")) if count else ():
+        kept = Kept.read(packed)
+        for number in range(1, count + 1):
+            place = f"over {kept.name} {number}"
+            yield place, Script(seed, place, kept).make(), kept
+
+
+def long_scripts(seed, count):
+    """So many scripts on devices that take commands of 128 blocks."""
+    for number in range(1, count + 1):
+        place = f"long {number}"
+        yield place, Script(seed, place, is_long=True).make(), None
+
+
 def run(asked, program):
     """Runs the scripts, and tells each difference and the counts."""
-    count = asked.scripts if asked.scripts is not None else 0 if asked.bits else 50
-    scripts = itertools.chain(bit_scripts() if asked.bits else (), (
-        (it, Script(asked.seed, it).make()) for it in range(asked.first, asked.first + count)))
+    others = asked.bits or asked.over or asked.long
+    count = asked.scripts if asked.scripts is not None else 0 if others else 50
+    scripts = itertools.chain(
+        ((*it, None) for it in (bit_scripts() if asked.bits else ())),
+        ((it, Script(asked.seed, it).make(), None) for it in range(asked.first, asked.first + count)),
+        long_scripts(asked.seed, asked.long),
+        scripts_over(asked.seed, asked.over))
     counts, passed, failed = Counts(), 0, 0
-    for place, lines, text, told, status in by_program(program, scripts):
-        difference = judged(lines, text, told, status, counts)
+    for place, lines, kept, text, told, status in by_program(program, scripts):
+        difference = judged(lines, text, told, status, counts, kept)
         passed, failed = passed + (not difference), failed + bool(difference)
         if difference:
             at, wanted, came = difference
@@ -618,11 +685,13 @@ def run(asked, program):
 def main():
     parser = argparse.ArgumentParser(description="Compares ufsim with a plain model on random scripts.")
     parser.add_argument("--seed", type=int, default=1, help="what the scripts are made from (1)")
-    parser.add_argument("--scripts", type=int, help="how many scripts there are (50; with --bits none)")
+    parser.add_argument("--scripts", type=int, help="how many scripts there are (50; none with other kinds)")
     parser.add_argument("--first", type=int, default=1, help="the number of the first script (1)")
     parser.add_argument("--keep", type=pathlib.Path, help="a folder for the scripts that failed")
     parser.add_argument("--program", type=pathlib.Path, help="ufsim, built already")
     parser.add_argument("--bits", action="store_true", help="flip each bit that has to be zero")
+    parser.add_argument("--long", type=int, default=0, help="how many scripts have commands of 128 blocks (none)")
+    parser.add_argument("--over", type=int, default=0, help="how many scripts there are over each image (none)")
     asked = parser.parse_args()
     with tempfile.TemporaryDirectory(prefix="fuzz.") as folder:
         program = [str(asked.program.absolute())] if asked.program else built(pathlib.Path(folder))

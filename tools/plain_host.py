@@ -36,6 +36,11 @@ ZERO_BYTES = {0x00: (1, 2, 4, 5, 6, 7, 9, *range(12, 32)), 0x01: (4, 5, 6, 7, 9)
               0x04: (1, 4, 6, 7, 9, 12, 13, 14, 16, 17, 18, *range(20, 32))}
 
 
+def most_blocks(config):
+    """How many blocks a command may have in a configuration: 128 with 256 slots or more, else 32."""
+    return 128 if config[4] >= 256 else 32
+
+
 def number(data, start, width):
     return int.from_bytes(data[start:start + width], "big")
 
@@ -363,7 +368,7 @@ class World:
         it.address = (number(cdb, 1, 3) & 0x1FFFFF) if is_short else number(cdb, 2, 4)
         it.length = self.length(code, cdb, count)
         moves = code in READS + WRITES
-        if moves and count > 32 or code in SECURITY and it.length not in range(512, 4097, 512):
+        if moves and count > most_blocks(self.config) or code in SECURITY and it.length not in range(512, 4097, 512):
             return CHECK, NO_FIELD
         if code == UNMAP and it.length not in (0, 8, 24):
             return is_bad(5, 0x1A, 0)
@@ -409,7 +414,8 @@ class World:
                 return CHECK, NO_FIELD
         if code == SECURITY_OUT and any(at.passed for at in self.open.values()):
             return BUSY, None
-        claim = {WRITE: count, WRITE6: count, UNMAP: 32 if it.length == 24 else 0, SECURITY_OUT: 3}.get(code, 0)
+        listed = most_blocks(self.config) if it.length == 24 else 0
+        claim = {WRITE: count, WRITE6: count, UNMAP: listed, SECURITY_OUT: 3}.get(code, 0)
         if not self.has_slots(claim) if claim else False:
             return BUSY, None
         it.claim = claim
@@ -479,7 +485,7 @@ class World:
         size, address, count = it.length, number(it.data, 8, 8), number(it.data, 16, 4)
         lengths = (number(it.data, 0, 2), number(it.data, 2, 2), number(it.data, 4, 4))
         sense = by_table(((lengths != (size - 2, size - 8, 0), NO_LIST_FIELD), (size == 8, None),
-                          (count > 32 or any(it.data[20:24]), NO_LIST_FIELD),
+                          (count > most_blocks(self.config) or any(it.data[20:24]), NO_LIST_FIELD),
                           (address + count > self.units[it.unit][0], OUT_OF_RANGE),
                           (count and self.locked(), WRITE_ERROR)))
         it.end(CHECK if sense else GOOD, sense, size)

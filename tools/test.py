@@ -73,11 +73,12 @@ def groups():
     """All groups."""
     tools = str(ROOT / "tools")
     found = [
-        Group("ufsim: examples and wrong words", (PYTHON, "cases.py", "ufsim"), tools, 120),
+        Group("ufsim: examples, old dies and wrong words", (PYTHON, "cases.py", "ufsim"), tools, 200),
         Group("ufstool: stored cases", (PYTHON, "cases.py", "ufstool"), tools, 200),
         Group("no memory after the opening", (PYTHON, "refuse_memory.py", "--row"), tools, 90),
         Group("lives one after another", (PYTHON, "power_cycles.py"), tools, 150),
-        Group("fuzz: random scripts", (PYTHON, "-B", "fuzz.py", "--scripts", "50"), tools, 160),
+        Group("fuzz: random scripts", (PYTHON, "-B", "fuzz.py", "--scripts", "50", "--long", "3", "--over", "3"),
+              tools, 300),
         Group("texts of the wrong bodies", (PYTHON, "wrong_bodies.py", "--texts"), tools, 2),
         Group("texts of the wrong rules", (PYTHON, "turn_rules.py", "--texts"), tools, 2),
         Group("tests of the tools", (PYTHON, "-B", "-m", "unittest", "discover", "tests"), tools, 10),

@@ -1,6 +1,7 @@
 """Tests how tools/cases.py compares what a program prints with what is stored."""
 import contextlib
 import io
+import lzma
 import pathlib
 import tempfile
 import unittest
@@ -41,6 +42,11 @@ class Cases(unittest.TestCase):
         return count, printed.getvalue()
 
     def test_what_is_stored_passes(self):
+        self.assertEqual((1, ""), self.passed())
+
+    def test_a_packed_file_is_unpacked(self):
+        (self.folder / "notes.txt").unlink()
+        (self.folder / "notes.txt.xz").write_bytes(lzma.compress(b"a note\n"))
         self.assertEqual((1, ""), self.passed())
 
     def test_each_difference_fails(self):

@@ -1,5 +1,5 @@
 -- What the calls make of the layer and of what the device keeps.
-use Rattle.std.specs.Prelude.{◌≡◌, ℕ, ◌+◌, ◌-◌, ◌==◌, ◌≤◌, ◌<◌, nat_le, Bool, true, false, if◌then◌else◌, List, []}
+use Rattle.std.specs.Prelude.{◌≡◌, ℕ, ◌+◌, ◌-◌, ◌*◌, ◌==◌, ◌≤◌, ◌<◌, nat_le, Bool, true, false, if◌then◌else◌, List, []}
 use Rattle.std.specs.Prelude.{fold, length, map, replicate, slice_get, Option, Some, None, Result, Ok, Err}
 use Rattle.std.specs.List.{list_any}
 use Rattle.ufs_spec.specs.Keys.{IsKey}
@@ -25,6 +25,8 @@ use Rattle.device.specs.Lists.{list_slots}
 use Rattle.task_set.specs.Lists.{task_happened}
 use Rattle.task_set.specs.Shorts.{short_locked}
 use Rattle.task_set.specs.Tasks.{after_lost_read, after_read, next_transfer, task_after}
+use Rattle.ufs_spec.specs.Plain.{greatest_command}
+use Rattle.ufs_spec.specs.Exchanges.{most_tasks}
 
 -- this happened to the task at this position
 abbrev pub with_event : DeviceCore → ℕ → TaskEvent → DeviceCore
@@ -39,9 +41,9 @@ pub record MayKeep (t : Translation) (tag : ℕ) (key : Key) (blocks : ℕ) : Ty
   pub there : (i : ℕ) → i < blocks → IsKey (shape_of_numbers t.numbers) (key_behind key i)
   pub new : list_any (keeps_for tag) t.pins ≡ false
 
--- whether there is room for so many pins more
+-- whether there is room for so many pins more: all tasks have together no more than so many blocks
 abbrev pub has_room : Translation → ℕ → Bool
-has_room t blocks = nat_le (length t.pins + blocks) 1024
+has_room t blocks = nat_le (length t.pins + blocks) (most_tasks * greatest_command)
 
 -- how far a READ is that begins, and the layer then: it keeps what it looks up. As no block is kept twice, there is
 -- room wherever a task may be opened
@@ -101,7 +103,7 @@ HasBegun after t claims tag (Ok (plan.Nothing n)) p = (p ≡ phase.Answer status
 HasBegun after t claims tag (Ok (plan.Send x)) p = (p ≡ phase.SendData x) × IsLayerWith after t claims
 HasBegun after t claims tag (Ok (plan.AskFrames size)) p = HasClaimedFrames after t claims tag size p
 HasBegun after t claims tag (Ok (plan.AskList unit size)) p =
-    HasClaimedFor after t claims tag (list_slots size) (phase.AskList unit size) p
+    HasClaimedFor after t claims tag (list_slots t.numbers size) (phase.AskList unit size) p
 HasBegun after t claims tag (Ok (plan.TakeFrames size taken)) p =
     (p ≡ held_phase size taken) × IsLayerWith after t claims
 HasBegun after t claims tag (Ok (plan.Tell told size taken)) p =

@@ -313,25 +313,25 @@ blocks_gathered (suc n) bytes = block_or_zeros bytes ∷ blocks_gathered n (drop
 
 -- what a task of so many bytes has claimed that gathers data: a WRITE one slot for each block of its command, frames
 -- three that hold zeros, and the list of an UNMAP those of the blocks that it may name, which hold zeros too
-abbrev pub claimed_for : ℕ → Purpose → List ℕ → List (List ℕ)
-claimed_for total (ForWrite unit address blocks forced) gathered = blocks_gathered blocks gathered
-claimed_for total (ForFrames region) gathered = replicate frame_slots zero_block
-claimed_for total (ForUnmap unit) gathered = replicate (list_slots total) zero_block
+abbrev pub claimed_for : Numbers → ℕ → Purpose → List ℕ → List (List ℕ)
+claimed_for n total (ForWrite unit address blocks forced) gathered = blocks_gathered blocks gathered
+claimed_for n total (ForFrames region) gathered = replicate frame_slots zero_block
+claimed_for n total (ForUnmap unit) gathered = replicate (list_slots n total) zero_block
 
 -- what a task of so many bytes has claimed by what it does: a WRITE that gathers a slot for each of its blocks, in
 -- which it lies once it came
-abbrev pub claimed_in : ℕ → Deed → List (List ℕ)
-claimed_in total (Gathering purpose gathered asked) = claimed_for total purpose gathered
-claimed_in total deed = []
+abbrev pub claimed_in : Numbers → ℕ → Deed → List (List ℕ)
+claimed_in n total (Gathering purpose gathered asked) = claimed_for n total purpose gathered
+claimed_in n total deed = []
 
 -- what a task has claimed, and nothing where there is none
-abbrev pub claimed_by : Option exchange.Task → List (List ℕ)
-claimed_by None = []
-claimed_by (Some task) = claimed_in task.length task.deed
+abbrev pub claimed_by : Numbers → Option exchange.Task → List (List ℕ)
+claimed_by n None = []
+claimed_by n (Some task) = claimed_in n task.length task.deed
 
 -- what the task of each tag has claimed
-abbrev pub claims_of : List exchange.Task → Claims
-claims_of tasks tag = claimed_by (task_of tag tasks)
+abbrev pub claims_of : Numbers → List exchange.Task → Claims
+claims_of n tasks tag = claimed_by n (task_of tag tasks)
 
 -- Short exchanges and the lock
 
@@ -402,7 +402,7 @@ pub record Keeps (d : DeviceCore) (s : State) : Type 0 where
   pub tasks : TasksKept (before_accepted s.translation.ledger) d.tasks s.tasks
   pub one_sends : OneSends d.tasks
   pub wanted : (tag index : ℕ) → wanted_kept s.translation.pins tag index ≡ wanted_by index (task_of tag s.tasks)
-  pub claims : AreClaimed d.ftl (claims_of s.tasks)
+  pub claims : AreClaimed d.ftl (claims_of (numbers_of s) s.tasks)
   pub shorts : ShortsKept (numbers_of s) (before_accepted s.translation.ledger) d.shorts s.shorts
   pub power_on : d.is_power_on ≡ s.power_on
 

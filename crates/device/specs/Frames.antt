@@ -1,6 +1,6 @@
 -- Frames of the RPMB: what is decided of those that a SECURITY PROTOCOL OUT brought, what a request leaves in the
 -- registers, and what a SECURITY PROTOCOL IN takes from them (JESD220, 12.4).
-use Rattle.std.specs.Prelude.{◌≡◌, ℕ, ◌+◌, ◌-◌, ◌<◌, ◌≤◌, ◌&&◌, min, nat_le, Bool, true, false}
+use Rattle.std.specs.Prelude.{◌≡◌, ℕ, ◌+◌, ◌-◌, ◌*◌, ◌<◌, ◌≤◌, ◌&&◌, min, nat_le, Bool, true, false}
 use Rattle.std.specs.Prelude.{if◌then◌else◌, List, [], ◌∷◌, ◌++◌, find, option_map}
 use Rattle.std.specs.List.{list_any}
 use Rattle.std.specs.Prelude.{drop, fold, length, map, position, replicate, slice_get, take, Option, Some, None}
@@ -54,6 +54,8 @@ use Rattle.device.specs.declared.plans.Identity.{Identity}
 use Rattle.device.specs.declared.plans.Identity.TheVariants as identity
 use Rattle.device.specs.declared.plans.Plan.{Plan}
 use Rattle.device.specs.declared.plans.Plan.TheVariants as plan
+use Rattle.ufs_spec.specs.Plain.{greatest_command}
+use Rattle.ufs_spec.specs.Exchanges.{most_tasks}
 
 -- Tasks that begin
 
@@ -141,7 +143,7 @@ pub record MayKeepArea (t : Translation) (tag : ℕ) (f : Frame) : Type 0 where
   pub few : f.count ≤ 8
   pub keys : (i : ℕ) → i < pages_named f → IsKey (shape_of_numbers t.numbers) (area_key 0 (first_page f + i))
   pub none : list_any (keeps_for tag) t.pins ≡ false
-  pub room : PinsDiffer t.pins → length t.pins + 2 ≤ 1024
+  pub room : PinsDiffer t.pins → length t.pins + 2 ≤ most_tasks * greatest_command
 
 -- the pages in which these blocks lie are kept, each of them wanted at once, if they may be
 abbrev pub HasKeptArea : Core → Translation → Claims → ℕ → AreaBlocks → Type 0

@@ -1,10 +1,11 @@
 -- The lists of UNMAPs, and how many slots they claim (SBC, UNMAP).
 use Rattle.std.specs.Prelude.{◌≡◌, ◌⊎◌, ℕ, ◌==◌, if◌then◌else◌}
-use Rattle.ufs_spec.specs.Plain.{greatest_command}
+use Rattle.ufs_spec.specs.Configs.{command_blocks}
+use Rattle.ufs_spec.specs.declared.configs.Numbers.{Numbers}
 
 -- an UNMAP whose list has one descriptor claims as many slots as a command may have blocks; a header alone claims none
-abbrev pub list_slots : ℕ → ℕ
-list_slots size = if size == 24 then greatest_command else 0
+abbrev pub list_slots : Numbers → ℕ → ℕ
+list_slots n size = if size == 24 then command_blocks n else 0
 
 -- so many bytes are those of a header, or of a header with one descriptor
 abbrev pub IsOfList : ℕ → Type 0

@@ -27,7 +27,7 @@ use Rattle.device.specs.declared.unmap.Unmapping.TheVariants as does
 -- how far an UNMAP is that begins, and the layer then: it claims its slots
 abbrev pub HasClaimedList : Core → Translation → Claims → ℕ → ℕ → ℕ → Phase → Type 0
 HasClaimedList after t claims tag unit size p =
-    HasClaimedFor after t claims tag (list_slots size) (phase.AskList unit size) p
+    HasClaimedFor after t claims tag (list_slots t.numbers size) (phase.AskList unit size) p
 
 -- What an UNMAP does with its list
 

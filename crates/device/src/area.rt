@@ -70,7 +70,7 @@ fn joined(first: &[u8], second: &[u8]) -> AreaData
 
 impl Device {
     /// The pages in which these blocks of the area lie are kept, and all of them are wanted. There
-    /// is always room for them: each other task keeps at most 32 blocks.
+    /// is always room for them: each other task keeps at most 128 blocks.
     pub(crate) fn ask_area(&mut self, tag: u8, code: u16, asked: AreaBlocks) -> TaskEvent
         ensures left { self.new ≡ record self.old { ftl = self.new.ftl } }
         ensures event { result ≡ TaskEvent.AreaAsked code asked.address asked.count }

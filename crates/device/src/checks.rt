@@ -1,7 +1,9 @@
 //! The checks of a command, in the order in which the first that applies ends it.
 ghost use Rattle.std.specs.Prelude.{◌≡◌, ◌≤◌, ℕ, ◌*◌, ◌&&◌, false, not, option_map, IfErr, IfOk, IsOk, None};
 ghost use Rattle.std.specs.Prelude.{Some};
+ghost use Rattle.ufs_spec.specs.Configs.{command_blocks};
 ghost use Rattle.ufs_spec.specs.Plain.{greatest_command};
+ghost use Rattle.ufs_spec.specs.Translation.{Translation};
 ghost use Rattle.ufs_spec.specs.Cdbs.{address_of, blocks_of, direction_of, operation_of};
 ghost use Rattle.ufs_spec.specs.Cdbs.{length_of as length_of_command};
 ghost use Rattle.ufs_spec.specs.Refusals.{Request, State, first_line, flushes, has_other_response};
@@ -22,10 +24,11 @@ use crate::device::Device;
 use crate::plans::{Identity, Plan};
 use crate::targets::Target;
 use crate::unmap::{LIST_HEADER, LIST_OF_ONE, list_slots};
+use geometry::command_blocks;
 use lun_route::units_listed;
 use scsi_cdb::{address_of, blocks_of, length_of};
 use task_set::{BLOCK_BYTES, ShortData, Status};
-use ufs_spec::{Cdb, GREATEST_COMMAND, Key, Numbers, Sense, Tag, UnitSpec};
+use ufs_spec::{Cdb, Key, Numbers, Sense, Tag, UnitSpec};
 
 /// The flags of a COMMAND whose data go to the device, and of one whose data come from it (JESD220,
 /// 10.7.1).
@@ -73,15 +76,15 @@ fn lacks_data(listed: u8, cdb: &Cdb, flags: u8, expected: u32) -> bool
     }
 }
 
-/// Whether the command has more blocks than a command may have, or a length that is not that of one to
+/// Whether the command has more blocks than a command may have, `most`, or a length that is not that of one to
 /// eight frames.
-fn is_too_long(cdb: &Cdb) -> bool
-    ensures what { (n : Numbers) → result ≡ is_too_long n cdb.now }
-    ensures few { result ≡ false → blocks_of cdb.now ≤ greatest_command }
+fn is_too_long(most: u16, cdb: &Cdb) -> bool
+    ensures what { (n : Numbers) → most ≡ command_blocks n → result ≡ is_too_long n cdb.now }
+    ensures few { most ≤ greatest_command → result ≡ false → blocks_of cdb.now ≤ greatest_command }
 {
     match cdb {
         Cdb::SecurityIn { length, .. } | Cdb::SecurityOut { length, .. } => !are_frames(*length),
-        _ => blocks_of(cdb) > u32::from(GREATEST_COMMAND),
+        _ => blocks_of(cdb) > u32::from(most),
     }
 }
 
@@ -147,12 +150,12 @@ fn flushes(cdb: &Cdb) -> bool
 
 /// How many slots the command needs: one a block that it writes, as many as a command may have blocks
 /// for a descriptor of an UNMAP, and three for the pages of an RPMB write.
-fn slots_needed(cdb: &Cdb) -> u32
-    ensures { (n : Numbers) → result ≡ slots_needed n cdb.now }
+fn slots_needed(most: u16, cdb: &Cdb) -> u32
+    ensures { (n : Numbers) → most ≡ command_blocks n → result ≡ slots_needed n cdb.now }
 {
     match cdb {
         Cdb::Write6 { .. } | Cdb::Write10 { .. } => blocks_of(cdb),
-        Cdb::Unmap { list } => u32::from(list_slots(u32::from(*list))),
+        Cdb::Unmap { list } => u32::from(list_slots(most, u32::from(*list))),
         Cdb::SecurityOut { .. } => u32::from(FRAME_SLOTS),
         _ => 0,
     }
@@ -234,7 +237,7 @@ fn other_plan(cdb: &Cdb, target: Target, expected: u32) -> Plan
 
 /// What a READ of so many bytes does: it reads nothing for a host that expects nothing.
 fn read_plan(key: Key, length: u32, expected: u32) -> Plan
-    requires { length ≤ 131072 }
+    requires { length ≤ 4096 * greatest_command }
     ensures { (blocks : ℕ) → length ≡ blocks * 4096 → key ≡ data_key key.unit key.address →
         result ≡ read_plan key.unit expected key.address blocks }
 {
@@ -344,7 +347,7 @@ impl Device {
             first_line (lines_for s r cdb.now) ≡ option_map status_kept result }
         ensures few { result ≡ None → blocks_of cdb.now ≤ greatest_command }
     {
-        if is_too_long(cdb) {
+        if is_too_long(self.command_blocks(), cdb) {
             return Some(Status::CheckCondition(Sense::INVALID_FIELD));
         }
         if has_wrong_list(cdb) {
@@ -357,6 +360,14 @@ impl Device {
             return Some(Status::CheckCondition(Sense::OUT_OF_RANGE));
         }
         self.refusal_now(unit, cdb)
+    }
+
+    /// How many blocks a command may have.
+    pub(crate) fn command_blocks(&self) -> u16
+        ensures is { (t : Translation) → IsLayer self.now.ftl t → result ≡ command_blocks t.numbers }
+        ensures few { result ≤ greatest_command }
+    {
+        command_blocks(self.ftl.numbers())
     }
 
     /// The same by what the device is now.
@@ -419,7 +430,8 @@ impl Device {
             result ≡ is_crowded s cdb.now }
     {
         let brings = matches!(cdb, Cdb::SecurityOut { .. });
-        (brings && self.set.has_sender()) || self.ftl.free_slots() < slots_needed(cdb) as usize
+        (brings && self.set.has_sender())
+            || self.ftl.free_slots() < slots_needed(self.command_blocks(), cdb) as usize
     }
 
     /// Whether the command writes to a protected unit or a locked device, or flushes a locked device

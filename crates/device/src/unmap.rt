@@ -1,6 +1,8 @@
 //! UNMAP: its list names the blocks that become zeros (SBC, UNMAP).
 ghost use Rattle.std.specs.Prelude.{◌≡◌, ◌<◌, IsTrue, length, true};
+ghost use Rattle.ufs_spec.specs.Configs.{command_blocks};
 ghost use Rattle.ufs_spec.specs.Translation.{Translation};
+ghost use Rattle.ufs_spec.specs.declared.configs.Numbers.{Numbers};
 ghost use Rattle.ftl_core.specs.Public.{Claims, Describes as IsLayer, has_number};
 ghost use Rattle.device.specs.Kept.{IsLayerWith};
 ghost use Rattle.device.specs.Unmaps.{HasClaimedList, HasListCome, HasPutZeros, HasUnmapped};
@@ -11,7 +13,7 @@ use crate::device::Device;
 use crate::targets::spec_of;
 use scsi_cdb::{UnmapList, read_unmap_list};
 use task_set::{Phase, Status, TaskEvent};
-use ufs_spec::{GREATEST_COMMAND, Key, Sense, Tag};
+use ufs_spec::{Key, Sense, Tag};
 
 /// How many bytes the header of UNMAP's list has, and how many it has with one descriptor (SBC).
 pub(crate) const LIST_HEADER: u16 = 8;
@@ -19,12 +21,12 @@ pub(crate) const LIST_HEADER: u16 = 8;
 pub(crate) const LIST_OF_ONE: u16 = 24;
 
 /// How many slots an UNMAP claims whose list has so many bytes: with a descriptor as many as a command
-/// may have blocks, since only the list says how many there are.
-pub(crate) fn list_slots(length: u32) -> u16
-    ensures { result ≡ list_slots length }
+/// may have blocks, `most`, since only the list says how many there are.
+pub(crate) fn list_slots(most: u16, length: u32) -> u16
+    ensures { (n : Numbers) → most ≡ command_blocks n → result ≡ list_slots n length }
 {
     if length == u32::from(LIST_OF_ONE) {
-        GREATEST_COMMAND
+        most
     } else {
         0
     }
@@ -48,7 +50,8 @@ impl Device {
         ensures begun { (t : Translation) (claims : Claims) → IsLayerWith self.old.ftl t claims →
             HasClaimedList self.new.ftl t claims tag unit length result }
     {
-        if self.ftl.reserve(tag, list_slots(length)) {
+        let most = self.command_blocks();
+        if self.ftl.reserve(tag, list_slots(most, length)) {
             Phase::AskList { unit, length }
         } else {
             Phase::Answer {
@@ -114,7 +117,7 @@ impl Device {
         if list.len() != usize::from(LIST_HEADER) && list.len() != usize::from(LIST_OF_ONE) {
             return Unmapping::Refused(Sense::INVALID_LIST_FIELD);
         }
-        match read_unmap_list(list) {
+        match read_unmap_list(self.command_blocks(), list) {
             UnmapList::Malformed => Unmapping::Refused(Sense::INVALID_LIST_FIELD),
             UnmapList::HeaderOnly => Unmapping::Nothing,
             UnmapList::Descriptor { address, count } => self.blocks_unmapped(unit, address, count),

@@ -2,7 +2,7 @@
 -- of Describes says what that means.
 use Rattle.std.specs.Prelude.{◌≡◌, ℕ, ◌==◌, Bool, true, false, ◌&&◌, List, find, map, Option, Some, None}
 use Rattle.ufs_spec.specs.Keys.{IsBlock}
-use Rattle.ufs_spec.specs.Pages.{IsTag, seal_page}
+use Rattle.ufs_spec.specs.Pages.{IsSealedAs, IsTag}
 use Rattle.ufs_spec.specs.declared.flash.Key.{Key}
 use Rattle.ufs_spec.specs.declared.flash.Outcome.{Outcome}
 use Rattle.ufs_spec.specs.declared.flash.Outcome.TheVariants as outcome
@@ -86,8 +86,8 @@ names t k n = (t.kind == k.kind) && (t.unit == k.unit) && (t.address == k.addres
 -- the body, where the page is a sealed one of this address and this number; none where it is not
 pub record IsBodyOf (page : Page) (k : Key) (n : ℕ) (body : Option (List ℕ)) : Type 0 where
   pub found : (b : List ℕ) → body ≡ Some b →
-      (t : Tag) × IsTag t × IsBlock b × (names t k n ≡ true) × (page ≡ seal_page t b)
-  pub none : body ≡ None → (t : Tag) (b : List ℕ) → IsTag t → names t k n ≡ true → page ≡ seal_page t b → ⊥
+      (t : Tag) × IsTag t × IsBlock b × (names t k n ≡ true) × IsSealedAs page t b
+  pub none : body ≡ None → (t : Tag) (b : List ℕ) → IsTag t → names t k n ≡ true → IsSealedAs page t b → ⊥
 
 -- what the page that was read gives for what was looked up: the body, if it is the page of that number; else none
 abbrev pub IsBodyLooked : Page → Key → Looked → Option (List ℕ) → Type 0

@@ -7,7 +7,7 @@ use Rattle.ufs_spec.specs.Pages.{greatest_number}
 use Rattle.ufs_spec.specs.Pages.{IsTag}
 use Rattle.ftl_core.specs.Core.{Core}
 use Rattle.ftl_core.specs.PinCounts.{ArePinsCounted}
-use Rattle.readers.specs.Pins.{without_pins}
+use Rattle.readers.specs.Pins.{most_pins, without_pins}
 
 -- of the live pages no count of pins is seen: it follows from the pins
 abbrev pub core_of : Inside → Core
@@ -51,7 +51,7 @@ pub record IsRoomy (f : Inside) : Type 0 where
   pub first_mark : 1 ≤ f.next_mark
   pub last_mark : f.next_mark ≤ greatest_number + 1
   pub step : IsStep f.step
-  pub pins : length f.pins ≤ 1024
+  pub pins : length f.pins ≤ most_pins
   pub units : length f.config.units.items ≤ 8
   pub plan_pages : f.plan.pages ≡ f.config.pages
   -- the pins of each block are counted

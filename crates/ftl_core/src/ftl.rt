@@ -76,7 +76,7 @@ pub struct Ftl {
     /// The collection that is begun, if one is: its block is closed or bad, and its live pages are
     /// copied before the block is free.
     plan: Plan,
-    /// What readers keep, each block of a reader once: at most 1024, with room for all of them.
+    /// What readers keep, each block of a reader once: at most 4096, with room for all of them.
     pins: Pins,
     /// How far the mending is.
     mending: Mending,

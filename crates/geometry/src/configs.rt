@@ -1,14 +1,20 @@
 //! The configuration of a device: numbers that have no fault.
 ghost use Rattle.std.specs.Prelude.{◌≡◌, ◌≤◌, ◌*◌, ◌==◌, Some, None, length, count_by, sum_by, IfOk, IfErr};
 ghost use Rattle.std.specs.List.{list_all};
-ghost use Rattle.ufs_spec.specs.Configs.{numbers_of, is_between, unit_in_range, in_range, unit_blocks, pages_kept, blocks_needed, blocks_left, boot_count, config_fault, InRange, HasRoom, HasOneBootUnitEach};
+ghost use Rattle.ufs_spec.specs.Plain.{greatest_command};
+ghost use Rattle.ufs_spec.specs.Configs.{numbers_of, is_between, unit_in_range, in_range, unit_blocks, pages_kept, blocks_needed, blocks_left, boot_count, command_blocks, config_fault, InRange, HasRoom, HasOneBootUnitEach};
 
 mod facts;
 
 use arrayvec::ArrayVec;
 use std::alloc::AllocError;
 use std::marker::Model;
-use ufs_spec::{ConfigFault, Numbers, UnitSpec};
+use ufs_spec::{ConfigFault, GREATEST_COMMAND, Numbers, UnitSpec};
+
+/// With fewer slots than so many, a command has no more blocks than the next number.
+const SLOTS_OF_LONG_COMMANDS: u16 = 256;
+
+const SHORT_COMMAND: u16 = 32;
 
 /// Numbers that are in their ranges, with blocks enough and no boot number twice.
 #[derive(Drop)]
@@ -89,6 +95,13 @@ impl Config {
         &self.numbers
     }
 
+    /// How many blocks a command may have: 128 with 256 slots or more, else 32.
+    pub fn command_blocks(&self) -> u16
+        ensures { result ≡ command_blocks self.now }
+    {
+        command_blocks(&self.numbers)
+    }
+
     /// The same configuration again; this takes no memory.
     pub fn copied(&self) -> Config
         ensures { result ≡ self.now }
@@ -104,6 +117,20 @@ impl Clone for Config {
 
     fn clone(&self) -> Result<Config, AllocError> {
         Ok(self.copied())
+    }
+}
+
+/// How many blocks a command may have in the configuration with these numbers: 128 with 256 slots or
+/// more, else 32.
+pub fn command_blocks(numbers: &Numbers) -> u16
+    ensures is { result ≡ command_blocks numbers.now }
+    ensures some { 32 ≤ result }
+    ensures few { result ≤ greatest_command }
+{
+    if numbers.slots >= SLOTS_OF_LONG_COMMANDS {
+        GREATEST_COMMAND
+    } else {
+        SHORT_COMMAND
     }
 }
 

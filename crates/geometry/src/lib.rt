@@ -4,5 +4,5 @@
 mod configs;
 mod keys;
 
-pub use configs::Config;
+pub use configs::{Config, command_blocks};
 pub use keys::{key_at, key_count, key_index, settings_index};

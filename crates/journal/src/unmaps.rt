@@ -7,7 +7,8 @@ ghost use Rattle.ufs_spec.specs.Exchanges.{Task};
 ghost use Rattle.ufs_spec.specs.Refusals.{State, locked, numbers_of};
 ghost use Rattle.journal.specs.Unmaps.{zeros_accepted, zeros_asked};
 
-use ufs_spec::{Cmd, GREATEST_COMMAND, Numbers, UnitSpec, read_u16, read_u32, read_u64};
+use geometry::command_blocks;
+use ufs_spec::{Cmd, Numbers, UnitSpec, read_u16, read_u32, read_u64};
 
 /// How long a list with a descriptor is.
 const LIST: usize = 24;
@@ -26,7 +27,7 @@ pub(crate) fn zeros_asked(numbers: &Numbers, unit: u8, list: &[u8]) -> Option<Cm
     }
     let address = read_u64(list, 8);
     let count = read_u32(list, 16);
-    if count == 0 || count > u32::from(GREATEST_COMMAND) {
+    if count == 0 || count > u32::from(command_blocks(numbers)) {
         return None;
     }
     let spec = numbers.units.as_slice().get(unit as usize)?;

@@ -1,8 +1,8 @@
 -- What a page that opens is.
-use Rattle.std.proofs.Common.{◌≡◌, ◌≢◌, ℕ, List, Option, ap, subst}
+use Rattle.std.proofs.Common.{◌≡◌, ◌≢◌, ℕ, List, Option, subst}
 use Rattle.ufs_spec.specs.Cells.{DataHold, GroupPage, IsCell, IsMarkBody, Mark, MarkPage, Nothing, Opens}
 use Rattle.ufs_spec.specs.Keys.{IsBlock, IsSettingsBody}
-use Rattle.ufs_spec.specs.Pages.{IsTag, seal_page}
+use Rattle.ufs_spec.specs.Pages.{IsSealedAs, IsTag}
 use Rattle.ufs_spec.specs.declared.configs.Numbers.{Numbers}
 use Rattle.ufs_spec.specs.declared.flash.Fence.{Fence}
 use Rattle.ufs_spec.specs.declared.flash.Page.{Page}
@@ -10,12 +10,12 @@ use Rattle.ufs_spec.specs.declared.flash.Tag.{Tag}
 use Rattle.ufs_spec.proofs.SealedPages.{one_body, one_tag}
 use Rattle.ufs_laws.proofs.pages.PageIsSomeCell.{tag_of_mark}
 
-module _ (page : Page) (tag : Tag) (body : List ℕ) (is_tag : IsTag tag) (sealed : page ≡ seal_page tag body)
+module _ (page : Page) (tag : Tag) (body : List ℕ) (is_tag : IsTag tag) (sealed : IsSealedAs page tag body)
     (is_block : IsBlock page.body) where
   opens : Opens page tag body
   opens = record {
     tag_right = is_tag;
-    body_right = subst IsBlock (ap (λ (p : Page). p.body) sealed) is_block;
+    body_right = subst IsBlock sealed.holds is_block;
     sealed = sealed;
   }
 
@@ -41,5 +41,5 @@ module _ (page : Page) (tag : Tag) (body : List ℕ) (is_tag : IsTag tag) (seale
   no_mark kind wrong = data_fail (λ hold. let m = hold.mark kind in wrong m.0 m.1 m.2)
 
 -- a page that does not open
-pub is_nothing : (page : Page) → ((t : Tag) (b : List ℕ) → IsTag t → ¬ (page ≡ seal_page t b)) → IsCell page Nothing
+pub is_nothing : (page : Page) → ((t : Tag) (b : List ℕ) → IsTag t → ¬ IsSealedAs page t b) → IsCell page Nothing
 is_nothing page closed t b h hold = closed t b h.tag_right h.sealed

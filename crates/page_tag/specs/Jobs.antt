@@ -1,6 +1,6 @@
 -- Jobs whose page is sealed later, and the tags of pages that were read (this profile).
 use Rattle.std.specs.Prelude.{◌≡◌, ℕ, List, Option, IfSome, None}
-use Rattle.ufs_spec.specs.Pages.{IsTag, seal_page}
+use Rattle.ufs_spec.specs.Pages.{IsSealedAs, IsTag, seal_page}
 use Rattle.ufs_spec.specs.declared.flash.Job.{Job}
 use Rattle.ufs_spec.specs.declared.flash.Job.TheVariants as job
 use Rattle.ufs_spec.specs.declared.flash.Outcome.{Outcome}
@@ -22,10 +22,10 @@ IsSealable (order.Program place tag body zeros) = IsTag tag
 IsSealable (order.Read place) = Unit {0}
 IsSealable (order.Erase die block) = Unit {0}
 
--- the page was sealed with this tag; there is none if the page was sealed with no tag
+-- the page is sealed with this tag; there is none if it is sealed with no tag
 pub record IsTagOf (page : Page) (found : Option Tag) : Type 0 where
-  pub sealed : IfSome found (λ t. IsTag t × (page ≡ seal_page t page.body))
-  pub refused : found ≡ None → (t : Tag) (b : List ℕ) → IsTag t → ¬ (page ≡ seal_page t b)
+  pub sealed : IfSome found (λ t. IsTag t × IsSealedAs page t page.body)
+  pub refused : found ≡ None → (t : Tag) (b : List ℕ) → IsTag t → ¬ IsSealedAs page t b
 
 -- the tag is that of the page that was read; there is no tag if no page was read
 abbrev pub IsTagRead : Outcome → Option Tag → Type 0

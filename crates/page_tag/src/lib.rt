@@ -1,6 +1,6 @@
 //! Seals a block with its tag into a flash page, opens a page again and tells what it is, and judges
-//! what a stop has left of one. The layouts of the spare bytes and of a mark's body are this profile's,
-//! version 1; the check is the SHA-256 of FIPS 180-4.
+//! what a stop has left of one. The layouts of the spare bytes and of a mark's body are this profile's: of
+//! the spare bytes version 2 is written, and version 1 is read too. The check is the SHA-256 of FIPS 180-4.
 #![tactic(auto)]
 
 mod check;

@@ -1,13 +1,13 @@
 //! Sealed pages.
 ghost use Rattle.std.specs.Prelude.{◌≡◌, ◌↔◌, ◌++◌, ℕ, List, IfSome, IsTrue, None, Some, take};
-ghost use Rattle.ufs_spec.specs.Pages.{IsTag, MayBeLeft, seal_page, spare_front};
+ghost use Rattle.ufs_spec.specs.Pages.{IsFrontOf, IsSealedAs, IsTag, MayBeLeft, seal_page};
 ghost use Rattle.ufs_spec.specs.declared.flash.Tag.{Tag};
 
 use crate::check::{check_bytes, is_check_right};
-use crate::front::{front_of, is_tag, tag_of};
+use crate::front::{front_of, has_front, is_tag, tag_of};
 use ufs_spec::{Block, Opened, Page, Tag};
 
-/// The page of a tag and a block. It takes one SHA-256.
+/// The page of a tag and a block, in version 2. It takes one SHA-256.
 pub fn seal(tag: &Tag, body: &Block) -> Page
     requires { IsTag tag.now }
     ensures { result ≡ seal_page tag.now body.now }
@@ -37,12 +37,12 @@ pub(crate) fn spare_of(front: &[u8; 64], check: &[u8; 32]) -> [u8; 96]
     spare
 }
 
-/// The tag of a page that `seal` could have made; the page's data are the block. `None` is for every other
-/// page: where magic, version, check or a byte that must be zero is wrong, or a field is out of its range. It
-/// takes one SHA-256, and none where the first 64 spare bytes are wrong already.
+/// The tag with which a page is sealed, in version 2 or in version 1; the page's data are the block. `None` is
+/// for every other page: where magic, version, check or a byte that must be zero is wrong, or a field is out of
+/// its version's range. It takes one SHA-256, and none where the first 64 spare bytes are wrong already.
 pub fn sealed_tag(page: &Page) -> Option<Tag>
-    ensures sealed { IfSome result (λ t. IsTag t × (page.now ≡ seal_page t page.now.body)) }
-    ensures refused { result ≡ None → (t : Tag) (b : List ℕ) → IsTag t → ¬ (page.now ≡ seal_page t b) }
+    ensures sealed { IfSome result (λ t. IsTag t × IsSealedAs page.now t page.now.body) }
+    ensures refused { result ≡ None → (t : Tag) (b : List ℕ) → IsTag t → ¬ IsSealedAs page.now t b }
 {
     let Some(tag) = front_tag(page) else {
         return None;
@@ -54,27 +54,26 @@ pub fn sealed_tag(page: &Page) -> Option<Tag>
 }
 
 /// The tag whose page has these first 64 spare bytes, whether or not its check is right. `None` is
-/// for a page whose first 64 spare bytes no tag within its ranges has. It takes no SHA-256.
+/// for a page whose first 64 spare bytes no tag has in either version. It takes no SHA-256.
 pub(crate) fn front_tag(page: &Page) -> Option<Tag>
-    ensures said { IfSome result (λ t. IsTag t × (take 64 page.now.spare ≡ spare_front t)) }
-    ensures refused { result ≡ None → (t : Tag) → IsTag t → ¬ (take 64 page.now.spare ≡ spare_front t) }
+    ensures said { IfSome result (λ t. IsTag t × IsFrontOf t (take 64 page.now.spare)) }
+    ensures refused { result ≡ None → (t : Tag) → IsTag t → ¬ IsFrontOf t (take 64 page.now.spare) }
 {
     let tag = tag_of(&page.spare);
     if !is_tag(&tag) {
         return None;
     }
-    let front = front_of(&tag);
-    if front[..] != page.spare[..64] {
+    if !has_front(&page.spare, &tag) {
         return None;
     }
     Some(tag)
 }
 
-/// The tag and the block of a page that `seal` could have made, and `None` for every other page, as
-/// [`sealed_tag`] has it. It copies the block.
+/// The tag and the block of a sealed page, and `None` for every other page, as [`sealed_tag`] has it. It
+/// copies the block.
 pub fn open(page: &Page) -> Option<Opened>
-    ensures sealed { IfSome result (λ o. IsTag o.tag × (page.now ≡ seal_page o.tag o.body)) }
-    ensures refused { result ≡ None → (t : Tag) (b : List ℕ) → IsTag t → ¬ (page.now ≡ seal_page t b) }
+    ensures sealed { IfSome result (λ o. IsTag o.tag × IsSealedAs page.now o.tag o.body) }
+    ensures refused { result ≡ None → (t : Tag) (b : List ℕ) → IsTag t → ¬ IsSealedAs page.now t b }
 {
     let Some(tag) = sealed_tag(page) else {
         return None;

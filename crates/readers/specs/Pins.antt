@@ -4,7 +4,9 @@ use Rattle.std.specs.Prelude.{ℕ, ◌+◌, ◌-◌, ◌*◌, ◌^◌, ◌==◌,
 use Rattle.std.specs.Prelude.{List, replicate}
 use Rattle.std.specs.List.{list_any}
 use Rattle.ufs_spec.specs.Disk.{spot_of}
+use Rattle.ufs_spec.specs.Exchanges.{most_tasks}
 use Rattle.ufs_spec.specs.Ledger.{same_name}
+use Rattle.ufs_spec.specs.Plain.{greatest_command}
 use Rattle.ufs_spec.specs.declared.layer.Looked.{Looked}
 use Rattle.ufs_spec.specs.declared.layer.Looked.TheVariants.{InSlot, OnPage, Unwritten}
 use Rattle.ufs_spec.specs.declared.layer.Reader.TheVariants.{ForTask}
@@ -13,6 +15,10 @@ use Rattle.block_table.specs.Rows.{reads_for}
 use Rattle.block_table.specs.declared.rows.DieRow.{DieRow}
 use Rattle.unit_map.specs.declared.Stored.{Stored}
 use Rattle.readers.specs.declared.pin.Pin.{Pin}
+
+-- how many pins there may be: each task keeps at most the blocks of one command
+abbrev pub most_pins : ℕ
+most_pins = most_tasks * greatest_command
 
 -- Whose a pin is, and who is owed a read
 

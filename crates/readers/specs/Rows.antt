@@ -1,6 +1,7 @@
 -- Rows of pins, each of one reader.
 use Rattle.std.specs.Prelude.{◌≡◌, ℕ, ◌+◌, ◌≤◌, ◌==◌, Bool, true, false, ◌&&◌, nat_le, nat_lt}
 use Rattle.std.specs.Prelude.{◌-◌, List, [], ◌∷◌, ◌++◌, length, slice_get, Option, None, Some}
+use Rattle.ufs_spec.specs.Plain.{greatest_command}
 use Rattle.ufs_spec.specs.declared.layer.Looked.{Looked}
 use Rattle.ufs_spec.specs.declared.layer.Looked.TheVariants.{InSlot, OnPage, Unwritten}
 use Rattle.block_table.specs.Lives.{Lives}
@@ -17,9 +18,10 @@ pub record RowPins : Type 0 where
 abbrev pub row_of : Pin → RowPins
 row_of p = record { reader = p.reader; next = p.index + 1; pins = p ∷ [] }
 
--- the row has room for the pin: it is of the reader, and its index is above all that were there
+-- the row has room for the pin: it is of the reader, its index is above all that were there, and it has fewer than the
+-- greatest command has blocks
 abbrev pub takes : RowPins → Pin → Bool
-takes r p = (r.reader == p.reader) && (nat_le r.next p.index && nat_lt (length r.pins) 32)
+takes r p = (r.reader == p.reader) && (nat_le r.next p.index && nat_lt (length r.pins) greatest_command)
 
 -- the last of the rows has room for the pin
 abbrev pub takes_at : Option RowPins → Pin → Bool

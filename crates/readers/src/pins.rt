@@ -1,8 +1,8 @@
 //! What readers keep: each block of a reader once, in the order in which they were kept.
 ghost use Rattle.std.specs.Prelude.{◌≡◌, ◌<◌, ◌++◌, ◌∷◌, [], IfOk, filter, find, fold, length};
 ghost use Rattle.std.specs.Prelude.{List, map, not};
-ghost use Rattle.readers.specs.Pins.{is_of_reader, is_owed_by, is_pin_of, let_go, moved_pin};
-ghost use Rattle.readers.specs.Pins.{pin_moves, wanted_no_more, wanted_now, without_pins};
+ghost use Rattle.readers.specs.Pins.{is_of_reader, is_owed_by, is_pin_of, let_go, most_pins};
+ghost use Rattle.readers.specs.Pins.{moved_pin, pin_moves, wanted_no_more, wanted_now, without_pins};
 
 use crate::counts::{pin_moves, unpin_block_of, unpin_blocks};
 use crate::pin::Pin;
@@ -21,7 +21,7 @@ use unit_map::Stored;
 /// How many blocks readers may keep: each task those of a command.
 pub const MOST_PINS: usize = MOST_TASKS * GREATEST_COMMAND as usize;
 
-/// What readers keep, each block of a reader once, in the order in which they came: at most 1024,
+/// What readers keep, each block of a reader once, in the order in which they came: at most 4096,
 /// with room for all of them. They lie in at most 32 rows of one reader each, so that a call looks
 /// into those of its reader alone. All memory is taken by `new`.
 #[derive(Drop)]
@@ -68,7 +68,7 @@ impl Pins {
 
     /// One pin more, behind all others.
     pub fn push(&mut self, pin: Pin)
-        requires room { length self.old < 1024 }
+        requires room { length self.old < most_pins }
         ensures { self.new ≡ self.old ++ pin ∷ [] }
     {
         if !self.rest.is_empty() || !push_in(&mut self.rows, &mut self.spare, pin) {

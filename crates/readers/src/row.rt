@@ -2,6 +2,7 @@
 ghost use Rattle.std.specs.Prelude.{◌≡◌, ◌≤◌, ◌==◌, [], IfOk, count_by, drop, filter, find, fold};
 ghost use Rattle.std.specs.Prelude.{if◌then◌else◌, length, map, not, option_copied, take};
 ghost use Rattle.std.specs.VecDeque.{deque_capacity};
+ghost use Rattle.ufs_spec.specs.Plain.{greatest_command};
 ghost use Rattle.readers.specs.Pins.{is_of_reader, is_owed_by, is_pin_of, let_go, moved_pin};
 ghost use Rattle.readers.specs.Pins.{pin_moves, wanted_no_more, wanted_now};
 ghost use Rattle.readers.specs.Rows.{first_let_go, first_set, is_slotted, is_wanted, row_of, starts_at, takes};
@@ -20,7 +21,7 @@ use unit_map::Stored;
 /// How many pins a row has room for: the blocks of a command.
 const MOST_IN_ROW: usize = GREATEST_COMMAND as usize;
 
-/// Pins of one reader, at most 32, whose indices rise, with room for all of them. It tells how many
+/// Pins of one reader, at most 128, whose indices rise, with room for all of them. It tells how many
 /// of them are wanted and how many look into a slot, so that a walk may pass over it.
 #[derive(Drop)]
 pub(crate) struct Row {
@@ -86,7 +87,7 @@ fn drop_among(pins: &mut VecDeque<Pin>, reader: u8, index: u16)
 }
 
 impl Row {
-    /// Room for 32 pins, and none yet.
+    /// Room for the pins of a command, and none yet.
     pub(crate) fn new(alloc: Global) -> Result<Row, AllocError>
         ensures { IfOk result (λ r. r.pins ≡ []) }
     {
@@ -102,7 +103,7 @@ impl Row {
     /// How many pins it holds.
     pub(crate) fn len(&self) -> usize
         ensures is { result ≡ length self.now.pins }
-        ensures few { result ≤ 32 }
+        ensures few { result ≤ greatest_command }
     {
         self.pins.len()
     }
@@ -120,7 +121,7 @@ impl Row {
     }
 
     /// One pin more, behind all others, and whether there was room: the pin is of the reader, its
-    /// index is above all that were here, and there are fewer than 32.
+    /// index is above all that were here, and there are fewer than 128.
     pub(crate) fn push(&mut self, pin: Pin) -> bool
         ensures is { result ≡ takes self.old pin }
         ensures after { self.new ≡ (if result then with_pin self.old pin else self.old) }

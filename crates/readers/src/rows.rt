@@ -1,8 +1,9 @@
 //! Walks over rows of pins, one row behind the other.
 ghost use Rattle.std.specs.Prelude.{◌≡◌, ◌+◌, ◌++◌, ◌≤◌, ◌∷◌, ◌||◌, [], IfOk, filter, find, fold};
 ghost use Rattle.std.specs.Prelude.{if◌then◌else◌, length, map, nat_lt, not, vec_capacity};
-ghost use Rattle.readers.specs.Pins.{is_of_reader, is_owed_by, is_pin_of, let_go, moved_pin};
-ghost use Rattle.readers.specs.Pins.{pin_moves, wanted_no_more, wanted_now};
+ghost use Rattle.ufs_spec.specs.Exchanges.{most_tasks};
+ghost use Rattle.readers.specs.Pins.{is_of_reader, is_owed_by, is_pin_of, let_go, most_pins};
+ghost use Rattle.readers.specs.Pins.{moved_pin, pin_moves, wanted_no_more, wanted_now};
 ghost use Rattle.readers.specs.Rows.{AreFilled, last_takes, pins_in};
 
 use crate::pin::Pin;
@@ -14,8 +15,8 @@ use unit_map::Stored;
 
 /// Rows that hold no pin: one for each task.
 pub(crate) fn spare_rows(alloc: Global) -> Result<Vec<Row>, AllocError>
-    ensures long { IfOk result (λ v. length v.items ≡ 32) }
-    ensures room { IfOk result (λ v. 32 ≤ vec_capacity v) }
+    ensures long { IfOk result (λ v. length v.items ≡ most_tasks) }
+    ensures room { IfOk result (λ v. most_tasks ≤ vec_capacity v) }
 {
     let mut rows = Vec::with_capacity(alloc, MOST_TASKS)?;
     for _ in 0..MOST_TASKS {
@@ -26,9 +27,9 @@ pub(crate) fn spare_rows(alloc: Global) -> Result<Vec<Row>, AllocError>
 
 /// How many pins the rows hold.
 pub(crate) fn count_in(rows: &[Row]) -> usize
-    requires { length rows.now ≤ 32 }
+    requires { length rows.now ≤ most_tasks }
     ensures is { result ≡ length (pins_in rows.now) }
-    ensures few { result ≤ 1024 }
+    ensures few { result ≤ most_pins }
 {
     let mut count = 0;
     for row in rows.iter() {
@@ -40,8 +41,8 @@ pub(crate) fn count_in(rows: &[Row]) -> usize
 /// The pin is behind all that the rows hold, if there is room: in the last row, if that takes it,
 /// else in a row that was spare.
 pub(crate) fn push_in(rows: &mut Vec<Row>, spare: &mut Vec<Row>, pin: Pin) -> bool
-    requires few { length rows.old.items + length spare.old.items ≤ 32 }
-    requires room { 32 ≤ vec_capacity rows.old }
+    requires few { length rows.old.items + length spare.old.items ≤ most_tasks }
+    requires room { most_tasks ≤ vec_capacity rows.old }
     ensures is { result ≡
         (last_takes rows.old.items pin || nat_lt 0 (length spare.old.items)) }
     ensures pins { pins_in rows.new.items ≡
@@ -149,8 +150,8 @@ pub(crate) fn drop_all_in(
     live: &mut LivePages,
     reader: u8,
 )
-    requires few { length rows.old.items + length spare.old.items ≤ 32 }
-    requires room { 32 ≤ vec_capacity spare.old }
+    requires few { length rows.old.items + length spare.old.items ≤ most_tasks }
+    requires room { most_tasks ≤ vec_capacity spare.old }
     ensures left { pins_in rows.new.items ≡
         filter (λ p. not (is_of_reader reader p)) (pins_in rows.old.items) }
     ensures blocks { live.new ≡

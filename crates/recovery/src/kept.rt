@@ -1,20 +1,23 @@
 //! The greatest numbers that pages say, and the number up to which every group is whole.
-ghost use Rattle.std.specs.Prelude.{◌≡◌, ℕ, ◌<◌, ◌≤◌, ◌^◌, ◌↔◌, IsTrue, IfOk, Option, Some, length, replicate, slice_get};
+ghost use Rattle.std.specs.Prelude.{◌≡◌, ◌⊎◌, ◌↔◌, ℕ, ◌+◌, ◌*◌, ◌^◌, ◌<◌, ◌≤◌, IsTrue, IfOk};
+ghost use Rattle.std.specs.Prelude.{Option, Some, false, length, replicate, slice_get};
 ghost use Rattle.ufs_spec.specs.Cells.{Cells, Mark};
 ghost use Rattle.ufs_spec.specs.Kept.{IsFenced, IsKept, IsRecorded, fence_in};
 ghost use Rattle.ufs_spec.specs.Openings.{IsGreatestSeen, lost_from};
-ghost use Rattle.ufs_spec.specs.Pages.{greatest_number};
-ghost use Rattle.recovery.specs.Buckets.{AreBuckets, IsNotedAt, IsWholeBucket, noted, nothing_noted};
+ghost use Rattle.ufs_spec.specs.Pages.{greatest_number, group_bound};
+ghost use Rattle.recovery.specs.Buckets.{AreBuckets, HasIndex, HasRoom, IsNotedAt, IsWholeBucket};
+ghost use Rattle.recovery.specs.Buckets.{noted, nothing_noted};
 ghost use Rattle.recovery.specs.Greatest.{FrontiersWithin, NumbersWithin, fence_end};
 ghost use Rattle.recovery.specs.Listed.{AreListed, IsMarksRecord};
 ghost use Rattle.recovery.specs.declared.kept.Bucket.{Bucket};
 
 use crate::pages::FoundPage;
 use std::alloc::{AllocError, Global};
-use ufs_spec::{Fence, GREATEST_COMMAND, GREATEST_NUMBER, Tag};
+use ufs_spec::{Fence, GREATEST_GROUP, GREATEST_NUMBER, Tag};
+use word_set::WordSet;
 
-/// How many pages a group may have.
-const LONGEST_GROUP: usize = GREATEST_COMMAND as usize;
+/// How many pages a group may have that is found, which may be more than the device accepts as one.
+const LONGEST_GROUP: usize = GREATEST_GROUP as usize;
 
 /// Whether the number lies within the fence.
 fn is_fenced(fence: Option<Fence>, number: u64) -> bool
@@ -75,48 +78,46 @@ pub(crate) fn first_lost(fence: Option<Fence>, kept: u64) -> u64
     }
 }
 
-/// What is noted of the pages of one group: the size that they say (0 for no page), whether one of
-/// them says another size, and which indexes they have.
+/// What is noted of the pages of one group: the size that they say (0 for no page), and whether one
+/// of them says another size.
 #[derive(Clone, Copy)]
 struct Bucket {
     size: u16,
     mixed: bool,
-    seen: [bool; LONGEST_GROUP],
 }
 
 /// What is noted of no page.
 const EMPTY: Bucket = Bucket {
     size: 0,
     mixed: false,
-    seen: [false; LONGEST_GROUP],
 };
 
 impl Bucket {
-    /// Notes a page of the group.
-    fn note(&mut self, tag: Tag)
-        ensures { self.new ≡ noted self.old tag }
+    /// Notes the size that a page of the group says.
+    #[tactic(auto, unfolding(crate::specs::Buckets::noted))]
+    fn note(&mut self, size: u16)
+        ensures { self.new ≡ noted self.old size }
     {
         if self.size == 0 {
-            self.size = tag.size;
-        } else if self.size != tag.size {
+            self.size = size;
+        } else if self.size != size {
             self.mixed = true;
-        }
-        let index = usize::from(tag.index);
-        if index < LONGEST_GROUP {
-            self.seen[index] = true;
         }
     }
 
-    /// Whether the pages say one size, and each index below it is there.
-    fn is_whole(&self) -> bool
-        ensures { IsTrue result ↔ IsWholeBucket self.now }
+    /// Whether the pages say one size, and each index below it is there. Here `seen` has the
+    /// indexes of all buckets, and `at` is the place of this one among them.
+    fn is_whole(&self, seen: &WordSet, at: usize) -> bool
+        requires there { (at + 1) * group_bound ≤ length seen.now }
+        requires few { length seen.now < 2 ^ 64 }
+        ensures { IsTrue result ↔ IsWholeBucket self.now (HasIndex seen.now at) }
     {
         let size = usize::from(self.size);
         if self.mixed || size == 0 || size > LONGEST_GROUP {
             return false;
         }
         for index in 0..size {
-            if !self.seen[index] {
+            if !seen.has(at * LONGEST_GROUP + index) {
                 return false;
             }
         }
@@ -124,51 +125,92 @@ impl Bucket {
     }
 }
 
-/// Notes the page in the bucket of its number, if there is one.
-fn note_page(buckets: &mut [Bucket], from: u64, tag: Tag)
-    ensures { IsNotedAt buckets.old from tag buckets.new }
+/// Notes the index of a page of the group whose bucket is at this place. No group has an index from
+/// `LONGEST_GROUP` on, and such a one is not noted.
+fn note_index(seen: &mut WordSet, at: usize, index: usize)
+    requires there { (at + 1) * group_bound ≤ length seen.old }
+    requires few { length seen.old < 2 ^ 64 }
+    ensures same { length seen.new ≡ length seen.old }
+    ensures what { (k x : ℕ) → x < group_bound →
+        (HasIndex seen.new k x ↔ HasIndex seen.old k x ⊎ ((k ≡ at) × (x ≡ index))) }
 {
-    if tag.number > from {
-        let at = (tag.number - from - 1) as usize;
-        if at < buckets.len() {
-            buckets[at].note(tag);
-        }
+    if index < LONGEST_GROUP {
+        seen.set(at * LONGEST_GROUP + index, true);
     }
 }
 
-/// Buckets in which no page is noted.
-fn no_pages(alloc: Global, count: usize) -> Result<Vec<Bucket>, AllocError>
-    ensures { IfOk result (λ v. v.items ≡ replicate count nothing_noted) }
-{
-    Ok(vec![in alloc; EMPTY; count]?)
+/// What is noted of the pages of groups whose numbers follow one another: a bucket for each group,
+/// and which indexes its pages have.
+///
+/// One set has the indexes of all buckets, with a bit for each, since there may be as many buckets
+/// as pages. The index `i` of the bucket `k` is the number `k * LONGEST_GROUP + i` there.
+#[derive(Drop)]
+struct Groups {
+    buckets: Vec<Bucket>,
+    seen: WordSet,
+}
+
+impl Groups {
+    /// So many buckets, in which no page is noted.
+    fn new(alloc: Global, count: usize) -> Result<Groups, AllocError>
+        ensures buckets { IfOk result (λ g. g.buckets.items ≡ replicate count nothing_noted) }
+        ensures seen { IfOk result (λ g. g.seen ≡ replicate (count * group_bound) false) }
+        ensures few { IfOk result (λ g. count * group_bound < 2 ^ 64) }
+    {
+        // No memory has room for so many indexes that 64 bits cannot count them.
+        let Some(indexes) = count.checked_mul(LONGEST_GROUP) else {
+            return Err(AllocError);
+        };
+        let buckets = vec![in alloc; EMPTY; count]?;
+        let seen = WordSet::new(alloc, indexes)?;
+        Ok(Groups { buckets, seen })
+    }
+
+    /// Notes the page in the bucket of its number, if there is one.
+    fn note(&mut self, from: u64, tag: Tag)
+        requires { HasRoom self.old }
+        ensures { IsNotedAt self.old from tag self.new }
+    {
+        if tag.number > from {
+            let at = (tag.number - from - 1) as usize;
+            if at < self.buckets.len() {
+                self.buckets[at].note(tag.size);
+                note_index(&mut self.seen, at, usize::from(tag.index));
+            }
+        }
+    }
+
+    /// How many of the groups are whole before the first that is not.
+    fn whole_count(&self) -> usize
+        requires { HasRoom self.now }
+        ensures within { result ≤ length self.now.buckets.items }
+        ensures whole { (k : ℕ) (b : Bucket) → k < result →
+            slice_get self.now.buckets.items k ≡ Some b →
+            IsWholeBucket b (HasIndex self.now.seen k) }
+        ensures stops { (b : Bucket) → slice_get self.now.buckets.items result ≡ Some b →
+            IsWholeBucket b (HasIndex self.now.seen result) → ⊥ }
+    {
+        for (count, bucket) in self.buckets.iter().enumerate() {
+            if !bucket.is_whole(&self.seen, count) {
+                return count;
+            }
+        }
+        self.buckets.len()
+    }
 }
 
 /// A bucket for each number behind this one, with what the pages say. There are as many as pages,
 /// since no more whole groups can follow the number, but none for a number above the highest.
-fn groups_behind(alloc: Global, pages: &[FoundPage], from: u64) -> Result<Vec<Bucket>, AllocError>
+fn groups_behind(alloc: Global, pages: &[FoundPage], from: u64) -> Result<Groups, AllocError>
     requires { from ≤ greatest_number }
-    ensures { IfOk result (λ v. AreBuckets pages.now from v.items) }
+    ensures { IfOk result (λ g. AreBuckets pages.now from g) }
 {
     let count = pages.len().min((GREATEST_NUMBER - from) as usize);
-    let mut buckets = no_pages(alloc, count)?;
+    let mut groups = Groups::new(alloc, count)?;
     for page in pages {
-        note_page(&mut buckets, from, page.tag);
+        groups.note(from, page.tag);
     }
-    Ok(buckets)
-}
-
-/// How many of the groups are whole before the first that is not.
-fn whole_count(buckets: &[Bucket]) -> usize
-    ensures within { result ≤ length buckets.now }
-    ensures whole { (k : ℕ) (b : Bucket) → k < result → slice_get buckets.now k ≡ Some b → IsWholeBucket b }
-    ensures stops { (b : Bucket) → slice_get buckets.now result ≡ Some b → IsWholeBucket b → ⊥ }
-{
-    for (count, bucket) in buckets.iter().enumerate() {
-        if !bucket.is_whole() {
-            return count;
-        }
-    }
-    buckets.len()
+    Ok(groups)
 }
 
 /// The kept number: the last, from the greatest recorded frontier on, at or under which each group
@@ -178,6 +220,6 @@ pub(crate) fn kept_number(alloc: Global, pages: &[FoundPage], from: u64) -> Resu
     ensures kept { IfOk result (λ k. (c : Cells) (m : Option Mark) → AreListed c pages.now → IsRecorded c m from → IsKept c m k) }
     ensures bounded { IfOk result (λ k. k ≤ greatest_number) }
 {
-    let buckets = groups_behind(alloc, pages, from)?;
-    Ok(from + whole_count(&buckets) as u64)
+    let groups = groups_behind(alloc, pages, from)?;
+    Ok(from + groups.whole_count() as u64)
 }

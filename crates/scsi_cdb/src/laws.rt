@@ -1,6 +1,6 @@
 //! What holds of the definitions themselves. The functions do nothing: their contracts are laws.
 ghost use Rattle.std.specs.Prelude.{◌≡◌, ◌∷◌, ◌++◌, ◌*◌, [], ℕ, length, replicate, slice_index};
-ghost use Rattle.std.specs.Prelude.{true, false};
+ghost use Rattle.std.specs.Prelude.{◌<◌, true, false};
 ghost use Rattle.ufs_spec.specs.Messages.{IsAmong};
 ghost use Rattle.ufs_spec.specs.Cdbs.{IsCdb, ToDevice, carried, cdb_bytes, direction_of};
 ghost use Rattle.ufs_spec.specs.Cdbs.{fixed_sense, known_operations, length_of, operation_of, residual_of};
@@ -78,13 +78,16 @@ pub fn worked_residuals()
 {}
 
 /// Some lists of UNMAP: two blocks from address 5 on; a header alone; a header that counts its
-/// first two bytes; 33 blocks; a last byte that is not zero.
+/// first two bytes; 129 blocks, and 33 where there are fewer than 256 slots; a last byte that is not zero.
 pub fn worked_lists()
     ensures blocks { (n : Numbers) → list_read n ((0 ∷ 0x16 ∷ 0 ∷ 0x10 ∷ replicate 11 0)
         ++ (5 ∷ 0 ∷ 0 ∷ 0 ∷ 2 ∷ replicate 4 0)) ≡ Descriptor 5 2 }
     ensures header { (n : Numbers) → list_read n (0 ∷ 6 ∷ replicate 6 0) ≡ HeaderOnly }
     ensures length { (n : Numbers) → list_read n (0 ∷ 8 ∷ replicate 6 0) ≡ Malformed }
     ensures many { (n : Numbers) → list_read n ((0 ∷ 0x16 ∷ 0 ∷ 0x10 ∷ replicate 11 0)
+        ++ (5 ∷ 0 ∷ 0 ∷ 0 ∷ 129 ∷ replicate 4 0)) ≡ Malformed }
+    ensures many_of_few_slots { (n : Numbers) → n.slots < 256 →
+        list_read n ((0 ∷ 0x16 ∷ 0 ∷ 0x10 ∷ replicate 11 0)
         ++ (5 ∷ 0 ∷ 0 ∷ 0 ∷ 33 ∷ replicate 4 0)) ≡ Malformed }
     ensures last { (n : Numbers) → list_read n ((0 ∷ 0x16 ∷ 0 ∷ 0x10 ∷ replicate 11 0)
         ++ (5 ∷ 0 ∷ 0 ∷ 0 ∷ 2 ∷ 0 ∷ 0 ∷ 0 ∷ 1 ∷ [])) ≡ Malformed }

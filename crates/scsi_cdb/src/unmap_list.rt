@@ -1,13 +1,12 @@
 //! UNMAP's parameter list (SBC, UNMAP parameter list): a header, and perhaps one block descriptor.
 ghost use Rattle.std.specs.Prelude.{◌≡◌, ◌≤◌, ◌==◌, ◌||◌, ◌⊎◌, ℕ, false, length, nat_lt, not};
+ghost use Rattle.ufs_spec.specs.Configs.{command_blocks};
 ghost use Rattle.ufs_spec.specs.DataOuts.{has_list_header};
-ghost use Rattle.ufs_spec.specs.Plain.{greatest_command};
 ghost use Rattle.ufs_spec.specs.declared.configs.Numbers.{Numbers};
 ghost use Rattle.scsi_cdb.specs.Lists.{list_read};
 ghost use Rattle.scsi_cdb.specs.declared.unmap_list.UnmapList.TheVariants as said;
 
 use ufs_bytes::{read_u16, read_u32, read_u64};
-use ufs_spec::GREATEST_COMMAND;
 
 /// How many bytes the header has.
 const HEADER: usize = 8;
@@ -24,13 +23,12 @@ pub enum UnmapList {
 }
 
 /// Reads UNMAP's parameter list: first its header is judged, then its descriptor, which a list of 8
-/// bytes has not. A descriptor of more blocks than a command may have is malformed. Whether the
+/// bytes has not. A descriptor of more blocks than a command may have, `most`, is malformed. Whether the
 /// blocks lie in the unit is not looked at.
-pub fn read_unmap_list(list: &[u8]) -> UnmapList
+pub fn read_unmap_list(most: u16, list: &[u8]) -> UnmapList
     requires { (length list.now ≡ 8) ⊎ (length list.now ≡ 24) }
-    ensures list { (n : Numbers) → result ≡ list_read n list.now }
-    ensures few { (address count : ℕ) → result ≡ said.Descriptor address count →
-        count ≤ greatest_command }
+    ensures list { (n : Numbers) → most ≡ command_blocks n → result ≡ list_read n list.now }
+    ensures few { (address count : ℕ) → result ≡ said.Descriptor address count → count ≤ most }
 {
     if !has_list_header(list) {
         return UnmapList::Malformed;
@@ -40,7 +38,7 @@ pub fn read_unmap_list(list: &[u8]) -> UnmapList
     }
     let count = read_u32(list, 16);
     let last = read_u32(list, 20);
-    if is_wrong_descriptor(count, last) {
+    if is_wrong_descriptor(most, count, last) {
         return UnmapList::Malformed;
     }
     UnmapList::Descriptor {
@@ -62,9 +60,9 @@ fn has_list_header(list: &[u8]) -> bool
 
 // Whether a descriptor with this count and these last four bytes counts more blocks than a command
 // may have, or the last four bytes are not zero.
-fn is_wrong_descriptor(count: u32, last: u32) -> bool
-    ensures wrong { result ≡ (nat_lt greatest_command count || not (last == 0)) }
-    ensures few { result ≡ false → count ≤ greatest_command }
+fn is_wrong_descriptor(most: u16, count: u32, last: u32) -> bool
+    ensures wrong { result ≡ (nat_lt most count || not (last == 0)) }
+    ensures few { result ≡ false → count ≤ most }
 {
-    count > u32::from(GREATEST_COMMAND) || last != 0
+    count > u32::from(most) || last != 0
 }

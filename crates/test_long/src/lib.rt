@@ -18,6 +18,8 @@ mod held;
 #[cfg(test)]
 mod kept;
 #[cfg(test)]
+mod long_groups;
+#[cfg(test)]
 mod player;
 #[cfg(test)]
 mod read_beside;

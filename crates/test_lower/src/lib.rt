@@ -1,7 +1,8 @@
 //! Each public function of the lower crates once, what the worked rows say of contents, the
 //! comparison of journals, victims and plans, area pages that are written in part, the newest pages
-//! of keys, what queries and units tell, lists of UNMAP, and pages of zeros. Expected bytes come
-//! from the device's formats and from the standards, never from the program's own output.
+//! of keys, what queries and units tell, lists of UNMAP, pages of zeros, and pages of both versions.
+//! Expected bytes come from the device's formats and from the standards, never from the program's
+//! own output.
 #![tactic(auto)]
 
 #[cfg(test)]
@@ -22,6 +23,8 @@ mod last_pages;
 mod macs;
 #[cfg(test)]
 mod page_contents;
+#[cfg(test)]
+mod page_versions;
 #[cfg(test)]
 mod place_searches;
 #[cfg(test)]

@@ -185,6 +185,49 @@ fn a_read_that_fails(rt: HostRuntime) -> Result<(), Fail> {
     Ok(())
 }
 
+/// A group of 128 pages, which lie on all dies, is kept once its last page is there.
+#[test]
+fn a_group_of_128_pages_is_kept_once_it_is_whole(rt: HostRuntime) -> Result<(), Fail> {
+    let config = row_config()?;
+    let mut dies = row_dies(rt.alloc())?;
+    for index in 0..127u16 {
+        let place = at((index % 4) as u8, 0, index / 4);
+        let page = data(u32::from(index), 1, (index, 128));
+        put(&rt, dies.as_mut_slice(), place, &page);
+    }
+    let found = scanned(&rt, rt.alloc(), &config, dies.as_mut_slice())?;
+    assert!(rt; has_numbers(&found, (0, 1, 1)) && lies_nowhere(&found, 0));
+    put(
+        &rt,
+        dies.as_mut_slice(),
+        at(3, 0, 31),
+        &data(127, 1, (127, 128)),
+    );
+    let found = scanned(&rt, rt.alloc(), &config, dies.as_mut_slice())?;
+    assert!(rt; has_numbers(&found, (1, 1, 2)) && found.lost.is_empty());
+    assert!(rt; lies_at(&found, 0, at(0, 0, 0)) && lies_at(&found, 127, at(3, 0, 31)));
+    Ok(())
+}
+
+/// The first page of a group is of version 1, and the second one, of version 2, makes the group whole.
+/// The page of version 1 has a copy of version 2, and the one at the lower place is told.
+#[test]
+fn pages_of_both_versions_are_one_group(rt: HostRuntime) -> Result<(), Fail> {
+    let config = row_config()?;
+    let mut dies = row_dies(rt.alloc())?;
+    put(&rt, dies.as_mut_slice(), at(1, 0, 0), &old_data());
+    let found = scanned(&rt, rt.alloc(), &config, dies.as_mut_slice())?;
+    assert!(rt; has_numbers(&found, (0, 1, 1)));
+    put(&rt, dies.as_mut_slice(), at(2, 0, 0), &data(9, 1, (1, 2)));
+    let found = scanned(&rt, rt.alloc(), &config, dies.as_mut_slice())?;
+    assert!(rt; has_numbers(&found, (1, 1, 2)) && found.lost.is_empty());
+    assert!(rt; lies_at(&found, 8, at(1, 0, 0)) && lies_at(&found, 9, at(2, 0, 0)));
+    put(&rt, dies.as_mut_slice(), at(0, 5, 0), &data(8, 1, (0, 2)));
+    let found = scanned(&rt, rt.alloc(), &config, dies.as_mut_slice())?;
+    assert!(rt; has_numbers(&found, (1, 1, 2)) && lies_at(&found, 8, at(0, 5, 0)));
+    Ok(())
+}
+
 /// Settings with permanent write protection, and none without a page of them.
 #[test]
 fn settings_tell_permanent_protection(rt: HostRuntime) -> Result<(), Fail> {
@@ -217,7 +260,7 @@ pub(crate) fn row_dies(alloc: Global) -> Result<Vec<MemDie>, Fail> {
 /// A page of unit 0, with its group's number, and its index and the size of its group.
 pub(crate) fn data(address: u32, number: u64, part: (u16, u16)) -> Page
     requires { (address < 2 ^ 32) × (1 ≤ number) × (number ≤ 2 ^ 62)
-        × (part.0 < part.1) × (part.1 ≤ 32) }
+        × (part.0 < part.1) × (part.1 ≤ 128) }
 {
     let tag = Tag {
         kind: Tag::DATA,
@@ -229,6 +272,28 @@ pub(crate) fn data(address: u32, number: u64, part: (u16, u16)) -> Page
         frontier: 0,
     };
     seal(&tag, &[0x5A; 4096])
+}
+
+/// The page of address 8 of unit 0 in version 1: the first of two pages of group 1. Its check is that of
+/// another implementation of SHA-256.
+fn old_data() -> Page {
+    let check: [u8; 32] = [
+        0x58, 0x0B, 0x6E, 0x3E, 0x61, 0xF9, 0xF6, 0xE4, 0x56, 0x38, 0xE8, 0x25, 0x81, 0x1D, 0x9D,
+        0x14, 0x3E, 0xE8, 0xEE, 0x21, 0x40, 0xDE, 0xAA, 0xDA, 0x1C, 0xEC, 0xD5, 0xBA, 0xE1, 0x24,
+        0xC3, 0x13,
+    ];
+    let mut spare = [0; 96];
+    spare[..4].copy_from_slice(b"UFSP");
+    spare[4] = 1;
+    spare[5] = Tag::DATA;
+    spare[11] = 8;
+    spare[19] = 1;
+    spare[21] = 2;
+    spare[64..].copy_from_slice(&check);
+    Page {
+        body: [0x5A; 4096],
+        spare,
+    }
 }
 
 /// A page of the settings, with its group's number and whether write protection is permanent.

@@ -35,7 +35,7 @@ fn lists_of_unmap_are_read(rt: HostRuntime) {
     far[19] = 0;
     assert!(rt; names_blocks(&far, 0xFF00_0000_0000_0005, 0));
     let header = [0, 6, 0, 0, 0, 0, 0, 0];
-    assert!(rt; matches!(read_unmap_list(&header), UnmapList::HeaderOnly));
+    assert!(rt; matches!(read_unmap_list(32, &header), UnmapList::HeaderOnly));
 }
 
 /// A wrong length, a byte of the header or of the last four that is not zero, and 33 blocks are
@@ -59,7 +59,7 @@ fn other_lists_of_unmap_are_malformed(rt: HostRuntime) {
 
 /// Whether a list of 24 bytes names so many blocks from this address on.
 fn names_blocks(list: &[u8; 24], first: u64, blocks: u16) -> bool {
-    match read_unmap_list(list) {
+    match read_unmap_list(32, list) {
         UnmapList::Descriptor { address, count } => address == first && count == blocks,
         _ => false,
     }
@@ -69,5 +69,5 @@ fn names_blocks(list: &[u8; 24], first: u64, blocks: u16) -> bool {
 fn is_malformed(list: &[u8]) -> bool
     requires { (length list.now ≡ 8) ⊎ (length list.now ≡ 24) }
 {
-    matches!(read_unmap_list(list), UnmapList::Malformed)
+    matches!(read_unmap_list(32, list), UnmapList::Malformed)
 }

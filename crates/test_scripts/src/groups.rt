@@ -15,7 +15,7 @@ const READ: &str = "280000000000000020";
 
 impl Script {
     /// The DATA IN of whole blocks at these offsets, for each of which a die may have to read.
-    fn blocks<'a>(&mut self, tag: &'a str, offsets: &[&'a str], byte: &'a str) {
+    pub fn blocks<'a>(&mut self, tag: &'a str, offsets: &[&'a str], byte: &'a str) {
         for offset in offsets {
             self.add(&[Settle("2"), DataIn(tag, offset, "1000", byte, 4096)]);
         }

@@ -21,6 +21,8 @@ mod images;
 #[cfg(test)]
 mod locks;
 #[cfg(test)]
+mod long_commands;
+#[cfg(test)]
 mod managed_tasks;
 #[cfg(test)]
 mod messages;

@@ -4,5 +4,6 @@ pub mod ByteLists
 pub mod MarkBodies
 pub mod PageIsOneCell
 pub mod PageIsSomeCell
+pub mod PageVersions
 pub mod SealedOnce
 pub mod SettingsBodies

@@ -1,12 +1,15 @@
 //! Arrays of pages, and what they stand for.
-ghost use Rattle.std.specs.Prelude.{◌≡◌, ℕ, List, Option};
+ghost use Rattle.std.specs.Prelude.{◌≡◌, ◌⊎◌, ◌++◌, ◌≤◌, ℕ, List, Option, slice_index};
 ghost use Rattle.ufs_spec.specs.declared.Key.{Key};
 ghost use Rattle.ufs_spec.specs.declared.Numbers.{Numbers};
 ghost use Rattle.ufs_spec.specs.declared.Page.{Page};
 ghost use Rattle.ufs_spec.specs.declared.Place.{Place};
-ghost use Rattle.ufs_spec.specs.Cells.{AreWithin, Array, Cell, Cells, IsCell, IsPlace, Mark, Shows};
+ghost use Rattle.ufs_spec.specs.declared.Tag.{Tag};
+ghost use Rattle.ufs_spec.specs.Cells.{AreWithin, Array, Cell, Cells, IsCell, IsPlace, Mark, Opens, Shows};
 ghost use Rattle.ufs_spec.specs.Dies.{blank_page};
 ghost use Rattle.ufs_spec.specs.Kept.{Holds, IsKept, IsNewestMark, IsRecorded, StandsFor};
+ghost use Rattle.ufs_spec.specs.Keys.{IsBlock};
+ghost use Rattle.ufs_spec.specs.Pages.{IsTag, check_of, old_front, seal_page};
 ghost use Rattle.ufs_spec.specs.Plain.{Plain, zero};
 ghost use Rattle.ufs_spec.specs.Sound.{CellsSound, Sound, Suits};
 
@@ -14,6 +17,17 @@ ghost use Rattle.ufs_spec.specs.Sound.{CellsSound, Sound, Suits};
 pub fn page_is_one_cell()
     ensures there { (page : Page) → (c : Cell) × IsCell page c }
     ensures one { (page : Page) (c d : Cell) → IsCell page c → IsCell page d → c ≡ d }
+{}
+
+/// A page that opens is of version 2 or 1, as its spare byte 4 says, and a group has at most 128 pages in the one and
+/// 32 in the other. What is programmed is of version 2, and opens. A page of version 1 opens as well.
+pub fn page_opens_in_two_versions()
+    ensures version { (page : Page) (t : Tag) (b : List ℕ) → Opens page t b →
+        ((slice_index page.spare 4 ≡ 2) × (t.size ≤ 128)) ⊎ ((slice_index page.spare 4 ≡ 1) × (t.size ≤ 32)) }
+    ensures written { (t : Tag) (b : List ℕ) → IsTag t → IsBlock b →
+        Opens (seal_page t b) t b × (slice_index (seal_page t b).spare 4 ≡ 2) }
+    ensures old { (t : Tag) (b : List ℕ) → IsTag t → t.size ≤ 32 → IsBlock b →
+        Opens (record { body = b; spare = old_front t ++ check_of b (old_front t) }) t b }
 {}
 
 /// For every array of the dies' size there is a newest mark or none, a greatest recorded frontier, a kept number, and a

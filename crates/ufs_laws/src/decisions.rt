@@ -61,8 +61,8 @@ pub fn an_unmap_judges_its_list()
 {}
 
 /// Lists of UNMAP. Of 24 bytes the header says 16h and 10h. Three blocks from address 5 on are right in
-/// a unit of eight blocks, and past a unit of seven. A command may name 32 blocks and not 33, and the
-/// last four bytes are zero.
+/// a unit of eight blocks, and past a unit of seven. A list may name 128 blocks and not 129 where there are
+/// 256 slots or more, and 32 blocks and not 33 where there are fewer. The last four bytes are zero.
 pub fn worked_lists()
     ensures header { has_list_header (list_of 0x16 0x10 5 3) ≡ true }
     ensures wrong_length { has_list_header (list_of 0x18 0x10 5 3) ≡ false }
@@ -71,8 +71,11 @@ pub fn worked_lists()
         ≡ false }
     ensures past { is_past_unit (list_of 0x16 0x10 5 3) (Some (record { blocks = 7; boot = 0; protect = 0 }))
         ≡ true }
-    ensures most { (n : Numbers) → is_wrong_descriptor n (list_of 0x16 0x10 5 32) ≡ false }
-    ensures too_many { (n : Numbers) → is_wrong_descriptor n (list_of 0x16 0x10 5 33) ≡ true }
+    ensures most { (n : Numbers) → 256 ≤ n.slots → is_wrong_descriptor n (list_of 0x16 0x10 5 128) ≡ false }
+    ensures too_many { (n : Numbers) → is_wrong_descriptor n (list_of 0x16 0x10 5 129) ≡ true }
+    ensures most_of_few_slots { (n : Numbers) → is_wrong_descriptor n (list_of 0x16 0x10 5 32) ≡ false }
+    ensures too_many_of_few_slots { (n : Numbers) → n.slots < 256 →
+        is_wrong_descriptor n (list_of 0x16 0x10 5 33) ≡ true }
     ensures not_zero { (n : Numbers) →
         is_wrong_descriptor n (take 20 (list_of 0x16 0x10 5 3) ++ (0 ∷ 0 ∷ 0 ∷ 1 ∷ [])) ≡ true }
 {}

@@ -23,7 +23,7 @@ mod vacancies;
 
 pub use arrays::{
     array_stands_for_something, new_dies_stand_for_zero, page_is_one_cell,
-    sound_array_stands_for_one,
+    page_opens_in_two_versions, sound_array_stands_for_one,
 };
 pub use calls::{
     a_crash_leaves_old_or_new, a_crash_of_pages_is_one_of_cells, a_life_begins_with_its_beginning,

@@ -10,6 +10,7 @@ ghost use Rattle.ufs_spec.specs.declared.Cdb.TheVariants as cdb;
 ghost use Rattle.ufs_spec.specs.declared.Numbers.{Numbers};
 ghost use Rattle.ufs_spec.specs.Changes.{accepts, ends_with_status, with_task};
 ghost use Rattle.ufs_spec.specs.Commands.{Zero};
+ghost use Rattle.ufs_spec.specs.Configs.{command_blocks};
 ghost use Rattle.ufs_spec.specs.DataOuts.{unmap_complete};
 ghost use Rattle.ufs_spec.specs.Exchanges.{Answering, Busy, ForUnmap, Gathering, Good, Status, Task};
 ghost use Rattle.ufs_spec.specs.Keys.{below, data_key, group_of};
@@ -18,8 +19,8 @@ ghost use Rattle.ufs_spec.specs.Plain.{LiesWithin, Plain, apply, shape_of, zero_
 ghost use Rattle.ufs_spec.specs.Refusals.{Request, State, locked, mended, numbers_of, plain_now, refusal};
 ghost use Rattle.ufs_spec.specs.Translation.{free_slots};
 
-/// An UNMAP with a descriptor claims 32 slots, as many as a command may have blocks: the list that
-/// says how many it needs comes only later. With fewer free slots it is refused with BUSY. An UNMAP
+/// An UNMAP with a descriptor claims as many slots as a command may have blocks: the list that says how
+/// many it needs comes only later. With fewer free slots, of 64 with fewer than 32, it is refused with BUSY. An UNMAP
 /// of a header alone gathers its eight bytes without a claim, and one without a list is answered
 /// GOOD at once.
 pub fn an_unmap_claims_slots_for_its_list()
@@ -36,7 +37,8 @@ pub fn an_unmap_claims_slots_for_its_list()
           request = None;
         } ∷ [] }
     ensures claims { (s : State) (r : Request) (unit : ℕ) →
-        (begun s r unit (cdb.Unmap 24)).translation.claims ≡ s.translation.claims + 32 }
+        (begun s r unit (cdb.Unmap 24)).translation.claims
+        ≡ s.translation.claims + command_blocks (numbers_of s) }
     ensures header_claims_none { (s : State) (r : Request) (unit : ℕ) →
         (begun s r unit (cdb.Unmap 8)).translation.claims ≡ s.translation.claims }
     ensures crowded { (s : State) (tag : ℕ) → IsIdle s → mended s ≡ true → locked s ≡ false →
@@ -48,18 +50,20 @@ pub fn an_unmap_claims_slots_for_its_list()
 {}
 
 /// Once its list is there an UNMAP claims no slot any more. As many as it has blocks hold the pages
-/// of its group, and the others are free again; if nothing is accepted all 32 are.
+/// of its group, and the others are free again; if nothing is accepted all of them are.
 pub fn an_unmap_gives_back_what_it_does_not_need()
     ensures claims { (s : State) (task : Task) (unit : ℕ) (list : List ℕ) → GathersList task unit →
-        (unmap_complete s task unit list).translation.claims ≡ s.translation.claims - 32 }
+        (unmap_complete s task unit list).translation.claims
+        ≡ s.translation.claims - command_blocks (numbers_of s) }
     ensures accepted { (s : State) (task : Task) (unit : ℕ) (list : List ℕ) →
-        GathersList task unit → HasClaimed s.translation 32 → PassesList s unit list →
+        GathersList task unit → HasClaimed s.translation (command_blocks (numbers_of s)) → PassesList s unit list →
         field_at 4 16 list ≢ 0 → locked s ≡ false →
         free_slots (unmap_complete s task unit list).translation
-        ≡ free_slots s.translation + (32 - field_at 4 16 list) }
+        ≡ free_slots s.translation + (command_blocks (numbers_of s) - field_at 4 16 list) }
     ensures not_accepted { (s : State) (task : Task) (unit : ℕ) (status : Status) →
-        GathersList task unit → HasClaimed s.translation 32 →
-        free_slots (ends_with_status s task status).translation ≡ free_slots s.translation + 32 }
+        GathersList task unit → HasClaimed s.translation (command_blocks (numbers_of s)) →
+        free_slots (ends_with_status s task status).translation
+        ≡ free_slots s.translation + command_blocks (numbers_of s) }
 {}
 
 /// An UNMAP is one group: a block of zeros at each of its addresses, in their order, and no other

@@ -1,6 +1,6 @@
 -- What follows where numbers have no fault.
 use Rattle.std.proofs.Common.{◌≡◌, ℕ, ◌+◌, ◌*◌, ◌<◌, ◌≤◌, [], ◌∷◌, Bool, true, false, not, ltb, List, All, None, refl}
-use Rattle.std.proofs.Common.{arith}
+use Rattle.std.proofs.Common.{arith, if◌then◌else◌, nat_le}
 use Rattle.std.specs.List.{list_all}
 use Rattle.std.specs.Int.{div_ceil}
 use Rattle.std.proofs.Math.Nat.{mul-le-mul_right}
@@ -11,7 +11,8 @@ use Rattle.ufs_spec.specs.declared.configs.UnitSpec.{UnitSpec}
 use Rattle.ufs_spec.specs.declared.configs.Numbers.{Numbers}
 use Rattle.ufs_spec.specs.Configs.{first_fault, numbers_of, is_between, unit_in_range, in_range, unit_blocks}
 use Rattle.ufs_spec.specs.Configs.{pages_kept, blocks_needed, blocks_left, boot_count, IsConfig, UnitInRange, InRange}
-use Rattle.ufs_spec.specs.Configs.{HasRoom}
+use Rattle.ufs_spec.specs.Configs.{HasRoom, command_blocks}
+use Rattle.ufs_spec.specs.Plain.{greatest_command}
 
 -- a number that passes the test lies between the two
 pub from_test : (low high n : ℕ) → is_between low high n ≡ true → (low ≤ n) × (n ≤ high)
@@ -109,3 +110,21 @@ row_units =
 pub row_is_config : IsConfig (numbers_of 4 16 64 row_units 1 64 4)
 unfolding row_units
 row_is_config = refl
+
+-- How many blocks a command may have
+
+chosen-few : (b : Bool) → (if b then greatest_command else 32) ≤ greatest_command
+chosen-few true = omega arith
+chosen-few false = omega arith
+
+-- as many as the greatest one, or fewer
+pub command_blocks-few : (n : Numbers) → command_blocks n ≤ greatest_command
+command_blocks-few n = chosen-few (nat_le 256 n.slots)
+
+chosen-some : (b : Bool) → 32 ≤ (if b then greatest_command else 32)
+chosen-some true = omega arith
+chosen-some false = omega arith
+
+-- 32 in each configuration
+pub command_blocks-some : (n : Numbers) → 32 ≤ command_blocks n
+command_blocks-some n = chosen-some (nat_le 256 n.slots)

@@ -1,9 +1,9 @@
--- What pages open to. A page counts as a page of a group, or as a mark, if it is the sealed page of
--- a tag and a block whose data keep the rules of its kind. Any other page, a blank one and a torn
--- one too, is nothing (this profile).
+-- What pages open to. A page counts as a page of a group, or as a mark, if it is sealed with a tag, in
+-- either version, and its data keep the rules of its kind. Any other page, a blank one and a torn one
+-- too, is nothing (this profile).
 use Rattle.std.specs.Prelude.{◌≡◌, ◌≢◌, ℕ, ◌<◌, ◌≤◌, ◌^◌, ◌==◌, ◌&&◌, Bool, List, All, length, Option, Some}
 use Rattle.ufs_spec.specs.Keys.{IsBlock, IsSettingsBody}
-use Rattle.ufs_spec.specs.Pages.{IsTag, mark_bytes, seal_page}
+use Rattle.ufs_spec.specs.Pages.{IsSealedAs, IsTag, mark_bytes}
 use Rattle.ufs_spec.specs.declared.configs.Numbers.{Numbers}
 use Rattle.ufs_spec.specs.declared.configs.UnitSpec.{UnitSpec}
 use Rattle.ufs_spec.specs.declared.flash.Fence.{Fence}
@@ -58,12 +58,12 @@ pub record IsMarkBody (fence : Option Fence) (n : Numbers) (body : List ℕ) : T
 
 -- Opening a page
 
--- the page is the sealed page of this tag and body. A blank page opens to nothing, and so does a torn one,
+-- the page is sealed with this tag and this body. A blank page opens to nothing, and so does a torn one,
 -- by the premise on checks (`MayBeLeft`)
 pub record Opens (page : Page) (tag : Tag) (body : List ℕ) : Type 0 where
   pub tag_right : IsTag tag
   pub body_right : IsBlock body
-  pub sealed : page ≡ seal_page tag body
+  pub sealed : IsSealedAs page tag body
 
 -- the data of a settings page are settings in their ranges, and those of a mark are a
 -- mark's; other data are any bytes

@@ -6,9 +6,9 @@ use Rattle.ufs_spec.specs.declared.commands.Cmd.TheVariants as cmd
 -- what changes the plain state once it is accepted. A read, a flush or a refused request is no
 -- command here: it changes nothing
 pub data Command : Type 0 where
-  -- 1 to 32 blocks are written to a unit, from an address on
+  -- 1 to 128 blocks are written to a unit, from an address on
   Write : (unit address : ℕ) → (blocks : List (List ℕ)) → Command
-  -- 1 to 32 blocks of a unit, from an address on, become zeros (UNMAP)
+  -- 1 to 128 blocks of a unit, from an address on, become zeros (UNMAP)
   Zero : (unit address count : ℕ) → Command
   -- the key of 32 bytes of an RPMB region is programmed
   SetKey : (region : ℕ) → (key : List ℕ) → Command

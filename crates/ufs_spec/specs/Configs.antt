@@ -1,5 +1,5 @@
 -- Which numbers make a configuration (this profile).
-use Rattle.std.specs.Prelude.{◌≡◌, ℕ, ◌+◌, ◌-◌, ◌*◌, ◌≤◌, ◌==◌, nat_lt, nat_le, ◌&&◌, ◌||◌, Bool, true, false, List}
+use Rattle.std.specs.Prelude.{◌≡◌, ℕ, ◌+◌, ◌-◌, ◌*◌, ◌≤◌, ◌==◌, nat_lt, nat_le, ◌&&◌, ◌||◌, Bool, true, false, List, if◌then◌else◌}
 use Rattle.std.specs.Prelude.{All, sum_by, count_by, Option, Some, None, not}
 use Rattle.std.specs.List.{list_all}
 use Rattle.std.specs.Int.{div_ceil}
@@ -48,9 +48,10 @@ in_range n =
     && is_between 64 1024 n.slots
     && is_between 0 (n.dies * n.blocks) n.spare
 
--- how many blocks a command may have in a configuration, each of them a page of its group: the same in each
+-- how many blocks a command may have in a configuration, each of them a page of its group: 128 where the write cache
+-- has 256 slots or more, and 32 where it has fewer
 abbrev pub command_blocks : Numbers → ℕ
-command_blocks n = greatest_command
+command_blocks n = if nat_le 256 n.slots then greatest_command else 32
 
 -- ## Room
 

@@ -1,49 +1,73 @@
--- How a flash page holds a block, what its tag says and the check of both. The layouts are this profile's, version
--- 1; the check is the SHA-256 of FIPS 180-4. A page has 4096 body bytes and 96 spare bytes.
+-- How a flash page holds a block, what its tag says and the check of both. The layouts are this profile's; the check
+-- is the SHA-256 of FIPS 180-4. A page has 4096 body bytes and 96 spare bytes. A tag stands in the first 64 spare
+-- bytes in one of two layouts. The device writes version 2 alone, and reads version 1 too.
 --
 -- Each accepted command is one group with the next number, and each page of the group has an index. The
 -- frontier is the number at or under which every group is lost or was wholly on the dies. A mark is a page of
 -- the device's own, with the configuration and perhaps a fence, a range of numbers whose pages do not count.
 -- Groups and marks are numbered apart.
-use Rattle.std.specs.Prelude.{◌≡◌, ◌⊎◌, ◌-◌, ◌^◌, ◌<◌, ◌≤◌, ℕ, List, [], ◌∷◌, ◌++◌, Option, None, Some, drop, length}
-use Rattle.std.specs.Prelude.{replicate, slice_index, take}
+use Rattle.std.specs.Prelude.{◌≡◌, ◌⊎◌, ◌-◌, ◌^◌, ◌<◌, ◌≤◌, ◌==◌, ℕ, List, [], ◌∷◌, ◌++◌, Option, None, Some, drop}
+use Rattle.std.specs.Prelude.{if◌then◌else◌, length, replicate, slice_index, take}
 use Rattle.std.specs.List.{flat_map}
 use Rattle.byteorder.specs.Endian.{big_bytes}
 use Rattle.sha2.specs.Sha256.{sha256}
 use Rattle.ufs_bytes.specs.Fields.{field_at}
-use Rattle.ufs_spec.specs.Plain.{greatest_command}
 use Rattle.ufs_spec.specs.declared.configs.Numbers.{Numbers}
 use Rattle.ufs_spec.specs.declared.configs.UnitSpec.{UnitSpec}
 use Rattle.ufs_spec.specs.declared.flash.Fence.{Fence}
 use Rattle.ufs_spec.specs.declared.flash.Page.{Page}
 use Rattle.ufs_spec.specs.declared.flash.Tag.{Tag}
 
--- the first 64 spare bytes: `UFSP`, version 1, and what the tag says: the kind is byte 5, the unit 6, the address
--- 8..11, the number 12..19, the index 20, the size 21, the recorded frontier 24..31. All other bytes are zero
-abbrev pub spare_front : Tag → List ℕ
-spare_front t =
-    (85 ∷ 70 ∷ 83 ∷ 80 ∷ 1 ∷ t.kind ∷ t.unit ∷ 0 ∷ [])
+-- the first 64 spare bytes of either version: `UFSP`, the version, and what the tag says: the kind is byte 5, the unit
+-- 6, the address 8..11, the number 12..19, the recorded frontier 24..31. Bytes 20..23 place the page in its group. All
+-- other bytes are zero
+abbrev pub front_with : ℕ → List ℕ → Tag → List ℕ
+front_with version in_group t =
+    (85 ∷ 70 ∷ 83 ∷ 80 ∷ version ∷ t.kind ∷ t.unit ∷ 0 ∷ [])
     ++ big_bytes 4 t.address ++ big_bytes 8 t.number
-    ++ (t.index ∷ t.size ∷ 0 ∷ 0 ∷ [])
+    ++ in_group
     ++ big_bytes 8 t.frontier
     ++ replicate 32 0
 
--- the tag that spare bytes name, whether or not it is in its ranges
+-- the first 64 spare bytes in version 2, which is written: the index is bytes 20..21, the size 22..23
+abbrev pub spare_front : Tag → List ℕ
+spare_front t = front_with 2 (big_bytes 2 t.index ++ big_bytes 2 t.size) t
+
+-- the same in version 1, which is read but no longer written: the index is byte 20, the size 21, and 22..23 are zero
+abbrev pub old_front : Tag → List ℕ
+old_front t = front_with 1 (t.index ∷ t.size ∷ 0 ∷ 0 ∷ []) t
+
+-- how many pages a group may have as its tags say it, whatever the configuration and the greatest command
+abbrev pub group_bound : ℕ
+group_bound = 128
+
+-- how many of them it may have in version 1
+abbrev pub old_group_bound : ℕ
+old_group_bound = 32
+
+-- the bytes are those of this tag, in version 2 or in version 1; in version 1 no group has more than 32 pages
+abbrev pub IsFrontOf : Tag → List ℕ → Type 0
+IsFrontOf t front = (front ≡ spare_front t) ⊎ ((t.size ≤ old_group_bound) × (front ≡ old_front t))
+
+-- the index that spare bytes of this version name
+abbrev pub index_in : ℕ → List ℕ → ℕ
+index_in version s = if version == 1 then slice_index s 20 else field_at 2 20 s
+
+-- the size that they name
+abbrev pub size_in : ℕ → List ℕ → ℕ
+size_in version s = if version == 1 then slice_index s 21 else field_at 2 22 s
+
+-- the tag that spare bytes name, whether or not it is in its ranges. Byte 4 is their version
 abbrev pub tag_in : List ℕ → Tag
 tag_in s = record {
   kind = slice_index s 5;
   unit = slice_index s 6;
   address = field_at 4 8 s;
   number = field_at 8 12 s;
-  index = slice_index s 20;
-  size = slice_index s 21;
+  index = index_in (slice_index s 4) s;
+  size = size_in (slice_index s 4) s;
   frontier = field_at 8 24 s;
 }
-
--- how many pages a group may have as its tags say it, whatever the configuration: one for each block of a command.
--- So one byte each is enough for the index and the size
-abbrev pub group_bound : ℕ
-group_bound = greatest_command
 
 -- the greatest number that a group or a mark may have (this profile): no device lives to see it
 abbrev pub greatest_number : ℕ
@@ -67,7 +91,7 @@ pub record IsTag (t : Tag) : Type 0 where
 abbrev pub check_of : List ℕ → List ℕ → List ℕ
 check_of body front = sha256 (body ++ front)
 
--- the page that is programmed for a tag and a block: the check of both is its last 32 spare bytes
+-- the page that is programmed for a tag and a block, in version 2: the check of both is its last 32 spare bytes
 abbrev pub seal_page : Tag → List ℕ → Page
 seal_page t body = record { body = body; spare = spare_front t ++ check_of body (spare_front t) }
 
@@ -75,6 +99,12 @@ seal_page t body = record { body = body; spare = spare_front t ++ check_of body 
 -- page without this opens to nothing
 abbrev pub IsCheckRight : Page → Type 0
 IsCheckRight p = drop 64 p.spare ≡ check_of p.body (take 64 p.spare)
+
+-- the page holds this block with this tag, in either version, and its check is right
+pub record IsSealedAs (page : Page) (tag : Tag) (body : List ℕ) : Type 0 where
+  pub front : IsFrontOf tag (take 64 page.spare)
+  pub check : IsCheckRight page
+  pub holds : page.body ≡ body
 
 -- what a stop or a failed job may leave of one page: the old content, the intended one, or one whose check fails.
 -- That no other page with a right check is left is a premise of the promise of power loss

@@ -126,7 +126,7 @@ shape_of p = record { blocks = map length p.units; areas = map (λ r. length r.a
 
 -- how many blocks a command may have at most, whatever the configuration (this profile)
 abbrev pub greatest_command : ℕ
-greatest_command = 32
+greatest_command = 128
 
 -- one to `greatest_command` blocks, all of them in the unit
 abbrev pub IsBlocksOf : Shape → ℕ → ℕ → ℕ → Type 0

@@ -71,8 +71,9 @@ pub const MOST_TASKS: usize = 32;
 /// How many exchanges of one reply may be open.
 pub const MOST_SHORT_EXCHANGES: usize = 32;
 
-/// How many blocks one command may write, read or unmap, so how many pages its group may have.
-pub const GREATEST_COMMAND: u16 = 32;
+/// How many blocks one command may write, read or unmap at most, so how many pages its group may have. A
+/// configuration of few slots allows fewer.
+pub const GREATEST_COMMAND: u16 = 128;
 
 /// How many RPMB regions there are (JESD220, 12.4.2): region 0 alone.
 pub const REGIONS: u8 = 1;

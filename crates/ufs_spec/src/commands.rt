@@ -4,13 +4,13 @@ use ufs_bytes::Block;
 /// A command that changes what the device holds (JESD220, 10.8 logical units, 12.4 RPMB).
 #[derive(Drop)]
 pub enum Cmd {
-    /// 1 to 32 blocks are written to a unit, from an address on.
+    /// 1 to 128 blocks are written to a unit, from an address on.
     Write {
         unit: u8,
         address: u32,
         blocks: Vec<Block>,
     },
-    /// 1 to 32 blocks of a unit, from an address on, become zeros.
+    /// 1 to 128 blocks of a unit, from an address on, become zeros.
     Zero {
         unit: u8,
         address: u32,

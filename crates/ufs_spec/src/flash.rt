@@ -37,6 +37,10 @@ pub enum Outcome {
 /// of them a second reaches it after 146,000 years.
 pub const GREATEST_NUMBER: u64 = 1 << 62;
 
+/// The greatest number of pages that a group may have as its tags say it (this profile). What a device
+/// accepts as one group is bounded by its commands.
+pub const GREATEST_GROUP: u16 = 128;
+
 /// What a page says of its block: what it is (1 data, 2 RPMB area, 3 settings, 4 mark), whose it is,
 /// its group's number, its index in the group and the group's size, and the frontier at the moment
 /// when its job was handed out.

@@ -18,7 +18,9 @@ pub use commands::Cmd;
 pub use configs::{Numbers, UnitSpec};
 pub use events::{Event, Leftover, Output, RunFault, RunFaultKind, Trace};
 pub use faults::{ConfigFault, HostFault, NoMemory, OpenFault};
-pub use flash::{Fence, GREATEST_NUMBER, Job, Key, Opened, Outcome, Page, Place, Tag};
+pub use flash::{
+    Fence, GREATEST_GROUP, GREATEST_NUMBER, Job, Key, Opened, Outcome, Page, Place, Tag,
+};
 pub use layer::{Looked, Name, Reader};
 pub use messages::{Asked, Data, Message};
 pub use plain_device::{PlainDevice, after_joined_commands, commands_keep_the_shape};

@@ -3,7 +3,7 @@ use Rattle.std.specs.Prelude.{ℕ, ◌-◌, ◌==◌, nat_le, Bool, true, if◌t
 use Rattle.ufs_spec.specs.Plain.{greatest_command}
 
 -- the field that begins at this place may have this value in a list of so many bytes: the two lengths count the bytes
--- behind them and those of the descriptor, a command has at most 32 blocks, and the other bytes are zero. An address is
+-- behind them and those of the descriptor, a command has at most 128 blocks, and the other bytes are zero. An address is
 -- judged by the unit alone
 abbrev pub is_right_field : ℕ → ℕ → ℕ → Bool
 is_right_field length place value =

@@ -8,6 +8,9 @@ use std::io::Write;
 use std::{fmt, io};
 use ufs_spec::GREATEST_COMMAND;
 
+/// How many blocks a command may have where there are fewer than 256 slots.
+const SHORT_COMMAND: u64 = 32;
+
 /// A layout of bytes that has fields.
 #[derive(Clone, Copy)]
 pub enum Layout {
@@ -385,13 +388,23 @@ fn inquiry_words(place: usize, value: u64) -> &'static str {
 
 fn list_words(length: usize, place: usize, value: u64) -> &'static str {
     if is_right_field(length, place, value) {
-        return "";
+        return right_list_words(place, value);
     }
     match place {
         0 => "malformed: it has to count the bytes behind this field",
         2 => "malformed: it has to count the bytes behind the header",
-        16 => "malformed: a command has at most 32 blocks",
+        16 => "malformed: a command has at most 128 blocks",
         _ => "malformed: they have to be zero",
+    }
+}
+
+// What is to be said of a field of UNMAP's list that some device takes: a count may be too great
+// for others.
+fn right_list_words(place: usize, value: u64) -> &'static str {
+    if place == 16 && value > SHORT_COMMAND {
+        "a device with fewer than 256 slots refuses more than 32"
+    } else {
+        ""
     }
 }
 

@@ -185,7 +185,7 @@ fn expected<'a>(alloc: Global) -> Arg<'a> {
 }
 
 fn blocks<'a>(alloc: Global) -> Arg<'a> {
-    let help = "How many blocks; the device takes up to 32";
+    let help = "How many blocks; the device takes up to 128, or 32 with fewer than 256 slots";
     option(alloc, "blocks", "COUNT", help).default_value("1")
 }
 

@@ -12,7 +12,7 @@ pub fn with_unmap<'a>(alloc: Global, host: Made<'a>) -> Made<'a> {
         alloc,
         "blocks",
         "COUNT",
-        "How many blocks; the device takes up to 32",
+        "How many blocks; the device takes up to 128, or 32 with fewer than 256 slots",
     )
     .value_parser(value_parser!(u32))
     .default_value("1");

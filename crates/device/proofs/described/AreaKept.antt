@@ -1,5 +1,5 @@
 -- The pages of the area that a request for data keeps, and what a request without a command does.
-use Rattle.std.proofs.Common.{◌≡◌, ◌∙◌, ℕ, ◌+◌, ◌-◌, ◌/◌, ◌<◌, ◌≤◌, Bool, true, false, List, [], ◌∷◌, Some, None}
+use Rattle.std.proofs.Common.{◌≡◌, ◌∙◌, ℕ, ◌+◌, ◌-◌, ◌*◌, ◌/◌, ◌<◌, ◌≤◌, Bool, true, false, List, [], ◌∷◌, Some, None}
 use Rattle.std.proofs.Common.{length, refl, sym, ap, subst, arith}
 use Rattle.std.specs.Prelude.{fold, if◌then◌else◌, nat_le}
 use Rattle.std.specs.List.{list_any}
@@ -20,13 +20,15 @@ use Rattle.task_set.specs.declared.tasks.TaskEvent.TheVariants as event
 use Rattle.device.specs.Frames.{HasAnswered, HasKeptArea, MayAnswer, MayKeepArea, answer_event, answer_moves}
 use Rattle.device.specs.Frames.{area_keeps}
 use Rattle.device.specs.Kept.{IsLayerWith}
+use Rattle.ufs_spec.specs.Plain.{greatest_command}
+use Rattle.ufs_spec.specs.Exchanges.{most_tasks}
 
 -- the layer was asked to keep so many pages, from this key on, for the blocks that were asked for
 module _ (after : Core) (t : Translation) (tag pages : ℕ) (key : Key) (asked : AreaBlocks) (kept : Bool)
     (key_is : key ≡ area_key 0 (asked.address / 16))
     (named : 1 ≤ asked.count → asked.count ≤ 8 →
     pages ≡ (asked.address + asked.count - 1) / 16 + 1 - asked.address / 16)
-    (few : pages ≤ 2) (differ : PinsDiffer t.pins) (found : kept ≡ nat_le (length t.pins + pages) 1024)
+    (few : pages ≤ 2) (differ : PinsDiffer t.pins) (found : kept ≡ nat_le (length t.pins + pages) (most_tasks * greatest_command))
     (described : is_mended t.work.mending ≡ true →
     ((i : ℕ) → i < pages → IsKey (shape_of_numbers t.numbers) (key_behind key i)) →
     list_any (keeps_for tag) t.pins ≡ false →
@@ -43,7 +45,7 @@ module _ (after : Core) (t : Translation) (tag pages : ℕ) (key : Key) (asked :
   all_kept : kept ≡ true
   all_kept =
       let room = may.room differ in
-      found ∙ le-leb (length t.pins + pages) 1024 (omega arith)
+      found ∙ le-leb (length t.pins + pages) (most_tasks * greatest_command) (omega arith)
 
   are_keys : (i : ℕ) → i < pages → IsKey (shape_of_numbers t.numbers) (key_behind key i)
   are_keys i h =

@@ -76,7 +76,7 @@ module _ (e f : DeviceCore) (v : State) (knows : Knows v) (k : Keeps e v) where
 
   -- the one that has a request does
   one_fills : (r : OneDecided e.tasks) → is_due_in t r.a.tag r.a.phase ≡ true →
-      HasFilledAt e f t (claims_of v.tasks) r.k → AreFilled (fills v)
+      HasFilledAt e f t (claims_of (numbers_of v) v.tasks) r.k → AreFilled (fills v)
   one_fills r due h = by (their_task (before_accepted t.ledger) r.k e.tasks v.tasks r.a k.tasks r.at)
     where
       by : (b : exchange.Task) × IsOpen (before_accepted t.ledger) r.k e.tasks v.tasks r.a b → AreFilled (fills v)
@@ -140,22 +140,22 @@ module _ (e f : DeviceCore) (v : State) (knows : Knows v) (k : Keeps e v) where
               (r.others j x at (λ same. false≢true (sym e ∙ (ap (λ (m : ℕ). m == r.k) same ∙ eq_self r.k))))
 
   one_decided : (r : OneDecided e.tasks) → (c : Bool) → is_due_in t r.a.tag r.a.phase ≡ c →
-      HasFilledBy e f t (claims_of v.tasks) (cond c (Some r.k) None) → AreFilled (fills v)
+      HasFilledBy e f t (claims_of (numbers_of v) v.tasks) (cond c (Some r.k) None) → AreFilled (fills v)
   one_decided r false due h = one_waits r due h
   one_decided r true due h = one_fills r due h
 
-  all_filled : HasFilledBy e f t (claims_of v.tasks) (to_answer t e) → DecidedOrNot e.tasks → AreFilled (fills v)
+  all_filled : HasFilledBy e f t (claims_of (numbers_of v) v.tasks) (to_answer t e) → DecidedOrNot e.tasks → AreFilled (fills v)
   all_filled its (inl none) =
-      none_fills (subst (λ x. HasFilledBy e f t (claims_of v.tasks) (due_at t e x)) none.0 its)
+      none_fills (subst (λ x. HasFilledBy e f t (claims_of (numbers_of v) v.tasks) (due_at t e x)) none.0 its)
       (λ j x at. ap (λ (c : Bool). c && is_due_in t x.tag x.phase) (none.1 j x at))
   all_filled its (inr r) =
       one_decided r (is_due_in t r.a.tag r.a.phase) refl
-      (subst (λ (x : Option OpenTask). HasFilledBy e f t (claims_of v.tasks) (cond (is_due_to t x) (Some r.k) None))
+      (subst (λ (x : Option OpenTask). HasFilledBy e f t (claims_of (numbers_of v) v.tasks) (cond (is_due_to t x) (Some r.k) None))
       r.at
-      (subst (λ x. HasFilledBy e f t (claims_of v.tasks) (due_at t e x)) r.found its))
+      (subst (λ x. HasFilledBy e f t (claims_of (numbers_of v) v.tasks) (due_at t e x)) r.found its))
 
 pub keeps_filled : (e f : DeviceCore) (v : State) → IsTied v → ShowsReads v → FramesWait v → AreaReads v → Keeps e v →
     HasFilled e f → Keeps f (fills v) × HaveAnswered (fills v)
 keeps_filled e f v tied shows waits reads k fill =
     all_filled e f v (record { tied = tied; shows = shows; waits = waits; reads = reads }) k
-    (fill v.translation (claims_of v.tasks) (k.layer_kept, k.claims)) (decided_cases e.tasks k.one_sends)
+    (fill v.translation (claims_of (numbers_of v) v.tasks) (k.layer_kept, k.claims)) (decided_cases e.tasks k.one_sends)

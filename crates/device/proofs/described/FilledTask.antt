@@ -54,6 +54,8 @@ use Rattle.device.proofs.due_replies.PinsLetGo.{gone_pins, other_pins}
 use Rattle.device.proofs.open_tasks.KeptByTag.{WantedForAll}
 use Rattle.device.proofs.open_tasks.OpenTasks.{IsOpen}
 use Rattle.device.proofs.open_tasks.ReadProgress.{KeepsTag, by_tag, each_goes_on, one_goes_on, tag_kept}
+use Rattle.ufs_spec.specs.Refusals.{numbers_of}
+use Rattle.ufs_spec.specs.declared.configs.Numbers.{Numbers}
 
 -- What a task keeps that fills its register
 
@@ -69,14 +71,14 @@ filled_tag v x = by (is_to_fill v x)
     by true = refl
     by false = refl
 
-filled_claims : (v : State) (x : exchange.Task) →
-    claimed_in (task_filled v x).length (task_filled v x).deed ≡ claimed_in x.length x.deed
-filled_claims v x = by (is_to_fill v x)
+filled_claims : (m : Numbers) (v : State) (x : exchange.Task) →
+    claimed_in m (task_filled v x).length (task_filled v x).deed ≡ claimed_in m x.length x.deed
+filled_claims m v x = by (is_to_fill v x)
   where
     by : (b : Bool) →
-        claimed_in (cond b (record x { request = filled x.request }) x).length
+        claimed_in m (cond b (record x { request = filled x.request }) x).length
         (cond b (record x { request = filled x.request }) x).deed
-        ≡ claimed_in x.length x.deed
+        ≡ claimed_in m x.length x.deed
     by true = refl
     by false = refl
 
@@ -293,12 +295,12 @@ module _ (e : DeviceCore) (v : State) (k : Keeps e v) (n : ℕ) (a : OpenTask) (
       ∙ (k.wanted other index ∙ sym (ap (wanted_by index) (others_stay other differ))))
       tag
 
-  same_claims : claims_of (map (task_filled v) v.tasks) ≡ claims_of v.tasks
-  same_claims = λ i tag. each_goes_on claimed_by (task_filled v) v.tasks tag (filled_tag v) (filled_claims v) i
+  same_claims : claims_of (numbers_of v) (map (task_filled v) v.tasks) ≡ claims_of (numbers_of v) v.tasks
+  same_claims = λ i tag. each_goes_on (claimed_by (numbers_of v)) (task_filled v) v.tasks tag (filled_tag v) (filled_claims (numbers_of v) v) i
 
   -- All of it
 
-  pub keeps_one : Knows v → (f : DeviceCore) → (h : HasFilledAt e f v.translation (claims_of v.tasks) n) → h.task ≡ a →
+  pub keeps_one : Knows v → (f : DeviceCore) → (h : HasFilledAt e f v.translation (claims_of (numbers_of v) v.tasks) n) → h.task ≡ a →
       Keeps f then_filled
   keeps_one knows f h same =
       subst (λ (d : DeviceCore). Keeps d then_filled) (sym h.after_is)

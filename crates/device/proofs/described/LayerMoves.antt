@@ -31,7 +31,7 @@ pub record Leaves (t u : Translation) : Type 0 where
   pub wanted : (tag index : ℕ) → wanted_kept u.pins tag index ≡ wanted_kept t.pins tag index
 
 pub layer_moves : (d : DeviceCore) (after : Core) (s : State) (array : Array) (u : Translation) → Keeps d s →
-    layer_kept.Describes after u → AreClaimed after (claims_of s.tasks) → Leaves s.translation u →
+    layer_kept.Describes after u → AreClaimed after (claims_of (numbers_of s) s.tasks) → Leaves s.translation u →
     Keeps (record d { ftl = after }) (record s { array = array; translation = u })
 layer_moves d after s array u k layer claims leaves = record {
   boot = k.boot;
@@ -43,7 +43,7 @@ layer_moves d after s array u k layer claims leaves = record {
   tasks = subst (λ n. TasksKept n d.tasks s.tasks) (sym leaves.before) k.tasks;
   one_sends = k.one_sends;
   wanted = λ tag index. leaves.wanted tag index ∙ k.wanted tag index;
-  claims = claims;
+  claims = subst (λ n. AreClaimed after (claims_of n s.tasks)) (sym leaves.numbers) claims;
   shorts = same_shorts (numbers_of s) u.numbers (before_accepted s.translation.ledger) (before_accepted u.ledger)
       d.shorts s.shorts leaves.numbers leaves.before k.shorts;
   power_on = k.power_on;
@@ -166,7 +166,7 @@ unmended_shorts s tied unmended =
 
 -- where the device is not mended, groups may count from another number
 pub unmended_moves : (d : DeviceCore) (after : Core) (s : State) (u : Translation) → Keeps d s → IsTied s →
-    layer_kept.Describes after u → AreClaimed after (claims_of s.tasks) → Repairs s.translation u →
+    layer_kept.Describes after u → AreClaimed after (claims_of (numbers_of s) s.tasks) → Repairs s.translation u →
     Keeps (record d { ftl = after }) (record s { translation = u })
 unmended_moves d after s u k tied layer claims repairs = record {
   boot = k.boot;
@@ -179,7 +179,7 @@ unmended_moves d after s u k tied layer claims repairs = record {
       d.tasks s.tasks (unmended_fit s tied repairs.unmended) k.tasks;
   one_sends = k.one_sends;
   wanted = λ tag index. repairs.wanted tag index ∙ k.wanted tag index;
-  claims = claims;
+  claims = subst (λ n. AreClaimed after (claims_of n s.tasks)) (sym repairs.numbers) claims;
   shorts = shorts_else u.numbers (length s.accepted) (before_accepted s.translation.ledger) (before_accepted u.ledger)
       d.shorts s.shorts (unmended_shorts s tied repairs.unmended)
       (subst (λ n. ShortsKept n (before_accepted s.translation.ledger) d.shorts s.shorts) (sym repairs.numbers)

@@ -116,7 +116,7 @@ lock_same : (s : State) → SameDeed (task_locked s)
 lock_same s = record {
   tags = λ x. refl;
   wanted = λ index x. same_told (wanted_in index x.request) (λ commands n status. refl) s x x.deed;
-  claimed = λ x. same_told (claimed_in x.length) (λ commands n status. refl) s x x.deed;
+  claimed = λ m x. same_told (claimed_in m x.length) (λ commands n status. refl) s x x.deed;
 }
 
 -- the block of a number is durable for both sides, or for none
@@ -312,7 +312,7 @@ keeps_locked e s tied k = record {
       (locked_fit s s.tasks j b at tied.tasks.deeds) h) k.tasks;
   one_sends = each_sends (task_after (event.Locked frontier)) (λ a. refl) e.tasks k.one_sends;
   wanted = each_wants s.translation.pins s.tasks (task_locked s) k.wanted (lock_same s);
-  claims = subst (AreClaimed e.ftl) (sym (each_claims s.tasks (task_locked s) (lock_same s))) k.claims;
+  claims = subst (AreClaimed e.ftl) (sym (each_claims (numbers_of s) s.tasks (task_locked s) (lock_same s))) k.claims;
   shorts = shorts_locked s (numbers_of s) (length s.accepted) (is_mended s.translation.work.mending) e.shorts s.shorts
       tied.repaired tied.tasks.waits k.shorts;
   power_on = k.power_on;

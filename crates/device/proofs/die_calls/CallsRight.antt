@@ -54,7 +54,7 @@ use Rattle.device.proofs.described.Unmended.{none_waits}
 
 -- it leaves all that is kept, and locks nothing
 gives : (d : DeviceCore) (s : State) (die : ℕ) (flight : Option Flight) (after : Core) → Keeps d s →
-    layer_kept.Describes after (layer_kept.given s.translation die flight) → AreClaimed after (claims_of s.tasks) →
+    layer_kept.Describes after (layer_kept.given s.translation die flight) → AreClaimed after (claims_of (numbers_of s) s.tasks) →
     Keeps (record d { ftl = after }) (behind s (Take die) (OfTake flight))
 gives d s die None after k layer claims = layer_moves d after s s.array s.translation k layer claims
     (record { numbers = refl; before = refl; wanted = λ tag index. refl })
@@ -98,7 +98,7 @@ gives_answered d s die (Some flight) h =
     (kept_stays s.translation (moved s.translation (GiveJob die flight)) s.tasks refl refl) refl h.answered
 
 pub gives_right : (d : DeviceCore) (s : State) (die : ℕ) (job : Option Job) (after : Core) → Describes d s →
-    layer_kept.IsTaken s.translation die job after → AreClaimed after (claims_of s.tasks) →
+    layer_kept.IsTaken s.translation die job after → AreClaimed after (claims_of (numbers_of s) s.tasks) →
     IsGiven s die job (record d { ftl = after })
 gives_right d s die job after h taken claims = record {
   flight = taken.job;
@@ -149,7 +149,7 @@ may_end d s die o ending left h is leaves = (
 
 pub turns_right : (d : DeviceCore) (s : State) (due : Bool) (after : Core) → Describes d s →
     due ≡ is_step_due s.translation →
-    layer_kept.Describes after (moved s.translation TakeStep) → AreClaimed after (claims_of s.tasks) →
+    layer_kept.Describes after (moved s.translation TakeStep) → AreClaimed after (claims_of (numbers_of s) s.tasks) →
     IsAnswered s Turn (OfTurn due) (record d { ftl = after })
 turns_right d s due after h is layer claims =
     answered d (record d { ftl = after }) s Turn (OfTurn due) h tt is (by (step_leaves s.translation))
@@ -224,7 +224,7 @@ opens_right n array bad s layer settings config inside sound opened kept none sa
         one_sends = tt;
         wanted = λ tag index. ap (λ (pins : List Pin). wanted_kept pins tag index) opened.translation.no_pins
             ∙ sym (ap (λ us. wanted_by index (exchange.task_of tag us)) opened.no_tasks);
-        claims = subst (λ us. AreClaimed layer (claims_of us)) (sym opened.no_tasks) none;
+        claims = subst (λ us. AreClaimed layer (claims_of (numbers_of s) us)) (sym opened.no_tasks) none;
         shorts = subst (ShortsKept (numbers_of s) (before_accepted t.ledger) []) (sym opened.no_shorts) tt;
         power_on = sym opened.power_off;
       };

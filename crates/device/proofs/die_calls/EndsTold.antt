@@ -133,7 +133,7 @@ read_state s tag index state array u = record s {
 }
 
 module _ (d : DeviceCore) (s : State) (die tag index : ℕ) (place : Place) (after : Core) (h : Describes d s)
-    (w : IsAwaited s.translation tag index place) (same : AreClaimed after (claims_of s.tasks)) where
+    (w : IsAwaited s.translation tag index place) (same : AreClaimed after (claims_of (numbers_of s) s.tasks)) where
   abbrev before : ℕ
   before = before_accepted s.translation.ledger
 
@@ -162,15 +162,15 @@ module _ (d : DeviceCore) (s : State) (die tag index : ℕ) (place : Place) (aft
       (λ n other k. want_other_tag tag index false n k s.translation.pins other)
 
   -- no task that reads has claimed a slot
-  claims_now : (state : ReadState) → claims_of (map (task_read tag index state) s.tasks) ≡ claims_of s.tasks
+  claims_now : (state : ReadState) → claims_of (numbers_of s) (map (task_read tag index state) s.tasks) ≡ claims_of (numbers_of s) s.tasks
   claims_now state =
-      let none = claims_none tag index s.tasks reading state in
-      claims_changed s.tasks (task_read tag index state) tag reading.task (reads_one tag index state) reading.found
-      ∙ (ap (λ task. with_claimed (claims_of s.tasks) tag (claimed_by (Some task)))
+      let none = claims_none tag index s.tasks reading state (numbers_of s) in
+      claims_changed (numbers_of s) s.tasks (task_read tag index state) tag reading.task (reads_one tag index state) reading.found
+      ∙ (ap (λ task. with_claimed (claims_of (numbers_of s) s.tasks) tag (claimed_by (numbers_of s) (Some task)))
       (task_ended tag index s.tasks reading state)
-      ∙ claimed_same (claims_of s.tasks) tag
-      (claimed_in (set_read index state reading.task).length (set_read index state reading.task).deed)
-      (ap claimed_by reading.found ∙ (none.0 ∙ sym none.1)))
+      ∙ claimed_same (claims_of (numbers_of s) s.tasks) tag
+      (claimed_in (numbers_of s) (set_read index state reading.task).length (set_read index state reading.task).deed)
+      (ap (claimed_by (numbers_of s)) reading.found ∙ (none.0 ∙ sym none.1)))
 
   -- once these are our tasks
   keeps_then : (state : ReadState) (ending : Ending) (ts : List OpenTask) → is_unread state ≡ false →
@@ -190,7 +190,9 @@ module _ (d : DeviceCore) (s : State) (die tag index : ℕ) (place : Place) (aft
     wanted = subst (λ (ps : List Pin). (n k : ℕ) → wanted_kept ps n k
         ≡ wanted_by k (task_of n (map (task_read tag index state) s.tasks))) (sym are)
         (wanted_now state ends);
-    claims = subst (AreClaimed after) (sym (claims_now state)) same;
+    claims =
+        subst (λ n. AreClaimed after (claims_of n (map (task_read tag index state) s.tasks))) (sym numbers)
+        (subst (AreClaimed after) (sym (claims_now state)) same);
     shorts = same_shorts (numbers_of s) (over ending).numbers before (before_accepted (over ending).ledger) d.shorts
         s.shorts numbers same_before h.kept.shorts;
     power_on = h.kept.power_on;
@@ -240,7 +242,7 @@ moved_is : (t : Translation) (die : ℕ) (flight : Flight) (ending : Ending) →
 moved_is t die flight ending e = ap (λ (x : Option Flight). end_flight t die x ending) e
 
 module _ (d : DeviceCore) (s : State) (die : ℕ) (left : Array) (after : Core) (e : EndedNow) (h : Describes d s)
-    (claims : AreClaimed after (claims_of s.tasks)) where
+    (claims : AreClaimed after (claims_of (numbers_of s) s.tasks)) where
   abbrev Reads : ℕ → ℕ → Place → Option Flight
   Reads tag index place = Some (Reading (ForTask tag index) place)
 
@@ -307,7 +309,7 @@ pub ends_right : (d full new : DeviceCore) (s : State) (die : ℕ) (o : Outcome)
     (after : Core)
     (e : EndedNow) → Describes d s → IsEndingOf s.translation.disk.cells (s.translation.disk.flights die) o ending →
     MayLeave s die ending left → layer_kept.Describes after (moved s.translation (EndJob die ending)) →
-    AreClaimed after (claims_of s.tasks) →
+    AreClaimed after (claims_of (numbers_of s) s.tasks) →
     IsTold s.translation.disk.cells (s.translation.disk.flights die) ending e →
     ((who : Reader) (place : Place) → s.translation.disk.flights die ≡ Some (Reading who place) →
     IsReadOf s.translation place who) →

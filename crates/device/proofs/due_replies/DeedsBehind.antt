@@ -39,6 +39,7 @@ use Rattle.device.proofs.due_replies.BlocksBehind.{more_kept, none_kept, none_re
 use Rattle.device.proofs.due_replies.ReplyMoves.{answered_gone, does_now, goes, none_asked, sends, sent_layer}
 use Rattle.device.proofs.due_replies.ReplyMoves.{told_gone, with_layer}
 use Rattle.device.proofs.due_replies.PinsLetGo.{gone_again}
+use Rattle.ufs_spec.specs.Refusals.{numbers_of}
 
 -- what the definitions make of a task
 abbrev pub task_does : State → exchange.Task → Deed → State
@@ -78,7 +79,7 @@ module _ (d : DeviceCore) (s : State) (k : ℕ) (a : OpenTask) (b : exchange.Tas
 
   asks : (after : Core) (x : Transfer) (purpose : Purpose) (gathered : List ℕ) (asked : Bool) →
       a.phase ≡ phase.AskData x → b.deed ≡ Gathering purpose gathered asked → IsGathering x b.length purpose gathered →
-      layer_kept.Describes after s.translation → AreClaimed after (claims_of s.tasks) →
+      layer_kept.Describes after s.translation → AreClaimed after (claims_of (numbers_of s) s.tasks) →
       IsBehind (with_layer after (with_event d k event.DataAskedFor))
       (set_deed s b.tag (Gathering purpose gathered true))
   asks after x purpose gathered asked is deed its layer claims =
@@ -88,14 +89,14 @@ module _ (d : DeviceCore) (s : State) (k : ℕ) (a : OpenTask) (b : exchange.Tas
       (record {
         wanted = λ index. ap (wanted_in index b.request) deed;
         read = ap read_in deed;
-        claimed = λ total. ap (claimed_in total) deed;
+        claimed = λ m total. ap (claimed_in m total) deed;
       })
       tt layer claims
 
   -- its data were handed out, which are no block
   sends_data : (after : Core) (x : ShortData) (bytes : List ℕ) → a.phase ≡ phase.SendData x →
       b.deed ≡ SendingBytes bytes →
-      b.length ≡ data_length x → layer_kept.Describes after s.translation → AreClaimed after (claims_of s.tasks) →
+      b.length ≡ data_length x → layer_kept.Describes after s.translation → AreClaimed after (claims_of (numbers_of s) s.tasks) →
       IsBehind (with_layer after (with_event d k event.DataSent))
       (set_deed s b.tag (Answering Good b.length))
   sends_data after x bytes here deed is layer claims =
@@ -104,7 +105,7 @@ module _ (d : DeviceCore) (s : State) (k : ℕ) (a : OpenTask) (b : exchange.Tas
       (record {
         wanted = λ index. ap (wanted_in index b.request) deed;
         read = ap read_in deed;
-        claimed = λ total. ap (claimed_in total) deed;
+        claimed = λ m total. ap (claimed_in m total) deed;
       })
       tt layer claims
 
@@ -112,7 +113,7 @@ module _ (d : DeviceCore) (s : State) (k : ℕ) (a : OpenTask) (b : exchange.Tas
   asks_frames : (after : Core) (size : ℕ) (purpose : Purpose) (gathered : List ℕ) (asked : Bool) →
       a.phase ≡ phase.AskFrames size → b.deed ≡ Gathering purpose gathered asked →
       IsGatheringFrames size b.length purpose gathered →
-      layer_kept.Describes after s.translation → AreClaimed after (claims_of s.tasks) →
+      layer_kept.Describes after s.translation → AreClaimed after (claims_of (numbers_of s) s.tasks) →
       IsBehind (with_layer after (with_event d k event.DataAskedFor))
       (set_deed s b.tag (Gathering purpose gathered true))
   asks_frames after size purpose gathered asked is deed its layer claims =
@@ -124,7 +125,7 @@ module _ (d : DeviceCore) (s : State) (k : ℕ) (a : OpenTask) (b : exchange.Tas
       (record {
         wanted = λ index. ap (wanted_in index b.request) deed;
         read = ap read_in deed;
-        claimed = λ total. ap (claimed_in total) deed;
+        claimed = λ m total. ap (claimed_in m total) deed;
       })
       tt layer claims
 
@@ -132,7 +133,7 @@ module _ (d : DeviceCore) (s : State) (k : ℕ) (a : OpenTask) (b : exchange.Tas
   asks_list : (after : Core) (unit size : ℕ) (purpose : Purpose) (gathered : List ℕ) (asked : Bool) →
       a.phase ≡ phase.AskList unit size → b.deed ≡ Gathering purpose gathered asked →
       IsGatheringList unit size b.length purpose gathered →
-      layer_kept.Describes after s.translation → AreClaimed after (claims_of s.tasks) →
+      layer_kept.Describes after s.translation → AreClaimed after (claims_of (numbers_of s) s.tasks) →
       IsBehind (with_layer after (with_event d k event.DataAskedFor))
       (set_deed s b.tag (Gathering purpose gathered true))
   asks_list after unit size purpose gathered asked is deed its layer claims =
@@ -142,14 +143,14 @@ module _ (d : DeviceCore) (s : State) (k : ℕ) (a : OpenTask) (b : exchange.Tas
       (record {
         wanted = λ index. ap (wanted_in index b.request) deed;
         read = ap read_in deed;
-        claimed = λ total. ap (claimed_in total) deed;
+        claimed = λ m total. ap (claimed_in m total) deed;
       })
       tt layer claims
 
   -- its frames were handed out
   sends_frames : (after : Core) (size : ℕ) (bytes : List ℕ) → a.phase ≡ phase.SendHeld size →
       b.deed ≡ SendingBytes bytes → b.length ≡ size → layer_kept.Describes after s.translation →
-      AreClaimed after (claims_of s.tasks) →
+      AreClaimed after (claims_of (numbers_of s) s.tasks) →
       IsBehind (with_layer after (with_event d k event.DataSent)) (set_deed s b.tag (Answering Good b.length))
   sends_frames after size bytes here deed is layer claims =
       does_now d s k a b h o after event.DataSent (phase.SendHeld size) (Answering Good b.length) here (refl, is)
@@ -157,11 +158,11 @@ module _ (d : DeviceCore) (s : State) (k : ℕ) (a : OpenTask) (b : exchange.Tas
       (record {
         wanted = λ index. ap (wanted_in index b.request) deed;
         read = ap read_in deed;
-        claimed = λ total. ap (claimed_in total) deed;
+        claimed = λ m total. ap (claimed_in m total) deed;
       })
       tt layer claims
 
-  ends : (after : Core) → AreClaimed after (claims_of s.tasks) → claimed_in b.length b.deed ≡ [] →
+  ends : (after : Core) → AreClaimed after (claims_of (numbers_of s) s.tasks) → claimed_in (numbers_of s) b.length b.deed ≡ [] →
       layer_kept.Describes after (moved s.translation (LetGoAll a.tag)) →
       IsBehind (with_layer after (without_task d k)) (task_goes_on s b None)
   ends after claims none layer = record {
@@ -171,7 +172,7 @@ module _ (d : DeviceCore) (s : State) (k : ℕ) (a : OpenTask) (b : exchange.Tas
     shorts_told = h.shorts_told;
   }
 
-  awaits : (after : Core) (commands : ℕ) → AreClaimed after (claims_of s.tasks) → claimed_in b.length b.deed ≡ [] →
+  awaits : (after : Core) (commands : ℕ) → AreClaimed after (claims_of (numbers_of s) s.tasks) → claimed_in (numbers_of s) b.length b.deed ≡ [] →
       layer_kept.Describes after (moved (moved s.translation (Acknowledge commands)) (LetGoAll a.tag)) →
       IsBehind (with_layer after (without_task d k))
       (task_goes_on (with_moves s (Acknowledge commands ∷ [])) b None)
@@ -187,11 +188,11 @@ module _ (d : DeviceCore) (s : State) (k : ℕ) (a : OpenTask) (b : exchange.Tas
   sent_state n = with_moves s (LetGo b.tag n ∷ WantPage b.tag (n + 1) ∷ [])
 
   loses : (after : Core) (blocks : List ReadBlock) (n : ℕ) → b.deed ≡ Sending blocks n →
-      AreClaimed after (claims_of s.tasks) → layer_kept.Describes after (moved s.translation (LetGoAll a.tag)) →
+      AreClaimed after (claims_of (numbers_of s) s.tasks) → layer_kept.Describes after (moved s.translation (LetGoAll a.tag)) →
       IsBehind (with_layer after (without_task d k)) (task_goes_on (sent_state n) b None)
   loses after blocks n deed claims layer =
       subst (IsBehind (with_layer after (without_task d k))) (sym same)
-      (ends after claims (ap (claimed_in b.length) deed) layer)
+      (ends after claims (ap (claimed_in (numbers_of s) b.length) deed) layer)
     where
       same : task_goes_on (sent_state n) b None ≡ task_goes_on s b None
       same =
@@ -217,7 +218,7 @@ module _ (d : DeviceCore) (s : State) (k : ℕ) (a : OpenTask) (b : exchange.Tas
 
   sends_next : (after : Core) (x : Sends) (blocks : List ReadBlock) (n : ℕ) → a.phase ≡ phase.SendBlocks x →
       b.deed ≡ Sending blocks n →
-      IsSending x a.expected b.length blocks n → AreClaimed after (claims_of s.tasks) →
+      IsSending x a.expected b.length blocks n → AreClaimed after (claims_of (numbers_of s) s.tasks) →
       layer_kept.Describes after (sent_layer s.translation a.tag x.sent) →
       IsBehind (with_layer after (moved_on d k (phase.SendBlocks x))) (task_does s b (Sending blocks n))
   sends_next after x blocks n here deed is claims layer = by (nat_lt (x.sent + 1) x.blocks) refl
@@ -272,7 +273,7 @@ module _ (d : DeviceCore) (s : State) (k : ℕ) (a : OpenTask) (b : exchange.Tas
           (sends_more x a.expected b.length blocks n is (ltb-true (x.sent + 1) x.blocks e)))
           (fits_then (Sending blocks (n + 1)) true e (its_frames (phase.SendBlocks x) here)) tt
           (more_kept b.tag n s.translation.pins blocks kept is.behind) (none_read_behind blocks n is.behind)
-          (ap (claimed_in b.length) deed) claims its)
+          (ap (claimed_in (numbers_of s) b.length) deed) claims its)
       by false e =
           let count = is.count in
           let at = is.sent_is in
@@ -281,7 +282,7 @@ module _ (d : DeviceCore) (s : State) (k : ℕ) (a : OpenTask) (b : exchange.Tas
           (sends d s k a b h o after n x (Answering Good b.length) here
           (does (Answering Good b.length) false e (refl, is.total_is))
           (fits_then (Answering Good b.length) false e tt) tt
-          (none_kept b.tag n s.translation.pins blocks kept (omega arith)) refl (ap (claimed_in b.length) deed) claims
+          (none_kept b.tag n s.translation.pins blocks kept (omega arith)) refl (ap (claimed_in (numbers_of s) b.length) deed) claims
           its)
 
   -- a block that is durable is told so
@@ -292,7 +293,7 @@ module _ (d : DeviceCore) (s : State) (k : ℕ) (a : OpenTask) (b : exchange.Tas
   moves_in : (after : Core) (p : Phase) (deed : Deed) (m : Message) → a.phase ≡ p → b.deed ≡ deed →
       IsDoing (before_accepted s.translation.ledger) a.expected b.length p deed →
       owed_in s.translation a.block a.held (task_in a) p ≡ Some m →
-      HasMoved after s.translation (claims_of s.tasks) a.tag p →
+      HasMoved after s.translation (claims_of (numbers_of s) s.tasks) a.tag p →
       IsBehind (with_layer after (moved_on d k p)) (task_does s b deed)
   moves_in after (phase.AskData x) (Gathering purpose gathered asked) m here e doing due new =
       asks after x purpose gathered asked here e doing.0 new.0 new.1
@@ -312,13 +313,13 @@ module _ (d : DeviceCore) (s : State) (k : ℕ) (a : OpenTask) (b : exchange.Tas
       let low = leb-true n frontier (durable_told (nat_le n frontier) _ m due) in
       let is = doing.0 in
       let its = new commands (omega arith) in
-      awaits after commands its.1 (ap (claimed_in b.length) e) its.0
+      awaits after commands its.1 (ap (claimed_in (numbers_of s) b.length) e) its.0
   moves_in after (phase.SendBlocks x) (Sending blocks sent) m here e doing due new =
       sends_next after x blocks sent here e doing new.1 new.0
   moves_in after (phase.ReadArea r) (ReadingArea pages) m here e doing due new =
-      ends after new.1 (ap (claimed_in b.length) e) new.0
+      ends after new.1 (ap (claimed_in (numbers_of s) b.length) e) new.0
   moves_in after (phase.Answer told n) (Answering x carried) m here e doing due new =
-      ends after new.1 (ap (claimed_in b.length) e) new.0
+      ends after new.1 (ap (claimed_in (numbers_of s) b.length) e) new.0
   moves_in after (phase.Answer told n) (Sending blocks sent) m here e doing due new =
       subst (IsBehind (with_layer after (moved_on d k (phase.Answer told n))))
       (sym (sending_path blocks sent doing.block None doing.there (ap (deed_after_state b blocks sent) doing.lost)))
@@ -327,6 +328,6 @@ module _ (d : DeviceCore) (s : State) (k : ℕ) (a : OpenTask) (b : exchange.Tas
 
   -- what a reply makes of the task
   pub moves_on : (after : Core) (m : Message) → owed_by s.translation a ≡ Some m →
-      HasMoved after s.translation (claims_of s.tasks) a.tag a.phase →
+      HasMoved after s.translation (claims_of (numbers_of s) s.tasks) a.tag a.phase →
       IsBehind (with_layer after (moved_on d k a.phase)) (task_does s b b.deed)
   moves_on after m due new = moves_in after a.phase b.deed m refl refl o.kept.doing due new

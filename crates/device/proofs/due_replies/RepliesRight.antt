@@ -77,7 +77,7 @@ reply_tag t read held a (phase.Answer told n) m h = same_tag (answer_of a told n
 
 open_right : (d e : DeviceCore) (s : State) (k : ℕ) (a : OpenTask) (m : Message) → Describes d s →
     slice_get d.tasks k ≡ Some a → owed_by s.translation a ≡ Some m →
-    e ≡ record (moved_on d k a.phase) { ftl = e.ftl } → HasMoved e.ftl s.translation (claims_of s.tasks) a.tag a.phase →
+    e ≡ record (moved_on d k a.phase) { ftl = e.ftl } → HasMoved e.ftl s.translation (claims_of (numbers_of s) s.tasks) a.tag a.phase →
     IsAnswered s Reply (OfReply (Some m)) e
 open_right d e s k a m h there due left layer =
     let r = their_task (before_accepted s.translation.ledger) k d.tasks s.tasks a h.kept.tasks there in
@@ -97,7 +97,7 @@ pub replies_right : (d e : DeviceCore) (s : State) (k : ℕ) (task : Task) (m : 
     task_at d.tasks k ≡ Some task →
     owed_in s.translation (read_at d.tasks k) (held_at d.tasks k) task task.phase ≡ Some m →
     e ≡ record (moved_on d k task.phase) { ftl = e.ftl } →
-    HasMoved e.ftl s.translation (claims_of s.tasks) task.tag task.phase →
+    HasMoved e.ftl s.translation (claims_of (numbers_of s) s.tasks) task.tag task.phase →
     IsAnswered s Reply (OfReply (Some m)) e
 replies_right d e s k task m h there due left layer =
     let one = one_there d.tasks k task there in
@@ -105,7 +105,7 @@ replies_right d e s k task m h there due left layer =
     open_right d e s k one.0 m h one.1
     (sym (λ i. owed_in s.translation (its.1 i) (its.2 i) (its.0 i) (its.0 i).phase) ∙ due)
     (left ∙ (λ i. record (moved_on d k (its.0 i).phase) { ftl = e.ftl }))
-    (subst (λ (x : Task). HasMoved e.ftl s.translation (claims_of s.tasks) x.tag x.phase) its.0 layer)
+    (subst (λ (x : Task). HasMoved e.ftl s.translation (claims_of (numbers_of s) s.tasks) x.tag x.phase) its.0 layer)
 
 -- Replies of short exchanges
 

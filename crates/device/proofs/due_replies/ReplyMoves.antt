@@ -43,6 +43,8 @@ use Rattle.device.proofs.open_tasks.KeptByTag.{WantedFor, WantedForAll, claimed_
 use Rattle.device.proofs.open_tasks.KeptByTag.{deed_changed, one_goes}
 use Rattle.device.proofs.open_tasks.ReadProgress.{gone_finds_others, sent_finds_others, want_finds_others}
 use Rattle.device.proofs.due_replies.PinsLetGo.{gone_pins, next_of_others, other_pins, with_next}
+use Rattle.ufs_spec.specs.Refusals.{numbers_of}
+use Rattle.ufs_spec.specs.declared.configs.Numbers.{Numbers}
 
 -- What stays
 
@@ -69,7 +71,7 @@ asks_nothing p frames.Answered held request its none = tt
 pub record SaysAsMuch (request : Option RpmbRequest) (old new : Deed) : Type 0 where
   pub wanted : (index : ℕ) → wanted_in index request old ≡ wanted_in index request new
   pub read : read_in old ≡ read_in new
-  pub claimed : (total : ℕ) → claimed_in total old ≡ claimed_in total new
+  pub claimed : (m : Numbers) (total : ℕ) → claimed_in m total old ≡ claimed_in m total new
 
 abbrev pub with_held : Translation → ℕ → Translation
 with_held t held = record t { ledger = record t.ledger { held = held } }
@@ -128,11 +130,11 @@ module _ (d : DeviceCore) (s : State) (k : ℕ) (a : OpenTask) (b : exchange.Tas
       (one_set k d.tasks a (task_after e a) o.ours (ap brings_frames still) h.kept.one_sends)
 
   -- what the tags have claimed stays
-  same_claims : (deed : Deed) → claimed_in b.length b.deed ≡ claimed_in b.length deed →
-      claims_of (map (with_deed b.tag deed) s.tasks) ≡ claims_of s.tasks
+  same_claims : (deed : Deed) → claimed_in (numbers_of s) b.length b.deed ≡ claimed_in (numbers_of s) b.length deed →
+      claims_of (numbers_of s) (map (with_deed b.tag deed) s.tasks) ≡ claims_of (numbers_of s) s.tasks
   same_claims deed same =
-      claims_set s.tasks b.tag b deed found
-      ∙ claimed_same (claims_of s.tasks) b.tag (claimed_in b.length deed) (ap claimed_by found ∙ same)
+      claims_set (numbers_of s) s.tasks b.tag b deed found
+      ∙ claimed_same (claims_of (numbers_of s) s.tasks) b.tag (claimed_in (numbers_of s) b.length deed) (ap (claimed_by (numbers_of s)) found ∙ same)
 
   -- what is wanted for each tag, where only that of this one changes
   set_wanted : (pins : List Pin) (deed : Deed) → WantedFor pins b.tag (Some (record b { deed = deed })) →
@@ -158,7 +160,7 @@ module _ (d : DeviceCore) (s : State) (k : ℕ) (a : OpenTask) (b : exchange.Tas
       twice false = refl
 
   -- it goes, and keeps nothing
-  pub goes : (after : Core) (held : ℕ) → AreClaimed after (claims_of s.tasks) → claimed_in b.length b.deed ≡ [] →
+  pub goes : (after : Core) (held : ℕ) → AreClaimed after (claims_of (numbers_of s) s.tasks) → claimed_in (numbers_of s) b.length b.deed ≡ [] →
       layer_kept.Describes after (moved (with_held s.translation held) (LetGoAll a.tag)) →
       Keeps (with_layer after (without_task d k))
       (task_goes_on (record s { translation = with_held s.translation held }) b None)
@@ -183,8 +185,8 @@ module _ (d : DeviceCore) (s : State) (k : ℕ) (a : OpenTask) (b : exchange.Tas
             (λ n other index. other_pins b.tag n index s.translation.pins other);
         claims =
             subst (AreClaimed after)
-            (sym (claims_left s.tasks b.tag
-            ∙ claimed_same (claims_of s.tasks) b.tag [] (ap claimed_by found ∙ none))) claims;
+            (sym (claims_left (numbers_of s) s.tasks b.tag
+            ∙ claimed_same (claims_of (numbers_of s) s.tasks) b.tag [] (ap (claimed_by (numbers_of s)) found ∙ none))) claims;
         shorts = h.kept.shorts;
         power_on = h.kept.power_on;
       })
@@ -238,7 +240,7 @@ module _ (d : DeviceCore) (s : State) (k : ℕ) (a : OpenTask) (b : exchange.Tas
       frames_after a.frames e ≡ a.frames → FramesFit (phase_after p e) a.frames a.held deed →
       is_unfilled b.request ≡ false →
       block_after e p a.block ≡ a.block → SaysAsMuch b.request b.deed deed →
-      IsToldIn (durable s) deed → layer_kept.Describes after s.translation → AreClaimed after (claims_of s.tasks) →
+      IsToldIn (durable s) deed → layer_kept.Describes after s.translation → AreClaimed after (claims_of (numbers_of s) s.tasks) →
       IsBehind (with_layer after (with_event d k e)) (set_deed s b.tag deed)
   does_now after e p deed is doing still fits none stays same told layer claims = record {
     keeps = record {
@@ -254,7 +256,7 @@ module _ (d : DeviceCore) (s : State) (k : ℕ) (a : OpenTask) (b : exchange.Tas
           set_wanted s.translation.pins deed
           (λ index. h.kept.wanted b.tag index ∙ (ap (wanted_by index) found ∙ same.wanted index))
           (λ n index other. refl);
-      claims = subst (AreClaimed after) (sym (same_claims deed (same.claimed b.length))) claims;
+      claims = subst (AreClaimed after) (sym (same_claims deed (same.claimed (numbers_of s) b.length))) claims;
       shorts = h.kept.shorts;
       power_on = h.kept.power_on;
     };
@@ -270,8 +272,8 @@ module _ (d : DeviceCore) (s : State) (k : ℕ) (a : OpenTask) (b : exchange.Tas
       IsToldIn (durable s) deed →
       ((index : ℕ) →
       wanted_kept (with_next b.tag n s.translation.pins) b.tag index ≡ wanted_in index b.request deed) →
-      read_in deed ≡ None → claimed_in b.length b.deed ≡ claimed_in b.length deed →
-      AreClaimed after (claims_of s.tasks) →
+      read_in deed ≡ None → claimed_in (numbers_of s) b.length b.deed ≡ claimed_in (numbers_of s) b.length deed →
+      AreClaimed after (claims_of (numbers_of s) s.tasks) →
       layer_kept.Describes after (sent_layer s.translation a.tag n) →
       IsBehind (with_layer after (with_event d k event.BlockSent))
       (set_deed (record s { translation = sent_layer s.translation b.tag n }) b.tag deed)

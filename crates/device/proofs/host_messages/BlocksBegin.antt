@@ -101,11 +101,11 @@ module _ (d : DeviceCore) (s : State) (r : Request) (h : Describes d s) (free : 
       room : has_room s.translation m ≡ true
       room = pin_has_room d s m h begun.differ few most
 
-      layer : IsLayerWith after (fold moved s.translation (keeps s r.tag unit address m)) (claims_of s.tasks)
+      layer : IsLayerWith after (fold moved s.translation (keeps s r.tag unit address m)) (claims_of (numbers_of s) s.tasks)
       layer =
           subst (λ (x : Bool). IsLayerWith after
           (if x then fold moved s.translation (keeps s r.tag unit address m) else s.translation)
-          (claims_of s.tasks)) room
+          (claims_of (numbers_of s) s.tasks)) room
           (begun.layer (record {
             mended = is_mended;
             of_data = refl;
@@ -136,7 +136,7 @@ module _ (d : DeviceCore) (s : State) (r : Request) (h : Describes d s) (free : 
       same_phase d r after p asks _ its.0
       (opens_gathering d s r h free few after (Some command) (4096 * blocks) blocks
       (ForWrite unit address blocks forced) _
-      (its.1.0, subst (AreClaimed after) (ap (with_claimed (claims_of s.tasks) r.tag) (none_gathered blocks)) its.1.1)
+      (its.1.0, subst (AreClaimed after) (ap (with_claimed (claims_of (numbers_of s) s.tasks) r.tag) (none_gathered blocks)) its.1.1)
       (record {
         lun = refl;
         tag = refl;
@@ -153,7 +153,7 @@ module _ (d : DeviceCore) (s : State) (r : Request) (h : Describes d s) (free : 
       asks : Phase
       asks = write_asks (data_key unit address) blocks forced
 
-      its : (p ≡ asks) × LayerThen after s.translation (claims_of s.tasks) r.tag blocks true
+      its : (p ≡ asks) × LayerThen after s.translation (claims_of (numbers_of s) s.tasks) r.tag blocks true
       its =
-          slots_found after s.translation (claims_of s.tasks) r.tag blocks asks p slots (none_claimed d s r h free few)
+          slots_found after s.translation (claims_of (numbers_of s) s.tasks) r.tag blocks asks p slots (none_claimed d s r h free few)
           begun

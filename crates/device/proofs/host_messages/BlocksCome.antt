@@ -26,6 +26,7 @@ use Rattle.device.proofs.host_messages.BlocksGathered.{Gathers, core_then, does,
 use Rattle.device.proofs.host_messages.BlocksGathered.{sends_once, slots_filled, still_wanted}
 use Rattle.device.proofs.host_messages.LastBlock.{completes}
 use Rattle.device.proofs.open_tasks.OpenTasks.{Stands}
+use Rattle.ufs_spec.specs.Refusals.{numbers_of}
 
 module _ (d : DeviceCore) (s : State) (tag : ℕ) (bytes : List ℕ) (x : Transfer) (h : Describes d s)
     (r : Stands (before_accepted s.translation.ledger) tag d.tasks s.tasks) (at : r.a.phase ≡ phase.AwaitData x)
@@ -45,10 +46,10 @@ module _ (d : DeviceCore) (s : State) (tag : ℕ) (bytes : List ℕ) (x : Transf
 
   -- the claims with the block that came
   abbrev claims_now : Claims
-  claims_now = with_block (claims_of s.tasks) r.b.tag x.gathered bytes
+  claims_now = with_block (claims_of (numbers_of s) s.tasks) r.b.tag x.gathered bytes
 
   abbrev claims_then : Claims
-  claims_then = with_claimed (claims_of s.tasks) r.b.tag (blocks_gathered x.blocks all)
+  claims_then = with_claimed (claims_of (numbers_of s) s.tasks) r.b.tag (blocks_gathered x.blocks all)
 
   filled : claims_now ≡ claims_then
   filled = slots_filled d s tag x h r at g bytes long
@@ -119,12 +120,12 @@ module _ (d : DeviceCore) (s : State) (tag : ℕ) (bytes : List ℕ) (x : Transf
       (subst (λ (k : Key). HasTaken after s.translation claims_now r.b.tag k e) g.key_is took))
 
   pub block_keeps : AreBytes bytes → (after : Core) (e : TaskEvent) →
-      HasGathered after s.translation (claims_of s.tasks) tag x bytes e →
+      HasGathered after s.translation (claims_of (numbers_of s) s.tasks) tag x bytes e →
       Keeps (core_then d r.k after e) (data_heard s (task_of tag s.tasks) bytes)
   block_keeps are after e did =
       subst (Keeps (core_then d r.k after e)) (sym path)
       (by (nat_lt (x.gathered + 1) x.blocks) refl (subst
-      (λ n. HasGathered after s.translation (claims_of s.tasks) n x bytes e) (sym r.tag_is) did))
+      (λ n. HasGathered after s.translation (claims_of (numbers_of s) s.tasks) n x bytes e) (sym r.tag_is) did))
     where
       path : data_heard s (task_of tag s.tasks) bytes ≡ gathered_more s r.b purpose all
       path = ap (λ o. data_heard s o bytes) r.found ∙ ap (λ (deed : Deed). data_for s r.b deed bytes) g.deed_is

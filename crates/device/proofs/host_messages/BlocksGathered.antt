@@ -118,18 +118,18 @@ module _ (d : DeviceCore) (s : State) (tag : ℕ) (x : Transfer) (h : Describes 
 
   -- the claims where its tag has claimed these blocks
   abbrev claiming : List (List ℕ) → Claims
-  claiming = with_claimed (claims_of s.tasks) r.b.tag
+  claiming = with_claimed (claims_of (numbers_of s) s.tasks) r.b.tag
 
-  pub its_claims : (after : Core) (deed : Deed) (blocks : List (List ℕ)) → claimed_in r.b.length deed ≡ blocks →
-      AreClaimed after (claiming blocks) → AreClaimed after (claims_of (map (with_deed r.b.tag deed) s.tasks))
+  pub its_claims : (after : Core) (deed : Deed) (blocks : List (List ℕ)) → claimed_in (numbers_of s) r.b.length deed ≡ blocks →
+      AreClaimed after (claiming blocks) → AreClaimed after (claims_of (numbers_of s) (map (with_deed r.b.tag deed) s.tasks))
   its_claims after deed blocks is =
-      subst (AreClaimed after) (sym (claims_set s.tasks r.b.tag r.b deed found ∙ ap claiming is))
+      subst (AreClaimed after) (sym (claims_set (numbers_of s) s.tasks r.b.tag r.b deed found ∙ ap claiming is))
 
   -- a block that came lies in its slot
   pub slots_filled : (bytes : List ℕ) → length bytes ≡ 4096 →
-      with_block (claims_of s.tasks) r.b.tag x.gathered bytes
+      with_block (claims_of (numbers_of s) s.tasks) r.b.tag x.gathered bytes
       ≡ claiming (blocks_gathered x.blocks (g.gathered ++ bytes))
   slots_filled bytes long =
       ap (λ blocks. claiming (slice_set blocks x.gathered bytes))
-      (ap claimed_by found ∙ ap (claimed_in r.b.length) g.deed_is)
+      (ap (claimed_by (numbers_of s)) found ∙ ap (claimed_in (numbers_of s) r.b.length) g.deed_is)
       ∙ ap claiming (next_filled x.blocks x.gathered g.gathered bytes g.more g.came long)

@@ -9,6 +9,8 @@ use Rattle.std.proofs.lemmas.Bool.Decides.{nat_tests}
 use Rattle.std.proofs.lemmas.List.{length-drop}
 use Rattle.std.proofs.lemmas.List.Sums.{get_or-le-sum_by}
 use Rattle.ufs_spec.proofs.Facts.{eqb-true, false≢true, ltb-false, or_parts}
+use Rattle.ufs_spec.proofs.ConfigFacts.{command_blocks-few}
+use Rattle.ufs_spec.specs.Configs.{command_blocks}
 use Rattle.ufs_spec.specs.Plain.{greatest_command}
 use Rattle.ufs_spec.specs.Cdbs.{blocks_of, direction_of, operation_of}
 use Rattle.ufs_spec.specs.Exchanges.{Busy, Task, invalid_field, invalid_operation, list_length_error, no_unit}
@@ -78,7 +80,10 @@ few_told : (s : State) (command : Cdb) → is_too_long (numbers_of s) command �
     blocks_of command ≤ greatest_command
 few_told s (cdb.SecurityIn region size) h = omega arith
 few_told s (cdb.SecurityOut region size) h = omega arith
-few_told s command h = ltb-false greatest_command (blocks_of command) h
+few_told s command h =
+    let few = ltb-false (command_blocks (numbers_of s)) (blocks_of command) h in
+    let most = command_blocks-few (numbers_of s) in
+    omega (arith, few, most)
 
 mended_told : (a b : Bool) → (a && not b) ≡ false → a ≡ true → b ≡ true
 mended_told true true h e = refl

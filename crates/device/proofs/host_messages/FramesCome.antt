@@ -101,9 +101,9 @@ module _ {d : DeviceCore} {s : State} {tag : ℕ} {bytes : List ℕ} (c : AllCam
           layer_is =
               subst (λ (y : exchange.Task). IsLayerWith did.layer
               (moved s.translation (Release (claim_of (numbers_of s) c.stands.b)))
-              (with_claimed (claims_of s.tasks) c.stands.b.tag (claimed_in y.length y.deed))) (sym changed)
+              (with_claimed (claims_of (numbers_of s) s.tasks) c.stands.b.tag (claimed_in (numbers_of s) y.length y.deed))) (sym changed)
               (released c did.layer (λ n. [])
-              (did.released s.translation (claims_of s.tasks) (c.described.kept.layer_kept, c.described.kept.claims)));
+              (did.released s.translation (claims_of (numbers_of s) s.tasks) (c.described.kept.layer_kept, c.described.kept.claims)));
           numbers = refl;
           before = refl;
           task = subst (TaskKept (before_accepted s.translation.ledger) new) (sym changed) refused_task;

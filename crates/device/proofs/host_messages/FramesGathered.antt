@@ -134,10 +134,10 @@ module _ {d : DeviceCore} {s : State} {tag : ℕ} {bytes : List ℕ} (c : AllCam
 
   -- what the tasks have claimed, where the task has claimed nothing any more
   abbrev pub given_up : Claims
-  given_up = with_claimed (claims_of s.tasks) c.stands.b.tag []
+  given_up = with_claimed (claims_of (numbers_of s) s.tasks) c.stands.b.tag []
 
-  pub its_slots : claims_of s.tasks c.stands.b.tag ≡ replicate frame_slots zero_block
-  its_slots = ap claimed_by found ∙ ap (claimed_in c.stands.b.length) c.gathers.deed_is
+  pub its_slots : claims_of (numbers_of s) s.tasks c.stands.b.tag ≡ replicate frame_slots zero_block
+  its_slots = ap (claimed_by (numbers_of s)) found ∙ ap (claimed_in (numbers_of s) c.stands.b.length) c.gathers.deed_is
 
   pub fits : WaitsFrames (is_mended s.translation.work.mending) 0 c.stands.b.length []
       (claim_of (numbers_of s) c.stands.b)
@@ -149,8 +149,8 @@ module _ {d : DeviceCore} {s : State} {tag : ℕ} {bytes : List ℕ} (c : AllCam
 
   -- the layer of both sides once the slots are given back and these moves are made
   pub released : (layer : Core) (moves : ℕ → List Move) →
-      IsLayerWith layer (fold moved (moved s.translation (Release (length (claims_of s.tasks tag)))) (moves tag))
-      (with_claimed (claims_of s.tasks) tag []) →
+      IsLayerWith layer (fold moved (moved s.translation (Release (length (claims_of (numbers_of s) s.tasks tag)))) (moves tag))
+      (with_claimed (claims_of (numbers_of s) s.tasks) tag []) →
       IsLayerWith layer
       (fold moved (moved s.translation (Release (claim_of (numbers_of s) c.stands.b))) (moves c.stands.b.tag)) given_up
   released layer moves its =
@@ -158,8 +158,8 @@ module _ {d : DeviceCore} {s : State} {tag : ℕ} {bytes : List ℕ} (c : AllCam
       (λ (n : ℕ). IsLayerWith layer (fold moved (moved s.translation (Release n)) (moves c.stands.b.tag)) given_up)
       (ap length its_slots ∙ (three ∙ sym fits.claimed_is))
       (subst (λ (n : ℕ). IsLayerWith layer
-      (fold moved (moved s.translation (Release (length (claims_of s.tasks n)))) (moves n))
-      (with_claimed (claims_of s.tasks) n [])) (sym c.stands.tag_is) its)
+      (fold moved (moved s.translation (Release (length (claims_of (numbers_of s) s.tasks n)))) (moves n))
+      (with_claimed (claims_of (numbers_of s) s.tasks) n [])) (sym c.stands.tag_is) its)
     where
       three : length (replicate frame_slots zero_block) ≡ 3
       three = refl
@@ -264,7 +264,7 @@ module _ {d : DeviceCore} {s : State} {tag : ℕ} {bytes : List ℕ} (c : AllCam
       pub region : IsKept m.region (region_of (after s.base cs) 0)
       pub registers : m.registers ≡ d.rpmb.registers
       pub layer_is : IsLayerWith layer u given_up
-      pub none_claimed : claimed_in c.stands.b.length deed ≡ []
+      pub none_claimed : claimed_in (numbers_of s) c.stands.b.length deed ≡ []
       pub numbers : u.numbers ≡ s.translation.numbers
       pub before : before_accepted u.ledger ≡ before_accepted s.translation.ledger
       pub wanted : (index : ℕ) → wanted_kept u.pins c.stands.b.tag index
@@ -293,9 +293,9 @@ module _ {d : DeviceCore} {s : State} {tag : ℕ} {bytes : List ℕ} (c : AllCam
             ∙ sym (ap (emptied_by (all_frames bytes)) leads.registers);
         layer_is =
             subst (λ (y : exchange.Task). IsLayerWith did.layer u
-            (with_claimed (claims_of s.tasks) c.stands.b.tag (claimed_in y.length y.deed))) (sym changed)
+            (with_claimed (claims_of (numbers_of s) s.tasks) c.stands.b.tag (claimed_in (numbers_of s) y.length y.deed))) (sym changed)
             (subst (λ (blocks : List (List ℕ)). IsLayerWith did.layer u
-            (with_claimed (claims_of s.tasks) c.stands.b.tag blocks)) (sym leads.none_claimed) leads.layer_is);
+            (with_claimed (claims_of (numbers_of s) s.tasks) c.stands.b.tag blocks)) (sym leads.none_claimed) leads.layer_is);
         numbers = leads.numbers;
         before = leads.before;
         task = subst (TaskKept (before_accepted s.translation.ledger) new) (sym changed) (asking_kept code e p deed x);

@@ -24,6 +24,7 @@ use Rattle.device.proofs.described.Answered.{IsBehind}
 use Rattle.device.proofs.described.Settled.{kept_stays, still_answered}
 use Rattle.device.proofs.host_messages.HeldBegins.{core_keeping, held_begins, last_held}
 use Rattle.device.proofs.host_messages.ReadOpened.{core_opened}
+use Rattle.ufs_spec.specs.Refusals.{numbers_of}
 
 -- as many bytes as frames of 512
 joined_length : (xs : List (List ℕ)) → All IsFrameSaid xs →
@@ -104,7 +105,7 @@ module _ (d : DeviceCore) (s : State) (r : Request) (h : Describes d s) (free : 
   emptied_core e = record e { rpmb = with_none_waiting d.rpmb }
 
   first_taken : (p : Phase) → p ≡ held_phase n (min r.expected n) →
-      IsLayerWith after s.translation (claims_of s.tasks) →
+      IsLayerWith after s.translation (claims_of (numbers_of s) s.tasks) →
       IsBehind (handed_over (core_opened d r after p) (length (core_opened d r after p).tasks - 1))
       (frames_begun s r 0 n)
   first_taken p phase_is layer =
@@ -119,7 +120,7 @@ module _ (d : DeviceCore) (s : State) (r : Request) (h : Describes d s) (free : 
 pub taken_opened : (d : DeviceCore) (s : State) (r : Request) → (h : Describes d s) → task_of r.tag s.tasks ≡ None →
     length s.tasks < most_tasks → (after : Core) (region n : ℕ) (p : Phase) → region ≡ 0 →
     has_other_response s (cdb.SecurityIn region n) ≡ false → n ≤ 4096 → p ≡ held_phase n (min r.expected n) →
-    IsLayerWith after s.translation (claims_of s.tasks) →
+    IsLayerWith after s.translation (claims_of (numbers_of s) s.tasks) →
     IsBehind (handed_over (core_opened d r after p) (length (core_opened d r after p).tasks - 1))
     (frames_begun s r region n)
 taken_opened d s r h free few after region n p is same short phase_is layer =

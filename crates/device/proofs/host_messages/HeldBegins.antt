@@ -27,6 +27,7 @@ use Rattle.device.proofs.described.Answered.{IsBehind}
 use Rattle.device.proofs.host_messages.CommandPasses.{some_told}
 use Rattle.device.proofs.host_messages.ReadOpened.{core_opened}
 use Rattle.device.proofs.open_tasks.TaskOpened.{opens_still, quiet_here}
+use Rattle.ufs_spec.specs.Refusals.{numbers_of}
 
 -- The block of the pool
 
@@ -98,7 +99,7 @@ module _ (d : DeviceCore) (s : State) (r : Request) (h : Describes d s) (free : 
 
   -- the first bytes of what it keeps, as many as its host expects
   pub held_begins : length all ≤ 4096 → take size all ≡ bytes → length bytes ≡ size →
-      sends_frames (Some command) ≡ false → IsLayerWith after s.translation (claims_of s.tasks) →
+      sends_frames (Some command) ≡ false → IsLayerWith after s.translation (claims_of (numbers_of s) s.tasks) →
       IsBehind (core_keeping d r after (held_phase size (min r.expected size)) (with_zeros all))
       (data_begun s r command bytes)
   held_begins short first long quiet layer =
@@ -114,7 +115,7 @@ module _ (d : DeviceCore) (s : State) (r : Request) (h : Describes d s) (free : 
       by : (b : Bool) → (min r.expected size == 0) ≡ b → IsBehind (held_at b) (data_at size b)
       by true e =
           opens_still d s r h free few after (Some command) size (Answering Good size) _ layer
-          (record { wanted = λ i. refl; claimed = λ total. refl }) (λ l. tt)
+          (record { wanted = λ i. refl; claimed = λ m total. refl }) (λ l. tt)
           (record {
             lun = refl;
             tag = refl;
@@ -129,7 +130,7 @@ module _ (d : DeviceCore) (s : State) (r : Request) (h : Describes d s) (free : 
           }) (λ e. absurd (false≢true e))
       by false e =
           opens_still d s r h free few after (Some command) size (SendingBytes bytes) _ layer
-          (record { wanted = λ i. refl; claimed = λ total. refl }) (λ l. tt)
+          (record { wanted = λ i. refl; claimed = λ m total. refl }) (λ l. tt)
           (record {
             lun = refl;
             tag = refl;

@@ -37,15 +37,16 @@ use Rattle.device.proofs.host_messages.NumbersAwaited.{number_awaited}
 use Rattle.device.proofs.host_messages.SlotsFilled.{all_came}
 use Rattle.device.proofs.open_tasks.KeptByTag.{claimed_last, claimed_own}
 use Rattle.device.proofs.open_tasks.OpenTasks.{Stands}
+use Rattle.ufs_spec.specs.declared.configs.Numbers.{Numbers}
 
 -- once its command was accepted a WRITE sends none, and has no slot
 write_sends : (forced : Bool) (position n : ℕ) → SendsNone (write_deed forced position n)
 write_sends true position n = record { wanted = λ index request. refl; read = refl }
 write_sends false position n = record { wanted = λ index request. refl; read = refl }
 
-write_claims : (forced : Bool) (position n : ℕ) → claimed_in n (write_deed forced position n) ≡ []
-write_claims true position n = refl
-write_claims false position n = refl
+write_claims : (forced : Bool) (m : Numbers) (position n : ℕ) → claimed_in m n (write_deed forced position n) ≡ []
+write_claims true m position n = refl
+write_claims false m position n = refl
 
 -- all its data came
 module _ (d : DeviceCore) (s : State) (tag : ℕ) (x : Transfer) (h : Describes d s)
@@ -53,7 +54,7 @@ module _ (d : DeviceCore) (s : State) (tag : ℕ) (x : Transfer) (h : Describes 
     (g : Gathers r.b.length x r.b.deed) (all : List ℕ) (are : AreBytes all) (long : length all ≡ 4096 * x.blocks) where
   -- the claims where its tag has claimed these blocks
   abbrev claiming : List (List ℕ) → Claims
-  claiming = with_claimed (claims_of s.tasks) r.b.tag
+  claiming = with_claimed (claims_of (numbers_of s) s.tasks) r.b.tag
 
   -- the blocks that are written
   abbrev bodies : List (List ℕ)
@@ -164,7 +165,7 @@ module _ (d : DeviceCore) (s : State) (tag : ℕ) (x : Transfer) (h : Describes 
             (taken_does x.forced) refl (taken_fits x.forced) refl (ap read_in g.deed_is ∙ sym sends.read);
         wanted = still_wanted d s tag x h r at g deed_now sends;
         claims =
-            its_claims d s tag x h r at g after deed_now [] (write_claims x.forced (length s.accepted + 1) r.b.length)
+            its_claims d s tag x h r at g after deed_now [] (write_claims x.forced (numbers_of s) (length s.accepted + 1) r.b.length)
             claims;
         shorts = h.kept.shorts;
         power_on = h.kept.power_on;
@@ -186,7 +187,7 @@ module _ (d : DeviceCore) (s : State) (tag : ℕ) (x : Transfer) (h : Describes 
           (ap claiming (all_came x.blocks all long)) took
 
       own : claiming bodies r.b.tag ≡ bodies
-      own = claimed_own (claims_of s.tasks) r.b.tag bodies
+      own = claimed_own (claims_of (numbers_of s) s.tasks) r.b.tag bodies
 
       its : IsLayerWith after (moved s.translation (taken_move s.translation (data_key g.unit g.address) bodies))
           (claiming [])
@@ -194,7 +195,7 @@ module _ (d : DeviceCore) (s : State) (tag : ℕ) (x : Transfer) (h : Describes 
           subst
           (λ claims. IsLayerWith after
           (moved s.translation (taken_move s.translation (data_key g.unit g.address) bodies)) claims)
-          (claimed_last (claims_of s.tasks) r.b.tag bodies [])
+          (claimed_last (claims_of (numbers_of s) s.tasks) r.b.tag bodies [])
           (subst
           (λ blocks. IsLayerWith after
           (moved s.translation (taken_move s.translation (data_key g.unit g.address) blocks))

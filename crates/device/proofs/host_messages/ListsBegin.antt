@@ -21,6 +21,7 @@ use Rattle.device.proofs.described.Answered.{IsBehind}
 use Rattle.device.proofs.host_messages.SlotsClaimed.{LayerThen, slots_found}
 use Rattle.device.proofs.host_messages.TasksBegin.{HasBegunFor, nothing_begins, opened_for, quiet_task, same_phase}
 use Rattle.device.proofs.open_tasks.TaskOpened.{none_claimed, opens_gathering}
+use Rattle.ufs_spec.specs.Refusals.{numbers_of}
 
 -- a list that is there is a header, or a header with one descriptor
 list_told : (list : ℕ) → has_wrong_list (cdb.Unmap list) ≡ false → (list == 0) ≡ false → IsOfList list
@@ -51,13 +52,13 @@ module _ (d : DeviceCore) (s : State) (r : Request) (h : Describes d s) (free : 
       else gathering_begun s r (cdb.Unmap list) list (ForUnmap unit)
 
   pub list_begins : (unit list : ℕ) (p : Phase) → has_wrong_list (cdb.Unmap list) ≡ false →
-      list_slots list ≤ free_slots s.translation → (b : Bool) → (list == 0) ≡ b →
+      list_slots (numbers_of s) list ≤ free_slots s.translation → (b : Bool) → (list == 0) ≡ b →
       Begins (Ok (list_todo unit list b)) p → Opens (Ok (list_todo unit list b)) p (list_at unit list b)
   list_begins unit list p listed slots true e begun =
       nothing_begins d s r h free few after (cdb.Unmap list) 0 p refl begun
   list_begins unit list p listed slots false e begun =
       same_phase d r after p (phase.AskList unit list) _ its.0
-      (opens_gathering d s r h free few after (Some (cdb.Unmap list)) list (list_slots list) (ForUnmap unit) _ its.1
+      (opens_gathering d s r h free few after (Some (cdb.Unmap list)) list (list_slots (numbers_of s) list) (ForUnmap unit) _ its.1
       (record {
         lun = refl;
         tag = refl;
@@ -75,7 +76,7 @@ module _ (d : DeviceCore) (s : State) (r : Request) (h : Describes d s) (free : 
       }) (quiet_task d r (phase.AskList unit list)))
     where
       its : (p ≡ phase.AskList unit list)
-          × LayerThen after s.translation (claims_of s.tasks) r.tag (list_slots list) true
+          × LayerThen after s.translation (claims_of (numbers_of s) s.tasks) r.tag (list_slots (numbers_of s) list) true
       its =
-          slots_found after s.translation (claims_of s.tasks) r.tag (list_slots list) (phase.AskList unit list) p slots
+          slots_found after s.translation (claims_of (numbers_of s) s.tasks) r.tag (list_slots (numbers_of s) list) (phase.AskList unit list) p slots
           (none_claimed d s r h free few) begun

@@ -56,7 +56,7 @@ module _ {d : DeviceCore} {s : State} {tag : ℕ} {list : List ℕ} (c : ListCam
   -- what the device makes of the list is kept of what the specified one makes of it
   abbrev IsSame : Unmapping → State → Type 0
   IsSame done behind =
-      HasUnmapped layer s.translation (claims_of s.tasks) tag done e → Keeps (core_then d c.stands.k layer e) behind
+      HasUnmapped layer s.translation (claims_of (numbers_of s) s.tasks) tag done e → Keeps (core_then d c.stands.k layer e) behind
 
   -- the list is refused
   refused : (why : Sense) → IsSame (does.Refused why) (ends_with_status s c.stands.b (CheckCondition why))
@@ -149,7 +149,7 @@ list_keeps d come s tag list unit size h r wants long are did =
     subst (λ (y : DeviceCore). Keeps y (data_heard s (task_of tag s.tasks) list)) (sym did.after_is)
     (subst (Keeps (core_then d r.k did.layer did.event)) (sym (complete_is came))
     (list_same came did.layer did.event
-    (did.unmapped s.translation (claims_of s.tasks) (h.kept.layer_kept, h.kept.claims)
+    (did.unmapped s.translation (claims_of (numbers_of s) s.tasks) (h.kept.layer_kept, h.kept.claims)
     (gathers_its came).fits.unit_in (subst IsOfList (sym long) came.gathers.of_list))))
   where
     at : r.a.phase ≡ phase.AwaitList unit size

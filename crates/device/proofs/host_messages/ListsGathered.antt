@@ -39,6 +39,7 @@ use Rattle.device.proofs.host_messages.BlocksGathered.{core_then}
 use Rattle.device.proofs.host_messages.TaskBecomes.{becomes_kept, device_then, state_then}
 use Rattle.device.proofs.open_tasks.OpenTasks.{Stands}
 use Rattle.device.proofs.open_tasks.ReadProgress.{deed_changes}
+use Rattle.ufs_spec.specs.Configs.{command_blocks}
 
 -- What the task gathered
 
@@ -108,19 +109,19 @@ module _ {d : DeviceCore} {s : State} {tag : ℕ} {list : List ℕ} (c : ListCam
       c.stands.opened.kept.fits
 
   -- zeros lie in its slots
-  pub its_slots : claims_of s.tasks tag ≡ replicate (claim_of (numbers_of s) c.stands.b) zero_block
+  pub its_slots : claims_of (numbers_of s) s.tasks tag ≡ replicate (claim_of (numbers_of s) c.stands.b) zero_block
   its_slots =
-      ap claimed_by c.stands.found
-      ∙ (ap (claimed_in c.stands.b.length) c.gathers.deed_is
+      ap (claimed_by (numbers_of s)) c.stands.found
+      ∙ (ap (claimed_in (numbers_of s) c.stands.b.length) c.gathers.deed_is
       ∙ ap (λ (n : ℕ). replicate n zero_block) (sym (gathers_its.claim ∙ slots gathers_its.fits.list)))
     where
       slots : {claimed : ℕ} →
-          ((c.stands.b.length ≡ 8) × (claimed ≡ 0)) ⊎ ((c.stands.b.length ≡ 24) × (claimed ≡ greatest_command)) →
-          claimed ≡ list_slots c.stands.b.length
-      slots (inl header) = header.1 ∙ sym (ap list_slots header.0)
-      slots (inr whole) = whole.1 ∙ sym (ap list_slots whole.0)
+          ((c.stands.b.length ≡ 8) × (claimed ≡ 0)) ⊎ ((c.stands.b.length ≡ 24) × (claimed ≡ command_blocks (numbers_of s))) →
+          claimed ≡ list_slots (numbers_of s) c.stands.b.length
+      slots (inl header) = header.1 ∙ sym (ap (list_slots (numbers_of s)) header.0)
+      slots (inr whole) = whole.1 ∙ sym (ap (list_slots (numbers_of s)) whole.0)
 
-  pub slots_are : length (claims_of s.tasks tag) ≡ claim_of (numbers_of s) c.stands.b
+  pub slots_are : length (claims_of (numbers_of s) s.tasks tag) ≡ claim_of (numbers_of s) c.stands.b
   slots_are = ap length its_slots ∙ length-replicate (claim_of (numbers_of s) c.stands.b) zero_block
 
   -- nothing is wanted for it
@@ -142,7 +143,7 @@ module _ {d : DeviceCore} {s : State} {tag : ℕ} {list : List ℕ} (c : ListCam
     pub boot : (after s.base cs).boot ≡ (plain_now s).boot
     pub permanent : (after s.base cs).permanent ≡ (plain_now s).permanent
     pub region : region_of (after s.base cs) 0 ≡ region_of (plain_now s) 0
-    pub layer_is : IsLayerWith layer u (with_claimed (claims_of s.tasks) tag [])
+    pub layer_is : IsLayerWith layer u (with_claimed (claims_of (numbers_of s) s.tasks) tag [])
     pub numbers : u.numbers ≡ s.translation.numbers
     pub before : before_accepted u.ledger ≡ before_accepted s.translation.ledger
     pub pins : u.pins ≡ s.translation.pins
@@ -211,8 +212,8 @@ module _ {d : DeviceCore} {s : State} {tag : ℕ} {list : List ℕ} (c : ListCam
           registers_are = c.described.kept.registers;
           layer_is =
               subst (λ (y : exchange.Task). IsLayerWith layer u
-              (with_claimed (claims_of s.tasks) c.stands.b.tag (claimed_in y.length y.deed))) (sym changed)
-              (subst (λ (n : ℕ). IsLayerWith layer u (with_claimed (claims_of s.tasks) n [])) (sym c.stands.tag_is)
+              (with_claimed (claims_of (numbers_of s) s.tasks) c.stands.b.tag (claimed_in (numbers_of s) y.length y.deed))) (sym changed)
+              (subst (λ (n : ℕ). IsLayerWith layer u (with_claimed (claims_of (numbers_of s) s.tasks) n [])) (sym c.stands.tag_is)
               leads.layer_is);
           numbers = leads.numbers;
           before = leads.before;
@@ -226,7 +227,7 @@ module _ {d : DeviceCore} {s : State} {tag : ℕ} {list : List ℕ} (c : ListCam
         }))
 
     -- where it gives back all that it claimed
-    pub ended_keeps : (layer : Core) → HasGivenBack layer s.translation (claims_of s.tasks) tag →
+    pub ended_keeps : (layer : Core) → HasGivenBack layer s.translation (claims_of (numbers_of s) s.tasks) tag →
         Keeps (core_then d c.stands.k layer e) (ends_with_status s c.stands.b (status_kept told))
     ended_keeps layer given =
         told_keeps layer (moved s.translation (Release (claim_of (numbers_of s) c.stands.b))) s.accepted (record {
@@ -235,7 +236,7 @@ module _ {d : DeviceCore} {s : State} {tag : ℕ} {list : List ℕ} (c : ListCam
           region = refl;
           layer_is =
               subst (λ (n : ℕ). IsLayerWith layer (moved s.translation (Release n))
-              (with_claimed (claims_of s.tasks) tag [])) slots_are given;
+              (with_claimed (claims_of (numbers_of s) s.tasks) tag [])) slots_are given;
           numbers = refl;
           before = refl;
           pins = refl;

@@ -33,6 +33,7 @@ use Rattle.device.proofs.described.Answered.{IsBehind}
 use Rattle.device.proofs.host_messages.BlocksKept.{kept_are, made_is, others_found, others_wanted, own_wanted}
 use Rattle.device.proofs.open_tasks.TaskOpened.{none_wanted, open_answered, open_keeps, open_told, quiet_here}
 use Rattle.device.proofs.open_tasks.TaskOpened.{still_claimed}
+use Rattle.ufs_spec.specs.Refusals.{numbers_of}
 
 -- the device with the new task, which has this to do with frames, over the layer as it is then
 abbrev pub core_with : DeviceCore → Request → Core → Phase → Frames → DeviceCore
@@ -62,7 +63,7 @@ module _ (d : DeviceCore) (s : State) (r : Request) (h : Describes d s) (free : 
   pub read_opened : (command : Cdb) (n unit address m : ℕ) → sends_frames (Some command) ≡ false → 1 ≤ m →
       m ≤ greatest_command → m ≡ div_ceil (min r.expected n) 4096 →
       layer_kept.Describes after (fold moved s.translation (keeps s r.tag unit address m)) →
-      AreClaimed after (claims_of s.tasks) →
+      AreClaimed after (claims_of (numbers_of s) s.tasks) →
       IsBehind (core_opened d r after (phase.SendBlocks (sending_now m 0 n))) (reading_at s r command n unit address m)
   read_opened command n unit address m sends some most all layer claims = record {
     keeps =

@@ -148,10 +148,10 @@ module _ {d : DeviceCore} {s : State} {tag : ℕ} {bytes : List ℕ} (c : AllCam
           subst (λ (n : ℕ). IsLayerWith did.layer (moved s.translation (taking n)) (given_up c))
           (sym (fits c).claimed_is)
           (subst (λ (n : ℕ). IsLayerWith did.layer (moved s.translation (taking 3))
-          (with_claimed (claims_of s.tasks) n [])) (sym c.stands.tag_is)
-          (took.layer s.translation (claims_of s.tasks) (plain_now s) command
+          (with_claimed (claims_of (numbers_of s) s.tasks) n [])) (sym c.stands.tag_is)
+          (took.layer s.translation (claims_of (numbers_of s) s.tasks) (plain_now s) command
           (c.described.kept.layer_kept, c.described.kept.claims)
-          (subst (λ (n : ℕ). claims_of s.tasks n ≡ replicate frame_slots zero_block) c.stands.tag_is (its_slots c))
+          (subst (λ (n : ℕ). claims_of (numbers_of s) s.tasks n ≡ replicate frame_slots zero_block) c.stands.tag_is (its_slots c))
           (record { command = is_command; is = coming.is; plain = plain_is; can = coming.can; allowed = allowed })))
 
   -- the same of the frames as they came

@@ -73,11 +73,11 @@ module _ {d : DeviceCore} {s : State} {tag : ℕ} {bytes : List ℕ} (c : AllCam
   layer_is b e may =
       released c did.layer (λ n. if b then area_keeps s.translation n first else [])
       (subst (λ (ms : List Move). IsLayerWith did.layer
-      (fold moved (moved s.translation (Release (length (claims_of s.tasks tag)))) ms)
-      (with_claimed (claims_of s.tasks) tag []))
+      (fold moved (moved s.translation (Release (length (claims_of (numbers_of s) s.tasks tag)))) ms)
+      (with_claimed (claims_of (numbers_of s) s.tasks) tag []))
       (ap (λ (fs : List Frame). answer_moves s.translation tag fs code) (frames_are c)
       ∙ ap (λ (x : Bool). cond x (area_keeps s.translation tag first) []) e)
-      (did.decided.0.layer s.translation (claims_of s.tasks) (c.described.kept.layer_kept, c.described.kept.claims)
+      (did.decided.0.layer s.translation (claims_of (numbers_of s) s.tasks) (c.described.kept.layer_kept, c.described.kept.claims)
       (may_answer s.translation tag _ (all_frames bytes) code (frames_are c) may)))
 
   -- A request that is answered at once

@@ -5,6 +5,7 @@ use Rattle.std.proofs.Common.{arith, subst}
 use Rattle.std.proofs.lemmas.Bool.{le-leb}
 use Rattle.std.proofs.lemmas.List.{append-nil}
 use Rattle.std.proofs.lemmas.List.Sums.{fold-append}
+use Rattle.ufs_spec.proofs.ConfigFacts.{command_blocks-some}
 use Rattle.ufs_spec.specs.Changes.{with_moves}
 use Rattle.ufs_spec.specs.Commands.{Command}
 use Rattle.ufs_spec.specs.Exchanges.{task_of}
@@ -128,6 +129,7 @@ module _ (d : DeviceCore) (s : State) (tag value : ℕ) (query : Queried) (x : S
     is = set.is;
     can = set.can;
     few = omega arith;
+    short = let some = command_blocks-some (numbers_of s) in omega arith;
     is_mended = set.is_mended;
     unlocked = set.unlocked;
   }
@@ -148,10 +150,10 @@ module _ (d : DeviceCore) (s : State) (tag value : ℕ) (query : Queried) (x : S
       (contents_now s settings_key h.tied IsSettings) (page_is d s x h)
 
   layer_then : (layer : Core) (number : ℕ) → HasPutSetting d.ftl layer tag page number →
-      IsLayerWith layer v.translation (claims_of s.tasks)
+      IsLayerWith layer v.translation (claims_of (numbers_of s) s.tasks)
   layer_then layer number put =
-      subst (λ g. IsLayerWith layer (moved (with_slot s.translation) (Accept 1 g)) (claims_of s.tasks)) group_is
-      (put.layer s.translation (claims_of s.tasks) (h.kept.layer_kept, h.kept.claims) (ap claimed_by free)
+      subst (λ g. IsLayerWith layer (moved (with_slot s.translation) (Accept 1 g)) (claims_of (numbers_of s) s.tasks)) group_is
+      (put.layer s.translation (claims_of (numbers_of s) s.tasks) (h.kept.layer_kept, h.kept.claims) (ap (claimed_by (numbers_of s)) free)
       (le-leb 1 _ set.room)
       (subst (λ g. IsAllowedMove (with_slot s.translation) (Accept 1 g)) (sym group_is) allowed))
 
@@ -185,7 +187,7 @@ module _ (d : DeviceCore) (s : State) (tag value : ℕ) (query : Queried) (x : S
   then_is = fold-append apply s.base s.accepted (c ∷ [])
 
   keeps_with : (layer : Core) (number told boot : ℕ) (permanent : Bool) →
-      IsLayerWith layer v.translation (claims_of s.tasks) →
+      IsLayerWith layer v.translation (claims_of (numbers_of s) s.tasks) →
       ShortKept (numbers_of s) (before_accepted s.translation.ledger) (waiting number told) awaited →
       boot ≡ (apply (plain_now s) c).boot → permanent ≡ (apply (plain_now s) c).permanent →
       Keeps

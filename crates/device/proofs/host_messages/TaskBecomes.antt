@@ -40,7 +40,7 @@ pub record Becomes (s : State) (a new : OpenTask) (b : exchange.Task) (f : excha
   pub permanent : (after s.base cs).permanent ≡ (plain_now s).permanent
   pub region : IsKept m.region (region_of (after s.base cs) 0)
   pub registers_are : registers 0 ≡ m.registers
-  pub layer_is : IsLayerWith layer u (with_claimed (claims_of s.tasks) b.tag (claimed_in (f b).length (f b).deed))
+  pub layer_is : IsLayerWith layer u (with_claimed (claims_of (numbers_of s) s.tasks) b.tag (claimed_in (numbers_of s) (f b).length (f b).deed))
   pub numbers : u.numbers ≡ s.translation.numbers
   pub before : before_accepted u.ledger ≡ before_accepted s.translation.ledger
   pub task : TaskKept (before_accepted s.translation.ledger) new (f b)
@@ -67,7 +67,9 @@ becomes_kept d s k a new b f layer m u cs registers h o x = record {
   one_sends = one_set k d.tasks a new o.ours x.sends h.kept.one_sends;
   wanted =
       one_changes s.translation.pins u.pins s.tasks f b.tag b h.kept.wanted x.changes found x.wanted x.others_wanted;
-  claims = subst (AreClaimed layer) (sym (claims_changed s.tasks f b.tag b x.changes found)) x.layer_is.1;
+  claims =
+      subst (λ n. AreClaimed layer (claims_of n (map f s.tasks))) (sym x.numbers)
+      (subst (AreClaimed layer) (sym (claims_changed (numbers_of s) s.tasks f b.tag b x.changes found)) x.layer_is.1);
   shorts = same_shorts (numbers_of s) u.numbers (before_accepted s.translation.ledger) (before_accepted u.ledger)
       d.shorts s.shorts x.numbers x.before h.kept.shorts;
   power_on = h.kept.power_on;

@@ -35,10 +35,11 @@ use Rattle.device.proofs.host_messages.CommandPasses.{some_told}
 use Rattle.device.proofs.host_messages.NumbersAwaited.{number_awaited}
 use Rattle.device.proofs.host_messages.ReadOpened.{core_opened, core_with}
 use Rattle.device.proofs.open_tasks.TaskOpened.{opens_still, quiet_here}
+use Rattle.ufs_spec.specs.Refusals.{numbers_of}
 
 -- what was planned begins, over the layer as it is then
 abbrev pub HasBegunFor : State → Request → Core → Result Plan kept_status.Status → Phase → Type 0
-HasBegunFor s r after todo p = HasBegun after s.translation (claims_of s.tasks) r.tag todo p
+HasBegunFor s r after todo p = HasBegun after s.translation (claims_of (numbers_of s) s.tasks) r.tag todo p
 
 -- the device once this was planned and its task is so far, which keeps what it sends
 abbrev pub opened_for : DeviceCore → Request → Core → Result Plan kept_status.Status → Phase → DeviceCore
@@ -89,13 +90,13 @@ module _ (d : DeviceCore) (s : State) (r : Request) (h : Describes d s) (free : 
 
   -- a task that answers at once
   pub answer_opened : (command : Option Cdb) (n carried : ℕ) (answer : Status) (told : kept_status.Status) (m : ℕ) →
-      sends_frames command ≡ false → IsLayerWith after s.translation (claims_of s.tasks) →
+      sends_frames command ≡ false → IsLayerWith after s.translation (claims_of (numbers_of s) s.tasks) →
       answer ≡ status_kept told → carried ≡ m →
       IsBehind (core_opened d r after (phase.Answer told m))
       (machine.with_task s r command n (Answering answer carried))
   answer_opened command n carried answer told m quiet layer same count =
       opens_still d s r h free few after command n (Answering answer carried) _ layer
-      (record { wanted = λ i. refl; claimed = λ total. refl }) (λ l. tt)
+      (record { wanted = λ i. refl; claimed = λ m total. refl }) (λ l. tt)
       (record {
         lun = refl;
         tag = refl;
@@ -139,7 +140,7 @@ module _ (d : DeviceCore) (s : State) (r : Request) (h : Describes d s) (free : 
       by false e k =
           same_phase d r after p (phase.SendData x) _ k.0
           (opens_still d s r h free few after (Some command) (data_length x) (SendingBytes (data_bytes x)) _ k.1
-          (record { wanted = λ i. refl; claimed = λ total. refl }) (λ l. tt)
+          (record { wanted = λ i. refl; claimed = λ m total. refl }) (λ l. tt)
           (record {
             lun = refl;
             tag = refl;
@@ -163,7 +164,7 @@ module _ (d : DeviceCore) (s : State) (r : Request) (h : Describes d s) (free : 
   flush_begins command false p quiet told begun =
       same_phase d r after p (phase.AwaitFrontier (last_number s.translation.ledger) 0) _ begun.0
       (opens_still d s r h free few after (Some command) 0 (Awaiting (length s.accepted)) _ begun.1
-      (record { wanted = λ i. refl; claimed = λ total. refl }) told
+      (record { wanted = λ i. refl; claimed = λ m total. refl }) told
       (record {
         lun = refl;
         tag = refl;

@@ -83,18 +83,18 @@ module _ {d : DeviceCore} {s : State} {tag : ℕ} {list : List ℕ} (c : ListCam
       let few = coming.few in
       omega arith
 
-  move_is : first_accepted (data_key c.unit address) count (claims_of s.tasks tag)
+  move_is : first_accepted (data_key c.unit address) count (claims_of (numbers_of s) s.tasks tag)
       ≡ Accept slots (group_of (plain_now s) zeros)
   move_is = λ i. Accept (slots_are c i) (group i)
     where
-      group : group_of_blocks (data_key c.unit address) (take count (claims_of s.tasks tag))
+      group : group_of_blocks (data_key c.unit address) (take count (claims_of (numbers_of s) s.tasks tag))
           ≡ group_of (plain_now s) zeros
       group =
           ap (λ (blocks : List (List ℕ)). group_of_blocks (data_key c.unit address) (take count blocks)) (its_slots c)
           ∙ (ap (group_of_blocks (data_key c.unit address)) (take-replicate count slots zero_block enough)
           ∙ sym (group_zeroed (plain_now s) c.unit address count coming.can))
 
-  may_put : MayPutZeros s.translation (data_key c.unit address) count (claims_of s.tasks tag)
+  may_put : MayPutZeros s.translation (data_key c.unit address) count (claims_of (numbers_of s) s.tasks tag)
   may_put = record {
     of_data = refl;
     of_unit =
@@ -108,7 +108,7 @@ module _ {d : DeviceCore} {s : State} {tag : ℕ} {list : List ℕ} (c : ListCam
 
   -- they are accepted
   pub zeroed_keeps : (layer : Core) →
-      HasPutZeros layer s.translation (claims_of s.tasks) tag (data_key c.unit address) count →
+      HasPutZeros layer s.translation (claims_of (numbers_of s) s.tasks) tag (data_key c.unit address) count →
       Keeps (core_then d c.stands.k layer event.ListTaken)
       (set_deed (accepts s zeros slots) c.stands.b.tag (Answering Good c.stands.b.length))
   zeroed_keeps layer put =
@@ -118,7 +118,7 @@ module _ {d : DeviceCore} {s : State} {tag : ℕ} {list : List ℕ} (c : ListCam
         permanent = ap (λ (q : Plain). q.permanent) (fold-append apply s.base s.accepted (zeros ∷ []));
         region = ap (λ (q : Plain). region_of q 0) (fold-append apply s.base s.accepted (zeros ∷ []));
         layer_is =
-            subst (λ (m : Move). IsLayerWith layer (moved s.translation m) (with_claimed (claims_of s.tasks) tag []))
+            subst (λ (m : Move). IsLayerWith layer (moved s.translation m) (with_claimed (claims_of (numbers_of s) s.tasks) tag []))
             move_is (put may_put);
         numbers = refl;
         before = refl;

@@ -131,9 +131,9 @@ module _ (d : DeviceCore) (s : State) (who : Meant) (k : ℕ) (task : Task) (aft
         (each_at (λ (x : exchange.Task). DeedFits (numbers_of t) h.accepted h.mended (claim_of (numbers_of t) x)
         x.length x.deed) t.tasks k f.b h.fit f.opened.theirs))
         after
-        (subst (HasLetGo after t.translation (claims_of t.tasks))
+        (subst (HasLetGo after t.translation (claims_of (numbers_of t) t.tasks))
         (ap (λ (x : Task). x.tag) (stands_there d.tasks k task f.a there f.opened.ours).0)
-        (let_go t.translation (claims_of t.tasks) (h.behind.keeps.layer_kept, h.behind.keeps.claims)));
+        (let_go t.translation (claims_of (numbers_of t) t.tasks) (h.behind.keeps.layer_kept, h.behind.keeps.claims)));
     accepted = h.accepted;
     mended = h.mended;
     fit =

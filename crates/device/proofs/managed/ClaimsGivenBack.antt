@@ -19,17 +19,17 @@ blocks_counted (suc n) bytes = ap suc (blocks_counted n (drop 4096 bytes))
 
 -- a list of one descriptor claims a slot for each block that a command may have, a header alone none
 slots_counted : (n : Numbers) (total claimed : ℕ) →
-    ((total ≡ 8) × (claimed ≡ 0)) ⊎ ((total ≡ 24) × (claimed ≡ command_blocks n)) → list_slots total ≡ claimed
-slots_counted n total claimed (inl h) = ap list_slots h.0 ∙ sym h.1
-slots_counted n total claimed (inr h) = ap list_slots h.0 ∙ sym h.1
+    ((total ≡ 8) × (claimed ≡ 0)) ⊎ ((total ≡ 24) × (claimed ≡ command_blocks n)) → list_slots n total ≡ claimed
+slots_counted n total claimed (inl h) = ap (list_slots n) h.0 ∙ sym h.1
+slots_counted n total claimed (inr h) = ap (list_slots n) h.0 ∙ sym h.1
 
 pub as_many_claimed : (n : Numbers) (accepted : ℕ) (mended : Bool) (command : Option Cdb) (total : ℕ) (deed : Deed) →
     DeedFits n accepted mended (claimed_by n deed command) total deed →
-    length (claimed_in total deed) ≡ claimed_by n deed command
+    length (claimed_in n total deed) ≡ claimed_by n deed command
 as_many_claimed n accepted mended command total (Gathering (ForWrite unit address blocks forced) gathered asked) h =
     blocks_counted blocks gathered ∙ sym h.claimed_is
 as_many_claimed n accepted mended command total (Gathering (ForUnmap unit) gathered asked) h =
-    length-replicate (list_slots total) zero_block ∙ slots_counted n total _ h.list
+    length-replicate (list_slots n total) zero_block ∙ slots_counted n total _ h.list
 as_many_claimed n accepted mended command total (Gathering (ForFrames region) gathered asked) h =
     length-replicate 3 zero_block ∙ sym h.claimed_is
 as_many_claimed n accepted mended command total (Sending blocks sent) h = refl
@@ -40,5 +40,5 @@ as_many_claimed n accepted mended command total (Answering status carried) h = r
 
 -- so it is of a task that fits the device
 pub claim_counted : (n : Numbers) (accepted : ℕ) (mended : Bool) (b : exchange.Task) →
-    DeedFits n accepted mended (claim_of n b) b.length b.deed → length (claimed_in b.length b.deed) ≡ claim_of n b
+    DeedFits n accepted mended (claim_of n b) b.length b.deed → length (claimed_in n b.length b.deed) ≡ claim_of n b
 claim_counted n accepted mended b h = as_many_claimed n accepted mended b.command b.length b.deed h

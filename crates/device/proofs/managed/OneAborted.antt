@@ -60,16 +60,16 @@ few_left p us few =
 
 module _ (d : DeviceCore) (s : State) (k : ℕ) (a : OpenTask) (b : exchange.Task) (h : IsBehind d s)
     (differ : TasksDiffer s.tasks) (o : IsOpen (before_accepted s.translation.ledger) k d.tasks s.tasks a b)
-    (counted : length (claimed_in b.length b.deed) ≡ claim_of (numbers_of s) b) where
+    (counted : length (claimed_in (numbers_of s) b.length b.deed) ≡ claim_of (numbers_of s) b) where
   found : task_of b.tag s.tasks ≡ Some b
   found = found_task s.tasks k b differ o.theirs
 
   abbrev claims : Claims
-  claims = claims_of s.tasks
+  claims = claims_of (numbers_of s) s.tasks
 
   -- what its tag has claimed is what it has claimed
-  its_claim : claims a.tag ≡ claimed_in b.length b.deed
-  its_claim = ap claims (sym o.kept.tag) ∙ ap claimed_by found
+  its_claim : claims a.tag ≡ claimed_in (numbers_of s) b.length b.deed
+  its_claim = ap claims (sym o.kept.tag) ∙ ap (claimed_by (numbers_of s)) found
 
   -- what the layer lets go of is what is specified
   layer_without : (after : Core) → HasLetGo after s.translation claims a.tag →
@@ -80,10 +80,10 @@ module _ (d : DeviceCore) (s : State) (k : ℕ) (a : OpenTask) (b : exchange.Tas
       its.0
 
   claims_without : (after : Core) → HasLetGo after s.translation claims a.tag →
-      AreClaimed after (claims_of (exchange.without_task b.tag s.tasks))
+      AreClaimed after (claims_of (numbers_of s) (exchange.without_task b.tag s.tasks))
   claims_without after its =
       subst (AreClaimed after)
-      (ap (λ (n : ℕ). with_claimed claims n []) (sym o.kept.tag) ∙ sym (claims_left s.tasks b.tag)) its.1
+      (ap (λ (n : ℕ). with_claimed claims n []) (sym o.kept.tag) ∙ sym (claims_left (numbers_of s) s.tasks b.tag)) its.1
 
   abbrev pins : List Pin
   pins = filter (λ pin. not (pin.tag == b.tag)) s.translation.pins

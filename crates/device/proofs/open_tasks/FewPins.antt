@@ -286,7 +286,7 @@ pub pin_has_room : (d : DeviceCore) (s : State) (blocks : ℕ) → Describes d s
     length s.tasks < most_tasks → blocks ≤ greatest_command → has_room s.translation blocks ≡ true
 pin_has_room d s blocks h differ few most =
     let pins = few_pins s.tasks s.translation.pins differ (kept_for_task d s h.kept) in
-    le-leb (length s.translation.pins + blocks) 1024 (omega arith)
+    le-leb (length s.translation.pins + blocks) (most_tasks * greatest_command) (omega arith)
 
 -- A request for data
 
@@ -307,7 +307,7 @@ none_kept tag pins none = by (list_any (keeps_for tag) pins) refl
 -- so its task, which stands among all tasks, leaves room for two pages
 pub area_has_room : (d : DeviceCore) (s : State) (tag : ℕ) (task : exchange.Task) → Keeps d s →
     PinsDiffer s.translation.pins → task_of tag s.tasks ≡ Some task →
-    ((index : ℕ) → wanted_kept s.translation.pins tag index ≡ None) → length s.translation.pins + 2 ≤ 1024
+    ((index : ℕ) → wanted_kept s.translation.pins tag index ≡ None) → length s.translation.pins + 2 ≤ (most_tasks * greatest_command)
 area_has_room d s tag task k differ found none =
     let pins = few_pins (exchange.without_task tag s.tasks) s.translation.pins differ others in
     let fewer = one_fewer tag s.tasks task found in

@@ -12,6 +12,7 @@ use Rattle.ftl_core.specs.Public.{Claims, with_claimed}
 use Rattle.device.specs.Describes.{claimed_by, claimed_in, claims_of, wanted_by, wanted_in, wanted_kept}
 use Rattle.device.proofs.open_tasks.ReadProgress.{ChangesOne, KeepsTag, by_tag, deed_changes, deed_set, each_goes_on}
 use Rattle.device.proofs.open_tasks.ReadProgress.{one_goes_on, others_go_on, others_left, task_gone, task_more}
+use Rattle.ufs_spec.specs.declared.configs.Numbers.{Numbers}
 
 -- where a task comes, of a tag that none has, it is found, and the tasks of other tags are
 comes : (us : List exchange.Task) (b : exchange.Task) → task_of b.tag us ≡ None →
@@ -103,36 +104,36 @@ pub claimed_own : (claims : Claims) (one : ℕ) (blocks : List (List ℕ)) → w
 claimed_own claims one blocks = ap (λ b. cond b blocks (claims one)) (eq_self one)
 
 -- the task of one tag is another, and those of other tags stay
-one_claims : (us vs : List exchange.Task) (one : ℕ) (o : Option exchange.Task) → task_of one vs ≡ o →
+one_claims : (m : Numbers) (us vs : List exchange.Task) (one : ℕ) (o : Option exchange.Task) → task_of one vs ≡ o →
     ((tag : ℕ) → (tag == one) ≡ false → task_of tag vs ≡ task_of tag us) →
-    claims_of vs ≡ with_claimed (claims_of us) one (claimed_by o)
-one_claims us vs one o is stay = λ i tag.
-    by_tag (λ n. claims_of vs n ≡ with_claimed (claims_of us) one (claimed_by o) n) one
-    (ap claimed_by is ∙ sym (claimed_own (claims_of us) one (claimed_by o)))
-    (λ n other. ap claimed_by (stay n other)
-    ∙ sym (ap (λ b. cond b (claimed_by o) (claims_of us n)) other)) tag i
+    claims_of m vs ≡ with_claimed (claims_of m us) one (claimed_by m o)
+one_claims m us vs one o is stay = λ i tag.
+    by_tag (λ n. claims_of m vs n ≡ with_claimed (claims_of m us) one (claimed_by m o) n) one
+    (ap (claimed_by m) is ∙ sym (claimed_own (claims_of m us) one (claimed_by m o)))
+    (λ n other. ap (claimed_by m) (stay n other)
+    ∙ sym (ap (λ b. cond b (claimed_by m o) (claims_of m us n)) other)) tag i
 
-pub claims_changed : (us : List exchange.Task) (f : exchange.Task → exchange.Task) (one : ℕ) (b : exchange.Task) →
+pub claims_changed : (m : Numbers) (us : List exchange.Task) (f : exchange.Task → exchange.Task) (one : ℕ) (b : exchange.Task) →
     ChangesOne f one → task_of one us ≡ Some b →
-    claims_of (map f us) ≡ with_claimed (claims_of us) one (claimed_in (f b).length (f b).deed)
-claims_changed us f one b changes found =
-    one_claims us (map f us) one (Some (f b)) (one_goes_on f us one b changes.tags found)
+    claims_of m (map f us) ≡ with_claimed (claims_of m us) one (claimed_in m (f b).length (f b).deed)
+claims_changed m us f one b changes found =
+    one_claims m us (map f us) one (Some (f b)) (one_goes_on f us one b changes.tags found)
     (λ tag. others_go_on f us one tag changes)
 
-pub claims_set : (us : List exchange.Task) (one : ℕ) (b : exchange.Task) (deed : Deed) → task_of one us ≡ Some b →
-    claims_of (map (with_deed one deed) us) ≡ with_claimed (claims_of us) one (claimed_in b.length deed)
-claims_set us one b deed found =
-    one_claims us (map (with_deed one deed) us) one (Some (record b { deed = deed })) (deed_set one deed us b found)
+pub claims_set : (m : Numbers) (us : List exchange.Task) (one : ℕ) (b : exchange.Task) (deed : Deed) → task_of one us ≡ Some b →
+    claims_of m (map (with_deed one deed) us) ≡ with_claimed (claims_of m us) one (claimed_in m b.length deed)
+claims_set m us one b deed found =
+    one_claims m us (map (with_deed one deed) us) one (Some (record b { deed = deed })) (deed_set one deed us b found)
     (λ tag. others_go_on (with_deed one deed) us one tag (deed_changes one deed))
 
-pub claims_left : (us : List exchange.Task) (one : ℕ) →
-    claims_of (exchange.without_task one us) ≡ with_claimed (claims_of us) one []
-claims_left us one =
-    one_claims us (exchange.without_task one us) one None (task_gone one us) (λ tag. others_left one tag us)
+pub claims_left : (m : Numbers) (us : List exchange.Task) (one : ℕ) →
+    claims_of m (exchange.without_task one us) ≡ with_claimed (claims_of m us) one []
+claims_left m us one =
+    one_claims m us (exchange.without_task one us) one None (task_gone one us) (λ tag. others_left one tag us)
 
-pub claims_more : (us : List exchange.Task) (b : exchange.Task) → task_of b.tag us ≡ None →
-    claims_of (us ++ b ∷ []) ≡ with_claimed (claims_of us) b.tag (claimed_in b.length b.deed)
-claims_more us b free = one_claims us (us ++ b ∷ []) b.tag (Some b) (comes us b free) (others_come us b)
+pub claims_more : (m : Numbers) (us : List exchange.Task) (b : exchange.Task) → task_of b.tag us ≡ None →
+    claims_of m (us ++ b ∷ []) ≡ with_claimed (claims_of m us) b.tag (claimed_in m b.length b.deed)
+claims_more m us b free = one_claims m us (us ++ b ∷ []) b.tag (Some b) (comes us b free) (others_come us b)
 
 -- Each task
 
@@ -141,13 +142,13 @@ pub record SameDeed (f : exchange.Task → exchange.Task) : Type 0 where
   pub tags : KeepsTag f
   pub wanted : (index : ℕ) (x : exchange.Task) →
       wanted_in index (f x).request (f x).deed ≡ wanted_in index x.request x.deed
-  pub claimed : (x : exchange.Task) → claimed_in (f x).length (f x).deed ≡ claimed_in x.length x.deed
+  pub claimed : (m : Numbers) (x : exchange.Task) → claimed_in m (f x).length (f x).deed ≡ claimed_in m x.length x.deed
 
 pub each_wants : (pins : List Pin) (us : List exchange.Task) (f : exchange.Task → exchange.Task) →
     WantedForAll pins us → SameDeed f → WantedForAll pins (map f us)
 each_wants pins us f h same tag index =
     h tag index ∙ sym (each_goes_on (wanted_by index) f us tag same.tags (same.wanted index))
 
-pub each_claims : (us : List exchange.Task) (f : exchange.Task → exchange.Task) → SameDeed f →
-    claims_of (map f us) ≡ claims_of us
-each_claims us f same = λ i tag. each_goes_on claimed_by f us tag same.tags same.claimed i
+pub each_claims : (m : Numbers) (us : List exchange.Task) (f : exchange.Task → exchange.Task) → SameDeed f →
+    claims_of m (map f us) ≡ claims_of m us
+each_claims m us f same = λ i tag. each_goes_on (claimed_by m) f us tag same.tags (same.claimed m) i

@@ -28,6 +28,7 @@ use Rattle.device.proofs.open_tasks.BlockEnds.{block_lost, block_read, set_read}
 use Rattle.device.proofs.open_tasks.OpenTasks.{each_changed}
 use Rattle.device.proofs.open_tasks.PageEnds.{page_lost, page_read}
 use Rattle.device.proofs.open_tasks.ReadProgress.{ChangesOne, want_other_index, want_set}
+use Rattle.ufs_spec.specs.declared.configs.Numbers.{Numbers}
 
 -- The block that is read
 
@@ -310,18 +311,18 @@ module _ (tag index : ℕ) (us : List exchange.Task) (r : IsReading tag index us
           ∙ sym (ap (λ x. wanted_in k r.task.request (deed_read index state x)) deed.0)
 
   -- it has claimed no slot
-  pub claims_none : (claimed_in r.task.length r.task.deed ≡ [])
-      × (claimed_in r.task.length (deed_read index state r.task.deed) ≡ [])
-  claims_none = by r.deed
+  pub claims_none : (n : Numbers) → (claimed_in n r.task.length r.task.deed ≡ [])
+      × (claimed_in n r.task.length (deed_read index state r.task.deed) ≡ [])
+  claims_none n = by r.deed
     where
       by : IsReadFor index r.task r.blocks →
-          (claimed_in r.task.length r.task.deed ≡ [])
-          × (claimed_in r.task.length (deed_read index state r.task.deed) ≡ [])
+          (claimed_in n r.task.length r.task.deed ≡ [])
+          × (claimed_in n r.task.length (deed_read index state r.task.deed) ≡ [])
       by (inl deed) = (
-        ap (claimed_in r.task.length) deed,
-        ap (λ x. claimed_in r.task.length (deed_read index state x)) deed,
+        ap (claimed_in n r.task.length) deed,
+        ap (λ x. claimed_in n r.task.length (deed_read index state x)) deed,
       )
       by (inr deed) = (
-        ap (claimed_in r.task.length) deed.0,
-        ap (λ x. claimed_in r.task.length (deed_read index state x)) deed.0,
+        ap (claimed_in n r.task.length) deed.0,
+        ap (λ x. claimed_in n r.task.length (deed_read index state x)) deed.0,
       )

@@ -32,6 +32,7 @@ use Rattle.device.proofs.described.OneSender.{one_more_sends}
 use Rattle.device.proofs.described.ShortExchanges.{same_shorts}
 use Rattle.device.proofs.described.Settled.{SameAtHand, none_stay, still_answered}
 use Rattle.device.proofs.open_tasks.OpenTasks.{one_more}
+use Rattle.ufs_spec.specs.declared.configs.Numbers.{Numbers}
 
 -- the specified task that is opened
 abbrev pub opened : Request → Option Cdb → ℕ → Deed → exchange.Task
@@ -56,7 +57,7 @@ quiet_here region (Some command) quiet = refl
 -- the deed of a task without a request tells of no block
 pub record TellsNothing (deed : Deed) : Type 0 where
   pub wanted : (index : ℕ) → wanted_in index None deed ≡ None
-  pub claimed : (total : ℕ) → claimed_in total deed ≡ []
+  pub claimed : (m : Numbers) (total : ℕ) → claimed_in m total deed ≡ []
 
 -- what is wanted for the tag is what its deed tells, and for other tags nothing changes
 pub record TagBegins (before : List Pin) (tag : ℕ) (deed : Deed) (pins : List Pin) : Type 0 where
@@ -69,16 +70,16 @@ module _ (d : DeviceCore) (s : State) (r : Request) (h : Describes d s) (free : 
   pub none_wanted : WantedFor s.translation.pins r.tag None
   none_wanted = subst (WantedFor s.translation.pins r.tag) free (h.kept.wanted r.tag)
 
-  pub none_claimed : claims_of s.tasks r.tag ≡ []
-  none_claimed = ap claimed_by free
+  pub none_claimed : claims_of (numbers_of s) s.tasks r.tag ≡ []
+  none_claimed = ap (claimed_by (numbers_of s)) free
 
   -- where its deed claims nothing, what is claimed stays
-  pub still_claimed : (after : Core) (total : ℕ) (deed : Deed) → claimed_in total deed ≡ [] →
-      AreClaimed after (claims_of s.tasks) →
-      AreClaimed after (with_claimed (claims_of s.tasks) r.tag (claimed_in total deed))
+  pub still_claimed : (after : Core) (total : ℕ) (deed : Deed) → claimed_in (numbers_of s) total deed ≡ [] →
+      AreClaimed after (claims_of (numbers_of s) s.tasks) →
+      AreClaimed after (with_claimed (claims_of (numbers_of s) s.tasks) r.tag (claimed_in (numbers_of s) total deed))
   still_claimed after total deed none =
       subst (AreClaimed after)
-      (sym (claimed_same (claims_of s.tasks) r.tag (claimed_in total deed) (none_claimed ∙ sym none)))
+      (sym (claimed_same (claims_of (numbers_of s) s.tasks) r.tag (claimed_in (numbers_of s) total deed) (none_claimed ∙ sym none)))
 
   nobody_in : (pins : List Pin) → All (ShowsRight s.translation.ledger s.tasks) pins →
       list_any (keeps_for r.tag) pins ≡ false
@@ -106,7 +107,7 @@ module _ (d : DeviceCore) (s : State) (r : Request) (h : Describes d s) (free : 
       layer_kept.Describes c u → u.numbers ≡ s.translation.numbers →
       before_accepted u.ledger ≡ before_accepted s.translation.ledger →
       TagBegins s.translation.pins r.tag deed u.pins →
-      AreClaimed c (with_claimed (claims_of s.tasks) r.tag (claimed_in n deed)) →
+      AreClaimed c (with_claimed (claims_of (numbers_of s) s.tasks) r.tag (claimed_in (numbers_of s) n deed)) →
       TaskKept (before_accepted s.translation.ledger) a (opened r command n deed) →
       (is_sender a ≡ true → list_any is_sender d.tasks ≡ false) →
       Keeps (with_task (record d { ftl = c }) a) (machine.with_task (record s { translation = u }) r command n deed)
@@ -123,7 +124,9 @@ module _ (d : DeviceCore) (s : State) (r : Request) (h : Describes d s) (free : 
     wanted =
         one_comes s.translation.pins u.pins s.tasks b h.kept.wanted free begins.wanted
         (λ tag other index. begins.others_want tag index other);
-    claims = subst (AreClaimed c) (sym (claims_more s.tasks b free)) claims;
+    claims =
+        subst (λ m. AreClaimed c (claims_of m (s.tasks ++ b ∷ []))) (sym numbers)
+        (subst (AreClaimed c) (sym (claims_more (numbers_of s) s.tasks b free)) claims);
     shorts = same_shorts (numbers_of s) u.numbers (before_accepted s.translation.ledger) (before_accepted u.ledger)
         d.shorts s.shorts numbers before h.kept.shorts;
     power_on = h.kept.power_on;
@@ -152,7 +155,7 @@ module _ (d : DeviceCore) (s : State) (r : Request) (h : Describes d s) (free : 
 
   -- where the layer stays
   pub opens_still : (c : Core) (command : Option Cdb) (n : ℕ) (deed : Deed) (a : OpenTask) →
-      IsLayerWith c s.translation (claims_of s.tasks) → TellsNothing deed →
+      IsLayerWith c s.translation (claims_of (numbers_of s) s.tasks) → TellsNothing deed →
       (locked s ≡ true → IsToldIn (durable s) deed) →
       TaskKept (before_accepted s.translation.ledger) a (opened r command n deed) →
       (is_sender a ≡ true → list_any is_sender d.tasks ≡ false) →
@@ -164,7 +167,7 @@ module _ (d : DeviceCore) (s : State) (r : Request) (h : Describes d s) (free : 
           wanted = λ index. none_wanted index ∙ sym (none.wanted index);
           others_want = λ m index other. refl;
         })
-        (still_claimed c n deed (none.claimed n) layer.1) task alone;
+        (still_claimed c n deed (none.claimed (numbers_of s) n) layer.1) task alone;
     answered = open_answered s.translation command n deed (λ tag other index. refl) refl;
     told = open_told command n deed new;
     shorts_told = h.shorts_told;
@@ -173,7 +176,7 @@ module _ (d : DeviceCore) (s : State) (r : Request) (h : Describes d s) (free : 
   -- where it claims slots and gathers what comes
   pub opens_gathering : (c : Core) (command : Option Cdb) (n slots : ℕ) (purpose : Purpose) (a : OpenTask) →
       IsLayerWith c (moved s.translation (Claim slots))
-      (with_claimed (claims_of s.tasks) r.tag (claimed_for n purpose [])) →
+      (with_claimed (claims_of (numbers_of s) s.tasks) r.tag (claimed_for (numbers_of s) n purpose [])) →
       TaskKept (before_accepted s.translation.ledger) a (opened r command n (Gathering purpose [] false)) →
       (is_sender a ≡ true → list_any is_sender d.tasks ≡ false) →
       IsBehind (with_task (record d { ftl = c }) a)

@@ -79,8 +79,7 @@ right_body page cells place k n body w cell is = known body refl
 
     known : (o : Option (List ℕ)) → body ≡ o → o ≡ Some w.body
     known None e = absurd (is.none e w.tag w.body opens.tag_right (named w.tag k n w.key w.number) opens.sealed)
-    known (Some b) e = let f = is.found b e in ap Some
-        (sym (ap (λ (x : Page). x.body) f.4) ∙ body_opened page w.tag w.body opens)
+    known (Some b) e = let f = is.found b e in ap Some (sym f.4.holds ∙ body_opened page w.tag w.body opens)
 
 -- another page gives none
 pub wrong_body : (page : Page) (cells : Cells) (place : Place) (k : Key) (n : ℕ) (body : Option (List ℕ)) →

@@ -5,6 +5,7 @@ use Rattle.std.proofs.Common.{subst, inl, inr, ⊎_elim}
 use Rattle.std.specs.Prelude.{All, IfSome, slice_get}
 use Rattle.std.proofs.lemmas.List.Elements.{All-head}
 use Rattle.ufs_spec.proofs.Facts.{false≢true, same_Some}
+use Rattle.ufs_spec.proofs.SealedPages.{sealed_tag}
 use Rattle.ufs_spec.specs.Cells.{IsCell}
 use Rattle.ufs_spec.specs.Disk as disk
 use Rattle.ufs_spec.specs.Disk.{at_die}
@@ -19,11 +20,10 @@ use Rattle.ufs_spec.specs.declared.flash.Page.{Page}
 use Rattle.ufs_spec.specs.declared.flash.Place.{Place}
 use Rattle.ufs_spec.specs.declared.flash.Tag.{Tag}
 use Rattle.ufs_spec.specs.Cells.{Opens}
-use Rattle.ufs_spec.specs.Pages.{IsTag, seal_page}
+use Rattle.ufs_spec.specs.Pages.{IsSealedAs, IsTag}
 use Rattle.ufs_spec.specs.declared.layer.Name.{Name}
 use Rattle.ufs_spec.specs.declared.layer.Reader.TheVariants.{ForStep}
 use Rattle.page_tag.specs.Jobs.{IsTagOf, IsTagRead}
-use Rattle.page_tag.proofs.Sealed.{one_tag}
 use Rattle.power_loss.specs.Invariant.{IsNeededPage}
 use Rattle.power_loss.proofs.books.PagesByName.{entry_for}
 use Rattle.block_table.specs.declared.rows.DieRow.{DieRow}
@@ -174,9 +174,9 @@ module _ (c : Core) (t : Translation) (die : ℕ) (b : DieRow) (place : Place) (
       by : (o : Option Tag) → found ≡ o → o ≡ Some read
       by None e = absurd (is.refused e read data_read opens.tag_right opens.sealed)
       by (Some u) e =
-          let s = subst (λ (z : Option Tag). IfSome z (λ x. IsTag x × (page ≡ seal_page x page.body))) e is.sealed in
+          let s = subst (λ (z : Option Tag). IfSome z (λ x. IsTag x × IsSealedAs page x page.body)) e is.sealed in
           ap (λ (z : Tag). Some z)
-          (one_tag u read page.body data_read s.0 opens.tag_right (sym s.1 ∙ opens.sealed))
+          (sealed_tag page u read page.body data_read s.0 opens.tag_right s.1 opens.sealed)
 
   copy_was_right : (page : Page) (found : Option Tag) (new : Core) → IsCell page (t.disk.cells place) →
       IsTagOf page found → (body : Option (List ℕ)) × IsContentOf c.step page body ×

@@ -1,6 +1,6 @@
 -- A page that opens to nothing gives no body.
 use Rattle.std.proofs.Common.{◌≡◌, ℕ, List, Option, None, Some, refl}
-use Rattle.ufs_spec.specs.Pages.{IsTag, seal_page}
+use Rattle.ufs_spec.specs.Pages.{IsSealedAs, IsTag}
 use Rattle.ufs_spec.specs.declared.flash.Key.{Key}
 use Rattle.ufs_spec.specs.declared.flash.Page.{Page}
 use Rattle.ufs_spec.specs.declared.flash.Tag.{Tag}
@@ -13,7 +13,7 @@ none_is (Some x) other = absurd (other x refl)
 pub none_opened :
     (page : Page) (k : Key) (n : ℕ) (o : Option Tag) →
     ((x : Tag) → o ≡ Some x → ⊥) →
-    (o ≡ None → (t : Tag) (b : List ℕ) → IsTag t → page ≡ seal_page t b → ⊥) →
+    (o ≡ None → (t : Tag) (b : List ℕ) → IsTag t → IsSealedAs page t b → ⊥) →
     IsBodyOf page k n None
 none_opened page k n o other refused = record {
   found = λ b is. absurd cc;

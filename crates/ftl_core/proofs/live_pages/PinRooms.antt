@@ -14,7 +14,7 @@ use Rattle.ftl_core.specs.declared.ftl.Ftl.TheInside.{Inside}
 use Rattle.ftl_core.specs.KnownLive.{none_live, with_stored}
 use Rattle.readers.specs.Pins.{moved_pin}
 use Rattle.ftl_core.specs.PinCounts.{ArePinsCounted}
-use Rattle.readers.specs.Pins.{block_pinned, let_go, pin_moves, without_pins}
+use Rattle.readers.specs.Pins.{block_pinned, let_go, most_pins, pin_moves, without_pins}
 use Rattle.ftl_core.specs.Rooms.{IsRoomy}
 use Rattle.ftl_core.proofs.live_pages.PinsCounted.{gone_counted, looked_counted, moved_counted}
 use Rattle.readers.proofs.BarePins.{gone_bare, moves_bare}
@@ -30,7 +30,7 @@ counted_as l m ps qs pages e g h =
 
 -- other pins, and as many as there are now of each block
 roomy_on : (f : Inside) (l : Lives) (ps : List Pin) → IsRoomy f → without_pins l ≡ without_pins f.live →
-    length ps ≤ 1024 → ArePinsCounted l ps f.cache.pages → IsRoomy (record f { live = l; pins = ps })
+    length ps ≤ most_pins → ArePinsCounted l ps f.cache.pages → IsRoomy (record f { live = l; pins = ps })
 roomy_on f l ps h same few counted = record {
   blocks = h.blocks;
   block_pages = h.block_pages;
@@ -49,7 +49,7 @@ roomy_on f l ps h same few counted = record {
 
 -- a pin more
 pub roomy_pinned : (f : Inside) (l : Lives) (ps : List Pin) (p : Pin) → IsRoomy f →
-    l ≡ block_pinned f.live p.looked → ps ≡ f.pins ++ p ∷ [] → length f.pins < 1024 →
+    l ≡ block_pinned f.live p.looked → ps ≡ f.pins ++ p ∷ [] → length f.pins < most_pins →
     length f.cache.pages ≤ 1024 → IsRoomy (record f { live = l; pins = ps })
 roomy_pinned f l ps p h is items few few_pages =
     roomy_on f l ps h (ap without_pins is ∙ pinned_bare f.live p.looked)

@@ -28,7 +28,7 @@ use Rattle.readers.specs.Pins.{moved_pin, now_stored}
 use Rattle.ftl_core.specs.PinCounts.{ArePinsCounted}
 use Rattle.readers.specs.Pins.{block_pinned, block_unpinned, is_slot_of, let_go, pin_moves}
 use Rattle.ftl_core.specs.PinCounts.{pins_on, rests_on}
-use Rattle.readers.specs.Pins.{without_pins}
+use Rattle.readers.specs.Pins.{most_pins, without_pins}
 
 -- Counts of blocks
 
@@ -87,10 +87,10 @@ keeps_beside s name p apart = by (spot_cases (spot_of p) s)
 abbrev pub on_block : Spot → Looked → ℕ
 on_block s k = one (keeps_page s.die s.block k)
 
-least : (n : ℕ) → n ≤ 4096 → min (n + 1) (2 ^ 32 - 1) ≡ n + 1
+least : (n : ℕ) → n ≤ 8192 → min (n + 1) (2 ^ 32 - 1) ≡ n + 1
 least n l = min-eq_left (omega (arith, l))
 
-pub block_counted : (l : Lives) (k : Looked) (c d : Spot → ℕ) → HasCounts l c → ((s : Spot) → c s ≤ 4096) →
+pub block_counted : (l : Lives) (k : Looked) (c d : Spot → ℕ) → HasCounts l c → ((s : Spot) → c s ≤ 8192) →
     ((s : Spot) → d s ≡ on_block s k + c s) → HasCounts (block_pinned l k) d
 block_counted l (OnPage name p) c d kept few is =
     counts_set l t (min (pins_of l t + 1) (2 ^ 32 - 1)) c d kept
@@ -159,7 +159,7 @@ pins_behind s ps p =
 
 -- a pin more
 pub pinned_counted : (l : Lives) (ps : List Pin) (pages : List Pending) (p : Pin) → ArePinsCounted l ps pages →
-    length ps ≤ 1024 → length pages ≤ 1024 → ArePinsCounted (block_pinned l p.looked) (ps ++ p ∷ []) pages
+    length ps ≤ most_pins → length pages ≤ 1024 → ArePinsCounted (block_pinned l p.looked) (ps ++ p ∷ []) pages
 pinned_counted l ps pages p kept few few_pages =
     block_counted l p.looked (λ s. pins_on s ps + rests_on s pages)
     (λ s. pins_on s (ps ++ p ∷ []) + rests_on s pages) kept
@@ -195,7 +195,7 @@ gone_counted goes ps pages l kept = gone goes ps l (λ s. rests_on s pages) kept
 
 -- the pins of a slot are those of a block
 module _ (st : Stored) where
-  moved_once : (l : Lives) (k : Looked) (c : Spot → ℕ) → ((s : Spot) → c s ≤ 4096) →
+  moved_once : (l : Lives) (k : Looked) (c : Spot → ℕ) → ((s : Spot) → c s ≤ 8192) →
       HasCounts l (λ s. on_block s k + c s) →
       HasCounts (if is_slot_of st k then block_pinned l (OnPage st.name st.place) else l)
       (λ s. on_block s (now_stored st k) + c s)
@@ -209,7 +209,7 @@ module _ (st : Stored) where
   moved_once l (OnPage name p) c few kept = kept
   moved_once l Unwritten c few kept = kept
 
-  moves : (ps : List Pin) (l : Lives) (c : Spot → ℕ) → ((s : Spot) → length ps + c s ≤ 4096) →
+  moves : (ps : List Pin) (l : Lives) (c : Spot → ℕ) → ((s : Spot) → length ps + c s ≤ 8192) →
       HasCounts l (λ s. pins_on s ps + c s) →
       HasCounts (fold (pin_moves st) l ps) (λ s. pins_on s (map (moved_pin st) ps) + c s)
   moves [] l c few kept = kept
@@ -232,7 +232,7 @@ module _ (st : Stored) where
       (λ s. let e = pins_next s p ps in omega (arith, e)) kept))))
 
   pub moved_counted : (ps : List Pin) (pages : List Pending) (l : Lives) → ArePinsCounted l ps pages →
-      length ps ≤ 1024 → length pages ≤ 1024 → ArePinsCounted (fold (pin_moves st) l ps) (map (moved_pin st) ps) pages
+      length ps ≤ most_pins → length pages ≤ 1024 → ArePinsCounted (fold (pin_moves st) l ps) (map (moved_pin st) ps) pages
   moved_counted ps pages l kept few few_pages =
       moves ps l (λ s. rests_on s pages)
       (λ s. let r = rests_few s pages in omega (arith, few, r, few_pages)) kept

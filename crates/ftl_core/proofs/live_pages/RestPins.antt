@@ -25,7 +25,7 @@ use Rattle.write_cache.specs.Slots.{is_named, page_claimed, page_written, writte
 use Rattle.readers.specs.declared.pin.Pin.{Pin}
 use Rattle.ftl_core.specs.Pinned.{keeps_page, look_of_source, reads_block, rest_look}
 use Rattle.ftl_core.specs.PinCounts.{ArePinsCounted, pins_on, rests_on}
-use Rattle.readers.specs.Pins.{block_unpinned, without_pins}
+use Rattle.readers.specs.Pins.{block_unpinned, most_pins, without_pins}
 use Rattle.ftl_core.specs.Rests.{first_unpinned, rest_pinned, rest_unpinned}
 use Rattle.ftl_core.proofs.live_pages.PinsCounted.{HasCounts, bit, block_counted, block_uncounted, counts_as, on_block}
 use Rattle.ftl_core.proofs.live_pages.PinsCounted.{one_more, passed_few, pins_few}
@@ -45,7 +45,7 @@ rests_behind s ps qs =
 -- Pages behind
 
 more_counted : (ps : List Pending) (l : Lives) (c : Spot → ℕ) → HasCounts l c →
-    ((s : Spot) → length ps + c s ≤ 4096) → HasCounts (fold rest_pinned l ps) (λ s. rests_on s ps + c s)
+    ((s : Spot) → length ps + c s ≤ 8192) → HasCounts (fold rest_pinned l ps) (λ s. rests_on s ps + c s)
 more_counted [] l c kept few = counts_as l c (λ s. rests_on s [] + c s) (λ s. omega arith) kept
 more_counted (p ∷ ps) l c kept few =
     counts_as (fold rest_pinned (rest_pinned l p) ps) (λ s. rests_on s ps + (on_block s k + c s))
@@ -59,7 +59,7 @@ more_counted (p ∷ ps) l c kept few =
 
 -- the blocks of the rests of pages behind have their pins
 pub behind_counted : (l : Lives) (pins : List Pin) (ps qs : List Pending) → ArePinsCounted l pins ps →
-    length pins ≤ 1024 → length ps + length qs ≤ 1024 → ArePinsCounted (fold rest_pinned l qs) pins (ps ++ qs)
+    length pins ≤ most_pins → length ps + length qs ≤ 1024 → ArePinsCounted (fold rest_pinned l qs) pins (ps ++ qs)
 behind_counted l pins ps qs kept few few_pages =
     counts_as (fold rest_pinned l qs) (λ s. rests_on s qs + (pins_on s pins + rests_on s ps))
     (λ s. pins_on s pins + rests_on s (ps ++ qs)) (λ s. let e = rests_behind s ps qs in omega (arith, e))

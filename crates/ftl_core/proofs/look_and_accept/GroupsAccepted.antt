@@ -5,10 +5,11 @@ use Rattle.std.proofs.Common.{length, map, filter, not, refl, sym, ap, subst, ar
 use Rattle.std.specs.Prelude.{nat_le, nat_lt, slice_get}
 use Rattle.std.proofs.lemmas.List.{length-map}
 use Rattle.std.proofs.lemmas.Option.{get_or_from_slice_get, slice_get_within}
+use Rattle.ufs_spec.proofs.ConfigFacts.{command_blocks-few}
 use Rattle.ufs_spec.proofs.Facts.{eq-eqb, le-leb, leb-true, lt-ltb, none-some, same_Some}
 use Rattle.ufs_spec.proofs.Lists.{get_there, length-below}
 use Rattle.ufs_spec.specs.Plain.{greatest_command}
-use Rattle.ufs_spec.specs.Pages.{greatest_number}
+use Rattle.ufs_spec.specs.Pages.{greatest_number, group_bound}
 use Rattle.ufs_spec.specs.Configs.{InRange}
 use Rattle.ufs_spec.specs.Keys.{Group, IsKey, Item, below}
 use Rattle.ufs_spec.specs.Ledger as ledger
@@ -152,8 +153,9 @@ page_kept t k bodies reader i body v is at = record {
     index : nat_lt i (length bodies) ≡ true
     index = lt-ltb i (length bodies) (slice_get_within bodies i body at)
 
-    short : nat_le (length bodies) greatest_command ≡ true
-    short = le-leb (length bodies) greatest_command is.short
+    -- what a command brings is never more than a tag can say
+    short : nat_le (length bodies) group_bound ≡ true
+    short = le-leb (length bodies) group_bound (let few = is.short in omega arith)
 
 -- All pages
 
@@ -309,7 +311,11 @@ accepts_right c t k bodies reader ranges h kind unit claimed may = record {
       kind = kind;
       unit = unit;
       number = leb-true (ledger.next_number t.ledger) greatest_number may.1;
-      short = let l = may.4.not_long in let e = items_length k 0 bodies in omega (arith, l, e);
+      short =
+          let l = may.4.not_long in
+          let least = command_blocks-few t.numbers in
+          let e = items_length k 0 bodies in
+          omega (arith, l, least, e);
       keys = λ i body at. keys_same t.numbers k i (subst InRange h.kept.numbers ranges) (key_right i body at);
     }
 

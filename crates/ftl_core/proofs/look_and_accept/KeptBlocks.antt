@@ -27,7 +27,7 @@ use Rattle.readers.specs.declared.pin.Pin.{Pin}
 use Rattle.ftl_core.specs.Core.{Core}
 use Rattle.ftl_core.specs.Describes.{Describes, IsLookOf, PinKept, PinsKept}
 use Rattle.ftl_core.specs.Moves.{claims_for, kept_all, look_of, pin_now}
-use Rattle.readers.specs.Pins.{is_of_reader, is_pin_of}
+use Rattle.readers.specs.Pins.{is_of_reader, is_pin_of, most_pins}
 use Rattle.write_cache.specs.Slots.{key_at}
 use Rattle.ftl_core.specs.Public.{AreClaimed, Claims}
 use Rattle.ftl_core.specs.Tells.{PinsDiffer, keep_at, keeps_for, key_behind}
@@ -252,8 +252,8 @@ keeps_told c after reader k all blocks false is ranges t h mended keys none =
 
 -- there is room for as many as the layer that is specified has room for
 pub room_told : (c : Core) (t : Translation) (blocks : ℕ) → Describes c t →
-    nat_le (length c.pins + blocks) 1024 ≡ nat_le (length t.pins + blocks) 1024
-room_told c t blocks h = ap (λ (n : ℕ). nat_le (n + blocks) 1024) (pins_count c t h)
+    nat_le (length c.pins + blocks) most_pins ≡ nat_le (length t.pins + blocks) most_pins
+room_told c t blocks h = ap (λ (n : ℕ). nat_le (n + blocks) most_pins) (pins_count c t h)
 
 -- the claims of readers stay
 pub claims_stay : (c after : Core) (reader : ℕ) (k : Key) (all : Bool) (blocks : ℕ) (room : Bool) →

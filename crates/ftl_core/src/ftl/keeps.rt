@@ -5,6 +5,7 @@ ghost use Rattle.ufs_spec.specs.Keys.{IsKey};
 ghost use Rattle.ufs_spec.specs.Moves.{moved};
 ghost use Rattle.ufs_spec.specs.Plain.{shape_of_numbers};
 ghost use Rattle.ufs_spec.specs.Translation.{Translation, is_mended};
+ghost use Rattle.readers.specs.Pins.{most_pins};
 ghost use Rattle.ftl_core.specs.Describes.{Describes};
 ghost use Rattle.ftl_core.specs.Moves.{kept_all, pin_now};
 ghost use Rattle.ftl_core.specs.Public.{AreClaimed, Claims};
@@ -18,12 +19,12 @@ use write_cache::key_at;
 impl Ftl {
     /// Keeps for this reader what each of so many addresses has now, from this one on. The reader is owed
     /// the read of one at a time, the first of them first: where it is a page or becomes one. False, and
-    /// nothing is kept, where more than 1024 blocks would be kept.
+    /// nothing is kept, where more than 4096 blocks would be kept.
     pub fn keep(&mut self, reader: u8, key: Key, blocks: u16) -> bool
-        ensures found { result ≡ nat_le (length self.old.pins + blocks) 1024 }
+        ensures found { result ≡ nat_le (length self.old.pins + blocks) most_pins }
         ensures after { self.new ≡ (if result then kept_all self.old reader key false blocks else self.old) }
         ensures described_found { (t : Translation) → Describes self.old t →
-            result ≡ nat_le (length t.pins + blocks) 1024 }
+            result ≡ nat_le (length t.pins + blocks) most_pins }
         // No block of a reader is kept twice, so that no more is kept than readers have blocks.
         ensures described_differ { (t : Translation) → Describes self.old t → PinsDiffer t.pins }
         // It is what the addresses look at, of a reader who keeps nothing yet.
@@ -40,13 +41,13 @@ impl Ftl {
 
     /// Keeps for this reader what each of so many pages of an area has now, from this key on: the pages in
     /// which the blocks of a request lie, one or two of them. The reader is owed the read of each of them at
-    /// once, where it is a page or becomes one. False, and nothing is kept, where more than 1024 pages would
+    /// once, where it is a page or becomes one. False, and nothing is kept, where more than 4096 pages would
     /// be kept.
     pub fn keep_area(&mut self, reader: u8, key: Key, pages: u16) -> bool
-        ensures found { result ≡ nat_le (length self.old.pins + pages) 1024 }
+        ensures found { result ≡ nat_le (length self.old.pins + pages) most_pins }
         ensures after { self.new ≡ (if result then kept_all self.old reader key true pages else self.old) }
         ensures described_found { (t : Translation) → Describes self.old t →
-            result ≡ nat_le (length t.pins + pages) 1024 }
+            result ≡ nat_le (length t.pins + pages) most_pins }
         // No page of a reader is kept twice, so that no more is kept than readers have pages.
         ensures described_differ { (t : Translation) → Describes self.old t → PinsDiffer t.pins }
         // It is what the keys look at, of a reader who keeps nothing yet.
@@ -62,7 +63,7 @@ impl Ftl {
 
     /// Keeps each of the pages, if there is room for all of them.
     fn keep_all(&mut self, reader: u8, key: Key, pages: u16, all: bool) -> bool
-        ensures found { result ≡ nat_le (length self.old.pins + pages) 1024 }
+        ensures found { result ≡ nat_le (length self.old.pins + pages) most_pins }
         ensures after { self.new ≡ (if result then kept_all self.old reader key all pages else self.old) }
     {
         if self.pins.len() + pages as usize > MOST_PINS {
@@ -74,7 +75,7 @@ impl Ftl {
 
     /// Keeps each of the pages. All are wanted, or the first alone.
     fn pin_all(&mut self, reader: u8, key: Key, pages: u16, all: bool)
-        requires { length self.old.pins + pages ≤ 1024 }
+        requires { length self.old.pins + pages ≤ most_pins }
         ensures { self.new ≡ kept_all self.old reader key all pages }
     {
         for index in 0..pages {
@@ -84,7 +85,7 @@ impl Ftl {
 
     /// Keeps one of the pages.
     fn pin(&mut self, reader: u8, key: Key, index: u16, all: bool)
-        requires { length self.old.pins < 1024 }
+        requires { length self.old.pins < most_pins }
         ensures { self.new ≡ record self.old { pins = self.old.pins ++ pin_now self.old reader key all index ∷ [] } }
     {
         let key = key_at(key, index);

@@ -28,7 +28,7 @@ use block_table::{BlockState, BlockTable, DieRow, Flight, OpenBlock};
 use page_tag::{OwedJob, UnsealedJob};
 use readers::{Pin, looks_on};
 use ufs_spec::{
-    Block, Fence, GREATEST_COMMAND, GREATEST_NUMBER, Job, Key, Looked, Place, Reader, Tag,
+    Block, Fence, GREATEST_GROUP, GREATEST_NUMBER, Job, Key, Looked, Place, Reader, Tag,
 };
 use write_cache::Pending;
 
@@ -129,7 +129,7 @@ fn is_group_page(page: &Pending) -> bool
         && page.number >= 1
         && page.number <= GREATEST_NUMBER
         && page.index < page.size
-        && page.size <= GREATEST_COMMAND
+        && page.size <= GREATEST_GROUP
 }
 
 /// The tag of a group of one page, or of a mark.

@@ -9,6 +9,7 @@ use Rattle.power_loss.proofs.Common.{kept_shape}
 use Rattle.power_loss.proofs.MachineWords.{Command}
 use Rattle.std.specs.Prelude.{◌/◌}
 use Rattle.ufs_spec.specs.Commands as command
+use Rattle.ufs_spec.specs.Configs.{command_blocks}
 use Rattle.ufs_spec.specs.Keys.{area_key, area_keys, data_keys, keys, region_pages, settings_key}
 use Rattle.ufs_spec.proofs.RegionPages.{area_there, pages_held}
 use Rattle.ufs_laws.proofs.plain_contents.CommandsKeepPlain.{region_right}
@@ -99,15 +100,15 @@ no_settings region n m i h =
     let kinds : 2 ≡ 3 = ap (λ (k : Key). k.kind) r.2 in
     absurd (omega (arith, kinds))
 
--- how many keys a command has
-abbrev pub HasFew : List Key → Type 0
-HasFew ks = (1 ≤ length ks) × (length ks ≤ 32)
+-- a command has a key
+abbrev pub HasKey : List Key → Type 0
+HasKey ks = 1 ≤ length ks
 
-few_made : (f : ℕ → Key) (n : ℕ) → 1 ≤ n → n ≤ 32 → HasFew (map f (below n))
-few_made f n some few =
+key_made : (f : ℕ → Key) (n : ℕ) → 1 ≤ n → HasKey (map f (below n))
+key_made f n some =
     let long = length-map (below n) f in
     let size = length-below n in
-    (omega arith, omega arith)
+    omega arith
 
 -- the keys of a command are keys of the device, and differ
 command_keyed : (s : Shape) (c : Command) → AreWhole s → LiesWithin s c → Keyed s (keys c)
@@ -147,16 +148,14 @@ area_few s region address bytes can =
     let bound : n ≤ 2 = omega arith in
     (omega arith, omega arith)
 
-few_keys : (s : Shape) (c : Command) → LiesWithin s c → HasFew (keys c)
-few_keys s (command.Write unit address blocks) can =
-    few_made (λ i. data_key unit (address + i)) (length blocks) can.1 can.2
-few_keys s (command.Zero unit address count) can = few_made (λ i. data_key unit (address + i)) count can.1 can.2
-few_keys s (command.SetKey region bytes) can = (omega arith, omega arith)
-few_keys s (command.RpmbWrite region address bytes) can =
-    let few = area_few s region address bytes can in
-    (few.0, omega (arith, few.1))
-few_keys s (command.SetBoot boot) can = (omega arith, omega arith)
-few_keys s command.SetPermanent can = (omega arith, omega arith)
+some_keys : (s : Shape) (c : Command) → LiesWithin s c → HasKey (keys c)
+some_keys s (command.Write unit address blocks) can =
+    key_made (λ i. data_key unit (address + i)) (length blocks) can.1
+some_keys s (command.Zero unit address count) can = key_made (λ i. data_key unit (address + i)) count can.1
+some_keys s (command.SetKey region bytes) can = omega arith
+some_keys s (command.RpmbWrite region address bytes) can = (area_few s region address bytes can).0
+some_keys s (command.SetBoot boot) can = omega arith
+some_keys s command.SetPermanent can = omega arith
 
 -- The group
 
@@ -188,10 +187,10 @@ settings_at p s settings k (IsArea region page there within) e = absurd (omega a
 settings_at p s settings k IsSettings e = settings
 
 pub command_group : (t : Translation) (p : Plain) (c : Command) → shape_of p ≡ shape_of_numbers t.numbers → IsPlain p →
-    IsCommand c → CanApply p c → IsGroup t (group_of p c)
-command_group t p c shape plain is can = record {
-  some = let few = few_keys (shape_of p) c can.0 in omega (arith, long, few.0);
-  not_long = let few = few_keys (shape_of p) c can.0 in omega (arith, long, few.1);
+    IsCommand c → CanApply p c → length (keys c) ≤ command_blocks t.numbers → IsGroup t (group_of p c)
+command_group t p c shape plain is can few = record {
+  some = let some = some_keys (shape_of p) c can.0 in omega (arith, long, some);
+  not_long = omega (arith, long, few);
   differ = differ;
   items = λ k d lt. item k (get_or group k d) (slice_get-get_or group k d lt);
 }

@@ -6,6 +6,7 @@ use Rattle.power_loss.proofs.Common.{has_number, is_locked, is_mended, ltb-false
 use Rattle.power_loss.proofs.MachineWords.{Command, Answering, Deed, RpmbRequest, Status, Task, task_of, with_deed}
 use Rattle.power_loss.proofs.MachineWords.{with_request, accepts, claimed_by, set_deed, with_moves, State, locked}
 use Rattle.power_loss.proofs.MachineWords.{numbers_of, plain_now, DeedFits, IsTied, TasksRight, claim_of}
+use Rattle.ufs_spec.specs.Configs.{command_blocks}
 use Rattle.ufs_spec.specs.FrameRequests.{requested}
 use Rattle.ufs_spec.specs.Frames.{Frame}
 use Rattle.ufs_spec.specs.Keys.{keys}
@@ -27,11 +28,13 @@ plain_tied {s} v = all_kept_plain s.base s.accepted v.base.0 v.commands
 pub shape_tied : {s : State} → IsTied s → shape_of (plain_now s) ≡ shape_of_numbers (numbers_of s)
 shape_tied {s} v = shape_after s.base s.accepted v.commands ∙ v.base.1
 
--- the command may come now, and has no more keys than slots that are claimed for it
+-- the command may come now, and has no more keys than slots that are claimed for it: no more of them than a command
+-- may have blocks
 pub record IsComing (s : State) (c : Command) (claimed : ℕ) : Type 0 where
   pub is : IsCommand c
   pub can : CanApply (plain_now s) c
   pub few : length (keys c) ≤ claimed
+  pub short : claimed ≤ command_blocks (numbers_of s)
   pub is_mended : is_mended s.translation.work.mending ≡ true
   pub unlocked : locked s ≡ false
 
@@ -39,12 +42,14 @@ pub command_allowed : {s : State} {c : Command} {claimed : ℕ} → IsTied s →
     claimed ≤ s.translation.claims → IsAllowedMove s.translation (Accept claimed (group_of (plain_now s) c))
 command_allowed {s} {c} {claimed} v h has =
     let long = group_length (plain_now s) c in
-    let few = h.few in (
+    let few = h.few in
+    let short = h.short in (
       h.is_mended,
       not_locked s.translation h.unlocked,
       omega (arith, long, few),
       has,
-      command_group s.translation (plain_now s) c (shape_tied v) (plain_tied v) h.is h.can,
+      command_group s.translation (plain_now s) c (shape_tied v) (plain_tied v) h.is h.can
+          (omega (arith, few, short)),
     )
 
 -- what a task fits with the deed behind the command

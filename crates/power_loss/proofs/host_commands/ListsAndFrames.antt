@@ -26,6 +26,7 @@ use Rattle.ufs_laws.proofs.plain_contents.CommandsKeepPlain.{its_region}
 use Rattle.ufs_spec.specs.Rpmb.{Results, read_data, region_of, rpmb_outcome}
 use Rattle.ufs_spec.specs.RpmbResponses.{is_success}
 use Rattle.ufs_spec.specs.Plain.{regions}
+use Rattle.ufs_spec.proofs.ConfigFacts.{command_blocks-few, command_blocks-some}
 use Rattle.ufs_spec.proofs.Facts.{eq-eqb, eqb-false}
 use Rattle.power_loss.specs.Exchange.{FramesFit}
 use Rattle.ufs_laws.proofs.plain_contents.ListParts.{length-below}
@@ -70,7 +71,7 @@ unmap_coming {s} {task} {unit} {gathered} {asked} list v g all right free = reco
   can = (
     subst (λ (x : Shape). (unit < length x.blocks) × (1 ≤ field_at 4 16 list) × (field_at 4 16 list ≤ greatest_command)
         × (field_at 8 8 list + field_at 4 16 list ≤ get_or x.blocks unit 0)) (sym (shape_tied v))
-        (room.0, some, few, room.1),
+        (room.0, some, few_of_all, room.1),
     tt,
   );
   few =
@@ -79,6 +80,7 @@ unmap_coming {s} {task} {unit} {gathered} {asked} list v g all right free = reco
       let claim = claimed g.fits.list in
       let most = few in
       omega (arith, keys, numbers, claim, most);
+  short = let claim = claimed g.fits.list in omega (arith, claim);
   is_mended = g.fits.is_mended;
   unlocked = free;
 }
@@ -90,14 +92,19 @@ unmap_coming {s} {task} {unit} {gathered} {asked} list v g all right free = reco
     some : 1 ≤ field_at 4 16 list
     some = not_zero (field_at 4 16 list) (eqb-false (field_at 4 16 list) 0 right.some)
 
-    few : field_at 4 16 list ≤ greatest_command
+    few : field_at 4 16 list ≤ command_blocks (numbers_of s)
     few = ltb-false (command_blocks (numbers_of s)) (field_at 4 16 list) (or_parts _ _ right.descriptor).0
+
+    few_of_all : field_at 4 16 list ≤ greatest_command
+    few_of_all =
+        let most = command_blocks-few (numbers_of s) in
+        omega (arith, few, most)
 
     -- a list with a descriptor has claimed slots for all that it may have
     claimed : ((task.length ≡ 8)
         × (claimed_by (numbers_of s) (Gathering (ForUnmap unit) gathered asked) task.command ≡ 0))
         ⊎ ((task.length ≡ 24) × (claimed_by (numbers_of s) (Gathering (ForUnmap unit) gathered asked) task.command
-        ≡ command_blocks (numbers_of s))) → claim_of (numbers_of s) task ≡ greatest_command
+        ≡ command_blocks (numbers_of s))) → claim_of (numbers_of s) task ≡ command_blocks (numbers_of s)
     claimed (inl short) =
         absurd (false≢true (sym right.size ∙ eq-eqb (length list) 8 (all.long g.fits.short ∙ short.0)))
     claimed (inr whole) = g.claim ∙ whole.1
@@ -144,6 +151,7 @@ frames_coming {s} {task} {region} {frames} {result} {c} v f e =
       is = r.is;
       can = r.can;
       few = let keys = r.few in let claim = f.claim in omega arith;
+      short = let claim = f.claim in let some = command_blocks-some (numbers_of s) in omega arith;
       is_mended = f.is_mended;
       unlocked = r.unlocked;
     }

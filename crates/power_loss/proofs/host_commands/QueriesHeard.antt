@@ -8,6 +8,7 @@ use Rattle.power_loss.proofs.MachineWords.{Command, Task, short_reply, accepts, 
 use Rattle.power_loss.proofs.MachineWords.{locked, mended, numbers_of, plain_now, IsTied, TasksRight}
 use Rattle.std.specs.Prelude.{if◌then◌else◌}
 use Rattle.std.proofs.lemmas.List.{map-id}
+use Rattle.ufs_spec.proofs.ConfigFacts.{command_blocks-some}
 use Rattle.ufs_spec.specs.Commands.{SetBoot, SetPermanent}
 use Rattle.ufs_spec.specs.Keys.{keys}
 use Rattle.ufs_spec.specs.Queries.{Query, QueryLine, first_code, has_wrong_index, has_wrong_idn, has_wrong_opcode}
@@ -141,6 +142,7 @@ set_right {s} c v h = Both one
       is = h.is;
       can = h.can;
       few = omega arith;
+      short = let some = command_blocks-some (numbers_of s) in omega arith;
       is_mended = h.is_mended;
       unlocked = h.unlocked;
     }

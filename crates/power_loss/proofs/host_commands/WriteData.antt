@@ -6,6 +6,7 @@ use Rattle.power_loss.proofs.Common.{below, data_key, group_of, Accept, IsAllowe
 use Rattle.power_loss.proofs.Common.{Some, shape_of_numbers, is_mended}
 use Rattle.power_loss.proofs.MachineWords.{Command, Task, task_of, blocks_in, AreBytes, State, locked, numbers_of}
 use Rattle.power_loss.proofs.MachineWords.{plain_now, IsTied, claim_of}
+use Rattle.ufs_spec.proofs.ConfigFacts.{command_blocks-few}
 use Rattle.ufs_spec.specs.Commands as command
 use Rattle.ufs_spec.specs.Configs.{command_blocks}
 use Rattle.ufs_spec.specs.Plain.{greatest_command}
@@ -50,6 +51,7 @@ module _ (s : State) (task : Task) (unit address blocks : ℕ) (bytes : List ℕ
       let count = length-blocks_in blocks bytes in
       let some = a.some in
       let most = a.not_long in
+      let least = command_blocks-few (numbers_of s) in
       let room = a.within in (
         subst
             (λ (x : Shape). (unit < length x.blocks) × (1 ≤ length (blocks_in blocks bytes))
@@ -68,6 +70,7 @@ module _ (s : State) (task : Task) (unit address blocks : ℕ) (bytes : List ℕ
         let numbers = length-below (length (blocks_in blocks bytes)) in
         let count = length-blocks_in blocks bytes in
         omega arith;
+    short = a.not_long;
     is_mended = a.mended;
     unlocked = free;
   }

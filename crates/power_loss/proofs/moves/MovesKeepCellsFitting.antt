@@ -17,6 +17,7 @@ use Rattle.power_loss.proofs.Common.{StepKindRight, Valid, program_unread as pro
 use Rattle.power_loss.proofs.MachineWords.{IsConfig, BookFits, EntryFits}
 use Rattle.std.specs.Prelude.{slice_get}
 use Rattle.std.proofs.lemmas.Bool.{ltb-true}
+use Rattle.ufs_spec.proofs.ConfigFacts.{command_blocks-few}
 use Rattle.ufs_spec.specs.Pages.{group_bound}
 use Rattle.ufs_spec.specs.Pages.{greatest_number}
 use Rattle.ufs_spec.specs.Ledger.{entry_of}
@@ -123,9 +124,13 @@ accepts_fit : {t : Translation} (claimed : ℕ) (g : Group) → Fits t → IsAll
     Fits (moved t (Accept claimed g))
 accepts_fit {t} claimed g f may = assumption (
   all_keep t (Accept claimed g) f.valid may,
-  group_fits g f.book_fits may.4.not_long items (leb-true (next_number t.ledger) greatest_number may.1),
+  group_fits g f.book_fits few items (leb-true (next_number t.ledger) greatest_number may.1),
 )
   where
+    -- what a device accepts is never more than a tag can say
+    few : length g ≤ group_bound
+    few = let most = may.4.not_long in let least = command_blocks-few t.numbers in omega arith
+
     items : ItemsFit g
     items i item at =
         let w = slice_get_within g i item at in

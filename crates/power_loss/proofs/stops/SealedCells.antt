@@ -19,7 +19,7 @@ use Rattle.ufs_spec.specs.Cells.{NumbersFit, UnitFits}
 use Rattle.ufs_spec.specs.Configs.{InRange, UnitInRange}
 use Rattle.ufs_spec.specs.Pages.{IsTag, fence_bytes, mark_bytes, numbers_bytes, seal_page, unit_bytes}
 use Rattle.ufs_spec.proofs.RegionPages.{pages_there}
-use Rattle.ufs_spec.proofs.SealedPages.{units_length}
+use Rattle.ufs_spec.proofs.SealedPages.{seals, units_length}
 
 pub ranges_of : (n : Numbers) → IsConfig n → InRange n
 ranges_of n h = ranges n (config_tests n h).0
@@ -122,9 +122,13 @@ entry_cell : {n : Numbers} {name : Name} {e : Entry} {frontier last : ℕ} → I
     IsKey (shape_of_numbers n) e.item.key → EntryFits e name.index → 1 ≤ name.number → name.number ≤ last →
     frontier ≤ last → last ≤ greatest_number → IsCell (seal_page (tag_of name e frontier) e.item.body)
     (GroupPage (tag_of name e frontier) e.item.body)
-entry_cell r key fits some number reach l =
+entry_cell {n} {name} {e} {frontier} r key fits some number reach l =
     let k = key_ranges r key in (
-      record { tag_right = entry_tag r key fits some number reach l; body_right = fits.block; sealed = refl },
+      record {
+        tag_right = entry_tag r key fits some number reach l;
+        body_right = fits.block;
+        sealed = seals (tag_of name e frontier) e.item.body;
+      },
       record { settings = fits.settings; mark = λ h. absurd (omega (arith, k.kinds)) },
       λ h. omega (arith, k.kinds),
     )
@@ -243,7 +247,11 @@ pub mark_cell : (m : Mark) → InRange m.numbers → ((f : Fence) → m.fence �
 mark_cell m r fence some number records =
     let fit = numbers_fit r in (
       mark_bytes m.numbers m.fence,
-      record { tag_right = mark_is_tag m some number records; body_right = mark_is_block m.fence fit; sealed = refl },
+      record {
+        tag_right = mark_is_tag m some number records;
+        body_right = mark_is_block m.fence fit;
+        sealed = seals (mark_tag m) (mark_bytes m.numbers m.fence);
+      },
       record { fence_right = fence; numbers_fit = fit; bytes = refl },
     )
 

@@ -12,7 +12,6 @@ use Rattle.ufs_spec.specs.Lives.{Fit, array_of}
 use Rattle.ufs_spec.specs.Plain.{shape_of_numbers, zero_block}
 use Rattle.ufs_spec.specs.Sound.{CellsSound}
 use Rattle.ufs_spec.specs.declared.configs.Numbers.{Numbers}
-use Rattle.ufs_spec.specs.declared.flash.Page.{Page}
 use Rattle.ufs_spec.specs.declared.flash.Place.{Place}
 use Rattle.ufs_spec.specs.declared.flash.Tag.{Tag}
 use Rattle.ufs_spec.proofs.CellKinds.{page_not_nothing}
@@ -68,7 +67,7 @@ body_there : (array : Array) (c : Cells) (p : Place) (t : Tag) (body : List ℕ)
     c p ≡ GroupPage t body → (array p).body ≡ body
 body_there array c p t body shown is =
     let cell : IsCell (array p) (GroupPage t body) = subst (IsCell (array p)) is (shown p) in
-    ap (λ (page : Page). page.body) cell.0.sealed
+    cell.0.sealed.holds
 
 -- The page that was found for the settings
 

@@ -5,14 +5,15 @@ use Rattle.std.specs.Prelude.{slice_get}
 use Rattle.std.proofs.lemmas.Bool.{cases_lt, false_from_ne_true}
 use Rattle.std.proofs.lemmas.Option.{slice_get_within}
 use Rattle.ufs_spec.proofs.Lists.{get_there}
-use Rattle.ufs_spec.specs.Pages.{greatest_number}
+use Rattle.ufs_spec.specs.Pages.{greatest_number, group_bound}
 use Rattle.ufs_spec.specs.Cells.{Cells, Mark}
 use Rattle.ufs_spec.specs.Kept.{HasPage, IsKept, IsRecorded, IsWhole}
 use Rattle.recovery.proofs.greatest_numbers.Among.{among_all}
 use Rattle.recovery.proofs.whole_groups.Pigeons.{too_many}
-use Rattle.recovery.specs.Buckets.{AreBuckets, AreTags, IsBucket, IsOfGroup, IsWholeBucket}
+use Rattle.recovery.specs.Buckets.{AreBuckets, AreTags, HasIndex, IsBucket, IsOfGroup, IsWholeBucket}
 use Rattle.recovery.specs.Listed.{AreListed}
 use Rattle.recovery.specs.declared.kept.Bucket.{Bucket}
+use Rattle.recovery.specs.declared.kept.Groups.{Groups}
 use Rattle.recovery.specs.declared.pages.FoundPage.{FoundPage}
 
 module _ (c : Cells) (pages : List FoundPage) (listed : AreListed c pages) where
@@ -28,8 +29,8 @@ module _ (c : Cells) (pages : List FoundPage) (listed : AreListed c pages) where
 
   -- Groups and their buckets
 
-  module _ (n : ℕ) (b : Bucket) (h : IsBucket pages (length pages) n b) where
-    pub group_whole : IsWholeBucket b → IsWhole c n
+  module _ (n : ℕ) (b : Bucket) (Has : ℕ → Type 0) (h : IsBucket pages (length pages) n b Has) where
+    pub group_whole : IsWholeBucket b Has → IsWhole c n
     group_whole whole = record {
       size = b.size;
       some = whole.some;
@@ -37,10 +38,13 @@ module _ (c : Cells) (pages : List FoundPage) (listed : AreListed c pages) where
           let in_list = listed.all p t body at in
           h.same whole.one_size (record { place = p; tag = t }) (among_all pages in_list.0 _ in_list.1, number);
       each = λ i less.
-          let r = h.seen i (whole.each i less) in
+          let r = h.seen i (in_bound i less) (whole.each i less) in
           let there = listed.there r.1.0.0 r.0 r.1.0.2 in
           (r.0.place, r.0.tag, there.0, there.1, r.1.1, r.2);
     }
+      where
+        in_bound : (i : ℕ) → i < b.size → i < group_bound
+        in_bound i less = let within : b.size ≤ group_bound = whole.within in omega arith
 
     module _ (whole : IsWhole c n) where
       one_size : (e : FoundPage) → IsOfGroup pages (length pages) n e → e.tag.size ≡ whole.size
@@ -62,13 +66,19 @@ module _ (c : Cells) (pages : List FoundPage) (listed : AreListed c pages) where
       not_mixed : b.mixed ≡ true → ⊥
       not_mixed mixed = let r = h.differ mixed in r.2 (one_size r.0 r.1 ∙ sym noted_size)
 
-      pub bucket_whole : IsWholeBucket b
+      not_long : b.size ≤ group_bound
+      not_long =
+          let r = h.some has_size in
+          let long : r.0.tag.size ≤ group_bound = (tags_of r.1.0.0 r.0 r.1.0.2).group_not_long.1 in
+          subst (λ (x : ℕ). x ≤ group_bound) r.2 long
+
+      pub bucket_whole : IsWholeBucket b Has
       bucket_whole = record {
         one_size = false_from_ne_true b.mixed not_mixed;
         some = subst (λ (x : ℕ). 0 < x) (sym noted_size) whole.some;
+        within = not_long;
         each = λ k less.
-            let r = in_group k (subst (λ (x : ℕ). k < x) noted_size less) in
-            subst (λ (x : ℕ). slice_get b.seen x ≡ Some true) r.2 (h.all r.0 r.1);
+            let r = in_group k (subst (λ (x : ℕ). k < x) noted_size less) in subst Has r.2 (h.all r.0 r.1);
       }
 
   -- A whole group has a page, whose number has its range
@@ -109,13 +119,13 @@ module _ (c : Cells) (pages : List FoundPage) (listed : AreListed c pages) where
 
   -- The kept number
 
-  module _ (m : Option Mark) (from count : ℕ) (buckets : List Bucket) (are : AreBuckets pages from buckets)
-      (below : (k : ℕ) (b : Bucket) → k < count → slice_get buckets k ≡ Some b → IsWholeBucket b)
-      (within : count ≤ length buckets) where
+  module _ (m : Option Mark) (from count : ℕ) (g : Groups) (are : AreBuckets pages from g)
+      (below : (k : ℕ) (b : Bucket) → k < count → slice_get g.buckets.items k ≡ Some b →
+      IsWholeBucket b (HasIndex g.seen k)) (within : count ≤ length g.buckets.items) where
     group_at : (k : ℕ) → k < count → IsWhole c (suc (from + k))
     group_at k less =
-        let at = get_there buckets k (omega arith) in
-        group_whole (suc (from + k)) at.0 (are.each tags_of k at.0 at.1) (below k at.0 less at.1)
+        let at = get_there g.buckets.items k (omega arith) in
+        group_whole (suc (from + k)) at.0 (HasIndex g.seen k) (are.each tags_of k at.0 at.1) (below k at.0 less at.1)
 
     behind : (n : ℕ) → from < n → n ≤ from + count → IsWhole c n
     behind n more less =
@@ -128,25 +138,27 @@ module _ (c : Cells) (pages : List FoundPage) (listed : AreListed c pages) where
         let is : count ≡ k = omega arith in subst (λ (x : ℕ). IsWhole c (suc (from + x))) is last)
         (cases_lt k count)
 
-    all_whole : from ≤ greatest_number → count ≡ length buckets → IsWhole c (suc (from + count)) → ⊥
+    all_whole : from ≤ greatest_number → count ≡ length g.buckets.items → IsWhole c (suc (from + count)) → ⊥
     all_whole fits all last =
-        let counted : length buckets ≡ min (length pages) (greatest_number - from) = are.count in
+        let counted : length g.buckets.items ≡ min (length pages) (greatest_number - from) = are.count in
         ⊎_elim (λ (l : count < length pages). none_above (suc (from + count)) (omega arith) last)
         (λ (r : length pages ≤ count).
         let is : count ≡ length pages = omega arith in
         no_more from (λ k less. one_more last k (subst (λ (x : ℕ). k < suc x) (sym is) less)))
         (cases_lt count (length pages))
 
-    pub kept_of : ((b : Bucket) → slice_get buckets count ≡ Some b → IsWholeBucket b → ⊥) → from ≤ greatest_number →
-        IsRecorded c m from → IsKept c m (from + count)
+    pub kept_of : ((b : Bucket) → slice_get g.buckets.items count ≡ Some b →
+        IsWholeBucket b (HasIndex g.seen count) → ⊥) → from ≤ greatest_number → IsRecorded c m from →
+        IsKept c m (from + count)
     kept_of stops fits recorded = record {
       from = from;
       recorded = recorded;
       above = omega arith;
       whole = behind;
-      stops = λ last. ⊎_elim (λ (l : count < length buckets).
-          let at = get_there buckets count l in
-          stops at.0 at.1 (bucket_whole (suc (from + count)) at.0 (are.each tags_of count at.0 at.1) last))
-          (λ (r : length buckets ≤ count). all_whole fits (omega arith) last)
-          (cases_lt count (length buckets));
+      stops = λ last. ⊎_elim (λ (l : count < length g.buckets.items).
+          let at = get_there g.buckets.items count l in
+          stops at.0 at.1
+          (bucket_whole (suc (from + count)) at.0 (HasIndex g.seen count) (are.each tags_of count at.0 at.1) last))
+          (λ (r : length g.buckets.items ≤ count). all_whole fits (omega arith) last)
+          (cases_lt count (length g.buckets.items));
     }

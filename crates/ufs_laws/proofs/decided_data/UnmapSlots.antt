@@ -14,7 +14,8 @@ use Rattle.ufs_spec.proofs.Facts.{cond-false, ltb-false, or_parts}
 use Rattle.ufs_spec.specs.Changes.{claimed_by, ends_with_status, with_task}
 use Rattle.ufs_spec.specs.Begins.{gathering_begun}
 use Rattle.ufs_spec.specs.Commands.{Zero}
-use Rattle.ufs_spec.specs.DataOuts.{is_past_unit, unmap_complete}
+use Rattle.ufs_spec.specs.Configs.{command_blocks}
+use Rattle.ufs_spec.specs.DataOuts.{is_past_unit, is_wrong_descriptor, unmap_complete}
 use Rattle.ufs_spec.specs.Exchanges.{Answering, Deed, ForUnmap, Gathering, Good, Status, Task}
 use Rattle.ufs_spec.specs.Keys.{Group, Item, below, content, data_key, group_of}
 use Rattle.ufs_spec.specs.Ledger.{Ledger, accepted_groups, before_accepted}
@@ -50,13 +51,13 @@ pub header_claims : (s : State) (r : Request) (unit : ℕ) →
 header_claims s r unit = let same : s.translation.claims + 0 ≡ s.translation.claims = omega arith in same
 
 claimed_is : (s : State) (task : Task) (unit : ℕ) → GathersList task unit →
-    claimed_by (numbers_of s) task.deed task.command ≡ 32
+    claimed_by (numbers_of s) task.deed task.command ≡ command_blocks (numbers_of s)
 claimed_is s task unit h =
     ap (λ (d : Deed). claimed_by (numbers_of s) d task.command) h.deed
     ∙ ap (claimed_by (numbers_of s) (Gathering (ForUnmap unit) h.gathered h.asked)) h.command
 
 pub claims : (s : State) (task : Task) (unit : ℕ) (list : List ℕ) → GathersList task unit →
-    (unmap_complete s task unit list).translation.claims ≡ s.translation.claims - 32
+    (unmap_complete s task unit list).translation.claims ≡ s.translation.claims - command_blocks (numbers_of s)
 claims s task unit list h =
     judged.gives_back s task unit list ∙ ap (λ (x : ℕ). s.translation.claims - x) (claimed_is s task unit h)
 
@@ -67,12 +68,12 @@ freed : (slots pages claims count : ℕ) → count ≤ claims → pages + claims
 freed slots pages claims count few within = omega arith
 
 pub not_accepted : (s : State) (task : Task) (unit : ℕ) (status : Status) → GathersList task unit →
-    HasClaimed s.translation 32 →
-    free_slots (ends_with_status s task status).translation ≡ free_slots s.translation + 32
+    HasClaimed s.translation (command_blocks (numbers_of s)) →
+    free_slots (ends_with_status s task status).translation ≡ free_slots s.translation + command_blocks (numbers_of s)
 not_accepted s task unit status h has =
     let pages = pending_pages s.translation.ledger in
     ap (λ (x : ℕ). s.translation.numbers.slots - pages - (s.translation.claims - x)) (claimed_is s task unit h)
-    ∙ freed s.translation.numbers.slots pages s.translation.claims 32 has.claimed has.within
+    ∙ freed s.translation.numbers.slots pages s.translation.claims (command_blocks (numbers_of s)) has.claimed has.within
 
 -- a group more has its pages
 more_pages : (l : Ledger) (g : Group) → l.repairs ≤ length l.groups → l.frontier ≤ l.greatest_seen + length l.groups →
@@ -86,9 +87,9 @@ more_pages l g repairs frontier =
     ∙ sum_by_push length (drop left (accepted_groups l)) g)
 
 -- the pages of a group take the place of a part of the claim
-taken : (slots pages claims count : ℕ) → 32 ≤ claims → pages + claims ≤ slots → count ≤ 32 →
-    slots - (pages + count) - (claims - 32) ≡ slots - pages - claims + (32 - count)
-taken slots pages claims count few within most = omega arith
+taken : (slots pages claims count claim : ℕ) → claim ≤ claims → pages + claims ≤ slots → count ≤ claim →
+    slots - (pages + count) - (claims - claim) ≡ slots - pages - claims + (claim - count)
+taken slots pages claims count claim few within most = omega arith
 
 zeros_long : (p : Plain) (unit address count : ℕ) → length (group_of p (Zero unit address count)) ≡ count
 zeros_long p unit address count =
@@ -98,20 +99,24 @@ zeros_long p unit address count =
     ∙ length-below count
 
 pub accepted : (s : State) (task : Task) (unit : ℕ) (list : List ℕ) → GathersList task unit →
-    HasClaimed s.translation 32 → PassesList s unit list → field_at 4 16 list ≢ 0 → locked s ≡ false →
-    free_slots (unmap_complete s task unit list).translation ≡ free_slots s.translation + (32 - field_at 4 16 list)
+    HasClaimed s.translation (command_blocks (numbers_of s)) → PassesList s unit list → field_at 4 16 list ≢ 0 →
+    locked s ≡ false →
+    free_slots (unmap_complete s task unit list).translation
+    ≡ free_slots s.translation + (command_blocks (numbers_of s) - field_at 4 16 list)
 accepted s task unit list h has passes some unlocked =
     let t = s.translation in
     let count = field_at 4 16 list in
     let g = group_of (plain_now s) (Zero unit (field_at 8 8 list) count) in
-    let most : count ≤ 32 = ltb-false 32 count (or_parts (nat_lt 32 count) (not (field_at 4 20 list == 0)) passes.1).0 in
+    let claim = command_blocks (numbers_of s) in
+    let most : count ≤ claim =
+    ltb-false claim count (or_parts (nat_lt claim count) (not (field_at 4 20 list == 0)) passes.1).0 in
     ap (λ (u : State). free_slots u.translation) (judged.accepted s task unit list passes some unlocked)
     ∙ ap (λ (pages : ℕ). t.numbers.slots - pages - (t.claims - claimed_by (numbers_of s) task.deed task.command))
     (more_pages t.ledger g has.repairs has.frontier
     ∙ ap (λ (n : ℕ). pending_pages t.ledger + n)
     (zeros_long (plain_now s) unit (field_at 8 8 list) count))
     ∙ ap (λ (x : ℕ). t.numbers.slots - (pending_pages t.ledger + count) - (t.claims - x)) (claimed_is s task unit h)
-    ∙ taken t.numbers.slots (pending_pages t.ledger) t.claims count has.claimed has.within most
+    ∙ taken t.numbers.slots (pending_pages t.ledger) t.claims count claim has.claimed has.within most
 
 -- ## The group
 
@@ -146,7 +151,7 @@ worked = list_of 0x16 0x10 5 2
 within_row : (s : State) → numbers_of s ≡ row → PassesList s 0 worked
 within_row s e = (
   (refl, λ other. omega (arith, other)),
-  refl,
+  ap (λ (n : Numbers). is_wrong_descriptor n worked) e,
   ap (λ (n : Numbers). is_past_unit worked (unit_numbers_at n (Some 0))) e,
 )
 

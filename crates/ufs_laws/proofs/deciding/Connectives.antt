@@ -1,5 +1,5 @@
 -- Facts that can be decided.
-use Rattle.std.proofs.Common.{◌≡◌, ℕ, zero, suc, ◌<◌, Bool, true, false, List, [], ◌∷◌, All, Option, None, Some, refl}
+use Rattle.std.proofs.Common.{◌≡◌, ◌⊎◌, ⊎_elim, inl, inr, ℕ, zero, suc, ◌<◌, Bool, true, false, List, [], ◌∷◌, All, Option, None, Some, refl}
 use Rattle.std.proofs.Common.{subst, length, arith}
 use Rattle.std.proofs.Math.Decide.{dec_lt, map_dec, ℕ_discrete}
 use Rattle.std.specs.Bool.{Decides}
@@ -42,6 +42,11 @@ pub dec_seven : {P Q R S T U V : Type 0} → Dec P → Dec Q → Dec R → Dec S
 dec_seven p q r s t u v =
     map_dec (λ h. (h.0, h.1.0, h.1.1, h.1.2, h.1.3, h.1.4, h.1.5)) (λ h. (h.0, (h.1, h.2, h.3, h.4, h.5, h.6)))
     (dec_and p (dec_six q r s t u v))
+
+pub dec_or : {P Q : Type 0} → Dec P → Dec Q → Dec (P ⊎ Q)
+dec_or (yes p) d = yes (inl p)
+dec_or (no n) (yes q) = yes (inr q)
+dec_or (no n) (no m) = no (⊎_elim n m)
 
 pub dec_implies : {P Q : Type 0} → Dec P → Dec Q → Dec (P → Q)
 dec_implies (yes p) (yes q) = yes (λ _. q)

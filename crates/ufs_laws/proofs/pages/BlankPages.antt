@@ -1,33 +1,29 @@
 -- A blank page is nothing, and a block of zeros is the settings page of a new device.
-use Rattle.std.proofs.Common.{◌≡◌, ℕ, false, List, Some, None, get_or, refl, sym, ap, arith}
+use Rattle.std.proofs.Common.{◌≡◌, ℕ, false, List, Some, None, get_or, inl, inr, refl, sym, take, ap, arith}
 use Rattle.ufs_spec.specs.Cells.{Cell, GroupPage, IsCell, MarkPage, Nothing, Opens, mark_tag}
 use Rattle.ufs_spec.specs.Dies.{blank_page}
 use Rattle.ufs_spec.specs.Keys.{IsSettingsBody}
-use Rattle.ufs_spec.specs.Pages.{seal_page}
+use Rattle.ufs_spec.specs.Pages.{IsFrontOf}
 use Rattle.ufs_spec.specs.Plain.{zero_block}
-use Rattle.ufs_spec.specs.declared.flash.Page.{Page}
 use Rattle.ufs_spec.specs.declared.flash.Tag.{Tag}
 use Rattle.ufs_laws.proofs.pages.SettingsBodies.{zero_settings}
 
 -- Blank pages
 
--- the first spare byte of a page
-first_byte : Page → ℕ
-first_byte p = get_or p.spare 0 0
-
-blank_byte : first_byte blank_page ≡ 255
-unfolding first_byte blank_page
+-- the first spare byte of a blank page is none of the magic
+blank_byte : get_or (take 64 blank_page.spare) 0 0 ≡ 255
+unfolding blank_page
 blank_byte = refl
 
-sealed_byte : (t : Tag) (body : List ℕ) → first_byte (seal_page t body) ≡ 85
-unfolding first_byte
-sealed_byte t body = refl
+front_byte : (t : Tag) (front : List ℕ) → IsFrontOf t front → get_or front 0 0 ≡ 85
+front_byte t front (inl new) = ap (λ (f : List ℕ). get_or f 0 0) new
+front_byte t front (inr old) = ap (λ (f : List ℕ). get_or f 0 0) old.1
 
 pub blank_opens_not : (t : Tag) (body : List ℕ) → Opens blank_page t body → ⊥
 blank_opens_not t body h =
-    let same = ap first_byte h.sealed in
+    let sealed : get_or (take 64 blank_page.spare) 0 0 ≡ 85 =
+    front_byte t (take 64 blank_page.spare) h.sealed.front in
     let blank = blank_byte in
-    let sealed = sealed_byte t body in
     omega arith
 
 pub blank_is_nothing : (x : Cell) → IsCell blank_page x → x ≡ Nothing

@@ -1,14 +1,13 @@
 -- A page is some cell.
-use Rattle.std.proofs.Common.{◌≡◌, ℕ, ◌≤◌, ◌^◌, List, ◌++◌, refl, sym, ap, subst, arith}
+use Rattle.std.proofs.Common.{◌≡◌, ℕ, ◌≤◌, ◌^◌, List, refl, sym, subst, arith, drop, take}
 use Rattle.std.proofs.Math.Decide.{dec_le, dec_lt, map_dec, ℕ_discrete}
-use Rattle.ufs_spec.specs.Pages.{group_bound}
-use Rattle.ufs_spec.specs.Pages.{greatest_number}
 use Rattle.ufs_spec.specs.Cells.{Cell, DataHold, GroupPage, IsCell, Mark, MarkPage, Nothing, Opens, mark_tag}
-use Rattle.ufs_spec.specs.Pages.{IsTag, check_of, spare_front, tag_in}
+use Rattle.ufs_spec.specs.Pages.{IsFrontOf, IsTag, check_of, greatest_number, group_bound, old_front, old_group_bound}
+use Rattle.ufs_spec.specs.Pages.{spare_front, tag_in}
 use Rattle.ufs_spec.specs.declared.flash.Page.{Page}
 use Rattle.ufs_spec.specs.declared.flash.Tag.{Tag}
 use Rattle.ufs_laws.proofs.pages.BodiesDecided.{is_mark_body, is_settings_body}
-use Rattle.ufs_laws.proofs.deciding.Connectives.{dec_and, dec_implies, is_block, same_bytes}
+use Rattle.ufs_laws.proofs.deciding.Connectives.{dec_and, dec_implies, dec_or, is_block, same_bytes}
 use Rattle.ufs_spec.proofs.SealedPages.{body_opened, tag_opened}
 
 -- Deciding
@@ -48,14 +47,26 @@ is_tag t =
     (dec_and (dec_and (dec_between 1 greatest_number t.number) (dec_le t.frontier greatest_number))
     (dec_and (dec_between 1 group_bound t.size) (dec_lt t.index t.size)))))
 
+-- whether bytes are those of a tag, in one of the versions
+is_front : (t : Tag) (front : List ℕ) → Dec (IsFrontOf t front)
+is_front t front =
+    dec_or (same_bytes front (spare_front t))
+    (dec_and (dec_le t.size old_group_bound) (same_bytes front (old_front t)))
+
 -- whether a page opens to a tag and its own block
 opens : (page : Page) (t : Tag) → Dec (Opens page t page.body)
 opens page t =
     map_dec
-    (λ h. record { tag_right = h.0; body_right = h.1.0; sealed = λ i. record { body = page.body; spare = h.1.1 i } })
-    (λ r. (r.tag_right, (r.body_right, ap (λ (p : Page). p.spare) r.sealed)))
+    (λ h. record {
+      tag_right = h.0;
+      body_right = h.1.0;
+      sealed = record { front = h.1.1.0; check = h.1.1.1; holds = refl };
+    })
+    (λ r. (r.tag_right, (r.body_right, (r.sealed.front, r.sealed.check))))
     (dec_and (is_tag t)
-    (dec_and (is_block page.body) (same_bytes page.spare (spare_front t ++ check_of page.body (spare_front t)))))
+    (dec_and (is_block page.body)
+    (dec_and (is_front t (take 64 page.spare))
+    (same_bytes (drop 64 page.spare) (check_of page.body (take 64 page.spare))))))
 
 data_hold : (t : Tag) (body : List ℕ) → Dec (DataHold t body)
 data_hold t body =

@@ -16,7 +16,8 @@ use Rattle.ufs_spec.specs.Configs.{command_blocks}
 use Rattle.ufs_spec.specs.Exchanges.{most_tasks}
 use Rattle.ufs_spec.specs.Refusals.{BootUnit, is_boot_read, not_taken, operations_of, Request, State, first_line}
 use Rattle.ufs_spec.specs.Refusals.{has_other_response, has_wrong_list, is_crowded, is_past, is_refused_write}
-use Rattle.ufs_spec.specs.Refusals.{is_too_long, lacks_response, lines_for, locked, mended, refusal, unit_numbers_of}
+use Rattle.ufs_spec.specs.Refusals.{is_too_long, lacks_response, lines_for, locked, mended, numbers_of, refusal}
+use Rattle.ufs_spec.specs.Refusals.{unit_numbers_of}
 use Rattle.ufs_spec.specs.Translation.{free_slots, has_pending}
 use Rattle.ufs_spec.specs.declared.configs.UnitSpec.{UnitSpec}
 use Rattle.ufs_spec.specs.declared.scsi.Cdb.{Cdb}
@@ -61,7 +62,9 @@ blocks s tag h = answers s (asks 0x40 0 tag (read_at 256 33)) invalid_field h re
 
 pub list : (s : State) (tag : ℕ) →
     first_line (lines_for s (asks 0x00 0 tag (cdb.Unmap 16)) (cdb.Unmap 16)) ≡ Some list_length_error
-list s tag = refl
+list s tag =
+    leaves (is_too_long (numbers_of s) (cdb.Unmap 16)) invalid_field list_length_error _
+    (le-ltb (command_blocks (numbers_of s)) 0 (omega arith)) refl
 
 pub flag : (s : State) (tag : ℕ) → IsIdle s → IsRefused s (asks 0x00 0 tag (read_at 256 1)) invalid_field
 flag s tag h = answers s (asks 0x00 0 tag (read_at 256 1)) invalid_field h refl

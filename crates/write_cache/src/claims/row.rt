@@ -3,6 +3,7 @@ ghost use Rattle.std.specs.Prelude.{◌≡◌, ◌+◌, ◌^◌, ◌<◌, ◌≤
 ghost use Rattle.std.specs.Prelude.{IsSome, List, MatchOption, filter_map, length, map};
 ghost use Rattle.std.specs.Prelude.{vec_capacity};
 ghost use Rattle.std.specs.VecDeque.{deque_capacity};
+ghost use Rattle.ufs_spec.specs.Plain.{greatest_command};
 ghost use Rattle.write_cache.specs.ClaimRows.{AreOf};
 ghost use Rattle.write_cache.specs.Rests.{IsPart, claim_brought, page_moved};
 ghost use Rattle.write_cache.specs.Slots.{claim_filled, claims_of, page_claimed, without_claims};
@@ -34,7 +35,8 @@ impl Model for ClaimRow {
 
     ghost view = { λ r. r.claims.items };
 
-    ghost invariant = { λ r. AreOf r.reader r.claims.items × (32 ≤ deque_capacity r.claims) };
+    ghost invariant = { λ r. AreOf r.reader r.claims.items
+        × (greatest_command ≤ deque_capacity r.claims) };
 }
 
 impl ClaimRow {
@@ -73,7 +75,7 @@ impl ClaimRow {
             (λ c. (c ≡ claim) × (self.new ≡ self.old)) }
         // It is given back only where the row is full or has none of its reader.
         ensures refused { IsSome result →
-            (claims_of self.old claim.reader ≡ []) ⊎ (32 ≤ length self.old) }
+            (claims_of self.old claim.reader ≡ []) ⊎ (greatest_command ≤ length self.old) }
     {
         if claim.reader == self.reader && self.claims.len() < GREATEST_COMMAND as usize {
             self.claims.push_back_reserved(claim);

@@ -1,10 +1,9 @@
 use Rattle.std.proofs.Common.{◌≡◌, true}
-use Rattle.page_tag.proofs.Sealed.{front_of_sealed, no_tag_checked, sealed}
+use Rattle.page_tag.proofs.Sealed.{no_tag_checked, sealed}
 use Rattle.page_tag.proofs.page.sealed_tag.Goals as goal
 
 pub returns-in_default-clause-refused : goal.returns-in_default-clause-refused
-returns-in_default-clause-refused c = λ _ t b h e.
-    c.front_tag.ensures.refused c.in_default.is t h (front_of_sealed c.args.page.now t b e)
+returns-in_default-clause-refused c = λ _ t b h e. c.front_tag.ensures.refused c.in_default.is t h e.front
 
 pub returns-then-not-is_check_right-clause-refused : goal.returns-then-not-is_check_right-clause-refused
 returns-then-not-is_check_right-clause-refused c = λ _.

@@ -1,41 +1,46 @@
-use Rattle.std.proofs.Common.{◌≡◌, ◌+◌, ◌∙◌, List, suc, ap, arith, get_or, length, subst, sym}
+use Rattle.std.proofs.Common.{◌≡◌, ◌+◌, ◌*◌, ◌∙◌, suc, ap, arith, get_or, length, subst, sym}
 use Rattle.std.specs.Prelude.{slice_get}
 use Rattle.std.proofs.lemmas.List.{length-replicate}
 use Rattle.recovery.proofs.greatest_numbers.Among.{no_page, page_at}
-use Rattle.recovery.proofs.whole_groups.Noting.{buckets_more, buckets_none, written_back}
-use Rattle.recovery.specs.Buckets.{IsBucket, IsNotedAt, nothing_noted}
-use Rattle.recovery.specs.declared.kept.Bucket.{Bucket}
+use Rattle.recovery.proofs.whole_groups.Noting.{buckets_more, buckets_none, room_none, room_stays}
+use Rattle.recovery.specs.Buckets.{HasIndex, IsBucket, nothing_noted}
+use Rattle.ufs_spec.specs.Pages.{group_bound}
 use Rattle.recovery.proofs.kept.groups_behind.Goals as goal
 
 pub loop-page-init : goal.loop-page-init
-loop-page-init c = (
-  ap length c.in_ok-buckets.ensures ∙ length-replicate c.min-count.result nothing_noted,
-  λ tags k b at.
-      buckets_none c.args.pages.now c.args.from c.min-count.result k b
-      (sym (ap (λ x. slice_get x k) c.in_ok-buckets.ensures) ∙ at),
-)
+loop-page-init c =
+    let count = c.min-count.result in
+    let g = c.in_ok-groups.groups in
+    let empty = c.in_ok-groups.ensures in
+    record {
+      count = ap length empty.buckets ∙ length-replicate count nothing_noted;
+      room = room_none count g empty.buckets empty.seen empty.few;
+      each = λ tags k b at.
+          buckets_none c.args.pages.now c.args.from count (count * group_bound) k b g.seen
+          (sym (ap (λ x. slice_get x k) empty.buckets) ∙ at) empty.seen;
+    }
 
 pub loop-page-preserved : goal.loop-page-preserved
 loop-page-preserved c =
     let i = c.loop-page.page-index in
-    let old = c.loop-page.buckets.items in
-    let new = c.note_page.new.buckets in
-    let back = written_back old new c.loop-page.buckets.len c.loop-page.buckets.ok.0
-    (c.note_page.auto.buckets ∙ ap length c.deref_mut.ensures.value) in
-    let noted_there = subst (λ (x : List Bucket). IsNotedAt x c.args.from (get_or c.args.pages.now i no_page).tag new)
-    c.deref_mut.ensures.value c.note_page.ensures in (
-      ap length back ∙ c.note_page.auto.buckets ∙ ap length c.deref_mut.ensures.value ∙ c.loop-page.invariant.0,
-      λ tags k b at.
-          buckets_more c.args.pages.now i c.args.from old new (get_or c.args.pages.now i no_page)
-          (page_at c.args.pages.now i c.loop-page-test.true) noted_there c.loop-page.invariant.1 tags k b
-          (sym (ap (λ x. slice_get x k) back) ∙ at),
-    )
+    let e = get_or c.args.pages.now i no_page in
+    let old = c.loop-page.groups in
+    let new = c.note.new.self in
+    record {
+      count = c.note.ensures.count ∙ c.loop-page.invariant.count;
+      room = room_stays old new c.args.from e.tag c.note.ensures c.loop-page.invariant.room;
+      each = buckets_more c.args.pages.now i c.args.from old new e (page_at c.args.pages.now i c.loop-page-test.true)
+          c.note.ensures c.loop-page.invariant.each;
+    }
 
 pub returns : goal.returns
 returns c =
     let end : c.loop-page.page-index ≡ length c.args.pages.now = omega arith in
+    let g = c.loop-page.groups in
     record {
-      count = c.loop-page.invariant.0 ∙ c.min-count.ensures;
+      count = c.loop-page.invariant.count ∙ c.min-count.ensures;
+      room = c.loop-page.invariant.room;
       each = λ tags k b at.
-          subst (λ x. IsBucket c.args.pages.now x (suc (c.args.from + k)) b) end (c.loop-page.invariant.1 tags k b at);
+          subst (λ x. IsBucket c.args.pages.now x (suc (c.args.from + k)) b (HasIndex g.seen k)) end
+          (c.loop-page.invariant.each tags k b at);
     }

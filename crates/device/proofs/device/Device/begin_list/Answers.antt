@@ -17,7 +17,7 @@ returns-clause-begun c =
     ] in
     subst
     (λ (slots : ℕ). HasClaimedFor c.reserve.new.self t claims c.args.tag slots asks c.if-reserve.result)
-    c.list_slots.ensures
+    (c.list_slots.ensures t.numbers (c.command_blocks-most.ensures.is t h.0))
     (slots_claimed c.reserve.new.self t claims c.args.tag c.list_slots.result asks c.if-reserve.result c.reserve.result
     (c.reserve.ensures.described_found t layer.0) phase
     (λ none. (c.reserve.ensures.described t layer.0, c.reserve.ensures.claims claims layer.1 none)))

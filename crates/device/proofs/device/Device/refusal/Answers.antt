@@ -8,20 +8,20 @@ pub returns-then-is_too_long-clause-what : goal.returns-then-is_too_long-clause-
 returns-then-is_too_long-clause-what c =
     λ s r h bare spec flags expected region.
     told_early s r c.args.unit c.args.cdb.now spec true _ _ _ refl
-    (sym (c.is_too_long.ensures.what (numbers_of s)) ∙ c.if-is_too_long.true) refl refl refl
+    (sym (c.is_too_long.ensures.what (numbers_of s) (c.command_blocks.ensures.is s.translation h)) ∙ c.if-is_too_long.true) refl refl refl
 
 pub returns-then-has_wrong_list-clause-what : goal.returns-then-has_wrong_list-clause-what
 returns-then-has_wrong_list-clause-what c =
     λ s r h bare spec flags expected region.
     told_early s r c.args.unit c.args.cdb.now spec false true _ _ refl
-    (sym (c.is_too_long.ensures.what (numbers_of s)) ∙ c.if-is_too_long.false)
+    (sym (c.is_too_long.ensures.what (numbers_of s) (c.command_blocks.ensures.is s.translation h)) ∙ c.if-is_too_long.false)
     (sym c.has_wrong_list.ensures ∙ c.if-has_wrong_list.true) refl refl
 
 pub returns-then-lacks_data-clause-what : goal.returns-then-lacks_data-clause-what
 returns-then-lacks_data-clause-what c =
     λ s r h bare spec flags expected region.
     told_early s r c.args.unit c.args.cdb.now spec false false true _ refl
-    (sym (c.is_too_long.ensures.what (numbers_of s)) ∙ c.if-is_too_long.false)
+    (sym (c.is_too_long.ensures.what (numbers_of s) (c.command_blocks.ensures.is s.translation h)) ∙ c.if-is_too_long.false)
     (sym c.has_wrong_list.ensures ∙ c.if-has_wrong_list.false)
     (data_lacking s r c.args.cdb.now c.numbers.result.now c.listed_by.result true
     (c.numbers.ensures.described s.translation (same_layer _ _ s.translation c.self.view_is h)) c.listed_by.ensures
@@ -31,7 +31,7 @@ pub returns-then-is_out_of_range-clause-what : goal.returns-then-is_out_of_range
 returns-then-is_out_of_range-clause-what c =
     λ s r h bare spec flags expected region.
     told_early s r c.args.unit c.args.cdb.now spec false false false true refl
-    (sym (c.is_too_long.ensures.what (numbers_of s)) ∙ c.if-is_too_long.false)
+    (sym (c.is_too_long.ensures.what (numbers_of s) (c.command_blocks.ensures.is s.translation h)) ∙ c.if-is_too_long.false)
     (sym c.has_wrong_list.ensures ∙ c.if-has_wrong_list.false)
     (data_lacking s r c.args.cdb.now c.numbers.result.now c.listed_by.result false
     (c.numbers.ensures.described s.translation (same_layer _ _ s.translation c.self.view_is h)) c.listed_by.ensures
@@ -42,7 +42,7 @@ pub returns-clause-what : goal.returns-clause-what
 returns-clause-what c =
     λ s r h bare spec flags expected region.
     told_by s r c.args.unit c.args.cdb.now spec false false false false c.refusal_now.result
-    (sym (c.is_too_long.ensures.what (numbers_of s)) ∙ c.if-is_too_long.false)
+    (sym (c.is_too_long.ensures.what (numbers_of s) (c.command_blocks.ensures.is s.translation h)) ∙ c.if-is_too_long.false)
     (sym c.has_wrong_list.ensures ∙ c.if-has_wrong_list.false)
     (data_lacking s r c.args.cdb.now c.numbers.result.now c.listed_by.result false
     (c.numbers.ensures.described s.translation (same_layer _ _ s.translation c.self.view_is h)) c.listed_by.ensures
