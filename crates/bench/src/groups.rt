@@ -1,5 +1,5 @@
 //! Times commands of 32 blocks, UNMAP too, and 32 tasks at once: on a small device and on a large one, with few slots
-//! and with many.
+//! and with many. With many slots it times commands of 128 blocks too.
 use crate::clock::{each, percent, since, time_hash};
 use anyhow::{Result, ensure};
 use geometry::Config;
@@ -10,12 +10,20 @@ use ufs_spec::UnitSpec;
 use workbench::messages::{FUA, READ, SYNCHRONIZE, WRITE, block_out, command, unmap, unmap_list};
 use workbench::{Workbench, new_dies};
 
-/// How many blocks a command has, how many commands make a row, and how many blocks that are.
-const BLOCKS: u16 = 32;
+/// How many blocks a command has that any device takes, and one for which a device needs many slots.
+const SHORT: u16 = 32;
 
-const COMMANDS: u32 = 64;
+const LONG: u16 = 128;
+
+/// How many commands of each kind make a row, and how many blocks that are.
+const SHORT_COMMANDS: u32 = 64;
+
+const LONG_COMMANDS: u32 = 16;
 
 const COUNT: u32 = 2048;
+
+/// A device with so many slots takes commands of 128 blocks.
+const MANY_SLOTS: u16 = 256;
 
 /// The sizes of a device: its dies, their blocks and pages, and its slots.
 #[derive(Clone, Copy)]
@@ -106,19 +114,31 @@ fn send_blocks(bench: &mut Workbench, out: &mut [u8; 4128], blocks: u16) -> bool
     true
 }
 
-/// So many WRITE(10) of 32 blocks, one after another, each of which is answered after work of so many dies.
-fn write_all(
-    bench: &mut Workbench,
-    second: u8,
-    commands: u32,
+/// Commands of equal length, one after another, each of which begins behind the one before it.
+#[derive(Clone, Copy)]
+struct Commands {
+    /// How many there are, and how many blocks each has.
+    count: u32,
+    blocks: u16,
+    /// How many dies work for their answers.
     dies: u8,
-    out: &mut [u8; 4128],
-) -> bool {
-    for index in 0..commands {
-        let message = command(0, WRITE, second, index.saturating_mul(32), BLOCKS);
+}
+
+impl Commands {
+    /// The address of the command with this number.
+    fn address(&self, index: u32) -> u32 {
+        index.saturating_mul(u32::from(self.blocks))
+    }
+}
+
+/// These WRITE(10).
+fn write_all(bench: &mut Workbench, second: u8, commands: Commands, out: &mut [u8; 4128]) -> bool {
+    for index in 0..commands.count {
+        let address = commands.address(index);
+        let message = command(0, WRITE, second, address, commands.blocks);
         if bench.send(&message).is_err()
-            || !send_blocks(bench, out, BLOCKS)
-            || !is_good(bench, dies)
+            || !send_blocks(bench, out, commands.blocks)
+            || !is_good(bench, commands.dies)
         {
             return false;
         }
@@ -126,12 +146,12 @@ fn write_all(
     true
 }
 
-/// READ(10) of 32 blocks.
-fn read(bench: &mut Workbench, dies: u8, address: u32) -> bool {
-    if bench.send(&command(0, READ, 0, address, BLOCKS)).is_err() {
+/// READ(10) of so many blocks.
+fn read(bench: &mut Workbench, dies: u8, address: u32, blocks: u16) -> bool {
+    if bench.send(&command(0, READ, 0, address, blocks)).is_err() {
         return false;
     }
-    for _ in 0..BLOCKS {
+    for _ in 0..blocks {
         if !hear_working(bench, dies) || bench.reply.len() != 4128 {
             return false;
         }
@@ -139,10 +159,11 @@ fn read(bench: &mut Workbench, dies: u8, address: u32) -> bool {
     is_good(bench, dies)
 }
 
-/// So many of them, one after another.
-fn read_all(bench: &mut Workbench, commands: u32, dies: u8) -> bool {
-    for index in 0..commands {
-        if !read(bench, dies, index.saturating_mul(32)) {
+/// These READ(10).
+fn read_all(bench: &mut Workbench, commands: Commands) -> bool {
+    for index in 0..commands.count {
+        let address = commands.address(index);
+        if !read(bench, commands.dies, address, commands.blocks) {
             return false;
         }
     }
@@ -154,18 +175,19 @@ fn flush(bench: &mut Workbench, dies: u8) -> bool {
     bench.send(&command(0, SYNCHRONIZE, 0, 0, 0)).is_ok() && is_good(bench, dies)
 }
 
-/// UNMAP of 32 blocks, which is answered once it is accepted.
-fn unmap_blocks(bench: &mut Workbench, address: u32) -> bool {
+/// UNMAP of so many blocks, which is answered once it is accepted.
+fn unmap_blocks(bench: &mut Workbench, address: u32, blocks: u16) -> bool {
     bench.send(&unmap(0)).is_ok()
         && bench.hear()
-        && bench.send(&unmap_list(0, address, BLOCKS)).is_ok()
+        && bench.send(&unmap_list(0, address, blocks)).is_ok()
         && is_good(bench, 0)
 }
 
-/// So many of them, one after another, each of which is made durable by a flush.
-fn unmap_all(bench: &mut Workbench, commands: u32, dies: u8) -> bool {
-    for index in 0..commands {
-        if !unmap_blocks(bench, index.saturating_mul(32)) || !flush(bench, dies) {
+/// These UNMAPs, each of which is made durable by a flush.
+fn unmap_all(bench: &mut Workbench, commands: Commands) -> bool {
+    for index in 0..commands.count {
+        let address = commands.address(index);
+        if !unmap_blocks(bench, address, commands.blocks) || !flush(bench, commands.dies) {
             return false;
         }
     }
@@ -208,6 +230,10 @@ enum Row {
     Flush,
     /// 32 writes with FUA at once.
     AtOnce,
+    /// The same as the first three, of 128 blocks each.
+    LongDurable,
+    LongRead,
+    LongUnmap,
 }
 
 /// How many commands fill half the slots.
@@ -215,26 +241,46 @@ fn half(shape: Shape) -> u32 {
     u32::from(shape.slots / 64)
 }
 
+/// So many commands of 32 blocks, and those of 128 blocks that make a row.
+fn short(count: u32, dies: u8) -> Commands {
+    Commands {
+        count,
+        blocks: SHORT,
+        dies,
+    }
+}
+
+fn long(dies: u8) -> Commands {
+    Commands {
+        count: LONG_COMMANDS,
+        blocks: LONG,
+        dies,
+    }
+}
+
 /// The commands of a row: whether each was answered.
 fn play(bench: &mut Workbench, shape: Shape, row: Row, out: &mut [u8; 4128]) -> bool {
     let dies = shape.dies;
     match row {
-        Row::Durable => write_all(bench, FUA, COMMANDS, dies, out),
-        Row::Read => read_all(bench, COMMANDS, dies),
-        Row::Unmap => unmap_all(bench, COMMANDS, dies),
-        Row::Fill => write_all(bench, 0, half(shape), 0, out),
-        Row::Pending => read_all(bench, half(shape), 0),
+        Row::Durable => write_all(bench, FUA, short(SHORT_COMMANDS, dies), out),
+        Row::Read => read_all(bench, short(SHORT_COMMANDS, dies)),
+        Row::Unmap => unmap_all(bench, short(SHORT_COMMANDS, dies)),
+        Row::Fill => write_all(bench, 0, short(half(shape), 0), out),
+        Row::Pending => read_all(bench, short(half(shape), 0)),
         Row::Flush => flush(bench, dies),
         Row::AtOnce => write_at_once(bench, dies, out),
+        Row::LongDurable => write_all(bench, FUA, long(dies), out),
+        Row::LongRead => read_all(bench, long(dies)),
+        Row::LongUnmap => unmap_all(bench, long(dies)),
     }
 }
 
 /// How many blocks a row writes or reads.
 fn count_of(shape: Shape, row: Row) -> u32 {
     match row {
-        Row::Durable | Row::Read | Row::Unmap => COUNT,
+        Row::Fill | Row::Pending | Row::Flush => u32::from(shape.slots / 64) * 32,
         Row::AtOnce => 32,
-        _ => u32::from(shape.slots / 64) * 32,
+        _ => COUNT,
     }
 }
 
@@ -263,15 +309,42 @@ struct Times {
     at_once: u64,
 }
 
-/// All rows of a device of these sizes, one after another.
+/// The same of the rows of 128 blocks.
+#[derive(Clone, Copy)]
+struct LongTimes {
+    durable: u64,
+    read: u64,
+    unmapped: u64,
+}
+
+/// What a row takes for a block, in hundredths of a hash that is timed right after it.
+fn percent_of_row<R: Clock>(
+    rt: &R,
+    bench: &mut Workbench,
+    shape: Shape,
+    row: Row,
+    out: &mut [u8; 4128],
+) -> Result<u64> {
+    let time = time_row(rt, bench, shape, row, out)?;
+    Ok(percent(time, time_hash(rt, COUNT)?))
+}
+
+/// The rows of 128 blocks, one after another.
+fn measure_long<R: Clock>(rt: &R, bench: &mut Workbench, shape: Shape) -> Result<LongTimes> {
+    let mut out = block_out(0, 0, 0x5A);
+    Ok(LongTimes {
+        durable: percent_of_row(rt, bench, shape, Row::LongDurable, &mut out)?,
+        read: percent_of_row(rt, bench, shape, Row::LongRead, &mut out)?,
+        unmapped: percent_of_row(rt, bench, shape, Row::LongUnmap, &mut out)?,
+    })
+}
+
+/// The other rows of a device of these sizes, one after another.
 fn measure<R: Clock>(rt: &R, bench: &mut Workbench, shape: Shape) -> Result<Times> {
     let mut out = block_out(0, 0, 0x5A);
-    let durable = time_row(rt, bench, shape, Row::Durable, &mut out)?;
-    let durable = percent(durable, time_hash(rt, COUNT)?);
-    let read = time_row(rt, bench, shape, Row::Read, &mut out)?;
-    let read = percent(read, time_hash(rt, COUNT)?);
-    let unmapped = time_row(rt, bench, shape, Row::Unmap, &mut out)?;
-    let unmapped = percent(unmapped, time_hash(rt, COUNT)?);
+    let durable = percent_of_row(rt, bench, shape, Row::Durable, &mut out)?;
+    let read = percent_of_row(rt, bench, shape, Row::Read, &mut out)?;
+    let unmapped = percent_of_row(rt, bench, shape, Row::Unmap, &mut out)?;
     let filled = time_row(rt, bench, shape, Row::Fill, &mut out)?;
     let pending = time_row(rt, bench, shape, Row::Pending, &mut out)?;
     let flushed = time_row(rt, bench, shape, Row::Flush, &mut out)?;
@@ -314,12 +387,29 @@ fn tell<R: Eprint>(rt: &R, shape: Shape, times: Times) -> Result<()> {
     Ok(())
 }
 
+/// Prints the rows of 128 blocks.
+fn tell_long<R: Eprint>(rt: &R, times: LongTimes) -> Result<()> {
+    let durable = times.durable;
+    let read = times.read;
+    let unmapped = times.unmapped;
+    eprintln!(rt;
+        "  writes of 128 blocks with FUA {durable}, reads of 128 blocks from dies {read}"
+    )?;
+    eprintln!(rt; "  UNMAPs of 128 blocks, each with a flush after it {unmapped}")?;
+    Ok(())
+}
+
 /// The rows of a device of these sizes.
 fn time_shape<R: Clock + Eprint>(rt: &R, alloc: Global, shape: Shape) -> Result<()> {
     let mut bench = open(alloc, shape)?;
     bench.settle(4, shape.dies);
     let times = measure(rt, &mut bench, shape)?;
-    tell(rt, shape, times)
+    tell(rt, shape, times)?;
+    if shape.slots < MANY_SLOTS {
+        return Ok(());
+    }
+    let times = measure_long(rt, &mut bench, shape)?;
+    tell_long(rt, times)
 }
 
 /// Times each of the devices.
