@@ -7,7 +7,7 @@ _ufsim() {
     elif [ "${COMP_WORDS[1]}" = stress ]; then
         COMPREPLY=($(compgen -W '--dies --hosts' -- "$current"))
     elif [ "${COMP_WORDS[1]}" = image ] && [ "$COMP_CWORD" -eq 2 ]; then
-        COMPREPLY=($(compgen -W 'save load' -- "$current"))
+        COMPREPLY=($(compgen -W 'save load check' -- "$current"))
     elif [ "$COMP_CWORD" -eq 2 ] || { [ "${COMP_WORDS[1]}" = image ] && [ "$COMP_CWORD" -le 4 ]; }; then
         compopt -o filenames 2>/dev/null
         COMPREPLY=($(compgen -f -- "$current"))

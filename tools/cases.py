@@ -12,10 +12,11 @@ file), and to end with the status in NAME.status (0, if there is no such file). 
 script are named after its whole name, as NAME.txt.stdout.
 
 The program is built once, without a proof. With --proved both programs are run that `rt ci` has
-proved and built here: LLVM's, and that of Rattle's own compiler. Those of ufsim are also run where
-standard output cannot be written, on a full disk and on a pipe that nobody reads, and have to say
-so; and once where standard error is a terminal, on which a check has to show how far it is. With
---write the stored files are written anew: read them then.
+proved and built here: LLVM's, and that of Rattle's own compiler. Only these run the cases that check
+a script over an image, since an unproved program, with its checks, takes seconds for each stop. Those
+of ufsim are also run where standard output cannot be written, on a full disk and on a pipe that
+nobody reads, and have to say so; and where standard error is a terminal, on which a check has to show
+how far it is. With --write the stored files are written anew: read them then.
 
 The last line is 'N passed, M failed'. The status is 0 if no case failed and there is one.
 """
@@ -55,10 +56,11 @@ HOW = {"stdin": subprocess.DEVNULL, "capture_output": True, "encoding": "utf-8",
 # What is run where standard output cannot be written, and what the program then says, with its status.
 UNWRITTEN = tuple((it, str(ROOT / "tools" / "refused_memory" / f"{it}.txt")) for it in ("run", "check"))
 SAID = ("ufsim: output\n", 1)
-# What is checked where standard error is a terminal, what it prints, and what the terminal gets last.
-SHOWN = ("check", str(EXAMPLES / "stop_in_write.txt"))
-COUNTED = "check stops 72 bad 0\n"
-LAST_SHOWN = re.compile(r"\rcheck line \d+ of \d+ stops 72 bad 0\r\x1b\[K$")
+# What is checked where standard error is a terminal, with how many stops, what it prints, and what the terminal
+# gets last.
+SHOWN = {("check", "stop_in_write.txt"): 72, ("image", "check", "row.img", "row_check.txt"): 42}
+COUNTED = "check stops {} bad 0\n"
+LAST_SHOWN = r"\rcheck line \d+ of \d+ stops {} bad 0\r\x1b\[K$"
 
 
 class Output(NamedTuple):
@@ -93,6 +95,10 @@ class Case(NamedTuple):
                 self.file(suffix).write_text(text, encoding="utf-8")
             else:
                 self.file(suffix).unlink(missing_ok=True)
+
+    def is_long(self):
+        """Whether it checks a script over an image, which takes an unproved program minutes."""
+        return self.stem.parent == OLD_DIES and "check" in self.words
 
     def files(self):
         """The files that words of the case name, some of them packed."""
@@ -166,13 +172,20 @@ def endings_of(told):
     return found
 
 
+@contextlib.contextmanager
+def folder_for(case):
+    """A folder with the files that the case names."""
+    with tempfile.TemporaryDirectory(prefix="cases.") as folder:
+        for word, file in case.files().items():
+            lay(file, pathlib.Path(folder, word))
+        yield folder
+
+
 def ran(built, cases):
-    """What a built program printed in each case, in a folder with the files that the case names."""
+    """What a built program printed in each case."""
     found = {}
     for case in cases:
-        with tempfile.TemporaryDirectory(prefix="cases.") as folder:
-            for word, file in case.files().items():
-                lay(file, pathlib.Path(folder, word))
+        with folder_for(case) as folder:
             try:
                 done = subprocess.run([built, *case.words], cwd=folder, env={}, timeout=SECONDS, **HOW)
                 found[case.name] = Output(done.stdout, done.stderr, done.returncode)
@@ -256,23 +269,29 @@ def written_to(terminal):
     return b"".join(parts).decode(errors="replace")
 
 
-def shown_on_a_terminal(built):
+def shown_on_a_terminal(built, words):
     """What the program's check printed, and what it showed on the terminal that its standard error is."""
     ours, theirs = os.openpty()
     how = {"stdin": subprocess.DEVNULL, "stdout": subprocess.PIPE, "stderr": theirs, "encoding": "utf-8", "env": {}}
-    with subprocess.Popen([built, *SHOWN], **how) as ran:
-        os.close(theirs)
-        shown = written_to(ours)
-        return ran.stdout.read(), shown
+    with folder_for(Case("shown", words, OLD_DIES / "shown")) as folder:
+        with subprocess.Popen([built, *words], cwd=folder, **how) as running:
+            os.close(theirs)
+            shown = written_to(ours)
+            return running.stdout.read(), shown
 
 
-def tells_how_far(built):
-    """Whether a check shows on a terminal how far it is, and takes the line away."""
-    said, shown = shown_on_a_terminal(built)
-    is_right = said == COUNTED and LAST_SHOWN.search(shown) is not None
+def tells_how_far(built, words, stops):
+    """Whether a check of so many stops shows on a terminal how far it is, and takes the line away."""
+    said, shown = shown_on_a_terminal(built, words)
+    is_right = said == COUNTED.format(stops) and re.search(LAST_SHOWN.format(stops), shown) is not None
     if not is_right:
-        print(f"{built}: it printed {said!r}, and showed {shown[-200:]!r} on a terminal")
+        print(f"{built} {' '.join(words)}: it printed {said!r}, and showed {shown[-200:]!r} on a terminal")
     return is_right
+
+
+def tells_of_each(built):
+    """How many checks show on a terminal how far they are."""
+    return sum(tells_how_far(built, words, stops) for words, stops in SHOWN.items())
 
 
 def proved(program, cases):
@@ -285,8 +304,8 @@ def proved(program, cases):
     passed = sum(judged(cases, ran(str(place), cases)) for place in there)
     if program != "ufsim":
         return passed, len(places) * len(cases)
-    passed += sum(told_of_output(str(place)) + tells_how_far(str(place)) for place in there)
-    return passed, len(places) * (len(cases) + len(UNWRITABLE) * len(UNWRITTEN) + 1)
+    passed += sum(told_of_output(str(place)) + tells_of_each(str(place)) for place in there)
+    return passed, len(places) * (len(cases) + len(UNWRITABLE) * len(UNWRITTEN) + len(SHOWN))
 
 
 def main():
@@ -300,6 +319,7 @@ def main():
     if asked.proved:
         passed, count = proved(asked.program, cases)
     else:
+        cases = [case for case in cases if not case.is_long()]
         found, said = tried(asked.program, cases)
         for case in cases if asked.write else ():
             if case.name in found:

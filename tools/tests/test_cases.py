@@ -75,7 +75,8 @@ class Cases(unittest.TestCase):
                                (SHOWS.replace("[K", ""), False), (SHOWS.replace('echo "', 'echo "so '), False)):
             self.write("program", text)
             with contextlib.redirect_stdout(io.StringIO()) as printed:
-                self.assertEqual(is_right, cases.tells_how_far(str(self.folder / "program")), printed.getvalue())
+                is_told = cases.tells_how_far(str(self.folder / "program"), ("check", "stop_in_write.txt"), 72)
+            self.assertEqual(is_right, is_told, printed.getvalue())
             self.assertEqual(is_right, printed.getvalue() == "")
 
 

@@ -6,7 +6,7 @@ use Rattle.clap.specs.Words.{with_subcommand}
 use Rattle.clap.specs.declared.builder.action.ArgAction.TheVariants.{Set}
 use Rattle.clap.specs.declared.builder.value_parser.ValueParser.TheVariants.{Signed}
 use Rattle.command_line.specs.declared.asked.Call.{Call}
-use Rattle.command_line.specs.declared.asked.Call.TheVariants.{Check, Load, Run, Save, Stress}
+use Rattle.command_line.specs.declared.asked.Call.TheVariants.{Check, CheckImage, Load, Run, Save, Stress}
 
 -- the one argument of a command, the name of a script's file
 abbrev pub script : Rule
@@ -76,6 +76,9 @@ IsImageAsked rows (Save file script) =
 IsImageAsked rows (Load file script) =
     (first_of (codes "action") rows ≡ Some (codes "load")) × (first_of (codes "image") rows ≡ Some file.now)
     × IsScriptIn rows script.now
+IsImageAsked rows (CheckImage file script) =
+    (first_of (codes "action") rows ≡ Some (codes "check")) × (first_of (codes "image") rows ≡ Some file.now)
+    × IsScriptIn rows script.now
 IsImageAsked rows _ = ⊥
 
 -- the command that is asked for, with its script or its numbers
@@ -84,6 +87,7 @@ IsCommand name rows (Run file) = (name ≡ codes "run") × IsScriptIn rows file.
 IsCommand name rows (Check file) = (name ≡ codes "check") × IsScriptIn rows file.now
 IsCommand name rows (Save file script) = (name ≡ codes "image") × IsImageAsked rows (Save file script)
 IsCommand name rows (Load file script) = (name ≡ codes "image") × IsImageAsked rows (Load file script)
+IsCommand name rows (CheckImage file script) = (name ≡ codes "image") × IsImageAsked rows (CheckImage file script)
 IsCommand name rows (Stress dies hosts) =
     (name ≡ codes "stress") × IsNumberIn (codes "dies") rows dies × IsNumberIn (codes "hosts") rows hosts
 

@@ -12,6 +12,9 @@ pub enum Call<'a> {
     Save { image: &'a str, script: &'a str },
     /// Run the script in the second file over the dies of the image in the first one.
     Load { image: &'a str, script: &'a str },
+    /// Try stops at each program and erase of the script in the second file, over the dies of the
+    /// image in the first one.
+    CheckImage { image: &'a str, script: &'a str },
     /// Have so many hosts at work on one device with so many dies, each in a thread of its own.
     Stress { dies: u8, hosts: u8 },
 }

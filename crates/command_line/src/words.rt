@@ -12,9 +12,9 @@ use std::alloc::{AllocError, Global};
 use std::convert::AsStr;
 
 /// What the words ask for, the program's own name first: `ufsim run SCRIPT`, `ufsim check SCRIPT`,
-/// `ufsim image save IMAGE SCRIPT`, `ufsim image load IMAGE SCRIPT` or
-/// `ufsim stress --dies D --hosts H`, with D and H from 1 to 8. It is `Usage` for any other words and
-/// for a call for help, and `Memory` where memory is refused.
+/// `ufsim image save IMAGE SCRIPT`, `ufsim image load IMAGE SCRIPT`,
+/// `ufsim image check IMAGE SCRIPT` or `ufsim stress --dies D --hosts H`, with D and H from 1 to 8.
+/// It is `Usage` for any other words and for a call for help, and `Memory` where memory is refused.
 pub fn call<'a, S: AsStr>(alloc: Global, words: &'a [S]) -> Result<Call<'a>, CallFault>
     ensures { IfOk result (λ asked. IsAskedBy (map S.text words.entry.now) asked) }
 {
@@ -142,6 +142,7 @@ fn image_asked<'a>(matches: &ArgMatches<'a>) -> Result<Call<'a>, CallFault>
     match action {
         "save" => Ok(Call::Save { image, script }),
         "load" => Ok(Call::Load { image, script }),
+        "check" => Ok(Call::CheckImage { image, script }),
         _ => Err(CallFault::Usage),
     }
 }

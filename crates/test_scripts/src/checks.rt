@@ -7,7 +7,7 @@ use crate::steps::{Script, Step};
 use ufsim::Stops;
 
 /// Two dies, units of 4 and of 2 blocks.
-const SMALL: &str = "config 2 20 16 1 64 0\nunit 4 0 0\nunit 2 1 0\n";
+pub const SMALL: &str = "config 2 20 16 1 64 0\nunit 4 0 0\nunit 2 1 0\n";
 
 /// Two writes without FUA, which are answered at once, each in flight on a die of its own; the
 /// second is done first.
@@ -62,7 +62,7 @@ fn a_second_stop_in_each_mending_is_good(rt: HostRuntime) {
 
 /// The RPMB key is programmed, and a write of eight blocks covers two pages of the area in part.
 /// Two of its three pages are in flight at once.
-const TWO_PAGES_IN_FLIGHT: [Step<'static>; 10] = [
+pub const TWO_PAGES_IN_FLIGHT: [Step<'static>; 10] = [
     Settle("4"),
     Frames("01", &[KEY_REQUEST]),
     Settle("1"),
@@ -76,7 +76,7 @@ const TWO_PAGES_IN_FLIGHT: [Step<'static>; 10] = [
 ];
 
 /// A stop in the mending of which nothing is written, and a write of one of the eight blocks.
-const WRITTEN_AFTER_A_STOP: [Step<'static>; 5] = [
+pub const WRITTEN_AFTER_A_STOP: [Step<'static>; 5] = [
     Lines("stop", "stop ok"),
     Settle("8"),
     Frames("02", &[AT_13]),

@@ -134,6 +134,8 @@ fn an_image_that_cannot_be_read_is_told(rt: HostRuntime) {
         let bytes = first(&rt, whole.as_slice(), length);
         let mut image = Cut { bytes, kind };
         Outcome::of_load(rt.alloc(), SMALL, &mut image).expect(&rt, b"", fault);
+        let mut image = Cut { bytes, kind };
+        Outcome::of_image_check(rt.alloc(), SMALL, &mut image).expect(&rt, b"", fault);
     }
 }
 
@@ -151,4 +153,10 @@ fn a_fault_of_a_line_comes_first(rt: HostRuntime) {
     Outcome::of_load(rt.alloc(), config, &mut cut).expect(&rt, b"", b"ufsim: line 2: config\n");
     let word = b"config 1 32 16 1 64 0\nturn\n";
     Outcome::of_load(rt.alloc(), word, &mut cut).expect(&rt, b"", b"ufsim: line 2: word\n");
+    Outcome::of_image_check(rt.alloc(), config, &mut cut).expect(
+        &rt,
+        b"",
+        b"ufsim: line 2: config\n",
+    );
+    Outcome::of_image_check(rt.alloc(), word, &mut cut).expect(&rt, b"", b"ufsim: line 2: word\n");
 }

@@ -138,6 +138,16 @@ fn image_takes_an_action_and_two_files(rt: HostRuntime) {
             })
         )
     );
+    let check = ["ufsim", "image", "check", "a", "b"];
+    assert!(rt;
+        matches!(
+            call(alloc, &check),
+            Ok(Call::CheckImage {
+                image: "a",
+                script: "b"
+            })
+        )
+    );
     let wrong = [
         ["ufsim", "image"].as_slice(),
         &["ufsim", "image", "save", "a"],

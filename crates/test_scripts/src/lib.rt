@@ -15,6 +15,8 @@ mod gap;
 #[cfg(test)]
 mod groups;
 #[cfg(test)]
+mod image_checks;
+#[cfg(test)]
 mod image_faults;
 #[cfg(test)]
 mod images;

@@ -2,7 +2,10 @@
 use std::alloc::Global;
 use std::io::{Read, Write};
 use std::process::Abort;
-use ufsim::{Stops, check_each_text, check_text, load_text, run_text, save_text};
+use ufsim::{
+    Stops, check_each_text, check_image_shown, check_image_text, check_text, load_text, run_text,
+    save_text,
+};
 
 /// A text that is made piece by piece. If memory was refused for a piece, the text lacks it, and `bytes` ends the
 /// test.
@@ -104,10 +107,38 @@ impl Outcome {
         found
     }
 
+    /// That of a check of this script over the image `a.img`.
+    pub fn of_image_check<R: Read>(alloc: Global, script: &[u8], image: &mut R) -> Outcome {
+        let mut found = Outcome::new(alloc);
+        let (out, faults) = (&mut found.out, &mut found.faults);
+        found.status = check_image_text(alloc, script, "a.img", image, out, faults);
+        found
+    }
+
+    /// The same, with what it shows of how far it is.
+    pub fn of_shown_check<R: Read>(
+        alloc: Global,
+        script: &[u8],
+        image: &mut R,
+        progress: &mut Vec<u8>,
+    ) -> Outcome {
+        let mut found = Outcome::new(alloc);
+        let (out, faults) = (&mut found.out, &mut found.faults);
+        found.status = check_image_shown(alloc, script, "a.img", image, out, progress, faults);
+        found
+    }
+
     /// It is this output and this fault line. The status is 0 if there is no fault, and else 1.
     pub fn expect(&self, rt: &impl Abort, output: &[u8], fault: &[u8]) {
         assert_eq!(rt; self.faults.as_slice(), fault);
         assert_eq!(rt; self.out.as_slice(), output);
         assert_eq!(rt; self.status, if fault.is_empty() { 0 } else { 1 });
+    }
+
+    /// It is this output of a check that found a bad stop: without a fault line, and with status 1.
+    pub fn expect_bad(&self, rt: &impl Abort, output: &[u8]) {
+        assert_eq!(rt; self.faults.as_slice(), b"".as_slice());
+        assert_eq!(rt; self.out.as_slice(), output);
+        assert_eq!(rt; self.status, 1);
     }
 }

@@ -409,6 +409,18 @@ impl Script {
         Outcome::of_check(self.alloc, self.script.bytes(rt)).expect(rt, said, b"");
     }
 
+    /// A check of the script over the dies of this image says this, and shows that.
+    pub fn check_over(&self, rt: &impl Abort, image: &[u8], said: &[u8], shown: &[u8]) {
+        let script = self.script.bytes(rt);
+        let mut rest = image;
+        Outcome::of_image_check(self.alloc, script, &mut rest).expect(rt, said, b"");
+        let mut rest = image;
+        let mut progress = Vec::new(self.alloc);
+        let checked = Outcome::of_shown_check(self.alloc, script, &mut rest, &mut progress);
+        checked.expect(rt, said, b"");
+        assert_eq!(rt; progress.as_slice(), shown);
+    }
+
     /// A check of the script with these stops says this.
     pub fn check_each(&self, rt: &impl Abort, tries: Stops, said: &[u8]) {
         Outcome::of_check_each(self.alloc, self.script.bytes(rt), tries).expect(rt, said, b"");

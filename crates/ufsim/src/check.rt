@@ -6,6 +6,7 @@ ghost use Rattle.std.specs.Prelude.{◌≡◌, IfOk, IfSome};
 ghost use Rattle.ufs_spec.specs.Plain.{shape_of, shape_of_numbers};
 
 use crate::fault::Word;
+use crate::keys::key_on;
 use crate::reading::{Holdings, Visit, read_dies};
 use crate::stopped::{
     CONTENTS, bad_blocks, copied_dies, is_at_work, is_write, pair_stopped, stopped_dies,
@@ -51,7 +52,8 @@ impl Stops {
 pub(crate) struct Check {
     config: Config,
     tries: Stops,
-    /// What the life began with; `None` where it began over new dies.
+    /// What the life began with; `None` where it began over new dies, or over dies of an image that
+    /// were not told rightly.
     base: Option<Holdings>,
     journal: Journal,
     /// How often a program or an erase was given to a die.
@@ -78,6 +80,19 @@ impl Check {
         }
     }
 
+    /// Nothing was tried yet, over these dies, which an earlier life left.
+    pub fn over(
+        alloc: Global,
+        config: Config,
+        tries: Stops,
+        dies: &[MemDie],
+    ) -> Result<Check, Word> {
+        let key = key_on(alloc, &config, dies)?;
+        let mut check = Check::new(alloc, config, tries);
+        check.begin_over(alloc, dies, key)?;
+        Ok(check)
+    }
+
     /// An event of the script showed this. After a program or an erase was given to a die the stops
     /// are tried.
     pub fn note(
@@ -98,7 +113,7 @@ impl Check {
                 self.end(world, event);
                 Ok(())
             }
-            Output::Stopped => self.begin_life(alloc, world),
+            Output::Stopped => self.begin_over(alloc, world.dies(), self.key()),
             _ => Ok(()),
         }
     }
@@ -126,10 +141,16 @@ impl Check {
         }
     }
 
-    // The script's own stop: the base of the next life is what the dies then read as.
-    fn begin_life(&mut self, alloc: Global, world: &World) -> Result<(), Word> {
-        let dies = copied_dies(alloc, world.dies())?;
-        match read_dies(alloc, &self.config, dies, self.key())? {
+    // A life begins over dies of an earlier one. Its base is what they read as under the key that
+    // the earlier one left; if they are not told rightly, that counts as one bad stop.
+    fn begin_over(
+        &mut self,
+        alloc: Global,
+        dies: &[MemDie],
+        key: Option<[u8; 32]>,
+    ) -> Result<(), Word> {
+        let copies = copied_dies(alloc, dies)?;
+        match read_dies(alloc, &self.config, copies, key)? {
             Some(found) => {
                 let numbers = self.config.numbers();
                 let region = region_of(numbers, found.region.key, found.region.counter());
@@ -138,7 +159,7 @@ impl Check {
             }
             None => self.bad = self.bad.saturating_add(1),
         }
-        self.lock(world.dies());
+        self.lock(dies);
         Ok(())
     }
 

@@ -4,13 +4,11 @@ ghost use Rattle.std.specs.Prelude.{◌≡◌, ◌≤◌};
 use crate::check::{Check, Stops};
 use crate::commands::{Command, Content, Left};
 use crate::fault::{ScriptFault, Word, word_of};
-use crate::first_lines::{FirstLines, open_on};
+use crate::first_lines::FirstLines;
 use crate::leftovers::leftover;
 use crate::lines::Lines;
 use crate::outputs::show;
 use device::World;
-use geometry::Config;
-use nand_model::MemDie;
 use std::alloc::Global;
 use std::io;
 use std::io::Write;
@@ -99,37 +97,22 @@ fn check_script<W: Write, P: Write>(
     out: &mut W,
     progress: &mut P,
 ) -> Result<bool, ScriptFault> {
-    let counted = count_stops(alloc, FirstLines::read(script)?, tries, progress);
-    // Who cannot be told how far it is misses nothing of the result.
-    let _ = progress.write_all(NO_LINE);
-    let (stops, bad) = counted?;
-    tell_stops(out, stops, bad)?;
-    Ok(bad == 0)
+    let first = FirstLines::read(script)?;
+    let mut runner = first.last.told(Runner::checking(alloc, &first, tries))?;
+    runner.check_each(first.rest, out, progress)
 }
 
-// How many stops were tried, and how many of them were bad.
-fn count_stops<P: Write>(
+/// As `check_shown`, over this device, which was opened over dies of an earlier life. It answers
+/// whether no stop was bad.
+pub(crate) fn check_on<W: Write, P: Write>(
     alloc: Global,
-    first: FirstLines<'_>,
-    tries: Stops,
+    first: &FirstLines<'_>,
+    world: World,
+    out: &mut W,
     progress: &mut P,
-) -> Result<(usize, usize), ScriptFault> {
-    let mut runner = first.last.told(Runner::checking(alloc, &first, tries))?;
-    let all = last_number(first.rest);
-    let mut shown = 0;
-    for line in first.rest {
-        line.told(runner.run(line.bytes))?;
-        let (stops, bad) = runner.stops();
-        if stops != shown {
-            let number = line.number;
-            let _ = write!(
-                progress,
-                "\rcheck line {number} of {all} stops {stops} bad {bad}"
-            );
-            shown = stops;
-        }
-    }
-    Ok(runner.stops())
+) -> Result<bool, ScriptFault> {
+    let mut runner = first.last.told(Runner::checking_on(alloc, first, world))?;
+    runner.check_each(first.rest, out, progress)
 }
 
 // The number of the last of these lines; 0 where there is none.
@@ -164,18 +147,14 @@ pub(crate) fn print_script<W: Write>(
     Ok(runner.world)
 }
 
-/// As `print_script`, over these dies, with the configuration that the lines give.
+/// As `print_script`, over this device.
 pub(crate) fn print_on<W: Write>(
     alloc: Global,
-    first: FirstLines<'_>,
-    config: Config,
-    dies: Vec<MemDie>,
+    first: &FirstLines<'_>,
+    world: World,
     out: &mut W,
-) -> Result<World, ScriptFault> {
-    let world = first.last.told(open_on(alloc, config, dies))?;
-    let mut runner = Runner::over(alloc, world, first.dies, None);
-    runner.print_each(first.rest, out)?;
-    Ok(runner.world)
+) -> Result<(), ScriptFault> {
+    Runner::over(alloc, world, first.dies, None).print_each(first.rest, out)
 }
 
 /// The device with its dies after the lines of a script up to the one with the number `last`. With
@@ -195,9 +174,9 @@ pub fn world_after(alloc: Global, script: &[u8], last: usize) -> Result<World, S
 // (ECMA-48, CR and EL).
 const NO_LINE: &[u8] = b"\r\x1b[K";
 
-// Takes all that is written to it, and keeps nothing.
+/// Takes all that is written to it, and keeps nothing.
 #[derive(Drop)]
-struct Silent;
+pub(crate) struct Silent;
 
 impl Write for Silent {
     fn write(&mut self, bytes: &[u8]) -> io::Result<usize> {
@@ -232,6 +211,13 @@ impl Runner {
         Ok(Runner::over(alloc, first.open(alloc)?, first.dies, Some(check)))
     }
 
+    // Over a device that was opened over dies of an earlier life, with one stop at each program and
+    // each erase.
+    fn checking_on(alloc: Global, first: &FirstLines, world: World) -> Result<Runner, Word> {
+        let check = Check::over(alloc, first.config()?, Stops::One, world.dies())?;
+        Ok(Runner::over(alloc, world, first.dies, Some(check)))
+    }
+
     // Over a device with so many dies.
     fn over(alloc: Global, world: World, dies: u8, check: Option<Check>) -> Runner {
         Runner {
@@ -250,6 +236,46 @@ impl Runner {
             out.write_all(self.shown.as_slice())?;
         }
         Ok(out.flush()?)
+    }
+
+    // Runs the lines, shows how far it is, and tells of the stops that were tried. It answers
+    // whether none of them was bad.
+    fn check_each<W: Write, P: Write>(
+        &mut self,
+        lines: Lines<'_>,
+        out: &mut W,
+        progress: &mut P,
+    ) -> Result<bool, ScriptFault> {
+        let ended = self.run_shown(lines, progress);
+        // Who cannot be told how far it is misses nothing of the result.
+        let _ = progress.write_all(NO_LINE);
+        ended?;
+        let (stops, bad) = self.stops();
+        tell_stops(out, stops, bad)?;
+        Ok(bad == 0)
+    }
+
+    // Runs the lines. Behind each one at which stops were tried it shows how far it is.
+    fn run_shown<P: Write>(
+        &mut self,
+        lines: Lines<'_>,
+        progress: &mut P,
+    ) -> Result<(), ScriptFault> {
+        let all = last_number(lines);
+        let mut shown = 0;
+        for line in lines {
+            line.told(self.run(line.bytes))?;
+            let (stops, bad) = self.stops();
+            if stops != shown {
+                let number = line.number;
+                let _ = write!(
+                    progress,
+                    "\rcheck line {number} of {all} stops {stops} bad {bad}"
+                );
+                shown = stops;
+            }
+        }
+        Ok(())
     }
 
     // Runs the lines up to the one with this number. Only the last one's output stays in `shown`.

@@ -10,7 +10,10 @@ use std::process::ExitCode;
 use std::rt::{Env, Files};
 use std::{env, fs, io};
 use stress::stress_text;
-use ufsim::{Call, CallFault, call, check_shown, check_text, load_text, run_text, save_text};
+use ufsim::{
+    Call, CallFault, call, check_image_shown, check_image_text, check_shown, check_text, load_text,
+    run_text, save_text,
+};
 
 fn main(rt: HostRuntime) -> ExitCode {
     let words = match words(&rt) {
@@ -22,6 +25,7 @@ fn main(rt: HostRuntime) -> ExitCode {
         Ok(Call::Check(script)) => check(&rt, script),
         Ok(Call::Save { image, script }) => save(&rt, image, script),
         Ok(Call::Load { image, script }) => load(&rt, image, script),
+        Ok(Call::CheckImage { image, script }) => check_over(&rt, image, script),
         Ok(Call::Stress { dies, hosts }) => {
             let (alloc, mut out, mut faults) = (rt.alloc(), io::writer(&rt), rt.stderr());
             let status = stress_text(&rt, alloc, dies, hosts, &mut out, &mut faults);
@@ -119,6 +123,32 @@ fn load(rt: &HostRuntime, image: &str, name: &str) -> ExitCode {
             ExitCode::from(status)
         }
         Err(error) => unread(rt, name, error.kind()),
+    }
+}
+
+fn check_over(rt: &HostRuntime, image: &str, name: &str) -> ExitCode {
+    match fs::read(rt, name) {
+        Ok(script) => ExitCode::from(check_image(rt, image, script.as_slice())),
+        Err(error) => unread(rt, name, error.kind()),
+    }
+}
+
+// As `check_script`, over the dies of the image.
+fn check_image(rt: &HostRuntime, image: &str, script: &[u8]) -> u8 {
+    let mut file = LateFile::new(rt, image);
+    let (alloc, mut out, mut faults) = (rt.alloc(), io::writer(rt), rt.stderr());
+    if faults.is_terminal() {
+        check_image_shown(
+            alloc,
+            script,
+            image,
+            &mut file,
+            &mut out,
+            &mut rt.stderr(),
+            &mut faults,
+        )
+    } else {
+        check_image_text(alloc, script, image, &mut file, &mut out, &mut faults)
     }
 }
 

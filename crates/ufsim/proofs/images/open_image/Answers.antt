@@ -1,5 +1,5 @@
 use Rattle.ufsim.proofs.ImageLemmas.{some_image}
-use Rattle.ufsim.proofs.images.load.Goals as goal
+use Rattle.ufsim.proofs.images.open_image.Goals as goal
 
 pub returns : goal.returns
 returns g c =
