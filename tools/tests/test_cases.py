@@ -79,10 +79,6 @@ class Cases(unittest.TestCase):
             self.assertEqual(is_right, is_told, printed.getvalue())
             self.assertEqual(is_right, printed.getvalue() == "")
 
-
-if __name__ == "__main__":
-    unittest.main()
-
     def told_of_output(self, text):
         """How often this program tells that its output cannot be written, and what is said of it."""
         self.write("program", text)
@@ -96,3 +92,7 @@ if __name__ == "__main__":
         self.assertEqual(0, told)
         self.assertEqual(count, printed.count("it ended with status 0"))
         self.assertEqual(0, self.told_of_output(TELLS.replace("ufsim: output", "memory"))[0])
+
+
+if __name__ == "__main__":
+    unittest.main()
