@@ -5,6 +5,7 @@ import pathlib
 import subprocess
 import sys
 import tempfile
+import time
 import unittest
 
 sys.path.insert(0, str(pathlib.Path(__file__).resolve().parent.parent))
@@ -127,7 +128,10 @@ class ByItself(unittest.TestCase):
             program = refusals.Program(folder)
             with subprocess.Popen(["sh", str(there)], stdin=subprocess.PIPE, stdout=subprocess.DEVNULL,
                                   stderr=subprocess.DEVNULL):
-                program.look(folder / "below")
+                # What a process was called with can be read only a little later than it began.
+                end = time.monotonic() + 10
+                while not program.is_kept() and time.monotonic() < end:
+                    program.look(folder / "below")
             there.unlink()
             one, two = refusals.Case(("one", "7", "0")), refusals.Case(("two", "8", "1"), "given ")
             program.seen = {one: refusals.Run(Output("one\n", "", 0), 7)}
