@@ -18,11 +18,11 @@ _ufstool_words() {
     read-boot-lun-en) echo '--task --help' ;;
     write-boot-lun-en) echo '--value --task --help' ;;
     read-flag | set-flag | clear-flag | toggle-flag) echo '--flag --task --help' ;;
-    rpmb-key) echo '--key --key-file --task --help' ;;
-    rpmb-write) echo '--address --counter --data --blocks --fill --key --key-file --task --help' ;;
-    rpmb-read) echo '--address --blocks --nonce --task --help' ;;
-    rpmb-counter) echo '--nonce --task --help' ;;
-    rpmb-result) echo '--task --help' ;;
+    rpmb-key) echo '--key --key-file --region --task --help' ;;
+    rpmb-write) echo '--address --counter --data --blocks --fill --key --key-file --region --task --help' ;;
+    rpmb-read) echo '--address --blocks --nonce --region --task --help' ;;
+    rpmb-counter) echo '--nonce --region --task --help' ;;
+    rpmb-result) echo '--region --task --help' ;;
     esac
 }
 
@@ -36,6 +36,8 @@ _ufstool() {
         words="$messages --help"
     elif [ "${COMP_WORDS[1]}" = host ] && [ "${COMP_WORDS[COMP_CWORD - 1]}" = --flag ]; then
         words='fDeviceInit fPermanentWPEn fPowerOnWPEn'
+    elif [ "${COMP_WORDS[1]}" = host ] && [ "${COMP_WORDS[COMP_CWORD - 1]}" = --region ]; then
+        words='0 1 2 3'
     elif [ "${COMP_WORDS[1]}" = host ]; then
         words=$(_ufstool_words "${COMP_WORDS[2]}")
     elif [[ $current == -* ]]; then

@@ -40,5 +40,6 @@ complete -c ufstool -n '__fish_seen_subcommand_from explain' -l frames -d 'Frame
 complete -c ufstool -n '__fish_seen_subcommand_from explain rpmb-key rpmb-write' -l key -x -d 'The key, 64 hexadecimal digits'
 complete -c ufstool -n '__fish_seen_subcommand_from explain rpmb-key rpmb-write' -l key-file -r -F -d 'A file with the key'
 complete -c ufstool -n '__fish_seen_subcommand_from rpmb-write' -l data -r -F -d 'A file with the blocks'
+complete -c ufstool -n '__fish_seen_subcommand_from rpmb-key rpmb-write rpmb-read rpmb-counter rpmb-result' -l region -x -a '0 1 2 3' -d 'The RPMB region'
 complete -c ufstool -n '__fish_seen_subcommand_from rpmb-write' -l counter -x -d 'The write counter'
 complete -c ufstool -n '__fish_seen_subcommand_from rpmb-read rpmb-counter' -l nonce -x -d 'The nonce, 32 hexadecimal digits'

@@ -101,7 +101,7 @@ fn open(alloc: Global, shape: Shape, blocks: u32) -> Result<Counted> {
         shape.blocks,
         shape.pages,
         &units,
-        1,
+        [1, 0, 0, 0],
         shape.slots,
         shape.spare,
     )?;

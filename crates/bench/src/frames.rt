@@ -36,7 +36,7 @@ fn open(alloc: Global) -> Result<Workbench> {
         boot: 0,
         protect: 0,
     }];
-    let config = Config::new(4, 64, 64, &units, 8, 64, 4)?;
+    let config = Config::new(4, 64, 64, &units, [8, 0, 0, 0], 64, 4)?;
     let dies = new_dies(alloc, 4, 64, 64)?;
     Ok(Workbench::new(alloc, config, dies)?)
 }

@@ -73,7 +73,7 @@ fn open(alloc: Global, shape: Shape) -> Result<Workbench> {
         shape.blocks,
         shape.pages,
         &units,
-        1,
+        [1, 0, 0, 0],
         shape.slots,
         4,
     )?;

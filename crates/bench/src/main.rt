@@ -47,7 +47,7 @@ fn open(alloc: Global) -> Result<Workbench> {
         boot: 0,
         protect: 0,
     }];
-    let config = Config::new(4, BLOCKS, PAGES, &units, 1, 64, 4)?;
+    let config = Config::new(4, BLOCKS, PAGES, &units, [1, 0, 0, 0], 64, 4)?;
     let dies = new_dies(alloc, 4, BLOCKS, PAGES)?;
     Ok(Workbench::new(alloc, config, dies)?)
 }

@@ -83,7 +83,7 @@ fn time_dies<R: Clock>(rt: &R, alloc: Global, blocks: u16, written: u32) -> Resu
         boot: 0,
         protect: 0,
     };
-    let config = Config::new(4, blocks, PAGES, &[unit], 1, 64, 4)?;
+    let config = Config::new(4, blocks, PAGES, &[unit], [1, 0, 0, 0], 64, 4)?;
     let mut dies = new_dies(alloc, 4, blocks, PAGES)?;
     write(dies.as_mut_slice(), blocks / 4)?;
     time_scan(rt, alloc, &config, dies.as_mut_slice(), written)

@@ -8,6 +8,7 @@ pub mod FilledTask
 pub mod GoodDue
 pub mod LayerMoves
 pub mod LockTold
+pub mod Machines
 pub mod OneChanges
 pub mod OneSender
 pub mod Opens

@@ -33,6 +33,7 @@ pub mod ReadOpened
 pub mod RequestPut
 pub mod RequestsAccepted
 pub mod RequestsAnswered
+pub mod Routed
 pub mod SettingsAccepted
 pub mod ShortsOpened
 pub mod SlotsClaimed

@@ -101,10 +101,10 @@ HasBegun after t claims tag (Ok (plan.Write key blocks forced)) p = HasClaimed a
 HasBegun after t claims tag (Err refused) p = (p ≡ phase.Answer refused 0) × IsLayerWith after t claims
 HasBegun after t claims tag (Ok (plan.Nothing n)) p = (p ≡ phase.Answer status.Good n) × IsLayerWith after t claims
 HasBegun after t claims tag (Ok (plan.Send x)) p = (p ≡ phase.SendData x) × IsLayerWith after t claims
-HasBegun after t claims tag (Ok (plan.AskFrames size)) p = HasClaimedFrames after t claims tag size p
+HasBegun after t claims tag (Ok (plan.AskFrames region size)) p = HasClaimedFrames after t claims tag size p
 HasBegun after t claims tag (Ok (plan.AskList unit size)) p =
     HasClaimedFor after t claims tag (list_slots t.numbers size) (phase.AskList unit size) p
-HasBegun after t claims tag (Ok (plan.TakeFrames size taken)) p =
+HasBegun after t claims tag (Ok (plan.TakeFrames region size taken)) p =
     (p ≡ held_phase size taken) × IsLayerWith after t claims
 HasBegun after t claims tag (Ok (plan.Tell told size taken)) p =
     (p ≡ held_phase size taken) × IsLayerWith after t claims

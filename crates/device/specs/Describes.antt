@@ -22,7 +22,7 @@ use Rattle.ufs_spec.specs.Machine.{Allowed, Answer, Call, Heard, Host, IsHeard, 
 use Rattle.ufs_spec.specs.Machine.{durable, is_to_fill, observe}
 use Rattle.ufs_spec.specs.Messages.{spelling}
 use Rattle.ufs_spec.specs.Moves.{is_pin_of}
-use Rattle.ufs_spec.specs.Plain.{region_of, zero_block}
+use Rattle.ufs_spec.specs.Plain.{region_of, regions, zero_block}
 use Rattle.ufs_spec.specs.Refusals.{State, locked, numbers_of, plain_now, sends_frames, sends_frames_to}
 use Rattle.ufs_spec.specs.Exchanges.{most_tasks}
 use Rattle.ufs_spec.specs.Translation.{Pin}
@@ -46,7 +46,7 @@ use Rattle.task_set.specs.declared.tasks.Short as kept
 use Rattle.task_set.specs.declared.tasks.Status.{Status}
 use Rattle.task_set.specs.declared.tasks.Status.TheVariants as status
 use Rattle.task_set.specs.declared.tasks.Transfer.{Transfer}
-use Rattle.rpmb.specs.Kept.{IsKept}
+use Rattle.rpmb.specs.Kept.{IsKept, machine_at}
 use Rattle.task_set.specs.Kept.{OpenTask}
 use Rattle.task_set.specs.declared.frames.Frames.{Frames}
 use Rattle.task_set.specs.declared.frames.Frames.TheVariants.{Answered, Decided, NotBrought, Undecided}
@@ -107,9 +107,9 @@ pub record IsLost (blocks : List ReadBlock) (sent : ℕ) (told : Status) (size :
   pub few : length blocks ≤ greatest_command
   pub behind : (i : ℕ) (other : ReadBlock) → sent < i → slice_get blocks i ≡ Some other → other.state ≡ Unread
 
--- frames for region 0, the only one
+-- frames for an RPMB region
 abbrev pub IsForFrames : Purpose → Type 0
-IsForFrames (ForFrames region) = region ≡ 0
+IsForFrames (ForFrames region) = Unit {0}
 IsForFrames purpose = ⊥
 
 -- a SECURITY PROTOCOL OUT of so many bytes, all of which are to come in one message
@@ -183,14 +183,13 @@ abbrev pub IsFirstFrame : List ℕ → List Frame → Type 0
 IsFirstFrame bytes [] = ⊥
 IsFirstFrame bytes (f ∷ fs) = f ≡ frame_in (take 512 bytes)
 
--- the request is to region 0, has this result and the first frame that is kept, and is yet to fill its register
+-- the request has this result and the first frame that is kept, and is yet to fill its register
 pub record IsAsked (code : ℕ) (held : Option (List ℕ)) (request : Option RpmbRequest) : Type 0 where
   pub bytes : List ℕ
   pub is_held : held ≡ Some bytes
   pub long : length bytes ≡ 4096
   pub asked : RpmbRequest
   pub is : request ≡ Some asked
-  pub region : asked.region ≡ 0
   pub result : asked.result ≡ code
   pub unfilled : asked.filled ≡ false
   pub first : IsFirstFrame bytes asked.frames
@@ -255,6 +254,20 @@ FramesFit (phase.SendHeld size) f held deed = (f ≡ NotBrought) × IsSentFrom s
 FramesFit (phase.ReadArea r) f held deed = HasRequest f × PartsStand r held deed
 FramesFit p f held deed = Unit {0}
 
+-- it is for this region, if it is for any
+abbrev pub IsFor : ℕ → Option ℕ → Type 0
+IsFor region None = Unit {0}
+IsFor region (Some other) = other ≡ region
+
+-- the RPMB region for which frames are gathered
+abbrev pub gathers_for : Deed → Option ℕ
+gathers_for (Gathering (ForFrames region) gathered asked) = Some region
+gathers_for deed = None
+
+-- the RPMB region of a request
+abbrev pub asks_of : Option RpmbRequest → Option ℕ
+asks_of request = option_map (λ (asked : RpmbRequest). asked.region) request
+
 -- the kept task is the specified one: its unit, its tag, the bytes that its host expects, how far it is, and the block
 -- that a die read for it; `before` is the number of the last group before the accepted commands
 pub record TaskKept (before : ℕ) (a : OpenTask) (b : exchange.Task) : Type 0 where
@@ -262,7 +275,10 @@ pub record TaskKept (before : ℕ) (a : OpenTask) (b : exchange.Task) : Type 0 w
   pub tag : b.tag ≡ a.tag
   pub expected : b.expected ≡ a.expected
   pub sends : sends_frames b.command ≡ is_sender a
-  pub sends_here : sends_frames_to 0 b.command ≡ is_sender a
+  pub in_regions : sends_frames b.command ≡ true → a.region < regions
+  pub sends_to : (other : ℕ) → sends_frames_to other b.command ≡ (is_sender a && (a.region == other))
+  pub gathers : IsFor a.region (gathers_for b.deed)
+  pub asked_of : IsFor a.region (asks_of b.request)
   pub request : AreFramesKept a.frames a.held b.request
   pub asks : ReadsAsked a.phase a.frames a.held
   pub fits : FramesFit a.phase a.frames a.held b.deed
@@ -395,8 +411,9 @@ HaveAnswered s = All (λ task. is_to_fill s task ≡ false) s.tasks
 pub record Keeps (d : DeviceCore) (s : State) : Type 0 where
   pub boot : d.boot ≡ (plain_now s).boot
   pub permanent : d.is_permanent ≡ (plain_now s).permanent
-  pub region : IsKept d.rpmb.region (region_of (plain_now s) 0)
-  pub registers : s.registers 0 ≡ d.rpmb.registers
+  pub each : length d.rpmb ≡ regions
+  pub region : (number : ℕ) → IsKept (machine_at d.rpmb number).region (region_of (plain_now s) number)
+  pub registers : (number : ℕ) → s.registers number ≡ (machine_at d.rpmb number).registers
   pub layer_kept : layer.Describes d.ftl s.translation
   pub few : length s.tasks ≤ most_tasks
   pub tasks : TasksKept (before_accepted s.translation.ledger) d.tasks s.tasks

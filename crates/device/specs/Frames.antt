@@ -1,6 +1,6 @@
 -- Frames of the RPMB: what is decided of those that a SECURITY PROTOCOL OUT brought, what a request leaves in the
 -- registers, and what a SECURITY PROTOCOL IN takes from them (JESD220, 12.4).
-use Rattle.std.specs.Prelude.{◌≡◌, ℕ, ◌+◌, ◌-◌, ◌*◌, ◌<◌, ◌≤◌, ◌&&◌, min, nat_le, Bool, true, false}
+use Rattle.std.specs.Prelude.{◌≡◌, ◌≢◌, ℕ, ◌+◌, ◌-◌, ◌*◌, ◌<◌, ◌≤◌, ◌&&◌, min, nat_le, Bool, true, false}
 use Rattle.std.specs.Prelude.{if◌then◌else◌, List, [], ◌∷◌, ◌++◌, find, option_map}
 use Rattle.std.specs.List.{list_any}
 use Rattle.std.specs.Prelude.{drop, fold, length, map, position, replicate, slice_get, take, Option, Some, None}
@@ -13,7 +13,7 @@ use Rattle.ufs_spec.specs.Identities.{inquiry_bytes, luns_bytes}
 use Rattle.ufs_spec.specs.Keys.{IsCommand, IsKey, IsPlain, area_key, below, content, group_of}
 use Rattle.ufs_spec.specs.Ledger.{all_contents, look, next_number}
 use Rattle.ufs_spec.specs.Moves.{Accept, IsAllowedMove, Keep, LetGoAll, Move, Release, is_pin_of, moved}
-use Rattle.ufs_spec.specs.Plain.{CanApply, Plain, region_of, shape_of_numbers, zero_block}
+use Rattle.ufs_spec.specs.Plain.{CanApply, Plain, region_of, regions, shape_of_numbers, zero_block}
 use Rattle.ufs_spec.specs.Rpmb.{Region, applied, rpmb_outcome}
 use Rattle.ufs_spec.specs.RpmbResponses.{emptied_by, filled_with, with_reads}
 use Rattle.ufs_spec.specs.Replies.{is_at_hand, is_read}
@@ -23,7 +23,7 @@ use Rattle.ufs_spec.specs.declared.flash.Key.{Key}
 use Rattle.ufs_spec.specs.declared.scsi.Sense.{Sense}
 use Rattle.ftl_core.specs.Public.{Claims, Core, Describes, PinsDiffer, keeps_for, with_claimed}
 use Rattle.rpmb.specs.Answers.{IsRead, waiting_in}
-use Rattle.rpmb.specs.Kept.{IsKept, Machine}
+use Rattle.rpmb.specs.Kept.{IsKept, Machine, machine_at, with_machine}
 use Rattle.rpmb.specs.Outcomes.{command_of, outcome_of, status_of}
 use Rattle.rpmb.specs.Requests.{frames_of}
 use Rattle.rpmb.specs.declared.requests.AreaBlocks.{AreaBlocks}
@@ -61,8 +61,13 @@ use Rattle.ufs_spec.specs.Exchanges.{most_tasks}
 
 -- what a task has to do with frames for which this was planned
 abbrev pub frames_brought : Result Plan Status → Frames
-frames_brought (Ok (plan.AskFrames size)) = Undecided
+frames_brought (Ok (plan.AskFrames region size)) = Undecided
 frames_brought planned = NotBrought
+
+-- the RPMB region to which it brings them; 0 if it brings none
+abbrev pub region_brought : Result Plan Status → ℕ
+region_brought (Ok (plan.AskFrames region size)) = region
+region_brought planned = 0
 
 -- bytes of a block of the pool: these, and zeros behind them
 abbrev pub with_zeros : List ℕ → List ℕ
@@ -86,9 +91,12 @@ with_none_waiting m = record m { registers = record m.registers { response = [] 
 abbrev pub with_held : DeviceCore → ℕ → List ℕ → DeviceCore
 with_held d k bytes = record d { tasks = task_keeps d.tasks k bytes (slice_get d.tasks k) }
 
--- what waits goes to the task at this position
-abbrev pub handed_over : DeviceCore → ℕ → DeviceCore
-handed_over d k = record (with_held d k (waiting_held d.rpmb)) { rpmb = with_none_waiting d.rpmb }
+-- what waits in a region goes to the task at this position
+abbrev pub handed_over : DeviceCore → ℕ → ℕ → DeviceCore
+handed_over d k region =
+    record (with_held d k (waiting_held (machine_at d.rpmb region))) {
+      rpmb = with_machine d.rpmb region (with_none_waiting (machine_at d.rpmb region));
+    }
 
 -- what is told of the units of a device with this configuration (SPC, INQUIRY and REPORT LUNS)
 abbrev pub identity_bytes : Numbers → Identity → List ℕ
@@ -97,7 +105,7 @@ identity_bytes n (identity.Luns select) = luns_bytes n select
 
 -- where that was planned for it, the last task keeps what it sends: what waits, or what it tells of the units
 abbrev pub sent_kept : Numbers → DeviceCore → Result Plan Status → DeviceCore
-sent_kept n d (Ok (plan.TakeFrames size taken)) = handed_over d (length d.tasks - 1)
+sent_kept n d (Ok (plan.TakeFrames region size taken)) = handed_over d (length d.tasks - 1) region
 sent_kept n d (Ok (plan.Tell told size taken)) =
     with_held d (length d.tasks - 1) (with_zeros (identity_bytes n told))
 sent_kept n d planned = d
@@ -122,46 +130,49 @@ answer_event [] code = event.RequestAnswered code
 answer_event (f ∷ fs) code =
     if reads_area f code then event.AreaAsked code f.address f.count else event.RequestAnswered code
 
--- the moves by which the pages of the area are kept that a request for data reads: each of them is wanted at once
-abbrev pub area_keeps : Translation → ℕ → Frame → List Move
-area_keeps t tag f =
+-- the moves by which the pages of the area of a region are kept that a request for data reads: each of them is wanted at
+-- once
+abbrev pub area_keeps : Translation → (tag region : ℕ) → Frame → List Move
+area_keeps t tag region f =
     map
-    (λ i. Keep (area_key 0 (first_page f + i))
-    (record { tag = tag; index = i; looked = look t.ledger (area_key 0 (first_page f + i)); wanted = true }))
+    (λ i. Keep (area_key region (first_page f + i))
+    (record { tag = tag; index = i; looked = look t.ledger (area_key region (first_page f + i)); wanted = true }))
     (below (pages_named f))
 
 -- the moves of a request without a command
-abbrev pub answer_moves : Translation → ℕ → List Frame → ℕ → List Move
-answer_moves t tag [] code = []
-answer_moves t tag (f ∷ fs) code = if reads_area f code then area_keeps t tag f else []
+abbrev pub answer_moves : Translation → (tag region : ℕ) → List Frame → ℕ → List Move
+answer_moves t tag region [] code = []
+answer_moves t tag region (f ∷ fs) code = if reads_area f code then area_keeps t tag region f else []
 
 -- the reader may keep the pages in which the blocks lie that this frame asks for: it keeps nothing yet, they are pages
 -- of the area, one or two, and there is room for two, as no block is kept twice
-pub record MayKeepArea (t : Translation) (tag : ℕ) (f : Frame) : Type 0 where
+pub record MayKeepArea (t : Translation) (tag region : ℕ) (f : Frame) : Type 0 where
   pub mended : is_mended t.work.mending ≡ true
   pub some : 1 ≤ f.count
   pub few : f.count ≤ 8
-  pub keys : (i : ℕ) → i < pages_named f → IsKey (shape_of_numbers t.numbers) (area_key 0 (first_page f + i))
+  pub keys : (i : ℕ) → i < pages_named f → IsKey (shape_of_numbers t.numbers) (area_key region (first_page f + i))
   pub none : list_any (keeps_for tag) t.pins ≡ false
   pub room : PinsDiffer t.pins → length t.pins + 2 ≤ most_tasks * greatest_command
 
 -- the pages in which these blocks lie are kept, each of them wanted at once, if they may be
-abbrev pub HasKeptArea : Core → Translation → Claims → ℕ → AreaBlocks → Type 0
-HasKeptArea after t claims tag asked =
-    (f : Frame) → f.address ≡ asked.address → f.count ≡ asked.count → MayKeepArea t tag f →
-    IsLayerWith after (fold moved t (area_keeps t tag f)) claims
+abbrev pub HasKeptArea : Core → Translation → Claims → (tag region : ℕ) → AreaBlocks → Type 0
+HasKeptArea after t claims tag region asked =
+    (f : Frame) → f.address ≡ asked.address → f.count ≡ asked.count → MayKeepArea t tag region f →
+    IsLayerWith after (fold moved t (area_keeps t tag region f)) claims
 
 -- if these frames ask for data and passed their checks, their pages may be kept
-abbrev pub MayAnswer : Translation → ℕ → List Frame → ℕ → Type 0
-MayAnswer t tag [] code = Unit {0}
-MayAnswer t tag (f ∷ fs) code = reads_area f code ≡ true → MayKeepArea t tag f
+abbrev pub MayAnswer : Translation → (tag region : ℕ) → List Frame → ℕ → Type 0
+MayAnswer t tag region [] code = Unit {0}
+MayAnswer t tag region (f ∷ fs) code = reads_area f code ≡ true → MayKeepArea t tag region f
 
 -- a request without a command gives its slots back, and keeps the pages that it reads
-pub record HasAnswered (before after : Core) (tag : ℕ) (frames : List Frame) (code : ℕ) (e : TaskEvent) : Type 0 where
-  pub event_is : e ≡ answer_event frames code
-  pub layer : (t : Translation) (claims : Claims) → IsLayerWith before t claims → MayAnswer t tag frames code →
-      IsLayerWith after
-      (fold moved (moved t (Release (length (claims tag)))) (answer_moves t tag frames code)) (with_claimed claims tag [])
+pub record HasAnswered (before after : Core) (tag region : ℕ) (frames : List Frame) (code : ℕ) (e : TaskEvent) : Type 0
+  where
+    pub event_is : e ≡ answer_event frames code
+    pub layer : (t : Translation) (claims : Claims) → IsLayerWith before t claims → MayAnswer t tag region frames code →
+        IsLayerWith after
+        (fold moved (moved t (Release (length (claims tag)))) (answer_moves t tag region frames code))
+        (with_claimed claims tag [])
 
 -- what is kept is that of this plain state, whose contents are those that all accepted groups leave
 pub record IsPlainOf (d : DeviceCore) (t : Translation) (p : Plain) : Type 0 where
@@ -169,71 +180,81 @@ pub record IsPlainOf (d : DeviceCore) (t : Translation) (p : Plain) : Type 0 whe
   pub contents : (k : Key) → IsKey (shape_of_numbers t.numbers) k → all_contents t.ledger k ≡ content p k
   pub boot : d.boot ≡ p.boot
   pub permanent : d.is_permanent ≡ p.permanent
-  pub region : IsKept d.rpmb.region (region_of p 0)
+  pub each : length d.rpmb ≡ regions
+  pub region : (number : ℕ) → IsKept (machine_at d.rpmb number).region (region_of p number)
 
 -- this command may come now, and it is what these frames have accepted
-pub record MayComeNow (d : DeviceCore) (t : Translation) (p : Plain) (frames : List Frame) (what : Accepted)
-    (c : Command) : Type 0 where
-  pub command : command_of 0 frames what ≡ Some c
+pub record MayComeNow (d : DeviceCore) (t : Translation) (p : Plain) (region : ℕ) (frames : List Frame)
+    (what : Accepted) (c : Command) : Type 0 where
+  pub command : command_of region frames what ≡ Some c
   pub is : IsCommand c
   pub plain : IsPlainOf d t p
   pub can : CanApply p c
   pub allowed : IsAllowedMove t (Accept frame_slots (group_of p c))
 
--- a request is accepted: its group is put behind all that are pending, in the place of its slots; the key is set or the
--- counter rises
-pub record HasAccepted (before after : DeviceCore) (tag : ℕ) (frames : List Frame) (code : ℕ) (what : Accepted)
+-- a request to a region is accepted: its group is put behind all that are pending, in the place of its slots; the key is
+-- set or the counter rises
+pub record HasAccepted (before after : DeviceCore) (tag number : ℕ) (frames : List Frame) (code : ℕ) (what : Accepted)
     (e : TaskEvent) : Type 0 where
   pub event_is : (t : Translation) → Describes before.ftl t → e ≡ event.RequestAccepted code (next_number t.ledger)
   pub layer : (t : Translation) (claims : Claims) (p : Plain) (c : Command) → IsLayerWith before.ftl t claims →
-      claims tag ≡ replicate frame_slots zero_block → MayComeNow before t p frames what c →
+      claims tag ≡ replicate frame_slots zero_block → number < regions → MayComeNow before t p number frames what c →
       IsLayerWith after.ftl (moved t (Accept frame_slots (group_of p c))) (with_claimed claims tag [])
-  pub registers : after.rpmb.registers ≡ before.rpmb.registers
-  pub region : (number : ℕ) (region : Region) → IsKept before.rpmb.region region →
+  pub registers : (other : ℕ) → (machine_at after.rpmb other).registers ≡ (machine_at before.rpmb other).registers
+  pub each : length after.rpmb ≡ length before.rpmb
+  pub region : (region : Region) → number < regions → IsKept (machine_at before.rpmb number).region region →
       length (applied region (command_of number frames what)).area ≡ length region.area →
-      IsKept after.rpmb.region (applied region (command_of number frames what))
+      IsKept (machine_at after.rpmb number).region (applied region (command_of number frames what))
+  pub others : (other : ℕ) → other ≢ number → machine_at after.rpmb other ≡ machine_at before.rpmb other
 
 -- what a request does, by what is accepted of it
-abbrev pub IsDecided : DeviceCore → DeviceCore → ℕ → List Frame → ℕ → Accepted → TaskEvent → Type 0
-IsDecided before after tag frames code accepted.Nothing e =
-    HasAnswered before.ftl after.ftl tag frames code e × (after.rpmb ≡ before.rpmb)
-IsDecided before after tag frames code what e = HasAccepted before after tag frames code what e
+abbrev pub IsDecided : DeviceCore → DeviceCore → (tag region : ℕ) → List Frame → ℕ → Accepted → TaskEvent → Type 0
+IsDecided before after tag region frames code accepted.Nothing e =
+    HasAnswered before.ftl after.ftl tag region frames code e × (after.rpmb ≡ before.rpmb)
+IsDecided before after tag region frames code what e = HasAccepted before after tag region frames code what e
 
--- the response register is emptied, by a key or a write the result register too
-abbrev pub with_emptied : DeviceCore → List Frame → DeviceCore
-with_emptied d frames =
-    record d { rpmb = record d.rpmb { registers = emptied_by frames d.rpmb.registers } }
+-- the response register of a region is emptied, by a key or a write the result register too
+abbrev pub with_emptied : DeviceCore → ℕ → List Frame → DeviceCore
+with_emptied d region frames =
+    record d {
+      rpmb = with_machine d.rpmb region (record (machine_at d.rpmb region) {
+        registers = emptied_by frames (machine_at d.rpmb region).registers;
+      });
+    }
 
 -- the frames are a request with this result, of which this is accepted: its task keeps them, and the registers are
 -- emptied
-pub record HasRequested (before after : DeviceCore) (tag index : ℕ) (bytes : List ℕ) (code : ℕ) (what : Accepted) : Type 0
-  where
-    pub layer : Core
-    pub rpmb : Machine
-    pub event : TaskEvent
-    pub decided : IsDecided (with_held before index (with_zeros bytes))
-        (record (with_held before index (with_zeros bytes)) { ftl = layer; rpmb = rpmb }) tag (frames_of bytes) code what
-        event
-    pub after_is : after ≡
-        with_event
-        (with_emptied (record (with_held before index (with_zeros bytes)) { ftl = layer; rpmb = rpmb })
-        (frames_of bytes)) index event
+pub record HasRequested (before after : DeviceCore) (tag index region : ℕ) (bytes : List ℕ) (code : ℕ)
+    (what : Accepted) : Type 0 where
+  pub layer : Core
+  pub rpmb : List Machine
+  pub event : TaskEvent
+  pub decided : IsDecided (with_held before index (with_zeros bytes))
+      (record (with_held before index (with_zeros bytes)) { ftl = layer; rpmb = rpmb }) tag region (frames_of bytes)
+      code what event
+  pub after_is : after ≡
+      with_event
+      (with_emptied (record (with_held before index (with_zeros bytes)) { ftl = layer; rpmb = rpmb }) region
+      (frames_of bytes)) index event
 
 -- what is done by what was decided
-abbrev pub HasDone : DeviceCore → DeviceCore → ℕ → ℕ → List ℕ → Outcome → Type 0
-HasDone before after tag index bytes (outcome.Refused why) =
+abbrev pub HasDone : DeviceCore → DeviceCore → (tag index region : ℕ) → List ℕ → Outcome → Type 0
+HasDone before after tag index region bytes (outcome.Refused why) =
     (sense : Sense) × (CheckCondition sense ≡ status_of why) × HasRefused before after tag index sense
-HasDone before after tag index bytes (outcome.Results code what) =
-    HasRequested before after tag index bytes code what
+HasDone before after tag index region bytes (outcome.Results code what) =
+    HasRequested before after tag index region bytes code what
 
--- the frames are decided by key, counter and registers as they stand, and by the lock
+-- the frames are decided by key, counter and registers of the region to which the task at this position brings them, as
+-- they stand, and by the lock
 pub record HasDecided (before after : DeviceCore) (tag index : ℕ) (bytes : List ℕ) : Type 0 where
   pub outcome : Outcome
-  pub outcome_is : (t : Translation) (number : ℕ) (region : Region) → Describes before.ftl t →
-      IsKept before.rpmb.region region →
-      rpmb_outcome number region before.rpmb.registers (is_locked t) (frames_of bytes)
-      ≡ outcome_of number (frames_of bytes) outcome
-  pub done : HasDone before after tag index bytes outcome
+  pub task : OpenTask
+  pub there : slice_get before.tasks index ≡ Some task
+  pub outcome_is : (t : Translation) (region : Region) → Describes before.ftl t → task.region < regions →
+      IsKept (machine_at before.rpmb task.region).region region →
+      rpmb_outcome task.region region (machine_at before.rpmb task.region).registers (is_locked t) (frames_of bytes)
+      ≡ outcome_of task.region (frames_of bytes) outcome
+  pub done : HasDone before after tag index task.region bytes outcome
 
 -- Requests that fill a register
 
@@ -315,14 +336,16 @@ data_for t a (phase.ReadArea r) = area_data t a r
 data_for t a p = Some []
 
 -- the request of the task fills its register, by what was read for it
-abbrev pub HasResponded : Machine → Machine → OpenTask → ℕ → Option (List ℕ) → Type 0
+abbrev pub HasResponded : List Machine → List Machine → OpenTask → ℕ → Option (List ℕ) → Type 0
 HasResponded before after a code read =
-    (region : Region) (pages : List ReadState) → IsKept before.region region →
-    IsRead region (frames_of (frame_held a)) code pages read →
+    (region : Region) (pages : List ReadState) → a.region < regions →
+    IsKept (machine_at before a.region).region region → IsRead region (frames_of (frame_held a)) code pages read →
     after
-    ≡ record before {
-      registers = filled_with region (frames_of (frame_held a)) (with_reads pages code) before.registers;
-    }
+    ≡ with_machine before a.region (record (machine_at before a.region) {
+      registers =
+          filled_with region (frames_of (frame_held a)) (with_reads pages code)
+          (machine_at before a.region).registers;
+    })
 
 -- the task at this position fills its register, and keeps nothing any more
 pub record HasFilledAt (before after : DeviceCore) (t : Translation) (claims : Claims) (k : ℕ) : Type 0 where
@@ -333,7 +356,7 @@ pub record HasFilledAt (before after : DeviceCore) (t : Translation) (claims : C
   pub decided : task.frames ≡ Decided code
   pub layer : Core
   pub layer_is : IsLayerWith layer (moved t (LetGoAll task.tag)) claims
-  pub rpmb : Machine
+  pub rpmb : List Machine
   pub responded : HasResponded before.rpmb rpmb task code (data_for t task task.phase)
   pub after_is : after ≡ record (with_event before k event.RegisterFilled) { ftl = layer; rpmb = rpmb }
 

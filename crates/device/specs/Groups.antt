@@ -1,7 +1,7 @@
 -- The groups of RPMB requests and of settings that are accepted (JESD220, 12.4 and 14): the pages of the area that a
 -- write brings, most often in part, and the settings with the key and the counter.
 use Rattle.std.specs.Prelude.{◌≡◌, ℕ, ◌+◌, ◌-◌, ◌*◌, ◌/◌, ◌%◌, nat_le, if◌then◌else◌, IsTrue, List, [], ◌∷◌, ◌++◌}
-use Rattle.std.specs.Prelude.{drop, length}
+use Rattle.std.specs.Prelude.{drop, length, map}
 use Rattle.std.specs.Prelude.{replicate, take}
 use Rattle.ufs_spec.specs.Keys.{Group, Item, area_key, settings_key}
 use Rattle.ufs_spec.specs.Ledger.{all_contents, next_number}
@@ -11,6 +11,7 @@ use Rattle.ufs_spec.specs.Translation.{Translation}
 use Rattle.ufs_spec.specs.declared.flash.Key.{Key}
 use Rattle.ftl_core.specs.Public.{Claims, Core, Describes, has_number, with_claimed}
 use Rattle.ftl_core.specs.declared.books.Brought.{Brought}
+use Rattle.rpmb.specs.Kept.{said_kept}
 use Rattle.rpmb.specs.declared.outcomes.Accepted.{Accepted}
 use Rattle.rpmb.specs.declared.outcomes.Accepted.TheVariants as accepted
 use Rattle.settings.specs.declared.page.Settings.{Settings}
@@ -21,8 +22,7 @@ abbrev pub settings_kept : DeviceCore → Settings
 settings_kept d = record {
   boot = d.boot;
   is_permanent = d.is_permanent;
-  key = d.rpmb.region.key;
-  counter = d.rpmb.region.counter;
+  regions = map said_kept d.rpmb;
 }
 
 -- what is accepted gets a number, so there has to be one left
@@ -44,9 +44,9 @@ pub record IsBrought (key : Key) (first : ℕ) (bytes : List ℕ) (x : Brought) 
 abbrev pub laid_item : Translation → Key → (first : ℕ) → List ℕ → Item
 laid_item t k first bytes = record { key = k; body = with_part (256 * first) bytes (all_contents t.ledger k) }
 
--- a page of the area with these bytes, and the settings page, which they are as a whole
-abbrev pub area_item : Translation → (page first : ℕ) → List ℕ → Item
-area_item t page first bytes = laid_item t (area_key 0 page) first bytes
+-- a page of the area of a region with these bytes, and the settings page, which they are as a whole
+abbrev pub area_item : Translation → (region page first : ℕ) → List ℕ → Item
+area_item t region page first bytes = laid_item t (area_key region page) first bytes
 
 abbrev pub settings_item : Translation → List ℕ → Item
 settings_item t page = laid_item t settings_key 0 page
@@ -56,11 +56,11 @@ abbrev pub room_from : ℕ → ℕ
 room_from first = 256 * (16 - first)
 
 -- the pages of data that begin at a block of a page: what does not fit into it lies in the next one
-abbrev pub area_items : Translation → (page first : ℕ) → List ℕ → Group
-area_items t page first bytes =
-    if nat_le (length bytes) (room_from first) then area_item t page first bytes ∷ []
-    else area_item t page first (take (room_from first) bytes)
-    ∷ area_item t (page + 1) 0 (drop (room_from first) bytes) ∷ []
+abbrev pub area_items : Translation → (region page first : ℕ) → List ℕ → Group
+area_items t region page first bytes =
+    if nat_le (length bytes) (room_from first) then area_item t region page first bytes ∷ []
+    else area_item t region page first (take (room_from first) bytes)
+    ∷ area_item t region (page + 1) 0 (drop (room_from first) bytes) ∷ []
 
 -- Groups
 
@@ -68,9 +68,11 @@ area_items t page first bytes =
 abbrev pub key_group : List ℕ → Translation → Group
 key_group page t = settings_item t page ∷ []
 
--- the group of data that are written from this block of the area on: its pages, and the settings behind them
-abbrev pub write_group : ℕ → List ℕ → List ℕ → Translation → Group
-write_group address bytes page t = area_items t (address / 16) (address % 16) bytes ++ settings_item t page ∷ []
+-- the group of data that are written from this block of the area of a region on: its pages, and the settings behind
+-- them
+abbrev pub write_group : (region address : ℕ) → List ℕ → List ℕ → Translation → Group
+write_group region address bytes page t =
+    area_items t region (address / 16) (address % 16) bytes ++ settings_item t page ∷ []
 
 -- the group is put behind all that are pending under the next number, in the place of the slots that its tag has
 -- claimed

@@ -15,7 +15,7 @@ use Rattle.task_set.specs.Kept.{OpenTask, newly_open}
 use Rattle.task_set.specs.declared.tasks.TaskEvent.{TaskEvent}
 pub use Rattle.device.specs.Calls.{with_event}
 use Rattle.device.specs.Calls.{HasBegun, HasGathered, lock_told}
-use Rattle.device.specs.Frames.{HasDecided, HasFilled, frames_brought, sent_kept}
+use Rattle.device.specs.Frames.{HasDecided, HasFilled, frames_brought, region_brought, sent_kept}
 use Rattle.task_set.specs.declared.tasks.Transfer.{Transfer}
 use Rattle.task_set.specs.declared.tasks.Wanted.{Wanted}
 use Rattle.task_set.specs.declared.tasks.Wanted.TheVariants as wanted
@@ -65,6 +65,7 @@ pub record IsTaskOpened (before after : DeviceCore) (flags lun tag expected : â„
           expected = expected;
           phase = phase;
           frames = frames_brought todo;
+          region = region_brought todo;
         })))
         { ftl = layer }) todo
 

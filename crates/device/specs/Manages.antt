@@ -1,5 +1,5 @@
 -- Task management over what the device keeps (JESD220, 10.7.6 and 10.7.7).
-use Rattle.std.specs.Prelude.{ℕ, ◌==◌, is_none, Bool, if◌then◌else◌, length, [], ◌∷◌, Some, None}
+use Rattle.std.specs.Prelude.{ℕ, ◌==◌, is_none, Bool, if◌then◌else◌, List, length, [], ◌∷◌, Some, None}
 use Rattle.std.specs.List.{list_any}
 use Rattle.ufs_spec.specs.Exchanges.{Task, empty_registers}
 use Rattle.ufs_spec.specs.Management.{service_found, without_tasks}
@@ -9,7 +9,7 @@ use Rattle.ufs_spec.specs.Refusals.{State, lun_of}
 use Rattle.ufs_spec.specs.Translation.{Translation}
 use Rattle.ufs_spec.specs.declared.configs.Numbers.{Numbers}
 use Rattle.ftl_core.specs.Public.{Claims, Core, with_claimed}
-use Rattle.rpmb.specs.Kept.{Machine}
+use Rattle.rpmb.specs.Kept.{Machine, machine_at, with_machine}
 use Rattle.task_set.specs.Tasks.{brings_frames, is_meant, is_task_meant}
 use Rattle.task_set.specs.declared.frames.Frames.{Frames}
 use Rattle.task_set.specs.declared.tasks.Meant.{Meant}
@@ -59,18 +59,22 @@ carried s m = s
 
 -- One task is aborted
 
--- the machine of the RPMB once a task is aborted that had this to do with frames: if it brought some, no register holds
--- anything
-abbrev pub machine_after : Frames → Machine → Machine
-machine_after f m = record m { registers = if brings_frames f then empty_registers else m.registers }
+-- the machines of the RPMB once a task is aborted that had this to do with frames of this region: if it brought some, no
+-- register of the region holds anything
+abbrev pub machines_after : Frames → ℕ → List Machine → List Machine
+machines_after f region ms =
+    if brings_frames f
+    then with_machine ms region (record (machine_at ms region) { registers = empty_registers })
+    else ms
 
 -- what the device keeps then
-abbrev pub forgotten : DeviceCore → Frames → DeviceCore
-forgotten d f = record d { rpmb = machine_after f d.rpmb }
+abbrev pub forgotten : DeviceCore → Frames → ℕ → DeviceCore
+forgotten d f region = record d { rpmb = machines_after f region d.rpmb }
 
 -- what the device keeps, but for its layer, once the task at this position is aborted, which had this to do with frames
-abbrev pub aborted_at : DeviceCore → ℕ → Frames → DeviceCore
-aborted_at d k f = forgotten (without_task d k) f
+-- of this region
+abbrev pub aborted_at : DeviceCore → ℕ → Frames → ℕ → DeviceCore
+aborted_at d k f region = forgotten (without_task d k) f region
 
 -- the layer then: what was claimed for the tag is given back, and what is kept for it is let go
 abbrev pub HasLetGo : Core → Translation → Claims → ℕ → Type 0

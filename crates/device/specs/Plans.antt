@@ -1,5 +1,5 @@
 -- What a command does, or the status that ends it: the first line of the table that applies decides.
-use Rattle.std.specs.Prelude.{◌≡◌, ℕ, ◌*◌, ◌==◌, ◌&&◌, ◌||◌, min, not, Bool, false, if◌then◌else◌, List, [], ◌∷◌}
+use Rattle.std.specs.Prelude.{◌≡◌, ℕ, ◌<◌, ◌*◌, ◌==◌, ◌&&◌, ◌||◌, min, not, Bool, false, if◌then◌else◌, List, [], ◌∷◌}
 use Rattle.std.specs.Prelude.{Option}
 use Rattle.std.specs.Prelude.{Some, None, Result, Ok, Err}
 use Rattle.std.specs.Int.{div_ceil}
@@ -8,6 +8,7 @@ use Rattle.ufs_spec.specs.Begins.{unit_or_first}
 use Rattle.ufs_spec.specs.Exchanges.{Busy, invalid_field, not_ready, sequence_error, write_protected}
 use Rattle.ufs_spec.specs.Keys.{data_key}
 use Rattle.ufs_spec.specs.Machine.{IsCdbIn}
+use Rattle.ufs_spec.specs.Plain.{regions}
 use Rattle.ufs_spec.specs.Refusals.{Line, Request, State, has_other_response, is_crowded, is_refused_write}
 use Rattle.ufs_spec.specs.Refusals.{lacks_response, line, mended, needs_mended, numbers_of, operation_in, refusal}
 use Rattle.ufs_spec.specs.Refusals.{units_listed}
@@ -36,10 +37,10 @@ pub record IsRequest (r : Request) (flags lun expected : ℕ) (bytes : List ℕ)
   pub bytes_are : r.bytes ≡ bytes
   pub spelled : IsCdbIn (Some bytes) r.cdb
 
--- a security command names region 0, the only one
+-- a security command names the number of a region, whether or not that is there
 abbrev pub IsOfRegion : Cdb → Type 0
-IsOfRegion (cdb.SecurityIn region size) = region ≡ 0
-IsOfRegion (cdb.SecurityOut region size) = region ≡ 0
+IsOfRegion (cdb.SecurityIn region size) = region < regions
+IsOfRegion (cdb.SecurityOut region size) = region < regions
 IsOfRegion command = Unit {0}
 
 -- lines 8 to 11, which depend on what the device is now
@@ -106,8 +107,8 @@ plan_of n to expected (cdb.Write10 address blocks forced) =
 plan_of n to expected (cdb.SynchronizeCache10 address blocks immediate) =
     if immediate then plan.Nothing 0 else plan.Flush
 plan_of n to expected (cdb.Unmap list) = list_plan (unit_or_first to.unit) list
-plan_of n to expected (cdb.SecurityOut region size) = plan.AskFrames size
-plan_of n to expected (cdb.SecurityIn region size) = plan.TakeFrames size (min expected size)
+plan_of n to expected (cdb.SecurityOut region size) = plan.AskFrames region size
+plan_of n to expected (cdb.SecurityIn region size) = plan.TakeFrames region size (min expected size)
 plan_of n to expected command = plan.Nothing 0
 
 -- a request that no line of the table refuses, and what it does

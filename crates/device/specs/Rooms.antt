@@ -5,7 +5,7 @@ use Rattle.device.specs.declared.device.Device.TheInside.{Inside}
 use Rattle.device.specs.declared.world.World.TheInside.{Inside as World}
 use Rattle.device.specs.Kept.{DeviceCore, WorldState}
 
--- what contracts see of a device: its layer, its RPMB machine, and the two lists of its set of tasks
+-- what contracts see of a device: its layer, its RPMB machines, and the two lists of its set of tasks
 abbrev pub core_of : Inside → DeviceCore
 core_of d = record {
   ftl = d.ftl;

@@ -33,13 +33,13 @@ const MOST_BLOCKS: u16 = 8;
 /// The data that a request asks for, in one piece.
 pub(crate) type AreaData = ArrayVec<u8, 2048>;
 
-/// The key of a page of the area.
-pub(crate) fn area_key(page: u16) -> Key
-    ensures { result ≡ area_key 0 page }
+/// The key of a page of the area of a region.
+pub(crate) fn area_key(region: u8, page: u16) -> Key
+    ensures { result ≡ area_key region page }
 {
     Key {
         kind: Tag::RPMB_AREA,
-        unit: 0,
+        unit: region,
         address: u32::from(page),
     }
 }
@@ -69,15 +69,21 @@ fn joined(first: &[u8], second: &[u8]) -> AreaData
 }
 
 impl Device {
-    /// The pages in which these blocks of the area lie are kept, and all of them are wanted. There
+    /// The pages in which these blocks of the area of a region lie are kept, and all of them are wanted. There
     /// is always room for them: each other task keeps at most 128 blocks.
-    pub(crate) fn ask_area(&mut self, tag: u8, code: u16, asked: AreaBlocks) -> TaskEvent
+    pub(crate) fn ask_area(
+        &mut self,
+        tag: u8,
+        region: u8,
+        code: u16,
+        asked: AreaBlocks,
+    ) -> TaskEvent
         ensures left { self.new ≡ record self.old { ftl = self.new.ftl } }
         ensures event { result ≡ TaskEvent.AreaAsked code asked.address asked.count }
         ensures kept { (t : Translation) (claims : Claims) → IsLayerWith self.old.ftl t claims →
-            HasKeptArea self.new.ftl t claims tag asked }
+            HasKeptArea self.new.ftl t claims tag region asked }
     {
-        let key = area_key(asked.address / PAGE_BLOCKS);
+        let key = area_key(region, asked.address / PAGE_BLOCKS);
         self.ftl.keep_area(tag, key, pages_of(asked));
         TaskEvent::AreaAsked {
             code,

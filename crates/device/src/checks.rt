@@ -9,7 +9,8 @@ ghost use Rattle.ufs_spec.specs.Cdbs.{length_of as length_of_command};
 ghost use Rattle.ufs_spec.specs.Refusals.{Request, State, first_line, flushes, has_other_response};
 ghost use Rattle.ufs_spec.specs.Refusals.{has_wrong_list};
 ghost use Rattle.ufs_spec.specs.Refusals.{is_crowded, is_frames, is_past, is_protected, is_refused_write};
-ghost use Rattle.ufs_spec.specs.Refusals.{is_too_long, lacks_data, lacks_response, lines_for, mended};
+ghost use Rattle.ufs_spec.specs.Refusals.{is_too_long, lacks_data, lacks_region, lacks_response, lines_for};
+ghost use Rattle.ufs_spec.specs.Refusals.{mended};
 ghost use Rattle.ufs_spec.specs.Refusals.{needs_mended, numbers_of, slots_needed, unit_numbers_of, units_listed};
 ghost use Rattle.ufs_spec.specs.Refusals.{writes};
 ghost use Rattle.ufs_spec.specs.Keys.{data_key};
@@ -73,6 +74,22 @@ fn lacks_data(listed: u8, cdb: &Cdb, flags: u8, expected: u32) -> bool
         Cdb::Write6 { .. } | Cdb::Write10 { .. } | Cdb::Unmap { .. } | Cdb::SecurityOut { .. } =>
             length > 0 && (flags != WRITES || expected < length),
         _ => length > 0 && flags != READS,
+    }
+}
+
+/// Whether the RPMB region of the command is not there: its area has no bytes.
+fn lacks_region(numbers: &Numbers, cdb: &Cdb) -> bool
+    ensures { result ≡ lacks_region numbers.now cdb.now }
+{
+    match cdb {
+        Cdb::SecurityIn { region, .. } | Cdb::SecurityOut { region, .. } => match numbers
+            .rpmb
+            .get(*region as usize)
+        {
+            Some(steps) => *steps == 0,
+            None => true,
+        },
+        _ => false,
     }
 }
 
@@ -222,8 +239,12 @@ fn other_plan(cdb: &Cdb, target: Target, expected: u32) -> Plan
             expected,
         ),
         Cdb::Unmap { list } => list_plan(key.unit, u32::from(*list)),
-        Cdb::SecurityOut { length, .. } => Plan::AskFrames { length: *length },
-        Cdb::SecurityIn { length, .. } => Plan::TakeFrames {
+        Cdb::SecurityOut { region, length } => Plan::AskFrames {
+            region: *region,
+            length: *length,
+        },
+        Cdb::SecurityIn { region, length } => Plan::TakeFrames {
+            region: *region,
             length: *length,
             taken: expected.min(*length),
         },
@@ -347,13 +368,17 @@ impl Device {
             first_line (lines_for s r cdb.now) ≡ option_map status_kept result }
         ensures few { result ≡ None → blocks_of cdb.now ≤ greatest_command }
     {
+        let numbers = self.ftl.numbers();
+        if lacks_region(numbers, cdb) {
+            return Some(Status::CheckCondition(Sense::INVALID_FIELD));
+        }
         if is_too_long(self.command_blocks(), cdb) {
             return Some(Status::CheckCondition(Sense::INVALID_FIELD));
         }
         if has_wrong_list(cdb) {
             return Some(Status::CheckCondition(Sense::LIST_LENGTH));
         }
-        if lacks_data(listed_by(self.ftl.numbers(), cdb), cdb, flags, expected) {
+        if lacks_data(listed_by(numbers, cdb), cdb, flags, expected) {
             return Some(Status::CheckCondition(Sense::INVALID_FIELD));
         }
         if is_out_of_range(cdb, unit) {
@@ -404,21 +429,20 @@ impl Device {
 
     /// Whether it asks for the response to a request, and none waits.
     fn lacks_response(&self, cdb: &Cdb) -> bool
-        ensures { (s : State) → IsBare s self.now → IsOfRegion cdb.now → result ≡ lacks_response s cdb.now }
+        ensures { (s : State) → IsBare s self.now → result ≡ lacks_response s cdb.now }
     {
         match cdb {
-            Cdb::SecurityIn { .. } => self.rpmb.waiting() == 0,
+            Cdb::SecurityIn { region, .. } => self.rpmb.waiting(*region) == 0,
             _ => false,
         }
     }
 
     /// Whether it asks for a response of another length than the one that waits.
     fn has_other_response(&self, cdb: &Cdb) -> bool
-        ensures { (s : State) → IsBare s self.now → IsOfRegion cdb.now →
-            result ≡ has_other_response s cdb.now }
+        ensures { (s : State) → IsBare s self.now → result ≡ has_other_response s cdb.now }
     {
         match cdb {
-            Cdb::SecurityIn { length, .. } => self.rpmb.waiting() != *length as usize,
+            Cdb::SecurityIn { region, length } => self.rpmb.waiting(*region) != *length as usize,
             _ => false,
         }
     }

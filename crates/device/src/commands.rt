@@ -20,7 +20,7 @@ ghost use Rattle.ufs_spec.specs.declared.Message.{Message};
 use crate::device::Device;
 use crate::plans::Plan;
 use crate::queries::at_once;
-use crate::requests::{frames_of, held_phase};
+use crate::requests::{frames_of, held_phase, region_of};
 use descriptors::STANDARD_WRITE;
 use task_set::{
     AskedFor, Phase, Queried, Sending, ShortReply, Status, Task, TaskEvent, Transfer, Wanted,
@@ -156,6 +156,7 @@ impl Device {
             expected,
             phase,
             frames: frames_of(planned),
+            region: region_of(planned),
         });
         self.keep_sent(planned);
     }
@@ -203,9 +204,15 @@ impl Device {
                 },
             ) => self.begin_write(tag, key, blocks, forced),
             Ok(Plan::Send { data }) => Phase::SendData { data },
-            Ok(Plan::AskFrames { length }) => self.begin_frames(tag, length),
+            Ok(Plan::AskFrames { region: _, length }) => self.begin_frames(tag, length),
             Ok(Plan::AskList { unit, length }) => self.begin_list(tag, unit, length),
-            Ok(Plan::TakeFrames { length, taken }) => held_phase(length, taken),
+            Ok(
+                Plan::TakeFrames {
+                    region: _,
+                    length,
+                    taken,
+                },
+            ) => held_phase(length, taken),
             Ok(
                 Plan::Tell {
                     told: _,

@@ -11,7 +11,7 @@ ghost use Rattle.ufs_spec.specs.Refusals.{State};
 ghost use Rattle.ufs_spec.specs.Translation.{Translation};
 ghost use Rattle.ftl_core.specs.Public.{Describes as IsLayer, ended_now};
 ghost use Rattle.device.specs.Describes.{Describes, IsAnswered, IsGiven};
-ghost use Rattle.device.specs.Kept.{idle_device};
+ghost use Rattle.device.specs.Kept.{idle_device, regions_kept};
 ghost use Rattle.device.specs.Opened.{OpensOver};
 ghost use Rattle.page_tag.specs.Jobs.{IsTagRead};
 ghost use Rattle.recovery.specs.Found.{IsScanFault};
@@ -22,21 +22,37 @@ use geometry::Config;
 use nand_model::Die;
 use page_tag::{UnsealedJob, tag_read};
 use recovery::{Found, scan};
-use rpmb::Rpmb;
+use rpmb::{Machines, RegionState};
 use settings::Settings;
 use std::alloc::{AllocError, Global};
 use std::marker::Model;
 use task_set::TaskSet;
-use ufs_spec::{Block, Job, OpenFault, Outcome, Tag};
+use ufs_spec::{Block, Job, KeyAndCounter, Numbers, OpenFault, Outcome, Tag};
 
 /// How many blocks of 256 bytes the area of a region has in each of its steps (JESD220, 12.4: 128 KiB).
 const STEP_BLOCKS: u32 = 512;
 
-/// How many blocks of 256 bytes an area of so many steps has.
-fn area_blocks(steps: u8) -> u32
-    ensures { result ≡ 512 * steps }
+/// What is kept of a region with this key and this counter, whose area has so many steps.
+fn region_kept(said: &KeyAndCounter, steps: u8) -> RegionState
+    ensures { result ≡ record { key = said.now.key; counter = said.now.counter; blocks = 512 * steps } }
 {
-    STEP_BLOCKS * u32::from(steps)
+    RegionState {
+        key: said.key,
+        counter: said.counter,
+        blocks: STEP_BLOCKS * u32::from(steps),
+    }
+}
+
+/// The same of each region, with these settings and numbers.
+fn regions_kept(settings: &Settings, numbers: &Numbers) -> [RegionState; 4]
+    ensures { result ≡ regions_kept settings.now numbers.now }
+{
+    [
+        region_kept(&settings.regions[0], numbers.rpmb[0]),
+        region_kept(&settings.regions[1], numbers.rpmb[1]),
+        region_kept(&settings.regions[2], numbers.rpmb[2]),
+        region_kept(&settings.regions[3], numbers.rpmb[3]),
+    ]
 }
 
 /// A device: the translation layer, and the tasks that are open.
@@ -51,8 +67,8 @@ pub struct Device {
     pub(crate) is_permanent: bool,
     /// fPowerOnWPEn: units are protected until the next power cycle (JESD220, 14.2).
     pub(crate) is_power_on: bool,
-    /// The replay protected memory block of region 0, the only one: its key and counter, and its registers.
-    pub(crate) rpmb: Rpmb,
+    /// The regions of the replay protected memory block: their keys and counters, and their registers.
+    pub(crate) rpmb: Machines,
     /// The tasks that are open, the exchanges of one reply, and the blocks that dies read for the tasks.
     pub(crate) set: TaskSet,
 }
@@ -103,27 +119,31 @@ impl Device {
     {
         config.has_no_fault();
         let settings = found.settings;
-        let blocks = area_blocks(config.numbers().rpmb);
+        let regions = regions_kept(&settings, config.numbers());
         let Ok(ftl) = Ftl::new(alloc, config, found) else {
             return Err(OpenFault::NoMemory);
         };
-        match Device::idle(alloc, ftl, &settings, blocks) {
+        match Device::idle(alloc, ftl, &settings, &regions) {
             Ok(device) => Ok(device),
             Err(_) => Err(OpenFault::NoMemory),
         }
     }
 
-    /// A device over this layer, with these settings, an area of so many blocks of 256 bytes, and no task
-    /// open.
-    fn idle(alloc: Global, ftl: Ftl, settings: &Settings, blocks: u32) -> Result<Device, AllocError>
-        ensures { IfOk result (λ d. d ≡ idle_device ftl settings.now blocks) }
+    /// A device over this layer, with these settings, regions of which this is kept, and no task open.
+    fn idle(
+        alloc: Global,
+        ftl: Ftl,
+        settings: &Settings,
+        regions: &[RegionState; 4],
+    ) -> Result<Device, AllocError>
+        ensures { IfOk result (λ d. d ≡ idle_device ftl settings.now regions.now) }
     {
         Ok(Device {
             ftl,
             boot: settings.boot,
             is_permanent: settings.is_permanent,
             is_power_on: false,
-            rpmb: Rpmb::new(alloc, settings.key, settings.counter, blocks)?,
+            rpmb: Machines::new(alloc, regions)?,
             set: TaskSet::new(alloc)?,
         })
     }

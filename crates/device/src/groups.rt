@@ -4,6 +4,7 @@ ghost use Rattle.std.specs.Prelude.{◌≡◌, ◌≤◌, ◌+◌, ◌*◌, ◌/
 ghost use Rattle.device.specs.Frames.{HasAccepted};
 ghost use Rattle.device.specs.Groups.{HasPut, IsBrought, key_group, settings_kept, write_group};
 ghost use Rattle.ftl_core.specs.Public.{has_number};
+ghost use Rattle.rpmb.specs.Kept.{machine_at};
 ghost use Rattle.rpmb.specs.Outcomes.{MayChange};
 ghost use Rattle.rpmb.specs.Requests.{frames_of};
 ghost use Rattle.settings.specs.Told.{bytes_of};
@@ -38,14 +39,15 @@ fn settings_brought(page: &Block) -> Brought<'_>
     }
 }
 
-/// A page of the area, of which these whole blocks are brought, the first at this place in it.
-fn area_brought(page: u16, first: u8, bytes: &[u8]) -> Brought<'_>
+/// A page of the area of a region, of which these whole blocks are brought, the first at this place
+/// in it.
+fn area_brought(region: u8, page: u16, first: u8, bytes: &[u8]) -> Brought<'_>
     requires whole { 256 * (length bytes.now / 256) ≡ length bytes.now }
     requires within { 256 * first + length bytes.now ≤ 4096 }
-    ensures { IsBrought (area_key 0 page) first bytes.now result }
+    ensures { IsBrought (area_key region page) first bytes.now result }
 {
     Brought {
-        key: area_key(page),
+        key: area_key(region, page),
         part: Part {
             first,
             blocks: (bytes.len() / BLOCK) as u8,
@@ -59,35 +61,41 @@ impl Device {
     pub(crate) fn settings(&self) -> Settings
         ensures { result ≡ settings_kept self.now }
     {
-        let region = self.rpmb.region();
         Settings {
             boot: self.boot,
             is_permanent: self.is_permanent,
-            key: region.key,
-            counter: region.counter,
+            regions: self.rpmb.said(),
         }
     }
 
-    /// A key or a write is accepted: the key is set or the counter rises, and its pages are put behind all
+    /// A key or a write of the region is accepted: the key is set or the counter rises, and its pages are put behind all
     /// that are pending as one group.
     pub(crate) fn accept_request(
         &mut self,
         tag: u8,
+        region: u8,
         frames: &[u8],
         code: u16,
         accepted: &Accepted,
     ) -> TaskEvent
-        requires may { MayChange accepted.now self.old.rpmb.region }
+        requires may { MayChange accepted.now (machine_at self.old.rpmb region).region }
         requires numbered { IsTrue (has_number self.old.ftl) }
         requires few { length frames.now ≤ 4096 }
         ensures left { self.new ≡ record self.old { ftl = self.new.ftl; rpmb = self.new.rpmb } }
-        ensures accepted { HasAccepted self.old self.new tag (frames_of frames.now) code accepted.now result }
+        ensures accepted { HasAccepted self.old self.new tag region (frames_of frames.now) code
+            accepted.now result }
     {
-        self.rpmb.apply(accepted);
+        self.rpmb.apply(region, accepted);
         let settings = self.settings().page();
         let number = match accepted {
             Accepted::Write { address } => {
-                self.put_write(tag, *address, all_data(frames).as_slice(), &settings)
+                self.put_write(
+                    tag,
+                    region,
+                    *address,
+                    all_data(frames).as_slice(),
+                    &settings,
+                )
             }
             _ => self.put_settings(tag, &settings),
         };
@@ -103,26 +111,37 @@ impl Device {
         self.ftl.accept_pages(tag, &[settings_brought(settings)])
     }
 
-    /// The pages of data that are written from a block of the area on are put behind all that are pending,
-    /// with the settings page behind them in the same group, which has this number.
-    fn put_write(&mut self, tag: u8, address: u16, bytes: &[u8], settings: &Block) -> u64
+    /// The pages of data that are written from a block of the area of a region on are put behind all that
+    /// are pending, with the settings page behind them in the same group, which has this number.
+    fn put_write(
+        &mut self,
+        tag: u8,
+        region: u8,
+        address: u16,
+        bytes: &[u8],
+        settings: &Block,
+    ) -> u64
         requires numbered { IsTrue (has_number self.old.ftl) }
         requires whole { 256 * (length bytes.now / 256) ≡ length bytes.now }
         requires few { length bytes.now ≤ 2048 }
         ensures left { self.new ≡ record self.old { ftl = self.new.ftl } }
-        ensures put { HasPut self.old.ftl self.new.ftl tag (write_group address bytes.now settings.now) result }
+        ensures put { HasPut self.old.ftl self.new.ftl tag
+            (write_group region address bytes.now settings.now) result }
     {
         let page = address / PAGE_BLOCKS;
         let first = (address % PAGE_BLOCKS) as u8;
         let room = BLOCK * usize::from(16 - first);
         if bytes.len() <= room {
-            let pages = [area_brought(page, first, bytes), settings_brought(settings)];
+            let pages = [
+                area_brought(region, page, first, bytes),
+                settings_brought(settings),
+            ];
             self.ftl.accept_pages(tag, &pages)
         } else {
             let (here, behind) = bytes.split_at(room);
             let pages = [
-                area_brought(page, first, here),
-                area_brought(page + 1, 0, behind),
+                area_brought(region, page, first, here),
+                area_brought(region, page + 1, 0, behind),
                 settings_brought(settings),
             ];
             self.ftl.accept_pages(tag, &pages)

@@ -148,18 +148,18 @@ impl Device {
     }
 
     /// The task at this position ends without a reply: what it claimed is given back, it keeps
-    /// nothing, and if it brought frames, no register of the RPMB holds anything. What it had
-    /// accepted stays accepted.
+    /// nothing, and if it brought frames, no register of their RPMB region holds anything. What it
+    /// had accepted stays accepted.
     fn abort(&mut self, index: usize, task: Task)
         requires { index < length self.old.tasks }
         ensures left { self.new
-            ≡ record (aborted_at self.old index task.frames) { ftl = self.new.ftl } }
+            ≡ record (aborted_at self.old index task.frames task.region) { ftl = self.new.ftl } }
         ensures layer { (t : Translation) (claims : Claims) → IsLayerWith self.old.ftl t claims →
             HasLetGo self.new.ftl t claims task.tag }
     {
         self.set.end(index);
         self.let_go(task.tag);
-        self.forget_request(task.frames);
+        self.forget_request(task.frames, task.region);
     }
 
     /// What is claimed for this tag is given back, and what is kept for it is let go.
@@ -172,13 +172,13 @@ impl Device {
         self.ftl.unpin(tag);
     }
 
-    /// A task that had this to do with frames was aborted: if it brought some, the registers are
-    /// emptied.
-    fn forget_request(&mut self, frames: Frames)
-        ensures { self.new ≡ forgotten self.old frames }
+    /// A task that had this to do with frames of the region was aborted: if it brought some, the
+    /// registers of the region are emptied.
+    fn forget_request(&mut self, frames: Frames, region: u8)
+        ensures { self.new ≡ forgotten self.old frames region }
     {
         if frames != Frames::NotBrought {
-            self.rpmb.forget();
+            self.rpmb.forget(region);
         }
     }
 }

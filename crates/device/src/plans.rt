@@ -42,8 +42,9 @@ pub enum Plan {
     },
     /// It is answered GOOD once all that was accepted before it is durable.
     Flush,
-    /// It asks for frames, so many bytes.
+    /// It asks for frames for this region of the RPMB, so many bytes.
     AskFrames {
+        region: u8,
         length: u32,
     },
     /// It asks for the list of what to unmap in this unit, so many bytes (SBC, UNMAP).
@@ -51,9 +52,10 @@ pub enum Plan {
         unit: u8,
         length: u32,
     },
-    /// It takes the frames that wait in the response register, so many bytes, of which its host takes so
-    /// many.
+    /// It takes the frames that wait in the response register of this region, so many bytes, of which its
+    /// host takes so many.
     TakeFrames {
+        region: u8,
         length: u32,
         taken: u32,
     },

@@ -8,10 +8,11 @@ ghost use Rattle.ufs_spec.specs.Translation.{Translation};
 ghost use Rattle.ftl_core.specs.Public.{Claims, Describes as IsLayer};
 ghost use Rattle.device.specs.Calls.{HasClaimedFrames, held_phase, with_event};
 ghost use Rattle.device.specs.Frames.{HasAnswered, HasDecided, HasFilled, HasRefused, HasRequested};
-ghost use Rattle.device.specs.Frames.{HasResponded, IsDecided, data_for, frames_brought};
+ghost use Rattle.device.specs.Frames.{HasResponded, IsDecided, data_for, frames_brought, region_brought};
 ghost use Rattle.device.specs.Frames.{handed_over, identity_bytes, is_due_to, sent_kept, to_answer};
 ghost use Rattle.device.specs.Frames.{waiting_in_block, with_held, with_none_waiting, with_zeros};
 ghost use Rattle.rpmb.specs.Answers.{AreFew};
+ghost use Rattle.rpmb.specs.Kept.{machine_at, with_machine};
 ghost use Rattle.device.specs.Groups.{HasNumberFor};
 ghost use Rattle.device.specs.Kept.{IsLayerWith};
 ghost use Rattle.rpmb.specs.Outcomes.{MayChange};
@@ -23,7 +24,7 @@ use crate::device::Device;
 use crate::plans::{Identity, Plan};
 use crate::replies::zeros;
 use lun_route::{inquiry_bytes, luns_bytes};
-use rpmb::{Accepted, Outcome, Rpmb, asked_area};
+use rpmb::{Accepted, Machines, Outcome, asked_area};
 use task_set::{Frames, Phase, Status, TaskEvent};
 use ufs_spec::{Block, Sense};
 
@@ -47,8 +48,23 @@ pub(crate) fn frames_of(planned: Result<Plan, Status>) -> Frames
     ensures { result ≡ frames_brought planned }
 {
     match planned {
-        Ok(Plan::AskFrames { length: _ }) => Frames::Undecided,
+        Ok(
+            Plan::AskFrames {
+                region: _,
+                length: _,
+            },
+        ) => Frames::Undecided,
         _ => Frames::NotBrought,
+    }
+}
+
+/// The RPMB region to which a task brings frames for which this was planned; 0 if it brings none.
+pub(crate) fn region_of(planned: Result<Plan, Status>) -> u8
+    ensures { result ≡ region_brought planned }
+{
+    match planned {
+        Ok(Plan::AskFrames { region, length: _ }) => region,
+        _ => 0,
     }
 }
 
@@ -63,12 +79,13 @@ fn block_of(bytes: &[u8]) -> Block
     block
 }
 
-/// What waits stands in the block, as much as there is room for, and waits no longer.
-fn take_waiting(rpmb: &mut Rpmb, into: &mut Block)
-    ensures block { into.new ≡ waiting_in_block rpmb.old into.old }
-    ensures emptied { rpmb.new ≡ with_none_waiting rpmb.old }
+/// What waits in the region stands in the block, as much as there is room for, and waits no longer.
+fn take_waiting(rpmb: &mut Machines, region: u8, into: &mut Block)
+    ensures block { into.new ≡ waiting_in_block (machine_at rpmb.old region) into.old }
+    ensures emptied { rpmb.new
+        ≡ with_machine rpmb.old region (with_none_waiting (machine_at rpmb.old region)) }
 {
-    rpmb.input(into);
+    rpmb.input(region, into);
 }
 
 impl Device {
@@ -99,10 +116,11 @@ impl Device {
         match planned {
             Ok(
                 Plan::TakeFrames {
+                    region,
                     length: _,
                     taken: _,
                 },
-            ) => self.hand_over(last),
+            ) => self.hand_over(last, region),
             Ok(
                 Plan::Tell {
                     told,
@@ -129,13 +147,13 @@ impl Device {
         }
     }
 
-    /// The frames that wait go to the task at this position.
-    fn hand_over(&mut self, index: usize)
+    /// The frames that wait in the region go to the task at this position.
+    fn hand_over(&mut self, index: usize, region: u8)
         requires { index < length self.old.tasks }
-        ensures { self.new ≡ handed_over self.old index }
+        ensures { self.new ≡ handed_over self.old index region }
     {
         let mut frames: Block = *zeros();
-        take_waiting(&mut self.rpmb, &mut frames);
+        take_waiting(&mut self.rpmb, region, &mut frames);
         self.set.keep(index, &frames);
     }
 
@@ -147,10 +165,11 @@ impl Device {
         ensures { HasDecided self.old self.new tag index frames.now }
     {
         let is_locked = self.ftl.is_locked();
-        match self.rpmb.out(frames, is_locked) {
+        let region = self.set.task(index).region;
+        match self.rpmb.out(region, frames, is_locked) {
             Outcome::Refused(why) => self.refuse_frames(index, tag, why.sense()),
             Outcome::Results { result, accepted } => {
-                self.begin_request(index, tag, frames, result, &accepted);
+                self.begin_request(index, tag, region, frames, result, &accepted);
             }
         }
     }
@@ -164,24 +183,25 @@ impl Device {
         self.happen(index, TaskEvent::FramesRefused { sense });
     }
 
-    /// The frames are a request with this result, of which this is accepted.
+    /// The frames are a request to the region with this result, of which this is accepted.
     fn begin_request(
         &mut self,
         index: usize,
         tag: u8,
+        region: u8,
         frames: &[u8],
         code: u16,
         accepted: &Accepted,
     )
         requires there { index < length self.old.tasks }
         requires few { length frames.now ≤ 4096 }
-        requires may { MayChange accepted.now self.old.rpmb.region }
+        requires may { MayChange accepted.now (machine_at self.old.rpmb region).region }
         requires numbered { HasNumberFor accepted.now self.old.ftl }
-        ensures { HasRequested self.old self.new tag index frames.now code accepted.now }
+        ensures { HasRequested self.old self.new tag index region frames.now code accepted.now }
     {
         self.keep_bytes(index, frames);
-        let event = self.decide(tag, frames, code, accepted);
-        self.rpmb.begin(frames);
+        let event = self.decide(tag, region, frames, code, accepted);
+        self.rpmb.begin(region, frames);
         self.happen(index, event);
     }
 
@@ -196,32 +216,39 @@ impl Device {
 
     /// What a request with this result does: what is accepted is put behind all that was accepted;
     /// any other request is answered, or reads what it asks for.
-    fn decide(&mut self, tag: u8, frames: &[u8], code: u16, accepted: &Accepted) -> TaskEvent
+    fn decide(
+        &mut self,
+        tag: u8,
+        region: u8,
+        frames: &[u8],
+        code: u16,
+        accepted: &Accepted,
+    ) -> TaskEvent
         requires few { length frames.now ≤ 4096 }
-        requires may { MayChange accepted.now self.old.rpmb.region }
+        requires may { MayChange accepted.now (machine_at self.old.rpmb region).region }
         requires numbered { HasNumberFor accepted.now self.old.ftl }
         ensures left { self.new ≡ record self.old { ftl = self.new.ftl; rpmb = self.new.rpmb } }
-        ensures done { IsDecided self.old self.new tag (frames_of frames.now) code accepted.now
-            result }
+        ensures done { IsDecided self.old self.new tag region (frames_of frames.now) code
+            accepted.now result }
     {
         match accepted {
-            Accepted::Nothing => self.answer_request(tag, frames, code),
-            Accepted::Key(_) => self.accept_request(tag, frames, code, accepted),
-            Accepted::Write { .. } => self.accept_request(tag, frames, code, accepted),
+            Accepted::Nothing => self.answer_request(tag, region, frames, code),
+            Accepted::Key(_) => self.accept_request(tag, region, frames, code, accepted),
+            Accepted::Write { .. } => self.accept_request(tag, region, frames, code, accepted),
         }
     }
 
     /// A request that accepts nothing gives its slots back. One for data that passed its checks
     /// reads its pages; any other is answered at once.
-    fn answer_request(&mut self, tag: u8, frames: &[u8], code: u16) -> TaskEvent
+    fn answer_request(&mut self, tag: u8, region: u8, frames: &[u8], code: u16) -> TaskEvent
         ensures left { self.new ≡ record self.old { ftl = self.new.ftl } }
-        ensures answered { HasAnswered self.old.ftl self.new.ftl tag (frames_of frames.now) code
-            result }
+        ensures answered { HasAnswered self.old.ftl self.new.ftl tag region (frames_of frames.now)
+            code result }
     {
         self.ftl.release(tag);
         match asked_area(frames, code) {
             None => TaskEvent::RequestAnswered { code },
-            Some(asked) => self.ask_area(tag, code, asked),
+            Some(asked) => self.ask_area(tag, region, code, asked),
         }
     }
 
@@ -271,23 +298,24 @@ impl Device {
         let task = self.set.task(index);
         if let Frames::Decided { code } = task.frames {
             match self.data_for(index, &task) {
-                None => self.respond(index, code, None),
-                Some(data) => self.respond(index, code, Some(data.as_slice())),
+                None => self.respond(index, task.region, code, None),
+                Some(data) => self.respond(index, task.region, code, Some(data.as_slice())),
             }
         }
     }
 
-    /// The request of the task at this position, which has this result, fills its register by these
-    /// data that were read for it: none if a page of them could not be read.
-    fn respond(&mut self, index: usize, code: u16, data: Option<&[u8]>)
+    /// The request of the task at this position, to this region and with this result, fills its register
+    /// by these data that were read for it: none if a page of them could not be read.
+    fn respond(&mut self, index: usize, region: u8, code: u16, data: Option<&[u8]>)
         requires there { index < length self.old.tasks }
         requires few { AreFew (option_copied «data») }
         ensures left { self.new ≡ record self.old { rpmb = self.new.rpmb } }
         ensures responded { (task : OpenTask) → slice_get self.old.tasks index ≡ Some task →
+            task.region ≡ region →
             HasResponded self.old.rpmb self.new.rpmb task code (option_copied «data».entry) }
     {
         if let Some(held) = self.set.held(index) {
-            self.rpmb.respond(&held[..FRAME], code, data);
+            self.rpmb.respond(region, &held[..FRAME], code, data);
         }
     }
 

@@ -43,7 +43,7 @@ mark_after p (MarkPage m) f = newer_mark p m f
 
 -- ## The newest pages
 
--- the kind, the unit and the address of a page
+-- the kind, the unit or RPMB region, and the address of a page
 abbrev pub Address : Type 0
 Address = ℕ × ℕ × ℕ
 
@@ -55,7 +55,7 @@ address_of t = (t.kind, t.unit, t.address)
 abbrev pub address_cmp : Address → Address → Ordering
 address_cmp a b = ordering_then (ordering_then (nat_cmp a.0 b.0) (nat_cmp a.1 b.1)) (nat_cmp a.2 b.2)
 
--- both have the same kind, unit and address
+-- both have the same kind, unit or RPMB region, and address
 abbrev pub same_address : Address → Address → Bool
 same_address a b = is_eq (address_cmp a b)
 

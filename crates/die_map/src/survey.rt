@@ -20,7 +20,7 @@ use std::alloc::{AllocError, Global};
 use std::collections::BTreeMap;
 use ufs_spec::{Fence, Job, Page, Place, Tag};
 
-/// The kind, the unit and the address of a page.
+/// The kind, the unit or RPMB region, and the address of a page.
 type Address = (u8, u8, u32);
 
 /// The places of what counts: for each address the page with the greatest number, and the newest

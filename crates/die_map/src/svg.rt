@@ -163,7 +163,10 @@ fn write_tag<W: fmt::Write>(f: &mut fmt::Formatter<W>, state: &str, tag: &Tag) -
     } = *tag;
     match kind {
         Tag::DATA => write!(f, "{state}, unit {unit} address {address}, number {number}"),
-        Tag::RPMB_AREA => write!(f, "{state}, RPMB page {address}, number {number}"),
+        Tag::RPMB_AREA => write!(
+            f,
+            "{state}, RPMB region {unit} page {address}, number {number}"
+        ),
         _ => write!(f, "{state}, settings, number {number}"),
     }
 }

@@ -6,7 +6,7 @@ use Rattle.std.specs.Prelude.{if◌then◌else◌, List, [], ◌++◌, length, m
 use Rattle.std.specs.Prelude.{Option, Some, None, unwrap_or, option_and_then, option_map, filter, find, is_none}
 use Rattle.std.specs.List.{list_any}
 use Rattle.ufs_spec.specs.Keys.{below}
-use Rattle.ufs_spec.specs.Plain.{zero_block}
+use Rattle.ufs_spec.specs.Plain.{steps_of, zero_block}
 use Rattle.ufs_spec.specs.Translation.{name_of, own_room}
 use Rattle.ufs_spec.specs.declared.flash.Fence.{Fence}
 use Rattle.ufs_spec.specs.declared.flash.Key.{Key}
@@ -68,15 +68,26 @@ first_fence f =
     if nat_lt f.greatest_seen f.first_lost then None
     else Some (record { first = f.first_lost; last = f.greatest_seen })
 
--- the mending is over where a mark stands and nothing is lost
-abbrev pub mending_from : Option Fence → Option Mark → Mending
-mending_from (Some fence) newest = mending.Unmarked (Some fence)
-mending_from None None = mending.Unmarked None
-mending_from None (Some mark) = mending.Mended
+-- the areas of RPMB regions 1 to 3 are as large by these numbers as by those
+abbrev pub same_regions : Numbers → Numbers → Bool
+same_regions n m =
+    (steps_of m 1 == steps_of n 1) && (steps_of m 2 == steps_of n 2) && (steps_of m 3 == steps_of n 3)
+
+-- a mark stands, and it has the numbers of the device. A mark that suits the device can differ from it in the sizes of
+-- those regions alone
+abbrev pub is_own : Numbers → Option Mark → Bool
+is_own n None = false
+is_own n (Some mark) = same_regions n mark.numbers
+
+-- the mending is over where a mark with the device's numbers stands and nothing is lost
+abbrev pub mending_from : Option Fence → Bool → Mending
+mending_from (Some fence) own = mending.Unmarked (Some fence)
+mending_from None false = mending.Unmarked None
+mending_from None true = mending.Mended
 
 -- how far the mending is when a life begins, by what the scan found
-abbrev pub first_mending : Found → Mending
-first_mending f = mending_from (first_fence f) f.newest
+abbrev pub first_mending : Numbers → Found → Mending
+first_mending n f = mending_from (first_fence f) (is_own n f.newest)
 
 -- the number behind that of the newest mark, and 1 where no mark is. A mark's number counts as the greatest one at most
 abbrev pub number_behind : Option Mark → ℕ
@@ -101,7 +112,7 @@ opened n f = record {
   last = min f.greatest_seen greatest_number;
   pins = [];
   plan = None;
-  mending = first_mending f;
+  mending = first_mending n f;
   lost = f.lost.items;
   repaired = 0;
   step = None;

@@ -4,6 +4,7 @@ use Rattle.std.specs.Prelude.{ℕ, zero, suc, ◌==◌, nat_le, nat_lt, Bool, tr
 use Rattle.std.specs.Prelude.{find, is_none, is_some, List, position, slice_get, Option, Some, None, option_and_then}
 use Rattle.std.specs.Prelude.{option_map}
 use Rattle.std.specs.List.{list_any}
+use Rattle.ufs_spec.specs.Plain.{regions}
 use Rattle.ufs_spec.specs.Pages.{greatest_number, group_bound}
 use Rattle.ufs_spec.specs.Pages.{mark_bytes, seal_page}
 use Rattle.ufs_spec.specs.declared.flash.Job.{Job}
@@ -185,7 +186,7 @@ owed_flight c die filling (Some f) = Some f
 abbrev pub is_sealable : Key → Bool
 is_sealable k =
     if k.kind == 1 then nat_le k.unit 7
-    else if k.kind == 2 then k.unit == 0
+    else if k.kind == 2 then nat_lt k.unit regions
     else if k.kind == 3 then (k.unit == 0) && (k.address == 0)
     else false
 

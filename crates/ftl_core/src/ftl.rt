@@ -1,7 +1,7 @@
 //! The translation layer and its calls.
 ghost use Rattle.std.specs.Prelude.{◌≡◌, ℕ, ◌<◌, ◌≤◌, ◌+◌, length, IsTrue, IfOk, IsSome, nat_le, nat_lt, ◌-◌, [], if◌then◌else◌, map, None, true, option_copied, replicate, Bool, false, find, option_map, fold, List, take};
 ghost use Rattle.std.specs.List.{list_any};
-ghost use Rattle.ftl_core.specs.Moves.{accepted, first_fence, first_mending};
+ghost use Rattle.ftl_core.specs.Moves.{accepted, first_fence, first_mending, is_own};
 ghost use Rattle.ftl_core.specs.Moves.{is_over, mark_number_behind, opened, state_of_found};
 ghost use Rattle.ftl_core.specs.Moves.{stored_of_found, slot_of, looked_by, looked_on, pin_of, next_wanted, unpinned, look_of, stored_of, free_slots, is_locked, has_number, next_number, without_reader, without_block};
 ghost use Rattle.ftl_core.specs.Moves.{claims_for, claimed_all, released, released_behind, filled};
@@ -37,7 +37,7 @@ use crate::books::{Mending, Step};
 use block_table::{BlockState, BlockTable, LivePages, Sizes};
 use collector::Plan;
 use geometry::{Config, key_count};
-use page_tag::ZeroSeal;
+use page_tag::{Mark, ZeroSeal};
 use readers::{Pin, Pins};
 use recovery::{Found, FoundBlock, FoundPage};
 use std::alloc::{AllocError, Global};
@@ -230,13 +230,30 @@ fn first_fence(found: &Found) -> Option<Fence>
     })
 }
 
-/// How far the mending is when the layer is opened: it is over where a mark stands and nothing is lost.
-fn first_mending(found: &Found) -> Mending
-    ensures { result ≡ first_mending found.now }
+/// Whether a mark stands and has the numbers of the device. A mark that suits the device can differ
+/// from it in the sizes of RPMB regions 1 to 3 alone.
+fn is_own(mark: &Option<Mark>, numbers: &Numbers) -> bool
+    ensures { result ≡ is_own numbers.now mark.now }
+{
+    match mark {
+        Some(mark) => {
+            let sizes = mark.numbers.rpmb;
+            sizes[1] == numbers.rpmb[1]
+                && sizes[2] == numbers.rpmb[2]
+                && sizes[3] == numbers.rpmb[3]
+        }
+        None => false,
+    }
+}
+
+/// How far the mending is when the layer is opened: it is over where a mark with the device's numbers
+/// stands and nothing is lost.
+fn first_mending(found: &Found, numbers: &Numbers) -> Mending
+    ensures { result ≡ first_mending numbers.now found.now }
 {
     match first_fence(found) {
         Some(fence) => Mending::Unmarked(Some(fence)),
-        None if found.newest.is_some() => Mending::Mended,
+        None if is_own(&found.newest, numbers) => Mending::Mended,
         None => Mending::Unmarked(None),
     }
 }
@@ -275,6 +292,7 @@ impl Ftl {
             IsFound config cells is_bad found → IsOpenedTranslation config cells is_bad t → StopsRight f t) }
         ensures claims { IfOk result (λ f. AreClaimed f (λ reader. [])) }
     {
+        config.has_no_fault();
         let numbers = config.numbers();
         let slots = numbers.slots;
         let keys = key_count(numbers);
@@ -285,7 +303,7 @@ impl Ftl {
         };
         let states = states_of(alloc, found.blocks.as_slice())?;
         let places = places_of(alloc, found.contents.as_slice())?;
-        let mending = first_mending(&found);
+        let mending = first_mending(&found, numbers);
         let next_mark = mark_number_behind(&found);
         let last = found.greatest_seen.min(GREATEST_NUMBER);
         Ok(Ftl {

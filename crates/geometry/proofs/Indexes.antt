@@ -1,10 +1,10 @@
 -- Each key of a device has one index, each index below their count one key, and the indexes rise with the keys.
 use Rattle.std.proofs.Common.{◌≡◌, ◌≢◌, ◌∙◌, ◌⊎◌, ℕ, zero, suc, ◌+◌, ◌<◌, ◌≤◌, List, [], ◌∷◌, length, take, sum, refl}
 use Rattle.std.proofs.Common.{sym, ap, inl, inr, ⊎_elim, subst, arith}
-use Rattle.std.specs.Prelude.{◌↔◌, IfSome, MatchOption, Option, Some, None, get_or, map, slice_index_or}
+use Rattle.std.specs.Prelude.{◌↔◌, IfSome, MatchOption, Option, Some, None, get_or, map, slice_index_or, sum_by}
 use Rattle.std.proofs.Math.ListN.{get_or-map}
-use Rattle.std.proofs.lemmas.List.{length-map, take-map}
-use Rattle.std.proofs.lemmas.List.Sums.{sum_by-cons}
+use Rattle.std.proofs.lemmas.List.{length-map, take-map, take_all}
+use Rattle.std.proofs.lemmas.List.Sums.{sum-map, sum_by-cons}
 use Rattle.ufs_spec.specs.Keys.{IsArea, IsData, IsKey, IsSettings, area_key, area_pages, data_key, region_pages}
 use Rattle.ufs_spec.specs.Keys.{settings_key}
 use Rattle.ufs_spec.specs.Openings.{IsBefore}
@@ -172,3 +172,24 @@ block_found us u a start l m is =
       omega (arith, e, m),
       ap (λ (n : ℕ). n + a) (is ∙ ap sum (sym (take-map (λ (v : UnitSpec). v.blocks) u us))),
     )
+
+-- so many blocks on from where a unit starts stands a block of that unit, as long as the unit has it
+pub data_found : (s : Shape) (us : List UnitSpec) (u a index : ℕ) → map (λ (v : UnitSpec). v.blocks) us ≡ s.blocks →
+    u < length us → a < (get_or us u (record { blocks = 0; boot = 0; protect = 0 })).blocks →
+    sum_by (λ (v : UnitSpec). v.blocks) (take u us) + a ≡ index → IsIndex s (data_key u a) index
+data_found s us u a index same l m e =
+    let at = block_found us u a _ l m (sym (sum-map (λ (v : UnitSpec). v.blocks) (take u us))) in
+    let start = ap (λ (bs : List ℕ). sum (take u bs)) same in
+    let there : u < length s.blocks = subst (λ (bs : List ℕ). u < length bs) same at.0 in
+    let within : a < slice_index_or s.blocks u 0 = subst (λ (bs : List ℕ). a < get_or bs u 0) same at.1 in
+    AtData refl there within (omega (arith, start, at.2, e))
+
+-- and behind all units the rest is counted from the end of their blocks
+pub behind_units : (s : Shape) (us : List UnitSpec) (u rest index : ℕ) →
+    map (λ (v : UnitSpec). v.blocks) us ≡ s.blocks → length us ≤ u →
+    sum_by (λ (v : UnitSpec). v.blocks) (take u us) + rest ≡ index → sum s.blocks + rest ≡ index
+behind_units s us u rest index same l e =
+    let all = ap (sum_by (λ (v : UnitSpec). v.blocks)) (take_all u us l) in
+    let sums = sum-map (λ (v : UnitSpec). v.blocks) us in
+    let blocks = ap sum same in
+    omega (arith, all, sums, blocks, e)

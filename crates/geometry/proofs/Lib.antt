@@ -1,2 +1,3 @@
+pub mod Areas
 pub mod Indexes
 pub mod KeyIndexes

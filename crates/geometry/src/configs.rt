@@ -1,7 +1,7 @@
 //! The configuration of a device: numbers that have no fault.
-ghost use Rattle.std.specs.Prelude.{◌≡◌, ◌≤◌, ◌*◌, ◌==◌, Some, None, length, count_by, sum_by, IfOk, IfErr};
+ghost use Rattle.std.specs.Prelude.{◌≡◌, ◌≤◌, ◌*◌, ◌==◌, ◌&&◌, slice_index_or, Some, None, length, count_by, sum, sum_by, IfOk, IfErr};
 ghost use Rattle.std.specs.List.{list_all};
-ghost use Rattle.ufs_spec.specs.Plain.{greatest_command};
+ghost use Rattle.ufs_spec.specs.Plain.{greatest_command, regions};
 ghost use Rattle.ufs_spec.specs.Configs.{numbers_of, is_between, unit_in_range, in_range, unit_blocks, pages_kept, blocks_needed, blocks_left, boot_count, command_blocks, config_fault, InRange, HasRoom, HasOneBootUnitEach};
 
 mod facts;
@@ -34,8 +34,9 @@ impl Model for Config {
 }
 
 impl Config {
-    /// The configuration with these numbers: dies, blocks a die, pages a block, units, RPMB area in
-    /// steps of 128 KiB, slots of the write cache, and blocks that may go bad.
+    /// The configuration with these numbers: dies, blocks a die, pages a block, units, the area of each
+    /// RPMB region in steps of 128 KiB, slots of the write cache, and blocks that may go bad. A region
+    /// whose area has no step is not there; the first one always is.
     ///
     /// The lowest fault that applies is told: a number out of its range, too few blocks beside the
     /// spare ones, or a boot number that two units have.
@@ -44,7 +45,7 @@ impl Config {
         blocks: u16,
         pages: u16,
         units: &[UnitSpec],
-        rpmb: u8,
+        rpmb: [u8; 4],
         slots: u16,
         spare: u16,
     ) -> Result<Config, ConfigFault>
@@ -150,7 +151,7 @@ fn are_in_range(numbers: &Numbers) -> bool
         && is_between(16, 256, numbers.pages.into())
         && is_between(1, 8, numbers.units.len() as u64)
         && all_in_range(&numbers.units)
-        && is_between(1, 8, numbers.rpmb.into())
+        && are_areas_in_range(&numbers.rpmb)
         && is_between(64, 1024, numbers.slots.into())
         && is_between(
             0,
@@ -166,12 +167,12 @@ fn blocks_left(numbers: &Numbers) -> u64
     u64::from(numbers.dies) * u64::from(numbers.blocks) - u64::from(numbers.spare)
 }
 
-#[tactic(auto, using(ufs_spec::proofs::ConfigFacts::unit_blocks_bound))]
+#[tactic(auto, using(ufs_spec::proofs::ConfigFacts::unit_blocks_bound, crate::proofs::Areas::sum_of_steps))]
 fn blocks_needed(numbers: &Numbers) -> u64
     requires { InRange numbers.now }
     ensures { result ≡ blocks_needed numbers.now }
 {
-    let kept = sum_of_blocks(&numbers.units) + 32 * u64::from(numbers.rpmb) + 2;
+    let kept = sum_of_blocks(&numbers.units) + 32 * sum_of_steps(&numbers.rpmb) + 2;
     let pages = u64::from(numbers.pages);
     (kept + 4 * u64::from(numbers.slots)).div_ceil(pages) + 4 * u64::from(numbers.dies) + 8
 }
@@ -194,11 +195,30 @@ fn all_in_range(units: &[UnitSpec]) -> bool
     units.iter().all(|unit| is_unit_in_range(unit))
 }
 
+/// The first area has a step, and none has more than eight.
+fn are_areas_in_range(areas: &[u8; 4]) -> bool
+    ensures { let each = list_all (is_between 0 8) areas.now in
+        result ≡ ((length areas.now == regions) && is_between 1 8 (slice_index_or areas.now 0 0) && each) }
+{
+    is_between(1, 8, areas[0].into()) && areas.iter().all(|steps| is_between(0, 8, (*steps).into()))
+}
+
 fn sum_of_blocks(units: &[UnitSpec]) -> u64
     requires { length units.now ≤ 8 }
     ensures { result ≡ sum_by (λ u. u.blocks) units.now }
 {
     units.iter().map(|unit| u64::from(unit.blocks)).sum()
+}
+
+fn sum_of_steps(areas: &[u8; 4]) -> u64
+    ensures sum { result ≡ sum areas.now }
+    ensures small { result ≤ 1020 }
+{
+    let mut sum = 0;
+    for steps in areas {
+        sum += u64::from(*steps);
+    }
+    sum
 }
 
 fn count_of_boot(units: &[UnitSpec], boot: u8) -> usize

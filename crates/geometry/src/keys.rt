@@ -2,13 +2,13 @@
 ghost use Rattle.std.specs.Prelude.{◌≡◌, ◌↔◌, ℕ, ◌+◌, ◌*◌, ◌/◌, ◌<◌, ◌≤◌, ◌^◌, IfSome, MatchOption, length, map, sum, take, slice_index_or};
 ghost use Rattle.ufs_spec.specs.Keys.{IsKey, area_pages, region_pages};
 ghost use Rattle.ufs_spec.specs.Openings.{IsBefore};
-ghost use Rattle.ufs_spec.specs.Plain.{area_len, shape_of_numbers};
+ghost use Rattle.ufs_spec.specs.Plain.{shape_of_numbers};
 ghost use Rattle.ufs_spec.specs.Plain.{regions};
 ghost use Rattle.ufs_spec.specs.declared.configs.UnitSpec.{UnitSpec};
 ghost use Rattle.ufs_spec.specs.declared.flash.Key.{Key};
 ghost use Rattle.geometry.specs.Keys.{IsIndex, index_of, key_total};
 
-use ufs_spec::{Key, Numbers, REGIONS, Tag, UnitSpec};
+use ufs_spec::{Key, Numbers, Tag, UnitSpec};
 
 /// How many pages 128 KiB of an RPMB area have.
 const PAGES_A_STEP: usize = 32;
@@ -26,15 +26,20 @@ pub fn settings_index(numbers: &Numbers) -> usize
     ensures value { let s = shape_of_numbers numbers.now in result ≡ sum s.blocks + area_pages s }
     ensures small { result < 2 ^ 36 }
 {
-    block_count(numbers.units.as_slice()) + usize::from(REGIONS) * area_count(numbers)
+    block_count(numbers.units.as_slice()) + page_count(&numbers.rpmb)
 }
 
-/// How many pages the area of each RPMB region has.
-fn area_count(numbers: &Numbers) -> usize
-    ensures value { result ≡ area_len numbers.now / 4096 }
-    ensures small { result < 2 ^ 13 }
+/// How many pages RPMB areas of so many steps have together.
+fn page_count(areas: &[u8]) -> usize
+    requires { length areas.now ≤ regions }
+    ensures count { result ≡ sum (map (λ steps. 32 * steps) areas.now) }
+    ensures small { result < 2 ^ 15 }
 {
-    PAGES_A_STEP * numbers.rpmb as usize
+    let mut count = 0;
+    for steps in areas {
+        count += PAGES_A_STEP * usize::from(*steps);
+    }
+    count
 }
 
 /// How many blocks the units have together.
@@ -94,11 +99,13 @@ fn area_index(numbers: &Numbers, region: u8, page: u32) -> Option<usize>
         (λ i. (region < regions) × (page < slice_index_or (region_pages s) region 0)
         × (i ≡ sum s.blocks + sum (take region (region_pages s)) + page)) }
 {
-    let pages = area_count(numbers);
-    if region >= REGIONS || page as usize >= pages {
+    let areas: &[u8] = &numbers.rpmb;
+    let region = region as usize;
+    if region >= areas.len() || page as usize >= PAGES_A_STEP * areas[region] as usize {
         return None;
     }
-    Some(block_count(numbers.units.as_slice()) + usize::from(region) * pages + page as usize)
+    let start = block_count(numbers.units.as_slice()) + page_count(&areas[..region]);
+    Some(start + page as usize)
 }
 
 /// The key at an index.
@@ -118,12 +125,25 @@ pub fn key_at(numbers: &Numbers, index: usize) -> Key
         }
         rest -= blocks;
     }
-    if rest < area_count(numbers) {
-        return Key {
-            kind: Tag::RPMB_AREA,
-            unit: 0,
-            address: rest as u32,
-        };
+    key_behind_units(numbers, rest)
+}
+
+/// The key at an index, counted from behind the blocks of all units.
+fn key_behind_units(numbers: &Numbers, index: usize) -> Key
+    requires { index < area_pages (shape_of_numbers numbers.now) + 1 }
+    ensures { let s = shape_of_numbers numbers.now in IsIndex s result (sum s.blocks + index) }
+{
+    let mut rest = index;
+    for (region, steps) in numbers.rpmb.iter().enumerate() {
+        let pages = PAGES_A_STEP * usize::from(*steps);
+        if rest < pages {
+            return Key {
+                kind: Tag::RPMB_AREA,
+                unit: region as u8,
+                address: rest as u32,
+            };
+        }
+        rest -= pages;
     }
     Key {
         kind: Tag::SETTINGS,

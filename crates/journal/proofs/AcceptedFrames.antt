@@ -19,17 +19,18 @@ use Rattle.rpmb.specs.declared.requests.Request.{Request}
 use Rattle.journal.specs.Requests.{accepted_by, accepted_in, region_like}
 
 -- frames that are no request have nothing accepted
-pub none_of_malformed : (s : RegionState) (locked : Bool) (fs : List Frame) → AreMalformed fs →
-    accepted_by s locked fs ≡ None
-none_of_malformed s locked [] h = refl
-none_of_malformed s locked (f ∷ fs) h = rw h refl
+pub none_of_malformed : (number : ℕ) (s : RegionState) (locked : Bool) (fs : List Frame) → AreMalformed fs →
+    accepted_by number s locked fs ≡ None
+none_of_malformed number s locked [] h = refl
+none_of_malformed number s locked (f ∷ fs) h = rw h refl
 
 -- a request for a result has no command
-no_command : (f : Frame) (gs : List Frame) → lacks_result f empty_registers ≡ true → command_in 0 f gs ≡ None
-no_command f gs e =
+no_command : (number : ℕ) (f : Frame) (gs : List Frame) → lacks_result f empty_registers ≡ true →
+    command_in number f gs ≡ None
+no_command number f gs e =
     ap
-    (λ (k : ℕ). if k == program_key then Some (SetKey 0 f.key_or_mac)
-    else if k == write_data then Some (RpmbWrite 0 f.address (flat_map (λ (g : Frame). g.payload) (f ∷ gs)))
+    (λ (k : ℕ). if k == program_key then Some (SetKey number f.key_or_mac)
+    else if k == write_data then Some (RpmbWrite number f.address (flat_map (λ (g : Frame). g.payload) (f ∷ gs)))
     else None)
     (eqb-true f.kind read_result (and_parts (f.kind == read_result) true e).0)
 
@@ -43,18 +44,19 @@ whatever_is_lacking region c None true status none = sym (none refl)
 whatever_is_lacking region c (Some code) true status none = refl
 
 -- what a well-formed request has accepted, its checks decide alone
-formed : (s : RegionState) (locked : Bool) (f : Frame) (gs : List Frame) → is_well_formed f gs ≡ true →
-    accepted_by s locked (f ∷ gs)
+formed : (number : ℕ) (s : RegionState) (locked : Bool) (f : Frame) (gs : List Frame) → is_well_formed f gs ≡ true →
+    accepted_by number s locked (f ∷ gs)
     ≡ accepted_in
-    (outcome_after (region_like s) (command_in 0 f gs) (first_failed (checks (region_like s) locked f gs)))
-formed s locked f gs e =
-    let after = outcome_after (region_like s) (command_in 0 f gs) (first_failed (checks (region_like s) locked f gs)) in
+    (outcome_after (region_like s) (command_in number f gs) (first_failed (checks (region_like s) locked f gs)))
+formed number s locked f gs e =
+    let after =
+    outcome_after (region_like s) (command_in number f gs) (first_failed (checks (region_like s) locked f gs)) in
     ap
     (λ (b : Bool). accepted_in (if not b then Refused invalid_list_field
     else if lacks_result f empty_registers then Refused sequence_error else after))
     e
-    ∙ whatever_is_lacking (region_like s) (command_in 0 f gs) (first_failed (checks (region_like s) locked f gs))
-    (lacks_result f empty_registers) sequence_error (no_command f gs)
+    ∙ whatever_is_lacking (region_like s) (command_in number f gs) (first_failed (checks (region_like s) locked f gs))
+    (lacks_result f empty_registers) sequence_error (no_command number f gs)
 
 -- this is kept of the region that is like it
 like_kept : (s : RegionState) → IsKept s (region_like s)
@@ -69,12 +71,12 @@ Tells s locked frames request told =
     ≡ outcome_of number (f ∷ fs) told
 
 -- what the outcome has accepted is accepted of the frames
-pub accepted_told : (s : RegionState) (locked : Bool) (frames : List Frame) (request : Request) (told : Outcome)
-    (what : Accepted) → Asks request frames → Tells s locked frames request told →
-    accepted_in (outcome_of 0 frames told) ≡ command_of 0 frames what →
-    command_of 0 frames what ≡ accepted_by s locked frames
-accepted_told s locked [] request told what asks tells same = absurd asks
-accepted_told s locked (f ∷ fs) request told what asks tells same =
+pub accepted_told : (number : ℕ) (s : RegionState) (locked : Bool) (frames : List Frame) (request : Request)
+    (told : Outcome) (what : Accepted) → Asks request frames → Tells s locked frames request told →
+    accepted_in (outcome_of number frames told) ≡ command_of number frames what →
+    command_of number frames what ≡ accepted_by number s locked frames
+accepted_told number s locked [] request told what asks tells same = absurd asks
+accepted_told number s locked (f ∷ fs) request told what asks tells same =
     sym same
-    ∙ (ap accepted_in (sym (tells 0 (region_like s) f fs (like_kept s) refl asks.0))
-    ∙ sym (formed s locked f fs asks.1))
+    ∙ (ap accepted_in (sym (tells number (region_like s) f fs (like_kept s) refl asks.0))
+    ∙ sym (formed number s locked f fs asks.1))

@@ -4,9 +4,9 @@ use Rattle.std.proofs.Common.{◌≡◌, ◌∙◌, ◌==◌, ℕ, Bool, true, f
 use Rattle.std.proofs.lemmas.Bool.{false≢true}
 use Rattle.std.specs.Prelude.{Err, IfErr, Ok, Result}
 use Rattle.std.specs.Result.{is_ok}
-use Rattle.ufs_spec.specs.Plain.{Plain, region_of}
+use Rattle.ufs_spec.specs.Plain.{Plain}
 use Rattle.journal.specs.Entries.{IsAfter, Noted, same_flag, surely_after}
-use Rattle.journal.specs.Shown.{MayShow, Shows, ShowsAll, ShowsRegion}
+use Rattle.journal.specs.Shown.{MayShow, Shows, ShowsAll, ShowsRegions}
 use Rattle.journal.specs.declared.found.FoundRest.{FoundRest}
 use Rattle.journal.specs.declared.settings.ShownSettings.{ShownSettings}
 use Rattle.journal.proofs.EntryFacts.{boot_after, made, permanent_after, seen, with_settings}
@@ -40,13 +40,13 @@ made_shown es base found rest plain may known p after shown =
     let is_boot : rest.boot ≡ p.boot = shown.1.0 in
     let is_permanent : rest.is_permanent ≡ p.permanent = shown.1.1 in
     let blocks : Shows found (surely_after base es) = subst (Shows found) (sym s.rest) shown.0 in
-    let region : ShowsRegion rest.region (region_of (surely_after base es) 0) =
-    subst (λ (q : Plain). ShowsRegion rest.region (region_of q 0)) (sym s.rest) shown.2 in
+    let regions : ShowsRegions rest.regions (surely_after base es) =
+    subst (ShowsRegions rest.regions) (sym s.rest) shown.2 in
     let boot : may.boot ≡ true =
     known.1 ∙ ap (λ (b : ℕ). boot_after b (base.boot == b) es) is_boot ∙ s.boot in
     let permanent : may.permanent ≡ true =
     known.2 ∙ ap (λ (f : Bool). permanent_after f (same_flag base.permanent f) es) is_permanent ∙ s.permanent in
-    subst (λ (q : Plain). MayShow found rest q may) (sym known.0) (blocks, boot, permanent, region)
+    subst (λ (q : Plain). MayShow found rest q may) (sym known.0) (blocks, boot, permanent, regions)
 
 -- what holds of each error holds of a result that is not Ok
 pub if_not_ok : {A B : Type 0} (r : Result A B) (X : Type 0) → is_ok r ≡ false → IfErr r (λ (e : B). X) → X

@@ -1,5 +1,6 @@
 mod AcceptedFrames
 mod AreaBlocks
+mod EachRegion
 mod EntryFacts
 mod HeardFacts
 mod HeldUnits

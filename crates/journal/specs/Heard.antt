@@ -18,7 +18,7 @@ use Rattle.rpmb.specs.Requests.{frames_of}
 use Rattle.rpmb.specs.declared.regions.RegionState.{RegionState}
 use Rattle.journal.specs.Entries.{Accepted, Doubted, Noted, Refused, setting_command}
 use Rattle.journal.specs.Queries.{asked_setting, query_in}
-use Rattle.journal.specs.Requests.{accepted_by, state_after}
+use Rattle.journal.specs.Requests.{accepted_by, state_after, state_at}
 use Rattle.journal.specs.Tasks.{left_open, open_with, without}
 use Rattle.journal.specs.Unmaps.{zeros_accepted}
 use Rattle.journal.specs.Writes.{WriteBegun, is_whole, with_block, write_of}
@@ -30,20 +30,20 @@ use Rattle.journal.specs.declared.tasks.TaskName.{TaskName}
 
 -- the numbers of the device; what is noted of the commands of the life, in order; up to how many of them, from the
 -- first on, what was accepted was acknowledged as durable; the commands and settings that have no answer yet; whether
--- the device is locked; the key and the counter that the accepted ones made
+-- the device is locked; the key and the counter of each RPMB region that the accepted ones made
 pub record Heard : Type 0 where
   pub numbers : Numbers
   pub entries : List Noted
   pub held : ℕ
   pub tasks : List OpenTask
   pub locked : Bool
-  pub region : RegionState
+  pub regions : List RegionState
 
--- a life of a device with these numbers begins with this key and this counter: whatever else it begins with, nothing
+-- a life of a device with these numbers begins with these keys and counters: whatever else it begins with, nothing
 -- came yet
-abbrev pub life_begun : Numbers → RegionState → Heard
-life_begun n region =
-    record { numbers = n; entries = []; held = 0; tasks = []; locked = false; region = region }
+abbrev pub life_begun : Numbers → List RegionState → Heard
+life_begun n regions =
+    record { numbers = n; entries = []; held = 0; tasks = []; locked = false; regions = regions }
 
 -- one command more is open
 abbrev pub with_open : Heard → OpenTask → Heard
@@ -74,10 +74,11 @@ abbrev pub awaited_blocks : Option WriteBegun → Awaited
 awaited_blocks None = Nothing
 awaited_blocks (Some w) = Blocks w
 
--- the data that a command with this CDB waits for: SECURITY PROTOCOL OUT brings frames (SPC), and UNMAP its list (SBC)
+-- the data that a command with this CDB waits for: SECURITY PROTOCOL OUT brings frames to the region that byte 2 names
+-- (SPC; JESD220), and UNMAP its list (SBC)
 abbrev pub awaited_by : ℕ → List ℕ → Awaited
 awaited_by unit cdb =
-    if slice_index cdb 0 == security_out then Frames
+    if slice_index cdb 0 == security_out then Frames (slice_index cdb 2)
     else if slice_index cdb 0 == unmap then UnmapList
     else awaited_blocks (asked_write unit cdb)
 
@@ -125,13 +126,21 @@ abbrev pub unmapped : Heard → TaskName → ℕ → Option Command → Heard
 unmapped j name promised None = open_again j name promised Nothing
 unmapped j name promised (Some c) = open_again (with_command j c) name promised Nothing
 
--- the frames of a request came, of which this command is accepted, if one is: its GOOD acknowledges it and all before
--- it
-abbrev pub brought : Heard → TaskName → ℕ → Option Command → Heard
-brought j name promised None = open_again j name promised Nothing
-brought j name promised (Some c) =
-    let after = record (with_command j c) { region = state_after j.region (Some c) } in
-    open_again after name (length j.entries + 1) Nothing
+-- the key and the counter of the region of this number after this command
+abbrev pub with_state : Heard → ℕ → Command → Heard
+with_state j number c =
+    record j { regions = slice_set j.regions number (state_after (state_at j.regions number) (Some c)) }
+
+-- the frames of a request to the region of this number came, of which this command is accepted, if one is: its GOOD
+-- acknowledges it and all before it
+abbrev pub brought : Heard → TaskName → ℕ → ℕ → Option Command → Heard
+brought j name promised number None = open_again j name promised Nothing
+brought j name promised number (Some c) =
+    open_again (with_state (with_command j c) number c) name (length j.entries + 1) Nothing
+
+-- the command that the region of this number accepts of these frames, if it accepts one
+abbrev pub accepted_of : Heard → ℕ → List ℕ → Option Command
+accepted_of j number bytes = accepted_by number (state_at j.regions number) j.locked (frames_of bytes)
 
 -- the data of this message came for this command
 abbrev pub taken : Heard → OpenTask → Awaited → List ℕ → Heard
@@ -140,8 +149,8 @@ taken j t (Blocks w) message = gathered j t.name t.promised w (block_of message)
 taken j t (Verdict place) message = open_again j t.name t.promised (Verdict place)
 taken j t UnmapList message =
     unmapped j t.name t.promised (zeros_accepted j.numbers j.locked t.name.lun (drop 32 message))
-taken j t Frames message =
-    brought j t.name t.promised (accepted_by j.region j.locked (frames_of (drop 32 message)))
+taken j t (Frames number) message =
+    brought j t.name t.promised number (accepted_of j number (drop 32 message))
 
 -- data whose tag no open command has change nothing
 abbrev pub taken_by : Heard → Option OpenTask → List ℕ → Heard
@@ -238,7 +247,7 @@ ruled_on j (Verdict place) code = ruled j place code
 ruled_on j Nothing code = j
 ruled_on j (Blocks w) code = j
 ruled_on j UnmapList code = j
-ruled_on j Frames code = j
+ruled_on j (Frames number) code = j
 
 -- what it tells of the open exchange with its tag, if there is one
 abbrev pub ruled_by : Heard → Option OpenTask → ℕ → Heard

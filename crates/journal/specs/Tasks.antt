@@ -37,7 +37,7 @@ abbrev pub is_command : Awaited → Bool
 is_command Nothing = true
 is_command (Blocks w) = true
 is_command UnmapList = true
-is_command Frames = true
+is_command (Frames number) = true
 is_command (Verdict place) = false
 
 -- the function aborts it: abort task (01h) the command with the LUN and the tag that is meant, and each other one that

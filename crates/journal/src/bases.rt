@@ -1,17 +1,18 @@
 //! The plain device that a life begins with, made of what was read.
-ghost use Rattle.std.specs.Prelude.{◌≡◌, ◌<◌, ◌≤◌, ◌∷◌, [], IfNone, IfOk, IfSome, false, length, map, slice_set, true};
-ghost use Rattle.ufs_spec.specs.Plain.{new_region, shape_of, shape_of_numbers, unit_of, with_region};
+ghost use Rattle.std.specs.Prelude.{◌≡◌, ◌<◌, ◌≤◌, IfNone, IfOk, IfSome, false, length, map, slice_set, true};
+ghost use Rattle.ufs_spec.specs.Counting.{below};
+ghost use Rattle.ufs_spec.specs.Plain.{new_region, region_of, regions, shape_of, shape_of_numbers, unit_of, with_region};
 ghost use Rattle.ufs_spec.specs.declared.configs.Numbers.{Numbers};
-ghost use Rattle.journal.specs.Shown.{AreUnits, IsArea, holding, holding_region, region_found};
+ghost use Rattle.journal.specs.Shown.{AreAreas, AreUnits, IsArea, holding, holding_regions, region_found, regions_held};
 
 use crate::found::{FoundRegion, FoundRest};
 use crate::kept::area_bytes;
 use std::alloc::Global;
 use ufs_spec::{Block, NoMemory, Numbers, PlainDevice, UnitSpec};
 
-/// A plain device that holds these blocks, unit by unit, these settings and this region; `None` where a unit is
-/// missing, one is too many, one has not its count of blocks, the area has not its count of bytes, or the boot setting
-/// is none.
+/// A plain device that holds these blocks, unit by unit, these settings and these regions; `None` where a unit is
+/// missing, one is too many, one has not its count of blocks, an area has not its count of bytes, or the boot setting
+/// is none. A region that is not there stays new.
 ///
 /// # Errors
 ///
@@ -26,12 +27,12 @@ pub fn device_holding(
         p ≡ holding numbers.now (map (λ v. v.items) blocks.now) rest.now)) }
     ensures shape { IfOk result (λ o. IfSome o (λ p. shape_of p ≡ shape_of_numbers numbers.now)) }
     ensures none { IfOk result (λ o. IfNone o (AreUnits numbers.now (map (λ v. v.items) blocks.now) →
-        IsArea numbers.now rest.now.region → rest.now.boot ≤ 2 → ⊥)) }
+        AreAreas numbers.now rest.now.regions → rest.now.boot ≤ 2 → ⊥)) }
 {
     if rest.boot > 2 {
         return Ok(None);
     }
-    match units_holding(alloc, numbers, blocks, &rest.region)? {
+    match units_holding(alloc, numbers, blocks, &rest.regions)? {
         Some(plain) => Ok(Some(with_settings(plain, rest))),
         None => Ok(None),
     }
@@ -49,22 +50,22 @@ fn with_settings(plain: PlainDevice, rest: &FoundRest<'_>) -> PlainDevice
     plain
 }
 
-/// A plain device that holds these blocks and this region, and is new in all else; `None` where a unit is missing,
-/// one is too many, one has not its count of blocks, or the area has not its count of bytes.
+/// A plain device that holds these blocks and these regions, and is new in all else; `None` where a unit is missing,
+/// one is too many, one has not its count of blocks, or an area has not its count of bytes.
 fn units_holding(
     alloc: Global,
     numbers: &Numbers,
     blocks: &[Vec<Block>],
-    region: &FoundRegion<'_>,
+    regions: &[FoundRegion<'_>; 4],
 ) -> Result<Option<PlainDevice>, NoMemory>
     ensures some { IfOk result (λ o. IfSome o (λ p.
-        p ≡ holding_region numbers.now (map (λ v. v.items) blocks.now) region.now)) }
+        p ≡ holding_regions numbers.now (map (λ v. v.items) blocks.now) regions.now)) }
     ensures shape { IfOk result (λ o. IfSome o (λ p. shape_of p ≡ shape_of_numbers numbers.now)) }
     ensures none { IfOk result (λ o. IfNone o (AreUnits numbers.now (map (λ v. v.items) blocks.now) →
-        IsArea numbers.now region.now → ⊥)) }
+        AreAreas numbers.now regions.now → ⊥)) }
 {
     let specs = numbers.units.as_slice();
-    if !are_units(specs, blocks) || !is_area(numbers, region) {
+    if !are_units(specs, blocks) || !are_areas(numbers, regions) {
         return Ok(None);
     }
     let mut plain = PlainDevice::new(alloc, numbers)?;
@@ -76,32 +77,62 @@ fn units_holding(
             blocks[index].as_slice(),
         );
     }
-    set_region(&mut plain, region);
+    set_regions(&mut plain, numbers, regions);
     Ok(Some(plain))
 }
 
-/// Whether the whole area was found, if there is a key.
-fn is_area(numbers: &Numbers, region: &FoundRegion<'_>) -> bool
-    ensures whole { result ≡ true → IsArea numbers.now region.now }
-    ensures other { result ≡ false → IsArea numbers.now region.now → ⊥ }
+/// Whether the whole area of each region that is there was found, if there is a key.
+fn are_areas(numbers: &Numbers, regions: &[FoundRegion<'_>; 4]) -> bool
+    ensures whole { result ≡ true → AreAreas numbers.now regions.now }
+    ensures other { result ≡ false → AreAreas numbers.now regions.now → ⊥ }
+{
+    for (index, region) in regions.iter().enumerate() {
+        let bytes = area_bytes(numbers, index as u8);
+        if 0 < bytes && !is_area(region, bytes) {
+            return false;
+        }
+    }
+    true
+}
+
+/// Whether so many bytes of an area were found, if there is a key.
+fn is_area(region: &FoundRegion<'_>, bytes: usize) -> bool
+    ensures whole { result ≡ true → IfSome region.now.key (λ key. length region.now.area.now ≡ bytes) }
+    ensures other { result ≡ false → IfSome region.now.key (λ key. length region.now.area.now ≡ bytes) → ⊥ }
 {
     match region.key {
-        Some(_) => region.area.len() == area_bytes(numbers),
+        Some(_) => region.area.len() == bytes,
         None => true,
     }
 }
 
-/// The region of a device in which it is new becomes this one.
-fn set_region(plain: &mut PlainDevice, region: &FoundRegion<'_>)
-    requires { (n : Numbers) × (plain.old.regions ≡ new_region n ∷ []) × IsArea n region.now }
-    ensures { (n : Numbers) → plain.old.regions ≡ new_region n ∷ [] → IsArea n region.now →
-        plain.new ≡ with_region 0 (region_found n region.now) plain.old }
+/// The regions of a device in which they are new become these, so far as they are there.
+fn set_regions(plain: &mut PlainDevice, numbers: &Numbers, found: &[FoundRegion<'_>; 4])
+    requires new { plain.old.regions ≡ map (new_region numbers.now) (below regions) }
+    requires areas { AreAreas numbers.now found.now }
+    ensures { plain.new ≡ record plain.old { regions = regions_held numbers.now 0 found.now } }
+{
+    for (index, region) in found.iter().enumerate() {
+        let number = index as u8;
+        if 0 < area_bytes(numbers, number) {
+            set_region(plain, number, region);
+        }
+    }
+}
+
+/// A new region becomes this one.
+fn set_region(plain: &mut PlainDevice, number: u8, region: &FoundRegion<'_>)
+    requires numbered { number < regions }
+    requires there { number < length plain.old.regions }
+    requires new { (n : Numbers) × (region_of plain.old number ≡ new_region n number) × IsArea n number region.now }
+    ensures { (n : Numbers) → region_of plain.old number ≡ new_region n number → IsArea n number region.now →
+        plain.new ≡ with_region number (region_found n number region.now) plain.old }
 {
     if region.key.is_some() {
-        plain.set_area(0, 0, region.area);
+        plain.set_area(number, 0, region.area);
     }
-    plain.set_key(0, region.key);
-    plain.set_counter(0, region.counter);
+    plain.set_key(number, region.key);
+    plain.set_counter(number, region.counter);
 }
 
 /// Whether there are as many units, each with its count of blocks.

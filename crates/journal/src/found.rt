@@ -1,6 +1,6 @@
 //! What was found on a device after a stop, beside the blocks of its units.
 
-/// What was found of the region of the replay protected memory block.
+/// What was found of a region of the replay protected memory block.
 #[derive(Clone, Copy)]
 pub struct FoundRegion<'a> {
     /// The key, if one is set.
@@ -18,6 +18,7 @@ pub struct FoundRest<'a> {
     pub boot: u8,
     /// fPermanentWPEn.
     pub is_permanent: bool,
-    /// The region of the replay protected memory block.
-    pub region: FoundRegion<'a>,
+    /// The regions of the replay protected memory block, by their numbers. What is said of a region that
+    /// is not there counts for nothing.
+    pub regions: [FoundRegion<'a>; 4],
 }

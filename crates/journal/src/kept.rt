@@ -2,10 +2,11 @@
 ghost use Rattle.std.specs.Prelude.{◌≡◌, ◌+◌, ◌*◌, ◌^◌, ◌<◌, ◌≤◌, ◌↔◌, ℕ, IfErr, IfNone, IfSome, IsOk, None, false, length};
 ghost use Rattle.std.specs.Prelude.{map, slice_get, slice_index_or, Some, take, true};
 ghost use Rattle.ufs_spec.specs.Commands.{command_of};
-ghost use Rattle.ufs_spec.specs.Plain.{CanApply, FindsCounter, FitsIn, IsAreaPart, LiesWithin, Plain, apply};
-ghost use Rattle.ufs_spec.specs.Plain.{area_len, block_at, greatest_command, region_of, shape_of, shape_of_numbers, unit_of};
+ghost use Rattle.ufs_spec.specs.Plain.{CanApply, FindsCounter, FitsIn, HasRegion, IsAreaPart, LiesWithin, Plain, apply};
+ghost use Rattle.ufs_spec.specs.Plain.{area_len, block_at, greatest_command, region_of, regions, shape_of, shape_of_numbers};
+ghost use Rattle.ufs_spec.specs.Plain.{unit_of};
 ghost use Rattle.journal.specs.Entries.{CanCome, CanFollow, IsAfter, noted_of, surely};
-ghost use Rattle.journal.specs.Shown.{IsShownAt, MayShow, Shows, ShowsAll, ShowsRegion};
+ghost use Rattle.journal.specs.Shown.{IsShownAt, MayShow, OfEach, Shows, ShowsAll, ShowsArea, ShowsKey, ShowsRegions};
 
 use crate::entries::Entry;
 use crate::found::{FoundRegion, FoundRest};
@@ -26,8 +27,8 @@ struct Spot {
 }
 
 /// Whether the first entries, the first `held` of them at least, can make of the base a device which
-/// holds what was found: these blocks, unit by unit, both settings and the region. A setting in doubt
-/// may be there or not. The base is led through the entries, so it is used up.
+/// holds what was found: these blocks, unit by unit, both settings, and the regions that are there. A
+/// setting in doubt may be there or not. The base is led through the entries, so it is used up.
 pub fn is_kept(
     numbers: &Numbers,
     base: PlainDevice,
@@ -132,12 +133,12 @@ fn fits_in(numbers: &Numbers, command: &Cmd) -> bool
             address,
             count,
         } => is_within(units, *unit, *address, usize::from(*count)),
-        Cmd::SetKey { region, key } => *region < REGIONS && is_key(key),
+        Cmd::SetKey { region, key } => has_region(numbers, *region) && is_key(key),
         Cmd::RpmbWrite {
             region,
             address,
             bytes,
-        } => *region < REGIONS && is_area_part(numbers, *address, bytes.len()),
+        } => has_region(numbers, *region) && is_area_part(numbers, *region, *address, bytes.len()),
         Cmd::SetBoot(boot) => *boot <= 2,
         Cmd::SetPermanent => true,
     }
@@ -177,11 +178,20 @@ fn is_within(units: &[UnitSpec], unit: u8, address: u32, count: usize) -> bool
     }
 }
 
-/// Whether so many bytes are 1 to 8 blocks of 256 bytes, all of them in an area from this address on.
-fn is_area_part(numbers: &Numbers, address: u16, count: usize) -> bool
-    ensures { result ≡ true ↔ IsAreaPart (shape_of_numbers numbers.now) 0 address count }
+/// Whether a device with these numbers has a region of this number.
+fn has_region(numbers: &Numbers, region: u8) -> bool
+    ensures { result ≡ true ↔ HasRegion (shape_of_numbers numbers.now) region }
 {
-    are_area_blocks(count) && 256 * usize::from(address) + count <= area_bytes(numbers)
+    region < REGIONS && 0 < area_bytes(numbers, region)
+}
+
+/// Whether so many bytes are 1 to 8 blocks of 256 bytes, all of them in the area of a region from this
+/// address on.
+fn is_area_part(numbers: &Numbers, region: u8, address: u16, count: usize) -> bool
+    requires { region < regions }
+    ensures { result ≡ true ↔ IsAreaPart (shape_of_numbers numbers.now) region address count }
+{
+    are_area_blocks(count) && 256 * usize::from(address) + count <= area_bytes(numbers, region)
 }
 
 /// Whether so many bytes are 1 to 8 blocks of 256 bytes.
@@ -194,12 +204,13 @@ fn are_area_blocks(count: usize) -> bool
     count <= 2048 && count % 256 == 0
 }
 
-/// How many bytes the area has.
-pub(crate) fn area_bytes(numbers: &Numbers) -> usize
-    ensures long { result ≡ area_len numbers.now }
+/// How many bytes the area of a region has.
+pub(crate) fn area_bytes(numbers: &Numbers, region: u8) -> usize
+    requires { region < regions }
+    ensures long { result ≡ area_len numbers.now region }
     ensures fits { result < 2 ^ 26 }
 {
-    131_072 * usize::from(numbers.rpmb)
+    131_072 * usize::from(numbers.rpmb[region as usize])
 }
 
 /// Whether this is what the plain device holds, but that its settings may be those that were found. If
@@ -220,35 +231,72 @@ fn compare(
     if !may.are_both() {
         return Err(hint);
     }
-    compare_held(numbers, found, &rest.region, plain, hint)
+    compare_held(numbers, found, &rest.regions, plain, hint)
 }
 
 /// The same without the settings.
 fn compare_held(
     numbers: &Numbers,
     found: &[Vec<Block>],
-    region: &FoundRegion<'_>,
+    regions: &[FoundRegion<'_>; 4],
     plain: &PlainDevice,
     hint: Spot,
 ) -> Result<(), Spot>
     requires { shape_of plain.now ≡ shape_of_numbers numbers.now }
     ensures shown { IsOk result → Shows (map (λ v. v.items) found.now) plain.now }
-    ensures region { IsOk result → ShowsRegion region.now (region_of plain.now 0) }
+    ensures regions { IsOk result → ShowsRegions regions.now plain.now }
     ensures other { IfErr result (λ s. Shows (map (λ v. v.items) found.now) plain.now →
-        ShowsRegion region.now (region_of plain.now 0) → ⊥) }
+        ShowsRegions regions.now plain.now → ⊥) }
 {
-    // Each write of the area has another counter, so that bytes of the area are seldom looked at.
-    if !is_same_key(region.key, plain.key(0)) || region.counter != plain.counter(0) {
+    // Each write of an area has another counter, so that bytes of areas are seldom looked at.
+    if !have_keys(regions, plain) {
         return Err(hint);
     }
     if let Some(spot) = difference(numbers, found, plain, hint) {
         return Err(spot);
     }
-    if has_area(region, plain) {
+    if have_areas(regions, plain) {
         Ok(())
     } else {
         Err(hint)
     }
+}
+
+/// Whether each region that is there has the key and the counter of the plain device's.
+fn have_keys(regions: &[FoundRegion<'_>; 4], plain: &PlainDevice) -> bool
+    ensures same { result ≡ true → OfEach ShowsKey regions.now plain.now }
+    ensures other { result ≡ false → OfEach ShowsKey regions.now plain.now → ⊥ }
+{
+    for (index, region) in regions.iter().enumerate() {
+        let number = index as u8;
+        if !plain.area(number).is_empty() && !has_key(region, plain, number) {
+            return false;
+        }
+    }
+    true
+}
+
+/// Whether each region that is there has the bytes of the plain device's area, if there is a key.
+fn have_areas(regions: &[FoundRegion<'_>; 4], plain: &PlainDevice) -> bool
+    ensures same { result ≡ true → OfEach ShowsArea regions.now plain.now }
+    ensures other { result ≡ false → OfEach ShowsArea regions.now plain.now → ⊥ }
+{
+    for (index, region) in regions.iter().enumerate() {
+        let number = index as u8;
+        if !plain.area(number).is_empty() && !has_area(region, plain, number) {
+            return false;
+        }
+    }
+    true
+}
+
+/// Whether the region has the key and the counter of the plain device's region of this number.
+fn has_key(region: &FoundRegion<'_>, plain: &PlainDevice, number: u8) -> bool
+    requires { number < regions }
+    ensures same { result ≡ true → ShowsKey region.now (region_of plain.now number) }
+    ensures other { result ≡ false → ShowsKey region.now (region_of plain.now number) → ⊥ }
+{
+    is_same_key(region.key, plain.key(number)) && region.counter == plain.counter(number)
 }
 
 /// Whether both have the same key, or none.
@@ -271,13 +319,15 @@ fn is_equal(bytes: &[u8], other: &[u8]) -> bool
     bytes == other
 }
 
-/// Whether the bytes of the area are those of the plain device, if there is a key.
-fn has_area(region: &FoundRegion<'_>, plain: &PlainDevice) -> bool
-    ensures same { result ≡ true → IfSome region.now.key (λ key. region.now.area.now ≡ (region_of plain.now 0).area) }
-    ensures other { result ≡ false → IfSome region.now.key (λ key. region.now.area.now ≡ (region_of plain.now 0).area) → ⊥ }
+/// Whether the bytes of the area are those of the plain device's region of this number, if there is a
+/// key.
+fn has_area(region: &FoundRegion<'_>, plain: &PlainDevice, number: u8) -> bool
+    requires { number < regions }
+    ensures same { result ≡ true → ShowsArea region.now (region_of plain.now number) }
+    ensures other { result ≡ false → ShowsArea region.now (region_of plain.now number) → ⊥ }
 {
     match region.key {
-        Some(_) => is_equal(region.area, plain.area(0)),
+        Some(_) => is_equal(region.area, plain.area(number)),
         None => true,
     }
 }

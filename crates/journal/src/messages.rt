@@ -4,10 +4,10 @@ ghost use Rattle.std.specs.Prelude.{◌≡◌, ◌++◌, ◌∷◌, [], ◌+◌,
 ghost use Rattle.std.specs.Prelude.{slice_index_or, slice_set};
 ghost use Rattle.ufs_spec.specs.Commands.{command_of};
 ghost use Rattle.journal.specs.Entries.{Accepted, Doubted, Refused, noted_of};
-ghost use Rattle.journal.specs.Heard.{answered, asked, awaited_by, begun, block_of, brought, doubted};
+ghost use Rattle.journal.specs.Heard.{accepted_of, answered, asked, awaited_by, begun, block_of, brought, doubted};
 ghost use Rattle.journal.specs.Heard.{gathered, heard, is_flush, name_in, query_answered, ruled, settled};
 ghost use Rattle.journal.specs.Heard.{life_begun, received, taken, told, unmapped, with_open, written};
-ghost use Rattle.journal.specs.Requests.{accepted_by};
+ghost use Rattle.journal.specs.Requests.{accepted_by, state_at};
 ghost use Rattle.journal.specs.Unmaps.{zeros_accepted};
 ghost use Rattle.rpmb.specs.Requests.{frames_of};
 
@@ -34,8 +34,9 @@ pub struct Journal {
     tasks: Vec<OpenTask>,
     /// Whether the device is locked, so that it accepts nothing more.
     is_locked: bool,
-    /// What the commands made of the key and the counter of the replay protected memory block.
-    region: RegionState,
+    /// What the commands made of the key and the counter of each region of the replay protected memory
+    /// block.
+    regions: [RegionState; 4],
 }
 
 impl Model for Journal {
@@ -51,7 +52,7 @@ impl Model for Journal {
       held = j.held;
       tasks = j.tasks.items;
       locked = j.is_locked;
-      region = j.region;
+      regions = j.regions;
     } };
 }
 
@@ -68,10 +69,10 @@ const IMMED: u8 = 0x02;
 const HEADER: usize = 32;
 
 impl Journal {
-    /// A life of a device with these numbers begins, with this key and this counter of the replay protected memory
-    /// block.
-    pub fn new(alloc: Global, numbers: &Numbers, region: RegionState) -> Journal
-        ensures { result ≡ life_begun numbers.now region }
+    /// A life of a device with these numbers begins, with these keys and counters of the regions of the replay
+    /// protected memory block.
+    pub fn new(alloc: Global, numbers: &Numbers, regions: [RegionState; 4]) -> Journal
+        ensures { result ≡ life_begun numbers.now regions }
     {
         Journal {
             numbers: numbers.copied(),
@@ -79,7 +80,7 @@ impl Journal {
             held: 0,
             tasks: Vec::new(alloc),
             is_locked: false,
-            region,
+            regions,
         }
     }
 
@@ -98,11 +99,19 @@ impl Journal {
         self.held
     }
 
-    /// What all commands made of the key and the counter of the replay protected memory block.
-    pub fn region(&self) -> RegionState
-        ensures { result ≡ self.now.region }
+    /// What all commands made of the key and the counter of a region of the replay protected memory block. A
+    /// number that no region has is told as that of a region without blocks.
+    pub fn region(&self, number: u8) -> RegionState
+        ensures { result ≡ state_at self.now.regions number }
     {
-        self.region
+        match self.regions.get(number as usize) {
+            Some(region) => *region,
+            None => RegionState {
+                key: None,
+                counter: 0,
+                blocks: 0,
+            },
+        }
     }
 
     /// The device took a message of the host.
@@ -201,7 +210,9 @@ impl Journal {
         match awaited {
             Awaited::Blocks(write) => self.take_block(name, promised, write, block_in(message)),
             Awaited::UnmapList => self.take_list(name, promised, &message[HEADER..]),
-            Awaited::Frames => self.take_frames(alloc, name, promised, &message[HEADER..]),
+            Awaited::Frames(region) => {
+                self.take_frames(alloc, name, promised, region, &message[HEADER..])
+            }
             Awaited::Nothing | Awaited::Verdict(_) => self.open_task(OpenTask {
                 name,
                 awaited,
@@ -281,25 +292,26 @@ impl Journal {
         })
     }
 
-    // The frames of a request came. What it changes is accepted, and its GOOD acknowledges that and all before
-    // it.
+    // The frames of a request to a region came. What it changes is accepted, and its GOOD acknowledges that and
+    // all before it.
     fn take_frames(
         &mut self,
         alloc: Global,
         name: TaskName,
         promised: usize,
+        region: u8,
         bytes: &[u8],
     ) -> Result<(), NoMemory>
         ensures { OnOk result (self.new
-            ≡ brought self.old name promised (accepted_by self.old.region self.old.locked (frames_of bytes.now))) }
+            ≡ brought self.old name promised region (accepted_of self.old region bytes.now)) }
     {
         let frames = whole_frames(bytes);
-        let accepted = accepted_by(&self.region, frames, self.is_locked);
-        let promised = match command_of(alloc, frames, &accepted)? {
+        let accepted = accepted_by(&self.region(region), frames, self.is_locked);
+        let promised = match command_of(alloc, region, frames, &accepted)? {
             Some(command) => self.accept(command)?,
             None => promised,
         };
-        raise(&mut self.region, &accepted);
+        raise(&mut self.regions, region, &accepted);
         self.open_task(OpenTask {
             name,
             awaited: Awaited::Nothing,
@@ -422,7 +434,7 @@ fn awaited_by(alloc: Global, unit: u8, cdb: &[u8]) -> Awaited
     ensures { result ≡ awaited_by unit cdb.now }
 {
     match cdb[0] {
-        SECURITY_OUT => Awaited::Frames,
+        SECURITY_OUT => Awaited::Frames(cdb[2]),
         UNMAP => Awaited::UnmapList,
         _ => match write_asked(alloc, unit, cdb) {
             Some(write) => Awaited::Blocks(write),

@@ -1,6 +1,6 @@
 //! What requests to the replay protected memory block change (JESD220, 12.4).
-ghost use Rattle.std.specs.Prelude.{◌≡◌, ◌++◌, IfOk, List, OnOk, map, option_map};
-ghost use Rattle.journal.specs.Requests.{accepted_by, state_after};
+ghost use Rattle.std.specs.Prelude.{◌≡◌, ◌++◌, ℕ, IfOk, List, OnOk, map, option_map, slice_set};
+ghost use Rattle.journal.specs.Requests.{accepted_by, state_after, state_at};
 ghost use Rattle.rpmb.specs.Outcomes as outcomes;
 ghost use Rattle.rpmb.specs.Outcomes.{MayChange};
 ghost use Rattle.rpmb.specs.Requests.{payload_in, payloads};
@@ -11,15 +11,12 @@ ghost use Rattle.ufs_spec.specs.Frames.{frame_in};
 use rpmb::{Accepted, Outcome, RegionState, request_of};
 use rpmb_frame::Frame;
 use std::alloc::Global;
-use ufs_spec::{Cmd, NoMemory};
-
-/// The region that requests go to, the only one.
-const REGION: u8 = 0;
+use ufs_spec::{Cmd, NoMemory, REGIONS};
 
 /// What these frames change of a region with this key and this counter. A locked device accepts nothing.
 pub(crate) fn accepted_by(region: &RegionState, frames: &[[u8; 512]], is_locked: bool) -> Accepted
-    ensures command { outcomes.command_of 0 (map frame_in frames.now) result
-        ≡ accepted_by region.now is_locked (map frame_in frames.now) }
+    ensures command { (number : ℕ) → outcomes.command_of number (map frame_in frames.now) result
+        ≡ accepted_by number region.now is_locked (map frame_in frames.now) }
     ensures may_change { MayChange result region.now }
 {
     let Some(request) = request_of(frames) else {
@@ -31,27 +28,25 @@ pub(crate) fn accepted_by(region: &RegionState, frames: &[[u8; 512]], is_locked:
     }
 }
 
-/// The command of what these frames changed, if they changed anything.
+/// The command of what these frames changed of the region of this number, if they changed anything.
 ///
 /// # Errors
 ///
 /// `NoMemory` where there was none for its data.
 pub(crate) fn command_of(
     alloc: Global,
+    region: u8,
     frames: &[[u8; 512]],
     accepted: &Accepted,
 ) -> Result<Option<Cmd>, NoMemory>
     ensures { IfOk result (λ c. option_map commands.command_of c
-        ≡ outcomes.command_of 0 (map frame_in frames.now) accepted.now) }
+        ≡ outcomes.command_of region (map frame_in frames.now) accepted.now) }
 {
     match accepted {
         Accepted::Nothing => Ok(None),
-        Accepted::Key(key) => Ok(Some(Cmd::SetKey {
-            region: REGION,
-            key: *key,
-        })),
+        Accepted::Key(key) => Ok(Some(Cmd::SetKey { region, key: *key })),
         Accepted::Write { address } => Ok(Some(Cmd::RpmbWrite {
-            region: REGION,
+            region,
             address: *address,
             bytes: data_in(alloc, frames)?,
         })),
@@ -79,10 +74,22 @@ fn add_data(data: &mut Vec<u8>, frame: &[u8; 512]) -> Result<(), NoMemory>
     }
 }
 
-/// The key is set, or the counter rises.
-pub(crate) fn raise(region: &mut RegionState, accepted: &Accepted)
+/// The key of the region of this number is set, or its counter rises.
+pub(crate) fn raise(regions: &mut [RegionState; 4], number: u8, accepted: &Accepted)
+    requires { MayChange accepted.now (state_at regions.old number) }
+    ensures { (frames : List defined.Frame) → regions.new ≡ slice_set regions.old number
+        (state_after (state_at regions.old number) (outcomes.command_of number frames accepted.now)) }
+{
+    if number < REGIONS {
+        raise_one(&mut regions[number as usize], accepted);
+    }
+}
+
+// Its key is set, or its counter rises.
+fn raise_one(region: &mut RegionState, accepted: &Accepted)
     requires { MayChange accepted.now region.old }
-    ensures { (frames : List defined.Frame) → region.new ≡ state_after region.old (outcomes.command_of 0 frames accepted.now) }
+    ensures { (number : ℕ) (frames : List defined.Frame) →
+        region.new ≡ state_after region.old (outcomes.command_of number frames accepted.now) }
 {
     match accepted {
         Accepted::Nothing => {}

@@ -30,8 +30,8 @@ pub(crate) enum Awaited {
     Blocks(OpenWrite),
     /// The list of an UNMAP.
     UnmapList,
-    /// The frames of a request to the replay protected memory block.
-    Frames,
+    /// The frames of a request to this region of the replay protected memory block.
+    Frames(u8),
     /// The QUERY RESPONSE to a setting, which tells whether the device accepted it: the entry at this place.
     Verdict(usize),
 }

@@ -29,9 +29,10 @@ pub fn groups_leave_their_room_at_each_stop()
 {}
 
 /// A mended life that has handed no page of an accepted command to a die leaves nothing to mend: over
-/// whatever a stop leaves of it the next life is mended from its start.
+/// whatever a stop leaves of it the next life, with the same numbers, is mended from its start.
 pub fn an_idle_life_leaves_nothing_to_mend()
-    ensures stop { (n : Numbers) (t next : Translation) (left : Cells) (bad : Spot → Bool) →
+    ensures stop { (t next : Translation) (left : Cells) (bad : Spot → Bool) →
         Valid t → HasFewRepairs t → LeavesOwnRoom t → is_mended t.work.mending ≡ true → (HasHandedOut t → ⊥) →
-        CellCrash t.disk.cells t.disk.flights left → IsOpenedTranslation n left bad next → HasNothingToMend next }
+        CellCrash t.disk.cells t.disk.flights left → IsOpenedTranslation t.numbers left bad next →
+        HasNothingToMend next }
 {}

@@ -10,10 +10,33 @@ use ufs_spec::{Job, NoMemory, Page};
 /// How many jobs of a die in memory fail.
 const NO_FAILURES: u64 = 0;
 
+/// A page of which all bytes are FFh, in one place: who shows it sets none.
+static BLANK: Page = Page {
+    body: [0xFF; 4096],
+    spare: [0xFF; 96],
+};
+
+/// A page. While it is blank its bytes mean nothing: so an erase sets none of them.
+#[derive(Drop)]
+struct MemPage {
+    bytes: Page,
+    is_blank: bool,
+}
+
+impl Model for MemPage {
+    ghost use Rattle.std.specs.Prelude.{if◌then◌else◌};
+    ghost use Rattle.ufs_spec.specs.declared.flash.Page.{Page};
+    ghost use Rattle.ufs_spec.specs.Dies.{blank_page};
+
+    ghost Value = { Page };
+
+    ghost view = { λ p. if p.is_blank then blank_page else p.bytes };
+}
+
 /// The pages of one block.
 #[derive(Drop)]
 struct MemBlock {
-    pages: Vec<Page>,
+    pages: Vec<MemPage>,
 }
 
 impl Model for MemBlock {
@@ -27,12 +50,63 @@ impl Model for MemBlock {
 
 /// A page of which all bytes are FFh.
 #[tactic(auto, unfolding(ufs_spec::specs::Dies::blank_page))]
-fn blank() -> Page
-    ensures { result ≡ blank_page }
+fn blank() -> &'static Page
+    ensures { result.now ≡ blank_page }
 {
-    Page {
-        body: [0xFF; 4096],
-        spare: [0xFF; 96],
+    &BLANK
+}
+
+impl MemPage {
+    /// A blank page.
+    fn new() -> MemPage
+        ensures { result ≡ blank_page }
+    {
+        MemPage {
+            bytes: *blank(),
+            is_blank: true,
+        }
+    }
+
+    /// An equal page.
+    fn copy(&self) -> MemPage
+        ensures { result ≡ self.now }
+    {
+        MemPage {
+            bytes: self.bytes,
+            is_blank: self.is_blank,
+        }
+    }
+
+    /// What it holds.
+    fn page(&self) -> &Page
+        ensures { result.now ≡ self.now }
+    {
+        if self.is_blank { blank() } else { &self.bytes }
+    }
+
+    /// It holds these bytes from now on.
+    fn set(&mut self, content: &Page)
+        ensures { self.new ≡ content.now }
+    {
+        self.bytes.body.copy_from_slice(&content.body);
+        self.bytes.spare.copy_from_slice(&content.spare);
+        self.is_blank = false;
+    }
+
+    /// It is blank from now on.
+    fn erase(&mut self)
+        ensures { self.new ≡ blank_page }
+    {
+        self.is_blank = true;
+    }
+}
+
+/// These pages are blank from now on.
+fn erase_all(pages: &mut [MemPage])
+    ensures { pages.new ≡ replicate (length pages.old) blank_page }
+{
+    for page in pages.iter_mut() {
+        page.erase();
     }
 }
 
@@ -47,6 +121,17 @@ fn repeated<T: Copy>(alloc: Global, value: T, count: u16) -> Result<Vec<T>, NoMe
     Ok(all)
 }
 
+/// So many blank pages.
+fn blank_pages(alloc: Global, pages: u16) -> Result<Vec<MemPage>, NoMemory>
+    ensures { IfOk result (λ all. all.items ≡ replicate pages blank_page) }
+{
+    let mut all = Vec::with_capacity(alloc, pages as usize).map_err(|_| NoMemory)?;
+    for _ in 0..pages {
+        all.push(MemPage::new()).map_err(|_| NoMemory)?;
+    }
+    Ok(all)
+}
+
 /// Blocks of blank pages.
 fn blank_blocks(alloc: Global, blocks: u16, pages: u16) -> Result<Vec<MemBlock>, NoMemory>
     ensures { IfOk result (λ all. all.items ≡ replicate blocks (replicate pages blank_page)) }
@@ -54,7 +139,7 @@ fn blank_blocks(alloc: Global, blocks: u16, pages: u16) -> Result<Vec<MemBlock>,
     let mut all = Vec::with_capacity(alloc, blocks as usize).map_err(|_| NoMemory)?;
     for _ in 0..blocks {
         let block = MemBlock {
-            pages: repeated(alloc, blank(), pages)?,
+            pages: blank_pages(alloc, pages)?,
         };
         all.push(block).map_err(|_| NoMemory)?;
     }
@@ -70,13 +155,24 @@ fn copied<T: Copy>(alloc: Global, values: &[T]) -> Result<Vec<T>, NoMemory>
     Ok(all)
 }
 
+/// The same pages.
+fn copied_pages(alloc: Global, pages: &[MemPage]) -> Result<Vec<MemPage>, NoMemory>
+    ensures { IfOk result (λ all. all.items ≡ pages.now) }
+{
+    let mut all = Vec::with_capacity(alloc, pages.len()).map_err(|_| NoMemory)?;
+    for page in pages {
+        all.push(page.copy()).map_err(|_| NoMemory)?;
+    }
+    Ok(all)
+}
+
 /// Blocks of the same pages.
 fn copied_blocks(alloc: Global, blocks: &[MemBlock]) -> Result<Vec<MemBlock>, NoMemory>
     ensures { IfOk result (λ all. all.items ≡ blocks.now) }
 {
     let mut all = Vec::with_capacity(alloc, blocks.len()).map_err(|_| NoMemory)?;
     for block in blocks {
-        let pages = copied(alloc, block.pages.as_slice())?;
+        let pages = copied_pages(alloc, block.pages.as_slice())?;
         all.push(MemBlock { pages }).map_err(|_| NoMemory)?;
     }
     Ok(all)
@@ -87,22 +183,20 @@ impl MemBlock {
         requires { page < length self.now }
         ensures { result.now ≡ slice_index_or self.now page blank_page }
     {
-        &self.pages[page]
+        self.pages[page].page()
     }
 
     fn set_page(&mut self, page: usize, content: &Page)
         requires { page < length self.old }
         ensures { self.new ≡ slice_set self.old page content.now }
     {
-        let kept = &mut self.pages[page];
-        kept.body.copy_from_slice(&content.body);
-        kept.spare.copy_from_slice(&content.spare);
+        self.pages[page].set(content);
     }
 
     fn erase(&mut self)
         ensures { self.new ≡ replicate (length self.old) blank_page }
     {
-        self.pages.fill(blank());
+        erase_all(self.pages.as_mut_slice());
     }
 }
 

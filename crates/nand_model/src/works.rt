@@ -25,20 +25,31 @@ fn read<D: Die>(die: &mut D, place: Place) -> Outcome
         spare: [0; 96],
     };
     match die.read(place.block, place.page, &mut found) {
-        Ok(_) => Outcome::Read(found),
-        Err(_) => Outcome::ReadFailed,
+        Ok(_) => {
+            return Outcome::Read(found);
+        }
+        Err(_) => {
+            return Outcome::ReadFailed;
+        }
     }
 }
 
 /// Does the job on the die, which is the one that the job names. `Failed` and `ReadFailed` come only
-/// if the die's count of failures rose.
+/// if the die's count of failures rose. Each arm returns by itself: where arms join, as many bytes are
+/// copied as a page has.
 pub fn work<D: Die>(die: &mut D, job: &Job) -> Outcome
     requires { CanDo (D.state die.old) job.now }
     ensures { Did (D.failed die.old) (D.failed die.new) (D.state die.old) job.now result (D.state die.new) }
 {
     match job {
-        Job::Read(place) => read(die, *place),
-        Job::Program(place, page) => ending(die.program(place.block, place.page, page)),
-        Job::Erase { die: _, block } => ending(die.erase(*block)),
+        Job::Read(place) => {
+            return read(die, *place);
+        }
+        Job::Program(place, page) => {
+            return ending(die.program(place.block, place.page, page));
+        }
+        Job::Erase { die: _, block } => {
+            return ending(die.erase(*block));
+        }
     }
 }

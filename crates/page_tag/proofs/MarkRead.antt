@@ -107,7 +107,7 @@ module _ (body : List ℕ) (units : ArrayVec UnitSpec) where
         blocks = field_at 2 18 body;
         pages = field_at 2 20 body;
         units = units;
-        rpmb = slice_index body 22;
+        rpmb = slice_index body 22 ∷ slice_index body 28 ∷ slice_index body 29 ∷ slice_index body 30 ∷ [];
         slots = field_at 2 24 body;
         spare = field_at 2 26 body;
       }
@@ -120,7 +120,7 @@ module _ (body : List ℕ) (units : ArrayVec UnitSpec) where
         blocks = field 2 (λ m. m.blocks) refl i;
         pages = field 4 (λ m. m.pages) refl i;
         units = same i;
-        rpmb = byte 6 (λ m. m.rpmb) refl i;
+        rpmb = four i;
         slots = field 8 (λ m. m.slots) refl i;
         spare = field 10 (λ m. m.spare) refl i;
       }
@@ -128,9 +128,16 @@ module _ (body : List ℕ) (units : ArrayVec UnitSpec) where
       all : numbers_in body ≡ n
       all = numbers_of_mark fence n body h
 
+      byte_at : (k : ℕ) → slice_index body (16 + k) ≡ slice_index (drop 16 body) k
+      byte_at k = sym (get_or-drop 16 body k 0)
+
       byte : (k : ℕ) (f : Numbers → ℕ) → f (numbers_in body) ≡ slice_index (drop 16 body) k
           → slice_index body (16 + k) ≡ f n
-      byte k f e = sym (get_or-drop 16 body k 0) ∙ sym e ∙ ap f all
+      byte k f e = byte_at k ∙ sym e ∙ ap f all
+
+      four : slice_index body 22 ∷ slice_index body 28 ∷ slice_index body 29 ∷ slice_index body 30 ∷ [] ≡ n.rpmb
+      four =
+          (λ i. byte_at 6 i ∷ byte_at 12 i ∷ byte_at 13 i ∷ byte_at 14 i ∷ []) ∙ ap (λ (m : Numbers). m.rpmb) all
 
       field : (k : ℕ) (f : Numbers → ℕ) → f (numbers_in body) ≡ field_at 2 k (drop 16 body)
           → field_at 2 (16 + k) body ≡ f n

@@ -27,7 +27,7 @@ pub struct Mark {
 pub enum Content {
     /// Blank, torn, or not written by the device.
     Nothing,
-    /// A page of a group: data, a part of the RPMB area, or settings.
+    /// A page of a group: data, a part of the area of an RPMB region, or settings.
     Group(Opened),
     /// A mark.
     Mark(Mark),

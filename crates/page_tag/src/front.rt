@@ -2,9 +2,10 @@
 ghost use Rattle.std.specs.Prelude.{◌≡◌, ◌^◌, ◌<◌, ◌≤◌, ◌↔◌, IsTrue, replicate, slice_index, take};
 ghost use Rattle.ufs_spec.specs.Pages.{IsFrontOf, IsTag, front_with, greatest_number, group_bound, index_in, old_front};
 ghost use Rattle.ufs_spec.specs.Pages.{old_group_bound, size_in, spare_front, tag_in};
+ghost use Rattle.ufs_spec.specs.Plain.{regions};
 
 use ufs_bytes::{read_u16, read_u32, read_u64, write_u16, write_u32, write_u64};
-use ufs_spec::{GREATEST_GROUP, GREATEST_NUMBER, Tag};
+use ufs_spec::{GREATEST_GROUP, GREATEST_NUMBER, REGIONS, Tag};
 
 const MAGIC: &[u8; 4] = b"UFSP";
 
@@ -28,7 +29,8 @@ pub fn is_tag(tag: &Tag) -> bool
 fn is_of_its_kind(tag: &Tag) -> bool
     ensures { IsTrue result ↔ ((1 ≤ tag.now.kind) × (tag.now.kind ≤ 4) × (tag.now.unit < 8)
         × (tag.now.address < 2 ^ 32)
-        × (2 ≤ tag.now.kind → tag.now.unit ≡ 0) × (3 ≤ tag.now.kind → tag.now.address ≡ 0)
+        × (tag.now.kind ≡ 2 → tag.now.unit < regions) × (3 ≤ tag.now.kind → tag.now.unit ≡ 0)
+        × (3 ≤ tag.now.kind → tag.now.address ≡ 0)
         × (tag.now.kind ≡ 4 → (tag.now.index ≡ 0) × (tag.now.size ≡ 1))) }
 {
     let Tag {
@@ -41,7 +43,7 @@ fn is_of_its_kind(tag: &Tag) -> bool
     } = *tag;
     match kind {
         1 => unit < 8,
-        2 => unit == 0,
+        2 => unit < REGIONS,
         3 => unit == 0 && address == 0,
         4 => unit == 0 && address == 0 && index == 0 && size == 1,
         _ => false,

@@ -37,9 +37,12 @@ fn head_of(numbers: &Numbers, fence: Option<Fence>) -> [u8; ENTRIES]
     head[17] = numbers.units.len() as u8;
     write_u16(&mut head, 18, numbers.blocks);
     write_u16(&mut head, 20, numbers.pages);
-    head[22] = numbers.rpmb;
+    head[22] = numbers.rpmb[0];
     write_u16(&mut head, 24, numbers.slots);
     write_u16(&mut head, 26, numbers.spare);
+    head[28] = numbers.rpmb[1];
+    head[29] = numbers.rpmb[2];
+    head[30] = numbers.rpmb[3];
     head
 }
 

@@ -72,7 +72,7 @@ fn numbers_in(body: &Block) -> Option<Numbers>
         blocks: read_u16(body, 18),
         pages: read_u16(body, 20),
         units: units_in(body, count),
-        rpmb: body[22],
+        rpmb: [body[22], body[28], body[29], body[30]],
         slots: read_u16(body, 24),
         spare: read_u16(body, 26),
     })

@@ -42,6 +42,14 @@ impl Shape {
             boot: 0,
             protect: 0,
         }];
-        Config::new(self.dies, self.blocks, PAGES, &units, 1, SLOTS, 0)
+        Config::new(
+            self.dies,
+            self.blocks,
+            PAGES,
+            &units,
+            [1, 0, 0, 0],
+            SLOTS,
+            0,
+        )
     }
 }

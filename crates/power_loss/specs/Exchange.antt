@@ -17,7 +17,7 @@ use Rattle.ufs_spec.specs.Messages.{AreBytes}
 use Rattle.ufs_spec.specs.Pages.{group_bound}
 use Rattle.ufs_spec.specs.Plain.{shape_of, shape_of_numbers}
 use Rattle.ufs_spec.specs.Refusals.{State, numbers_of, slots_for_frames}
-use Rattle.ufs_spec.specs.Plain.{regions}
+use Rattle.ufs_spec.specs.Plain.{HasRegion, shape_of_numbers}
 use Rattle.ufs_spec.specs.Translation.{is_mended}
 use Rattle.ufs_spec.specs.declared.configs.Numbers.{Numbers}
 use Rattle.ufs_spec.specs.declared.flash.Place.{Place}
@@ -73,8 +73,8 @@ pub record UnmapFits (n : Numbers) (mended : Bool) (unit total : ℕ) (gathered 
 
 -- a SECURITY PROTOCOL OUT that gathers its frames, one to eight of them, is for a region that is there, and has less
 -- than its length; it has claimed the slots of an RPMB write
-pub record FramesFit (mended : Bool) (region total : ℕ) (gathered : List ℕ) (claimed : ℕ) : Type 0 where
-  pub region_in : region < regions
+pub record FramesFit (n : Numbers) (mended : Bool) (region total : ℕ) (gathered : List ℕ) (claimed : ℕ) : Type 0 where
+  pub region_in : HasRegion (shape_of_numbers n) region
   pub count : ℕ
   pub some : 1 ≤ count
   pub few : count ≤ 8
@@ -91,7 +91,7 @@ DeedFits n accepted mended claimed total (Gathering (ForWrite unit address block
 DeedFits n accepted mended claimed total (Gathering (ForUnmap unit) gathered asked) =
     UnmapFits n mended unit total gathered claimed
 DeedFits n accepted mended claimed total (Gathering (ForFrames region) gathered asked) =
-    FramesFit mended region total gathered claimed
+    FramesFit n mended region total gathered claimed
 DeedFits n accepted mended claimed total (Awaiting commands) = AwaitsFit accepted mended commands
 DeedFits n accepted mended claimed total (Sending blocks sent) = Unit {0}
 DeedFits n accepted mended claimed total (SendingBytes bytes) = Unit {0}

@@ -3,7 +3,7 @@ pub mod frees
 pub mod greatest_numbers
 pub mod key_order
 pub mod opened
-pub mod same_numbers
+pub mod same_units
 pub mod scan_facts
 pub mod settings_pages
 pub mod standing_for

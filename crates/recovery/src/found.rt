@@ -1,5 +1,5 @@
 //! What the dies stand for when a device is opened over them.
-ghost use Rattle.std.specs.Prelude.{◌≡◌, ◌≤◌, ◌^◌, ◌↔◌, ◌==◌, ℕ, suc, Bool, List, Some, IfErr, IfOk, IsTrue, length, map, option_map, slice_get};
+ghost use Rattle.std.specs.Prelude.{◌≡◌, ◌≤◌, ◌^◌, ◌↔◌, ◌==◌, ◌⊎◌, ◌∷◌, [], ℕ, suc, Bool, List, Some, IfErr, IfOk, IsTrue, length, map, option_map, slice_get, slice_index};
 ghost use Rattle.ufs_spec.specs.Pages.{greatest_number};
 ghost use Rattle.ufs_spec.specs.Cells as cells;
 ghost use Rattle.ufs_spec.specs.Cells.{AreWithin, Cells, Shows};
@@ -8,7 +8,7 @@ ghost use Rattle.ufs_spec.specs.Keys.{settings_key};
 ghost use Rattle.ufs_spec.specs.Kept.{Holds, fence_in};
 ghost use Rattle.ufs_spec.specs.Lives.{Fit, array_of, bad_of};
 ghost use Rattle.ufs_spec.specs.Plain.{Plain};
-ghost use Rattle.ufs_spec.specs.Sound.{CellsSound, CellsSuit, Sound};
+ghost use Rattle.ufs_spec.specs.Sound.{CellsSound, CellsSuit, MarkSuits, Sound};
 ghost use Rattle.ufs_spec.specs.Translation.{spots};
 ghost use Rattle.settings.specs.Told.{settings_in};
 ghost use Rattle.page_tag.specs.Contents.{mark_of};
@@ -37,7 +37,8 @@ use ufs_spec::{Fence, Key, Numbers, OpenFault};
 /// What the dies stand for.
 #[derive(Drop)]
 pub struct Found {
-    /// The newest mark; `None` on dies without a mark.
+    /// The newest mark; `None` on dies without a mark. It may say other sizes of RPMB regions 1 to 3 than
+    /// the configuration: none of each.
     pub newest: Option<Mark>,
     /// The kept number: from the greatest recorded frontier on, every group up to it is whole.
     pub kept: u64,
@@ -51,7 +52,8 @@ pub struct Found {
     pub lost: Vec<Key>,
     /// For each block of each die, in order, what it is.
     pub blocks: Vec<FoundBlock>,
-    /// The settings, with the RPMB key and the write counter; those of a new device if no page has them.
+    /// The settings, with the key and the write counter of each RPMB region; those of a new device if no
+    /// page has them.
     pub settings: Settings,
 }
 
@@ -62,8 +64,9 @@ pub struct Found {
 /// # Errors
 ///
 /// `NoMemory` if memory was refused; `ReadFault` if the read of that place failed in this call;
-/// else `OtherConfig` if the newest mark is of another configuration, or a page is of a unit or an
-/// address that the configuration has not.
+/// else `OtherConfig` if the newest mark is of another configuration, or a page is of a unit, a region
+/// or an address that the configuration has not. A mark of the same numbers with RPMB region 0 alone is
+/// not of another one: it was written before the device had other regions.
 pub fn scan<D: Die>(alloc: Global, dies: &mut [D], config: &Config) -> Result<Found, OpenFault>
     requires { Fit config.now (map D.state dies.old) }
     ensures same { map D.state dies.new ≡ map D.state dies.old }
@@ -123,22 +126,59 @@ pub(crate) fn found_over<D: Die>(
     Ok(found)
 }
 
-/// Whether the newest mark, if there is one, has these numbers, and the device has the key of each page.
+/// Whether the newest mark, if there is one, suits these numbers, and the device has the key of each page.
 fn is_of_config(table: &Table, numbers: &Numbers) -> bool
     ensures { (c : Cells) → IsTable numbers.now c table.now →
         IsTrue result ↔ CellsSuit numbers.now c (newest_in table.now) }
 {
-    has_numbers(&table.newest, numbers) && are_known(table.pages.as_slice(), numbers)
+    does_mark_suit(&table.newest, numbers) && are_known(table.pages.as_slice(), numbers)
 }
 
-/// Whether the mark, if there is one, has these numbers.
-fn has_numbers(mark: &Option<Mark>, numbers: &Numbers) -> bool
-    ensures { IsTrue result ↔ ((m : cells.Mark) → option_map mark_of mark.now ≡ Some m → m.numbers ≡ numbers.now) }
+/// Whether the mark, if there is one, suits these numbers.
+fn does_mark_suit(mark: &Option<Mark>, numbers: &Numbers) -> bool
+    ensures { IsTrue result ↔ ((m : cells.Mark) → option_map mark_of mark.now ≡ Some m →
+        MarkSuits numbers.now m.numbers) }
 {
     match mark {
-        Some(mark) => mark.numbers == *numbers,
+        Some(mark) => do_numbers_suit(&mark.numbers, numbers),
         None => true,
     }
+}
+
+/// Whether a mark with these numbers suits the others: they are the same, or the same with RPMB region 0
+/// alone, as before the device had others.
+fn do_numbers_suit(said: &Numbers, numbers: &Numbers) -> bool
+    ensures { IsTrue result ↔ MarkSuits numbers.now said.now }
+{
+    are_same_but_regions(said, numbers) && do_regions_suit(said.rpmb, numbers.rpmb)
+}
+
+/// Whether numbers are the same, whatever the sizes of RPMB regions are.
+fn are_same_but_regions(said: &Numbers, numbers: &Numbers) -> bool
+    ensures { let s = said.now in let n = numbers.now in IsTrue result ↔
+        ((s.dies ≡ n.dies) × (s.blocks ≡ n.blocks) × (s.pages ≡ n.pages) × (s.units ≡ n.units)
+        × (s.slots ≡ n.slots) × (s.spare ≡ n.spare)) }
+{
+    said.dies == numbers.dies
+        && said.blocks == numbers.blocks
+        && said.pages == numbers.pages
+        && have_same_units(said, numbers)
+        && said.slots == numbers.slots
+        && said.spare == numbers.spare
+}
+
+/// Whether their units are the same.
+fn have_same_units(said: &Numbers, numbers: &Numbers) -> bool
+    ensures { IsTrue result ↔ (said.now.units ≡ numbers.now.units) }
+{
+    said.units == numbers.units
+}
+
+/// Whether the sizes of RPMB regions are the others, or those of region 0 alone.
+fn do_regions_suit(said: [u8; 4], sizes: [u8; 4]) -> bool
+    ensures { IsTrue result ↔ ((said ≡ sizes) ⊎ (said ≡ slice_index sizes 0 ∷ 0 ∷ 0 ∷ 0 ∷ [])) }
+{
+    said == sizes || said == [sizes[0], 0, 0, 0]
 }
 
 /// The fence of the newest mark, if it has one.

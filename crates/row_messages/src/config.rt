@@ -7,7 +7,7 @@ use geometry::Config;
 use ufs_spec::{ConfigFault, UnitSpec};
 
 /// 4 dies of 16 blocks of 64 pages, units of 256, 64 and 64 blocks, the last two of them boot units, one
-/// step of RPMB, 64 slots, 4 spare blocks.
+/// step of RPMB region 0 and no other region, 64 slots, 4 spare blocks.
 pub fn row_config() -> Result<Config, ConfigFault>
     ensures { IfOk result (λ c. shape_of_numbers c ≡ row_shape) }
 {
@@ -28,7 +28,7 @@ pub fn row_config() -> Result<Config, ConfigFault>
             protect: 0,
         },
     ];
-    Config::new(4, 16, 64, &units, 1, 64, 4)
+    Config::new(4, 16, 64, &units, [1, 0, 0, 0], 64, 4)
 }
 
 /// Two dies of 20 blocks of 16 pages, a unit of 64 blocks, and no spare block.
@@ -47,5 +47,5 @@ pub fn spared_config(dies: u8, spare: u16) -> Result<Config, ConfigFault>
         boot: 0,
         protect: 0,
     }];
-    Config::new(dies, 20, 16, &units, 1, 64, spare)
+    Config::new(dies, 20, 16, &units, [1, 0, 0, 0], 64, spare)
 }

@@ -1,8 +1,10 @@
-//! The replay protected memory block of one region: what a request does, what answers it, and the
-//! registers in which answers wait (JESD220, 12.4). The area itself lies on the dies.
+//! The replay protected memory block of a region, and of all regions: what a request does, what
+//! answers it, and the registers in which answers wait (JESD220, 12.4). The areas themselves lie on
+//! the dies.
 #![tactic(auto)]
 
 mod machine;
+mod machines;
 mod macs;
 mod outcomes;
 mod regions;
@@ -10,6 +12,7 @@ mod requests;
 mod responses;
 
 pub use machine::Rpmb;
+pub use machines::Machines;
 pub use outcomes::{Accepted, Failure, Outcome, Refusal};
 pub use regions::RegionState;
 pub use requests::{

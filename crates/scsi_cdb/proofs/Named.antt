@@ -48,7 +48,7 @@ fits_either false first second h k = k
 six_fits : (bytes : List ℕ) → six_address bytes < 2 ^ 21
 six_fits bytes = let most = and_le_r (field_at 4 0 bytes) 0x1FFFFF in omega (arith, most)
 
--- what the fields name fits its ranges, where a REPORT LUNS has a selection of the table and a region is there
+-- what the fields name fits its ranges, where a REPORT LUNS has a selection of the table and a region is one of the four
 pub named_fits : (bytes : List ℕ) → ((place : ℕ) → slice_index bytes place < 256) → Fits (named_cdb bytes)
 named_fits bytes small =
     let operation : ℕ = slice_index bytes 0 in

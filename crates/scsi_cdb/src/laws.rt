@@ -1,6 +1,6 @@
 //! What holds of the definitions themselves. The functions do nothing: their contracts are laws.
 ghost use Rattle.std.specs.Prelude.{◌≡◌, ◌∷◌, ◌++◌, ◌*◌, [], ℕ, length, replicate, slice_index};
-ghost use Rattle.std.specs.Prelude.{◌<◌, true, false};
+ghost use Rattle.std.specs.Prelude.{◌<◌, ◌≤◌, ◌^◌, true, false};
 ghost use Rattle.ufs_spec.specs.Messages.{IsAmong};
 ghost use Rattle.ufs_spec.specs.Cdbs.{IsCdb, ToDevice, carried, cdb_bytes, direction_of};
 ghost use Rattle.ufs_spec.specs.Cdbs.{fixed_sense, known_operations, length_of, operation_of, residual_of};
@@ -53,10 +53,17 @@ pub fn worked_bytes()
     ensures nothing { no_sense ≡ 0x70 ∷ 0 ∷ 0 ∷ 0 ∷ 0 ∷ 0 ∷ 0 ∷ 0x0A ∷ replicate 10 0 }
 {}
 
-/// RPMB region 0 is there, and there are no more than four regions.
-pub fn regions_are_few()
-    ensures first { IsCdb (SecurityOut 0 512) }
-    ensures last { (length : ℕ) → IsCdb (SecurityIn 4 length) → ⊥ }
+/// A command may name each of four RPMB regions, and no other one. Bytes 2 and 3 say which: its
+/// number and 01h.
+pub fn four_regions()
+    ensures each { (region length : ℕ) → region < 4 → length < 2 ^ 32 →
+        IsCdb (SecurityIn region length) × IsCdb (SecurityOut region length) }
+    ensures no_other { (region length : ℕ) → 4 ≤ region →
+        (IsCdb (SecurityIn region length) → ⊥) × (IsCdb (SecurityOut region length) → ⊥) }
+    ensures number_in { (region length : ℕ) → (slice_index (cdb_bytes (SecurityIn region length)) 2 ≡ region)
+        × (slice_index (cdb_bytes (SecurityIn region length)) 3 ≡ 1) }
+    ensures number_out { (region length : ℕ) → (slice_index (cdb_bytes (SecurityOut region length)) 2 ≡ region)
+        × (slice_index (cdb_bytes (SecurityOut region length)) 3 ≡ 1) }
 {}
 
 /// Some lengths and residuals: READ(6) of 0, which are 256 blocks; INQUIRY for 64 bytes, which has

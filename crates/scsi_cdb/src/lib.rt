@@ -11,7 +11,7 @@ ghost use Rattle.scsi_cdb.specs.Reading.{HasSelection};
 
 pub use demands::{address_of, blocks_of, length_of};
 pub use laws::{
-    one_cdb, one_operation, regions_are_few, worked_bytes, worked_lists, worked_residuals,
+    four_regions, one_cdb, one_operation, worked_bytes, worked_lists, worked_residuals,
 };
 pub use spelling::bytes_of;
 use ufs_bytes::{read_u16, read_u32};
@@ -181,7 +181,7 @@ fn twelve_in(bytes: &[u8; 16]) -> Option<Cdb>
 }
 
 // Whether the bytes are those of the command that their fields name: REPORT LUNS has a selection of
-// the table, the RPMB region is there, and what no field names is zero.
+// the table, the RPMB region is one of the four, and what no field names is zero.
 fn is_spelled(cdb: &Cdb, bytes: &[u8; 16]) -> bool
     requires { named_cdb bytes.now ≡ Some cdb.now }
     ensures { IsTrue result ↔ SpellsCdb cdb.now bytes.now }
@@ -196,8 +196,8 @@ fn has_bytes(cdb: &Cdb, bytes: &[u8; 16]) -> bool
     bytes_of(cdb) == *bytes
 }
 
-// Whether a REPORT LUNS has a selection of the table, and a SECURITY PROTOCOL command a region that
-// is there.
+// Whether a REPORT LUNS has a selection of the table, and a SECURITY PROTOCOL command one of the four
+// regions.
 fn has_selection(cdb: &Cdb) -> bool
     ensures { IsTrue result ↔ HasSelection cdb.now }
 {

@@ -1,18 +1,20 @@
-//! A settings page: the boot setting, fPermanentWPEn, the RPMB key and the write counter.
-ghost use Rattle.std.specs.Prelude.{◌≡◌, ◌++◌, ◌∷◌, ◌↔◌, ℕ, Bool, List, Option, [], IsTrue};
+//! A settings page: the boot setting, fPermanentWPEn, and of each RPMB region the key and the write
+//! counter.
+ghost use Rattle.std.specs.Prelude.{◌≡◌, ◌+◌, ◌*◌, ◌≤◌, ◌<◌, ◌++◌, ◌∷◌, ◌↔◌, ℕ, Bool, List, Option, [], IsTrue, length, replicate};
 ghost use Rattle.byteorder.specs.Endian.{big_bytes};
-ghost use Rattle.ufs_spec.specs.Keys.{AreSettings, IsSettingsBody, flag_byte, key_bytes, key_in, settings_bytes};
-ghost use Rattle.ufs_spec.specs.Plain.{zero_block};
+ghost use Rattle.ufs_spec.specs.Keys.{AreSettings, IsSettingsBody, counter_in, first_bytes, flag_byte, forty_bytes, key_bytes, key_flag, key_in, key_named, region_bytes, said_of, settings_bytes};
+ghost use Rattle.ufs_spec.specs.Plain.{regions, with_part, zero_block};
 ghost use Rattle.settings.specs.Told.{bytes_of, new_settings, settings_in};
 
 use ufs_bytes::{Block, read_u32, write_u32};
+use ufs_spec::KeyAndCounter;
 
-// Where the key and the counter begin, and where the zeros behind them do.
+// How many bytes there are for each region, and in them where the key and the counter begin.
+const REGION: usize = 40;
+
 const KEY: usize = 4;
 
 const COUNTER: usize = 36;
-
-const END: usize = 40;
 
 // The boot setting is 0, 1 or 2.
 const HIGHEST_BOOT: u8 = 2;
@@ -24,10 +26,8 @@ pub struct Settings {
     pub boot: u8,
     /// fPermanentWPEn: whether write protection is permanent (JESD220, 14).
     pub is_permanent: bool,
-    /// The key of RPMB region 0, once it is set (JESD220, 12.4).
-    pub key: Option<[u8; 32]>,
-    /// The write counter of RPMB region 0 (JESD220, 12.4).
-    pub counter: u32,
+    /// Of each RPMB region its key, once it is programmed, and its write counter (JESD220, 12.4).
+    pub regions: [KeyAndCounter; 4],
 }
 
 impl Settings {
@@ -40,8 +40,10 @@ impl Settings {
         Settings {
             boot: 0,
             is_permanent: false,
-            key: None,
-            counter: 0,
+            regions: [KeyAndCounter {
+                key: None,
+                counter: 0,
+            }; 4],
         }
     }
 
@@ -49,13 +51,17 @@ impl Settings {
     pub fn from_page(page: &Block) -> Settings
         ensures said { result ≡ settings_in page.now }
         // Those that the page spells, if they are in their ranges.
-        ensures spelled { (s : Settings) → AreSettings s.boot s.key s.counter → page.now ≡ bytes_of s → result ≡ s }
+        ensures spelled { (s : Settings) → AreSettings s.boot s.regions → page.now ≡ bytes_of s → result ≡ s }
     {
         Settings {
             boot: page[0],
             is_permanent: page[1] == 1,
-            key: set_key(page),
-            counter: read_u32(page, COUNTER),
+            regions: [
+                first_region(page),
+                other_region(page, 1),
+                other_region(page, 2),
+                other_region(page, 3),
+            ],
         }
     }
 
@@ -64,21 +70,23 @@ impl Settings {
         ensures { result ≡ bytes_of self.now }
     {
         let mut page = [0; 4096];
-        page[..END].copy_from_slice(&self.front());
+        put(&mut page, 0, &self.first_bytes());
+        put(&mut page, 1, &region_bytes(&self.regions[1]));
+        put(&mut page, 2, &region_bytes(&self.regions[2]));
+        put(&mut page, 3, &region_bytes(&self.regions[3]));
         page
     }
 
-    // The bytes before the zeros.
-    fn front(&self) -> [u8; END]
-        ensures { let s = self.now in
-            result ≡ (s.boot ∷ flag_byte s.is_permanent ∷ []) ++ key_bytes s.key ++ big_bytes 4 s.counter }
+    // The first forty bytes, with region 0.
+    fn first_bytes(&self) -> [u8; REGION]
+        ensures { let s = self.now in result ≡ first_bytes s.boot s.is_permanent (said_of s.regions 0) }
     {
-        let mut front = [0; END];
-        front[0] = self.boot;
-        front[1] = flag_of(self.is_permanent);
-        front[2..COUNTER].copy_from_slice(&key_front(self.key));
-        write_u32(&mut front, COUNTER, self.counter);
-        front
+        let region = &self.regions[0];
+        let mut forty = forty_bytes(region);
+        forty[0] = self.boot;
+        forty[1] = flag_of(self.is_permanent);
+        forty[2] = key_flag(region.key);
+        forty
     }
 }
 
@@ -90,16 +98,49 @@ pub fn is_settings_page(page: &Block) -> bool
     settings.boot <= HIGHEST_BOOT && settings.page() == *page
 }
 
-// The key, if it is set.
-fn set_key(page: &Block) -> Option<[u8; 32]>
-    ensures { result ≡ key_in page.now }
+// What the first forty bytes say of region 0.
+fn first_region(page: &Block) -> KeyAndCounter
+    ensures { result ≡ record { key = key_in 0 page.now; counter = counter_in 0 page.now } }
 {
-    if page[2] != 1 {
+    KeyAndCounter {
+        key: key_named(page, 2),
+        counter: read_u32(page, COUNTER),
+    }
+}
+
+// What the forty bytes of another region say of it.
+fn other_region(page: &Block, number: usize) -> KeyAndCounter
+    requires other { 1 ≤ number }
+    requires there { number < regions }
+    ensures { result ≡ record { key = key_in number page.now; counter = counter_in number page.now } }
+{
+    let forty = &page[REGION * number..];
+    KeyAndCounter {
+        key: key_named(forty, 0),
+        counter: read_u32(forty, COUNTER),
+    }
+}
+
+// The key that forty bytes name. The one at this place says whether there is one.
+fn key_named(forty: &[u8], place: usize) -> Option<[u8; 32]>
+    requires place { place < length forty.now }
+    requires key { 36 ≤ length forty.now }
+    ensures { result ≡ key_named place forty.now }
+{
+    if forty[place] != 1 {
         return None;
     }
     let mut key = [0; 32];
-    key.copy_from_slice(&page[KEY..COUNTER]);
+    key.copy_from_slice(&forty[KEY..COUNTER]);
     Some(key)
+}
+
+// Writes the forty bytes of a region.
+fn put(page: &mut Block, number: usize, forty: &[u8; REGION])
+    requires { number < regions }
+    ensures { page.new ≡ with_part (40 * number) forty.now page.old }
+{
+    page[REGION * number..REGION * number + REGION].copy_from_slice(forty);
 }
 
 // A flag's byte.
@@ -109,14 +150,38 @@ fn flag_of(flag: bool) -> u8
     if flag { 1 } else { 0 }
 }
 
-// Whether the key is set, a zero, and the key.
-fn key_front(key: Option<[u8; 32]>) -> [u8; 34]
+// The byte that says whether there is a key.
+fn key_flag(key: Option<[u8; 32]>) -> u8
+    ensures { result ≡ key_flag key }
+{
+    flag_of(key.is_some())
+}
+
+// The forty bytes of a region other than 0.
+fn region_bytes(region: &KeyAndCounter) -> [u8; REGION]
+    ensures { result ≡ region_bytes region.now }
+{
+    let mut forty = forty_bytes(region);
+    forty[0] = key_flag(region.key);
+    forty
+}
+
+// Four zeros, the key, and the counter.
+fn forty_bytes(region: &KeyAndCounter) -> [u8; REGION]
+    ensures { result ≡ forty_bytes (replicate 4 0) region.now }
+{
+    let mut forty = [0; REGION];
+    forty[KEY..COUNTER].copy_from_slice(&key_bytes(region.key));
+    write_u32(&mut forty, COUNTER, region.counter);
+    forty
+}
+
+// The key; zeros if there is none.
+fn key_bytes(key: Option<[u8; 32]>) -> [u8; 32]
     ensures { result ≡ key_bytes key }
 {
-    let mut bytes = [0; 34];
-    if let Some(key) = key {
-        bytes[0] = 1;
-        bytes[2..].copy_from_slice(&key);
+    match key {
+        Some(key) => key,
+        None => [0; 32],
     }
-    bytes
 }

@@ -5,20 +5,30 @@ use Rattle.task_set.specs.declared.tasks.Phase.{Phase}
 use Rattle.task_set.specs.declared.tasks.Short.{Short}
 use Rattle.task_set.specs.declared.tasks.Task.{Task}
 
--- an open task: what it still owes its host, what it has to do with frames, the next block that it sends, once a die
--- read it, and what it keeps in its block: bytes that it sends, or its first frame with the data behind it
+-- an open task: what it still owes its host, what it has to do with frames and the RPMB region to which it brings them,
+-- the next block that it sends, once a die read it, and what it keeps in its block: bytes that it sends, or its first
+-- frame with the data behind it
 pub record OpenTask : Type 0 where
   pub tag : ℕ
   pub lun : ℕ
   pub expected : ℕ
   pub phase : Phase
   pub frames : Frames
+  pub region : ℕ
   pub block : Option (List ℕ)
   pub held : Option (List ℕ)
 
 -- what it still owes its host
 abbrev pub task_in : OpenTask → Task
-task_in t = record { tag = t.tag; lun = t.lun; expected = t.expected; phase = t.phase; frames = t.frames }
+task_in t =
+    record {
+      tag = t.tag;
+      lun = t.lun;
+      expected = t.expected;
+      phase = t.phase;
+      frames = t.frames;
+      region = t.region;
+    }
 
 -- nothing was read for it yet, and it keeps nothing
 abbrev pub newly_open : Task → OpenTask
@@ -29,6 +39,7 @@ newly_open t =
       expected = t.expected;
       phase = t.phase;
       frames = t.frames;
+      region = t.region;
       block = None;
       held = None;
     }

@@ -27,6 +27,7 @@ open_of t = record {
   expected = t.task.expected;
   phase = t.task.phase;
   frames = t.task.frames;
+  region = t.task.region;
   block = block_in t.holds t.body;
   held = held_in t.holds t.body;
 }

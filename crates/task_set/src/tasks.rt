@@ -297,6 +297,8 @@ pub struct Task {
     pub expected: u32,
     pub phase: Phase,
     pub frames: Frames,
+    /// The RPMB region to which it brings frames; 0 where it brings none.
+    pub region: u8,
 }
 
 /// Data that a task sends in one DATA IN, other than a block.

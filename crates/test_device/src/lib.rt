@@ -33,6 +33,8 @@ mod openings;
 #[cfg(test)]
 mod players;
 #[cfg(test)]
+mod regions;
+#[cfg(test)]
 mod rpmb_counter_end;
 #[cfg(test)]
 mod spares;

@@ -20,7 +20,7 @@ pub(crate) fn two_dies_config(rt: &impl Abort) -> Config
         boot: 0,
         protect: 0,
     }];
-    Config::new(2, 16, 64, &units, 1, 64, 4).expect(rt, "a configuration")
+    Config::new(2, 16, 64, &units, [1, 0, 0, 0], 64, 4).expect(rt, "a configuration")
 }
 
 /// Two new dies that fit it.

@@ -29,7 +29,7 @@ fn config(rt: &impl Abort) -> Config {
         boot: 0,
         protect: 0,
     }];
-    Config::new(2, BLOCKS, PAGES, &units, 1, WRITTEN, 0).expect(rt, "a configuration")
+    Config::new(2, BLOCKS, PAGES, &units, [1, 0, 0, 0], WRITTEN, 0).expect(rt, "a configuration")
 }
 
 /// A WRITE without FUA of 32 blocks of equal bytes: whether it is answered GOOD.

@@ -69,7 +69,7 @@ fn config(rt: &impl Abort) -> Config {
         boot: 1,
         protect: 2,
     }];
-    Config::new(2, BLOCKS, PAGES, &units, 1, 64, 4).expect(rt, "a configuration")
+    Config::new(2, BLOCKS, PAGES, &units, [1, 0, 0, 0], 64, 4).expect(rt, "a configuration")
 }
 
 /// A device over these dies.

@@ -1,13 +1,12 @@
 //! Public functions of the lower crates, each once, with values from the device's formats and from
 //! another implementation of SHA-256.
+use crate::plain_rows::{apply_command, new_plain};
 use geometry::Config;
 use nand_model::{Die, MemDie, work};
 use row_messages::row_config;
 use std::test::Fail;
 use ufs_bytes::{Block, read_u16, read_u32, read_u64, write_u16, write_u32, write_u64};
-use ufs_spec::{
-    Cdb, Cmd, ConfigFault, Fence, Job, Outcome, Page, Place, PlainDevice, Sense, Tag, UnitSpec,
-};
+use ufs_spec::{Cdb, Cmd, ConfigFault, Fence, Job, Outcome, Page, Place, Sense, Tag, UnitSpec};
 
 /// Fields are written and read with their highest byte first.
 #[test]
@@ -33,13 +32,13 @@ fn configurations_are_refused_in_order(rt: HostRuntime) -> Result<(), Fail> {
         protect: 0,
     };
     let two = [unit, unit];
-    let no_unit = Config::new(4, 16, 64, &[], 1, 64, 4);
+    let no_unit = Config::new(4, 16, 64, &[], [1, 0, 0, 0], 64, 4);
     assert!(rt; matches!(no_unit, Err(ConfigFault::Range)));
-    let nine_dies = Config::new(9, 16, 64, &two, 1, 64, 4);
+    let nine_dies = Config::new(9, 16, 64, &two, [1, 0, 0, 0], 64, 4);
     assert!(rt; matches!(nine_dies, Err(ConfigFault::Range)));
-    let one_die = Config::new(1, 16, 16, &two, 1, 64, 4);
+    let one_die = Config::new(1, 16, 16, &two, [1, 0, 0, 0], 64, 4);
     assert!(rt; matches!(one_die, Err(ConfigFault::TooLittleSpare)));
-    let boot_twice = Config::new(4, 16, 64, &two, 1, 64, 4);
+    let boot_twice = Config::new(4, 16, 64, &two, [1, 0, 0, 0], 64, 4);
     assert!(rt; matches!(boot_twice, Err(ConfigFault::TwoBootUnits)));
     assert!(rt; ConfigFault::TwoBootUnits as u8 == 3);
     Ok(())
@@ -49,14 +48,16 @@ fn configurations_are_refused_in_order(rt: HostRuntime) -> Result<(), Fail> {
 #[test]
 fn a_plain_device_after_each_kind_of_command(rt: HostRuntime) -> Result<(), Fail> {
     let alloc = rt.alloc();
-    let config = row_config()?;
-    let mut plain = PlainDevice::new(alloc, config.numbers())?;
-    plain.apply(&Cmd::SetBoot(2));
-    plain.apply(&Cmd::SetPermanent);
-    plain.apply(&Cmd::SetKey {
-        region: 0,
-        key: [0x0B; 32],
-    });
+    let mut plain = new_plain(alloc)?;
+    apply_command(&mut plain, &Cmd::SetBoot(2));
+    apply_command(&mut plain, &Cmd::SetPermanent);
+    apply_command(
+        &mut plain,
+        &Cmd::SetKey {
+            region: 0,
+            key: [0x0B; 32],
+        },
+    );
     assert!(rt; plain.boot() == 2);
     assert!(rt; plain.permanent());
     assert!(rt; plain.key(0) == Some([0x0B; 32]));
@@ -241,7 +242,7 @@ fn report_luns_is_taken_with_its_selection(rt: HostRuntime) {
 }
 
 /// Whether a CDB is refused with this sense.
-fn is_refused(cdb: &[u8; 16], sense: Sense) -> bool {
+pub(crate) fn is_refused(cdb: &[u8; 16], sense: Sense) -> bool {
     match scsi_cdb::read(cdb) {
         Ok(_) => false,
         Err(found) => found == sense,

@@ -23,7 +23,7 @@ fn config() -> Result<Config, Fail> {
             protect: 0,
         },
     ];
-    Ok(Config::new(2, 32, 64, &units, 1, 64, 4)?)
+    Ok(Config::new(2, 32, 64, &units, [1, 0, 0, 0], 64, 4)?)
 }
 
 /// The blocks of both units: each of equal bytes.
@@ -60,16 +60,33 @@ fn three_writes(alloc: Global) -> Result<Vec<Entry>, Fail> {
     Ok(commands)
 }
 
+/// A region with which nothing was done.
+pub(crate) const NEW_REGION: FoundRegion<'static> = FoundRegion {
+    key: None,
+    counter: 0,
+    area: &[],
+};
+
 /// What is found beside the blocks where nothing was done with it.
 const NEW_REST: FoundRest<'static> = FoundRest {
     boot: 0,
     is_permanent: false,
-    region: FoundRegion {
+    regions: [NEW_REGION; 4],
+};
+
+/// A region of so many blocks, without a key.
+pub(crate) fn region_of(blocks: u32) -> RegionState {
+    RegionState {
         key: None,
         counter: 0,
-        area: &[],
-    },
-};
+        blocks,
+    }
+}
+
+/// The regions of a device that has the first one alone, without a key.
+pub(crate) fn first_region() -> [RegionState; 4] {
+    [region_of(512), region_of(0), region_of(0), region_of(0)]
+}
 
 /// Whether these blocks are those that a prefix of the commands, with the held ones in it, makes of a new
 /// device.
@@ -193,12 +210,7 @@ fn write_6(tag: u8) -> [u8; 32] {
 
 /// A life begins, without a key.
 fn begun(alloc: Global) -> Result<Journal, Fail> {
-    let region = RegionState {
-        key: None,
-        counter: 0,
-        blocks: 512,
-    };
-    Ok(Journal::new(alloc, config()?.numbers(), region))
+    Ok(Journal::new(alloc, config()?.numbers(), first_region()))
 }
 
 /// Compares how many writes the journal has, and how many of them are held.

@@ -1,8 +1,8 @@
 //! Each public function of the lower crates once, what the worked rows say of contents, the
 //! comparison of journals, victims and plans, area pages that are written in part, the newest pages
-//! of keys, what queries and units tell, lists of UNMAP, pages of zeros, and pages of both versions.
-//! Expected bytes come from the device's formats and from the standards, never from the program's
-//! own output.
+//! of keys, RPMB regions of different sizes, what queries and units tell, lists of UNMAP, pages of
+//! zeros, and pages of both versions. Expected bytes come from the device's formats and from the
+//! standards, never from the program's own output.
 #![tactic(auto)]
 
 #[cfg(test)]
@@ -31,6 +31,8 @@ mod place_searches;
 mod plain_rows;
 #[cfg(test)]
 mod query_rows;
+#[cfg(test)]
+mod regions;
 #[cfg(test)]
 mod rpmb_journals;
 #[cfg(test)]

@@ -44,9 +44,9 @@ fn settings_with_set_padding_are_nothing(rt: HostRuntime) {
     };
     let mut body: Block = [0; 4096];
     assert!(rt; is_group_page(&content_of(&seal(&tag, &body)), &tag, &body));
-    body[40] = 1;
+    body[160] = 1;
     assert!(rt; is_nothing(&content_of(&seal(&tag, &body))));
-    body[40] = 0;
+    body[160] = 0;
     body[0] = 3;
     assert!(rt; is_nothing(&content_of(&seal(&tag, &body))));
 }
@@ -62,6 +62,33 @@ fn a_mark_with_an_empty_fence_is_nothing(rt: HostRuntime) -> Result<(), Fail> {
     let empty = Some(Fence { first: 9, last: 2 });
     assert!(rt; is_nothing(&content_of(&sealed_mark(numbers, empty))));
     Ok(())
+}
+
+/// A mark says the sizes of regions 0 to 3 in bytes 22, 28, 29 and 30. Byte 31 is zero.
+#[test]
+fn a_mark_says_the_size_of_each_region(rt: HostRuntime) -> Result<(), Fail> {
+    let mut numbers = row_config()?.numbers().copied();
+    numbers.rpmb = [1, 0, 2, 8];
+    let page = sealed_mark(&numbers, None);
+    assert!(rt; page.body[22] == 1 && page.body[28] == 0 && page.body[29] == 2);
+    assert!(rt; page.body[30] == 8 && page.body[31] == 0);
+    assert!(rt; is_mark(&content_of(&page), None, &numbers));
+    let mut body = page.body;
+    body[31] = 1;
+    assert!(rt; is_nothing(&content_of(&seal(&MARK, &body))));
+    Ok(())
+}
+
+/// A page of the area of region 3 is told as it was sealed.
+#[test]
+fn an_area_page_is_told_with_its_region(rt: HostRuntime) {
+    let tag = Tag {
+        kind: Tag::RPMB_AREA,
+        unit: 3,
+        ..DATA
+    };
+    let body = [0x5A; 4096];
+    assert!(rt; is_group_page(&content_of(&seal(&tag, &body)), &tag, &body));
 }
 
 /// Of four pages each is told as it is alone: data, a mark, the same data with a bit turned, whose
@@ -86,18 +113,20 @@ fn each_of_four_pages_is_told_as_it_is_alone(rt: HostRuntime) -> Result<(), Fail
     Ok(())
 }
 
-/// The mark of number 3 that records frontier 8.
+/// The tag of the mark of number 3 that records frontier 8.
+const MARK: Tag = Tag {
+    kind: Tag::MARK,
+    unit: 0,
+    address: 0,
+    number: 3,
+    index: 0,
+    size: 1,
+    frontier: 8,
+};
+
+/// This mark.
 fn sealed_mark(numbers: &Numbers, fence: Option<Fence>) -> Page {
-    let tag = Tag {
-        kind: Tag::MARK,
-        unit: 0,
-        address: 0,
-        number: 3,
-        index: 0,
-        size: 1,
-        frontier: 8,
-    };
-    seal(&tag, &mark_body(numbers, fence))
+    seal(&MARK, &mark_body(numbers, fence))
 }
 
 /// Whether this is a page of a group with this tag and these data.

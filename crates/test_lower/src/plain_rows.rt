@@ -17,7 +17,7 @@ const ACCEPTED: [(u32, u8); 3] = [(0, 0x11), (1, 0x22), (2, 0x33)];
 const KEY: [u8; 32] = [0x0B; 32];
 
 /// A new plain device of the row configuration.
-fn new_plain(alloc: Global) -> Result<PlainDevice, Fail>
+pub(crate) fn new_plain(alloc: Global) -> Result<PlainDevice, Fail>
     ensures { IfOk result (λ p. HasRowShape p) }
 {
     commands_keep_the_shape();
@@ -26,7 +26,7 @@ fn new_plain(alloc: Global) -> Result<PlainDevice, Fail>
 }
 
 /// Does a command, which keeps the counts of blocks and bytes.
-fn apply_command(plain: &mut PlainDevice, command: &Cmd)
+pub(crate) fn apply_command(plain: &mut PlainDevice, command: &Cmd)
     requires shape { HasRowShape plain.old }
     requires fits { CanApply plain.old (command_of command.now) }
     ensures { HasRowShape plain.new }

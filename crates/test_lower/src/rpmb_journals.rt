@@ -1,9 +1,9 @@
 //! What a journal takes from requests to the replay protected memory block, and the comparison of
 //! what was found of it. The MACs are those of another HMAC with SHA-256.
+use crate::journals::{NEW_REGION, first_region, region_of};
 use geometry::Config;
 use journal::{Entry, FoundRegion, FoundRest, Journal, can_apply, device_holding, is_kept};
 use row_messages::frames::{FrameBytes, Numbers, frame, frames_command, frames_good, frames_out};
-use rpmb::RegionState;
 use std::alloc::Global;
 use std::process::Abort;
 use std::test::Fail;
@@ -51,9 +51,22 @@ fn write_request(mac: &[u8; 32], counter: u32) -> FrameBytes {
     frame(mac, 0x77, numbers)
 }
 
-/// The journal hears a request of this frame, with this tag.
+/// The journal hears a request of this frame to region 0, with this tag.
 fn bring(alloc: Global, journal: &mut Journal, tag: u8, asked: &FrameBytes) -> Result<(), Fail> {
-    journal.hear(alloc, &frames_command(tag, 1))?;
+    bring_to(alloc, journal, (0, tag), asked)
+}
+
+/// The same to a region, which byte 2 of the CDB names: byte 18 of the message.
+fn bring_to(
+    alloc: Global,
+    journal: &mut Journal,
+    region_and_tag: (u8, u8),
+    asked: &FrameBytes,
+) -> Result<(), Fail> {
+    let (region, tag) = region_and_tag;
+    let mut command = frames_command(tag, 1);
+    command[18] = region;
+    journal.hear(alloc, &command)?;
     Ok(journal.hear(alloc, frames_out(tag, &[*asked]).as_slice())?)
 }
 
@@ -61,7 +74,7 @@ fn bring(alloc: Global, journal: &mut Journal, tag: u8, asked: &FrameBytes) -> R
 fn expect_counts(rt: &impl Abort, journal: &Journal, accepted: usize, held: usize, counter: u32) {
     assert!(rt; journal.entries().len() == accepted);
     assert!(rt; journal.held() == held);
-    assert!(rt; journal.region().counter == counter);
+    assert!(rt; journal.region(0).counter == counter);
 }
 
 /// A key and a write are accepted with their frames, and each is held once it is answered GOOD. A
@@ -69,17 +82,12 @@ fn expect_counts(rt: &impl Abort, journal: &Journal, accepted: usize, held: usiz
 #[test]
 fn accepted_requests_are_noted(rt: HostRuntime) -> Result<(), Fail> {
     let alloc = rt.alloc();
-    let region = RegionState {
-        key: None,
-        counter: 0,
-        blocks: 512,
-    };
-    let mut journal = Journal::new(alloc, config()?.numbers(), region);
+    let mut journal = Journal::new(alloc, config()?.numbers(), first_region());
     bring(alloc, &mut journal, 1, &write_request(&FIRST, 0))?;
     expect_counts(&rt, &journal, 0, 0, 0);
     bring(alloc, &mut journal, 1, &key_request())?;
     expect_counts(&rt, &journal, 1, 0, 0);
-    assert!(rt; journal.region().key == Some(KEY));
+    assert!(rt; journal.region(0).key == Some(KEY));
     journal.tell(&frames_good(1));
     expect_counts(&rt, &journal, 1, 1, 0);
     bring(alloc, &mut journal, 2, &key_request())?;
@@ -98,6 +106,54 @@ fn accepted_requests_are_noted(rt: HostRuntime) -> Result<(), Fail> {
     Ok(())
 }
 
+/// A key and a write go to region 2 while region 0 has neither: the write to region 0 is refused, and each
+/// region keeps a key and a counter of its own. A number that no region has is told as one without blocks.
+#[test]
+fn requests_go_to_their_regions(rt: HostRuntime) -> Result<(), Fail> {
+    let alloc = rt.alloc();
+    let regions = [region_of(512), region_of(0), region_of(1024), region_of(0)];
+    let mut journal = Journal::new(alloc, larger_config()?.numbers(), regions);
+    bring_to(alloc, &mut journal, (2, 1), &key_request())?;
+    bring_to(alloc, &mut journal, (0, 2), &write_request(&FIRST, 0))?;
+    bring_to(alloc, &mut journal, (2, 3), &write_request(&FIRST, 0))?;
+    journal.tell(&frames_good(3));
+    expect_counts(&rt, &journal, 2, 2, 0);
+    assert!(rt; journal.region(0).key.is_none());
+    let region = journal.region(2);
+    assert!(rt; region.key == Some(KEY) && region.counter == 1 && region.blocks == 1024);
+    assert!(rt; journal.region(3).key.is_none() && journal.region(3).counter == 0);
+    assert!(rt; journal.region(4).blocks == 0);
+    assert!(rt; is_key_of(journal.entries().get(0), 2));
+    assert!(rt; is_write_of(journal.entries().get(1), 2));
+    Ok(())
+}
+
+/// Whether the key of this region is noted.
+fn is_key_of(entry: Option<&Entry>, wanted: u8) -> bool {
+    match entry {
+        Some(Entry::Accepted(Cmd::SetKey { region, .. })) => *region == wanted,
+        _ => false,
+    }
+}
+
+/// Whether a write of this region is noted.
+fn is_write_of(entry: Option<&Entry>, wanted: u8) -> bool {
+    match entry {
+        Some(Entry::Accepted(Cmd::RpmbWrite { region, .. })) => *region == wanted,
+        _ => false,
+    }
+}
+
+/// One unit of one block, and regions 0 and 2, of 128 and 256 KiB.
+fn larger_config() -> Result<Config, Fail> {
+    let units = [UnitSpec {
+        blocks: 1,
+        boot: 0,
+        protect: 0,
+    }];
+    Ok(Config::new(2, 32, 64, &units, [1, 0, 2, 0], 64, 4)?)
+}
+
 /// One unit of one block.
 fn config() -> Result<Config, Fail> {
     let units = [UnitSpec {
@@ -105,7 +161,7 @@ fn config() -> Result<Config, Fail> {
         boot: 0,
         protect: 0,
     }];
-    Ok(Config::new(2, 32, 64, &units, 1, 64, 4)?)
+    Ok(Config::new(2, 32, 64, &units, [1, 0, 0, 0], 64, 4)?)
 }
 
 /// The write of two blocks at address 3.
@@ -148,12 +204,12 @@ fn units(alloc: Global) -> Result<Vec<Vec<Block>>, Fail> {
     Ok(all)
 }
 
-/// This region, and settings with which nothing was done.
+/// This first region, and other regions and settings with which nothing was done.
 fn rest_with(region: FoundRegion<'_>) -> FoundRest<'_> {
     FoundRest {
         boot: 0,
         is_permanent: false,
-        region,
+        regions: [region, NEW_REGION, NEW_REGION, NEW_REGION],
     }
 }
 
@@ -218,6 +274,57 @@ fn a_life_begins_over_a_region(rt: HostRuntime) -> Result<(), Fail> {
     let none = device_holding(alloc, config.numbers(), found.as_slice(), &short)?;
     assert!(rt; none.is_none());
     Ok(())
+}
+
+/// A life begins over region 2 with its key, its counter and its bytes, which another counter is not. What
+/// is said of regions 1 and 3, which are not there, counts for nothing.
+#[test]
+fn a_life_begins_over_the_regions_that_are_there(rt: HostRuntime) -> Result<(), Fail> {
+    let alloc = rt.alloc();
+    let config = larger_config()?;
+    let found = units(alloc)?;
+    let mut bytes = Vec::new(alloc);
+    bytes.resize(2 * AREA, 0x33)?;
+    let keyed = FoundRegion {
+        key: Some(KEY),
+        counter: 7,
+        area: bytes.as_slice(),
+    };
+    let none = FoundRegion {
+        counter: 5,
+        ..NEW_REGION
+    };
+    let rest = rest_of([NEW_REGION, none, keyed, none]);
+    let base = device_holding(alloc, config.numbers(), found.as_slice(), &rest)?;
+    let Some(base) = base else {
+        panic!(rt; "the area of region 2 is whole");
+    };
+    assert!(rt; base.counter(1) == 0 && base.key(2) == Some(KEY) && base.counter(2) == 7);
+    assert!(rt; base.area(2) == bytes.as_slice());
+    assert!(rt; is_kept(config.numbers(), base, &[], 0, found.as_slice(), &rest));
+    let Some(base) = device_holding(alloc, config.numbers(), found.as_slice(), &rest)? else {
+        panic!(rt; "the area of region 2 is whole");
+    };
+    let other = rest_of([
+        NEW_REGION,
+        NEW_REGION,
+        FoundRegion {
+            counter: 8,
+            ..keyed
+        },
+        NEW_REGION,
+    ]);
+    assert!(rt; !is_kept(config.numbers(), base, &[], 0, found.as_slice(), &other));
+    Ok(())
+}
+
+/// These regions, and settings with which nothing was done.
+fn rest_of(regions: [FoundRegion<'_>; 4]) -> FoundRest<'_> {
+    FoundRest {
+        boot: 0,
+        is_permanent: false,
+        regions,
+    }
 }
 
 /// At its end the counter takes no write any more, and no region but the first is there.

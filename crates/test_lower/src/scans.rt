@@ -119,7 +119,7 @@ fn dies_of_another_configuration_are_refused(rt: HostRuntime) -> Result<(), Fail
         boot: 1,
         protect: 0,
     };
-    let other = Config::new(4, 16, 64, &[unit], 1, 64, 4)?;
+    let other = Config::new(4, 16, 64, &[unit], [1, 0, 0, 0], 64, 4)?;
     let mut dies = row_dies(rt.alloc())?;
     put(
         &rt,
@@ -133,6 +133,77 @@ fn dies_of_another_configuration_are_refused(rt: HostRuntime) -> Result<(), Fail
     put(&rt, dies.as_mut_slice(), at(0, 0, 0), &data(256, 1, (0, 1)));
     assert!(rt; is_other(scanned(&rt, rt.alloc(), &config, dies.as_mut_slice())));
     Ok(())
+}
+
+/// The device has regions 0 and 2. A mark of it suits, and so does one of region 0 alone, which was written
+/// before there was region 2; a mark of region 1, or of another size of region 0, does not. The first page of
+/// region 2 has the index 416: behind 384 blocks and 32 pages of region 0.
+#[test]
+fn a_mark_of_region_0_alone_suits(rt: HostRuntime) -> Result<(), Fail> {
+    let config = with_regions([1, 0, 2, 0])?;
+    let mut dies = row_dies(rt.alloc())?;
+    put(&rt, dies.as_mut_slice(), at(1, 0, 0), &area(2, 1));
+    for (sizes, suits) in [
+        ([1, 0, 2, 0], true),
+        ([1, 0, 0, 0], true),
+        ([1, 1, 0, 0], false),
+        ([2, 0, 2, 0], false),
+        ([1, 0, 2, 1], false),
+    ] {
+        let other = with_regions(sizes)?;
+        put(
+            &rt,
+            dies.as_mut_slice(),
+            at(0, 0, 0),
+            &mark(&other, (1, 0), None),
+        );
+        match scanned(&rt, rt.alloc(), &config, dies.as_mut_slice()) {
+            Ok(found) => assert!(rt;
+                suits && says_sizes(&found, sizes) && lies_at(&found, 416, at(1, 0, 0))
+            ),
+            Err(fault) => assert!(rt; !suits && matches!(fault, OpenFault::OtherConfig)),
+        }
+    }
+    let first = with_regions([1, 0, 0, 0])?;
+    put(
+        &rt,
+        dies.as_mut_slice(),
+        at(0, 0, 0),
+        &mark(&first, (1, 0), None),
+    );
+    assert!(rt; is_other(scanned(&rt, rt.alloc(), &first, dies.as_mut_slice())));
+    Ok(())
+}
+
+/// The row configuration with areas of these sizes.
+fn with_regions(rpmb: [u8; 4]) -> Result<Config, Fail> {
+    let config = row_config()?;
+    let numbers = config.numbers();
+    Ok(Config::new(4, 16, 64, numbers.units.as_slice(), rpmb, 64, 4)?)
+}
+
+/// Whether the newest mark says these sizes of regions.
+fn says_sizes(found: &Found, sizes: [u8; 4]) -> bool {
+    match &found.newest {
+        Some(mark) => mark.numbers.rpmb == sizes,
+        None => false,
+    }
+}
+
+/// The first page of the area of a region, with its group's number.
+fn area(region: u8, number: u64) -> Page
+    requires { (region < 4) × (1 ≤ number) × (number ≤ 2 ^ 62) }
+{
+    let tag = Tag {
+        kind: Tag::RPMB_AREA,
+        unit: region,
+        address: 0,
+        number,
+        index: 0,
+        size: 1,
+        frontier: 0,
+    };
+    seal(&tag, &[0x5A; 4096])
 }
 
 /// A group of two pages is kept only if both are there.

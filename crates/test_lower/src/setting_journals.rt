@@ -1,12 +1,11 @@
 //! What a journal takes from queries and their answers, and the comparison of the settings that were
 //! found.
+use crate::journals::{NEW_REGION, first_region};
 use geometry::Config;
 use journal::{
-    Entry, FoundRegion, FoundRest, Journal, Setting, device_holding, is_kept,
-    settings_pass_the_table,
+    Entry, FoundRest, Journal, Setting, device_holding, is_kept, settings_pass_the_table,
 };
 use row_messages::messages::{FUA, SYNCHRONIZE, WRITE, block_out, command, good};
-use rpmb::RegionState;
 use std::alloc::Global;
 use std::process::Abort;
 use std::test::Fail;
@@ -44,12 +43,7 @@ fn answer(tag: u8, code: u8) -> [u8; 32] {
 
 /// A life begins, without a key.
 fn begun(alloc: Global) -> Result<Journal, Fail> {
-    let region = RegionState {
-        key: None,
-        counter: 0,
-        blocks: 512,
-    };
-    Ok(Journal::new(alloc, config()?.numbers(), region))
+    Ok(Journal::new(alloc, config()?.numbers(), first_region()))
 }
 
 /// Whether it is noted that bBootLunEn became this.
@@ -189,7 +183,7 @@ fn config() -> Result<Config, Fail> {
         boot: 0,
         protect: 0,
     }];
-    Ok(Config::new(2, 32, 64, &units, 1, 64, 4)?)
+    Ok(Config::new(2, 32, 64, &units, [1, 0, 0, 0], 64, 4)?)
 }
 
 /// The unit's block, of such bytes.
@@ -201,16 +195,12 @@ fn units(alloc: Global, byte: u8) -> Result<Vec<Vec<Block>>, Fail> {
     Ok(all)
 }
 
-/// These settings, and a region with which nothing was done.
+/// These settings, and regions with which nothing was done.
 fn rest_with(boot: u8, is_permanent: bool) -> FoundRest<'static> {
     FoundRest {
         boot,
         is_permanent,
-        region: FoundRegion {
-            key: None,
-            counter: 0,
-            area: &[],
-        },
+        regions: [NEW_REGION; 4],
     }
 }
 

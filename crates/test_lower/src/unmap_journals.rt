@@ -1,8 +1,8 @@
 //! What a journal takes from the lists of UNMAPs and from task management requests.
+use crate::journals::first_region;
 use geometry::Config;
 use journal::{Entry, Journal, unmaps_are_those_accepted};
 use row_messages::messages::{FUA, SYNCHRONIZE, WRITE, block_out, command, good};
-use rpmb::RegionState;
 use std::alloc::Global;
 use std::process::Abort;
 use std::test::Fail;
@@ -15,13 +15,8 @@ fn begun(alloc: Global) -> Result<Journal, Fail> {
         boot: 0,
         protect: 0,
     }];
-    let config = Config::new(2, 32, 64, &units, 1, 64, 4)?;
-    let region = RegionState {
-        key: None,
-        counter: 0,
-        blocks: 512,
-    };
-    Ok(Journal::new(alloc, config.numbers(), region))
+    let config = Config::new(2, 32, 64, &units, [1, 0, 0, 0], 64, 4)?;
+    Ok(Journal::new(alloc, config.numbers(), first_region()))
 }
 
 /// Compares how many entries the journal has, and how many of them are held.

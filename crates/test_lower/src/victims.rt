@@ -55,7 +55,7 @@ fn third_block_at(alloc: Global, place: Place, number: u64) -> Result<UnitMap, F
         boot: 0,
         protect: 0,
     }];
-    let config = Config::new(2, 32, 64, &units, 1, 64, 4)?;
+    let config = Config::new(2, 32, 64, &units, [1, 0, 0, 0], 64, 4)?;
     let name = Name { number, index: 0 };
     let places = [None, None, Some(Stored { name, place })];
     Ok(UnitMap::new(alloc, config, Vec::from_array(alloc, places)?)?)

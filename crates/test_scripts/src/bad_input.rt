@@ -11,12 +11,21 @@ use ufsim::{Call, CallFault, call, run_text};
 const NINE_BLOCKS: &str = "config 4 16 64 1 64 4\nunit 9 0 0\n";
 
 /// Scripts whose first lines are wrong, and the line and the word of the fault.
-const WRONG_FIRST_LINES: [(&str, &str); 9] = [
+const WRONG_FIRST_LINES: [(&str, &str); 18] = [
     ("", "1: word\n"),
     ("config 4 16 64 1 64 4\n", "2: word\n"),
     ("config 4 16 64 1 64\n", "1: word\n"),
     ("# a comment\n\nconfig 4 16 x 1 64 4\n", "3: number\n"),
-    ("config 4 16 64 1,1 64 4\nunit 1 0 0\n", "1: number\n"),
+    ("config 4 16 64 1,1 64 x\nunit 1 0 0\n", "1: word\n"),
+    ("config 4 16 64 1,1,0 64 4\nunit 1 0 0\n", "1: word\n"),
+    ("config 4 16 64 1,1,0,0,0 64 4\nunit 1 0 0\n", "1: word\n"),
+    ("config 4 16 64 1,,0,0 64 4\nunit 1 0 0\n", "1: word\n"),
+    ("config 4 16 64 1, 64 4\nunit 1 0 0\n", "1: word\n"),
+    ("config 4 16 64 1, 1, 0, 0 64 4\nunit 1 0 0\n", "1: word\n"),
+    ("config 4 16 64 1,-1,0,0 64 4\nunit 1 0 0\n", "1: number\n"),
+    ("config 4 16 64 0,1,0,0 64 4\nunit 1 0 0\n", "2: config\n"),
+    ("config 4 16 64 1,9,0,0 64 4\nunit 1 0 0\n", "2: config\n"),
+    ("config 4 16 64 1,1,0,256 64 4\nunit 1 0 0\n", "2: config\n"),
     (
         "config 4 16 64 1 64 4294967296\nunit 1 0 0\n",
         "1: number\n",

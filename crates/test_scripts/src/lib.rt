@@ -31,6 +31,8 @@ mod messages;
 #[cfg(test)]
 mod query_rows;
 #[cfg(test)]
+mod regions;
+#[cfg(test)]
 mod rpmb_commands;
 #[cfg(test)]
 mod rpmb_refusals;

@@ -2,8 +2,9 @@
 use crate::frames::{Frame, length_of};
 use crate::scripts::{Outcome, Text};
 use Step::{
-    Answer, Block, BlockOf, Command, DataIn, Frames, Good, GoodFrames, Host, Lines, List, Manage,
-    Managed, NopOut, Query, Refusal, Reply, Request, Response, Send, SendTo, Settle, Told,
+    Answer, AnswerOf, Block, BlockOf, Command, DataIn, Frames, FramesTo, Good, GoodFrames, Host,
+    Lines, List, Manage, Managed, NopOut, Query, Refusal, Reply, Request, RequestTo, Response,
+    Send, SendTo, Settle, Told,
 };
 use std::alloc::Global;
 use std::process::Abort;
@@ -81,14 +82,20 @@ pub enum Step<'a> {
     /// Its QUERY RESPONSE: tag, function with the response code, then opcode, IDN, index and
     /// selector, then length and value, and the data behind it.
     Told(&'a str, &'a str, &'a str, &'a str, &'a str, &'a str),
-    /// A SECURITY PROTOCOL OUT with this tag to the unit RPMB: the device asks for these frames all
-    /// at once by READY TO TRANSFER, and gets them by DATA OUT.
+    /// A SECURITY PROTOCOL OUT with this tag to region 0 of the unit RPMB: the device asks for these
+    /// frames all at once by READY TO TRANSFER, and gets them by DATA OUT.
     Frames(&'a str, &'a [Frame<'a>]),
     /// The same, which is answered GOOD at once.
     Request(&'a str, &'a [Frame<'a>]),
-    /// A SECURITY PROTOCOL IN with this tag to the unit RPMB, which gets these frames by DATA IN,
-    /// and GOOD.
+    /// A SECURITY PROTOCOL IN with this tag to region 0 of the unit RPMB, which gets these frames by
+    /// DATA IN, and GOOD.
     Answer(&'a str, &'a [Frame<'a>]),
+    /// As `Frames`, to the region of this number.
+    FramesTo(&'a str, &'a str, &'a [Frame<'a>]),
+    /// As `Request`, to the region of this number.
+    RequestTo(&'a str, &'a str, &'a [Frame<'a>]),
+    /// As `Answer`, of the region of this number.
+    AnswerOf(&'a str, &'a str, &'a [Frame<'a>]),
     /// A message from the device: its header, and the data behind it.
     Reply(&'a str, &'a str),
     /// A DATA IN with this tag: one block of this byte, from offset 0 on.
@@ -189,9 +196,12 @@ impl Script {
                 (value, 12),
                 (data, 0),
             ]),
-            Frames(tag, frames) => self.frames(tag, frames),
-            Request(tag, frames) => self.request(tag, frames),
-            Answer(tag, frames) => self.answer(tag, frames),
+            Frames(tag, frames) => self.frames("00", tag, frames),
+            Request(tag, frames) => self.request("00", tag, frames),
+            Answer(tag, frames) => self.answer("00", tag, frames),
+            FramesTo(region, tag, frames) => self.frames(region, tag, frames),
+            RequestTo(region, tag, frames) => self.request(region, tag, frames),
+            AnswerOf(region, tag, frames) => self.answer(region, tag, frames),
             Reply(header, data) => self.reply(&[(header, 32), (data, 0)]),
             Block(tag, byte) => self.data_in("00", tag, OFFSETS[0], "1000", byte, 4096),
             BlockOf(lun, tag, byte) => self.data_in(lun, tag, OFFSETS[0], "1000", byte, 4096),
@@ -295,10 +305,10 @@ impl Script {
         self.lines("", "host ok");
     }
 
-    // The frames of a request: they are asked for all at once, and brought.
-    fn frames<'b>(&mut self, tag: &'b str, frames: &[Frame<'_>]) {
+    // The frames of a request to a region: they are asked for all at once, and brought.
+    fn frames<'b>(&mut self, region: &'b str, tag: &'b str, frames: &[Frame<'_>]) {
         let length = length_of(frames.len());
-        self.command_of_frames("0120c4", tag, length, "b5ec0001");
+        self.command_of_frames("0120c4", tag, length, "b5ec", region);
         self.reply(&[("3100c4", 3), (tag, 15), (length, 14)]);
         self.script.add("host ");
         self.script
@@ -307,30 +317,39 @@ impl Script {
         self.lines("", "host ok");
     }
 
-    // A COMMAND to the unit RPMB: the first half of its length's CDB is the operation code and what
-    // is zero but for the security protocol ECh and the protocol's number 1.
+    // A COMMAND to the unit RPMB. Its CDB begins with the operation code and the security protocol
+    // ECh; the region and the protocol's number 1 are behind them.
     fn command_of_frames<'b>(
         &mut self,
         head: &'b str,
         tag: &'b str,
         length: &'b str,
         cdb: &'b str,
+        region: &'b str,
     ) {
         self.host(
-            &[(head, 3), (tag, 11), (length, 2), (cdb, 8), (length, 8)],
+            &[
+                (head, 3),
+                (tag, 11),
+                (length, 2),
+                (cdb, 2),
+                (region, 1),
+                ("01", 5),
+                (length, 8),
+            ],
             "host ok",
         );
     }
 
-    fn request<'b>(&mut self, tag: &'b str, frames: &[Frame<'_>]) {
-        self.frames(tag, frames);
+    fn request<'b>(&mut self, region: &'b str, tag: &'b str, frames: &[Frame<'_>]) {
+        self.frames(region, tag, frames);
         self.reply(&[("2100c4", 3), (tag, 29)]);
     }
 
-    // The response that waits is fetched.
-    fn answer<'b>(&mut self, tag: &'b str, frames: &[Frame<'_>]) {
+    // The response of a region that waits is fetched.
+    fn answer<'b>(&mut self, region: &'b str, tag: &'b str, frames: &[Frame<'_>]) {
         let length = length_of(frames.len());
-        self.command_of_frames("0140c4", tag, length, "a2ec0001");
+        self.command_of_frames("0140c4", tag, length, "a2ec", region);
         self.output.add("reply ");
         self.output
             .add_fields(&[("2200c4", 3), (tag, 7), (length, 8), (length, 14)]);
@@ -409,11 +428,17 @@ impl Script {
         Outcome::of_check(self.alloc, self.script.bytes(rt)).expect(rt, said, b"");
     }
 
-    /// A check of the script over the dies of this image says this, and shows that.
-    pub fn check_over(&self, rt: &impl Abort, image: &[u8], said: &[u8], shown: &[u8]) {
-        let script = self.script.bytes(rt);
+    /// A check of the script over the dies of this image says this.
+    pub fn check_image(&self, rt: &impl Abort, image: &[u8], said: &[u8]) {
         let mut rest = image;
-        Outcome::of_image_check(self.alloc, script, &mut rest).expect(rt, said, b"");
+        let checked = Outcome::of_image_check(self.alloc, self.script.bytes(rt), &mut rest);
+        checked.expect(rt, said, b"");
+    }
+
+    /// The same, and it shows that.
+    pub fn check_over(&self, rt: &impl Abort, image: &[u8], said: &[u8], shown: &[u8]) {
+        self.check_image(rt, image, said);
+        let script = self.script.bytes(rt);
         let mut rest = image;
         let mut progress = Vec::new(self.alloc);
         let checked = Outcome::of_shown_check(self.alloc, script, &mut rest, &mut progress);

@@ -17,4 +17,4 @@ query function opcode idn index selector size value =
 
 -- three units; the last one is the boot unit A, and the one before it B
 abbrev pub boot_row : Numbers
-boot_row = numbers_of 4 16 64 (unit 256 0 ∷ unit 64 2 ∷ unit 64 1 ∷ []) 1 64 4
+boot_row = numbers_of 4 16 64 (unit 256 0 ∷ unit 64 2 ∷ unit 64 1 ∷ []) (1 ∷ 0 ∷ 0 ∷ 0 ∷ []) 64 4

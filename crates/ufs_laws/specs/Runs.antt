@@ -37,7 +37,7 @@ unit blocks boot = record { blocks = blocks; boot = boot; protect = 0 }
 
 -- 4 dies of 16 blocks of 64 pages, three units, 128 KiB of RPMB area, 64 slots and 4 spare blocks
 abbrev pub row : Numbers
-row = numbers_of 4 16 64 (unit 256 0 ∷ unit 64 1 ∷ unit 64 2 ∷ []) 1 64 4
+row = numbers_of 4 16 64 (unit 256 0 ∷ unit 64 1 ∷ unit 64 2 ∷ []) (1 ∷ 0 ∷ 0 ∷ 0 ∷ []) 64 4
 
 -- it was opened over new dies
 pub record IsNew (s : State) : Type 0 where

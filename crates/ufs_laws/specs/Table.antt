@@ -48,7 +48,8 @@ flush immediate = cdb.SynchronizeCache10 0 0 immediate
 -- three units of the row of Runs: unit 1 is protected by fPowerOnWPEn, and unit 2 by fPermanentWPEn
 abbrev pub protected_row : Numbers
 protected_row =
-    numbers_of 4 16 64 (unit 256 0 ∷ record (unit 64 1) { protect = 1 } ∷ record (unit 64 2) { protect = 2 } ∷ []) 1 64 4
+    numbers_of 4 16 64 (unit 256 0 ∷ record (unit 64 1) { protect = 1 } ∷ record (unit 64 2) { protect = 2 } ∷ [])
+    (1 ∷ 0 ∷ 0 ∷ 0 ∷ []) 64 4
 
 -- the request as the device hears it, with the command that its CDB spells or with none
 abbrev pub heard_as : Request → Heard
@@ -57,3 +58,7 @@ heard_as r = Spelled (message.Command r.flags r.lun r.tag r.expected r.bytes) r.
 -- the request is taken, and its one reply is a RESPONSE of this status, with no data carried
 abbrev pub IsRefused : State → Request → Status → Type 0
 IsRefused s r status = IsAnswered s (heard_as r) (response r.lun r.tag r.expected 0 status)
+
+-- SECURITY PROTOCOL IN of one frame from a region
+abbrev pub reads_response : ℕ → ℕ → Request
+reads_response tag region = asks 0x40 0xC4 tag (cdb.SecurityIn region 512)

@@ -3,7 +3,7 @@ ghost use Rattle.std.specs.Prelude.{◌≡◌, ◌≢◌, ◌<◌, ◌≤◌, �
 ghost use Rattle.ufs_bytes.specs.Fields.{field_at};
 ghost use Rattle.ufs_laws.specs.Decisions.{boot_query, IsListed, list_of, PassesList, permanent_query};
 ghost use Rattle.ufs_laws.specs.FrameLaws.{outcome_in};
-ghost use Rattle.ufs_laws.specs.SettingsPages.{AddsPage, ChangesSettings, settings_after};
+ghost use Rattle.ufs_laws.specs.SettingsPages.{AddsPage, ChangesSettings, counted, settings_after};
 ghost use Rattle.ufs_laws.specs.SettingsPages.{settings_after_all, settings_in};
 ghost use Rattle.ufs_spec.specs.declared.Numbers.{Numbers};
 ghost use Rattle.ufs_spec.specs.Changes.{accepts, claimed_by, ends_with_status, set_deed, with_short};
@@ -114,49 +114,39 @@ pub fn a_setting_waits_until_it_is_durable()
         query_answered s tag q code ≡ with_short s (short_reply tag (query_failed tag q code)) }
 {}
 
-/// The boot setting, the permanent protection (JESD220, 14), and the key and write counter of RPMB
-/// region 0 (JESD220, 12.4) lie on one page. A command that changes one of them puts the whole page
-/// behind all groups that were accepted before it. The page carries all four as the commands before
-/// it, durable or not, and its own leave them. So a setting and an RPMB write in flight together
-/// never undo each other: whichever comes second carries what both did.
+/// The boot setting, the permanent protection (JESD220, 14), and the key and write counter of each
+/// RPMB region (JESD220, 12.4) lie on one page. A command that changes one of them puts the whole
+/// page behind all groups that were accepted before it. The page carries all of them as the commands
+/// before it, durable or not, and its own leave them. So a setting and an RPMB write in flight
+/// together never undo each other: whichever comes second carries what both did.
 pub fn a_settings_page_carries_all_before_it()
-    // What commands make of the four: each changes one at most, and no other.
-    ensures commands { (p : Plain) (cs : List Command) → 0 < length p.regions →
+    // What commands make of them: each changes one at most, and no other.
+    ensures commands { (p : Plain) (cs : List Command) →
         settings_in (after p cs) ≡ settings_after_all (settings_in p) cs }
     // The page of a command says what all commands of this life so far, and its own, made of the
     // settings with which the life began.
-    ensures page { (s : State) (c : Command) (claimed : ℕ) → 0 < length s.base.regions →
-        ChangesSettings c → AddsPage s (accepts s c claimed)
+    ensures page { (s : State) (c : Command) (claimed : ℕ) → ChangesSettings c → AddsPage s (accepts s c claimed)
         (settings_after_all (settings_in s.base) (s.accepted ++ c ∷ [])) }
     // It says what the device has from then on, as a host sees it.
     ensures as_it_is { (s : State) (c : Command) (claimed : ℕ) → ChangesSettings c →
         AddsPage s (accepts s c claimed) (settings_in (plain_now (accepts s c claimed))) }
     // The page of the second of two commands says what both made, in either order of a setting and
     // a write.
-    ensures second { (s : State) (c d : Command) (m n : ℕ) → 0 < length s.base.regions →
-        ChangesSettings d → AddsPage (accepts s c m) (accepts (accepts s c m) d n)
+    ensures second { (s : State) (c d : Command) (m n : ℕ) → ChangesSettings d → AddsPage (accepts s c m) (accepts (accepts s c m) d n)
         (settings_after (settings_after (settings_in (plain_now s)) c) d) }
-    ensures setting_after_write { (s : State) (address boot m n : ℕ) (bytes : List ℕ) →
-        0 < length s.base.regions → AddsPage (accepts s (RpmbWrite 0 address bytes) m)
-        (accepts (accepts s (RpmbWrite 0 address bytes) m) (SetBoot boot) n)
-        (record (settings_in (plain_now s)) {
-          boot = boot;
-          counter = (region_of (plain_now s) 0).counter + 1;
-        }) }
-    ensures write_after_setting { (s : State) (address boot m n : ℕ) (bytes : List ℕ) →
-        0 < length s.base.regions → AddsPage (accepts s (SetBoot boot) m)
-        (accepts (accepts s (SetBoot boot) m) (RpmbWrite 0 address bytes) n)
-        (record (settings_in (plain_now s)) {
-          boot = boot;
-          counter = (region_of (plain_now s) 0).counter + 1;
-        }) }
-    // So it is when a query sets something, and when an RPMB request is accepted.
-    ensures setting { (s : State) (tag : ℕ) (q : Query) (c : Command) → 0 < length s.base.regions →
-        setting_of q ≡ Some c → AddsPage s (query_passed s tag q (setting_of q))
+    ensures setting_after_write { (s : State) (region address boot m n : ℕ) (bytes : List ℕ) →
+        AddsPage (accepts s (RpmbWrite region address bytes) m)
+        (accepts (accepts s (RpmbWrite region address bytes) m) (SetBoot boot) n)
+        (record (counted (plain_now s) region) { boot = boot }) }
+    ensures write_after_setting { (s : State) (region address boot m n : ℕ) (bytes : List ℕ) →
+        AddsPage (accepts s (SetBoot boot) m)
+        (accepts (accepts s (SetBoot boot) m) (RpmbWrite region address bytes) n)
+        (record (counted (plain_now s) region) { boot = boot }) }
+    // So it is when a query sets something, and when a request to any RPMB region is accepted.
+    ensures setting { (s : State) (tag : ℕ) (q : Query) (c : Command) → setting_of q ≡ Some c → AddsPage s (query_passed s tag q (setting_of q))
         (settings_after (settings_in (plain_now s)) c) }
-    ensures request { (s : State) (task : Task) (f : Frame) (fs : List Frame) (result : ℕ)
-        (c : Command) → 0 < length s.base.regions →
-        outcome_in s 0 (f ∷ fs) ≡ Results result (Some c) →
-        AddsPage s (frames_complete s task 0 (f ∷ fs))
+    ensures request { (s : State) (task : Task) (region : ℕ) (f : Frame) (fs : List Frame) (result : ℕ)
+        (c : Command) → outcome_in s region (f ∷ fs) ≡ Results result (Some c) →
+        AddsPage s (frames_complete s task region (f ∷ fs))
         (settings_after (settings_in (plain_now s)) c) }
 {}

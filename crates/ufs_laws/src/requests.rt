@@ -13,7 +13,8 @@ ghost use Rattle.ufs_spec.specs.Exchanges.{Busy, Deed, ForFrames, Gathering, Goo
 ghost use Rattle.ufs_spec.specs.FrameRequests.{area_read, filled_registers, frames_complete, keeps_area, page_kept, pages_named, requested, result_now};
 ghost use Rattle.ufs_spec.specs.Frames.{Frame, frame_bytes};
 ghost use Rattle.ufs_spec.specs.Machine.{Answer, Call, begun, behind, deed_reply, fills, is_good_due, is_to_fill, lock_applied, observe, replied, task_filled, with_moves, without_tasks};
-ghost use Rattle.ufs_spec.specs.Refusals.{Request, State, first_line, lines_for, mended, plain_now};
+ghost use Rattle.ufs_spec.specs.Refusals.{Request, State, first_line, lines_for, mended, numbers_of, plain_now};
+ghost use Rattle.ufs_spec.specs.Plain.{steps_of};
 ghost use Rattle.ufs_spec.specs.Rpmb.{Refused, Results, region_of};
 ghost use Rattle.ufs_spec.specs.RpmbResponses.{frames_of, response_frames};
 
@@ -101,12 +102,13 @@ pub fn frames_are_handed_out_once()
         (begun s r unit (cdb.SecurityIn region n)).registers other ≡ s.registers other }
 {}
 
-/// While a SECURITY PROTOCOL OUT is open every other one is refused with BUSY, whatever its region.
+/// While a SECURITY PROTOCOL OUT is open every other one is refused with BUSY, whatever its region,
+/// if that is there.
 /// It claims three slots, and has none of them any more once its data are decided. Lengths of no
 /// whole frames, or of more than eight, are refused.
 pub fn one_request_is_open()
-    ensures busy { (s : State) (tag region k : ℕ) (task : Task) (other n : ℕ) → mended s ≡ true →
-        slice_get s.tasks k ≡ Some task → task.command ≡ Some (cdb.SecurityOut other n) →
+    ensures busy { (s : State) (tag region k : ℕ) (task : Task) (other n : ℕ) →
+        0 < steps_of (numbers_of s) region → mended s ≡ true → slice_get s.tasks k ≡ Some task → task.command ≡ Some (cdb.SecurityOut other n) →
         first_line (lines_for s (asks 0x20 0xC4 tag (cdb.SecurityOut region 512)) (cdb.SecurityOut region 512))
         ≡ Some Busy }
     ensures claims { (s : State) (r : Request) (unit region n : ℕ) →

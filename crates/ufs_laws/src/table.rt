@@ -1,7 +1,7 @@
 //! The table by which a command is refused: the first line that applies decides.
-ghost use Rattle.std.specs.Prelude.{◌≡◌, ◌≤◌, ◌∷◌, [], ℕ, List, Bool, true, false, Option, Some, None, length};
+ghost use Rattle.std.specs.Prelude.{◌≡◌, ◌<◌, ◌≤◌, ◌∷◌, [], ℕ, List, Bool, true, false, Option, Some, None, length};
 ghost use Rattle.ufs_laws.specs.Runs.{IsIdle};
-ghost use Rattle.ufs_laws.specs.Table.{IsRefused, asks, flush, read_at, spells_none, write_at};
+ghost use Rattle.ufs_laws.specs.Table.{IsRefused, asks, flush, read_at, reads_response, spells_none, write_at};
 ghost use Rattle.ufs_spec.specs.declared.Cdb.{Cdb};
 ghost use Rattle.ufs_spec.specs.declared.Numbers.{Numbers};
 ghost use Rattle.ufs_spec.specs.declared.Cdb.TheVariants as cdb;
@@ -11,7 +11,8 @@ ghost use Rattle.ufs_spec.specs.Exchanges.{Busy, Status, TaskSetFull, invalid_fi
 ghost use Rattle.ufs_spec.specs.Machine.{command_taken, with_short};
 ghost use Rattle.ufs_spec.specs.Messages.{is_among};
 ghost use Rattle.ufs_spec.specs.Exchanges.{most_tasks};
-ghost use Rattle.ufs_spec.specs.Refusals.{BootUnit, Request, State, first_line, has_other_response, has_wrong_list, is_boot_read, is_crowded, is_refused_write, is_too_long, lacks_response, lines_for, locked, mended, not_taken, operations_of, refusal};
+ghost use Rattle.ufs_spec.specs.Refusals.{BootUnit, Request, State, first_line, has_other_response, has_wrong_list, is_boot_read, is_crowded, is_refused_write, is_too_long, lacks_response, lines_for, locked, mended, not_taken, numbers_of, operations_of, refusal};
+ghost use Rattle.ufs_spec.specs.Plain.{steps_of};
 ghost use Rattle.ufs_spec.specs.Translation.{free_slots, has_pending};
 
 /// If two lines of the table apply, the one that stands first decides: for each line a request that a later line
@@ -49,16 +50,21 @@ pub fn each_line_of_the_table_counts()
     ensures flush { (s : State) (tag : ℕ) (immediate : Bool) → IsIdle s → mended s ≡ true → locked s ≡ true →
         has_pending s.translation ≡ true → IsRefused s (asks 0x00 0 tag (flush immediate)) write_protected }
     // SECURITY PROTOCOL IN without a response, before the device is mended; and of 512 bytes, without a response.
-    ensures ready_first { (s : State) (tag : ℕ) → mended s ≡ false → (s.registers 0).response ≡ [] →
-        first_line (lines_for s (asks 0x40 0xC4 tag (cdb.SecurityIn 0 512)) (cdb.SecurityIn 0 512)) ≡ Some not_ready }
-    ensures response { (s : State) (tag : ℕ) → mended s ≡ true → (s.registers 0).response ≡ [] →
-        first_line (lines_for s (asks 0x40 0xC4 tag (cdb.SecurityIn 0 512)) (cdb.SecurityIn 0 512))
-        ≡ Some sequence_error }
+    ensures ready_first { (s : State) (tag region : ℕ) → 0 < steps_of (numbers_of s) region → mended s ≡ false →
+        (s.registers region).response ≡ [] →
+        first_line (lines_for s (reads_response tag region) (cdb.SecurityIn region 512)) ≡ Some not_ready }
+    ensures response { (s : State) (tag region : ℕ) → 0 < steps_of (numbers_of s) region → mended s ≡ true →
+        (s.registers region).response ≡ [] →
+        first_line (lines_for s (reads_response tag region) (cdb.SecurityIn region 512)) ≡ Some sequence_error }
     // SECURITY PROTOCOL IN of 512 bytes if a response of two frames waits, and nothing else.
-    ensures other_response { (s : State) (tag : ℕ) (a b : List ℕ) → mended s ≡ true →
-        (s.registers 0).response ≡ a ∷ b ∷ [] →
-        first_line (lines_for s (asks 0x40 0xC4 tag (cdb.SecurityIn 0 512)) (cdb.SecurityIn 0 512))
-        ≡ Some invalid_field }
+    ensures other_response { (s : State) (tag region : ℕ) (a b : List ℕ) → 0 < steps_of (numbers_of s) region →
+        mended s ≡ true → (s.registers region).response ≡ a ∷ b ∷ [] →
+        first_line (lines_for s (reads_response tag region) (cdb.SecurityIn region 512)) ≡ Some invalid_field }
+    // SECURITY PROTOCOL IN and OUT of a region that is not there, before the device is mended.
+    ensures no_region { (s : State) (r : Request) (region n : ℕ) → steps_of (numbers_of s) region ≡ 0 →
+        first_line (lines_for s r (cdb.SecurityIn region n)) ≡ Some invalid_field }
+    ensures no_region_to_write { (s : State) (r : Request) (region n : ℕ) → steps_of (numbers_of s) region ≡ 0 →
+        first_line (lines_for s r (cdb.SecurityOut region n)) ≡ Some invalid_field }
     // A WRITE without a free slot, and nothing else.
     ensures crowded { (s : State) (tag : ℕ) → IsIdle s → mended s ≡ true → locked s ≡ false →
         free_slots s.translation ≡ 0 →

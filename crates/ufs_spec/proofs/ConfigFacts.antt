@@ -4,7 +4,7 @@ use Rattle.std.proofs.Common.{arith, if◌then◌else◌, nat_le}
 use Rattle.std.specs.List.{list_all}
 use Rattle.std.specs.Int.{div_ceil}
 use Rattle.std.proofs.Math.Nat.{mul-le-mul_right}
-use Rattle.std.proofs.lemmas.Bool.{and_parts, leb-true, ltb-false, or_parts}
+use Rattle.std.proofs.lemmas.Bool.{and_parts, eqb-true, leb-true, ltb-false, or_parts}
 use Rattle.std.proofs.lemmas.Grind.{div_ceil_times}
 use Rattle.std.proofs.lemmas.List.Sums.{AllPass-from_list_all, sum_by-le}
 use Rattle.ufs_spec.specs.declared.configs.UnitSpec.{UnitSpec}
@@ -33,12 +33,18 @@ unit_range u h =
 pub each_unit_range : (units : List UnitSpec) → list_all unit_in_range units ≡ true → All UnitInRange units
 each_unit_range units h = λ k d lt. unit_range _ (AllPass-from_list_all unit_in_range units h k d lt)
 
+-- areas that pass the test have no more than eight steps each
+pub few_steps : (sizes : List ℕ) → list_all (is_between 0 8) sizes ≡ true → All (λ steps. steps ≤ 8) sizes
+few_steps sizes h = λ k d lt. (from_test 0 8 _ (AllPass-from_list_all (is_between 0 8) sizes h k d lt)).1
+
 pub ranges : (n : Numbers) → in_range n ≡ true → InRange n
 ranges n h =
     let spare = and_parts _ _ h in
     let slots = and_parts _ _ spare.0 in
     let rpmb = and_parts _ _ slots.0 in
-    let each = and_parts _ _ rpmb.0 in
+    let first = and_parts _ _ rpmb.0 in
+    let count = and_parts _ _ first.0 in
+    let each = and_parts _ _ count.0 in
     let units = and_parts _ _ each.0 in
     let pages = and_parts _ _ units.0 in
     let dies = and_parts _ _ pages.0 in
@@ -52,8 +58,9 @@ ranges n h =
       has_unit = (from_test _ _ _ units.1).0;
       units_bound = (from_test _ _ _ units.1).1;
       each_unit = each_unit_range _ each.1;
-      has_rpmb = (from_test _ _ _ rpmb.1).0;
-      rpmb_bound = (from_test _ _ _ rpmb.1).1;
+      count_of_regions = eqb-true _ _ count.1;
+      has_rpmb = (from_test _ _ _ first.1).0;
+      rpmb_bound = few_steps n.rpmb rpmb.1;
       has_slots = (from_test _ _ _ slots.1).0;
       slots_bound = (from_test _ _ _ slots.1).1;
       spare_bound = (from_test _ _ _ spare.1).1;
@@ -107,7 +114,7 @@ row_units =
     ∷ record { blocks = 64; boot = 2; protect = 0 } ∷ []
 
 -- they are a configuration: of 60 blocks 35 are needed
-pub row_is_config : IsConfig (numbers_of 4 16 64 row_units 1 64 4)
+pub row_is_config : IsConfig (numbers_of 4 16 64 row_units (1 ∷ 0 ∷ 0 ∷ 0 ∷ []) 64 4)
 unfolding row_units
 row_is_config = refl
 

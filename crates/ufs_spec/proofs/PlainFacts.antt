@@ -13,11 +13,12 @@ use Rattle.ufs_spec.specs.declared.configs.UnitSpec.{UnitSpec}
 use Rattle.ufs_spec.specs.declared.configs.Numbers.{Numbers}
 use Rattle.ufs_spec.specs.Keys.{CanApplyAll}
 use Rattle.ufs_spec.specs.Commands.{Command, Write, Zero, SetKey, RpmbWrite}
-use Rattle.ufs_spec.specs.Plain.{Plain, Region, zero_block, zero_area, area_len, new_region, empty_region, region_of}
+use Rattle.ufs_spec.specs.Plain.{Plain, Region, zero_block, zero_area, area_len, empty_region, region_of}
 use Rattle.ufs_spec.specs.Plain.{zero, with_part, changed_by, apply, after, Shape, shape_of, shape_of_numbers}
 use Rattle.ufs_spec.specs.Plain.{LiesWithin}
-use Rattle.ufs_spec.specs.Plain.{regions}
-use Rattle.ufs_spec.proofs.RegionPages.{alike, area_there}
+use Rattle.ufs_spec.specs.PlainRegions.{region_seen}
+use Rattle.ufs_spec.specs.declared.plain_device.PlainRegion.{PlainRegion}
+use Rattle.ufs_spec.proofs.RegionPages.{area_there}
 
 -- Lists
 
@@ -68,6 +69,18 @@ pub put_blocks : {X Z : Type 0} (v : Vec X Z) (slice written : List X) (new : Li
     (with_items v written).items ≡ new v.items
 put_blocks v slice written new same len kept e = with_items_is v written (omega arith) ∙ (e ∙ ap new same)
 
+-- Regions
+
+-- the regions with one replaced
+pub put_region : (rs : List PlainRegion) (number : ℕ) (r w : PlainRegion) (new : Region → Region) →
+    number < length rs → r ≡ get_or rs number r → region_seen w ≡ new (region_seen r) →
+    map region_seen (set rs number w)
+    ≡ set (map region_seen rs) number (new (get_or (map region_seen rs) number empty_region))
+put_region rs number r w new there here e =
+    let at = get_or-map region_seen rs number r empty_region there in
+    let changed = map-set region_seen rs number w in
+    cc
+
 -- Shapes
 
 pub new_blocks : (units : List UnitSpec) →
@@ -78,16 +91,17 @@ new_blocks (u ∷ us) =
     let rest = new_blocks us in
     cc
 
-pub new_area : (n : Numbers) → length (zero_area n) ≡ area_len n
+pub new_area : (n : Numbers) (region : ℕ) → length (zero_area n region) ≡ area_len n region
 unfolding zero_area
-new_area n = length-replicate (area_len n) 0
+new_area n region = length-replicate (area_len n region) 0
 
 pub new_shape : (n : Numbers) → shape_of (zero n) ≡ shape_of_numbers n
 new_shape n =
     let blocks = new_blocks n.units.items in
-    let areas =
-    alike (λ (r : Region). length r.area) regions (new_region n) ∙ ap (replicate regions) (new_area n) in
-    λ i. record { blocks = blocks i; areas = areas i }
+    λ i. record {
+      blocks = blocks i;
+      areas = new_area n 0 i ∷ new_area n 1 i ∷ new_area n 2 i ∷ new_area n 3 i ∷ [];
+    }
 
 -- a part that lies within a unit changes no count of blocks
 pub kept_blocks : (units : List (List (List ℕ))) (unit address : ℕ) (blocks : List (List ℕ)) →

@@ -138,7 +138,8 @@ cdb_bytes (ReportLuns select allocation) =
 cdb_bytes (SecurityIn region length) = security_bytes security_in region length
 cdb_bytes (SecurityOut region length) = security_bytes security_out region length
 
--- the numbers of a command fit their fields, REPORT LUNS selects by 00h, 01h or 02h (SPC), and the RPMB region is there
+-- the numbers of a command fit their fields, REPORT LUNS selects by 00h, 01h or 02h (SPC), and the RPMB region is one of the
+-- four. Whether it is there depends on the device (`lacks_region` in Refusals)
 abbrev pub IsCdb : Cdb → Type 0
 IsCdb TestUnitReady = Unit {0}
 IsCdb (RequestSense allocation) = allocation < 2 ^ 8

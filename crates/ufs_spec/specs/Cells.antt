@@ -4,6 +4,7 @@
 use Rattle.std.specs.Prelude.{◌≡◌, ◌≢◌, ℕ, ◌<◌, ◌≤◌, ◌^◌, ◌==◌, ◌&&◌, Bool, List, All, length, Option, Some}
 use Rattle.ufs_spec.specs.Keys.{IsBlock, IsSettingsBody}
 use Rattle.ufs_spec.specs.Pages.{IsSealedAs, IsTag, mark_bytes}
+use Rattle.ufs_spec.specs.Plain.{regions}
 use Rattle.ufs_spec.specs.declared.configs.Numbers.{Numbers}
 use Rattle.ufs_spec.specs.declared.configs.UnitSpec.{UnitSpec}
 use Rattle.ufs_spec.specs.declared.flash.Fence.{Fence}
@@ -46,7 +47,8 @@ pub record NumbersFit (n : Numbers) : Type 0 where
   pub pages : n.pages < 2 ^ 16
   pub units : length n.units.items ≤ 8
   pub each_unit : All UnitFits n.units.items
-  pub rpmb : n.rpmb < 2 ^ 8
+  pub regions : length n.rpmb ≡ regions
+  pub rpmb : All (λ steps. steps < 2 ^ 8) n.rpmb
   pub slots : n.slots < 2 ^ 16
   pub spare : n.spare < 2 ^ 16
 

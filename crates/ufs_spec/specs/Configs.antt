@@ -1,10 +1,10 @@
 -- Which numbers make a configuration (this profile).
 use Rattle.std.specs.Prelude.{◌≡◌, ℕ, ◌+◌, ◌-◌, ◌*◌, ◌≤◌, ◌==◌, nat_lt, nat_le, ◌&&◌, ◌||◌, Bool, true, false, List, if◌then◌else◌}
-use Rattle.std.specs.Prelude.{All, sum_by, count_by, Option, Some, None, not}
+use Rattle.std.specs.Prelude.{All, sum_by, count_by, length, Option, Some, None, not}
 use Rattle.std.specs.List.{list_all}
 use Rattle.std.specs.Int.{div_ceil}
 use Rattle.arrayvec.specs.ArrayVec.{array_vec_len}
-use Rattle.ufs_spec.specs.Plain.{greatest_command}
+use Rattle.ufs_spec.specs.Plain.{all_steps, greatest_command, regions, steps_of}
 use Rattle.ufs_spec.specs.declared.configs.UnitSpec.{UnitSpec}
 use Rattle.ufs_spec.specs.declared.configs.Numbers.{Numbers}
 use Rattle.ufs_spec.specs.declared.faults.ConfigFault.{ConfigFault}
@@ -12,7 +12,7 @@ use Rattle.ufs_spec.specs.declared.faults.ConfigFault.TheVariants.{Range, TooLit
 
 -- the numbers by name, in the order in which a configuration lists them. `numbers_of` of Refusals is another one:
 -- the numbers of a state
-abbrev pub numbers_of : ℕ → ℕ → ℕ → List UnitSpec → ℕ → ℕ → ℕ → Numbers
+abbrev pub numbers_of : ℕ → ℕ → ℕ → List UnitSpec → List ℕ → ℕ → ℕ → Numbers
 numbers_of dies blocks pages units rpmb slots spare =
     record {
       dies = dies;
@@ -35,8 +35,8 @@ is_between low high n = nat_le low n && nat_le n high
 abbrev pub unit_in_range : UnitSpec → Bool
 unit_in_range u = is_between 1 2097152 u.blocks && is_between 0 2 u.boot && is_between 0 2 u.protect
 
--- each number is in its range (this profile); `rpmb` counts steps of 128 KiB, `slots` how many blocks the write cache
--- holds at once, `spare` how many blocks may go bad
+-- each number is in its range (this profile); `rpmb` counts steps of 128 KiB of each RPMB region, of which the first is
+-- always there, `slots` how many blocks the write cache holds at once, `spare` how many blocks may go bad
 abbrev pub in_range : Numbers → Bool
 in_range n =
     is_between 1 8 n.dies
@@ -44,7 +44,9 @@ in_range n =
     && is_between 16 256 n.pages
     && is_between 1 8 (array_vec_len n.units)
     && list_all unit_in_range n.units.items
-    && is_between 1 8 n.rpmb
+    && (length n.rpmb == regions)
+    && is_between 1 8 (steps_of n 0)
+    && list_all (is_between 0 8) n.rpmb
     && is_between 64 1024 n.slots
     && is_between 0 (n.dies * n.blocks) n.spare
 
@@ -59,10 +61,10 @@ command_blocks n = if nat_le 256 n.slots then greatest_command else 32
 abbrev pub unit_blocks : Numbers → ℕ
 unit_blocks n = sum_by (λ u. u.blocks) n.units.items
 
--- how many pages hold everything once: one for each block of a unit, 32 for each step of the RPMB area,
+-- how many pages hold everything once: one for each block of a unit, 32 for each step of the RPMB areas,
 -- and two for the settings
 abbrev pub pages_kept : Numbers → ℕ
-pages_kept n = unit_blocks n + 32 * n.rpmb + 2
+pages_kept n = unit_blocks n + 32 * all_steps n + 2
 
 -- the blocks of the dies that hold these pages and four times the slots, and four for each die and
 -- eight more to collect with
@@ -124,8 +126,9 @@ pub record InRange (n : Numbers) : Type 0 where
   pub has_unit : 1 ≤ array_vec_len n.units
   pub units_bound : array_vec_len n.units ≤ 8
   pub each_unit : All UnitInRange n.units.items
-  pub has_rpmb : 1 ≤ n.rpmb
-  pub rpmb_bound : n.rpmb ≤ 8
+  pub count_of_regions : length n.rpmb ≡ regions
+  pub has_rpmb : 1 ≤ steps_of n 0
+  pub rpmb_bound : All (λ steps. steps ≤ 8) n.rpmb
   pub has_slots : 64 ≤ n.slots
   pub slots_bound : n.slots ≤ 1024
   pub spare_bound : n.spare ≤ n.dies * n.blocks

@@ -1,7 +1,7 @@
 -- Keys name what a device holds piece by piece, each piece as long as the data of a page: a block of a unit,
--- 4096 bytes of the area of an RPMB region, or the settings with the RPMB key and counter. A plain state is the same
--- as a content for each key (this profile).
-use Rattle.std.specs.Prelude.{◌≡◌, ℕ, zero, suc, ◌+◌, ◌-◌, ◌*◌, ◌/◌, ◌<◌, ◌≤◌, ◌^◌, ◌==◌, ◌&&◌, Bool, true, false}
+-- 4096 bytes of the area of an RPMB region, or the settings with the keys and counters of the RPMB regions. A plain
+-- state is the same as a content for each key (this profile).
+use Rattle.std.specs.Prelude.{◌≡◌, ℕ, ◌+◌, ◌-◌, ◌*◌, ◌/◌, ◌<◌, ◌≤◌, ◌^◌, ◌==◌, ◌&&◌, Bool, true, false}
 use Rattle.std.specs.Prelude.{if◌then◌else◌, List, [], ◌∷◌, ◌++◌, All, length, take, drop, map, replicate, slice_index}
 use Rattle.std.specs.Prelude.{slice_index_or, sum, Option, Some, None}
 use Rattle.std.specs.List.{flat_map}
@@ -11,9 +11,11 @@ use Rattle.ufs_spec.specs.Messages.{AreBytes}
 use Rattle.ufs_spec.specs.Pages.{zero_filled}
 use Rattle.ufs_spec.specs.Plain.{Plain, Region, Shape, CanApply, block_at, apply, region_of}
 use Rattle.ufs_spec.specs.Plain.{regions}
+pub use Rattle.ufs_spec.specs.Counting.{below}
 use Rattle.ufs_spec.specs.Commands.{Command}
 use Rattle.ufs_spec.specs.Commands as cmd
 use Rattle.ufs_spec.specs.declared.flash.Key.{Key}
+use Rattle.ufs_spec.specs.declared.flash.KeyAndCounter.{KeyAndCounter}
 
 -- Keys
 
@@ -25,7 +27,7 @@ data_key unit address = record { kind = 1; unit = unit; address = address }
 abbrev pub area_key : ℕ → ℕ → Key
 area_key region page = record { kind = 2; unit = region; address = page }
 
--- the settings, the RPMB key and the write counter: kind 3
+-- the settings, the RPMB keys and the write counters: kind 3
 abbrev pub settings_key : Key
 settings_key = record { kind = 3; unit = 0; address = 0 }
 
@@ -56,32 +58,59 @@ abbrev pub flag_byte : Bool → ℕ
 flag_byte true = 1
 flag_byte false = 0
 
--- 34 bytes: whether an RPMB key is set, a zero, and the key; zeros without one
+-- as a byte whether an RPMB key is programmed: 1 if it is
+abbrev pub key_flag : Option (List ℕ) → ℕ
+key_flag None = 0
+key_flag (Some bytes) = 1
+
+-- the 32 bytes of an RPMB key; zeros without one
 abbrev pub key_bytes : Option (List ℕ) → List ℕ
-key_bytes None = replicate 34 0
-key_bytes (Some bytes) = (1 ∷ 0 ∷ []) ++ bytes
+key_bytes None = replicate 32 0
+key_bytes (Some bytes) = bytes
 
--- the 4096 bytes of a settings page: byte 0 is the boot setting, 1 fPermanentWPEn, 2 whether an RPMB key is set,
--- 4..35 the key, 36..39 the write counter, and all else is zero. Those of a new device are all zero
-abbrev pub settings_bytes : ℕ → Bool → Option (List ℕ) → ℕ → List ℕ
-settings_bytes boot permanent key counter =
-    zero_filled 4096 ((boot ∷ flag_byte permanent ∷ []) ++ key_bytes key ++ big_bytes 4 counter)
+-- forty bytes of a settings page: four, and the key and the write counter of an RPMB region
+abbrev pub forty_bytes : List ℕ → KeyAndCounter → List ℕ
+forty_bytes four r = four ++ key_bytes r.key ++ big_bytes 4 r.counter
 
--- the ranges of what a settings page says: bBootLunEn is at most 2, an RPMB key has 32 bytes and the
--- write counter 32 bits (JESD220, 12.4)
-pub record AreSettings (boot : ℕ) (key : Option (List ℕ)) (counter : ℕ) : Type 0 where
+-- the first forty, with region 0: bBootLunEn, fPermanentWPEn, whether the key is programmed, and a zero
+abbrev pub first_bytes : ℕ → Bool → KeyAndCounter → List ℕ
+first_bytes boot permanent r = forty_bytes (boot ∷ flag_byte permanent ∷ key_flag r.key ∷ 0 ∷ []) r
+
+-- the forty of each other region: whether the key is programmed, and three zeros
+abbrev pub region_bytes : KeyAndCounter → List ℕ
+region_bytes r = forty_bytes (key_flag r.key ∷ 0 ∷ 0 ∷ 0 ∷ []) r
+
+-- what is said of the region of a number; of one that is not there, that it has no key and counted no write
+abbrev pub said_of : List KeyAndCounter → ℕ → KeyAndCounter
+said_of said region = slice_index_or said region (record { key = None; counter = 0 })
+
+-- the 4096 bytes of a settings page: forty for each RPMB region, and zeros behind them. Those of a new device are all
+-- zero
+abbrev pub settings_bytes : ℕ → Bool → List KeyAndCounter → List ℕ
+settings_bytes boot permanent said =
+    zero_filled 4096
+    (first_bytes boot permanent (said_of said 0) ++ region_bytes (said_of said 1) ++ region_bytes (said_of said 2)
+    ++ region_bytes (said_of said 3))
+
+-- the ranges of a key and a counter: the key has 32 bytes, the write counter 32 bits (JESD220, 12.4)
+pub record IsKeyAndCounter (r : KeyAndCounter) : Type 0 where
+  pub key_length : (bytes : List ℕ) → r.key ≡ Some bytes → (length bytes ≡ 32) × AreBytes bytes
+  pub counter_fits : r.counter < 2 ^ 32
+
+-- the ranges of what a settings page says: bBootLunEn is at most 2, and of each RPMB region a key and a counter are
+-- said that are in their ranges
+pub record AreSettings (boot : ℕ) (said : List KeyAndCounter) : Type 0 where
   pub boot_bound : boot ≤ 2
-  pub key_length : (bytes : List ℕ) → key ≡ Some bytes → (length bytes ≡ 32) × AreBytes bytes
-  pub counter_fits : counter < 2 ^ 32
+  pub count : length said ≡ regions
+  pub each : All IsKeyAndCounter said
 
 -- the body of a settings page: these bytes spell settings in their ranges
 pub record IsSettingsBody (body : List ℕ) : Type 0 where
   pub boot : ℕ
   pub permanent : Bool
-  pub key : Option (List ℕ)
-  pub counter : ℕ
-  pub ranges : AreSettings boot key counter
-  pub bytes : body ≡ settings_bytes boot permanent key counter
+  pub said : List KeyAndCounter
+  pub ranges : AreSettings boot said
+  pub bytes : body ≡ settings_bytes boot permanent said
 
 -- Contents
 
@@ -93,9 +122,13 @@ Contents = Key → List ℕ
 abbrev pub area_page : ℕ → List ℕ → List ℕ
 area_page page area = take 4096 (drop (4096 * page) area)
 
--- the settings page of a plain state. It has the key and the counter of RPMB region 0, the only one
+-- what the settings say of an RPMB region
+abbrev pub said_by : Region → KeyAndCounter
+said_by region = record { key = region.key; counter = region.counter }
+
+-- the settings page of a plain state
 abbrev pub settings_of : Plain → List ℕ
-settings_of p = settings_bytes p.boot p.permanent (region_of p 0).key (region_of p 0).counter
+settings_of p = settings_bytes p.boot p.permanent (map said_by p.regions)
 
 -- the content of a key in a plain state: a block of a unit, a page of the area of an RPMB region, or the settings
 abbrev pub content : Plain → Contents
@@ -136,23 +169,34 @@ pub record AreContents (s : Shape) (f : Contents) : Type 0 where
 
 -- Back from contents
 
--- the numbers from 0 to n - 1
-abbrev pub below : ℕ → List ℕ
-below zero = []
-below (suc n) = below n ++ n ∷ []
+-- the byte of the forty of an RPMB region that says whether its key is programmed
+abbrev pub flag_place : ℕ → ℕ
+flag_place number = if number == 0 then 2 else 0
 
--- the RPMB key that the bytes of a settings page name; none if byte 2 is not 1
-abbrev pub key_in : List ℕ → Option (List ℕ)
-key_in body = if slice_index body 2 == 1 then Some (take 32 (drop 4 body)) else None
+-- the key that forty bytes name; none if the byte at this place is not 1
+abbrev pub key_named : ℕ → List ℕ → Option (List ℕ)
+key_named place forty = if slice_index forty place == 1 then Some (take 32 (drop 4 forty)) else None
+
+-- the key of an RPMB region that the bytes of a settings page name
+abbrev pub key_in : ℕ → List ℕ → Option (List ℕ)
+key_in number body = key_named (flag_place number) (drop (40 * number) body)
+
+-- the write counter of an RPMB region that they name
+abbrev pub counter_in : ℕ → List ℕ → ℕ
+counter_in number body = field_at 4 36 (drop (40 * number) body)
+
+-- what they say of each RPMB region
+abbrev pub said_in : List ℕ → List KeyAndCounter
+said_in body = map (λ number. record { key = key_in number body; counter = counter_in number body }) (below regions)
 
 -- the RPMB region of a number that these contents have: the pages of its area, and the key and the counter of the
--- settings, which are those of region 0, the only one
+-- settings
 abbrev pub region_in : Shape → Contents → ℕ → Region
 region_in s f number =
     record {
-      key = key_in (f settings_key);
+      key = key_in number (f settings_key);
       area = flat_map (λ page. f (area_key number page)) (below (slice_index_or (region_pages s) number 0));
-      counter = field_at 4 36 (f settings_key);
+      counter = counter_in number (f settings_key);
     }
 
 -- the plain state of this shape that has these contents

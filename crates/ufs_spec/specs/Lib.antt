@@ -6,6 +6,7 @@ pub mod Changes
 pub mod Codes
 pub mod Commands
 pub mod Configs
+pub mod Counting
 pub mod DataOuts
 pub mod DieLaws
 pub mod Dies

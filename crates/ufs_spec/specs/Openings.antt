@@ -171,17 +171,22 @@ abbrev pub IsFirstFence : Option Mark → ℕ → ℕ → Option Fence → Type 
 IsFirstFence m low top None = (fence_in m ≡ None) × (top < low)
 IsFirstFence m low top (Some f) = (f.first ≡ low) × (f.last ≡ top) × (low ≤ top)
 
--- the device is mended at once if there is a mark, the newest has no fence, and nothing is lost
-abbrev pub MayBeMended : Option Mark → ℕ → ℕ → Type 0
-MayBeMended m low top = (m ≢ None) × (fence_in m ≡ None) × (top < low)
+-- there is a mark, and the newest has these numbers
+abbrev pub HasNumbers : Numbers → Option Mark → Type 0
+HasNumbers n None = ⊥
+HasNumbers n (Some m) = m.numbers ≡ n
+
+-- the device is mended at once if there is a mark, the newest has its numbers and no fence, and nothing is lost
+abbrev pub MayBeMended : Numbers → Option Mark → ℕ → ℕ → Type 0
+MayBeMended n m low top = HasNumbers n m × (fence_in m ≡ None) × (top < low)
 
 -- how far the mending is when a life begins: it is over at once, or it is before its first mark, with the fence and
 -- the keys with a lost page
-abbrev pub IsMendingAt : Cells → Option Mark → ℕ → ℕ → Mending → Type 0
-IsMendingAt c m low top Mended = MayBeMended m low top
-IsMendingAt c m low top (Unmarked fence lost) =
-    (MayBeMended m low top → ⊥) × IsFirstFence m low top fence × AreLost c low top lost
-IsMendingAt c m low top mending = ⊥
+abbrev pub IsMendingAt : Numbers → Cells → Option Mark → ℕ → ℕ → Mending → Type 0
+IsMendingAt n c m low top Mended = MayBeMended n m low top
+IsMendingAt n c m low top (Unmarked fence lost) =
+    (MayBeMended n m low top → ⊥) × IsFirstFence m low top fence × AreLost c low top lost
+IsMendingAt n c m low top mending = ⊥
 
 -- The opening
 
@@ -231,7 +236,7 @@ pub record IsOpenedTranslation (n : Numbers) (c : Cells) (bad : Spot → Bool) (
   pub suits : CellsSuit n c t.ledger.newest
   pub disk : IsOpenedDisk c t.ledger.newest bad t.disk
   pub ledger : IsOpenedLedger n c t.disk.blocks t.ledger
-  pub mending : IsMendingAt c t.ledger.newest t.ledger.first_lost t.ledger.greatest_seen t.work.mending
+  pub mending : IsMendingAt n c t.ledger.newest t.ledger.first_lost t.ledger.greatest_seen t.work.mending
   pub no_plan : t.work.plan ≡ None
   pub no_step : t.work.step ≡ None
   pub no_rests : t.work.rests ≡ []

@@ -12,6 +12,7 @@ use Rattle.std.specs.List.{flat_map}
 use Rattle.byteorder.specs.Endian.{big_bytes}
 use Rattle.sha2.specs.Sha256.{sha256}
 use Rattle.ufs_bytes.specs.Fields.{field_at}
+use Rattle.ufs_spec.specs.Plain.{regions, steps_of}
 use Rattle.ufs_spec.specs.declared.configs.Numbers.{Numbers}
 use Rattle.ufs_spec.specs.declared.configs.UnitSpec.{UnitSpec}
 use Rattle.ufs_spec.specs.declared.flash.Fence.{Fence}
@@ -73,12 +74,13 @@ tag_in s = record {
 abbrev pub greatest_number : ℕ
 greatest_number = 2 ^ 62
 
--- the ranges of a tag. Kind 1 is data, 2 the RPMB area, 3 settings and 4 a mark; only data have a unit other than
--- 0, only data and area pages have an address, and a mark is alone in its group
+-- the ranges of a tag. Kind 1 is data, 2 the area of an RPMB region, 3 settings and 4 a mark; data have the number of
+-- their unit, area pages that of their region, only these two have an address, and a mark is alone in its group
 pub record IsTag (t : Tag) : Type 0 where
   pub kind_known : (1 ≤ t.kind) × (t.kind ≤ 4)
   pub unit_known : t.unit < 8
-  pub unit_of_data_alone : 2 ≤ t.kind → t.unit ≡ 0
+  pub region_known : t.kind ≡ 2 → t.unit < regions
+  pub unit_of_blocks_alone : 3 ≤ t.kind → t.unit ≡ 0
   pub address_fits : t.address < 2 ^ 32
   pub address_of_blocks_alone : 3 ≤ t.kind → t.address ≡ 0
   pub number_given : (1 ≤ t.number) × (t.number ≤ greatest_number)
@@ -120,14 +122,15 @@ abbrev pub fence_bytes : Option Fence → List ℕ
 fence_bytes None = replicate 16 0
 fence_bytes (Some fence) = big_bytes 8 fence.first ++ big_bytes 8 fence.last
 
--- sixteen bytes of a configuration's numbers, with the count of its units but not what each unit has
+-- sixteen bytes of a configuration's numbers, with the count of its units but not what each unit has. The sizes of RPMB
+-- regions 1 to 3 stand behind all that marks had when there was one region
 abbrev pub numbers_bytes : Numbers → List ℕ
 numbers_bytes n =
     (n.dies ∷ length n.units.items ∷ [])
     ++ big_bytes 2 n.blocks ++ big_bytes 2 n.pages
-    ++ (n.rpmb ∷ 0 ∷ [])
+    ++ (steps_of n 0 ∷ 0 ∷ [])
     ++ big_bytes 2 n.slots ++ big_bytes 2 n.spare
-    ++ replicate 4 0
+    ++ (steps_of n 1 ∷ steps_of n 2 ∷ steps_of n 3 ∷ 0 ∷ [])
 
 -- the eight bytes of a unit: its blocks, its boot number and its protection
 abbrev pub unit_bytes : UnitSpec → List ℕ

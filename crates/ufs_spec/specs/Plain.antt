@@ -1,15 +1,16 @@
 -- What a device holds, as a host sees it, and what each command makes of it (JESD220, 10.8 logical units, 12.4 RPMB;
 -- the commands are this profile's). There are no pages, numbers or tables in it.
-use Rattle.std.specs.Prelude.{◌≡◌, ℕ, ◌+◌, ◌-◌, ◌*◌, ◌^◌, ◌<◌, ◌≤◌, Bool, true, false, List, ◌++◌, length, take, drop}
-use Rattle.std.specs.Prelude.{map, fold}
+use Rattle.std.specs.Prelude.{◌≡◌, ℕ, ◌+◌, ◌-◌, ◌*◌, ◌^◌, ◌<◌, ◌≤◌, Bool, true, false, List, ◌++◌}
+use Rattle.std.specs.Prelude.{length, take, drop, map, fold, sum}
 use Rattle.std.specs.Prelude.{replicate, slice_index_or, slice_set, [], Option, Some, None}
 unfoldable pub use Rattle.ufs_bytes.specs.Blocks.{zero_block}
 use Rattle.ufs_spec.specs.declared.configs.Numbers.{Numbers}
+use Rattle.ufs_spec.specs.Counting.{below}
 use Rattle.ufs_spec.specs.Commands.{Command, Write, Zero, SetKey, RpmbWrite, SetBoot, SetPermanent}
 
--- how many RPMB regions a device has (JESD220, 12.4.2): in this profile region 0 alone
+-- how many RPMB regions are numbered (JESD220, 12.4.2). One whose area has no bytes is not there
 abbrev pub regions : ℕ
-regions = 1
+regions = 4
 
 -- what an RPMB region holds (JESD220, 12.4): its key, once it is programmed, the bytes of its area, and its write
 -- counter
@@ -31,17 +32,25 @@ pub record Plain : Type 0 where
 
 -- ## A new device
 
--- how many bytes the area of an RPMB region has: 128 KiB a step
-abbrev pub area_len : Numbers → ℕ
-area_len n = 131072 * n.rpmb
+-- how many steps of 128 KiB the area of an RPMB region has; none if the region is not there
+abbrev pub steps_of : Numbers → ℕ → ℕ
+steps_of n region = slice_index_or n.rpmb region 0
+
+-- how many steps the areas of all RPMB regions have
+abbrev pub all_steps : Numbers → ℕ
+all_steps n = sum (map (steps_of n) (below regions))
+
+-- how many bytes the area of an RPMB region has
+abbrev pub area_len : Numbers → ℕ → ℕ
+area_len n region = 131072 * steps_of n region
 
 -- the area of a new RPMB region
-unfoldable pub zero_area : Numbers → List ℕ
-zero_area n = replicate (area_len n) 0
+unfoldable pub zero_area : Numbers → ℕ → List ℕ
+zero_area n region = replicate (area_len n region) 0
 
 -- a new RPMB region: no key, a zero area and counter 0
-abbrev pub new_region : Numbers → Region
-new_region n = record { key = None; area = zero_area n; counter = 0 }
+abbrev pub new_region : Numbers → ℕ → Region
+new_region n region = record { key = None; area = zero_area n region; counter = 0 }
 
 -- a new device: zero blocks, boot setting 0, no protection and new RPMB regions
 abbrev pub zero : Numbers → Plain
@@ -50,7 +59,7 @@ zero n =
       units = map (λ u. replicate u.blocks zero_block) n.units.items;
       boot = 0;
       permanent = false;
-      regions = replicate regions (new_region n);
+      regions = map (new_region n) (below regions);
     }
 
 -- ## Commands
@@ -118,7 +127,8 @@ pub record Shape : Type 0 where
 
 -- the shape that every device of a configuration has
 abbrev pub shape_of_numbers : Numbers → Shape
-shape_of_numbers n = record { blocks = map (λ u. u.blocks) n.units.items; areas = replicate regions (area_len n) }
+shape_of_numbers n =
+    record { blocks = map (λ u. u.blocks) n.units.items; areas = map (area_len n) (below regions) }
 
 -- the shape that a plain state has, by its own blocks and bytes
 abbrev pub shape_of : Plain → Shape
@@ -140,13 +150,17 @@ IsAreaPart s region address len =
     ((count : ℕ) × (len ≡ 256 * count) × (1 ≤ count) × (count ≤ 8))
     × (256 * address + len ≤ slice_index_or s.areas region 0)
 
+-- an RPMB region is there: its area has bytes
+abbrev pub HasRegion : Shape → ℕ → Type 0
+HasRegion s region = (region < regions) × (0 < slice_index_or s.areas region 0)
+
 -- the command names only what there is: blocks in a unit, a region, bytes in its area; a key has 32 bytes, a boot
 -- setting is at most 2
 abbrev pub LiesWithin : Shape → Command → Type 0
 LiesWithin s (Write unit address blocks) = IsBlocksOf s unit address (length blocks)
 LiesWithin s (Zero unit address count) = IsBlocksOf s unit address count
-LiesWithin s (SetKey region bytes) = (region < regions) × (length bytes ≡ 32)
-LiesWithin s (RpmbWrite region address bytes) = (region < regions) × IsAreaPart s region address (length bytes)
+LiesWithin s (SetKey region bytes) = HasRegion s region × (length bytes ≡ 32)
+LiesWithin s (RpmbWrite region address bytes) = HasRegion s region × IsAreaPart s region address (length bytes)
 LiesWithin s (SetBoot boot) = boot ≤ 2
 LiesWithin s SetPermanent = Unit {0}
 

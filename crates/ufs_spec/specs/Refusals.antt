@@ -14,7 +14,7 @@ use Rattle.ufs_spec.specs.Exchanges.{Busy, Registers, Short, Status, Task, inval
 use Rattle.ufs_spec.specs.Exchanges.{list_length_error, no_unit, not_ready, out_of_range, sequence_error}
 use Rattle.ufs_spec.specs.Exchanges.{write_protected}
 use Rattle.ufs_spec.specs.Messages.{is_among}
-use Rattle.ufs_spec.specs.Plain.{Plain, after}
+use Rattle.ufs_spec.specs.Plain.{Plain, after, steps_of}
 use Rattle.ufs_spec.specs.Translation.{Translation, free_slots, has_pending, is_locked, is_mended}
 use Rattle.ufs_spec.specs.declared.configs.Numbers.{Numbers}
 use Rattle.ufs_spec.specs.declared.configs.UnitSpec.{UnitSpec}
@@ -178,6 +178,12 @@ abbrev pub not_taken : Request → Option Lun → Bool
 not_taken r None = false
 not_taken r (Some lun) = not (takes lun (operation_in r))
 
+-- 3 (5/24/00): the RPMB region of the command is not there, since its area has no bytes
+abbrev pub lacks_region : Numbers → Cdb → Bool
+lacks_region n (cdb.SecurityIn region size) = steps_of n region == 0
+lacks_region n (cdb.SecurityOut region size) = steps_of n region == 0
+lacks_region n command = false
+
 -- 4: the length of 1 to 8 RPMB frames
 abbrev pub is_frames : ℕ → Bool
 is_frames n = nat_le 512 n && nat_le n 4096 && (n % 512 == 0)
@@ -305,10 +311,11 @@ abbrev pub first_line : List Line → Option Status
 first_line [] = None
 first_line (l ∷ ls) = if l.applies then Some l.status else first_line ls
 
--- lines 4 to 11, for a CDB that spells a command
+-- the rest of line 3 and lines 4 to 11, for a CDB that spells a command
 abbrev pub lines_for : State → Request → Cdb → List Line
 lines_for s r command =
-    line (is_too_long (numbers_of s) command) invalid_field
+    line (lacks_region (numbers_of s) command) invalid_field
+    ∷ line (is_too_long (numbers_of s) command) invalid_field
     ∷ line (has_wrong_list command) list_length_error
     ∷ line (lacks_data r (direction_of command) (length_in s command)) invalid_field
     ∷ line (is_past command (unit_numbers_of s r)) out_of_range

@@ -1,10 +1,10 @@
 -- Which arrays a device may be opened over: new dies, and what stops leave (this profile). That every stop leaves a
 -- sound array is shown by the laws of power loss.
-use Rattle.std.specs.Prelude.{◌≡◌, ◌⊎◌, ℕ, ◌<◌, ◌≤◌, List, Option, Some}
+use Rattle.std.specs.Prelude.{◌≡◌, ◌⊎◌, ◌∷◌, [], ℕ, ◌<◌, ◌≤◌, List, Option, Some}
 use Rattle.ufs_spec.specs.Cells.{Array, Cells, DataHold, GroupPage, Mark, MarkPage, Opens, Shows, key_of}
 use Rattle.ufs_spec.specs.Keys.{IsKey}
 use Rattle.ufs_spec.specs.Kept.{Counts, Holds, IsNewestMark, IsRecorded, IsWhole, fence_in, recorded_in}
-use Rattle.ufs_spec.specs.Plain.{shape_of_numbers}
+use Rattle.ufs_spec.specs.Plain.{shape_of_numbers, steps_of}
 use Rattle.ufs_spec.specs.declared.configs.Numbers.{Numbers}
 use Rattle.ufs_spec.specs.declared.flash.Fence.{Fence}
 use Rattle.ufs_spec.specs.declared.flash.Place.{Place}
@@ -32,10 +32,19 @@ pub record CellsSound (c : Cells) (m : Option Mark) : Type 0 where
   pub repairs : (f : Fence) → fence_in m ≡ Some f → (p : Place) (t : Tag) (body : List ℕ) →
       Counts c m p t body → f.last < t.number → Holds c m f.first (key_of t) body
 
--- the cells are of a device with these numbers: its newest mark has them, and each page of a group
+-- the same numbers with RPMB region 0 alone
+abbrev pub with_one_region : Numbers → Numbers
+with_one_region n = record n { rpmb = steps_of n 0 ∷ 0 ∷ 0 ∷ 0 ∷ [] }
+
+-- a mark with these numbers is of a device with those: they are the same, or the mark was written before the device had
+-- other RPMB regions than the first
+abbrev pub MarkSuits : Numbers → Numbers → Type 0
+MarkSuits n said = (said ≡ n) ⊎ (said ≡ with_one_region n)
+
+-- the cells are of a device with these numbers: its newest mark suits them, and each page of a group
 -- is of one of its keys
 pub record CellsSuit (n : Numbers) (c : Cells) (m : Option Mark) : Type 0 where
-  pub config : (newest : Mark) → m ≡ Some newest → newest.numbers ≡ n
+  pub config : (newest : Mark) → m ≡ Some newest → MarkSuits n newest.numbers
   pub keys : (p : Place) (t : Tag) (body : List ℕ) → c p ≡ GroupPage t body → IsKey (shape_of_numbers n) (key_of t)
 
 -- the array is sound: its cells are, and the data of each page that opens keep the rules of its kind

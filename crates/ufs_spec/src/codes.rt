@@ -75,5 +75,5 @@ pub const MOST_SHORT_EXCHANGES: usize = 32;
 /// configuration of few slots allows fewer.
 pub const GREATEST_COMMAND: u16 = 128;
 
-/// How many RPMB regions there are (JESD220, 12.4.2): region 0 alone.
-pub const REGIONS: u8 = 1;
+/// How many RPMB regions are numbered (JESD220, 12.4.2). One whose area has no bytes is not there.
+pub const REGIONS: u8 = 4;

@@ -12,15 +12,16 @@ pub struct UnitSpec {
     pub protect: u8,
 }
 
-/// The numbers of a configuration: dies, blocks a die and pages a block, the units, the RPMB area in
-/// steps of 128 KiB, the slots of the write cache, and how many blocks may go bad.
+/// The numbers of a configuration: dies, blocks a die and pages a block, the units, the area of each
+/// RPMB region in steps of 128 KiB, the slots of the write cache, and how many blocks may go bad. A
+/// region whose area has no step is not there.
 #[derive(Debug, Drop, PartialEq, Eq)]
 pub struct Numbers {
     pub dies: u8,
     pub blocks: u16,
     pub pages: u16,
     pub units: ArrayVec<UnitSpec, 8>,
-    pub rpmb: u8,
+    pub rpmb: [u8; 4],
     pub slots: u16,
     pub spare: u16,
 }

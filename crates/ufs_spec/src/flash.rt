@@ -58,20 +58,29 @@ pub struct Tag {
 impl Tag {
     /// The kind of a page with a block of a unit.
     pub const DATA: u8 = 1;
-    /// The kind of a page with sixteen blocks of the RPMB area.
+    /// The kind of a page with sixteen blocks of the area of an RPMB region.
     pub const RPMB_AREA: u8 = 2;
-    /// The kind of a page with the settings, the RPMB key and the write counter.
+    /// The kind of a page with the settings, and the key and the write counter of each RPMB region.
     pub const SETTINGS: u8 = 3;
     /// The kind of a page with the configuration and a fence.
     pub const MARK: u8 = 4;
 }
 
-/// Whose content a page holds: its kind, its unit (0 but for data) and its address there.
+/// Whose content a page holds: its kind, its unit, or RPMB region (0 but for data and RPMB areas), and its
+/// address there.
 #[derive(Clone, Copy, Debug, Default, PartialEq, Eq)]
 pub struct Key {
     pub kind: u8,
     pub unit: u8,
     pub address: u32,
+}
+
+/// What settings say of an RPMB region: its key, once it is programmed, and its write counter (JESD220,
+/// 12.4).
+#[derive(Clone, Copy, PartialEq, Eq)]
+pub struct KeyAndCounter {
+    pub key: Option<[u8; 32]>,
+    pub counter: u32,
 }
 
 /// A range of group numbers, both its ends within it. Where the newest mark has one, no group page with

@@ -19,7 +19,8 @@ pub use configs::{Numbers, UnitSpec};
 pub use events::{Event, Leftover, Output, RunFault, RunFaultKind, Trace};
 pub use faults::{ConfigFault, HostFault, NoMemory, OpenFault};
 pub use flash::{
-    Fence, GREATEST_GROUP, GREATEST_NUMBER, Job, Key, Opened, Outcome, Page, Place, Tag,
+    Fence, GREATEST_GROUP, GREATEST_NUMBER, Job, Key, KeyAndCounter, Opened, Outcome, Page, Place,
+    Tag,
 };
 pub use layer::{Looked, Name, Reader};
 pub use messages::{Asked, Data, Message};

@@ -3,6 +3,7 @@ ghost use Rattle.std.specs.Prelude.{◌≡◌, ◌+◌, ◌*◌, ◌<◌, ◌≤
 ghost use Rattle.ufs_spec.specs.Commands.{Command, RpmbWrite, command_of};
 ghost use Rattle.ufs_spec.specs.Plain.{Plain, zero_block, zero_area, area_len, new_region, zero, with_part, unit_of, block_at, with_blocks, region_of, with_region, changed_by, counter_end, apply, after, shape_of, shape_of_numbers, LiesWithin, CanApply};
 ghost use Rattle.ufs_spec.specs.PlainRegions.{region_seen};
+ghost use Rattle.ufs_spec.specs.Counting.{below};
 ghost use Rattle.ufs_spec.specs.Plain.{regions};
 
 use crate::codes::REGIONS;
@@ -250,13 +251,13 @@ fn zero_blocks(alloc: Global, count: u32) -> Result<Vec<Block>, AllocError>
 }
 
 fn new_regions(alloc: Global, numbers: &Numbers) -> Result<Vec<PlainRegion>, AllocError>
-    ensures { IfOk result (λ v. map region_seen v.items ≡ replicate regions (new_region numbers.now)) }
+    ensures { IfOk result (λ v. map region_seen v.items ≡ map (new_region numbers.now) (below regions)) }
 {
     let mut found = Vec::new(alloc);
-    for _ in 0..REGIONS {
+    for region in 0..REGIONS {
         found.push(PlainRegion {
             key: None,
-            area: zero_area(alloc, numbers)?,
+            area: zero_area(alloc, numbers, region)?,
             counter: 0,
         })?;
     }
@@ -264,11 +265,12 @@ fn new_regions(alloc: Global, numbers: &Numbers) -> Result<Vec<PlainRegion>, All
 }
 
 #[tactic(auto, unfolding(crate::specs::Plain::zero_area))]
-fn zero_area(alloc: Global, numbers: &Numbers) -> Result<Vec<u8>, AllocError>
-    ensures { IfOk result (λ v. v.items ≡ zero_area numbers.now) }
+fn zero_area(alloc: Global, numbers: &Numbers, region: u8) -> Result<Vec<u8>, AllocError>
+    requires { region < regions }
+    ensures { IfOk result (λ v. v.items ≡ zero_area numbers.now region) }
 {
     let mut area = Vec::new(alloc);
-    area.resize(131_072 * usize::from(numbers.rpmb), 0)?;
+    area.resize(131_072 * usize::from(numbers.rpmb[region as usize]), 0)?;
     Ok(area)
 }
 

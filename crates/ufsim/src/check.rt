@@ -1,25 +1,26 @@
 //! Stops a script's device inside each of its programs and erases, and looks whether the device
 //! that opens afterwards holds what a prefix of the accepted commands makes, with each acknowledged
 //! one in it: the blocks of the units, the settings bBootLunEn and fPermanentWPEn, and the key, the
-//! counter and the area of the replay protected memory block.
-ghost use Rattle.std.specs.Prelude.{◌≡◌, IfOk, IfSome};
+//! counter and the area of each region of the replay protected memory block.
+ghost use Rattle.journal.specs.Requests.{state_at};
+ghost use Rattle.std.specs.Prelude.{◌≡◌, ◌∷◌, [], IfOk, IfSome, map};
 ghost use Rattle.ufs_spec.specs.Plain.{shape_of, shape_of_numbers};
 
 use crate::fault::Word;
-use crate::keys::key_on;
+use crate::keys::{Keys, keys_on};
 use crate::reading::{Holdings, Visit, read_dies};
 use crate::stopped::{
     CONTENTS, bad_blocks, copied_dies, is_at_work, is_write, pair_stopped, stopped_dies,
 };
 use device::World;
 use geometry::Config;
-use journal::{Journal, device_holding, is_kept};
+use journal::{FoundRegion, Journal, device_holding, is_kept};
 use nand_model::MemDie;
 use rpmb::RegionState;
 use std::alloc::Global;
 use ufs_spec::{Event, Numbers, Output, PlainDevice, commands_keep_the_shape};
 
-/// How many blocks of 256 bytes the area has in each of its steps of 128 KiB (JESD220, 12.4).
+/// How many blocks of 256 bytes an area has in each of its steps of 128 KiB (JESD220, 12.4).
 const STEP_BLOCKS: u32 = 512;
 
 /// Which stops are tried at a program or an erase.
@@ -68,7 +69,7 @@ impl Check {
     /// Nothing was tried yet, over new dies.
     pub fn new(alloc: Global, config: Config, tries: Stops) -> Check {
         let numbers = config.numbers();
-        let journal = Journal::new(alloc, numbers, region_of(numbers, None, 0));
+        let journal = Journal::new(alloc, numbers, new_regions(numbers));
         Check {
             config,
             tries,
@@ -87,9 +88,9 @@ impl Check {
         tries: Stops,
         dies: &[MemDie],
     ) -> Result<Check, Word> {
-        let key = key_on(alloc, &config, dies)?;
+        let keys = keys_on(alloc, &config, dies)?;
         let mut check = Check::new(alloc, config, tries);
-        check.begin_over(alloc, dies, key)?;
+        check.begin_over(alloc, dies, &keys)?;
         Ok(check)
     }
 
@@ -113,7 +114,7 @@ impl Check {
                 self.end(world, event);
                 Ok(())
             }
-            Output::Stopped => self.begin_over(alloc, world.dies(), self.key()),
+            Output::Stopped => self.begin_over(alloc, world.dies(), &self.keys()),
             _ => Ok(()),
         }
     }
@@ -141,20 +142,15 @@ impl Check {
         }
     }
 
-    // A life begins over dies of an earlier one. Its base is what they read as under the key that
+    // A life begins over dies of an earlier one. Its base is what they read as under the keys that
     // the earlier one left; if they are not told rightly, that counts as one bad stop.
-    fn begin_over(
-        &mut self,
-        alloc: Global,
-        dies: &[MemDie],
-        key: Option<[u8; 32]>,
-    ) -> Result<(), Word> {
+    fn begin_over(&mut self, alloc: Global, dies: &[MemDie], keys: &Keys) -> Result<(), Word> {
         let copies = copied_dies(alloc, dies)?;
-        match read_dies(alloc, &self.config, copies, key)? {
+        match read_dies(alloc, &self.config, copies, keys)? {
             Some(found) => {
                 let numbers = self.config.numbers();
-                let region = region_of(numbers, found.region.key, found.region.counter());
-                self.journal = Journal::new(alloc, numbers, region);
+                let regions = regions_like(numbers, &found.regions());
+                self.journal = Journal::new(alloc, numbers, regions);
                 self.base = Some(found);
             }
             None => self.bad = self.bad.saturating_add(1),
@@ -187,14 +183,22 @@ impl Check {
         }
     }
 
-    // The key that the life programmed or began with. No other can be set after a stop.
-    fn key(&self) -> Option<[u8; 32]> {
-        self.journal.region().key
+    // The keys that the life programmed or began with. No other can be set after a stop.
+    fn keys(&self) -> Keys
+        ensures { result ≡ map (λ region. (state_at self.now.journal.regions region).key)
+            (0 ∷ 1 ∷ 2 ∷ 3 ∷ []) }
+    {
+        [
+            self.journal.region(0).key,
+            self.journal.region(1).key,
+            self.journal.region(2).key,
+            self.journal.region(3).key,
+        ]
     }
 
     // Opens a device over these dies, lets it mend, and compares what it holds.
     fn try_stop(&mut self, alloc: Global, dies: Vec<MemDie>) -> Result<(), Word> {
-        let found = read_dies(alloc, &self.config, dies, self.key())?;
+        let found = read_dies(alloc, &self.config, dies, &self.keys())?;
         self.count(alloc, found)
     }
 
@@ -253,7 +257,7 @@ impl Check {
                 break;
             }
         }
-        let found = visit.read_all(self.config.numbers(), self.key())?;
+        let found = visit.read_all(self.config.numbers(), &self.keys())?;
         self.count(alloc, found)
     }
 
@@ -311,12 +315,35 @@ impl Check {
     }
 }
 
-// What is kept of a region with this key and this counter.
-fn region_of(numbers: &Numbers, key: Option<[u8; 32]>, counter: u32) -> RegionState {
+// What is kept of the regions of a new device.
+fn new_regions(numbers: &Numbers) -> [RegionState; 4] {
+    numbers.rpmb.map(|steps| region_of(steps, None, 0))
+}
+
+// What is kept of regions of which this was found.
+fn regions_like(numbers: &Numbers, found: &[FoundRegion<'_>; 4]) -> [RegionState; 4]
+    ensures keys { map (λ region. region.key) result ≡ map (λ region. region.key) found.now }
+    ensures counters { map (λ region. region.counter) result
+        ≡ map (λ region. region.counter) found.now }
+{
+    let steps = &numbers.rpmb;
+    [
+        region_of(steps[0], found[0].key, found[0].counter),
+        region_of(steps[1], found[1].key, found[1].counter),
+        region_of(steps[2], found[2].key, found[2].counter),
+        region_of(steps[3], found[3].key, found[3].counter),
+    ]
+}
+
+// What is kept of a region of so many steps, with this key and this counter.
+fn region_of(steps: u8, key: Option<[u8; 32]>, counter: u32) -> RegionState
+    ensures key { result.key ≡ key }
+    ensures counter { result.counter ≡ counter }
+{
     RegionState {
         key,
         counter,
-        blocks: STEP_BLOCKS.saturating_mul(u32::from(numbers.rpmb)),
+        blocks: STEP_BLOCKS.saturating_mul(u32::from(steps)),
     }
 }
 

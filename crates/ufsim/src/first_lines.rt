@@ -2,7 +2,7 @@
 use crate::fault::{ScriptFault, Word};
 use crate::image::Sizes;
 use crate::lines::{Line, Lines};
-use crate::words::{Words, expect};
+use crate::words::{Words, expect, number};
 use arrayvec::ArrayVec;
 use device::World;
 use geometry::Config;
@@ -17,7 +17,7 @@ pub(crate) struct FirstLines<'a> {
     pub dies: u8,
     blocks: u16,
     pages: u16,
-    rpmb: u8,
+    rpmb: [u8; 4],
     slots: u16,
     spare: u16,
     /// One unit more than a configuration may have is kept, and what comes after it is not.
@@ -33,28 +33,37 @@ impl<'a> FirstLines<'a> {
     pub fn read(script: &'a [u8]) -> Result<FirstLines<'a>, ScriptFault> {
         let mut lines = Lines::new(script);
         let line = next_line(&mut lines)?;
-        let config = line.told(fields::<6>(line.bytes, b"config"))?;
-        let [dies, blocks, pages, rpmb, slots, spare] = config;
-        let mut first = FirstLines {
-            dies: byte_field(dies),
-            blocks: short_field(blocks),
-            pages: short_field(pages),
-            rpmb: byte_field(rpmb),
-            slots: short_field(slots),
-            spare: short_field(spare),
-            units: ArrayVec::new(),
-            last: line,
-            rest: lines,
-        };
+        let mut first = line.told(FirstLines::read_config(line, lines))?;
         first.read_units()?;
         Ok(first)
+    }
+
+    // Reads the `config` line, before these further ones.
+    fn read_config(line: Line<'a>, rest: Lines<'a>) -> Result<FirstLines<'a>, Word> {
+        let mut words = words_behind(line.bytes, b"config", 6)?;
+        let dies = words.word()?;
+        let blocks = words.word()?;
+        let pages = words.word()?;
+        let areas = words.word()?;
+        expect_areas(areas)?;
+        Ok(FirstLines {
+            dies: byte_field(number(dies)?),
+            blocks: short_field(number(blocks)?),
+            pages: short_field(number(pages)?),
+            rpmb: areas_in(areas)?,
+            slots: short_field(words.number()?),
+            spare: short_field(words.number()?),
+            units: ArrayVec::new(),
+            last: line,
+            rest,
+        })
     }
 
     fn read_units(&mut self) -> Result<(), ScriptFault> {
         let mut lines = self.rest;
         let mut line = next_line(&mut lines)?;
         loop {
-            let unit = line.told(fields::<3>(line.bytes, b"unit"))?;
+            let unit = line.told(unit_numbers(line.bytes))?;
             self.add(unit);
             self.last = line;
             self.rest = lines;
@@ -126,18 +135,44 @@ fn next_line<'a>(lines: &mut Lines<'a>) -> Result<Line<'a>, ScriptFault> {
     }
 }
 
-// The numbers of a line that begins with the word `name` and has `N` of them.
-fn fields<const N: usize>(line: &[u8], name: &[u8]) -> Result<[u32; N], Word> {
+// The words of a line behind the first one, which is `name`. There are just `count` of them.
+fn words_behind<'a>(line: &'a [u8], name: &[u8], count: usize) -> Result<Words<'a>, Word> {
     let mut words = Words::new(line);
     if !line.is_ascii() || words.word()? != name {
         return Err(Word::Word);
     }
-    expect(words, N)?;
-    let mut numbers = [0; N];
-    for i in 0..N {
-        numbers[i] = words.number()?;
+    expect(words, count)?;
+    Ok(words)
+}
+
+// The three numbers of a `unit` line.
+fn unit_numbers(line: &[u8]) -> Result<[u32; 3], Word> {
+    let mut words = words_behind(line, b"unit", 3)?;
+    Ok([words.number()?, words.number()?, words.number()?])
+}
+
+// `Word` unless a word is the area of region 0, or parts at its commas into four areas.
+fn expect_areas(word: &[u8]) -> Result<(), Word> {
+    let mut count = 0usize;
+    for area in word.split(|byte| *byte == b',') {
+        if area.is_empty() {
+            return Err(Word::Word);
+        }
+        count = count.saturating_add(1);
     }
-    Ok(numbers)
+    match count {
+        1 | 4 => Ok(()),
+        _ => Err(Word::Word),
+    }
+}
+
+// The areas of the regions in such a word: 0 for each that it does not name.
+fn areas_in(word: &[u8]) -> Result<[u8; 4], Word> {
+    let mut areas = [0; 4];
+    for (place, digits) in areas.iter_mut().zip(word.split(|byte| *byte == b',')) {
+        *place = byte_field(number(digits)?);
+    }
+    Ok(areas)
 }
 
 fn is_unit(line: &[u8]) -> bool {

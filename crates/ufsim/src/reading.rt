@@ -1,10 +1,11 @@
 //! Opens a device again over dies, and reads by messages all that it holds.
 use crate::fault::{Word, word_of};
-use crate::regions::Region;
+use crate::keys::Keys;
+use crate::regions::{Region, targets_of};
 use crate::settings_shown::Settings;
 use device::World;
 use geometry::Config;
-use journal::{FoundRest, block_in};
+use journal::{FoundRegion, FoundRest, block_in};
 use nand_model::MemDie;
 use std::alloc::Global;
 use ufs_spec::codes::{COMMAND, DATA_IN, RESPONSE};
@@ -19,8 +20,8 @@ pub(crate) struct Holdings {
     /// The blocks of each unit, by their addresses.
     pub units: Vec<Vec<Block>>,
     settings: Settings,
-    /// The region of the replay protected memory block.
-    pub region: Region,
+    /// The regions of the replay protected memory block, by their numbers.
+    regions: Vec<Region>,
 }
 
 impl Holdings {
@@ -29,24 +30,46 @@ impl Holdings {
         FoundRest {
             boot: self.settings.boot,
             is_permanent: self.settings.is_permanent,
-            region: self.region.found(),
+            regions: self.regions(),
+        }
+    }
+
+    /// The regions of the replay protected memory block, for a comparison.
+    pub fn regions(&self) -> [FoundRegion<'_>; 4] {
+        [
+            self.region(0),
+            self.region(1),
+            self.region(2),
+            self.region(3),
+        ]
+    }
+
+    // The region of this number.
+    fn region(&self, number: usize) -> FoundRegion<'_> {
+        match self.regions.get(number) {
+            Some(region) => region.found(),
+            None => FoundRegion {
+                key: None,
+                counter: 0,
+                area: &[],
+            },
         }
     }
 }
 
 /// What a device holds that is opened over these dies and mended; `None` where it does not open, or
-/// does not answer each READ with its block, each query for a setting rightly, and each request for
-/// the region rightly under this key.
+/// does not answer each READ with its block, each query for a setting rightly, and each request to
+/// a region rightly under its key among these.
 pub(crate) fn read_dies(
     alloc: Global,
     config: &Config,
     dies: Vec<MemDie>,
-    key: Option<[u8; 32]>,
+    keys: &Keys,
 ) -> Result<Option<Holdings>, Word> {
     match Visit::open(alloc, config, dies)? {
         Some(mut visit) => {
             visit.mend()?;
-            visit.read_all(config.numbers(), key)
+            visit.read_all(config.numbers(), keys)
         }
         None => Ok(None),
     }
@@ -126,22 +149,18 @@ impl Visit {
     }
 
     /// All that the device holds; `None` where it does not tell it rightly.
-    pub fn read_all(
-        &mut self,
-        numbers: &Numbers,
-        key: Option<[u8; 32]>,
-    ) -> Result<Option<Holdings>, Word> {
+    pub fn read_all(&mut self, numbers: &Numbers, keys: &Keys) -> Result<Option<Holdings>, Word> {
         let Some(units) = self.blocks(numbers.units.as_slice())? else {
             return Ok(None);
         };
         let Some(settings) = self.settings()? else {
             return Ok(None);
         };
-        match self.region(key, numbers.rpmb)? {
-            Some(region) => Ok(Some(Holdings {
+        match self.regions(&targets_of(numbers, keys))? {
+            Some(regions) => Ok(Some(Holdings {
                 units,
                 settings,
-                region,
+                regions,
             })),
             None => Ok(None),
         }

@@ -1,5 +1,8 @@
-//! Reads by messages what the replay protected memory block holds (JESD220, 12.4).
+//! Reads by messages what the regions of the replay protected memory block hold (JESD220, 12.4).
+ghost use Rattle.std.specs.Prelude.{◌≡◌, ◌∷◌, [], map, slice_get, Some};
+
 use crate::fault::Word;
+use crate::keys::Keys;
 use crate::reading::{Visit, is_good, is_of};
 use hmac_sha256::same_mac;
 use journal::FoundRegion;
@@ -8,8 +11,9 @@ use rpmb_frame::codes::{
     DATA_READ_RESPONSE, KEY_NOT_PROGRAMMED, OPERATION_OK,
 };
 use rpmb_frame::{Frame, frames_mac};
+use std::alloc::Global;
 use ufs_spec::codes::{COMMAND, DATA_IN, DATA_OUT, READY_TO_TRANSFER};
-use ufs_spec::{Upiu, write_u16};
+use ufs_spec::{Numbers, Upiu, write_u16};
 
 /// The LUN byte of the replay protected memory block (JESD220, 10.8.5).
 const RPMB: u8 = 0xC4;
@@ -38,15 +42,56 @@ const REQUESTS: u16 = 64;
 /// What each request sends, for its response to repeat.
 const NONCE: [u8; 16] = *b"after each stop!";
 
+/// A region that is read: its number, its key, if one is set, and the steps of its area. One of no
+/// steps is not there.
+#[derive(Clone, Copy)]
+pub(crate) struct Target {
+    number: u8,
+    key: Option<[u8; 32]>,
+    steps: u8,
+}
+
+impl Target {
+    fn new(number: u8, key: Option<[u8; 32]>, steps: u8) -> Target
+        ensures { result ≡ record { number = number; key = key; steps = steps } }
+    {
+        Target { number, key, steps }
+    }
+}
+
+/// The regions of a device with these numbers and these keys.
+pub(crate) fn targets_of(numbers: &Numbers, keys: &Keys) -> [Target; 4]
+    ensures numbers { map (λ target. target.number) result ≡ 0 ∷ 1 ∷ 2 ∷ 3 ∷ [] }
+    ensures keys { map (λ target. target.key) result ≡ keys.now }
+    ensures steps { map (λ target. target.steps) result ≡ numbers.now.rpmb }
+{
+    let steps = &numbers.rpmb;
+    [
+        Target::new(0, keys[0], steps[0]),
+        Target::new(1, keys[1], steps[1]),
+        Target::new(2, keys[2], steps[2]),
+        Target::new(3, keys[3], steps[3]),
+    ]
+}
+
 /// What was read of a region: its key, its counter, and under a key the bytes of its area.
 #[derive(Drop)]
 pub(crate) struct Region {
-    pub key: Option<[u8; 32]>,
+    key: Option<[u8; 32]>,
     counter: u32,
     area: Vec<u8>,
 }
 
 impl Region {
+    // A region without a key. None of its area can be read.
+    fn without_key(alloc: Global, counter: u32) -> Region {
+        Region {
+            key: None,
+            counter,
+            area: Vec::new(alloc),
+        }
+    }
+
     /// The same, for a comparison.
     pub fn found(&self) -> FoundRegion<'_> {
         FoundRegion {
@@ -55,30 +100,39 @@ impl Region {
             area: self.area.as_slice(),
         }
     }
-
-    pub fn counter(&self) -> u32 {
-        self.counter
-    }
 }
 
 impl Visit {
-    /// What the region holds, with so many steps of its area; `None` where a request is not
-    /// answered rightly: under this key, if one is set, else without a MAC.
-    pub fn region(&mut self, key: Option<[u8; 32]>, steps: u8) -> Result<Option<Region>, Word> {
-        let Some(frame) = self.counter_frame(key)? else {
+    /// What each of these regions holds; `None` where a request is not answered rightly: under the
+    /// key of its region, if one is set, else without a MAC. Of a region that is not there nothing
+    /// is read.
+    pub fn regions(&mut self, targets: &[Target; 4]) -> Result<Option<Vec<Region>>, Word> {
+        let mut all = Vec::new(self.alloc);
+        for target in targets {
+            match self.region(target)? {
+                Some(region) => all.push(region)?,
+                None => return Ok(None),
+            }
+        }
+        Ok(Some(all))
+    }
+
+    // What the region holds, if it is there.
+    fn region(&mut self, target: &Target) -> Result<Option<Region>, Word> {
+        if target.steps == 0 {
+            return Ok(Some(Region::without_key(self.alloc, 0)));
+        }
+        let Some(frame) = self.counter_frame(target)? else {
             return Ok(None);
         };
         let counter = frame.write_counter;
         if frame.result == KEY_NOT_PROGRAMMED {
-            return Ok(Some(Region {
-                key: None,
-                counter,
-                area: Vec::new(self.alloc),
-            }));
+            return Ok(Some(Region::without_key(self.alloc, counter)));
         }
+        let key = target.key;
         match key {
             Some(bytes) => Ok(
-                self.area(&bytes, steps)?
+                self.area(target, &bytes)?
                     .map(|area| Region { key, counter, area }),
             ),
             None => Ok(None),
@@ -86,9 +140,9 @@ impl Visit {
     }
 
     // The response to a request for the counter.
-    fn counter_frame(&mut self, key: Option<[u8; 32]>) -> Result<Option<Frame>, Word> {
+    fn counter_frame(&mut self, target: &Target) -> Result<Option<Frame>, Word> {
         let asked = request(COUNTER_READ_REQUEST, 0, 0);
-        let Some(answer) = self.response(&asked, FRAME)? else {
+        let Some(answer) = self.response(target.number, &asked, FRAME)? else {
             return Ok(None);
         };
         let (frames, _) = data_of(&answer).as_chunks::<512>();
@@ -97,31 +151,33 @@ impl Visit {
         };
         let frame = Frame::read(bytes);
         let is_right = is_answer(&frame, COUNTER_READ_RESPONSE, 0, 0)
-            && is_signed(&frame, frames, key);
+            && is_signed(&frame, frames, target.key);
         Ok(is_right.then_some(frame))
     }
 
     // The bytes of the area; `None` where a request for some of them is not answered rightly.
-    fn area(&mut self, key: &[u8; 32], steps: u8) -> Result<Option<Vec<u8>>, Word> {
+    fn area(&mut self, target: &Target, key: &[u8; 32]) -> Result<Option<Vec<u8>>, Word> {
         let mut area = Vec::new(self.alloc);
-        for index in 0..REQUESTS.saturating_mul(u16::from(steps)) {
-            if !self.read_blocks(key, index.saturating_mul(BLOCKS), &mut area)? {
+        for index in 0..REQUESTS.saturating_mul(u16::from(target.steps)) {
+            let address = index.saturating_mul(BLOCKS);
+            if !self.read_blocks(target.number, key, address, &mut area)? {
                 return Ok(None);
             }
         }
         Ok(Some(area))
     }
 
-    // Adds the blocks from this address on; false where the request for them is not answered
-    // rightly.
+    // Adds the blocks of a region from this address on; false where the request for them is not
+    // answered rightly.
     fn read_blocks(
         &mut self,
+        region: u8,
         key: &[u8; 32],
         address: u16,
         area: &mut Vec<u8>,
     ) -> Result<bool, Word> {
         let asked = request(DATA_READ_REQUEST, address, BLOCKS);
-        let Some(answer) = self.response(&asked, FRAME * BLOCKS)? else {
+        let Some(answer) = self.response(region, &asked, FRAME * BLOCKS)? else {
             return Ok(false);
         };
         let (frames, _) = data_of(&answer).as_chunks::<512>();
@@ -135,10 +191,11 @@ impl Visit {
         Ok(frames.len() == usize::from(BLOCKS) && has_mac(frames, key))
     }
 
-    // The DATA IN with the response to a request, of so many bytes; `None` where a step of the
-    // exchange fails.
-    fn response(&mut self, asked: &Frame, length: u16) -> Result<Option<Upiu>, Word> {
-        if !self.brings(asked)? || !self.send(&command(READS, SECURITY_IN, length))? {
+    // The DATA IN with the response of a region to a request, of so many bytes; `None` where a step
+    // of the exchange fails.
+    fn response(&mut self, region: u8, asked: &Frame, length: u16) -> Result<Option<Upiu>, Word> {
+        let fetching = command(READS, SECURITY_IN, region, length);
+        if !self.brings(region, asked)? || !self.send(&fetching)? {
             return Ok(None);
         }
         let Some(answer) = self.hear()? else {
@@ -149,9 +206,9 @@ impl Visit {
         Ok((is_whole && has_ended).then_some(answer))
     }
 
-    // Brings the frame of a request: whether it is answered GOOD.
-    fn brings(&mut self, asked: &Frame) -> Result<bool, Word> {
-        if !self.send(&command(WRITES, SECURITY_OUT, FRAME))? {
+    // Brings a region the frame of a request: whether it is answered GOOD.
+    fn brings(&mut self, region: u8, asked: &Frame) -> Result<bool, Word> {
+        if !self.send(&command(WRITES, SECURITY_OUT, region, FRAME))? {
             return Ok(false);
         }
         match self.hear()? {
@@ -225,8 +282,11 @@ fn has_mac(frames: &[[u8; 512]], key: &[u8; 32]) -> bool {
     }
 }
 
-// The COMMAND with the tag 0 that brings or fetches so many bytes of frames (JESD220, 10.7.1; SPC).
-fn command(flags: u8, operation: u8, length: u16) -> [u8; HEADER] {
+// The COMMAND with the tag 0 that brings a region so many bytes of frames, or fetches them (JESD220,
+// 10.7.1; SPC).
+fn command(flags: u8, operation: u8, region: u8, length: u16) -> [u8; HEADER]
+    ensures { slice_get result 18 ≡ Some region }
+{
     let mut message = [0; HEADER];
     message[0] = COMMAND;
     message[1] = flags;
@@ -234,6 +294,7 @@ fn command(flags: u8, operation: u8, length: u16) -> [u8; HEADER] {
     write_u16(&mut message, 14, length);
     message[16] = operation;
     message[17] = 0xEC;
+    message[18] = region;
     message[19] = 0x01;
     write_u16(&mut message, 24, length);
     message

@@ -1,5 +1,6 @@
 mod Consumed
 mod Filled
 mod ImageFacts
+mod RpmbWritten
 mod Sent
 mod Written

@@ -9,3 +9,9 @@ pub both_written : (a b c d : Option (List ℕ)) (xs ys first second : List ℕ)
     → Keeps c d → xs ≡ first → ys ≡ second → Appends a d (first ++ second)
 both_written a b c d xs ys first second one two kept is also =
     subst (Appends a d) (λ i. is i ++ also i) (Appends-kept a c d _ (Appends-trans a b c xs ys one two) kept)
+
+-- two parts are written, of which the first is this one
+pub then_written : (a b c : Option (List ℕ)) (xs first ys : List ℕ) → Appends a b xs → Appends b c ys → xs ≡ first
+    → Appends a c (first ++ ys)
+then_written a b c xs first ys one two is =
+    subst (Appends a c) (λ i. is i ++ ys) (Appends-trans a b c xs ys one two)

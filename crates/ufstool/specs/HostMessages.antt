@@ -1,5 +1,5 @@
 -- The messages that are written, byte by byte (JESD220, 10.7).
-use Rattle.std.specs.Prelude.{ℕ, List, [], ◌∷◌, ◌++◌, codes, replicate, Option, Some, None}
+use Rattle.std.specs.Prelude.{ℕ, List, [], ◌∷◌, ◌++◌, codes, length, replicate, Option, Some, None}
 use Rattle.hex.specs.Hex.{encode_lower}
 use Rattle.ufs_spec.specs.Cdbs.{Direction, NoData, ToDevice, ToHost, cdb_bytes, direction_of, length_of}
 use Rattle.ufs_spec.specs.Codes.{data_out_code}
@@ -40,3 +40,13 @@ bytes_wanted (Tasks unit task call) = task_spelled unit task call
 -- the line of a script that hands a device these bytes, in hexadecimal digits
 abbrev pub line_of : List ℕ → List ℕ
 line_of bytes = codes "host " ++ encode_lower bytes ++ 10 ∷ []
+
+-- the DATA OUT of a task with all of its data
+abbrev pub data_spelled : ℕ → ℕ → List ℕ → List ℕ
+data_spelled unit task bytes =
+    header data_out_code 0 unit task 0 0 0 (length bytes) (transfer 0 (length bytes))
+    ++ bytes ++ zeros (padding (length bytes))
+
+-- a message, and then a reply is asked for
+abbrev pub asked_lines : List ℕ → List ℕ
+asked_lines bytes = line_of bytes ++ codes "reply" ++ 10 ∷ []

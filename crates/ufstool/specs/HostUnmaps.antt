@@ -1,10 +1,9 @@
 -- The lines that bring an UNMAP to a unit (SBC, UNMAP; JESD220, 10.7.1 and 10.7.3).
-use Rattle.std.specs.Prelude.{ℕ, List, [], ◌∷◌, ◌++◌, codes, length}
+use Rattle.std.specs.Prelude.{ℕ, List, ◌++◌}
 use Rattle.byteorder.specs.Endian.{big_bytes}
-use Rattle.ufs_spec.specs.Codes.{data_out_code}
-use Rattle.ufs_spec.specs.Messages.{header, padding, transfer, zeros}
+use Rattle.ufs_spec.specs.Messages.{zeros}
 use Rattle.ufs_spec.specs.declared.scsi.Cdb.TheVariants.{Unmap}
-use Rattle.ufstool.specs.HostMessages.{command_spelled, line_of}
+use Rattle.ufstool.specs.HostMessages.{asked_lines, command_spelled, data_spelled}
 use Rattle.ufstool.specs.declared.unmap.HostUnmap.{HostUnmap}
 
 -- the list: a header, which counts the 22 bytes behind its first field and the 16 of its descriptor, and has four zeros;
@@ -12,16 +11,6 @@ use Rattle.ufstool.specs.declared.unmap.HostUnmap.{HostUnmap}
 abbrev pub unmap_list : ℕ → ℕ → List ℕ
 unmap_list address blocks =
     big_bytes 2 22 ++ big_bytes 2 16 ++ zeros 4 ++ big_bytes 8 address ++ big_bytes 4 blocks ++ zeros 4
-
--- the DATA OUT of a task with all of its data
-abbrev pub data_spelled : ℕ → ℕ → List ℕ → List ℕ
-data_spelled unit task bytes =
-    header data_out_code 0 unit task 0 0 0 (length bytes) (transfer 0 (length bytes))
-    ++ bytes ++ zeros (padding (length bytes))
-
--- a message, and then a reply is asked for
-abbrev pub asked_lines : List ℕ → List ℕ
-asked_lines bytes = line_of bytes ++ codes "reply" ++ 10 ∷ []
 
 -- the COMMAND, whose reply asks for the list; and the DATA OUT with the list, whose reply ends the task
 abbrev pub unmap_lines : HostUnmap → List ℕ

@@ -4,4 +4,5 @@ pub mod HostTasks
 pub mod HostUnmaps
 pub mod Images
 pub mod Requests
+pub mod RpmbLines
 pub mod UnmapLists

@@ -54,6 +54,8 @@ pub enum Cause<'a> {
     Number(&'a str),
     /// The number is above 4294967295.
     NumberSize(&'a str),
+    /// The word is neither one size of the RPMB nor four.
+    Regions(&'a str),
     /// The digits begin with `0x`.
     HexPrefix,
     /// The digits are not two for each byte.
@@ -136,6 +138,11 @@ impl Cause<'_> {
     fn write_rest<W: fmt::Write>(&self, f: &mut fmt::Formatter<W>) -> fmt::Result {
         match self {
             Cause::Range(range) => range.write(f),
+            Cause::Regions(word) => write!(
+                f,
+                "'{word}' is neither one size of the RPMB nor four; write one number, or four with \
+                 commas"
+            ),
             Cause::Room { needed, left } => write!(
                 f,
                 "{needed} blocks are needed, {left} are there; give more, or fewer units, slots or \

@@ -1,6 +1,10 @@
 //! Commands in words.
+ghost use Rattle.std.specs.Prelude.{◌≡◌};
+ghost use Rattle.ufstool.specs.RpmbLines.{region_named};
+
 use crate::names::operation_name;
 use scsi_cdb::blocks_of;
+use scsi_cdb::operations::{SECURITY_IN, SECURITY_OUT};
 use std::fmt;
 use ufs_spec::{Cdb, Sense};
 
@@ -14,8 +18,23 @@ pub fn write_command<W: fmt::Write>(
 ) -> fmt::Result {
     let name = operation_name(cdb[0]);
     write!(f, ": {name}")?;
+    if let Some(region) = region_named(cdb) {
+        write!(f, " of RPMB region {region}")?;
+    }
     write_cdb(f, cdb)?;
     write_expected(f, flags, expected)
+}
+
+// The RPMB region that a CDB names, if it is a SECURITY PROTOCOL command (JESD220, 12.4.5).
+fn region_named(cdb: &[u8; 16]) -> Option<u8>
+    ensures { result ≡ region_named cdb.now }
+{
+    let is_security = cdb[0] == SECURITY_IN || cdb[0] == SECURITY_OUT;
+    if is_security && cdb[1] == 0xEC && cdb[3] == 0x01 {
+        Some(cdb[2])
+    } else {
+        None
+    }
 }
 
 // What comes after the name of a command.

@@ -1,6 +1,8 @@
 //! The first lines of a script: the numbers of its device.
+ghost use Rattle.std.specs.Prelude.{◌≡◌, sum};
+
 use crate::cause::{Cause, Range};
-use crate::lines::{first_word, numbers_in};
+use crate::lines::{Words, first_word, number, numbers_in};
 use std::fmt;
 
 const CONFIG: &str = "config DIES BLOCKS PAGES RPMB SLOTS SPARE";
@@ -13,7 +15,8 @@ pub struct ConfigLine {
     pub dies: u32,
     pub blocks: u32,
     pub pages: u32,
-    pub rpmb: u32,
+    /// The area of each RPMB region, in steps of 128 KiB; 0 if the region is not there.
+    pub rpmb: [u32; 4],
     pub slots: u32,
     pub spare: u32,
 }
@@ -41,14 +44,15 @@ impl ConfigLine {
         if first_word(line) != "config" {
             return Err(Cause::Missing(CONFIG));
         }
-        let [dies, blocks, pages, rpmb, slots, spare] = numbers_in::<6>(line, CONFIG)?;
+        let mut words = Words::new(line, 7, CONFIG)?;
+        let _name = words.word();
         let config = ConfigLine {
-            dies,
-            blocks,
-            pages,
-            rpmb,
-            slots,
-            spare,
+            dies: words.number()?,
+            blocks: words.number()?,
+            pages: words.number()?,
+            rpmb: regions_in(words.word())?,
+            slots: words.number()?,
+            spare: words.number()?,
         };
         config.check_ranges()?;
         Ok(config)
@@ -57,23 +61,29 @@ impl ConfigLine {
     // The ranges of docs/FORMATS.md, "Configuration".
     fn check_ranges(&self) -> Result<(), Cause<'static>> {
         let blocks = self.dies.saturating_mul(self.blocks);
+        let [first, second, third, fourth] = self.rpmb;
         keep_ranges(&[
             range("dies", self.dies, 1, 8),
             range("blocks of a die", self.blocks, 16, 1024),
             range("pages of a block", self.pages, 16, 256),
-            range("steps of 128 KiB of the RPMB area", self.rpmb, 1, 8),
+            range("steps of 128 KiB of RPMB region 0", first, 1, 8),
+            range("steps of 128 KiB of RPMB region 1", second, 0, 8),
+            range("steps of 128 KiB of RPMB region 2", third, 0, 8),
+            range("steps of 128 KiB of RPMB region 3", fourth, 0, 8),
             range("slots of the write cache", self.slots, 64, 1024),
             range("spare blocks", self.spare, 0, blocks),
         ])
     }
 
     /// Sees that the dies have blocks enough for these units: what is needed is the blocks of the
-    /// units, 32 for each step of the RPMB area, two more and four times the slots, in pages; and
+    /// units, 32 for each step of the RPMB regions, two more and four times the slots, in pages; and
     /// four blocks for each die and eight more (docs/FORMATS.md, "Configuration").
     pub fn check_room(&self, units: &UnitSum) -> Result<(), Cause<'static>> {
+        let areas = self.region_steps().saturating_mul(32);
         let kept = units
             .blocks
-            .saturating_add(u64::from(self.rpmb) * 32 + 2 + u64::from(self.slots) * 4);
+            .saturating_add(areas)
+            .saturating_add(u64::from(self.slots) * 4 + 2);
         let pages = u64::from(self.pages).max(1);
         let needed = kept
             .div_ceil(pages)
@@ -85,6 +95,46 @@ impl ConfigLine {
         } else {
             Err(Cause::Room { needed, left })
         }
+    }
+
+    // How many steps of 128 KiB all RPMB regions have.
+    fn region_steps(&self) -> u64
+        ensures { result ≡ sum self.now.rpmb }
+    {
+        let [first, second, third, fourth] = self.rpmb;
+        u64::from(first) + u64::from(second) + u64::from(third) + u64::from(fourth)
+    }
+}
+
+// The sizes of the RPMB regions: one number, where only region 0 is there, or four with commas.
+fn regions_in(word: &str) -> Result<[u32; 4], Cause<'_>> {
+    match word.bytes().filter(|byte| *byte == b',').count() {
+        0 => Ok([number(word)?, 0, 0, 0]),
+        3 => four_in(word),
+        _ => Err(Cause::Regions(word)),
+    }
+}
+
+// The numbers of the four parts of a word that three commas part.
+fn four_in(word: &str) -> Result<[u32; 4], Cause<'_>> {
+    let mut rest = word;
+    let mut sizes = [0; 4];
+    for region in 0..4usize {
+        let (size, more) = first_part(rest);
+        if size.is_empty() {
+            return Err(Cause::Regions(word));
+        }
+        sizes[region] = number(size)?;
+        rest = more;
+    }
+    Ok(sizes)
+}
+
+// What comes before the first comma, and what comes behind it.
+fn first_part(text: &str) -> (&str, &str) {
+    match text.split_once(',') {
+        Some(parts) => parts,
+        None => (text, ""),
     }
 }
 
@@ -169,15 +219,23 @@ impl fmt::Display for ConfigLine {
             slots,
             spare,
         } = *self;
-        let area = u64::from(rpmb) * 128;
         let noun = if dies == 1 { "die" } else { "dies" };
-        write!(
-            f,
-            "{dies} {noun} of {blocks} blocks of {pages} pages, {area} KiB for RPMB"
-        )?;
+        write!(f, "{dies} {noun} of {blocks} blocks of {pages} pages")?;
+        write_regions(f, &rpmb)?;
         let noun = if spare == 1 { "block" } else { "blocks" };
         write!(f, ", a write cache of {slots} blocks, {spare} spare {noun}")
     }
+}
+
+// Each RPMB region that is there, with its size.
+fn write_regions<W: fmt::Write>(f: &mut fmt::Formatter<W>, rpmb: &[u32; 4]) -> fmt::Result {
+    for (region, steps) in rpmb.iter().enumerate() {
+        let size = u64::from(*steps) * 128;
+        if size > 0 {
+            write!(f, ", {size} KiB for RPMB region {region}")?;
+        }
+    }
+    Ok(())
 }
 
 impl fmt::Display for UnitLine {

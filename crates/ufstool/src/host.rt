@@ -6,8 +6,8 @@ ghost use Rattle.ufs_spec.specs.Codes.{data_out_code};
 ghost use Rattle.ufs_spec.specs.Messages.{header, padding, spelling, transfer, zeros};
 ghost use Rattle.ufs_spec.specs.Messages.{AreFlags, IsMessage};
 ghost use Rattle.std.specs.Io.KnownBytes.{Appends};
-ghost use Rattle.ufstool.specs.HostMessages.{bytes_wanted, command_spelled, expected_of, flags_of};
-ghost use Rattle.ufstool.specs.HostMessages.{line_of};
+ghost use Rattle.ufstool.specs.HostMessages.{asked_lines, bytes_wanted, command_spelled};
+ghost use Rattle.ufstool.specs.HostMessages.{expected_of, flags_of, line_of};
 ghost use Rattle.ufs_spec.specs.declared.messages.Message.TheVariants.{Command as CommandMessage};
 ghost use Rattle.ufstool.specs.declared.host.HostMessage.TheVariants.{DataOut, NopOut};
 
@@ -75,6 +75,9 @@ pub enum LineFault {
     /// A request of the unit RPMB writes or reads 1 to 8 blocks.
     #[error("a request writes or reads 1 to 8 blocks of 256 bytes")]
     Blocks,
+    /// A request names no RPMB region.
+    #[error("the RPMB regions are 0 to 3")]
+    Region,
     /// Memory was refused.
     #[error("there is not enough memory")]
     Memory,
@@ -254,6 +257,16 @@ pub fn write_line<W: Write>(alloc: Global, message: &Message, out: &mut W) -> Re
 {
     let line = host_line(alloc, message)?;
     Ok(out.write_all(line.as_slice())?)
+}
+
+/// Writes the line of a message, and the one that asks for the reply.
+pub fn write_asked<W: Write>(alloc: Global, message: &Message, out: &mut W) -> Result<(), LineFault>
+    requires { IsMessage message.now }
+    ensures { OnOk result
+        (Appends (W.contents out.old) (W.contents out.new) (asked_lines (spelling message.now))) }
+{
+    write_line(alloc, message, out)?;
+    Ok(out.write_all(b"reply\n")?)
 }
 
 /// The line `host HEX` of a message: its one spelling, in hexadecimal digits.

@@ -3,10 +3,10 @@ ghost use Rattle.std.specs.Prelude.{◌≡◌, ◌≤◌, OnOk};
 ghost use Rattle.std.specs.Io.KnownBytes.{Appends};
 ghost use Rattle.ufs_spec.specs.Messages.{spelling, IsMessage};
 ghost use Rattle.ufs_spec.specs.declared.scsi.Cdb.TheVariants.{Unmap};
-ghost use Rattle.ufstool.specs.HostMessages.{command_spelled};
-ghost use Rattle.ufstool.specs.HostUnmaps.{asked_lines, data_spelled, unmap_lines, unmap_list};
+ghost use Rattle.ufstool.specs.HostMessages.{command_spelled, data_spelled};
+ghost use Rattle.ufstool.specs.HostUnmaps.{unmap_lines, unmap_list};
 
-use crate::host::{LineFault, command_message, data_message, write_line};
+use crate::host::{LineFault, command_message, data_message, write_asked};
 use byteorder::{BigEndian, ByteOrder};
 use scsi_cdb::bytes_of;
 use std::alloc::Global;
@@ -63,16 +63,6 @@ fn try_lines<W: Write>(alloc: Global, wanted: &HostUnmap, out: &mut W) -> Result
     let list = list_bytes(address, blocks);
     write_asked(alloc, &list_message(unit, task, &list), out)?;
     Ok(out.flush()?)
-}
-
-// Writes the line of a message, and the one that asks for the reply.
-fn write_asked<W: Write>(alloc: Global, message: &Message, out: &mut W) -> Result<(), LineFault>
-    requires { IsMessage message.now }
-    ensures { OnOk result
-        (Appends (W.contents out.old) (W.contents out.new) (asked_lines (spelling message.now))) }
-{
-    write_line(alloc, message, out)?;
-    Ok(out.write_all(b"reply\n")?)
 }
 
 // The COMMAND.

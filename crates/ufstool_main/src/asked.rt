@@ -40,9 +40,16 @@ pub enum Call<'a> {
     Unmap(HostUnmap),
     /// Write the lines of a script that bring this request to the unit RPMB.
     Rpmb {
-        task: u8,
+        task: RpmbTask,
         call: RpmbCall<'a>,
     },
+}
+
+/// The tag of a request to the unit RPMB, and the region that it is sent to.
+#[derive(Clone, Copy)]
+pub struct RpmbTask {
+    pub tag: u8,
+    pub region: u8,
 }
 
 /// Where the key of the unit RPMB is.
@@ -103,7 +110,10 @@ pub fn read_call<'a>(matches: &ArgMatches<'a>) -> Result<Call<'a>, WordFault> {
     let (name, matches) = host.subcommand().ok_or(MISSING)?;
     if name.starts_with("rpmb-") {
         return Ok(Call::Rpmb {
-            task: byte_in(matches, "task"),
+            task: RpmbTask {
+                tag: byte_in(matches, "task"),
+                region: byte_in(matches, "region"),
+            },
             call: read_rpmb(name, matches)?,
         });
     }

@@ -1,12 +1,16 @@
 //! Runs `ufstool host rpmb-..`.
-use crate::asked::{BlockSource, RpmbCall};
+use crate::asked::{BlockSource, RpmbCall, RpmbTask};
 use crate::files::{file_bytes, key_bytes, unread};
 use std::io;
 use std::process::ExitCode;
 use ufstool::{RpmbRequest, write_rpmb_lines};
 
 /// Writes the lines of the request. The status is told also where a file could not be read.
-pub fn run_rpmb(rt: &HostRuntime, task: u8, call: &RpmbCall<'_>) -> Result<ExitCode, ExitCode> {
+pub fn run_rpmb(
+    rt: &HostRuntime,
+    task: RpmbTask,
+    call: &RpmbCall<'_>,
+) -> Result<ExitCode, ExitCode> {
     match *call {
         RpmbCall::Plain(request) => Ok(write_lines(rt, task, &request)),
         RpmbCall::ProgramKey { key } => {
@@ -27,7 +31,7 @@ pub fn run_rpmb(rt: &HostRuntime, task: u8, call: &RpmbCall<'_>) -> Result<ExitC
 
 fn run_write(
     rt: &HostRuntime,
-    task: u8,
+    task: RpmbTask,
     key: &[u8; 32],
     counter: u32,
     address: u16,
@@ -52,7 +56,7 @@ fn run_write(
 
 fn write_blocks(
     rt: &HostRuntime,
-    task: u8,
+    task: RpmbTask,
     key: &[u8; 32],
     counter: u32,
     address: u16,
@@ -67,8 +71,10 @@ fn write_blocks(
     write_lines(rt, task, &request)
 }
 
-fn write_lines(rt: &HostRuntime, task: u8, request: &RpmbRequest<'_>) -> ExitCode {
+fn write_lines(rt: &HostRuntime, task: RpmbTask, request: &RpmbRequest<'_>) -> ExitCode {
+    let RpmbTask { tag, region } = task;
     let mut out = io::writer(rt);
-    let status = write_rpmb_lines(rt.alloc(), task, request, &mut out, &mut rt.stderr());
+    let mut faults = rt.stderr();
+    let status = write_rpmb_lines(rt.alloc(), tag, region, request, &mut out, &mut faults);
     ExitCode::from(status)
 }

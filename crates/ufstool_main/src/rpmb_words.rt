@@ -17,7 +17,15 @@ pub fn with_rpmb<'a>(alloc: Global, host: Made<'a>) -> Made<'a> {
 
 // A request to the unit RPMB.
 fn rpmb<'a>(alloc: Global, name: &'a str, about: &'a str) -> Made<'a> {
-    Command::new(alloc, name).about(about).arg(task(alloc))
+    let command = Command::new(alloc, name).about(about);
+    with_arg(command.arg(task(alloc)), region(alloc))
+}
+
+// The region that a request is sent to.
+fn region<'a>(alloc: Global) -> Arg<'a> {
+    option(alloc, "region", "NUMBER", "The RPMB region, 0 to 3")
+        .value_parser(value_parser!(u8).range(0..=3))
+        .default_value("0")
 }
 
 fn rpmb_write<'a>(alloc: Global) -> Made<'a> {
@@ -43,7 +51,7 @@ fn rpmb_read<'a>(alloc: Global) -> Made<'a> {
 
 /// The command with the key of the unit RPMB, in digits or in a file.
 pub fn with_key<'a>(alloc: Global, command: Made<'a>, is_required: bool) -> Made<'a> {
-    let help = "The key of the unit RPMB, as 64 hexadecimal digits";
+    let help = "The key of an RPMB region, as 64 hexadecimal digits";
     let digits = option(alloc, "key", "HEX", help).conflicts_with("key-file")?;
     let digits = if is_required {
         digits.required_unless_present("key-file")?

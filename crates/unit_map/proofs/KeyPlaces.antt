@@ -1,6 +1,7 @@
 -- Each key of the device has its own position among all its keys.
-use Rattle.std.proofs.Common.{◌≡◌, ◌≢◌, ◌∙◌, ℕ, ◌<◌, Bool, true, cond, List, Option, None, Some, ap, length, refl, sym}
+use Rattle.std.proofs.Common.{◌≡◌, ◌≢◌, ◌∙◌, ℕ, ◌<◌, ◌≤◌, Bool, true, cond, List, Option, None, Some, ap, length, refl, sym}
 use Rattle.std.specs.Prelude.{option_and_then, slice_get, slice_set}
+use Rattle.std.proofs.lemmas.List.{set_past}
 use Rattle.ufs_spec.specs.Keys.{IsKey}
 use Rattle.ufs_spec.specs.Plain.{shape_of_numbers}
 use Rattle.ufs_spec.specs.declared.configs.Numbers.{Numbers}
@@ -12,7 +13,7 @@ use Rattle.ufs_spec.proofs.Facts.{none-some}
 use Rattle.ufs_spec.proofs.Lists.{set_here, set_other}
 use Rattle.ufs_spec.specs.Cells.{same_place}
 use Rattle.ufs_spec.specs.declared.flash.Place.{Place}
-use Rattle.unit_map.specs.Places.{flat, name_if, name_there, position_of, stored_in}
+use Rattle.unit_map.specs.Places.{flat, name_if, name_there, places_noted, position_of, stored_in}
 use Rattle.unit_map.specs.declared.Stored.{Stored}
 
 pub record HasPosition (n : Numbers) (k : Key) : Type 0 where
@@ -38,6 +39,11 @@ pub stored_here : (n : Numbers) (ps : List (Option Stored)) (s : Stored) (key : 
 stored_here n ps s key at there within =
     ap (option_and_then (λ (p : ℕ). flat (slice_get (slice_set ps at (Some s)) p))) there
     ∙ ap flat (set_here ps at (Some s) within)
+
+-- of a key whose position is not there nothing is noted
+pub not_noted : (n : Numbers) (ps : List (Option Stored)) (s : Stored) (key : Key) (at : ℕ) →
+    position_of n key ≡ Some at → length ps ≤ at → places_noted ps s (position_of n key) ≡ ps
+not_noted n ps s key at there past = ap (places_noted ps s) there ∙ set_past ps at (Some s) past
 
 -- where the content of another key is then
 pub stored_beside : (n : Numbers) (ps : List (Option Stored)) (s : Stored) (key other : Key) (at : ℕ) →

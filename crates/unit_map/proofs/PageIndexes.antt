@@ -1,5 +1,5 @@
 -- Each page of the dies has its own index among all of them, and there are no more keys than an entry of the table tells.
-use Rattle.std.proofs.Common.{◌≡◌, ◌∙◌, ◌&&◌, ℕ, ◌+◌, ◌*◌, ◌<◌, ◌^◌, Bool, true, false, Some, None, sym, arith}
+use Rattle.std.proofs.Common.{◌≡◌, ◌∙◌, ◌&&◌, ℕ, ◌+◌, ◌*◌, ◌<◌, ◌≤◌, ◌^◌, Bool, true, false, Some, None, sym, arith}
 use Rattle.std.proofs.Common.{if◌then◌else◌, refl}
 use Rattle.std.specs.Prelude.{nat_lt}
 use Rattle.std.proofs.Math.Nat.{mul_comm}
@@ -12,7 +12,7 @@ use Rattle.ufs_spec.proofs.Facts.{and_parts, ltb-true, none-some, same_Some}
 use Rattle.ufs_spec.specs.Cells.{IsPlace}
 use Rattle.ufs_spec.specs.Configs.{InRange}
 use Rattle.ufs_spec.specs.Keys.{area_pages}
-use Rattle.ufs_spec.specs.Plain.{shape_of_numbers}
+use Rattle.ufs_spec.specs.Plain.{all_steps, regions, shape_of_numbers}
 use Rattle.ufs_spec.specs.declared.configs.Numbers.{Numbers}
 use Rattle.ufs_spec.specs.declared.configs.UnitSpec.{UnitSpec}
 use Rattle.ufs_spec.specs.declared.flash.Place.{Place}
@@ -56,8 +56,22 @@ one_page n p q i e f =
     let v = same_from_place p.die p.block q.die q.block n.blocks r.0.block s.0.block u.0 in
     place_is p q v.0 v.1 u.1
 
-area_keys : (n : Numbers) → area_pages (shape_of_numbers n) ≡ 32 * n.rpmb
+-- how many keys the RPMB areas have
+area_keys : (n : Numbers) → area_pages (shape_of_numbers n) ≡ 32 * all_steps n
 area_keys n = omega arith
+
+-- regions in their ranges have few steps
+few_steps : (n : Numbers) → InRange n → all_steps n ≤ 32
+few_steps n range =
+    let each = λ (region : ℕ) (there : region < regions).
+    range.rpmb_bound region 0 (rw range.count_of_regions there) in
+    omega (
+      arith,
+      each 0 (omega arith),
+      each 1 (omega arith),
+      each 2 (omega arith),
+      each 3 (omega arith),
+    )
 
 -- there are not many keys
 pub few_keys : (n : Numbers) → InRange n → key_total (shape_of_numbers n) < 2 ^ 32
@@ -67,5 +81,5 @@ few_keys n range =
       unit_blocks_bound n range,
       sum-map (λ (u : UnitSpec). u.blocks) n.units.items,
       area_keys n,
-      range.rpmb_bound,
+      few_steps n range,
     )

@@ -65,10 +65,11 @@ impl Workbench {
         })
     }
 
-    /// One job of the die, done well; false where the die is owed none.
+    /// One job of the die, done well; false where the die is owed none. The job is moved out of the
+    /// answer, which is not copied where there is none.
     pub fn work(&mut self, die: u8) -> bool {
-        match &self.device.take(die) {
-            Some(job) => self.end(die, job),
+        match self.device.take(die) {
+            Some(job) => self.end(die, &job),
             None => false,
         }
     }

@@ -140,7 +140,15 @@ pub fn open(alloc: Global, shape: Shape, samples: Samples) -> Result<Timed> {
         boot: 0,
         protect: 0,
     }];
-    let config = Config::new(shape.dies, shape.blocks, PAGES, &units, 1, shape.slots, 4)?;
+    let config = Config::new(
+        shape.dies,
+        shape.blocks,
+        PAGES,
+        &units,
+        [1, 0, 0, 0],
+        shape.slots,
+        4,
+    )?;
     let dies = new_dies(alloc, shape.dies, shape.blocks, PAGES)?;
     let bench = Workbench::new(alloc, config, dies)?;
     Ok(Timed {

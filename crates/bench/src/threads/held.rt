@@ -36,7 +36,7 @@ fn config() -> Result<Config, ConfigFault> {
         boot: 0,
         protect: 0,
     }];
-    Config::new(4, BLOCKS, PAGES, &units, 1, 64, 4)
+    Config::new(4, BLOCKS, PAGES, &units, [1, 0, 0, 0], 64, 4)
 }
 
 /// A device over four new dies.

@@ -39,7 +39,7 @@ fn config(dies: u8) -> Result<Config, ConfigFault>
         boot: 0,
         protect: 0,
     }];
-    Config::new(dies, BLOCKS, PAGES, &units, 1, 512, 4)
+    Config::new(dies, BLOCKS, PAGES, &units, [1, 0, 0, 0], 512, 4)
 }
 
 /// So many new dies.

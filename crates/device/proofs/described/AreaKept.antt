@@ -24,8 +24,8 @@ use Rattle.ufs_spec.specs.Plain.{greatest_command}
 use Rattle.ufs_spec.specs.Exchanges.{most_tasks}
 
 -- the layer was asked to keep so many pages, from this key on, for the blocks that were asked for
-module _ (after : Core) (t : Translation) (tag pages : ℕ) (key : Key) (asked : AreaBlocks) (kept : Bool)
-    (key_is : key ≡ area_key 0 (asked.address / 16))
+module _ (after : Core) (t : Translation) (tag region pages : ℕ) (key : Key) (asked : AreaBlocks) (kept : Bool)
+    (key_is : key ≡ area_key region (asked.address / 16))
     (named : 1 ≤ asked.count → asked.count ≤ 8 →
     pages ≡ (asked.address + asked.count - 1) / 16 + 1 - asked.address / 16)
     (few : pages ≤ 2) (differ : PinsDiffer t.pins) (found : kept ≡ nat_le (length t.pins + pages) (most_tasks * greatest_command))
@@ -33,14 +33,14 @@ module _ (after : Core) (t : Translation) (tag pages : ℕ) (key : Key) (asked :
     ((i : ℕ) → i < pages → IsKey (shape_of_numbers t.numbers) (key_behind key i)) →
     list_any (keeps_for tag) t.pins ≡ false →
     Describes after (if kept then fold moved t (keeps_area_of t tag key pages) else t))
-    (f : Frame) (at : f.address ≡ asked.address) (many : f.count ≡ asked.count) (may : MayKeepArea t tag f) where
+    (f : Frame) (at : f.address ≡ asked.address) (many : f.count ≡ asked.count) (may : MayKeepArea t tag region f) where
   many_named : pages ≡ pages_named f
   many_named =
       named (subst (λ (n : ℕ). 1 ≤ n) many may.some) (subst (λ (n : ℕ). n ≤ 8) many may.few)
       ∙ (λ i. (sym at i + sym many i - 1) / 16 + 1 - sym at i / 16)
 
-  from_there : key ≡ area_key 0 (f.address / 16)
-  from_there = key_is ∙ ap (λ (n : ℕ). area_key 0 (n / 16)) (sym at)
+  from_there : key ≡ area_key region (f.address / 16)
+  from_there = key_is ∙ ap (λ (n : ℕ). area_key region (n / 16)) (sym at)
 
   all_kept : kept ≡ true
   all_kept =
@@ -52,7 +52,7 @@ module _ (after : Core) (t : Translation) (tag pages : ℕ) (key : Key) (asked :
       subst (λ (k : Key). IsKey (shape_of_numbers t.numbers) (key_behind k i)) (sym from_there)
       (may.keys i (subst (λ (n : ℕ). i < n) many_named h))
 
-  pub pages_kept : Describes after (fold moved t (area_keeps t tag f))
+  pub pages_kept : Describes after (fold moved t (area_keeps t tag region f))
   pages_kept =
       subst (λ (ms : List Move). Describes after (fold moved t ms))
       (λ i. keeps_area_of t tag (from_there i) (many_named i))
@@ -65,8 +65,9 @@ pub record ReadsFor (fs : List Frame) (code : ℕ) (asked : AreaBlocks) : Type 0
   pub address : first.address ≡ asked.address
   pub count : first.count ≡ asked.count
   pub event_is : event.AreaAsked code asked.address asked.count ≡ answer_event fs code
-  pub moves_are : (t : Translation) (tag : ℕ) → area_keeps t tag first ≡ answer_moves t tag fs code
-  pub may : (t : Translation) (tag : ℕ) → MayAnswer t tag fs code → MayKeepArea t tag first
+  pub moves_are : (t : Translation) (tag region : ℕ) →
+      area_keeps t tag region first ≡ answer_moves t tag region fs code
+  pub may : (t : Translation) (tag region : ℕ) → MayAnswer t tag region fs code → MayKeepArea t tag region first
 
 -- the blocks that a frame asks for
 abbrev blocks_of : Frame → AreaBlocks
@@ -90,17 +91,17 @@ reads_for (f ∷ fs) code asked e = by (reads_area f code) refl e
               ap (λ (x : AreaBlocks). event.AreaAsked code x.address x.count) (sym same)
               ∙ ap (λ (b : Bool). if b then event.AreaAsked code f.address f.count else event.RequestAnswered code)
               (sym reads);
-          moves_are = λ t tag. ap (λ (b : Bool). if b then area_keeps t tag f else []) (sym reads);
-          may = λ t tag h. h reads;
+          moves_are = λ t tag region. ap (λ (b : Bool). if b then area_keeps t tag region f else []) (sym reads);
+          may = λ t tag region h. h reads;
         }
 
 -- a request that asks for no blocks
 pub record ReadsNone (fs : List Frame) (code : ℕ) : Type 0 where
   pub event_is : event.RequestAnswered code ≡ answer_event fs code
-  pub moves_are : (t : Translation) (tag : ℕ) → [] ≡ answer_moves t tag fs code
+  pub moves_are : (t : Translation) (tag region : ℕ) → [] ≡ answer_moves t tag region fs code
 
 pub reads_none : (fs : List Frame) (code : ℕ) → area_asked fs code ≡ None → ReadsNone fs code
-reads_none [] code e = record { event_is = refl; moves_are = λ t tag. refl }
+reads_none [] code e = record { event_is = refl; moves_are = λ t tag region. refl }
 reads_none (f ∷ fs) code e = by (reads_area f code) refl e
   where
     by : (b : Bool) → reads_area f code ≡ b →
@@ -110,7 +111,7 @@ reads_none (f ∷ fs) code e = by (reads_area f code) refl e
       event_is =
           ap (λ (b : Bool). if b then event.AreaAsked code f.address f.count else event.RequestAnswered code)
           (sym reads);
-      moves_are = λ t tag. ap (λ (b : Bool). if b then area_keeps t tag f else []) (sym reads);
+      moves_are = λ t tag region. ap (λ (b : Bool). if b then area_keeps t tag region f else []) (sym reads);
     }
 
 -- the layer, where the reader gave back what it had claimed
@@ -120,42 +121,42 @@ IsReleased before after tag =
     IsLayerWith after (moved t (Release (length (claims tag)))) (with_claimed claims tag [])
 
 -- a request that asks for no blocks gives its slots back
-pub answered_at_once : (before after : Core) (tag : ℕ) (fs : List Frame) (code : ℕ) → area_asked fs code ≡ None →
-    IsReleased before after tag → HasAnswered before after tag fs code (event.RequestAnswered code)
-answered_at_once before after tag fs code e released = record {
+pub answered_at_once : (before after : Core) (tag region : ℕ) (fs : List Frame) (code : ℕ) → area_asked fs code ≡ None →
+    IsReleased before after tag → HasAnswered before after tag region fs code (event.RequestAnswered code)
+answered_at_once before after tag region fs code e released = record {
   event_is = none.event_is;
   layer =
       λ t claims h may.
       subst
       (λ (ms : List Move). IsLayerWith after (fold moved (moved t (Release (length (claims tag)))) ms)
-      (with_claimed claims tag [])) (none.moves_are t tag) (released t claims h);
+      (with_claimed claims tag [])) (none.moves_are t tag region) (released t claims h);
 }
   where
     none : ReadsNone fs code
     none = reads_none fs code e
 
 -- one that asks for blocks keeps their pages then
-pub asked_then : (before between after : Core) (tag : ℕ) (fs : List Frame) (code : ℕ) (asked : AreaBlocks)
+pub asked_then : (before between after : Core) (tag region : ℕ) (fs : List Frame) (code : ℕ) (asked : AreaBlocks)
     (told : TaskEvent) → area_asked fs code ≡ Some asked → IsReleased before between tag →
     told ≡ event.AreaAsked code asked.address asked.count →
-    ((t : Translation) (claims : Claims) → IsLayerWith between t claims → HasKeptArea after t claims tag asked) →
-    HasAnswered before after tag fs code told
-asked_then before between after tag fs code asked told e released told_is keeps = record {
+    ((t : Translation) (claims : Claims) → IsLayerWith between t claims → HasKeptArea after t claims tag region asked) →
+    HasAnswered before after tag region fs code told
+asked_then before between after tag region fs code asked told e released told_is keeps = record {
   event_is = told_is ∙ reads.event_is;
   layer =
       λ t claims h may.
       subst
       (λ (ms : List Move). IsLayerWith after (fold moved (moved t (Release (length (claims tag)))) ms)
-      (with_claimed claims tag [])) (reads.moves_are t tag)
+      (with_claimed claims tag [])) (reads.moves_are t tag region)
       (keeps (moved t (Release (length (claims tag)))) (with_claimed claims tag []) (released t claims h) reads.first
-      reads.address reads.count (still t (length (claims tag)) (reads.may t tag may)));
+      reads.address reads.count (still t (length (claims tag)) (reads.may t tag region may)));
 }
   where
     reads : ReadsFor fs code asked
     reads = reads_for fs code asked e
 
-    still : (t : Translation) (n : ℕ) → MayKeepArea t tag reads.first →
-        MayKeepArea (moved t (Release n)) tag reads.first
+    still : (t : Translation) (n : ℕ) → MayKeepArea t tag region reads.first →
+        MayKeepArea (moved t (Release n)) tag region reads.first
     still t n may = record {
       mended = may.mended;
       some = may.some;

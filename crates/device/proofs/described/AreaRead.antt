@@ -9,7 +9,7 @@ use Rattle.ufs_spec.proofs.Facts.{and_parts, false≢true}
 use Rattle.ufs_spec.proofs.RegionPages.{area_there}
 use Rattle.ufs_spec.specs.Exchanges as exchange
 use Rattle.ufs_spec.specs.Exchanges.{Answering, Awaiting, Deed, Gathering, ReadBlock, ReadState, ReadingArea, Registers}
-use Rattle.ufs_spec.specs.Exchanges.{Sending, SendingBytes, is_task_of, is_unfilled, task_of}
+use Rattle.ufs_spec.specs.Exchanges.{RpmbRequest, Sending, SendingBytes, is_task_of, is_unfilled, task_of}
 use Rattle.ufs_spec.specs.FrameRequests.{reads_area, result_now}
 use Rattle.ufs_spec.specs.Frames.{Frame, frame_in, frames_in}
 use Rattle.ufs_spec.specs.Keys.{area_page}
@@ -36,7 +36,7 @@ use Rattle.task_set.specs.declared.frames.PageRead.{PageRead}
 use Rattle.task_set.specs.declared.tasks.Phase.{Phase}
 use Rattle.task_set.specs.declared.tasks.Phase.TheVariants as phase
 use Rattle.device.specs.Describes.{FramesFit, IsAsked, IsDoing, IsFirstFrame, PartsStand, ReadsAsked, ReadsFor}
-use Rattle.device.specs.Describes.{TaskKept}
+use Rattle.device.specs.Describes.{IsFor, TaskKept, asks_of}
 use Rattle.device.specs.Frames.{data_for, is_due_in, is_page_there, is_second_there, joined, part_of_page, part_read}
 use Rattle.device.specs.Frames.{second_part}
 use Rattle.device.proofs.described.AreaParts.{AreAsked, one_part, part, two_parts}
@@ -110,11 +110,11 @@ module _ (v : State) (a : OpenTask) (b : exchange.Task) (pages : List ReadBlock)
     (found : task_of b.tag v.tasks ≡ Some b) (deed : b.deed ≡ ReadingArea pages)
     (unfilled : is_unfilled b.request ≡ true) (stand : PartsStand r a.held (ReadingArea pages))
     (address : r.address ≡ g.address) (count : r.count ≡ g.count)
-    (their : ArePagesOf (plain_now v) 0 g pages)
+    (number : ℕ) (their : ArePagesOf (plain_now v) number g pages)
     (inside : g.kind ≡ read_data → is_success code ≡ true →
-    AsksInside (length (region_of (plain_now v) 0).area) g) where
+    AsksInside (length (region_of (plain_now v) number).area) g) where
   abbrev region : Region
-  region = region_of (plain_now v) 0
+  region = region_of (plain_now v) number
 
   body_is : (i : ℕ) (block : ReadBlock) → slice_get pages i ≡ Some block →
       block.body ≡ area_page (r.address / 16 + i) region.area
@@ -185,7 +185,11 @@ module _ (v : State) (tied : IsTied v) (shows : ShowsReads v) (waits : FramesWai
     (kept : TaskKept (before_accepted v.translation.ledger) a b) (found : task_of b.tag v.tasks ≡ Some b) (code : ℕ)
     (decided : a.frames ≡ frames.Decided code) (x : IsAsked code a.held b.request) where
   abbrev region_now : Region
-  region_now = region_of (plain_now v) 0
+  region_now = region_of (plain_now v) a.region
+
+  -- the request is to the region to which the task brings frames
+  region_is : x.asked.region ≡ a.region
+  region_is = subst (λ (request : Option RpmbRequest). IsFor a.region (asks_of request)) x.is kept.asked_of
 
   abbrev first : Frame
   first = frame_in (take 512 x.bytes)
@@ -205,25 +209,25 @@ module _ (v : State) (tied : IsTied v) (shows : ShowsReads v) (waits : FramesWai
   areas = (shape_of_numbers (numbers_of v)).areas
 
   -- it asks rightly
-  rightly : AsksRightly (slice_index_or areas 0 0) first code
+  rightly : AsksRightly (slice_index_or areas a.region 0) first code
   rightly =
-      subst (FramesAsk (slice_index_or areas 0 0) (first ∷ rest.0)) x.result
-      (subst (λ (fs : List Frame). FramesAsk (slice_index_or areas 0 0) fs x.asked.result) rest.1
-      (subst (λ (n : ℕ). FramesAsk (slice_index_or areas n 0) x.asked.frames x.asked.result) x.region
+      subst (FramesAsk (slice_index_or areas a.region 0) (first ∷ rest.0)) x.result
+      (subst (λ (fs : List Frame). FramesAsk (slice_index_or areas a.region 0) fs x.asked.result) rest.1
+      (subst (λ (n : ℕ). FramesAsk (slice_index_or areas n 0) x.asked.frames x.asked.result) region_is
       (subst (RequestAsks areas) x.is
       (each_found (λ (task : exchange.Task). RequestAsks areas task.request) (is_task_of b.tag) v.tasks b waits.requests
       found))))
 
-  area_long : slice_index_or areas 0 0 ≡ length region_now.area
+  area_long : slice_index_or areas a.region 0 ≡ length region_now.area
   area_long =
-      sym (ap (λ (s : Shape). slice_index_or s.areas 0 0) (shape_tied tied)) ∙ area_there (plain_now v) 0
+      sym (ap (λ (s : Shape). slice_index_or s.areas a.region 0) (shape_tied tied)) ∙ area_there (plain_now v) a.region
 
   inside : first.kind ≡ read_data → is_success code ≡ true → AsksInside (length region_now.area) first
   inside kind good = subst (λ (n : ℕ). AsksInside n first) area_long (rightly.inside kind good)
 
-  their : (pages : List ReadBlock) → b.deed ≡ ReadingArea pages → ArePagesOf (plain_now v) 0 first pages
+  their : (pages : List ReadBlock) → b.deed ≡ ReadingArea pages → ArePagesOf (plain_now v) a.region first pages
   their pages deed =
-      subst (λ (n : ℕ). ArePagesOf (plain_now v) n first pages) x.region
+      subst (λ (n : ℕ). ArePagesOf (plain_now v) n first pages) region_is
       (pages_found v b.tag b pages x.asked first rest.0 reads found deed x.is rest.1)
 
   by_phase : (p : Phase) (deed : Deed) → b.deed ≡ deed →
@@ -233,7 +237,7 @@ module _ (v : State) (tied : IsTied v) (shows : ShowsReads v) (waits : FramesWai
   by_phase (phase.ReadArea r) (ReadingArea pages) deed doing fits asked due =
       let there = and_parts _ _ due in
       data_read v a b pages r first code shows wanted kept.tag found deed unfilled fits.1 asked.1 asked.2
-      (their pages deed) inside pages refl r.first r.second doing.reads there.0 there.1
+      a.region (their pages deed) inside pages refl r.first r.second doing.reads there.0 there.1
   by_phase (phase.AwaitFrontier n size) (Awaiting commands) deed doing fits asked due =
       nothing_asked region_now first code asked
   by_phase (phase.Answer told n) (Answering status carried) deed doing fits asked due =

@@ -1,6 +1,7 @@
 -- The task that fills its register: what it keeps then is kept of the specified task, whose request has filled its
 -- register and which keeps no page any more; all other tasks stay.
-use Rattle.std.proofs.Common.{◌≡◌, ◌∙◌, ℕ, ◌≤◌, ◌==◌, ◌&&◌, Bool, true, false, cond, List, [], ◌∷◌, map}
+use Rattle.std.proofs.Common.{length}
+use Rattle.std.proofs.Common.{◌≡◌, ◌∙◌, ℕ, ◌<◌, ◌≤◌, ◌==◌, ◌&&◌, Bool, true, false, cond, List, [], ◌∷◌, map}
 use Rattle.std.proofs.Common.{Option, Some, None, refl, sym, ap, subst}
 use Rattle.std.specs.Prelude.{filter, not, option_map, slice_get, take}
 use Rattle.std.proofs.lemmas.List.{length-map}
@@ -13,7 +14,7 @@ use Rattle.ufs_spec.specs.FrameRequests.{filled_by, filled_registers}
 use Rattle.ufs_spec.specs.Ledger.{before_accepted}
 use Rattle.ufs_spec.specs.Machine.{fills, is_good_due, is_to_fill, task_filled}
 use Rattle.ufs_spec.specs.Moves.{LetGoAll, moved}
-use Rattle.ufs_spec.specs.Plain.{region_of}
+use Rattle.ufs_spec.specs.Plain.{region_of, regions}
 use Rattle.ufs_spec.specs.Refusals.{State, plain_now}
 use Rattle.ufs_spec.specs.Rpmb.{Region}
 use Rattle.ufs_spec.specs.RpmbResponses.{filled_with, with_reads}
@@ -28,7 +29,7 @@ use Rattle.power_loss.proofs.ordered_lists.ElementsAndOrders.{found_in, has_at}
 use Rattle.ftl_core.specs.Public as layer_kept
 use Rattle.ftl_core.specs.Public.{AreClaimed}
 use Rattle.rpmb.specs.Answers.{IsRead}
-use Rattle.rpmb.specs.Kept.{IsKept, Machine}
+use Rattle.rpmb.specs.Kept.{IsKept, Machine, machine_at, with_machine}
 use Rattle.rpmb.specs.Requests.{frames_of}
 use Rattle.rpmb.specs.declared.regions.RegionState.{RegionState}
 use Rattle.task_set.specs.Frames.{frames_after}
@@ -42,11 +43,12 @@ use Rattle.task_set.specs.declared.tasks.Phase.TheVariants as phase
 use Rattle.task_set.specs.declared.tasks.TaskEvent.TheVariants as event
 use Rattle.device.specs.Describes.{AreFramesKept, FramesFit, IsAsked, IsDoing, Keeps, OneSends, ReadsAsked}
 use Rattle.device.specs.Describes.{TaskKept, TasksKept, claimed_by, claimed_in, claims_of, wanted_by, wanted_in}
-use Rattle.device.specs.Describes.{wanted_kept}
+use Rattle.device.specs.Describes.{IsFor, asks_of, wanted_kept}
 use Rattle.device.specs.Frames.{HasFilledAt, HasResponded, data_for, first_held, frame_held}
 use Rattle.device.specs.Frames.{is_due_in}
 use Rattle.device.specs.Kept.{DeviceCore}
 use Rattle.device.proofs.described.AreaRead.{filled_by_first, read_right, reads_of, result_is}
+use Rattle.device.proofs.described.Machines.{as_many, regions_same, registers_put}
 use Rattle.device.proofs.described.OneChanges.{changed_at, only_one}
 use Rattle.device.proofs.described.OneSender.{one_set}
 use Rattle.device.proofs.described.Settled.{fills_by}
@@ -62,6 +64,11 @@ use Rattle.ufs_spec.specs.declared.configs.Numbers.{Numbers}
 filled_done : (o : Option RpmbRequest) → is_unfilled (filled o) ≡ false
 filled_done None = refl
 filled_done (Some request) = refl
+
+-- it is still of its region
+asked_still : (region : ℕ) (o : Option RpmbRequest) → IsFor region (asks_of o) → IsFor region (asks_of (filled o))
+asked_still region None h = h
+asked_still region (Some request) h = h
 
 -- it keeps its tag, and what it has claimed
 filled_tag : (v : State) → KeepsTag (task_filled v)
@@ -182,7 +189,13 @@ module _ (e : DeviceCore) (v : State) (k : Keeps e v) (n : ℕ) (a : OpenTask) (
       tag = o.kept.tag;
       expected = o.kept.expected;
       sends = o.kept.sends ∙ (ap brings_frames decided ∙ sym (ap brings_frames (ap task_frames decided)));
-      sends_here = o.kept.sends_here ∙ (ap brings_frames decided ∙ sym (ap brings_frames (ap task_frames decided)));
+      in_regions = o.kept.in_regions;
+      sends_to =
+          λ other. (o.kept.sends_to other
+          ∙ ap (λ (c : Bool). c && (a.region == other))
+          (ap brings_frames decided ∙ sym (ap brings_frames (ap task_frames decided))));
+      gathers = o.kept.gathers;
+      asked_of = asked_still a.region b.request o.kept.asked_of;
       request = subst (λ (f : Frames). AreFramesKept f a.held (filled b.request)) (sym (ap task_frames decided))
           (filled_done b.request);
       asks = subst (λ (f : Frames). ReadsAsked (phase_after a.phase event.RegisterFilled) f a.held)
@@ -219,25 +232,37 @@ module _ (e : DeviceCore) (v : State) (k : Keeps e v) (n : ℕ) (a : OpenTask) (
   -- Its register
 
   abbrev region_now : Region
-  region_now = region_of (plain_now v) 0
+  region_now = region_of (plain_now v) a.region
 
-  module _ (knows : Knows v) (code : ℕ) (decided : a.frames ≡ frames.Decided code) (machine : Machine)
-      (responded : HasResponded e.rpmb machine a code (data_for v.translation a a.phase)) where
+  module _ (knows : Knows v) (code : ℕ) (decided : a.frames ≡ frames.Decided code) (machines : List Machine)
+      (responded : HasResponded e.rpmb machines a code (data_for v.translation a a.phase)) where
     abbrev x : IsAsked code a.held b.request
     x = its_asked code decided
 
     abbrev result : ℕ
     result = with_reads (reads_of b.deed) code
 
+    abbrev machine : Machine
+    machine = machine_at e.rpmb a.region
+
+    there : a.region < regions
+    there = o.kept.in_regions (o.kept.sends ∙ ap brings_frames decided)
+
+    region_is : x.asked.region ≡ a.region
+    region_is = subst (λ (request : Option RpmbRequest). IsFor a.region (asks_of request)) x.is o.kept.asked_of
+
     -- the machine that has responded
-    machine_is : machine ≡ record e.rpmb {
-      registers = filled_with region_now (frames_of (take 512 x.bytes)) result e.rpmb.registers;
+    abbrev filled_machine : Machine
+    filled_machine = record machine {
+      registers = filled_with region_now (frames_of (take 512 x.bytes)) result machine.registers;
     }
-    machine_is =
-        subst (λ (xs : List ℕ). machine ≡ record e.rpmb {
-          registers = filled_with region_now (frames_of xs) result e.rpmb.registers;
-        }) frame
-        (responded region_now (reads_of b.deed) k.region
+
+    machines_are : machines ≡ with_machine e.rpmb a.region filled_machine
+    machines_are =
+        subst (λ (xs : List ℕ). machines ≡ with_machine e.rpmb a.region (record machine {
+          registers = filled_with region_now (frames_of xs) result machine.registers;
+        })) frame
+        (responded region_now (reads_of b.deed) there (k.region a.region)
         (subst (λ (xs : List ℕ).
         IsRead region_now (frames_of xs) code (reads_of b.deed) (data_for v.translation a a.phase)) (sym frame)
         (read_right v knows.tied knows.shows knows.waits knows.reads k.wanted a b o.kept one.found code decided x
@@ -246,20 +271,33 @@ module _ (e : DeviceCore) (v : State) (k : Keeps e v) (n : ℕ) (a : OpenTask) (
         frame : frame_held a ≡ take 512 x.bytes
         frame = ap first_held x.is_held
 
-    -- the registers of region 0
-    its_registers : filled_registers v b v.registers 0 ≡ machine.registers
-    its_registers =
-        ap (λ (r : Option RpmbRequest). filled_by (plain_now v) b.deed r v.registers 0) x.is
-        ∙ ((λ i. at_region v.registers (x.region i)
-        (filled_with (region_of (plain_now v) (x.region i)) x.asked.frames (result_is b.deed x.asked.result i)
-        (v.registers (x.region i))) 0)
-        ∙ ((λ i. filled_with region_now x.asked.frames (with_reads (reads_of b.deed) (x.result i)) (k.registers i))
-        ∙ (filled_by_first region_now x.bytes result x.asked.frames e.rpmb.registers x.long x.first
-        ∙ sym (ap (λ (m : Machine). m.registers) machine_is))))
+    -- what its register is filled with
+    filled_is : filled_with region_now x.asked.frames (with_reads (reads_of b.deed) x.asked.result) (v.registers a.region)
+        ≡ filled_machine.registers
+    filled_is =
+        (λ i. filled_with region_now x.asked.frames (with_reads (reads_of b.deed) (x.result i)) (k.registers a.region i))
+        ∙ filled_by_first region_now x.bytes result x.asked.frames machine.registers x.long x.first
 
-    its_region : IsKept machine.region region_now
-    its_region =
-        subst (λ (r : RegionState). IsKept r region_now) (sym (ap (λ (m : Machine). m.region) machine_is)) k.region
+    -- the registers of each region
+    its_registers : (number : ℕ) → filled_registers v b v.registers number ≡ (machine_at machines number).registers
+    its_registers number =
+        ap (λ (r : Option RpmbRequest). filled_by (plain_now v) b.deed r v.registers number) x.is
+        ∙ ((λ i. at_region v.registers (region_is i)
+        (filled_with (region_of (plain_now v) (region_is i)) x.asked.frames (result_is b.deed x.asked.result i)
+        (v.registers (region_is i))) number)
+        ∙ (registers_put v.registers e.rpmb a.region
+        (filled_with region_now x.asked.frames (with_reads (reads_of b.deed) x.asked.result) (v.registers a.region))
+        filled_machine (subst (λ (m : ℕ). a.region < m) (sym k.each) there) k.registers filled_is number
+        ∙ sym (ap (λ (ms : List Machine). (machine_at ms number).registers) machines_are)))
+
+    its_regions : (number : ℕ) → IsKept (machine_at machines number).region (region_of (plain_now v) number)
+    its_regions number =
+        subst (λ (r : RegionState). IsKept r (region_of (plain_now v) number))
+        (sym (ap (λ (ms : List Machine). (machine_at ms number).region) machines_are
+        ∙ regions_same e.rpmb a.region number filled_machine refl)) (k.region number)
+
+    its_count : length machines ≡ regions
+    its_count = ap length machines_are ∙ as_many e.rpmb a.region filled_machine ∙ k.each
 
   -- What is kept for each tag
 
@@ -307,7 +345,8 @@ module _ (e : DeviceCore) (v : State) (k : Keeps e v) (n : ℕ) (a : OpenTask) (
       (record {
         boot = k.boot;
         permanent = k.permanent;
-        region = its_region knows h.code decided h.rpmb responded;
+        each = its_count knows h.code decided h.rpmb responded;
+        region = its_regions knows h.code decided h.rpmb responded;
         registers = its_registers knows h.code decided h.rpmb responded;
         layer_kept =
             subst (λ (m : ℕ). layer_kept.Describes h.layer (moved v.translation (LetGoAll m)))

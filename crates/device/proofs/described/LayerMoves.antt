@@ -36,6 +36,7 @@ pub layer_moves : (d : DeviceCore) (after : Core) (s : State) (array : Array) (u
 layer_moves d after s array u k layer claims leaves = record {
   boot = k.boot;
   permanent = k.permanent;
+  each = k.each;
   region = k.region;
   registers = k.registers;
   layer_kept = layer;
@@ -171,6 +172,7 @@ pub unmended_moves : (d : DeviceCore) (after : Core) (s : State) (u : Translatio
 unmended_moves d after s u k tied layer claims repairs = record {
   boot = k.boot;
   permanent = k.permanent;
+  each = k.each;
   region = k.region;
   registers = k.registers;
   layer_kept = layer;

@@ -25,7 +25,7 @@ use Rattle.task_set.specs.Shorts as ours
 use Rattle.task_set.specs.Kept.{OpenTask}
 use Rattle.device.specs.Calls.{lock_told}
 use Rattle.device.specs.Describes.{Describes, FramesFit, HaveAnswered, IsDoing, IsShortTold, IsTold, IsToldIn, Keeps}
-use Rattle.device.specs.Describes.{PartsStand, ReadsAsked, ReadsFor, TaskKept, claimed_in, read_in, wanted_in}
+use Rattle.device.specs.Describes.{IsFor, PartsStand, gathers_for, ReadsAsked, ReadsFor, TaskKept, claimed_in, read_in, wanted_in}
 use Rattle.task_set.specs.declared.frames.Frames.{Frames}
 use Rattle.task_set.specs.declared.frames.Frames.TheVariants as frames
 use Rattle.device.proofs.described.OneSender.{each_sends}
@@ -269,7 +269,11 @@ task_kept s n accepted claimed mended frontier a b same low fits h = record {
   tag = h.tag;
   expected = h.expected;
   sends = h.sends;
-  sends_here = h.sends_here;
+  in_regions = h.in_regions;
+  sends_to = h.sends_to;
+  gathers =
+      subst (IsFor a.region) (sym (same_told gathers_for (λ commands n status. refl) s b b.deed)) h.gathers;
+  asked_of = h.asked_of;
   request = h.request;
   asks = asks_stay frontier a.phase a.frames a.held h.asks;
   fits = frames_fit s b frontier a.phase a.frames a.held b.deed h.fits;
@@ -301,6 +305,7 @@ keeps_locked : (e : DeviceCore) (s : State) → IsTied (with_lock s) → Keeps e
 keeps_locked e s tied k = record {
   boot = k.boot;
   permanent = k.permanent;
+  each = k.each;
   region = k.region;
   registers = k.registers;
   layer_kept = k.layer_kept;

@@ -28,7 +28,7 @@ use Rattle.recovery.specs.Found.{IsFound, newest_found}
 use Rattle.recovery.specs.declared.found.Found.{Found}
 use Rattle.ftl_core.specs.Public.{AreClaimed, Core, Describes as IsLayer}
 use Rattle.device.specs.Describes.{Describes}
-use Rattle.device.specs.Kept.{DeviceCore, idle_device}
+use Rattle.device.specs.Kept.{DeviceCore, idle_device, regions_kept}
 use Rattle.device.specs.Opened.{OpensOver, TellsSettings}
 use Rattle.device.proofs.die_calls.CallsRight.{opens_right}
 
@@ -99,7 +99,7 @@ module _ (n : Numbers) (array : Array) (bad : Spot → Bool) (s : State) (f : Fo
       opens opened.cells bad s.translation (omega arith) (cells_right array opened.shown)
       (cells_within opened.cells inside opened.shown) sound_here found_here opened.translation
 
-  pub device_opens : Describes (idle_device layer f.settings (512 * n.rpmb)) s
+  pub device_opens : Describes (idle_device layer f.settings (regions_kept f.settings n)) s
   device_opens = opens_right n array bad s layer f.settings config inside sound opened layer_is none settings_are
 
 -- Over dies

@@ -1,14 +1,15 @@
 -- The task whose request is answered, and what its answer is made of.
-use Rattle.std.proofs.Common.{◌≡◌, ◌∙◌, ℕ, suc, Bool, true, false, cond, List, [], ◌∷◌, Option, Some, None, refl, sym}
+use Rattle.std.proofs.Common.{◌≡◌, ◌∙◌, ℕ, suc, ◌<◌, Bool, true, false, cond, List, [], ◌∷◌, Option, Some, None, refl, sym}
 use Rattle.std.proofs.Common.{ap, subst}
 use Rattle.std.specs.Prelude.{if◌then◌else◌, option_map, position, slice_get, take}
 use Rattle.ufs_spec.proofs.Facts.{false≢true, none-some, same_Some}
 use Rattle.ufs_spec.specs.Exchanges.{ReadState}
+use Rattle.ufs_spec.specs.Plain.{regions}
 use Rattle.ufs_spec.specs.Rpmb.{Region}
 use Rattle.ufs_spec.specs.RpmbResponses.{filled_with, with_reads}
 use Rattle.ufs_spec.specs.Translation.{Translation}
 use Rattle.rpmb.specs.Answers.{IsRead}
-use Rattle.rpmb.specs.Kept.{IsKept, Machine}
+use Rattle.rpmb.specs.Kept.{IsKept, Machine, machine_at, with_machine}
 use Rattle.rpmb.specs.Requests.{frames_of}
 use Rattle.task_set.specs.Kept.{OpenTask}
 use Rattle.task_set.specs.Lists.{held_at, held_of}
@@ -19,21 +20,29 @@ use Rattle.device.specs.Frames.{HasResponded, due_at, first_held, is_due_in, is_
 use Rattle.device.specs.Kept.{DeviceCore}
 use Rattle.device.proofs.open_tasks.OpenTasks.{position_step}
 
--- the machine responds to what a task at a position keeps
-pub responds : (tasks : List OpenTask) (index code : ℕ) (held : List ℕ) (task : OpenTask) (read : Option (List ℕ))
-    (old machine : Machine) → Some held ≡ held_at tasks index → slice_get tasks index ≡ Some task →
-    ((region : Region) (pages : List ReadState) → IsKept old.region region →
+-- the machines respond to what a task at a position keeps
+pub responds : (tasks : List OpenTask) (index code number : ℕ) (held : List ℕ) (task : OpenTask)
+    (read : Option (List ℕ)) (old machines : List Machine) → Some held ≡ held_at tasks index →
+    slice_get tasks index ≡ Some task → task.region ≡ number →
+    ((region : Region) (pages : List ReadState) → number < regions → IsKept (machine_at old number).region region →
     IsRead region (frames_of (take 512 held)) code pages read →
-    machine ≡ record old {
-      registers = filled_with region (frames_of (take 512 held)) (with_reads pages code) old.registers;
-    }) → HasResponded old machine task code read
-responds tasks index code held task read old machine keeps at told =
+    machines ≡ with_machine old number (record (machine_at old number) {
+      registers =
+          filled_with region (frames_of (take 512 held)) (with_reads pages code) (machine_at old number).registers;
+    })) → HasResponded old machines task code read
+responds tasks index code number held task read old machines keeps at its told =
     subst
-    (λ (xs : List ℕ). (region : Region) (pages : List ReadState) → IsKept old.region region →
-    IsRead region (frames_of xs) code pages read →
-    machine ≡ record old {
-      registers = filled_with region (frames_of xs) (with_reads pages code) old.registers;
-    }) (ap first_held (keeps ∙ ap held_of at)) told
+    (λ (xs : List ℕ). (region : Region) (pages : List ReadState) → task.region < regions →
+    IsKept (machine_at old task.region).region region → IsRead region (frames_of xs) code pages read →
+    machines ≡ with_machine old task.region (record (machine_at old task.region) {
+      registers = filled_with region (frames_of xs) (with_reads pages code) (machine_at old task.region).registers;
+    })) (ap first_held (keeps ∙ ap held_of at))
+    (subst
+    (λ (n : ℕ). (region : Region) (pages : List ReadState) → n < regions → IsKept (machine_at old n).region region →
+    IsRead region (frames_of (take 512 held)) code pages read →
+    machines ≡ with_machine old n (record (machine_at old n) {
+      registers = filled_with region (frames_of (take 512 held)) (with_reads pages code) (machine_at old n).registers;
+    })) (sym its) told)
 
 -- what stands where the first that passes was found
 pub found_there : {X : Type 0} (p : X → Bool) (xs : List X) (k : ℕ) → position p xs ≡ Some k →

@@ -1,5 +1,5 @@
 -- The calls of the dies and of the device itself are answered as the definitions say.
-use Rattle.std.proofs.Common.{◌≡◌, ◌∙◌, ℕ, ◌==◌, ◌||◌, Bool, true, false, List, [], Option, Some, None, length}
+use Rattle.std.proofs.Common.{◌≡◌, ◌∙◌, ℕ, zero, suc, ◌==◌, ◌||◌, Bool, true, false, List, [], Option, Some, None, length}
 use Rattle.std.proofs.Common.{refl, sym, ap, subst, arith, get_or, ◌*◌, All, inl, inr}
 use Rattle.std.specs.Prelude.{if◌then◌else◌, ◌-◌, ◌≤◌, count_by, nat_lt}
 use Rattle.ufs_spec.specs.Cells.{Array, Cell, Cells, IsCell}
@@ -9,9 +9,12 @@ use Rattle.ufs_spec.specs.Disk.{CellCrash, Erasing, Flight, Programming, Reading
 use Rattle.ufs_spec.specs.Exchanges as exchange
 use Rattle.ufs_spec.specs.Lives.{IsOpened}
 use Rattle.ufs_spec.specs.Machine.{Take, OfTake, MayLeave, Turn, OfTurn, behind, durable, is_to_fill}
-use Rattle.ufs_spec.specs.Plain.{Plain, Shape, region_of, shape_of, shape_of_numbers}
+use Rattle.std.proofs.Math.ListN as lists
+use Rattle.ufs_spec.specs.Keys.{said_by, said_of}
+use Rattle.ufs_spec.specs.Plain.{Plain, Shape, empty_region, region_of, regions, shape_of, shape_of_numbers, steps_of}
+use Rattle.ufs_spec.specs.declared.flash.KeyAndCounter.{KeyAndCounter}
 use Rattle.ufs_spec.proofs.RegionPages.{area_there}
-use Rattle.rpmb.specs.Kept.{IsKept}
+use Rattle.rpmb.specs.Kept.{IsKept, idle_machines, machine_at, no_state}
 use Rattle.ufs_spec.specs.Moves.{Ending, GiveJob, IsEndingOf, MayEnd, MayLeaveCells, ReadRight, ReadWrong, TakeStep}
 use Rattle.ufs_spec.specs.Moves.{WentWell, WentWrong, moved}
 use Rattle.ufs_spec.specs.Plain.{after as after_all}
@@ -33,7 +36,7 @@ use Rattle.ftl_core.specs.Public as layer_kept
 use Rattle.ftl_core.specs.Public.{AreClaimed, Core}
 use Rattle.device.specs.Describes.{Describes, HaveAnswered, IsAnswered, IsGiven, IsShortTold, IsTold, Keeps, ShortsKept}
 use Rattle.device.specs.Describes.{TasksKept, claims_of, wanted_by, wanted_kept}
-use Rattle.device.specs.Kept.{DeviceCore, idle_device, idle_machine}
+use Rattle.device.specs.Kept.{DeviceCore, idle_device, region_kept, regions_kept}
 use Rattle.device.proofs.die_calls.EndsTold.{meant_fits}
 use Rattle.device.proofs.dies_of_world.DieParts.{begun_bad}
 use Rattle.device.proofs.dies_of_world.DiesFit.{named_next}
@@ -184,23 +187,50 @@ turns_right d s due after h is layer claims =
 
 -- A device that is opened
 
--- the region of a plain state of the configuration is kept as the settings of the state tell
-region_opened : (n : Numbers) (p : Plain) (settings : Settings) → settings ≡ settings_now p →
-    shape_of p ≡ shape_of_numbers n → IsKept (idle_machine settings (512 * n.rpmb)).region (region_of p 0)
-region_opened n p settings same shape = record {
-  key = ap (λ (x : Settings). x.key) same;
-  counter = ap (λ (x : Settings). x.counter) same;
-  area = (
-      let its : length (region_of p 0).area ≡ 131072 * n.rpmb =
-      sym (area_there p 0) ∙ ap (λ (x : Shape). get_or x.areas 0 0) shape in
-      omega arith
-      );
-}
+-- the regions of a plain state of the configuration are kept as the settings of the state tell
+module _ (n : Numbers) (p : Plain) (settings : Settings) (same : settings ≡ settings_now p)
+    (many : length p.regions ≡ regions) (shape : shape_of p ≡ shape_of_numbers n) where
+  -- one that is numbered
+  numbered : (k : ℕ) → get_or (shape_of_numbers n).areas k 0 ≡ 131072 * steps_of n k →
+      IsKept (region_kept settings n k) (region_of p k)
+  numbered k area_is = record {
+    key = ap (λ (x : KeyAndCounter). x.key) said;
+    counter = ap (λ (x : KeyAndCounter). x.counter) said;
+    area = (
+        let its : length (region_of p k).area ≡ 131072 * steps_of n k =
+        sym (area_there p k) ∙ (ap (λ (x : Shape). get_or x.areas k 0) shape ∙ area_is) in
+        omega arith
+        );
+  }
+    where
+      said : said_of settings.regions k ≡ said_by (region_of p k)
+      said =
+          ap (λ (x : Settings). said_of x.regions k) same ∙ lists.get_or-map said_by p.regions k empty_region
+
+  region_opened : (k : ℕ) →
+      IsKept (machine_at (idle_machines (regions_kept settings n)) k).region (region_of p k)
+  region_opened zero = numbered 0 refl
+  region_opened (suc zero) = numbered 1 refl
+  region_opened (suc (suc zero)) = numbered 2 refl
+  region_opened (suc (suc (suc zero))) = numbered 3 refl
+  region_opened (suc (suc (suc (suc k)))) =
+      subst (IsKept no_state)
+      (sym (lists.get_or-eq_default p.regions empty_region {n = suc (suc (suc (suc k)))} (omega (arith, many))))
+      (record { key = refl; counter = refl; area = refl })
+
+-- and their registers are empty
+none_said : (n : Numbers) (settings : Settings) (k : ℕ) →
+    (machine_at (idle_machines (regions_kept settings n)) k).registers ≡ exchange.empty_registers
+none_said n settings zero = refl
+none_said n settings (suc zero) = refl
+none_said n settings (suc (suc zero)) = refl
+none_said n settings (suc (suc (suc zero))) = refl
+none_said n settings (suc (suc (suc (suc k)))) = refl
 
 pub opens_right : (n : Numbers) (array : Array) (bad : Spot → Bool) (s : State) (layer : Core) (settings : Settings) →
     IsConfig n → IsArrayOf n array → Sound array → IsOpened n array bad s → layer_kept.Describes layer s.translation →
     AreClaimed layer (λ tag. []) → settings ≡ settings_now s.base →
-    Describes (idle_device layer settings (512 * n.rpmb)) s
+    Describes (idle_device layer settings (regions_kept settings n)) s
 opens_right n array bad s layer settings config inside sound opened kept none same =
     let t = s.translation in
     record {
@@ -213,11 +243,15 @@ opens_right n array bad s layer settings config inside sound opened kept none sa
             ∙ sym (ap (λ (commands : List Command). (after_all s.base commands).boot) opened.none_accepted);
         permanent = ap (λ (x : Settings). x.is_permanent) same
             ∙ sym (ap (λ (commands : List Command). (after_all s.base commands).permanent) opened.none_accepted);
+        each = refl;
         region =
-            subst (λ (commands : List Command). IsKept (idle_machine settings (512 * n.rpmb)).region
-            (region_of (after_all s.base commands) 0)) (sym opened.none_accepted)
-            (region_opened n s.base settings same opened.stands.2.shape);
-        registers = ap (λ (f : ℕ → exchange.Registers). f 0) opened.no_registers;
+            λ number.
+            subst (λ (commands : List Command). IsKept (machine_at (idle_machines (regions_kept settings n)) number).region
+            (region_of (after_all s.base commands) number)) (sym opened.none_accepted)
+            (region_opened n s.base settings same opened.stands.2.plain.regions_count opened.stands.2.shape number);
+        registers =
+            λ number.
+            (ap (λ (f : ℕ → exchange.Registers). f number) opened.no_registers ∙ sym (none_said n settings number));
         layer_kept = kept;
         few = subst (λ us. length us ≤ most_tasks) (sym opened.no_tasks) (omega arith);
         tasks = subst (TasksKept (before_accepted t.ledger) []) (sym opened.no_tasks) tt;

@@ -181,6 +181,7 @@ module _ (d : DeviceCore) (s : State) (die tag index : ℕ) (place : Place) (aft
   keeps_then state ending ts ends are numbers same_before layer tasks once = record {
     boot = h.kept.boot;
     permanent = h.kept.permanent;
+    each = h.kept.each;
     region = h.kept.region;
     registers = h.kept.registers;
     layer_kept = layer;

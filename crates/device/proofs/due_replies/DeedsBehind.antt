@@ -5,7 +5,7 @@ use Rattle.std.specs.Prelude.{if◌then◌else◌, max, nat_le, nat_lt, slice_ge
 use Rattle.ufs_spec.proofs.Facts.{false≢true, leb-true, ltb-false, ltb-true, none-some}
 use Rattle.ufs_spec.proofs.Lists.{get_there}
 use Rattle.ufs_spec.specs.Exchanges as exchange
-use Rattle.ufs_spec.specs.Exchanges.{Answering, Awaiting, Deed, Gathering, Good, NotRead, Purpose, ReadBlock, ReadState}
+use Rattle.ufs_spec.specs.Exchanges.{Answering, Awaiting, Deed, Gathering, Good, NotRead, Purpose, ReadBlock, ReadState, ForFrames, ForUnmap, ForWrite}
 use Rattle.ufs_spec.specs.Exchanges.{ReadingArea, Sending, SendingBytes, Unread, WasRead, is_unfilled, task_of}
 use Rattle.ufs_spec.specs.Ledger.{before_accepted}
 use Rattle.ufs_spec.specs.Machine.{deed_after, deed_after_block, deed_after_state, moves_after, set_deed}
@@ -26,7 +26,7 @@ use Rattle.task_set.specs.declared.tasks.TaskEvent.TheVariants as event
 use Rattle.task_set.specs.Kept.{OpenTask, task_in}
 use Rattle.task_set.specs.declared.tasks.Transfer.{Transfer}
 use Rattle.device.specs.Describes.{AreFramesKept, Describes, FramesFit, IsDoing, IsGathering, IsGatheringFrames}
-use Rattle.device.specs.Describes.{IsGatheringList, IsSending}
+use Rattle.device.specs.Describes.{IsFor, IsGatheringList, IsSending, gathers_for}
 use Rattle.device.specs.Describes.{claimed_in, claims_of, is_lost, read_in}
 use Rattle.device.specs.Describes.{wanted_by, wanted_in, wanted_kept}
 use Rattle.device.specs.Hears.{with_event}
@@ -71,11 +71,24 @@ sends_more x expected total blocks n is more = record {
 
 -- One task hands out a reply
 
+-- frames are gathered for one region whether they were asked for or not
+same_for : (purpose : Purpose) (gathered : List ℕ) (asked : Bool) →
+    gathers_for (Gathering purpose gathered asked) ≡ gathers_for (Gathering purpose gathered true)
+same_for (ForFrames region) gathered asked = refl
+same_for (ForWrite unit address blocks forced) gathered asked = refl
+same_for (ForUnmap unit) gathered asked = refl
+
 module _ (d : DeviceCore) (s : State) (k : ℕ) (a : OpenTask) (b : exchange.Task) (h : Describes d s)
     (o : IsOpen (before_accepted s.translation.ledger) k d.tasks s.tasks a b) where
   -- what its phase has to do with frames
   its_frames : (p : Phase) → a.phase ≡ p → FramesFit p a.frames a.held b.deed
   its_frames p is = subst (λ q. FramesFit q a.frames a.held b.deed) is o.kept.fits
+
+  -- it gathers for the same region as before
+  still_for : (purpose : Purpose) (gathered : List ℕ) (asked : Bool) → b.deed ≡ Gathering purpose gathered asked →
+      IsFor a.region (gathers_for (Gathering purpose gathered true))
+  still_for purpose gathered asked deed =
+      subst (IsFor a.region) (ap gathers_for deed ∙ same_for purpose gathered asked) o.kept.gathers
 
   asks : (after : Core) (x : Transfer) (purpose : Purpose) (gathered : List ℕ) (asked : Bool) →
       a.phase ≡ phase.AskData x → b.deed ≡ Gathering purpose gathered asked → IsGathering x b.length purpose gathered →
@@ -84,7 +97,7 @@ module _ (d : DeviceCore) (s : State) (k : ℕ) (a : OpenTask) (b : exchange.Tas
       (set_deed s b.tag (Gathering purpose gathered true))
   asks after x purpose gathered asked is deed its layer claims =
       does_now d s k a b h o after event.DataAskedFor (phase.AskData x) (Gathering purpose gathered true) is
-      (its, refl) refl (its_frames (phase.AskData x) is)
+      (its, refl) refl (its_frames (phase.AskData x) is) (still_for purpose gathered asked deed)
       (none_asked d s k a b h o (its_frames (phase.AskData x) is)) refl
       (record {
         wanted = λ index. ap (wanted_in index b.request) deed;
@@ -100,7 +113,7 @@ module _ (d : DeviceCore) (s : State) (k : ℕ) (a : OpenTask) (b : exchange.Tas
       IsBehind (with_layer after (with_event d k event.DataSent))
       (set_deed s b.tag (Answering Good b.length))
   sends_data after x bytes here deed is layer claims =
-      does_now d s k a b h o after event.DataSent (phase.SendData x) (Answering Good b.length) here (refl, is) refl tt
+      does_now d s k a b h o after event.DataSent (phase.SendData x) (Answering Good b.length) here (refl, is) refl tt tt
       (none_asked d s k a b h o (its_frames (phase.SendData x) here)) refl
       (record {
         wanted = λ index. ap (wanted_in index b.request) deed;
@@ -118,7 +131,7 @@ module _ (d : DeviceCore) (s : State) (k : ℕ) (a : OpenTask) (b : exchange.Tas
       (set_deed s b.tag (Gathering purpose gathered true))
   asks_frames after size purpose gathered asked is deed its layer claims =
       does_now d s k a b h o after event.DataAskedFor (phase.AskFrames size) (Gathering purpose gathered true) is
-      (its, refl) refl (its_frames (phase.AskFrames size) is)
+      (its, refl) refl (its_frames (phase.AskFrames size) is) (still_for purpose gathered asked deed)
       (ap is_unfilled
       (subst (λ f. AreFramesKept f a.held b.request) (its_frames (phase.AskFrames size) is) o.kept.request))
       refl
@@ -138,7 +151,7 @@ module _ (d : DeviceCore) (s : State) (k : ℕ) (a : OpenTask) (b : exchange.Tas
       (set_deed s b.tag (Gathering purpose gathered true))
   asks_list after unit size purpose gathered asked is deed its layer claims =
       does_now d s k a b h o after event.DataAskedFor (phase.AskList unit size) (Gathering purpose gathered true) is
-      (its, refl) refl (its_frames (phase.AskList unit size) is)
+      (its, refl) refl (its_frames (phase.AskList unit size) is) (still_for purpose gathered asked deed)
       (none_asked d s k a b h o (its_frames (phase.AskList unit size) is)) refl
       (record {
         wanted = λ index. ap (wanted_in index b.request) deed;
@@ -154,7 +167,7 @@ module _ (d : DeviceCore) (s : State) (k : ℕ) (a : OpenTask) (b : exchange.Tas
       IsBehind (with_layer after (with_event d k event.DataSent)) (set_deed s b.tag (Answering Good b.length))
   sends_frames after size bytes here deed is layer claims =
       does_now d s k a b h o after event.DataSent (phase.SendHeld size) (Answering Good b.length) here (refl, is)
-      refl tt (none_asked d s k a b h o (its_frames (phase.SendHeld size) here).0) refl
+      refl tt tt (none_asked d s k a b h o (its_frames (phase.SendHeld size) here).0) refl
       (record {
         wanted = λ index. ap (wanted_in index b.request) deed;
         read = ap read_in deed;
@@ -271,7 +284,7 @@ module _ (d : DeviceCore) (s : State) (k : ℕ) (a : OpenTask) (b : exchange.Tas
           (sends d s k a b h o after n x (Sending blocks (n + 1)) here
           (does (Sending blocks (n + 1)) true e
           (sends_more x a.expected b.length blocks n is (ltb-true (x.sent + 1) x.blocks e)))
-          (fits_then (Sending blocks (n + 1)) true e (its_frames (phase.SendBlocks x) here)) tt
+          (fits_then (Sending blocks (n + 1)) true e (its_frames (phase.SendBlocks x) here)) tt tt
           (more_kept b.tag n s.translation.pins blocks kept is.behind) (none_read_behind blocks n is.behind)
           (ap (claimed_in (numbers_of s) b.length) deed) claims its)
       by false e =
@@ -281,7 +294,7 @@ module _ (d : DeviceCore) (s : State) (k : ℕ) (a : OpenTask) (b : exchange.Tas
           path false e
           (sends d s k a b h o after n x (Answering Good b.length) here
           (does (Answering Good b.length) false e (refl, is.total_is))
-          (fits_then (Answering Good b.length) false e tt) tt
+          (fits_then (Answering Good b.length) false e tt) tt tt
           (none_kept b.tag n s.translation.pins blocks kept (omega arith)) refl (ap (claimed_in (numbers_of s) b.length) deed) claims
           its)
 

@@ -132,6 +132,7 @@ module _ (d : DeviceCore) (s : State) (k : ℕ) (a : kept.Short) (b : Short) (h 
     keeps = record {
       boot = h.kept.boot;
       permanent = h.kept.permanent;
+      each = h.kept.each;
       region = h.kept.region;
       registers = h.kept.registers;
       layer_kept = layer;

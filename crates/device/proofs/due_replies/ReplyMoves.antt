@@ -1,5 +1,5 @@
 -- What is kept of all tasks once one of them has handed out a reply: it does something else from now on, or it goes.
-use Rattle.std.proofs.Common.{◌≡◌, ◌∙◌, ℕ, ◌+◌, ◌≤◌, ◌==◌, Bool, true, false, All, List, [], Option, Some}
+use Rattle.std.proofs.Common.{◌≡◌, ◌∙◌, ℕ, ◌+◌, ◌≤◌, ◌==◌, Bool, true, false, All, List, [], Option, Some, ◌&&◌}
 use Rattle.std.proofs.Common.{None, length}
 use Rattle.std.proofs.Common.{map, refl, sym, ap, subst, arith}
 use Rattle.std.specs.Prelude.{filter, if◌then◌else◌, not, slice_get}
@@ -25,7 +25,7 @@ use Rattle.task_set.specs.declared.tasks.TaskEvent.{TaskEvent}
 use Rattle.task_set.specs.declared.tasks.TaskEvent.TheVariants as event
 use Rattle.task_set.specs.Kept.{OpenTask}
 use Rattle.device.specs.Describes.{AreFramesKept, Describes, FramesFit, HaveAnswered, IsDoing, IsTold, IsToldIn, Keeps}
-use Rattle.device.specs.Describes.{OneSends, ReadsAsked, TasksKept}
+use Rattle.device.specs.Describes.{IsFor, OneSends, ReadsAsked, TasksKept, gathers_for}
 use Rattle.device.specs.Describes.{claimed_by, claimed_in, claims_of, read_in, wanted_by, wanted_in, wanted_kept}
 use Rattle.task_set.specs.Lists.{task_happened}
 use Rattle.task_set.specs.Frames.{frames_after}
@@ -95,10 +95,10 @@ module _ (d : DeviceCore) (s : State) (k : ℕ) (a : OpenTask) (b : exchange.Tas
   pub happened_to : (e : TaskEvent) (p : Phase) (deed : Deed) → a.phase ≡ p →
       IsDoing (before_accepted s.translation.ledger) a.expected b.length (phase_after p e) deed →
       frames_after a.frames e ≡ a.frames → FramesFit (phase_after p e) a.frames a.held deed →
-      is_unfilled b.request ≡ false → block_after e p a.block ≡ read_in deed →
+      IsFor a.region (gathers_for deed) → is_unfilled b.request ≡ false → block_after e p a.block ≡ read_in deed →
       TasksKept (before_accepted s.translation.ledger) (task_happened d.tasks k e (slice_get d.tasks k))
       (map (with_deed b.tag deed) s.tasks)
-  happened_to e p deed is doing still fits none read =
+  happened_to e p deed is doing still fits gathers none read =
       subst (λ x. TasksKept (before_accepted s.translation.ledger) (task_happened d.tasks k e x)
       (map (with_deed b.tag deed) s.tasks)) (sym o.ours)
       (one_changed (before_accepted s.translation.ledger) k d.tasks s.tasks (task_after e a) b deed h.kept.tasks
@@ -108,7 +108,12 @@ module _ (d : DeviceCore) (s : State) (k : ℕ) (a : OpenTask) (b : exchange.Tas
         tag = o.kept.tag;
         expected = o.kept.expected;
         sends = o.kept.sends ∙ sym (ap brings_frames still);
-        sends_here = o.kept.sends_here ∙ sym (ap brings_frames still);
+        in_regions = o.kept.in_regions;
+        sends_to =
+            λ other. (o.kept.sends_to other
+            ∙ sym (ap (λ (b : Bool). b && (a.region == other)) (ap brings_frames still)));
+        gathers = gathers;
+        asked_of = o.kept.asked_of;
         request = subst (λ (f : Frames). AreFramesKept f a.held b.request) (sym still) o.kept.request;
         asks =
             subst (λ (f : Frames). ReadsAsked (phase_after a.phase e) f a.held) (sym still)
@@ -172,6 +177,7 @@ module _ (d : DeviceCore) (s : State) (k : ℕ) (a : OpenTask) (b : exchange.Tas
       (λ its. record {
         boot = h.kept.boot;
         permanent = h.kept.permanent;
+        each = h.kept.each;
         region = h.kept.region;
         registers = h.kept.registers;
         layer_kept = its;
@@ -238,19 +244,20 @@ module _ (d : DeviceCore) (s : State) (k : ℕ) (a : OpenTask) (b : exchange.Tas
   pub does_now : (after : Core) (e : TaskEvent) (p : Phase) (deed : Deed) → a.phase ≡ p →
       IsDoing (before_accepted s.translation.ledger) a.expected b.length (phase_after p e) deed →
       frames_after a.frames e ≡ a.frames → FramesFit (phase_after p e) a.frames a.held deed →
-      is_unfilled b.request ≡ false →
+      IsFor a.region (gathers_for deed) → is_unfilled b.request ≡ false →
       block_after e p a.block ≡ a.block → SaysAsMuch b.request b.deed deed →
       IsToldIn (durable s) deed → layer_kept.Describes after s.translation → AreClaimed after (claims_of (numbers_of s) s.tasks) →
       IsBehind (with_layer after (with_event d k e)) (set_deed s b.tag deed)
-  does_now after e p deed is doing still fits none stays same told layer claims = record {
+  does_now after e p deed is doing still fits gathers none stays same told layer claims = record {
     keeps = record {
       boot = h.kept.boot;
       permanent = h.kept.permanent;
+      each = h.kept.each;
       region = h.kept.region;
       registers = h.kept.registers;
       layer_kept = layer;
       few = few_set deed;
-      tasks = happened_to e p deed is doing still fits none (stays ∙ (o.kept.read ∙ same.read));
+      tasks = happened_to e p deed is doing still fits gathers none (stays ∙ (o.kept.read ∙ same.read));
       one_sends = happened_sends e still;
       wanted =
           set_wanted s.translation.pins deed
@@ -269,7 +276,7 @@ module _ (d : DeviceCore) (s : State) (k : ℕ) (a : OpenTask) (b : exchange.Tas
   pub sends : (after : Core) (n : ℕ) (x : Sending) (deed : Deed) → a.phase ≡ phase.SendBlocks x →
       IsDoing (before_accepted s.translation.ledger) a.expected b.length (sent_next x (next_sending x)) deed →
       FramesFit (sent_next x (next_sending x)) a.frames a.held deed →
-      IsToldIn (durable s) deed →
+      IsFor a.region (gathers_for deed) → IsToldIn (durable s) deed →
       ((index : ℕ) →
       wanted_kept (with_next b.tag n s.translation.pins) b.tag index ≡ wanted_in index b.request deed) →
       read_in deed ≡ None → claimed_in (numbers_of s) b.length b.deed ≡ claimed_in (numbers_of s) b.length deed →
@@ -277,7 +284,7 @@ module _ (d : DeviceCore) (s : State) (k : ℕ) (a : OpenTask) (b : exchange.Tas
       layer_kept.Describes after (sent_layer s.translation a.tag n) →
       IsBehind (with_layer after (with_event d k event.BlockSent))
       (set_deed (record s { translation = sent_layer s.translation b.tag n }) b.tag deed)
-  sends after n x deed is doing fits told wanted read same claims layer =
+  sends after n x deed is doing fits gathers told wanted read same claims layer =
       subst
       (λ tag. layer_kept.Describes after (sent_layer s.translation tag n) →
       IsBehind (with_layer after (with_event d k event.BlockSent))
@@ -287,11 +294,12 @@ module _ (d : DeviceCore) (s : State) (k : ℕ) (a : OpenTask) (b : exchange.Tas
         keeps = record {
           boot = h.kept.boot;
           permanent = h.kept.permanent;
+          each = h.kept.each;
           region = h.kept.region;
           registers = h.kept.registers;
           layer_kept = its;
           few = few_set deed;
-          tasks = happened_to event.BlockSent (phase.SendBlocks x) deed is doing refl fits none (sym read);
+          tasks = happened_to event.BlockSent (phase.SendBlocks x) deed is doing refl fits gathers none (sym read);
           one_sends = happened_sends event.BlockSent refl;
           wanted =
               set_wanted (with_next b.tag n s.translation.pins) deed wanted

@@ -30,7 +30,7 @@ use Rattle.device.proofs.host_messages.ReadOpened.{block_now, core_opened, read_
 use Rattle.device.proofs.host_messages.SlotsClaimed.{LayerThen, none_gathered, slots_found}
 use Rattle.device.proofs.host_messages.TasksBegin.{HasBegunFor, nothing_begins, opened_for, quiet_task, same_phase}
 use Rattle.device.proofs.open_tasks.FewPins.{pin_has_room}
-use Rattle.device.proofs.open_tasks.TaskOpened.{nobody, none_claimed, opens_gathering, quiet_here}
+use Rattle.device.proofs.open_tasks.TaskOpened.{nobody, none_claimed, opens_gathering, never_in, quiet_here}
 
 module _ (d : DeviceCore) (s : State) (r : Request) (h : Describes d s) (free : task_of r.tag s.tasks ≡ None)
     (few : length s.tasks < most_tasks) (after : Core) where
@@ -142,7 +142,10 @@ module _ (d : DeviceCore) (s : State) (r : Request) (h : Describes d s) (free : 
         tag = refl;
         expected = refl;
         sends = quiet;
-        sends_here = quiet_here 0 (Some command) quiet;
+        in_regions = never_in 0 (Some command) quiet;
+        sends_to = λ other. quiet_here other (Some command) quiet;
+        gathers = tt;
+        asked_of = tt;
         request = refl;
         asks = tt;
         fits = refl;

@@ -68,6 +68,7 @@ module _ (d : DeviceCore) (s : State) (tag : ℕ) (bytes : List ℕ) (x : Transf
       record {
         boot = h.kept.boot;
         permanent = h.kept.permanent;
+        each = h.kept.each;
         region = h.kept.region;
         registers = h.kept.registers;
         one_sends = sends_once d s tag x h r at g event.BlockGathered refl;
@@ -88,7 +89,7 @@ module _ (d : DeviceCore) (s : State) (tag : ℕ) (bytes : List ℕ) (x : Transf
               refl,
             )) refl
             (subst (λ c. FramesFit (asked_next x (cond c (Some next) None)) r.a.frames r.a.held more_deed) (sym less)
-            (none_brought d s tag x h r at g)) refl (ap read_in g.deed_is);
+            (none_brought d s tag x h r at g)) tt refl (ap read_in g.deed_is);
         wanted = still_wanted d s tag x h r at g more_deed (record { wanted = λ index request. refl; read = refl });
         claims =
             its_claims d s tag x h r at g after more_deed (blocks_gathered x.blocks all) refl

@@ -20,7 +20,7 @@ use Rattle.task_set.specs.declared.tasks.Phase.TheVariants as phase
 use Rattle.task_set.specs.declared.tasks.TaskEvent.{TaskEvent}
 use Rattle.task_set.specs.declared.tasks.Transfer.{Transfer}
 use Rattle.device.specs.Describes.{Describes, FramesFit, IsDoing, OneSends, TasksKept, blocks_gathered, claimed_by}
-use Rattle.device.specs.Describes.{claimed_in, claims_of, read_in, wanted_by, wanted_in}
+use Rattle.device.specs.Describes.{IsFor, claimed_in, claims_of, gathers_for, read_in, wanted_by, wanted_in}
 use Rattle.device.specs.Hears.{with_event}
 use Rattle.device.specs.Kept.{DeviceCore}
 use Rattle.device.proofs.due_replies.ReplyMoves.{happened_sends, happened_to, none_asked}
@@ -74,12 +74,12 @@ module _ (d : DeviceCore) (s : State) (tag : ℕ) (x : Transfer) (h : Describes 
   pub does : (e : TaskEvent) (deed : Deed) →
       IsDoing (before_accepted s.translation.ledger) r.a.expected r.b.length (phase_after (phase.AwaitData x) e) deed →
       frames_after r.a.frames e ≡ r.a.frames →
-      FramesFit (phase_after (phase.AwaitData x) e) r.a.frames r.a.held deed →
+      FramesFit (phase_after (phase.AwaitData x) e) r.a.frames r.a.held deed → IsFor r.a.region (gathers_for deed) →
       block_after e (phase.AwaitData x) r.a.block ≡ r.a.block → read_in r.b.deed ≡ read_in deed →
       TasksKept (before_accepted s.translation.ledger) (task_happened d.tasks r.k e (slice_get d.tasks r.k))
       (map (with_deed r.b.tag deed) s.tasks)
-  does e deed doing still fits stays read =
-      happened_to d s r.k r.a r.b h r.opened e (phase.AwaitData x) deed at doing still fits
+  does e deed doing still fits region stays read =
+      happened_to d s r.k r.a r.b h r.opened e (phase.AwaitData x) deed at doing still fits region
       (none_asked d s r.k r.a r.b h r.opened none_brought) (stays ∙ (r.opened.kept.read ∙ read))
 
   pub sends_once : (e : TaskEvent) → frames_after r.a.frames e ≡ r.a.frames →

@@ -19,7 +19,7 @@ use Rattle.ufs_spec.specs.Keys.{Group}
 use Rattle.ufs_spec.specs.Machine.{durable}
 use Rattle.ufs_spec.specs.Refusals.{Request, State, first_line, has_other_response, has_wrong_list}
 use Rattle.ufs_spec.specs.Refusals.{is_crowded, is_past, is_refused_write, is_security_out, is_too_long, lacks_data}
-use Rattle.ufs_spec.specs.Refusals.{lacks_response, lacks_unit, length_in, lines_after, lines_for, locked, lun_of}
+use Rattle.ufs_spec.specs.Refusals.{lacks_region, lacks_response, lacks_unit, length_in, lines_after, lines_for, locked, lun_of}
 use Rattle.ufs_spec.specs.Refusals.{mended, needs_mended, not_taken, numbers_of, refusal, sends_frames, slots_needed}
 use Rattle.ufs_spec.specs.Refusals.{unit_numbers_of}
 use Rattle.ufs_spec.specs.Translation.{free_slots, has_pending}
@@ -34,6 +34,7 @@ use Rattle.device.specs.Plans.{Passes}
 -- Lines
 
 pub record Checked (s : State) (r : Request) (command : Cdb) : Type 0 where
+  pub region_there : lacks_region (numbers_of s) command ≡ false
   pub too_long : is_too_long (numbers_of s) command ≡ false
   pub listed : has_wrong_list command ≡ false
   pub unmended : (needs_mended (operation_of command) && not (mended s)) ≡ false
@@ -47,7 +48,8 @@ checked s r command is none =
     let b = passed_line (not_taken r (lun_of (numbers_of s) r.lun)) invalid_operation _ a.1 in
     let lines : first_line (lines_for s r command) ≡ None =
     sym (ap (λ (c : Option Cdb). first_line (lines_after s r c)) is) ∙ b.1 in
-    let c = passed_line (is_too_long (numbers_of s) command) invalid_field _ lines in
+    let there = passed_line (lacks_region (numbers_of s) command) invalid_field _ lines in
+    let c = passed_line (is_too_long (numbers_of s) command) invalid_field _ there.1 in
     let d = passed_line (has_wrong_list command) list_length_error _ c.1 in
     let e = passed_line (lacks_data r (direction_of command) (length_in s command)) invalid_field _ d.1 in
     let f = passed_line (is_past command (unit_numbers_of s r)) out_of_range _ e.1 in
@@ -57,6 +59,7 @@ checked s r command is none =
     let k = passed_line (has_other_response s command) invalid_field _ j.1 in
     let l = passed_line (is_crowded s command) Busy _ k.1 in
     record {
+      region_there = there.0;
       too_long = c.0;
       listed = d.0;
       unmended = g.0;

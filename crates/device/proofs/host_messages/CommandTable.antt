@@ -1,6 +1,6 @@
 -- The table by which a command is refused, against the checks of the code: they end a command with the same status.
 use Rattle.std.proofs.Common.{◌≡◌, ◌∙◌, ℕ, Bool, true, false, List, [], ◌∷◌, Option, Some, None}
-use Rattle.std.proofs.Common.{refl, sym, ap}
+use Rattle.std.proofs.Common.{refl, sym, ap, subst}
 use Rattle.std.specs.Prelude.{◌||◌, ◌&&◌, if◌then◌else◌, not, option_map}
 use Rattle.ufs_spec.proofs.Facts.{true≢false}
 use Rattle.ufs_spec.specs.Cdbs.{direction_of, length_of, operation_of}
@@ -8,7 +8,7 @@ use Rattle.ufs_spec.specs.Exchanges.{Busy, invalid_field, list_length_error}
 use Rattle.ufs_spec.specs.Exchanges.{not_ready, out_of_range, sequence_error, write_protected}
 use Rattle.ufs_spec.specs.Refusals.{Line, Request, State}
 use Rattle.ufs_spec.specs.Refusals.{first_line, has_other_response, has_wrong_list, is_crowded, is_past}
-use Rattle.ufs_spec.specs.Refusals.{is_refused_write, is_too_long, lacks_data, lacks_response, length_in}
+use Rattle.ufs_spec.specs.Refusals.{is_refused_write, is_too_long, lacks_data, lacks_region, lacks_response, length_in}
 use Rattle.ufs_spec.specs.Refusals.{line, lines_for, mended, needs_mended, numbers_of}
 use Rattle.ufs_spec.specs.Refusals.{unit_numbers_of, units_listed}
 use Rattle.ufs_spec.specs.declared.configs.Numbers.{Numbers}
@@ -24,9 +24,14 @@ use Rattle.task_set.specs.Tasks.{status_kept}
 
 -- Lines
 
-abbrev lines_at : Bool → Bool → Bool → Bool → List Line → List Line
-lines_at a w b p rest =
-    line a invalid_field ∷ line w list_length_error ∷ line b invalid_field ∷ line p out_of_range ∷ rest
+abbrev lines_at : Bool → Bool → Bool → Bool → Bool → List Line → List Line
+lines_at g a w b p rest =
+    line g invalid_field ∷ line a invalid_field ∷ line w list_length_error ∷ line b invalid_field ∷ line p out_of_range
+    ∷ rest
+
+-- a device with these numbers lacks the region of the command, as they say
+pub region_lacking : (n m : Numbers) (c : Cdb) (b : Bool) → n ≡ m → lacks_region n c ≡ b → lacks_region m c ≡ b
+region_lacking n m c b are = subst (λ (x : Numbers). lacks_region x c ≡ b) are
 
 -- what is lacking of the data of a command that lists so many units
 pub data_lacking : (s : State) (r : Request) (c : Cdb) (n : Numbers) (listed : ℕ) (b : Bool) → n ≡ numbers_of s →
@@ -39,9 +44,10 @@ abbrev check : Sense → Option kept_status.Status
 check sense = Some (status.CheckCondition sense)
 
 -- what the code's first checks give, in their order, and then the rest
-abbrev pub checks_of : Bool → Bool → Bool → Bool → Option kept_status.Status → Option kept_status.Status
-checks_of a w b p rest =
-    if a then check INVALID_FIELD
+abbrev pub checks_of : Bool → Bool → Bool → Bool → Bool → Option kept_status.Status → Option kept_status.Status
+checks_of g a w b p rest =
+    if g then check INVALID_FIELD
+    else if a then check INVALID_FIELD
     else if w then check LIST_LENGTH
     else if b then check INVALID_FIELD
     else if p then check OUT_OF_RANGE
@@ -49,43 +55,45 @@ checks_of a w b p rest =
 
 -- the lines of a command that these checks find so
 lines_found : (s : State) (r : Request) (unit : Option UnitSpec) (c : Cdb) → unit_numbers_of s r ≡ unit →
-    (a w b p : Bool) → is_too_long (numbers_of s) c ≡ a → has_wrong_list c ≡ w →
+    (g a w b p : Bool) → lacks_region (numbers_of s) c ≡ g → is_too_long (numbers_of s) c ≡ a → has_wrong_list c ≡ w →
     lacks_data r (direction_of c) (length_in s c) ≡ b → is_past c unit ≡ p →
-    first_line (lines_for s r c) ≡ first_line (lines_at a w b p (lines_now s unit c))
-lines_found s r unit c spec a w b p ka kw kb kp = λ i.
-    first_line (lines_at (ka i) (kw i) (kb i) ((ap (is_past c) spec ∙ kp) i) (lines_now s (spec i) c))
+    first_line (lines_for s r c) ≡ first_line (lines_at g a w b p (lines_now s unit c))
+lines_found s r unit c spec g a w b p kg ka kw kb kp = λ i.
+    first_line (lines_at (kg i) (ka i) (kw i) (kb i) ((ap (is_past c) spec ∙ kp) i) (lines_now s (spec i) c))
 
 pub told_by : (s : State) (r : Request) (unit : Option UnitSpec) (c : Cdb) → unit_numbers_of s r ≡ unit →
-    (a w b p : Bool) (rest : Option kept_status.Status) → is_too_long (numbers_of s) c ≡ a → has_wrong_list c ≡ w →
-    lacks_data r (direction_of c) (length_in s c) ≡ b → is_past c unit ≡ p →
-    first_line (lines_now s unit c) ≡ option_map status_kept rest →
-    first_line (lines_for s r c) ≡ option_map status_kept (checks_of a w b p rest)
-told_by s r unit c spec a w b p rest ka kw kb kp now =
-    lines_found s r unit c spec a w b p ka kw kb kp ∙ by a w b p
+    (g a w b p : Bool) (rest : Option kept_status.Status) → lacks_region (numbers_of s) c ≡ g →
+    is_too_long (numbers_of s) c ≡ a → has_wrong_list c ≡ w → lacks_data r (direction_of c) (length_in s c) ≡ b →
+    is_past c unit ≡ p → first_line (lines_now s unit c) ≡ option_map status_kept rest →
+    first_line (lines_for s r c) ≡ option_map status_kept (checks_of g a w b p rest)
+told_by s r unit c spec g a w b p rest kg ka kw kb kp now =
+    lines_found s r unit c spec g a w b p kg ka kw kb kp ∙ by g a w b p
   where
-    by : (a w b p : Bool) →
-        first_line (lines_at a w b p (lines_now s unit c)) ≡ option_map status_kept (checks_of a w b p rest)
-    by true w b p = refl
-    by false true b p = refl
-    by false false true p = refl
-    by false false false true = refl
-    by false false false false = now
+    by : (g a w b p : Bool) →
+        first_line (lines_at g a w b p (lines_now s unit c)) ≡ option_map status_kept (checks_of g a w b p rest)
+    by true a w b p = refl
+    by false true w b p = refl
+    by false false true b p = refl
+    by false false false true p = refl
+    by false false false false true = refl
+    by false false false false false = now
 
 -- where one of the first checks ends it
 pub told_early : (s : State) (r : Request) (unit : Option UnitSpec) (c : Cdb) → unit_numbers_of s r ≡ unit →
-    (a w b p : Bool) → (a || (w || (b || p))) ≡ true → is_too_long (numbers_of s) c ≡ a → has_wrong_list c ≡ w →
-    lacks_data r (direction_of c) (length_in s c) ≡ b → is_past c unit ≡ p →
-    first_line (lines_for s r c) ≡ option_map status_kept (checks_of a w b p None)
-told_early s r unit c spec a w b p early ka kw kb kp =
-    lines_found s r unit c spec a w b p ka kw kb kp ∙ by a w b p early
+    (g a w b p : Bool) → (g || (a || (w || (b || p)))) ≡ true → lacks_region (numbers_of s) c ≡ g →
+    is_too_long (numbers_of s) c ≡ a → has_wrong_list c ≡ w → lacks_data r (direction_of c) (length_in s c) ≡ b →
+    is_past c unit ≡ p → first_line (lines_for s r c) ≡ option_map status_kept (checks_of g a w b p None)
+told_early s r unit c spec g a w b p early kg ka kw kb kp =
+    lines_found s r unit c spec g a w b p kg ka kw kb kp ∙ by g a w b p early
   where
-    by : (a w b p : Bool) → (a || (w || (b || p))) ≡ true →
-        first_line (lines_at a w b p (lines_now s unit c)) ≡ option_map status_kept (checks_of a w b p None)
-    by true w b p e = refl
-    by false true b p e = refl
-    by false false true p e = refl
-    by false false false true e = refl
-    by false false false false e = absurd (true≢false (sym e))
+    by : (g a w b p : Bool) → (g || (a || (w || (b || p)))) ≡ true →
+        first_line (lines_at g a w b p (lines_now s unit c)) ≡ option_map status_kept (checks_of g a w b p None)
+    by true a w b p e = refl
+    by false true w b p e = refl
+    by false false true b p e = refl
+    by false false false true p e = refl
+    by false false false false true e = refl
+    by false false false false false e = absurd (true≢false (sym e))
 
 -- what the checks by what the device is now give
 abbrev pub checks_now : Bool → Bool → Bool → Bool → Bool → Option kept_status.Status

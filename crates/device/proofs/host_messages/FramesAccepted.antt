@@ -1,9 +1,9 @@
 -- What is accepted of frames that came: it may come now, and what it leaves of key, counter and contents.
-use Rattle.std.proofs.Common.{◌≡◌, ◌∙◌, ℕ, ◌==◌, ◌&&◌, ◌++◌, Bool, true, false, List, [], ◌∷◌, Some, None, drop}
+use Rattle.std.proofs.Common.{◌≡◌, ◌≢◌, ◌∙◌, ℕ, ◌<◌, ◌==◌, ◌&&◌, ◌++◌, Bool, true, false, List, [], ◌∷◌, Some, None, drop}
 use Rattle.std.proofs.Common.{length, not, take, refl, sym, ap, subst, arith, get_or}
 use Rattle.std.proofs.lemmas.List.{take-append-drop}
 use Rattle.std.proofs.lemmas.List.Sums.{fold-append}
-use Rattle.ufs_spec.proofs.Facts.{eqb-true, none-some}
+use Rattle.ufs_spec.proofs.Facts.{eqb-true, none-some, same_Some}
 use Rattle.ufs_spec.proofs.PlainFacts.{shape_after}
 use Rattle.ufs_spec.proofs.RegionPages.{area_there}
 use Rattle.ufs_spec.specs.Commands.{Command, RpmbWrite, SetKey}
@@ -12,7 +12,7 @@ use Rattle.ufs_spec.specs.FrameRequests.{reads_area}
 use Rattle.ufs_spec.specs.Frames.{Frame}
 use Rattle.ufs_spec.specs.Keys.{Contents, Group, IsCommand, IsKey, IsPlain, content, put_groups}
 use Rattle.ufs_spec.specs.Ledger.{accepted_groups, all_contents}
-use Rattle.ufs_spec.specs.Plain.{CanApply, Plain, Shape, after, apply, changed_by, region_of, shape_of_numbers}
+use Rattle.ufs_spec.specs.Plain.{CanApply, Plain, Shape, after, apply, changed_by, region_of, regions, shape_of_numbers}
 use Rattle.ufs_spec.specs.Refusals.{State, numbers_of, plain_now}
 use Rattle.ufs_spec.specs.Translation.{Translation}
 use Rattle.ufs_spec.specs.declared.flash.Key.{Key}
@@ -22,7 +22,7 @@ use Rattle.ufs_spec.specs.Rpmb.{Region, Results, checks, command_in, first_faile
 use Rattle.ufs_spec.specs.Rpmb.{read_data, rpmb_outcome}
 use Rattle.ufs_spec.specs.RpmbResponses.{is_success}
 use Rattle.ufs_laws.proofs.plain_contents.GroupsOfCommands.{many_commands, put_groups-same}
-use Rattle.ufs_laws.proofs.rpmb_frames.Regions.{named_changed}
+use Rattle.ufs_laws.proofs.rpmb_frames.Regions.{named_changed, others_stay}
 use Rattle.ufs_laws.proofs.rpmb_frames.RightWrites.{none_failed, not_refused}
 use Rattle.ufs_laws.specs.RpmbWrites.{region_named}
 use Rattle.power_loss.proofs.pending_groups.PendingByFrontier.{put_more}
@@ -79,28 +79,39 @@ reads_none number region r locked f fs code c e = by (f.kind == read_data) refl
 -- What it leaves
 
 -- the key or a write leaves the boot setting as it is
-pub boot_stays : (p : Plain) (c : Command) → region_named c ≡ Some 0 → (apply p c).boot ≡ p.boot
-boot_stays p (SetKey number bytes) e = refl
-boot_stays p (RpmbWrite number address bytes) e = refl
-boot_stays p c e = absurd (none-some 0 e)
+pub boot_stays : (p : Plain) (c : Command) (number : ℕ) → region_named c ≡ Some number → (apply p c).boot ≡ p.boot
+boot_stays p (SetKey named bytes) number e = refl
+boot_stays p (RpmbWrite named address bytes) number e = refl
+boot_stays p c number e = absurd (none-some number e)
 
 -- the key or a write leaves the protection for ever as it is
-pub permanent_stays : (p : Plain) (c : Command) → region_named c ≡ Some 0 → (apply p c).permanent ≡ p.permanent
-permanent_stays p (SetKey number bytes) e = refl
-permanent_stays p (RpmbWrite number address bytes) e = refl
-permanent_stays p c e = absurd (none-some 0 e)
+pub permanent_stays : (p : Plain) (c : Command) (number : ℕ) → region_named c ≡ Some number →
+    (apply p c).permanent ≡ p.permanent
+permanent_stays p (SetKey named bytes) number e = refl
+permanent_stays p (RpmbWrite named address bytes) number e = refl
+permanent_stays p c number e = absurd (none-some number e)
 
 -- it changes its region
-pub region_changed : (p : Plain) (cs : List Command) (c : Command) → IsPlain (after p cs) → region_named c ≡ Some 0 →
-    region_of (after p (cs ++ c ∷ [])) 0 ≡ changed_by (region_of (after p cs) 0) c
-region_changed p cs c plain e =
-    ap (λ (q : Plain). region_of q 0) (fold-append apply p cs (c ∷ []))
-    ∙ named_changed (after p cs) c 0 (let count = plain.regions_count in omega arith) e
+pub region_changed : (p : Plain) (cs : List Command) (c : Command) → IsPlain (after p cs) → (number : ℕ) →
+    number < regions → region_named c ≡ Some number →
+    region_of (after p (cs ++ c ∷ [])) number ≡ changed_by (region_of (after p cs) number) c
+region_changed p cs c plain number there e =
+    ap (λ (q : Plain). region_of q number) (fold-append apply p cs (c ∷ []))
+    ∙ named_changed (after p cs) c number (let count = plain.regions_count in omega arith) e
+
+-- and no other one
+pub other_region : (p : Plain) (cs : List Command) (c : Command) (number other : ℕ) → other ≢ number →
+    region_named c ≡ Some number → region_of (after p (cs ++ c ∷ [])) other ≡ region_of (after p cs) other
+other_region p cs c number other differ e =
+    ap (λ (q : Plain). region_of q other) (fold-append apply p cs (c ∷ []))
+    ∙ others_stay (after p cs) c other (λ e2. differ (same_Some other number (sym e2 ∙ e)))
 
 -- and no area gets another length
-pub area_stays : (p : Plain) (c : Command) → IsPlain p → IsCommand c → CanApply p c → region_named c ≡ Some 0 →
-    length (changed_by (region_of p 0) c).area ≡ length (region_of p 0).area
-area_stays p c plain is can e =
-    ap (λ (r : Region). length r.area) (sym (named_changed p c 0 (let count = plain.regions_count in omega arith) e))
-    ∙ (sym (area_there (apply p c) 0)
-    ∙ (ap (λ (x : Shape). get_or x.areas 0 0) (shape_after p (c ∷ []) (is, can, tt)) ∙ area_there p 0))
+pub area_stays : (p : Plain) (c : Command) → IsPlain p → IsCommand c → CanApply p c → (number : ℕ) →
+    number < regions → region_named c ≡ Some number →
+    length (changed_by (region_of p number) c).area ≡ length (region_of p number).area
+area_stays p c plain is can number there e =
+    ap (λ (r : Region). length r.area)
+    (sym (named_changed p c number (let count = plain.regions_count in omega arith) e))
+    ∙ (sym (area_there (apply p c) number)
+    ∙ (ap (λ (x : Shape). get_or x.areas number 0) (shape_after p (c ∷ []) (is, can, tt)) ∙ area_there p number))

@@ -6,6 +6,7 @@ use Rattle.std.specs.List.{list_any}
 use Rattle.ufs_spec.proofs.Facts.{false≢true, leb-true}
 use Rattle.ufs_spec.specs.Begins.{frames_begun, gathering_begun}
 use Rattle.ufs_spec.specs.Exchanges.{ForFrames, most_tasks, task_of}
+use Rattle.ufs_spec.specs.Plain.{regions}
 use Rattle.ufs_spec.specs.Refusals.{Request, State, has_other_response, is_frames}
 use Rattle.ufs_spec.specs.Translation.{free_slots}
 use Rattle.ufs_spec.specs.declared.scsi.Cdb.TheVariants as cdb
@@ -46,11 +47,11 @@ module _ (d : DeviceCore) (s : State) (r : Request) (h : Describes d s) (free : 
   Opens todo p v = IsBehind (opened_for d r after todo p) v
 
   -- a SECURITY PROTOCOL OUT that gathers its frames
-  pub asked_begins : (region n : ℕ) (p : Phase) → region ≡ 0 → not (is_frames n) ≡ false →
-      list_any is_sender d.tasks ≡ false → 3 ≤ free_slots s.translation → Begins (Ok (plan.AskFrames n)) p →
-      Opens (Ok (plan.AskFrames n)) p (gathering_begun s r (cdb.SecurityOut region n) n (ForFrames region))
-  asked_begins region n p is long alone slots begun =
-      subst (λ (x : Phase). IsBehind (core_with d r after x frames.Undecided)
+  pub asked_begins : (region n : ℕ) (p : Phase) → region < regions → not (is_frames n) ≡ false →
+      list_any is_sender d.tasks ≡ false → 3 ≤ free_slots s.translation → Begins (Ok (plan.AskFrames region n)) p →
+      Opens (Ok (plan.AskFrames region n)) p (gathering_begun s r (cdb.SecurityOut region n) n (ForFrames region))
+  asked_begins region n p there long alone slots begun =
+      subst (λ (x : Phase). IsBehind (core_with d r after x frames.Undecided region)
       (gathering_begun s r (cdb.SecurityOut region n) n (ForFrames region))) (sym its.0)
       (opens_gathering d s r h free few after (Some (cdb.SecurityOut region n)) n 3 (ForFrames region) _ its.1
       (record {
@@ -58,13 +59,16 @@ module _ (d : DeviceCore) (s : State) (r : Request) (h : Describes d s) (free : 
         tag = refl;
         expected = refl;
         sends = refl;
-        sends_here = ap (λ (other : ℕ). other == 0) is;
+        in_regions = λ e. there;
+        sends_to = λ other. refl;
+        gathers = refl;
+        asked_of = tt;
         request = refl;
         asks = tt;
         fits = refl;
         doing = (
           record {
-            for_frames = is;
+            for_frames = tt;
             none_came = refl;
             total_is = refl;
             some = (let low = (frames_few n long).0 in omega arith);
@@ -82,9 +86,9 @@ module _ (d : DeviceCore) (s : State) (r : Request) (h : Describes d s) (free : 
 
   -- a SECURITY PROTOCOL IN takes the frames that wait
 
-  pub taken_begins : (region n : ℕ) (p : Phase) → region ≡ 0 →
+  pub taken_begins : (region n : ℕ) (p : Phase) → region < regions →
       has_other_response s (cdb.SecurityIn region n) ≡ false → not (is_frames n) ≡ false →
-      Begins (Ok (plan.TakeFrames n (min r.expected n))) p →
-      Opens (Ok (plan.TakeFrames n (min r.expected n))) p (frames_begun s r region n)
-  taken_begins region n p is same long begun =
-      taken_opened d s r h free few after region n p is same (frames_few n long).1 begun.0 begun.1
+      Begins (Ok (plan.TakeFrames region n (min r.expected n))) p →
+      Opens (Ok (plan.TakeFrames region n (min r.expected n))) p (frames_begun s r region n)
+  taken_begins region n p there same long begun =
+      taken_opened d s r h free few after region there n (frames_few n long).1 same p begun.0 begun.1

@@ -1,8 +1,9 @@
 -- All frames of a SECURITY PROTOCOL OUT came: what was decided of them is kept of the state behind them.
-use Rattle.std.proofs.Common.{◌≡◌, ◌∙◌, ℕ, Bool, false, List, [], cond, length, refl, sym, ap, subst, arith}
+use Rattle.std.proofs.Common.{◌≡◌, ◌∙◌, ℕ, ◌<◌, Bool, false, List, [], cond, length, refl, sym, ap, subst, arith}
 use Rattle.std.specs.Prelude.{nat_lt, Some, None}
 use Rattle.std.specs.List.{flat_map}
 use Rattle.std.proofs.lemmas.Bool.{le-ltb}
+use Rattle.ufs_spec.proofs.Facts.{same_Some}
 use Rattle.ufs_spec.specs.Changes.{ends_with_status}
 use Rattle.ufs_spec.specs.Commands.{RpmbWrite, SetKey}
 use Rattle.ufs_spec.specs.Exchanges as exchange
@@ -13,13 +14,14 @@ use Rattle.ufs_spec.specs.Ledger.{before_accepted}
 use Rattle.ufs_spec.specs.Machine.{data_for, data_heard}
 use Rattle.ufs_spec.specs.Messages.{AreBytes}
 use Rattle.ufs_spec.specs.Moves.{Release, moved}
-use Rattle.ufs_spec.specs.Plain.{region_of}
+use Rattle.ufs_spec.specs.Plain.{region_of, regions}
 use Rattle.ufs_spec.specs.Refusals.{State, locked, numbers_of, plain_now}
 use Rattle.ufs_spec.specs.Rpmb.{Results, rpmb_outcome}
 use Rattle.ufs_spec.specs.declared.scsi.Sense.{Sense}
 use Rattle.power_loss.specs.Exchange.{claim_of}
 use Rattle.power_loss.proofs.books.SmallFacts.{eq_self, if_false}
 use Rattle.ftl_core.specs.Public.{with_claimed}
+use Rattle.rpmb.specs.Kept.{IsKept, machine_at}
 use Rattle.rpmb.specs.Outcomes.{outcome_of, status_of}
 use Rattle.rpmb.specs.Requests.{frames_of}
 use Rattle.rpmb.specs.declared.outcomes.Accepted.TheVariants as accepted
@@ -39,7 +41,7 @@ use Rattle.device.specs.Frames.{HasDecided, HasDone, HasRefused}
 use Rattle.device.specs.Hears.{HasLength}
 use Rattle.device.specs.Kept.{DeviceCore, IsLayerWith}
 use Rattle.device.proofs.host_messages.FramesGathered.{AllCame, frames_are, gathers_frames}
-use Rattle.device.proofs.host_messages.FramesGathered.{not_wanted, released, undecided, wants_frames}
+use Rattle.device.proofs.host_messages.FramesGathered.{not_wanted, released, to, to_there, undecided, wants_frames}
 use Rattle.device.proofs.host_messages.RequestsAccepted.{command_keeps}
 use Rattle.device.proofs.host_messages.RequestsAnswered.{answered_keeps}
 use Rattle.device.proofs.host_messages.TaskBecomes.{becomes_kept, device_then}
@@ -63,7 +65,10 @@ module _ {d : DeviceCore} {s : State} {tag : ℕ} {bytes : List ℕ} (c : AllCam
       tag = c.stands.opened.kept.tag;
       expected = c.stands.opened.kept.expected;
       sends = c.stands.opened.kept.sends;
-      sends_here = c.stands.opened.kept.sends_here;
+      in_regions = c.stands.opened.kept.in_regions;
+      sends_to = c.stands.opened.kept.sends_to;
+      gathers = tt;
+      asked_of = c.stands.opened.kept.asked_of;
       request = c.stands.opened.kept.request;
       asks =
           subst
@@ -96,6 +101,7 @@ module _ {d : DeviceCore} {s : State} {tag : ℕ} {bytes : List ℕ} (c : AllCam
           changes = deed_changes c.stands.b.tag answering;
           boot = refl;
           permanent = refl;
+          each = c.described.kept.each;
           region = c.described.kept.region;
           registers_are = c.described.kept.registers;
           layer_is =
@@ -119,26 +125,27 @@ module _ {d : DeviceCore} {s : State} {tag : ℕ} {bytes : List ℕ} (c : AllCam
   -- What was decided
 
   decided_keeps : AreBytes bytes → (come : DeviceCore) (o : Outcome) →
-      rpmb_outcome 0 (region_of (plain_now s) 0) (s.registers 0) (locked s) (frames_of bytes)
-      ≡ outcome_of 0 (frames_of bytes) o →
-      HasDone d come tag c.stands.k bytes o →
-      Keeps come (request_decided s c.stands.b 0 (frames_of bytes) (outcome_of 0 (frames_of bytes) o))
+      rpmb_outcome (to c) (region_of (plain_now s) (to c)) (s.registers (to c)) (locked s) (frames_of bytes)
+      ≡ outcome_of (to c) (frames_of bytes) o →
+      HasDone d come tag c.stands.k (to c) bytes o →
+      Keeps come (request_decided s c.stands.b (to c) (frames_of bytes) (outcome_of (to c) (frames_of bytes) o))
   decided_keeps are come (outcome.Refused why) passed did = refused_keeps come why did.0 did.1 did.2
   decided_keeps are come (outcome.Results code accepted.Nothing) passed did =
-      subst (λ (fs : List Frame). Keeps come (request_decided s c.stands.b 0 fs (Results code None)))
+      subst (λ (fs : List Frame). Keeps come (request_decided s c.stands.b (to c) fs (Results code None)))
       (sym (frames_are c)) (answered_keeps c come code did
-      (sym (ap (rpmb_outcome 0 (region_of (plain_now s) 0) (s.registers 0) (locked s)) (frames_are c)) ∙ passed))
+      (sym (ap (rpmb_outcome (to c) (region_of (plain_now s) (to c)) (s.registers (to c)) (locked s)) (frames_are c))
+      ∙ passed))
   decided_keeps are come (outcome.Results code (accepted.Key key)) passed did =
-      command_keeps c are code (accepted.Key key) (SetKey 0 key) refl refl passed come did did.decided
+      command_keeps c are code (accepted.Key key) (SetKey (to c) key) refl refl passed come did did.decided
   decided_keeps are come (outcome.Results code (accepted.Write address)) passed did =
       command_keeps c are code (accepted.Write address)
-      (RpmbWrite 0 address (flat_map (λ (f : Frame). f.payload) (frames_of bytes))) refl refl passed come did
+      (RpmbWrite (to c) address (flat_map (λ (f : Frame). f.payload) (frames_of bytes))) refl refl passed come did
       did.decided
 
   -- the frames are all there
   complete_is : data_heard s (task_of tag s.tasks) bytes
-      ≡ request_decided s c.stands.b 0 (frames_of bytes)
-      (rpmb_outcome 0 (region_of (plain_now s) 0) (s.registers 0) (locked s) (frames_of bytes))
+      ≡ request_decided s c.stands.b (to c) (frames_of bytes)
+      (rpmb_outcome (to c) (region_of (plain_now s) (to c)) (s.registers (to c)) (locked s) (frames_of bytes))
   complete_is =
       ap (λ o. data_heard s o bytes) c.stands.found
       ∙ (ap (λ (deed : Deed). data_for s c.stands.b deed bytes) c.gathers.deed_is
@@ -151,16 +158,25 @@ module _ {d : DeviceCore} {s : State} {tag : ℕ} {bytes : List ℕ} (c : AllCam
   come_keeps : AreBytes bytes → (come : DeviceCore) → HasDecided d come tag c.stands.k bytes →
       Keeps come (data_heard s (task_of tag s.tasks) bytes)
   come_keeps are come did =
-      subst (Keeps come) (sym (complete_is ∙ ap (request_decided s c.stands.b 0 (frames_of bytes)) passed))
-      (decided_keeps are come did.outcome passed did.done)
+      subst (Keeps come) (sym (complete_is ∙ ap (request_decided s c.stands.b (to c) (frames_of bytes)) passed))
+      (decided_keeps are come did.outcome passed
+      (subst (λ (x : OpenTask). HasDone d come tag c.stands.k x.region bytes did.outcome) same did.done))
     where
-      passed : rpmb_outcome 0 (region_of (plain_now s) 0) (s.registers 0) (locked s) (frames_of bytes)
-          ≡ outcome_of 0 (frames_of bytes) did.outcome
+      same : did.task ≡ c.stands.a
+      same = same_Some did.task c.stands.a (sym did.there ∙ c.stands.opened.ours)
+
+      passed : rpmb_outcome (to c) (region_of (plain_now s) (to c)) (s.registers (to c)) (locked s) (frames_of bytes)
+          ≡ outcome_of (to c) (frames_of bytes) did.outcome
       passed =
-          ap (λ (x : Registers). rpmb_outcome 0 (region_of (plain_now s) 0) x (locked s) (frames_of bytes))
-          c.described.kept.registers
-          ∙ did.outcome_is s.translation 0 (region_of (plain_now s) 0) c.described.kept.layer_kept
-          c.described.kept.region
+          ap (λ (x : Registers). rpmb_outcome (to c) (region_of (plain_now s) (to c)) x (locked s) (frames_of bytes))
+          (c.described.kept.registers (to c))
+          ∙ subst
+          (λ (x : OpenTask). x.region < regions →
+          IsKept (machine_at d.rpmb x.region).region (region_of (plain_now s) (to c)) →
+          rpmb_outcome x.region (region_of (plain_now s) (to c)) (machine_at d.rpmb x.region).registers (locked s)
+          (frames_of bytes) ≡ outcome_of x.region (frames_of bytes) did.outcome) same
+          (did.outcome_is s.translation (region_of (plain_now s) (to c)) c.described.kept.layer_kept) (to_there c)
+          (c.described.kept.region (to c))
 
 pub frames_keep : (d come : DeviceCore) (s : State) (tag : ℕ) (bytes : List ℕ) (size : ℕ) → Describes d s →
     (r : Stands (before_accepted s.translation.ledger) tag d.tasks s.tasks) →
@@ -175,8 +191,8 @@ frames_keep d come s tag bytes size h r wants long are did =
       size = size;
       awaits = at;
       gathers =
-          gathers_frames (before_accepted s.translation.ledger) r.a.expected r.b.length size r.b.deed
+          gathers_frames r.a.region (before_accepted s.translation.ledger) r.a.expected r.b.length size r.b.deed
           (subst (λ p. IsDoing (before_accepted s.translation.ledger) r.a.expected r.b.length p r.b.deed) at
-          r.opened.kept.doing);
+          r.opened.kept.doing) r.opened.kept.gathers;
       long = long;
     }) are come did

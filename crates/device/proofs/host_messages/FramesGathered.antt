@@ -1,9 +1,10 @@
 -- All frames of a SECURITY PROTOCOL OUT came: what its task has gathered and claimed, and what becomes of it once they
 -- are a request.
-use Rattle.std.proofs.Common.{◌≡◌, ◌∙◌, ℕ, zero, suc, ◌-◌, ◌/◌, ◌≤◌, ◌==◌, Bool, true, false, List, [], ◌∷◌, drop}
+use Rattle.std.proofs.Common.{◌≡◌, ◌∙◌, ℕ, zero, suc, ◌-◌, ◌/◌, ◌≤◌, ◌==◌, Bool, true, false, List, [], ◌∷◌, drop, ◌<◌, ◌&&◌}
 use Rattle.std.proofs.Common.{Some, None, cond, length, replicate, refl, sym, ap, subst, arith}
 use Rattle.std.specs.Prelude.{fold, slice_get, slice_set, take}
 use Rattle.std.proofs.lemmas.List.{take-append-le}
+use Rattle.rpmb.specs.declared.regions.RegionState.{RegionState}
 use Rattle.ufs_spec.proofs.Facts.{none-some}
 use Rattle.ufs_spec.specs.Commands.{Command}
 use Rattle.ufs_spec.specs.Exchanges as exchange
@@ -12,7 +13,7 @@ use Rattle.ufs_spec.specs.FrameRequests.{requested, with_request}
 use Rattle.ufs_spec.specs.Frames.{Frame, frame_in, frames_in}
 use Rattle.ufs_spec.specs.Ledger.{before_accepted}
 use Rattle.ufs_spec.specs.Moves.{Move, Release, moved}
-use Rattle.ufs_spec.specs.Plain.{after, region_of, zero_block}
+use Rattle.ufs_spec.specs.Plain.{after, region_of, zero_block, regions}
 use Rattle.ufs_spec.specs.Refusals.{State, numbers_of, plain_now}
 use Rattle.ufs_spec.specs.RpmbResponses.{emptied_by}
 use Rattle.ufs_spec.specs.Translation.{Translation, is_mended}
@@ -20,7 +21,7 @@ use Rattle.power_loss.specs.Exchange.{DeedFits, FramesFit as WaitsFrames, claim_
 use Rattle.power_loss.proofs.books.SmallFacts.{eq_self}
 use Rattle.power_loss.proofs.open_tasks.TaskLists.{found_fits}
 use Rattle.ftl_core.specs.Public.{Claims, Core, with_claimed}
-use Rattle.rpmb.specs.Kept.{IsKept, Machine}
+use Rattle.rpmb.specs.Kept.{IsKept, Machine, machine_at, with_machine}
 use Rattle.rpmb.specs.Requests.{frames_of}
 use Rattle.rpmb.specs.declared.outcomes.Accepted.{Accepted}
 use Rattle.task_set.specs.Frames.{frames_after}
@@ -37,8 +38,10 @@ use Rattle.task_set.specs.declared.tasks.Wanted.TheVariants as wanted
 use Rattle.device.specs.Calls.{frame_slots}
 use Rattle.device.specs.Describes.{AreFramesKept, Describes, FramesFit, IsDoing, Keeps, ReadsAsked, ReadsFor, TaskKept}
 use Rattle.device.specs.Describes.{claimed_by, claimed_in, claims_of, read_in, wanted_by, wanted_in, wanted_kept}
+use Rattle.device.specs.Describes.{IsFor, gathers_for}
 use Rattle.device.specs.Frames.{HasRequested, with_held, with_zeros}
 use Rattle.device.specs.Kept.{DeviceCore, IsLayerWith}
+use Rattle.device.proofs.described.Machines.{as_many, regions_same, registers_put}
 use Rattle.device.proofs.host_messages.HeldBegins.{zeros_length}
 use Rattle.device.proofs.host_messages.TaskBecomes.{becomes_kept, device_then}
 use Rattle.device.proofs.open_tasks.OpenTasks.{Stands, set_again, set_stands}
@@ -46,18 +49,19 @@ use Rattle.device.proofs.open_tasks.ReadProgress.{ChangesOne}
 
 -- What the task gathered
 
-pub record GathersFrames (size total : ℕ) (deed : Deed) : Type 0 where
-  pub deed_is : deed ≡ Gathering (ForFrames 0) [] true
+pub record GathersFrames (region size total : ℕ) (deed : Deed) : Type 0 where
+  pub deed_is : deed ≡ Gathering (ForFrames region) [] true
   pub total_is : total ≡ size
 
-pub gathers_frames : (before expected total size : ℕ) (deed : Deed) →
-    IsDoing before expected total (phase.AwaitFrames size) deed → GathersFrames size total deed
-gathers_frames before expected total size (Gathering (ForFrames region) gathered asked) h = record {
-  deed_is = λ i. Gathering (ForFrames (h.0.for_frames i)) (h.0.none_came i) (h.1 i);
+pub gathers_frames : (region before expected total size : ℕ) (deed : Deed) →
+    IsDoing before expected total (phase.AwaitFrames size) deed → IsFor region (gathers_for deed) →
+    GathersFrames region size total deed
+gathers_frames region before expected total size (Gathering (ForFrames other) gathered asked) h to = record {
+  deed_is = λ i. Gathering (ForFrames (to i)) (h.0.none_came i) (h.1 i);
   total_is = h.0.total_is;
 }
-gathers_frames before expected total size (Gathering purpose gathered asked) h = absurd h.0.for_frames
-gathers_frames before expected total size deed h = absurd h
+gathers_frames region before expected total size (Gathering purpose gathered asked) h to = absurd h.0.for_frames
+gathers_frames region before expected total size deed h to = absurd h
 
 pub wants_frames : (p : Phase) (size : ℕ) → wanted_of p ≡ Some (wanted.Frames size) → p ≡ phase.AwaitFrames size
 wants_frames (phase.AwaitFrames n) size e = ap phase.AwaitFrames (same n size e)
@@ -88,7 +92,7 @@ pub record AllCame (d : DeviceCore) (s : State) (tag : ℕ) (bytes : List ℕ) :
   pub stands : Stands (before_accepted s.translation.ledger) tag d.tasks s.tasks
   pub size : ℕ
   pub awaits : stands.a.phase ≡ phase.AwaitFrames size
-  pub gathers : GathersFrames size stands.b.length stands.b.deed
+  pub gathers : GathersFrames stands.a.region size stands.b.length stands.b.deed
   pub long : length bytes ≡ size
 
 -- The request
@@ -101,16 +105,16 @@ abbrev pub all_frames : List ℕ → List Frame
 all_frames bytes = first_frame bytes ∷ frames_in (length bytes / 512 - 1) (drop 512 bytes)
 
 -- the request as the definitions have it
-abbrev pub request_of : List ℕ → ℕ → RpmbRequest
-request_of bytes code = record { region = 0; frames = all_frames bytes; result = code; filled = false }
+abbrev pub request_of : ℕ → List ℕ → ℕ → RpmbRequest
+request_of region bytes code = record { region = region; frames = all_frames bytes; result = code; filled = false }
 
 -- its task, with the frames that it keeps
 abbrev pub kept_task : List ℕ → OpenTask → OpenTask
 kept_task bytes a = bytes_kept (with_zeros bytes) a
 
 -- a task of the specified device has the request, and does this
-abbrev pub asking : exchange.Task → List ℕ → ℕ → Deed → exchange.Task
-asking b bytes code deed = record b { deed = deed; request = Some (request_of bytes code) }
+abbrev pub asking : exchange.Task → ℕ → List ℕ → ℕ → Deed → exchange.Task
+asking b region bytes code deed = record b { deed = deed; request = Some (request_of region bytes code) }
 
 -- no other task changes where one gets a request
 request_changes : (tag : ℕ) (request : RpmbRequest) (deed : Deed) → ChangesOne (with_request tag request deed) tag
@@ -129,6 +133,13 @@ module _ {d : DeviceCore} {s : State} {tag : ℕ} {bytes : List ℕ} (c : AllCam
       subst (λ (p : Phase). FramesFit p c.stands.a.frames c.stands.a.held c.stands.b.deed) c.awaits
       c.stands.opened.kept.fits
 
+  -- the region to which the task brings frames
+  abbrev pub to : ℕ
+  to = c.stands.a.region
+
+  pub to_there : to < regions
+  to_there = c.stands.opened.kept.in_regions (c.stands.opened.kept.sends ∙ ap brings_frames undecided)
+
   pub found : task_of c.stands.b.tag s.tasks ≡ Some c.stands.b
   found = ap (λ (n : ℕ). task_of n s.tasks) c.stands.tag_is ∙ c.stands.found
 
@@ -139,7 +150,7 @@ module _ {d : DeviceCore} {s : State} {tag : ℕ} {bytes : List ℕ} (c : AllCam
   pub its_slots : claims_of (numbers_of s) s.tasks c.stands.b.tag ≡ replicate frame_slots zero_block
   its_slots = ap (claimed_by (numbers_of s)) found ∙ ap (claimed_in (numbers_of s) c.stands.b.length) c.gathers.deed_is
 
-  pub fits : WaitsFrames (is_mended s.translation.work.mending) 0 c.stands.b.length []
+  pub fits : WaitsFrames (numbers_of s) (is_mended s.translation.work.mending) to c.stands.b.length []
       (claim_of (numbers_of s) c.stands.b)
   fits =
       subst (DeedFits (numbers_of s) (length s.accepted) (is_mended s.translation.work.mending)
@@ -206,25 +217,30 @@ module _ {d : DeviceCore} {s : State} {tag : ℕ} {bytes : List ℕ} (c : AllCam
     pub fits_in : FramesFit p (frames.Decided code) (Some (with_zeros bytes)) deed
     pub doing : IsDoing (before_accepted s.translation.ledger) c.stands.a.expected c.stands.b.length p deed
     pub none_sent : read_in deed ≡ None
+    pub none_gathered : gathers_for deed ≡ None
 
   pub asking_kept : (code : ℕ) (e : TaskEvent) (p : Phase) (deed : Deed) → Happens code e p deed →
       TaskKept (before_accepted s.translation.ledger) (task_after e (kept_task bytes c.stands.a))
-      (asking c.stands.b bytes code deed)
+      (asking c.stands.b to bytes code deed)
   asking_kept code e p deed x = record {
     lun = c.stands.opened.kept.lun;
     tag = c.stands.opened.kept.tag;
     expected = c.stands.opened.kept.expected;
     sends = c.stands.opened.kept.sends ∙ still_brings;
-    sends_here = c.stands.opened.kept.sends_here ∙ still_brings;
+    in_regions = c.stands.opened.kept.in_regions;
+    sends_to =
+        λ other. (c.stands.opened.kept.sends_to other
+        ∙ ap (λ (b : Bool). b && (c.stands.a.region == other)) still_brings);
+    gathers = subst (IsFor c.stands.a.region) (sym x.none_gathered) tt;
+    asked_of = refl;
     request =
-        subst (λ (f : Frames). AreFramesKept f (Some (with_zeros bytes)) (Some (request_of bytes code))) (sym frames_is)
+        subst (λ (f : Frames). AreFramesKept f (Some (with_zeros bytes)) (Some (request_of to bytes code))) (sym frames_is)
         (record {
           bytes = with_zeros bytes;
           is_held = refl;
           long = zeros_long;
-          asked = request_of bytes code;
+          asked = request_of to bytes code;
           is = refl;
-          region = refl;
           result = refl;
           unfilled = refl;
           first = ap frame_in (sym first_kept);
@@ -257,40 +273,44 @@ module _ {d : DeviceCore} {s : State} {tag : ℕ} {bytes : List ℕ} (c : AllCam
   -- What is kept of the state with the request
 
   -- what becomes of the layer, of key and counter and of the accepted commands
-  pub record Leads (layer : Core) (m : Machine) (u : Translation) (cs : List Command) (code : ℕ) (deed : Deed) : Type 0
+  pub record Leads (layer : Core) (m : List Machine) (u : Translation) (cs : List Command) (code : ℕ) (deed : Deed) : Type 0
     where
       pub boot : (after s.base cs).boot ≡ (plain_now s).boot
       pub permanent : (after s.base cs).permanent ≡ (plain_now s).permanent
-      pub region : IsKept m.region (region_of (after s.base cs) 0)
-      pub registers : m.registers ≡ d.rpmb.registers
+      pub each : length m ≡ regions
+      pub region : (number : ℕ) → IsKept (machine_at m number).region (region_of (after s.base cs) number)
+      pub registers : (number : ℕ) → (machine_at m number).registers ≡ (machine_at d.rpmb number).registers
       pub layer_is : IsLayerWith layer u given_up
       pub none_claimed : claimed_in (numbers_of s) c.stands.b.length deed ≡ []
       pub numbers : u.numbers ≡ s.translation.numbers
       pub before : before_accepted u.ledger ≡ before_accepted s.translation.ledger
       pub wanted : (index : ℕ) → wanted_kept u.pins c.stands.b.tag index
-          ≡ wanted_by index (Some (asking c.stands.b bytes code deed))
+          ≡ wanted_by index (Some (asking c.stands.b to bytes code deed))
       pub others_wanted : (n : ℕ) → (n == c.stands.b.tag) ≡ false → (index : ℕ) →
           wanted_kept u.pins n index ≡ wanted_kept s.translation.pins n index
 
   pub requested_keeps : (come : DeviceCore) (code : ℕ) (what : Accepted)
-      (did : HasRequested d come tag c.stands.k bytes code what) (e : TaskEvent) (p : Phase) (deed : Deed)
+      (did : HasRequested d come tag c.stands.k to bytes code what) (e : TaskEvent) (p : Phase) (deed : Deed)
       (u : Translation) (cs : List Command) → did.event ≡ e → Happens code e p deed →
       Leads did.layer did.rpmb u cs code deed →
-      Keeps come (requested (record s { translation = u; accepted = cs }) c.stands.b 0 (all_frames bytes) code deed)
+      Keeps come (requested (record s { translation = u; accepted = cs }) c.stands.b to (all_frames bytes) code deed)
   requested_keeps come code what did e p deed u cs event_is x leads =
       subst
       (λ (y : DeviceCore). Keeps y
-      (requested (record s { translation = u; accepted = cs }) c.stands.b 0 (all_frames bytes) code deed)) (sym core_is)
+      (requested (record s { translation = u; accepted = cs }) c.stands.b to (all_frames bytes) code deed)) (sym core_is)
       (becomes_kept d s c.stands.k c.stands.a new c.stands.b change did.layer machine_then u cs registers_then
       c.described c.stands.opened
       (record {
-        changes = request_changes c.stands.b.tag (request_of bytes code) deed;
+        changes = request_changes c.stands.b.tag (request_of to bytes code) deed;
         boot = leads.boot;
         permanent = leads.permanent;
-        region = leads.region;
+        each = as_many did.rpmb to emptied ∙ leads.each;
+        region =
+            λ number. subst (λ (r : RegionState). IsKept r (region_of (after s.base cs) number))
+            (sym (regions_same did.rpmb to number emptied refl)) (leads.region number);
         registers_are =
-            (λ i. emptied_by (all_frames bytes) (c.described.kept.registers i))
-            ∙ sym (ap (emptied_by (all_frames bytes)) leads.registers);
+            registers_put s.registers did.rpmb to (emptied_by (all_frames bytes) (s.registers to)) emptied
+            (subst (λ (n : ℕ). to < n) (sym leads.each) to_there) same (ap (emptied_by (all_frames bytes)) (same to));
         layer_is =
             subst (λ (y : exchange.Task). IsLayerWith did.layer u
             (with_claimed (claims_of (numbers_of s) s.tasks) c.stands.b.tag (claimed_in (numbers_of s) y.length y.deed))) (sym changed)
@@ -307,20 +327,29 @@ module _ {d : DeviceCore} {s : State} {tag : ℕ} {bytes : List ℕ} (c : AllCam
       }))
     where
       change : exchange.Task → exchange.Task
-      change = with_request c.stands.b.tag (request_of bytes code) deed
+      change = with_request c.stands.b.tag (request_of to bytes code) deed
 
-      changed : change c.stands.b ≡ asking c.stands.b bytes code deed
+      changed : change c.stands.b ≡ asking c.stands.b to bytes code deed
       changed =
-          ap (λ (b : Bool). cond b (asking c.stands.b bytes code deed) c.stands.b) (eq_self c.stands.b.tag)
+          ap (λ (b : Bool). cond b (asking c.stands.b to bytes code deed) c.stands.b) (eq_self c.stands.b.tag)
 
       new : OpenTask
       new = task_after e (kept_task bytes c.stands.a)
 
-      machine_then : Machine
-      machine_then = record did.rpmb { registers = emptied_by (all_frames bytes) did.rpmb.registers }
+      -- the machine of its region, whose registers are emptied
+      emptied : Machine
+      emptied = record (machine_at did.rpmb to) {
+        registers = emptied_by (all_frames bytes) (machine_at did.rpmb to).registers;
+      }
+
+      machine_then : List Machine
+      machine_then = with_machine did.rpmb to emptied
 
       registers_then : ℕ → Registers
-      registers_then = exchange.at_region s.registers 0 (emptied_by (all_frames bytes) (s.registers 0))
+      registers_then = exchange.at_region s.registers to (emptied_by (all_frames bytes) (s.registers to))
+
+      same : (number : ℕ) → s.registers number ≡ (machine_at did.rpmb number).registers
+      same number = c.described.kept.registers number ∙ sym (leads.registers number)
 
       tasks_are : (with_held d c.stands.k (with_zeros bytes)).tasks
           ≡ slice_set d.tasks c.stands.k (kept_task bytes c.stands.a)
@@ -339,7 +368,9 @@ module _ {d : DeviceCore} {s : State} {tag : ℕ} {bytes : List ℕ} (c : AllCam
           did.after_is
           ∙ ((λ i. record d {
             ftl = did.layer;
-            rpmb = record did.rpmb { registers = emptied_by (frames_are i) did.rpmb.registers };
+            rpmb = with_machine did.rpmb to (record (machine_at did.rpmb to) {
+              registers = emptied_by (frames_are i) (machine_at did.rpmb to).registers;
+            });
             tasks = task_happened (tasks_are i) c.stands.k (event_is i) (slice_get (tasks_are i) c.stands.k);
           })
           ∙ ap (λ (ts : List OpenTask). record d { ftl = did.layer; rpmb = machine_then; tasks = ts }) tasks_then)

@@ -9,18 +9,21 @@ use Rattle.ufs_spec.proofs.Facts.{eqb-true, false≢true}
 use Rattle.ufs_spec.specs.Begins.{frames_begun}
 use Rattle.ufs_spec.specs.Exchanges.{Registers, at_region, most_tasks, task_of}
 use Rattle.ufs_spec.specs.Machine.{data_begun}
-use Rattle.ufs_spec.specs.Plain.{zero_block}
-use Rattle.ufs_spec.specs.Refusals.{Request, State, has_other_response}
+use Rattle.ufs_spec.specs.Plain.{region_of, regions, zero_block}
+use Rattle.ufs_spec.specs.Refusals.{Request, State, has_other_response, plain_now}
 use Rattle.ufs_spec.specs.declared.scsi.Cdb.TheVariants as cdb
 use Rattle.power_loss.specs.WaitingFrames.{IsFrameSaid}
 use Rattle.ftl_core.specs.Public.{Core}
 use Rattle.rpmb.specs.Answers.{waiting_in}
+use Rattle.rpmb.specs.Kept.{IsKept, Machine, machine_at, with_machine}
+use Rattle.rpmb.specs.declared.regions.RegionState.{RegionState}
 use Rattle.task_set.specs.declared.tasks.Phase.{Phase}
 use Rattle.device.specs.Calls.{held_phase}
 use Rattle.device.specs.Describes.{Describes, claims_of}
 use Rattle.device.specs.Frames.{handed_over, waiting_held, with_none_waiting, with_zeros}
 use Rattle.device.specs.Kept.{DeviceCore, IsLayerWith}
 use Rattle.device.proofs.described.Answered.{IsBehind}
+use Rattle.device.proofs.described.Machines.{as_many, regions_same, registers_put}
 use Rattle.device.proofs.described.Settled.{kept_stays, still_answered}
 use Rattle.device.proofs.host_messages.HeldBegins.{core_keeping, held_begins, last_held}
 use Rattle.device.proofs.host_messages.ReadOpened.{core_opened}
@@ -46,19 +49,29 @@ all_wait w few =
     least : (n : ℕ) → n ≤ 4096 → min n 4096 ≡ n
     least n h = omega arith
 
--- no frames wait any more
-abbrev none_wait : State → State
-none_wait v =
-    record v { registers = at_region v.registers 0 (record (v.registers 0) { response = [] }) }
+-- no frames of the region wait any more
+abbrev none_wait : State → ℕ → State
+none_wait v region =
+    record v { registers = at_region v.registers region (record (v.registers region) { response = [] }) }
 
-emptied : (e : DeviceCore) (v : State) → IsBehind e v →
-    IsBehind (record e { rpmb = with_none_waiting e.rpmb }) (none_wait v)
-emptied e v b = record {
+-- the machine of the region then
+abbrev none_waits : DeviceCore → ℕ → List Machine
+none_waits e region = with_machine e.rpmb region (with_none_waiting (machine_at e.rpmb region))
+
+emptied : (e : DeviceCore) (v : State) (region : ℕ) → region < regions → IsBehind e v →
+    IsBehind (record e { rpmb = none_waits e region }) (none_wait v region)
+emptied e v region there b = record {
   keeps = record {
     boot = b.keeps.boot;
     permanent = b.keeps.permanent;
-    region = b.keeps.region;
-    registers = ap (λ (x : Registers). record x { response = [] }) b.keeps.registers;
+    each = as_many e.rpmb region its ∙ b.keeps.each;
+    region =
+        λ number. subst (λ (r : RegionState). IsKept r (region_of (plain_now v) number))
+        (sym (regions_same e.rpmb region number its refl)) (b.keeps.region number);
+    registers =
+        registers_put v.registers e.rpmb region (record (v.registers region) { response = [] }) its
+        (subst (λ (n : ℕ). region < n) (sym b.keeps.each) there) b.keeps.registers
+        (ap (λ (x : Registers). record x { response = [] }) (b.keeps.registers region));
     layer_kept = b.keeps.layer_kept;
     few = b.keeps.few;
     tasks = b.keeps.tasks;
@@ -69,23 +82,27 @@ emptied e v b = record {
     power_on = b.keeps.power_on;
   };
   answered =
-      still_answered v (none_wait v) v.tasks (kept_stays v.translation v.translation v.tasks refl refl) refl b.answered;
+      still_answered v (none_wait v region) v.tasks (kept_stays v.translation v.translation v.tasks refl refl) refl
+      b.answered;
   told = b.told;
   shorts_told = b.shorts_told;
 }
+  where
+    its : Machine
+    its = with_none_waiting (machine_at e.rpmb region)
 
 module _ (d : DeviceCore) (s : State) (r : Request) (h : Describes d s) (free : task_of r.tag s.tasks ≡ None)
-    (few : length s.tasks < most_tasks) (after : Core) (n : ℕ) (short : n ≤ 4096)
-    (same : has_other_response s (cdb.SecurityIn 0 n) ≡ false) where
+    (few : length s.tasks < most_tasks) (after : Core) (region : ℕ) (there : region < regions) (n : ℕ)
+    (short : n ≤ 4096) (same : has_other_response s (cdb.SecurityIn region n) ≡ false) where
   abbrev waiting : List ℕ
-  waiting = waiting_in (s.registers 0)
+  waiting = waiting_in (s.registers region)
 
   -- so many bytes wait
   size_is : length waiting ≡ n
   size_is =
-      joined_length (s.registers 0).response (h.waits.registers_hold 0).response
-      ∙ sym (eqb-true n (512 * length (s.registers 0).response)
-      (by (n == (512 * length (s.registers 0).response)) same))
+      joined_length (s.registers region).response (h.waits.registers_hold region).response
+      ∙ sym (eqb-true n (512 * length (s.registers region).response)
+      (by (n == (512 * length (s.registers region).response)) same))
     where
       by : (b : Bool) → not b ≡ false → b ≡ true
       by true e = refl
@@ -95,36 +112,24 @@ module _ (d : DeviceCore) (s : State) (r : Request) (h : Describes d s) (free : 
   fits_in = subst (λ (m : ℕ). m ≤ 4096) (sym size_is) short
 
   -- the task keeps them, with zeros behind them
-  held_is : waiting_held d.rpmb ≡ with_zeros waiting
+  held_is : waiting_held (machine_at d.rpmb region) ≡ with_zeros waiting
   held_is =
       ap (λ (w : List ℕ). take (min (length w) 4096) w ++ drop (min (length w) 4096) zero_block)
-      (ap waiting_in (sym h.kept.registers))
+      (ap waiting_in (sym (h.kept.registers region)))
       ∙ all_wait waiting fits_in
 
   abbrev emptied_core : DeviceCore → DeviceCore
-  emptied_core e = record e { rpmb = with_none_waiting d.rpmb }
+  emptied_core e = record e { rpmb = none_waits d region }
 
-  first_taken : (p : Phase) → p ≡ held_phase n (min r.expected n) →
+  pub taken_opened : (p : Phase) → p ≡ held_phase n (min r.expected n) →
       IsLayerWith after s.translation (claims_of (numbers_of s) s.tasks) →
-      IsBehind (handed_over (core_opened d r after p) (length (core_opened d r after p).tasks - 1))
-      (frames_begun s r 0 n)
-  first_taken p phase_is layer =
-      subst (λ (x : DeviceCore). IsBehind x (frames_begun s r 0 n))
-      (sym (ap emptied_core (last_held d r after p (waiting_held d.rpmb)
+      IsBehind (handed_over (core_opened d r after p) (length (core_opened d r after p).tasks - 1) region)
+      (frames_begun s r region n)
+  taken_opened p phase_is layer =
+      subst (λ (x : DeviceCore). IsBehind x (frames_begun s r region n))
+      (sym (ap emptied_core (last_held d r after p (waiting_held (machine_at d.rpmb region))
       ∙ (λ i. core_keeping d r after (phase_is i) (held_is i)))))
       (emptied (core_keeping d r after (held_phase n (min r.expected n)) (with_zeros waiting))
-      (data_begun s r (cdb.SecurityIn 0 n) waiting)
-      (held_begins d s r h free few after (cdb.SecurityIn 0 n) waiting waiting n fits_in
+      (data_begun s r (cdb.SecurityIn region n) waiting) region there
+      (held_begins d s r h free few after (cdb.SecurityIn region n) waiting waiting n fits_in
       (take_all n waiting (omega (arith, size_is))) size_is refl layer))
-
-pub taken_opened : (d : DeviceCore) (s : State) (r : Request) → (h : Describes d s) → task_of r.tag s.tasks ≡ None →
-    length s.tasks < most_tasks → (after : Core) (region n : ℕ) (p : Phase) → region ≡ 0 →
-    has_other_response s (cdb.SecurityIn region n) ≡ false → n ≤ 4096 → p ≡ held_phase n (min r.expected n) →
-    IsLayerWith after s.translation (claims_of (numbers_of s) s.tasks) →
-    IsBehind (handed_over (core_opened d r after p) (length (core_opened d r after p).tasks - 1))
-    (frames_begun s r region n)
-taken_opened d s r h free few after region n p is same short phase_is layer =
-    subst (λ (m : ℕ). has_other_response s (cdb.SecurityIn m n) ≡ false →
-    IsBehind (handed_over (core_opened d r after p) (length (core_opened d r after p).tasks - 1))
-    (frames_begun s r m n))
-    (sym is) (λ other. first_taken d s r h free few after n short other p phase_is layer) same

@@ -85,10 +85,10 @@ group_written p unit address blocks can =
 -- What it leaves
 
 -- a WRITE leaves each region as it is
-pub region_still : (p : Plain) (cs : List Command) (unit address : ℕ) (blocks : List (List ℕ)) →
-    region_of (after p (cs ++ command.Write unit address blocks ∷ [])) 0 ≡ region_of (after p cs) 0
-region_still p cs unit address blocks =
-    ap (λ (q : Plain). region_of q 0) (fold-append apply p cs (command.Write unit address blocks ∷ []))
+pub region_still : (p : Plain) (cs : List Command) (unit address : ℕ) (blocks : List (List ℕ)) (number : ℕ) →
+    region_of (after p (cs ++ command.Write unit address blocks ∷ [])) number ≡ region_of (after p cs) number
+region_still p cs unit address blocks number =
+    ap (λ (q : Plain). region_of q number) (fold-append apply p cs (command.Write unit address blocks ∷ []))
 
 -- a WRITE leaves the protection for ever as it is
 pub permanent_still : (p : Plain) (cs : List Command) (unit address : ℕ) (blocks : List (List ℕ)) →

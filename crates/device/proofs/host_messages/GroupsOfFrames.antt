@@ -8,10 +8,10 @@ use Rattle.std.proofs.lemmas.List.{append-nil, drop_all, length-drop, take_all}
 use Rattle.ufs_spec.proofs.RegionPages.{area_there}
 use Rattle.ufs_spec.specs.Commands.{Command, RpmbWrite, SetKey}
 use Rattle.ufs_spec.specs.Keys.{Group, IsKey, IsPlain, IsSettings, Item, area_key, area_page, below, content, group_of}
-use Rattle.ufs_spec.specs.Keys.{settings_key, settings_of}
+use Rattle.ufs_spec.specs.Keys.{said_by, settings_key, settings_of}
 use Rattle.ufs_spec.specs.Ledger.{all_contents}
 use Rattle.ufs_spec.specs.Moves.{IsItem}
-use Rattle.ufs_spec.specs.Plain.{CanApply, Plain, Region, apply, region_of, shape_of_numbers, with_part}
+use Rattle.ufs_spec.specs.Plain.{CanApply, Plain, Region, apply, region_of, regions, shape_of_numbers, with_part}
 use Rattle.ufs_spec.specs.Translation.{Translation}
 use Rattle.ufs_spec.specs.declared.flash.Key.{Key}
 use Rattle.ufs_laws.proofs.pages.SettingsBodies.{settings_block}
@@ -25,30 +25,29 @@ pub settings_whole : (t : Translation) (p : Plain) (body page : List ℕ) → Is
     all_contents t.ledger settings_key ≡ content p settings_key → page ≡ body →
     with_part 0 page (all_contents t.ledger settings_key) ≡ body
 settings_whole t p body page plain long old is =
-    let block = settings_block p.boot p.permanent (region_of p 0).key (region_of p 0).counter (settings_ranges p plain)
-    in
+    let block = settings_block p.boot p.permanent (map said_by p.regions) (settings_ranges p plain) in
     let as_long = ap length old ∙ block.0 in
     ap (λ (rest : List ℕ). page ++ rest) (drop_all (0 + length page) (all_contents t.ledger settings_key) (omega arith))
     ∙ (append-nil page ∙ is)
 
 -- a key changes the settings alone
-pub key_grouped : (t : Translation) (p : Plain) (bytes page : List ℕ) → IsPlain p → length page ≡ 4096 →
-    all_contents t.ledger settings_key ≡ content p settings_key → page ≡ settings_of (apply p (SetKey 0 bytes)) →
-    key_group page t ≡ group_of p (SetKey 0 bytes)
-key_grouped t p bytes page plain long old is =
+pub key_grouped : (t : Translation) (p : Plain) (region : ℕ) (bytes page : List ℕ) → IsPlain p →
+    length page ≡ 4096 → all_contents t.ledger settings_key ≡ content p settings_key →
+    page ≡ settings_of (apply p (SetKey region bytes)) → key_group page t ≡ group_of p (SetKey region bytes)
+key_grouped t p region bytes page plain long old is =
     ap (λ (body : List ℕ). record { key = settings_key; body = body } ∷ [])
-    (settings_whole t p (settings_of (apply p (SetKey 0 bytes))) page plain long old is)
+    (settings_whole t p (settings_of (apply p (SetKey region bytes))) page plain long old is)
 
-module _ (t : Translation) (p : Plain) (address : ℕ) (bytes page : List ℕ) (plain : IsPlain p)
-    (can : CanApply p (RpmbWrite 0 address bytes))
+module _ (t : Translation) (p : Plain) (region : ℕ) (known : region < regions) (address : ℕ) (bytes page : List ℕ)
+    (plain : IsPlain p) (can : CanApply p (RpmbWrite region address bytes))
     (contents : (k : Key) → IsKey (shape_of_numbers t.numbers) k → all_contents t.ledger k ≡ content p k)
-    (items : All (IsItem t) (group_of p (RpmbWrite 0 address bytes)))
-    (long : length page ≡ 4096) (page_is : page ≡ settings_of (apply p (RpmbWrite 0 address bytes))) where
+    (items : All (IsItem t) (group_of p (RpmbWrite region address bytes)))
+    (long : length page ≡ 4096) (page_is : page ≡ settings_of (apply p (RpmbWrite region address bytes))) where
   abbrev c : Command
-  c = RpmbWrite 0 address bytes
+  c = RpmbWrite region address bytes
 
   abbrev area : List ℕ
-  area = (region_of p 0).area
+  area = (region_of p region).area
 
   -- what the group has of a key
   abbrev item_of : Key → Item
@@ -56,7 +55,7 @@ module _ (t : Translation) (p : Plain) (address : ℕ) (bytes page : List ℕ) (
 
   -- its page of this place behind the first
   abbrev key_at : ℕ → Key
-  key_at i = area_key 0 (address / 16 + i)
+  key_at i = area_key region (address / 16 + i)
 
   -- how many pages of the area it has
   abbrev spanned : ℕ
@@ -79,14 +78,14 @@ module _ (t : Translation) (p : Plain) (address : ℕ) (bytes page : List ℕ) (
   size = can.0.1.0.1
 
   within : 256 * address + length bytes ≤ length area
-  within = let there = area_there p 0 in let low = can.0.1.1 in omega arith
+  within = let there = area_there p region in let low = can.0.1.1 in omega arith
 
   whole : length area ≡ 4096 * (length area / 4096)
-  whole = (its_region p 0 plain (omega arith)).area
+  whole = (its_region p region plain known).area
 
-  changed : (region_of (apply p c) 0).area ≡ with_part (256 * address) bytes area
+  changed : (region_of (apply p c) region).area ≡ with_part (256 * address) bytes area
   changed =
-      ap (λ (r : Region). r.area) (named_changed p c 0 (let many = plain.regions_count in omega arith) refl)
+      ap (λ (r : Region). r.area) (named_changed p c region (let many = plain.regions_count in omega arith) refl)
 
   -- a page of the area that the group has
   page_of : (i lo from n : ℕ) → LiesInPage (256 * address) (length bytes) (4096 * (address / 16 + i)) lo from n →
@@ -124,16 +123,17 @@ module _ (t : Translation) (p : Plain) (address : ℕ) (bytes page : List ℕ) (
 
   -- the item of a page, with these bytes from this place on
   abbrev placed : ℕ → ℕ → List ℕ → Item
-  placed q lo body = record { key = area_key 0 q; body = with_part lo body (all_contents t.ledger (area_key 0 q)) }
+  placed q lo body =
+      record { key = area_key region q; body = with_part lo body (all_contents t.ledger (area_key region q)) }
 
   -- all lies in one page
   in_one : length bytes ≤ room → 1 ≡ spanned →
-      pages 1 ≡ area_item t (address / 16) first bytes ∷ settings_item t page ∷ []
+      pages 1 ≡ area_item t region (address / 16) first bytes ∷ settings_item t page ∷ []
   in_one low one =
       (λ i. page_of 0 (256 * first) 0 (length bytes) lies reached (key_there 1 one 0 (omega arith)) i
       ∷ settings_end i ∷ [])
       ∙ (ap (λ (q : ℕ). placed q (256 * first) (take (length bytes) bytes) ∷ settings_item t page ∷ []) at_first
-      ∙ ap (λ (bs : List ℕ). area_item t (address / 16) first bs ∷ settings_item t page ∷ [])
+      ∙ ap (λ (bs : List ℕ). area_item t region (address / 16) first bs ∷ settings_item t page ∷ [])
       (take_all (length bytes) bytes (omega arith)))
     where
       lies : LiesInPage (256 * address) (length bytes) (4096 * (address / 16 + 0)) (256 * first) 0 (length bytes)
@@ -151,7 +151,7 @@ module _ (t : Translation) (p : Plain) (address : ℕ) (bytes page : List ℕ) (
   -- it lies in two pages
   in_two : room < length bytes → 2 ≡ spanned →
       pages 2
-      ≡ area_item t (address / 16) first (take room bytes) ∷ area_item t (address / 16 + 1) 0 (drop room bytes)
+      ≡ area_item t region (address / 16) first (take room bytes) ∷ area_item t region (address / 16 + 1) 0 (drop room bytes)
       ∷ settings_item t page ∷ []
   in_two high two =
       (λ i. page_of 0 (256 * first) 0 room here (reached 0 (omega arith)) (key_there 2 two 0 (omega arith)) i
@@ -159,7 +159,7 @@ module _ (t : Translation) (p : Plain) (address : ℕ) (bytes page : List ℕ) (
       ∷ settings_end i ∷ [])
       ∙ (ap (λ (q : ℕ). placed q (256 * first) (take room bytes)
       ∷ placed (address / 16 + 1) 0 (take (length bytes - room) (drop room bytes)) ∷ settings_item t page ∷ []) at_first
-      ∙ ap (λ (bs : List ℕ). area_item t (address / 16) first (take room bytes) ∷ area_item t (address / 16 + 1) 0 bs
+      ∙ ap (λ (bs : List ℕ). area_item t region (address / 16) first (take room bytes) ∷ area_item t region (address / 16 + 1) 0 bs
       ∷ settings_item t page ∷ [])
       (take_all (length bytes - room) (drop room bytes) (let rest = length-drop room bytes in omega arith)))
     where
@@ -184,17 +184,17 @@ module _ (t : Translation) (p : Plain) (address : ℕ) (bytes page : List ℕ) (
       reached : (i : ℕ) → i ≤ 1 → 4096 * (address / 16 + i) < length area
       reached i low = let last = within in omega arith
 
-  pub write_grouped : write_group address bytes page t ≡ group_of p c
+  pub write_grouped : write_group region address bytes page t ≡ group_of p c
   write_grouped = by (nat_le (length bytes) room) refl
     where
       -- the group by whether all fits into one page
       grouped : Bool → Group
       grouped b =
-          (if b then area_item t (address / 16) first bytes ∷ []
-          else area_item t (address / 16) first (take room bytes)
-          ∷ area_item t (address / 16 + 1) 0 (drop room bytes) ∷ []) ++ settings_item t page ∷ []
+          (if b then area_item t region (address / 16) first bytes ∷ []
+          else area_item t region (address / 16) first (take room bytes)
+          ∷ area_item t region (address / 16 + 1) 0 (drop room bytes) ∷ []) ++ settings_item t page ∷ []
 
-      by : (b : Bool) → nat_le (length bytes) room ≡ b → write_group address bytes page t ≡ group_of p c
+      by : (b : Bool) → nat_le (length bytes) room ≡ b → write_group region address bytes page t ≡ group_of p c
       by true fits =
           let low = leb-true (length bytes) room fits in
           let its = size in

@@ -26,7 +26,7 @@ use Rattle.device.specs.Kept.{DeviceCore, IsLayerWith}
 use Rattle.device.proofs.described.Answered.{IsBehind}
 use Rattle.device.proofs.host_messages.CommandPasses.{some_told}
 use Rattle.device.proofs.host_messages.ReadOpened.{core_opened}
-use Rattle.device.proofs.open_tasks.TaskOpened.{opens_still, quiet_here}
+use Rattle.device.proofs.open_tasks.TaskOpened.{opens_still, never_in, quiet_here}
 use Rattle.ufs_spec.specs.Refusals.{numbers_of}
 
 -- The block of the pool
@@ -53,6 +53,7 @@ new_task r p =
       expected = r.expected;
       phase = p;
       frames = frames.NotBrought;
+      region = 0;
     })
 
 -- the device with the new task, which keeps these bytes
@@ -121,7 +122,10 @@ module _ (d : DeviceCore) (s : State) (r : Request) (h : Describes d s) (free : 
             tag = refl;
             expected = refl;
             sends = quiet;
-            sends_here = quiet_here 0 (Some command) quiet;
+            in_regions = never_in 0 (Some command) quiet;
+            sends_to = λ other. quiet_here other (Some command) quiet;
+            gathers = tt;
+            asked_of = tt;
             request = refl;
             asks = tt;
             fits = tt;
@@ -136,7 +140,10 @@ module _ (d : DeviceCore) (s : State) (r : Request) (h : Describes d s) (free : 
             tag = refl;
             expected = refl;
             sends = quiet;
-            sends_here = quiet_here 0 (Some command) quiet;
+            in_regions = never_in 0 (Some command) quiet;
+            sends_to = λ other. quiet_here other (Some command) quiet;
+            gathers = tt;
+            asked_of = tt;
             request = refl;
             asks = tt;
             fits = (

@@ -19,7 +19,7 @@ use Rattle.power_loss.proofs.host_commands.WriteData.{length-blocks_in}
 use Rattle.power_loss.proofs.stops.SealedCells.{ranges_of}
 use Rattle.ftl_core.specs.Public as layer_kept
 use Rattle.ftl_core.specs.Public.{AreClaimed, Claims, Core, group_of_blocks, with_claimed}
-use Rattle.rpmb.specs.Kept.{IsKept}
+use Rattle.rpmb.specs.Kept.{IsKept, machine_at}
 use Rattle.task_set.specs.Tasks.{group_done}
 use Rattle.task_set.specs.declared.tasks.Phase.TheVariants as phase
 use Rattle.task_set.specs.declared.tasks.TaskEvent.{TaskEvent}
@@ -27,7 +27,7 @@ use Rattle.task_set.specs.declared.tasks.TaskEvent.TheVariants as event
 use Rattle.task_set.specs.declared.tasks.Transfer.{Transfer}
 use Rattle.device.specs.Calls.{HasTaken, MayAccept, taken_move}
 use Rattle.device.specs.Describes.{Describes, FramesFit, IsDoing, Keeps, blocks_gathered, claimed_in}
-use Rattle.device.specs.Describes.{claims_of, read_in}
+use Rattle.device.specs.Describes.{IsFor, claims_of, gathers_for, read_in}
 use Rattle.device.specs.Kept.{DeviceCore, IsLayerWith}
 use Rattle.device.proofs.due_replies.ReplyMoves.{few_set}
 use Rattle.device.proofs.host_messages.BlocksGathered.{Gathers, SendsNone, core_then, does, fits, found}
@@ -112,6 +112,7 @@ module _ (d : DeviceCore) (s : State) (tag : ℕ) (x : Transfer) (h : Describes 
       record {
         boot = h.kept.boot;
         permanent = h.kept.permanent;
+        each = h.kept.each;
         region = h.kept.region;
         registers = h.kept.registers;
         one_sends = sends_once d s tag x h r at g event.GroupRefused refl;
@@ -119,7 +120,7 @@ module _ (d : DeviceCore) (s : State) (tag : ℕ) (x : Transfer) (h : Describes 
         few = few_set d s r.k r.a r.b h r.opened (Answering exchange.write_error r.b.length);
         tasks =
             does d s tag x h r at g event.GroupRefused (Answering exchange.write_error r.b.length) (refl, g.total_is)
-            refl tt refl (ap read_in g.deed_is);
+            refl tt tt refl (ap read_in g.deed_is);
         wanted =
             still_wanted d s tag x h r at g (Answering exchange.write_error r.b.length)
             (record { wanted = λ index request. refl; read = refl });
@@ -141,6 +142,10 @@ module _ (d : DeviceCore) (s : State) (tag : ℕ) (x : Transfer) (h : Describes 
   taken_fits true = tt
   taken_fits false = tt
 
+  for_none : (fua : Bool) → IsFor r.a.region (gathers_for (write_deed fua (length s.accepted + 1) r.b.length))
+  for_none true = tt
+  for_none false = tt
+
   abbrev deed_now : Deed
   deed_now = write_deed x.forced (length s.accepted + 1) r.b.length
 
@@ -154,15 +159,17 @@ module _ (d : DeviceCore) (s : State) (tag : ℕ) (x : Transfer) (h : Describes 
       record {
         boot = h.kept.boot ∙ sym (boot_still s.base s.accepted g.unit g.address bodies);
         permanent = h.kept.permanent ∙ sym (permanent_still s.base s.accepted g.unit g.address bodies);
+        each = h.kept.each;
         region =
-            subst (IsKept d.rpmb.region) (sym (region_still s.base s.accepted g.unit g.address bodies)) h.kept.region;
+            λ number. subst (IsKept (machine_at d.rpmb number).region)
+            (sym (region_still s.base s.accepted g.unit g.address bodies number)) (h.kept.region number);
         registers = h.kept.registers;
         one_sends = sends_once d s tag x h r at g (event.GroupAccepted (next_number s.translation.ledger)) refl;
         layer_kept = subst (λ (m : Move). layer_kept.Describes after (moved s.translation m)) (sym move_is) layer;
         few = few_set d s r.k r.a r.b h r.opened deed_now;
         tasks =
             does d s tag x h r at g (event.GroupAccepted (next_number s.translation.ledger)) deed_now
-            (taken_does x.forced) refl (taken_fits x.forced) refl (ap read_in g.deed_is ∙ sym sends.read);
+            (taken_does x.forced) refl (taken_fits x.forced) (for_none x.forced) refl (ap read_in g.deed_is ∙ sym sends.read);
         wanted = still_wanted d s tag x h r at g deed_now sends;
         claims =
             its_claims d s tag x h r at g after deed_now [] (write_claims x.forced (numbers_of s) (length s.accepted + 1) r.b.length)

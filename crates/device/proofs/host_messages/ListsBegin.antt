@@ -20,7 +20,7 @@ use Rattle.device.specs.Lists.{IsOfList, list_slots}
 use Rattle.device.proofs.described.Answered.{IsBehind}
 use Rattle.device.proofs.host_messages.SlotsClaimed.{LayerThen, slots_found}
 use Rattle.device.proofs.host_messages.TasksBegin.{HasBegunFor, nothing_begins, opened_for, quiet_task, same_phase}
-use Rattle.device.proofs.open_tasks.TaskOpened.{none_claimed, opens_gathering}
+use Rattle.device.proofs.open_tasks.TaskOpened.{none_claimed, opens_gathering, never_in}
 use Rattle.ufs_spec.specs.Refusals.{numbers_of}
 
 -- a list that is there is a header, or a header with one descriptor
@@ -64,7 +64,10 @@ module _ (d : DeviceCore) (s : State) (r : Request) (h : Describes d s) (free : 
         tag = refl;
         expected = refl;
         sends = refl;
-        sends_here = refl;
+        in_regions = never_in 0 (Some (cdb.Unmap list)) refl;
+        sends_to = λ other. refl;
+        gathers = tt;
+        asked_of = tt;
         request = refl;
         asks = tt;
         fits = refl;

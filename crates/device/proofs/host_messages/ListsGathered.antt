@@ -1,5 +1,5 @@
 -- The list of an UNMAP came: what its task has claimed, and what is kept once the task is answered.
-use Rattle.std.proofs.Common.{◌≡◌, ◌∙◌, ◌⊎◌, ℕ, Bool, true, List, [], Some, None, cond, length, replicate, inl, inr}
+use Rattle.std.proofs.Common.{◌≡◌, ◌∙◌, ◌⊎◌, ℕ, Bool, true, List, [], Some, None, cond, length, replicate, inl, inr, ◌&&◌, ◌==◌}
 use Rattle.std.proofs.Common.{refl, sym, ap, subst}
 use Rattle.std.proofs.lemmas.List.{length-replicate}
 use Rattle.ufs_spec.proofs.Facts.{none-some}
@@ -17,7 +17,7 @@ use Rattle.power_loss.specs.Exchange.{claim_of}
 use Rattle.power_loss.proofs.books.SmallFacts.{eq_self}
 use Rattle.power_loss.proofs.host_commands.GatheringTasks.{GathersIn, gathers_in}
 use Rattle.ftl_core.specs.Public.{Core, with_claimed}
-use Rattle.rpmb.specs.Kept.{IsKept}
+use Rattle.rpmb.specs.Kept.{IsKept, machine_at}
 use Rattle.task_set.specs.Frames.{frames_after}
 use Rattle.task_set.specs.Kept.{OpenTask}
 use Rattle.task_set.specs.Lists.{task_happened, wanted_in as wanted_of}
@@ -142,7 +142,7 @@ module _ {d : DeviceCore} {s : State} {tag : ℕ} {list : List ℕ} (c : ListCam
   pub record Leads (layer : Core) (u : Translation) (cs : List Command) : Type 0 where
     pub boot : (after s.base cs).boot ≡ (plain_now s).boot
     pub permanent : (after s.base cs).permanent ≡ (plain_now s).permanent
-    pub region : region_of (after s.base cs) 0 ≡ region_of (plain_now s) 0
+    pub region : (number : ℕ) → region_of (after s.base cs) number ≡ region_of (plain_now s) number
     pub layer_is : IsLayerWith layer u (with_claimed (claims_of (numbers_of s) s.tasks) tag [])
     pub numbers : u.numbers ≡ s.translation.numbers
     pub before : before_accepted u.ledger ≡ before_accepted s.translation.ledger
@@ -167,7 +167,12 @@ module _ {d : DeviceCore} {s : State} {tag : ℕ} {list : List ℕ} (c : ListCam
       tag = c.stands.opened.kept.tag;
       expected = c.stands.opened.kept.expected;
       sends = c.stands.opened.kept.sends ∙ still_brings;
-      sends_here = c.stands.opened.kept.sends_here ∙ still_brings;
+      in_regions = c.stands.opened.kept.in_regions;
+      sends_to =
+          λ other. (c.stands.opened.kept.sends_to other
+          ∙ ap (λ (b : Bool). b && (c.stands.a.region == other)) still_brings);
+      gathers = tt;
+      asked_of = c.stands.opened.kept.asked_of;
       request =
           subst (λ (f : Frames). AreFramesKept f c.stands.a.held c.stands.b.request) (sym tells.frames_stay)
           c.stands.opened.kept.request;
@@ -208,7 +213,10 @@ module _ {d : DeviceCore} {s : State} {tag : ℕ} {list : List ℕ} (c : ListCam
           changes = deed_changes c.stands.b.tag answering;
           boot = leads.boot;
           permanent = leads.permanent;
-          region = subst (IsKept d.rpmb.region) (sym leads.region) c.described.kept.region;
+          each = c.described.kept.each;
+          region =
+              λ number. subst (IsKept (machine_at d.rpmb number).region) (sym (leads.region number))
+              (c.described.kept.region number);
           registers_are = c.described.kept.registers;
           layer_is =
               subst (λ (y : exchange.Task). IsLayerWith layer u
@@ -233,7 +241,7 @@ module _ {d : DeviceCore} {s : State} {tag : ℕ} {list : List ℕ} (c : ListCam
         told_keeps layer (moved s.translation (Release (claim_of (numbers_of s) c.stands.b))) s.accepted (record {
           boot = refl;
           permanent = refl;
-          region = refl;
+          region = λ number. refl;
           layer_is =
               subst (λ (n : ℕ). IsLayerWith layer (moved s.translation (Release n))
               (with_claimed (claims_of (numbers_of s) s.tasks) tag [])) slots_are given;

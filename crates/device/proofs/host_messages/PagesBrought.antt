@@ -79,7 +79,7 @@ has_put before after tag group number xs numbered described claimed brought = re
 
 -- What a write brings, by whether it fits into one page
 
-module _ (before after : Core) (tag : ℕ) (address number : ℕ) (bytes page : List ℕ) (long : length page ≡ 4096)
+module _ (before after : Core) (tag region : ℕ) (address number : ℕ) (bytes page : List ℕ) (long : length page ≡ 4096)
     (numbered : (t : Translation) → Describes before t → number ≡ next_number t.ledger)
     (claimed : (claims : Claims) → AreClaimed before claims → AreClaimed after (with_claimed claims tag [])) where
   -- what the call says of these pages
@@ -94,30 +94,30 @@ module _ (before after : Core) (tag : ℕ) (address number : ℕ) (bytes page : 
   -- the group, by whether all fits into its first page
   abbrev grouped : Bool → Translation → Group
   grouped b t =
-      (if b then area_item t (address / 16) (address % 16) bytes ∷ []
-      else area_item t (address / 16) (address % 16) (take room bytes)
-      ∷ area_item t (address / 16 + 1) 0 (drop room bytes) ∷ []) ++ settings_item t page ∷ []
+      (if b then area_item t region (address / 16) (address % 16) bytes ∷ []
+      else area_item t region (address / 16) (address % 16) (take room bytes)
+      ∷ area_item t region (address / 16 + 1) 0 (drop room bytes) ∷ []) ++ settings_item t page ∷ []
 
   settings_there : (t : Translation) (z : Brought) → IsBrought settings_key 0 page z →
       IsItemBrought t (settings_item t page) z
   settings_there t z is = item_brought t settings_key 0 page z is (λ apart. long)
 
-  area_there : (t : Translation) (q first : ℕ) (bs : List ℕ) (x : Brought) → IsBrought (area_key 0 q) first bs x →
-      IsItemBrought t (area_item t q first bs) x
-  area_there t q first bs x is = item_brought t (area_key 0 q) first bs x is (λ apart. absurd (true≢false apart))
+  area_there : (t : Translation) (q first : ℕ) (bs : List ℕ) (x : Brought) →
+      IsBrought (area_key region q) first bs x → IsItemBrought t (area_item t region q first bs) x
+  area_there t q first bs x is = item_brought t (area_key region q) first bs x is (λ apart. absurd (true≢false apart))
 
-  pub one_put : length bytes ≤ room → (x z : Brought) → IsBrought (area_key 0 (address / 16)) (address % 16) bytes x →
+  pub one_put : length bytes ≤ room → (x z : Brought) → IsBrought (area_key region (address / 16)) (address % 16) bytes x →
       IsBrought settings_key 0 page z → Puts (x ∷ z ∷ []) →
-      HasPut before after tag (write_group address bytes page) number
+      HasPut before after tag (write_group region address bytes page) number
   one_put low x z its last puts =
       subst (λ (b : Bool). HasPut before after tag (grouped b) number) (sym (le-leb (length bytes) room low))
       (has_put before after tag (grouped true) number (x ∷ z ∷ []) numbered puts claimed
       (λ t. two_brought t _ _ x z (area_there t (address / 16) (address % 16) bytes x its) (settings_there t z last)))
 
   pub two_put : room < length bytes → (x y z : Brought) →
-      IsBrought (area_key 0 (address / 16)) (address % 16) (take room bytes) x →
-      IsBrought (area_key 0 (address / 16 + 1)) 0 (drop room bytes) y → IsBrought settings_key 0 page z →
-      Puts (x ∷ y ∷ z ∷ []) → HasPut before after tag (write_group address bytes page) number
+      IsBrought (area_key region (address / 16)) (address % 16) (take room bytes) x →
+      IsBrought (area_key region (address / 16 + 1)) 0 (drop room bytes) y → IsBrought settings_key 0 page z →
+      Puts (x ∷ y ∷ z ∷ []) → HasPut before after tag (write_group region address bytes page) number
   two_put high x y z its more last puts =
       subst (λ (b : Bool). HasPut before after tag (grouped b) number) (sym (lt-leb (length bytes) room high))
       (has_put before after tag (grouped false) number (x ∷ y ∷ z ∷ []) numbered puts claimed

@@ -63,6 +63,7 @@ power_on_more d s tag said on h =
       keeps = record {
         boot = its.keeps.boot;
         permanent = its.keeps.permanent;
+        each = its.keeps.each;
         region = its.keeps.region;
         registers = its.keeps.registers;
         layer_kept = its.keeps.layer_kept;

@@ -31,20 +31,27 @@ use Rattle.device.specs.Hears.{with_task}
 use Rattle.device.specs.Kept.{DeviceCore}
 use Rattle.device.proofs.described.Answered.{IsBehind}
 use Rattle.device.proofs.host_messages.BlocksKept.{kept_are, made_is, others_found, others_wanted, own_wanted}
-use Rattle.device.proofs.open_tasks.TaskOpened.{none_wanted, open_answered, open_keeps, open_told, quiet_here}
+use Rattle.device.proofs.open_tasks.TaskOpened.{none_wanted, open_answered, open_keeps, open_told, never_in, quiet_here}
 use Rattle.device.proofs.open_tasks.TaskOpened.{still_claimed}
 use Rattle.ufs_spec.specs.Refusals.{numbers_of}
 
--- the device with the new task, which has this to do with frames, over the layer as it is then
-abbrev pub core_with : DeviceCore → Request → Core → Phase → Frames → DeviceCore
-core_with d r after p f =
+-- the device with the new task, which has this to do with frames of this region, over the layer as it is then
+abbrev pub core_with : DeviceCore → Request → Core → Phase → Frames → ℕ → DeviceCore
+core_with d r after p f region =
     record
-    (with_task d (newly_open (record { tag = r.tag; lun = r.lun; expected = r.expected; phase = p; frames = f })))
+    (with_task d (newly_open (record {
+      tag = r.tag;
+      lun = r.lun;
+      expected = r.expected;
+      phase = p;
+      frames = f;
+      region = region;
+    })))
     { ftl = after }
 
 -- the same of a task that brings none
 abbrev pub core_opened : DeviceCore → Request → Core → Phase → DeviceCore
-core_opened d r after p = core_with d r after p frames.NotBrought
+core_opened d r after p = core_with d r after p frames.NotBrought 0
 
 abbrev pub block_now : State → (unit address i : ℕ) → ReadBlock
 block_now s unit address i = record { body = block_at unit (address + i) (plain_now s); state = Unread }
@@ -87,7 +94,10 @@ module _ (d : DeviceCore) (s : State) (r : Request) (h : Describes d s) (free : 
           tag = refl;
           expected = refl;
           sends = sends;
-          sends_here = quiet_here 0 (Some command) sends;
+          in_regions = never_in 0 (Some command) sends;
+          sends_to = λ other. quiet_here other (Some command) sends;
+          gathers = tt;
+          asked_of = tt;
           request = refl;
           asks = tt;
           fits = refl;

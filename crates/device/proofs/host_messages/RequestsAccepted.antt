@@ -1,7 +1,8 @@
 -- The frames are a key or a write: its group is accepted, and its task waits until that is durable.
-use Rattle.std.proofs.Common.{◌≡◌, ◌∙◌, ℕ, ◌+◌, ◌/◌, ◌≤◌, ◌++◌, false, List, [], ◌∷◌, Some, length}
+use Rattle.std.proofs.Common.{◌≡◌, ◌∙◌, ℕ, ◌+◌, ◌/◌, ◌≤◌, ◌==◌, ◌++◌, Bool, true, false, List, [], ◌∷◌, Some, length}
 use Rattle.std.proofs.Common.{replicate, refl, sym, ap, subst, arith}
 use Rattle.std.proofs.lemmas.List.Sums.{fold-append}
+use Rattle.ufs_spec.proofs.Facts.{eqb-false, eqb-true}
 use Rattle.ufs_spec.specs.Changes.{accepts, claimed_by as claimed_by_deed}
 use Rattle.ufs_spec.specs.Commands.{Command}
 use Rattle.ufs_spec.specs.Exchanges.{Awaiting, Deed}
@@ -11,7 +12,7 @@ use Rattle.ufs_spec.specs.Keys.{group_of}
 use Rattle.ufs_spec.specs.Ledger.{next_number}
 use Rattle.ufs_spec.specs.Messages.{AreBytes}
 use Rattle.ufs_spec.specs.Moves.{Accept, IsAllowedMove, Move, moved}
-use Rattle.ufs_spec.specs.Plain.{Plain, apply, changed_by, region_of, zero_block}
+use Rattle.ufs_spec.specs.Plain.{Plain, after, apply, changed_by, region_of, zero_block}
 use Rattle.ufs_spec.specs.Refusals.{State, locked, numbers_of, plain_now}
 use Rattle.ufs_spec.specs.Rpmb.{Region, Results, applied, rpmb_outcome}
 use Rattle.ufs_spec.specs.Translation.{is_mended}
@@ -23,7 +24,7 @@ use Rattle.power_loss.proofs.host_commands.AcceptedCommands.{IsComing, command_a
 use Rattle.power_loss.proofs.host_commands.ListsAndFrames.{FramesCame, frames_coming}
 use Rattle.power_loss.proofs.open_tasks.TaskLists.{found_fits}
 use Rattle.ftl_core.specs.Public.{with_claimed}
-use Rattle.rpmb.specs.Kept.{IsKept}
+use Rattle.rpmb.specs.Kept.{IsKept, Machine, machine_at}
 use Rattle.rpmb.specs.Outcomes.{command_of}
 use Rattle.rpmb.specs.Requests.{frames_of}
 use Rattle.rpmb.specs.declared.outcomes.Accepted.{Accepted}
@@ -34,18 +35,18 @@ use Rattle.device.specs.Describes.{Keeps, claims_of}
 use Rattle.device.specs.Frames.{HasAccepted, HasRequested, IsPlainOf, with_held, with_zeros}
 use Rattle.device.specs.Kept.{DeviceCore, IsLayerWith}
 use Rattle.device.proofs.host_messages.FramesAccepted.{area_stays, boot_stays, contents_now, permanent_stays}
-use Rattle.device.proofs.host_messages.FramesAccepted.{reads_none, region_changed}
+use Rattle.device.proofs.host_messages.FramesAccepted.{other_region, reads_none, region_changed}
 use Rattle.device.proofs.host_messages.FramesGathered.{AllCame, all_frames, first_frame, fits, frames_are, frames_long}
-use Rattle.device.proofs.host_messages.FramesGathered.{given_up, its_slots, not_wanted, requested_keeps}
+use Rattle.device.proofs.host_messages.FramesGathered.{given_up, its_slots, not_wanted, requested_keeps, to, to_there}
 use Rattle.device.proofs.host_messages.NumbersAwaited.{number_awaited}
 
 module _ {d : DeviceCore} {s : State} {tag : ℕ} {bytes : List ℕ} (c : AllCame d s tag bytes)
     (are : AreBytes bytes) (code : ℕ) (what : Accepted) (command : Command)
-    (is_command : command_of 0 (frames_of bytes) what ≡ Some command)
-    (named : region_named command ≡ Some 0)
-    (passed : rpmb_outcome 0 (region_of (plain_now s) 0) (s.registers 0) (locked s) (frames_of bytes)
+    (is_command : command_of (to c) (frames_of bytes) what ≡ Some command)
+    (named : region_named command ≡ Some (to c))
+    (passed : rpmb_outcome (to c) (region_of (plain_now s) (to c)) (s.registers (to c)) (locked s) (frames_of bytes)
     ≡ Results code (Some command)) where
-  came : FramesCame s c.stands.b 0 (frames_of bytes)
+  came : FramesCame s c.stands.b (to c) (frames_of bytes)
   came = record {
     region_in = (fits c).region_in;
     each = first_frames (length bytes / 512) bytes (omega arith) are;
@@ -82,14 +83,16 @@ module _ {d : DeviceCore} {s : State} {tag : ℕ} {bytes : List ℕ} (c : AllCam
     contents = λ k is. contents_now s k c.described.tied is;
     boot = c.described.kept.boot;
     permanent = c.described.kept.permanent;
+    each = c.described.kept.each;
     region = c.described.kept.region;
   }
 
   -- no page of the area is read
   asks_none : reads_area (first_frame bytes) code ≡ false
   asks_none =
-      reads_none 0 (region_of (plain_now s) 0) (s.registers 0) (locked s) (first_frame bytes) _ code command
-      (sym (ap (rpmb_outcome 0 (region_of (plain_now s) 0) (s.registers 0) (locked s)) (frames_are c)) ∙ passed)
+      reads_none (to c) (region_of (plain_now s) (to c)) (s.registers (to c)) (locked s) (first_frame bytes) _ code command
+      (sym (ap (rpmb_outcome (to c) (region_of (plain_now s) (to c)) (s.registers (to c)) (locked s)) (frames_are c))
+      ∙ passed)
 
   abbrev number : ℕ
   number = next_number s.translation.ledger
@@ -97,12 +100,12 @@ module _ {d : DeviceCore} {s : State} {tag : ℕ} {bytes : List ℕ} (c : AllCam
   abbrev awaits : Deed
   awaits = Awaiting (length s.accepted + 1)
 
-  accepted_keeps : (come : DeviceCore) (did : HasRequested d come tag c.stands.k bytes code what) →
+  accepted_keeps : (come : DeviceCore) (did : HasRequested d come tag c.stands.k (to c) bytes code what) →
       HasAccepted (with_held d c.stands.k (with_zeros bytes))
-      (record (with_held d c.stands.k (with_zeros bytes)) { ftl = did.layer; rpmb = did.rpmb }) tag (frames_of bytes)
-      code what did.event →
+      (record (with_held d c.stands.k (with_zeros bytes)) { ftl = did.layer; rpmb = did.rpmb }) tag (to c)
+      (frames_of bytes) code what did.event →
       Keeps come
-      (requested (accepts s command (claimed_by_deed (numbers_of s) c.stands.b.deed c.stands.b.command)) c.stands.b 0
+      (requested (accepts s command (claimed_by_deed (numbers_of s) c.stands.b.deed c.stands.b.command)) c.stands.b (to c)
       (all_frames bytes) code awaits)
   accepted_keeps come did took =
       requested_keeps c come code what did (event.RequestAccepted code number) (phase.AwaitFrontier number c.size)
@@ -116,20 +119,17 @@ module _ {d : DeviceCore} {s : State} {tag : ℕ} {bytes : List ℕ} (c : AllCam
         fits_in = tt;
         doing = (number_awaited s c.described.tied, c.gathers.total_is);
         none_sent = refl;
+        none_gathered = refl;
       })
       (record {
         boot =
             ap (λ (q : Plain). q.boot) (fold-append apply s.base s.accepted (command ∷ []))
-            ∙ boot_stays (plain_now s) command named;
+            ∙ boot_stays (plain_now s) command (to c) named;
         permanent =
             ap (λ (q : Plain). q.permanent) (fold-append apply s.base s.accepted (command ∷ []))
-            ∙ permanent_stays (plain_now s) command named;
-        region =
-            subst (IsKept did.rpmb.region)
-            (region_is ∙ sym (region_changed s.base s.accepted command (plain_tied c.described.tied) named))
-            (took.region 0 (region_of (plain_now s) 0) c.described.kept.region
-            (ap (λ (x : Region). length x.area) region_is
-            ∙ area_stays (plain_now s) command (plain_tied c.described.tied) coming.is coming.can named));
+            ∙ permanent_stays (plain_now s) command (to c) named;
+        each = took.each ∙ c.described.kept.each;
+        region = λ other. region_then other (other == to c) refl;
         registers = took.registers;
         layer_is = layer;
         none_claimed = refl;
@@ -139,9 +139,31 @@ module _ {d : DeviceCore} {s : State} {tag : ℕ} {bytes : List ℕ} (c : AllCam
         others_wanted = λ n other index. refl;
       })
     where
-      region_is : applied (region_of (plain_now s) 0) (command_of 0 (frames_of bytes) what)
-          ≡ changed_by (region_of (plain_now s) 0) command
-      region_is = ap (applied (region_of (plain_now s) 0)) is_command
+      region_is : applied (region_of (plain_now s) (to c)) (command_of (to c) (frames_of bytes) what)
+          ≡ changed_by (region_of (plain_now s) (to c)) command
+      region_is = ap (applied (region_of (plain_now s) (to c))) is_command
+
+      -- the region that the command names
+      its_region : IsKept (machine_at did.rpmb (to c)).region (region_of (after s.base (s.accepted ++ command ∷ [])) (to c))
+      its_region =
+          subst (IsKept (machine_at did.rpmb (to c)).region)
+          (region_is ∙ sym (region_changed s.base s.accepted command (plain_tied c.described.tied) (to c) (to_there c) named))
+          (took.region (region_of (plain_now s) (to c)) (to_there c) (c.described.kept.region (to c))
+          (ap (λ (x : Region). length x.area) region_is
+          ∙ area_stays (plain_now s) command (plain_tied c.described.tied) coming.is coming.can (to c) (to_there c) named))
+
+      -- and any other one
+      region_then : (other : ℕ) (b : Bool) → (other == to c) ≡ b →
+          IsKept (machine_at did.rpmb other).region (region_of (after s.base (s.accepted ++ command ∷ [])) other)
+      region_then other true e =
+          subst (λ (n : ℕ). IsKept (machine_at did.rpmb n).region
+          (region_of (after s.base (s.accepted ++ command ∷ [])) n)) (sym (eqb-true other (to c) e)) its_region
+      region_then other false e =
+          let differ = eqb-false other (to c) e in
+          subst (λ (m : Machine). IsKept m.region (region_of (after s.base (s.accepted ++ command ∷ [])) other))
+          (sym (took.others other differ))
+          (subst (IsKept (machine_at d.rpmb other).region)
+          (sym (other_region s.base s.accepted command (to c) other differ named)) (c.described.kept.region other))
 
       layer : IsLayerWith did.layer (moved s.translation (taking (claim_of (numbers_of s) c.stands.b))) (given_up c)
       layer =
@@ -152,13 +174,14 @@ module _ {d : DeviceCore} {s : State} {tag : ℕ} {bytes : List ℕ} (c : AllCam
           (took.layer s.translation (claims_of (numbers_of s) s.tasks) (plain_now s) command
           (c.described.kept.layer_kept, c.described.kept.claims)
           (subst (λ (n : ℕ). claims_of (numbers_of s) s.tasks n ≡ replicate frame_slots zero_block) c.stands.tag_is (its_slots c))
+          (to_there c)
           (record { command = is_command; is = coming.is; plain = plain_is; can = coming.can; allowed = allowed })))
 
   -- the same of the frames as they came
-  pub command_keeps : (come : DeviceCore) (did : HasRequested d come tag c.stands.k bytes code what) →
+  pub command_keeps : (come : DeviceCore) (did : HasRequested d come tag c.stands.k (to c) bytes code what) →
       HasAccepted (with_held d c.stands.k (with_zeros bytes))
-      (record (with_held d c.stands.k (with_zeros bytes)) { ftl = did.layer; rpmb = did.rpmb }) tag (frames_of bytes)
-      code what did.event → Keeps come (request_decided s c.stands.b 0 (frames_of bytes) (Results code (Some command)))
+      (record (with_held d c.stands.k (with_zeros bytes)) { ftl = did.layer; rpmb = did.rpmb }) tag (to c)
+      (frames_of bytes) code what did.event → Keeps come (request_decided s c.stands.b (to c) (frames_of bytes) (Results code (Some command)))
   command_keeps come did took =
-      subst (λ (fs : List Frame). Keeps come (request_decided s c.stands.b 0 fs (Results code (Some command))))
+      subst (λ (fs : List Frame). Keeps come (request_decided s c.stands.b (to c) fs (Results code (Some command))))
       (sym (frames_are c)) (accepted_keeps come did took)

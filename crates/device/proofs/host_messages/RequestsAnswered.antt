@@ -23,7 +23,7 @@ use Rattle.power_loss.specs.WaitingFrames.{AsksInside}
 use Rattle.power_loss.proofs.commands.RequestedCommands.{asks_inside}
 use Rattle.power_loss.proofs.host_commands.ListsAndFrames.{keys_of_area}
 use Rattle.ftl_core.specs.Public.{with_claimed}
-use Rattle.rpmb.specs.Kept.{IsKept, Machine}
+use Rattle.rpmb.specs.Kept.{IsKept, Machine, machine_at}
 use Rattle.rpmb.specs.declared.outcomes.Accepted.TheVariants as accepted
 use Rattle.task_set.specs.Frames.{reading_of}
 use Rattle.task_set.specs.declared.tasks.Phase.TheVariants as phase
@@ -35,17 +35,17 @@ use Rattle.device.specs.Frames.{with_zeros}
 use Rattle.device.specs.Kept.{DeviceCore, IsLayerWith}
 use Rattle.device.proofs.host_messages.BlocksKept.{kept_are, others_wanted}
 use Rattle.device.proofs.host_messages.FramesGathered.{AllCame, all_frames, first_frame, fits, frames_are, given_up}
-use Rattle.device.proofs.host_messages.FramesGathered.{not_wanted, released, requested_keeps}
+use Rattle.device.proofs.host_messages.FramesGathered.{not_wanted, released, requested_keeps, to}
 use Rattle.device.proofs.host_messages.PagesAsked.{all_wanted, none_read, none_stands}
 use Rattle.device.proofs.open_tasks.FewPins.{area_has_room, none_kept}
 
 -- what may be kept, whatever the list of frames is written as
-may_answer : (t : Translation) (tag : ℕ) (fs gs : List Frame) (code : ℕ) → fs ≡ gs → MayAnswer t tag gs code →
-    MayAnswer t tag fs code
-may_answer t tag fs gs code same = subst (λ (xs : List Frame). MayAnswer t tag xs code) (sym same)
+may_answer : (t : Translation) (tag region : ℕ) (fs gs : List Frame) (code : ℕ) → fs ≡ gs →
+    MayAnswer t tag region gs code → MayAnswer t tag region fs code
+may_answer t tag region fs gs code same = subst (λ (xs : List Frame). MayAnswer t tag region xs code) (sym same)
 
 module _ {d : DeviceCore} {s : State} {tag : ℕ} {bytes : List ℕ} (c : AllCame d s tag bytes)
-    (come : DeviceCore) (code : ℕ) (did : HasRequested d come tag c.stands.k bytes code accepted.Nothing) where
+    (come : DeviceCore) (code : ℕ) (did : HasRequested d come tag c.stands.k (to c) bytes code accepted.Nothing) where
   abbrev first : Frame
   first = first_frame bytes
 
@@ -54,9 +54,10 @@ module _ {d : DeviceCore} {s : State} {tag : ℕ} {bytes : List ℕ} (c : AllCam
   given = moved s.translation (Release (claim_of (numbers_of s) c.stands.b))
 
   -- key and counter stay
-  region_stays : IsKept did.rpmb.region (region_of (plain_now s) 0)
-  region_stays =
-      subst (λ (m : Machine). IsKept m.region (region_of (plain_now s) 0)) (sym did.decided.1) c.described.kept.region
+  region_stays : (number : ℕ) → IsKept (machine_at did.rpmb number).region (region_of (plain_now s) number)
+  region_stays number =
+      subst (λ (ms : List Machine). IsKept (machine_at ms number).region (region_of (plain_now s) number))
+      (sym did.decided.1) (c.described.kept.region number)
 
   -- this happened, by whether the request reads pages of the area
   event_is : (b : Bool) → reads_area first code ≡ b →
@@ -67,24 +68,24 @@ module _ {d : DeviceCore} {s : State} {tag : ℕ} {bytes : List ℕ} (c : AllCam
       ∙ ap (λ (x : Bool). cond x (event.AreaAsked code first.address first.count) (event.RequestAnswered code)) e)
 
   -- and these moves were made
-  layer_is : (b : Bool) → reads_area first code ≡ b → MayAnswer s.translation tag (all_frames bytes) code →
-      IsLayerWith did.layer (fold moved given (if b then area_keeps s.translation c.stands.b.tag first else []))
+  layer_is : (b : Bool) → reads_area first code ≡ b → MayAnswer s.translation tag (to c) (all_frames bytes) code →
+      IsLayerWith did.layer (fold moved given (if b then area_keeps s.translation c.stands.b.tag (to c) first else []))
       (given_up c)
   layer_is b e may =
-      released c did.layer (λ n. if b then area_keeps s.translation n first else [])
+      released c did.layer (λ n. if b then area_keeps s.translation n (to c) first else [])
       (subst (λ (ms : List Move). IsLayerWith did.layer
       (fold moved (moved s.translation (Release (length (claims_of (numbers_of s) s.tasks tag)))) ms)
       (with_claimed (claims_of (numbers_of s) s.tasks) tag []))
-      (ap (λ (fs : List Frame). answer_moves s.translation tag fs code) (frames_are c)
-      ∙ ap (λ (x : Bool). cond x (area_keeps s.translation tag first) []) e)
+      (ap (λ (fs : List Frame). answer_moves s.translation tag (to c) fs code) (frames_are c)
+      ∙ ap (λ (x : Bool). cond x (area_keeps s.translation tag (to c) first) []) e)
       (did.decided.0.layer s.translation (claims_of (numbers_of s) s.tasks) (c.described.kept.layer_kept, c.described.kept.claims)
-      (may_answer s.translation tag _ (all_frames bytes) code (frames_are c) may)))
+      (may_answer s.translation tag (to c) _ (all_frames bytes) code (frames_are c) may)))
 
   -- A request that is answered at once
 
   quiet_keeps : reads_area first code ≡ false →
       Keeps come
-      (requested (given_back s c.stands.b) c.stands.b 0 (all_frames bytes) code (Answering Good c.stands.b.length))
+      (requested (given_back s c.stands.b) c.stands.b (to c) (all_frames bytes) code (Answering Good c.stands.b.length))
   quiet_keeps none =
       requested_keeps c come code accepted.Nothing did (event.RequestAnswered code) (phase.Answer status.Good c.size)
       (Answering Good c.stands.b.length) given s.accepted (event_is false none)
@@ -96,12 +97,14 @@ module _ {d : DeviceCore} {s : State} {tag : ℕ} {bytes : List ℕ} (c : AllCam
         fits_in = tt;
         doing = (refl, c.gathers.total_is);
         none_sent = refl;
+        none_gathered = refl;
       })
       (record {
         boot = refl;
         permanent = refl;
+        each = ap length did.decided.1 ∙ c.described.kept.each;
         region = region_stays;
-        registers = ap (λ (m : Machine). m.registers) did.decided.1;
+        registers = λ number. ap (λ (ms : List Machine). (machine_at ms number).registers) did.decided.1;
         layer_is = layer_is false none (λ reads. absurd (true≢false (sym reads ∙ none)));
         none_claimed = refl;
         numbers = refl;
@@ -114,36 +117,36 @@ module _ {d : DeviceCore} {s : State} {tag : ℕ} {bytes : List ℕ} (c : AllCam
 
   -- its pages, and what is kept of them
   abbrev page_read : ℕ → ReadBlock
-  page_read i = record { body = content (plain_now s) (area_key 0 (first_page first + i)); state = Unread }
+  page_read i = record { body = content (plain_now s) (area_key (to c) (first_page first + i)); state = Unread }
 
   abbrev page_pin : ℕ → Pin
-  page_pin = page_kept s c.stands.b.tag 0 first
+  page_pin = page_kept s c.stands.b.tag (to c) first
 
   abbrev reading : Deed
-  reading = ReadingArea (area_read s 0 first)
+  reading = ReadingArea (area_read s (to c) first)
 
   -- the layer once they are kept
   abbrev area_kept : Translation
-  area_kept = fold moved given (area_keeps s.translation c.stands.b.tag first)
+  area_kept = fold moved given (area_keeps s.translation c.stands.b.tag (to c) first)
 
   kept_is : area_kept ≡ record given { pins = s.translation.pins ++ map page_pin (below (pages_named first)) }
-  kept_is = kept_are (λ i. area_key 0 (first_page first + i)) page_pin (below (pages_named first)) given
+  kept_is = kept_are (λ i. area_key (to c) (first_page first + i)) page_pin (below (pages_named first)) given
 
   module _ (reads : reads_area first code ≡ true)
-      (passed : rpmb_outcome 0 (region_of (plain_now s) 0) (s.registers 0) (locked s) (all_frames bytes)
+      (passed : rpmb_outcome (to c) (region_of (plain_now s) (to c)) (s.registers (to c)) (locked s) (all_frames bytes)
       ≡ Results code None) where
-    inside : AsksInside (length (region_of (plain_now s) 0).area) first
+    inside : AsksInside (length (region_of (plain_now s) (to c)).area) first
     inside =
         let both = and_parts (first.kind == read_data) (is_success code) reads in
-        asks_inside (plain_now s) 0 (s.registers 0) (locked s) first _ code None passed
+        asks_inside (plain_now s) (to c) (s.registers (to c)) (locked s) first _ code None passed
         (eqb-true first.kind read_data both.0) both.1
 
     key_there : (i : ℕ) → i < pages_named first →
-        IsKey (shape_of_numbers (numbers_of s)) (area_key 0 (first_page first + i))
+        IsKey (shape_of_numbers (numbers_of s)) (area_key (to c) (first_page first + i))
     key_there i low =
-        subst (λ (j : ℕ). IsKey (shape_of_numbers (numbers_of s)) (area_key 0 (first_page first + j)))
+        subst (λ (j : ℕ). IsKey (shape_of_numbers (numbers_of s)) (area_key (to c) (first_page first + j)))
         (get_or-below (pages_named first) i 0 low)
-        (keys_of_area 0 first c.described.tied (fits c).region_in inside i 0 (there (pages_named first) i low))
+        (keys_of_area (to c) first c.described.tied (fits c).region_in.0 inside i 0 (there (pages_named first) i low))
       where
         there : (n i : ℕ) → i < n → i < length (below n)
         there n i low = let long = length-below n in omega arith
@@ -152,7 +155,7 @@ module _ {d : DeviceCore} {s : State} {tag : ℕ} {bytes : List ℕ} (c : AllCam
     none_for_tag =
         subst (λ (n : ℕ). (index : ℕ) → wanted_kept s.translation.pins n index ≡ None) c.stands.tag_is (not_wanted c)
 
-    may_keep : MayKeepArea s.translation tag first
+    may_keep : MayKeepArea s.translation tag (to c) first
     may_keep = record {
       mended = (fits c).is_mended;
       some = inside.some;
@@ -163,7 +166,7 @@ module _ {d : DeviceCore} {s : State} {tag : ℕ} {bytes : List ℕ} (c : AllCam
     }
 
     reading_keeps : Keeps come
-        (requested (with_moves (given_back s c.stands.b) (keeps_area s c.stands.b.tag 0 first)) c.stands.b 0
+        (requested (with_moves (given_back s c.stands.b) (keeps_area s c.stands.b.tag (to c) first)) c.stands.b (to c)
         (all_frames bytes) code reading)
     reading_keeps =
         requested_keeps c come code accepted.Nothing did (event.AreaAsked code first.address first.count)
@@ -184,12 +187,14 @@ module _ {d : DeviceCore} {s : State} {tag : ℕ} {bytes : List ℕ} (c : AllCam
             reads = none_read first.address first.count c.size page_read inside.some inside.few (λ j. refl);
           };
           none_sent = refl;
+          none_gathered = refl;
         })
         (record {
           boot = refl;
           permanent = refl;
+          each = ap length did.decided.1 ∙ c.described.kept.each;
           region = region_stays;
-          registers = ap (λ (m : Machine). m.registers) did.decided.1;
+          registers = λ number. ap (λ (ms : List Machine). (machine_at ms number).registers) did.decided.1;
           layer_is = layer_is true reads (λ e. may_keep);
           none_claimed = refl;
           numbers = ap (λ (t : Translation). t.numbers) kept_is;
@@ -204,17 +209,17 @@ module _ {d : DeviceCore} {s : State} {tag : ℕ} {bytes : List ℕ} (c : AllCam
               (not_wanted c) n index other;
         })
 
-  pub answered_keeps : rpmb_outcome 0 (region_of (plain_now s) 0) (s.registers 0) (locked s) (all_frames bytes)
-      ≡ Results code None → Keeps come (request_decided s c.stands.b 0 (all_frames bytes) (Results code None))
+  pub answered_keeps : rpmb_outcome (to c) (region_of (plain_now s) (to c)) (s.registers (to c)) (locked s)
+      (all_frames bytes) ≡ Results code None → Keeps come (request_decided s c.stands.b (to c) (all_frames bytes) (Results code None))
   answered_keeps passed = by (reads_area first code) refl
     where
       by : (b : Bool) → reads_area first code ≡ b →
           Keeps come
           (if b
           then
-          requested (with_moves (given_back s c.stands.b) (keeps_area s c.stands.b.tag 0 first)) c.stands.b 0
-          (all_frames bytes) code (ReadingArea (area_read s 0 first))
+          requested (with_moves (given_back s c.stands.b) (keeps_area s c.stands.b.tag (to c) first)) c.stands.b (to c)
+          (all_frames bytes) code (ReadingArea (area_read s (to c) first))
           else
-          requested (given_back s c.stands.b) c.stands.b 0 (all_frames bytes) code (Answering Good c.stands.b.length))
+          requested (given_back s c.stands.b) c.stands.b (to c) (all_frames bytes) code (Answering Good c.stands.b.length))
       by true reads = reading_keeps reads passed
       by false none = quiet_keeps none

@@ -1,6 +1,6 @@
 -- A setting is accepted: what the device keeps then is kept of the state in which its command follows all others, and
 -- its answer waits until that is durable.
-use Rattle.std.proofs.Common.{◌≡◌, ◌∙◌, ℕ, ◌+◌, Bool, true, List, [], ◌∷◌, ◌++◌, Some, None, length, refl, sym, ap}
+use Rattle.std.proofs.Common.{◌≡◌, ◌∙◌, ℕ, ◌+◌, Bool, true, List, [], ◌∷◌, ◌++◌, Some, None, length, map, refl, sym, ap}
 use Rattle.std.proofs.Common.{arith, subst}
 use Rattle.std.proofs.lemmas.Bool.{le-leb}
 use Rattle.std.proofs.lemmas.List.{append-nil}
@@ -10,7 +10,8 @@ use Rattle.ufs_spec.specs.Changes.{with_moves}
 use Rattle.ufs_spec.specs.Commands.{Command}
 use Rattle.ufs_spec.specs.Exchanges.{task_of}
 use Rattle.ufs_spec.specs.Exchanges as exchange
-use Rattle.ufs_spec.specs.Keys.{IsPlain, IsSettings, content, group_of, settings_bytes, settings_key, settings_of}
+use Rattle.ufs_spec.specs.Keys.{IsPlain, IsSettings, content, group_of, said_by, settings_bytes, settings_key}
+use Rattle.ufs_spec.specs.Keys.{settings_of}
 use Rattle.ufs_spec.specs.Ledger.{all_contents, before_accepted}
 use Rattle.ufs_spec.specs.Moves.{Accept, Claim, IsAllowedMove, moved}
 use Rattle.ufs_spec.specs.Plain.{Plain, apply, region_of}
@@ -29,7 +30,7 @@ use Rattle.descriptors.specs.Answers.{command_of}
 use Rattle.descriptors.specs.declared.answers.Setting.{Setting}
 use Rattle.descriptors.specs.declared.answers.Setting.TheVariants as setting
 use Rattle.ftl_core.specs.Public.{Core}
-use Rattle.rpmb.specs.Kept.{IsKept}
+use Rattle.rpmb.specs.Kept.{IsKept, machine_at, said_kept}
 use Rattle.settings.specs.Told.{bytes_of}
 use Rattle.task_set.specs.declared.tasks.Queried.{Queried}
 use Rattle.task_set.specs.declared.tasks.Short as kept
@@ -40,6 +41,7 @@ use Rattle.device.specs.Hears.{with_short}
 use Rattle.device.specs.Kept.{DeviceCore, IsLayerWith}
 use Rattle.device.specs.Queries.{HasPutSetting, HasSet, with_setting, with_slot}
 use Rattle.device.specs.Replies.{query_with}
+use Rattle.device.proofs.described.Machines.{all_said}
 use Rattle.device.proofs.described.Settled.{kept_stays, still_answered}
 use Rattle.device.proofs.described.ShortExchanges.{one_short_more}
 use Rattle.device.proofs.host_messages.FramesAccepted.{contents_now}
@@ -48,13 +50,18 @@ use Rattle.device.proofs.host_messages.NumbersAwaited.{number_awaited}
 
 -- Its group
 
+-- what the machines say of the regions
+said_now : (d : DeviceCore) (s : State) → Describes d s → map said_kept d.rpmb ≡ map said_by (plain_now s).regions
+said_now d s h =
+    all_said d.rpmb (plain_now s) h.kept.each (plain_tied h.tied).regions_count h.kept.region
+
 -- the settings page is the one that the command leaves
 page_is : (d : DeviceCore) (s : State) (x : Setting) → Describes d s →
     bytes_of (settings_kept (with_setting d x)) ≡ settings_of (apply (plain_now s) (command_of x))
 page_is d s (setting.Boot boot) h =
-    λ i. settings_bytes boot (h.kept.permanent i) (h.kept.region.key i) (h.kept.region.counter i)
+    λ i. settings_bytes boot (h.kept.permanent i) (said_now d s h i)
 page_is d s setting.Permanent h =
-    λ i. settings_bytes (h.kept.boot i) true (h.kept.region.key i) (h.kept.region.counter i)
+    λ i. settings_bytes (h.kept.boot i) true (said_now d s h i)
 
 -- a setting changes the settings alone
 setting_grouped : (t : Translation) (p : Plain) (x : Setting) (page : List ℕ) → IsPlain p → length page ≡ 4096 →
@@ -73,9 +80,10 @@ none_rests t p (setting.Boot boot) = refl
 none_rests t p setting.Permanent = refl
 
 -- it leaves every region
-region_stays : (p : Plain) (x : Setting) → region_of (apply p (command_of x)) 0 ≡ region_of p 0
-region_stays p (setting.Boot boot) = refl
-region_stays p setting.Permanent = refl
+region_stays : (p : Plain) (x : Setting) (number : ℕ) →
+    region_of (apply p (command_of x)) number ≡ region_of p number
+region_stays p (setting.Boot boot) number = refl
+region_stays p setting.Permanent number = refl
 
 -- and the device what it has beside it
 module _ (d : DeviceCore) (s : State) (x : Setting) (h : Describes d s) where
@@ -142,7 +150,7 @@ module _ (d : DeviceCore) (s : State) (tag value : ℕ) (query : Queried) (x : S
       let p = apply (plain_now s) c in
       let plain = kept_plain (plain_now s) c (plain_tied h.tied) set.is set.can in
       ap length (page_is d s x h)
-      ∙ (settings_block p.boot p.permanent (region_of p 0).key (region_of p 0).counter (settings_ranges p plain)).0
+      ∙ (settings_block p.boot p.permanent (map said_by p.regions) (settings_ranges p plain)).0
 
   group_is : key_group page (with_slot s.translation) ≡ group_of (plain_now s) c
   group_is =
@@ -195,9 +203,11 @@ module _ (d : DeviceCore) (s : State) (tag value : ℕ) (query : Queried) (x : S
   keeps_with layer number told boot permanent its short boot_then permanent_then = record {
     boot = boot_then ∙ sym (ap (λ (p : Plain). p.boot) then_is);
     permanent = permanent_then ∙ sym (ap (λ (p : Plain). p.permanent) then_is);
+    each = h.kept.each;
     region =
-        subst (IsKept d.rpmb.region)
-        (sym (ap (λ (p : Plain). region_of p 0) then_is ∙ region_stays (plain_now s) x)) h.kept.region;
+        λ region. subst (IsKept (machine_at d.rpmb region).region)
+        (sym (ap (λ (p : Plain). region_of p region) then_is ∙ region_stays (plain_now s) x region))
+        (h.kept.region region);
     registers = h.kept.registers;
     layer_kept = its.0;
     few = h.kept.few;

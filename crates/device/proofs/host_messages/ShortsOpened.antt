@@ -31,6 +31,7 @@ short_behind d s r b h kept told = record {
   keeps = record {
     boot = h.keeps.boot;
     permanent = h.keeps.permanent;
+    each = h.keeps.each;
     region = h.keeps.region;
     registers = h.keeps.registers;
     layer_kept = h.keeps.layer_kept;

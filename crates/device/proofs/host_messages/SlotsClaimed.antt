@@ -1,16 +1,20 @@
 -- A command that begins claims its slots, and each holds zeros.
-use Rattle.std.proofs.Common.{◌≡◌, ◌∙◌, ℕ, zero, suc, ◌≤◌, Bool, true, List, [], ◌∷◌, replicate, sym, ap, subst, refl}
-use Rattle.std.specs.Prelude.{if◌then◌else◌}
+use Rattle.std.proofs.Common.{◌≡◌, ◌∙◌, ℕ, zero, suc, ◌≤◌, Bool, true, List, [], ◌∷◌, replicate, sym, ap, subst, refl, ◌<◌, false}
+use Rattle.std.specs.Prelude.{fold, if◌then◌else◌}
+use Rattle.std.specs.List.{list_any}
 use Rattle.std.proofs.Math.Seq.{drop-nil}
 use Rattle.std.proofs.lemmas.Bool.{le-leb}
 use Rattle.ufs_spec.specs.Moves.{Claim, moved}
-use Rattle.ufs_spec.specs.Plain.{zero_block}
-use Rattle.ufs_spec.specs.Translation.{Translation, free_slots}
-use Rattle.ftl_core.specs.Public.{Claims, Core, with_claimed}
+use Rattle.ufs_spec.specs.Keys.{IsKey}
+use Rattle.ufs_spec.specs.Plain.{shape_of_numbers, zero_block}
+use Rattle.ufs_spec.specs.Translation.{Translation, free_slots, is_mended}
+use Rattle.ufs_spec.specs.declared.flash.Key.{Key}
+use Rattle.ftl_core.specs.Public.{AreClaimed, Claims, Core, Describes, PinsDiffer, keeps_for, keeps_of, key_behind}
+use Rattle.ftl_core.specs.Public.{with_claimed}
 use Rattle.task_set.specs.declared.tasks.Phase.{Phase}
 use Rattle.task_set.specs.declared.tasks.Phase.TheVariants as phase
 use Rattle.task_set.specs.declared.tasks.Status.TheVariants as status
-use Rattle.device.specs.Calls.{HasClaimedFor, has_slots}
+use Rattle.device.specs.Calls.{HasClaimedFor, HasKept, has_room, has_slots}
 use Rattle.device.specs.Describes.{blocks_gathered}
 use Rattle.device.specs.Kept.{IsLayerWith}
 
@@ -47,3 +51,23 @@ slots_found after t claims tag slots asks p free none begun =
       begun.phase_is ∙ ap (asks_or_busy asks) left,
       subst (LayerThen after t claims tag slots) left (begun.layer none),
     )
+
+-- a READ that begins keeps what it looks up, or there is no room for it
+pub blocks_kept : (after : Core) (t : Translation) (claims : Claims) (tag : ℕ) (key : Key) (blocks size : ℕ) (p : Phase)
+    (kept : Bool) → kept ≡ has_room t blocks → PinsDiffer t.pins →
+    p ≡ asks_or_busy (phase.SendBlocks (record { blocks = blocks; sent = 0; length = size })) kept →
+    (is_mended t.work.mending ≡ true → key.kind ≡ 1 →
+    ((i : ℕ) → i < blocks → IsKey (shape_of_numbers t.numbers) (key_behind key i)) →
+    list_any (keeps_for tag) t.pins ≡ false →
+    Describes after (if kept then fold moved t (keeps_of t tag key blocks) else t)) → AreClaimed after claims →
+    HasKept after t claims tag key blocks size p
+blocks_kept after t claims tag key blocks size p kept is differ phase_is described claimed = record {
+  phase_is =
+      phase_is ∙ ap (asks_or_busy (phase.SendBlocks (record { blocks = blocks; sent = 0; length = size }))) is;
+  differ = differ;
+  layer = λ may. (
+    subst (λ (b : Bool). Describes after (if b then fold moved t (keeps_of t tag key blocks) else t)) is
+        (described may.mended may.of_data may.there may.new),
+    claimed,
+  );
+}

@@ -1,18 +1,18 @@
 -- Where one task becomes another, and the layer, key, counter, registers and accepted commands change with it, all is
 -- kept of the state behind.
-use Rattle.std.proofs.Common.{◌≡◌, ◌∙◌, ℕ, ◌≤◌, ◌==◌, false, List, Some, map, sym, subst}
+use Rattle.std.proofs.Common.{◌≡◌, ◌∙◌, ℕ, ◌≤◌, ◌==◌, false, List, Some, length, map, sym, subst}
 use Rattle.std.specs.Prelude.{slice_set}
 use Rattle.std.proofs.lemmas.List.{length-map}
 use Rattle.ufs_spec.specs.Commands.{Command}
 use Rattle.ufs_spec.specs.Exchanges as exchange
 use Rattle.ufs_spec.specs.Exchanges.{Registers, most_tasks, task_of}
 use Rattle.ufs_spec.specs.Ledger.{before_accepted}
-use Rattle.ufs_spec.specs.Plain.{after, region_of}
+use Rattle.ufs_spec.specs.Plain.{after, region_of, regions}
 use Rattle.ufs_spec.specs.Refusals.{State, numbers_of, plain_now}
 use Rattle.ufs_spec.specs.Translation.{Translation}
 use Rattle.power_loss.proofs.open_tasks.TaskLists.{found_task}
 use Rattle.ftl_core.specs.Public.{AreClaimed, Core, with_claimed}
-use Rattle.rpmb.specs.Kept.{IsKept, Machine}
+use Rattle.rpmb.specs.Kept.{IsKept, Machine, machine_at}
 use Rattle.task_set.specs.Kept.{OpenTask}
 use Rattle.task_set.specs.Tasks.{is_sender}
 use Rattle.device.specs.Describes.{Describes, Keeps, TaskKept, TasksKept, claimed_in, claims_of, wanted_by, wanted_kept}
@@ -29,17 +29,18 @@ state_then s f u cs registers =
     record s { translation = u; accepted = cs; tasks = map f s.tasks; registers = registers }
 
 -- the device then
-abbrev pub device_then : DeviceCore → ℕ → OpenTask → Core → Machine → DeviceCore
+abbrev pub device_then : DeviceCore → ℕ → OpenTask → Core → List Machine → DeviceCore
 device_then d k new layer m = record d { ftl = layer; rpmb = m; tasks = slice_set d.tasks k new }
 
 -- the task and what changes with it is that of the state then
 pub record Becomes (s : State) (a new : OpenTask) (b : exchange.Task) (f : exchange.Task → exchange.Task) (layer : Core)
-    (m : Machine) (u : Translation) (cs : List Command) (registers : ℕ → Registers) : Type 0 where
+    (m : List Machine) (u : Translation) (cs : List Command) (registers : ℕ → Registers) : Type 0 where
   pub changes : ChangesOne f b.tag
   pub boot : (after s.base cs).boot ≡ (plain_now s).boot
   pub permanent : (after s.base cs).permanent ≡ (plain_now s).permanent
-  pub region : IsKept m.region (region_of (after s.base cs) 0)
-  pub registers_are : registers 0 ≡ m.registers
+  pub each : length m ≡ regions
+  pub region : (number : ℕ) → IsKept (machine_at m number).region (region_of (after s.base cs) number)
+  pub registers_are : (number : ℕ) → registers number ≡ (machine_at m number).registers
   pub layer_is : IsLayerWith layer u (with_claimed (claims_of (numbers_of s) s.tasks) b.tag (claimed_in (numbers_of s) (f b).length (f b).deed))
   pub numbers : u.numbers ≡ s.translation.numbers
   pub before : before_accepted u.ledger ≡ before_accepted s.translation.ledger
@@ -50,12 +51,13 @@ pub record Becomes (s : State) (a new : OpenTask) (b : exchange.Task) (f : excha
       wanted_kept u.pins n index ≡ wanted_kept s.translation.pins n index
 
 pub becomes_kept : (d : DeviceCore) (s : State) (k : ℕ) (a new : OpenTask) (b : exchange.Task)
-    (f : exchange.Task → exchange.Task) (layer : Core) (m : Machine) (u : Translation) (cs : List Command)
+    (f : exchange.Task → exchange.Task) (layer : Core) (m : List Machine) (u : Translation) (cs : List Command)
     (registers : ℕ → Registers) → Describes d s → IsOpen (before_accepted s.translation.ledger) k d.tasks s.tasks a b →
     Becomes s a new b f layer m u cs registers → Keeps (device_then d k new layer m) (state_then s f u cs registers)
 becomes_kept d s k a new b f layer m u cs registers h o x = record {
   boot = h.kept.boot ∙ sym x.boot;
   permanent = h.kept.permanent ∙ sym x.permanent;
+  each = x.each;
   region = x.region;
   registers = x.registers_are;
   layer_kept = x.layer_is.0;

@@ -26,7 +26,7 @@ use Rattle.device.specs.declared.plans.Plan.{Plan}
 use Rattle.device.specs.declared.plans.Plan.TheVariants as plan
 use Rattle.device.specs.Calls.{HasBegun, last_number}
 use Rattle.device.specs.Describes.{Describes, claims_of}
-use Rattle.device.specs.Frames.{frames_brought, sent_kept}
+use Rattle.device.specs.Frames.{frames_brought, region_brought, sent_kept}
 use Rattle.device.specs.Kept.{DeviceCore, IsLayerWith}
 use Rattle.device.specs.Plans.{data_plan}
 use Rattle.device.specs.Replies.{data_bytes}
@@ -34,7 +34,7 @@ use Rattle.device.proofs.described.Answered.{IsBehind}
 use Rattle.device.proofs.host_messages.CommandPasses.{some_told}
 use Rattle.device.proofs.host_messages.NumbersAwaited.{number_awaited}
 use Rattle.device.proofs.host_messages.ReadOpened.{core_opened, core_with}
-use Rattle.device.proofs.open_tasks.TaskOpened.{opens_still, quiet_here}
+use Rattle.device.proofs.open_tasks.TaskOpened.{opens_still, never_in, quiet_here}
 use Rattle.ufs_spec.specs.Refusals.{numbers_of}
 
 -- what was planned begins, over the layer as it is then
@@ -43,26 +43,26 @@ HasBegunFor s r after todo p = HasBegun after s.translation (claims_of (numbers_
 
 -- the device once this was planned and its task is so far, which keeps what it sends
 abbrev pub opened_for : DeviceCore → Request → Core → Result Plan kept_status.Status → Phase → DeviceCore
-opened_for d r after todo p = sent_kept d.ftl.numbers (core_with d r after p (frames_brought todo)) todo
+opened_for d r after todo p = sent_kept d.ftl.numbers (core_with d r after p (frames_brought todo) (region_brought todo)) todo
 
 -- the device that was opened is that one: the layer has the configuration of which a task tells, before and after
 pub opened_as : (d : DeviceCore) (s : State) (r : Request) → Describes d s → (e : DeviceCore) (after : Core)
     (todo : Result Plan kept_status.Status) (p : Phase) (u : Translation) → HasBegunFor s r after todo p →
     layer_kept.Describes (opened_for d r after todo p).ftl u →
     ((t : Translation) → layer_kept.Describes after t →
-    e ≡ sent_kept t.numbers (core_with d r after p (frames_brought todo)) todo) →
+    e ≡ sent_kept t.numbers (core_with d r after p (frames_brought todo) (region_brought todo)) todo) →
     e ≡ opened_for d r after todo p
 opened_as d s r h e after (Ok (plan.Tell told size taken)) p u begun layer more =
     more s.translation begun.1.0
-    ∙ ap (λ (n : Numbers). sent_kept n (core_with d r after p frames.NotBrought) (Ok (plan.Tell told size taken)))
+    ∙ ap (λ (n : Numbers). sent_kept n (core_with d r after p frames.NotBrought 0) (Ok (plan.Tell told size taken)))
     (sym h.kept.layer_kept.kept.numbers)
-opened_as d s r h e after (Ok (plan.TakeFrames size taken)) p u begun layer more = more u layer
+opened_as d s r h e after (Ok (plan.TakeFrames region size taken)) p u begun layer more = more u layer
 opened_as d s r h e after (Ok (plan.Nothing n)) p u begun layer more = more u layer
 opened_as d s r h e after (Ok (plan.Read key blocks size)) p u begun layer more = more u layer
 opened_as d s r h e after (Ok (plan.Write key blocks forced)) p u begun layer more = more u layer
 opened_as d s r h e after (Ok (plan.Send x)) p u begun layer more = more u layer
 opened_as d s r h e after (Ok plan.Flush) p u begun layer more = more u layer
-opened_as d s r h e after (Ok (plan.AskFrames size)) p u begun layer more = more u layer
+opened_as d s r h e after (Ok (plan.AskFrames region size)) p u begun layer more = more u layer
 opened_as d s r h e after (Ok (plan.AskList unit size)) p u begun layer more = more u layer
 opened_as d s r h e after (Err told) p u begun layer more = more u layer
 
@@ -77,6 +77,7 @@ pub quiet_task : (d : DeviceCore) (r : Request) (p : Phase) → is_sender (newly
   expected = r.expected;
   phase = p;
   frames = frames.NotBrought;
+  region = 0;
 })) ≡ true → list_any is_sender d.tasks ≡ false
 quiet_task d r p e = absurd (false≢true e)
 
@@ -102,7 +103,10 @@ module _ (d : DeviceCore) (s : State) (r : Request) (h : Describes d s) (free : 
         tag = refl;
         expected = refl;
         sends = quiet;
-        sends_here = quiet_here 0 command quiet;
+        in_regions = never_in 0 command quiet;
+        sends_to = λ other. quiet_here other command quiet;
+        gathers = tt;
+        asked_of = tt;
         request = refl;
         asks = tt;
         fits = tt;
@@ -146,7 +150,10 @@ module _ (d : DeviceCore) (s : State) (r : Request) (h : Describes d s) (free : 
             tag = refl;
             expected = refl;
             sends = quiet;
-            sends_here = quiet_here 0 (Some command) quiet;
+            in_regions = never_in 0 (Some command) quiet;
+            sends_to = λ other. quiet_here other (Some command) quiet;
+            gathers = tt;
+            asked_of = tt;
             request = refl;
             asks = tt;
             fits = refl;
@@ -170,7 +177,10 @@ module _ (d : DeviceCore) (s : State) (r : Request) (h : Describes d s) (free : 
         tag = refl;
         expected = refl;
         sends = quiet;
-        sends_here = quiet_here 0 (Some command) quiet;
+        in_regions = never_in 0 (Some command) quiet;
+        sends_to = λ other. quiet_here other (Some command) quiet;
+        gathers = tt;
+        asked_of = tt;
         request = refl;
         asks = tt;
         fits = tt;

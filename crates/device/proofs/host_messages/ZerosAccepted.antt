@@ -116,7 +116,7 @@ module _ {d : DeviceCore} {s : State} {tag : ℕ} {list : List ℕ} (c : ListCam
       layer (moved s.translation (Accept slots (group_of (plain_now s) zeros))) (s.accepted ++ zeros ∷ []) (record {
         boot = ap (λ (q : Plain). q.boot) (fold-append apply s.base s.accepted (zeros ∷ []));
         permanent = ap (λ (q : Plain). q.permanent) (fold-append apply s.base s.accepted (zeros ∷ []));
-        region = ap (λ (q : Plain). region_of q 0) (fold-append apply s.base s.accepted (zeros ∷ []));
+        region = λ number. ap (λ (q : Plain). region_of q number) (fold-append apply s.base s.accepted (zeros ∷ []));
         layer_is =
             subst (λ (m : Move). IsLayerWith layer (moved s.translation m) (with_claimed (claims_of (numbers_of s) s.tasks) tag []))
             move_is (put may_put);

@@ -36,11 +36,11 @@ nobody_goes s is none =
     }
 
 -- nothing but the layer, the registers and the tasks changes
-pub rest_stays : (old d new : DeviceCore) (k : ℕ) (f : Frames) →
+pub rest_stays : (old d new : DeviceCore) (k : ℕ) (f : Frames) (region : ℕ) →
     d ≡ record old { ftl = d.ftl; rpmb = d.rpmb; tasks = d.tasks } →
-    new ≡ record (aborted_at d k f) { ftl = new.ftl } →
+    new ≡ record (aborted_at d k f region) { ftl = new.ftl } →
     new ≡ record old { ftl = new.ftl; rpmb = new.rpmb; tasks = new.tasks }
-rest_stays old d new k f was is i = record {
+rest_stays old d new k f region was is i = record {
   ftl = new.ftl;
   boot = (ap (λ (x : DeviceCore). x.boot) is ∙ ap (λ (x : DeviceCore). x.boot) was) i;
   is_permanent = (ap (λ (x : DeviceCore). x.is_permanent) is ∙ ap (λ (x : DeviceCore). x.is_permanent) was) i;
@@ -143,10 +143,10 @@ module _ (d : DeviceCore) (s : State) (who : Meant) (k : ℕ) (task : Task) (aft
     rest = without_first t (means who) f.b f.goes f.stay ∙ h.rest;
   }
 
-  pub goes_on : IsOnTheWay (record (aborted_at d k task.frames) { ftl = after }) s (means who)
+  pub goes_on : IsOnTheWay (record (aborted_at d k task.frames task.region) { ftl = after }) s (means who)
   goes_on =
       subst
-      (λ (x : Task). IsOnTheWay (record (aborted_at d k x.frames) { ftl = after }) s (means who))
+      (λ (x : Task). IsOnTheWay (record (aborted_at d k x.frames x.region) { ftl = after }) s (means who))
       (sym (stands_there d.tasks k task first.a there first.opened.ours).0)
       (one_goes first)
 

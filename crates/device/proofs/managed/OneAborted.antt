@@ -1,25 +1,31 @@
 -- One task is aborted: what is kept is kept of the state without it.
 use Rattle.std.proofs.Common.{◌≡◌, ◌∙◌, ℕ, ◌≤◌, ◌==◌, Bool, true, false, List, [], ◌∷◌, Some, length, refl, sym, ap}
 use Rattle.std.proofs.Common.{subst, arith}
-use Rattle.std.specs.Prelude.{◌||◌, filter, if◌then◌else◌, not}
+use Rattle.std.specs.Prelude.{◌<◌, ◌||◌, ◌&&◌, filter, if◌then◌else◌, not}
 use Rattle.std.proofs.lemmas.List.Elements.{All-filter}
 use Rattle.std.proofs.lemmas.List.Filters.{length-filter_both}
-use Rattle.ufs_spec.proofs.Facts.{or_with_false}
+use Rattle.ufs_spec.proofs.Facts.{eqb-false, eqb-true, or_with_false}
+use Rattle.ufs_spec.specs.Plain.{region_of}
 use Rattle.ufs_spec.specs.Exchanges as exchange
 use Rattle.ufs_spec.specs.Exchanges.{Registers, empty_registers, is_task_of, most_tasks, task_of}
 use Rattle.ufs_spec.specs.Ledger.{before_accepted}
 use Rattle.ufs_spec.specs.Machine.{durable, is_at_hand, registers_after}
 use Rattle.ufs_spec.specs.Moves.{LetGoAll, Release, moved}
-use Rattle.ufs_spec.specs.Refusals.{State, numbers_of}
+use Rattle.ufs_spec.specs.Refusals.{State, numbers_of, plain_now}
 use Rattle.ufs_spec.specs.Translation.{Pin, Translation}
 use Rattle.power_loss.specs.Exchange.{TasksDiffer, claim_of}
 use Rattle.power_loss.proofs.open_tasks.TaskLists.{found_task}
 use Rattle.ftl_core.specs.Public as layer
 use Rattle.ftl_core.specs.Public.{AreClaimed, Claims, Core, with_claimed}
+use Rattle.rpmb.specs.Kept.{IsKept, Machine, machine_at, with_machine}
+use Rattle.rpmb.specs.declared.regions.RegionState.{RegionState}
 use Rattle.task_set.specs.Kept.{OpenTask}
+use Rattle.task_set.specs.Tasks.{brings_frames}
+use Rattle.task_set.specs.declared.frames.Frames.{Frames}
 use Rattle.device.specs.Describes.{IsBehind, IsTold, Keeps, claimed_by, claimed_in, claims_of}
 use Rattle.device.specs.Kept.{DeviceCore}
-use Rattle.device.specs.Manages.{HasLetGo, aborted_at}
+use Rattle.device.specs.Manages.{HasLetGo, aborted_at, machines_after}
+use Rattle.device.proofs.described.Machines.{as_many, at_other, at_same, regions_same}
 use Rattle.device.proofs.described.OneSender.{one_removed}
 use Rattle.device.proofs.described.Settled.{left_answered}
 use Rattle.device.proofs.due_replies.PinsLetGo.{gone_pins, other_pins}
@@ -41,12 +47,65 @@ without_one b s = record s {
 
 -- what is kept without it, over the layer as it is then
 abbrev pub core_without : DeviceCore → ℕ → OpenTask → Core → DeviceCore
-core_without d k a after = record (aborted_at d k a.frames) { ftl = after }
+core_without d k a after = record (aborted_at d k a.frames a.region) { ftl = after }
 
--- registers are empty on both sides, or stay on both
-same_registers : (e x y : Registers) (sends brings : Bool) → sends ≡ brings → x ≡ y →
-    (if sends || false then e else x) ≡ (if brings then e else y)
-same_registers e x y sends brings same is i = if (or_with_false sends ∙ same) i then e else is i
+-- the registers of a region are empty on both sides, or stay on both
+same_registers : (ms : List Machine) (f : Frames) (region other : ℕ) (x : Registers) (sends : Bool) →
+    sends ≡ (brings_frames f && (region == other)) → (brings_frames f ≡ true → region < length ms) →
+    x ≡ (machine_at ms other).registers →
+    (if sends || false then empty_registers else x) ≡ (machine_at (machines_after f region ms) other).registers
+same_registers ms f region other x sends same there is = by (brings_frames f) refl
+  where
+    emptied : Machine
+    emptied = record (machine_at ms region) { registers = empty_registers }
+
+    told : (b : Bool) → brings_frames f ≡ b →
+        (if sends || false then empty_registers else x) ≡ (if b && (region == other) then empty_registers else x)
+    told b e =
+        ap (λ (c : Bool). if c then empty_registers else x)
+        (or_with_false sends ∙ same ∙ ap (λ (c : Bool). c && (region == other)) e)
+
+    by : (b : Bool) → brings_frames f ≡ b → (if sends || false then empty_registers else x)
+        ≡ (machine_at (machines_after f region ms) other).registers
+    by false e =
+        told false e ∙ is
+        ∙ ap (λ (c : Bool). (machine_at (if c then with_machine ms region emptied else ms) other).registers) (sym e)
+    by true e =
+        told true e ∙ here (region == other) refl
+        ∙ ap (λ (c : Bool). (machine_at (if c then with_machine ms region emptied else ms) other).registers) (sym e)
+      where
+        here : (c : Bool) → (region == other) ≡ c → (if c then empty_registers else x)
+            ≡ (machine_at (with_machine ms region emptied) other).registers
+        here true k =
+            sym (ap (λ (n : ℕ). (machine_at (with_machine ms region emptied) n).registers) (sym (eqb-true region other k))
+            ∙ ap (λ (m : Machine). m.registers) (at_same ms region emptied (there e)))
+        here false k =
+            is
+            ∙ sym (ap (λ (m : Machine). m.registers)
+            (at_other ms region other emptied (λ e. eqb-false region other k (sym e))))
+
+-- what is kept of regions stays
+regions_stay : (ms : List Machine) (f : Frames) (region other : ℕ) →
+    (machine_at (machines_after f region ms) other).region ≡ (machine_at ms other).region
+regions_stay ms f region other = by (brings_frames f)
+  where
+    emptied : Machine
+    emptied = record (machine_at ms region) { registers = empty_registers }
+
+    by : (b : Bool) →
+        (machine_at (if b then with_machine ms region emptied else ms) other).region ≡ (machine_at ms other).region
+    by false = refl
+    by true = regions_same ms region other emptied refl
+
+as_many_after : (ms : List Machine) (f : Frames) (region : ℕ) → length (machines_after f region ms) ≡ length ms
+as_many_after ms f region = by (brings_frames f)
+  where
+    emptied : Machine
+    emptied = record (machine_at ms region) { registers = empty_registers }
+
+    by : (b : Bool) → length (if b then with_machine ms region emptied else ms) ≡ length ms
+    by false = refl
+    by true = as_many ms region emptied
 
 few_left : (p : exchange.Task → Bool) (us : List exchange.Task) → length us ≤ most_tasks →
     length (filter (λ x. not (p x)) us) ≤ most_tasks
@@ -93,9 +152,14 @@ module _ (d : DeviceCore) (s : State) (k : ℕ) (a : OpenTask) (b : exchange.Tas
   keeps_without after its = record {
     boot = h.keeps.boot;
     permanent = h.keeps.permanent;
-    region = h.keeps.region;
+    each = as_many_after d.rpmb a.frames a.region ∙ h.keeps.each;
+    region =
+        λ number. subst (λ (r : RegionState). IsKept r (region_of (plain_now s) number))
+        (sym (regions_stay d.rpmb a.frames a.region number)) (h.keeps.region number);
     registers =
-        same_registers empty_registers (s.registers 0) d.rpmb.registers _ _ o.kept.sends_here h.keeps.registers;
+        λ number. same_registers d.rpmb a.frames a.region number (s.registers number) _ (o.kept.sends_to number)
+        (λ e. subst (λ (n : ℕ). a.region < n) (sym h.keeps.each) (o.kept.in_regions (o.kept.sends ∙ e)))
+        (h.keeps.registers number);
     layer_kept = layer_without after its;
     few = few_left (is_task_of b.tag) s.tasks h.keeps.few;
     tasks = one_gone (before_accepted s.translation.ledger) k d.tasks s.tasks b h.keeps.tasks differ o.theirs;

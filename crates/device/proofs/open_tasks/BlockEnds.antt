@@ -1,6 +1,6 @@
 -- What the end of a read leaves of a task that sends blocks: the next one was read, or it could not be read and that is
 -- what the task tells.
-use Rattle.std.proofs.Common.{◌≡◌, ◌∙◌, ℕ, ◌*◌, ◌<◌, List, Some, None, slice_get, slice_set, refl, sym, ap}
+use Rattle.std.proofs.Common.{◌≡◌, ◌∙◌, ℕ, ◌*◌, ◌<◌, List, Some, None, slice_get, slice_set, refl, sym, ap, ◌&&◌, ◌==◌, Bool}
 use Rattle.std.proofs.Common.{arith, subst}
 use Rattle.ufs_spec.proofs.Facts.{same_Some}
 use Rattle.ufs_spec.proofs.Lists.{set_length, set_other, set_there}
@@ -128,7 +128,10 @@ module _ (before index : ℕ) (a : OpenTask) (b : exchange.Task) (blocks : List 
         tag = h.tag;
         expected = h.expected;
         sends = h.sends ∙ ap brings_frames quiet;
-        sends_here = h.sends_here ∙ ap brings_frames quiet;
+        in_regions = h.in_regions;
+        sends_to = λ other. (h.sends_to other ∙ ap (λ (c : Bool). c && (a.region == other)) (ap brings_frames quiet));
+        gathers = tt;
+        asked_of = h.asked_of;
         request = none_asked;
         asks = tt;
         fits = refl;
@@ -161,7 +164,10 @@ module _ (before index : ℕ) (a : OpenTask) (b : exchange.Task) (blocks : List 
         tag = h.tag;
         expected = h.expected;
         sends = h.sends ∙ ap brings_frames quiet;
-        sends_here = h.sends_here ∙ ap brings_frames quiet;
+        in_regions = h.in_regions;
+        sends_to = λ other. (h.sends_to other ∙ ap (λ (c : Bool). c && (a.region == other)) (ap brings_frames quiet));
+        gathers = tt;
+        asked_of = h.asked_of;
         request = none_asked;
         asks = tt;
         fits = tt;

@@ -1,6 +1,6 @@
 -- What the end of a read leaves of a task that reads pages of the RPMB area: the part that is asked for of the page
 -- stands in its block, or the page is known to be lost.
-use Rattle.std.proofs.Common.{◌≡◌, ◌∙◌, ℕ, zero, suc, ◌<◌, ◌≤◌, ◌==◌, Bool, true, false, List, [], ◌∷◌, length, map}
+use Rattle.std.proofs.Common.{◌≡◌, ◌∙◌, ℕ, zero, suc, ◌<◌, ◌≤◌, ◌==◌, Bool, true, false, List, [], ◌∷◌, length, map, ◌&&◌}
 use Rattle.std.proofs.Common.{Option, Some, None, slice_get, slice_set, take, refl, sym, ap, subst, arith}
 use Rattle.std.specs.Prelude.{if◌then◌else◌, option_map}
 use Rattle.std.proofs.lemmas.List.{length-map}
@@ -194,7 +194,6 @@ asked_same code xs ys request long same h = record {
   long = long;
   asked = h.asked;
   is = h.is;
-  region = h.region;
   result = h.result;
   unfilled = h.unfilled;
   first = same_first xs ys h.asked.frames same
@@ -287,7 +286,11 @@ module _ (before index : ℕ) (a : OpenTask) (b : exchange.Task) (pages : List R
     tag = h.tag;
     expected = h.expected;
     sends = h.sends ∙ ap brings_frames decision.is;
-    sends_here = h.sends_here ∙ ap brings_frames decision.is;
+    in_regions = h.in_regions;
+    sends_to =
+        λ other. (h.sends_to other ∙ ap (λ (c : Bool). c && (a.region == other)) (ap brings_frames decision.is));
+    gathers = tt;
+    asked_of = h.asked_of;
     request = asked_same decision.code row new b.request long same asked_row;
     asks = reads_same its.r index decision.code how row new same asks;
     fits = (tt, stand);

@@ -5,6 +5,7 @@ use Rattle.std.specs.Prelude.{◌||◌}
 use Rattle.std.specs.List.{list_any}
 use Rattle.std.proofs.lemmas.List.{length-append}
 use Rattle.std.proofs.lemmas.List.Elements.{All-head, All-push, All-tail}
+use Rattle.ufs_spec.specs.Plain.{regions}
 use Rattle.ufs_spec.proofs.Facts.{eqb-true, none-some, true≢false}
 use Rattle.ufs_spec.specs.Exchanges as exchange
 use Rattle.ufs_spec.specs.Exchanges.{Deed, Gathering, Purpose, task_of}
@@ -48,6 +49,11 @@ opened r command n deed =
     }
 
 -- a command that brings no frames brings none to a region
+-- a command that brings no frames names no region
+pub never_in : (region : ℕ) (command : Option Cdb) → sends_frames command ≡ false → sends_frames command ≡ true →
+    region < regions
+never_in region command quiet e = absurd (true≢false (sym e ∙ quiet))
+
 pub quiet_here : (region : ℕ) (command : Option Cdb) → sends_frames command ≡ false →
     sends_frames_to region command ≡ false
 quiet_here region None quiet = refl
@@ -114,6 +120,7 @@ module _ (d : DeviceCore) (s : State) (r : Request) (h : Describes d s) (free : 
   open_keeps c u command n deed a layer numbers before begins claims task alone = record {
     boot = h.kept.boot;
     permanent = h.kept.permanent;
+    each = h.kept.each;
     region = h.kept.region;
     registers = h.kept.registers;
     layer_kept = layer;

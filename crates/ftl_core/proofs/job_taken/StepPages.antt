@@ -4,8 +4,9 @@ use Rattle.std.proofs.Common.{subst, arith}
 use Rattle.std.specs.Prelude.{◌&&◌, not, option_map}
 use Rattle.std.specs.List.{list_any}
 use Rattle.std.proofs.lemmas.List.{length-map}
-use Rattle.std.proofs.lemmas.Bool.{eq-eqb, le-leb}
+use Rattle.std.proofs.lemmas.Bool.{le-leb, lt-ltb}
 use Rattle.ufs_spec.proofs.Facts.{false≢true, not-true}
+use Rattle.ufs_spec.specs.Plain.{regions}
 use Rattle.ufs_spec.specs.Cells.{Cell, GroupPage, MarkPage}
 use Rattle.ufs_spec.specs.Disk as disk
 use Rattle.ufs_spec.specs.Disk.{job_of as told_by}
@@ -62,7 +63,7 @@ mark_records t (Some f) v right = by t.work.mending right v.mending
 -- a tag can name each key of a device
 pub sealable : (s : Shape) (k : Key) → length s.blocks ≤ 8 → IsKey s k → is_sealable k ≡ true
 sealable s k few (IsData unit address low within) = le-leb unit 7 (omega arith)
-sealable s k few (IsArea region page there within) = eq-eqb region 0 (omega (arith, there))
+sealable s k few (IsArea region page there within) = lt-ltb region regions there
 sealable s k few IsSettings = refl
 
 repair_sealable : (c : Core) (t : Translation) (number : ℕ) (k : Key) (from : Option Stored) (there : Bool) →

@@ -17,6 +17,7 @@ use Rattle.block_table.specs.Lives.{Lives, has_page, is_live, page_place, with_l
 use Rattle.block_table.specs.declared.Sizes.{Sizes}
 use Rattle.geometry.specs.Keys.{AtArea, AtData, AtSettings, IsIndex, key_total}
 use Rattle.geometry.proofs.KeyIndexes.{index_below, is_index}
+use Rattle.ufs_spec.specs.Counting.{below}
 use Rattle.unit_map.specs.Places.{flat, position_of, stored_in}
 use Rattle.unit_map.specs.declared.Stored.{Stored}
 use Rattle.ftl_core.specs.KnownLive.{KnowsLive, StandsAt, lives_of_places, none_live, sizes_of, with_stored}
@@ -168,7 +169,7 @@ module _ (n : Numbers) (places : List (Option Stored))
       (k : Key) × (stored_in n places k ≡ Some s)
   at_index j s at =
       let there = get_take total places j (Some s) at in
-      let key = key_of_index (shape_of_numbers n) j (length-replicate regions (area_len n)) there.0 in (
+      let key = key_of_index (shape_of_numbers n) j (length-map (below regions) (area_len n)) there.0 in (
         key.0,
         ap (option_and_then (λ (p : ℕ). flat (slice_get places p))) (is_index (shape_of_numbers n) key.0 j key.1)
             ∙ ap flat there.1,

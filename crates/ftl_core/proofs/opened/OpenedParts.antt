@@ -62,7 +62,7 @@ with_lists n f states rows places last = record {
   last = last;
   pins = [];
   plan = None;
-  mending = first_mending f;
+  mending = first_mending n f;
   lost = f.lost.items;
   repaired = 0;
   step = None;
@@ -82,7 +82,7 @@ pub opened_as : (n : Numbers) (f : Found) (blocks : Blocks) (map_is : UnitMap) (
     live ≡ lives_of_places n places →
     cache ≡ record { slots = n.slots; pages = []; claims = []; frontier = last; last = last } →
     states ≡ map state_of_found f.blocks.items → places ≡ map (option_map stored_of_found) f.contents.items →
-    last ≡ min f.greatest_seen greatest_number → pins ≡ [] → mending ≡ first_mending f → content ≡ zero_block →
+    last ≡ min f.greatest_seen greatest_number → pins ≡ [] → mending ≡ first_mending n f → content ≡ zero_block →
     next ≡ mark_number_behind f → plan ≡ None →
     core_with n blocks map_is (without_pins live) cache pins plan mending f.lost.items content next
     ≡ opened n f

@@ -1,9 +1,10 @@
 -- What is kept over what a scan found is the layer that the definitions open over the same pages.
 use Rattle.std.proofs.Common.{◌≡◌, ◌≢◌, ◌∙◌, ℕ, zero, suc, ◌+◌, ◌<◌, ◌≤◌, Bool, true, false, List, [], ◌∷◌, Option}
-use Rattle.std.proofs.Common.{Some, None, drop, take, length, map, refl, sym, ap, subst, arith}
-use Rattle.std.specs.Prelude.{◌-◌, if◌then◌else◌, nat_lt, All, min, slice_get, option_and_then, option_map, replicate}
+use Rattle.std.proofs.Common.{Some, None, drop, take, length, map, refl, sym, ap, subst, arith, ⊎_elim}
+use Rattle.std.specs.Prelude.{◌-◌, ◌==◌, ◌&&◌, if◌then◌else◌, nat_lt, All, min, slice_get, option_and_then, option_map, replicate}
 use Rattle.std.specs.Prelude.{sum}
 use Rattle.std.proofs.Math.Nat.{min-eq_left}
+use Rattle.std.proofs.lemmas.Bool.{and_parts}
 use Rattle.std.proofs.lemmas.Bool.Decides.{nat_tests}
 use Rattle.std.proofs.lemmas.List.{drop_all, get_or-replicate, length-map, length-replicate, take_all}
 use Rattle.std.proofs.lemmas.List.Elements.{All-cons, All-nil}
@@ -18,9 +19,10 @@ use Rattle.ufs_spec.specs.Keys.{area_pages}
 use Rattle.ufs_spec.specs.Kept.{fence_in}
 use Rattle.ufs_spec.specs.Ledger as ledger
 use Rattle.ufs_spec.specs.Ledger.{Entry, Ledger, entry_of, latest_durable}
-use Rattle.ufs_spec.specs.Openings.{IsMendingAt, IsOpenedTranslation, MayBeMended, number_of}
-use Rattle.ufs_spec.specs.Plain.{Shape, shape_of_numbers}
-use Rattle.ufs_spec.specs.Sound.{CellsSound}
+use Rattle.ufs_spec.specs.Openings.{HasNumbers, IsMendingAt, IsOpenedTranslation, MayBeMended, number_of}
+use Rattle.ufs_spec.specs.Plain.{Shape, regions, shape_of_numbers, steps_of}
+use Rattle.ufs_spec.specs.Sound.{CellsSound, MarkSuits, with_one_region}
+use Rattle.ufs_spec.proofs.RegionPages.{one_region}
 use Rattle.ufs_spec.specs.Translation as layer
 use Rattle.ufs_spec.specs.Translation.{Mended, Mending, Repairing, Translation, Unmarked, flies_name}
 use Rattle.ufs_spec.specs.Translation.{names_after}
@@ -42,7 +44,7 @@ use Rattle.geometry.proofs.KeyIndexes.{is_index, known_index}
 use Rattle.recovery.proofs.opened.FoundOpens.{found_opens}
 use Rattle.block_table.specs.declared.rows.DieRow.{DieRow}
 use Rattle.block_table.specs.declared.rows.Flight.TheVariants as flight
-use Rattle.ufs_spec.proofs.Facts.{same_Some}
+use Rattle.ufs_spec.proofs.Facts.{eqb-self, eqb-true, same_Some}
 use Rattle.unit_map.specs.declared.Stored.{Stored}
 use Rattle.power_loss.proofs.laid_rests.AllMoves.{laid_opened}
 use Rattle.power_loss.proofs.ordered_lists.ElementsAndOrders.{contained_in}
@@ -50,7 +52,7 @@ use Rattle.ftl_core.specs.Core.{Core}
 use Rattle.ftl_core.specs.Describes.{AreToRepair, RowKept, Describes, DiesKept, Kept}
 use Rattle.ftl_core.specs.Describes.{LedgerKept, PagesKept, PinsKept, Standing, StepKept, WorkKept, mending_kept}
 use Rattle.ftl_core.specs.Describes.{WritesGroup, spot_at}
-use Rattle.ftl_core.specs.Moves.{first_mending, idle_row, mark_number_behind, mending_from}
+use Rattle.ftl_core.specs.Moves.{first_mending, idle_row, is_own, mark_number_behind, mending_from, same_regions}
 use Rattle.unit_map.specs.Places.{flat}
 use Rattle.ftl_core.specs.Moves.{number_behind, opened, stored_of_found}
 use Rattle.unit_map.specs.Places.{stored_in}
@@ -176,40 +178,74 @@ fence_some low top f l = by (nat_lt top low) (grind (arith, nat_tests, l))
     by true e = cc
     by false e = refl
 
-mended_from : (m : Option Mark) (newest : Option cells.Mark) → option_map mark_of m ≡ newest → newest ≢ None →
-    (left : List Key) → Mended ≡ mending_kept (mending_from None m) left
-mended_from None newest e some left = absurd (some (sym e))
-mended_from (Some m) newest e some left = refl
+-- a mark with the device's numbers is its own
+own_numbers : (n : Numbers) (m : Option Mark) → HasNumbers n (option_map mark_of m) → is_own n m ≡ true
+own_numbers n None h = absurd h
+own_numbers n (Some m) h = ap (same_regions n) h ∙ all_same
+  where
+    same : (k : ℕ) → (k == k) ≡ true
+    same k = eqb-self k
 
-unmarked_from : (m : Option Mark) (newest : Option cells.Mark) (low top : ℕ) → option_map mark_of m ≡ newest →
-    fence_in newest ≡ None → top < low → (MayBeMended newest low top → ⊥) →
-    (left : List Key) → Unmarked None left ≡ mending_kept (mending_from None m) left
-unmarked_from None newest low top e none l not_mended left = refl
-unmarked_from (Some m) newest low top e none l not_mended left =
-    absurd (not_mended (λ absent. none_some (mark_of m) (sym (e ∙ absent)), none, l))
+    all_same : same_regions n n ≡ true
+    all_same =
+        ap (λ (b : Bool). b && (steps_of n 2 == steps_of n 2) && (steps_of n 3 == steps_of n 3)) (same (steps_of n 1))
+        ∙ ap (λ (b : Bool). b && (steps_of n 3 == steps_of n 3)) (same (steps_of n 2)) ∙ same (steps_of n 3)
+
+-- one that suits the device and is its own has its numbers
+numbers_of_own : (n : Numbers) (m : Option Mark) → length n.rpmb ≡ regions →
+    ((newest : cells.Mark) → option_map mark_of m ≡ Some newest → MarkSuits n newest.numbers) → is_own n m ≡ true →
+    HasNumbers n (option_map mark_of m)
+numbers_of_own n None four suits own = cc
+numbers_of_own n (Some m) four suits own = ⊎_elim (λ same. same) of_one (suits (mark_of m) refl)
+  where
+    of_one : m.numbers ≡ with_one_region n → m.numbers ≡ n
+    of_one one =
+        let parts = and_parts _ _ (sym (ap (same_regions n) one) ∙ own) in
+        let first = and_parts _ _ parts.0 in
+        let sizes = one_region n.rpmb four (sym (eqb-true _ _ first.0)) (sym (eqb-true _ _ first.1))
+        (sym (eqb-true _ _ parts.1)) in
+        one ∙ (λ i. record n { rpmb = sym sizes i })
+
+mended_from : (n : Numbers) (m : Option Mark) (newest : Option cells.Mark) → option_map mark_of m ≡ newest →
+    HasNumbers n newest → (left : List Key) → Mended ≡ mending_kept (mending_from None (is_own n m)) left
+mended_from n m newest e has left =
+    ap (λ (own : Bool). mending_kept (mending_from None own) left)
+    (sym (own_numbers n m (subst (HasNumbers n) (sym e) has)))
+
+unmarked_from : (n : Numbers) (m : Option Mark) (newest : Option cells.Mark) (low top : ℕ) →
+    option_map mark_of m ≡ newest → length n.rpmb ≡ regions →
+    ((mark : cells.Mark) → option_map mark_of m ≡ Some mark → MarkSuits n mark.numbers) →
+    fence_in newest ≡ None → top < low → (MayBeMended n newest low top → ⊥) →
+    (left : List Key) → Unmarked None left ≡ mending_kept (mending_from None (is_own n m)) left
+unmarked_from n m newest low top e four suits none l not_mended left = by (is_own n m) refl
+  where
+    by : (own : Bool) → is_own n m ≡ own → Unmarked None left ≡ mending_kept (mending_from None own) left
+    by false k = refl
+    by true k = absurd (not_mended (subst (HasNumbers n) e (numbers_of_own n m four suits k), none, l))
 
 -- the mending that is due is the one that is kept
-mending_found : (f : Found) (newest : Option cells.Mark) (c : Cells) (low top : ℕ) (w : Mending) →
-    newest_found f ≡ newest → f.first_lost ≡ low → f.greatest_seen ≡ top → IsMendingAt c newest low top w →
+mending_found : (n : Numbers) (f : Found) (newest : Option cells.Mark) (c : Cells) (low top : ℕ) (w : Mending) →
+    newest_found f ≡ newest → f.first_lost ≡ low → f.greatest_seen ≡ top → length n.rpmb ≡ regions →
+    ((mark : cells.Mark) → newest_found f ≡ Some mark → MarkSuits n mark.numbers) → IsMendingAt n c newest low top w →
     ((fence : Option Fence) (lost : List Key) → w ≡ Unmarked fence lost →
     (lost ≡ f.lost.items) × IsFenceFound f fence) →
-    w ≡ mending_kept (first_mending f) f.lost.items
-mending_found f newest c low top Mended marked first seen h lost =
-    mended_from f.newest newest marked h.0 f.lost.items
-    ∙ ap (λ (fence : Option Fence). mending_kept (mending_from fence f.newest) f.lost.items)
+    w ≡ mending_kept (first_mending n f) f.lost.items
+mending_found n f newest c low top Mended marked first seen four suits h lost =
+    mended_from n f.newest newest marked h.0 f.lost.items
+    ∙ ap (λ (fence : Option Fence). mending_kept (mending_from fence (is_own n f.newest)) f.lost.items)
     (sym (fence_none f.first_lost f.greatest_seen (record { first = f.first_lost; last = f.greatest_seen })
     (omega (arith, first, seen, h.2))))
-mending_found f newest c low top (Repairing left) marked first seen h lost = absurd h
-mending_found f newest c low top (Unmarked None keys) marked first seen h lost =
+mending_found n f newest c low top (Repairing left) marked first seen four suits h lost = absurd h
+mending_found n f newest c low top (Unmarked None keys) marked first seen four suits h lost =
     ap (Unmarked None) (lost None keys refl).0
-    ∙ (unmarked_from f.newest newest low top marked h.1.0 h.1.1 h.0 f.lost.items
-    ∙ ap (λ (fence : Option Fence). mending_kept (mending_from fence f.newest) f.lost.items)
+    ∙ (unmarked_from n f.newest newest low top marked four suits h.1.0 h.1.1 h.0 f.lost.items
+    ∙ ap (λ (fence : Option Fence). mending_kept (mending_from fence (is_own n f.newest)) f.lost.items)
     (sym (fence_none f.first_lost f.greatest_seen (record { first = f.first_lost; last = f.greatest_seen })
     (omega (arith, first, seen, h.1.1)))))
-mending_found f newest c low top (Unmarked (Some fence) keys) marked first seen h lost =
+mending_found n f newest c low top (Unmarked (Some fence) keys) marked first seen four suits h lost =
     let r = lost (Some fence) keys refl in
     (λ i. Unmarked (Some (record { first = r.1.0 i; last = r.1.1 i })) (r.0 i))
-    ∙ ap (λ (o : Option Fence). mending_kept (mending_from o f.newest) f.lost.items)
+    ∙ ap (λ (o : Option Fence). mending_kept (mending_from o (is_own n f.newest)) f.lost.items)
     (sym (fence_some f.first_lost f.greatest_seen (record { first = f.first_lost; last = f.greatest_seen })
     (omega (arith, first, seen, h.1.2))))
 
@@ -236,13 +272,13 @@ to_repair_found : (l : Ledger) (ks : List Key) → l.groups ≡ [] → AreToRepa
 to_repair_found l ks none h = subst (AreToRepair l) (sym (none_dropped ks)) h
 
 work_found : (n : Numbers) (f : Found) (c : Cells) (bad : Spot → Bool) (t : Translation) (content : List ℕ) →
-    OpensFound n f t → IsOpenedTranslation n c bad t →
-    WorkKept (first_mending f) (drop 0 f.lost.items) None content (mark_number_behind f) t.work t.ledger
-work_found n f c bad t content h o = record {
+    length n.rpmb ≡ regions → IsFound n c bad f → OpensFound n f t → IsOpenedTranslation n c bad t →
+    WorkKept (first_mending n f) (drop 0 f.lost.items) None content (mark_number_behind f) t.work t.ledger
+work_found n f c bad t content four found h o = record {
   mending_is =
-      mending_found f t.ledger.newest c t.ledger.first_lost t.ledger.greatest_seen t.work.mending h.newest h.first_lost
-      h.greatest_seen o.mending h.lost
-      ∙ ap (mending_kept (first_mending f)) (sym (none_dropped f.lost.items));
+      mending_found n f t.ledger.newest c t.ledger.first_lost t.ledger.greatest_seen t.work.mending h.newest h.first_lost
+      h.greatest_seen four found.suits.config o.mending h.lost
+      ∙ ap (mending_kept (first_mending n f)) (sym (none_dropped f.lost.items));
   step_is = step_none t.ledger content t.work.step o.no_step;
   to_repair = λ un. to_repair_found t.ledger f.lost.items o.ledger.none_new (record {
     differ = h.differ;
@@ -270,10 +306,11 @@ pins_none : (frontier : ℕ) (entries : Name → Option Entry) (qs : List layer.
 pins_none frontier entries [] e = tt
 pins_none frontier entries (q ∷ qs) e = cc
 
-pub opens_right : (n : Numbers) (f : Found) (c : Cells) (bad : Spot → Bool) (t : Translation) → 1 ≤ n.pages →
+pub opens_right : (n : Numbers) (f : Found) (c : Cells) (bad : Spot → Bool) (t : Translation) →
+    length n.rpmb ≡ regions → 1 ≤ n.pages →
     CellsRight c → AreWithin n c → CellsSound c t.ledger.newest → IsFound n c bad f → IsOpenedTranslation n c bad t →
     Describes (opened n f) t
-opens_right n f c bad t pages right within sound found o =
+opens_right n f c bad t four pages right within sound found o =
     let h = found_opens n c bad f t sound found o in
     let fills = λ (s : Spot) (next : ℕ) (e : t.disk.blocks s ≡ disk.Filling next). never_filling o.disk.blocks e in
     let valid = opening_valid n c bad t pages right within sound o in
@@ -287,7 +324,7 @@ opens_right n f c bad t pages right within sound found o =
         new = λ d number index w. absurd (idle_writes n.dies d number index w);
       };
       ledger_kept = ledger_found n f t h o.ledger.none_new o.ledger.frontier;
-      work = work_found n f c bad t (opened n f).content h o;
+      work = work_found n f c bad t (opened n f).content four found h o;
       plan = record { plan_is = o.no_plan; inside = λ p e. cc };
       claims = sym o.no_claims;
       pins = pins_none t.ledger.frontier (entry_of t.ledger) t.pins o.no_pins;
@@ -313,8 +350,8 @@ opens_right n f c bad t pages right within sound found o =
       };
     }
 
-pub opens_described : (n : Numbers) (f : Found) (kept : Core) → kept ≡ opened n f →
+pub opens_described : (n : Numbers) (f : Found) (kept : Core) → length n.rpmb ≡ regions → kept ≡ opened n f →
     (c : Cells) (bad : Spot → Bool) (t : Translation) → 1 ≤ n.pages → CellsRight c → AreWithin n c →
     CellsSound c t.ledger.newest → IsFound n c bad f → IsOpenedTranslation n c bad t → Describes kept t
-opens_described n f kept is c bad t pages right within sound found o =
-    subst (λ (x : Core). Describes x t) (sym is) (opens_right n f c bad t pages right within sound found o)
+opens_described n f kept four is c bad t pages right within sound found o =
+    subst (λ (x : Core). Describes x t) (sym is) (opens_right n f c bad t four pages right within sound found o)

@@ -28,7 +28,7 @@ use block_table::{BlockState, BlockTable, DieRow, Flight, OpenBlock};
 use page_tag::{OwedJob, UnsealedJob};
 use readers::{Pin, looks_on};
 use ufs_spec::{
-    Block, Fence, GREATEST_GROUP, GREATEST_NUMBER, Job, Key, Looked, Place, Reader, Tag,
+    Block, Fence, GREATEST_GROUP, GREATEST_NUMBER, Job, Key, Looked, Place, REGIONS, Reader, Tag,
 };
 use write_cache::Pending;
 
@@ -115,7 +115,7 @@ fn is_sealable(key: &Key) -> bool
 {
     match key.kind {
         Tag::DATA => key.unit <= 7,
-        Tag::RPMB_AREA => key.unit == 0,
+        Tag::RPMB_AREA => key.unit < REGIONS,
         Tag::SETTINGS => key.unit == 0 && key.address == 0,
         _ => false,
     }

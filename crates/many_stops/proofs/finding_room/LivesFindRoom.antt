@@ -291,7 +291,7 @@ module _ (n : Numbers) (array : Array) (bad : Spot → Bool) (s : State) (config
       by : FindsRoom s.translation → MayGoOn t.translation
       by (inl done) = absurd (true≢false (sym done ∙ (life_takes t es os valid life un).0))
       by (inr r) = device_goes_on n array bad s t es os (still_lost s.translation.work.mending) config blank sound o
-          (listed s.translation.ledger.newest s.translation.work.mending o.translation.mending)
+          (listed n s.translation.ledger.newest s.translation.work.mending o.translation.mending)
           (enough n.pages (length (still_lost s.translation.work.mending)) n.slots (mending_blocks n)
           (count_blocks s.translation is_free) (count_by makes_bad es) (few_keys n array bad s few o)
           (blocks_hold n (has_pages n config))

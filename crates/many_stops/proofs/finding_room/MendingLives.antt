@@ -95,7 +95,7 @@ module _ (bad : Spot → Bool) (o : Translation) (opens : Opened bad o) (blank :
     (v : Valid o) (pages : 2 ≤ o.numbers.pages) (few : HasFewLost o.numbers o.disk.cells o.ledger.newest) where
   -- the keys that are lost, no more of them than slots
   pub lost_are : AreLost o.disk.cells o.ledger.first_lost o.ledger.greatest_seen (still_lost o.work.mending)
-  lost_are = listed o.ledger.newest o.work.mending opens.start.mending
+  lost_are = listed o.numbers o.ledger.newest o.work.mending opens.start.mending
 
   pub lost_few : length (still_lost o.work.mending) ≤ o.numbers.slots
   lost_few = few opens.start.ledger.kept o.ledger.greatest_seen (still_lost o.work.mending) opens.start.ledger.is_kept
@@ -149,7 +149,7 @@ module _ (t : Translation) (left : Cells) (next : Translation) (dies : 1 ≤ t.n
       (λ handed. inr (free_spares next
       (subst (λ n. 2 * mending_blocks n ≤ free_count n next.disk.blocks) (sym start.numbers)
       (enough (own handed) (stop_costs_none t left next v free crash start)))))
-      (λ idle. inl (idle_stop t.numbers t next left (λ s. is_bad (t.disk.blocks s)) v few leaves mended idle crash
+      (λ idle. inl (idle_stop t next left (λ s. is_bad (t.disk.blocks s)) v few leaves mended idle crash
       start).mended)
       (handed_or_not t v)
     where

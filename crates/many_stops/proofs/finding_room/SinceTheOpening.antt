@@ -407,16 +407,16 @@ module _ {o t : Translation} (unfilled : WereUnfilled o) (v : Valid t) (un : is_
 
 -- A life begins
 
-unmarked_at : (c : Cells) (m : Option Mark) (low top : ℕ) (w : Mending) → IsMendingAt c m low top w →
+unmarked_at : (n : Numbers) (c : Cells) (m : Option Mark) (low top : ℕ) (w : Mending) → IsMendingAt n c m low top w →
     is_mended w ≡ false → is_marked w ≡ false
-unmarked_at c m low top (Unmarked fence lost) h un = refl
-unmarked_at c m low top (Repairing left) h un = absurd h
-unmarked_at c m low top Mended h un = absurd (true≢false un)
+unmarked_at n c m low top (Unmarked fence lost) h un = refl
+unmarked_at n c m low top (Repairing left) h un = absurd h
+unmarked_at n c m low top Mended h un = absurd (true≢false un)
 
 pub opening_unmarked : (n : Numbers) (c : Cells) (bad : Spot → Bool) (t : Translation) → IsOpenedTranslation n c bad t →
     is_mended t.work.mending ≡ false → is_marked t.work.mending ≡ false
 opening_unmarked n c bad t o un =
-    unmarked_at c t.ledger.newest t.ledger.first_lost t.ledger.greatest_seen t.work.mending o.mending un
+    unmarked_at n c t.ledger.newest t.ledger.first_lost t.ledger.greatest_seen t.work.mending o.mending un
 
 pub opening_since : (n : Numbers) (c : Cells) (bad : Spot → Bool) (t : Translation) → IsOpenedTranslation n c bad t →
     is_mended t.work.mending ≡ false → SinceOpening t t

@@ -8,7 +8,8 @@ use Rattle.ufs_spec.specs.Cells.{Cells, GroupPage, Mark}
 use Rattle.ufs_spec.specs.Disk.{Spot}
 use Rattle.ufs_spec.specs.Kept.{IsKept, IsNewestMark, fence_in, recorded_in}
 use Rattle.ufs_spec.specs.Ledger.{before_accepted}
-use Rattle.ufs_spec.specs.Openings.{IsAtMost, IsMendingAt, IsOpenedTranslation, MayBeMended, lost_from}
+use Rattle.ufs_spec.specs.Openings.{HasNumbers, IsAtMost, IsMendingAt, IsOpenedTranslation, MayBeMended}
+use Rattle.ufs_spec.specs.Openings.{lost_from}
 use Rattle.ufs_spec.specs.Translation.{Mended, Mending, Repairing, Translation, Unmarked, is_mended}
 use Rattle.ufs_spec.specs.declared.configs.Numbers.{Numbers}
 use Rattle.ufs_spec.specs.declared.flash.Place.{Place}
@@ -77,13 +78,13 @@ module _ {t : Translation} {c : Cells} (v : Valid t) (r : LeavesOwnRoom t) (none
 
   -- The next life
 
-  nothing_lost : (n : Numbers) (bad : Spot → Bool) (next : Translation) → IsOpenedTranslation n c bad next →
+  nothing_lost : (bad : Spot → Bool) (next : Translation) → IsOpenedTranslation t.numbers c bad next →
       before_accepted t.ledger ≤ t.ledger.frontier → (w : Mending) → is_mended w ≡ true → MendingOf t w →
       (newest : Option Mark) → next.ledger.newest ≡ newest →
-      MayBeMended next.ledger.newest next.ledger.first_lost next.ledger.greatest_seen
-  nothing_lost n bad next o durable Mended is marked None e =
+      MayBeMended t.numbers next.ledger.newest next.ledger.first_lost next.ledger.greatest_seen
+  nothing_lost bad next o durable Mended is marked None e =
       absurd (none_newest marked.right (subst (IsNewestMark c) e o.ledger.newest))
-  nothing_lost n bad next o durable Mended is marked (Some m) e =
+  nothing_lost bad next o durable Mended is marked (Some m) e =
       let newest = subst (IsNewestMark c) e o.ledger.newest in
       let none = none_fenced marked.right marked.is marked.more newest in
       let image = its_image marked.right marked.is marked.more newest in
@@ -95,32 +96,32 @@ module _ {t : Translation} {c : Cells} (v : Valid t) (r : LeavesOwnRoom t) (none
       let lost : next.ledger.first_lost ≡ suc o.ledger.kept =
       o.ledger.first_lost ∙ ap (λ z. lost_from (fence_in z) o.ledger.kept) e
       ∙ ap (λ f. lost_from f o.ledger.kept) none in (
-        λ k. none-some m (sym k ∙ e),
+        subst (HasNumbers t.numbers) (sym e) image.numbers,
         ap fence_in e ∙ none,
         above _ _ _ _ far low lost,
       )
     where
       above : (frontier kept top low : ℕ) → frontier ≤ kept → top ≤ frontier → low ≡ suc kept → top < low
       above frontier kept top low far l e = omega (arith, far, l, e)
-  nothing_lost n bad next o durable (Unmarked fence lost) is marked newest e = absurd (false≢true is)
-  nothing_lost n bad next o durable (Repairing left) is marked newest e = absurd (false≢true is)
+  nothing_lost bad next o durable (Unmarked fence lost) is marked newest e = absurd (false≢true is)
+  nothing_lost bad next o durable (Repairing left) is marked newest e = absurd (false≢true is)
 
 -- a life that may be mended at its opening is
-mended_at_once : (c : Cells) (newest : Option Mark) (low top : ℕ) (w : Mending) → IsMendingAt c newest low top w →
-    MayBeMended newest low top → is_mended w ≡ true
-mended_at_once c newest low top Mended at may = refl
-mended_at_once c newest low top (Unmarked fence lost) at may = absurd (at.0 may)
-mended_at_once c newest low top (Repairing left) at may = absurd at
+mended_at_once : (n : Numbers) (c : Cells) (newest : Option Mark) (low top : ℕ) (w : Mending) →
+    IsMendingAt n c newest low top w → MayBeMended n newest low top → is_mended w ≡ true
+mended_at_once n c newest low top Mended at may = refl
+mended_at_once n c newest low top (Unmarked fence lost) at may = absurd (at.0 may)
+mended_at_once n c newest low top (Repairing left) at may = absurd at
 
-pub idle_stop : (n : Numbers) (t next : Translation) (left : Cells) (bad : Spot → Bool) → Valid t → HasFewRepairs t →
+pub idle_stop : (t next : Translation) (left : Cells) (bad : Spot → Bool) → Valid t → HasFewRepairs t →
     LeavesOwnRoom t → is_mended t.work.mending ≡ true → (HasHandedOut t → ⊥) → StopLeaves t left →
-    IsOpenedTranslation n left bad next → HasNothingToMend next
-idle_stop n t next left bad v few r mended none crash o =
-    let may = nothing_lost v r none crash n bad next o (few.durable mended) t.work.mending mended v.mending
+    IsOpenedTranslation t.numbers left bad next → HasNothingToMend next
+idle_stop t next left bad v few r mended none crash o =
+    let may = nothing_lost v r none crash bad next o (few.durable mended) t.work.mending mended v.mending
     next.ledger.newest refl in
     record {
       none_lost = may.2;
       no_fence = may.1;
-      mended = mended_at_once left next.ledger.newest next.ledger.first_lost next.ledger.greatest_seen next.work.mending
+      mended = mended_at_once t.numbers left next.ledger.newest next.ledger.first_lost next.ledger.greatest_seen next.work.mending
           o.mending may;
     }

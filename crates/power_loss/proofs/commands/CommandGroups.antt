@@ -124,7 +124,7 @@ command_keyed s (command.RpmbWrite region address bytes) whole can =
     let last : address + length bytes / 256 - 1 ≡ address + count - 1 = ap (λ (n : ℕ). address + n - 1) again in
     subst (λ (n : ℕ). Keyed s (area_keys region address n ++ settings_key ∷ [])) (sym last)
     (push_keyed s (area_keys region address (address + count - 1)) settings_key
-    (area_keyed s region address count can.0 some (omega arith) whole) IsSettings
+    (area_keyed s region address count can.0.0 some (omega arith) whole) IsSettings
     (no_settings region (address / 16) ((address + count - 1) / 16 + 1 - address / 16)))
 command_keyed s (command.SetBoot boot) whole can = one_keyed s settings_key IsSettings
 command_keyed s command.SetPermanent whole can = one_keyed s settings_key IsSettings

@@ -21,7 +21,7 @@ use Rattle.ufs_laws.proofs.plain_contents.CommandsKeepPlain.{its_region}
 use Rattle.ufs_spec.specs.Rpmb.{region_of}
 use Rattle.ufs_spec.specs.Rpmb.{rpmb_outcome}
 use Rattle.ufs_spec.specs.RpmbResponses.{is_success}
-use Rattle.ufs_spec.specs.Plain.{regions}
+use Rattle.ufs_spec.specs.Plain.{HasRegion, regions}
 use Rattle.ufs_spec.proofs.Facts.{leb-true}
 use Rattle.power_loss.specs.WaitingFrames.{AsksInside}
 use Rattle.ufs_laws.proofs.pages.ByteLists.{bytes-append, bytes-nil}
@@ -86,7 +86,8 @@ asked number region r locked f fs {result} {c} e =
     in
     record { passes = told.0; command = told.1 }
 
-key_requested : (p : Plain) (number : ℕ) (locked : Bool) (f : Frame) (fs : List Frame) → number < regions → IsFrame f →
+key_requested : (p : Plain) (number : ℕ) (locked : Bool) (f : Frame) (fs : List Frame) →
+    HasRegion (shape_of p) number → IsFrame f →
     f.kind ≡ 1 → first_failed (checks (region_of p number) locked f fs) ≡ None →
     IsRequested p locked (command.SetKey number f.key_or_mac)
 key_requested p number locked f fs there is kind passes = record {
@@ -100,7 +101,7 @@ key_requested p number locked f fs there is kind passes = record {
 }
 
 write_requested : (p : Plain) (number : ℕ) (r : Registers) (locked : Bool) (f : Frame) (fs : List Frame) {result : ℕ} →
-    IsPlain p → number < regions → All IsFrame (f ∷ fs) → length (f ∷ fs) ≤ 8 →
+    IsPlain p → HasRegion (shape_of p) number → All IsFrame (f ∷ fs) → length (f ∷ fs) ≤ 8 →
     rpmb_outcome number (region_of p number) r locked (f ∷ fs)
     ≡ Results result (Some (command.RpmbWrite number f.address (payloads (f ∷ fs)))) →
     IsRequested p locked (command.RpmbWrite number f.address (payloads (f ∷ fs)))
@@ -114,7 +115,7 @@ write_requested p number r locked f fs {result} plain there each few e = record 
     all : (length (payloads (f ∷ fs)) ≡ 256 * length (f ∷ fs)) × AreBytes (payloads (f ∷ fs))
     all = payloads_are (f ∷ fs) each
 
-    lies : (number < regions)
+    lies : HasRegion (shape_of p) number
         × (((count : ℕ) × (length (payloads (f ∷ fs)) ≡ 256 * count) × (1 ≤ count) × (count ≤ 8))
         × (256 * f.address + length (payloads (f ∷ fs)) ≤ get_or (shape_of p).areas number 0))
     lies =
@@ -130,12 +131,12 @@ write_requested p number r locked f fs {result} plain there each few e = record 
     counter =
         let right = right_write number (region_of p number) r locked f fs result number f.address
         (payloads (f ∷ fs)) e in
-        let fits = (its_region p number plain there).counter_fits in
+        let fits = (its_region p number plain there.0).counter_fits in
         let below = right.below_end in
         omega arith
 
 pub frames_requested : (p : Plain) (number : ℕ) (r : Registers) (locked : Bool) (frames : List Frame) {result : ℕ}
-    {c : Command} → IsPlain p → number < regions → All IsFrame frames → length frames ≤ 8 →
+    {c : Command} → IsPlain p → HasRegion (shape_of p) number → All IsFrame frames → length frames ≤ 8 →
     rpmb_outcome number (region_of p number) r locked frames ≡ Results result (Some c) → IsRequested p locked c
 frames_requested p number r locked [] {result} {c} plain there each few e =
     absurd (refused invalid_list_field result c e)

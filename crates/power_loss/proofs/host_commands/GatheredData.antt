@@ -142,7 +142,7 @@ module _ {s : State} {task : Task} (v : IsTied s) where
       one (Accepted c claimed deed) why = accepted_right purpose all c claimed deed g whole why.0 why.1
       one (HasResult region fs result) d = result_right region v g.there g.few fs result
       one (ReadsArea region f fs result) (d, reads) =
-          reads_right region v g.there g.few f fs result (frames_came g (no_more whole) d).region_in (reads_inside d
+          reads_right region v g.there g.few f fs result (frames_came g (no_more whole) d).region_in.0 (reads_inside d
           reads)
       one (AcceptsFrames region fs result c) d =
           let there = frames_came g (no_more whole) d in

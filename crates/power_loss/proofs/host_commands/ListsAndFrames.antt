@@ -25,7 +25,7 @@ use Rattle.ufs_spec.proofs.RegionPages.{pages_held}
 use Rattle.ufs_laws.proofs.plain_contents.CommandsKeepPlain.{its_region}
 use Rattle.ufs_spec.specs.Rpmb.{Results, read_data, region_of, rpmb_outcome}
 use Rattle.ufs_spec.specs.RpmbResponses.{is_success}
-use Rattle.ufs_spec.specs.Plain.{regions}
+use Rattle.ufs_spec.specs.Plain.{HasRegion, regions, shape_of_numbers}
 use Rattle.ufs_spec.proofs.ConfigFacts.{command_blocks-few, command_blocks-some}
 use Rattle.ufs_spec.proofs.Facts.{eq-eqb, eqb-false}
 use Rattle.power_loss.specs.Exchange.{FramesFit}
@@ -113,7 +113,7 @@ unmap_coming {s} {task} {unit} {gathered} {asked} list v g all right free = reco
 
 -- the frames that came, one to eight, to a region that is there
 pub record FramesCame (s : State) (task : Task) (region : ℕ) (frames : List Frame) : Type 0 where
-  pub region_in : region < regions
+  pub region_in : HasRegion (shape_of_numbers (numbers_of s)) region
   pub each : All IsFrame frames
   pub few : length frames ≤ 8
   pub claim : claim_of (numbers_of s) task ≡ 3
@@ -135,7 +135,7 @@ came {s} {task} {region} {gathered} {asked} bytes g more = record {
   is_mended = fits.is_mended;
 }
   where
-    fits : FramesFit (is_mended s.translation.work.mending) region task.length gathered
+    fits : FramesFit (numbers_of s) (is_mended s.translation.work.mending) region task.length gathered
         (claimed_by (numbers_of s) (Gathering (ForFrames region) gathered asked) task.command)
     fits = g.fits
 
@@ -145,8 +145,9 @@ pub frames_coming : {s : State} {task : Task} {region : ℕ} {frames : List Fram
     (Some c) →
     IsComing s c (claim_of (numbers_of s) task)
 frames_coming {s} {task} {region} {frames} {result} {c} v f e =
-    let r = frames_requested (plain_now s) region (s.registers region) (locked s) frames (plain_tied v) f.region_in
-    f.each f.few e in
+    let there = subst (λ (x : Shape). HasRegion x region) (sym (shape_tied v)) f.region_in in
+    let r = frames_requested (plain_now s) region (s.registers region) (locked s) frames (plain_tied v) there f.each
+    f.few e in
     record {
       is = r.is;
       can = r.can;

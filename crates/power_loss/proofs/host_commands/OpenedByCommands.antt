@@ -16,7 +16,9 @@ use Rattle.std.specs.Prelude.{if◌then◌else◌, ◌%◌, ◌/◌}
 use Rattle.ufs_spec.specs.Begins.{frames_begun}
 use Rattle.ufs_spec.specs.Cdbs.{IsCdb}
 use Rattle.ufs_spec.specs.Messages.{is_among}
-use Rattle.ufs_spec.specs.Plain.{regions}
+use Rattle.ufs_spec.specs.Plain.{regions, shape_of_numbers, steps_of}
+use Rattle.ufs_spec.proofs.RegionPages.{region_there}
+use Rattle.std.proofs.lemmas.Bool.{cases_lt, eqb-false}
 use Rattle.ufs_spec.specs.declared.scsi.Cdb.TheVariants as cdb
 use Rattle.power_loss.specs.Exchange.{FramesFit, UnmapFits}
 use Rattle.ufs_spec.specs.Exchanges.{most_short_exchanges}
@@ -210,17 +212,26 @@ unmap_fits {s} {r} {unit} {n} p taken unit_is some =
 
 -- SECURITY PROTOCOL OUT
 
+-- a number that is not 0 is above it
+pos_from : {n : ℕ} → (n ≡ 0 → ⊥) → 0 < n
+pos_from {n} h = ⊎_elim (λ l. l) (λ none. absurd (h (omega (arith, none)))) (cases_lt 0 n)
+
 frames_fit : {s : State} {r : Request} {region n : ℕ} → Passed s r (cdb.SecurityOut region n) → region < regions →
-    FramesFit (is_mended s.translation.work.mending) region n [] (slots_needed (numbers_of s) (cdb.SecurityOut region
-    n))
+    FramesFit (numbers_of s) (is_mended s.translation.work.mending) region n []
+    (slots_needed (numbers_of s) (cdb.SecurityOut region n))
 frames_fit {s} {r} {region} {n} p there =
     let all = and_parts (nat_le 512 n && nat_le n 4096) (n % 512 == 0) (not-false (is_frames n) p.not_long) in
     let both = and_parts (nat_le 512 n) (nat_le n 4096) all.0 in
     let least = leb-true 512 n both.0 in
     let most = leb-true n 4096 both.1 in
     let whole = eqb-true (n % 512) 0 all.1 in
+    let area = region_there (numbers_of s) region there in
+    let steps : steps_of (numbers_of s) region ≡ 0 → ⊥ = eqb-false (steps_of (numbers_of s) region) 0 p.has_region in
+    let some_steps : 0 < steps_of (numbers_of s) region = pos_from steps in
+    let area_there : 0 < get_or (shape_of_numbers (numbers_of s)).areas region 0 =
+    omega (arith, area, some_steps) in
     record {
-      region_in = there;
+      region_in = (there, area_there);
       count = n / 512;
       some = omega arith;
       few = omega arith;
@@ -263,8 +274,9 @@ begins s r command v free p op fields = begins_by (Right s) s r unit command one
         (subst TakenByUnits (sym (op ∙ ap operation_of is)) units_take_unmap) unit_is some)
 
     framed : (region n : ℕ) → command ≡ cdb.SecurityOut region n →
-        FramesFit (is_mended s.translation.work.mending) region n [] (slots_needed (numbers_of s) command)
-    framed region n is = subst (λ (c : Cdb). FramesFit
+        FramesFit (numbers_of s) (is_mended s.translation.work.mending) region n []
+        (slots_needed (numbers_of s) command)
+    framed region n is = subst (λ (c : Cdb). FramesFit (numbers_of s)
         (is_mended s.translation.work.mending) region n [] (slots_needed (numbers_of s) c)) (sym is)
         (frames_fit {r = r} (subst (Passed s r) is p) (subst IsCdb is fields).0)
 

@@ -10,7 +10,7 @@ use Rattle.power_loss.proofs.MachineWords.{needs_mended, not_taken, numbers_of, 
 use Rattle.power_loss.proofs.MachineWords.{takes, unit_in, unit_of_request, UnitSpec, Cdb}
 use Rattle.std.specs.Prelude.{if◌then◌else◌}
 use Rattle.ufs_spec.specs.Cdbs.{unmap, write_10, write_6}
-use Rattle.ufs_spec.specs.Refusals.{has_wrong_list, is_crowded, is_too_long}
+use Rattle.ufs_spec.specs.Refusals.{has_wrong_list, is_crowded, is_too_long, lacks_region}
 use Rattle.ufs_spec.specs.Refusals.{unit_numbers_of, well_known}
 
 -- No line of the table applies
@@ -28,6 +28,7 @@ all_pass (l ∷ ls) h = by l.applies refl h (all_pass ls)
 pub record Passed (s : State) (r : Request) (command : Cdb) : Type 0 where
   pub unit : lacks_unit s r (lun_of (numbers_of s) r.lun) ≡ false
   pub taken : not_taken r (lun_of (numbers_of s) r.lun) ≡ false
+  pub has_region : lacks_region (numbers_of s) command ≡ false
   pub not_long : is_too_long (numbers_of s) command ≡ false
   pub listed : has_wrong_list command ≡ false
   pub within : is_past command (unit_numbers_of s r) ≡ false
@@ -44,11 +45,12 @@ passed s r command e h =
     record {
       unit = p.0;
       taken = p.1.0;
-      not_long = p.1.1.0;
-      listed = p.1.1.1.0;
-      within = p.1.1.1.1.1.0;
-      ready = p.1.1.1.1.1.1.0;
-      room = p.1.1.1.1.1.1.1.1.1.1.0;
+      has_region = p.1.1.0;
+      not_long = p.1.1.1.0;
+      listed = p.1.1.1.1.0;
+      within = p.1.1.1.1.1.1.0;
+      ready = p.1.1.1.1.1.1.1.0;
+      room = p.1.1.1.1.1.1.1.1.1.1.1.0;
     }
 
 pub ready_now : (s : State) (command : Cdb) → needs_mended (operation_of command) ≡ true →

@@ -47,7 +47,7 @@ first_bad (l ∷ ls) status all e = by l.applies e (first_bad ls status all.1)
 
 lines_bad : (s : State) (r : Request) (c : Option Cdb) → AreBad (lines_after s r c)
 lines_bad s r None = (tt, tt)
-lines_bad s r (Some c) = (tt, (tt, (tt, (tt, (tt, (tt, (tt, (tt, (tt, tt)))))))))
+lines_bad s r (Some c) = (tt, (tt, (tt, (tt, (tt, (tt, (tt, (tt, (tt, (tt, tt))))))))))
 
 refused_bad : (s : State) (r : Request) {status : Status} → refusal s r ≡ Some status → NotGood status
 refused_bad s r {status} e =

@@ -11,19 +11,19 @@ use Rattle.power_loss.proofs.repaired_keys.NoMoreKeys.{as_many}
 
 -- A life begins
 
-turns_at : {c : Cells} (m : Option Mark) {low top : ℕ} {lost : List Key} (w : Mending) (more : Bool) →
-    AreLost c low top lost → IsMendingAt c m low top w → turns_of w false more ≤ length lost + 2
-turns_at m (Unmarked None keys) true x y = omega arith
-turns_at m {lost} (Unmarked (Some fence) keys) true x y = let l = as_many y.2 x in omega arith
-turns_at m (Unmarked fence keys) false x y = omega arith
-turns_at m (Repairing left) more x y = absurd y
-turns_at m Mended more x y = omega arith
+turns_at : (n : Numbers) {c : Cells} (m : Option Mark) {low top : ℕ} {lost : List Key} (w : Mending) (more : Bool) →
+    AreLost c low top lost → IsMendingAt n c m low top w → turns_of w false more ≤ length lost + 2
+turns_at n m (Unmarked None keys) true x y = omega arith
+turns_at n m {lost} (Unmarked (Some fence) keys) true x y = let l = as_many y.2 x in omega arith
+turns_at n m (Unmarked fence keys) false x y = omega arith
+turns_at n m (Repairing left) more x y = absurd y
+turns_at n m Mended more x y = omega arith
 
 pub turns_at_opening : (n : Numbers) (c : Cells) (bad : Spot → Bool) (t : Translation) (lost : List Key) →
     IsOpenedTranslation n c bad t → AreLost c t.ledger.first_lost t.ledger.greatest_seen lost →
     turns_left t ≤ length lost + 2
 turns_at_opening n c bad t lost o x =
-    let l = turns_at t.ledger.newest t.work.mending (has_mark_number t) x o.mending in
+    let l = turns_at n t.ledger.newest t.work.mending (has_mark_number t) x o.mending in
     let e = ap (λ s. turns_of t.work.mending (is_marking s) (has_mark_number t)) o.no_step in
     omega arith
 

@@ -42,9 +42,9 @@ unmap_more {n} {total = total} up short bytes same h = record {
   is_mended = up h.is_mended;
 }
 
-pub frames_more : {m w : Bool} {region total : ℕ} {some all : List ℕ} {claimed more : ℕ} →
+pub frames_more : {n : Numbers} {m w : Bool} {region total : ℕ} {some all : List ℕ} {claimed more : ℕ} →
     (m ≡ true → w ≡ true) → length all < total → (AreBytes some → AreBytes all) → more ≡ claimed →
-    FramesFit m region total some claimed → FramesFit w region total all more
+    FramesFit n m region total some claimed → FramesFit n w region total all more
 frames_more up short bytes same h = record {
   region_in = h.region_in;
   count = h.count;

@@ -82,7 +82,7 @@ module _ (n : Numbers) (c : Cells) (within : AreWithin n c) (bad : Spot → Bool
     numbers = n;
     disk = disk;
     ledger = ledger;
-    work = record { mending = (mending_at n c within m low last wide).0; plan = None; step = None; rests = [] };
+    work = record { mending = (mending_at n c within m low last wide suit.config).0; plan = None; step = None; rests = [] };
     claims = 0;
     pins = [];
   }
@@ -125,7 +125,7 @@ module _ (n : Numbers) (c : Cells) (within : AreWithin n c) (bad : Spot → Bool
     suits = suit;
     disk = disk_opens;
     ledger = ledger_opens;
-    mending = (mending_at n c within m low last wide).1;
+    mending = (mending_at n c within m low last wide suit.config).1;
     no_plan = refl;
     no_step = refl;
     no_rests = refl;

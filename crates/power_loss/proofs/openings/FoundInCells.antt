@@ -1,5 +1,6 @@
 -- What an opening finds in cells: the page of each name, the greatest number seen, the lost keys in order, the mending
 -- that is due and the state of each block.
+use Rattle.power_loss.proofs.Common.{[], ◌∷◌, ◌<◌}
 use Rattle.power_loss.proofs.Common.{◌≡◌, ◌≢◌, ◌⊎◌, ℕ, suc, ◌≤◌, Bool, true, false, List, Option, Some, None, refl, sym}
 use Rattle.power_loss.proofs.Common.{cases_Bool, is_free, true≢false, ap, ◌∙◌, subst, inl, inr, ⊎_elim, arith}
 use Rattle.power_loss.proofs.Common.{AreWithin, Cell, Cells, GroupPage, IsPlace, Mark, MarkPage, Nothing, key_of}
@@ -9,7 +10,10 @@ use Rattle.power_loss.proofs.Common.{StandsAt, Mended, Mending, Unmarked, name_o
 use Rattle.power_loss.proofs.Common.{none-some, name_cases, page_not_nothing}
 use Rattle.std.specs.Prelude.{max, if◌then◌else◌}
 use Rattle.ufs_laws.proofs.deciding.SearchOverPlaces.{Decided, Greatest, greatest, is_place, some_cell, split}
+use Rattle.ufs_laws.proofs.deciding.Connectives.{same_bytes}
 use Rattle.ufs_spec.specs.Openings.{IsLost, IsNotHigher}
+use Rattle.ufs_spec.specs.Plain.{steps_of}
+use Rattle.ufs_spec.specs.Sound.{MarkSuits}
 use Rattle.power_loss.proofs.books.PagesByName.{entry_for}
 use Rattle.power_loss.proofs.ordered_lists.LowestPlaces.{lowest}
 use Rattle.power_loss.proofs.ordered_lists.SortedKeys.{Below, Listed, at_has, collect, has_at, none_listed, one_listed}
@@ -248,25 +252,36 @@ module _ (n : Numbers) (c : Cells) (within : AreWithin n c) where
   none_or None = inl refl
   none_or (Some g) = inr (g, refl)
 
+  -- whether the newest mark has the numbers of the device
+  same_numbers : (mark : Mark) → MarkSuits n mark.numbers → Dec (mark.numbers ≡ n)
+  same_numbers mark (inl same) = yes same
+  same_numbers mark (inr one) = of_one (same_bytes n.rpmb (steps_of n 0 ∷ 0 ∷ 0 ∷ 0 ∷ []))
+    where
+      of_one : Dec (n.rpmb ≡ steps_of n 0 ∷ 0 ∷ 0 ∷ 0 ∷ []) → Dec (mark.numbers ≡ n)
+      of_one (yes e) = yes (one ∙ (λ i. record n { rpmb = sym e i }))
+      of_one (no differ) = no (λ same. differ (ap (λ (x : Numbers). x.rpmb) (sym same ∙ one)))
+
   pub mending_at : (m : Option Mark) (low last : ℕ) → ((f : Fence) → fence_in m ≡ Some f → low ≤ last) →
-      (w : Mending) × IsMendingAt c m low last w
-  mending_at None low last wide =
+      ((mark : Mark) → m ≡ Some mark → MarkSuits n mark.numbers) → (w : Mending) × IsMendingAt n c m low last w
+  mending_at None low last wide suits =
       let keys = are_lost in
       ⊎_elim
-      (λ l. (Unmarked (Some (record { first = low; last = last })) keys.0, ((λ h. h.0 refl), (refl, refl, l), keys.1)))
-      (λ l. (Unmarked None keys.0, ((λ h. h.0 refl), (refl, l), keys.1))) (split low last)
-  mending_at (Some mark) low last wide =
+      (λ l. (Unmarked (Some (record { first = low; last = last })) keys.0, ((λ h. h.0), (refl, refl, l), keys.1)))
+      (λ l. (Unmarked None keys.0, ((λ h. h.0), (refl, l), keys.1))) (split low last)
+  mending_at (Some mark) low last wide suits =
       let keys = are_lost in
       ⊎_elim
       (λ l. (
         Unmarked (Some (record { first = low; last = last })) keys.0,
         ((λ h. let x = h.2 in omega arith), (refl, refl, l), keys.1),
       ))
-      (λ l. (
-        Mended,
-        (
-          (λ e. none-some mark (sym e)),
-          ⊎_elim (λ e. e) (λ f. absurd (let x = wide f.0 f.1 in omega arith)) (none_or mark.fence),
-          l,
-        ),
-      )) (split low last)
+      (λ l. by (same_numbers mark (suits mark refl)) l) (split low last)
+    where
+      no_fence : last < low → mark.fence ≡ None
+      no_fence l = ⊎_elim (λ e. e) (λ f. absurd (let x = wide f.0 f.1 in omega arith)) (none_or mark.fence)
+
+      by : Dec (mark.numbers ≡ n) → last < low → (w : Mending) × IsMendingAt n c (Some mark) low last w
+      by (yes same) l = (Mended, (same, no_fence l, l))
+      by (no differ) l =
+          let keys = are_lost in
+          (Unmarked None keys.0, ((λ h. differ h.0), (no_fence l, l), keys.1))

@@ -1,6 +1,7 @@
 -- An opened translation layer is valid: the mending that is due, and all of it.
 use Rattle.power_loss.proofs.Common.{◌≡◌, ◌≢◌, ℕ, ◌<◌, ◌≤◌, ◌-◌, All, Bool, List, [], drop, length, Option, Some, None}
 use Rattle.power_loss.proofs.Common.{refl, sym, ap, ◌∙◌, subst, inl, ⊎_elim, arith, drop_all, All-nil, AreWithin, Cells}
+use Rattle.ufs_spec.specs.Openings.{HasNumbers}
 use Rattle.power_loss.proofs.Common.{Mark, MarkPage, Spot, spot_of, IsNewestMark, IsWhole, fence_in, recorded_in}
 use Rattle.power_loss.proofs.Common.{AreLost, IsMendingAt, IsOpenedTranslation, CellsSound, Mended, Mending, Repairing}
 use Rattle.power_loss.proofs.Common.{Translation, Unmarked, is_mended, wants_of_step, Numbers, Key, Place}
@@ -51,16 +52,16 @@ module _ {bad : Spot → Bool} {t : Translation} (o : Opened bad t) where
     needed = mark_not_free o p is h;
   }
 
-  marks_are_right : {m : Mark} → t.ledger.newest ≡ Some m → IsNewestMark t.disk.cells (Some m) →
+  marks_are_right : {m : Mark} → t.ledger.newest ≡ Some m → m.numbers ≡ t.numbers → IsNewestMark t.disk.cells (Some m) →
       fence_in t.ledger.newest ≡ None → t.ledger.greatest_seen < t.ledger.first_lost → MarksOf t m
-  marks_are_right {m} is x none l =
+  marks_are_right {m} is own x none l =
       let f = o.start.ledger.frontier in
       let r = ap recorded_in is in
       let k = all_kept none l in
       record {
         stands = mark_stands x.0.0 is x.0.1;
         within = let z = o.start.ledger.greatest_seen.0.marks x.0.0 m x.0.1 in omega arith;
-        numbers = o.start.suits.config m is;
+        numbers = own;
         whole = λ n low up. whole_above (omega arith) (omega arith);
         ended = λ p other h ended. x.1 p other h;
         known = λ p other h. inl (
@@ -73,13 +74,13 @@ module _ {bad : Spot → Bool} {t : Translation} (o : Opened bad t) where
         flies = λ die p other h. absurd (none_flies o h);
       }
 
-  mended : (m : Option Mark) → t.ledger.newest ≡ m → m ≢ None → IsNewestMark t.disk.cells m →
+  mended : (m : Option Mark) → t.ledger.newest ≡ m → HasNumbers t.numbers m → IsNewestMark t.disk.cells m →
       fence_in t.ledger.newest ≡ None → t.ledger.greatest_seen < t.ledger.first_lost → MendingOf t Mended
-  mended None is some x none l = absurd (some refl)
-  mended (Some m) is some x none l = record {
+  mended None is own x none l = absurd own
+  mended (Some m) is own x none l = record {
     mark = m;
     is = is;
-    right = marks_are_right is x none l;
+    right = marks_are_right is own x none l;
     more = record {
       none = sym (ap fence_in is) ∙ none;
       repaired = λ n i e lost h. absurd (let u = lost.from in let w = lost.to in omega arith);
@@ -100,7 +101,7 @@ module _ {bad : Spot → Bool} {t : Translation} (o : Opened bad t) where
     keys = λ j k h. let y = x.lost j k h in subst (HasKey (book t)) y.4 (o.start.suits.keys y.0 y.1 y.2 y.3);
   }
 
-  mends : (w : Mending) → IsMendingAt t.disk.cells t.ledger.newest t.ledger.first_lost t.ledger.greatest_seen w →
+  mends : (w : Mending) → IsMendingAt t.numbers t.disk.cells t.ledger.newest t.ledger.first_lost t.ledger.greatest_seen w →
       MendingOf t w
   mends Mended x = mended t.ledger.newest refl x.0 o.start.ledger.newest x.1 x.2
   mends (Repairing left) x = absurd x
@@ -147,7 +148,7 @@ module _ {bad : Spot → Bool} {t : Translation} (o : Opened bad t) where
 
   -- no step is under way
   none_begun : (w : Mending) →
-      IsMendingAt t.disk.cells t.ledger.newest t.ledger.first_lost t.ledger.greatest_seen w →
+      IsMendingAt t.numbers t.disk.cells t.ledger.newest t.ledger.first_lost t.ledger.greatest_seen w →
       StaleRight t.numbers t.disk.blocks t.disk.vacancies t.work.step w
   none_begun (Unmarked fence lost) x = λ s e. absurd (none-some s (sym o.start.no_step ∙ e))
   none_begun (Repairing left) x = absurd x

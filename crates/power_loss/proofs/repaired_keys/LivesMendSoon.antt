@@ -74,11 +74,11 @@ none_above l = record {
 }
 
 -- the keys with a lost page when a life begins
-pub listed : {c : Cells} (m : Option Mark) {low top : ℕ} (w : Mending) → IsMendingAt c m low top w →
+pub listed : (n : Numbers) {c : Cells} (m : Option Mark) {low top : ℕ} (w : Mending) → IsMendingAt n c m low top w →
     AreLost c low top (still_lost w)
-listed m (Unmarked fence lost) h = h.2
-listed m (Repairing left) h = absurd h
-listed m Mended h = none_above h.2
+listed n m (Unmarked fence lost) h = h.2
+listed n m (Repairing left) h = absurd h
+listed n m Mended h = none_above h.2
 
 pub few_keys : (n : Numbers) (array : Array) (bad : Spot → Bool) (s : State) → ArrayHasFewLost n array →
     IsOpened n array bad s → length (still_lost s.translation.work.mending) ≤ n.slots
@@ -88,7 +88,7 @@ few_keys n array bad s few o =
     few o.cells t.ledger.newest o.shown ledger.newest ledger.kept t.ledger.greatest_seen (still_lost t.work.mending)
     ledger.is_kept ledger.greatest_seen
     (subst (λ low. AreLost o.cells low t.ledger.greatest_seen (still_lost t.work.mending)) ledger.first_lost
-    (listed t.ledger.newest t.work.mending o.translation.mending))
+    (listed n t.ledger.newest t.work.mending o.translation.mending))
 
 module _ (n : Numbers) (array : Array) (bad : Spot → Bool) (s : State) (config : IsConfig n) (blank : IsArrayOf n array)
     (sound : Sound array) (few : ArrayHasFewLost n array) (o : IsOpened n array bad s) where
@@ -105,7 +105,7 @@ module _ (n : Numbers) (array : Array) (bad : Spot → Bool) (s : State) (config
       let w = s.translation.work.mending in
       let keys = few_keys n array bad s few o in
       let turns = true_turns_of_life n array bad s t es os (still_lost w) config blank sound o
-      (listed s.translation.ledger.newest w o.translation.mending) life unmended in
+      (listed n s.translation.ledger.newest w o.translation.mending) life unmended in
       omega arith
 
   numbers_stay : (t : State) (es : List Event) (os : List Output) → Life s es os t → numbers_of t ≡ n

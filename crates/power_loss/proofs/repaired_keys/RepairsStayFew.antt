@@ -55,7 +55,7 @@ module _ {bad : Spot → Bool} {t : Translation} (o : Opened bad t) where
     where
       by : (w : Mending) → t.work.mending ≡ w → HasFewRepairs t
       by (Unmarked fence lost) is =
-          let m = subst (IsMendingAt t.disk.cells t.ledger.newest t.ledger.first_lost t.ledger.greatest_seen) is
+          let m = subst (IsMendingAt t.numbers t.disk.cells t.ledger.newest t.ledger.first_lost t.ledger.greatest_seen) is
           o.start.mending in
           let u = subst (MendingOf t) is v.mending in
           with_keys lost
@@ -64,10 +64,10 @@ module _ {bad : Spot → Bool} {t : Translation} (o : Opened bad t) where
           (λ n i e l h. (let r = u.lost_right.all n i e l h in in_contained lost (at_has lost r.0 e.item.key r.1)))
           (λ k h. subst (λ w. Contains (still_lost w) k) is h)
       by (Repairing left) is =
-          absurd (subst (IsMendingAt t.disk.cells t.ledger.newest t.ledger.first_lost t.ledger.greatest_seen) is
+          absurd (subst (IsMendingAt t.numbers t.disk.cells t.ledger.newest t.ledger.first_lost t.ledger.greatest_seen) is
           o.start.mending)
       by Mended is =
-          let m = subst (IsMendingAt t.disk.cells t.ledger.newest t.ledger.first_lost t.ledger.greatest_seen) is
+          let m = subst (IsMendingAt t.numbers t.disk.cells t.ledger.newest t.ledger.first_lost t.ledger.greatest_seen) is
           o.start.mending in
           with_keys [] (omega arith)
           (λ n i e l h. absurd (let a = l.from in let b = l.to in let c = m.2 in omega arith))

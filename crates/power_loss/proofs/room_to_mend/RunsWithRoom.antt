@@ -20,7 +20,7 @@ pub few_lost_go_on : (n : Numbers) (array : Array) (bad : Spot → Bool) (s t : 
 few_lost_go_on n array bad s t es os config blank sound few o free life un =
     let w = s.translation.work.mending in
     device_with_own_room n array bad s t es os (still_lost w) config blank sound o
-    (listed s.translation.ledger.newest w o.translation.mending) (few_keys n array bad s few o) free life un
+    (listed n s.translation.ledger.newest w o.translation.mending) (few_keys n array bad s few o) free life un
 
 never_stuck : (n : Numbers) (array : Array) (bad : Spot → Bool) (l : Lived) → IsConfig n → IsArrayOf n array →
     Sound array → ArrayHasFewLost n array → IsLived n array bad l → IsNeverStuck n l

@@ -124,7 +124,7 @@ module _ {s : State} {task : Task} {purpose : Purpose} {gathered : List ℕ} {as
       one (HasResult region frames result) why = request_shows s.translation.ledger _ _ h
       one (ReadsArea region f fs result) (d, reads) =
           let came = frames_came g (no_more whole) d in
-          reads_show region f fs result came.region_in (reads_inside d reads) came.is_mended h
+          reads_show region f fs result came.region_in.0 (reads_inside d reads) came.is_mended h
       one (AcceptsFrames region frames result c) why =
           request_shows (accepts s c 0).translation.ledger _ _ (accepts_shows s c 0 h)
 

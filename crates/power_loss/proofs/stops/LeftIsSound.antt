@@ -85,7 +85,7 @@ sound t c m v crash n = ⊎_elim same changed (outcome v crash n)
 pub image_suits : {b : Book} {frontier marked : ℕ} {c : Cells} {m : Mark} → Image b frontier marked c m →
     CellsSuit b.numbers c (Some m)
 image_suits {m} x = record {
-  config = λ newest e. ap (λ y. y.numbers) (sym (same_Some m newest e)) ∙ x.numbers;
+  config = λ newest e. inl (ap (λ y. y.numbers) (sym (same_Some m newest e)) ∙ x.numbers);
   keys = λ p t body h. x.right.keys t.number t.index (entry_for t body) (x.known p t body h);
 }
 

@@ -18,6 +18,7 @@ use Rattle.ufs_spec.specs.Pages.{greatest_number}
 use Rattle.ufs_spec.specs.Cells.{NumbersFit, UnitFits}
 use Rattle.ufs_spec.specs.Configs.{InRange, UnitInRange}
 use Rattle.ufs_spec.specs.Pages.{IsTag, fence_bytes, mark_bytes, numbers_bytes, seal_page, unit_bytes}
+use Rattle.ufs_spec.specs.Plain.{regions, steps_of}
 use Rattle.ufs_spec.proofs.RegionPages.{pages_there}
 use Rattle.ufs_spec.proofs.SealedPages.{seals, units_length}
 
@@ -30,7 +31,8 @@ pub record KeyRanges (k : Key) : Type 0 where
   pub some : 1 ≤ k.kind
   pub kinds : k.kind ≤ 3
   pub unit : k.unit < 8
-  pub data_alone : 2 ≤ k.kind → k.unit ≡ 0
+  pub region : k.kind ≡ 2 → k.unit < regions
+  pub alone : 3 ≤ k.kind → k.unit ≡ 0
   pub address : k.address < 2 ^ 32
   pub blocks_alone : 3 ≤ k.kind → k.address ≡ 0
 
@@ -53,17 +55,19 @@ key_ranges {n} r (IsData unit address there within) =
       some = omega arith;
       kinds = omega arith;
       unit = omega (arith, length-map n.units.items (λ u. u.blocks));
-      data_alone = λ h. absurd (omega arith);
+      region = λ h. absurd (omega arith);
+      alone = λ h. absurd (omega arith);
       address = omega arith;
       blocks_alone = λ h. absurd (omega arith);
     }
 key_ranges {n} r (IsArea region page there within) =
-    let few = r.rpmb_bound in
+    let few : steps_of n region ≤ 8 = r.rpmb_bound region 0 (omega (arith, there, r.count_of_regions)) in
     record {
       some = omega arith;
       kinds = omega arith;
       unit = omega (arith, there);
-      data_alone = λ h. omega (arith, there);
+      region = λ h. there;
+      alone = λ h. absurd (omega arith);
       address = omega (arith, within, pages_there n region there);
       blocks_alone = λ h. absurd (omega arith);
     }
@@ -71,7 +75,8 @@ key_ranges r IsSettings = record {
   some = omega arith;
   kinds = omega arith;
   unit = omega arith;
-  data_alone = λ h. refl;
+  region = λ h. absurd (omega arith);
+  alone = λ h. refl;
   address = omega arith;
   blocks_alone = λ h. refl;
 }
@@ -108,7 +113,8 @@ entry_tag r key fits some number reach l =
     record {
       kind_known = (k.some, omega (arith, k.kinds));
       unit_known = k.unit;
-      unit_of_data_alone = k.data_alone;
+      region_known = k.region;
+      unit_of_blocks_alone = k.alone;
       address_fits = k.address;
       address_of_blocks_alone = k.blocks_alone;
       number_given = (some, omega arith);
@@ -159,7 +165,6 @@ numbers_fit {n} r =
     let dies = r.dies_bound in
     let blocks = r.blocks_bound in
     let pages = r.pages_bound in
-    let rpmb = r.rpmb_bound in
     let slots = r.slots_bound in
     let spare = r.spare_bound in
     record {
@@ -168,7 +173,8 @@ numbers_fit {n} r =
       pages = omega arith;
       units = r.units_bound;
       each_unit = unit_fits n.units.items r.each_unit;
-      rpmb = omega arith;
+      regions = r.count_of_regions;
+      rpmb = λ k d lt. (let few = r.rpmb_bound k d lt in omega arith);
       slots = omega arith;
       spare = spare_fits n.dies n.blocks n.spare dies blocks spare;
     }
@@ -197,17 +203,22 @@ fence_is_bytes (Some f) = (
 
 numbers_are_bytes : {n : Numbers} → NumbersFit n → AreBytes (numbers_bytes n)
 numbers_are_bytes {n} f =
-    let spare : List ℕ = bytes_high_first 2 n.spare ++ replicate 4 0 in
+    let sizes : List ℕ = steps_of n 1 ∷ steps_of n 2 ∷ steps_of n 3 ∷ 0 ∷ [] in
+    let spare : List ℕ = bytes_high_first 2 n.spare ++ sizes in
     let slots : List ℕ = bytes_high_first 2 n.slots ++ spare in
-    let pages : List ℕ = bytes_high_first 2 n.pages ++ n.rpmb ∷ 0 ∷ slots in
+    let pages : List ℕ = bytes_high_first 2 n.pages ++ steps_of n 0 ∷ 0 ∷ slots in
     let blocks : List ℕ = bytes_high_first 2 n.blocks ++ pages in
     let few : length n.units.items < 256 = omega (arith, f.units) in
-    let one : AreBytes spare = bytes-append (bytes_high_first 2 n.spare) (replicate 4 0) (bytes-number 2 n.spare)
-    (bytes-zeros 4) in
+    let fits : (region : ℕ) → region < regions → steps_of n region < 256 =
+    λ region there. (let step = f.rpmb region 0 (omega (arith, there, f.regions)) in omega arith) in
+    let others : AreBytes sizes = bytes-cons (steps_of n 1) (steps_of n 2 ∷ steps_of n 3 ∷ 0 ∷ []) (fits 1 (omega arith))
+    (bytes-cons (steps_of n 2) (steps_of n 3 ∷ 0 ∷ []) (fits 2 (omega arith))
+    (bytes-cons (steps_of n 3) (0 ∷ []) (fits 3 (omega arith)) (bytes-zeros 1))) in
+    let one : AreBytes spare = bytes-append (bytes_high_first 2 n.spare) sizes (bytes-number 2 n.spare) others in
     let two : AreBytes slots = bytes-append (bytes_high_first 2 n.slots) spare (bytes-number 2 n.slots) one in
-    let three : AreBytes (n.rpmb ∷ 0 ∷ slots) = bytes-cons n.rpmb (0 ∷ slots) f.rpmb
+    let three : AreBytes (steps_of n 0 ∷ 0 ∷ slots) = bytes-cons (steps_of n 0) (0 ∷ slots) (fits 0 (omega arith))
     (bytes-cons 0 slots (omega arith) two) in
-    let four : AreBytes pages = bytes-append (bytes_high_first 2 n.pages) (n.rpmb ∷ 0 ∷ slots)
+    let four : AreBytes pages = bytes-append (bytes_high_first 2 n.pages) (steps_of n 0 ∷ 0 ∷ slots)
     (bytes-number 2 n.pages) three in
     let five : AreBytes blocks = bytes-append (bytes_high_first 2 n.blocks) pages (bytes-number 2 n.blocks) four in
     bytes-cons n.dies (length n.units.items ∷ blocks) f.dies (bytes-cons (length n.units.items) blocks few five)
@@ -232,7 +243,8 @@ mark_is_tag : (m : Mark) → 1 ≤ m.number → m.number ≤ greatest_number →
 mark_is_tag m some number records = record {
   kind_known = (omega arith, omega arith);
   unit_known = omega arith;
-  unit_of_data_alone = λ h. refl;
+  region_known = λ h. absurd (omega arith);
+  unit_of_blocks_alone = λ h. refl;
   address_fits = omega arith;
   address_of_blocks_alone = λ h. refl;
   number_given = (some, number);

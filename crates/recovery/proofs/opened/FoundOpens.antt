@@ -141,7 +141,7 @@ module _ (n : Numbers) (c : Cells) (bad : Spot → Bool) (f : Found) (t : Transl
   mending_due : (fence : Option Fence) (lost : List Key) → t.work.mending ≡ Unmarked fence lost →
       (lost ≡ f.lost.items) × IsFenceFound f fence
   mending_due fence lost is =
-      let due = subst (IsMendingAt c t.ledger.newest t.ledger.first_lost t.ledger.greatest_seen) is opened.mending in (
+      let due = subst (IsMendingAt n c t.ledger.newest t.ledger.first_lost t.ledger.greatest_seen) is opened.mending in (
         lost_one c t.ledger.first_lost t.ledger.greatest_seen lost f.lost.items due.2 lost_there,
         fence_found f t.ledger.newest t.ledger.first_lost t.ledger.greatest_seen fence (sym same_low) (sym same_top)
             due.1,

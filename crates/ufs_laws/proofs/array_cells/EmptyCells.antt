@@ -137,12 +137,12 @@ module _ (c : Cells) (empty : (p : Place) → c p ≡ Nothing) where
     all = λ k h. absurd (no_page h.0 h.1 h.2 h.3);
   }
 
-  pub unmarked_is : IsMendingAt c None 1 0 (Unmarked None [])
-  unmarked_is = ((λ h. h.0 refl), (refl, omega arith), none_lost 1 0)
+  pub unmarked_is : (n : Numbers) → IsMendingAt n c None 1 0 (Unmarked None [])
+  unmarked_is n = ((λ h. h.0), (refl, omega arith), none_lost 1 0)
 
-  pub is_unmarked : (m : Mending) → IsMendingAt c None 1 0 m → m ≡ Unmarked None []
-  is_unmarked Mended h = absurd (h.0 refl)
-  is_unmarked (Repairing keys) h = absurd h
-  is_unmarked (Unmarked (Some f) keys) h = absurd (let l = h.1.2 in omega arith)
-  is_unmarked (Unmarked None []) h = refl
-  is_unmarked (Unmarked None (k ∷ ks)) h = absurd (let l = h.2.lost 0 k refl in no_page l.0 l.1 l.2 l.3)
+  pub is_unmarked : (n : Numbers) (m : Mending) → IsMendingAt n c None 1 0 m → m ≡ Unmarked None []
+  is_unmarked n Mended h = absurd h.0
+  is_unmarked n (Repairing keys) h = absurd h
+  is_unmarked n (Unmarked (Some f) keys) h = absurd (let l = h.1.2 in omega arith)
+  is_unmarked n (Unmarked None []) h = refl
+  is_unmarked n (Unmarked None (k ∷ ks)) h = absurd (let l = h.2.lost 0 k refl in no_page l.0 l.1 l.2 l.3)

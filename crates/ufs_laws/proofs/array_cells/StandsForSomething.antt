@@ -1,7 +1,8 @@
 -- A sound array stands for a plain state, and new dies for a new device.
 use Rattle.std.proofs.Common.{◌≡◌, ℕ, suc, ◌*◌, ◌/◌, List, Option, None, refl, sym, ap, subst, inl, inr, arith}
-use Rattle.std.proofs.lemmas.List.{length-replicate}
-use Rattle.std.proofs.lemmas.List.Elements.{All-replicate}
+use Rattle.std.proofs.lemmas.List.{length-map}
+use Rattle.std.proofs.lemmas.List.Elements.{All-map}
+use Rattle.ufs_spec.specs.Counting.{below}
 use Rattle.ufs_laws.proofs.pages.BlankPages.{blank_is_nothing, blank_opens_not, nothing_is_blank, zeros_are_settings}
 use Rattle.ufs_laws.proofs.array_cells.EmptyCells as cells
 use Rattle.ufs_laws.proofs.array_cells.NewestFound.{holds}
@@ -56,8 +57,9 @@ ContentsAreThere =
 -- the areas have whole pages
 whole_pages : (n : Numbers) → HasWholeAreas (shape_of_numbers n)
 whole_pages n = record {
-  count = length-replicate regions (area_len n);
-  whole = All-replicate (λ (bytes : ℕ). bytes ≡ 4096 * (bytes / 4096)) regions (area_len n) (omega arith);
+  count = length-map (below regions) (area_len n);
+  whole =
+      All-map (λ (bytes : ℕ). bytes ≡ 4096 * (bytes / 4096)) (area_len n) (below regions) (λ k d lt. (omega arith));
 }
 
 module _ (are_plain : ContentsArePlain) (are_there : ContentsAreThere) (n : Numbers) (array : Array) (c : Cells)

@@ -1,7 +1,8 @@
 -- The settings page of a command carries what all commands before it and its own make of the settings.
-use Rattle.std.proofs.Common.{◌≡◌, ◌≢◌, ℕ, ◌+◌, ◌-◌, ◌/◌, ◌<◌, ◌==◌, Bool, true, false, List, [], ◌∷◌, ◌++◌}
+use Rattle.std.proofs.Common.{◌≡◌, ◌≢◌, ℕ, ◌+◌, ◌-◌, ◌/◌, ◌==◌, Bool, true, false, List, [], ◌∷◌, ◌++◌}
 use Rattle.std.proofs.Common.{length, map, Option, Some, None, refl, sym, ap, ◌∙◌, subst, inl, inr, arith}
-use Rattle.std.proofs.lemmas.List.{get_or-set_other, get_or-set_same, length-set}
+use Rattle.std.proofs.Math.ListN as lists
+use Rattle.std.proofs.lemmas.List.{map-set}
 use Rattle.std.proofs.lemmas.List.Sums.{fold-append}
 use Rattle.std.proofs.lemmas.Option.{slice_get-map}
 use Rattle.std.specs.List.{flat_map}
@@ -10,78 +11,61 @@ use Rattle.ufs_laws.proofs.frame_laws.RegistersEmptied.{decided_as}
 use Rattle.ufs_laws.proofs.exchanges.RpmbResults.{accepted_command}
 use Rattle.ufs_laws.specs.FrameLaws.{outcome_in}
 use Rattle.ufs_laws.specs.SettingsPages.{AddsPage, ChangesSettings, HasSettingsPage, Settings, settings_after}
-use Rattle.ufs_laws.specs.SettingsPages.{settings_after_all, settings_in}
-use Rattle.ufs_spec.proofs.Facts.{eqb-false, eqb-true, none-some, same_Some}
+use Rattle.ufs_laws.specs.SettingsPages.{counted, settings_after_all, settings_in, with_said}
+use Rattle.ufs_spec.proofs.Facts.{none-some, same_Some}
 use Rattle.ufs_spec.proofs.Lists.{get_last, get_splits}
 use Rattle.ufs_spec.specs.Changes.{accepts}
 use Rattle.ufs_spec.specs.Commands.{Command, RpmbWrite, SetBoot, SetKey, SetPermanent, Write, Zero}
 use Rattle.ufs_spec.specs.Exchanges.{Task}
 use Rattle.ufs_spec.specs.FrameRequests.{frames_complete}
 use Rattle.ufs_spec.specs.Frames.{Frame}
-use Rattle.ufs_spec.specs.Keys.{Group, Item, area_key, area_keys, below, content, group_of, settings_key}
+use Rattle.ufs_spec.specs.Keys.{Group, Item, area_key, area_keys, below, content, group_of, said_by}
+use Rattle.ufs_spec.specs.Keys.{said_of, settings_key}
 use Rattle.ufs_spec.specs.Plain.{Plain, Region, after, apply, changed_by, empty_region, region_of, with_region}
 use Rattle.ufs_spec.specs.Queries.{Query, setting_of, sets_permanent}
 use Rattle.ufs_spec.specs.QueryAnswers.{query_passed}
 use Rattle.ufs_spec.specs.Refusals.{State, locked, plain_now}
 use Rattle.ufs_spec.specs.Rpmb.{Results, command_in}
 use Rattle.ufs_spec.specs.declared.flash.Key.{Key}
+use Rattle.ufs_spec.specs.declared.flash.KeyAndCounter.{KeyAndCounter}
 
 -- ## What commands make of the settings
 
--- the settings with the key and the counter of a region
-abbrev with_those_of : Settings → Region → Settings
-with_those_of s region = record s { key = region.key; counter = region.counter }
+-- what the settings say of a region
+pub said_now : (p : Plain) (number : ℕ) → said_of (map said_by p.regions) number ≡ said_by (region_of p number)
+said_now p number = lists.get_or-map said_by p.regions number empty_region
 
--- the region that is changed is region 0 or another one
-region_changed : (p : Plain) (number : ℕ) (change : Region → Region) → 0 < length p.regions →
-    settings_in (with_region number (change (region_of p number)) p)
-    ≡ (if number == 0 then with_those_of (settings_in p) (change (region_of p 0)) else settings_in p)
-region_changed p number change there = by (number == 0) refl
-  where
-    by : (b : Bool) → (number == 0) ≡ b → settings_in (with_region number (change (region_of p number)) p)
-        ≡ (if b then with_those_of (settings_in p) (change (region_of p 0)) else settings_in p)
-    by true e =
-        ap (λ (n : ℕ). settings_in (with_region n (change (region_of p n)) p)) (eqb-true number 0 e)
-        ∙ ap (with_those_of (settings_in p))
-        (get_or-set_same p.regions 0 (change (region_of p 0)) empty_region there)
-    by false e =
-        ap (with_those_of (settings_in p))
-        (get_or-set_other p.regions number 0 (change (region_of p number)) empty_region
-        (λ same. eqb-false number 0 e (sym same)))
+-- the settings say of the region that is changed what it becomes
+region_changed : (p : Plain) (number : ℕ) (new : Region) →
+    settings_in (with_region number new p) ≡ with_said number (said_by new) (settings_in p)
+region_changed p number new =
+    ap (λ (said : List KeyAndCounter). record (settings_in p) { said = said })
+    (map-set said_by p.regions number new)
 
-one_command : (p : Plain) (c : Command) → 0 < length p.regions →
-    settings_in (apply p c) ≡ settings_after (settings_in p) c
-one_command p (SetBoot boot) there = refl
-one_command p SetPermanent there = refl
-one_command p (SetKey number bytes) there =
-    region_changed p number (λ (r : Region). record r { key = Some bytes }) there
-one_command p (RpmbWrite number address bytes) there =
-    region_changed p number (λ (r : Region). changed_by r (RpmbWrite number address bytes)) there
-one_command p (Write unit address blocks) there = refl
-one_command p (Zero unit address count) there = refl
+one_command : (p : Plain) (c : Command) → settings_in (apply p c) ≡ settings_after (settings_in p) c
+one_command p (SetBoot boot) = refl
+one_command p SetPermanent = refl
+one_command p (SetKey number bytes) =
+    region_changed p number (changed_by (region_of p number) (SetKey number bytes))
+    ∙ ap (λ (r : KeyAndCounter). with_said number (record r { key = Some bytes }) (settings_in p)) (sym (said_now p number))
+one_command p (RpmbWrite number address bytes) =
+    region_changed p number (changed_by (region_of p number) (RpmbWrite number address bytes))
+    ∙ ap (λ (r : KeyAndCounter). with_said number (record r { counter = r.counter + 1 }) (settings_in p))
+    (sym (said_now p number))
+one_command p (Write unit address blocks) = refl
+one_command p (Zero unit address count) = refl
 
-regions_stay : (p : Plain) (c : Command) → length (apply p c).regions ≡ length p.regions
-regions_stay p (SetKey number bytes) =
-    length-set p.regions number (changed_by (region_of p number) (SetKey number bytes))
-regions_stay p (RpmbWrite number address bytes) =
-    length-set p.regions number (changed_by (region_of p number) (RpmbWrite number address bytes))
-regions_stay p (SetBoot boot) = refl
-regions_stay p SetPermanent = refl
-regions_stay p (Write unit address blocks) = refl
-regions_stay p (Zero unit address count) = refl
+pub commands : (p : Plain) (cs : List Command) → settings_in (after p cs) ≡ settings_after_all (settings_in p) cs
+commands p [] = refl
+commands p (c ∷ cs) =
+    commands (apply p c) cs ∙ ap (λ (s : Settings). settings_after_all s cs) (one_command p c)
 
-pub commands : (p : Plain) (cs : List Command) → 0 < length p.regions →
-    settings_in (after p cs) ≡ settings_after_all (settings_in p) cs
-commands p [] there = refl
-commands p (c ∷ cs) there =
-    commands (apply p c) cs (subst (λ (n : ℕ). 0 < n) (sym (regions_stay p c)) there)
-    ∙ ap (λ (s : Settings). settings_after_all s cs) (one_command p c there)
-
--- the regions stay through commands
-regions_there : (p : Plain) (cs : List Command) → 0 < length p.regions → 0 < length (after p cs).regions
-regions_there p [] there = there
-regions_there p (c ∷ cs) there =
-    regions_there (apply p c) cs (subst (λ (n : ℕ). 0 < n) (sym (regions_stay p c)) there)
+-- a write counts one more
+pub write_counts : (p : Plain) (region address : ℕ) (bytes : List ℕ) →
+    settings_after (settings_in p) (RpmbWrite region address bytes) ≡ counted p region
+write_counts p region address bytes =
+    ap (λ (r : KeyAndCounter). with_said region (record r { counter = r.counter + 1 }) (settings_in p))
+    (said_now p region)
 
 -- ## The group of a command
 
@@ -147,22 +131,22 @@ has_page p (Zero unit address count) changes = absurd changes
 
 -- ## What is accepted
 
-adds : (s t : State) (c : Command) → ChangesSettings c → 0 < length s.base.regions →
+adds : (s t : State) (c : Command) → ChangesSettings c →
     t.translation.ledger.groups ≡ s.translation.ledger.groups ++ group_of (plain_now s) c ∷ [] →
     AddsPage s t (settings_after (settings_in (plain_now s)) c)
-adds s t c changes there behind = (
+adds s t c changes behind = (
   group_of (plain_now s) c,
   behind,
   subst (HasSettingsPage (group_of (plain_now s) c))
-      (one_command (plain_now s) c (regions_there s.base s.accepted there)) (has_page (plain_now s) c changes),
+      (one_command (plain_now s) c) (has_page (plain_now s) c changes),
 )
 
 abbrev changed : State → Command → Settings
 changed s c = settings_after (settings_in (plain_now s)) c
 
-pub accepted : (s : State) (c : Command) (claimed : ℕ) → 0 < length s.base.regions → ChangesSettings c →
+pub accepted : (s : State) (c : Command) (claimed : ℕ) → ChangesSettings c →
     AddsPage s (accepts s c claimed) (changed s c)
-accepted s c claimed there changes = adds s (accepts s c claimed) c changes there refl
+accepted s c claimed changes = adds s (accepts s c claimed) c changes refl
 
 -- the device has what the command makes of what it had
 pub now_applied : (s : State) (c : Command) (claimed : ℕ) → plain_now (accepts s c claimed) ≡ apply (plain_now s) c
@@ -177,21 +161,21 @@ as_it_is s c claimed changes = (
       (has_page (plain_now s) c changes),
 )
 
-pub of_all : (s : State) (c : Command) (claimed : ℕ) → 0 < length s.base.regions → ChangesSettings c →
+pub of_all : (s : State) (c : Command) (claimed : ℕ) → ChangesSettings c →
     AddsPage s (accepts s c claimed) (settings_after_all (settings_in s.base) (s.accepted ++ c ∷ []))
-of_all s c claimed there changes =
-    subst (AddsPage s (accepts s c claimed)) (commands s.base (s.accepted ++ c ∷ []) there)
+of_all s c claimed changes =
+    subst (AddsPage s (accepts s c claimed)) (commands s.base (s.accepted ++ c ∷ []))
     (as_it_is s c claimed changes)
 
 -- ## Two of them
 
-pub second : (s : State) (c d : Command) (m n : ℕ) → 0 < length s.base.regions → ChangesSettings d →
+pub second : (s : State) (c d : Command) (m n : ℕ) → ChangesSettings d →
     AddsPage (accepts s c m) (accepts (accepts s c m) d n) (settings_after (changed s c) d)
-second s c d m n there changes =
+second s c d m n changes =
     let had : settings_in (plain_now (accepts s c m)) ≡ changed s c = ap settings_in (now_applied s c m)
-    ∙ one_command (plain_now s) c (regions_there s.base s.accepted there) in
+    ∙ one_command (plain_now s) c in
     subst (λ (x : Settings). AddsPage (accepts s c m) (accepts (accepts s c m) d n) (settings_after x d)) had
-    (accepted (accepts s c m) d n there changes)
+    (accepted (accepts s c m) d n changes)
 
 -- ## Settings and requests
 
@@ -204,31 +188,33 @@ setting_changes q c e = by (q.asked.opcode == 4) (sets_permanent q) e
     by false true k = subst ChangesSettings (same_Some SetPermanent c k) tt
     by false false k = absurd (none-some c k)
 
-pub of_setting : (s : State) (tag : ℕ) (q : Query) (c : Command) → 0 < length s.base.regions → setting_of q ≡ Some c →
+pub of_setting : (s : State) (tag : ℕ) (q : Query) (c : Command) → setting_of q ≡ Some c →
     AddsPage s (query_passed s tag q (setting_of q)) (changed s c)
-of_setting s tag q c there e =
-    adds s (query_passed s tag q (setting_of q)) c (setting_changes q c e) there
+of_setting s tag q c e =
+    adds s (query_passed s tag q (setting_of q)) c (setting_changes q c e)
     (ap (λ (o : Option Command). (query_passed s tag q o).translation.ledger.groups) e)
 
-request_changes : (f : Frame) (fs : List Frame) (c : Command) → command_in 0 f fs ≡ Some c → ChangesSettings c
-request_changes f fs c e = by (f.kind == 1) (f.kind == 3) e
+request_changes : (region : ℕ) (f : Frame) (fs : List Frame) (c : Command) → command_in region f fs ≡ Some c →
+    ChangesSettings c
+request_changes region f fs c e = by (f.kind == 1) (f.kind == 3) e
   where
     key : Command
-    key = SetKey 0 f.key_or_mac
+    key = SetKey region f.key_or_mac
 
     write : Command
-    write = RpmbWrite 0 f.address (flat_map (λ (g : Frame). g.payload) (f ∷ fs))
+    write = RpmbWrite region f.address (flat_map (λ (g : Frame). g.payload) (f ∷ fs))
 
     by : (a b : Bool) → (if a then Some key else if b then Some write else None) ≡ Some c → ChangesSettings c
-    by true b k = subst ChangesSettings (same_Some key c k) refl
-    by false true k = subst ChangesSettings (same_Some write c k) refl
+    by true b k = subst ChangesSettings (same_Some key c k) tt
+    by false true k = subst ChangesSettings (same_Some write c k) tt
     by false false k = absurd (none-some c k)
 
-pub of_request : (s : State) (task : Task) (f : Frame) (fs : List Frame) (result : ℕ) (c : Command) →
-    0 < length s.base.regions → outcome_in s 0 (f ∷ fs) ≡ Results result (Some c) →
-    AddsPage s (frames_complete s task 0 (f ∷ fs)) (changed s c)
-of_request s task f fs result c there e =
-    adds s (frames_complete s task 0 (f ∷ fs)) c
-    (request_changes f fs c
-    (accepted_command 0 (region_of (plain_now s) 0) (s.registers 0) (locked s) f fs result c e)) there
-    (ap (λ (t : State). t.translation.ledger.groups) (decided_as s task 0 (f ∷ fs) (Results result (Some c)) e))
+pub of_request : (s : State) (task : Task) (region : ℕ) (f : Frame) (fs : List Frame) (result : ℕ) (c : Command) →
+    outcome_in s region (f ∷ fs) ≡ Results result (Some c) →
+    AddsPage s (frames_complete s task region (f ∷ fs)) (changed s c)
+of_request s task region f fs result c e =
+    adds s (frames_complete s task region (f ∷ fs)) c
+    (request_changes region f fs c
+    (accepted_command region (region_of (plain_now s) region) (s.registers region) (locked s) f fs result c e))
+    (ap (λ (t : State). t.translation.ledger.groups)
+    (decided_as s task region (f ∷ fs) (Results result (Some c)) e))

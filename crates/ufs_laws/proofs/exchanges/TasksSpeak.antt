@@ -23,7 +23,7 @@ use Rattle.std.specs.List.{flat_map}
 use Rattle.ufs_spec.specs.Begins.{frames_begun}
 use Rattle.ufs_spec.specs.FrameRequests.{with_request}
 use Rattle.ufs_spec.specs.Identities.{inquiry_bytes, luns_bytes}
-use Rattle.ufs_spec.specs.Refusals.{is_too_long}
+use Rattle.ufs_spec.specs.Refusals.{is_too_long, lacks_region}
 use Rattle.ufs_spec.specs.declared.scsi.Cdb.TheVariants as cdb
 use Rattle.ufs_spec.proofs.Facts.{eqb-false, ltb-true, same_Some}
 use Rattle.ufs_spec.specs.Cdbs.{IsCdb, address_of, blocks_of, operation_of, read_10, read_6}
@@ -65,14 +65,17 @@ later_status s r None = (is_field, tt)
 later_status s r (Some c) = (
   is_field,
   (
-    (omega arith, omega arith, omega arith),
+    is_field,
     (
-      is_field,
+      (omega arith, omega arith, omega arith),
       (
-        (omega arith, omega arith, omega arith),
+        is_field,
         (
           (omega arith, omega arith, omega arith),
-          ((omega arith, omega arith, omega arith), ((omega arith, omega arith, omega arith), (is_field, (tt, tt)))),
+          (
+            (omega arith, omega arith, omega arith),
+            ((omega arith, omega arith, omega arith), ((omega arith, omega arith, omega arith), (is_field, (tt, tt)))),
+          ),
         ),
       ),
     ),
@@ -288,7 +291,8 @@ not_too_long : (s : State) (r : Request) (c : Cdb) → r.cdb ≡ Some c → refu
     is_too_long (numbers_of s) c ≡ false
 not_too_long s r c e passed =
     (passed_line (is_too_long (numbers_of s) c) invalid_field _
-    (subst (λ (o : Option Cdb). first_line (lines_after s r o) ≡ None) e (past s r passed).later)).0
+    (passed_line (lacks_region (numbers_of s) c) invalid_field _
+    (subst (λ (o : Option Cdb). first_line (lines_after s r o) ≡ None) e (past s r passed).later)).1).0
 
 spelled_cdb : (r : Request) (c : Cdb) → IsRequest r → r.cdb ≡ Some c → IsCdb c
 spelled_cdb r c is e = (subst (IsCdbIn (Some r.bytes)) e is.1.2).0

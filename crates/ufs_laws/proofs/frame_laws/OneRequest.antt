@@ -5,7 +5,7 @@ use Rattle.std.proofs.Common.{map, ◌∙◌, arith}
 use Rattle.std.specs.Prelude.{fold, slice_get}
 use Rattle.std.specs.List.{list_any}
 use Rattle.std.proofs.lemmas.Bool.{le-ltb}
-use Rattle.ufs_laws.proofs.refusals.TableLines.{decides, leaves}
+use Rattle.ufs_laws.proofs.refusals.TableLines.{decides, either, is_there, leaves}
 use Rattle.ufs_laws.specs.FrameLaws.{outcome_in}
 use Rattle.ufs_laws.specs.Table.{asks}
 use Rattle.ufs_spec.proofs.Facts.{false_from_ne_true, if_both, leb-true, or_left, or_right, same_Some}
@@ -20,6 +20,7 @@ use Rattle.ufs_spec.specs.Machine.{begun, claimed_by}
 use Rattle.ufs_spec.specs.Moves.{Keep, moved}
 use Rattle.ufs_spec.specs.Refusals.{Request, State, first_line, is_crowded, is_frames, is_past, lines_for, mended}
 use Rattle.ufs_spec.specs.Refusals.{numbers_of, sends_frames, unit_numbers_of}
+use Rattle.ufs_spec.specs.Plain.{steps_of}
 use Rattle.ufs_spec.specs.Rpmb.{Refused, Results, RpmbOutcome}
 use Rattle.ufs_spec.specs.Translation.{Pin, Translation, free_slots}
 use Rattle.ufs_spec.specs.declared.configs.UnitSpec.{UnitSpec}
@@ -48,16 +49,18 @@ within region n (Some u) = le-ltb u.blocks 0 (omega arith)
 abbrev brings : ℕ → Cdb
 brings region = cdb.SecurityOut region 512
 
-pub busy : (s : State) (tag region k : ℕ) (task : Task) (other n : ℕ) → mended s ≡ true →
+pub busy : (s : State) (tag region k : ℕ) (task : Task) (other n : ℕ) → 0 < steps_of (numbers_of s) region →
+    mended s ≡ true →
     slice_get s.tasks k ≡ Some task → task.command ≡ Some (cdb.SecurityOut other n) →
     first_line (lines_for s (asks 0x20 0xC4 tag (brings region)) (brings region)) ≡ Some Busy
-busy s tag region k task other n ready there e =
-    leaves (is_past (brings region) (unit_numbers_of s (asks 0x20 0xC4 tag (brings region)))) out_of_range Busy _
+busy s tag region k task other n has ready there e =
+    leaves (steps_of (numbers_of s) region == 0) invalid_field Busy _ (is_there _ has)
+    (leaves (is_past (brings region) (unit_numbers_of s (asks 0x20 0xC4 tag (brings region)))) out_of_range Busy _
     (within region 512 (unit_numbers_of s (asks 0x20 0xC4 tag (brings region))))
     (leaves (not (mended s)) not_ready Busy _ (ap not ready)
     (decides (is_crowded s (brings region)) Busy _
     (or_left (list_any Sends s.tasks) (nat_lt (free_slots s.translation) 3)
-    (one_open s.tasks k task other n there e))))
+    (one_open s.tasks k task other n there e)))))
 
 -- ## Slots
 
@@ -119,16 +122,24 @@ broken n part = by (nat_le 512 n && nat_le n 4096) (ne_eqb (n % 512) 0 part)
 
 pub too_long : (s : State) (r : Request) (region n : ℕ) → 4096 < n →
     first_line (lines_for s r (cdb.SecurityOut region n)) ≡ Some invalid_field
-too_long s r region n high = decides (not (is_frames n)) invalid_field _ (long n high)
+too_long s r region n high =
+    either (steps_of (numbers_of s) region == 0) invalid_field _
+    (decides (not (is_frames n)) invalid_field _ (long n high))
 
 pub no_frames : (s : State) (r : Request) (region n : ℕ) → n % 512 ≢ 0 →
     first_line (lines_for s r (cdb.SecurityOut region n)) ≡ Some invalid_field
-no_frames s r region n part = decides (not (is_frames n)) invalid_field _ (broken n part)
+no_frames s r region n part =
+    either (steps_of (numbers_of s) region == 0) invalid_field _
+    (decides (not (is_frames n)) invalid_field _ (broken n part))
 
 pub too_long_to_read : (s : State) (r : Request) (region n : ℕ) → 4096 < n →
     first_line (lines_for s r (cdb.SecurityIn region n)) ≡ Some invalid_field
-too_long_to_read s r region n high = decides (not (is_frames n)) invalid_field _ (long n high)
+too_long_to_read s r region n high =
+    either (steps_of (numbers_of s) region == 0) invalid_field _
+    (decides (not (is_frames n)) invalid_field _ (long n high))
 
 pub no_frames_to_read : (s : State) (r : Request) (region n : ℕ) → n % 512 ≢ 0 →
     first_line (lines_for s r (cdb.SecurityIn region n)) ≡ Some invalid_field
-no_frames_to_read s r region n part = decides (not (is_frames n)) invalid_field _ (broken n part)
+no_frames_to_read s r region n part =
+    either (steps_of (numbers_of s) region == 0) invalid_field _
+    (decides (not (is_frames n)) invalid_field _ (broken n part))

@@ -157,12 +157,12 @@ module _ (n : Numbers) (array : Array) (bad : Spot → Bool) (s : State) (blank 
       let t = h.translation in
       let l = s.translation.ledger in
       let mending : Mending = s.translation.work.mending in
-      let at : IsMendingAt h.cells None 1 0 mending =
-      subst (λ k. IsMendingAt h.cells None 1 k mending) top
-      (subst (λ k. IsMendingAt h.cells None k l.greatest_seen mending) low
-      (subst (λ m. IsMendingAt h.cells m l.first_lost l.greatest_seen mending) newest t.mending)) in
+      let at : IsMendingAt n h.cells None 1 0 mending =
+      subst (λ k. IsMendingAt n h.cells None 1 k mending) top
+      (subst (λ k. IsMendingAt n h.cells None k l.greatest_seen mending) low
+      (subst (λ m. IsMendingAt n h.cells m l.first_lost l.greatest_seen mending) newest t.mending)) in
       record {
-        mending = cells.is_unmarked h.cells none_there mending at i;
+        mending = cells.is_unmarked h.cells none_there n mending at i;
         plan = t.no_plan i;
         step = t.no_step i;
         rests = t.no_rests i;

@@ -1,12 +1,12 @@
 -- A blank page is nothing, and a block of zeros is the settings page of a new device.
-use Rattle.std.proofs.Common.{◌≡◌, ℕ, false, List, Some, None, get_or, inl, inr, refl, sym, take, ap, arith}
+use Rattle.std.proofs.Common.{◌≡◌, ℕ, false, List, get_or, inl, inr, refl, sym, take, ap, arith}
 use Rattle.ufs_spec.specs.Cells.{Cell, GroupPage, IsCell, MarkPage, Nothing, Opens, mark_tag}
 use Rattle.ufs_spec.specs.Dies.{blank_page}
 use Rattle.ufs_spec.specs.Keys.{IsSettingsBody}
 use Rattle.ufs_spec.specs.Pages.{IsFrontOf}
 use Rattle.ufs_spec.specs.Plain.{zero_block}
 use Rattle.ufs_spec.specs.declared.flash.Tag.{Tag}
-use Rattle.ufs_laws.proofs.pages.SettingsBodies.{zero_settings}
+use Rattle.ufs_laws.proofs.pages.SettingsBodies.{none_in_ranges, none_said, zero_settings}
 
 -- Blank pages
 
@@ -40,12 +40,7 @@ pub zeros_are_settings : IsSettingsBody zero_block
 zeros_are_settings = record {
   boot = 0;
   permanent = false;
-  key = None;
-  counter = 0;
-  ranges = record {
-    boot_bound = omega arith;
-    key_length = λ bytes e. absurd (let h : None ≡ Some bytes = e in cc);
-    counter_fits = omega arith;
-  };
+  said = none_said;
+  ranges = none_in_ranges;
   bytes = sym zero_settings;
 }

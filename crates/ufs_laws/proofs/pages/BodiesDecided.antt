@@ -1,14 +1,15 @@
 -- Whether a body is that of a settings page, or of a mark.
-use Rattle.std.proofs.Common.{◌≡◌, ℕ, ◌^◌, ◌==◌, List, Option, length, sym, subst, slice_index}
+use Rattle.std.proofs.Common.{◌≡◌, ℕ, ◌<◌, ◌^◌, ◌==◌, List, Option, length, sym, subst, slice_index}
 use Rattle.std.proofs.Math.Decide.{dec_le, dec_lt, map_dec, ℕ_discrete}
 use Rattle.ufs_spec.specs.Cells.{IsFence, IsMarkBody, NumbersFit, UnitFits}
-use Rattle.ufs_bytes.specs.Fields.{field_at}
-use Rattle.ufs_spec.specs.Keys.{AreSettings, IsSettingsBody, key_in, settings_bytes}
+use Rattle.ufs_spec.specs.Keys.{AreSettings, IsKeyAndCounter, IsSettingsBody, said_in, settings_bytes}
 use Rattle.ufs_spec.specs.Messages.{AreBytes}
 use Rattle.ufs_spec.specs.Pages.{mark_bytes}
+use Rattle.ufs_spec.specs.Plain.{regions}
 use Rattle.ufs_spec.specs.declared.configs.Numbers.{Numbers}
 use Rattle.ufs_spec.specs.declared.configs.UnitSpec.{UnitSpec}
 use Rattle.ufs_spec.specs.declared.flash.Fence.{Fence}
+use Rattle.ufs_spec.specs.declared.flash.KeyAndCounter.{KeyAndCounter}
 use Rattle.ufs_laws.proofs.deciding.Connectives.{are_bytes, dec_all, dec_and, dec_some, same_bytes}
 use Rattle.ufs_laws.proofs.pages.MarkBodies.{fence_in, fence_of_mark, numbers_in, numbers_of_mark}
 use Rattle.ufs_laws.proofs.pages.SettingsBodies.{ranges_read, written_again}
@@ -18,13 +19,18 @@ use Rattle.ufs_laws.proofs.pages.SettingsBodies.{ranges_read, written_again}
 is_key : (bytes : List ℕ) → Dec ((length bytes ≡ 32) × AreBytes bytes)
 is_key bytes = dec_and (ℕ_discrete (length bytes) 32) (are_bytes bytes)
 
-are_settings : (boot : ℕ) (key : Option (List ℕ)) (counter : ℕ) → Dec (AreSettings boot key counter)
-are_settings boot key counter =
-    map_dec (λ h. record { boot_bound = h.0; key_length = h.1.0; counter_fits = h.1.1 })
-    (λ r. (r.boot_bound, (r.key_length, r.counter_fits)))
+is_key_and_counter : (r : KeyAndCounter) → Dec (IsKeyAndCounter r)
+is_key_and_counter r =
+    map_dec (λ h. record { key_length = h.0; counter_fits = h.1 }) (λ is. (is.key_length, is.counter_fits))
+    (dec_and (dec_some (λ (bytes : List ℕ). (length bytes ≡ 32) × AreBytes bytes) is_key r.key)
+    (dec_lt r.counter (2 ^ 32)))
+
+are_settings : (boot : ℕ) (said : List KeyAndCounter) → Dec (AreSettings boot said)
+are_settings boot said =
+    map_dec (λ h. record { boot_bound = h.0; count = h.1.0; each = h.1.1 })
+    (λ r. (r.boot_bound, (r.count, r.each)))
     (dec_and (dec_le boot 2)
-    (dec_and (dec_some (λ (bytes : List ℕ). (length bytes ≡ 32) × AreBytes bytes) is_key key)
-    (dec_lt counter (2 ^ 32))))
+    (dec_and (ℕ_discrete (length said) regions) (dec_all IsKeyAndCounter is_key_and_counter said)))
 
 -- whether a body is that of a settings page: read, written again and compared
 pub is_settings_body : (body : List ℕ) → Dec (IsSettingsBody body)
@@ -33,15 +39,13 @@ is_settings_body body =
     (λ h. record {
       boot = slice_index body 0;
       permanent = slice_index body 1 == 1;
-      key = key_in body;
-      counter = field_at 4 36 body;
+      said = said_in body;
       ranges = h.0;
       bytes = h.1;
     })
     (λ s. (ranges_read body s, sym (written_again body s)))
-    (dec_and (are_settings (slice_index body 0) (key_in body) (field_at 4 36 body))
-    (same_bytes body
-    (settings_bytes (slice_index body 0) (slice_index body 1 == 1) (key_in body) (field_at 4 36 body))))
+    (dec_and (are_settings (slice_index body 0) (said_in body))
+    (same_bytes body (settings_bytes (slice_index body 0) (slice_index body 1 == 1) (said_in body))))
 
 -- Marks
 
@@ -64,14 +68,17 @@ numbers_fit n =
       pages = h.1.0.0;
       units = h.1.0.1;
       each_unit = h.1.1.0.0;
-      rpmb = h.1.1.0.1;
+      regions = h.1.1.0.1.0;
+      rpmb = h.1.1.0.1.1;
       slots = h.1.1.1.0;
       spare = h.1.1.1.1;
     })
-    (λ r. ((r.dies, r.blocks), ((r.pages, r.units), ((r.each_unit, r.rpmb), (r.slots, r.spare)))))
+    (λ r. ((r.dies, r.blocks), ((r.pages, r.units), ((r.each_unit, (r.regions, r.rpmb)), (r.slots, r.spare)))))
     (dec_and (dec_and (dec_lt n.dies (2 ^ 8)) (dec_lt n.blocks (2 ^ 16)))
     (dec_and (dec_and (dec_lt n.pages (2 ^ 16)) (dec_le (length n.units.items) 8))
-    (dec_and (dec_and (dec_all UnitFits unit_fits n.units.items) (dec_lt n.rpmb (2 ^ 8)))
+    (dec_and (dec_and (dec_all UnitFits unit_fits n.units.items)
+    (dec_and (ℕ_discrete (length n.rpmb) regions)
+    (dec_all (λ (steps : ℕ). steps < 2 ^ 8) (λ (steps : ℕ). dec_lt steps (2 ^ 8)) n.rpmb)))
     (dec_and (dec_lt n.slots (2 ^ 16)) (dec_lt n.spare (2 ^ 16))))))
 
 -- whether a body is that of a mark with this fence and these numbers

@@ -85,9 +85,9 @@ pub zero_block_is : IsBlock zero_block
 unfolding zero_block
 zero_block_is = (length-replicate {A = ℕ} 4096 0, bytes-zeros 4096)
 
-pub bytes-zero_area : (n : Numbers) → AreBytes (zero_area n)
+pub bytes-zero_area : (n : Numbers) (region : ℕ) → AreBytes (zero_area n region)
 unfolding zero_area
-bytes-zero_area n = bytes-zeros (area_len n)
+bytes-zero_area n region = bytes-zeros (area_len n region)
 
 -- a whole page of zeros
 page_of_zeros : (size page n : ℕ) → size * page + size ≤ n → take size (drop (size * page) (zeros n)) ≡ zeros size
@@ -95,9 +95,10 @@ page_of_zeros size page n room =
     ap (take {A = ℕ} size) (drop-replicate {X = ℕ} (size * page) n 0)
     ∙ take-replicate {X = ℕ} size (n - size * page) 0 (omega arith)
 
-pub zero_page : (n : Numbers) (page : ℕ) → page < area_len n / 4096 → area_page page (zero_area n) ≡ zero_block
+pub zero_page : (n : Numbers) (region page : ℕ) → page < area_len n region / 4096 →
+    area_page page (zero_area n region) ≡ zero_block
 unfolding zero_area zero_block
-zero_page n page within = page_of_zeros 4096 page (area_len n) (omega arith)
+zero_page n region page within = page_of_zeros 4096 page (area_len n region) (omega arith)
 
 -- Area pages
 

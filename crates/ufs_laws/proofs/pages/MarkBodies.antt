@@ -1,7 +1,7 @@
 -- A mark's fence and numbers are read back from its body.
 use Rattle.std.proofs.Common.{get_or, ◌+◌, ◌*◌, ◌≡◌, ◌∙◌, ◌-◌, ℕ, zero, suc, ◌^◌, ◌<◌, ◌==◌, false, List, [], ◌∷◌, ◌++◌}
 use Rattle.std.proofs.Common.{All, Option}
-use Rattle.std.proofs.Common.{None, Some, length, refl, sym, ap, drop, replicate, slice_index, append_assoc, arith}
+use Rattle.std.proofs.Common.{None, Some, length, refl, sym, ap, drop, replicate, slice_index, slice_index_or, append_assoc, arith}
 use Rattle.std.specs.Prelude.{if◌then◌else◌}
 use Rattle.std.specs.List.{flat_map}
 use Rattle.std.proofs.lemmas.Bool.Decides.{nat_tests}
@@ -11,6 +11,7 @@ use Rattle.byteorder.specs.Numbers.{big_number-reads_back}
 use Rattle.ufs_spec.specs.Cells.{IsFence, IsMarkBody, NumbersFit, UnitFits}
 use Rattle.ufs_bytes.specs.Fields.{field_at}
 use Rattle.ufs_spec.specs.Pages.{fence_bytes, numbers_bytes, unit_bytes, zero_filled}
+use Rattle.ufs_spec.specs.Plain.{regions}
 use Rattle.ufs_spec.specs.declared.configs.Numbers.{Numbers}
 use Rattle.ufs_spec.specs.declared.configs.UnitSpec.{UnitSpec}
 use Rattle.ufs_spec.specs.declared.flash.Fence.{Fence}
@@ -57,7 +58,7 @@ numbers_from bytes =
       blocks = field_at 2 2 bytes;
       pages = field_at 2 4 bytes;
       units = record { items = units_in (slice_index bytes 1) (drop 16 bytes) };
-      rpmb = slice_index bytes 6;
+      rpmb = slice_index bytes 6 ∷ slice_index bytes 12 ∷ slice_index bytes 13 ∷ slice_index bytes 14 ∷ [];
       slots = field_at 2 8 bytes;
       spare = field_at 2 10 bytes;
     }
@@ -89,6 +90,16 @@ filled_parts n a b c =
     ∙ append_assoc a b (c ++ rest) in
     (rest, e)
 
+-- four in a list are the steps of each region
+four_steps : (sizes : List ℕ) → length sizes ≡ regions →
+    sizes ≡ slice_index_or sizes 0 0 ∷ slice_index_or sizes 1 0 ∷ slice_index_or sizes 2 0 ∷ slice_index_or sizes 3 0 ∷ []
+four_steps (a ∷ b ∷ c ∷ d ∷ []) e = refl
+four_steps [] e = absurd (omega (arith, e))
+four_steps (a ∷ []) e = absurd (omega (arith, e))
+four_steps (a ∷ b ∷ []) e = absurd (omega (arith, e))
+four_steps (a ∷ b ∷ c ∷ []) e = absurd (omega (arith, e))
+four_steps (a ∷ b ∷ c ∷ d ∷ x ∷ more) e = absurd (omega (arith, e))
+
 -- the numbers are read back
 numbers_back : (n : Numbers) (rest : List ℕ) → NumbersFit n
     → numbers_from (numbers_bytes n ++ (flat_map unit_bytes n.units.items ++ rest)) ≡ n
@@ -102,7 +113,8 @@ numbers_back n rest fit =
     (omega (arith, fit.spare)) in
     let units : units_in (length n.units.items) (flat_map unit_bytes n.units.items ++ rest) ≡ n.units.items =
     units_back n.units.items rest fit.each_unit in
-    rw (blocks, pages, slots, spare, units) refl
+    let rpmb = sym (four_steps n.rpmb fit.regions) in
+    rw (blocks, pages, slots, spare, units) (λ i. record n { rpmb = rpmb i })
 
 -- the numbers stand behind the sixteen bytes of a fence
 behind_fence : (fence : Option Fence) (rest : List ℕ) → drop 16 (fence_bytes fence ++ rest) ≡ rest

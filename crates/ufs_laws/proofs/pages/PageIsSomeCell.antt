@@ -9,6 +9,7 @@ use Rattle.ufs_spec.specs.declared.flash.Tag.{Tag}
 use Rattle.ufs_laws.proofs.pages.BodiesDecided.{is_mark_body, is_settings_body}
 use Rattle.ufs_laws.proofs.deciding.Connectives.{dec_and, dec_implies, dec_or, is_block, same_bytes}
 use Rattle.ufs_spec.proofs.SealedPages.{body_opened, tag_opened}
+use Rattle.ufs_spec.specs.Plain.{regions}
 
 -- Deciding
 
@@ -22,7 +23,8 @@ is_tag t =
       kind_known = h.0.0.0;
       mark_alone = h.0.0.1;
       unit_known = h.0.1.0;
-      unit_of_data_alone = h.0.1.1;
+      region_known = h.0.1.1.0;
+      unit_of_blocks_alone = h.0.1.1.1;
       address_fits = h.1.0.0;
       address_of_blocks_alone = h.1.0.1;
       number_given = h.1.1.0.0;
@@ -31,7 +33,7 @@ is_tag t =
       index_in_group = h.1.1.1.1;
     })
     (λ r. (
-      ((r.kind_known, r.mark_alone), (r.unit_known, r.unit_of_data_alone)),
+      ((r.kind_known, r.mark_alone), (r.unit_known, (r.region_known, r.unit_of_blocks_alone))),
       (
         (r.address_fits, r.address_of_blocks_alone),
         ((r.number_given, r.frontier_fits), (r.group_not_long, r.index_in_group)),
@@ -41,7 +43,9 @@ is_tag t =
     (dec_and
     (dec_and (dec_between 1 4 t.kind)
     (dec_implies (ℕ_discrete t.kind 4) (dec_and (ℕ_discrete t.index 0) (ℕ_discrete t.size 1))))
-    (dec_and (dec_lt t.unit 8) (dec_implies (dec_le 2 t.kind) (ℕ_discrete t.unit 0))))
+    (dec_and (dec_lt t.unit 8)
+    (dec_and (dec_implies (ℕ_discrete t.kind 2) (dec_lt t.unit regions))
+    (dec_implies (dec_le 3 t.kind) (ℕ_discrete t.unit 0)))))
     (dec_and
     (dec_and (dec_lt t.address (2 ^ 32)) (dec_implies (dec_le 3 t.kind) (ℕ_discrete t.address 0)))
     (dec_and (dec_and (dec_between 1 greatest_number t.number) (dec_le t.frontier greatest_number))
@@ -93,7 +97,7 @@ hold_as_read page t body h hold =
 pub tag_of_mark : (t : Tag) (m : Mark) → IsTag t → t.kind ≡ 4 → m.number ≡ t.number → m.records ≡ t.frontier →
     t ≡ mark_tag m
 tag_of_mark t m is kind number records =
-    let unit : t.unit ≡ 0 = is.unit_of_data_alone (omega arith) in
+    let unit : t.unit ≡ 0 = is.unit_of_blocks_alone (omega arith) in
     let address : t.address ≡ 0 = is.address_of_blocks_alone (omega arith) in
     let alone : (t.index ≡ 0) × (t.size ≡ 1) = is.mark_alone kind in
     λ i. record {

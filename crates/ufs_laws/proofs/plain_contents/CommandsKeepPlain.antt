@@ -2,8 +2,9 @@
 use Rattle.std.proofs.Common.{All, List, [], arith, drop, length, map, replicate, slice_index_or, slice_set}
 use Rattle.std.proofs.Common.{inl, inr, subst, sym, take, ℕ, ◌*◌, ◌++◌, ◌+◌, ◌/◌, ◌<◌, ◌∙◌, ◌∷◌, ◌≡◌, ◌≤◌}
 use Rattle.std.proofs.lemmas.List.{length-map, length-set}
-use Rattle.std.proofs.lemmas.List.Elements.{All-append, All-drop, All-replicate, All-set, All-take}
-use Rattle.ufs_spec.specs.Keys.{AreSettings, CanApplyAll, IsBlock, IsCommand, IsPlain, IsRegion}
+use Rattle.std.proofs.lemmas.List.Elements.{All-append, All-drop, All-map, All-replicate, All-set, All-take}
+use Rattle.ufs_spec.specs.Keys.{AreSettings, CanApplyAll, IsBlock, IsCommand, IsKeyAndCounter, IsPlain, IsRegion}
+use Rattle.ufs_spec.specs.Keys.{said_by}
 use Rattle.ufs_spec.specs.Messages.{AreBytes}
 use Rattle.ufs_spec.specs.Plain.{CanApply, Plain, Region, after, apply, changed_by, counter_end, empty_region}
 use Rattle.ufs_spec.specs.Plain.{region_of, with_part, with_region, zero_block}
@@ -98,10 +99,15 @@ area_written r number address bytes is within are below =
     }
 
 -- the settings of a plain state are in their ranges
-pub settings_ranges : (p : Plain) → IsPlain p → AreSettings p.boot (region_of p 0).key (region_of p 0).counter
-settings_ranges p plain =
-    let first : IsRegion (region_of p 0) = its_region p 0 plain (omega arith) in
-    record { boot_bound = plain.boot_bound; key_length = first.key_length; counter_fits = first.counter_fits }
+pub settings_ranges : (p : Plain) → IsPlain p → AreSettings p.boot (map said_by p.regions)
+settings_ranges p plain = record {
+  boot_bound = plain.boot_bound;
+  count = length-map p.regions said_by ∙ plain.regions_count;
+  each =
+      All-map IsKeyAndCounter said_by p.regions
+      (λ k d lt. (let is = plain.each_region k d lt in
+      record { key_length = is.key_length; counter_fits = is.counter_fits }));
+}
 
 pub kept_plain : (p : Plain) (c : Command) → IsPlain p → IsCommand c → CanApply p c → IsPlain (apply p c)
 kept_plain p (cmd.Write unit address blocks) plain is_cmd can =
@@ -112,10 +118,10 @@ kept_plain p (cmd.Zero unit address count) plain is_cmd can =
     (written_blocks p.units unit address (replicate count zero_block) plain.blocks zeros can.0.0)
 kept_plain p (cmd.SetKey region bytes) plain is_cmd can =
     kept_regions p region _ plain
-    (key_set (region_of p region) region bytes (its_region p region plain can.0.0) can.0.1 is_cmd)
+    (key_set (region_of p region) region bytes (its_region p region plain can.0.0.0) can.0.1 is_cmd)
 kept_plain p (cmd.RpmbWrite region address bytes) plain is_cmd can =
     kept_regions p region _ plain
-    (area_written (region_of p region) region address bytes (its_region p region plain can.0.0)
+    (area_written (region_of p region) region address bytes (its_region p region plain can.0.0.0)
     (omega (arith, can.0.1.1, area_there p region)) is_cmd can.1)
 kept_plain p (cmd.SetBoot boot) plain is_cmd can = record {
   blocks = plain.blocks;

@@ -4,19 +4,21 @@ use Rattle.std.proofs.Common.{slice_index_or, refl, sym, ap, ◌∙◌, subst, a
 use Rattle.std.proofs.Math.ListN as lists
 use Rattle.std.proofs.lemmas.List.{get_or-map, get_or_default, length-map, same_lists, take_all}
 use Rattle.std.specs.List.{flat_map}
-use Rattle.ufs_bytes.specs.Fields.{field_at}
 use Rattle.ufs_spec.specs.Keys.{AreContents, Contents, HasWholeAreas, IsArea, IsBlock, IsData, IsKey, IsPlain, IsRegion}
-use Rattle.ufs_spec.specs.Keys.{IsSettings, IsSettingsBody, area_key, area_page, below, content, data_key, key_in}
+use Rattle.ufs_spec.specs.Keys.{IsKeyAndCounter, IsSettings, IsSettingsBody, area_key, area_page}
+use Rattle.ufs_spec.specs.Keys.{below, content, counter_in, data_key, key_in, said_by, said_in, said_of}
 use Rattle.ufs_spec.specs.Keys.{plain_of, region_in, region_pages, settings_key, settings_of}
 use Rattle.ufs_spec.specs.Plain.{Plain, Region, Shape, empty_region, region_of, shape_of}
 use Rattle.ufs_spec.specs.Plain.{regions}
 use Rattle.ufs_spec.specs.declared.flash.Key.{Key}
 use Rattle.ufs_spec.proofs.RegionPages.{pages_held}
+use Rattle.ufs_spec.specs.declared.flash.KeyAndCounter.{KeyAndCounter}
 use Rattle.ufs_laws.proofs.pages.ByteLists.{bytes-joined, page_is_block}
 use Rattle.ufs_laws.proofs.plain_contents.CommandsKeepPlain.{its_region, settings_ranges}
 use Rattle.ufs_laws.proofs.plain_contents.ListParts.{get_or-made, joined_part, joined_same, length-joined, length-made}
 use Rattle.ufs_laws.proofs.plain_contents.ListParts.{made_of, made_same, parts_joined}
-use Rattle.ufs_laws.proofs.pages.SettingsBodies.{ReadsBack, ranges_read, read_back, settings_block, written_again}
+use Rattle.ufs_laws.proofs.pages.SettingsBodies.{ReadsBack, ranges_read, read_back, said_right, said_there}
+use Rattle.ufs_laws.proofs.pages.SettingsBodies.{settings_block, written_again}
 
 -- The contents of a plain state
 
@@ -25,8 +27,7 @@ settings_body : (p : Plain) → IsPlain p → IsSettingsBody (settings_of p)
 settings_body p plain = record {
   boot = p.boot;
   permanent = p.permanent;
-  key = (region_of p 0).key;
-  counter = (region_of p 0).counter;
+  said = map said_by p.regions;
   ranges = settings_ranges p plain;
   bytes = refl;
 }
@@ -40,7 +41,7 @@ content_is_block p plain k (IsArea region page there within) =
     page_is_block (region_of p region).area page (its_region p region plain there).area_bytes
     (omega (arith, within, pages_held p region))
 content_is_block p plain k IsSettings =
-    settings_block p.boot p.permanent (region_of p 0).key (region_of p 0).counter (settings_ranges p plain)
+    settings_block p.boot p.permanent (map said_by p.regions) (settings_ranges p plain)
 
 pub contents_of : (p : Plain) → IsPlain p → AreContents (shape_of p) (content p)
 contents_of p plain = record { blocks = content_is_block p plain; settings = settings_body p plain }
@@ -92,17 +93,23 @@ area_back p plain number there =
 
 -- what is read of the settings
 settings_back : (p : Plain) → IsPlain p →
-    ReadsBack (settings_of p) p.boot p.permanent (region_of p 0).key (region_of p 0).counter
-settings_back p plain =
-    read_back p.boot p.permanent (region_of p 0).key (region_of p 0).counter (settings_ranges p plain)
+    ReadsBack (settings_of p) p.boot p.permanent (map said_by p.regions)
+settings_back p plain = read_back p.boot p.permanent (map said_by p.regions) (settings_ranges p plain)
 
--- the one region has the key and the counter of the settings
+-- what is read of a region is what the settings say of it
+said_back : (p : Plain) → IsPlain p → (number : ℕ) → number < regions →
+    said_of (said_in (settings_of p)) number ≡ said_by (region_of p number)
+said_back p plain number there =
+    ap (λ (said : List KeyAndCounter). said_of said number) (settings_back p plain).said_is
+    ∙ lists.get_or-map said_by p.regions number empty_region
+
+-- the region has the key and the counter that the settings say
 region_back : (p : Plain) → IsPlain p → (number : ℕ) → number < regions →
     region_in (shape_of p) (content p) number ≡ region_of p number
 region_back p plain number there =
-    let only : 0 ≡ number = omega (arith, there) in
-    let key = (settings_back p plain).key_is ∙ ap (λ (n : ℕ). (region_of p n).key) only in
-    let counter = (settings_back p plain).counter_is ∙ ap (λ (n : ℕ). (region_of p n).counter) only in
+    let said = sym (said_there (settings_of p) number there) ∙ said_back p plain number there in
+    let key = ap (λ (r : KeyAndCounter). r.key) said in
+    let counter = ap (λ (r : KeyAndCounter). r.counter) said in
     let area = area_back p plain number there in
     λ i. record { key = key i; area = area i; counter = counter i }
 
@@ -138,7 +145,11 @@ same_state s f g h =
     (let area : area_of s f number ≡ area_of s g number =
     joined_same (λ (page : ℕ). f (area_key number page)) (λ (page : ℕ). g (area_key number page)) (pages_in s number)
     (λ (page : ℕ) within. h (area_key number page) (IsArea number page there within)) in
-    λ i. record { key = key_in (settings i); area = area i; counter = field_at 4 36 (settings i) }) in
+    λ i. record {
+      key = key_in number (settings i);
+      area = area i;
+      counter = counter_in number (settings i);
+    }) in
     let all = made_same (region_in s f) (region_in s g) regions each in
     λ i. record {
       units = units i;
@@ -201,14 +212,16 @@ region_is : (s : Shape) (f : Contents) → AreContents s f → (number : ℕ) �
     IsRegion (region_in s f number)
 region_is s f contents number there =
     let long = length-area_of s f contents number there in
-    let ranges = ranges_read (f settings_key) contents.settings in
+    let ranges = said_right (slice_index (f settings_key) 0) (said_in (f settings_key))
+    (ranges_read (f settings_key) contents.settings) number there in
+    let said = subst IsKeyAndCounter (said_there (f settings_key) number there) ranges in
     record {
-      key_length = ranges.key_length;
+      key_length = said.key_length;
       area = omega (arith, long);
       area_bytes =
           bytes-joined (λ (page : ℕ). f (area_key number page)) (pages_in s number)
           (λ (page : ℕ) within. (page_is s f contents number page there within).1);
-      counter_fits = ranges.counter_fits;
+      counter_fits = said.counter_fits;
     }
 
 regions_are : (s : Shape) (f : Contents) → AreContents s f → All IsRegion (regions_of s f)

@@ -1,11 +1,11 @@
 -- The line of the table that stands first decides.
-use Rattle.std.proofs.Common.{◌≡◌, ℕ, ◌*◌, ◌≤◌, ◌==◌, ◌&&◌, ◌||◌, nat_le, nat_lt, not, Bool, true, false, if◌then◌else◌}
-use Rattle.std.proofs.Common.{List}
+use Rattle.std.proofs.Common.{◌≡◌, ℕ, ◌*◌, ◌<◌, ◌≤◌, ◌==◌, ◌&&◌, ◌||◌, nat_le, nat_lt, not, Bool, true, false, if◌then◌else◌}
+use Rattle.std.proofs.Common.{List, ne_eqb}
 use Rattle.std.proofs.Common.{[], ◌∷◌, length, Option, Some, None, refl, ap, ◌∙◌, subst, arith}
 use Rattle.std.proofs.lemmas.Bool.{le-leb, le-ltb, lt-ltb, ltb-true}
 use Rattle.ufs_laws.proofs.refusals.RefusedCommands.{answers, idle_is, idle_state, lacks}
 use Rattle.ufs_laws.specs.Runs.{IsIdle}
-use Rattle.ufs_laws.specs.Table.{IsRefused, asks, flush, read_at, spells_none, write_at}
+use Rattle.ufs_laws.specs.Table.{IsRefused, asks, flush, read_at, reads_response, spells_none, write_at}
 use Rattle.ufs_spec.specs.Exchanges.{Busy, Status, TaskSetFull, invalid_field, invalid_operation, list_length_error}
 use Rattle.ufs_spec.specs.Exchanges.{no_unit, not_ready, out_of_range, response, sequence_error, short_reply}
 use Rattle.ufs_spec.specs.Exchanges.{write_protected}
@@ -14,6 +14,7 @@ use Rattle.ufs_spec.specs.Messages.{is_among}
 use Rattle.ufs_spec.specs.declared.configs.Numbers.{Numbers}
 use Rattle.ufs_spec.specs.Configs.{command_blocks}
 use Rattle.ufs_spec.specs.Exchanges.{most_tasks}
+use Rattle.ufs_spec.specs.Plain.{steps_of}
 use Rattle.ufs_spec.specs.Refusals.{BootUnit, is_boot_read, not_taken, operations_of, Request, State, first_line}
 use Rattle.ufs_spec.specs.Refusals.{has_other_response, has_wrong_list, is_crowded, is_past, is_refused_write}
 use Rattle.ufs_spec.specs.Refusals.{is_too_long, lacks_response, lines_for, locked, mended, numbers_of, refusal}
@@ -25,6 +26,12 @@ use Rattle.ufs_spec.specs.declared.scsi.Cdb.TheVariants as cdb
 use Rattle.ufs_spec.proofs.Facts.{and_from, cond-false, cond-true, or_with_false}
 
 -- ## Lines
+
+-- a line of the same status as the rest may apply or not
+pub either : (b : Bool) (status : Status) (rest : Option Status) → rest ≡ Some status →
+    (if b then Some status else rest) ≡ Some status
+either true status rest k = refl
+either false status rest k = k
 
 -- a line that applies decides, and one that does not leaves it to the rest
 pub decides : (b : Bool) (status : Status) (rest : Option Status) → b ≡ true →
@@ -106,42 +113,59 @@ crowded s tag h e k none = answers s (asks 0x20 0 tag (write_at 0)) Busy h
 -- ## The frames of the RPMB
 
 -- a command without blocks lies within any unit
-within : (s : State) (r : Request) (n : ℕ) → is_past (cdb.SecurityIn 0 n) (unit_numbers_of s r) ≡ false
-within s r n = by (unit_numbers_of s r)
+within : (s : State) (r : Request) (region n : ℕ) → is_past (cdb.SecurityIn region n) (unit_numbers_of s r) ≡ false
+within s r region n = by (unit_numbers_of s r)
   where
-    by : (u : Option UnitSpec) → is_past (cdb.SecurityIn 0 n) u ≡ false
+    by : (u : Option UnitSpec) → is_past (cdb.SecurityIn region n) u ≡ false
     by None = refl
     by (Some u) = le-ltb u.blocks 0 (omega arith)
 
-abbrev reads_response : ℕ → Request
-reads_response tag = asks 0x40 0xC4 tag (cdb.SecurityIn 0 512)
+-- a region whose area has bytes is there
+pub is_there : (n : ℕ) → 0 < n → (n == 0) ≡ false
+is_there n l = ne_eqb n 0 (λ e. omega (arith, l, e))
 
-pub ready_first : (s : State) (tag : ℕ) → mended s ≡ false → (s.registers 0).response ≡ [] →
-    first_line (lines_for s (reads_response tag) (cdb.SecurityIn 0 512)) ≡ Some not_ready
-ready_first s tag e none =
-    leaves (is_past (cdb.SecurityIn 0 512) (unit_numbers_of s (reads_response tag))) out_of_range not_ready _
-    (within s (reads_response tag) 512)
-    (decides (not (mended s)) not_ready _ (ap not e))
+pub ready_first : (s : State) (tag region : ℕ) → 0 < steps_of (numbers_of s) region → mended s ≡ false →
+    (s.registers region).response ≡ [] →
+    first_line (lines_for s (reads_response tag region) (cdb.SecurityIn region 512)) ≡ Some not_ready
+ready_first s tag region there e none =
+    leaves (steps_of (numbers_of s) region == 0) invalid_field not_ready _ (is_there _ there)
+    (leaves (is_past (cdb.SecurityIn region 512) (unit_numbers_of s (reads_response tag region))) out_of_range not_ready _
+    (within s (reads_response tag region) region 512)
+    (decides (not (mended s)) not_ready _ (ap not e)))
 
-pub response_first : (s : State) (tag : ℕ) → mended s ≡ true → (s.registers 0).response ≡ [] →
-    first_line (lines_for s (reads_response tag) (cdb.SecurityIn 0 512)) ≡ Some sequence_error
-response_first s tag e none =
-    leaves (is_past (cdb.SecurityIn 0 512) (unit_numbers_of s (reads_response tag))) out_of_range sequence_error _
-    (within s (reads_response tag) 512)
+pub response_first : (s : State) (tag region : ℕ) → 0 < steps_of (numbers_of s) region → mended s ≡ true →
+    (s.registers region).response ≡ [] →
+    first_line (lines_for s (reads_response tag region) (cdb.SecurityIn region 512)) ≡ Some sequence_error
+response_first s tag region there e none =
+    leaves (steps_of (numbers_of s) region == 0) invalid_field sequence_error _ (is_there _ there)
+    (leaves (is_past (cdb.SecurityIn region 512) (unit_numbers_of s (reads_response tag region))) out_of_range
+    sequence_error _ (within s (reads_response tag region) region 512)
     (leaves (not (mended s)) not_ready sequence_error _ (ap not e)
-    (decides (length (s.registers 0).response == 0) sequence_error _
-    (ap (λ (frames : List (List ℕ)). length frames == 0) none)))
+    (decides (length (s.registers region).response == 0) sequence_error _
+    (ap (λ (frames : List (List ℕ)). length frames == 0) none))))
 
-pub other_response : (s : State) (tag : ℕ) (a b : List ℕ) → mended s ≡ true → (s.registers 0).response ≡ a ∷ b ∷ [] →
-    first_line (lines_for s (reads_response tag) (cdb.SecurityIn 0 512)) ≡ Some invalid_field
-other_response s tag a b e two =
-    leaves (is_past (cdb.SecurityIn 0 512) (unit_numbers_of s (reads_response tag))) out_of_range invalid_field _
-    (within s (reads_response tag) 512)
+pub other_response : (s : State) (tag region : ℕ) (a b : List ℕ) → 0 < steps_of (numbers_of s) region →
+    mended s ≡ true → (s.registers region).response ≡ a ∷ b ∷ [] →
+    first_line (lines_for s (reads_response tag region) (cdb.SecurityIn region 512)) ≡ Some invalid_field
+other_response s tag region a b there e two =
+    leaves (steps_of (numbers_of s) region == 0) invalid_field invalid_field _ (is_there _ there)
+    (leaves (is_past (cdb.SecurityIn region 512) (unit_numbers_of s (reads_response tag region))) out_of_range
+    invalid_field _ (within s (reads_response tag region) region 512)
     (leaves (not (mended s)) not_ready invalid_field _ (ap not e)
-    (leaves (length (s.registers 0).response == 0) sequence_error invalid_field _
+    (leaves (length (s.registers region).response == 0) sequence_error invalid_field _
     (ap (λ (frames : List (List ℕ)). length frames == 0) two)
-    (decides (not (512 == 512 * length (s.registers 0).response)) invalid_field _
-    (ap (λ (frames : List (List ℕ)). not (512 == 512 * length frames)) two))))
+    (decides (not (512 == 512 * length (s.registers region).response)) invalid_field _
+    (ap (λ (frames : List (List ℕ)). not (512 == 512 * length frames)) two)))))
+
+pub no_region : (s : State) (r : Request) (region n : ℕ) → steps_of (numbers_of s) region ≡ 0 →
+    first_line (lines_for s r (cdb.SecurityIn region n)) ≡ Some invalid_field
+no_region s r region n none =
+    decides (steps_of (numbers_of s) region == 0) invalid_field _ (ap (λ (steps : ℕ). steps == 0) none)
+
+pub no_region_to_write : (s : State) (r : Request) (region n : ℕ) → steps_of (numbers_of s) region ≡ 0 →
+    first_line (lines_for s r (cdb.SecurityOut region n)) ≡ Some invalid_field
+no_region_to_write s r region n none =
+    decides (steps_of (numbers_of s) region == 0) invalid_field _ (ap (λ (steps : ℕ). steps == 0) none)
 
 -- ## Lines that never meet
 

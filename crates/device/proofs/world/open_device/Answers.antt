@@ -2,10 +2,13 @@ use Rattle.std.proofs.Common.{List, sym, subst}
 use Rattle.std.proofs.lemmas.List.{map-id}
 use Rattle.ufs_spec.specs.Cells.{Shows}
 use Rattle.ufs_spec.specs.Dies.{DieState}
-use Rattle.ufs_spec.specs.Lives.{IsOpened, array_of, bad_of}
+use Rattle.ufs_spec.specs.Lives.{Fit, IsOpened, array_of, bad_of}
 use Rattle.ufs_spec.specs.Sound.{Sound, Suits}
 use Rattle.device.proofs.dies_of_world.OpeningRefused.{opening_refused}
 use Rattle.device.proofs.world.open_device.Goals as goal
+
+pub open-requires : goal.open-requires
+open-requires c = record { fit = subst (Fit c.args.config) (sym (map-id c.args.dies.now)) c.requires.fit }
 
 pub returns-in-Ok-clause-described : goal.returns-in-Ok-clause-described
 returns-in-Ok-clause-described c =

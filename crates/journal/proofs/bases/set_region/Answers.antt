@@ -6,8 +6,9 @@ use Rattle.journal.proofs.bases.set_region.Goals.{then-is_some, else-is_some}
 pub set_area-requires-clause-bytes_in : goal.set_area-requires-clause-bytes_in
 set_area-requires-clause-bytes_in c =
     let found = c.args.region.now in
-    room_for c.requires.0 c.args.plain.now found.key found.area.now (sym c.is_some.ensures ∙ c.if-is_some.true)
-    c.requires.1 c.requires.2
+    let new = c.requires.new in
+    room_for new.0 c.args.number c.args.plain.now found.key found.area.now
+    (sym c.is_some.ensures ∙ c.if-is_some.true) new.1 new.2
 
 pub returns : goal.returns
 returns c =
@@ -16,11 +17,11 @@ returns c =
     let before = c.if-is_some.plain in
     elim c.if-is_some.branch [
       | then-is_some w ↦
-          found_set n c.args.plain.now before c.set_key.new.self c.set_counter.new.self found.key found.area.now
-          found.counter (sym c.is_some.ensures ∙ w.if-is_some.true) new whole (w.plain-is ∙ w.set_area.ensures)
-          c.set_key.ensures c.set_counter.ensures
+          found_set n c.args.number c.args.plain.now before c.set_key.new.self c.set_counter.new.self found.key
+          found.area.now found.counter (sym c.is_some.ensures ∙ w.if-is_some.true) c.requires.there new whole
+          (w.plain-is ∙ w.set_area.ensures) c.set_key.ensures c.set_counter.ensures
       | else-is_some w ↦
-          none_set n c.args.plain.now before c.set_key.new.self c.set_counter.new.self found.key found.area.now
-          found.counter (sym c.is_some.ensures ∙ w.if-is_some.false) new w.plain-is c.set_key.ensures
-          c.set_counter.ensures
+          none_set n c.args.number c.args.plain.now before c.set_key.new.self c.set_counter.new.self found.key
+          found.area.now found.counter (sym c.is_some.ensures ∙ w.if-is_some.false) c.requires.there new w.plain-is
+          c.set_key.ensures c.set_counter.ensures
     ]

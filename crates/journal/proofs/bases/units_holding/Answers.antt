@@ -1,8 +1,8 @@
 use Rattle.std.proofs.Common.{◌∙◌, ap, arith, length, map, replicate, slice_set, sym}
 use Rattle.std.proofs.lemmas.List.{get_or-map, length-map}
-use Rattle.ufs_spec.specs.Plain.{Plain, shape_of, with_region, zero, zero_block}
+use Rattle.ufs_spec.specs.Plain.{Plain, shape_of, zero, zero_block}
 use Rattle.ufs_spec.specs.declared.configs.UnitSpec.{UnitSpec}
-use Rattle.journal.specs.Shown.{region_found}
+use Rattle.journal.specs.Shown.{regions_held}
 use Rattle.journal.proofs.HeldUnits.{count_equal, fill_more, filled, held_shape, units_many, with_units}
 use Rattle.journal.proofs.bases.units_holding.Goals as goal
 
@@ -41,10 +41,8 @@ loop-index-preserved c = record {
 }
 
 -- the regions of a device whose units alone are not new
-pub set_region-requires : goal.set_region-requires
-set_region-requires c =
-    let regions = ap (λ (p : Plain). p.regions) c.loop-index.invariant.held in
-    (c.args.numbers.now, regions, c.is_area.ensures.whole c.if-not-is_area.false)
+pub set_regions-requires-clause-new : goal.set_regions-requires-clause-new
+set_regions-requires-clause-new c = ap (λ (p : Plain). p.regions) c.loop-index.invariant.held
 
 -- at the end all blocks are those that were read
 pub returns-clause-shape : goal.returns-clause-shape
@@ -61,8 +59,7 @@ returns-clause-shape c =
     let whole = filled units (zero n).units c.loop-index.index (omega (arith, many, same, first, second))
     (omega (arith, past, many, first)) in
     let fills = c.loop-index.invariant.held ∙ ap (with_units n) whole in
-    let area = c.is_area.ensures.whole c.if-not-is_area.false in
-    let set = c.set_region.ensures n (ap (λ (p : Plain). p.regions) c.loop-index.invariant.held) area in
-    ap shape_of (set ∙ ap (with_region 0 (region_found n c.args.region.now)) fills)
-    ∙ held_shape n units c.args.region.now (all ∙ ap (map (λ (u : UnitSpec). u.blocks)) c.loop-index.invariant.same)
-    area
+    let found = c.args.regions.now in
+    ap shape_of (c.set_regions.ensures ∙ ap (λ (p : Plain). record p { regions = regions_held n 0 found }) fills)
+    ∙ held_shape n units found (all ∙ ap (map (λ (u : UnitSpec). u.blocks)) c.loop-index.invariant.same)
+    (omega arith) (c.are_areas.ensures.whole c.if-not-are_areas.false)

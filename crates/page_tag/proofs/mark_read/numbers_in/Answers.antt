@@ -1,4 +1,4 @@
-use Rattle.std.proofs.Common.{◌∙◌, Some, ap, arith, slice_index}
+use Rattle.std.proofs.Common.{◌∙◌, ◌∷◌, [], Some, ap, arith, slice_index}
 use Rattle.page_tag.proofs.MarkRead.{count_read, numbers_read}
 use Rattle.page_tag.proofs.mark_read.numbers_in.Goals as goal
 
@@ -16,7 +16,7 @@ returns-clause-read c = λ fence n h.
       blocks = c.read_u16.ensures i;
       pages = c.read_u16-2.ensures i;
       units = c.units_in.result;
-      rpmb = slice_index body 22;
+      rpmb = slice_index body 22 ∷ slice_index body 28 ∷ slice_index body 29 ∷ slice_index body 30 ∷ [];
       slots = c.read_u16-3.ensures i;
       spare = c.read_u16-4.ensures i;
     })

@@ -1,4 +1,4 @@
-use Rattle.std.proofs.Common.{arith, refl}
+use Rattle.std.proofs.Common.{arith}
 use Rattle.test_lower.proofs.scans.data.Goals as goal
 
 pub seal-requires : goal.seal-requires
@@ -7,7 +7,8 @@ seal-requires c =
     record {
       kind_known = (omega arith, omega arith);
       unit_known = omega arith;
-      unit_of_data_alone = λ h. refl;
+      region_known = λ h. absurd (omega (arith, h));
+      unit_of_blocks_alone = λ h. absurd (omega (arith, h));
       address_fits = r.0;
       address_of_blocks_alone = λ h. absurd (omega (arith, h));
       number_given = (r.1, r.2);

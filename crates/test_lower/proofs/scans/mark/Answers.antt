@@ -6,7 +6,8 @@ seal-requires c =
     record {
       kind_known = (omega arith, omega arith);
       unit_known = omega arith;
-      unit_of_data_alone = λ h. refl;
+      region_known = λ h. absurd (omega (arith, h));
+      unit_of_blocks_alone = λ h. refl;
       address_fits = omega arith;
       address_of_blocks_alone = λ h. refl;
       number_given = (c.requires.0, c.requires.1);

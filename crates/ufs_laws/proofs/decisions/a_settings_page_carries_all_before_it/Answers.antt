@@ -1,7 +1,10 @@
-use Rattle.std.proofs.Common.{refl}
+use Rattle.std.proofs.Common.{subst}
 use Rattle.ufs_laws.proofs.decided_data.SettingsCarried as pages
 use Rattle.ufs_laws.proofs.decisions.a_settings_page_carries_all_before_it.Goals as goal
+use Rattle.ufs_laws.specs.SettingsPages.{AddsPage, Settings}
+use Rattle.ufs_spec.specs.Changes.{accepts}
 use Rattle.ufs_spec.specs.Commands.{RpmbWrite, SetBoot}
+use Rattle.ufs_spec.specs.Refusals.{plain_now}
 
 pub returns-clause-commands : goal.returns-clause-commands
 returns-clause-commands c = pages.commands
@@ -16,12 +19,20 @@ pub returns-clause-second : goal.returns-clause-second
 returns-clause-second c = pages.second
 
 pub returns-clause-setting_after_write : goal.returns-clause-setting_after_write
-returns-clause-setting_after_write c s address boot m n bytes there =
-    pages.second s (RpmbWrite 0 address bytes) (SetBoot boot) m n there tt
+returns-clause-setting_after_write c s region address boot m n bytes =
+    subst
+    (λ (x : Settings). AddsPage (accepts s (RpmbWrite region address bytes) m)
+    (accepts (accepts s (RpmbWrite region address bytes) m) (SetBoot boot) n) (record x { boot = boot }))
+    (pages.write_counts (plain_now s) region address bytes)
+    (pages.second s (RpmbWrite region address bytes) (SetBoot boot) m n tt)
 
 pub returns-clause-write_after_setting : goal.returns-clause-write_after_setting
-returns-clause-write_after_setting c s address boot m n bytes there =
-    pages.second s (SetBoot boot) (RpmbWrite 0 address bytes) m n there refl
+returns-clause-write_after_setting c s region address boot m n bytes =
+    subst
+    (λ (x : Settings). AddsPage (accepts s (SetBoot boot) m)
+    (accepts (accepts s (SetBoot boot) m) (RpmbWrite region address bytes) n) (record x { boot = boot }))
+    (pages.write_counts (plain_now s) region address bytes)
+    (pages.second s (SetBoot boot) (RpmbWrite region address bytes) m n tt)
 
 pub returns-clause-setting : goal.returns-clause-setting
 returns-clause-setting c = pages.of_setting

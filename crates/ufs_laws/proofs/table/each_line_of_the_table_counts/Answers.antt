@@ -1,4 +1,4 @@
-use Rattle.ufs_laws.proofs.refusals.TableLines.{flush_refused}
+use Rattle.ufs_laws.proofs.refusals.TableLines.{flush_refused, no_region, no_region_to_write}
 use Rattle.ufs_laws.proofs.refusals.TableLines.{blocks, crowded, flag, full, list, operation, other_response, past}
 use Rattle.ufs_laws.proofs.refusals.TableLines.{protected, ready, ready_first, response_first, unit}
 use Rattle.ufs_laws.proofs.table.each_line_of_the_table_counts.Goals as goal
@@ -44,3 +44,9 @@ returns-clause-other_response c = other_response
 
 pub returns-clause-crowded : goal.returns-clause-crowded
 returns-clause-crowded c = crowded
+
+pub returns-clause-no_region : goal.returns-clause-no_region
+returns-clause-no_region c = no_region
+
+pub returns-clause-no_region_to_write : goal.returns-clause-no_region_to_write
+returns-clause-no_region_to_write c = no_region_to_write

@@ -1,5 +1,5 @@
 use Rattle.std.proofs.Common.{◌∙◌, ap}
-use Rattle.ufstool.specs.HostUnmaps.{asked_lines, data_spelled}
+use Rattle.ufstool.specs.HostMessages.{asked_lines, data_spelled}
 use Rattle.ufstool.proofs.Written.{both_written}
 use Rattle.ufstool.proofs.unmap.try_lines.Goals as goal
 

@@ -13,7 +13,7 @@ loop-index-init c = (refl, λ s h. begins c.args.self.now s (means c.args.meant)
 pub loop-index-preserved : goal.loop-index-preserved
 loop-index-preserved c =
     let was = c.loop-index.invariant in (
-      rest_stays c.args.self.now c.loop-index.self c.abort.new.self c.in-Some.index c.task-task.result.frames was.0
+      rest_stays c.args.self.now c.loop-index.self c.abort.new.self c.in-Some.index c.task-task.result.frames c.task-task.result.region was.0
           c.abort.ensures.left,
       λ s h.
           subst (λ (d : DeviceCore). IsOnTheWay d s (means c.args.meant)) (sym c.abort.ensures.left)

@@ -10,9 +10,9 @@ pub returns-in-None-clause-answered : goal.returns-in-None-clause-answered
 returns-in-None-clause-answered c =
     let fs = frames_of c.args.frames.now in
     subst
-    (λ (d : DeviceCore). HasAnswered d.ftl c.release.new.self c.args.tag fs c.args.code
+    (λ (d : DeviceCore). HasAnswered d.ftl c.release.new.self c.args.tag c.args.region fs c.args.code
     (event.RequestAnswered c.args.code)) c.self.view_is
-    (answered_at_once c.self.inside.ftl c.release.new.self c.args.tag fs c.args.code
+    (answered_at_once c.self.inside.ftl c.release.new.self c.args.tag c.args.region fs c.args.code
     (sym c.asked_area.ensures ∙ c.in-None.is)
     (λ t claims h. (
       c.release.ensures.described_blocks t (claims c.args.tag) h.0 (h.1 c.args.tag),
@@ -23,9 +23,9 @@ pub returns-in-Some-clause-answered : goal.returns-in-Some-clause-answered
 returns-in-Some-clause-answered c =
     let fs = frames_of c.args.frames.now in
     subst
-    (λ (d : DeviceCore). HasAnswered d.ftl c.ask_area.new.self.ftl c.args.tag fs c.args.code c.ask_area.result)
+    (λ (d : DeviceCore). HasAnswered d.ftl c.ask_area.new.self.ftl c.args.tag c.args.region fs c.args.code c.ask_area.result)
     c.self.view_is
-    (asked_then c.self.inside.ftl c.release.new.self c.ask_area.new.self.ftl c.args.tag fs c.args.code c.in-Some.asked
+    (asked_then c.self.inside.ftl c.release.new.self c.ask_area.new.self.ftl c.args.tag c.args.region fs c.args.code c.in-Some.asked
     c.ask_area.result (sym c.asked_area.ensures ∙ c.in-Some.is)
     (λ t claims h. (
       c.release.ensures.described_blocks t (claims c.args.tag) h.0 (h.1 c.args.tag),

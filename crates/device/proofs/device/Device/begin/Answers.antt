@@ -23,7 +23,7 @@ returns-in-Ok-Write-clause-begun c = λ t claims h.
 pub returns-in-Ok-AskFrames-clause-begun : goal.returns-in-Ok-AskFrames-clause-begun
 returns-in-Ok-AskFrames-clause-begun c = λ t claims h.
     let x = c.in-Ok-AskFrames in
-    let is : c.args.planned ≡ Ok (plan.AskFrames x.length) = search rules in
+    let is : c.args.planned ≡ Ok (plan.AskFrames x.field-0-0 x.length) = search rules in
     subst (λ (o : Result Plan Status). HasBegun c.begin_frames.new.self.ftl t claims c.args.tag o c.begin_frames.result)
     (sym is) (c.begin_frames.ensures.begun t claims h)
 

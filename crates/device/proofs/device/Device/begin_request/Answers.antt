@@ -1,4 +1,4 @@
-use Rattle.std.proofs.Common.{◌≡◌, ◌∙◌, ap, subst}
+use Rattle.std.proofs.Common.{◌≡◌, ◌∙◌, List, ap, subst}
 use Rattle.rpmb.specs.Kept.{Machine}
 use Rattle.rpmb.specs.Requests.{frames_of}
 use Rattle.device.specs.Calls.{with_event}
@@ -19,14 +19,14 @@ returns c =
       rpmb = new.rpmb;
       event = c.decide-event.result;
       decided =
-          subst (λ (d : DeviceCore). IsDecided kept d c.args.tag (frames_of c.args.frames.now) c.args.code
+          subst (λ (d : DeviceCore). IsDecided kept d c.args.tag c.args.region (frames_of c.args.frames.now) c.args.code
           c.args.accepted.now c.decide-event.result) left
-          (subst (λ (d : DeviceCore). IsDecided d new c.args.tag (frames_of c.args.frames.now) c.args.code
+          (subst (λ (d : DeviceCore). IsDecided d new c.args.tag c.args.region (frames_of c.args.frames.now) c.args.code
           c.args.accepted.now c.decide-event.result) c.keep_bytes.ensures c.decide-event.ensures.done);
       after_is =
           c.happen.ensures
-          ∙ (ap (λ (m : Machine). with_event (record (core_of c.self.inside) { rpmb = m }) c.args.index
+          ∙ (ap (λ (ms : List Machine). with_event (record (core_of c.self.inside) { rpmb = ms }) c.args.index
           c.decide-event.result) c.begin.ensures
-          ∙ ap (λ (d : DeviceCore). with_event (with_emptied d (frames_of c.args.frames.now)) c.args.index
+          ∙ ap (λ (d : DeviceCore). with_event (with_emptied d c.args.region (frames_of c.args.frames.now)) c.args.index
           c.decide-event.result) (c.self.view_is ∙ left));
     }

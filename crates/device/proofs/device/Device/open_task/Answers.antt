@@ -24,5 +24,6 @@ returns c = record {
         expected = c.args.expected;
         phase = c.begin-phase.result;
         frames = c.frames_of.ensures i;
+        region = c.region_of.ensures i;
       })))));
 }

@@ -1,51 +1,74 @@
 use Rattle.std.proofs.Common.{◌∙◌, true, false, refl, sym}
 use Rattle.device.proofs.described.SameDevice.{same_layer}
-use Rattle.device.proofs.host_messages.CommandTable.{data_lacking, told_by, told_early}
+use Rattle.device.proofs.host_messages.CommandTable.{data_lacking, region_lacking, told_by, told_early}
 use Rattle.ufs_spec.specs.Refusals.{numbers_of}
 use Rattle.device.proofs.device.Device.refusal.Goals as goal
+
+pub returns-then-lacks_region-clause-what : goal.returns-then-lacks_region-clause-what
+returns-then-lacks_region-clause-what c =
+    λ s r h bare spec flags expected region.
+    told_early s r c.args.unit c.args.cdb.now spec true _ _ _ _ refl
+    (region_lacking _ (numbers_of s) c.args.cdb.now true
+    (c.numbers-numbers.ensures.described s.translation (same_layer _ _ s.translation c.self.view_is h))
+    (sym c.lacks_region.ensures ∙ c.if-lacks_region.true)) refl refl refl refl
 
 pub returns-then-is_too_long-clause-what : goal.returns-then-is_too_long-clause-what
 returns-then-is_too_long-clause-what c =
     λ s r h bare spec flags expected region.
-    told_early s r c.args.unit c.args.cdb.now spec true _ _ _ refl
+    told_early s r c.args.unit c.args.cdb.now spec false true _ _ _ refl
+    (region_lacking _ (numbers_of s) c.args.cdb.now false
+    (c.numbers-numbers.ensures.described s.translation (same_layer _ _ s.translation c.self.view_is h))
+    (sym c.lacks_region.ensures ∙ c.if-lacks_region.false))
     (sym (c.is_too_long.ensures.what (numbers_of s) (c.command_blocks.ensures.is s.translation h)) ∙ c.if-is_too_long.true) refl refl refl
 
 pub returns-then-has_wrong_list-clause-what : goal.returns-then-has_wrong_list-clause-what
 returns-then-has_wrong_list-clause-what c =
     λ s r h bare spec flags expected region.
-    told_early s r c.args.unit c.args.cdb.now spec false true _ _ refl
+    told_early s r c.args.unit c.args.cdb.now spec false false true _ _ refl
+    (region_lacking _ (numbers_of s) c.args.cdb.now false
+    (c.numbers-numbers.ensures.described s.translation (same_layer _ _ s.translation c.self.view_is h))
+    (sym c.lacks_region.ensures ∙ c.if-lacks_region.false))
     (sym (c.is_too_long.ensures.what (numbers_of s) (c.command_blocks.ensures.is s.translation h)) ∙ c.if-is_too_long.false)
     (sym c.has_wrong_list.ensures ∙ c.if-has_wrong_list.true) refl refl
 
 pub returns-then-lacks_data-clause-what : goal.returns-then-lacks_data-clause-what
 returns-then-lacks_data-clause-what c =
     λ s r h bare spec flags expected region.
-    told_early s r c.args.unit c.args.cdb.now spec false false true _ refl
+    told_early s r c.args.unit c.args.cdb.now spec false false false true _ refl
+    (region_lacking _ (numbers_of s) c.args.cdb.now false
+    (c.numbers-numbers.ensures.described s.translation (same_layer _ _ s.translation c.self.view_is h))
+    (sym c.lacks_region.ensures ∙ c.if-lacks_region.false))
     (sym (c.is_too_long.ensures.what (numbers_of s) (c.command_blocks.ensures.is s.translation h)) ∙ c.if-is_too_long.false)
     (sym c.has_wrong_list.ensures ∙ c.if-has_wrong_list.false)
-    (data_lacking s r c.args.cdb.now c.numbers.result.now c.listed_by.result true
-    (c.numbers.ensures.described s.translation (same_layer _ _ s.translation c.self.view_is h)) c.listed_by.ensures
+    (data_lacking s r c.args.cdb.now c.numbers-numbers.result.now c.listed_by.result true
+    (c.numbers-numbers.ensures.described s.translation (same_layer _ _ s.translation c.self.view_is h)) c.listed_by.ensures
     (sym (c.lacks_data.ensures r flags expected) ∙ c.if-lacks_data.true)) refl
 
 pub returns-then-is_out_of_range-clause-what : goal.returns-then-is_out_of_range-clause-what
 returns-then-is_out_of_range-clause-what c =
     λ s r h bare spec flags expected region.
-    told_early s r c.args.unit c.args.cdb.now spec false false false true refl
+    told_early s r c.args.unit c.args.cdb.now spec false false false false true refl
+    (region_lacking _ (numbers_of s) c.args.cdb.now false
+    (c.numbers-numbers.ensures.described s.translation (same_layer _ _ s.translation c.self.view_is h))
+    (sym c.lacks_region.ensures ∙ c.if-lacks_region.false))
     (sym (c.is_too_long.ensures.what (numbers_of s) (c.command_blocks.ensures.is s.translation h)) ∙ c.if-is_too_long.false)
     (sym c.has_wrong_list.ensures ∙ c.if-has_wrong_list.false)
-    (data_lacking s r c.args.cdb.now c.numbers.result.now c.listed_by.result false
-    (c.numbers.ensures.described s.translation (same_layer _ _ s.translation c.self.view_is h)) c.listed_by.ensures
+    (data_lacking s r c.args.cdb.now c.numbers-numbers.result.now c.listed_by.result false
+    (c.numbers-numbers.ensures.described s.translation (same_layer _ _ s.translation c.self.view_is h)) c.listed_by.ensures
     (sym (c.lacks_data.ensures r flags expected) ∙ c.if-lacks_data.false))
     (sym c.is_out_of_range.ensures ∙ c.if-is_out_of_range.true)
 
 pub returns-clause-what : goal.returns-clause-what
 returns-clause-what c =
     λ s r h bare spec flags expected region.
-    told_by s r c.args.unit c.args.cdb.now spec false false false false c.refusal_now.result
+    told_by s r c.args.unit c.args.cdb.now spec false false false false false c.refusal_now.result
+    (region_lacking _ (numbers_of s) c.args.cdb.now false
+    (c.numbers-numbers.ensures.described s.translation (same_layer _ _ s.translation c.self.view_is h))
+    (sym c.lacks_region.ensures ∙ c.if-lacks_region.false))
     (sym (c.is_too_long.ensures.what (numbers_of s) (c.command_blocks.ensures.is s.translation h)) ∙ c.if-is_too_long.false)
     (sym c.has_wrong_list.ensures ∙ c.if-has_wrong_list.false)
-    (data_lacking s r c.args.cdb.now c.numbers.result.now c.listed_by.result false
-    (c.numbers.ensures.described s.translation (same_layer _ _ s.translation c.self.view_is h)) c.listed_by.ensures
+    (data_lacking s r c.args.cdb.now c.numbers-numbers.result.now c.listed_by.result false
+    (c.numbers-numbers.ensures.described s.translation (same_layer _ _ s.translation c.self.view_is h)) c.listed_by.ensures
     (sym (c.lacks_data.ensures r flags expected) ∙ c.if-lacks_data.false))
     (sym c.is_out_of_range.ensures ∙ c.if-is_out_of_range.false)
     (c.refusal_now.ensures s h bare region)

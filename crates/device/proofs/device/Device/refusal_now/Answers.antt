@@ -21,7 +21,7 @@ returns-then-lacks_response c =
     now_told s c.args.unit c.args.cdb.now false false true _ _
     (sym (c.is_too_early.ensures s h) ∙ c.if-is_too_early.false)
     (sym (c.is_refused_write.ensures s h bare) ∙ c.if-is_refused_write.false)
-    (sym (c.lacks_response.ensures s bare region) ∙ c.if-lacks_response.true) refl refl
+    (sym (c.lacks_response.ensures s bare) ∙ c.if-lacks_response.true) refl refl
 
 pub returns-then-has_other_response : goal.returns-then-has_other_response
 returns-then-has_other_response c =
@@ -29,8 +29,8 @@ returns-then-has_other_response c =
     now_told s c.args.unit c.args.cdb.now false false false true _
     (sym (c.is_too_early.ensures s h) ∙ c.if-is_too_early.false)
     (sym (c.is_refused_write.ensures s h bare) ∙ c.if-is_refused_write.false)
-    (sym (c.lacks_response.ensures s bare region) ∙ c.if-lacks_response.false)
-    (sym (c.has_other_response.ensures s bare region) ∙ c.if-has_other_response.true) refl
+    (sym (c.lacks_response.ensures s bare) ∙ c.if-lacks_response.false)
+    (sym (c.has_other_response.ensures s bare) ∙ c.if-has_other_response.true) refl
 
 pub returns-then-is_crowded : goal.returns-then-is_crowded
 returns-then-is_crowded c =
@@ -38,8 +38,8 @@ returns-then-is_crowded c =
     now_told s c.args.unit c.args.cdb.now false false false false true
     (sym (c.is_too_early.ensures s h) ∙ c.if-is_too_early.false)
     (sym (c.is_refused_write.ensures s h bare) ∙ c.if-is_refused_write.false)
-    (sym (c.lacks_response.ensures s bare region) ∙ c.if-lacks_response.false)
-    (sym (c.has_other_response.ensures s bare region) ∙ c.if-has_other_response.false)
+    (sym (c.lacks_response.ensures s bare) ∙ c.if-lacks_response.false)
+    (sym (c.has_other_response.ensures s bare) ∙ c.if-has_other_response.false)
     (sym (c.is_crowded.ensures s h bare) ∙ c.if-is_crowded.true)
 
 pub returns : goal.returns
@@ -48,6 +48,6 @@ returns c =
     now_told s c.args.unit c.args.cdb.now false false false false false
     (sym (c.is_too_early.ensures s h) ∙ c.if-is_too_early.false)
     (sym (c.is_refused_write.ensures s h bare) ∙ c.if-is_refused_write.false)
-    (sym (c.lacks_response.ensures s bare region) ∙ c.if-lacks_response.false)
-    (sym (c.has_other_response.ensures s bare region) ∙ c.if-has_other_response.false)
+    (sym (c.lacks_response.ensures s bare) ∙ c.if-lacks_response.false)
+    (sym (c.has_other_response.ensures s bare) ∙ c.if-has_other_response.false)
     (sym (c.is_crowded.ensures s h bare) ∙ c.if-is_crowded.false)

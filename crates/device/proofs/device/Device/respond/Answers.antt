@@ -11,7 +11,7 @@ pub returns-in-Some-clause-responded : goal.returns-in-Some-clause-responded
 returns-in-Some-clause-responded c =
     subst
     (λ (d : DeviceCore). (task : OpenTask) → slice_get d.tasks c.args.index ≡ Some task →
-    HasResponded d.rpmb c.respond.new.self task c.args.code (option_copied c.args.«data»)) c.self.view_is
-    (λ task at.
-    responds c.self.inside.set.tasks c.args.index c.args.code c.in-Some.held.now task (option_copied c.args.«data»)
-    c.self.inside.rpmb c.respond.new.self (sym (ap option_copied c.in-Some.is) ∙ c.held.ensures) at c.respond.ensures)
+    task.region ≡ c.args.region → HasResponded d.rpmb c.respond.new.self task c.args.code (option_copied c.args.«data»)) c.self.view_is
+    (λ task at its.
+    responds c.self.inside.set.tasks c.args.index c.args.code c.args.region c.in-Some.held.now task (option_copied c.args.«data»)
+    c.self.inside.rpmb c.respond.new.self (sym (ap option_copied c.in-Some.is) ∙ c.held.ensures) at its c.respond.ensures)

@@ -1,6 +1,7 @@
 use Rattle.std.proofs.Common.{◌∙◌, None, ap, length, refl, replicate, sym, subst}
-use Rattle.std.proofs.lemmas.List.{length-replicate}
+use Rattle.std.proofs.lemmas.List.{length-replicate, map-id}
 use Rattle.ufs_spec.specs.Lives.{Fit}
+use Rattle.ufs_spec.specs.declared.configs.Numbers.{Numbers}
 use Rattle.device.specs.Worlds.{IsOpeningFault}
 use Rattle.device.proofs.dies_of_world.OpenedWorld.{IsOpenedOver, fit_same, opened_fits, opened_over, suits_over}
 use Rattle.device.proofs.dies_of_world.OpenedWorld.{written_same}
@@ -19,6 +20,21 @@ invariant_of-result c =
           ∙ (c.len.ensures ∙ c.args.dies.ok.0) ∙ sym (ap length same);
       fit = subst (Fit c.args.config) (sym same) fit;
     }
+
+pub open_device-requires : goal.open_device-requires
+open_device-requires c = record {
+  fit =
+      subst (λ (n : Numbers). Fit n c.as_mut_slice.result.now) (sym c.copied.ensures)
+      (subst (Fit c.args.config) (sym c.as_mut_slice.ensures.value)
+      (fit_same c.args.config c.as_slice.result.now c.args.dies.items c.as_slice.ensures.value
+      (c.fit.ensures.fit c.if-not-fit.false)));
+}
+
+pub returns-then-not-fit-clause-refused : goal.returns-then-not-fit-clause-refused
+returns-then-not-fit-clause-refused c =
+    subst (IsOpeningFault c.args.config c.args.dies.items) (sym c.fault.ensures.kind)
+    (λ fit sound suits. c.fit.ensures.unfit c.if-not-fit.true
+    (subst (Fit c.args.config) (sym (map-id c.as_slice.result.now ∙ c.as_slice.ensures.value)) fit))
 
 pub returns-clause-suits : goal.returns-clause-suits
 returns-clause-suits c = (

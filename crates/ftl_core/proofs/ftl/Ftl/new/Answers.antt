@@ -8,6 +8,7 @@ use Rattle.ftl_core.proofs.live_pages.PinRooms.{first_blocks, first_counted, fir
 use Rattle.ftl_core.proofs.opened.OpenedParts.{opened_as}
 use Rattle.ftl_core.proofs.opened.OpensFound.{opens_described}
 use Rattle.ftl_core.proofs.stopped.EachStop.{stops_right}
+use Rattle.power_loss.proofs.stops.SealedCells.{ranges_of}
 use Rattle.ftl_core.proofs.ftl.Ftl.new.Goals as goal
 
 pub returns-clause-core : goal.returns-clause-core
@@ -21,7 +22,9 @@ returns-clause-core c =
     (search rules) (search rules) (search rules) (search rules) (search rules)
 
 pub returns-clause-described : goal.returns-clause-described
-returns-clause-described c = opens_described c.args.config c.args.found _ (returns-clause-core c)
+returns-clause-described c =
+    opens_described c.args.config c.args.found _ (ranges_of c.args.config c.has_no_fault.ensures).count_of_regions
+    (returns-clause-core c)
 
 pub returns-clause-stop : goal.returns-clause-stop
 returns-clause-stop c = λ cells bad t some right within sound found opened.

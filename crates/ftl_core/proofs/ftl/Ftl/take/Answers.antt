@@ -1,8 +1,15 @@
 use Rattle.std.proofs.Common.{◌≡◌, ◌∙◌, Option, rules, subst}
 use Rattle.ufs_spec.specs.declared.flash.Job.{Job}
+use Rattle.ftl_core.specs.Describes.{IsTaken}
 use Rattle.ftl_core.specs.Stops.{StopsRightGiven}
 use Rattle.ftl_core.specs.Takes.{job_taken}
 use Rattle.ftl_core.proofs.ftl.Ftl.take.Goals as goal
+
+pub returns-in_err-flight-clause-described : goal.returns-in_err-flight-clause-described
+returns-in_err-flight-clause-described c =
+    λ t h.
+    let told : job_taken c.args.self.now c.args.die ≡ c.from_residual.result = search rules in
+    subst (λ (j : Option Job). IsTaken t c.args.die j c.next_flight.new.self) told (c.next_flight.ensures.described t h)
 
 pub returns-in_err-flight-clause-stop : goal.returns-in_err-flight-clause-stop
 returns-in_err-flight-clause-stop c =

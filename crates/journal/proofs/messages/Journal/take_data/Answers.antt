@@ -1,8 +1,6 @@
 use Rattle.std.proofs.Common.{◌≡◌, ◌-◌, List, OnOk, arith, drop, length, subst, sym, take, ℕ}
 use Rattle.std.proofs.lemmas.List.{length-drop, take_all}
-use Rattle.rpmb.specs.Requests.{frames_of}
-use Rattle.journal.specs.Heard.{brought, taken, unmapped}
-use Rattle.journal.specs.Requests.{accepted_by}
+use Rattle.journal.specs.Heard.{accepted_of, brought, taken, unmapped}
 use Rattle.journal.specs.Unmaps.{zeros_accepted}
 use Rattle.journal.specs.declared.tasks.Awaited.{Awaited}
 use Rattle.journal.proofs.messages.Journal.take_data.Goals as goal
@@ -20,7 +18,8 @@ returns-in-Frames c =
     (sym c.in-Frames.is)
     (subst
     (λ (bytes : List ℕ). OnOk c.take_frames.result
-    (c.take_frames.new.self ≡ brought j task.name task.promised (accepted_by j.region j.locked (frames_of bytes))))
+    (c.take_frames.new.self
+    ≡ brought j task.name task.promised c.in-Frames.region (accepted_of j c.in-Frames.region bytes)))
     rest c.take_frames.ensures)
 
 pub returns-in-UnmapList : goal.returns-in-UnmapList
