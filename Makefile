@@ -8,13 +8,16 @@ MAN = $(SHARE)/man/man1
 BASH = $(SHARE)/bash-completion/completions
 ZSH = $(SHARE)/zsh/site-functions
 FISH = $(SHARE)/fish/vendor_completions.d
+LIB = $(DESTDIR)$(PREFIX)/lib
+INCLUDE = $(DESTDIR)$(PREFIX)/include
 # Of each program: itself, its manual page, and its completions for three shells.
 PROGRAMS := ufsim ufstool
 INSTALLED = $(foreach it,$(PROGRAMS),bin/$(it) share/man/man1/$(it).1 share/bash-completion/completions/$(it) \
-	share/zsh/site-functions/_$(it) share/fish/vendor_completions.d/$(it).fish)
+	share/zsh/site-functions/_$(it) share/fish/vendor_completions.d/$(it).fish) \
+	include/ufs.h lib/libufs.a lib/pkgconfig/ufs.pc
 
 .PHONY: help demo test prove format install uninstall bench collection peers stress fuzz wrong-bodies check-sees turned-rules \
-	refused-memory power-cycles
+	refused-memory power-cycles c-example
 
 help:
 	@echo 'make demo                  shows a write, a read and six stops; builds without proving, two minutes'
@@ -23,8 +26,10 @@ help:
 	@echo '                           or more from nothing; what has not changed is kept, so later runs take minutes'
 	@echo 'make format                lays out the code and the proofs of every crate as make prove wants them'
 	@echo 'make install PREFIX=DIR    proves and builds ufsim and ufstool, and copies them to DIR/bin, with'
-	@echo '                           their manual pages and completions to DIR/share'
+	@echo '                           their manual pages and completions to DIR/share; the library for C to DIR/lib, and'
+	@echo '                           its header to DIR/include'
 	@echo 'make uninstall PREFIX=DIR  removes what was installed (both: without PREFIX, DIR is $(PREFIX))'
+	@echo 'make c-example             proves and builds the library for C, and runs its examples, also under valgrind'
 	@echo 'make bench                 times writes and reads, also among threads, and each call by itself on a small'
 	@echo '                           and on a large device, after it proves what they need'
 	@echo 'make collection            counts the pages that a device programs for each that is written, once it'
@@ -43,7 +48,7 @@ help:
 
 # Without the kit nothing can be proved or built. Under -q make runs nothing, adds no line of its own,
 # and ends with status 1.
-ifneq ($(filter demo test prove format install bench collection fuzz wrong-bodies check-sees turned-rules refused-memory power-cycles,$(MAKECMDGOALS)),)
+ifneq ($(filter demo test prove format install bench collection fuzz wrong-bodies check-sees turned-rules refused-memory power-cycles c-example,$(MAKECMDGOALS)),)
 ifeq ($(shell command -v rt 2>/dev/null),)
 $(shell echo "butcherford: the Rattle kit's command rt is not on the PATH; it is needed to prove and build" >&2)
 MAKEFLAGS += -q
@@ -71,7 +76,8 @@ install:
 		echo 'butcherford: $(BIN) cannot be written; name another folder, as in make install PREFIX=$(HOME)/.local' >&2; \
 		exit 1; }
 	@python3 tools/build_programs.py
-	@mkdir -p '$(MAN)' '$(BASH)' '$(ZSH)' '$(FISH)'
+	@python3 tools/libufs.py build
+	@mkdir -p '$(MAN)' '$(BASH)' '$(ZSH)' '$(FISH)' '$(INCLUDE)' '$(LIB)/pkgconfig'
 	@for it in $(PROGRAMS); do \
 		cp "crates/$${it}_main/out/$${it}_main" "$(BIN)/$$it" && \
 		cp "man/$$it.1" '$(MAN)/' && \
@@ -80,6 +86,10 @@ install:
 		cp "completions/$$it.fish" '$(FISH)/' && \
 		echo "installed $(BIN)/$$it" || exit 1; \
 	done
+	@cp include/ufs.h '$(INCLUDE)/' && \
+		cp crates/libufs/out/libufs.a '$(LIB)/' && \
+		sed 's|@PREFIX@|$(PREFIX)|' include/ufs.pc.in > '$(LIB)/pkgconfig/ufs.pc' && \
+		echo 'installed $(LIB)/libufs.a'
 
 uninstall:
 	@for it in $(INSTALLED); do \
@@ -90,6 +100,9 @@ uninstall:
 			echo "nothing to remove: there is no $$file"; \
 		fi; \
 	done
+
+c-example:
+	@python3 tools/libufs.py examples
 
 bench:
 	@cd crates/bench && rt run

@@ -1,0 +1,4 @@
+mod BareValues
+mod OpenedDies
+mod StoppedDies
+mod Values

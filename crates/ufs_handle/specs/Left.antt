@@ -1,0 +1,38 @@
+-- What jobs leave on dies that were under way when the power went, or that fail.
+use Rattle.std.specs.Prelude.{ℕ, zero, suc, List, Option, Some, None, replicate, slice_index_or, slice_set}
+use Rattle.ufs_spec.specs.Dies.{DieState, blank_page, power_cycle_ended, with_page}
+use Rattle.ufs_spec.specs.declared.flash.Job.{Job}
+use Rattle.ufs_spec.specs.declared.flash.Job.TheVariants as job
+use Rattle.ufs_spec.specs.declared.flash.Page.{Page}
+use Rattle.ufs_handle.specs.Kept.{die_at, job_at}
+use Rattle.ufs_handle.specs.declared.left.Left.{Left}
+use Rattle.ufs_handle.specs.declared.left.Left.TheVariants as left
+
+-- a page of zeros, whose check does not hold
+unfoldable pub torn_page : Page
+torn_page = record { body = replicate 4096 0; spare = replicate 96 0 }
+
+-- the die with this content in the first pages of the block, so many of them
+abbrev pub filled : ℕ → Page → ℕ → DieState → DieState
+filled block content zero d = d
+filled block content (suc page) d = with_page (filled block content page d) block page content
+
+-- the die with what its job leaves; a read leaves nothing
+abbrev pub left_by : ℕ → Left → Option Job → DieState → DieState
+left_by pages left.Old j d = d
+left_by pages left.New None d = d
+left_by pages left.New (Some (job.Read place)) d = d
+left_by pages left.New (Some (job.Program place page)) d = with_page d place.block place.page page
+left_by pages left.New (Some (job.Erase die block)) d = filled block blank_page pages d
+left_by pages left.Torn None d = d
+left_by pages left.Torn (Some (job.Read place)) d = d
+left_by pages left.Torn (Some (job.Program place page)) d = with_page d place.block place.page torn_page
+left_by pages left.Torn (Some (job.Erase die block)) d = filled block torn_page pages d
+
+-- the dies once the power went: what the jobs of the first of them leave, so many of them
+abbrev pub stopped : ℕ → List Left → List (Option Job) → ℕ → List DieState → List DieState
+stopped pages lefts jobs zero dies = dies
+stopped pages lefts jobs (suc die) dies =
+    let before = stopped pages lefts jobs die dies in
+    slice_set before die
+    (power_cycle_ended (left_by pages (slice_index_or lefts die left.Old) (job_at jobs die) (die_at before die)))

@@ -1,0 +1,108 @@
+//! What a job leaves on a die in memory that was under way when the power went, or that fails.
+ghost use Rattle.std.specs.Prelude.{◌≡◌, ◌<◌, IfNone, IfSome};
+ghost use Rattle.ufs_handle.specs.Plain.{left_number};
+ghost use Rattle.ufs_spec.specs.Dies.{blank_page, power_cycle_ended, with_page};
+ghost use Rattle.ufs_handle.specs.Left.{filled, left_by, torn_page};
+
+use nand_model::{Die, MemDie};
+use ufs_spec::{Job, Page};
+
+/// What the page of a program, or each page of the block of an erase, holds.
+#[derive(Clone, Copy, Debug, Default, PartialEq, Eq)]
+pub enum Left {
+    /// What it held before.
+    #[default]
+    Old,
+    /// What the job was to make of it.
+    New,
+    /// Zeros, whose check does not hold.
+    Torn,
+}
+
+/// A page as an erase leaves it, in one place.
+static BLANK: Page = Page {
+    body: [0xFF; 4096],
+    spare: [0xFF; 96],
+};
+
+/// A page that was torn, in one place.
+static TORN: Page = Page {
+    body: [0; 4096],
+    spare: [0; 96],
+};
+
+/// A page of which all bytes are FFh.
+#[tactic(auto, unfolding(ufs_spec::specs::Dies::blank_page))]
+fn blank() -> &'static Page
+    ensures { result.now ≡ blank_page }
+{
+    &BLANK
+}
+
+/// A page of which all bytes are zeros.
+#[tactic(auto, unfolding(crate::specs::Left::torn_page))]
+fn torn() -> &'static Page
+    ensures { result.now ≡ torn_page }
+{
+    &TORN
+}
+
+impl Left {
+    /// The one with this number in C.
+    pub fn of(number: u8) -> Option<Left>
+        ensures some { IfSome result (λ left. left_number left ≡ number) }
+        ensures none { IfNone result (2 < number) }
+    {
+        match number {
+            0 => Some(Left::Old),
+            1 => Some(Left::New),
+            2 => Some(Left::Torn),
+            _ => None,
+        }
+    }
+}
+
+/// Puts the content there, where the die has this page.
+fn put_page(die: &mut MemDie, block: u16, page: u16, content: &Page)
+    ensures { die.new ≡ with_page die.old block page content.now }
+{
+    if block < die.blocks() && page < die.pages() {
+        die.set_page(block, page, content);
+    }
+}
+
+/// Puts the content into the first pages of the block, so many of them.
+fn fill(die: &mut MemDie, block: u16, pages: u16, content: &Page)
+    ensures { die.new ≡ filled block content.now pages die.old }
+{
+    for page in 0..pages {
+        put_page(die, block, page, content);
+    }
+}
+
+/// Leaves on the die what its job leaves so. Its blocks have so many pages.
+fn leave(die: &mut MemDie, job: &Option<Job>, left: Left, pages: u16)
+    ensures { die.new ≡ left_by pages left job.now die.old }
+{
+    match job {
+        Some(Job::Program(place, page)) => match left {
+            Left::Old => {}
+            Left::New => put_page(die, place.block, place.page, page),
+            Left::Torn => put_page(die, place.block, place.page, torn()),
+        },
+        Some(Job::Erase { die: _, block }) => match left {
+            Left::Old => {}
+            Left::New => fill(die, *block, pages, blank()),
+            Left::Torn => fill(die, *block, pages, torn()),
+        },
+        _ => {}
+    }
+}
+
+/// The power goes from the die: it holds what its job leaves so, and its power cycle is over.
+pub(crate) fn stop(die: &mut MemDie, job: &Option<Job>, left: Left, pages: u16)
+    ensures { die.new ≡ power_cycle_ended (left_by pages left job.now die.old) }
+{
+    leave(die, job, left, pages);
+    die.end_power_cycle();
+}

@@ -1,0 +1,23 @@
+//! A device as a C program holds it: behind a handle, with its dies in memory, or with dies of the
+//! program's own. `libufs` exports what is here.
+#![tactic(auto)]
+
+mod bare;
+mod calls;
+mod fault;
+mod handle;
+mod held;
+mod left;
+mod loose;
+mod plain;
+mod plain_calls;
+
+pub use bare::Bare;
+pub use fault::{
+    Fault, answer_number, copy_text, ended_number, flag_number, heard_number, open_number,
+    reply_number, saved_number, stop_number, taken_number,
+};
+pub use handle::Handle;
+pub use held::{Held, new_dies};
+pub use left::Left;
+pub use plain::{PlainConfig, PlainJob, PlainUnit, config_of, lefts_of, outcome_of};
