@@ -9,6 +9,7 @@ BASH = $(SHARE)/bash-completion/completions
 ZSH = $(SHARE)/zsh/site-functions
 FISH = $(SHARE)/fish/vendor_completions.d
 LIB = $(DESTDIR)$(PREFIX)/lib
+PACKAGES = $(LIB)/python3/dist-packages
 INCLUDE = $(DESTDIR)$(PREFIX)/include
 # Of each program: itself, its manual page, and its completions for three shells.
 PROGRAMS := ufsim ufstool
@@ -17,7 +18,7 @@ INSTALLED = $(foreach it,$(PROGRAMS),bin/$(it) share/man/man1/$(it).1 share/bash
 	include/ufs.h lib/libufs.a lib/pkgconfig/ufs.pc
 
 .PHONY: help demo test prove format install uninstall bench collection peers stress fuzz wrong-bodies check-sees turned-rules \
-	refused-memory power-cycles c-example
+	refused-memory power-cycles c-example clients
 
 help:
 	@echo 'make demo                  shows a write, a read and six stops; builds without proving, two minutes'
@@ -27,9 +28,11 @@ help:
 	@echo 'make format                lays out the code and the proofs of every crate as make prove wants them'
 	@echo 'make install PREFIX=DIR    proves and builds ufsim and ufstool, and copies them to DIR/bin, with'
 	@echo '                           their manual pages and completions to DIR/share; the library for C to DIR/lib, and'
-	@echo '                           its header to DIR/include'
+	@echo '                           its header to DIR/include; the Python package to DIR/lib/python3/dist-packages'
 	@echo 'make uninstall PREFIX=DIR  removes what was installed (both: without PREFIX, DIR is $(PREFIX))'
 	@echo 'make c-example             proves and builds the library for C, and runs its examples, also under valgrind'
+	@echo 'make clients               proves and builds the library for C, and tests the Python package over it;'
+	@echo '                           installs pytest with apt-get, as root, where it is missing'
 	@echo 'make bench                 times writes and reads, also among threads, and each call by itself on a small'
 	@echo '                           and on a large device, after it proves what they need'
 	@echo 'make collection            counts the pages that a device programs for each that is written, once it'
@@ -48,7 +51,7 @@ help:
 
 # Without the kit nothing can be proved or built. Under -q make runs nothing, adds no line of its own,
 # and ends with status 1.
-ifneq ($(filter demo test prove format install bench collection fuzz wrong-bodies check-sees turned-rules refused-memory power-cycles c-example,$(MAKECMDGOALS)),)
+ifneq ($(filter demo test prove format install bench collection fuzz wrong-bodies check-sees turned-rules refused-memory power-cycles c-example clients,$(MAKECMDGOALS)),)
 ifeq ($(shell command -v rt 2>/dev/null),)
 $(shell echo "butcherford: the Rattle kit's command rt is not on the PATH; it is needed to prove and build" >&2)
 MAKEFLAGS += -q
@@ -90,6 +93,7 @@ install:
 		cp crates/libufs/out/libufs.a '$(LIB)/' && \
 		sed 's|@PREFIX@|$(PREFIX)|' include/ufs.pc.in > '$(LIB)/pkgconfig/ufs.pc' && \
 		echo 'installed $(LIB)/libufs.a'
+	@python3 tools/clients.py install '$(PACKAGES)'
 
 uninstall:
 	@for it in $(INSTALLED); do \
@@ -100,9 +104,13 @@ uninstall:
 			echo "nothing to remove: there is no $$file"; \
 		fi; \
 	done
+	@python3 tools/clients.py uninstall '$(PACKAGES)'
 
 c-example:
 	@python3 tools/libufs.py examples
+
+clients:
+	@python3 -B tools/clients.py test
 
 bench:
 	@cd crates/bench && rt run
