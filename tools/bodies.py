@@ -3,7 +3,8 @@ import functools
 import re
 from typing import NamedTuple, Tuple
 
-HEAD = re.compile(r"^(?P<indent> *)(?:pub(?:\([^)]*\))? )?(?:const )?fn (?P<name>\w+)", re.MULTILINE)
+# Of a text without its strings: where `extern "C"` stands, blanks are left behind its first word.
+HEAD = re.compile(r"^(?P<indent> *)(?:pub(?:\([^)]*\))? )?(?:const |extern +)?fn (?P<name>\w+)", re.MULTILINE)
 IMPL = re.compile(r"^impl\b(?P<words>[^{;]*)\{", re.MULTILINE)
 # What may not stand there a second time: a function that calls itself has one proof with all of its cycle.
 ONLY_ONCE = re.compile(r"#\[(?:cycle|test|cfg|unsafe)\b")
@@ -111,7 +112,8 @@ def functions(file, text):
         body = body_of(plain, head.start("name"))
         if body is None or any(other.start < head.start() < other.end for other in found):
             continue
-        owner, of_trait = next((tuple(it[2:]) for it in impls if it[0] < head.start() < it[1]), ("", bool(head["indent"])))
+        around = (tuple(it[2:]) for it in impls if it[0] < head.start() < it[1])
+        owner, of_trait = next(around, ("", bool(head["indent"])))
         begin = with_attributes(plain, head.start())
         is_plain = head["name"] != "main" and not ONLY_ONCE.search(plain, begin, head.start())
         found.append(Function(file, owner, head["name"], *body, begin, head.start("name"), is_plain and not of_trait))

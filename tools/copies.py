@@ -1,5 +1,5 @@
-"""Writes functions once more beside themselves, each with a wrong body and under another name, with the files that prove
-it. So several wrong bodies of one function stand in one check, and no other function falls with them."""
+"""Writes functions once more beside themselves, each with a wrong body and under another name, with the files that
+prove it. So several wrong bodies of one function stand in one check, and no other function falls with them."""
 import re
 from typing import NamedTuple
 

@@ -11,6 +11,11 @@ def lines_of(root=ROOT):
     return {line.split(":")[0].split()[0]: line for line in lines if ":" in line}
 
 
+def is_static(crate, root=ROOT):
+    """Whether a crate is built as a static library, for programs in other languages."""
+    return "staticlib" in lines_of(root).get(crate, "").partition(":")[0].split()
+
+
 def uses(root=ROOT):
     """Of each crate the crates of the repository that its line names."""
     lines = lines_of(root)

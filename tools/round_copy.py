@@ -203,8 +203,9 @@ class RoundCopy:
 
     def check(self, texts, only=(), proofs=None):
         """Checks the crate with these texts of its code, and with these files added to its proofs, over what the checks
-        before it proved: all of it, or only the functions with these names and those that they call. It is one process: four took 142 s of processor time for
-        a round of 32 edits that one took 102 s for, and no less for smaller rounds."""
+        before it proved: all of it, or only the functions with these names and those that they call. It is one
+        process: four took 142 s of processor time for a round of 32 edits that one took 102 s for, and no less for
+        smaller rounds."""
         folder = self.folder / "crates" / self.crate
         for file, text in texts.items():
             path = folder / file
@@ -222,3 +223,13 @@ class RoundCopy:
 
     def remove(self):
         shutil.rmtree(self.folder, ignore_errors=True)
+
+
+def prove_after_gate(crate):
+    """Proves a crate in a copy of its own, over the libraries that the gate built. What rt said, its status and its
+    cost."""
+    copy = RoundCopy(crate, is_of_gate=True)
+    try:
+        return copy.check({})
+    finally:
+        copy.remove()

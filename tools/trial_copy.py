@@ -233,7 +233,8 @@ class TrialCopy:
             left = re.sub(rf"^(?:///.*\n)*pub fn {law}\(\)\n(?:.*\n)*?\{{\}}\n", "", text, flags=re.MULTILINE)
             was_there = was_there or left != text
             left = re.sub(rf"^pub use [\w:]+::{law};\n", "", left, flags=re.MULTILINE)
-            left = re.sub(r"^pub use [\w:]+::\{[^}]*\};\n", lambda use: without_name(use[0], law), left, flags=re.MULTILINE)
+            uses = re.compile(r"^pub use [\w:]+::\{[^}]*\};\n", re.MULTILINE)
+            left = uses.sub(lambda use: without_name(use[0], law), left)
             if left != text:
                 self.write(path, left)
         for folder in (self.path(crate) / "proofs").rglob(law):

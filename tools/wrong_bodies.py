@@ -1,7 +1,7 @@
 #!/usr/bin/env python3
 """Tries wrong bodies of the code, many in one check, and sees that the prover refuses each.
 
-usage: wrong_bodies.py [--texts] [--list] [--after-gate] [--anew] [--lanes N] [CRATE [NAME..]]
+usage: wrong_bodies.py [--texts] [--list] [--compile] [--after-gate] [--anew] [--lanes N] [CRATE [NAME..]]
 
 wrong_bodies/CRATE/NAME.edit has the form of the kit's must-fail edits: a line 'file: src/lib.rt',
 then pairs of lines 'old: TEXT' and 'new: TEXT'. A round is one check of a copy of the crate with
@@ -13,8 +13,10 @@ that copy is not proved, its wrong bodies are tried in its place. Any other edit
 goes into the first of the later rounds whose edits touch none of its functions.
 
 An edit is refused if a function of its own falls for a reason of its own: a goal that was not
-proved, or a proof that no longer fits, and not only a call of what fell. What a round does not tell
-is tried in halves, and alone in the end, then in place and over the whole crate.
+proved, or a proof that no longer fits, and not only a call of what fell. If a round does not compile,
+the compiler's front end finds in seconds which of its edits do not, and the others are tried without
+them. What a round does not tell is tried in halves, and alone in the end, then in place and over the
+whole crate.
 wrong_bodies/CRATE/control.edit changes a body so that it means the same. It stands in each round and
 has to be proved there. Only if the first round does not show that, the control is tried alone: the
 whole crate has to be proved with it before anything else is tried.
@@ -28,7 +30,8 @@ from (verdicts.py says which). A later run tries only what has no kept verdict; 
 crate with nothing to try is not checked.
 
 --texts only looks whether each text that an edit changes stands once, also those of must-fail/.
---list shows rounds. --after-gate takes the libraries that `rt ci` has just built in this folder.
+--compile only looks whether each edited text compiles, in minutes for all crates. --list shows rounds.
+--after-gate takes the libraries that `rt ci` has just built in this folder.
 The last line counts the edits and the controls, and the one before says how many were tried in this
 run. The status is 0 if all is as it must be, 1 if not, and 2 if nothing could be said. With
 WRONG_BODIES_TIMES set each check tells its processor time, and which functions it was long at.
@@ -44,9 +47,9 @@ import time
 
 from bodies import moved_body, touched
 from copies import AS_IT_STANDS, Ambiguous, added, copy_of
-from crates import ROOT, below
+from crates import ROOT, below, is_static
 from edits import Fault, changed, crates_of, edits_of, must_fail_edits, places, read_texts, together
-from round_copy import RoundCopy, build_below, is_built, is_of_gate, is_proved, prove
+from round_copy import RoundCopy, build_below, is_built, is_of_gate, is_proved, prove, prove_after_gate
 from verdicts import Verdicts, apart_sum, own_texts, stated_below, stated_sum, texts_sum
 
 # A check takes up to so much memory.
@@ -81,6 +84,11 @@ def is_whole(said, copy):
     """Whether a copy with the function's own body is proved."""
     names = names_in(said, {copy.as_function()})
     return bool(names) and all(is_proved(said.verdicts[name]) for name in names)
+
+
+def is_unread(said):
+    """Whether the edited text does not compile."""
+    return bool(UNREAD.search(said.text))
 
 
 class Crate:
@@ -234,16 +242,33 @@ class Crate:
         """Checks these functions, and those that they call. If rt cannot tell functions apart by the ends of their
         names, it checks the whole crate."""
         said = self.check(copy, texts, {it.short_name() for it in functions}, proofs)
-        return said if said.reached() else self.check(copy, texts, proofs=proofs)
+        return said if said.reached() or is_unread(said) else self.check(copy, texts, proofs=proofs)
 
-    def check_round(self, copy, edits):
-        """Checks a round: the edits, the control, and the copies with their own bodies."""
+    def text_of(self, edits):
+        """What a round's check reads: the edits, the control, and the copies with their own bodies, and what proves
+        those copies."""
         touch = [*edits, self.control]
         made = [self.copies[it.name] for it in touch if it.name in self.copies] + self.wholes(touch)
         texts = together([*map(self.changes, touch), added(self.wholes(touch))], self.texts)
+        return texts, [file for it in made for file in it.proofs.items()]
+
+    def check_round(self, copy, edits):
+        """Checks a round."""
+        touch = [*edits, self.control]
+        texts, proofs = self.text_of(edits)
         functions = {it for edit in touch for it in self.own(edit)} | {it.as_function() for it in self.wholes(touch)}
-        proofs = [file for it in made for file in it.proofs.items()]
         return self.check_touched(copy, texts, functions, proofs)
+
+    def that_compile(self, copy, edits):
+        """The edits of a round that compile together, and those that do not compile where they stand in it."""
+        texts, proofs = self.text_of(edits)
+        if not is_unread(self.check(copy, texts, {""}, proofs)):
+            return edits, []
+        if len(edits) == 1:
+            return [], edits
+        half = len(edits) // 2
+        halves = [self.that_compile(copy, part) for part in (edits[:half], edits[half:])]
+        return halves[0][0] + halves[1][0], halves[0][1] + halves[1][1]
 
     def reason(self, edit, said, in_place=False):
         """Why a function of the edit's own fell, if it fell for a reason of its own."""
@@ -273,6 +298,13 @@ class Crate:
         said = self.check_round(copy, edits)
         fault = self.fault_of(edits, said)
         self.stand_on_control(copy, fault)
+        if len(edits) > 1 and is_unread(said):
+            good, odd = self.that_compile(copy, edits)
+            for edit in odd:
+                self.try_apart(copy, edit)
+            if odd:
+                self.try_rounds(copy, [good] if good else [])
+                return
         if fault and len(edits) > 1:
             print(f"{self.name}: a round of {len(edits)} is tried in two halves: {fault}", flush=True)
             half = len(edits) // 2
@@ -288,6 +320,11 @@ class Crate:
             else:
                 self.try_alone(copy, edit)
 
+    def try_rounds(self, copy, rounds):
+        """Tries rounds one after another."""
+        for room in rounds:
+            self.try_round(copy, room)
+
     def try_apart(self, copy, edit):
         """Tries an edit that can be in no round: first only what it touches, if that is known, and then all."""
         if self.functions[edit.name]:
@@ -301,10 +338,11 @@ class Crate:
     def try_alone(self, copy, edit):
         """Tries one edit as the kit's `rt must-fail` does: the crate must not be proved with it."""
         said = self.check(copy, changed(edit, self.texts))
-        if not said.reached() or UNREAD.search(said.text):
+        if not said.reached() or is_unread(said):
             self.note(edit, False, f"BAD EDIT: the prover could not read the edited text: {said.first_error()}")
         elif said.status == 0:
-            self.note(edit, False, f"NOT REFUSED: {self.name} is proved with it, so a contract lets it through: mend that")
+            words = f"NOT REFUSED: {self.name} is proved with it, so a contract lets it through: mend that"
+            self.note(edit, False, words)
         else:
             words = self.reason(edit, said, in_place=True) or said.first_error()
             self.note(edit, True, f"refused, as it must be (alone: {words})")
@@ -322,11 +360,12 @@ class Crate:
 
     def stand_on_proof(self, of_gate):
         """Sees that the crate is proved as it stands: after the gate it has a library, as only a proved crate is built.
-        Else rt proves it. What that costs counts, though it is kept for later runs."""
-        if of_gate:
+        Else rt proves it, as it also does with a static library, of which the gate leaves no file. What that costs
+        counts, though it is kept for later runs."""
+        if of_gate and not is_static(self.name):
             self.unproved = None if is_built(self.name) else "the gate did not prove it"
             return
-        said = prove(self.name)
+        said = prove_after_gate(self.name) if of_gate else prove(self.name)
         self.seconds += said.seconds
         self.unproved = said.first_error() if said.status else None
 
@@ -343,8 +382,7 @@ class Crate:
             if self.unproved:
                 raise NoControl(self.unproved)
             self.stand_on_texts(copy)
-            for room in self.rounds:
-                self.try_round(copy, room)
+            self.try_rounds(copy, self.rounds)
             self.stand_on_control(copy, "no round showed it")
             for edit in self.alone:
                 self.try_apart(copy, edit)
@@ -356,6 +394,36 @@ class Crate:
             copy.remove()
         print(f"{self.name}: {len(self.edits)} wrong bodies in {self.checks} checks, {len(self.bad)} not refused, "
               f"{len(self.kept)} verdicts kept from earlier runs; {self.seconds:.0f} s of processor time", flush=True)
+
+
+def compiled(crate, of_gate):
+    """Looks whether the edits of a crate compile, and gives those that do not."""
+    crate.touch()
+    crate.plan()
+    copy = RoundCopy(crate.name, of_gate)
+    try:
+        odd = [edit for room in crate.rounds for edit in crate.that_compile(copy, room)[1]] + crate.alone
+        said = {edit: crate.check(copy, changed(edit, crate.texts), {""}) for edit in odd}
+    finally:
+        copy.remove()
+    bad = [edit for edit, it in said.items() if is_unread(it)]
+    for edit in bad:
+        print(f"{edit}: does not compile: {said[edit].first_error()}", flush=True)
+    print(f"{crate.name}: {len(crate.edits)} edits, of which {len(bad)} do not compile; "
+          f"{crate.seconds:.0f} s of processor time", flush=True)
+    return bad
+
+
+def all_compiled(crates, after_gate, lanes):
+    """Looks whether each edit compiles, and counts. What is kept of earlier runs is looked at too."""
+    names = [it.name for it in crates]
+    of_gate = after_gate and is_of_gate(names)
+    if not of_gate and not build_below(names):
+        return 2
+    with concurrent.futures.ThreadPoolExecutor(lanes_here(lanes)) as pool:
+        bad = [edit for found in pool.map(lambda it: compiled(it, of_gate), crates) for edit in found]
+    print(f"{sum(len(it.edits) for it in crates) - len(bad)} passed, {len(bad)} failed")
+    return 1 if bad else 0
 
 
 def free_bytes():
@@ -439,6 +507,7 @@ def main():
     parser.add_argument("names", nargs="*", metavar="NAME", help="the edits of it to try; all, if none is named")
     parser.add_argument("--texts", action="store_true", help="only look whether each text stands once")
     parser.add_argument("--list", action="store_true", help="show the rounds, and try none")
+    parser.add_argument("--compile", action="store_true", help="only look whether each edited text compiles")
     parser.add_argument("--after-gate", action="store_true", help="take the libraries that rt ci has just built here")
     parser.add_argument("--anew", action="store_true", help="try also what an earlier run has kept a verdict of")
     parser.add_argument("--lanes", type=int, default=0, metavar="N", help="how many crates are tried at a time")
@@ -464,11 +533,13 @@ def run(crates, asked):
     if shutil.which("rt") is None:
         print("wrong_bodies: rt is not there", file=sys.stderr)
         return 2
+    # The copies go also if the script is stopped.
+    signal.signal(signal.SIGTERM, lambda number, frame: sys.exit(128 + number))
+    if asked.compile:
+        return all_compiled(crates, asked.after_gate, asked.lanes)
     verdicts = Verdicts(asked.anew)
     for it in crates:
         it.look_up(verdicts, texts_sum)
-    # The copies go also if the script is stopped.
-    signal.signal(signal.SIGTERM, lambda number, frame: sys.exit(128 + number))
     status = tried(crates, asked.after_gate, asked.lanes)
     verdicts.sweep()
     return status

@@ -3,8 +3,8 @@
 number that it is named after, and if the file that proves it, where it has one, speaks of it. Each
 check adds a line to the file that FAKE_LOG names: the crate, and the functions that were to be
 checked, or that its library was to be built. It cannot tell which function FAKE_UNKNOWN names, and
-a check of all refuses proofs of a function that is not there. Before the checks it builds the
-library lower.
+a check of all refuses proofs of a function that is not there. A text with the word oops does not
+compile. Before the checks it builds the library lower.
 """
 import os
 import pathlib
@@ -30,8 +30,12 @@ def fits(name):
 def check(crate, only, wanted):
     """Says of each function of the crate here whether it is proved, or of these alone, and gives the status."""
     with open(os.environ["FAKE_LOG"], "a", encoding="utf-8") as log:
-        log.write(f"{crate} {wanted or 'all'}\n")
-    bodies = FUNCTION.findall(pathlib.Path("src/lib.rt").read_text(encoding="utf-8"))
+        log.write(f"{crate} {'nothing' if only == [''] else wanted or 'all'}\n")
+    text = pathlib.Path("src/lib.rt").read_text(encoding="utf-8")
+    if "oops" in text:
+        print("./src/lib.rt:1:1: error: nothing has the name `oops`")
+        return 1
+    bodies = FUNCTION.findall(text)
     if os.environ.get("FAKE_UNKNOWN") in only:
         print("rattle: the name fits several functions")
         return 2

@@ -21,6 +21,13 @@ fn even(of: u8) -> bool {
     of == 0
 }
 
+#[unsafe(no_mangle)]
+pub extern "C" fn exported(at: u8) -> u8
+    ensures { result ≡ at }
+{
+    at
+}
+
 impl Row {
     /// A method.
     fn of_type(&self) -> u8 {
@@ -55,10 +62,15 @@ class Bodies(unittest.TestCase):
         self.assertEqual("{\n    at\n}", TEXT[free.start : free.end])
         self.assertTrue(TEXT[self.found["of_type"].head :].startswith("    fn of_type"))
 
+    def test_a_function_for_c_is_found(self):
+        exported = self.found["exported"]
+        self.assertTrue(TEXT[exported.head :].startswith("#[unsafe(no_mangle)]"))
+        self.assertEqual("{\n    at\n}", TEXT[exported.start : exported.end])
+
     def test_functions_and_methods_of_types_may_be_copied_and_no_others(self):
         copied = {name for name, it in self.found.items() if it.may_be_copied}
         self.assertEqual({"free", "of_type"}, copied)
-        self.assertEqual({"even", "of_trait", "of_trait_itself"}, set(self.found) - copied)
+        self.assertEqual({"even", "exported", "of_trait", "of_trait_itself"}, set(self.found) - copied)
 
     def test_a_body_that_is_written_before_the_old_one_is_found(self):
         line = "    ensures { result ≡ at }"

@@ -21,7 +21,8 @@ class Steps(unittest.TestCase):
         lines = ["rt: low proved\n", "rt: low: its tests are proved\n", "== high\n", "rt: high NOT PROVED\n",
                  "rt: mid is kept: an earlier run on this machine proved the same files\n"]
         found = list(prove.with_place(lines, 3))
-        self.assertEqual(["1 of 3 crates: rt: low proved\n", *lines[1:3], "2 of 3 crates: rt: high NOT PROVED\n"], found[:4])
+        placed = ["1 of 3 crates: rt: low proved\n", *lines[1:3], "2 of 3 crates: rt: high NOT PROVED\n"]
+        self.assertEqual(placed, found[:4])
         self.assertTrue(found[4].startswith("3 of 3 crates: rt: mid is kept: "))
 
     def test_the_last_counts_count(self):

@@ -190,6 +190,15 @@ class WrongBodies(unittest.TestCase):
         self.assertIn("the gate did not prove it", found[2])
         self.assertEqual([], self.repository.checks())
 
+    def test_a_static_library_is_proved_after_the_gate_which_leaves_no_file_of_it(self):
+        self.repository.change("crates.txt", "upper: lower", "upper staticlib: lower")
+        self.repository.write("crates/lower/out/rlib/lower.rlib/lang/lib.rt", "")
+        self.sees(ALL, 0, "--anew", "--after-gate")
+        self.assertEqual(["upper all", ROUND], self.repository.checks())
+        self.repository.change("crates/upper/src/lib.rt", "40", "41")
+        self.sees(ALL, 0, "--anew", "--after-gate", passed=0, failed=ALL)
+        self.assertEqual(["upper all"], self.repository.checks())
+
     def test_two_wrong_bodies_of_one_function_are_tried_in_one_check(self):
         self.repository.write("wrong_bodies/upper/ten_is_twelve.edit", EDIT.format(old="10", new="12"))
         self.sees(ALL + 1, 0, "--anew", passed=ALL + 1)
@@ -215,6 +224,22 @@ class WrongBodies(unittest.TestCase):
         self.repository.change("wrong_bodies/upper/ten_is_eleven.edit", "new: 11", "new: 5 + 5")
         self.sees(ALL, 0, "--anew", passed=ALL - 1, failed=1)
         self.assertEqual(["upper lib", ROUND, "upper all"], self.repository.checks())
+
+    def test_an_edit_that_does_not_compile_is_found_by_the_front_end(self):
+        self.repository.change("wrong_bodies/upper/ten_is_eleven.edit", "new: 11", "new: oops")
+        self.sees(ALL, 0, "--anew", passed=ALL - 1, failed=1)
+        without = ROUND.replace(" ten_ten_is_eleven", "")
+        checks = [ROUND, "upper all", *["upper nothing"] * 3, "upper ten", "upper all", without]
+        self.assertEqual(["upper lib", *checks], self.repository.checks())
+
+    def test_whether_all_edits_compile_is_seen_without_a_proof(self):
+        self.assertEqual(0, self.repository.run("--compile")[3])
+        self.assertEqual(["upper nothing"], self.repository.checks())
+        self.repository.change("wrong_bodies/upper/ten_is_eleven.edit", "new: 11", "new: oops")
+        *_, said, status = self.repository.run("--compile")
+        self.assertEqual(1, status, said)
+        self.assertIn("upper/ten_is_eleven: does not compile: src/lib.rt: nothing has the name `oops`", said)
+        self.assertEqual("1 passed, 1 failed", said.splitlines()[-1])
 
     def test_what_is_not_refused_is_not_kept(self):
         self.repository.change("wrong_bodies/upper/ten_is_eleven.edit", "new: 11", "new: 5 + 5")
