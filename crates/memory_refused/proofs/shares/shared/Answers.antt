@@ -13,12 +13,12 @@ pub open-requires : goal.open-requires
 open-requires c = record {
   fit =
       memory_dies_fit c.in_ok-config.config c.in_ok-dies.dies c.as_mut_slice.result.now c.as_mut_slice.ensures.value
-      (c.in_ok-dies.ensures ∙ sizes c.in_ok-config.config c.in_ok-config.ensures);
+      (c.in_ok-dies.ensures ∙ sizes c.in_ok-config.config c.in_ok-config.ensures.dies);
 }
 
 pub new-requires : goal.new-requires
 new-requires c =
     memory_dies_opened c.in_ok-config.config c.in_ok-dies.dies c.as_mut_slice.result.now c.open.new.dies
     c.in-Ok.device c.as_mut_slice.ensures.value
-    (c.in_ok-dies.ensures ∙ sizes c.in_ok-config.config c.in_ok-config.ensures) c.in-Ok.ensures.same
+    (c.in_ok-dies.ensures ∙ sizes c.in_ok-config.config c.in_ok-config.ensures.dies) c.in-Ok.ensures.same
     c.in-Ok.ensures.described
