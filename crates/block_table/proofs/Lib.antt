@@ -1,3 +1,4 @@
+pub mod BucketCounts
 pub mod Counts
 pub mod LiveCounts
 pub mod LowestWords
@@ -7,5 +8,6 @@ pub mod Relations
 pub mod Searches
 pub mod States
 pub mod Unpinned
+pub mod VictimBuckets
 pub mod VictimWords
-pub mod Words
+pub mod WordBits

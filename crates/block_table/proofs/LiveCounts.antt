@@ -5,6 +5,7 @@ use Rattle.std.proofs.Common.{inl, inr, replicate}
 use Rattle.std.specs.Bool.{beq}
 use Rattle.std.specs.Prelude.{nat_lt, filter, map, slice_get, slice_set, unwrap_or}
 use Rattle.std.proofs.Math.Nat.{mul_comm, mul-le-mul_left}
+use Rattle.std.proofs.lemmas.Bool.{and_right}
 use Rattle.std.proofs.lemmas.List.{map-append}
 use Rattle.std.proofs.lemmas.Nat.{mul-add-lt}
 use Rattle.std.proofs.lemmas.List.Elements.{filter-append}
@@ -177,10 +178,6 @@ replicate_off n k = by (cases_lt k n)
     by (inr l) =
         ap (λ o. unwrap_or o false) (slice_get_past (replicate n false) k (omega (arith, length-replicate n false)))
 
-and_none : (a : Bool) {b : Bool} → b ≡ false → (a && b) ≡ false
-and_none true h = h
-and_none false h = refl
-
 -- and at first none has
 pub counts_new : (n : Sizes) (pages blocks : ℕ) (s : Spot) →
     live_count (record { sizes = n; live = replicate pages false; pins = replicate blocks 0 }) s ≡ 0
@@ -190,7 +187,7 @@ counts_new n pages blocks s = live_count_is l s ∙ count_zero n.pages (λ k. is
     l = record { sizes = n; live = replicate pages false; pins = replicate blocks 0 }
 
     none : (k : ℕ) → is_live l (place_in s k) ≡ false
-    none k = and_none (has_page n (place_in s k)) (replicate_off pages (page_place n (place_in s k)))
+    none k = and_right (has_page n (place_in s k)) _ (replicate_off pages (page_place n (place_in s k)))
 
 -- the lives with the page noted
 abbrev pub noted : Lives → Place → Bool → Lives

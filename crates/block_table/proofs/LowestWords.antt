@@ -1,11 +1,13 @@
 -- The lowest block of a die, word by word.
 use Rattle.std.proofs.Common.{◌≡◌, ◌∙◌, ◌⊎◌, ℕ, ◌+◌, ◌-◌, ◌*◌, ◌/◌, ◌%◌, ◌^◌, ◌<◌, ◌≤◌, ◌&&◌, Bool, true, false}
-use Rattle.std.proofs.Common.{None, Some, ap, arith, length, refl, sym, inl, inr, not}
+use Rattle.std.proofs.Common.{None, Some, ap, arith, length, sym, inl, inr, not}
 use Rattle.std.specs.Prelude.{nat_le, nat_lt, ◌==◌, bit_and}
 use Rattle.std.proofs.lemmas.Nat.{div-mul-add, mod-mul-add, mul-add-lt}
 use Rattle.std.proofs.lemmas.Nat.Bits.{bit_at_mask_below, bit_at_mask_inside, ones_shl}
+use Rattle.std.proofs.Math.Bool.{and-true}
 use Rattle.std.proofs.Math.Nat.{mul_comm}
-use Rattle.ufs_spec.proofs.Facts.{and_from, and_parts, cases_lt, le-leb, leb-true, lt-ltb, false_from_ne_true}
+use Rattle.std.proofs.lemmas.Bool.{and_right}
+use Rattle.ufs_spec.proofs.Facts.{and_from, and_parts, cases_lt, le-leb, le-ltb, leb-true, lt-leb, lt-ltb}
 use Rattle.block_table.specs.Blocks.{Blocks, state_of}
 use Rattle.block_table.specs.Buckets.{Buckets, IsLowest, IsWord, bit, has}
 use Rattle.block_table.specs.LiveRooms.{has_no_pin}
@@ -14,12 +16,8 @@ use Rattle.block_table.specs.Lowest.{IsLowestBlock, is_used_from, may_be_used}
 use Rattle.block_table.specs.Probes.{spot_there}
 use Rattle.block_table.specs.Sorted.{IsWordOf, blocks_in, same_state, state_there}
 use Rattle.block_table.specs.declared.BlockState.{BlockState}
-use Rattle.block_table.proofs.States.{and_no}
 use Rattle.block_table.proofs.Unpinned.{no_pin_past, no_pin_there}
-use Rattle.block_table.proofs.Words.{bit_both, ge-ltb}
-
-gt-leb : (a b : ℕ) → b < a → nat_le a b ≡ false
-gt-leb a b l = false_from_ne_true (nat_le a b) (λ h. let m = leb-true a b h in omega arith)
+use Rattle.block_table.proofs.WordBits.{bit_both}
 
 -- a word without its lowest bits
 pub bit_from : (word first j : ℕ) → first < 64 → j < 64 →
@@ -31,16 +29,12 @@ bit_from word first j l m =
   where
     by : (j < first) ⊎ (first ≤ j) → (bit word j && bit (2 ^ 64 - 2 ^ first) j) ≡ (nat_le first j && bit word j)
     by (inl u) =
-        and_no (bit word j) (ap (λ (k : ℕ). k == 1) (bit_at_mask_below first 64 j u))
-        ∙ sym (ap (λ (c : Bool). c && bit word j) (gt-leb first j u))
+        and_right (bit word j) _ (ap (λ (k : ℕ). k == 1) (bit_at_mask_below first 64 j u))
+        ∙ sym (ap (λ (c : Bool). c && bit word j) (lt-leb first j u))
     by (inr u) =
         ap (λ (c : ℕ). bit word j && (c == 1)) (bit_at_mask_inside first 64 j u m)
-        ∙ and_true (bit word j)
+        ∙ and-true (bit word j)
         ∙ sym (ap (λ (c : Bool). c && bit word j) (le-leb first j u))
-      where
-        and_true : (c : Bool) → (c && true) ≡ c
-        and_true true = refl
-        and_true false = refl
 
 pub used_bits : (l : Lives) (t : Blocks) (one : Buckets) (s : BlockState) (start number so free after first : ℕ) →
     length l.pins ≡ blocks_in l.sizes → ((p : ℕ) → has one 0 p ≡ has_no_pin l.pins p) →
@@ -61,7 +55,7 @@ used_bits l t one s start number so free after first whole unpinned is_so is_fre
       where
         order : (64 * number + j < start) ⊎ (start ≤ 64 * number + j) →
             nat_le first j ≡ nat_le start (64 * number + j)
-        order (inl u) = gt-leb first j (omega (arith, from)) ∙ sym (gt-leb start (64 * number + j) u)
+        order (inl u) = lt-leb first j (omega (arith, from)) ∙ sym (lt-leb start (64 * number + j) u)
         order (inr u) = le-leb first j (omega (arith, from)) ∙ sym (le-leb start (64 * number + j) u)
 
     by : (p < blocks_in l.sizes) ⊎ (blocks_in l.sizes ≤ p) →
@@ -74,17 +68,17 @@ used_bits l t one s start number so free after first whole unpinned is_so is_fre
         && (same_state (state_there t l.sizes p) s && not (is_pinned l (spot_there l.sizes p))))
         (lt-ltb p (blocks_in l.sizes) inside))
     by (inr out) =
-        and_no (bit so j) (no_pin_past l.pins p (blocks_in l.sizes) whole out)
+        and_right (bit so j) _ (no_pin_past l.pins p (blocks_in l.sizes) whole out)
         ∙ sym (ap (λ (c : Bool). c
         && (same_state (state_there t l.sizes p) s && not (is_pinned l (spot_there l.sizes p))))
-        (ge-ltb p (blocks_in l.sizes) out))
+        (le-ltb p (blocks_in l.sizes) out))
 
 pub none_below : (l : Lives) (t : Blocks) (s : BlockState) (start p : ℕ) → p < 64 * (start / 64) →
     is_used_from l t s start p ≡ false
 none_below l t s start p u =
     ap (λ (c : Bool). c && (nat_lt p (blocks_in l.sizes)
     && (same_state (state_there t l.sizes p) s && not (is_pinned l (spot_there l.sizes p)))))
-    (gt-leb start p (omega arith))
+    (lt-leb start p (omega arith))
 
 -- The blocks of one die
 
@@ -115,7 +109,7 @@ not_there l t s die block h =
 
 pub no_die : (l : Lives) (t : Blocks) (s : BlockState) (die : ℕ) → l.sizes.dies ≤ die → IsLowestBlock l t die s None
 no_die l t s die out = λ block.
-    not_there l t s die block (ap (λ (c : Bool). c && nat_lt block l.sizes.blocks) (ge-ltb die l.sizes.dies out))
+    not_there l t s die block (ap (λ (c : Bool). c && nat_lt block l.sizes.blocks) (le-ltb die l.sizes.dies out))
 
 pub no_block : (l : Lives) (t : Blocks) (s : BlockState) (die : ℕ) → die < l.sizes.dies →
     ((p : ℕ) → p < die * l.sizes.blocks + l.sizes.blocks → is_used_from l t s (die * l.sizes.blocks) p ≡ false) →
@@ -124,7 +118,8 @@ no_block l t s die d none = λ block. by block (cases_lt block l.sizes.blocks)
   where
     by : (block : ℕ) → (block < l.sizes.blocks) ⊎ (l.sizes.blocks ≤ block) → may_be_used l t die s block ≡ false
     by block (inl b) = sym (used_is l t s die block d b) ∙ none (die * l.sizes.blocks + block) (omega arith)
-    by block (inr out) = not_there l t s die block (and_no (nat_lt die l.sizes.dies) (ge-ltb block l.sizes.blocks out))
+    by block (inr out) =
+        not_there l t s die block (and_right (nat_lt die l.sizes.dies) _ (le-ltb block l.sizes.blocks out))
 
 pub some_block : (l : Lives) (t : Blocks) (s : BlockState) (die p : ℕ) → die < l.sizes.dies →
     p < die * l.sizes.blocks + l.sizes.blocks → IsLowest (is_used_from l t s (die * l.sizes.blocks)) p →

@@ -2,6 +2,7 @@
 use Rattle.std.proofs.Common.{◌≡◌, ◌∙◌, ◌⊎◌, ℕ, zero, suc, ◌+◌, ◌-◌, ◌*◌, ◌/◌, ◌%◌, ◌<◌, ◌≤◌, ◌&&◌, Bool}
 use Rattle.std.proofs.Common.{true, false, List, ap, arith, cond, inl, inr, length, sym, subst}
 use Rattle.std.specs.Prelude.{nat_le, ◌==◌, count_by}
+use Rattle.std.proofs.lemmas.Bool.{ne_eqb}
 use Rattle.ufs_spec.proofs.Facts.{and_from, and_parts, cases_lt, eq-eqb, false≢true, le-leb, leb-true}
 use Rattle.ufs_spec.specs.Disk.{Spot}
 use Rattle.ufs_spec.specs.Keys.{below}
@@ -14,8 +15,9 @@ use Rattle.block_table.specs.Probes.{words_with}
 use Rattle.block_table.specs.Sorted.{blocks_in}
 use Rattle.block_table.proofs.LiveCounts.{count, one}
 use Rattle.block_table.proofs.Unpinned.{AreUnpinned, place_there}
-use Rattle.block_table.proofs.VictimWords.{any_there, empty_none, held_there, none_there, one_more}
-use Rattle.block_table.proofs.Words.{count_below, ne-eqb}
+use Rattle.block_table.proofs.VictimWords.{any_there, none_there}
+use Rattle.block_table.proofs.VictimBuckets.{empty_none, held_there, one_more}
+use Rattle.block_table.proofs.BucketCounts.{count_below}
 
 -- Words that are passed over
 
@@ -175,7 +177,7 @@ word_past : (l : Lives) (count number : ℕ) → words_for (blocks_in l.sizes) �
 word_past l count number past =
     none_there (λ (s : Spot). (block_place l.sizes s / 64 == number) && is_unpinned_of l count s) l.sizes (λ p m.
     ap (λ (c : Bool). c && is_unpinned_of l count (spot_there l.sizes p))
-    (ne-eqb (block_place l.sizes (spot_there l.sizes p) / 64) number (λ e.
+    (ne_eqb (block_place l.sizes (spot_there l.sizes p) / 64) number (λ e.
     apart p number (blocks_in l.sizes) past m (sym (ap (λ (q : ℕ). q / 64) (place_there l.sizes p)) ∙ e))))
   where
     apart : (p number n : ℕ) → words_for n ≤ number → p < n → p / 64 ≡ number → ⊥

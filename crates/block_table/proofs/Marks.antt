@@ -9,10 +9,11 @@ use Rattle.std.proofs.lemmas.Nat.{mul-add-lt}
 use Rattle.std.proofs.Math.Nat.{mul_comm, mul-le-mul_left}
 use Rattle.std.proofs.lemmas.Option.{slice_get_read}
 use Rattle.ufs_spec.proofs.Facts.{and_from, and_parts, cases_Bool, eq-eqb, eqb-true, false_from_ne_true}
-use Rattle.ufs_spec.proofs.Facts.{lt-ltb, ltb-true, true≢false}
+use Rattle.ufs_spec.proofs.Facts.{le-ltb, lt-ltb, ltb-true, true≢false}
 use Rattle.ufs_spec.proofs.Lists.{set_there}
 use Rattle.block_table.specs.Buckets.{AreMarks, Buckets, IsMark, bit, has, has_in, with_bit, with_block, words_for}
-use Rattle.block_table.proofs.Words.{IsRead, bit_read, bit_zero, ge-ltb, is_read, lowest_is, none_in, seen, word_set}
+use Rattle.block_table.proofs.WordBits.{bit_read, bit_zero, lowest_is, word_set}
+use Rattle.block_table.proofs.BucketCounts.{IsRead, is_read, none_in, seen}
 
 -- what is said of the numbers of one test is said of those of another that pass alike
 pub mark_same : (f g : ℕ → Bool) (w : ℕ) (b : Bool) → ((j : ℕ) → j < 64 → g (64 * w + j) ≡ f (64 * w + j)) →
@@ -204,5 +205,5 @@ marks_past words table marks held v bucket group same old past =
     seen_marks words table held v bucket group 0 same (λ j u.
     subst (IsMark (has_in table words bucket) (64 * group + j))
     (ap (λ (b : Bool). b && bit (unwrap_or (slice_get marks (bucket * words_for words + (64 * group + j) / 64)) 0)
-    ((64 * group + j) % 64)) (ge-ltb (64 * group + j) (64 * words_for words) (omega arith)) ∙ sym (bit_zero j))
+    ((64 * group + j) % 64)) (le-ltb (64 * group + j) (64 * words_for words) (omega arith)) ∙ sym (bit_zero j))
     (old bucket (64 * group + j)))

@@ -3,10 +3,11 @@ use Rattle.std.proofs.Common.{◌≡◌, ◌∙◌, ◌⊎◌, ℕ, zero, suc, �
 use Rattle.std.proofs.Common.{List, Option, Some, ap, arith, length, refl, sym, inl, inr, get_or}
 use Rattle.std.proofs.Common.{cond, if◌then◌else◌, mul-zero}
 use Rattle.std.specs.Prelude.{nat_lt, ◌==◌, slice_get, slice_set, unwrap_or, count_by}
+use Rattle.std.proofs.lemmas.Bool.{and_right, ne_eqb}
 use Rattle.std.proofs.lemmas.List.Sums.{sum_by-set}
 use Rattle.std.proofs.lemmas.Nat.{div-add-mod'}
 use Rattle.std.proofs.lemmas.Option.{slice_get_past}
-use Rattle.ufs_spec.proofs.Facts.{cases_eq, cases_lt, eq-eqb, eqb-self, lt-ltb}
+use Rattle.ufs_spec.proofs.Facts.{cases_eq, cases_lt, eq-eqb, eqb-self, le-ltb, lt-ltb}
 use Rattle.ufs_spec.proofs.Lists.{get_there, set_length, set_other, set_there}
 use Rattle.block_table.specs.Blocks.{Blocks, block_index}
 use Rattle.block_table.specs.Buckets.{Buckets, IsWord, Stands, bit, has, in_none, moved, with_bit, with_block, words_for}
@@ -14,7 +15,6 @@ use Rattle.block_table.specs.Sorted.{HasAll, IsSorted, IsWordOf, blocks_in, buck
 use Rattle.block_table.specs.declared.BlockState.{BlockState}
 use Rattle.block_table.specs.declared.BlockState.TheVariants as state
 use Rattle.block_table.specs.declared.Sizes.{Sizes}
-use Rattle.block_table.proofs.Words.{ge-ltb, ne-eqb}
 
 -- A list that is sorted into buckets
 
@@ -36,7 +36,7 @@ none_sorted b words states h = record {
   buckets_are = h.buckets_are;
   words_are = h.words_are;
   has_is = λ k p. h.has_is k p
-      ∙ sym (ap (λ (c : Bool). c && is_for k (slice_get states p)) (ge-ltb p 0 (omega arith)));
+      ∙ sym (ap (λ (c : Bool). c && is_for k (slice_get states p)) (le-ltb p 0 (omega arith)));
 }
 
 pub one_sorted : (b new : Buckets) (words n : ℕ) (states : List BlockState) (s : BlockState) →
@@ -53,7 +53,7 @@ one_sorted b new words n states s there old h = record {
       where
         less : (p < n) ⊎ (n ≤ p) → nat_lt p n ≡ nat_lt p (n + 1)
         less (inl l) = lt-ltb p n l ∙ sym (lt-ltb p (n + 1) (omega arith))
-        less (inr l) = ge-ltb p n l ∙ sym (ge-ltb p (n + 1) (further (order_of p n l)))
+        less (inr l) = le-ltb p n l ∙ sym (le-ltb p (n + 1) (further (order_of p n l)))
           where
             order_of : (p n : ℕ) → n ≤ p → (p ≡ n) ⊎ (n < p)
             order_of p n l = grind arith
@@ -70,17 +70,17 @@ one_sorted b new words n states s there old h = record {
         ∙ ap (is_for k) (ap (slice_get states) e ∙ there)
         ∙ eq-eqb (bucket_of s) k (sym f))
     by k p (inl e) (inr apart) =
-        ap (λ (c : Bool). if c && (p == n) then true else has b k p) (ne-eqb k (bucket_of s) apart)
+        ap (λ (c : Bool). if c && (p == n) then true else has b k p) (ne_eqb k (bucket_of s) apart)
         ∙ old.has_is k p
-        ∙ ap (λ (c : Bool). c && is_for k (slice_get states p)) (ge-ltb p n (omega arith))
+        ∙ ap (λ (c : Bool). c && is_for k (slice_get states p)) (le-ltb p n (omega arith))
         ∙ sym (ap (λ (c : Bool). c && is_for k (slice_get states p)) (lt-ltb p (n + 1) (omega arith))
         ∙ ap (is_for k) (ap (slice_get states) e ∙ there)
-        ∙ ne-eqb (bucket_of s) k (λ f. apart (sym f)))
+        ∙ ne_eqb (bucket_of s) k (λ f. apart (sym f)))
     by k p (inr apart) (inl f) =
-        (λ i. if eq-eqb k (bucket_of s) f i && ne-eqb p n apart i then true else has b k p)
+        (λ i. if eq-eqb k (bucket_of s) f i && ne_eqb p n apart i then true else has b k p)
         ∙ old.has_is k p ∙ beside k p apart
     by k p (inr apart) (inr other) =
-        ap (λ (c : Bool). if c && (p == n) then true else has b k p) (ne-eqb k (bucket_of s) other)
+        ap (λ (c : Bool). if c && (p == n) then true else has b k p) (ne_eqb k (bucket_of s) other)
         ∙ old.has_is k p ∙ beside k p apart
 
 pub all_sorted : (b : Buckets) (n words : ℕ) (states : List BlockState) → length states ≤ n →
@@ -94,7 +94,7 @@ all_sorted b n words states all h = record {
     by : (k p : ℕ) → (p < n) ⊎ (n ≤ p) → sorted_to n states k p ≡ is_for k (slice_get states p)
     by k p (inl l) = ap (λ (c : Bool). c && is_for k (slice_get states p)) (lt-ltb p n l)
     by k p (inr l) =
-        ap (λ (c : Bool). c && is_for k (slice_get states p)) (ge-ltb p n l)
+        ap (λ (c : Bool). c && is_for k (slice_get states p)) (le-ltb p n l)
         ∙ sym (ap (is_for k) (slice_get_past states p (omega arith)))
 
 -- A block that is so from now on
@@ -126,12 +126,12 @@ renumbered k had now = by (cases_eq k now) (cases_eq k had)
         ap (λ (c : Bool). if c then true else (if k == had then false else (had == k))) (eq-eqb k now e)
         ∙ sym (eq-eqb now k (sym e))
     by (inr apart) (inl f) =
-        (λ i. if ne-eqb k now apart i then true else (if eq-eqb k had f i then false else (had == k)))
-        ∙ sym (ne-eqb now k (λ e. apart (sym e)))
+        (λ i. if ne_eqb k now apart i then true else (if eq-eqb k had f i then false else (had == k)))
+        ∙ sym (ne_eqb now k (λ e. apart (sym e)))
     by (inr apart) (inr away) =
-        (λ i. if ne-eqb k now apart i then true else (if ne-eqb k had away i then false
-        else ne-eqb had k (λ e. away (sym e)) i))
-        ∙ sym (ne-eqb now k (λ e. apart (sym e)))
+        (λ i. if ne_eqb k now apart i then true else (if ne_eqb k had away i then false
+        else ne_eqb had k (λ e. away (sym e)) i))
+        ∙ sym (ne_eqb now k (λ e. apart (sym e)))
 
 -- what a block that is moved stands in, and what any other does
 pub moved_here : (test : ℕ → ℕ → Bool) (i from to k : ℕ) → test from i ≡ true →
@@ -145,14 +145,10 @@ moved_here test i from to k h =
     and_true true h = h
     and_true false h = refl
 
-pub and_no : (a : Bool) {b : Bool} → b ≡ false → (a && b) ≡ false
-and_no true h = h
-and_no false h = refl
-
 pub set_beside : (test : ℕ → ℕ → Bool) (bucket i k p : ℕ) (stands : Bool) → (p ≡ i → ⊥) →
     with_block test bucket i stands k p ≡ test k p
 set_beside test bucket i k p stands apart =
-    ap (λ (c : Bool). if c then stands else test k p) (and_no (k == bucket) (ne-eqb p i apart))
+    ap (λ (c : Bool). if c then stands else test k p) (and_right (k == bucket) _ (ne_eqb p i apart))
 
 pub moved_beside : (test : ℕ → ℕ → Bool) (i from to k p : ℕ) → (p ≡ i → ⊥) → moved test i from to k p ≡ test k p
 moved_beside test i from to k p apart =
@@ -242,7 +238,7 @@ word_more t n s number place word after index so l before at is bits j m inside 
         ∙ is
         ∙ ap (λ (i : ℕ). same_state (unwrap_or (slice_get t.states i) state.Bad) s) (index_is e)
     by (inr apart) =
-        ap (λ (c : Bool). if c then so else bit word j) (ne-eqb j place apart)
+        ap (λ (c : Bool). if c then so else bit word j) (ne_eqb j place apart)
         ∙ before j (further apart) inside
       where
         further : (j ≡ place → ⊥) → j < place

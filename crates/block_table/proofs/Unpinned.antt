@@ -3,10 +3,12 @@ use Rattle.std.proofs.Common.{◌≡◌, ◌∙◌, ◌⊎◌, ℕ, zero, suc, �
 use Rattle.std.proofs.Common.{List, Option, Some, ap, arith, length, refl, sym, subst, inl, inr, not, replicate}
 use Rattle.std.proofs.Common.{if◌then◌else◌}
 use Rattle.std.specs.Prelude.{nat_lt, ◌==◌, slice_get, slice_set, unwrap_or}
+use Rattle.std.proofs.Math.Bool.{and-true}
+use Rattle.std.proofs.lemmas.Bool.{and_right, ne_eqb}
 use Rattle.std.proofs.lemmas.List.{length-replicate}
 use Rattle.std.proofs.lemmas.Nat.{div-add-mod', div_below, mod_below}
 use Rattle.std.proofs.lemmas.Option.{slice_get_past}
-use Rattle.ufs_spec.proofs.Facts.{and_from, cases_Bool, cases_eq, cases_lt, eq-eqb, eqb-self, lt-ltb}
+use Rattle.ufs_spec.proofs.Facts.{and_from, cases_Bool, cases_eq, cases_lt, eq-eqb, eqb-self, le-ltb, lt-ltb}
 use Rattle.ufs_spec.proofs.Lists.{get_replicate, get_there, set_here, set_other, set_there}
 use Rattle.ufs_spec.specs.Disk.{Spot}
 use Rattle.block_table.specs.Buckets.{Buckets, Stands, has, in_first, moved, with_block}
@@ -16,8 +18,7 @@ use Rattle.block_table.specs.Probes.{spot_there}
 use Rattle.block_table.specs.Sorted.{blocks_in}
 use Rattle.block_table.specs.declared.Sizes.{Sizes}
 use Rattle.block_table.proofs.LiveCounts.{count_within, live_count_is, spot_inside}
-use Rattle.block_table.proofs.States.{and_no, moved_beside, moved_here, renumbered, set_beside, some_blocks}
-use Rattle.block_table.proofs.Words.{ge-ltb, ne-eqb}
+use Rattle.block_table.proofs.States.{moved_beside, moved_here, renumbered, set_beside, some_blocks}
 
 -- The block at a place
 
@@ -51,7 +52,7 @@ count_at_most l s = subst (λ (c : ℕ). c ≤ l.sizes.pages) (sym (live_count_i
 
 no_pin_is : (x : ℕ) → (x == 0) ≡ not (nat_lt 0 x)
 no_pin_is zero = refl
-no_pin_is (suc x) = ne-eqb (suc x) 0 (λ e. omega arith) ∙ sym (ap not (lt-ltb 0 (suc x) (omega arith)))
+no_pin_is (suc x) = ne_eqb (suc x) 0 (λ e. omega arith) ∙ sym (ap not (lt-ltb 0 (suc x) (omega arith)))
 
 pub no_pin_there : (l : Lives) (p : ℕ) → length l.pins ≡ blocks_in l.sizes → p < blocks_in l.sizes →
     has_no_pin l.pins p ≡ not (is_pinned l (spot_there l.sizes p))
@@ -71,10 +72,6 @@ no_pin_past pins p n whole l = ap (λ (o : Option ℕ). unwrap_or o 1 == 0) (sli
 
 -- After a page has changed
 
-and_false : (b : Bool) → (b && false) ≡ false
-and_false true = refl
-and_false false = refl
-
 -- the buckets are those of the counts and the pins, up to so many live pages
 abbrev pub AreUnpinned : Buckets → ℕ → List ℕ → List ℕ → Type 0
 AreUnpinned b pages counts pins =
@@ -90,11 +87,7 @@ moved_unpinned b new counts pins pages i from to old read few is k p l =
     stood k m = old k i m ∙ ap (λ (o : Option ℕ). has_no_pin pins i && (unwrap_or o 0 == k)) read
 
     stands : has b from i ≡ has_no_pin pins i
-    stands = stood from few ∙ ap (λ (c : Bool). has_no_pin pins i && c) (eqb-self from) ∙ and_true (has_no_pin pins i)
-      where
-        and_true : (c : Bool) → (c && true) ≡ c
-        and_true true = refl
-        and_true false = refl
+    stands = stood from few ∙ ap (λ (c : Bool). has_no_pin pins i && c) (eqb-self from) ∙ and-true (has_no_pin pins i)
 
     beside : (p ≡ i → ⊥) → has b k p ≡ is_unpinned_with (slice_set counts i to) pins k p
     beside apart =
@@ -144,18 +137,14 @@ set_unpinned b new counts pins pages i live count old read inside is k p l =
         with_block (has b) live i (count == 0) k p ≡ is_unpinned_with counts (slice_set pins i count) k p
     by (inl e) (inl f) =
         (λ j. if eq-eqb k live f j && eq-eqb p i e j then (count == 0) else has b k p)
-        ∙ sym (after e ∙ ap (λ (c : Bool). (count == 0) && c) (eq-eqb live k (sym f)) ∙ and_true (count == 0))
-      where
-        and_true : (c : Bool) → (c && true) ≡ c
-        and_true true = refl
-        and_true false = refl
+        ∙ sym (after e ∙ ap (λ (c : Bool). (count == 0) && c) (eq-eqb live k (sym f)) ∙ and-true (count == 0))
     by (inl e) (inr away) =
-        ap (λ (c : Bool). if c && (p == i) then (count == 0) else has b k p) (ne-eqb k live away)
+        ap (λ (c : Bool). if c && (p == i) then (count == 0) else has b k p) (ne_eqb k live away)
         ∙ ap (has b k) e
         ∙ old k i l
         ∙ ap (λ (o : Option ℕ). has_no_pin pins i && (unwrap_or o 0 == k)) read
-        ∙ and_no (has_no_pin pins i) (ne-eqb live k (λ f. away (sym f)))
-        ∙ sym (after e ∙ and_no (count == 0) (ne-eqb live k (λ f. away (sym f))))
+        ∙ and_right (has_no_pin pins i) _ (ne_eqb live k (λ f. away (sym f)))
+        ∙ sym (after e ∙ and_right (count == 0) _ (ne_eqb live k (λ f. away (sym f))))
     by (inr apart) other =
         set_beside (has b) live i k p (count == 0) apart
         ∙ old k p l
@@ -180,12 +169,9 @@ set_no_pin b new pins i count old inside is p = is 0 p ∙ by (cases_eq p i)
 
 -- At first
 
-turned_eqb : (a b : ℕ) → (a == b) ≡ (b == a)
-turned_eqb a b = by (cases_eq a b)
-  where
-    by : (a ≡ b) ⊎ (a ≡ b → ⊥) → (a == b) ≡ (b == a)
-    by (inl e) = eq-eqb a b e ∙ sym (eq-eqb b a (sym e))
-    by (inr apart) = ne-eqb a b apart ∙ sym (ne-eqb b a (λ e. apart (sym e)))
+turned : (n : ℕ) → (n == 0) ≡ (0 == n)
+turned zero = refl
+turned (suc n) = ne_eqb (suc n) 0 (λ e. omega arith) ∙ sym (ne_eqb 0 (suc n) (λ e. omega arith))
 
 pub new_no_pin : (n : ℕ) (pins : List ℕ) (b : Buckets) (buckets words : ℕ) → pins ≡ replicate n 0 →
     Stands b buckets words (in_first n) → (p : ℕ) → has b 0 p ≡ has_no_pin pins p
@@ -196,7 +182,7 @@ new_no_pin n pins b buckets words e h p = h.has_is 0 p ∙ by (cases_lt p n)
         lt-ltb p n l
         ∙ sym (ap (λ (o : Option ℕ). unwrap_or o 1 == 0) (ap (λ (xs : List ℕ). slice_get xs p) e ∙ get_replicate n p 0 l))
     by (inr l) =
-        ge-ltb p n l
+        le-ltb p n l
         ∙ sym (no_pin_past pins p n (ap length e ∙ length-replicate {A = ℕ} n 0) l)
 
 pub new_unpinned : (n pages : ℕ) (counts pins : List ℕ) (b : Buckets) (buckets words : ℕ) → counts ≡ replicate n 0 →
@@ -206,16 +192,12 @@ new_unpinned n pages counts pins b buckets words e f h k p few = h.has_is k p �
     by : (p < n) ⊎ (n ≤ p) → in_first n k p ≡ is_unpinned_with counts pins k p
     by (inl l) =
         ap (λ (c : Bool). (k == 0) && c) (lt-ltb p n l)
-        ∙ and_true (k == 0)
-        ∙ turned_eqb k 0
+        ∙ and-true (k == 0)
+        ∙ turned k
         ∙ sym (ap (λ (o : Option ℕ). (unwrap_or o 1 == 0) && (unwrap_or (slice_get counts p) 0 == k))
         (ap (λ (xs : List ℕ). slice_get xs p) f ∙ get_replicate n p 0 l)
         ∙ ap (λ (o : Option ℕ). unwrap_or o 0 == k) (ap (λ (xs : List ℕ). slice_get xs p) e ∙ get_replicate n p 0 l))
-      where
-        and_true : (c : Bool) → (c && true) ≡ c
-        and_true true = refl
-        and_true false = refl
     by (inr l) =
-        and_no (k == 0) (ge-ltb p n l)
+        and_right (k == 0) _ (le-ltb p n l)
         ∙ sym (ap (λ (c : Bool). c && (unwrap_or (slice_get counts p) 0 == k))
         (no_pin_past pins p n (ap length f ∙ length-replicate {A = ℕ} n 0) l))

@@ -1,18 +1,18 @@
--- Blocks that may be collected, word by word and bucket by bucket, and how many probes that takes.
+-- Blocks that may be collected, word by word, and bad blocks that hold live pages.
 use Rattle.std.proofs.Common.{◌≡◌, ◌∙◌, ◌⊎◌, ℕ, zero, suc, ◌+◌, ◌-◌, ◌*◌, ◌/◌, ◌%◌, ◌^◌, ◌<◌, ◌≤◌, ◌&&◌, ◌||◌, Bool}
-use Rattle.std.proofs.Common.{true, false, cond, List, [], ◌∷◌, ◌++◌, Some, ap, arith, length, refl, sym, subst}
-use Rattle.std.proofs.Common.{add-one, inl, inr, not}
-use Rattle.std.specs.Prelude.{nat_lt, ◌==◌, slice_get, unwrap_or, count_by, map, bit_or, bit_and}
+use Rattle.std.proofs.Common.{true, false, List, [], ◌∷◌, ◌++◌, ap, arith, length, refl, sym}
+use Rattle.std.proofs.Common.{inl, inr, not}
+use Rattle.std.specs.Prelude.{nat_lt, ◌==◌, slice_get, unwrap_or, map, bit_or, bit_and}
 use Rattle.std.specs.Int.{bit_not, trailing_zeros, w64}
-use Rattle.std.specs.List.{flat_map, list_any, sum_by}
-use Rattle.std.proofs.Math.Nat.{mul_comm}
+use Rattle.std.specs.List.{flat_map, list_any}
+use Rattle.std.proofs.Math.Bool.{and-false}
+use Rattle.std.proofs.lemmas.Bool.{ne_eqb}
 use Rattle.std.proofs.lemmas.Grind.{flat_map-append}
 use Rattle.std.proofs.lemmas.List.{append-nil, map-append}
 use Rattle.std.proofs.lemmas.List.Folds.{list_any-append}
-use Rattle.std.proofs.lemmas.List.Sums.{sum_by_push}
-use Rattle.std.proofs.lemmas.Nat.{div-mul-add, mod-mul-add, mul-add-lt}
-use Rattle.ufs_spec.proofs.Facts.{and_from, and_parts, cases_lt, eq-eqb, eqb-true, false≢true}
-use Rattle.ufs_spec.proofs.Facts.{lt-ltb, ltb-true, or_left, or_right}
+use Rattle.std.proofs.lemmas.Nat.{div-mul-add, mod-mul-add}
+use Rattle.ufs_spec.proofs.Facts.{and_parts, cases_lt, eqb-true}
+use Rattle.ufs_spec.proofs.Facts.{le-ltb, lt-ltb, ltb-true, or_left, or_right}
 use Rattle.ufs_spec.specs.Disk.{Spot}
 use Rattle.ufs_spec.specs.Keys.{below}
 use Rattle.block_table.specs.Blocks.{Blocks, is_bad, state_of}
@@ -20,33 +20,19 @@ use Rattle.block_table.specs.Buckets.{Buckets, IsLowest, IsWord, bit, has, words
 use Rattle.block_table.specs.LiveRooms.{AreCounted, has_no_pin, is_unpinned_with}
 use Rattle.block_table.specs.Lives.{Lives, block_place, gains, has_block, is_bad_with_live, is_pinned, live_count}
 use Rattle.block_table.specs.Lives.{may_be_victim, spot, spots_in, spots_of_die}
-use Rattle.block_table.specs.Probes.{has_unpinned, is_bad_at, is_unpinned_of, is_victim_at, most_probes}
-use Rattle.block_table.specs.Probes.{spot_there, word_probes}
+use Rattle.block_table.specs.Probes.{is_bad_at, is_victim_at}
+use Rattle.block_table.specs.Probes.{spot_there}
 use Rattle.block_table.specs.Sorted.{IsWordOf, blocks_in, same_state, state_there}
-use Rattle.block_table.specs.Victims.{CanBeVictim, IsBefore, IsNoVictim, IsVictim}
 use Rattle.block_table.specs.declared.BlockState.{BlockState}
 use Rattle.block_table.specs.declared.BlockState.TheVariants as state
 use Rattle.block_table.specs.declared.Sizes.{Sizes}
-use Rattle.block_table.proofs.LiveCounts.{order, spot_inside}
+use Rattle.block_table.proofs.LiveCounts.{spot_inside}
 use Rattle.block_table.proofs.Relations.{any_same}
-use Rattle.block_table.proofs.Searches.{can_shown, can_told}
-use Rattle.block_table.proofs.Unpinned.{AreUnpinned, count_at_most, counted_there, no_pin_past, no_pin_there, place_there}
+use Rattle.block_table.proofs.Unpinned.{AreUnpinned, counted_there, no_pin_past, no_pin_there}
 use Rattle.block_table.proofs.Unpinned.{spot_block, spot_die}
-use Rattle.block_table.proofs.Words.{bit_both, bit_some, bit_turned, ge-ltb, lowest_is, ne-eqb}
+use Rattle.block_table.proofs.WordBits.{bit_both, bit_some, bit_turned, lowest_is}
 
 -- One block
-
-and_true : (a : Bool) → (a && true) ≡ a
-and_true true = refl
-and_true false = refl
-
-or_false : (a : Bool) → (a || false) ≡ a
-or_false true = refl
-or_false false = refl
-
-and_false : (a : Bool) → (a && false) ≡ false
-and_false true = refl
-and_false false = refl
 
 -- the block without a pin and with so many live pages, by its place
 pub unpinned_is : (l : Lives) (counts : List ℕ) (k p : ℕ) → AreCounted l counts → length l.pins ≡ blocks_in l.sizes →
@@ -56,7 +42,7 @@ pub unpinned_is : (l : Lives) (counts : List ℕ) (k p : ℕ) → AreCounted l c
 unpinned_is l counts k p kept whole inside = λ i.
     no_pin_there l p whole inside i && (unwrap_or (counted_there l counts p kept inside i) 0 == k)
 
-unpinned_past : (l : Lives) (counts : List ℕ) (k p : ℕ) → length l.pins ≡ blocks_in l.sizes → blocks_in l.sizes ≤ p →
+pub unpinned_past : (l : Lives) (counts : List ℕ) (k p : ℕ) → length l.pins ≡ blocks_in l.sizes → blocks_in l.sizes ≤ p →
     is_unpinned_with counts l.pins k p ≡ false
 unpinned_past l counts k p whole out =
     ap (λ (c : Bool). c && (unwrap_or (slice_get counts p) 0 == k)) (no_pin_past l.pins p (blocks_in l.sizes) whole out)
@@ -163,7 +149,7 @@ victim_bits l t counts b count number closed bad gc gb stand few whole kept old 
         ap (λ (u : Bool). u && ((nat_lt count l.sizes.pages && bit closed j) || (nat_lt 0 count && bit bad j)))
         (unpinned_past l counts count p whole out)
         ∙ sym (ap (λ (c : Bool). c && ((live_count l s == count) && may_be_victim l t s))
-        (ge-ltb p (blocks_in l.sizes) out))
+        (le-ltb p (blocks_in l.sizes) out))
 
 -- the bad blocks without a pin that hold live pages
 pub bad_bits : (l : Lives) (t : Blocks) (counts : List ℕ) (b one : Buckets) (number bad free none : ℕ) →
@@ -194,7 +180,7 @@ bad_bits l t counts b one number bad free none whole kept old unpinned fits is_b
     three true false x = refl
     three true true zero = refl
     three true true (suc x) =
-        ap not (ne-eqb (suc x) 0 (λ e. omega arith)) ∙ sym (lt-ltb 0 (suc x) (omega arith))
+        ap not (ne_eqb (suc x) 0 (λ e. omega arith)) ∙ sym (lt-ltb 0 (suc x) (omega arith))
 
     by : (p < blocks_in l.sizes) ⊎ (blocks_in l.sizes ≤ p) →
         ((bit bad j && has_no_pin l.pins p) && not (is_unpinned_with counts l.pins 0 p)) ≡ is_bad_at l t p
@@ -206,8 +192,8 @@ bad_bits l t counts b one number bad free none whole kept old unpinned fits is_b
     by (inr out) =
         ap (λ (c : Bool). (bit bad j && c) && not (is_unpinned_with counts l.pins 0 p))
         (no_pin_past l.pins p (blocks_in l.sizes) whole out)
-        ∙ ap (λ (c : Bool). c && not (is_unpinned_with counts l.pins 0 p)) (and_false (bit bad j))
-        ∙ sym (ap (λ (c : Bool). c && is_bad_with_live l t s) (ge-ltb p (blocks_in l.sizes) out))
+        ∙ ap (λ (c : Bool). c && not (is_unpinned_with counts l.pins 0 p)) (and-false (bit bad j))
+        ∙ sym (ap (λ (c : Bool). c && is_bad_with_live l t s) (le-ltb p (blocks_in l.sizes) out))
 
 -- one word more
 pub word_passed : (test : ℕ → Bool) (number word : ℕ) → IsWord test number word → ((j : ℕ) → bit word j ≡ false) →
@@ -252,7 +238,7 @@ no_victim_left l t count number over before p = by (cases_lt p (blocks_in l.size
     by : (p < blocks_in l.sizes) ⊎ (blocks_in l.sizes ≤ p) → is_victim_at l t count p ≡ false
     by (inl m) = before p (words_over (blocks_in l.sizes) number over p m)
     by (inr m) = ap (λ (c : Bool). c && ((live_count l (spot_there l.sizes p) == count)
-        && may_be_victim l t (spot_there l.sizes p))) (ge-ltb p (blocks_in l.sizes) m)
+        && may_be_victim l t (spot_there l.sizes p))) (le-ltb p (blocks_in l.sizes) m)
 
 -- Some block of all
 
@@ -336,151 +322,3 @@ bad_none l t number over before =
     sym (none_there (is_bad_with_live l t) l.sizes (λ p m.
     sym (ap (λ (c : Bool). c && is_bad_with_live l t (spot_there l.sizes p)) (lt-ltb p (blocks_in l.sizes) m))
     ∙ before p (words_over (blocks_in l.sizes) number over p m)))
-
--- Buckets
-
--- no block that does not stand in the bucket may be collected
-pub empty_none : (l : Lives) (t : Blocks) (counts : List ℕ) (b : Buckets) (count : ℕ) → count ≤ l.sizes.pages →
-    length l.pins ≡ blocks_in l.sizes → AreCounted l counts → AreUnpinned b l.sizes.pages counts l.pins →
-    (p : ℕ) → has b count p ≡ false → is_victim_at l t count p ≡ false
-empty_none l t counts b count few whole kept old p empty = by (cases_lt p (blocks_in l.sizes))
-  where
-    s : Spot
-    s = spot_there l.sizes p
-
-    none : (n c g : Bool) → (n && c) ≡ false → (c && (n && g)) ≡ false
-    none true true g h = absurd (false≢true (sym h))
-    none true false g h = refl
-    none false true g h = refl
-    none false false g h = refl
-
-    by : (p < blocks_in l.sizes) ⊎ (blocks_in l.sizes ≤ p) → is_victim_at l t count p ≡ false
-    by (inl inside) =
-        ap (λ (c : Bool). c && ((live_count l s == count) && may_be_victim l t s)) (lt-ltb p (blocks_in l.sizes) inside)
-        ∙ none (not (is_pinned l s)) (live_count l s == count) (gains l s (state_of t s.die s.block))
-        (sym (unpinned_is l counts count p kept whole inside) ∙ sym (old count p few) ∙ empty)
-    by (inr out) =
-        ap (λ (c : Bool). c && ((live_count l s == count) && may_be_victim l t s)) (ge-ltb p (blocks_in l.sizes) out)
-
--- one that does has no pin
-pub held_there : (l : Lives) (counts : List ℕ) (b : Buckets) (count p : ℕ) → count ≤ l.sizes.pages →
-    length l.pins ≡ blocks_in l.sizes → AreCounted l counts → AreUnpinned b l.sizes.pages counts l.pins →
-    has b count p ≡ true → (p < blocks_in l.sizes) × (is_unpinned_of l count (spot_there l.sizes p) ≡ true)
-held_there l counts b count p few whole kept old h = by (cases_lt p (blocks_in l.sizes))
-  where
-    by : (p < blocks_in l.sizes) ⊎ (blocks_in l.sizes ≤ p) →
-        (p < blocks_in l.sizes) × (is_unpinned_of l count (spot_there l.sizes p) ≡ true)
-    by (inl inside) =
-        (inside, sym (unpinned_is l counts count p kept whole inside) ∙ sym (old count p few) ∙ h)
-    by (inr out) = absurd (false≢true (sym (unpinned_past l counts count p whole out) ∙ sym (old count p few) ∙ h))
-
--- so a bucket that is not empty has a block without a pin
-pub held_unpinned : (l : Lives) (counts : List ℕ) (b : Buckets) (count : ℕ) → count ≤ l.sizes.pages →
-    length l.pins ≡ blocks_in l.sizes → AreCounted l counts → AreUnpinned b l.sizes.pages counts l.pins →
-    (p : ℕ) × (has b count p ≡ true) → has_unpinned l count ≡ true
-held_unpinned l counts b count few whole kept old (p, h) =
-    let u = held_there l counts b count p few whole kept old h in
-    any_there (is_unpinned_of l count) l.sizes p u.0 u.1
-
--- Victims
-
-at_place : {l : Lives} {t : Blocks} (s : Spot) → CanBeVictim l t s →
-    is_victim_at l t (live_count l s) (block_place l.sizes s) ≡ true
-at_place {l} {t} s can =
-    and_from (nat_lt (block_place l.sizes s) (blocks_in l.sizes))
-    ((live_count l (spot_there l.sizes (block_place l.sizes s)) == live_count l s)
-    && may_be_victim l t (spot_there l.sizes (block_place l.sizes s)))
-    (lt-ltb (block_place l.sizes s) (blocks_in l.sizes) (spot_inside l.sizes s can.inside))
-    (and_from (live_count l (spot_there l.sizes (block_place l.sizes s)) == live_count l s)
-    (may_be_victim l t (spot_there l.sizes (block_place l.sizes s)))
-    (eq-eqb (live_count l (spot_there l.sizes (block_place l.sizes s))) (live_count l s)
-    (ap (live_count l) (spot_placed l.sizes s can.inside)))
-    (ap (may_be_victim l t) (spot_placed l.sizes s can.inside) ∙ (can_told can).1))
-
--- no block with at most so many live pages may be collected
-pub none_more : (l : Lives) (t : Blocks) (count : ℕ) → ((s : Spot) → CanBeVictim l t s → count ≤ live_count l s) →
-    ((p : ℕ) → is_victim_at l t count p ≡ false) → (s : Spot) → CanBeVictim l t s → count + 1 ≤ live_count l s
-none_more l t count before none s can = by (order count (live_count l s))
-  where
-    by : (count < live_count l s) ⊎ ((count ≡ live_count l s) ⊎ (live_count l s < count)) → count + 1 ≤ live_count l s
-    by (inl m) = omega arith
-    by (inr (inl e)) = absurd (false≢true (sym (none (block_place l.sizes s))
-        ∙ ap (λ (c : ℕ). is_victim_at l t c (block_place l.sizes s)) e ∙ at_place s can))
-    by (inr (inr m)) = let h = before s can in absurd (omega arith)
-
-pub none_left : (l : Lives) (t : Blocks) (count : ℕ) → l.sizes.pages + 1 ≤ count →
-    ((s : Spot) → CanBeVictim l t s → count ≤ live_count l s) → IsNoVictim l t
-none_left l t count over before s can =
-    let h = before s can in
-    let k = count_at_most l s in
-    omega arith
-
--- blocks are counted in the order of their places
-place_before : (n : Sizes) (a b : Spot) → has_block n a ≡ true → has_block n b ≡ true → IsBefore a b →
-    block_place n a < block_place n b
-place_before n a b h k (inl m) =
-    let u = ltb-true a.block n.blocks (and_parts (nat_lt a.die n.dies) (nat_lt a.block n.blocks) h).1 in
-    let r = mul-add-lt a.die n.blocks a.block b.die m u in
-    let e = mul_comm n.blocks b.die in
-    omega arith
-place_before n a b h k (inr (e, m)) =
-    let f : a.die * n.blocks ≡ b.die * n.blocks = ap (λ (d : ℕ). d * n.blocks) e in
-    omega arith
-
--- the first block of the least number of live pages is the victim
-pub first_is : (l : Lives) (t : Blocks) (count p : ℕ) → ((s : Spot) → CanBeVictim l t s → count ≤ live_count l s) →
-    IsLowest (is_victim_at l t count) p →
-    IsVictim l t (spot_there l.sizes p) × (live_count l (spot_there l.sizes p) ≡ count) × (p < blocks_in l.sizes)
-first_is l t count p before first = (
-  record {
-    can = can;
-    least = λ a q. subst (λ (c : ℕ). c ≤ live_count l a) (sym count_is) (before a q);
-    lowest = λ a q same w. false≢true (sym (first.below (block_place l.sizes a) (earlier a q w))
-        ∙ ap (λ (c : ℕ). is_victim_at l t c (block_place l.sizes a)) (sym (same ∙ count_is)) ∙ at_place a q);
-  },
-  count_is,
-  inside,
-)
-  where
-    s : Spot
-    s = spot_there l.sizes p
-
-    parts : (nat_lt p (blocks_in l.sizes) ≡ true) × (((live_count l s == count) && may_be_victim l t s) ≡ true)
-    parts = and_parts (nat_lt p (blocks_in l.sizes)) ((live_count l s == count) && may_be_victim l t s) first.passes
-
-    inner : ((live_count l s == count) ≡ true) × (may_be_victim l t s ≡ true)
-    inner = and_parts (live_count l s == count) (may_be_victim l t s) parts.1
-
-    inside : p < blocks_in l.sizes
-    inside = ltb-true p (blocks_in l.sizes) parts.0
-
-    count_is : live_count l s ≡ count
-    count_is = eqb-true (live_count l s) count inner.0
-
-    can : CanBeVictim l t s
-    can = can_shown ((spot_block l.sizes p inside, inl (spot_die l.sizes p inside)), inner.1)
-
-    earlier : (a : Spot) → CanBeVictim l t a → IsBefore a s → block_place l.sizes a < p
-    earlier a q w = subst (λ (k : ℕ). block_place l.sizes a < k) (place_there l.sizes p)
-        (place_before l.sizes a s q.inside can.inside w)
-
--- Probes
-
-pub one_more : (f : ℕ → Bool) (n : ℕ) → count_by f (below (n + 1)) ≡ count_by f (below n) + cond (f n) 1 0
-one_more f n = ap (λ (k : ℕ). count_by f (below k)) (add-one n) ∙ sum_by_push (λ k. cond (f k) 1 0) (below n) n
-
--- the probes of one bucket more
-pub probes_more : (f : ℕ → ℕ) (count i x y : ℕ) → x ≤ i + (count + sum_by f (below count)) → y ≤ x + 1 + f count →
-    y ≤ i + (count + 1 + sum_by f (below (count + 1)))
-probes_more f count i x y h k =
-    let e : sum_by f (below (count + 1)) ≡ sum_by f (below count) + f count =
-    ap (λ (n : ℕ). sum_by f (below n)) (add-one count) ∙ sum_by_push f (below count) count in
-    omega arith
-
--- and those of the buckets up to the victim's
-pub probes_with : (l : Lives) (s : Spot) (count i x y : ℕ) → live_count l s ≡ count →
-    x ≤ i + (count + sum_by (word_probes l) (below count)) → y ≤ x + 1 + word_probes l count →
-    y ≤ i + most_probes l (Some s)
-probes_with l s count i x y e h k =
-    subst (λ (c : ℕ). y ≤ i + (c + 1 + sum_by (word_probes l) (below (c + 1)))) (sym e)
-    (probes_more (word_probes l) count i x y h k)

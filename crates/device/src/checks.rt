@@ -17,7 +17,7 @@ ghost use Rattle.ufs_spec.specs.Keys.{data_key};
 ghost use Rattle.ufs_spec.specs.declared.configs.Numbers.{Numbers};
 ghost use Rattle.ftl_core.specs.Public.{Describes as IsLayer};
 ghost use Rattle.device.specs.Bare.{IsBare};
-ghost use Rattle.device.specs.Plans.{IsOfRegion, IsPlanned, IsRequest, data_plan, identity_of, lines_now};
+ghost use Rattle.device.specs.Plans.{IsPlanned, IsRequest, data_plan, identity_of, lines_now};
 ghost use Rattle.device.specs.Plans.{list_plan, plan_of, read_plan, tell_plan, write_plan};
 ghost use Rattle.task_set.specs.Tasks.{status_kept};
 
@@ -347,11 +347,11 @@ impl Device {
             todo ≡ plan_of (numbers_of s) target expected cdb.now) }
         ensures passed { IsOk result → (s : State) (r : Request) → IsLayer self.now.ftl s.translation →
             IsBare s self.now → unit_numbers_of s r ≡ target.spec → r.flags ≡ flags →
-            r.expected ≡ expected → IsOfRegion cdb.now →
+            r.expected ≡ expected →
             first_line (lines_for s r cdb.now) ≡ None }
         ensures refused { IfErr result (λ told. (s : State) (r : Request) → IsLayer self.now.ftl s.translation →
             IsBare s self.now → unit_numbers_of s r ≡ target.spec → r.flags ≡ flags →
-            r.expected ≡ expected → IsOfRegion cdb.now →
+            r.expected ≡ expected →
             first_line (lines_for s r cdb.now) ≡ Some (status_kept told)) }
     {
         match self.refusal(target.spec, flags, expected, cdb) {
@@ -364,7 +364,7 @@ impl Device {
     fn refusal(&self, unit: Option<UnitSpec>, flags: u8, expected: u32, cdb: &Cdb) -> Option<Status>
         ensures what { (s : State) (r : Request) → IsLayer self.now.ftl s.translation →
             IsBare s self.now → unit_numbers_of s r ≡ unit → r.flags ≡ flags →
-            r.expected ≡ expected → IsOfRegion cdb.now →
+            r.expected ≡ expected →
             first_line (lines_for s r cdb.now) ≡ option_map status_kept result }
         ensures few { result ≡ None → blocks_of cdb.now ≤ greatest_command }
     {
@@ -398,7 +398,6 @@ impl Device {
     /// The same by what the device is now.
     fn refusal_now(&self, unit: Option<UnitSpec>, cdb: &Cdb) -> Option<Status>
         ensures { (s : State) → IsLayer self.now.ftl s.translation → IsBare s self.now →
-            IsOfRegion cdb.now →
             first_line (lines_now s unit cdb.now) ≡ option_map status_kept result }
     {
         if self.is_too_early(cdb) {

@@ -1,7 +1,7 @@
 -- What entries may make of a plain state: its settings, and all else of it.
 use Rattle.std.proofs.Common.{◌≡◌, ◌∙◌, ◌∷◌, ◌==◌, ◌||◌, ◌<◌, ◌+◌, ℕ, zero, suc, Bool, true, false, List, [], ap, refl}
 use Rattle.std.proofs.Common.{sym, subst, fold, take, length, get_or, arith, inl, inr}
-use Rattle.std.proofs.lemmas.Bool.{eq-eqb, eqb-true, false≢true}
+use Rattle.std.proofs.lemmas.Bool.{eq-eqb, eqb-true, false≢true, or_left, or_right}
 use Rattle.ufs_spec.specs.Commands.{RpmbWrite, SetBoot, SetKey, SetPermanent, Write, Zero}
 use Rattle.ufs_spec.specs.Plain.{Plain, apply}
 use Rattle.journal.specs.Entries.{Accepted, CanCome, CanFollow, Doubted, IsAfter, Noted, Refused, boot_shown}
@@ -64,13 +64,6 @@ boot_after b shown es = fold (boot_shown b) shown es
 -- the same for fPermanentWPEn
 abbrev pub permanent_after : Bool → Bool → List Noted → Bool
 permanent_after f shown es = fold (permanent_shown f) shown es
-
-or_left : (s t : Bool) → s ≡ true → (s || t) ≡ true
-or_left s t e = rw e refl
-
-or_right : (s t : Bool) → t ≡ true → (s || t) ≡ true
-or_right true t e = refl
-or_right false t e = e
 
 or_more : (s t x : Bool) → (s ≡ true → t ≡ true) → (s || x) ≡ true → (t || x) ≡ true
 or_more true t x h e = or_left t x (h refl)

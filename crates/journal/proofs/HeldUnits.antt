@@ -3,7 +3,7 @@ use Rattle.std.proofs.Common.{◌≡◌, ℕ, ◌+◌, ◌<◌, ◌≤◌, List,
 use Rattle.std.proofs.Common.{slice_set, sym, ap, ◌∙◌, refl, arith, append_assoc, drop-cons, suc}
 use Rattle.std.proofs.Common.{Option, None, Some, Bool, ◌==◌, false, if◌then◌else◌, is_some, true}
 use Rattle.std.specs.Prelude.{IfSome}
-use Rattle.std.proofs.lemmas.Bool.{false≢true}
+use Rattle.std.proofs.lemmas.Bool.{false≢true, ne_eqb}
 use Rattle.std.proofs.Math.ListN.{set}
 use Rattle.std.proofs.lemmas.Grind.{common_steps}
 use Rattle.std.proofs.lemmas.List.{append-nil, drop_all, get_or-map, get_or-set_same, length-map, set-get_or}
@@ -15,7 +15,7 @@ use Rattle.ufs_spec.specs.Rpmb.{Region}
 use Rattle.std.specs.declared.vec.Vec.{Vec}
 use Rattle.ufs_spec.specs.declared.configs.Numbers.{Numbers}
 use Rattle.ufs_spec.specs.declared.configs.UnitSpec.{UnitSpec}
-use Rattle.ufs_spec.proofs.Facts.{cond-false, cond-true, eq-eqb, eqb-true, false_from_ne_true}
+use Rattle.ufs_spec.proofs.Facts.{cond-false, cond-true, eq-eqb}
 use Rattle.ufs_spec.proofs.PlainFacts.{new_area, one_part}
 use Rattle.journal.specs.Shown.{AreAreas, AreUnits, IsArea, area_found, holding_regions, region_found, region_held}
 use Rattle.journal.specs.Shown.{regions_held}
@@ -56,10 +56,6 @@ fill_next {X} new old i d front = grind (arith, common_steps)
 some_of : (x : ℕ) → (x == 0) ≡ false → 0 < x
 some_of ℕ.zero e = absurd (false≢true (sym e))
 some_of (suc x) e = omega arith
-
--- and the other way round
-none_is : (x : ℕ) → 0 < x → (x == 0) ≡ false
-none_is x some = false_from_ne_true (x == 0) (λ e. absurd (omega (arith, eqb-true x 0 e, some)))
 
 -- setting twice is setting once
 set_twice : {X : Type 0} (xs : List X) (i : ℕ) (x y : X) → set (set xs i x) i y ≡ set xs i y
@@ -217,7 +213,7 @@ pub held_found : (n : Numbers) (number : ℕ) (r : FoundRegion) → 0 < area_len
     region_held n number r ≡ region_found n number r
 held_found n number r some =
     cond-false (area_len n number == 0) (new_region n number) (region_found n number r)
-    (none_is (area_len n number) some)
+    (ne_eqb (area_len n number) 0 (λ e. omega (arith, e, some)))
 
 pub held_new : (n : Numbers) (number : ℕ) (r : FoundRegion) → area_len n number ≤ 0 →
     region_held n number r ≡ new_region n number

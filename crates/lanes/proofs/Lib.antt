@@ -9,6 +9,7 @@ pub mod Moves
 pub mod Opened
 pub mod Promises
 pub mod Served
+pub mod TaggedMessages
 pub mod Telling
 pub mod Vectors
 pub mod Waited

@@ -1,6 +1,7 @@
 pub mod RoomForAMending
 pub mod BlocksOneByOne
 pub mod SinceTheOpening
+pub mod MovesSinceTheOpening
 pub mod ThinnerCells
 pub mod StopsOfAMending
 pub mod WithoutFailures

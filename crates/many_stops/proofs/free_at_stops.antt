@@ -1,4 +1,6 @@
 pub mod BeforeAnyStep
 pub mod FreeAtStops
+pub mod FreeAndStale
+pub mod JobsKeepFree
 pub mod MovesKeepFree
 pub mod OneStaleBlock

@@ -2,6 +2,7 @@
 use Rattle.std.proofs.Common.{◌≡◌, ◌≢◌, ◌∙◌, ℕ, ◌+◌, ◌<◌, ◌==◌, Bool, true, false, ◌&&◌, not, cond, List, [], ◌∷◌}
 use Rattle.std.proofs.Common.{ap, arith, drop, map, refl, subst, sym, take, None, Some}
 use Rattle.std.specs.Prelude.{count_by, filter, find, fold, if◌then◌else◌}
+use Rattle.std.proofs.lemmas.Bool.{and_right}
 use Rattle.std.proofs.lemmas.List.Sums.{sum_by-cons}
 use Rattle.ufs_spec.proofs.Facts.{eqb-self, eqb-true, false≢true, true≢false}
 use Rattle.ufs_spec.specs.declared.layer.Looked.{Looked}
@@ -62,10 +63,6 @@ differ a b ne = by (a == b) refl
     by true e = absurd (ne (eqb-true a b e))
     by false e = refl
 
-and_none : (a b : Bool) → b ≡ false → (a && b) ≡ false
-and_none true b e = e
-and_none false b e = refl
-
 -- a row has no pin of another reader
 pub other_pins : (reader other index from next : ℕ) (ps : List Pin) → reader ≢ other → Rises reader from next ps →
     NoneOf (is_pin_of other index) ps
@@ -90,7 +87,7 @@ pub passed_pins : (reader of index from next : ℕ) (ps : List Pin) → index < 
 passed_pins reader of index from next [] less rises = tt
 passed_pins reader of index from next (p ∷ ps) less rises =
     let there = rises.1.0 in (
-      and_none (p.reader == of) (p.index == index) (differ p.index index (omega (arith, there, less))),
+      and_right (p.reader == of) (p.index == index) (differ p.index index (omega (arith, there, less))),
       passed_pins reader of index (p.index + 1) next ps (omega (arith, there, less)) rises.1.1,
     )
 

@@ -1,30 +1,18 @@
 -- Whether two MACs are the same, and where the MAC of a request is.
-use Rattle.std.proofs.Common.{◌≡◌, ◌↔◌, ◌∙◌, ◌==◌, ℕ, ◌-◌, Bool, true, false, IsTrue, List, [], ◌∷◌, Some, ap, arith}
+use Rattle.std.proofs.Common.{◌≡◌, ◌↔◌, ◌∙◌, ℕ, ◌-◌, Bool, true, false, IsTrue, List, [], ◌∷◌, Some, ap, arith}
 use Rattle.std.proofs.Common.{length, map, not, option_map, refl, slice_get, subst, sym}
-use Rattle.std.proofs.lemmas.Bool.{and_parts, eq-eqb, eqb-true, false≢true}
+use Rattle.std.proofs.lemmas.Bool.{false≢true}
 use Rattle.std.proofs.lemmas.List.{length-map}
 use Rattle.std.proofs.lemmas.Option.{same_Some, slice_get-map}
+use Rattle.ufs_laws.proofs.rpmb_frames.AcceptedWrites.{same_refl}
+use Rattle.ufs_laws.proofs.rpmb_frames.RightWrites.{equal_bytes}
 use Rattle.ufs_spec.specs.Frames.{Frame, frame_in}
 use Rattle.ufs_spec.specs.Rpmb.{frames_mac, has_wrong_mac, last_mac, same_bytes}
-
-same_refl : (xs : List ℕ) → same_bytes xs xs ≡ true
-same_refl [] = refl
-same_refl (x ∷ xs) = rw (eq-eqb x x refl, same_refl xs) refl
-
-same_lists : (xs ys : List ℕ) → same_bytes xs ys ≡ true → xs ≡ ys
-same_lists [] [] e = refl
-same_lists (x ∷ xs) [] e = cc
-same_lists [] (y ∷ ys) e = cc
-same_lists (x ∷ xs) (y ∷ ys) e =
-    let parts = and_parts (x == y) (same_bytes xs ys) e in
-    let first = eqb-true x y parts.0 in
-    let more = same_lists xs ys parts.1 in
-    cc
 
 -- what tells whether two lists are equal is what the definition says of their bytes
 pub same_told : (xs ys : List ℕ) (told : Bool) → (IsTrue told ↔ (xs ≡ ys)) → told ≡ same_bytes xs ys
 same_told xs ys true is = sym (subst (λ (zs : List ℕ). same_bytes xs zs ≡ true) (is.0 refl) (same_refl xs))
-same_told xs ys false is = sym (false_unless (same_bytes xs ys) (λ e. false≢true (is.1 (same_lists xs ys e))))
+same_told xs ys false is = sym (false_unless (same_bytes xs ys) (λ e. false≢true (is.1 (equal_bytes xs ys e))))
   where
     false_unless : (b : Bool) → (b ≡ true → ⊥) → b ≡ false
     false_unless true none = absurd (none refl)

@@ -1,20 +1,17 @@
 -- The data of all frames, one after another.
-use Rattle.std.proofs.Common.{◌≡◌, ◌∙◌, ℕ, zero, suc, ◌+◌, ◌<◌, ◌≤◌, ◌/◌, List, [], ◌++◌, ap, arith, drop, get_or, length, map}
-use Rattle.std.proofs.Common.{refl, sym, take}
+use Rattle.std.proofs.Common.{◌≡◌, ◌∙◌, ℕ, ◌+◌, ◌<◌, ◌≤◌, ◌/◌, List, [], ◌++◌, ap, arith, get_or, length, map}
+use Rattle.std.proofs.Common.{sym, take}
 use Rattle.std.specs.Prelude.{IsOk, OnOk, Result, Ok, Err}
 use Rattle.std.proofs.lemmas.Bool.{false≢true}
 use Rattle.std.proofs.lemmas.List.{flat_map_more, length-map, map_more}
-use Rattle.ufs_spec.specs.Frames.{Frame, frame_in, frames_in}
+use Rattle.ufs_laws.proofs.rpmb_frames.FramesRead.{length-frames_in}
+use Rattle.ufs_spec.specs.Frames.{Frame, frame_in}
 use Rattle.rpmb.specs.Requests.{frames_of, payload_in, payloads}
 
 -- what holds where it went well, where it did
 pub went_well : {X E : Type 0} (r : Result X E) (P : Type 0) → IsOk r → OnOk r P → P
 went_well (Ok x) P is holds = holds
 went_well (Err e) P is holds = absurd (false≢true is)
-
-length-frames_in : (n : ℕ) (bytes : List ℕ) → length (frames_in n bytes) ≡ n
-length-frames_in zero bytes = refl
-length-frames_in (suc n) bytes = ap suc (length-frames_in n (drop 512 bytes))
 
 -- so many whole frames are there
 pub many_frames : (frames : List (List ℕ)) (bytes : List ℕ) → map frame_in frames ≡ frames_of bytes →

@@ -17,15 +17,11 @@ use Rattle.ufs_spec.proofs.Facts.{none-some, same_Some}
 
 -- ## What is read again from the bytes of a command
 
--- bytes that are those of a command name that command
-pub spelled_named : (cdb : Cdb) (bytes : List ℕ) → SpellsCdb cdb bytes → named_cdb bytes ≡ Some cdb
-spelled_named cdb bytes (h, e) = ap named_cdb e ∙ again cdb h
-
 -- bytes that are not those of the command that their fields name are those of none
 pub spelled_by_none : (named : Cdb) (bytes : List ℕ) → named_cdb bytes ≡ Some named → (SpellsCdb named bytes → ⊥) →
     (cdb : Cdb) → SpellsCdb cdb bytes → ⊥
 spelled_by_none named bytes e other cdb spells =
-    let same : cdb ≡ named = same_Some cdb named (sym (spelled_named cdb bytes spells) ∙ e) in
+    let same : cdb ≡ named = same_Some cdb named (sym (ap named_cdb spells.1 ∙ again cdb spells.0) ∙ e) in
     other (subst (λ (one : Cdb). SpellsCdb one bytes) same spells)
 
 -- ## What the fields name fits its ranges

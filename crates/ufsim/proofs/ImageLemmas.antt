@@ -3,6 +3,7 @@ use Rattle.std.proofs.Common.{◌≡◌, ◌≢◌, ◌∙◌, ◌+◌, ◌<◌,
 use Rattle.std.specs.Prelude.{Bool, true, false, IfSome, Option, Some, None, Result, Ok, Err, OnOk, slice_index_or}
 use Rattle.std.specs.List.{flat_map}
 use Rattle.std.specs.Io.KnownBytes.{Appends, Consumes, IsAtEnd, Keeps}
+pub use Rattle.std.proofs.KnownBytes.{Keeps-trans as kept_more}
 use Rattle.std.proofs.lemmas.List.{append_assoc}
 use Rattle.std.proofs.lemmas.List.{flat_map_more, get_or-set_same, take_more}
 use Rattle.std.proofs.lemmas.List.Elements.{All-push}
@@ -46,13 +47,6 @@ consumes_more (Some a) None c xs ys zs one two is = absurd one
 consumes_more (Some a) (Some b) None xs ys zs one two is = absurd two
 consumes_more (Some a) (Some b) (Some c) xs ys zs one two is =
     one ∙ ap (λ t. xs ++ t) two ∙ sym (append_assoc xs ys c) ∙ ap (λ t. t ++ c) is
-
--- what is kept twice is kept
-pub kept_more : (a b c : Option (List ℕ)) → Keeps a b → Keeps b c → Keeps a c
-kept_more None b c one two = tt
-kept_more (Some a) None c one two = absurd one
-kept_more (Some a) (Some b) None one two = absurd two
-kept_more (Some a) (Some b) (Some c) one two = two ∙ one
 
 -- a read of nothing shows the end
 pub at_end : (a b c : Option (List ℕ)) → Keeps a b → Consumes b c [] → IsAtEnd c → IsAtEnd a

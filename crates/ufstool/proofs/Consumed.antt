@@ -2,6 +2,7 @@
 use Rattle.std.proofs.Common.{◌≡◌, ◌∙◌, ◌+◌, ◌-◌, ◌<◌, ◌≤◌, ℕ, List, [], ◌∷◌, ◌++◌, arith, length, subst, sym, take}
 use Rattle.std.proofs.Common.{length-append, length-take}
 use Rattle.std.proofs.KnownBytes.{Consumes-trans}
+pub use Rattle.std.proofs.KnownBytes.{Keeps-trans as kept_more}
 use Rattle.std.proofs.lemmas.List.{take_more_set}
 use Rattle.std.specs.Prelude.{None, Option, Some, slice_set}
 use Rattle.std.specs.Io.KnownBytes.{Consumes, IsAtEnd, Keeps}
@@ -12,13 +13,6 @@ kept_consumes None b c bs kept read = tt
 kept_consumes (Some x) None c bs kept read = absurd kept
 kept_consumes (Some x) (Some y) None bs kept read = absurd read
 kept_consumes (Some x) (Some y) (Some z) bs kept read = sym kept ∙ read
-
--- what is kept twice is kept
-pub kept_more : (a b c : Option (List ℕ)) → Keeps a b → Keeps b c → Keeps a c
-kept_more None b c one two = tt
-kept_more (Some x) None c one two = absurd one
-kept_more (Some x) (Some y) None one two = absurd two
-kept_more (Some x) (Some y) (Some z) one two = two ∙ one
 
 -- a byte is put behind the ones that were read
 pub byte_more : (a b c : Option (List ℕ)) (head : List ℕ) (place byte : ℕ) → place < length head

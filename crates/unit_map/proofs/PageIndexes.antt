@@ -1,14 +1,14 @@
 -- Each page of the dies has its own index among all of them, and there are no more keys than an entry of the table tells.
-use Rattle.std.proofs.Common.{◌≡◌, ◌∙◌, ◌&&◌, ℕ, ◌+◌, ◌*◌, ◌<◌, ◌≤◌, ◌^◌, Bool, true, false, Some, None, sym, arith}
-use Rattle.std.proofs.Common.{if◌then◌else◌, refl}
+use Rattle.std.proofs.Common.{◌≡◌, ◌∙◌, ◌&&◌, ℕ, ◌+◌, ◌*◌, ◌<◌, ◌≤◌, ◌^◌, Some, sym, arith}
 use Rattle.std.specs.Prelude.{nat_lt}
 use Rattle.std.proofs.Math.Nat.{mul_comm}
 use Rattle.std.proofs.lemmas.Nat.{mul-add-lt, same_from_place}
 use Rattle.std.proofs.lemmas.List.Sums.{sum-map}
+use Rattle.std.proofs.lemmas.Option.{cond_some}
 use Rattle.geometry.specs.Keys.{key_total}
 use Rattle.ufs_spec.proofs.ConfigFacts.{unit_blocks_bound}
 use Rattle.ufs_spec.proofs.Equalities.{place_is}
-use Rattle.ufs_spec.proofs.Facts.{and_parts, ltb-true, none-some, same_Some}
+use Rattle.ufs_spec.proofs.Facts.{and_parts, ltb-true}
 use Rattle.ufs_spec.specs.Cells.{IsPlace}
 use Rattle.ufs_spec.specs.Configs.{InRange}
 use Rattle.ufs_spec.specs.Keys.{area_pages}
@@ -18,16 +18,11 @@ use Rattle.ufs_spec.specs.declared.configs.UnitSpec.{UnitSpec}
 use Rattle.ufs_spec.specs.declared.flash.Place.{Place}
 use Rattle.unit_map.specs.Tables.{page_index, page_total}
 
--- a choice that gives a number passed its test, and the number is that of the choice
-chosen : (test : Bool) (number i : ℕ) → (if test then Some number else None) ≡ Some i → (test ≡ true) × (i ≡ number)
-chosen true number i e = (refl, sym (same_Some number i e))
-chosen false number i e = absurd (none-some i e)
-
 -- a page with an index is there, and the index is this
 pub page_told : (n : Numbers) (p : Place) (i : ℕ) → page_index n p ≡ Some i →
     IsPlace n p × (i ≡ (p.die * n.blocks + p.block) * n.pages + p.page)
 page_told n p i e =
-    let r = chosen _ _ i e in
+    let r = cond_some _ _ i e in
     let u = and_parts (nat_lt p.die n.dies && nat_lt p.block n.blocks) (nat_lt p.page n.pages) r.0 in
     let v = and_parts (nat_lt p.die n.dies) (nat_lt p.block n.blocks) u.0 in (
       record {
@@ -35,7 +30,7 @@ page_told n p i e =
         block = ltb-true p.block n.blocks v.1;
         page = ltb-true p.page n.pages u.1;
       },
-      r.1,
+      sym r.1,
     )
 
 -- it is below the number of all pages

@@ -1,6 +1,6 @@
 -- The pages whose rests come by one read, one after another.
 use Rattle.std.proofs.Common.{◌≡◌, ◌∙◌, ℕ, zero, suc, ◌+◌, ◌<◌, ◌≤◌, Bool, true, false, cond, List, [], ◌∷◌, ◌++◌}
-use Rattle.std.proofs.Common.{length, take, drop, refl, sym, ap, arith, Option, None, Some, slice_get}
+use Rattle.std.proofs.Common.{length, take, drop, refl, sym, ap, arith, add-one, Option, None, Some, slice_get}
 use Rattle.std.specs.Prelude.{◌||◌, is_some, option_and_then, option_map, slice_set}
 use Rattle.std.specs.List.{list_any}
 use Rattle.std.proofs.lemmas.List.{append-nil, drop_all, take_all}
@@ -90,9 +90,6 @@ beyond name base (x ∷ ps) zero p at w =
 beyond name base (x ∷ ps) (suc k) p at w =
     ap (λ (qs : List Pending). x ∷ qs) (beyond name base ps k p at w)
 
-one : (k : ℕ) → suc k ≡ k + 1
-one k = omega arith
-
 -- a page that waits has its content then
 pub filled_more : (name : Name) (base block : List ℕ) (ps qs : List Pending) (k : ℕ) (p : Pending) →
     slice_get ps k ≡ Some p → awaits name p ≡ true → qs ≡ completed_at base ps k (slice_get ps k) →
@@ -100,7 +97,7 @@ pub filled_more : (name : Name) (base block : List ℕ) (ps qs : List Pending) (
     ≡ take (k + 1) qs ++ rests_filled name (base_behind block qs (Some k)) (drop (k + 1) qs)
 filled_more name base block ps qs k p at w is =
     further name base block ps k p at w
-    ∙ ap (λ (m : ℕ). take m rs ++ rests_filled name (base_behind block rs (Some k)) (drop m rs)) (one k)
+    ∙ ap (λ (m : ℕ). take m rs ++ rests_filled name (base_behind block rs (Some k)) (drop m rs)) (sym (add-one k))
     ∙ ap (λ (zs : List Pending). take (k + 1) zs ++ rests_filled name (base_behind block zs (Some k)) (drop (k + 1) zs))
     (sym (is ∙ ap (completed_at base ps k) at))
   where
@@ -112,7 +109,7 @@ pub passed_more : (name : Name) (base : List ℕ) (ps : List Pending) (k : ℕ) 
     awaits name p ≡ false →
     take k ps ++ rests_filled name base (drop k ps) ≡ take (k + 1) ps ++ rests_filled name base (drop (k + 1) ps)
 passed_more name base ps k p at w =
-    beyond name base ps k p at w ∙ ap (λ (m : ℕ). take m ps ++ rests_filled name base (drop m ps)) (one k)
+    beyond name base ps k p at w ∙ ap (λ (m : ℕ). take m ps ++ rests_filled name base (drop m ps)) (sym (add-one k))
 
 -- and so do all that wait for nothing
 past : (name : Name) (base : List ℕ) (ps : List Pending) (k : ℕ) → slice_get ps k ≡ None →

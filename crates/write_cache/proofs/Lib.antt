@@ -1,10 +1,12 @@
 pub mod AllClaims
 pub mod Brought
+pub mod ChangedRuns
 pub mod Deques
 pub mod Entries
 pub mod Fills
 pub mod Fronts
 pub mod LastPlaces
+pub mod MarkedPlaces
 pub mod Marks
 pub mod OwnClaims
 pub mod Parts

@@ -13,7 +13,8 @@ use Rattle.write_cache.specs.declared.slots.Pending.{Pending}
 use Rattle.write_cache.specs.Ring.{AreRuns, HasNone, Shown, first_number, is_open_at, shown, written}
 use Rattle.write_cache.specs.Slots.{is_named, written_at}
 use Rattle.write_cache.proofs.Places.{found_at, none_named}
-use Rattle.write_cache.proofs.Runs.{closed, runs_none, runs_written}
+use Rattle.write_cache.proofs.Runs.{runs_none}
+use Rattle.write_cache.proofs.ChangedRuns.{closed, runs_written}
 
 -- the ring tells of the pages again
 pub marked_runs : (s l h at k index : ℕ) (gs : List GroupAt) (ps qs : List Pending) (g : GroupAt) (place : Place)

@@ -9,14 +9,13 @@ use Rattle.std.proofs.lemmas.Iterator.Adapters.{position_from-zero}
 use Rattle.std.proofs.lemmas.List.{drop-map, take-map}
 use Rattle.std.proofs.Math.Seq.{drop-append_seam, take-append_seam}
 use Rattle.ufs_spec.proofs.Facts.{and_parts, cases_eq, cases_lt, eq-eqb, eqb-true, leb-true, le-ltb}
-use Rattle.ufs_spec.proofs.Facts.{lt-ltb, none-some, same_Some}
+use Rattle.ufs_spec.proofs.Facts.{le-leb, lt-leb, lt-ltb, none-some, same_Some}
 use Rattle.ufs_spec.proofs.Lists.{take_get}
 use Rattle.write_cache.specs.declared.pages.ring.GroupAt.{GroupAt}
 use Rattle.write_cache.specs.declared.slots.Pending.{Pending}
 use Rattle.write_cache.specs.Ring.{AreApart, AreOf, Shown, Stands, back, is_row, is_straight, place_of, shown}
 use Rattle.write_cache.specs.Ring.{wrapped}
 use Rattle.write_cache.specs.Slots.{is_named}
-use Rattle.write_cache.proofs.Rows.{le_false, le_true}
 use Rattle.write_cache.proofs.Runs.{stands_within}
 
 -- the page has this number and index
@@ -118,7 +117,7 @@ straight_place s i g xs st small few is = by (cases_lt g.last i) (cases_lt (g.la
     many = st.is_run.many
 
     row : is_row g.last st.run ≡ true
-    row = st.is_run.row 0 ∙ le_true (length st.run) (g.row + 0)
+    row = st.is_run.row 0 ∙ le-leb (length st.run) (g.row + 0)
         (let l = leb-true g.pages g.row is in omega (arith, many, l))
 
     room : length st.before + g.pages < 2 ^ 16
@@ -128,12 +127,12 @@ straight_place s i g xs st small few is = by (cases_lt g.last i) (cases_lt (g.la
         place_of g s i ≡ position_from (named g.number i) (length st.before) st.run
     by (inl l) m =
         ap (λ (b : Bool). cond (b && nat_lt (g.last - i) g.pages) (Some (back (back g.end (g.last - i + 1)) s)) None)
-        (le_false i g.last l)
+        (lt-leb i g.last l)
         ∙ sym (row_missed g.number i (length st.before) g.last st.run st.is_run.of_group row
         (λ n. absurd (omega (arith, l, n))))
     by (inr l) (inl m) =
         ap (λ (b : Bool). cond (b && nat_lt (g.last - i) g.pages) (Some (back (back g.end (g.last - i + 1)) s)) None)
-        (le_true i g.last l)
+        (le-leb i g.last l)
         ∙ ap (λ (b : Bool). cond b (Some (back (back g.end (g.last - i + 1)) s)) None)
         (lt-ltb (g.last - i) g.pages m)
         ∙ ap Some (far_back s g.end (length st.before) g.pages (g.last - i + 1) small st.place (omega (arith, m)) room
@@ -142,7 +141,7 @@ straight_place s i g xs st small few is = by (cases_lt g.last i) (cases_lt (g.la
         (omega (arith, l)) (omega (arith, m, many)))
     by (inr l) (inr m) =
         ap (λ (b : Bool). cond (b && nat_lt (g.last - i) g.pages) (Some (back (back g.end (g.last - i + 1)) s)) None)
-        (le_true i g.last l)
+        (le-leb i g.last l)
         ∙ ap (λ (b : Bool). cond b (Some (back (back g.end (g.last - i + 1)) s)) None)
         (le-ltb (g.last - i) g.pages m)
         ∙ sym (row_missed g.number i (length st.before) g.last st.run st.is_run.of_group row

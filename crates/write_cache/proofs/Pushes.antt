@@ -6,7 +6,8 @@ use Rattle.std.proofs.lemmas.List.{length-map, map-append}
 use Rattle.write_cache.specs.declared.pages.ring.GroupAt.{GroupAt}
 use Rattle.write_cache.specs.declared.slots.Pending.{Pending}
 use Rattle.write_cache.specs.Ring.{AreRuns, Shown, first_number, noted, shown, shortened, wrapped}
-use Rattle.write_cache.proofs.Runs.{new, runs_first, runs_lower, runs_noted, runs_shorter}
+use Rattle.write_cache.proofs.Runs.{runs_first, runs_lower}
+use Rattle.write_cache.proofs.ChangedRuns.{new, runs_noted, runs_shorter}
 
 -- the number of the first group is that of the first entry
 pub first_again : (d n : ℕ) (gs : List GroupAt) → n ≡ first_number d gs → n ≡ first_number n gs

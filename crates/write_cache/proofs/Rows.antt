@@ -7,26 +7,20 @@ use Rattle.std.proofs.lemmas.List.{drop-append-le, length-append}
 use Rattle.std.proofs.Math.Bool.{and-false}
 use Rattle.std.proofs.Math.Seq.{drop-append-add}
 use Rattle.ufs_spec.proofs.Lists.{set_length}
-use Rattle.ufs_spec.proofs.Facts.{and_parts, cases_eq, cases_lt, eq-eqb, eqb-true, nat_tests, none-some, same_Some}
+use Rattle.ufs_spec.proofs.Facts.{and_parts, cases_eq, cases_lt, eq-eqb, eqb-true, le-leb, lt-leb, none-some, same_Some}
 use Rattle.write_cache.specs.Ring.{AreOf, AreStraight, Shown, is_row}
 
 -- Tests
-
-pub le_true : (a b : ℕ) → a ≤ b → nat_le a b ≡ true
-le_true a b l = grind (arith, nat_tests)
-
-pub le_false : (a b : ℕ) → b < a → nat_le a b ≡ false
-le_false a b l = grind (arith, nat_tests)
 
 -- two tests that pass together are the same
 pub same_tests : (a b c d : ℕ) → (a ≤ b → c ≤ d) → (c ≤ d → a ≤ b) → nat_le a b ≡ nat_le c d
 same_tests a b c d f g = by (cases_lt b a) (cases_lt d c)
   where
     by : (b < a) ⊎ (a ≤ b) → (d < c) ⊎ (c ≤ d) → nat_le a b ≡ nat_le c d
-    by (inl l) (inl m) = le_false a b l ∙ sym (le_false c d m)
+    by (inl l) (inl m) = lt-leb a b l ∙ sym (lt-leb c d m)
     by (inl l) (inr m) = absurd (let n = g m in omega (arith, l, n))
     by (inr l) (inl m) = absurd (let n = f l in omega (arith, m, n))
-    by (inr l) (inr m) = le_true a b l ∙ sym (le_true c d m)
+    by (inr l) (inr m) = le-leb a b l ∙ sym (le-leb c d m)
 
 -- the same of equality
 pub same_ends : (a b c d : ℕ) → (a ≡ b → c ≡ d) → (c ≡ d → a ≡ b) → (a == b) ≡ (c == d)
@@ -123,7 +117,7 @@ row_longer last row i xs x e some h few told k = by (cases_eq i (last + 1)) (cas
         is_row i (drop k (xs ++ x ∷ [])) ≡ nat_le (length (xs ++ x ∷ [])) (longer + k)
     by y (inr l) =
         let m = at_least (i == last + 1) in
-        row_end i k xs x e l ∙ sym (le_true (length (xs ++ x ∷ [])) (longer + k) (omega (arith, long, l, m)))
+        row_end i k xs x e l ∙ sym (le-leb (length (xs ++ x ∷ [])) (longer + k) (omega (arith, long, l, m)))
     by (inl n) (inl l) =
         ap (is_row i) (cut l) ∙ row_next last i (drop k xs) x e n ∙ told k
         ∙ same_tests (length xs) (row + k) (length (xs ++ x ∷ [])) (min (row + 1) (2 ^ 16 - 1) + k)
@@ -132,7 +126,7 @@ row_longer last row i xs x e some h few told k = by (cases_eq i (last + 1)) (cas
         (sym (eq-eqb i (last + 1) n))
     by (inr n) (inl l) =
         ap (is_row i) (cut l) ∙ row_broken last i (drop k xs) x e n (last_behind last k xs l h)
-        ∙ sym (le_false (length (xs ++ x ∷ [])) (1 + k) (omega (arith, long, l)))
+        ∙ sym (lt-leb (length (xs ++ x ∷ [])) (1 + k) (omega (arith, long, l)))
         ∙ ap (λ (b : Bool). nat_le (length (xs ++ x ∷ [])) (cond b (min (row + 1) (2 ^ 16 - 1)) 1 + k))
         (sym (ne_eqb i (last + 1) n))
 

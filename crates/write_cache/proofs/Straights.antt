@@ -5,7 +5,7 @@ use Rattle.write_cache.specs.declared.pages.ring.GroupAt.{GroupAt}
 use Rattle.write_cache.specs.Ring.{AreConsecutive, AreOf, AreRuns, AreStraight, Shown, Stands}
 use Rattle.write_cache.specs.Ring.{first_number, is_straight}
 use Rattle.write_cache.proofs.Rows.{row_straight, same_tests}
-use Rattle.write_cache.proofs.Runs.{last_of_run}
+use Rattle.write_cache.proofs.ChangedRuns.{last_of_run}
 
 straight_behind : (xs ys : List Shown) → AreStraight (xs ++ ys) → AreStraight ys
 straight_behind [] ys h = h

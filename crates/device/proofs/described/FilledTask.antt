@@ -19,6 +19,7 @@ use Rattle.ufs_spec.specs.Refusals.{State, plain_now}
 use Rattle.ufs_spec.specs.Rpmb.{Region}
 use Rattle.ufs_spec.specs.RpmbResponses.{filled_with, with_reads}
 use Rattle.ufs_spec.specs.Translation.{Pin, Translation}
+use Rattle.ufs_laws.proofs.frame_laws.RegistersFilled.{filled_done}
 use Rattle.power_loss.specs.AreaReads.{AreaReads}
 use Rattle.power_loss.specs.Exchange.{IsTied}
 use Rattle.power_loss.specs.Shown.{ShowsReads}
@@ -60,10 +61,6 @@ use Rattle.ufs_spec.specs.Refusals.{numbers_of}
 use Rattle.ufs_spec.specs.declared.configs.Numbers.{Numbers}
 
 -- What a task keeps that fills its register
-
-filled_done : (o : Option RpmbRequest) → is_unfilled (filled o) ≡ false
-filled_done None = refl
-filled_done (Some request) = refl
 
 -- it is still of its region
 asked_still : (region : ℕ) (o : Option RpmbRequest) → IsFor region (asks_of o) → IsFor region (asks_of (filled o))

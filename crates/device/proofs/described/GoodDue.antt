@@ -3,6 +3,7 @@
 use Rattle.std.proofs.Common.{◌≡◌, ◌∙◌, ℕ, zero, suc, ◌+◌, ◌≤◌, ◌-◌, ◌&&◌, Bool, true, false, List, [], ◌∷◌, map}
 use Rattle.std.proofs.Common.{Option, Some, None, refl, sym, ap, arith}
 use Rattle.std.specs.Prelude.{find, nat_le, not, slice_get}
+use Rattle.std.proofs.Math.Bool.{and-true}
 use Rattle.std.proofs.lemmas.Bool.Decides.{nat_tests}
 use Rattle.std.proofs.lemmas.List.Elements.{All-cons, All-nil}
 use Rattle.ufs_spec.specs.Exchanges as exchange
@@ -41,10 +42,6 @@ same_rest e = cc
 pub some_left : {X : Type 0} {x : X} {xs : List X} → x ∷ xs ≡ [] → ⊥
 some_left e = cc
 
-right_true : (b : Bool) → (b && true) ≡ b
-right_true true = refl
-right_true false = refl
-
 -- one page is read or two are, and none of them needs a read any more on both sides, or on none
 module _ (s : State) (b : exchange.Task) where
   abbrev is_there : ℕ → ReadState → Bool
@@ -60,7 +57,7 @@ module _ (s : State) (b : exchange.Task) where
   same_pages (p ∷ []) first (Some how) e = absurd (some_left (sym (same_rest e)))
   same_pages (p ∷ q ∷ []) first (Some how) e =
       (λ i. is_there 0 (same_first e i) && (is_there 1 (same_first (same_rest e) i) && true))
-      ∙ ap (λ (c : Bool). is_there 0 (read_kept first) && c) (right_true (is_there 1 (read_kept how)))
+      ∙ ap (λ (c : Bool). is_there 0 (read_kept first) && c) (and-true (is_there 1 (read_kept how)))
   same_pages (p ∷ q ∷ pages) first None e = absurd (some_left (same_rest e))
   same_pages (p ∷ q ∷ w ∷ pages) first (Some how) e = absurd (some_left (same_rest (same_rest e)))
 
@@ -81,7 +78,8 @@ good_told (status.CheckCondition sense) t tag n = refl
 good_told status.Busy t tag n = refl
 good_told status.TaskSetFull t tag n = refl
 
-same_test : (before n frontier commands : ℕ) → before ≤ frontier → n ≡ before + commands →
+-- the numbers below the frontier, counted from the repairs on or from the first
+pub same_test : (before n frontier commands : ℕ) → before ≤ frontier → n ≡ before + commands →
     nat_le commands (frontier - before) ≡ nat_le n frontier
 same_test before n frontier commands above is = grind (arith, nat_tests)
 

@@ -1,8 +1,9 @@
 -- The task whose request is answered, and what its answer is made of.
-use Rattle.std.proofs.Common.{◌≡◌, ◌∙◌, ℕ, suc, ◌<◌, Bool, true, false, cond, List, [], ◌∷◌, Option, Some, None, refl, sym}
+use Rattle.std.proofs.Common.{◌≡◌, ◌∙◌, ℕ, ◌<◌, Bool, true, false, List, Option, Some, None, refl, sym}
 use Rattle.std.proofs.Common.{ap, subst}
-use Rattle.std.specs.Prelude.{if◌then◌else◌, option_map, position, slice_get, take}
+use Rattle.std.specs.Prelude.{if◌then◌else◌, position, slice_get, take}
 use Rattle.ufs_spec.proofs.Facts.{false≢true, none-some, same_Some}
+use Rattle.ufs_spec.proofs.Lists.{position_told}
 use Rattle.ufs_spec.specs.Exchanges.{ReadState}
 use Rattle.ufs_spec.specs.Plain.{regions}
 use Rattle.ufs_spec.specs.Rpmb.{Region}
@@ -18,7 +19,6 @@ use Rattle.task_set.specs.declared.frames.Frames.{Frames}
 use Rattle.task_set.specs.declared.frames.Frames.TheVariants as frames
 use Rattle.device.specs.Frames.{HasResponded, due_at, first_held, is_due_in, is_due_to, to_answer}
 use Rattle.device.specs.Kept.{DeviceCore}
-use Rattle.device.proofs.open_tasks.OpenTasks.{position_step}
 
 -- the machines respond to what a task at a position keeps
 pub responds : (tasks : List OpenTask) (index code number : ℕ) (held : List ℕ) (task : OpenTask)
@@ -44,25 +44,6 @@ responds tasks index code number held task read old machines keeps at its told =
       registers = filled_with region (frames_of (take 512 held)) (with_reads pages code) (machine_at old n).registers;
     })) (sym its) told)
 
--- what stands where the first that passes was found
-pub found_there : {X : Type 0} (p : X → Bool) (xs : List X) (k : ℕ) → position p xs ≡ Some k →
-    (x : X) × (slice_get xs k ≡ Some x) × (p x ≡ true)
-found_there p [] k e = absurd (none-some k e)
-found_there p (x ∷ xs) k e = by (p x) refl (position p xs) refl (λ j h. found_there p xs j h)
-  where
-    first : (c : Bool) → p x ≡ c → (o : Option ℕ) → position p xs ≡ o → cond c (Some 0) (option_map suc o) ≡ Some k
-    first c is o at =
-        sym (position_step p x xs ∙ (λ i. cond (is i) (Some 0) (option_map suc (at i)))) ∙ e
-
-    by : (c : Bool) → p x ≡ c → (o : Option ℕ) → position p xs ≡ o →
-        ((j : ℕ) → position p xs ≡ Some j → (y : _) × (slice_get xs j ≡ Some y) × (p y ≡ true)) →
-        (y : _) × (slice_get (x ∷ xs) k ≡ Some y) × (p y ≡ true)
-    by true is o at rest = (x, ap (slice_get (x ∷ xs)) (sym (same_Some 0 k (first true is o at))), is)
-    by false is None at rest = absurd (none-some k (first false is None at))
-    by false is (Some j) at rest =
-        let r = rest j at in
-        (r.0, ap (slice_get (x ∷ xs)) (sym (same_Some (suc j) k (first false is (Some j) at))) ∙ r.1, r.2)
-
 -- the task whose request is answered has its GOOD due, and a result
 pub record Answers (t : Translation) (d : DeviceCore) (k : ℕ) : Type 0 where
   pub task : OpenTask
@@ -85,7 +66,7 @@ answers_at t d k e = by (position is_decided d.tasks) refl e
     by (Some j) at due = tested (is_due_to t (slice_get d.tasks j)) refl due
       where
         its : (x : OpenTask) × (slice_get d.tasks j ≡ Some x) × (is_decided x ≡ true)
-        its = found_there is_decided d.tasks j at
+        its = position_told is_decided d.tasks j at
 
         code : (n : ℕ) × (its.0.frames ≡ frames.Decided n)
         code = has_code its.0.frames its.2

@@ -25,6 +25,7 @@ use Rattle.ufs_spec.specs.declared.flash.Page.{Page}
 use Rattle.ufs_spec.specs.declared.flash.Place.{Place}
 use Rattle.ufs_laws.proofs.jobs.JobsInFlight.{at_its_die, at_other}
 use Rattle.power_loss.proofs.books.SmallFacts.{at_spot_cases, spot_cases, spot_is}
+use Rattle.power_loss.proofs.jobs.StandsSecurely.{at_spot_here, at_spot_other}
 use Rattle.device.specs.Worlds.{BlocksFit, die_at, job_at, next_of}
 
 -- Lists
@@ -115,18 +116,6 @@ put_bad dies die x other l e =
     (λ is. ap (λ (bad : List Bool). slice_index_or bad other.block false) e
     ∙ ap (λ (k : ℕ). is_bad_block (die_at dies k) other.block) (sym is)) (λ away. refl)
 
--- the value that was changed, and each other one
-pub at_itself : {A : Type 0} (f : Spot → A) (spot : Spot) (x : A) → at_spot f spot x spot ≡ x
-at_itself {A} f spot x =
-    ⊎_elim (λ (k : (spot ≡ spot) × (at_spot f spot x spot ≡ x)). k.1)
-    (λ (k : (spot ≢ spot) × (at_spot f spot x spot ≡ f spot)). absurd (k.0 refl)) (at_spot_cases f spot x spot)
-
-pub at_another : {A : Type 0} (f : Spot → A) (spot : Spot) (x : A) (other : Spot) → other ≢ spot →
-    at_spot f spot x other ≡ f other
-at_another {A} f spot x other differ =
-    ⊎_elim (λ (k : (other ≡ spot) × (at_spot f spot x other ≡ x)). absurd (differ k.0))
-    (λ (k : (other ≢ spot) × (at_spot f spot x other ≡ f other)). k.1) (at_spot_cases f spot x other)
-
 -- a change of one block, which is bad to its die where it is bad to the layer
 module _ (n : Numbers) (dies : List DieState) (blocks new_blocks : Spot → BlockState)
     (vacancies new_vacancies : Spot → Vacancy) (spot : Spot) (x : DieState) where
@@ -146,9 +135,9 @@ module _ (n : Numbers) (dies : List DieState) (blocks new_blocks : Spot → Bloc
         ∙ ⊎_elim
         (λ (k : (same_spot other spot ≡ true) × (other ≡ spot)).
         ap ready k.1
-        ∙ (at_itself before spot (ready_page x spot.block) ∙ next_here next (ap new_next (sym k.1) ∙ e)))
+        ∙ (at_spot_here before spot (ready_page x spot.block) spot refl ∙ next_here next (ap new_next (sym k.1) ∙ e)))
         (λ (k : (same_spot other spot ≡ false) × (other ≢ spot)).
-        at_another before spot (ready_page x spot.block) other k.1
+        at_spot_other before spot (ready_page x spot.block) other k.1
         ∙ h.ready other next d b (same_next other k.1 ∙ e))
         (spot_cases other spot);
     bad = λ other. sym (put_block is_bad_block dies spot x l bad_leaves other ∙ same_bad other);
@@ -174,10 +163,10 @@ module _ (n : Numbers) (dies : List DieState) (blocks new_blocks : Spot → Bloc
           ⊎_elim
           (λ (k : (same_spot other spot ≡ true) × (other ≡ spot)).
           ap (at_spot bad_before spot (is_bad_block x spot.block)) k.1
-          ∙ (at_itself bad_before spot (is_bad_block x spot.block)
+          ∙ (at_spot_here bad_before spot (is_bad_block x spot.block) spot refl
           ∙ (bad_here ∙ ap (λ (s : Spot). is_bad (new_blocks s)) (sym k.1))))
           (λ (k : (same_spot other spot ≡ false) × (other ≢ spot)).
-          at_another bad_before spot (is_bad_block x spot.block) other k.1
+          at_spot_other bad_before spot (is_bad_block x spot.block) other k.1
           ∙ (sym (h.bad other) ∙ sym (ap is_bad (same_state other k.1))))
           (spot_cases other spot)
 
@@ -275,7 +264,7 @@ program_blocks n dies blocks vacancies p content fit l place fills h =
     let inside : p.block < length die.ready = omega arith in
     let new = at_spot blocks (spot_of p) (state_after n.pages p.page) in
     let is : new (spot_of p) ≡ state_after n.pages p.page =
-    at_itself blocks (spot_of p) (state_after n.pages p.page) in
+    at_spot_here blocks (spot_of p) (state_after n.pages p.page) (spot_of p) refl in
     put_blocks n dies blocks new vacancies vacancies (spot_of p) (die_programmed die p.block p.page content) l
     (sym (h.bad (spot_of p)) ∙ (ap is_bad fills ∙ (sym (behind_good n.pages p.page) ∙ sym (ap is_bad is))))
     (λ c differ. refl)
@@ -284,7 +273,7 @@ program_blocks n dies blocks vacancies p content fit l place fills h =
     ∙ behind_next n.pages p.page next (vacancies (spot_of p))
     (sym (ap (λ (s : BlockState). next_of s (vacancies (spot_of p))) is) ∙ e))
     (λ c differ. programmed_next_elsewhere die p.block p.page c content differ)
-    (λ other differ. at_another blocks (spot_of p) (state_after n.pages p.page) other differ)
+    (λ other differ. at_spot_other blocks (spot_of p) (state_after n.pages p.page) other differ)
     (λ other differ. refl) h
 
 pub program_pages : (n : Numbers) (dies : List DieState) (p : Place) (content : Page) → Fit n dies →
@@ -341,11 +330,12 @@ erase_blocks n dies blocks vacancies spot fit l within is_free h =
     let inside : spot.block < length die.ready = omega arith in
     let new = at_spot vacancies spot Ready in
     let is_next : next_of (blocks spot) (new spot) ≡ Some 0 =
-    ap (λ (s : BlockState). next_of s (new spot)) is_free ∙ ap (next_of Free) (at_itself vacancies spot Ready) in
+    ap (λ (s : BlockState). next_of s (new spot)) is_free
+    ∙ ap (next_of Free) (at_spot_here vacancies spot Ready spot refl) in
     put_blocks n dies blocks blocks vacancies new spot (die_erased die spot.block) l (sym (h.bad spot))
     (λ c differ. refl) (λ next e. erased_next die spot.block inside ∙ (sym is_next ∙ e))
     (λ c differ. erased_next_elsewhere die spot.block c differ) (λ other differ. refl)
-    (λ other differ. at_another vacancies spot Ready other differ) h
+    (λ other differ. at_spot_other vacancies spot Ready other differ) h
 
 pub erase_pages : (n : Numbers) (dies : List DieState) (spot : Spot) → Fit n dies → spot.die < length dies →
     spot.block < n.blocks →

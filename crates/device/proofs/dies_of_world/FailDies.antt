@@ -12,7 +12,8 @@ use Rattle.ufs_spec.specs.declared.configs.Numbers.{Numbers}
 use Rattle.ufs_spec.specs.declared.events.Leftover.{Leftover}
 use Rattle.device.specs.Leftovers.{IsInside}
 use Rattle.device.specs.Worlds.{BlocksFit, block_of, die_at, die_left, dies_failed, next_of}
-use Rattle.device.proofs.dies_of_world.DieParts.{at_another, at_itself, die_size, put_blocks}
+use Rattle.power_loss.proofs.jobs.StandsSecurely.{at_spot_here, at_spot_other}
+use Rattle.device.proofs.dies_of_world.DieParts.{die_size, put_blocks}
 use Rattle.device.proofs.dies_of_world.LeftDies.{in_a_block, is_of_dies, left_keeps_bad, left_keeps_ready, left_size}
 use Rattle.device.proofs.dies_of_world.LeftDies.{one_is_left, put_fit, spot_left}
 
@@ -41,7 +42,7 @@ module _ (n : Numbers) (dies : List DieState) (l : Leftover) (fit : Fit n dies) 
       let less = in_a_block n l on in
       let long : length d.bad ≡ n.blocks = size.3 in
       let new = at_spot blocks (spot_left l) Bad in
-      let is : new (spot_left l) ≡ Bad = at_itself blocks (spot_left l) Bad in
+      let is : new (spot_left l) ≡ Bad = at_spot_here blocks (spot_left l) Bad (spot_left l) refl in
       put_blocks n dies blocks new vacancies vacancies (spot_left l) wrong there
       (with_bad_bad d (block_of l) (omega arith) ∙ sym (ap is_bad is))
       (λ c differ.
@@ -53,4 +54,4 @@ module _ (n : Numbers) (dies : List DieState) (l : Leftover) (fit : Fit n dies) 
       with_bad_next_elsewhere d (block_of l) c differ
       ∙ ap (λ (ready : List (Option ℕ)). slice_index_or ready c None)
       (left_keeps_ready (die_at dies (die_of l)) l))
-      (λ other differ. at_another blocks (spot_left l) Bad other differ) (λ other differ. refl) h
+      (λ other differ. at_spot_other blocks (spot_left l) Bad other differ) (λ other differ. refl) h

@@ -12,7 +12,8 @@ use Rattle.ufs_spec.specs.declared.configs.Numbers.{Numbers}
 use Rattle.ufs_spec.specs.declared.flash.Place.{Place}
 use Rattle.power_loss.proofs.books.SmallFacts.{at_spot_cases}
 use Rattle.device.specs.Worlds.{BlocksFit, next_of}
-use Rattle.device.proofs.dies_of_world.DieParts.{at_another, at_itself, still_fit}
+use Rattle.power_loss.proofs.jobs.StandsSecurely.{at_spot_here, at_spot_other}
+use Rattle.device.proofs.dies_of_world.DieParts.{still_fit}
 use Rattle.device.proofs.dies_of_world.FinishDies.{blocks_behind, vacancies_behind}
 
 -- a block that is freed is bad just where it was bad before
@@ -67,10 +68,10 @@ freed_fits n dies d (Some plan) h =
     vacancies = at_spot d.vacancies victim Stale
 
     stale : (spot : Spot) → spot ≡ victim → vacancies spot ≡ Stale
-    stale spot is = ap vacancies is ∙ at_itself d.vacancies victim Stale
+    stale spot is = ap vacancies is ∙ at_spot_here d.vacancies victim Stale victim refl
 
     as_it_was : (spot : Spot) → spot ≢ victim → vacancies spot ≡ d.vacancies spot
-    as_it_was spot differ = at_another d.vacancies victim Stale spot differ
+    as_it_was spot differ = at_spot_other d.vacancies victim Stale spot differ
 
 -- behind a program, whatever cell it programmed
 pub written_fits : (t : Translation) (dies : List DieState) (p : Place) (cell : Cell) →

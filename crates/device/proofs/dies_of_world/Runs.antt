@@ -1,6 +1,6 @@
 -- A run: the lives that its trace is, event by event.
 use Rattle.std.proofs.Common.{◌≡◌, ◌∙◌, ℕ, suc, ◌+◌, ◌<◌, ◌≤◌, List, [], ◌∷◌, ◌++◌, Some, length, refl, sym, ap, subst}
-use Rattle.std.proofs.Common.{⊎_elim, arith}
+use Rattle.std.proofs.Common.{⊎_elim, add-one}
 use Rattle.std.specs.Prelude.{slice_index_or, take, Ok}
 use Rattle.std.proofs.Math.Seq.{take-suc}
 use Rattle.std.proofs.lemmas.List.{take_all}
@@ -38,9 +38,6 @@ run_begins n dies w may sound fits =
 
 -- one event more
 
-one_more : (k : ℕ) → suc k ≡ k + 1
-one_more k = omega arith
-
 -- the numbers stay, in a life and over stops
 reopens_numbers : (n : Numbers) (s t : State) (e : Event) (o : Output) → Reopens n s e o t → numbers_of t ≡ n
 reopens_numbers n s t (event.Stop lefts) output.Stopped h = h.2.translation.numbers
@@ -72,7 +69,7 @@ run_more n dies events before trace k e w after less is u played =
     let goes : GoesOn n u.now e played.0 went.0 =
     subst (λ (m : Numbers). GoesOn m u.now e played.0 went.0)
     (runs_numbers n u.start u.now (take k events) before u.opened.translation.numbers u.runs) went.1 in
-    subst (λ (j : ℕ). IsUnderWay n dies (take j events) trace after) (one_more k)
+    subst (λ (j : ℕ). IsUnderWay n dies (take j events) trace after) (sym (add-one k))
     (subst (λ (os : List Output). IsUnderWay n dies (take (suc k) events) os after) (sym played.1)
     (record {
       start = u.start;
@@ -142,4 +139,4 @@ run_breaks n dies events before k e w f may sound less is u why =
 -- the position counts from 1
 pub run_broken : (n : Numbers) (dies : List DieState) (events : List Event) (k : ℕ) (f : RunFault) →
     (Sound (array_of dies) → IsBroken n dies events k f) → IsRunFault n dies events (k + 1) f
-run_broken n dies events k f broken = subst (λ (j : ℕ). IsRunFault n dies events j f) (one_more k) broken
+run_broken n dies events k f broken = subst (λ (j : ℕ). IsRunFault n dies events j f) (sym (add-one k)) broken

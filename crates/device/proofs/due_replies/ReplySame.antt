@@ -5,7 +5,6 @@ use Rattle.std.specs.Prelude.{find, if◌then◌else◌, min, nat_le, nat_lt, no
 use Rattle.std.specs.List.{list_any}
 use Rattle.std.specs.Int.{div_ceil}
 use Rattle.std.proofs.lemmas.Bool.{le-ltb}
-use Rattle.std.proofs.lemmas.Bool.Decides.{nat_tests}
 use Rattle.std.proofs.lemmas.Grind.{div_ceil_times}
 use Rattle.std.proofs.lemmas.List.{length-take, take-take}
 use Rattle.ufs_spec.proofs.Facts.{and_parts, eqb-true, false≢true, ltb-false, ltb-true, none-some, same_Some}
@@ -54,6 +53,7 @@ use Rattle.device.specs.Replies.{answer_of, block_at, block_for, block_message, 
 use Rattle.device.specs.Replies.{area_reply, data_message, frames_count, frames_message, has_filled, owed_by, owed_in}
 use Rattle.task_set.specs.Tasks.{data_length, status_kept}
 use Rattle.device.specs.Replies.{data_bytes}
+use Rattle.device.proofs.described.GoodDue.{same_test}
 use Rattle.device.proofs.described.Unmended.{waits_mended}
 use Rattle.device.proofs.due_replies.AreasRead.{none_needed}
 use Rattle.device.proofs.due_replies.BytesSent.{bytes_same}
@@ -132,10 +132,6 @@ record HasPin (s : State) (b : exchange.Task) (sent : ℕ) (body : List ℕ) : T
   found : find (is_pin_of b.tag sent) s.translation.pins ≡ Some pin
   key : Key
   shown : IsShown s.translation.ledger key pin.looked body
-
-same_test : (before n frontier commands : ℕ) → before ≤ frontier → n ≡ before + commands →
-    nat_le commands (frontier - before) ≡ nat_le n frontier
-same_test before n frontier commands above is = grind (arith, nat_tests)
 
 -- a block that is to come is whole
 whole_block : (blocks gathered : ℕ) → gathered < blocks → min 4096 (4096 * blocks - 4096 * gathered) ≡ 4096

@@ -1,6 +1,7 @@
 -- The first short exchange whose reply is due hands it out.
 use Rattle.std.proofs.Common.{◌≡◌, ◌∙◌, ℕ, ◌+◌, ◌≤◌, true, List, Some, sym, ap, subst}
 use Rattle.std.specs.Prelude.{position, slice_get}
+use Rattle.ufs_spec.proofs.Lists.{position_told}
 use Rattle.ufs_spec.specs.Ledger.{before_accepted}
 use Rattle.ufs_spec.specs.Messages.{spelling}
 use Rattle.ufs_spec.specs.Moves.{Acknowledge, moved}
@@ -10,7 +11,6 @@ use Rattle.task_set.specs.Shorts.{is_short_due}
 use Rattle.task_set.specs.declared.tasks.Short.{Short}
 use Rattle.device.specs.Kept.{DeviceCore}
 use Rattle.device.specs.Replies.{IsShortReplied, short_message, without_short}
-use Rattle.device.proofs.described.Responded.{found_there}
 
 pub hands_out : (d e : DeviceCore) (bytes : List ℕ) (frontier index : ℕ) →
     ((t : Translation) → layer_kept.Describes d.ftl t → frontier ≡ t.ledger.frontier) →
@@ -21,7 +21,7 @@ pub hands_out : (d e : DeviceCore) (bytes : List ℕ) (frontier index : ℕ) →
     ((t : Translation) (short : Short) → layer_kept.Describes d.ftl t → slice_get d.shorts index ≡ Some short →
     bytes ≡ spelling (short_message t.numbers short)) → IsShortReplied d e bytes
 hands_out d e bytes frontier index is told found after said =
-    by (found_there (is_short_due frontier) d.shorts index found)
+    by (position_told (is_short_due frontier) d.shorts index found)
   where
     by : (short : Short) × (slice_get d.shorts index ≡ Some short) × (is_short_due frontier short ≡ true) →
         IsShortReplied d e bytes

@@ -44,7 +44,8 @@ asks k w = Some (record { index = k; wanted = w })
 
 -- The next block of a WRITE, frames, and a list
 
-other_side : (m n : ℕ) → (m == n) ≡ (n == m)
+-- two numbers are compared the other way round
+pub other_side : (m n : ℕ) → (m == n) ≡ (n == m)
 other_side m n = grind (arith, nat_tests)
 
 -- it begins behind those that came

@@ -1,7 +1,6 @@
 -- What is accepted of frames that came: it may come now, and what it leaves of key, counter and contents.
-use Rattle.std.proofs.Common.{◌≡◌, ◌≢◌, ◌∙◌, ℕ, ◌<◌, ◌==◌, ◌&&◌, ◌++◌, Bool, true, false, List, [], ◌∷◌, Some, None, drop}
-use Rattle.std.proofs.Common.{length, not, take, refl, sym, ap, subst, arith, get_or}
-use Rattle.std.proofs.lemmas.List.{take-append-drop}
+use Rattle.std.proofs.Common.{◌≡◌, ◌≢◌, ◌∙◌, ℕ, ◌<◌, ◌==◌, ◌&&◌, ◌++◌, Bool, true, false, List, [], ◌∷◌, Some, None}
+use Rattle.std.proofs.Common.{length, not, refl, sym, ap, subst, arith, get_or}
 use Rattle.std.proofs.lemmas.List.Sums.{fold-append}
 use Rattle.ufs_spec.proofs.Facts.{eqb-true, none-some, same_Some}
 use Rattle.ufs_spec.proofs.PlainFacts.{shape_after}
@@ -14,10 +13,8 @@ use Rattle.ufs_spec.specs.Keys.{Contents, Group, IsCommand, IsKey, IsPlain, cont
 use Rattle.ufs_spec.specs.Ledger.{accepted_groups, all_contents}
 use Rattle.ufs_spec.specs.Plain.{CanApply, Plain, Shape, after, apply, changed_by, region_of, regions, shape_of_numbers}
 use Rattle.ufs_spec.specs.Refusals.{State, numbers_of, plain_now}
-use Rattle.ufs_spec.specs.Translation.{Translation}
 use Rattle.ufs_spec.specs.declared.flash.Key.{Key}
 use Rattle.power_loss.specs.Exchange.{IsTied}
-use Rattle.power_loss.specs.Invariant.{Valid}
 use Rattle.ufs_spec.specs.Rpmb.{Region, Results, checks, command_in, first_failed, is_well_formed, lacks_result}
 use Rattle.ufs_spec.specs.Rpmb.{read_data, rpmb_outcome}
 use Rattle.ufs_spec.specs.RpmbResponses.{is_success}
@@ -25,27 +22,9 @@ use Rattle.ufs_laws.proofs.plain_contents.GroupsOfCommands.{many_commands, put_g
 use Rattle.ufs_laws.proofs.rpmb_frames.Regions.{named_changed, others_stay}
 use Rattle.ufs_laws.proofs.rpmb_frames.RightWrites.{none_failed, not_refused}
 use Rattle.ufs_laws.specs.RpmbWrites.{region_named}
-use Rattle.power_loss.proofs.pending_groups.PendingByFrontier.{put_more}
-use Rattle.power_loss.proofs.stops.ImageContents.{after_none}
+use Rattle.power_loss.proofs.shown_blocks.LooksShowContents.{accepted_alone}
 
 -- Contents
-
--- repairs change no content
-accepted_alone : {t : Translation} → Valid t →
-    put_groups t.ledger.base t.ledger.groups ≡ put_groups t.ledger.base (accepted_groups t.ledger)
-accepted_alone {t} v =
-    ap (put_groups base) (sym (take-append-drop repairs groups))
-    ∙ (put_more base (take repairs groups) (drop repairs groups)
-    ∙ ap (λ f. put_groups f (drop repairs groups)) (after_none groups repairs repairs v.history.contents (omega arith)))
-  where
-    base : Contents
-    base = t.ledger.base
-
-    repairs : ℕ
-    repairs = t.ledger.repairs
-
-    groups : List Group
-    groups = t.ledger.groups
 
 -- all groups give the contents of the plain state as it is now
 pub contents_now : (s : State) (k : Key) → IsTied s → IsKey (shape_of_numbers (numbers_of s)) k →

@@ -1,6 +1,6 @@
 -- The group of a WRITE is its blocks, each under its key, and what the WRITE leaves else.
 use Rattle.std.proofs.Common.{◌≡◌, ◌∙◌, ℕ, zero, suc, ◌+◌, ◌-◌, ◌<◌, ◌≤◌, List, [], ◌∷◌, ◌++◌, length, drop, take, map}
-use Rattle.std.proofs.Common.{ap, refl, arith}
+use Rattle.std.proofs.Common.{ap, arith}
 use Rattle.std.specs.Prelude.{slice_index_or, slice_set}
 use Rattle.std.proofs.lemmas.List.{get_or-append_right, get_or_append_left, get_or-map, get_or-set_same}
 use Rattle.std.proofs.lemmas.List.{length-map, length-take-le}
@@ -12,6 +12,7 @@ use Rattle.ufs_spec.specs.Keys.{Item, below, content, data_key, group_of}
 use Rattle.ufs_spec.specs.Plain.{region_of, CanApply, Plain, after, apply, with_part}
 use Rattle.ufs_spec.specs.declared.flash.Key.{Key}
 use Rattle.ufs_laws.proofs.plain_contents.ListParts.{made_of}
+use Rattle.ftl_core.proofs.look_and_accept.GroupsAccepted.{items_length}
 use Rattle.ftl_core.specs.Public.{group_of_blocks, items_behind, key_behind}
 
 -- The content of a written block
@@ -44,10 +45,6 @@ block_written units unit address i blocks at there within =
 
 abbrev item : Key → List ℕ → Item
 item k body = record { key = k; body = body }
-
-pub items_length : (k : Key) (i : ℕ) (bodies : List (List ℕ)) → length (items_behind k i bodies) ≡ length bodies
-items_length k i [] = refl
-items_length k i (body ∷ bodies) = ap suc (items_length k (i + 1) bodies)
 
 items_at : (k : Key) (i j : ℕ) (bodies : List (List ℕ)) (d : Item) → j < length bodies →
     item (key_behind k (i + j)) (slice_index_or bodies j []) ≡ slice_index_or (items_behind k i bodies) j d

@@ -1,9 +1,8 @@
 -- A QUERY REQUEST is answered as the definitions say.
-use Rattle.std.proofs.Common.{◌≡◌, ◌∙◌, ℕ, ◌==◌, ◌||◌, Bool, true, false, List, [], ◌∷◌, Some, None, not}
+use Rattle.std.proofs.Common.{◌≡◌, ◌∙◌, ℕ, ◌==◌, ◌||◌, Bool, true, List, [], ◌∷◌, Some, None, not}
 use Rattle.std.proofs.Common.{refl, sym, ap, subst}
 use Rattle.std.specs.Prelude.{OnErr, OnOk, Result, Ok, Err}
-use Rattle.std.proofs.lemmas.Bool.{and_parts}
-use Rattle.ufs_spec.proofs.Facts.{false≢true}
+use Rattle.std.proofs.lemmas.Bool.{and_parts, not-true}
 use Rattle.ufs_spec.specs.Exchanges.{is_task_of, short_reply, task_of}
 use Rattle.ufs_spec.specs.Machine as machine
 use Rattle.ufs_spec.specs.Machine.{Call, Host, IsHeard, OfHost, Spelled, heard, opening_fault, result_of}
@@ -47,10 +46,6 @@ use Rattle.device.proofs.host_messages.ShortsOpened.{once_more, spelled_heard}
 function_is : (function : ℕ) → IsQueryFunction function → function_of (function == 0x81) ≡ function
 function_is function among =
     of_each (λ (n : ℕ). function_of (n == 0x81) ≡ n) (0x01 ∷ 0x81 ∷ []) function (refl, (refl, tt)) among
-
-not_false : (b : Bool) → not b ≡ true → b ≡ false
-not_false true e = absurd (false≢true e)
-not_false false e = refl
 
 -- with an exchange whose reply is due at once fPowerOnWPEn may be set
 power_on_more : (d : DeviceCore) (s : State) (tag : ℕ) (said : ShortReply) (on : Bool) → Describes d s →
@@ -137,7 +132,7 @@ module _ (d : DeviceCore) (s : State) (bytes : List ℕ) (h : Describes d s) (no
         both = and_parts (code_of_query s q == 0x00) (not (q.asked.opcode == 0)) (sym is.succeeds_is)
 
         set : IsSetting s (command_of x)
-        set = setting_is s q (command_of x) both.0 (not_false (q.asked.opcode == 0) both.1) is.says
+        set = setting_is s q (command_of x) both.0 (not-true (q.asked.opcode == 0) both.1) is.says
 
         no_task : task_of tag s.tasks ≡ None
         no_task = none_found (is_task_of tag) s.tasks (is_free s tag true free).no_task

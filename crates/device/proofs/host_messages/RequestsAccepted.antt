@@ -19,7 +19,7 @@ use Rattle.ufs_spec.specs.Translation.{is_mended}
 use Rattle.ufs_laws.proofs.rpmb_frames.FramesRead.{first_frames}
 use Rattle.ufs_laws.specs.RpmbWrites.{region_named}
 use Rattle.power_loss.specs.Exchange.{claim_of}
-use Rattle.power_loss.proofs.commands.RequestedCommands.{length-frames_in}
+use Rattle.ufs_laws.proofs.rpmb_frames.FramesRead.{length-frames_in}
 use Rattle.power_loss.proofs.host_commands.AcceptedCommands.{IsComing, command_allowed, plain_tied}
 use Rattle.power_loss.proofs.host_commands.ListsAndFrames.{FramesCame, frames_coming}
 use Rattle.power_loss.proofs.open_tasks.TaskLists.{found_fits}

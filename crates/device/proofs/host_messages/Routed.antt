@@ -1,7 +1,6 @@
 -- What a LUN byte and an operation code name, by what their routing says (JESD220, 10.8).
-use Rattle.std.proofs.Common.{◌≡◌, ◌∙◌, ℕ, Bool, true, false, Option, Some, None, refl, sym, ap}
-use Rattle.std.specs.Prelude.{not}
-use Rattle.ufs_spec.proofs.Facts.{true≢false}
+use Rattle.std.proofs.Common.{◌≡◌, ◌∙◌, ℕ, Option, Some, None, refl, sym, ap}
+use Rattle.ufs_spec.proofs.Facts.{not-false}
 use Rattle.ufs_spec.specs.Exchanges.{invalid_operation, no_unit}
 use Rattle.ufs_spec.specs.Refusals.{BootUnit, DeviceUnit, Lun, ReportLunsUnit, Request, RpmbUnit, State, UnitOf}
 use Rattle.ufs_spec.specs.Refusals.{lacks_unit, lun_of, numbers_of, operation_in, plain_now, takes, unit_in}
@@ -21,10 +20,6 @@ same_lack s r (UnitOf unit) = refl
 same_lack s r ReportLunsUnit = refl
 same_lack s r RpmbUnit = refl
 same_lack s r DeviceUnit = refl
-
-taken : (b : Bool) → not b ≡ false → b ≡ true
-taken true e = refl
-taken false e = absurd (true≢false e)
 
 module _ (s : State) (r : Request) (n : Numbers) (boot lun operation : ℕ) (meant : Lun) (unit : Option ℕ)
     (numbers_are : n ≡ numbers_of s) (boot_is : boot ≡ (plain_now s).boot) (lun_is : r.lun ≡ lun)
@@ -48,7 +43,7 @@ module _ (s : State) (r : Request) (n : Numbers) (boot lun operation : ℕ) (mea
           lun = meant;
           named = named_now;
           there = same_lack s r meant ∙ first.0;
-          takes_it = taken (takes meant (operation_in r)) second.0;
+          takes_it = not-false (takes meant (operation_in r)) second.0;
         },
         λ i. record {
           lun = sym lun_is i;

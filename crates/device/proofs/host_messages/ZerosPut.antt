@@ -9,7 +9,7 @@ use Rattle.ufs_spec.specs.declared.flash.Key.{Key}
 use Rattle.ftl_core.specs.Public.{AreClaimed, AreClaimedBy, Claims, Core, Describes, group_of_blocks, with_claimed}
 use Rattle.ftl_core.proofs.small_calls.ShortenedClaims.{shortened_accept, shortened_may}
 use Rattle.device.specs.Unmaps.{HasPutZeros}
-use Rattle.device.proofs.host_messages.GroupOfBlocks.{items_length}
+use Rattle.ftl_core.proofs.look_and_accept.GroupsAccepted.{items_length}
 use Rattle.device.proofs.open_tasks.KeptByTag.{claimed_last, claimed_own}
 
 -- what accepting the blocks that a reader has claimed makes of a layer

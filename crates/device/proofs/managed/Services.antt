@@ -1,9 +1,8 @@
 -- What a task management function comes to is what is specified: its service response, and which tasks go.
 use Rattle.std.proofs.Common.{◌≡◌, ◌∙◌, ℕ, ◌==◌, Bool, true, false, List, [], ◌∷◌, refl, sym, ap}
-use Rattle.std.proofs.Common.{arith}
 use Rattle.std.specs.Prelude.{◌&&◌, ◌||◌, if◌then◌else◌, is_none, not}
 use Rattle.std.specs.List.{list_any}
-use Rattle.ufs_spec.proofs.Facts.{nat_tests}
+use Rattle.std.proofs.Math.Bool.{and-true}
 use Rattle.ufs_spec.specs.Exchanges as exchange
 use Rattle.ufs_spec.specs.Ledger.{before_accepted}
 use Rattle.ufs_spec.specs.Machine.{is_named, managed, service, service_found, without_tasks}
@@ -16,23 +15,17 @@ use Rattle.device.specs.Kept.{DeviceCore}
 use Rattle.device.specs.Manages.{all_tasks, carried, function_on, means, one_task, service_by}
 use Rattle.device.specs.declared.management.Managing.{Managing}
 use Rattle.device.specs.declared.management.Managing.TheVariants as managing
+use Rattle.device.proofs.host_messages.AskedData.{other_side}
 use Rattle.device.proofs.managed.AllAborted.{nobody_goes}
 use Rattle.device.proofs.managed.FirstMeant.{any_meant}
-
-same_test : (m n : ℕ) → (m == n) ≡ (n == m)
-same_test m n = grind (arith, nat_tests)
-
-and_true : (b : Bool) → (b && true) ≡ b
-and_true true = refl
-and_true false = refl
 
 -- Who is meant
 
 one_meant : (lun tag : ℕ) (x : exchange.Task) → is_named lun tag x ≡ means (one_task lun tag) x
-one_meant lun tag x i = same_test x.lun lun i && same_test x.tag tag i
+one_meant lun tag x i = other_side x.lun lun i && other_side x.tag tag i
 
 all_meant : (lun : ℕ) (x : exchange.Task) → (x.lun == lun) ≡ means (all_tasks lun) x
-all_meant lun x = same_test x.lun lun ∙ sym (and_true (lun == x.lun))
+all_meant lun x = other_side x.lun lun ∙ sym (and-true (lun == x.lun))
 
 any_same : (p q : exchange.Task → Bool) → ((x : exchange.Task) → p x ≡ q x) → (us : List exchange.Task) →
     list_any p us ≡ list_any q us
@@ -123,7 +116,7 @@ module _ (d : DeviceCore) (s : State) (lun function meant : ℕ)
       by : (u o m a b x y : Bool) → made_by u o m a b x y ≡ carried s (comes_to u o m a b this all)
       by true o m a b x y = refl
       by false true m a b x y = ap (without_tasks s) (λ i z. one_meant lun meant z i)
-      by false false true a b x y = ap (without_tasks s) (λ i z. (and_true (z.lun == lun) ∙ all_meant lun z) i)
+      by false false true a b x y = ap (without_tasks s) (λ i z. (and-true (z.lun == lun) ∙ all_meant lun z) i)
       by false false false true b x y = nothing (λ z. (z.lun == lun) && (not false || (z.tag == meant))) x
       by false false false false true x y = nothing (λ z. (z.lun == lun) && (not false || (z.tag == meant))) y
       by false false false false false x y = refl

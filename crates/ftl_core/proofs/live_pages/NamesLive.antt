@@ -1,10 +1,11 @@
 -- A page is live in what is kept exactly if it is live in the layer.
-use Rattle.std.proofs.Common.{◌≡◌, ◌∙◌, ◌⊎◌, ℕ, zero, suc, ◌<◌, ◌≤◌, ◌&&◌, ◌||◌, Bool, true, false, List, []}
+use Rattle.std.proofs.Common.{◌≡◌, ◌∙◌, ◌⊎◌, ℕ, zero, suc, ◌<◌, ◌≤◌, Bool, true, false, List, []}
 use Rattle.std.proofs.Common.{◌∷◌, Option, Some, None, length, inl, inr, refl, sym, ap, subst, ⊎_elim, arith}
 use Rattle.std.specs.Prelude.{◌-◌, nat_lt, slice_get}
 use Rattle.std.proofs.lemmas.Option.{slice_get_within}
 use Rattle.ufs_spec.proofs.Equalities.{is_name_told, name_self, place_self, place_told}
-use Rattle.ufs_spec.proofs.Facts.{and_parts, cases_Bool, false≢true, lt-ltb, ltb-true, none-some, or_cases, same_Some}
+use Rattle.ufs_spec.proofs.Facts.{and_from, and_parts, cases_Bool, false≢true, lt-ltb, ltb-true, none-some, or_cases}
+use Rattle.ufs_spec.proofs.Facts.{or_left, or_right, same_Some}
 use Rattle.ufs_spec.specs.Cells.{Cell, GroupPage, key_of}
 use Rattle.ufs_spec.specs.Keys as keys
 use Rattle.ufs_spec.specs.Keys.{IsKey}
@@ -35,18 +36,6 @@ use Rattle.ftl_core.proofs.pages.PagesNamed.{pages_get}
 use Rattle.ftl_core.proofs.pages.StoredNames.{AreAlike, name_there}
 
 -- Tests
-
-both : (a b : Bool) → a ≡ true → b ≡ true → (a && b) ≡ true
-both true b e f = f
-both false b e f = absurd (false≢true e)
-
-first : (a b : Bool) → a ≡ true → (a || b) ≡ true
-first true b e = refl
-first false b e = absurd (false≢true e)
-
-second : (a b : Bool) → b ≡ true → (a || b) ≡ true
-second true b e = refl
-second false b e = e
 
 there_here : (p : Place) (o : Option Place) → o ≡ Some p → stands_there p o ≡ true
 there_here p o e = ap (stands_there p) e ∙ place_self p
@@ -148,8 +137,8 @@ module _ (c : Core) (t : Translation) (h : Describes c t) where
       let r = stored_named c t h.valid h.kept at.0 at.1 at.2 in
       subst (λ (q : Place). layer.is_live t q ≡ true) at.3
       (ap (is_live_cell t.ledger at.1.place) r.there
-      ∙ both _ _ (there_here at.1.place _ r.stands)
-      (second (nat_lt t.ledger.frontier r.tag.number) _
+      ∙ and_from _ _ (there_here at.1.place _ r.stands)
+      (or_right (nat_lt t.ledger.frontier r.tag.number) _
       (ap (is_name (name_of r.tag)) (ap (latest_durable t.ledger) r.key ∙ r.latest) ∙ name_self (name_of r.tag))))
 
   pending_live : (p : Place) → IsWrittenAt c.pages p → layer.is_live t p ≡ true
@@ -157,7 +146,7 @@ module _ (c : Core) (t : Translation) (h : Describes c t) where
       let at = written_at c.pages p w in
       let r = pending_named c t h.valid h.kept at.0 at.1 p at.2 at.3 in
       ap (is_live_cell t.ledger p) r.there
-      ∙ both _ _ (there_here p _ r.stands) (first _ _ (lt-ltb t.ledger.frontier r.tag.number r.above))
+      ∙ and_from _ _ (there_here p _ r.stands) (or_left _ _ (lt-ltb t.ledger.frontier r.tag.number r.above))
 
   held : (p : Place) (x : Cell) → t.disk.cells p ≡ x → is_live_cell t.ledger p x ≡ true →
       StandsAt c.numbers c.places p ⊎ IsWrittenAt c.pages p

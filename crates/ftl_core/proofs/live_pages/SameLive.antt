@@ -21,8 +21,8 @@ use Rattle.collector.specs.Plans.{Collection}
 use Rattle.collector.specs.declared.PlannedCopy.{PlannedCopy}
 use Rattle.ftl_core.specs.Moves.{mark_ordered, page_written, with_row}
 use Rattle.ftl_core.specs.Rests.{awaits, rests_filled, with_rest}
-use Rattle.write_cache.specs.Rests.{completed, completed_by}
-use Rattle.write_cache.specs.declared.rests.Rest.{Rest}
+use Rattle.write_cache.specs.Rests.{completed}
+use Rattle.write_cache.proofs.Fills.{places_kept}
 use Rattle.ufs_spec.specs.declared.flash.Place.{Place}
 use Rattle.ufs_spec.specs.declared.layer.Name.{Name}
 use Rattle.ftl_core.specs.Turns.{IsCollectionTurned, IsStepTurned, IsTurned, plan_next, plan_turned, repair_turned}
@@ -72,11 +72,6 @@ content : (c : Core) (tag : Option Tag) (o : Option (List ℕ)) → facts (with_
 content c tag None = refl
 content c tag (Some body) = refl
 
--- a page that has its rest is written where it was
-completed_written : (base : List ℕ) (o : Option Rest) (p : Pending) → (completed_by base o p).written ≡ p.written
-completed_written base None p = refl
-completed_written base (Some rest) p = refl
-
 filled_before : (name : Name) (base : List ℕ) (ps : List Pending) (at : Place) →
     IsWrittenAt (rests_filled name base ps) at → IsWrittenAt ps at
 filled_before name base [] at w = w
@@ -87,7 +82,7 @@ filled_before name base (p ∷ ps) at w =
         (IsWrittenAt (rests_filled name base ps) at → IsWrittenAt ps at) →
         IsWrittenAt (if b then completed base p ∷ rests_filled name (completed base p).body ps
         else p ∷ rests_filled name base ps) at → IsWrittenAt (p ∷ ps) at
-    by true filled same (inl e) = inl (sym (completed_written base p.rest p) ∙ e)
+    by true filled same (inl e) = inl (sym (places_kept base p.rest p) ∙ e)
     by true filled same (inr x) = inr (filled x)
     by false filled same (inl e) = inl e
     by false filled same (inr x) = inr (same x)
@@ -102,7 +97,7 @@ filled_behind name base (p ∷ ps) at w =
         (IsWrittenAt ps at → IsWrittenAt (rests_filled name base ps) at) → IsWrittenAt (p ∷ ps) at →
         IsWrittenAt (if b then completed base p ∷ rests_filled name (completed base p).body ps
         else p ∷ rests_filled name base ps) at
-    by true filled same (inl e) = inl (completed_written base p.rest p ∙ e)
+    by true filled same (inl e) = inl (places_kept base p.rest p ∙ e)
     by true filled same (inr x) = inr (filled x)
     by false filled same (inl e) = inl e
     by false filled same (inr x) = inr (same x)

@@ -45,6 +45,7 @@ use Rattle.ftl_core.specs.Describes.{Describes, PageKept, PagesKept, name_at}
 use Rattle.ftl_core.specs.Moves.{accepted, claims_for, next_number, pages_claimed}
 use Rattle.write_cache.specs.Slots.{is_claim_of, key_at, page_claimed}
 use Rattle.ftl_core.specs.Tells.{claim_at, claims_behind, claims_of_blocks, group_of_blocks, items_behind, key_behind}
+use Rattle.ftl_core.proofs.look_and_accept.BroughtLists.{written_before}
 use Rattle.ftl_core.proofs.look_and_accept.KeysBehind.{keys_same}
 use Rattle.ftl_core.proofs.look_and_accept.MoreGroups.{ledger_more, pins_kept_more, rests_more, with_group, work_more}
 use Rattle.ftl_core.proofs.look_and_accept.Numbers.{numbers_right, repairs_mended}
@@ -219,11 +220,6 @@ written_behind [] k number size (x ∷ xs) p (inl w) = absurd (none-some p w)
 written_behind [] k number size (x ∷ xs) p (inr w) = written_behind [] k number size xs p w
 written_behind (q ∷ ps) k number size claims p (inl w) = inl w
 written_behind (q ∷ ps) k number size claims p (inr w) = inr (written_behind ps k number size claims p w)
-
-written_before : (ps more : List Pending) (p : Place) → IsWrittenAt ps p → IsWrittenAt (ps ++ more) p
-written_before [] more p w = absurd w
-written_before (q ∷ ps) more p (inl w) = inl w
-written_before (q ∷ ps) more p (inr w) = inr (written_before ps more p w)
 
 none_written : (c : Core) (k : Key) (reader : ℕ) → KnowsLive c.numbers c.places c.pages c.live →
     KnowsLive c.numbers c.places (c.pages ++ pages_claimed c reader k) c.live

@@ -1,6 +1,6 @@
 -- The states of all blocks, in order by die and block.
 use Rattle.std.proofs.Common.{◌≡◌, ◌≢◌, ◌∙◌, ◌⊎◌, ℕ, zero, suc, ◌+◌, ◌<◌, ◌≤◌, Bool, true, false, List, [], ◌∷◌, ◌++◌}
-use Rattle.std.proofs.Common.{Option, Some, None, length, map, refl, sym, ap, subst, inl, inr, ⊎_elim, arith, cond, set}
+use Rattle.std.proofs.Common.{Option, Some, None, length, map, refl, sym, ap, subst, inl, inr, arith, cond, set}
 use Rattle.std.proofs.Common.{get_or, flat_map}
 use Rattle.std.specs.Prelude.{◌-◌, ◌*◌, ◌==◌, count_by, filter_map, find, slice_get, slice_set, option_map}
 use Rattle.std.specs.List.{cons_option}
@@ -22,7 +22,7 @@ use Rattle.ufs_spec.specs.declared.configs.Numbers.{Numbers}
 use Rattle.ufs_spec.specs.declared.flash.Place.{Place}
 use Rattle.ufs_laws.proofs.plain_contents.ListParts.{get_or-made, joined_next, joined_same, length-joined, length-made}
 use Rattle.ufs_laws.proofs.plain_contents.ListParts.{made_of, made_same}
-use Rattle.power_loss.proofs.books.SmallFacts.{at_spot_cases}
+use Rattle.power_loss.proofs.jobs.StandsSecurely.{at_spot_here, at_spot_other}
 use Rattle.block_table.specs.declared.BlockState.{BlockState}
 use Rattle.block_table.specs.declared.BlockState.TheVariants as state
 use Rattle.block_table.specs.declared.rows.OpenBlock.{OpenBlock}
@@ -301,13 +301,6 @@ pub next_found : (n : Numbers) (blocks : Spot → disk.BlockState) (die : ℕ) (
 next_found n blocks die None h = ap (λ (xs : List Place). first_of xs) (none_next blocks die n.blocks h)
 next_found n blocks die (Some o) h = ap (λ (xs : List Place). first_of xs) (one_next blocks die n.blocks o h.0 h.1 h.2)
 
--- a value that is put for a block is there, and at no other block
-put_here : {A : Type 0} (f : Spot → A) (s : Spot) (x : A) → at_spot f s x s ≡ x
-put_here f s x = ⊎_elim (λ h. h.1) (λ h. absurd (h.0 refl)) (at_spot_cases f s x s)
-
-put_beside : {A : Type 0} (f : Spot → A) (s : Spot) (x : A) (t : Spot) → t ≢ s → at_spot f s x t ≡ f t
-put_beside f s x t apart = ⊎_elim (λ h. absurd (apart h.0)) (λ h. h.1) (at_spot_cases f s x t)
-
 -- the state of one block is another
 states_put : (n : Numbers) (was is : Spot → BlockState) (s : Spot) → s.die < n.dies → s.block < n.blocks →
     ((t : Spot) → t ≢ s → is t ≡ was t) →
@@ -339,9 +332,9 @@ pub block_put : (n : Numbers) (blocks : Spot → disk.BlockState) (vacancies : S
     (slice_set states (s.die * n.blocks + s.block) (block_kept x (vacancies s)))
 block_put n blocks vacancies states s x h die block =
     subst (λ (y : disk.BlockState). BlocksKept n (at_spot blocks s x) vacancies
-    (slice_set states (s.die * n.blocks + s.block) (block_kept y (vacancies s)))) (put_here blocks s x)
+    (slice_set states (s.die * n.blocks + s.block) (block_kept y (vacancies s)))) (at_spot_here blocks s x s refl)
     (block_changed n blocks (at_spot blocks s x) vacancies vacancies states s h die block
-    (λ t apart. put_beside blocks s x t apart) (λ t apart. refl))
+    (λ t apart. at_spot_other blocks s x t apart) (λ t apart. refl))
 
 -- a block is free from now on, and what is in it is so
 pub block_vacant : (n : Numbers) (blocks : Spot → disk.BlockState) (vacancies : Spot → disk.Vacancy)
@@ -352,9 +345,9 @@ pub block_vacant : (n : Numbers) (blocks : Spot → disk.BlockState) (vacancies 
 block_vacant n blocks vacancies states s v h die block =
     subst (λ (y : BlockState). BlocksKept n (at_spot blocks s disk.Free) (at_spot vacancies s v)
     (slice_set states (s.die * n.blocks + s.block) y))
-    (λ i. block_kept (put_here blocks s disk.Free i) (put_here vacancies s v i))
+    (λ i. block_kept (at_spot_here blocks s disk.Free s refl i) (at_spot_here vacancies s v s refl i))
     (block_changed n blocks (at_spot blocks s disk.Free) vacancies (at_spot vacancies s v) states s h die block
-    (λ t apart. put_beside blocks s disk.Free t apart) (λ t apart. put_beside vacancies s v t apart))
+    (λ t apart. at_spot_other blocks s disk.Free t apart) (λ t apart. at_spot_other vacancies s v t apart))
 
 -- a block goes bad, whatever is in it
 pub block_lost : (n : Numbers) (blocks : Spot → disk.BlockState) (vacancies held : Spot → disk.Vacancy)
@@ -364,6 +357,6 @@ pub block_lost : (n : Numbers) (blocks : Spot → disk.BlockState) (vacancies he
     BlocksKept n (at_spot blocks s disk.Bad) held (slice_set states (s.die * n.blocks + s.block) state.Bad)
 block_lost n blocks vacancies held states s h die block beside =
     subst (λ (y : disk.BlockState). BlocksKept n (at_spot blocks s disk.Bad) held
-    (slice_set states (s.die * n.blocks + s.block) (block_kept y (held s)))) (put_here blocks s disk.Bad)
+    (slice_set states (s.die * n.blocks + s.block) (block_kept y (held s)))) (at_spot_here blocks s disk.Bad s refl)
     (block_changed n blocks (at_spot blocks s disk.Bad) vacancies held states s h die block
-    (λ t apart. put_beside blocks s disk.Bad t apart) beside)
+    (λ t apart. at_spot_other blocks s disk.Bad t apart) beside)

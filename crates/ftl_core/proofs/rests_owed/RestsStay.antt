@@ -1,8 +1,8 @@
 -- What is kept of the rests goes on to describe them along each move that neither accepts a group nor brings a rest.
-use Rattle.std.proofs.Common.{◌≡◌, ◌≢◌, ◌∙◌, ℕ, Bool, true, false, List, [], ◌∷◌, Option, Some, None, refl, sym, ap}
+use Rattle.std.proofs.Common.{◌≡◌, ◌≢◌, ◌∙◌, ℕ, Bool, true, false, List, Option, Some, None, refl, sym, ap}
 use Rattle.std.proofs.Common.{subst, inl, inr, ⊎_elim, Contains}
 use Rattle.std.specs.Prelude.{filter_map, if◌then◌else◌}
-use Rattle.ufs_spec.proofs.Facts.{none-some, same_Some}
+use Rattle.ufs_spec.proofs.Facts.{none-some}
 use Rattle.ufs_spec.specs.Cells.{Cell, Cells, GroupPage, MarkPage, Nothing}
 use Rattle.ufs_spec.specs.Disk as disk
 use Rattle.ufs_spec.specs.Disk.{at_die}
@@ -12,8 +12,8 @@ use Rattle.ufs_spec.specs.Moves.{WentWrong, end_flight, freed, job_ended, mark_a
 use Rattle.ufs_spec.specs.Moves.{without_reader}
 use Rattle.ufs_spec.specs.Translation.{FromPage, Order, OrderCopy, OrderMark, OrderPlanMark, OrderRepair, Rest}
 use Rattle.ufs_spec.specs.Translation.{Translation, copy_begun, has_mark_number, is_mended, mark_ordered, ordered}
-use Rattle.ufs_spec.specs.Translation.{CopyStep, MayTake, Plan, RepairStep, Step, StepKind, Want, want_at}
-use Rattle.ufs_spec.specs.Translation.{want_of_kind, wants_of_step, with_plan}
+use Rattle.ufs_spec.specs.Translation.{MayTake, Plan, want_at}
+use Rattle.ufs_spec.specs.Translation.{with_plan}
 use Rattle.ufs_spec.specs.declared.flash.Fence.{Fence}
 use Rattle.ufs_spec.specs.declared.flash.Place.{Place}
 use Rattle.ufs_spec.specs.declared.flash.Tag.{Tag}
@@ -25,10 +25,10 @@ use Rattle.power_loss.specs.Book.{Book, book}
 use Rattle.power_loss.specs.Invariant.{SourceRight, Valid}
 use Rattle.power_loss.specs.LaidRests.{RestsLaid}
 use Rattle.power_loss.proofs.books.SmallFacts.{at_die_cases}
-use Rattle.power_loss.proofs.jobs_owed.OneDieForEachJob.{IsOf, read_owed}
+use Rattle.power_loss.proofs.jobs_owed.OneDieForEachJob.{IsOf, read_owed, step_want}
 use Rattle.power_loss.proofs.laid_rests.AllMoves.{laid_move}
 use Rattle.power_loss.proofs.ordered_lists.ElementsAndOrders.{IsIn, all_in, contained_in, in_contained}
-use Rattle.power_loss.proofs.ordered_lists.ElementsAndOrders.{in_mapped, mapped_in}
+use Rattle.power_loss.proofs.ordered_lists.ElementsAndOrders.{in_mapped}
 use Rattle.write_cache.specs.declared.rests.OwedSource.TheVariants as owed
 use Rattle.write_cache.specs.declared.rests.OwedSource.{OwedSource}
 use Rattle.write_cache.specs.declared.rests.Rest as cache
@@ -322,21 +322,6 @@ gone_rests t pages is other u rests book_is cells flights laid h = record {
     before (Some (disk.Programming p cell)) n i place e = e
     before (Some (disk.Erasing s)) n i place e = e
 
--- the step under way reads for itself
-step_reader : (s : Option Step) (w : Want) → IsIn w (wants_of_step s) → w.reader ≡ ForStep
-step_reader None w h = absurd h
-step_reader (Some step) w h = by step.there h
-  where
-    kind_want : (kind : StepKind) → want_of_kind kind ≡ Some w → w.reader ≡ ForStep
-    kind_want (CopyStep name from) e = sym (ap (λ (z : Want). z.reader) (same_Some (want_at ForStep from) w e))
-    kind_want (RepairStep name (Some from)) e =
-        sym (ap (λ (z : Want). z.reader) (same_Some (want_at ForStep from) w e))
-    kind_want kind e = absurd (none-some w e)
-
-    by : (b : Bool) → IsIn w (if b then [] else filter_map want_of_kind (step.kind ∷ [])) → w.reader ≡ ForStep
-    by true k = absurd k
-    by false k = let r = mapped_in want_of_kind (step.kind ∷ []) k in kind_want r.0 r.2
-
 -- a rest is told by its name and its place
 rest_is : (rest : Rest) (n i : ℕ) (place : Place) → rest.source ≡ FromPage place →
     ForRest n i ≡ ForRest rest.name.number rest.name.index →
@@ -376,7 +361,7 @@ gives_rests t pages die flight v h may = record {
         by : IsOf t (want_at (ForRest n i) place) →
             Contains t.work.rests (record { name = record { number = n; index = i }; source = FromPage place })
         by (inl k) = absurd (no_task k.0.tag k.0.index k.2.2)
-        by (inr (inl k)) = absurd (no_step (step_reader t.work.step (want_at (ForRest n i) place) k))
+        by (inr (inl k)) = absurd (no_step (step_want t.work.step (want_at (ForRest n i) place) k))
         by (inr (inr k)) = in_contained t.work.rests (subst (λ (r : Rest). IsIn r t.work.rests)
             (rest_is k.0 n i place k.2.0 k.2.1) k.1)
 

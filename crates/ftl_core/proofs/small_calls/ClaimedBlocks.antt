@@ -9,6 +9,7 @@ use Rattle.ufs_spec.specs.Plain.{zero_block}
 use Rattle.ufs_spec.specs.Translation.{Translation}
 use Rattle.write_cache.specs.declared.slots.Claimed.{Claimed}
 use Rattle.write_cache.specs.Slots.{claim_filled, is_claim_of}
+use Rattle.write_cache.proofs.Entries.{other_above}
 use Rattle.ftl_core.specs.Core.{Core}
 use Rattle.ftl_core.specs.Describes.{Describes}
 use Rattle.ftl_core.specs.Moves.{claimed_all, claims_for, filled}
@@ -74,9 +75,6 @@ filled_other : (reader k i : ℕ) (block old : List ℕ) → (i == k) ≡ false 
 filled_other reader k i block old other =
     ap (λ b. claim_at reader i (cond b block old)) (λ j. eqb-self reader j && other j)
 
-above : (k i : ℕ) → k < i → (i == k) ≡ false
-above k i h = grind (arith, nat_tests)
-
 below : (i n : ℕ) → (i == i + suc n) ≡ false
 below i n = grind (arith, nat_tests)
 
@@ -85,7 +83,7 @@ behind_stay : (reader k i : ℕ) (block : List ℕ) (blocks : List (List ℕ)) �
     map (claim_filled reader k block) (claims_behind reader i blocks) ≡ claims_behind reader i blocks
 behind_stay reader k i block [] h = refl
 behind_stay reader k i block (old ∷ blocks) h = λ j.
-    filled_other reader k i block old (above k i h) j ∷ behind_stay reader k (i + 1) block blocks (omega arith) j
+    filled_other reader k i block old (other_above k i h) j ∷ behind_stay reader k (i + 1) block blocks (omega arith) j
 
 behind_filled : (reader i k : ℕ) (block : List ℕ) (blocks : List (List ℕ)) →
     map (claim_filled reader (i + k) block) (claims_behind reader i blocks)

@@ -11,6 +11,7 @@ use Rattle.std.proofs.lemmas.List.Sums.{sum_by-cons}
 use Rattle.std.specs.Int.{div_ceil}
 use Rattle.std.specs.List.{All, count_by, list_any, sum_by}
 use Rattle.ufs_laws.proofs.new_dies.FirstLife.{none_there}
+use Rattle.power_loss.proofs.collected_blocks.FewestLivePages.{bad_told}
 use Rattle.ufs_laws.proofs.pages.BlankPages.{nothing_is_blank}
 use Rattle.ufs_laws.proofs.pages.PageIsOneCell.{one_cell}
 use Rattle.ufs_spec.proofs.ConfigFacts.{config_tests, ranges}
@@ -19,7 +20,7 @@ use Rattle.ufs_spec.proofs.Lists.{length-below}
 use Rattle.ufs_spec.specs.Cells.{AreWithin, Array, Cell, Cells, IsCell, Nothing}
 use Rattle.ufs_spec.specs.Configs.{IsConfig, blocks_left, blocks_needed, pages_kept}
 use Rattle.ufs_spec.specs.Dies.{DieState}
-use Rattle.ufs_spec.specs.Disk.{BlockState, Bad, CellCrash, Closed, Erasing, Filling, Flight, Free, Programming}
+use Rattle.ufs_spec.specs.Disk.{Bad, CellCrash, Erasing, Filling, Flight, Free, Programming}
 use Rattle.ufs_spec.specs.Disk.{Reading, Spot, Touches, spot_of}
 use Rattle.ufs_spec.specs.Keys.{below}
 use Rattle.ufs_spec.specs.Lives.{IsOpened, Life, Lived, Lives, Runs, Stops, array_of, bad_in, bad_of}
@@ -201,12 +202,6 @@ layer_finds_room n c left bad t next moves config right within sound few blank o
 
 -- Bad blocks
 
-told_bad : (x : BlockState) → is_bad x ≡ true → x ≡ Bad
-told_bad Bad h = refl
-told_bad Free h = absurd (true≢false (sym h))
-told_bad Closed h = absurd (true≢false (sym h))
-told_bad (Filling next) h = absurd (true≢false (sym h))
-
 -- no job touches them
 untouched : {t : Translation} → Valid t → (f : Option Flight) (p : Place) (intended : Cell) → t.disk.flights p.die ≡ f →
     Touches f p intended → t.disk.blocks (spot_of p) ≡ Bad → ⊥
@@ -272,7 +267,7 @@ module _ (n : Numbers) (array : Array) (bad : Spot → Bool) (s : State) (config
       Life s es os t → NoneFails es → Stops t lefts left → OpensNoneIfBad left (bad_in t)
   left_bare t es os lefts left life well stops p h =
       let w = many_events s t es os valid life in
-      let bad = told_bad (t.translation.disk.blocks (spot_of p)) h in
+      let bad = bad_told (t.translation.disk.blocks (spot_of p)) h in
       ⊎_elim
       (λ e. subst (λ x. IsCell x Nothing) (sym e)
       (subst (IsCell (t.array p)) ((lives_at t es os life well).leaves.blank p bad) (w.tied.shown p)))

@@ -31,8 +31,9 @@ use Rattle.power_loss.specs.MendingRoom.{HasRoom, fails_job}
 use Rattle.power_loss.proofs.room_to_mend.DevicesWithRoom.{no_failure}
 use Rattle.many_stops.proofs.finding_room.BlocksOneByOne.{Filled, move_fills, opening_filled}
 use Rattle.many_stops.proofs.finding_room.RoomForAMending.{blocks_hold, own_room_twice}
-use Rattle.many_stops.proofs.finding_room.SinceTheOpening.{SinceOpening, WereUnfilled, move_since}
-use Rattle.many_stops.proofs.finding_room.SinceTheOpening.{opening_since}
+use Rattle.many_stops.proofs.finding_room.SinceTheOpening.{SinceOpening, WereUnfilled}
+use Rattle.many_stops.proofs.finding_room.MovesSinceTheOpening.{move_since}
+use Rattle.many_stops.proofs.finding_room.MovesSinceTheOpening.{opening_since}
 use Rattle.many_stops.proofs.finding_room.StopsOfAMending.{HasNewMark, HasNoNewMark, bad_is, new_mark}
 use Rattle.many_stops.proofs.finding_room.StopsOfAMending.{were_unfilled}
 use Rattle.many_stops.proofs.finding_room.StopsOfAMending.{repairing_leaves, unmarked_leaves}

@@ -1,39 +1,23 @@
 -- What a device that mends has made of the cells and blocks of its opening: closed blocks are as they were, and the
 -- pages of the blocks that it opened are marks, or have numbers from the first lost one on.
-use Rattle.std.proofs.Common.{◌∷◌, ◌≡◌, ◌≢◌, ◌⊎◌, ℕ, suc, ◌+◌, ◌<◌, ◌≤◌, Bool, true, false, List, Option, Some, None}
-use Rattle.std.proofs.Common.{inl, inr, ⊎_elim, if◌then◌else◌, length, refl, sym, ap, ◌∙◌, subst, arith}
-use Rattle.ufs_laws.proofs.walk.LayerEffects.{IsDue, order_due, turned_if}
-use Rattle.ufs_spec.proofs.CellKinds.{one_mark, one_page, page_not_nothing}
-use Rattle.ufs_spec.proofs.Equalities.{name_told, spot_cases}
-use Rattle.ufs_spec.proofs.Facts.{false≢true, none-some, same_Some, true≢false}
-use Rattle.ufs_spec.proofs.Updates.{at_place_cases, at_place_is, at_spot_cases, at_spot_is}
-use Rattle.ufs_spec.specs.Cells.{Cell, Cells, GroupPage, Mark, MarkPage, Nothing}
-use Rattle.ufs_spec.specs.Disk.{BlockState, Bad, Closed, Erasing, Filling, Flight}
-use Rattle.ufs_spec.specs.Disk.{Free, Programming, Reading, Spot, at_place, at_spot, spot_of, state_after}
-use Rattle.ufs_spec.specs.Moves.{EndJob, Ending, GiveJob, IsAllowedMove, Move, ReadRight, ReadWrong, TakeStep, WentWell}
-use Rattle.ufs_spec.specs.Moves.{WentWrong, end_flight, mark_written, mending_after, moved, page_written, step_after}
+use Rattle.std.proofs.Common.{◌≡◌, ◌≢◌, ◌⊎◌, ℕ, suc, ◌+◌, ◌<◌, ◌≤◌, Bool, true, false, List, Option, Some, None}
+use Rattle.std.proofs.Common.{if◌then◌else◌, sym, ap, ◌∙◌, arith}
+use Rattle.ufs_spec.proofs.Facts.{none-some, same_Some, true≢false}
+use Rattle.ufs_spec.specs.Cells.{Cells, GroupPage, Mark, Nothing}
+use Rattle.ufs_spec.specs.Disk.{BlockState, Bad, Closed, Filling}
+use Rattle.ufs_spec.specs.Disk.{Free, Spot, spot_of}
+use Rattle.ufs_spec.specs.Moves.{mending_after, step_after}
 use Rattle.ufs_spec.specs.Moves.{is_kind_of, step_there}
-use Rattle.ufs_spec.specs.Openings.{IsMendingAt, IsOpenedTranslation, number_of}
-use Rattle.ufs_spec.specs.Translation.{CopyStep, MarkStep, MayTake, Mended, Mending, Order, OrderCopy, OrderMark}
-use Rattle.ufs_spec.specs.Translation.{OrderPlanMark, OrderRepair, Plan, RepairStep, Repairing, Step, StepKind}
-use Rattle.ufs_spec.specs.Translation.{Translation, Unmarked, is_mended, mark_ordered, name_of, ordered, repair_ordered}
-use Rattle.ufs_spec.specs.Translation.{taken, turned}
+use Rattle.ufs_spec.specs.Openings.{number_of}
+use Rattle.ufs_spec.specs.Translation.{MarkStep, Mended, Mending}
+use Rattle.ufs_spec.specs.Translation.{RepairStep, Repairing, Step, StepKind}
+use Rattle.ufs_spec.specs.Translation.{Translation, Unmarked}
 use Rattle.ufs_spec.specs.declared.configs.Numbers.{Numbers}
 use Rattle.ufs_spec.specs.declared.flash.Fence.{Fence}
-use Rattle.ufs_spec.specs.declared.flash.Key.{Key}
 use Rattle.ufs_spec.specs.declared.flash.Place.{Place}
 use Rattle.ufs_spec.specs.declared.flash.Tag.{Tag}
 use Rattle.ufs_spec.specs.declared.layer.Name.{Name}
-use Rattle.ufs_spec.specs.declared.layer.Reader.TheVariants.{ForNobody, ForRest, ForStep, ForTask}
-use Rattle.power_loss.proofs.books.LayerParts.{MendingOf}
-use Rattle.power_loss.proofs.jobs.StandsSecurely.{closed_is_not_free, ready_is_not_stale}
-use Rattle.power_loss.proofs.jobs_owed.ProgramsAndErases.{OpensReady, program_owed}
-use Rattle.power_loss.proofs.stops.LeftUnmarked.{page_no_mark}
-use Rattle.power_loss.specs.Book.{book}
-use Rattle.power_loss.specs.Invariant.{StepKindRight, Valid}
 use Rattle.power_loss.specs.Losing.{is_marked}
-use Rattle.power_loss.specs.MendingRoom.{MendsAlone, fails_job, flies_kind}
-use Rattle.many_stops.proofs.room_left.RoomStays.{not_bad_after}
 
 -- a step of this kind is under way, with its content there or not
 abbrev pub step_of : StepKind → Bool → Option Step
@@ -71,7 +55,7 @@ WereUnfilled o = (s : Spot) → (o.disk.blocks s ≡ Free) ⊎ ((o.disk.blocks s
 
 -- Steps
 
-after_is : (name : Name) (s : Option Step) (x : Step) → step_after name s ≡ Some x → s ≡ Some x
+pub after_is : (name : Name) (s : Option Step) (x : Step) → step_after name s ≡ Some x → s ≡ Some x
 after_is name None x h = absurd (none-some x h)
 after_is name (Some step) x h = by (is_kind_of name step.kind) h
   where
@@ -79,7 +63,7 @@ after_is name (Some step) x h = by (is_kind_of name step.kind) h
     by true k = absurd (none-some x k)
     by false k = k
 
-there_is : (s : Option Step) (kind : StepKind) (there : Bool) →
+pub there_is : (s : Option Step) (kind : StepKind) (there : Bool) →
     step_there s ≡ step_of kind there →
     (before : Bool) × (s ≡ step_of kind before)
 there_is None kind there h = absurd (none-some _ h)
@@ -88,7 +72,7 @@ there_is (Some step) kind there h =
     (same_Some (record step { there = true }) (record { kind = kind; there = there }) h) in
     (step.there, ap (λ k. Some (record { kind = k; there = step.there })) e)
 
-kind_of_step : {a b : StepKind} {x y : Bool} → step_of a x ≡ step_of b y → a ≡ b
+pub kind_of_step : {a b : StepKind} {x y : Bool} → step_of a x ≡ step_of b y → a ≡ b
 kind_of_step {a} {b} {x} {y} e =
     ap (λ (z : Step). z.kind) (same_Some (record { kind = a; there = x }) (record { kind = b; there = y }) e)
 
@@ -96,340 +80,31 @@ kinds_apart : {number : ℕ} {fence : Option Fence} {name : Name} {from : Option
     MarkStep number fence ≡ RepairStep name from → ⊥
 kinds_apart e = cc
 
-mark_no_repair : {number : ℕ} {fence : Option Fence} {a b : Bool} {name : Name} {from : Option Place} →
+pub mark_no_repair : {number : ℕ} {fence : Option Fence} {a b : Bool} {name : Name} {from : Option Place} →
     step_of (MarkStep number fence) a ≡ step_of (RepairStep name from) b → ⊥
 mark_no_repair e = kinds_apart (kind_of_step e)
 
-next_low : (low seen long number : ℕ) → low ≤ suc seen → seen + long + 1 ≡ number → low ≤ number
+pub next_low : (low seen long number : ℕ) → low ≤ suc seen → seen + long + 1 ≡ number → low ≤ number
 next_low low seen long number l e = omega (arith, l, e)
 
-abbrev name_number : (k : StepKind) → ℕ
+abbrev pub name_number : (k : StepKind) → ℕ
 name_number (RepairStep name from) = name.number
 name_number k = 0
 
-behind_marked : (w : Mending) → is_marked (mending_after w) ≡ false → ⊥
+pub behind_marked : (w : Mending) → is_marked (mending_after w) ≡ false → ⊥
 behind_marked (Unmarked None lost) h = true≢false h
 behind_marked (Unmarked (Some fence) lost) h = true≢false h
 behind_marked (Repairing left) h = true≢false h
 behind_marked Mended h = true≢false h
 
-closed_apart : {next : ℕ} → Closed ≡ Filling next → ⊥
+pub closed_apart : {next : ℕ} → Closed ≡ Filling next → ⊥
 closed_apart e = cc
 
-bad_apart : {next : ℕ} → Bad ≡ Filling next → ⊥
+pub bad_apart : {next : ℕ} → Bad ≡ Filling next → ⊥
 bad_apart e = cc
 
 pub bad_is_not_free : {x : BlockState} → x ≡ Bad → x ≢ Free
 bad_is_not_free {x} e h = let no : Bad ≡ Free = sym e ∙ h in cc
 
-filling_not_free : {x : BlockState} {next : ℕ} → x ≡ Filling next → x ≢ Free
+pub filling_not_free : {x : BlockState} {next : ℕ} → x ≡ Filling next → x ≢ Free
 filling_not_free {x} {next} e h = let no : Filling next ≡ Free = sym e ∙ h in cc
-
--- What was not free
-
-module _ (o t : Translation) (unfilled : WereUnfilled o) (r : SinceOpening o t) where
-  -- what is being filled, or is free, was free
-  pub filled_was_free : (s : Spot) (next : ℕ) → t.disk.blocks s ≡ Filling next → o.disk.blocks s ≡ Free
-  filled_was_free s next is = ⊎_elim (λ e. e)
-      (λ e. ⊎_elim (λ k. absurd (closed_apart (sym k ∙ sym (r.still s (closed_is_not_free k)) ∙ is)))
-      (λ k. absurd (bad_apart (sym k ∙ sym (r.still s (bad_is_not_free k)) ∙ is))) e) (unfilled s)
-
-  pub free_was_free : (s : Spot) → t.disk.blocks s ≡ Free → o.disk.blocks s ≡ Free
-  free_was_free s is = ⊎_elim (λ e. e)
-      (λ e. ⊎_elim (λ k. absurd (closed_is_not_free k (sym (r.still s (closed_is_not_free k)) ∙ is)))
-      (λ k. absurd (bad_is_not_free k (sym (r.still s (bad_is_not_free k)) ∙ is))) e) (unfilled s)
-
-module _ {o t : Translation} (unfilled : WereUnfilled o) (v : Valid t) (un : is_mended t.work.mending ≡ false)
-    (alone : MendsAlone t) (r : SinceOpening o t) where
-  -- Jobs that begin
-
-  opens : (p : Place) → (t.disk.blocks (spot_of p) ≡ Filling p.page) ⊎ OpensReady t p →
-      SinceOpening o (record t { disk = record t.disk { blocks = at_spot t.disk.blocks (spot_of p) (Filling p.page) } })
-  opens p next = record {
-    numbers_are = r.numbers_are;
-    lost = r.lost;
-    seen = r.seen;
-    still = λ s not. ⊎_elim (λ k. absurd (not (ap o.disk.blocks k.0 ∙ was))) (λ k. k.1 ∙ r.still s not)
-        (at_spot_cases t.disk.blocks (spot_of p) (Filling p.page) s);
-    no_worse = λ s h. ⊎_elim (λ k. absurd (bad_apart (sym k.1))) (λ k. r.no_worse s k.1)
-        (at_spot_is t.disk.blocks (spot_of p) (Filling p.page) s Bad h);
-    unchanged = r.unchanged;
-    new = λ q tag body free now h. ⊎_elim (λ k. inside q tag body k.0 free h)
-        (λ k. r.new q tag body free (λ e. now (k.1 ∙ e)) h)
-        (at_spot_cases t.disk.blocks (spot_of p) (Filling p.page) (spot_of q));
-    named = r.named;
-    same = r.same;
-    fewer = r.fewer;
-    newer = r.newer;
-  }
-    where
-      was : o.disk.blocks (spot_of p) ≡ Free
-      was = ⊎_elim (λ e. filled_was_free o t unfilled r (spot_of p) p.page e)
-          (λ (k : OpensReady t p). free_was_free o t unfilled r (spot_of p) k.free) next
-
-      inside : (q : Place) (tag : Tag) (body : List ℕ) → spot_of q ≡ spot_of p → o.disk.blocks (spot_of q) ≡ Free →
-          t.disk.cells q ≡ GroupPage tag body → t.ledger.first_lost ≤ tag.number
-      inside q tag body at free h = ⊎_elim
-          (λ e. r.new q tag body free (filling_not_free (ap t.disk.blocks at ∙ e)) h)
-          (λ (k : OpensReady t p). absurd (page_not_nothing _ _ _ h
-          (v.vacancies.empty q (ap t.disk.blocks at ∙ k.free) (ready_is_not_stale (ap t.disk.vacancies at ∙ k.ready)))))
-          next
-
-  takes : (die : ℕ) (flight : Flight) → MayTake t die (Some flight) → SinceOpening o (taken t die flight)
-  takes die (Reading reader place) may = r
-  takes die (Erasing s) may = r
-  takes die (Programming p cell) may = opens p (program_owed t die p cell may).place.next
-
-  -- Programs that end
-
-  -- the page of a group that is programmed is a repair
-  flown_number : (die : ℕ) (p : Place) (tag : Tag) (body : List ℕ) →
-      t.disk.flights die ≡ Some (Programming p (GroupPage tag body)) → t.ledger.first_lost ≤ tag.number
-  flown_number die p tag body e =
-      let s = alone.of_step die p (GroupPage tag body) e in
-      by s.0.kind s.0.there s.1 (v.step.kind s.0 s.1) s.2
-    where
-      by : (kind : StepKind) (there : Bool) → t.work.step ≡ step_of kind there →
-          StepKindRight (book t) t.ledger.marks t.disk.cells t.work.mending t.work.plan kind →
-          flies_kind kind (Some (Programming p (GroupPage tag body))) ≡ true → t.ledger.first_lost ≤ tag.number
-      by (MarkStep number fence) there is right h = absurd (false≢true h)
-      by (CopyStep name from) there is right h = absurd (true≢false (sym (ap is_mended right.0) ∙ un))
-      by (RepairStep name from) there is right h =
-          let n = ap (λ (x : Name). x.number) (name_told name (name_of tag) h) in
-          let l = r.named name from there is in
-          omega (arith, n, l)
-
-  pub flies_new : (die : ℕ) (p : Place) (tag : Tag) (body : List ℕ) →
-      t.disk.flights die ≡ Some (Programming p (GroupPage tag body)) → t.ledger.first_lost ≤ tag.number
-  flies_new = flown_number
-
-  no_worse_behind : (p : Place) (s : Spot) →
-      at_spot t.disk.blocks (spot_of p) (state_after t.numbers.pages p.page) s ≡ Bad → o.disk.blocks s ≡ Bad
-  no_worse_behind p s h = ⊎_elim (λ k. absurd (not_bad_after t.numbers.pages p.page k.1)) (λ k. r.no_worse s k.1)
-      (at_spot_is t.disk.blocks (spot_of p) (state_after t.numbers.pages p.page) s Bad h)
-
-  module _ (die : ℕ) (p : Place) (cell : Cell) (e : t.disk.flights die ≡ Some (Programming p cell)) where
-    was_free : o.disk.blocks (spot_of p) ≡ Free
-    was_free = filled_was_free o t unfilled r (spot_of p) p.page (v.flights.programs die p cell e).next
-
-    still_behind : (s : Spot) → o.disk.blocks s ≢ Free →
-        at_spot t.disk.blocks (spot_of p) (state_after t.numbers.pages p.page) s ≡ o.disk.blocks s
-    still_behind s not = ⊎_elim (λ k. absurd (not (ap o.disk.blocks k.0 ∙ was_free))) (λ k. k.1 ∙ r.still s not)
-        (at_spot_cases t.disk.blocks (spot_of p) (state_after t.numbers.pages p.page) s)
-
-    unchanged_behind : (q : Place) → o.disk.blocks (spot_of q) ≢ Free → at_place t.disk.cells p cell q ≡ o.disk.cells q
-    unchanged_behind q not = ⊎_elim (λ k. absurd (not (ap (λ (z : Place). o.disk.blocks (spot_of z)) k.0 ∙ was_free)))
-        (λ k. k.1 ∙ r.unchanged q not) (at_place_cases t.disk.cells p cell q)
-
-    new_behind : ((tag : Tag) (body : List ℕ) → cell ≡ GroupPage tag body → t.ledger.first_lost ≤ tag.number) →
-        (q : Place) (tag : Tag) (body : List ℕ) → o.disk.blocks (spot_of q) ≡ Free →
-        at_spot t.disk.blocks (spot_of p) (state_after t.numbers.pages p.page) (spot_of q) ≢ Free →
-        at_place t.disk.cells p cell q ≡ GroupPage tag body → t.ledger.first_lost ≤ tag.number
-    new_behind own q tag body free now h = ⊎_elim (λ k. own tag body k.1)
-        (λ k. r.new q tag body free
-        (⊎_elim (λ a. filling_not_free (ap t.disk.blocks a.0 ∙ (v.flights.programs die p cell e).next))
-        (λ a is. now (a.1 ∙ is))
-        (at_spot_cases t.disk.blocks (spot_of p) (state_after t.numbers.pages p.page) (spot_of q))) k.1)
-        (at_place_is t.disk.cells p cell q (GroupPage tag body) h)
-
-  unmarked_group : (w : Mending) → MendingOf t w → is_marked w ≡ false → (die : ℕ) (p : Place) (tag : Tag)
-      (body : List ℕ) → t.disk.flights die ≡ Some (Programming p (GroupPage tag body)) → ⊥
-  unmarked_group (Unmarked fence lost) m is die p tag body e =
-      let k = m.flies die p (GroupPage tag body) e in page_no_mark k.1
-  unmarked_group (Repairing left) m is die p tag body e = true≢false is
-  unmarked_group Mended m is die p tag body e = true≢false is
-
-  page_ends : (die : ℕ) (p : Place) (tag : Tag) (body : List ℕ) →
-      t.disk.flights die ≡ Some (Programming p (GroupPage tag body)) → SinceOpening o (page_written t p tag body)
-  page_ends die p tag body e = record {
-    numbers_are = r.numbers_are;
-    lost = r.lost;
-    seen = r.seen;
-    still = still_behind die p (GroupPage tag body) e;
-    no_worse = no_worse_behind p;
-    unchanged = unchanged_behind die p (GroupPage tag body) e;
-    new = new_behind die p (GroupPage tag body) e
-        (λ other more same. let n = ap (λ (x : Tag). x.number) (one_page tag other body more same).0 in
-        let l = flown_number die p tag body e in omega (arith, n, l));
-    named = λ name from there h. r.named name from there (after_is (name_of tag) t.work.step _ h);
-    same = r.same;
-    fewer = λ unmarked q free. absurd (unmarked_group t.work.mending v.mending unmarked die p tag body e);
-    newer = r.newer;
-  }
-
-  -- a mark that is programmed is newer than that of the opening
-  flown_newer : (w : Mending) → t.work.mending ≡ w → MendingOf t w → (die : ℕ) (p : Place) (m : Mark) →
-      t.disk.flights die ≡ Some (Programming p (MarkPage m)) → number_of o.ledger.newest < m.number
-  flown_newer (Unmarked fence lost) is w die p m e =
-      let k = w.flies die p (MarkPage m) e in
-      let n = ap (λ (x : Mark). x.number) (one_mark m k.0 k.1) in
-      let f = ap number_of (r.same (ap is_marked is)) in
-      let l = k.2.newer in
-      omega (arith, n, f, l)
-  flown_newer (Repairing left) is w die p m e =
-      let l = (w.right.flies die p m e).newer in
-      let k = r.newer (ap is_marked is) w.mark w.is in
-      omega (arith, l, k)
-  flown_newer Mended is w die p m e =
-      let l = (w.right.flies die p m e).newer in
-      let k = r.newer (ap is_marked is) w.mark w.is in
-      omega (arith, l, k)
-
-  mark_ends : (die : ℕ) (p : Place) (m : Mark) → t.disk.flights die ≡ Some (Programming p (MarkPage m)) →
-      SinceOpening o (mark_written t p m)
-  mark_ends die p m e = by t.work.plan refl
-    where
-      by : (pl : Option Plan) → t.work.plan ≡ pl →
-          SinceOpening o (mark_written (record t { work = record t.work { plan = pl } }) p m)
-      by (Some pl) is = absurd (true≢false (sym (ap is_mended (v.plan.mended pl is)) ∙ un))
-      by None is = record {
-        numbers_are = r.numbers_are;
-        lost = r.lost;
-        seen = r.seen;
-        still = still_behind die p (MarkPage m) e;
-        no_worse = no_worse_behind p;
-        unchanged = unchanged_behind die p (MarkPage m) e;
-        new = new_behind die p (MarkPage m) e (λ tag body same. absurd (page_no_mark (sym same)));
-        named = λ name from there h. absurd (none-some _ h);
-        same = λ h. absurd (behind_marked t.work.mending h);
-        fewer = λ h. absurd (behind_marked t.work.mending h);
-        newer = λ h other is.
-            let n = ap (λ (x : Mark). x.number) (same_Some m other is) in
-            let l = flown_newer t.work.mending refl v.mending die p m e in
-            omega (arith, n, l);
-      }
-
-  -- Erases that end
-
-  erase_ends : (die : ℕ) (s : Spot) → t.disk.flights die ≡ Some (Erasing s) →
-      SinceOpening o (end_flight t die (Some (Erasing s)) WentWell)
-  erase_ends die s e = record {
-    numbers_are = r.numbers_are;
-    lost = r.lost;
-    seen = r.seen;
-    still = r.still;
-    no_worse = r.no_worse;
-    unchanged = λ q not. ⊎_elim (λ k. absurd (not (ap o.disk.blocks k.1 ∙ was)))
-        (λ k. subst (λ b. (if b then Nothing else t.disk.cells q) ≡ o.disk.cells q) (sym k.0) (r.unchanged q not))
-        (spot_cases (spot_of q) s);
-    new = λ q tag body free now h. ⊎_elim
-        (λ k. absurd (page_not_nothing _ _ _
-        (subst (λ b. (if b then Nothing else t.disk.cells q) ≡ GroupPage tag body) k.0 h) refl))
-        (λ k. r.new q tag body free now
-        (subst (λ b. (if b then Nothing else t.disk.cells q) ≡ GroupPage tag body) k.0 h))
-        (spot_cases (spot_of q) s);
-    named = r.named;
-    same = r.same;
-    fewer = λ unmarked q free. ⊎_elim
-        (λ k. inr (ap (λ b. if b then Nothing else t.disk.cells q) k.0))
-        (λ k. subst (λ b. ((if b then Nothing else t.disk.cells q) ≡ o.disk.cells q)
-        ⊎ ((if b then Nothing else t.disk.cells q) ≡ Nothing)) (sym k.0) (r.fewer unmarked q free))
-        (spot_cases (spot_of q) s);
-    newer = r.newer;
-  }
-    where
-      was : o.disk.blocks s ≡ Free
-      was = free_was_free o t unfilled r s (v.flights.erases die s e).free
-
-  -- Jobs that end
-
-  with_named : (step : Option Step) →
-      ((name : Name) (from : Option Place) (there : Bool) →
-      step ≡ step_of (RepairStep name from) there → t.ledger.first_lost ≤ name.number) →
-      SinceOpening o (record t { work = record t.work { step = step } })
-  with_named step named = record {
-    numbers_are = r.numbers_are;
-    lost = r.lost;
-    seen = r.seen;
-    still = r.still;
-    no_worse = r.no_worse;
-    unchanged = r.unchanged;
-    new = r.new;
-    named = named;
-    same = r.same;
-    fewer = r.fewer;
-    newer = r.newer;
-  }
-
-  ends : (die : ℕ) (flight : Option Flight) (ending : Ending) → t.disk.flights die ≡ flight →
-      fails_job (EndJob die ending) ≡ false → SinceOpening o (end_flight t die flight ending)
-  ends die flight (WentWrong left) e well = absurd (true≢false well)
-  ends die (Some (Reading (ForTask tag index) place)) ReadRight e well = r
-  ends die (Some (Reading ForStep place)) ReadRight e well =
-      with_named (step_there t.work.step)
-      (λ name from there h. let k = there_is t.work.step (RepairStep name from) there h in r.named name from k.0 k.1)
-  ends die (Some (Reading (ForRest number index) place)) ReadRight e well = r
-  ends die (Some (Reading ForNobody place)) ReadRight e well = r
-  ends die (Some (Reading (ForTask tag index) place)) ReadWrong e well = r
-  ends die (Some (Reading reader place)) ReadWrong e well = r
-  ends die (Some (Programming p Nothing)) WentWell e well = absurd (v.flights.something die p e)
-  ends die (Some (Programming p (GroupPage tag body))) WentWell e well = page_ends die p tag body e
-  ends die (Some (Programming p (MarkPage m))) WentWell e well = mark_ends die p m e
-  ends die (Some (Erasing s)) WentWell e well = erase_ends die s e
-  ends die flight ending e well = r
-
-  -- Turns
-
-  repair_begins : (key : Key) (left : List Key) → t.work.mending ≡ Repairing (key ∷ left) →
-      SinceOpening o (repair_ordered t key left)
-  repair_begins key left is = record {
-    numbers_are = r.numbers_are;
-    lost = r.lost;
-    seen = r.seen;
-    still = r.still;
-    no_worse = r.no_worse;
-    unchanged = r.unchanged;
-    new = r.new;
-    named = λ name from there h. next_low t.ledger.first_lost t.ledger.greatest_seen (length t.ledger.groups)
-        name.number v.book_right.first_lost (ap name_number (kind_of_step h));
-    same = λ h. absurd (true≢false h);
-    fewer = λ h. absurd (true≢false h);
-    newer = λ h. r.newer (ap is_marked is);
-  }
-
-  orders : (x : Order) → (t.work.step ≡ None) × IsDue t x → SinceOpening o (ordered t x)
-  orders (OrderMark fence) (none, due) =
-      with_named (mark_ordered t fence).work.step (λ name from there h. absurd (mark_no_repair h))
-  orders (OrderRepair key left) (none, due) = repair_begins key left due.1
-  orders (OrderCopy s p left) (none, due) = absurd (true≢false (sym (ap is_mended due.0) ∙ un))
-  orders (OrderPlanMark s) (none, due) = absurd (true≢false (sym (ap is_mended due.1) ∙ un))
-
-  turns : SinceOpening o (turned t)
-  turns = turned_if (SinceOpening o) t (λ none. r) (λ x due. orders x (order_due t x due))
-
-  -- Each move
-
-  pub move_since : (move : Move) → IsAllowedMove t move → fails_job move ≡ false → SinceOpening o (moved t move)
-  move_since (GiveJob die flight) may well = takes die flight may
-  move_since (EndJob die ending) may well = ends die (t.disk.flights die) ending refl well
-  move_since TakeStep may well = turns
-  move_since move may well = r
-
--- A life begins
-
-unmarked_at : (n : Numbers) (c : Cells) (m : Option Mark) (low top : ℕ) (w : Mending) → IsMendingAt n c m low top w →
-    is_mended w ≡ false → is_marked w ≡ false
-unmarked_at n c m low top (Unmarked fence lost) h un = refl
-unmarked_at n c m low top (Repairing left) h un = absurd h
-unmarked_at n c m low top Mended h un = absurd (true≢false un)
-
-pub opening_unmarked : (n : Numbers) (c : Cells) (bad : Spot → Bool) (t : Translation) → IsOpenedTranslation n c bad t →
-    is_mended t.work.mending ≡ false → is_marked t.work.mending ≡ false
-opening_unmarked n c bad t o un =
-    unmarked_at n c t.ledger.newest t.ledger.first_lost t.ledger.greatest_seen t.work.mending o.mending un
-
-pub opening_since : (n : Numbers) (c : Cells) (bad : Spot → Bool) (t : Translation) → IsOpenedTranslation n c bad t →
-    is_mended t.work.mending ≡ false → SinceOpening t t
-opening_since n c bad t o un = record {
-  numbers_are = refl;
-  lost = refl;
-  seen = refl;
-  still = λ s not. refl;
-  no_worse = λ s h. h;
-  unchanged = λ p not. refl;
-  new = λ p tag body free not h. absurd (not free);
-  named = λ name from there h. absurd (none-some _ (sym o.no_step ∙ h));
-  same = λ h. refl;
-  fewer = λ h p free. inl refl;
-  newer = λ h. absurd (true≢false (sym h ∙ opening_unmarked n c bad t o un));
-}

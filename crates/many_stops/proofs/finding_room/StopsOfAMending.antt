@@ -36,7 +36,7 @@ use Rattle.many_stops.proofs.CountedBlocks.{no_fewer}
 use Rattle.many_stops.proofs.finding_room.BlocksOneByOne.{Filled}
 use Rattle.many_stops.proofs.finding_room.RoomForAMending.{counts_under, fewer_blocks, own_room_twice}
 use Rattle.many_stops.proofs.finding_room.SinceTheOpening.{SinceOpening, WereUnfilled, bad_is_not_free}
-use Rattle.many_stops.proofs.finding_room.SinceTheOpening.{filled_was_free, flies_new, free_was_free}
+use Rattle.many_stops.proofs.finding_room.MovesSinceTheOpening.{filled_was_free, flies_new, free_was_free}
 use Rattle.many_stops.proofs.finding_room.ThinnerCells.{AreThinner, first_thinner, kept_thinner, newest_thinner}
 use Rattle.many_stops.proofs.finding_room.ThinnerCells.{page_was}
 use Rattle.many_stops.specs.RoomOfGroups.{free_count}

@@ -14,7 +14,7 @@ use Rattle.std.proofs.lemmas.List.Elements.{All-contains_itself}
 use Rattle.power_loss.proofs.kept_pages.LookedUpPages.{look_right}
 use Rattle.power_loss.proofs.kept_pages.PagesStay.{pins_stay}
 use Rattle.power_loss.proofs.accepted_groups.RestsOfGroups.{rests_told}
-use Rattle.power_loss.proofs.accepted_groups.ClaimedSlots.{more_pages}
+use Rattle.ufs_laws.proofs.decided_data.UnmapSlots.{more_pages}
 use Rattle.power_loss.proofs.books.BookGrows.{flights_grow, frontier_grows, kind_grows, marks_grow, pages_grow}
 use Rattle.power_loss.proofs.books.BookGrows.{plan_grows, safe_grows}
 use Rattle.power_loss.proofs.books.LayerParts.{LookedOf, SourceOf}

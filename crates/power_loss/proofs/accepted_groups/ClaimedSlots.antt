@@ -1,9 +1,8 @@
 -- Pages that are accepted and not durable, and claims, have a slot each.
-use Rattle.power_loss.proofs.Common.{◌≡◌, ℕ, zero, suc, ◌+◌, ◌-◌, ◌≤◌, List, [], ◌∷◌, ◌++◌, drop, length, ap, ◌∙◌}
-use Rattle.power_loss.proofs.Common.{arith, drop-append-le, sum_by-cons, Group, Ledger, accepted_groups}
-use Rattle.power_loss.proofs.Common.{before_accepted, Translation, pending_pages, SlotsRight, Valid}
-use Rattle.std.proofs.Common.{length-drop, sum_by}
-use Rattle.std.proofs.lemmas.List.Sums.{sum_by_push}
+use Rattle.power_loss.proofs.Common.{◌≡◌, ℕ, zero, suc, ◌+◌, ◌-◌, ◌≤◌, List, [], ◌∷◌, drop, length, ap}
+use Rattle.power_loss.proofs.Common.{arith, sum_by-cons, Group}
+use Rattle.power_loss.proofs.Common.{Translation, pending_pages, SlotsRight, Valid}
+use Rattle.std.proofs.Common.{sum_by}
 
 abbrev pub pages_of : List Group → ℕ
 pages_of gs = sum_by length gs
@@ -19,17 +18,6 @@ fewer_pages (g ∷ gs) zero (suc b) l = let all = sum_by-cons length g gs in
     let few = fewer_pages gs zero b (omega arith) in omega (arith, all, few)
 fewer_pages (g ∷ gs) (suc a) zero l = absurd (omega arith)
 fewer_pages (g ∷ gs) (suc a) (suc b) l = fewer_pages gs a b (omega arith)
-
--- a group more has its pages
-pub more_pages : (l : Ledger) (g : Group) → l.repairs ≤ length l.groups →
-    l.frontier ≤ l.greatest_seen + length l.groups →
-    pending_pages (record l { groups = l.groups ++ g ∷ [] }) ≡ pending_pages l + length g
-more_pages l g repairs frontier =
-    let left = l.frontier - before_accepted l in
-    let long = length-drop l.repairs l.groups in
-    ap (λ (gs : List Group). pages_of (drop left gs)) (drop-append-le l.repairs l.groups (g ∷ []) repairs)
-    ∙ (ap pages_of (drop-append-le left (accepted_groups l) (g ∷ []) (omega (arith, long, repairs, frontier)))
-    ∙ sum_by_push length (drop left (accepted_groups l)) g)
 
 -- where no group is of a command, none are
 pub no_pages : {gs : List Group} (n : ℕ) → gs ≡ [] → pages_of (drop n gs) ≡ 0

@@ -18,7 +18,8 @@ use Rattle.ufs_spec.specs.Translation.{least_of, live_count}
 use Rattle.ufs_spec.specs.Translation.{may_be_victim, own_room, wanted_room}
 use Rattle.power_loss.specs.Collection.{AreFewFree, CanBeCollected, IsBadWithLive, IsCollectionDue, IsRoomScarce}
 use Rattle.power_loss.specs.Collection.{IsNoneStale, IsVictim}
-use Rattle.power_loss.proofs.jobs_owed.ProgramsAndErases.{free_is, stale_is}
+use Rattle.power_loss.proofs.jobs_owed.ProgramsAndErases.{free_is}
+use Rattle.ufs_laws.proofs.free_blocks.ErasesInOrder.{stale_is}
 use Rattle.power_loss.proofs.ordered_lists.ElementsAndOrders.{IsIn, IsOrdered, filter_in, in_spots, kept_in}
 use Rattle.power_loss.proofs.ordered_lists.ElementsAndOrders.{ordered_filter, spots_in, spots_ordered}
 
@@ -183,7 +184,7 @@ in_any p x [] i h = absurd i
 in_any p x (y ∷ ys) (inl i) h = or_left (p y) (list_any p ys) (ap p i ∙ h)
 in_any p x (y ∷ ys) (inr i) h = or_right (p y) (list_any p ys) (in_any p x ys i h)
 
-bad_told : (x : BlockState) → is_bad x ≡ true → x ≡ Bad
+pub bad_told : (x : BlockState) → is_bad x ≡ true → x ≡ Bad
 bad_told Bad h = refl
 bad_told state h = absurd (false≢true h)
 

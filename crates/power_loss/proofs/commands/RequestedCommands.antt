@@ -1,15 +1,15 @@
 -- What an RPMB request was that is accepted: its command may come. What one for data was that passed its checks: its
 -- pages lie in the area.
-use Rattle.power_loss.proofs.Common.{◌≡◌, ◌⊎◌, ℕ, zero, suc, ◌+◌, ◌*◌, ◌<◌, ◌≤◌, ◌==◌, ◌&&◌, Bool, true, false, cond}
+use Rattle.power_loss.proofs.Common.{◌≡◌, ◌⊎◌, ℕ, ◌+◌, ◌*◌, ◌<◌, ◌≤◌, ◌==◌, ◌&&◌, Bool, true, false, cond}
 use Rattle.power_loss.proofs.Common.{not, List, [], ◌∷◌, All, Option, Some, None, length, refl, sym, ap, ◌∙◌}
 use Rattle.power_loss.proofs.Common.{subst, inl, inr, arith, flat_map, nat_le, length-append, All-head, All-tail}
 use Rattle.power_loss.proofs.Common.{false≢true, none-some, same_Some, and_parts, eqb-true, ltb-false, not-false}
 use Rattle.power_loss.proofs.Common.{IsCommand, IsPlain, CanApply, Plain, shape_of}
 use Rattle.power_loss.proofs.MachineWords.{AreBytes, Command}
-use Rattle.std.specs.Prelude.{bit_or, drop}
+use Rattle.std.specs.Prelude.{bit_or}
 use Rattle.ufs_spec.specs.Commands as command
 use Rattle.ufs_spec.specs.Exchanges.{Registers, Status, invalid_list_field, sequence_error}
-use Rattle.ufs_spec.specs.Frames.{Frame, IsFrame, frames_in}
+use Rattle.ufs_spec.specs.Frames.{Frame, IsFrame}
 use Rattle.ufs_spec.specs.Keys.{keys}
 use Rattle.ufs_spec.specs.Plain.{counter_end}
 use Rattle.ufs_spec.specs.Rpmb.{Check, Refused, Region, Results, RpmbOutcome, checks, command_in, fails_if}
@@ -30,10 +30,6 @@ use Rattle.ufs_laws.proofs.rpmb_frames.RightWrites.{none_failed, not_refused, ri
 use Rattle.power_loss.proofs.commands.CommandGroups.{area_few}
 
 -- Frames
-
-pub length-frames_in : (n : ℕ) (bytes : List ℕ) → length (frames_in n bytes) ≡ n
-length-frames_in zero bytes = refl
-length-frames_in (suc n) bytes = let rest = length-frames_in n (drop 512 bytes) in omega (arith, rest)
 
 abbrev payloads : List Frame → List ℕ
 payloads fs = flat_map (λ (g : Frame). g.payload) fs

@@ -35,7 +35,7 @@ use Rattle.ufs_laws.proofs.walk.WaysOfData.{IsDecided}
 use Rattle.ufs_laws.proofs.walk.WaysOfData.{IsRightList}
 use Rattle.power_loss.specs.WaitingFrames.{AsksInside}
 use Rattle.power_loss.proofs.commands.RequestedCommands.{data_in_area, frames_requested}
-use Rattle.power_loss.proofs.commands.RequestedCommands.{length-frames_in}
+use Rattle.ufs_laws.proofs.rpmb_frames.FramesRead.{length-frames_in}
 use Rattle.power_loss.proofs.host_commands.AcceptedCommands.{IsComing, plain_tied}
 use Rattle.power_loss.proofs.host_commands.AcceptedCommands.{shape_tied}
 use Rattle.power_loss.proofs.ordered_lists.ElementsAndOrders.{all_below}

@@ -144,7 +144,7 @@ kind_want (CopyStep name from) {w} h = sym (ap (λ (z : Want). z.reader) (same_S
 kind_want (RepairStep name (Some from)) {w} h = sym (ap (λ (z : Want). z.reader) (same_Some (want_at ForStep from) w h))
 kind_want kind {w} h = absurd (none-some w h)
 
-step_want : (s : Option Step) (w : Want) → IsIn w (wants_of_step s) → w.reader ≡ ForStep
+pub step_want : (s : Option Step) (w : Want) → IsIn w (wants_of_step s) → w.reader ≡ ForStep
 step_want None w h = absurd h
 step_want (Some step) w h = by step.there h
   where

@@ -11,6 +11,7 @@ use Rattle.power_loss.proofs.Common.{names_after, next_place, some_flight, step_
 use Rattle.power_loss.proofs.Common.{waiting_name, waiting_step, Numbers, Place}
 use Rattle.power_loss.proofs.MachineWords.{IsSpot}
 use Rattle.std.proofs.Common.{option_map}
+use Rattle.ufs_laws.proofs.free_blocks.ErasesInOrder.{stale_is, untouched_is}
 use Rattle.ufs_spec.specs.Translation.{flight_into, flight_or, is_idle, is_ready, is_stale, is_untouched, is_vacant}
 use Rattle.ufs_spec.specs.Translation.{lowest_vacant, may_be_used, next_erase, next_flight, next_in, spots_of, waits}
 use Rattle.power_loss.proofs.ordered_lists.ElementsAndOrders.{IsIn, below_in, first_in, found_in, map_in, mapped_in}
@@ -62,14 +63,6 @@ vacant_owed t is die s e =
 ready_is : (x : Vacancy) → is_ready x ≡ true → x ≡ Ready
 ready_is Ready h = refl
 ready_is x h = cc
-
-pub stale_is : (x : Vacancy) → is_stale x ≡ true → x ≡ Stale
-stale_is Stale h = refl
-stale_is x h = cc
-
-untouched_is : (x : Vacancy) → is_untouched x ≡ true → x ≡ Untouched
-untouched_is Untouched h = refl
-untouched_is x h = cc
 
 stale_not_ready : {x : Vacancy} → x ≡ Stale → x ≢ Ready
 stale_not_ready e h = let no : Stale ≡ Ready = sym e ∙ h in cc

@@ -16,7 +16,8 @@ use Rattle.ufs_spec.specs.Translation.{count_blocks, first_of, flies_erase, is_s
 use Rattle.ufs_spec.specs.Translation.{next_flight, next_in, own_room, spots_of}
 use Rattle.power_loss.specs.OwnRoom.{IsOwnRoom, IsWaitingStep, OpensBlock}
 use Rattle.power_loss.proofs.collected_blocks.FewestLivePages.{in_any}
-use Rattle.power_loss.proofs.jobs_owed.ProgramsAndErases.{erase_told, next_owed, or_told, program_owed, stale_is}
+use Rattle.power_loss.proofs.jobs_owed.ProgramsAndErases.{erase_told, next_owed, or_told, program_owed}
+use Rattle.ufs_laws.proofs.free_blocks.ErasesInOrder.{stale_is}
 use Rattle.power_loss.proofs.jobs_owed.ProgramsAndErases.{vacant_owed, with_room}
 use Rattle.power_loss.proofs.ordered_lists.ElementsAndOrders.{IsIn, in_below, in_map, in_mapped}
 

@@ -174,7 +174,7 @@ looked_has {t} k (Some name) body v h = by (nat_lt t.ledger.frontier name.number
 -- Repairs change no content
 
 -- all groups give the contents that those of the accepted commands give
-accepted_alone : {t : Translation} → Valid t → put_groups t.ledger.base t.ledger.groups ≡ put_groups t.ledger.base
+pub accepted_alone : {t : Translation} → Valid t → put_groups t.ledger.base t.ledger.groups ≡ put_groups t.ledger.base
     (accepted_groups t.ledger)
 accepted_alone {t} v = ap (put_groups base) (sym (take-append-drop repairs groups))
     ∙ (put_more base (take repairs groups) (drop repairs groups)

@@ -17,8 +17,8 @@ use Rattle.ufs_spec.specs.declared.flash.Tag.{Tag}
 use Rattle.ufs_spec.specs.declared.layer.Name.{Name}
 use Rattle.ufs_spec.proofs.CellKinds.{mark_not_nothing}
 use Rattle.ufs_spec.proofs.Equalities.{name_is}
-use Rattle.ufs_spec.proofs.Facts.{and_from, and_parts, cases_Bool, cond-false, cond-true, false≢true, lt-ltb, ltb-true}
-use Rattle.ufs_spec.proofs.Facts.{same_Some, true≢false}
+use Rattle.ufs_spec.proofs.Facts.{and_from, and_parts, cases_Bool, cond-false, cond-true, lt-ltb, ltb-true}
+use Rattle.ufs_spec.proofs.Facts.{not-false, not-true, same_Some, true≢false}
 use Rattle.geometry.specs.Keys.{IsIndex}
 use Rattle.geometry.proofs.Indexes.{known_index}
 use Rattle.recovery.specs.Frees.{AreDecided, AreFoundFree, AreGreatest, AreHeld, AreNeeded}
@@ -42,14 +42,6 @@ both_ok (Ok v) P Q R f p q = f v p q
 both_ok (Err e) P Q R f p q = tt
 
 -- A list with an answer for each block, as a function of blocks
-
-opposite_on : (b : Bool) → not b ≡ true → b ≡ false
-opposite_on true h = absurd (false≢true h)
-opposite_on false h = refl
-
-opposite_off : (b : Bool) → not b ≡ false → b ≡ true
-opposite_off true h = refl
-opposite_off false h = absurd (true≢false h)
 
 module _ (n : Numbers) (bad : Spot → Bool) (free : List Bool) where
   spot_inside : (s : Spot) → has_spot n s ≡ true → IsInside n s
@@ -92,7 +84,7 @@ module _ (n : Numbers) (bad : Spot → Bool) (free : List Bool) where
     of_all = record {
       good = λ s h.
           ⊎_elim (λ (is : has_spot n s ≡ true). good s (spot_inside s is) (on_there s (spot_inside s is) h))
-          (λ (out : has_spot n s ≡ false). opposite_on (bad s) (sym (free_elsewhere s out) ∙ h))
+          (λ (out : has_spot n s ≡ false). not-true (bad s) (sym (free_elsewhere s out) ∙ h))
           (cases_Bool (has_spot n s));
       goes = λ s h p here some.
           let is : IsInside n s = subst (IsInside n) here (inside n c within p some) in
@@ -100,7 +92,7 @@ module _ (n : Numbers) (bad : Spot → Bool) (free : List Bool) where
       stays = λ s fine h.
           ⊎_elim (λ (is : has_spot n s ≡ true). stays s (spot_inside s is) fine (off_there s (spot_inside s is) h))
           (λ (out : has_spot n s ≡ false).
-          absurd (true≢false (sym (opposite_off (bad s) (sym (free_elsewhere s out) ∙ h)) ∙ fine)))
+          absurd (true≢false (sym (not-false (bad s) (sym (free_elsewhere s out) ∙ h)) ∙ fine)))
           (cases_Bool (has_spot n s));
     }
 

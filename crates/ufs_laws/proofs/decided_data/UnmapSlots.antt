@@ -76,7 +76,8 @@ not_accepted s task unit status h has =
     ∙ freed s.translation.numbers.slots pages s.translation.claims (command_blocks (numbers_of s)) has.claimed has.within
 
 -- a group more has its pages
-more_pages : (l : Ledger) (g : Group) → l.repairs ≤ length l.groups → l.frontier ≤ l.greatest_seen + length l.groups →
+pub more_pages : (l : Ledger) (g : Group) → l.repairs ≤ length l.groups →
+    l.frontier ≤ l.greatest_seen + length l.groups →
     pending_pages (record l { groups = l.groups ++ g ∷ [] }) ≡ pending_pages l + length g
 more_pages l g repairs frontier =
     let left = l.frontier - before_accepted l in

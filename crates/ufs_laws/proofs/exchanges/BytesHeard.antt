@@ -1,9 +1,9 @@
 -- Every list of bytes is heard, as one message with its command or none, or as one fault.
-use Rattle.std.proofs.Common.{◌≡◌, ◌⊎◌, ◌^◌, ℕ, Bool, true, false, List, [], length, Option, Some, None, refl, sym, ap}
+use Rattle.std.proofs.Common.{◌≡◌, ◌^◌, ℕ, Bool, true, false, List, [], length, Option, Some, None, refl, sym, ap}
 use Rattle.std.proofs.Common.{subst, ◌∙◌, inl, inr}
 use Rattle.std.proofs.Math.Decide.{dec_le, dec_lt, ℕ_discrete}
 use Rattle.ufs_laws.proofs.deciding.Connectives.{are_bytes, dec_and, dec_four, dec_implies, dec_seven, dec_six}
-use Rattle.ufs_laws.proofs.deciding.Connectives.{dec_three, same_bytes}
+use Rattle.ufs_laws.proofs.deciding.Connectives.{dec_or, dec_three, same_bytes}
 use Rattle.ufs_laws.proofs.exchanges.HeardOnce.{no_fault, one_fault}
 use Rattle.ufs_spec.proofs.CdbsBack as cdbs
 use Rattle.ufs_spec.proofs.Facts.{false≢true, same_Some}
@@ -27,15 +27,6 @@ use Rattle.ufs_spec.specs.Plain.{regions}
 not_dec : {P : Type 0} → Dec P → Dec (P → ⊥)
 not_dec (yes p) = no (λ n. n p)
 not_dec (no n) = yes n
-
-either_dec : {P Q : Type 0} → Dec P → Dec Q → Dec (P ⊎ Q)
-either_dec (yes p) d = yes (inl p)
-either_dec (no n) (yes q) = yes (inr q)
-either_dec {P} {Q} (no n) (no m) = no neither
-  where
-    neither : P ⊎ Q → ⊥
-    neither (inl p) = n p
-    neither (inr q) = m q
 
 is_true : (b : Bool) → Dec (b ≡ true)
 is_true true = yes refl
@@ -79,7 +70,7 @@ is_message (message.ReadyToTransfer lun tag offset count) =
 is_message (message.QueryResponse tag function response asked size value «data») =
     dec_seven (byte tag) (is_true _) (byte response) (query asked size value) (dec_le (length «data».items) 4096)
     (are_bytes «data».items)
-    (either_dec (dec_and (ℕ_discrete asked.opcode 0x01) (ℕ_discrete response 0x00)) (same_bytes «data».items []))
+    (dec_or (dec_and (ℕ_discrete asked.opcode 0x01) (ℕ_discrete response 0x00)) (same_bytes «data».items []))
 
 -- whether its numbers fit their fields
 is_cdb : (c : Cdb) → Dec (IsCdb c)

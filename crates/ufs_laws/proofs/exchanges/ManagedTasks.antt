@@ -1,6 +1,7 @@
 -- Which tasks a function aborts, what an abort leaves, and what is answered to a function that asks for tasks.
 use Rattle.std.proofs.Common.{◌≡◌, ℕ, ◌==◌, ◌&&◌, ◌||◌, Bool, true, false, not, if◌then◌else◌, List, [], ◌∷◌}
 use Rattle.std.proofs.Common.{cond, filter, fold, slice_get, Option, Some, refl, ap, ◌∙◌}
+use Rattle.std.proofs.Math.Bool.{and-true}
 use Rattle.std.specs.List.{flat_map, list_any}
 use Rattle.ufs_laws.proofs.exchanges.TaskManagement.{answer_of, answered_complete}
 use Rattle.ufs_laws.specs.TaskRequests.{HasTask, HasTaskOf, HasUnit, functions}
@@ -27,10 +28,6 @@ pub one_aborted : (s : State) (lun meant : ℕ) → HasUnit s lun →
     (managed s lun 0x01 meant).tasks ≡ filter (λ task. not ((task.lun == lun) && (task.tag == meant))) s.tasks
 one_aborted s lun meant has = ap (λ (t : State). t.tasks) (is_carried_out s lun 0x01 meant has refl)
 
-and_true : (b : Bool) → (b && true) ≡ b
-and_true true = refl
-and_true false = refl
-
 -- what is aborted if all of a LUN are
 all_of : (s : State) (lun : ℕ) (is : Task → Bool) → ((task : Task) → is task ≡ (task.lun == lun)) →
     (without_tasks s is).tasks ≡ filter (λ task. not (task.lun == lun)) s.tasks
@@ -40,19 +37,19 @@ pub set_aborted : (s : State) (lun meant : ℕ) → HasUnit s lun →
     (managed s lun 0x02 meant).tasks ≡ filter (λ task. not (task.lun == lun)) s.tasks
 set_aborted s lun meant has =
     ap (λ (t : State). t.tasks) (is_carried_out s lun 0x02 meant has refl)
-    ∙ all_of s lun (is_aborted lun 0x02 meant) (λ task. and_true (task.lun == lun))
+    ∙ all_of s lun (is_aborted lun 0x02 meant) (λ task. and-true (task.lun == lun))
 
 pub set_cleared : (s : State) (lun meant : ℕ) → HasUnit s lun →
     (managed s lun 0x04 meant).tasks ≡ filter (λ task. not (task.lun == lun)) s.tasks
 set_cleared s lun meant has =
     ap (λ (t : State). t.tasks) (is_carried_out s lun 0x04 meant has refl)
-    ∙ all_of s lun (is_aborted lun 0x04 meant) (λ task. and_true (task.lun == lun))
+    ∙ all_of s lun (is_aborted lun 0x04 meant) (λ task. and-true (task.lun == lun))
 
 pub unit_reset : (s : State) (lun meant : ℕ) → HasUnit s lun →
     (managed s lun 0x08 meant).tasks ≡ filter (λ task. not (task.lun == lun)) s.tasks
 unit_reset s lun meant has =
     ap (λ (t : State). t.tasks) (is_carried_out s lun 0x08 meant has refl)
-    ∙ all_of s lun (is_aborted lun 0x08 meant) (λ task. and_true (task.lun == lun))
+    ∙ all_of s lun (is_aborted lun 0x08 meant) (λ task. and-true (task.lun == lun))
 
 -- ## No other function
 

@@ -1,7 +1,7 @@
 -- The result of an RPMB request that is accepted.
 use Rattle.std.proofs.Common.{◌≡◌, ◌⊎◌, ◌&&◌, ◌==◌, ℕ, Bool, true, false, cond, List, [], ◌∷◌, Option, Some, None}
 use Rattle.std.proofs.Common.{bit_or, refl, ◌∙◌, inl, inr}
-use Rattle.ufs_laws.proofs.rpmb_frames.RequestOutcomes.{no_command, refused}
+use Rattle.ufs_laws.proofs.rpmb_frames.RequestOutcomes.{no_command, refused, same_command}
 use Rattle.ufs_spec.specs.Commands.{Command}
 use Rattle.ufs_spec.specs.Exchanges.{Registers, Status}
 use Rattle.ufs_spec.specs.Plain.{counter_end}
@@ -18,9 +18,6 @@ zero_or_end region = end_bit (has_key region && (region.counter == counter_end))
 
 same_result : (n result : ℕ) (a : Option Command) (c : Command) → Results n a ≡ Results result (Some c) → result ≡ n
 same_result n result a c e = cc
-
-same_command : (n result : ℕ) (a : Option Command) (c : Command) → Results n a ≡ Results result (Some c) → a ≡ Some c
-same_command n result a c e = cc
 
 behind : (region : Region) (a : Option Command) (failed : Option ℕ) (result : ℕ) (c : Command) →
     outcome_after region a failed ≡ Results result (Some c) → (result ≡ 0) ⊎ (result ≡ 0x80)

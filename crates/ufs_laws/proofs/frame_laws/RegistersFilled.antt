@@ -2,6 +2,7 @@
 use Rattle.std.proofs.Common.{◌≡◌, ◌≢◌, ◌⊎◌, ◌==◌, ◌&&◌, ◌++◌, ℕ, Bool, true, false, cond, if◌then◌else◌, List, [], ◌∷◌}
 use Rattle.std.proofs.Common.{Option}
 use Rattle.std.proofs.Common.{Some, None, ap, refl, ◌∙◌, inl, inr, map}
+use Rattle.std.proofs.Math.Bool.{and-false}
 use Rattle.std.specs.Prelude.{filter, find, fold, slice_get}
 use Rattle.std.specs.List.{list_any}
 use Rattle.ufs_laws.proofs.frame_laws.RegistersEmptied.{at_another, at_own}
@@ -21,12 +22,8 @@ use Rattle.ufs_spec.specs.declared.messages.Message.{Message}
 
 -- ## When
 
-and_none : (b : Bool) → (b && false) ≡ false
-and_none true = refl
-and_none false = refl
-
 pub not_before : (s : State) (task : Task) → is_good_due s task task.deed ≡ false → is_to_fill s task ≡ false
-not_before s task e = ap (λ (b : Bool). is_unfilled task.request && b) e ∙ and_none (is_unfilled task.request)
+not_before s task e = ap (λ (b : Bool). is_unfilled task.request && b) e ∙ and-false (is_unfilled task.request)
 
 abbrev fill_all : State → List Task → ℕ → Registers
 fill_all s due =
@@ -55,7 +52,7 @@ due s front back task one none is rest =
     ap (λ (tasks : List Task). fill_all s (filter (is_to_fill s) tasks)) one
     ∙ ap (fill_all s) (one_among (is_to_fill s) front back task none is rest)
 
-filled_done : (o : Option RpmbRequest) → is_unfilled (filled o) ≡ false
+pub filled_done : (o : Option RpmbRequest) → is_unfilled (filled o) ≡ false
 filled_done None = refl
 filled_done (Some request) = refl
 

@@ -34,15 +34,15 @@ vacant_told (Filling next) passes e = absurd (false≢true e)
 vacant_told Closed passes e = absurd (false≢true e)
 vacant_told Bad passes e = absurd (false≢true e)
 
-stale_told : (v : Vacancy) → is_stale v ≡ true → v ≡ Stale
-stale_told Stale e = refl
-stale_told Untouched e = absurd (false≢true e)
-stale_told Ready e = absurd (false≢true e)
+pub stale_is : (v : Vacancy) → is_stale v ≡ true → v ≡ Stale
+stale_is Stale e = refl
+stale_is Untouched e = absurd (false≢true e)
+stale_is Ready e = absurd (false≢true e)
 
-untouched_told : (v : Vacancy) → is_untouched v ≡ true → v ≡ Untouched
-untouched_told Untouched e = refl
-untouched_told Stale e = absurd (false≢true e)
-untouched_told Ready e = absurd (false≢true e)
+pub untouched_is : (v : Vacancy) → is_untouched v ≡ true → v ≡ Untouched
+untouched_is Untouched e = refl
+untouched_is Stale e = absurd (false≢true e)
+untouched_is Ready e = absurd (false≢true e)
 
 module _ (t : Translation) (is : Vacancy → Bool) (v : Vacancy) where
   -- the lowest block that may be used is vacant
@@ -75,7 +75,7 @@ same_spots (Some x) s e = cc
 
 pub stale_erase : (t : Translation) (die : ℕ) (s : Spot) → next_erase t is_stale die ≡ Some (Erasing s) →
     IsVacantOn t die s Stale
-stale_erase t die s e = lowest_told t is_stale Stale stale_told die s (same_spots (lowest_vacant t is_stale die) s e)
+stale_erase t die s e = lowest_told t is_stale Stale stale_is die s (same_spots (lowest_vacant t is_stale die) s e)
 
 -- an untouched block is erased where none is ready
 abbrev pub IsOpening : Translation → ℕ → Spot → Type 0
@@ -88,7 +88,7 @@ into_erase : (t : Translation) (die : ℕ) (cell : Cell) (o : Option Spot) (s : 
     flight_into t die cell o ≡ Some (Erasing s) → IsOpening t die s
 into_erase t die cell (Some x) s at e = absurd (no_program (place_in x 0) cell s e)
 into_erase t die cell None s at e =
-    (lowest_told t is_untouched Untouched untouched_told die s (same_spots (lowest_vacant t is_untouched die) s e), at)
+    (lowest_told t is_untouched Untouched untouched_is die s (same_spots (lowest_vacant t is_untouched die) s e), at)
 
 at_erase : (t : Translation) (die : ℕ) (opens : Bool) (cell : Cell) (p : Option Place) (s : Spot) →
     flight_at t die opens cell p ≡ Some (Erasing s) → IsOpening t die s

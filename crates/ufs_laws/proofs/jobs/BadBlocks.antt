@@ -4,11 +4,10 @@ use Rattle.std.proofs.Common.{cond, if◌then◌else◌, nat_lt, List, map, sum_
 use Rattle.std.proofs.Common.{arith}
 use Rattle.std.specs.Prelude.{count_by}
 use Rattle.std.specs.List.{flat_map}
-use Rattle.std.proofs.lemmas.Bool.{cases_eq, le-ltb, lt-ltb}
+use Rattle.std.proofs.lemmas.Bool.{and_right, cases_eq, le-ltb, lt-ltb}
 use Rattle.std.proofs.lemmas.List.{map-append}
 use Rattle.std.proofs.lemmas.List.Sums.{sum_by-append, sum_by-cons}
 use Rattle.ufs_laws.proofs.plain_contents.ListParts.{joined_next}
-use Rattle.ufs_laws.proofs.refusals.LockedFlush.{and_with_false}
 use Rattle.ufs_spec.proofs.Equalities.{spot_cases, spot_self}
 use Rattle.ufs_spec.proofs.Facts.{or_from, or_left, or_right}
 use Rattle.ufs_spec.specs.Disk.{Bad, BlockState, Spot, at_spot, same_spot}
@@ -113,7 +112,7 @@ here_once n s die block =
     same =
         sum_made is (λ b. record { die = s.die; block = b }) n.blocks
         ∙ one_total (λ b. is (record { die = s.die; block = b })) s.block (ap one_if (spot_self s))
-        (λ b apart. ap one_if (and_with_false (s.die == s.die) (b == s.block) (ne_eqb b s.block apart))) n.blocks block
+        (λ b apart. ap one_if (and_right (s.die == s.die) (b == s.block) (ne_eqb b s.block apart))) n.blocks block
 
     other : (i : ℕ) → i ≢ s.die → sum_by is (row n.blocks i) ≡ 0
     other i apart =

@@ -2,6 +2,7 @@
 -- says of keys.
 use Rattle.std.proofs.Common.{◌≡◌, ◌&&◌, ℕ, suc, Bool, true, false, List, [], ◌∷◌, find, Option, None, ap, ◌∙◌}
 use Rattle.std.proofs.Common.{refl, subst, sym}
+use Rattle.std.proofs.Math.Bool.{and-false}
 use Rattle.ufs_spec.proofs.Facts.{false≢true}
 use Rattle.ufs_spec.proofs.Lists.{none_passes}
 use Rattle.ufs_laws.proofs.pages.BlankPages.{blank_is_nothing}
@@ -96,10 +97,6 @@ never : (free other : Bool) → ((free && false) && other) ≡ false
 never true other = refl
 never false other = refl
 
-not_stale : (free : Bool) → (free && false) ≡ false
-not_stale true = refl
-not_stale false = refl
-
 module _ (n : Numbers) (bad : Spot → Bool) (o : Open) where
   pub none_stale : (die : ℕ) → lowest_vacant (first_layer n bad o) is_stale die ≡ None
   none_stale die =
@@ -114,7 +111,7 @@ module _ (n : Numbers) (bad : Spot → Bool) (o : Open) where
   pub no_stale : has_stale (first_layer n bad o) ≡ false
   no_stale =
       none_passes (is_vacant (first_layer n bad o) is_stale) (spots n)
-      (λ k s at is. false≢true (sym (not_stale (is_free (fresh_block (bad s)))) ∙ is))
+      (λ k s at is. false≢true (sym (and-false (is_free (fresh_block (bad s)))) ∙ is))
 
 -- Of the worked run's device, of which no block is bad
 

@@ -1,6 +1,7 @@
 -- A flush with nothing to wait for is answered GOOD, on a locked device too.
 use Rattle.std.proofs.Common.{◌≡◌, ◌≤◌, ◌&&◌, ℕ, nat_le, nat_lt, not, Bool, true, false, if◌then◌else◌, [], ◌∷◌}
 use Rattle.std.proofs.Common.{map, length, Option, Some, None, Ok, refl, sym, ap, ◌∙◌, subst}
+use Rattle.std.proofs.lemmas.Bool.{and_right}
 use Rattle.ufs_laws.proofs.answers.OnlyAnswers.{host_gets, reply_gets}
 use Rattle.ufs_laws.proofs.refusals.RefusedCommands.{idle_is, idle_state}
 use Rattle.ufs_laws.proofs.refusals.TakenRequests.{needs_none, skips}
@@ -54,16 +55,12 @@ abbrev begun : State → ℕ → Bool → State
 begun s tag immediate =
     with_task (idle_state s) (flushes tag immediate) (Some (flush immediate)) 0 (waits (idle_state s) immediate)
 
-pub and_with_false : (a b : Bool) → b ≡ false → (a && b) ≡ false
-and_with_false true b e = e
-and_with_false false b e = refl
-
 not_refused : (s : State) (tag : ℕ) (immediate : Bool) → mended s ≡ true →
     has_pending (idle_state s).translation ≡ false → refusal (idle_state s) (flushes tag immediate) ≡ None
 not_refused s tag immediate e none =
     skips (not (mended (idle_state s))) not_ready _ (ap not e)
     (skips (locked (idle_state s) && has_pending (idle_state s).translation) write_protected _
-    (and_with_false (locked (idle_state s)) (has_pending (idle_state s).translation) none)
+    (and_right (locked (idle_state s)) (has_pending (idle_state s).translation) none)
     (skips (nat_lt (free_slots (idle_state s).translation) 0) Busy _ (needs_none (idle_state s)) refl))
 
 is_begun : (s : State) (tag : ℕ) (immediate : Bool) →

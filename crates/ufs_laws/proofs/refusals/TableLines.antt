@@ -48,7 +48,7 @@ full s r status many e =
     cond-true (nat_le most_tasks (length s.tasks)) _ (refused_or_begun s r (refusal s r))
     (le-leb most_tasks (length s.tasks) many)
 
-locked_idle : (s : State) (b : Bool) → IsIdle s → locked s ≡ b → locked (idle_state s) ≡ b
+pub locked_idle : (s : State) (b : Bool) → IsIdle s → locked s ≡ b → locked (idle_state s) ≡ b
 locked_idle s b h e = subst (λ (t : State). locked t ≡ b) (idle_is s h) e
 
 slots_idle : (s : State) → IsIdle s → free_slots s.translation ≡ 0 → free_slots (idle_state s).translation ≡ 0

@@ -3,7 +3,7 @@ use Rattle.std.proofs.Common.{◌≡◌, ◌<◌, ◌≤◌, ◌||◌, ℕ, nat_
 use Rattle.std.proofs.Common.{ap, refl, ◌∙◌, sym, subst, arith}
 use Rattle.std.proofs.lemmas.Bool.{le-ltb, lt-ltb}
 use Rattle.ufs_laws.proofs.refusals.RefusedCommands.{answers, idle_is, idle_state}
-use Rattle.ufs_laws.proofs.refusals.TableLines.{decides, leaves}
+use Rattle.ufs_laws.proofs.refusals.TableLines.{decides, leaves, locked_idle}
 use Rattle.ufs_laws.specs.Runs.{IsIdle}
 use Rattle.ufs_laws.specs.Table.{IsRefused, asks, protected_row, read_at, write_at}
 use Rattle.ufs_spec.proofs.Facts.{cond-false, or_with_false}
@@ -23,9 +23,6 @@ pub idle_decided : (s : State) (r : Request) (o : Option Status) → IsIdle s �
     refusal s r ≡ o
 idle_decided s r o h e = subst (λ (t : State). refusal t r ≡ o) (sym (idle_is s h)) e
 
-pub idle_lock : (s : State) (b : Bool) → IsIdle s → locked s ≡ b → locked (idle_state s) ≡ b
-idle_lock s b h e = subst (λ (t : State). locked t ≡ b) (idle_is s h) e
-
 -- a command that needs no slot is never short of any
 pub needs_none : (s : State) → nat_lt (free_slots s.translation) 0 ≡ false
 needs_none s = le-ltb (free_slots s.translation) 0 (omega arith)
@@ -40,7 +37,7 @@ pub crowded : (s : State) (tag : ℕ) → IsIdle s → mended s ≡ true → loc
 crowded s tag h e k few =
     answers s (unmap tag 24) Busy h
     (leaves (not (mended (idle_state s))) not_ready Busy _ (ap not e)
-    (leaves (locked (idle_state s) || false) write_protected Busy _ (or_with_false _ ∙ idle_lock s false h k)
+    (leaves (locked (idle_state s) || false) write_protected Busy _ (or_with_false _ ∙ locked_idle s false h k)
     (decides (nat_lt (free_slots (idle_state s).translation) 32) Busy _
     (lt-ltb (free_slots (idle_state s).translation) 32
     (subst (λ (t : State). free_slots t.translation < 32) (idle_is s h) few)))))
@@ -50,7 +47,7 @@ pub taken : (s : State) (tag : ℕ) → IsIdle s → mended s ≡ true → locke
 taken s tag h e k room =
     idle_decided s (unmap tag 24) None h
     (skips (not (mended (idle_state s))) not_ready _ (ap not e)
-    (skips (locked (idle_state s) || false) write_protected _ (or_with_false _ ∙ idle_lock s false h k)
+    (skips (locked (idle_state s) || false) write_protected _ (or_with_false _ ∙ locked_idle s false h k)
     (skips (nat_lt (free_slots (idle_state s).translation) 32) Busy _
     (le-ltb (free_slots (idle_state s).translation) 32
     (subst (λ (t : State). 32 ≤ free_slots t.translation) (idle_is s h) room)) refl)))
@@ -66,7 +63,7 @@ pub unmap_protected : (s : State) (tag : ℕ) → IsIdle s → mended s ≡ true
 unmap_protected s tag h e k =
     answers s (unmap tag 24) write_protected h
     (leaves (not (mended (idle_state s))) not_ready write_protected _ (ap not e)
-    (decides (locked (idle_state s) || false) write_protected _ (or_with_false _ ∙ idle_lock s true h k)))
+    (decides (locked (idle_state s) || false) write_protected _ (or_with_false _ ∙ locked_idle s true h k)))
 
 -- ## Before the mending is over
 

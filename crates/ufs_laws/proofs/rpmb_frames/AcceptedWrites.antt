@@ -27,7 +27,7 @@ all_agree f (g ∷ gs) all =
     let more = all_agree f gs (λ k d lt. all (suc k) d (omega (arith, lt))) in
     rw (first, more) refl
 
-same_refl : (xs : List ℕ) → same_bytes xs xs ≡ true
+pub same_refl : (xs : List ℕ) → same_bytes xs xs ≡ true
 same_refl [] = refl
 same_refl (x ∷ xs) = rw (eq-eqb x x refl, same_refl xs) refl
 

@@ -259,3 +259,8 @@ first_frames (suc n) b long are k d lt =
 
 pub are_frames : (n : ℕ) (b : List ℕ) → length b ≡ 512 * n → AreBytes b → All IsFrame (frames_in n b)
 are_frames n b long = first_frames n b (omega (arith, long))
+
+-- so many frames are so many
+pub length-frames_in : (n : ℕ) (bytes : List ℕ) → length (frames_in n bytes) ≡ n
+length-frames_in zero bytes = refl
+length-frames_in (suc n) bytes = ap suc (length-frames_in n (drop 512 bytes))

@@ -1,5 +1,5 @@
--- Outcomes of RPMB requests by which no command is accepted.
-use Rattle.std.proofs.Common.{◌≡◌, ℕ, Some, None}
+-- Outcomes of RPMB requests: by which no command is accepted, and which one by the others.
+use Rattle.std.proofs.Common.{◌≡◌, ℕ, Option, Some, None}
 use Rattle.ufs_spec.specs.Commands.{Command}
 use Rattle.ufs_spec.specs.Exchanges.{Status}
 use Rattle.ufs_spec.specs.Rpmb.{Refused, Results}
@@ -9,3 +9,7 @@ no_command n result c e = cc
 
 pub refused : (status : Status) (result : ℕ) (c : Command) → Refused status ≡ Results result (Some c) → ⊥
 refused status result c e = cc
+
+pub same_command : (n result : ℕ) (a : Option Command) (c : Command) → Results n a ≡ Results result (Some c) →
+    a ≡ Some c
+same_command n result a c e = cc

@@ -11,10 +11,7 @@ use Rattle.ufs_spec.specs.Rpmb.{Refused, Region, Results, RpmbOutcome, agrees, c
 use Rattle.ufs_spec.specs.Rpmb.{first_failed, fails_if, frames_mac, has_key, has_wrong_mac, is_past_area}
 use Rattle.ufs_spec.specs.Rpmb.{is_well_formed, lacks_result, last_mac, outcome_after, rpmb_outcome, same_bytes}
 use Rattle.ufs_laws.specs.RpmbWrites.{IsRightWrite, SaysTheSame}
-use Rattle.ufs_laws.proofs.rpmb_frames.RequestOutcomes.{no_command, refused}
-
-same_command : (n result : ℕ) (a : Option Command) (c : Command) → Results n a ≡ Results result (Some c) → a ≡ Some c
-same_command n result a c e = cc
+use Rattle.ufs_laws.proofs.rpmb_frames.RequestOutcomes.{no_command, refused, same_command}
 
 -- a test that would refuse the request says no
 pub not_refused : (b : Bool) (s : Status) (o : RpmbOutcome) (result : ℕ) (c : Command) →
@@ -51,7 +48,7 @@ is_write true three m n k a b d e h = absurd (no_key_set m n k b e h)
 is_write false true m n k a b d e h = (refl, same_write m n a b d e h)
 is_write false false m n k a b d e h = absurd (nothing n b e h)
 
-equal_bytes : (xs ys : List ℕ) → same_bytes xs ys ≡ true → xs ≡ ys
+pub equal_bytes : (xs ys : List ℕ) → same_bytes xs ys ≡ true → xs ≡ ys
 equal_bytes [] [] e = refl
 equal_bytes (x ∷ xs) (y ∷ ys) e =
     let both = and_parts (x == y) (same_bytes xs ys) e in

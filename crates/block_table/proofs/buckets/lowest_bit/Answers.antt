@@ -1,5 +1,5 @@
 use Rattle.std.proofs.Common.{arith}
-use Rattle.block_table.proofs.Words.{lowest_is}
+use Rattle.block_table.proofs.WordBits.{lowest_is}
 use Rattle.block_table.proofs.buckets.lowest_bit.Goals as goal
 
 pub returns-clause-some : goal.returns-clause-some

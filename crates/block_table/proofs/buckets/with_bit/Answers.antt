@@ -1,6 +1,6 @@
 use Rattle.std.proofs.Common.{Bool, ◌∙◌, ap, sym}
 use Rattle.block_table.specs.Buckets.{bit, with_bit}
-use Rattle.block_table.proofs.Words.{bit_clear, bit_set}
+use Rattle.block_table.proofs.WordBits.{bit_clear, bit_set}
 use Rattle.block_table.proofs.buckets.with_bit.Goals as goal
 
 pub returns-then-one : goal.returns-then-one

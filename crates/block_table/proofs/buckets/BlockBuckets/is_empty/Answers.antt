@@ -1,4 +1,4 @@
-use Rattle.block_table.proofs.Words.{empty_is, held_is, held_one}
+use Rattle.block_table.proofs.BucketCounts.{empty_is, held_is, held_one}
 use Rattle.block_table.proofs.buckets.BlockBuckets.is_empty.Goals as goal
 
 pub returns-clause-empty : goal.returns-clause-empty

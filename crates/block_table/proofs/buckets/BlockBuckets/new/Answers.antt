@@ -2,7 +2,7 @@ use Rattle.std.proofs.Common.{◌≡◌, ◌∙◌, ap, arith, length, replicate
 use Rattle.std.proofs.lemmas.List.{length-replicate}
 use Rattle.block_table.specs.Buckets.{has_in, words_for}
 use Rattle.block_table.proofs.Marks.{new_level, new_marks}
-use Rattle.block_table.proofs.Words.{new_counts, new_whole, none_in}
+use Rattle.block_table.proofs.BucketCounts.{new_counts, new_whole, none_in}
 use Rattle.block_table.proofs.buckets.BlockBuckets.new.Goals as goal
 
 pub invariant_of-result : goal.invariant_of-result

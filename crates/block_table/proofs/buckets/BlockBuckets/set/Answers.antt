@@ -3,8 +3,8 @@ use Rattle.std.specs.Bool.{beq}
 use Rattle.block_table.specs.Buckets.{words_for}
 use Rattle.block_table.proofs.LiveCounts.{count_after}
 use Rattle.block_table.proofs.Marks.{group_read, marked_at}
-use Rattle.block_table.proofs.Words.{held_after, held_room, held_some, is_read, stands_after}
-use Rattle.block_table.proofs.Words.{stands_already, whole_after}
+use Rattle.block_table.proofs.BucketCounts.{held_after, held_room, held_some, is_read, stands_after}
+use Rattle.block_table.proofs.BucketCounts.{stands_already, whole_after}
 use Rattle.block_table.proofs.buckets.BlockBuckets.set.Goals as goal
 use Rattle.block_table.proofs.buckets.BlockBuckets.set.Goals.{then-stands, else-stands}
 

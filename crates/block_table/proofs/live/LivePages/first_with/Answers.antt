@@ -4,7 +4,7 @@ use Rattle.block_table.specs.LiveRooms.{lives_of}
 use Rattle.block_table.specs.Lives.{Lives}
 use Rattle.block_table.specs.Probes.{has_unpinned, is_victim_at, word_probes, words_with}
 use Rattle.block_table.specs.Sorted.{blocks_in}
-use Rattle.block_table.proofs.VictimWords.{empty_none, held_unpinned}
+use Rattle.block_table.proofs.VictimBuckets.{empty_none, held_unpinned}
 use Rattle.block_table.proofs.live.LivePages.first_with.Goals as goal
 
 pub returns-then-is_empty-clause-first : goal.returns-then-is_empty-clause-first

@@ -4,7 +4,7 @@ use Rattle.block_table.specs.Lives.{Lives, live_count, spot_at}
 use Rattle.block_table.specs.Probes.{word_probes}
 use Rattle.block_table.specs.Victims.{IsVictim}
 use Rattle.block_table.proofs.Searches.{no_victim_is, victim_is}
-use Rattle.block_table.proofs.VictimWords.{first_is, none_left, none_more, probes_more, probes_with}
+use Rattle.block_table.proofs.VictimBuckets.{first_is, none_left, none_more, probes_more, probes_with}
 use Rattle.block_table.proofs.live.LivePages.victim_counted.Goals as goal
 
 pub returns-in-Some-clause-search : goal.returns-in-Some-clause-search

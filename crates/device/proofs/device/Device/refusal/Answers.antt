@@ -6,7 +6,7 @@ use Rattle.device.proofs.device.Device.refusal.Goals as goal
 
 pub returns-then-lacks_region-clause-what : goal.returns-then-lacks_region-clause-what
 returns-then-lacks_region-clause-what c =
-    λ s r h bare spec flags expected region.
+    λ s r h bare spec flags expected.
     told_early s r c.args.unit c.args.cdb.now spec true _ _ _ _ refl
     (region_lacking _ (numbers_of s) c.args.cdb.now true
     (c.numbers-numbers.ensures.described s.translation (same_layer _ _ s.translation c.self.view_is h))
@@ -14,7 +14,7 @@ returns-then-lacks_region-clause-what c =
 
 pub returns-then-is_too_long-clause-what : goal.returns-then-is_too_long-clause-what
 returns-then-is_too_long-clause-what c =
-    λ s r h bare spec flags expected region.
+    λ s r h bare spec flags expected.
     told_early s r c.args.unit c.args.cdb.now spec false true _ _ _ refl
     (region_lacking _ (numbers_of s) c.args.cdb.now false
     (c.numbers-numbers.ensures.described s.translation (same_layer _ _ s.translation c.self.view_is h))
@@ -23,7 +23,7 @@ returns-then-is_too_long-clause-what c =
 
 pub returns-then-has_wrong_list-clause-what : goal.returns-then-has_wrong_list-clause-what
 returns-then-has_wrong_list-clause-what c =
-    λ s r h bare spec flags expected region.
+    λ s r h bare spec flags expected.
     told_early s r c.args.unit c.args.cdb.now spec false false true _ _ refl
     (region_lacking _ (numbers_of s) c.args.cdb.now false
     (c.numbers-numbers.ensures.described s.translation (same_layer _ _ s.translation c.self.view_is h))
@@ -33,7 +33,7 @@ returns-then-has_wrong_list-clause-what c =
 
 pub returns-then-lacks_data-clause-what : goal.returns-then-lacks_data-clause-what
 returns-then-lacks_data-clause-what c =
-    λ s r h bare spec flags expected region.
+    λ s r h bare spec flags expected.
     told_early s r c.args.unit c.args.cdb.now spec false false false true _ refl
     (region_lacking _ (numbers_of s) c.args.cdb.now false
     (c.numbers-numbers.ensures.described s.translation (same_layer _ _ s.translation c.self.view_is h))
@@ -46,7 +46,7 @@ returns-then-lacks_data-clause-what c =
 
 pub returns-then-is_out_of_range-clause-what : goal.returns-then-is_out_of_range-clause-what
 returns-then-is_out_of_range-clause-what c =
-    λ s r h bare spec flags expected region.
+    λ s r h bare spec flags expected.
     told_early s r c.args.unit c.args.cdb.now spec false false false false true refl
     (region_lacking _ (numbers_of s) c.args.cdb.now false
     (c.numbers-numbers.ensures.described s.translation (same_layer _ _ s.translation c.self.view_is h))
@@ -60,7 +60,7 @@ returns-then-is_out_of_range-clause-what c =
 
 pub returns-clause-what : goal.returns-clause-what
 returns-clause-what c =
-    λ s r h bare spec flags expected region.
+    λ s r h bare spec flags expected.
     told_by s r c.args.unit c.args.cdb.now spec false false false false false c.refusal_now.result
     (region_lacking _ (numbers_of s) c.args.cdb.now false
     (c.numbers-numbers.ensures.described s.translation (same_layer _ _ s.translation c.self.view_is h))
@@ -71,4 +71,4 @@ returns-clause-what c =
     (c.numbers-numbers.ensures.described s.translation (same_layer _ _ s.translation c.self.view_is h)) c.listed_by.ensures
     (sym (c.lacks_data.ensures r flags expected) ∙ c.if-lacks_data.false))
     (sym c.is_out_of_range.ensures ∙ c.if-is_out_of_range.false)
-    (c.refusal_now.ensures s h bare region)
+    (c.refusal_now.ensures s h bare)

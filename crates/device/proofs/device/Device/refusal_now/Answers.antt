@@ -4,20 +4,20 @@ use Rattle.device.proofs.device.Device.refusal_now.Goals as goal
 
 pub returns-then-is_too_early : goal.returns-then-is_too_early
 returns-then-is_too_early c =
-    λ s h bare region.
+    λ s h bare.
     now_told s c.args.unit c.args.cdb.now true _ _ _ _
     (sym (c.is_too_early.ensures s h) ∙ c.if-is_too_early.true) refl refl refl refl
 
 pub returns-then-is_refused_write : goal.returns-then-is_refused_write
 returns-then-is_refused_write c =
-    λ s h bare region.
+    λ s h bare.
     now_told s c.args.unit c.args.cdb.now false true _ _ _
     (sym (c.is_too_early.ensures s h) ∙ c.if-is_too_early.false)
     (sym (c.is_refused_write.ensures s h bare) ∙ c.if-is_refused_write.true) refl refl refl
 
 pub returns-then-lacks_response : goal.returns-then-lacks_response
 returns-then-lacks_response c =
-    λ s h bare region.
+    λ s h bare.
     now_told s c.args.unit c.args.cdb.now false false true _ _
     (sym (c.is_too_early.ensures s h) ∙ c.if-is_too_early.false)
     (sym (c.is_refused_write.ensures s h bare) ∙ c.if-is_refused_write.false)
@@ -25,7 +25,7 @@ returns-then-lacks_response c =
 
 pub returns-then-has_other_response : goal.returns-then-has_other_response
 returns-then-has_other_response c =
-    λ s h bare region.
+    λ s h bare.
     now_told s c.args.unit c.args.cdb.now false false false true _
     (sym (c.is_too_early.ensures s h) ∙ c.if-is_too_early.false)
     (sym (c.is_refused_write.ensures s h bare) ∙ c.if-is_refused_write.false)
@@ -34,7 +34,7 @@ returns-then-has_other_response c =
 
 pub returns-then-is_crowded : goal.returns-then-is_crowded
 returns-then-is_crowded c =
-    λ s h bare region.
+    λ s h bare.
     now_told s c.args.unit c.args.cdb.now false false false false true
     (sym (c.is_too_early.ensures s h) ∙ c.if-is_too_early.false)
     (sym (c.is_refused_write.ensures s h bare) ∙ c.if-is_refused_write.false)
@@ -44,7 +44,7 @@ returns-then-is_crowded c =
 
 pub returns : goal.returns
 returns c =
-    λ s h bare region.
+    λ s h bare.
     now_told s c.args.unit c.args.cdb.now false false false false false
     (sym (c.is_too_early.ensures s h) ∙ c.if-is_too_early.false)
     (sym (c.is_refused_write.ensures s h bare) ∙ c.if-is_refused_write.false)

@@ -11,7 +11,7 @@ use Rattle.write_cache.proofs.Marks.{first_marked, marked_length, marked_runs, n
 use Rattle.write_cache.proofs.Readies.{found_within, rests_kept, written_ready}
 use Rattle.write_cache.proofs.Same.{rest_of, written_same}
 use Rattle.write_cache.proofs.Told.{told_consecutive, told_few, told_rising, told_stands, told_straight}
-use Rattle.write_cache.proofs.WrittenPlaces.{written_marked}
+use Rattle.write_cache.proofs.MarkedPlaces.{written_marked}
 use Rattle.write_cache.specs.declared.slots.Pending.{Pending}
 use Rattle.write_cache.proofs.pages.Pages.mark_written.Goals as goal
 

@@ -3,7 +3,7 @@ use Rattle.std.specs.Prelude.{find, option_and_then, slice_get}
 use Rattle.write_cache.specs.Kept.{Queue}
 use Rattle.write_cache.specs.Slots.{is_there}
 use Rattle.write_cache.proofs.Deques.{find_placed}
-use Rattle.write_cache.proofs.WrittenPlaces.{written_found}
+use Rattle.write_cache.proofs.MarkedPlaces.{written_found}
 use Rattle.write_cache.proofs.pages.Pages.page_there.Goals as goal
 
 pub returns-in-Some : goal.returns-in-Some

@@ -1,0 +1,176 @@
+-- Blocks that may be collected, bucket by bucket: the first of the least live pages, and how many probes that takes.
+use Rattle.std.proofs.Common.{◌≡◌, ◌∙◌, ◌⊎◌, ℕ, ◌+◌, ◌*◌, ◌<◌, ◌≤◌, ◌&&◌, Bool}
+use Rattle.std.proofs.Common.{true, false, cond, List, Some, ap, arith, length, refl, sym, subst}
+use Rattle.std.proofs.Common.{add-one, inl, inr, not}
+use Rattle.std.specs.Prelude.{nat_lt, ◌==◌, count_by}
+use Rattle.std.specs.List.{sum_by}
+use Rattle.std.proofs.Math.Nat.{mul_comm}
+use Rattle.std.proofs.lemmas.List.Sums.{sum_by_push}
+use Rattle.std.proofs.lemmas.Nat.{mul-add-lt}
+use Rattle.ufs_spec.proofs.Facts.{and_from, and_parts, cases_lt, eq-eqb, eqb-true, false≢true}
+use Rattle.ufs_spec.proofs.Facts.{le-ltb, lt-ltb, ltb-true}
+use Rattle.ufs_spec.specs.Disk.{Spot}
+use Rattle.ufs_spec.specs.Keys.{below}
+use Rattle.block_table.specs.Blocks.{Blocks, state_of}
+use Rattle.block_table.specs.Buckets.{Buckets, IsLowest, has}
+use Rattle.block_table.specs.LiveRooms.{AreCounted}
+use Rattle.block_table.specs.Lives.{Lives, block_place, gains, has_block, is_pinned, live_count}
+use Rattle.block_table.specs.Lives.{may_be_victim}
+use Rattle.block_table.specs.Probes.{has_unpinned, is_unpinned_of, is_victim_at, most_probes}
+use Rattle.block_table.specs.Probes.{spot_there, word_probes}
+use Rattle.block_table.specs.Sorted.{blocks_in}
+use Rattle.block_table.specs.Victims.{CanBeVictim, IsBefore, IsNoVictim, IsVictim}
+use Rattle.block_table.specs.declared.Sizes.{Sizes}
+use Rattle.block_table.proofs.LiveCounts.{order, spot_inside}
+use Rattle.block_table.proofs.Searches.{can_shown, can_told}
+use Rattle.block_table.proofs.Unpinned.{AreUnpinned, count_at_most, place_there}
+use Rattle.block_table.proofs.Unpinned.{spot_block, spot_die}
+use Rattle.block_table.proofs.VictimWords.{unpinned_is, unpinned_past, any_there, spot_placed}
+
+-- Buckets
+
+-- no block that does not stand in the bucket may be collected
+pub empty_none : (l : Lives) (t : Blocks) (counts : List ℕ) (b : Buckets) (count : ℕ) → count ≤ l.sizes.pages →
+    length l.pins ≡ blocks_in l.sizes → AreCounted l counts → AreUnpinned b l.sizes.pages counts l.pins →
+    (p : ℕ) → has b count p ≡ false → is_victim_at l t count p ≡ false
+empty_none l t counts b count few whole kept old p empty = by (cases_lt p (blocks_in l.sizes))
+  where
+    s : Spot
+    s = spot_there l.sizes p
+
+    none : (n c g : Bool) → (n && c) ≡ false → (c && (n && g)) ≡ false
+    none true true g h = absurd (false≢true (sym h))
+    none true false g h = refl
+    none false true g h = refl
+    none false false g h = refl
+
+    by : (p < blocks_in l.sizes) ⊎ (blocks_in l.sizes ≤ p) → is_victim_at l t count p ≡ false
+    by (inl inside) =
+        ap (λ (c : Bool). c && ((live_count l s == count) && may_be_victim l t s)) (lt-ltb p (blocks_in l.sizes) inside)
+        ∙ none (not (is_pinned l s)) (live_count l s == count) (gains l s (state_of t s.die s.block))
+        (sym (unpinned_is l counts count p kept whole inside) ∙ sym (old count p few) ∙ empty)
+    by (inr out) =
+        ap (λ (c : Bool). c && ((live_count l s == count) && may_be_victim l t s)) (le-ltb p (blocks_in l.sizes) out)
+
+-- one that does has no pin
+pub held_there : (l : Lives) (counts : List ℕ) (b : Buckets) (count p : ℕ) → count ≤ l.sizes.pages →
+    length l.pins ≡ blocks_in l.sizes → AreCounted l counts → AreUnpinned b l.sizes.pages counts l.pins →
+    has b count p ≡ true → (p < blocks_in l.sizes) × (is_unpinned_of l count (spot_there l.sizes p) ≡ true)
+held_there l counts b count p few whole kept old h = by (cases_lt p (blocks_in l.sizes))
+  where
+    by : (p < blocks_in l.sizes) ⊎ (blocks_in l.sizes ≤ p) →
+        (p < blocks_in l.sizes) × (is_unpinned_of l count (spot_there l.sizes p) ≡ true)
+    by (inl inside) =
+        (inside, sym (unpinned_is l counts count p kept whole inside) ∙ sym (old count p few) ∙ h)
+    by (inr out) = absurd (false≢true (sym (unpinned_past l counts count p whole out) ∙ sym (old count p few) ∙ h))
+
+-- so a bucket that is not empty has a block without a pin
+pub held_unpinned : (l : Lives) (counts : List ℕ) (b : Buckets) (count : ℕ) → count ≤ l.sizes.pages →
+    length l.pins ≡ blocks_in l.sizes → AreCounted l counts → AreUnpinned b l.sizes.pages counts l.pins →
+    (p : ℕ) × (has b count p ≡ true) → has_unpinned l count ≡ true
+held_unpinned l counts b count few whole kept old (p, h) =
+    let u = held_there l counts b count p few whole kept old h in
+    any_there (is_unpinned_of l count) l.sizes p u.0 u.1
+
+-- Victims
+
+at_place : {l : Lives} {t : Blocks} (s : Spot) → CanBeVictim l t s →
+    is_victim_at l t (live_count l s) (block_place l.sizes s) ≡ true
+at_place {l} {t} s can =
+    and_from (nat_lt (block_place l.sizes s) (blocks_in l.sizes))
+    ((live_count l (spot_there l.sizes (block_place l.sizes s)) == live_count l s)
+    && may_be_victim l t (spot_there l.sizes (block_place l.sizes s)))
+    (lt-ltb (block_place l.sizes s) (blocks_in l.sizes) (spot_inside l.sizes s can.inside))
+    (and_from (live_count l (spot_there l.sizes (block_place l.sizes s)) == live_count l s)
+    (may_be_victim l t (spot_there l.sizes (block_place l.sizes s)))
+    (eq-eqb (live_count l (spot_there l.sizes (block_place l.sizes s))) (live_count l s)
+    (ap (live_count l) (spot_placed l.sizes s can.inside)))
+    (ap (may_be_victim l t) (spot_placed l.sizes s can.inside) ∙ (can_told can).1))
+
+-- no block with at most so many live pages may be collected
+pub none_more : (l : Lives) (t : Blocks) (count : ℕ) → ((s : Spot) → CanBeVictim l t s → count ≤ live_count l s) →
+    ((p : ℕ) → is_victim_at l t count p ≡ false) → (s : Spot) → CanBeVictim l t s → count + 1 ≤ live_count l s
+none_more l t count before none s can = by (order count (live_count l s))
+  where
+    by : (count < live_count l s) ⊎ ((count ≡ live_count l s) ⊎ (live_count l s < count)) → count + 1 ≤ live_count l s
+    by (inl m) = omega arith
+    by (inr (inl e)) = absurd (false≢true (sym (none (block_place l.sizes s))
+        ∙ ap (λ (c : ℕ). is_victim_at l t c (block_place l.sizes s)) e ∙ at_place s can))
+    by (inr (inr m)) = let h = before s can in absurd (omega arith)
+
+pub none_left : (l : Lives) (t : Blocks) (count : ℕ) → l.sizes.pages + 1 ≤ count →
+    ((s : Spot) → CanBeVictim l t s → count ≤ live_count l s) → IsNoVictim l t
+none_left l t count over before s can =
+    let h = before s can in
+    let k = count_at_most l s in
+    omega arith
+
+-- blocks are counted in the order of their places
+place_before : (n : Sizes) (a b : Spot) → has_block n a ≡ true → has_block n b ≡ true → IsBefore a b →
+    block_place n a < block_place n b
+place_before n a b h k (inl m) =
+    let u = ltb-true a.block n.blocks (and_parts (nat_lt a.die n.dies) (nat_lt a.block n.blocks) h).1 in
+    let r = mul-add-lt a.die n.blocks a.block b.die m u in
+    let e = mul_comm n.blocks b.die in
+    omega arith
+place_before n a b h k (inr (e, m)) =
+    let f : a.die * n.blocks ≡ b.die * n.blocks = ap (λ (d : ℕ). d * n.blocks) e in
+    omega arith
+
+-- the first block of the least number of live pages is the victim
+pub first_is : (l : Lives) (t : Blocks) (count p : ℕ) → ((s : Spot) → CanBeVictim l t s → count ≤ live_count l s) →
+    IsLowest (is_victim_at l t count) p →
+    IsVictim l t (spot_there l.sizes p) × (live_count l (spot_there l.sizes p) ≡ count) × (p < blocks_in l.sizes)
+first_is l t count p before first = (
+  record {
+    can = can;
+    least = λ a q. subst (λ (c : ℕ). c ≤ live_count l a) (sym count_is) (before a q);
+    lowest = λ a q same w. false≢true (sym (first.below (block_place l.sizes a) (earlier a q w))
+        ∙ ap (λ (c : ℕ). is_victim_at l t c (block_place l.sizes a)) (sym (same ∙ count_is)) ∙ at_place a q);
+  },
+  count_is,
+  inside,
+)
+  where
+    s : Spot
+    s = spot_there l.sizes p
+
+    parts : (nat_lt p (blocks_in l.sizes) ≡ true) × (((live_count l s == count) && may_be_victim l t s) ≡ true)
+    parts = and_parts (nat_lt p (blocks_in l.sizes)) ((live_count l s == count) && may_be_victim l t s) first.passes
+
+    inner : ((live_count l s == count) ≡ true) × (may_be_victim l t s ≡ true)
+    inner = and_parts (live_count l s == count) (may_be_victim l t s) parts.1
+
+    inside : p < blocks_in l.sizes
+    inside = ltb-true p (blocks_in l.sizes) parts.0
+
+    count_is : live_count l s ≡ count
+    count_is = eqb-true (live_count l s) count inner.0
+
+    can : CanBeVictim l t s
+    can = can_shown ((spot_block l.sizes p inside, inl (spot_die l.sizes p inside)), inner.1)
+
+    earlier : (a : Spot) → CanBeVictim l t a → IsBefore a s → block_place l.sizes a < p
+    earlier a q w = subst (λ (k : ℕ). block_place l.sizes a < k) (place_there l.sizes p)
+        (place_before l.sizes a s q.inside can.inside w)
+
+-- Probes
+
+pub one_more : (f : ℕ → Bool) (n : ℕ) → count_by f (below (n + 1)) ≡ count_by f (below n) + cond (f n) 1 0
+one_more f n = ap (λ (k : ℕ). count_by f (below k)) (add-one n) ∙ sum_by_push (λ k. cond (f k) 1 0) (below n) n
+
+-- the probes of one bucket more
+pub probes_more : (f : ℕ → ℕ) (count i x y : ℕ) → x ≤ i + (count + sum_by f (below count)) → y ≤ x + 1 + f count →
+    y ≤ i + (count + 1 + sum_by f (below (count + 1)))
+probes_more f count i x y h k =
+    let e : sum_by f (below (count + 1)) ≡ sum_by f (below count) + f count =
+    ap (λ (n : ℕ). sum_by f (below n)) (add-one count) ∙ sum_by_push f (below count) count in
+    omega arith
+
+-- and those of the buckets up to the victim's
+pub probes_with : (l : Lives) (s : Spot) (count i x y : ℕ) → live_count l s ≡ count →
+    x ≤ i + (count + sum_by (word_probes l) (below count)) → y ≤ x + 1 + word_probes l count →
+    y ≤ i + most_probes l (Some s)
+probes_with l s count i x y e h k =
+    subst (λ (c : ℕ). y ≤ i + (c + 1 + sum_by (word_probes l) (below (c + 1)))) (sym e)
+    (probes_more (word_probes l) count i x y h k)
