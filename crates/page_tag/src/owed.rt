@@ -113,14 +113,7 @@ impl<'a> OwedJob<'a> {
                 body,
                 zeros,
             } => {
-                let spare = zeros.spare(tag, body);
-                return Some(Job::Program(
-                    *place,
-                    Page {
-                        body: **body,
-                        spare,
-                    },
-                ));
+                return Some(program_sealed(*place, tag, body, zeros));
             }
             Owed::Mark {
                 place,
@@ -128,7 +121,7 @@ impl<'a> OwedJob<'a> {
                 numbers,
                 fence,
             } => {
-                return Some(mark_sealed(*place, tag, numbers, *fence));
+                return mark_answer(*place, tag, numbers, *fence);
             }
             Owed::Read(place) => {
                 return Some(Job::Read(*place));
@@ -172,6 +165,24 @@ impl<'a> OwedJob<'a> {
             }
         }
     }
+}
+
+// The program of a page with this tag and this block. This function fills all of the page's room and has
+// no other arm: so the compiler needs no room for it beside that of the answer.
+fn program_sealed(place: Place, tag: &Tag, body: &Block, zeros: &ZeroSeal) -> Job
+    requires { IsTag tag.now }
+    ensures { result ≡ job.Program place (seal_page tag.now body.now) }
+{
+    let spare = zeros.spare(tag, body);
+    Job::Program(place, Page { body: *body, spare })
+}
+
+// The program of a mark as an answer. Its room is set here, and not for each job.
+fn mark_answer(place: Place, tag: &Tag, numbers: &Numbers, fence: Option<Fence>) -> Option<Job>
+    requires { IsTag tag.now }
+    ensures { result ≡ Some (job.Program place (seal_page tag.now (mark_bytes numbers.now fence))) }
+{
+    Some(mark_sealed(place, tag, numbers, fence))
 }
 
 // The program of a mark. It is rare, and its block is in no frame of other jobs.

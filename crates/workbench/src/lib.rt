@@ -75,6 +75,8 @@ impl Workbench {
     }
 
     /// Does the job on the die, and tells the device how it ended; false where the device gave no such job.
+    /// It is never inlined, so that the page of a job lies in the room of one answer up to here.
+    #[inline(never)]
     pub fn end(&mut self, die: u8, job: &Job) -> bool {
         let index = die as usize;
         if index >= self.dies.len() || !self.dies[index].can_do(job) {

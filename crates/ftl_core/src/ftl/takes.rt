@@ -568,7 +568,9 @@ impl Ftl {
 
     /// The job that the die has in flight from now on, where it is owed one: a read that is owed, else the
     /// erase of a block whose pages open and may go, else the program of the first waiting page, else the
-    /// erase of a block to put it into.
+    /// erase of a block to put it into. It is never inlined: where it is, the compiler gives up on the room
+    /// for a page in `take`, sets it and copies the page once more.
+    #[inline(never)]
     fn next_flight(&mut self, die: u8) -> Option<Flight>
         ensures nothing { IfNone result (self.new ≡ self.old) }
         // What is to be programmed is the same once the job is in flight.
