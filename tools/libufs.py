@@ -5,7 +5,7 @@ usage: libufs.py build | examples
 
 `build` proves the crate libufs with those below it, and makes the archive crates/libufs/out/libufs.a:
 the library, and what it takes memory by. `examples` does so too, and compiles each program of
-examples/c as C and the header as C++, with all warnings; what comes has to end with status 0, and
+examples/c as C and the headers as C++, with all warnings; what comes has to end with status 0, and
 again under valgrind, where that is installed. CC and CXX name the compilers. The status is 0 where
 all went well, and else 1.
 """
@@ -25,7 +25,7 @@ INCLUDE = ROOT / "include"
 EXAMPLES = ROOT / "examples" / "c"
 WARNINGS = ("-Wall", "-Wextra", "-Wpedantic", "-Werror")
 VALGRIND = ("valgrind", "-q", "--leak-check=full", "--show-leak-kinds=all", "--error-exitcode=9")
-HEADER_IN_CXX = """#include <ufs.h>
+HEADER_IN_CXX = """#include <ufs_dies.h>
 int main() { ufs_device device = UFS_CLOSED; return ufs_close(&device) == UFS_NO_DEVICE ? 0 : 1; }
 """
 
@@ -61,7 +61,7 @@ def try_program(program):
 
 
 def examples():
-    """Compiles each example and the header in C++, and runs what comes."""
+    """Compiles each example and the headers in C++, and runs what comes."""
     build()
     with tempfile.TemporaryDirectory() as folder:
         program = Path(folder) / "program"

@@ -1,7 +1,7 @@
 /*
- * A program that has dies of its own, here arrays, does the jobs that the device gives them. One
- * program of a page fails; the block that was written is read back all the same. The status is 0
- * only if all is right.
+ * This program has dies of its own, which are arrays here, and does the jobs that the device gives
+ * them. One program of a page fails. The block that was written is read back all the same. The
+ * status is 0 only if all is right.
  *
  * `make c-example` builds and runs it.
  */
@@ -19,7 +19,7 @@ static const ufs_unit units[] = {{256, 0, 0}};
 static uint8_t dies[DIES][BLOCKS][PAGES][UFS_PAGE_BYTES];
 static uint8_t reply[UFS_REPLY_BYTES];
 static size_t reply_length;
-/* How many programs of pages were done; the one of this number fails. */
+/* How many programs of pages came so far, and which of them fails, counted from 0. */
 static unsigned programs;
 static const unsigned failing = 1;
 
@@ -64,7 +64,7 @@ static void do_job(ufs_device *device, const ufs_job *job)
     check(ufs_done(device, job->die, how, page, 0) == UFS_NO_JOB, "a job ended twice");
 }
 
-/* Rounds of a turn and of one job of each die. */
+/* So many rounds. In a round the device takes a turn, and each die does a job. */
 static void settle(ufs_device *device, unsigned rounds)
 {
     static ufs_job job;
@@ -109,8 +109,8 @@ static void hear(ufs_device *device, uint8_t code)
     check(reply[0] == code, "another reply came");
 }
 
-/* The MAC of two frames is HMAC-SHA-256 (RFC 2104) of their last 284 bytes: here as Python's module
- * hmac computes it. */
+/* The MAC of two frames is HMAC-SHA-256 (RFC 2104) over the last 284 bytes of each. Python's module
+ * hmac computed the one that is expected here. */
 static void check_mac(void)
 {
     static const uint8_t expected[32] = {

@@ -1,7 +1,7 @@
 /*
- * A block is written with FUA, the power goes while another one is programmed, and after it the
- * first block is there and the other one is not. Then the dies are saved as an image, and a second
- * device reads the block from it. The status is 0 only if all is right.
+ * This program writes a block with FUA. Then the power goes while another block is programmed. The
+ * first block is there afterwards, and the other one is not. At last the dies are saved as an
+ * image, and a second device reads the block from it. The status is 0 only if all is right.
  *
  * `make c-example` builds and runs it.
  */
@@ -24,7 +24,7 @@ enum { UNITS = sizeof units / sizeof units[0] };
 static uint8_t reply[UFS_REPLY_BYTES];
 static size_t reply_length;
 
-/* Tells what a call answered that should have gone well, and ends the program. */
+/* If a call did not go well, this tells what it answered, and ends the program. */
 static void expect(uint32_t fault, const char *what)
 {
     char text[128];
@@ -55,7 +55,7 @@ static void command(ufs_device *device, uint8_t tag, uint8_t operation, uint8_t 
     expect(ufs_host(device, message, sizeof message), "COMMAND");
 }
 
-/* DATA OUT with a block of which all bytes are this one. */
+/* A DATA OUT with a block. Each of its bytes is this one. */
 static void data_out(ufs_device *device, uint8_t tag, uint8_t byte)
 {
     static uint8_t block[BLOCK];
@@ -72,7 +72,7 @@ static void hear(ufs_device *device, uint8_t code, uint8_t tag)
     check(reply[0] == code && reply[3] == tag, "another reply came");
 }
 
-/* Begins to write a block with FUA: all its bytes are this one. */
+/* Begins to write a block with FUA. Each of its bytes is this one. */
 static void begin_write(ufs_device *device, uint8_t tag, uint8_t address, uint8_t byte)
 {
     command(device, tag, WRITE_10, FUA, address);
@@ -92,7 +92,7 @@ static void hear_good(ufs_device *device, uint8_t tag)
           "a command was not answered GOOD");
 }
 
-/* Reads a block of which all bytes have to be this one. */
+/* Reads a block. Each of its bytes has to be this one. */
 static void expect_block(ufs_device *device, uint8_t tag, uint8_t address, uint8_t byte)
 {
     command(device, tag, READ_10, 0, address);
@@ -123,7 +123,7 @@ static void refused_write(ufs_device *device, uint8_t tag)
           "a WRITE past the end was not refused so");
 }
 
-/* A die takes the program of a block, and has not done it. */
+/* A die takes the program of a block, and does not do it yet. */
 static uint8_t take_program(ufs_device *device)
 {
     static ufs_job job;
@@ -137,7 +137,7 @@ static uint8_t take_program(ufs_device *device)
     return 0;
 }
 
-/* The power goes while one die programs a page, which is torn. */
+/* The power goes while a die programs a page. The page is torn. */
 static void cut_power(ufs_device *device)
 {
     uint8_t lefts[4] = {UFS_LEFT_OLD, UFS_LEFT_OLD, UFS_LEFT_OLD, UFS_LEFT_OLD};

@@ -3,22 +3,31 @@
 //! `ufs_fault_text` tells.
 #![tactic(auto)]
 
-ghost use Rattle.std.specs.Prelude.{◌≡◌, ◌≢◌, ◌≤◌, None, is_some, length};
-ghost use Rattle.ufs_handle.specs.Calls.{Called, GivesUp, Hears, Settles, Takes, Turns, Works};
-ghost use Rattle.ufs_handle.specs.Exports.{EndsSo, IsJobShown, Numbered, OpensNew, RepliesInto, StopsAll};
+ghost use Rattle.std.specs.Prelude.{◌≡◌, ◌<◌, ◌≤◌, None, is_some, length, slice_index};
+ghost use Rattle.ufs_handle.specs.Calls.{Called, GivesUp, Hears, Takes, Turns, Works};
+ghost use Rattle.ufs_handle.specs.Exports.{EndsSo, FailsSo, IsJobShown, Numbered, OpensNew, RepliesInto, StopsAll};
 ghost use Rattle.ufs_handle.specs.Numbers.{answer_number, ended_number, flag_number, heard_number, open_number};
 ghost use Rattle.ufs_handle.specs.Numbers.{reply_number, saved_number, stop_number, taken_number};
-ghost use Rattle.ufs_messages.specs.Written.{IsCommand, IsDataOut, IsMac, IsResponse};
+ghost use Rattle.ufs_handle.specs.Steps.{Settles};
+ghost use Rattle.ufs_messages.specs.Commands.{IsAsked, IsFlush, IsFrameWritten, IsNop, IsQueryWritten, IsRead};
+ghost use Rattle.ufs_messages.specs.Commands.{IsSecurity, IsTaskRequest, IsUnmap, IsUnmapList, IsWrite, ReadsFrame};
+ghost use Rattle.ufs_messages.specs.Commands.{asked_cdb, asked_of};
+ghost use Rattle.ufs_messages.specs.Written.{IsCommand, IsDataOut, IsMac, ReadsResponse};
 ghost use Rattle.ufs_images.specs.Saved.{IsLength, OpensImage, SavesTo};
 ghost use Rattle.ufs_handle.specs.declared.fault.Fault.TheVariants as fault;
 
 use std::alloc::Global;
 use ufs_handle::{
     Fault, Handle, PlainConfig, PlainJob, PlainUnit, answer_number, copy_text, ended_number,
-    flag_number, heard_number, open_number, reply_number, saved_number, stop_number, taken_number,
+    flag_number, heard_number, open_number, reply_number, saved_number, stop_number,
 };
 use ufs_images::{open_image, put_length, save};
-use ufs_messages::{PlainResponse, get_response, put_command, put_data_out, put_mac};
+use ufs_messages::{
+    PlainFrame, PlainResponse, get_frame, get_response, put_asking, put_command, put_data_out,
+    put_flush, put_frame, put_mac, put_nop, put_query, put_read, put_security, put_task_request,
+    put_unmap, put_unmap_list, put_write,
+};
+use ufs_spec::Asked;
 
 /// Opens a device over new dies in memory.
 #[unsafe(no_mangle)]
@@ -96,7 +105,7 @@ pub extern "C" fn ufs_take(alloc: Global, device: &mut Handle, die: u8, job: &mu
     ensures { Numbered taken_number result (λ answer.
         Called (Takes die) device.old.value answer device.new.value × IsJobShown answer job.old job.new) }
 {
-    taken_number(&device.take_into(alloc, die, job))
+    flag_number(device.take_job(alloc, die, job), Fault::Nothing)
 }
 
 /// Ends the job in flight of a die of the program's own.
@@ -126,11 +135,20 @@ pub extern "C" fn ufs_work(alloc: Global, device: &mut Handle, die: u8) -> u32
     flag_number(device.work(alloc, die), Fault::NoJob)
 }
 
+/// The job in flight of the die in memory fails.
+#[unsafe(no_mangle)]
+pub extern "C" fn ufs_fail(alloc: Global, device: &mut Handle, die: u8, left: u8) -> u32
+    ensures { Numbered ended_number result (λ answer.
+        FailsSo die left device.old.value answer device.new.value) }
+{
+    ended_number(device.fail_so(alloc, die, left))
+}
+
 /// Rounds of a turn and of one job of each die in memory.
 #[unsafe(no_mangle)]
 pub extern "C" fn ufs_settle(alloc: Global, device: &mut Handle, rounds: u16) -> u32
     ensures { Numbered (λ answer. open_number (is_some answer)) result (λ answer.
-        Called Settles device.old.value answer device.new.value) }
+        Called (Settles rounds) device.old.value answer device.new.value) }
 {
     open_number(device.settle(alloc, rounds).is_some())
 }
@@ -192,13 +210,156 @@ pub extern "C" fn ufs_data_out(lun: u8, tag: u8, offset: u32, sent: &[u8], into:
 /// Reads a RESPONSE.
 #[unsafe(no_mangle)]
 pub extern "C" fn ufs_response(reply: &[u8], into: &mut PlainResponse) -> u32
-    ensures read { result ≡ 0 → IsResponse reply.now into.new }
-    ensures other { result ≢ 0 → into.new ≡ into.old }
+    ensures { Numbered answer_number result (λ answer.
+        ReadsResponse reply.now answer into.old into.new) }
 {
-    match get_response(reply, into) {
-        Ok(()) => 0,
-        Err(fault) => fault.number(),
-    }
+    answer_number(&get_response(reply, into))
+}
+
+/// Writes the COMMAND of a READ(10).
+#[unsafe(no_mangle)]
+pub extern "C" fn ufs_read(lun: u8, tag: u8, address: u32, blocks: u16, into: &mut [u8]) -> u32
+    ensures { Numbered answer_number result (λ answer.
+        IsRead lun tag address blocks answer into.old into.new) }
+{
+    answer_number(&put_read(lun, tag, address, blocks, into))
+}
+
+/// Writes the COMMAND of a WRITE(10), with FUA where it is forced.
+#[unsafe(no_mangle)]
+pub extern "C" fn ufs_write(
+    lun: u8,
+    tag: u8,
+    address: u32,
+    blocks: u16,
+    forced: bool,
+    into: &mut [u8],
+) -> u32
+    ensures { Numbered answer_number result (λ answer.
+        IsWrite lun tag address blocks forced answer into.old into.new) }
+{
+    answer_number(&put_write(lun, tag, address, blocks, forced, into))
+}
+
+/// Writes the COMMAND of a SYNCHRONIZE CACHE(10), with IMMED where it is immediate.
+#[unsafe(no_mangle)]
+pub extern "C" fn ufs_flush(lun: u8, tag: u8, immediate: bool, into: &mut [u8]) -> u32
+    ensures { Numbered answer_number result (λ answer.
+        IsFlush lun tag immediate answer into.old into.new) }
+{
+    answer_number(&put_flush(lun, tag, immediate, into))
+}
+
+/// Writes the COMMAND of an UNMAP of one descriptor.
+#[unsafe(no_mangle)]
+pub extern "C" fn ufs_unmap(lun: u8, tag: u8, into: &mut [u8]) -> u32
+    ensures { Numbered answer_number result (λ answer. IsUnmap lun tag answer into.old into.new) }
+{
+    answer_number(&put_unmap(lun, tag, into))
+}
+
+/// Writes the DATA OUT of the list of an UNMAP.
+#[unsafe(no_mangle)]
+pub extern "C" fn ufs_unmap_list(
+    lun: u8,
+    tag: u8,
+    address: u64,
+    blocks: u32,
+    into: &mut [u8],
+) -> u32
+    ensures { Numbered answer_number result (λ answer.
+        IsUnmapList lun tag address blocks answer into.old into.new) }
+{
+    answer_number(&put_unmap_list(lun, tag, address, blocks, into))
+}
+
+/// Writes the COMMAND of one that asks for bytes of the device's own.
+#[unsafe(no_mangle)]
+pub extern "C" fn ufs_ask(operation: u8, lun: u8, tag: u8, allocation: u32, into: &mut [u8]) -> u32
+    ensures { Numbered answer_number result (λ answer.
+        IsAsked (asked_cdb operation allocation) lun tag allocation answer into.old into.new) }
+{
+    answer_number(&put_asking(operation, lun, tag, allocation, into))
+}
+
+/// Writes a QUERY REQUEST.
+#[unsafe(no_mangle)]
+pub extern "C" fn ufs_query(
+    tag: u8,
+    opcode: u8,
+    idn: u8,
+    index: u8,
+    selector: u8,
+    length: u16,
+    value: u32,
+    into: &mut [u8],
+) -> u32
+    ensures { Numbered answer_number result (λ answer.
+        IsQueryWritten tag (asked_of opcode idn index selector) length value answer into.old into.new) }
+{
+    let asked = Asked {
+        opcode,
+        idn,
+        index,
+        selector,
+    };
+    answer_number(&put_query(tag, asked, length, value, into))
+}
+
+/// Writes a TASK MANAGEMENT REQUEST.
+#[unsafe(no_mangle)]
+pub extern "C" fn ufs_task_management(
+    lun: u8,
+    tag: u8,
+    function: u8,
+    meant: u8,
+    into: &mut [u8],
+) -> u32
+    ensures { Numbered answer_number result (λ answer.
+        IsTaskRequest lun tag function meant answer into.old into.new) }
+{
+    answer_number(&put_task_request(lun, tag, function, meant, into))
+}
+
+/// Writes a NOP OUT.
+#[unsafe(no_mangle)]
+pub extern "C" fn ufs_nop(tag: u8, into: &mut [u8]) -> u32
+    ensures { Numbered answer_number result (λ answer. IsNop tag answer into.old into.new) }
+{
+    answer_number(&put_nop(tag, into))
+}
+
+/// Writes the COMMAND of a SECURITY PROTOCOL OUT, or else IN.
+#[unsafe(no_mangle)]
+pub extern "C" fn ufs_rpmb_command(
+    is_out: bool,
+    tag: u8,
+    region: u8,
+    frames: u8,
+    into: &mut [u8],
+) -> u32
+    ensures { Numbered answer_number result (λ answer.
+        IsSecurity is_out tag region frames answer into.old into.new) }
+{
+    answer_number(&put_security(is_out, tag, region, frames, into))
+}
+
+/// Writes a frame of the replay protected memory block.
+#[unsafe(no_mangle)]
+pub extern "C" fn ufs_rpmb_frame(frame: &PlainFrame, into: &mut [u8]) -> u32
+    ensures { Numbered answer_number result (λ answer.
+        IsFrameWritten frame.now answer into.old into.new) }
+{
+    answer_number(&put_frame(frame, into))
+}
+
+/// Reads a frame of the replay protected memory block.
+#[unsafe(no_mangle)]
+pub extern "C" fn ufs_rpmb_fields(bytes: &[u8], into: &mut PlainFrame) -> u32
+    ensures { Numbered answer_number result (λ answer.
+        ReadsFrame bytes.now answer into.old into.new) }
+{
+    answer_number(&get_frame(bytes, into))
 }
 
 /// Writes the MAC of frames of the replay protected memory block.
@@ -213,7 +374,8 @@ pub extern "C" fn ufs_rpmb_mac(key: &[u8], frames: &[u8], into: &mut [u8]) -> u3
 /// What the number says, in English, behind which stands a zero byte; cut off where the room ends.
 #[unsafe(no_mangle)]
 pub extern "C" fn ufs_fault_text(fault: u32, into: &mut [u8]) -> usize
-    ensures { result ≤ length into.old }
+    ensures within { result ≤ length into.old }
+    ensures ended { 0 < length into.old → (result < length into.old) × (slice_index into.new result ≡ 0) }
 {
     copy_text(fault, into)
 }

@@ -1,5 +1,5 @@
 //! A handle without a device.
-use crate::rows::{CONFIG, UNITS, settled};
+use crate::rows::{CONFIG, NO_JOB, UNITS, settled};
 use std::process::Abort;
 use ufs_handle::{Fault, Handle, copy_text};
 
@@ -9,8 +9,11 @@ fn a_closed_handle_does_nothing(rt: HostRuntime) {
     let mut handle = Handle::closed(rt.alloc());
     assert!(rt; handle.host(rt.alloc(), &[0; 32]).is_none());
     assert!(rt; handle.turn(rt.alloc()).is_none());
-    assert!(rt; handle.take_job(rt.alloc(), 0).is_none());
+    let mut job = NO_JOB;
+    assert!(rt; handle.take_job(rt.alloc(), 0, &mut job).is_none());
+    assert!(rt; job.kind == 9);
     assert!(rt; handle.work(rt.alloc(), 0).is_none());
+    assert!(rt; matches!(handle.fail_so(rt.alloc(), 0, 0), Some(None)));
     assert!(rt; handle.settle(rt.alloc(), 1).is_none());
     assert!(rt; handle.give_up_dies(rt.alloc()).is_none());
     assert!(rt; !handle.close(rt.alloc()));
@@ -21,6 +24,8 @@ fn a_closed_handle_does_nothing(rt: HostRuntime) {
 fn a_handle_holds_one_device(rt: HostRuntime) {
     let mut handle = settled(&rt, rt.alloc());
     let again = handle.open_new(rt.alloc(), &CONFIG, &UNITS);
+    assert!(rt; matches!(again, Err(Fault::Open)));
+    let again = handle.open_new(rt.alloc(), &CONFIG, &[UNITS[0]; 9]);
     assert!(rt; matches!(again, Err(Fault::Open)));
     assert!(rt; handle.close(rt.alloc()));
     assert!(rt; !handle.is_open());

@@ -5,7 +5,11 @@
 #[cfg(test)]
 mod closed;
 #[cfg(test)]
+mod fails;
+#[cfg(test)]
 mod images;
+#[cfg(test)]
+mod messages;
 #[cfg(test)]
 mod own_dies;
 #[cfg(test)]

@@ -1,17 +1,6 @@
 //! Dies of the program's own.
-use crate::rows::{opened, settled};
+use crate::rows::{NO_JOB, opened, settled};
 use std::process::Abort;
-use ufs_handle::PlainJob;
-
-/// A job that no die was given.
-const NO_JOB: PlainJob = PlainJob {
-    kind: 9,
-    die: 9,
-    block: 9,
-    page: 9,
-    body: [0; 4096],
-    spare: [0; 96],
-};
 
 /// A new device erases a block of die 0 first, and its end is told once.
 #[test]
@@ -20,7 +9,7 @@ fn an_erase_ends_once(rt: HostRuntime) {
     assert!(rt; handle.give_up_dies(rt.alloc()).is_some());
     handle.turn(rt.alloc());
     let mut job = NO_JOB;
-    assert!(rt; matches!(handle.take_into(rt.alloc(), 0, &mut job), Some(Some(_))));
+    assert!(rt; matches!(handle.take_job(rt.alloc(), 0, &mut job), Some(true)));
     assert!(rt; job.kind == 3 && job.die == 0 && job.page == 0);
     assert!(rt; matches!(handle.work(rt.alloc(), 0), Some(false)));
     assert!(rt; handle.done_so(rt.alloc(), 0, 4, &[]).is_none());

@@ -2,7 +2,7 @@
 use row_messages::messages::{FUA, READ, WRITE, block_out, command, good, is_block, ready};
 use std::alloc::Global;
 use std::process::Abort;
-use ufs_handle::{Handle, PlainConfig, PlainUnit};
+use ufs_handle::{Handle, PlainConfig, PlainJob, PlainUnit};
 
 /// Two dies of 32 blocks of 16 pages, RPMB region 0, 64 slots and 2 spare blocks.
 pub const CONFIG: PlainConfig = PlainConfig {
@@ -20,6 +20,16 @@ pub const UNITS: [PlainUnit; 1] = [PlainUnit {
     boot: 0,
     protect: 0,
 }];
+
+/// A job that no die was given.
+pub const NO_JOB: PlainJob = PlainJob {
+    kind: 9,
+    die: 9,
+    block: 9,
+    page: 9,
+    body: [0; 4096],
+    spare: [0; 96],
+};
 
 /// A new device.
 pub fn opened(rt: &impl Abort, alloc: Global) -> Handle {

@@ -1,15 +1,16 @@
 //! Dies in memory that lose their power.
-use crate::rows::{begin_write, expect_block, settled, write};
+use crate::rows::{NO_JOB, begin_write, expect_block, settled, write};
 use std::alloc::Global;
 use std::process::Abort;
 use ufs_handle::Handle;
 
 /// The die on which the program of a block was taken.
 fn programming(rt: &impl Abort, alloc: Global, handle: &mut Handle) -> u8 {
-    if matches!(handle.take_job(alloc, 0), Some(Some(_))) {
+    let mut job = NO_JOB;
+    if matches!(handle.take_job(alloc, 0, &mut job), Some(true)) {
         return 0;
     }
-    assert!(rt; matches!(handle.take_job(alloc, 1), Some(Some(_))));
+    assert!(rt; matches!(handle.take_job(alloc, 1, &mut job), Some(true)));
     1
 }
 

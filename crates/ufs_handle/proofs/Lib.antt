@@ -1,4 +1,8 @@
 mod BareValues
+mod NewDies
 mod OpenedDies
 mod StoppedDies
+mod Told
+mod Unopened
 mod Values
+mod Walked

@@ -1,13 +1,13 @@
 -- What a call makes of a device that a C program holds.
-use Rattle.std.specs.Prelude.{◌<◌, ◌≡◌, ◌≢◌, ℕ, Bool, true, false, List, [], Option, Some, None, Result, Ok, Err, length}
+use Rattle.std.specs.Prelude.{◌<◌, ◌≡◌, ℕ, Bool, true, false, List, [], Option, Some, None, Result, Ok, Err, length}
 use Rattle.std.specs.Prelude.{replicate, slice_set}
 use Rattle.ufs_spec.specs.Cells.{Array}
 use Rattle.ufs_spec.specs.Dies.{CanDo, DieState, after_job, outcome_of}
-use Rattle.ufs_spec.specs.Lives.{IsOpened, array_of, bad_of}
+use Rattle.ufs_spec.specs.Lives.{Fit, IsOpened, array_of, bad_of}
 use Rattle.ufs_spec.specs.Machine.{Done, MayLeave, OfDone, OfReply, OfTurn, Reply, Turn}
 use Rattle.ufs_spec.specs.Moves.{Ending, IsEndingOf, outcome_fits}
 use Rattle.ufs_spec.specs.Refusals.{State}
-use Rattle.ufs_spec.specs.Sound.{Sound}
+use Rattle.ufs_spec.specs.Sound.{Sound, Suits}
 use Rattle.ufs_spec.specs.declared.configs.Numbers.{Numbers}
 use Rattle.ufs_spec.specs.declared.faults.HostFault.{HostFault}
 use Rattle.ufs_spec.specs.declared.flash.Job.{Job}
@@ -15,7 +15,7 @@ use Rattle.ufs_spec.specs.declared.flash.Outcome.{Outcome}
 use Rattle.device.specs.Describes.{Describes, IsAnswered, IsGiven, IsHeardAs, IsReplied}
 use Rattle.device.specs.Kept.{DeviceCore}
 use Rattle.ufs_handle.specs.Kept.{HeldState, die_at, job_at, jobs_given}
-use Rattle.ufs_handle.specs.Left.{stopped}
+use Rattle.ufs_handle.specs.Left.{failed_by, failed_outcome, stopped}
 use Rattle.ufs_handle.specs.declared.fault.Fault.{Fault}
 use Rattle.ufs_handle.specs.declared.fault.Fault.TheVariants as fault
 use Rattle.ufs_handle.specs.declared.left.Left.{Left}
@@ -71,7 +71,8 @@ IsTold die outcome core after =
 -- kind in flight
 abbrev pub Ends : ℕ → Outcome → HeldState → Bool → HeldState → Type 0
 Ends die outcome h true after =
-    (after ≡ record h { core = after.core; jobs = slice_set h.jobs die None }) × IsTold die outcome h.core after.core
+    (length h.dies ≡ 0) × (after ≡ record h { core = after.core; jobs = slice_set h.jobs die None })
+    × IsTold die outcome h.core after.core
 Ends die outcome h false after =
     (after ≡ h)
     × (h.dies ≡ [] → (s : State) → Describes h.core s → outcome_fits (s.translation.disk.flights die) outcome ≡ false)
@@ -91,37 +92,65 @@ Works die h true after =
 Works die h false after =
     (after ≡ h) × ((job : Job) → job_at h.jobs die ≡ Some job → CanDo (die_at h.dies die) job → ⊥)
 
+-- the job in flight of the die failed, and left what is said of it: the block of a program or an erase is bad from then
+-- on. The device was told. Nothing changes where the die has no job in flight that it can do
+abbrev pub Fails : ℕ → Left → HeldState → Bool → HeldState → Type 0
+Fails die left h true after =
+    (job : Job) × (job_at h.jobs die ≡ Some job) × CanDo (die_at h.dies die) job
+    × (after ≡ record h {
+      core = after.core;
+      dies = slice_set h.dies die (failed_by h.config.pages left job (die_at h.dies die));
+      jobs = slice_set h.jobs die None;
+    })
+    × IsTold die (failed_outcome job) h.core after.core
+Fails die left h false after =
+    (after ≡ h) × ((job : Job) → job_at h.jobs die ≡ Some job → CanDo (die_at h.dies die) job → ⊥)
+
+-- ## Opening
+
 -- the device is one that the definitions open over these dies
 abbrev pub OpensOver : Numbers → List DieState → DeviceCore → Type 0
 OpensOver n dies core =
     (s : State) → Sound (array_of dies) → IsOpened n (array_of dies) (bad_of dies) s → Describes core s
 
--- the power went: each die holds what its job leaves, no die has a job, and the device was opened again
-pub record Stopped (lefts : List Left) (h after : HeldState) : Type 0 where
-  pub config : after.config ≡ h.config
-  pub dies : after.dies ≡ stopped h.config.pages lefts h.jobs (length h.dies) h.dies
-  pub jobs : after.jobs ≡ replicate (length h.jobs) None
-  pub opened : OpensOver after.config after.dies after.core
+-- why no device of this configuration is opened over the dies: memory was refused; or they are not as many and as large as
+-- it says, or hold another one
+abbrev pub IsUnopened : Numbers → List DieState → Fault → Type 0
+IsUnopened n dies fault.NoMemory = Unit {0}
+IsUnopened n dies fault.OtherConfig = Fit n dies → Sound (array_of dies) → Suits n (array_of dies) → ⊥
+IsUnopened n dies f = ⊥
 
--- rounds of work were done: the configuration stays
-abbrev pub Settles : HeldState → Unit {0} → HeldState → Type 0
-Settles h _ after = after.config ≡ h.config
-
--- the dies in memory were given up
-abbrev pub GivesUp : HeldState → Unit {0} → HeldState → Type 0
-GivesUp h _ after = after ≡ record h { dies = [] }
-
--- the power went from dies in memory; or there are none, and nothing changed; or the device could not be opened again,
--- and the handle holds none
-abbrev pub StopsSo : List Left → Option HeldState → Option (Result (Unit {0}) Fault) → Option HeldState → Type 0
-StopsSo lefts None None None = Unit {0}
-StopsSo lefts (Some h) (Some (Ok _)) (Some after) = (0 < length h.dies) × Stopped lefts h after
-StopsSo lefts (Some h) (Some (Err f)) (Some after) = (f ≡ fault.OwnDies) × (length h.dies ≡ 0) × (after ≡ h)
-StopsSo lefts (Some h) (Some (Err f)) None = f ≢ fault.OwnDies
-StopsSo lefts before answer after = ⊥
+-- the same of a handle, which is to hold none before
+abbrev pub IsNotOpened : Numbers → List DieState → Option HeldState → Fault → Type 0
+IsNotOpened n dies None f = IsUnopened n dies f
+IsNotOpened n dies (Some h) f = f ≡ fault.Open
 
 -- the handle holds a device of this configuration over these dies, with no job in flight
 abbrev pub IsOpen : Numbers → List DieState → Option HeldState → Type 0
 IsOpen n dies None = ⊥
 IsOpen n dies (Some h) =
     (h.config ≡ n) × (h.dies ≡ dies) × (h.jobs ≡ replicate (length dies) None) × OpensOver n dies h.core
+
+-- the dies once the power went from all that the device has in memory
+abbrev pub dies_stopped : List Left → HeldState → List DieState
+dies_stopped lefts h = stopped h.config.pages lefts h.jobs (length h.dies) h.dies
+
+-- the power went: each die holds what its job leaves, no die has a job, and the device was opened again
+pub record Stopped (lefts : List Left) (h after : HeldState) : Type 0 where
+  pub config : after.config ≡ h.config
+  pub dies : after.dies ≡ dies_stopped lefts h
+  pub jobs : after.jobs ≡ replicate (length h.jobs) None
+  pub opened : OpensOver after.config after.dies after.core
+
+-- the dies in memory were given up
+abbrev pub GivesUp : HeldState → Unit {0} → HeldState → Type 0
+GivesUp h _ after = after ≡ record h { dies = [] }
+
+-- the power went from dies in memory; or there are none, and nothing changed; or the device could not be opened again
+-- over what they hold then, and the handle holds none
+abbrev pub StopsSo : List Left → Option HeldState → Option (Result (Unit {0}) Fault) → Option HeldState → Type 0
+StopsSo lefts None None None = Unit {0}
+StopsSo lefts (Some h) (Some (Ok _)) (Some after) = (0 < length h.dies) × Stopped lefts h after
+StopsSo lefts (Some h) (Some (Err f)) (Some after) = (f ≡ fault.OwnDies) × (length h.dies ≡ 0) × (after ≡ h)
+StopsSo lefts (Some h) (Some (Err f)) None = (0 < length h.dies) × IsUnopened h.config (dies_stopped lefts h) f
+StopsSo lefts before answer after = ⊥

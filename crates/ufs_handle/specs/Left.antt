@@ -1,8 +1,10 @@
 -- What jobs leave on dies that were under way when the power went, or that fail.
 use Rattle.std.specs.Prelude.{ℕ, zero, suc, List, Option, Some, None, replicate, slice_index_or, slice_set}
-use Rattle.ufs_spec.specs.Dies.{DieState, blank_page, power_cycle_ended, with_page}
+use Rattle.ufs_spec.specs.Dies.{DieState, blank_page, power_cycle_ended, with_bad, with_page}
 use Rattle.ufs_spec.specs.declared.flash.Job.{Job}
 use Rattle.ufs_spec.specs.declared.flash.Job.TheVariants as job
+use Rattle.ufs_spec.specs.declared.flash.Outcome.{Outcome}
+use Rattle.ufs_spec.specs.declared.flash.Outcome.TheVariants as outcome
 use Rattle.ufs_spec.specs.declared.flash.Page.{Page}
 use Rattle.ufs_handle.specs.Kept.{die_at, job_at}
 use Rattle.ufs_handle.specs.declared.left.Left.{Left}
@@ -28,6 +30,20 @@ left_by pages left.Torn None d = d
 left_by pages left.Torn (Some (job.Read place)) d = d
 left_by pages left.Torn (Some (job.Program place page)) d = with_page d place.block place.page torn_page
 left_by pages left.Torn (Some (job.Erase die block)) d = filled block torn_page pages d
+
+-- the die after a job of its failed: it holds what is left, and the block of a program or an erase is bad; a read that
+-- failed changes nothing
+abbrev pub failed_by : ℕ → Left → Job → DieState → DieState
+failed_by pages left (job.Read place) d = d
+failed_by pages left (job.Program place page) d =
+    with_bad (left_by pages left (Some (job.Program place page)) d) place.block
+failed_by pages left (job.Erase die block) d = with_bad (left_by pages left (Some (job.Erase die block)) d) block
+
+-- how a failed job is told
+abbrev pub failed_outcome : Job → Outcome
+failed_outcome (job.Read place) = outcome.ReadFailed
+failed_outcome (job.Program place page) = outcome.Failed
+failed_outcome (job.Erase die block) = outcome.Failed
 
 -- the dies once the power went: what the jobs of the first of them leave, so many of them
 abbrev pub stopped : ℕ → List Left → List (Option Job) → ℕ → List DieState → List DieState

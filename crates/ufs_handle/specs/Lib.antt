@@ -1,3 +1,4 @@
+pub mod Buffers
 pub mod Calls
 pub mod Exports
 pub mod Holding
@@ -5,3 +6,4 @@ pub mod Kept
 pub mod Left
 pub mod Numbers
 pub mod Plain
+pub mod Steps

@@ -4,6 +4,8 @@ use Rattle.ufs_spec.specs.declared.faults.ConfigFault.{ConfigFault}
 use Rattle.ufs_spec.specs.declared.faults.ConfigFault.TheVariants as config
 use Rattle.ufs_spec.specs.declared.faults.HostFault.{HostFault}
 use Rattle.ufs_spec.specs.declared.faults.HostFault.TheVariants as host
+use Rattle.ufs_spec.specs.declared.faults.OpenFault.{OpenFault}
+use Rattle.ufs_spec.specs.declared.faults.OpenFault.TheVariants as opening
 use Rattle.ufs_handle.specs.declared.fault.Fault.{Fault}
 use Rattle.ufs_handle.specs.declared.fault.Fault.TheVariants as fault
 
@@ -27,6 +29,12 @@ abbrev pub config_fault_of : ConfigFault → Fault
 config_fault_of config.Range = fault.Range
 config_fault_of config.TooLittleSpare = fault.TooLittleSpare
 config_fault_of config.TwoBootUnits = fault.TwoBootUnits
+
+-- why a device was not opened over dies in memory, as a fault of a call: no read of such a die fails
+abbrev pub open_fault_of : OpenFault → Fault
+open_fault_of opening.NoMemory = fault.NoMemory
+open_fault_of opening.OtherConfig = fault.OtherConfig
+open_fault_of (opening.ReadFault place) = fault.OtherConfig
 
 -- why a device does not take a message: 20 more than in scripts
 abbrev pub host_number : HostFault → ℕ

@@ -1,12 +1,15 @@
 -- What crosses to C as plain numbers and bytes.
-use Rattle.std.specs.Prelude.{◌≡◌, ℕ, List, ◌++◌, map}
-use Rattle.ufs_spec.specs.Configs.{numbers_of}
+use Rattle.std.specs.Prelude.{◌≡◌, ◌≤◌, ℕ, List, ◌++◌, Option, length, map, option_map}
+use Rattle.std.specs.List.{All}
+use Rattle.ufs_spec.specs.Configs.{config_fault, numbers_of}
 use Rattle.ufs_spec.specs.declared.configs.Numbers.{Numbers}
 use Rattle.ufs_spec.specs.declared.configs.UnitSpec.{UnitSpec}
 use Rattle.ufs_spec.specs.declared.flash.Job.{Job}
 use Rattle.ufs_spec.specs.declared.flash.Job.TheVariants as job
 use Rattle.ufs_spec.specs.declared.flash.Outcome.{Outcome}
 use Rattle.ufs_spec.specs.declared.flash.Outcome.TheVariants as outcome
+use Rattle.ufs_handle.specs.Numbers.{config_fault_of}
+use Rattle.ufs_handle.specs.declared.fault.Fault.{Fault}
 use Rattle.ufs_handle.specs.declared.left.Left.{Left}
 use Rattle.ufs_handle.specs.declared.left.Left.TheVariants as left
 use Rattle.ufs_handle.specs.declared.plain.PlainConfig.{PlainConfig}
@@ -34,6 +37,10 @@ IsOutcome kind bytes outcome.ReadFailed = kind ≡ 1
 IsOutcome kind bytes outcome.Done = kind ≡ 2
 IsOutcome kind bytes outcome.Failed = kind ≡ 3
 
+-- the number is one of an outcome, and the bytes are a page where it is that of a read that is done
+abbrev pub SaysOutcome : ℕ → List ℕ → Type 0
+SaysOutcome kind bytes = (kind ≤ 3) × (kind ≡ 0 → length bytes ≡ 4192)
+
 -- a unit as the configuration has it
 abbrev pub unit_of : PlainUnit → UnitSpec
 unit_of unit = record { blocks = unit.blocks; boot = unit.boot; protect = unit.protect }
@@ -43,8 +50,16 @@ abbrev pub config_numbers : PlainConfig → List PlainUnit → Numbers
 config_numbers plain units =
     numbers_of plain.dies plain.blocks plain.pages (map unit_of units) plain.rpmb plain.slots plain.spare
 
+-- why these numbers are no configuration
+abbrev pub numbers_fault : PlainConfig → List PlainUnit → Option Fault
+numbers_fault config units = option_map config_fault_of (config_fault (config_numbers config units))
+
 -- the number that says what is left
 abbrev pub left_number : Left → ℕ
 left_number left.Old = 0
 left_number left.New = 1
 left_number left.Torn = 2
+
+-- each of the numbers says what is left, and they are no more than a byte can count
+abbrev pub SaysLefts : List ℕ → Type 0
+SaysLefts numbers = (length numbers ≤ 256) × All (λ number. number ≤ 2) numbers

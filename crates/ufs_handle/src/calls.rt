@@ -1,16 +1,19 @@
 //! Calls of the device that a handle holds. Where it holds none they do nothing and answer `None`.
-ghost use Rattle.std.specs.Prelude.{◌≡◌, ◌≢◌, None, OnErr, OnOk, is_some};
-ghost use Rattle.ufs_handle.specs.Calls.{Called, Ends, GivesUp, Hears, IsOpen, Replies, Settles, StopsSo, Takes};
-ghost use Rattle.ufs_handle.specs.Calls.{Turns, Works};
+ghost use Rattle.std.specs.Prelude.{◌≡◌, ◌≤◌, None, IfErr, OnErr, OnOk, is_some, length};
+ghost use Rattle.ufs_handle.specs.Calls.{Called, Ends, Fails, GivesUp, Hears, IsNotOpened, IsOpen, StopsSo, Turns};
+ghost use Rattle.ufs_handle.specs.Calls.{Works};
+ghost use Rattle.ufs_handle.specs.Exports.{GivesJob, GivesReply, most_reply};
+ghost use Rattle.ufs_handle.specs.Steps.{Settles};
 
 use crate::fault::Fault;
 use crate::handle::Handle;
 use crate::held::Held;
 use crate::left::Left;
+use crate::plain::PlainJob;
 use geometry::Config;
 use nand_model::MemDie;
 use std::alloc::Global;
-use ufs_spec::{HostFault, Job, Outcome, Upiu};
+use ufs_spec::{HostFault, Outcome};
 
 impl Handle {
     /// Opens a device over these dies in memory, where the handle holds none.
@@ -21,8 +24,9 @@ impl Handle {
     /// are given up.
     pub fn open(&mut self, alloc: Global, config: Config, dies: Vec<MemDie>) -> Result<(), Fault>
         ensures opened { OnOk result (IsOpen config dies.items self.new.value) }
+        ensures held_none { OnOk result (self.old.value ≡ None) }
         ensures refused { OnErr result (self.new.value ≡ self.old.value) }
-        ensures taken { self.old.value ≢ None → OnOk result ⊥ }
+        ensures why { IfErr result (IsNotOpened config dies.items self.old.value) }
     {
         if self.is_open() {
             return Err(Fault::Open);
@@ -50,12 +54,13 @@ impl Handle {
         Some(answer)
     }
 
-    /// Takes a reply, as `Held::reply` does.
-    pub fn reply(&mut self, alloc: Global, into: &mut Upiu) -> Option<bool>
-        ensures { Called (Replies into.old.items into.new.items) self.old.value result self.new.value }
+    /// Takes a reply into the front of the room, as `Held::reply` does.
+    pub fn reply(&mut self, alloc: Global, into: &mut [u8], count: &mut usize) -> Option<bool>
+        requires { most_reply ≤ length into.old }
+        ensures { GivesReply into.old into.new count.old count.new self.old.value result self.new.value }
     {
         let mut held = self.take(alloc)?;
-        let answer = held.reply(into);
+        let answer = held.reply(into, count);
         self.put(held);
         Some(answer)
     }
@@ -70,12 +75,12 @@ impl Handle {
         Some(answer)
     }
 
-    /// A job for the die, as `Held::take` gives it.
-    pub fn take_job(&mut self, alloc: Global, die: u8) -> Option<Option<Job>>
-        ensures { Called (Takes die) self.old.value result self.new.value }
+    /// A job for the die as numbers and bytes, as `Held::take` gives it.
+    pub fn take_job(&mut self, alloc: Global, die: u8, shown: &mut PlainJob) -> Option<bool>
+        ensures { GivesJob die shown.old shown.new self.old.value result self.new.value }
     {
         let mut held = self.take(alloc)?;
-        let answer = held.take(die);
+        let answer = held.take(die, shown);
         self.put(held);
         Some(answer)
     }
@@ -100,9 +105,19 @@ impl Handle {
         Some(answer)
     }
 
-    /// Rounds of a turn and of one job of each die in memory.
+    /// The job in flight of the die in memory fails, as `Held::fail` says.
+    pub fn fail(&mut self, alloc: Global, die: u8, left: Left) -> Option<bool>
+        ensures { Called (Fails die left) self.old.value result self.new.value }
+    {
+        let mut held = self.take(alloc)?;
+        let answer = held.fail(die, left);
+        self.put(held);
+        Some(answer)
+    }
+
+    /// Rounds of a turn and of one job of each die in memory, as `Held::settle` does them.
     pub fn settle(&mut self, alloc: Global, rounds: u16) -> Option<()>
-        ensures { Called Settles self.old.value result self.new.value }
+        ensures { Called (Settles rounds) self.old.value result self.new.value }
     {
         let mut held = self.take(alloc)?;
         held.settle(rounds);

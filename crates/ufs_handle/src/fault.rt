@@ -1,10 +1,10 @@
 //! Why a call is refused, as C sees it.
-ghost use Rattle.std.specs.Prelude.{◌≡◌, ◌≤◌, length};
+ghost use Rattle.std.specs.Prelude.{◌≡◌, ◌<◌, ◌≤◌, length, slice_index};
 ghost use Rattle.ufs_handle.specs.Numbers.{answer_number, config_fault_of, ended_number, fault_number};
 ghost use Rattle.ufs_handle.specs.Numbers.{flag_number, heard_number, host_number, open_number, reply_number};
-ghost use Rattle.ufs_handle.specs.Numbers.{saved_number, stop_number, taken_number};
+ghost use Rattle.ufs_handle.specs.Numbers.{saved_number, stop_number};
 
-use ufs_spec::{ConfigFault, HostFault, Job};
+use ufs_spec::{ConfigFault, HostFault};
 
 /// Why a call is refused. The numbers are those of the header.
 #[derive(Clone, Copy, Debug, PartialEq, Eq)]
@@ -131,17 +131,6 @@ pub fn open_number(was_open: bool) -> u32
     if was_open { 0 } else { 1 }
 }
 
-/// The number of a job that was asked for: 0 where one was given, and else why none was.
-pub fn taken_number(answer: &Option<Option<Job>>) -> u32
-    ensures { result ≡ taken_number answer.now }
-{
-    match answer {
-        None => 1,
-        Some(None) => 9,
-        Some(Some(_)) => 0,
-    }
-}
-
 /// The number of a reply that was asked for: 11 where there was too little room for any.
 pub fn reply_number(answer: Option<Option<bool>>) -> u32
     ensures { result ≡ reply_number answer }
@@ -186,7 +175,8 @@ pub fn saved_number(answer: &Option<Result<(), Fault>>) -> u32
 /// Writes what the number says, and behind it a zero byte; cut off where the room ends. The answer
 /// is how many bytes stand before the zero byte.
 pub fn copy_text(number: u32, into: &mut [u8]) -> usize
-    ensures { result ≤ length into.old }
+    ensures within { result ≤ length into.old }
+    ensures ended { 0 < length into.old → (result < length into.old) × (slice_index into.new result ≡ 0) }
 {
     if into.is_empty() {
         return 0;

@@ -1,14 +1,19 @@
 //! A device with its dies and their jobs in flight.
-ghost use Rattle.std.specs.Prelude.{◌≡◌, ◌≢◌, ◌<◌, IfErr, IfOk, IfSome, IfNone, None, OnOk, length, replicate};
-ghost use Rattle.std.specs.Prelude.{[], slice_index_or, slice_set};
-ghost use Rattle.ufs_spec.specs.Dies.{CanDo, after_job, new_die, outcome_of, power_cycle_ended};
+ghost use Rattle.std.specs.Prelude.{◌≡◌, ◌<◌, ◌≤◌, IfErr, IfOk, IfSome, IfNone, None, OnOk, length, replicate};
+ghost use Rattle.std.specs.Prelude.{[], Some, slice_index_or, slice_set, true};
+ghost use Rattle.ufs_spec.specs.Dies.{CanDo, new_die, power_cycle_ended};
 ghost use Rattle.ufs_spec.specs.Lives.{Fit};
-ghost use Rattle.ufs_handle.specs.Calls.{Ends, Hears, OpensOver, Replies, Stopped, Takes, Turns, Works};
-ghost use Rattle.ufs_handle.specs.Kept.{die_at, job_at, jobs_given};
-ghost use Rattle.ufs_handle.specs.Left.{left_by, stopped};
+ghost use Rattle.ufs_handle.specs.Calls.{Ends, Fails, Hears, IsUnopened, OpensOver, Stopped, Turns};
+ghost use Rattle.ufs_handle.specs.Calls.{Works, dies_stopped};
+ghost use Rattle.ufs_handle.specs.Exports.{GivesJob, GivesReply, IsHandedOut, most_reply};
+ghost use Rattle.ufs_handle.specs.Kept.{die_at, job_at};
+ghost use Rattle.ufs_handle.specs.Left.{failed_by, failed_outcome, left_by};
+ghost use Rattle.ufs_handle.specs.Numbers.{open_fault_of};
+ghost use Rattle.ufs_handle.specs.Steps.{Settles, Walks, dies_named, round_steps};
 
 use crate::fault::Fault;
-use crate::left::{Left, stop};
+use crate::left::{Left, fail, stop};
+use crate::plain::PlainJob;
 use device::Device;
 use geometry::Config;
 use nand_model::{MemDie, work};
@@ -31,6 +36,9 @@ pub struct Held {
     dies: Vec<MemDie>,
     /// For each die the job that it was given and has not ended.
     jobs: Vec<Option<Job>>,
+    /// Where the device writes a reply, before it goes into a room of the program's: the bytes that it
+    /// has between two calls say nothing.
+    reply: Upiu,
 }
 
 impl Model for Held {
@@ -79,6 +87,7 @@ impl Held {
         ensures kept { IfOk result (λ held. (held.value.config ≡ config) × (held.value.dies ≡ dies.items)) }
         ensures idle { IfOk result (λ held. held.value.jobs ≡ replicate (length dies.items) None) }
         ensures opened { IfOk result (λ held. OpensOver config dies.items held.value.core) }
+        ensures refused { IfErr result (IsUnopened config dies.items) }
     {
         let mut dies = dies;
         if !fit(&config, dies.as_slice()) {
@@ -97,6 +106,7 @@ impl Held {
             device,
             dies,
             jobs,
+            reply: Upiu::new(),
         };
         match Box::new(alloc, held) {
             Ok(held) => Ok(held),
@@ -137,11 +147,18 @@ impl Held {
         self.device.host(message)
     }
 
-    /// Takes a reply, where one is due; false, and nothing changes, where none is.
-    pub fn reply(&mut self, into: &mut Upiu) -> bool
-        ensures { Replies into.old.items into.new.items self.old result self.new }
+    /// Takes a reply into the front of the room, where one is due, and tells how many bytes it has;
+    /// false, and nothing changes, where none is.
+    pub fn reply(&mut self, into: &mut [u8], count: &mut usize) -> bool
+        requires { most_reply ≤ length into.old }
+        ensures { GivesReply into.old into.new count.old count.new (Some self.old) (Some result) (Some self.new) }
     {
-        self.device.reply(into)
+        self.reply.clear();
+        if !self.device.reply(&mut self.reply) {
+            return false;
+        }
+        hand_out(self.reply.as_slice(), into, count);
+        true
     }
 
     /// Takes a step of mending or of collection; false, and nothing changes, where none is due.
@@ -151,23 +168,28 @@ impl Held {
         self.device.turn()
     }
 
-    /// A job for the die, which is then in flight; `None` where the die is owed none, has one in
-    /// flight or is none of the device.
-    pub fn take(&mut self, die: u8) -> Option<Job>
-        ensures { Takes die self.old result self.new }
+    /// A job for the die, which is then in flight, also as numbers and bytes; false, and these stay,
+    /// where the die is owed none, has one in flight or is none of the device.
+    pub fn take(&mut self, die: u8, shown: &mut PlainJob) -> bool
+        ensures { GivesJob die shown.old shown.new (Some self.old) (Some result) (Some self.new) }
     {
-        let job = self.device.take(die);
-        self.note(die, &job);
-        job
+        match &self.device.take(die) {
+            Some(job) => {
+                shown.set(job);
+                self.note(die, job);
+                true
+            }
+            None => false,
+        }
     }
 
-    /// The die has this job in flight, if it was given one.
-    fn note(&mut self, die: u8, job: &Option<Job>)
-        ensures { self.new ≡ record self.old { jobs = jobs_given self.old.jobs die job.now } }
+    /// The die has this job in flight.
+    fn note(&mut self, die: u8, job: &Job)
+        ensures { self.new ≡ record self.old { jobs = slice_set self.old.jobs die (Some job.now) } }
     {
         let index = die as usize;
-        if index < self.jobs.len() && job.is_some() {
-            self.jobs[index] = *job;
+        if index < self.jobs.len() {
+            self.jobs[index] = Some(*job);
         }
     }
 
@@ -208,53 +230,86 @@ impl Held {
     pub fn work(&mut self, die: u8) -> bool
         ensures { Works die self.old result self.new }
     {
+        let index = die as usize;
+        if index >= self.jobs.len() || index >= self.dies.len() {
+            return false;
+        }
+        match &self.jobs[index] {
+            Some(job) if self.dies[index].can_do(job) => {
+                self.device.done(die, &work(&mut self.dies[index], job));
+                self.forget(die);
+                true
+            }
+            _ => false,
+        }
+    }
+
+    /// The job in flight of the die in memory fails, and leaves this; the block of a program or an
+    /// erase is bad from then on, and a read leaves nothing. The device is told. False, and nothing
+    /// changes, where the die is none in memory, has no job in flight, or cannot do it.
+    pub fn fail(&mut self, die: u8, left: Left) -> bool
+        ensures { Fails die left self.old result self.new }
+    {
         let Some(job) = self.job(die as usize) else {
             return false;
         };
-        let Some(outcome) = self.work_on(die, &job) else {
+        let Some(ending) = self.fail_on(die, &job, left) else {
             return false;
         };
         self.forget(die);
-        self.device.done(die, &outcome);
+        self.device.done(die, &ending);
         true
     }
 
-    /// Does the job on the die; `None`, and nothing changes, where it may not be asked of it.
-    fn work_on(&mut self, die: u8, job: &Job) -> Option<Outcome>
+    /// The job fails on the die, and leaves this; `None`, and nothing changes, where it may not be asked
+    /// of it.
+    fn fail_on(&mut self, die: u8, job: &Job, left: Left) -> Option<Outcome>
         ensures nothing { IfNone result (self.new ≡ self.old) }
         ensures cannot { IfNone result (CanDo (die_at self.old.dies die) job.now → ⊥) }
         ensures can { IfSome result (λ o. CanDo (die_at self.old.dies die) job.now) }
-        ensures outcome { IfSome result (λ o. o ≡ outcome_of (die_at self.old.dies die) job.now) }
+        ensures outcome { IfSome result (λ o. o ≡ failed_outcome job.now) }
         ensures after { IfSome result (λ o. self.new ≡ record self.old {
-          dies = slice_set self.old.dies die (after_job (die_at self.old.dies die) job.now);
+          dies = slice_set self.old.dies die
+              (failed_by self.old.config.pages left job.now (die_at self.old.dies die));
         }) }
     {
         let index = die as usize;
         if index >= self.dies.len() || !self.dies[index].can_do(job) {
             return None;
         }
-        Some(work(&mut self.dies[index], job))
+        let pages = self.config.numbers().pages;
+        Some(fail(&mut self.dies[index], job, left, pages))
     }
 
-    /// Rounds of a turn and of one job of each die in memory.
+    /// Rounds of a turn and of one job of each die in memory: it is taken, where the die has none in
+    /// flight, and done.
     pub fn settle(&mut self, rounds: u16)
-        ensures config { self.new.config ≡ self.old.config }
+        ensures { Settles rounds self.old tt self.new }
     {
+        let dies = self.dies_named();
         for _ in 0..rounds {
-            self.settle_once();
+            self.settle_once(dies);
         }
     }
 
-    /// One such round.
-    fn settle_once(&mut self)
-        ensures config { self.new.config ≡ self.old.config }
+    /// How many dies in memory a byte can name.
+    fn dies_named(&self) -> u16
+        ensures { result ≡ dies_named self.now }
     {
+        self.dies.len().min(256) as u16
+    }
+
+    /// One such round, of so many dies.
+    fn settle_once(&mut self, dies: u16)
+        requires { dies ≤ 256 }
+        ensures { Walks (round_steps dies) self.old self.new }
+    {
+        let mut shown = PlainJob::blank();
         self.turn();
-        for index in 0..self.dies.len() {
-            if let Ok(die) = u8::try_from(index) {
-                self.take(die);
-                self.work(die);
-            }
+        for index in 0..dies {
+            let die = index as u8;
+            self.take(die, &mut shown);
+            self.work(die);
         }
     }
 
@@ -267,7 +322,7 @@ impl Held {
     /// configuration, which no device writes. The device is of no use then.
     pub fn stop(&mut self, lefts: &[Left]) -> Result<(), Fault>
         ensures stopped { OnOk result (Stopped lefts.now self.old self.new) }
-        ensures other { IfErr result (λ f. f ≢ Fault.OwnDies) }
+        ensures refused { IfErr result (IsUnopened self.old.config (dies_stopped lefts.now self.old)) }
     {
         self.leave_all(lefts);
         self.jobs.fill(None);
@@ -276,9 +331,7 @@ impl Held {
 
     /// The dies hold what their jobs in flight leave, and the power cycle is over.
     fn leave_all(&mut self, lefts: &[Left])
-        ensures { self.new ≡ record self.old {
-          dies = stopped self.old.config.pages lefts.now self.old.jobs (length self.old.dies) self.old.dies;
-        } }
+        ensures { self.new ≡ record self.old { dies = dies_stopped lefts.now self.old } }
     {
         for index in 0..self.dies.len() {
             let left = left_at(lefts, index);
@@ -303,7 +356,7 @@ impl Held {
     fn reopen(&mut self) -> Result<(), Fault>
         ensures same { OnOk result (self.new ≡ record self.old { core = self.new.core }) }
         ensures opened { OnOk result (OpensOver self.old.config self.old.dies self.new.core) }
-        ensures other { IfErr result (λ f. f ≢ Fault.OwnDies) }
+        ensures refused { IfErr result (IsUnopened self.old.config self.old.dies) }
     {
         if !fit(&self.config, self.dies.as_slice()) {
             return Err(Fault::OtherConfig);
@@ -311,6 +364,15 @@ impl Held {
         *self.device = open_device(self.alloc, self.config.copied(), self.dies.as_mut_slice())?;
         Ok(())
     }
+}
+
+/// Writes a reply into the front of the room, and how many bytes it has.
+fn hand_out(reply: &[u8], into: &mut [u8], count: &mut usize)
+    requires { length reply.now ≤ length into.old }
+    ensures { IsHandedOut (Some true) reply.now into.old into.new count.old count.new }
+{
+    into[..reply.len()].copy_from_slice(reply);
+    *count = reply.len();
 }
 
 /// What is said of the die of this number; where nothing is, it keeps what it held.
@@ -329,11 +391,21 @@ fn open_device(alloc: Global, config: Config, dies: &mut [MemDie]) -> Result<Dev
     requires fit { Fit config dies.old }
     ensures same { dies.new ≡ dies.old }
     ensures opened { IfOk result (OpensOver config dies.old) }
-    ensures other { IfErr result (λ f. f ≢ Fault.OwnDies) }
+    ensures refused { IfErr result (IsUnopened config dies.old) }
 {
     match Device::open(alloc, config, dies) {
         Ok(device) => Ok(device),
-        Err(OpenFault::NoMemory) => Err(Fault::NoMemory),
-        Err(_) => Err(Fault::OtherConfig),
+        Err(fault) => Err(fault_of(&fault)),
+    }
+}
+
+/// Why a device was not opened, as a fault of a call. No read of a die in memory fails.
+fn fault_of(fault: &OpenFault) -> Fault
+    ensures { result ≡ open_fault_of fault.now }
+{
+    match fault {
+        OpenFault::NoMemory => Fault::NoMemory,
+        OpenFault::OtherConfig => Fault::OtherConfig,
+        OpenFault::ReadFault(_) => Fault::OtherConfig,
     }
 }

@@ -1,11 +1,11 @@
 //! What a job leaves on a die in memory that was under way when the power went, or that fails.
 ghost use Rattle.std.specs.Prelude.{◌≡◌, ◌<◌, IfNone, IfSome};
 ghost use Rattle.ufs_handle.specs.Plain.{left_number};
-ghost use Rattle.ufs_spec.specs.Dies.{blank_page, power_cycle_ended, with_page};
-ghost use Rattle.ufs_handle.specs.Left.{filled, left_by, torn_page};
+ghost use Rattle.ufs_spec.specs.Dies.{blank_page, power_cycle_ended, with_bad, with_page};
+ghost use Rattle.ufs_handle.specs.Left.{failed_by, failed_outcome, filled, left_by, torn_page};
 
 use nand_model::{Die, MemDie};
-use ufs_spec::{Job, Page};
+use ufs_spec::{Job, Outcome, Page};
 
 /// What the page of a program, or each page of the block of an erase, holds.
 #[derive(Clone, Copy, Debug, Default, PartialEq, Eq)]
@@ -105,4 +105,35 @@ pub(crate) fn stop(die: &mut MemDie, job: &Option<Job>, left: Left, pages: u16)
 {
     leave(die, job, left, pages);
     die.end_power_cycle();
+}
+
+/// The block is bad from now on, where the die has it.
+fn mark_bad(die: &mut MemDie, block: u16)
+    ensures { die.new ≡ with_bad die.old block }
+{
+    let _size = die.pages();
+    if block < die.blocks() {
+        die.set_bad(block);
+    }
+}
+
+/// The job of the die fails: the die holds what the job leaves so, and the block of a program or an
+/// erase is bad. The answer tells the device of it.
+pub(crate) fn fail(die: &mut MemDie, job: &Job, left: Left, pages: u16) -> Outcome
+    ensures after { die.new ≡ failed_by pages left job.now die.old }
+    ensures outcome { result ≡ failed_outcome job.now }
+{
+    match job {
+        Job::Read(_) => Outcome::ReadFailed,
+        Job::Program(place, _) => {
+            leave(die, &Some(*job), left, pages);
+            mark_bad(die, place.block);
+            Outcome::Failed
+        }
+        Job::Erase { die: _, block } => {
+            leave(die, &Some(*job), left, pages);
+            mark_bad(die, *block);
+            Outcome::Failed
+        }
+    }
 }

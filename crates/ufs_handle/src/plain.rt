@@ -1,8 +1,7 @@
 //! What crosses to C as plain numbers and bytes.
-ghost use Rattle.std.specs.Prelude.{◌≡◌, ◌≢◌, ◌⊎◌, ◌<◌, ◌≤◌, IfErr, IfNone, IfOk, IfSome, length, map};
-ghost use Rattle.ufs_spec.specs.Configs.{config_fault};
-ghost use Rattle.ufs_handle.specs.Numbers.{config_fault_of};
-ghost use Rattle.ufs_handle.specs.Plain.{IsOutcome, config_numbers, left_number, plain_of, unit_of};
+ghost use Rattle.std.specs.Prelude.{◌≡◌, ◌≢◌, ◌<◌, ◌≤◌, IfErr, IfNone, IfOk, IfSome, None, Some, length, map};
+ghost use Rattle.ufs_handle.specs.Plain.{IsOutcome, SaysLefts, SaysOutcome, config_numbers, left_number};
+ghost use Rattle.ufs_handle.specs.Plain.{numbers_fault, plain_of, unit_of};
 
 use crate::fault::Fault;
 use crate::left::Left;
@@ -48,6 +47,18 @@ pub struct PlainJob {
 }
 
 impl PlainJob {
+    /// Zeros, which are no job.
+    pub(crate) fn blank() -> PlainJob {
+        PlainJob {
+            kind: 0,
+            die: 0,
+            block: 0,
+            page: 0,
+            body: [0; 4096],
+            spare: [0; 96],
+        }
+    }
+
     /// It is this job from now on. The page of a read or an erase keeps the bytes that it had.
     pub fn set(&mut self, job: &Job)
         ensures { self.new ≡ plain_of job.now self.old }
@@ -107,8 +118,8 @@ fn units_of(units: &[PlainUnit]) -> ArrayVec<UnitSpec, 8>
 /// `Range`, `TooLittleSpare` or `TwoBootUnits`, as `Config::new` tells them.
 pub fn config_of(plain: &PlainConfig, units: &[PlainUnit]) -> Result<Config, Fault>
     ensures made { IfOk result (λ c. c ≡ config_numbers plain.now units.now) }
-    ensures refused { IfErr result (λ f. (8 < length units.now) ⊎
-        IfSome (config_fault (config_numbers plain.now units.now)) (λ why. f ≡ config_fault_of why)) }
+    ensures right { IfOk result (λ c. numbers_fault plain.now units.now ≡ None) }
+    ensures refused { IfErr result (λ f. numbers_fault plain.now units.now ≡ Some f) }
 {
     if units.len() > MOST_UNITS {
         return Err(Fault::Range);
@@ -134,7 +145,8 @@ pub fn config_of(plain: &PlainConfig, units: &[PlainUnit]) -> Result<Config, Fau
 /// has another length.
 pub fn outcome_of(kind: u8, page: &[u8]) -> Option<Outcome>
     ensures some { IfSome result (IsOutcome kind page.now) }
-    ensures none { IfNone result ((3 < kind) ⊎ (length page.now ≢ 4192)) }
+    ensures says { IfSome result (λ outcome. SaysOutcome kind page.now) }
+    ensures none { IfNone result (SaysOutcome kind page.now → ⊥) }
 {
     match kind {
         0 => read_of(page),
@@ -166,7 +178,9 @@ fn read_of(bytes: &[u8]) -> Option<Outcome>
 /// What is left where a stop says so by these numbers: `None` where a number says nothing, or they
 /// are more than there may be dies.
 pub fn lefts_of(numbers: &[u8]) -> Option<ArrayVec<Left, 256>>
-    ensures { IfSome result (λ lefts. map left_number lefts.items ≡ numbers.now) }
+    ensures some { IfSome result (λ lefts. map left_number lefts.items ≡ numbers.now) }
+    ensures says { IfSome result (λ lefts. SaysLefts numbers.now) }
+    ensures none { IfNone result (SaysLefts numbers.now → ⊥) }
 {
     if numbers.len() > 256 {
         return None;

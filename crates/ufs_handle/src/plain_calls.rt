@@ -1,15 +1,13 @@
 //! Calls of a handle whose arguments are plain numbers and bytes. They answer `None` where these
 //! stand for nothing.
-ghost use Rattle.std.specs.Prelude.{◌≡◌, ◌≤◌, length};
-ghost use Rattle.ufs_handle.specs.Calls.{Called, Takes};
-ghost use Rattle.ufs_handle.specs.Exports.{EndsSo, IsHandedOut, IsJobShown, OpensNew, RepliesInto, StopsAll};
+ghost use Rattle.ufs_handle.specs.Exports.{EndsSo, FailsSo, OpensNew, RepliesInto, StopsAll};
 
 use crate::fault::Fault;
 use crate::handle::Handle;
 use crate::held::new_dies;
-use crate::plain::{PlainConfig, PlainJob, PlainUnit, config_of, lefts_of, outcome_of};
+use crate::left::Left;
+use crate::plain::{PlainConfig, PlainUnit, config_of, lefts_of, outcome_of};
 use std::alloc::Global;
-use ufs_spec::{Job, Upiu};
 
 /// How many bytes a reply has at most.
 const MOST_REPLY: usize = 4128;
@@ -29,6 +27,9 @@ impl Handle {
     ) -> Result<(), Fault>
         ensures { OpensNew plain.now units.now self.old.value result self.new.value }
     {
+        if self.is_open() {
+            return Err(Fault::Open);
+        }
         let config = match config_of(plain, units) {
             Ok(config) => config,
             Err(fault) => return Err(fault),
@@ -52,20 +53,7 @@ impl Handle {
         if into.len() < MOST_REPLY {
             return None;
         }
-        let mut reply = Upiu::new();
-        let answer = self.reply(alloc, &mut reply);
-        hand_out(answer, reply.as_slice(), into, count);
-        Some(answer)
-    }
-
-    /// A job for the die, as `Held::take` gives it, also as numbers and bytes.
-    pub fn take_into(&mut self, alloc: Global, die: u8, job: &mut PlainJob) -> Option<Option<Job>>
-        ensures given { Called (Takes die) self.old.value result self.new.value }
-        ensures shown { IsJobShown result job.old job.new }
-    {
-        let answer = self.take_job(alloc, die);
-        show(&answer, job);
-        answer
+        Some(self.reply(alloc, into, count))
     }
 
     /// Ends the job in flight of a die of the program's own, as `Held::done` does. `None` where
@@ -77,6 +65,15 @@ impl Handle {
         Some(self.done(alloc, die, &outcome))
     }
 
+    /// The job in flight of the die in memory fails, as `Held::fail` says. `None` where the number says
+    /// nothing that may be left.
+    pub fn fail_so(&mut self, alloc: Global, die: u8, left: u8) -> Option<Option<bool>>
+        ensures { FailsSo die left self.old.value result self.new.value }
+    {
+        let left = Left::of(left)?;
+        Some(self.fail(alloc, die, left))
+    }
+
     /// The power goes away, as `Held::stop` says. `None` where a number says nothing that may be
     /// left.
     pub fn stop_with(&mut self, alloc: Global, numbers: &[u8]) -> Option<Option<Result<(), Fault>>>
@@ -84,29 +81,5 @@ impl Handle {
     {
         let lefts = lefts_of(numbers)?;
         Some(self.stop(alloc, lefts.as_slice()))
-    }
-}
-
-/// Writes a reply that was due into the front of the room, and how many bytes it has.
-fn hand_out(answer: Option<bool>, reply: &[u8], into: &mut [u8], count: &mut usize)
-    requires { length reply.now ≤ length into.old }
-    ensures { IsHandedOut answer reply.now into.old into.new count.old count.new }
-{
-    match answer {
-        Some(true) => {
-            into[..reply.len()].copy_from_slice(reply);
-            *count = reply.len();
-        }
-        _ => {}
-    }
-}
-
-/// The job that was given as numbers and bytes.
-fn show(answer: &Option<Option<Job>>, job: &mut PlainJob)
-    ensures { IsJobShown answer.now job.old job.new }
-{
-    match answer {
-        Some(Some(given)) => job.set(given),
-        _ => {}
     }
 }

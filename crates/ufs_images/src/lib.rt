@@ -1,14 +1,14 @@
 //! Images of the dies of a device that a handle holds.
 #![tactic(auto)]
 
-ghost use Rattle.std.specs.Prelude.{◌≡◌, IfOk};
+ghost use Rattle.std.specs.Prelude.{◌≡◌, IfErr, IfOk};
 ghost use Rattle.ufsim.specs.Images.{image_bytes};
-ghost use Rattle.ufs_images.specs.Saved.{IsLength, IsPut, IsSaved, OpensImage, SavesTo, image_length};
+ghost use Rattle.ufs_images.specs.Saved.{IsLength, IsSaved, OpensImage, SavesTo, image_fault_of, image_length};
 
 use geometry::Config;
 use nand_model::MemDie;
 use std::alloc::Global;
-use ufs_handle::{Fault, Handle, Held, PlainConfig, PlainUnit, config_of};
+use ufs_handle::{Fault, Handle, Held, PlainConfig, PlainUnit, config_of, put_front};
 use ufsim::{ImageFault, Sizes, read_image, write_image};
 
 /// Opens a device of this configuration over the dies of an image, where the handle holds none.
@@ -26,6 +26,9 @@ pub fn open_image(
 ) -> Result<(), Fault>
     ensures { OpensImage plain.now units.now image.now handle.old.value result handle.new.value }
 {
+    if handle.is_open() {
+        return Err(Fault::Open);
+    }
     let config = match config_of(plain, units) {
         Ok(config) => config,
         Err(fault) => return Err(fault),
@@ -42,11 +45,13 @@ pub fn open_image(
     }
 }
 
-/// Why an image was not read or written, as a fault of a call.
-fn fault_of(fault: ImageFault) -> Fault {
+/// Why bytes in memory were not read as an image, as a fault of a call: a read of them does not fail.
+fn fault_of(fault: ImageFault) -> Fault
+    ensures { result ≡ image_fault_of fault }
+{
     match fault {
         ImageFault::Malformed => Fault::Image,
-        ImageFault::File => Fault::Image,
+        ImageFault::File => Fault::NoMemory,
         ImageFault::Memory => Fault::NoMemory,
     }
 }
@@ -106,27 +111,21 @@ fn save_held(alloc: Global, held: &Held, into: &mut [u8]) -> Result<(), Fault>
         Ok(image) => image,
         Err(fault) => return Err(fault),
     };
-    put_front(image.as_slice(), into)
+    match put_front(image.as_slice(), into) {
+        Ok(()) => Ok(()),
+        Err(fault) => Err(fault),
+    }
 }
 
-/// The image of the dies, which are of these sizes.
+/// The image of the dies, which are of these sizes. It is written to memory, so a write fails for want
+/// of it alone.
 fn image_of(alloc: Global, sizes: Sizes, dies: &[MemDie]) -> Result<Vec<u8>, Fault>
-    ensures { IfOk result (λ image. image.items ≡ image_bytes sizes.dies sizes.blocks sizes.pages dies.now) }
+    ensures image { IfOk result (λ image. image.items ≡ image_bytes sizes.dies sizes.blocks sizes.pages dies.now) }
+    ensures memory { IfErr result (λ f. f ≡ Fault.NoMemory) }
 {
     let mut image = Vec::new(alloc);
     match write_image(&mut image, sizes, dies) {
         Ok(()) => Ok(image),
-        Err(fault) => Err(fault_of(fault)),
+        Err(_) => Err(Fault::NoMemory),
     }
-}
-
-/// Puts the bytes into the front of the room, where they go into it.
-fn put_front(bytes: &[u8], into: &mut [u8]) -> Result<(), Fault>
-    ensures { IsPut bytes.now result into.old into.new }
-{
-    if bytes.len() > into.len() {
-        return Err(Fault::Room);
-    }
-    into[..bytes.len()].copy_from_slice(bytes);
-    Ok(())
 }

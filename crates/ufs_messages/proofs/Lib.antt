@@ -1,1 +1,2 @@
 mod DataOuts
+mod UnmapLists

@@ -2,12 +2,23 @@
 //! buffer, or read from one.
 #![tactic(auto)]
 
-ghost use Rattle.std.specs.Prelude.{◌≡◌, ◌≤◌, OnErr, OnOk, length, take};
-ghost use Rattle.ufs_spec.specs.Messages.{IsMessage};
-ghost use Rattle.ufs_messages.specs.Written.{IsCommand, IsDataOut, IsMac, IsResponse, IsWritten, padded};
+ghost use Rattle.std.specs.Prelude.{◌≡◌, ◌≤◌, length};
+ghost use Rattle.ufs_spec.specs.Messages.{AreFlags, IsMessage, spelling};
+ghost use Rattle.ufs_spec.specs.declared.messages.Message.TheVariants.{Command};
+ghost use Rattle.ufs_messages.specs.Written.{IsCommand, IsDataOut, IsMac, IsWritten, ReadsResponse, padded};
 
+mod commands;
+mod security;
+
+pub use commands::{
+    put_asking, put_flush, put_nop, put_query, put_read, put_task_request, put_unmap,
+    put_unmap_list, put_write,
+};
 use rpmb_frame::frames_mac;
-use ufs_handle::Fault;
+pub use security::{PlainFrame, get_frame, put_frame, put_security};
+use ufs_bytes::write_u32;
+use ufs_handle::{Fault, put_front};
+use ufs_spec::codes::COMMAND;
 use ufs_spec::{Data, Message, Upiu};
 
 /// A RESPONSE (JESD220, 10.7.2): its tag, its response and status, the residual count, and the sense
@@ -43,14 +54,36 @@ pub fn put_command(
     if !matches!(flags, 0x00 | 0x20 | 0x40) || cdb.len() > 16 {
         return Err(Fault::Number);
     }
-    let message = Message::Command {
-        flags,
-        lun,
-        tag,
-        expected,
-        cdb: padded(cdb),
-    };
-    put(&message, into)
+    put_with(flags, lun, tag, expected, padded(cdb), into)
+}
+
+/// Writes a COMMAND with these fields and this CDB.
+pub(crate) fn put_with(
+    flags: u8,
+    lun: u8,
+    tag: u8,
+    expected: u32,
+    cdb: [u8; 16],
+    into: &mut [u8],
+) -> Result<(), Fault>
+    requires { AreFlags flags }
+    ensures { IsWritten (Command flags lun tag expected cdb) result into.old into.new }
+{
+    put_front(&command_bytes(flags, lun, tag, expected, &cdb), into)
+}
+
+/// The bytes of a COMMAND, which has no data: no message is made that has room for the longest.
+fn command_bytes(flags: u8, lun: u8, tag: u8, expected: u32, cdb: &[u8; 16]) -> [u8; 32]
+    ensures { result ≡ spelling (Command flags lun tag expected cdb.now) }
+{
+    let mut bytes = [0; 32];
+    bytes[0] = COMMAND;
+    bytes[1] = flags;
+    bytes[2] = lun;
+    bytes[3] = tag;
+    write_u32(&mut bytes, 12, expected);
+    bytes[16..].copy_from_slice(cdb);
+    bytes
 }
 
 /// The CDB with zeros behind it.
@@ -92,7 +125,7 @@ pub fn put_data_out(
 }
 
 /// The bytes as the data of a message.
-fn data_of(sent: &[u8]) -> Data
+pub(crate) fn data_of(sent: &[u8]) -> Data
     requires { length sent.now ≤ 4096 }
     ensures { result.items ≡ sent.now }
 {
@@ -102,17 +135,13 @@ fn data_of(sent: &[u8]) -> Data
 }
 
 /// Writes the one spelling of the message into the front of the buffer, where it goes into it.
-fn put(message: &Message, into: &mut [u8]) -> Result<(), Fault>
+pub(crate) fn put(message: &Message, into: &mut [u8]) -> Result<(), Fault>
     requires { IsMessage message.now }
     ensures { IsWritten message.now result into.old into.new }
 {
     let mut bytes = Upiu::new();
     upiu::write(message, &mut bytes);
-    if bytes.len() > into.len() {
-        return Err(Fault::Room);
-    }
-    put_front(bytes.as_slice(), into);
-    Ok(())
+    put_front(bytes.as_slice(), into)
 }
 
 /// Reads a RESPONSE.
@@ -121,8 +150,7 @@ fn put(message: &Message, into: &mut [u8]) -> Result<(), Fault>
 ///
 /// `Number` where the bytes are none. The fields stay as they are then.
 pub fn get_response(reply: &[u8], into: &mut PlainResponse) -> Result<(), Fault>
-    ensures read { OnOk result (IsResponse reply.now into.new) }
-    ensures other { OnErr result (into.new ≡ into.old) }
+    ensures { ReadsResponse reply.now result into.old into.new }
 {
     match upiu::read(reply) {
         Ok(
@@ -164,20 +192,7 @@ pub fn put_mac(key: &[u8], frames: &[u8], into: &mut [u8]) -> Result<(), Fault>
     if key.len() != 32 || whole.is_empty() || !rest.is_empty() {
         return Err(Fault::Number);
     }
-    if into.len() < 32 {
-        return Err(Fault::Room);
-    }
     let mut kept = [0; 32];
     kept.copy_from_slice(key);
-    let mac = frames_mac(&kept, whole);
-    put_front(&mac, into);
-    Ok(())
-}
-
-/// Puts the bytes into the front of the buffer.
-fn put_front(bytes: &[u8], into: &mut [u8])
-    requires { length bytes.now ≤ length into.old }
-    ensures { take (length bytes.now) into.new ≡ bytes.now }
-{
-    into[..bytes.len()].copy_from_slice(bytes);
+    put_front(&frames_mac(&kept, whole), into)
 }

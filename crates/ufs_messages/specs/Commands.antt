@@ -1,0 +1,174 @@
+-- The messages of a host that are whole commands, queries and short exchanges.
+use Rattle.std.specs.Prelude.{◌≡◌, ◌≢◌, ◌≤◌, ◌*◌, ℕ, ◌==◌, ◌&&◌, Bool, true, false, List, [], ◌∷◌, ◌++◌, Option, Some, None}
+use Rattle.std.specs.Prelude.{Result, Ok, Err, if◌then◌else◌, length, nat_lt, replicate}
+use Rattle.byteorder.specs.Endian.{big_bytes}
+use Rattle.ufs_bytes.specs.Fields.{field_at}
+use Rattle.ufs_spec.specs.Cdbs.{Direction, IsCdb, NoData, ToDevice, ToHost, cdb_bytes, direction_of, inquiry}
+use Rattle.ufs_spec.specs.Cdbs.{read_capacity_10, report_luns, request_sense, test_unit_ready}
+use Rattle.ufs_spec.specs.DataOuts.{has_list_header}
+use Rattle.ufs_spec.specs.Frames.{frame_bytes, frame_in}
+use Rattle.ufs_spec.specs.Messages.{is_among}
+use Rattle.ufs_spec.specs.declared.messages.Asked.{Asked}
+use Rattle.ufs_spec.specs.declared.messages.Message.{Message}
+use Rattle.ufs_spec.specs.declared.messages.Message.TheVariants.{Command, NopOut, QueryRequest, TaskRequest}
+use Rattle.ufs_spec.specs.declared.scsi.Cdb.{Cdb}
+use Rattle.ufs_spec.specs.declared.scsi.Cdb.TheVariants.{Inquiry, Read10, ReadCapacity10, ReportLuns, RequestSense}
+use Rattle.ufs_spec.specs.declared.scsi.Cdb.TheVariants.{SecurityIn, SecurityOut, SynchronizeCache10, TestUnitReady}
+use Rattle.ufs_spec.specs.declared.scsi.Cdb.TheVariants.{Unmap, Write10}
+use Rattle.ufs_spec.specs.Frames as frames
+use Rattle.ufs_handle.specs.Buffers.{IsPut}
+use Rattle.ufs_handle.specs.declared.fault.Fault.{Fault}
+use Rattle.ufs_handle.specs.declared.fault.Fault.TheVariants as fault
+use Rattle.ufs_messages.specs.Written.{IsDataOutWritten, IsSaid, IsWritten}
+use Rattle.ufs_messages.specs.declared.security.PlainFrame.{PlainFrame}
+
+-- ## Commands
+
+-- the flags of a COMMAND (JESD220, 10.7.1) by the way in which its data go
+abbrev pub flags_of : Direction → ℕ
+flags_of NoData = 0x00
+flags_of ToDevice = 0x20
+flags_of ToHost = 0x40
+
+-- the COMMAND with just this CDB is put into the buffer, with the flags of its data and this expected length
+abbrev pub IsCdbWritten : ℕ → ℕ → ℕ → Cdb → Result (Unit {0}) Fault → List ℕ → List ℕ → Type 0
+IsCdbWritten lun tag expected cdb answer room into =
+    IsCdb cdb × IsWritten (Command (flags_of (direction_of cdb)) lun tag expected (cdb_bytes cdb)) answer room into
+
+-- a READ(10) of these blocks, of 4096 bytes each
+abbrev pub IsRead : ℕ → ℕ → ℕ → ℕ → Result (Unit {0}) Fault → List ℕ → List ℕ → Type 0
+IsRead lun tag address blocks answer room into =
+    IsCdbWritten lun tag (blocks * 4096) (Read10 address blocks false) answer room into
+
+-- a WRITE(10) of these blocks, with FUA or without it
+abbrev pub IsWrite : ℕ → ℕ → ℕ → ℕ → Bool → Result (Unit {0}) Fault → List ℕ → List ℕ → Type 0
+IsWrite lun tag address blocks forced answer room into =
+    IsCdbWritten lun tag (blocks * 4096) (Write10 address blocks forced) answer room into
+
+-- a SYNCHRONIZE CACHE(10), with IMMED or without it
+abbrev pub IsFlush : ℕ → ℕ → Bool → Result (Unit {0}) Fault → List ℕ → List ℕ → Type 0
+IsFlush lun tag immediate answer room into =
+    IsCdbWritten lun tag 0 (SynchronizeCache10 0 0 immediate) answer room into
+
+-- an UNMAP whose list has 24 bytes: a header and one descriptor
+abbrev pub IsUnmap : ℕ → ℕ → Result (Unit {0}) Fault → List ℕ → List ℕ → Type 0
+IsUnmap lun tag answer room into = IsCdbWritten lun tag 24 (Unmap 24) answer room into
+
+-- the list of an UNMAP as the device reads it: its header is right, and it has one descriptor, with this address and this
+-- count of blocks
+pub record IsListOf (address count : ℕ) (list : List ℕ) : Type 0 where
+  pub long : length list ≡ 24
+  pub header : has_list_header list ≡ true
+  pub address_is : field_at 8 8 list ≡ address
+  pub count_is : field_at 4 16 list ≡ count
+  pub rest : field_at 4 20 list ≡ 0
+
+-- the bytes of such a list (SBC, UNMAP parameter list)
+abbrev pub list_bytes : ℕ → ℕ → List ℕ
+list_bytes address count =
+    (0 ∷ 22 ∷ 0 ∷ 16 ∷ 0 ∷ 0 ∷ 0 ∷ 0 ∷ []) ++ big_bytes 8 address ++ big_bytes 4 count ++ replicate 4 0
+
+-- the DATA OUT of such a list
+abbrev pub IsUnmapList : ℕ → ℕ → ℕ → ℕ → Result (Unit {0}) Fault → List ℕ → List ℕ → Type 0
+IsUnmapList lun tag address count answer room into =
+    (list : List ℕ) × IsListOf address count list × IsDataOutWritten lun tag 0 list answer room into
+
+-- the command with this operation code that asks for no more than so many bytes; none where the code is another one, or the
+-- number has no room in its field. REPORT LUNS asks for the units of the configuration and the well-known ones
+abbrev pub asked_cdb : ℕ → ℕ → Option Cdb
+asked_cdb operation allocation =
+    if operation == test_unit_ready then Some TestUnitReady
+    else if operation == read_capacity_10 then Some ReadCapacity10
+    else if operation == report_luns then Some (ReportLuns 2 allocation)
+    else if (operation == inquiry) && nat_lt allocation 65536 then Some (Inquiry allocation)
+    else if (operation == request_sense) && nat_lt allocation 256 then Some (RequestSense allocation)
+    else None
+
+-- such a command is written; the buffer is as before where there is none
+abbrev pub IsAsked : Option Cdb → ℕ → ℕ → ℕ → Result (Unit {0}) Fault → List ℕ → List ℕ → Type 0
+IsAsked None lun tag allocation answer room into = IsSaid ⊥ ⊥ answer room into
+IsAsked (Some cdb) lun tag allocation answer room into = IsCdbWritten lun tag allocation cdb answer room into
+
+-- ## The replay protected memory block
+
+-- the LUN of the replay protected memory block
+abbrev pub rpmb_lun : ℕ
+rpmb_lun = 0xC4
+
+-- one of the four regions, and 1 to 8 frames
+abbrev pub SaysRegion : ℕ → ℕ → Type 0
+SaysRegion region frames = (region ≤ 3) × (1 ≤ frames) × (frames ≤ 8)
+
+-- a SECURITY PROTOCOL OUT, which brings so many frames, or IN, which asks for them
+abbrev pub IsSecurity : Bool → ℕ → ℕ → ℕ → Result (Unit {0}) Fault → List ℕ → List ℕ → Type 0
+IsSecurity true tag region frames answer room into =
+    IsSaid (SaysRegion region frames)
+    (IsCdbWritten rpmb_lun tag (frames * 512) (SecurityOut region (frames * 512)) answer room into) answer room into
+IsSecurity false tag region frames answer room into =
+    IsSaid (SaysRegion region frames)
+    (IsCdbWritten rpmb_lun tag (frames * 512) (SecurityIn region (frames * 512)) answer room into) answer room into
+
+-- the frame with these fields, and zeros in place of the bytes without a meaning
+abbrev pub frame_of : PlainFrame → frames.Frame
+frame_of f =
+    record {
+      stuff = replicate 196 0;
+      key_or_mac = f.key_or_mac;
+      payload = f.payload;
+      nonce = f.nonce;
+      counter = f.write_counter;
+      address = f.address;
+      count = f.block_count;
+      result = f.result;
+      kind = f.message_type;
+    }
+
+-- its 512 bytes are put into the buffer
+abbrev pub IsFrameWritten : PlainFrame → Result (Unit {0}) Fault → List ℕ → List ℕ → Type 0
+IsFrameWritten f answer room into = IsPut (frame_bytes (frame_of f)) answer room into
+
+-- the fields are those of the frame; its bytes without a meaning are not kept
+pub record HasFieldsOf (f : frames.Frame) (told : PlainFrame) : Type 0 where
+  pub key_or_mac : told.key_or_mac ≡ f.key_or_mac
+  pub payload : told.payload ≡ f.payload
+  pub nonce : told.nonce ≡ f.nonce
+  pub counter : told.write_counter ≡ f.counter
+  pub address : told.address ≡ f.address
+  pub count : told.block_count ≡ f.count
+  pub result : told.result ≡ f.result
+  pub kind : told.message_type ≡ f.kind
+
+-- the frame was read that the bytes are; or they are not 512 bytes, and the fields are as before
+abbrev pub ReadsFrame : List ℕ → Result (Unit {0}) Fault → PlainFrame → PlainFrame → Type 0
+ReadsFrame bytes (Ok _) before after = (length bytes ≡ 512) × HasFieldsOf (frame_in bytes) after
+ReadsFrame bytes (Err f) before after = (f ≡ fault.Number) × (length bytes ≢ 512) × (after ≡ before)
+
+-- ## Queries and short exchanges
+
+-- the function of a query (JESD220, 10.7.8): a standard write where something is written, set, cleared or toggled, and else
+-- a standard read
+abbrev pub query_function : ℕ → ℕ
+query_function opcode = if is_among (0x02 ∷ 0x04 ∷ 0x06 ∷ 0x07 ∷ 0x08 ∷ []) opcode then 0x81 else 0x01
+
+-- what a query asks for, by its four numbers
+abbrev pub asked_of : ℕ → ℕ → ℕ → ℕ → Asked
+asked_of opcode idn index selector =
+    record { opcode = opcode; idn = idn; index = index; selector = selector }
+
+-- the message is a QUERY REQUEST of this, without data
+abbrev pub IsQueryWith : ℕ → Asked → ℕ → ℕ → Message → Type 0
+IsQueryWith tag asked size value (QueryRequest t function a s v «data») =
+    (t ≡ tag) × (function ≡ query_function asked.opcode) × (a ≡ asked) × (s ≡ size) × (v ≡ value) × («data».items ≡ [])
+IsQueryWith tag asked size value message = ⊥
+
+abbrev pub IsQueryWritten : ℕ → Asked → ℕ → ℕ → Result (Unit {0}) Fault → List ℕ → List ℕ → Type 0
+IsQueryWritten tag asked size value answer room into =
+    (message : Message) × IsQueryWith tag asked size value message × IsWritten message answer room into
+
+-- a TASK MANAGEMENT REQUEST: `meant` is the tag of the task that is meant
+abbrev pub IsTaskRequest : ℕ → ℕ → ℕ → ℕ → Result (Unit {0}) Fault → List ℕ → List ℕ → Type 0
+IsTaskRequest lun tag function meant answer room into = IsWritten (TaskRequest lun tag function meant) answer room into
+
+-- a NOP OUT
+abbrev pub IsNop : ℕ → Result (Unit {0}) Fault → List ℕ → List ℕ → Type 0
+IsNop tag answer room into = IsWritten (NopOut tag) answer room into
