@@ -1,0 +1,310 @@
+//! Whole commands: they write the messages, and let the dies work until the answer is there.
+use crate::device::Device;
+use crate::error::{Error, Result};
+use crate::messages::{command, data_out, response, Answer, Direction, HEADER_BYTES};
+
+/// How many bytes a logical block has.
+pub const BLOCK_BYTES: usize = 4096;
+
+/// So many rounds bring an answer that comes at all, also while the device mends or collects.
+const MOST_ROUNDS: u16 = 4096;
+/// So many rounds free slots of the write cache, if anything does.
+const ROUNDS_WHILE_BUSY: u16 = 256;
+/// Whole commands have the task tags from here to FFh.
+const FIRST_TAG: u8 = 0x80;
+/// The unit that is the device as a whole.
+const LUN_DEVICE: u8 = 0xD0;
+const DATA_IN: u8 = 0x22;
+const READY_TO_TRANSFER: u8 = 0x31;
+const CHECK_CONDITION: u8 = 0x02;
+const BUSY: u8 = 0x08;
+const TASK_SET_FULL: u8 = 0x28;
+const TEST_UNIT_READY: u8 = 0x00;
+const READ_CAPACITY_10: u8 = 0x25;
+const READ_10: u8 = 0x28;
+const WRITE_10: u8 = 0x2A;
+const SYNCHRONIZE_CACHE_10: u8 = 0x35;
+const UNMAP: u8 = 0x42;
+/// The bit of a WRITE(10) that asks for an answer only once the blocks are durable.
+const FUA: u8 = 0x08;
+/// The sense of a device that mends: NOT READY, in process of becoming ready.
+const BECOMING_READY: Error = Error::CheckCondition {
+    key: 2,
+    code: 0x04,
+    qualifier: 1,
+};
+
+/// Whether a write has FUA (force unit access).
+#[derive(Clone, Copy, Debug, PartialEq, Eq, Hash)]
+pub enum Fua {
+    /// It is answered once the write cache has the blocks. They are durable behind a
+    /// [`flush`](Device::flush), or a later write with FUA.
+    No,
+    /// It is answered once the blocks are durable, and all that was accepted before them.
+    Yes,
+}
+
+/// The data of a whole command.
+#[derive(Clone, Copy, Debug, PartialEq, Eq)]
+pub enum Data<'a> {
+    /// There are none.
+    None,
+    /// The host sends these.
+    Send(&'a [u8]),
+    /// The host has room for so many bytes.
+    Receive(u32),
+}
+
+/// What READ CAPACITY(10) tells of a unit.
+#[derive(Clone, Copy, Debug, PartialEq, Eq, Hash)]
+pub struct Capacity {
+    /// The address of the last block.
+    pub last_address: u32,
+    /// How many bytes a block has.
+    pub block_bytes: u32,
+}
+
+impl Device {
+    /// A whole command with this CDB, as of SBC-3: it sends its data, or gives those that it
+    /// received, and lets the dies work until it ends.
+    ///
+    /// # Errors
+    ///
+    /// [`CheckCondition`](Error::CheckCondition), [`Busy`](Error::Busy) and
+    /// [`TaskSetFull`](Error::TaskSetFull) are what it ended with; [`NoAnswer`](Error::NoAnswer);
+    /// [`BadNumber`](Error::BadNumber) where the CDB has more than 16 bytes.
+    pub fn command(&mut self, lun: u8, cdb: &[u8], data: Data<'_>) -> Result<Vec<u8>> {
+        let tag = self.next_tag();
+        let (direction, expected, sent): (_, _, &[u8]) = match data {
+            Data::None => (Direction::None, 0, &[]),
+            Data::Receive(count) => (Direction::FromDevice, count, &[]),
+            Data::Send(sent) => (Direction::ToDevice, length_of(sent)?, sent),
+        };
+        self.host(&command(direction, lun, tag, expected, cdb)?)?;
+        let mut received = Vec::new();
+        loop {
+            let reply = self.hear(tag)?;
+            match reply.first() {
+                Some(&DATA_IN) => received.extend_from_slice(data_of(&reply)),
+                Some(&READY_TO_TRANSFER) => {
+                    let (offset, asked) = asked_for(&reply, sent);
+                    self.host(&data_out(lun, tag, offset, asked)?)?;
+                }
+                _ => return expect_good(response(&reply)?).map(|()| received),
+            }
+        }
+    }
+
+    fn next_tag(&mut self) -> u8 {
+        self.last_tag = self.last_tag.wrapping_add(1) | FIRST_TAG;
+        self.last_tag
+    }
+
+    /// The next reply with this tag. The dies work until it is due; replies with other tags are kept.
+    fn hear(&mut self, tag: u8) -> Result<Vec<u8>> {
+        for _ in 0..MOST_ROUNDS {
+            if let Some(reply) = self.due_reply(tag)? {
+                return Ok(reply);
+            }
+            self.settle(1)?;
+        }
+        Err(Error::NoAnswer)
+    }
+
+    /// A reply with this tag, if one is due.
+    fn due_reply(&mut self, tag: u8) -> Result<Option<Vec<u8>>> {
+        while let Some(reply) = self.next_reply()? {
+            if reply.get(3) == Some(&tag) {
+                return Ok(Some(reply));
+            }
+            self.kept.push_back(reply);
+        }
+        Ok(None)
+    }
+
+    /// Lets the dies work until the device has mended and takes READs and WRITEs.
+    ///
+    /// # Errors
+    ///
+    /// [`NoAnswer`](Error::NoAnswer) where it does not become ready.
+    pub fn make_ready(&mut self) -> Result<()> {
+        for _ in 0..MOST_ROUNDS {
+            match self.command(LUN_DEVICE, &[TEST_UNIT_READY], Data::None) {
+                Err(BECOMING_READY) => self.settle(1)?,
+                answer => return answer.map(|_| ()),
+            }
+        }
+        Err(Error::NoAnswer)
+    }
+
+    /// The blocks of the unit from this address on. A block that was never written is zeros.
+    ///
+    /// # Errors
+    ///
+    /// As [`command`](Device::command); [`CheckCondition`](Error::CheckCondition) 5/21/00 past the
+    /// end of the unit, 3/11/00 where a die could not read. [`BadNumber`](Error::BadNumber) where no
+    /// address has so many blocks.
+    pub fn read(&mut self, lun: u8, address: u32, count: u32) -> Result<Vec<u8>> {
+        let mut found = Vec::new();
+        for (start, some) in parts(address, count, self.most_blocks())? {
+            let room = Data::Receive(some * BLOCK_BYTES as u32);
+            found.extend(self.command(lun, &blocks_cdb(READ_10, 0, start, some), room)?);
+        }
+        Ok(found)
+    }
+
+    /// Writes whole blocks of the unit from this address on.
+    ///
+    /// Up to [`most_blocks`](Device::most_blocks) are kept as a whole or not at all; more take several
+    /// commands. A command that is answered BUSY is tried again while the dies work.
+    ///
+    /// # Errors
+    ///
+    /// As [`command`](Device::command); [`CheckCondition`](Error::CheckCondition) 5/21/00 past the
+    /// end of the unit, 7/27/00 where the unit is protected or the device takes no more writes.
+    /// [`BadNumber`](Error::BadNumber) where the data are no whole blocks, or no address has so many.
+    pub fn write(&mut self, lun: u8, address: u32, data: &[u8], fua: Fua) -> Result<()> {
+        let blocks = whole_blocks(data)?;
+        let bits = match fua {
+            Fua::Yes => FUA,
+            Fua::No => 0,
+        };
+        let most = self.most_blocks();
+        let chunks = data.chunks(most as usize * BLOCK_BYTES);
+        for ((start, some), chunk) in parts(address, blocks, most)?.zip(chunks) {
+            self.send(lun, &blocks_cdb(WRITE_10, bits, start, some), chunk)?;
+        }
+        Ok(())
+    }
+
+    /// SYNCHRONIZE CACHE: it returns once all that the device accepted before, of any unit, is durable.
+    ///
+    /// # Errors
+    ///
+    /// As [`command`](Device::command).
+    pub fn flush(&mut self, lun: u8) -> Result<()> {
+        self.command(lun, &blocks_cdb(SYNCHRONIZE_CACHE_10, 0, 0, 0), Data::None)
+            .map(|_| ())
+    }
+
+    /// Makes blocks of the unit zeros, which a [`flush`](Device::flush) behind it makes durable.
+    ///
+    /// # Errors
+    ///
+    /// As [`write`](Device::write).
+    pub fn unmap(&mut self, lun: u8, address: u32, count: u32) -> Result<()> {
+        for (start, some) in parts(address, count, self.most_blocks())? {
+            let list = unmap_list(start, some);
+            self.send(lun, &unmap_cdb(&list), &list)?;
+        }
+        Ok(())
+    }
+
+    /// The last address of the unit, and the size of a block.
+    ///
+    /// # Errors
+    ///
+    /// As [`command`](Device::command).
+    pub fn read_capacity(&mut self, lun: u8) -> Result<Capacity> {
+        let told = self.command(lun, &[READ_CAPACITY_10], Data::Receive(8))?;
+        Ok(Capacity {
+            last_address: number_at(&told, 0),
+            block_bytes: number_at(&told, 4),
+        })
+    }
+
+    /// A command with data. While the device is BUSY the dies work, and the command is tried again.
+    fn send(&mut self, lun: u8, cdb: &[u8], data: &[u8]) -> Result<()> {
+        for _ in 0..ROUNDS_WHILE_BUSY {
+            match self.command(lun, cdb, Data::Send(data)) {
+                Err(Error::Busy) => self.settle(1)?,
+                answer => return answer.map(|_| ()),
+            }
+        }
+        Err(Error::Busy)
+    }
+}
+
+/// Address and count of each command that so many blocks take.
+fn parts(address: u32, count: u32, most: u32) -> Result<impl Iterator<Item = (u32, u32)>> {
+    let end = u64::from(address) + u64::from(count);
+    if end > 1 << 32 {
+        return Err(Error::BadNumber);
+    }
+    let starts = (u64::from(address)..end).step_by(most as usize);
+    // An address is below 2^32, and what is left of the blocks is cut to `most` before it is narrowed.
+    Ok(starts.map(move |start| (start as u32, (end - start).min(u64::from(most)) as u32)))
+}
+
+fn whole_blocks(data: &[u8]) -> Result<u32> {
+    match data.len() % BLOCK_BYTES {
+        0 => u32::try_from(data.len() / BLOCK_BYTES).map_err(|_| Error::BadNumber),
+        _ => Err(Error::BadNumber),
+    }
+}
+
+fn length_of(data: &[u8]) -> Result<u32> {
+    u32::try_from(data.len()).map_err(|_| Error::BadNumber)
+}
+
+/// The CDB of a READ(10), a WRITE(10) or a SYNCHRONIZE CACHE(10) (SBC-3).
+fn blocks_cdb(operation: u8, bits: u8, address: u32, count: u32) -> [u8; 10] {
+    let mut cdb = [0; 10];
+    cdb[0] = operation;
+    cdb[1] = bits;
+    cdb[2..6].copy_from_slice(&address.to_be_bytes());
+    cdb[7..9].copy_from_slice(&(count as u16).to_be_bytes());
+    cdb
+}
+
+/// The CDB of an UNMAP with this list (SBC-3).
+fn unmap_cdb(list: &[u8; 24]) -> [u8; 10] {
+    let mut cdb = [0; 10];
+    cdb[0] = UNMAP;
+    cdb[8] = list.len() as u8;
+    cdb
+}
+
+/// The list of an UNMAP: a header of 8 bytes, and one descriptor of 16. The header has the length of
+/// what follows its first two bytes, and that of the descriptors.
+fn unmap_list(address: u32, count: u32) -> [u8; 24] {
+    let mut list = [0; 24];
+    list[1] = 22;
+    list[3] = 16;
+    list[12..16].copy_from_slice(&address.to_be_bytes());
+    list[16..20].copy_from_slice(&count.to_be_bytes());
+    list
+}
+
+/// The big-endian number of four bytes that stands there; bytes that are missing are zeros.
+fn number_at(told: &[u8], start: usize) -> u32 {
+    let at = |place: usize| u32::from(told.get(start + place).copied().unwrap_or(0));
+    at(0) << 24 | at(1) << 16 | at(2) << 8 | at(3)
+}
+
+/// The data segment of a DATA IN, whose count stands in bytes 16 to 19.
+fn data_of(reply: &[u8]) -> &[u8] {
+    let rest = reply.get(HEADER_BYTES..).unwrap_or_default();
+    &rest[..rest.len().min(number_at(reply, 16) as usize)]
+}
+
+/// The offset and those of the data that a READY TO TRANSFER asks for: bytes 12 to 15, and 16 to 19.
+fn asked_for<'a>(reply: &[u8], sent: &'a [u8]) -> (u32, &'a [u8]) {
+    let (offset, count) = (number_at(reply, 12), number_at(reply, 16));
+    let rest = sent.get(offset as usize..).unwrap_or_default();
+    (offset, &rest[..rest.len().min(count as usize)])
+}
+
+fn expect_good(answer: Answer) -> Result<()> {
+    match answer.status {
+        0 => Ok(()),
+        CHECK_CONDITION => Err(Error::CheckCondition {
+            key: answer.sense_key,
+            code: answer.sense_code,
+            qualifier: answer.sense_qualifier,
+        }),
+        BUSY => Err(Error::Busy),
+        TASK_SET_FULL => Err(Error::TaskSetFull),
+        status => Err(Error::Unknown(u32::from(status))),
+    }
+}

@@ -1,0 +1,437 @@
+//! Messages of a host, and what a RESPONSE says.
+//!
+//! Any thread may call these functions: no device has a part in them.
+use crate::command::Fua;
+use crate::error::{expect, Result};
+use crate::sys::{self, FrameRow};
+
+/// How many bytes a message without data has.
+pub const HEADER_BYTES: usize = sys::UFS_HEADER_BYTES;
+/// How many bytes a frame of the replay protected memory block has.
+pub const FRAME_BYTES: usize = sys::UFS_FRAME_BYTES;
+/// How many bytes the list of an UNMAP with one descriptor has.
+const UNMAP_LIST_BYTES: usize = 24;
+
+/// Which way the data of a COMMAND go: its flags.
+#[derive(Clone, Copy, Debug, Default, PartialEq, Eq, Hash)]
+pub enum Direction {
+    /// There are none.
+    #[default]
+    None,
+    /// The host sends them, as for a write.
+    ToDevice,
+    /// The device sends them, as for a read.
+    FromDevice,
+}
+
+impl Direction {
+    fn flags(self) -> u8 {
+        match self {
+            Direction::None => 0x00,
+            Direction::ToDevice => 0x20,
+            Direction::FromDevice => 0x40,
+        }
+    }
+}
+
+/// A COMMAND (JESD220, 10.7.1) whose data have so many bytes. A CDB of fewer than 16 bytes is padded
+/// with zeros.
+///
+/// # Errors
+///
+/// [`BadNumber`](crate::Error::BadNumber) where the CDB has more than 16 bytes.
+pub fn command(
+    direction: Direction,
+    lun: u8,
+    tag: u8,
+    expected: u32,
+    cdb: &[u8],
+) -> Result<[u8; HEADER_BYTES]> {
+    let mut message = [0; HEADER_BYTES];
+    // SAFETY: the CDB has as many bytes as the call is told, is never NULL as a slice, and is borrowed
+    // during the call, which only reads it, so nobody writes it. The message is this call's own.
+    expect(unsafe {
+        sys::ufs_command(
+            direction.flags(),
+            lun,
+            tag,
+            expected,
+            cdb.as_ptr(),
+            cdb.len(),
+            message.as_mut_ptr(),
+            message.len(),
+        )
+    })?;
+    Ok(message)
+}
+
+/// A DATA OUT (JESD220, 10.7.3) with these data of a command, from this offset in bytes on. It is
+/// padded with zeros to a multiple of four bytes.
+///
+/// # Errors
+///
+/// [`BadNumber`](crate::Error::BadNumber) where the data are none or more than 4096 bytes.
+pub fn data_out(lun: u8, tag: u8, offset: u32, data: &[u8]) -> Result<Vec<u8>> {
+    let mut message = vec![0; sys::UFS_MESSAGE_BYTES];
+    // SAFETY: as in `command`, of the data in place of the CDB.
+    expect(unsafe {
+        sys::ufs_data_out(
+            lun,
+            tag,
+            offset,
+            data.as_ptr(),
+            data.len(),
+            message.as_mut_ptr(),
+            message.len(),
+        )
+    })?;
+    message.truncate(HEADER_BYTES + (data.len() + 3) / 4 * 4);
+    Ok(message)
+}
+
+/// A message of so many bytes, which this call of the library writes into a room of its own.
+fn written<const N: usize>(write: impl FnOnce(*mut u8, usize) -> u32) -> Result<[u8; N]> {
+    let mut message = [0; N];
+    expect(write(message.as_mut_ptr(), N))?;
+    Ok(message)
+}
+
+/// The COMMAND of a READ(10) of so many blocks of 4096 bytes, from this address on.
+///
+/// # Errors
+///
+/// None: the room is as long as the message.
+pub fn read(lun: u8, tag: u8, address: u32, blocks: u16) -> Result<[u8; HEADER_BYTES]> {
+    // SAFETY: the room is `written`'s own, and has as many bytes as the call is told.
+    written(|into, room| unsafe { sys::ufs_read(lun, tag, address, blocks, into, room) })
+}
+
+/// The COMMAND of a WRITE(10) of so many blocks of 4096 bytes, from this address on.
+///
+/// # Errors
+///
+/// None: the room is as long as the message.
+pub fn write(lun: u8, tag: u8, address: u32, blocks: u16, fua: Fua) -> Result<[u8; HEADER_BYTES]> {
+    let has_fua = fua == Fua::Yes;
+    // SAFETY: as in `read`.
+    written(|into, room| unsafe { sys::ufs_write(lun, tag, address, blocks, has_fua, into, room) })
+}
+
+/// The COMMAND of a SYNCHRONIZE CACHE(10). It is answered once all that was accepted before is
+/// durable, or at once where it is immediate.
+///
+/// # Errors
+///
+/// None: the room is as long as the message.
+pub fn flush(lun: u8, tag: u8, immediate: bool) -> Result<[u8; HEADER_BYTES]> {
+    // SAFETY: as in `read`.
+    written(|into, room| unsafe { sys::ufs_flush(lun, tag, immediate, into, room) })
+}
+
+/// The COMMAND of an UNMAP whose list has one descriptor: [`unmap_list`] is its DATA OUT.
+///
+/// # Errors
+///
+/// None: the room is as long as the message.
+pub fn unmap(lun: u8, tag: u8) -> Result<[u8; HEADER_BYTES]> {
+    // SAFETY: as in `read`.
+    written(|into, room| unsafe { sys::ufs_unmap(lun, tag, into, room) })
+}
+
+/// The DATA OUT of the list of an [`unmap`]: so many blocks, from this address on, become zeros.
+///
+/// # Errors
+///
+/// None: the room is as long as the message.
+pub fn unmap_list(
+    lun: u8,
+    tag: u8,
+    address: u64,
+    blocks: u32,
+) -> Result<[u8; HEADER_BYTES + UNMAP_LIST_BYTES]> {
+    // SAFETY: as in `read`.
+    written(|into, room| unsafe { sys::ufs_unmap_list(lun, tag, address, blocks, into, room) })
+}
+
+/// A command that asks for bytes of the device's own.
+#[derive(Clone, Copy, Debug, PartialEq, Eq, Hash)]
+pub enum Operation {
+    /// TEST UNIT READY, which brings no bytes.
+    TestUnitReady,
+    /// REQUEST SENSE.
+    RequestSense,
+    /// INQUIRY.
+    Inquiry,
+    /// READ CAPACITY(10).
+    ReadCapacity,
+    /// REPORT LUNS, of the units of the configuration and of the well-known ones.
+    ReportLuns,
+}
+
+impl Operation {
+    /// The number that the library has for it: its operation code.
+    fn code(self) -> u8 {
+        match self {
+            Operation::TestUnitReady => 0x00,
+            Operation::RequestSense => 0x03,
+            Operation::Inquiry => 0x12,
+            Operation::ReadCapacity => 0x25,
+            Operation::ReportLuns => 0xA0,
+        }
+    }
+}
+
+/// The COMMAND with this operation code. The host has room for so many bytes.
+///
+/// # Errors
+///
+/// [`BadNumber`](crate::Error::BadNumber) where there is room for more than 255 bytes and it is a
+/// REQUEST SENSE, or for more than 65,535 and it is an INQUIRY.
+pub fn ask(operation: Operation, lun: u8, tag: u8, allocation: u32) -> Result<[u8; HEADER_BYTES]> {
+    let code = operation.code();
+    // SAFETY: as in `read`.
+    written(|into, room| unsafe { sys::ufs_ask(code, lun, tag, allocation, into, room) })
+}
+
+/// The fields of a QUERY REQUEST (JESD220, 10.7.8).
+#[derive(Clone, Copy, Debug, Default, PartialEq, Eq, Hash)]
+pub struct Query {
+    /// The opcode: 01h reads a descriptor, 03h an attribute, 05h a flag; 04h writes an attribute; 06h
+    /// sets a flag, 07h clears it, 08h toggles it.
+    pub opcode: u8,
+    /// Which descriptor, attribute or flag is meant (IDN).
+    pub idn: u8,
+    /// Its index.
+    pub index: u8,
+    /// Its selector.
+    pub selector: u8,
+    /// For how many bytes of a descriptor the host has room.
+    pub length: u16,
+    /// The value that an attribute gets.
+    pub value: u32,
+}
+
+/// A QUERY REQUEST (JESD220, 10.7.8) without data. Its function is that of the opcode.
+///
+/// # Errors
+///
+/// None: the room is as long as the message.
+pub fn query(tag: u8, asked: &Query) -> Result<[u8; HEADER_BYTES]> {
+    // SAFETY: as in `read`.
+    written(|into, room| unsafe {
+        sys::ufs_query(
+            tag,
+            asked.opcode,
+            asked.idn,
+            asked.index,
+            asked.selector,
+            asked.length,
+            asked.value,
+            into,
+            room,
+        )
+    })
+}
+
+/// A TASK MANAGEMENT REQUEST (JESD220, 10.7.6): `meant` is the tag of the task that is meant.
+///
+/// # Errors
+///
+/// None: the room is as long as the message.
+pub fn task_management(lun: u8, tag: u8, function: u8, meant: u8) -> Result<[u8; HEADER_BYTES]> {
+    // SAFETY: as in `read`.
+    written(|into, room| unsafe { sys::ufs_task_management(lun, tag, function, meant, into, room) })
+}
+
+/// A NOP OUT (JESD220, 10.7.11).
+///
+/// # Errors
+///
+/// None: the room is as long as the message.
+pub fn nop(tag: u8) -> Result<[u8; HEADER_BYTES]> {
+    // SAFETY: as in `read`.
+    written(|into, room| unsafe { sys::ufs_nop(tag, into, room) })
+}
+
+/// What a RESPONSE says (JESD220, 10.7.2). The sense key, code and qualifier are 0 where there are no
+/// sense data.
+#[derive(Clone, Copy, Debug, Default, PartialEq, Eq, Hash)]
+pub struct Answer {
+    /// The task tag.
+    pub tag: u8,
+    /// 0 if the status is GOOD, else 1.
+    pub response: u8,
+    /// 00h GOOD, 02h CHECK CONDITION, 08h BUSY, 28h TASK SET FULL.
+    pub status: u8,
+    /// The sense key.
+    pub sense_key: u8,
+    /// The additional sense code (ASC).
+    pub sense_code: u8,
+    /// Its qualifier (ASCQ).
+    pub sense_qualifier: u8,
+    /// The residual, in bytes (docs/FORMATS.md, "Residuals").
+    pub residual: u32,
+}
+
+/// Reads a reply that is a RESPONSE.
+///
+/// # Errors
+///
+/// [`BadNumber`](crate::Error::BadNumber) where it is none.
+pub fn response(reply: &[u8]) -> Result<Answer> {
+    let mut row = sys::AnswerRow {
+        tag: 0,
+        response: 0,
+        status: 0,
+        sense_key: 0,
+        sense_code: 0,
+        sense_qualifier: 0,
+        residual: 0,
+    };
+    // SAFETY: as in `command`, of the reply in place of the CDB. The row is this call's own.
+    expect(unsafe { sys::ufs_response(reply.as_ptr(), reply.len(), &mut row) })?;
+    Ok(Answer {
+        tag: row.tag,
+        response: row.response,
+        status: row.status,
+        sense_key: row.sense_key,
+        sense_code: row.sense_code,
+        sense_qualifier: row.sense_qualifier,
+        residual: row.residual,
+    })
+}
+
+/// The MAC of frames of the replay protected memory block (JESD220, 12.4) under this key. Each frame
+/// has 512 bytes, of which the MAC covers those from 228 on.
+///
+/// # Errors
+///
+/// [`BadNumber`](crate::Error::BadNumber) where the frames are none or not whole.
+pub fn rpmb_mac(key: &[u8; 32], frames: &[u8]) -> Result<[u8; 32]> {
+    let mut mac = [0; 32];
+    // SAFETY: as in `command`, of the key and the frames in place of the CDB.
+    expect(unsafe {
+        sys::ufs_rpmb_mac(
+            key.as_ptr(),
+            key.len(),
+            frames.as_ptr(),
+            frames.len(),
+            mac.as_mut_ptr(),
+            mac.len(),
+        )
+    })?;
+    Ok(mac)
+}
+
+/// A frame of the replay protected memory block (JESD220, 12.4), but for its stuff bytes.
+/// docs/FORMATS.md says which fields a request has; the others are 0.
+#[derive(Clone, Copy, Debug, PartialEq, Eq, Hash)]
+pub struct Frame {
+    /// The key that is to be programmed, or the MAC.
+    pub key_or_mac: [u8; 32],
+    /// One block of the area.
+    pub data: [u8; 256],
+    /// The nonce.
+    pub nonce: [u8; 16],
+    /// The write counter.
+    pub write_counter: u32,
+    /// The address in the area, in blocks of 256 bytes.
+    pub address: u16,
+    /// How many such blocks there are.
+    pub block_count: u16,
+    /// The result of a response.
+    pub result: u16,
+    /// What is asked for or answered: the message type.
+    pub message_type: u16,
+}
+
+impl Default for Frame {
+    /// All fields are 0.
+    fn default() -> Frame {
+        Frame::of(FrameRow {
+            key_or_mac: [0; 32],
+            data: [0; 256],
+            nonce: [0; 16],
+            write_counter: 0,
+            address: 0,
+            block_count: 0,
+            result: 0,
+            message_type: 0,
+        })
+    }
+}
+
+impl Frame {
+    fn of(row: FrameRow) -> Frame {
+        Frame {
+            key_or_mac: row.key_or_mac,
+            data: row.data,
+            nonce: row.nonce,
+            write_counter: row.write_counter,
+            address: row.address,
+            block_count: row.block_count,
+            result: row.result,
+            message_type: row.message_type,
+        }
+    }
+
+    fn row(&self) -> FrameRow {
+        FrameRow {
+            key_or_mac: self.key_or_mac,
+            data: self.data,
+            nonce: self.nonce,
+            write_counter: self.write_counter,
+            address: self.address,
+            block_count: self.block_count,
+            result: self.result,
+            message_type: self.message_type,
+        }
+    }
+}
+
+/// The bytes of a frame, with zeros as its stuff bytes.
+///
+/// Where a request has a MAC, write its last frame once more, with what [`rpmb_mac`] made of all of
+/// them in `key_or_mac`.
+///
+/// # Errors
+///
+/// None: the room is as long as the frame.
+pub fn rpmb_frame(frame: &Frame) -> Result<[u8; FRAME_BYTES]> {
+    let row = frame.row();
+    // SAFETY: as in `read`. The row is this call's own, and is only read.
+    written(|into, room| unsafe { sys::ufs_rpmb_frame(&row, into, room) })
+}
+
+/// The fields of a frame.
+///
+/// # Errors
+///
+/// [`BadNumber`](crate::Error::BadNumber) where it has not [`FRAME_BYTES`] bytes.
+pub fn rpmb_fields(bytes: &[u8]) -> Result<Frame> {
+    let mut row = Frame::default().row();
+    // SAFETY: as in `command`, of the frame in place of the CDB. The row is this call's own.
+    expect(unsafe { sys::ufs_rpmb_fields(bytes.as_ptr(), bytes.len(), &mut row) })?;
+    Ok(Frame::of(row))
+}
+
+/// The COMMAND of a SECURITY PROTOCOL OUT, which brings so many frames for the region.
+///
+/// # Errors
+///
+/// [`BadNumber`](crate::Error::BadNumber) where the region is above 3, or the frames are none or more
+/// than 8.
+pub fn security_out(tag: u8, region: u8, frames: u8) -> Result<[u8; HEADER_BYTES]> {
+    // SAFETY: as in `read`.
+    written(|into, room| unsafe { sys::ufs_rpmb_command(true, tag, region, frames, into, room) })
+}
+
+/// The COMMAND of a SECURITY PROTOCOL IN, which asks for so many frames of the region.
+///
+/// # Errors
+///
+/// As [`security_out`].
+pub fn security_in(tag: u8, region: u8, frames: u8) -> Result<[u8; HEADER_BYTES]> {
+    // SAFETY: as in `read`.
+    written(|into, room| unsafe { sys::ufs_rpmb_command(false, tag, region, frames, into, room) })
+}
