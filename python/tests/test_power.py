@@ -1,4 +1,4 @@
-"""What is there after a power cut: README's promise, and its table of what a stop leaves."""
+"""What is there after a power cut: README's promise, whatever a stop leaves of a page."""
 import pytest
 
 from butcherford import JobKind
