@@ -1,14 +1,16 @@
 #!/usr/bin/env python3
-"""Makes the shared library for clients in other languages, runs the tests of the Python package, and installs it.
+"""Makes the shared library for clients in other languages, tests these, and installs the Python package.
 
-usage: clients.py library | test [--no-build] [--no-install] | install FOLDER | uninstall FOLDER
+usage: clients.py library | test [--no-build] [--no-install] [--no-block-tools] | install FOLDER | uninstall FOLDER
 
 `library` makes crates/libufs/out/libufs.so of libufs.a, which `libufs.py build` makes beside it. CC names the
-compiler. `test` builds both, unless --no-build is given, and runs the tests and examples of the folder python with
-Debian's pytest. It installs that with apt-get, as root, where it is missing; with --no-install it installs nothing.
-Its last line is 'N passed, M failed', in which a run that was to fail and did counts as passed; the status is 0 only
-if none failed. `install` copies the package with the library to FOLDER, in which Python is to look for packages, and
-`uninstall` removes what is there of it.
+compiler. `test` builds both, unless --no-build is given, and runs the tests and examples of the folder python
+with Debian's pytest. Then it tests the Rust crate as rust_client.py does; where cargo is missing it says so. Then
+come the block tools of block_tools.py against the device, unless --no-block-tools is given. It installs pytest
+and these tools with apt-get, as root, where they are missing; with --no-install it installs nothing. Its last
+line is 'N passed, M failed', in which a run that was to fail and did counts as passed; the status is 0 only if
+none failed. `install` copies the package with the library to FOLDER, in which Python is to look for packages,
+and `uninstall` removes what is there of it.
 """
 import argparse
 import os
@@ -18,6 +20,9 @@ import shutil
 import subprocess
 import sys
 
+import block_tools
+import packages
+import rust_client
 from crates import ROOT
 from libufs import ARCHIVE, build
 
@@ -50,13 +55,22 @@ def has_pytest():
     return subprocess.run([PYTHON, "-c", "import pytest"], capture_output=True, check=False).returncode == 0
 
 
-def install_pytest():
+def missing_packages(asked):
+    """The packages of Debian that the tests need and that are not there."""
+    missing = set() if has_pytest() else {PYTEST}
+    if not asked.no_block_tools:
+        missing |= {package for program, package in block_tools.PACKAGES.items() if not shutil.which(program)}
+    return sorted(missing)
+
+
+def install_missing(asked):
     """Installs what is missing. What apt-get says goes to standard error."""
+    missing = missing_packages(asked)
     try:
-        if not has_pytest():
-            subprocess.run(["apt-get", "install", "-y", PYTEST], stdout=sys.stderr, check=True)
+        for words in packages.commands(missing) if missing else ():
+            subprocess.run(words, stdout=sys.stderr, check=True)
     except (OSError, subprocess.CalledProcessError) as fault:
-        raise Fault(f"{fault}\ninstall {PYTEST} as root, and say --no-install") from fault
+        raise Fault(f"{fault}\ninstall {' '.join(missing)} as root, and say --no-install") from fault
 
 
 def counts(text):
@@ -68,11 +82,9 @@ def counts(text):
 
 def run_tests():
     """Runs them, shows what pytest says, and gives the counts."""
-    environment = {**os.environ, "BUTCHERFORD_LIBRARY": str(SHARED)}
     words = [PYTHON, "-B", "-m", "pytest", "-q", "--color=no", "-p", "no:cacheprovider"]
     try:
-        done = subprocess.run(words, cwd=CLIENT, env=environment, stdout=subprocess.PIPE, encoding="utf-8",
-                              check=False)
+        done = subprocess.run(words, cwd=CLIENT, stdout=subprocess.PIPE, encoding="utf-8", check=False)
     except OSError as fault:
         raise Fault(str(fault)) from fault
     print(done.stdout, end="")
@@ -86,8 +98,10 @@ def test(asked):
         build()
     make_library()
     if not asked.no_install:
-        install_pytest()
-    passed, failed = run_tests()
+        install_missing(asked)
+    os.environ.update({block_tools.LIBRARY: str(SHARED), "PYTHONPATH": str(CLIENT)})
+    steps = [run_tests, rust_client.run_tests] + ([] if asked.no_block_tools else [block_tools.run_tools])
+    passed, failed = (sum(counts) for counts in zip(*(step() for step in steps)))
     print(f"{passed} passed, {failed} failed")
     return int(failed != 0)
 
@@ -142,6 +156,7 @@ def main():
     tests.set_defaults(act=test)
     tests.add_argument("--no-build", action="store_true", help="takes the archive that is there")
     tests.add_argument("--no-install", action="store_true", help="installs no package")
+    tests.add_argument("--no-block-tools", action="store_true", help="leaves out iscsi-test-cu, fio and ext4")
     for name, act in (("install", install), ("uninstall", uninstall)):
         word = words.add_parser(name)
         word.set_defaults(act=act)

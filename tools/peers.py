@@ -26,6 +26,8 @@ import subprocess
 import sys
 import tempfile
 
+import packages
+
 SOURCE = pathlib.Path(__file__).resolve().parent / "peers.cpp"
 PACKAGES = ("g++", "libsqlite3-dev", "liblmdb-dev", "librocksdb-dev", "libssl-dev")
 LIBRARIES = ("-lsqlite3", "-llmdb", "-lrocksdb", "-lcrypto")
@@ -55,8 +57,8 @@ def install():
     """Installs what is missing. What apt-get says goes to standard error."""
     try:
         wanted = missing_packages()
-        if wanted:
-            subprocess.run(["apt-get", "install", "-y", *wanted], stdout=sys.stderr, check=True)
+        for words in packages.commands(wanted) if wanted else ():
+            subprocess.run(words, stdout=sys.stderr, check=True)
     except (OSError, subprocess.CalledProcessError) as fault:
         raise Fault(f"{fault}\ninstall {' '.join(PACKAGES)} as root, and say --no-install") from fault
 

@@ -1,0 +1,177 @@
+"""The front: it hands the messages of a UFS host controller to the device, and the answers to the controller.
+
+A message goes to the device as it is, and its answer comes back as it is, but for two things. What `answers`
+knows is answered there. And task management has tags of its own, 0 to 7, which commands use too, so they are
+mapped.
+
+The dies work when a command waits for them, when much is only in the write cache, and when the host is quiet.
+So what was not flushed is lost in a power cut, as with a device that has a write cache.
+"""
+from __future__ import annotations
+
+import itertools
+import sys
+import time
+from typing import Dict, Iterator
+
+from butcherford import Device, MessageFault
+from butcherford.messages import BUSY, Code, big, data_out, header, read_reply
+
+import answers
+from dies import Dies
+from transfers import Memory, Status, Transfer, TransferFault, gather, scatter
+from ufshci import MANAGEMENT_SLOTS, SLOTS, Controller
+from vhost_user import PeerFault
+
+KIND_MASK = 0x3F
+TAG_AT, LUN_AT = 3, 2
+ABORT_TASK = 0x01
+TASK_MANAGEMENT_REQUEST = 0x04
+# The tags of the host's task management are mapped to the second range, and the front's own requests have the
+# third one. The package `butcherford` uses 80h and above.
+HOST_TAGS = range(SLOTS)
+MANAGEMENT_TAGS = range(0x40, 0x40 + MANAGEMENT_SLOTS)
+OWN_TAGS = range(0x60, 0x80)
+# So long the dies work before the host's reads of registers are looked at again.
+WORK_SECONDS = 0.002
+
+
+class Front:
+    """Stands between a controller and a device. `most_kept` blocks may be in the write cache alone."""
+
+    def __init__(self, device: Device, dies: Dies, controller: Controller, memory: Memory,
+                 most_kept: int) -> None:
+        self._device = device
+        self._dies = dies
+        self._controller = controller
+        self._memory = memory
+        self._most_kept = most_kept
+        self._open: Dict[int, Transfer] = {}
+        self._managed: Dict[int, int] = {}
+        self._own_tags: Iterator[int] = itertools.cycle(OWN_TAGS)
+        self._kept = 0
+        self._is_draining = False
+
+    # What the controller asks
+
+    def begin(self, transfer: Transfer) -> None:
+        """A transfer begins: it is answered here, or goes to the device."""
+        kind = transfer.request[0] & KIND_MASK
+        if kind == Code.QUERY_REQUEST:
+            response = answers.query_answer(self._device, transfer.request)
+            if response is not None:
+                self._controller.finish(transfer, response)
+                return
+        elif kind == Code.COMMAND:
+            answer = answers.command_answer(self._device, transfer.request)
+            if answer is not None:
+                scatter(self._memory, transfer.buffers, 0, answer.data)
+                self._controller.finish(transfer, answer.response)
+                return
+        self._ask(transfer)
+
+    def _ask(self, transfer: Transfer) -> None:
+        if transfer.tag not in HOST_TAGS:
+            text = f"the task tag is {transfer.tag}, and has to be below {SLOTS}"
+            raise TransferFault(Status.INVALID_COMMAND_TABLE, text)
+        try:
+            self._device.host(transfer.request)
+        except MessageFault as fault:
+            text = f"the device takes no such message: {fault}"
+            raise TransferFault(Status.INVALID_COMMAND_TABLE, text) from fault
+        self._open[transfer.tag] = transfer
+
+    def manage(self, slot: int, request: bytes) -> None:
+        """A task management request (JESD220, 10.7.6) goes to the device under a tag that no command has."""
+        tag = MANAGEMENT_TAGS[slot]
+        try:
+            self._device.host(with_tag(request, tag))
+        except MessageFault as fault:
+            print(f"front: the device takes no such task management request: {fault}", file=sys.stderr)
+            self._controller.finish_management(slot, b"", Status.INVALID_COMMAND_TABLE)
+            return
+        self._managed[tag] = request[TAG_AT]
+
+    def drop(self, slot: int) -> None:
+        """The host wants no end of the transfer in this slot: the device aborts it, if it still has it."""
+        for transfer in [it for it in self._open.values() if it.slot == slot]:
+            self._abort(transfer)
+
+    def reset(self) -> None:
+        """The controller was reset: the device aborts what is open, and no answer is handed on."""
+        opened = list(self._open.values())
+        self._open.clear()
+        self._managed.clear()
+        for transfer in opened:
+            self._abort(transfer)
+            self._hear_all()
+
+    def _abort(self, transfer: Transfer) -> None:
+        self._open.pop(transfer.tag, None)
+        lun = transfer.request[LUN_AT]
+        fields = big(lun, 4) + big(transfer.tag, 4)
+        tag = next(self._own_tags)
+        self._device.host(header(TASK_MANAGEMENT_REQUEST, lun, tag, fields, function=ABORT_TASK))
+
+    # What the device answers
+
+    def work(self) -> bool:
+        """Hands on what the device answers, and lets the dies work. Says whether there is more to do."""
+        end = time.monotonic() + WORK_SECONDS
+        while time.monotonic() < end:
+            self._hear_all()
+            if not (self._open or self._is_draining):
+                return False
+            if not self._dies.round():
+                self._kept, self._is_draining = 0, False
+                return False
+        return True
+
+    def rest(self) -> bool:
+        """The host is quiet: what is in the write cache goes to the dies. Says whether there is any."""
+        self._is_draining = self._is_draining or self._kept > 0
+        return self._is_draining
+
+    def _hear_all(self) -> None:
+        reply = self._device.reply()
+        while reply is not None:
+            self._hear(reply)
+            reply = self._device.reply()
+
+    def _hear(self, reply: bytes) -> None:
+        """Hands on a reply. That of a transfer that was given up, or of a request of the front, ends here."""
+        tag = reply[TAG_AT]
+        if tag in self._managed:
+            request_tag = self._managed.pop(tag)
+            self._controller.finish_management(MANAGEMENT_TAGS.index(tag), with_tag(reply, request_tag))
+        elif tag in self._open:
+            self._hand_on(self._open[tag], reply)
+
+    def _hand_on(self, transfer: Transfer, reply: bytes) -> None:
+        try:
+            self._carry(transfer, reply)
+        except (TransferFault, PeerFault) as fault:
+            print(f"front: slot {transfer.slot}: {fault}", file=sys.stderr)
+            status = fault.status if isinstance(fault, TransferFault) else Status.FATAL_ERROR
+            self._abort(transfer)
+            self._controller.finish(transfer, b"", status)
+
+    def _carry(self, transfer: Transfer, reply: bytes) -> None:
+        told = read_reply(reply)
+        if told.code == Code.DATA_IN:
+            scatter(self._memory, transfer.buffers, told.offset, told.data)
+        elif told.code == Code.READY_TO_TRANSFER:
+            data = gather(self._memory, transfer.buffers, told.offset, told.count)
+            self._device.host(data_out(transfer.request[LUN_AT], transfer.tag, told.offset, data))
+            self._kept += 1
+            self._is_draining = self._is_draining or self._kept > self._most_kept
+        else:
+            # Without room in the write cache the host tries again: so the dies make room.
+            self._is_draining = self._is_draining or (told.code == Code.RESPONSE and told.status == BUSY)
+            self._controller.finish(transfer, reply)
+            del self._open[transfer.tag]
+
+
+def with_tag(message: bytes, tag: int) -> bytes:
+    """The message under another task tag."""
+    return message[:TAG_AT] + bytes([tag]) + message[TAG_AT + 1:]
