@@ -1,8 +1,8 @@
-//! Each public function of the lower crates once, what the worked rows say of contents, the
-//! comparison of journals, victims and plans, area pages that are written in part, the newest pages
-//! of keys, RPMB regions of different sizes, what queries and units tell, lists of UNMAP, pages of
-//! zeros, and pages of both versions. Expected bytes come from the device's formats and from the
-//! standards, never from the program's own output.
+//! Each public function of the lower crates once, what the worked rows say of contents, victims and
+//! plans, area pages that are written in part, the newest pages of keys, RPMB regions of different
+//! sizes, what queries and units tell, lists of UNMAP, pages of zeros, and pages of both versions.
+//! Expected bytes come from the device's formats and from the standards, never from the program's
+//! own output.
 #![tactic(auto)]
 
 #[cfg(test)]
@@ -15,8 +15,6 @@ mod faulty_die;
 mod frames;
 #[cfg(test)]
 mod hostile_frames;
-#[cfg(test)]
-mod journals;
 #[cfg(test)]
 mod last_pages;
 #[cfg(test)]
@@ -34,21 +32,15 @@ mod query_rows;
 #[cfg(test)]
 mod regions;
 #[cfg(test)]
-mod rpmb_journals;
-#[cfg(test)]
 mod rpmb_rows;
 #[cfg(test)]
 mod scans;
 #[cfg(test)]
 mod scans_by_workers;
 #[cfg(test)]
-mod setting_journals;
-#[cfg(test)]
 mod settings_pages;
 #[cfg(test)]
 mod unit_rows;
-#[cfg(test)]
-mod unmap_journals;
 #[cfg(test)]
 mod unmap_lists;
 #[cfg(test)]
