@@ -1,7 +1,7 @@
 #!/usr/bin/env python3
 """Runs a program on its stored cases, and compares what it prints with what is stored.
 
-usage: cases.py [--proved | --write] ufsim|ufstool
+usage: cases.py [--proved | --write | --built RUN] [--part PART PARTS] ufsim|ufstool
 
 A case of ufsim is a script examples/NAME.txt, which it runs, a script over an image of dies in
 examples/version_1/, or wrong words in tools/bad_calls/. A case of ufstool lies in
@@ -11,12 +11,14 @@ NAME.stdout on standard output and NAME.stderr on standard error (nothing, if th
 file), and to end with the status in NAME.status (0, if there is no such file). The outputs of a
 script are named after its whole name, as NAME.txt.stdout.
 
-The program is built once, without a proof. With --proved both programs are run that `rt ci` has
-proved and built here: LLVM's, and that of Rattle's own compiler. Only these run the cases that check
-a script over an image, since an unproved program, with its checks, takes seconds for each stop. Those
-of ufsim are also run where standard output cannot be written, on a full disk and on a pipe that
-nobody reads, and have to say so; and where standard error is a terminal, on which a check has to show
-how far it is. With --write the stored files are written anew: read them then.
+The program is built once, without a proof, but with --built RUN is run, as tools/kept.py keeps it.
+With --part only each case is run whose place, counted by PARTS, is PART, so that several processes
+share the cases. With --proved both programs are run that `rt ci` has proved and built here: LLVM's,
+and that of Rattle's own compiler. Only these run the cases that check a script over an image, since
+an unproved program, with its checks, takes seconds for each stop. Those of ufsim are also run where
+standard output cannot be written, on a full disk and on a pipe that nobody reads, and have to say so;
+and where standard error is a terminal, on which a check has to show how far it is. With --write the
+stored files are written anew: read them then.
 
 The last line is 'N passed, M failed'. The status is 0 if no case failed and there is one.
 """
@@ -34,6 +36,7 @@ import tempfile
 from typing import NamedTuple, Tuple
 
 from crates import ROOT
+from kept import kept
 
 EXAMPLES = ROOT / "examples"
 WRONG_WORDS = ROOT / "tools" / "bad_calls"
@@ -136,21 +139,8 @@ def cases_of(program):
 
 def tried(program, cases, root=ROOT):
     """What the program of a repository printed in each case, as `rt try` builds it once, and what rt said."""
-    named = {word: file for case in cases for word, file in case.files().items()}
-    with tempfile.TemporaryDirectory(prefix="cases.") as folder, tempfile.TemporaryDirectory(prefix="data.") as laid:
-        for word, file in named.items():
-            lay(file, pathlib.Path(laid, word))
-        data = [it for word in sorted(named) for it in ("--data", f"{word}={pathlib.Path(laid, word)}")]
-        for case in cases:
-            place = pathlib.Path(folder, case.name)
-            place.write_bytes(b"")
-            if case.words:
-                text = "".join(f"{it}\n" for it in case.words)
-                place.with_name(f"{case.name}.args").write_text(text, encoding="utf-8")
-        command = ["rt", "try", "--steps", "1", "--seconds", str(TRY_SECONDS), "--cases", folder, *data]
-        done = subprocess.run(command, cwd=root / "crates" / f"{program}_main", **HOW)
-    outputs, endings = outputs_of(done.stdout), endings_of(done.stderr)
-    return {name: Output(outputs.get(name, ""), *ending) for name, ending in endings.items()}, done.stderr
+    with kept(f"{program}_main", root=root) as (built, said):
+        return (ran(built, cases, TRY_SECONDS) if built else {}), said
 
 
 def outputs_of(printed):
@@ -181,13 +171,13 @@ def folder_for(case):
         yield folder
 
 
-def ran(built, cases):
-    """What a built program printed in each case."""
+def ran(built, cases, seconds=SECONDS):
+    """What a built program printed in each case, which has so many seconds."""
     found = {}
     for case in cases:
         with folder_for(case) as folder:
             try:
-                done = subprocess.run([built, *case.words], cwd=folder, env={}, timeout=SECONDS, **HOW)
+                done = subprocess.run([built, *case.words], cwd=folder, env={}, timeout=seconds, **HOW)
                 found[case.name] = Output(done.stdout, done.stderr, done.returncode)
             except (OSError, subprocess.TimeoutExpired) as fault:
                 found[case.name] = Output("", f"{fault}\n", -1)
@@ -314,13 +304,15 @@ def main():
     how = parser.add_mutually_exclusive_group()
     how.add_argument("--proved", action="store_true", help="run the programs that rt ci has built here")
     how.add_argument("--write", action="store_true", help="write anew what is stored of each case")
+    how.add_argument("--built", metavar="RUN", help="run this program, which was built without a proof")
+    parser.add_argument("--part", type=int, nargs=2, default=(0, 1), help="run only this part of so many parts")
     asked = parser.parse_args()
     cases = cases_of(asked.program)
     if asked.proved:
         passed, count = proved(asked.program, cases)
     else:
-        cases = [case for case in cases if not case.is_long()]
-        found, said = tried(asked.program, cases)
+        cases = [case for case in cases if not case.is_long()][asked.part[0] :: asked.part[1]]
+        found, said = (ran(asked.built, cases, TRY_SECONDS), "") if asked.built else tried(asked.program, cases)
         for case in cases if asked.write else ():
             if case.name in found:
                 case.write(found[case.name])

@@ -9,14 +9,12 @@ its end, and else 1.
 """
 import pathlib
 import re
-import shutil
 import signal
 import subprocess
 import sys
-import tempfile
 import time
 
-CRATE = pathlib.Path(__file__).resolve().parent.parent / "crates" / "ufsim_main"
+from kept import kept
 
 # Two hexadecimal digits a byte.
 SHOWN = 2 * 32
@@ -41,25 +39,11 @@ def gives_output(line):
     return line != "" and not line.startswith("#") and words[:1] not in (["config"], ["unit"])
 
 
-def tried(scripts):
-    """What `rt try` said of the program on each of these scripts: it builds once, with no proof."""
-    with tempfile.TemporaryDirectory(prefix="demo.") as folder:
-        for script in scripts:
-            shutil.copy(script, folder)
-        words = ["rt", "try", "--cases", folder, "--", "run", "{}"]
-        how = {"stdin": subprocess.DEVNULL, "stdout": subprocess.PIPE, "stderr": subprocess.PIPE, "errors": "replace"}
-        return subprocess.run(words, cwd=CRATE, check=False, **how)
-
-
-def outputs_of(printed, script):
-    """The lines that the program printed for one script."""
-    part = re.search(rf"^== {re.escape(script.name)}\n((?:(?!== ).*\n)*)", printed, re.M)
-    return part[1].splitlines() if part else []
-
-
-def ended_well(told, script):
-    """Whether the program ran the script to its end."""
-    return re.search(rf"^case={re.escape(script.name)} run=ended status=0 ", told, re.M) is not None
+def ran(program, script):
+    """What the program printed of a script, what it said, and its status."""
+    how = {"stdin": subprocess.DEVNULL, "capture_output": True, "encoding": "utf-8", "errors": "replace"}
+    done = subprocess.run([program, "run", script], check=False, **how)
+    return done.stdout.splitlines(), done.stderr, done.returncode
 
 
 def show(script, printed):
@@ -76,28 +60,37 @@ def show(script, printed):
     return next(outputs, None) is None
 
 
-def main(scripts):
-    print("butcherford: building the program without proving it; this takes a minute or two", flush=True)
-    began = time.monotonic()
-    ran = tried(scripts)
-    if not re.search(r"^case=\S+ run=(?!none)", ran.stderr, re.M):
-        print(ran.stderr[-4000:], file=sys.stderr)
-        print("butcherford: the program was not built, for what the lines above say", file=sys.stderr)
-        return 1
-    took = round(time.monotonic() - began)
-    print(f"butcherford: built without proving, in {took} s; `make prove` proves it, and takes an hour or more the first time")
-    for script in scripts:
-        if not (show(script, outputs_of(ran.stdout, script)) and ended_well(ran.stderr, script)):
+def shown(scripts, runs):
+    """Shows each script with its run. It gives the status: 1 at the first that did not run to its end."""
+    for script, (printed, said, status) in zip(scripts, runs):
+        if not (show(script, printed) and status == 0):
             sys.stdout.flush()
-            print(ran.stderr[-4000:], file=sys.stderr)
+            print(said[-4000:], file=sys.stderr)
             print(f"butcherford: {script} did not run to its end, for what the lines above say", file=sys.stderr)
             return 1
     return 0
 
 
+def main(scripts):
+    print("butcherford: building the program without proving it; this takes a minute or two", flush=True)
+    began = time.monotonic()
+    with kept("ufsim_main") as (program, said):
+        runs = [ran(program, script) for script in scripts] if program else []
+    if not runs:
+        print(said[-4000:], file=sys.stderr)
+        print("butcherford: the program was not built, for what the lines above say", file=sys.stderr)
+        return 1
+    took = round(time.monotonic() - began)
+    print(f"butcherford: built without proving, in {took} s; `make prove` proves it, and takes an hour or more "
+          "the first time")
+    return shown(scripts, runs)
+
+
 if __name__ == "__main__":
-    # So that neither a closed pipe nor Ctrl-C is told as a fault of this tool.
+    # So that neither a closed pipe nor Ctrl-C is told as a fault of this tool, and that what it made goes if it is
+    # stopped.
     signal.signal(signal.SIGPIPE, signal.SIG_DFL)
+    signal.signal(signal.SIGTERM, lambda number, frame: sys.exit(128 + number))
     if len(sys.argv) < 2:
         print("usage: demo.py SCRIPT..", file=sys.stderr)
         sys.exit(2)

@@ -14,26 +14,21 @@ commands of 128 blocks. ufsim is built without a proof, once, but with --program
 """
 import argparse
 import collections
-import contextlib
 import copy
 import itertools
 import lzma
-import os
 import pathlib
 import random
-import re
-import shutil
 import signal
 import subprocess
 import sys
 import tempfile
-import time
 from typing import NamedTuple, Tuple
 
 import plain_host as plain
-from cases import OLD_DIES, TRY_SECONDS, lay
-from crates import ROOT
+from cases import OLD_DIES, lay
 from every_command import big, frame, header, transfer
+from kept import kept
 from plain_host import MANY, SURE, Model, event_of
 
 # A script takes a second or two.
@@ -559,31 +554,6 @@ def text_of(lines):
     return "".join(f"{it}\n" for it in lines).encode("latin-1")
 
 
-def built(folder):
-    """The words that run ufsim, as `rt try` builds it once: rt runs it on a script that is a pipe, and there it waits
-    until it was copied to the folder. Each case of rt would be built anew."""
-    cases, pipe, program = folder / "cases", folder / "pipe", folder / "ufsim"
-    cases.mkdir()
-    os.mkfifo(pipe)
-    cases.joinpath("fuzz").write_bytes(b"")
-    cases.joinpath("fuzz.args").write_text(f"run\n{pipe}\n", encoding="utf-8")
-    words = ["rt", "try", "--steps", "1", "--seconds", str(TRY_SECONDS), "--cases", str(cases)]
-    quiet = {it: subprocess.DEVNULL for it in ("stdin", "stdout", "stderr")}
-    rt = subprocess.Popen(words, cwd=ROOT / "crates" / "ufsim_main", **quiet)
-    runs, found = re.compile(rf"(.*\0)?([^\0]+)\0run\0{re.escape(str(pipe))}\0"), None
-    while rt.poll() is None and not found:
-        time.sleep(1)
-        for words in pathlib.Path("/proc").glob("[0-9]*/cmdline"):
-            with contextlib.suppress(OSError):
-                found = found or runs.fullmatch(words.read_bytes().decode("latin-1"))
-    if found:
-        # What stands before the program loads it.
-        shutil.copy(found[2], program)
-        pipe.write_bytes(text_of(["config 1 40 16 1 64 0", "unit 16 0 0"]))
-    rt.wait()
-    return [*(found[1] or "").split("\0")[:-1], str(program)] if found else []
-
-
 def by_program(program, scripts):
     """What a program prints of each script, on standard output and on standard error, and its status."""
     with tempfile.TemporaryDirectory(prefix="fuzz.") as folder:
@@ -592,7 +562,7 @@ def by_program(program, scripts):
             file.write_bytes(text_of(lines))
             words = ["image", "load", image_of(kept, folder)] if kept else ["run"]
             try:
-                done = subprocess.run([*program, *words, str(file)], stdin=subprocess.DEVNULL, capture_output=True,
+                done = subprocess.run([program, *words, str(file)], stdin=subprocess.DEVNULL, capture_output=True,
                                       encoding="latin-1", timeout=SECONDS, check=False)
                 yield place, lines, kept, done.stdout, done.stderr, done.returncode
             except subprocess.TimeoutExpired:
@@ -693,10 +663,11 @@ def main():
     parser.add_argument("--long", type=int, default=0, help="how many scripts have commands of 128 blocks (none)")
     parser.add_argument("--over", type=int, default=0, help="how many scripts there are over each image (none)")
     asked = parser.parse_args()
-    with tempfile.TemporaryDirectory(prefix="fuzz.") as folder:
-        program = [str(asked.program.absolute())] if asked.program else built(pathlib.Path(folder))
-        if not program:
-            print("fuzz: rt built no ufsim", file=sys.stderr)
+    if asked.program:
+        return run(asked, str(asked.program.absolute()))
+    with kept("ufsim_main") as (program, said):
+        if program is None:
+            print(f"{said[-4000:]}fuzz: rt built no ufsim", file=sys.stderr)
             return 1
         return run(asked, program)
 

@@ -1,28 +1,28 @@
 #!/usr/bin/env python3
 """Plays short rows of lives one after another by the program power_cycles, built without a proof.
 
-usage: power_cycles.py
+usage: power_cycles.py [--built RUN] [PLAN..]
 
 The program is built once, with checks that stop it at a fault, so it is slow: the rows are short ones of one die, and
-`make power-cycles` plays all rows by the proved program. A row is right if the program says that it played all its
+`make power-cycles` plays all rows by the proved program. With --built RUN is run, as tools/kept.py keeps it. With
+plans only their rows are played. A row is right if the program says that it played all its
 lives, and that the device got stuck in none and lost no block. Its line is shown. The last line is 'N passed, M
 failed', and the status is 0 only if none failed.
 """
 import argparse
-import pathlib
 import re
+import signal
 import subprocess
 import sys
-import tempfile
 from typing import NamedTuple
 
-from crates import ROOT
+from kept import kept
 
-CRATE = ROOT / "crates" / "power_cycles"
 # One die, whose 31 blocks are used up by as many lives where none of them is gained again.
 DIES = 1
 # A row has so many seconds.
 SECONDS = 900
+HOW = {"stdin": subprocess.DEVNULL, "capture_output": True, "text": True, "check": False}
 
 
 class Row(NamedTuple):
@@ -31,38 +31,23 @@ class Row(NamedTuple):
     plan: str
     lives: int
 
-    def case(self):
-        """The name of its case, which may have no minus sign."""
-        return self.plan.replace("-", "_")
-
     def is_right(self, printed, status):
         """Whether the program ended well, and played all lives."""
         wanted = rf"{self.plan}: dies {DIES} lives {self.lives} jobs \d+ rounds \d+ stuck 0 lost 0\n"
-        return status == "0" and re.fullmatch(wanted, printed) is not None
+        return status == 0 and re.fullmatch(wanted, printed) is not None
 
 
 ROWS = (Row("no-write", 36), Row("one-write", 36), Row("each-job", 12))
 
 
-def write_cases(folder):
-    """A case for each row, with its words."""
-    for row in ROWS:
-        place = pathlib.Path(folder, row.case())
-        place.write_text("", encoding="utf-8")
-        words = "".join(f"{it}\n" for it in (row.plan, DIES, row.lives))
-        place.with_name(f"{place.name}.args").write_text(words, encoding="utf-8")
-
-
-def tried():
-    """What the program printed of each row, its statuses, and what rt said."""
-    with tempfile.TemporaryDirectory(prefix="power_cycles.") as folder:
-        write_cases(folder)
-        command = ["rt", "try", "--steps", "1", "--seconds", str(SECONDS), "--cases", folder]
-        how = {"stdin": subprocess.DEVNULL, "capture_output": True, "text": True, "check": False}
-        done = subprocess.run(command, cwd=CRATE, **how)
-    parts = re.split(r"^== (\w+)\n", done.stdout, flags=re.MULTILINE)
-    ended = dict(re.findall(r"^case=(\S+) run=ended status=(\d+) ", done.stderr, re.MULTILINE))
-    return dict(zip(parts[1::2], parts[2::2])), ended, done.stderr
+def played(program, row):
+    """What the program printed of a row, and its status."""
+    words = [program, row.plan, str(DIES), str(row.lives)]
+    try:
+        done = subprocess.run(words, timeout=SECONDS, **HOW)
+    except subprocess.TimeoutExpired as fault:
+        return str(fault), -1
+    return done.stdout, done.returncode
 
 
 def is_good(row, printed, status):
@@ -72,15 +57,29 @@ def is_good(row, printed, status):
     return is_right
 
 
-def main():
-    argparse.ArgumentParser(description="Plays short rows of lives one after another.").parse_args()
-    printed, ended, said = tried()
-    good = [is_good(row, printed.get(row.case(), ""), ended.get(row.case(), "none")) for row in ROWS]
-    if not all(good):
-        print(said[-2000:])
+def judged(program, rows):
+    """Plays these rows, tells how many are right, and gives the status."""
+    good = [is_good(row, *played(program, row)) for row in rows]
     print(f"{good.count(True)} passed, {good.count(False)} failed")
-    return 0 if all(good) else 1
+    return 0 if good and all(good) else 1
+
+
+def main():
+    parser = argparse.ArgumentParser(description="Plays short rows of lives one after another.")
+    parser.add_argument("plans", nargs="*", metavar="PLAN", help="only the rows of these plans")
+    parser.add_argument("--built", metavar="RUN", help="run this program, which was built without a proof")
+    asked = parser.parse_args()
+    rows = [row for row in ROWS if not asked.plans or row.plan in asked.plans]
+    if asked.built:
+        return judged(asked.built, rows)
+    with kept("power_cycles") as (program, said):
+        if program is None:
+            print(f"{said[-4000:]}power_cycles: rt built no program", file=sys.stderr)
+            return 1
+        return judged(program, rows)
 
 
 if __name__ == "__main__":
+    # So that what it made goes also if it is stopped.
+    signal.signal(signal.SIGTERM, lambda number, frame: sys.exit(128 + number))
     sys.exit(main())

@@ -22,14 +22,13 @@ import threading
 from typing import NamedTuple, Tuple
 
 from cases import HOW, TRY_SECONDS, Output, endings_of, outputs_of
+from kept import LOOK_SECONDS, end_names_check, loader_of
 
 # The number of the allocation that is refused. No program that is tried makes as many of its own.
 REFUSED = 4000
 # What a program says at its end, and a line of rt itself.
 LEFT = re.compile(r"left (\d+)\n\Z")
 OF_RT = re.compile(r"^allocations: .*\n", re.MULTILINE)
-# The program is looked for so often: rt has it in a folder while it runs, for some hundredths of a second.
-LOOK_SECONDS = 0.01
 
 
 class Fault(Exception):
@@ -79,12 +78,13 @@ class Program:
             self.loader = loader_of(file) if self.loader is None else self.loader
 
     @contextlib.contextmanager
-    def looked_for(self, below):
-        """Looks for the program again and again, until it is kept, or what is done meanwhile has ended."""
+    def looked_for(self, below, rt):
+        """Looks for the program of this rt again and again, until it is kept, or what is done meanwhile has ended."""
         is_over = threading.Event()
 
         def look_on():
             while not self.is_kept() and not is_over.wait(LOOK_SECONDS):
+                end_names_check(rt)
                 # A folder may go while it is looked at.
                 with contextlib.suppress(OSError):
                     self.look(below)
@@ -154,16 +154,6 @@ def jobs_here(asked):
     return min(asked, processors) if asked > 0 else processors
 
 
-def loader_of(file):
-    """The words before this program in those of the process that runs it; None, if there is none."""
-    for place in pathlib.Path("/proc").glob("[0-9]*/cmdline"):
-        with contextlib.suppress(OSError):
-            words = place.read_bytes().decode("utf-8", "replace").split("\0")
-            if str(file) in words:
-                return words[: words.index(str(file))]
-    return None
-
-
 def write_cases(folder, cases):
     for name, case in cases.items():
         pathlib.Path(folder, name).write_text(case.given, encoding="utf-8")
@@ -176,13 +166,19 @@ def built(crate, cases, folder, data=()):
     of data lie beside it."""
     program, below = Program(folder, data), folder / "below"
     below.mkdir()
-    with tempfile.TemporaryDirectory(prefix="refusals.") as stored, program.looked_for(below):
+    with tempfile.TemporaryDirectory(prefix="refusals.") as stored:
         write_cases(stored, {str(number): case for number, case in enumerate(cases)})
         flags = ["--steps", "1", "--seconds", str(TRY_SECONDS), "--fail-alloc", str(REFUSED)]
         files = [it for file in data for it in ("--data", f"{file.name}={file}")]
-        how = {**HOW, "cwd": crate, "env": {**os.environ, "TMPDIR": str(below)}}
-        done = subprocess.run(["rt", "try", *flags, "--cases", stored, *files], **how)
-    runs = runs_of([str(number) for number in range(len(cases))], done.stdout, OF_RT.sub("", done.stderr))
+        how = {"stdin": subprocess.DEVNULL, "stdout": subprocess.PIPE, "stderr": subprocess.PIPE, "encoding": "utf-8",
+               "errors": "replace", "cwd": crate, "env": {**os.environ, "TMPDIR": str(below)}}
+        with subprocess.Popen(["rt", "try", *flags, "--cases", stored, *files], **how) as rt, \
+                program.looked_for(below, rt):
+            try:
+                printed, said = rt.communicate()
+            finally:
+                rt.terminate()
+    runs = runs_of([str(number) for number in range(len(cases))], printed, OF_RT.sub("", said))
     program.seen = dict(zip(cases, runs.values()))
     return program
 

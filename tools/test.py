@@ -3,24 +3,27 @@
 
 usage: test.py [--list] [--jobs N] [GROUP..]
 
-`rt try` builds each crate of tests and each program, with checks that stop it at a fault. No proof
-is made: `make prove` does that. A crate of tests is one of crates.txt with a function under
-#[test]. One whose name begins with test_long is left out and named: `rt ci` runs it. As many groups
-run side by side as there are processors, and as memory allows.
+`rt try` builds each crate of tests and each program, with checks that stop it at a fault, and
+tools/kept.py keeps what it built: once, for all groups that need it. No proof is made: `make prove`
+does that. A crate of tests is one of crates.txt with a function under #[test]. One whose name begins
+with test_long is left out and named: `rt ci` runs it. A long group is cut into pieces. As many builds
+and pieces run side by side as there are processors, and as memory allows: the builds come first.
 
-Each group has a line as it ends. Of one that failed all that it said is shown. The last line is 'N
-passed, M failed'. The status is 0 only if nothing failed and each group told its counts. With names
-only these groups run.
+Each group has a line as it ends, with the seconds of its pieces. Of one that failed all that it said
+is shown. The last line is 'N passed, M failed'. The status is 0 only if nothing failed and each piece
+told its counts. With names only these groups run.
 """
 import argparse
 import concurrent.futures
 import contextlib
 import os
+import pathlib
 import re
 import shutil
 import signal
 import subprocess
 import sys
+import tempfile
 import threading
 import time
 from typing import NamedTuple, Tuple
@@ -30,27 +33,28 @@ from crates import ROOT, lines_of
 HEAD = ("butcherford: this proves nothing, `make prove` does; "
         "it takes about 8 minutes on four processors, 15 on two")
 LONG = "test_long"
-# What a group takes of memory at most: the build by `rt try`, and the check for reserved names beside it.
+# What a build takes of memory at most, with the check for reserved names that begins beside it.
 GROUP_BYTES = 2_500_000_000
-# A single test has so many seconds: it runs with checks, and beside other groups.
-TEST_SECONDS = 300
+# What stands for the program in the words of a piece.
+PROGRAM = "{program}"
+# So many tests are in a piece, and so many scripts.
+TESTS_IN_PIECE, SCRIPTS_IN_PIECE = 3, 10
 PYTHON = sys.executable or "python3"
-# How tools tell their counts in the last line, how rt try tells those of tests, and how Python's
-# unittest does.
+# How tools tell their counts in the last line, and how Python's unittest does.
 COUNTS = re.compile(r"^(\d+) passed, (\d+) failed$", re.MULTILINE)
-TESTS = re.compile(
-    r"^test result: \w+\. (\d+) passed; (\d+) failed; (\d+) ignored; (\d+) filtered out$", re.MULTILINE)
 UNITTEST = re.compile(r"^Ran (\d+) tests? in .*\n\n(?:OK|FAILED)(?: \((.*)\))?$", re.MULTILINE)
 NOT_GOOD = re.compile(r"(?:failures|errors|unexpected successes|skipped)=(\d+)")
 
 
 class Group(NamedTuple):
-    """A group: its name, its command, the folder that this runs in, and its seconds, about."""
+    """A group: its name, the words of its pieces, the folder that they run in, and its seconds, about; and the words
+    that tools/kept.py needs to build its program: none, if it has none, or builds it by itself."""
 
     name: str
-    words: Tuple[str, ...]
+    pieces: Tuple[Tuple[str, ...], ...]
     folder: str
     seconds: int
+    needs: Tuple[str, ...] = ()
 
 
 class Told(NamedTuple):
@@ -69,35 +73,51 @@ def tests_in(crate):
     return sum(len(re.findall(r"^\s*#\[test\]", text, re.MULTILINE)) for text in texts)
 
 
+def fuzz_pieces(scripts):
+    """The words of the pieces of so many random scripts, and of some long ones and some over old dies."""
+    words = (PYTHON, "-B", "fuzz.py", "--program", PROGRAM)
+    firsts = range(1, scripts + 1, SCRIPTS_IN_PIECE)
+    plain = [(*words, "--first", str(it), "--scripts", str(SCRIPTS_IN_PIECE)) for it in firsts]
+    return *plain, (*words, "--long", "3"), (*words, "--over", "3")
+
+
+def parts(words, count):
+    """The words of so many pieces, each with the number of its part and their count."""
+    return tuple((*words, str(part), str(count)) for part in range(count))
+
+
+def tool_groups():
+    """The groups that are no crates of tests."""
+    tools, ufsim, ufstool = str(ROOT / "tools"), ("ufsim_main",), ("ufstool_main",)
+    cases = (PYTHON, "cases.py", "--built", PROGRAM)
+    lives = [(PYTHON, "power_cycles.py", "--built", PROGRAM, it) for it in ("no-write", "one-write", "each-job")]
+    return [
+        Group("ufsim: examples, old dies and wrong words", parts((*cases, "ufsim", "--part"), 6), tools, 200, ufsim),
+        Group("ufstool: stored cases", parts((*cases, "ufstool", "--part"), 6), tools, 200, ufstool),
+        Group("no memory after the opening", ((PYTHON, "refuse_memory.py", "--row"),), tools, 90),
+        Group("lives one after another", tuple(lives), tools, 150, ("power_cycles",)),
+        Group("fuzz: random scripts", fuzz_pieces(50), tools, 300, ufsim),
+        Group("texts of the wrong bodies", ((PYTHON, "wrong_bodies.py", "--texts"),), tools, 2),
+        Group("texts of the wrong rules", ((PYTHON, "turn_rules.py", "--texts"),), tools, 2),
+        Group("tests of the tools", ((PYTHON, "-B", "-m", "unittest", "discover", "tests"),), tools, 10),
+    ]
+
+
 def groups():
     """All groups."""
-    tools = str(ROOT / "tools")
-    found = [
-        Group("ufsim: examples, old dies and wrong words", (PYTHON, "cases.py", "ufsim"), tools, 200),
-        Group("ufstool: stored cases", (PYTHON, "cases.py", "ufstool"), tools, 200),
-        Group("no memory after the opening", (PYTHON, "refuse_memory.py", "--row"), tools, 90),
-        Group("lives one after another", (PYTHON, "power_cycles.py"), tools, 150),
-        Group("fuzz: random scripts", (PYTHON, "-B", "fuzz.py", "--scripts", "50", "--long", "3", "--over", "3"),
-              tools, 300),
-        Group("texts of the wrong bodies", (PYTHON, "wrong_bodies.py", "--texts"), tools, 2),
-        Group("texts of the wrong rules", (PYTHON, "turn_rules.py", "--texts"), tools, 2),
-        Group("tests of the tools", (PYTHON, "-B", "-m", "unittest", "discover", "tests"), tools, 10),
-    ]
+    found, words = tool_groups(), (PYTHON, "crate_tests.py", PROGRAM)
     for crate, count in {crate: tests_in(crate) for crate in lines_of()}.items():
         if count and not crate.startswith(LONG):
-            words = ("rt", "try", "--test", "--steps", "1", "--seconds", str(TEST_SECONDS))
-            folder = str(ROOT / "crates" / crate)
-            found.append(Group(f"tests of {crate}", words, folder, 40 + 5 * count))
+            pieces = parts(words, -(-count // TESTS_IN_PIECE))
+            found.append(Group(f"tests of {crate}", pieces, str(ROOT / "tools"), 40 + 5 * count, ("--test", crate)))
     return found
 
 
 def counts_in(text, status):
     """The counts that a group told. One that told none failed, as did one that ended badly though it
     told of no failure."""
-    plain, tests, unit = COUNTS.findall(text), TESTS.findall(text), UNITTEST.findall(text)
-    if tests:
-        passed, failed = int(tests[-1][0]), sum(map(int, tests[-1][1:]))
-    elif unit:
+    plain, unit = COUNTS.findall(text), UNITTEST.findall(text)
+    if unit:
         failed = sum(map(int, NOT_GOOD.findall(unit[-1][1])))
         passed = int(unit[-1][0]) - failed
     elif plain:
@@ -110,25 +130,53 @@ def counts_in(text, status):
 
 
 class Runner:
-    """Runs groups, and can stop those that run."""
+    """Builds programs and runs pieces, so many at a time, and can stop those that run."""
 
-    def __init__(self):
+    def __init__(self, jobs, folder):
+        self.slots, self.folder = threading.Semaphore(jobs), folder
         self.running, self.lock, self.is_stopped = set(), threading.Lock(), False
 
-    def run(self, group):
-        """Runs a group to its end."""
-        began = time.monotonic()
+    def run(self, words, folder):
+        """What a command printed, its status, and its seconds."""
         how = {"stdin": subprocess.DEVNULL, "stdout": subprocess.PIPE, "stderr": subprocess.STDOUT,
                "encoding": "utf-8", "errors": "replace", "start_new_session": True}
-        with self.lock:
-            if self.is_stopped:
-                return Told(0, 1, 0.0, "stopped\n")
-            ran = subprocess.Popen(group.words, cwd=group.folder, **how)
-            self.running.add(ran)
-        text, _ = ran.communicate()
-        with self.lock:
-            self.running.discard(ran)
-        return Told(*counts_in(text, ran.returncode), time.monotonic() - began, text)
+        with self.slots:
+            began = time.monotonic()
+            with self.lock:
+                if self.is_stopped:
+                    return "stopped\n", 1, 0.0
+                ran = subprocess.Popen(words, cwd=folder, **how)
+                self.running.add(ran)
+            text, _ = ran.communicate()
+            with self.lock:
+                self.running.discard(ran)
+            return text, ran.returncode, time.monotonic() - began
+
+    def place(self, needs):
+        """The folder of the program that is built with these words."""
+        return pathlib.Path(self.folder, needs[-1])
+
+    def build(self, needs):
+        """Builds a program. It gives what the builder said, and its status."""
+        place = self.place(needs)
+        place.mkdir()
+        return self.run((PYTHON, "kept.py", *needs, str(place)), str(ROOT / "tools"))[:2]
+
+    def piece(self, group, words):
+        """What came of a piece of a group, whose program is built."""
+        program = str(self.place(group.needs) / "run") if group.needs else ""
+        text, status, seconds = self.run([program if it == PROGRAM else it for it in words], group.folder)
+        return Told(*counts_in(text, status), seconds, text)
+
+    def group(self, group, build):
+        """What came of a group, whose program is this build's."""
+        said, status = build.result() if build else ("", 0)
+        if status != 0:
+            return Told(0, 1, 0.0, said)
+        with concurrent.futures.ThreadPoolExecutor(len(group.pieces)) as pool:
+            told = list(pool.map(lambda words: self.piece(group, words), group.pieces))
+        passed, failed, seconds, texts = zip(*told)
+        return Told(sum(passed), sum(failed), sum(seconds), "".join(texts))
 
     def stop(self, number, _):
         """Ends the groups that run, which remove what they made, and then this tool."""
@@ -159,17 +207,26 @@ def show(group, told):
     print(f"{group.name}: {counts}, {told.seconds:.0f} s", flush=True)
 
 
+def ends(runner, wanted):
+    """Each group as it ends, with what came of it. What takes longest is begun first."""
+    longest_first = sorted(wanted, key=lambda it: -it.seconds)
+    needs = dict.fromkeys(it.needs for it in longest_first if it.needs)
+    with concurrent.futures.ThreadPoolExecutor(len(needs) + len(wanted)) as pool:
+        builds = {it: pool.submit(runner.build, it) for it in needs}
+        begun = {pool.submit(runner.group, it, builds.get(it.needs)): it for it in longest_first}
+        for end in concurrent.futures.as_completed(begun):
+            yield begun[end], end.result()
+
+
 def run(wanted, jobs):
-    """Runs the groups, those that take longest first, and counts."""
-    runner, passed, failed = Runner(), 0, 0
-    signal.signal(signal.SIGTERM, runner.stop)
-    signal.signal(signal.SIGINT, runner.stop)
-    with concurrent.futures.ThreadPoolExecutor(jobs) as pool:
-        longest_first = sorted(wanted, key=lambda it: -it.seconds)
-        ends = {pool.submit(runner.run, group): group for group in longest_first}
-        for end in concurrent.futures.as_completed(ends):
-            told = end.result()
-            show(ends[end], told)
+    """Runs the groups, and counts."""
+    passed, failed = 0, 0
+    with tempfile.TemporaryDirectory(prefix="test.") as folder:
+        runner = Runner(jobs, folder)
+        signal.signal(signal.SIGTERM, runner.stop)
+        signal.signal(signal.SIGINT, runner.stop)
+        for group, told in ends(runner, wanted):
+            show(group, told)
             passed, failed = passed + told.passed, failed + told.failed
     print(f"{passed} passed, {failed} failed", flush=True)
     return 0 if failed == 0 and passed else 1

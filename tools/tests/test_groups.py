@@ -8,13 +8,6 @@ import tempfile
 import unittest
 
 TOOL = pathlib.Path(__file__).resolve().parent.parent / "test.py"
-RESULT = ("test result: {word}. {passed} passed; {failed} failed; 0 ignored; {left} filtered out\n"
-          "run=ended proved=no\n")
-
-
-def result(passed, failed=0, left=0):
-    """What rt try says of tests."""
-    return RESULT.format(word="FAILED" if failed else "ok", passed=passed, failed=failed, left=left)
 
 
 def loaded():
@@ -38,18 +31,11 @@ class Groups(unittest.TestCase):
             for number, text in enumerate(texts):
                 code = f"import sys; print({text!r}); sys.exit({'failing' in text:d})"
                 words = (sys.executable, "-c", code)
-                groups.append(self.tool.Group(f"group {number}", words, folder, number))
+                groups.append(self.tool.Group(f"group {number}", (words,), folder, number))
             printed = io.StringIO()
             with contextlib.redirect_stdout(printed):
                 status = self.tool.run(groups, 2)
         return status, printed.getvalue()
-
-    def test_counts_of_tests(self):
-        self.assertEqual((4, 0), self.tool.counts_in(result(4), 0))
-        self.assertEqual((3, 1), self.tool.counts_in(result(3, failed=1), 101))
-
-    def test_tests_that_were_left_out_did_not_pass(self):
-        self.assertEqual((4, 2), self.tool.counts_in(result(4, left=2), 0))
 
     def test_counts_of_a_tool(self):
         self.assertEqual((5, 0), self.tool.counts_in("1 passed, 1 failed\nmore\n5 passed, 0 failed\n", 0))
@@ -82,6 +68,22 @@ class Groups(unittest.TestCase):
         self.assertEqual(1, status)
         self.assertEqual("5 passed, 1 failed", printed.splitlines()[-1])
         self.assertIn("failing here", printed)
+
+    def test_a_group_has_the_counts_of_its_pieces(self):
+        with tempfile.TemporaryDirectory() as folder:
+            pieces = tuple((sys.executable, "-c", f"print('{it} passed, 0 failed')") for it in (2, 0, 5))
+            with contextlib.redirect_stdout(io.StringIO()) as printed:
+                status = self.tool.run([self.tool.Group("a group", pieces, folder, 1)], 2)
+        self.assertEqual(1, status)
+        self.assertIn("a group: 7 passed, 1 failed", printed.getvalue())
+
+    def test_a_group_whose_program_is_not_built_failed(self):
+        with tempfile.TemporaryDirectory() as folder:
+            group = self.tool.Group("a group", (("true", self.tool.PROGRAM),), folder, 1, ("no_crate",))
+            with contextlib.redirect_stdout(io.StringIO()) as printed:
+                status = self.tool.run([group], 2)
+        self.assertEqual(1, status)
+        self.assertIn("a group: 0 passed, 1 failed", printed.getvalue())
 
     def test_a_group_that_does_not_start_failed(self):
         status, printed = self.run_groups("failing before it tells", "3 passed, 0 failed")

@@ -164,7 +164,7 @@ fn failed_jobs_are_told_and_a_failed_program_locks(rt: HostRuntime) {
 /// first mark, and the program of a block that is written twice, with a stop of the script's own between.
 #[test]
 fn each_stop_of_a_script_is_checked(rt: HostRuntime) {
-    let first_lines = "config 2 32 64 1 64 4\nunit 4 0 0\nunit 2 1 0\n";
+    let first_lines = "config 2 20 16 1 64 0\nunit 4 0 0\nunit 2 1 0\n";
     let mut script = Script::over(rt.alloc(), first_lines);
     script.add(&[
         Settle("4"),

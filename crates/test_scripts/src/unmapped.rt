@@ -94,7 +94,7 @@ fn a_flush_makes_an_unmap_durable(rt: HostRuntime) {
 /// An UNMAP of eight blocks is one group: after a stop at any moment all of them are as before, or zeros.
 #[test]
 fn an_unmap_is_all_or_nothing(rt: HostRuntime) {
-    let mut script = Script::over(rt.alloc(), "config 2 32 64 1 64 4\nunit 12 0 0\n");
+    let mut script = Script::over(rt.alloc(), "config 2 20 16 1 64 0\nunit 12 0 0\n");
     script.add(&[
         Settle("4"),
         Command("012000", "01", "00008000", "2a0800000000000008"),
