@@ -10,15 +10,16 @@ ZSH = $(SHARE)/zsh/site-functions
 FISH = $(SHARE)/fish/vendor_completions.d
 LIB = $(DESTDIR)$(PREFIX)/lib
 PACKAGES = $(LIB)/python3/dist-packages
+CRATE = $(SHARE)/butcherford-rust
 INCLUDE = $(DESTDIR)$(PREFIX)/include
 # Of each program: itself, its manual page, and its completions for three shells.
 PROGRAMS := ufsim ufstool
 INSTALLED = $(foreach it,$(PROGRAMS),bin/$(it) share/man/man1/$(it).1 share/bash-completion/completions/$(it) \
 	share/zsh/site-functions/_$(it) share/fish/vendor_completions.d/$(it).fish) \
-	include/ufs.h lib/libufs.a lib/pkgconfig/ufs.pc
+	include/ufs.h include/ufs_dies.h lib/libufs.a lib/pkgconfig/ufs.pc
 
 .PHONY: help demo test prove format install uninstall bench collection peers stress fuzz wrong-bodies check-sees turned-rules \
-	refused-memory power-cycles c-example clients
+	refused-memory power-cycles c-example clients linux price-of-c
 
 help:
 	@echo 'make demo                  shows a write, a read and six stops; builds without proving, two minutes'
@@ -28,13 +29,20 @@ help:
 	@echo 'make format                lays out the code and the proofs of every crate as make prove wants them'
 	@echo 'make install PREFIX=DIR    proves and builds ufsim and ufstool, and copies them to DIR/bin, with'
 	@echo '                           their manual pages and completions to DIR/share; the library for C to DIR/lib, and'
-	@echo '                           its header to DIR/include; the Python package to DIR/lib/python3/dist-packages'
+	@echo '                           its header to DIR/include; the Python package to DIR/lib/python3/dist-packages;'
+	@echo '                           the Rust crate to DIR/share/butcherford-rust'
 	@echo 'make uninstall PREFIX=DIR  removes what was installed (both: without PREFIX, DIR is $(PREFIX))'
 	@echo 'make c-example             proves and builds the library for C, and runs its examples, also under valgrind'
-	@echo 'make clients               proves and builds the library for C, and tests the Python package over it;'
-	@echo '                           installs pytest with apt-get, as root, where it is missing'
+	@echo 'make clients               proves and builds the library for C, tests the Python package over it, the Rust'
+	@echo '                           crate where cargo is there, and runs iscsi-test-cu, fio and ext4 on the device;'
+	@echo '                           installs what is missing of pytest and of these with apt-get, as root'
+	@echo 'make linux                 proves and builds the library for C, and runs the UFS driver of Linux over it, with'
+	@echo '                           twenty power cuts; builds user-mode Linux once, which takes ten minutes, and'
+	@echo '                           installs what that needs with apt-get, as root, where it is missing'
 	@echo 'make bench                 times writes and reads, also among threads, and each call by itself on a small'
 	@echo '                           and on a large device, after it proves what they need'
+	@echo 'make price-of-c            times a durable write through the library for C beside the same in Rattle, after'
+	@echo '                           it proves what both need'
 	@echo 'make collection            counts the pages that a device programs for each that is written, once it'
 	@echo '                           collects, and the same of a simulation'
 	@echo 'make peers                 times durable writes and reads of SQLite, LMDB and RocksDB beside one SHA-256;'
@@ -51,7 +59,7 @@ help:
 
 # Without the kit nothing can be proved or built. Under -q make runs nothing, adds no line of its own,
 # and ends with status 1.
-ifneq ($(filter demo test prove format install bench collection fuzz wrong-bodies check-sees turned-rules refused-memory power-cycles c-example clients,$(MAKECMDGOALS)),)
+ifneq ($(filter demo test prove format install bench collection fuzz wrong-bodies check-sees turned-rules refused-memory power-cycles c-example clients linux price-of-c,$(MAKECMDGOALS)),)
 ifeq ($(shell command -v rt 2>/dev/null),)
 $(shell echo "butcherford: the Rattle kit's command rt is not on the PATH; it is needed to prove and build" >&2)
 MAKEFLAGS += -q
@@ -89,11 +97,12 @@ install:
 		cp "completions/$$it.fish" '$(FISH)/' && \
 		echo "installed $(BIN)/$$it" || exit 1; \
 	done
-	@cp include/ufs.h '$(INCLUDE)/' && \
+	@cp include/ufs.h include/ufs_dies.h '$(INCLUDE)/' && \
 		cp crates/libufs/out/libufs.a '$(LIB)/' && \
 		sed 's|@PREFIX@|$(PREFIX)|' include/ufs.pc.in > '$(LIB)/pkgconfig/ufs.pc' && \
 		echo 'installed $(LIB)/libufs.a'
 	@python3 tools/clients.py install '$(PACKAGES)'
+	@python3 tools/rust_client.py install '$(CRATE)'
 
 uninstall:
 	@for it in $(INSTALLED); do \
@@ -105,6 +114,7 @@ uninstall:
 		fi; \
 	done
 	@python3 tools/clients.py uninstall '$(PACKAGES)'
+	@python3 tools/rust_client.py uninstall '$(CRATE)'
 
 c-example:
 	@python3 tools/libufs.py examples
@@ -112,10 +122,16 @@ c-example:
 clients:
 	@python3 -B tools/clients.py test
 
+linux:
+	@python3 -B tools/linux.py
+
 bench:
 	@cd crates/bench && rt run
 	@cd crates/bench && rt run -- lanes
 	@cd crates/bench && rt run -- sizes
+
+price-of-c:
+	@python3 tools/price_of_c.py
 
 collection:
 	@cd crates/bench && rt run -- collection
