@@ -1,7 +1,7 @@
 -- Pins of which no call speaks stay as they are.
 use Rattle.std.proofs.Common.{◌≡◌, ◌≢◌, ◌∙◌, ℕ, ◌+◌, ◌<◌, ◌==◌, Bool, true, false, ◌&&◌, not, cond, List, [], ◌∷◌}
 use Rattle.std.proofs.Common.{ap, arith, drop, map, refl, subst, sym, take, None, Some}
-use Rattle.std.specs.Prelude.{count_by, filter, find, fold, if◌then◌else◌}
+use Rattle.std.specs.Prelude.{Option, count_by, filter, find, fold, if◌then◌else◌, slice_index_or}
 use Rattle.std.proofs.lemmas.Bool.{and_right}
 use Rattle.std.proofs.lemmas.List.Sums.{sum_by-cons}
 use Rattle.ufs_spec.proofs.Facts.{eqb-self, eqb-true, false≢true, true≢false}
@@ -15,6 +15,7 @@ use Rattle.readers.specs.Pins.{block_pinned, block_unpinned, is_of_reader, is_ow
 use Rattle.readers.specs.Pins.{moved_pin, now_stored, pin_moves, wanted_no_more, wanted_now}
 use Rattle.readers.specs.Rows.{first_let_go, first_set, is_in_slot, is_slotted, is_wanted, starts_at, with_pins}
 use Rattle.readers.specs.Rows.{Rises, RowPins}
+use Rattle.readers.proofs.Rises.{count_on}
 
 -- no pin passes the test
 abbrev pub NoneOf : (Pin → Bool) → List Pin → Type 0
@@ -117,6 +118,20 @@ pub none_owed : (rows : List DieRow) (die : ℕ) (ps : List Pin) → NoneOf is_w
 none_owed rows die [] n = tt
 none_owed rows die (p ∷ ps) n =
     (ap (λ (b : Bool). is_owed_by rows die (record p { wanted = b })) n.0, none_owed rows die ps n.1)
+
+-- where the first pin alone is wanted, no other is owed a read
+pub first_alone : (rows : List DieRow) (die : ℕ) (ps : List Pin) (p : Pin) → 0 < count_by is_wanted ps →
+    p ≡ slice_index_or ps 0 p → (if p.wanted then 1 else 0) ≡ count_by is_wanted ps →
+    (if is_owed_by rows die p then Some p else None) ≡ find (is_owed_by rows die) ps
+first_alone rows die [] p some at alone = absurd (omega (arith, some))
+first_alone rows die (q ∷ ps) p some at alone =
+    let owed = is_owed_by rows die in
+    let counted = count_on is_wanted q ps in
+    let one : ◌≡◌ {A = ℕ} (if q.wanted then 1 else 0) (count_by is_wanted (q ∷ ps)) =
+    subst (λ (x : Pin). (if x.wanted then 1 else 0) ≡ count_by is_wanted (q ∷ ps)) at alone in
+    let none = none_found owed ps (none_owed rows die ps
+    (none_counted is_wanted ps (omega (arith, counted, one)))) in
+    ap (λ (x : Pin). if owed x then Some x else None) at ∙ ap (λ (o : Option Pin). if owed q then Some q else o) (sym none)
 
 in_place : (st : Stored) (k : Looked) → is_in_slot k ≡ false → now_stored st k ≡ k
 in_place st (InSlot name) e = absurd (true≢false e)

@@ -1,5 +1,5 @@
 //! The pins of one reader.
-ghost use Rattle.std.specs.Prelude.{◌≡◌, ◌≤◌, ◌==◌, [], IfOk, count_by, drop, filter, find, fold};
+ghost use Rattle.std.specs.Prelude.{◌≡◌, ◌≤◌, ◌==◌, [], IfOk, None, Some, count_by, drop, filter, find, fold};
 ghost use Rattle.std.specs.Prelude.{if◌then◌else◌, length, map, not, option_copied, take};
 ghost use Rattle.std.specs.VecDeque.{deque_capacity};
 ghost use Rattle.ufs_spec.specs.Plain.{greatest_command};
@@ -63,7 +63,9 @@ fn count_slots(pins: &VecDeque<Pin>) -> usize
     pins.iter().filter(|pin| pin.is_slotted()).count()
 }
 
-/// The pin of this block of the reader; `None` where there is none.
+/// The pin of this block of the reader; `None` where there is none. It is never inlined, so that a walk
+/// over rows of other readers stays short.
+#[inline(never)]
 fn pin_among(pins: &VecDeque<Pin>, reader: u8, index: u16) -> Option<&Pin>
     ensures { option_copied result ≡ find (is_pin_of reader index) pins.now.items }
 {
@@ -75,6 +77,17 @@ fn owed_among<'a>(pins: &'a VecDeque<Pin>, blocks: &BlockTable, die: u8) -> Opti
     ensures { option_copied result ≡ find (is_owed_by blocks.now.rows die) pins.now.items }
 {
     pins.iter().find(|pin| pin.is_owed(blocks, die))
+}
+
+/// The pin, if its reader is owed the read of a page of this die.
+fn owed_alone(pin: &Pin, blocks: &BlockTable, die: u8) -> Option<Pin>
+    ensures { result ≡ (if is_owed_by blocks.now.rows die pin.now then Some pin.now else None) }
+{
+    if pin.is_owed(blocks, die) {
+        Some(*pin)
+    } else {
+        None
+    }
 }
 
 /// This block of the reader is kept no more.
@@ -156,7 +169,11 @@ impl Row {
         if self.wanted == 0 {
             return None;
         }
-        owed_among(&self.pins, blocks, die).copied()
+        // A READ wants one block after the other, and lets each go: mostly the first pin alone is wanted.
+        match self.pins.front() {
+            Some(first) if first.wants() == self.wanted => owed_alone(first, blocks, die),
+            _ => owed_among(&self.pins, blocks, die).copied(),
+        }
     }
 
     /// The page of this block of the reader is wanted from now on.
