@@ -59,7 +59,9 @@ pub(crate) fn try_reply<D: Die>(core: &Core<D>, seat: &mut Place<D>, into: &mut 
     Tried::Did(due)
 }
 
-/// One attempt to have the next job of a die. Its page is sealed after the core is back in its slot.
+/// One attempt to have the next job of a die. Its page is sealed after the core is back in its slot. It is
+/// never inlined, so that the page lies in the room of one answer up to here.
+#[inline(never)]
 pub(crate) fn try_take<D: Die>(core: &Core<D>, seat: &mut Place<D>, die: u8) -> Tried<Option<Job>>
     requires seat { IsSeatOf core.now.table_id seat.old × Rests seat.old.me }
     requires lane { IsLaneOf seat.old.me.0.lane die }

@@ -5,10 +5,12 @@ use std::marker::Model;
 use std::thread;
 use std::time::{Clock, Duration};
 
-/// So many attempts in a row that did nothing are each followed by a yield. What a loop waits for
-/// mostly comes within microseconds. All these yields take about as long as one sleep, so a loop
-/// that sleeps has not waited for much less than the sleep may be too long.
-const YIELDS: u8 = 64;
+/// So many attempts in a row that did nothing are each followed by a yield. What a loop waits for is
+/// mostly the page of another thread, so the SHA-256 of a page: some tens of microseconds. An attempt
+/// with its yield may take a quarter of a microsecond, if nobody else wants the processor, and all of
+/// them have to last longer than a page. Many more of them would take the core, and the processor,
+/// from those who have a page under way. A sleep takes a hundred microseconds and more.
+const YIELDS: u8 = 100;
 
 /// Every further one is followed by a sleep of so many microseconds. A yield gives the processor
 /// away for a moment at most, and each attempt takes the device from those who have something for
@@ -17,7 +19,7 @@ const SLEEP: u64 = 50;
 
 /// How a loop waits between its attempts: it yields after each, and sleeps after many in a row that
 /// did nothing. Contracts see how many attempts did nothing since the last one that did something;
-/// it counts no further than 64.
+/// it counts no further than 100.
 #[derive(Drop)]
 pub struct Patience {
     attempts: u8,
@@ -30,7 +32,7 @@ impl Model for Patience {
 
     ghost view = { λ p. p.attempts };
 
-    ghost invariant = { λ p. p.attempts ≤ 64 };
+    ghost invariant = { λ p. p.attempts ≤ 100 };
 }
 
 impl Patience {
@@ -50,8 +52,8 @@ impl Patience {
 
     /// An attempt did nothing: the next one is made a little later.
     pub fn did_nothing<R: Clock>(&mut self, rt: &R)
-        ensures counted { self.old < 64 → self.new ≡ self.old + 1 }
-        ensures full { self.old ≡ 64 → self.new ≡ 64 }
+        ensures counted { self.old < 100 → self.new ≡ self.old + 1 }
+        ensures full { self.old ≡ 100 → self.new ≡ 100 }
     {
         if self.attempts < YIELDS {
             self.attempts += 1;
