@@ -35,6 +35,11 @@ use workbench::{Workbench, new_dies};
 /// How many blocks are written, read, and how many pages hashed.
 const COUNT: u32 = 8192;
 
+/// So many at a time, by turns with as many hashes: the machine's speed changes within a run.
+const AT_A_TIME: u32 = 256;
+
+const TIMES: u32 = COUNT / AT_A_TIME;
+
 /// The dies' sizes.
 const BLOCKS: u16 = 64;
 
@@ -74,36 +79,76 @@ fn is_good(bench: &mut Workbench, address: u32) -> bool {
     bench.hear_after_work((address % 4) as u8) && bench.reply.as_slice() == good(0).as_slice()
 }
 
-/// Writes of one block, in nanoseconds for each.
-fn time_writes<R: Clock>(rt: &R, bench: &mut Workbench) -> Result<u64> {
+/// Writes of one block, in nanoseconds together.
+fn time_writes<R: Clock>(rt: &R, bench: &mut Workbench, first: u32) -> Result<u64> {
     let out = block_out(0, 0, 0x5A);
     let start = Instant::now(rt)?;
-    for address in 0..COUNT {
+    for index in 0..AT_A_TIME {
+        let address = first.saturating_add(index);
         ensure!(write(bench, address, &out), "a write was not GOOD");
     }
-    Ok(each(since(rt, start)?, COUNT))
+    since(rt, start)
 }
 
-/// Reads of one block, in nanoseconds for each.
-fn time_reads<R: Clock>(rt: &R, bench: &mut Workbench) -> Result<u64> {
+/// Reads of one block, in nanoseconds together.
+fn time_reads<R: Clock>(rt: &R, bench: &mut Workbench, first: u32) -> Result<u64> {
     let start = Instant::now(rt)?;
-    for address in 0..COUNT {
+    for index in 0..AT_A_TIME {
+        let address = first.saturating_add(index);
         ensure!(read(bench, address), "a read was not GOOD");
     }
-    Ok(each(since(rt, start)?, COUNT))
+    since(rt, start)
+}
+
+/// What was timed by turns, in nanoseconds for each: a block, and a hash.
+#[derive(Clone, Copy)]
+struct Timed {
+    block: u64,
+    hash: u64,
+}
+
+/// All writes, by turns with hashes.
+fn time_all_writes<R: Clock>(rt: &R, bench: &mut Workbench) -> Result<Timed> {
+    let mut blocks = 0u64;
+    let mut hashes = 0u64;
+    for time in 0..TIMES {
+        blocks = blocks.saturating_add(time_writes(rt, bench, time * AT_A_TIME)?);
+        hashes = hashes.saturating_add(time_hash(rt, AT_A_TIME)?);
+    }
+    Ok(Timed {
+        block: each(blocks, COUNT),
+        hash: each(hashes, TIMES),
+    })
+}
+
+/// All reads, by turns with hashes.
+fn time_all_reads<R: Clock>(rt: &R, bench: &mut Workbench) -> Result<Timed> {
+    let mut blocks = 0u64;
+    let mut hashes = 0u64;
+    for time in 0..TIMES {
+        blocks = blocks.saturating_add(time_reads(rt, bench, time * AT_A_TIME)?);
+        hashes = hashes.saturating_add(time_hash(rt, AT_A_TIME)?);
+    }
+    Ok(Timed {
+        block: each(blocks, COUNT),
+        hash: each(hashes, TIMES),
+    })
+}
+
+/// Prints what a block takes.
+fn tell<R: Eprint>(rt: &R, what: &str, timed: Timed) -> Result<()> {
+    let Timed { block, hash } = timed;
+    let ratio = percent(block, hash);
+    eprintln!(rt; "a {what} of one block: {block} ns")?;
+    eprintln!(rt; "  to a hash of {hash} ns: {ratio} %")?;
+    Ok(())
 }
 
 fn run<R: Clock + Eprint>(rt: &R, bench: &mut Workbench) -> Result<()> {
-    let writes = time_writes(rt, bench)?;
-    let hashes = time_hash(rt, COUNT)?;
-    let reads = time_reads(rt, bench)?;
-    let write_percent = percent(writes, hashes);
-    let read_percent = percent(reads, hashes);
-    eprintln!(rt; "a FUA write of one block: {writes} ns")?;
-    eprintln!(rt; "a read of one block: {reads} ns")?;
-    eprintln!(rt; "one SHA-256 over a page: {hashes} ns")?;
-    eprintln!(rt; "write to hash: {write_percent} %, read to hash: {read_percent} %")?;
-    Ok(())
+    let writes = time_all_writes(rt, bench)?;
+    tell(rt, "FUA write", writes)?;
+    let reads = time_all_reads(rt, bench)?;
+    tell(rt, "read", reads)
 }
 
 /// Times writes and reads of one block.
