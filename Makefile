@@ -22,8 +22,8 @@ INSTALLED = $(foreach it,$(PROGRAMS),bin/$(it) share/man/man1/$(it).1 share/bash
 	refused-memory power-cycles c-example clients linux price-of-c
 
 help:
-	@echo 'make demo                  shows a write, a read and six stops; builds without proving, two minutes'
-	@echo 'make test                  runs every test, example and stored case; proves nothing; about 8 minutes'
+	@echo 'make demo                  shows a write, a read and six stops; builds without proving, a minute'
+	@echo 'make test                  runs every test, example and stored case; proves nothing; about 5 minutes'
 	@echo 'make prove                 proves everything, tries every wrong body, and runs what was proved: an hour'
 	@echo '                           or more from nothing; what has not changed is kept, so later runs take minutes'
 	@echo 'make format                lays out the code and the proofs of every crate as make prove wants them'
