@@ -31,7 +31,7 @@ from typing import NamedTuple, Tuple
 from crates import ROOT, lines_of
 
 HEAD = ("butcherford: this proves nothing, `make prove` does; "
-        "it takes about 5 minutes on four processors, 12 on two")
+        "it takes about 5 minutes on four processors")
 LONG = "test_long"
 # What a build takes of memory at most, with the check for reserved names that begins beside it.
 GROUP_BYTES = 2_500_000_000
