@@ -1,6 +1,7 @@
 //! What was timed, in numbers.
 use anyhow::Result;
 use sha2::{Digest, Sha256};
+use sha256_lanes::OneHash;
 use std::rt::Clock;
 use std::time::Instant;
 
@@ -12,6 +13,20 @@ pub fn hash_pages(count: u32) -> u64 {
         let mut hasher = Sha256::new();
         hasher.update(&page);
         let digest: [u8; 32] = hasher.finalize();
+        all = all.wrapping_add(digest[0] as u64);
+    }
+    all
+}
+
+/// The same by the SHA-256 that a device checks its pages with.
+fn check_pages(count: u32) -> u64 {
+    let body = [0x5Au8; 4096];
+    let front = [0x5Au8; 64];
+    let mut all = 0u64;
+    for _ in 0..count {
+        let mut hash = OneHash::new();
+        hash.update(&body);
+        let digest = hash.finish(&front);
         all = all.wrapping_add(digest[0] as u64);
     }
     all
@@ -45,4 +60,12 @@ pub fn time_hash<R: Clock>(rt: &R, count: u32) -> Result<u64> {
     let hash = each(since(rt, start)?, count);
     // The sum is used, so that the hashes are made.
     Ok(if all > 0 { hash } else { 0 })
+}
+
+/// The same of the SHA-256 that a device checks its pages with.
+pub fn time_check<R: Clock>(rt: &R, count: u32) -> Result<u64> {
+    let start = Instant::now(rt)?;
+    let all = check_pages(count);
+    let check = each(since(rt, start)?, count);
+    Ok(if all > 0 { check } else { 0 })
 }

@@ -1,6 +1,6 @@
 //! Times FUA writes and reads of one block through the device's five calls, writes of the replay
-//! protected memory block, scans of dies that are written in part, and the plain cost of one
-//! SHA-256 over a page, in one run. It prints the times and their ratios on standard error. With
+//! protected memory block, scans of dies that are written in part, and one SHA-256 over a page, the
+//! kit's and the device's own, in one run. It prints the times and their ratios on standard error. With
 //! the word `lanes` it times instead a device and scans among threads. With the word `collection`
 //! it counts what is programmed and hashed for each block that is written, once collections are
 //! due. With the word `sizes` it times each of the five calls by itself, on a small device and on a
@@ -15,7 +15,7 @@ mod scans;
 mod sizes;
 mod threads;
 
-use crate::clock::{each, percent, since, time_hash};
+use crate::clock::{each, percent, since, time_check, time_hash};
 use crate::collection::count_collections;
 use crate::frames::time_requests;
 use crate::groups::time_groups;
@@ -135,6 +135,20 @@ fn time_all_reads<R: Clock>(rt: &R, bench: &mut Workbench) -> Result<Timed> {
     })
 }
 
+/// The device's own hashes of a page, by turns with the kit's.
+fn time_checks<R: Clock>(rt: &R) -> Result<Timed> {
+    let mut checks = 0u64;
+    let mut hashes = 0u64;
+    for _ in 0..TIMES {
+        checks = checks.saturating_add(time_check(rt, AT_A_TIME)?);
+        hashes = hashes.saturating_add(time_hash(rt, AT_A_TIME)?);
+    }
+    Ok(Timed {
+        block: each(checks, TIMES),
+        hash: each(hashes, TIMES),
+    })
+}
+
 /// Prints what a block takes.
 fn tell<R: Eprint>(rt: &R, what: &str, timed: Timed) -> Result<()> {
     let Timed { block, hash } = timed;
@@ -145,6 +159,8 @@ fn tell<R: Eprint>(rt: &R, what: &str, timed: Timed) -> Result<()> {
 }
 
 fn run<R: Clock + Eprint>(rt: &R, bench: &mut Workbench) -> Result<()> {
+    let checks = time_checks(rt)?;
+    tell(rt, "check", checks)?;
     let writes = time_all_writes(rt, bench)?;
     tell(rt, "FUA write", writes)?;
     let reads = time_all_reads(rt, bench)?;

@@ -2,18 +2,16 @@
 ghost use Rattle.std.specs.Prelude.{◌≡◌, ◌↔◌, ◌++◌, IsTrue, drop, take};
 ghost use Rattle.ufs_spec.specs.Pages.{IsCheckRight, check_of};
 
-use sha2::{Digest, Sha256};
-use sha256_lanes::sha256_four;
+use sha256_lanes::{OneHash, sha256_four};
 use ufs_spec::{Block, Page};
 
 /// The check of a block and of the first 64 spare bytes: one SHA-256.
 pub fn check_bytes(body: &Block, front: &[u8]) -> [u8; 32]
     ensures { result ≡ check_of body.now front.now }
 {
-    let mut hasher = Sha256::new();
-    hasher.update(body);
-    hasher.update(front);
-    hasher.finalize()
+    let mut hash = OneHash::new();
+    hash.update(body);
+    hash.finish(front)
 }
 
 /// Whether a page's check is that of its other bytes: one SHA-256.

@@ -1,7 +1,7 @@
 //! Pages whose block is zeros: of these the SHA-256 of the block is taken once, and goes on with
 //! the spare bytes of each page.
 ghost use Rattle.std.specs.Prelude.{◌≡◌, ◌↔◌, IsTrue};
-ghost use Rattle.sha2.specs.Hashers.{Holds256};
+ghost use Rattle.sha256_lanes.specs.One.{HoldsOne};
 ghost use Rattle.ufs_bytes.specs.Blocks.{zero_block};
 ghost use Rattle.ufs_spec.specs.Pages.{IsTag, check_of, seal_page};
 ghost use Rattle.ufs_spec.specs.declared.flash.Page.{Page};
@@ -9,7 +9,7 @@ ghost use Rattle.ufs_spec.specs.declared.flash.Page.{Page};
 use crate::check::check_bytes;
 use crate::front::front_of;
 use crate::page::spare_of;
-use sha2::{Digest, Sha256};
+use sha256_lanes::OneHash;
 use std::marker::Model;
 use ufs_spec::{Block, Page, Tag};
 
@@ -20,26 +20,26 @@ static ZEROS: Block = [0; 4096];
 /// one whose block is zeros takes the SHA-256 of its 64 spare bytes alone.
 #[derive(Drop)]
 pub struct ZeroSeal {
-    begun: Sha256,
+    begun: OneHash,
 }
 
 impl Model for ZeroSeal {
-    ghost use Rattle.sha2.specs.Hashers.{Holds256};
+    ghost use Rattle.sha256_lanes.specs.One.{HoldsOne};
     ghost use Rattle.ufs_bytes.specs.Blocks.{zero_block};
 
     ghost Value = { Unit {0} };
 
     ghost view = { λ s. tt };
 
-    ghost invariant = { λ s. Holds256 s.begun zero_block };
+    ghost invariant = { λ s. HoldsOne s.begun zero_block };
 }
 
 impl ZeroSeal {
     /// Takes in the zeros: one SHA-256 of 4096 bytes.
     pub fn new() -> ZeroSeal {
-        ZeroSeal {
-            begun: Sha256::new_with_prefix(zeros()),
-        }
+        let mut begun = OneHash::new();
+        begun.update(zeros());
+        ZeroSeal { begun }
     }
 
     /// The page of a tag and a block, as [`crate::seal`] makes it.
@@ -63,9 +63,7 @@ impl ZeroSeal {
 
     /// Another one.
     pub(crate) fn another(&self) -> ZeroSeal {
-        ZeroSeal {
-            begun: self.begun(),
-        }
+        ZeroSeal { begun: self.begun }
     }
 
     // The check of a block and of the first 64 spare bytes.
@@ -83,19 +81,7 @@ impl ZeroSeal {
     fn check_of_zeros(&self, front: &[u8; 64]) -> [u8; 32]
         ensures { result ≡ check_of zero_block front.now }
     {
-        let mut hasher = self.begun();
-        hasher.update(front);
-        hasher.finalize()
-    }
-
-    // The hash of zeros so far. No memory is needed for it.
-    fn begun(&self) -> Sha256
-        ensures { Holds256 result zero_block }
-    {
-        match self.begun.clone() {
-            Ok(begun) => begun,
-            Err(_) => unreachable!(),
-        }
+        self.begun.finish(front)
     }
 }
 

@@ -1,3 +1,4 @@
+mod KeyedRows
 mod LaneByLane
 mod Tails
 mod Turns

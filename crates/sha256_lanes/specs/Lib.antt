@@ -1,2 +1,4 @@
 pub mod Hashes
+pub mod Keyed
 pub mod Lanes
+pub mod One

@@ -16,9 +16,9 @@ fn word_at(block: &[u8], at: usize) -> u32
     u32::from_be_bytes([block[at], block[at + 1], block[at + 2], block[at + 3]])
 }
 
-// The words at a byte of four blocks.
+/// The words at a byte of four blocks.
 #[inline(always)]
-fn words_at(a: &[u8], b: &[u8], c: &[u8], d: &[u8], at: usize) -> u32x4
+pub fn words_at(a: &[u8], b: &[u8], c: &[u8], d: &[u8], at: usize) -> u32x4
     requires first { at + 4 ≤ length a.now }
     requires second { at + 4 ≤ length b.now }
     requires third { at + 4 ≤ length c.now }
