@@ -55,17 +55,18 @@ def has_pytest():
     return subprocess.run([PYTHON, "-c", "import pytest"], capture_output=True, check=False).returncode == 0
 
 
-def missing_packages(asked):
-    """The packages of Debian that the tests need and that are not there."""
-    missing = set() if has_pytest() else {PYTEST}
-    if not asked.no_block_tools:
-        missing |= {package for program, package in block_tools.PACKAGES.items() if not shutil.which(program)}
-    return sorted(missing)
+def missing_pytest():
+    """Debian's package of pytest, where it is missing."""
+    return [] if has_pytest() else [PYTEST]
 
 
-def install_missing(asked):
-    """Installs what is missing. What apt-get says goes to standard error."""
-    missing = missing_packages(asked)
+def missing_block_tools():
+    """The packages of the block tools that are missing."""
+    return sorted({package for program, package in block_tools.PACKAGES.items() if not shutil.which(program)})
+
+
+def install_missing(missing):
+    """Installs these packages of Debian. What apt-get says goes to standard error."""
     try:
         for words in packages.commands(missing) if missing else ():
             subprocess.run(words, stdout=sys.stderr, check=True)
@@ -98,7 +99,7 @@ def test(asked):
         build()
     make_library()
     if not asked.no_install:
-        install_missing(asked)
+        install_missing(missing_pytest() + ([] if asked.no_block_tools else missing_block_tools()))
     os.environ.update({block_tools.LIBRARY: str(SHARED), "PYTHONPATH": str(CLIENT)})
     steps = [run_tests, rust_client.run_tests] + ([] if asked.no_block_tools else [block_tools.run_tools])
     passed, failed = (sum(counts) for counts in zip(*(step() for step in steps)))

@@ -52,7 +52,7 @@ def show(asked):
     import shows
     if not asked.no_install:
         kernel.install_packages()
-        clients.install_pytest()
+        clients.install_missing(clients.missing_pytest())
     if not asked.no_build:
         libufs.build()
     clients.make_library()
