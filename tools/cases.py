@@ -33,7 +33,7 @@ import signal
 import subprocess
 import sys
 import tempfile
-from typing import NamedTuple, Tuple
+from typing import Any, Dict, NamedTuple, Tuple
 
 from crates import ROOT
 from kept import kept
@@ -51,9 +51,11 @@ BUILDS = ("", ".by-rattle")
 # that a busy machine fails none.
 SECONDS = 120
 TRY_SECONDS = 300
+# No program of ours reads the environment.
+NO_ENVIRONMENT: Dict[str, str] = {}
 # How a program is run: its output is read as text, and its status is looked at later.
-HOW = {"stdin": subprocess.DEVNULL, "capture_output": True, "encoding": "utf-8", "errors": "replace",
-       "check": False}
+HOW: Dict[str, Any] = {"stdin": subprocess.DEVNULL, "capture_output": True, "encoding": "utf-8", "errors": "replace",
+                       "check": False}
 
 
 # What is run where standard output cannot be written, and what the program then says, with its status.
@@ -177,7 +179,7 @@ def ran(built, cases, seconds=SECONDS):
     for case in cases:
         with folder_for(case) as folder:
             try:
-                done = subprocess.run([built, *case.words], cwd=folder, env={}, timeout=seconds, **HOW)
+                done = subprocess.run([built, *case.words], cwd=folder, env=NO_ENVIRONMENT, timeout=seconds, **HOW)
                 found[case.name] = Output(done.stdout, done.stderr, done.returncode)
             except (OSError, subprocess.TimeoutExpired) as fault:
                 found[case.name] = Output("", f"{fault}\n", -1)
@@ -223,14 +225,14 @@ def unread_pipe():
 
 
 # Where nothing can be written.
-UNWRITABLE = {"a full disk": lambda: open("/dev/full", "wb"), "a pipe that nobody reads": unread_pipe}
+UNWRITABLE: Dict[str, Any] = {"a full disk": lambda: open("/dev/full", "wb"), "a pipe that nobody reads": unread_pipe}
 
 
 def said_of_output(built, words, out):
     """What the program said on standard error, and its status, where standard output is this."""
     how = {**HOW, "capture_output": False, "stdout": out, "stderr": subprocess.PIPE}
     try:
-        done = subprocess.run([built, *words], env={}, timeout=SECONDS, **how)
+        done = subprocess.run([built, *words], env=NO_ENVIRONMENT, timeout=SECONDS, **how)
     except (OSError, subprocess.TimeoutExpired) as fault:
         return f"{fault}\n", -1
     return done.stderr, done.returncode
@@ -262,12 +264,13 @@ def written_to(terminal):
 def shown_on_a_terminal(built, words):
     """What the program's check printed, and what it showed on the terminal that its standard error is."""
     ours, theirs = os.openpty()
-    how = {"stdin": subprocess.DEVNULL, "stdout": subprocess.PIPE, "stderr": theirs, "encoding": "utf-8", "env": {}}
+    how: Dict[str, Any] = {"stdin": subprocess.DEVNULL, "stdout": subprocess.PIPE, "stderr": theirs,
+                           "encoding": "utf-8", "env": NO_ENVIRONMENT}
     with folder_for(Case("shown", words, OLD_DIES / "shown")) as folder:
         with subprocess.Popen([built, *words], cwd=folder, **how) as running:
             os.close(theirs)
             shown = written_to(ours)
-            return running.stdout.read(), shown
+            return running.communicate()[0], shown
 
 
 def tells_how_far(built, words, stops):

@@ -19,6 +19,7 @@ while collections gain no room says "no room" and how many overwrites came befor
 import argparse
 import math
 import random
+from typing import Any, List
 
 FREE, OPEN, CLOSED = range(3)
 # So many collections in a row for one write gain no room, and none after them will: each one made the next one's like.
@@ -36,7 +37,7 @@ class Dies:
         self.dies, self.blocks, self.pages = dies, blocks, pages
         self.left = left_by_hosts(dies, pages, slots)
         self.states = [[FREE] * blocks for _ in range(dies)]
-        self.open = [None] * dies
+        self.open: List[Any] = [None] * dies
         self.held = [[[] for _ in range(blocks)] for _ in range(dies)]
         self.live = [[0] * blocks for _ in range(dies)]
         self.where = {}

@@ -13,11 +13,12 @@ import re
 import subprocess
 import sys
 import time
+from typing import Any, Dict
 
 # A single test has so many seconds: it runs with checks, and beside others.
 SECONDS = 300
-HOW = {"stdin": subprocess.DEVNULL, "stdout": subprocess.PIPE, "stderr": subprocess.STDOUT, "encoding": "utf-8",
-       "errors": "replace", "check": False}
+HOW: Dict[str, Any] = {"stdin": subprocess.DEVNULL, "stdout": subprocess.PIPE, "stderr": subprocess.STDOUT,
+                       "encoding": "utf-8", "errors": "replace", "check": False}
 NAME = re.compile(r"^(\S+): test$", re.MULTILINE)
 
 

@@ -13,6 +13,7 @@ import signal
 import subprocess
 import sys
 import time
+from typing import Any, Dict
 
 from kept import kept
 
@@ -41,7 +42,8 @@ def gives_output(line):
 
 def ran(program, script):
     """What the program printed of a script, what it said, and its status."""
-    how = {"stdin": subprocess.DEVNULL, "capture_output": True, "encoding": "utf-8", "errors": "replace"}
+    how: Dict[str, Any] = {"stdin": subprocess.DEVNULL, "capture_output": True, "encoding": "utf-8",
+                           "errors": "replace"}
     done = subprocess.run([program, "run", script], check=False, **how)
     return done.stdout.splitlines(), done.stderr, done.returncode
 

@@ -23,12 +23,12 @@ import signal
 import subprocess
 import sys
 import tempfile
-from typing import NamedTuple, Tuple
+from typing import Any, Dict, NamedTuple, Tuple
 
 import plain_host as plain
 from cases import OLD_DIES, lay
 from every_command import big, frame, header, transfer
-from kept import kept
+from kept import kept as kept_program
 from plain_host import MANY, SURE, Model, event_of
 
 # A script takes a second or two.
@@ -97,10 +97,13 @@ class Script:
         self.lines = ["config " + " ".join(map(str, self.config))]
         self.lines += ["unit " + " ".join(map(str, it)) for it in self.units]
         self.model = copy.deepcopy(kept.model) if kept else Model(self.config, self.units)
-        self.sent, self.payload, self.fails, self.address = 0, {}, 0, 0
+        self.sent, self.payload, self.fails, self.address = 0, {}, 0.0, 0
 
     def chance(self, odds):
         return self.random.random() < odds
+
+    def do_one_of(self, *acts: Any):
+        self.random.choice(acts)()
 
     @property
     def world(self):
@@ -113,14 +116,15 @@ class Script:
 
     def make(self):
         """The whole script."""
-        acts = {self.move: 7, self.flush: 1, self.unmap: 1, self.rpmb: 2, self.query: 1.5, self.manage: 1,
-                self.inform: 1, self.hand_wrong: 0.7, self.stop: 0.5, self.crowd: 0.5, self.tread: 2.5,
-                self.protect: 0.4, self.audit: 0.2}
+        acts: Dict[Any, float] = {
+            self.move: 7, self.flush: 1, self.unmap: 1, self.rpmb: 2, self.query: 1.5, self.manage: 1, self.inform: 1,
+            self.hand_wrong: 0.7, self.stop: 0.5, self.crowd: 0.5, self.tread: 2.5, self.protect: 0.4,
+            self.audit: 0.2}
         favoured = self.random.sample(list(acts)[:-1], 3)
         weights = [acts[it] * (4 if it in favoured else 1) for it in acts]
         if self.chance(0.12):
             self.churn()
-        self.fails = self.random.choice((0, 0, 0.05, 0.3, 0.3))
+        self.fails = self.random.choice((0.0, 0.0, 0.05, 0.3, 0.3))
         if self.chance(0.9):
             self.say(f"settle {MANY}")
         messages = self.random.randint(20, 80)
@@ -355,7 +359,7 @@ class Script:
             else:
                 self.send(header(0, tag=self.tag()), 0.01)
         for _ in range(self.random.randint(1, 3)):
-            self.random.choice((self.unmap, self.rpmb, self.query, self.move, self.manage))()
+            self.do_one_of(self.unmap, self.rpmb, self.query, self.move, self.manage)
 
     def churn(self):
         """So many blocks are written that the device collects."""
@@ -436,7 +440,7 @@ class Script:
                  if it[0] != "read" and self.chance(0.9)]
         self.say("stop" + "".join(named))
         if self.chance(0.4):
-            self.random.choice((self.inform, self.move, self.query, self.manage, self.rpmb))()
+            self.do_one_of(self.inform, self.move, self.query, self.manage, self.rpmb)
         if self.chance(0.3):
             self.interrupt()
         if self.chance(0.9):
@@ -665,7 +669,7 @@ def main():
     asked = parser.parse_args()
     if asked.program:
         return run(asked, str(asked.program.absolute()))
-    with kept("ufsim_main") as (program, said):
+    with kept_program("ufsim_main") as (program, said):
         if program is None:
             print(f"{said[-4000:]}fuzz: rt built no ufsim", file=sys.stderr)
             return 1

@@ -23,6 +23,7 @@ import subprocess
 import sys
 import tempfile
 import time
+from typing import Any, Dict
 
 from crates import ROOT
 
@@ -90,7 +91,8 @@ def keep(crate, folder, is_test, root=ROOT):
             pathlib.Path(cases, str(number)).write_bytes(b"")
         words = ["rt", "try", "--steps", "1", "--seconds", RUN_SECONDS]
         words += ["--test"] if is_test else ["--cases", cases]
-        how = {"stdin": subprocess.DEVNULL, "stdout": out, "stderr": out, "env": {**os.environ, "TMPDIR": below}}
+        how: Dict[str, Any] = {"stdin": subprocess.DEVNULL, "stdout": out, "stderr": out,
+                               "env": {**os.environ, "TMPDIR": below}}
         with subprocess.Popen(words, cwd=root / "crates" / crate, **how) as rt:
             try:
                 loader = looked_for(rt, pathlib.Path(below), program)

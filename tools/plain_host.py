@@ -7,6 +7,7 @@ import copy
 import hashlib
 import hmac
 import re
+from typing import Any, Callable, Dict, List, Tuple
 
 from every_command import big, frame, header, transfer
 
@@ -79,7 +80,7 @@ class Fork(Exception):
 
 def sets(**values):
     """A way that fixes these."""
-    return lambda world: vars(world).update(values)
+    return lambda world: world.__dict__.update(values)
 
 
 class Plain:
@@ -126,7 +127,8 @@ class Exchange:
         self.tag, self.lun, self.is_task, self.expected, self.code = tag, lun, is_task, expected, code
         self.length = self.sent = self.claim = self.address = self.unit = 0
         # Replies are a message, the group that it waits for, the group that it acknowledges.
-        self.replies, self.blocks, self.wants, self.pages = (), (), (), ()
+        self.replies: Tuple[Any, ...] = ()
+        self.blocks, self.wants, self.pages = (), (), ()
         self.asked, self.data, self.read, self.frames = None, b"", NO, ()
         self.is_durable = self.passed = self.is_late = False
 
@@ -160,9 +162,11 @@ class World:
         self.total = self.low = self.high = self.held = self.first = 0
         self.pages = {}
         # mended is None if it may be so or not.
-        self.mended, self.power_on = False, 0
+        self.mended: Any = False
+        self.power_on = 0
         self.bad, self.flight, self.rows = set(), {}, {}
-        self.open, self.result, self.response = {}, None, None
+        self.open, self.result = {}, None
+        self.response: Any = None
         # The pages that wait, if the model knows, and how many pages of a group are not programmed.
         self.queue, self.left, self.is_calm = None, {}, False
 
@@ -798,7 +802,7 @@ def event_of(line):
         return "word"
     found = []
     for shape, word in zip(shapes[first], rest):
-        found.append({"x": hexed, "b": hexed, "n": whole, "w": str}[shape](word))
+        found.append(WORDS[shape](word))
         if found[-1] is None or shape == "b" and len(found[-1]) != 1:
             return "number" if shape == "n" else "hex"
     if first == "fill":
@@ -812,6 +816,10 @@ def whole(word):
 
 def hexed(word):
     return bytes.fromhex(word) if re.fullmatch("([0-9a-fA-F]{2})+", word) else None
+
+
+# What the words of a script's line are read as, by their letters in `event_of`.
+WORDS: Dict[str, Callable[[str], Any]] = {"x": hexed, "b": hexed, "n": whole, "w": str}
 
 
 def merged(worlds):
@@ -844,7 +852,9 @@ class Model:
         if kind == "reply":
             dues = [(tag, *world.due(it)) for tag, it in world.open.items()]
             is_sure = any(how == SURE for _, _, how in dues)
-            found = [] if is_sure else [("reply none", lambda it: it.heard_nothing())]
+            found: List[Tuple[str, Callable[..., Any]]] = []
+            if not is_sure:
+                found.append(("reply none", lambda it: it.heard_nothing()))
             for tag, message, how in dues:
                 if how != NO:
                     found.append((f"reply {message.hex()}", lambda it, tag=tag: it.hand_out(it.open[tag])))

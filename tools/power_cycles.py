@@ -14,7 +14,7 @@ import re
 import signal
 import subprocess
 import sys
-from typing import NamedTuple
+from typing import Any, Dict, NamedTuple
 
 from kept import kept
 
@@ -22,7 +22,7 @@ from kept import kept
 DIES = 1
 # A row has so many seconds.
 SECONDS = 900
-HOW = {"stdin": subprocess.DEVNULL, "capture_output": True, "text": True, "check": False}
+HOW: Dict[str, Any] = {"stdin": subprocess.DEVNULL, "capture_output": True, "text": True, "check": False}
 
 
 class Row(NamedTuple):

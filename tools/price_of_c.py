@@ -20,6 +20,7 @@ import subprocess
 import sys
 import tempfile
 from pathlib import Path
+from typing import Any, Dict
 
 from crates import ROOT
 from libufs import ARCHIVE, INCLUDE, WARNINGS, build
@@ -57,8 +58,9 @@ def compiled(library, folder):
 
 def timed(program):
     """What a write takes in a run of the program, in ns. It is ended then, since crates/bench times more."""
-    how = {"stdout": subprocess.PIPE, "stderr": subprocess.STDOUT, "encoding": "utf-8"}
+    how: Dict[str, Any] = {"stdout": subprocess.PIPE, "stderr": subprocess.STDOUT, "encoding": "utf-8"}
     with subprocess.Popen([program], **how) as ran:
+        assert ran.stdout is not None
         told = next((found for found in map(TIME.match, ran.stdout) if found), None)
         ran.terminate()
     if told is None:

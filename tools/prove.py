@@ -18,6 +18,7 @@ import shutil
 import subprocess
 import sys
 import time
+from typing import Any, Dict
 
 from crates import ROOT, lines_of
 from verdicts import texts_sum
@@ -46,8 +47,8 @@ def told(name, words, count=None):
     """Runs a step whose last line tells its counts, shows what it says, and gives the counts."""
     began, counts = time.monotonic(), None
     say(f"== {name}")
-    how = {"stdin": subprocess.DEVNULL, "stdout": subprocess.PIPE, "stderr": subprocess.STDOUT,
-           "encoding": "utf-8", "errors": "replace", "env": {**os.environ, "PYTHONUNBUFFERED": "1"}}
+    how: Dict[str, Any] = {"stdin": subprocess.DEVNULL, "stdout": subprocess.PIPE, "stderr": subprocess.STDOUT,
+                           "encoding": "utf-8", "errors": "replace", "env": {**os.environ, "PYTHONUNBUFFERED": "1"}}
     with subprocess.Popen(words, cwd=ROOT, **how) as ran:
         try:
             for line in with_place(ran.stdout, count) if count else ran.stdout:

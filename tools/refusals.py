@@ -19,7 +19,7 @@ import subprocess
 import sys
 import tempfile
 import threading
-from typing import NamedTuple, Tuple
+from typing import Any, NamedTuple, Optional, Tuple
 
 from cases import HOW, TRY_SECONDS, Output, endings_of, outputs_of
 from kept import LOOK_SECONDS, end_names_check, loader_of
@@ -46,7 +46,7 @@ class Run(NamedTuple):
     """What a case printed, and its status, and how often memory was given at its end: None, if it did not tell that."""
 
     output: Output
-    left: int
+    left: Optional[int]
 
     def count(self):
         """How many allocations the program made until it told what is left, where none was refused to it."""
@@ -61,7 +61,8 @@ class Program:
 
     def __init__(self, folder, data=()):
         self.file, self.place = folder / "program", folder / "place"
-        self.loader, self.seen = None, {}
+        self.loader: Any = None
+        self.seen = {}
         self.place.mkdir()
         for file in data:
             shutil.copy(file, self.place)
@@ -188,7 +189,8 @@ def runs_of(names, printed, said):
     printed, ended = outputs_of(printed), endings_of(said)
     if not ended:
         raise Fault(f"nothing was run; rt said:\n{said[-4000:]}")
-    return {name: run_of(printed.get(name, ""), *ended.get(name, ("it was not run\n", -1))) for name in names}
+    found = {name: ended.get(name, ("it was not run\n", -1)) for name in names}
+    return {name: run_of(printed.get(name, ""), told, status) for name, (told, status) in found.items()}
 
 
 def run_of(printed, told, status):

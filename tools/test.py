@@ -10,7 +10,7 @@ with test_long is left out and named: `rt ci` runs it. A long group is cut into 
 and pieces run side by side as there are processors, and as memory allows: the builds come first.
 
 Each group has a line as it ends, with the seconds of its pieces. Of one that failed all that it said
-is shown. The last line is 'N passed, M failed'. The status is 0 only if nothing failed and each piece
+is shown; of any other what it did not look at. The last line is 'N passed, M failed'. The status is 0 only if nothing failed and each piece
 told its counts. With names only these groups run.
 """
 import argparse
@@ -26,7 +26,7 @@ import sys
 import tempfile
 import threading
 import time
-from typing import NamedTuple, Tuple
+from typing import Any, Dict, NamedTuple, Tuple
 
 from crates import ROOT, lines_of
 
@@ -44,6 +44,8 @@ PYTHON = sys.executable or "python3"
 COUNTS = re.compile(r"^(\d+) passed, (\d+) failed$", re.MULTILINE)
 UNITTEST = re.compile(r"^Ran (\d+) tests? in .*\n\n(?:OK|FAILED)(?: \((.*)\))?$", re.MULTILINE)
 NOT_GOOD = re.compile(r"(?:failures|errors|unexpected successes|skipped)=(\d+)")
+# How tools tell what they left out.
+LEFT_OUT = re.compile(r"^not looked at: .*$", re.MULTILINE)
 
 
 class Group(NamedTuple):
@@ -99,7 +101,8 @@ def tool_groups():
         Group("fuzz: random scripts", fuzz_pieces(50), tools, 300, ufsim),
         Group("texts of the wrong bodies", ((PYTHON, "wrong_bodies.py", "--texts"),), tools, 2),
         Group("texts of the wrong rules", ((PYTHON, "turn_rules.py", "--texts"),), tools, 2),
-        Group("tests of the tools", ((PYTHON, "-B", "-m", "unittest", "discover", "tests"),), tools, 10),
+        Group("Python by mypy and pyflakes", ((PYTHON, "-B", "look_at_python.py"),), tools, 40),
+        Group("tests of the tools", ((PYTHON, "-B", "-m", "unittest", "discover", "tests"),), tools, 30),
     ]
 
 
@@ -138,8 +141,8 @@ class Runner:
 
     def run(self, words, folder):
         """What a command printed, its status, and its seconds."""
-        how = {"stdin": subprocess.DEVNULL, "stdout": subprocess.PIPE, "stderr": subprocess.STDOUT,
-               "encoding": "utf-8", "errors": "replace", "start_new_session": True}
+        how: Dict[str, Any] = {"stdin": subprocess.DEVNULL, "stdout": subprocess.PIPE, "stderr": subprocess.STDOUT,
+                               "encoding": "utf-8", "errors": "replace", "start_new_session": True}
         with self.slots:
             began = time.monotonic()
             with self.lock:
@@ -166,7 +169,8 @@ class Runner:
         """What came of a piece of a group, whose program is built."""
         program = str(self.place(group.needs) / "run") if group.needs else ""
         text, status, seconds = self.run([program if it == PROGRAM else it for it in words], group.folder)
-        return Told(*counts_in(text, status), seconds, text)
+        passed, failed = counts_in(text, status)
+        return Told(passed, failed, seconds, text)
 
     def group(self, group, build):
         """What came of a group, whose program is this build's."""
@@ -200,9 +204,11 @@ def side_by_side(asked):
 
 
 def show(group, told):
-    """Says how a group ended, and shows the whole of one that failed."""
+    """Says how a group ended, and shows the whole of one that failed, and of any other what it left out."""
     if told.failed:
         print(f"== {group.name} said:\n{told.text.rstrip()}\n== the end of {group.name}")
+    else:
+        print("".join(f"{line}\n" for line in LEFT_OUT.findall(told.text)), end="")
     counts = f"{told.passed} passed, {told.failed} failed"
     print(f"{group.name}: {counts}, {told.seconds:.0f} s", flush=True)
 

@@ -260,8 +260,7 @@ class TrialCopy:
             self.write(files[name], None)
             list_of = proofs / (name.split(".")[0] + ".antt" if "." in name else "Lib.antt")
             listed = list_of.read_text(encoding="utf-8")
-            left = re.sub(rf"^pub mod {name.split('.')[-1]}\n", "", listed, flags=re.MULTILINE)
-            self.write(list_of, left)
+            self.write(list_of, re.sub(rf"^pub mod {name.split('.')[-1]}\n", "", listed, flags=re.MULTILINE))
 
     def cut_lemma(self, path, name):
         """Takes out a declaration: its signature, the deeper lines and equations that follow, and an emptied block."""

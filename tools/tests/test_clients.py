@@ -35,11 +35,11 @@ class Copies(unittest.TestCase):
         self.folder = pathlib.Path(place.name)
         shared = self.folder / "libufs.so"
         shared.write_bytes(b"library")
-        patches = (mock.patch.object(clients, "SHARED", shared), mock.patch.object(clients, "make_library"),
-                   contextlib.redirect_stdout(io.StringIO()))
-        for patch in patches:
-            patch.__enter__()
-            self.addCleanup(patch.__exit__, None, None, None)
+        with contextlib.ExitStack() as patches:
+            patches.enter_context(mock.patch.object(clients, "SHARED", shared))
+            patches.enter_context(mock.patch.object(clients, "make_library"))
+            patches.enter_context(contextlib.redirect_stdout(io.StringIO()))
+            self.addCleanup(patches.pop_all().close)
         self.asked = types.SimpleNamespace(folder=self.folder / "packages")
 
     def test_all_comes_and_goes(self):

@@ -27,7 +27,8 @@ class Fuzz(unittest.TestCase):
     def test_what_is_stored_fits_the_model(self):
         for name in EXAMPLES:
             with self.subTest(name):
-                self.assertIsNone(fuzz.judged(*example(name), "", 0))
+                lines, text = example(name)
+                self.assertIsNone(fuzz.judged(lines, text, "", 0))
 
     def test_a_changed_line_is_told(self):
         lines, text = example("write_read")
@@ -46,7 +47,8 @@ class Fuzz(unittest.TestCase):
         def wrong(it, *_):
             return bytes([0x21, 0, it.lun, it.tag, 0, 0, 1]) + bytes(25)
         with mock.patch.object(plain_host.Exchange, "response", wrong):
-            self.assertIsNotNone(fuzz.judged(*example("write_read"), "", 0))
+            lines, text = example("write_read")
+            self.assertIsNotNone(fuzz.judged(lines, text, "", 0))
 
     def test_each_wrong_line_is_told(self):
         lines, text = example("write_read")

@@ -63,6 +63,12 @@ class Groups(unittest.TestCase):
         self.assertEqual("5 passed, 0 failed", printed.splitlines()[-1])
         self.assertNotIn("kept quiet", printed)
 
+    def test_what_was_not_looked_at_is_shown(self):
+        status, printed = self.run_groups("not looked at: a tool is not there\nkept quiet\n2 passed, 0 failed")
+        self.assertEqual(0, status)
+        self.assertIn("not looked at: a tool is not there\ngroup 0: 2 passed, 0 failed", printed)
+        self.assertNotIn("kept quiet", printed)
+
     def test_what_failed_is_shown(self):
         status, printed = self.run_groups("2 passed, 0 failed", "failing here\n3 passed, 1 failed")
         self.assertEqual(1, status)

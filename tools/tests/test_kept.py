@@ -56,8 +56,8 @@ class Kept(unittest.TestCase):
             return kept.keep("one", self.folder / "place", True, self.folder)
 
     def run_kept(self, *words):
-        how = {"capture_output": True, "encoding": "utf-8", "env": {}, "check": False}
-        return subprocess.run([str(self.folder / "place" / "run"), *words], **how)
+        return subprocess.run([str(self.folder / "place" / "run"), *words], capture_output=True, encoding="utf-8",
+                              env={}, check=False)
 
     def test_a_program_is_kept_and_rt_is_ended(self):
         self.assertEqual("", self.keep(BUILDS))

@@ -43,12 +43,12 @@ class InUfsim(unittest.TestCase):
     """A refusal has to be told where it was, and what was printed before has to be whole."""
 
     def setUp(self):
-        self.run, self.check = (refuse_in_ufsim.Script(it, SCRIPT) for it in ("run", "check"))
+        self.played, self.check = (refuse_in_ufsim.Script(it, SCRIPT) for it in ("run", "check"))
 
     def test_a_refusal_is_told_at_the_line_that_prints_next(self):
         due = ((0, "", ""), (3, "", "line 3: "), (4, "", "line 4: "), (7, "turn no\n", "line 7: "))
         for place, stdout, where in due:
-            self.assertEqual(place, self.run.place(PRINTED, refused(stdout, where)))
+            self.assertEqual(place, self.played.place(PRINTED, refused(stdout, where)))
 
     def test_any_other_line_or_output_is_wrong(self):
         wrong = [refused("", "line 2: "), refused("", "line 7: "), refused("turn no\n", "line 4: "),
@@ -56,7 +56,7 @@ class InUfsim(unittest.TestCase):
                  refused(PRINTED.stdout, "line 7: "), Output("", "ufsim: memory\n", 0), Output("", "", 1),
                  Output("", "ufsim: line 4: event\n", 1), Output("", "ufsim: memory\nufsim: memory\n", 1)]
         for found in wrong:
-            self.assertIsNone(self.run.place(PRINTED, found), found)
+            self.assertIsNone(self.played.place(PRINTED, found), found)
 
     def test_a_check_prints_one_line_at_its_end(self):
         wanted = Output("check stops 3 bad 0\n", "", 0)
@@ -66,7 +66,7 @@ class InUfsim(unittest.TestCase):
         self.assertIsNone(self.check.place(wanted, refused("", "line 2: ")))
 
     def judge(self, *found):
-        return quietly(refuse_in_ufsim.is_good, self.run, PRINTED, range(1, len(found) + 1), found)
+        return quietly(refuse_in_ufsim.is_good, self.played, PRINTED, range(1, len(found) + 1), found)
 
     def test_later_refusals_name_no_earlier_line(self):
         early, late = refused("", "line 3: "), refused("turn no\n", "line 7: ")

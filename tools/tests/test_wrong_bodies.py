@@ -73,8 +73,8 @@ class Repository:
         environment = {**os.environ, "PATH": path, "XDG_CACHE_HOME": str(self.cache),
                        "FAKE_LOG": str(self.log), "FAKE_KIT": self.kit, "FAKE_UNKNOWN": self.unknown}
         command = [sys.executable, "-B", str(self.folder / "tools" / "wrong_bodies.py"), *words]
-        how = {"stdout": subprocess.PIPE, "stderr": subprocess.STDOUT, "encoding": "utf-8", "check": False}
-        done = subprocess.run(command, env=environment, **how)
+        done = subprocess.run(command, env=environment, stdout=subprocess.PIPE, stderr=subprocess.STDOUT,
+                              encoding="utf-8", check=False)
         counts = COUNTS.search(done.stdout)
         tried, kept = map(int, counts.groups()) if counts else (-1, -1)
         return tried, kept, done.stdout, done.returncode
@@ -86,6 +86,8 @@ class Repository:
 
 class WrongBodies(unittest.TestCase):
     """A first run tries all. What a second run tries depends on what was changed between them."""
+
+    place: tempfile.TemporaryDirectory
 
     @classmethod
     def setUpClass(cls):
