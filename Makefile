@@ -22,7 +22,7 @@ INSTALLED = $(foreach it,$(PROGRAMS),bin/$(it) share/man/man1/$(it).1 share/bash
 	refused-memory power-cycles c-example clients linux price-of-c
 
 help:
-	@echo 'make demo                  shows a write, a read and six stops; builds without proving, a minute'
+	@echo 'make demo                  shows a write, a read and six stops; builds without proving: about two minutes'
 	@echo 'make test                  runs every test, example and stored case; proves nothing; about 5 minutes'
 	@echo 'make prove                 proves everything, tries every wrong body, and runs what was proved: an hour'
 	@echo '                           or more from nothing; what has not changed is kept, so later runs take minutes'

@@ -74,7 +74,7 @@ def shown(scripts, runs):
 
 
 def main(scripts):
-    print("butcherford: building the program without proving it; this takes a minute or two", flush=True)
+    print("butcherford: building the program without proving it; this takes about two minutes", flush=True)
     began = time.monotonic()
     with kept("ufsim_main") as (program, said):
         runs = [ran(program, script) for script in scripts] if program else []

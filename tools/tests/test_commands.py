@@ -9,7 +9,8 @@ import sys
 import tempfile
 import unittest
 
-ROOT = pathlib.Path(__file__).resolve().parents[2]
+from crates import ROOT, lines_of
+
 MAKEFILE = (ROOT / "Makefile").read_text(encoding="utf-8").replace("\\\n", " ")
 # These need no kit.
 WITHOUT_KIT = {"help", "peers", "stress", "uninstall"}
@@ -89,7 +90,6 @@ class Commands(unittest.TestCase):
                         self.assertTrue((ROOT / word).is_file() or usage and word in usage[1].split())
 
     def test_each_crate_that_is_run_is_there_and_knows_its_word(self):
-        from crates import lines_of
         for target in sorted(targets()):
             for crate, words in CRATE.findall(commands(target)):
                 with self.subTest(target=target, crate=crate):
