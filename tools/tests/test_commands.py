@@ -12,6 +12,7 @@ import unittest
 from crates import ROOT, lines_of
 
 MAKEFILE = (ROOT / "Makefile").read_text(encoding="utf-8").replace("\\\n", " ")
+TESTING = (ROOT / "docs" / "TESTING.md").read_text(encoding="utf-8")
 # These need no kit.
 WITHOUT_KIT = {"help", "peers", "stress", "uninstall"}
 # Imports a program with its words, and ends it once it has read them.
@@ -97,6 +98,19 @@ class Commands(unittest.TestCase):
                     main = (ROOT / "crates" / crate / "src" / "main.rt").read_text(encoding="utf-8")
                     for word in words.split():
                         self.assertIn(f'"{word}"', main)
+
+    def test_what_the_list_of_commands_names_is_there(self):
+        """docs/TESTING.md says what each command reads that no gate runs: files, of tools/ without a folder, and
+        crates."""
+        part = TESTING.partition("\n## Commands that no gate runs\n")[2].partition("\n## ")[0]
+        rows = re.findall(r"^\| `make ([\w-]+)` \| (.*) \|$", part, re.MULTILINE)
+        listed = {target for target, _ in rows}
+        self.assertEqual({"help", "test", "prove", "wrong-bodies", "format", "uninstall"}, targets() - listed)
+        for target, text in rows:
+            for name in re.findall("`([^`]+)`", text):
+                with self.subTest(target=target, name=name):
+                    is_there = any((ROOT / folder / name).exists() for folder in ("", "tools", "crates"))
+                    self.assertTrue(is_there or name == "ufsim")
 
     def test_each_target_runs_something_that_was_looked_at(self):
         for target in sorted(targets() - {"help"}):
