@@ -148,6 +148,16 @@ IsReadingFault before after fault.NoMemory = Unit {0}
 IsReadingFault before after (fault.ReadFault p) = slice_index_or before p.die 0 < slice_index_or after p.die 0
 IsReadingFault before after fault.OtherConfig = ⊥
 
+-- it tells the read of the page at this place, and the die failed meanwhile
+abbrev pub IsPageFault : Place → ℕ → ℕ → OpenFault → Type 0
+IsPageFault p before after e = (e ≡ fault.ReadFault p) × (before < after)
+
+-- memory was refused, or the die of this block, that of the place, failed meanwhile
+abbrev pub IsBlockFault : ℕ → ℕ → ℕ → ℕ → OpenFault → Type 0
+IsBlockFault die block before after fault.NoMemory = Unit {0}
+IsBlockFault die block before after (fault.ReadFault p) = (p.die ≡ die) × (p.block ≡ block) × (before < after)
+IsBlockFault die block before after fault.OtherConfig = ⊥
+
 -- memory was refused, or the die with this number, that of the place, failed meanwhile
 abbrev pub IsDieFault : ℕ → ℕ → ℕ → OpenFault → Type 0
 IsDieFault number before after fault.NoMemory = Unit {0}

@@ -7,7 +7,7 @@ ghost use Rattle.ufs_spec.specs.Dies.{IsOfSize, LiesOnDie, new_die, page_at};
 ghost use Rattle.ufs_spec.specs.Lives.{Fit, array_of};
 ghost use Rattle.ufs_spec.specs.declared.configs.Numbers.{Numbers};
 ghost use Rattle.ufs_spec.specs.declared.flash.Page.{Page};
-ghost use Rattle.recovery.specs.Reading.{IsDieFault, IsFaultOf, IsJoined, IsNoted, IsReadingFault, IsTable, IsTableOf, IsTableTo, NoLower};
+ghost use Rattle.recovery.specs.Reading.{IsBlockFault, IsDieFault, IsFaultOf, IsJoined, IsNoted, IsPageFault, IsReadingFault, IsTable, IsTableOf, IsTableTo, NoLower};
 ghost use Rattle.recovery.specs.Reading.{ShowsDie, ShowsDies, greater_of, newer, newer_of, place_at};
 
 use crate::pages::{FoundMark, FoundPage};
@@ -245,7 +245,7 @@ fn read_block<D: Die>(
     ensures read { OnOk result ((c : Cells) → AreWithin numbers.now c → ShowsDie spot.0 (D.state die.old) c →
         IsTableTo numbers.now spot.0 spot.1 0 c table.old →
         IsTableTo numbers.now spot.0 (spot.1 + 1) 0 c table.new) }
-    ensures fault { IfErr result (IsDieFault spot.0 (D.failed die.old) (D.failed die.new)) }
+    ensures fault { IfErr result (IsBlockFault spot.0 spot.1 (D.failed die.old) (D.failed die.new)) }
 {
     if let Err(fault) = read_fours(die, numbers, spot, table, room) {
         return Err(fault);
@@ -268,7 +268,7 @@ fn read_fours<D: Die>(
     ensures read { OnOk result ((c : Cells) → ShowsDie spot.0 (D.state die.old) c →
         IsTableTo numbers.now spot.0 spot.1 0 c table.old →
         IsTableTo numbers.now spot.0 spot.1 (numbers.now.pages / 4 * 4) c table.new) }
-    ensures fault { IfErr result (IsDieFault spot.0 (D.failed die.old) (D.failed die.new)) }
+    ensures fault { IfErr result (IsBlockFault spot.0 spot.1 (D.failed die.old) (D.failed die.new)) }
 {
     for four in 0..numbers.pages / 4 {
         if let Err(fault) = read_four(die, spot, four * 4, table, room) {
@@ -294,7 +294,7 @@ fn read_rest<D: Die>(
         ShowsDie spot.0 (D.state die.old) c →
         IsTableTo numbers.now spot.0 spot.1 (numbers.now.pages / 4 * 4) c table.old →
         IsTableTo numbers.now spot.0 (spot.1 + 1) 0 c table.new) }
-    ensures fault { IfErr result (IsDieFault spot.0 (D.failed die.old) (D.failed die.new)) }
+    ensures fault { IfErr result (IsBlockFault spot.0 spot.1 (D.failed die.old) (D.failed die.new)) }
 {
     for index in numbers.pages / 4 * 4..numbers.pages {
         let place = Place {
@@ -325,7 +325,7 @@ fn read_four<D: Die>(
     ensures read { OnOk result ((n : Numbers) (c : Cells) → ShowsDie spot.0 (D.state die.old) c →
         IsTableTo n spot.0 spot.1 index c table.old →
         IsTableTo n spot.0 spot.1 (index + 4) c table.new) }
-    ensures fault { IfErr result (IsDieFault spot.0 (D.failed die.old) (D.failed die.new)) }
+    ensures fault { IfErr result (IsBlockFault spot.0 spot.1 (D.failed die.old) (D.failed die.new)) }
 {
     if let Err(fault) = fill(die, spot, index, room) {
         return Err(fault);
@@ -343,7 +343,7 @@ fn fill<D: Die>(die: &mut D, spot: (u8, u16), index: u16, room: &mut Room) -> Re
     ensures second { OnOk result (room.new.second ≡ page_at (D.state die.old) spot.1 (index + 1)) }
     ensures third { OnOk result (room.new.third ≡ page_at (D.state die.old) spot.1 (index + 2)) }
     ensures fourth { OnOk result (room.new.fourth ≡ page_at (D.state die.old) spot.1 (index + 3)) }
-    ensures fault { IfErr result (IsDieFault spot.0 (D.failed die.old) (D.failed die.new)) }
+    ensures fault { IfErr result (IsBlockFault spot.0 spot.1 (D.failed die.old) (D.failed die.new)) }
 {
     if let Err(fault) = read_pair(die, spot, index, &mut room.first, &mut room.second) {
         return Err(fault);
@@ -365,7 +365,7 @@ fn read_pair<D: Die>(
     ensures counted { D.failed die.old ≤ D.failed die.new }
     ensures one { OnOk result (one.new ≡ page_at (D.state die.old) spot.1 index) }
     ensures next { OnOk result (next.new ≡ page_at (D.state die.old) spot.1 (index + 1)) }
-    ensures fault { IfErr result (IsDieFault spot.0 (D.failed die.old) (D.failed die.new)) }
+    ensures fault { IfErr result (IsBlockFault spot.0 spot.1 (D.failed die.old) (D.failed die.new)) }
 {
     if let Err(fault) = read_into(die, spot, index, one) {
         return Err(fault);
@@ -384,7 +384,8 @@ fn read_into<D: Die>(
     ensures same { D.state die.new ≡ D.state die.old }
     ensures counted { D.failed die.old ≤ D.failed die.new }
     ensures found { OnOk result (page.new ≡ page_at (D.state die.old) spot.1 index) }
-    ensures fault { IfErr result (IsDieFault spot.0 (D.failed die.old) (D.failed die.new)) }
+    ensures fault { IfErr result (IsPageFault (place_at spot.0 spot.1 index) (D.failed die.old)
+        (D.failed die.new)) }
 {
     let place = Place {
         die: spot.0,
@@ -466,7 +467,7 @@ fn read_page<D: Die>(
     ensures counted { D.failed die.old ≤ D.failed die.new }
     ensures read { OnOk result ((c : Cells) → ShowsDie place.die (D.state die.old) c →
         IsNoted place (c place) table.old table.new) }
-    ensures fault { IfErr result (IsDieFault place.die (D.failed die.old) (D.failed die.new)) }
+    ensures fault { IfErr result (IsBlockFault place.die place.block (D.failed die.old) (D.failed die.new)) }
 {
     if let Err(fault) = read_into(die, (place.die, place.block), place.page, page) {
         return Err(fault);
@@ -482,7 +483,8 @@ pub(crate) fn fetch<D: Die>(dies: &mut [D], place: Place, page: &mut Page) -> Re
     ensures same { map D.state dies.new ≡ map D.state dies.old }
     ensures counted { NoLower (map D.failed dies.old) (map D.failed dies.new) }
     ensures found { OnOk result (page.new ≡ array_of (map D.state dies.old) place) }
-    ensures fault { IfErr result (IsReadingFault (map D.failed dies.old) (map D.failed dies.new)) }
+    ensures fault { IfErr result (IsPageFault place (slice_index_or (map D.failed dies.old) place.die 0)
+        (slice_index_or (map D.failed dies.new) place.die 0)) }
 {
     match dies[usize::from(place.die)].read(place.block, place.page, page) {
         Ok(_) => Ok(()),

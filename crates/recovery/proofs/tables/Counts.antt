@@ -1,5 +1,6 @@
 -- One die of a list does a job: what it holds, and the counts of failures.
 use Rattle.std.proofs.Common.{◌≡◌, ◌∙◌, ℕ, zero, suc, ◌+◌, ◌<◌, ◌≤◌, List, [], ◌∷◌, map, refl, ap, arith, get_or}
+use Rattle.std.proofs.Common.{subst, sym}
 use Rattle.std.proofs.Common.{length}
 use Rattle.std.specs.Prelude.{slice_set}
 use Rattle.std.proofs.lemmas.List.Elements.{All-get_or}
@@ -10,7 +11,8 @@ use Rattle.ufs_spec.specs.Lives.{Fit}
 use Rattle.ufs_spec.specs.declared.configs.Numbers.{Numbers}
 use Rattle.ufs_spec.specs.declared.faults.OpenFault.{OpenFault}
 use Rattle.ufs_spec.specs.declared.faults.OpenFault.TheVariants as fault
-use Rattle.recovery.specs.Reading.{IsDieFault, IsFaultOf, IsReadingFault, NoLower}
+use Rattle.ufs_spec.specs.declared.flash.Place.{Place}
+use Rattle.recovery.specs.Reading.{IsBlockFault, IsDieFault, IsFaultOf, IsPageFault, IsReadingFault, NoLower, place_at}
 
 -- what is told of the one stays, and so does what is told of each
 pub map_stays : {A B : Type 0} (f : A → B) (xs : List A) (i : ℕ) (d y : A) → f y ≡ f (get_or xs i d)
@@ -52,6 +54,27 @@ pub die_fault_later : (number a b d : ℕ) (e : OpenFault) → a ≤ b → IsDie
 die_fault_later number a b d fault.NoMemory h k = tt
 die_fault_later number a b d (fault.ReadFault p) h k = (k.0, omega (arith, h, k.1))
 die_fault_later number a b d fault.OtherConfig h k = k
+
+pub block_fault_later : (die block a b d : ℕ) (e : OpenFault) → a ≤ b → IsBlockFault die block b d e
+    → IsBlockFault die block a d e
+block_fault_later die block a b d fault.NoMemory h k = tt
+block_fault_later die block a b d (fault.ReadFault p) h k = (k.0, k.1, omega (arith, h, k.2))
+block_fault_later die block a b d fault.OtherConfig h k = k
+
+-- a fault of one of its pages is one of the block, and that is one of its die
+pub fault_of_page : (die block page a b : ℕ) (e : OpenFault) → IsPageFault (place_at die block page) a b e
+    → IsBlockFault die block a b e
+fault_of_page die block page a b e h = subst (IsBlockFault die block a b) (sym h.0) (refl, refl, h.1)
+
+pub fault_of_block : (die block a b : ℕ) (e : OpenFault) → IsBlockFault die block a b e → IsDieFault die a b e
+fault_of_block die block a b fault.NoMemory h = tt
+fault_of_block die block a b (fault.ReadFault p) h = (h.0, h.2)
+fault_of_block die block a b fault.OtherConfig h = h
+
+-- so is one of a page of one of the dies
+pub fault_of_place : (p : Place) (a b : List ℕ) (e : OpenFault)
+    → IsPageFault p (slice_index_or a p.die 0) (slice_index_or b p.die 0) e → IsReadingFault a b e
+fault_of_place p a b e h = subst (IsReadingFault a b) (sym h.0) h.1
 
 pub fault_of_later : (first : ℕ) (a b d : List ℕ) (e : OpenFault) → NoLower a b → IsFaultOf first b d e
     → IsFaultOf first a d e

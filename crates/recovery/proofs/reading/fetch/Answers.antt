@@ -1,4 +1,4 @@
-use Rattle.std.proofs.Common.{ℕ, ◌<◌, arith, map, subst}
+use Rattle.std.proofs.Common.{ℕ, ◌<◌, arith, map, refl, subst}
 use Rattle.std.specs.Prelude.{slice_index_or, slice_set}
 use Rattle.recovery.proofs.tables.Counts.{count_rose, counts_stay, map_stays}
 use Rattle.recovery.proofs.reading.fetch.Goals as goal
@@ -24,10 +24,12 @@ returns-in-Err-clause-counted g c =
     (omega (arith, c.in-Err.ensures.counted_err))
 
 pub returns-in-Err-clause-fault : goal.returns-in-Err-clause-fault
-returns-in-Err-clause-fault g c =
-    subst
-    (λ (i : ℕ). slice_index_or (map g.D.Die.failed c.args.dies.now) i 0
-    < slice_index_or (map g.D.Die.failed (slice_set c.args.dies.now c.from.result c.read.new.self)) i 0)
-    c.from.ensures
-    (count_rose g.D.Die.failed c.args.dies.now c.from.result c.index-dies-from.result c.read.new.self
-    (omega (arith, c.requires.die, c.from.ensures)) c.in-Err.ensures.counted_err)
+returns-in-Err-clause-fault g c = (
+  refl,
+  subst
+      (λ (i : ℕ). slice_index_or (map g.D.Die.failed c.args.dies.now) i 0
+      < slice_index_or (map g.D.Die.failed (slice_set c.args.dies.now c.from.result c.read.new.self)) i 0)
+      c.from.ensures
+      (count_rose g.D.Die.failed c.args.dies.now c.from.result c.index-dies-from.result c.read.new.self
+      (omega (arith, c.requires.die, c.from.ensures)) c.in-Err.ensures.counted_err),
+)

@@ -1,7 +1,7 @@
 use Rattle.std.proofs.Common.{◌≡◌, ◌∙◌, ℕ, ◌+◌, ◌<◌, ap, arith, length, subst, sym}
 use Rattle.std.proofs.lemmas.Result.{IfErr-weaker, on_ok_weaker}
 use Rattle.ufs_spec.specs.Dies.{DieState, LiesOnDie, page_at, pages_of}
-use Rattle.recovery.proofs.tables.Counts.{die_fault_later}
+use Rattle.recovery.proofs.tables.Counts.{block_fault_later}
 use Rattle.recovery.proofs.reading.fill.Goals as goal
 
 pub read_pair-requires-clause-inside : goal.read_pair-requires-clause-inside
@@ -35,7 +35,7 @@ returns g c =
           c.read_pair-2.ensures.next;
       fault =
           IfErr-weaker c.read_pair-2.result _ _
-          (λ e h. die_fault_later c.args.spot.0 (g.D.Die.failed c.args.die.now) (g.D.Die.failed c.read_pair.new.die)
-          (g.D.Die.failed c.read_pair-2.new.die) e c.read_pair.ensures.counted h)
+          (λ e h. block_fault_later c.args.spot.0 c.args.spot.1 (g.D.Die.failed c.args.die.now)
+          (g.D.Die.failed c.read_pair.new.die) (g.D.Die.failed c.read_pair-2.new.die) e c.read_pair.ensures.counted h)
           c.read_pair-2.ensures.fault;
     }

@@ -2,7 +2,7 @@ use Rattle.std.proofs.Common.{◌∙◌, arith, subst, sym}
 use Rattle.std.proofs.lemmas.Result.{IfErr-weaker, on_ok_weaker}
 use Rattle.ufs_spec.specs.Dies.{DieState, IsOfSize}
 use Rattle.recovery.specs.Reading.{ShowsDie}
-use Rattle.recovery.proofs.tables.Counts.{die_fault_later}
+use Rattle.recovery.proofs.tables.Counts.{block_fault_later}
 use Rattle.recovery.proofs.reading.read_block.Goals as goal
 
 pub read_rest-requires-clause-size : goal.read_rest-requires-clause-size
@@ -21,7 +21,7 @@ returns g c = record {
       c.read_rest.ensures.read;
   fault =
       IfErr-weaker c.read_rest.result _ _
-      (λ e h. die_fault_later c.args.spot.0 (g.D.Die.failed c.args.die.now) (g.D.Die.failed c.read_fours.new.die)
+      (λ e h. block_fault_later c.args.spot.0 c.args.spot.1 (g.D.Die.failed c.args.die.now) (g.D.Die.failed c.read_fours.new.die)
       (g.D.Die.failed c.read_rest.new.die) e c.read_fours.ensures.counted h)
       c.read_rest.ensures.fault;
 }

@@ -2,7 +2,7 @@ use Rattle.std.proofs.Common.{◌≡◌, ◌∙◌, ℕ, ap, arith, option_map, 
 use Rattle.ufs_spec.specs.Dies.{DieState, IsOfSize}
 use Rattle.page_tag.specs.Contents.{mark_of}
 use Rattle.recovery.specs.Reading.{IsTableTo, ShowsDie}
-use Rattle.recovery.proofs.tables.Counts.{die_fault_later}
+use Rattle.recovery.proofs.tables.Counts.{die_fault_later, fault_of_block}
 use Rattle.recovery.proofs.tables.Whole.{die_read, nothing_read, only, only_before, only_shown, only_within}
 use Rattle.recovery.proofs.reading.read_die.Goals as goal
 
@@ -44,7 +44,9 @@ returns-in-Err g c =
       read = tt;
       fault =
           die_fault_later c.args.number (g.D.Die.failed c.args.die.now) (g.D.Die.failed c.loop-block.die)
-          (g.D.Die.failed c.read_block.new.die) c.in-Err.fault before.counted c.in-Err.ensures.fault;
+          (g.D.Die.failed c.read_block.new.die) c.in-Err.fault before.counted
+          (fault_of_block c.args.number c.loop-block.block (g.D.Die.failed c.loop-block.die)
+          (g.D.Die.failed c.read_block.new.die) c.in-Err.fault c.in-Err.ensures.fault);
     }
 
 pub returns-clause-read : goal.returns-clause-read

@@ -1,7 +1,7 @@
 use Rattle.std.proofs.Common.{◌≡◌, ◌∙◌, ℕ, ◌+◌, ◌*◌, ◌/◌, arith, refl, subst, sym}
 use Rattle.ufs_spec.specs.Dies.{DieState, LiesOnDie}
 use Rattle.recovery.specs.Reading.{IsTableTo, ShowsDie}
-use Rattle.recovery.proofs.tables.Counts.{die_fault_later, lies_there}
+use Rattle.recovery.proofs.tables.Counts.{block_fault_later, lies_there}
 use Rattle.recovery.proofs.reading.read_fours.Goals as goal
 
 pub loop-four-init : goal.loop-four-init
@@ -40,7 +40,7 @@ returns-in-Err g c =
       counted = omega (arith, before.counted, c.read_four.ensures.counted);
       read = tt;
       fault =
-          die_fault_later c.args.spot.0 (g.D.Die.failed c.args.die.now) (g.D.Die.failed c.loop-four.die)
+          block_fault_later c.args.spot.0 c.args.spot.1 (g.D.Die.failed c.args.die.now) (g.D.Die.failed c.loop-four.die)
           (g.D.Die.failed c.read_four.new.die) c.in-Err.fault before.counted c.in-Err.ensures.fault;
     }
 

@@ -5,6 +5,7 @@ use Rattle.ufs_spec.specs.declared.flash.Page.{Page}
 use Rattle.ufs_laws.proofs.pages.PageIsOneCell.{one_cell}
 use Rattle.page_tag.specs.Contents.{cell_of}
 use Rattle.recovery.specs.Reading.{IsNoted}
+use Rattle.recovery.proofs.tables.Counts.{fault_of_page}
 use Rattle.recovery.proofs.reading.read_page.Goals as goal
 
 pub returns-clause-read : goal.returns-clause-read
@@ -18,3 +19,8 @@ returns-clause-read g c =
     let same = one_cell page (cell_of c.content_of.result) (cells place) c.content_of.ensures found in
     subst (λ (x : Cell). IsNoted place x c.args.table.now c.note.new.self) same h)
     c.note.ensures.noted
+
+pub returns-in-Err-clause-fault : goal.returns-in-Err-clause-fault
+returns-in-Err-clause-fault g c =
+    fault_of_page c.args.place.die c.args.place.block c.args.place.page (g.D.Die.failed c.args.die.now)
+    (g.D.Die.failed c.read_into.new.die) c.in-Err.fault c.in-Err.ensures.fault

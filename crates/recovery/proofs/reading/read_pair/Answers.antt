@@ -1,7 +1,7 @@
 use Rattle.std.proofs.Common.{◌∙◌, ◌+◌, ap, arith, subst, sym}
 use Rattle.std.proofs.lemmas.Result.{IfErr-weaker, on_ok_weaker}
 use Rattle.ufs_spec.specs.Dies.{DieState, LiesOnDie, page_at}
-use Rattle.recovery.proofs.tables.Counts.{die_fault_later}
+use Rattle.recovery.proofs.tables.Counts.{block_fault_later, fault_of_page}
 use Rattle.recovery.proofs.reading.read_pair.Goals as goal
 
 pub read_into-requires : goal.read_into-requires
@@ -11,6 +11,11 @@ pub read_into-requires-2 : goal.read_into-requires-2
 read_into-requires-2 g c =
     subst (λ (die : DieState). LiesOnDie die c.args.spot.1 (c.args.index + 1)) (sym c.read_into.ensures.same)
     c.requires.inside
+
+pub returns-in-Err-clause-fault : goal.returns-in-Err-clause-fault
+returns-in-Err-clause-fault g c =
+    fault_of_page c.args.spot.0 c.args.spot.1 c.args.index (g.D.Die.failed c.args.die.now)
+    (g.D.Die.failed c.read_into.new.die) c.in-Err.fault c.in-Err.ensures.fault
 
 pub returns : goal.returns
 returns g c =
@@ -25,7 +30,9 @@ returns g c =
           c.read_into-2.ensures.found;
       fault =
           IfErr-weaker c.read_into-2.result _ _
-          (λ e h. die_fault_later c.args.spot.0 (g.D.Die.failed c.args.die.now) (g.D.Die.failed c.read_into.new.die)
-          (g.D.Die.failed c.read_into-2.new.die) e c.read_into.ensures.counted h)
+          (λ e h. block_fault_later c.args.spot.0 c.args.spot.1 (g.D.Die.failed c.args.die.now)
+          (g.D.Die.failed c.read_into.new.die) (g.D.Die.failed c.read_into-2.new.die) e c.read_into.ensures.counted
+          (fault_of_page c.args.spot.0 c.args.spot.1 (c.args.index + 1) (g.D.Die.failed c.read_into.new.die)
+          (g.D.Die.failed c.read_into-2.new.die) e h))
           c.read_into-2.ensures.fault;
     }

@@ -1,7 +1,7 @@
 use Rattle.std.proofs.Common.{◌≡◌, ◌∙◌, ℕ, arith, refl, subst, sym}
 use Rattle.ufs_spec.specs.Dies.{DieState, LiesOnDie, page_at}
 use Rattle.recovery.specs.Reading.{IsTableTo, ShowsDie, place_at}
-use Rattle.recovery.proofs.tables.Counts.{die_fault_later, lies_there}
+use Rattle.recovery.proofs.tables.Counts.{block_fault_later, lies_there}
 use Rattle.recovery.proofs.tables.Whole.{block_read, page_read}
 use Rattle.recovery.proofs.reading.read_rest.Goals as goal
 
@@ -42,7 +42,7 @@ returns-in-Err g c =
       counted = omega (arith, before.counted, c.read_page.ensures.counted);
       read = tt;
       fault =
-          die_fault_later c.args.spot.0 (g.D.Die.failed c.args.die.now) (g.D.Die.failed c.loop-index.die)
+          block_fault_later c.args.spot.0 c.args.spot.1 (g.D.Die.failed c.args.die.now) (g.D.Die.failed c.loop-index.die)
           (g.D.Die.failed c.read_page.new.die) c.in-Err.fault before.counted c.in-Err.ensures.fault;
     }
 
