@@ -13,7 +13,7 @@ use Rattle.ufs_spec.specs.declared.faults.OpenFault.{OpenFault}
 use Rattle.settings.specs.Told.{settings_in}
 use Rattle.recovery.specs.Found.{IsFound, IsScanFault, newest_found}
 use Rattle.recovery.specs.Reading.{IsFaultOf, IsTable, IsTableOf, NoLower, ShowsDies}
-use Rattle.recovery.specs.Stood.{IsStoodFor}
+use Rattle.recovery.specs.Stood.{AreReadSettings, IsStoodFor}
 use Rattle.recovery.specs.declared.found.Found.{Found}
 use Rattle.recovery.specs.declared.reading.Table.{Table}
 
@@ -21,10 +21,11 @@ use Rattle.recovery.specs.declared.reading.Table.{Table}
 abbrev pub IsTableOver : Numbers → List DieState → Table → Type 0
 IsTableOver n dies t = (c : Cells) → Shows (array_of dies) c → IsTable n c t
 
--- what was found on the dies
+-- what was found on the dies; over sound ones it has the contents of the plain state that they stand for
 pub record IsFoundOn (n : Numbers) (dies : List DieState) (f : Found) : Type 0 where
   pub found : (c : Cells) → Shows (array_of dies) c → IsFound n c (bad_of dies) f
   pub stands : Sound (array_of dies) → (p : Plain) × IsStoodFor n (array_of dies) f p
+  pub read_settings : AreReadSettings n (array_of dies) f.contents.items f.settings
   pub settings : (c : Cells) → Shows (array_of dies) c → CellsSound c (newest_found f) → (x : List ℕ) →
       Holds c (newest_found f) (suc f.kept) settings_key x → f.settings ≡ settings_in x
 

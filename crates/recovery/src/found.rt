@@ -1,5 +1,5 @@
 //! What the dies stand for when a device is opened over them.
-ghost use Rattle.std.specs.Prelude.{◌≡◌, ◌≤◌, ◌^◌, ◌↔◌, ◌==◌, ◌⊎◌, ◌∷◌, [], ℕ, suc, Bool, List, Some, IfErr, IfOk, IsTrue, length, map, option_map, slice_get, slice_index};
+ghost use Rattle.std.specs.Prelude.{◌≡◌, ◌≤◌, ◌^◌, ◌↔◌, ◌==◌, ◌⊎◌, ◌∷◌, [], ℕ, suc, Bool, List, Some, Err, IfErr, IfOk, IsTrue, length, map, option_map, slice_get, slice_index};
 ghost use Rattle.ufs_spec.specs.Pages.{greatest_number};
 ghost use Rattle.ufs_spec.specs.Cells as cells;
 ghost use Rattle.ufs_spec.specs.Cells.{AreWithin, Cells, Shows};
@@ -16,7 +16,7 @@ ghost use Rattle.recovery.specs.Found.{IsFound, IsScanFault, newest_found};
 ghost use Rattle.recovery.specs.Scanned.{IsFaultOn, IsFoundOn, IsTableOver};
 ghost use Rattle.recovery.specs.Listed.{AreInRange};
 ghost use Rattle.recovery.specs.Reading.{IsTable, newest_in};
-ghost use Rattle.recovery.specs.Stood.{IsStoodFor};
+ghost use Rattle.recovery.specs.Stood.{AreReadSettings, IsStoodFor};
 ghost use Rattle.recovery.specs.declared.pages.FoundPage.{FoundPage};
 
 use crate::blocks::bad_blocks;
@@ -76,6 +76,9 @@ pub fn scan<D: Die>(alloc: Global, dies: &mut [D], config: &Config) -> Result<Fo
     // for, and they stand for no other.
     ensures stands { IfOk result (λ f. Sound (array_of (map D.state dies.old)) →
         (p : Plain) × IsStoodFor config.now (array_of (map D.state dies.old)) f p) }
+    // Its settings are those that the page says that was found for them.
+    ensures read { IfOk result (λ f.
+        AreReadSettings config.now (array_of (map D.state dies.old)) f.contents.items f.settings) }
     // Over sound pages its settings are those that the content of their key says.
     ensures settings { IfOk result (λ f. (c : Cells) → Shows (array_of (map D.state dies.old)) c →
         CellsSound c (newest_found f) → (x : List ℕ) →
@@ -106,6 +109,9 @@ pub(crate) fn found_over<D: Die>(
     requires read { IsTableOver config.now (map D.state dies.old) table }
     ensures same { map D.state dies.new ≡ map D.state dies.old }
     ensures told { IfOk result (IsFoundOn config.now (map D.state dies.old)) }
+    // Dies of another configuration are told as such, and as nothing else.
+    ensures unsuited { (c : Cells) → Shows (array_of (map D.state dies.old)) c →
+        (CellsSuit config.now c (newest_in table) → ⊥) → result ≡ Err OpenFault.OtherConfig }
     ensures fault { IfErr result (IsFaultOn config.now (map D.state dies.old) (map D.failed dies.old)
         (map D.failed dies.new)) }
 {

@@ -10,6 +10,7 @@ ghost use Rattle.ufs_spec.specs.Sound.{CellsSound};
 ghost use Rattle.settings.specs.Told.{settings_in};
 ghost use Rattle.recovery.specs.Found.{HasSettings, newest_found};
 ghost use Rattle.recovery.specs.Reading.{IsReadingFault};
+ghost use Rattle.recovery.specs.Stood.{AreReadSettings};
 ghost use Rattle.recovery.specs.declared.pages.FoundPage.{FoundPage};
 
 use crate::found::Found;
@@ -35,6 +36,9 @@ pub(crate) fn found_settings<D: Die>(
     requires settings { (c : Cells) → Shows (array_of (map D.state dies.old)) c →
         HasSettings numbers.now c (bad_of (map D.state dies.old)) found.now }
     ensures same { map D.state dies.new ≡ map D.state dies.old }
+    // They are what the page says that was found for them.
+    ensures read { IfOk result (AreReadSettings numbers.now (array_of (map D.state dies.old))
+        found.now.contents.items) }
     // Over sound pages they are what the content of their key says.
     ensures told { IfOk result (λ s. (c : Cells) → Shows (array_of (map D.state dies.old)) c →
         CellsSound c (newest_found found.now) → (x : List ℕ) →

@@ -11,7 +11,7 @@ ghost use Rattle.settings.specs.Told.{settings_in};
 ghost use Rattle.recovery.specs.Found.{IsFound, IsScanFault, newest_found};
 ghost use Rattle.recovery.specs.Reading.{IsJoined};
 ghost use Rattle.recovery.specs.Scanned.{CanRead, HasRead};
-ghost use Rattle.recovery.specs.Stood.{IsStoodFor};
+ghost use Rattle.recovery.specs.Stood.{AreReadSettings, IsStoodFor};
 ghost use Rattle.recovery.specs.declared.reading.Table.{Table};
 
 use crate::found::{Found, found_over};
@@ -45,6 +45,9 @@ pub fn scan_parallel<R: Threads + Sync, D: Die + Send>(
     // for, and they stand for no other.
     ensures stands { IfOk result (λ f. Sound (array_of (map D.state dies.old)) →
         (p : Plain) × IsStoodFor config.now (array_of (map D.state dies.old)) f p) }
+    // Its settings are those that the page says that was found for them.
+    ensures read { IfOk result (λ f.
+        AreReadSettings config.now (array_of (map D.state dies.old)) f.contents.items f.settings) }
     // Over sound pages its settings are those that the content of their key says.
     ensures settings { IfOk result (λ f. (c : Cells) → Shows (array_of (map D.state dies.old)) c →
         CellsSound c (newest_found f) → (x : List ℕ) →

@@ -23,6 +23,7 @@ use Rattle.recovery.specs.Found.{HasSettings, IsFound, newest_found}
 use Rattle.geometry.specs.Keys.{AtSettings}
 use Rattle.recovery.specs.Listed.{IsContentPage, outside}
 use Rattle.recovery.proofs.opened.OutsidePages.{IsPageOutside, outside_there, page_outside, recorded_kept}
+use Rattle.recovery.specs.Stood.{AreReadSettings, HasContent}
 use Rattle.recovery.specs.declared.found.Found.{Found}
 use Rattle.recovery.specs.declared.pages.FoundPage.{FoundPage}
 use Rattle.recovery.proofs.table_facts.TableFacts.{shown_cells}
@@ -142,3 +143,29 @@ none_says n bad array f s zeros page c shown sound x holds = ⊎_elim
     absurd (omega (arith, l, w)))
     (λ (h : HasNone c (newest_found f) (suc f.kept) settings_key × (x ≡ zero_block)).
     zeros ∙ ap settings_in (sym h.1)) holds
+
+-- over any pages the settings are what the page says that was found, or zeros where none was
+module _ (n : Numbers) (array : Array) (xs contents : List (Option FoundPage)) (o : Option FoundPage) (s : Settings)
+    (same : xs ≡ contents)
+    (told : (e : Option FoundPage) →
+    slice_get xs (sum (shape_of_numbers n).blocks + area_pages (shape_of_numbers n)) ≡ Some e → o ≡ e) where
+  it_has : (e : Option FoundPage) (x : List ℕ) →
+      slice_get contents (sum (shape_of_numbers n).blocks + area_pages (shape_of_numbers n)) ≡ Some e →
+      HasContent array e x → HasContent array o x
+  it_has e x at has =
+      subst (λ (y : Option FoundPage). HasContent array y x)
+      (sym (told e (ap (λ (ys : List (Option FoundPage)). slice_get ys
+      (sum (shape_of_numbers n).blocks + area_pages (shape_of_numbers n))) same ∙ at))) has
+
+  pub page_read : (e : FoundPage) → o ≡ Some e → s ≡ settings_in (array e.place).body →
+      AreReadSettings n array contents s
+  page_read e is says other x at has =
+      let here : HasContent array (Some e) x =
+      subst (λ (y : Option FoundPage). HasContent array y x) is (it_has other x at has) in
+      says ∙ ap settings_in here.sealed.holds
+
+  pub none_read : o ≡ None → s ≡ settings_in zero_block → AreReadSettings n array contents s
+  none_read is zeros other x at has =
+      let here : HasContent array None x =
+      subst (λ (y : Option FoundPage). HasContent array y x) is (it_has other x at has) in
+      zeros ∙ ap settings_in (sym here)

@@ -1,15 +1,19 @@
-use Rattle.std.proofs.Common.{sym, subst, ◌∙◌, map, refl}
+use Rattle.std.proofs.Common.{sym, subst, ◌≡◌, ◌∙◌, List, map, refl}
 use Rattle.ufs_spec.specs.Cells.{AreWithin, Cells, Shows}
+use Rattle.ufs_spec.specs.Dies.{DieState}
 use Rattle.ufs_spec.specs.Lives.{array_of, bad_of}
 use Rattle.ufs_spec.specs.Sound.{CellsSuit}
+use Rattle.ufs_spec.specs.declared.configs.Numbers.{Numbers}
 use Rattle.ufs_spec.proofs.Facts.{false≢true}
 use Rattle.power_loss.proofs.die_pages.BlankOutsideDies.{fit_inside}
 use Rattle.recovery.proofs.settings_pages.SettingsPages.{has_settings, still_found}
 use Rattle.recovery.proofs.table_facts.TableFacts.{bads_of, frontiers_fit, records_fit, shown_in_range}
 use Rattle.recovery.proofs.tables.Whole.{shown_within}
 use Rattle.recovery.specs.Found.{IsFound}
-use Rattle.recovery.specs.Reading.{newest_in}
+use Rattle.recovery.specs.Reading.{IsTable, newest_in}
 use Rattle.recovery.specs.Scanned.{IsTableOver}
+use Rattle.recovery.specs.Stood.{AreReadSettings}
+use Rattle.recovery.specs.declared.reading.Table.{Table}
 use Rattle.recovery.proofs.standing_for.FoundStands.{found_stands}
 use Rattle.recovery.proofs.found.found_over.Goals as goal
 
@@ -54,6 +58,14 @@ found_settings-requires-clause-settings g c = λ cells now.
     ∙ bads_of g.D.Die.state c.numbers-numbers.result.now c.args.config.now c.args.dies.now c.args.dies.now
     c.in-Ok.bad.items is c.requires.fit refl c.in-Ok.ensures.in_order))
 
+-- behind the check the cells suit
+does_suit : (n m : Numbers) (dies : List DieState) (t : Table) → m ≡ n → IsTableOver n dies t →
+    ((c : Cells) → IsTable m c t → CellsSuit m c (newest_in t)) → (c : Cells) → Shows (array_of dies) c →
+    CellsSuit n c (newest_in t)
+does_suit n m dies t is over suits c shown =
+    subst (λ (k : Numbers). CellsSuit k c (newest_in t)) is
+    (suits c (subst (λ (k : Numbers). IsTable k c t) (sym is) (over c shown)))
+
 pub returns-clause-told : goal.returns-clause-told
 returns-clause-told g c =
     let found : (cells : Cells) → Shows (array_of (map g.D.Die.state c.args.dies.now)) cells →
@@ -77,5 +89,16 @@ returns-clause-told g c =
       stands =
           found_stands c.args.config.now (array_of dies) (bad_of dies) _
           (fit_inside c.args.config.now dies c.requires.fit) found;
+      read_settings =
+          subst
+          (λ (n : Numbers). AreReadSettings n (array_of dies) c.in-Ok-found_in.found.contents.items
+          c.in-Ok-found_settings.settings) c.numbers-numbers.ensures.value c.in-Ok-found_settings.ensures.read;
       settings = c.in-Ok-found_settings.ensures.told;
     }
+
+-- so where they do not, no later end is reached
+pub returns-clause-unsuited : goal.returns-clause-unsuited
+returns-clause-unsuited g c = λ cells shown no.
+    absurd (no (does_suit c.args.config.now c.numbers-numbers.result.now (map g.D.Die.state c.args.dies.now) c.args.table
+    c.numbers-numbers.ensures.value c.requires.read
+    (λ cs table. (c.is_of_config.ensures cs table).0 c.if-not-is_of_config.false) cells shown))

@@ -30,6 +30,13 @@ returns-in-Ok-clause-stands g c =
     (map g.D.Die.state c.read_all.new.dies) f c.in-Ok.ensures.same h).stands)
     c.found_over.ensures.told
 
+pub returns-in-Ok-clause-read : goal.returns-in-Ok-clause-read
+returns-in-Ok-clause-read g c =
+    IfOk-weaker c.found_over.result _ _
+    (λ f h. (found_before c.args.config.now (map g.D.Die.state c.args.dies.now)
+    (map g.D.Die.state c.read_all.new.dies) f c.in-Ok.ensures.same h).read_settings)
+    c.found_over.ensures.told
+
 pub returns-in-Ok-clause-settings : goal.returns-in-Ok-clause-settings
 returns-in-Ok-clause-settings g c =
     IfOk-weaker c.found_over.result _ _

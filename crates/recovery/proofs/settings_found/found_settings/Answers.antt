@@ -3,7 +3,7 @@ use Rattle.std.proofs.lemmas.Result.{IfOk-weaker}
 use Rattle.std.proofs.lemmas.List.{length-map}
 use Rattle.ufs_spec.specs.Lives.{array_of, bad_of}
 use Rattle.recovery.proofs.settings_pages.SettingsPages.{IsSettingsPage, lies_there, none_says, page_says}
-use Rattle.recovery.proofs.settings_pages.SettingsPages.{settings_there}
+use Rattle.recovery.proofs.settings_pages.SettingsPages.{none_read, page_read, settings_there}
 use Rattle.recovery.proofs.settings_found.found_settings.Goals as goal
 
 pub settings_at-requires-clause-die : goal.settings_at-requires-clause-die
@@ -53,3 +53,17 @@ returns-in-None-clause-told g c = λ cells shown sound x holds.
     c.settings_page.result c.requires.settings c.as_slice.ensures.value c.settings_page.ensures) in
     none_says c.args.numbers.now (bad_of dies) (array_of dies) c.args.found.now c.new.result c.new.ensures.zeros page
     cells shown sound x holds
+
+pub returns-in-Some-clause-read : goal.returns-in-Some-clause-read
+returns-in-Some-clause-read g c =
+    let dies = map g.D.Die.state c.args.dies.now in
+    IfOk-weaker c.settings_at.result _ _
+    (λ s told. page_read c.args.numbers.now (array_of dies) c.as_slice.result.now c.args.found.now.contents.items
+    c.settings_page.result s c.as_slice.ensures.value c.settings_page.ensures c.in-Some.content c.in-Some.is told)
+    c.settings_at.ensures.told
+
+pub returns-in-None-clause-read : goal.returns-in-None-clause-read
+returns-in-None-clause-read g c =
+    let dies = map g.D.Die.state c.args.dies.now in
+    none_read c.args.numbers.now (array_of dies) c.as_slice.result.now c.args.found.now.contents.items
+    c.settings_page.result c.new.result c.as_slice.ensures.value c.settings_page.ensures c.in-None.is c.new.ensures.zeros

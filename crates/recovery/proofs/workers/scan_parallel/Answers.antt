@@ -20,6 +20,13 @@ returns-in-Ok-clause-found g c =
     c.read_by.ensures.same h).found)
     c.found_over.ensures.told
 
+pub returns-in-Ok-clause-read : goal.returns-in-Ok-clause-read
+returns-in-Ok-clause-read g c =
+    IfOk-weaker c.found_over.result _ _
+    (λ f h. (found_before c.args.config.now (map g.D.Die.state c.args.dies.now) (map g.D.Die.state c.read_by.new.dies) f
+    c.read_by.ensures.same h).read_settings)
+    c.found_over.ensures.told
+
 pub returns-in-Ok-clause-settings : goal.returns-in-Ok-clause-settings
 returns-in-Ok-clause-settings g c =
     IfOk-weaker c.found_over.result _ _
