@@ -26,7 +26,7 @@ is_bad_with_live c s = is_bad (state_of c s.die s.block) && not (is_pinned c s) 
 
 -- fewer blocks are free than are wanted
 abbrev pub has_few_free : Core → Bool
-has_few_free c = nat_lt (free_blocks c) (wanted_room c.numbers)
+has_few_free c = nat_lt (free_blocks c) (wanted_room c.numbers (bad_blocks c))
 
 -- few blocks are free, or a bad block holds live pages
 abbrev pub wants_collection : Core → Bool

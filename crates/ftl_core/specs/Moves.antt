@@ -198,7 +198,7 @@ has_stale c = list_any is_stale c.states
 
 -- pages of groups may be programmed: at least as many blocks are free as groups leave to the device's own pages
 abbrev pub has_room_for_groups : Core → Bool
-has_room_for_groups c = nat_le (own_room c.numbers) (free_blocks c)
+has_room_for_groups c = nat_le (own_room c.numbers (bad_blocks c)) (free_blocks c)
 
 -- a block of some die is being filled, or is being erased
 abbrev pub has_open_block : Core → Bool
@@ -206,7 +206,7 @@ has_open_block c = list_any fills c.rows || list_any erases c.rows
 
 -- a block may be opened for a page of a group only where more blocks are free than groups leave
 abbrev pub may_open_for_group : Core → Bool
-may_open_for_group c = nat_lt (own_room c.numbers) (free_blocks c)
+may_open_for_group c = nat_lt (own_room c.numbers (bad_blocks c)) (free_blocks c)
 
 -- for the page of a step any die opens its own block while groups may be programmed; below that a block is opened only
 -- where none is open

@@ -1,16 +1,17 @@
 -- How many blocks are free: no fewer where each block that was free is so, one less at the most where all but one are,
--- and one more where each is and another is free too.
-use Rattle.std.proofs.Common.{◌≡◌, ◌≢◌, ℕ, ◌+◌, ◌≤◌, cond, refl, sym, ap, ◌∙◌, ⊎_elim, arith}
+-- and one more where each is and another is free too. And how many are bad.
+use Rattle.std.proofs.Common.{◌≡◌, ◌≢◌, ℕ, ◌+◌, ◌≤◌, Bool, cond, false, refl, sym, ap, ◌∙◌, ⊎_elim, arith}
+use Rattle.std.specs.List.{count_by}
 use Rattle.ufs_spec.proofs.Updates.{at_spot_cases}
-use Rattle.ufs_spec.specs.Disk.{BlockState, Free, Spot, at_spot}
-use Rattle.ufs_spec.specs.Translation.{is_free, spots}
+use Rattle.ufs_spec.specs.Disk.{BlockState, Bad, Closed, Filling, Free, Spot, at_spot}
+use Rattle.ufs_spec.specs.Translation.{is_bad, is_free, spots}
 use Rattle.ufs_spec.specs.declared.configs.Numbers.{Numbers}
 use Rattle.power_loss.proofs.openings.OpenedPages.{free_or_not}
 use Rattle.power_loss.proofs.ordered_lists.ElementsAndOrders.{in_spots, spots_in}
 use Rattle.power_loss.proofs.room_to_mend.RoomInBlocks.{sum_no_less}
 use Rattle.power_loss.specs.Exchange.{IsSpot}
 use Rattle.many_stops.proofs.room_left.SumsOfRoom.{spot_told, spots_apart, sum_less, sum_more}
-use Rattle.many_stops.specs.RoomOfGroups.{free_count}
+use Rattle.many_stops.specs.RoomOfGroups.{bad_count, free_count}
 
 -- a block counts if it is free
 abbrev weight : BlockState → ℕ
@@ -89,3 +90,50 @@ pub one_fewer : (n : Numbers) (blocks : Spot → BlockState) (s : Spot) (x : Blo
     free_count n blocks ≤ 1 + free_count n (at_spot blocks s x)
 one_fewer n blocks s x = all_but_one n blocks (at_spot blocks s x) s
     (λ a on other e. ⊎_elim (λ k. absurd (other k.0)) (λ k. k.1 ∙ e) (at_spot_cases blocks s x a))
+
+-- Bad blocks
+
+pub is_not_bad : (x : BlockState) → x ≢ Bad → is_bad x ≡ false
+is_not_bad Bad h = absurd (h refl)
+is_not_bad Free h = refl
+is_not_bad Closed h = refl
+is_not_bad (Filling next) h = refl
+
+-- where the same blocks are bad, as many are
+pub bad_alike : (n : Numbers) (was now : Spot → BlockState) → ((s : Spot) → is_bad (now s) ≡ is_bad (was s)) →
+    bad_count n now ≡ bad_count n was
+bad_alike n was now same = λ i. count_by (λ s. same s i) (spots n)
+
+-- so it is where one block changes that was good, and is good
+pub good_alike : (n : Numbers) (blocks : Spot → BlockState) (s : Spot) (x : BlockState) → blocks s ≢ Bad → x ≢ Bad →
+    bad_count n (at_spot blocks s x) ≡ bad_count n blocks
+good_alike n blocks s x was now = bad_alike n blocks (at_spot blocks s x)
+    (λ a. ⊎_elim (λ k. ap is_bad k.1 ∙ is_not_bad x now
+    ∙ sym (ap (λ z. is_bad (blocks z)) k.0 ∙ is_not_bad (blocks s) was)) (λ k. ap is_bad k.1) (at_spot_cases blocks s x a))
+
+weighs_bad : (x y : BlockState) → (x ≡ Bad → y ≡ Bad) → cond (is_bad x) 1 0 ≤ cond (is_bad y) 1 0
+weighs_bad Bad y h = let e = ap {B = ℕ} (λ (z : BlockState). cond (is_bad z) 1 0) (h refl) in omega (arith, e)
+weighs_bad Free y h = omega arith
+weighs_bad Closed y h = omega arith
+weighs_bad (Filling next) y h = omega arith
+
+-- where a block goes bad, no fewer are
+pub no_fewer_bad : (n : Numbers) (blocks : Spot → BlockState) (s : Spot) →
+    bad_count n blocks ≤ bad_count n (at_spot blocks s Bad)
+no_fewer_bad n blocks s =
+    sum_no_less (λ a. cond (is_bad (blocks a)) 1 0) (λ a. cond (is_bad (at_spot blocks s Bad a)) 1 0) (spots n)
+    (λ a i. weighs_bad (blocks a) (at_spot blocks s Bad a)
+    (λ e. ⊎_elim (λ k. k.1) (λ k. k.1 ∙ e) (at_spot_cases blocks s Bad a)))
+
+-- where a block goes bad that was not, one more is
+pub one_bad_more : (n : Numbers) (blocks : Spot → BlockState) (s : Spot) → IsSpot n s → blocks s ≢ Bad →
+    1 + bad_count n blocks ≤ bad_count n (at_spot blocks s Bad)
+one_bad_more n blocks s on good =
+    sum_more 1 (λ a. cond (is_bad (blocks a)) 1 0) (λ a. cond (is_bad (at_spot blocks s Bad a)) 1 0) s (spots n)
+    (in_spots on)
+    (λ a i. weighs_bad (blocks a) (at_spot blocks s Bad a)
+    (λ e. ⊎_elim (λ k. k.1) (λ k. k.1 ∙ e) (at_spot_cases blocks s Bad a)))
+    (let was = ap {B = ℕ} (λ (b : Bool). cond b 1 0) (is_not_bad (blocks s) good) in
+    let now = ap {B = ℕ} (λ (x : BlockState). cond (is_bad x) 1 0)
+    (⊎_elim (λ k. k.1) (λ k. absurd (k.0 refl)) (at_spot_cases blocks s Bad s)) in
+    omega (arith, was, now))

@@ -4,6 +4,6 @@ pub mod SinceTheOpening
 pub mod MovesSinceTheOpening
 pub mod ThinnerCells
 pub mod StopsOfAMending
-pub mod WithoutFailures
+pub mod LivesWithFailures
 pub mod MendingLives
 pub mod LivesFindRoom

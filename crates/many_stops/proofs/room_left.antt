@@ -4,6 +4,7 @@ pub mod RoomStays
 pub mod ProgramBegins
 pub mod PageEnds
 pub mod MarkEnds
+pub mod FailuresLeaveRoom
 pub mod TurnsLeaveRoom
 pub mod MovesLeaveRoom
 pub mod HandedPages

@@ -1,3 +1,4 @@
+pub mod BorneFailures
 pub mod FreeOverStops
 pub mod RoomOfGroups
 pub mod RoomOverStops

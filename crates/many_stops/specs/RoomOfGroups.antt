@@ -1,26 +1,22 @@
 -- How many free blocks a mended life leaves once it has programmed for its host, and what its plan may still take.
-use Rattle.std.specs.Prelude.{◌≡◌, ◌≢◌, ◌⊎◌, ℕ, ◌+◌, ◌-◌, ◌<◌, ◌≤◌, if◌then◌else◌, Bool, true, false, List, length}
+use Rattle.std.specs.Int.{div_ceil}
+use Rattle.std.specs.Prelude.{◌≡◌, ◌≢◌, ◌⊎◌, ℕ, ◌+◌, ◌-◌, ◌*◌, ◌<◌, ◌≤◌, if◌then◌else◌, Bool, true, false, List, length}
 use Rattle.std.specs.Prelude.{Option, Some, None, count_by, sum_by}
-use Rattle.ufs_spec.specs.Cells.{Cells, GroupPage, Nothing}
-use Rattle.ufs_spec.specs.Disk.{BlockState, Bad, Filling, Flight, Programming, Spot, spot_of}
+use Rattle.ufs_spec.specs.Cells.{Cells, GroupPage}
+use Rattle.ufs_spec.specs.Disk.{BlockState, Bad, Filling, Flight, Programming, Spot}
 use Rattle.ufs_spec.specs.Keys.{below}
 use Rattle.ufs_spec.specs.Kept.{fence_in}
 use Rattle.ufs_spec.specs.Ledger.{before_accepted}
-use Rattle.ufs_spec.specs.Moves.{is_kind_of}
-use Rattle.ufs_spec.specs.Translation.{CopyStep, Plan, Step, StepKind, Translation, is_free, is_mended, name_of}
-use Rattle.ufs_spec.specs.Translation.{own_room, spots, spots_of}
+use Rattle.ufs_spec.specs.Moves.{Move, is_kind_of}
+use Rattle.ufs_spec.specs.Translation.{CopyStep, Plan, Step, StepKind, Translation, count_blocks, is_bad, is_free}
+use Rattle.ufs_spec.specs.Translation.{is_mended, may_go_bad, name_of, spots, spots_of}
 use Rattle.ufs_spec.specs.declared.configs.Numbers.{Numbers}
 use Rattle.ufs_spec.specs.declared.flash.Place.{Place}
 use Rattle.ufs_spec.specs.declared.flash.Tag.{Tag}
 use Rattle.ufs_spec.specs.declared.layer.Name.{Name}
 use Rattle.power_loss.specs.Exchange.{IsSpot}
 use Rattle.power_loss.specs.Invariant.{Flights, Standing}
-
--- Bad blocks
-
--- nothing stands in a bad block: so it is of new dies, and where no program and no erase fails no other block goes bad
-abbrev pub AreBlankIfBad : Cells → (Spot → Bool) → Type 0
-AreBlankIfBad cells bad = (p : Place) → bad (spot_of p) ≡ true → cells p ≡ Nothing
+use Rattle.power_loss.specs.MendingRoom.{fails_job}
 
 -- Pages of the host
 
@@ -41,12 +37,22 @@ pub record FliesBehind (before : ℕ) (flights : Flights) : Type 0 where
   pub behind : before < tag.number
   pub flies : flights die ≡ Some (Programming place (GroupPage tag body))
 
-abbrev pub IsHandedOut : ℕ → Standing → Flights → Type 0
-IsHandedOut before standing flights = StandsBehind before standing ⊎ FliesBehind before flights
+-- a page of a group with a greater number is there, though its program may have failed
+pub record ShowsBehind (before : ℕ) (cells : Cells) : Type 0 where
+  pub place : Place
+  pub tag : Tag
+  pub body : List ℕ
+  pub behind : before < tag.number
+  pub there : cells place ≡ GroupPage tag body
 
--- a page of a command that was accepted in this life was handed to a die: its program is in flight, or ended well
+abbrev pub IsHandedOut : ℕ → Standing → Cells → Flights → Type 0
+IsHandedOut before standing cells flights =
+    StandsBehind before standing ⊎ (FliesBehind before flights ⊎ ShowsBehind before cells)
+
+-- a page of a command that was accepted in this life was handed to a die: its program is in flight, ended well, or left
+-- the page though it failed
 abbrev pub HasHandedOut : Translation → Type 0
-HasHandedOut t = IsHandedOut (before_accepted t.ledger) t.ledger.standing t.disk.flights
+HasHandedOut t = IsHandedOut (before_accepted t.ledger) t.ledger.standing t.disk.cells t.disk.flights
 
 -- Pages of the plan
 
@@ -100,48 +106,80 @@ open_room t = room_on_dies t.numbers t.disk.blocks t.work.step t.disk.flights
 
 -- The room that groups leave
 
--- how many blocks are free
+-- how many blocks are free, and how many are bad
 abbrev pub free_count : Numbers → (Spot → BlockState) → ℕ
 free_count n blocks = count_by (λ s. is_free (blocks s)) (spots n)
 
--- one block less than groups leave is free, and what the plan under way still programs fits into blocks that are being
--- filled already: so it ends without a block more, and frees one
-pub record IsOneShort (n : Numbers) (blocks : Spot → BlockState) (flights : Flights) (step : Option Step)
+abbrev pub bad_count : Numbers → (Spot → BlockState) → ℕ
+bad_count n blocks = count_by (λ s. is_bad (blocks s)) (spots n)
+
+-- so many free blocks are room for one mending, whatever it has to repair: as many as hold the pages of a full write
+-- cache, and one. What the device's own pages need is one block for each die, and twice as many
+abbrev pub mending_blocks : Numbers → ℕ
+mending_blocks n = div_ceil n.slots n.pages + 1
+
+-- so many blocks are room for two mendings, for one block that is open, for each block that may still go bad, and for
+-- those that are set aside for collections of bad blocks
+abbrev pub kept_room : ℕ → Numbers → (Spot → BlockState) → ℕ
+kept_room aside n blocks = 2 * mending_blocks n + 1 + may_go_bad n (bad_count n blocks) + aside
+
+-- one block less is free, and what the plan under way still programs fits into blocks that are being filled already: so
+-- it ends without a block more, and frees one
+pub record IsOneShort (aside : ℕ) (n : Numbers) (blocks : Spot → BlockState) (flights : Flights) (step : Option Step)
     (plan : Option Plan) : Type 0 where
-  pub short : own_room n ≤ free_count n blocks + 1
+  pub short : kept_room aside n blocks ≤ free_count n blocks + 1
   pub under_way : Plan
   pub is : plan ≡ Some under_way
+  pub good : blocks under_way.victim ≢ Bad
   pub fits : pages_of_plan plan step ≤ room_on_dies n blocks step flights
 
--- the plan is of a block of the dies that is not bad, and does not program as many pages as fill a block
+-- the plan is of a block of the dies, and if that is not bad it programs no more pages than fill a block
 pub record PlanGains (n : Numbers) (blocks : Spot → BlockState) (step : Option Step) (plan : Plan) : Type 0 where
   pub inside : IsSpot n plan.victim
-  pub good : blocks plan.victim ≢ Bad
-  pub less : pages_of_plan (Some plan) step ≤ n.pages
+  pub less : blocks plan.victim ≢ Bad → pages_of_plan (Some plan) step ≤ n.pages
 
-pub record LeavesRoom (n : Numbers) (before : ℕ) (standing : Standing) (cells : Cells) (blocks : Spot → BlockState)
-    (flights : Flights) (mended : Bool) (step : Option Step) (plan : Option Plan) : Type 0 where
-  -- nothing stands in a bad block
-  pub blank : (p : Place) → blocks (spot_of p) ≡ Bad → cells p ≡ Nothing
-  -- no two dies program pages of one name
-  pub one_die : (d e : ℕ) (p q : Place) (a b : Tag) (x y : List ℕ) → flights d ≡ Some (Programming p (GroupPage a x)) →
-      flights e ≡ Some (Programming q (GroupPage b y)) → name_of a ≡ name_of b → d ≡ e
-  -- a page that is copied stands
-  pub copied : (name : Name) (from : Place) (there : Bool) →
-      step ≡ Some (record { kind = CopyStep name from; there = there }) →
-      (p : Place) × (standing name.number name.index ≡ Some p)
-  -- once the device is mended each step is one of a plan
-  pub planned : mended ≡ true → (s : Step) → step ≡ Some s → (pl : Plan) × (plan ≡ Some pl)
-  pub gains : (pl : Plan) → plan ≡ Some pl → PlanGains n blocks step pl
-  -- once a page of the host was handed out, as many blocks are free as groups leave, or one less is and a plan under
-  -- way needs none
-  pub room : IsHandedOut before standing flights →
-      (own_room n ≤ free_count n blocks) ⊎ IsOneShort n blocks flights step plan
+pub record LeavesRoom (aside : ℕ) (n : Numbers) (before : ℕ) (standing : Standing) (cells : Cells)
+    (blocks : Spot → BlockState) (flights : Flights) (mended : Bool) (step : Option Step) (plan : Option Plan) : Type 0
+  where
+    -- fewer blocks are set aside than there are dies
+    pub few : aside < n.dies
+    -- no two dies program pages of one name
+    pub one_die : (d e : ℕ) (p q : Place) (a b : Tag) (x y : List ℕ) → flights d ≡ Some (Programming p (GroupPage a x)) →
+        flights e ≡ Some (Programming q (GroupPage b y)) → name_of a ≡ name_of b → d ≡ e
+    -- a page that is copied stands
+    pub copied : (name : Name) (from : Place) (there : Bool) →
+        step ≡ Some (record { kind = CopyStep name from; there = there }) →
+        (p : Place) × (standing name.number name.index ≡ Some p)
+    -- once the device is mended each step is one of a plan
+    pub planned : mended ≡ true → (s : Step) → step ≡ Some s → (pl : Plan) × (plan ≡ Some pl)
+    pub gains : (pl : Plan) → plan ≡ Some pl → PlanGains n blocks step pl
+    -- once a page of the host was handed out, so many blocks are free, or one less is and a plan under way needs none
+    pub room : IsHandedOut before standing cells flights →
+        (kept_room aside n blocks ≤ free_count n blocks) ⊎ IsOneShort aside n blocks flights step plan
 
--- what holds of a life in which no job fails: groups leave the device's own pages their room
-abbrev pub LeavesOwnRoom : Translation → Type 0
-LeavesOwnRoom t = LeavesRoom t.numbers (before_accepted t.ledger) t.ledger.standing t.disk.cells t.disk.blocks
-    t.disk.flights (is_mended t.work.mending) t.work.step t.work.plan
+-- what holds of a life that may still open so many blocks for collections of bad blocks: groups leave the device's own
+-- pages their room
+abbrev pub LeavesOwnRoom : ℕ → Translation → Type 0
+LeavesOwnRoom aside t = LeavesRoom aside t.numbers (before_accepted t.ledger) t.ledger.standing t.disk.cells
+    t.disk.blocks t.disk.flights (is_mended t.work.mending) t.work.step t.work.plan
+
+-- Failures
+
+-- if a program or an erase fails by the move, fewer blocks are bad before it than are spare
+abbrev pub IsWithinSpare : Translation → Move → Type 0
+IsWithinSpare t move = fails_job move ≡ true → count_blocks t is_bad < t.numbers.spare
+
+-- Collections of bad blocks
+
+-- the plan is of a bad block: it programs pages, and frees none
+abbrev pub is_plan_of_bad : (Spot → BlockState) → Option Plan → Bool
+is_plan_of_bad blocks None = false
+is_plan_of_bad blocks (Some plan) = is_bad (blocks plan.victim)
+
+-- how many free blocks such a collection opened from the one moment to the other
+abbrev pub opened_for_bad : Translation → Translation → ℕ
+opened_for_bad t u =
+    if is_plan_of_bad t.disk.blocks t.work.plan then count_blocks t is_free - count_blocks u is_free else 0
 
 -- Nothing to mend
 

@@ -1,23 +1,16 @@
 -- How much room an opening finds for its mending, whatever stops left it.
 use Rattle.std.specs.Prelude.{◌≡◌, ◌≢◌, ◌⊎◌, ℕ, ◌+◌, ◌*◌, ◌≤◌, Bool, true, false, List, count_by}
-use Rattle.std.specs.Int.{div_ceil}
-use Rattle.std.specs.List.{list_any}
-use Rattle.ufs_spec.specs.Cells.{Array, Cells, GroupPage, IsCell, Nothing}
+use Rattle.ufs_spec.specs.Cells.{Cells, GroupPage}
 use Rattle.ufs_spec.specs.Disk.{Bad, Free, Spot, spot_of}
 use Rattle.ufs_spec.specs.Lives.{Life, Lived}
 use Rattle.ufs_spec.specs.Refusals.{State, mended}
-use Rattle.ufs_spec.specs.Translation.{Translation, count_blocks, is_free, is_mended, spots}
-use Rattle.ufs_spec.specs.declared.configs.Numbers.{Numbers}
+use Rattle.ufs_spec.specs.Translation.{Translation, count_blocks, is_bad, is_free, is_mended, may_go_bad, spots}
 use Rattle.ufs_spec.specs.declared.events.Event.{Event}
 use Rattle.ufs_spec.specs.declared.events.Output.{Output}
 use Rattle.ufs_spec.specs.declared.flash.Place.{Place}
 use Rattle.ufs_spec.specs.declared.flash.Tag.{Tag}
 use Rattle.power_loss.specs.MendingRoom.{MayGoOn, makes_bad}
-
--- so many free blocks are room for one mending, whatever it has to repair: as many as hold the pages of a full write
--- cache, and one. The room that groups leave is one block for each die, and twice as many
-abbrev pub mending_blocks : Numbers → ℕ
-mending_blocks n = div_ceil n.slots n.pages + 1
+use Rattle.many_stops.specs.RoomOfGroups.{mending_blocks}
 
 -- each page of a group in the block has a number from the low one on; whatever marks it holds
 abbrev pub HoldsLost : Cells → ℕ → Spot → Type 0
@@ -29,29 +22,27 @@ abbrev pub IsFreeOrLost : Translation → Spot → Type 0
 IsFreeOrLost t s =
     (t.disk.blocks s ≡ Free) ⊎ ((t.disk.blocks s ≢ Bad) × HoldsLost t.disk.cells t.ledger.first_lost s)
 
--- there is room for a mending, and, with blocks that hold nothing but what is lost, for the one after it
+-- how many blocks may still go bad
+abbrev pub more_bad : Translation → ℕ
+more_bad t = may_go_bad t.numbers (count_blocks t is_bad)
+
+-- there is room for a mending, and, with blocks that hold nothing but what is lost, for the one after it; and in both a
+-- block for each that may still go bad
 pub record HasSpareBlocks (t : Translation) : Type 0 where
-  pub free : mending_blocks t.numbers ≤ count_blocks t is_free
+  pub free : mending_blocks t.numbers + more_bad t ≤ count_blocks t is_free
   pub spare : Spot → Bool
   pub each : (s : Spot) → spare s ≡ true → IsFreeOrLost t s
-  pub many : 2 * mending_blocks t.numbers ≤ count_by spare (spots t.numbers)
+  pub many : 2 * mending_blocks t.numbers + more_bad t ≤ count_by spare (spots t.numbers)
 
 -- a device that is opened is mended at once, or finds such room
 abbrev pub FindsRoom : Translation → Type 0
 FindsRoom t = (is_mended t.work.mending ≡ true) ⊎ HasSpareBlocks t
 
--- no page of a bad block opens, as in new dies
-abbrev pub OpensNoneIfBad : Array → (Spot → Bool) → Type 0
-OpensNoneIfBad array bad = (p : Place) → bad (spot_of p) ≡ true → IsCell (array p) Nothing
-
--- no program and no erase fails in these events
-abbrev pub NoneFails : List Event → Type 0
-NoneFails es = list_any makes_bad es ≡ false
-
--- up to each of its events that does not find it mended, a life in which no program and no erase failed may go on
+-- up to each of its events that does not find it mended, a life in which no more programs and erases failed than blocks
+-- may go bad may go on
 abbrev pub IsNeverLockedOut : Lived → Type 0
 IsNeverLockedOut l = (es : List Event) (os : List Output) (middle : State) → Life l.start es os middle →
-    NoneFails es → mended middle ≡ false → MayGoOn middle.translation
+    count_by makes_bad es ≤ more_bad l.start.translation → mended middle ≡ false → MayGoOn middle.translation
 
 -- the life begins with room for its mending, and is never locked out
 abbrev pub OpensWithRoom : Lived → Type 0

@@ -1,8 +1,8 @@
 -- Which block is to be collected, and when.
 use Rattle.std.specs.Prelude.{◌≡◌, ◌≢◌, ◌⊎◌, ◌+◌, ◌*◌, ◌<◌, ◌≤◌, true, false, None}
 use Rattle.ufs_spec.specs.Disk.{Bad, Closed, Free, Spot, Stale}
-use Rattle.ufs_spec.specs.Translation.{Translation, count_blocks, has_mark_number, is_free, is_mended, is_pinned}
-use Rattle.ufs_spec.specs.Translation.{live_count, own_room}
+use Rattle.ufs_spec.specs.Translation.{Translation, count_blocks, has_mark_number, is_bad, is_free, is_mended}
+use Rattle.ufs_spec.specs.Translation.{is_pinned, least_room, live_count, may_go_bad}
 use Rattle.power_loss.specs.Exchange.{IsSpot}
 
 -- no task keeps a page of the block, and to collect it gains room: it is closed and not wholly live, or bad with live
@@ -30,11 +30,12 @@ pub record IsBadWithLive (t : Translation) (s : Spot) : Type 0 where
   pub unpinned : is_pinned t s ≡ false
   pub live : 0 < live_count t s
 
--- fewer blocks are free than two for each die and four, or fewer than two more than groups leave to the device's own
--- pages
+-- a block for each that may still go bad left out, fewer blocks are free than two for each die and four, or fewer than
+-- two more than the device's own pages need
 abbrev pub AreFewFree : Translation → Type 0
 AreFewFree t =
-    (count_blocks t is_free < 2 * t.numbers.dies + 4) ⊎ (count_blocks t is_free < own_room t.numbers + 2)
+    (count_blocks t is_free < 2 * t.numbers.dies + 4 + may_go_bad t.numbers (count_blocks t is_bad))
+    ⊎ (count_blocks t is_free < least_room t.numbers + 2 + may_go_bad t.numbers (count_blocks t is_bad))
 
 -- few blocks are free, or a bad block holds live pages
 abbrev pub IsRoomScarce : Translation → Type 0

@@ -8,7 +8,7 @@ use Rattle.ufs_spec.specs.Moves.{EndJob, Move, WentWrong}
 use Rattle.ufs_spec.specs.Refusals.{State, mended}
 use Rattle.ufs_spec.specs.Translation.{CopyStep, MarkStep, MayTake, Pin, RepairStep, Step, StepKind, Translation, Want}
 use Rattle.ufs_spec.specs.Translation.{flies_mark, flies_name, has_mark_number, has_number, is_step_due, spots}
-use Rattle.ufs_spec.specs.Translation.{count_blocks, is_free, own_room, want_of_kind}
+use Rattle.ufs_spec.specs.Translation.{count_blocks, is_free, least_room, want_of_kind}
 use Rattle.ufs_spec.specs.declared.configs.Numbers.{Numbers}
 use Rattle.ufs_spec.specs.declared.events.Event.{Event}
 use Rattle.ufs_spec.specs.declared.events.Event.TheVariants as event
@@ -114,9 +114,9 @@ MayGoOn t = HasJob t ⊎ (OwesJob t ⊎ ((is_step_due t ≡ true) ⊎ IsOutOfNum
 
 -- Lives
 
--- up to each of its events that does not find it mended, a life may go on, if it began with as many free blocks as
--- groups leave, less one for each die, and with one more for each program and erase that failed
+-- up to each of its events that does not find it mended, a life may go on, if it began with as many free blocks as the
+-- device's own pages need, less one for each die, and with one more for each program and erase that failed
 abbrev pub IsNeverStuck : Numbers → Lived → Type 0
 IsNeverStuck n l = (es : List Event) (os : List Output) (middle : State) → Life l.start es os middle →
-    own_room n - n.dies + count_by makes_bad es ≤ count_blocks l.start.translation is_free → mended middle ≡ false →
+    least_room n - n.dies + count_by makes_bad es ≤ count_blocks l.start.translation is_free → mended middle ≡ false →
     MayGoOn middle.translation

@@ -1,5 +1,5 @@
 -- How many free blocks groups leave to the device's own pages, and what a die is given them for.
-use Rattle.std.specs.Prelude.{◌≡◌, ◌≢◌, ℕ, ◌+◌, ◌*◌, ◌≤◌, Some}
+use Rattle.std.specs.Prelude.{◌≡◌, ◌≢◌, ℕ, ◌+◌, ◌-◌, ◌*◌, ◌≤◌, Some}
 use Rattle.ufs_spec.specs.Cells.{Cell}
 use Rattle.ufs_spec.specs.Disk.{Erasing, Flight, Free, Programming, Reading, Stale, spot_of}
 use Rattle.ufs_spec.specs.Translation.{Translation, waiting_step}
@@ -9,12 +9,13 @@ use Rattle.ufs_spec.specs.declared.configs.Numbers.{Numbers}
 abbrev pub HoldCache : Numbers → ℕ → Type 0
 HoldCache n blocks = n.slots ≤ blocks * n.pages
 
--- it is one block for each die, two, and twice the fewest blocks that hold the pages of a full write cache
-pub record IsOwnRoom (n : Numbers) (room : ℕ) : Type 0 where
+-- where so many blocks are bad, it is one block for each die, two, twice the fewest blocks that hold the pages of a full
+-- write cache, and one for each block that may go bad before more are than the spare ones
+pub record IsOwnRoom (n : Numbers) (bad room : ℕ) : Type 0 where
   pub filled : ℕ
   pub hold : HoldCache n filled
   pub fewest : (blocks : ℕ) → HoldCache n blocks → filled ≤ blocks
-  pub is : room ≡ n.dies + 2 + 2 * filled
+  pub is : room ≡ n.dies + 2 + 2 * filled + (n.spare - bad)
 
 -- this is the page of the step under way, its content is there, and no die programs it yet
 abbrev pub IsWaitingStep : Translation → Cell → Type 0

@@ -10,7 +10,7 @@ ghost use Rattle.ufs_spec.specs.Moves.{IsAllowedMove, Move, moved};
 ghost use Rattle.ufs_spec.specs.Openings.{AreLost, IsOpenedTranslation};
 ghost use Rattle.ufs_spec.specs.Sound.{CellsSound, Sound};
 ghost use Rattle.ufs_spec.specs.Refusals.{State, mended};
-ghost use Rattle.ufs_spec.specs.Translation.{Translation, count_blocks, is_free, is_mended, own_room};
+ghost use Rattle.ufs_spec.specs.Translation.{Translation, count_blocks, is_free, is_mended, least_room};
 ghost use Rattle.ufs_spec.specs.declared.configs.Numbers.{Numbers};
 ghost use Rattle.ufs_spec.specs.declared.events.Event.{Event};
 ghost use Rattle.ufs_spec.specs.declared.events.Output.{Output};
@@ -25,16 +25,16 @@ ghost use Rattle.power_loss.specs.Runs.{AreNewDies};
 
 /// A mending is never stuck before the device is mended, if it begins with room for two pages more
 /// than there are keys with a lost page, and with a block more for each program or erase that
-/// fails. The blocks that groups leave, less one for each die, are room for as many keys as the
+/// fails. What the device's own pages need, less one for each die, is room for as many keys as the
 /// cache has slots.
 pub fn mending_with_room_goes_on()
     ensures at_the_opening { (n : Numbers) (c : Cells) (bad : Spot → Bool) (t : Translation) (lost : List Key) (failures : ℕ) →
         IsOpenedTranslation n c bad t → AreLost c t.ledger.first_lost t.ledger.greatest_seen lost →
         length lost + 2 + failures * n.pages ≤ n.pages * count_blocks t is_free → HasRoom failures t }
-    ensures own_room { (n : Numbers) (c : Cells) (bad : Spot → Bool) (t : Translation) (lost : List Key) (failures : ℕ) →
+    ensures least_room { (n : Numbers) (c : Cells) (bad : Spot → Bool) (t : Translation) (lost : List Key) (failures : ℕ) →
         1 ≤ n.pages → IsOpenedTranslation n c bad t → AreLost c t.ledger.first_lost t.ledger.greatest_seen lost →
-        length lost ≤ n.slots → own_room n - n.dies + failures ≤ count_blocks t is_free → HasRoom failures t }
-    ensures cache { (n : Numbers) → 1 ≤ n.pages → n.slots + 2 ≤ n.pages * (own_room n - n.dies) }
+        length lost ≤ n.slots → least_room n - n.dies + failures ≤ count_blocks t is_free → HasRoom failures t }
+    ensures cache { (n : Numbers) → 1 ≤ n.pages → n.slots + 2 ≤ n.pages * (least_room n - n.dies) }
     ensures alone { (n : Numbers) (c : Cells) (bad : Spot → Bool) (t : Translation) →
         IsOpenedTranslation n c bad t → MendsAlone t }
     ensures each_move { (t : Translation) (move : Move) (failures : ℕ) →
@@ -62,21 +62,21 @@ pub fn a_life_with_room_goes_on()
         AreLost opened.cells s.translation.ledger.first_lost s.translation.ledger.greatest_seen lost →
         length lost + 2 + count_by makes_bad es * n.pages ≤ n.pages * count_blocks s.translation is_free →
         Life s es os t → mended t ≡ false → MayGoOn t.translation }
-    ensures own_room { (n : Numbers) (array : Array) (bad : Spot → Bool) (s t : State) (es : List Event)
+    ensures least_room { (n : Numbers) (array : Array) (bad : Spot → Bool) (s t : State) (es : List Event)
         (os : List Output) (lost : List Key) →
         IsConfig n → IsArrayOf n array → Sound array → (opened : IsOpened n array bad s) →
         AreLost opened.cells s.translation.ledger.first_lost s.translation.ledger.greatest_seen lost →
-        length lost ≤ n.slots → own_room n - n.dies + count_by makes_bad es ≤ count_blocks s.translation is_free →
+        length lost ≤ n.slots → least_room n - n.dies + count_by makes_bad es ≤ count_blocks s.translation is_free →
         Life s es os t → mended t ≡ false → MayGoOn t.translation }
 {}
 
 /// Over any number of lives that began with new dies, a life is never stuck before it is mended, if
-/// it finds as many blocks free as groups leave, less one for each die. It needs one more for each
-/// program or erase that fails in it.
+/// it finds as many blocks free as the device's own pages need, less one for each die. It needs one
+/// more for each program or erase that fails in it.
 pub fn lives_with_room_go_on()
     ensures few_lost { (n : Numbers) (array : Array) (bad : Spot → Bool) (s t : State) (es : List Event)
         (os : List Output) → IsConfig n → IsArrayOf n array → Sound array → ArrayHasFewLost n array →
-        IsOpened n array bad s → own_room n - n.dies + count_by makes_bad es ≤ count_blocks s.translation is_free →
+        IsOpened n array bad s → least_room n - n.dies + count_by makes_bad es ≤ count_blocks s.translation is_free →
         Life s es os t → mended t ≡ false → MayGoOn t.translation }
     ensures lives { (n : Numbers) (array : Array) (bad : Spot → Bool) (first : Lived) (later : List Lived)
         (es : List Event) (os : List Output) → IsConfig n → IsArrayOf n array → Sound array →

@@ -3,7 +3,7 @@ ghost use Rattle.std.specs.Prelude.{◌≡◌, ◌≢◌, ◌⊎◌, ◌<◌, �
 ghost use Rattle.ufs_spec.specs.Cells.{Cell, GroupPage, Mark, MarkPage};
 ghost use Rattle.ufs_spec.specs.Disk.{Erasing, Filling, Flight, Programming, Reading, Spot};
 ghost use Rattle.ufs_spec.specs.Moves.{EndJob, Move, ReadRight, moved};
-ghost use Rattle.ufs_spec.specs.Translation.{CopyStep, MayTake, Translation, count_blocks, is_free, name_of, own_room, turned};
+ghost use Rattle.ufs_spec.specs.Translation.{CopyStep, MayTake, Translation, count_blocks, is_free, name_of, own_room, own_room_now, turned};
 ghost use Rattle.ufs_spec.specs.declared.configs.Numbers.{Numbers};
 ghost use Rattle.ufs_spec.specs.declared.flash.Place.{Place};
 ghost use Rattle.ufs_spec.specs.declared.flash.Tag.{Tag};
@@ -50,11 +50,11 @@ pub fn a_copy_is_programmed_after_its_read()
 /// pages, and no block is opened for one unless more are free. What is given then is for the page of the step
 /// under way that waits. A free block with pages that may go is erased whatever is free, since that opens none.
 pub fn groups_leave_room()
-    ensures room { (n : Numbers) → 1 ≤ n.pages → IsOwnRoom n (own_room n) }
+    ensures room { (n : Numbers) (bad : ℕ) → 1 ≤ n.pages → IsOwnRoom n bad (own_room n bad) }
     ensures page { (t : Translation) (die : ℕ) (p : Place) (cell : Cell) → MayTake t die (Some (Programming p cell)) →
-        IsWaitingStep t cell ⊎ (own_room t.numbers ≤ count_blocks t is_free) }
+        IsWaitingStep t cell ⊎ (own_room_now t ≤ count_blocks t is_free) }
     ensures block { (t : Translation) (die : ℕ) (flight : Flight) → MayTake t die (Some flight) → OpensBlock t flight →
-        ((cell : Cell) × IsWaitingStep t cell) ⊎ (own_room t.numbers < count_blocks t is_free) }
+        ((cell : Cell) × IsWaitingStep t cell) ⊎ (own_room_now t < count_blocks t is_free) }
 {}
 
 /// While fewer blocks are free than groups leave, the device opens one block after another: a die is given
@@ -62,9 +62,9 @@ pub fn groups_leave_room()
 /// being filled and no die erases one.
 pub fn one_block_after_another()
     ensures filled { (t : Translation) (die : ℕ) (flight : Flight) (opened : Spot) (next : ℕ) →
-        MayTake t die (Some flight) → OpensBlock t flight → count_blocks t is_free < own_room t.numbers →
+        MayTake t die (Some flight) → OpensBlock t flight → count_blocks t is_free < own_room_now t →
         IsSpot t.numbers opened → t.disk.blocks opened ≡ Filling next → ⊥ }
     ensures erased { (t : Translation) (die other : ℕ) (flight : Flight) (opened : Spot) →
-        MayTake t die (Some flight) → OpensBlock t flight → count_blocks t is_free < own_room t.numbers →
+        MayTake t die (Some flight) → OpensBlock t flight → count_blocks t is_free < own_room_now t →
         other < t.numbers.dies → t.disk.flights other ≡ Some (Erasing opened) → ⊥ }
 {}

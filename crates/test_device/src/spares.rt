@@ -160,7 +160,7 @@ fn each_job_fails_once_where_one_block_is_spare(rt: HostRuntime) {
         Shape {
             dies: 2,
             spare: 1,
-            written: 28,
+            written: 27,
         },
     );
     let worn = shape.worn(&rt, alloc);
@@ -178,7 +178,7 @@ fn two_jobs_fail_where_four_blocks_are_spare(rt: HostRuntime) {
         Shape {
             dies: 3,
             spare: 4,
-            written: 47,
+            written: 43,
         },
     );
     let worn = shape.worn(&rt, alloc);

@@ -235,19 +235,36 @@ victim t = least_of (live_count t) None (filter (may_be_victim t) (spots t.numbe
 abbrev pub is_bad_with_live : Translation → Spot → Bool
 is_bad_with_live t s = is_bad (t.disk.blocks s) && not (is_pinned t s) && nat_lt 0 (live_count t s)
 
--- how many free blocks groups leave to the device's own pages, to copies, marks and repairs: one for each die, two, and
--- twice as many as the pages of a full write cache fill
-abbrev pub own_room : Numbers → ℕ
-own_room n = n.dies + 2 + 2 * div_ceil n.slots n.pages
+-- how many free blocks the device's own pages need, copies, marks and repairs, while no block goes bad: one for each
+-- die, two, and twice as many as the pages of a full write cache fill
+abbrev pub least_room : Numbers → ℕ
+least_room n = n.dies + 2 + 2 * div_ceil n.slots n.pages
+
+-- how many blocks may still go bad before the device is locked, where so many are bad
+abbrev pub may_go_bad : Numbers → ℕ → ℕ
+may_go_bad n bad = n.spare - bad
+
+-- how many free blocks groups leave where so many blocks are bad: those that the device's own pages need, and one for
+-- each block that may still go bad
+abbrev pub own_room : Numbers → ℕ → ℕ
+own_room n bad = least_room n + may_go_bad n bad
 
 -- with fewer free blocks than this many room is to be gained
-abbrev pub wanted_room : Numbers → ℕ
-wanted_room n = max (2 * n.dies + 4) (own_room n + 2)
+abbrev pub wanted_room : Numbers → ℕ → ℕ
+wanted_room n bad = max (2 * n.dies + 4) (least_room n + 2) + may_go_bad n bad
+
+-- the same of the blocks that are bad now
+abbrev pub own_room_now : Translation → ℕ
+own_room_now t = own_room t.numbers (count_blocks t is_bad)
+
+-- whether fewer blocks are free than are wanted
+abbrev pub has_few_free : Translation → Bool
+has_few_free t = nat_lt (count_blocks t is_free) (wanted_room t.numbers (count_blocks t is_bad))
 
 -- when collection is due, if there is a victim: few blocks are free, or a bad block has live pages
 abbrev pub wants_collection : Translation → Bool
 wants_collection t =
-    nat_lt (count_blocks t is_free) (wanted_room t.numbers) || list_any (is_bad_with_live t) (spots t.numbers)
+    has_few_free t || list_any (is_bad_with_live t) (spots t.numbers)
 
 -- Steps
 
@@ -589,11 +606,11 @@ next_erase t is die = option_map Erasing (lowest_vacant t is die)
 
 -- whether a page of a group may be programmed: not into the room that groups leave to the device's own pages
 abbrev pub has_room_for_groups : Translation → Bool
-has_room_for_groups t = nat_le (own_room t.numbers) (count_blocks t is_free)
+has_room_for_groups t = nat_le (own_room_now t) (count_blocks t is_free)
 
 -- whether a block may be opened for a page of a group: only while more blocks are free than groups leave
 abbrev pub may_open_for_group : Translation → Bool
-may_open_for_group t = nat_lt (own_room t.numbers) (count_blocks t is_free)
+may_open_for_group t = nat_lt (own_room_now t) (count_blocks t is_free)
 
 -- whether a die with this job erases a block
 abbrev pub flies_erase : Option Flight → Bool

@@ -77,9 +77,8 @@ module _ (c : Core) (t : Translation) (h : Describes c t) where
       λ i. bad i && not (pinned_agree s i) && nat_lt 0 (counts_agree s i)
 
   -- few blocks are free on both sides or on none
-  few_agree : has_few_free c ≡
-      nat_lt (count_blocks t layer.is_free) (wanted_room t.numbers)
-  few_agree = λ i. nat_lt (free_alike c t h.kept i) (wanted_room (h.kept.numbers i))
+  few_agree : has_few_free c ≡ layer.has_few_free t
+  few_agree = λ i. nat_lt (free_alike c t h.kept i) (wanted_room (h.kept.numbers i) (bad_alike c t h.kept i))
 
 -- the block that is found to be collected is the one that the layer is to collect
 pub victims_agree : (c : Core) (t : Translation) → Describes c t → victim c ≡ layer.victim t

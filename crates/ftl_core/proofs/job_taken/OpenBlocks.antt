@@ -34,11 +34,11 @@ bad_alike c t k = ap (count_by is_bad) k.blocks ∙ bad_counted t.numbers t.disk
 -- room is for groups on both sides or on none
 pub room_alike : (c : Core) (t : Translation) → Describes c t →
     has_room_for_groups c ≡ layer.has_room_for_groups t
-room_alike c t h = λ i. nat_le (own_room (h.kept.numbers i)) (free_alike c t h.kept i)
+room_alike c t h = λ i. nat_le (own_room (h.kept.numbers i) (bad_alike c t h.kept i)) (free_alike c t h.kept i)
 
 -- and so may a block be opened for a group
 pub group_alike : (c : Core) (t : Translation) → Describes c t → may_open_for_group c ≡ layer.may_open_for_group t
-group_alike c t h = λ i. nat_lt (own_room (h.kept.numbers i)) (free_alike c t h.kept i)
+group_alike c t h = λ i. nat_lt (own_room (h.kept.numbers i) (bad_alike c t h.kept i)) (free_alike c t h.kept i)
 
 -- Open blocks
 

@@ -2,32 +2,49 @@
 ghost use Rattle.std.specs.Prelude.{◌≡◌, ◌<◌, ◌^◌};
 ghost use Rattle.std.specs.List.{list_any};
 ghost use Rattle.ufs_spec.specs.Configs.{InRange};
-ghost use Rattle.ufs_spec.specs.Translation.{own_room, wanted_room};
+ghost use Rattle.ufs_spec.specs.Translation.{least_room, may_go_bad, own_room, wanted_room};
 ghost use Rattle.ftl_core.specs.Collects.{has_few_free};
-ghost use Rattle.ftl_core.specs.Moves.{erases, fills, free_blocks, has_open_block, has_room_for_groups, may_open, may_open_for_group, may_open_for_step};
+ghost use Rattle.ftl_core.specs.Moves.{bad_blocks, erases, fills, free_blocks, has_open_block, has_room_for_groups, may_open, may_open_for_group, may_open_for_step};
 
 use super::Ftl;
 use crate::books::Waiting;
 use ufs_spec::Numbers;
 
-/// How many free blocks groups leave to the device's own pages, to copies, marks and repairs: one
-/// for each die, two, and twice as many as the pages of a full write cache fill.
-fn own_room(numbers: &Numbers) -> usize
+/// How many free blocks the device's own pages need, copies, marks and repairs, while no block goes
+/// bad: one for each die, two, and twice as many as the pages of a full write cache fill.
+fn least_room(numbers: &Numbers) -> usize
     requires { InRange numbers.now }
-    ensures what { result ≡ own_room numbers.now }
+    ensures what { result ≡ least_room numbers.now }
     ensures small { result < 2 ^ 20 }
 {
     let filled = numbers.slots.div_ceil(numbers.pages);
     usize::from(numbers.dies) + 2 + 2 * usize::from(filled)
 }
 
-/// With fewer free blocks than this many room is to be gained.
-fn wanted_room(numbers: &Numbers) -> usize
+/// How many blocks may still go bad before the device is locked, where so many are bad.
+fn may_go_bad(numbers: &Numbers, bad: usize) -> usize
+    ensures what { result ≡ may_go_bad numbers.now bad }
+    ensures small { result < 2 ^ 20 }
+{
+    usize::from(numbers.spare).saturating_sub(bad)
+}
+
+/// How many free blocks groups leave where so many blocks are bad: those that the device's own
+/// pages need, and one for each block that may still go bad.
+fn own_room(numbers: &Numbers, bad: usize) -> usize
     requires { InRange numbers.now }
-    ensures { result ≡ wanted_room numbers.now }
+    ensures { result ≡ own_room numbers.now bad }
+{
+    least_room(numbers) + may_go_bad(numbers, bad)
+}
+
+/// With fewer free blocks than this many room is to be gained.
+fn wanted_room(numbers: &Numbers, bad: usize) -> usize
+    requires { InRange numbers.now }
+    ensures { result ≡ wanted_room numbers.now bad }
 {
     let least = 2 * usize::from(numbers.dies) + 4;
-    least.max(own_room(numbers) + 2)
+    least.max(least_room(numbers) + 2) + may_go_bad(numbers, bad)
 }
 
 impl Ftl {
@@ -38,11 +55,18 @@ impl Ftl {
         self.blocks.free_blocks()
     }
 
+    /// How many free blocks groups leave now.
+    fn left_by_groups(&self) -> usize
+        ensures { result ≡ own_room self.now.numbers (bad_blocks self.now) }
+    {
+        own_room(self.config.numbers(), self.blocks.bad_blocks())
+    }
+
     /// Whether fewer blocks are free than are wanted.
     pub(super) fn has_few_free(&self) -> bool
         ensures { result ≡ has_few_free self.now }
     {
-        self.free_blocks() < wanted_room(self.config.numbers())
+        self.free_blocks() < wanted_room(self.config.numbers(), self.blocks.bad_blocks())
     }
 
     /// Whether pages of groups may be programmed: not into the room that they leave to the device's
@@ -50,7 +74,7 @@ impl Ftl {
     pub(super) fn has_room_for_groups(&self) -> bool
         ensures { result ≡ has_room_for_groups self.now }
     {
-        self.free_blocks() >= own_room(self.config.numbers())
+        self.free_blocks() >= self.left_by_groups()
     }
 
     /// Whether some die fills a block.
@@ -79,7 +103,7 @@ impl Ftl {
     fn may_open_for_group(&self) -> bool
         ensures { result ≡ may_open_for_group self.now }
     {
-        self.free_blocks() > own_room(self.config.numbers())
+        self.free_blocks() > self.left_by_groups()
     }
 
     /// Whether a block may be opened for the page of a step: while groups may be programmed any die

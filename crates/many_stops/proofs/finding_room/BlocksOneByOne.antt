@@ -14,12 +14,12 @@ use Rattle.ufs_spec.specs.Moves.{WentWrong, end_flight, mark_written, moved, ste
 use Rattle.ufs_spec.specs.Openings.{IsOpenedTranslation}
 use Rattle.ufs_spec.specs.Cells.{Cells}
 use Rattle.ufs_spec.specs.Translation.{MayTake, Order, OrderCopy, OrderMark, OrderPlanMark, OrderRepair, Plan, Step}
-use Rattle.ufs_spec.specs.Translation.{Translation, is_mended, mark_ordered, name_of, ordered, own_room}
+use Rattle.ufs_spec.specs.Translation.{Translation, is_mended, mark_ordered, name_of, ordered, own_room, own_room_now}
 use Rattle.ufs_spec.specs.Translation.{repair_ordered, spots, taken, turned}
 use Rattle.ufs_spec.specs.declared.configs.Numbers.{Numbers}
 use Rattle.ufs_spec.specs.declared.flash.Place.{Place}
 use Rattle.ufs_spec.specs.declared.layer.Reader.TheVariants.{ForNobody, ForRest, ForStep, ForTask}
-use Rattle.power_loss.proofs.jobs.StandsSecurely.{free_is_not_filling}
+use Rattle.power_loss.proofs.jobs.StandsSecurely.{filling_is_not_bad, free_is_not_filling}
 use Rattle.power_loss.proofs.jobs_owed.ProgramsAndErases.{OpensReady, program_owed}
 use Rattle.power_loss.proofs.jobs_owed.RoomLeft.{none_filled}
 use Rattle.power_loss.proofs.ordered_lists.ElementsAndOrders.{IsIn, in_spots, spots_in}
@@ -28,15 +28,16 @@ use Rattle.power_loss.proofs.room_to_mend.RoomInBlocks.{room_in}
 use Rattle.power_loss.specs.Invariant.{Valid}
 use Rattle.power_loss.specs.MendingRoom.{MendsAlone, fails_job, page_of_step}
 use Rattle.power_loss.proofs.jobs.JobsBegin.{same_blocks}
-use Rattle.many_stops.proofs.CountedBlocks.{none_fewer, one_fewer}
+use Rattle.many_stops.proofs.CountedBlocks.{good_alike, none_fewer, one_fewer}
 use Rattle.many_stops.proofs.finding_room.RoomForAMending.{free_room_alone, opened_room, program_fills}
-use Rattle.many_stops.specs.RoomOfGroups.{free_count}
+use Rattle.many_stops.proofs.room_left.RoomStays.{bad_is_not_free, not_bad_after}
+use Rattle.many_stops.specs.RoomOfGroups.{bad_count, free_count}
 
 -- as many blocks are free as groups leave, or one less; or all pages that are left, but for less than a block, and for
 -- that of the step under way, lie in free blocks
 abbrev pub FilledIn : Numbers → (Spot → BlockState) → Option Step → Type 0
 FilledIn n blocks step =
-    (own_room n ≤ free_count n blocks + 1)
+    (own_room n (bad_count n blocks) ≤ free_count n blocks + 1)
     ⊎ (room_in n blocks + 1 ≤ n.pages * free_count n blocks + n.pages + page_of_step step)
 
 abbrev pub Filled : Translation → Type 0
@@ -58,11 +59,13 @@ none_before next none = let e = ap page_of_step none in omega (arith, e)
 
 -- A program that ended
 
-one_filled : (own pages free after room left step next : ℕ) → own ≤ free + 1 ⊎ room + 1 ≤ pages * free + pages + step →
+one_filled : (own now pages free after room left step next : ℕ) → now ≡ own →
+    own ≤ free + 1 ⊎ room + 1 ≤ pages * free + pages + step →
     step ≤ 1 → free ≤ after → suc left ≤ room → pages * free ≤ pages * after →
-    own ≤ after + 1 ⊎ left + 1 ≤ pages * after + pages + next
-one_filled own pages free after room left step next (inl h) one more less times = inl (omega (arith, h, more))
-one_filled own pages free after room left step next (inr h) one more less times =
+    now ≤ after + 1 ⊎ left + 1 ≤ pages * after + pages + next
+one_filled own now pages free after room left step next same (inl h) one more less times =
+    inl (omega (arith, same, h, more))
+one_filled own now pages free after room left step next same (inr h) one more less times =
     inr (omega (arith, h, one, less, times))
 
 times : (m : ℕ) {a b : ℕ} → a ≤ b → m * a ≤ m * b
@@ -77,14 +80,17 @@ program_filled : (n : Numbers) (blocks : Spot → BlockState) (s : Spot) (page :
     FilledIn n (at_spot blocks s (state_after n.pages page)) next
 program_filled n blocks s page step next l is inside f =
     let more = none_fewer n blocks s (state_after n.pages page) (λ free. free_is_not_filling free is) in
-    one_filled (own_room n) n.pages (free_count n blocks) (free_count n (at_spot blocks s (state_after n.pages page)))
+    one_filled (own_room n (bad_count n blocks)) (own_room n (bad_count n (at_spot blocks s (state_after n.pages page))))
+    n.pages (free_count n blocks) (free_count n (at_spot blocks s (state_after n.pages page)))
     (room_in n blocks) (room_in n (at_spot blocks s (state_after n.pages page))) (page_of_step step)
-    (page_of_step next) f (one_page step) more (program_fills n blocks s page l is inside) (times n.pages more)
+    (page_of_step next)
+    (ap (own_room n) (good_alike n blocks s (state_after n.pages page) (filling_is_not_bad is)
+    (not_bad_after n.pages page))) f (one_page step) more (program_fills n blocks s page l is inside) (times n.pages more)
 
 -- A program that begins
 
-enough_left : (own free after : ℕ) → own ≤ free → free ≤ 1 + after → own ≤ after + 1
-enough_left own free after h l = omega (arith, h, l)
+enough_left : (own now free after : ℕ) → now ≡ own → own ≤ free → free ≤ 1 + after → now ≤ after + 1
+enough_left own now free after same h l = omega (arith, same, h, l)
 
 one_opened : (pages free after room left step : ℕ) → room ≤ pages * free → left ≤ room → free ≤ 1 + after →
     pages * free ≤ pages * (1 + after) → step ≡ 1 → left + 1 ≤ pages * after + pages + step
@@ -107,17 +113,21 @@ module _ {t : Translation} (v : Valid t) (un : is_mended t.work.mending ≡ fals
       let less = one_fewer t.numbers t.disk.blocks (spot_of p) (Filling 0) in
       let left = opened_room t.numbers t.disk.blocks (spot_of p) o.free in
       ⊎_elim
-      (λ (room : own_room t.numbers ≤ free_count t.numbers t.disk.blocks).
-      inl (enough_left (own_room t.numbers) (free_count t.numbers t.disk.blocks)
-      (free_count t.numbers (at_spot t.disk.blocks (spot_of p) (Filling 0))) room less))
-      (λ (few : free_count t.numbers t.disk.blocks < own_room t.numbers).
+      (λ (room : own_room_now t ≤ free_count t.numbers t.disk.blocks).
+      inl (enough_left (own_room_now t)
+      (own_room t.numbers (bad_count t.numbers (at_spot t.disk.blocks (spot_of p) (Filling 0))))
+      (free_count t.numbers t.disk.blocks)
+      (free_count t.numbers (at_spot t.disk.blocks (spot_of p) (Filling 0)))
+      (ap (own_room t.numbers) (good_alike t.numbers t.disk.blocks (spot_of p) (Filling 0)
+      (λ bad. bad_is_not_free bad o.free) (filling_is_not_bad refl))) room less))
+      (λ (few : free_count t.numbers t.disk.blocks < own_room_now t).
       inr (one_opened t.numbers.pages (free_count t.numbers t.disk.blocks)
       (free_count t.numbers (at_spot t.disk.blocks (spot_of p) (Filling 0))) (room_in t.numbers t.disk.blocks)
       (room_in t.numbers (at_spot t.disk.blocks (spot_of p) (Filling 0))) (page_of_step t.work.step)
       (free_room_alone t.numbers t.disk.blocks
       (λ s next i is. none_filled t die (Programming p cell) s next may o.free few (spots_in i) is)) left less
       (times t.numbers.pages less) (step_there_is die p cell may)))
-      (at_most (own_room t.numbers) (free_count t.numbers t.disk.blocks))
+      (at_most (own_room_now t) (free_count t.numbers t.disk.blocks))
 
   program_taken : (die : ℕ) (p : Place) (cell : Cell) → MayTake t die (Some (Programming p cell)) →
       FilledIn t.numbers (at_spot t.disk.blocks (spot_of p) (Filling p.page)) t.work.step

@@ -1,37 +1,32 @@
--- Over any number of lives in which no program and no erase fails, from new dies on, each opening finds room for its
--- mending, and no life is locked out.
+-- Over any number of lives whose failures are borne, from new dies on, each opening finds room for its mending, and no
+-- life is locked out.
 use Rattle.std.proofs.Common.{◌≡◌, ℕ, ◌∷◌, ◌+◌, ◌-◌, ◌*◌, ◌<◌, ◌≤◌, Bool, true, false, cond, List}
-use Rattle.std.proofs.Common.{[], length, map, Option, Some, None, inl, inr, ⊎_elim, refl, sym, ap, ◌∙◌, subst, arith}
+use Rattle.std.proofs.Common.{[], length, map, inl, inr, ⊎_elim, refl, sym, ap, ◌∙◌, subst, arith}
 use Rattle.std.proofs.Math.Nat.{lt_of_mul-lt-mul_right, mul-le-mul_left}
 use Rattle.std.proofs.lemmas.Grind.{div_ceil_times}
 use Rattle.std.proofs.lemmas.List.{length-map}
 use Rattle.std.proofs.lemmas.List.Concat.{length-flat_map}
-use Rattle.std.proofs.lemmas.List.Elements.{All-cons, All-nil}
+use Rattle.std.proofs.lemmas.List.Elements.{All-cons, All-head, All-nil, All-tail}
 use Rattle.std.proofs.lemmas.List.Sums.{sum_by-cons}
 use Rattle.std.specs.Int.{div_ceil}
-use Rattle.std.specs.List.{All, count_by, list_any, sum_by}
+use Rattle.std.specs.List.{All, count_by, sum_by}
 use Rattle.ufs_laws.proofs.new_dies.FirstLife.{none_there}
-use Rattle.power_loss.proofs.collected_blocks.FewestLivePages.{bad_told}
-use Rattle.ufs_laws.proofs.pages.BlankPages.{nothing_is_blank}
-use Rattle.ufs_laws.proofs.pages.PageIsOneCell.{one_cell}
 use Rattle.ufs_spec.proofs.ConfigFacts.{config_tests, ranges}
 use Rattle.ufs_spec.proofs.Facts.{ltb-false, true≢false}
 use Rattle.ufs_spec.proofs.Lists.{length-below}
-use Rattle.ufs_spec.specs.Cells.{AreWithin, Array, Cell, Cells, IsCell, Nothing}
+use Rattle.ufs_spec.specs.Cells.{AreWithin, Array, Cells, Nothing}
 use Rattle.ufs_spec.specs.Configs.{IsConfig, blocks_left, blocks_needed, pages_kept}
 use Rattle.ufs_spec.specs.Dies.{DieState}
-use Rattle.ufs_spec.specs.Disk.{Bad, CellCrash, Erasing, Filling, Flight, Free, Programming}
-use Rattle.ufs_spec.specs.Disk.{Reading, Spot, Touches, spot_of}
+use Rattle.ufs_spec.specs.Disk.{CellCrash, Free, Spot}
 use Rattle.ufs_spec.specs.Keys.{below}
 use Rattle.ufs_spec.specs.Lives.{IsOpened, Life, Lived, Lives, Runs, Stops, array_of, bad_in, bad_of}
 use Rattle.ufs_spec.specs.Moves.{Move}
 use Rattle.ufs_spec.specs.Openings.{IsOpenedTranslation}
 use Rattle.ufs_spec.specs.Refusals.{State, mended, numbers_of}
 use Rattle.ufs_spec.specs.Sound.{CellsSound, Sound}
-use Rattle.ufs_spec.specs.Translation.{Translation, count_blocks, is_bad, is_free, own_room, spots}
+use Rattle.ufs_spec.specs.Translation.{Translation, count_blocks, is_bad, is_free, least_room, may_go_bad, spots}
 use Rattle.ufs_spec.specs.declared.configs.Numbers.{Numbers}
 use Rattle.ufs_spec.specs.declared.events.Event.{Event}
-use Rattle.ufs_spec.specs.declared.events.Event.TheVariants as event
 use Rattle.ufs_spec.specs.declared.events.Leftover.{Leftover}
 use Rattle.ufs_spec.specs.declared.events.Output.{Output}
 use Rattle.ufs_spec.specs.declared.flash.Place.{Place}
@@ -52,18 +47,16 @@ use Rattle.power_loss.specs.Exchange.{IsArrayOf, ValidState}
 use Rattle.power_loss.specs.FewRepairs.{ArrayHasFewLost, HasFewLost, still_lost}
 use Rattle.power_loss.specs.Invariant.{Valid}
 use Rattle.power_loss.specs.Mending.{AreAllowedMoves, moved_by}
-use Rattle.power_loss.specs.MendingRoom.{MayGoOn, fails_job, makes_bad}
+use Rattle.power_loss.specs.MendingRoom.{MayGoOn, makes_bad}
 use Rattle.power_loss.specs.Runs.{AreNewDies}
-use Rattle.many_stops.proofs.finding_room.RoomForAMending.{blocks_hold, own_room_twice}
-use Rattle.many_stops.proofs.finding_room.MendingLives.{LivesFrom, lives_begin, lives_on, stop_leaves}
-use Rattle.many_stops.proofs.finding_room.StopsOfAMending.{were_unfilled}
-use Rattle.many_stops.proofs.finding_room.SinceTheOpening.{bad_is_not_free}
-use Rattle.power_loss.proofs.jobs.StandsSecurely.{filling_is_not_bad}
+use Rattle.many_stops.proofs.finding_room.RoomForAMending.{blocks_hold, least_room_twice}
+use Rattle.many_stops.proofs.finding_room.LivesWithFailures.{life_holds, moves_hold}
+use Rattle.many_stops.proofs.finding_room.MendingLives.{LivesFrom, lives_begin, lives_less, lives_on, stop_leaves}
+use Rattle.many_stops.proofs.finding_room.StopsOfAMending.{opened_bad, were_unfilled}
 use Rattle.power_loss.proofs.jobs_owed.ProgramsAndErases.{free_is}
-use Rattle.many_stops.specs.RoomOfGroups.{AreBlankIfBad}
-use Rattle.many_stops.proofs.finding_room.WithoutFailures.{fails_parts, life_holds, moves_hold, none_counted}
-use Rattle.many_stops.specs.RoomOverStops.{FindsRoom, HasSpareBlocks, IsNeverLockedOut, NoneFails, OpensNoneIfBad}
-use Rattle.many_stops.specs.RoomOverStops.{OpensWithRoom, mending_blocks}
+use Rattle.many_stops.specs.BorneFailures.{AreBorne, AreBorneMoves, IsBorneLife}
+use Rattle.many_stops.specs.RoomOfGroups.{mending_blocks}
+use Rattle.many_stops.specs.RoomOverStops.{FindsRoom, HasSpareBlocks, IsNeverLockedOut, OpensWithRoom, more_bad}
 
 -- Configurations
 
@@ -74,8 +67,8 @@ has_pages : (n : Numbers) → IsConfig n → 2 ≤ n.pages
 has_pages n config = let r = (ranges n (config_tests n config).0).has_pages in omega (arith, r)
 
 pub blocks_of_a_mending : (n : Numbers) → IsConfig n →
-    (n.slots + 2 ≤ n.pages * mending_blocks n) × (own_room n ≡ n.dies + 2 * mending_blocks n)
-blocks_of_a_mending n config = (blocks_hold n (has_pages n config), own_room_twice n)
+    (n.slots + 2 ≤ n.pages * mending_blocks n) × (least_room n ≡ n.dies + 2 * mending_blocks n)
+blocks_of_a_mending n config = (blocks_hold n (has_pages n config), least_room_twice n)
 
 -- New dies
 
@@ -136,28 +129,36 @@ length_spots n =
     (λ die. length-map (below n.blocks) (λ block. block_at die block) ∙ length-below n.blocks)
     ∙ ap (λ k. k * n.blocks) (length-below n.dies)
 
-left_over : (needed blocks spare bad free : ℕ) → needed ≤ blocks - spare → bad ≤ spare → blocks ≤ free + bad →
-    needed ≤ free
-left_over needed blocks spare bad free enough few all = omega (arith, enough, few, all)
+left_over : (needed blocks spare bad free : ℕ) → 1 ≤ needed → needed ≤ blocks - spare → bad ≤ spare →
+    blocks ≤ free + bad → needed + (spare - bad) ≤ free
+left_over needed blocks spare bad free some enough few all = omega (arith, some, enough, few, all)
 
 -- where all blocks are free that are not bad, and no more are bad than spare ones, there is room for any mending
 all_free_spare : (t : Translation) (bad : Spot → Bool) → IsConfig t.numbers →
     count_by bad (spots t.numbers) ≤ t.numbers.spare → ((s : Spot) → bad s ≡ false → t.disk.blocks s ≡ Free) →
-    HasSpareBlocks t
-all_free_spare t bad config few free = record {
+    ((s : Spot) → is_bad (t.disk.blocks s) ≡ bad s) → HasSpareBlocks t
+all_free_spare t bad config few free same = record {
   free = omega (arith, two);
   spare = λ s. is_free (t.disk.blocks s);
   each = λ s h. inl (free_is (t.disk.blocks s) h);
   many = two;
 }
   where
-    two : 2 * mending_blocks t.numbers ≤ count_by (λ s. is_free (t.disk.blocks s)) (spots t.numbers)
+    as_many : may_go_bad t.numbers (count_by (λ s. is_bad (t.disk.blocks s)) (spots t.numbers))
+        ≡ t.numbers.spare - count_by bad (spots t.numbers)
+    as_many = λ i. t.numbers.spare - count_by (λ s. same s i) (spots t.numbers)
+
+    two : 2 * mending_blocks t.numbers
+        + may_go_bad t.numbers (count_by (λ s. is_bad (t.disk.blocks s)) (spots t.numbers))
+        ≤ count_by (λ s. is_free (t.disk.blocks s)) (spots t.numbers)
     two =
+        let k = as_many in
         let l = one_passes (λ s. is_free (t.disk.blocks s)) bad (spots t.numbers) (λ s e. ap is_free (free s e)) in
         let e = length_spots t.numbers in
-        left_over (2 * mending_blocks t.numbers) (t.numbers.dies * t.numbers.blocks) t.numbers.spare
+        let enough = left_over (2 * mending_blocks t.numbers) (t.numbers.dies * t.numbers.blocks) t.numbers.spare
         (count_by bad (spots t.numbers)) (count_by (λ s. is_free (t.disk.blocks s)) (spots t.numbers))
-        (config_blocks t.numbers config) few (omega (arith, l, e))
+        (omega arith) (config_blocks t.numbers config) few (omega (arith, l, e)) in
+        omega (arith, k, enough)
 
 pub new_find_room : (n : Numbers) (c : Cells) (bad : Spot → Bool) (t : Translation) → IsConfig n →
     ((p : Place) → c p ≡ Nothing) → count_by bad (spots n) ≤ n.spare → IsOpenedTranslation n c bad t → FindsRoom t
@@ -166,20 +167,21 @@ new_find_room n c bad t config blank few o =
     (subst (λ k. count_by bad (spots k) ≤ k.spare) (sym o.numbers) few)
     (λ s good. ⊎_elim (λ e. e)
     (λ e. (let k = o.disk.blocks.oldest_first s e in absurd (k.2 (blank k.0))))
-    (o.disk.blocks.were_good s good)))
+    (o.disk.blocks.were_good s good)) (opened_bad bad t.disk.blocks o.disk.blocks))
+
+one_less : {dies : ℕ} → 1 ≤ dies → dies - 1 < dies
+one_less l = omega (arith, l)
 
 -- A life of the layer
 
 pub layer_finds_room : (n : Numbers) (c left : Cells) (bad : Spot → Bool) (t next : Translation) (moves : List Move) →
     IsConfig n → CellsRight c → AreWithin n c → CellsSound c t.ledger.newest → HasFewLost n c t.ledger.newest →
-    AreBlankIfBad c bad → IsOpenedTranslation n c bad t → FindsRoom t → AreAllowedMoves t moves →
-    list_any fails_job moves ≡ false →
+    IsOpenedTranslation n c bad t → FindsRoom t → AreAllowedMoves t moves → AreBorneMoves (n.dies - 1) t moves →
     CellCrash (moved_by t moves).disk.cells (moved_by t moves).disk.flights left →
     IsOpenedTranslation n left (λ s. is_bad ((moved_by t moves).disk.blocks s)) next → FindsRoom next
-layer_finds_room n c left bad t next moves config right within sound few blank o room may well crash start =
+layer_finds_room n c left bad t next moves config right within sound few o room may borne crash start =
     stop_leaves bad t (moved_by t moves) left next opens
-    (subst (λ k. 1 ≤ k.dies) (sym numbers) (has_die n config)) (all_few t moves v first.few may).valid
-    (moves_hold (LivesFrom t) (lives_on t (were_unfilled t bad opens)) t moves v may well first) crash
+    (subst (λ k. 1 ≤ k.dies) (sym numbers) (has_die n config)) (all_few t moves v first.few may).valid last.0 last.1 crash
     (subst (λ k. IsOpenedTranslation k left (λ s. is_bad ((moved_by t moves).disk.blocks s)) next) (sym numbers) start)
   where
     pages : 2 ≤ n.pages
@@ -191,33 +193,24 @@ layer_finds_room n c left bad t next moves config right within sound few blank o
     v : Valid t
     v = opening_valid n c bad t (omega (arith, pages)) right within sound o
 
-    first : LivesFrom t t
-    first = lives_begin bad t opens (subst (λ z. AreBlankIfBad z bad) (sym o.disk.cells) blank) v
+    first : LivesFrom t (n.dies - 1) t
+    first = lives_begin bad t opens v
         (subst (λ k. 2 ≤ k.pages) (sym o.numbers) pages)
         (subst (λ k. HasFewLost k t.disk.cells t.ledger.newest) (sym o.numbers)
-        (subst (λ z. HasFewLost n z t.ledger.newest) (sym o.disk.cells) few)) room
+        (subst (λ z. HasFewLost n z t.ledger.newest) (sym o.disk.cells) few)) (n.dies - 1)
+        (subst (λ k. n.dies - 1 < k.dies) (sym o.numbers) (one_less (has_die n config))) room
+
+    last : (aside : ℕ) × LivesFrom t aside (moved_by t moves)
+    last = moves_hold (LivesFrom t) (lives_on t (were_unfilled t bad opens)) (lives_less t) t moves (n.dies - 1) v may
+        borne first
 
     numbers : (moved_by t moves).numbers ≡ n
     numbers = (all_few t moves v first.few may).numbers ∙ o.numbers
 
--- Bad blocks
-
--- no job touches them
-untouched : {t : Translation} → Valid t → (f : Option Flight) (p : Place) (intended : Cell) → t.disk.flights p.die ≡ f →
-    Touches f p intended → t.disk.blocks (spot_of p) ≡ Bad → ⊥
-untouched v None p intended e touches bad = touches
-untouched v (Some (Reading reader place)) p intended e touches bad = touches
-untouched {t} v (Some (Programming q cell)) p intended e touches bad =
-    filling_is_not_bad
-    (subst (λ (z : Place). t.disk.blocks (spot_of z) ≡ Filling q.page) touches.0
-    (v.flights.programs p.die q cell e).next) bad
-untouched {t} v (Some (Erasing s)) p intended e touches bad =
-    bad_is_not_free bad (subst (λ z. t.disk.blocks z ≡ Free) touches.0 (v.flights.erases p.die s e).free)
-
 -- A life of a device
 
 module _ (n : Numbers) (array : Array) (bad : Spot → Bool) (s : State) (config : IsConfig n) (blank : IsArrayOf n array)
-    (sound : Sound array) (few : ArrayHasFewLost n array) (bare : OpensNoneIfBad array bad)
+    (sound : Sound array) (few : ArrayHasFewLost n array)
     (o : IsOpened n array bad s) (room : FindsRoom s.translation) where
   valid : ValidState s
   valid = opened_state n array bad s config blank sound o
@@ -225,23 +218,22 @@ module _ (n : Numbers) (array : Array) (bad : Spot → Bool) (s : State) (config
   opens : Opened bad s.translation
   opens = is_opened n array bad s config blank sound o
 
-  -- nothing stands in a bad block
-  bare_cells : AreBlankIfBad s.translation.disk.cells bad
-  bare_cells p h = one_cell (array p) (s.translation.disk.cells p) Nothing
-      (cells_shown n array bad s config blank sound o p) (bare p h)
+  dies_here : (numbers_of s).dies - 1 < s.translation.numbers.dies
+  dies_here = one_less (subst (λ k. 1 ≤ k.dies) (sym o.translation.numbers) (has_die n config))
 
-  begun : LivesFrom s.translation s.translation
-  begun = lives_begin bad s.translation opens bare_cells (valid_is n array bad s config blank sound o)
+  begun : LivesFrom s.translation ((numbers_of s).dies - 1) s.translation
+  begun = lives_begin bad s.translation opens (valid_is n array bad s config blank sound o)
       (subst (λ k. 2 ≤ k.pages) (sym o.translation.numbers) (has_pages n config))
       (subst (λ k. HasFewLost k s.translation.disk.cells s.translation.ledger.newest) (sym o.translation.numbers)
       (few s.translation.disk.cells s.translation.ledger.newest (cells_shown n array bad s config blank sound o)
-      opens.start.ledger.newest)) room
+      opens.start.ledger.newest)) ((numbers_of s).dies - 1) dies_here room
 
-  lives_at : (t : State) (es : List Event) (os : List Output) → Life s es os t → NoneFails es →
-      LivesFrom s.translation t.translation
-  lives_at t es os life well =
+  lives_at : (t : State) (es : List Event) (os : List Output) → Life s es os t →
+      AreBorne ((numbers_of s).dies - 1) s es os → (aside : ℕ) × LivesFrom s.translation aside t.translation
+  lives_at t es os life borne =
       life_holds (LivesFrom s.translation)
-      (lives_on s.translation (were_unfilled s.translation bad opens)) t es os valid life well begun
+      (lives_on s.translation (were_unfilled s.translation bad opens)) (lives_less s.translation) t es os
+      ((numbers_of s).dies - 1) valid life borne begun
 
   numbers_at : (t : State) (es : List Event) (os : List Output) → Life s es os t → numbers_of t ≡ n
   numbers_at t es os life =
@@ -251,55 +243,48 @@ module _ (n : Numbers) (array : Array) (bad : Spot → Bool) (s : State) (config
 
   -- what a stop leaves of it is opened with room
   pub next_finds_room : (t next : State) (es : List Event) (os : List Output) (lefts : List Leftover) (left : Array) →
-      Life s es os t → NoneFails es → Stops t lefts left → IsOpened n left (bad_in t) next → FindsRoom next.translation
-  next_finds_room t next es os lefts left life well stops p =
+      Life s es os t → AreBorne ((numbers_of s).dies - 1) s es os → Stops t lefts left →
+      IsOpened n left (bad_in t) next → FindsRoom next.translation
+  next_finds_room t next es os lefts left life borne stops p =
       let w = many_events s t es os valid life in
+      let last = lives_at t es os life borne in
       stop_leaves bad s.translation t.translation p.cells next.translation opens
       (subst (λ k. 1 ≤ k.dies) (sym (numbers_at t es os life)) (has_die n config)) w.tied.valid
-      (lives_at t es os life well)
+      last.0 last.1
       (cell_crash t.array t.translation.disk.cells t.translation.disk.flights left w.tied.shown w.tied.flights
       stops.crash p.cells p.shown)
       (subst (λ k. IsOpenedTranslation k p.cells (bad_in t) next.translation) (sym (numbers_at t es os life))
       p.translation)
 
-  -- nothing stands in its bad blocks, whatever a stop leaves
-  pub left_bare : (t : State) (es : List Event) (os : List Output) (lefts : List Leftover) (left : Array) →
-      Life s es os t → NoneFails es → Stops t lefts left → OpensNoneIfBad left (bad_in t)
-  left_bare t es os lefts left life well stops p h =
-      let w = many_events s t es os valid life in
-      let bad = bad_told (t.translation.disk.blocks (spot_of p)) h in
-      ⊎_elim
-      (λ e. subst (λ x. IsCell x Nothing) (sym e)
-      (subst (IsCell (t.array p)) ((lives_at t es os life well).leaves.blank p bad) (w.tied.shown p)))
-      (λ k. absurd (untouched w.tied.valid (t.translation.disk.flights p.die) p k.0 refl k.1 bad)) (stops.crash p)
-
   -- and until it is mended it may go on
-  pub goes_on : (t : State) (es : List Event) (os : List Output) → Life s es os t → NoneFails es → mended t ≡ false →
-      MayGoOn t.translation
-  goes_on t es os life well un = by room
+  pub goes_on : (t : State) (es : List Event) (os : List Output) → Life s es os t →
+      count_by makes_bad es ≤ more_bad s.translation → mended t ≡ false → MayGoOn t.translation
+  goes_on t es os life fails un = by room
     where
-      enough : (pages lost slots blocks free bad : ℕ) → lost ≤ slots → slots + 2 ≤ pages * blocks → blocks ≤ free →
-          bad ≡ 0 → lost + 2 + bad * pages ≤ pages * free
-      enough pages lost slots blocks free bad few hold l none =
-          rw none (let k = mul-le-mul_left pages l in omega (arith, few, hold, k))
+      enough : (pages lost slots blocks more free bad : ℕ) → lost ≤ slots → slots + 2 ≤ pages * blocks →
+          blocks + more ≤ free → bad ≤ more → lost + 2 + bad * pages ≤ pages * free
+      enough pages lost slots blocks more free bad few hold l within =
+          let sum : blocks + bad ≤ free = omega (arith, l, within) in
+          let k = mul-le-mul_left pages sum in
+          omega (arith, few, hold, k)
 
       by : FindsRoom s.translation → MayGoOn t.translation
       by (inl done) = absurd (true≢false (sym done ∙ (life_takes t es os valid life un).0))
       by (inr r) = device_goes_on n array bad s t es os (still_lost s.translation.work.mending) config blank sound o
           (listed n s.translation.ledger.newest s.translation.work.mending o.translation.mending)
           (enough n.pages (length (still_lost s.translation.work.mending)) n.slots (mending_blocks n)
-          (count_blocks s.translation is_free) (count_by makes_bad es) (few_keys n array bad s few o)
+          (more_bad s.translation) (count_blocks s.translation is_free) (count_by makes_bad es) (few_keys n array bad s few o)
           (blocks_hold n (has_pages n config))
-          (subst (λ k. mending_blocks k ≤ count_blocks s.translation is_free) o.translation.numbers r.free)
-          (none_counted es well)) life un
+          (subst (λ k. mending_blocks k + more_bad s.translation ≤ count_blocks s.translation is_free)
+          o.translation.numbers r.free) fails) life un
 
 -- Lives
 
 pub never_locked_out : (n : Numbers) (array : Array) (bad : Spot → Bool) (l : Lived) → IsConfig n → IsArrayOf n array →
-    Sound array → ArrayHasFewLost n array → OpensNoneIfBad array bad → IsOpened n array bad l.start →
-    FindsRoom l.start.translation → IsNeverLockedOut l
-never_locked_out n array bad l config blank sound few bare o room es os middle life well un =
-    goes_on n array bad l.start config blank sound few bare o room middle es os life well un
+    Sound array → ArrayHasFewLost n array → IsOpened n array bad l.start → FindsRoom l.start.translation →
+    IsNeverLockedOut l
+never_locked_out n array bad l config blank sound few o room es os middle life fails un =
+    goes_on n array bad l.start config blank sound few o room middle es os life fails un
 
 head_opened : {n : Numbers} {array : Array} {bad : Spot → Bool} (l : Lived) (later : List Lived) (es : List Event)
     (os : List Output) → Lives n array bad l later es os → IsOpened n array bad l.start
@@ -309,32 +294,30 @@ head_opened l (m ∷ ls) es os h = h.0.0
 -- a life that begins with room is never locked out, and neither is any behind it
 pub lives_find_room : (n : Numbers) (array : Array) (bad : Spot → Bool) (first : Lived) (later : List Lived)
     (es : List Event) (os : List Output) → IsConfig n → IsArrayOf n array → Sound array → ArrayHasFewLost n array →
-    OpensNoneIfBad array bad → FindsRoom first.start.translation → NoneFails es →
-    Lives n array bad first later es os → All OpensWithRoom (first ∷ later)
-lives_find_room n array bad l [] es os config blank sound few bare room well h =
+    FindsRoom first.start.translation → Lives n array bad first later es os → All IsBorneLife (first ∷ later) →
+    All OpensWithRoom (first ∷ later)
+lives_find_room n array bad l [] es os config blank sound few room h borne =
     All-cons OpensWithRoom l []
-    (room, never_locked_out n array bad l config blank sound few bare h.0.0 room) (All-nil OpensWithRoom)
-lives_find_room n array bad l (m ∷ ls) es os config blank sound few bare room well h =
+    (room, never_locked_out n array bad l config blank sound few h.0.0 room) (All-nil OpensWithRoom)
+lives_find_room n array bad l (m ∷ ls) es os config blank sound few room h borne =
     let left : Array = h.1.3 in
     let behind : Left n l left = left_of (end_of_life bad config blank sound h.0) h.1.6 in
-    let none = fails_parts l.events h.1.1 (event.Stop h.1.0) (subst NoneFails h.1.4 well) in
     let opened : IsOpened n left (bad_in l.finish) m.start = head_opened m ls h.1.1 h.1.2 h.1.7 in
     All-cons OpensWithRoom l (m ∷ ls)
-    (room, never_locked_out n array bad l config blank sound few bare h.0.0 room)
+    (room, never_locked_out n array bad l config blank sound few h.0.0 room)
     (lives_find_room n left (bad_in l.finish) m ls h.1.1 h.1.2 config behind.inside behind.sound
     (stopped_few n array bad l.start config blank sound few h.0.0 l.finish l.events l.outputs h.1.0.items left h.0.1
     h.1.6)
-    (left_bare n array bad l.start config blank sound few bare h.0.0 room l.finish l.events l.outputs h.1.0.items left
-    h.0.1 none.0 h.1.6)
-    (next_finds_room n array bad l.start config blank sound few bare h.0.0 room l.finish m.start l.events l.outputs
-    h.1.0.items left h.0.1 none.0 h.1.6 opened) none.1 h.1.7)
+    (next_finds_room n array bad l.start config blank sound few h.0.0 room l.finish m.start l.events l.outputs
+    h.1.0.items left h.0.1 (All-head IsBorneLife l (m ∷ ls) borne) h.1.6 opened) h.1.7
+    (All-tail IsBorneLife l (m ∷ ls) borne))
 
 pub runs_find_room : (n : Numbers) (dies : List DieState) (s t : State) (es : List Event) (os : List Output) →
     IsConfig n → AreNewDies n dies → count_by (bad_of dies) (spots n) ≤ n.spare →
-    IsOpened n (array_of dies) (bad_of dies) s → Runs n s es os t → NoneFails es →
+    IsOpened n (array_of dies) (bad_of dies) s → Runs n s es os t →
     (first : Lived) × (later : List Lived) × Lives n (array_of dies) (bad_of dies) first later es os
-    × All OpensWithRoom (first ∷ later)
-runs_find_room n dies s t es os config new few opened runs well =
+    × (All IsBorneLife (first ∷ later) → All OpensWithRoom (first ∷ later))
+runs_find_room n dies s t es os config new few opened runs =
     let r = lives_of opened runs in
     let may = new_opens n dies new in
     let o = head_opened r.first r.later es os r.lives in (
@@ -343,8 +326,7 @@ runs_find_room n dies s t es os config new few opened runs well =
       r.lives,
       lives_find_room n (array_of dies) (bad_of dies) r.first r.later es os config may.inside may.sound
           (new_few n (array_of dies) (new_blank n dies new))
-          (λ p bad. subst (λ x. IsCell x Nothing) (sym (new_blank n dies new p)) nothing_is_blank)
           (new_find_room n o.cells (bad_of dies) r.first.start.translation config
-          (none_there n (array_of dies) (bad_of dies) r.first.start (new_blank n dies new) o) few o.translation) well
+          (none_there n (array_of dies) (bad_of dies) r.first.start (new_blank n dies new) o) few o.translation)
           r.lives,
     )

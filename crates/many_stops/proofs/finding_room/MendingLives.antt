@@ -1,17 +1,18 @@
--- What holds of a life from its opening on, if that found room, and in which no program and no erase fails: until the
--- device is mended the mending has room, and fills one block after another.
-use Rattle.std.proofs.Common.{◌≡◌, ◌≢◌, ℕ, ◌+◌, ◌-◌, ◌*◌, ◌≤◌, Bool, true, false, length, Option, Some, None}
+-- What holds of a life from its opening on, if that found room, and whose failures are borne: until the device is mended
+-- nothing fails, the mending has room, and fills one block after another.
+use Rattle.std.proofs.Common.{◌≡◌, ◌≢◌, ℕ, ◌+◌, ◌-◌, ◌*◌, ◌<◌, ◌≤◌, Bool, true, false, if◌then◌else◌, length, Option}
+use Rattle.std.proofs.Common.{Some, None}
 use Rattle.std.proofs.Common.{inl, inr, ⊎_elim, refl, sym, ap, ◌∙◌, subst, arith}
 use Rattle.ufs_spec.proofs.Facts.{cases_Bool, true≢false}
 use Rattle.ufs_spec.proofs.Updates.{at_die_cases, at_place_cases, at_spot_cases}
 use Rattle.ufs_spec.specs.Cells.{Cell, Cells, Mark, MarkPage}
 use Rattle.ufs_spec.specs.Disk.{BlockState, Bad, CellCrash, Closed, Filling, Free, Programming, Spot, Touches, at_die}
 use Rattle.ufs_spec.specs.Disk.{at_place, at_spot, programmed, spot_of, state_after}
-use Rattle.ufs_spec.specs.Moves.{EndJob, IsAllowedMove, WentWell, end_flight, ending_fits, freed, freed_state}
-use Rattle.ufs_spec.specs.Moves.{mark_written, moved}
+use Rattle.ufs_spec.specs.Moves.{EndJob, IsAllowedMove, Move, WentWell, WentWrong, end_flight, ending_fits, freed}
+use Rattle.ufs_spec.specs.Moves.{freed_state, mark_written, moved}
 use Rattle.ufs_spec.specs.Openings.{AreLost, IsOpenedTranslation}
 use Rattle.ufs_spec.specs.Translation.{Mended, Mending, Plan, Repairing, Translation, Unmarked, count_blocks, is_bad}
-use Rattle.ufs_spec.specs.Translation.{is_free, is_mended, own_room}
+use Rattle.ufs_spec.specs.Translation.{is_free, is_mended, may_go_bad}
 use Rattle.ufs_spec.specs.declared.flash.Place.{Place}
 use Rattle.power_loss.proofs.books.LayerParts.{MendingOf, StopLeaves}
 use Rattle.power_loss.proofs.mending_steps.TurnsOfALife.{false_before}
@@ -30,23 +31,26 @@ use Rattle.power_loss.specs.Invariant.{Valid}
 use Rattle.power_loss.specs.MendingRoom.{HasRoom, fails_job}
 use Rattle.power_loss.proofs.room_to_mend.DevicesWithRoom.{no_failure}
 use Rattle.many_stops.proofs.finding_room.BlocksOneByOne.{Filled, move_fills, opening_filled}
-use Rattle.many_stops.proofs.finding_room.RoomForAMending.{blocks_hold, own_room_twice}
+use Rattle.many_stops.proofs.finding_room.RoomForAMending.{blocks_hold}
 use Rattle.many_stops.proofs.finding_room.SinceTheOpening.{SinceOpening, WereUnfilled}
 use Rattle.many_stops.proofs.finding_room.MovesSinceTheOpening.{move_since}
 use Rattle.many_stops.proofs.finding_room.MovesSinceTheOpening.{opening_since}
 use Rattle.many_stops.proofs.finding_room.StopsOfAMending.{HasNewMark, HasNoNewMark, bad_is, new_mark}
-use Rattle.many_stops.proofs.finding_room.StopsOfAMending.{were_unfilled}
+use Rattle.many_stops.proofs.finding_room.StopsOfAMending.{opened_bad, were_unfilled}
 use Rattle.many_stops.proofs.finding_room.StopsOfAMending.{repairing_leaves, unmarked_leaves}
-use Rattle.many_stops.proofs.finding_room.WithoutFailures.{IsKeptByMoves}
-use Rattle.many_stops.proofs.free_at_stops.MovesKeepFree.{move_keeps, none_fails_stale, opening_keeps}
+use Rattle.many_stops.proofs.finding_room.LivesWithFailures.{IsKeptByLess, IsKeptByMoves}
+use Rattle.many_stops.proofs.CountedBlocks.{bad_alike}
+use Rattle.many_stops.proofs.free_at_stops.MovesKeepFree.{move_keeps, opening_keeps}
 use Rattle.many_stops.proofs.free_at_stops.MovesKeepFree.{stop_costs_none}
 use Rattle.many_stops.proofs.room_left.HandedPages.{handed_or_not}
 use Rattle.many_stops.proofs.room_left.IdleLives.{idle_stop}
 use Rattle.many_stops.proofs.room_left.MovesLeaveRoom.{move_leaves, opening_leaves}
-use Rattle.many_stops.specs.FreeOverStops.{KeepsFree}
-use Rattle.many_stops.proofs.room_left.RoomStays.{not_bad_after}
-use Rattle.many_stops.specs.RoomOfGroups.{AreBlankIfBad, HasHandedOut, LeavesOwnRoom, free_count}
-use Rattle.many_stops.specs.RoomOverStops.{FindsRoom, HasSpareBlocks, mending_blocks}
+use Rattle.many_stops.proofs.room_left.RoomStays.{fewer_aside, not_bad_after}
+use Rattle.many_stops.specs.BorneFailures.{MoveIsBorne}
+use Rattle.many_stops.specs.FreeOverStops.{FailsStale, KeepsFree}
+use Rattle.many_stops.specs.RoomOfGroups.{HasHandedOut, IsWithinSpare, LeavesOwnRoom, bad_count, free_count}
+use Rattle.many_stops.specs.RoomOfGroups.{is_plan_of_bad, kept_room, mending_blocks, opened_for_bad}
+use Rattle.many_stops.specs.RoomOverStops.{FindsRoom, HasSpareBlocks}
 
 -- so many free blocks of an opening its mending leaves
 abbrev blocks_over : Translation → ℕ
@@ -58,21 +62,43 @@ pub record MendsFrom (o t : Translation) : Type 0 where
   pub since : SinceOpening o t
   pub filled : Filled t
 
-pub record LivesFrom (o t : Translation) : Type 0 where
+pub record LivesFrom (o : Translation) (aside : ℕ) (t : Translation) : Type 0 where
   pub free : KeepsFree t
-  pub leaves : LeavesOwnRoom t
+  pub leaves : LeavesOwnRoom aside t
   pub few : HasFewRepairs t
   pub mends : is_mended t.work.mending ≡ false → MendsFrom o t
 
 -- Moves
 
+fails_none : (t : Translation) (move : Move) → MoveIsBorne t move → FailsStale t move → ⊥
+fails_none t (EndJob die (WentWrong left)) b h = b.alone left h
+fails_none t move b h = h
+
+within_spare : (t : Translation) (move : Move) → MoveIsBorne t move → IsWithinSpare t move
+within_spare t (EndJob die (WentWrong left)) b fails = b.spare
+within_spare t move b fails = absurd (true≢false (sym fails))
+
+ends_well : (t : Translation) (move : Move) → MoveIsBorne t move → is_mended t.work.mending ≡ false →
+    fails_job move ≡ false
+ends_well t (EndJob die (WentWrong left)) b un = absurd (true≢false (sym b.mended ∙ un))
+ends_well t move b un = refl
+
+pub lives_less : (o : Translation) → IsKeptByLess (LivesFrom o)
+lives_less o aside left t less l = record {
+  free = l.free;
+  leaves = fewer_aside left less l.leaves;
+  few = l.few;
+  mends = l.mends;
+}
+
 pub lives_on : (o : Translation) → WereUnfilled o → IsKeptByMoves (LivesFrom o)
-lives_on o unfilled t move v may well l = record {
-  free = move_keeps t move v may (none_fails_stale t move well) l.free;
-  leaves = move_leaves t move v may well l.leaves;
+lives_on o unfilled aside left t move v may b spent l = record {
+  free = move_keeps t move v may (fails_none t move b) l.free;
+  leaves = move_leaves t move aside left v may (within_spare t move b) spent l.leaves;
   few = move_few move v l.few;
   mends = λ now.
       let un = false_before (is_mended t.work.mending) (move_stays t move).mended now in
+      let well = ends_well t move b un in
       let m = l.mends un in
       record {
         room = m.room;
@@ -92,7 +118,7 @@ enough_over pages lost slots blocks free few hold enough = by (free - blocks) (o
     by : (over : ℕ) → free ≡ blocks + over → lost + 2 + over * pages ≤ pages * free
     by over e = rw e (omega (arith, few, hold))
 
-module _ (bad : Spot → Bool) (o : Translation) (opens : Opened bad o) (blank : AreBlankIfBad o.disk.cells bad)
+module _ (bad : Spot → Bool) (o : Translation) (opens : Opened bad o)
     (v : Valid o) (pages : 2 ≤ o.numbers.pages) (few : HasFewLost o.numbers o.disk.cells o.ledger.newest) where
   -- the keys that are lost, no more of them than slots
   pub lost_are : AreLost o.disk.cells o.ledger.first_lost o.ledger.greatest_seen (still_lost o.work.mending)
@@ -108,7 +134,8 @@ module _ (bad : Spot → Bool) (o : Translation) (opens : Opened bad o) (blank :
   first_room room = opening_room o.numbers o.disk.cells bad o (still_lost o.work.mending) (blocks_over o) opens.start
       lost_are
       (enough_over o.numbers.pages (length (still_lost o.work.mending)) o.numbers.slots (mending_blocks o.numbers)
-      (free_count o.numbers o.disk.blocks) lost_few (blocks_hold o.numbers pages) room.free)
+      (free_count o.numbers o.disk.blocks) lost_few (blocks_hold o.numbers pages)
+      (let l = room.free in omega (arith, l)))
 
   first_mends : FindsRoom o → is_mended o.work.mending ≡ false → MendsFrom o o
   first_mends (inl mended) un = absurd (true≢false (sym mended ∙ un))
@@ -123,18 +150,19 @@ module _ (bad : Spot → Bool) (o : Translation) (opens : Opened bad o) (blank :
     filled = opening_filled o.numbers o.disk.cells bad o opens.pages opens.start;
   }
 
-  pub lives_begin : FindsRoom o → LivesFrom o o
-  lives_begin room = record {
+  pub lives_begin : (aside : ℕ) → aside < o.numbers.dies → FindsRoom o → LivesFrom o aside o
+  lives_begin aside dies room = record {
     free = opening_keeps o.numbers o.disk.cells bad o opens.start;
-    leaves = opening_leaves o.numbers o.disk.cells bad o blank opens.start;
+    leaves = opening_leaves o.numbers o.disk.cells bad o aside dies opens.start;
     few = begins opens v few;
     mends = first_mends room;
   }
 
 -- Stops
 
-free_spares : (next : Translation) → 2 * mending_blocks next.numbers ≤ free_count next.numbers next.disk.blocks →
-    HasSpareBlocks next
+free_spares : (next : Translation) →
+    2 * mending_blocks next.numbers + may_go_bad next.numbers (bad_count next.numbers next.disk.blocks)
+    ≤ free_count next.numbers next.disk.blocks → HasSpareBlocks next
 free_spares next many = record {
   free = omega (arith, many);
   spare = λ s. is_free (next.disk.blocks s);
@@ -142,31 +170,38 @@ free_spares next many = record {
   many = many;
 }
 
-module _ (t : Translation) (left : Cells) (next : Translation) (dies : 1 ≤ t.numbers.dies) (v : Valid t)
+module _ (t : Translation) (left : Cells) (next : Translation) (v : Valid t)
     (crash : StopLeaves t left) (start : IsOpenedTranslation t.numbers left (λ s. is_bad (t.disk.blocks s)) next) where
   -- a mended life leaves nothing to mend, or the room that groups leave
-  mended_leaves : KeepsFree t → LeavesOwnRoom t → HasFewRepairs t → is_mended t.work.mending ≡ true → FindsRoom next
-  mended_leaves free leaves few mended = ⊎_elim
+  mended_leaves : (aside : ℕ) → KeepsFree t → LeavesOwnRoom aside t → HasFewRepairs t →
+      is_mended t.work.mending ≡ true → FindsRoom next
+  mended_leaves aside free leaves few mended = ⊎_elim
       (λ handed. inr (free_spares next
-      (subst (λ n. 2 * mending_blocks n ≤ free_count n next.disk.blocks) (sym start.numbers)
-      (enough (own handed) (stop_costs_none t left next v free crash start)))))
-      (λ idle. inl (idle_stop t next left (λ s. is_bad (t.disk.blocks s)) v few leaves mended idle crash
-      start).mended)
+      (subst (λ n. 2 * mending_blocks n + may_go_bad n (bad_count n next.disk.blocks) ≤ free_count n next.disk.blocks)
+      (sym start.numbers) (enough (own handed) (stop_costs_none t left next v free crash start)))))
+      (λ idle. inl (idle_stop t next left (λ s. is_bad (t.disk.blocks s)) v few mended idle crash start).mended)
       (handed_or_not t v)
     where
-      own : HasHandedOut t → own_room t.numbers ≤ count_blocks t is_free + 1
+      own : HasHandedOut t → kept_room aside t.numbers t.disk.blocks ≤ count_blocks t is_free + 1
       own handed = ⊎_elim (λ l. omega (arith, l)) (λ o. o.short) (leaves.room handed)
 
       kept : count_blocks next is_free ≡ free_count t.numbers next.disk.blocks
       kept = ap (λ n. free_count n next.disk.blocks) start.numbers
 
-      enough : own_room t.numbers ≤ count_blocks t is_free + 1 → count_blocks t is_free ≤ count_blocks next is_free →
-          2 * mending_blocks t.numbers ≤ free_count t.numbers next.disk.blocks
-      enough own l = let k = own_room_twice t.numbers in let e = kept in omega (arith, dies, own, l, k, e)
+      more : may_go_bad t.numbers (bad_count t.numbers next.disk.blocks)
+          ≡ may_go_bad t.numbers (bad_count t.numbers t.disk.blocks)
+      more = ap (may_go_bad t.numbers) (bad_alike t.numbers t.disk.blocks next.disk.blocks
+          (opened_bad (λ s. is_bad (t.disk.blocks s)) next.disk.blocks start.disk.blocks))
+
+      enough : kept_room aside t.numbers t.disk.blocks ≤ count_blocks t is_free + 1 →
+          count_blocks t is_free ≤ count_blocks next is_free →
+          2 * mending_blocks t.numbers + may_go_bad t.numbers (bad_count t.numbers next.disk.blocks)
+          ≤ free_count t.numbers next.disk.blocks
+      enough own l = let m = more in let e = kept in omega (arith, own, l, m, e)
 
 -- and so does a life that is not mended, where no mark is left that was in flight
 module _ (bad : Spot → Bool) (o t : Translation) (left : Cells) (next : Translation) (opens : Opened bad o)
-    (dies : 1 ≤ t.numbers.dies) (v : Valid t) (l : LivesFrom o t)
+    (dies : 1 ≤ t.numbers.dies) (v : Valid t) (aside : ℕ) (l : LivesFrom o aside t)
     (crash : StopLeaves t left) (start : IsOpenedTranslation t.numbers left (λ s. is_bad (t.disk.blocks s)) next)
     (none : HasNoNewMark t left) where
   has_room : MendsFrom o t → HasRoom (free_count t.numbers o.disk.blocks - mending_blocks t.numbers) t
@@ -177,16 +212,16 @@ module _ (bad : Spot → Bool) (o t : Translation) (left : Cells) (next : Transl
       HasSpareBlocks next
   unmended_leaves un (Unmarked fence lost) is u =
       let m = l.mends un in
-      unmarked_leaves o t left next bad opens v l.leaves.blank un m.mends.alone m.since crash start none m.room
+      unmarked_leaves o t left next bad opens v un m.mends.alone m.since crash start none m.room
       fence lost is u
   unmended_leaves un (Repairing keys) is w =
       let m = l.mends un in
-      repairing_leaves o t left next bad opens v l.leaves.blank un m.mends.alone m.since crash start none m.room
+      repairing_leaves o t left next bad opens v un m.mends.alone m.since crash start none m.room
       keys is w dies m.filled (has_room m)
   unmended_leaves un Mended is w = absurd (true≢false (ap is_mended (sym is) ∙ un))
 
   settled_leaves : FindsRoom next
-  settled_leaves = ⊎_elim (λ mended. mended_leaves t left next dies v crash start l.free l.leaves l.few mended)
+  settled_leaves = ⊎_elim (λ mended. mended_leaves t left next v crash start aside l.free l.leaves l.few mended)
       (λ un. inr (unmended_leaves un t.work.mending refl v.mending)) (cases_Bool (is_mended t.work.mending))
 
 -- A mark that is left as it was meant
@@ -255,12 +290,12 @@ marked_bad {t} v die p m e s = sym (by t.work.plan)
 -- A stop of a life that found room leaves room
 
 module _ (bad : Spot → Bool) (o t : Translation) (left : Cells) (next : Translation) (opens : Opened bad o)
-    (dies : 1 ≤ t.numbers.dies) (v : Valid t) (l : LivesFrom o t)
+    (dies : 1 ≤ t.numbers.dies) (v : Valid t) (aside : ℕ) (l : LivesFrom o aside t)
     (crash : StopLeaves t left)
     (start : IsOpenedTranslation t.numbers left (λ s. is_bad (t.disk.blocks s)) next) where
   marked_leaves : is_mended t.work.mending ≡ false → HasNewMark t left → FindsRoom next
   marked_leaves un x = settled_leaves bad o (mark_written t x.place x.mark) left next opens dies
-      (at_end Valid (all_keep t (EndJob x.die WentWell) v may)) behind left_behind
+      (at_end Valid (all_keep t (EndJob x.die WentWell) v may)) aside behind left_behind
       (subst (λ b. IsOpenedTranslation t.numbers left b next) (λ i s. same s i) start) none_new
     where
       may : IsAllowedMove t (EndJob x.die WentWell)
@@ -269,8 +304,20 @@ module _ (bad : Spot → Bool) (o t : Translation) (left : Cells) (next : Transl
       at_end : (P : Translation → Type 0) → P (moved t (EndJob x.die WentWell)) → P (mark_written t x.place x.mark)
       at_end P h = subst (λ f. P (end_flight t x.die f WentWell)) x.flies h
 
-      behind : LivesFrom o (mark_written t x.place x.mark)
-      behind = at_end (LivesFrom o) (lives_on o (were_unfilled o bad opens) t (EndJob x.die WentWell) v may refl l)
+      -- before the device is mended no plan is there
+      none_planned : (pl : Option Plan) → t.work.plan ≡ pl → is_plan_of_bad t.disk.blocks pl ≡ false
+      none_planned None is = refl
+      none_planned (Some pl) is = absurd (true≢false (sym (ap is_mended (v.plan.mended pl is)) ∙ un))
+
+      none_spent : aside + opened_for_bad t (moved t (EndJob x.die WentWell)) ≤ aside
+      none_spent =
+          let none = ap (λ (b : Bool). if b then count_blocks t is_free
+          - count_blocks (moved t (EndJob x.die WentWell)) is_free else 0) (none_planned t.work.plan refl) in
+          omega (arith, none)
+
+      behind : LivesFrom o aside (mark_written t x.place x.mark)
+      behind = at_end (LivesFrom o aside) (lives_on o (were_unfilled o bad opens) aside aside t (EndJob x.die WentWell) v
+          may tt none_spent l)
 
       left_behind : StopLeaves (mark_written t x.place x.mark) left
       left_behind = mark_crash t left x.die x.place x.mark v crash x.flies x.there
@@ -286,7 +333,7 @@ module _ (bad : Spot → Bool) (o t : Translation) (left : Cells) (next : Transl
           (mark_from (mark_written t x.place x.mark).disk left p left_behind h)
 
   pub stop_leaves : FindsRoom next
-  stop_leaves = ⊎_elim (λ mended. mended_leaves t left next dies v crash start l.free l.leaves l.few mended)
+  stop_leaves = ⊎_elim (λ mended. mended_leaves t left next v crash start aside l.free l.leaves l.few mended)
       (λ un. ⊎_elim (λ x. marked_leaves un x)
-      (λ none. settled_leaves bad o t left next opens dies v l crash start none)
+      (λ none. settled_leaves bad o t left next opens dies v aside l crash start none)
       (new_mark t left v crash next.ledger.newest start.ledger.newest)) (cases_Bool (is_mended t.work.mending))

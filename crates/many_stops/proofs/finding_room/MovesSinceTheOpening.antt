@@ -65,6 +65,7 @@ module _ {o t : Translation} (unfilled : WereUnfilled o) (v : Valid t) (un : is_
         (at_spot_cases t.disk.blocks (spot_of p) (Filling p.page) s);
     no_worse = λ s h. ⊎_elim (λ k. absurd (bad_apart (sym k.1))) (λ k. r.no_worse s k.1)
         (at_spot_is t.disk.blocks (spot_of p) (Filling p.page) s Bad h);
+    whole = r.whole;
     unchanged = r.unchanged;
     new = λ q tag body free now h. ⊎_elim (λ k. inside q tag body k.0 free h)
         (λ k. r.new q tag body free (λ e. now (k.1 ∙ e)) h)
@@ -120,6 +121,9 @@ module _ {o t : Translation} (unfilled : WereUnfilled o) (v : Valid t) (un : is_
   no_worse_behind p s h = ⊎_elim (λ k. absurd (not_bad_after t.numbers.pages p.page k.1)) (λ k. r.no_worse s k.1)
       (at_spot_is t.disk.blocks (spot_of p) (state_after t.numbers.pages p.page) s Bad h)
 
+  whole_behind : (p q : Place) → at_place t.disk.finished p true q ≡ true
+  whole_behind p q = ⊎_elim (λ k. k.1) (λ k. k.1 ∙ r.whole q) (at_place_cases t.disk.finished p true q)
+
   module _ (die : ℕ) (p : Place) (cell : Cell) (e : t.disk.flights die ≡ Some (Programming p cell)) where
     was_free : o.disk.blocks (spot_of p) ≡ Free
     was_free = filled_was_free o t unfilled r (spot_of p) p.page (v.flights.programs die p cell e).next
@@ -159,6 +163,7 @@ module _ {o t : Translation} (unfilled : WereUnfilled o) (v : Valid t) (un : is_
     seen = r.seen;
     still = still_behind die p (GroupPage tag body) e;
     no_worse = no_worse_behind p;
+    whole = whole_behind p;
     unchanged = unchanged_behind die p (GroupPage tag body) e;
     new = new_behind die p (GroupPage tag body) e
         (λ other more same. let n = ap (λ (x : Tag). x.number) (one_page tag other body more same).0 in
@@ -200,6 +205,7 @@ module _ {o t : Translation} (unfilled : WereUnfilled o) (v : Valid t) (un : is_
         seen = r.seen;
         still = still_behind die p (MarkPage m) e;
         no_worse = no_worse_behind p;
+        whole = whole_behind p;
         unchanged = unchanged_behind die p (MarkPage m) e;
         new = new_behind die p (MarkPage m) e (λ tag body same. absurd (page_no_mark (sym same)));
         named = λ name from there h. absurd (none-some _ h);
@@ -221,6 +227,7 @@ module _ {o t : Translation} (unfilled : WereUnfilled o) (v : Valid t) (un : is_
     seen = r.seen;
     still = r.still;
     no_worse = r.no_worse;
+    whole = r.whole;
     unchanged = λ q not. ⊎_elim (λ k. absurd (not (ap o.disk.blocks k.1 ∙ was)))
         (λ k. subst (λ b. (if b then Nothing else t.disk.cells q) ≡ o.disk.cells q) (sym k.0) (r.unchanged q not))
         (spot_cases (spot_of q) s);
@@ -255,6 +262,7 @@ module _ {o t : Translation} (unfilled : WereUnfilled o) (v : Valid t) (un : is_
     seen = r.seen;
     still = r.still;
     no_worse = r.no_worse;
+    whole = r.whole;
     unchanged = r.unchanged;
     new = r.new;
     named = named;
@@ -290,6 +298,7 @@ module _ {o t : Translation} (unfilled : WereUnfilled o) (v : Valid t) (un : is_
     seen = r.seen;
     still = r.still;
     no_worse = r.no_worse;
+    whole = r.whole;
     unchanged = r.unchanged;
     new = r.new;
     named = λ name from there h. next_low t.ledger.first_lost t.ledger.greatest_seen (length t.ledger.groups)
@@ -338,6 +347,7 @@ opening_since n c bad t o un = record {
   seen = refl;
   still = λ s not. refl;
   no_worse = λ s h. h;
+  whole = o.disk.finished;
   unchanged = λ p not. refl;
   new = λ p tag body free not h. absurd (not free);
   named = λ name from there h. absurd (none-some _ (sym o.no_step ∙ h));

@@ -9,14 +9,13 @@ use Rattle.std.specs.Int.{div_ceil}
 use Rattle.std.specs.List.{count_by, sum_by}
 use Rattle.ufs_spec.proofs.Updates.{at_spot_cases}
 use Rattle.ufs_spec.specs.Disk.{BlockState, Bad, Closed, Filling, Free, Spot, at_spot, state_after}
-use Rattle.ufs_spec.specs.Translation.{is_free, own_room, spots}
+use Rattle.ufs_spec.specs.Translation.{is_free, least_room, spots}
 use Rattle.ufs_spec.specs.declared.configs.Numbers.{Numbers}
 use Rattle.power_loss.proofs.ordered_lists.ElementsAndOrders.{IsIn}
 use Rattle.power_loss.proofs.room_to_mend.RoomInBlocks.{room_in, sum_no_less}
 use Rattle.power_loss.specs.MendingRoom.{page_room}
 use Rattle.many_stops.proofs.room_left.SumsOfRoom.{sum_more}
-use Rattle.many_stops.specs.RoomOfGroups.{free_count}
-use Rattle.many_stops.specs.RoomOverStops.{mending_blocks}
+use Rattle.many_stops.specs.RoomOfGroups.{free_count, mending_blocks}
 
 -- Counts and sums
 
@@ -131,9 +130,9 @@ blocks_hold n some =
 room_twice : (dies filled : ℕ) → dies + 2 + 2 * filled ≡ dies + 2 * (filled + 1)
 room_twice dies filled = omega arith
 
--- and twice as many, with one for each die, are the room that groups leave
-pub own_room_twice : (n : Numbers) → own_room n ≡ n.dies + 2 * mending_blocks n
-own_room_twice n = room_twice n.dies (div_ceil n.slots n.pages)
+-- and twice as many, with one for each die, are what the device's own pages need
+pub least_room_twice : (n : Numbers) → least_room n ≡ n.dies + 2 * mending_blocks n
+least_room_twice n = room_twice n.dies (div_ceil n.slots n.pages)
 
 -- what is less by pages is no more by blocks
 pub fewer_blocks : (pages k x step room : ℕ) → step + k * pages ≤ room → room + 1 ≤ pages * x + pages + step → k ≤ x

@@ -23,16 +23,17 @@ use Rattle.power_loss.specs.Losing.{is_marked}
 abbrev pub step_of : StepKind → Bool → Option Step
 step_of kind there = Some (record { kind = kind; there = there })
 
-pub record Since (o : Translation) (numbers : Numbers) (cells : Cells) (blocks : Spot → BlockState)
-    (first_lost greatest_seen : ℕ) (newest : Option Mark) (mending : Mending) (step : Option Step) : Type 0 where
+pub record Since (o : Translation) (numbers : Numbers) (cells : Cells) (finished : Place → Bool)
+    (blocks : Spot → BlockState) (first_lost greatest_seen : ℕ) (newest : Option Mark) (mending : Mending) (step : Option Step) : Type 0 where
   pub numbers_are : numbers ≡ o.numbers
   pub lost : first_lost ≡ o.ledger.first_lost
   pub seen : greatest_seen ≡ o.ledger.greatest_seen
   -- what was not free is as it was
   pub still : (s : Spot) → o.disk.blocks s ≢ Free → blocks s ≡ o.disk.blocks s
   pub unchanged : (p : Place) → o.disk.blocks (spot_of p) ≢ Free → cells p ≡ o.disk.cells p
-  -- no block went bad
+  -- no block went bad, and no program failed
   pub no_worse : (s : Spot) → blocks s ≡ Bad → o.disk.blocks s ≡ Bad
+  pub whole : (p : Place) → finished p ≡ true
   -- a block that was opened since holds nothing older than the first lost number
   pub new : (p : Place) (tag : Tag) (body : List ℕ) → o.disk.blocks (spot_of p) ≡ Free → blocks (spot_of p) ≢ Free →
       cells p ≡ GroupPage tag body → first_lost ≤ tag.number
@@ -46,7 +47,7 @@ pub record Since (o : Translation) (numbers : Numbers) (cells : Cells) (blocks :
   pub newer : is_marked mending ≡ true → (m : Mark) → newest ≡ Some m → number_of o.ledger.newest < m.number
 
 abbrev pub SinceOpening : Translation → Translation → Type 0
-SinceOpening o t = Since o t.numbers t.disk.cells t.disk.blocks t.ledger.first_lost t.ledger.greatest_seen
+SinceOpening o t = Since o t.numbers t.disk.cells t.disk.finished t.disk.blocks t.ledger.first_lost t.ledger.greatest_seen
     t.ledger.newest t.work.mending t.work.step
 
 -- each block was free, closed or bad at the opening: none was being filled

@@ -12,8 +12,8 @@ use Rattle.ufs_spec.specs.Disk.{BlockState, Bad, Closed, Erasing, Filling, Fligh
 use Rattle.ufs_spec.specs.Disk.{Touches, spot_of}
 use Rattle.ufs_spec.specs.Kept.{IsFenced, IsKept, IsNewestMark, fence_in}
 use Rattle.ufs_spec.specs.Openings.{AreFirstBlocks, IsItOrFreeBefore, IsOpenedTranslation, IsSpare, lost_from}
-use Rattle.ufs_spec.specs.Translation.{Repairing, Translation, Unmarked, is_bad, is_free, is_mended, own_room}
-use Rattle.ufs_spec.specs.Translation.{spots}
+use Rattle.ufs_spec.specs.Translation.{Repairing, Translation, Unmarked, is_bad, is_free, is_mended, least_room}
+use Rattle.ufs_spec.specs.Translation.{may_go_bad, spots}
 use Rattle.ufs_spec.specs.declared.flash.Fence.{Fence}
 use Rattle.ufs_spec.specs.declared.flash.Key.{Key}
 use Rattle.ufs_spec.specs.declared.flash.Place.{Place}
@@ -32,15 +32,15 @@ use Rattle.power_loss.specs.Invariant.{AreNoneStale, StaleRight, Valid}
 use Rattle.power_loss.specs.Losing.{is_marked}
 use Rattle.power_loss.specs.Mending.{turns_left}
 use Rattle.power_loss.specs.MendingRoom.{HasRoom, MendsAlone, page_of_step, pages_left}
-use Rattle.many_stops.proofs.CountedBlocks.{no_fewer}
+use Rattle.many_stops.proofs.CountedBlocks.{bad_alike, no_fewer}
 use Rattle.many_stops.proofs.finding_room.BlocksOneByOne.{Filled}
-use Rattle.many_stops.proofs.finding_room.RoomForAMending.{counts_under, fewer_blocks, own_room_twice}
+use Rattle.many_stops.proofs.finding_room.RoomForAMending.{counts_under, fewer_blocks, least_room_twice}
 use Rattle.many_stops.proofs.finding_room.SinceTheOpening.{SinceOpening, WereUnfilled, bad_is_not_free}
 use Rattle.many_stops.proofs.finding_room.MovesSinceTheOpening.{filled_was_free, flies_new, free_was_free}
 use Rattle.many_stops.proofs.finding_room.ThinnerCells.{AreThinner, first_thinner, kept_thinner, newest_thinner}
 use Rattle.many_stops.proofs.finding_room.ThinnerCells.{page_was}
-use Rattle.many_stops.specs.RoomOfGroups.{free_count}
-use Rattle.many_stops.specs.RoomOverStops.{HasSpareBlocks, HoldsLost, IsFreeOrLost, mending_blocks}
+use Rattle.many_stops.specs.RoomOfGroups.{bad_count, free_count, mending_blocks}
+use Rattle.many_stops.specs.RoomOverStops.{HasSpareBlocks, HoldsLost, IsFreeOrLost}
 
 pub bad_is : (x : BlockState) → x ≢ Bad → is_bad x ≡ false
 bad_is Bad not = absurd (not refl)
@@ -48,6 +48,12 @@ bad_is x not = refl
 
 bad_is_not_closed : {x : BlockState} → x ≡ Bad → x ≢ Closed
 bad_is_not_closed {x} e h = let no : Bad ≡ Closed = sym e ∙ h in cc
+
+-- as many blocks are bad at an opening as it was told
+pub opened_bad : {c : Cells} {m : Option Mark} (bad : Spot → Bool) (blocks : Spot → BlockState) →
+    AreFirstBlocks c m bad blocks → (s : Spot) → is_bad (blocks s) ≡ bad s
+opened_bad bad blocks first s = ⊎_elim (λ e. ap is_bad (first.were_bad s e) ∙ sym e)
+    (λ e. ⊎_elim (λ k. ap is_bad k) (λ k. ap is_bad k) (first.were_good s e) ∙ sym e) (cases_Bool (bad s))
 
 -- an opening fills no block
 pub were_unfilled : (o : Translation) (bad : Spot → Bool) → Opened bad o → WereUnfilled o
@@ -108,8 +114,7 @@ module _ (t : Translation) (left : Cells) (v : Valid t) (crash : StopLeaves t le
 -- A stop of a mending that began with this opening
 
 module _ (o t : Translation) (left : Cells) (next : Translation) (bad : Spot → Bool) (opens : Opened bad o)
-    (v : Valid t) (blank : (p : Place) → t.disk.blocks (spot_of p) ≡ Bad → t.disk.cells p ≡ Nothing)
-    (un : is_mended t.work.mending ≡ false) (alone : MendsAlone t) (r : SinceOpening o t) (crash : StopLeaves t left)
+    (v : Valid t) (un : is_mended t.work.mending ≡ false) (alone : MendsAlone t) (r : SinceOpening o t) (crash : StopLeaves t left)
     (start : IsOpenedTranslation t.numbers left (λ s. is_bad (t.disk.blocks s)) next) (none : HasNoNewMark t left)
     (room : HasSpareBlocks o) where
   unfilled : WereUnfilled o
@@ -152,20 +157,43 @@ module _ (o t : Translation) (left : Cells) (next : Translation) (bad : Spot →
   closed_left p not = ⊎_elim (λ e. e ∙ r.unchanged p not)
       (λ e. absurd (not (touched_was_free (t.disk.flights p.die) p e.0 refl e.1))) (crash p)
 
-  many : 2 * mending_blocks t.numbers ≤ count_by room.spare (spots t.numbers)
-  many = subst (λ n. 2 * mending_blocks n ≤ count_by room.spare (spots n)) (sym r.numbers_are) room.many
+  -- how many blocks may still go bad, which is the same all along
+  abbrev more : ℕ
+  more = may_go_bad t.numbers (bad_count t.numbers t.disk.blocks)
 
-  free_at_first : mending_blocks t.numbers ≤ free_count t.numbers o.disk.blocks
-  free_at_first = subst (λ n. mending_blocks n ≤ free_count n o.disk.blocks) (sym r.numbers_are) room.free
+  bad_first : (s : Spot) → is_bad (o.disk.blocks s) ≡ is_bad (t.disk.blocks s)
+  bad_first s = opened_bad bad o.disk.blocks opens.start.disk.blocks s ∙ sym (same_bad s)
+
+  more_first : may_go_bad t.numbers (bad_count t.numbers o.disk.blocks) ≡ more
+  more_first = ap (may_go_bad t.numbers) (bad_alike t.numbers t.disk.blocks o.disk.blocks bad_first)
+
+  more_next : may_go_bad t.numbers (bad_count t.numbers next.disk.blocks) ≡ more
+  more_next = ap (may_go_bad t.numbers) (bad_alike t.numbers t.disk.blocks next.disk.blocks
+      (opened_bad (λ s. is_bad (t.disk.blocks s)) next.disk.blocks start.disk.blocks))
+
+  many : 2 * mending_blocks t.numbers + more ≤ count_by room.spare (spots t.numbers)
+  many = subst (λ k. 2 * mending_blocks t.numbers + k ≤ count_by room.spare (spots t.numbers)) more_first
+      (subst (λ n. 2 * mending_blocks n + may_go_bad n (bad_count n o.disk.blocks) ≤ count_by room.spare (spots n))
+      (sym r.numbers_are) room.many)
+
+  free_at_first : mending_blocks t.numbers + more ≤ free_count t.numbers o.disk.blocks
+  free_at_first = subst (λ k. mending_blocks t.numbers + k ≤ free_count t.numbers o.disk.blocks) more_first
+      (subst (λ n. mending_blocks n + may_go_bad n (bad_count n o.disk.blocks) ≤ free_count n o.disk.blocks)
+      (sym r.numbers_are) room.free)
 
   -- of the next opening
   with_blocks : ((s : Spot) → room.spare s ≡ true → IsFreeOrLost next s) →
-      mending_blocks t.numbers ≤ free_count t.numbers next.disk.blocks → HasSpareBlocks next
+      mending_blocks t.numbers + more ≤ free_count t.numbers next.disk.blocks → HasSpareBlocks next
   with_blocks each free = record {
-    free = subst (λ n. mending_blocks n ≤ free_count n next.disk.blocks) (sym start.numbers) free;
+    free = subst (λ n. mending_blocks n + may_go_bad n (bad_count n next.disk.blocks) ≤ free_count n next.disk.blocks)
+        (sym start.numbers)
+        (subst (λ k. mending_blocks t.numbers + k ≤ free_count t.numbers next.disk.blocks) (sym more_next) free);
     spare = room.spare;
     each = each;
-    many = subst (λ n. 2 * mending_blocks n ≤ count_by room.spare (spots n)) (sym start.numbers) many;
+    many = subst
+        (λ n. 2 * mending_blocks n + may_go_bad n (bad_count n next.disk.blocks) ≤ count_by room.spare (spots n))
+        (sym start.numbers)
+        (subst (λ k. 2 * mending_blocks t.numbers + k ≤ count_by room.spare (spots t.numbers)) (sym more_next) many);
   }
 
   -- Before the first mark
@@ -253,10 +281,6 @@ module _ (o t : Translation) (left : Cells) (next : Translation) (bad : Spot →
     still_free s free = blank_is_free t left v crash next start s (λ now. bad_is_not_free now free)
         (λ p at. blank_left p (ap t.disk.blocks at ∙ free))
 
-    finished : (p : Place) (m : Mark) → t.disk.cells p ≡ MarkPage m → t.disk.finished p ≡ true
-    finished p m here = ⊎_elim (λ e. e)
-        (λ e. absurd (mark_not_nothing _ _ here (blank p (v.blocks.unfinished p e)))) (cases_Bool (t.disk.finished p))
-
     newest_is : next.ledger.newest ≡ Some w.mark
     newest_is = by next.ledger.newest start.ledger.newest
       where
@@ -268,7 +292,7 @@ module _ (o t : Translation) (left : Cells) (next : Translation) (bad : Spot →
         by (Some m) n =
             let there = none n.0.0 m n.0.1 in
             let up = n.1 w.right.stands.place w.mark stays in
-            let low = w.right.ended n.0.0 m there (finished n.0.0 m there) in
+            let low = w.right.ended n.0.0 m there (r.whole n.0.0) in
             ap Some (w.right.same n.0.0 w.right.stands.place m w.mark there w.right.stands.there
             (omega (arith, up, low)))
 
@@ -361,20 +385,21 @@ module _ (o t : Translation) (left : Cells) (next : Translation) (bad : Spot →
     as_many : free_count t.numbers t.disk.blocks ≤ free_count t.numbers next.disk.blocks
     as_many = no_fewer t.numbers t.disk.blocks next.disk.blocks (λ s on free. still_free s free)
 
-    enough : (dies blocks own first spare now after : ℕ) → 1 ≤ dies → own ≡ dies + 2 * blocks →
-        2 * blocks ≤ spare → blocks ≤ first → spare + now ≤ after + first → now ≤ after →
-        (own ≤ now + 1) ⊎ (first - blocks ≤ now) → blocks ≤ after
-    enough dies blocks own first spare now after some is spares free sum more (inl h) =
+    enough : (dies blocks bad least first spare now after : ℕ) → 1 ≤ dies → least ≡ dies + 2 * blocks →
+        2 * blocks + bad ≤ spare → blocks + bad ≤ first → spare + now ≤ after + first → now ≤ after →
+        (least + bad ≤ now + 1) ⊎ (first - blocks ≤ now) → blocks + bad ≤ after
+    enough dies blocks bad least first spare now after some is spares free sum more (inl h) =
         omega (arith, some, is, more, h)
-    enough dies blocks own first spare now after some is spares free sum more (inr h) =
+    enough dies blocks bad least first spare now after some is spares free sum more (inr h) =
         omega (arith, spares, free, sum, h)
 
     pub repairing_leaves : 1 ≤ t.numbers.dies → Filled t →
         HasRoom (free_count t.numbers o.disk.blocks - mending_blocks t.numbers) t → HasSpareBlocks next
     repairing_leaves dies filled has = with_blocks each_left
-        (enough t.numbers.dies (mending_blocks t.numbers) (own_room t.numbers) (free_count t.numbers o.disk.blocks)
-        (count_by room.spare (spots t.numbers)) (free_count t.numbers t.disk.blocks)
-        (free_count t.numbers next.disk.blocks) dies (own_room_twice t.numbers) many free_at_first fewer as_many
+        (enough t.numbers.dies (mending_blocks t.numbers) more (least_room t.numbers)
+        (free_count t.numbers o.disk.blocks) (count_by room.spare (spots t.numbers))
+        (free_count t.numbers t.disk.blocks) (free_count t.numbers next.disk.blocks) dies
+        (least_room_twice t.numbers) many free_at_first fewer as_many
         (⊎_elim (λ h. inl h) (λ h. inr (left_free h has)) filled))
       where
         left_free : pages_left t + 1 ≤ t.numbers.pages * free_count t.numbers t.disk.blocks + t.numbers.pages

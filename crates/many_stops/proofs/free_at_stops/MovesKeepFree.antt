@@ -38,7 +38,7 @@ use Rattle.power_loss.specs.MendingRoom.{fails_job}
 use Rattle.many_stops.specs.FreeOverStops.{FailsStale, KeepsFree}
 use Rattle.many_stops.specs.FreeOverStops.{NoneFailsStale}
 use Rattle.many_stops.proofs.free_at_stops.FreeAndStale.{calmly}
-use Rattle.many_stops.proofs.free_at_stops.FreeAndStale.{fewer, idle}
+use Rattle.many_stops.proofs.free_at_stops.FreeAndStale.{fewer}
 use Rattle.many_stops.proofs.free_at_stops.JobsKeepFree.{gives, ends}
 
 -- Tasks that let go

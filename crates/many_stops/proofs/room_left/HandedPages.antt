@@ -1,12 +1,14 @@
--- Whether a life handed out a page of its host can be told: its accepted groups have only so many pages.
-use Rattle.std.proofs.Common.{◌≡◌, ◌⊎◌, ℕ, zero, suc, ◌+◌, ◌-◌, ◌<◌, ◌||◌, Bool, true, false, List, [], ◌∷◌, length}
+-- Whether a life handed out a page of its host can be told: its accepted groups have only so many pages, and the dies
+-- only so many places.
+use Rattle.std.proofs.Common.{◌≡◌, ◌⊎◌, ℕ, zero, suc, ◌+◌, ◌-◌, ◌<◌, ◌≤◌, ◌||◌, Bool, true, false, List, [], ◌∷◌, length}
 use Rattle.std.proofs.Common.{Option, Some, None, is_some, refl, sym, ap, ◌∙◌, subst, inl, inr, ⊎_elim, arith}
 use Rattle.std.specs.Prelude.{slice_get}
 use Rattle.std.specs.List.{list_any}
 use Rattle.std.proofs.lemmas.Option.{slice_get_within}
 use Rattle.ufs_spec.proofs.Equalities.{name_self, name_told}
-use Rattle.ufs_spec.proofs.Facts.{false≢true, none-some, or_cases, or_left, or_right, same_Some}
-use Rattle.ufs_spec.specs.Cells.{GroupPage}
+use Rattle.ufs_spec.proofs.Facts.{at_most, false≢true, none-some, or_cases, or_left, or_right, same_Some}
+use Rattle.ufs_laws.proofs.deciding.SearchOverPlaces.{Greatest, greatest}
+use Rattle.ufs_spec.specs.Cells.{Cell, Cells, GroupPage, MarkPage, Nothing}
 use Rattle.ufs_spec.specs.Disk.{Flight, Programming}
 use Rattle.ufs_spec.specs.Keys.{Group, below}
 use Rattle.ufs_spec.specs.Ledger.{Entry, accepted_groups, before_accepted, is_standing}
@@ -20,7 +22,7 @@ use Rattle.power_loss.proofs.books.PagesByName.{page_new}
 use Rattle.power_loss.proofs.collected_blocks.FewestLivePages.{any_in, in_any}
 use Rattle.power_loss.proofs.jobs_owed.WhatWaits.{name_of_group}
 use Rattle.power_loss.proofs.ordered_lists.ElementsAndOrders.{IsIn, in_below, in_left, in_map, in_right}
-use Rattle.many_stops.specs.RoomOfGroups.{FliesBehind, HasHandedOut, StandsBehind}
+use Rattle.many_stops.specs.RoomOfGroups.{FliesBehind, HasHandedOut, ShowsBehind, StandsBehind}
 use Rattle.many_stops.proofs.room_left.RoomStays.{home_of}
 
 -- Names of accepted groups
@@ -98,13 +100,14 @@ some_handed t name i h =
     (t.ledger.standing name.number name.index) refl s behind))
     (λ f.
     let d = any_in (λ die. flies_name name (t.disk.flights die)) (below t.numbers.dies) f in
-    inr (flies_somewhere name d.0 (t.disk.flights d.0) refl d.2 behind))
+    inr (inl (flies_somewhere name d.0 (t.disk.flights d.0) refl d.2 behind)))
     (or_cases (is_standing t.ledger name.number name.index) (some_flight t (flies_name name)) h)
   where
     later : (n before at : ℕ) → n ≡ before + suc at → before < n
     later n before at e = omega (arith, e)
 
-handed_shows : (t : Translation) → Valid t → HasHandedOut t → list_any (was_handed t) (accepted_names t) ≡ true
+handed_shows : (t : Translation) → Valid t → StandsBehind (before_accepted t.ledger) t.ledger.standing
+    ⊎ FliesBehind (before_accepted t.ledger) t.disk.flights → list_any (was_handed t) (accepted_names t) ≡ true
 handed_shows t v (inl s) =
     let known = v.frontier.known s.number s.index s.place s.stands in
     let name : Name = record { number = s.number; index = s.index } in
@@ -118,9 +121,45 @@ handed_shows t v (inr f) =
     (in_any (λ die. flies_name name (t.disk.flights die)) f.die (below t.numbers.dies)
     (in_below t.numbers.dies f.die (home_of v f.die f.flies)) (ap (flies_name name) f.flies ∙ name_self name)))
 
-pub handed_or_not : (t : Translation) → Valid t → HasHandedOut t ⊎ (HasHandedOut t → ⊥)
-handed_or_not t v = by (list_any (was_handed t) (accepted_names t)) refl
+-- Whether a page is there
+
+abbrev number_in : Cell → ℕ
+number_in (GroupPage tag body) = tag.number
+number_in cell = 0
+
+shown_at : (before : ℕ) (cells : Cells) (p : Place) (cell : Cell) → cells p ≡ cell → before < number_in cell →
+    ShowsBehind before cells
+shown_at before cells p Nothing e behind = absurd (omega (arith, behind))
+shown_at before cells p (MarkPage m) e behind = absurd (omega (arith, behind))
+shown_at before cells p (GroupPage tag body) e behind =
+    record { place = p; tag = tag; body = body; behind = behind; there = e }
+
+shows_or_not : (t : Translation) → Valid t → ShowsBehind (before_accepted t.ledger) t.disk.cells
+    ⊎ (ShowsBehind (before_accepted t.ledger) t.disk.cells → ⊥)
+shows_or_not t v = ⊎_elim (λ low. inr (λ c. none low c))
+    (λ high. ⊎_elim (λ e. absurd (omega (arith, e, high)))
+    (λ (r : (p : Place) × (number_in (t.disk.cells p) ≡ top.weight)).
+    inl (shown_at (before_accepted t.ledger) t.disk.cells r.0 (t.disk.cells r.0) refl
+    (let e = r.1 in omega (arith, e, high)))) top.reached)
+    (at_most top.weight (before_accepted t.ledger))
   where
-    by : (b : Bool) → list_any (was_handed t) (accepted_names t) ≡ b → HasHandedOut t ⊎ (HasHandedOut t → ⊥)
-    by true e = let n = any_in (was_handed t) (accepted_names t) e in inl (some_handed t n.0 n.1 n.2)
-    by false e = inr (λ h. false≢true (sym e ∙ handed_shows t v h))
+    top : Greatest t.disk.cells number_in
+    top = greatest t.numbers t.disk.cells v.pages.within number_in refl
+
+    none : top.weight ≤ before_accepted t.ledger → ShowsBehind (before_accepted t.ledger) t.disk.cells → ⊥
+    none low c =
+        let a = top.above c.place in
+        let e = ap number_in c.there in
+        let b = c.behind in
+        omega (arith, low, a, e, b)
+
+pub handed_or_not : (t : Translation) → Valid t → HasHandedOut t ⊎ (HasHandedOut t → ⊥)
+handed_or_not t v = by (list_any (was_handed t) (accepted_names t)) refl (shows_or_not t v)
+  where
+    by : (b : Bool) → list_any (was_handed t) (accepted_names t) ≡ b →
+        ShowsBehind (before_accepted t.ledger) t.disk.cells ⊎ (ShowsBehind (before_accepted t.ledger) t.disk.cells → ⊥) →
+        HasHandedOut t ⊎ (HasHandedOut t → ⊥)
+    by true e shown = let n = any_in (was_handed t) (accepted_names t) e in inl (some_handed t n.0 n.1 n.2)
+    by false e (inl c) = inl (inr (inr c))
+    by false e (inr none) = inr (λ h. ⊎_elim (λ s. false≢true (sym e ∙ handed_shows t v (inl s)))
+        (λ k. ⊎_elim (λ f. false≢true (sym e ∙ handed_shows t v (inr f))) none k) h)

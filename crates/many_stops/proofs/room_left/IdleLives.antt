@@ -1,8 +1,7 @@
 -- A mended life that handed out no page of its host shows no number above its frontier. So a stop loses nothing of it,
 -- and leaves a mark without a fence: the next life is mended from its start.
-use Rattle.std.proofs.Common.{◌≡◌, ℕ, suc, ◌<◌, ◌≤◌, Bool, true, false, List, Option, Some, None, refl, sym, ap, ◌∙◌}
+use Rattle.std.proofs.Common.{◌≡◌, ℕ, suc, ◌<◌, ◌≤◌, Bool, true, List, Option, Some, None, refl, sym, ap, ◌∙◌}
 use Rattle.std.proofs.Common.{subst, inl, inr, ⊎_elim, arith}
-use Rattle.ufs_spec.proofs.CellKinds.{page_not_nothing}
 use Rattle.ufs_spec.proofs.Facts.{at_most, false≢true, none-some}
 use Rattle.ufs_spec.specs.Cells.{Cells, GroupPage, Mark}
 use Rattle.ufs_spec.specs.Disk.{Spot}
@@ -21,35 +20,24 @@ use Rattle.power_loss.proofs.books.LayerParts.{MarksOf, MendingOf, StopLeaves}
 use Rattle.power_loss.proofs.stops.BookImage.{Image, finished_parts, image, newest_or_later, newest_stays}
 use Rattle.power_loss.proofs.stops.ImagePages.{kept_covers}
 use Rattle.power_loss.proofs.stops.LeftCells.{page_from}
-use Rattle.many_stops.specs.RoomOfGroups.{HasHandedOut, HasNothingToMend, LeavesOwnRoom}
+use Rattle.many_stops.specs.RoomOfGroups.{HasHandedOut, HasNothingToMend}
 
-module _ {t : Translation} {c : Cells} (v : Valid t) (r : LeavesOwnRoom t) (none : HasHandedOut t → ⊥)
-    (crash : StopLeaves t c) where
+module _ {t : Translation} {c : Cells} (v : Valid t) (none : HasHandedOut t → ⊥) (crash : StopLeaves t c) where
   -- Numbers that are shown
-
-  -- a page that is there ended well, since nothing stands in a bad block
-  ended : (p : Place) (tag : Tag) (body : List ℕ) → t.disk.cells p ≡ GroupPage tag body → t.disk.finished p ≡ true
-  ended p tag body here = by (t.disk.finished p) refl
-    where
-      by : (b : Bool) → t.disk.finished p ≡ b → b ≡ true
-      by true e = refl
-      by false e = absurd (page_not_nothing _ _ _ here (r.blank p (v.blocks.unfinished p e)))
 
   shown_number : (p : Place) (tag : Tag) (body : List ℕ) → c p ≡ GroupPage tag body →
       tag.number ≤ before_accepted t.ledger
   shown_number p tag body h = ⊎_elim (λ l. l)
       (λ behind. absurd (⊎_elim
-      (λ here.
-      let s = v.pages.stands p tag body here (ended p tag body here) in
-      none (inl (record { number = tag.number; index = tag.index; place = s.0; behind = behind; stands = s.1 })))
-      (λ job. none (inr (record {
+      (λ here. none (inr (inr (record { place = p; tag = tag; body = body; behind = behind; there = here }))))
+      (λ job. none (inr (inl (record {
         die = p.die;
         place = p;
         tag = tag;
         body = body;
         behind = behind;
         flies = job;
-      }))) (page_from t.disk p crash h)))
+      })))) (page_from t.disk p crash h)))
       (at_most tag.number (before_accepted t.ledger))
 
   module _ {first m : Mark} (marks : MarksOf t first) (is : t.ledger.newest ≡ Some first)
@@ -114,10 +102,10 @@ mended_at_once n c newest low top (Unmarked fence lost) at may = absurd (at.0 ma
 mended_at_once n c newest low top (Repairing left) at may = absurd at
 
 pub idle_stop : (t next : Translation) (left : Cells) (bad : Spot → Bool) → Valid t → HasFewRepairs t →
-    LeavesOwnRoom t → is_mended t.work.mending ≡ true → (HasHandedOut t → ⊥) → StopLeaves t left →
+    is_mended t.work.mending ≡ true → (HasHandedOut t → ⊥) → StopLeaves t left →
     IsOpenedTranslation t.numbers left bad next → HasNothingToMend next
-idle_stop t next left bad v few r mended none crash o =
-    let may = nothing_lost v r none crash bad next o (few.durable mended) t.work.mending mended v.mending
+idle_stop t next left bad v few mended none crash o =
+    let may = nothing_lost v none crash bad next o (few.durable mended) t.work.mending mended v.mending
     next.ledger.newest refl in
     record {
       none_lost = may.2;

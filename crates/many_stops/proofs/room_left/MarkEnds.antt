@@ -1,23 +1,24 @@
 -- A mark that was programmed leaves the room: that of a plan frees its block.
-use Rattle.std.proofs.Common.{◌≡◌, ◌≢◌, ℕ, ◌+◌, ◌≤◌, Option, Some, None, refl}
-use Rattle.std.proofs.Common.{sym, ◌∙◌, inl, ⊎_elim, arith}
-use Rattle.ufs_spec.proofs.Facts.{none-some}
-use Rattle.ufs_spec.proofs.Updates.{at_spot_cases, at_spot_is}
-use Rattle.ufs_spec.specs.Cells.{Cells, GroupPage, Mark, MarkPage, Nothing}
+use Rattle.std.proofs.Common.{◌≡◌, ◌≢◌, ◌⊎◌, ℕ, ◌+◌, ◌≤◌, Option, Some, None, refl}
+use Rattle.std.proofs.Common.{sym, ap, ◌∙◌, inl, inr, ⊎_elim, arith}
+use Rattle.ufs_spec.proofs.Facts.{none-some, same_Some}
+use Rattle.ufs_spec.proofs.Updates.{at_place_cases, at_spot_cases}
+use Rattle.ufs_spec.specs.Cells.{Cells, GroupPage, Mark, MarkPage}
 use Rattle.ufs_spec.specs.Disk.{BlockState, Bad, Closed, Filling, Free, Programming, Spot, at_die, at_place, at_spot}
 use Rattle.ufs_spec.specs.Disk.{programmed, spot_of, state_after}
 use Rattle.ufs_spec.specs.Ledger.{before_accepted}
 use Rattle.ufs_spec.specs.Moves.{freed, freed_state, mark_written, mending_after}
-use Rattle.ufs_spec.specs.Translation.{count_blocks, Plan, Translation, is_free, is_mended}
+use Rattle.ufs_spec.specs.Translation.{count_blocks, Plan, Translation, is_bad, is_free, is_mended}
 use Rattle.ufs_spec.specs.declared.flash.Place.{Place}
 use Rattle.power_loss.specs.Invariant.{Valid}
-use Rattle.power_loss.proofs.jobs.StandsSecurely.{closed_is_not_free, free_is_not_filling}
+use Rattle.power_loss.proofs.jobs.StandsSecurely.{closed_is_not_free, filling_is_not_bad, free_is_not_filling}
 use Rattle.power_loss.proofs.room_to_mend.AloneKept.{ended_fewer}
-use Rattle.many_stops.specs.RoomOfGroups.{HasHandedOut, IsHandedOut, LeavesOwnRoom, LeavesRoom, free_count}
-use Rattle.many_stops.proofs.CountedBlocks.{one_more, others_free}
-use Rattle.many_stops.proofs.room_left.RoomStays.{handed_fewer, handed_mended, not_bad_after, still_blank, still_good}
+use Rattle.many_stops.specs.RoomOfGroups.{HasHandedOut, IsHandedOut, LeavesOwnRoom, LeavesRoom, free_count, kept_room}
+use Rattle.many_stops.proofs.CountedBlocks.{bad_alike, is_not_bad, no_fewer, one_more, others_free}
+use Rattle.many_stops.proofs.room_left.RoomStays.{RoomOf, bad_is_not_free, closed_is_not_bad, flies_fewer, handed_mended}
+use Rattle.many_stops.proofs.room_left.RoomStays.{kept_alike, mark_is_no_page, not_bad_after, shows_from, still_good}
 
-module _ {t : Translation} (v : Valid t) (r : LeavesOwnRoom t) where
+module _ {aside : ℕ} {t : Translation} (v : Valid t) (r : LeavesOwnRoom aside t) where
   -- A mark is programmed
 
   module _ (die : ℕ) (p : Place) (m : Mark) (job : t.disk.flights die ≡ Some (Programming p (MarkPage m))) where
@@ -30,26 +31,38 @@ module _ {t : Translation} (v : Valid t) (r : LeavesOwnRoom t) where
     abbrev put : Cells
     put = at_place t.disk.cells p (MarkPage m)
 
-    marked_blank : (q : Place) → marked (spot_of q) ≡ Bad → put q ≡ Nothing
-    marked_blank = still_blank t.disk.cells t.disk.blocks p (MarkPage m) (state_after t.numbers.pages p.page)
-        (not_bad_after t.numbers.pages p.page) r.blank
+    marked_bad : (s : Spot) → is_bad (marked s) ≡ is_bad (t.disk.blocks s)
+    marked_bad s = ⊎_elim
+        (λ k. ap is_bad k.1 ∙ is_not_bad (state_after t.numbers.pages p.page) (not_bad_after t.numbers.pages p.page)
+        ∙ sym (ap (λ z. is_bad (t.disk.blocks z)) k.0 ∙ is_not_bad (t.disk.blocks (spot_of p)) (filling_is_not_bad mark_is)))
+        (λ k. ap is_bad k.1) (at_spot_cases t.disk.blocks (spot_of p) (state_after t.numbers.pages p.page) s)
+
+    -- the plan that is under way is of a bad block
+    abbrev IsOfBad : Type 0
+    IsOfBad = (pl : Plan) × (t.work.plan ≡ Some pl) × (t.disk.blocks pl.victim ≡ Bad)
 
     -- once something is handed out, the mark is one of a plan
     its_plan : HasHandedOut t → (pl : Plan) × (t.work.plan ≡ Some pl)
     its_plan handed = r.planned (handed_mended v handed) _ (v.flights.mark die p m job).step_is
 
-    mark_handed : IsHandedOut (before_accepted t.ledger) t.ledger.standing (at_die t.disk.flights p.die None) →
+    mark_handed : IsHandedOut (before_accepted t.ledger) t.ledger.standing put (at_die t.disk.flights p.die None) →
         HasHandedOut t
-    mark_handed h = handed_fewer (ended_fewer t.disk.flights p.die) h
+    mark_handed (inl s) = inl s
+    mark_handed (inr (inl f)) = inr (inl (flies_fewer (ended_fewer t.disk.flights p.die) f))
+    mark_handed (inr (inr c)) = inr (shows_from
+        (λ q other bytes e. ⊎_elim (λ k. absurd (mark_is_no_page (sym k.1 ∙ e))) (λ k. inl (sym k.1 ∙ e))
+        (at_place_cases t.disk.cells p (MarkPage m) q)) c)
 
     abbrev LeftBy : (Spot → BlockState) → Type 0
-    LeftBy blocks = LeavesRoom t.numbers (before_accepted t.ledger) t.ledger.standing put blocks
+    LeftBy blocks = LeavesRoom aside t.numbers (before_accepted t.ledger) t.ledger.standing put blocks
         (at_die t.disk.flights p.die None) (is_mended (mending_after t.work.mending)) None None
 
-    mark_leaves_with : (blocks : Spot → BlockState) → ((q : Place) → blocks (spot_of q) ≡ Bad → put q ≡ Nothing) →
-        (HasHandedOut t → 1 + count_blocks t is_free ≤ free_count t.numbers blocks) → LeftBy blocks
-    mark_leaves_with blocks blank free = record {
-      blank = blank;
+    -- a block more is free, or the plan was of a bad block and as many are
+    mark_leaves_with : (blocks : Spot → BlockState) → ((s : Spot) → is_bad (blocks s) ≡ is_bad (t.disk.blocks s)) →
+        (HasHandedOut t → (1 + count_blocks t is_free ≤ free_count t.numbers blocks)
+        ⊎ ((count_blocks t is_free ≤ free_count t.numbers blocks) × IsOfBad)) → LeftBy blocks
+    mark_leaves_with blocks bad free = record {
+      few = r.few;
       one_die = λ d e q z a b x y h k s. r.one_die d e q z a b x y
           (ended_fewer t.disk.flights p.die d q (GroupPage a x) h)
           (ended_fewer t.disk.flights p.die e z (GroupPage b y) k) s;
@@ -58,68 +71,90 @@ module _ {t : Translation} (v : Valid t) (r : LeavesOwnRoom t) where
       gains = λ pl e. absurd (none-some pl e);
       room = λ h.
           let handed = mark_handed h in
-          let more = free handed in
-          inl (⊎_elim (λ l. enough _ _ _ l more) (λ o. still _ _ _ o.short more) (r.room handed));
+          inl (⊎_elim (λ more. with_more more (r.room handed)) (λ k. of_bad k.0 k.1 (r.room handed)) (free handed));
     }
       where
-        enough : (a b c : ℕ) → a ≤ b → 1 + b ≤ c → a ≤ c
-        enough a b c l k = omega (arith, l, k)
+        alike : kept_room aside t.numbers blocks ≡ kept_room aside t.numbers t.disk.blocks
+        alike = kept_alike aside t.numbers t.disk.blocks blocks (bad_alike t.numbers t.disk.blocks blocks bad)
 
-        still : (a b c : ℕ) → a ≤ b + 1 → 1 + b ≤ c → a ≤ c
-        still a b c l k = omega (arith, l, k)
+        with_more : 1 + count_blocks t is_free ≤ free_count t.numbers blocks →
+            RoomOf aside t.numbers t.disk.blocks t.disk.flights t.work.step t.work.plan →
+            kept_room aside t.numbers blocks ≤ free_count t.numbers blocks
+        with_more more (inl l) = let k = alike in omega (arith, k, l, more)
+        with_more more (inr o) = let k = alike in let l = o.short in omega (arith, k, l, more)
+
+        of_bad : count_blocks t is_free ≤ free_count t.numbers blocks → IsOfBad →
+            RoomOf aside t.numbers t.disk.blocks t.disk.flights t.work.step t.work.plan →
+            kept_room aside t.numbers blocks ≤ free_count t.numbers blocks
+        of_bad more b (inl l) = let k = alike in omega (arith, k, l, more)
+        of_bad more b (inr o) = absurd (o.good (ap (λ (z : Plan). t.disk.blocks z.victim)
+            (same_Some o.under_way b.0 (sym o.is ∙ b.1)) ∙ b.2))
 
     abbrev freed_with : Option Plan → Spot → BlockState
     freed_with o = (freed (programmed t.numbers.pages t.disk p (MarkPage m)) o).blocks
 
-    pub mark_leaves : LeavesOwnRoom (mark_written t p m)
+    pub mark_leaves : LeavesOwnRoom aside (mark_written t p m)
     mark_leaves = by t.work.plan refl
       where
         with_flights : (o : Option Plan) → LeftBy (freed_with o) →
-            LeavesRoom t.numbers (before_accepted t.ledger) t.ledger.standing
+            LeavesRoom aside t.numbers (before_accepted t.ledger) t.ledger.standing
             (freed (programmed t.numbers.pages t.disk p (MarkPage m)) o).cells (freed_with o)
             (freed (programmed t.numbers.pages t.disk p (MarkPage m)) o).flights
             (is_mended (mending_after t.work.mending)) None None
         with_flights None h = h
         with_flights (Some pl) h = h
 
-        victim_good : (pl : Plan) → (x : BlockState) → x ≢ Bad → freed_state x ≡ Free
-        victim_good pl Bad h = absurd (h refl)
-        victim_good pl x h = refl
+        same_bad : (x : BlockState) → is_bad (freed_state x) ≡ is_bad x
+        same_bad Bad = refl
+        same_bad Free = refl
+        same_bad Closed = refl
+        same_bad (Filling next) = refl
+
+        freed_good : (x : BlockState) → x ≢ Bad → freed_state x ≡ Free
+        freed_good Bad h = absurd (h refl)
+        freed_good x h = refl
+
+        freed_bad : (pl : Plan) (s : Spot) → is_bad (freed_with (Some pl) s) ≡ is_bad (t.disk.blocks s)
+        freed_bad pl s = ⊎_elim
+            (λ k. ap is_bad k.1 ∙ same_bad (marked pl.victim) ∙ marked_bad pl.victim
+            ∙ ap (λ z. is_bad (t.disk.blocks z)) (sym k.0)) (λ k. ap is_bad k.1 ∙ marked_bad s)
+            (at_spot_cases marked pl.victim (freed_state (marked pl.victim)) s)
+
+        -- what was free is
+        stay : (s : Spot) → t.disk.blocks s ≡ Free → marked s ≡ Free
+        stay s h = others_free t.disk.blocks (spot_of p) (state_after t.numbers.pages p.page)
+            (λ free. free_is_not_filling free mark_is) s h
+
+        now : (pl : Plan) → t.disk.blocks pl.victim ≡ Closed → freed_state (marked pl.victim) ≡ Free
+        now pl closed = freed_good (marked pl.victim)
+            (still_good t.disk.blocks (spot_of p) (state_after t.numbers.pages p.page) pl.victim
+            (not_bad_after t.numbers.pages p.page) (closed_is_not_bad closed))
+
+        of_good : (pl : Plan) → t.work.plan ≡ Some pl → t.disk.blocks pl.victim ≡ Closed →
+            1 + count_blocks t is_free ≤ free_count t.numbers (freed_with (Some pl))
+        of_good pl is closed =
+            one_more t.numbers t.disk.blocks (freed_with (Some pl)) pl.victim (r.gains pl is).inside
+            (λ s on h. ⊎_elim (λ k. k.1 ∙ now pl closed) (λ k. k.1 ∙ stay s h)
+            (at_spot_cases marked pl.victim (freed_state (marked pl.victim)) s)) (closed_is_not_free closed)
+            (⊎_elim (λ k. k.1 ∙ now pl closed) (λ k. absurd (k.0 refl))
+            (at_spot_cases marked pl.victim (freed_state (marked pl.victim)) pl.victim))
+
+        of_worse : (pl : Plan) → t.disk.blocks pl.victim ≡ Bad →
+            count_blocks t is_free ≤ free_count t.numbers (freed_with (Some pl))
+        of_worse pl bad = no_fewer t.numbers t.disk.blocks (freed_with (Some pl))
+            (λ s on h. ⊎_elim (λ k. absurd (bad_is_not_free bad (sym (ap t.disk.blocks k.0) ∙ h))) (λ k. k.1 ∙ stay s h)
+            (at_spot_cases marked pl.victim (freed_state (marked pl.victim)) s))
 
         of_plan : (pl : Plan) → t.work.plan ≡ Some pl → LeftBy (freed_with (Some pl))
-        of_plan pl is = mark_leaves_with (freed_with (Some pl))
-            (λ q h. ⊎_elim (λ k. absurd (free_is_good (sym now ∙ k.1))) (λ k. marked_blank q k.1)
-            (at_spot_is marked pl.victim (freed_state (marked pl.victim)) (spot_of q) Bad h))
-            (λ handed. one_more t.numbers t.disk.blocks (freed_with (Some pl)) pl.victim (r.gains pl is).inside
-            (λ s on. stay s) (closed_is_not_free closed) freed_now)
-          where
-            closed : t.disk.blocks pl.victim ≡ Closed
-            closed = ⊎_elim (λ e. e) (λ e. absurd ((r.gains pl is).good e)) (v.plan.one pl is).state
-
-            now : freed_state (marked pl.victim) ≡ Free
-            now = victim_good pl (marked pl.victim)
-                (still_good t.disk.blocks (spot_of p) (state_after t.numbers.pages p.page) pl.victim
-                (not_bad_after t.numbers.pages p.page) (r.gains pl is).good)
-
-            free_is_good : Free ≡ Bad → ⊥
-            free_is_good e = cc
-
-            freed_now : freed_with (Some pl) pl.victim ≡ Free
-            freed_now = ⊎_elim (λ k. k.1 ∙ now) (λ k. absurd (k.0 refl))
-                (at_spot_cases marked pl.victim (freed_state (marked pl.victim)) pl.victim)
-
-            stay : (s : Spot) → t.disk.blocks s ≡ Free → freed_with (Some pl) s ≡ Free
-            stay s h = ⊎_elim (λ k. k.1 ∙ now)
-                (λ k. k.1
-                ∙ others_free t.disk.blocks (spot_of p) (state_after t.numbers.pages p.page)
-                (λ free. free_is_not_filling free mark_is) s h)
-                (at_spot_cases marked pl.victim (freed_state (marked pl.victim)) s)
+        of_plan pl is = mark_leaves_with (freed_with (Some pl)) (freed_bad pl)
+            (λ handed. ⊎_elim (λ closed. inl (of_good pl is closed)) (λ bad. inr (of_worse pl bad, (pl, is, bad)))
+            (v.plan.one pl is).state)
 
         by : (o : Option Plan) → t.work.plan ≡ o →
-            LeavesRoom t.numbers (before_accepted t.ledger) t.ledger.standing
+            LeavesRoom aside t.numbers (before_accepted t.ledger) t.ledger.standing
             (freed (programmed t.numbers.pages t.disk p (MarkPage m)) o).cells (freed_with o)
             (freed (programmed t.numbers.pages t.disk p (MarkPage m)) o).flights
             (is_mended (mending_after t.work.mending)) None None
-        by None is = with_flights None (mark_leaves_with (freed_with None) marked_blank
+        by None is = with_flights None (mark_leaves_with (freed_with None) marked_bad
             (λ handed. absurd (let pl = its_plan handed in none-some pl.0 (sym is ∙ pl.1))))
         by (Some pl) is = with_flights (Some pl) (of_plan pl is)

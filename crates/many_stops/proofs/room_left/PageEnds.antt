@@ -3,8 +3,8 @@
 use Rattle.std.proofs.Common.{◌≡◌, ◌≢◌, ℕ, ◌+◌, ◌-◌, ◌<◌, ◌≤◌, Bool, true, false, if◌then◌else◌, List, length}
 use Rattle.std.proofs.Common.{Option, Some, None, refl, sym, ap, ◌∙◌, subst, inl, inr, ⊎_elim, arith}
 use Rattle.ufs_spec.proofs.Facts.{false≢true, none-some, true≢false}
-use Rattle.ufs_spec.proofs.Updates.{at_die_cases, at_name_cases}
-use Rattle.ufs_spec.specs.Cells.{Cells, GroupPage, Nothing}
+use Rattle.ufs_spec.proofs.Updates.{at_die_cases, at_name_cases, at_place_cases, at_spot_cases}
+use Rattle.ufs_spec.specs.Cells.{Cells, GroupPage}
 use Rattle.ufs_spec.specs.Disk.{BlockState, Bad, Filling, Flight, Programming, Spot, at_die, at_place, at_spot, spot_of}
 use Rattle.ufs_spec.specs.Disk.{state_after}
 use Rattle.ufs_spec.specs.Ledger.{at_name, before_accepted}
@@ -16,18 +16,19 @@ use Rattle.ufs_spec.specs.declared.flash.Tag.{Tag}
 use Rattle.ufs_spec.specs.declared.layer.Name.{Name}
 use Rattle.power_loss.specs.Book.{book}
 use Rattle.power_loss.specs.Invariant.{Flights, Standing, StepKindRight, Valid}
-use Rattle.power_loss.proofs.jobs.StandsSecurely.{free_is_not_filling}
+use Rattle.power_loss.proofs.jobs.StandsSecurely.{filling_is_not_bad, free_is_not_filling}
 use Rattle.power_loss.proofs.room_to_mend.AloneKept.{ended_fewer}
-use Rattle.many_stops.specs.RoomOfGroups.{HasHandedOut, IsHandedOut, LeavesOwnRoom, LeavesRoom, free_count, open_room}
+use Rattle.many_stops.specs.RoomOfGroups.{HasHandedOut, IsHandedOut, LeavesOwnRoom, LeavesRoom, bad_count, free_count}
+use Rattle.many_stops.specs.RoomOfGroups.{open_room}
 use Rattle.many_stops.specs.RoomOfGroups.{page_of_group, pages_of_copy, pages_of_plan, programs_name, room_on}
 use Rattle.many_stops.specs.RoomOfGroups.{room_on_dies}
-use Rattle.many_stops.proofs.CountedBlocks.{none_fewer}
+use Rattle.many_stops.proofs.CountedBlocks.{good_alike, none_fewer}
 use Rattle.many_stops.proofs.room_left.RoomInOpenBlocks.{die_room, other_dies, program_takes}
 use Rattle.many_stops.proofs.room_left.RoomInOpenBlocks.{rooms_less}
-use Rattle.many_stops.proofs.room_left.RoomStays.{IsNoLess, handed_fewer, handed_mended, kind_name, no_less}
-use Rattle.many_stops.proofs.room_left.RoomStays.{not_bad_after, room_stays, still_blank, still_good}
+use Rattle.many_stops.proofs.room_left.RoomStays.{IsNoLess, flies_fewer, handed_mended, kind_name, no_less, shows_from}
+use Rattle.many_stops.proofs.room_left.RoomStays.{not_bad_after, room_stays, still_good}
 
-module _ {t : Translation} (v : Valid t) (r : LeavesOwnRoom t) where
+module _ {aside : ℕ} {t : Translation} (v : Valid t) (r : LeavesOwnRoom aside t) where
   -- A page is programmed
 
   module _ (die : ℕ) (p : Place) (tag : Tag) (body : List ℕ)
@@ -53,25 +54,35 @@ module _ {t : Translation} (v : Valid t) (r : LeavesOwnRoom t) where
     abbrev put : Cells
     put = at_place t.disk.cells p (GroupPage tag body)
 
-    page_blank : (q : Place) → filled_blocks (spot_of q) ≡ Bad → put q ≡ Nothing
-    page_blank = still_blank t.disk.cells t.disk.blocks p (GroupPage tag body) (state_after t.numbers.pages p.page)
-        (not_bad_after t.numbers.pages p.page) r.blank
+    -- the block was good, and is
+    page_good : (s : Spot) → t.disk.blocks s ≢ Bad → filled_blocks s ≢ Bad
+    page_good s = still_good t.disk.blocks (spot_of p) (state_after t.numbers.pages p.page) s
+        (not_bad_after t.numbers.pages p.page)
+
+    page_bad : bad_count t.numbers filled_blocks ≡ bad_count t.numbers t.disk.blocks
+    page_bad = good_alike t.numbers t.disk.blocks (spot_of p) (state_after t.numbers.pages p.page)
+        (filling_is_not_bad page_is) (not_bad_after t.numbers.pages p.page)
 
     page_free : count_blocks t is_free ≤ free_count t.numbers filled_blocks
     page_free = none_fewer t.numbers t.disk.blocks (spot_of p) (state_after t.numbers.pages p.page)
         (λ free. free_is_not_filling free page_is)
 
+    -- the page that is put is the one that was being programmed
+    job_at : (q : Place) (other : Tag) (bytes : List ℕ) → q ≡ p → GroupPage tag body ≡ GroupPage other bytes →
+        t.disk.flights die ≡ Some (Programming q (GroupPage other bytes))
+    job_at q other bytes at same = job ∙ (λ i. Some (Programming (sym at i) (same i)))
+
     -- a page that ended was in flight
-    page_handed : IsHandedOut (before_accepted t.ledger) stood ended_flights → HasHandedOut t
+    page_handed : IsHandedOut (before_accepted t.ledger) stood put ended_flights → HasHandedOut t
     page_handed (inl s) = ⊎_elim
-        (λ k. inr (record {
+        (λ k. inr (inl (record {
           die = die;
           place = p;
           tag = tag;
           body = body;
           behind = let e = k.0 in let l = s.behind in omega (arith, e, l);
           flies = job;
-        }))
+        })))
         (λ k. inl (record {
           number = s.number;
           index = s.index;
@@ -79,8 +90,10 @@ module _ {t : Translation} (v : Valid t) (r : LeavesOwnRoom t) where
           behind = s.behind;
           stands = sym k.1 ∙ s.stands;
         })) (at_name_cases t.ledger.standing (name_of tag) (Some p) s.number s.index)
-    page_handed (inr f) =
-        handed_fewer (ended_fewer t.disk.flights p.die) (inr f)
+    page_handed (inr (inl f)) = inr (inl (flies_fewer (ended_fewer t.disk.flights p.die) f))
+    page_handed (inr (inr c)) = inr (shows_from
+        (λ q other bytes e. ⊎_elim (λ k. inr (die, job_at q other bytes k.0 (sym k.1 ∙ e)))
+        (λ k. inl (sym k.1 ∙ e)) (at_place_cases t.disk.cells p (GroupPage tag body) q)) c)
 
     -- a name that stood stands
     page_stands_still : (name : Name) → (q : Place) × (t.ledger.standing name.number name.index ≡ Some q) →
@@ -92,10 +105,10 @@ module _ {t : Translation} (v : Valid t) (r : LeavesOwnRoom t) where
         pages_of_copy now ≤ pages_of_copy t.work.step →
         (HasHandedOut t → IsNoLess t.numbers t.disk.blocks filled_blocks t.disk.flights ended_flights t.work.step now
         t.work.plan) →
-        LeavesRoom t.numbers (before_accepted t.ledger) stood put filled_blocks ended_flights
+        LeavesRoom aside t.numbers (before_accepted t.ledger) stood put filled_blocks ended_flights
         (is_mended t.work.mending) now t.work.plan
     page_leaves_with now keeps copies room = record {
-      blank = page_blank;
+      few = r.few;
       one_die = λ d e q z a b x y h k s. r.one_die d e q z a b x y
           (ended_fewer t.disk.flights p.die d q (GroupPage a x) h)
           (ended_fewer t.disk.flights p.die e z (GroupPage b y) k) s;
@@ -105,16 +118,18 @@ module _ {t : Translation} (v : Valid t) (r : LeavesOwnRoom t) where
           let g = r.gains pl e in
           record {
             inside = g.inside;
-            good = still_good t.disk.blocks (spot_of p) (state_after t.numbers.pages p.page) pl.victim
-                (not_bad_after t.numbers.pages p.page) g.good;
-            less = less (length pl.copies) _ _ _ g.less copies;
+            less = λ good. less (length pl.copies) _ _ _ (g.less (was_good pl.victim good)) copies;
           };
       room = λ h.
           let handed = page_handed h in
-          room_stays t.numbers t.disk.blocks filled_blocks t.disk.flights ended_flights t.work.step now t.work.plan
-          page_free (room handed) (r.room handed);
+          room_stays aside t.numbers t.disk.blocks filled_blocks t.disk.flights ended_flights t.work.step now t.work.plan
+          page_bad page_good page_free (room handed) (r.room handed);
     }
       where
+        was_good : (s : Spot) → filled_blocks s ≢ Bad → t.disk.blocks s ≢ Bad
+        was_good s good bad = good (⊎_elim (λ k. absurd (filling_is_not_bad page_is (ap t.disk.blocks (sym k.0) ∙ bad)))
+            (λ k. k.1 ∙ bad) (at_spot_cases t.disk.blocks (spot_of p) (state_after t.numbers.pages p.page) s))
+
         less : (a b c d : ℕ) → a + b + 1 ≤ d → c ≤ b → a + c + 1 ≤ d
         less a b c d l k = omega (arith, l, k)
 
@@ -161,9 +176,9 @@ module _ {t : Translation} (v : Valid t) (r : LeavesOwnRoom t) where
         back a b c d l e z = omega (arith, l, e, z)
 
     group_ends : step_after (name_of tag) t.work.step ≡ t.work.step →
-        programs_name t.work.step (name_of tag) ≡ false → LeavesOwnRoom (page_written t p tag body)
+        programs_name t.work.step (name_of tag) ≡ false → LeavesOwnRoom aside (page_written t p tag body)
     group_ends same other = subst
-        (λ now. LeavesRoom t.numbers (before_accepted t.ledger) stood put filled_blocks ended_flights
+        (λ now. LeavesRoom aside t.numbers (before_accepted t.ledger) stood put filled_blocks ended_flights
         (is_mended t.work.mending) now t.work.plan) (sym same)
         (page_leaves_with t.work.step (λ s e. e) (omega arith)
         (λ handed fits. no_less (pages_of_plan t.work.plan t.work.step) (open_room t) _ fits (groups_room other)))
@@ -223,23 +238,23 @@ module _ {t : Translation} (v : Valid t) (r : LeavesOwnRoom t) where
               less : (a b c d : ℕ) → a + b + 1 ≤ c → b ≡ 1 → c ≤ 1 + d → a + 0 + 1 ≤ d
               less a b c d l e k = omega (arith, l, e, k)
 
-      step_ends : step_after (name_of tag) t.work.step ≡ None → LeavesOwnRoom (page_written t p tag body)
+      step_ends : step_after (name_of tag) t.work.step ≡ None → LeavesOwnRoom aside (page_written t p tag body)
       step_ends over = subst
-          (λ now. LeavesRoom t.numbers (before_accepted t.ledger) stood put filled_blocks ended_flights
+          (λ now. LeavesRoom aside t.numbers (before_accepted t.ledger) stood put filled_blocks ended_flights
           (is_mended t.work.mending) now t.work.plan) (sym over)
           (page_leaves_with None (λ x e. absurd (none-some x e)) (omega arith) fits_still)
 
-    pub page_leaves : LeavesOwnRoom (page_written t p tag body)
+    pub page_leaves : LeavesOwnRoom aside (page_written t p tag body)
     page_leaves = by t.work.step refl
       where
         of_step : (s : Step) → t.work.step ≡ Some s → (b : Bool) → is_kind_of (name_of tag) s.kind ≡ b →
-            LeavesOwnRoom (page_written t p tag body)
+            LeavesOwnRoom aside (page_written t p tag body)
         of_step s is true of = step_ends s is of
             (ap (step_after (name_of tag)) is ∙ ap (λ b. if b then None else Some s) of)
         of_step s is false of = group_ends
             (ap (step_after (name_of tag)) is ∙ ap (λ b. if b then None else Some s) of ∙ sym is)
             (ap (λ z. programs_name z (name_of tag)) is ∙ of)
 
-        by : (o : Option Step) → t.work.step ≡ o → LeavesOwnRoom (page_written t p tag body)
+        by : (o : Option Step) → t.work.step ≡ o → LeavesOwnRoom aside (page_written t p tag body)
         by None is = group_ends (ap (step_after (name_of tag)) is ∙ sym is) (ap (λ z. programs_name z (name_of tag)) is)
         by (Some s) is = of_step s is (is_kind_of (name_of tag) s.kind) refl

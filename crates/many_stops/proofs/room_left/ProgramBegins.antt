@@ -1,17 +1,18 @@
 -- A program that is given to a die leaves the room: that of a group is given where there is enough, and below it that
 -- of a step opens a block only where none is being filled.
-use Rattle.std.proofs.Common.{◌≡◌, ◌⊎◌, ℕ, ◌+◌, ◌-◌, ◌<◌, ◌≤◌, true, if◌then◌else◌, List, Option, Some, None, refl, sym}
-use Rattle.std.proofs.Common.{ap, ◌∙◌, subst, inl, inr, ⊎_elim, arith}
+use Rattle.std.proofs.Common.{◌≡◌, ◌≢◌, ◌⊎◌, ℕ, ◌+◌, ◌-◌, ◌*◌, ◌<◌, ◌≤◌, Bool, true, false, if◌then◌else◌, List, Option}
+use Rattle.std.proofs.Common.{Some, None, refl, sym, ap, ◌∙◌, subst, inl, inr, ⊎_elim, arith}
+use Rattle.std.specs.Int.{div_ceil}
 use Rattle.ufs_spec.proofs.Equalities.{name_self}
-use Rattle.ufs_spec.proofs.Facts.{at_most, none-some}
-use Rattle.ufs_spec.proofs.Updates.{at_die_cases, at_spot_is}
-use Rattle.ufs_spec.specs.Cells.{Cell, GroupPage, Mark, MarkPage, Nothing}
+use Rattle.ufs_spec.proofs.Facts.{at_most, cases_Bool, none-some, true≢false}
+use Rattle.ufs_spec.proofs.Updates.{at_die_cases, at_spot_cases}
+use Rattle.ufs_spec.specs.Cells.{Cell, GroupPage, Nothing}
 use Rattle.ufs_spec.specs.Disk.{BlockState, Bad, Filling, Programming, Spot, at_die, at_spot, spot_of}
 use Rattle.ufs_spec.specs.Ledger.{Entry, before_accepted, entry_of}
 use Rattle.ufs_spec.specs.Moves.{is_kind_of}
-use Rattle.ufs_spec.specs.Translation.{count_blocks, CopyStep, MarkStep, MayTake, RepairStep, Step, StepKind}
-use Rattle.ufs_spec.specs.Translation.{Translation, cell_of_entry, is_free, is_mended, name_of, own_room, step_cell}
-use Rattle.ufs_spec.specs.Translation.{tag_of, taken, waiting_name, waiting_step}
+use Rattle.ufs_spec.specs.Translation.{count_blocks, CopyStep, MarkStep, MayTake, Plan, RepairStep, Step, StepKind}
+use Rattle.ufs_spec.specs.Translation.{Translation, cell_of_entry, is_bad, is_free, is_mended, name_of, own_room}
+use Rattle.ufs_spec.specs.Translation.{own_room_now, step_cell, tag_of, taken, waiting_name, waiting_step}
 use Rattle.ufs_spec.specs.declared.flash.Place.{Place}
 use Rattle.ufs_spec.specs.declared.flash.Tag.{Tag}
 use Rattle.ufs_spec.specs.declared.layer.Name.{Name}
@@ -24,18 +25,18 @@ use Rattle.power_loss.proofs.jobs_owed.ProgramsAndErases.{OpensReady, ProgramOwe
 use Rattle.power_loss.proofs.jobs_owed.ProgramsAndErases.{step_owed}
 use Rattle.power_loss.proofs.jobs_owed.RoomLeft.{block_room, none_filled, page_room}
 use Rattle.power_loss.proofs.jobs_owed.BegunPrograms.{is_this}
-use Rattle.many_stops.specs.RoomOfGroups.{HasHandedOut, IsHandedOut, IsOneShort, LeavesOwnRoom, filling_room}
-use Rattle.many_stops.specs.RoomOfGroups.{free_count, open_room, page_of_group, pages_of_plan, room_on_dies}
-use Rattle.many_stops.proofs.CountedBlocks.{none_fewer, one_fewer}
+use Rattle.power_loss.proofs.collected_blocks.FewestLivePages.{bad_told}
+use Rattle.many_stops.specs.RoomOfGroups.{HasHandedOut, IsHandedOut, IsOneShort, LeavesOwnRoom, bad_count, filling_room}
+use Rattle.many_stops.specs.RoomOfGroups.{free_count, is_plan_of_bad, kept_room, mending_blocks, open_room}
+use Rattle.many_stops.specs.RoomOfGroups.{opened_for_bad, page_of_group, pages_of_plan, room_on_dies}
+use Rattle.many_stops.proofs.CountedBlocks.{good_alike, none_fewer, one_fewer}
 use Rattle.many_stops.proofs.room_left.RoomInOpenBlocks.{die_room, opened_room}
 use Rattle.many_stops.proofs.room_left.RoomInOpenBlocks.{room_is_filled, rooms_hold, rooms_no_less}
 use Rattle.many_stops.proofs.room_left.RoomInOpenBlocks.{same_room}
-use Rattle.many_stops.proofs.room_left.RoomStays.{RoomOf, handed_mended, home_of, no_less, room_stays, still_good}
+use Rattle.many_stops.proofs.room_left.RoomStays.{RoomOf, bad_is_not_free, handed_mended, home_of, kept_alike, less_aside}
+use Rattle.many_stops.proofs.room_left.RoomStays.{mark_is_no_page, no_less, room_aside, room_stays, still_good}
 
 -- What a die programs
-
-mark_is_no_page : {m : Mark} {tag : Tag} {body : List ℕ} → MarkPage m ≡ GroupPage tag body → ⊥
-mark_is_no_page e = cc
 
 page_now : (name : Name) (o : Option Entry) (frontier : ℕ) {tag : Tag} {body : List ℕ} →
     cell_of_entry name o frontier ≡ GroupPage tag body → name ≡ name_of tag
@@ -63,7 +64,7 @@ steps_page t step (CopyStep name from) p e = entry_is_no_groups step name p (ent
 steps_page t step (RepairStep name from) p e = entry_is_no_groups step name p (entry_of t.ledger name) t.ledger.frontier
     (ap (is_kind_of name) e ∙ name_self name)
 
-module _ {t : Translation} (v : Valid t) (r : LeavesOwnRoom t) where
+module _ {aside : ℕ} {t : Translation} (v : Valid t) (r : LeavesOwnRoom aside t) where
   -- A program begins
 
   -- a page of the host that the step programs stands
@@ -106,16 +107,45 @@ module _ {t : Translation} (v : Valid t) (r : LeavesOwnRoom t) where
     opened_after : count_blocks t is_free ≤ 1 + free_count t.numbers after
     opened_after = one_fewer t.numbers t.disk.blocks (spot_of p) (Filling p.page)
 
+    -- the room of the device's own pages is enough for what is kept
+    own_is_enough : (blocks : Spot → BlockState) →
+        kept_room aside t.numbers blocks ≤ own_room t.numbers (bad_count t.numbers blocks)
+    own_is_enough blocks =
+        enough t.numbers.dies (div_ceil t.numbers.slots t.numbers.pages)
+        (t.numbers.spare - bad_count t.numbers blocks) aside r.few
+      where
+        enough : (dies filled more aside : ℕ) → aside < dies →
+            2 * (filled + 1) + 1 + more + aside ≤ dies + 2 + 2 * filled + more
+        enough dies filled more aside l = omega (arith, l)
+
     -- For a group
 
     below_more : (a b c : ℕ) → a < b → b ≤ 1 + c → a ≤ c
     below_more a b c l k = omega (arith, l, k)
 
-    for_group : waiting_step t t.work.step ≡ None → own_room t.numbers ≤ free_count t.numbers after
+    -- the block is good, before and after
+    was_good : t.disk.blocks (spot_of p) ≢ Bad
+    was_good bad = ⊎_elim (λ filled. filling_is_not_bad filled bad)
+        (λ (o : OpensReady t p). bad_is_not_free bad o.free) owed.place.next
+
+    bad_after : bad_count t.numbers after ≡ bad_count t.numbers t.disk.blocks
+    bad_after = good_alike t.numbers t.disk.blocks (spot_of p) (Filling p.page) was_good (filling_is_not_bad refl)
+
+    kept_after : (left : ℕ) → kept_room left t.numbers after ≡ kept_room left t.numbers t.disk.blocks
+    kept_after left = kept_alike left t.numbers t.disk.blocks after bad_after
+
+    good_after : (s : Spot) → t.disk.blocks s ≢ Bad → after s ≢ Bad
+    good_after s = still_good t.disk.blocks (spot_of p) (Filling p.page) s (filling_is_not_bad refl)
+
+    good_before : (s : Spot) → after s ≢ Bad → t.disk.blocks s ≢ Bad
+    good_before s good bad = good (⊎_elim (λ k. absurd (was_good (ap t.disk.blocks (sym k.0) ∙ bad))) (λ k. k.1 ∙ bad)
+        (at_spot_cases t.disk.blocks (spot_of p) (Filling p.page) s))
+
+    for_group : waiting_step t t.work.step ≡ None → own_room_now t ≤ free_count t.numbers after
     for_group none = ⊎_elim
-        (λ filled. no_less (own_room t.numbers) (count_blocks t is_free) (free_count t.numbers after)
+        (λ filled. no_less (own_room_now t) (count_blocks t is_free) (free_count t.numbers after)
         (⊎_elim (λ w. absurd (waits w)) (λ l. l) (page_room t die p cell may)) (free_after filled))
-        (λ (o : OpensReady t p). below_more (own_room t.numbers) (count_blocks t is_free) (free_count t.numbers after)
+        (λ (o : OpensReady t p). below_more (own_room_now t) (count_blocks t is_free) (free_count t.numbers after)
         (⊎_elim (λ w. absurd (waits w.1)) (λ l. l) (block_room t die (Programming p cell) may o.free)) opened_after)
         owed.place.next
       where
@@ -130,18 +160,19 @@ module _ {t : Translation} (v : Valid t) (r : LeavesOwnRoom t) where
           ∙ ap (λ c. page_of_group (Some s.step) (Some (Programming p c))) (sym s.is)
           ∙ steps_page t s.step s.step.kind p refl
 
-      handed_before : IsHandedOut (before_accepted t.ledger) t.ledger.standing flown → HasHandedOut t
+      handed_before : IsHandedOut (before_accepted t.ledger) t.ledger.standing t.disk.cells flown → HasHandedOut t
       handed_before (inl h) = inl h
-      handed_before (inr f) = ⊎_elim
+      handed_before (inr (inl f)) = ⊎_elim
           (λ k. step_stands s.step s.step.kind s.under_way refl (s.is ∙ k.2) f.behind)
-          (λ k. inr (record {
+          (λ k. inr (inl (record {
             die = f.die;
             place = f.place;
             tag = f.tag;
             body = f.body;
             behind = f.behind;
             flies = k;
-          })) (is_this t f.flies)
+          }))) (is_this t f.flies)
+      handed_before (inr (inr c)) = inr (inr c)
 
       pages_after : (d : ℕ) → page_of_group t.work.step (flown d) ≤ page_of_group t.work.step (t.disk.flights d)
       pages_after d = ⊎_elim
@@ -150,11 +181,11 @@ module _ {t : Translation} (v : Valid t) (r : LeavesOwnRoom t) where
           (at_die_cases t.disk.flights die (Some (Programming p cell)) d)
 
       filled_after : t.disk.blocks (spot_of p) ≡ Filling p.page →
-          RoomOf t.numbers t.disk.blocks t.disk.flights t.work.step t.work.plan →
-          RoomOf t.numbers after flown t.work.step t.work.plan
+          RoomOf aside t.numbers t.disk.blocks t.disk.flights t.work.step t.work.plan →
+          RoomOf aside t.numbers after flown t.work.step t.work.plan
       filled_after is =
-          room_stays t.numbers t.disk.blocks after t.disk.flights flown t.work.step t.work.step t.work.plan
-          (free_after is)
+          room_stays aside t.numbers t.disk.blocks after t.disk.flights flown t.work.step t.work.step t.work.plan
+          bad_after good_after (free_after is)
           (λ fits. no_less (pages_of_plan t.work.plan t.work.step) (open_room t) _ fits
           (rooms_no_less t.numbers t.disk.blocks after t.work.step t.work.step t.disk.flights flown
           (λ d. same_room t.numbers t.disk.blocks (spot_of p) (Filling p.page) d
@@ -180,68 +211,117 @@ module _ {t : Translation} (v : Valid t) (r : LeavesOwnRoom t) where
           enough : (pages a b c d : ℕ) → pages ≤ b → a ≡ b → c ≡ 0 → a - c ≤ d → pages ≤ d
           enough pages a b c d l e z k = omega (arith, l, e, z, k)
 
-      opened_so : (o : OpensReady t p) → is_mended t.work.mending ≡ true → own_room t.numbers ≤ count_blocks t is_free →
-          RoomOf t.numbers after flown t.work.step t.work.plan
-      opened_so o mended l =
-          let pl = r.planned mended s.step s.under_way in
-          let g = r.gains pl.0 pl.1 in
-          let e = ap (λ z. pages_of_plan z t.work.step) pl.1 in
-          inr (record {
-            short = one_less (own_room t.numbers) (count_blocks t is_free) (free_count t.numbers after) l opened_after;
-            under_way = pl.0;
-            is = pl.1;
-            fits = fit _ _ _ _ e g.less (room_opened o);
-          })
+      -- the plan is not of a bad block
+      module _ (good : is_plan_of_bad t.disk.blocks t.work.plan ≡ false) where
+        victim_good : (pl : Plan) → t.work.plan ≡ Some pl → t.disk.blocks pl.victim ≢ Bad
+        victim_good pl is bad = true≢false (sym (ap is_bad bad) ∙ (sym (ap (is_plan_of_bad t.disk.blocks) is) ∙ good))
+
+        opened_so : (o : OpensReady t p) → is_mended t.work.mending ≡ true →
+            kept_room aside t.numbers t.disk.blocks ≤ count_blocks t is_free →
+            RoomOf aside t.numbers after flown t.work.step t.work.plan
+        opened_so o mended l =
+            let pl = r.planned mended s.step s.under_way in
+            let g = r.gains pl.0 pl.1 in
+            let e = ap (λ z. pages_of_plan z t.work.step) pl.1 in
+            inr (record {
+              short = one_less _ _ (count_blocks t is_free) (free_count t.numbers after) (kept_after aside) l opened_after;
+              under_way = pl.0;
+              is = pl.1;
+              good = good_after pl.0.victim (victim_good pl.0 pl.1);
+              fits = fit _ _ _ _ e (g.less (victim_good pl.0 pl.1)) (room_opened o);
+            })
+          where
+            one_less : (x a b c : ℕ) → x ≡ a → a ≤ b → b ≤ 1 + c → x ≤ c + 1
+            one_less x a b c e l k = omega (arith, e, l, k)
+
+            fit : (a b c d : ℕ) → a ≡ b → b ≤ c → c ≤ d → a ≤ d
+            fit a b c d e l k = omega (arith, e, l, k)
+
+        -- below the room a block is opened only where none is being filled, but then no plan fits
+        none_fits : (o : OpensReady t p) → count_blocks t is_free < own_room_now t →
+            IsOneShort aside t.numbers t.disk.blocks t.disk.flights t.work.step t.work.plan → ⊥
+        none_fits o few short =
+            let e = ap (λ z. pages_of_plan z t.work.step) short.is in
+            let fits = short.fits in
+            let f = room_is_filled t.numbers t.disk.blocks t.work.step t.disk.flights (some _ _ _ e fits) in
+            none_filled t die (Programming p cell) f.spot f.next may o.free few f.inside f.is
+          where
+            some : (a b c : ℕ) → a ≡ b + 1 → a ≤ c → 1 ≤ c
+            some a b c e l = omega (arith, e, l)
+
+        opened_after_all : (o : OpensReady t p) → is_mended t.work.mending ≡ true →
+            RoomOf aside t.numbers t.disk.blocks t.disk.flights t.work.step t.work.plan →
+            RoomOf aside t.numbers after flown t.work.step t.work.plan
+        opened_after_all o mended (inl l) = opened_so o mended l
+        opened_after_all o mended (inr short) =
+            ⊎_elim (λ l. opened_so o mended (let k = own_is_enough t.disk.blocks in omega (arith, l, k)))
+            (λ few. absurd (none_fits o few short)) (at_most (own_room_now t) (count_blocks t is_free))
+
+        for_plan : HasHandedOut t → RoomOf aside t.numbers after flown t.work.step t.work.plan
+        for_plan handed = ⊎_elim (λ filled. filled_after filled (r.room handed))
+            (λ o. opened_after_all o (handed_mended v handed) (r.room handed)) owed.place.next
+
+      -- a block that is opened for a bad one is one of those that are set aside
+      for_bad : (left : ℕ) → left + (count_blocks t is_free - free_count t.numbers after) ≤ aside →
+          is_plan_of_bad t.disk.blocks t.work.plan ≡ true → HasHandedOut t →
+          kept_room left t.numbers after ≤ free_count t.numbers after
+      for_bad left spent bad handed = by (r.room handed)
         where
-          one_less : (a b c : ℕ) → a ≤ b → b ≤ 1 + c → a ≤ c + 1
-          one_less a b c l k = omega (arith, l, k)
+          enough : (x base left aside free after : ℕ) → x ≡ base + left → left + (free - after) ≤ aside →
+              base + aside ≤ free → x ≤ after
+          enough x base left aside free after e spent l = omega (arith, e, spent, l)
 
-          fit : (a b c d : ℕ) → a ≡ b → b ≤ c → c ≤ d → a ≤ d
-          fit a b c d e l k = omega (arith, e, l, k)
+          by : RoomOf aside t.numbers t.disk.blocks t.disk.flights t.work.step t.work.plan →
+              kept_room left t.numbers after ≤ free_count t.numbers after
+          by (inl l) = enough _ (2 * mending_blocks t.numbers + 1
+              + (t.numbers.spare - bad_count t.numbers t.disk.blocks)) left aside (count_blocks t is_free)
+              (free_count t.numbers after) (kept_after left) spent l
+          by (inr o) = absurd (o.good (bad_told (t.disk.blocks o.under_way.victim)
+              (sym (ap (is_plan_of_bad t.disk.blocks) o.is) ∙ bad)))
 
-      -- below the room a block is opened only where none is being filled, but then no plan fits
-      none_fits : (o : OpensReady t p) → count_blocks t is_free < own_room t.numbers →
-          IsOneShort t.numbers t.disk.blocks t.disk.flights t.work.step t.work.plan → ⊥
-      none_fits o few short =
-          let e = ap (λ z. pages_of_plan z t.work.step) short.is in
-          let fits = short.fits in
-          let f = room_is_filled t.numbers t.disk.blocks t.work.step t.disk.flights (some _ _ _ e fits) in
-          none_filled t die (Programming p cell) f.spot f.next may o.free few f.inside f.is
-        where
-          some : (a b c : ℕ) → a ≡ b + 1 → a ≤ c → 1 ≤ c
-          some a b c e l = omega (arith, e, l)
-
-      opened_after_all : (o : OpensReady t p) → is_mended t.work.mending ≡ true →
-          RoomOf t.numbers t.disk.blocks t.disk.flights t.work.step t.work.plan →
-          RoomOf t.numbers after flown t.work.step t.work.plan
-      opened_after_all o mended (inl l) = opened_so o mended l
-      opened_after_all o mended (inr short) = ⊎_elim (λ l. opened_so o mended l) (λ few. absurd (none_fits o few short))
-          (at_most (own_room t.numbers) (count_blocks t is_free))
-
-      for_step : IsHandedOut (before_accepted t.ledger) t.ledger.standing flown →
-          RoomOf t.numbers after flown t.work.step t.work.plan
-      for_step h =
-          let handed = handed_before h in
-          ⊎_elim (λ filled. filled_after filled (r.room handed))
-          (λ o. opened_after_all o (handed_mended v handed) (r.room handed)) owed.place.next
-
-    pub program_leaves : LeavesOwnRoom (taken t die (Programming p cell))
-    program_leaves = record {
-      blank = λ q h. ⊎_elim (λ k. absurd (filling_is_not_bad refl k.1)) (λ k. r.blank q k.1)
-          (at_spot_is t.disk.blocks (spot_of p) (Filling p.page) (spot_of q) Bad h);
+    pub program_leaves : (left : ℕ) →
+        left + opened_for_bad t (taken t die (Programming p cell)) ≤ aside →
+        LeavesOwnRoom left (taken t die (Programming p cell))
+    program_leaves left spent = record {
+      few = let k = r.few in let l = left_few in omega (arith, k, l);
       one_die = λ d e q z a b x y h k same. one d e q z a b x y (is_this t h) (is_this t k) same;
       copied = r.copied;
       planned = r.planned;
       gains = λ pl e.
           let g = r.gains pl e in
-          record {
-            inside = g.inside;
-            good = still_good t.disk.blocks (spot_of p) (Filling p.page) pl.victim (filling_is_not_bad refl) g.good;
-            less = g.less;
-          };
-      room = λ h. ⊎_elim (λ w. for_step (step_owed t t.work.step cell refl w) h) (λ w. inl (for_group w.0)) owed.is;
+          record { inside = g.inside; less = λ good. g.less (good_before pl.victim good) };
+      room = λ h. ⊎_elim (λ w. for_step (step_owed t t.work.step cell refl w) h) (λ w. inl (own_left (for_group w.0)))
+          owed.is;
     }
       where
+        left_few : left ≤ aside
+        left_few = omega (arith, spent)
+
+        own_left : own_room_now t ≤ free_count t.numbers after →
+            kept_room left t.numbers after ≤ free_count t.numbers after
+        own_left l =
+            let k = own_is_enough t.disk.blocks in
+            let e = kept_after left in
+            let m = less_aside aside left t.numbers t.disk.blocks left_few in
+            omega (arith, l, k, e, m)
+
+        less_left : RoomOf aside t.numbers after flown t.work.step t.work.plan →
+            RoomOf left t.numbers after flown t.work.step t.work.plan
+        less_left = room_aside left_few
+
+        for_step : StepOwed t cell → IsHandedOut (before_accepted t.ledger) t.ledger.standing t.disk.cells flown →
+            RoomOf left t.numbers after flown t.work.step t.work.plan
+        for_step s h = ⊎_elim
+            (λ bad. inl (for_bad s left (spent_on bad) bad (handed_before s h)))
+            (λ good. less_left (for_plan s good (handed_before s h)))
+            (cases_Bool (is_plan_of_bad t.disk.blocks t.work.plan))
+          where
+            spent_on : is_plan_of_bad t.disk.blocks t.work.plan ≡ true →
+                left + (count_blocks t is_free - free_count t.numbers after) ≤ aside
+            spent_on bad =
+                let e = ap (λ (b : Bool). if b then count_blocks t is_free - free_count t.numbers after else 0) bad in
+                omega (arith, e, spent)
+
         other_name : (e : ℕ) (q : Place) (a b : Tag) (x y : List ℕ) → cell ≡ GroupPage a x →
             t.disk.flights e ≡ Some (Programming q (GroupPage b y)) → name_of b ≡ name_of a → ⊥
         other_name e q a b x y is flies same =

@@ -1,26 +1,28 @@
 -- What leaves the room that groups leave: where no fewer blocks are free, and none is taken beside what the plan needs.
-use Rattle.std.proofs.Common.{◌≡◌, ◌≢◌, ◌⊎◌, ℕ, ◌+◌, ◌<◌, ◌≤◌, ◌==◌, Bool, true, false, Option, Some, None, refl, sym}
+use Rattle.std.proofs.Common.{◌≡◌, ◌≢◌, ◌⊎◌, ℕ, ◌+◌, ◌-◌, ◌*◌, ◌<◌, ◌≤◌, ◌==◌, Bool, true, false, List, Option, Some}
+use Rattle.std.proofs.Common.{None, refl, sym}
 use Rattle.std.proofs.Common.{if◌then◌else◌, inl, inr, ap, ◌∙◌, ⊎_elim, arith}
 use Rattle.ufs_spec.proofs.Equalities.{name_told}
 use Rattle.ufs_spec.proofs.Facts.{false≢true, same_Some}
-use Rattle.ufs_spec.proofs.Updates.{at_place_cases, at_spot_is}
-use Rattle.ufs_spec.specs.Cells.{Cell, Cells, GroupPage, Nothing}
-use Rattle.ufs_spec.specs.Disk.{BlockState, Bad, Closed, Filling, Flight, Programming, Spot, at_place, at_spot, spot_of}
+use Rattle.ufs_spec.proofs.Updates.{at_spot_is}
+use Rattle.ufs_spec.specs.Cells.{Cell, Cells, GroupPage, Mark, MarkPage}
+use Rattle.ufs_spec.specs.Disk.{BlockState, Bad, Closed, Filling, Flight, Free, Programming, Spot, at_spot}
 use Rattle.ufs_spec.specs.Disk.{state_after}
 use Rattle.ufs_spec.specs.Ledger.{Entry, before_accepted}
 use Rattle.ufs_spec.specs.Moves.{is_kind_of, step_there}
 use Rattle.ufs_spec.specs.Translation.{CopyStep, MarkStep, Plan, RepairStep, Step, StepKind, Translation, is_mended}
-use Rattle.ufs_spec.specs.Translation.{own_room}
 use Rattle.ufs_spec.specs.declared.configs.Numbers.{Numbers}
 use Rattle.ufs_spec.specs.declared.flash.Fence.{Fence}
 use Rattle.ufs_spec.specs.declared.flash.Place.{Place}
+use Rattle.ufs_spec.specs.declared.flash.Tag.{Tag}
 use Rattle.ufs_spec.specs.declared.layer.Name.{Name}
 use Rattle.power_loss.specs.Book.{IsPageAt, book}
 use Rattle.power_loss.specs.Invariant.{Flights, Standing, Valid}
 use Rattle.power_loss.proofs.books.PagesByName.{page_within}
 use Rattle.power_loss.proofs.room_to_mend.AloneKept.{AreFewer}
-use Rattle.many_stops.specs.RoomOfGroups.{FliesBehind, HasHandedOut, IsHandedOut, IsOneShort, LeavesRoom, StandsBehind}
-use Rattle.many_stops.specs.RoomOfGroups.{free_count, page_of_group, pages_of_plan, room_on_dies}
+use Rattle.many_stops.specs.RoomOfGroups.{FliesBehind, HasHandedOut, IsHandedOut, IsOneShort, LeavesRoom, ShowsBehind}
+use Rattle.many_stops.specs.RoomOfGroups.{StandsBehind, bad_count, free_count, kept_room, mending_blocks}
+use Rattle.many_stops.specs.RoomOfGroups.{page_of_group, pages_of_plan, room_on_dies}
 use Rattle.many_stops.proofs.room_left.RoomInOpenBlocks.{fewer_pages, rooms_no_less}
 
 -- Numbers
@@ -47,23 +49,60 @@ repair_is_no_copy e = cc
 pub one_copy : {one name : Name} {at from : Place} → CopyStep one at ≡ CopyStep name from → one ≡ name
 one_copy e = cc
 
+-- States and cells
+
+pub closed_is_not_bad : {x : BlockState} → x ≡ Closed → x ≢ Bad
+closed_is_not_bad e h = let no : Closed ≡ Bad = sym e ∙ h in cc
+
+pub bad_is_not_free : {x : BlockState} → x ≡ Bad → x ≢ Free
+bad_is_not_free e h = let no : Bad ≡ Free = sym e ∙ h in cc
+
+pub mark_is_no_page : {m : Mark} {tag : Tag} {body : List ℕ} → MarkPage m ≡ GroupPage tag body → ⊥
+mark_is_no_page e = cc
+
 -- Fewer programs in flight
 
-pub handed_fewer : {before : ℕ} {standing : Standing} {flights now : Flights} → AreFewer flights now →
-    IsHandedOut before standing now → IsHandedOut before standing flights
-handed_fewer fewer (inl s) = inl s
-handed_fewer fewer (inr f) = inr (record {
+pub flies_fewer : {before : ℕ} {flights now : Flights} → AreFewer flights now → FliesBehind before now →
+    FliesBehind before flights
+flies_fewer fewer f = record {
   die = f.die;
   place = f.place;
   tag = f.tag;
   body = f.body;
   behind = f.behind;
   flies = fewer f.die f.place (GroupPage f.tag f.body) f.flies;
-})
+}
 
-abbrev pub RoomOf : Numbers → (Spot → BlockState) → Flights → Option Step → Option Plan → Type 0
-RoomOf n blocks flights step plan =
-    (own_room n ≤ free_count n blocks) ⊎ IsOneShort n blocks flights step plan
+pub handed_fewer : {before : ℕ} {standing : Standing} {cells : Cells} {flights now : Flights} → AreFewer flights now →
+    IsHandedOut before standing cells now → IsHandedOut before standing cells flights
+handed_fewer fewer (inl s) = inl s
+handed_fewer fewer (inr (inl f)) = inr (inl (flies_fewer fewer f))
+handed_fewer fewer (inr (inr c)) = inr (inr c)
+
+-- a page that is there now was there, or was being programmed
+pub shows_from : {before : ℕ} {cells now : Cells} {flights : Flights} →
+    ((p : Place) (tag : Tag) (body : List ℕ) → now p ≡ GroupPage tag body → (cells p ≡ GroupPage tag body)
+    ⊎ ((die : ℕ) × (flights die ≡ Some (Programming p (GroupPage tag body))))) →
+    ShowsBehind before now → FliesBehind before flights ⊎ ShowsBehind before cells
+shows_from from c = ⊎_elim
+    (λ here. inr (record { place = c.place; tag = c.tag; body = c.body; behind = c.behind; there = here }))
+    (λ job. inl (record {
+      die = job.0;
+      place = c.place;
+      tag = c.tag;
+      body = c.body;
+      behind = c.behind;
+      flies = job.1;
+    })) (from c.place c.tag c.body c.there)
+
+abbrev pub RoomOf : ℕ → Numbers → (Spot → BlockState) → Flights → Option Step → Option Plan → Type 0
+RoomOf aside n blocks flights step plan =
+    (kept_room aside n blocks ≤ free_count n blocks) ⊎ IsOneShort aside n blocks flights step plan
+
+-- where as many blocks are bad, as much room is kept
+pub kept_alike : (aside : ℕ) (n : Numbers) (was now : Spot → BlockState) → bad_count n now ≡ bad_count n was →
+    kept_room aside n now ≡ kept_room aside n was
+kept_alike aside n was now same = ap (λ bad. 2 * mending_blocks n + 1 + (n.spare - bad) + aside) same
 
 -- what leaves the room where no fewer blocks are free, and no less room is open beside what the plan takes
 abbrev pub IsNoLess : Numbers → (Spot → BlockState) → (Spot → BlockState) → Flights → Flights → Option Step →
@@ -72,52 +111,94 @@ IsNoLess n blocks after flights flown step now plan =
     pages_of_plan plan step ≤ room_on_dies n blocks step flights →
     pages_of_plan plan now ≤ room_on_dies n after now flown
 
-pub room_stays : (n : Numbers) (blocks after : Spot → BlockState) (flights flown : Flights) (step now : Option Step)
-    (plan : Option Plan) → free_count n blocks ≤ free_count n after →
-    IsNoLess n blocks after flights flown step now plan → RoomOf n blocks flights step plan →
-    RoomOf n after flown now plan
-room_stays n blocks after flights flown step now plan free room (inl l) =
-    inl (no_less (own_room n) (free_count n blocks) (free_count n after) l free)
-room_stays n blocks after flights flown step now plan free room (inr o) = inr (record {
-  short = still_short (own_room n) (free_count n blocks) (free_count n after) o.short free;
+pub room_stays : (aside : ℕ) (n : Numbers) (blocks after : Spot → BlockState) (flights flown : Flights)
+    (step now : Option Step) (plan : Option Plan) → bad_count n after ≡ bad_count n blocks →
+    ((s : Spot) → blocks s ≢ Bad → after s ≢ Bad) → free_count n blocks ≤ free_count n after →
+    IsNoLess n blocks after flights flown step now plan → RoomOf aside n blocks flights step plan →
+    RoomOf aside n after flown now plan
+room_stays aside n blocks after flights flown step now plan bad good free room (inl l) =
+    let k = kept_alike aside n blocks after bad in
+    inl (omega (arith, k, l, free))
+room_stays aside n blocks after flights flown step now plan bad good free room (inr o) = inr (record {
+  short =
+      let k = kept_alike aside n blocks after bad in
+      let l = o.short in
+      omega (arith, k, l, free);
   under_way = o.under_way;
   is = o.is;
+  good = good o.under_way.victim o.good;
   fits = room o.fits;
 })
 
-pub fewer_leaves : {n : Numbers} {before : ℕ} {standing : Standing} {cells : Cells} {blocks : Spot → BlockState}
-    {flights : Flights} {mended : Bool} {step : Option Step} {plan : Option Plan} (now : Flights) →
-    AreFewer flights now →
-    LeavesRoom n before standing cells blocks flights mended step plan →
-    LeavesRoom n before standing cells blocks now mended step plan
-fewer_leaves {n} {before} {standing} {cells} {blocks} {flights} {mended} {step} {plan} now fewer r = record {
-  blank = r.blank;
+pub fewer_leaves : {aside : ℕ} {n : Numbers} {before : ℕ} {standing : Standing} {cells : Cells}
+    {blocks : Spot → BlockState} {flights : Flights} {mended : Bool} {step : Option Step} {plan : Option Plan}
+    (now : Flights) → AreFewer flights now →
+    LeavesRoom aside n before standing cells blocks flights mended step plan →
+    LeavesRoom aside n before standing cells blocks now mended step plan
+fewer_leaves {aside} {n} {before} {standing} {cells} {blocks} {flights} {mended} {step} {plan} now fewer r = record {
+  few = r.few;
   one_die = λ d e p q a b x y h k s.
       r.one_die d e p q a b x y (fewer d p (GroupPage a x) h) (fewer e q (GroupPage b y) k) s;
   copied = r.copied;
   planned = r.planned;
   gains = r.gains;
-  room = λ h. room_stays n blocks blocks flights now step step plan (omega arith)
+  room = λ h. room_stays aside n blocks blocks flights now step step plan refl (λ s good. good) (omega arith)
       (λ fits. no_less (pages_of_plan plan step) (room_on_dies n blocks step flights)
       (room_on_dies n blocks step now) fits
       (rooms_no_less n blocks blocks step step flights now (λ die. omega arith) (fewer_pages step fewer)))
       (r.room (handed_fewer fewer h));
 }
 
--- Cells that were nothing still are
+-- No page came
 
-pub blank_leaves : {n : Numbers} {before : ℕ} {standing : Standing} {cells : Cells} {blocks : Spot → BlockState}
-    {flights : Flights} {mended : Bool} {step : Option Step} {plan : Option Plan} (now : Cells) →
-    ((p : Place) → cells p ≡ Nothing → now p ≡ Nothing) →
-    LeavesRoom n before standing cells blocks flights mended step plan →
-    LeavesRoom n before standing now blocks flights mended step plan
-blank_leaves now still r = record {
-  blank = λ p bad. still p (r.blank p bad);
+pub gone_leaves : {aside : ℕ} {n : Numbers} {before : ℕ} {standing : Standing} {cells : Cells}
+    {blocks : Spot → BlockState} {flights : Flights} {mended : Bool} {step : Option Step} {plan : Option Plan}
+    (now : Cells) →
+    ((p : Place) (tag : Tag) (body : List ℕ) → now p ≡ GroupPage tag body → cells p ≡ GroupPage tag body) →
+    LeavesRoom aside n before standing cells blocks flights mended step plan →
+    LeavesRoom aside n before standing now blocks flights mended step plan
+gone_leaves {aside} {n} {before} {standing} {cells} {blocks} {flights} {mended} {step} {plan} now was r = record {
+  few = r.few;
   one_die = r.one_die;
   copied = r.copied;
   planned = r.planned;
   gains = r.gains;
-  room = r.room;
+  room = λ h. r.room (handed h);
+}
+  where
+    handed : IsHandedOut before standing now flights → IsHandedOut before standing cells flights
+    handed (inl s) = inl s
+    handed (inr (inl f)) = inr (inl f)
+    handed (inr (inr c)) = inr (shows_from (λ p tag body e. inl (was p tag body e)) c)
+
+-- Fewer blocks are set aside
+
+pub less_aside : (aside now : ℕ) (n : Numbers) (blocks : Spot → BlockState) → now ≤ aside →
+    kept_room now n blocks ≤ kept_room aside n blocks
+less_aside aside now n blocks l = omega (arith, l)
+
+pub room_aside : {aside now : ℕ} {n : Numbers} {blocks : Spot → BlockState} {flights : Flights} {step : Option Step}
+    {plan : Option Plan} → now ≤ aside → RoomOf aside n blocks flights step plan → RoomOf now n blocks flights step plan
+room_aside {aside} {now} {n} {blocks} l (inl e) = let k = less_aside aside now n blocks l in inl (omega (arith, e, k))
+room_aside {aside} {now} {n} {blocks} l (inr o) = inr (record {
+  short = let e = o.short in let k = less_aside aside now n blocks l in omega (arith, e, k);
+  under_way = o.under_way;
+  is = o.is;
+  good = o.good;
+  fits = o.fits;
+})
+
+pub fewer_aside : {aside : ℕ} (now : ℕ) {n : Numbers} {before : ℕ} {standing : Standing} {cells : Cells}
+    {blocks : Spot → BlockState} {flights : Flights} {mended : Bool} {step : Option Step} {plan : Option Plan} →
+    now ≤ aside → LeavesRoom aside n before standing cells blocks flights mended step plan →
+    LeavesRoom now n before standing cells blocks flights mended step plan
+fewer_aside now l r = record {
+  few = let k = r.few in omega (arith, k, l);
+  one_die = r.one_die;
+  copied = r.copied;
+  planned = r.planned;
+  gains = r.gains;
+  room = λ h. room_aside l (r.room h);
 }
 
 -- Programs go to blocks that are not bad
@@ -134,28 +215,21 @@ pub still_good : (blocks : Spot → BlockState) (s : Spot) (x : BlockState) (a :
     at_spot blocks s x a ≢ Bad
 still_good blocks s x a put good h = ⊎_elim (λ k. put k.1) (λ k. good k.1) (at_spot_is blocks s x a Bad h)
 
--- bad blocks stay blank where a page of another block is put in
-pub still_blank : (cells : Cells) (blocks : Spot → BlockState) (p : Place) (cell : Cell) (x : BlockState) → x ≢ Bad →
-    ((q : Place) → blocks (spot_of q) ≡ Bad → cells q ≡ Nothing) → (q : Place) →
-    at_spot blocks (spot_of p) x (spot_of q) ≡ Bad → at_place cells p cell q ≡ Nothing
-still_blank cells blocks p cell x put blank q h = ⊎_elim (λ k. absurd (put k.1))
-    (λ k. ⊎_elim (λ e. absurd (k.0 (ap spot_of e.0))) (λ e. e.1 ∙ blank q k.1) (at_place_cases cells p cell q))
-    (at_spot_is blocks (spot_of p) x (spot_of q) Bad h)
-
 -- The content of the step came
 
-pub there_leaves : {n : Numbers} {before : ℕ} {standing : Standing} {cells : Cells} {blocks : Spot → BlockState}
-    {flights : Flights} {mended : Bool} {plan : Option Plan} (step : Option Step) →
-    LeavesRoom n before standing cells blocks flights mended step plan →
-    LeavesRoom n before standing cells blocks flights mended (step_there step) plan
+pub there_leaves : {aside : ℕ} {n : Numbers} {before : ℕ} {standing : Standing} {cells : Cells}
+    {blocks : Spot → BlockState} {flights : Flights} {mended : Bool} {plan : Option Plan} (step : Option Step) →
+    LeavesRoom aside n before standing cells blocks flights mended step plan →
+    LeavesRoom aside n before standing cells blocks flights mended (step_there step) plan
 there_leaves None r = r
-there_leaves {n} {blocks = blocks} {flights = flights} {plan = plan} (Some s) r = record {
-  blank = r.blank;
+there_leaves {aside} {n} {blocks = blocks} {flights = flights} {plan = plan} (Some s) r = record {
+  few = r.few;
   one_die = r.one_die;
   copied = λ name from there e. r.copied name from s.there (ap Some (kind (same_Some _ _ e)));
   planned = λ mended other e. r.planned mended s refl;
-  gains = λ pl e. let g = r.gains pl e in record { inside = g.inside; good = g.good; less = g.less };
-  room = λ h. room_stays n blocks blocks flights flights (Some s) (Some (record s { there = true })) plan (omega arith)
+  gains = λ pl e. let g = r.gains pl e in record { inside = g.inside; less = g.less };
+  room = λ h. room_stays aside n blocks blocks flights flights (Some s) (Some (record s { there = true })) plan refl
+      (λ a good. good) (omega arith)
       (λ fits. no_less (pages_of_plan plan (Some (record s { there = true })))
       (room_on_dies n blocks (Some s) flights) _
       (more plan fits) (rooms_no_less n blocks blocks (Some s) (Some (record s { there = true })) flights flights
@@ -200,8 +274,11 @@ module _ {t : Translation} (v : Valid t) where
           (λ (s : StandsBehind (before_accepted t.ledger) t.ledger.standing).
           let k = v.frontier.known s.number s.index s.place s.stands in
           low s.number s.index k.0 k.1 e s.behind)
+          (λ k. ⊎_elim
           (λ (f : FliesBehind (before_accepted t.ledger) t.disk.flights).
-          low f.tag.number f.tag.index _ (v.flights.known f.die f.place f.tag f.body f.flies) e f.behind) h)
+          low f.tag.number f.tag.index _ (v.flights.known f.die f.place f.tag f.body f.flies) e f.behind)
+          (λ (c : ShowsBehind (before_accepted t.ledger) t.disk.cells).
+          low c.tag.number c.tag.index _ (v.pages.known c.place c.tag c.body c.there) e c.behind) k) h)
 
   pub home_of : (die : ℕ) {p : Place} {cell : Cell} → t.disk.flights die ≡ Some (Programming p cell) →
       die < t.numbers.dies

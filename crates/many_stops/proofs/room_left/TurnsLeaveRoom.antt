@@ -1,17 +1,16 @@
 -- A turn leaves the room: a plan begins with no more pages than fill a block, and goes on with as many as it had left.
-use Rattle.std.proofs.Common.{◌≡◌, ◌≢◌, ℕ, suc, ◌+◌, ◌<◌, ◌≤◌, Bool, true, false, if◌then◌else◌, List, [], ◌∷◌}
-use Rattle.std.proofs.Common.{length, map, filter}
+use Rattle.std.proofs.Common.{◌≡◌, ℕ, suc, ◌+◌, ◌<◌, ◌≤◌, Bool, true, false, if◌then◌else◌, List, [], ◌∷◌}
+use Rattle.std.proofs.Common.{length}
 use Rattle.std.proofs.Common.{Option, Some, None, refl, sym, ap, ◌∙◌, subst, inl, inr, ⊎_elim, arith, All}
 use Rattle.ufs_spec.proofs.Facts.{false≢true, none-some, same_Some, true≢false}
 use Rattle.ufs_spec.specs.Cells.{GroupPage}
-use Rattle.ufs_spec.specs.Disk.{Bad, BlockState, Closed, Flight, Programming, Spot, place_in}
-use Rattle.ufs_spec.specs.Keys.{below}
+use Rattle.ufs_spec.specs.Disk.{Flight, Programming, Spot}
 use Rattle.ufs_spec.specs.Ledger.{before_accepted}
 use Rattle.ufs_spec.specs.Moves.{is_kind_of}
 use Rattle.ufs_spec.specs.Translation.{CopyStep, MarkStep, Mended, Mending, Order, OrderCopy, OrderMark, OrderPlanMark}
 use Rattle.ufs_spec.specs.Translation.{OrderRepair, Plan, RepairStep, Repairing, Step, Translation, Unmarked}
 use Rattle.ufs_spec.specs.Translation.{copy_begun, is_mended, mark_ordered, name_of, ordered, repair_ordered, turned}
-use Rattle.ufs_spec.specs.Translation.{is_live, is_live_cell, live_count, with_plan}
+use Rattle.ufs_spec.specs.Translation.{with_plan}
 use Rattle.ufs_spec.specs.declared.flash.Fence.{Fence}
 use Rattle.ufs_spec.specs.declared.flash.Key.{Key}
 use Rattle.ufs_spec.specs.declared.flash.Place.{Place}
@@ -28,31 +27,16 @@ use Rattle.many_stops.proofs.room_left.RoomInOpenBlocks.{rooms_no_less}
 use Rattle.many_stops.proofs.room_left.RoomStays.{RoomOf, handed_mended, mark_is_no_copy, no_less, one_copy}
 use Rattle.many_stops.proofs.room_left.RoomStays.{repair_is_no_copy, step_of}
 
-none_passes : (test : Place → Bool) (s : Spot) (pages : List ℕ) → ((page : ℕ) → test (place_in s page) ≡ false) →
-    filter test (map (place_in s) pages) ≡ []
-none_passes test s [] none = refl
-none_passes test s (page ∷ pages) none = rw (none page) (none_passes test s pages none)
-
-closed_is_good : {x : BlockState} → x ≡ Closed → x ≢ Bad
-closed_is_good e h = let no : Closed ≡ Bad = sym e ∙ h in cc
-
-module _ {t : Translation} (v : Valid t) (r : LeavesOwnRoom t) where
-  -- a bad block has no live page, since nothing stands in it
-  bad_is_dead : (s : Spot) → t.disk.blocks s ≡ Bad → 0 < live_count t s → ⊥
-  bad_is_dead s bad live =
-      let none = ap (λ (ps : List Place). length ps) (none_passes (is_live t) s (below t.numbers.pages)
-      (λ page. ap (is_live_cell t.ledger (place_in s page)) (r.blank (place_in s page) bad))) in
-      omega (arith, live, none)
-
+module _ {aside : ℕ} {t : Translation} (v : Valid t) (r : LeavesOwnRoom aside t) where
   -- Turns
 
   module _ (none : t.work.step ≡ None) where
     abbrev StepsTo : Option Step → Option Plan → Type 0
-    StepsTo step plan = LeavesRoom t.numbers (before_accepted t.ledger) t.ledger.standing t.disk.cells t.disk.blocks
+    StepsTo step plan = LeavesRoom aside t.numbers (before_accepted t.ledger) t.ledger.standing t.disk.cells t.disk.blocks
         t.disk.flights (is_mended t.work.mending) step plan
 
-    idle_room : HasHandedOut t → RoomOf t.numbers t.disk.blocks t.disk.flights None t.work.plan
-    idle_room handed = subst (λ z. RoomOf t.numbers t.disk.blocks t.disk.flights z t.work.plan) none (r.room handed)
+    idle_room : HasHandedOut t → RoomOf aside t.numbers t.disk.blocks t.disk.flights None t.work.plan
+    idle_room handed = subst (λ z. RoomOf aside t.numbers t.disk.blocks t.disk.flights z t.work.plan) none (r.room handed)
 
     idle_gains : (pl : Plan) → t.work.plan ≡ Some pl → PlanGains t.numbers t.disk.blocks None pl
     idle_gains pl is = subst (λ z. PlanGains t.numbers t.disk.blocks z pl) none (r.gains pl is)
@@ -84,9 +68,9 @@ module _ {t : Translation} (v : Valid t) (r : LeavesOwnRoom t) where
     unmended_handed : is_mended t.work.mending ≡ false → HasHandedOut t → ⊥
     unmended_handed un handed = true≢false (sym (handed_mended v handed) ∙ un)
 
-    mark_begins : (fence : Option Fence) → is_mended t.work.mending ≡ false → LeavesOwnRoom (mark_ordered t fence)
+    mark_begins : (fence : Option Fence) → is_mended t.work.mending ≡ false → LeavesOwnRoom aside (mark_ordered t fence)
     mark_begins fence un = record {
-      blank = r.blank;
+      few = r.few;
       one_die = r.one_die;
       copied = λ name from there e. absurd (apart e);
       planned = λ mended s e. absurd (true≢false (sym mended ∙ un));
@@ -99,9 +83,9 @@ module _ {t : Translation} (v : Valid t) (r : LeavesOwnRoom t) where
         apart e = mark_is_no_copy (ap (λ (z : Step). z.kind) (same_Some _ _ e))
 
     repair_begins : (k : Key) (left : List Key) → is_mended t.work.mending ≡ false →
-        LeavesOwnRoom (repair_ordered t k left)
+        LeavesOwnRoom aside (repair_ordered t k left)
     repair_begins k left un = record {
-      blank = r.blank;
+      few = r.few;
       one_die = r.one_die;
       copied = λ name from there e. absurd (apart e);
       planned = λ mended s e. absurd (false≢true mended);
@@ -112,8 +96,8 @@ module _ {t : Translation} (v : Valid t) (r : LeavesOwnRoom t) where
         less : (a b c : ℕ) → a + (b + 1) < c → a + b < c
         less a b c l = omega (arith, l)
 
-        lower : IsHandedOut (t.ledger.greatest_seen + (t.ledger.repairs + 1)) t.ledger.standing t.disk.flights →
-            HasHandedOut t
+        lower : IsHandedOut (t.ledger.greatest_seen + (t.ledger.repairs + 1)) t.ledger.standing t.disk.cells
+            t.disk.flights → HasHandedOut t
         lower (inl s) = inl (record {
           number = s.number;
           index = s.index;
@@ -121,14 +105,21 @@ module _ {t : Translation} (v : Valid t) (r : LeavesOwnRoom t) where
           behind = less t.ledger.greatest_seen t.ledger.repairs s.number s.behind;
           stands = s.stands;
         })
-        lower (inr f) = inr (record {
+        lower (inr (inl f)) = inr (inl (record {
           die = f.die;
           place = f.place;
           tag = f.tag;
           body = f.body;
           behind = less t.ledger.greatest_seen t.ledger.repairs f.tag.number f.behind;
           flies = f.flies;
-        })
+        }))
+        lower (inr (inr c)) = inr (inr (record {
+          place = c.place;
+          tag = c.tag;
+          body = c.body;
+          behind = less t.ledger.greatest_seen t.ledger.repairs c.tag.number c.behind;
+          there = c.there;
+        }))
 
         apart : {one : Name} {at : Option Place} {name : Name} {from : Place} {here there : Bool} →
             Some (step_of (RepairStep one at) here) ≡ Some (step_of (CopyStep name from) there) → ⊥
@@ -146,15 +137,17 @@ module _ {t : Translation} (v : Valid t) (r : LeavesOwnRoom t) where
           (λ k.
           let c = (victim_is t s k.1).can in
           let so_many = ap (λ (xs : List Place). length xs) k.2 in
-          let gain = ⊎_elim (λ g. g) (λ g. absurd (bad_is_dead s g.0 g.1)) c.gain in
-          record { inside = c.inside; good = closed_is_good gain.0; less = fits _ _ _ so_many gain.1 }) is
+          record {
+            inside = c.inside;
+            less = λ good. fits _ _ _ so_many (⊎_elim (λ g. g.1) (λ g. absurd (good g.0)) c.gain);
+          }) is
         where
           fits : (a b c : ℕ) → a ≡ b → b < c → a + 0 + 1 ≤ c
           fits a b c e l = omega (arith, e, l)
 
       -- as many blocks are free as groups leave, or the plan that is under way fits
-      next_room : HasHandedOut t → RoomOf t.numbers t.disk.blocks t.disk.flights None (Some its)
-      next_room handed = ⊎_elim (λ e. subst (λ z. RoomOf t.numbers t.disk.blocks t.disk.flights None z) e
+      next_room : HasHandedOut t → RoomOf aside t.numbers t.disk.blocks t.disk.flights None (Some its)
+      next_room handed = ⊎_elim (λ e. subst (λ z. RoomOf aside t.numbers t.disk.blocks t.disk.flights None z) e
           (idle_room handed))
           (λ k. ⊎_elim (λ l. inl l) (λ o. absurd (none-some o.under_way (sym k.0 ∙ o.is))) (idle_room handed)) is
 
@@ -164,22 +157,22 @@ module _ {t : Translation} (v : Valid t) (r : LeavesOwnRoom t) where
           pages_of_plan (Some (record { victim = s; copies = left })) (Some step) ≤ pages_of_plan (Some its) None →
           StepsTo (Some step) (Some (record { victim = s; copies = left }))
       plan_goes_on step left stands fewer = record {
-        blank = r.blank;
+        few = r.few;
         one_die = r.one_die;
         copied = λ name from there e. stands name from there (same_Some step _ e);
         planned = λ m x e. (record { victim = s; copies = left }, refl);
         gains = λ pl e. subst (λ z. PlanGains t.numbers t.disk.blocks (Some step) z) (same_Some _ pl e)
             (record {
               inside = next_gains.inside;
-              good = next_gains.good;
-              less = no_less (pages_of_plan (Some (record { victim = s; copies = left })) (Some step))
-                  (pages_of_plan (Some its) None) t.numbers.pages fewer next_gains.less;
+              less = λ good. no_less (pages_of_plan (Some (record { victim = s; copies = left })) (Some step))
+                  (pages_of_plan (Some its) None) t.numbers.pages fewer (next_gains.less good);
             });
         room = λ h. ⊎_elim (λ l. inl l)
             (λ o. inr (record {
               short = o.short;
               under_way = record { victim = s; copies = left };
               is = refl;
+              good = λ bad. o.good (ap (λ (z : Plan). t.disk.blocks z.victim) (same_Some _ _ (sym o.is)) ∙ bad);
               fits = still _ _ _ _ fewer o.fits (begun_room step);
             })) (next_room h);
       }
@@ -196,10 +189,10 @@ module _ {t : Translation} (v : Valid t) (r : LeavesOwnRoom t) where
         (subst (All (NeededOf t)) (sym k.2) (live_needed s v mended)) (inl refl)
 
     copy_begins : (s : Spot) (p : Place) (left : List Place) → t.work.mending ≡ Mended → IsPlanned t s (p ∷ left) →
-        LeavesOwnRoom (copy_begun (with_plan t s left) p (t.disk.cells p))
+        LeavesOwnRoom aside (copy_begun (with_plan t s left) p (t.disk.cells p))
     copy_begins s p left mended is =
         let g = (next_there s p left mended is).page in
-        subst (λ c. LeavesOwnRoom (copy_begun (with_plan t s left) p c)) (sym g.there)
+        subst (λ c. LeavesOwnRoom aside (copy_begun (with_plan t s left) p c)) (sym g.there)
         (plan_goes_on s (p ∷ left) mended is (record { kind = CopyStep (name_of g.tag) p; there = false }) left
         (λ name from there e. subst (λ (z : Name). (q : Place) × (t.ledger.standing z.number z.index ≡ Some q))
         (copied_name e) (v.pages.stands p g.tag g.body g.there g.ended)) (one_less (length left)))
@@ -212,17 +205,17 @@ module _ {t : Translation} (v : Valid t) (r : LeavesOwnRoom t) where
         copied_name e = one_copy (ap (λ (z : Step). z.kind) e)
 
     plan_mark_begins : (s : Spot) → t.work.mending ≡ Mended → IsPlanned t s [] →
-        LeavesOwnRoom (mark_ordered (with_plan t s []) None)
+        LeavesOwnRoom aside (mark_ordered (with_plan t s []) None)
     plan_mark_begins s mended is =
         plan_goes_on s [] mended is (record { kind = MarkStep (t.ledger.marks + 1) None; there = true }) []
         (λ name from there e. absurd (mark_is_no_copy (ap (λ (z : Step). z.kind) e))) (omega arith)
 
-  orders : (o : Order) → (t.work.step ≡ None) × IsDue t o → LeavesOwnRoom (ordered t o)
+  orders : (o : Order) → (t.work.step ≡ None) × IsDue t o → LeavesOwnRoom aside (ordered t o)
   orders (OrderMark fence) (none, (number, due)) =
       mark_begins none fence (due_unmended none t.work.mending fence due)
   orders (OrderRepair key left) (none, (number, is)) = repair_begins none key left (ap is_mended is)
   orders (OrderCopy s p left) (none, (mended, is)) = copy_begins none s p left mended is
   orders (OrderPlanMark s) (none, (number, mended, is)) = plan_mark_begins none s mended is
 
-  pub turns : LeavesOwnRoom (turned t)
-  turns = turned_if LeavesOwnRoom t (λ none. r) (λ o due. orders o (order_due t o due))
+  pub turns : LeavesOwnRoom aside (turned t)
+  turns = turned_if (LeavesOwnRoom aside) t (λ none. r) (λ o due. orders o (order_due t o due))

@@ -15,7 +15,7 @@ use Rattle.std.proofs.Common.{max, nat_lt}
 use Rattle.ufs_spec.specs.Pages.{greatest_number}
 use Rattle.ufs_spec.specs.Translation.{count_blocks, gains, has_stale, is_bad, is_bad_with_live, is_stale, is_vacant}
 use Rattle.ufs_spec.specs.Translation.{least_of, live_count}
-use Rattle.ufs_spec.specs.Translation.{may_be_victim, own_room, wanted_room}
+use Rattle.ufs_spec.specs.Translation.{has_few_free, is_bad, least_room, may_be_victim, may_go_bad, wanted_room}
 use Rattle.power_loss.specs.Collection.{AreFewFree, CanBeCollected, IsBadWithLive, IsCollectionDue, IsRoomScarce}
 use Rattle.power_loss.specs.Collection.{IsNoneStale, IsVictim}
 use Rattle.power_loss.proofs.jobs_owed.ProgramsAndErases.{free_is}
@@ -204,37 +204,36 @@ live_shown {t} {s} r = and_from (is_bad (t.disk.blocks s) && not (is_pinned t s)
     (and_from (is_bad (t.disk.blocks s)) (not (is_pinned t s)) (ap is_bad r.bad) (ap not r.unpinned))
     (lt-ltb 0 (live_count t s) r.live)
 
-abbrev is_few : Translation → Bool
-is_few t = nat_lt (count_blocks t is_free) (wanted_room t.numbers)
-
 abbrev is_any_bad : Translation → Bool
 is_any_bad t = list_any (is_bad_with_live t) (spots t.numbers)
 
 -- fewer than the greater of two is fewer than one of them
-under_either : (free a b : ℕ) → free < max a b → (free < a) ⊎ (free < b)
-under_either free a b h = grind arith
+under_either : (free a b more : ℕ) → free < max a b + more → (free < a + more) ⊎ (free < b + more)
+under_either free a b more h = grind arith
 
-under_one : (free a b : ℕ) → (free < a) ⊎ (free < b) → free < max a b
-under_one free a b h = grind arith
+under_one : (free a b more : ℕ) → (free < a + more) ⊎ (free < b + more) → free < max a b + more
+under_one free a b more h = grind arith
 
-few_told : (t : Translation) → is_few t ≡ true → AreFewFree t
-few_told t h = under_either (count_blocks t is_free) (2 * t.numbers.dies + 4) (own_room t.numbers + 2)
-    (ltb-true (count_blocks t is_free) (wanted_room t.numbers) h)
+few_told : (t : Translation) → has_few_free t ≡ true → AreFewFree t
+few_told t h = under_either (count_blocks t is_free) (2 * t.numbers.dies + 4) (least_room t.numbers + 2)
+    (may_go_bad t.numbers (count_blocks t is_bad))
+    (ltb-true (count_blocks t is_free) (wanted_room t.numbers (count_blocks t is_bad)) h)
 
-few_shown : (t : Translation) → AreFewFree t → is_few t ≡ true
-few_shown t h = lt-ltb (count_blocks t is_free) (wanted_room t.numbers)
-    (under_one (count_blocks t is_free) (2 * t.numbers.dies + 4) (own_room t.numbers + 2) h)
+few_shown : (t : Translation) → AreFewFree t → has_few_free t ≡ true
+few_shown t h = lt-ltb (count_blocks t is_free) (wanted_room t.numbers (count_blocks t is_bad))
+    (under_one (count_blocks t is_free) (2 * t.numbers.dies + 4) (least_room t.numbers + 2)
+    (may_go_bad t.numbers (count_blocks t is_bad)) h)
 
 scarce_told : (t : Translation) → wants_collection t ≡ true → IsRoomScarce t
 scarce_told t h =
     ⊎_elim (λ k. inl (few_told t k))
     (λ k. let r = any_in (is_bad_with_live t) (spots t.numbers) k in inr (r.0, live_told r.1 r.2))
-    (or_cases (is_few t) (is_any_bad t) h)
+    (or_cases (has_few_free t) (is_any_bad t) h)
 
 scarce_shown : (t : Translation) → IsRoomScarce t → wants_collection t ≡ true
 scarce_shown t r =
-    ⊎_elim (λ k. or_left (is_few t) (is_any_bad t) (few_shown t k))
-    (λ (k : (s : Spot) × IsBadWithLive t s). or_right (is_few t) (is_any_bad t)
+    ⊎_elim (λ k. or_left (has_few_free t) (is_any_bad t) (few_shown t k))
+    (λ (k : (s : Spot) × IsBadWithLive t s). or_right (has_few_free t) (is_any_bad t)
     (in_any (is_bad_with_live t) k.0 (spots t.numbers) (in_spots k.1.inside) (live_shown k.1))) r
 
 -- a free block is still to be erased for what is in it, or none is

@@ -13,7 +13,7 @@ use Rattle.std.proofs.Math.Nat.{lt_of_mul-lt-mul_right}
 use Rattle.std.proofs.lemmas.Grind.{div_ceil_times}
 use Rattle.std.specs.Int.{div_ceil}
 use Rattle.ufs_spec.specs.Translation.{count_blocks, first_of, flies_erase, is_stale, lowest_vacant, next_erase}
-use Rattle.ufs_spec.specs.Translation.{next_flight, next_in, own_room, spots_of}
+use Rattle.ufs_spec.specs.Translation.{next_flight, next_in, own_room, own_room_now, spots_of}
 use Rattle.power_loss.specs.OwnRoom.{IsOwnRoom, IsWaitingStep, OpensBlock}
 use Rattle.power_loss.proofs.collected_blocks.FewestLivePages.{in_any}
 use Rattle.power_loss.proofs.jobs_owed.ProgramsAndErases.{erase_told, next_owed, or_told, program_owed}
@@ -31,8 +31,8 @@ fewest_hold slots pages filled blocks less hold =
     let l = lt_of_mul-lt-mul_right pages more in
     omega (arith, l)
 
-pub own_room_is : (n : Numbers) → 1 ≤ n.pages → IsOwnRoom n (own_room n)
-own_room_is n some =
+pub own_room_is : (n : Numbers) (bad : ℕ) → 1 ≤ n.pages → IsOwnRoom n bad (own_room n bad)
+own_room_is n bad some =
     let bounds = div_ceil_times n.slots n.pages some in
     record {
       filled = div_ceil n.slots n.pages;
@@ -61,9 +61,9 @@ program_later t die p cell h = ⊎_elim (λ k. absurd (apart (erase_told (lowest
     apart e = cc
 
 pub page_room : (t : Translation) (die : ℕ) (p : Place) (cell : Cell) → MayTake t die (Some (Programming p cell)) →
-    IsWaitingStep t cell ⊎ (own_room t.numbers ≤ count_blocks t is_free)
+    IsWaitingStep t cell ⊎ (own_room_now t ≤ count_blocks t is_free)
 page_room t die p cell may = ⊎_elim (λ step. inl step)
-    (λ group. inr (leb-true (own_room t.numbers) (count_blocks t is_free)
+    (λ group. inr (leb-true (own_room_now t) (count_blocks t is_free)
     (room_for t die (waiting_step t t.work.step) (waiting_name t) (program_later t die p cell may.1.1) group.0)))
     (program_owed t die p cell may).is
 
@@ -117,22 +117,22 @@ given_for t die (Programming p cell) may opens =
 given_for t die (Reading reader place) may opens = absurd opens
 
 pub block_room : (t : Translation) (die : ℕ) (flight : Flight) → MayTake t die (Some flight) → OpensBlock t flight →
-    ((cell : Cell) × IsWaitingStep t cell) ⊎ (own_room t.numbers < count_blocks t is_free)
+    ((cell : Cell) × IsWaitingStep t cell) ⊎ (own_room_now t < count_blocks t is_free)
 block_room t die flight may opens = ⊎_elim (λ step. inl (step.0, step.1))
-    (λ group. inr (ltb-true (own_room t.numbers) (count_blocks t is_free) group)) (given_for t die flight may opens)
+    (λ group. inr (ltb-true (own_room_now t) (count_blocks t is_free) group)) (given_for t die flight may opens)
 
 -- What is given below the room
 
 none_open : (t : Translation) (die : ℕ) (flight : Flight) → MayTake t die (Some flight) → OpensBlock t flight →
-    count_blocks t is_free < own_room t.numbers → has_open_block t ≡ false
+    count_blocks t is_free < own_room_now t → has_open_block t ≡ false
 none_open t die flight may opens few =
     ⊎_elim (λ step. by (or_cases (has_room_for_groups t) (not (has_open_block t)) step.2))
-    (λ group. let room = ltb-true (own_room t.numbers) (count_blocks t is_free) group in
+    (λ group. let room = ltb-true (own_room_now t) (count_blocks t is_free) group in
     absurd (omega (arith, room, few)))
     (given_for t die flight may opens)
   where
     by : (has_room_for_groups t ≡ true) ⊎ (not (has_open_block t) ≡ true) → has_open_block t ≡ false
-    by (inl room) = let enough = leb-true (own_room t.numbers) (count_blocks t is_free) room in
+    by (inl room) = let enough = leb-true (own_room_now t) (count_blocks t is_free) room in
         absurd (omega (arith, enough, few))
     by (inr closed) = not-true (has_open_block t) closed
 
@@ -162,13 +162,13 @@ erased_open t die s there job =
     (ap flies_erase job))
 
 pub none_filled : (t : Translation) (die : ℕ) (flight : Flight) (opened : Spot) (next : ℕ) →
-    MayTake t die (Some flight) → OpensBlock t flight → count_blocks t is_free < own_room t.numbers →
+    MayTake t die (Some flight) → OpensBlock t flight → count_blocks t is_free < own_room_now t →
     IsSpot t.numbers opened → t.disk.blocks opened ≡ Filling next → ⊥
 none_filled t die flight opened next may opens few inside filling =
     false≢true (sym (none_open t die flight may opens few) ∙ filled_open t opened next inside filling)
 
 pub none_erased : (t : Translation) (die other : ℕ) (flight : Flight) (opened : Spot) → MayTake t die (Some flight) →
-    OpensBlock t flight → count_blocks t is_free < own_room t.numbers → other < t.numbers.dies →
+    OpensBlock t flight → count_blocks t is_free < own_room_now t → other < t.numbers.dies →
     t.disk.flights other ≡ Some (Erasing opened) → ⊥
 none_erased t die other flight opened may opens few there job =
     false≢true (sym (none_open t die flight may opens few) ∙ erased_open t other opened there job)

@@ -13,7 +13,7 @@ use Rattle.power_loss.proofs.MachineWords.{State, mended, Event, Output, IsArray
 use Rattle.power_loss.proofs.MachineWords.{ValidState}
 use Rattle.ufs_laws.proofs.walk.SmallChanges.{Accepts, Change, IsSmallMove, Moves, changed, first, job_over, kept}
 use Rattle.ufs_laws.proofs.walk.SmallChanges.{observed, small_quiet}
-use Rattle.ufs_spec.specs.Translation.{count_blocks, own_room}
+use Rattle.ufs_spec.specs.Translation.{count_blocks, least_room}
 use Rattle.ufs_spec.specs.declared.events.Event.TheVariants as event
 use Rattle.power_loss.specs.MendingRoom.{HasRoom, MayGoOn, fails_job, makes_bad}
 use Rattle.power_loss.proofs.calls.CallsKeepTied.{call_right}
@@ -27,7 +27,7 @@ use Rattle.power_loss.proofs.jobs.EndsOfJobs.{cells_left}
 use Rattle.power_loss.proofs.Common.{if◌then◌else◌}
 use Rattle.power_loss.proofs.MachineWords.{IsTied, Leftover, MayCome, MayLeave}
 use Rattle.std.specs.List.{count_by}
-use Rattle.power_loss.proofs.room_to_mend.RoomInBlocks.{opening_alone, opening_room, own_room_mends}
+use Rattle.power_loss.proofs.room_to_mend.RoomInBlocks.{opening_alone, opening_room, least_room_mends}
 
 -- What a call does first
 
@@ -176,11 +176,11 @@ module _ (n : Numbers) (array : Array) (bad : Spot → Bool) (s t : State) (es :
   device_goes_on room = with_room n array bad s t es os config blank sound opened
       (opening_room n opened.cells bad s.translation lost (count_by makes_bad es) opened.translation are room)
 
-  pub device_with_own_room : length lost ≤ n.slots →
-      own_room n - n.dies + count_by makes_bad es ≤ count_blocks s.translation is_free →
+  pub device_with_least_room : length lost ≤ n.slots →
+      least_room n - n.dies + count_by makes_bad es ≤ count_blocks s.translation is_free →
       Life s es os t → mended t ≡ false → MayGoOn t.translation
-  device_with_own_room few free = with_room n array bad s t es os config blank sound opened
-      (own_room_mends n opened.cells bad s.translation lost (count_by makes_bad es) some opened.translation are few
+  device_with_least_room few free = with_room n array bad s t es os config blank sound opened
+      (least_room_mends n opened.cells bad s.translation lost (count_by makes_bad es) some opened.translation are few
       free)
     where
       some : 1 ≤ n.pages

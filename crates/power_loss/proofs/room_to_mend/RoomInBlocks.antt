@@ -12,7 +12,7 @@ use Rattle.std.specs.List.{count_by, sum_by}
 use Rattle.std.proofs.Math.Nat.{mul-le-mul_left}
 use Rattle.std.proofs.lemmas.Grind.{div_ceil_times}
 use Rattle.std.specs.Int.{div_ceil}
-use Rattle.ufs_spec.specs.Translation.{count_blocks, own_room}
+use Rattle.ufs_spec.specs.Translation.{count_blocks, least_room}
 use Rattle.power_loss.specs.MendingRoom.{HasRoom, IsOffFree, MendsAlone, page_of_step, page_room}
 use Rattle.power_loss.proofs.lives.LostKeys.{turns_at_opening}
 use Rattle.power_loss.proofs.ordered_lists.ElementsAndOrders.{IsIn, IsOrdered, spots_ordered}
@@ -188,15 +188,15 @@ enough pages slots d filled some hold =
     rw e (omega (arith, some, hold))
 
 -- less one block for each die, it holds the repairs of a full cache and two marks
-pub cache_fits : (n : Numbers) → 1 ≤ n.pages → n.slots + 2 ≤ n.pages * (own_room n - n.dies)
+pub cache_fits : (n : Numbers) → 1 ≤ n.pages → n.slots + 2 ≤ n.pages * (least_room n - n.dies)
 cache_fits n some =
     enough n.pages n.slots n.dies (div_ceil n.slots n.pages) some (div_ceil_times n.slots n.pages some).0
 
 -- so an opening that finds no less of it free has room for as many keys, and each block more may become bad
-pub own_room_mends : (n : Numbers) (c : Cells) (bad : Spot → Bool) (t : Translation) (lost : List Key) (failures : ℕ) →
+pub least_room_mends : (n : Numbers) (c : Cells) (bad : Spot → Bool) (t : Translation) (lost : List Key) (failures : ℕ) →
     1 ≤ n.pages → IsOpenedTranslation n c bad t → AreLost c t.ledger.first_lost t.ledger.greatest_seen lost →
-    length lost ≤ n.slots → own_room n - n.dies + failures ≤ count_blocks t is_free → HasRoom failures t
-own_room_mends n c bad t lost failures some o x few free =
+    length lost ≤ n.slots → least_room n - n.dies + failures ≤ count_blocks t is_free → HasRoom failures t
+least_room_mends n c bad t lost failures some o x few free =
     let left = cache_fits n some in
     let more = mul-le-mul_left n.pages free in
     opening_room n c bad t lost failures o x (omega (arith, left, more, few))

@@ -6,20 +6,20 @@ use Rattle.power_loss.proofs.MachineWords.{DieState, IsArrayOf, IsConfig, IsLive
 use Rattle.power_loss.proofs.MachineWords.{array_of, Event, Output, State, mended}
 use Rattle.std.specs.List.{count_by}
 use Rattle.ufs_spec.specs.Lives.{bad_of}
-use Rattle.ufs_spec.specs.Translation.{count_blocks, own_room}
+use Rattle.ufs_spec.specs.Translation.{count_blocks, least_room}
 use Rattle.power_loss.specs.FewRepairs.{ArrayHasFewLost, still_lost}
 use Rattle.power_loss.specs.MendingRoom.{IsNeverStuck, MayGoOn, makes_bad}
 use Rattle.power_loss.specs.Runs.{AreNewDies}
 use Rattle.power_loss.proofs.repaired_keys.LivesMendSoon.{each_life, each_life_of_a_run, few_keys, listed}
-use Rattle.power_loss.proofs.room_to_mend.DevicesWithRoom.{device_with_own_room}
+use Rattle.power_loss.proofs.room_to_mend.DevicesWithRoom.{device_with_least_room}
 
 pub few_lost_go_on : (n : Numbers) (array : Array) (bad : Spot → Bool) (s t : State) (es : List Event)
     (os : List Output) → IsConfig n → IsArrayOf n array → Sound array → ArrayHasFewLost n array →
-    IsOpened n array bad s → own_room n - n.dies + count_by makes_bad es ≤ count_blocks s.translation is_free →
+    IsOpened n array bad s → least_room n - n.dies + count_by makes_bad es ≤ count_blocks s.translation is_free →
     Life s es os t → mended t ≡ false → MayGoOn t.translation
 few_lost_go_on n array bad s t es os config blank sound few o free life un =
     let w = s.translation.work.mending in
-    device_with_own_room n array bad s t es os (still_lost w) config blank sound o
+    device_with_least_room n array bad s t es os (still_lost w) config blank sound o
     (listed n s.translation.ledger.newest w o.translation.mending) (few_keys n array bad s few o) free life un
 
 never_stuck : (n : Numbers) (array : Array) (bad : Spot → Bool) (l : Lived) → IsConfig n → IsArrayOf n array →

@@ -1,4 +1,4 @@
-use Rattle.power_loss.proofs.room_to_mend.RoomInBlocks.{cache_fits, opening_alone, opening_room, own_room_mends}
+use Rattle.power_loss.proofs.room_to_mend.RoomInBlocks.{cache_fits, opening_alone, opening_room, least_room_mends}
 use Rattle.power_loss.proofs.room_to_mend.LivesWithRoom.{layer_goes_on, moves_keep_room}
 use Rattle.power_loss.proofs.room_to_mend.OwedWhileMending.{goes_on}
 use Rattle.power_loss.proofs.room_to_mend.RoomOfFailures.{each_move}
@@ -22,8 +22,8 @@ returns-clause-life c = layer_goes_on
 pub returns-clause-goes_on : goal.returns-clause-goes_on
 returns-clause-goes_on c = goes_on
 
-pub returns-clause-own_room : goal.returns-clause-own_room
-returns-clause-own_room c = own_room_mends
+pub returns-clause-least_room : goal.returns-clause-least_room
+returns-clause-least_room c = least_room_mends
 
 pub returns-clause-cache : goal.returns-clause-cache
 returns-clause-cache c = cache_fits
