@@ -381,7 +381,7 @@ class World:
             return CHECK, NO_FIELD
         if moves and it.address + count > self.units[it.unit][0]:
             return CHECK, OUT_OF_RANGE
-        if code not in (SENSE, CAPACITY, INQUIRY, LUNS):
+        if code == READY or code not in (SENSE, CAPACITY, INQUIRY, LUNS) and not self.locked():
             self.knows_mended()
             if not self.mended:
                 return is_bad(2, 0x04, 1)

@@ -34,9 +34,8 @@ with_event d k e = record d { tasks = task_happened d.tasks k e (slice_get d.tas
 
 -- A task begins
 
--- a READ of a mended device looks these addresses up, and keeps nothing else
+-- a READ looks these addresses up, and keeps nothing else
 pub record MayKeep (t : Translation) (tag : ℕ) (key : Key) (blocks : ℕ) : Type 0 where
-  pub mended : is_mended t.work.mending ≡ true
   pub of_data : key.kind ≡ 1
   pub there : (i : ℕ) → i < blocks → IsKey (shape_of_numbers t.numbers) (key_behind key i)
   pub new : list_any (keeps_for tag) t.pins ≡ false
@@ -94,6 +93,11 @@ held_phase size taken = if taken == 0 then phase.Answer status.Good size else ph
 abbrev pub last_number : Ledger → ℕ
 last_number l = next_number l - 1
 
+-- how far a flush is that begins: before the device is mended nothing was accepted, and nothing is waited for
+abbrev pub flush_phase : Translation → Phase
+flush_phase t =
+    if is_mended t.work.mending then phase.AwaitFrontier (last_number t.ledger) 0 else phase.Answer status.Good 0
+
 -- how far a task is that begins what was planned for it, and the layer then
 abbrev pub HasBegun : Core → Translation → Claims → ℕ → Result Plan Status → Phase → Type 0
 HasBegun after t claims tag (Ok (plan.Read key blocks size)) p = HasKept after t claims tag key blocks size p
@@ -109,7 +113,7 @@ HasBegun after t claims tag (Ok (plan.TakeFrames region size taken)) p =
 HasBegun after t claims tag (Ok (plan.Tell told size taken)) p =
     (p ≡ held_phase size taken) × IsLayerWith after t claims
 HasBegun after t claims tag (Ok plan.Flush) p =
-    (p ≡ phase.AwaitFrontier (last_number t.ledger) 0) × IsLayerWith after t claims
+    (p ≡ flush_phase t) × IsLayerWith after t claims
 
 -- Blocks come
 

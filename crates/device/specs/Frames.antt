@@ -1,6 +1,6 @@
 -- Frames of the RPMB: what is decided of those that a SECURITY PROTOCOL OUT brought, what a request leaves in the
 -- registers, and what a SECURITY PROTOCOL IN takes from them (JESD220, 12.4).
-use Rattle.std.specs.Prelude.{◌≡◌, ◌≢◌, ℕ, ◌+◌, ◌-◌, ◌*◌, ◌<◌, ◌≤◌, ◌&&◌, min, nat_le, Bool, true, false}
+use Rattle.std.specs.Prelude.{◌≡◌, ◌≢◌, ℕ, ◌+◌, ◌-◌, ◌*◌, ◌<◌, ◌≤◌, ◌&&◌, min, nat_le, Bool, true, false, ◌||◌, not}
 use Rattle.std.specs.Prelude.{if◌then◌else◌, List, [], ◌∷◌, ◌++◌, find, option_map}
 use Rattle.std.specs.List.{list_any}
 use Rattle.std.specs.Prelude.{drop, fold, length, map, position, replicate, slice_get, take, Option, Some, None}
@@ -11,8 +11,8 @@ use Rattle.ufs_spec.specs.FrameRequests.{first_page, pages_named, reads_area}
 use Rattle.ufs_spec.specs.Frames.{Frame}
 use Rattle.ufs_spec.specs.Identities.{inquiry_bytes, luns_bytes}
 use Rattle.ufs_spec.specs.Keys.{IsCommand, IsKey, IsPlain, area_key, below, content, group_of}
-use Rattle.ufs_spec.specs.Ledger.{all_contents, look, next_number}
-use Rattle.ufs_spec.specs.Moves.{Accept, IsAllowedMove, Keep, LetGoAll, Move, Release, is_pin_of, moved}
+use Rattle.ufs_spec.specs.Ledger.{all_contents, next_number}
+use Rattle.ufs_spec.specs.Moves.{Accept, IsAllowedMove, Keep, LetGoAll, Move, Release, is_pin_of, moved, look_now}
 use Rattle.ufs_spec.specs.Plain.{CanApply, Plain, region_of, regions, shape_of_numbers, zero_block}
 use Rattle.ufs_spec.specs.Rpmb.{Region, applied, rpmb_outcome}
 use Rattle.ufs_spec.specs.RpmbResponses.{emptied_by, filled_with, with_reads}
@@ -136,7 +136,7 @@ abbrev pub area_keeps : Translation → (tag region : ℕ) → Frame → List Mo
 area_keeps t tag region f =
     map
     (λ i. Keep (area_key region (first_page f + i))
-    (record { tag = tag; index = i; looked = look t.ledger (area_key region (first_page f + i)); wanted = true }))
+    (record { tag = tag; index = i; looked = look_now t (area_key region (first_page f + i)); wanted = true }))
     (below (pages_named f))
 
 -- the moves of a request without a command
@@ -147,7 +147,6 @@ answer_moves t tag region (f ∷ fs) code = if reads_area f code then area_keeps
 -- the reader may keep the pages in which the blocks lie that this frame asks for: it keeps nothing yet, they are pages
 -- of the area, one or two, and there is room for two, as no block is kept twice
 pub record MayKeepArea (t : Translation) (tag region : ℕ) (f : Frame) : Type 0 where
-  pub mended : is_mended t.work.mending ≡ true
   pub some : 1 ≤ f.count
   pub few : f.count ≤ 8
   pub keys : (i : ℕ) → i < pages_named f → IsKey (shape_of_numbers t.numbers) (area_key region (first_page f + i))
@@ -245,14 +244,15 @@ HasDone before after tag index region bytes (outcome.Results code what) =
     HasRequested before after tag index region bytes code what
 
 -- the frames are decided by key, counter and registers of the region to which the task at this position brings them, as
--- they stand, and by the lock
+-- they stand, and by whether anything can be accepted
 pub record HasDecided (before after : DeviceCore) (tag index : ℕ) (bytes : List ℕ) : Type 0 where
   pub outcome : Outcome
   pub task : OpenTask
   pub there : slice_get before.tasks index ≡ Some task
   pub outcome_is : (t : Translation) (region : Region) → Describes before.ftl t → task.region < regions →
       IsKept (machine_at before.rpmb task.region).region region →
-      rpmb_outcome task.region region (machine_at before.rpmb task.region).registers (is_locked t) (frames_of bytes)
+      rpmb_outcome task.region region (machine_at before.rpmb task.region).registers
+      (is_locked t || not (is_mended t.work.mending)) (frames_of bytes)
       ≡ outcome_of task.region (frames_of bytes) outcome
   pub done : HasDone before after tag index task.region bytes outcome
 

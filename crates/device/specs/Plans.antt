@@ -10,7 +10,7 @@ use Rattle.ufs_spec.specs.Keys.{data_key}
 use Rattle.ufs_spec.specs.Machine.{IsCdbIn}
 use Rattle.ufs_spec.specs.Plain.{regions}
 use Rattle.ufs_spec.specs.Refusals.{Line, Request, State, has_other_response, is_crowded, is_refused_write}
-use Rattle.ufs_spec.specs.Refusals.{lacks_response, line, mended, needs_mended, numbers_of, operation_in, refusal}
+use Rattle.ufs_spec.specs.Refusals.{is_unready, lacks_response, line, numbers_of, operation_in, refusal}
 use Rattle.ufs_spec.specs.Refusals.{units_listed}
 use Rattle.ufs_spec.specs.declared.configs.Numbers.{Numbers}
 use Rattle.ufs_spec.specs.declared.configs.UnitSpec.{UnitSpec}
@@ -46,7 +46,7 @@ IsOfRegion command = Unit {0}
 -- lines 8 to 11, which depend on what the device is now
 abbrev pub lines_now : State → Option UnitSpec → Cdb → List Line
 lines_now s unit command =
-    line (needs_mended (operation_of command) && not (mended s)) not_ready
+    line (is_unready s (operation_of command)) not_ready
     ∷ line (is_refused_write s unit command) write_protected
     ∷ line (lacks_response s command) sequence_error
     ∷ line (has_other_response s command) invalid_field

@@ -9,6 +9,8 @@ ghost use Rattle.ufs_spec.specs.Replies.{is_at_hand};
 ghost use Rattle.ufs_spec.specs.Translation.{Translation, is_mended};
 ghost use Rattle.power_loss.specs.Book.{book};
 ghost use Rattle.power_loss.specs.Invariant.{LookedRight};
+ghost use Rattle.ufs_spec.specs.declared.layer.Looked.TheVariants.{InSlot};
+ghost use Rattle.ufs_spec.specs.declared.layer.Name.{Name};
 ghost use Rattle.ftl_core.specs.Public.{Claims, Describes as IsLayer};
 ghost use Rattle.device.specs.Frames.{HasKeptArea, area_data, data_for, is_page_there};
 ghost use Rattle.device.specs.Frames.{is_second_there, part_read, second_part};
@@ -147,7 +149,8 @@ impl Device {
     /// What was looked up, where it needs no read: it is in a slot that has its content, or was
     /// never written.
     fn block_there(&self, looked: Looked) -> Option<&Block>
-        ensures { (t : Translation) → IsLayer self.now.ftl t → is_mended t.work.mending ≡ true →
+        ensures { (t : Translation) → IsLayer self.now.ftl t →
+            ((name : Name) → looked ≡ InSlot name → is_mended t.work.mending ≡ true) →
             LookedRight (book t) t.ledger.frontier t.disk.cells t.disk.finished t.disk.erasing
             looked →
             option_copied result ≡ block_at t.work.rests t.ledger None looked }

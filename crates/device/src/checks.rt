@@ -1,16 +1,16 @@
 //! The checks of a command, in the order in which the first that applies ends it.
-ghost use Rattle.std.specs.Prelude.{◌≡◌, ◌≤◌, ℕ, ◌*◌, ◌&&◌, false, not, option_map, IfErr, IfOk, IsOk, None};
+ghost use Rattle.std.specs.Prelude.{◌≡◌, ◌≤◌, ℕ, ◌*◌, ◌==◌, ◌&&◌, false, not, option_map, IfErr, IfOk, IsOk, None};
 ghost use Rattle.std.specs.Prelude.{Some};
 ghost use Rattle.ufs_spec.specs.Configs.{command_blocks};
 ghost use Rattle.ufs_spec.specs.Plain.{greatest_command};
 ghost use Rattle.ufs_spec.specs.Translation.{Translation};
-ghost use Rattle.ufs_spec.specs.Cdbs.{address_of, blocks_of, direction_of, operation_of};
+ghost use Rattle.ufs_spec.specs.Cdbs.{address_of, blocks_of, direction_of, operation_of, test_unit_ready};
 ghost use Rattle.ufs_spec.specs.Cdbs.{length_of as length_of_command};
 ghost use Rattle.ufs_spec.specs.Refusals.{Request, State, first_line, flushes, has_other_response};
 ghost use Rattle.ufs_spec.specs.Refusals.{has_wrong_list};
 ghost use Rattle.ufs_spec.specs.Refusals.{is_crowded, is_frames, is_past, is_protected, is_refused_write};
 ghost use Rattle.ufs_spec.specs.Refusals.{is_too_long, lacks_data, lacks_region, lacks_response, lines_for};
-ghost use Rattle.ufs_spec.specs.Refusals.{mended};
+ghost use Rattle.ufs_spec.specs.Refusals.{is_ready_for, is_unready};
 ghost use Rattle.ufs_spec.specs.Refusals.{needs_mended, numbers_of, slots_needed, unit_numbers_of, units_listed};
 ghost use Rattle.ufs_spec.specs.Refusals.{writes};
 ghost use Rattle.ufs_spec.specs.Keys.{data_key};
@@ -132,7 +132,7 @@ fn is_out_of_range(cdb: &Cdb, unit: Option<UnitSpec>) -> bool
     }
 }
 
-/// Whether the command is taken only once the device is mended: all but those that tell of the device
+/// Whether the command is taken only once the device is ready for it: all but those that tell of the device
 /// and of its units.
 fn needs_mended(cdb: &Cdb) -> bool
     ensures { result ≡ needs_mended (operation_of cdb.now) }
@@ -144,6 +144,13 @@ fn needs_mended(cdb: &Cdb) -> bool
             | Cdb::Inquiry { .. }
             | Cdb::ReportLuns { .. }
     )
+}
+
+/// Whether the command asks if the device is ready.
+fn tests_unit(cdb: &Cdb) -> bool
+    ensures { result ≡ (operation_of cdb.now == test_unit_ready) }
+{
+    matches!(cdb, Cdb::TestUnitReady)
 }
 
 /// Whether the command changes blocks: a WRITE of some, or an UNMAP whose list has a descriptor.
@@ -418,12 +425,21 @@ impl Device {
         None
     }
 
-    /// Whether the command is taken only once the device is mended, and it is not.
+    /// Whether the command is taken only once the device is ready for it, and it is not.
     fn is_too_early(&self, cdb: &Cdb) -> bool
         ensures { (s : State) → IsLayer self.now.ftl s.translation →
-            result ≡ needs_mended (operation_of cdb.now) && not (mended s) }
+            result ≡ is_unready s (operation_of cdb.now) }
     {
-        needs_mended(cdb) && !self.ftl.is_mended()
+        needs_mended(cdb) && !self.is_ready_for(cdb)
+    }
+
+    /// Whether the device is ready for the command: once it is mended, and, but for TEST UNIT READY, also
+    /// if it is locked.
+    fn is_ready_for(&self, cdb: &Cdb) -> bool
+        ensures { (s : State) → IsLayer self.now.ftl s.translation →
+            result ≡ is_ready_for s (operation_of cdb.now) }
+    {
+        self.ftl.is_mended() || (!tests_unit(cdb) && self.ftl.is_locked())
     }
 
     /// Whether it asks for the response to a request, and none waits.

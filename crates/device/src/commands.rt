@@ -1,7 +1,7 @@
 //! Messages of the host: a COMMAND opens a task, a DATA OUT brings what a task asked for.
 ghost use Rattle.std.specs.Prelude.{◌≡◌, ◌<◌, ◌≤◌, length, ◌∷◌, ◌++◌, []};
 ghost use Rattle.std.specs.Prelude.{IfSome, OnErr, OnOk};
-ghost use Rattle.device.specs.Calls.{HasBegun, HasClaimed, HasGathered, HasKept, HasTaken};
+ghost use Rattle.device.specs.Calls.{HasBegun, HasClaimed, HasGathered, HasKept, HasTaken, flush_phase};
 ghost use Rattle.device.specs.Hears.{HasBlock, HasCome, HasLength, IsDataHeard, IsTaskOpened, asked_for};
 ghost use Rattle.device.specs.Hears.{short_answer, with_event, uses, with_short, with_task};
 ghost use Rattle.task_set.specs.Kept.{newly_open};
@@ -12,7 +12,7 @@ ghost use Rattle.std.specs.Prelude.{ℕ, List, nat_le};
 ghost use Rattle.arrayvec.specs.ArrayVec.{ArrayVec};
 ghost use Rattle.ufs_spec.specs.Messages.{Spells, host_fault_of};
 ghost use Rattle.ufs_spec.specs.Translation.{Translation};
-ghost use Rattle.ftl_core.specs.Public.{Claims};
+ghost use Rattle.ftl_core.specs.Public.{Claims, Describes as IsLayer};
 ghost use Rattle.device.specs.Kept.{IsLayerWith};
 ghost use Rattle.device.specs.Queries.{at_once};
 ghost use Rattle.ufs_spec.specs.declared.Message.{Message};
@@ -220,11 +220,22 @@ impl Device {
                     taken,
                 },
             ) => held_phase(length, taken),
-            Ok(Plan::Flush) => Phase::AwaitFrontier {
+            Ok(Plan::Flush) => self.begin_flush(),
+            Err(status) => Phase::Answer { status, length: 0 },
+        }
+    }
+
+    /// A flush waits for the last command that was accepted. Before the device is mended there is none.
+    fn begin_flush(&self) -> Phase
+        ensures { (t : Translation) → IsLayer self.now.ftl t → result ≡ flush_phase t }
+    {
+        if self.ftl.is_mended() {
+            Phase::AwaitFrontier {
                 number: self.ftl.last_number(),
                 length: 0,
-            },
-            Err(status) => Phase::Answer { status, length: 0 },
+            }
+        } else {
+            Phase::good(0)
         }
     }
 

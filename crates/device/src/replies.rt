@@ -11,6 +11,7 @@ ghost use Rattle.ufs_spec.specs.Translation.{Translation, is_mended};
 ghost use Rattle.ufs_spec.specs.declared.layer.Looked.TheVariants.{InSlot};
 ghost use Rattle.power_loss.specs.Book.{book};
 ghost use Rattle.power_loss.specs.Invariant.{LookedRight};
+ghost use Rattle.ufs_spec.specs.declared.layer.Name.{Name};
 ghost use Rattle.ftl_core.specs.Public.{AreClaimed, Claims, Describes as IsLayer};
 ghost use Rattle.device.specs.Kept.{IsLayerWith};
 ghost use Rattle.task_set.specs.declared.tasks.Short.{Short};
@@ -192,7 +193,8 @@ impl Device {
     /// The block that the task at this position looked up, once it is there.
     fn block_looked(&self, index: usize, looked: Looked) -> Option<&Block>
         requires { index < length self.now.tasks }
-        ensures { (t : Translation) → IsLayer self.now.ftl t → is_mended t.work.mending ≡ true →
+        ensures { (t : Translation) → IsLayer self.now.ftl t →
+            ((name : Name) → looked ≡ InSlot name → is_mended t.work.mending ≡ true) →
             LookedRight (book t) t.ledger.frontier t.disk.cells t.disk.finished t.disk.erasing looked →
             option_copied result ≡ block_at t.work.rests t.ledger (read_at self.now.tasks index) looked }
     {

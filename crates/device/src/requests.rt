@@ -1,11 +1,11 @@
 //! The frames of a SECURITY PROTOCOL OUT: what is decided of them, and what answers them
 //! (JESD220, 12.4).
-ghost use Rattle.std.specs.Prelude.{◌≡◌, ◌≤◌, ◌<◌, ℕ, IfSome, Some, length, option_copied};
+ghost use Rattle.std.specs.Prelude.{◌≡◌, ◌≤◌, ◌<◌, ◌||◌, ℕ, IfSome, IsTrue, Some, false, length, not, option_copied};
 ghost use Rattle.std.specs.Prelude.{slice_get};
 ghost use Rattle.ufs_spec.specs.Exchanges.{CheckCondition};
 ghost use Rattle.ufs_spec.specs.Moves.{LetGoAll, moved};
-ghost use Rattle.ufs_spec.specs.Translation.{Translation};
-ghost use Rattle.ftl_core.specs.Public.{Claims, Describes as IsLayer};
+ghost use Rattle.ufs_spec.specs.Translation.{Translation, is_locked, is_mended};
+ghost use Rattle.ftl_core.specs.Public.{Claims, Describes as IsLayer, has_number};
 ghost use Rattle.device.specs.Calls.{HasClaimedFrames, held_phase, with_event};
 ghost use Rattle.device.specs.Frames.{HasAnswered, HasDecided, HasFilled, HasRefused, HasRequested};
 ghost use Rattle.device.specs.Frames.{HasResponded, IsDecided, data_for, frames_brought, region_brought};
@@ -164,14 +164,23 @@ impl Device {
         requires few { length frames.now ≤ 4096 }
         ensures { HasDecided self.old self.new tag index frames.now }
     {
-        let is_locked = self.ftl.is_locked();
+        let accepts_nothing = self.accepts_nothing();
         let region = self.set.task(index).region;
-        match self.rpmb.out(region, frames, is_locked) {
+        match self.rpmb.out(region, frames, accepts_nothing) {
             Outcome::Refused(why) => self.refuse_frames(index, tag, why.sense()),
             Outcome::Results { result, accepted } => {
                 self.begin_request(index, tag, region, frames, result, &accepted);
             }
         }
+    }
+
+    /// Whether nothing can be accepted now: the device is locked, or not mended yet.
+    fn accepts_nothing(&self) -> bool
+        ensures described { (t : Translation) → IsLayer self.now.ftl t →
+            result ≡ is_locked t || not (is_mended t.work.mending) }
+        ensures numbered { result ≡ false → IsTrue (has_number self.now.ftl) }
+    {
+        self.ftl.is_locked() || !self.ftl.is_mended()
     }
 
     /// The frames are refused with this sense, and change nothing.

@@ -198,6 +198,12 @@ IsLookOf frontier entries k Unwritten = Unit {0}
 IsLookOf frontier entries k (InSlot name) = (frontier < name.number) × IsNameOf entries k name
 IsLookOf frontier entries k (OnPage name place) = IsNameOf entries k name
 
+-- what was looked up is in no slot
+abbrev pub IsInNoSlot : Looked → Type 0
+IsInNoSlot Unwritten = Unit {0}
+IsInNoSlot (InSlot name) = ⊥
+IsInNoSlot (OnPage name place) = Unit {0}
+
 -- what is kept of one block of a reader: what was looked up when its READ came, and whether its page is still wanted
 pub record PinKept (frontier : ℕ) (entries : Name → Option Entry) (p : Pin) (q : layer.Pin) : Type 0 where
   pub tag : q.tag ≡ p.reader
@@ -326,8 +332,8 @@ pub record Kept (c : Core) (t : Translation) : Type 0 where
   pub differ : ReadersDiffer c.pins
   pub reads : ReadsKept t.disk.flights c.pins
   pub step_reads : StepReadsKept t.disk.flights c.step
-  -- readers keep something only once the device is mended
-  pub readers : is_mended t.work.mending ≡ false → c.pins ≡ []
+  -- readers keep slots only once the device is mended
+  pub readers : is_mended t.work.mending ≡ false → All (λ (p : Pin). IsInNoSlot p.looked) c.pins
 
 -- a copy whose page is still to be read
 abbrev pub copying : Name → Place → Step

@@ -3,8 +3,8 @@ use Rattle.std.specs.Prelude.{◌≡◌, ℕ, ◌+◌, ◌==◌, ◌||◌, Bool,
 use Rattle.std.specs.Prelude.{find, length, map, slice_get, Some}
 use Rattle.std.specs.List.{list_any}
 use Rattle.ufs_spec.specs.Keys.{Group, Item, below}
-use Rattle.ufs_spec.specs.Ledger.{all_contents, look}
-use Rattle.ufs_spec.specs.Moves.{Keep, Move, is_pin_of}
+use Rattle.ufs_spec.specs.Ledger.{all_contents}
+use Rattle.ufs_spec.specs.Moves.{Keep, Move, is_pin_of, look_now}
 use Rattle.ufs_spec.specs.Translation as layer
 use Rattle.ufs_spec.specs.Translation.{FromPage, Translation, is_in_part}
 use Rattle.ufs_spec.specs.declared.flash.Key.{Key}
@@ -56,7 +56,7 @@ key_behind k i = record { kind = k.kind; unit = k.unit; address = k.address + i 
 abbrev pub keep_at : Translation → ℕ → Key → Bool → ℕ → Move
 keep_at t reader k all i =
     Keep (key_behind k i)
-    (record { tag = reader; index = i; looked = look t.ledger (key_behind k i); wanted = all || (i == 0) })
+    (record { tag = reader; index = i; looked = look_now t (key_behind k i); wanted = all || (i == 0) })
 
 -- the moves by which a reader keeps so many blocks, from an address on: the first is wanted
 abbrev pub keeps_of : Translation → ℕ → Key → ℕ → List Move

@@ -1,5 +1,5 @@
 //! The translation layer and its calls.
-ghost use Rattle.std.specs.Prelude.{◌≡◌, ℕ, ◌<◌, ◌≤◌, ◌+◌, length, IsTrue, IfOk, IsSome, nat_le, nat_lt, ◌-◌, [], if◌then◌else◌, map, None, true, option_copied, replicate, Bool, false, find, option_map, fold, List, take};
+ghost use Rattle.std.specs.Prelude.{◌≡◌, ℕ, ◌<◌, ◌≤◌, ◌+◌, length, IsTrue, IfOk, IsSome, Some, nat_le, nat_lt, ◌-◌, [], if◌then◌else◌, map, None, true, option_copied, replicate, Bool, false, find, option_map, fold, List, take};
 ghost use Rattle.std.specs.List.{list_any};
 ghost use Rattle.ftl_core.specs.Moves.{accepted, first_fence, first_mending, is_own};
 ghost use Rattle.ftl_core.specs.Moves.{is_over, mark_number_behind, opened, state_of_found};
@@ -8,6 +8,8 @@ ghost use Rattle.ftl_core.specs.Moves.{claims_for, claimed_all, released, releas
 ghost use Rattle.ufs_spec.specs.Ledger.{next_number as next_of_layer, Entry, before_accepted, entry_of};
 ghost use Rattle.ufs_spec.specs.Moves.{Accept, Acknowledge, Claim, IsAllowedMove, LetGo, LetGoAll, Release, WantPage, moved, is_pin_of as is_layer_pin_of};
 ghost use Rattle.ufs_spec.specs.Pages.{greatest_number};
+ghost use Rattle.ufs_spec.specs.declared.layer.Looked.TheVariants.{InSlot};
+ghost use Rattle.ufs_spec.specs.declared.layer.Name.{Name};
 ghost use Rattle.ufs_spec.specs.Plain.{zero_block};
 ghost use Rattle.ufs_spec.specs.Translation.{Translation, free_slots as layer_slots, is_live as is_live_page, is_locked as is_layer_locked, is_mended, is_rest_of, has_pending};
 ghost use Rattle.ufs_spec.specs.Cells.{AreWithin, Cells};
@@ -562,9 +564,9 @@ impl Ftl {
         ensures core { result ≡ looked_by reader index self.now.pins }
         ensures described { (t : Translation) → Describes self.now t →
             result ≡ option_map looked_of (find (is_layer_pin_of reader index) t.pins) }
-        // Readers keep something only once the device is mended.
-        ensures described_mended { (t : Translation) → Describes self.now t → IsSome result →
-            is_mended t.work.mending ≡ true }
+        // Readers keep slots only once the device is mended.
+        ensures described_mended { (t : Translation) (name : Name) → Describes self.now t →
+            result ≡ Some (InSlot name) → is_mended t.work.mending ≡ true }
         // What readers keep is there: a page that opens, or a page of a group that is not durable.
         ensures described_there { (t : Translation) → Describes self.now t → PinsRight (book t) t.ledger.frontier
             t.disk.cells t.disk.finished t.disk.erasing t.pins }

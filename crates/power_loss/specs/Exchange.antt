@@ -63,17 +63,18 @@ abbrev pub AwaitsFit : ℕ → Bool → ℕ → Type 0
 AwaitsFit accepted mended commands = (commands ≤ accepted) × (mended ≡ true)
 
 -- an UNMAP that gathers its list, of 8 bytes or of 24, is for a unit that is there, and has less than its length. With
--- a list of 24 bytes it has claimed a slot for each block that a command may have, with one of 8 bytes none
+-- a list of 24 bytes it has claimed a slot for each block that a command may have, and is there once the device is
+-- mended alone. One of 8 bytes claims none, and changes no block
 pub record UnmapFits (n : Numbers) (mended : Bool) (unit total : ℕ) (gathered : List ℕ) (claimed : ℕ) : Type 0 where
   pub unit_in : unit < length n.units.items
   pub list : ((total ≡ 8) × (claimed ≡ 0)) ⊎ ((total ≡ 24) × (claimed ≡ command_blocks n))
   pub short : length gathered < total
   pub bytes : AreBytes gathered
-  pub is_mended : mended ≡ true
+  pub is_mended : total ≡ 24 → mended ≡ true
 
 -- a SECURITY PROTOCOL OUT that gathers its frames, one to eight of them, is for a region that is there, and has less
 -- than its length; it has claimed the slots of an RPMB write
-pub record FramesFit (n : Numbers) (mended : Bool) (region total : ℕ) (gathered : List ℕ) (claimed : ℕ) : Type 0 where
+pub record FramesFit (n : Numbers) (region total : ℕ) (gathered : List ℕ) (claimed : ℕ) : Type 0 where
   pub region_in : HasRegion (shape_of_numbers n) region
   pub count : ℕ
   pub some : 1 ≤ count
@@ -82,16 +83,16 @@ pub record FramesFit (n : Numbers) (mended : Bool) (region total : ℕ) (gathere
   pub short : length gathered < total
   pub bytes : AreBytes gathered
   pub claimed_is : claimed ≡ slots_for_frames
-  pub is_mended : mended ≡ true
 
--- what a task does fits the device: what gathers its data came once the device was mended, and so did what waits
+-- what a task does fits the device: what gathers data that may change blocks came once the device was mended, and so
+-- did what waits. Frames may come to a locked device that is not mended
 abbrev pub DeedFits : Numbers → ℕ → Bool → ℕ → ℕ → Deed → Type 0
 DeedFits n accepted mended claimed total (Gathering (ForWrite unit address blocks forced) gathered asked) =
     WriteFits n mended unit address blocks total gathered claimed
 DeedFits n accepted mended claimed total (Gathering (ForUnmap unit) gathered asked) =
     UnmapFits n mended unit total gathered claimed
 DeedFits n accepted mended claimed total (Gathering (ForFrames region) gathered asked) =
-    FramesFit n mended region total gathered claimed
+    FramesFit n region total gathered claimed
 DeedFits n accepted mended claimed total (Awaiting commands) = AwaitsFit accepted mended commands
 DeedFits n accepted mended claimed total (Sending blocks sent) = Unit {0}
 DeedFits n accepted mended claimed total (SendingBytes bytes) = Unit {0}

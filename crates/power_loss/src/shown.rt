@@ -4,12 +4,12 @@ ghost use Rattle.ufs_spec.specs.Cells.{Array};
 ghost use Rattle.ufs_spec.specs.Disk.{Spot};
 ghost use Rattle.ufs_spec.specs.Exchanges.{ReadBlock, ReadingArea, Sending, Task, WasRead, block_message, task_of};
 ghost use Rattle.ufs_spec.specs.Keys.{IsKey, content};
-ghost use Rattle.ufs_spec.specs.Ledger.{look};
 ghost use Rattle.ufs_spec.specs.Lives.{IsOpened, Life};
 ghost use Rattle.ufs_spec.specs.Machine.{Allowed, Answer, Call, deed_reply, observe};
+ghost use Rattle.ufs_spec.specs.Moves.{look_now};
 ghost use Rattle.ufs_spec.specs.Plain.{shape_of_numbers};
 ghost use Rattle.ufs_spec.specs.Refusals.{State, numbers_of, plain_now};
-ghost use Rattle.ufs_spec.specs.Translation.{Pin, is_mended};
+ghost use Rattle.ufs_spec.specs.Translation.{Pin};
 ghost use Rattle.ufs_spec.specs.declared.configs.Numbers.{Numbers};
 ghost use Rattle.ufs_spec.specs.declared.events.Event.{Event};
 ghost use Rattle.ufs_spec.specs.declared.events.Output.{Output};
@@ -21,13 +21,12 @@ ghost use Rattle.power_loss.specs.Exchange.{IsTied, MayCome, ValidState};
 ghost use Rattle.power_loss.specs.Invariant.{IsGroupPage};
 ghost use Rattle.power_loss.specs.Shown.{IsShown, ShowsReads};
 
-/// Once the device is mended, what is looked up of each of its keys shows the key's content now. Each pin is of an open
+/// What is looked up of each key of the device shows the key's content now, whether it is mended or not. Each pin is of an open
 /// task, and if the task is a READ, the pin shows the block of its index, at each moment of a life. So the page that is
 /// kept for a block has the bytes of its DATA IN. It is likewise with the area pages that a request for RPMB data reads.
 pub fn kept_content_is_what_is_sent()
-    ensures looked { (s : State) (k : Key) → IsTied s → is_mended s.translation.work.mending ≡ true →
-        IsKey (shape_of_numbers (numbers_of s)) k →
-        IsShown s.translation.ledger k (look s.translation.ledger k) (content (plain_now s) k) }
+    ensures looked { (s : State) (k : Key) → IsTied s → IsKey (shape_of_numbers (numbers_of s)) k →
+        IsShown s.translation.ledger k (look_now s.translation k) (content (plain_now s) k) }
     ensures opened { (n : Numbers) (array : Array) (bad : Spot → Bool) (s : State) →
         IsOpened n array bad s → ShowsReads s }
     ensures call { (s : State) (call : Call) (answer : Answer) →

@@ -35,14 +35,14 @@ fn each_stop_over_an_image_is_good(rt: HostRuntime) {
     );
 }
 
-/// Blank dies all of whose blocks are bad are never mended, so that no READ is answered with a
-/// block: that counts as one bad stop, though no stop was tried. It is no fault.
+/// Blank dies all of whose blocks are bad are never mended. But the device is locked, so it is read:
+/// no stop is tried, and nothing is bad.
 #[test]
-fn dies_that_are_not_told_rightly_count_once(rt: HostRuntime) {
+fn dies_without_a_good_block_are_read(rt: HostRuntime) {
     let image = bad_blocks_alone(&rt);
     let mut rest = image.as_slice();
     let checked = Outcome::of_image_check(rt.alloc(), ONE_DIE, &mut rest);
-    checked.expect_bad(&rt, b"check stops 0 bad 1\n");
+    checked.expect(&rt, b"check stops 0 bad 0\n", b"");
 }
 
 // The image of one blank die whose blocks are bad.

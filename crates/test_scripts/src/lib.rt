@@ -21,6 +21,8 @@ mod image_faults;
 #[cfg(test)]
 mod images;
 #[cfg(test)]
+mod locked_reads;
+#[cfg(test)]
 mod locks;
 #[cfg(test)]
 mod long_commands;

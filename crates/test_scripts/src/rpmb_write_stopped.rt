@@ -24,7 +24,7 @@ const READ_PART: Frame<'static> = Frame {
 };
 
 /// The request for them.
-const READ: Frame<'static> = Frame {
+pub const READ: Frame<'static> = Frame {
     kind: "0004",
     ..READ_PART
 };
@@ -61,7 +61,7 @@ pub const EIGHT: [Frame<'static>; 8] = [
 ];
 
 /// The same blocks, as a request for them is answered.
-const READ_NEW: [Frame<'static>; 8] = [
+pub const READ_NEW: [Frame<'static>; 8] = [
     Frame {
         data: "a0",
         ..READ_PART

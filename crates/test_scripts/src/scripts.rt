@@ -134,11 +134,4 @@ impl Outcome {
         assert_eq!(rt; self.out.as_slice(), output);
         assert_eq!(rt; self.status, if fault.is_empty() { 0 } else { 1 });
     }
-
-    /// It is this output of a check that found a bad stop: without a fault line, and with status 1.
-    pub fn expect_bad(&self, rt: &impl Abort, output: &[u8]) {
-        assert_eq!(rt; self.faults.as_slice(), b"".as_slice());
-        assert_eq!(rt; self.out.as_slice(), output);
-        assert_eq!(rt; self.status, 1);
-    }
 }

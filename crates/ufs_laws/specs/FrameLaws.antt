@@ -2,7 +2,7 @@
 use Rattle.std.specs.Prelude.{◌≡◌, ◌⊎◌, ℕ, true, false, List}
 use Rattle.ufs_spec.specs.Exchanges.{NotRead, ReadBlock, Task, Unread, WasRead}
 use Rattle.ufs_spec.specs.Frames.{Frame}
-use Rattle.ufs_spec.specs.Refusals.{State, locked, plain_now}
+use Rattle.ufs_spec.specs.Refusals.{State, accepts_nothing, plain_now}
 use Rattle.ufs_spec.specs.Replies.{is_at_hand, pin_of}
 use Rattle.ufs_spec.specs.Rpmb.{RpmbOutcome, region_of, rpmb_outcome}
 
@@ -16,7 +16,8 @@ IsSuccess result = (result ≡ 0) ⊎ (result ≡ 0x80)
 
 -- what is decided in this state of frames that were sent to this region
 abbrev pub outcome_in : State → ℕ → List Frame → RpmbOutcome
-outcome_in s region frames = rpmb_outcome region (region_of (plain_now s) region) (s.registers region) (locked s) frames
+outcome_in s region frames = rpmb_outcome region (region_of (plain_now s) region) (s.registers region) (accepts_nothing s)
+    frames
 
 -- this page, at an index of the pages that a task reads, still waits for its read
 abbrev pub IsOwed : State → Task → ℕ → ReadBlock → Type 0

@@ -1,7 +1,7 @@
 //! The table by which a command is refused: the first line that applies decides.
 ghost use Rattle.std.specs.Prelude.{◌≡◌, ◌<◌, ◌≤◌, ◌∷◌, [], ℕ, List, Bool, true, false, Option, Some, None, length};
 ghost use Rattle.ufs_laws.specs.Runs.{IsIdle};
-ghost use Rattle.ufs_laws.specs.Table.{IsRefused, asks, flush, read_at, reads_response, spells_none, write_at};
+ghost use Rattle.ufs_laws.specs.Table.{IsRefused, asks, flush, protected_row, read_at, reads_response, spells_none, write_at};
 ghost use Rattle.ufs_spec.specs.declared.Cdb.{Cdb};
 ghost use Rattle.ufs_spec.specs.declared.Numbers.{Numbers};
 ghost use Rattle.ufs_spec.specs.declared.Cdb.TheVariants as cdb;
@@ -37,10 +37,13 @@ pub fn each_line_of_the_table_counts()
     // A READ past the end of unit 0, without the flag of its direction.
     ensures flag { (s : State) (tag : ℕ) → IsIdle s → IsRefused s (asks 0x00 0 tag (read_at 256 1)) invalid_field }
     // A READ past the end of unit 0, before the device is mended.
-    ensures past { (s : State) (tag : ℕ) → IsIdle s → mended s ≡ false →
+    ensures past { (s : State) (tag : ℕ) → IsIdle s → mended s ≡ false → locked s ≡ false →
         IsRefused s (asks 0x40 0 tag (read_at 256 1)) out_of_range }
-    // A WRITE to a locked device, before it is mended.
-    ensures ready { (s : State) (tag : ℕ) → IsIdle s → mended s ≡ false → locked s ≡ true →
+    // Before the device is mended, a WRITE to a unit that is protected, and one without a free slot.
+    ensures ready_and_protected { (s : State) (tag : ℕ) → numbers_of s ≡ protected_row → mended s ≡ false →
+        locked s ≡ false → s.power_on ≡ true → refusal s (asks 0x20 1 tag (write_at 0)) ≡ Some not_ready }
+    ensures ready { (s : State) (tag : ℕ) → IsIdle s → mended s ≡ false → locked s ≡ false →
+        free_slots s.translation ≡ 0 →
         IsRefused s (asks 0x20 0 tag (write_at 0)) not_ready }
     // A WRITE to a locked device, without a free slot.
     ensures protected { (s : State) (tag : ℕ) → IsIdle s → mended s ≡ true → locked s ≡ true →
@@ -51,7 +54,7 @@ pub fn each_line_of_the_table_counts()
         has_pending s.translation ≡ true → IsRefused s (asks 0x00 0 tag (flush immediate)) write_protected }
     // SECURITY PROTOCOL IN without a response, before the device is mended; and of 512 bytes, without a response.
     ensures ready_first { (s : State) (tag region : ℕ) → 0 < steps_of (numbers_of s) region → mended s ≡ false →
-        (s.registers region).response ≡ [] →
+        locked s ≡ false → (s.registers region).response ≡ [] →
         first_line (lines_for s (reads_response tag region) (cdb.SecurityIn region 512)) ≡ Some not_ready }
     ensures response { (s : State) (tag region : ℕ) → 0 < steps_of (numbers_of s) region → mended s ≡ true →
         (s.registers region).response ≡ [] →
@@ -88,24 +91,25 @@ pub fn lines_that_never_meet()
 {}
 
 /// Before the mending is over each command that reads or changes what the device holds is refused
-/// as not ready, and so is TEST UNIT READY (SPC); `each_line_of_the_table_counts` says it of SECURITY
-/// PROTOCOL IN. What only tells of the device is taken all the same.
+/// as not ready, unless the device is locked; `each_line_of_the_table_counts` says it of SECURITY
+/// PROTOCOL IN. TEST UNIT READY (SPC) is refused so on a locked device too. What only tells of the
+/// device is taken all the same.
 pub fn commands_are_refused_before_the_mending()
     ensures test_unit_ready { (s : State) (tag : ℕ) → IsIdle s → mended s ≡ false →
         IsRefused s (asks 0x00 0 tag cdb.TestUnitReady) not_ready }
-    ensures read { (s : State) (tag : ℕ) → IsIdle s → mended s ≡ false →
+    ensures read { (s : State) (tag : ℕ) → IsIdle s → mended s ≡ false → locked s ≡ false →
         IsRefused s (asks 0x40 0 tag (read_at 0 1)) not_ready }
-    ensures short_read { (s : State) (tag : ℕ) → IsIdle s → mended s ≡ false →
+    ensures short_read { (s : State) (tag : ℕ) → IsIdle s → mended s ≡ false → locked s ≡ false →
         IsRefused s (asks 0x40 0 tag (cdb.Read6 0 1)) not_ready }
-    ensures write { (s : State) (tag : ℕ) → IsIdle s → mended s ≡ false →
+    ensures write { (s : State) (tag : ℕ) → IsIdle s → mended s ≡ false → locked s ≡ false →
         IsRefused s (asks 0x20 0 tag (write_at 0)) not_ready }
-    ensures short_write { (s : State) (tag : ℕ) → IsIdle s → mended s ≡ false →
+    ensures short_write { (s : State) (tag : ℕ) → IsIdle s → mended s ≡ false → locked s ≡ false →
         IsRefused s (asks 0x20 0 tag (cdb.Write6 0 1)) not_ready }
-    ensures unmap { (s : State) (tag : ℕ) → IsIdle s → mended s ≡ false →
+    ensures unmap { (s : State) (tag : ℕ) → IsIdle s → mended s ≡ false → locked s ≡ false →
         IsRefused s (asks 0x20 0 tag (cdb.Unmap 24)) not_ready }
-    ensures flush { (s : State) (tag : ℕ) (immediate : Bool) → IsIdle s → mended s ≡ false →
+    ensures flush { (s : State) (tag : ℕ) (immediate : Bool) → IsIdle s → mended s ≡ false → locked s ≡ false →
         IsRefused s (asks 0x00 0 tag (flush immediate)) not_ready }
-    ensures frames { (s : State) (tag : ℕ) → IsIdle s → mended s ≡ false →
+    ensures frames { (s : State) (tag : ℕ) → IsIdle s → mended s ≡ false → locked s ≡ false →
         IsRefused s (asks 0x20 0xC4 tag (cdb.SecurityOut 0 512)) not_ready }
     ensures request_sense { (s : State) (tag : ℕ) → IsIdle s →
         refusal s (asks 0x40 0 tag (cdb.RequestSense 18)) ≡ None }

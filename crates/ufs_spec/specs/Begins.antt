@@ -1,6 +1,6 @@
 -- What a COMMAND makes of the state: it is refused, or begins (JESD220, 10.7.1; SPC and SBC for the commands).
-use Rattle.std.specs.Prelude.{Bool, List, None, Option, Some, [], false, if◌then◌else◌, length, map, nat_le, take, ℕ}
-use Rattle.std.specs.Prelude.{◌*◌, ◌++◌, ◌+◌, ◌-◌, ◌==◌, ◌∷◌}
+use Rattle.std.specs.Prelude.{Bool, List, None, Option, Some, [], false, if◌then◌else◌, length, map, nat_le, not, take, ℕ}
+use Rattle.std.specs.Prelude.{◌*◌, ◌++◌, ◌+◌, ◌-◌, ◌==◌, ◌||◌, ◌∷◌}
 use Rattle.std.specs.List.{flat_map}
 use Rattle.byteorder.specs.Endian.{big_bytes}
 use Rattle.std.specs.Int.{div_ceil}
@@ -11,12 +11,11 @@ use Rattle.ufs_spec.specs.Exchanges.{Purpose, ReadBlock, Sending, SendingBytes, 
 use Rattle.ufs_spec.specs.Exchanges.{at_region, most_tasks, response, short_reply}
 use Rattle.ufs_spec.specs.Identities.{inquiry_bytes, luns_bytes}
 use Rattle.ufs_spec.specs.Keys.{below, data_key}
-use Rattle.ufs_spec.specs.Ledger.{look}
 use Rattle.ufs_spec.specs.Messages.{zeros}
-use Rattle.ufs_spec.specs.Moves.{Claim, Keep, Move}
+use Rattle.ufs_spec.specs.Moves.{Claim, Keep, Move, look_now}
 use Rattle.ufs_spec.specs.Plain.{block_at}
-use Rattle.ufs_spec.specs.Refusals.{Request, State, numbers_of, plain_now, refusal, slots_needed, unit_numbers_of}
-use Rattle.ufs_spec.specs.Refusals.{unit_of_request}
+use Rattle.ufs_spec.specs.Refusals.{Request, State, mended, numbers_of, plain_now, refusal, slots_needed}
+use Rattle.ufs_spec.specs.Refusals.{unit_numbers_of, unit_of_request}
 use Rattle.ufs_spec.specs.Translation.{Pin}
 use Rattle.ufs_spec.specs.declared.configs.UnitSpec.{UnitSpec}
 use Rattle.ufs_spec.specs.declared.scsi.Cdb.{Cdb}
@@ -33,7 +32,7 @@ read_blocks s unit address n =
 -- each other one is wanted after the block before it was handed out
 abbrev pub kept_at : State → ℕ → ℕ → ℕ → ℕ → Pin
 kept_at s tag unit address i =
-    record { tag = tag; index = i; looked = look s.translation.ledger (data_key unit (address + i)); wanted = i == 0 }
+    record { tag = tag; index = i; looked = look_now s.translation (data_key unit (address + i)); wanted = i == 0 }
 
 -- a READ keeps each of its n blocks, so that no page that it still needs is erased before it is handed out
 abbrev pub keeps : State → ℕ → ℕ → ℕ → ℕ → List Move
@@ -66,10 +65,12 @@ write_begun s r command unit address blocks forced =
     (Gathering (ForWrite unit address blocks forced) [] false)
 
 -- SYNCHRONIZE CACHE covers the whole device, whatever range it names: SBC lets a device do more than was asked.
--- With IMMED it is answered at once, else once all that was accepted before it is durable
+-- With IMMED it is answered at once, else once all that was accepted before it is durable. A locked device that is not
+-- mended has accepted nothing in this life, and so answers at once
 abbrev pub flush_begun : State → Request → Cdb → Bool → State
 flush_begun s r command immediate =
-    with_task s r (Some command) 0 (if immediate then Answering Good 0 else Awaiting (length s.accepted))
+    with_task s r (Some command) 0
+    (if immediate || not (mended s) then Answering Good 0 else Awaiting (length s.accepted))
 
 -- data that are known go out in one DATA IN, cut to what the host expects; if that is nothing, GOOD is due at once
 abbrev pub sending_bytes : Request → List ℕ → Deed

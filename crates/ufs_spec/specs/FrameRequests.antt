@@ -6,10 +6,9 @@ use Rattle.ufs_spec.specs.Exchanges.{Answering, Awaiting, Deed, Gathering, Good,
 use Rattle.ufs_spec.specs.Exchanges.{RpmbRequest, Sending, SendingBytes, Task, Unread, at_region, is_task_of}
 use Rattle.ufs_spec.specs.Frames.{Frame}
 use Rattle.ufs_spec.specs.Keys.{area_key, below, content}
-use Rattle.ufs_spec.specs.Ledger.{look}
-use Rattle.ufs_spec.specs.Moves.{Keep, Move}
+use Rattle.ufs_spec.specs.Moves.{Keep, Move, look_now}
 use Rattle.ufs_spec.specs.Plain.{Plain, region_of}
-use Rattle.ufs_spec.specs.Refusals.{State, locked, numbers_of, plain_now}
+use Rattle.ufs_spec.specs.Refusals.{State, accepts_nothing, numbers_of, plain_now}
 use Rattle.ufs_spec.specs.Rpmb.{Refused, Results, RpmbOutcome, read_data, rpmb_outcome}
 use Rattle.ufs_spec.specs.RpmbResponses.{emptied_by, filled_with, is_success, with_reads}
 use Rattle.ufs_spec.specs.Translation.{Pin}
@@ -54,7 +53,7 @@ page_kept s tag region f i =
     record {
       tag = tag;
       index = i;
-      looked = look s.translation.ledger (area_key region (first_page f + i));
+      looked = look_now s.translation (area_key region (first_page f + i));
       wanted = true;
     }
 
@@ -88,11 +87,13 @@ request_decided s task region frames (Results result (Some c)) =
     (Awaiting (length s.accepted + 1))
 
 -- the frames of a SECURITY PROTOCOL OUT are all there (JESD220, 12.4). They are decided now, by key, counter and
--- registers of their region as they stand, and by the lock
+-- registers of their region as they stand, and by whether anything can be accepted: a locked device that is not
+-- mended takes requests too, and answers them as a locked one
 abbrev pub frames_complete : State → Task → ℕ → List Frame → State
 frames_complete s task region frames =
     request_decided s task region frames
-    (rpmb_outcome region (region_of (plain_now s) region) (s.registers region) (locked s) frames)
+    (rpmb_outcome region (region_of (plain_now s) region) (s.registers region) (accepts_nothing s)
+    frames)
 
 -- ## Registers
 

@@ -8,7 +8,8 @@ use Rattle.ufs_spec.specs.Disk.{BlockState, Bad, CellCrash, Disk, Erasing, Fligh
 use Rattle.ufs_spec.specs.Disk.{Free, Programming, Reading, Stale, at_spot, ended, erase_failed, erased}
 use Rattle.ufs_spec.specs.Disk.{flight_alone, program_failed, programmed}
 use Rattle.ufs_spec.specs.Keys.{Group, IsBlock, IsKey, IsSettingsBody, Item}
-use Rattle.ufs_spec.specs.Ledger.{Ledger, before_accepted, look, page_stands, same_name, settled_look}
+use Rattle.ufs_spec.specs.Ledger.{Ledger, before_accepted, latest_durable, look, looked_at, page_stands, same_name}
+use Rattle.ufs_spec.specs.Ledger.{settled_look}
 use Rattle.ufs_spec.specs.Plain.{shape_of_numbers}
 use Rattle.ufs_spec.specs.Translation.{CopyStep, MarkStep, MayTake, Mended, Mending, Pin, Plan, RepairStep, Repairing}
 use Rattle.ufs_spec.specs.Translation.{Rest, Step, StepKind, Translation, Unmarked, awaited_read, free_slots}
@@ -21,6 +22,7 @@ use Rattle.ufs_spec.specs.declared.flash.Outcome.TheVariants as outcome
 use Rattle.ufs_spec.specs.declared.flash.Page.{Page}
 use Rattle.ufs_spec.specs.declared.flash.Place.{Place}
 use Rattle.ufs_spec.specs.declared.flash.Tag.{Tag}
+use Rattle.ufs_spec.specs.declared.layer.Looked.{Looked}
 use Rattle.ufs_spec.specs.declared.layer.Name.{Name}
 use Rattle.ufs_spec.specs.declared.layer.Reader.{Reader}
 use Rattle.ufs_spec.specs.declared.layer.Reader.TheVariants.{ForNobody, ForRest, ForStep, ForTask}
@@ -287,6 +289,12 @@ pub record IsGroup (t : Translation) (g : Group) : Type 0 where
   pub differ : KeysDiffer g
   pub items : All (IsItem t) g
 
+-- what a task finds of a key: what holds its content after all groups. Until the device is mended the groups are repairs,
+-- which have no slots: then it is the page at the frontier, which has the same content
+abbrev pub look_now : Translation → Key → Looked
+look_now t k =
+    if is_mended t.work.mending then look t.ledger k else looked_at t.ledger (latest_durable t.ledger k)
+
 -- when a move may come. No more slots are claimed than are free, or given back than are claimed. A group comes only
 -- once the device is mended, with a number left, and into slots that were claimed. What is acknowledged is at or
 -- under the frontier. What a task keeps is what a look finds now. A job is one that the die may be given, and ends
@@ -298,7 +306,7 @@ IsAllowedMove t (Accept claimed g) =
     (is_mended t.work.mending ≡ true) × (has_number t ≡ true) × (length g ≤ claimed) × (claimed ≤ t.claims)
     × IsGroup t g
 IsAllowedMove t (Acknowledge count) = before_accepted t.ledger + count ≤ t.ledger.frontier
-IsAllowedMove t (Keep key pin) = IsKey (shape_of_numbers t.numbers) key × (pin.looked ≡ look t.ledger key)
+IsAllowedMove t (Keep key pin) = IsKey (shape_of_numbers t.numbers) key × (pin.looked ≡ look_now t key)
 IsAllowedMove t (GiveJob die flight) = MayTake t die (Some flight)
 IsAllowedMove t (EndJob die ending) = MayEnd t.disk die (t.disk.flights die) ending
 IsAllowedMove t (WantPage tag index) = Unit {0}

@@ -48,7 +48,7 @@ abbrev pub plain_now : State → Plain
 plain_now s = after s.base s.accepted
 
 -- whether the mending is over: all that was lost has its repairs, and a mark without a fence is finished. Before it
--- most commands are refused (line 8)
+-- most commands are refused, unless the device is locked (line 8)
 abbrev pub mended : State → Bool
 mended s = is_mended s.translation.work.mending
 
@@ -56,6 +56,10 @@ mended s = is_mended s.translation.work.mending
 -- In one life a lock never goes again
 abbrev pub locked : State → Bool
 locked s = is_locked s.translation
+
+-- whether nothing can be accepted now: the device is locked, or not mended yet
+abbrev pub accepts_nothing : State → Bool
+accepts_nothing s = locked s || not (mended s)
 
 -- ## Units
 
@@ -212,12 +216,21 @@ abbrev pub is_past : Cdb → Option UnitSpec → Bool
 is_past command None = false
 is_past command (Some u) = nat_lt u.blocks (address_of command + blocks_of command)
 
--- 8 (2/04/01): the operation codes that a device takes only once it is mended: all but REQUEST SENSE,
--- READ CAPACITY(10), INQUIRY and REPORT LUNS
+-- 8: the operation codes that a device takes only once it is ready: all but REQUEST SENSE, READ CAPACITY(10), INQUIRY
+-- and REPORT LUNS
 abbrev pub needs_mended : ℕ → Bool
 needs_mended operation =
     is_among (test_unit_ready ∷ read_6 ∷ read_10 ∷ write_6 ∷ write_10 ∷ unmap ∷ synchronize_cache_10 ∷ security_in
     ∷ security_out ∷ []) operation
+
+-- 8: the device is ready for a command with this operation code: once it is mended for each one. A locked device need not
+-- be mended, but for TEST UNIT READY: what it holds is known from its opening on, and it accepts nothing any more
+abbrev pub is_ready_for : State → ℕ → Bool
+is_ready_for s operation = mended s || (not (operation == test_unit_ready) && locked s)
+
+-- 8 (2/04/01): the command needs a device that is ready for it, and this one is not
+abbrev pub is_unready : State → ℕ → Bool
+is_unready s operation = needs_mended operation && not (is_ready_for s operation)
 
 -- 9: the command changes blocks: a WRITE of at least one, or an UNMAP of one descriptor. A count of
 -- 0 in WRITE(6) means 256
@@ -319,7 +332,7 @@ lines_for s r command =
     ∷ line (has_wrong_list command) list_length_error
     ∷ line (lacks_data r (direction_of command) (length_in s command)) invalid_field
     ∷ line (is_past command (unit_numbers_of s r)) out_of_range
-    ∷ line (needs_mended (operation_of command) && not (mended s)) not_ready
+    ∷ line (is_unready s (operation_of command)) not_ready
     ∷ line (is_refused_write s (unit_numbers_of s r) command) write_protected
     ∷ line (lacks_response s command) sequence_error
     ∷ line (has_other_response s command) invalid_field

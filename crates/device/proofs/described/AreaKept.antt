@@ -9,7 +9,7 @@ use Rattle.ufs_spec.specs.Frames.{Frame}
 use Rattle.ufs_spec.specs.Keys.{IsKey, area_key}
 use Rattle.ufs_spec.specs.Moves.{Move, Release, moved}
 use Rattle.ufs_spec.specs.Plain.{shape_of_numbers}
-use Rattle.ufs_spec.specs.Translation.{Translation, is_mended}
+use Rattle.ufs_spec.specs.Translation.{Translation}
 use Rattle.ufs_spec.specs.declared.flash.Key.{Key}
 use Rattle.ftl_core.specs.Public.{Claims, Core, Describes, PinsDiffer, keeps_area_of, keeps_for, key_behind}
 use Rattle.ftl_core.specs.Public.{with_claimed}
@@ -29,7 +29,7 @@ module _ (after : Core) (t : Translation) (tag region pages : ℕ) (key : Key) (
     (named : 1 ≤ asked.count → asked.count ≤ 8 →
     pages ≡ (asked.address + asked.count - 1) / 16 + 1 - asked.address / 16)
     (few : pages ≤ 2) (differ : PinsDiffer t.pins) (found : kept ≡ nat_le (length t.pins + pages) (most_tasks * greatest_command))
-    (described : is_mended t.work.mending ≡ true →
+    (described :
     ((i : ℕ) → i < pages → IsKey (shape_of_numbers t.numbers) (key_behind key i)) →
     list_any (keeps_for tag) t.pins ≡ false →
     Describes after (if kept then fold moved t (keeps_area_of t tag key pages) else t))
@@ -57,7 +57,7 @@ module _ (after : Core) (t : Translation) (tag region pages : ℕ) (key : Key) (
       subst (λ (ms : List Move). Describes after (fold moved t ms))
       (λ i. keeps_area_of t tag (from_there i) (many_named i))
       (subst (λ (b : Bool). Describes after (if b then fold moved t (keeps_area_of t tag key pages) else t)) all_kept
-      (described may.mended are_keys may.none))
+      (described are_keys may.none))
 
 -- the blocks that were asked for, and the moves by which their pages are kept
 pub record ReadsFor (fs : List Frame) (code : ℕ) (asked : AreaBlocks) : Type 0 where
@@ -158,7 +158,6 @@ asked_then before between after tag region fs code asked told e released told_is
     still : (t : Translation) (n : ℕ) → MayKeepArea t tag region reads.first →
         MayKeepArea (moved t (Release n)) tag region reads.first
     still t n may = record {
-      mended = may.mended;
       some = may.some;
       few = may.few;
       keys = may.keys;

@@ -9,7 +9,7 @@ use Rattle.ufs_spec.specs.Machine.{keeps, read_begun, read_blocks, sending, with
 use Rattle.ufs_spec.specs.Machine as machine
 use Rattle.ufs_spec.specs.Moves.{Claim, moved}
 use Rattle.ufs_spec.specs.Plain.{greatest_command, shape_of_numbers}
-use Rattle.ufs_spec.specs.Refusals.{Request, State, mended, numbers_of, sends_frames}
+use Rattle.ufs_spec.specs.Refusals.{Request, State, numbers_of, sends_frames}
 use Rattle.ufs_spec.specs.Translation.{free_slots}
 use Rattle.ufs_spec.specs.declared.scsi.Cdb.{Cdb}
 use Rattle.ufs_laws.proofs.plain_contents.ListParts.{length-made}
@@ -64,14 +64,14 @@ module _ (d : DeviceCore) (s : State) (r : Request) (h : Describes d s) (free : 
       (i : ℕ) → i < sent_of blocks → IsKey (shape_of_numbers (numbers_of s)) (data_key unit (address + i))
 
   pub read_begins : (command : Cdb) (unit address blocks : ℕ) (p : Phase) → sends_frames (Some command) ≡ false →
-      blocks ≤ greatest_command → AreKeys unit address blocks → mended s ≡ true → (b : Bool) →
+      blocks ≤ greatest_command → AreKeys unit address blocks → (b : Bool) →
       ((blocks == 0) || (r.expected == 0)) ≡ b → Begins (Ok (read_todo unit address blocks b)) p →
       Opens (Ok (read_todo unit address blocks b)) p (read_begun s r command unit address (4096 * blocks))
-  read_begins command unit address blocks p quiet less keys is_mended true e begun =
+  read_begins command unit address blocks p quiet less keys true e begun =
       subst (IsBehind (core_opened d r after p))
       (sym (ap (read_at command unit address (4096 * blocks)) (none_expected r.expected blocks e)))
       (nothing_begins d s r h free few after command (4096 * blocks) p quiet begun)
-  read_begins command unit address blocks p quiet less keys is_mended false e begun =
+  read_begins command unit address blocks p quiet less keys false e begun =
       subst (IsBehind (core_opened d r after p)) (sym state)
       (same_phase d r after p (phase.SendBlocks (sending_now m 0 n)) _ (begun.phase_is
       ∙ ap (λ (x : Bool). if x then phase.SendBlocks (sending_now m 0 n) else phase.Answer status.Busy 0) room)
@@ -107,7 +107,6 @@ module _ (d : DeviceCore) (s : State) (r : Request) (h : Describes d s) (free : 
           (if x then fold moved s.translation (keeps s r.tag unit address m) else s.translation)
           (claims_of (numbers_of s) s.tasks)) room
           (begun.layer (record {
-            mended = is_mended;
             of_data = refl;
             there = keys;
             new = nobody d s r h free few;

@@ -150,11 +150,11 @@ module _ (d : DeviceCore) (s : State) (r : Request) (h : Describes d s) (free : 
       (read_begun s r (cdb.Read6 address blocks) unit_now address n))
       (bytes_of (six_blocks blocks))
       (read_begins d s r h free few after (cdb.Read6 address blocks) unit_now address (six_blocks blocks) p refl
-      k.few (read_keys (cdb.Read6 address blocks) (six_blocks blocks) refl (inl (sym spelled)) lets) (k.mended refl)
+      k.few (read_keys (cdb.Read6 address blocks) (six_blocks blocks) refl (inl (sym spelled)) lets)
       ((six_blocks blocks == 0) || (r.expected == 0)) refl begun)
   command_begins (cdb.Read10 address blocks forced) p spelled named lets k within begun =
       read_begins d s r h free few after (cdb.Read10 address blocks forced) unit_now address blocks p refl
-      k.few (read_keys (cdb.Read10 address blocks forced) blocks refl (inr (sym spelled)) lets) (k.mended refl)
+      k.few (read_keys (cdb.Read10 address blocks forced) blocks refl (inr (sym spelled)) lets)
       ((blocks == 0) || (r.expected == 0)) refl begun
   command_begins (cdb.Write6 address blocks) p spelled named lets k within begun =
       write_begins d s r h free few after (cdb.Write6 address blocks) unit_now address (six_blocks blocks) false p

@@ -20,7 +20,7 @@ use Rattle.ufs_spec.specs.Machine.{durable}
 use Rattle.ufs_spec.specs.Refusals.{Request, State, first_line, has_other_response, has_wrong_list}
 use Rattle.ufs_spec.specs.Refusals.{is_crowded, is_past, is_refused_write, is_security_out, is_too_long, lacks_data}
 use Rattle.ufs_spec.specs.Refusals.{lacks_region, lacks_response, lacks_unit, length_in, lines_after, lines_for, locked, lun_of}
-use Rattle.ufs_spec.specs.Refusals.{mended, needs_mended, not_taken, numbers_of, refusal, sends_frames, slots_needed}
+use Rattle.ufs_spec.specs.Refusals.{is_unready, not_taken, numbers_of, refusal, sends_frames, slots_needed}
 use Rattle.ufs_spec.specs.Refusals.{unit_numbers_of}
 use Rattle.ufs_spec.specs.Translation.{free_slots, has_pending}
 use Rattle.ufs_spec.specs.declared.scsi.Cdb.{Cdb}
@@ -37,7 +37,6 @@ pub record Checked (s : State) (r : Request) (command : Cdb) : Type 0 where
   pub region_there : lacks_region (numbers_of s) command ≡ false
   pub too_long : is_too_long (numbers_of s) command ≡ false
   pub listed : has_wrong_list command ≡ false
-  pub unmended : (needs_mended (operation_of command) && not (mended s)) ≡ false
   pub refused : is_refused_write s (unit_numbers_of s r) command ≡ false
   pub response : has_other_response s command ≡ false
   pub crowded : is_crowded s command ≡ false
@@ -53,7 +52,7 @@ checked s r command is none =
     let d = passed_line (has_wrong_list command) list_length_error _ c.1 in
     let e = passed_line (lacks_data r (direction_of command) (length_in s command)) invalid_field _ d.1 in
     let f = passed_line (is_past command (unit_numbers_of s r)) out_of_range _ e.1 in
-    let g = passed_line (needs_mended (operation_of command) && not (mended s)) not_ready _ f.1 in
+    let g = passed_line (is_unready s (operation_of command)) not_ready _ f.1 in
     let i = passed_line (is_refused_write s (unit_numbers_of s r) command) write_protected _ g.1 in
     let j = passed_line (lacks_response s command) sequence_error _ i.1 in
     let k = passed_line (has_other_response s command) invalid_field _ j.1 in
@@ -62,7 +61,6 @@ checked s r command is none =
       region_there = there.0;
       too_long = c.0;
       listed = d.0;
-      unmended = g.0;
       refused = i.0;
       response = k.0;
       crowded = l.0;
@@ -75,7 +73,6 @@ pub record IsFree (s : State) (r : Request) (command : Cdb) : Type 0 where
   pub listed : has_wrong_list command ≡ false
   pub response : has_other_response s command ≡ false
   pub alone : (is_security_out command && list_any (λ (task : Task). sends_frames task.command) s.tasks) ≡ false
-  pub mended : needs_mended (operation_of command) ≡ true → mended s ≡ true
   pub slots : slots_needed (numbers_of s) command ≤ free_slots s.translation
   pub refused : is_refused_write s (unit_numbers_of s r) command ≡ false
 
@@ -87,11 +84,6 @@ few_told s command h =
     let few = ltb-false (command_blocks (numbers_of s)) (blocks_of command) h in
     let most = command_blocks-few (numbers_of s) in
     omega (arith, few, most)
-
-mended_told : (a b : Bool) → (a && not b) ≡ false → a ≡ true → b ≡ true
-mended_told true true h e = refl
-mended_told true false h e = sym h
-mended_told false b h e = absurd (false≢true e)
 
 pub free_told : (s : State) (r : Request) (todo : Plan) → (h : Passes s r todo) → IsFree s r h.command
 free_told s r todo h =
@@ -105,7 +97,6 @@ free_told s r todo h =
       listed = k.listed;
       response = k.response;
       alone = both.0;
-      mended = mended_told (needs_mended (operation_of h.command)) (mended s) k.unmended;
       slots = ltb-false (free_slots s.translation) (slots_needed (numbers_of s) h.command) both.1;
       refused = k.refused;
     }

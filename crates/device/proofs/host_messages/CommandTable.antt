@@ -9,7 +9,7 @@ use Rattle.ufs_spec.specs.Exchanges.{not_ready, out_of_range, sequence_error, wr
 use Rattle.ufs_spec.specs.Refusals.{Line, Request, State}
 use Rattle.ufs_spec.specs.Refusals.{first_line, has_other_response, has_wrong_list, is_crowded, is_past}
 use Rattle.ufs_spec.specs.Refusals.{is_refused_write, is_too_long, lacks_data, lacks_region, lacks_response, length_in}
-use Rattle.ufs_spec.specs.Refusals.{line, lines_for, mended, needs_mended, numbers_of}
+use Rattle.ufs_spec.specs.Refusals.{is_unready, line, lines_for, numbers_of}
 use Rattle.ufs_spec.specs.Refusals.{unit_numbers_of, units_listed}
 use Rattle.ufs_spec.specs.declared.configs.Numbers.{Numbers}
 use Rattle.ufs_spec.specs.declared.configs.UnitSpec.{UnitSpec}
@@ -106,7 +106,7 @@ checks_now a b p e f =
     else None
 
 pub now_told : (s : State) (unit : Option UnitSpec) (c : Cdb) (a b p e f : Bool) →
-    (needs_mended (operation_of c) && not (mended s)) ≡ a → is_refused_write s unit c ≡ b → lacks_response s c ≡ p →
+    is_unready s (operation_of c) ≡ a → is_refused_write s unit c ≡ b → lacks_response s c ≡ p →
     has_other_response s c ≡ e → is_crowded s c ≡ f →
     first_line (lines_now s unit c) ≡ option_map status_kept (checks_now a b p e f)
 now_told s unit c a b p e f ka kb kp ke kf =

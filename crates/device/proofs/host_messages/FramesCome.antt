@@ -15,7 +15,7 @@ use Rattle.ufs_spec.specs.Machine.{data_for, data_heard}
 use Rattle.ufs_spec.specs.Messages.{AreBytes}
 use Rattle.ufs_spec.specs.Moves.{Release, moved}
 use Rattle.ufs_spec.specs.Plain.{region_of, regions}
-use Rattle.ufs_spec.specs.Refusals.{State, locked, numbers_of, plain_now}
+use Rattle.ufs_spec.specs.Refusals.{State, accepts_nothing, numbers_of, plain_now}
 use Rattle.ufs_spec.specs.Rpmb.{Results, rpmb_outcome}
 use Rattle.ufs_spec.specs.declared.scsi.Sense.{Sense}
 use Rattle.power_loss.specs.Exchange.{claim_of}
@@ -125,7 +125,7 @@ module _ {d : DeviceCore} {s : State} {tag : ℕ} {bytes : List ℕ} (c : AllCam
   -- What was decided
 
   decided_keeps : AreBytes bytes → (come : DeviceCore) (o : Outcome) →
-      rpmb_outcome (to c) (region_of (plain_now s) (to c)) (s.registers (to c)) (locked s) (frames_of bytes)
+      rpmb_outcome (to c) (region_of (plain_now s) (to c)) (s.registers (to c)) (accepts_nothing s) (frames_of bytes)
       ≡ outcome_of (to c) (frames_of bytes) o →
       HasDone d come tag c.stands.k (to c) bytes o →
       Keeps come (request_decided s c.stands.b (to c) (frames_of bytes) (outcome_of (to c) (frames_of bytes) o))
@@ -133,7 +133,7 @@ module _ {d : DeviceCore} {s : State} {tag : ℕ} {bytes : List ℕ} (c : AllCam
   decided_keeps are come (outcome.Results code accepted.Nothing) passed did =
       subst (λ (fs : List Frame). Keeps come (request_decided s c.stands.b (to c) fs (Results code None)))
       (sym (frames_are c)) (answered_keeps c come code did
-      (sym (ap (rpmb_outcome (to c) (region_of (plain_now s) (to c)) (s.registers (to c)) (locked s)) (frames_are c))
+      (sym (ap (rpmb_outcome (to c) (region_of (plain_now s) (to c)) (s.registers (to c)) (accepts_nothing s)) (frames_are c))
       ∙ passed))
   decided_keeps are come (outcome.Results code (accepted.Key key)) passed did =
       command_keeps c are code (accepted.Key key) (SetKey (to c) key) refl refl passed come did did.decided
@@ -145,7 +145,7 @@ module _ {d : DeviceCore} {s : State} {tag : ℕ} {bytes : List ℕ} (c : AllCam
   -- the frames are all there
   complete_is : data_heard s (task_of tag s.tasks) bytes
       ≡ request_decided s c.stands.b (to c) (frames_of bytes)
-      (rpmb_outcome (to c) (region_of (plain_now s) (to c)) (s.registers (to c)) (locked s) (frames_of bytes))
+      (rpmb_outcome (to c) (region_of (plain_now s) (to c)) (s.registers (to c)) (accepts_nothing s) (frames_of bytes))
   complete_is =
       ap (λ o. data_heard s o bytes) c.stands.found
       ∙ (ap (λ (deed : Deed). data_for s c.stands.b deed bytes) c.gathers.deed_is
@@ -165,15 +165,15 @@ module _ {d : DeviceCore} {s : State} {tag : ℕ} {bytes : List ℕ} (c : AllCam
       same : did.task ≡ c.stands.a
       same = same_Some did.task c.stands.a (sym did.there ∙ c.stands.opened.ours)
 
-      passed : rpmb_outcome (to c) (region_of (plain_now s) (to c)) (s.registers (to c)) (locked s) (frames_of bytes)
+      passed : rpmb_outcome (to c) (region_of (plain_now s) (to c)) (s.registers (to c)) (accepts_nothing s) (frames_of bytes)
           ≡ outcome_of (to c) (frames_of bytes) did.outcome
       passed =
-          ap (λ (x : Registers). rpmb_outcome (to c) (region_of (plain_now s) (to c)) x (locked s) (frames_of bytes))
+          ap (λ (x : Registers). rpmb_outcome (to c) (region_of (plain_now s) (to c)) x (accepts_nothing s) (frames_of bytes))
           (c.described.kept.registers (to c))
           ∙ subst
           (λ (x : OpenTask). x.region < regions →
           IsKept (machine_at d.rpmb x.region).region (region_of (plain_now s) (to c)) →
-          rpmb_outcome x.region (region_of (plain_now s) (to c)) (machine_at d.rpmb x.region).registers (locked s)
+          rpmb_outcome x.region (region_of (plain_now s) (to c)) (machine_at d.rpmb x.region).registers (accepts_nothing s)
           (frames_of bytes) ≡ outcome_of x.region (frames_of bytes) did.outcome) same
           (did.outcome_is s.translation (region_of (plain_now s) (to c)) c.described.kept.layer_kept) (to_there c)
           (c.described.kept.region (to c))

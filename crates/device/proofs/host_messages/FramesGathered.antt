@@ -150,7 +150,7 @@ module _ {d : DeviceCore} {s : State} {tag : ℕ} {bytes : List ℕ} (c : AllCam
   pub its_slots : claims_of (numbers_of s) s.tasks c.stands.b.tag ≡ replicate frame_slots zero_block
   its_slots = ap (claimed_by (numbers_of s)) found ∙ ap (claimed_in (numbers_of s) c.stands.b.length) c.gathers.deed_is
 
-  pub fits : WaitsFrames (numbers_of s) (is_mended s.translation.work.mending) to c.stands.b.length []
+  pub fits : WaitsFrames (numbers_of s) to c.stands.b.length []
       (claim_of (numbers_of s) c.stands.b)
   fits =
       subst (DeedFits (numbers_of s) (length s.accepted) (is_mended s.translation.work.mending)

@@ -13,7 +13,7 @@ use Rattle.ufs_spec.specs.Ledger.{next_number}
 use Rattle.ufs_spec.specs.Messages.{AreBytes}
 use Rattle.ufs_spec.specs.Moves.{Accept, IsAllowedMove, Move, moved}
 use Rattle.ufs_spec.specs.Plain.{Plain, after, apply, changed_by, region_of, zero_block}
-use Rattle.ufs_spec.specs.Refusals.{State, locked, numbers_of, plain_now}
+use Rattle.ufs_spec.specs.Refusals.{State, accepts_nothing, numbers_of, plain_now}
 use Rattle.ufs_spec.specs.Rpmb.{Region, Results, applied, rpmb_outcome}
 use Rattle.ufs_spec.specs.Translation.{is_mended}
 use Rattle.ufs_laws.proofs.rpmb_frames.FramesRead.{first_frames}
@@ -44,7 +44,7 @@ module _ {d : DeviceCore} {s : State} {tag : ℕ} {bytes : List ℕ} (c : AllCam
     (are : AreBytes bytes) (code : ℕ) (what : Accepted) (command : Command)
     (is_command : command_of (to c) (frames_of bytes) what ≡ Some command)
     (named : region_named command ≡ Some (to c))
-    (passed : rpmb_outcome (to c) (region_of (plain_now s) (to c)) (s.registers (to c)) (locked s) (frames_of bytes)
+    (passed : rpmb_outcome (to c) (region_of (plain_now s) (to c)) (s.registers (to c)) (accepts_nothing s) (frames_of bytes)
     ≡ Results code (Some command)) where
   came : FramesCame s c.stands.b (to c) (frames_of bytes)
   came = record {
@@ -55,7 +55,6 @@ module _ {d : DeviceCore} {s : State} {tag : ℕ} {bytes : List ℕ} (c : AllCam
         let most = (frames_long c).2 in
         omega arith;
     claim = (fits c).claimed_is;
-    is_mended = (fits c).is_mended;
   }
 
   coming : IsComing s command (claim_of (numbers_of s) c.stands.b)
@@ -90,8 +89,8 @@ module _ {d : DeviceCore} {s : State} {tag : ℕ} {bytes : List ℕ} (c : AllCam
   -- no page of the area is read
   asks_none : reads_area (first_frame bytes) code ≡ false
   asks_none =
-      reads_none (to c) (region_of (plain_now s) (to c)) (s.registers (to c)) (locked s) (first_frame bytes) _ code command
-      (sym (ap (rpmb_outcome (to c) (region_of (plain_now s) (to c)) (s.registers (to c)) (locked s)) (frames_are c))
+      reads_none (to c) (region_of (plain_now s) (to c)) (s.registers (to c)) (accepts_nothing s) (first_frame bytes) _ code command
+      (sym (ap (rpmb_outcome (to c) (region_of (plain_now s) (to c)) (s.registers (to c)) (accepts_nothing s)) (frames_are c))
       ∙ passed)
 
   abbrev number : ℕ

@@ -13,7 +13,7 @@ use Rattle.ufs_spec.specs.Keys.{IsKey, area_key, below, content}
 use Rattle.ufs_spec.specs.Ledger.{before_accepted}
 use Rattle.ufs_spec.specs.Moves.{Move, Release, moved}
 use Rattle.ufs_spec.specs.Plain.{region_of, shape_of_numbers}
-use Rattle.ufs_spec.specs.Refusals.{State, locked, numbers_of, plain_now}
+use Rattle.ufs_spec.specs.Refusals.{State, accepts_nothing, numbers_of, plain_now}
 use Rattle.ufs_spec.specs.Rpmb.{Results, read_data, rpmb_outcome}
 use Rattle.ufs_spec.specs.RpmbResponses.{is_success}
 use Rattle.ufs_spec.specs.Translation.{Pin, Translation}
@@ -133,12 +133,12 @@ module _ {d : DeviceCore} {s : State} {tag : ℕ} {bytes : List ℕ} (c : AllCam
   kept_is = kept_are (λ i. area_key (to c) (first_page first + i)) page_pin (below (pages_named first)) given
 
   module _ (reads : reads_area first code ≡ true)
-      (passed : rpmb_outcome (to c) (region_of (plain_now s) (to c)) (s.registers (to c)) (locked s) (all_frames bytes)
+      (passed : rpmb_outcome (to c) (region_of (plain_now s) (to c)) (s.registers (to c)) (accepts_nothing s) (all_frames bytes)
       ≡ Results code None) where
     inside : AsksInside (length (region_of (plain_now s) (to c)).area) first
     inside =
         let both = and_parts (first.kind == read_data) (is_success code) reads in
-        asks_inside (plain_now s) (to c) (s.registers (to c)) (locked s) first _ code None passed
+        asks_inside (plain_now s) (to c) (s.registers (to c)) (accepts_nothing s) first _ code None passed
         (eqb-true first.kind read_data both.0) both.1
 
     key_there : (i : ℕ) → i < pages_named first →
@@ -157,7 +157,6 @@ module _ {d : DeviceCore} {s : State} {tag : ℕ} {bytes : List ℕ} (c : AllCam
 
     may_keep : MayKeepArea s.translation tag (to c) first
     may_keep = record {
-      mended = (fits c).is_mended;
       some = inside.some;
       few = inside.few;
       keys = key_there;
@@ -209,7 +208,7 @@ module _ {d : DeviceCore} {s : State} {tag : ℕ} {bytes : List ℕ} (c : AllCam
               (not_wanted c) n index other;
         })
 
-  pub answered_keeps : rpmb_outcome (to c) (region_of (plain_now s) (to c)) (s.registers (to c)) (locked s)
+  pub answered_keeps : rpmb_outcome (to c) (region_of (plain_now s) (to c)) (s.registers (to c)) (accepts_nothing s)
       (all_frames bytes) ≡ Results code None → Keeps come (request_decided s c.stands.b (to c) (all_frames bytes) (Results code None))
   answered_keeps passed = by (reads_area first code) refl
     where

@@ -7,7 +7,7 @@ use Rattle.std.proofs.lemmas.Bool.{le-leb}
 use Rattle.ufs_spec.specs.Moves.{Claim, moved}
 use Rattle.ufs_spec.specs.Keys.{IsKey}
 use Rattle.ufs_spec.specs.Plain.{shape_of_numbers, zero_block}
-use Rattle.ufs_spec.specs.Translation.{Translation, free_slots, is_mended}
+use Rattle.ufs_spec.specs.Translation.{Translation, free_slots}
 use Rattle.ufs_spec.specs.declared.flash.Key.{Key}
 use Rattle.ftl_core.specs.Public.{AreClaimed, Claims, Core, Describes, PinsDiffer, keeps_for, keeps_of, key_behind}
 use Rattle.ftl_core.specs.Public.{with_claimed}
@@ -56,7 +56,7 @@ slots_found after t claims tag slots asks p free none begun =
 pub blocks_kept : (after : Core) (t : Translation) (claims : Claims) (tag : ℕ) (key : Key) (blocks size : ℕ) (p : Phase)
     (kept : Bool) → kept ≡ has_room t blocks → PinsDiffer t.pins →
     p ≡ asks_or_busy (phase.SendBlocks (record { blocks = blocks; sent = 0; length = size })) kept →
-    (is_mended t.work.mending ≡ true → key.kind ≡ 1 →
+    (key.kind ≡ 1 →
     ((i : ℕ) → i < blocks → IsKey (shape_of_numbers t.numbers) (key_behind key i)) →
     list_any (keeps_for tag) t.pins ≡ false →
     Describes after (if kept then fold moved t (keeps_of t tag key blocks) else t)) → AreClaimed after claims →
@@ -67,7 +67,7 @@ blocks_kept after t claims tag key blocks size p kept is differ phase_is describ
   differ = differ;
   layer = λ may. (
     subst (λ (b : Bool). Describes after (if b then fold moved t (keeps_of t tag key blocks) else t)) is
-        (described may.mended may.of_data may.there may.new),
+        (described may.of_data may.there may.new),
     claimed,
   );
 }

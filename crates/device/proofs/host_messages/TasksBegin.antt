@@ -1,15 +1,15 @@
 -- A COMMAND begins a task that answers at once, sends data that are known, or waits for all that was accepted.
 use Rattle.std.proofs.Common.{◌≡◌, ℕ, ◌+◌, ◌<◌, Bool, true, false, List, Option, Some, None, length}
 use Rattle.std.proofs.Common.{◌∙◌, refl, sym, ap, subst, arith}
-use Rattle.std.specs.Prelude.{◌==◌, if◌then◌else◌, min, nat_le, Result, Ok, Err}
+use Rattle.std.specs.Prelude.{◌==◌, if◌then◌else◌, min, nat_le, Result, Ok, Err, not}
 use Rattle.std.specs.List.{list_any}
 use Rattle.ufs_spec.proofs.Facts.{false≢true}
 use Rattle.ufs_spec.specs.Exchanges.{Answering, Awaiting, Good, SendingBytes, Status, most_tasks, task_of}
 use Rattle.ufs_spec.specs.Ledger.{before_accepted}
-use Rattle.ufs_spec.specs.Machine.{data_begun, durable, flush_begun}
+use Rattle.ufs_spec.specs.Machine.{data_begun, durable, flush_begun, with_task}
 use Rattle.ufs_spec.specs.Machine as machine
 use Rattle.ufs_spec.specs.Refusals.{Request, State, locked, sends_frames}
-use Rattle.ufs_spec.specs.Translation.{Translation}
+use Rattle.ufs_spec.specs.Translation.{Translation, is_mended}
 use Rattle.ufs_spec.specs.declared.configs.Numbers.{Numbers}
 use Rattle.ufs_spec.specs.declared.scsi.Cdb.{Cdb}
 use Rattle.ftl_core.specs.Public as layer_kept
@@ -168,25 +168,40 @@ module _ (d : DeviceCore) (s : State) (r : Request) (h : Describes d s) (free : 
       Begins (Ok (if immediate then plan.Nothing 0 else plan.Flush)) p →
       Opens (Ok (if immediate then plan.Nothing 0 else plan.Flush)) p (flush_begun s r command immediate)
   flush_begins command true p quiet told begun = nothing_begins command 0 p quiet begun
-  flush_begins command false p quiet told begun =
-      same_phase d r after p (phase.AwaitFrontier (last_number s.translation.ledger) 0) _ begun.0
-      (opens_still d s r h free few after (Some command) 0 (Awaiting (length s.accepted)) _ begun.1
-      (record { wanted = λ i. refl; claimed = λ m total. refl }) told
-      (record {
-        lun = refl;
-        tag = refl;
-        expected = refl;
-        sends = quiet;
-        in_regions = never_in 0 (Some command) quiet;
-        sends_to = λ other. quiet_here other (Some command) quiet;
-        gathers = tt;
-        asked_of = tt;
-        request = refl;
-        asks = tt;
-        fits = tt;
-        doing = (last, refl);
-        read = refl;
-      }) (quiet_task d r (phase.AwaitFrontier (last_number s.translation.ledger) 0)))
+  flush_begins command false p quiet told begun = by (is_mended s.translation.work.mending) refl
     where
       last : last_number s.translation.ledger ≡ before_accepted s.translation.ledger + length s.accepted
       last = let next = number_awaited s h.tied in omega arith
+
+      -- what a flush does that waits, or does not
+      at : Bool → State
+      at b = with_task s r (Some command) 0 (if not b then Answering Good 0 else Awaiting (length s.accepted))
+
+      by : (b : Bool) → is_mended s.translation.work.mending ≡ b → Opens (Ok plan.Flush) p (at b)
+      by true e =
+          same_phase d r after p (phase.AwaitFrontier (last_number s.translation.ledger) 0) _
+          (begun.0 ∙ ap (λ (b : Bool). if b then phase.AwaitFrontier (last_number s.translation.ledger) 0
+          else phase.Answer status.Good 0) e)
+          (opens_still d s r h free few after (Some command) 0 (Awaiting (length s.accepted)) _ begun.1
+          (record { wanted = λ i. refl; claimed = λ m total. refl }) told
+          (record {
+            lun = refl;
+            tag = refl;
+            expected = refl;
+            sends = quiet;
+            in_regions = never_in 0 (Some command) quiet;
+            sends_to = λ other. quiet_here other (Some command) quiet;
+            gathers = tt;
+            asked_of = tt;
+            request = refl;
+            asks = tt;
+            fits = tt;
+            doing = (last, refl);
+            read = refl;
+          }) (quiet_task d r (phase.AwaitFrontier (last_number s.translation.ledger) 0)))
+      by false e =
+          nothing_begins command 0 p quiet (
+            begun.0 ∙ ap (λ (b : Bool). if b then phase.AwaitFrontier (last_number s.translation.ledger) 0
+                else phase.Answer status.Good 0) e,
+            begun.1,
+          )

@@ -2,7 +2,7 @@
 use Rattle.std.proofs.Common.{◌≡◌, ◌≢◌, ◌∙◌, ◌⊎◌, ℕ, ◌+◌, ◌<◌, Bool, true, false, List, [], Option, Some, None, map}
 use Rattle.std.proofs.Common.{refl, sym, ap, subst, inl, inr, ⊎_elim, arith, lt-ltb}
 use Rattle.std.proofs.lemmas.Bool.Decides.{eqb_tells, nat_tests}
-use Rattle.std.specs.Prelude.{◌-◌, ◌*◌, ◌==◌, drop, nat_lt, slice_get, slice_set}
+use Rattle.std.specs.Prelude.{◌-◌, ◌*◌, ◌==◌, drop, nat_lt, slice_get, slice_set, All}
 use Rattle.ufs_spec.specs.Cells.{Cells, Mark}
 use Rattle.ufs_spec.specs.declared.configs.Numbers.{Numbers}
 use Rattle.ufs_spec.specs.declared.flash.Place.{Place}
@@ -21,11 +21,12 @@ use Rattle.write_cache.specs.declared.slots.Pending.{Pending}
 use Rattle.ftl_core.specs.declared.books.Step.{Step}
 use Rattle.unit_map.specs.declared.Stored.{Stored}
 use Rattle.ftl_core.specs.Describes.{BlocksKept, IsFilling, IsFlight, Kept, LedgerKept, PagesFly, PinsKept}
-use Rattle.ftl_core.specs.Describes.{StepReadsKept, WorkKept, block_kept, spot_at}
+use Rattle.ftl_core.specs.Describes.{StepReadsKept, WorkKept, block_kept, spot_at, IsInNoSlot}
 use Rattle.block_table.specs.Rows.{failed_set, filling_but}
 use Rattle.ftl_core.specs.Moves.{flight_set, page_written, rows_failed, rows_in_flight, with_row, with_state}
 use Rattle.ftl_core.proofs.job_taken.Flown.{dies_changed, reads_over, step_reads_over}
 use Rattle.ftl_core.proofs.opened.Spots.{block_lost, block_put, block_vacant}
+use Rattle.readers.specs.declared.pin.Pin.{Pin}
 
 -- The job that ends
 
@@ -102,7 +103,7 @@ pub kept_beside : (c : Core) (t : Translation) (die block : ℕ) (b : DieRow) (x
     PinsKept ledger.frontier (entry_of ledger) c.pins t.pins →
     StepSuits t.numbers c.step step die c.rows t.disk.flights →
     StepReadsKept (at_die t.disk.flights die None) step → work.plan ≡ t.work.plan →
-    (is_mended work.mending ≡ false → c.pins ≡ []) →
+    (is_mended work.mending ≡ false → All (λ (p : Pin). IsInNoSlot p.looked) c.pins) →
     Kept (changed c states (rows_with c die f) pages mending step next)
     (over t die (blocks_with t die block x) cells finished erasing ledger work)
 kept_beside c t die block b x f states pages mending step next cells finished erasing ledger work k there bs fs
@@ -135,7 +136,7 @@ pub kept_over : (c : Core) (t : Translation) (die block : ℕ) (b : DieRow) (x :
     LedgerKept c.numbers c.places pages c.frontier c.last ledger →
     WorkKept c.mending (drop c.repaired c.lost) c.step c.content c.next_mark work ledger →
     PinsKept ledger.frontier (entry_of ledger) c.pins t.pins → work.plan ≡ t.work.plan →
-    (is_mended work.mending ≡ false → c.pins ≡ []) →
+    (is_mended work.mending ≡ false → All (λ (p : Pin). IsInNoSlot p.looked) c.pins) →
     Kept (changed c states (rows_with c die f) pages c.mending c.step c.next_mark)
     (over t die (blocks_with t die block x) cells finished erasing ledger work)
 kept_over c t die block b x f states pages cells finished erasing ledger work k there bs fs flies ls ws ps

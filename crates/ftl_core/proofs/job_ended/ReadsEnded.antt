@@ -21,7 +21,7 @@ use Rattle.power_loss.proofs.books.SmallFacts.{at_die_cases, two_ways}
 use Rattle.block_table.specs.declared.rows.DieRow.{DieRow}
 use Rattle.readers.specs.declared.pin.Pin.{Pin}
 use Rattle.ftl_core.specs.Core.{Core}
-use Rattle.ftl_core.specs.Describes.{Describes, IsWanted, Kept, ReadsKept}
+use Rattle.ftl_core.specs.Describes.{Describes, IsWanted, Kept, ReadsKept, IsInNoSlot}
 use Rattle.ftl_core.specs.Gives.{is_read}
 use Rattle.readers.specs.Pins.{wanted_no_more}
 use Rattle.ftl_core.specs.Moves.{with_row}
@@ -31,6 +31,7 @@ use Rattle.ftl_core.proofs.pins.FoundPins.{found_mapped, found_passes, pin_told}
 use Rattle.ftl_core.proofs.pins.PinsAlike.{pins_mapped}
 use Rattle.ftl_core.proofs.pins.PinsDiffer.{differ_mapped}
 use Rattle.ftl_core.proofs.pins.PinsWanted.{wants_alike}
+use Rattle.std.proofs.lemmas.List.Elements.{All-map}
 
 -- How a read ends
 
@@ -103,7 +104,7 @@ task_kept c t die reader index b place h there flies = record {
   differ = differ_mapped (wanted_no_more reader index) (λ x. refl) (λ x. refl) c.pins k.differ;
   reads = reads;
   step_reads = k.step_reads;
-  readers = λ e. ap (map (wanted_no_more reader index)) (k.readers e);
+  readers = λ e. All-map (λ (p : Pin). IsInNoSlot p.looked) (wanted_no_more reader index) c.pins (k.readers e);
 }
   where
     k : Kept (with_row c die record { filling = b.filling; flight = None })

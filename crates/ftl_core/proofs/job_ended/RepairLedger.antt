@@ -2,11 +2,11 @@
 -- what the ledger has then.
 use Rattle.std.proofs.Common.{◌≡◌, ◌≢◌, ◌∙◌, ℕ, zero, suc, ◌≤◌, Bool, true, List, [], ◌∷◌, Option}
 use Rattle.std.proofs.Common.{Some, None, length, drop, map, refl, sym, ap, subst, ⊎_elim, arith}
-use Rattle.std.specs.Prelude.{◌-◌, ◌&&◌, slice_get}
+use Rattle.std.specs.Prelude.{◌-◌, ◌&&◌, slice_get, All}
 use Rattle.std.specs.List.{slice_index_or}
 use Rattle.ufs_spec.specs.Keys as keys
 use Rattle.ufs_spec.specs.Keys.{IsKey, Item}
-use Rattle.ufs_spec.specs.Ledger.{Entry, Ledger, all_stand, climbed, entry_of, index_in, latest_durable}
+use Rattle.ufs_spec.specs.Ledger.{Entry, Ledger, all_stand, climbed, entry_of, index_in, latest_durable, settled_look}
 use Rattle.ufs_spec.specs.Ledger.{name_or}
 use Rattle.ufs_spec.specs.Plain.{shape_of_numbers}
 use Rattle.ufs_spec.specs.Translation as layer
@@ -21,6 +21,7 @@ use Rattle.readers.specs.declared.pin.Pin.{Pin}
 use Rattle.unit_map.specs.declared.Stored.{Stored}
 use Rattle.ftl_core.specs.Core.{Core}
 use Rattle.ftl_core.specs.Describes.{AreToRepair, LedgerKept, PinsKept, Standing, name_at, names_pending}
+use Rattle.ftl_core.specs.Describes.{IsInNoSlot, IsLookOf}
 use Rattle.ftl_core.specs.Ends.{risen}
 use Rattle.unit_map.specs.Places.{places_noted}
 use Rattle.ftl_core.specs.Moves.{stored_of}
@@ -32,6 +33,10 @@ use Rattle.ftl_core.proofs.look_and_accept.Numbers.{behind}
 use Rattle.ftl_core.proofs.steps_ordered.NonePending.{no_names, none_kept}
 use Rattle.ftl_core.proofs.pins.PinsSettled.{at_frontier}
 use Rattle.ftl_core.proofs.pages.StoredNames.{AreAlike}
+use Rattle.std.proofs.lemmas.List.Elements.{All-head, All-tail}
+use Rattle.ufs_spec.specs.Moves.{settled_pin}
+use Rattle.ufs_spec.specs.declared.layer.Looked.{Looked}
+use Rattle.ufs_spec.specs.declared.layer.Looked.TheVariants.{InSlot, OnPage, Unwritten}
 
 -- The last group
 
@@ -70,12 +75,27 @@ climbs_one stands frontier x gs is there =
 
 -- What is kept
 
--- where readers keep nothing, nothing is settled
-pub pins_empty : (frontier after : ℕ) (entries now : Name → Option Entry) (f : layer.Pin → layer.Pin) (ps : List Pin)
-    (qs : List layer.Pin) → ps ≡ [] → PinsKept frontier entries ps qs → PinsKept after now ps (map f qs)
-pins_empty frontier after entries now f [] [] none h = tt
-pins_empty frontier after entries now f [] (q ∷ qs) none h = absurd h
-pins_empty frontier after entries now f (p ∷ ps) qs none h = cc
+-- what is in no slot looks the same at another frontier
+settles_off : (l : Ledger) (frontier after : ℕ) (entries : Name → Option Entry) (k : Key) (x y : Looked) → y ≡ x →
+    IsInNoSlot x → IsLookOf frontier entries k y →
+    (settled_look l y ≡ x) × IsLookOf after entries k (settled_look l y)
+settles_off l frontier after entries k x Unwritten same off there = (same, tt)
+settles_off l frontier after entries k x (OnPage name place) same off there = (same, there)
+settles_off l frontier after entries k x (InSlot name) same off there = absurd (subst IsInNoSlot (sym same) off)
+
+-- where readers keep no slot, nothing is settled
+pub pins_off : (l : Ledger) (frontier after : ℕ) (entries : Name → Option Entry) (ps : List Pin) (qs : List layer.Pin) →
+    All (λ (p : Pin). IsInNoSlot p.looked) ps → PinsKept frontier entries ps qs →
+    PinsKept after entries ps (map (settled_pin l) qs)
+pins_off l frontier after entries [] [] off h = tt
+pins_off l frontier after entries [] (q ∷ qs) off h = absurd h
+pins_off l frontier after entries (p ∷ ps) [] off h = absurd h
+pins_off l frontier after entries (p ∷ ps) (q ∷ qs) off h =
+    let told = settles_off l frontier after entries p.key p.looked q.looked h.0.looked
+    (All-head (λ (z : Pin). IsInNoSlot z.looked) p ps off) h.0.there in (
+      record { tag = h.0.tag; index = h.0.index; looked = told.0; there = told.1; wanted = h.0.wanted },
+      pins_off l frontier after entries ps qs (All-tail (λ (z : Pin). IsInNoSlot z.looked) p ps off) h.1,
+    )
 
 -- a repair has one item
 one_at : (x y : Item) (i : ℕ) → slice_get (x ∷ []) i ≡ Some y → (i ≡ 0) × (x ≡ y)

@@ -41,7 +41,7 @@ use Rattle.ftl_core.proofs.group_settled.PageWritten.{with_group_page}
 use Rattle.ftl_core.proofs.job_ended.ChangeParts.{blocks_on, blocks_put, rows_with, changed, closed_fills}
 use Rattle.ftl_core.proofs.job_ended.ChangeParts.{filling_kept, kept_beside, page_ends, states_with}
 use Rattle.ftl_core.proofs.job_ended.JobsOver.{filling_on, filling_over}
-use Rattle.ftl_core.proofs.job_ended.RepairLedger.{climbs_one, last_alone, ledger_repaired, pins_empty}
+use Rattle.ftl_core.proofs.job_ended.RepairLedger.{climbs_one, last_alone, ledger_repaired, pins_off}
 use Rattle.ftl_core.proofs.job_ended.RepairLedger.{repaired_left}
 use Rattle.ftl_core.proofs.job_ended.StepsOver.{none_reads, suits_next}
 use Rattle.ftl_core.proofs.job_taken.Flown.{die_within}
@@ -232,9 +232,8 @@ module _ (c : Core) (t : Translation) (die : ℕ) (b : DieRow) (o : OpenBlock) (
     };
     plan = k0.plan;
     claims = k0.claims;
-    pins = pins_empty t.ledger.frontier (suc t.ledger.frontier) (entry_of t.ledger) (entry_of t.ledger)
-        (settled_pin (at_frontier (with_page t.ledger name place) (suc t.ledger.frontier))) c.pins t.pins
-        (h.kept.readers not_mended) h.kept.pins;
+    pins = pins_off (at_frontier (with_page t.ledger name place) (suc t.ledger.frontier)) t.ledger.frontier
+        (suc t.ledger.frontier) (entry_of t.ledger) c.pins t.pins (h.kept.readers not_mended) h.kept.pins;
     differ = k0.differ;
     reads = k0.reads;
     step_reads = k0.step_reads;

@@ -10,8 +10,8 @@ use Rattle.ufs_spec.proofs.Facts.{false≢true, true≢false}
 use Rattle.ufs_spec.proofs.Lists.{any_none, get_below, length-below, none_passes}
 use Rattle.ufs_spec.specs.Configs.{InRange}
 use Rattle.ufs_spec.specs.Keys.{IsKey, below}
-use Rattle.ufs_spec.specs.Ledger.{Entry, entry_of, look}
-use Rattle.ufs_spec.specs.Moves.{Keep, Move, moved}
+use Rattle.ufs_spec.specs.Ledger.{Entry, entry_of}
+use Rattle.ufs_spec.specs.Moves.{Keep, Move, look_now, moved}
 use Rattle.ufs_spec.specs.Plain.{shape_of_numbers}
 use Rattle.ufs_spec.specs.Translation as layer
 use Rattle.ufs_spec.specs.Translation.{Translation, is_mended}
@@ -25,18 +25,19 @@ use Rattle.ftl_core.specs.RestsKept.{waiting}
 use Rattle.ftl_core.proofs.rests_owed.RestsStay.{same_rests}
 use Rattle.readers.specs.declared.pin.Pin.{Pin}
 use Rattle.ftl_core.specs.Core.{Core}
-use Rattle.ftl_core.specs.Describes.{Describes, IsLookOf, PinKept, PinsKept}
+use Rattle.ftl_core.specs.Describes.{Describes, IsInNoSlot, IsLookOf, PinKept, PinsKept}
 use Rattle.ftl_core.specs.Moves.{claims_for, kept_all, look_of, pin_now}
 use Rattle.readers.specs.Pins.{is_of_reader, is_pin_of, most_pins}
 use Rattle.write_cache.specs.Slots.{key_at}
 use Rattle.ftl_core.specs.Public.{AreClaimed, Claims}
 use Rattle.ftl_core.specs.Tells.{PinsDiffer, keep_at, keeps_for, key_behind}
 use Rattle.ftl_core.proofs.look_and_accept.KeysBehind.{keys_same}
-use Rattle.ftl_core.proofs.look_and_accept.LookedPages.{looked_there}
-use Rattle.ftl_core.proofs.look_and_accept.LookedUp.{looks}
+use Rattle.ftl_core.proofs.look_and_accept.LookedPages.{found_off, found_there}
+use Rattle.ftl_core.proofs.look_and_accept.LookedUp.{looks_now}
 use Rattle.ftl_core.proofs.pages.NamesBehind.{get_either}
 use Rattle.ftl_core.proofs.pins.PinsAlike.{pins_more}
 use Rattle.ftl_core.proofs.pins.PinsDiffer.{differ_more, tasks_differ}
+use Rattle.std.proofs.lemmas.List.Elements.{All-push}
 
 -- What readers keep is what tasks keep
 
@@ -70,7 +71,7 @@ abbrev pub pin_at : Translation → ℕ → Key → Bool → ℕ → layer.Pin
 pin_at t reader k all i = record {
   tag = reader;
   index = i;
-  looked = look t.ledger (key_behind k i);
+  looked = look_now t (key_behind k i);
   wanted = all || (i == 0);
 }
 
@@ -129,10 +130,10 @@ moved_all t reader k all (suc n) =
 -- One block that is kept
 
 pub keeps_block : (c : Core) (t : Translation) (k : Key) (p : Pin) (q : layer.Pin) → Describes c t →
-    is_mended t.work.mending ≡ true → IsKey (shape_of_numbers t.numbers) k → q.looked ≡ look t.ledger k →
+    IsKey (shape_of_numbers t.numbers) k → q.looked ≡ look_now t k →
     PinKept t.ledger.frontier (entry_of t.ledger) p q → list_any (is_pin_of p.reader p.index) c.pins ≡ false →
     Describes (record c { pins = c.pins ++ p ∷ [] }) (moved t (Keep k q))
-keeps_block c t k p q h mended is looks kept new = record {
+keeps_block c t k p q h is looks kept new = record {
   valid = all_keep t (Keep k q) h.valid (is, looks);
   live = h.live;
   copies = h.copies;
@@ -152,7 +153,8 @@ keeps_block c t k p q h mended is looks kept new = record {
         let w = h.kept.reads die tag index place e in
         (w.0, found_more (is_pin_of tag index) c.pins (p ∷ []) w.1, w.2);
     step_reads = h.kept.step_reads;
-    readers = λ e. absurd (true≢false (sym mended ∙ e));
+    readers = λ e. All-push (λ (x : Pin). IsInNoSlot x.looked) c.pins p (h.kept.readers e)
+        (subst IsInNoSlot (sym looks ∙ kept.looked) (found_off t k h.valid is e));
   };
 }
 
@@ -162,17 +164,17 @@ keeps_block c t k p q h mended is looks kept new = record {
 pub record IsKeepable (c : Core) (t : Translation) (k : Key) (i : ℕ) : Type 0 where
   pub key : IsKey (shape_of_numbers t.numbers) (key_behind k i)
   pub same : key_at k i ≡ key_behind k i
-  pub looks : look_of c (key_behind k i) ≡ look t.ledger (key_behind k i)
+  pub looks : look_of c (key_behind k i) ≡ look_now t (key_behind k i)
 
 block_kept : (c : Core) (t : Translation) (reader : ℕ) (k : Key) (all : Bool) (i : ℕ) → Valid t →
-    is_mended t.work.mending ≡ true → IsKeepable c t k i →
+    IsKeepable c t k i →
     PinKept t.ledger.frontier (entry_of t.ledger) (pin_now c reader k all i) (pin_at t reader k all i)
-block_kept c t reader k all i v mended may = record {
+block_kept c t reader k all i v may = record {
   tag = refl;
   index = refl;
   looked = sym may.looks ∙ ap (look_of c) (sym may.same);
-  there = subst (λ (x : Key). IsLookOf t.ledger.frontier (entry_of t.ledger) x (look t.ledger (key_behind k i)))
-      (sym may.same) (looked_there t (key_behind k i) v mended may.key);
+  there = subst (λ (x : Key). IsLookOf t.ledger.frontier (entry_of t.ledger) x (look_now t (key_behind k i)))
+      (sym may.same) (found_there t (key_behind k i) v may.key);
   wanted = refl;
 }
 
@@ -199,19 +201,19 @@ next_new c reader k all n none =
         (get_either c.pins (map (pin_now c reader k all) (below n)) j p h)
 
 kept_all_right : (c : Core) (t : Translation) (reader : ℕ) (k : Key) (all : Bool) (blocks : ℕ) → Describes c t →
-    is_mended t.work.mending ≡ true → ((i : ℕ) → i < blocks → IsKeepable c t k i) →
+    ((i : ℕ) → i < blocks → IsKeepable c t k i) →
     list_any (is_of_reader reader) c.pins ≡ false → (n : ℕ) → n ≤ blocks →
     Describes (kept_all c reader k all n) (record t { pins = t.pins ++ pins_at t reader k all n })
-kept_all_right c t reader k all blocks h mended each none zero l =
+kept_all_right c t reader k all blocks h each none zero l =
     subst (λ (ps : List layer.Pin). Describes (kept_all c reader k all zero) (record t { pins = ps }))
     (sym (append-nil t.pins))
     (subst (λ (ps : List Pin). Describes (record c { pins = ps }) t) (sym (append-nil c.pins)) h)
-kept_all_right c t reader k all blocks h mended each none (suc n) l =
+kept_all_right c t reader k all blocks h each none (suc n) l =
     let may = each n (omega arith) in
-    let so_far = kept_all_right c t reader k all blocks h mended each none n (omega arith) in
+    let so_far = kept_all_right c t reader k all blocks h each none n (omega arith) in
     let next = keeps_block (kept_all c reader k all n) (record t { pins = t.pins ++ pins_at t reader k all n })
-    (key_behind k n) (pin_now c reader k all n) (pin_at t reader k all n) so_far mended may.key refl
-    (block_kept c t reader k all n h.valid mended may) (next_new c reader k all n none) in
+    (key_behind k n) (pin_now c reader k all n) (pin_at t reader k all n) so_far may.key refl
+    (block_kept c t reader k all n h.valid may) (next_new c reader k all n none) in
     subst (Describes (kept_all c reader k all (suc n))) (moved_more t reader k all n)
     (subst (λ (x : Core). Describes x
     (record t { pins = (t.pins ++ pins_at t reader k all n) ++ pin_at t reader k all n ∷ [] }))
@@ -219,35 +221,34 @@ kept_all_right c t reader k all blocks h mended each none (suc n) l =
 
 -- a reader who keeps nothing keeps what each of the blocks has
 pub keeps_all : (c : Core) (t : Translation) (reader : ℕ) (k : Key) (all : Bool) (blocks : ℕ) → Describes c t →
-    is_mended t.work.mending ≡ true → ((i : ℕ) → i < blocks → IsKeepable c t k i) →
+    ((i : ℕ) → i < blocks → IsKeepable c t k i) →
     list_any (keeps_for reader) t.pins ≡ false →
     Describes (kept_all c reader k all blocks) (fold moved t (keeps_at t reader k all blocks))
-keeps_all c t reader k all blocks h mended each none =
+keeps_all c t reader k all blocks h each none =
     subst (Describes (kept_all c reader k all blocks)) (sym (moved_all t reader k all blocks))
-    (kept_all_right c t reader k all blocks h mended each
+    (kept_all_right c t reader k all blocks h each
     (reader_keeps t.ledger.frontier (entry_of t.ledger) reader c.pins t.pins h.kept.pins ∙ none) blocks (omega arith))
 
 each_keepable : (c : Core) (t : Translation) (k : Key) (blocks : ℕ) → InRange c.numbers → Describes c t →
-    is_mended t.work.mending ≡ true →
     ((i : ℕ) → i < blocks → IsKey (shape_of_numbers t.numbers) (key_behind k i)) →
     (i : ℕ) → i < blocks → IsKeepable c t k i
-each_keepable c t k blocks ranges h mended keys i l = record {
+each_keepable c t k blocks ranges h keys i l = record {
   key = keys i l;
   same = keys_same t.numbers k i (subst InRange h.kept.numbers ranges) (keys i l);
-  looks = looks c t h mended (key_behind k i) (keys i l);
+  looks = looks_now c t h (key_behind k i) (keys i l);
 }
 
--- once the device is mended, and has the keys of all of them. Where there is no room for all, nothing is kept
+-- if the device has the keys of all of them. Where there is no room for all, nothing is kept
 pub keeps_told : (c after : Core) (reader : ℕ) (k : Key) (all : Bool) (blocks : ℕ) (room : Bool) →
     after ≡ (if room then kept_all c reader k all blocks else c) →
-    InRange c.numbers → (t : Translation) → Describes c t → is_mended t.work.mending ≡ true →
+    InRange c.numbers → (t : Translation) → Describes c t →
     ((i : ℕ) → i < blocks → IsKey (shape_of_numbers t.numbers) (key_behind k i)) →
     list_any (keeps_for reader) t.pins ≡ false →
     Describes after (if room then fold moved t (keeps_at t reader k all blocks) else t)
-keeps_told c after reader k all blocks true is ranges t h mended keys none =
+keeps_told c after reader k all blocks true is ranges t h keys none =
     subst (λ (x : Core). Describes x (fold moved t (keeps_at t reader k all blocks))) (sym is)
-    (keeps_all c t reader k all blocks h mended (each_keepable c t k blocks ranges h mended keys) none)
-keeps_told c after reader k all blocks false is ranges t h mended keys none =
+    (keeps_all c t reader k all blocks h (each_keepable c t k blocks ranges h keys) none)
+keeps_told c after reader k all blocks false is ranges t h keys none =
     subst (λ (x : Core). Describes x t) (sym is) h
 
 -- there is room for as many as the layer that is specified has room for

@@ -1,7 +1,7 @@
 -- What is looked up of a key is of the key: the page of a group that has it, in its slot or where it stands.
-use Rattle.std.proofs.Common.{◌≡◌, ◌<◌, ◌≤◌, true, false, length, Option, Some, None, refl, sym, ◌∙◌, subst}
+use Rattle.std.proofs.Common.{◌≡◌, ◌<◌, ◌≤◌, true, false, length, Option, Some, None, refl, sym, ◌∙◌, subst, le-ltb}
 use Rattle.std.proofs.Common.{⊎_elim, arith}
-use Rattle.std.specs.Prelude.{nat_lt}
+use Rattle.std.specs.Prelude.{nat_lt, if◌then◌else◌, Bool}
 use Rattle.ufs_spec.proofs.Facts.{ltb-false, ltb-true}
 use Rattle.ufs_spec.specs.Ledger.{entry_of, latest, latest_durable, look, looked_at, looked_on}
 use Rattle.ufs_spec.specs.Translation.{Translation, is_mended}
@@ -14,9 +14,11 @@ use Rattle.power_loss.specs.Invariant.{Valid}
 use Rattle.power_loss.proofs.books.PagesByName.{some_is}
 use Rattle.power_loss.proofs.books.LastOfEachKey.{IsLastOf, NoneOf, latest_cases}
 use Rattle.power_loss.proofs.kept_pages.LookedUpPages.{AreRewritten, last_page, latest_is_durable, latest_right}
-use Rattle.power_loss.proofs.kept_pages.LookedUpPages.{settled_mended}
+use Rattle.power_loss.proofs.kept_pages.LookedUpPages.{durable_within as durable_below, settled_mended}
 use Rattle.power_loss.proofs.books.SmallFacts.{if_false, if_true, two_ways}
-use Rattle.ftl_core.specs.Describes.{IsLookOf, IsNameOf}
+use Rattle.ftl_core.specs.Describes.{IsLookOf, IsNameOf, IsInNoSlot}
+use Rattle.ufs_spec.specs.Moves.{look_now}
+use Rattle.power_loss.proofs.shown_blocks.LooksShowContents.{HasContent, durable_has}
 
 -- once the device is mended what is lost is written again
 rewritten : (t : Translation) → Valid t → is_mended t.work.mending ≡ true → AreRewritten t
@@ -83,3 +85,51 @@ durable_within t k name v mended has e = (latest_right t k name v (rewritten t v
 pub looked_there : (t : Translation) (k : Key) → Valid t → is_mended t.work.mending ≡ true → HasKey (book t) k →
     IsLookOf t.ledger.frontier (entry_of t.ledger) k (look t.ledger k)
 looked_there t k v mended has = look_there t k (latest t.ledger k) v (rewritten t v mended) has refl
+
+-- until the device is mended it is the page of the key at the frontier
+durable_there : (t : Translation) (k : Key) (o : Option Name) → Valid t → HasKey (book t) k →
+    latest_durable t.ledger k ≡ o → HasContent t.ledger k o (t.ledger.base k) →
+    IsLookOf t.ledger.frontier (entry_of t.ledger) k (looked_at t.ledger o)
+durable_there t k None v has e c = tt
+durable_there t k (Some name) v has e c =
+    subst (IsLookOf t.ledger.frontier (entry_of t.ledger) k)
+    (sym (if_false (nat_lt t.ledger.frontier name.number) (InSlot name)
+    (looked_on name (t.ledger.standing name.number name.index))
+    (le-ltb t.ledger.frontier name.number (durable_below k name v has e))))
+    (stands (t.ledger.standing name.number name.index))
+  where
+    stands : (at : Option Place) → IsLookOf t.ledger.frontier (entry_of t.ledger) k (looked_on name at)
+    stands None = tt
+    stands (Some p) = (c.entry, c.is, c.key)
+
+-- what a task finds of a key of the device is of the key
+pub found_there : (t : Translation) (k : Key) → Valid t → HasKey (book t) k →
+    IsLookOf t.ledger.frontier (entry_of t.ledger) k (look_now t k)
+found_there t k v has = by (is_mended t.work.mending) refl
+  where
+    by : (b : Bool) → is_mended t.work.mending ≡ b →
+        IsLookOf t.ledger.frontier (entry_of t.ledger) k
+        (if b then look t.ledger k else looked_at t.ledger (latest_durable t.ledger k))
+    by true e = looked_there t k v e has
+    by false e = durable_there t k (latest_durable t.ledger k) v has refl (durable_has v e has)
+
+-- and in no slot, until the device is mended
+pub found_off : (t : Translation) (k : Key) → Valid t → HasKey (book t) k → is_mended t.work.mending ≡ false →
+    IsInNoSlot (look_now t k)
+found_off t k v has un =
+    subst (λ (b : Bool). IsInNoSlot
+    (if b then look t.ledger k else looked_at t.ledger (latest_durable t.ledger k))) (sym un)
+    (by (latest_durable t.ledger k) refl)
+  where
+    on : (name : Name) (at : Option Place) → IsInNoSlot (looked_on name at)
+    on name None = tt
+    on name (Some p) = tt
+
+    by : (o : Option Name) → latest_durable t.ledger k ≡ o → IsInNoSlot (looked_at t.ledger o)
+    by None e = tt
+    by (Some name) e =
+        subst IsInNoSlot
+        (sym (if_false (nat_lt t.ledger.frontier name.number) (InSlot name)
+        (looked_on name (t.ledger.standing name.number name.index))
+        (le-ltb t.ledger.frontier name.number (durable_below k name v has e))))
+        (on name (t.ledger.standing name.number name.index))

@@ -1,7 +1,7 @@
 -- What the layer looks up is what the ledger has.
 use Rattle.std.proofs.Common.{◌≡◌, ◌<◌, ◌≤◌, true, Option, Some, None, sym, ap, ◌∙◌, subst, ⊎_elim, arith, lt-ltb}
-use Rattle.std.proofs.Common.{le-ltb}
-use Rattle.std.specs.Prelude.{nat_lt}
+use Rattle.std.proofs.Common.{le-ltb, false, refl}
+use Rattle.std.specs.Prelude.{nat_lt, if◌then◌else◌, Bool, List}
 use Rattle.ufs_spec.specs.Keys.{IsKey}
 use Rattle.ufs_spec.specs.Ledger as ledger
 use Rattle.ufs_spec.specs.Ledger.{Ledger, latest_durable, latest_in, look, looked_on}
@@ -13,7 +13,8 @@ use Rattle.ufs_spec.specs.declared.layer.Looked.TheVariants.{InSlot}
 use Rattle.ufs_spec.specs.declared.layer.Name.{Name}
 use Rattle.power_loss.proofs.books.LastOfEachKey.{IsLastOf, NoneOf, latest_cases}
 use Rattle.power_loss.proofs.books.SmallFacts.{if_false, if_true}
-use Rattle.power_loss.proofs.kept_pages.LookedUpPages.{latest_splits}
+use Rattle.power_loss.proofs.kept_pages.LookedUpPages.{durable_within as durable_below, latest_splits}
+use Rattle.ftl_core.proofs.job_taken.Mended.{none_waiting}
 use Rattle.write_cache.specs.declared.slots.Pending.{Pending}
 use Rattle.unit_map.specs.declared.Stored.{Stored}
 use Rattle.ftl_core.specs.Core.{Core}
@@ -25,6 +26,7 @@ use Rattle.ftl_core.proofs.look_and_accept.LookedPages.{durable_within}
 use Rattle.ftl_core.proofs.look_and_accept.Numbers.{behind, kept_pages}
 use Rattle.ftl_core.proofs.pages.NamesBehind.{name_is}
 use Rattle.ftl_core.proofs.pages.StoredNames.{AreAlike, none_there, stored_there}
+use Rattle.ufs_spec.specs.Moves.{look_now}
 
 -- the last page of the key is looked at in its slot
 in_slot : (l : Ledger) (name : Name) (o : Option Pending) (s : Option Stored) (p : Pending) → o ≡ Some p →
@@ -79,3 +81,17 @@ module _ (c : Core) (t : Translation) (h : Describes c t) (mended : is_mended t.
           (on_page t.ledger (stored_of c k) (latest_durable t.ledger k)
           (h.kept.ledger_kept.places k (subst (λ (n : Numbers). IsKey (shape_of_numbers n) k) (sym h.kept.numbers) is))
           (λ name e. durable_within t k name h.valid mended is e)))
+
+-- what a task finds of a key is looked up, whether the device is mended or not: until then no slot has a group
+pub looks_now : (c : Core) (t : Translation) → Describes c t → (k : Key) → IsKey (shape_of_numbers t.numbers) k →
+    look_of c k ≡ look_now t k
+looks_now c t h k is = by (is_mended t.work.mending) refl
+  where
+    by : (b : Bool) → is_mended t.work.mending ≡ b →
+        look_of c k ≡ (if b then look t.ledger k else ledger.looked_at t.ledger (latest_durable t.ledger k))
+    by true e = looks c t h e k is
+    by false e =
+        ap (λ (ps : List Pending). looked_at (last_page k ps) (stored_of c k)) (none_waiting c t h e)
+        ∙ on_page t.ledger (stored_of c k) (latest_durable t.ledger k)
+        (h.kept.ledger_kept.places k (subst (λ (n : Numbers). IsKey (shape_of_numbers n) k) (sym h.kept.numbers) is))
+        (λ name f. durable_below k name h.valid is f)

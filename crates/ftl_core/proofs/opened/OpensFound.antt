@@ -49,7 +49,7 @@ use Rattle.unit_map.specs.declared.Stored.{Stored}
 use Rattle.power_loss.proofs.laid_rests.AllMoves.{laid_opened}
 use Rattle.power_loss.proofs.ordered_lists.ElementsAndOrders.{contained_in}
 use Rattle.ftl_core.specs.Core.{Core}
-use Rattle.ftl_core.specs.Describes.{AreToRepair, RowKept, Describes, DiesKept, Kept}
+use Rattle.ftl_core.specs.Describes.{AreToRepair, RowKept, Describes, DiesKept, Kept, IsInNoSlot}
 use Rattle.ftl_core.specs.Describes.{LedgerKept, PagesKept, PinsKept, Standing, StepKept, WorkKept, mending_kept}
 use Rattle.ftl_core.specs.Describes.{WritesGroup, spot_at}
 use Rattle.ftl_core.specs.Moves.{first_mending, idle_row, is_own, mark_number_behind, mending_from, same_regions}
@@ -61,6 +61,7 @@ use Rattle.ftl_core.proofs.live_pages.OpenedLive.{opened_knows}
 use Rattle.ftl_core.proofs.live_pages.StoredPages.{stored_owned}
 use Rattle.ftl_core.proofs.opened.FoundBlocks.{blocks_found}
 use Rattle.ftl_core.proofs.pages.StoredNames.{AreAlike, stored_is}
+use Rattle.readers.specs.declared.pin.Pin.{Pin}
 
 -- Dies
 
@@ -331,7 +332,7 @@ opens_right n f c bad t four pages right within sound found o =
       differ = tt;
       reads = λ die tag index place e. absurd (none_some _ (sym (o.disk.idle die) ∙ e));
       step_reads = λ die place e. absurd (none_some _ (sym (o.disk.idle die) ∙ e));
-      readers = λ un. refl;
+      readers = λ un. All-nil (λ (p : Pin). IsInNoSlot p.looked);
     } in
     record {
       valid = valid;

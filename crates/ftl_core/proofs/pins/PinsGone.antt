@@ -25,12 +25,13 @@ use Rattle.block_table.specs.declared.rows.OpenBlock.{OpenBlock}
 use Rattle.readers.specs.declared.pin.Pin.{Pin}
 use Rattle.ftl_core.specs.declared.books.Step.{Step}
 use Rattle.ftl_core.specs.Core.{Core}
-use Rattle.ftl_core.specs.Describes.{RowKept, IsFlight, Kept, PinsKept, WritesGroup}
+use Rattle.ftl_core.specs.Describes.{RowKept, IsFlight, Kept, PinsKept, WritesGroup, IsInNoSlot}
 use Rattle.ftl_core.specs.Moves.{flight_without, flight_without_block, without_block}
 use Rattle.readers.specs.Pins.{is_of_reader, is_pin_of}
 use Rattle.ftl_core.specs.Moves.{without_reader}
 use Rattle.ftl_core.proofs.pins.FoundPins.{found_kept, pin_told}
 use Rattle.ftl_core.proofs.pins.PinsDiffer.{differ_kept}
+use Rattle.std.proofs.lemmas.List.Elements.{All-filter}
 
 -- What is let go, by reader and index
 
@@ -212,7 +213,7 @@ left_kept c t gone k = record {
         w.2,
       );
   step_reads = λ die place e. k.step_reads die place (step_before gone (t.disk.flights die) place e);
-  readers = λ e. ap (filter (is_left gone)) (k.readers e);
+  readers = λ e. All-filter (is_left gone) (λ (p : Pin). IsInNoSlot p.looked) c.pins (k.readers e);
 }
 
 -- Of one block, or of all that a reader kept

@@ -10,11 +10,12 @@ use Rattle.ufs_spec.specs.declared.flash.Place.{Place}
 use Rattle.ufs_spec.specs.declared.layer.Name.{Name}
 use Rattle.readers.specs.declared.pin.Pin.{Pin}
 use Rattle.ftl_core.specs.Core.{Core}
-use Rattle.ftl_core.specs.Describes.{IsWanted, Kept, PinKept}
+use Rattle.ftl_core.specs.Describes.{IsWanted, Kept, PinKept, IsInNoSlot}
 use Rattle.readers.specs.Pins.{is_pin_of, wanted_now}
 use Rattle.ftl_core.proofs.pins.FoundPins.{found_mapped, same_test}
 use Rattle.ftl_core.proofs.pins.PinsAlike.{pins_mapped}
 use Rattle.ftl_core.proofs.pins.PinsDiffer.{differ_mapped}
+use Rattle.std.proofs.lemmas.List.Elements.{All-map}
 
 -- so it is noted with the pin
 abbrev pub want_noted : ℕ → ℕ → Bool → Pin → Pin
@@ -67,5 +68,5 @@ wants_kept c t reader index k = record {
         still_wanted reader index place r.0 r.2,
       );
   step_reads = k.step_reads;
-  readers = λ e. ap (map (wanted_now reader index)) (k.readers e);
+  readers = λ e. All-map (λ (p : Pin). IsInNoSlot p.looked) (wanted_now reader index) c.pins (k.readers e);
 }

@@ -1,7 +1,8 @@
 -- What readers keep shows in the layer that is specified: what they look at, let go and want next.
 use Rattle.std.proofs.Common.{◌≡◌, ℕ, ◌+◌, ◌≤◌, true, List, Option, Some, None, ap, drop, map, max, refl, sym, subst, ⊎_elim}
-use Rattle.std.specs.Prelude.{IsSome, filter, find, not, option_map}
-use Rattle.ufs_spec.proofs.Facts.{cases_Bool, false≢true}
+use Rattle.std.proofs.Common.{◌∷◌, [], false}
+use Rattle.std.specs.Prelude.{IsSome, filter, find, not, option_map, All, if◌then◌else◌, Bool}
+use Rattle.ufs_spec.proofs.Facts.{cases_Bool, false≢true, same_Some}
 use Rattle.ufs_spec.specs.Ledger.{Ledger, before_accepted, entry_of}
 use Rattle.ufs_spec.specs.Moves as move
 use Rattle.ufs_spec.specs.Moves.{Acknowledge, LetGo, LetGoAll, WantPage, is_for, is_for_task, moved}
@@ -19,13 +20,16 @@ use Rattle.readers.specs.declared.pin.Pin.{Pin}
 use Rattle.ftl_core.specs.declared.books.Step.{Step}
 use Rattle.ftl_core.specs.declared.books.Step.TheVariants as steps
 use Rattle.ftl_core.specs.Core.{Core}
-use Rattle.ftl_core.specs.Describes.{Describes, StepKept, WorkKept}
+use Rattle.ftl_core.specs.Describes.{Describes, StepKept, WorkKept, IsInNoSlot}
 use Rattle.ftl_core.specs.Moves.{looked_by, next_wanted, unpinned, without_block}
 use Rattle.readers.specs.Pins.{is_pin_of, wanted_now}
 use Rattle.ftl_core.specs.Tells.{looked_of}
 use Rattle.ftl_core.proofs.pins.FoundPins.{FoundKept, pins_found}
 use Rattle.ftl_core.proofs.pins.PinsGone.{let_go_kept, let_one_go_kept}
 use Rattle.ftl_core.proofs.pins.PinsWanted.{wants_kept}
+use Rattle.std.proofs.lemmas.List.Elements.{All-head, All-tail}
+use Rattle.ufs_spec.specs.declared.layer.Looked.TheVariants.{InSlot}
+use Rattle.ufs_spec.specs.declared.layer.Name.{Name}
 
 -- What is kept
 
@@ -43,13 +47,26 @@ pinned_right c t reader index h =
     by None (Some q) k = absurd k
     by (Some p) None k = absurd k
 
--- it keeps something only once the device is mended
-pub keeps_mended : (c : Core) (t : Translation) (reader index : ℕ) → Describes c t →
-    IsSome (looked_by reader index c.pins) → layer.is_mended t.work.mending ≡ true
-keeps_mended c t reader index h some =
-    ⊎_elim (λ e. e)
-    (λ e. absurd (false≢true
-    (subst (λ (ps : List Pin). IsSome (looked_by reader index ps)) (h.kept.readers e) some)))
+-- of pins in no slot none is found in one
+none_in_slot : (reader index : ℕ) (ps : List Pin) (name : Name) → All (λ (p : Pin). IsInNoSlot p.looked) ps →
+    looked_by reader index ps ≡ Some (InSlot name) → ⊥
+none_in_slot reader index [] name off e = cc
+none_in_slot reader index (p ∷ ps) name off e =
+    by (is_pin_of reader index p) e
+    (none_in_slot reader index ps name (All-tail (λ (z : Pin). IsInNoSlot z.looked) p ps off))
+  where
+    by : (b : Bool) →
+        option_map (λ (z : Pin). z.looked) (if b then Some p else find (is_pin_of reader index) ps)
+        ≡ Some (InSlot name) → (looked_by reader index ps ≡ Some (InSlot name) → ⊥) → ⊥
+    by true is rest = subst IsInNoSlot (same_Some p.looked (InSlot name) is)
+        (All-head (λ (z : Pin). IsInNoSlot z.looked) p ps off)
+    by false is rest = rest is
+
+-- it keeps a slot only once the device is mended
+pub keeps_mended : (c : Core) (t : Translation) (reader index : ℕ) (name : Name) → Describes c t →
+    looked_by reader index c.pins ≡ Some (InSlot name) → layer.is_mended t.work.mending ≡ true
+keeps_mended c t reader index name h is =
+    ⊎_elim (λ e. e) (λ e. absurd (none_in_slot reader index c.pins name (h.kept.readers e) is))
     (cases_Bool (layer.is_mended t.work.mending))
 
 -- what readers keep is there

@@ -24,15 +24,15 @@ use Rattle.power_loss.specs.Book.{BaseAt, BaseNone, Book, FirstRight, HasKey, bo
 use Rattle.power_loss.specs.Invariant.{Valid}
 use Rattle.ftl_core.specs.declared.books.Mending.TheVariants as mendings
 use Rattle.write_cache.specs.declared.slots.Pending.{Pending}
-use Rattle.readers.specs.declared.pin.Pin.{Pin}
 use Rattle.ftl_core.specs.declared.books.Step.{Step}
 use Rattle.unit_map.specs.declared.Stored.{Stored}
 use Rattle.ftl_core.specs.Core.{Core}
-use Rattle.ftl_core.specs.Describes.{AreToRepair, Describes, Kept, LedgerKept, PinsKept}
+use Rattle.ftl_core.specs.Describes.{AreToRepair, Describes, Kept, LedgerKept}
 use Rattle.ftl_core.specs.Describes.{RepairKept, keys_to_repair, mending_kept, name_at, names_pending}
 use Rattle.ftl_core.specs.Moves.{next_number, repair_ordered, repair_step, stored_of}
 use Rattle.unit_map.specs.Places.{stored_in}
 use Rattle.ftl_core.proofs.job_taken.Flown.{group_writer}
+use Rattle.ftl_core.proofs.look_and_accept.MoreGroups.{pins_kept_more}
 use Rattle.ftl_core.proofs.look_and_accept.Numbers.{numbers_right}
 use Rattle.ftl_core.proofs.opened.ListParts.{drop_next}
 use Rattle.ftl_core.proofs.steps_ordered.MarksOrdered.{MayBegin, dies_on, no_reads}
@@ -170,14 +170,6 @@ may_repair s (Some (disk.Programming p (GroupPage tag body))) none = absurd (non
 may_repair s (Some (disk.Programming p cell)) none = tt
 may_repair s (Some (disk.Erasing x)) none = tt
 
--- Readers
-
-none_pinned : (f g : ℕ) (entries others : Name → Option Entry) (ps : List Pin) (qs : List layer.Pin) → ps ≡ [] →
-    PinsKept f entries ps qs → PinsKept g others ps qs
-none_pinned f g entries others [] [] e h = tt
-none_pinned f g entries others [] (q ∷ qs) e h = absurd h
-none_pinned f g entries others (p ∷ ps) qs e h = cc
-
 no_more_mended : (left : List Key) {A : Type 0} → is_mended (Repairing left) ≡ true → A
 no_more_mended left e = cc
 
@@ -210,12 +202,11 @@ repair_waits c t k left h none repairing at mending q = record {
   };
   plan = h.kept.plan;
   claims = h.kept.claims;
-  pins = none_pinned t.ledger.frontier t.ledger.frontier (entry_of t.ledger) (entry_of (with_repair t.ledger k)) c.pins
-      t.pins pinned h.kept.pins;
+  pins = pins_kept_more t (record { key = k; body = t.ledger.base k } ∷ []) c.pins t.pins h.kept.pins;
   differ = h.kept.differ;
   reads = h.kept.reads;
   step_reads = no_reads t.disk.flights c.step (Some (repair_step c k)) none h.kept.step_reads;
-  readers = λ un. pinned;
+  readers = λ un. h.kept.readers unmended;
 }
   where
     one_more : (n : ℕ) → n + 1 ≡ suc n
@@ -223,9 +214,6 @@ repair_waits c t k left h none repairing at mending q = record {
 
     unmended : is_mended t.work.mending ≡ false
     unmended = ap is_mended mending
-
-    pinned : c.pins ≡ []
-    pinned = h.kept.readers unmended
 
     next : (drop (c.repaired + 1) c.lost ≡ left) × (slice_get c.lost c.repaired ≡ Some k)
     next =

@@ -4,7 +4,7 @@ ghost use Rattle.std.specs.List.{list_any};
 ghost use Rattle.ufs_spec.specs.Keys.{IsKey};
 ghost use Rattle.ufs_spec.specs.Moves.{moved};
 ghost use Rattle.ufs_spec.specs.Plain.{shape_of_numbers};
-ghost use Rattle.ufs_spec.specs.Translation.{Translation, is_mended};
+ghost use Rattle.ufs_spec.specs.Translation.{Translation};
 ghost use Rattle.readers.specs.Pins.{most_pins};
 ghost use Rattle.ftl_core.specs.Describes.{Describes};
 ghost use Rattle.ftl_core.specs.Moves.{kept_all, pin_now};
@@ -28,8 +28,7 @@ impl Ftl {
         // No block of a reader is kept twice, so that no more is kept than readers have blocks.
         ensures described_differ { (t : Translation) → Describes self.old t → PinsDiffer t.pins }
         // It is what the addresses look at, of a reader who keeps nothing yet.
-        ensures described { (t : Translation) → Describes self.old t → is_mended t.work.mending ≡ true →
-            key.kind ≡ 1 →
+        ensures described { (t : Translation) → Describes self.old t → key.kind ≡ 1 →
             ((i : ℕ) → i < blocks → IsKey (shape_of_numbers t.numbers) (key_behind key i)) →
             list_any (keeps_for reader) t.pins ≡ false →
             Describes self.new (if result then fold moved t (keeps_of t reader key blocks) else t) }
@@ -51,7 +50,7 @@ impl Ftl {
         // No page of a reader is kept twice, so that no more is kept than readers have pages.
         ensures described_differ { (t : Translation) → Describes self.old t → PinsDiffer t.pins }
         // It is what the keys look at, of a reader who keeps nothing yet.
-        ensures described { (t : Translation) → Describes self.old t → is_mended t.work.mending ≡ true →
+        ensures described { (t : Translation) → Describes self.old t →
             ((i : ℕ) → i < pages → IsKey (shape_of_numbers t.numbers) (key_behind key i)) →
             list_any (keeps_for reader) t.pins ≡ false →
             Describes self.new (if result then fold moved t (keeps_area_of t reader key pages) else t) }

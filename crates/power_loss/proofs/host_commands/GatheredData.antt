@@ -58,7 +58,7 @@ module _ {s : State} {task : Task} (region : ℕ) (v : IsTied s) (there : task_o
       (ReadingArea (area_read s region f)) tt refl in
       let tied = right_keeps kept v in
       let pins = pins_right (λ i. area_key region (first_page f + i)) (page_kept s task.tag region f)
-      (below (pages_named f)) tied refl refl (keys_of_area region f v inside room) (λ i. refl) in
+      (below (pages_named f)) tied refl refl refl (keys_of_area region f v inside room) (λ i. refl) in
       Both kept (Both pins (One (SetsRegisters
       (requested (with_moves (given_back s task) (keeps_area s task.tag region f)) task region (f ∷ fs) result
       (ReadingArea (area_read s region f))).registers)
@@ -148,7 +148,7 @@ module _ {s : State} {task : Task} (v : IsTied s) where
           let there = frames_came g (no_more whole) d in
           request_accepted (claim_of (numbers_of s) task) v g.there (frames_coming v there d.decided) refl g.few
           region fs
-          result (Awaiting (length s.accepted + 1)) (omega arith, there.is_mended) refl
+          result (Awaiting (length s.accepted + 1)) (omega arith, (frames_coming v there d.decided).is_mended) refl
 
 -- Data
 
@@ -160,7 +160,7 @@ more_fits s task (ForWrite unit address blocks forced) gathered asked all h l is
     all gathered false asked task.command) h
 more_fits s task (ForUnmap unit) gathered asked all h l is = unmap_more (λ k. k) l is
     (claim_same (numbers_of s) (ForUnmap unit) (ForUnmap unit) all gathered false asked task.command) h
-more_fits s task (ForFrames region) gathered asked all h l is = frames_more (λ k. k) l is
+more_fits s task (ForFrames region) gathered asked all h l is = frames_more l is
     (claim_same (numbers_of s) (ForFrames region) (ForFrames region) all gathered false asked task.command) h
 
 gathers : {s : State} {task : Task} {purpose : Purpose} {gathered : List ℕ} {asked : Bool} (all : List ℕ) → IsTied s →

@@ -92,7 +92,7 @@ asked_fits s task (ForUnmap unit) gathered asked h =
     unmap_more (λ k. k) h.short (λ k. k) (claim_same (numbers_of s) p p gathered gathered true asked task.command) h
 asked_fits s task (ForFrames region) gathered asked h =
     let p : Purpose = ForFrames region in
-    frames_more (λ k. k) h.short (λ k. k) (claim_same (numbers_of s) p p gathered gathered true asked task.command) h
+    frames_more h.short (λ k. k) (claim_same (numbers_of s) p p gathered gathered true asked task.command) h
 
 module _ (s : State) (task : Task) (v : IsTied s) (there : task_of task.tag s.tasks ≡ Some task) where
   sent_right : (blocks : List ReadBlock) (sent : ℕ) (b : Bool) →

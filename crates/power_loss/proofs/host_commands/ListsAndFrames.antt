@@ -1,6 +1,6 @@
 -- All data of an UNMAP and of frames: what is accepted of them may come, and the pages of a request for data are keys.
 use Rattle.power_loss.proofs.Common.{◌≡◌, ◌≢◌, ◌⊎◌, ℕ, ◌+◌, ◌<◌, ◌≤◌, ◌==◌, Bool, true, false, All, List, ◌∷◌}
-use Rattle.power_loss.proofs.Common.{Option, Some, None, length, get_or, sym, ◌∙◌, subst, inl, inr}
+use Rattle.power_loss.proofs.Common.{Option, Some, None, length, get_or, sym, ◌∙◌, subst, inl, inr, not, not-false}
 use Rattle.power_loss.proofs.Common.{arith, data_key, length-map, get_or-map, slice_get-get_or, and_parts}
 use Rattle.power_loss.proofs.Common.{ltb-false, or_parts, eqb-true, false≢true, below, IsKey, IsArea}
 use Rattle.power_loss.proofs.Common.{Shape, shape_of_numbers, is_mended, Numbers}
@@ -18,7 +18,7 @@ use Rattle.ufs_spec.specs.FrameRequests.{first_page, pages_named, reads_area}
 use Rattle.ufs_spec.specs.Frames.{Frame, IsFrame, frames_in}
 use Rattle.ufs_spec.specs.Keys.{area_key}
 use Rattle.ufs_spec.specs.Plain.{greatest_command}
-use Rattle.ufs_spec.specs.Refusals.{unit_numbers_at}
+use Rattle.ufs_spec.specs.Refusals.{unit_numbers_at, accepts_nothing, mended}
 use Rattle.power_loss.proofs.Common.{get_or, shape_of}
 use Rattle.ufs_spec.specs.Keys.{region_pages}
 use Rattle.ufs_spec.proofs.RegionPages.{pages_held}
@@ -81,7 +81,7 @@ unmap_coming {s} {task} {unit} {gathered} {asked} list v g all right free = reco
       let most = few in
       omega (arith, keys, numbers, claim, most);
   short = let claim = claimed g.fits.list in omega (arith, claim);
-  is_mended = g.fits.is_mended;
+  is_mended = g.fits.is_mended (whole g.fits.list);
   unlocked = free;
 }
   where
@@ -109,6 +109,15 @@ unmap_coming {s} {task} {unit} {gathered} {asked} list v g all right free = reco
         absurd (false≢true (sym right.size ∙ eq-eqb (length list) 8 (all.long g.fits.short ∙ short.0)))
     claimed (inr whole) = g.claim ∙ whole.1
 
+    -- such a list has 24 bytes
+    whole : ((task.length ≡ 8)
+        × (claimed_by (numbers_of s) (Gathering (ForUnmap unit) gathered asked) task.command ≡ 0))
+        ⊎ ((task.length ≡ 24) × (claimed_by (numbers_of s) (Gathering (ForUnmap unit) gathered asked) task.command
+        ≡ command_blocks (numbers_of s))) → task.length ≡ 24
+    whole (inl short) =
+        absurd (false≢true (sym right.size ∙ eq-eqb (length list) 8 (all.long g.fits.short ∙ short.0)))
+    whole (inr it) = it.0
+
 -- Frames
 
 -- the frames that came, one to eight, to a region that is there
@@ -117,7 +126,6 @@ pub record FramesCame (s : State) (task : Task) (region : ℕ) (frames : List Fr
   pub each : All IsFrame frames
   pub few : length frames ≤ 8
   pub claim : claim_of (numbers_of s) task ≡ 3
-  pub is_mended : is_mended s.translation.work.mending ≡ true
 
 came : {s : State} {task : Task} {region : ℕ} {gathered : List ℕ} {asked : Bool} (bytes : List ℕ) →
     GathersIn s task (ForFrames region) gathered asked → HasMore task gathered bytes →
@@ -132,29 +140,32 @@ came {s} {task} {region} {gathered} {asked} bytes g more = record {
       let long = more.long fits.short in
       omega arith;
   claim = g.claim ∙ fits.claimed_is;
-  is_mended = fits.is_mended;
 }
   where
-    fits : FramesFit (numbers_of s) (is_mended s.translation.work.mending) region task.length gathered
+    fits : FramesFit (numbers_of s) region task.length gathered
         (claimed_by (numbers_of s) (Gathering (ForFrames region) gathered asked) task.command)
     fits = g.fits
 
+-- a device that can accept something is not locked, and is mended
+pub accepting : (s : State) → accepts_nothing s ≡ false → (locked s ≡ false) × (mended s ≡ true)
+accepting s h = let both = or_parts (locked s) (not (mended s)) h in (both.0, not-false (mended s) both.1)
+
 pub frames_coming : {s : State} {task : Task} {region : ℕ} {frames : List Frame} {result : ℕ} {c : Command} → IsTied s →
     FramesCame s task region frames →
-    rpmb_outcome region (region_of (plain_now s) region) (s.registers region) (locked s) frames ≡ Results result
+    rpmb_outcome region (region_of (plain_now s) region) (s.registers region) (accepts_nothing s) frames ≡ Results result
     (Some c) →
     IsComing s c (claim_of (numbers_of s) task)
 frames_coming {s} {task} {region} {frames} {result} {c} v f e =
     let there = subst (λ (x : Shape). HasRegion x region) (sym (shape_tied v)) f.region_in in
-    let r = frames_requested (plain_now s) region (s.registers region) (locked s) frames (plain_tied v) there f.each
+    let r = frames_requested (plain_now s) region (s.registers region) (accepts_nothing s) frames (plain_tied v) there f.each
     f.few e in
     record {
       is = r.is;
       can = r.can;
       few = let keys = r.few in let claim = f.claim in omega arith;
       short = let claim = f.claim in let some = command_blocks-some (numbers_of s) in omega arith;
-      is_mended = f.is_mended;
-      unlocked = r.unlocked;
+      is_mended = (accepting s r.unlocked).1;
+      unlocked = (accepting s r.unlocked).0;
     }
 
 -- the pages of a request for data are keys of the device
@@ -190,5 +201,5 @@ pub reads_inside : {s : State} {purpose : Purpose} {all : List ℕ} {region : �
     AsksInside (length (region_of (plain_now s) region).area) f
 reads_inside {s} {region = region} {f} {fs} {result} d reads =
     let parts = and_parts (f.kind == read_data) (is_success result) reads in
-    data_in_area (plain_now s) region (s.registers region) (locked s) f fs result d.decided
+    data_in_area (plain_now s) region (s.registers region) (accepts_nothing s) f fs result d.decided
     (eqb-true f.kind read_data parts.0) parts.1

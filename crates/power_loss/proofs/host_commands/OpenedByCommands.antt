@@ -14,11 +14,11 @@ use Rattle.power_loss.proofs.MachineWords.{Request, State, numbers_of, operation
 use Rattle.power_loss.proofs.MachineWords.{Message, Cdb, DeedFits, IsTied, ShortFits, WriteFits}
 use Rattle.std.specs.Prelude.{if◌then◌else◌, ◌%◌, ◌/◌}
 use Rattle.ufs_spec.specs.Begins.{frames_begun}
-use Rattle.ufs_spec.specs.Cdbs.{IsCdb}
+use Rattle.ufs_spec.specs.Cdbs.{IsCdb, write_6, write_10}
 use Rattle.ufs_spec.specs.Messages.{is_among}
 use Rattle.ufs_spec.specs.Plain.{regions, shape_of_numbers, steps_of}
 use Rattle.ufs_spec.proofs.RegionPages.{region_there}
-use Rattle.std.proofs.lemmas.Bool.{cases_lt, eqb-false}
+use Rattle.std.proofs.lemmas.Bool.{cases_lt, eqb-false, eq-eqb, lt-ltb}
 use Rattle.ufs_spec.specs.declared.scsi.Cdb.TheVariants as cdb
 use Rattle.power_loss.specs.Exchange.{FramesFit, UnmapFits}
 use Rattle.ufs_spec.specs.Exchanges.{most_short_exchanges}
@@ -26,7 +26,7 @@ use Rattle.ufs_spec.specs.Machine.{in_use}
 use Rattle.ufs_spec.specs.Machine.{opening_fault}
 use Rattle.ufs_spec.specs.Machine.{data_begun}
 use Rattle.ufs_spec.specs.Configs.{command_blocks}
-use Rattle.ufs_spec.specs.Refusals.{is_frames, needs_mended, slots_needed}
+use Rattle.ufs_spec.specs.Refusals.{is_frames, needs_mended, slots_needed, writes}
 use Rattle.ufs_spec.specs.declared.faults.HostFault.TheVariants.{Backlog, TagInUse}
 use Rattle.ufs_laws.proofs.walk.WaysOfCommands.{Answered, Beginning, Gathered, Handing, IsWritten, Reading, Telling}
 use Rattle.ufs_laws.proofs.walk.WaysOfCommands.{Waiting, WhyBegun, begins_by, begun_as}
@@ -121,7 +121,7 @@ read_right : {s : State} (r : Request) (command : Cdb) (unit address n : ℕ) �
 read_right {s} r command unit address n v free keys =
     let blocks = blocks_expected r n in
     let pins = pins_right (λ i. data_key unit (address + i))
-    (kept_at s r.tag unit address) (below blocks) v refl refl keys (λ i. refl) in
+    (kept_at s r.tag unit address) (below blocks) v refl refl refl keys (λ i. refl) in
     Both pins
     (sending_right r command n (read_blocks s unit address blocks)
     (right_keeps pins v) (record { no_task = free.no_task; no_short = free.no_short }))
@@ -146,12 +146,18 @@ gathers_right {s} {r} {command} {count} n purpose v free p slots fits =
       tasks = task_opened task free.no_task free.no_short fits (omega arith) v.tasks;
     }))
 
+-- a WRITE of at least one block changes blocks
+writes_told : (c : Cdb) → (operation_of c ≡ write_6) ⊎ (operation_of c ≡ write_10) → 0 < blocks_of c → writes c ≡ true
+writes_told (cdb.Write6 address blocks) e some = refl
+writes_told (cdb.Write10 address blocks forced) e some = lt-ltb 0 blocks some
+writes_told c e some = ⊎_elim (λ k. absurd (omega (arith, k))) (λ k. absurd (omega (arith, k))) e
+
 write_fits : {s : State} {r : Request} {command : Cdb} {unit address blocks count n : ℕ} → Passed s r command →
     TakenByUnits (operation_in r) → slots_needed (numbers_of s) command ≡ count → 0 < n →
-    needs_mended (operation_of command) ≡ true →
+    needs_mended (operation_of command) ≡ true → writes command ≡ true →
     IsWritten (numbers_of s) (unit_or_first (unit_of_request s r)) command count unit address blocks n → WriteFits
     (numbers_of s) (is_mended s.translation.work.mending) unit address blocks n [] (slots_needed (numbers_of s) command)
-write_fits {s} {r} {command} {unit} p taken slots some needs w =
+write_fits {s} {r} {command} {unit} p taken slots some needs changes w =
     let units = (numbers_of s).units.items in
     let told = unit_told s r command taken p in
     let same : unit ≡ r.lun = w.unit_is ∙ ap unit_or_first told.is in
@@ -173,7 +179,7 @@ write_fits {s} {r} {command} {unit} p taken slots some needs w =
       short = some;
       bytes = bytes-nil;
       claimed_is = omega arith;
-      is_mended = ready_now s command needs p.ready;
+      is_mended = ready_now s r command needs changes p;
     }
 
 -- UNMAP
@@ -207,7 +213,7 @@ unmap_fits {s} {r} {unit} {n} p taken unit_is some =
       list = unmap_claims (numbers_of s) n (list_told n p.listed some);
       short = some;
       bytes = bytes-nil;
-      is_mended = ready_now s (cdb.Unmap n) refl p.ready;
+      is_mended = λ whole. ready_now s r (cdb.Unmap n) refl (eq-eqb n 24 whole) p;
     }
 
 -- SECURITY PROTOCOL OUT
@@ -217,7 +223,7 @@ pos_from : {n : ℕ} → (n ≡ 0 → ⊥) → 0 < n
 pos_from {n} h = ⊎_elim (λ l. l) (λ none. absurd (h (omega (arith, none)))) (cases_lt 0 n)
 
 frames_fit : {s : State} {r : Request} {region n : ℕ} → Passed s r (cdb.SecurityOut region n) → region < regions →
-    FramesFit (numbers_of s) (is_mended s.translation.work.mending) region n []
+    FramesFit (numbers_of s) region n []
     (slots_needed (numbers_of s) (cdb.SecurityOut region n))
 frames_fit {s} {r} {region} {n} p there =
     let all = and_parts (nat_le 512 n && nat_le n 4096) (n % 512 == 0) (not-false (is_frames n) p.not_long) in
@@ -239,7 +245,6 @@ frames_fit {s} {r} {region} {n} p there =
       short = omega arith;
       bytes = bytes-nil;
       claimed_is = refl;
-      is_mended = ready_now s (cdb.SecurityOut region n) refl p.ready;
     }
 
 -- SECURITY PROTOCOL IN
@@ -274,16 +279,15 @@ begins s r command v free p op fields = begins_by (Right s) s r unit command one
         (subst TakenByUnits (sym (op ∙ ap operation_of is)) units_take_unmap) unit_is some)
 
     framed : (region n : ℕ) → command ≡ cdb.SecurityOut region n →
-        FramesFit (numbers_of s) (is_mended s.translation.work.mending) region n []
-        (slots_needed (numbers_of s) command)
-    framed region n is = subst (λ (c : Cdb). FramesFit (numbers_of s)
-        (is_mended s.translation.work.mending) region n [] (slots_needed (numbers_of s) c)) (sym is)
+        FramesFit (numbers_of s) region n [] (slots_needed (numbers_of s) command)
+    framed region n is = subst (λ (c : Cdb). FramesFit (numbers_of s) region n []
+        (slots_needed (numbers_of s) c)) (sym is)
         (frames_fit {r = r} (subst (Passed s r) is p) (subst IsCdb is fields).0)
 
     one : (b : Beginning) → WhyBegun s r unit command b → Right s (begun_as s r command b)
     one Answered why = answer_right r (Some command) 0 Good 0 v free
-    one Waiting needs = task_right r (Some command) 0 (Awaiting (length s.accepted)) v free
-        (omega arith, ready_now s command needs p.ready) refl
+    one Waiting mends = task_right r (Some command) 0 (Awaiting (length s.accepted)) v free
+        (omega arith, mends) refl
     one (Telling bytes) why = telling_right r command bytes v free
     one (Handing region n) is = handing_right r region n v free
     one (Reading u address n) (unit_is, address_is, size, read) =
@@ -295,7 +299,10 @@ begins s r command v free p op fields = begins_by (Right s) s r unit command one
         let taken = ⊎_elim (λ e. subst TakenByUnits (sym (op ∙ e)) units_take_6)
         (λ e. subst TakenByUnits (sym (op ∙ e)) units_take_10) w.writes in
         gathers_right n (ForWrite u address blocks forced) v free p slots
-        (write_fits p taken slots (some p.not_long) needs w)
+        (write_fits p taken slots (some p.not_long) needs
+        (writes_told command w.writes
+        (let total = w.total_is in let all = w.all in let long = some p.not_long in omega (arith, total, all, long)))
+        w)
     one (Gathered count (ForUnmap u) n) (slots, some, few, needs, (unit_is, is)) =
         gathers_right n (ForUnmap u) v free p slots (listed u n unit_is (some p.not_long) is)
     one (Gathered count (ForFrames region) n) (slots, some, few, needs, is) =

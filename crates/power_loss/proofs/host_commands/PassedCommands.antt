@@ -1,8 +1,8 @@
--- What the table of refusals lets through: the unit of a command, the blocks of it, and a device that is mended.
+-- What the table of refusals lets through: the unit of a command, the blocks of it, and a device that is mended or locked.
 use Rattle.power_loss.proofs.Common.{◌≡◌, ℕ, ◌+◌, ◌<◌, ◌≤◌, ◌==◌, ◌&&◌, Bool, true, false, not, List, [], ◌∷◌, Option}
-use Rattle.power_loss.proofs.Common.{Some, None, length, map, get_or, refl, sym, ap, ◌∙◌, subst, arith, nat_lt}
+use Rattle.power_loss.proofs.Common.{Some, None, length, map, get_or, refl, sym, ap, ◌∙◌, subst, arith, nat_lt, ◌||◌}
 use Rattle.power_loss.proofs.Common.{AllByRecursion, get_or-map, slice_get-get_or, false≢true, ltb-false, ltb-true}
-use Rattle.power_loss.proofs.Common.{none-some, not-false, is_mended, Numbers}
+use Rattle.power_loss.proofs.Common.{none-some, not-false, is_mended, Numbers, or_parts, and_parts, or_cases, ⊎_elim}
 use Rattle.power_loss.proofs.MachineWords.{address_of, blocks_of, operation_of, invalid_operation, no_unit, BootUnit}
 use Rattle.power_loss.proofs.MachineWords.{DeviceUnit, Line, Lun, ReportLunsUnit, Request, RpmbUnit, State, UnitOf}
 use Rattle.power_loss.proofs.MachineWords.{first_line, is_past, lacks_unit, line, lines_after, lun_of, mended}
@@ -10,7 +10,9 @@ use Rattle.power_loss.proofs.MachineWords.{needs_mended, not_taken, numbers_of, 
 use Rattle.power_loss.proofs.MachineWords.{takes, unit_in, unit_of_request, UnitSpec, Cdb}
 use Rattle.std.specs.Prelude.{if◌then◌else◌}
 use Rattle.ufs_spec.specs.Cdbs.{unmap, write_10, write_6}
-use Rattle.ufs_spec.specs.Refusals.{has_wrong_list, is_crowded, is_too_long, lacks_region}
+use Rattle.ufs_spec.specs.Cdbs.{test_unit_ready}
+use Rattle.ufs_spec.specs.Refusals.{has_wrong_list, is_crowded, is_protected, is_ready_for, is_refused_write}
+use Rattle.ufs_spec.specs.Refusals.{is_too_long, is_unready, lacks_region, locked, writes}
 use Rattle.ufs_spec.specs.Refusals.{unit_numbers_of, well_known}
 
 -- No line of the table applies
@@ -32,7 +34,8 @@ pub record Passed (s : State) (r : Request) (command : Cdb) : Type 0 where
   pub not_long : is_too_long (numbers_of s) command ≡ false
   pub listed : has_wrong_list command ≡ false
   pub within : is_past command (unit_numbers_of s r) ≡ false
-  pub ready : (needs_mended (operation_of command) && not (mended s)) ≡ false
+  pub ready : is_unready s (operation_of command) ≡ false
+  pub free : is_refused_write s (unit_numbers_of s r) command ≡ false
   pub room : is_crowded s command ≡ false
 
 pub passed : (s : State) (r : Request) (command : Cdb) → r.cdb ≡ Some command → refusal s r ≡ None → Passed s r command
@@ -50,12 +53,26 @@ passed s r command e h =
       listed = p.1.1.1.1.0;
       within = p.1.1.1.1.1.1.0;
       ready = p.1.1.1.1.1.1.1.0;
+      free = p.1.1.1.1.1.1.1.1.0;
       room = p.1.1.1.1.1.1.1.1.1.1.1.0;
     }
 
-pub ready_now : (s : State) (command : Cdb) → needs_mended (operation_of command) ≡ true →
-    (needs_mended (operation_of command) && not (mended s)) ≡ false → is_mended s.translation.work.mending ≡ true
-ready_now s command needs h = not-false (mended s) (sym (ap (λ b. b && not (mended s)) needs) ∙ h)
+-- a command that changes blocks passes on a mended device alone: on one that is neither mended nor locked the line of
+-- the mending applies, and on a locked one that of what is not written
+pub ready_now : (s : State) (r : Request) (command : Cdb) → needs_mended (operation_of command) ≡ true →
+    writes command ≡ true → Passed s r command → is_mended s.translation.work.mending ≡ true
+ready_now s r command needs changes p =
+    let ready = not-false (is_ready_for s (operation_of command))
+    (sym (ap (λ b. b && not (is_ready_for s (operation_of command))) needs) ∙ p.ready) in
+    ⊎_elim (λ e. e) (λ e. absurd (false≢true (sym unlocked ∙ (and_parts _ _ e).1)))
+    (or_cases (mended s) (not (operation_of command == test_unit_ready) && locked s) ready)
+  where
+    write_passes : (writes command && (is_protected s (unit_numbers_of s r) || locked s)) ≡ false
+    write_passes = (or_parts _ _ p.free).0
+
+    unlocked : locked s ≡ false
+    unlocked = (or_parts (is_protected s (unit_numbers_of s r)) (locked s)
+        (sym (ap (λ b. b && (is_protected s (unit_numbers_of s r) || locked s)) changes) ∙ write_passes)).1
 
 -- Units
 

@@ -4,14 +4,14 @@ use Rattle.power_loss.proofs.Common.{Option, Some, None, length, map, get_or, mi
 use Rattle.power_loss.proofs.Common.{inl, inr, arith, All, nat_lt, get_or-map, length-map, All-head, All-tail}
 use Rattle.power_loss.proofs.Common.{All-weaker, get_or_from_slice_get, slice_get-get_or, slice_get_within, false≢true}
 use Rattle.power_loss.proofs.Common.{ltb-false, ltb-true, not-false, same_Some, IsData, IsKey, below, data_key, Ledger}
-use Rattle.power_loss.proofs.Common.{look, Keep, shape_of_numbers, Pin, Numbers, Key}
+use Rattle.power_loss.proofs.Common.{look, Keep, shape_of_numbers, Pin, Numbers, Key, is_mended}
 use Rattle.power_loss.proofs.MachineWords.{address_of, blocks_of, read_10, read_6, blocks_expected, unit_or_first}
 use Rattle.power_loss.proofs.MachineWords.{with_moves, BootUnit, DeviceUnit, Lun, ReportLunsUnit, Request, RpmbUnit}
 use Rattle.power_loss.proofs.MachineWords.{State, UnitOf, is_past, lacks_unit, lun_of, not_taken, numbers_of}
 use Rattle.power_loss.proofs.MachineWords.{operation_in, plain_now, unit_numbers_at, takes, unit_in, unit_of_request}
 use Rattle.power_loss.proofs.MachineWords.{UnitSpec, Cdb, IsTied}
 use Rattle.std.proofs.Common.{position}
-use Rattle.std.specs.Prelude.{if◌then◌else◌, is_none}
+use Rattle.std.specs.Prelude.{if◌then◌else◌, is_none, Bool}
 use Rattle.std.specs.Int.{div_ceil}
 use Rattle.std.specs.List.{position_or_len}
 use Rattle.std.proofs.lemmas.Grind.{div_ceil_times}
@@ -20,20 +20,27 @@ use Rattle.ufs_laws.proofs.walk.SmallChanges.{Both, Still}
 use Rattle.power_loss.proofs.ordered_lists.ElementsAndOrders.{all_below}
 use Rattle.power_loss.proofs.host_commands.PassedCommands.{Passed, lun_told, no_spec}
 use Rattle.power_loss.proofs.calls.RightChanges.{Right, right_keeps, right_move}
+use Rattle.ufs_spec.specs.Ledger.{latest_durable, looked_at}
 
 -- Pins
 
-pub pins_right : {s : State} {n : Numbers} {l : Ledger} (k : ℕ → Key) (f : ℕ → Pin) (xs : List ℕ) → IsTied s →
-    numbers_of s ≡ n → s.translation.ledger ≡ l → All (λ i. IsKey (shape_of_numbers n) (k i)) xs →
-    ((i : ℕ) → (f i).looked ≡ look l (k i)) → Right s (with_moves s (map (λ i. Keep (k i) (f i)) xs))
-pins_right k f [] v numbers ledger keys looks = Still
-pins_right {s} {n} {l} k f (x ∷ xs) v numbers ledger keys looks =
+-- pins of what is found now, where the device is mended or not
+pub pins_right : {s : State} {n : Numbers} {l : Ledger} {mends : Bool} (k : ℕ → Key) (f : ℕ → Pin) (xs : List ℕ) →
+    IsTied s → numbers_of s ≡ n → s.translation.ledger ≡ l → is_mended s.translation.work.mending ≡ mends →
+    All (λ i. IsKey (shape_of_numbers n) (k i)) xs →
+    ((i : ℕ) → (f i).looked ≡ (if mends then look l (k i) else looked_at l (latest_durable l (k i)))) →
+    Right s (with_moves s (map (λ i. Keep (k i) (f i)) xs))
+pins_right k f [] v numbers ledger mending keys looks = Still
+pins_right {s} {n} {l} {mends} k f (x ∷ xs) v numbers ledger mending keys looks =
     let head = All-head (λ i. IsKey (shape_of_numbers n) (k i)) x xs keys in
     let key = subst (λ (m : Numbers). IsKey (shape_of_numbers m) (k x)) (sym numbers) head in
-    let look_is = looks x ∙ ap (λ (m : Ledger). look m (k x)) (sym ledger) in
+    let look_is = looks x
+    ∙ ap (λ (m : Ledger). if mends then look m (k x) else looked_at m (latest_durable m (k x))) (sym ledger)
+    ∙ ap (λ (b : Bool). if b then look s.translation.ledger (k x)
+    else looked_at s.translation.ledger (latest_durable s.translation.ledger (k x))) (sym mending) in
     let one = right_move (Keep (k x) (f x)) v tt (key, look_is) (omega arith) in
     Both one
-    (pins_right k f xs (right_keeps one v) numbers ledger
+    (pins_right k f xs (right_keeps one v) numbers ledger mending
     (All-tail (λ i. IsKey (shape_of_numbers n) (k i)) x xs keys) looks)
 
 -- The unit

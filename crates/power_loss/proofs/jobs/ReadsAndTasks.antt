@@ -13,10 +13,10 @@ use Rattle.power_loss.proofs.Common.{MarksRight, MendingRight, OnePlanRight, Pin
 use Rattle.power_loss.proofs.Common.{SlotsRight, Valid}
 use Rattle.std.proofs.Common.{max}
 use Rattle.ufs_laws.proofs.jobs.JobsOnTheirDies.{read_here}
-use Rattle.ufs_spec.specs.Moves.{let_go}
+use Rattle.ufs_spec.specs.Moves.{let_go, look_now}
 use Rattle.power_loss.proofs.books.LayerParts.{MarksOf, MendingOf, NeededOf, LookedOf, SourceOf}
 use Rattle.power_loss.proofs.jobs.NoneStale.{stale_stays}
-use Rattle.power_loss.proofs.kept_pages.LookedUpPages.{look_right}
+use Rattle.power_loss.proofs.kept_pages.LookedUpPages.{look_right, look_now_right}
 use Rattle.power_loss.proofs.kept_pages.PagesStay.{pins_wanted}
 use Rattle.power_loss.proofs.kept_pages.ReadsStay.{gone_reads, idle_reads, reads_begun, reads_fewer, there_wants}
 use Rattle.power_loss.proofs.accepted_groups.ClaimedSlots.{slots_claimed, slots_fewer}
@@ -270,12 +270,12 @@ claims t count free v = other_holds (slots_claimed count free v.slots) v.pins v
 pub releases : (t : Translation) (count : ℕ) → Valid t → Valid (moved t (Release count))
 releases t count v = other_holds (slots_fewer (omega arith) (omega arith) v.slots) v.pins v
 
-pub keeps : (t : Translation) (key : Key) (pin : Pin) → HasKey (book t) key → pin.looked ≡ look t.ledger key → Valid t →
+pub keeps : (t : Translation) (key : Key) (pin : Pin) → HasKey (book t) key → pin.looked ≡ look_now t key → Valid t →
     Valid (moved t (Keep key pin))
 keeps t key pin has same v = other_holds v.slots
     (record {
       each = All-push (λ x. LookedOf t x.looked) t.pins pin v.pins.each
-          (subst (LookedOf t) (sym same) (look_right key v has));
+          (subst (LookedOf t) (sym same) (look_now_right key v has));
     }) v
 
 pub wants_page : {t : Translation} (tag index : ℕ) → Valid t → Valid (moved t (WantPage tag index))

@@ -16,6 +16,7 @@ use Rattle.power_loss.proofs.books.LastOfEachKey.{IsLastOf, NoneOf, latest_cases
 use Rattle.ufs_spec.proofs.Lists.{get_take, take_get}
 use Rattle.power_loss.proofs.books.LayerParts.{LookedOf, SecureOf, MendingOf}
 use Rattle.power_loss.proofs.kept_pages.UnmendedPages.{unmended_secure}
+use Rattle.ufs_spec.specs.Moves.{look_now}
 
 -- All groups
 
@@ -259,5 +260,48 @@ module _ (t : Translation) (k : Key) where
           (above, in_slot v has e above)
       by false h = stands (t.ledger.standing name.number name.index) refl (ltb-false t.ledger.frontier name.number h)
 
+-- the page of a key at the frontier has a number at or under it
+pub durable_within : {t : Translation} (k : Key) (name : Name) → Valid t → HasKey (book t) k →
+    latest_durable t.ledger k ≡ Some name → name.number ≤ t.ledger.frontier
+durable_within {t} k name v has e = ⊎_elim
+    (λ (l : IsLastOf k t.ledger.greatest_seen (durable_groups t) (latest_durable t.ledger k)).
+    let same = ap (λ (x : Name). x.number) (same_Some l.name name (sym l.is ∙ e)) in
+    let there = get_take (t.ledger.frontier - t.ledger.greatest_seen) t.ledger.groups l.at l.group l.there in
+    let low = there.0 in
+    let n = l.number in
+    omega (arith, same, low, n))
+    (λ (r : (latest_durable t.ledger k ≡ t.ledger.first_page k) × NoneOf k (durable_groups t)).
+    let first = subst (FirstRight (book t) k) (sym r.0 ∙ e) (v.book_right.first_page k has) in
+    let w = v.book_right.old_within name.number name.index first.0 first.1 in
+    let a = v.frontier.above in
+    omega (arith, w, a))
+    (latest_cases k t.ledger.greatest_seen (durable_groups t) (t.ledger.first_page k))
+
+-- what is found of a key at the frontier before the device is mended
+durable_looks : {t : Translation} (k : Key) (o : Option Name) → Valid t → is_mended t.work.mending ≡ false →
+    HasKey (book t) k → latest_durable t.ledger k ≡ o → LookedOf t (looked_at t.ledger o)
+durable_looks k None v un has e = tt
+durable_looks {t} k (Some name) v un has e = by (nat_lt t.ledger.frontier name.number) refl
+  where
+    stands : (at : Option Place) → t.ledger.standing name.number name.index ≡ at → LookedOf t (looked_on name at)
+    stands None at = tt
+    stands (Some p) at =
+        secure_page at (unmended_secure k (durable_groups t) (latest_durable t.ledger k) name v un has refl e at)
+
+    by : (b : Bool) → nat_lt t.ledger.frontier name.number ≡ b →
+        LookedOf t (if b then InSlot name else looked_on name (t.ledger.standing name.number name.index))
+    by true h = let l = ltb-true t.ledger.frontier name.number h in
+        absurd (let w = durable_within k name v has e in omega (arith, l, w))
+    by false h = stands (t.ledger.standing name.number name.index) refl
+
 pub look_right : {t : Translation} (k : Key) → Valid t → HasKey (book t) k → LookedOf t (look t.ledger k)
 look_right {t} k v has = latest_looks t k (latest t.ledger k) v has refl
+
+-- what a task finds of a key is there
+pub look_now_right : {t : Translation} (k : Key) → Valid t → HasKey (book t) k → LookedOf t (look_now t k)
+look_now_right {t} k v has = by (is_mended t.work.mending) refl
+  where
+    by : (b : Bool) → is_mended t.work.mending ≡ b →
+        LookedOf t (if b then look t.ledger k else looked_at t.ledger (latest_durable t.ledger k))
+    by true e = look_right k v has
+    by false e = durable_looks k (latest_durable t.ledger k) v e has refl

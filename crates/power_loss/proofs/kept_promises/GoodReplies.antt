@@ -1,7 +1,8 @@
 -- A promising command from its COMMAND to its GOOD: how it begins, and what holds once GOOD was handed out.
 use Rattle.power_loss.proofs.Common.{◌≡◌, ℕ, ◌*◌, ◌≤◌, ◌==◌, Bool, true, false, List, [], ◌∷◌, ◌++◌, length, Option}
 use Rattle.power_loss.proofs.Common.{Some, None, inl, inr, refl, sym, ap, ◌∙◌, subst, arith, Ok, nat_le, AllByRecursion}
-use Rattle.power_loss.proofs.Common.{list_any, nat_tests, false≢true, none-some, same_Some, eqb-self, Claim}
+use Rattle.power_loss.proofs.Common.{list_any, nat_tests, false≢true, none-some, same_Some, eqb-self, Claim, drop_all}
+use Rattle.power_loss.proofs.Common.{Group, drop, ⊎_elim, cases_Bool, not}
 use Rattle.power_loss.proofs.MachineWords.{Command, Answering, Awaiting, Deed, ForWrite, Gathering, Good, Short, Status}
 use Rattle.power_loss.proofs.MachineWords.{Task, TaskSetFull, invalid_operation, is_task_of, no_unit, response}
 use Rattle.power_loss.proofs.MachineWords.{short_reply, task_of, Life, held, Reply, Due, OfHost, Host, IsCdbIn, OfReply}
@@ -29,6 +30,8 @@ use Rattle.power_loss.proofs.kept_promises.PromisedCommands.{TrackedIn, first_of
 use Rattle.power_loss.proofs.kept_promises.CallsKeepPromises.{carried_tracks, carries_open, closed, settled_open}
 use Rattle.power_loss.proofs.kept_promises.CallsKeepPromises.{settled_tracks}
 use Rattle.ufs_laws.proofs.exchanges.AbortedTasks.{reply_tag}
+use Rattle.ufs_spec.specs.Refusals.{mended}
+use Rattle.ufs_laws.proofs.plain_contents.GroupsOfCommands.{length-groups}
 
 -- The COMMAND
 
@@ -114,12 +117,23 @@ taken_valid {s} {t} {r} v taken = one_event s t (event.Host taken.bytes) (output
 })
 
 -- a flush waits for what was accepted before it
-flush_promises : (s : State) (r : Request) (address blocks : ℕ) →
+flush_promises : (s : State) (r : Request) (address blocks : ℕ) → mended s ≡ true →
     r.cdb ≡ Some (cdb.SynchronizeCache10 address blocks false) → IsPromise s r (OfFlush (length s.accepted))
-flush_promises s r address blocks e = λ u none passes is.
-    subst (TrackedIn (OfFlush (length s.accepted)) r.tag []) (sym (is ∙ ap (begun_if_any s r) e))
+flush_promises s r address blocks mends e = λ u none passes is.
+    subst (TrackedIn (OfFlush (length s.accepted)) r.tag [])
+    (sym (is ∙ (ap (begun_if_any s r) e
+    ∙ ap (λ (b : Bool). with_task s r (Some (cdb.SynchronizeCache10 address blocks false)) 0
+    (if not b then Answering Good 0 else Awaiting (length s.accepted))) mends)))
     (opens (OfFlush (length s.accepted)) s r (Some (cdb.SynchronizeCache10 address blocks false)) 0
     (Awaiting (length s.accepted)) none (omega arith) (omega arith))
+
+-- before the device is mended nothing was accepted
+none_accepted : (s : State) → IsTied s → mended s ≡ false → length s.accepted ≡ 0
+none_accepted s v un =
+    sym (length-groups s.base s.accepted)
+    ∙ (ap (λ (gs : List Group). length gs) (sym v.groups)
+    ∙ (ap (λ (n : ℕ). length (drop n s.translation.ledger.groups)) (v.valid.history.mending un).0
+    ∙ ap (λ (gs : List Group). length gs) (drop_all (length s.translation.ledger.groups) s.translation.ledger.groups (omega arith))))
 
 -- a write with FUA gathers its data for its unit
 write_promises : (s : State) (r : Request) (address blocks : ℕ) → r.cdb ≡ Some (cdb.Write10 address blocks true) →
@@ -222,12 +236,14 @@ answered_kept {p} {s} {t} r {bytes} v a later is =
 pub flush_held : (s t u : State) (r : Request) (bytes : List ℕ) (address blocks : ℕ) (es : List Event)
     (os : List Output) → ValidState s → r.cdb ≡ Some (cdb.SynchronizeCache10 address blocks false) →
     IsAnsweredGood s r bytes t → Life t es os u → length s.accepted ≤ held u
-flush_held s t u r bytes address blocks es os v e a life =
-    let k = answered_kept r v a (omega arith) (flush_promises s r address blocks e) in
+flush_held s t u r bytes address blocks es os v e a life = ⊎_elim
+    (λ mends.
+    let k = answered_kept r v a (omega arith) (flush_promises s r address blocks mends e) in
     let met = k.met in
     let is = k.is_held in
     let on = life_held t u es os life in
-    omega arith
+    omega arith)
+    (λ un. let none = none_accepted s v.tied un in omega (arith, none)) (cases_Bool (mended s))
 
 pub write_held : (s t u : State) (r : Request) (bytes : List ℕ) (address blocks : ℕ) (es : List Event)
     (os : List Output) → ValidState s → r.cdb ≡ Some (cdb.Write10 address blocks true) → 1 ≤ blocks →

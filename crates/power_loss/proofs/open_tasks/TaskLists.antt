@@ -39,13 +39,13 @@ unmap_more {n} {total = total} up short bytes same h = record {
   list = subst (λ (c : ℕ). ((total ≡ 8) × (c ≡ 0)) ⊎ ((total ≡ 24) × (c ≡ command_blocks n))) (sym same) h.list;
   short = short;
   bytes = bytes h.bytes;
-  is_mended = up h.is_mended;
+  is_mended = λ whole. up (h.is_mended whole);
 }
 
-pub frames_more : {n : Numbers} {m w : Bool} {region total : ℕ} {some all : List ℕ} {claimed more : ℕ} →
-    (m ≡ true → w ≡ true) → length all < total → (AreBytes some → AreBytes all) → more ≡ claimed →
-    FramesFit n m region total some claimed → FramesFit n w region total all more
-frames_more up short bytes same h = record {
+pub frames_more : {n : Numbers} {region total : ℕ} {some all : List ℕ} {claimed more : ℕ} →
+    length all < total → (AreBytes some → AreBytes all) → more ≡ claimed →
+    FramesFit n region total some claimed → FramesFit n region total all more
+frames_more short bytes same h = record {
   region_in = h.region_in;
   count = h.count;
   some = h.some;
@@ -54,7 +54,6 @@ frames_more up short bytes same h = record {
   short = short;
   bytes = bytes h.bytes;
   claimed_is = same ∙ h.claimed_is;
-  is_mended = up h.is_mended;
 }
 
 deed_more : (n : Numbers) (a b : ℕ) {m w : Bool} (claimed total : ℕ) (deed : Deed) → a ≤ b → (m ≡ true → w ≡ true) →
@@ -64,7 +63,7 @@ deed_more n a b {m} {w} claimed total (Gathering (ForWrite unit address blocks f
 deed_more n a b claimed total (Gathering (ForUnmap unit) gathered asked) l up h =
     unmap_more up h.short (λ k. k) refl h
 deed_more n a b claimed total (Gathering (ForFrames region) gathered asked) l up h =
-    frames_more up h.short (λ k. k) refl h
+    frames_more h.short (λ k. k) refl h
 deed_more n a b claimed total (Awaiting commands) l up h = (omega (arith, h.0), up h.1)
 deed_more n a b claimed total deed l up h = h
 

@@ -1,8 +1,8 @@
 -- While the device is not mended what tasks keep lies in no free block.
 use Rattle.power_loss.proofs.Common.{All, All-map, All-weaker, ◌≡◌, ℕ, ◌<◌, ◌≤◌, Bool, Option, Some, None, get_or, List}
 use Rattle.power_loss.proofs.Common.{map, nat_lt, if_both, refl, sym, ap, ◌∙◌, arith, same_Some, BlockState, Free, Spot}
-use Rattle.power_loss.proofs.Common.{spot_of, InSlot, Looked, Name, OnPage, Unwritten, latest, look, looked_at}
-use Rattle.power_loss.proofs.Common.{looked_on}
+use Rattle.power_loss.proofs.Common.{spot_of, InSlot, Looked, Name, OnPage, Unwritten, latest, look, looked_at, subst}
+use Rattle.power_loss.proofs.Common.{looked_on, take, ◌-◌, if◌then◌else◌}
 use Rattle.power_loss.proofs.Common.{settled_look, settled_pin, is_pin_of, with_wanted, Pin, Translation, is_mended}
 use Rattle.power_loss.proofs.Common.{Key}
 use Rattle.power_loss.proofs.Common.{◌≢◌, ⊎_elim, at_spot, at_spot_is}
@@ -10,6 +10,8 @@ use Rattle.power_loss.proofs.Common.{Place, HasKey, book, Valid, false}
 use Rattle.power_loss.specs.MendingRoom.{ArePinsOffFree, IsOffFree}
 use Rattle.power_loss.proofs.books.LayerParts.{LookedOf, SecureOf}
 use Rattle.power_loss.proofs.kept_pages.UnmendedPages.{new_secure, unmended_secure}
+use Rattle.ufs_spec.specs.Moves.{look_now}
+use Rattle.ufs_spec.specs.Ledger.{latest_durable}
 
 -- no block is free now that was not
 abbrev pub IsNoneFreed : (Spot → BlockState) → (Spot → BlockState) → Type 0
@@ -50,14 +52,18 @@ secure_off t name (Some p) at secure =
 
 -- what is looked up before the device is mended lies in none
 pub look_off : (t : Translation) (k : Key) → Valid t → is_mended t.work.mending ≡ false → HasKey (book t) k →
-    IsOffFree t.disk.blocks (look t.ledger k)
-look_off t k v un has = by (latest t.ledger k) refl
+    IsOffFree t.disk.blocks (look_now t k)
+look_off t k v un has =
+    subst (λ (b : Bool). IsOffFree t.disk.blocks
+    (if b then look t.ledger k else looked_at t.ledger (latest_durable t.ledger k))) (sym un)
+    (by (latest_durable t.ledger k) refl)
   where
-    by : (o : Option Name) → latest t.ledger k ≡ o → IsOffFree t.disk.blocks (looked_at t.ledger o)
+    by : (o : Option Name) → latest_durable t.ledger k ≡ o → IsOffFree t.disk.blocks (looked_at t.ledger o)
     by None e = tt
     by (Some name) e = if_both (IsOffFree t.disk.blocks) (nat_lt t.ledger.frontier name.number) tt
         (secure_off t name (t.ledger.standing name.number name.index) refl
-        (λ p at. unmended_secure k t.ledger.groups (latest t.ledger k) name v un has refl e at))
+        (λ p at. unmended_secure k (take (t.ledger.frontier - t.ledger.greatest_seen) t.ledger.groups)
+        (latest_durable t.ledger k) name v un has refl e at))
 
 -- a slot is of a group above the frontier
 abbrev IsBehind : ℕ → Looked → Type 0

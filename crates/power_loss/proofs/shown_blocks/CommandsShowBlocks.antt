@@ -15,13 +15,14 @@ use Rattle.ufs_laws.proofs.plain_contents.ListParts.{get_or-made, length-made}
 use Rattle.power_loss.proofs.open_tasks.FoundInLists.{found_last}
 use Rattle.power_loss.proofs.host_commands.OpenedByCommands.{IsFree, IsSpelled, opened_task}
 use Rattle.power_loss.proofs.host_commands.ReadBlocks.{KeysOfDevice, keys_read}
-use Rattle.power_loss.proofs.host_commands.PassedCommands.{Passed, passed, ready_now}
+use Rattle.power_loss.proofs.host_commands.PassedCommands.{Passed, passed}
 use Rattle.power_loss.proofs.shown_blocks.LooksShowContents.{look_shows}
 use Rattle.power_loss.proofs.shown_contents.MovesKeepShown.{kept_ledger, kept_pins}
 use Rattle.power_loss.proofs.shown_blocks.PinsShowBlocks.{Show, more_goes, show_goes}
 use Rattle.ufs_laws.proofs.walk.WaysOfCommands.{Beginning, Gathered, Handing, Reading, WhyBegun, begins_by, begun_as}
 use Rattle.power_loss.specs.Shown.{ShowsAt}
 use Rattle.power_loss.proofs.Common.{Key, content}
+use Rattle.ufs_spec.specs.Moves.{look_now}
 
 pub shows_if : (b : Bool) (t u : State) → ShowsReads t → ShowsReads u → ShowsReads (if b then t else u)
 shows_if true t u h k = h
@@ -35,39 +36,38 @@ opens s r c n deed h = show_goes s.translation.ledger s.tasks (with_task s r c n
     (more_goes s.tasks _) h
 
 -- what is looked up now of a key shows the content that a list of blocks has for the key
-pub made_shows : {s : State} (k : ℕ → Key) (body : ℕ → List ℕ) (m i : ℕ) → IsTied s →
-    is_mended s.translation.work.mending ≡ true → ((j : ℕ) → body j ≡ content (plain_now s) (k j)) →
+pub made_shows : {s : State} (k : ℕ → Key) (body : ℕ → List ℕ) (m i : ℕ) → IsTied s → ((j : ℕ) → body j ≡ content (plain_now s) (k j)) →
     IsKey (shape_of_numbers (numbers_of s)) (k i) →
-    ShowsAt s.translation.ledger (look s.translation.ledger (k i)) i
+    ShowsAt s.translation.ledger (look_now s.translation (k i)) i
     (map (λ (j : ℕ). record { body = body j; state = Unread }) (below m))
-made_shows {s} k body m i v mended same key block at =
+made_shows {s} k body m i v same key block at =
     let f : ℕ → ReadBlock = λ (j : ℕ). record { body = body j; state = Unread } in
     let long = length-made f m in
     let short = slice_get_within (map f (below m)) i block at in
     let is : block ≡ f i = sym (get_or_from_slice_get (map f (below m)) i block block at)
     ∙ get_or-made f m i block (omega (arith, long, short)) in (
       k i,
-      subst (λ (x : List ℕ). IsShown s.translation.ledger (k i) (look s.translation.ledger (k i)) x)
-          (sym (same i) ∙ ap (λ (x : ReadBlock). x.body) (sym is)) (look_shows s (k i) v mended key),
+      subst (λ (x : List ℕ). IsShown s.translation.ledger (k i) (look_now s.translation (k i)) x)
+          (sym (same i) ∙ ap (λ (x : ReadBlock). x.body) (sym is)) (look_shows s (k i) v key),
     )
 
 -- a block of a READ that begins
-block_shows : {s : State} (unit address m n i : ℕ) → IsTied s → is_mended s.translation.work.mending ≡ true →
+block_shows : {s : State} (unit address m n i : ℕ) → IsTied s →
     IsKey (shape_of_numbers (numbers_of s)) (data_key unit (address + i)) → ShowsBlock s.translation.ledger
-    (look s.translation.ledger (data_key unit (address + i))) i (sending (read_blocks s unit address m) n)
-block_shows {s} unit address m n i v mended key = by (read_blocks s unit address m) refl
+    (look_now s.translation (data_key unit (address + i))) i (sending (read_blocks s unit address m) n)
+block_shows {s} unit address m n i v key = by (read_blocks s unit address m) refl
   where
     by : (blocks : List ReadBlock) → read_blocks s unit address m ≡ blocks →
-        ShowsBlock s.translation.ledger (look s.translation.ledger (data_key unit (address + i))) i (sending blocks n)
+        ShowsBlock s.translation.ledger (look_now s.translation (data_key unit (address + i))) i (sending blocks n)
     by [] e = tt
     by (b ∷ bs) e = λ block at.
-        made_shows (λ j. data_key unit (address + j)) (λ j. block_at unit (address + j) (plain_now s)) m i v mended
+        made_shows (λ j. data_key unit (address + j)) (λ j. block_at unit (address + j) (plain_now s)) m i v
         (λ j. refl) key block (ap (λ (xs : List ReadBlock). slice_get xs i) e ∙ at)
 
 read_shows : {s : State} (r : Request) (command : Cdb) (unit address n : ℕ) → IsTied s →
-    is_mended s.translation.work.mending ≡ true → IsFree s r.tag → KeysOfDevice s unit address (blocks_expected r n) →
+    IsFree s r.tag → KeysOfDevice s unit address (blocks_expected r n) →
     ShowsReads s → ShowsReads (read_begun s r command unit address n)
-read_shows {s} r command unit address n v mended free keys h =
+read_shows {s} r command unit address n v free keys h =
     let m = blocks_expected r n in
     let task = opened_task r (Some command) n (sending (read_blocks s unit address m) n) in
     let l = s.translation.ledger in
@@ -80,7 +80,7 @@ read_shows {s} r command unit address n v mended free keys h =
     (λ i key. record {
       task = task;
       there = found_last (is_task_of r.tag) s.tasks task free.no_task (eqb-self r.tag);
-      shows = block_shows unit address m n i v mended key;
+      shows = block_shows unit address m n i v key;
     }) (below m) keys in
     subst (λ (x : Ledger). Show x tasks (fold moved s.translation (keeps s r.tag unit address m)).pins)
     (sym (kept_ledger k (kept_at s r.tag unit address) (below m) s.translation))
@@ -96,11 +96,10 @@ begun_shows s r command v free p op h = begins_by ShowsReads s r unit command on
 
     one : (b : Beginning) → WhyBegun s r unit command b → ShowsReads (begun_as s r command b)
     one (Reading u address n) (unit_is, address_is, size, read) =
-        let needs = ⊎_elim (λ e. ap needs_mended e) (λ e. ap needs_mended e) read in
         let reads = ⊎_elim (λ e. inl (op ∙ e)) (λ e. inr (op ∙ e)) read in
         subst (λ (x : ℕ). ShowsReads (read_begun s r command x address n)) (sym unit_is)
         (subst (λ (x : ℕ). ShowsReads (read_begun s r command unit x n)) (sym address_is)
-        (read_shows r command unit (address_of command) n v (ready_now s command needs p.ready) free
+        (read_shows r command unit (address_of command) n v free
         (keys_read size reads p) h))
     one (Handing region n) why = opens s r _ _ _ h
     one (Gathered count purpose n) why = opens s r _ _ _ h

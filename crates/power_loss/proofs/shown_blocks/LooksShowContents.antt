@@ -6,19 +6,21 @@ use Rattle.power_loss.proofs.Common.{content, put_group, put_groups, same_key, E
 use Rattle.power_loss.proofs.Common.{accepted_groups, latest, look, looked_at, looked_on, Shape, shape_of_numbers}
 use Rattle.power_loss.proofs.Common.{zero_block, Mended, Translation, is_mended, Key, Place, ltb-false, false≢true}
 use Rattle.power_loss.proofs.Common.{none-some, same_Some, BaseAt, BaseNone, FirstRight, IsLostNumber, IsPageAt}
-use Rattle.power_loss.proofs.Common.{IsPlainMark, book, Valid}
+use Rattle.power_loss.proofs.Common.{IsPlainMark, book, Valid, drop_all, slice_get_within}
 use Rattle.power_loss.proofs.MachineWords.{State, numbers_of, plain_now, IsTied, IsShown}
 use Rattle.std.specs.Prelude.{if◌then◌else◌}
-use Rattle.ufs_spec.specs.Ledger.{entry_of}
+use Rattle.ufs_spec.specs.Ledger.{entry_of, latest_durable, latest_in}
 use Rattle.ufs_spec.proofs.Equalities.{key_self, key_told}
 use Rattle.ufs_laws.proofs.plain_contents.GroupsOfCommands.{many_commands, put_groups-same as put_groups_same}
 use Rattle.power_loss.specs.Shown.{IsPageOf}
 use Rattle.power_loss.proofs.books.PagesByName.{new_page, old_page, page_new, page_one}
 use Rattle.power_loss.proofs.collected_blocks.FewestLivePages.{mended_told}
-use Rattle.power_loss.proofs.books.LastOfEachKey.{IsLastOf, NoneOf, latest_cases}
+use Rattle.power_loss.proofs.books.LastOfEachKey.{IsLastOf, NoneOf, latest_cases, get_take}
 use Rattle.power_loss.proofs.pending_groups.PendingByFrontier.{put_more}
 use Rattle.power_loss.proofs.stops.ImageContents.{after_none}
 use Rattle.power_loss.proofs.books.LayerParts.{MendingOf}
+use Rattle.ufs_spec.specs.Moves.{look_now}
+use Rattle.power_loss.proofs.kept_pages.LookedUpPages.{last_page}
 
 -- Groups that are put
 
@@ -189,17 +191,76 @@ accepted_alone {t} v = ap (put_groups base) (sym (take-append-drop repairs group
     groups : List Group
     groups = t.ledger.groups
 
--- what is looked up of a key of a mended device shows the key's content now
-pub look_shows : (s : State) (k : Key) → IsTied s → is_mended s.translation.work.mending ≡ true →
-    IsKey (shape_of_numbers (numbers_of s)) k →
-    IsShown s.translation.ledger k (look s.translation.ledger k) (content (plain_now s) k)
-look_shows s k v mended is = subst (IsShown s.translation.ledger k (look s.translation.ledger k)) (sym same)
-    (looked_has k (latest s.translation.ledger k)
-    (put_groups s.translation.ledger.base s.translation.ledger.groups k) v.valid
-    (latest_has v.valid (mended_told s.translation.work.mending mended) is))
+-- until the device is mended the page of a key at the frontier has the content of the life's start: what the key began
+-- with has it, and so does its repair
+pub durable_has : {t : Translation} {k : Key} → Valid t → is_mended t.work.mending ≡ false →
+    IsKey (shape_of_numbers t.numbers) k → HasContent t.ledger k (latest_durable t.ledger k) (t.ledger.base k)
+durable_has {t} {k} v un is = ⊎_elim repaired
+    (λ (r : (latest_durable t.ledger k ≡ t.ledger.first_page k) × NoneOf k groups).
+    subst (λ (o : Option Name). HasContent t.ledger k o (t.ledger.base k)) (sym r.0)
+    (begun (t.ledger.first_page k) refl)) (latest_cases k t.ledger.greatest_seen groups (t.ledger.first_page k))
   where
-    same : content (plain_now s) k ≡ put_groups s.translation.ledger.base s.translation.ledger.groups k
+    groups : List Group
+    groups = take (t.ledger.frontier - t.ledger.greatest_seen) t.ledger.groups
+
+    begun : (o : Option Name) → t.ledger.first_page k ≡ o → HasContent t.ledger k o (t.ledger.base k)
+    begun None e = none (subst (FirstRight (book t) k) e (v.book_right.first_page k is)) (v.book_right.base k is)
+      where
+        none : FirstRight (book t) k None → BaseAt (book t) k ⊎ BaseNone (book t) k → t.ledger.base k ≡ zero_block
+        none first (inl at) = absurd (first at.number at.index _ at.is refl at.below)
+        none first (inr zeros) = zeros.zeros
+    begun (Some name) e =
+        let c = v.book_right.first_content k name is e in
+        record {
+          entry = record { item = record { key = k; body = t.ledger.base k }; size = c.0 };
+          is = old_page (book t) name.number name.index
+              (v.book_right.old_within name.number name.index _ c.1) c.1;
+          key = refl;
+          body_is = refl;
+        }
+
+    repaired : IsLastOf k t.ledger.greatest_seen groups (latest_durable t.ledger k) →
+        HasContent t.ledger k (latest_durable t.ledger k) (t.ledger.base k)
+    repaired l =
+        let there = get_take (t.ledger.frontier - t.ledger.greatest_seen) t.ledger.groups l.at l.group l.there in
+        let all = (v.history.mending un).0 in
+        let inside = slice_get_within t.ledger.groups l.at l.group there.1 in
+        subst (λ (x : Option Name). HasContent t.ledger k x (t.ledger.base k)) (sym l.is)
+        (record {
+          entry = record { item = l.item; size = length l.group };
+          is = last_page (book t) k groups (latest_durable t.ledger k) l there.1;
+          key = l.key;
+          body_is =
+              v.history.contents l.at l.name.index l.group l.item (omega (arith, all, inside)) there.1 l.has
+              ∙ ap t.ledger.base l.key;
+        })
+
+-- what is looked up of a key shows the key's content now
+pub look_shows : (s : State) (k : Key) → IsTied s → IsKey (shape_of_numbers (numbers_of s)) k →
+    IsShown s.translation.ledger k (look_now s.translation k) (content (plain_now s) k)
+look_shows s k v is = by (is_mended l.work.mending) refl
+  where
+    l : Translation
+    l = s.translation
+
+    same : content (plain_now s) k ≡ put_groups l.ledger.base (accepted_groups l.ledger) k
     same = many_commands s.base s.accepted v.commands k (subst (λ (z : Shape). IsKey z k) (sym v.base.1) is)
         ∙ (ap (λ (gs : List Group). put_groups (content s.base) gs k) (sym v.groups)
-        ∙ (put_groups_same (content s.base) s.translation.ledger.base (accepted_groups s.translation.ledger) k
-        (sym (v.contents k is)) ∙ ap (λ (f : Contents). f k) (sym (accepted_alone v.valid))))
+        ∙ put_groups_same (content s.base) l.ledger.base (accepted_groups l.ledger) k (sym (v.contents k is)))
+
+    none : is_mended l.work.mending ≡ false → accepted_groups l.ledger ≡ []
+    none un = let all = (v.valid.history.mending un).0 in
+        ap (λ (n : ℕ). drop n l.ledger.groups) all ∙ drop_all (length l.ledger.groups) l.ledger.groups (omega arith)
+
+    by : (b : Bool) → is_mended l.work.mending ≡ b →
+        IsShown l.ledger k (if b then look l.ledger k else looked_at l.ledger (latest_durable l.ledger k))
+        (content (plain_now s) k)
+    by true e =
+        subst (IsShown l.ledger k (look l.ledger k))
+        (sym (same ∙ ap (λ (f : Contents). f k) (sym (accepted_alone v.valid))))
+        (looked_has k (latest l.ledger k) (put_groups l.ledger.base l.ledger.groups k) v.valid
+        (latest_has v.valid (mended_told l.work.mending e) is))
+    by false e =
+        subst (IsShown l.ledger k (looked_at l.ledger (latest_durable l.ledger k)))
+        (sym (same ∙ ap (λ (gs : List Group). put_groups l.ledger.base gs k) (none e)))
+        (looked_has k (latest_durable l.ledger k) (l.ledger.base k) v.valid (durable_has v.valid e is))

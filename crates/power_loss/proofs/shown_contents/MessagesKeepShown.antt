@@ -75,10 +75,10 @@ module _ {s : State} {task : Task} {purpose : Purpose} {gathered : List ℕ} {as
 
   -- each page of the area that it reads
   reads_show : (region : ℕ) (f : Frame) (fs : List Frame) (result : ℕ) → region < regions →
-      AsksInside (length (region_of (plain_now s) region).area) f → is_mended s.translation.work.mending ≡ true →
+      AsksInside (length (region_of (plain_now s) region).area) f →
       ShowsReads s →
       ShowsReads (completed s task (ReadsArea region f fs result))
-  reads_show region f fs result there inside mended h =
+  reads_show region f fs result there inside h =
       subst (λ (x : Ledger). Show x (map (with_request task.tag request (ReadingArea pages)) s.tasks)
       (fold moved (given_back s task).translation (keeps_area s task.tag region f)).pins)
       (sym (kept_ledger k (page_kept s task.tag region f) (below (pages_named f)) (given_back s task).translation))
@@ -110,7 +110,7 @@ module _ {s : State} {task : Task} {purpose : Purpose} {gathered : List ℕ} {as
             task = reads;
             there = changed_there s.tasks task (λ x. record x { deed = ReadingArea pages; request = Some request })
                 (λ x. refl) g.there;
-            shows = made_shows k (λ j. content (plain_now s) (k j)) (pages_named f) i v mended (λ j. refl) key;
+            shows = made_shows k (λ j. content (plain_now s) (k j)) (pages_named f) i v (λ j. refl) key;
           }) (below (pages_named f)) (keys_of_area region f v there inside)
 
   complete_shows : (all : List ℕ) → HasAll task gathered all → ShowsReads s →
@@ -124,7 +124,7 @@ module _ {s : State} {task : Task} {purpose : Purpose} {gathered : List ℕ} {as
       one (HasResult region frames result) why = request_shows s.translation.ledger _ _ h
       one (ReadsArea region f fs result) (d, reads) =
           let came = frames_came g (no_more whole) d in
-          reads_show region f fs result came.region_in.0 (reads_inside d reads) came.is_mended h
+          reads_show region f fs result came.region_in.0 (reads_inside d reads) h
       one (AcceptsFrames region frames result c) why =
           request_shows (accepts s c 0).translation.ledger _ _ (accepts_shows s c 0 h)
 

@@ -23,7 +23,7 @@ use Rattle.power_loss.proofs.Common.{◌∙◌}
 use Rattle.ufs_spec.proofs.RegionPages.{area_there}
 use Rattle.ufs_laws.proofs.plain_contents.CommandsKeepPlain.{region_right}
 use Rattle.std.specs.Prelude.{slice_index_or}
-use Rattle.ufs_spec.specs.Refusals.{sends_frames_to}
+use Rattle.ufs_spec.specs.Refusals.{sends_frames_to, accepts_nothing}
 use Rattle.ufs_spec.specs.Rpmb.{Results, region_of, rpmb_outcome}
 use Rattle.ufs_spec.specs.RpmbResponses.{emptied_by}
 use Rattle.ufs_laws.proofs.walk.Happenings.{Aborts, Begins, BlockRead, Completes, GoesOn, Happening}
@@ -114,7 +114,7 @@ area_of_region p region same =
 frames_ask : (s : State) {task : Task} {region : ℕ} {areas : List ℕ} (frames : List Frame) (result : ℕ)
     (c : Option Command) →
     (shape_of (plain_now s)).areas ≡ areas → FramesCame s task region frames →
-    rpmb_outcome region (region_of (plain_now s) region) (s.registers region) (locked s) frames ≡ Results result c →
+    rpmb_outcome region (region_of (plain_now s) region) (s.registers region) (accepts_nothing s) frames ≡ Results result c →
     FramesAsk (slice_index_or areas region 0) frames result
 frames_ask s [] result c same came decided = tt
 frames_ask s {region = region} {areas} (f ∷ fs) result c same came decided =
@@ -123,7 +123,7 @@ frames_ask s {region = region} {areas} (f ∷ fs) result c same came decided =
       nonce = is.nonce.0;
       nonce_bytes = is.nonce.1;
       inside = λ kind good. subst (λ (n : ℕ). AsksInside n f) (area_of_region (plain_now s) region same)
-          (asks_inside (plain_now s) region (s.registers region) (locked s) f fs result c decided kind good);
+          (asks_inside (plain_now s) region (s.registers region) (accepts_nothing s) f fs result c decided kind good);
     }
 
 completed_waits : {areas : List ℕ} {s : State} {task : Task} {purpose : Purpose} {gathered all : List ℕ} {asked : Bool}

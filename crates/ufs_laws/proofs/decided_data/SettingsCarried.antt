@@ -24,7 +24,7 @@ use Rattle.ufs_spec.specs.Keys.{said_of, settings_key}
 use Rattle.ufs_spec.specs.Plain.{Plain, Region, after, apply, changed_by, empty_region, region_of, with_region}
 use Rattle.ufs_spec.specs.Queries.{Query, setting_of, sets_permanent}
 use Rattle.ufs_spec.specs.QueryAnswers.{query_passed}
-use Rattle.ufs_spec.specs.Refusals.{State, locked, plain_now}
+use Rattle.ufs_spec.specs.Refusals.{State, accepts_nothing, plain_now}
 use Rattle.ufs_spec.specs.Rpmb.{Results, command_in}
 use Rattle.ufs_spec.specs.declared.flash.Key.{Key}
 use Rattle.ufs_spec.specs.declared.flash.KeyAndCounter.{KeyAndCounter}
@@ -215,6 +215,6 @@ pub of_request : (s : State) (task : Task) (region : ℕ) (f : Frame) (fs : List
 of_request s task region f fs result c e =
     adds s (frames_complete s task region (f ∷ fs)) c
     (request_changes region f fs c
-    (accepted_command region (region_of (plain_now s) region) (s.registers region) (locked s) f fs result c e))
+    (accepted_command region (region_of (plain_now s) region) (s.registers region) (accepts_nothing s) f fs result c e))
     (ap (λ (t : State). t.translation.ledger.groups)
     (decided_as s task region (f ∷ fs) (Results result (Some c)) e))

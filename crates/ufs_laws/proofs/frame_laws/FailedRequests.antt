@@ -10,7 +10,7 @@ use Rattle.ufs_spec.specs.Commands.{Command}
 use Rattle.ufs_spec.specs.Exchanges.{Answering, Good, Task}
 use Rattle.ufs_spec.specs.FrameRequests.{frames_complete, reads_area, requested}
 use Rattle.ufs_spec.specs.Frames.{Frame}
-use Rattle.ufs_spec.specs.Refusals.{State, locked, plain_now}
+use Rattle.ufs_spec.specs.Refusals.{State, accepts_nothing, plain_now}
 use Rattle.ufs_spec.specs.Rpmb.{Results, read_data, region_of}
 use Rattle.ufs_spec.specs.RpmbResponses.{is_success}
 
@@ -33,7 +33,7 @@ told_at_once : (s : State) (task : Task) (region : ℕ) (f : Frame) (fs : List F
     frames_complete s task region (f ∷ fs)
     ≡ requested (given_back s task) task region (f ∷ fs) result (Answering Good task.length)
 told_at_once s task region f fs result (Some c) e failed =
-    absurd (failed (accepted_result region (region_of (plain_now s) region) (s.registers region) (locked s) (f ∷ fs) result c
+    absurd (failed (accepted_result region (region_of (plain_now s) region) (s.registers region) (accepts_nothing s) (f ∷ fs) result c
     e))
 told_at_once s task region f fs result None e failed =
     decided_as s task region (f ∷ fs) (Results result None) e

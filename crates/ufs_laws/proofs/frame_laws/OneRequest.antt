@@ -1,11 +1,11 @@
 -- One request is open at a time, in three slots.
-use Rattle.std.proofs.Common.{◌≡◌, ◌≢◌, ◌==◌, ◌&&◌, ◌+◌, ◌-◌, ◌%◌, ◌<◌, ℕ, zero, suc, Bool, true, false}
+use Rattle.std.proofs.Common.{◌||◌, ◌≡◌, ◌≢◌, ◌==◌, ◌&&◌, ◌+◌, ◌-◌, ◌%◌, ◌<◌, ℕ, zero, suc, Bool, true, false}
 use Rattle.std.proofs.Common.{not, nat_le, nat_lt, List, [], ◌∷◌, Option, Some, None, ap, ne_eqb, refl}
 use Rattle.std.proofs.Common.{map, ◌∙◌, arith}
 use Rattle.std.specs.Prelude.{fold, slice_get}
 use Rattle.std.specs.List.{list_any}
 use Rattle.std.proofs.lemmas.Bool.{le-ltb}
-use Rattle.ufs_laws.proofs.refusals.TableLines.{decides, either, is_there, leaves}
+use Rattle.ufs_laws.proofs.refusals.TableLines.{decides, either, is_there, leaves, once_mended}
 use Rattle.ufs_laws.specs.FrameLaws.{outcome_in}
 use Rattle.ufs_laws.specs.Table.{asks}
 use Rattle.ufs_spec.proofs.Facts.{false_from_ne_true, if_both, leb-true, or_left, or_right, same_Some}
@@ -18,8 +18,8 @@ use Rattle.ufs_spec.specs.Frames.{Frame}
 use Rattle.ufs_spec.specs.Keys.{area_key, below}
 use Rattle.ufs_spec.specs.Machine.{begun, claimed_by}
 use Rattle.ufs_spec.specs.Moves.{Keep, moved}
-use Rattle.ufs_spec.specs.Refusals.{Request, State, first_line, is_crowded, is_frames, is_past, lines_for, mended}
-use Rattle.ufs_spec.specs.Refusals.{numbers_of, sends_frames, unit_numbers_of}
+use Rattle.ufs_spec.specs.Refusals.{Request, State, first_line, is_crowded, is_frames, is_past, lines_for, locked}
+use Rattle.ufs_spec.specs.Refusals.{mended, numbers_of, sends_frames, unit_numbers_of}
 use Rattle.ufs_spec.specs.Plain.{steps_of}
 use Rattle.ufs_spec.specs.Rpmb.{Refused, Results, RpmbOutcome}
 use Rattle.ufs_spec.specs.Translation.{Pin, Translation, free_slots}
@@ -57,7 +57,7 @@ busy s tag region k task other n has ready there e =
     leaves (steps_of (numbers_of s) region == 0) invalid_field Busy _ (is_there _ has)
     (leaves (is_past (brings region) (unit_numbers_of s (asks 0x20 0xC4 tag (brings region)))) out_of_range Busy _
     (within region 512 (unit_numbers_of s (asks 0x20 0xC4 tag (brings region))))
-    (leaves (not (mended s)) not_ready Busy _ (ap not ready)
+    (leaves (not (mended s || locked s)) not_ready Busy _ (once_mended _ _ ready)
     (decides (is_crowded s (brings region)) Busy _
     (or_left (list_any Sends s.tasks) (nat_lt (free_slots s.translation) 3)
     (one_open s.tasks k task other n there e)))))

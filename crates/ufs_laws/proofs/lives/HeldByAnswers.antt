@@ -1,17 +1,32 @@
 -- What is held once an answer is handed out.
-use Rattle.std.proofs.Common.{◌≡◌, ◌+◌, ℕ, true, false, List, length, max, refl, subst, sym}
+use Rattle.std.proofs.Common.{◌≡◌, ◌+◌, ℕ, Bool, true, false, if◌then◌else◌, List, Some, ap, length, max, not, refl, subst}
+use Rattle.std.proofs.Common.{sym}
 use Rattle.ufs_spec.specs.Commands as command
-use Rattle.ufs_spec.specs.Exchanges.{Awaiting, Deed, Task}
+use Rattle.ufs_spec.specs.Exchanges.{Answering, Awaiting, Deed, Good, Task}
 use Rattle.ufs_spec.specs.Lives.{held}
-use Rattle.ufs_spec.specs.Machine.{accepts, blocks_in, deed_after, moves_after, set_deed, task_goes_on, task_replied}
-use Rattle.ufs_spec.specs.Machine.{with_moves, write_complete}
-use Rattle.ufs_spec.specs.Refusals.{State, locked}
+use Rattle.ufs_spec.specs.Machine.{accepts, blocks_in, deed_after, flush_begun, moves_after, set_deed, task_goes_on, task_replied}
+use Rattle.ufs_spec.specs.Machine.{with_moves, with_task, write_complete}
+use Rattle.ufs_spec.specs.Refusals.{Request, State, locked, mended}
+use Rattle.ufs_spec.specs.declared.scsi.Cdb.{Cdb}
 use Rattle.ufs_spec.proofs.Facts.{cond-false}
 
 pub forced : (s : State) (task : Task) (unit address blocks : ℕ) (bytes : List ℕ) → locked s ≡ false →
     write_complete s task unit address blocks true bytes ≡ set_deed
     (accepts s (command.Write unit address (blocks_in blocks bytes)) blocks) task.tag (Awaiting (length s.accepted + 1))
 forced s task unit address blocks bytes h = cond-false (locked s) _ _ h
+
+-- what a flush without IMMED waits for, on a device that is mended and on one that is not
+abbrev waits : State → Request → Cdb → Bool → State
+waits s r c mends =
+    with_task s r (Some c) 0 (if not mends then Answering Good 0 else Awaiting (length s.accepted))
+
+pub flushed : (s : State) (r : Request) (c : Cdb) → mended s ≡ true →
+    flush_begun s r c false ≡ with_task s r (Some c) 0 (Awaiting (length s.accepted))
+flushed s r c e = ap (waits s r c) e
+
+pub flushed_before : (s : State) (r : Request) (c : Cdb) → mended s ≡ false →
+    flush_begun s r c false ≡ with_task s r (Some c) 0 (Answering Good 0)
+flushed_before s r c e = ap (waits s r c) e
 
 pub handed : (s : State) (task : Task) (n : ℕ) → task.deed ≡ Awaiting n → held (task_replied s task) ≡ max (held s) n
 handed s task n h =

@@ -1,11 +1,11 @@
 -- There is a device that was opened over new dies.
-use Rattle.std.proofs.Common.{◌≡◌, true, false, refl}
+use Rattle.std.proofs.Common.{◌≡◌, true, false, ap, refl}
 use Rattle.ufs_laws.proofs.new_dies.FirstLife.{opens_new}
-use Rattle.ufs_laws.proofs.new_dies.NewDeviceState.{open_in}
+use Rattle.ufs_laws.proofs.new_dies.NewDeviceState.{first_is, open_in}
 use Rattle.ufs_laws.proofs.worked_run.RunStates.{marked}
 use Rattle.ufs_laws.specs.Runs.{IsIdle, IsNew, row}
 use Rattle.ufs_spec.specs.Dies.{blank_page}
-use Rattle.ufs_spec.specs.Refusals.{State, mended}
+use Rattle.ufs_spec.specs.Refusals.{State, locked, mended}
 
 pub new_opens : (s : State) × IsNew s
 new_opens =
@@ -16,3 +16,18 @@ new_opens =
 pub mended_idle : (s : State) × IsIdle s × (mended s ≡ true)
 unfolding marked
 mended_idle = (marked (open_in new_opens.0), record { numbers = refl; no_tasks = refl; no_shorts = refl }, refl)
+
+-- a device that begins with all its blocks bad is locked, and not mended
+pub locked_new : (s : State) × IsIdle s × (mended s ≡ false) × (locked s ≡ true)
+locked_new =
+    let h = opens_new row (λ p. blank_page) (λ b. true) (λ p. refl) in
+    let same = first_is row (λ p. blank_page) (λ b. true) h.0 (λ p. refl) h.1 in (
+      h.0,
+      record {
+        numbers = ap (λ (s : State). s.translation.numbers) same;
+        no_tasks = ap (λ (s : State). s.tasks) same;
+        no_shorts = ap (λ (s : State). s.shorts) same;
+      },
+      ap mended same,
+      ap locked same,
+    )

@@ -1,9 +1,10 @@
 -- A flush with nothing to wait for is answered GOOD, on a locked device too.
-use Rattle.std.proofs.Common.{◌≡◌, ◌≤◌, ◌&&◌, ℕ, nat_le, nat_lt, not, Bool, true, false, if◌then◌else◌, [], ◌∷◌}
+use Rattle.std.proofs.Common.{◌≡◌, ◌≤◌, ◌&&◌, ◌||◌, ℕ, nat_le, nat_lt, not, Bool, true, false, if◌then◌else◌, [], ◌∷◌}
 use Rattle.std.proofs.Common.{map, length, Option, Some, None, Ok, refl, sym, ap, ◌∙◌, subst}
 use Rattle.std.proofs.lemmas.Bool.{and_right}
 use Rattle.ufs_laws.proofs.answers.OnlyAnswers.{host_gets, reply_gets}
 use Rattle.ufs_laws.proofs.refusals.RefusedCommands.{idle_is, idle_state}
+use Rattle.ufs_laws.proofs.refusals.TableLines.{locked_idle, once_locked, once_mended}
 use Rattle.ufs_laws.proofs.refusals.TakenRequests.{needs_none, skips}
 use Rattle.ufs_laws.specs.Runs.{Gets, IsAnswered, IsIdle, heard}
 use Rattle.ufs_laws.specs.Table.{asks, flush, heard_as}
@@ -37,7 +38,7 @@ abbrev flushes : ℕ → Bool → Request
 flushes tag immediate = asks 0x00 0 tag (flush immediate)
 
 abbrev waits : State → Bool → Deed
-waits s immediate = if immediate then Answering Good 0 else Awaiting (length s.accepted)
+waits s immediate = if immediate || not (mended s) then Answering Good 0 else Awaiting (length s.accepted)
 
 abbrev flush_task : ℕ → Bool → Deed → Task
 flush_task tag immediate deed =
@@ -51,14 +52,19 @@ flush_task tag immediate deed =
       request = None;
     }
 
-abbrev begun : State → ℕ → Bool → State
-begun s tag immediate =
-    with_task (idle_state s) (flushes tag immediate) (Some (flush immediate)) 0 (waits (idle_state s) immediate)
+-- the flush is a task that does this
+abbrev begun_with : State → ℕ → Bool → Deed → State
+begun_with s tag immediate deed =
+    with_task (idle_state s) (flushes tag immediate) (Some (flush immediate)) 0 deed
 
-not_refused : (s : State) (tag : ℕ) (immediate : Bool) → mended s ≡ true →
+abbrev begun : State → ℕ → Bool → State
+begun s tag immediate = begun_with s tag immediate (waits (idle_state s) immediate)
+
+not_refused : (s : State) (tag : ℕ) (immediate : Bool) →
+    not (mended (idle_state s) || locked (idle_state s)) ≡ false →
     has_pending (idle_state s).translation ≡ false → refusal (idle_state s) (flushes tag immediate) ≡ None
 not_refused s tag immediate e none =
-    skips (not (mended (idle_state s))) not_ready _ (ap not e)
+    skips (not (mended (idle_state s) || locked (idle_state s))) not_ready _ e
     (skips (locked (idle_state s) && has_pending (idle_state s).translation) write_protected _
     (and_right (locked (idle_state s)) (has_pending (idle_state s).translation) none)
     (skips (nat_lt (free_slots (idle_state s).translation) 0) Busy _ (needs_none (idle_state s)) refl))
@@ -69,18 +75,24 @@ is_begun : (s : State) (tag : ℕ) (immediate : Bool) →
 is_begun s tag immediate e =
     ap (λ (o : Option Status). lock_applied (fills (refused_or_begun (idle_state s) (flushes tag immediate) o))) e
 
--- it says GOOD at once, whatever the lock
-says_good : (s : State) (tag : ℕ) (immediate : Bool) → length s.accepted ≤ durable s →
-    Gets (lock_applied (fills (begun s tag immediate))) Reply (OfReply (Some (response 0 tag 4096 0 Good)))
-says_good s tag true all =
-    let t = with_task (idle_state s) (flushes tag true) (Some (flush true)) 0 (Answering Good 0) in
-    let task = flush_task tag true (Answering Good 0) in
+-- with IMMED, or before the device is mended, it says GOOD at once, whatever the lock
+says_now : (s : State) (tag : ℕ) (immediate : Bool) →
+    Gets (lock_applied (fills (begun_with s tag immediate (Answering Good 0)))) Reply
+    (OfReply (Some (response 0 tag 4096 0 Good)))
+says_now s tag immediate =
+    let t = with_task (idle_state s) (flushes tag immediate) (Some (flush immediate)) 0 (Answering Good 0) in
+    let task = flush_task tag immediate (Answering Good 0) in
     reply_gets (lock_applied t) task (response 0 tag 4096 0 Good) (one_task t task refl refl (locked t))
     (no_shorts t refl (locked t)) refl
-says_good s tag false all =
+
+-- and else if all is durable
+says_later : (s : State) (tag : ℕ) (immediate : Bool) → length s.accepted ≤ durable s →
+    Gets (lock_applied (fills (begun_with s tag immediate (Awaiting (length s.accepted))))) Reply
+    (OfReply (Some (response 0 tag 4096 0 Good)))
+says_later s tag immediate all =
     let n = length s.accepted in
-    let t = with_task (idle_state s) (flushes tag false) (Some (flush false)) 0 (Awaiting n) in
-    let task = flush_task tag false (Awaiting n) in
+    let t = with_task (idle_state s) (flushes tag immediate) (Some (flush immediate)) 0 (Awaiting n) in
+    let task = flush_task tag immediate (Awaiting n) in
     reply_gets (lock_applied t) task (response 0 tag 4096 0 Good)
     (one_task t task refl (stays t task n (due s)) (locked t)) (no_shorts t refl (locked t))
     (told t task n (due s) (locked t))
@@ -99,7 +111,20 @@ says_good s tag false all =
     told t task n e true = cond-true (nat_le n (durable t)) _ None e
     told t task n e false = cond-true (nat_le n (durable t)) _ None e
 
-idle_answered : (s : State) (tag : ℕ) (immediate : Bool) → mended s ≡ true →
+says_good : (s : State) (tag : ℕ) (immediate : Bool) → length s.accepted ≤ durable s →
+    Gets (lock_applied (fills (begun s tag immediate))) Reply (OfReply (Some (response 0 tag 4096 0 Good)))
+says_good s tag immediate all = by (immediate || not (mended s))
+  where
+    by : (b : Bool) →
+        Gets
+        (lock_applied
+        (fills (begun_with s tag immediate (if b then Answering Good 0 else Awaiting (length s.accepted))))) Reply
+        (OfReply (Some (response 0 tag 4096 0 Good)))
+    by true = says_now s tag immediate
+    by false = says_later s tag immediate all
+
+idle_answered : (s : State) (tag : ℕ) (immediate : Bool) →
+    not (mended (idle_state s) || locked (idle_state s)) ≡ false →
     has_pending (idle_state s).translation ≡ false → length s.accepted ≤ durable s →
     IsAnswered (idle_state s) (heard_as (flushes tag immediate)) (response 0 tag 4096 0 Good)
 idle_answered s tag immediate e none all = record {
@@ -111,11 +136,23 @@ idle_answered s tag immediate e none all = record {
       (sym (is_begun s tag immediate (not_refused s tag immediate e none))) (says_good s tag immediate all);
 }
 
-pub answered : (s : State) (tag : ℕ) (immediate : Bool) → IsIdle s → mended s ≡ true →
+goes_on : (s : State) (tag : ℕ) (immediate : Bool) → IsIdle s →
+    not (mended (idle_state s) || locked (idle_state s)) ≡ false →
     has_pending s.translation ≡ false → length s.accepted ≤ durable s →
     IsAnswered s (heard_as (flushes tag immediate)) (response 0 tag 4096 0 Good)
-answered s tag immediate h e none all =
+goes_on s tag immediate h e none all =
     subst (λ (t : State). IsAnswered t (heard_as (flushes tag immediate)) (response 0 tag 4096 0 Good))
     (sym (idle_is s h))
     (idle_answered s tag immediate e
     (subst (λ (t : State). has_pending t.translation ≡ false) (idle_is s h) none) all)
+
+pub answered : (s : State) (tag : ℕ) (immediate : Bool) → IsIdle s → mended s ≡ true →
+    has_pending s.translation ≡ false → length s.accepted ≤ durable s →
+    IsAnswered s (heard_as (flushes tag immediate)) (response 0 tag 4096 0 Good)
+answered s tag immediate h e = goes_on s tag immediate h (once_mended _ _ e)
+
+-- so it is before the device is mended, if it is locked
+pub locked_answered : (s : State) (tag : ℕ) (immediate : Bool) → IsIdle s → mended s ≡ false → locked s ≡ true →
+    has_pending s.translation ≡ false → length s.accepted ≤ durable s →
+    IsAnswered s (heard_as (flushes tag immediate)) (response 0 tag 4096 0 Good)
+locked_answered s tag immediate h e k = goes_on s tag immediate h (once_locked _ _ (locked_idle s true h k))

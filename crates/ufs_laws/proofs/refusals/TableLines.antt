@@ -1,11 +1,11 @@
 -- The line of the table that stands first decides.
 use Rattle.std.proofs.Common.{◌≡◌, ℕ, ◌*◌, ◌<◌, ◌≤◌, ◌==◌, ◌&&◌, ◌||◌, nat_le, nat_lt, not, Bool, true, false, if◌then◌else◌}
 use Rattle.std.proofs.Common.{List, ne_eqb}
-use Rattle.std.proofs.Common.{[], ◌∷◌, length, Option, Some, None, refl, ap, ◌∙◌, subst, arith}
+use Rattle.std.proofs.Common.{[], ◌∷◌, length, Option, Some, None, refl, sym, ap, ◌∙◌, subst, arith}
 use Rattle.std.proofs.lemmas.Bool.{le-leb, le-ltb, lt-ltb, ltb-true}
 use Rattle.ufs_laws.proofs.refusals.RefusedCommands.{answers, idle_is, idle_state, lacks}
 use Rattle.ufs_laws.specs.Runs.{IsIdle}
-use Rattle.ufs_laws.specs.Table.{IsRefused, asks, flush, read_at, reads_response, spells_none, write_at}
+use Rattle.ufs_laws.specs.Table.{IsRefused, asks, flush, protected_row, read_at, reads_response, spells_none, write_at}
 use Rattle.ufs_spec.specs.Exchanges.{Busy, Status, TaskSetFull, invalid_field, invalid_operation, list_length_error}
 use Rattle.ufs_spec.specs.Exchanges.{no_unit, not_ready, out_of_range, response, sequence_error, short_reply}
 use Rattle.ufs_spec.specs.Exchanges.{write_protected}
@@ -42,6 +42,18 @@ pub leaves : (b : Bool) (status other : Status) (rest : Option Status) → b ≡
     (if b then Some status else rest) ≡ Some other
 leaves b status other rest e k = cond-false b (Some status) rest e ∙ k
 
+-- the line of the mending does not apply once the device is mended, nor on a locked one, but for TEST UNIT READY
+pub once_mended : (mends locks : Bool) → mends ≡ true → not (mends || locks) ≡ false
+once_mended mends locks e = ap (λ (b : Bool). not (b || locks)) e
+
+pub once_locked : (mends locks : Bool) → locks ≡ true → not (mends || locks) ≡ false
+once_locked true locks e = refl
+once_locked false locks e = ap not e
+
+-- before that it applies
+pub neither : (mends locks : Bool) → mends ≡ false → locks ≡ false → not (mends || locks) ≡ true
+neither mends locks e k = ap (λ (b : Bool). not (b || locks)) e ∙ ap not k
+
 pub full : (s : State) (r : Request) (status : Status) → most_tasks ≤ length s.tasks → refusal s r ≡ Some status →
     command_taken s r ≡ with_short s (short_reply r.tag (response r.lun r.tag r.expected 0 TaskSetFull))
 full s r status many e =
@@ -76,19 +88,35 @@ list s tag =
 pub flag : (s : State) (tag : ℕ) → IsIdle s → IsRefused s (asks 0x00 0 tag (read_at 256 1)) invalid_field
 flag s tag h = answers s (asks 0x00 0 tag (read_at 256 1)) invalid_field h refl
 
-pub past : (s : State) (tag : ℕ) → IsIdle s → mended s ≡ false →
+pub past : (s : State) (tag : ℕ) → IsIdle s → mended s ≡ false → locked s ≡ false →
     IsRefused s (asks 0x40 0 tag (read_at 256 1)) out_of_range
-past s tag h e = answers s (asks 0x40 0 tag (read_at 256 1)) out_of_range h refl
+past s tag h e k = answers s (asks 0x40 0 tag (read_at 256 1)) out_of_range h refl
 
-pub ready : (s : State) (tag : ℕ) → IsIdle s → mended s ≡ false → locked s ≡ true →
+pub ready : (s : State) (tag : ℕ) → IsIdle s → mended s ≡ false → locked s ≡ false → free_slots s.translation ≡ 0 →
     IsRefused s (asks 0x20 0 tag (write_at 0)) not_ready
-ready s tag h e k =
-    answers s (asks 0x20 0 tag (write_at 0)) not_ready h (decides (not (mended (idle_state s))) not_ready _ (ap not e))
+ready s tag h e k none =
+    answers s (asks 0x20 0 tag (write_at 0)) not_ready h
+    (decides (not (mended (idle_state s) || locked (idle_state s))) not_ready _
+    (neither _ _ e (locked_idle s false h k)))
+
+-- a unit that is protected until the next power cycle
+pub ready_and_protected : (s : State) (tag : ℕ) → numbers_of s ≡ protected_row → mended s ≡ false → locked s ≡ false →
+    s.power_on ≡ true → refusal s (asks 0x20 1 tag (write_at 0)) ≡ Some not_ready
+ready_and_protected s tag row e k on =
+    subst (λ (t : State). refusal t (asks 0x20 1 tag (write_at 0)) ≡ Some not_ready) (sym same)
+    (decides (not (mended s || locked numbered)) not_ready _
+    (neither _ _ e (subst (λ (t : State). locked t ≡ false) same k)))
+  where
+    numbered : State
+    numbered = record s { translation = record s.translation { numbers = protected_row } }
+
+    same : s ≡ numbered
+    same i = record s { translation = record s.translation { numbers = row i } }
 
 pub protected : (s : State) (tag : ℕ) → IsIdle s → mended s ≡ true → locked s ≡ true → free_slots s.translation ≡ 0 →
     IsRefused s (asks 0x20 0 tag (write_at 0)) write_protected
 protected s tag h e k none = answers s (asks 0x20 0 tag (write_at 0)) write_protected h
-    (leaves (not (mended (idle_state s))) not_ready write_protected _ (ap not e)
+    (leaves (not (mended (idle_state s) || locked (idle_state s))) not_ready write_protected _ (once_mended _ _ e)
     (decides (locked (idle_state s) || false) write_protected _ (or_with_false _ ∙ (locked_idle s true h k))))
 
 pending_idle : (s : State) → IsIdle s → has_pending s.translation ≡ true → has_pending (idle_state s).translation ≡ true
@@ -97,7 +125,7 @@ pending_idle s h e = subst (λ (t : State). has_pending t.translation ≡ true) 
 pub flush_refused : (s : State) (tag : ℕ) (immediate : Bool) → IsIdle s → mended s ≡ true → locked s ≡ true →
     has_pending s.translation ≡ true → IsRefused s (asks 0x00 0 tag (flush immediate)) write_protected
 flush_refused s tag immediate h e k some = answers s (asks 0x00 0 tag (flush immediate)) write_protected h
-    (leaves (not (mended (idle_state s))) not_ready write_protected _ (ap not e)
+    (leaves (not (mended (idle_state s) || locked (idle_state s))) not_ready write_protected _ (once_mended _ _ e)
     (decides (locked (idle_state s) && has_pending (idle_state s).translation) write_protected _
     (and_from (locked (idle_state s)) (has_pending (idle_state s).translation) (locked_idle s true h k)
     (pending_idle s h some))))
@@ -105,7 +133,7 @@ flush_refused s tag immediate h e k some = answers s (asks 0x00 0 tag (flush imm
 pub crowded : (s : State) (tag : ℕ) → IsIdle s → mended s ≡ true → locked s ≡ false → free_slots s.translation ≡ 0 →
     IsRefused s (asks 0x20 0 tag (write_at 0)) Busy
 crowded s tag h e k none = answers s (asks 0x20 0 tag (write_at 0)) Busy h
-    (leaves (not (mended (idle_state s))) not_ready Busy _ (ap not e)
+    (leaves (not (mended (idle_state s) || locked (idle_state s))) not_ready Busy _ (once_mended _ _ e)
     (leaves (locked (idle_state s) || false) write_protected Busy _ (or_with_false _ ∙ (locked_idle s false h k))
     (decides (nat_lt (free_slots (idle_state s).translation) 1) Busy _
     (lt-ltb (free_slots (idle_state s).translation) 1 (let few = slots_idle s h none in omega arith)))))
@@ -125,13 +153,13 @@ pub is_there : (n : ℕ) → 0 < n → (n == 0) ≡ false
 is_there n l = ne_eqb n 0 (λ e. omega (arith, l, e))
 
 pub ready_first : (s : State) (tag region : ℕ) → 0 < steps_of (numbers_of s) region → mended s ≡ false →
-    (s.registers region).response ≡ [] →
+    locked s ≡ false → (s.registers region).response ≡ [] →
     first_line (lines_for s (reads_response tag region) (cdb.SecurityIn region 512)) ≡ Some not_ready
-ready_first s tag region there e none =
+ready_first s tag region there e k none =
     leaves (steps_of (numbers_of s) region == 0) invalid_field not_ready _ (is_there _ there)
     (leaves (is_past (cdb.SecurityIn region 512) (unit_numbers_of s (reads_response tag region))) out_of_range not_ready _
     (within s (reads_response tag region) region 512)
-    (decides (not (mended s)) not_ready _ (ap not e)))
+    (decides (not (mended s || locked s)) not_ready _ (neither _ _ e k)))
 
 pub response_first : (s : State) (tag region : ℕ) → 0 < steps_of (numbers_of s) region → mended s ≡ true →
     (s.registers region).response ≡ [] →
@@ -140,7 +168,7 @@ response_first s tag region there e none =
     leaves (steps_of (numbers_of s) region == 0) invalid_field sequence_error _ (is_there _ there)
     (leaves (is_past (cdb.SecurityIn region 512) (unit_numbers_of s (reads_response tag region))) out_of_range
     sequence_error _ (within s (reads_response tag region) region 512)
-    (leaves (not (mended s)) not_ready sequence_error _ (ap not e)
+    (leaves (not (mended s || locked s)) not_ready sequence_error _ (once_mended _ _ e)
     (decides (length (s.registers region).response == 0) sequence_error _
     (ap (λ (frames : List (List ℕ)). length frames == 0) none))))
 
@@ -151,7 +179,7 @@ other_response s tag region a b there e two =
     leaves (steps_of (numbers_of s) region == 0) invalid_field invalid_field _ (is_there _ there)
     (leaves (is_past (cdb.SecurityIn region 512) (unit_numbers_of s (reads_response tag region))) out_of_range
     invalid_field _ (within s (reads_response tag region) region 512)
-    (leaves (not (mended s)) not_ready invalid_field _ (ap not e)
+    (leaves (not (mended s || locked s)) not_ready invalid_field _ (once_mended _ _ e)
     (leaves (length (s.registers region).response == 0) sequence_error invalid_field _
     (ap (λ (frames : List (List ℕ)). length frames == 0) two)
     (decides (not (512 == 512 * length (s.registers region).response)) invalid_field _

@@ -3,7 +3,7 @@ use Rattle.std.proofs.Common.{◌≡◌, ◌<◌, ◌≤◌, ◌||◌, ℕ, nat_
 use Rattle.std.proofs.Common.{ap, refl, ◌∙◌, sym, subst, arith}
 use Rattle.std.proofs.lemmas.Bool.{le-ltb, lt-ltb}
 use Rattle.ufs_laws.proofs.refusals.RefusedCommands.{answers, idle_is, idle_state}
-use Rattle.ufs_laws.proofs.refusals.TableLines.{decides, leaves, locked_idle}
+use Rattle.ufs_laws.proofs.refusals.TableLines.{decides, leaves, locked_idle, neither, once_locked, once_mended}
 use Rattle.ufs_laws.specs.Runs.{IsIdle}
 use Rattle.ufs_laws.specs.Table.{IsRefused, asks, protected_row, read_at, write_at}
 use Rattle.ufs_spec.proofs.Facts.{cond-false, or_with_false}
@@ -36,7 +36,7 @@ pub crowded : (s : State) (tag : ℕ) → IsIdle s → mended s ≡ true → loc
     IsRefused s (unmap tag 24) Busy
 crowded s tag h e k few =
     answers s (unmap tag 24) Busy h
-    (leaves (not (mended (idle_state s))) not_ready Busy _ (ap not e)
+    (leaves (not (mended (idle_state s) || locked (idle_state s))) not_ready Busy _ (once_mended _ _ e)
     (leaves (locked (idle_state s) || false) write_protected Busy _ (or_with_false _ ∙ locked_idle s false h k)
     (decides (nat_lt (free_slots (idle_state s).translation) 32) Busy _
     (lt-ltb (free_slots (idle_state s).translation) 32
@@ -46,7 +46,7 @@ pub taken : (s : State) (tag : ℕ) → IsIdle s → mended s ≡ true → locke
     refusal s (unmap tag 24) ≡ None
 taken s tag h e k room =
     idle_decided s (unmap tag 24) None h
-    (skips (not (mended (idle_state s))) not_ready _ (ap not e)
+    (skips (not (mended (idle_state s) || locked (idle_state s))) not_ready _ (once_mended _ _ e)
     (skips (locked (idle_state s) || false) write_protected _ (or_with_false _ ∙ locked_idle s false h k)
     (skips (nat_lt (free_slots (idle_state s).translation) 32) Busy _
     (le-ltb (free_slots (idle_state s).translation) 32
@@ -55,14 +55,14 @@ taken s tag h e k room =
 pub header_taken : (s : State) (tag : ℕ) → IsIdle s → mended s ≡ true → refusal s (unmap tag 8) ≡ None
 header_taken s tag h e =
     idle_decided s (unmap tag 8) None h
-    (skips (not (mended (idle_state s))) not_ready _ (ap not e)
+    (skips (not (mended (idle_state s) || locked (idle_state s))) not_ready _ (once_mended _ _ e)
     (skips (nat_lt (free_slots (idle_state s).translation) 0) Busy _ (needs_none (idle_state s)) refl))
 
 pub unmap_protected : (s : State) (tag : ℕ) → IsIdle s → mended s ≡ true → locked s ≡ true →
     IsRefused s (unmap tag 24) write_protected
 unmap_protected s tag h e k =
     answers s (unmap tag 24) write_protected h
-    (leaves (not (mended (idle_state s))) not_ready write_protected _ (ap not e)
+    (leaves (not (mended (idle_state s) || locked (idle_state s))) not_ready write_protected _ (once_mended _ _ e)
     (decides (locked (idle_state s) || false) write_protected _ (or_with_false _ ∙ locked_idle s true h k)))
 
 -- ## Before the mending is over
@@ -70,11 +70,23 @@ unmap_protected s tag h e k =
 -- the line of the mending is the first that applies
 abbrev FirstUnready : State → Request → Type 0
 FirstUnready s r = (later : Option Status) ×
-    (refusal (idle_state s) r ≡ (if not (mended (idle_state s)) then Some not_ready else later))
+    (refusal (idle_state s) r ≡
+    (if not (mended (idle_state s) || locked (idle_state s)) then Some not_ready else later))
 
-pub unready : (s : State) (r : Request) → FirstUnready s r → IsIdle s → mended s ≡ false → IsRefused s r not_ready
-unready s r (later, first) h e =
-    answers s r not_ready h (first ∙ decides (not (mended (idle_state s))) not_ready later (ap not e))
+pub unready : (s : State) (r : Request) → FirstUnready s r → IsIdle s → mended s ≡ false → locked s ≡ false →
+    IsRefused s r not_ready
+unready s r (later, first) h e k =
+    answers s r not_ready h
+    (first
+    ∙ decides (not (mended (idle_state s) || locked (idle_state s))) not_ready later
+    (neither _ _ e (locked_idle s false h k)))
+
+-- TEST UNIT READY is refused so on a locked device too
+pub test_unready : (s : State) (tag : ℕ) → IsIdle s → mended s ≡ false →
+    IsRefused s (asks 0x00 0 tag cdb.TestUnitReady) not_ready
+test_unready s tag h e =
+    answers s (asks 0x00 0 tag cdb.TestUnitReady) not_ready h
+    (decides (not (mended (idle_state s) || false)) not_ready _ (neither _ _ e refl))
 
 -- a request that no line before the last can refuse, and that needs no slot
 abbrev NeedsNoSlot : State → Request → Type 0
@@ -93,8 +105,41 @@ pub read_taken : (s : State) (tag : ℕ) → IsIdle s → mended s ≡ true →
     refusal s (asks 0x40 0 tag (read_at 0 1)) ≡ None
 read_taken s tag h e =
     idle_decided s (asks 0x40 0 tag (read_at 0 1)) None h
-    (skips (not (mended (idle_state s))) not_ready _ (ap not e)
+    (skips (not (mended (idle_state s) || locked (idle_state s))) not_ready _ (once_mended _ _ e)
     (skips (nat_lt (free_slots (idle_state s).translation) 0) Busy _ (needs_none (idle_state s)) refl))
+
+-- ## A locked device that is not mended
+
+module _ (s : State) (tag : ℕ) (h : IsIdle s) (k : locked s ≡ true) where
+  -- the line of the mending does not apply
+  passes_mending : not (mended (idle_state s) || locked (idle_state s)) ≡ false
+  passes_mending = once_locked _ _ (locked_idle s true h k)
+
+  pub locked_read : refusal s (asks 0x40 0 tag (read_at 0 1)) ≡ None
+  locked_read =
+      idle_decided s (asks 0x40 0 tag (read_at 0 1)) None h
+      (skips (not (mended (idle_state s) || locked (idle_state s))) not_ready _ passes_mending
+      (skips (nat_lt (free_slots (idle_state s).translation) 0) Busy _ (needs_none (idle_state s)) refl))
+
+  pub locked_write : IsRefused s (asks 0x20 0 tag (write_at 0)) write_protected
+  locked_write =
+      answers s (asks 0x20 0 tag (write_at 0)) write_protected h
+      (leaves (not (mended (idle_state s) || locked (idle_state s))) not_ready write_protected _ passes_mending
+      (decides (locked (idle_state s) || false) write_protected _ (or_with_false _ ∙ locked_idle s true h k)))
+
+  pub locked_unmap : IsRefused s (unmap tag 24) write_protected
+  locked_unmap =
+      answers s (unmap tag 24) write_protected h
+      (leaves (not (mended (idle_state s) || locked (idle_state s))) not_ready write_protected _ passes_mending
+      (decides (locked (idle_state s) || false) write_protected _ (or_with_false _ ∙ locked_idle s true h k)))
+
+  pub locked_frames : 3 ≤ free_slots s.translation → refusal s (asks 0x20 0xC4 tag (cdb.SecurityOut 0 512)) ≡ None
+  locked_frames room =
+      idle_decided s (asks 0x20 0xC4 tag (cdb.SecurityOut 0 512)) None h
+      (skips (not (mended (idle_state s) || locked (idle_state s))) not_ready _ passes_mending
+      (skips (nat_lt (free_slots (idle_state s).translation) 3) Busy _
+      (le-ltb (free_slots (idle_state s).translation) 3
+      (subst (λ (t : State). 3 ≤ free_slots t.translation) (idle_is s h) room)) refl))
 
 -- ## A protected unit
 
@@ -118,12 +163,12 @@ by_permanent s flag = (flag || locked (numbered s protected_row)) || false
 module _ (s : State) (tag : ℕ) (row : numbers_of s ≡ protected_row) (ready : mended s ≡ true) where
   refused : (r : Request) (applies : Bool) (later : Option Status) →
       refusal (numbered s protected_row) r
-      ≡ (if not (mended s) then Some not_ready else if applies then Some write_protected else later) →
+      ≡ (if not (mended s || locked (numbered s protected_row)) then Some not_ready else if applies then Some write_protected else later) →
       applies ≡ true → refusal s r ≡ Some write_protected
   refused r applies later lines is =
       decided s protected_row r (Some write_protected) row
       (lines
-      ∙ leaves (not (mended s)) not_ready write_protected _ (ap not ready) (decides applies write_protected later is))
+      ∙ leaves (not (mended s || locked (numbered s protected_row))) not_ready write_protected _ (once_mended _ _ ready) (decides applies write_protected later is))
 
   pub power_on_write : s.power_on ≡ true → refusal s (asks 0x20 1 tag (write_at 0)) ≡ Some write_protected
   power_on_write is =
@@ -145,13 +190,13 @@ module _ (s : State) (tag : ℕ) (row : numbers_of s ≡ protected_row) (ready :
 
   passes : (r : Request) →
       refusal (numbered s protected_row) r
-      ≡ (if not (mended s) then Some not_ready
+      ≡ (if not (mended s || locked (numbered s protected_row)) then Some not_ready
       else if nat_lt (free_slots (numbered s protected_row).translation) 0 then Some Busy else None) →
       refusal s r ≡ None
   passes r lines =
       decided s protected_row r None row
       (lines
-      ∙ skips (not (mended s)) not_ready _ (ap not ready)
+      ∙ skips (not (mended s || locked (numbered s protected_row))) not_ready _ (once_mended _ _ ready)
       (skips (nat_lt (free_slots (numbered s protected_row).translation) 0) Busy None
       (needs_none (numbered s protected_row)) refl))
 

@@ -1,7 +1,7 @@
 -- How a command begins: in one of few ways, for a reason. A law of it is a case for each way (`begins_by`), so that a
 -- new command adds its lines here. What comes of it once all its data are there is told in WaysOfData.
 use Rattle.std.proofs.Common.{nat_le, nat_lt, not, zero, suc, ◌≢◌, true, false, ◌≡◌, ◌⊎◌, ℕ, ◌*◌, ◌<◌, ◌^◌, ◌==◌, Bool}
-use Rattle.std.proofs.Common.{List, [], ◌∷◌, ◌++◌, length, take, Some, inl, inr, refl, arith}
+use Rattle.std.proofs.Common.{if◌then◌else◌, List, [], ◌∷◌, ◌++◌, length, take, Some, inl, inr, refl, arith}
 use Rattle.ufs_spec.proofs.Facts.{and_parts, eqb-false, if_both, if_cases, leb-true, not-false}
 use Rattle.ufs_spec.specs.Begins.{frames_begun}
 use Rattle.ufs_spec.specs.Cdbs.{IsCdb, address_of, blocks_of, operation_of, read_10, read_6, six_blocks, write_10}
@@ -11,8 +11,8 @@ use Rattle.ufs_spec.specs.Identities.{inquiry_bytes, luns_bytes}
 use Rattle.ufs_spec.specs.Machine.{begun, capacity_bytes, data_begun, flush_begun, no_sense, read_begun, with_moves}
 use Rattle.ufs_spec.specs.Machine.{with_task}
 use Rattle.ufs_spec.specs.Moves.{Claim}
-use Rattle.ufs_spec.specs.Refusals.{Request, State, is_frames, is_too_long, needs_mended, numbers_of, slots_needed}
-use Rattle.ufs_spec.specs.Refusals.{unit_numbers_of}
+use Rattle.ufs_spec.specs.Refusals.{Request, State, is_frames, is_too_long, mended, needs_mended, numbers_of}
+use Rattle.ufs_spec.specs.Refusals.{slots_needed, unit_numbers_of}
 use Rattle.ufs_spec.specs.Configs.{command_blocks}
 use Rattle.ufs_spec.specs.declared.configs.Numbers.{Numbers}
 use Rattle.ufs_spec.specs.declared.scsi.Cdb.{Cdb}
@@ -64,7 +64,7 @@ IsGathered n unit c count (ForFrames region) total = c ≡ cdb.SecurityOut regio
 
 abbrev pub WhyBegun : State → Request → ℕ → Cdb → Beginning → Type 0
 WhyBegun s r unit c Answered = Unit {0}
-WhyBegun s r unit c Waiting = needs_mended (operation_of c) ≡ true
+WhyBegun s r unit c Waiting = mended s ≡ true
 WhyBegun s r unit c (Telling bytes) = IsTold s r bytes
 WhyBegun s r unit c (Handing region n) = c ≡ cdb.SecurityIn region n
 WhyBegun s r unit c (Reading u address n) =
@@ -127,10 +127,14 @@ module _ (P : State → Type 0) (s : State) (r : Request) (unit : ℕ) where
   good_by : (c : Cdb) → Each c → P (with_task s r (Some c) 0 (Answering Good 0))
   good_by c each = each Answered tt
 
-  flush_by : (c : Cdb) (immediate : Bool) → Each c → needs_mended (operation_of c) ≡ true →
-      P (flush_begun s r c immediate)
-  flush_by c true each needs = good_by c each
-  flush_by c false each needs = each Waiting needs
+  flush_by : (c : Cdb) (immediate : Bool) → Each c → P (flush_begun s r c immediate)
+  flush_by c true each = good_by c each
+  flush_by c false each = by (mended s) refl
+    where
+      by : (b : Bool) → mended s ≡ b →
+          P (with_task s r (Some c) 0 (if not b then Answering Good 0 else Awaiting (length s.accepted)))
+      by true e = each Waiting e
+      by false e = good_by c each
 
   good_unmap : (list : ℕ) → (list == 0) ≡ true → Each (cdb.Unmap list) →
       P (with_task s r (Some (cdb.Unmap list)) 0 (Answering Good 0))
@@ -164,7 +168,7 @@ module _ (P : State → Type 0) (s : State) (r : Request) (unit : ℕ) where
         written s unit (cdb.Write10 address blocks forced) blocks (inr refl) refl refl,
       ))
   begins_by (cdb.SynchronizeCache10 address blocks immediate) each =
-      flush_by (cdb.SynchronizeCache10 address blocks immediate) immediate each refl
+      flush_by (cdb.SynchronizeCache10 address blocks immediate) immediate each
   begins_by (cdb.Inquiry allocation) each = each (Telling _) (TellsUnit allocation)
   begins_by (cdb.ReportLuns select allocation) each = each (Telling _) (TellsUnits select allocation)
   begins_by (cdb.Unmap list) each =

@@ -15,7 +15,7 @@ use Rattle.ufs_spec.specs.FrameRequests.{request_decided, requested}
 use Rattle.ufs_spec.specs.Frames.{Frame, frames_in}
 use Rattle.ufs_spec.specs.Machine.{accepts, blocks_in, claimed_by, complete, set_deed, with_moves, write_deed}
 use Rattle.ufs_spec.specs.Moves.{Release}
-use Rattle.ufs_spec.specs.Refusals.{State, locked, numbers_of, plain_now, unit_numbers_at}
+use Rattle.ufs_spec.specs.Refusals.{State, accepts_nothing, locked, numbers_of, plain_now, unit_numbers_at}
 use Rattle.ufs_spec.specs.Rpmb.{Refused, Region, Results, RpmbOutcome, lacks_result, outcome_after, region_of}
 use Rattle.ufs_spec.specs.Rpmb.{checks, command_in, first_failed, is_well_formed, rpmb_outcome}
 
@@ -105,7 +105,7 @@ pub record IsDecided (s : State) (purpose : Purpose) (bytes : List ℕ) (region 
   pub purpose_is : purpose ≡ ForFrames region
   pub frames_are : frames ≡ frames_in (length bytes / 512) bytes
   pub decided :
-      rpmb_outcome region (region_of (plain_now s) region) (s.registers region) (locked s) frames ≡ Results result command
+      rpmb_outcome region (region_of (plain_now s) region) (s.registers region) (accepts_nothing s) frames ≡ Results result command
 
 abbrev pub WhyCompleted : State → Task → Purpose → List ℕ → Completion → Type 0
 WhyCompleted s task purpose bytes (Told status released) =
@@ -216,7 +216,7 @@ module _ (P : State → Type 0) (s : State) (task : Task) (unit : ℕ) (list : L
 module _ (P : State → Type 0) (s : State) (task : Task) (region : ℕ) (bytes : List ℕ)
     (each : EachCompletion P s task (ForFrames region) bytes) where
   abbrev outcome : List Frame → RpmbOutcome
-  outcome frames = rpmb_outcome region (region_of (plain_now s) region) (s.registers region) (locked s) frames
+  outcome frames = rpmb_outcome region (region_of (plain_now s) region) (s.registers region) (accepts_nothing s) frames
 
   told_at_once : (frames : List Frame) (result : ℕ) → frames ≡ frames_in (length bytes / 512) bytes →
       outcome frames ≡ Results result None → P (answered_at_once s task region frames result)
@@ -233,7 +233,7 @@ module _ (P : State → Type 0) (s : State) (task : Task) (region : ℕ) (bytes 
       outcome frames ≡ o → P (request_decided s task region frames o)
   decided_by frames (Refused status) are e =
       each (Told status (claim_of_task s task)) (
-        why_refused region (region_of (plain_now s) region) (s.registers region) (locked s) frames status e,
+        why_refused region (region_of (plain_now s) region) (s.registers region) (accepts_nothing s) frames status e,
         refl,
       )
   decided_by frames (Results result None) are e = told_at_once frames result are e

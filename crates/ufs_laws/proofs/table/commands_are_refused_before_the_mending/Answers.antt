@@ -1,11 +1,11 @@
 use Rattle.std.proofs.Common.{refl}
-use Rattle.ufs_laws.proofs.refusals.TakenRequests.{told, unready}
+use Rattle.ufs_laws.proofs.refusals.TakenRequests.{test_unready, told, unready}
 use Rattle.ufs_laws.specs.Table.{asks, flush, read_at, write_at}
 use Rattle.ufs_spec.specs.declared.scsi.Cdb.TheVariants as cdb
 use Rattle.ufs_laws.proofs.table.commands_are_refused_before_the_mending.Goals as goal
 
 pub returns-clause-test_unit_ready : goal.returns-clause-test_unit_ready
-returns-clause-test_unit_ready c = λ s tag. unready s (asks 0x00 0 tag cdb.TestUnitReady) (_, refl)
+returns-clause-test_unit_ready c = test_unready
 
 pub returns-clause-read : goal.returns-clause-read
 returns-clause-read c = λ s tag. unready s (asks 0x40 0 tag (read_at 0 1)) (_, refl)

@@ -1,6 +1,6 @@
 use Rattle.ufs_laws.proofs.refusals.TableLines.{flush_refused, no_region, no_region_to_write}
 use Rattle.ufs_laws.proofs.refusals.TableLines.{blocks, crowded, flag, full, list, operation, other_response, past}
-use Rattle.ufs_laws.proofs.refusals.TableLines.{protected, ready, ready_first, response_first, unit}
+use Rattle.ufs_laws.proofs.refusals.TableLines.{protected, ready, ready_and_protected, ready_first, response_first, unit}
 use Rattle.ufs_laws.proofs.table.each_line_of_the_table_counts.Goals as goal
 
 pub returns-clause-full : goal.returns-clause-full
@@ -23,6 +23,9 @@ returns-clause-flag c = flag
 
 pub returns-clause-past : goal.returns-clause-past
 returns-clause-past c = past
+
+pub returns-clause-ready_and_protected : goal.returns-clause-ready_and_protected
+returns-clause-ready_and_protected c = ready_and_protected
 
 pub returns-clause-ready : goal.returns-clause-ready
 returns-clause-ready c = ready

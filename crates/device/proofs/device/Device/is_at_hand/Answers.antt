@@ -1,13 +1,16 @@
-use Rattle.std.proofs.Common.{◌∙◌, ap, is_some, sym}
+use Rattle.std.proofs.Common.{◌∙◌, ap, sym, Some, ◌≡◌}
 use Rattle.device.proofs.described.AreaThere.{at_hand_found, copied_there}
 use Rattle.device.proofs.described.SameDevice.{same_layer}
+use Rattle.ufs_spec.specs.declared.layer.Looked.TheVariants.{InSlot}
+use Rattle.ufs_spec.specs.declared.layer.Name.{Name}
 use Rattle.device.proofs.device.Device.is_at_hand.Goals as goal
 
 pub returns-in-Some : goal.returns-in-Some
 returns-in-Some c =
     λ t h.
     let layer = same_layer _ _ t c.self.view_is h in
-    let mended = c.pinned.ensures.described_mended t layer (ap is_some c.in-Some.is) in
+    let mended = λ (name : Name) (e : c.in-Some.looked ≡ InSlot name).
+    c.pinned.ensures.described_mended t name layer (c.in-Some.is ∙ ap Some e) in
     at_hand_found t c.args.tag c.args.index c.in-Some.looked c.is_some.result (c.pinned.ensures.described_there t layer)
     (sym c.in-Some.is ∙ c.pinned.ensures.described t layer)
     (λ right. c.is_some.ensures ∙ copied_there c.block_there.result _ (c.block_there.ensures t h mended right))

@@ -11,9 +11,9 @@ returns-clause-described_differ c = λ t h. pins_differ c.args.self.now t h
 
 pub returns-clause-described : goal.returns-clause-described
 returns-clause-described c =
-    λ t h mended.
+    λ t h.
     keeps_told c.args.self.now c.keep_all.new.self c.args.reader c.args.key true c.args.pages c.keep_all.result
-    c.keep_all.ensures.after c.has_numbers_in_range.ensures t h mended
+    c.keep_all.ensures.after c.has_numbers_in_range.ensures t h
 
 pub returns-clause-claims : goal.returns-clause-claims
 returns-clause-claims c =
