@@ -1,15 +1,17 @@
 #!/usr/bin/env python3
 """Simulates a plain greedy collector, and counts the pages that are programmed for each page that is written.
 
-usage: collector_simulation.py [--dies D] [--blocks B] [--pages P] [--slots S] [--spare S] [--writes W] [--seed N]
-                               [--fill PERCENT..]
+usage: collector_simulation.py [--dies D] [--blocks B] [--pages P] [--slots S] [--spare R] [--bad N] [--writes W]
+                               [--seed N] [--fill PERCENT..]
 
 It knows nothing of the device's code and shares only its rules: one open block a die, into which pages go die after
-die; hosts leave g = D + 2 + 2 * ceil(S / P) blocks to copies and marks; a collection is due if fewer than 2 * D + 4
-or than g + 2 blocks are free and there is a victim; the victim is the closed block with the fewest live pages, the
-lowest of several, and none that is wholly live; its live pages are copied, then comes one page for the mark, and the
-block is free. A page that a host writes is programmed only while at least g blocks are free, and opens one only while
-more are; while fewer are free a copy or a mark opens one only where none is open.
+die; with g = D + 2 + 2 * ceil(S / P) hosts leave g + m blocks free, g to copies and marks and m to the blocks that may
+still go bad, which are R less those that are bad; a collection is due if fewer than 2 * D + 4 + m or than g + 2 + m
+blocks are free and there is a victim; the victim is the closed block with the fewest live pages, the lowest of
+several, and none that is wholly live; its live pages are copied, then comes one page for the mark, and the block is
+free. A page that a host writes is programmed only while at least g + m blocks are free, and opens one only while more
+are; while fewer are free a copy or a mark opens one only where none is open. With --bad so many blocks are bad from
+the start, the lowest ones of all dies in turn, and none goes bad later.
 
 For each filling, in percent of the greatest unit that a configuration of these numbers may have, the unit is written
 once in order, and then overwritten W times, in order or at random. The second half of these is counted. The last
@@ -21,7 +23,7 @@ import math
 import random
 from typing import Any, List
 
-FREE, OPEN, CLOSED = range(3)
+FREE, OPEN, CLOSED, BAD = range(4)
 # So many collections in a row for one write gain no room, and none after them will: each one made the next one's like.
 GAINS_NOTHING = 4
 
@@ -33,15 +35,18 @@ class NoRoom(Exception):
 class Dies:
     """Blocks of pages, a page of which holds an address, None for a mark, or nothing."""
 
-    def __init__(self, dies, blocks, pages, slots):
+    def __init__(self, arguments):
+        dies, blocks, pages = arguments.dies, arguments.blocks, arguments.pages
         self.dies, self.blocks, self.pages = dies, blocks, pages
-        self.left = left_by_hosts(dies, pages, slots)
+        self.left, self.wanted = left_by_hosts(arguments), wanted_free(arguments)
         self.states = [[FREE] * blocks for _ in range(dies)]
+        for number in range(arguments.bad):
+            self.states[number % dies][number // dies] = BAD
         self.open: List[Any] = [None] * dies
         self.held = [[[] for _ in range(blocks)] for _ in range(dies)]
         self.live = [[0] * blocks for _ in range(dies)]
         self.where = {}
-        self.free = dies * blocks
+        self.free = dies * blocks - arguments.bad
         self.next_die = 0
         self.programmed = 0
 
@@ -97,7 +102,7 @@ class Dies:
 
     def collect(self):
         """One collection, if one is due; how many pages it gained, or None."""
-        if self.free >= wanted_free(self.dies, self.left):
+        if self.free >= self.wanted:
             return None
         found = self.victim()
         if found is None:
@@ -134,14 +139,24 @@ class Dies:
         self.collect_all()
 
 
-def left_by_hosts(dies, pages, slots):
-    """How many free blocks a host's pages leave to copies and marks."""
-    return dies + 2 + 2 * -(-slots // pages)
+def least_room(arguments):
+    """How many free blocks copies and marks need while no block goes bad."""
+    return arguments.dies + 2 + 2 * -(-arguments.slots // arguments.pages)
 
 
-def wanted_free(dies, left):
+def may_go_bad(arguments):
+    """How many blocks may still go bad before a device takes no writes."""
+    return max(arguments.spare - arguments.bad, 0)
+
+
+def left_by_hosts(arguments):
+    """How many free blocks a host's pages leave."""
+    return least_room(arguments) + may_go_bad(arguments)
+
+
+def wanted_free(arguments):
     """With fewer free blocks than this many a collection is due."""
-    return max(2 * dies + 4, left + 2)
+    return max(2 * arguments.dies + 4, least_room(arguments) + 2) + may_go_bad(arguments)
 
 
 def greatest_unit(arguments):
@@ -159,7 +174,7 @@ def addresses(kind, unit, writes, seed):
 
 def simulated(arguments, unit, kind):
     """Pages programmed for each page written, or how many writes came before there was no room."""
-    dies = Dies(arguments.dies, arguments.blocks, arguments.pages, arguments.slots)
+    dies = Dies(arguments)
     count = 0
     try:
         for address in range(unit):
@@ -176,8 +191,7 @@ def simulated(arguments, unit, kind):
 def on_paper(arguments, unit):
     """The formula for random overwrites: with u the share of live pages in a victim, and s that of the unit's pages in
     all blocks that are not kept free, s = (1 - u) / ln(1 / u), and each page written costs 1 / (1 - u) programs."""
-    left = left_by_hosts(arguments.dies, arguments.pages, arguments.slots)
-    kept = arguments.dies * arguments.blocks - wanted_free(arguments.dies, left)
+    kept = arguments.dies * arguments.blocks - arguments.bad - wanted_free(arguments)
     share = unit / (kept * arguments.pages)
     low, high = 1e-12, 1 - 1e-12
     for _ in range(200):
@@ -199,10 +213,13 @@ def main():
     reader.add_argument("--pages", type=int, default=64)
     reader.add_argument("--slots", type=int, default=64)
     reader.add_argument("--spare", type=int, default=4)
+    reader.add_argument("--bad", type=int, default=0)
     reader.add_argument("--writes", type=int, default=8192)
     reader.add_argument("--seed", type=int, default=1)
     reader.add_argument("--fill", type=float, nargs="+", default=[50, 80, 95])
     arguments = reader.parse_args()
+    if not 0 <= arguments.bad <= arguments.spare:
+        reader.error("--bad is from 0 to the number of spare blocks")
     for percent in arguments.fill:
         unit = int(greatest_unit(arguments) * percent / 100)
         print(f"{percent:g} percent, a unit of {unit} blocks: "

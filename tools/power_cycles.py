@@ -26,23 +26,34 @@ HOW: Dict[str, Any] = {"stdin": subprocess.DEVNULL, "capture_output": True, "tex
 
 
 class Row(NamedTuple):
-    """What happens in each life, as the program names it, and how many lives there are."""
+    """What happens in each life, as the program names it, how many lives there are, and how many spare blocks."""
 
     plan: str
     lives: int
+    spare: int
 
     def is_right(self, printed, status):
-        """Whether the program ended well, and played all lives."""
-        wanted = rf"{self.plan}: dies {DIES} lives {self.lives} jobs \d+ rounds \d+ stuck 0 lost 0\n"
+        """Whether the program ended well, and played all lives. Where blocks are spare jobs failed."""
+        failed = "0 devices 1" if self.spare == 0 else r"[1-9]\d* devices \d+"
+        wanted = rf"{self.plan}: dies {DIES} spare {self.spare} lives {self.lives} jobs \d+ failed {failed} " \
+            r"rounds \d+ stuck 0 lost 0\n"
         return status == 0 and re.fullmatch(wanted, printed) is not None
 
 
-ROWS = (Row("no-write", 36), Row("one-write", 36), Row("each-job", 12))
+ROWS = (
+    Row("no-write", 36, 0),
+    Row("one-write", 36, 0),
+    Row("each-job", 12, 0),
+    Row("one-fails", 6, 4),
+    Row("many-fail", 4, 4),
+    Row("erases-fail", 3, 4),
+    Row("pages-fail", 3, 4),
+)
 
 
 def played(program, row):
     """What the program printed of a row, and its status."""
-    words = [program, row.plan, str(DIES), str(row.lives)]
+    words = [program, row.plan, str(DIES), str(row.lives), str(row.spare)]
     try:
         done = subprocess.run(words, timeout=SECONDS, **HOW)
     except subprocess.TimeoutExpired as fault:

@@ -29,6 +29,7 @@ import time
 from typing import Any, Dict, NamedTuple, Tuple
 
 from crates import ROOT, lines_of
+from power_cycles import ROWS
 
 HEAD = ("butcherford: this proves nothing, `make prove` does; "
         "it takes about 5 minutes on four processors")
@@ -92,12 +93,12 @@ def tool_groups():
     """The groups that are no crates of tests."""
     tools, ufsim, ufstool = str(ROOT / "tools"), ("ufsim_main",), ("ufstool_main",)
     cases = (PYTHON, "cases.py", "--built", PROGRAM)
-    lives = [(PYTHON, "power_cycles.py", "--built", PROGRAM, it) for it in ("no-write", "one-write", "each-job")]
+    lives = [(PYTHON, "power_cycles.py", "--built", PROGRAM, row.plan) for row in ROWS]
     return [
         Group("ufsim: examples, old dies and wrong words", parts((*cases, "ufsim", "--part"), 6), tools, 200, ufsim),
         Group("ufstool: stored cases", parts((*cases, "ufstool", "--part"), 6), tools, 200, ufstool),
         Group("no memory after the opening", ((PYTHON, "refuse_memory.py", "--row"),), tools, 90),
-        Group("lives one after another", tuple(lives), tools, 150, ("power_cycles",)),
+        Group("lives one after another", tuple(lives), tools, 300, ("power_cycles",)),
         Group("fuzz: random scripts", fuzz_pieces(50), tools, 300, ufsim),
         Group("texts of the wrong bodies", ((PYTHON, "wrong_bodies.py", "--texts"),), tools, 2),
         Group("texts of the wrong rules", ((PYTHON, "turn_rules.py", "--texts"),), tools, 2),

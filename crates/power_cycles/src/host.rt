@@ -142,7 +142,7 @@ impl Player {
     }
 
     /// Waits until all that was begun is durable: whether it is, or the stop is due first.
-    fn wait_for_all(&mut self, kept: &mut Kept, stop: Stop) -> Result<bool, Fault> {
+    pub fn wait_for_all(&mut self, kept: &mut Kept, stop: Stop) -> Result<bool, Fault> {
         let is_good = self.wait_for_good(stop)?;
         if is_good {
             kept.end_all();

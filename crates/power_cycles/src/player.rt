@@ -5,14 +5,41 @@ use device::World;
 use nand_model::MemDie;
 use std::alloc::{AllocError, Global};
 use ufs_spec::{Event, Job, Leftover, NoMemory, Output, Page, Place, Tag, Upiu};
-use workbench::collected::{Left, blank, torn};
+use workbench::collected::{EACH_LEFT, Left, blank, torn};
 
-/// When a life ends: never by itself, after so many jobs of its dies, or while a mark is programmed.
+/// When a life ends: never by itself, after so many jobs of its dies, while a mark is programmed, or once all jobs
+/// failed that were to fail.
 #[derive(Clone, Copy, PartialEq, Eq)]
 pub enum Stop {
     Never,
     AfterJobs(u32),
     InMark,
+    AllFailed,
+}
+
+/// Which of the programs and erases fail: none, each of them, each erase, or the program of this page of each block.
+#[derive(Clone, Copy, PartialEq, Eq)]
+pub enum Failing {
+    Nothing,
+    All,
+    Erases,
+    Page(u16),
+}
+
+impl Failing {
+    /// Whether the job is one of these.
+    fn has(self, job: Option<&Job>) -> bool {
+        match job {
+            Some(Job::Program(place, _)) => match self {
+                Failing::All => true,
+                Failing::Page(page) => place.page == page,
+                _ => false,
+            },
+            Some(Job::Erase { die: _, block: _ }) => self == Failing::All
+                || self == Failing::Erases,
+            _ => false,
+        }
+    }
 }
 
 /// What a round of work comes to: the stop is due, something was done, or there was nothing to do.
@@ -35,6 +62,16 @@ pub struct Player {
     pub done: u32,
     /// The die that does no job in this life: the one that it has stays in flight up to the stop.
     pub held: Option<u8>,
+    /// Whether turns are made.
+    pub turns: bool,
+    /// So many of these jobs fail still in this life, once its dies did so many.
+    pub failing: Failing,
+    pub to_fail: u32,
+    pub fail_after: u32,
+    /// How many failed in all lives.
+    pub failed: u32,
+    /// The page that was last programmed well, in its block.
+    pub page: u16,
 }
 
 /// Whether the page that the device gives to a die is a mark: its spare bytes say so.
@@ -74,6 +111,12 @@ impl Player {
             jobs: 0,
             done: 0,
             held: None,
+            turns: true,
+            failing: Failing::Nothing,
+            to_fail: 0,
+            fail_after: 0,
+            failed: 0,
+            page: 0,
         })
     }
 
@@ -121,10 +164,51 @@ impl Player {
         false
     }
 
+    /// From now on so many of these jobs fail, and what they leave is old, new and torn in turn.
+    pub fn begin_failing(&mut self, failing: Failing, count: u32) {
+        self.failing = failing;
+        self.to_fail = count;
+        self.fail_after = self.done;
+    }
+
+    /// Whether the job of the die fails.
+    fn is_failing(&self, die: u8) -> bool {
+        self.to_fail > 0 && self.done >= self.fail_after && self.failing.has(self.world.job(die))
+    }
+
+    /// The job of the die fails.
+    fn fail(&mut self, die: u8) -> Result<(), Fault> {
+        let left = EACH_LEFT[(self.failed % 3) as usize];
+        let leftover = self.job_left(die, left)?;
+        self.world.step(&Event::Fail(die, leftover))?;
+        self.to_fail = self.to_fail.saturating_sub(1);
+        self.failed = self.failed.saturating_add(1);
+        Ok(())
+    }
+
+    /// The page of its block that the die programs; the last one that was programmed if it programs none.
+    fn page_of(&self, die: u8) -> u16 {
+        match self.world.job(die) {
+            Some(Job::Program(place, _)) => place.page,
+            _ => self.page,
+        }
+    }
+
+    /// The job of the die ends well.
+    fn end_well(&mut self, die: u8) -> Result<(), Fault> {
+        self.page = self.page_of(die);
+        self.world.step(&Event::Finish(die))?;
+        Ok(())
+    }
+
     /// The die does its job, if it has one and is not held.
     fn finish(&mut self, die: u8) -> Result<(), Fault> {
         if self.held != Some(die) && self.world.job(die).is_some() {
-            self.world.step(&Event::Finish(die))?;
+            if self.is_failing(die) {
+                self.fail(die)?;
+            } else {
+                self.end_well(die)?;
+            }
             self.jobs = self.jobs.saturating_add(1);
             self.done = self.done.saturating_add(1);
         }
@@ -136,7 +220,9 @@ impl Player {
         for step in 0..self.dies {
             let die = (u16::from(self.first) + u16::from(step)) % u16::from(self.dies.max(1));
             self.finish(die as u8)?;
-            if stop == Stop::AfterJobs(self.done) {
+            if stop == Stop::AfterJobs(self.done)
+                || (stop == Stop::AllFailed && self.to_fail == 0)
+            {
                 return Ok(true);
             }
         }
@@ -144,18 +230,28 @@ impl Player {
         Ok(false)
     }
 
-    /// A turn, and a job of each die. Beside a held die the stop is due once there is nothing else to do.
+    /// Makes a turn, if turns are made: whether it was due.
+    fn turn(&mut self) -> Result<bool, Fault> {
+        if !self.turns {
+            return Ok(false);
+        }
+        let output = self.world.step(&Event::Turn)?;
+        Ok(matches!(output, Output::Turn(true)))
+    }
+
+    /// A turn, and a job of each die. Beside a held die, and where no turns are made, the stop is due once there is
+    /// nothing else to do.
     pub fn round(&mut self, stop: Stop) -> Result<Round, Fault> {
-        let turned = self.world.step(&Event::Turn)?;
+        let has_turned = self.turn()?;
         let before = self.jobs;
         self.take_all()?;
         let is_due = stop == Stop::InMark && self.is_in_mark();
         if is_due || self.finish_all(stop)? {
             return Ok(Round::Due);
         }
-        if self.jobs > before || matches!(turned, Output::Turn(true)) {
+        if self.jobs > before || has_turned {
             Ok(Round::Worked)
-        } else if self.held.is_some() {
+        } else if self.held.is_some() || !self.turns {
             Ok(Round::Due)
         } else {
             Ok(Round::Idle)
@@ -206,6 +302,8 @@ impl Player {
         self.world.step(&Event::Stop(lefts))?;
         self.done = 0;
         self.held = None;
+        self.turns = true;
+        self.failing = Failing::Nothing;
         Ok(())
     }
 }
