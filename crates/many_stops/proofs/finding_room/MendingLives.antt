@@ -35,11 +35,11 @@ use Rattle.many_stops.proofs.finding_room.RoomForAMending.{blocks_hold}
 use Rattle.many_stops.proofs.finding_room.SinceTheOpening.{SinceOpening, WereUnfilled}
 use Rattle.many_stops.proofs.finding_room.MovesSinceTheOpening.{move_since}
 use Rattle.many_stops.proofs.finding_room.MovesSinceTheOpening.{opening_since}
-use Rattle.many_stops.proofs.finding_room.StopsOfAMending.{HasNewMark, HasNoNewMark, bad_is, new_mark}
+use Rattle.many_stops.proofs.finding_room.StopsOfAMending.{HasNewMark, HasNoNewMark, new_mark}
 use Rattle.many_stops.proofs.finding_room.StopsOfAMending.{opened_bad, were_unfilled}
 use Rattle.many_stops.proofs.finding_room.StopsOfAMending.{repairing_leaves, unmarked_leaves}
 use Rattle.many_stops.proofs.finding_room.LivesWithFailures.{IsKeptByLess, IsKeptByMoves}
-use Rattle.many_stops.proofs.CountedBlocks.{bad_alike}
+use Rattle.many_stops.proofs.CountedBlocks.{bad_alike, is_not_bad}
 use Rattle.many_stops.proofs.free_at_stops.MovesKeepFree.{move_keeps, opening_keeps}
 use Rattle.many_stops.proofs.free_at_stops.MovesKeepFree.{stop_costs_none}
 use Rattle.many_stops.proofs.room_left.HandedPages.{handed_or_not}
@@ -268,7 +268,7 @@ marked_bad {t} v die p m e s = sym (by t.work.plan)
     filled : (a : Spot) →
         is_bad (at_spot t.disk.blocks (spot_of p) (state_after t.numbers.pages p.page) a) ≡ is_bad (t.disk.blocks a)
     filled a = ⊎_elim
-        (λ k. ap is_bad k.1 ∙ bad_is (state_after t.numbers.pages p.page) (not_bad_after t.numbers.pages p.page)
+        (λ k. ap is_bad k.1 ∙ is_not_bad (state_after t.numbers.pages p.page) (not_bad_after t.numbers.pages p.page)
         ∙ sym (ap is_bad (ap t.disk.blocks k.0 ∙ (v.flights.programs die p (MarkPage m) e).next)))
         (λ k. ap is_bad k.1) (at_spot_cases t.disk.blocks (spot_of p) (state_after t.numbers.pages p.page) a)
 

@@ -31,10 +31,10 @@ use Rattle.power_loss.specs.Book.{book}
 use Rattle.power_loss.specs.Invariant.{StepKindRight, Valid}
 use Rattle.power_loss.specs.Losing.{is_marked}
 use Rattle.power_loss.specs.MendingRoom.{MendsAlone, fails_job, flies_kind}
-use Rattle.many_stops.proofs.room_left.RoomStays.{not_bad_after}
+use Rattle.many_stops.proofs.room_left.RoomStays.{bad_is_not_free, not_bad_after}
 use Rattle.many_stops.proofs.finding_room.SinceTheOpening.{step_of, SinceOpening, WereUnfilled, after_is, there_is}
 use Rattle.many_stops.proofs.finding_room.SinceTheOpening.{kind_of_step, mark_no_repair, next_low, name_number}
-use Rattle.many_stops.proofs.finding_room.SinceTheOpening.{behind_marked, closed_apart, bad_apart, bad_is_not_free}
+use Rattle.many_stops.proofs.finding_room.SinceTheOpening.{behind_marked, closed_apart, bad_apart}
 use Rattle.many_stops.proofs.finding_room.SinceTheOpening.{filling_not_free}
 
 -- What was not free

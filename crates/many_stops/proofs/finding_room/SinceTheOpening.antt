@@ -104,8 +104,5 @@ closed_apart e = cc
 pub bad_apart : {next : ℕ} → Bad ≡ Filling next → ⊥
 bad_apart e = cc
 
-pub bad_is_not_free : {x : BlockState} → x ≡ Bad → x ≢ Free
-bad_is_not_free {x} e h = let no : Bad ≡ Free = sym e ∙ h in cc
-
 pub filling_not_free : {x : BlockState} {next : ℕ} → x ≡ Filling next → x ≢ Free
 filling_not_free {x} {next} e h = let no : Filling next ≡ Free = sym e ∙ h in cc

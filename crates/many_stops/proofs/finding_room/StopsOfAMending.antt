@@ -32,19 +32,16 @@ use Rattle.power_loss.specs.Invariant.{AreNoneStale, StaleRight, Valid}
 use Rattle.power_loss.specs.Losing.{is_marked}
 use Rattle.power_loss.specs.Mending.{turns_left}
 use Rattle.power_loss.specs.MendingRoom.{HasRoom, MendsAlone, page_of_step, pages_left}
-use Rattle.many_stops.proofs.CountedBlocks.{bad_alike, no_fewer}
+use Rattle.many_stops.proofs.CountedBlocks.{bad_alike, is_not_bad, no_fewer}
 use Rattle.many_stops.proofs.finding_room.BlocksOneByOne.{Filled}
 use Rattle.many_stops.proofs.finding_room.RoomForAMending.{counts_under, fewer_blocks, least_room_twice}
-use Rattle.many_stops.proofs.finding_room.SinceTheOpening.{SinceOpening, WereUnfilled, bad_is_not_free}
+use Rattle.many_stops.proofs.finding_room.SinceTheOpening.{SinceOpening, WereUnfilled}
+use Rattle.many_stops.proofs.room_left.RoomStays.{bad_is_not_free}
 use Rattle.many_stops.proofs.finding_room.MovesSinceTheOpening.{filled_was_free, flies_new, free_was_free}
 use Rattle.many_stops.proofs.finding_room.ThinnerCells.{AreThinner, first_thinner, kept_thinner, newest_thinner}
 use Rattle.many_stops.proofs.finding_room.ThinnerCells.{page_was}
 use Rattle.many_stops.specs.RoomOfGroups.{bad_count, free_count, mending_blocks}
 use Rattle.many_stops.specs.RoomOverStops.{HasSpareBlocks, HoldsLost, IsFreeOrLost}
-
-pub bad_is : (x : BlockState) → x ≢ Bad → is_bad x ≡ false
-bad_is Bad not = absurd (not refl)
-bad_is x not = refl
 
 bad_is_not_closed : {x : BlockState} → x ≡ Bad → x ≢ Closed
 bad_is_not_closed {x} e h = let no : Bad ≡ Closed = sym e ∙ h in cc
@@ -109,7 +106,7 @@ module _ (t : Translation) (left : Cells) (v : Valid t) (crash : StopLeaves t le
       t.disk.blocks s ≢ Bad → ((p : Place) → spot_of p ≡ s → left p ≡ Nothing) → next.disk.blocks s ≡ Free
   blank_is_free next start s good blank = ⊎_elim (λ e. e)
       (λ e. let k = start.disk.blocks.oldest_first s e in absurd (k.2 (blank k.0 k.1)))
-      (start.disk.blocks.were_good s (bad_is (t.disk.blocks s) good))
+      (start.disk.blocks.were_good s (is_not_bad (t.disk.blocks s) good))
 
 -- A stop of a mending that began with this opening
 
@@ -126,7 +123,7 @@ module _ (o t : Translation) (left : Cells) (next : Translation) (bad : Spot →
       (λ e.
       let was = opens.start.disk.blocks.were_bad s e in
       ap is_bad (r.still s (bad_is_not_free was) ∙ was) ∙ sym e)
-      (λ e. bad_is (t.disk.blocks s) (λ now. good_was_good (bad s) e (opens.start.disk.blocks.were_good s e)
+      (λ e. is_not_bad (t.disk.blocks s) (λ now. good_was_good (bad s) e (opens.start.disk.blocks.were_good s e)
       (r.no_worse s now)) ∙ sym e)
       (cases_Bool (bad s))
     where
@@ -138,7 +135,7 @@ module _ (o t : Translation) (left : Cells) (next : Translation) (bad : Spot →
   -- a block that was not bad is not bad at the next opening
   good_next : (s : Spot) → t.disk.blocks s ≢ Bad → next.disk.blocks s ≢ Bad
   good_next s good now = ⊎_elim (λ e. bad_is_not_free now e) (λ e. bad_is_not_closed now e)
-      (start.disk.blocks.were_good s (bad_is (t.disk.blocks s) good))
+      (start.disk.blocks.were_good s (is_not_bad (t.disk.blocks s) good))
 
   touched_was_free : (f : Option Flight) (p : Place) (intended : Cell) → t.disk.flights p.die ≡ f →
       Touches f p intended → o.disk.blocks (spot_of p) ≡ Free
@@ -307,7 +304,7 @@ module _ (o t : Translation) (left : Cells) (next : Translation) (bad : Spot →
         (λ e. let k = start.disk.blocks.oldest_first s e in
         absurd (k.3 (subst (λ m. IsSpare left m (IsItOrFreeBefore left next.disk.blocks s) (left k.0)) (sym newest_is)
         (by k.0 k.1 (left k.0) refl k.2))))
-        (start.disk.blocks.were_good s (bad_is (t.disk.blocks s) (λ now. good (r.no_worse s now))))
+        (start.disk.blocks.were_good s (is_not_bad (t.disk.blocks s) (λ now. good (r.no_worse s now))))
       where
         was : (p : Place) → spot_of p ≡ s → left p ≡ o.disk.cells p
         was p at = closed_left p (λ free. not (sym (ap o.disk.blocks at) ∙ free))
