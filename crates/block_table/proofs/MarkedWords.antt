@@ -46,12 +46,12 @@ no_mark marks left from is off j m l =
     sym (ap (λ (b : Bool). b && bit marks j) (le-leb from j m)) ∙ sym (is j l) ∙ off j
 
 -- no block of a word without a mark may be collected
-pub unmarked_none : (l : Lives) (t : Blocks) (counts : List ℕ) (b : Buckets) (count group marks j : ℕ) →
+pub unmarked_none : (l : Lives) (t : Blocks) (scarce : Bool) (counts : List ℕ) (b : Buckets) (count group marks j : ℕ) →
     count ≤ l.sizes.pages → length l.pins ≡ blocks_in l.sizes → AreCounted l counts →
     AreUnpinned b l.sizes.pages counts l.pins → AreMarks (has b count) group marks → j < 64 → bit marks j ≡ false →
-    (i : ℕ) → i < 64 → is_victim_at l t count (64 * (64 * group + j) + i) ≡ false
-unmarked_none l t counts b count group marks j few whole kept old is m off i n =
-    empty_none l t counts b count few whole kept old (64 * (64 * group + j) + i)
+    (i : ℕ) → i < 64 → is_victim_at l t scarce count (64 * (64 * group + j) + i) ≡ false
+unmarked_none l t scarce counts b count group marks j few whole kept old is m off i n =
+    empty_none l t scarce counts b count few whole kept old (64 * (64 * group + j) + i)
     (off_is (bit marks j) off (is j m) i n)
   where
     off_is : (c : Bool) → c ≡ false → IsMark (has b count) (64 * group + j) c → (i : ℕ) → i < 64 →
@@ -108,17 +108,19 @@ marked_has l counts b count group marks j few whole kept old is m on = one (on_i
         (ap (λ (q : ℕ). q / 64) (place_there l.sizes p) ∙ word number i n)) u.1)
 
 -- what a word of the second level tells of its 64 words
-pub record Tells (l : Lives) (t : Blocks) (count group marks : ℕ) : Type 0 where
+pub record Tells (l : Lives) (t : Blocks) (scarce : Bool) (count group marks : ℕ) : Type 0 where
   pub none : (j : ℕ) → j < 64 → bit marks j ≡ false → (i : ℕ) → i < 64 →
-      is_victim_at l t count (64 * (64 * group + j) + i) ≡ false
+      is_victim_at l t scarce count (64 * (64 * group + j) + i) ≡ false
   pub some : (j : ℕ) → j < 64 → bit marks j ≡ true → word_has l count (64 * group + j) ≡ true
 
-pub tells : (l now : Lives) (t : Blocks) (counts : List ℕ) (b : Buckets) (count group marks : ℕ) → l ≡ now →
+pub tells : (l now : Lives) (t : Blocks) (scarce : Bool) (counts : List ℕ) (b : Buckets) (count group marks : ℕ) →
+    l ≡ now →
     count ≤ now.sizes.pages → length l.pins ≡ blocks_in l.sizes → AreCounted l counts →
-    AreUnpinned b l.sizes.pages counts l.pins → AreMarks (has b count) group marks → Tells now t count group marks
-tells l now t counts b count group marks same few whole kept old is =
-    subst (λ (n : Lives). Tells n t count group marks) same (record {
-      none = λ j m off. unmarked_none l t counts b count group marks j within whole kept old is m off;
+    AreUnpinned b l.sizes.pages counts l.pins → AreMarks (has b count) group marks →
+    Tells now t scarce count group marks
+tells l now t scarce counts b count group marks same few whole kept old is =
+    subst (λ (n : Lives). Tells n t scarce count group marks) same (record {
+      none = λ j m off. unmarked_none l t scarce counts b count group marks j within whole kept old is m off;
       some = λ j m on. marked_has l counts b count group marks j within whole kept old is m on;
     })
   where
@@ -126,21 +128,23 @@ tells l now t counts b count group marks same few whole kept old is =
     within = subst (λ (n : Lives). count ≤ n.sizes.pages) (sym same) few
 
 -- up to the next mark none may be collected
-pub none_to_mark : {l : Lives} {t : Blocks} {count group marks from mark : ℕ} → Tells l t count group marks →
+pub none_to_mark : {l : Lives} {t : Blocks} {scarce : Bool} {count group marks from mark : ℕ} →
+    Tells l t scarce count group marks →
     IsNextMark marks from mark → mark < 64 →
-    ((p : ℕ) → p < 64 * (64 * group + from) → is_victim_at l t count p ≡ false) →
-    (p : ℕ) → p < 64 * (64 * group + mark) → is_victim_at l t count p ≡ false
-none_to_mark {l} {t} {count} {group} {marks} {from} {mark} k next m before =
-    passed_over (is_victim_at l t count) group from mark before
+    ((p : ℕ) → p < 64 * (64 * group + from) → is_victim_at l t scarce count p ≡ false) →
+    (p : ℕ) → p < 64 * (64 * group + mark) → is_victim_at l t scarce count p ≡ false
+none_to_mark {l} {t} {scarce} {count} {group} {marks} {from} {mark} k next m before =
+    passed_over (is_victim_at l t scarce count) group from mark before
     (λ j a b. k.none j (omega arith) (next.between j a b))
 
 -- and without one none of the 64 words has any
-pub none_to_end : {l : Lives} {t : Blocks} {count group marks from : ℕ} → Tells l t count group marks →
+pub none_to_end : {l : Lives} {t : Blocks} {scarce : Bool} {count group marks from : ℕ} →
+    Tells l t scarce count group marks →
     ((j : ℕ) → from ≤ j → j < 64 → bit marks j ≡ false) →
-    ((p : ℕ) → p < 64 * (64 * group + from) → is_victim_at l t count p ≡ false) →
-    (p : ℕ) → p < 64 * (64 * (group + 1)) → is_victim_at l t count p ≡ false
-none_to_end {l} {t} {count} {group} {marks} {from} k off before p m =
-    passed_over (is_victim_at l t count) group from 64 before (λ j a b. k.none j b (off j a b)) p (omega arith)
+    ((p : ℕ) → p < 64 * (64 * group + from) → is_victim_at l t scarce count p ≡ false) →
+    (p : ℕ) → p < 64 * (64 * (group + 1)) → is_victim_at l t scarce count p ≡ false
+none_to_end {l} {t} {scarce} {count} {group} {marks} {from} k off before p m =
+    passed_over (is_victim_at l t scarce count) group from 64 before (λ j a b. k.none j b (off j a b)) p (omega arith)
 
 -- How many words have such a block
 

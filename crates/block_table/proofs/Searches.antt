@@ -197,37 +197,46 @@ finds_dies count may blocks (suc dies) =
 
 -- The victim
 
-gain_told : (l : Lives) (t : Blocks) (s : Spot) (x : BlockState) → state_of t s.die s.block ≡ x → gains l s x ≡ true →
-    ((state_of t s.die s.block ≡ state.Closed) × (live_count l s < l.sizes.pages))
-    ⊎ ((state_of t s.die s.block ≡ state.Bad) × (0 < live_count l s))
-gain_told l t s state.Closed is h = inl (is, ltb-true (live_count l s) l.sizes.pages h)
-gain_told l t s state.Bad is h = inr (is, ltb-true 0 (live_count l s) h)
-gain_told l t s x is h = absurd (false≢true h)
+abbrev Gains : Lives → Blocks → (scarce : Bool) → Spot → Type 0
+Gains l t scarce s =
+    ((state_of t s.die s.block ≡ state.Closed) × (scarce ≡ true) × (live_count l s < l.sizes.pages))
+    ⊎ ((state_of t s.die s.block ≡ state.Bad) × (scarce ≡ false) × (0 < live_count l s))
 
-gain_shown : (l : Lives) (t : Blocks) (s : Spot) →
-    ((state_of t s.die s.block ≡ state.Closed) × (live_count l s < l.sizes.pages))
-    ⊎ ((state_of t s.die s.block ≡ state.Bad) × (0 < live_count l s)) →
-    gains l s (state_of t s.die s.block) ≡ true
-gain_shown l t s (inl h) = ap (gains l s) h.0 ∙ lt-ltb (live_count l s) l.sizes.pages h.1
-gain_shown l t s (inr h) = ap (gains l s) h.0 ∙ lt-ltb 0 (live_count l s) h.1
+gain_told : (l : Lives) (t : Blocks) (scarce : Bool) (s : Spot) (x : BlockState) → state_of t s.die s.block ≡ x →
+    gains l scarce s x ≡ true → Gains l t scarce s
+gain_told l t scarce s state.Closed is h =
+    let c = and_parts scarce (nat_lt (live_count l s) l.sizes.pages) h in
+    inl (is, c.0, ltb-true (live_count l s) l.sizes.pages c.1)
+gain_told l t scarce s state.Bad is h =
+    let c = and_parts (not scarce) (nat_lt 0 (live_count l s)) h in
+    inr (is, not-true scarce c.0, ltb-true 0 (live_count l s) c.1)
+gain_told l t scarce s x is h = absurd (false≢true h)
 
-pub can_told : {l : Lives} {t : Blocks} {s : Spot} → CanBeVictim l t s →
-    IsPassed (may_be_victim l t) l.sizes.blocks l.sizes.dies 0 s
-can_told {l} {t} {s} c =
+gain_shown : (l : Lives) (t : Blocks) (scarce : Bool) (s : Spot) → Gains l t scarce s →
+    gains l scarce s (state_of t s.die s.block) ≡ true
+gain_shown l t scarce s (inl h) = ap (gains l scarce s) h.0 ∙ and_from scarce (nat_lt (live_count l s) l.sizes.pages)
+    h.1 (lt-ltb (live_count l s) l.sizes.pages h.2)
+gain_shown l t scarce s (inr h) = ap (gains l scarce s) h.0 ∙ and_from (not scarce) (nat_lt 0 (live_count l s))
+    (ap not h.1) (lt-ltb 0 (live_count l s) h.2)
+
+pub can_told : {l : Lives} {t : Blocks} {scarce : Bool} {s : Spot} → CanBeVictim l t scarce s →
+    IsPassed (may_be_victim l t scarce) l.sizes.blocks l.sizes.dies 0 s
+can_told {l} {t} {scarce} {s} c =
     let u : (nat_lt s.die l.sizes.dies ≡ true) × (nat_lt s.block l.sizes.blocks ≡ true) = and_parts _ _ c.inside in (
       (ltb-true s.block l.sizes.blocks u.1, inl (ltb-true s.die l.sizes.dies u.0)),
-      and_from (not (is_pinned l s)) (gains l s (state_of t s.die s.block))
-          (ap not c.unpinned) (gain_shown l t s c.gain),
+      and_from (not (is_pinned l s)) (gains l scarce s (state_of t s.die s.block))
+          (ap not c.unpinned) (gain_shown l t scarce s c.gain),
     )
 
-pub can_shown : {l : Lives} {t : Blocks} {s : Spot} → IsPassed (may_be_victim l t) l.sizes.blocks l.sizes.dies 0 s →
-    CanBeVictim l t s
-can_shown {l} {t} {s} p =
-    let b = and_parts (not (is_pinned l s)) (gains l s (state_of t s.die s.block)) p.1 in
+pub can_shown : {l : Lives} {t : Blocks} {scarce : Bool} {s : Spot} →
+    IsPassed (may_be_victim l t scarce) l.sizes.blocks l.sizes.dies 0 s →
+    CanBeVictim l t scarce s
+can_shown {l} {t} {scarce} {s} p =
+    let b = and_parts (not (is_pinned l s)) (gains l scarce s (state_of t s.die s.block)) p.1 in
     record {
       inside = inside p.0;
       unpinned = not-true (is_pinned l s) b.0;
-      gain = gain_told l t s (state_of t s.die s.block) refl b.1;
+      gain = gain_told l t scarce s (state_of t s.die s.block) refl b.1;
     }
   where
     inside : IsSeen l.sizes.blocks l.sizes.dies 0 s → has_block l.sizes s ≡ true
@@ -256,12 +265,12 @@ same_best {P} {count} a b h k = by (order a.die b.die) (order a.block b.block)
     by (inr (inl e)) (inr (inl f)) = λ i. record { die = e i; block = f i }
 
 -- the victim is what the plain search finds
-pub victim_is : (l : Lives) (t : Blocks) (s : Spot) → IsVictim l t s → Some s ≡ victim l t
-victim_is l t s h =
-    by (victim l t) (finds_dies (live_count l) (may_be_victim l t) l.sizes.blocks l.sizes.dies)
+pub victim_is : (l : Lives) (t : Blocks) (scarce : Bool) (s : Spot) → IsVictim l t scarce s → Some s ≡ victim l t scarce
+victim_is l t scarce s h =
+    by (victim l t scarce) (finds_dies (live_count l) (may_be_victim l t scarce) l.sizes.blocks l.sizes.dies)
   where
-    by : (o : Option Spot) → Finds (IsPassed (may_be_victim l t) l.sizes.blocks l.sizes.dies 0) (live_count l) o →
-        Some s ≡ o
+    by : (o : Option Spot) →
+        Finds (IsPassed (may_be_victim l t scarce) l.sizes.blocks l.sizes.dies 0) (live_count l) o → Some s ≡ o
     by None none = absurd (none s (can_told h.can))
     by (Some b) best = ap (λ (x : Spot). Some x) (same_best s b (record {
       is = can_told h.can;
@@ -269,12 +278,12 @@ victim_is l t s h =
       first = λ a q. h.lowest a (can_shown q);
     }) best)
 
-pub no_victim_is : (l : Lives) (t : Blocks) → IsNoVictim l t → None ≡ victim l t
-no_victim_is l t h =
-    by (victim l t) (finds_dies (live_count l) (may_be_victim l t) l.sizes.blocks l.sizes.dies)
+pub no_victim_is : (l : Lives) (t : Blocks) (scarce : Bool) → IsNoVictim l t scarce → None ≡ victim l t scarce
+no_victim_is l t scarce h =
+    by (victim l t scarce) (finds_dies (live_count l) (may_be_victim l t scarce) l.sizes.blocks l.sizes.dies)
   where
-    by : (o : Option Spot) → Finds (IsPassed (may_be_victim l t) l.sizes.blocks l.sizes.dies 0) (live_count l) o →
-        None ≡ o
+    by : (o : Option Spot) →
+        Finds (IsPassed (may_be_victim l t scarce) l.sizes.blocks l.sizes.dies 0) (live_count l) o → None ≡ o
     by None none = refl
     by (Some b) best = absurd (h b (can_shown best.is))
 

@@ -48,11 +48,18 @@ unpinned_past l counts k p whole out =
     ap (λ (c : Bool). c && (unwrap_or (slice_get counts p) 0 == k)) (no_pin_past l.pins p (blocks_in l.sizes) whole out)
 
 -- what a block gains, by the words of its states
-gains_bits : (l : Lives) (s : Spot) (count : ℕ) (x : BlockState) → live_count l s ≡ count →
-    gains l s x
-    ≡ ((nat_lt count l.sizes.pages && same_state x state.Closed) || (nat_lt 0 count && same_state x state.Bad))
-gains_bits l s count x e = by x
+gains_bits : (l : Lives) (scarce : Bool) (s : Spot) (count : ℕ) (x : BlockState) → live_count l s ≡ count →
+    gains l scarce s x
+    ≡ (((scarce && nat_lt count l.sizes.pages) && same_state x state.Closed)
+    || ((not scarce && nat_lt 0 count) && same_state x state.Bad))
+gains_bits l scarce s count x e = by x
   where
+    closed : Bool
+    closed = scarce && nat_lt count l.sizes.pages
+
+    bad : Bool
+    bad = not scarce && nat_lt 0 count
+
     neither : (a b : Bool) → false ≡ ((a && false) || (b && false))
     neither true true = refl
     neither true false = refl
@@ -70,15 +77,14 @@ gains_bits l s count x e = by x
     second false true = refl
     second false false = refl
 
-    by : (x : BlockState) → gains l s x
-        ≡ ((nat_lt count l.sizes.pages && same_state x state.Closed) || (nat_lt 0 count && same_state x state.Bad))
-    by state.Free = neither (nat_lt count l.sizes.pages) (nat_lt 0 count)
-    by state.Stale = neither (nat_lt count l.sizes.pages) (nat_lt 0 count)
-    by state.Ready = neither (nat_lt count l.sizes.pages) (nat_lt 0 count)
-    by state.Open = neither (nat_lt count l.sizes.pages) (nat_lt 0 count)
-    by state.Closed =
-        ap (λ (c : ℕ). nat_lt c l.sizes.pages) e ∙ first (nat_lt count l.sizes.pages) (nat_lt 0 count)
-    by state.Bad = ap (nat_lt 0) e ∙ second (nat_lt count l.sizes.pages) (nat_lt 0 count)
+    by : (x : BlockState) → gains l scarce s x
+        ≡ ((closed && same_state x state.Closed) || (bad && same_state x state.Bad))
+    by state.Free = neither closed bad
+    by state.Stale = neither closed bad
+    by state.Ready = neither closed bad
+    by state.Open = neither closed bad
+    by state.Closed = ap (λ (c : ℕ). scarce && nat_lt c l.sizes.pages) e ∙ first closed bad
+    by state.Bad = ap (λ (c : ℕ). not scarce && nat_lt 0 c) e ∙ second closed bad
 
 bad_is : (x : BlockState) → same_state x state.Bad ≡ is_bad x
 bad_is state.Free = refl
@@ -91,14 +97,16 @@ bad_is state.Bad = refl
 -- Words
 
 -- the blocks with so many live pages that may be collected
-pub victim_bits : (l : Lives) (t : Blocks) (counts : List ℕ) (b : Buckets) (count number closed bad gc gb stand : ℕ) →
-    count ≤ l.sizes.pages → length l.pins ≡ blocks_in l.sizes → AreCounted l counts →
+pub victim_bits : (l : Lives) (t : Blocks) (scarce : Bool) (counts : List ℕ) (b : Buckets)
+    (count number closed bad gc gb stand : ℕ) → count ≤ l.sizes.pages → length l.pins ≡ blocks_in l.sizes →
+    AreCounted l counts →
     AreUnpinned b l.sizes.pages counts l.pins → IsWordOf t state.Closed l.sizes number closed →
     IsWordOf t state.Bad l.sizes number bad →
-    ((j : ℕ) → bit gc j ≡ (nat_lt count l.sizes.pages && bit closed j)) →
-    ((j : ℕ) → bit gb j ≡ (nat_lt 0 count && bit bad j)) → IsWord (has b count) number stand →
-    IsWord (is_victim_at l t count) number (bit_and stand (bit_or gc gb))
-victim_bits l t counts b count number closed bad gc gb stand few whole kept old is_closed is_bad is_gc is_gb is j m =
+    ((j : ℕ) → bit gc j ≡ (scarce && (nat_lt count l.sizes.pages && bit closed j))) →
+    ((j : ℕ) → bit gb j ≡ (not scarce && (nat_lt 0 count && bit bad j))) → IsWord (has b count) number stand →
+    IsWord (is_victim_at l t scarce count) number (bit_and stand (bit_or gc gb))
+victim_bits l t scarce counts b count number closed bad gc gb stand few whole kept old is_closed is_bad is_gc is_gb is
+    j m =
     bit_both stand (bit_or gc gb) j
     ∙ (λ i. unpinned i && gain i)
     ∙ by (cases_lt (64 * number + j) (blocks_in l.sizes))
@@ -106,14 +114,25 @@ victim_bits l t counts b count number closed bad gc gb stand few whole kept old 
     p : ℕ
     p = 64 * number + j
 
+    frees : Bool
+    frees = scarce && nat_lt count l.sizes.pages
+
+    saves : Bool
+    saves = not scarce && nat_lt 0 count
+
     s : Spot
     s = spot_there l.sizes p
 
     unpinned : bit stand j ≡ is_unpinned_with counts l.pins count p
     unpinned = is j m ∙ old count p few
 
-    gain : bit (bit_or gc gb) j ≡ ((nat_lt count l.sizes.pages && bit closed j) || (nat_lt 0 count && bit bad j))
-    gain = bit_some gc gb j ∙ (λ i. is_gc j i || is_gb j i)
+    joined : (a b c : Bool) → (a && (b && c)) ≡ ((a && b) && c)
+    joined true b c = refl
+    joined false b c = refl
+
+    gain : bit (bit_or gc gb) j ≡ ((frees && bit closed j) || (saves && bit bad j))
+    gain = bit_some gc gb j ∙ (λ i. (is_gc j ∙ joined scarce (nat_lt count l.sizes.pages) (bit closed j)) i
+        || (is_gb j ∙ joined (not scarce) (nat_lt 0 count) (bit bad j)) i)
 
     turned : (a b c : Bool) → ((a && b) && c) ≡ (b && (a && c))
     turned true true c = refl
@@ -123,32 +142,32 @@ victim_bits l t counts b count number closed bad gc gb stand few whole kept old 
 
     gained : (c : Bool) → live_count l s == count ≡ c → p < blocks_in l.sizes →
         ((not (is_pinned l s) && c)
-        && ((nat_lt count l.sizes.pages && bit closed j) || (nat_lt 0 count && bit bad j)))
-        ≡ (c && may_be_victim l t s)
+        && ((frees && bit closed j) || (saves && bit bad j)))
+        ≡ (c && may_be_victim l t scarce s)
     gained true e inside =
         (λ i. (not (is_pinned l s) && true)
-        && ((nat_lt count l.sizes.pages && is_closed j m inside i) || (nat_lt 0 count && is_bad j m inside i)))
+        && ((frees && is_closed j m inside i) || (saves && is_bad j m inside i)))
         ∙ ap (λ (g : Bool). (not (is_pinned l s) && true) && g)
-        (sym (gains_bits l s count (state_of t s.die s.block) (eqb-true (live_count l s) count e)))
-        ∙ turned (not (is_pinned l s)) true (gains l s (state_of t s.die s.block))
+        (sym (gains_bits l scarce s count (state_of t s.die s.block) (eqb-true (live_count l s) count e)))
+        ∙ turned (not (is_pinned l s)) true (gains l scarce s (state_of t s.die s.block))
     gained false e inside =
         turned (not (is_pinned l s)) false
-        ((nat_lt count l.sizes.pages && bit closed j) || (nat_lt 0 count && bit bad j))
+        ((frees && bit closed j) || (saves && bit bad j))
 
     by : (p < blocks_in l.sizes) ⊎ (blocks_in l.sizes ≤ p) →
         (is_unpinned_with counts l.pins count p
-        && ((nat_lt count l.sizes.pages && bit closed j) || (nat_lt 0 count && bit bad j)))
-        ≡ is_victim_at l t count p
+        && ((frees && bit closed j) || (saves && bit bad j)))
+        ≡ is_victim_at l t scarce count p
     by (inl inside) =
-        ap (λ (u : Bool). u && ((nat_lt count l.sizes.pages && bit closed j) || (nat_lt 0 count && bit bad j)))
+        ap (λ (u : Bool). u && ((frees && bit closed j) || (saves && bit bad j)))
         (unpinned_is l counts count p kept whole inside)
         ∙ gained (live_count l s == count) refl inside
-        ∙ sym (ap (λ (c : Bool). c && ((live_count l s == count) && may_be_victim l t s))
+        ∙ sym (ap (λ (c : Bool). c && ((live_count l s == count) && may_be_victim l t scarce s))
         (lt-ltb p (blocks_in l.sizes) inside))
     by (inr out) =
-        ap (λ (u : Bool). u && ((nat_lt count l.sizes.pages && bit closed j) || (nat_lt 0 count && bit bad j)))
+        ap (λ (u : Bool). u && ((frees && bit closed j) || (saves && bit bad j)))
         (unpinned_past l counts count p whole out)
-        ∙ sym (ap (λ (c : Bool). c && ((live_count l s == count) && may_be_victim l t s))
+        ∙ sym (ap (λ (c : Bool). c && ((live_count l s == count) && may_be_victim l t scarce s))
         (le-ltb p (blocks_in l.sizes) out))
 
 -- the bad blocks without a pin that hold live pages
@@ -231,14 +250,16 @@ word_first test number word k is low l before = record {
 pub words_over : (n number : ℕ) → words_for n ≤ number → (p : ℕ) → p < n → p < 64 * number
 words_over n number l p m = omega arith
 
-pub no_victim_left : (l : Lives) (t : Blocks) (count number : ℕ) → words_for (blocks_in l.sizes) ≤ number →
-    ((p : ℕ) → p < 64 * number → is_victim_at l t count p ≡ false) → (p : ℕ) → is_victim_at l t count p ≡ false
-no_victim_left l t count number over before p = by (cases_lt p (blocks_in l.sizes))
+pub no_victim_left : (l : Lives) (t : Blocks) (scarce : Bool) (count number : ℕ) →
+    words_for (blocks_in l.sizes) ≤ number →
+    ((p : ℕ) → p < 64 * number → is_victim_at l t scarce count p ≡ false) → (p : ℕ) →
+    is_victim_at l t scarce count p ≡ false
+no_victim_left l t scarce count number over before p = by (cases_lt p (blocks_in l.sizes))
   where
-    by : (p < blocks_in l.sizes) ⊎ (blocks_in l.sizes ≤ p) → is_victim_at l t count p ≡ false
+    by : (p < blocks_in l.sizes) ⊎ (blocks_in l.sizes ≤ p) → is_victim_at l t scarce count p ≡ false
     by (inl m) = before p (words_over (blocks_in l.sizes) number over p m)
     by (inr m) = ap (λ (c : Bool). c && ((live_count l (spot_there l.sizes p) == count)
-        && may_be_victim l t (spot_there l.sizes p))) (le-ltb p (blocks_in l.sizes) m)
+        && may_be_victim l t scarce (spot_there l.sizes p))) (le-ltb p (blocks_in l.sizes) m)
 
 -- Some block of all
 

@@ -95,20 +95,20 @@ with_pins l s n =
 
 -- Collection
 
--- a closed block that is not wholly live, or a bad block with live pages
-abbrev pub gains : Lives → Spot → BlockState → Bool
-gains l s state.Closed = nat_lt (live_count l s) l.sizes.pages
-gains l s state.Bad = nat_lt 0 (live_count l s)
-gains l s _ = false
+-- while free blocks are scarce a closed block that is not wholly live; else a bad block with live pages
+abbrev pub gains : Lives → (scarce : Bool) → Spot → BlockState → Bool
+gains l scarce s state.Closed = scarce && nat_lt (live_count l s) l.sizes.pages
+gains l scarce s state.Bad = not scarce && nat_lt 0 (live_count l s)
+gains l scarce s _ = false
 
 -- the block may be collected: it has no pin, and something is gained by it
-abbrev pub may_be_victim : Lives → Blocks → Spot → Bool
-may_be_victim l t s = not (is_pinned l s) && gains l s (state_of t s.die s.block)
+abbrev pub may_be_victim : Lives → Blocks → (scarce : Bool) → Spot → Bool
+may_be_victim l t scarce s = not (is_pinned l s) && gains l scarce s (state_of t s.die s.block)
 
 -- a bad block without a pin that holds live pages
 abbrev pub is_bad_with_live : Lives → Blocks → Spot → Bool
 is_bad_with_live l t s = is_bad (state_of t s.die s.block) && not (is_pinned l s) && nat_lt 0 (live_count l s)
 
 -- the block to be collected: of those that gain, the one with the fewest live pages, the lowest of several
-abbrev pub victim : Lives → Blocks → Option Spot
-victim l t = least_of (live_count l) None (filter (may_be_victim l t) (spots_in l.sizes))
+abbrev pub victim : Lives → Blocks → (scarce : Bool) → Option Spot
+victim l t scarce = least_of (live_count l) None (filter (may_be_victim l t scarce) (spots_in l.sizes))

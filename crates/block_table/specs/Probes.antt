@@ -16,24 +16,24 @@ abbrev pub spot_there : Sizes → ℕ → Spot
 spot_there n p = record { die = p / n.blocks; block = p % n.blocks }
 
 -- the block at the place has so many live pages and may be collected
-abbrev pub is_victim_at : Lives → Blocks → ℕ → ℕ → Bool
-is_victim_at l t count p =
+abbrev pub is_victim_at : Lives → Blocks → (scarce : Bool) → ℕ → ℕ → Bool
+is_victim_at l t scarce count p =
     nat_lt p (blocks_in l.sizes)
-    && ((live_count l (spot_there l.sizes p) == count) && may_be_victim l t (spot_there l.sizes p))
+    && ((live_count l (spot_there l.sizes p) == count) && may_be_victim l t scarce (spot_there l.sizes p))
 
 -- the block at the place is bad, has no pin and holds live pages
 abbrev pub is_bad_at : Lives → Blocks → ℕ → Bool
 is_bad_at l t p = nat_lt p (blocks_in l.sizes) && is_bad_with_live l t (spot_there l.sizes p)
 
 -- the first place of a block with so many live pages that may be collected; none if there is no such block
-abbrev pub IsFirstVictim : Lives → Blocks → ℕ → Option ℕ → Type 0
-IsFirstVictim l t count None = (p : ℕ) → is_victim_at l t count p ≡ false
-IsFirstVictim l t count (Some p) = IsLowest (is_victim_at l t count) p
+abbrev pub IsFirstVictim : Lives → Blocks → (scarce : Bool) → ℕ → Option ℕ → Type 0
+IsFirstVictim l t scarce count None = (p : ℕ) → is_victim_at l t scarce count p ≡ false
+IsFirstVictim l t scarce count (Some p) = IsLowest (is_victim_at l t scarce count) p
 
 -- that place; without it, there is none before the end
-abbrev pub IsFirstVictimTo : Lives → Blocks → (count end : ℕ) → Option ℕ → Type 0
-IsFirstVictimTo l t count end None = (p : ℕ) → p < end → is_victim_at l t count p ≡ false
-IsFirstVictimTo l t count end (Some p) = IsLowest (is_victim_at l t count) p
+abbrev pub IsFirstVictimTo : Lives → Blocks → (scarce : Bool) → (count end : ℕ) → Option ℕ → Type 0
+IsFirstVictimTo l t scarce count end None = (p : ℕ) → p < end → is_victim_at l t scarce count p ≡ false
+IsFirstVictimTo l t scarce count end (Some p) = IsLowest (is_victim_at l t scarce count) p
 
 -- the block has no pin and so many live pages
 abbrev pub is_unpinned_of : Lives → ℕ → Spot → Bool

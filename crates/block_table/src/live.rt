@@ -165,31 +165,36 @@ impl LivePages {
         self.pins(die, block) > 0
     }
 
-    /// The block to be collected: of those without a pin that are closed and not wholly live, or
-    /// bad with live pages, the one with the fewest live pages. Of several it is that of the lowest
-    /// die, then the lowest block.
-    pub fn victim(&self, blocks: &BlockTable) -> Option<BlockAt>
-        ensures search { option_map spot_at result ≡ victim self.now blocks.now }
-        ensures least { MatchOption result (IsNoVictim self.now blocks.now)
-            (λ at. IsVictim self.now blocks.now (spot_at at)) }
+    /// The block to be collected: of those without a pin that are closed and not wholly live, where
+    /// free blocks are `scarce`, else of those that are bad and hold live pages, the one with the
+    /// fewest live pages. Of several it is that of the lowest die, then the lowest block.
+    pub fn victim(&self, blocks: &BlockTable, scarce: bool) -> Option<BlockAt>
+        ensures search { option_map spot_at result ≡ victim self.now blocks.now scarce }
+        ensures least { MatchOption result (IsNoVictim self.now blocks.now scarce)
+            (λ at. IsVictim self.now blocks.now scarce (spot_at at)) }
     {
         let mut probes = Probes::default();
-        self.victim_counted(blocks, &mut probes)
+        self.victim_counted(blocks, scarce, &mut probes)
     }
 
     /// As `victim`, and counts its probes: one for each number of live pages up to that of the
     /// victim; and for each of these numbers that a block without a pin has, one for each word of
     /// the second level, which tells of 64 words, and one for each word of 64 blocks in which such a
     /// block stands. Without a victim that is each number of live pages.
-    pub fn victim_counted(&self, blocks: &BlockTable, probes: &mut Probes) -> Option<BlockAt>
-        ensures search { option_map spot_at result ≡ victim self.now blocks.now }
-        ensures least { MatchOption result (IsNoVictim self.now blocks.now)
-            (λ at. IsVictim self.now blocks.now (spot_at at)) }
+    pub fn victim_counted(
+        &self,
+        blocks: &BlockTable,
+        scarce: bool,
+        probes: &mut Probes,
+    ) -> Option<BlockAt>
+        ensures search { option_map spot_at result ≡ victim self.now blocks.now scarce }
+        ensures least { MatchOption result (IsNoVictim self.now blocks.now scarce)
+            (λ at. IsVictim self.now blocks.now scarce (spot_at at)) }
         ensures bound { probes.new.count ≤ probes.old.count
             + most_probes self.now (option_map spot_at result) }
     {
         for count in 0..self.sizes.pages as usize + 1 {
-            if let Some(place) = self.first_with(blocks, count, probes) {
+            if let Some(place) = self.first_with(blocks, scarce, count, probes) {
                 return Some(self.block_at(place));
             }
         }
@@ -271,27 +276,39 @@ impl LivePages {
 
     /// The place of the first block with so many live pages that may be collected, if there is one.
     /// No word is read unless a block without a pin has so many.
-    fn first_with(&self, blocks: &BlockTable, count: usize, probes: &mut Probes) -> Option<usize>
+    fn first_with(
+        &self,
+        blocks: &BlockTable,
+        scarce: bool,
+        count: usize,
+        probes: &mut Probes,
+    ) -> Option<usize>
         requires { count ≤ self.now.sizes.pages }
-        ensures first { IsFirstVictim self.now blocks.now count result }
+        ensures first { IsFirstVictim self.now blocks.now scarce count result }
         ensures bound { probes.new.count ≤ probes.old.count + 1 + word_probes self.now count }
     {
         probes.look();
         if self.unpinned_with.is_empty(count) {
             return None;
         }
-        self.first_victim(blocks, count, probes)
+        self.first_victim(blocks, scarce, count, probes)
     }
 
     /// The same, by the words of its bucket.
-    fn first_victim(&self, blocks: &BlockTable, count: usize, probes: &mut Probes) -> Option<usize>
+    fn first_victim(
+        &self,
+        blocks: &BlockTable,
+        scarce: bool,
+        count: usize,
+        probes: &mut Probes,
+    ) -> Option<usize>
         requires { count ≤ self.now.sizes.pages }
-        ensures first { IsFirstVictim self.now blocks.now count result }
+        ensures first { IsFirstVictim self.now blocks.now scarce count result }
         ensures bound { probes.new.count ≤ probes.old.count
             + (words_for (words_for (blocks_in self.now.sizes)) + words_with self.now count) }
     {
         for group in 0..self.groups() {
-            if let Some(first) = self.first_of_group(blocks, count, group, probes) {
+            if let Some(first) = self.first_of_group(blocks, scarce, count, group, probes) {
                 return Some(first);
             }
         }
@@ -302,6 +319,7 @@ impl LivePages {
     fn first_of_group(
         &self,
         blocks: &BlockTable,
+        scarce: bool,
         count: usize,
         group: usize,
         probes: &mut Probes,
@@ -309,8 +327,8 @@ impl LivePages {
         requires count_there { count ≤ self.now.sizes.pages }
         requires few { group < 2 ^ 26 }
         requires none { (p : ℕ) → p < 64 * (64 * group)
-            → is_victim_at self.now blocks.now count p ≡ false }
-        ensures first { IsFirstVictimTo self.now blocks.now count (64 * (64 * (group + 1))) result }
+            → is_victim_at self.now blocks.now scarce count p ≡ false }
+        ensures first { IsFirstVictimTo self.now blocks.now scarce count (64 * (64 * (group + 1))) result }
         ensures bound { probes.new.count + words_to self.now count (64 * group)
             ≤ probes.old.count + 1 + words_to self.now count (64 * (group + 1)) }
     {
@@ -323,7 +341,7 @@ impl LivePages {
             };
             probes.look();
             let number = group * WORD + mark;
-            if let Some(bit) = lowest_bit(self.victims(blocks, count, number)) {
+            if let Some(bit) = lowest_bit(self.victims(blocks, scarce, count, number)) {
                 return Some(number * WORD + bit);
             }
             from = mark + 1;
@@ -332,16 +350,17 @@ impl LivePages {
     }
 
     /// Of the blocks of the word of this number those with so many live pages that may be collected.
-    fn victims(&self, blocks: &BlockTable, count: usize, number: usize) -> u64
+    fn victims(&self, blocks: &BlockTable, scarce: bool, count: usize, number: usize) -> u64
         requires count_there { count ≤ self.now.sizes.pages }
         requires few { number < 2 ^ 32 }
-        ensures { IsWord (is_victim_at self.now blocks.now count) number result }
+        ensures { IsWord (is_victim_at self.now blocks.now scarce count) number result }
     {
         let closed = blocks.word(BlockState::Closed, self.sizes, number);
         let bad = blocks.word(BlockState::Bad, self.sizes, number);
         let pages = self.sizes.pages as usize;
-        let gain = only_if(closed, count < pages) | only_if(bad, count > 0);
-        self.unpinned_with.word(count, number) & gain
+        let frees = only_if(only_if(closed, count < pages), scarce);
+        let saves = only_if(only_if(bad, count > 0), !scarce);
+        self.unpinned_with.word(count, number) & (frees | saves)
     }
 
     /// How many words of 64 blocks there are.

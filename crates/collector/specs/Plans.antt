@@ -1,5 +1,5 @@
 -- The collection of a block: the block, and its pages that are still to be copied (this profile).
-use Rattle.std.specs.Prelude.{◌≡◌, ◌⊎◌, ℕ, List, [], ◌∷◌, All, Contains, IfSome, drop, filter, map}
+use Rattle.std.specs.Prelude.{◌≡◌, ◌⊎◌, ℕ, Bool, List, [], ◌∷◌, All, Contains, IfSome, drop, filter, map}
 use Rattle.std.specs.Prelude.{Option, None, Some, option_map}
 use Rattle.ufs_spec.specs.Disk.{Spot, place_in}
 use Rattle.ufs_spec.specs.Keys.{below}
@@ -66,10 +66,10 @@ pub record IsCollected (l : Lives) (m : UnitMap) (ps : List Pending) (n : ℕ) (
   pub names : All (IsNamed m ps) c.copies
 
 -- the victim is to be collected from now on, if there is one
-pub record IsPlanned (old : Plans) (l : Lives) (t : Blocks) (m : UnitMap) (ps : List Pending) (new : Plans) :
-    Type 0 where
+pub record IsPlanned (old : Plans) (l : Lives) (t : Blocks) (scarce : Bool) (m : UnitMap) (ps : List Pending)
+    (new : Plans) : Type 0 where
   pub pages : new.pages ≡ old.pages
-  pub victim : option_map victim_of new.plan ≡ victim l t
+  pub victim : option_map victim_of new.plan ≡ victim l t scarce
   pub collected : IfSome new.plan (IsCollected l m ps old.pages)
 
 -- the next step of a collection: the first copy that is left, and behind all copies the mark

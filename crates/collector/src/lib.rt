@@ -74,20 +74,22 @@ impl Plan {
         })
     }
 
-    /// Begins the collection of the victim: its live pages are to be copied, in order, each under
-    /// the key and the number that the map or the cache has for what stands there. Whether there is
-    /// a victim; if there is none, no collection is begun.
+    /// Begins the collection of the victim: a closed block where free blocks are `scarce`, else a
+    /// bad one. Its live pages are to be copied, in order, each under the key and the number that
+    /// the map or the cache has for what stands there. Whether there is a victim; if there is none,
+    /// no collection is begun.
     pub fn plan(
         &mut self,
         live: &LivePages,
         blocks: &BlockTable,
+        scarce: bool,
         places: &UnitMap,
         cache: &Cache,
     ) -> bool
-        ensures after { IsPlanned self.old live.now blocks.now places.now cache.now.pages self.new }
+        ensures after { IsPlanned self.old live.now blocks.now scarce places.now cache.now.pages self.new }
         ensures any { result ≡ is_some self.new.plan }
     {
-        self.victim = live.victim(blocks);
+        self.victim = live.victim(blocks, scarce);
         self.ordered = 0;
         let Some(at) = self.victim else {
             return false;

@@ -7,7 +7,7 @@ use Rattle.std.specs.Prelude.{Option, Some, None, unwrap_or, option_and_then, op
 use Rattle.std.specs.List.{list_any}
 use Rattle.ufs_spec.specs.Keys.{below}
 use Rattle.ufs_spec.specs.Plain.{steps_of, zero_block}
-use Rattle.ufs_spec.specs.Translation.{name_of, own_room}
+use Rattle.ufs_spec.specs.Translation.{name_of, own_room, wanted_room}
 use Rattle.ufs_spec.specs.declared.flash.Fence.{Fence}
 use Rattle.ufs_spec.specs.declared.flash.Key.{Key}
 use Rattle.ufs_spec.specs.declared.flash.Tag.{Tag}
@@ -20,6 +20,7 @@ use Rattle.block_table.specs.declared.rows.OpenBlock.{OpenBlock}
 use Rattle.block_table.specs.declared.rows.DieRow.{DieRow}
 use Rattle.block_table.specs.declared.rows.Flight.{Flight}
 use Rattle.block_table.specs.declared.rows.Flight.TheVariants as flight
+use Rattle.collector.specs.Plans.{Collection}
 use Rattle.unit_map.specs.declared.Stored.{Stored}
 use Rattle.write_cache.specs.declared.slots.Claimed.{Claimed}
 use Rattle.write_cache.specs.declared.slots.Pending.{Pending}
@@ -196,9 +197,19 @@ has_stale c = list_any is_stale c.states
 
 -- What is owed to a die
 
+-- a bad block is being collected, so no block is free afterwards
+abbrev pub is_plan_of_bad : Core → Option Collection → Bool
+is_plan_of_bad c None = false
+is_plan_of_bad c (Some p) = is_bad (state_of c p.victim.die p.victim.block)
+
+-- how many free blocks groups leave now: while a bad block is collected as many as are wanted
+abbrev pub left_by_groups : Core → ℕ
+left_by_groups c = if is_plan_of_bad c c.plan then wanted_room c.numbers (bad_blocks c)
+    else own_room c.numbers (bad_blocks c)
+
 -- pages of groups may be programmed: at least as many blocks are free as groups leave to the device's own pages
 abbrev pub has_room_for_groups : Core → Bool
-has_room_for_groups c = nat_le (own_room c.numbers (bad_blocks c)) (free_blocks c)
+has_room_for_groups c = nat_le (left_by_groups c) (free_blocks c)
 
 -- a block of some die is being filled, or is being erased
 abbrev pub has_open_block : Core → Bool
@@ -206,7 +217,7 @@ has_open_block c = list_any fills c.rows || list_any erases c.rows
 
 -- a block may be opened for a page of a group only where more blocks are free than groups leave
 abbrev pub may_open_for_group : Core → Bool
-may_open_for_group c = nat_lt (own_room c.numbers (bad_blocks c)) (free_blocks c)
+may_open_for_group c = nat_lt (left_by_groups c) (free_blocks c)
 
 -- for the page of a step any die opens its own block while groups may be programmed; below that a block is opened only
 -- where none is open

@@ -5,13 +5,20 @@ use Rattle.ufs_spec.specs.Translation.{Translation, count_blocks, has_mark_numbe
 use Rattle.ufs_spec.specs.Translation.{is_pinned, least_room, live_count, may_go_bad}
 use Rattle.power_loss.specs.Exchange.{IsSpot}
 
--- no task keeps a page of the block, and to collect it gains room: it is closed and not wholly live, or bad with live
--- pages
+-- a block for each that may still go bad left out, fewer blocks are free than two for each die and four, or fewer than
+-- two more than the device's own pages need
+abbrev pub AreFewFree : Translation → Type 0
+AreFewFree t =
+    (count_blocks t is_free < 2 * t.numbers.dies + 4 + may_go_bad t.numbers (count_blocks t is_bad))
+    ⊎ (count_blocks t is_free < least_room t.numbers + 2 + may_go_bad t.numbers (count_blocks t is_bad))
+
+-- no task keeps a page of the block, and to collect it gains something: while few blocks are free it is closed and not
+-- wholly live, so that it is free afterwards; else it is bad with live pages, which leave it
 pub record CanBeCollected (t : Translation) (s : Spot) : Type 0 where
   pub inside : IsSpot t.numbers s
   pub unpinned : is_pinned t s ≡ false
-  pub gain : ((t.disk.blocks s ≡ Closed) × (live_count t s < t.numbers.pages))
-      ⊎ ((t.disk.blocks s ≡ Bad) × (0 < live_count t s))
+  pub gain : ((t.disk.blocks s ≡ Closed) × AreFewFree t × (live_count t s < t.numbers.pages))
+      ⊎ ((t.disk.blocks s ≡ Bad) × (AreFewFree t → ⊥) × (0 < live_count t s))
 
 -- blocks are counted die by die
 abbrev pub IsBefore : Spot → Spot → Type 0
@@ -29,13 +36,6 @@ pub record IsBadWithLive (t : Translation) (s : Spot) : Type 0 where
   pub bad : t.disk.blocks s ≡ Bad
   pub unpinned : is_pinned t s ≡ false
   pub live : 0 < live_count t s
-
--- a block for each that may still go bad left out, fewer blocks are free than two for each die and four, or fewer than
--- two more than the device's own pages need
-abbrev pub AreFewFree : Translation → Type 0
-AreFewFree t =
-    (count_blocks t is_free < 2 * t.numbers.dies + 4 + may_go_bad t.numbers (count_blocks t is_bad))
-    ⊎ (count_blocks t is_free < least_room t.numbers + 2 + may_go_bad t.numbers (count_blocks t is_bad))
 
 -- few blocks are free, or a bad block holds live pages
 abbrev pub IsRoomScarce : Translation → Type 0

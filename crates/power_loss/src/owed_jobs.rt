@@ -1,9 +1,9 @@
 //! The laws of owed jobs: what a die may be given while others work.
-ghost use Rattle.std.specs.Prelude.{◌≡◌, ◌≢◌, ◌⊎◌, ◌<◌, ◌≤◌, ℕ, Bool, false, true, List, Option, Some, None};
+ghost use Rattle.std.specs.Prelude.{◌≡◌, ◌≢◌, ◌⊎◌, ◌<◌, ◌≤◌, ◌+◌, ℕ, Bool, false, true, List, Option, Some, None};
 ghost use Rattle.ufs_spec.specs.Cells.{Cell, GroupPage, Mark, MarkPage};
-ghost use Rattle.ufs_spec.specs.Disk.{Erasing, Filling, Flight, Programming, Reading, Spot};
+ghost use Rattle.ufs_spec.specs.Disk.{Bad, Erasing, Filling, Flight, Programming, Reading, Spot};
 ghost use Rattle.ufs_spec.specs.Moves.{EndJob, Move, ReadRight, moved};
-ghost use Rattle.ufs_spec.specs.Translation.{CopyStep, MayTake, Translation, count_blocks, is_free, name_of, own_room, own_room_now, turned};
+ghost use Rattle.ufs_spec.specs.Translation.{CopyStep, MayTake, Plan, Translation, count_blocks, is_bad, is_free, left_by_groups, name_of, own_room, turned};
 ghost use Rattle.ufs_spec.specs.declared.configs.Numbers.{Numbers};
 ghost use Rattle.ufs_spec.specs.declared.flash.Place.{Place};
 ghost use Rattle.ufs_spec.specs.declared.flash.Tag.{Tag};
@@ -48,13 +48,17 @@ pub fn a_copy_is_programmed_after_its_read()
 
 /// A page of a group is given to no die while fewer blocks are free than groups leave to the device's own
 /// pages, and no block is opened for one unless more are free. What is given then is for the page of the step
-/// under way that waits. A free block with pages that may go is erased whatever is free, since that opens none.
+/// under way that waits. While a bad block is collected groups leave two blocks more at least. A free block with
+/// pages that may go is erased whatever is free, since that opens none.
 pub fn groups_leave_room()
     ensures room { (n : Numbers) (bad : ℕ) → 1 ≤ n.pages → IsOwnRoom n bad (own_room n bad) }
+    ensures least { (t : Translation) → own_room t.numbers (count_blocks t is_bad) ≤ left_by_groups t }
+    ensures more { (t : Translation) (plan : Plan) → t.work.plan ≡ Some plan → t.disk.blocks plan.victim ≡ Bad →
+        own_room t.numbers (count_blocks t is_bad) + 2 ≤ left_by_groups t }
     ensures page { (t : Translation) (die : ℕ) (p : Place) (cell : Cell) → MayTake t die (Some (Programming p cell)) →
-        IsWaitingStep t cell ⊎ (own_room_now t ≤ count_blocks t is_free) }
+        IsWaitingStep t cell ⊎ (left_by_groups t ≤ count_blocks t is_free) }
     ensures block { (t : Translation) (die : ℕ) (flight : Flight) → MayTake t die (Some flight) → OpensBlock t flight →
-        ((cell : Cell) × IsWaitingStep t cell) ⊎ (own_room_now t < count_blocks t is_free) }
+        ((cell : Cell) × IsWaitingStep t cell) ⊎ (left_by_groups t < count_blocks t is_free) }
 {}
 
 /// While fewer blocks are free than groups leave, the device opens one block after another: a die is given
@@ -62,9 +66,9 @@ pub fn groups_leave_room()
 /// being filled and no die erases one.
 pub fn one_block_after_another()
     ensures filled { (t : Translation) (die : ℕ) (flight : Flight) (opened : Spot) (next : ℕ) →
-        MayTake t die (Some flight) → OpensBlock t flight → count_blocks t is_free < own_room_now t →
+        MayTake t die (Some flight) → OpensBlock t flight → count_blocks t is_free < left_by_groups t →
         IsSpot t.numbers opened → t.disk.blocks opened ≡ Filling next → ⊥ }
     ensures erased { (t : Translation) (die other : ℕ) (flight : Flight) (opened : Spot) →
-        MayTake t die (Some flight) → OpensBlock t flight → count_blocks t is_free < own_room_now t →
+        MayTake t die (Some flight) → OpensBlock t flight → count_blocks t is_free < left_by_groups t →
         other < t.numbers.dies → t.disk.flights other ≡ Some (Erasing opened) → ⊥ }
 {}

@@ -92,12 +92,19 @@ struct Found {
     live: u16,
 }
 
-/// Whether the block has no pin, and is closed and not wholly live, or bad with live pages.
-fn may_be_collected(live: &LivePages, blocks: &BlockTable, die: u8, block: u16) -> bool {
+/// Whether the block has no pin, and is closed and not wholly live while free blocks are scarce, or
+/// else bad with live pages.
+fn may_be_collected(
+    live: &LivePages,
+    blocks: &BlockTable,
+    scarce: bool,
+    die: u8,
+    block: u16,
+) -> bool {
     let count = live.live_count(die, block);
     let gains = match blocks.state(die, block) {
-        BlockState::Closed => count < 16,
-        BlockState::Bad => count > 0,
+        BlockState::Closed => scarce && count < 16,
+        BlockState::Bad => !scarce && count > 0,
         _ => false,
     };
     gains && !live.is_pinned(die, block)
@@ -107,6 +114,7 @@ fn may_be_collected(live: &LivePages, blocks: &BlockTable, die: u8, block: u16) 
 fn fewest_of_die(
     live: &LivePages,
     blocks: &BlockTable,
+    scarce: bool,
     found: Option<Found>,
     die: u8,
 ) -> Option<Found> {
@@ -117,7 +125,7 @@ fn fewest_of_die(
             Some(other) => count < other.live,
             None => true,
         };
-        if fewer && may_be_collected(live, blocks, die, block) {
+        if fewer && may_be_collected(live, blocks, scarce, die, block) {
             best = Some(Found {
                 at: BlockAt { die, block },
                 live: count,
@@ -128,10 +136,10 @@ fn fewest_of_die(
 }
 
 /// The block with the fewest live pages of all that may be collected, the lowest of several.
-fn plain_victim(live: &LivePages, blocks: &BlockTable) -> Option<BlockAt> {
+fn plain_victim(live: &LivePages, blocks: &BlockTable, scarce: bool) -> Option<BlockAt> {
     let mut best = None;
     for die in 0..8u8 {
-        best = fewest_of_die(live, blocks, best, die);
+        best = fewest_of_die(live, blocks, scarce, best, die);
     }
     match best {
         Some(found) => Some(found.at),
@@ -195,8 +203,10 @@ fn a_plain_search_finds_the_same_victim(rt: HostRuntime) -> Result<(), Fail> {
     let mut number = 1;
     for _ in 0..1000u32 {
         number = change_all(&mut live, &mut blocks, number, 10);
-        let victim = live.victim(&blocks);
-        assert!(rt; victim == plain_victim(&live, &blocks));
+        let victim = live.victim(&blocks, true);
+        assert!(rt; victim == plain_victim(&live, &blocks, true));
+        let bad = live.victim(&blocks, false);
+        assert!(rt; bad == plain_victim(&live, &blocks, false));
         assert!(rt; live.has_bad_with_live(&blocks) == any_bad(&live, &blocks));
         assert!(rt; are_lowest(&live, &blocks, place_of(number).die));
         pin_victim(&mut live, victim);
@@ -230,18 +240,20 @@ fn a_table_of_other_sizes_is_asked_by_die_and_block(rt: HostRuntime) -> Result<(
     let states = Vec::from_array(rt.alloc(), states)?;
     let blocks = BlockTable::new(rt.alloc(), table, states)?;
     let mut live = LivePages::new(rt.alloc(), fewer)?;
-    assert!(rt; live.victim(&blocks) == Some(BlockAt { die: 0, block: 1 }));
+    assert!(rt; live.victim(&blocks, true) == Some(BlockAt { die: 0, block: 1 }));
     live.pin(0, 1);
-    assert!(rt; live.victim(&blocks) == Some(BlockAt { die: 1, block: 1 }));
+    assert!(rt; live.victim(&blocks, true) == Some(BlockAt { die: 1, block: 1 }));
     live.pin(1, 1);
-    assert!(rt; live.victim(&blocks).is_none());
+    assert!(rt; live.victim(&blocks, true).is_none());
+    assert!(rt; live.victim(&blocks, false).is_none());
     live.set_live(Place {
         die: 1,
         block: 2,
         page: 3,
     });
     assert!(rt; live.has_bad_with_live(&blocks));
-    assert!(rt; live.victim(&blocks) == Some(BlockAt { die: 1, block: 2 }));
+    assert!(rt; live.victim(&blocks, true).is_none());
+    assert!(rt; live.victim(&blocks, false) == Some(BlockAt { die: 1, block: 2 }));
     assert!(rt; live.lowest_unpinned(&blocks, 1, BlockState::Bad) == Some(2));
     assert!(rt;
         live.lowest_unpinned(&blocks, 1, BlockState::Closed)

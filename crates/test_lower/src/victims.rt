@@ -81,13 +81,24 @@ fn block_key(address: u32) -> Key {
     }
 }
 
-/// Whether the victim is this block.
+/// Whether the victim is this block while free blocks are scarce.
 fn is_victim(live: &LivePages, blocks: &BlockTable, die: u8, block: u16) -> bool {
-    live.victim(blocks) == Some(BlockAt { die, block })
+    live.victim(blocks, true) == Some(BlockAt { die, block })
+}
+
+/// Whether the victim is this block while enough blocks are free.
+fn is_bad_victim(live: &LivePages, blocks: &BlockTable, die: u8, block: u16) -> bool {
+    live.victim(blocks, false) == Some(BlockAt { die, block })
+}
+
+/// Whether no block is a victim, be free blocks scarce or not.
+fn has_no_victim(live: &LivePages, blocks: &BlockTable) -> bool {
+    live.victim(blocks, true).is_none() && live.victim(blocks, false).is_none()
 }
 
 /// Blocks with equally few live pages are taken from the lowest on, unless they are pinned. An open
-/// and a free block and those that are wholly live are left. A probe is for each of the numbers 0,
+/// and a free block and those that are wholly live are left, and so is a bad one while free blocks
+/// are scarce. While enough are free the bad one is taken. A probe is for each of the numbers 0,
 /// 1 and 2 of live pages, and where blocks have 0 and 2 one for the only word of 64 blocks and one
 /// for the word of the second level that tells of it.
 #[test]
@@ -96,8 +107,11 @@ fn the_block_with_the_fewest_live_pages_is_the_victim(rt: HostRuntime) -> Result
     let mut live = lives(rt.alloc(), [0, 3, 2, 4, 2, 3, 4, 0])?;
     assert!(rt; live.live_count(0, 2) == 2);
     let mut probes = Probes::default();
-    assert!(rt; live.victim_counted(&blocks, &mut probes) == Some(BlockAt { die: 0, block: 2 }));
+    assert!(rt;
+        live.victim_counted(&blocks, true, &mut probes) == Some(BlockAt { die: 0, block: 2 })
+    );
     assert!(rt; probes.count == 7);
+    assert!(rt; is_bad_victim(&live, &blocks, 1, 1));
     live.pin(0, 2);
     live.pin(0, 2);
     live.unpin(0, 2);
@@ -106,10 +120,11 @@ fn the_block_with_the_fewest_live_pages_is_the_victim(rt: HostRuntime) -> Result
     live.pin(1, 0);
     assert!(rt; is_victim(&live, &blocks, 0, 1));
     live.pin(0, 1);
-    assert!(rt; is_victim(&live, &blocks, 1, 1));
+    assert!(rt; live.victim(&blocks, true).is_none());
+    assert!(rt; is_bad_victim(&live, &blocks, 1, 1));
     assert!(rt; live.has_bad_with_live(&blocks));
     live.pin(1, 1);
-    assert!(rt; live.victim(&blocks).is_none());
+    assert!(rt; has_no_victim(&live, &blocks));
     assert!(rt; !live.has_bad_with_live(&blocks));
     live.unpin(0, 2);
     assert!(rt; is_victim(&live, &blocks, 0, 2));
@@ -122,7 +137,7 @@ fn the_block_with_the_fewest_live_pages_is_the_victim(rt: HostRuntime) -> Result
 fn a_page_is_counted_live_once(rt: HostRuntime) -> Result<(), Fail> {
     let blocks = blocks(rt.alloc())?;
     let mut live = lives(rt.alloc(), [0, 4, 4, 4, 4, 0, 4, 0])?;
-    assert!(rt; live.victim(&blocks).is_none());
+    assert!(rt; has_no_victim(&live, &blocks));
     let place = Place {
         die: 1,
         block: 1,
@@ -134,11 +149,11 @@ fn a_page_is_counted_live_once(rt: HostRuntime) -> Result<(), Fail> {
     assert!(rt; live.live_count(1, 1) == 1);
     assert!(rt; live.next_live(1, 1, 0) == Some(place));
     assert!(rt; live.next_live(1, 1, 3).is_none());
-    assert!(rt; is_victim(&live, &blocks, 1, 1));
+    assert!(rt; is_bad_victim(&live, &blocks, 1, 1));
     live.set_dead(place);
     live.set_dead(place);
     assert!(rt; live.live_count(1, 1) == 0);
-    assert!(rt; live.victim(&blocks).is_none());
+    assert!(rt; has_no_victim(&live, &blocks));
     for page in 0..5u16 {
         live.set_dead(Place {
             die: 0,
@@ -183,7 +198,7 @@ fn a_plan_copies_live_pages_and_then_marks(rt: HostRuntime) -> Result<(), Fail> 
     let cache = pending_at(rt.alloc(), second, block_key(1))?;
     let mut plan = Plan::new(rt.alloc(), 4)?;
     assert!(rt; plan.next_step().is_none());
-    assert!(rt; plan.plan(&live, &blocks, &map, &cache));
+    assert!(rt; plan.plan(&live, &blocks, true, &map, &cache));
     assert!(rt; plan.victim() == Some(BlockAt { die: 0, block: 3 }));
     live.set_dead(second);
     let durable = PlannedCopy {
@@ -208,7 +223,8 @@ fn a_plan_copies_live_pages_and_then_marks(rt: HostRuntime) -> Result<(), Fail> 
     assert!(rt; blocks.free_blocks() == 2);
     assert!(rt; blocks.bad_blocks() == 1);
     live.pin(1, 1);
-    assert!(rt; !plan.plan(&live, &blocks, &map, &cache));
+    assert!(rt; !plan.plan(&live, &blocks, true, &map, &cache));
+    assert!(rt; !plan.plan(&live, &blocks, false, &map, &cache));
     assert!(rt; plan.victim().is_none());
     Ok(())
 }

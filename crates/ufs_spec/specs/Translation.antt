@@ -208,32 +208,7 @@ live_places t s = filter (is_live t) (map (place_in s) (below t.numbers.pages))
 abbrev pub live_count : Translation → Spot → ℕ
 live_count t s = length (live_places t s)
 
--- Collection
-
--- whether the block's collection is of use: of a closed block that is not wholly live, of a bad one with live pages
-abbrev pub gains : Translation → Spot → BlockState → Bool
-gains t s Closed = nat_lt (live_count t s) t.numbers.pages
-gains t s Bad = nat_lt 0 (live_count t s)
-gains t s state = false
-
--- whether the block may be collected: its collection is of use, and nobody keeps a page of it
-abbrev pub may_be_victim : Translation → Spot → Bool
-may_be_victim t s = not (is_pinned t s) && gains t s (t.disk.blocks s)
-
--- the first element with the least count, of the best one so far and the rest of the list
-abbrev pub least_of : {A : Type 0} → (A → ℕ) → Option A → List A → Option A
-least_of count best [] = best
-least_of count None (x ∷ xs) = least_of count (Some x) xs
-least_of count (Some best) (x ∷ xs) = least_of count (Some (if nat_lt (count x) (count best) then x else best)) xs
-
--- the block to be collected: of those that may be, the one with the fewest live pages, and the lowest of several.
--- A bad block is not preferred
-abbrev pub victim : Translation → Option Spot
-victim t = least_of (live_count t) None (filter (may_be_victim t) (spots t.numbers))
-
--- a bad block with live pages that nobody keeps: they are brought to a good block
-abbrev pub is_bad_with_live : Translation → Spot → Bool
-is_bad_with_live t s = is_bad (t.disk.blocks s) && not (is_pinned t s) && nat_lt 0 (live_count t s)
+-- Free blocks
 
 -- how many free blocks the device's own pages need, copies, marks and repairs, while no block goes bad: one for each
 -- die, two, and twice as many as the pages of a full write cache fill
@@ -253,13 +228,48 @@ own_room n bad = least_room n + may_go_bad n bad
 abbrev pub wanted_room : Numbers → ℕ → ℕ
 wanted_room n bad = max (2 * n.dies + 4) (least_room n + 2) + may_go_bad n bad
 
--- the same of the blocks that are bad now
-abbrev pub own_room_now : Translation → ℕ
-own_room_now t = own_room t.numbers (count_blocks t is_bad)
-
 -- whether fewer blocks are free than are wanted
 abbrev pub has_few_free : Translation → Bool
 has_few_free t = nat_lt (count_blocks t is_free) (wanted_room t.numbers (count_blocks t is_bad))
+
+-- whether a bad block is being collected: what it holds is copied, and no block is free afterwards
+abbrev pub is_plan_of_bad : (Spot → BlockState) → Option Plan → Bool
+is_plan_of_bad blocks None = false
+is_plan_of_bad blocks (Some plan) = is_bad (blocks plan.victim)
+
+-- how many free blocks groups leave now. While a bad block is collected they leave as many as are wanted: its pages and
+-- a mark may fill two
+abbrev pub left_by_groups : Translation → ℕ
+left_by_groups t =
+    if is_plan_of_bad t.disk.blocks t.work.plan then wanted_room t.numbers (count_blocks t is_bad)
+    else own_room t.numbers (count_blocks t is_bad)
+
+-- Collection
+
+-- whether the block's collection is of use: while few blocks are free, that of a closed one that is not wholly live,
+-- since it frees a block; else that of a bad one with live pages, since these leave it
+abbrev pub gains : Translation → Spot → BlockState → Bool
+gains t s Closed = has_few_free t && nat_lt (live_count t s) t.numbers.pages
+gains t s Bad = not (has_few_free t) && nat_lt 0 (live_count t s)
+gains t s state = false
+
+-- whether the block may be collected: its collection is of use, and nobody keeps a page of it
+abbrev pub may_be_victim : Translation → Spot → Bool
+may_be_victim t s = not (is_pinned t s) && gains t s (t.disk.blocks s)
+
+-- the first element with the least count, of the best one so far and the rest of the list
+abbrev pub least_of : {A : Type 0} → (A → ℕ) → Option A → List A → Option A
+least_of count best [] = best
+least_of count None (x ∷ xs) = least_of count (Some x) xs
+least_of count (Some best) (x ∷ xs) = least_of count (Some (if nat_lt (count x) (count best) then x else best)) xs
+
+-- the block to be collected: of those that may be, the one with the fewest live pages, and the lowest of several
+abbrev pub victim : Translation → Option Spot
+victim t = least_of (live_count t) None (filter (may_be_victim t) (spots t.numbers))
+
+-- a bad block with live pages that nobody keeps: they are brought to a good block
+abbrev pub is_bad_with_live : Translation → Spot → Bool
+is_bad_with_live t s = is_bad (t.disk.blocks s) && not (is_pinned t s) && nat_lt 0 (live_count t s)
 
 -- when collection is due, if there is a victim: few blocks are free, or a bad block has live pages
 abbrev pub wants_collection : Translation → Bool
@@ -606,11 +616,11 @@ next_erase t is die = option_map Erasing (lowest_vacant t is die)
 
 -- whether a page of a group may be programmed: not into the room that groups leave to the device's own pages
 abbrev pub has_room_for_groups : Translation → Bool
-has_room_for_groups t = nat_le (own_room_now t) (count_blocks t is_free)
+has_room_for_groups t = nat_le (left_by_groups t) (count_blocks t is_free)
 
 -- whether a block may be opened for a page of a group: only while more blocks are free than groups leave
 abbrev pub may_open_for_group : Translation → Bool
-may_open_for_group t = nat_lt (own_room_now t) (count_blocks t is_free)
+may_open_for_group t = nat_lt (left_by_groups t) (count_blocks t is_free)
 
 -- whether a die with this job erases a block
 abbrev pub flies_erase : Option Flight → Bool

@@ -53,20 +53,25 @@ module _ (c : Core) (t : Translation) (h : Describes c t) where
       let u : (nat_lt s.die t.numbers.dies ≡ true) × (nat_lt s.block t.numbers.blocks ≡ true) = and_parts _ _ there in
       state_is c t s.die s.block h (ltb-true s.die t.numbers.dies u.0) (ltb-true s.block t.numbers.blocks u.1)
 
+  -- few blocks are free on both sides or on none
+  few_agree : has_few_free c ≡ layer.has_few_free t
+  few_agree = λ i. nat_lt (free_alike c t h.kept i) (wanted_room (h.kept.numbers i) (bad_alike c t h.kept i))
+
   -- as much is gained by collecting a block
   gains_agree : (s : Spot) (b : disk.BlockState) (v : disk.Vacancy) →
-      gains c.live s (block_kept b v) ≡ layer.gains t s b
+      gains c.live (has_few_free c) s (block_kept b v) ≡ layer.gains t s b
   gains_agree s disk.Free disk.Untouched = refl
   gains_agree s disk.Free disk.Stale = refl
   gains_agree s disk.Free disk.Ready = refl
   gains_agree s (disk.Filling next) v = refl
-  gains_agree s disk.Closed v = λ i. nat_lt (counts_agree s i) (sizes_are i).pages
-  gains_agree s disk.Bad v = ap (nat_lt 0) (counts_agree s)
+  gains_agree s disk.Closed v = λ i. few_agree i && nat_lt (counts_agree s i) (sizes_are i).pages
+  gains_agree s disk.Bad v = λ i. not (few_agree i) && nat_lt 0 (counts_agree s i)
 
   -- the same blocks of the dies may be collected
   may_agree : (s : Spot) → has_block (sizes_of t.numbers) s ≡ true → may_be_victim c s ≡ layer.may_be_victim t s
   may_agree s there =
-      let gained = ap (gains c.live s) (state_agrees s there) ∙ gains_agree s (t.disk.blocks s) (t.disk.vacancies s) in
+      let gained = ap (gains c.live (has_few_free c) s) (state_agrees s there) ∙ gains_agree s (t.disk.blocks s)
+      (t.disk.vacancies s) in
       λ i. not (pinned_agree s i) && gained i
 
   -- and the same bad ones hold live pages
@@ -75,10 +80,6 @@ module _ (c : Core) (t : Translation) (h : Describes c t) where
   bad_agree s there =
       let bad = ap is_bad (state_agrees s there) ∙ same_bad (t.disk.blocks s) (t.disk.vacancies s) in
       λ i. bad i && not (pinned_agree s i) && nat_lt 0 (counts_agree s i)
-
-  -- few blocks are free on both sides or on none
-  few_agree : has_few_free c ≡ layer.has_few_free t
-  few_agree = λ i. nat_lt (free_alike c t h.kept i) (wanted_room (h.kept.numbers i) (bad_alike c t h.kept i))
 
 -- the block that is found to be collected is the one that the layer is to collect
 pub victims_agree : (c : Core) (t : Translation) → Describes c t → victim c ≡ layer.victim t

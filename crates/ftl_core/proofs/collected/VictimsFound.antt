@@ -13,7 +13,7 @@ use Rattle.block_table.proofs.Relations.{any_same, victim_same}
 use Rattle.collector.specs.Plans.{Collection, IsCollected, IsNamed, IsPlanned, Plans, live_below, victim_of}
 use Rattle.unit_map.specs.Places.{UnitMap}
 use Rattle.ftl_core.specs.declared.ftl.Ftl.TheInside.{Inside}
-use Rattle.ftl_core.specs.Collects.{is_bad_with_live, is_pinned, may_be_victim, victim}
+use Rattle.ftl_core.specs.Collects.{has_few_free, is_bad_with_live, is_pinned, may_be_victim, victim}
 use Rattle.ftl_core.specs.Moves.{state_of}
 use Rattle.ftl_core.specs.Rooms.{IsRoomy, core_of}
 use Rattle.ftl_core.specs.Turns.{IsBegunIf}
@@ -36,8 +36,9 @@ module _ (f : Inside) (r : IsRoomy f) where
 
   -- so the same blocks may be collected
   may_found : (s : Spot) → has_block f.live.sizes s ≡ true →
-      lives.may_be_victim f.live f.blocks s ≡ may_be_victim (core_of f) s
-  may_found s there = λ i. not (pinned_found s there i) && gains f.live s (state_found s i)
+      lives.may_be_victim f.live f.blocks (has_few_free (core_of f)) s ≡ may_be_victim (core_of f) s
+  may_found s there =
+      λ i. not (pinned_found s there i) && gains f.live (has_few_free (core_of f)) s (state_found s i)
 
   -- and the same bad blocks hold live pages
   bad_found_at : (s : Spot) → has_block f.live.sizes s ≡ true →
@@ -46,10 +47,12 @@ module _ (f : Inside) (r : IsRoomy f) where
       λ i. is_bad (state_found s i) && not (pinned_found s there i) && nat_lt 0 (live_count f.live s)
 
 -- the table and the core find the same block to be collected
-pub victim_found : (f : Inside) → IsRoomy f → lives.victim f.live f.blocks ≡ victim (core_of f)
+pub victim_found : (f : Inside) → IsRoomy f →
+    lives.victim f.live f.blocks (has_few_free (core_of f)) ≡ victim (core_of f)
 victim_found f r =
-    victim_same f.live.sizes (live_count f.live) (live_count f.live) (lives.may_be_victim f.live f.blocks)
-    (may_be_victim (core_of f)) (λ s there. refl) (may_found f r)
+    victim_same f.live.sizes (live_count f.live) (live_count f.live)
+    (lives.may_be_victim f.live f.blocks (has_few_free (core_of f))) (may_be_victim (core_of f)) (λ s there. refl)
+    (may_found f r)
 
 -- and a bad block that holds live pages in both of them or in none
 pub bad_found : (f : Inside) → IsRoomy f →
@@ -64,7 +67,7 @@ some_mapped None = refl
 some_mapped (Some x) = refl
 
 module _ (f : Inside) (p : Plans) (r : IsRoomy f)
-    (h : IsPlanned f.plan f.live f.blocks f.places f.cache.pages p) where
+    (h : IsPlanned f.plan f.live f.blocks (has_few_free (core_of f)) f.places f.cache.pages p) where
   pub planned_if : is_some p.plan ≡ is_some (victim (core_of f))
   planned_if = some_mapped p.plan ∙ ap is_some (h.victim ∙ victim_found f r)
 

@@ -1,25 +1,28 @@
 -- Where room is for groups, which blocks are open, and where one may be opened: what is kept says the same of it as the
 -- layer.
-use Rattle.std.proofs.Common.{◌≡◌, ◌∙◌, ◌||◌, Option, Some, None, not, count_by, is_some, option_map}
+use Rattle.std.proofs.Common.{◌≡◌, ◌∙◌, ◌||◌, if◌then◌else◌, Option, Some, None, not, count_by, is_some, option_map}
 use Rattle.std.proofs.Common.{refl, sym, ap}
 use Rattle.std.specs.Prelude.{nat_le, nat_lt}
 use Rattle.std.specs.List.{list_any}
 use Rattle.ufs_spec.specs.Disk as disk
 use Rattle.ufs_spec.specs.Keys.{below}
 use Rattle.ufs_spec.specs.Translation as layer
-use Rattle.ufs_spec.specs.Translation.{Translation, count_blocks, flies_erase, own_room, some_flight}
+use Rattle.ufs_spec.specs.Translation.{Translation, count_blocks, flies_erase, own_room, some_flight, wanted_room}
 use Rattle.ufs_spec.specs.declared.flash.Place.{Place}
 use Rattle.block_table.specs.Blocks.{is_bad, is_free}
 use Rattle.block_table.specs.declared.rows.OpenBlock.{OpenBlock}
 use Rattle.block_table.specs.declared.rows.Flight.{Flight}
+use Rattle.collector.specs.Plans.{Collection, layer_plan}
 use Rattle.ftl_core.specs.Core.{Core}
 use Rattle.ftl_core.specs.Describes.{Describes, Kept}
 use Rattle.ftl_core.specs.Moves.{bad_blocks, erases, fills, flight_erases, free_blocks, has_open_block}
-use Rattle.ftl_core.specs.Moves.{has_room_for_groups, may_open_for_group, may_open_for_step}
+use Rattle.ftl_core.specs.Moves.{has_room_for_groups, is_plan_of_bad, left_by_groups, may_open_for_group}
+use Rattle.ftl_core.specs.Moves.{may_open_for_step}
 use Rattle.ftl_core.specs.Takes.{next_place}
 use Rattle.ftl_core.proofs.job_taken.FlightKinds.{flight_cases}
 use Rattle.ftl_core.proofs.job_taken.Flown.{rows_agree, dies_agree}
-use Rattle.ftl_core.proofs.opened.Spots.{bad_counted, free_counted, next_found}
+use Rattle.ftl_core.proofs.job_taken.NextErases.{state_is}
+use Rattle.ftl_core.proofs.opened.Spots.{bad_counted, free_counted, next_found, same_bad}
 
 -- Free and bad blocks
 
@@ -31,14 +34,33 @@ free_alike c t k = ap (count_by is_free) k.blocks ∙ free_counted t.numbers t.d
 pub bad_alike : (c : Core) (t : Translation) → Kept c t → bad_blocks c ≡ count_blocks t layer.is_bad
 bad_alike c t k = ap (count_by is_bad) k.blocks ∙ bad_counted t.numbers t.disk.blocks t.disk.vacancies
 
+-- a bad block is collected on both sides or on none
+plan_alike : (c : Core) (t : Translation) → Describes c t →
+    is_plan_of_bad c c.plan ≡ layer.is_plan_of_bad t.disk.blocks t.work.plan
+plan_alike c t h =
+    by c.plan refl ∙ ap (layer.is_plan_of_bad t.disk.blocks) (sym h.kept.plan.plan_is)
+  where
+    by : (o : Option Collection) → c.plan ≡ o →
+        is_plan_of_bad c o ≡ layer.is_plan_of_bad t.disk.blocks (option_map layer_plan o)
+    by None is = refl
+    by (Some p) is =
+        let there = h.kept.plan.inside p is in
+        ap is_bad (state_is c t p.victim.die p.victim.block h there.0 there.1)
+        ∙ same_bad (t.disk.blocks p.victim) (t.disk.vacancies p.victim)
+
+-- so groups leave as many blocks
+left_alike : (c : Core) (t : Translation) → Describes c t → left_by_groups c ≡ layer.left_by_groups t
+left_alike c t h = λ i. if plan_alike c t h i then wanted_room (h.kept.numbers i) (bad_alike c t h.kept i)
+    else own_room (h.kept.numbers i) (bad_alike c t h.kept i)
+
 -- room is for groups on both sides or on none
 pub room_alike : (c : Core) (t : Translation) → Describes c t →
     has_room_for_groups c ≡ layer.has_room_for_groups t
-room_alike c t h = λ i. nat_le (own_room (h.kept.numbers i) (bad_alike c t h.kept i)) (free_alike c t h.kept i)
+room_alike c t h = λ i. nat_le (left_alike c t h i) (free_alike c t h.kept i)
 
 -- and so may a block be opened for a group
 pub group_alike : (c : Core) (t : Translation) → Describes c t → may_open_for_group c ≡ layer.may_open_for_group t
-group_alike c t h = λ i. nat_lt (own_room (h.kept.numbers i) (bad_alike c t h.kept i)) (free_alike c t h.kept i)
+group_alike c t h = λ i. nat_lt (left_alike c t h i) (free_alike c t h.kept i)
 
 -- Open blocks
 

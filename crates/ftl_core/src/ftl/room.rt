@@ -4,10 +4,11 @@ ghost use Rattle.std.specs.List.{list_any};
 ghost use Rattle.ufs_spec.specs.Configs.{InRange};
 ghost use Rattle.ufs_spec.specs.Translation.{least_room, may_go_bad, own_room, wanted_room};
 ghost use Rattle.ftl_core.specs.Collects.{has_few_free};
-ghost use Rattle.ftl_core.specs.Moves.{bad_blocks, erases, fills, free_blocks, has_open_block, has_room_for_groups, may_open, may_open_for_group, may_open_for_step};
+ghost use Rattle.ftl_core.specs.Moves.{bad_blocks, erases, fills, free_blocks, has_open_block, has_room_for_groups, may_open, may_open_for_group, may_open_for_step, is_plan_of_bad, left_by_groups};
 
 use super::Ftl;
 use crate::books::Waiting;
+use block_table::BlockState;
 use ufs_spec::Numbers;
 
 /// How many free blocks the device's own pages need, copies, marks and repairs, while no block goes
@@ -55,11 +56,27 @@ impl Ftl {
         self.blocks.free_blocks()
     }
 
-    /// How many free blocks groups leave now.
-    fn left_by_groups(&self) -> usize
-        ensures { result ≡ own_room self.now.numbers (bad_blocks self.now) }
+    /// Whether a bad block is being collected: no block is free afterwards.
+    fn is_collecting_bad(&self) -> bool
+        ensures { result ≡ is_plan_of_bad self.now self.now.plan }
     {
-        own_room(self.config.numbers(), self.blocks.bad_blocks())
+        match self.plan.victim() {
+            Some(at) => matches!(self.blocks.state(at.die, at.block), BlockState::Bad),
+            None => false,
+        }
+    }
+
+    /// How many free blocks groups leave now: while a bad block is collected as many as are wanted,
+    /// since its pages and a mark may fill two.
+    fn left_by_groups(&self) -> usize
+        ensures { result ≡ left_by_groups self.now }
+    {
+        let bad = self.blocks.bad_blocks();
+        if self.is_collecting_bad() {
+            wanted_room(self.config.numbers(), bad)
+        } else {
+            own_room(self.config.numbers(), bad)
+        }
     }
 
     /// Whether fewer blocks are free than are wanted.

@@ -73,8 +73,8 @@ impl Ftl {
         ensures due { result ≡ is_some (victim self.old) }
         ensures after { IsBegunIf self.old result self.new }
     {
-        self.plan
-            .plan(&self.live, &self.blocks, &self.places, &self.cache)
+        let scarce = self.has_few_free();
+        self.plan.plan(&self.live, &self.blocks, scarce, &self.places, &self.cache)
     }
 
     /// Whether few blocks are free, or a bad block holds live pages.

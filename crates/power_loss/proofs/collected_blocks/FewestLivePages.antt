@@ -130,16 +130,48 @@ spots_strict = record {
 
 -- The victim
 
+-- fewer than the greater of two is fewer than one of them
+under_either : (free a b more : ℕ) → free < max a b + more → (free < a + more) ⊎ (free < b + more)
+under_either free a b more h = grind arith
+
+under_one : (free a b more : ℕ) → (free < a + more) ⊎ (free < b + more) → free < max a b + more
+under_one free a b more h = grind arith
+
+few_told : (t : Translation) → has_few_free t ≡ true → AreFewFree t
+few_told t h = under_either (count_blocks t is_free) (2 * t.numbers.dies + 4) (least_room t.numbers + 2)
+    (may_go_bad t.numbers (count_blocks t is_bad))
+    (ltb-true (count_blocks t is_free) (wanted_room t.numbers (count_blocks t is_bad)) h)
+
+few_shown : (t : Translation) → AreFewFree t → has_few_free t ≡ true
+few_shown t h = lt-ltb (count_blocks t is_free) (wanted_room t.numbers (count_blocks t is_bad))
+    (under_one (count_blocks t is_free) (2 * t.numbers.dies + 4) (least_room t.numbers + 2)
+    (may_go_bad t.numbers (count_blocks t is_bad)) h)
+
+pub enough_told : (t : Translation) → has_few_free t ≡ false → AreFewFree t → ⊥
+enough_told t none few = false≢true (sym none ∙ few_shown t few)
+
+enough_shown : (t : Translation) → (AreFewFree t → ⊥) → has_few_free t ≡ false
+enough_shown t enough = ⊎_elim (λ few. absurd (enough (few_told t few))) (λ h. h) (cases_Bool (has_few_free t))
+
+abbrev Gains : Translation → Spot → Type 0
+Gains t s = ((t.disk.blocks s ≡ Closed) × AreFewFree t × (live_count t s < t.numbers.pages))
+    ⊎ ((t.disk.blocks s ≡ Bad) × (AreFewFree t → ⊥) × (0 < live_count t s))
+
 gain_told : (t : Translation) (s : Spot) (state : BlockState) → t.disk.blocks s ≡ state → gains t s state ≡ true →
-    ((t.disk.blocks s ≡ Closed) × (live_count t s < t.numbers.pages)) ⊎ ((t.disk.blocks s ≡ Bad) × (0 < live_count t s))
-gain_told t s Closed is h = inl (is, ltb-true (live_count t s) t.numbers.pages h)
-gain_told t s Bad is h = inr (is, ltb-true 0 (live_count t s) h)
+    Gains t s
+gain_told t s Closed is h =
+    let c = and_parts (has_few_free t) (nat_lt (live_count t s) t.numbers.pages) h in
+    inl (is, few_told t c.0, ltb-true (live_count t s) t.numbers.pages c.1)
+gain_told t s Bad is h =
+    let c = and_parts (not (has_few_free t)) (nat_lt 0 (live_count t s)) h in
+    inr (is, enough_told t (not-true (has_few_free t) c.0), ltb-true 0 (live_count t s) c.1)
 gain_told t s state is h = absurd (false≢true h)
 
-gain_shown : (t : Translation) (s : Spot) → ((t.disk.blocks s ≡ Closed) × (live_count t s < t.numbers.pages)) ⊎
-    ((t.disk.blocks s ≡ Bad) × (0 < live_count t s)) → gains t s (t.disk.blocks s) ≡ true
-gain_shown t s (inl h) = ap (gains t s) h.0 ∙ lt-ltb (live_count t s) t.numbers.pages h.1
-gain_shown t s (inr h) = ap (gains t s) h.0 ∙ lt-ltb 0 (live_count t s) h.1
+gain_shown : (t : Translation) (s : Spot) → Gains t s → gains t s (t.disk.blocks s) ≡ true
+gain_shown t s (inl h) = ap (gains t s) h.0 ∙ and_from (has_few_free t) (nat_lt (live_count t s) t.numbers.pages)
+    (few_shown t h.1) (lt-ltb (live_count t s) t.numbers.pages h.2)
+gain_shown t s (inr h) = ap (gains t s) h.0 ∙ and_from (not (has_few_free t)) (nat_lt 0 (live_count t s))
+    (ap not (enough_shown t h.1)) (lt-ltb 0 (live_count t s) h.2)
 
 can_in : {t : Translation} {s : Spot} → CanBeCollected t s → IsIn s (filter (may_be_victim t) (spots t.numbers))
 can_in {t} {s} c = kept_in (may_be_victim t) s (spots t.numbers) (in_spots c.inside)
@@ -206,23 +238,6 @@ live_shown {t} {s} r = and_from (is_bad (t.disk.blocks s) && not (is_pinned t s)
 
 abbrev is_any_bad : Translation → Bool
 is_any_bad t = list_any (is_bad_with_live t) (spots t.numbers)
-
--- fewer than the greater of two is fewer than one of them
-under_either : (free a b more : ℕ) → free < max a b + more → (free < a + more) ⊎ (free < b + more)
-under_either free a b more h = grind arith
-
-under_one : (free a b more : ℕ) → (free < a + more) ⊎ (free < b + more) → free < max a b + more
-under_one free a b more h = grind arith
-
-few_told : (t : Translation) → has_few_free t ≡ true → AreFewFree t
-few_told t h = under_either (count_blocks t is_free) (2 * t.numbers.dies + 4) (least_room t.numbers + 2)
-    (may_go_bad t.numbers (count_blocks t is_bad))
-    (ltb-true (count_blocks t is_free) (wanted_room t.numbers (count_blocks t is_bad)) h)
-
-few_shown : (t : Translation) → AreFewFree t → has_few_free t ≡ true
-few_shown t h = lt-ltb (count_blocks t is_free) (wanted_room t.numbers (count_blocks t is_bad))
-    (under_one (count_blocks t is_free) (2 * t.numbers.dies + 4) (least_room t.numbers + 2)
-    (may_go_bad t.numbers (count_blocks t is_bad)) h)
 
 scarce_told : (t : Translation) → wants_collection t ≡ true → IsRoomScarce t
 scarce_told t h =

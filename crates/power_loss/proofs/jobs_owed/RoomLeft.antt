@@ -11,9 +11,12 @@ use Rattle.power_loss.proofs.Common.{Place}
 use Rattle.power_loss.proofs.MachineWords.{IsSpot}
 use Rattle.std.proofs.Math.Nat.{lt_of_mul-lt-mul_right}
 use Rattle.std.proofs.lemmas.Grind.{div_ceil_times}
+use Rattle.std.proofs.Common.{if◌then◌else◌, max}
 use Rattle.std.specs.Int.{div_ceil}
+use Rattle.ufs_spec.specs.Disk.{Bad}
+use Rattle.ufs_spec.specs.Translation.{Plan, is_bad, is_plan_of_bad, least_room, may_go_bad, wanted_room}
 use Rattle.ufs_spec.specs.Translation.{count_blocks, first_of, flies_erase, is_stale, lowest_vacant, next_erase}
-use Rattle.ufs_spec.specs.Translation.{next_flight, next_in, own_room, own_room_now, spots_of}
+use Rattle.ufs_spec.specs.Translation.{next_flight, next_in, own_room, left_by_groups, spots_of}
 use Rattle.power_loss.specs.OwnRoom.{IsOwnRoom, IsWaitingStep, OpensBlock}
 use Rattle.power_loss.proofs.collected_blocks.FewestLivePages.{in_any}
 use Rattle.power_loss.proofs.jobs_owed.ProgramsAndErases.{erase_told, next_owed, or_told, program_owed}
@@ -41,6 +44,35 @@ own_room_is n bad some =
       is = refl;
     }
 
+-- how much groups leave
+
+more_wanted : (dies least bad : ℕ) → least + bad + 2 ≤ max (2 * dies + 4) (least + 2) + bad
+more_wanted dies least bad = grind arith
+
+left_or : (t : Translation) (b : Bool) → is_plan_of_bad t.disk.blocks t.work.plan ≡ b →
+    left_by_groups t ≡ (if b then wanted_room t.numbers (count_blocks t is_bad)
+    else own_room t.numbers (count_blocks t is_bad))
+left_or t b is = ap (λ (c : Bool). if c then wanted_room t.numbers (count_blocks t is_bad)
+    else own_room t.numbers (count_blocks t is_bad)) is
+
+pub least_left : (t : Translation) → own_room t.numbers (count_blocks t is_bad) ≤ left_by_groups t
+least_left t = by (is_plan_of_bad t.disk.blocks t.work.plan) refl
+  where
+    by : (b : Bool) → is_plan_of_bad t.disk.blocks t.work.plan ≡ b →
+        own_room t.numbers (count_blocks t is_bad) ≤ left_by_groups t
+    by true is =
+        let e = left_or t true is in
+        let m = more_wanted t.numbers.dies (least_room t.numbers) (may_go_bad t.numbers (count_blocks t is_bad)) in
+        omega (arith, e, m)
+    by false is = let e = left_or t false is in omega (arith, e)
+
+pub more_left : (t : Translation) (plan : Plan) → t.work.plan ≡ Some plan → t.disk.blocks plan.victim ≡ Bad →
+    own_room t.numbers (count_blocks t is_bad) + 2 ≤ left_by_groups t
+more_left t plan is bad =
+    let e = left_or t true (ap (is_plan_of_bad t.disk.blocks) is ∙ ap is_bad bad) in
+    let m = more_wanted t.numbers.dies (least_room t.numbers) (may_go_bad t.numbers (count_blocks t is_bad)) in
+    omega (arith, e, m)
+
 -- What is given for a group
 
 -- no step waits, and then room is for groups
@@ -61,9 +93,9 @@ program_later t die p cell h = ⊎_elim (λ k. absurd (apart (erase_told (lowest
     apart e = cc
 
 pub page_room : (t : Translation) (die : ℕ) (p : Place) (cell : Cell) → MayTake t die (Some (Programming p cell)) →
-    IsWaitingStep t cell ⊎ (own_room_now t ≤ count_blocks t is_free)
+    IsWaitingStep t cell ⊎ (left_by_groups t ≤ count_blocks t is_free)
 page_room t die p cell may = ⊎_elim (λ step. inl step)
-    (λ group. inr (leb-true (own_room_now t) (count_blocks t is_free)
+    (λ group. inr (leb-true (left_by_groups t) (count_blocks t is_free)
     (room_for t die (waiting_step t t.work.step) (waiting_name t) (program_later t die p cell may.1.1) group.0)))
     (program_owed t die p cell may).is
 
@@ -117,22 +149,22 @@ given_for t die (Programming p cell) may opens =
 given_for t die (Reading reader place) may opens = absurd opens
 
 pub block_room : (t : Translation) (die : ℕ) (flight : Flight) → MayTake t die (Some flight) → OpensBlock t flight →
-    ((cell : Cell) × IsWaitingStep t cell) ⊎ (own_room_now t < count_blocks t is_free)
+    ((cell : Cell) × IsWaitingStep t cell) ⊎ (left_by_groups t < count_blocks t is_free)
 block_room t die flight may opens = ⊎_elim (λ step. inl (step.0, step.1))
-    (λ group. inr (ltb-true (own_room_now t) (count_blocks t is_free) group)) (given_for t die flight may opens)
+    (λ group. inr (ltb-true (left_by_groups t) (count_blocks t is_free) group)) (given_for t die flight may opens)
 
 -- What is given below the room
 
 none_open : (t : Translation) (die : ℕ) (flight : Flight) → MayTake t die (Some flight) → OpensBlock t flight →
-    count_blocks t is_free < own_room_now t → has_open_block t ≡ false
+    count_blocks t is_free < left_by_groups t → has_open_block t ≡ false
 none_open t die flight may opens few =
     ⊎_elim (λ step. by (or_cases (has_room_for_groups t) (not (has_open_block t)) step.2))
-    (λ group. let room = ltb-true (own_room_now t) (count_blocks t is_free) group in
+    (λ group. let room = ltb-true (left_by_groups t) (count_blocks t is_free) group in
     absurd (omega (arith, room, few)))
     (given_for t die flight may opens)
   where
     by : (has_room_for_groups t ≡ true) ⊎ (not (has_open_block t) ≡ true) → has_open_block t ≡ false
-    by (inl room) = let enough = leb-true (own_room_now t) (count_blocks t is_free) room in
+    by (inl room) = let enough = leb-true (left_by_groups t) (count_blocks t is_free) room in
         absurd (omega (arith, enough, few))
     by (inr closed) = not-true (has_open_block t) closed
 
@@ -162,13 +194,13 @@ erased_open t die s there job =
     (ap flies_erase job))
 
 pub none_filled : (t : Translation) (die : ℕ) (flight : Flight) (opened : Spot) (next : ℕ) →
-    MayTake t die (Some flight) → OpensBlock t flight → count_blocks t is_free < own_room_now t →
+    MayTake t die (Some flight) → OpensBlock t flight → count_blocks t is_free < left_by_groups t →
     IsSpot t.numbers opened → t.disk.blocks opened ≡ Filling next → ⊥
 none_filled t die flight opened next may opens few inside filling =
     false≢true (sym (none_open t die flight may opens few) ∙ filled_open t opened next inside filling)
 
 pub none_erased : (t : Translation) (die other : ℕ) (flight : Flight) (opened : Spot) → MayTake t die (Some flight) →
-    OpensBlock t flight → count_blocks t is_free < own_room_now t → other < t.numbers.dies →
+    OpensBlock t flight → count_blocks t is_free < left_by_groups t → other < t.numbers.dies →
     t.disk.flights other ≡ Some (Erasing opened) → ⊥
 none_erased t die other flight opened may opens few there job =
     false≢true (sym (none_open t die flight may opens few) ∙ erased_open t other opened there job)

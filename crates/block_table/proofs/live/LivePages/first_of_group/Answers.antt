@@ -8,7 +8,7 @@ use Rattle.block_table.proofs.live.LivePages.first_of_group.Goals as goal
 
 pub returns-in_default-clause-first : goal.returns-in_default-clause-first
 returns-in_default-clause-first c =
-    let k = tells (lives_of c.self.inside) c.args.self.now c.args.blocks.now c.self.inside.counts.items
+    let k = tells (lives_of c.self.inside) c.args.self.now c.args.blocks.now c.args.scarce c.self.inside.counts.items
     c.self.inside.unpinned_with c.args.count c.args.group c.marks-marks.result c.self.view_is c.requires.count_there
     c.self.invariant.whole c.self.invariant.counted c.self.invariant.by_count c.marks-marks.ensures in
     none_to_end k
@@ -26,19 +26,20 @@ returns-in_default-clause-bound c =
 
 pub returns-in-Some-lowest_bit-clause-first : goal.returns-in-Some-lowest_bit-clause-first
 returns-in-Some-lowest_bit-clause-first c =
-    let k = tells (lives_of c.self.inside) c.args.self.now c.args.blocks.now c.self.inside.counts.items
+    let k = tells (lives_of c.self.inside) c.args.self.now c.args.blocks.now c.args.scarce c.self.inside.counts.items
     c.self.inside.unpinned_with c.args.count c.args.group c.marks-marks.result c.self.view_is c.requires.count_there
     c.self.invariant.whole c.self.invariant.counted c.self.invariant.by_count c.marks-marks.ensures in
     let next = next_mark c.marks-marks.result c.from_bit.result c.loop-from.from c.in-Some.mark c.from_bit.ensures
     c.in-Some.ensures.some c.in-Some.ensures.within in
-    word_first (is_victim_at c.args.self.now c.args.blocks.now c.args.count) (c.args.group * 64 + c.in-Some.mark)
+    word_first (is_victim_at c.args.self.now c.args.blocks.now c.args.scarce c.args.count)
+    (c.args.group * 64 + c.in-Some.mark)
     c.victims.result c.in-Some-lowest_bit.bit c.victims.ensures c.in-Some-lowest_bit.ensures.some
     c.in-Some-lowest_bit.ensures.within
     (λ p l. none_to_mark k next c.in-Some.ensures.within c.loop-from.invariant.none p (omega (arith, l)))
 
 pub returns-in-Some-lowest_bit-clause-bound : goal.returns-in-Some-lowest_bit-clause-bound
 returns-in-Some-lowest_bit-clause-bound c =
-    let k = tells (lives_of c.self.inside) c.args.self.now c.args.blocks.now c.self.inside.counts.items
+    let k = tells (lives_of c.self.inside) c.args.self.now c.args.blocks.now c.args.scarce c.self.inside.counts.items
     c.self.inside.unpinned_with c.args.count c.args.group c.marks-marks.result c.self.view_is c.requires.count_there
     c.self.invariant.whole c.self.invariant.counted c.self.invariant.by_count c.marks-marks.ensures in
     let next = next_mark c.marks-marks.result c.from_bit.result c.loop-from.from c.in-Some.mark c.from_bit.ensures
@@ -55,14 +56,14 @@ returns-in-Some-lowest_bit-clause-bound c =
 
 pub loop-from-preserved : goal.loop-from-preserved
 loop-from-preserved c =
-    let k = tells (lives_of c.self.inside) c.args.self.now c.args.blocks.now c.self.inside.counts.items
+    let k = tells (lives_of c.self.inside) c.args.self.now c.args.blocks.now c.args.scarce c.self.inside.counts.items
     c.self.inside.unpinned_with c.args.count c.args.group c.marks-marks.result c.self.view_is c.requires.count_there
     c.self.invariant.whole c.self.invariant.counted c.self.invariant.by_count c.marks-marks.ensures in
     let next = next_mark c.marks-marks.result c.from_bit.result c.loop-from.from c.in-Some.mark c.from_bit.ensures
     c.in-Some.ensures.some c.in-Some.ensures.within in
     record {
       low = omega (arith, c.in-Some.ensures.within);
-      none = λ p l. word_passed (is_victim_at c.args.self.now c.args.blocks.now c.args.count)
+      none = λ p l. word_passed (is_victim_at c.args.self.now c.args.blocks.now c.args.scarce c.args.count)
           (c.args.group * 64 + c.in-Some.mark) c.victims.result c.victims.ensures
           (c.lowest_bit-in-loop-from.ensures.none c.in_default-lowest_bit.is)
           (λ q m. none_to_mark k next c.in-Some.ensures.within c.loop-from.invariant.none q (omega (arith, m))) p

@@ -8,7 +8,7 @@ decreases-loop-from l = 64 - l.from
 abbrev pub invariant-loop-from : goal.invariant-loop-from
 invariant-loop-from l = record {
   low : l.from ≤ 64;
-  none : (p : ℕ) → p < 64 * (64 * l.group + l.from) → is_victim_at l.self l.blocks l.count p ≡ false;
+  none : (p : ℕ) → p < 64 * (64 * l.group + l.from) → is_victim_at l.self l.blocks l.scarce l.count p ≡ false;
   few : l.probes.count + words_to l.self l.count (64 * l.group)
       ≤ l.initial.probes.count + words_to l.self l.count (64 * l.group + l.from);
 }

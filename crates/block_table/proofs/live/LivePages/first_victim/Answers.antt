@@ -24,7 +24,7 @@ loop-group-preserved c = record {
 
 pub returns-clause-first : goal.returns-clause-first
 returns-clause-first c =
-    no_victim_left c.args.self.now c.args.blocks.now c.args.count (64 * c.loop-group.group)
+    no_victim_left c.args.self.now c.args.blocks.now c.args.scarce c.args.count (64 * c.loop-group.group)
     (omega (arith, c.loop-group-test.false, c.groups-group-end.ensures.all)) c.loop-group.invariant.none
 
 pub returns-clause-bound : goal.returns-clause-bound

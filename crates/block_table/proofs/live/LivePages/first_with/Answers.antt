@@ -9,8 +9,9 @@ use Rattle.block_table.proofs.live.LivePages.first_with.Goals as goal
 
 pub returns-then-is_empty-clause-first : goal.returns-then-is_empty-clause-first
 returns-then-is_empty-clause-first c =
-    subst (λ (l : Lives). (p : ℕ) → is_victim_at l c.args.blocks.now c.args.count p ≡ false) c.self.view_is
-    (λ p. empty_none (lives_of c.self.inside) c.args.blocks.now c.self.inside.counts.items
+    subst (λ (l : Lives). (p : ℕ) → is_victim_at l c.args.blocks.now c.args.scarce c.args.count p ≡ false)
+    c.self.view_is
+    (λ p. empty_none (lives_of c.self.inside) c.args.blocks.now c.args.scarce c.self.inside.counts.items
     c.self.inside.unpinned_with c.args.count
     (subst (λ (l : Lives). c.args.count ≤ l.sizes.pages) (sym c.self.view_is) c.requires)
     c.self.invariant.whole c.self.invariant.counted c.self.invariant.by_count p

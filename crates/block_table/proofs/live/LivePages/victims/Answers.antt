@@ -1,4 +1,4 @@
-use Rattle.std.proofs.Common.{subst, sym, ◌≤◌}
+use Rattle.std.proofs.Common.{Bool, not, ◌&&◌, ◌∙◌, ap, subst, sym, ◌≤◌}
 use Rattle.std.specs.Prelude.{bit_and, bit_or}
 use Rattle.block_table.specs.Buckets.{IsWord}
 use Rattle.block_table.specs.LiveRooms.{lives_of}
@@ -9,10 +9,12 @@ use Rattle.block_table.proofs.live.LivePages.victims.Goals as goal
 
 pub returns : goal.returns
 returns c =
-    subst (λ (l : Lives). IsWord (is_victim_at l c.args.blocks.now c.args.count) c.args.number
-    (bit_and c.word.result (bit_or c.only_if.result c.only_if-2.result))) c.self.view_is
-    (victim_bits (lives_of c.self.inside) c.args.blocks.now c.self.inside.counts.items c.self.inside.unpinned_with
-    c.args.count c.args.number c.word-closed.result c.word-bad.result c.only_if.result c.only_if-2.result
+    subst (λ (l : Lives). IsWord (is_victim_at l c.args.blocks.now c.args.scarce c.args.count) c.args.number
+    (bit_and c.word.result (bit_or c.only_if-frees.result c.only_if-saves.result))) c.self.view_is
+    (victim_bits (lives_of c.self.inside) c.args.blocks.now c.args.scarce c.self.inside.counts.items
+    c.self.inside.unpinned_with
+    c.args.count c.args.number c.word-closed.result c.word-bad.result c.only_if-frees.result c.only_if-saves.result
     c.word.result (subst (λ (l : Lives). c.args.count ≤ l.sizes.pages) (sym c.self.view_is) c.requires.count_there)
     c.self.invariant.whole c.self.invariant.counted c.self.invariant.by_count c.word-closed.ensures c.word-bad.ensures
-    c.only_if.ensures c.only_if-2.ensures c.word.ensures)
+    (λ j. c.only_if-frees.ensures j ∙ ap (λ (b : Bool). c.args.scarce && b) (c.only_if.ensures j))
+    (λ j. c.only_if-saves.ensures j ∙ ap (λ (b : Bool). not c.args.scarce && b) (c.only_if-2.ensures j)) c.word.ensures)
