@@ -104,12 +104,16 @@ pub bad_alike : (n : Numbers) (was now : Spot → BlockState) → ((s : Spot) �
     bad_count n now ≡ bad_count n was
 bad_alike n was now same = λ i. count_by (λ s. same s i) (spots n)
 
--- so it is where one block changes that was good, and is good
+-- they are where one block changes that was good, and is good
+pub bad_stays : (blocks : Spot → BlockState) (s : Spot) (x : BlockState) → blocks s ≢ Bad → x ≢ Bad → (a : Spot) →
+    is_bad (at_spot blocks s x a) ≡ is_bad (blocks a)
+bad_stays blocks s x was now a = ⊎_elim
+    (λ k. ap is_bad k.1 ∙ is_not_bad x now ∙ sym (ap (λ z. is_bad (blocks z)) k.0 ∙ is_not_bad (blocks s) was))
+    (λ k. ap is_bad k.1) (at_spot_cases blocks s x a)
+
 pub good_alike : (n : Numbers) (blocks : Spot → BlockState) (s : Spot) (x : BlockState) → blocks s ≢ Bad → x ≢ Bad →
     bad_count n (at_spot blocks s x) ≡ bad_count n blocks
-good_alike n blocks s x was now = bad_alike n blocks (at_spot blocks s x)
-    (λ a. ⊎_elim (λ k. ap is_bad k.1 ∙ is_not_bad x now
-    ∙ sym (ap (λ z. is_bad (blocks z)) k.0 ∙ is_not_bad (blocks s) was)) (λ k. ap is_bad k.1) (at_spot_cases blocks s x a))
+good_alike n blocks s x was now = bad_alike n blocks (at_spot blocks s x) (bad_stays blocks s x was now)
 
 weighs_bad : (x y : BlockState) → (x ≡ Bad → y ≡ Bad) → cond (is_bad x) 1 0 ≤ cond (is_bad y) 1 0
 weighs_bad Bad y h = let e = ap {B = ℕ} (λ (z : BlockState). cond (is_bad z) 1 0) (h refl) in omega (arith, e)

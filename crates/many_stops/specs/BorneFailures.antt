@@ -1,15 +1,14 @@
--- Which failures of programs and erases, and which collections of bad blocks, the laws of room bear.
-use Rattle.std.specs.Prelude.{◌≡◌, ℕ, ◌+◌, ◌-◌, ◌<◌, ◌≤◌, true, List, [], ◌∷◌, Some}
+-- Which failures of programs and erases the laws of room bear.
+use Rattle.std.specs.Prelude.{◌≡◌, ℕ, ◌<◌, true, List, [], ◌∷◌, Some}
 use Rattle.ufs_spec.specs.Cells.{Cells}
 use Rattle.ufs_spec.specs.Lives.{Leads, Lived}
 use Rattle.ufs_spec.specs.Moves.{EndJob, Move, WentWrong, moved}
-use Rattle.ufs_spec.specs.Refusals.{State, numbers_of}
+use Rattle.ufs_spec.specs.Refusals.{State}
 use Rattle.ufs_spec.specs.Translation.{Translation, count_blocks, is_bad, is_mended}
 use Rattle.ufs_spec.specs.declared.events.Event.{Event}
 use Rattle.ufs_spec.specs.declared.events.Event.TheVariants as event
 use Rattle.ufs_spec.specs.declared.events.Output.{Output}
 use Rattle.many_stops.specs.FreeOverStops.{FailsStale}
-use Rattle.many_stops.specs.RoomOfGroups.{opened_for_bad}
 
 -- the failure of the die's job is borne: no more blocks are bad after it than are spare, the device is mended, and the
 -- job is not the erase of a block with pages that may go beside another such block
@@ -24,12 +23,10 @@ abbrev pub MoveIsBorne : Translation → Move → Type 0
 MoveIsBorne t (EndJob die (WentWrong left)) = IsBorne t die
 MoveIsBorne t move = Unit {0}
 
--- each failure is borne, and collections of bad blocks open no more than so many blocks
-abbrev pub AreBorneMoves : ℕ → Translation → List Move → Type 0
-AreBorneMoves aside t [] = Unit {0}
-AreBorneMoves aside t (move ∷ moves) =
-    MoveIsBorne t move
-    × ((left : ℕ) × (left + opened_for_bad t (moved t move) ≤ aside) × AreBorneMoves left (moved t move) moves)
+-- each failure is borne
+abbrev pub AreBorneMoves : Translation → List Move → Type 0
+AreBorneMoves t [] = Unit {0}
+AreBorneMoves t (move ∷ moves) = MoveIsBorne t move × AreBorneMoves (moved t move) moves
 
 -- Events
 
@@ -38,13 +35,10 @@ EventIsBorne s (event.Fail die (Some leftover)) = IsBorne s.translation die
 EventIsBorne s happening = Unit {0}
 
 -- the same of the events of a life
-abbrev pub AreBorne : ℕ → State → List Event → List Output → Type 0
-AreBorne aside s (e ∷ es) (o ∷ os) =
-    EventIsBorne s e
-    × ((t : State) → Leads s e o t →
-    (left : ℕ) × (left + opened_for_bad s.translation t.translation ≤ aside) × AreBorne left t es os)
-AreBorne aside s es os = Unit {0}
+abbrev pub AreBorne : State → List Event → List Output → Type 0
+AreBorne s (e ∷ es) (o ∷ os) = EventIsBorne s e × ((t : State) → Leads s e o t → AreBorne t es os)
+AreBorne s es os = Unit {0}
 
--- in this life each failure is borne, and collections of bad blocks open fewer blocks than there are dies
+-- in this life each failure is borne
 abbrev pub IsBorneLife : Lived → Type 0
-IsBorneLife l = AreBorne ((numbers_of l.start).dies - 1) l.start l.events l.outputs
+IsBorneLife l = AreBorne l.start l.events l.outputs

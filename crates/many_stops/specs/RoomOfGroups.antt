@@ -9,7 +9,7 @@ use Rattle.ufs_spec.specs.Kept.{fence_in}
 use Rattle.ufs_spec.specs.Ledger.{before_accepted}
 use Rattle.ufs_spec.specs.Moves.{Move, is_kind_of}
 use Rattle.ufs_spec.specs.Translation.{CopyStep, Plan, Step, StepKind, Translation, count_blocks, is_bad, is_free}
-use Rattle.ufs_spec.specs.Translation.{is_mended, may_go_bad, name_of, spots, spots_of}
+use Rattle.ufs_spec.specs.Translation.{is_mended, is_plan_of_bad, may_go_bad, name_of, spots, spots_of}
 use Rattle.ufs_spec.specs.declared.configs.Numbers.{Numbers}
 use Rattle.ufs_spec.specs.declared.flash.Place.{Place}
 use Rattle.ufs_spec.specs.declared.flash.Tag.{Tag}
@@ -118,31 +118,47 @@ bad_count n blocks = count_by (λ s. is_bad (blocks s)) (spots n)
 abbrev pub mending_blocks : Numbers → ℕ
 mending_blocks n = div_ceil n.slots n.pages + 1
 
--- so many blocks are room for two mendings, for one block that is open, for each block that may still go bad, and for
--- those that are set aside for collections of bad blocks
-abbrev pub kept_room : ℕ → Numbers → (Spot → BlockState) → ℕ
-kept_room aside n blocks = 2 * mending_blocks n + 1 + may_go_bad n (bad_count n blocks) + aside
+-- so many blocks are room for two mendings, for one block that is open, and for each block that may still go bad
+abbrev pub kept_room : Numbers → (Spot → BlockState) → ℕ
+kept_room n blocks = 2 * mending_blocks n + 1 + may_go_bad n (bad_count n blocks)
 
 -- one block less is free, and what the plan under way still programs fits into blocks that are being filled already: so
 -- it ends without a block more, and frees one
-pub record IsOneShort (aside : ℕ) (n : Numbers) (blocks : Spot → BlockState) (flights : Flights) (step : Option Step)
+pub record IsOneShort (n : Numbers) (blocks : Spot → BlockState) (flights : Flights) (step : Option Step)
     (plan : Option Plan) : Type 0 where
-  pub short : kept_room aside n blocks ≤ free_count n blocks + 1
+  pub short : kept_room n blocks ≤ free_count n blocks + 1
   pub under_way : Plan
   pub is : plan ≡ Some under_way
   pub good : blocks under_way.victim ≢ Bad
   pub fits : pages_of_plan plan step ≤ room_on_dies n blocks step flights
 
--- the plan is of a block of the dies, and if that is not bad it programs no more pages than fill a block
+-- so many blocks are free, and what the plan of a bad block still programs fits into those that are free beyond them
+-- and those that are being filled. So two blocks more are free than are kept, for the pages of a bad block and a mark
+-- may fill two; or one more, and what is left fits into it and the blocks that are being filled; or none more, and it
+-- fits into these
+pub record HasRoomForBad (n : Numbers) (blocks : Spot → BlockState) (flights : Flights) (step : Option Step)
+    (plan : Option Plan) : Type 0 where
+  pub kept : kept_room n blocks ≤ free_count n blocks
+  pub fits : pages_of_plan plan step ≤
+      room_on_dies n blocks step flights + n.pages * (free_count n blocks - kept_room n blocks)
+
+-- so many blocks are free, or one less is and a plan under way needs none. While a bad block is collected there is room
+-- for what its plan still programs, too
+pub record HasOwnRoom (n : Numbers) (blocks : Spot → BlockState) (flights : Flights) (step : Option Step)
+    (plan : Option Plan) : Type 0 where
+  pub any : (kept_room n blocks ≤ free_count n blocks) ⊎ IsOneShort n blocks flights step plan
+  pub bad : is_plan_of_bad blocks plan ≡ true → HasRoomForBad n blocks flights step plan
+
+-- the plan is of a block of the dies. It programs no more pages than fill two, and if its block is not bad no more than
+-- fill one
 pub record PlanGains (n : Numbers) (blocks : Spot → BlockState) (step : Option Step) (plan : Plan) : Type 0 where
   pub inside : IsSpot n plan.victim
+  pub most : pages_of_plan (Some plan) step ≤ 2 * n.pages
   pub less : blocks plan.victim ≢ Bad → pages_of_plan (Some plan) step ≤ n.pages
 
-pub record LeavesRoom (aside : ℕ) (n : Numbers) (before : ℕ) (standing : Standing) (cells : Cells)
+pub record LeavesRoom (n : Numbers) (before : ℕ) (standing : Standing) (cells : Cells)
     (blocks : Spot → BlockState) (flights : Flights) (mended : Bool) (step : Option Step) (plan : Option Plan) : Type 0
   where
-    -- fewer blocks are set aside than there are dies
-    pub few : aside < n.dies
     -- no two dies program pages of one name
     pub one_die : (d e : ℕ) (p q : Place) (a b : Tag) (x y : List ℕ) → flights d ≡ Some (Programming p (GroupPage a x)) →
         flights e ≡ Some (Programming q (GroupPage b y)) → name_of a ≡ name_of b → d ≡ e
@@ -153,33 +169,19 @@ pub record LeavesRoom (aside : ℕ) (n : Numbers) (before : ℕ) (standing : Sta
     -- once the device is mended each step is one of a plan
     pub planned : mended ≡ true → (s : Step) → step ≡ Some s → (pl : Plan) × (plan ≡ Some pl)
     pub gains : (pl : Plan) → plan ≡ Some pl → PlanGains n blocks step pl
-    -- once a page of the host was handed out, so many blocks are free, or one less is and a plan under way needs none
-    pub room : IsHandedOut before standing cells flights →
-        (kept_room aside n blocks ≤ free_count n blocks) ⊎ IsOneShort aside n blocks flights step plan
+    -- there is room once a page of the host was handed out
+    pub room : IsHandedOut before standing cells flights → HasOwnRoom n blocks flights step plan
 
--- what holds of a life that may still open so many blocks for collections of bad blocks: groups leave the device's own
--- pages their room
-abbrev pub LeavesOwnRoom : ℕ → Translation → Type 0
-LeavesOwnRoom aside t = LeavesRoom aside t.numbers (before_accepted t.ledger) t.ledger.standing t.disk.cells
-    t.disk.blocks t.disk.flights (is_mended t.work.mending) t.work.step t.work.plan
+-- groups leave the device's own pages their room
+abbrev pub LeavesOwnRoom : Translation → Type 0
+LeavesOwnRoom t = LeavesRoom t.numbers (before_accepted t.ledger) t.ledger.standing t.disk.cells t.disk.blocks
+    t.disk.flights (is_mended t.work.mending) t.work.step t.work.plan
 
 -- Failures
 
 -- if a program or an erase fails by the move, fewer blocks are bad before it than are spare
 abbrev pub IsWithinSpare : Translation → Move → Type 0
 IsWithinSpare t move = fails_job move ≡ true → count_blocks t is_bad < t.numbers.spare
-
--- Collections of bad blocks
-
--- the plan is of a bad block: it programs pages, and frees none
-abbrev pub is_plan_of_bad : (Spot → BlockState) → Option Plan → Bool
-is_plan_of_bad blocks None = false
-is_plan_of_bad blocks (Some plan) = is_bad (blocks plan.victim)
-
--- how many free blocks such a collection opened from the one moment to the other
-abbrev pub opened_for_bad : Translation → Translation → ℕ
-opened_for_bad t u =
-    if is_plan_of_bad t.disk.blocks t.work.plan then count_blocks t is_free - count_blocks u is_free else 0
 
 -- Nothing to mend
 

@@ -1,5 +1,5 @@
 //! The laws of room over stops: each opening finds room for its mending, so no device is ever locked out.
-ghost use Rattle.std.specs.Prelude.{◌≡◌, ◌+◌, ◌-◌, ◌*◌, ◌≤◌, ◌∷◌, ℕ, All, Bool, false, List, count_by};
+ghost use Rattle.std.specs.Prelude.{◌≡◌, ◌+◌, ◌*◌, ◌≤◌, ◌∷◌, ℕ, All, Bool, false, List, count_by};
 ghost use Rattle.ufs_spec.specs.Cells.{AreWithin, Array, Cells, Nothing};
 ghost use Rattle.ufs_spec.specs.Configs.{IsConfig};
 ghost use Rattle.ufs_spec.specs.Dies.{DieState};
@@ -7,7 +7,7 @@ ghost use Rattle.ufs_spec.specs.Disk.{CellCrash, Spot};
 ghost use Rattle.ufs_spec.specs.Lives.{IsOpened, Life, Lived, Lives, Runs, Stops, array_of, bad_in, bad_of};
 ghost use Rattle.ufs_spec.specs.Moves.{Move};
 ghost use Rattle.ufs_spec.specs.Openings.{IsOpenedTranslation};
-ghost use Rattle.ufs_spec.specs.Refusals.{State, mended, numbers_of};
+ghost use Rattle.ufs_spec.specs.Refusals.{State, mended};
 ghost use Rattle.ufs_spec.specs.Sound.{CellsSound, Sound};
 ghost use Rattle.ufs_spec.specs.Translation.{Translation, is_bad, least_room, spots};
 ghost use Rattle.ufs_spec.specs.declared.configs.Numbers.{Numbers};
@@ -32,9 +32,8 @@ ghost use Rattle.many_stops.specs.RoomOverStops.{FindsRoom, OpensWithRoom, more_
 /// mending may need: those are free at the next opening, once the first mark is finished.
 ///
 /// Programs and erases may fail meanwhile, up to the spare blocks, where the device is mended
-/// (`IsBorne`). What stays open is a stop of a mending in which one failed; an erase of a block with
-/// pages that may go that fails beside another such block; and a life that opens as many blocks as
-/// there are dies to collect bad ones.
+/// (`IsBorne`). What stays open is a stop of a mending in which one failed; and an erase of a block
+/// with pages that may go that fails beside another such block.
 pub fn each_opening_finds_room()
     ensures blocks { (n : Numbers) → IsConfig n →
         (n.slots + 2 ≤ n.pages * mending_blocks n) × (least_room n ≡ n.dies + 2 * mending_blocks n) }
@@ -45,7 +44,7 @@ pub fn each_opening_finds_room()
         (moves : List Move) → IsConfig n → CellsRight c → AreWithin n c →
         CellsSound c t.ledger.newest → HasFewLost n c t.ledger.newest →
         IsOpenedTranslation n c bad t → FindsRoom t →
-        AreAllowedMoves t moves → AreBorneMoves (n.dies - 1) t moves →
+        AreAllowedMoves t moves → AreBorneMoves t moves →
         CellCrash (moved_by t moves).disk.cells (moved_by t moves).disk.flights left →
         IsOpenedTranslation n left (λ s. is_bad ((moved_by t moves).disk.blocks s)) next →
         FindsRoom next }
@@ -65,7 +64,7 @@ pub fn no_life_is_locked_out()
         (es : List Event) (os : List Output) (lefts : List Leftover) (left : Array) →
         IsConfig n → IsArrayOf n array → Sound array → ArrayHasFewLost n array →
         IsOpened n array bad s → FindsRoom s.translation → Life s es os t →
-        AreBorne ((numbers_of s).dies - 1) s es os → Stops t lefts left →
+        AreBorne s es os → Stops t lefts left →
         IsOpened n left (bad_in t) next → FindsRoom next.translation }
     ensures lives { (n : Numbers) (array : Array) (bad : Spot → Bool) (first : Lived)
         (later : List Lived) (es : List Event) (os : List Output) → IsConfig n →

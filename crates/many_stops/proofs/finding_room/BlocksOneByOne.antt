@@ -1,6 +1,7 @@
 -- While a device mends, one block after another is filled: so the pages that are left lie in free blocks, but for less
 -- than a block of them, unless as many blocks are free as groups leave, or one less.
-use Rattle.std.proofs.Common.{◌≡◌, ◌⊎◌, ℕ, suc, ◌+◌, ◌*◌, ◌<◌, ◌≤◌, Bool, false, Option, Some, None, inl, inr, ⊎_elim}
+use Rattle.std.proofs.Common.{◌≡◌, ◌⊎◌, ℕ, suc, ◌+◌, ◌*◌, ◌<◌, ◌≤◌, Bool, false, Option, Some, None}
+use Rattle.std.proofs.Common.{inl, inr, ⊎_elim}
 use Rattle.std.proofs.Common.{refl, sym, ap, ◌∙◌, subst, arith}
 use Rattle.std.proofs.Math.Nat.{mul-le-mul_left}
 use Rattle.ufs_laws.proofs.walk.LayerEffects.{IsDue, order_due, turned_if}
@@ -14,8 +15,8 @@ use Rattle.ufs_spec.specs.Moves.{WentWrong, end_flight, mark_written, moved, ste
 use Rattle.ufs_spec.specs.Openings.{IsOpenedTranslation}
 use Rattle.ufs_spec.specs.Cells.{Cells}
 use Rattle.ufs_spec.specs.Translation.{MayTake, Order, OrderCopy, OrderMark, OrderPlanMark, OrderRepair, Plan, Step}
-use Rattle.ufs_spec.specs.Translation.{Translation, is_mended, mark_ordered, name_of, ordered, own_room, own_room_now}
-use Rattle.ufs_spec.specs.Translation.{repair_ordered, spots, taken, turned}
+use Rattle.ufs_spec.specs.Translation.{Translation, is_mended, is_plan_of_bad, left_by_groups, mark_ordered, name_of}
+use Rattle.ufs_spec.specs.Translation.{ordered, own_room, repair_ordered, spots, taken, turned}
 use Rattle.ufs_spec.specs.declared.configs.Numbers.{Numbers}
 use Rattle.ufs_spec.specs.declared.flash.Place.{Place}
 use Rattle.ufs_spec.specs.declared.layer.Reader.TheVariants.{ForNobody, ForRest, ForStep, ForTask}
@@ -30,7 +31,7 @@ use Rattle.power_loss.specs.MendingRoom.{MendsAlone, fails_job, page_of_step}
 use Rattle.power_loss.proofs.jobs.JobsBegin.{same_blocks}
 use Rattle.many_stops.proofs.CountedBlocks.{good_alike, none_fewer, one_fewer}
 use Rattle.many_stops.proofs.finding_room.RoomForAMending.{free_room_alone, opened_room, program_fills}
-use Rattle.many_stops.proofs.room_left.RoomStays.{bad_is_not_free, not_bad_after}
+use Rattle.many_stops.proofs.room_left.RoomStays.{bad_is_not_free, left_is, not_bad_after}
 use Rattle.many_stops.specs.RoomOfGroups.{bad_count, free_count}
 
 -- as many blocks are free as groups leave, or one less; or all pages that are left, but for less than a block, and for
@@ -107,27 +108,35 @@ module _ {t : Translation} (v : Valid t) (un : is_mended t.work.mending ≡ fals
       (⊎_elim (λ k. k.1) (λ k. absurd (k.0 refl)) (at_die_cases t.disk.flights die (Some (Programming p cell)) die)) in
       ap page_of_step r.1
 
+  -- no plan is there, and so groups leave what the device's own pages need
+  own_left : left_by_groups t ≡ own_room t.numbers (bad_count t.numbers t.disk.blocks)
+  own_left = left_is t (none_planned t.work.plan refl)
+    where
+      none_planned : (plan : Option Plan) → t.work.plan ≡ plan → is_plan_of_bad t.disk.blocks plan ≡ false
+      none_planned None is = refl
+      none_planned (Some pl) is = absurd (true≢false (sym (ap is_mended (v.plan.mended pl is)) ∙ un))
+
   opens : (die : ℕ) (p : Place) (cell : Cell) → MayTake t die (Some (Programming p cell)) → OpensReady t p →
       FilledIn t.numbers (at_spot t.disk.blocks (spot_of p) (Filling 0)) t.work.step
   opens die p cell may o =
       let less = one_fewer t.numbers t.disk.blocks (spot_of p) (Filling 0) in
       let left = opened_room t.numbers t.disk.blocks (spot_of p) o.free in
       ⊎_elim
-      (λ (room : own_room_now t ≤ free_count t.numbers t.disk.blocks).
-      inl (enough_left (own_room_now t)
+      (λ (room : left_by_groups t ≤ free_count t.numbers t.disk.blocks).
+      inl (enough_left (left_by_groups t)
       (own_room t.numbers (bad_count t.numbers (at_spot t.disk.blocks (spot_of p) (Filling 0))))
       (free_count t.numbers t.disk.blocks)
       (free_count t.numbers (at_spot t.disk.blocks (spot_of p) (Filling 0)))
       (ap (own_room t.numbers) (good_alike t.numbers t.disk.blocks (spot_of p) (Filling 0)
-      (λ bad. bad_is_not_free bad o.free) (filling_is_not_bad refl))) room less))
-      (λ (few : free_count t.numbers t.disk.blocks < own_room_now t).
+      (λ bad. bad_is_not_free bad o.free) (filling_is_not_bad refl)) ∙ sym own_left) room less))
+      (λ (few : free_count t.numbers t.disk.blocks < left_by_groups t).
       inr (one_opened t.numbers.pages (free_count t.numbers t.disk.blocks)
       (free_count t.numbers (at_spot t.disk.blocks (spot_of p) (Filling 0))) (room_in t.numbers t.disk.blocks)
       (room_in t.numbers (at_spot t.disk.blocks (spot_of p) (Filling 0))) (page_of_step t.work.step)
       (free_room_alone t.numbers t.disk.blocks
       (λ s next i is. none_filled t die (Programming p cell) s next may o.free few (spots_in i) is)) left less
       (times t.numbers.pages less) (step_there_is die p cell may)))
-      (at_most (own_room_now t) (free_count t.numbers t.disk.blocks))
+      (at_most (left_by_groups t) (free_count t.numbers t.disk.blocks))
 
   program_taken : (die : ℕ) (p : Place) (cell : Cell) → MayTake t die (Some (Programming p cell)) →
       FilledIn t.numbers (at_spot t.disk.blocks (spot_of p) (Filling p.page)) t.work.step

@@ -51,7 +51,7 @@ use Rattle.power_loss.specs.MendingRoom.{MayGoOn, makes_bad}
 use Rattle.power_loss.specs.Runs.{AreNewDies}
 use Rattle.many_stops.proofs.finding_room.RoomForAMending.{blocks_hold, least_room_twice}
 use Rattle.many_stops.proofs.finding_room.LivesWithFailures.{life_holds, moves_hold}
-use Rattle.many_stops.proofs.finding_room.MendingLives.{LivesFrom, lives_begin, lives_less, lives_on, stop_leaves}
+use Rattle.many_stops.proofs.finding_room.MendingLives.{LivesFrom, lives_begin, lives_on, stop_leaves}
 use Rattle.many_stops.proofs.finding_room.StopsOfAMending.{opened_bad, were_unfilled}
 use Rattle.power_loss.proofs.jobs_owed.ProgramsAndErases.{free_is}
 use Rattle.many_stops.specs.BorneFailures.{AreBorne, AreBorneMoves, IsBorneLife}
@@ -169,19 +169,16 @@ new_find_room n c bad t config blank few o =
     (λ e. (let k = o.disk.blocks.oldest_first s e in absurd (k.2 (blank k.0))))
     (o.disk.blocks.were_good s good)) (opened_bad bad t.disk.blocks o.disk.blocks))
 
-one_less : {dies : ℕ} → 1 ≤ dies → dies - 1 < dies
-one_less l = omega (arith, l)
-
 -- A life of the layer
 
 pub layer_finds_room : (n : Numbers) (c left : Cells) (bad : Spot → Bool) (t next : Translation) (moves : List Move) →
     IsConfig n → CellsRight c → AreWithin n c → CellsSound c t.ledger.newest → HasFewLost n c t.ledger.newest →
-    IsOpenedTranslation n c bad t → FindsRoom t → AreAllowedMoves t moves → AreBorneMoves (n.dies - 1) t moves →
+    IsOpenedTranslation n c bad t → FindsRoom t → AreAllowedMoves t moves → AreBorneMoves t moves →
     CellCrash (moved_by t moves).disk.cells (moved_by t moves).disk.flights left →
     IsOpenedTranslation n left (λ s. is_bad ((moved_by t moves).disk.blocks s)) next → FindsRoom next
 layer_finds_room n c left bad t next moves config right within sound few o room may borne crash start =
     stop_leaves bad t (moved_by t moves) left next opens
-    (subst (λ k. 1 ≤ k.dies) (sym numbers) (has_die n config)) (all_few t moves v first.few may).valid last.0 last.1 crash
+    (subst (λ k. 1 ≤ k.dies) (sym numbers) (has_die n config)) (all_few t moves v first.few may).valid last crash
     (subst (λ k. IsOpenedTranslation k left (λ s. is_bad ((moved_by t moves).disk.blocks s)) next) (sym numbers) start)
   where
     pages : 2 ≤ n.pages
@@ -193,16 +190,14 @@ layer_finds_room n c left bad t next moves config right within sound few o room 
     v : Valid t
     v = opening_valid n c bad t (omega (arith, pages)) right within sound o
 
-    first : LivesFrom t (n.dies - 1) t
+    first : LivesFrom t t
     first = lives_begin bad t opens v
         (subst (λ k. 2 ≤ k.pages) (sym o.numbers) pages)
         (subst (λ k. HasFewLost k t.disk.cells t.ledger.newest) (sym o.numbers)
-        (subst (λ z. HasFewLost n z t.ledger.newest) (sym o.disk.cells) few)) (n.dies - 1)
-        (subst (λ k. n.dies - 1 < k.dies) (sym o.numbers) (one_less (has_die n config))) room
+        (subst (λ z. HasFewLost n z t.ledger.newest) (sym o.disk.cells) few)) room
 
-    last : (aside : ℕ) × LivesFrom t aside (moved_by t moves)
-    last = moves_hold (LivesFrom t) (lives_on t (were_unfilled t bad opens)) (lives_less t) t moves (n.dies - 1) v may
-        borne first
+    last : LivesFrom t (moved_by t moves)
+    last = moves_hold (LivesFrom t) (lives_on t (were_unfilled t bad opens)) t moves v may borne first
 
     numbers : (moved_by t moves).numbers ≡ n
     numbers = (all_few t moves v first.few may).numbers ∙ o.numbers
@@ -218,22 +213,18 @@ module _ (n : Numbers) (array : Array) (bad : Spot → Bool) (s : State) (config
   opens : Opened bad s.translation
   opens = is_opened n array bad s config blank sound o
 
-  dies_here : (numbers_of s).dies - 1 < s.translation.numbers.dies
-  dies_here = one_less (subst (λ k. 1 ≤ k.dies) (sym o.translation.numbers) (has_die n config))
-
-  begun : LivesFrom s.translation ((numbers_of s).dies - 1) s.translation
+  begun : LivesFrom s.translation s.translation
   begun = lives_begin bad s.translation opens (valid_is n array bad s config blank sound o)
       (subst (λ k. 2 ≤ k.pages) (sym o.translation.numbers) (has_pages n config))
       (subst (λ k. HasFewLost k s.translation.disk.cells s.translation.ledger.newest) (sym o.translation.numbers)
       (few s.translation.disk.cells s.translation.ledger.newest (cells_shown n array bad s config blank sound o)
-      opens.start.ledger.newest)) ((numbers_of s).dies - 1) dies_here room
+      opens.start.ledger.newest)) room
 
-  lives_at : (t : State) (es : List Event) (os : List Output) → Life s es os t →
-      AreBorne ((numbers_of s).dies - 1) s es os → (aside : ℕ) × LivesFrom s.translation aside t.translation
+  lives_at : (t : State) (es : List Event) (os : List Output) → Life s es os t → AreBorne s es os →
+      LivesFrom s.translation t.translation
   lives_at t es os life borne =
       life_holds (LivesFrom s.translation)
-      (lives_on s.translation (were_unfilled s.translation bad opens)) (lives_less s.translation) t es os
-      ((numbers_of s).dies - 1) valid life borne begun
+      (lives_on s.translation (were_unfilled s.translation bad opens)) t es os valid life borne begun
 
   numbers_at : (t : State) (es : List Event) (os : List Output) → Life s es os t → numbers_of t ≡ n
   numbers_at t es os life =
@@ -243,14 +234,13 @@ module _ (n : Numbers) (array : Array) (bad : Spot → Bool) (s : State) (config
 
   -- what a stop leaves of it is opened with room
   pub next_finds_room : (t next : State) (es : List Event) (os : List Output) (lefts : List Leftover) (left : Array) →
-      Life s es os t → AreBorne ((numbers_of s).dies - 1) s es os → Stops t lefts left →
+      Life s es os t → AreBorne s es os → Stops t lefts left →
       IsOpened n left (bad_in t) next → FindsRoom next.translation
   next_finds_room t next es os lefts left life borne stops p =
       let w = many_events s t es os valid life in
-      let last = lives_at t es os life borne in
       stop_leaves bad s.translation t.translation p.cells next.translation opens
       (subst (λ k. 1 ≤ k.dies) (sym (numbers_at t es os life)) (has_die n config)) w.tied.valid
-      last.0 last.1
+      (lives_at t es os life borne)
       (cell_crash t.array t.translation.disk.cells t.translation.disk.flights left w.tied.shown w.tied.flights
       stops.crash p.cells p.shown)
       (subst (λ k. IsOpenedTranslation k p.cells (bad_in t) next.translation) (sym (numbers_at t es os life))

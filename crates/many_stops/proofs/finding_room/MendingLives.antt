@@ -1,6 +1,6 @@
 -- What holds of a life from its opening on, if that found room, and whose failures are borne: until the device is mended
 -- nothing fails, the mending has room, and fills one block after another.
-use Rattle.std.proofs.Common.{◌≡◌, ◌≢◌, ℕ, ◌+◌, ◌-◌, ◌*◌, ◌<◌, ◌≤◌, Bool, true, false, if◌then◌else◌, length, Option}
+use Rattle.std.proofs.Common.{◌≡◌, ◌≢◌, ℕ, ◌+◌, ◌-◌, ◌*◌, ◌≤◌, Bool, true, false, length, Option}
 use Rattle.std.proofs.Common.{Some, None}
 use Rattle.std.proofs.Common.{inl, inr, ⊎_elim, refl, sym, ap, ◌∙◌, subst, arith}
 use Rattle.ufs_spec.proofs.Facts.{cases_Bool, true≢false}
@@ -15,6 +15,7 @@ use Rattle.ufs_spec.specs.Translation.{Mended, Mending, Plan, Repairing, Transla
 use Rattle.ufs_spec.specs.Translation.{is_free, is_mended, may_go_bad}
 use Rattle.ufs_spec.specs.declared.flash.Place.{Place}
 use Rattle.power_loss.proofs.books.LayerParts.{MendingOf, StopLeaves}
+use Rattle.power_loss.proofs.jobs.StandsSecurely.{filling_is_not_bad}
 use Rattle.power_loss.proofs.mending_steps.TurnsOfALife.{false_before}
 use Rattle.power_loss.proofs.moves.MovesKeepCellsFitting.{move_stays}
 use Rattle.power_loss.proofs.moves.MovesKeepValid.{all_keep}
@@ -38,18 +39,18 @@ use Rattle.many_stops.proofs.finding_room.MovesSinceTheOpening.{opening_since}
 use Rattle.many_stops.proofs.finding_room.StopsOfAMending.{HasNewMark, HasNoNewMark, new_mark}
 use Rattle.many_stops.proofs.finding_room.StopsOfAMending.{opened_bad, were_unfilled}
 use Rattle.many_stops.proofs.finding_room.StopsOfAMending.{repairing_leaves, unmarked_leaves}
-use Rattle.many_stops.proofs.finding_room.LivesWithFailures.{IsKeptByLess, IsKeptByMoves}
-use Rattle.many_stops.proofs.CountedBlocks.{bad_alike, is_not_bad}
+use Rattle.many_stops.proofs.finding_room.LivesWithFailures.{IsKeptByMoves}
+use Rattle.many_stops.proofs.CountedBlocks.{bad_alike, bad_stays}
 use Rattle.many_stops.proofs.free_at_stops.MovesKeepFree.{move_keeps, opening_keeps}
 use Rattle.many_stops.proofs.free_at_stops.MovesKeepFree.{stop_costs_none}
 use Rattle.many_stops.proofs.room_left.HandedPages.{handed_or_not}
 use Rattle.many_stops.proofs.room_left.IdleLives.{idle_stop}
 use Rattle.many_stops.proofs.room_left.MovesLeaveRoom.{move_leaves, opening_leaves}
-use Rattle.many_stops.proofs.room_left.RoomStays.{fewer_aside, not_bad_after}
+use Rattle.many_stops.proofs.room_left.RoomStays.{not_bad_after}
 use Rattle.many_stops.specs.BorneFailures.{MoveIsBorne}
 use Rattle.many_stops.specs.FreeOverStops.{FailsStale, KeepsFree}
-use Rattle.many_stops.specs.RoomOfGroups.{HasHandedOut, IsWithinSpare, LeavesOwnRoom, bad_count, free_count}
-use Rattle.many_stops.specs.RoomOfGroups.{is_plan_of_bad, kept_room, mending_blocks, opened_for_bad}
+use Rattle.many_stops.specs.RoomOfGroups.{HasHandedOut, IsWithinSpare, LeavesOwnRoom, bad_count, free_count, kept_room}
+use Rattle.many_stops.specs.RoomOfGroups.{mending_blocks}
 use Rattle.many_stops.specs.RoomOverStops.{FindsRoom, HasSpareBlocks}
 
 -- so many free blocks of an opening its mending leaves
@@ -62,9 +63,9 @@ pub record MendsFrom (o t : Translation) : Type 0 where
   pub since : SinceOpening o t
   pub filled : Filled t
 
-pub record LivesFrom (o : Translation) (aside : ℕ) (t : Translation) : Type 0 where
+pub record LivesFrom (o t : Translation) : Type 0 where
   pub free : KeepsFree t
-  pub leaves : LeavesOwnRoom aside t
+  pub leaves : LeavesOwnRoom t
   pub few : HasFewRepairs t
   pub mends : is_mended t.work.mending ≡ false → MendsFrom o t
 
@@ -83,18 +84,10 @@ ends_well : (t : Translation) (move : Move) → MoveIsBorne t move → is_mended
 ends_well t (EndJob die (WentWrong left)) b un = absurd (true≢false (sym b.mended ∙ un))
 ends_well t move b un = refl
 
-pub lives_less : (o : Translation) → IsKeptByLess (LivesFrom o)
-lives_less o aside left t less l = record {
-  free = l.free;
-  leaves = fewer_aside left less l.leaves;
-  few = l.few;
-  mends = l.mends;
-}
-
 pub lives_on : (o : Translation) → WereUnfilled o → IsKeptByMoves (LivesFrom o)
-lives_on o unfilled aside left t move v may b spent l = record {
+lives_on o unfilled t move v may b l = record {
   free = move_keeps t move v may (fails_none t move b) l.free;
-  leaves = move_leaves t move aside left v may (within_spare t move b) spent l.leaves;
+  leaves = move_leaves t move v may (within_spare t move b) l.leaves;
   few = move_few move v l.few;
   mends = λ now.
       let un = false_before (is_mended t.work.mending) (move_stays t move).mended now in
@@ -150,10 +143,10 @@ module _ (bad : Spot → Bool) (o : Translation) (opens : Opened bad o)
     filled = opening_filled o.numbers o.disk.cells bad o opens.pages opens.start;
   }
 
-  pub lives_begin : (aside : ℕ) → aside < o.numbers.dies → FindsRoom o → LivesFrom o aside o
-  lives_begin aside dies room = record {
+  pub lives_begin : FindsRoom o → LivesFrom o o
+  lives_begin room = record {
     free = opening_keeps o.numbers o.disk.cells bad o opens.start;
-    leaves = opening_leaves o.numbers o.disk.cells bad o aside dies opens.start;
+    leaves = opening_leaves o.numbers o.disk.cells bad o opens.start;
     few = begins opens v few;
     mends = first_mends room;
   }
@@ -173,17 +166,16 @@ free_spares next many = record {
 module _ (t : Translation) (left : Cells) (next : Translation) (v : Valid t)
     (crash : StopLeaves t left) (start : IsOpenedTranslation t.numbers left (λ s. is_bad (t.disk.blocks s)) next) where
   -- a mended life leaves nothing to mend, or the room that groups leave
-  mended_leaves : (aside : ℕ) → KeepsFree t → LeavesOwnRoom aside t → HasFewRepairs t →
-      is_mended t.work.mending ≡ true → FindsRoom next
-  mended_leaves aside free leaves few mended = ⊎_elim
+  mended_leaves : KeepsFree t → LeavesOwnRoom t → HasFewRepairs t → is_mended t.work.mending ≡ true → FindsRoom next
+  mended_leaves free leaves few mended = ⊎_elim
       (λ handed. inr (free_spares next
       (subst (λ n. 2 * mending_blocks n + may_go_bad n (bad_count n next.disk.blocks) ≤ free_count n next.disk.blocks)
       (sym start.numbers) (enough (own handed) (stop_costs_none t left next v free crash start)))))
       (λ idle. inl (idle_stop t next left (λ s. is_bad (t.disk.blocks s)) v few mended idle crash start).mended)
       (handed_or_not t v)
     where
-      own : HasHandedOut t → kept_room aside t.numbers t.disk.blocks ≤ count_blocks t is_free + 1
-      own handed = ⊎_elim (λ l. omega (arith, l)) (λ o. o.short) (leaves.room handed)
+      own : HasHandedOut t → kept_room t.numbers t.disk.blocks ≤ count_blocks t is_free + 1
+      own handed = ⊎_elim (λ l. omega (arith, l)) (λ o. o.short) (leaves.room handed).any
 
       kept : count_blocks next is_free ≡ free_count t.numbers next.disk.blocks
       kept = ap (λ n. free_count n next.disk.blocks) start.numbers
@@ -193,7 +185,7 @@ module _ (t : Translation) (left : Cells) (next : Translation) (v : Valid t)
       more = ap (may_go_bad t.numbers) (bad_alike t.numbers t.disk.blocks next.disk.blocks
           (opened_bad (λ s. is_bad (t.disk.blocks s)) next.disk.blocks start.disk.blocks))
 
-      enough : kept_room aside t.numbers t.disk.blocks ≤ count_blocks t is_free + 1 →
+      enough : kept_room t.numbers t.disk.blocks ≤ count_blocks t is_free + 1 →
           count_blocks t is_free ≤ count_blocks next is_free →
           2 * mending_blocks t.numbers + may_go_bad t.numbers (bad_count t.numbers next.disk.blocks)
           ≤ free_count t.numbers next.disk.blocks
@@ -201,7 +193,7 @@ module _ (t : Translation) (left : Cells) (next : Translation) (v : Valid t)
 
 -- and so does a life that is not mended, where no mark is left that was in flight
 module _ (bad : Spot → Bool) (o t : Translation) (left : Cells) (next : Translation) (opens : Opened bad o)
-    (dies : 1 ≤ t.numbers.dies) (v : Valid t) (aside : ℕ) (l : LivesFrom o aside t)
+    (dies : 1 ≤ t.numbers.dies) (v : Valid t) (l : LivesFrom o t)
     (crash : StopLeaves t left) (start : IsOpenedTranslation t.numbers left (λ s. is_bad (t.disk.blocks s)) next)
     (none : HasNoNewMark t left) where
   has_room : MendsFrom o t → HasRoom (free_count t.numbers o.disk.blocks - mending_blocks t.numbers) t
@@ -221,7 +213,7 @@ module _ (bad : Spot → Bool) (o t : Translation) (left : Cells) (next : Transl
   unmended_leaves un Mended is w = absurd (true≢false (ap is_mended (sym is) ∙ un))
 
   settled_leaves : FindsRoom next
-  settled_leaves = ⊎_elim (λ mended. mended_leaves t left next v crash start aside l.free l.leaves l.few mended)
+  settled_leaves = ⊎_elim (λ mended. mended_leaves t left next v crash start l.free l.leaves l.few mended)
       (λ un. inr (unmended_leaves un t.work.mending refl v.mending)) (cases_Bool (is_mended t.work.mending))
 
 -- A mark that is left as it was meant
@@ -267,10 +259,8 @@ marked_bad {t} v die p m e s = sym (by t.work.plan)
   where
     filled : (a : Spot) →
         is_bad (at_spot t.disk.blocks (spot_of p) (state_after t.numbers.pages p.page) a) ≡ is_bad (t.disk.blocks a)
-    filled a = ⊎_elim
-        (λ k. ap is_bad k.1 ∙ is_not_bad (state_after t.numbers.pages p.page) (not_bad_after t.numbers.pages p.page)
-        ∙ sym (ap is_bad (ap t.disk.blocks k.0 ∙ (v.flights.programs die p (MarkPage m) e).next)))
-        (λ k. ap is_bad k.1) (at_spot_cases t.disk.blocks (spot_of p) (state_after t.numbers.pages p.page) a)
+    filled = bad_stays t.disk.blocks (spot_of p) (state_after t.numbers.pages p.page)
+        (filling_is_not_bad (v.flights.programs die p (MarkPage m) e).next) (not_bad_after t.numbers.pages p.page)
 
     freed_bad : (x : BlockState) → is_bad (freed_state x) ≡ is_bad x
     freed_bad Bad = refl
@@ -290,12 +280,11 @@ marked_bad {t} v die p m e s = sym (by t.work.plan)
 -- A stop of a life that found room leaves room
 
 module _ (bad : Spot → Bool) (o t : Translation) (left : Cells) (next : Translation) (opens : Opened bad o)
-    (dies : 1 ≤ t.numbers.dies) (v : Valid t) (aside : ℕ) (l : LivesFrom o aside t)
-    (crash : StopLeaves t left)
+    (dies : 1 ≤ t.numbers.dies) (v : Valid t) (l : LivesFrom o t) (crash : StopLeaves t left)
     (start : IsOpenedTranslation t.numbers left (λ s. is_bad (t.disk.blocks s)) next) where
   marked_leaves : is_mended t.work.mending ≡ false → HasNewMark t left → FindsRoom next
   marked_leaves un x = settled_leaves bad o (mark_written t x.place x.mark) left next opens dies
-      (at_end Valid (all_keep t (EndJob x.die WentWell) v may)) aside behind left_behind
+      (at_end Valid (all_keep t (EndJob x.die WentWell) v may)) behind left_behind
       (subst (λ b. IsOpenedTranslation t.numbers left b next) (λ i s. same s i) start) none_new
     where
       may : IsAllowedMove t (EndJob x.die WentWell)
@@ -304,20 +293,8 @@ module _ (bad : Spot → Bool) (o t : Translation) (left : Cells) (next : Transl
       at_end : (P : Translation → Type 0) → P (moved t (EndJob x.die WentWell)) → P (mark_written t x.place x.mark)
       at_end P h = subst (λ f. P (end_flight t x.die f WentWell)) x.flies h
 
-      -- before the device is mended no plan is there
-      none_planned : (pl : Option Plan) → t.work.plan ≡ pl → is_plan_of_bad t.disk.blocks pl ≡ false
-      none_planned None is = refl
-      none_planned (Some pl) is = absurd (true≢false (sym (ap is_mended (v.plan.mended pl is)) ∙ un))
-
-      none_spent : aside + opened_for_bad t (moved t (EndJob x.die WentWell)) ≤ aside
-      none_spent =
-          let none = ap (λ (b : Bool). if b then count_blocks t is_free
-          - count_blocks (moved t (EndJob x.die WentWell)) is_free else 0) (none_planned t.work.plan refl) in
-          omega (arith, none)
-
-      behind : LivesFrom o aside (mark_written t x.place x.mark)
-      behind = at_end (LivesFrom o aside) (lives_on o (were_unfilled o bad opens) aside aside t (EndJob x.die WentWell) v
-          may tt none_spent l)
+      behind : LivesFrom o (mark_written t x.place x.mark)
+      behind = at_end (LivesFrom o) (lives_on o (were_unfilled o bad opens) t (EndJob x.die WentWell) v may tt l)
 
       left_behind : StopLeaves (mark_written t x.place x.mark) left
       left_behind = mark_crash t left x.die x.place x.mark v crash x.flies x.there
@@ -333,7 +310,7 @@ module _ (bad : Spot → Bool) (o t : Translation) (left : Cells) (next : Transl
           (mark_from (mark_written t x.place x.mark).disk left p left_behind h)
 
   pub stop_leaves : FindsRoom next
-  stop_leaves = ⊎_elim (λ mended. mended_leaves t left next v crash start aside l.free l.leaves l.few mended)
+  stop_leaves = ⊎_elim (λ mended. mended_leaves t left next v crash start l.free l.leaves l.few mended)
       (λ un. ⊎_elim (λ x. marked_leaves un x)
-      (λ none. settled_leaves bad o t left next opens dies v aside l crash start none)
+      (λ none. settled_leaves bad o t left next opens dies v l crash start none)
       (new_mark t left v crash next.ledger.newest start.ledger.newest)) (cases_Bool (is_mended t.work.mending))

@@ -1,24 +1,25 @@
 -- A mark that was programmed leaves the room: that of a plan frees its block.
 use Rattle.std.proofs.Common.{◌≡◌, ◌≢◌, ◌⊎◌, ℕ, ◌+◌, ◌≤◌, Option, Some, None, refl}
 use Rattle.std.proofs.Common.{sym, ap, ◌∙◌, inl, inr, ⊎_elim, arith}
-use Rattle.ufs_spec.proofs.Facts.{none-some, same_Some}
+use Rattle.ufs_spec.proofs.Facts.{false≢true, none-some}
 use Rattle.ufs_spec.proofs.Updates.{at_place_cases, at_spot_cases}
 use Rattle.ufs_spec.specs.Cells.{Cells, GroupPage, Mark, MarkPage}
 use Rattle.ufs_spec.specs.Disk.{BlockState, Bad, Closed, Filling, Free, Programming, Spot, at_die, at_place, at_spot}
 use Rattle.ufs_spec.specs.Disk.{programmed, spot_of, state_after}
 use Rattle.ufs_spec.specs.Ledger.{before_accepted}
 use Rattle.ufs_spec.specs.Moves.{freed, freed_state, mark_written, mending_after}
-use Rattle.ufs_spec.specs.Translation.{count_blocks, Plan, Translation, is_bad, is_free, is_mended}
+use Rattle.ufs_spec.specs.Translation.{count_blocks, Plan, Translation, is_bad, is_free, is_mended, is_plan_of_bad}
 use Rattle.ufs_spec.specs.declared.flash.Place.{Place}
 use Rattle.power_loss.specs.Invariant.{Valid}
 use Rattle.power_loss.proofs.jobs.StandsSecurely.{closed_is_not_free, filling_is_not_bad, free_is_not_filling}
 use Rattle.power_loss.proofs.room_to_mend.AloneKept.{ended_fewer}
-use Rattle.many_stops.specs.RoomOfGroups.{HasHandedOut, IsHandedOut, LeavesOwnRoom, LeavesRoom, free_count, kept_room}
-use Rattle.many_stops.proofs.CountedBlocks.{bad_alike, is_not_bad, no_fewer, one_more, others_free}
-use Rattle.many_stops.proofs.room_left.RoomStays.{RoomOf, bad_is_not_free, closed_is_not_bad, flies_fewer, handed_mended}
+use Rattle.many_stops.specs.RoomOfGroups.{HasHandedOut, IsHandedOut, IsOneShort, LeavesOwnRoom, LeavesRoom, free_count}
+use Rattle.many_stops.specs.RoomOfGroups.{kept_room}
+use Rattle.many_stops.proofs.CountedBlocks.{bad_alike, bad_stays, no_fewer, one_more, others_free}
+use Rattle.many_stops.proofs.room_left.RoomStays.{bad_is_not_free, closed_is_not_bad, flies_fewer, handed_mended}
 use Rattle.many_stops.proofs.room_left.RoomStays.{kept_alike, mark_is_no_page, not_bad_after, shows_from, still_good}
 
-module _ {aside : ℕ} {t : Translation} (v : Valid t) (r : LeavesOwnRoom aside t) where
+module _ {t : Translation} (v : Valid t) (r : LeavesOwnRoom t) where
   -- A mark is programmed
 
   module _ (die : ℕ) (p : Place) (m : Mark) (job : t.disk.flights die ≡ Some (Programming p (MarkPage m))) where
@@ -32,10 +33,8 @@ module _ {aside : ℕ} {t : Translation} (v : Valid t) (r : LeavesOwnRoom aside 
     put = at_place t.disk.cells p (MarkPage m)
 
     marked_bad : (s : Spot) → is_bad (marked s) ≡ is_bad (t.disk.blocks s)
-    marked_bad s = ⊎_elim
-        (λ k. ap is_bad k.1 ∙ is_not_bad (state_after t.numbers.pages p.page) (not_bad_after t.numbers.pages p.page)
-        ∙ sym (ap (λ z. is_bad (t.disk.blocks z)) k.0 ∙ is_not_bad (t.disk.blocks (spot_of p)) (filling_is_not_bad mark_is)))
-        (λ k. ap is_bad k.1) (at_spot_cases t.disk.blocks (spot_of p) (state_after t.numbers.pages p.page) s)
+    marked_bad = bad_stays t.disk.blocks (spot_of p) (state_after t.numbers.pages p.page) (filling_is_not_bad mark_is)
+        (not_bad_after t.numbers.pages p.page)
 
     -- the plan that is under way is of a bad block
     abbrev IsOfBad : Type 0
@@ -54,7 +53,7 @@ module _ {aside : ℕ} {t : Translation} (v : Valid t) (r : LeavesOwnRoom aside 
         (at_place_cases t.disk.cells p (MarkPage m) q)) c)
 
     abbrev LeftBy : (Spot → BlockState) → Type 0
-    LeftBy blocks = LeavesRoom aside t.numbers (before_accepted t.ledger) t.ledger.standing put blocks
+    LeftBy blocks = LeavesRoom t.numbers (before_accepted t.ledger) t.ledger.standing put blocks
         (at_die t.disk.flights p.die None) (is_mended (mending_after t.work.mending)) None None
 
     -- a block more is free, or the plan was of a bad block and as many are
@@ -62,7 +61,6 @@ module _ {aside : ℕ} {t : Translation} (v : Valid t) (r : LeavesOwnRoom aside 
         (HasHandedOut t → (1 + count_blocks t is_free ≤ free_count t.numbers blocks)
         ⊎ ((count_blocks t is_free ≤ free_count t.numbers blocks) × IsOfBad)) → LeftBy blocks
     mark_leaves_with blocks bad free = record {
-      few = r.few;
       one_die = λ d e q z a b x y h k s. r.one_die d e q z a b x y
           (ended_fewer t.disk.flights p.die d q (GroupPage a x) h)
           (ended_fewer t.disk.flights p.die e z (GroupPage b y) k) s;
@@ -71,33 +69,37 @@ module _ {aside : ℕ} {t : Translation} (v : Valid t) (r : LeavesOwnRoom aside 
       gains = λ pl e. absurd (none-some pl e);
       room = λ h.
           let handed = mark_handed h in
-          inl (⊎_elim (λ more. with_more more (r.room handed)) (λ k. of_bad k.0 k.1 (r.room handed)) (free handed));
+          record {
+            any = inl (⊎_elim (λ more. with_more more (r.room handed).any) (λ k. of_bad k.0 k.1 handed) (free handed));
+            bad = λ is. absurd (false≢true is);
+          };
     }
       where
-        alike : kept_room aside t.numbers blocks ≡ kept_room aside t.numbers t.disk.blocks
-        alike = kept_alike aside t.numbers t.disk.blocks blocks (bad_alike t.numbers t.disk.blocks blocks bad)
+        alike : kept_room t.numbers blocks ≡ kept_room t.numbers t.disk.blocks
+        alike = kept_alike t.numbers t.disk.blocks blocks (bad_alike t.numbers t.disk.blocks blocks bad)
 
         with_more : 1 + count_blocks t is_free ≤ free_count t.numbers blocks →
-            RoomOf aside t.numbers t.disk.blocks t.disk.flights t.work.step t.work.plan →
-            kept_room aside t.numbers blocks ≤ free_count t.numbers blocks
+            (kept_room t.numbers t.disk.blocks ≤ count_blocks t is_free)
+            ⊎ IsOneShort t.numbers t.disk.blocks t.disk.flights t.work.step t.work.plan →
+            kept_room t.numbers blocks ≤ free_count t.numbers blocks
         with_more more (inl l) = let k = alike in omega (arith, k, l, more)
         with_more more (inr o) = let k = alike in let l = o.short in omega (arith, k, l, more)
 
-        of_bad : count_blocks t is_free ≤ free_count t.numbers blocks → IsOfBad →
-            RoomOf aside t.numbers t.disk.blocks t.disk.flights t.work.step t.work.plan →
-            kept_room aside t.numbers blocks ≤ free_count t.numbers blocks
-        of_bad more b (inl l) = let k = alike in omega (arith, k, l, more)
-        of_bad more b (inr o) = absurd (o.good (ap (λ (z : Plan). t.disk.blocks z.victim)
-            (same_Some o.under_way b.0 (sym o.is ∙ b.1)) ∙ b.2))
+        of_bad : count_blocks t is_free ≤ free_count t.numbers blocks → IsOfBad → HasHandedOut t →
+            kept_room t.numbers blocks ≤ free_count t.numbers blocks
+        of_bad more b handed =
+            let k = alike in
+            let l = ((r.room handed).bad (ap (is_plan_of_bad t.disk.blocks) b.1 ∙ ap is_bad b.2)).kept in
+            omega (arith, k, l, more)
 
     abbrev freed_with : Option Plan → Spot → BlockState
     freed_with o = (freed (programmed t.numbers.pages t.disk p (MarkPage m)) o).blocks
 
-    pub mark_leaves : LeavesOwnRoom aside (mark_written t p m)
+    pub mark_leaves : LeavesOwnRoom (mark_written t p m)
     mark_leaves = by t.work.plan refl
       where
         with_flights : (o : Option Plan) → LeftBy (freed_with o) →
-            LeavesRoom aside t.numbers (before_accepted t.ledger) t.ledger.standing
+            LeavesRoom t.numbers (before_accepted t.ledger) t.ledger.standing
             (freed (programmed t.numbers.pages t.disk p (MarkPage m)) o).cells (freed_with o)
             (freed (programmed t.numbers.pages t.disk p (MarkPage m)) o).flights
             (is_mended (mending_after t.work.mending)) None None
@@ -151,7 +153,7 @@ module _ {aside : ℕ} {t : Translation} (v : Valid t) (r : LeavesOwnRoom aside 
             (v.plan.one pl is).state)
 
         by : (o : Option Plan) → t.work.plan ≡ o →
-            LeavesRoom aside t.numbers (before_accepted t.ledger) t.ledger.standing
+            LeavesRoom t.numbers (before_accepted t.ledger) t.ledger.standing
             (freed (programmed t.numbers.pages t.disk p (MarkPage m)) o).cells (freed_with o)
             (freed (programmed t.numbers.pages t.disk p (MarkPage m)) o).flights
             (is_mended (mending_after t.work.mending)) None None

@@ -1,6 +1,6 @@
 -- Each move leaves the device's own pages their room, also where a program or an erase fails by it while no more blocks
 -- are bad than are spare; and a life begins so.
-use Rattle.std.proofs.Common.{◌≡◌, ℕ, ◌+◌, ◌<◌, ◌≤◌, Bool, true, false, if◌then◌else◌, List, Option, Some, None, refl}
+use Rattle.std.proofs.Common.{◌≡◌, ℕ, ◌<◌, ◌≤◌, Bool, true, false, if◌then◌else◌, List, Option, Some, None, refl}
 use Rattle.std.proofs.Common.{sym, ap, ◌∙◌, subst, inl, inr, arith}
 use Rattle.ufs_spec.proofs.CellKinds.{page_not_nothing}
 use Rattle.ufs_spec.proofs.Facts.{none-some}
@@ -8,8 +8,8 @@ use Rattle.ufs_spec.specs.Cells.{Cell, Cells, GroupPage, MarkPage, Nothing}
 use Rattle.ufs_spec.specs.Disk.{Erasing, Flight, Programming}
 use Rattle.ufs_spec.specs.Disk.{Reading, Spot, at_die, same_spot, spot_of}
 use Rattle.ufs_spec.specs.Ledger.{before_accepted}
-use Rattle.ufs_spec.specs.Moves.{Accept, Acknowledge, Claim, EndJob, Ending, GiveJob, IsAllowedMove, Keep, LetGo}
-use Rattle.ufs_spec.specs.Moves.{LetGoAll, MayEnd, Move, ReadRight, ReadWrong, Release, TakeStep, WantPage, WentWell}
+use Rattle.ufs_spec.specs.Moves.{EndJob, Ending, GiveJob, IsAllowedMove, LetGo, LetGoAll, MayEnd, Move, ReadRight}
+use Rattle.ufs_spec.specs.Moves.{ReadWrong, TakeStep, WentWell}
 use Rattle.ufs_spec.specs.Moves.{WentWrong, die_idle, end_flight, is_for, is_for_task, moved, read_right, read_wrong}
 use Rattle.ufs_spec.specs.Openings.{IsOpenedTranslation, StandsAt}
 use Rattle.ufs_spec.specs.Translation.{MayTake, Translation, count_blocks, is_bad, taken}
@@ -21,18 +21,18 @@ use Rattle.ufs_spec.specs.declared.layer.Reader.TheVariants.{ForNobody, ForRest,
 use Rattle.power_loss.specs.Invariant.{Valid}
 use Rattle.power_loss.proofs.jobs.JobsBegin.{erase_is_no_program}
 use Rattle.power_loss.proofs.room_to_mend.AloneKept.{begun_fewer, ended_fewer, gone_fewer, read_is_no_program}
-use Rattle.many_stops.specs.RoomOfGroups.{HasHandedOut, IsWithinSpare, LeavesOwnRoom, opened_for_bad}
-use Rattle.many_stops.proofs.room_left.RoomStays.{fewer_aside, fewer_leaves, gone_leaves, there_leaves}
+use Rattle.many_stops.specs.RoomOfGroups.{HasHandedOut, IsWithinSpare, LeavesOwnRoom}
+use Rattle.many_stops.proofs.room_left.RoomStays.{fewer_leaves, gone_leaves, there_leaves}
 use Rattle.many_stops.proofs.room_left.FailuresLeaveRoom.{erase_fails, mark_fails, page_fails}
 use Rattle.many_stops.proofs.room_left.MarkEnds.{mark_leaves}
 use Rattle.many_stops.proofs.room_left.PageEnds.{page_leaves}
 use Rattle.many_stops.proofs.room_left.ProgramBegins.{program_leaves}
 use Rattle.many_stops.proofs.room_left.TurnsLeaveRoom.{turns}
 
-module _ {aside : ℕ} {t : Translation} (v : Valid t) (r : LeavesOwnRoom aside t) where
+module _ {t : Translation} (v : Valid t) (r : LeavesOwnRoom t) where
   -- The end of any job
 
-  read_ends : (die : ℕ) (reader : Reader) → LeavesOwnRoom aside (read_right (die_idle t die) reader)
+  read_ends : (die : ℕ) (reader : Reader) → LeavesOwnRoom (read_right (die_idle t die) reader)
   read_ends die ForNobody =
       fewer_leaves (at_die t.disk.flights die None) (ended_fewer t.disk.flights die) r
   read_ends die (ForTask tag index) =
@@ -42,14 +42,14 @@ module _ {aside : ℕ} {t : Translation} (v : Valid t) (r : LeavesOwnRoom aside 
   read_ends die (ForRest number index) =
       fewer_leaves (at_die t.disk.flights die None) (ended_fewer t.disk.flights die) r
 
-  wrong_ends : (die : ℕ) (reader : Reader) → LeavesOwnRoom aside (read_wrong (die_idle t die) reader)
+  wrong_ends : (die : ℕ) (reader : Reader) → LeavesOwnRoom (read_wrong (die_idle t die) reader)
   wrong_ends die (ForTask tag index) =
       fewer_leaves (at_die t.disk.flights die None) (ended_fewer t.disk.flights die) r
   wrong_ends die reader = fewer_leaves (at_die t.disk.flights die None) (ended_fewer t.disk.flights die) r
 
   fails : (die : ℕ) (flight : Option Flight) (left : Cells) → t.disk.flights die ≡ flight →
       MayEnd t.disk die flight (WentWrong left) → count_blocks t is_bad < t.numbers.spare →
-      LeavesOwnRoom aside (end_flight t die flight (WentWrong left))
+      LeavesOwnRoom (end_flight t die flight (WentWrong left))
   fails die (Some (Programming p Nothing)) left e may few = absurd (v.flights.something die p e)
   fails die (Some (Programming p (GroupPage tag body))) left e may few = page_fails v r few die p tag body left e may.1
   fails die (Some (Programming p (MarkPage m))) left e may few = mark_fails v r few die p m left e may.1
@@ -59,7 +59,7 @@ module _ {aside : ℕ} {t : Translation} (v : Valid t) (r : LeavesOwnRoom aside 
 
   ends : (die : ℕ) (flight : Option Flight) (ending : Ending) → t.disk.flights die ≡ flight →
       MayEnd t.disk die flight ending → IsWithinSpare t (EndJob die ending) →
-      LeavesOwnRoom aside (end_flight t die flight ending)
+      LeavesOwnRoom (end_flight t die flight ending)
   ends die flight (WentWrong left) e may few = fails die flight left e may (few refl)
   ends die (Some (Reading reader place)) ReadRight e may few = read_ends die reader
   ends die (Some (Reading reader place)) ReadWrong e may few = wrong_ends die reader
@@ -77,42 +77,31 @@ module _ {aside : ℕ} {t : Translation} (v : Valid t) (r : LeavesOwnRoom aside 
       was false h = h
   ends die flight ending e may few = r
 
-  takes : (die : ℕ) (flight : Flight) (left : ℕ) → MayTake t die (Some flight) →
-      left + opened_for_bad t (taken t die flight) ≤ aside → LeavesOwnRoom left (taken t die flight)
-  takes die (Reading reader place) left may spent = fewer_aside left (omega (arith, spent))
-      (fewer_leaves (at_die t.disk.flights die (Some (Reading reader place)))
-      (begun_fewer t.disk.flights die (Some (Reading reader place)) (λ p cell h. read_is_no_program h)) r)
-  takes die (Erasing s) left may spent = fewer_aside left (omega (arith, spent))
-      (fewer_leaves (at_die t.disk.flights die (Some (Erasing s)))
-      (begun_fewer t.disk.flights die (Some (Erasing s)) (λ p cell h. erase_is_no_program h)) r)
-  takes die (Programming p cell) left may spent = program_leaves v r die p cell may left spent
+  takes : (die : ℕ) (flight : Flight) → MayTake t die (Some flight) → LeavesOwnRoom (taken t die flight)
+  takes die (Reading reader place) may =
+      fewer_leaves (at_die t.disk.flights die (Some (Reading reader place)))
+      (begun_fewer t.disk.flights die (Some (Reading reader place)) (λ p cell h. read_is_no_program h)) r
+  takes die (Erasing s) may =
+      fewer_leaves (at_die t.disk.flights die (Some (Erasing s)))
+      (begun_fewer t.disk.flights die (Some (Erasing s)) (λ p cell h. erase_is_no_program h)) r
+  takes die (Programming p cell) may = program_leaves v r die p cell may
 
 -- Each move
 
-pub move_leaves : (t : Translation) (move : Move) (aside left : ℕ) → Valid t → IsAllowedMove t move →
-    IsWithinSpare t move → left + opened_for_bad t (moved t move) ≤ aside → LeavesOwnRoom aside t →
-    LeavesOwnRoom left (moved t move)
-move_leaves t (Claim count) aside left v may few spent r = fewer_aside left (omega (arith, spent)) r
-move_leaves t (Release count) aside left v may few spent r = fewer_aside left (omega (arith, spent)) r
-move_leaves t (Accept claimed g) aside left v may few spent r = fewer_aside left (omega (arith, spent)) r
-move_leaves t (Acknowledge count) aside left v may few spent r = fewer_aside left (omega (arith, spent)) r
-move_leaves t (Keep key pin) aside left v may few spent r = fewer_aside left (omega (arith, spent)) r
-move_leaves t (WantPage tag index) aside left v may few spent r = fewer_aside left (omega (arith, spent)) r
-move_leaves t (LetGo tag index) aside left v may few spent r = fewer_aside left (omega (arith, spent))
-    (fewer_leaves _ (gone_fewer t.disk.flights (is_for tag index)) r)
-move_leaves t (LetGoAll tag) aside left v may few spent r = fewer_aside left (omega (arith, spent))
-    (fewer_leaves _ (gone_fewer t.disk.flights (is_for_task tag)) r)
-move_leaves t (GiveJob die flight) aside left v may few spent r = takes v r die flight left may spent
-move_leaves t (EndJob die ending) aside left v may few spent r = fewer_aside left (omega (arith, spent))
-    (ends v r die (t.disk.flights die) ending refl may few)
-move_leaves t TakeStep aside left v may few spent r = fewer_aside left (omega (arith, spent)) (turns v r)
+pub move_leaves : (t : Translation) (move : Move) → Valid t → IsAllowedMove t move → IsWithinSpare t move →
+    LeavesOwnRoom t → LeavesOwnRoom (moved t move)
+move_leaves t (LetGo tag index) v may few r = fewer_leaves _ (gone_fewer t.disk.flights (is_for tag index)) r
+move_leaves t (LetGoAll tag) v may few r = fewer_leaves _ (gone_fewer t.disk.flights (is_for_task tag)) r
+move_leaves t (GiveJob die flight) v may few r = takes v r die flight may
+move_leaves t (EndJob die ending) v may few r = ends v r die (t.disk.flights die) ending refl may few
+move_leaves t TakeStep v may few r = turns v r
+move_leaves t move v may few r = r
 
 -- A life begins
 
-pub opening_leaves : (n : Numbers) (c : Cells) (bad : Spot → Bool) (t : Translation) (aside : ℕ) → aside < n.dies →
-    IsOpenedTranslation n c bad t → LeavesOwnRoom aside t
-opening_leaves n c bad t aside few o = record {
-  few = subst (λ k. aside < k.dies) (sym o.numbers) few;
+pub opening_leaves : (n : Numbers) (c : Cells) (bad : Spot → Bool) (t : Translation) → IsOpenedTranslation n c bad t →
+    LeavesOwnRoom t
+opening_leaves n c bad t o = record {
   one_die = λ d e p q a b x y h k same. absurd (none-some _ (sym (o.disk.idle d) ∙ h));
   copied = λ name from there e. absurd (none-some _ (sym o.no_step ∙ e));
   planned = λ mended s e. absurd (none-some s (sym o.no_step ∙ e));

@@ -10,7 +10,7 @@ use Rattle.ufs_spec.specs.Disk.{state_after}
 use Rattle.ufs_spec.specs.Ledger.{at_name, before_accepted}
 use Rattle.ufs_spec.specs.Moves.{is_kind_of, page_written, step_after}
 use Rattle.ufs_spec.specs.Translation.{count_blocks, CopyStep, MarkStep, Plan, RepairStep, Step, StepKind, Translation}
-use Rattle.ufs_spec.specs.Translation.{is_free, is_mended, name_of}
+use Rattle.ufs_spec.specs.Translation.{is_bad, is_free, is_mended, name_of}
 use Rattle.ufs_spec.specs.declared.flash.Place.{Place}
 use Rattle.ufs_spec.specs.declared.flash.Tag.{Tag}
 use Rattle.ufs_spec.specs.declared.layer.Name.{Name}
@@ -18,17 +18,17 @@ use Rattle.power_loss.specs.Book.{book}
 use Rattle.power_loss.specs.Invariant.{Flights, Standing, StepKindRight, Valid}
 use Rattle.power_loss.proofs.jobs.StandsSecurely.{filling_is_not_bad, free_is_not_filling}
 use Rattle.power_loss.proofs.room_to_mend.AloneKept.{ended_fewer}
-use Rattle.many_stops.specs.RoomOfGroups.{HasHandedOut, IsHandedOut, LeavesOwnRoom, LeavesRoom, bad_count, free_count}
+use Rattle.many_stops.specs.RoomOfGroups.{HasHandedOut, IsHandedOut, LeavesOwnRoom, LeavesRoom, free_count}
 use Rattle.many_stops.specs.RoomOfGroups.{open_room}
 use Rattle.many_stops.specs.RoomOfGroups.{page_of_group, pages_of_copy, pages_of_plan, programs_name, room_on}
 use Rattle.many_stops.specs.RoomOfGroups.{room_on_dies}
-use Rattle.many_stops.proofs.CountedBlocks.{good_alike, none_fewer}
+use Rattle.many_stops.proofs.CountedBlocks.{bad_stays, none_fewer}
 use Rattle.many_stops.proofs.room_left.RoomInOpenBlocks.{die_room, other_dies, program_takes}
 use Rattle.many_stops.proofs.room_left.RoomInOpenBlocks.{rooms_less}
-use Rattle.many_stops.proofs.room_left.RoomStays.{IsNoLess, flies_fewer, handed_mended, kind_name, no_less, shows_from}
-use Rattle.many_stops.proofs.room_left.RoomStays.{not_bad_after, room_stays, still_good}
+use Rattle.many_stops.proofs.room_left.RoomStays.{IsNoLess, flies_fewer, handed_mended, kind_name, shows_from}
+use Rattle.many_stops.proofs.room_left.RoomStays.{not_bad_after, room_stays, same_pages}
 
-module _ {aside : ℕ} {t : Translation} (v : Valid t) (r : LeavesOwnRoom aside t) where
+module _ {t : Translation} (v : Valid t) (r : LeavesOwnRoom t) where
   -- A page is programmed
 
   module _ (die : ℕ) (p : Place) (tag : Tag) (body : List ℕ)
@@ -54,14 +54,10 @@ module _ {aside : ℕ} {t : Translation} (v : Valid t) (r : LeavesOwnRoom aside 
     abbrev put : Cells
     put = at_place t.disk.cells p (GroupPage tag body)
 
-    -- the block was good, and is
-    page_good : (s : Spot) → t.disk.blocks s ≢ Bad → filled_blocks s ≢ Bad
-    page_good s = still_good t.disk.blocks (spot_of p) (state_after t.numbers.pages p.page) s
+    -- as the block was good and is, the same blocks are bad
+    page_bad : (s : Spot) → is_bad (filled_blocks s) ≡ is_bad (t.disk.blocks s)
+    page_bad = bad_stays t.disk.blocks (spot_of p) (state_after t.numbers.pages p.page) (filling_is_not_bad page_is)
         (not_bad_after t.numbers.pages p.page)
-
-    page_bad : bad_count t.numbers filled_blocks ≡ bad_count t.numbers t.disk.blocks
-    page_bad = good_alike t.numbers t.disk.blocks (spot_of p) (state_after t.numbers.pages p.page)
-        (filling_is_not_bad page_is) (not_bad_after t.numbers.pages p.page)
 
     page_free : count_blocks t is_free ≤ free_count t.numbers filled_blocks
     page_free = none_fewer t.numbers t.disk.blocks (spot_of p) (state_after t.numbers.pages p.page)
@@ -105,10 +101,9 @@ module _ {aside : ℕ} {t : Translation} (v : Valid t) (r : LeavesOwnRoom aside 
         pages_of_copy now ≤ pages_of_copy t.work.step →
         (HasHandedOut t → IsNoLess t.numbers t.disk.blocks filled_blocks t.disk.flights ended_flights t.work.step now
         t.work.plan) →
-        LeavesRoom aside t.numbers (before_accepted t.ledger) stood put filled_blocks ended_flights
+        LeavesRoom t.numbers (before_accepted t.ledger) stood put filled_blocks ended_flights
         (is_mended t.work.mending) now t.work.plan
     page_leaves_with now keeps copies room = record {
-      few = r.few;
       one_die = λ d e q z a b x y h k s. r.one_die d e q z a b x y
           (ended_fewer t.disk.flights p.die d q (GroupPage a x) h)
           (ended_fewer t.disk.flights p.die e z (GroupPage b y) k) s;
@@ -118,12 +113,13 @@ module _ {aside : ℕ} {t : Translation} (v : Valid t) (r : LeavesOwnRoom aside 
           let g = r.gains pl e in
           record {
             inside = g.inside;
+            most = less (length pl.copies) _ _ _ g.most copies;
             less = λ good. less (length pl.copies) _ _ _ (g.less (was_good pl.victim good)) copies;
           };
       room = λ h.
           let handed = page_handed h in
-          room_stays aside t.numbers t.disk.blocks filled_blocks t.disk.flights ended_flights t.work.step now t.work.plan
-          page_bad page_good page_free (room handed) (r.room handed);
+          room_stays t.numbers t.disk.blocks filled_blocks t.disk.flights ended_flights t.work.step now t.work.plan
+          page_bad page_free (room handed) (r.room handed);
     }
       where
         was_good : (s : Spot) → filled_blocks s ≢ Bad → t.disk.blocks s ≢ Bad
@@ -176,12 +172,12 @@ module _ {aside : ℕ} {t : Translation} (v : Valid t) (r : LeavesOwnRoom aside 
         back a b c d l e z = omega (arith, l, e, z)
 
     group_ends : step_after (name_of tag) t.work.step ≡ t.work.step →
-        programs_name t.work.step (name_of tag) ≡ false → LeavesOwnRoom aside (page_written t p tag body)
+        programs_name t.work.step (name_of tag) ≡ false → LeavesOwnRoom (page_written t p tag body)
     group_ends same other = subst
-        (λ now. LeavesRoom aside t.numbers (before_accepted t.ledger) stood put filled_blocks ended_flights
+        (λ now. LeavesRoom t.numbers (before_accepted t.ledger) stood put filled_blocks ended_flights
         (is_mended t.work.mending) now t.work.plan) (sym same)
         (page_leaves_with t.work.step (λ s e. e) (omega arith)
-        (λ handed fits. no_less (pages_of_plan t.work.plan t.work.step) (open_room t) _ fits (groups_room other)))
+        (λ handed. same_pages _ _ _ _ (omega arith) (groups_room other)))
 
     -- the page of the step takes one of its plan
     module _ (s : Step) (is : t.work.step ≡ Some s) (of : is_kind_of (name_of tag) s.kind ≡ true) where
@@ -227,34 +223,34 @@ module _ {aside : ℕ} {t : Translation} (v : Valid t) (r : LeavesOwnRoom aside 
 
       fits_still : HasHandedOut t → IsNoLess t.numbers t.disk.blocks filled_blocks t.disk.flights ended_flights
           t.work.step None t.work.plan
-      fits_still handed fits = by t.work.plan fits
+      fits_still handed more fits = by t.work.plan fits
         where
-          by : (o : Option Plan) → pages_of_plan o t.work.step ≤ open_room t →
-              pages_of_plan o None ≤ room_on_dies t.numbers filled_blocks None ended_flights
+          by : (o : Option Plan) → pages_of_plan o t.work.step ≤ open_room t + more →
+              pages_of_plan o None ≤ room_on_dies t.numbers filled_blocks None ended_flights + more
           by None l = omega arith
           by (Some pl) l =
-              less (length pl.copies) _ _ _ l (copies_one handed s.kind refl) steps_room
+              less (length pl.copies) _ _ _ more l (copies_one handed s.kind refl) steps_room
             where
-              less : (a b c d : ℕ) → a + b + 1 ≤ c → b ≡ 1 → c ≤ 1 + d → a + 0 + 1 ≤ d
-              less a b c d l e k = omega (arith, l, e, k)
+              less : (a b c d more : ℕ) → a + b + 1 ≤ c + more → b ≡ 1 → c ≤ 1 + d → a + 0 + 1 ≤ d + more
+              less a b c d more l e k = omega (arith, l, e, k)
 
-      step_ends : step_after (name_of tag) t.work.step ≡ None → LeavesOwnRoom aside (page_written t p tag body)
+      step_ends : step_after (name_of tag) t.work.step ≡ None → LeavesOwnRoom (page_written t p tag body)
       step_ends over = subst
-          (λ now. LeavesRoom aside t.numbers (before_accepted t.ledger) stood put filled_blocks ended_flights
+          (λ now. LeavesRoom t.numbers (before_accepted t.ledger) stood put filled_blocks ended_flights
           (is_mended t.work.mending) now t.work.plan) (sym over)
           (page_leaves_with None (λ x e. absurd (none-some x e)) (omega arith) fits_still)
 
-    pub page_leaves : LeavesOwnRoom aside (page_written t p tag body)
+    pub page_leaves : LeavesOwnRoom (page_written t p tag body)
     page_leaves = by t.work.step refl
       where
         of_step : (s : Step) → t.work.step ≡ Some s → (b : Bool) → is_kind_of (name_of tag) s.kind ≡ b →
-            LeavesOwnRoom aside (page_written t p tag body)
+            LeavesOwnRoom (page_written t p tag body)
         of_step s is true of = step_ends s is of
             (ap (step_after (name_of tag)) is ∙ ap (λ b. if b then None else Some s) of)
         of_step s is false of = group_ends
             (ap (step_after (name_of tag)) is ∙ ap (λ b. if b then None else Some s) of ∙ sym is)
             (ap (λ z. programs_name z (name_of tag)) is ∙ of)
 
-        by : (o : Option Step) → t.work.step ≡ o → LeavesOwnRoom aside (page_written t p tag body)
+        by : (o : Option Step) → t.work.step ≡ o → LeavesOwnRoom (page_written t p tag body)
         by None is = group_ends (ap (step_after (name_of tag)) is ∙ sym is) (ap (λ z. programs_name z (name_of tag)) is)
         by (Some s) is = of_step s is (is_kind_of (name_of tag) s.kind) refl

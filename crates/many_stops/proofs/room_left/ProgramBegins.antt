@@ -1,8 +1,9 @@
 -- A program that is given to a die leaves the room: that of a group is given where there is enough, and below it that
 -- of a step opens a block only where none is being filled.
-use Rattle.std.proofs.Common.{◌≡◌, ◌≢◌, ◌⊎◌, ℕ, ◌+◌, ◌-◌, ◌*◌, ◌<◌, ◌≤◌, Bool, true, false, if◌then◌else◌, List, Option}
+use Rattle.std.proofs.Common.{◌≡◌, ◌≢◌, ◌⊎◌, ℕ, zero, suc, ◌+◌, ◌-◌, ◌*◌, ◌<◌, ◌≤◌, true, false, if◌then◌else◌}
+use Rattle.std.proofs.Common.{List, Option}
 use Rattle.std.proofs.Common.{Some, None, refl, sym, ap, ◌∙◌, subst, inl, inr, ⊎_elim, arith}
-use Rattle.std.specs.Int.{div_ceil}
+use Rattle.std.proofs.Math.Nat.{mul-le-mul_left}
 use Rattle.ufs_spec.proofs.Equalities.{name_self}
 use Rattle.ufs_spec.proofs.Facts.{at_most, cases_Bool, none-some, true≢false}
 use Rattle.ufs_spec.proofs.Updates.{at_die_cases, at_spot_cases}
@@ -11,8 +12,8 @@ use Rattle.ufs_spec.specs.Disk.{BlockState, Bad, Filling, Programming, Spot, at_
 use Rattle.ufs_spec.specs.Ledger.{Entry, before_accepted, entry_of}
 use Rattle.ufs_spec.specs.Moves.{is_kind_of}
 use Rattle.ufs_spec.specs.Translation.{count_blocks, CopyStep, MarkStep, MayTake, Plan, RepairStep, Step, StepKind}
-use Rattle.ufs_spec.specs.Translation.{Translation, cell_of_entry, is_bad, is_free, is_mended, name_of, own_room}
-use Rattle.ufs_spec.specs.Translation.{own_room_now, step_cell, tag_of, taken, waiting_name, waiting_step}
+use Rattle.ufs_spec.specs.Translation.{Translation, cell_of_entry, is_bad, is_free, is_mended, is_plan_of_bad, name_of}
+use Rattle.ufs_spec.specs.Translation.{left_by_groups, step_cell, tag_of, taken, waiting_name, waiting_step}
 use Rattle.ufs_spec.specs.declared.flash.Place.{Place}
 use Rattle.ufs_spec.specs.declared.flash.Tag.{Tag}
 use Rattle.ufs_spec.specs.declared.layer.Name.{Name}
@@ -25,16 +26,19 @@ use Rattle.power_loss.proofs.jobs_owed.ProgramsAndErases.{OpensReady, ProgramOwe
 use Rattle.power_loss.proofs.jobs_owed.ProgramsAndErases.{step_owed}
 use Rattle.power_loss.proofs.jobs_owed.RoomLeft.{block_room, none_filled, page_room}
 use Rattle.power_loss.proofs.jobs_owed.BegunPrograms.{is_this}
-use Rattle.power_loss.proofs.collected_blocks.FewestLivePages.{bad_told}
-use Rattle.many_stops.specs.RoomOfGroups.{HasHandedOut, IsHandedOut, IsOneShort, LeavesOwnRoom, bad_count, filling_room}
-use Rattle.many_stops.specs.RoomOfGroups.{free_count, is_plan_of_bad, kept_room, mending_blocks, open_room}
-use Rattle.many_stops.specs.RoomOfGroups.{opened_for_bad, page_of_group, pages_of_plan, room_on_dies}
-use Rattle.many_stops.proofs.CountedBlocks.{good_alike, none_fewer, one_fewer}
+use Rattle.many_stops.specs.RoomOfGroups.{HasHandedOut, HasOwnRoom, HasRoomForBad, IsHandedOut, IsOneShort}
+use Rattle.many_stops.specs.RoomOfGroups.{LeavesOwnRoom}
+use Rattle.many_stops.specs.RoomOfGroups.{filling_room, free_count, kept_room, page_of_group, pages_of_plan}
+use Rattle.many_stops.specs.RoomOfGroups.{room_on_dies}
+use Rattle.many_stops.proofs.CountedBlocks.{bad_alike, bad_stays, none_fewer, one_fewer}
 use Rattle.many_stops.proofs.room_left.RoomInOpenBlocks.{die_room, opened_room}
 use Rattle.many_stops.proofs.room_left.RoomInOpenBlocks.{room_is_filled, rooms_hold, rooms_no_less}
 use Rattle.many_stops.proofs.room_left.RoomInOpenBlocks.{same_room}
-use Rattle.many_stops.proofs.room_left.RoomStays.{RoomOf, bad_is_not_free, handed_mended, home_of, kept_alike, less_aside}
-use Rattle.many_stops.proofs.room_left.RoomStays.{mark_is_no_page, no_less, room_aside, room_stays, still_good}
+use Rattle.many_stops.proofs.room_left.RoomStays.{bad_is_not_free, bad_plan_pages, bad_room_begins, handed_mended}
+use Rattle.many_stops.proofs.room_left.RoomStays.{home_of}
+use Rattle.many_stops.proofs.room_left.RoomStays.{kept_alike, left_enough, left_enough_for_bad, mark_is_no_page}
+use Rattle.many_stops.proofs.room_left.RoomStays.{no_less}
+use Rattle.many_stops.proofs.room_left.RoomStays.{plan_alike, plan_most, room_stays, same_pages, still_good}
 
 -- What a die programs
 
@@ -64,7 +68,7 @@ steps_page t step (CopyStep name from) p e = entry_is_no_groups step name p (ent
 steps_page t step (RepairStep name from) p e = entry_is_no_groups step name p (entry_of t.ledger name) t.ledger.frontier
     (ap (is_kind_of name) e ∙ name_self name)
 
-module _ {aside : ℕ} {t : Translation} (v : Valid t) (r : LeavesOwnRoom aside t) where
+module _ {t : Translation} (v : Valid t) (r : LeavesOwnRoom t) where
   -- A program begins
 
   -- a page of the host that the step programs stands
@@ -107,16 +111,17 @@ module _ {aside : ℕ} {t : Translation} (v : Valid t) (r : LeavesOwnRoom aside 
     opened_after : count_blocks t is_free ≤ 1 + free_count t.numbers after
     opened_after = one_fewer t.numbers t.disk.blocks (spot_of p) (Filling p.page)
 
-    -- the room of the device's own pages is enough for what is kept
-    own_is_enough : (blocks : Spot → BlockState) →
-        kept_room aside t.numbers blocks ≤ own_room t.numbers (bad_count t.numbers blocks)
-    own_is_enough blocks =
-        enough t.numbers.dies (div_ceil t.numbers.slots t.numbers.pages)
-        (t.numbers.spare - bad_count t.numbers blocks) aside r.few
-      where
-        enough : (dies filled more aside : ℕ) → aside < dies →
-            2 * (filled + 1) + 1 + more + aside ≤ dies + 2 + 2 * filled + more
-        enough dies filled more aside l = omega (arith, l)
+    some_die : 1 ≤ t.numbers.dies
+    some_die = let l = idle_below t die may.0 in omega (arith, l)
+
+    -- what groups leave is enough for what is kept
+    left_is_enough : kept_room t.numbers t.disk.blocks ≤ left_by_groups t
+    left_is_enough = left_enough t some_die
+
+    -- and while a bad block is collected for two blocks more
+    left_for_bad : is_plan_of_bad t.disk.blocks t.work.plan ≡ true →
+        kept_room t.numbers t.disk.blocks + 2 ≤ left_by_groups t
+    left_for_bad = left_enough_for_bad t some_die
 
     -- For a group
 
@@ -128,11 +133,14 @@ module _ {aside : ℕ} {t : Translation} (v : Valid t) (r : LeavesOwnRoom aside 
     was_good bad = ⊎_elim (λ filled. filling_is_not_bad filled bad)
         (λ (o : OpensReady t p). bad_is_not_free bad o.free) owed.place.next
 
-    bad_after : bad_count t.numbers after ≡ bad_count t.numbers t.disk.blocks
-    bad_after = good_alike t.numbers t.disk.blocks (spot_of p) (Filling p.page) was_good (filling_is_not_bad refl)
+    bad_after : (s : Spot) → is_bad (after s) ≡ is_bad (t.disk.blocks s)
+    bad_after = bad_stays t.disk.blocks (spot_of p) (Filling p.page) was_good (filling_is_not_bad refl)
 
-    kept_after : (left : ℕ) → kept_room left t.numbers after ≡ kept_room left t.numbers t.disk.blocks
-    kept_after left = kept_alike left t.numbers t.disk.blocks after bad_after
+    kept_after : kept_room t.numbers after ≡ kept_room t.numbers t.disk.blocks
+    kept_after = kept_alike t.numbers t.disk.blocks after (bad_alike t.numbers t.disk.blocks after bad_after)
+
+    plan_after : is_plan_of_bad after t.work.plan ≡ is_plan_of_bad t.disk.blocks t.work.plan
+    plan_after = plan_alike t.disk.blocks after bad_after t.work.plan
 
     good_after : (s : Spot) → t.disk.blocks s ≢ Bad → after s ≢ Bad
     good_after s = still_good t.disk.blocks (spot_of p) (Filling p.page) s (filling_is_not_bad refl)
@@ -141,11 +149,11 @@ module _ {aside : ℕ} {t : Translation} (v : Valid t) (r : LeavesOwnRoom aside 
     good_before s good bad = good (⊎_elim (λ k. absurd (was_good (ap t.disk.blocks (sym k.0) ∙ bad))) (λ k. k.1 ∙ bad)
         (at_spot_cases t.disk.blocks (spot_of p) (Filling p.page) s))
 
-    for_group : waiting_step t t.work.step ≡ None → own_room_now t ≤ free_count t.numbers after
+    for_group : waiting_step t t.work.step ≡ None → left_by_groups t ≤ free_count t.numbers after
     for_group none = ⊎_elim
-        (λ filled. no_less (own_room_now t) (count_blocks t is_free) (free_count t.numbers after)
+        (λ filled. no_less (left_by_groups t) (count_blocks t is_free) (free_count t.numbers after)
         (⊎_elim (λ w. absurd (waits w)) (λ l. l) (page_room t die p cell may)) (free_after filled))
-        (λ (o : OpensReady t p). below_more (own_room_now t) (count_blocks t is_free) (free_count t.numbers after)
+        (λ (o : OpensReady t p). below_more (left_by_groups t) (count_blocks t is_free) (free_count t.numbers after)
         (⊎_elim (λ w. absurd (waits w.1)) (λ l. l) (block_room t die (Programming p cell) may o.free)) opened_after)
         owed.place.next
       where
@@ -181,12 +189,12 @@ module _ {aside : ℕ} {t : Translation} (v : Valid t) (r : LeavesOwnRoom aside 
           (at_die_cases t.disk.flights die (Some (Programming p cell)) d)
 
       filled_after : t.disk.blocks (spot_of p) ≡ Filling p.page →
-          RoomOf aside t.numbers t.disk.blocks t.disk.flights t.work.step t.work.plan →
-          RoomOf aside t.numbers after flown t.work.step t.work.plan
+          HasOwnRoom t.numbers t.disk.blocks t.disk.flights t.work.step t.work.plan →
+          HasOwnRoom t.numbers after flown t.work.step t.work.plan
       filled_after is =
-          room_stays aside t.numbers t.disk.blocks after t.disk.flights flown t.work.step t.work.step t.work.plan
-          bad_after good_after (free_after is)
-          (λ fits. no_less (pages_of_plan t.work.plan t.work.step) (open_room t) _ fits
+          room_stays t.numbers t.disk.blocks after t.disk.flights flown t.work.step t.work.step t.work.plan
+          bad_after (free_after is)
+          (same_pages _ _ _ _ (omega arith)
           (rooms_no_less t.numbers t.disk.blocks after t.work.step t.work.step t.disk.flights flown
           (λ d. same_room t.numbers t.disk.blocks (spot_of p) (Filling p.page) d
           (let e = ap (filling_room t.numbers.pages) is in omega (arith, e))) pages_after))
@@ -211,25 +219,32 @@ module _ {aside : ℕ} {t : Translation} (v : Valid t) (r : LeavesOwnRoom aside 
           enough : (pages a b c d : ℕ) → pages ≤ b → a ≡ b → c ≡ 0 → a - c ≤ d → pages ≤ d
           enough pages a b c d l e z k = omega (arith, l, e, z, k)
 
+      -- below the room a block is opened only where none is being filled
+      none_open : (o : OpensReady t p) → count_blocks t is_free < left_by_groups t →
+          1 ≤ room_on_dies t.numbers t.disk.blocks t.work.step t.disk.flights → ⊥
+      none_open o few some =
+          let f = room_is_filled t.numbers t.disk.blocks t.work.step t.disk.flights some in
+          none_filled t die (Programming p cell) f.spot f.next may o.free few f.inside f.is
+
       -- the plan is not of a bad block
       module _ (good : is_plan_of_bad t.disk.blocks t.work.plan ≡ false) where
         victim_good : (pl : Plan) → t.work.plan ≡ Some pl → t.disk.blocks pl.victim ≢ Bad
         victim_good pl is bad = true≢false (sym (ap is_bad bad) ∙ (sym (ap (is_plan_of_bad t.disk.blocks) is) ∙ good))
 
         opened_so : (o : OpensReady t p) → is_mended t.work.mending ≡ true →
-            kept_room aside t.numbers t.disk.blocks ≤ count_blocks t is_free →
-            RoomOf aside t.numbers after flown t.work.step t.work.plan
+            kept_room t.numbers t.disk.blocks ≤ count_blocks t is_free →
+            IsOneShort t.numbers after flown t.work.step t.work.plan
         opened_so o mended l =
             let pl = r.planned mended s.step s.under_way in
             let g = r.gains pl.0 pl.1 in
             let e = ap (λ z. pages_of_plan z t.work.step) pl.1 in
-            inr (record {
-              short = one_less _ _ (count_blocks t is_free) (free_count t.numbers after) (kept_after aside) l opened_after;
+            record {
+              short = one_less _ _ (count_blocks t is_free) (free_count t.numbers after) kept_after l opened_after;
               under_way = pl.0;
               is = pl.1;
               good = good_after pl.0.victim (victim_good pl.0 pl.1);
               fits = fit _ _ _ _ e (g.less (victim_good pl.0 pl.1)) (room_opened o);
-            })
+            }
           where
             one_less : (x a b c : ℕ) → x ≡ a → a ≤ b → b ≤ 1 + c → x ≤ c + 1
             one_less x a b c e l k = omega (arith, e, l, k)
@@ -237,91 +252,111 @@ module _ {aside : ℕ} {t : Translation} (v : Valid t) (r : LeavesOwnRoom aside 
             fit : (a b c d : ℕ) → a ≡ b → b ≤ c → c ≤ d → a ≤ d
             fit a b c d e l k = omega (arith, e, l, k)
 
-        -- below the room a block is opened only where none is being filled, but then no plan fits
-        none_fits : (o : OpensReady t p) → count_blocks t is_free < own_room_now t →
-            IsOneShort aside t.numbers t.disk.blocks t.disk.flights t.work.step t.work.plan → ⊥
+        -- where no plan fits into blocks that are being filled, none is one short
+        none_fits : (o : OpensReady t p) → count_blocks t is_free < left_by_groups t →
+            IsOneShort t.numbers t.disk.blocks t.disk.flights t.work.step t.work.plan → ⊥
         none_fits o few short =
             let e = ap (λ z. pages_of_plan z t.work.step) short.is in
-            let fits = short.fits in
-            let f = room_is_filled t.numbers t.disk.blocks t.work.step t.disk.flights (some _ _ _ e fits) in
-            none_filled t die (Programming p cell) f.spot f.next may o.free few f.inside f.is
+            none_open o few (some _ _ _ e short.fits)
           where
             some : (a b c : ℕ) → a ≡ b + 1 → a ≤ c → 1 ≤ c
             some a b c e l = omega (arith, e, l)
 
-        opened_after_all : (o : OpensReady t p) → is_mended t.work.mending ≡ true →
-            RoomOf aside t.numbers t.disk.blocks t.disk.flights t.work.step t.work.plan →
-            RoomOf aside t.numbers after flown t.work.step t.work.plan
-        opened_after_all o mended (inl l) = opened_so o mended l
-        opened_after_all o mended (inr short) =
-            ⊎_elim (λ l. opened_so o mended (let k = own_is_enough t.disk.blocks in omega (arith, l, k)))
-            (λ few. absurd (none_fits o few short)) (at_most (own_room_now t) (count_blocks t is_free))
+        opened_for_good : (o : OpensReady t p) → is_mended t.work.mending ≡ true →
+            HasOwnRoom t.numbers t.disk.blocks t.disk.flights t.work.step t.work.plan →
+            HasOwnRoom t.numbers after flown t.work.step t.work.plan
+        opened_for_good o mended h = record {
+          any = inr (opened_so o mended (⊎_elim (λ l. l)
+              (λ short. ⊎_elim (λ l. let k = left_is_enough in omega (arith, l, k))
+              (λ few. absurd (none_fits o few short)) (at_most (left_by_groups t) (count_blocks t is_free))) h.any));
+          bad = λ is. absurd (true≢false (sym is ∙ (plan_after ∙ good)));
+        }
 
-        for_plan : HasHandedOut t → RoomOf aside t.numbers after flown t.work.step t.work.plan
-        for_plan handed = ⊎_elim (λ filled. filled_after filled (r.room handed))
-            (λ o. opened_after_all o (handed_mended v handed) (r.room handed)) owed.place.next
-
-      -- a block that is opened for a bad one is one of those that are set aside
-      for_bad : (left : ℕ) → left + (count_blocks t is_free - free_count t.numbers after) ≤ aside →
-          is_plan_of_bad t.disk.blocks t.work.plan ≡ true → HasHandedOut t →
-          kept_room left t.numbers after ≤ free_count t.numbers after
-      for_bad left spent bad handed = by (r.room handed)
+      -- it is of one: then so many more blocks were free, or what is left fits into one block less and the opened one
+      opened_for_bad : (o : OpensReady t p) → is_plan_of_bad t.disk.blocks t.work.plan ≡ true →
+          HasRoomForBad t.numbers t.disk.blocks t.disk.flights t.work.step t.work.plan →
+          HasRoomForBad t.numbers after flown t.work.step t.work.plan
+      opened_for_bad o bad h = ⊎_elim enough few (at_most (left_by_groups t) (count_blocks t is_free))
         where
-          enough : (x base left aside free after : ℕ) → x ≡ base + left → left + (free - after) ≤ aside →
-              base + aside ≤ free → x ≤ after
-          enough x base left aside free after e spent l = omega (arith, e, spent, l)
+          over : (pages kept free now after : ℕ) → now ≡ kept → kept + 2 ≤ free → free ≤ 1 + after →
+              pages * 1 ≤ pages * (after - now)
+          over pages kept free now after e l k = mul-le-mul_left pages (omega (arith, e, l, k))
 
-          by : RoomOf aside t.numbers t.disk.blocks t.disk.flights t.work.step t.work.plan →
-              kept_room left t.numbers after ≤ free_count t.numbers after
-          by (inl l) = enough _ (2 * mending_blocks t.numbers + 1
-              + (t.numbers.spare - bad_count t.numbers t.disk.blocks)) left aside (count_blocks t is_free)
-              (free_count t.numbers after) (kept_after left) spent l
-          by (inr o) = absurd (o.good (bad_told (t.disk.blocks o.under_way.victim)
-              (sym (ap (is_plan_of_bad t.disk.blocks) o.is) ∙ bad)))
+          two : (p pages room more : ℕ) → p ≤ 2 * pages → pages ≤ room → pages * 1 ≤ more → p ≤ room + more
+          two p pages room more most l k = omega (arith, most, l, k)
 
-    pub program_leaves : (left : ℕ) →
-        left + opened_for_bad t (taken t die (Programming p cell)) ≤ aside →
-        LeavesOwnRoom left (taken t die (Programming p cell))
-    program_leaves left spent = record {
-      few = let k = r.few in let l = left_few in omega (arith, k, l);
+          enough : left_by_groups t ≤ count_blocks t is_free →
+              HasRoomForBad t.numbers after flown t.work.step t.work.plan
+          enough l =
+              let more = no_less _ _ _ (left_for_bad bad) l in
+              record {
+                kept = let e = kept_after in let k = opened_after in omega (arith, more, e, k);
+                fits = two _ _ _ _ (plan_most t.work.plan r.gains) (room_opened o)
+                    (over t.numbers.pages _ _ _ _ kept_after more opened_after);
+              }
+
+          -- what fits into no block fills none
+          some_over : (p pages over : ℕ) → 1 ≤ p → p ≤ pages * over → 1 ≤ over
+          some_over p pages zero some fits = absurd (omega (arith, some, fits))
+          some_over p pages (suc over) some fits = omega arith
+
+          one_less : (p pages over after room : ℕ) → p ≤ pages * over → over ≤ 1 + after → pages ≤ room →
+              p ≤ room + pages * after
+          one_less p pages over after room fits l k =
+              let m : pages * over ≤ pages * (1 + after) = mul-le-mul_left pages l in omega (arith, fits, m, k)
+
+          few : count_blocks t is_free < left_by_groups t →
+              HasRoomForBad t.numbers after flown t.work.step t.work.plan
+          few l =
+              let fits : pages_of_plan t.work.plan t.work.step
+              ≤ t.numbers.pages * (count_blocks t is_free - kept_room t.numbers t.disk.blocks) =
+              alone _ _ _ h.fits (none_open o l) in
+              let some = some_over _ _ _ (bad_plan_pages t.disk.blocks t.work.plan t.work.step bad) fits in
+              record {
+                kept = let e = kept_after in let k = opened_after in omega (arith, some, e, k);
+                fits = one_less _ _ _ _ _ fits (apart _ _ _ _ kept_after opened_after) (room_opened o);
+              }
+            where
+              alone : (p room more : ℕ) → p ≤ room + more → (1 ≤ room → ⊥) → p ≤ more
+              alone p room more l none = ⊎_elim (λ some. absurd (none some)) (λ k. omega (arith, l, k)) (at_most 1 room)
+
+              apart : (kept free now after : ℕ) → now ≡ kept → free ≤ 1 + after → free - kept ≤ 1 + (after - now)
+              apart kept free now after e l = omega (arith, e, l)
+
+      opened_after_all : (o : OpensReady t p) → HasHandedOut t →
+          HasOwnRoom t.numbers after flown t.work.step t.work.plan
+      opened_after_all o handed = ⊎_elim
+          (λ bad.
+          let b = opened_for_bad o bad ((r.room handed).bad bad) in
+          record { any = inl b.kept; bad = λ is. b })
+          (λ good. opened_for_good good o (handed_mended v handed) (r.room handed))
+          (cases_Bool (is_plan_of_bad t.disk.blocks t.work.plan))
+
+      for_step : HasHandedOut t → HasOwnRoom t.numbers after flown t.work.step t.work.plan
+      for_step handed = ⊎_elim (λ filled. filled_after filled (r.room handed)) (λ o. opened_after_all o handed)
+          owed.place.next
+
+    -- where groups may go on, so many blocks are left that any plan has room
+    own_left : left_by_groups t ≤ free_count t.numbers after → HasOwnRoom t.numbers after flown t.work.step t.work.plan
+    own_left l = record {
+      any = inl (let k = left_is_enough in let e = kept_after in omega (arith, l, k, e));
+      bad = λ is. bad_room_begins t.numbers after flown t.work.step t.work.plan (plan_most t.work.plan r.gains)
+          (let k = left_for_bad (sym plan_after ∙ is) in let e = kept_after in omega (arith, l, k, e));
+    }
+
+    pub program_leaves : LeavesOwnRoom (taken t die (Programming p cell))
+    program_leaves = record {
       one_die = λ d e q z a b x y h k same. one d e q z a b x y (is_this t h) (is_this t k) same;
       copied = r.copied;
       planned = r.planned;
       gains = λ pl e.
           let g = r.gains pl e in
-          record { inside = g.inside; less = λ good. g.less (good_before pl.victim good) };
-      room = λ h. ⊎_elim (λ w. for_step (step_owed t t.work.step cell refl w) h) (λ w. inl (own_left (for_group w.0)))
-          owed.is;
+          record { inside = g.inside; most = g.most; less = λ good. g.less (good_before pl.victim good) };
+      room = λ h. ⊎_elim
+          (λ w. let s = step_owed t t.work.step cell refl w in for_step s (handed_before s h))
+          (λ w. own_left (for_group w.0)) owed.is;
     }
       where
-        left_few : left ≤ aside
-        left_few = omega (arith, spent)
-
-        own_left : own_room_now t ≤ free_count t.numbers after →
-            kept_room left t.numbers after ≤ free_count t.numbers after
-        own_left l =
-            let k = own_is_enough t.disk.blocks in
-            let e = kept_after left in
-            let m = less_aside aside left t.numbers t.disk.blocks left_few in
-            omega (arith, l, k, e, m)
-
-        less_left : RoomOf aside t.numbers after flown t.work.step t.work.plan →
-            RoomOf left t.numbers after flown t.work.step t.work.plan
-        less_left = room_aside left_few
-
-        for_step : StepOwed t cell → IsHandedOut (before_accepted t.ledger) t.ledger.standing t.disk.cells flown →
-            RoomOf left t.numbers after flown t.work.step t.work.plan
-        for_step s h = ⊎_elim
-            (λ bad. inl (for_bad s left (spent_on bad) bad (handed_before s h)))
-            (λ good. less_left (for_plan s good (handed_before s h)))
-            (cases_Bool (is_plan_of_bad t.disk.blocks t.work.plan))
-          where
-            spent_on : is_plan_of_bad t.disk.blocks t.work.plan ≡ true →
-                left + (count_blocks t is_free - free_count t.numbers after) ≤ aside
-            spent_on bad =
-                let e = ap (λ (b : Bool). if b then count_blocks t is_free - free_count t.numbers after else 0) bad in
-                omega (arith, e, spent)
-
         other_name : (e : ℕ) (q : Place) (a b : Tag) (x y : List ℕ) → cell ≡ GroupPage a x →
             t.disk.flights e ≡ Some (Programming q (GroupPage b y)) → name_of b ≡ name_of a → ⊥
         other_name e q a b x y is flies same =

@@ -2,20 +2,21 @@
 use Rattle.std.proofs.Common.{◌≡◌, ◌≢◌, ℕ, ◌+◌, ◌-◌, ◌<◌, ◌≤◌, ◌==◌, Bool, true, false, if◌then◌else◌, Option, Some}
 use Rattle.std.proofs.Common.{refl, sym, ap, ◌∙◌, subst, ⊎_elim, arith}
 use Rattle.std.specs.Prelude.{sum_by}
-use Rattle.ufs_spec.proofs.Facts.{eqb-true}
+use Rattle.ufs_spec.proofs.Facts.{eqb-true, true≢false}
 use Rattle.ufs_spec.proofs.Updates.{at_spot_cases}
 use Rattle.ufs_spec.specs.Cells.{GroupPage}
 use Rattle.ufs_spec.specs.Disk.{BlockState, Closed, Filling, Flight, Programming, Spot, at_spot, spot_of, state_after}
 use Rattle.ufs_spec.specs.Keys.{below}
-use Rattle.ufs_spec.specs.Translation.{Step, spots_of}
+use Rattle.ufs_spec.specs.Translation.{Step, name_of, spots_of}
 use Rattle.ufs_spec.specs.declared.configs.Numbers.{Numbers}
 use Rattle.ufs_spec.specs.declared.flash.Place.{Place}
+use Rattle.ufs_spec.specs.declared.layer.Name.{Name}
 use Rattle.power_loss.specs.Exchange.{IsSpot}
 use Rattle.power_loss.specs.Invariant.{Flights}
 use Rattle.power_loss.proofs.ordered_lists.ElementsAndOrders.{below_in, in_below, in_map}
 use Rattle.power_loss.proofs.room_to_mend.AloneKept.{AreFewer}
 use Rattle.power_loss.proofs.room_to_mend.RoomInBlocks.{sum_has, sum_no_less}
-use Rattle.many_stops.specs.RoomOfGroups.{filling_room, page_of_group, room_on, room_on_dies}
+use Rattle.many_stops.specs.RoomOfGroups.{filling_room, page_of_group, programs_name, room_on, room_on_dies}
 use Rattle.many_stops.proofs.room_left.SumsOfRoom.{below_apart, die_apart, die_of, number_told, spot_of_die}
 use Rattle.many_stops.proofs.room_left.SumsOfRoom.{spot_told, sum_holds, sum_less}
 
@@ -47,27 +48,24 @@ room_taken pages page l = by (page + 1 == pages) refl
     by true e = let k = eqb-true (page + 1) pages e in omega (arith, k, l)
     by false e = omega (arith, l)
 
+-- a block with so much less room takes it from that of its die
+die_less : (n : Numbers) (m : ℕ) (blocks : Spot → BlockState) (s : Spot) (x : BlockState) →
+    filling_room n.pages (blocks s) ≤ m + filling_room n.pages x →
+    die_room n blocks s.die ≤ m + die_room n (at_spot blocks s x) s.die
+die_less n m blocks s x less =
+    sum_less m (λ a. filling_room n.pages (blocks a)) (λ a. filling_room n.pages (at_spot blocks s x a)) s
+    (spots_of n s.die) (spot_told s) (die_apart n s.die)
+    (λ a i other. ⊎_elim (λ k. absurd (other k.0)) (λ k. let e = ap (filling_room n.pages) k.1 in omega (arith, e))
+    (at_spot_cases blocks s x a))
+    (⊎_elim (λ k. let e = ap (filling_room n.pages) k.1 in omega (arith, e, less)) (λ k. absurd (k.0 refl))
+    (at_spot_cases blocks s x s))
+
 -- a program that ended well takes room for one page
 pub program_takes : (n : Numbers) (blocks : Spot → BlockState) (p : Place) → p.page < n.pages →
     blocks (spot_of p) ≡ Filling p.page →
     die_room n blocks p.die ≤ 1 + die_room n (at_spot blocks (spot_of p) (state_after n.pages p.page)) p.die
-program_takes n blocks p l is =
-    sum_less 1 (λ s. filling_room n.pages (blocks s)) (λ s. filling_room n.pages (at_spot blocks (spot_of p) after s))
-    (spot_of p) (spots_of n p.die) (spot_told (spot_of p)) (die_apart n p.die)
-    (λ a i other. ⊎_elim (λ k. absurd (other k.0))
-    (λ k. let e = ap (filling_room n.pages) k.1 in omega (arith, e)) (at_spot_cases blocks (spot_of p) after a)) one
-  where
-    after : BlockState
-    after = state_after n.pages p.page
-
-    one : filling_room n.pages (blocks (spot_of p)) ≤
-        1 + filling_room n.pages (at_spot blocks (spot_of p) after (spot_of p))
-    one = ⊎_elim
-        (λ k.
-        let e = ap (filling_room n.pages) k.1 in
-        let f = ap (filling_room n.pages) is in
-        let t = room_taken n.pages p.page l in
-        omega (arith, e, f, t)) (λ k. absurd (k.0 refl)) (at_spot_cases blocks (spot_of p) after (spot_of p))
+program_takes n blocks p l is = die_less n 1 blocks (spot_of p) (state_after n.pages p.page)
+    (let f = ap (filling_room n.pages) is in let t = room_taken n.pages p.page l in omega (arith, f, t))
 
 -- a block whose room stays leaves that of its die
 pub same_room : (n : Numbers) (blocks : Spot → BlockState) (s : Spot) (x : BlockState) (die : ℕ) →
@@ -109,6 +107,18 @@ fewer_pages {flights} {now} step fewer die = by (now die) refl
         (sym (fewer die p (GroupPage tag body) e)) (omega arith)
     by o e = omega arith
 
+-- a step that programs no page of the host leaves no more of them to groups than any other
+pub groups_most : (step now : Option Step) → ((name : Name) → programs_name step name ≡ false) → (o : Option Flight) →
+    page_of_group now o ≤ page_of_group step o
+groups_most step now none (Some (Programming p (GroupPage tag body))) =
+    one (programs_name now (name_of tag)) (programs_name step (name_of tag)) (none (name_of tag))
+  where
+    one : (a b : Bool) → b ≡ false → (if a then 0 else 1) ≤ (if b then 0 else 1)
+    one a true e = absurd (true≢false e)
+    one true false e = omega arith
+    one false false e = omega arith
+groups_most step now none o = omega arith
+
 -- Room on all dies
 
 less_taken : (a b c d : ℕ) → a ≤ b → d ≤ c → a - c ≤ b - d
@@ -133,6 +143,24 @@ pub rooms_less : (n : Numbers) (m d : ℕ) (blocks after : Spot → BlockState) 
 rooms_less n m d blocks after step now flights flown others one =
     sum_less m (room_on n blocks step flights) (room_on n after now flown) d (below n.dies) (number_told d)
     (below_apart n.dies) (λ die i other. others die other) one
+
+room_within : (pages : ℕ) (x : BlockState) → filling_room pages x ≤ pages
+room_within pages (Filling next) = omega arith
+room_within pages x = omega arith
+
+-- where one block changes it is less by one block at the most
+pub block_less : (n : Numbers) (blocks : Spot → BlockState) (s : Spot) (x : BlockState) (step now : Option Step)
+    (flights flown : Flights) →
+    ((die : ℕ) → page_of_group now (flown die) ≤ page_of_group step (flights die)) →
+    room_on_dies n blocks step flights ≤ n.pages + room_on_dies n (at_spot blocks s x) now flown
+block_less n blocks s x step now flights flown pages =
+    rooms_less n n.pages s.die blocks (at_spot blocks s x) step now flights flown
+    (λ die other. less_taken _ _ _ _ (other_dies n blocks s x die other) (pages die))
+    (here _ _ _ _ _
+    (die_less n n.pages blocks s x (let l = room_within n.pages (blocks s) in omega (arith, l))) (pages s.die))
+  where
+    here : (m a b c d : ℕ) → a ≤ m + b → d ≤ c → a - c ≤ m + (b - d)
+    here m a b c d l k = omega (arith, l, k)
 
 -- the room on one die
 pub rooms_hold : (n : Numbers) (blocks : Spot → BlockState) (step : Option Step) (flights : Flights) (die : ℕ) →

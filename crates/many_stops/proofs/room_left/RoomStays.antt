@@ -1,16 +1,20 @@
 -- What leaves the room that groups leave: where no fewer blocks are free, and none is taken beside what the plan needs.
 use Rattle.std.proofs.Common.{◌≡◌, ◌≢◌, ◌⊎◌, ℕ, ◌+◌, ◌-◌, ◌*◌, ◌<◌, ◌≤◌, ◌==◌, Bool, true, false, List, Option, Some}
-use Rattle.std.proofs.Common.{None, refl, sym}
+use Rattle.std.proofs.Common.{None, max, refl, sym}
 use Rattle.std.proofs.Common.{if◌then◌else◌, inl, inr, ap, ◌∙◌, ⊎_elim, arith}
+use Rattle.std.proofs.Math.Nat.{mul-le-mul_left}
+use Rattle.std.specs.Int.{div_ceil}
 use Rattle.ufs_spec.proofs.Equalities.{name_told}
-use Rattle.ufs_spec.proofs.Facts.{false≢true, same_Some}
+use Rattle.ufs_spec.proofs.Facts.{cases_Bool, false≢true, same_Some}
 use Rattle.ufs_spec.proofs.Updates.{at_spot_is}
 use Rattle.ufs_spec.specs.Cells.{Cell, Cells, GroupPage, Mark, MarkPage}
 use Rattle.ufs_spec.specs.Disk.{BlockState, Bad, Closed, Filling, Flight, Free, Programming, Spot, at_spot}
 use Rattle.ufs_spec.specs.Disk.{state_after}
 use Rattle.ufs_spec.specs.Ledger.{Entry, before_accepted}
 use Rattle.ufs_spec.specs.Moves.{is_kind_of, step_there}
-use Rattle.ufs_spec.specs.Translation.{CopyStep, MarkStep, Plan, RepairStep, Step, StepKind, Translation, is_mended}
+use Rattle.ufs_spec.specs.Translation.{CopyStep, MarkStep, Plan, RepairStep, Step, StepKind, Translation, is_bad}
+use Rattle.ufs_spec.specs.Translation.{count_blocks, is_mended, is_plan_of_bad, least_room, left_by_groups, own_room}
+use Rattle.ufs_spec.specs.Translation.{wanted_room}
 use Rattle.ufs_spec.specs.declared.configs.Numbers.{Numbers}
 use Rattle.ufs_spec.specs.declared.flash.Fence.{Fence}
 use Rattle.ufs_spec.specs.declared.flash.Place.{Place}
@@ -19,10 +23,13 @@ use Rattle.ufs_spec.specs.declared.layer.Name.{Name}
 use Rattle.power_loss.specs.Book.{IsPageAt, book}
 use Rattle.power_loss.specs.Invariant.{Flights, Standing, Valid}
 use Rattle.power_loss.proofs.books.PagesByName.{page_within}
+use Rattle.power_loss.proofs.collected_blocks.FewestLivePages.{bad_told}
 use Rattle.power_loss.proofs.room_to_mend.AloneKept.{AreFewer}
-use Rattle.many_stops.specs.RoomOfGroups.{FliesBehind, HasHandedOut, IsHandedOut, IsOneShort, LeavesRoom, ShowsBehind}
+use Rattle.many_stops.specs.RoomOfGroups.{FliesBehind, HasHandedOut, HasOwnRoom, HasRoomForBad, IsHandedOut, IsOneShort}
+use Rattle.many_stops.specs.RoomOfGroups.{LeavesRoom, PlanGains, ShowsBehind}
 use Rattle.many_stops.specs.RoomOfGroups.{StandsBehind, bad_count, free_count, kept_room, mending_blocks}
 use Rattle.many_stops.specs.RoomOfGroups.{page_of_group, pages_of_plan, room_on_dies}
+use Rattle.many_stops.proofs.CountedBlocks.{bad_alike}
 use Rattle.many_stops.proofs.room_left.RoomInOpenBlocks.{fewer_pages, rooms_no_less}
 
 -- Numbers
@@ -95,70 +102,166 @@ shows_from from c = ⊎_elim
       flies = job.1;
     })) (from c.place c.tag c.body c.there)
 
-abbrev pub RoomOf : ℕ → Numbers → (Spot → BlockState) → Flights → Option Step → Option Plan → Type 0
-RoomOf aside n blocks flights step plan =
-    (kept_room aside n blocks ≤ free_count n blocks) ⊎ IsOneShort aside n blocks flights step plan
+-- Room that stays
 
 -- where as many blocks are bad, as much room is kept
-pub kept_alike : (aside : ℕ) (n : Numbers) (was now : Spot → BlockState) → bad_count n now ≡ bad_count n was →
-    kept_room aside n now ≡ kept_room aside n was
-kept_alike aside n was now same = ap (λ bad. 2 * mending_blocks n + 1 + (n.spare - bad) + aside) same
+pub kept_alike : (n : Numbers) (was now : Spot → BlockState) → bad_count n now ≡ bad_count n was →
+    kept_room n now ≡ kept_room n was
+kept_alike n was now same = ap (λ bad. 2 * mending_blocks n + 1 + (n.spare - bad)) same
+
+-- where the same blocks are bad, a plan is of a bad block if it was
+pub plan_alike : (was now : Spot → BlockState) → ((s : Spot) → is_bad (now s) ≡ is_bad (was s)) → (plan : Option Plan) →
+    is_plan_of_bad now plan ≡ is_plan_of_bad was plan
+plan_alike was now same None = refl
+plan_alike was now same (Some plan) = same plan.victim
+
+-- where so many blocks more are free beyond those that are kept, the blocks that are being filled may have less room by
+-- so many
+pub bad_room_stays : (lost : ℕ) (n : Numbers) (blocks after : Spot → BlockState) (flights flown : Flights)
+    (step now : Option Step) (plan : Option Plan) →
+    kept_room n after + free_count n blocks + lost ≤ kept_room n blocks + free_count n after →
+    ((more : ℕ) → pages_of_plan plan step ≤ room_on_dies n blocks step flights + more →
+    pages_of_plan plan now ≤ room_on_dies n after now flown + more + n.pages * lost) →
+    HasRoomForBad n blocks flights step plan → HasRoomForBad n after flown now plan
+bad_room_stays lost n blocks after flights flown step now plan counts fits h = record {
+  kept = let k = h.kept in omega (arith, counts, k);
+  fits = still _ _ _ _ _ (fits (n.pages * (free_count n blocks - kept_room n blocks)) h.fits)
+      (over n.pages (free_count n blocks - kept_room n blocks) lost (free_count n after - kept_room n after)
+      (let k = h.kept in omega (arith, counts, k)));
+}
+  where
+    still : (p room more less now : ℕ) → p ≤ room + more + less → more + less ≤ now → p ≤ room + now
+    still p room more less now l k = omega (arith, l, k)
+
+    over : (pages was lost now : ℕ) → was + lost ≤ now → pages * was + pages * lost ≤ pages * now
+    over pages was lost now l = let k = mul-le-mul_left pages l in omega (arith, k)
 
 -- what leaves the room where no fewer blocks are free, and no less room is open beside what the plan takes
 abbrev pub IsNoLess : Numbers → (Spot → BlockState) → (Spot → BlockState) → Flights → Flights → Option Step →
     Option Step → Option Plan → Type 0
-IsNoLess n blocks after flights flown step now plan =
-    pages_of_plan plan step ≤ room_on_dies n blocks step flights →
-    pages_of_plan plan now ≤ room_on_dies n after now flown
+IsNoLess n blocks after flights flown step now plan = (more : ℕ) →
+    pages_of_plan plan step ≤ room_on_dies n blocks step flights + more →
+    pages_of_plan plan now ≤ room_on_dies n after now flown + more
 
-pub room_stays : (aside : ℕ) (n : Numbers) (blocks after : Spot → BlockState) (flights flown : Flights)
-    (step now : Option Step) (plan : Option Plan) → bad_count n after ≡ bad_count n blocks →
-    ((s : Spot) → blocks s ≢ Bad → after s ≢ Bad) → free_count n blocks ≤ free_count n after →
-    IsNoLess n blocks after flights flown step now plan → RoomOf aside n blocks flights step plan →
-    RoomOf aside n after flown now plan
-room_stays aside n blocks after flights flown step now plan bad good free room (inl l) =
-    let k = kept_alike aside n blocks after bad in
-    inl (omega (arith, k, l, free))
-room_stays aside n blocks after flights flown step now plan bad good free room (inr o) = inr (record {
-  short =
-      let k = kept_alike aside n blocks after bad in
-      let l = o.short in
-      omega (arith, k, l, free);
-  under_way = o.under_way;
-  is = o.is;
-  good = good o.under_way.victim o.good;
-  fits = room o.fits;
-})
+-- so it is where the pages of the plan stay, and no less room is open
+pub same_pages : (was now room after : ℕ) → now ≤ was → room ≤ after → (more : ℕ) → was ≤ room + more →
+    now ≤ after + more
+same_pages was now room after pages l more fits = omega (arith, pages, l, fits)
 
-pub fewer_leaves : {aside : ℕ} {n : Numbers} {before : ℕ} {standing : Standing} {cells : Cells}
+pub room_stays : (n : Numbers) (blocks after : Spot → BlockState) (flights flown : Flights)
+    (step now : Option Step) (plan : Option Plan) → ((s : Spot) → is_bad (after s) ≡ is_bad (blocks s)) →
+    free_count n blocks ≤ free_count n after → IsNoLess n blocks after flights flown step now plan →
+    HasOwnRoom n blocks flights step plan → HasOwnRoom n after flown now plan
+room_stays n blocks after flights flown step now plan same free room h = record {
+  any = ⊎_elim (λ l. let k = kept in inl (omega (arith, k, l, free))) (λ o. inr (short o)) h.any;
+  bad = λ is. bad_room_stays 0 n blocks after flights flown step now plan (let k = kept in omega (arith, k, free))
+      (λ more fits. let l = room more fits in omega (arith, l)) (h.bad (sym (plan_alike blocks after same plan) ∙ is));
+}
+  where
+    kept : kept_room n after ≡ kept_room n blocks
+    kept = kept_alike n blocks after (bad_alike n blocks after same)
+
+    short : IsOneShort n blocks flights step plan → IsOneShort n after flown now plan
+    short o = record {
+      short = let k = kept in let l = o.short in omega (arith, k, l, free);
+      under_way = o.under_way;
+      is = o.is;
+      good = λ bad. o.good (bad_told (blocks o.under_way.victim) (sym (same o.under_way.victim) ∙ ap is_bad bad));
+      fits = let f = o.fits in let l = room 0 (omega (arith, f)) in omega (arith, l);
+    }
+
+-- Plans of bad blocks
+
+-- the device's own pages need no less than is kept
+pub own_enough : (n : Numbers) (blocks : Spot → BlockState) → 1 ≤ n.dies →
+    kept_room n blocks ≤ own_room n (bad_count n blocks)
+own_enough n blocks dies = enough n.dies (div_ceil n.slots n.pages) (n.spare - bad_count n blocks) dies
+  where
+    enough : (dies filled more : ℕ) → 1 ≤ dies → 2 * (filled + 1) + 1 + more ≤ dies + 2 + 2 * filled + more
+    enough dies filled more l = omega (arith, l)
+
+own_wanted : (n : Numbers) (bad : ℕ) → own_room n bad + 2 ≤ wanted_room n bad
+own_wanted n bad = by (least_room n) (2 * n.dies + 4) (n.spare - bad)
+  where
+    by : (least some more : ℕ) → least + more + 2 ≤ max some (least + 2) + more
+    by least some more = grind arith
+
+pub left_is : (t : Translation) {b : Bool} → is_plan_of_bad t.disk.blocks t.work.plan ≡ b → left_by_groups t ≡
+    (if b then wanted_room t.numbers (count_blocks t is_bad) else own_room t.numbers (count_blocks t is_bad))
+left_is t is = ap (λ (b : Bool). if b then wanted_room t.numbers (count_blocks t is_bad)
+    else own_room t.numbers (count_blocks t is_bad)) is
+
+-- so groups leave as much, and two blocks more while a bad block is collected
+pub left_enough_for_bad : (t : Translation) → 1 ≤ t.numbers.dies →
+    is_plan_of_bad t.disk.blocks t.work.plan ≡ true → kept_room t.numbers t.disk.blocks + 2 ≤ left_by_groups t
+left_enough_for_bad t dies bad = enough _ _ _ _ (left_is t bad) (own_wanted t.numbers (count_blocks t is_bad))
+    (own_enough t.numbers t.disk.blocks dies)
+  where
+    enough : (kept left own wanted : ℕ) → left ≡ wanted → own + 2 ≤ wanted → kept ≤ own → kept + 2 ≤ left
+    enough kept left own wanted e l k = omega (arith, e, l, k)
+
+pub left_enough : (t : Translation) → 1 ≤ t.numbers.dies → kept_room t.numbers t.disk.blocks ≤ left_by_groups t
+left_enough t dies = ⊎_elim
+    (λ bad. let l = left_enough_for_bad t dies bad in omega (arith, l))
+    (λ good. enough _ _ _ (left_is t good) (own_enough t.numbers t.disk.blocks dies))
+    (cases_Bool (is_plan_of_bad t.disk.blocks t.work.plan))
+  where
+    enough : (kept left own : ℕ) → left ≡ own → kept ≤ own → kept ≤ left
+    enough kept left own e l = omega (arith, e, l)
+
+-- a plan of a bad block has a page left, at least its mark
+pub bad_plan_pages : (blocks : Spot → BlockState) (plan : Option Plan) (step : Option Step) →
+    is_plan_of_bad blocks plan ≡ true → 1 ≤ pages_of_plan plan step
+bad_plan_pages blocks None step bad = absurd (false≢true bad)
+bad_plan_pages blocks (Some plan) step bad = omega arith
+
+-- each plan fits into two blocks
+pub plan_most : {n : Numbers} {blocks : Spot → BlockState} {step : Option Step} (plan : Option Plan) →
+    ((pl : Plan) → plan ≡ Some pl → PlanGains n blocks step pl) → pages_of_plan plan step ≤ 2 * n.pages
+plan_most None gains = omega arith
+plan_most (Some pl) gains = (gains pl refl).most
+
+-- so it has room where two blocks more are free than are kept
+pub bad_room_begins : (n : Numbers) (blocks : Spot → BlockState) (flights : Flights) (step : Option Step)
+    (plan : Option Plan) → pages_of_plan plan step ≤ 2 * n.pages → kept_room n blocks + 2 ≤ free_count n blocks →
+    HasRoomForBad n blocks flights step plan
+bad_room_begins n blocks flights step plan most more = record {
+  kept = omega (arith, more);
+  fits = fit _ _ _ _ most (mul-le-mul_left n.pages (over _ _ more));
+}
+  where
+    over : (a b : ℕ) → a + 2 ≤ b → 2 ≤ b - a
+    over a b l = omega (arith, l)
+
+    fit : (p room pages over : ℕ) → p ≤ 2 * pages → pages * 2 ≤ over → p ≤ room + over
+    fit p room pages over l k = omega (arith, l, k)
+
+pub fewer_leaves : {n : Numbers} {before : ℕ} {standing : Standing} {cells : Cells}
     {blocks : Spot → BlockState} {flights : Flights} {mended : Bool} {step : Option Step} {plan : Option Plan}
     (now : Flights) → AreFewer flights now →
-    LeavesRoom aside n before standing cells blocks flights mended step plan →
-    LeavesRoom aside n before standing cells blocks now mended step plan
-fewer_leaves {aside} {n} {before} {standing} {cells} {blocks} {flights} {mended} {step} {plan} now fewer r = record {
-  few = r.few;
+    LeavesRoom n before standing cells blocks flights mended step plan →
+    LeavesRoom n before standing cells blocks now mended step plan
+fewer_leaves {n} {before} {standing} {cells} {blocks} {flights} {mended} {step} {plan} now fewer r = record {
   one_die = λ d e p q a b x y h k s.
       r.one_die d e p q a b x y (fewer d p (GroupPage a x) h) (fewer e q (GroupPage b y) k) s;
   copied = r.copied;
   planned = r.planned;
   gains = r.gains;
-  room = λ h. room_stays aside n blocks blocks flights now step step plan refl (λ s good. good) (omega arith)
-      (λ fits. no_less (pages_of_plan plan step) (room_on_dies n blocks step flights)
-      (room_on_dies n blocks step now) fits
+  room = λ h. room_stays n blocks blocks flights now step step plan (λ s. refl) (omega arith)
+      (same_pages _ _ _ _ (omega arith)
       (rooms_no_less n blocks blocks step step flights now (λ die. omega arith) (fewer_pages step fewer)))
       (r.room (handed_fewer fewer h));
 }
 
 -- No page came
 
-pub gone_leaves : {aside : ℕ} {n : Numbers} {before : ℕ} {standing : Standing} {cells : Cells}
+pub gone_leaves : {n : Numbers} {before : ℕ} {standing : Standing} {cells : Cells}
     {blocks : Spot → BlockState} {flights : Flights} {mended : Bool} {step : Option Step} {plan : Option Plan}
     (now : Cells) →
     ((p : Place) (tag : Tag) (body : List ℕ) → now p ≡ GroupPage tag body → cells p ≡ GroupPage tag body) →
-    LeavesRoom aside n before standing cells blocks flights mended step plan →
-    LeavesRoom aside n before standing now blocks flights mended step plan
-gone_leaves {aside} {n} {before} {standing} {cells} {blocks} {flights} {mended} {step} {plan} now was r = record {
-  few = r.few;
+    LeavesRoom n before standing cells blocks flights mended step plan →
+    LeavesRoom n before standing now blocks flights mended step plan
+gone_leaves {n} {before} {standing} {cells} {blocks} {flights} {mended} {step} {plan} now was r = record {
   one_die = r.one_die;
   copied = r.copied;
   planned = r.planned;
@@ -170,36 +273,6 @@ gone_leaves {aside} {n} {before} {standing} {cells} {blocks} {flights} {mended} 
     handed (inl s) = inl s
     handed (inr (inl f)) = inr (inl f)
     handed (inr (inr c)) = inr (shows_from (λ p tag body e. inl (was p tag body e)) c)
-
--- Fewer blocks are set aside
-
-pub less_aside : (aside now : ℕ) (n : Numbers) (blocks : Spot → BlockState) → now ≤ aside →
-    kept_room now n blocks ≤ kept_room aside n blocks
-less_aside aside now n blocks l = omega (arith, l)
-
-pub room_aside : {aside now : ℕ} {n : Numbers} {blocks : Spot → BlockState} {flights : Flights} {step : Option Step}
-    {plan : Option Plan} → now ≤ aside → RoomOf aside n blocks flights step plan → RoomOf now n blocks flights step plan
-room_aside {aside} {now} {n} {blocks} l (inl e) = let k = less_aside aside now n blocks l in inl (omega (arith, e, k))
-room_aside {aside} {now} {n} {blocks} l (inr o) = inr (record {
-  short = let e = o.short in let k = less_aside aside now n blocks l in omega (arith, e, k);
-  under_way = o.under_way;
-  is = o.is;
-  good = o.good;
-  fits = o.fits;
-})
-
-pub fewer_aside : {aside : ℕ} (now : ℕ) {n : Numbers} {before : ℕ} {standing : Standing} {cells : Cells}
-    {blocks : Spot → BlockState} {flights : Flights} {mended : Bool} {step : Option Step} {plan : Option Plan} →
-    now ≤ aside → LeavesRoom aside n before standing cells blocks flights mended step plan →
-    LeavesRoom now n before standing cells blocks flights mended step plan
-fewer_aside now l r = record {
-  few = let k = r.few in omega (arith, k, l);
-  one_die = r.one_die;
-  copied = r.copied;
-  planned = r.planned;
-  gains = r.gains;
-  room = λ h. room_aside l (r.room h);
-}
 
 -- Programs go to blocks that are not bad
 
@@ -217,23 +290,21 @@ still_good blocks s x a put good h = ⊎_elim (λ k. put k.1) (λ k. good k.1) (
 
 -- The content of the step came
 
-pub there_leaves : {aside : ℕ} {n : Numbers} {before : ℕ} {standing : Standing} {cells : Cells}
+pub there_leaves : {n : Numbers} {before : ℕ} {standing : Standing} {cells : Cells}
     {blocks : Spot → BlockState} {flights : Flights} {mended : Bool} {plan : Option Plan} (step : Option Step) →
-    LeavesRoom aside n before standing cells blocks flights mended step plan →
-    LeavesRoom aside n before standing cells blocks flights mended (step_there step) plan
+    LeavesRoom n before standing cells blocks flights mended step plan →
+    LeavesRoom n before standing cells blocks flights mended (step_there step) plan
 there_leaves None r = r
-there_leaves {aside} {n} {blocks = blocks} {flights = flights} {plan = plan} (Some s) r = record {
-  few = r.few;
+there_leaves {n} {blocks = blocks} {flights = flights} {plan = plan} (Some s) r = record {
   one_die = r.one_die;
   copied = λ name from there e. r.copied name from s.there (ap Some (kind (same_Some _ _ e)));
   planned = λ mended other e. r.planned mended s refl;
-  gains = λ pl e. let g = r.gains pl e in record { inside = g.inside; less = g.less };
-  room = λ h. room_stays aside n blocks blocks flights flights (Some s) (Some (record s { there = true })) plan refl
-      (λ a good. good) (omega arith)
-      (λ fits. no_less (pages_of_plan plan (Some (record s { there = true })))
-      (room_on_dies n blocks (Some s) flights) _
-      (more plan fits) (rooms_no_less n blocks blocks (Some s) (Some (record s { there = true })) flights flights
-      (λ die. omega arith) (λ die. pages (flights die)))) (r.room h);
+  gains = λ pl e. let g = r.gains pl e in record { inside = g.inside; most = g.most; less = g.less };
+  room = λ h. room_stays n blocks blocks flights flights (Some s) (Some (record s { there = true })) plan (λ a. refl)
+      (omega arith)
+      (same_pages _ _ _ _ (as_many plan)
+      (rooms_no_less n blocks blocks (Some s) (Some (record s { there = true })) flights flights (λ die. omega arith)
+      (λ die. pages (flights die)))) (r.room h);
 }
   where
     kind : {name : Name} {from : Place} {there : Bool} →
@@ -245,10 +316,9 @@ there_leaves {aside} {n} {blocks = blocks} {flights = flights} {plan = plan} (So
     pages (Some (Programming p (GroupPage tag body))) = omega arith
     pages o = omega arith
 
-    more : (pl : Option Plan) → pages_of_plan pl (Some s) ≤ room_on_dies n blocks (Some s) flights →
-        pages_of_plan pl (Some (record s { there = true })) ≤ room_on_dies n blocks (Some s) flights
-    more None h = h
-    more (Some x) h = h
+    as_many : (pl : Option Plan) → pages_of_plan pl (Some (record s { there = true })) ≤ pages_of_plan pl (Some s)
+    as_many None = omega arith
+    as_many (Some x) = omega arith
 
 -- the step of one name programs no page of another
 pub kind_name : (a b : Name) (kind : StepKind) → is_kind_of a kind ≡ true → is_kind_of b kind ≡ true → a ≡ b

@@ -10,8 +10,8 @@ pub returns-clause-each_move : goal.returns-clause-each_move
 returns-clause-each_move c = move_leaves
 
 pub returns-clause-stop : goal.returns-clause-stop
-returns-clause-stop c = λ t aside r handed.
-    ⊎_elim (λ l. omega (arith, l)) (λ o. let l = o.short in omega (arith, l)) (r.room handed)
+returns-clause-stop c = λ t r handed.
+    ⊎_elim (λ l. omega (arith, l)) (λ o. let l = o.short in omega (arith, l)) (r.room handed).any
 
 pub returns-clause-either : goal.returns-clause-either
 returns-clause-either c = handed_or_not
