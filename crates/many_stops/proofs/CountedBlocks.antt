@@ -1,6 +1,6 @@
 -- How many blocks are free: no fewer where each block that was free is so, one less at the most where all but one are,
 -- and one more where each is and another is free too. And how many are bad.
-use Rattle.std.proofs.Common.{◌≡◌, ◌≢◌, ℕ, ◌+◌, ◌≤◌, Bool, cond, false, refl, sym, ap, ◌∙◌, ⊎_elim, arith}
+use Rattle.std.proofs.Common.{◌≡◌, ◌≢◌, ℕ, ◌+◌, ◌≤◌, Bool, cond, true, false, refl, sym, ap, ◌∙◌, ⊎_elim, arith}
 use Rattle.std.specs.List.{count_by}
 use Rattle.ufs_spec.proofs.Updates.{at_spot_cases}
 use Rattle.ufs_spec.specs.Disk.{BlockState, Bad, Closed, Filling, Free, Spot, at_spot}
@@ -141,3 +141,18 @@ one_bad_more n blocks s on good =
     let now = ap {B = ℕ} (λ (x : BlockState). cond (is_bad x) 1 0)
     (⊎_elim (λ k. k.1) (λ k. absurd (k.0 refl)) (at_spot_cases blocks s Bad s)) in
     omega (arith, was, now))
+
+-- and one more at the most
+pub one_bad_most : (n : Numbers) (blocks : Spot → BlockState) (s : Spot) →
+    bad_count n (at_spot blocks s Bad) ≤ 1 + bad_count n blocks
+one_bad_most n blocks s =
+    sum_less 1 (λ a. cond (is_bad (at_spot blocks s Bad a)) 1 0) (λ a. cond (is_bad (blocks a)) 1 0) s (spots n)
+    (spot_told s) (spots_apart n)
+    (λ a i other. ⊎_elim (λ k. absurd (other k.0))
+    (λ k. let e = ap {B = ℕ} (λ (x : BlockState). cond (is_bad x) 1 0) k.1 in omega (arith, e))
+    (at_spot_cases blocks s Bad a))
+    (let l = one_at_most (is_bad (at_spot blocks s Bad s)) in omega (arith, l))
+  where
+    one_at_most : (b : Bool) → cond b 1 0 ≤ 1
+    one_at_most true = omega arith
+    one_at_most false = omega arith

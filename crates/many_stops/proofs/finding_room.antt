@@ -2,8 +2,14 @@ pub mod RoomForAMending
 pub mod BlocksOneByOne
 pub mod SinceTheOpening
 pub mod MovesSinceTheOpening
+pub mod FailuresSinceTheOpening
+pub mod ErasesInside
+pub mod FailuresWhileMending
 pub mod ThinnerCells
 pub mod StopsOfAMending
+pub mod StopsBeforeTheMark
+pub mod LateMarks
+pub mod StopsOfRepairs
 pub mod LivesWithFailures
 pub mod MendingLives
 pub mod LivesFindRoom

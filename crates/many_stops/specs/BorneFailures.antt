@@ -1,20 +1,19 @@
 -- Which failures of programs and erases the laws of room bear.
-use Rattle.std.specs.Prelude.{◌≡◌, ℕ, ◌<◌, true, List, [], ◌∷◌, Some}
+use Rattle.std.specs.Prelude.{ℕ, ◌<◌, List, [], ◌∷◌, Some}
 use Rattle.ufs_spec.specs.Cells.{Cells}
 use Rattle.ufs_spec.specs.Lives.{Leads, Lived}
 use Rattle.ufs_spec.specs.Moves.{EndJob, Move, WentWrong, moved}
 use Rattle.ufs_spec.specs.Refusals.{State}
-use Rattle.ufs_spec.specs.Translation.{Translation, count_blocks, is_bad, is_mended}
+use Rattle.ufs_spec.specs.Translation.{Translation, count_blocks, is_bad}
 use Rattle.ufs_spec.specs.declared.events.Event.{Event}
 use Rattle.ufs_spec.specs.declared.events.Event.TheVariants as event
 use Rattle.ufs_spec.specs.declared.events.Output.{Output}
 use Rattle.many_stops.specs.FreeOverStops.{FailsStale}
 
--- the failure of the die's job is borne: no more blocks are bad after it than are spare, the device is mended, and the
--- job is not the erase of a block with pages that may go beside another such block
+-- the failure of the die's job is borne: no more blocks are bad after it than are spare, and the job is not the erase
+-- of a block with pages that may go beside another such block
 pub record IsBorne (t : Translation) (die : ℕ) : Type 0 where
   pub spare : count_blocks t is_bad < t.numbers.spare
-  pub mended : is_mended t.work.mending ≡ true
   pub alone : (left : Cells) → FailsStale t (EndJob die (WentWrong left)) → ⊥
 
 -- Moves

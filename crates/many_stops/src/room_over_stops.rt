@@ -31,9 +31,9 @@ ghost use Rattle.many_stops.specs.RoomOverStops.{FindsRoom, OpensWithRoom, more_
 /// block that may still go bad. And so many besides are free or hold only what is lost as another
 /// mending may need: those are free at the next opening, once the first mark is finished.
 ///
-/// Programs and erases may fail meanwhile, up to the spare blocks, where the device is mended
-/// (`IsBorne`). What stays open is a stop of a mending in which one failed; and an erase of a block
-/// with pages that may go that fails beside another such block.
+/// Programs and erases may fail meanwhile, up to the spare blocks, also while the device mends
+/// (`IsBorne`): for each one block was free. What stays open is an erase of a block with pages that
+/// may go that fails beside another such block.
 pub fn each_opening_finds_room()
     ensures blocks { (n : Numbers) → IsConfig n →
         (n.slots + 2 ≤ n.pages * mending_blocks n) × (least_room n ≡ n.dies + 2 * mending_blocks n) }

@@ -72,7 +72,7 @@ one_filled own now pages free after room left step next same (inr h) one more le
 times : (m : ℕ) {a b : ℕ} → a ≤ b → m * a ≤ m * b
 times m l = mul-le-mul_left m l
 
-one_page : (s : Option Step) → page_of_step s ≤ 1
+pub one_page : (s : Option Step) → page_of_step s ≤ 1
 one_page None = omega arith
 one_page (Some step) = omega arith
 
@@ -81,12 +81,14 @@ program_filled : (n : Numbers) (blocks : Spot → BlockState) (s : Spot) (page :
     FilledIn n (at_spot blocks s (state_after n.pages page)) next
 program_filled n blocks s page step next l is inside f =
     let more = none_fewer n blocks s (state_after n.pages page) (λ free. free_is_not_filling free is) in
-    one_filled (own_room n (bad_count n blocks)) (own_room n (bad_count n (at_spot blocks s (state_after n.pages page))))
+    one_filled (own_room n (bad_count n blocks))
+    (own_room n (bad_count n (at_spot blocks s (state_after n.pages page))))
     n.pages (free_count n blocks) (free_count n (at_spot blocks s (state_after n.pages page)))
     (room_in n blocks) (room_in n (at_spot blocks s (state_after n.pages page))) (page_of_step step)
     (page_of_step next)
     (ap (own_room n) (good_alike n blocks s (state_after n.pages page) (filling_is_not_bad is)
-    (not_bad_after n.pages page))) f (one_page step) more (program_fills n blocks s page l is inside) (times n.pages more)
+    (not_bad_after n.pages page))) f (one_page step) more (program_fills n blocks s page l is inside)
+    (times n.pages more)
 
 -- A program that begins
 

@@ -1,21 +1,20 @@
--- What holds of a life from its opening on, if that found room, and whose failures are borne: until the device is mended
--- nothing fails, the mending has room, and fills one block after another.
-use Rattle.std.proofs.Common.{◌≡◌, ◌≢◌, ℕ, ◌+◌, ◌-◌, ◌*◌, ◌≤◌, Bool, true, false, length, Option}
+-- What holds of a life from its opening on, if that found room, and whose failures are borne: until the device is
+-- mended the mending has room, less a block for each failure, and fills one block after another.
+use Rattle.std.proofs.Common.{◌≡◌, ◌≢◌, ◌⊎◌, ℕ, ◌<◌, ◌+◌, ◌-◌, ◌*◌, ◌≤◌, Bool, true, false, length, Option}
 use Rattle.std.proofs.Common.{Some, None}
 use Rattle.std.proofs.Common.{inl, inr, ⊎_elim, refl, sym, ap, ◌∙◌, subst, arith}
 use Rattle.ufs_spec.proofs.Facts.{cases_Bool, true≢false}
-use Rattle.ufs_spec.proofs.Updates.{at_die_cases, at_place_cases, at_spot_cases}
+use Rattle.ufs_spec.proofs.Updates.{at_die_cases, at_place_cases}
 use Rattle.ufs_spec.specs.Cells.{Cell, Cells, Mark, MarkPage}
-use Rattle.ufs_spec.specs.Disk.{BlockState, Bad, CellCrash, Closed, Filling, Free, Programming, Spot, Touches, at_die}
-use Rattle.ufs_spec.specs.Disk.{at_place, at_spot, programmed, spot_of, state_after}
+use Rattle.ufs_spec.specs.Disk.{CellCrash, Programming, Spot, Touches, at_die}
+use Rattle.ufs_spec.specs.Disk.{at_place, programmed}
 use Rattle.ufs_spec.specs.Moves.{EndJob, IsAllowedMove, Move, WentWell, WentWrong, end_flight, ending_fits, freed}
-use Rattle.ufs_spec.specs.Moves.{freed_state, mark_written, moved}
+use Rattle.ufs_spec.specs.Moves.{mark_written, moved}
 use Rattle.ufs_spec.specs.Openings.{AreLost, IsOpenedTranslation}
 use Rattle.ufs_spec.specs.Translation.{Mended, Mending, Plan, Repairing, Translation, Unmarked, count_blocks, is_bad}
 use Rattle.ufs_spec.specs.Translation.{is_free, is_mended, may_go_bad}
 use Rattle.ufs_spec.specs.declared.flash.Place.{Place}
 use Rattle.power_loss.proofs.books.LayerParts.{MendingOf, StopLeaves}
-use Rattle.power_loss.proofs.jobs.StandsSecurely.{filling_is_not_bad}
 use Rattle.power_loss.proofs.mending_steps.TurnsOfALife.{false_before}
 use Rattle.power_loss.proofs.moves.MovesKeepCellsFitting.{move_stays}
 use Rattle.power_loss.proofs.moves.MovesKeepValid.{all_keep}
@@ -31,35 +30,38 @@ use Rattle.power_loss.specs.FewRepairs.{HasFewLost, HasFewRepairs, still_lost}
 use Rattle.power_loss.specs.Invariant.{Valid}
 use Rattle.power_loss.specs.MendingRoom.{HasRoom, fails_job}
 use Rattle.power_loss.proofs.room_to_mend.DevicesWithRoom.{no_failure}
-use Rattle.many_stops.proofs.finding_room.BlocksOneByOne.{Filled, move_fills, opening_filled}
+use Rattle.many_stops.proofs.finding_room.BlocksOneByOne.{Filled, opening_filled}
+use Rattle.many_stops.proofs.finding_room.ErasesInside.{AreErasesInside, erases_inside, opening_erases}
+use Rattle.many_stops.proofs.finding_room.FailuresSinceTheOpening.{any_move_since}
+use Rattle.many_stops.proofs.finding_room.FailuresWhileMending.{any_move_fills, fails_bad, marked_bad, well_bad}
 use Rattle.many_stops.proofs.finding_room.RoomForAMending.{blocks_hold}
 use Rattle.many_stops.proofs.finding_room.SinceTheOpening.{SinceOpening, WereUnfilled}
-use Rattle.many_stops.proofs.finding_room.MovesSinceTheOpening.{move_since}
 use Rattle.many_stops.proofs.finding_room.MovesSinceTheOpening.{opening_since}
-use Rattle.many_stops.proofs.finding_room.StopsOfAMending.{HasNewMark, HasNoNewMark, new_mark}
+use Rattle.many_stops.proofs.finding_room.StopsBeforeTheMark.{unmarked_leaves}
+use Rattle.many_stops.proofs.finding_room.StopsOfAMending.{HasNewMark, HasNoNewMark, IsWithin, UnmendedStop, new_mark}
 use Rattle.many_stops.proofs.finding_room.StopsOfAMending.{opened_bad, were_unfilled}
-use Rattle.many_stops.proofs.finding_room.StopsOfAMending.{repairing_leaves, unmarked_leaves}
+use Rattle.many_stops.proofs.finding_room.StopsOfRepairs.{LeavesOver, repairing_leaves}
 use Rattle.many_stops.proofs.finding_room.LivesWithFailures.{IsKeptByMoves}
-use Rattle.many_stops.proofs.CountedBlocks.{bad_alike, bad_stays}
+use Rattle.many_stops.proofs.CountedBlocks.{bad_alike}
 use Rattle.many_stops.proofs.free_at_stops.MovesKeepFree.{move_keeps, opening_keeps}
 use Rattle.many_stops.proofs.free_at_stops.MovesKeepFree.{stop_costs_none}
 use Rattle.many_stops.proofs.room_left.HandedPages.{handed_or_not}
 use Rattle.many_stops.proofs.room_left.IdleLives.{idle_stop}
 use Rattle.many_stops.proofs.room_left.MovesLeaveRoom.{move_leaves, opening_leaves}
-use Rattle.many_stops.proofs.room_left.RoomStays.{not_bad_after}
-use Rattle.many_stops.specs.BorneFailures.{MoveIsBorne}
+use Rattle.many_stops.specs.BorneFailures.{IsBorne, MoveIsBorne}
 use Rattle.many_stops.specs.FreeOverStops.{FailsStale, KeepsFree}
 use Rattle.many_stops.specs.RoomOfGroups.{HasHandedOut, IsWithinSpare, LeavesOwnRoom, bad_count, free_count, kept_room}
 use Rattle.many_stops.specs.RoomOfGroups.{mending_blocks}
 use Rattle.many_stops.specs.RoomOverStops.{FindsRoom, HasSpareBlocks}
 
--- so many free blocks of an opening its mending leaves
-abbrev blocks_over : Translation → ℕ
-blocks_over o = free_count o.numbers o.disk.blocks - mending_blocks o.numbers
-
 pub record MendsFrom (o t : Translation) : Type 0 where
   pub room : HasSpareBlocks o
-  pub mends : Mends (blocks_over o) t
+  -- the mending has room for so many more failures: each that came took a block
+  pub over : ℕ
+  pub mends : Mends over t
+  pub leaves : LeavesOver o t over
+  pub within : IsWithin o t
+  pub inside : AreErasesInside t
   pub since : SinceOpening o t
   pub filled : Filled t
 
@@ -79,10 +81,98 @@ within_spare : (t : Translation) (move : Move) → MoveIsBorne t move → IsWith
 within_spare t (EndJob die (WentWrong left)) b fails = b.spare
 within_spare t move b fails = absurd (true≢false (sym fails))
 
-ends_well : (t : Translation) (move : Move) → MoveIsBorne t move → is_mended t.work.mending ≡ false →
-    fails_job move ≡ false
-ends_well t (EndJob die (WentWrong left)) b un = absurd (true≢false (sym b.mended ∙ un))
-ends_well t move b un = refl
+-- a move by which nothing fails takes no room for failures
+well_leaves : (first over bad after : ℕ) → first ≤ over + bad → after ≡ bad → first ≤ over + after
+well_leaves first over bad after l e = omega (arith, l, e)
+
+well_within : (was bad after spare : ℕ) → (bad ≤ was) ⊎ (bad ≤ spare) → after ≡ bad → (after ≤ was) ⊎ (after ≤ spare)
+well_within was bad after spare (inl l) e = inl (omega (arith, l, e))
+well_within was bad after spare (inr l) e = inr (omega (arith, l, e))
+
+-- while no more blocks are bad than are spare there is room for one more that fails
+still_over : (blocks spare was bad first over : ℕ) → blocks + (spare - was) ≤ first →
+    first - blocks + was ≤ over + bad → bad < spare → over ≡ over - 1 + 1
+still_over blocks spare was bad first over room leaves few = omega (arith, room, leaves, few)
+
+failed_leaves : (blocks spare was bad after first over : ℕ) → blocks + (spare - was) ≤ first →
+    first - blocks + was ≤ over + bad → bad < spare → after ≡ 1 + bad → first - blocks + was ≤ over - 1 + after
+failed_leaves blocks spare was bad after first over room leaves few e = omega (arith, room, leaves, few, e)
+
+failed_within : (bad after spare : ℕ) → bad < spare → after ≡ 1 + bad → after ≤ spare
+failed_within bad after spare few e = omega (arith, few, e)
+
+module _ (o t : Translation) (unfilled : WereUnfilled o) (v : Valid t) (un : is_mended t.work.mending ≡ false)
+    (m : MendsFrom o t) where
+  numbers_stay : (move : Move) → (moved t move).numbers ≡ t.numbers
+  numbers_stay move = (move_stays t move).numbers
+
+  -- the room that the opening had
+  first_room : mending_blocks t.numbers + may_go_bad t.numbers (bad_count t.numbers o.disk.blocks)
+      ≤ free_count t.numbers o.disk.blocks
+  first_room = subst (λ n. mending_blocks n + may_go_bad n (bad_count n o.disk.blocks) ≤ free_count n o.disk.blocks)
+      (sym m.since.numbers_are) m.room.free
+
+  well_on : (move : Move) → IsAllowedMove t move → MoveIsBorne t move → fails_job move ≡ false →
+      MendsFrom o (moved t move)
+  well_on move may b well = record {
+    room = m.room;
+    over = m.over;
+    mends = move_mends move m.over
+        (subst (λ k. Mends k t) (no_failure (fails_job move) m.over well) m.mends) un may;
+    leaves = subst
+        (λ n. free_count n o.disk.blocks - mending_blocks n + bad_count n o.disk.blocks
+        ≤ m.over + bad_count n (moved t move).disk.blocks) (sym (numbers_stay move))
+        (well_leaves _ m.over (bad_count t.numbers t.disk.blocks) (bad_count t.numbers (moved t move).disk.blocks)
+        m.leaves alike);
+    within = subst
+        (λ n. (bad_count n (moved t move).disk.blocks ≤ bad_count n o.disk.blocks)
+        ⊎ (bad_count n (moved t move).disk.blocks ≤ n.spare)) (sym (numbers_stay move))
+        (well_within (bad_count t.numbers o.disk.blocks) (bad_count t.numbers t.disk.blocks)
+        (bad_count t.numbers (moved t move).disk.blocks) t.numbers.spare m.within alike);
+    inside = erases_inside t m.inside move may;
+    since = any_move_since unfilled v un m.mends.alone m.since move may;
+    filled = any_move_fills v un m.mends.alone m.filled m.inside move may (within_spare t move b);
+  }
+    where
+      alike : bad_count t.numbers (moved t move).disk.blocks ≡ bad_count t.numbers t.disk.blocks
+      alike = bad_alike t.numbers t.disk.blocks (moved t move).disk.blocks (well_bad v move may well)
+
+  failed_on : (die : ℕ) (left : Cells) → IsAllowedMove t (EndJob die (WentWrong left)) → IsBorne t die →
+      MendsFrom o (moved t (EndJob die (WentWrong left)))
+  failed_on die left may b = record {
+    room = m.room;
+    over = m.over - 1;
+    mends = move_mends move (m.over - 1)
+        (subst (λ k. Mends k t)
+        (still_over (mending_blocks t.numbers) t.numbers.spare (bad_count t.numbers o.disk.blocks)
+        (bad_count t.numbers t.disk.blocks) (free_count t.numbers o.disk.blocks) m.over first_room m.leaves b.spare)
+        m.mends) un may;
+    leaves = subst
+        (λ n. free_count n o.disk.blocks - mending_blocks n + bad_count n o.disk.blocks
+        ≤ m.over - 1 + bad_count n (moved t move).disk.blocks) (sym (numbers_stay move))
+        (failed_leaves (mending_blocks t.numbers) t.numbers.spare (bad_count t.numbers o.disk.blocks)
+        (bad_count t.numbers t.disk.blocks) (bad_count t.numbers (moved t move).disk.blocks)
+        (free_count t.numbers o.disk.blocks) m.over first_room m.leaves b.spare one_more);
+    within = subst
+        (λ n. (bad_count n (moved t move).disk.blocks ≤ bad_count n o.disk.blocks)
+        ⊎ (bad_count n (moved t move).disk.blocks ≤ n.spare)) (sym (numbers_stay move))
+        (inr (failed_within (bad_count t.numbers t.disk.blocks) (bad_count t.numbers (moved t move).disk.blocks)
+        t.numbers.spare b.spare one_more));
+    inside = erases_inside t m.inside move may;
+    since = any_move_since unfilled v un m.mends.alone m.since move may;
+    filled = any_move_fills v un m.mends.alone m.filled m.inside move may (within_spare t move b);
+  }
+    where
+      move : Move
+      move = EndJob die (WentWrong left)
+
+      one_more : bad_count t.numbers (moved t (EndJob die (WentWrong left))).disk.blocks
+          ≡ 1 + bad_count t.numbers t.disk.blocks
+      one_more = fails_bad v die left may m.inside
+
+  mends_on : (move : Move) → IsAllowedMove t move → MoveIsBorne t move → MendsFrom o (moved t move)
+  mends_on (EndJob die (WentWrong left)) may b = failed_on die left may b
+  mends_on move may b = well_on move may b refl
 
 pub lives_on : (o : Translation) → WereUnfilled o → IsKeptByMoves (LivesFrom o)
 lives_on o unfilled t move v may b l = record {
@@ -91,15 +181,7 @@ lives_on o unfilled t move v may b l = record {
   few = move_few move v l.few;
   mends = λ now.
       let un = false_before (is_mended t.work.mending) (move_stays t move).mended now in
-      let well = ends_well t move b un in
-      let m = l.mends un in
-      record {
-        room = m.room;
-        mends = move_mends move (blocks_over o)
-            (subst (λ k. Mends k t) (no_failure (fails_job move) (blocks_over o) well) m.mends) un may;
-        since = move_since unfilled v un m.mends.alone m.since move may well;
-        filled = move_fills v un m.mends.alone m.filled move may well;
-      };
+      mends_on o t unfilled v un (l.mends un) move may b;
 }
 
 -- A life begins
@@ -123,8 +205,11 @@ module _ (bad : Spot → Bool) (o : Translation) (opens : Opened bad o)
       (subst (λ low. AreLost o.disk.cells low o.ledger.greatest_seen (still_lost o.work.mending))
       opens.start.ledger.first_lost lost_are)
 
-  first_room : HasSpareBlocks o → HasRoom (blocks_over o) o
-  first_room room = opening_room o.numbers o.disk.cells bad o (still_lost o.work.mending) (blocks_over o) opens.start
+  abbrev blocks_over : ℕ
+  blocks_over = free_count o.numbers o.disk.blocks - mending_blocks o.numbers
+
+  opens_with : HasSpareBlocks o → HasRoom blocks_over o
+  opens_with room = opening_room o.numbers o.disk.cells bad o (still_lost o.work.mending) blocks_over opens.start
       lost_are
       (enough_over o.numbers.pages (length (still_lost o.work.mending)) o.numbers.slots (mending_blocks o.numbers)
       (free_count o.numbers o.disk.blocks) lost_few (blocks_hold o.numbers pages)
@@ -134,11 +219,15 @@ module _ (bad : Spot → Bool) (o : Translation) (opens : Opened bad o)
   first_mends (inl mended) un = absurd (true≢false (sym mended ∙ un))
   first_mends (inr room) un = record {
     room = room;
+    over = blocks_over;
     mends = record {
       valid = v;
       alone = opening_alone o.numbers o.disk.cells bad o opens.start;
-      room = first_room room;
+      room = opens_with room;
     };
+    leaves = omega arith;
+    within = inl (omega arith);
+    inside = opening_erases o.numbers o.disk.cells bad o opens.start;
     since = opening_since o.numbers o.disk.cells bad o opens.start un;
     filled = opening_filled o.numbers o.disk.cells bad o opens.pages opens.start;
   }
@@ -196,25 +285,33 @@ module _ (bad : Spot → Bool) (o t : Translation) (left : Cells) (next : Transl
     (dies : 1 ≤ t.numbers.dies) (v : Valid t) (l : LivesFrom o t)
     (crash : StopLeaves t left) (start : IsOpenedTranslation t.numbers left (λ s. is_bad (t.disk.blocks s)) next)
     (none : HasNoNewMark t left) where
-  has_room : MendsFrom o t → HasRoom (free_count t.numbers o.disk.blocks - mending_blocks t.numbers) t
-  has_room m = subst (λ n. HasRoom (free_count n o.disk.blocks - mending_blocks n) t) (sym m.since.numbers_are)
-      m.mends.room
+  stopped : is_mended t.work.mending ≡ false → UnmendedStop bad o t left next
+  stopped un =
+      let m = l.mends un in
+      record {
+        opens = opens;
+        valid = v;
+        un = un;
+        alone = m.mends.alone;
+        since = m.since;
+        free = l.free;
+        within = m.within;
+        crash = crash;
+        start = start;
+        none = none;
+        room = m.room;
+      }
 
   unmended_leaves : is_mended t.work.mending ≡ false → (w : Mending) → t.work.mending ≡ w → MendingOf t w →
-      HasSpareBlocks next
-  unmended_leaves un (Unmarked fence lost) is u =
-      let m = l.mends un in
-      unmarked_leaves o t left next bad opens v un m.mends.alone m.since crash start none m.room
-      fence lost is u
+      FindsRoom next
+  unmended_leaves un (Unmarked fence lost) is u = inr (unmarked_leaves (stopped un) fence lost is u)
   unmended_leaves un (Repairing keys) is w =
-      let m = l.mends un in
-      repairing_leaves o t left next bad opens v un m.mends.alone m.since crash start none m.room
-      keys is w dies m.filled (has_room m)
+      let m = l.mends un in repairing_leaves (stopped un) keys is w m.over dies m.filled m.mends.room m.leaves
   unmended_leaves un Mended is w = absurd (true≢false (ap is_mended (sym is) ∙ un))
 
   settled_leaves : FindsRoom next
   settled_leaves = ⊎_elim (λ mended. mended_leaves t left next v crash start l.free l.leaves l.few mended)
-      (λ un. inr (unmended_leaves un t.work.mending refl v.mending)) (cases_Bool (is_mended t.work.mending))
+      (λ un. unmended_leaves un t.work.mending refl v.mending) (cases_Bool (is_mended t.work.mending))
 
 -- A mark that is left as it was meant
 
@@ -251,32 +348,6 @@ flights_freed t p m die = by t.work.plan
     by None = refl
     by (Some pl) = refl
 
--- the end of a mark makes no block bad, and none good
-marked_bad : {t : Translation} → Valid t → (die : ℕ) (p : Place) (m : Mark) →
-    t.disk.flights die ≡ Some (Programming p (MarkPage m)) → (s : Spot) →
-    is_bad (t.disk.blocks s) ≡ is_bad ((mark_written t p m).disk.blocks s)
-marked_bad {t} v die p m e s = sym (by t.work.plan)
-  where
-    filled : (a : Spot) →
-        is_bad (at_spot t.disk.blocks (spot_of p) (state_after t.numbers.pages p.page) a) ≡ is_bad (t.disk.blocks a)
-    filled = bad_stays t.disk.blocks (spot_of p) (state_after t.numbers.pages p.page)
-        (filling_is_not_bad (v.flights.programs die p (MarkPage m) e).next) (not_bad_after t.numbers.pages p.page)
-
-    freed_bad : (x : BlockState) → is_bad (freed_state x) ≡ is_bad x
-    freed_bad Bad = refl
-    freed_bad Free = refl
-    freed_bad Closed = refl
-    freed_bad (Filling next) = refl
-
-    by : (plan : Option Plan) →
-        is_bad ((freed (programmed t.numbers.pages t.disk p (MarkPage m)) plan).blocks s) ≡ is_bad (t.disk.blocks s)
-    by None = filled s
-    by (Some pl) =
-        let blocks = at_spot t.disk.blocks (spot_of p) (state_after t.numbers.pages p.page) in
-        ⊎_elim
-        (λ k. ap is_bad k.1 ∙ (freed_bad (blocks pl.victim) ∙ (ap (λ z. is_bad (blocks z)) (sym k.0) ∙ filled s)))
-        (λ k. ap is_bad k.1 ∙ filled s) (at_spot_cases blocks pl.victim (freed_state (blocks pl.victim)) s)
-
 -- A stop of a life that found room leaves room
 
 module _ (bad : Spot → Bool) (o t : Translation) (left : Cells) (next : Translation) (opens : Opened bad o)
@@ -300,7 +371,7 @@ module _ (bad : Spot → Bool) (o t : Translation) (left : Cells) (next : Transl
       left_behind = mark_crash t left x.die x.place x.mark v crash x.flies x.there
 
       same : (s : Spot) → is_bad (t.disk.blocks s) ≡ is_bad ((mark_written t x.place x.mark).disk.blocks s)
-      same s = marked_bad v x.die x.place x.mark x.flies s
+      same s = sym (marked_bad v x.die x.place x.mark x.flies s)
 
       none_new : HasNoNewMark (mark_written t x.place x.mark) left
       none_new p m h = ⊎_elim (λ e. e)

@@ -1,11 +1,11 @@
 -- What a device that mends has made of its opening stays so along each move, and is so when a life begins.
-use Rattle.std.proofs.Common.{◌∷◌, ◌≡◌, ◌≢◌, ◌⊎◌, ℕ, ◌<◌, ◌≤◌, Bool, true, false, List, Option, Some, None}
+use Rattle.std.proofs.Common.{◌∷◌, ◌≡◌, ◌≢◌, ◌⊎◌, ℕ, ◌<◌, ◌≤◌, Bool, true, false, List, [], Option, Some, None}
 use Rattle.std.proofs.Common.{inl, inr, ⊎_elim, if◌then◌else◌, length, refl, sym, ap, ◌∙◌, subst, arith}
 use Rattle.ufs_laws.proofs.walk.LayerEffects.{IsDue, order_due, turned_if}
-use Rattle.ufs_spec.proofs.CellKinds.{one_mark, one_page, page_not_nothing}
+use Rattle.ufs_spec.proofs.CellKinds.{mark_not_nothing, one_mark, one_page, page_not_nothing}
 use Rattle.ufs_spec.proofs.Equalities.{name_told, spot_cases}
 use Rattle.ufs_spec.proofs.Facts.{false≢true, none-some, same_Some, true≢false}
-use Rattle.ufs_spec.proofs.Updates.{at_place_cases, at_place_is, at_spot_cases, at_spot_is}
+use Rattle.ufs_spec.proofs.Updates.{at_place_cases, at_place_is, at_spot_cases}
 use Rattle.ufs_spec.specs.Cells.{Cell, Cells, GroupPage, Mark, MarkPage, Nothing}
 use Rattle.ufs_spec.specs.Disk.{Bad, Erasing, Filling, Flight}
 use Rattle.ufs_spec.specs.Disk.{Free, Programming, Reading, Spot, at_place, at_spot, spot_of, state_after}
@@ -24,15 +24,17 @@ use Rattle.ufs_spec.specs.declared.flash.Tag.{Tag}
 use Rattle.ufs_spec.specs.declared.layer.Name.{Name}
 use Rattle.ufs_spec.specs.declared.layer.Reader.TheVariants.{ForNobody, ForRest, ForStep, ForTask}
 use Rattle.power_loss.proofs.books.LayerParts.{MendingOf}
-use Rattle.power_loss.proofs.jobs.StandsSecurely.{closed_is_not_free, ready_is_not_stale}
+use Rattle.power_loss.proofs.jobs.StandsSecurely.{closed_is_not_free, filling_is_not_bad, ready_is_not_stale}
 use Rattle.power_loss.proofs.jobs_owed.ProgramsAndErases.{OpensReady, program_owed}
+use Rattle.power_loss.proofs.stops.LeftCells.{flying_above}
 use Rattle.power_loss.proofs.stops.LeftUnmarked.{page_no_mark}
 use Rattle.power_loss.specs.Book.{book}
 use Rattle.power_loss.specs.Invariant.{StepKindRight, Valid}
 use Rattle.power_loss.specs.Losing.{is_marked}
 use Rattle.power_loss.specs.MendingRoom.{MendsAlone, fails_job, flies_kind}
-use Rattle.many_stops.proofs.room_left.RoomStays.{bad_is_not_free, not_bad_after}
-use Rattle.many_stops.proofs.finding_room.SinceTheOpening.{step_of, SinceOpening, WereUnfilled, after_is, there_is}
+use Rattle.many_stops.proofs.room_left.RoomStays.{bad_is_not_free}
+use Rattle.many_stops.proofs.finding_room.SinceTheOpening.{IsLessOrNewMark, SinceOpening, WereUnfilled, after_is}
+use Rattle.many_stops.proofs.finding_room.SinceTheOpening.{step_of, there_is}
 use Rattle.many_stops.proofs.finding_room.SinceTheOpening.{kind_of_step, mark_no_repair, next_low, name_number}
 use Rattle.many_stops.proofs.finding_room.SinceTheOpening.{behind_marked, closed_apart, bad_apart}
 use Rattle.many_stops.proofs.finding_room.SinceTheOpening.{filling_not_free}
@@ -63,30 +65,40 @@ module _ {o t : Translation} (unfilled : WereUnfilled o) (v : Valid t) (un : is_
     seen = r.seen;
     still = λ s not. ⊎_elim (λ k. absurd (not (ap o.disk.blocks k.0 ∙ was))) (λ k. k.1 ∙ r.still s not)
         (at_spot_cases t.disk.blocks (spot_of p) (Filling p.page) s);
-    no_worse = λ s h. ⊎_elim (λ k. absurd (bad_apart (sym k.1))) (λ k. r.no_worse s k.1)
-        (at_spot_is t.disk.blocks (spot_of p) (Filling p.page) s Bad h);
-    whole = r.whole;
     unchanged = r.unchanged;
-    new = λ q tag body free now h. ⊎_elim (λ k. inside q tag body k.0 free h)
-        (λ k. r.new q tag body free (λ e. now (k.1 ∙ e)) h)
+    new = λ q tag body free now good h. ⊎_elim (λ k. inside q tag body k.0 free h)
+        (λ k. r.new q tag body free (λ e. now (k.1 ∙ e)) (λ e. good (k.1 ∙ e)) h)
         (at_spot_cases t.disk.blocks (spot_of p) (Filling p.page) (spot_of q));
     named = r.named;
     same = r.same;
+    blank = λ unmarked q free now good. ⊎_elim (λ k. none_inside unmarked q k.0 free)
+        (λ k. r.blank unmarked q free (λ e. now (k.1 ∙ e)) (λ e. good (k.1 ∙ e)))
+        (at_spot_cases t.disk.blocks (spot_of p) (Filling p.page) (spot_of q));
     fewer = r.fewer;
     newer = r.newer;
+    late = r.late;
   }
     where
       was : o.disk.blocks (spot_of p) ≡ Free
       was = ⊎_elim (λ e. filled_was_free o t unfilled r (spot_of p) p.page e)
           (λ (k : OpensReady t p). free_was_free o t unfilled r (spot_of p) k.free) next
 
+      empty_ready : (q : Place) → spot_of q ≡ spot_of p → OpensReady t p → t.disk.cells q ≡ Nothing
+      empty_ready q at k =
+          v.vacancies.empty q (ap t.disk.blocks at ∙ k.free) (ready_is_not_stale (ap t.disk.vacancies at ∙ k.ready))
+
       inside : (q : Place) (tag : Tag) (body : List ℕ) → spot_of q ≡ spot_of p → o.disk.blocks (spot_of q) ≡ Free →
           t.disk.cells q ≡ GroupPage tag body → t.ledger.first_lost ≤ tag.number
       inside q tag body at free h = ⊎_elim
-          (λ e. r.new q tag body free (filling_not_free (ap t.disk.blocks at ∙ e)) h)
-          (λ (k : OpensReady t p). absurd (page_not_nothing _ _ _ h
-          (v.vacancies.empty q (ap t.disk.blocks at ∙ k.free) (ready_is_not_stale (ap t.disk.vacancies at ∙ k.ready)))))
-          next
+          (λ e. r.new q tag body free (filling_not_free (ap t.disk.blocks at ∙ e))
+          (filling_is_not_bad (ap t.disk.blocks at ∙ e)) h)
+          (λ (k : OpensReady t p). absurd (page_not_nothing _ _ _ h (empty_ready q at k))) next
+
+      none_inside : is_marked t.work.mending ≡ false → (q : Place) → spot_of q ≡ spot_of p →
+          o.disk.blocks (spot_of q) ≡ Free → t.disk.cells q ≡ Nothing
+      none_inside unmarked q at free = ⊎_elim
+          (λ e. r.blank unmarked q free (filling_not_free (ap t.disk.blocks at ∙ e))
+          (filling_is_not_bad (ap t.disk.blocks at ∙ e))) (λ (k : OpensReady t p). empty_ready q at k) next
 
   takes : (die : ℕ) (flight : Flight) → MayTake t die (Some flight) → SinceOpening o (taken t die flight)
   takes die (Reading reader place) may = r
@@ -116,14 +128,6 @@ module _ {o t : Translation} (unfilled : WereUnfilled o) (v : Valid t) (un : is_
       t.disk.flights die ≡ Some (Programming p (GroupPage tag body)) → t.ledger.first_lost ≤ tag.number
   flies_new = flown_number
 
-  no_worse_behind : (p : Place) (s : Spot) →
-      at_spot t.disk.blocks (spot_of p) (state_after t.numbers.pages p.page) s ≡ Bad → o.disk.blocks s ≡ Bad
-  no_worse_behind p s h = ⊎_elim (λ k. absurd (not_bad_after t.numbers.pages p.page k.1)) (λ k. r.no_worse s k.1)
-      (at_spot_is t.disk.blocks (spot_of p) (state_after t.numbers.pages p.page) s Bad h)
-
-  whole_behind : (p q : Place) → at_place t.disk.finished p true q ≡ true
-  whole_behind p q = ⊎_elim (λ k. k.1) (λ k. k.1 ∙ r.whole q) (at_place_cases t.disk.finished p true q)
-
   module _ (die : ℕ) (p : Place) (cell : Cell) (e : t.disk.flights die ≡ Some (Programming p cell)) where
     was_free : o.disk.blocks (spot_of p) ≡ Free
     was_free = filled_was_free o t unfilled r (spot_of p) p.page (v.flights.programs die p cell e).next
@@ -140,15 +144,19 @@ module _ {o t : Translation} (unfilled : WereUnfilled o) (v : Valid t) (un : is_
     new_behind : ((tag : Tag) (body : List ℕ) → cell ≡ GroupPage tag body → t.ledger.first_lost ≤ tag.number) →
         (q : Place) (tag : Tag) (body : List ℕ) → o.disk.blocks (spot_of q) ≡ Free →
         at_spot t.disk.blocks (spot_of p) (state_after t.numbers.pages p.page) (spot_of q) ≢ Free →
+        at_spot t.disk.blocks (spot_of p) (state_after t.numbers.pages p.page) (spot_of q) ≢ Bad →
         at_place t.disk.cells p cell q ≡ GroupPage tag body → t.ledger.first_lost ≤ tag.number
-    new_behind own q tag body free now h = ⊎_elim (λ k. own tag body k.1)
+    new_behind own q tag body free now good h = ⊎_elim (λ k. own tag body k.1)
         (λ k. r.new q tag body free
         (⊎_elim (λ a. filling_not_free (ap t.disk.blocks a.0 ∙ (v.flights.programs die p cell e).next))
         (λ a is. now (a.1 ∙ is))
+        (at_spot_cases t.disk.blocks (spot_of p) (state_after t.numbers.pages p.page) (spot_of q)))
+        (⊎_elim (λ a. filling_is_not_bad (ap t.disk.blocks a.0 ∙ (v.flights.programs die p cell e).next))
+        (λ a is. good (a.1 ∙ is))
         (at_spot_cases t.disk.blocks (spot_of p) (state_after t.numbers.pages p.page) (spot_of q))) k.1)
         (at_place_is t.disk.cells p cell q (GroupPage tag body) h)
 
-  unmarked_group : (w : Mending) → MendingOf t w → is_marked w ≡ false → (die : ℕ) (p : Place) (tag : Tag)
+  pub unmarked_group : (w : Mending) → MendingOf t w → is_marked w ≡ false → (die : ℕ) (p : Place) (tag : Tag)
       (body : List ℕ) → t.disk.flights die ≡ Some (Programming p (GroupPage tag body)) → ⊥
   unmarked_group (Unmarked fence lost) m is die p tag body e =
       let k = m.flies die p (GroupPage tag body) e in page_no_mark k.1
@@ -162,20 +170,24 @@ module _ {o t : Translation} (unfilled : WereUnfilled o) (v : Valid t) (un : is_
     lost = r.lost;
     seen = r.seen;
     still = still_behind die p (GroupPage tag body) e;
-    no_worse = no_worse_behind p;
-    whole = whole_behind p;
     unchanged = unchanged_behind die p (GroupPage tag body) e;
     new = new_behind die p (GroupPage tag body) e
         (λ other more same. let n = ap (λ (x : Tag). x.number) (one_page tag other body more same).0 in
         let l = flown_number die p tag body e in omega (arith, n, l));
     named = λ name from there h. r.named name from there (after_is (name_of tag) t.work.step _ h);
     same = r.same;
+    blank = λ unmarked q free now good. absurd (unmarked_group t.work.mending v.mending unmarked die p tag body e);
     fewer = λ unmarked q free. absurd (unmarked_group t.work.mending v.mending unmarked die p tag body e);
     newer = r.newer;
+    late = λ marked q m h newer. ⊎_elim (λ k. absurd (page_no_mark k.1))
+        (λ k.
+        let l = r.late marked q m k.1 newer in
+        (l.0, λ name from there is. l.1 name from there (after_is (name_of tag) t.work.step _ is)))
+        (at_place_is t.disk.cells p (GroupPage tag body) q (MarkPage m) h);
   }
 
   -- a mark that is programmed is newer than that of the opening
-  flown_newer : (w : Mending) → t.work.mending ≡ w → MendingOf t w → (die : ℕ) (p : Place) (m : Mark) →
+  pub flown_newer : (w : Mending) → t.work.mending ≡ w → MendingOf t w → (die : ℕ) (p : Place) (m : Mark) →
       t.disk.flights die ≡ Some (Programming p (MarkPage m)) → number_of o.ledger.newest < m.number
   flown_newer (Unmarked fence lost) is w die p m e =
       let k = w.flies die p (MarkPage m) e in
@@ -204,17 +216,20 @@ module _ {o t : Translation} (unfilled : WereUnfilled o) (v : Valid t) (un : is_
         lost = r.lost;
         seen = r.seen;
         still = still_behind die p (MarkPage m) e;
-        no_worse = no_worse_behind p;
-        whole = whole_behind p;
         unchanged = unchanged_behind die p (MarkPage m) e;
         new = new_behind die p (MarkPage m) e (λ tag body same. absurd (page_no_mark (sym same)));
         named = λ name from there h. absurd (none-some _ h);
         same = λ h. absurd (behind_marked t.work.mending h);
+        blank = λ h. absurd (behind_marked t.work.mending h);
         fewer = λ h. absurd (behind_marked t.work.mending h);
         newer = λ h other is.
             let n = ap (λ (x : Mark). x.number) (same_Some m other is) in
             let l = flown_newer t.work.mending refl v.mending die p m e in
             omega (arith, n, l);
+        late = λ marked q other h newer. absurd (⊎_elim
+            (λ k. let n = ap (λ (x : Mark). x.number) (one_mark m other k.1) in omega (arith, n, newer))
+            (λ k. let l = flying_above p v e q other k.1 in omega (arith, l, newer))
+            (at_place_is t.disk.cells p (MarkPage m) q (MarkPage other) h));
       }
 
   -- Erases that end
@@ -226,25 +241,30 @@ module _ {o t : Translation} (unfilled : WereUnfilled o) (v : Valid t) (un : is_
     lost = r.lost;
     seen = r.seen;
     still = r.still;
-    no_worse = r.no_worse;
-    whole = r.whole;
     unchanged = λ q not. ⊎_elim (λ k. absurd (not (ap o.disk.blocks k.1 ∙ was)))
         (λ k. subst (λ b. (if b then Nothing else t.disk.cells q) ≡ o.disk.cells q) (sym k.0) (r.unchanged q not))
         (spot_cases (spot_of q) s);
-    new = λ q tag body free now h. ⊎_elim
+    new = λ q tag body free now good h. ⊎_elim
         (λ k. absurd (page_not_nothing _ _ _
         (subst (λ b. (if b then Nothing else t.disk.cells q) ≡ GroupPage tag body) k.0 h) refl))
-        (λ k. r.new q tag body free now
+        (λ k. r.new q tag body free now good
         (subst (λ b. (if b then Nothing else t.disk.cells q) ≡ GroupPage tag body) k.0 h))
         (spot_cases (spot_of q) s);
     named = r.named;
     same = r.same;
+    blank = λ unmarked q free now good. ⊎_elim (λ k. ap (λ b. if b then Nothing else t.disk.cells q) k.0)
+        (λ k. subst (λ b. (if b then Nothing else t.disk.cells q) ≡ Nothing) (sym k.0)
+        (r.blank unmarked q free now good)) (spot_cases (spot_of q) s);
     fewer = λ unmarked q free. ⊎_elim
-        (λ k. inr (ap (λ b. if b then Nothing else t.disk.cells q) k.0))
-        (λ k. subst (λ b. ((if b then Nothing else t.disk.cells q) ≡ o.disk.cells q)
-        ⊎ ((if b then Nothing else t.disk.cells q) ≡ Nothing)) (sym k.0) (r.fewer unmarked q free))
-        (spot_cases (spot_of q) s);
+        (λ k. inr (inl (ap (λ b. if b then Nothing else t.disk.cells q) k.0)))
+        (λ k. subst (λ b. IsLessOrNewMark o.ledger.newest (o.disk.cells q) (if b then Nothing else t.disk.cells q))
+        (sym k.0) (r.fewer unmarked q free)) (spot_cases (spot_of q) s);
     newer = r.newer;
+    late = λ marked q m h. ⊎_elim
+        (λ k. absurd (mark_not_nothing _ _
+        (subst (λ b. (if b then Nothing else t.disk.cells q) ≡ MarkPage m) k.0 h) refl))
+        (λ k. r.late marked q m (subst (λ b. (if b then Nothing else t.disk.cells q) ≡ MarkPage m) k.0 h))
+        (spot_cases (spot_of q) s);
   }
     where
       was : o.disk.blocks s ≡ Free
@@ -252,23 +272,26 @@ module _ {o t : Translation} (unfilled : WereUnfilled o) (v : Valid t) (un : is_
 
   -- Jobs that end
 
-  with_named : (step : Option Step) →
-      ((name : Name) (from : Option Place) (there : Bool) →
-      step ≡ step_of (RepairStep name from) there → t.ledger.first_lost ≤ name.number) →
+  -- a step that repairs only what the one before it did
+  with_step : (step : Option Step) →
+      ((name : Name) (from : Option Place) (there : Bool) → step ≡ step_of (RepairStep name from) there →
+      (before : Bool) × (t.work.step ≡ step_of (RepairStep name from) before)) →
       SinceOpening o (record t { work = record t.work { step = step } })
-  with_named step named = record {
+  with_step step was = record {
     numbers_are = r.numbers_are;
     lost = r.lost;
     seen = r.seen;
     still = r.still;
-    no_worse = r.no_worse;
-    whole = r.whole;
     unchanged = r.unchanged;
     new = r.new;
-    named = named;
+    named = λ name from there h. let k = was name from there h in r.named name from k.0 k.1;
     same = r.same;
+    blank = r.blank;
     fewer = r.fewer;
     newer = r.newer;
+    late = λ marked p m h newer.
+        let l = r.late marked p m h newer in
+        (l.0, λ name from there is. let k = was name from there is in l.1 name from k.0 k.1);
   }
 
   ends : (die : ℕ) (flight : Option Flight) (ending : Ending) → t.disk.flights die ≡ flight →
@@ -276,8 +299,7 @@ module _ {o t : Translation} (unfilled : WereUnfilled o) (v : Valid t) (un : is_
   ends die flight (WentWrong left) e well = absurd (true≢false well)
   ends die (Some (Reading (ForTask tag index) place)) ReadRight e well = r
   ends die (Some (Reading ForStep place)) ReadRight e well =
-      with_named (step_there t.work.step)
-      (λ name from there h. let k = there_is t.work.step (RepairStep name from) there h in r.named name from k.0 k.1)
+      with_step (step_there t.work.step) (λ name from there h. there_is t.work.step (RepairStep name from) there h)
   ends die (Some (Reading (ForRest number index) place)) ReadRight e well = r
   ends die (Some (Reading ForNobody place)) ReadRight e well = r
   ends die (Some (Reading (ForTask tag index) place)) ReadWrong e well = r
@@ -297,20 +319,24 @@ module _ {o t : Translation} (unfilled : WereUnfilled o) (v : Valid t) (un : is_
     lost = r.lost;
     seen = r.seen;
     still = r.still;
-    no_worse = r.no_worse;
-    whole = r.whole;
     unchanged = r.unchanged;
     new = r.new;
     named = λ name from there h. next_low t.ledger.first_lost t.ledger.greatest_seen (length t.ledger.groups)
         name.number v.book_right.first_lost (ap name_number (kind_of_step h));
     same = λ h. absurd (true≢false h);
+    blank = λ h. absurd (true≢false h);
     fewer = λ h. absurd (true≢false h);
     newer = λ h. r.newer (ap is_marked is);
+    late = λ h p m there newer.
+        absurd (none_left (sym is ∙ (r.late (ap is_marked is) p m there newer).0));
   }
+    where
+      none_left : Repairing (key ∷ left) ≡ Repairing [] → ⊥
+      none_left e = cc
 
   orders : (x : Order) → (t.work.step ≡ None) × IsDue t x → SinceOpening o (ordered t x)
   orders (OrderMark fence) (none, due) =
-      with_named (mark_ordered t fence).work.step (λ name from there h. absurd (mark_no_repair h))
+      with_step (mark_ordered t fence).work.step (λ name from there h. absurd (mark_no_repair h))
   orders (OrderRepair key left) (none, due) = repair_begins key left due.1
   orders (OrderCopy s p left) (none, due) = absurd (true≢false (sym (ap is_mended due.0) ∙ un))
   orders (OrderPlanMark s) (none, due) = absurd (true≢false (sym (ap is_mended due.1) ∙ un))
@@ -346,12 +372,12 @@ opening_since n c bad t o un = record {
   lost = refl;
   seen = refl;
   still = λ s not. refl;
-  no_worse = λ s h. h;
-  whole = o.disk.finished;
   unchanged = λ p not. refl;
-  new = λ p tag body free not h. absurd (not free);
+  new = λ p tag body free not good h. absurd (not free);
   named = λ name from there h. absurd (none-some _ (sym o.no_step ∙ h));
   same = λ h. refl;
+  blank = λ h p free not good. absurd (not free);
   fewer = λ h p free. inl refl;
   newer = λ h. absurd (true≢false (sym h ∙ opening_unmarked n c bad t o un));
+  late = λ h. absurd (true≢false (sym h ∙ opening_unmarked n c bad t o un));
 }

@@ -116,6 +116,18 @@ program_fills n blocks s page l is inside =
         omega (arith, e, f, g, r)) (λ k. let e = ap (page_room n.pages) k.1 in omega (arith, e))
         (at_spot_cases blocks s (state_after n.pages page) a)
 
+-- a block that goes bad takes all room that it had
+pub failure_fills : (n : Numbers) (blocks : Spot → BlockState) (s : Spot) (m : ℕ) →
+    m ≤ page_room n.pages (blocks s) → IsIn s (spots n) → m + room_in n (at_spot blocks s Bad) ≤ room_in n blocks
+failure_fills n blocks s m room inside =
+    sum_more m (λ a. page_room n.pages (at_spot blocks s Bad a)) (λ a. page_room n.pages (blocks a)) s (spots n) inside
+    (λ a i. ⊎_elim (λ k. let e = ap (page_room n.pages) k.1 in omega (arith, e))
+    (λ k. let e = ap (page_room n.pages) k.1 in omega (arith, e)) (at_spot_cases blocks s Bad a))
+    (let e = ap (page_room n.pages) bad in omega (arith, e, room))
+  where
+    bad : at_spot blocks s Bad s ≡ Bad
+    bad = ⊎_elim (λ k. k.1) (λ k. absurd (k.0 refl)) (at_spot_cases blocks s Bad s)
+
 -- How many blocks a mending needs
 
 holds_two_more : (pages slots filled : ℕ) → 2 ≤ pages → slots ≤ filled * pages → slots + 2 ≤ pages * (filled + 1)

@@ -1,9 +1,10 @@
--- What a device that mends has made of the cells and blocks of its opening: closed blocks are as they were, and the
--- pages of the blocks that it opened are marks, or have numbers from the first lost one on.
-use Rattle.std.proofs.Common.{◌≡◌, ◌≢◌, ◌⊎◌, ℕ, suc, ◌+◌, ◌<◌, ◌≤◌, Bool, true, false, List, Option, Some, None}
+-- What a device that mends has made of the cells and blocks of its opening, whatever failed meanwhile: closed blocks
+-- are as they were, and the pages of the blocks that it opened, and that did not go bad, are marks, or have numbers
+-- from the first lost one on.
+use Rattle.std.proofs.Common.{◌≡◌, ◌≢◌, ◌⊎◌, ℕ, suc, ◌+◌, ◌<◌, ◌≤◌, Bool, true, false, List, [], Option, Some, None}
 use Rattle.std.proofs.Common.{if◌then◌else◌, sym, ap, ◌∙◌, arith}
 use Rattle.ufs_spec.proofs.Facts.{none-some, same_Some, true≢false}
-use Rattle.ufs_spec.specs.Cells.{Cells, GroupPage, Mark, Nothing}
+use Rattle.ufs_spec.specs.Cells.{Cell, Cells, GroupPage, Mark, MarkPage, Nothing}
 use Rattle.ufs_spec.specs.Disk.{BlockState, Bad, Closed, Filling}
 use Rattle.ufs_spec.specs.Disk.{Free, Spot, spot_of}
 use Rattle.ufs_spec.specs.Moves.{mending_after, step_after}
@@ -19,35 +20,46 @@ use Rattle.ufs_spec.specs.declared.flash.Tag.{Tag}
 use Rattle.ufs_spec.specs.declared.layer.Name.{Name}
 use Rattle.power_loss.specs.Losing.{is_marked}
 
+-- the cell is what it was, or is gone, or a mark is there that is newer than the given one
+abbrev pub IsLessOrNewMark : Option Mark → Cell → Cell → Type 0
+IsLessOrNewMark newest was now =
+    (now ≡ was) ⊎ ((now ≡ Nothing) ⊎ ((m : Mark) × (now ≡ MarkPage m) × (number_of newest < m.number)))
+
 -- a step of this kind is under way, with its content there or not
 abbrev pub step_of : StepKind → Bool → Option Step
 step_of kind there = Some (record { kind = kind; there = there })
 
-pub record Since (o : Translation) (numbers : Numbers) (cells : Cells) (finished : Place → Bool)
-    (blocks : Spot → BlockState) (first_lost greatest_seen : ℕ) (newest : Option Mark) (mending : Mending) (step : Option Step) : Type 0 where
+-- the step under way, if there is one, is no repair
+abbrev pub RepairsNone : Option Step → Type 0
+RepairsNone step = (name : Name) (from : Option Place) (there : Bool) → step ≡ step_of (RepairStep name from) there → ⊥
+
+pub record Since (o : Translation) (numbers : Numbers) (cells : Cells) (blocks : Spot → BlockState)
+    (first_lost greatest_seen : ℕ) (newest : Option Mark) (mending : Mending) (step : Option Step) : Type 0 where
   pub numbers_are : numbers ≡ o.numbers
   pub lost : first_lost ≡ o.ledger.first_lost
   pub seen : greatest_seen ≡ o.ledger.greatest_seen
   -- what was not free is as it was
   pub still : (s : Spot) → o.disk.blocks s ≢ Free → blocks s ≡ o.disk.blocks s
   pub unchanged : (p : Place) → o.disk.blocks (spot_of p) ≢ Free → cells p ≡ o.disk.cells p
-  -- no block went bad, and no program failed
-  pub no_worse : (s : Spot) → blocks s ≡ Bad → o.disk.blocks s ≡ Bad
-  pub whole : (p : Place) → finished p ≡ true
-  -- a block that was opened since holds nothing older than the first lost number
+  -- a block that was opened since, and did not go bad, holds nothing older than the first lost number
   pub new : (p : Place) (tag : Tag) (body : List ℕ) → o.disk.blocks (spot_of p) ≡ Free → blocks (spot_of p) ≢ Free →
-      cells p ≡ GroupPage tag body → first_lost ≤ tag.number
+      blocks (spot_of p) ≢ Bad → cells p ≡ GroupPage tag body → first_lost ≤ tag.number
   pub named : (name : Name) (from : Option Place) (there : Bool) →
       step ≡ step_of (RepairStep name from) there → first_lost ≤ name.number
-  -- until the first mark is finished the newest is that of the opening, and of its cells free blocks alone lost some
+  -- until the first mark is finished the newest is that of the opening. A block that was opened since, and did not go
+  -- bad, is blank; and of the cells of the opening free blocks alone lost some, or got a mark whose program failed
   pub same : is_marked mending ≡ false → newest ≡ o.ledger.newest
+  pub blank : is_marked mending ≡ false → (p : Place) → o.disk.blocks (spot_of p) ≡ Free →
+      blocks (spot_of p) ≢ Free → blocks (spot_of p) ≢ Bad → cells p ≡ Nothing
   pub fewer : is_marked mending ≡ false → (p : Place) → o.disk.blocks (spot_of p) ≡ Free →
-      (cells p ≡ o.disk.cells p) ⊎ (cells p ≡ Nothing)
-  -- and then there is a newer one
+      IsLessOrNewMark o.ledger.newest (o.disk.cells p) (cells p)
+  -- and then there is a newer one. Where a mark behind it failed, all was repaired before
   pub newer : is_marked mending ≡ true → (m : Mark) → newest ≡ Some m → number_of o.ledger.newest < m.number
+  pub late : is_marked mending ≡ true → (p : Place) (m : Mark) → cells p ≡ MarkPage m → number_of newest < m.number →
+      (mending ≡ Repairing []) × RepairsNone step
 
 abbrev pub SinceOpening : Translation → Translation → Type 0
-SinceOpening o t = Since o t.numbers t.disk.cells t.disk.finished t.disk.blocks t.ledger.first_lost t.ledger.greatest_seen
+SinceOpening o t = Since o t.numbers t.disk.cells t.disk.blocks t.ledger.first_lost t.ledger.greatest_seen
     t.ledger.newest t.work.mending t.work.step
 
 -- each block was free, closed or bad at the opening: none was being filled

@@ -1,7 +1,7 @@
--- A program or an erase that failed leaves the room while no more blocks are bad than are spare: the block that went bad
--- is one of those that are kept for it.
-use Rattle.std.proofs.Common.{◌≡◌, ◌≢◌, ◌⊎◌, ℕ, ◌+◌, ◌-◌, ◌*◌, ◌<◌, ◌≤◌, ◌==◌, Bool, true, false, if◌then◌else◌, Option, Some}
-use Rattle.std.proofs.Common.{List, None, refl, sym, ap, ◌∙◌, subst, inl, inr, ⊎_elim, arith}
+-- A program or an erase that failed leaves the room while no more blocks are bad than are spare: the block that went
+-- bad is one of those that are kept for it.
+use Rattle.std.proofs.Common.{◌≡◌, ◌≢◌, ◌⊎◌, ℕ, ◌+◌, ◌-◌, ◌*◌, ◌<◌, ◌≤◌, ◌==◌, Bool, true, false, Option, Some}
+use Rattle.std.proofs.Common.{if◌then◌else◌, List, None, refl, sym, ap, ◌∙◌, subst, inl, inr, ⊎_elim, arith}
 use Rattle.ufs_laws.proofs.deciding.SearchOverPlaces.{alike, both, is_below}
 use Rattle.ufs_spec.proofs.Facts.{none-some, same_Some}
 use Rattle.ufs_spec.proofs.Updates.{at_spot_cases}
@@ -46,11 +46,11 @@ left_alone cells flights die left crash p =
     ⊎_elim (λ e. inl e) (λ k. inr (k.0, touches_alone flights die p k.0 k.1, k.2)) (crash p)
 
 -- one block more is bad, and so one less is kept
-one_less_kept : (base spare was now : ℕ) → was < spare → 1 + was ≤ now →
+pub one_less_kept : (base spare was now : ℕ) → was < spare → 1 + was ≤ now →
     base + (spare - now) + 1 ≤ base + (spare - was)
 one_less_kept base spare was now few more = omega (arith, few, more)
 
-no_more_kept : (base spare was now : ℕ) → was ≤ now → base + (spare - now) ≤ base + (spare - was)
+pub no_more_kept : (base spare was now : ℕ) → was ≤ now → base + (spare - now) ≤ base + (spare - was)
 no_more_kept base spare was now more = omega (arith, more)
 
 is_spot : (n : Numbers) (s : Spot) → IsSpot n s ⊎ (IsSpot n s → ⊥)

@@ -95,7 +95,7 @@ module _ {t : Translation} {c : Cells} (v : Valid t) (none : HasHandedOut t → 
   nothing_lost bad next o durable (Repairing left) is marked newest e = absurd (false≢true is)
 
 -- a life that may be mended at its opening is
-mended_at_once : (n : Numbers) (c : Cells) (newest : Option Mark) (low top : ℕ) (w : Mending) →
+pub mended_at_once : (n : Numbers) (c : Cells) (newest : Option Mark) (low top : ℕ) (w : Mending) →
     IsMendingAt n c newest low top w → MayBeMended n newest low top → is_mended w ≡ true
 mended_at_once n c newest low top Mended at may = refl
 mended_at_once n c newest low top (Unmarked fence lost) at may = absurd (at.0 may)
@@ -110,6 +110,6 @@ idle_stop t next left bad v few mended none crash o =
     record {
       none_lost = may.2;
       no_fence = may.1;
-      mended = mended_at_once t.numbers left next.ledger.newest next.ledger.first_lost next.ledger.greatest_seen next.work.mending
-          o.mending may;
+      mended = mended_at_once t.numbers left next.ledger.newest next.ledger.first_lost next.ledger.greatest_seen
+          next.work.mending o.mending may;
     }
