@@ -6,7 +6,7 @@ use Rattle.ufs_spec.specs.Dies.{DieState, new_die, power_cycle_ended, ready_page
 use Rattle.ufs_spec.specs.Disk.{BlockState, Erasing, Filling, Flight, Free, Reading, Ready, Spot, Vacancy, job_of}
 use Rattle.ufs_spec.specs.Lives.{AreLeftovers, Fit, GoesOn, Headline, IsLawfulLeftover, IsLeftoverOf, IsOpened, Lived}
 use Rattle.ufs_spec.specs.Lives.{Lives, Runs, Stops, array_of, bad_of, die_of}
-use Rattle.ufs_spec.specs.Sound.{Sound, Suits}
+use Rattle.ufs_spec.specs.Sound.{Sound}
 use Rattle.ufs_spec.specs.Translation.{is_bad}
 use Rattle.ufs_spec.specs.Refusals.{State, numbers_of}
 use Rattle.ufs_spec.specs.declared.configs.Numbers.{Numbers}
@@ -23,6 +23,7 @@ use Rattle.power_loss.specs.Exchange.{IsSpot, ValidState}
 use Rattle.power_loss.specs.Runs.{LivesRight}
 use Rattle.device.specs.Describes.{Describes}
 use Rattle.device.specs.Kept.{WorldState}
+use Rattle.device.specs.Opened.{HasScanned, HoldAnotherConfig}
 
 -- Dies
 
@@ -176,6 +177,11 @@ abbrev pub Played : State → Event → WorldState → List Output → List Outp
 Played s e after before trace (Ok done) = (o : Output) × (trace ≡ before ++ o ∷ []) × Went s e after (Ok o)
 Played s e after before trace (Err k) = (trace ≡ before) × IsRefused s e k
 
+-- behind a stop the device has what a scan of the dies finds, whether they are sound or not
+abbrev pub IsReopened : Event → WorldState → Type 0
+IsReopened (event.Stop lefts) after = HasScanned after.config after.dies after.core
+IsReopened e after = Unit {0}
+
 -- Runs
 
 -- a device may be opened over the dies, and so it was: the events led on to a state that the world fits
@@ -218,10 +224,10 @@ pub record IsBroken (n : Numbers) (dies : List DieState) (events : List Event) (
   pub why : IsRefused before broken f.kind
 
 -- a fault at position 0 is that of the opening: memory was refused; or the dies do not fit the configuration, or hold
--- another
+-- another, whether they are sound or not
 abbrev pub IsOpeningFault : Numbers → List DieState → RunFaultKind → Type 0
 IsOpeningFault n dies kind.NoMemory = Fit n dies
-IsOpeningFault n dies kind.WrongEvent = Fit n dies → Sound (array_of dies) → Suits n (array_of dies) → ⊥
+IsOpeningFault n dies kind.WrongEvent = Fit n dies → HoldAnotherConfig n dies
 IsOpeningFault n dies kind.BadLeftover = ⊥
 
 -- why a run broke off: at position 0 the opening failed and nothing was played; at position k + 1 the event k did, and

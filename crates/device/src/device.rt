@@ -12,7 +12,7 @@ ghost use Rattle.ufs_spec.specs.Translation.{Translation};
 ghost use Rattle.ftl_core.specs.Public.{Describes as IsLayer, ended_now};
 ghost use Rattle.device.specs.Describes.{Describes, IsAnswered, IsGiven};
 ghost use Rattle.device.specs.Kept.{idle_device, regions_kept};
-ghost use Rattle.device.specs.Opened.{OpensOver};
+ghost use Rattle.device.specs.Opened.{HasFound, HasScanned, OpensOver};
 ghost use Rattle.page_tag.specs.Jobs.{IsTagRead};
 ghost use Rattle.recovery.specs.Found.{IsScanFault};
 ghost use Rattle.ufs_spec.specs.Sound.{Sound, Suits};
@@ -97,8 +97,9 @@ impl Device {
         // Over dies whose pages are sound it is the device that the definitions open over them.
         ensures described { IfOk result (λ d. (s : State) → Sound (array_of (map D.state dies.old)) →
             IsOpened config (array_of (map D.state dies.old)) (bad_of (map D.state dies.old)) s → Describes d s) }
-        ensures suits { IfOk result (λ d. Sound (array_of (map D.state dies.old)) →
-            Suits config (array_of (map D.state dies.old))) }
+        // Over any dies, sound or not, it has what a scan of them finds, and they suit the configuration.
+        ensures found { IfOk result (HasScanned config (map D.state dies.old)) }
+        ensures suits { IfOk result (λ d. Suits config (array_of (map D.state dies.old))) }
         ensures fault { IfErr result (λ e. (c : Cells) → Shows (array_of (map D.state dies.old)) c →
             IsScanFault config c (map D.failed dies.old) (map D.failed dies.new) e) }
     {
@@ -115,6 +116,7 @@ impl Device {
     pub fn from_found(alloc: Global, config: Config, found: Found) -> Result<Device, OpenFault>
         // Over sound pages of which this was found it is the device that the definitions open over them.
         ensures described { IfOk result (OpensOver config found) }
+        ensures found { IfOk result (HasFound config found) }
         ensures memory { IfErr result (λ e. e ≡ OpenFault.NoMemory) }
     {
         config.has_no_fault();

@@ -9,7 +9,8 @@ ghost use Rattle.ufs_spec.specs.Sound.{Sound, Suits};
 ghost use Rattle.device.specs.Describes.{Describes};
 ghost use Rattle.device.specs.Kept.{DeviceCore};
 ghost use Rattle.device.specs.Leftovers.{IsInside, IsLeftRefused, IsOfDie, MayDieLeave};
-ghost use Rattle.device.specs.Worlds.{Fits, IsOpeningFault, IsRunFault, KeepsThePromise, Played, Stepped, Went};
+ghost use Rattle.device.specs.Opened.{HasScanned};
+ghost use Rattle.device.specs.Worlds.{Fits, IsOpeningFault, IsReopened, IsRunFault, KeepsThePromise, Played, Stepped, Went};
 ghost use Rattle.device.specs.Worlds.{die_at, dies_failed, dies_left, dies_left_by, dies_refused, job_at, jobs_given};
 
 use crate::device::Device;
@@ -63,7 +64,8 @@ fn open_device(alloc: Global, config: Config, dies: &mut [MemDie]) -> Result<Dev
     ensures same { dies.new ≡ dies.old }
     ensures described { IfOk result (λ d. (s : State) → Sound (array_of dies.old) →
         IsOpened config (array_of dies.old) (bad_of dies.old) s → Describes d s) }
-    ensures suits { IfOk result (λ d. Sound (array_of dies.old) → Suits config (array_of dies.old)) }
+    ensures found { IfOk result (HasScanned config dies.old) }
+    ensures suits { IfOk result (λ d. Suits config (array_of dies.old)) }
     ensures refused { IfErr result (λ k. IsOpeningFault config dies.old k) }
 {
     match Device::open(alloc, config, dies) {
@@ -119,8 +121,9 @@ impl World {
         ensures dies { IfOk result (λ w. (w.dies ≡ dies.items) × (w.config ≡ config)) }
         ensures idle { IfOk result (λ w.
             (w.jobs ≡ replicate (length dies.items) None) × (w.steps ≡ 0) × (w.is_over ≡ false)) }
-        ensures suits { IfOk result (λ w. Fit config dies.items
-            × (Sound (array_of dies.items) → Suits config (array_of dies.items))) }
+        ensures suits { IfOk result (λ w. Fit config dies.items × Suits config (array_of dies.items)) }
+        // Over any dies, sound or not, its device has what a scan of them finds.
+        ensures found { IfOk result (λ w. HasScanned config dies.items w.core) }
         // Over dies whose pages are sound the world fits the state that the definitions open over
         // them.
         ensures fits { IfOk result (λ w. Sound (array_of dies.items) → (s : State) →
@@ -205,6 +208,8 @@ impl World {
         ensures fault { IfErr result (λ f. (f.position ≡ self.new.steps) × (f.trace.items ≡ [])) }
         ensures counted { self.old.steps + 1 < 2 ^ 64 → self.new.steps ≡ self.old.steps + 1 }
         ensures left { OnErr result (IsLeftRefused self.old.dies event.now self.new.dies) }
+        // Over any dies, sound or not, the device has behind a stop what a scan of them finds.
+        ensures reopened { OnOk result (IsReopened event.now self.new) }
         // Over a world that fits a state each event shows what is right there, in the life or over
         // a stop, and the world fits the state that it leads to; and an event is refused only for
         // what is told.
@@ -246,6 +251,7 @@ impl World {
         ensures steps { self.new.steps ≡ self.old.steps }
         ensures is_over { self.new.is_over ≡ self.old.is_over }
         ensures left { OnErr result (IsLeftRefused self.old.dies event.now self.new.dies) }
+        ensures reopened { OnOk result (IsReopened event.now self.new) }
         ensures went { (s : State) → Fits self.old s → Went s event.now self.new result }
         ensures dies { (s : State) → Fits self.old s →
             IfErr result (λ k. self.new.dies ≡ dies_refused k self.old.dies event.now) }
@@ -390,6 +396,7 @@ impl World {
         ensures steps { self.new.steps ≡ self.old.steps }
         ensures is_over { self.new.is_over ≡ self.old.is_over }
         ensures left { OnErr result (IsLeftRefused self.old.dies (Event.Stop lefts.now) self.new.dies) }
+        ensures reopened { OnOk result (HasScanned self.new.config self.new.dies self.new.core) }
         ensures went { (s : State) → Fits self.old s → Went s (Event.Stop lefts.now) self.new result }
         ensures dies { (s : State) → Fits self.old s →
             IfErr result (λ k. self.new.dies ≡ dies_refused k self.old.dies (Event.Stop lefts.now)) }
@@ -513,6 +520,7 @@ impl World {
     fn reopen(&mut self) -> Result<Output, RunFaultKind>
         ensures same { (core : DeviceCore) × (self.new ≡ record self.old { core = core }) }
         ensures shown { IfOk result (λ o. o ≡ Output.Stopped) }
+        ensures scanned { OnOk result (HasScanned self.new.config self.new.dies self.new.core) }
         ensures described { OnOk result ((s : State) → Sound (array_of self.old.dies) →
             IsOpened self.old.config (array_of self.old.dies) (bad_of self.old.dies) s → Describes self.new.core s) }
         ensures refused { IfErr result (λ k. IsOpeningFault self.old.config self.old.dies k) }
@@ -589,8 +597,10 @@ pub fn run(
     events: &[Event],
 ) -> Result<Trace, RunFault>
     ensures one_each { IfOk result (λ trace. length trace.items ≡ length events.now) }
-    // Dies of other sizes are refused, whatever is on them.
+    // Dies of other sizes are refused, and so are those of another configuration, whatever else is on
+    // them.
     ensures fit { IfOk result (λ trace. Fit config dies.items) }
+    ensures suits { IfOk result (λ trace. Suits config (array_of dies.items)) }
     // The promise. Each message is answered, each job given and each turn told as the specified
     // device does, in each of the lives between the stops.
     ensures promised { IfOk result (λ trace. Sound (array_of dies.items) →

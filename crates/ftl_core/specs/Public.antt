@@ -2,7 +2,7 @@
 -- what the calls tell, and which blocks lie in the slots that readers have claimed. How it is kept is no part of it.
 use Rattle.std.specs.Prelude.{◌≡◌, ℕ, ◌==◌, if◌then◌else◌, List, slice_set}
 use Rattle.ftl_core.specs.Moves.{claims_for}
-pub use Rattle.ftl_core.specs.Moves.{has_number}
+pub use Rattle.ftl_core.specs.Moves.{has_number, opened}
 use Rattle.ftl_core.specs.Tells.{claims_of_blocks}
 pub use Rattle.ftl_core.specs.Core.{Core}
 pub use Rattle.ftl_core.specs.Describes.{Describes, IsTaken, IsTold, given}

@@ -5,6 +5,7 @@ ghost use Rattle.ufs_spec.specs.Lives.{Fit, IsOpened, array_of, bad_of};
 ghost use Rattle.ufs_spec.specs.Refusals.{State};
 ghost use Rattle.ufs_spec.specs.Sound.{Sound, Suits};
 ghost use Rattle.device.specs.Describes.{Describes};
+ghost use Rattle.device.specs.Opened.{HasScanned};
 ghost use Rattle.recovery.specs.Found.{IsScanFault};
 
 use device::Device;
@@ -38,8 +39,9 @@ pub fn open_parallel<R: Threads + Sync, D: Die + Send>(
     ensures described { IfOk result (λ d. (s : State) → Sound (array_of (map D.state dies.old)) →
         IsOpened config (array_of (map D.state dies.old)) (bad_of (map D.state dies.old)) s →
         Describes d s) }
-    ensures suits { IfOk result (λ d. Sound (array_of (map D.state dies.old)) →
-        Suits config (array_of (map D.state dies.old))) }
+    // Over any dies, sound or not, it has what a scan of them finds, and they suit the configuration.
+    ensures found { IfOk result (HasScanned config (map D.state dies.old)) }
+    ensures suits { IfOk result (λ d. Suits config (array_of (map D.state dies.old))) }
     ensures fault { IfErr result (λ e. (c : Cells) → Shows (array_of (map D.state dies.old)) c →
         IsScanFault config c (map D.failed dies.old) (map D.failed dies.new) e) }
 {

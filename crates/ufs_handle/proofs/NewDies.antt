@@ -9,6 +9,7 @@ use Rattle.ufs_spec.specs.Dies.{DieState, IsOfSize, blank_page, new_die, page_at
 use Rattle.ufs_spec.specs.Lives.{Fit, array_of}
 use Rattle.ufs_spec.specs.declared.configs.Numbers.{Numbers}
 use Rattle.ufs_spec.specs.declared.flash.Place.{Place}
+use Rattle.device.proofs.dies_of_world.OpeningRefused.{not_another}
 use Rattle.ufs_handle.specs.Calls.{IsUnopened}
 use Rattle.ufs_handle.specs.declared.fault.Fault.{Fault}
 use Rattle.ufs_handle.specs.declared.fault.Fault.TheVariants as fault
@@ -39,7 +40,8 @@ pub memory_alone : (n : Numbers) (f : Fault) → IsUnopened n (replicate n.dies 
 memory_alone n fault.NoMemory why = refl
 memory_alone n fault.OtherConfig why =
     let blank = all_blank n.dies n.blocks n.pages in
-    absurd (why (new_fit n) (new_sound _ blank) (new_suits n _ blank))
+    absurd (not_another n (replicate n.dies (new_die n.blocks n.pages)) (why (new_fit n)) (new_sound _ blank)
+    (new_suits n _ blank))
 memory_alone n fault.Closed why = absurd why
 memory_alone n fault.Open why = absurd why
 memory_alone n fault.Range why = absurd why

@@ -45,8 +45,8 @@ unopened n dies after (opening.ReadFault p) fit why =
 -- dies that do not fit
 pub unfit : (n m : Numbers) (dies seen : List DieState) → seen ≡ dies → m ≡ n →
     (Fit n (map (λ (die : DieState). die) seen) → ⊥) → IsUnopened m dies fault.OtherConfig
-unfit n m dies seen same same_numbers wrong fit sound suits =
-    wrong (subst (Fit n) (sym (map-id seen ∙ same)) (subst (λ (x : Numbers). Fit x dies) same_numbers fit))
+unfit n m dies seen same same_numbers wrong fit =
+    absurd (wrong (subst (Fit n) (sym (map-id seen ∙ same)) (subst (λ (x : Numbers). Fit x dies) same_numbers fit)))
 
 -- the same of equal dies and numbers
 pub moved : (n m : Numbers) (dies others : List DieState) (f : Fault) → m ≡ n → others ≡ dies →

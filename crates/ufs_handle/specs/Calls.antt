@@ -14,6 +14,7 @@ use Rattle.ufs_spec.specs.declared.flash.Job.{Job}
 use Rattle.ufs_spec.specs.declared.flash.Outcome.{Outcome}
 use Rattle.device.specs.Describes.{Describes, IsAnswered, IsGiven, IsHeardAs, IsReplied}
 use Rattle.device.specs.Kept.{DeviceCore}
+use Rattle.device.specs.Opened.{HasScanned, HoldAnotherConfig}
 use Rattle.ufs_handle.specs.Kept.{HeldState, die_at, job_at, jobs_given}
 use Rattle.ufs_handle.specs.Left.{failed_by, failed_outcome, stopped}
 use Rattle.ufs_handle.specs.declared.fault.Fault.{Fault}
@@ -108,16 +109,18 @@ Fails die left h false after =
 
 -- ## Opening
 
--- the device is one that the definitions open over these dies
-abbrev pub OpensOver : Numbers → List DieState → DeviceCore → Type 0
-OpensOver n dies core =
-    (s : State) → Sound (array_of dies) → IsOpened n (array_of dies) (bad_of dies) s → Describes core s
+-- the device was opened over these dies: over sound ones it is the one that the definitions open over them; over any it
+-- has what a scan of them finds, and they suit the configuration
+pub record OpensOver (n : Numbers) (dies : List DieState) (core : DeviceCore) : Type 0 where
+  pub described : (s : State) → Sound (array_of dies) → IsOpened n (array_of dies) (bad_of dies) s → Describes core s
+  pub found : HasScanned n dies core
+  pub suits : Suits n (array_of dies)
 
 -- why no device of this configuration is opened over the dies: memory was refused; or they are not as many and as large as
--- it says, or hold another one
+-- it says, or hold another one, whether they are sound or not
 abbrev pub IsUnopened : Numbers → List DieState → Fault → Type 0
 IsUnopened n dies fault.NoMemory = Unit {0}
-IsUnopened n dies fault.OtherConfig = Fit n dies → Sound (array_of dies) → Suits n (array_of dies) → ⊥
+IsUnopened n dies fault.OtherConfig = Fit n dies → HoldAnotherConfig n dies
 IsUnopened n dies f = ⊥
 
 -- the same of a handle, which is to hold none before

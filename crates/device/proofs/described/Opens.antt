@@ -16,6 +16,7 @@ use Rattle.ufs_spec.specs.Translation.{Translation}
 use Rattle.ufs_spec.specs.declared.configs.Numbers.{Numbers}
 use Rattle.ufs_laws.proofs.array_cells.StandsForOne.{cells_one, kept_one, mark_one}
 use Rattle.ufs_laws.proofs.pages.PageIsOneCell.{one_cell}
+use Rattle.ufs_laws.proofs.pages.PageIsSomeCell.{some_cell}
 use Rattle.ufs_laws.proofs.plain_contents.CommandsKeepPlain.{settings_ranges}
 use Rattle.power_loss.specs.Book.{CellsRight}
 use Rattle.power_loss.specs.Exchange.{IsArrayOf}
@@ -25,23 +26,28 @@ use Rattle.power_loss.proofs.stops.SealedCells.{ranges_of}
 use Rattle.settings.specs.Told.{settings_in, settings_now}
 use Rattle.settings.proofs.SettingsRead.{said_again}
 use Rattle.recovery.specs.Found.{IsFound, newest_found}
+use Rattle.recovery.specs.Scanned.{IsFoundOn}
 use Rattle.recovery.specs.declared.found.Found.{Found}
-use Rattle.ftl_core.specs.Public.{AreClaimed, Core, Describes as IsLayer}
+use Rattle.ftl_core.specs.Public.{AreClaimed, Core, Describes as IsLayer, opened}
+use Rattle.rpmb.specs.declared.regions.RegionState.{RegionState}
 use Rattle.device.specs.Describes.{Describes}
 use Rattle.device.specs.Kept.{DeviceCore, idle_device, regions_kept}
-use Rattle.device.specs.Opened.{OpensOver, TellsSettings}
+use Rattle.device.specs.Opened.{HasFound, HasScanned, OpensOver, TellsSettings}
 use Rattle.device.proofs.die_calls.CallsRight.{opens_right}
 
--- what is found suits the configuration
-found_suits : (n : Numbers) (array : Array) (bad : Spot → Bool) (f : Found) (sound : Sound array) →
-    IsFound n sound.cells bad f → Suits n array
-found_suits n array bad f sound found = record {
-  cells = sound.cells;
-  shown = sound.shown;
-  newest = newest_found f;
-  is_newest = found.basis.newest;
-  suit = found.suits;
-}
+-- what is found suits the configuration, whatever the pages are
+found_suits : (n : Numbers) (array : Array) (bad : Spot → Bool) (f : Found) →
+    ((c : Cells) → Shows array c → IsFound n c bad f) → Suits n array
+found_suits n array bad f found =
+    let cells : Cells = λ p. (some_cell (array p)).0 in
+    let shown : Shows array cells = λ p. (some_cell (array p)).1 in
+    record {
+      cells = cells;
+      shown = shown;
+      newest = newest_found f;
+      is_newest = (found cells shown).basis.newest;
+      suit = (found cells shown).suits;
+    }
 
 -- what is made of what was found describes any layer that is opened over it
 abbrev pub OpensLayer : Numbers → Found → Core → Type 0
@@ -102,6 +108,15 @@ module _ (n : Numbers) (array : Array) (bad : Spot → Bool) (s : State) (f : Fo
   pub device_opens : Describes (idle_device layer f.settings (regions_kept f.settings n)) s
   device_opens = opens_right n array bad s layer f.settings config inside sound opened layer_is none settings_are
 
+-- what is made of what was found has it
+pub has_found : (n : Numbers) (f : Found) (d : DeviceCore) (layer : Core) (regions : List RegionState) →
+    d ≡ idle_device layer f.settings regions → layer ≡ opened n f → regions ≡ regions_kept f.settings n →
+    HasFound n f d
+has_found n f d layer regions idle is kept =
+    idle
+    ∙ (ap (λ (l : Core). idle_device l f.settings regions) is
+    ∙ ap (idle_device (opened n f) f.settings) kept)
+
 -- Over dies
 
 -- what was found on dies: what is made of it is the device that the definitions open over their pages, and they suit
@@ -117,6 +132,10 @@ module _ (n : Numbers) (dies : List DieState) (fit : Fit n dies) (f : Found)
       (record { inside = fit_inside n dies fit; found = found; settings = told }))
       opens
 
-  pub opened_suits : IfOk r (λ d. Sound (array_of dies) → Suits n (array_of dies))
-  opened_suits = IfOk-weaker r _ _
-      (λ d makes sound. found_suits n (array_of dies) (bad_of dies) f sound (found sound.cells sound.shown)) opens
+  pub opened_suits : IfOk r (λ d. Suits n (array_of dies))
+  opened_suits = IfOk-weaker r _ _ (λ d makes. found_suits n (array_of dies) (bad_of dies) f found) opens
+
+-- the same over any dies, sound or not: the device has what a scan of them finds
+pub opened_scanned : (n : Numbers) (dies : List DieState) (f : Found) → IsFoundOn n dies f → {E : Type 0} →
+    (r : Result DeviceCore E) → IfOk r (HasFound n f) → IfOk r (HasScanned n dies)
+opened_scanned n dies f found r has = IfOk-weaker r _ _ (λ d h. (f, found, h)) has

@@ -3,7 +3,7 @@ use Rattle.std.proofs.Common.{◌≡◌, ◌∙◌, List, Option, None, length, 
 use Rattle.std.specs.Prelude.{Vec}
 use Rattle.std.specs.Vec.{with_items}
 use Rattle.std.proofs.lemmas.List.{map-id, with_items_is}
-use Rattle.std.specs.Prelude.{replicate}
+use Rattle.std.specs.Prelude.{replicate, Err, Ok, OnOk, Result}
 use Rattle.ufs_spec.specs.Configs.{IsConfig}
 use Rattle.ufs_spec.specs.Dies.{DieState}
 use Rattle.ufs_spec.specs.Lives.{Fit, IsOpened, array_of, bad_of}
@@ -15,6 +15,7 @@ use Rattle.power_loss.proofs.die_pages.BlankOutsideDies.{fit_inside}
 use Rattle.power_loss.proofs.openings.OpenedStates.{opened_state}
 use Rattle.device.specs.Describes.{Describes}
 use Rattle.device.specs.Kept.{DeviceCore, WorldState}
+use Rattle.device.specs.Opened.{HasScanned}
 use Rattle.device.specs.Worlds.{FitState, Fits}
 use Rattle.device.proofs.dies_of_world.DiesFit.{opens_fit}
 
@@ -39,10 +40,16 @@ opened_over n m dies others core same_numbers same h =
     (subst (λ (ds : List DieState). IsOpenedOver m ds core) same h)
 
 pub suits_over : (n m : Numbers) (dies others : List DieState) → m ≡ n → others ≡ dies →
-    (Sound (array_of others) → Suits m (array_of others)) → Sound (array_of dies) → Suits n (array_of dies)
+    Suits m (array_of others) → Suits n (array_of dies)
 suits_over n m dies others same_numbers same h =
-    subst (λ (x : Numbers). Sound (array_of dies) → Suits x (array_of dies)) same_numbers
-    (subst (λ (ds : List DieState). Sound (array_of ds) → Suits m (array_of ds)) same h)
+    subst (λ (x : Numbers). Suits x (array_of dies)) same_numbers
+    (subst (λ (ds : List DieState). Suits m (array_of ds)) same h)
+
+pub scanned_over : (n m : Numbers) (dies others : List DieState) (core : DeviceCore) → m ≡ n → others ≡ dies →
+    HasScanned m others core → HasScanned n dies core
+scanned_over n m dies others core same_numbers same h =
+    subst (λ (x : Numbers). HasScanned x dies core) same_numbers
+    (subst (λ (ds : List DieState). HasScanned m ds core) same h)
 
 -- over sound dies that fit, with no job in flight, it fits that state
 pub opened_fits : (w : WorldState) (n : Numbers) (dies : List DieState) (s : State) → Fit n dies → w.config ≡ n →
@@ -59,3 +66,8 @@ opened_fits w n dies s fit same_config same_dies none opens sound opened =
           subst (λ (ds : List DieState). FitState ds w.jobs s) (sym same_dies)
           (subst (λ (js : List (Option Job)). FitState dies js s) (sym none) (opens_fit n dies s fit opened));
     }
+
+-- what holds does so where the call was well
+pub on_ok : {A E P : Type 0} (r : Result A E) → P → OnOk r P
+on_ok (Ok a) p = p
+on_ok (Err e) p = tt

@@ -15,6 +15,7 @@ use Rattle.ufs_spec.specs.declared.events.RunFaultKind.TheVariants as kind
 use Rattle.ufs_spec.specs.declared.faults.OpenFault.{OpenFault}
 use Rattle.ufs_spec.specs.declared.faults.OpenFault.TheVariants as fault
 use Rattle.recovery.specs.Found.{IsScanFault}
+use Rattle.device.specs.Opened.{HoldAnotherConfig}
 use Rattle.device.specs.Worlds.{IsOpeningFault}
 
 abbrev no_failures : DieState → ℕ
@@ -42,6 +43,12 @@ suits_by n dies sound m newest suits =
     subst (λ (x : Option Mark). CellsSuit n c x) (mark_one c sound.newest suits.newest m sound.sound its newest)
     (subst (λ (x : Cells). CellsSuit n x suits.newest) same suits.suit)
 
+-- sound dies that suit the configuration hold no other
+pub not_another : (n : Numbers) (dies : List DieState) → HoldAnotherConfig n dies → Sound (array_of dies) →
+    Suits n (array_of dies) → ⊥
+not_another n dies another sound suits =
+    let h = another sound.cells sound.shown in h.2 (suits_by n dies sound h.0 h.1 suits)
+
 pub opening_refused : (n : Numbers) (dies after : List DieState) (e : OpenFault) (k : RunFaultKind) → Fit n dies →
     (e ≡ fault.NoMemory → k ≡ kind.NoMemory) → (e ≢ fault.NoMemory → k ≡ kind.WrongEvent) →
     ((c : Cells) → Shows (array_of dies) c → IsScanFault n c (map no_failures dies) (map no_failures after) e) →
@@ -49,14 +56,13 @@ pub opening_refused : (n : Numbers) (dies after : List DieState) (e : OpenFault)
 opening_refused n dies after fault.NoMemory k fit memory other why =
     subst (IsOpeningFault n dies) (sym (memory refl)) fit
 opening_refused n dies after fault.OtherConfig k fit memory other why =
-    subst (IsOpeningFault n dies) (sym (other differ)) (λ _ sound suits.
-    let h = why sound.cells sound.shown in h.2 (suits_by n dies sound h.0 h.1 suits))
+    subst (IsOpeningFault n dies) (sym (other differ)) (λ _. why)
   where
     differ : fault.OtherConfig ≡ fault.NoMemory → ⊥
     differ e = cc
 opening_refused n dies after (fault.ReadFault p) k fit memory other why =
-    subst (IsOpeningFault n dies) (sym (other differ)) (λ _ sound suits.
-    none_rose dies after p.die (why sound.cells sound.shown))
+    subst (IsOpeningFault n dies) (sym (other differ)) (λ _ cells shown.
+    absurd (none_rose dies after p.die (why cells shown)))
   where
     differ : fault.ReadFault p ≡ fault.NoMemory → ⊥
     differ e = cc

@@ -26,14 +26,14 @@ use Rattle.power_loss.proofs.openings.EachSoundArrayOpens.{any_opens}
 -- what is known of the dies of a run
 pub record MayRun (n : Numbers) (dies : List DieState) : Type 0 where
   pub fit : Fit n dies
-  pub suits : Sound (array_of dies) → Suits n (array_of dies)
+  pub suits : Suits n (array_of dies)
 
 -- the opening
 
 pub run_begins : (n : Numbers) (dies : List DieState) (w : WorldState) → MayRun n dies → Sound (array_of dies) →
     ((s : State) → IsOpened n (array_of dies) (bad_of dies) s → Fits w s) → IsUnderWay n dies [] [] w
 run_begins n dies w may sound fits =
-    let s = any_opens n (array_of dies) (bad_of dies) (fit_inside n dies may.fit) sound (may.suits sound) in
+    let s = any_opens n (array_of dies) (bad_of dies) (fit_inside n dies may.fit) sound may.suits in
     record { start = s.0; now = s.0; opened = s.1; runs = refl; fits = fits s.0 s.1 }
 
 -- one event more
@@ -95,7 +95,7 @@ promise n dies events trace s t config may sound opened runs =
       lives = l.lives;
       right =
           lives_right n (array_of dies) (bad_of dies) l.first l.later events trace config
-          (record { inside = fit_inside n dies may.fit; sound = sound; suits = may.suits sound }) l.lives;
+          (record { inside = fit_inside n dies may.fit; sound = sound; suits = may.suits }) l.lives;
     }
 
 -- the numbers are those of a configuration

@@ -33,6 +33,7 @@ use Rattle.device.proofs.dies_of_world.DiesFit.{opens_fit}
 use Rattle.device.proofs.dies_of_world.LeftDies.{leftovers_on_dies, stopped_bad, stopped_fits, stops_by}
 use Rattle.device.proofs.dies_of_world.LeftoversChecked.{lawful_of, may_of, of_flight, to_die}
 use Rattle.device.proofs.dies_of_world.OpenedWorld.{IsOpenedOver}
+use Rattle.device.proofs.dies_of_world.OpeningRefused.{not_another}
 
 abbrev pub AreApart : List Leftover → Type 0
 AreApart lefts = AllPairs (λ l m. die_of l ≢ die_of m) lefts
@@ -149,7 +150,7 @@ module _ (w : WorldState) (s : State) (lefts : Vec Leftover) (fit : Fits w s) (a
   stop_refused kind.NoMemory h = (array_of after, stops)
   stop_refused kind.BadLeftover h = absurd h
   stop_refused kind.WrongEvent h =
-      absurd (h (subst (λ (m : Numbers). Fit m after) (sym fit.config) fits) sound
+      absurd (not_another w.config after (h (subst (λ (m : Numbers). Fit m after) (sym fit.config) fits)) sound
       (subst (λ (m : Numbers). Suits m (array_of after)) (sym fit.config) suits))
 
   pub stop_leaves : (k : RunFaultKind) → IsOpeningFault w.config after k →
@@ -157,7 +158,7 @@ module _ (w : WorldState) (s : State) (lefts : Vec Leftover) (fit : Fits w s) (a
   stop_leaves kind.NoMemory h = refl
   stop_leaves kind.BadLeftover h = absurd h
   stop_leaves kind.WrongEvent h =
-      absurd (h (subst (λ (m : Numbers). Fit m after) (sym fit.config) fits) sound
+      absurd (not_another w.config after (h (subst (λ (m : Numbers). Fit m after) (sym fit.config) fits)) sound
       (subst (λ (m : Numbers). Suits m (array_of after)) (sym fit.config) suits))
 
 -- The world after the stop

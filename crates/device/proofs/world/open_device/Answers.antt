@@ -4,6 +4,7 @@ use Rattle.ufs_spec.specs.Cells.{Shows}
 use Rattle.ufs_spec.specs.Dies.{DieState}
 use Rattle.ufs_spec.specs.Lives.{Fit, IsOpened, array_of, bad_of}
 use Rattle.ufs_spec.specs.Sound.{Sound, Suits}
+use Rattle.device.specs.Opened.{HasScanned}
 use Rattle.device.proofs.dies_of_world.OpeningRefused.{opening_refused}
 use Rattle.device.proofs.world.open_device.Goals as goal
 
@@ -19,10 +20,12 @@ returns-in-Ok-clause-described c =
 
 pub returns-in-Ok-clause-suits : goal.returns-in-Ok-clause-suits
 returns-in-Ok-clause-suits c =
-    λ sound.
-    let same = map-id c.args.dies.now in
-    subst (λ (ds : List DieState). Suits c.args.config (array_of ds)) same
-    (c.in-Ok.ensures.suits (subst (λ (ds : List DieState). Sound (array_of ds)) (sym same) sound))
+    subst (λ (ds : List DieState). Suits c.args.config (array_of ds)) (map-id c.args.dies.now) c.in-Ok.ensures.suits
+
+pub returns-in-Ok-clause-found : goal.returns-in-Ok-clause-found
+returns-in-Ok-clause-found c =
+    subst (λ (ds : List DieState). HasScanned c.args.config ds c.in-Ok.device) (map-id c.args.dies.now)
+    c.in-Ok.ensures.found
 
 pub returns-in-Err-clause-refused : goal.returns-in-Err-clause-refused
 returns-in-Err-clause-refused c =

@@ -66,3 +66,6 @@ returns-in-Err-clause-counted c =
     ap length c.in-Err.ensures.none_more ∙ c.loop-index.invariant.counted in
     let low = c.loop-index-test.true in
     (omega arith, omega arith)
+
+pub returns-clause-suits : goal.returns-clause-suits
+returns-clause-suits c = c.in_ok-world.ensures.suits.1

@@ -2,9 +2,8 @@ use Rattle.std.proofs.Common.{List, sym, subst}
 use Rattle.std.proofs.lemmas.List.{map-id}
 use Rattle.ufs_spec.specs.Cells.{Shows}
 use Rattle.ufs_spec.specs.Dies.{DieState}
-use Rattle.ufs_spec.specs.Lives.{Fit, IsOpened, array_of, bad_of}
-use Rattle.ufs_spec.specs.Sound.{Sound}
-use Rattle.ufs_handle.specs.Calls.{IsUnopened}
+use Rattle.ufs_spec.specs.Lives.{Fit, array_of}
+use Rattle.ufs_handle.specs.Calls.{IsUnopened, OpensOver}
 use Rattle.ufs_handle.specs.declared.fault.Fault.{Fault}
 use Rattle.ufs_handle.proofs.Unopened.{unopened}
 use Rattle.ufs_handle.proofs.held.open_device.Goals as goal
@@ -14,10 +13,12 @@ open-requires c = record { fit = subst (Fit c.args.config) (sym (map-id c.args.d
 
 pub returns-in-Ok-clause-opened : goal.returns-in-Ok-clause-opened
 returns-in-Ok-clause-opened c =
-    λ s sound opened.
-    let same = map-id c.args.dies.now in
-    c.in-Ok.ensures.described s (subst (λ (ds : List DieState). Sound (array_of ds)) (sym same) sound)
-    (subst (λ (ds : List DieState). IsOpened c.args.config (array_of ds) (bad_of ds) s) (sym same) opened)
+    subst (λ (ds : List DieState). OpensOver c.args.config ds c.in-Ok.device) (map-id c.args.dies.now)
+    (record {
+      described = c.in-Ok.ensures.described;
+      found = c.in-Ok.ensures.found;
+      suits = c.in-Ok.ensures.suits;
+    })
 
 pub returns-in-Err-clause-refused : goal.returns-in-Err-clause-refused
 returns-in-Err-clause-refused c =

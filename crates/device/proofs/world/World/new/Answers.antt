@@ -2,9 +2,10 @@ use Rattle.std.proofs.Common.{◌∙◌, None, ap, length, refl, replicate, sym,
 use Rattle.std.proofs.lemmas.List.{length-replicate, map-id}
 use Rattle.ufs_spec.specs.Lives.{Fit}
 use Rattle.ufs_spec.specs.declared.configs.Numbers.{Numbers}
+use Rattle.device.specs.Opened.{HasScanned}
 use Rattle.device.specs.Worlds.{IsOpeningFault}
 use Rattle.device.proofs.dies_of_world.OpenedWorld.{IsOpenedOver, fit_same, opened_fits, opened_over, suits_over}
-use Rattle.device.proofs.dies_of_world.OpenedWorld.{written_same}
+use Rattle.device.proofs.dies_of_world.OpenedWorld.{scanned_over, written_same}
 use Rattle.device.proofs.world.World.new.Goals as goal
 
 pub invariant_of-result : goal.invariant_of-result
@@ -33,8 +34,8 @@ open_device-requires c = record {
 pub returns-then-not-fit-clause-refused : goal.returns-then-not-fit-clause-refused
 returns-then-not-fit-clause-refused c =
     subst (IsOpeningFault c.args.config c.args.dies.items) (sym c.fault.ensures.kind)
-    (λ fit sound suits. c.fit.ensures.unfit c.if-not-fit.true
-    (subst (Fit c.args.config) (sym (map-id c.as_slice.result.now ∙ c.as_slice.ensures.value)) fit))
+    (λ fit. absurd (c.fit.ensures.unfit c.if-not-fit.true
+    (subst (Fit c.args.config) (sym (map-id c.as_slice.result.now ∙ c.as_slice.ensures.value)) fit)))
 
 pub returns-clause-suits : goal.returns-clause-suits
 returns-clause-suits c = (
@@ -43,6 +44,12 @@ returns-clause-suits c = (
   suits_over c.args.config c.copied.result c.args.dies.items c.as_mut_slice.result.now c.copied.ensures
       c.as_mut_slice.ensures.value c.in-Ok.ensures.suits,
 )
+
+pub returns-clause-found : goal.returns-clause-found
+returns-clause-found c =
+    subst (HasScanned c.args.config c.args.dies.items) (sym c.in-Ok-new.ensures.ok)
+    (scanned_over c.args.config c.copied.result c.args.dies.items c.as_mut_slice.result.now c.in-Ok.device
+    c.copied.ensures c.as_mut_slice.ensures.value c.in-Ok.ensures.found)
 
 pub returns-clause-fits : goal.returns-clause-fits
 returns-clause-fits c =

@@ -3,7 +3,8 @@ use Rattle.ufs_spec.specs.Dies.{DieState}
 use Rattle.ufs_spec.specs.Lives.{Fit}
 use Rattle.device.specs.Kept.{WorldState}
 use Rattle.device.specs.Rooms.{world_of}
-use Rattle.device.proofs.dies_of_world.OpenedWorld.{opened_over, written_same}
+use Rattle.device.specs.Opened.{HasScanned}
+use Rattle.device.proofs.dies_of_world.OpenedWorld.{opened_over, scanned_over, written_same}
 use Rattle.device.proofs.world.World.reopen.Goals as goal
 
 pub invariant_of-self : goal.invariant_of-self
@@ -32,6 +33,14 @@ returns-in-Ok-clause-same c =
       ap (λ (ds : List DieState). record (world_of c.self.inside) { core = c.in-Ok.device; dies = ds }) same
           ∙ ap (λ (w : WorldState). record w { core = c.in-Ok.device }) c.self.view_is,
     )
+
+pub returns-in-Ok-clause-scanned : goal.returns-in-Ok-clause-scanned
+returns-in-Ok-clause-scanned c =
+    let same = written_same c.self.inside.dies c.open_device.new.dies
+    (c.open_device.ensures.same ∙ c.as_mut_slice.ensures.value) in
+    subst (λ (ds : List DieState). HasScanned c.self.inside.config ds c.in-Ok.device) (sym same)
+    (scanned_over c.self.inside.config c.copied.result c.self.inside.dies.items c.as_mut_slice.result.now c.in-Ok.device
+    c.copied.ensures c.as_mut_slice.ensures.value c.in-Ok.ensures.found)
 
 pub returns-in-Ok-clause-described : goal.returns-in-Ok-clause-described
 returns-in-Ok-clause-described c =
