@@ -315,6 +315,9 @@ def drops_where(text):
     """A file without empty blocks: the head of a module goes, and the `where` of a declaration."""
     lines = text.splitlines(keepends=True)
     for last in range(len(lines) - 1, -1, -1):
+        # A head of several lines that went was the end of the file.
+        if last >= len(lines):
+            continue
         first = last if lines[last].strip() == "where" else head_of_module(lines, last)
         if first is None:
             continue
