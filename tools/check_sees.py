@@ -19,7 +19,7 @@ import sys
 
 from cases import Case, tried
 from crates import ROOT
-from edits import FOLDER, read_edit
+from edits import Fault, wrong_body
 from trial_copy import TrialCopy
 
 SCRIPTS = ROOT / "tools" / "check_sees"
@@ -42,9 +42,12 @@ def case_of(name):
 
 def printed_with(body, cases):
     """What ufsim with this body, or as it stands, prints of each case."""
+    try:
+        pairs = wrong_body(BODIES[body], body).pairs if body else ()
+    except Fault as fault:
+        return {}, str(fault)
     copy = TrialCopy(["ufsim_main"], leave_out=["out"])
     try:
-        pairs = read_edit(BODIES[body], FOLDER / BODIES[body] / f"{body}.edit").pairs if body else ()
         for file, old, new in pairs:
             if not copy.change(f"{BODIES[body]}/{file}", old, new):
                 return {}, f"its text does not stand once in crates/{BODIES[body]}/{file}: {old}"

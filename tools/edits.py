@@ -1,20 +1,24 @@
-"""Reads the wrong bodies, files of wrong_bodies/ and must-fail/, and says what each changes."""
-import pathlib
+"""Reads the wrong bodies, those of wrong_bodies/CRATE.edits and of the kit's must-fail/, and says what each changes.
+
+edit_files.py says how a file of edits is read. A text of a wrong body is one line.
+"""
 import re
 from typing import NamedTuple, Tuple
 
+import edit_files
 from crates import ROOT
 
 FOLDER = ROOT / "wrong_bodies"
 CONTROL = "control"
+FORM = edit_files.Form(("file", "old", "new"))
 
 
 class Edit(NamedTuple):
-    """An edit of a crate: its pairs of texts, each with its file, and the file that it stands in."""
+    """An edit of a crate: where it stands, and its pairs of texts, each with its file."""
 
     crate: str
     name: str
-    path: pathlib.Path
+    place: str
     pairs: Tuple[Tuple[str, str, str], ...]
 
     def __str__(self):
@@ -22,10 +26,10 @@ class Edit(NamedTuple):
 
 
 class Fault(Exception):
-    """Why an edit cannot be applied."""
+    """Why an edit cannot be applied, or is not there."""
 
 
-def read_edit(crate, path):
+def must_fail_edit(crate, path):
     """The edit of a file, in the form of the kit's must-fail edits."""
     file, old, pairs = "", None, []
     for line in path.read_text(encoding="utf-8").split("\n"):
@@ -36,17 +40,42 @@ def read_edit(crate, path):
         elif line.startswith("new:"):
             pairs.append((file, old or "", re.sub(r"\A ", "", line[len("new:"):])))
             old = None
-    return Edit(crate, path.stem, path, tuple(pairs))
+    return Edit(crate, path.stem, str(path.relative_to(ROOT)), tuple(pairs))
+
+
+def pairs_of(entry):
+    """The pairs of texts of an edit without a fault, each with its file."""
+    file, old, pairs = "", "", []
+    for line in entry.lines:
+        if line.word == "file":
+            file = line.text.strip()
+        elif line.word == "old":
+            old = line.text
+        else:
+            pairs.append((file, old, line.text))
+    return tuple(pairs)
 
 
 def edits_of(crate):
-    """The wrong bodies of a crate by name, and its control, if it has one."""
-    edits = [read_edit(crate, path) for path in sorted((FOLDER / crate).glob("*.edit"))]
-    return [it for it in edits if it.name != CONTROL], next((it for it in edits if it.name == CONTROL), None)
+    """The wrong bodies of a crate by name, its control, if it has one, and a line for each fault of their file."""
+    path = FOLDER / f"{crate}.edits"
+    entries, faults = edit_files.read(path, FORM) if path.exists() else ([], [])
+    edits = [Edit(crate, it.name, f"{edit_files.place(path)}:{it.number}, {it.name}", pairs_of(it)) for it in entries]
+    control = next((it for it in edits if it.name == CONTROL), None)
+    return [it for it in edits if it.name != CONTROL], control, faults
+
+
+def wrong_body(crate, name):
+    """A wrong body by its name."""
+    edits, _, faults = edits_of(crate)
+    found = [it for it in edits if it.name == name]
+    if not found:
+        raise Fault("\n".join(faults) or f"there is no wrong body {crate}/{name}")
+    return found[0]
 
 
 def must_fail_edits(crate):
-    return [read_edit(crate, path) for path in sorted((ROOT / "crates" / crate / "must-fail").glob("*.edit"))]
+    return [must_fail_edit(crate, path) for path in sorted((ROOT / "crates" / crate / "must-fail").glob("*.edit"))]
 
 
 def read_texts(crate, root=ROOT):
@@ -80,7 +109,7 @@ def places(edit, texts):
             if other == file and start < at + len(old) and at < start + len(put):
                 return None
             at -= len(put) - (end - start) if other == file and start < at else 0
-        before = changed(Edit(edit.crate, edit.name, edit.path, (pair,)), before)
+        before = changed(edit._replace(pairs=(pair,)), before)
         found.append((file, at, at + len(old), new))
     return found
 

@@ -1,7 +1,9 @@
-"""Reads the wrong rules, files of wrong_rules/: each is a rule of the specification, turned around.
+"""Reads the wrong rules of wrong_rules/: each is a rule of the specification, turned around.
 
-A file wrong_rules/TOPIC/NAME.edit has these lines, which begin with their words:
+A file wrong_rules/TOPIC.edits has the rules of a topic. edit_files.py says how such a file is read.
+Each rule has these lines, which begin with their words:
 
+    name: NAME, which no rule of any topic has besides
     says: the wrong rule in words
     law: crate::function, the law that is to refuse it: one that speaks of this rule
     file: the file below crates/ that the pairs below change
@@ -14,15 +16,19 @@ lines go.
 """
 from typing import NamedTuple, Tuple
 
+import edit_files
 from crates import ROOT
 
 FOLDER = ROOT / "wrong_rules"
+FORM = edit_files.Form(("says", "law", "file", "mend", "old", "new"), is_joined=True)
 
 
 class Rule(NamedTuple):
-    """A wrong rule in words, the law that is to refuse it, its changes, and what mends quotes of it."""
+    """A wrong rule in words and where it stands, the law that is to refuse it, its changes, and what mends quotes of
+    it."""
 
     name: str
+    place: str
     says: str
     law: str
     edits: Tuple[Tuple[str, str, str], ...]
@@ -30,7 +36,7 @@ class Rule(NamedTuple):
 
 
 class Reader:
-    """What was read of the file of a rule so far."""
+    """What was read of a rule so far."""
 
     def __init__(self):
         self.words, self.edits, self.mends = {}, [], []
@@ -44,7 +50,7 @@ class Reader:
         self.old, self.new = [], []
 
     def take(self, word, text):
-        """Takes a line of the file."""
+        """Takes a line of the rule."""
         if word == "new":
             self.new.append(text)
             return
@@ -58,21 +64,25 @@ class Reader:
             self.words[word] = text
 
 
-def read_rule(path):
-    """The rule of a file."""
+def rule_of(entry, file):
+    """The rule that stands in a file."""
     reader = Reader()
-    for line in path.read_text(encoding="utf-8").split("\n"):
-        word, colon, text = line.partition(":")
-        if colon:
-            reader.take(word, text[1:])
+    for _, word, text in entry.lines:
+        reader.take(word, text)
     reader.end_pair()
     says, law = (reader.words.get(word, "") for word in ("says", "law"))
-    return Rule(path.stem, says, law, tuple(reader.edits), tuple(reader.mends))
+    where = f"{file}:{entry.number}, {entry.name}"
+    return Rule(entry.name, where, says, law, tuple(reader.edits), tuple(reader.mends))
 
 
 def rules():
-    """All wrong rules."""
-    return [read_rule(path) for path in sorted(FOLDER.glob("*/*.edit"))]
+    """All wrong rules, and a line for each fault of their files."""
+    found, faults = [], []
+    for path in sorted(FOLDER.glob("*.edits")):
+        entries, more = edit_files.read(path, FORM)
+        found += [rule_of(it, edit_files.place(path)) for it in entries]
+        faults += more
+    return found, faults
 
 
 def faults_of(rule):
@@ -88,4 +98,4 @@ def faults_of(rule):
                for file, old, found in counts if found != 1]
     faults += [f"this text, to be mended, does not stand in crates/{file}: {old}"
                for file, old, _ in rule.mends if old not in text_of(file)]
-    return [f"wrong_rules/*/{rule.name}.edit: {fault}" for fault in faults]
+    return [f"{rule.place}: {fault}" for fault in faults]

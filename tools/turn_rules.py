@@ -12,6 +12,7 @@ accepted.
 
 With names only these edits are made; --list shows them all, and tells each law that is not there.
 --texts only looks whether each text that an edit changes stands once, and whether its law is there.
+A file of edits with a fault is told with its line, and then nothing is tried.
 The last line counts. The status is 0 if each edit was refused, 1 if one was not, and 2 if nothing
 could be said.
 """
@@ -127,6 +128,14 @@ def told_texts(chosen):
     return 1 if bad else 0
 
 
+def told_faults(every, broken):
+    """Says which lines of the files are at fault, and gives the status."""
+    for fault in broken:
+        print(fault)
+    print(f"{len(every)} passed, {len(broken)} failed")
+    return 1
+
+
 def main():
     parser = argparse.ArgumentParser(description="Turns rules around and shows that a law refuses each.")
     parser.add_argument("names", nargs="*", metavar="NAME", help="the edits to try; all, if none is named")
@@ -134,7 +143,9 @@ def main():
     parser.add_argument("--texts", action="store_true", help="only look whether each text stands once")
     parser.add_argument("--jobs", type=int, default=2, metavar="N", help="how many copies work at a time (2)")
     asked = parser.parse_args()
-    every = rules()
+    every, broken = rules()
+    if broken:
+        return told_faults(every, broken)
     known = {rule.name: rule for rule in every}
     missing = [name for name in asked.names if name not in known]
     if missing or len(known) != len(every):

@@ -3,21 +3,24 @@
 
 usage: wrong_bodies.py [--texts] [--list] [--compile] [--after-gate] [--anew] [--lanes N] [CRATE [NAME..]]
 
-wrong_bodies/CRATE/NAME.edit has the form of the kit's must-fail edits: a line 'file: src/lib.rt',
-then pairs of lines 'old: TEXT' and 'new: TEXT'. A round is one check of a copy of the crate with
-many edits. An edit of one function's body alone is written beside it: the function stands there once
-more, with the wrong body, under another name, and with the files that prove it under that name. So
-all of a crate's edits of this kind are one round, or a few of a hundred, and no other function rests
-on them. A function that files prove stands there also with its own body, as a control of its own: if
-that copy is not proved, its wrong bodies are tried in its place. Any other edit is made in place. It
-goes into the first of the later rounds whose edits touch none of its functions.
+wrong_bodies/CRATE.edits has the edits of a crate. Each has a line 'name: NAME', a line
+'file: src/lib.rt', then pairs of lines 'old: TEXT' and 'new: TEXT'; edit_files.py says how such a
+file is read.
+
+A round is one check of a copy of the crate with many edits. An edit of one function's body alone is
+written beside it: the function stands there once more, with the wrong body, under another name, and
+with the files that prove it under that name. So all of a crate's edits of this kind are one round,
+or a few of a hundred, and no other function rests on them. A function that files prove stands there
+also with its own body, as a control of its own: if that copy is not proved, its wrong bodies are
+tried in its place. Any other edit is made in place. It goes into the first of the later rounds whose
+edits touch none of its functions.
 
 An edit is refused if a function of its own falls for a reason of its own: a goal that was not
 proved, or a proof that no longer fits, and not only a call of what fell. If a round does not compile,
 the compiler's front end finds in seconds which of its edits do not, and the others are tried without
 them. What a round does not tell is tried in halves, and alone in the end, then in place and over the
 whole crate.
-wrong_bodies/CRATE/control.edit changes a body so that it means the same. It stands in each round and
+The edit with the name control changes a body so that it means the same. It stands in each round and
 has to be proved there. Only if the first round does not show that, the control is tried alone: the
 whole crate has to be proved with it before anything else is tried.
 
@@ -29,7 +32,8 @@ A verdict that is as it must be is kept in the user's cache, by the sums of all 
 from (verdicts.py says which). A later run tries only what has no kept verdict; --anew tries all. A
 crate with nothing to try is not checked.
 
---texts only looks whether each text that an edit changes stands once, also those of must-fail/.
+--texts only looks whether each text that an edit changes stands once, also those of must-fail/. A
+file of edits with a fault is told with its line, and then nothing is tried.
 --compile only looks whether each edited text compiles, in minutes for all crates. --list shows rounds.
 --after-gate takes the libraries that `rt ci` has just built in this folder.
 The last line counts the edits and the controls, and the one before says how many were tried in this
@@ -96,9 +100,9 @@ class Crate:
 
     def __init__(self, name, wanted=()):
         self.name, self.texts = name, read_texts(name)
-        edits, self.control = edits_of(name)
+        edits, self.control, self.faults = edits_of(name)
         self.edits = [it for it in edits if not wanted or it.name in wanted]
-        self.missing = [it for it in wanted if it not in [edit.name for edit in edits]]
+        self.missing = [it for it in wanted if not self.faults and it not in [edit.name for edit in edits]]
         self.good, self.bad, self.kept, self.seconds, self.checks = [], [], [], 0.0, 0
         self.places, self.functions, self.is_control_proved, self.unproved = {}, {}, False, None
         # The copies that hold the edits, and by function those with its own body.
@@ -149,13 +153,13 @@ class Crate:
         return len(self.kept) == len(self.all())
 
     def broken(self):
-        """A line for each edit whose texts do not stand once."""
-        lines = []
+        """A line for each fault of the file of its edits, and for each edit whose texts do not stand once."""
+        lines = [*self.faults]
         for edit in [*self.all(), *must_fail_edits(self.name)]:
             try:
                 changed(edit, self.texts)
             except Fault as fault:
-                lines.append(f"{edit.path.relative_to(ROOT)}: {fault}")
+                lines.append(f"{edit.place}: {fault}")
         return lines
 
     def touch(self):
@@ -457,8 +461,8 @@ def told_texts(crates, broken):
     for line in broken:
         print(line)
     if broken:
-        print(f"{len(broken)} edits cannot be made: mend their lines 'old:'")
-    count = sum(len(it.all()) + len(must_fail_edits(it.name)) for it in crates)
+        print(f"{len(broken)} faults of edits: no edit is tried before they are mended")
+    count = sum(len(it.faults) + len(it.all()) + len(must_fail_edits(it.name)) for it in crates)
     print(f"{count - len(broken)} passed, {len(broken)} failed")
     return 1 if broken else 0
 
@@ -523,7 +527,8 @@ def main():
     crates = [it for it in crates if it.edits]
     without = [it.name for it in crates if it.control is None]
     if without:
-        print(f"wrong_bodies: there is no control: wrong_bodies/{without[0]}/control.edit", file=sys.stderr)
+        print(f"wrong_bodies: there is no control: wrong_bodies/{without[0]}.edits has no edit of this name",
+              file=sys.stderr)
         return 2
     return listed(crates) if asked.list else run(crates, asked)
 

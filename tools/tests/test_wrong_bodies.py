@@ -11,7 +11,10 @@ import unittest
 
 HERE = pathlib.Path(__file__).resolve().parent
 BODY = "pub fn {name}() -> u8 {{\n    {number}\n}}\n"
-EDIT = "file: src/lib.rt\nold: {old}\nnew: {new}\n"
+EDIT = "name: {name}\nfile: src/lib.rt\nold: {old}\nnew: {new}\n"
+EDITS = {"ten_is_eleven": ("10", "11"), "twenty_is_one_more": ("20", "20 + 1"), "control": ("30", "10 + 20")}
+# The file of the edits.
+FILE = "wrong_bodies/upper.edits"
 NUMBERS = {"ten": 10, "twenty": 20, "thirty": 30, "forty": 40}
 COUNTS = re.compile(r"^wrong bodies: (\d+) tried in this run, (\d+) kept from earlier runs", re.M)
 # The check of all edits and the control, each in a copy of its function.
@@ -40,9 +43,7 @@ class Repository:
         self.write("crates/lower/src/lib.rt", BODY.format(name="forty", number=40))
         bodies = [BODY.format(name=name, number=number) for name, number in NUMBERS.items()]
         self.write("crates/upper/src/lib.rt", "\n".join(bodies))
-        edits = {"ten_is_eleven": ("10", "11"), "twenty_is_one_more": ("20", "20 + 1"), "control": ("30", "10 + 20")}
-        for name, (old, new) in edits.items():
-            self.write(f"wrong_bodies/upper/{name}.edit", EDIT.format(old=old, new=new))
+        self.write_edits(EDITS)
         self.write("bin/rt", (HERE / "fake_rt.py").read_text(encoding="utf-8"))
         (self.folder / "bin" / "rt").chmod(0o755)
 
@@ -50,6 +51,11 @@ class Repository:
         file = self.folder / path
         file.parent.mkdir(parents=True, exist_ok=True)
         file.write_text(text, encoding="utf-8")
+
+    def write_edits(self, edits):
+        """Writes edits, each an old text and a new one by a name."""
+        texts = [EDIT.format(name=name, old=old, new=new) for name, (old, new) in sorted(edits.items())]
+        self.write(FILE, "\n".join(texts))
 
     def forget_libraries(self):
         """Removes what was built."""
@@ -119,11 +125,15 @@ class WrongBodies(unittest.TestCase):
         self.assertEqual(before, self.repository.files(), "verdicts lie in the cache alone")
 
     def test_a_changed_edit_is_tried_again(self):
-        self.repository.change("wrong_bodies/upper/ten_is_eleven.edit", "new: 11", "new: 12")
+        self.repository.change(FILE, "new: 11", "new: 12")
         self.sees(tried=1, kept=ALL - 1)
 
+    def test_a_new_edit_alone_is_tried_where_it_moves_the_lines_of_the_others(self):
+        self.repository.write_edits({**EDITS, "forty_is_less": ("40", "39")})
+        self.sees(tried=1, kept=ALL, passed=ALL + 1)
+
     def test_all_edits_are_tried_again_where_the_control_changed(self):
-        self.repository.change("wrong_bodies/upper/control.edit", "10 + 20", "15 + 15")
+        self.repository.change(FILE, "10 + 20", "15 + 15")
         self.sees(tried=ALL, kept=0)
 
     def test_all_edits_are_tried_again_where_a_line_outside_of_bodies_changed(self):
@@ -202,7 +212,7 @@ class WrongBodies(unittest.TestCase):
         self.assertEqual(["upper all"], self.repository.checks())
 
     def test_two_wrong_bodies_of_one_function_are_tried_in_one_check(self):
-        self.repository.write("wrong_bodies/upper/ten_is_twelve.edit", EDIT.format(old="10", new="12"))
+        self.repository.write_edits({**EDITS, "ten_is_twelve": ("10", "12")})
         self.sees(ALL + 1, 0, "--anew", passed=ALL + 1)
         self.assertEqual(["upper lib", ROUND.replace("thirty", "ten_ten_is_twelve thirty")], self.repository.checks())
 
@@ -223,12 +233,12 @@ class WrongBodies(unittest.TestCase):
         self.assertEqual(["upper lib", ROUND, "upper all"], self.repository.checks())
 
     def test_an_edit_that_its_round_does_not_refuse_is_tried_over_the_whole_crate(self):
-        self.repository.change("wrong_bodies/upper/ten_is_eleven.edit", "new: 11", "new: 5 + 5")
+        self.repository.change(FILE, "new: 11", "new: 5 + 5")
         self.sees(ALL, 0, "--anew", passed=ALL - 1, failed=1)
         self.assertEqual(["upper lib", ROUND, "upper all"], self.repository.checks())
 
     def test_an_edit_that_does_not_compile_is_found_by_the_front_end(self):
-        self.repository.change("wrong_bodies/upper/ten_is_eleven.edit", "new: 11", "new: oops")
+        self.repository.change(FILE, "new: 11", "new: oops")
         self.sees(ALL, 0, "--anew", passed=ALL - 1, failed=1)
         without = ROUND.replace(" ten_ten_is_eleven", "")
         checks = [ROUND, "upper all", *["upper nothing"] * 3, "upper ten", "upper all", without]
@@ -237,16 +247,39 @@ class WrongBodies(unittest.TestCase):
     def test_whether_all_edits_compile_is_seen_without_a_proof(self):
         self.assertEqual(0, self.repository.run("--compile")[3])
         self.assertEqual(["upper nothing"], self.repository.checks())
-        self.repository.change("wrong_bodies/upper/ten_is_eleven.edit", "new: 11", "new: oops")
+        self.repository.change(FILE, "new: 11", "new: oops")
         *_, said, status = self.repository.run("--compile")
         self.assertEqual(1, status, said)
         self.assertIn("upper/ten_is_eleven: does not compile: src/lib.rt: nothing has the name `oops`", said)
         self.assertEqual("1 passed, 1 failed", said.splitlines()[-1])
 
     def test_what_is_not_refused_is_not_kept(self):
-        self.repository.change("wrong_bodies/upper/ten_is_eleven.edit", "new: 11", "new: 5 + 5")
+        self.repository.change(FILE, "new: 11", "new: 5 + 5")
         self.sees(tried=1, kept=ALL - 1, passed=ALL - 1, failed=1)
         self.sees(tried=1, kept=ALL - 1, passed=ALL - 1, failed=1)
+
+    def test_a_fault_of_the_file_is_told_with_its_line_and_nothing_is_tried(self):
+        self.repository.change(FILE, "name: ten_is_eleven", "name: control")
+        self.repository.change(FILE, "new: 20 + 1\n", "")
+        for words in ("", "--texts", "upper ten_is_eleven"):
+            *_, said, status = self.repository.run(*words.split())
+            self.assertEqual(1, status, said)
+            self.assertIn(f"{FILE}:6: a second edit has the name control: the first is in line 1\n", said)
+            self.assertIn(f"{FILE}:13: no line 'new:' follows it\n", said)
+            self.assertEqual("0 passed, 2 failed", said.splitlines()[-1])
+            self.assertEqual([], self.repository.checks())
+
+    def test_a_text_that_does_not_stand_once_is_told_with_the_line_of_its_edit(self):
+        self.repository.change(FILE, "old: 10", "old: 0")
+        *_, said, status = self.repository.run("--texts")
+        cause = "this text stands 4 times in crates/upper/src/lib.rt, and not once: 0"
+        self.assertEqual((1, f"{FILE}:6, ten_is_eleven: {cause}"), (status, said.splitlines()[0]))
+        self.assertEqual(f"{ALL - 1} passed, 1 failed", said.splitlines()[-1])
+
+    def test_a_crate_without_a_control_is_told(self):
+        self.repository.write_edits({name: texts for name, texts in EDITS.items() if name != "control"})
+        *_, said, status = self.repository.run()
+        self.assertEqual((2, f"wrong_bodies: there is no control: {FILE} has no edit of this name\n"), (status, said))
 
     def test_a_crate_that_is_not_proved_keeps_nothing(self):
         self.repository.change("crates/upper/src/lib.rt", "40", "41")
