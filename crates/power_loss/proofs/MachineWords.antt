@@ -15,7 +15,7 @@ pub use Rattle.ufs_laws.specs.GapRows.{first_mark, write_page}
 pub use Rattle.ufs_laws.specs.Replies.{TaskSpeaks}
 pub use Rattle.ufs_laws.specs.Runs.{Gets, IsNew, data_program, place_of, row, state_15, the_data, the_write}
 pub use Rattle.ufs_laws.specs.Runs.{write_events, write_outputs}
-pub use Rattle.ufs_spec.specs.Cdbs.{address_of, blocks_of, operation_of, read_10, read_6}
+pub use Rattle.ufs_spec.specs.Cdbs.{address_of, blocks_of}
 pub use Rattle.ufs_spec.specs.Commands.{Command, Write}
 pub use Rattle.ufs_spec.specs.Configs.{IsConfig}
 pub use Rattle.ufs_spec.specs.Dies.{DieState, blank_page}
@@ -44,8 +44,8 @@ pub use Rattle.ufs_spec.specs.Machine.{without_tasks, write_complete, write_deed
 pub use Rattle.ufs_spec.specs.Messages.{AreBytes}
 pub use Rattle.ufs_spec.specs.Refusals.{BootUnit, DeviceUnit, Line, Lun, ReportLunsUnit, Request, RpmbUnit, State}
 pub use Rattle.ufs_spec.specs.Refusals.{UnitOf, first_line, is_past, lacks_unit, line, lines_after, locked, lun_of}
-pub use Rattle.ufs_spec.specs.Refusals.{mended, needs_mended, not_taken, numbers_of, operation_in, plain_now, refusal}
-pub use Rattle.ufs_spec.specs.Refusals.{unit_numbers_at, takes, unit_in, unit_of_request}
+pub use Rattle.ufs_spec.specs.Refusals.{mended, needs_mended, not_taken, numbers_of, plain_now, refusal}
+pub use Rattle.ufs_spec.specs.Refusals.{unit_numbers_at, unit_in, unit_of_request}
 pub use Rattle.ufs_spec.specs.Exchanges.{most_tasks}
 pub use Rattle.ufs_spec.specs.declared.configs.UnitSpec.{UnitSpec}
 pub use Rattle.ufs_spec.specs.declared.events.Event.{Event}

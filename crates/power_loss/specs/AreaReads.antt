@@ -1,10 +1,11 @@
 -- What open tasks are by their commands: what gathers data does so for its command, and what a request for data reads
 -- of the RPMB area shows the area as it is now, as long as the request is open, since only one task at a time can
 -- change the area (JESD220, 12.4).
-use Rattle.std.specs.Prelude.{◌≡◌, ◌⊎◌, ℕ, ◌+◌, Bool, true, false, List, [], ◌∷◌, length, map, slice_get, Option, Some}
+use Rattle.std.specs.Prelude.{◌≡◌, ℕ, ◌+◌, Bool, true, false, List, [], ◌∷◌, length, map, slice_get, Option, Some}
 use Rattle.std.specs.Prelude.{None}
 use Rattle.std.specs.List.{AllByRecursion, list_any}
-use Rattle.ufs_spec.specs.Cdbs.{address_of, blocks_of, operation_of, write_10, write_6}
+use Rattle.ufs_spec.specs.CdbFields.{kind_of}
+use Rattle.ufs_spec.specs.Cdbs.{address_of, blocks_of}
 use Rattle.ufs_spec.specs.Exchanges.{Answering, Awaiting, Deed, ForFrames, ForUnmap, ForWrite, Gathering, Purpose}
 use Rattle.ufs_spec.specs.Exchanges.{ReadBlock, ReadingArea, RpmbRequest, Sending, SendingBytes, Task}
 use Rattle.ufs_spec.specs.FrameRequests.{first_page, pages_named}
@@ -12,6 +13,7 @@ use Rattle.ufs_spec.specs.Frames.{Frame}
 use Rattle.ufs_spec.specs.Keys.{area_key, below, content}
 use Rattle.ufs_spec.specs.Plain.{Plain}
 use Rattle.ufs_spec.specs.Refusals.{State, plain_now, sends_frames}
+use Rattle.ufs_spec.specs.declared.operations.Kind.TheVariants as kind
 use Rattle.ufs_spec.specs.declared.scsi.Cdb.{Cdb}
 use Rattle.ufs_spec.specs.declared.scsi.Cdb.TheVariants as cdb
 
@@ -37,7 +39,7 @@ RequestShows p (Some request) pages = FramesShow p request.region request.frames
 abbrev pub IsWriteOf : ℕ → ℕ → Option Cdb → Type 0
 IsWriteOf address blocks command =
     (c : Cdb) × (command ≡ Some c) × (address_of c ≡ address) × (blocks_of c ≡ blocks)
-    × ((operation_of c ≡ write_6) ⊎ (operation_of c ≡ write_10))
+    × (kind_of c ≡ kind.Write)
 
 -- what gathers so many bytes is a command that has them: a WRITE of these blocks, an UNMAP with a list of so many
 -- bytes, or a SECURITY PROTOCOL OUT of so many for the region

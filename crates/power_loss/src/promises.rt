@@ -15,13 +15,13 @@ ghost use Rattle.power_loss.specs.Promises.{IsAnsweredGood, IsHeldWrite, IsRepli
 /// commands is replied only once these are held; if the device locks before, it gets its other reply. What is held stays
 /// held.
 pub fn good_promises_durability()
-    ensures flush { (s t u : State) (r : Request) (bytes : List ℕ) (address blocks : ℕ)
+    ensures flush { (s t u : State) (r : Request) (bytes : List ℕ)
         (es : List Event) (os : List Output) →
-        ValidState s → r.cdb ≡ Some (cdb.SynchronizeCache10 address blocks false) → IsAnsweredGood s r bytes t →
+        ValidState s → r.cdb ≡ Some (cdb.Flush false) → IsAnsweredGood s r bytes t →
         Life t es os u → length s.accepted ≤ held u }
     ensures forced_write { (s t u : State) (r : Request) (bytes : List ℕ) (address blocks : ℕ)
         (es : List Event) (os : List Output) →
-        ValidState s → r.cdb ≡ Some (cdb.Write10 address blocks true) → 1 ≤ blocks → IsAnsweredGood s r bytes t →
+        ValidState s → r.cdb ≡ Some (cdb.Write address blocks true) → 1 ≤ blocks → IsAnsweredGood s r bytes t →
         Life t es os u → IsHeldWrite s r address blocks bytes u }
     ensures short { (s t u v : State) (short : Short) (n : ℕ) (m : Message)
         (es fs : List Event) (os ps : List Output) →

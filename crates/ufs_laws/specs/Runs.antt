@@ -3,7 +3,8 @@
 use Rattle.std.specs.Prelude.{◌≡◌, ℕ, Bool, true, false, List, [], ◌∷◌, ◌++◌, length, Some, None, Ok}
 use Rattle.std.specs.Global.{Vec}
 use Rattle.ufs_laws.specs.GapRows.{first_mark, write_page}
-use Rattle.ufs_spec.specs.Cdbs.{cdb_bytes, fixed_sense}
+use Rattle.ufs_spec.specs.Cdbs.{cdb_bytes, fixed_sense, option_byte, ten_bytes}
+use Rattle.ufs_spec.specs.declared.operations.TheConstants.{FUA, READ_10}
 use Rattle.ufs_spec.specs.Cells.{Array, MarkPage}
 use Rattle.ufs_spec.specs.Configs.{numbers_of}
 use Rattle.ufs_spec.specs.Dies.{blank_page}
@@ -84,7 +85,7 @@ command flags lun tag expected c = Spelled (message.Command flags lun tag expect
 
 -- a WRITE(10) with FUA of one block, the last of unit 0, with tag 7
 abbrev pub the_write : Heard
-the_write = command 0x20 0 7 4096 (cdb.Write10 0xFF 1 true)
+the_write = command 0x20 0 7 4096 (cdb.Write 0xFF 1 true)
 
 -- the block of that WRITE as one DATA OUT
 abbrev pub the_data : List ℕ → Heard
@@ -92,7 +93,7 @@ the_data body = Spelled (message.DataOut 0 7 0 (record { items = body })) None
 
 -- the READ that follows, without FUA and with tag 8
 abbrev pub the_read : Heard
-the_read = command 0x40 0 8 4096 (cdb.Read10 0xFF 1 false)
+the_read = command 0x40 0 8 4096 (cdb.Read 0xFF 1)
 
 -- there are bytes that say it
 abbrev pub IsSaid : Heard → Type 0
@@ -318,6 +319,11 @@ abbrev pub refused : ℕ → ℕ → ℕ → ℕ → Message
 refused lun tag expected asc =
     message.Response 0x20 lun tag 0x01 0x02 expected (Some (0 ∷ 0x12 ∷ fixed_sense (sense 0x05 asc)))
 
+-- the bytes of a READ(10), with FUA or without it
+abbrev pub read_bytes : ℕ → ℕ → Bool → List ℕ
+read_bytes address blocks forced = ten_bytes READ_10 (option_byte FUA forced) address blocks
+
 -- READ(10) of so many blocks of unit 0 from an address on
 abbrev pub read_of : ℕ → ℕ → Bool → ℕ → ℕ → Heard
-read_of address blocks forced tag expected = command 0x40 0 tag expected (cdb.Read10 address blocks forced)
+read_of address blocks forced tag expected =
+    Spelled (message.Command 0x40 0 tag expected (read_bytes address blocks forced)) (Some (cdb.Read address blocks))

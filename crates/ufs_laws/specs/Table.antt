@@ -1,6 +1,7 @@
 -- Requests that more than one line of the table refuses.
-use Rattle.std.specs.Prelude.{ℕ, Bool, true, false, List, [], ◌∷◌, Some, None}
+use Rattle.std.specs.Prelude.{ℕ, Bool, true, List, [], ◌∷◌, ◌++◌, Some, None, replicate}
 use Rattle.ufs_laws.specs.Runs.{IsAnswered, unit}
+use Rattle.ufs_spec.specs.CdbFields.{spelled_cdb}
 use Rattle.ufs_spec.specs.Cdbs.{cdb_bytes}
 use Rattle.ufs_spec.specs.Configs.{numbers_of}
 use Rattle.ufs_spec.specs.Exchanges.{Status, response}
@@ -22,6 +23,21 @@ asks flags lun tag c = record {
   cdb = Some c;
 }
 
+-- the same, with bytes of its own and the command that they spell
+abbrev pub asks_in : ℕ → ℕ → ℕ → List ℕ → Request
+asks_in flags lun tag bytes = record {
+  flags = flags;
+  lun = lun;
+  tag = tag;
+  expected = 4096;
+  bytes = bytes;
+  cdb = spelled_cdb bytes;
+}
+
+-- READ(6) and WRITE(6) of one block at address 0
+abbrev pub short_bytes : ℕ → List ℕ
+short_bytes operation = operation ∷ replicate 3 0 ++ 1 ∷ replicate 11 0
+
 -- a request of 4096 bytes whose CDB spells no command
 abbrev pub spells_none : ℕ → ℕ → ℕ → List ℕ → Request
 spells_none flags lun tag bytes = record {
@@ -33,17 +49,17 @@ spells_none flags lun tag bytes = record {
   cdb = None;
 }
 
--- READ(10) without FUA of so many blocks from an address on
+-- READ of so many blocks from an address on
 abbrev pub read_at : ℕ → ℕ → Cdb
-read_at address blocks = cdb.Read10 address blocks false
+read_at address blocks = cdb.Read address blocks
 
--- WRITE(10) with FUA of one block at this address
+-- WRITE with FUA of one block at this address
 abbrev pub write_at : ℕ → Cdb
-write_at address = cdb.Write10 address 1 true
+write_at address = cdb.Write address 1 true
 
--- SYNCHRONIZE CACHE(10) of a whole unit
+-- SYNCHRONIZE CACHE
 abbrev pub flush : Bool → Cdb
-flush immediate = cdb.SynchronizeCache10 0 0 immediate
+flush immediate = cdb.Flush immediate
 
 -- three units of the row of Runs: unit 1 is protected by fPowerOnWPEn, and unit 2 by fPermanentWPEn
 abbrev pub protected_row : Numbers

@@ -20,6 +20,7 @@ ghost use Rattle.ufs_spec.specs.QueryAnswers.{may_set, query_answered, query_don
 ghost use Rattle.ufs_spec.specs.Refusals.{State, locked, mended, numbers_of, plain_now, unit_numbers_at};
 ghost use Rattle.ufs_spec.specs.Rpmb.{Results};
 ghost use Rattle.ufs_spec.specs.Translation.{free_slots};
+ghost use Rattle.ufs_spec.specs.declared.volatile.Volatile.{Volatile};
 
 /// A wrong header or descriptor of UNMAP's list is refused with 5/26/00, a descriptor past the unit
 /// with 5/21/00, and none of them, nor a list without a block, accepts anything; a locked device
@@ -91,13 +92,13 @@ pub fn a_setting_waits_until_it_is_durable()
         (query_passed s tag q (setting_of q)).shorts ≡ s.shorts ++ record {
           tag = tag;
           awaits = Some (length s.accepted + 1);
-          reply = query_done (numbers_of s) (apply (plain_now s) c) s.power_on tag q;
+          reply = query_done (numbers_of s) (apply (plain_now s) c) s.volatile tag q;
           locked_reply = query_failed tag q 0xFF;
         } ∷ [] }
-    ensures tells_boot { (p : Plain) (power_on : Bool) (value : ℕ) →
-        value_told (apply p (SetBoot value)) power_on (boot_query value) ≡ value }
-    ensures tells_flag { (p : Plain) (power_on : Bool) →
-        value_told (apply p SetPermanent) power_on permanent_query ≡ 1 }
+    ensures tells_boot { (p : Plain) (volatile : Volatile) (value : ℕ) →
+        value_told (apply p (SetBoot value)) volatile (boot_query value) ≡ value }
+    ensures tells_flag { (p : Plain) (volatile : Volatile) →
+        value_told (apply p SetPermanent) volatile permanent_query ≡ 1 }
     ensures not_due { (s : State) (short : Short) (n : ℕ) → short.awaits ≡ Some n → durable s < n →
         is_durable s short.awaits ≡ false }
     ensures lock { (s : State) (short : Short) → is_durable s short.awaits ≡ false →

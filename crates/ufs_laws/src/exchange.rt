@@ -8,7 +8,8 @@ ghost use Rattle.ufs_spec.specs.declared.Message.{Message};
 ghost use Rattle.ufs_spec.specs.declared.Message.TheVariants as message;
 ghost use Rattle.ufs_spec.specs.declared.Numbers.{Numbers};
 ghost use Rattle.ufs_spec.specs.declared.Output.{Output};
-ghost use Rattle.ufs_spec.specs.Cdbs.{operation_of};
+ghost use Rattle.ufs_spec.specs.CdbFields.{kind_of, row_of};
+ghost use Rattle.ufs_spec.specs.declared.Row.{Row};
 ghost use Rattle.ufs_spec.specs.Cells.{Array};
 ghost use Rattle.ufs_spec.specs.Commands.{Write};
 ghost use Rattle.ufs_spec.specs.Disk.{Spot};
@@ -16,9 +17,8 @@ ghost use Rattle.ufs_spec.specs.Exchanges.{Answering, ForWrite, Gathering, Good,
 ghost use Rattle.ufs_spec.specs.Keys.{below};
 ghost use Rattle.ufs_spec.specs.Lives.{IsOpened, Life};
 ghost use Rattle.ufs_spec.specs.Machine.{Allowed, Answer, Call, Heard, IsHeard, begun, blocks_expected, blocks_in, claimed_by, data_for, deed_after, deed_reply, in_use, message_fault, observe, pin_of, read_begun, read_blocks, set_deed, tag_in, without_tasks};
-ghost use Rattle.ufs_spec.specs.Messages.{IsAmong};
 ghost use Rattle.ufs_spec.specs.Plain.{block_at};
-ghost use Rattle.ufs_spec.specs.Refusals.{Lun, Request, State, locked, lun_of, numbers_of, operations_of, plain_now, refusal};
+ghost use Rattle.ufs_spec.specs.Refusals.{Lun, Request, State, locked, lun_of, numbers_of, plain_now, refusal, takes};
 ghost use Rattle.ufs_spec.specs.Translation.{Pin, is_rest_of};
 ghost use Rattle.ufs_spec.specs.declared.layer.Looked.TheVariants.{InSlot};
 ghost use Rattle.ufs_spec.specs.declared.layer.Name.{Name};
@@ -29,12 +29,12 @@ pub fn every_byte_string_is_heard()
     ensures once { (bytes : List ℕ) (h k : Heard) → IsHeard bytes h → IsHeard bytes k → h ≡ k }
 {}
 
-/// A command that the table does not refuse has an operation code that its unit takes, begins as a task of its own,
+/// A command that the table does not refuse has a row of its kind that its unit takes, begins as a task of its own,
 /// and never ends with an invalid operation code, from the opening of a device to the end of its life.
 pub fn a_command_is_never_unknown_once_taken()
     ensures passes { (s : State) (r : Request) → IsRequest r → refusal s r ≡ None →
-        (unit : Lun) × (c : Cdb) × (lun_of (numbers_of s) r.lun ≡ Some unit) × (r.cdb ≡ Some c)
-        × IsAmong (operations_of unit) (operation_of c) }
+        (unit : Lun) × (row : Row) × (c : Cdb) × (lun_of (numbers_of s) r.lun ≡ Some unit)
+        × (row_of r.bytes ≡ Some row) × (takes unit row ≡ true) × (r.cdb ≡ Some c) × (row.kind ≡ kind_of c) }
     ensures begins { (s : State) (r : Request) (unit : ℕ) (c : Cdb) →
         (task : Task) × ((begun s r unit c).tasks ≡ s.tasks ++ task ∷ []) × (task.command ≡ Some c)
         × ((carried : ℕ) → task.deed ≢ Answering invalid_operation carried) }

@@ -76,5 +76,5 @@ pub fn a_locked_device_is_read_before_it_is_mended()
         has_pending s.translation ≡ false → length s.accepted ≤ durable s →
         IsAnswered s (heard_as (asks 0x00 0 tag (flush immediate))) (response 0 tag 4096 0 Good) }
     ensures test_unit_ready { (s : State) (tag : ℕ) → IsIdle s → mended s ≡ false →
-        IsRefused s (asks 0x00 0 tag cdb.TestUnitReady) not_ready }
+        IsRefused s (asks 0x00 0 tag cdb.Nothing) not_ready }
 {}

@@ -4,7 +4,8 @@ ghost use Rattle.ufs_laws.specs.AskedQueries.{boot_row, query};
 ghost use Rattle.ufs_spec.specs.declared.Numbers.{Numbers};
 ghost use Rattle.ufs_spec.specs.Keys.{flag_byte};
 ghost use Rattle.ufs_spec.specs.Plain.{Plain};
-ghost use Rattle.ufs_spec.specs.Queries.{descriptor, descriptor_told, query_code, setting_of, sets_power_on, value_told};
+ghost use Rattle.ufs_spec.specs.Queries.{descriptor, descriptor_told, query_code, setting_of, sets_power_on, value_told, volatile_after};
+ghost use Rattle.ufs_spec.specs.declared.volatile.Volatile.{Volatile};
 
 /// If two lines of the query table apply, the one that stands first decides (JESD220, 10.7.9).
 pub fn each_line_of_the_query_table_counts()
@@ -69,16 +70,20 @@ pub fn each_line_of_the_query_table_counts()
 /// A query that reads an attribute or a flag tells what is set. One that reads a descriptor tells
 /// its first bytes, as many as it asks for (JESD220, 14). Setting fPowerOnWPEn is no command.
 pub fn a_query_tells_what_is_set()
-    ensures boot { (p : Plain) (power_on : Bool) (value : ℕ) →
-        value_told p power_on (query 0x01 3 0 0 0 0 value) ≡ p.boot }
-    ensures initialized { (p : Plain) (power_on : Bool) (value : ℕ) →
-        value_told p power_on (query 0x01 5 1 0 0 0 value) ≡ 0 }
-    ensures permanent { (p : Plain) (power_on : Bool) (value : ℕ) →
-        value_told p power_on (query 0x01 5 2 0 0 0 value) ≡ flag_byte p.permanent }
-    ensures power_on { (p : Plain) (power_on : Bool) (value : ℕ) →
-        value_told p power_on (query 0x01 5 3 0 0 0 value) ≡ flag_byte power_on }
-    ensures set_power_on { (p : Plain) (value : ℕ) →
-        value_told p true (query 0x81 6 3 0 0 0 value) ≡ 1 }
+    ensures boot { (p : Plain) (volatile : Volatile) (value : ℕ) →
+        value_told p volatile (query 0x01 3 0 0 0 0 value) ≡ p.boot }
+    ensures initialized { (p : Plain) (volatile : Volatile) (value : ℕ) →
+        value_told p volatile (query 0x01 5 1 0 0 0 value) ≡ 0 }
+    ensures permanent { (p : Plain) (volatile : Volatile) (value : ℕ) →
+        value_told p volatile (query 0x01 5 2 0 0 0 value) ≡ flag_byte p.permanent }
+    ensures power_on { (p : Plain) (volatile : Volatile) (value : ℕ) →
+        value_told p volatile (query 0x01 5 3 0 0 0 value) ≡ flag_byte volatile.power_on }
+    ensures set_power_on { (p : Plain) (volatile : Volatile) (value : ℕ) →
+        value_told p (record volatile { power_on = true }) (query 0x81 6 3 0 0 0 value) ≡ 1 }
+    ensures power_on_set { (volatile : Volatile) (value : ℕ) →
+        volatile_after volatile (query 0x81 6 3 0 0 0 value) ≡ record volatile { power_on = true } }
+    ensures power_on_stays { (volatile : Volatile) (value : ℕ) →
+        volatile_after volatile (query 0x01 5 3 0 0 0 value) ≡ volatile }
     ensures sets_power_on { (value : ℕ) → sets_power_on (query 0x81 6 3 0 0 0 value) ≡ true }
     ensures reads_power_on { (value : ℕ) → sets_power_on (query 0x01 5 3 0 0 0 value) ≡ false }
     ensures no_command { (value : ℕ) → setting_of (query 0x81 6 3 0 0 0 value) ≡ None }

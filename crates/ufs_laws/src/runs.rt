@@ -4,7 +4,7 @@ ghost use Rattle.ufs_laws.specs.Runs.{Always, Gets, IsAnswered, IsIdle, IsNew, I
 ghost use Rattle.ufs_laws.specs.Runs.{state_1, state_2, state_3, state_4, state_5, state_6, state_7, state_8, state_9, state_10, state_11, state_12, state_13, state_14, state_15, state_16, state_17, state_18, state_19, state_20, state_21, state_22, state_23};
 ghost use Rattle.ufs_spec.specs.declared.Cdb.{Cdb};
 ghost use Rattle.ufs_spec.specs.declared.Message.TheVariants as message;
-ghost use Rattle.ufs_spec.specs.Cdbs.{read_10};
+ghost use Rattle.ufs_spec.specs.declared.operations.TheConstants.{READ_10};
 ghost use Rattle.ufs_spec.specs.Keys.{IsBlock};
 ghost use Rattle.ufs_spec.specs.Lives.{held};
 ghost use Rattle.ufs_spec.specs.Machine.{Reply, OfDone, Take, OfTake, Host, OfReply, Spelled, Turn, OfTurn};
@@ -61,5 +61,5 @@ pub fn a_refused_read_says_why()
     ensures not_a_unit { (s : State) (flags lun tag expected : ℕ) (bytes : List ℕ) (c : Option Cdb) → IsIdle s → 3 ≤ lun →
         well_known lun ≡ None → 0 < expected → IsAnswered s (Spelled (message.Command flags lun tag expected bytes) c) (refused lun tag expected 0x25) }
     ensures no_command { (s : State) (flags tag expected : ℕ) (rest : List ℕ) → IsIdle s → 0 < expected →
-        IsAnswered s (Spelled (message.Command flags 0 tag expected (read_10 ∷ rest)) None) (refused 0 tag expected 0x24) }
+        IsAnswered s (Spelled (message.Command flags 0 tag expected (READ_10 ∷ rest)) None) (refused 0 tag expected 0x24) }
 {}

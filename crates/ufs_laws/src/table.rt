@@ -1,17 +1,18 @@
 //! The table by which a command is refused: the first line that applies decides.
 ghost use Rattle.std.specs.Prelude.{◌≡◌, ◌<◌, ◌≤◌, ◌∷◌, [], ℕ, List, Bool, true, false, Option, Some, None, length};
 ghost use Rattle.ufs_laws.specs.Runs.{IsIdle};
-ghost use Rattle.ufs_laws.specs.Table.{IsRefused, asks, flush, protected_row, read_at, reads_response, spells_none, write_at};
+ghost use Rattle.ufs_laws.specs.Table.{IsRefused, asks, asks_in, flush, protected_row, read_at, reads_response, short_bytes, spells_none, write_at};
 ghost use Rattle.ufs_spec.specs.declared.Cdb.{Cdb};
 ghost use Rattle.ufs_spec.specs.declared.Numbers.{Numbers};
 ghost use Rattle.ufs_spec.specs.declared.Cdb.TheVariants as cdb;
 ghost use Rattle.ufs_spec.specs.declared.UnitSpec.{UnitSpec};
-ghost use Rattle.ufs_spec.specs.Cdbs.{inquiry};
+ghost use Rattle.ufs_spec.specs.CdbFields.{no_limit, row_of};
+ghost use Rattle.ufs_spec.specs.declared.operations.Told.TheVariants as told;
+ghost use Rattle.ufs_spec.specs.declared.operations.TheConstants.{READ_6, WRITE_6};
 ghost use Rattle.ufs_spec.specs.Exchanges.{Busy, Status, TaskSetFull, invalid_field, invalid_operation, list_length_error, no_unit, not_ready, out_of_range, response, sequence_error, short_reply, write_protected};
 ghost use Rattle.ufs_spec.specs.Machine.{command_taken, with_short};
-ghost use Rattle.ufs_spec.specs.Messages.{is_among};
 ghost use Rattle.ufs_spec.specs.Exchanges.{most_tasks};
-ghost use Rattle.ufs_spec.specs.Refusals.{BootUnit, Request, State, first_line, has_other_response, has_wrong_list, is_boot_read, is_crowded, is_refused_write, is_too_long, lacks_response, lines_for, locked, mended, not_taken, numbers_of, operations_of, refusal};
+ghost use Rattle.ufs_spec.specs.Refusals.{BootUnit, Request, State, first_line, has_other_response, has_wrong_list, is_boot_read, is_crowded, is_refused_write, is_too_long, lacks_response, lines_for, locked, mended, not_taken, numbers_of, refusal, takes_row};
 ghost use Rattle.ufs_spec.specs.Plain.{steps_of};
 ghost use Rattle.ufs_spec.specs.Translation.{free_slots, has_pending};
 
@@ -41,7 +42,7 @@ pub fn each_line_of_the_table_counts()
         IsRefused s (asks 0x40 0 tag (read_at 256 1)) out_of_range }
     // Before the device is mended, a WRITE to a unit that is protected, and one without a free slot.
     ensures ready_and_protected { (s : State) (tag : ℕ) → numbers_of s ≡ protected_row → mended s ≡ false →
-        locked s ≡ false → s.power_on ≡ true → refusal s (asks 0x20 1 tag (write_at 0)) ≡ Some not_ready }
+        locked s ≡ false → s.volatile.power_on ≡ true → refusal s (asks 0x20 1 tag (write_at 0)) ≡ Some not_ready }
     ensures ready { (s : State) (tag : ℕ) → IsIdle s → mended s ≡ false → locked s ≡ false →
         free_slots s.translation ≡ 0 →
         IsRefused s (asks 0x20 0 tag (write_at 0)) not_ready }
@@ -79,8 +80,8 @@ pub fn each_line_of_the_table_counts()
 /// response needs no slots.
 pub fn lines_that_never_meet()
     ensures unit_or_operation { (r : Request) → not_taken r None ≡ false }
-    ensures boot_or_operation { (operation : ℕ) → is_boot_read operation ≡ true →
-        is_among (operations_of BootUnit) operation ≡ true }
+    ensures boot_or_operation { (bytes : List ℕ) → is_boot_read (row_of bytes) ≡ true →
+        takes_row BootUnit (row_of bytes) ≡ true }
     ensures blocks_or_list { (n : Numbers) (c : Cdb) → is_too_long n c ≡ true → has_wrong_list c ≡ false }
     ensures write_or_response { (s : State) (u : Option UnitSpec) (c : Cdb) → is_refused_write s u c ≡ true →
         lacks_response s c ≡ false }
@@ -96,15 +97,15 @@ pub fn lines_that_never_meet()
 /// device is taken all the same.
 pub fn commands_are_refused_before_the_mending()
     ensures test_unit_ready { (s : State) (tag : ℕ) → IsIdle s → mended s ≡ false →
-        IsRefused s (asks 0x00 0 tag cdb.TestUnitReady) not_ready }
+        IsRefused s (asks 0x00 0 tag cdb.Nothing) not_ready }
     ensures read { (s : State) (tag : ℕ) → IsIdle s → mended s ≡ false → locked s ≡ false →
         IsRefused s (asks 0x40 0 tag (read_at 0 1)) not_ready }
     ensures short_read { (s : State) (tag : ℕ) → IsIdle s → mended s ≡ false → locked s ≡ false →
-        IsRefused s (asks 0x40 0 tag (cdb.Read6 0 1)) not_ready }
+        IsRefused s (asks_in 0x40 0 tag (short_bytes READ_6)) not_ready }
     ensures write { (s : State) (tag : ℕ) → IsIdle s → mended s ≡ false → locked s ≡ false →
         IsRefused s (asks 0x20 0 tag (write_at 0)) not_ready }
     ensures short_write { (s : State) (tag : ℕ) → IsIdle s → mended s ≡ false → locked s ≡ false →
-        IsRefused s (asks 0x20 0 tag (cdb.Write6 0 1)) not_ready }
+        IsRefused s (asks_in 0x20 0 tag (short_bytes WRITE_6)) not_ready }
     ensures unmap { (s : State) (tag : ℕ) → IsIdle s → mended s ≡ false → locked s ≡ false →
         IsRefused s (asks 0x20 0 tag (cdb.Unmap 24)) not_ready }
     ensures flush { (s : State) (tag : ℕ) (immediate : Bool) → IsIdle s → mended s ≡ false → locked s ≡ false →
@@ -112,11 +113,11 @@ pub fn commands_are_refused_before_the_mending()
     ensures frames { (s : State) (tag : ℕ) → IsIdle s → mended s ≡ false → locked s ≡ false →
         IsRefused s (asks 0x20 0xC4 tag (cdb.SecurityOut 0 512)) not_ready }
     ensures request_sense { (s : State) (tag : ℕ) → IsIdle s →
-        refusal s (asks 0x40 0 tag (cdb.RequestSense 18)) ≡ None }
+        refusal s (asks 0x40 0 tag (cdb.Tell told.Sense 0 18)) ≡ None }
     ensures inquiry { (s : State) (tag : ℕ) → IsIdle s →
-        refusal s (asks 0x40 0 tag (cdb.Inquiry 36)) ≡ None }
+        refusal s (asks 0x40 0 tag (cdb.Tell told.Identity 0 36)) ≡ None }
     ensures capacity { (s : State) (tag : ℕ) → IsIdle s →
-        refusal s (asks 0x40 0 tag cdb.ReadCapacity10) ≡ None }
+        refusal s (asks 0x40 0 tag (cdb.Tell told.Capacity 0 no_limit)) ≡ None }
     ensures luns { (s : State) (tag : ℕ) → IsIdle s →
-        refusal s (asks 0x40 0 tag (cdb.ReportLuns 0 32)) ≡ None }
+        refusal s (asks 0x40 0 tag (cdb.Tell told.Units 0 32)) ≡ None }
 {}

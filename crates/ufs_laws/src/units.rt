@@ -4,6 +4,7 @@ ghost use Rattle.ufs_laws.specs.AskedQueries.{boot_row};
 ghost use Rattle.ufs_laws.specs.Table.{asks, protected_row, read_at, write_at};
 ghost use Rattle.ufs_spec.specs.declared.Cdb.{Cdb};
 ghost use Rattle.ufs_spec.specs.declared.Cdb.TheVariants as cdb;
+ghost use Rattle.ufs_spec.specs.declared.operations.Told.TheVariants as told;
 ghost use Rattle.ufs_spec.specs.declared.Numbers.{Numbers};
 ghost use Rattle.ufs_spec.specs.declared.UnitSpec.{UnitSpec};
 ghost use Rattle.ufs_spec.specs.Cdbs.{length_of};
@@ -15,9 +16,9 @@ ghost use Rattle.ufs_spec.specs.Refusals.{State, boot_unit, is_protected, is_ref
 /// fPermanentWPEn is set, and one with 0 never (JESD220, 14.1.4.5). What is protected is not
 /// written.
 pub fn each_protection_has_its_flag()
-    ensures power_on { (s : State) (blocks boot : ℕ) → s.power_on ≡ true →
+    ensures power_on { (s : State) (blocks boot : ℕ) → s.volatile.power_on ≡ true →
         is_protected s (Some (record { blocks = blocks; boot = boot; protect = 1 })) ≡ true }
-    ensures power_off { (s : State) (blocks boot : ℕ) → s.power_on ≡ false →
+    ensures power_off { (s : State) (blocks boot : ℕ) → s.volatile.power_on ≡ false →
         is_protected s (Some (record { blocks = blocks; boot = boot; protect = 1 })) ≡ false }
     ensures permanent { (s : State) (blocks boot : ℕ) → (plain_now s).permanent ≡ true →
         is_protected s (Some (record { blocks = blocks; boot = boot; protect = 2 })) ≡ true }
@@ -34,10 +35,10 @@ pub fn each_protection_has_its_flag()
 /// change nothing, and are taken, also by a locked device.
 pub fn a_protected_unit_is_not_changed()
     ensures power_on_write { (s : State) (tag : ℕ) → numbers_of s ≡ protected_row →
-        mended s ≡ true → s.power_on ≡ true →
+        mended s ≡ true → s.volatile.power_on ≡ true →
         refusal s (asks 0x20 1 tag (write_at 0)) ≡ Some write_protected }
     ensures power_on_unmap { (s : State) (tag : ℕ) → numbers_of s ≡ protected_row →
-        mended s ≡ true → s.power_on ≡ true →
+        mended s ≡ true → s.volatile.power_on ≡ true →
         refusal s (asks 0x20 1 tag (cdb.Unmap 24)) ≡ Some write_protected }
     ensures permanent_write { (s : State) (tag : ℕ) → numbers_of s ≡ protected_row →
         mended s ≡ true → (plain_now s).permanent ≡ true →
@@ -46,7 +47,7 @@ pub fn a_protected_unit_is_not_changed()
         mended s ≡ true → (plain_now s).permanent ≡ true →
         refusal s (asks 0x20 2 tag (cdb.Unmap 24)) ≡ Some write_protected }
     ensures no_blocks { (s : State) (tag : ℕ) (forced : Bool) → numbers_of s ≡ protected_row →
-        mended s ≡ true → refusal s (asks 0x20 1 tag (cdb.Write10 0 0 forced)) ≡ None }
+        mended s ≡ true → refusal s (asks 0x20 1 tag (cdb.Write 0 0 forced)) ≡ None }
     ensures header { (s : State) (tag : ℕ) → numbers_of s ≡ protected_row → mended s ≡ true →
         refusal s (asks 0x20 1 tag (cdb.Unmap 8)) ≡ None }
     ensures no_list { (s : State) (tag : ℕ) → numbers_of s ≡ protected_row → mended s ≡ true →
@@ -81,7 +82,7 @@ pub fn worked_identities()
         ++ (0x49 ∷ 0x4C ∷ 0x45 ∷ 0x20 ∷ 0x32 ∷ 0x2E ∷ 0x31 ∷ 0x20 ∷ [])
         ++ (0x30 ∷ 0x30 ∷ 0x30 ∷ 0x31 ∷ []) }
     ensures inquiry_size { (lun : ℕ) →
-        length_of 0 (cdb.Inquiry 0xFF) ≡ length (inquiry_bytes lun) }
+        length_of 0 (cdb.Tell told.Identity 0 0xFF) ≡ length (inquiry_bytes lun) }
     ensures units { luns_bytes boot_row 0 ≡ (0 ∷ 0 ∷ 0 ∷ 24 ∷ 0 ∷ 0 ∷ 0 ∷ 0 ∷ [])
         ++ (0x00 ∷ 0x00 ∷ 0 ∷ 0 ∷ 0 ∷ 0 ∷ 0 ∷ 0 ∷ []) ++ (0x00 ∷ 0x01 ∷ 0 ∷ 0 ∷ 0 ∷ 0 ∷ 0 ∷ 0 ∷ [])
         ++ (0x00 ∷ 0x02 ∷ 0 ∷ 0 ∷ 0 ∷ 0 ∷ 0 ∷ 0 ∷ []) }
@@ -96,9 +97,9 @@ pub fn worked_identities()
         ++ (0xC1 ∷ 0x44 ∷ 0 ∷ 0 ∷ 0 ∷ 0 ∷ 0 ∷ 0 ∷ [])
         ++ (0xC1 ∷ 0x50 ∷ 0 ∷ 0 ∷ 0 ∷ 0 ∷ 0 ∷ 0 ∷ []) }
     ensures units_size { length (luns_bytes boot_row 0)
-        ≡ length_of (units_listed boot_row (cdb.ReportLuns 0 0xFF)) (cdb.ReportLuns 0 0xFF) }
+        ≡ length_of (units_listed boot_row (cdb.Tell told.Units 0 0xFF)) (cdb.Tell told.Units 0 0xFF) }
     ensures well_knowns_size { length (luns_bytes boot_row 1)
-        ≡ length_of (units_listed boot_row (cdb.ReportLuns 1 0xFF)) (cdb.ReportLuns 1 0xFF) }
+        ≡ length_of (units_listed boot_row (cdb.Tell told.Units 1 0xFF)) (cdb.Tell told.Units 1 0xFF) }
     ensures all_size { length (luns_bytes boot_row 2)
-        ≡ length_of (units_listed boot_row (cdb.ReportLuns 2 0xFF)) (cdb.ReportLuns 2 0xFF) }
+        ≡ length_of (units_listed boot_row (cdb.Tell told.Units 2 0xFF)) (cdb.Tell told.Units 2 0xFF) }
 {}

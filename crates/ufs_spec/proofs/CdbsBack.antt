@@ -1,47 +1,17 @@
--- Each command is read back from its sixteen bytes, so no two commands have the same.
-use Rattle.std.proofs.Common.{◌≡◌, ◌<◌, ◌+◌, ◌*◌, ◌^◌, ℕ, Bool, true, false, List, ◌∷◌, ◌++◌, drop}
-use Rattle.std.proofs.Common.{replicate, slice_index, Some, refl, sym, ap, ◌∙◌, arith}
-use Rattle.std.proofs.lemmas.Nat.{and_mask}
+-- Each command is read back from the sixteen bytes in which a host writes it, so no two commands have the same.
+use Rattle.std.proofs.Common.{◌≡◌, ◌<◌, ◌^◌, ℕ, true, false, List, drop, nat_le, nat_lt, Bool}
+use Rattle.std.proofs.Common.{replicate, Some, sym, ap, ◌∙◌, refl}
+use Rattle.std.proofs.lemmas.Bool.{le-leb, lt-ltb}
 use Rattle.byteorder.specs.Numbers.{big_number-reads_back}
-use Rattle.byteorder.specs.Endian.{big_bytes, big_from}
-use Rattle.ufs_spec.proofs.Facts.{same_Some}
-use Rattle.ufs_spec.specs.CdbFields.{is_forced, is_immediate, named_cdb, six_address}
 use Rattle.ufs_bytes.specs.Fields.{field_at}
-use Rattle.ufs_spec.specs.Cdbs.{IsCdb, cdb_bytes, forced_bit, immediate_bit, operation_of, read_10, read_6}
-use Rattle.ufs_spec.specs.Cdbs.{synchronize_cache_10, ten_bytes, write_10, write_6}
+use Rattle.ufs_spec.proofs.Facts.{same_Some}
+use Rattle.ufs_spec.specs.CdbFields.{spelled_cdb, taken_if}
+use Rattle.ufs_spec.specs.Cdbs.{IsCdb, cdb_bytes, ten_bytes}
+use Rattle.ufs_spec.specs.Plain.{regions}
+use Rattle.ufs_spec.specs.declared.operations.TheConstants.{READ_10, WRITE_10}
+use Rattle.ufs_spec.specs.declared.operations.Told.TheVariants as told
 use Rattle.ufs_spec.specs.declared.scsi.Cdb.{Cdb}
-use Rattle.ufs_spec.specs.declared.scsi.Cdb.TheVariants.{TestUnitReady, Read6, Write6, Inquiry}
-use Rattle.ufs_spec.specs.declared.scsi.Cdb.TheVariants.{Read10, Write10, SynchronizeCache10, Unmap}
-use Rattle.ufs_spec.specs.declared.scsi.Cdb.TheVariants.{ReportLuns, SecurityIn, SecurityOut}
-
--- the first byte is the operation code
-pub first_byte : (cdb : Cdb) → slice_index (cdb_bytes cdb) 0 ≡ operation_of cdb
-first_byte TestUnitReady = refl
-first_byte other = refl
-
--- ## What is read again
-
--- the lowest 21 bits of four bytes, the last three of which are an address of 21 bits
-pub six_again : (operation address : ℕ) (rest : List ℕ) → address < 2 ^ 21
-    → six_address (operation ∷ (big_bytes 3 address ++ rest)) ≡ address
-six_again operation address rest fits =
-    let bytes : List ℕ = operation ∷ (big_bytes 3 address ++ rest) in
-    let three : big_from 0 3 (big_bytes 3 address ++ rest) ≡ address = big_number-reads_back 3 address rest
-    (omega arith) in
-    let four : field_at 4 0 bytes ≡ operation * 2 ^ 24 + address = ap (λ (n : ℕ). operation * 2 ^ 24 + n) three in
-    and_mask (field_at 4 0 bytes) 21 ∙ omega (arith, four)
-
--- FUA is told from its byte
-pub forced_again : (forced : Bool) (operation : ℕ) (rest : List ℕ) →
-    is_forced (operation ∷ forced_bit forced ∷ rest) ≡ forced
-forced_again true operation rest = refl
-forced_again false operation rest = refl
-
--- IMMED is told from its byte
-pub immediate_again : (immediate : Bool) (operation : ℕ) (rest : List ℕ) →
-    is_immediate (operation ∷ immediate_bit immediate ∷ rest) ≡ immediate
-immediate_again true operation rest = refl
-immediate_again false operation rest = refl
+use Rattle.ufs_spec.specs.declared.scsi.Cdb.TheVariants as cdb
 
 -- the address and the blocks of ten bytes
 pub ten_again : {X : Type 0} (make : ℕ → ℕ → X) (operation options address blocks : ℕ) → address < 2 ^ 32 →
@@ -55,36 +25,41 @@ ten_again make operation options address blocks fits_address fits_blocks =
     ap (λ (n : ℕ). make n (field_at 2 7 bytes)) (big_number-reads_back 4 address (drop 6 bytes) fits_address)
     ∙ ap (make address) (big_number-reads_back 2 blocks (replicate 7 0) fits_blocks)
 
--- the command that a command's bytes name is that command
-pub again : (cdb : Cdb) → IsCdb cdb → named_cdb (cdb_bytes cdb) ≡ Some cdb
-again (Read6 address blocks) h =
-    ap (λ (n : ℕ). Some (Read6 n blocks)) (six_again read_6 address (blocks ∷ replicate 11 0) h.0)
-again (Write6 address blocks) h =
-    ap (λ (n : ℕ). Some (Write6 n blocks)) (six_again write_6 address (blocks ∷ replicate 11 0) h.0)
-again (Inquiry allocation) h = ap (λ (n : ℕ). Some (Inquiry n)) (big_number-reads_back 2 allocation (replicate 11 0) h)
-again (Read10 address blocks forced) h =
-    let bytes : List ℕ = ten_bytes read_10 (forced_bit forced) address blocks in
-    ten_again (λ n m. Some (Read10 n m (is_forced bytes))) read_10 (forced_bit forced) address blocks h.0 h.1
-    ∙ ap (λ (b : Bool). Some (Read10 address blocks b)) (forced_again forced read_10 (drop 2 bytes))
-again (Write10 address blocks forced) h =
-    let bytes : List ℕ = ten_bytes write_10 (forced_bit forced) address blocks in
-    ten_again (λ n m. Some (Write10 n m (is_forced bytes))) write_10 (forced_bit forced) address blocks h.0 h.1
-    ∙ ap (λ (b : Bool). Some (Write10 address blocks b)) (forced_again forced write_10 (drop 2 bytes))
-again (SynchronizeCache10 address blocks immediate) h =
-    let bytes : List ℕ = ten_bytes synchronize_cache_10 (immediate_bit immediate) address blocks in
-    ten_again (λ n m. Some (SynchronizeCache10 n m (is_immediate bytes))) synchronize_cache_10 (immediate_bit immediate)
-    address blocks h.0 h.1
-    ∙ ap (λ (b : Bool). Some (SynchronizeCache10 address blocks b))
-    (immediate_again immediate synchronize_cache_10 (drop 2 bytes))
-again (Unmap list) h = ap (λ (n : ℕ). Some (Unmap n)) (big_number-reads_back 2 list (replicate 7 0) h)
-again (ReportLuns select allocation) h =
-    ap (λ (n : ℕ). Some (ReportLuns select n)) (big_number-reads_back 4 allocation (replicate 6 0) h.1)
-again (SecurityIn region length) h =
-    ap (λ (n : ℕ). Some (SecurityIn region n)) (big_number-reads_back 4 length (replicate 6 0) h.1)
-again (SecurityOut region length) h =
-    ap (λ (n : ℕ). Some (SecurityOut region n)) (big_number-reads_back 4 length (replicate 6 0) h.1)
-again other h = refl
+-- a command whose fields are right is taken
+if_right : (b : Bool) (c : Cdb) → b ≡ true → taken_if b c ≡ Some c
+if_right b c e = ap (λ (x : Bool). taken_if x c) e
+
+-- the command that a command's bytes spell is that command
+pub again : (c : Cdb) → IsCdb c → spelled_cdb (cdb_bytes c) ≡ Some c
+again cdb.Nothing h = refl
+again (cdb.Tell told.Sense select allocation) h =
+    ap (λ (n : ℕ). Some (cdb.Tell told.Sense n allocation)) (sym h.0)
+again (cdb.Tell told.Identity select allocation) h =
+    ap (λ (n : ℕ). Some (cdb.Tell told.Identity 0 n)) (big_number-reads_back 2 allocation (replicate 11 0) h.1)
+    ∙ ap (λ (n : ℕ). Some (cdb.Tell told.Identity n allocation)) (sym h.0)
+again (cdb.Tell told.Capacity select allocation) h = λ i. Some (cdb.Tell told.Capacity (sym h.0 i) (sym h.1 i))
+again (cdb.Tell told.Units select allocation) h =
+    ap (λ (n : ℕ). taken_if (nat_le select 2) (cdb.Tell told.Units select n))
+    (big_number-reads_back 4 allocation (replicate 6 0) h.1)
+    ∙ if_right (nat_le select 2) (cdb.Tell told.Units select allocation) (le-leb select 2 h.0)
+again (cdb.Read address blocks) h =
+    ten_again (λ n m. Some (cdb.Read n m)) READ_10 0x00 address blocks h.0 h.1
+again (cdb.Write address blocks true) h =
+    ten_again (λ n m. Some (cdb.Write n m true)) WRITE_10 0x08 address blocks h.0 h.1
+again (cdb.Write address blocks false) h =
+    ten_again (λ n m. Some (cdb.Write n m false)) WRITE_10 0x00 address blocks h.0 h.1
+again (cdb.Flush true) h = refl
+again (cdb.Flush false) h = refl
+again (cdb.Unmap list) h = ap (λ (n : ℕ). Some (cdb.Unmap n)) (big_number-reads_back 2 list (replicate 7 0) h)
+again (cdb.SecurityIn region length) h =
+    ap (λ (n : ℕ). taken_if (nat_lt region regions) (cdb.SecurityIn region n))
+    (big_number-reads_back 4 length (replicate 6 0) h.1)
+    ∙ if_right (nat_lt region regions) (cdb.SecurityIn region length) (lt-ltb region regions h.0)
+again (cdb.SecurityOut region length) h =
+    ap (λ (n : ℕ). taken_if (nat_lt region regions) (cdb.SecurityOut region n))
+    (big_number-reads_back 4 length (replicate 6 0) h.1)
+    ∙ if_right (nat_lt region regions) (cdb.SecurityOut region length) (lt-ltb region regions h.0)
 
 -- two commands of the same bytes are one
 pub one_cdb : (c d : Cdb) → IsCdb c → IsCdb d → cdb_bytes c ≡ cdb_bytes d → c ≡ d
-one_cdb c d h k e = same_Some c d (sym (again c h) ∙ ap named_cdb e ∙ again d k)
+one_cdb c d h k e = same_Some c d (sym (again c h) ∙ ap spelled_cdb e ∙ again d k)

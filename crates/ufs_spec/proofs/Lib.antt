@@ -1,4 +1,5 @@
 pub mod CdbsBack
+pub mod CommandTable
 pub mod CellKinds
 pub mod ConfigFacts
 pub mod Equalities

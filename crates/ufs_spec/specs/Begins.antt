@@ -4,7 +4,7 @@ use Rattle.std.specs.Prelude.{◌*◌, ◌++◌, ◌+◌, ◌-◌, ◌==◌, ◌
 use Rattle.std.specs.List.{flat_map}
 use Rattle.byteorder.specs.Endian.{big_bytes}
 use Rattle.std.specs.Int.{div_ceil}
-use Rattle.ufs_spec.specs.Cdbs.{carried, length_of}
+use Rattle.ufs_spec.specs.Cdbs.{carried}
 use Rattle.ufs_spec.specs.Changes.{with_moves, with_short, with_task}
 use Rattle.ufs_spec.specs.Exchanges.{Answering, Awaiting, Deed, ForFrames, ForUnmap, ForWrite, Gathering, Good}
 use Rattle.ufs_spec.specs.Exchanges.{Purpose, ReadBlock, Sending, SendingBytes, Status, TaskSetFull, Unread}
@@ -14,10 +14,13 @@ use Rattle.ufs_spec.specs.Keys.{below, data_key}
 use Rattle.ufs_spec.specs.Messages.{zeros}
 use Rattle.ufs_spec.specs.Moves.{Claim, Keep, Move, look_now}
 use Rattle.ufs_spec.specs.Plain.{block_at}
-use Rattle.ufs_spec.specs.Refusals.{Request, State, mended, numbers_of, plain_now, refusal, slots_needed}
+use Rattle.ufs_spec.specs.Refusals.{Request, State, mended, numbers_of, plain_now, refusal, refused_state}
+use Rattle.ufs_spec.specs.Refusals.{slots_needed}
 use Rattle.ufs_spec.specs.Refusals.{unit_numbers_of, unit_of_request}
 use Rattle.ufs_spec.specs.Translation.{Pin}
 use Rattle.ufs_spec.specs.declared.configs.UnitSpec.{UnitSpec}
+use Rattle.ufs_spec.specs.declared.operations.Told.{Told}
+use Rattle.ufs_spec.specs.declared.operations.Told.TheVariants as told
 use Rattle.ufs_spec.specs.declared.scsi.Cdb.{Cdb}
 use Rattle.ufs_spec.specs.declared.scsi.Cdb.TheVariants as cdb
 
@@ -118,27 +121,23 @@ frames_begun s r region n =
       registers = at_region s.registers region (record (s.registers region) { response = [] });
     }
 
+-- what a command tells that is about this request
+abbrev pub told_bytes : State → Request → Told → ℕ → List ℕ
+told_bytes s r told.Sense select = no_sense
+told_bytes s r told.Identity select = inquiry_bytes r.lun
+told_bytes s r told.Capacity select = capacity_bytes (unit_numbers_of s r)
+told_bytes s r told.Units select = luns_bytes (numbers_of s) select
+
 -- a command that is not refused begins on this unit: TEST UNIT READY is answered GOOD at once; the others begin
 -- as the definitions above say
 abbrev pub begun : State → Request → ℕ → Cdb → State
-begun s r unit cdb.TestUnitReady = with_task s r (Some cdb.TestUnitReady) 0 (Answering Good 0)
-begun s r unit (cdb.RequestSense allocation) = data_begun s r (cdb.RequestSense allocation) (take allocation no_sense)
-begun s r unit (cdb.Read6 address blocks) =
-    read_begun s r (cdb.Read6 address blocks) unit address (length_of 0 (cdb.Read6 address blocks))
-begun s r unit (cdb.Read10 address blocks forced) =
-    read_begun s r (cdb.Read10 address blocks forced) unit address (4096 * blocks)
-begun s r unit (cdb.Write6 address blocks) =
-    write_begun s r (cdb.Write6 address blocks) unit address (slots_needed (numbers_of s) (cdb.Write6 address blocks))
-    false
-begun s r unit (cdb.Write10 address blocks forced) =
-    write_begun s r (cdb.Write10 address blocks forced) unit address blocks forced
-begun s r unit (cdb.SynchronizeCache10 address blocks immediate) =
-    flush_begun s r (cdb.SynchronizeCache10 address blocks immediate) immediate
-begun s r unit cdb.ReadCapacity10 = data_begun s r cdb.ReadCapacity10 (capacity_bytes (unit_numbers_of s r))
-begun s r unit (cdb.Inquiry allocation) =
-    data_begun s r (cdb.Inquiry allocation) (take allocation (inquiry_bytes r.lun))
-begun s r unit (cdb.ReportLuns select allocation) =
-    data_begun s r (cdb.ReportLuns select allocation) (take allocation (luns_bytes (numbers_of s) select))
+begun s r unit cdb.Nothing = with_task s r (Some cdb.Nothing) 0 (Answering Good 0)
+begun s r unit (cdb.Tell what select allocation) =
+    data_begun s r (cdb.Tell what select allocation) (take allocation (told_bytes s r what select))
+begun s r unit (cdb.Read address blocks) = read_begun s r (cdb.Read address blocks) unit address (4096 * blocks)
+begun s r unit (cdb.Write address blocks forced) =
+    write_begun s r (cdb.Write address blocks forced) unit address blocks forced
+begun s r unit (cdb.Flush immediate) = flush_begun s r (cdb.Flush immediate) immediate
 begun s r unit (cdb.Unmap list) = unmap_begun s r unit list
 begun s r unit (cdb.SecurityIn region n) = frames_begun s r region n
 begun s r unit (cdb.SecurityOut region n) = gathering_begun s r (cdb.SecurityOut region n) n (ForFrames region)
@@ -149,9 +148,9 @@ begun_if_any s r None = s
 begun_if_any s r (Some command) = begun s r (unit_or_first (unit_of_request s r)) command
 
 -- a refused command is a task too, until its answer is handed out: its tag is in use, and task management finds it.
--- It has no command and no length, since nothing was carried
+-- It has no command and no length, since nothing was carried. The line that refuses it may change what is volatile
 abbrev pub refused_or_begun : State → Request → Option Status → State
-refused_or_begun s r (Some status) = with_task s r None 0 (Answering status 0)
+refused_or_begun s r (Some status) = with_task (refused_state s r) r None 0 (Answering status 0)
 refused_or_begun s r None = begun_if_any s r r.cdb
 
 -- line 0 of the table of refusals: if 32 tasks are open, a command gets TASK SET FULL, as a short exchange, which task

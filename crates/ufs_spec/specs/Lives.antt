@@ -1,7 +1,7 @@
 -- Lives: what happens to a device with its dies from an opening to the next stop, and over any number of
 -- stops. A stop may come at any moment, inside any program or erase. The last definition is the promise
 -- of the product (this profile).
-use Rattle.std.specs.Prelude.{◌≡◌, ◌≢◌, ◌⊎◌, ℕ, ◌≤◌, Bool, true, false, List, [], ◌∷◌, ◌++◌, AllPairs, Contains, length}
+use Rattle.std.specs.Prelude.{◌≡◌, ◌≢◌, ◌⊎◌, ℕ, ◌≤◌, Bool, true, List, [], ◌∷◌, ◌++◌, AllPairs, Contains, length}
 use Rattle.std.specs.Prelude.{slice_get, slice_index_or, take, Option, Some, None, option_map}
 use Rattle.std.specs.List.{All}
 use Rattle.ufs_spec.specs.Cells.{Array, Cell, Cells, Shows}
@@ -29,6 +29,7 @@ use Rattle.ufs_spec.specs.declared.events.Output.{Output}
 use Rattle.ufs_spec.specs.declared.events.Output.TheVariants as output
 use Rattle.ufs_spec.specs.declared.flash.Page.{Page}
 use Rattle.ufs_spec.specs.declared.flash.Place.{Place}
+use Rattle.ufs_spec.specs.declared.volatile.TheConstants.Volatile.{NEW}
 
 -- ## Leftovers
 
@@ -154,8 +155,8 @@ pub record IsOpened (n : Numbers) (array : Array) (bad : Spot → Bool) (s : Sta
   pub none_accepted : s.accepted ≡ []
   pub no_tasks : s.tasks ≡ []
   pub no_shorts : s.shorts ≡ []
-  -- fPowerOnWPEn and the RPMB registers do not outlast a stop
-  pub power_off : s.power_on ≡ false
+  -- what is volatile and the RPMB registers do not outlast a stop
+  pub fresh : s.volatile ≡ NEW
   pub no_registers : s.registers ≡ all_empty
 
 -- ## Stops

@@ -5,7 +5,7 @@ use Rattle.std.specs.Prelude.{Bool, Err, List, None, Ok, Option, Result, Some, [
 use Rattle.std.specs.Prelude.{if◌then◌else◌, length, map, nat_le, nat_lt, slice_get, slice_set, true, ℕ, ◌&&◌, ◌+◌}
 use Rattle.std.specs.Prelude.{◌||◌, ◌∷◌, ◌≡◌, ◌⊎◌}
 use Rattle.std.specs.List.{list_any}
-use Rattle.ufs_spec.specs.Cdbs.{SpellsCdb}
+use Rattle.ufs_spec.specs.CdbFields.{spelled_cdb}
 use Rattle.ufs_spec.specs.Cells.{Array}
 use Rattle.ufs_spec.specs.Dies.{blank_page}
 use Rattle.ufs_spec.specs.Disk.{Erasing, Flight, Programming, Reading}
@@ -59,8 +59,7 @@ cdb_of other = None
 -- no command that is taken
 abbrev pub IsCdbIn : Option (List ℕ) → Option Cdb → Type 0
 IsCdbIn None c = c ≡ None
-IsCdbIn (Some bytes) None = (c : Cdb) → SpellsCdb c bytes → ⊥
-IsCdbIn (Some bytes) (Some c) = SpellsCdb c bytes
+IsCdbIn (Some bytes) c = c ≡ spelled_cdb bytes
 
 -- what these bytes are heard as; the lowest fault is told. Faults 1 to 5 are found in bytes alone (`host_fault_of`).
 -- The sixth, a reserved byte or a field outside its set, is told if none of them applies and the bytes still spell no

@@ -12,6 +12,7 @@ use Rattle.ufs_spec.specs.Plain.{Plain}
 use Rattle.ufs_spec.specs.declared.configs.Numbers.{Numbers}
 use Rattle.ufs_spec.specs.declared.configs.UnitSpec.{UnitSpec}
 use Rattle.ufs_spec.specs.declared.messages.Asked.{Asked}
+use Rattle.ufs_spec.specs.declared.volatile.Volatile.{Volatile}
 
 -- a QUERY REQUEST (JESD220, 10.7.8): standard read (01h) or standard write (81h), opcode with IDN, index and selector,
 -- the length field and the value
@@ -163,18 +164,22 @@ abbrev pub descriptor_told : Numbers → Query → List ℕ
 descriptor_told n q = if q.asked.opcode == 1 then take q.length (descriptor n q.asked) else []
 
 -- the value of a flag, 0 or 1; fDeviceInit (01h) always reads 0: there is nothing left to initialize
-abbrev pub flag_told : Plain → Bool → ℕ → ℕ
-flag_told p power_on idn =
-    if idn == 0x02 then flag_byte p.permanent else if idn == 0x03 then flag_byte power_on else 0
+abbrev pub flag_told : Plain → Volatile → ℕ → ℕ
+flag_told p volatile idn =
+    if idn == 0x02 then flag_byte p.permanent else if idn == 0x03 then flag_byte volatile.power_on else 0
 
 -- the value that the response tells: the attribute or flag as it is after the query, from the plain state that the
--- query leaves and from fPowerOnWPEn
-abbrev pub value_told : Plain → Bool → Query → ℕ
-value_told p power_on q =
+-- query leaves and from what is volatile then
+abbrev pub value_told : Plain → Volatile → Query → ℕ
+value_told p volatile q =
     if is_among (3 ∷ 4 ∷ []) q.asked.opcode then p.boot
-    else if is_among (5 ∷ 6 ∷ []) q.asked.opcode then flag_told p power_on q.asked.idn
+    else if is_among (5 ∷ 6 ∷ []) q.asked.opcode then flag_told p volatile q.asked.idn
     else 0
 
 -- fPowerOnWPEn is set, which lasts until the next power cycle and is no command
 abbrev pub sets_power_on : Query → Bool
 sets_power_on q = (q.asked.opcode == 6) && (q.asked.idn == 0x03)
+
+-- what is volatile once the query passed
+abbrev pub volatile_after : Volatile → Query → Volatile
+volatile_after volatile q = record volatile { power_on = volatile.power_on || sets_power_on q }

@@ -1,17 +1,18 @@
 -- What a query makes of the state: it is answered at once, or is a setting, which is a command (JESD220, 10.7.8).
 use Rattle.std.specs.Prelude.{Bool, None, Option, Some, [], if◌then◌else◌, length, nat_lt, not, ℕ, ◌&&◌, ◌+◌, ◌==◌}
-use Rattle.std.specs.Prelude.{◌||◌, ◌∷◌}
+use Rattle.std.specs.Prelude.{◌∷◌}
 use Rattle.ufs_spec.specs.Changes.{accepts, with_moves, with_short}
 use Rattle.ufs_spec.specs.Commands.{Command}
 use Rattle.ufs_spec.specs.Exchanges.{short_reply}
 use Rattle.ufs_spec.specs.Moves.{Claim}
 use Rattle.ufs_spec.specs.Plain.{Plain, apply}
-use Rattle.ufs_spec.specs.Queries.{Query, descriptor_told, query_code, sets_power_on, setting_of, value_told}
+use Rattle.ufs_spec.specs.Queries.{Query, descriptor_told, query_code, setting_of, value_told, volatile_after}
 use Rattle.ufs_spec.specs.Refusals.{State, locked, mended, numbers_of, plain_now}
 use Rattle.ufs_spec.specs.Translation.{free_slots}
 use Rattle.ufs_spec.specs.declared.configs.Numbers.{Numbers}
 use Rattle.ufs_spec.specs.declared.messages.Message.{Message}
 use Rattle.ufs_spec.specs.declared.messages.Message.TheVariants as message
+use Rattle.ufs_spec.specs.declared.volatile.Volatile.{Volatile}
 
 -- a setting can be accepted: the device is mended and not locked, and a slot is free
 abbrev pub may_set : State → Bool
@@ -22,16 +23,16 @@ abbrev pub query_failed : ℕ → Query → ℕ → Message
 query_failed tag q code = message.QueryResponse tag q.function code q.asked 0 0 (record { items = [] })
 
 -- the answer to a query that succeeded: a descriptor's bytes with how many they are, or the value (JESD220, 10.7.9)
-abbrev pub query_done : Numbers → Plain → Bool → ℕ → Query → Message
-query_done n p power_on tag q =
-    message.QueryResponse tag q.function 0x00 q.asked (length (descriptor_told n q)) (value_told p power_on q)
+abbrev pub query_done : Numbers → Plain → Volatile → ℕ → Query → Message
+query_done n p volatile tag q =
+    message.QueryResponse tag q.function 0x00 q.asked (length (descriptor_told n q)) (value_told p volatile q)
     (record { items = descriptor_told n q })
 
--- a query that changes no plain state is answered at once; fPowerOnWPEn is set before its value is told
+-- a query that changes no plain state is answered at once; a volatile flag is set before its value is told
 abbrev pub query_told : State → ℕ → Query → State
 query_told s tag q =
-    with_short (record s { power_on = s.power_on || sets_power_on q })
-    (short_reply tag (query_done (numbers_of s) (plain_now s) (s.power_on || sets_power_on q) tag q))
+    with_short (record s { volatile = volatile_after s.volatile q })
+    (short_reply tag (query_done (numbers_of s) (plain_now s) (volatile_after s.volatile q) tag q))
 
 -- a setting is accepted, and its answer waits until it is durable. It tells the value that it set; if the lock ends it
 -- before, it is answered FFh
@@ -41,7 +42,7 @@ setting_accepted s tag q c =
     (record {
       tag = tag;
       awaits = Some (length s.accepted + 1);
-      reply = query_done (numbers_of s) (apply (plain_now s) c) s.power_on tag q;
+      reply = query_done (numbers_of s) (apply (plain_now s) c) s.volatile tag q;
       locked_reply = query_failed tag q 0xFF;
     })
 

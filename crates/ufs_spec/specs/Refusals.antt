@@ -1,12 +1,10 @@
 -- The state of a device with its dies, and the table by which a command is refused: the first line that applies decides
 -- (JESD220, 10.8 logical units; SPC and SBC for the commands; the order of the lines is this profile's).
 use Rattle.std.specs.Prelude.{ℕ, ◌+◌, ◌*◌, ◌%◌, ◌==◌, ◌&&◌, ◌||◌, nat_le, nat_lt, not, Bool, true, false, if◌then◌else◌}
-use Rattle.std.specs.Prelude.{is_none, List, [], ◌∷◌, length, position, slice_get, slice_index, Option, Some, None}
+use Rattle.std.specs.Prelude.{is_none, List, [], ◌∷◌, length, position, slice_get, Option, Some, None}
 use Rattle.std.specs.List.{list_any}
-use Rattle.ufs_spec.specs.Cdbs.{Direction, NoData, ToDevice, ToHost, address_of, blocks_of, direction_of, inquiry}
-use Rattle.ufs_spec.specs.Cdbs.{length_of, operation_of, read_10, read_6, read_capacity_10, report_luns, request_sense}
-use Rattle.ufs_spec.specs.Cdbs.{security_in, security_out, synchronize_cache_10, test_unit_ready}
-use Rattle.ufs_spec.specs.Cdbs.{unmap, write_10, write_6}
+use Rattle.ufs_spec.specs.CdbFields.{row_of}
+use Rattle.ufs_spec.specs.Cdbs.{Direction, NoData, ToDevice, ToHost, address_of, blocks_of, direction_of, length_of}
 use Rattle.ufs_spec.specs.Cells.{Array}
 use Rattle.ufs_spec.specs.Commands.{Command}
 use Rattle.ufs_spec.specs.Configs.{command_blocks}
@@ -18,8 +16,13 @@ use Rattle.ufs_spec.specs.Plain.{Plain, after, steps_of}
 use Rattle.ufs_spec.specs.Translation.{Translation, free_slots, has_pending, is_locked, is_mended}
 use Rattle.ufs_spec.specs.declared.configs.Numbers.{Numbers}
 use Rattle.ufs_spec.specs.declared.configs.UnitSpec.{UnitSpec}
+use Rattle.ufs_spec.specs.declared.operations.Kind.{Kind}
+use Rattle.ufs_spec.specs.declared.operations.Kind.TheVariants as kind
+use Rattle.ufs_spec.specs.declared.operations.Row.{Row}
+use Rattle.ufs_spec.specs.declared.operations.Told.TheVariants as told
 use Rattle.ufs_spec.specs.declared.scsi.Cdb.{Cdb}
 use Rattle.ufs_spec.specs.declared.scsi.Cdb.TheVariants as cdb
+use Rattle.ufs_spec.specs.declared.volatile.Volatile.{Volatile}
 
 -- ## The state
 
@@ -35,8 +38,8 @@ pub record State : Type 0 where
   -- the open commands and the exchanges of one reply, in the order in which they were opened (Exchanges)
   pub tasks : List Task
   pub shorts : List Short
-  -- fPowerOnWPEn, which lasts until the next power cycle, and the registers of each RPMB region
-  pub power_on : Bool
+  -- what lasts until the next power cycle, with the registers of each RPMB region
+  pub volatile : Volatile
   pub registers : ℕ → Registers
 
 -- the configuration, which stays through a life. `numbers_of` of Configs is another one: it makes the record
@@ -89,23 +92,13 @@ well_known byte =
 abbrev pub lun_of : Numbers → ℕ → Option Lun
 lun_of n byte = if nat_lt byte (length n.units.items) then Some (UnitOf byte) else well_known byte
 
--- what a unit of the configuration takes: all operation codes but those of the security commands
-abbrev pub all_but_security : List ℕ
-all_but_security =
-    test_unit_ready ∷ request_sense ∷ read_6 ∷ write_6 ∷ inquiry ∷ read_capacity_10 ∷ read_10 ∷ write_10
-    ∷ synchronize_cache_10 ∷ unmap ∷ report_luns ∷ []
-
--- the operation codes that each kind of unit takes (this profile): a well-known one only a few
-abbrev pub operations_of : Lun → List ℕ
-operations_of (UnitOf unit) = all_but_security
-operations_of ReportLunsUnit = test_unit_ready ∷ request_sense ∷ inquiry ∷ report_luns ∷ []
-operations_of BootUnit = test_unit_ready ∷ request_sense ∷ inquiry ∷ read_6 ∷ read_10 ∷ read_capacity_10 ∷ []
-operations_of RpmbUnit = test_unit_ready ∷ request_sense ∷ inquiry ∷ security_in ∷ security_out ∷ []
-operations_of DeviceUnit = test_unit_ready ∷ request_sense ∷ inquiry ∷ synchronize_cache_10 ∷ []
-
--- the unit takes this operation code
-abbrev pub takes : Lun → ℕ → Bool
-takes lun operation = is_among (operations_of lun) operation
+-- the LUN takes the commands of this row (this profile): a well-known one takes only a few
+abbrev pub takes : Lun → Row → Bool
+takes (UnitOf unit) row = row.takers.units
+takes ReportLunsUnit row = row.takers.report_luns
+takes BootUnit row = row.takers.boot
+takes RpmbUnit row = row.takers.rpmb
+takes DeviceUnit row = row.takers.device
 
 -- the unit whose boot number is the boot setting, if that is not 0 (JESD220, 13.1)
 abbrev pub boot_unit : Numbers → ℕ → Option ℕ
@@ -131,9 +124,9 @@ pub record Request : Type 0 where
   pub bytes : List ℕ
   pub cdb : Option Cdb
 
--- the operation code: byte 0 of the CDB, whatever the rest spells
-abbrev pub operation_in : Request → ℕ
-operation_in r = slice_index r.bytes 0
+-- the row of its operation code, if the table has one, whatever the rest of the CDB spells
+abbrev pub row_in : Request → Option Row
+row_in r = row_of r.bytes
 
 -- the unit that the request reads or writes through this LUN. The boot setting is judged at the COMMAND, as it was
 -- accepted by then, durable or not
@@ -156,7 +149,7 @@ unit_numbers_of s r = unit_numbers_at (numbers_of s) (unit_of_request s r)
 
 -- how many units REPORT LUNS lists: the ordinary ones, the four well-known ones, or both
 abbrev pub units_listed : Numbers → Cdb → ℕ
-units_listed n (cdb.ReportLuns select allocation) =
+units_listed n (cdb.Tell told.Units select allocation) =
     if select == 0 then length n.units.items else if select == 1 then 4 else length n.units.items + 4
 units_listed n command = 0
 
@@ -166,21 +159,33 @@ length_in s command = length_of (units_listed (numbers_of s) command) command
 
 -- ## Lines of the table
 
--- 1: the operation codes that need the blocks of the boot unit: READ and READ CAPACITY
-abbrev pub is_boot_read : ℕ → Bool
-is_boot_read operation = is_among (read_6 ∷ read_10 ∷ read_capacity_10 ∷ []) operation
+-- 1: a command of this kind needs blocks that can be read: READ and READ CAPACITY
+abbrev pub needs_blocks : Kind → Bool
+needs_blocks kind.Read = true
+needs_blocks (kind.Tell told.Capacity) = true
+needs_blocks other = false
+
+-- the same of a row, if there is one
+abbrev pub is_boot_read : Option Row → Bool
+is_boot_read None = false
+is_boot_read (Some row) = needs_blocks row.kind
 
 -- 1 (5/25/00): there is no such unit; or the request needs the blocks of the boot unit, and no unit boots. It refuses
 -- every command, INQUIRY too, for which SPC has a peripheral qualifier
 abbrev pub lacks_unit : State → Request → Option Lun → Bool
 lacks_unit s r None = true
-lacks_unit s r (Some BootUnit) = is_boot_read (operation_in r) && is_none (boot_unit (numbers_of s) (plain_now s).boot)
+lacks_unit s r (Some BootUnit) = is_boot_read (row_in r) && is_none (boot_unit (numbers_of s) (plain_now s).boot)
 lacks_unit s r (Some lun) = false
+
+-- 2: the LUN takes the commands of this row, if there is one
+abbrev pub takes_row : Lun → Option Row → Bool
+takes_row lun None = false
+takes_row lun (Some row) = takes lun row
 
 -- 2 (5/20/00): the unit does not take the operation code
 abbrev pub not_taken : Request → Option Lun → Bool
 not_taken r None = false
-not_taken r (Some lun) = not (takes lun (operation_in r))
+not_taken r (Some lun) = not (takes_row lun (row_in r))
 
 -- 3 (5/24/00): the RPMB region of the command is not there, since its area has no bytes
 abbrev pub lacks_region : Numbers → Cdb → Bool
@@ -216,27 +221,28 @@ abbrev pub is_past : Cdb → Option UnitSpec → Bool
 is_past command None = false
 is_past command (Some u) = nat_lt u.blocks (address_of command + blocks_of command)
 
--- 8: the operation codes that a device takes only once it is ready: all but REQUEST SENSE, READ CAPACITY(10), INQUIRY
--- and REPORT LUNS
-abbrev pub needs_mended : ℕ → Bool
-needs_mended operation =
-    is_among (test_unit_ready ∷ read_6 ∷ read_10 ∷ write_6 ∷ write_10 ∷ unmap ∷ synchronize_cache_10 ∷ security_in
-    ∷ security_out ∷ []) operation
+-- 8: the command is taken only once the device is ready: each one but those that tell of the device
+abbrev pub needs_mended : Cdb → Bool
+needs_mended (cdb.Tell what select allocation) = false
+needs_mended command = true
 
--- 8: the device is ready for a command with this operation code: once it is mended for each one. A locked device need not
--- be mended, but for TEST UNIT READY: what it holds is known from its opening on, and it accepts nothing any more
-abbrev pub is_ready_for : State → ℕ → Bool
-is_ready_for s operation = mended s || (not (operation == test_unit_ready) && locked s)
+-- 8: the command asks whether the device is ready
+abbrev pub tests_unit : Cdb → Bool
+tests_unit cdb.Nothing = true
+tests_unit command = false
+
+-- 8: the device is ready for the command: once it is mended for each one. A locked device need not be mended, but for
+-- TEST UNIT READY: what it holds is known from its opening on, and it accepts nothing any more
+abbrev pub is_ready_for : State → Cdb → Bool
+is_ready_for s command = mended s || (not (tests_unit command) && locked s)
 
 -- 8 (2/04/01): the command needs a device that is ready for it, and this one is not
-abbrev pub is_unready : State → ℕ → Bool
-is_unready s operation = needs_mended operation && not (is_ready_for s operation)
+abbrev pub is_unready : State → Cdb → Bool
+is_unready s command = needs_mended command && not (is_ready_for s command)
 
--- 9: the command changes blocks: a WRITE of at least one, or an UNMAP of one descriptor. A count of
--- 0 in WRITE(6) means 256
+-- 9: the command changes blocks: a WRITE of at least one, or an UNMAP of one descriptor
 abbrev pub writes : Cdb → Bool
-writes (cdb.Write6 address blocks) = true
-writes (cdb.Write10 address blocks forced) = nat_lt 0 blocks
+writes (cdb.Write address blocks forced) = nat_lt 0 blocks
 writes (cdb.Unmap list) = list == 24
 writes command = false
 
@@ -244,11 +250,11 @@ writes command = false
 -- with 0 never (JESD220, 14.1.4.5)
 abbrev pub is_protected : State → Option UnitSpec → Bool
 is_protected s None = false
-is_protected s (Some u) = ((u.protect == 1) && s.power_on) || ((u.protect == 2) && (plain_now s).permanent)
+is_protected s (Some u) = ((u.protect == 1) && s.volatile.power_on) || ((u.protect == 2) && (plain_now s).permanent)
 
 -- 9: the command is a flush, with IMMED or without
 abbrev pub flushes : Cdb → Bool
-flushes (cdb.SynchronizeCache10 address blocks immediate) = true
+flushes (cdb.Flush immediate) = true
 flushes command = false
 
 -- 9 (7/27/00): a write to a protected unit or a locked device; a flush of a locked device with something
@@ -275,8 +281,7 @@ slots_for_frames = 3
 -- 11: how many slots of the write cache a command claims at its COMMAND: a WRITE one for each block, an UNMAP of one
 -- descriptor as many as a command may have blocks
 abbrev pub slots_needed : Numbers → Cdb → ℕ
-slots_needed n (cdb.Write6 address blocks) = blocks_of (cdb.Write6 address blocks)
-slots_needed n (cdb.Write10 address blocks forced) = blocks
+slots_needed n (cdb.Write address blocks forced) = blocks
 slots_needed n (cdb.Unmap list) = if list == 24 then command_blocks n else 0
 slots_needed n (cdb.SecurityOut region size) = slots_for_frames
 slots_needed n command = 0
@@ -310,19 +315,26 @@ is_crowded s command =
 
 -- ## The table. Line 0 comes before it: TASK SET FULL (28h) if 32 tasks are open (`command_taken` in Begins)
 
--- a line of the table: whether it applies to the request, and the status that it answers with
+-- a line of the table: whether it applies to the request, the status that it answers with, and what it makes of what
+-- is volatile
 pub record Line : Type 0 where
   pub applies : Bool
   pub status : Status
+  pub becomes : Volatile → Volatile
 
--- a line with these two parts; it stands in the lists below in one row each
+-- a line that changes nothing; it stands in the lists below in one row each
 abbrev pub line : Bool → Status → Line
-line applies status = record { applies = applies; status = status }
+line applies status = record { applies = applies; status = status; becomes = λ volatile. volatile }
 
 -- the status of the first line that applies; None if none does
 abbrev pub first_line : List Line → Option Status
 first_line [] = None
 first_line (l ∷ ls) = if l.applies then Some l.status else first_line ls
+
+-- what the first line that applies makes of what is volatile; where none does it stays
+abbrev pub volatile_by : List Line → Volatile → Volatile
+volatile_by [] volatile = volatile
+volatile_by (l ∷ ls) volatile = if l.applies then l.becomes volatile else volatile_by ls volatile
 
 -- the rest of line 3 and lines 4 to 11, for a CDB that spells a command
 abbrev pub lines_for : State → Request → Cdb → List Line
@@ -332,7 +344,7 @@ lines_for s r command =
     ∷ line (has_wrong_list command) list_length_error
     ∷ line (lacks_data r (direction_of command) (length_in s command)) invalid_field
     ∷ line (is_past command (unit_numbers_of s r)) out_of_range
-    ∷ line (is_unready s (operation_of command)) not_ready
+    ∷ line (is_unready s command) not_ready
     ∷ line (is_refused_write s (unit_numbers_of s r) command) write_protected
     ∷ line (lacks_response s command) sequence_error
     ∷ line (has_other_response s command) invalid_field
@@ -345,10 +357,17 @@ abbrev pub lines_after : State → Request → Option Cdb → List Line
 lines_after s r None = line true invalid_field ∷ []
 lines_after s r (Some command) = lines_for s r command
 
+-- all lines
+abbrev pub table : State → Request → List Line
+table s r =
+    line (lacks_unit s r (lun_of (numbers_of s) r.lun)) no_unit
+    ∷ line (not_taken r (lun_of (numbers_of s) r.lun)) invalid_operation
+    ∷ lines_after s r r.cdb
+
 -- why a request is refused: what the first line says that applies. None if no line applies, and then the command begins
 abbrev pub refusal : State → Request → Option Status
-refusal s r =
-    first_line
-    (line (lacks_unit s r (lun_of (numbers_of s) r.lun)) no_unit
-    ∷ line (not_taken r (lun_of (numbers_of s) r.lun)) invalid_operation
-    ∷ lines_after s r r.cdb)
+refusal s r = first_line (table s r)
+
+-- the state with what the line that refuses a request makes of it
+abbrev pub refused_state : State → Request → State
+refused_state s r = record s { volatile = volatile_by (table s r) s.volatile }

@@ -10,8 +10,10 @@ mod faults;
 mod flash;
 mod layer;
 mod messages;
+pub mod operations;
 mod plain_device;
 mod scsi;
+mod volatile;
 
 pub use codes::{GREATEST_COMMAND, MOST_SHORT_EXCHANGES, MOST_TASKS, REGIONS};
 pub use commands::Cmd;
@@ -24,6 +26,8 @@ pub use flash::{
 };
 pub use layer::{Looked, Name, Reader};
 pub use messages::{Asked, Data, Message};
+pub use operations::{COMMANDS, Fields, Kind, Layout, Row, Takers, Told};
 pub use plain_device::{PlainDevice, after_joined_commands, commands_keep_the_shape};
 pub use scsi::{Cdb, Sense};
 pub use ufs_bytes::{Block, Upiu, read_u16, read_u32, read_u64, write_u16, write_u32, write_u64};
+pub use volatile::Volatile;

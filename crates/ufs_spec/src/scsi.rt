@@ -1,57 +1,39 @@
 //! SCSI commands and sense data (SPC, SBC).
+use crate::operations::Told;
 
-/// A command as its CDB gives it (SPC, command descriptor block).
+/// A command as its CDB asks for it, whatever operation code spells it (SPC, command descriptor
+/// block).
 #[derive(Clone, Copy, Debug, PartialEq, Eq)]
 pub enum Cdb {
-    /// SPC, TEST UNIT READY.
-    TestUnitReady,
-    /// SPC, REQUEST SENSE: it takes at most `allocation` bytes.
-    RequestSense {
-        allocation: u8,
+    /// SPC, TEST UNIT READY: it is answered, and does nothing else.
+    Nothing,
+    /// SPC, REQUEST SENSE, INQUIRY and REPORT LUNS; SBC, READ CAPACITY: it sends what it tells of
+    /// the device, no more than `allocation` bytes. REPORT LUNS selects units by `select`.
+    Tell {
+        told: Told,
+        select: u8,
+        allocation: u32,
     },
-    /// SBC, READ(6): an address of 21 bits, and a count of blocks where 0 means 256.
-    Read6 {
-        address: u32,
-        blocks: u8,
+    /// SBC, READ: so many blocks, from an address on. Its FUA bit changes nothing.
+    Read {
+        address: u64,
+        blocks: u32,
     },
-    /// SBC, WRITE(6): an address of 21 bits, and a count of blocks where 0 means 256. It has no FUA.
-    Write6 {
-        address: u32,
-        blocks: u8,
-    },
-    /// SPC, INQUIRY: it takes at most `allocation` bytes.
-    Inquiry {
-        allocation: u16,
-    },
-    /// SBC, READ CAPACITY(10).
-    ReadCapacity10,
-    /// SBC, READ(10): an address and a count of blocks. Its FUA bit changes nothing.
-    Read10 {
-        address: u32,
-        blocks: u16,
+    /// SBC, WRITE: so many blocks, from an address on. With FUA (`forced`) it is answered once its
+    /// blocks are durable.
+    Write {
+        address: u64,
+        blocks: u32,
         forced: bool,
     },
-    /// SBC, WRITE(10): with FUA (`forced`) it is answered once its blocks are durable.
-    Write10 {
-        address: u32,
-        blocks: u16,
-        forced: bool,
-    },
-    /// SBC, SYNCHRONIZE CACHE(10): with IMMED (`immediate`) it is answered at once. Its address and
-    /// its count of blocks change nothing.
-    SynchronizeCache10 {
-        address: u32,
-        blocks: u16,
+    /// SBC, SYNCHRONIZE CACHE: with IMMED (`immediate`) it is answered at once. Its address and its
+    /// count of blocks change nothing.
+    Flush {
         immediate: bool,
     },
     /// SBC, UNMAP: `list` is the length of its parameter list.
     Unmap {
-        list: u16,
-    },
-    /// SPC, REPORT LUNS: `select` says which units it lists; it takes at most `allocation` bytes.
-    ReportLuns {
-        select: u8,
-        allocation: u32,
+        list: u32,
     },
     /// SPC, SECURITY PROTOCOL IN, of the protocol ECh (JESD220, RPMB): the region, which is the
     /// high byte of the specific field above 01h, and the length of its data.

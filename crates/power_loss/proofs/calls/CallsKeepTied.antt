@@ -1,14 +1,14 @@
 -- Each call that is answered rightly keeps the state tied to its dies and commands, whatever a failed job leaves.
-use Rattle.power_loss.proofs.Common.{List, None, Option, Some, ap, refl, subst, sym, true, ℕ, ◌∙◌, ◌≡◌, false≢true, Ok}
+use Rattle.power_loss.proofs.Common.{List, None, Option, Some, refl, sym, true, ℕ, ◌∙◌, ◌≡◌, false≢true, Ok}
 use Rattle.power_loss.proofs.Common.{Ending, GiveJob, ReadRight, ReadWrong, WentWell, WentWrong, ending_fits, Array}
 use Rattle.power_loss.proofs.Common.{Erasing}
 use Rattle.power_loss.proofs.Common.{Flight, Programming, Reading}
-use Rattle.power_loss.proofs.MachineWords.{operation_of, Allowed, Answer, Reply, Call, Faulty, Done, OfDone, Take}
+use Rattle.power_loss.proofs.MachineWords.{Allowed, Answer, Reply, Call, Faulty, Done, OfDone, Take}
 use Rattle.power_loss.proofs.MachineWords.{OfTake, Heard, OfHost, Host, IsCdbIn, IsHeard, MayLeave, OfReply, Spelled}
 use Rattle.power_loss.proofs.MachineWords.{Turn, OfTurn, behind, heard, message_fault, observe, opens_short}
 use Rattle.power_loss.proofs.MachineWords.{service, State, Message, Cdb, IsTied, MayCome}
-use Rattle.std.specs.Prelude.{Err, Result, slice_index}
-use Rattle.ufs_spec.specs.Cdbs.{IsCdb, SpellsCdb}
+use Rattle.std.specs.Prelude.{Err, Result}
+use Rattle.ufs_spec.specs.CdbFields.{spelled_cdb}
 use Rattle.ufs_spec.specs.Machine.{MayHear}
 use Rattle.ufs_spec.specs.Machine.{cdb_of}
 use Rattle.ufs_spec.specs.Machine.{result_of}
@@ -25,7 +25,6 @@ use Rattle.power_loss.proofs.host_commands.HandedOutReplies.{replies_right}
 use Rattle.power_loss.proofs.calls.RightChanges.{Right, right_keeps, settled_right}
 use Rattle.ufs_laws.proofs.walk.SmallChanges.{Both, Still, first, job_over}
 use Rattle.ufs_spec.specs.declared.messages.Message.TheVariants as message
-use Rattle.ufs_spec.proofs.CdbsBack.{first_byte}
 
 -- What a call does first
 
@@ -63,16 +62,10 @@ first_keeps call answer v may right = v
 
 -- Messages
 
--- the numbers of a command fit their fields
-pub fields_fit : (c : Option Cdb) (command : Cdb) (taken : List ℕ) → IsCdbIn (Some taken) c → c ≡ Some command →
-    IsCdb command
-fields_fit c command taken h e = let spells : SpellsCdb command taken = subst (IsCdbIn (Some taken)) e h in spells.0
-
-pub operation_is : (c : Option Cdb) (command : Cdb) (taken : List ℕ) → IsCdbIn (Some taken) c → c ≡ Some command →
-    slice_index taken 0 ≡ operation_of command
-operation_is c command taken h e =
-    let spells : SpellsCdb command taken = subst (IsCdbIn (Some taken)) e h in
-    ap (λ (bytes : List ℕ). slice_index bytes 0) spells.1 ∙ first_byte command
+-- the command of a CDB is spelled by it
+pub spelled_is : (c : Option Cdb) (command : Cdb) (taken : List ℕ) → IsCdbIn (Some taken) c → c ≡ Some command →
+    spelled_cdb taken ≡ Some command
+spelled_is c command taken h e = sym h ∙ e
 
 heard_right : {s : State} (m : Message) (c : Option Cdb) (bytes : List ℕ) → IsTied s → Spells m bytes →
     IsCdbIn (cdb_of m) c → message_fault s m ≡ None → Right s (heard s m c)
@@ -81,7 +74,7 @@ heard_right {s} (message.NopOut tag) c bytes v spells spelled h =
 heard_right {s} (message.Command flags lun tag expected taken) c bytes v spells spelled h =
     command_right (record { flags = flags; lun = lun; tag = tag; expected = expected; bytes = taken; cdb = c }) v
     (is_free s tag (opens_short s (message.Command flags lun tag expected taken)) h)
-    (λ command e. (operation_is c command taken spelled e, fields_fit c command taken spelled e))
+    (λ command e. spelled_is c command taken spelled e)
 heard_right {s} (message.DataOut lun tag offset «data») c bytes v spells spelled h =
     data_right lun tag offset «data».items v h spells.0.3.2
 heard_right {s} (message.TaskRequest lun tag function meant) c bytes v spells spelled h =

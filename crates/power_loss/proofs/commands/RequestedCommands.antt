@@ -21,7 +21,7 @@ use Rattle.ufs_laws.proofs.plain_contents.CommandsKeepPlain.{its_region}
 use Rattle.ufs_spec.specs.Rpmb.{region_of}
 use Rattle.ufs_spec.specs.Rpmb.{rpmb_outcome}
 use Rattle.ufs_spec.specs.RpmbResponses.{is_success}
-use Rattle.ufs_spec.specs.Plain.{HasRegion, regions}
+use Rattle.ufs_spec.specs.Plain.{HasRegion}
 use Rattle.ufs_spec.proofs.Facts.{leb-true}
 use Rattle.power_loss.specs.WaitingFrames.{AsksInside}
 use Rattle.ufs_laws.proofs.pages.ByteLists.{bytes-append, bytes-nil}

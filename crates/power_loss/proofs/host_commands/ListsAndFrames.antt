@@ -3,7 +3,7 @@ use Rattle.power_loss.proofs.Common.{◌≡◌, ◌≢◌, ◌⊎◌, ℕ, ◌+�
 use Rattle.power_loss.proofs.Common.{Option, Some, None, length, get_or, sym, ◌∙◌, subst, inl, inr, not, not-false}
 use Rattle.power_loss.proofs.Common.{arith, data_key, length-map, get_or-map, slice_get-get_or, and_parts}
 use Rattle.power_loss.proofs.Common.{ltb-false, or_parts, eqb-true, false≢true, below, IsKey, IsArea}
-use Rattle.power_loss.proofs.Common.{Shape, shape_of_numbers, is_mended, Numbers}
+use Rattle.power_loss.proofs.Common.{Shape, shape_of_numbers, Numbers}
 use Rattle.power_loss.proofs.MachineWords.{Command, ForFrames, ForUnmap, Gathering}
 use Rattle.power_loss.proofs.MachineWords.{Purpose, Task, UnitSpec}
 use Rattle.power_loss.proofs.MachineWords.{claimed_by}

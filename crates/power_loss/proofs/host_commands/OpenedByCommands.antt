@@ -4,17 +4,20 @@ use Rattle.power_loss.proofs.Common.{length, map, get_or, min, refl, sym, ap, �
 use Rattle.power_loss.proofs.Common.{nat_le, nat_lt, list_any, length-map, ltb-false, none-some, or_parts, below}
 use Rattle.power_loss.proofs.Common.{data_key, Claim, free_slots, is_mended, Numbers, flat_map, not, ◌||◌, ◌⊎◌}
 use Rattle.power_loss.proofs.Common.{and_parts, eqb-true, false≢true, leb-true, not-false, or_cases}
-use Rattle.power_loss.proofs.MachineWords.{address_of, blocks_of, operation_of, Answering, Awaiting, Deed, ForWrite}
+use Rattle.power_loss.proofs.MachineWords.{address_of, blocks_of, Answering, Awaiting, Deed, ForWrite}
 use Rattle.power_loss.proofs.MachineWords.{Gathering, Good, ReadBlock, Sending, Short, Status, Task, TaskSetFull}
 use Rattle.power_loss.proofs.MachineWords.{SendingBytes, is_short_of, is_task_of, response, short_reply, ForFrames}
 use Rattle.power_loss.proofs.MachineWords.{ForUnmap, Purpose, begun, begun_if_any, blocks_expected, claimed_by}
 use Rattle.power_loss.proofs.MachineWords.{command_taken, kept_at, refused_or_begun, read_begun, read_blocks, sending}
 use Rattle.power_loss.proofs.MachineWords.{tag_in, unit_or_first, with_moves, with_short, with_task, most_tasks}
-use Rattle.power_loss.proofs.MachineWords.{Request, State, numbers_of, operation_in, refusal, unit_of_request, UnitSpec}
+use Rattle.power_loss.proofs.MachineWords.{Request, State, numbers_of, refusal, unit_of_request, UnitSpec}
 use Rattle.power_loss.proofs.MachineWords.{Message, Cdb, DeedFits, IsTied, ShortFits, WriteFits}
 use Rattle.std.specs.Prelude.{if◌then◌else◌, ◌%◌, ◌/◌}
 use Rattle.ufs_spec.specs.Begins.{frames_begun}
-use Rattle.ufs_spec.specs.Cdbs.{IsCdb, write_6, write_10}
+use Rattle.ufs_spec.proofs.CommandTable.{IsOfRegion, region_in}
+use Rattle.ufs_spec.specs.CdbFields.{kind_of, spelled_cdb}
+use Rattle.ufs_spec.specs.declared.operations.Kind.TheVariants as kind
+use Rattle.ufs_spec.specs.declared.volatile.Volatile.{Volatile}
 use Rattle.ufs_spec.specs.Messages.{is_among}
 use Rattle.ufs_spec.specs.Plain.{regions, shape_of_numbers, steps_of}
 use Rattle.ufs_spec.proofs.RegionPages.{region_there}
@@ -26,15 +29,15 @@ use Rattle.ufs_spec.specs.Machine.{in_use}
 use Rattle.ufs_spec.specs.Machine.{opening_fault}
 use Rattle.ufs_spec.specs.Machine.{data_begun}
 use Rattle.ufs_spec.specs.Configs.{command_blocks}
-use Rattle.ufs_spec.specs.Refusals.{is_frames, needs_mended, slots_needed, writes}
+use Rattle.ufs_spec.specs.Refusals.{is_frames, needs_blocks, needs_mended, refused_state, slots_needed, writes}
 use Rattle.ufs_spec.specs.declared.faults.HostFault.TheVariants.{Backlog, TagInUse}
 use Rattle.ufs_laws.proofs.walk.WaysOfCommands.{Answered, Beginning, Gathered, Handing, IsWritten, Reading, Telling}
 use Rattle.ufs_laws.proofs.walk.WaysOfCommands.{Waiting, WhyBegun, begins_by, begun_as}
 use Rattle.ufs_laws.proofs.pages.ByteLists.{bytes-nil}
-use Rattle.ufs_laws.proofs.walk.SmallChanges.{Both, One, Opens, OpensShort, SetsRegisters, Still}
-use Rattle.power_loss.proofs.host_commands.ReadBlocks.{KeysOfDevice, keys_read, pins_right}
-use Rattle.power_loss.proofs.host_commands.PassedCommands.{Passed, TakenByUnits, lies_within, passed, ready_now}
-use Rattle.power_loss.proofs.host_commands.PassedCommands.{unit_told, units_take_10, units_take_6, units_take_unmap}
+use Rattle.ufs_laws.proofs.walk.SmallChanges.{Both, One, Opens, OpensShort, SetsRegisters, SetsVolatile, Still}
+use Rattle.power_loss.proofs.host_commands.ReadBlocks.{KeysOfDevice, keys_read, pins_right, reads_in}
+use Rattle.power_loss.proofs.host_commands.PassedCommands.{Changes, Passed, lies_within, passed, ready_now}
+use Rattle.power_loss.proofs.host_commands.PassedCommands.{unit_told, unmap_changes, write_changes}
 use Rattle.power_loss.proofs.calls.RightChanges.{Right, right_keeps, right_move}
 use Rattle.power_loss.proofs.open_tasks.TaskLists.{short_opened, task_opened}
 
@@ -147,14 +150,17 @@ gathers_right {s} {r} {command} {count} n purpose v free p slots fits =
     }))
 
 -- a WRITE of at least one block changes blocks
-writes_told : (c : Cdb) → (operation_of c ≡ write_6) ⊎ (operation_of c ≡ write_10) → 0 < blocks_of c → writes c ≡ true
-writes_told (cdb.Write6 address blocks) e some = refl
-writes_told (cdb.Write10 address blocks forced) e some = lt-ltb 0 blocks some
-writes_told c e some = ⊎_elim (λ k. absurd (omega (arith, k))) (λ k. absurd (omega (arith, k))) e
+writes_told : (c : Cdb) → kind_of c ≡ kind.Write → 0 < blocks_of c → writes c ≡ true
+writes_told (cdb.Write address blocks forced) e some = lt-ltb 0 blocks some
+writes_told (cdb.Read address blocks) e some = absurd (no_write e)
+  where
+    no_write : kind.Read ≡ kind.Write → ⊥
+    no_write k = cc
+writes_told c e some = absurd (omega (arith, some))
 
 write_fits : {s : State} {r : Request} {command : Cdb} {unit address blocks count n : ℕ} → Passed s r command →
-    TakenByUnits (operation_in r) → slots_needed (numbers_of s) command ≡ count → 0 < n →
-    needs_mended (operation_of command) ≡ true → writes command ≡ true →
+    Changes r.bytes → slots_needed (numbers_of s) command ≡ count → 0 < n →
+    needs_mended command ≡ true → writes command ≡ true →
     IsWritten (numbers_of s) (unit_or_first (unit_of_request s r)) command count unit address blocks n → WriteFits
     (numbers_of s) (is_mended s.translation.work.mending) unit address blocks n [] (slots_needed (numbers_of s) command)
 write_fits {s} {r} {command} {unit} p taken slots some needs changes w =
@@ -200,7 +206,7 @@ unmap_claims : (m : Numbers) (n : ℕ) → (n ≡ 8) ⊎ (n ≡ 24) →
 unmap_claims m n (inl e) = inl (e, ap (λ (x : ℕ). slots_needed m (cdb.Unmap x)) e)
 unmap_claims m n (inr e) = inr (e, ap (λ (x : ℕ). slots_needed m (cdb.Unmap x)) e)
 
-unmap_fits : {s : State} {r : Request} {unit n : ℕ} → Passed s r (cdb.Unmap n) → TakenByUnits (operation_in r) →
+unmap_fits : {s : State} {r : Request} {unit n : ℕ} → Passed s r (cdb.Unmap n) → Changes r.bytes →
     unit ≡ unit_or_first (unit_of_request s r) → 0 < n →
     UnmapFits (numbers_of s) (is_mended s.translation.work.mending) unit n [] (slots_needed (numbers_of s) (cdb.Unmap
     n))
@@ -257,16 +263,20 @@ handing_right {s} r region n v free =
     Both told (One (SetsRegisters (frames_begun s r region n).registers)
     (record { small = tt; layer = tt; tasks = (right_keeps told v).tasks }))
 
+-- What is volatile
+
+pub volatile_right : {s : State} (volatile : Volatile) → IsTied s → Right s (record s { volatile = volatile })
+volatile_right volatile v = One (SetsVolatile volatile) (record { small = tt; layer = tt; tasks = v.tasks })
+
 -- Commands
 
--- a CDB has its command's operation code, and its numbers fit their fields
+-- the command of a request is the one that its CDB spells
 abbrev pub IsSpelled : Request → Type 0
-IsSpelled r = (command : Cdb) → r.cdb ≡ Some command → (operation_in r ≡ operation_of command) × IsCdb command
+IsSpelled r = (command : Cdb) → r.cdb ≡ Some command → spelled_cdb r.bytes ≡ Some command
 
 begins : (s : State) (r : Request) (command : Cdb) → IsTied s → IsFree s r.tag → Passed s r command →
-    operation_in r ≡ operation_of command → IsCdb command →
-    Right s (begun s r (unit_or_first (unit_of_request s r)) command)
-begins s r command v free p op fields = begins_by (Right s) s r unit command one
+    spelled_cdb r.bytes ≡ Some command → Right s (begun s r (unit_or_first (unit_of_request s r)) command)
+begins s r command v free p spells = begins_by (Right s) s r unit command one
   where
     unit : ℕ
     unit = unit_or_first (unit_of_request s r)
@@ -275,14 +285,13 @@ begins s r command v free p op fields = begins_by (Right s) s r unit command one
         UnmapFits (numbers_of s) (is_mended s.translation.work.mending) u n [] (slots_needed (numbers_of s) command)
     listed u n unit_is some is = subst (λ (c : Cdb). UnmapFits (numbers_of s)
         (is_mended s.translation.work.mending) u n [] (slots_needed (numbers_of s) c)) (sym is)
-        (unmap_fits (subst (Passed s r) is p)
-        (subst TakenByUnits (sym (op ∙ ap operation_of is)) units_take_unmap) unit_is some)
+        (unmap_fits (subst (Passed s r) is p) (unmap_changes r.bytes command spells (ap kind_of is)) unit_is some)
 
     framed : (region n : ℕ) → command ≡ cdb.SecurityOut region n →
         FramesFit (numbers_of s) region n [] (slots_needed (numbers_of s) command)
     framed region n is = subst (λ (c : Cdb). FramesFit (numbers_of s) region n []
         (slots_needed (numbers_of s) c)) (sym is)
-        (frames_fit {r = r} (subst (Passed s r) is p) (subst IsCdb is fields).0)
+        (frames_fit {r = r} (subst (Passed s r) is p) (subst IsOfRegion is (region_in r.bytes command spells)))
 
     one : (b : Beginning) → WhyBegun s r unit command b → Right s (begun_as s r command b)
     one Answered why = answer_right r (Some command) 0 Good 0 v free
@@ -291,13 +300,12 @@ begins s r command v free p op fields = begins_by (Right s) s r unit command one
     one (Telling bytes) why = telling_right r command bytes v free
     one (Handing region n) is = handing_right r region n v free
     one (Reading u address n) (unit_is, address_is, size, read) =
-        let reads = ⊎_elim (λ e. inl (op ∙ e)) (λ e. inr (op ∙ e)) read in
+        let reads = reads_in r.bytes command spells (ap needs_blocks read) in
         subst (λ (x : ℕ). Right s (read_begun s r command x address n)) (sym unit_is)
         (subst (λ (x : ℕ). Right s (read_begun s r command unit x n)) (sym address_is)
         (read_right r command unit (address_of command) n v free (keys_read size reads p)))
     one (Gathered count (ForWrite u address blocks forced) n) (slots, some, few, needs, w) =
-        let taken = ⊎_elim (λ e. subst TakenByUnits (sym (op ∙ e)) units_take_6)
-        (λ e. subst TakenByUnits (sym (op ∙ e)) units_take_10) w.writes in
+        let taken = write_changes r.bytes command spells w.writes in
         gathers_right n (ForWrite u address blocks forced) v free p slots
         (write_fits p taken slots (some p.not_long) needs
         (writes_told command w.writes
@@ -310,14 +318,17 @@ begins s r command v free p op fields = begins_by (Right s) s r unit command one
 
 opened_right : {s : State} (r : Request) → IsTied s → IsFree s r.tag → IsSpelled r → (x : Option Status) →
     refusal s r ≡ x → Right s (refused_or_begun s r x)
-opened_right {s} r v free spelled (Some status) e = answer_right r None 0 status 0 v free
+opened_right {s} r v free spelled (Some status) e =
+    let sets = volatile_right (refused_state s r).volatile v in
+    Both sets
+    (answer_right r None 0 status 0 (right_keeps sets v)
+    (record { no_task = free.no_task; no_short = free.no_short }))
 opened_right {s} r v free spelled None e = by r.cdb refl
   where
     by : (c : Option Cdb) → r.cdb ≡ c → Right s (begun_if_any s r c)
     by None h = Still
     by (Some command) h =
-        let told = spelled command h in
-        begins s r command v free (passed s r command h e) told.0 told.1
+        begins s r command v free (passed s r command h e) (spelled command h)
 
 pub command_right : {s : State} (r : Request) → IsTied s → IsFree s r.tag → IsSpelled r → Right s (command_taken s r)
 command_right {s} r v free spelled = by (nat_le most_tasks (length s.tasks))

@@ -3,16 +3,18 @@ use Rattle.power_loss.proofs.Common.{◌≡◌, ℕ, ◌+◌, ◌<◌, ◌≤◌
 use Rattle.power_loss.proofs.Common.{Some, None, length, map, get_or, refl, sym, ap, ◌∙◌, subst, arith, nat_lt, ◌||◌}
 use Rattle.power_loss.proofs.Common.{AllByRecursion, get_or-map, slice_get-get_or, false≢true, ltb-false, ltb-true}
 use Rattle.power_loss.proofs.Common.{none-some, not-false, is_mended, Numbers, or_parts, and_parts, or_cases, ⊎_elim}
-use Rattle.power_loss.proofs.MachineWords.{address_of, blocks_of, operation_of, invalid_operation, no_unit, BootUnit}
+use Rattle.power_loss.proofs.MachineWords.{address_of, blocks_of, invalid_operation, no_unit, BootUnit}
 use Rattle.power_loss.proofs.MachineWords.{DeviceUnit, Line, Lun, ReportLunsUnit, Request, RpmbUnit, State, UnitOf}
 use Rattle.power_loss.proofs.MachineWords.{first_line, is_past, lacks_unit, line, lines_after, lun_of, mended}
-use Rattle.power_loss.proofs.MachineWords.{needs_mended, not_taken, numbers_of, operation_in, refusal, unit_numbers_at}
-use Rattle.power_loss.proofs.MachineWords.{takes, unit_in, unit_of_request, UnitSpec, Cdb}
+use Rattle.power_loss.proofs.MachineWords.{needs_mended, not_taken, numbers_of, refusal, unit_numbers_at}
+use Rattle.power_loss.proofs.MachineWords.{unit_in, unit_of_request, UnitSpec, Cdb}
 use Rattle.std.specs.Prelude.{if◌then◌else◌}
-use Rattle.ufs_spec.specs.Cdbs.{unmap, write_10, write_6}
-use Rattle.ufs_spec.specs.Cdbs.{test_unit_ready}
+use Rattle.ufs_spec.proofs.CommandTable.{changes_blocks, changing_taken, row_behind}
+use Rattle.ufs_spec.specs.CdbFields.{kind_of, row_of, spelled_cdb}
+use Rattle.ufs_spec.specs.declared.operations.Kind.TheVariants as kind
+use Rattle.ufs_spec.specs.declared.operations.Row.{Row}
 use Rattle.ufs_spec.specs.Refusals.{has_wrong_list, is_crowded, is_protected, is_ready_for, is_refused_write}
-use Rattle.ufs_spec.specs.Refusals.{is_too_long, is_unready, lacks_region, locked, writes}
+use Rattle.ufs_spec.specs.Refusals.{is_too_long, is_unready, lacks_region, locked, row_in, takes_row, tests_unit, writes}
 use Rattle.ufs_spec.specs.Refusals.{unit_numbers_of, well_known}
 
 -- No line of the table applies
@@ -34,7 +36,7 @@ pub record Passed (s : State) (r : Request) (command : Cdb) : Type 0 where
   pub not_long : is_too_long (numbers_of s) command ≡ false
   pub listed : has_wrong_list command ≡ false
   pub within : is_past command (unit_numbers_of s r) ≡ false
-  pub ready : is_unready s (operation_of command) ≡ false
+  pub ready : is_unready s command ≡ false
   pub free : is_refused_write s (unit_numbers_of s r) command ≡ false
   pub room : is_crowded s command ≡ false
 
@@ -59,13 +61,13 @@ passed s r command e h =
 
 -- a command that changes blocks passes on a mended device alone: on one that is neither mended nor locked the line of
 -- the mending applies, and on a locked one that of what is not written
-pub ready_now : (s : State) (r : Request) (command : Cdb) → needs_mended (operation_of command) ≡ true →
+pub ready_now : (s : State) (r : Request) (command : Cdb) → needs_mended command ≡ true →
     writes command ≡ true → Passed s r command → is_mended s.translation.work.mending ≡ true
 ready_now s r command needs changes p =
-    let ready = not-false (is_ready_for s (operation_of command))
-    (sym (ap (λ b. b && not (is_ready_for s (operation_of command))) needs) ∙ p.ready) in
+    let ready = not-false (is_ready_for s command)
+    (sym (ap (λ b. b && not (is_ready_for s command)) needs) ∙ p.ready) in
     ⊎_elim (λ e. e) (λ e. absurd (false≢true (sym unlocked ∙ (and_parts _ _ e).1)))
-    (or_cases (mended s) (not (operation_of command == test_unit_ready) && locked s) ready)
+    (or_cases (mended s) (not (tests_unit command) && locked s) ready)
   where
     write_passes : (writes command && (is_protected s (unit_numbers_of s r) || locked s)) ≡ false
     write_passes = (or_parts _ _ p.free).0
@@ -98,34 +100,34 @@ lun_told n {byte} {unit} h = by (nat_lt byte (length n.units.items)) refl h
     by true e k = (ltb-true byte (length n.units.items) e, cc)
     by false e k = absurd (well_known_none byte unit k)
 
--- ordinary units alone are written by WRITE and UNMAP
-abbrev pub TakenByUnits : ℕ → Type 0
-TakenByUnits operation = (lun : Lun) → takes lun operation ≡ true → (unit : ℕ) × (lun ≡ UnitOf unit)
+-- what such bytes ask for changes blocks of a unit
+abbrev pub Changes : List ℕ → Type 0
+Changes bytes = (row : Row) × (row_of bytes ≡ Some row) × (changes_blocks row.kind ≡ true)
 
-pub units_take_6 : TakenByUnits write_6
-units_take_6 (UnitOf unit) h = (unit, refl)
-units_take_6 lun h = absurd (false≢true h)
+pub write_changes : (bytes : List ℕ) (c : Cdb) → spelled_cdb bytes ≡ Some c → kind_of c ≡ kind.Write → Changes bytes
+write_changes bytes c e is =
+    let its = row_behind bytes c e in
+    (its.row, its.found, ap changes_blocks (its.kind_is ∙ is))
 
-pub units_take_10 : TakenByUnits write_10
-units_take_10 (UnitOf unit) h = (unit, refl)
-units_take_10 lun h = absurd (false≢true h)
-
-pub units_take_unmap : TakenByUnits unmap
-units_take_unmap (UnitOf unit) h = (unit, refl)
-units_take_unmap lun h = absurd (false≢true h)
+pub unmap_changes : (bytes : List ℕ) (c : Cdb) → spelled_cdb bytes ≡ Some c → kind_of c ≡ kind.Unmap → Changes bytes
+unmap_changes bytes c e is =
+    let its = row_behind bytes c e in
+    (its.row, its.found, ap changes_blocks (its.kind_is ∙ is))
 
 pub record UnitTold (s : State) (r : Request) : Type 0 where
   pub there : r.lun < length (numbers_of s).units.items
   pub is : unit_of_request s r ≡ Some r.lun
 
-pub unit_told : (s : State) (r : Request) (c : Cdb) → TakenByUnits (operation_in r) → Passed s r c → UnitTold s r
+pub unit_told : (s : State) (r : Request) (c : Cdb) → Changes r.bytes → Passed s r c → UnitTold s r
 unit_told s r c units p = by (lun_of (numbers_of s) r.lun) refl p.unit p.taken
   where
     by : (x : Option Lun) → lun_of (numbers_of s) r.lun ≡ x → lacks_unit s r x ≡ false → not_taken r x ≡ false →
         UnitTold s r
     by None e lacks taken = cc
     by (Some lun) e lacks taken =
-        let unit = units lun (not-false (takes lun (operation_in r)) taken) in
+        let takes_it = subst (λ (o : Option Row). takes_row lun o ≡ true) units.1
+        (not-false (takes_row lun (row_in r)) taken) in
+        let unit = changing_taken r.bytes units.0 lun units.1 units.2 takes_it in
         let is : lun_of (numbers_of s) r.lun ≡ Some (UnitOf unit.0) = e ∙ ap Some unit.1 in
         let told = lun_told (numbers_of s) is in
         record { there = told.0; is = ap (unit_in s r) is ∙ ap Some told.1 }

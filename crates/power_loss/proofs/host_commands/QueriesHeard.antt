@@ -1,5 +1,5 @@
 -- A query: it is answered at once, or is a setting that is accepted.
-use Rattle.power_loss.proofs.Common.{◌≡◌, ℕ, ◌+◌, ◌-◌, ◌≤◌, ◌==◌, ◌&&◌, ◌||◌, Bool, true, false, not, List, []}
+use Rattle.power_loss.proofs.Common.{◌≡◌, ℕ, ◌+◌, ◌-◌, ◌≤◌, ◌==◌, ◌&&◌, Bool, true, false, not, List, []}
 use Rattle.power_loss.proofs.Common.{◌∷◌, ◌++◌, Option, Some, None, length, map, refl, sym, ap, ◌∙◌, subst, arith}
 use Rattle.power_loss.proofs.Common.{is_none, nat_lt, length-append, and_parts, cond-false, false≢true, ltb-false}
 use Rattle.power_loss.proofs.Common.{ltb-true, none-some, same_Some, true≢false, CanApply}
@@ -13,14 +13,15 @@ use Rattle.ufs_spec.specs.Commands.{SetBoot, SetPermanent}
 use Rattle.ufs_spec.specs.Keys.{keys}
 use Rattle.ufs_spec.specs.Queries.{Query, QueryLine, first_code, has_wrong_index, has_wrong_idn, has_wrong_opcode}
 use Rattle.ufs_spec.specs.Queries.{has_wrong_size, has_wrong_value, is_not_writable, is_shut, query_line}
-use Rattle.ufs_spec.specs.Queries.{setting_of, sets_permanent, sets_power_on}
+use Rattle.ufs_spec.specs.Queries.{setting_of, sets_permanent, volatile_after}
 use Rattle.ufs_spec.specs.QueryAnswers.{may_set, query_done, query_failed, query_heard, query_passed, setting_accepted}
 use Rattle.ufs_laws.proofs.walk.Happenings.{code_of_query}
-use Rattle.ufs_laws.proofs.walk.SmallChanges.{Accepts, Both, One, SetsPowerOn, same_task}
+use Rattle.ufs_laws.proofs.walk.SmallChanges.{Accepts, Both, One, same_task}
 use Rattle.power_loss.proofs.calls.RightChanges.{Right, right_keeps, right_move}
 use Rattle.power_loss.proofs.host_commands.AcceptedCommands.{IsComing, command_allowed}
-use Rattle.power_loss.proofs.host_commands.OpenedByCommands.{IsFree, reply_right, short_right}
+use Rattle.power_loss.proofs.host_commands.OpenedByCommands.{IsFree, reply_right, short_right, volatile_right}
 use Rattle.power_loss.proofs.open_tasks.TaskLists.{tasks_more}
+use Rattle.ufs_spec.specs.declared.volatile.Volatile.{Volatile}
 
 -- No line of the table applies
 
@@ -169,17 +170,16 @@ setting_right {s} tag q c v free h =
 pub query_right : {s : State} (tag : ℕ) (q : Query) → IsTied s → IsFree s tag → Right s (query_heard s tag q)
 query_right {s} tag q v free = by ((code_of_query s q == 0x00) && not (q.asked.opcode == 0)) refl
   where
-    told : (on : Bool) → Right s (with_short (record s { power_on = on })
-        (short_reply tag (query_done (numbers_of s) (plain_now s) on tag q)))
-    told on =
-        let sets : Right s (record s { power_on = on }) =
-        One (SetsPowerOn on) (record { small = tt; layer = tt; tasks = v.tasks }) in
-        Both sets (reply_right (query_done (numbers_of s) (plain_now s) on tag q) (right_keeps sets v)
+    told : (volatile : Volatile) → Right s (with_short (record s { volatile = volatile })
+        (short_reply tag (query_done (numbers_of s) (plain_now s) volatile tag q)))
+    told volatile =
+        let sets = volatile_right volatile v in
+        Both sets (reply_right (query_done (numbers_of s) (plain_now s) volatile tag q) (right_keeps sets v)
         (record { no_task = free.no_task; no_short = free.no_short }) refl)
 
     passed : (o : Option Command) → setting_of q ≡ o → (code_of_query s q == 0x00) ≡ true →
         (q.asked.opcode == 0) ≡ false → Right s (query_passed s tag q o)
-    passed None e code some = told (s.power_on || sets_power_on q)
+    passed None e code some = told (volatile_after s.volatile q)
     passed (Some c) e code some = setting_right tag q c v free (setting_is s q c code some e)
 
     by : (b : Bool) → ((code_of_query s q == 0x00) && not (q.asked.opcode == 0)) ≡ b →

@@ -1,21 +1,24 @@
 -- What a READ keeps: the blocks that the host expects lie within its unit, and each is kept as it is looked up.
-use Rattle.power_loss.proofs.Common.{◌≡◌, ℕ, ◌+◌, ◌*◌, ◌<◌, ◌≤◌, ◌==◌, ◌&&◌, ◌⊎◌, Bool, true, false, List, [], ◌∷◌}
+use Rattle.power_loss.proofs.Common.{◌≡◌, ℕ, ◌+◌, ◌*◌, ◌<◌, ◌≤◌, ◌==◌, ◌&&◌, Bool, true, false, List, [], ◌∷◌}
 use Rattle.power_loss.proofs.Common.{Option, Some, None, length, map, get_or, min, slice_get, refl, sym, ap, ◌∙◌, subst}
-use Rattle.power_loss.proofs.Common.{inl, inr, arith, All, nat_lt, get_or-map, length-map, All-head, All-tail}
-use Rattle.power_loss.proofs.Common.{All-weaker, get_or_from_slice_get, slice_get-get_or, slice_get_within, false≢true}
+use Rattle.power_loss.proofs.Common.{arith, All, nat_lt, get_or-map, length-map, All-head, All-tail}
+use Rattle.power_loss.proofs.Common.{All-weaker, get_or_from_slice_get, slice_get-get_or, slice_get_within}
 use Rattle.power_loss.proofs.Common.{ltb-false, ltb-true, not-false, same_Some, IsData, IsKey, below, data_key, Ledger}
-use Rattle.power_loss.proofs.Common.{look, Keep, shape_of_numbers, Pin, Numbers, Key, is_mended}
-use Rattle.power_loss.proofs.MachineWords.{address_of, blocks_of, read_10, read_6, blocks_expected, unit_or_first}
-use Rattle.power_loss.proofs.MachineWords.{with_moves, BootUnit, DeviceUnit, Lun, ReportLunsUnit, Request, RpmbUnit}
-use Rattle.power_loss.proofs.MachineWords.{State, UnitOf, is_past, lacks_unit, lun_of, not_taken, numbers_of}
-use Rattle.power_loss.proofs.MachineWords.{operation_in, plain_now, unit_numbers_at, takes, unit_in, unit_of_request}
+use Rattle.power_loss.proofs.Common.{⊎_elim, look, Keep, shape_of_numbers, Pin, Numbers, Key, is_mended}
+use Rattle.power_loss.proofs.MachineWords.{address_of, blocks_of, blocks_expected, unit_or_first}
+use Rattle.power_loss.proofs.MachineWords.{with_moves, BootUnit, Lun, Request}
+use Rattle.power_loss.proofs.MachineWords.{State, is_past, lacks_unit, lun_of, not_taken, numbers_of}
+use Rattle.power_loss.proofs.MachineWords.{plain_now, unit_numbers_at, unit_in, unit_of_request}
 use Rattle.power_loss.proofs.MachineWords.{UnitSpec, Cdb, IsTied}
 use Rattle.std.proofs.Common.{position}
 use Rattle.std.specs.Prelude.{if◌then◌else◌, is_none, Bool}
 use Rattle.std.specs.Int.{div_ceil}
 use Rattle.std.specs.List.{position_or_len}
 use Rattle.std.proofs.lemmas.Grind.{div_ceil_times}
-use Rattle.ufs_spec.specs.Refusals.{boot_unit, is_boot_read}
+use Rattle.ufs_spec.proofs.CommandTable.{IsUnit, reading_taken, row_behind}
+use Rattle.ufs_spec.specs.CdbFields.{kind_of, row_of, spelled_cdb}
+use Rattle.ufs_spec.specs.Refusals.{boot_unit, is_boot_read, needs_blocks, row_in, takes_row}
+use Rattle.ufs_spec.specs.declared.operations.Row.{Row}
 use Rattle.ufs_laws.proofs.walk.SmallChanges.{Both, Still}
 use Rattle.power_loss.proofs.ordered_lists.ElementsAndOrders.{all_below}
 use Rattle.power_loss.proofs.host_commands.PassedCommands.{Passed, lun_told, no_spec}
@@ -46,11 +49,11 @@ pins_right {s} {n} {l} {mends} k f (x ∷ xs) v numbers ledger mending keys look
 -- The unit
 
 -- the unit that is read
-record ReadsUnit (n : Numbers) (unit : Option ℕ) : Type 0 where
-  number : ℕ
-  spec : UnitSpec
-  is : unit ≡ Some number
-  there : slice_get n.units.items number ≡ Some spec
+pub record ReadsUnit (n : Numbers) (unit : Option ℕ) : Type 0 where
+  pub number : ℕ
+  pub spec : UnitSpec
+  pub is : unit ≡ Some number
+  pub there : slice_get n.units.items number ≡ Some spec
 
 position_inside : {X : Type 0} (test : X → Bool) (xs : List X) {i : ℕ} → position test xs ≡ Some i → i < length xs
 position_inside test xs {i} h = by (nat_lt (position_or_len test xs) (length xs)) refl h
@@ -81,43 +84,47 @@ boot_there {n} boot (Some i) e h = unit_there i (by (boot == 0) e)
     by true k = cc
     by false k = position_inside (λ (u : UnitSpec). u.boot == boot) n.units.items k
 
--- the units that take a READ
-abbrev pub Reads : ℕ → Type 0
-Reads operation = (operation ≡ read_6) ⊎ (operation ≡ read_10)
+-- what such bytes ask for needs blocks that can be read
+abbrev pub Reads : List ℕ → Type 0
+Reads bytes = (row : Row) × (row_of bytes ≡ Some row) × (needs_blocks row.kind ≡ true)
 
--- what holds of both operation codes holds of a READ's
-of_reads : (P : ℕ → Type 0) {operation : ℕ} → P read_6 → P read_10 → Reads operation → P operation
-of_reads P six ten (inl e) = subst P (sym e) six
-of_reads P six ten (inr e) = subst P (sym e) ten
+pub reads_in : (bytes : List ℕ) (c : Cdb) → spelled_cdb bytes ≡ Some c → needs_blocks (kind_of c) ≡ true → Reads bytes
+reads_in bytes c e needs =
+    let its = row_behind bytes c e in
+    (its.row, its.found, ap needs_blocks its.kind_is ∙ needs)
 
-lun_there : (s : State) (r : Request) (lun : Lun) → Reads (operation_in r) →
-    lun_of (numbers_of s) r.lun ≡ Some lun → lacks_unit s r (Some lun) ≡ false → takes lun (operation_in r) ≡ true →
+lun_there : (s : State) (r : Request) (lun : Lun) → Reads r.bytes → lun_of (numbers_of s) r.lun ≡ Some lun →
+    lacks_unit s r (Some lun) ≡ false → takes_row lun (row_in r) ≡ true →
     ReadsUnit (numbers_of s) (unit_in s r (Some lun))
-lun_there s r (UnitOf unit) reads is lacks taken =
-    let told = lun_told (numbers_of s) is in
-    let same = told.1 in
-    let short = told.0 in
-    unit_there unit (omega (arith, same, short))
-lun_there s r BootUnit reads is lacks taken =
-    boot_there (plain_now s).boot (boot_unit (numbers_of s) (plain_now s).boot) refl
-    (sym (ap (λ b. b && is_none (boot_unit (numbers_of s) (plain_now s).boot))
-    (of_reads (λ o. is_boot_read o ≡ true) refl refl reads)) ∙ lacks)
-lun_there s r ReportLunsUnit reads is lacks taken =
-    absurd (false≢true (sym (of_reads (λ o. takes ReportLunsUnit o ≡ false) refl refl reads) ∙ taken))
-lun_there s r RpmbUnit reads is lacks taken =
-    absurd (false≢true (sym (of_reads (λ o. takes RpmbUnit o ≡ false) refl refl reads) ∙ taken))
-lun_there s r DeviceUnit reads is lacks taken =
-    absurd (false≢true (sym (of_reads (λ o. takes DeviceUnit o ≡ false) refl refl reads) ∙ taken))
+lun_there s r lun (row, found, needs) is lacks taken =
+    ⊎_elim of_unit of_boot
+    (reading_taken r.bytes row lun found needs (subst (λ (o : Option Row). takes_row lun o ≡ true) found taken))
+  where
+    of_unit : IsUnit lun → ReadsUnit (numbers_of s) (unit_in s r (Some lun))
+    of_unit (unit, e) =
+        let told = lun_told (numbers_of s) (is ∙ ap Some e) in
+        let same = told.1 in
+        let short = told.0 in
+        subst (λ (l : Lun). ReadsUnit (numbers_of s) (unit_in s r (Some l))) (sym e)
+        (unit_there unit (omega (arith, same, short)))
+
+    of_boot : lun ≡ BootUnit → ReadsUnit (numbers_of s) (unit_in s r (Some lun))
+    of_boot e =
+        let boots : is_boot_read (row_in r) ≡ true = ap is_boot_read found ∙ needs in
+        let there = subst (λ (l : Lun). lacks_unit s r (Some l) ≡ false) e lacks in
+        subst (λ (l : Lun). ReadsUnit (numbers_of s) (unit_in s r (Some l))) (sym e)
+        (boot_there (plain_now s).boot (boot_unit (numbers_of s) (plain_now s).boot) refl
+        (sym (ap (λ b. b && is_none (boot_unit (numbers_of s) (plain_now s).boot)) boots) ∙ there))
 
 -- a READ that the table lets through reads a unit
-reads_unit : {s : State} {r : Request} {c : Cdb} → Reads (operation_in r) → Passed s r c →
+pub reads_unit : {s : State} {r : Request} {c : Cdb} → Reads r.bytes → Passed s r c →
     ReadsUnit (numbers_of s) (unit_of_request s r)
 reads_unit {s} {r} reads p = by (lun_of (numbers_of s) r.lun) refl p.unit p.taken
   where
     by : (x : Option Lun) → lun_of (numbers_of s) r.lun ≡ x → lacks_unit s r x ≡ false → not_taken r x ≡ false →
         ReadsUnit (numbers_of s) (unit_in s r x)
     by None e h k = cc
-    by (Some lun) e h k = lun_there s r lun reads e h (not-false (takes lun (operation_in r)) k)
+    by (Some lun) e h k = lun_there s r lun reads e h (not-false (takes_row lun (row_in r)) k)
 
 -- The blocks
 
@@ -132,7 +139,7 @@ expected_few expected blocks {n} e =
 
 -- each of them is a key of the device
 pub key_read : {s : State} {r : Request} {command : Cdb} {n : ℕ} → n ≡ blocks_of command * 4096 →
-    Reads (operation_in r) → Passed s r command → (i : ℕ) → i < blocks_expected r n →
+    Reads r.bytes → Passed s r command → (i : ℕ) → i < blocks_expected r n →
     IsKey (shape_of_numbers (numbers_of s)) (data_key (unit_or_first (unit_of_request s r)) (address_of command + i))
 key_read {s} {r} {command} {n} size reads p i l =
     subst (λ (u : ℕ). IsKey (shape_of_numbers (numbers_of s)) (data_key u (address_of command + i)))
@@ -168,7 +175,7 @@ KeysOfDevice s unit address n =
     All (λ i. IsKey (shape_of_numbers (numbers_of s)) (data_key unit (address + i))) (below n)
 
 pub keys_read : {s : State} {r : Request} {command : Cdb} {n : ℕ} → n ≡ blocks_of command * 4096 →
-    Reads (operation_in r) → Passed s r command →
+    Reads r.bytes → Passed s r command →
     KeysOfDevice s (unit_or_first (unit_of_request s r)) (address_of command) (blocks_expected r n)
 keys_read {s} {r} {command} {n} size reads p =
     let unit = unit_or_first (unit_of_request s r) in

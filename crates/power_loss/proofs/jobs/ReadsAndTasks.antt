@@ -2,7 +2,7 @@
 use Rattle.power_loss.proofs.Common.{◌≡◌, ℕ, ◌+◌, ◌==◌, ◌≤◌, ◌⊎◌, Bool, true, false, List, Option, Some, None}
 use Rattle.power_loss.proofs.Common.{refl, suc, sym, ap, subst, inl, inr, ⊎_elim, arith, All-filter, All-push, Cell}
 use Rattle.power_loss.proofs.Common.{GroupPage, Mark, MarkPage, Disk, Erasing, Flight, Programming, Reader, Reading}
-use Rattle.power_loss.proofs.Common.{ForTask, ForStep, ForRest, ForNobody, Spot, at_die, Ledger, before_accepted, look}
+use Rattle.power_loss.proofs.Common.{ForTask, ForStep, ForRest, ForNobody, Spot, at_die, Ledger, before_accepted}
 use Rattle.power_loss.proofs.Common.{Claim, Keep, LetGo, LetGoAll, ReadRight, ReadWrong, Release, Acknowledge, WantPage}
 use Rattle.power_loss.proofs.Common.{die_idle, is_for, is_for_task, is_pin_of, without_reader, job_ended, moved}
 use Rattle.power_loss.proofs.Common.{read_right, read_wrong, step_there, MayTake, Mending, Mended, Pin, Plan, Repairing}
@@ -16,7 +16,7 @@ use Rattle.ufs_laws.proofs.jobs.JobsOnTheirDies.{read_here}
 use Rattle.ufs_spec.specs.Moves.{let_go, look_now}
 use Rattle.power_loss.proofs.books.LayerParts.{MarksOf, MendingOf, NeededOf, LookedOf, SourceOf}
 use Rattle.power_loss.proofs.jobs.NoneStale.{stale_stays}
-use Rattle.power_loss.proofs.kept_pages.LookedUpPages.{look_right, look_now_right}
+use Rattle.power_loss.proofs.kept_pages.LookedUpPages.{look_now_right}
 use Rattle.power_loss.proofs.kept_pages.PagesStay.{pins_wanted}
 use Rattle.power_loss.proofs.kept_pages.ReadsStay.{gone_reads, idle_reads, reads_begun, reads_fewer, there_wants}
 use Rattle.power_loss.proofs.accepted_groups.ClaimedSlots.{slots_claimed, slots_fewer}

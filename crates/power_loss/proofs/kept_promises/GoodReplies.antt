@@ -19,18 +19,18 @@ use Rattle.ufs_spec.specs.declared.scsi.Cdb.TheVariants as cdb
 use Rattle.ufs_laws.proofs.lives.AcceptedAndHeldGrow.{accepted_grows}
 use Rattle.ufs_laws.proofs.lives.HeldAlongLives.{life_grows, life_held, task_held}
 use Rattle.power_loss.specs.Promises.{IsAnsweredGood, IsGood, IsHeldWrite, IsTaken, command_message, heard_command}
-use Rattle.power_loss.proofs.calls.CallsKeepTied.{no_fault, operation_is}
+use Rattle.power_loss.proofs.calls.CallsKeepTied.{no_fault, spelled_is}
 use Rattle.power_loss.proofs.lives.EachEventKeeps.{one_event}
 use Rattle.power_loss.proofs.open_tasks.FoundInLists.{found_last, none_found}
 use Rattle.power_loss.proofs.host_commands.OpenedByCommands.{is_free, opened_task}
-use Rattle.power_loss.proofs.host_commands.PassedCommands.{TakenByUnits, passed, unit_told, units_take_10}
+use Rattle.power_loss.proofs.host_commands.PassedCommands.{passed, unit_told, write_changes}
 use Rattle.power_loss.proofs.open_tasks.TaskLists.{found_task, no_task_found, short_fits_at}
 use Rattle.power_loss.proofs.kept_promises.PromisedCommands.{IsMet, KeepsTo, NotGood, OfFlush, OfWrite, Promise}
 use Rattle.power_loss.proofs.kept_promises.PromisedCommands.{TrackedIn, first_of, met_more}
 use Rattle.power_loss.proofs.kept_promises.CallsKeepPromises.{carried_tracks, carries_open, closed, settled_open}
 use Rattle.power_loss.proofs.kept_promises.CallsKeepPromises.{settled_tracks}
 use Rattle.ufs_laws.proofs.exchanges.AbortedTasks.{reply_tag}
-use Rattle.ufs_spec.specs.Refusals.{mended}
+use Rattle.ufs_spec.specs.Refusals.{mended, refused_state}
 use Rattle.ufs_laws.proofs.plain_contents.GroupsOfCommands.{length-groups}
 
 -- The COMMAND
@@ -80,7 +80,7 @@ opened_tracks : (p : Promise) (s : State) (r : Request) → list_any (is_task_of
     first_of p ≤ length s.accepted → IsPromise s r p → (x : Option Status) → refusal s r ≡ x →
     TrackedIn p r.tag [] (refused_or_begun s r x)
 opened_tracks p s r none later is (Some status) e =
-    opens p s r None 0 (Answering status 0) none (refused_bad s r e) later
+    opens p (refused_state s r) r None 0 (Answering status 0) none (refused_bad s r e) later
 opened_tracks p s r none later is None e = is (begun_if_any s r r.cdb) none e refl
 
 command_tracks : (p : Promise) (s : State) (r : Request) → list_any (is_task_of r.tag) s.tasks ≡ false →
@@ -117,14 +117,14 @@ taken_valid {s} {t} {r} v taken = one_event s t (event.Host taken.bytes) (output
 })
 
 -- a flush waits for what was accepted before it
-flush_promises : (s : State) (r : Request) (address blocks : ℕ) → mended s ≡ true →
-    r.cdb ≡ Some (cdb.SynchronizeCache10 address blocks false) → IsPromise s r (OfFlush (length s.accepted))
-flush_promises s r address blocks mends e = λ u none passes is.
+flush_promises : (s : State) (r : Request) → mended s ≡ true →
+    r.cdb ≡ Some (cdb.Flush false) → IsPromise s r (OfFlush (length s.accepted))
+flush_promises s r mends e = λ u none passes is.
     subst (TrackedIn (OfFlush (length s.accepted)) r.tag [])
     (sym (is ∙ (ap (begun_if_any s r) e
-    ∙ ap (λ (b : Bool). with_task s r (Some (cdb.SynchronizeCache10 address blocks false)) 0
+    ∙ ap (λ (b : Bool). with_task s r (Some (cdb.Flush false)) 0
     (if not b then Answering Good 0 else Awaiting (length s.accepted))) mends)))
-    (opens (OfFlush (length s.accepted)) s r (Some (cdb.SynchronizeCache10 address blocks false)) 0
+    (opens (OfFlush (length s.accepted)) s r (Some (cdb.Flush false)) 0
     (Awaiting (length s.accepted)) none (omega arith) (omega arith))
 
 -- before the device is mended nothing was accepted
@@ -136,13 +136,13 @@ none_accepted s v un =
     ∙ ap (λ (gs : List Group). length gs) (drop_all (length s.translation.ledger.groups) s.translation.ledger.groups (omega arith))))
 
 -- a write with FUA gathers its data for its unit
-write_promises : (s : State) (r : Request) (address blocks : ℕ) → r.cdb ≡ Some (cdb.Write10 address blocks true) →
+write_promises : (s : State) (r : Request) (address blocks : ℕ) → r.cdb ≡ Some (cdb.Write address blocks true) →
     1 ≤ blocks → IsCdbIn (Some r.bytes) r.cdb → IsPromise s r (OfWrite (length s.accepted) r.lun address blocks)
 write_promises s r address blocks e some spelled = λ u none passes is.
-    let c : Cdb = cdb.Write10 address blocks true in
+    let c : Cdb = cdb.Write address blocks true in
     let unit = unit_or_first (unit_of_request s r) in
     let pass = passed s r c e passes in
-    let told = unit_told s r c (subst TakenByUnits (sym (operation_is r.cdb c r.bytes spelled e)) units_take_10) pass in
+    let told = unit_told s r c (write_changes r.bytes c (spelled_is r.cdb c r.bytes spelled e) refl) pass in
     let here : unit ≡ r.lun = ap unit_or_first told.is in
     subst (TrackedIn (OfWrite (length s.accepted) r.lun address blocks) r.tag []) (sym (is ∙ ap (begun_if_any s r) e))
     (begins unit here none (blocks == 0) (not_zero some))
@@ -154,12 +154,12 @@ write_promises s r address blocks e some spelled = λ u none passes is.
     not_zero h = grind (arith, nat_tests)
 
     begins : (unit : ℕ) → unit ≡ r.lun → list_any (is_task_of r.tag) s.tasks ≡ false → (b : Bool) → b ≡ false →
-        TrackedIn p r.tag [] (if b then with_task s r (Some (cdb.Write10 address blocks true)) 0 (Answering Good 0)
-        else with_task (with_moves s (Claim blocks ∷ [])) r (Some (cdb.Write10 address blocks true)) (4096 * blocks)
+        TrackedIn p r.tag [] (if b then with_task s r (Some (cdb.Write address blocks true)) 0 (Answering Good 0)
+        else with_task (with_moves s (Claim blocks ∷ [])) r (Some (cdb.Write address blocks true)) (4096 * blocks)
         (Gathering (ForWrite unit address blocks true) [] false))
     begins unit here none true h = absurd (false≢true (sym h))
     begins unit here none false h =
-        opens p (with_moves s (Claim blocks ∷ [])) r (Some (cdb.Write10 address blocks true)) (4096 * blocks)
+        opens p (with_moves s (Claim blocks ∷ [])) r (Some (cdb.Write address blocks true)) (4096 * blocks)
         (Gathering (ForWrite unit address blocks true) [] false) none ((here, refl, refl, refl), refl) (omega arith)
 
 -- GOOD
@@ -233,12 +233,12 @@ answered_kept {p} {s} {t} r {bytes} v a later is =
     let all = carried_tracks p r.tag [] bytes a.begun a.ended a.events a.outputs valid a.carries begins in
     good_kept all.0.tied all.1 a.good a.replied
 
-pub flush_held : (s t u : State) (r : Request) (bytes : List ℕ) (address blocks : ℕ) (es : List Event)
-    (os : List Output) → ValidState s → r.cdb ≡ Some (cdb.SynchronizeCache10 address blocks false) →
+pub flush_held : (s t u : State) (r : Request) (bytes : List ℕ) (es : List Event)
+    (os : List Output) → ValidState s → r.cdb ≡ Some (cdb.Flush false) →
     IsAnsweredGood s r bytes t → Life t es os u → length s.accepted ≤ held u
-flush_held s t u r bytes address blocks es os v e a life = ⊎_elim
+flush_held s t u r bytes es os v e a life = ⊎_elim
     (λ mends.
-    let k = answered_kept r v a (omega arith) (flush_promises s r address blocks mends e) in
+    let k = answered_kept r v a (omega arith) (flush_promises s r mends e) in
     let met = k.met in
     let is = k.is_held in
     let on = life_held t u es os life in
@@ -246,7 +246,7 @@ flush_held s t u r bytes address blocks es os v e a life = ⊎_elim
     (λ un. let none = none_accepted s v.tied un in omega (arith, none)) (cases_Bool (mended s))
 
 pub write_held : (s t u : State) (r : Request) (bytes : List ℕ) (address blocks : ℕ) (es : List Event)
-    (os : List Output) → ValidState s → r.cdb ≡ Some (cdb.Write10 address blocks true) → 1 ≤ blocks →
+    (os : List Output) → ValidState s → r.cdb ≡ Some (cdb.Write address blocks true) → 1 ≤ blocks →
     IsAnsweredGood s r bytes t → Life t es os u → IsHeldWrite s r address blocks bytes u
 write_held s t u r bytes address blocks es os v e some a life =
     let p : Promise = OfWrite (length s.accepted) r.lun address blocks in

@@ -18,6 +18,7 @@ use Rattle.power_loss.proofs.openings.BlocksByAge.{vacancy_at}
 use Rattle.power_loss.proofs.openings.FreeInOrder.{are_found, found_free}
 use Rattle.power_loss.proofs.openings.FreeTogether.{first_blocks}
 use Rattle.power_loss.specs.FreeBlocks.{blocks_by}
+use Rattle.ufs_spec.specs.declared.volatile.TheConstants.Volatile.{NEW}
 
 module _ (n : Numbers) (c : Cells) (within : AreWithin n c) (bad : Spot → Bool) (m : Option Mark)
     (newest : IsNewestMark c m) (kept : ℕ) (is_kept : IsKept c m kept) (base : Plain)
@@ -141,7 +142,7 @@ module _ (n : Numbers) (c : Cells) (within : AreWithin n c) (bad : Spot → Bool
     translation = translation;
     tasks = [];
     shorts = [];
-    power_on = false;
+    volatile = NEW;
     registers = all_empty;
   }
 
@@ -159,7 +160,7 @@ module _ (n : Numbers) (c : Cells) (within : AreWithin n c) (bad : Spot → Bool
       none_accepted = refl;
       no_tasks = refl;
       no_shorts = refl;
-      power_off = refl;
+      fresh = refl;
       no_registers = refl;
     },
   )

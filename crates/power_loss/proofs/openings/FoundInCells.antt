@@ -7,7 +7,7 @@ use Rattle.power_loss.proofs.Common.{AreWithin, Cell, Cells, GroupPage, IsPlace,
 use Rattle.power_loss.proofs.Common.{BlockState, Bad, Closed, Filling, Free, Spot, spot_of, Holds, fence_in, Entry}
 use Rattle.power_loss.proofs.Common.{Name, AreLost, HasName, IsAtMost, IsEntry, IsFirst, IsMendingAt, IsGreatestSeen}
 use Rattle.power_loss.proofs.Common.{StandsAt, Mended, Mending, Unmarked, name_of, Numbers, Fence, Key, Place, Tag}
-use Rattle.power_loss.proofs.Common.{none-some, name_cases, page_not_nothing}
+use Rattle.power_loss.proofs.Common.{name_cases, page_not_nothing}
 use Rattle.std.specs.Prelude.{max, if◌then◌else◌}
 use Rattle.ufs_laws.proofs.deciding.SearchOverPlaces.{Decided, Greatest, greatest, is_place, some_cell, split}
 use Rattle.ufs_laws.proofs.deciding.Connectives.{same_bytes}

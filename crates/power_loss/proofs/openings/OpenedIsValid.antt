@@ -1,5 +1,5 @@
 -- An opened translation layer is valid: the mending that is due, and all of it.
-use Rattle.power_loss.proofs.Common.{◌≡◌, ◌≢◌, ℕ, ◌<◌, ◌≤◌, ◌-◌, All, Bool, List, [], drop, length, Option, Some, None}
+use Rattle.power_loss.proofs.Common.{◌≡◌, ℕ, ◌<◌, ◌≤◌, ◌-◌, All, Bool, List, [], drop, length, Option, Some, None}
 use Rattle.power_loss.proofs.Common.{refl, sym, ap, ◌∙◌, subst, inl, ⊎_elim, arith, drop_all, All-nil, AreWithin, Cells}
 use Rattle.ufs_spec.specs.Openings.{HasNumbers}
 use Rattle.power_loss.proofs.Common.{Mark, MarkPage, Spot, spot_of, IsNewestMark, IsWhole, fence_in, recorded_in}

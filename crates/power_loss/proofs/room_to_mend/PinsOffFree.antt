@@ -1,7 +1,7 @@
 -- While the device is not mended what tasks keep lies in no free block.
 use Rattle.power_loss.proofs.Common.{All, All-map, All-weaker, ◌≡◌, ℕ, ◌<◌, ◌≤◌, Bool, Option, Some, None, get_or, List}
 use Rattle.power_loss.proofs.Common.{map, nat_lt, if_both, refl, sym, ap, ◌∙◌, arith, same_Some, BlockState, Free, Spot}
-use Rattle.power_loss.proofs.Common.{spot_of, InSlot, Looked, Name, OnPage, Unwritten, latest, look, looked_at, subst}
+use Rattle.power_loss.proofs.Common.{spot_of, InSlot, Looked, Name, OnPage, Unwritten, look, looked_at, subst}
 use Rattle.power_loss.proofs.Common.{looked_on, take, ◌-◌, if◌then◌else◌}
 use Rattle.power_loss.proofs.Common.{settled_look, settled_pin, is_pin_of, with_wanted, Pin, Translation, is_mended}
 use Rattle.power_loss.proofs.Common.{Key}

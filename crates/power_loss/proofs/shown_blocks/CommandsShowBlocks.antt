@@ -1,20 +1,20 @@
 -- What is kept for a READ shows the blocks that the READ sends: each call keeps it, from the opening on.
 use Rattle.power_loss.proofs.Common.{◌≡◌, ℕ, ◌+◌, Bool, true, false, if◌then◌else◌, All, List, [], ◌∷◌, ◌++◌, Option}
-use Rattle.power_loss.proofs.Common.{Some, None, fold, length, map, refl, sym, ap, ◌∙◌, subst, inl, inr, arith, ⊎_elim}
+use Rattle.power_loss.proofs.Common.{Some, None, fold, length, map, refl, sym, ap, ◌∙◌, subst, arith}
 use Rattle.power_loss.proofs.Common.{All-weaker, get_or_from_slice_get, slice_get_within, IsKey, below, data_key}
-use Rattle.power_loss.proofs.Common.{Ledger, look, moved, block_at, shape_of_numbers, is_mended, eqb-self}
-use Rattle.power_loss.proofs.MachineWords.{operation_of, address_of, Answering, Deed, ReadBlock, Status, Unread}
+use Rattle.power_loss.proofs.Common.{Ledger, moved, block_at, shape_of_numbers, eqb-self}
+use Rattle.power_loss.proofs.MachineWords.{address_of, Answering, Deed, ReadBlock, Status, Unread}
 use Rattle.power_loss.proofs.MachineWords.{is_task_of, begun, begun_if_any, blocks_expected, command_taken, kept_at}
 use Rattle.power_loss.proofs.MachineWords.{keeps, refused_or_begun, read_begun, read_blocks, sending, unit_or_first}
-use Rattle.power_loss.proofs.MachineWords.{with_task, most_tasks, Request, State, numbers_of, operation_in, plain_now}
-use Rattle.power_loss.proofs.MachineWords.{refusal, unit_of_request, needs_mended, Cdb, IsTied, IsShown, ShowsBlock}
+use Rattle.power_loss.proofs.MachineWords.{with_task, most_tasks, Request, State, numbers_of, plain_now}
+use Rattle.power_loss.proofs.MachineWords.{refusal, unit_of_request, Cdb, IsTied, IsShown, ShowsBlock}
 use Rattle.power_loss.proofs.MachineWords.{ShowsReads, ShowsRight}
 use Rattle.std.proofs.Common.{nat_le}
 use Rattle.std.specs.Prelude.{slice_get}
 use Rattle.ufs_laws.proofs.plain_contents.ListParts.{get_or-made, length-made}
 use Rattle.power_loss.proofs.open_tasks.FoundInLists.{found_last}
 use Rattle.power_loss.proofs.host_commands.OpenedByCommands.{IsFree, IsSpelled, opened_task}
-use Rattle.power_loss.proofs.host_commands.ReadBlocks.{KeysOfDevice, keys_read}
+use Rattle.power_loss.proofs.host_commands.ReadBlocks.{KeysOfDevice, keys_read, reads_in}
 use Rattle.power_loss.proofs.host_commands.PassedCommands.{Passed, passed}
 use Rattle.power_loss.proofs.shown_blocks.LooksShowContents.{look_shows}
 use Rattle.power_loss.proofs.shown_contents.MovesKeepShown.{kept_ledger, kept_pins}
@@ -23,6 +23,8 @@ use Rattle.ufs_laws.proofs.walk.WaysOfCommands.{Beginning, Gathered, Handing, Re
 use Rattle.power_loss.specs.Shown.{ShowsAt}
 use Rattle.power_loss.proofs.Common.{Key, content}
 use Rattle.ufs_spec.specs.Moves.{look_now}
+use Rattle.ufs_spec.specs.Refusals.{needs_blocks, refused_state}
+use Rattle.ufs_spec.specs.CdbFields.{spelled_cdb}
 
 pub shows_if : (b : Bool) (t u : State) → ShowsReads t → ShowsReads u → ShowsReads (if b then t else u)
 shows_if true t u h k = h
@@ -87,16 +89,16 @@ read_shows {s} r command unit address n v free keys h =
     (kept_pins (ShowsRight l tasks) k (kept_at s r.tag unit address) (below m) s.translation old new)
 
 begun_shows : (s : State) (r : Request) (command : Cdb) → IsTied s → IsFree s r.tag → Passed s r command →
-    operation_in r ≡ operation_of command → ShowsReads s →
+    spelled_cdb r.bytes ≡ Some command → ShowsReads s →
     ShowsReads (begun s r (unit_or_first (unit_of_request s r)) command)
-begun_shows s r command v free p op h = begins_by ShowsReads s r unit command one
+begun_shows s r command v free p spells h = begins_by ShowsReads s r unit command one
   where
     unit : ℕ
     unit = unit_or_first (unit_of_request s r)
 
     one : (b : Beginning) → WhyBegun s r unit command b → ShowsReads (begun_as s r command b)
     one (Reading u address n) (unit_is, address_is, size, read) =
-        let reads = ⊎_elim (λ e. inl (op ∙ e)) (λ e. inr (op ∙ e)) read in
+        let reads = reads_in r.bytes command spells (ap needs_blocks read) in
         subst (λ (x : ℕ). ShowsReads (read_begun s r command x address n)) (sym unit_is)
         (subst (λ (x : ℕ). ShowsReads (read_begun s r command unit x n)) (sym address_is)
         (read_shows r command unit (address_of command) n v free
@@ -107,12 +109,12 @@ begun_shows s r command v free p op h = begins_by ShowsReads s r unit command on
 
 opened_shows : {s : State} (r : Request) → IsTied s → IsFree s r.tag → IsSpelled r → (x : Option Status) →
     refusal s r ≡ x → ShowsReads s → ShowsReads (refused_or_begun s r x)
-opened_shows {s} r v free spelled (Some status) e h = opens s r None 0 (Answering status 0) h
+opened_shows {s} r v free spelled (Some status) e h = opens (refused_state s r) r None 0 (Answering status 0) h
 opened_shows {s} r v free spelled None e h = by r.cdb refl
   where
     by : (c : Option Cdb) → r.cdb ≡ c → ShowsReads (begun_if_any s r c)
     by None k = h
-    by (Some command) k = begun_shows s r command v free (passed s r command k e) (spelled command k).0 h
+    by (Some command) k = begun_shows s r command v free (passed s r command k e) (spelled command k) h
 
 pub command_shows : {s : State} (r : Request) → IsTied s → IsFree s r.tag → IsSpelled r → ShowsReads s →
     ShowsReads (command_taken s r)

@@ -9,7 +9,7 @@ use Rattle.power_loss.proofs.Common.{none-some, same_Some, BaseAt, BaseNone, Fir
 use Rattle.power_loss.proofs.Common.{IsPlainMark, book, Valid, drop_all, slice_get_within}
 use Rattle.power_loss.proofs.MachineWords.{State, numbers_of, plain_now, IsTied, IsShown}
 use Rattle.std.specs.Prelude.{if◌then◌else◌}
-use Rattle.ufs_spec.specs.Ledger.{entry_of, latest_durable, latest_in}
+use Rattle.ufs_spec.specs.Ledger.{entry_of, latest_durable}
 use Rattle.ufs_spec.proofs.Equalities.{key_self, key_told}
 use Rattle.ufs_laws.proofs.plain_contents.GroupsOfCommands.{many_commands, put_groups-same as put_groups_same}
 use Rattle.power_loss.specs.Shown.{IsPageOf}

@@ -32,7 +32,7 @@ use Rattle.ufs_laws.proofs.walk.Happenings.{code_of_query, is_asked as no_offenc
 use Rattle.ufs_laws.proofs.walk.WaysOfData.{Accepted, AcceptsFrames, Completion, HasResult, ReadsArea, Told}
 use Rattle.ufs_laws.proofs.walk.WaysOfData.{WhyCompleted}
 use Rattle.ufs_laws.proofs.walk.WaysOfData.{completed, completes_by}
-use Rattle.power_loss.proofs.calls.CallsKeepTied.{fields_fit, operation_is}
+use Rattle.power_loss.proofs.calls.CallsKeepTied.{spelled_is}
 use Rattle.power_loss.specs.WaitingFrames.{AsksInside}
 use Rattle.power_loss.proofs.open_tasks.FoundInLists.{found_is}
 use Rattle.power_loss.proofs.host_commands.OpenedByCommands.{is_free}
@@ -42,7 +42,7 @@ use Rattle.power_loss.proofs.shown_blocks.PinsShowBlocks.{SameBlocks, Show, abor
 use Rattle.power_loss.proofs.shown_blocks.PinsShowBlocks.{filter_passes, found_kept, set_goes, show_goes, show_known}
 use Rattle.power_loss.proofs.shown_blocks.PinsShowBlocks.{request_goes, show_left}
 use Rattle.power_loss.proofs.shown_blocks.CommandsShowBlocks.{command_shows, made_shows, shows_if}
-use Rattle.power_loss.proofs.Common.{Key, IsKey, All, ◌<◌, ◌&&◌, ◌∷◌, below, content, is_mended}
+use Rattle.power_loss.proofs.Common.{Key, IsKey, All, ◌<◌, ◌&&◌, ◌∷◌, below, content}
 use Rattle.power_loss.proofs.Common.{shape_of_numbers}
 use Rattle.power_loss.proofs.MachineWords.{short_reply, with_short, AreBytes, ReadingArea, RpmbRequest, is_asked_in}
 use Rattle.power_loss.proofs.MachineWords.{is_asked_of, with_request}
@@ -184,7 +184,7 @@ pub heard_shows : {s : State} (m : Message) (c : _) → IsTied s → MayCome s (
 heard_shows {s} (message.Command flags lun tag expected taken) c v may free h =
     command_shows (record { flags = flags; lun = lun; tag = tag; expected = expected; bytes = taken; cdb = c }) v
     (is_free s tag (opens_short s (message.Command flags lun tag expected taken)) free)
-    (λ command e. (operation_is c command taken may.1.2 e, fields_fit c command taken may.1.2 e)) h
+    (λ command e. spelled_is c command taken may.1.2 e) h
 heard_shows {s} (message.DataOut lun tag offset «data») c v may free h =
     data_heard_shows tag lun offset (task_of tag s.tasks) «data».items v refl
     (no_offence (is_asked_of (task_of tag s.tasks) lun offset (length «data».items)) free) may.1.0.0.3.2 h

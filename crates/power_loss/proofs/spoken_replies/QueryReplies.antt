@@ -24,6 +24,7 @@ use Rattle.power_loss.proofs.MachineWords.{AreBytes, UnitSpec, plain_now}
 use Rattle.ufs_laws.proofs.pages.SettingsBodies.{flag_fits}
 use Rattle.ufs_laws.proofs.exchanges.ListedUnits.{seen_bytes}
 use Rattle.ufs_spec.specs.Messages.{IsByte, IsMessage}
+use Rattle.ufs_spec.specs.declared.volatile.Volatile.{Volatile}
 
 -- A QUERY REQUEST
 
@@ -117,11 +118,11 @@ told_is n q few units = by (q.asked.opcode == 1) refl
         )
     by false e = ((omega arith, bytes-nil), inr refl)
 
-value_is : (p : Plain) (on : Bool) (q : Query) → p.boot ≤ 2 → value_told p on q < 2 ^ 32
-value_is p on q few = if_both (λ n. n < 2 ^ 32) (is_among (3 ∷ 4 ∷ []) q.asked.opcode) (omega arith)
+value_is : (p : Plain) (volatile : Volatile) (q : Query) → p.boot ≤ 2 → value_told p volatile q < 2 ^ 32
+value_is p volatile q few = if_both (λ n. n < 2 ^ 32) (is_among (3 ∷ 4 ∷ []) q.asked.opcode) (omega arith)
     (if_both (λ n. n < 2 ^ 32) (is_among (5 ∷ 6 ∷ []) q.asked.opcode)
     (if_both (λ n. n < 2 ^ 32) (q.asked.idn == 0x02) (let f = flag_fits p.permanent in omega arith)
-    (if_both (λ n. n < 2 ^ 32) (q.asked.idn == 0x03) (let f = flag_fits on in omega arith) (omega arith))) (omega arith))
+    (if_both (λ n. n < 2 ^ 32) (q.asked.idn == 0x03) (let f = flag_fits volatile.power_on in omega arith) (omega arith))) (omega arith))
 
 -- a QUERY REQUEST in its ranges
 pub record IsAskedWell (tag : ℕ) (q : Query) : Type 0 where
@@ -143,16 +144,16 @@ failed_is tag q code h is = (
   inr refl,
 )
 
-pub done_is : (n : Numbers) (p : Plain) (on : Bool) (tag : ℕ) (q : Query) → IsAskedWell tag q → FewUnits n →
+pub done_is : (n : Numbers) (p : Plain) (volatile : Volatile) (tag : ℕ) (q : Query) → IsAskedWell tag q → FewUnits n →
     p.boot ≤ 2 →
-    IsMessage (query_done n p on tag q)
-done_is n p on tag q h units few =
+    IsMessage (query_done n p volatile tag q)
+done_is n p volatile tag q h units few =
     let told = told_is n q h.index units in
     let long = told.0.0 in (
       h.tag_is,
       h.function_is,
       omega arith,
-      (h.opcode, h.idn, h.index, h.selector, omega arith, value_is p on q few),
+      (h.opcode, h.idn, h.index, h.selector, omega arith, value_is p volatile q few),
       omega arith,
       told.0.1,
       ⊎_elim (λ e. inl (e, refl)) (λ e. inr e) told.1,

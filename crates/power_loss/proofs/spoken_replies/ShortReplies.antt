@@ -16,10 +16,10 @@ use Rattle.ufs_laws.proofs.plain_contents.CommandsKeepPlain.{kept_plain}
 use Rattle.ufs_laws.proofs.walk.Happenings.{code_of_query, setting_short}
 use Rattle.ufs_spec.specs.Queries.{Query}
 use Rattle.ufs_spec.specs.Queries.{setting_of}
-use Rattle.ufs_spec.specs.Queries.{sets_power_on}
+use Rattle.ufs_spec.specs.Queries.{volatile_after}
 use Rattle.ufs_spec.specs.QueryAnswers.{query_done, query_failed, query_heard, query_passed}
 use Rattle.power_loss.specs.WaitingFrames.{TasksSpeak}
-use Rattle.power_loss.proofs.Common.{◌&&◌, ◌||◌, apply, config_tests}
+use Rattle.power_loss.proofs.Common.{◌&&◌, apply, config_tests}
 use Rattle.power_loss.proofs.Common.{and_parts, false≢true, not, ranges}
 use Rattle.power_loss.proofs.MachineWords.{Command, IsTied, ValidState, plain_now}
 use Rattle.power_loss.proofs.host_commands.AcceptedCommands.{plain_tied}
@@ -87,15 +87,15 @@ query_speaks s tag q v is h = by ((code_of_query s q == 0x00) && not (q.asked.op
 
     passed : (o : Option Command) → setting_of q ≡ o → (code_of_query s q == 0x00) ≡ true →
         (q.asked.opcode == 0) ≡ false → ShortsSpeak (query_passed s tag q o)
-    passed None e code some = one_speaks s tag (query_done (numbers_of s) (plain_now s) (s.power_on || sets_power_on q)
-        tag q) (done_is (numbers_of s) (plain_now s) (s.power_on || sets_power_on q) tag q is units
+    passed None e code some = one_speaks s tag (query_done (numbers_of s) (plain_now s) (volatile_after s.volatile q)
+        tag q) (done_is (numbers_of s) (plain_now s) (volatile_after s.volatile q) tag q is units
         (plain_tied v).boot_bound) h
     passed (Some c) e code some =
         let told = setting_is s q c code some e in
         let plain = kept_plain (plain_now s) c (plain_tied v) told.is told.can in
         All-append ShortSpeaks s.shorts (setting_short s tag q c ∷ []) h
         (All-cons ShortSpeaks (setting_short s tag q c) [] (record {
-          reply = done_is (numbers_of s) (apply (plain_now s) c) s.power_on tag q is units plain.boot_bound;
+          reply = done_is (numbers_of s) (apply (plain_now s) c) s.volatile tag q is units plain.boot_bound;
           locked_reply = failed_is tag q 0xFF is (omega arith);
         }) (All-nil ShortSpeaks))
 

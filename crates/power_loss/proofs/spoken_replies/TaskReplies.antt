@@ -1,10 +1,10 @@
 -- In a state that is tied to its dies and commands each call keeps what tasks need for their replies.
-use Rattle.power_loss.proofs.Common.{◌≡◌, ◌⊎◌, ◌+◌, Bool, List, [], ◌∷◌, sym, ◌∙◌, subst, inl, inr, IsKey, data_key}
+use Rattle.power_loss.proofs.Common.{◌≡◌, ◌+◌, Bool, List, [], ◌∷◌, sym, ap, ◌∙◌, subst, IsKey, data_key}
 use Rattle.power_loss.proofs.Common.{Array, Spot, Shape, shape_of_numbers, Numbers, shape_after}
-use Rattle.power_loss.proofs.MachineWords.{Every, IsSpoken, TaskSpeaks, address_of, operation_of, read_10, read_6}
+use Rattle.power_loss.proofs.MachineWords.{Every, IsSpoken, TaskSpeaks, address_of}
 use Rattle.power_loss.proofs.MachineWords.{IsOpened, Leads, Life, Event, Output, Allowed, Answer, Call, observe}
-use Rattle.power_loss.proofs.MachineWords.{unit_or_first, Request, State, numbers_of, operation_in, plain_now}
-use Rattle.power_loss.proofs.MachineWords.{unit_of_request, Cdb, IsTied, ValidState}
+use Rattle.power_loss.proofs.MachineWords.{unit_or_first, State, numbers_of, plain_now}
+use Rattle.power_loss.proofs.MachineWords.{unit_of_request, IsTied, ValidState}
 use Rattle.ufs_laws.proofs.plain_contents.CommandsKeepPlain.{all_kept_plain}
 use Rattle.ufs_laws.proofs.exchanges.TasksSpeak.{FewUnits, FramesFit, ReadsFit, SetsOne, SetsRequest, speaks_law}
 use Rattle.ufs_laws.proofs.pages.ByteLists.{bytes-append, bytes-nil}
@@ -17,21 +17,16 @@ use Rattle.power_loss.proofs.MachineWords.{AreBytes}
 use Rattle.ufs_laws.proofs.plain_contents.PlainFromContents.{content_is_block}
 use Rattle.ufs_laws.proofs.walk.TaskLaws.{Any, any_asks, tasks_kept}
 use Rattle.ufs_laws.proofs.exchanges.SpokenCalls.{spoken}
-use Rattle.power_loss.proofs.calls.CallsKeepTied.{operation_is}
+use Rattle.power_loss.proofs.calls.CallsKeepTied.{spelled_is}
 use Rattle.power_loss.proofs.host_commands.PassedCommands.{Passed, passed}
-use Rattle.power_loss.proofs.host_commands.ReadBlocks.{Reads, key_read}
+use Rattle.power_loss.proofs.host_commands.ReadBlocks.{key_read, reads_in}
+use Rattle.ufs_spec.specs.Refusals.{needs_blocks}
 use Rattle.power_loss.proofs.open_tasks.TaskLists.{each_at_tag, each_set}
 
 sets_one : (s : State) → IsTied s → SetsOne s
 sets_one s v task deed found all p = each_set TaskSpeaks task.tag deed s.tasks v.tasks.tasks_differ found p all
 
 -- What is read
-
--- a READ has the operation code of READ(6) or READ(10)
-reads_in : (r : Request) (c : Cdb) → operation_in r ≡ operation_of c → (operation_of c ≡ read_6)
-    ⊎ (operation_of c ≡ read_10) → Reads (operation_in r)
-reads_in r c op (inl six) = inl (op ∙ six)
-reads_in r c op (inr ten) = inr (op ∙ ten)
 
 -- of the unit that is read, also if that is the boot unit
 reads_fit : (s : State) → IsTied s → ReadsFit s
@@ -44,11 +39,9 @@ reads_fit s v r c n is e refused reads size i low =
     p : Passed s r c
     p = passed s r c e refused
 
-    op : operation_in r ≡ operation_of c
-    op = operation_is r.cdb c r.bytes is.1.2 e
-
     key : IsKey (shape_of_numbers (numbers_of s)) (data_key (unit_or_first (unit_of_request s r)) (address_of c + i))
-    key = key_read size (reads_in r c op reads) p i low
+    key =
+        key_read size (reads_in r.bytes c (spelled_is r.cdb c r.bytes is.1.2 e) (ap needs_blocks reads)) p i low
 
 -- What waits in registers
 

@@ -1,6 +1,6 @@
 -- A page that a life writes shows the cell that it is meant to be.
 use Rattle.power_loss.proofs.Common.{◌≡◌, ℕ, suc, ◌-◌, ◌*◌, ◌<◌, ◌≤◌, ◌^◌, true, false, List, [], ◌∷◌, ◌++◌, All}
-use Rattle.power_loss.proofs.Common.{Option, Some, None, length, map, get_or, replicate, refl, sym, ap, ◌∙◌, ⊎_elim}
+use Rattle.power_loss.proofs.Common.{Option, Some, None, length, map, get_or, refl, sym, ap, ◌∙◌, ⊎_elim}
 use Rattle.power_loss.proofs.Common.{arith, nat_le, option_and_then, flat_map, get_or-map, length-append, length-map}
 use Rattle.power_loss.proofs.Common.{leb-true, slice_get_within, GroupPage, IsCell, IsFence, Mark, MarkPage, mark_tag}
 use Rattle.power_loss.proofs.Common.{page_of, Group, IsArea, IsBlock, IsData, IsKey, IsSettings, Entry, Name, entry_in}

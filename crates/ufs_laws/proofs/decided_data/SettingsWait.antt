@@ -27,7 +27,7 @@ waiting s tag q c =
     record {
       tag = tag;
       awaits = Some (length s.accepted + 1);
-      reply = query_done (numbers_of s) (apply (plain_now s) c) s.power_on tag q;
+      reply = query_done (numbers_of s) (apply (plain_now s) c) s.volatile tag q;
       locked_reply = query_failed tag q 0xFF;
     }
 

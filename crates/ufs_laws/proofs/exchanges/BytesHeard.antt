@@ -5,11 +5,9 @@ use Rattle.std.proofs.Math.Decide.{dec_le, dec_lt, ℕ_discrete}
 use Rattle.ufs_laws.proofs.deciding.Connectives.{are_bytes, dec_and, dec_four, dec_implies, dec_seven, dec_six}
 use Rattle.ufs_laws.proofs.deciding.Connectives.{dec_or, dec_three, same_bytes}
 use Rattle.ufs_laws.proofs.exchanges.HeardOnce.{no_fault, one_fault}
-use Rattle.ufs_spec.proofs.CdbsBack as cdbs
-use Rattle.ufs_spec.proofs.Facts.{false≢true, same_Some}
+use Rattle.ufs_spec.proofs.Facts.{false≢true}
 use Rattle.ufs_spec.proofs.ReadBack.{again, message_of, one_message}
-use Rattle.ufs_spec.specs.CdbFields.{named_cdb}
-use Rattle.ufs_spec.specs.Cdbs.{IsCdb, SpellsCdb, cdb_bytes}
+use Rattle.ufs_spec.specs.CdbFields.{spelled_cdb}
 use Rattle.ufs_spec.specs.Machine.{Faulty, Heard, IsCdbIn, IsHeard, Spelled, cdb_of}
 use Rattle.ufs_spec.specs.Messages.{IsByte, IsMessage, IsQuery, IsSense, IsTransferred, Spells, code_of, host_fault_of}
 use Rattle.ufs_spec.specs.Messages.{spelling}
@@ -19,8 +17,6 @@ use Rattle.ufs_spec.specs.declared.messages.Asked.{Asked}
 use Rattle.ufs_spec.specs.declared.messages.Message.{Message}
 use Rattle.ufs_spec.specs.declared.messages.Message.TheVariants as message
 use Rattle.ufs_spec.specs.declared.scsi.Cdb.{Cdb}
-use Rattle.ufs_spec.specs.declared.scsi.Cdb.TheVariants as cdb
-use Rattle.ufs_spec.specs.Plain.{regions}
 
 -- ## What can be decided
 
@@ -72,49 +68,18 @@ is_message (message.QueryResponse tag function response asked size value «data�
     (are_bytes «data».items)
     (dec_or (dec_and (ℕ_discrete asked.opcode 0x01) (ℕ_discrete response 0x00)) (same_bytes «data».items []))
 
--- whether its numbers fit their fields
-is_cdb : (c : Cdb) → Dec (IsCdb c)
-is_cdb (cdb.RequestSense allocation) = dec_lt allocation (2 ^ 8)
-is_cdb (cdb.Read6 address blocks) = dec_and (dec_lt address (2 ^ 21)) (dec_lt blocks (2 ^ 8))
-is_cdb (cdb.Write6 address blocks) = dec_and (dec_lt address (2 ^ 21)) (dec_lt blocks (2 ^ 8))
-is_cdb (cdb.Inquiry allocation) = dec_lt allocation (2 ^ 16)
-is_cdb (cdb.Read10 address blocks forced) = dec_and (dec_lt address (2 ^ 32)) (dec_lt blocks (2 ^ 16))
-is_cdb (cdb.Write10 address blocks forced) = dec_and (dec_lt address (2 ^ 32)) (dec_lt blocks (2 ^ 16))
-is_cdb (cdb.SynchronizeCache10 address blocks immediate) = dec_and (dec_lt address (2 ^ 32)) (dec_lt blocks (2 ^ 16))
-is_cdb (cdb.Unmap list) = dec_lt list (2 ^ 16)
-is_cdb (cdb.ReportLuns select allocation) = dec_and (dec_le select 2) (dec_lt allocation (2 ^ 32))
-is_cdb (cdb.SecurityIn region length) = dec_and (dec_lt region regions) (dec_lt length (2 ^ 32))
-is_cdb (cdb.SecurityOut region length) = dec_and (dec_lt region regions) (dec_lt length (2 ^ 32))
-is_cdb command = yes tt
-
 -- ## What bytes spell
 
 spells : (m : Message) (bytes : List ℕ) → Dec (Spells m bytes)
 spells m bytes = dec_and (is_message m) (same_bytes bytes (spelling m))
 
-spells_cdb : (c : Cdb) (bytes : List ℕ) → Dec (SpellsCdb c bytes)
-spells_cdb c bytes = dec_and (is_cdb c) (same_bytes bytes (cdb_bytes c))
-
 -- what bytes spell is what their fields name
 spelled_named : (m : Message) (bytes : List ℕ) → Spells m bytes → message_of (code_of bytes) bytes ≡ m
 spelled_named m bytes h = ap (λ (b : List ℕ). message_of (code_of b) b) h.1 ∙ again m h.0
 
-cdb_named : (c : Cdb) (bytes : List ℕ) → SpellsCdb c bytes → named_cdb bytes ≡ Some c
-cdb_named c bytes h = ap named_cdb h.1 ∙ cdbs.again c h.0
-
 cdb_in : (o : Option (List ℕ)) → (c : Option Cdb) × IsCdbIn o c
 cdb_in None = (None, refl)
-cdb_in (Some bytes) = by (named_cdb bytes) refl
-  where
-    checked : (c : Cdb) → named_cdb bytes ≡ Some c → Dec (SpellsCdb c bytes) →
-        (c : Option Cdb) × IsCdbIn (Some bytes) c
-    checked c e (yes h) = (Some c, h)
-    checked c e (no n) =
-        (None, λ d h. n (subst (λ (x : Cdb). SpellsCdb x bytes) (same_Some d c (sym (cdb_named d bytes h) ∙ e)) h))
-
-    by : (o : Option Cdb) → named_cdb bytes ≡ o → (c : Option Cdb) × IsCdbIn (Some bytes) c
-    by None e = (None, λ d h. let other : None ≡ Some d = sym e ∙ cdb_named d bytes h in cc)
-    by (Some c) e = checked c e (spells_cdb c bytes)
+cdb_in (Some bytes) = (spelled_cdb bytes, refl)
 
 -- ## What bytes are heard as
 
@@ -140,10 +105,7 @@ is_heard bytes = by (host_fault_of bytes) refl
 
 one_taken : (o : Option (List ℕ)) (c d : Option Cdb) → IsCdbIn o c → IsCdbIn o d → c ≡ d
 one_taken None c d h k = h ∙ sym k
-one_taken (Some bytes) None None h k = refl
-one_taken (Some bytes) None (Some d) h k = absurd (h d k)
-one_taken (Some bytes) (Some c) None h k = absurd (k c h)
-one_taken (Some bytes) (Some c) (Some d) h k = ap Some (cdbs.one_cdb c d h.0 k.0 (sym h.1 ∙ k.1))
+one_taken (Some bytes) c d h k = h ∙ sym k
 
 pub one_spelled : (bytes : List ℕ) (m n : Message) (c d : Option Cdb) → IsHeard bytes (Spelled m c) →
     IsHeard bytes (Spelled n d) → (m ≡ n) × (c ≡ d)

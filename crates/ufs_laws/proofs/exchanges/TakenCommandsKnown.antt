@@ -2,7 +2,7 @@
 use Rattle.std.proofs.Common.{◌≡◌, ◌≢◌, ℕ, ◌+◌, ◌==◌, Bool, true, false, if◌then◌else◌, List, [], ◌∷◌, ◌++◌}
 use Rattle.std.proofs.Common.{Option, Some, None, refl, sym, ap, ◌∙◌, subst, arith}
 use Rattle.std.specs.List.{flat_map}
-use Rattle.std.specs.Prelude.{length, slice_get, slice_index}
+use Rattle.std.specs.Prelude.{length, slice_get}
 use Rattle.ufs_laws.proofs.walk.WaysOfCommands.{Answered, Beginning, Gathered, Handing, Reading, Telling, Waiting}
 use Rattle.ufs_laws.proofs.walk.WaysOfCommands.{WhyBegun, begins_by, begun_as}
 use Rattle.ufs_laws.proofs.walk.WaysOfData.{IsAnswerOfData, IsGood, IsOutOfRange, IsOutOfSequence, IsWriteError}
@@ -14,18 +14,19 @@ use Rattle.ufs_spec.specs.Cells.{Array}
 use Rattle.ufs_spec.specs.Disk.{Spot}
 use Rattle.ufs_spec.specs.Lives.{IsOpened}
 use Rattle.ufs_spec.specs.declared.configs.Numbers.{Numbers}
-use Rattle.ufs_spec.specs.Cdbs.{carried, operation_of}
+use Rattle.ufs_spec.specs.CdbFields.{kind_of, row_of}
+use Rattle.ufs_spec.specs.Cdbs.{carried}
 use Rattle.ufs_spec.specs.Exchanges.{Answering, Awaiting, CheckCondition, Deed, Gathering, Good, ReadBlock, ReadingArea}
 use Rattle.ufs_spec.specs.Exchanges.{Sending, Status, Task, check, invalid_field, invalid_operation, no_unit}
 use Rattle.ufs_spec.specs.Exchanges.{write_error}
 use Rattle.ufs_spec.specs.Machine.{Answer, Call, IsCdbIn, begun, blocks_expected, data_begun, deed_after, observe}
 use Rattle.ufs_spec.specs.Machine.{read_begun, sending_bytes, read_blocks, sending, unit_or_first, with_block, Allowed}
-use Rattle.ufs_spec.specs.Messages.{IsAmong}
 use Rattle.ufs_spec.specs.Refusals.{Lun, Request, State, first_line, lacks_unit, lines_after, lun_of, not_taken}
-use Rattle.ufs_spec.specs.Refusals.{numbers_of, operation_in, operations_of, refusal, unit_of_request}
+use Rattle.ufs_spec.specs.Refusals.{numbers_of, refusal, row_in, takes, takes_row, unit_of_request}
+use Rattle.ufs_spec.specs.declared.operations.Row.{Row}
 use Rattle.ufs_spec.specs.declared.scsi.Cdb.{Cdb}
 use Rattle.ufs_spec.specs.declared.scsi.Cdb.TheVariants as cdb
-use Rattle.ufs_spec.proofs.CdbsBack.{first_byte}
+use Rattle.ufs_spec.proofs.CommandTable.{row_behind}
 use Rattle.ufs_laws.proofs.exchanges.DeedLaws.{IsDeedLaw, filled_keeps, goes, locks, read_keeps, reads, set_keeps}
 use Rattle.ufs_laws.proofs.exchanges.DeedLaws.{set_request_keeps}
 
@@ -54,17 +55,17 @@ past s r e =
 
 -- the unit is there, and takes the operation code
 operation_taken : (s : State) (r : Request) → Past s r →
-    (unit : Lun) × (lun_of (numbers_of s) r.lun ≡ Some unit) × IsAmong (operations_of unit) (operation_in r)
+    (unit : Lun) × (lun_of (numbers_of s) r.lun ≡ Some unit) × (takes_row unit (row_in r) ≡ true)
 operation_taken s r p = by (lun_of (numbers_of s) r.lun) refl p.there p.taken
   where
     by : (o : Option Lun) → lun_of (numbers_of s) r.lun ≡ o → lacks_unit s r o ≡ false → not_taken r o ≡ false →
-        (unit : Lun) × (lun_of (numbers_of s) r.lun ≡ Some unit) × IsAmong (operations_of unit) (operation_in r)
+        (unit : Lun) × (lun_of (numbers_of s) r.lun ≡ Some unit) × (takes_row unit (row_in r) ≡ true)
     by None same lacks taken = cc
     by (Some unit) same lacks taken = (unit, same, not-false _ taken)
 
 pub passes : (s : State) (r : Request) → IsRequest r → refusal s r ≡ None →
-    (unit : Lun) × (c : Cdb) × (lun_of (numbers_of s) r.lun ≡ Some unit) × (r.cdb ≡ Some c)
-    × IsAmong (operations_of unit) (operation_of c)
+    (unit : Lun) × (row : Row) × (c : Cdb) × (lun_of (numbers_of s) r.lun ≡ Some unit) × (row_of r.bytes ≡ Some row)
+    × (takes unit row ≡ true) × (r.cdb ≡ Some c) × (row.kind ≡ kind_of c)
 passes s r is e = by r.cdb refl is.1.2
   where
     p : Past s r
@@ -74,15 +75,22 @@ passes s r is e = by r.cdb refl is.1.2
     no_line k = cc
 
     by : (o : Option Cdb) → r.cdb ≡ o → IsCdbIn (Some r.bytes) o →
-        (unit : Lun) × (c : Cdb) × (lun_of (numbers_of s) r.lun ≡ Some unit) × (r.cdb ≡ Some c)
-        × IsAmong (operations_of unit) (operation_of c)
+        (unit : Lun) × (row : Row) × (c : Cdb) × (lun_of (numbers_of s) r.lun ≡ Some unit)
+        × (row_of r.bytes ≡ Some row) × (takes unit row ≡ true) × (r.cdb ≡ Some c) × (row.kind ≡ kind_of c)
     by None same spells = absurd
         (no_line (subst (λ (o : Option Cdb). first_line (lines_after s r o) ≡ None) same p.later))
     by (Some c) same spells =
-        let operation : operation_in r ≡ operation_of c = ap (λ (b : List ℕ). slice_index b 0) spells.1
-        ∙ first_byte c in
-        let takes = operation_taken s r p in
-        (takes.0, c, takes.1, same, subst (IsAmong (operations_of takes.0)) operation takes.2)
+        let its = row_behind r.bytes c (sym spells) in
+        let here = operation_taken s r p in (
+          here.0,
+          its.row,
+          c,
+          here.1,
+          its.found,
+          subst (λ (o : Option Row). takes_row here.0 o ≡ true) its.found here.2,
+          same,
+          its.kind_is,
+        )
 
 -- ## What begins
 
@@ -180,7 +188,7 @@ goes_known : (c : Option Cdb) (task : Task) (before deed : Deed) → IsKnownTask
     deed_after task before ≡ Some deed → IsKnownDeed deed
 goes_known (Some command) task before deed h e = goes IsKnownDeed task (known_deeds (Some command) task) before deed h e
 goes_known None task (Answering status carried) deed h e = absurd (none-some deed e)
-goes_known None task before deed h e = goes IsKnownDeed task (known_deeds (Some cdb.TestUnitReady) task) before deed h e
+goes_known None task before deed h e = goes IsKnownDeed task (known_deeds (Some cdb.Nothing) task) before deed h e
 
 -- data are answered GOOD, or with an error that is another one
 answer_known : (n : ℕ) (status : Status) → IsAnswerOfData status → IsKnownDeed (Answering status n)

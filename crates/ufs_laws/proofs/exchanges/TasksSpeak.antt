@@ -1,5 +1,5 @@
 -- Each task that a call opens or changes fits what it needs for its replies.
-use Rattle.std.proofs.Common.{◌≡◌, ◌≢◌, ◌⊎◌, ℕ, zero, suc, ◌+◌, ◌-◌, ◌*◌, ◌≤◌, ◌<◌, ◌^◌, ◌/◌, ◌%◌, ◌==◌, Bool, true}
+use Rattle.std.proofs.Common.{◌≡◌, ◌≢◌, ℕ, zero, suc, ◌+◌, ◌-◌, ◌*◌, ◌≤◌, ◌<◌, ◌^◌, ◌/◌, ◌%◌, ◌==◌, Bool, true}
 use Rattle.std.proofs.Common.{false, min, if◌then◌else◌, List, [], ◌∷◌, ◌++◌, length, map, get_or, Option, Some, None}
 use Rattle.std.proofs.Common.{refl, sym, ap, ◌∙◌, subst, arith}
 use Rattle.byteorder.specs.Endian.{big_bytes}
@@ -10,7 +10,7 @@ use Rattle.std.proofs.lemmas.Option.{get_or_from_slice_get, slice_get_within}
 use Rattle.ufs_laws.proofs.pages.ByteLists.{bytes-append, bytes-cons, bytes-number, bytes-take, bytes-zeros}
 use Rattle.ufs_laws.proofs.plain_contents.ListParts.{get_or-made, length-made}
 use Rattle.ufs_laws.proofs.walk.WaysOfCommands.{Answered, Beginning, Gathered, Handing, IsTold, Reading, Telling}
-use Rattle.ufs_laws.proofs.walk.WaysOfCommands.{TellsCapacity, TellsSense, TellsUnit, TellsUnits, Waiting, WhyBegun}
+use Rattle.ufs_laws.proofs.walk.WaysOfCommands.{Waiting, WhyBegun}
 use Rattle.ufs_laws.proofs.walk.WaysOfCommands.{begins_by, begun_as, command_few}
 use Rattle.ufs_laws.proofs.walk.WaysOfData.{IsAnswerOfData, IsGood, IsOutOfRange, IsOutOfSequence, IsWriteError}
 use Rattle.ufs_laws.proofs.walk.WaysOfData.{IsWrongField, answer_one}
@@ -20,18 +20,23 @@ use Rattle.ufs_laws.proofs.walk.TaskLaws.{Any, IsTaskLaw, OneMore, task_for}
 use Rattle.ufs_laws.specs.Exchange.{Every, IsRequest}
 use Rattle.ufs_laws.specs.Replies.{DeedSpeaks, IsStatus, TaskSpeaks}
 use Rattle.std.specs.List.{flat_map}
-use Rattle.ufs_spec.specs.Begins.{frames_begun}
+use Rattle.ufs_spec.specs.Begins.{frames_begun, told_bytes}
 use Rattle.ufs_spec.specs.FrameRequests.{with_request}
-use Rattle.ufs_spec.specs.Identities.{inquiry_bytes, luns_bytes}
-use Rattle.ufs_spec.specs.Refusals.{is_too_long, lacks_region}
+use Rattle.ufs_spec.specs.Identities.{luns_bytes}
+use Rattle.ufs_spec.specs.CdbFields.{kind_of}
+use Rattle.ufs_spec.specs.Refusals.{has_wrong_list, is_too_long, lacks_region}
+use Rattle.ufs_spec.specs.declared.operations.Kind.TheVariants as kind
+use Rattle.ufs_spec.specs.declared.operations.Told.{Told}
+use Rattle.ufs_spec.specs.declared.operations.Told.TheVariants as told
 use Rattle.ufs_spec.specs.declared.scsi.Cdb.TheVariants as cdb
 use Rattle.ufs_spec.proofs.Facts.{eqb-false, ltb-true, same_Some}
-use Rattle.ufs_spec.specs.Cdbs.{IsCdb, address_of, blocks_of, operation_of, read_10, read_6}
+use Rattle.ufs_spec.specs.Cdbs.{address_of, blocks_of}
 use Rattle.ufs_spec.specs.Exchanges.{Answering, Awaiting, Deed, Gathering, Good, ReadBlock, ReadState, Sending, Status}
-use Rattle.ufs_spec.specs.Exchanges.{Task, SendingBytes, Unread, bytes_sent, invalid_field, invalid_operation, no_unit}
+use Rattle.ufs_spec.specs.Exchanges.{Task, SendingBytes, Unread, bytes_sent, invalid_field, invalid_operation}
+use Rattle.ufs_spec.specs.Exchanges.{list_length_error, no_unit}
 use Rattle.ufs_spec.specs.Exchanges.{ReadingArea, RpmbRequest, task_of, with_deed, write_error}
 use Rattle.ufs_spec.specs.Keys.{IsBlock, below}
-use Rattle.ufs_spec.specs.Machine.{IsCdbIn, begun, blocks_expected, capacity_bytes, data_begun, deed_locked, deed_read}
+use Rattle.ufs_spec.specs.Machine.{begun, blocks_expected, capacity_bytes, data_begun, deed_locked, deed_read}
 use Rattle.ufs_spec.specs.Machine.{no_sense, read_begun, read_blocks, sending, sending_bytes, set_state, unit_or_first}
 use Rattle.ufs_spec.specs.Machine.{with_block}
 use Rattle.ufs_spec.specs.Messages.{AreBytes, zeros}
@@ -157,7 +162,7 @@ read_speaks s r c unit address n is few fit = (
 -- what may be read is what was looked up
 abbrev pub ReadsFit : State → Type 0
 ReadsFit s = (r : Request) (c : Cdb) (n : ℕ) → IsRequest r → r.cdb ≡ Some c → refusal s r ≡ None →
-    (operation_of c ≡ read_6) ⊎ (operation_of c ≡ read_10) →
+    kind_of c ≡ kind.Read →
     n ≡ blocks_of c * 4096 → BlocksFit s r (unit_or_first (unit_of_request s r)) (address_of c) n
 
 -- data that are sent at once
@@ -193,19 +198,13 @@ no_sense_bytes =
     (bytes-cons 0x70 (zeros 6) (omega arith) (bytes-zeros 6))
     (bytes-cons 0x0A (zeros 10) (omega arith) (bytes-zeros 10))
 
-sense_speaks : (s : State) (r : Request) (c : Cdb) (allocation : ℕ) → IsRequest r →
-    OneMore TaskSpeaks s.tasks (data_begun s r c (take allocation no_sense)).tasks
-sense_speaks s r c allocation is =
-    let size : length (take allocation no_sense) ≡ min allocation 18 = length-take allocation no_sense in
-    let few : min allocation 18 ≤ 18 = grind arith in
-    data_speaks s r c (take allocation no_sense) is (omega arith) (bytes-take allocation no_sense no_sense_bytes)
-
-capacity_speaks : (s : State) (r : Request) (c : Cdb) (u : Option UnitSpec) → IsRequest r →
-    OneMore TaskSpeaks s.tasks (data_begun s r c (capacity_bytes u)).tasks
-capacity_speaks s r c None is = data_speaks s r c (zeros 8) is (omega arith) (bytes-zeros 8)
-capacity_speaks s r c (Some u) is =
-    data_speaks s r c (capacity_bytes (Some u)) is (omega arith)
-    (bytes-append (big_bytes 4 (u.blocks - 1)) (big_bytes 4 4096) (bytes-number 4 (u.blocks - 1)) (bytes-number 4 4096))
+-- the first bytes of what is told
+told_part : (s : State) (r : Request) (c : Cdb) (allocation : ℕ) (bytes : List ℕ) → IsRequest r → length bytes ≤ 4096 →
+    AreBytes bytes → OneMore TaskSpeaks s.tasks (data_begun s r c (take allocation bytes)).tasks
+told_part s r c allocation bytes is few are =
+    let size : length (take allocation bytes) ≡ min allocation (length bytes) = length-take allocation bytes in
+    let least : min allocation (length bytes) ≤ length bytes = grind arith in
+    data_speaks s r c (take allocation bytes) is (omega arith) (bytes-take allocation bytes are)
 
 -- the device has no more units than a configuration may have
 abbrev pub FewUnits : State → Type 0
@@ -217,32 +216,29 @@ FramesFit s = (region : ℕ) →
     (length (flat_map (λ (frame : List ℕ). frame) (s.registers region).response) ≤ 4096)
     × AreBytes (flat_map (λ (frame : List ℕ). frame) (s.registers region).response)
 
-unit_speaks : (s : State) (r : Request) (c : Cdb) (allocation : ℕ) → IsRequest r →
-    OneMore TaskSpeaks s.tasks (data_begun s r c (take allocation (inquiry_bytes r.lun))).tasks
-unit_speaks s r c allocation is =
-    let size : length (take allocation (inquiry_bytes r.lun)) ≡ min allocation 36 =
-    length-take allocation (inquiry_bytes r.lun) in
-    let few : min allocation 36 ≤ 36 = grind arith in
-    data_speaks s r c (take allocation (inquiry_bytes r.lun)) is (omega arith)
-    (bytes-take allocation (inquiry_bytes r.lun) (inquiry_told r.lun))
-
-units_speak : (s : State) (r : Request) (c : Cdb) (select allocation : ℕ) → IsRequest r → FewUnits s →
-    OneMore TaskSpeaks s.tasks (data_begun s r c (take allocation (luns_bytes (numbers_of s) select))).tasks
-units_speak s r c select allocation is few =
-    let size : length (take allocation (luns_bytes (numbers_of s) select))
-    ≡ min allocation (length (luns_bytes (numbers_of s) select)) =
-    length-take allocation (luns_bytes (numbers_of s) select) in
+-- what is told are bytes, and not many
+told_bytes_few : (s : State) (r : Request) (what : Told) (select : ℕ) → FewUnits s →
+    (length (told_bytes s r what select) ≤ 4096) × AreBytes (told_bytes s r what select)
+told_bytes_few s r told.Sense select few = (omega arith, no_sense_bytes)
+told_bytes_few s r told.Identity select few = (omega arith, inquiry_told r.lun)
+told_bytes_few s r told.Capacity select few = capacity_few (unit_numbers_of s r)
+  where
+    capacity_few : (u : Option UnitSpec) → (length (capacity_bytes u) ≤ 4096) × AreBytes (capacity_bytes u)
+    capacity_few None = (omega arith, bytes-zeros 8)
+    capacity_few (Some u) = (
+      omega arith,
+      bytes-append (big_bytes 4 (u.blocks - 1)) (big_bytes 4 4096) (bytes-number 4 (u.blocks - 1)) (bytes-number 4 4096),
+    )
+told_bytes_few s r told.Units select few =
     let all : length (luns_bytes (numbers_of s) select) ≤ 104 = luns_size (numbers_of s) select few in
-    let least : min allocation (length (luns_bytes (numbers_of s) select)) ≤ 104 = grind arith in
-    data_speaks s r c (take allocation (luns_bytes (numbers_of s) select)) is (omega arith)
-    (bytes-take allocation (luns_bytes (numbers_of s) select) (luns_told (numbers_of s) select few))
+    (omega arith, luns_told (numbers_of s) select few)
 
 told_speaks : (s : State) (r : Request) (c : Cdb) (bytes : List ℕ) → IsRequest r → FewUnits s → IsTold s r bytes →
     OneMore TaskSpeaks s.tasks (data_begun s r c bytes).tasks
-told_speaks s r c bytes is few (TellsSense allocation) = sense_speaks s r c allocation is
-told_speaks s r c bytes is few TellsCapacity = capacity_speaks s r c (unit_numbers_of s r) is
-told_speaks s r c bytes is few (TellsUnit allocation) = unit_speaks s r c allocation is
-told_speaks s r c bytes is few (TellsUnits select allocation) = units_speak s r c select allocation is few
+told_speaks s r c bytes is few t =
+    let its = told_bytes_few s r t.what t.select few in
+    subst (λ (b : List ℕ). OneMore TaskSpeaks s.tasks (data_begun s r c b).tasks) (sym t.is)
+    (told_part s r c t.allocation (told_bytes s r t.what t.select) is its.0 its.1)
 
 frames_speak : (s : State) (r : Request) (region n : ℕ) → IsRequest r →
     (length (flat_map (λ (frame : List ℕ). frame) (s.registers region).response) ≤ 4096)
@@ -252,13 +248,13 @@ frames_speak s r region n is fit =
     data_speaks s r (cdb.SecurityIn region n) (flat_map (λ frame. frame) (s.registers region).response) is fit.0 fit.1
 
 abbrev BlocksOf : State → Request → ℕ → Cdb → Type 0
-BlocksOf s r unit c = (n : ℕ) → (operation_of c ≡ read_6) ⊎ (operation_of c ≡ read_10) → n ≡ blocks_of c * 4096 →
+BlocksOf s r unit c = (n : ℕ) → kind_of c ≡ kind.Read → n ≡ blocks_of c * 4096 →
     BlocksFit s r unit (address_of c) n
 
-begins_speaking : (s : State) (r : Request) (c : Cdb) (unit : ℕ) → IsRequest r → IsCdb c → BlocksOf s r unit c →
-    FewUnits s → FramesFit s → is_too_long (numbers_of s) c ≡ false →
+begins_speaking : (s : State) (r : Request) (c : Cdb) (unit : ℕ) → IsRequest r → BlocksOf s r unit c →
+    FewUnits s → FramesFit s → is_too_long (numbers_of s) c ≡ false → has_wrong_list c ≡ false →
     OneMore TaskSpeaks s.tasks (begun s r unit c).tasks
-begins_speaking s r c unit is fits reads units frames short =
+begins_speaking s r c unit is reads units frames short listed =
     begins_by (λ t. OneMore TaskSpeaks s.tasks t.tasks) s r unit c one
   where
     one : (b : Beginning) → WhyBegun s r unit c b → OneMore TaskSpeaks s.tasks (begun_as s r c b).tasks
@@ -276,14 +272,14 @@ begins_speaking s r c unit is fits reads units frames short =
     one (Telling bytes) why = told_speaks s r c bytes is units why
     one (Handing region n) why = frames_speak s r region n is (frames region)
     one (Reading u address n) (unit_is, address_is, size, read) =
-        let few = command_few c fits in
+        let few = command_few (numbers_of s) c short in
         read_speaks s r c u address n is (omega arith)
         (subst (λ (x : ℕ). BlocksFit s r x address n) (sym unit_is)
         (subst (λ (x : ℕ). BlocksFit s r unit x n) (sym address_is) (reads n read size)))
     one (Gathered count purpose n) (slots, some, few, needs, gathered) = (
       task_for r (Some c) n (Gathering purpose [] false),
       refl,
-      asked_for r (Some c) n (Gathering purpose [] false) is (few fits) (some short),
+      asked_for r (Some c) n (Gathering purpose [] false) is (few short listed) (some short),
     )
 
 -- a command that is not refused is not too long
@@ -294,8 +290,13 @@ not_too_long s r c e passed =
     (passed_line (lacks_region (numbers_of s) c) invalid_field _
     (subst (λ (o : Option Cdb). first_line (lines_after s r o) ≡ None) e (past s r passed).later)).1).0
 
-spelled_cdb : (r : Request) (c : Cdb) → IsRequest r → r.cdb ≡ Some c → IsCdb c
-spelled_cdb r c is e = (subst (IsCdbIn (Some r.bytes)) e is.1.2).0
+-- and an UNMAP's list is of a length that there is
+rightly_listed : (s : State) (r : Request) (c : Cdb) → r.cdb ≡ Some c → refusal s r ≡ None → has_wrong_list c ≡ false
+rightly_listed s r c e passed =
+    (passed_line (has_wrong_list c) list_length_error _
+    (passed_line (is_too_long (numbers_of s) c) invalid_field _
+    (passed_line (lacks_region (numbers_of s) c) invalid_field _
+    (subst (λ (o : Option Cdb). first_line (lines_after s r o) ≡ None) e (past s r passed).later)).1).1).0
 
 -- ## What tasks do next
 
@@ -371,8 +372,9 @@ speaks_law s sets requests found units frames = record {
   refused = λ r status is asks free e. asked_for r None 0 (Answering status 0) is (omega arith)
       (table_status s r status e, omega arith);
   begins = λ r c is asks free e passed.
-      begins_speaking s r c (unit_or_first (unit_of_request s r)) is (spelled_cdb r c is e)
-      (λ n read size. found r c n is e passed read size) units frames (not_too_long s r c e passed);
+      begins_speaking s r c (unit_or_first (unit_of_request s r)) is
+      (λ n read size. found r c n is e passed read size) units frames (not_too_long s r c e passed)
+      (rightly_listed s r c e passed);
   gathers = λ task purpose gathered bytes asked e h next more. speaks task (Gathering purpose (gathered ++ bytes) false)
       h (ltb-true _ task.length more);
   answers = λ task purpose gathered asked status e h is.

@@ -88,7 +88,7 @@ opens_new n array bad blank = (
     none_accepted = refl;
     no_tasks = refl;
     no_shorts = refl;
-    power_off = refl;
+    fresh = refl;
     no_registers = refl;
   },
 )

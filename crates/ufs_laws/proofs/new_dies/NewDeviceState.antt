@@ -26,6 +26,7 @@ use Rattle.ufs_spec.specs.declared.configs.Numbers.{Numbers}
 use Rattle.ufs_spec.specs.declared.flash.Key.{Key}
 use Rattle.ufs_spec.specs.declared.flash.Place.{Place}
 use Rattle.ufs_spec.specs.declared.layer.Name.{Name}
+use Rattle.ufs_spec.specs.declared.volatile.TheConstants.Volatile.{NEW}
 
 -- what a life begins with that the numbers do not say
 pub record Open : Type 0 where
@@ -83,7 +84,7 @@ first_state n bad o = record {
   translation = first_layer n bad o;
   tasks = [];
   shorts = [];
-  power_on = false;
+  volatile = NEW;
   registers = all_empty;
 }
 
@@ -219,7 +220,7 @@ module _ (n : Numbers) (array : Array) (bad : Spot → Bool) (s : State) (blank 
         };
         tasks = h.no_tasks i;
         shorts = h.no_shorts i;
-        power_on = h.power_off i;
+        volatile = h.fresh i;
         registers = h.no_registers i;
       }
 

@@ -3,13 +3,14 @@ use Rattle.std.proofs.Common.{◌≡◌, ℕ, ◌-◌, ◌<◌, ◌≤◌, nat_l
 use Rattle.std.proofs.Common.{Option, Some, None, Ok, refl, sym, ap, ◌∙◌, subst, arith}
 use Rattle.std.proofs.lemmas.Bool.{le-ltb, lt-ltb}
 use Rattle.ufs_laws.proofs.answers.OnlyAnswers.{host_gets, reply_gets}
-use Rattle.ufs_laws.specs.Runs.{Gets, IsAnswered, IsIdle, heard, read_of, refused, row}
-use Rattle.ufs_spec.specs.Cdbs.{Residual, cdb_bytes, read_10, residual_of}
+use Rattle.ufs_laws.specs.Runs.{Gets, IsAnswered, IsIdle, heard, read_bytes, read_of, refused, row}
+use Rattle.ufs_spec.specs.Cdbs.{Residual, residual_of}
+use Rattle.ufs_spec.specs.declared.operations.TheConstants.{READ_10}
 use Rattle.ufs_spec.specs.Exchanges.{Answering, Status, Task, check, invalid_field, invalid_operation, no_unit}
 use Rattle.ufs_spec.specs.Exchanges.{out_of_range, response, response_message}
 use Rattle.ufs_spec.specs.Machine.{Reply, Heard, Host, OfReply, Spelled, fills, lock_applied, observe, refused_or_begun}
 use Rattle.ufs_spec.specs.Machine.{short_locked, task_locked, with_task}
-use Rattle.ufs_spec.specs.Refusals.{Request, State, UnitOf, first_line, lacks_unit, line, lines_after, locked, lun_of}
+use Rattle.ufs_spec.specs.Refusals.{Request, State, UnitOf, first_line, lacks_unit, line, lines_after, locked, lun_of, refused_state}
 use Rattle.ufs_spec.specs.Refusals.{not_taken, refusal, well_known}
 use Rattle.ufs_spec.specs.declared.messages.Message.{Message}
 use Rattle.ufs_spec.specs.declared.messages.Message.TheVariants as message
@@ -62,12 +63,12 @@ answer_of r status = response r.lun r.tag r.expected 0 status
 
 -- the state behind the command
 abbrev behind : State → Request → Status → State
-behind s r status = with_task (idle_state s) r None 0 (Answering status 0)
+behind s r status = with_task (refused_state (idle_state s) r) r None 0 (Answering status 0)
 
 behind_reply : (s : State) (r : Request) (status : Status) →
     Gets (lock_applied (behind s r status)) Reply (OfReply (Some (answer_of r status)))
 behind_reply s r status =
-    let t = with_task (idle_state s) r None 0 (Answering status 0) in
+    let t = behind s r status in
     reply_gets (lock_applied t) (refused_task r status) (answer_of r status)
     (told_tasks t r status (locked t) refl) (told_shorts t (locked t) refl) refl
 
@@ -97,7 +98,7 @@ request flags lun tag expected bytes c =
 
 abbrev read_request : ℕ → ℕ → Bool → ℕ → ℕ → Request
 read_request address blocks forced tag expected =
-    request 0x40 0 tag expected (cdb_bytes (cdb.Read10 address blocks forced)) (Some (cdb.Read10 address blocks forced))
+    request 0x40 0 tag expected (read_bytes address blocks forced) (Some (cdb.Read address blocks))
 
 abbrev under : ℕ → Residual
 under missing = record { flags = 0x20; count = missing }
@@ -142,7 +143,7 @@ not_a_unit s flags lun tag expected bytes c h high other more =
     (answers s r no_unit h (lacks s r high other))
 
 pub no_command : (s : State) (flags tag expected : ℕ) (rest : List ℕ) → IsIdle s → 0 < expected
-    → IsAnswered s (Spelled (message.Command flags 0 tag expected (read_10 ∷ rest)) None) (refused 0 tag expected 0x24)
+    → IsAnswered s (Spelled (message.Command flags 0 tag expected (READ_10 ∷ rest)) None) (refused 0 tag expected 0x24)
 no_command s flags tag expected rest h more =
-    let r = request flags 0 tag expected (read_10 ∷ rest) None in
+    let r = request flags 0 tag expected (READ_10 ∷ rest) None in
     subst (IsAnswered s (heard_as r)) (answer_under 0 tag expected 0x24 more) (answers s r invalid_field h refl)

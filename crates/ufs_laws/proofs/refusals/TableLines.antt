@@ -10,20 +10,22 @@ use Rattle.ufs_spec.specs.Exchanges.{Busy, Status, TaskSetFull, invalid_field, i
 use Rattle.ufs_spec.specs.Exchanges.{no_unit, not_ready, out_of_range, response, sequence_error, short_reply}
 use Rattle.ufs_spec.specs.Exchanges.{write_protected}
 use Rattle.ufs_spec.specs.Machine.{command_taken, refused_or_begun, with_short}
-use Rattle.ufs_spec.specs.Messages.{is_among}
 use Rattle.ufs_spec.specs.declared.configs.Numbers.{Numbers}
 use Rattle.ufs_spec.specs.Configs.{command_blocks}
 use Rattle.ufs_spec.specs.Exchanges.{most_tasks}
 use Rattle.ufs_spec.specs.Plain.{steps_of}
-use Rattle.ufs_spec.specs.Refusals.{BootUnit, is_boot_read, not_taken, operations_of, Request, State, first_line}
+use Rattle.ufs_spec.specs.Refusals.{BootUnit, is_boot_read, needs_blocks, not_taken, Request, State, first_line}
 use Rattle.ufs_spec.specs.Refusals.{has_other_response, has_wrong_list, is_crowded, is_past, is_refused_write}
 use Rattle.ufs_spec.specs.Refusals.{is_too_long, lacks_response, lines_for, locked, mended, numbers_of, refusal}
-use Rattle.ufs_spec.specs.Refusals.{unit_numbers_of}
+use Rattle.ufs_spec.specs.Refusals.{takes_row, unit_numbers_of}
 use Rattle.ufs_spec.specs.Translation.{free_slots, has_pending}
 use Rattle.ufs_spec.specs.declared.configs.UnitSpec.{UnitSpec}
 use Rattle.ufs_spec.specs.declared.scsi.Cdb.{Cdb}
 use Rattle.ufs_spec.specs.declared.scsi.Cdb.TheVariants as cdb
-use Rattle.ufs_spec.proofs.Facts.{and_from, cond-false, cond-true, or_with_false}
+use Rattle.ufs_spec.proofs.CommandTable.{row_holds}
+use Rattle.ufs_spec.proofs.Facts.{and_from, cond-false, cond-true, false≢true, or_with_false}
+use Rattle.ufs_spec.specs.CdbFields.{row_of}
+use Rattle.ufs_spec.specs.declared.operations.Row.{Row}
 
 -- ## Lines
 
@@ -101,7 +103,7 @@ ready s tag h e k none =
 
 -- a unit that is protected until the next power cycle
 pub ready_and_protected : (s : State) (tag : ℕ) → numbers_of s ≡ protected_row → mended s ≡ false → locked s ≡ false →
-    s.power_on ≡ true → refusal s (asks 0x20 1 tag (write_at 0)) ≡ Some not_ready
+    s.volatile.power_on ≡ true → refusal s (asks 0x20 1 tag (write_at 0)) ≡ Some not_ready
 ready_and_protected s tag row e k on =
     subst (λ (t : State). refusal t (asks 0x20 1 tag (write_at 0)) ≡ Some not_ready) (sym same)
     (decides (not (mended s || locked numbered)) not_ready _
@@ -200,16 +202,20 @@ no_region_to_write s r region n none =
 pub unit_or_operation : (r : Request) → not_taken r None ≡ false
 unit_or_operation r = refl
 
-pub boot_or_operation : (operation : ℕ) → is_boot_read operation ≡ true →
-    is_among (operations_of BootUnit) operation ≡ true
-boot_or_operation operation e =
-    later (operation == 0x00) (operation == 0x03) (operation == 0x12) (is_boot_read operation) e
+-- what the boot unit takes, where it needs blocks
+abbrev boots : Row → Bool
+boots row = not (needs_blocks row.kind) || row.takers.boot
+
+pub boot_or_operation : (bytes : List ℕ) → is_boot_read (row_of bytes) ≡ true → takes_row BootUnit (row_of bytes) ≡ true
+boot_or_operation bytes e = by (row_of bytes) refl e
   where
-    later : (a b c d : Bool) → d ≡ true → (a || (b || (c || d))) ≡ true
-    later true b c d e = refl
-    later false true c d e = refl
-    later false false true d e = refl
-    later false false false d e = e
+    later : (a b : Bool) → (not a || b) ≡ true → a ≡ true → b ≡ true
+    later true b e k = e
+    later false b e k = absurd (false≢true k)
+
+    by : (o : Option Row) → row_of bytes ≡ o → is_boot_read o ≡ true → takes_row BootUnit o ≡ true
+    by None f k = absurd (false≢true k)
+    by (Some row) f k = later (needs_blocks row.kind) row.takers.boot (row_holds boots refl bytes row f) k
 
 few : (most n : ℕ) → n ≡ 0 → nat_lt most n ≡ true → ⊥
 few most n e k = let l = ltb-true most n k in omega arith

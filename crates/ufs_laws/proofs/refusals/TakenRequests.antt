@@ -83,9 +83,9 @@ unready s r (later, first) h e k =
 
 -- TEST UNIT READY is refused so on a locked device too
 pub test_unready : (s : State) (tag : ℕ) → IsIdle s → mended s ≡ false →
-    IsRefused s (asks 0x00 0 tag cdb.TestUnitReady) not_ready
+    IsRefused s (asks 0x00 0 tag cdb.Nothing) not_ready
 test_unready s tag h e =
-    answers s (asks 0x00 0 tag cdb.TestUnitReady) not_ready h
+    answers s (asks 0x00 0 tag cdb.Nothing) not_ready h
     (decides (not (mended (idle_state s) || false)) not_ready _ (neither _ _ e refl))
 
 -- a request that no line before the last can refuse, and that needs no slot
@@ -170,13 +170,13 @@ module _ (s : State) (tag : ℕ) (row : numbers_of s ≡ protected_row) (ready :
       (lines
       ∙ leaves (not (mended s || locked (numbered s protected_row))) not_ready write_protected _ (once_mended _ _ ready) (decides applies write_protected later is))
 
-  pub power_on_write : s.power_on ≡ true → refusal s (asks 0x20 1 tag (write_at 0)) ≡ Some write_protected
+  pub power_on_write : s.volatile.power_on ≡ true → refusal s (asks 0x20 1 tag (write_at 0)) ≡ Some write_protected
   power_on_write is =
-      refused (asks 0x20 1 tag (write_at 0)) (by_power_on s s.power_on) _ refl (ap (by_power_on s) is)
+      refused (asks 0x20 1 tag (write_at 0)) (by_power_on s s.volatile.power_on) _ refl (ap (by_power_on s) is)
 
-  pub power_on_unmap : s.power_on ≡ true → refusal s (asks 0x20 1 tag (cdb.Unmap 24)) ≡ Some write_protected
+  pub power_on_unmap : s.volatile.power_on ≡ true → refusal s (asks 0x20 1 tag (cdb.Unmap 24)) ≡ Some write_protected
   power_on_unmap is =
-      refused (asks 0x20 1 tag (cdb.Unmap 24)) (by_power_on s s.power_on) _ refl (ap (by_power_on s) is)
+      refused (asks 0x20 1 tag (cdb.Unmap 24)) (by_power_on s s.volatile.power_on) _ refl (ap (by_power_on s) is)
 
   pub permanent_write : (plain_now s).permanent ≡ true →
       refusal s (asks 0x20 2 tag (write_at 0)) ≡ Some write_protected
@@ -200,8 +200,8 @@ module _ (s : State) (tag : ℕ) (row : numbers_of s ≡ protected_row) (ready :
       (skips (nat_lt (free_slots (numbered s protected_row).translation) 0) Busy None
       (needs_none (numbered s protected_row)) refl))
 
-  pub no_blocks : (forced : Bool) → refusal s (asks 0x20 1 tag (cdb.Write10 0 0 forced)) ≡ None
-  no_blocks forced = passes (asks 0x20 1 tag (cdb.Write10 0 0 forced)) refl
+  pub no_blocks : (forced : Bool) → refusal s (asks 0x20 1 tag (cdb.Write 0 0 forced)) ≡ None
+  no_blocks forced = passes (asks 0x20 1 tag (cdb.Write 0 0 forced)) refl
 
   pub header : refusal s (asks 0x20 1 tag (cdb.Unmap 8)) ≡ None
   header = passes (asks 0x20 1 tag (cdb.Unmap 8)) refl

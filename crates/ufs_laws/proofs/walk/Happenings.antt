@@ -1,6 +1,6 @@
 -- What a call makes of the exchanges, behind what it does first: one happening of few kinds, for a reason. This is the
 -- one walk through messages, data and replies; what follows of it is a case for each kind (`behind_by`).
-use Rattle.std.proofs.Common.{◌≡◌, ℕ, ◌==◌, ◌&&◌, ◌||◌, ◌+◌, Bool, true, false, if◌then◌else◌, not}
+use Rattle.std.proofs.Common.{◌≡◌, ℕ, ◌==◌, ◌&&◌, ◌+◌, Bool, true, false, if◌then◌else◌, not}
 use Rattle.std.proofs.Common.{List, [], ◌∷◌, ◌++◌, length, map}
 use Rattle.std.proofs.Common.{find, nat_le, nat_lt, Option, Some, None, refl, sym, subst}
 use Rattle.std.specs.Prelude.{Err, Ok}
@@ -19,9 +19,10 @@ use Rattle.ufs_spec.specs.Machine.{result_of, service, set_deed, short_replied, 
 use Rattle.ufs_spec.specs.Machine.{unit_or_first, with_moves, with_short, with_task, without_tasks}
 use Rattle.ufs_spec.specs.Moves.{Claim, EndJob, Ending, GiveJob, ReadRight, ReadWrong, TakeStep, WentWell, WentWrong}
 use Rattle.ufs_spec.specs.Plain.{apply}
-use Rattle.ufs_spec.specs.Queries.{Query, query_code, sets_power_on, setting_of}
+use Rattle.ufs_spec.specs.Queries.{Query, query_code, volatile_after, setting_of}
 use Rattle.ufs_spec.specs.QueryAnswers.{may_set, query_done, query_failed, query_heard, query_passed}
-use Rattle.ufs_spec.specs.Refusals.{Request, State, numbers_of, plain_now, refusal, unit_of_request}
+use Rattle.ufs_spec.specs.Refusals.{Request, State, numbers_of, plain_now, refusal, refused_state}
+use Rattle.ufs_spec.specs.Refusals.{unit_of_request}
 use Rattle.ufs_spec.specs.Exchanges.{most_tasks}
 use Rattle.ufs_spec.specs.declared.faults.HostFault.{HostFault}
 use Rattle.ufs_spec.specs.declared.faults.HostFault.TheVariants.{NotAskedFor, TagInUse}
@@ -33,6 +34,7 @@ use Rattle.ufs_spec.specs.declared.scsi.Cdb.{Cdb}
 use Rattle.ufs_spec.specs.declared.layer.Reader.{Reader}
 use Rattle.ufs_spec.specs.declared.layer.Reader.TheVariants.{ForNobody, ForRest, ForStep, ForTask}
 use Rattle.ufs_laws.proofs.walk.WaysOfData.{Completion, WhyCompleted, completed, completes_by}
+use Rattle.ufs_spec.specs.declared.volatile.Volatile.{Volatile}
 
 -- ## What a call does first
 
@@ -52,9 +54,9 @@ first s call answer = s
 
 pub data Happening : Type 0 where
   NothingMore : Happening
-  -- a message is answered by a short exchange; a query leaves fPowerOnWPEn so, or is a setting that is accepted
+  -- a message is answered by a short exchange; a query leaves so what is volatile, or is a setting that is accepted
   Replies : (short : Short) → Happening
-  Tells : (power_on : Bool) → (short : Short) → Happening
+  Tells : (volatile : Volatile) → (short : Short) → Happening
   Sets : (command : Command) → (short : Short) → Happening
   -- a command is refused, or begins
   Refuses : (r : Request) → (status : Status) → Happening
@@ -74,9 +76,9 @@ pub data Happening : Type 0 where
 abbrev pub happened : State → Happening → State
 happened s NothingMore = s
 happened s (Replies short) = with_short s short
-happened s (Tells power_on short) = with_short (record s { power_on = power_on }) short
+happened s (Tells volatile short) = with_short (record s { volatile = volatile }) short
 happened s (Sets command short) = with_short (accepts (with_moves s (Claim 1 ∷ [])) command 1) short
-happened s (Refuses r status) = with_task s r None 0 (Answering status 0)
+happened s (Refuses r status) = with_task (refused_state s r) r None 0 (Answering status 0)
 happened s (Begins r c) = begun s r (unit_or_first (unit_of_request s r)) c
 happened s (Gathers task purpose all) = set_deed s task.tag (Gathering purpose all false)
 happened s (Completes task completion) = completed s task completion
@@ -119,13 +121,13 @@ setting_short s tag q c =
     record {
       tag = tag;
       awaits = Some (length s.accepted + 1);
-      reply = query_done (numbers_of s) (apply (plain_now s) c) s.power_on tag q;
+      reply = query_done (numbers_of s) (apply (plain_now s) c) s.volatile tag q;
       locked_reply = query_failed tag q 0xFF;
     }
 
 -- the exchange of a query that is answered at once
-abbrev pub told_short : State → Bool → ℕ → Query → Short
-told_short s power_on tag q = short_reply tag (query_done (numbers_of s) (plain_now s) power_on tag q)
+abbrev pub told_short : State → Volatile → ℕ → Query → Short
+told_short s volatile tag q = short_reply tag (query_done (numbers_of s) (plain_now s) volatile tag q)
 
 -- the task gathers for this purpose, and the data are bytes, as many as it asked for
 pub record GetsData (s : State) (call : Call) (answer : Answer) (task : Task) (purpose : Purpose) : Type 0 where
@@ -138,9 +140,9 @@ pub record GetsData (s : State) (call : Call) (answer : Answer) (task : Task) (p
   pub are_bytes : IsSpoken call → AreBytes more
 
 abbrev pub Why : State → Call → Answer → Happening → Type 0
-Why s call answer (Tells power_on short) =
+Why s call answer (Tells volatile short) =
     (tag : ℕ) × (q : Query) × IsSuccess s call tag q × (setting_of q ≡ None)
-    × (power_on ≡ (s.power_on || sets_power_on q)) × (short ≡ told_short s power_on tag q)
+    × (volatile ≡ volatile_after s.volatile q) × (short ≡ told_short s volatile tag q)
 Why s call answer (Sets command short) =
     (tag : ℕ) × (q : Query) × IsSuccess s call tag q × (setting_of q ≡ Some command)
     × (short ≡ setting_short s tag q command)

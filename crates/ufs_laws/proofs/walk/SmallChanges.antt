@@ -21,7 +21,7 @@ use Rattle.ufs_spec.specs.Machine.{task_filled, task_locked, task_read, acknowle
 use Rattle.ufs_spec.specs.Machine.{without_tasks}
 use Rattle.ufs_spec.specs.Moves.{Accept, Claim, EndJob, Keep, LetGo, LetGoAll, Move, Release, GiveJob, Acknowledge}
 use Rattle.ufs_spec.specs.Moves.{TakeStep, WantPage, moved}
-use Rattle.ufs_spec.specs.Refusals.{Request, State, locked, numbers_of, plain_now}
+use Rattle.ufs_spec.specs.Refusals.{Request, State, locked, numbers_of, plain_now, refused_state}
 use Rattle.ufs_spec.specs.Translation.{Pin, Translation}
 use Rattle.ufs_spec.specs.declared.configs.Numbers.{Numbers}
 use Rattle.ufs_spec.specs.declared.flash.Key.{Key}
@@ -36,6 +36,7 @@ use Rattle.ufs_spec.proofs.Facts.{if_both}
 use Rattle.ufs_laws.proofs.walk.WaysOfCommands.{Beginning, Gathered, Handing, Reading, WhyBegun, begins_by, begun_as}
 use Rattle.ufs_laws.proofs.walk.WaysOfData.{Accepted, AcceptsFrames, Completion, HasResult, ReadsArea, Told}
 use Rattle.ufs_laws.proofs.walk.WaysOfData.{claim_of_task, completed}
+use Rattle.ufs_spec.specs.declared.volatile.Volatile.{Volatile}
 
 -- ## Small changes
 
@@ -52,9 +53,9 @@ pub data Change : Type 0 where
   OpensShort : (short : Short) → Change
   MapsShorts : (f : Short → Short) → Change
   ClosesShorts : (is : Short → Bool) → Change
-  -- the RPMB registers; fPowerOnWPEn
+  -- the RPMB registers; what is volatile
   SetsRegisters : (registers : ℕ → Registers) → Change
-  SetsPowerOn : (on : Bool) → Change
+  SetsVolatile : (volatile : Volatile) → Change
 
 abbrev pub changed : State → Change → State
 changed s (Moves move) = with_moves s (move ∷ [])
@@ -66,7 +67,7 @@ changed s (OpensShort short) = with_short s short
 changed s (MapsShorts f) = record s { shorts = map f s.shorts }
 changed s (ClosesShorts is) = record s { shorts = filter (λ short. not (is short)) s.shorts }
 changed s (SetsRegisters registers) = record s { registers = registers }
-changed s (SetsPowerOn on) = record s { power_on = on }
+changed s (SetsVolatile volatile) = record s { volatile = volatile }
 
 -- neither the beginning nor the end of a job, nor a step
 abbrev pub IsQuiet : Move → Type 0
@@ -270,9 +271,10 @@ reads tag index state task = if_both (SameTask task) (is_task_of tag task) (same
 happens_small : (s : State) (h : Happening) → Small s (happened s h)
 happens_small s NothingMore = Still
 happens_small s (Replies short) = One (OpensShort short) tt
-happens_small s (Tells power_on short) = Both (One (SetsPowerOn power_on) tt) (One (OpensShort short) tt)
+happens_small s (Tells volatile short) = Both (One (SetsVolatile volatile) tt) (One (OpensShort short) tt)
 happens_small s (Sets command short) = set_small s command short
-happens_small s (Refuses r status) = opens r None 0 (Answering status 0)
+happens_small s (Refuses r status) =
+    Both (One (SetsVolatile (refused_state s r).volatile) tt) (opens r None 0 (Answering status 0))
 happens_small s (Begins r c) = begun_small s r _ c
 happens_small s (Gathers task purpose all) = set task.tag _
 happens_small s (Completes task k) = completes_small s task k

@@ -1,20 +1,22 @@
 -- How a command begins: in one of few ways, for a reason. A law of it is a case for each way (`begins_by`), so that a
 -- new command adds its lines here. What comes of it once all its data are there is told in WaysOfData.
-use Rattle.std.proofs.Common.{nat_le, nat_lt, not, zero, suc, ◌≢◌, true, false, ◌≡◌, ◌⊎◌, ℕ, ◌*◌, ◌<◌, ◌^◌, ◌==◌, Bool}
-use Rattle.std.proofs.Common.{if◌then◌else◌, List, [], ◌∷◌, ◌++◌, length, take, Some, inl, inr, refl, arith}
-use Rattle.ufs_spec.proofs.Facts.{and_parts, eqb-false, if_both, if_cases, leb-true, not-false}
-use Rattle.ufs_spec.specs.Begins.{frames_begun}
-use Rattle.ufs_spec.specs.Cdbs.{IsCdb, address_of, blocks_of, operation_of, read_10, read_6, six_blocks, write_10}
-use Rattle.ufs_spec.specs.Cdbs.{write_6}
+use Rattle.std.proofs.Common.{nat_le, nat_lt, not, zero, suc, ◌≢◌, true, false, ◌≡◌, ℕ, ◌*◌, ◌<◌, ◌≤◌, ◌^◌, ◌==◌, ◌||◌, Bool}
+use Rattle.std.proofs.Common.{if◌then◌else◌, List, [], ◌∷◌, ◌++◌, length, take, Some, refl, arith}
+use Rattle.ufs_spec.proofs.Facts.{and_parts, eqb-false, eqb-true, false≢true, if_both, if_cases, leb-true, ltb-false, not-false}
+use Rattle.ufs_spec.specs.Begins.{frames_begun, told_bytes}
+use Rattle.ufs_spec.specs.CdbFields.{kind_of}
+use Rattle.ufs_spec.specs.Cdbs.{address_of, blocks_of}
 use Rattle.ufs_spec.specs.Exchanges.{Answering, Awaiting, ForFrames, ForUnmap, ForWrite, Gathering, Good, Purpose, Task}
-use Rattle.ufs_spec.specs.Identities.{inquiry_bytes, luns_bytes}
-use Rattle.ufs_spec.specs.Machine.{begun, capacity_bytes, data_begun, flush_begun, no_sense, read_begun, with_moves}
+use Rattle.ufs_spec.specs.Messages.{is_among}
+use Rattle.ufs_spec.specs.Machine.{begun, data_begun, flush_begun, read_begun, with_moves}
 use Rattle.ufs_spec.specs.Machine.{with_task}
 use Rattle.ufs_spec.specs.Moves.{Claim}
-use Rattle.ufs_spec.specs.Refusals.{Request, State, is_frames, is_too_long, mended, needs_mended, numbers_of}
-use Rattle.ufs_spec.specs.Refusals.{slots_needed, unit_numbers_of}
+use Rattle.ufs_spec.specs.Refusals.{Request, State, has_wrong_list, is_frames, is_too_long, mended, needs_mended}
+use Rattle.ufs_spec.specs.Refusals.{numbers_of, slots_needed}
 use Rattle.ufs_spec.specs.Configs.{command_blocks}
 use Rattle.ufs_spec.specs.declared.configs.Numbers.{Numbers}
+use Rattle.ufs_spec.specs.declared.operations.Kind.TheVariants as kind
+use Rattle.ufs_spec.specs.declared.operations.Told.{Told}
 use Rattle.ufs_spec.specs.declared.scsi.Cdb.{Cdb}
 use Rattle.ufs_spec.specs.declared.scsi.Cdb.TheVariants as cdb
 
@@ -39,12 +41,12 @@ begun_as s r c (Reading unit address n) = read_begun s r c unit address n
 begun_as s r c (Gathered count purpose n) =
     with_task (with_moves s (Claim count ∷ [])) r (Some c) n (Gathering purpose [] false)
 
--- data that are known at the COMMAND: sense data, a capacity, what INQUIRY tells, or a list of units
-pub data IsTold (s : State) (r : Request) : List ℕ → Type 0 where
-  TellsSense : (allocation : ℕ) → IsTold s r (take allocation no_sense)
-  TellsCapacity : IsTold s r (capacity_bytes (unit_numbers_of s r))
-  TellsUnit : (allocation : ℕ) → IsTold s r (take allocation (inquiry_bytes r.lun))
-  TellsUnits : (select allocation : ℕ) → IsTold s r (take allocation (luns_bytes (numbers_of s) select))
+-- data that are known at the COMMAND
+pub record IsTold (s : State) (r : Request) (bytes : List ℕ) : Type 0 where
+  pub what : Told
+  pub select : ℕ
+  pub allocation : ℕ
+  pub is : bytes ≡ take allocation (told_bytes s r what select)
 
 -- what a WRITE gathers: its blocks, each in a slot
 pub record IsWritten (n : Numbers) (unit : ℕ) (c : Cdb) (count u address blocks total : ℕ) : Type 0 where
@@ -53,7 +55,7 @@ pub record IsWritten (n : Numbers) (unit : ℕ) (c : Cdb) (count u address block
   pub blocks_are : blocks ≡ count
   pub total_is : total ≡ 4096 * count
   pub all : blocks_of c ≡ count
-  pub writes : (operation_of c ≡ write_6) ⊎ (operation_of c ≡ write_10)
+  pub writes : kind_of c ≡ kind.Write
   pub long : is_too_long n c ≡ nat_lt (command_blocks n) (blocks_of c)
 
 -- what each command gathers that takes data: a WRITE its blocks, an UNMAP its list, a SECURITY PROTOCOL OUT its frames
@@ -69,10 +71,11 @@ WhyBegun s r unit c (Telling bytes) = IsTold s r bytes
 WhyBegun s r unit c (Handing region n) = c ≡ cdb.SecurityIn region n
 WhyBegun s r unit c (Reading u address n) =
     (u ≡ unit) × (address ≡ address_of c) × (n ≡ blocks_of c * 4096)
-    × ((operation_of c ≡ read_6) ⊎ (operation_of c ≡ read_10))
+    × (kind_of c ≡ kind.Read)
 WhyBegun s r unit c (Gathered count purpose n) =
-    (slots_needed (numbers_of s) c ≡ count) × (is_too_long (numbers_of s) c ≡ false → 0 < n) × (IsCdb c → n < 2 ^ 32)
-    × (needs_mended (operation_of c) ≡ true) × IsGathered (numbers_of s) unit c count purpose n
+    (slots_needed (numbers_of s) c ≡ count) × (is_too_long (numbers_of s) c ≡ false → 0 < n)
+    × (is_too_long (numbers_of s) c ≡ false → has_wrong_list c ≡ false → n < 2 ^ 32)
+    × (needs_mended c ≡ true) × IsGathered (numbers_of s) unit c count purpose n
 
 -- ## The walk
 
@@ -93,31 +96,35 @@ some_frames region n e =
     let some = leb-true 512 n (and_parts (nat_le 512 n) _ (and_parts _ _ (not-false (is_frames n) e)).0).0 in
     omega arith
 
-few_six : (blocks : ℕ) → blocks < 2 ^ 8 → six_blocks blocks < 2 ^ 16
-few_six blocks few = if_both (λ n. n < 2 ^ 16) (blocks == 0) (omega arith) (omega arith)
+-- and at most 4096 bytes
+few_frames : (n : ℕ) → not (is_frames n) ≡ false → n < 2 ^ 32
+few_frames n e =
+    let most = leb-true n 4096 (and_parts (nat_le 512 n) _ (and_parts _ _ (not-false (is_frames n) e)).0).1 in
+    omega arith
 
-written : (s : State) (unit : ℕ) (c : Cdb) (count : ℕ) → (operation_of c ≡ write_6) ⊎ (operation_of c ≡ write_10) →
-    blocks_of c ≡ count →
-    is_too_long (numbers_of s) c ≡ nat_lt (command_blocks (numbers_of s)) (blocks_of c) →
-    IsWritten (numbers_of s) unit c count unit (address_of c) count (4096 * count)
-written s unit c count writes all long =
-    record {
-      unit_is = refl;
-      address_is = refl;
-      blocks_are = refl;
-      total_is = refl;
-      all = all;
-      writes = writes;
-      long = long;
-    }
+-- a command may have few blocks
+few_blocks : (n : Numbers) (blocks : ℕ) → nat_lt (command_blocks n) blocks ≡ false → blocks ≤ 128
+few_blocks n blocks e =
+    let most : command_blocks n ≤ 128 = if_both (λ m. m ≤ 128) (nat_le 256 n.slots) (omega arith) (omega arith) in
+    let low = ltb-false (command_blocks n) blocks e in
+    omega arith
 
--- no command has more
-pub command_few : (c : Cdb) → IsCdb c → blocks_of c < 2 ^ 16
-command_few (cdb.Read6 address blocks) fits = few_six blocks fits.1
-command_few (cdb.Write6 address blocks) fits = few_six blocks fits.1
-command_few (cdb.Read10 address blocks forced) fits = let few = fits.1 in omega arith
-command_few (cdb.Write10 address blocks forced) fits = let few = fits.1 in omega arith
-command_few c fits = omega arith
+-- a command that is not too long has few blocks
+pub command_few : (n : Numbers) (c : Cdb) → is_too_long n c ≡ false → blocks_of c ≤ 128
+command_few n (cdb.Read address blocks) e = few_blocks n blocks e
+command_few n (cdb.Write address blocks forced) e = few_blocks n blocks e
+command_few n c e = omega arith
+
+-- an UNMAP's list is short
+few_listed : (list : ℕ) → not (is_among (0 ∷ 8 ∷ 24 ∷ []) list) ≡ false → list < 2 ^ 32
+few_listed list e = by (list == 0) (list == 8) (list == 24) refl refl refl (not-false _ e)
+  where
+    by : (a b c : Bool) → (list == 0) ≡ a → (list == 8) ≡ b → (list == 24) ≡ c → (a || (b || (c || false))) ≡ true →
+        list < 2 ^ 32
+    by true b c f g h k = let is = eqb-true list 0 f in omega arith
+    by false true c f g h k = let is = eqb-true list 8 g in omega arith
+    by false false true f g h k = let is = eqb-true list 24 h in omega arith
+    by false false false f g h k = absurd (false≢true k)
 
 module _ (P : State → Type 0) (s : State) (r : Request) (unit : ℕ) where
   -- each way that has its reason
@@ -141,42 +148,34 @@ module _ (P : State → Type 0) (s : State) (r : Request) (unit : ℕ) where
   good_unmap list none each = good_by (cdb.Unmap list) each
 
   pub begins_by : (c : Cdb) → Each c → P (begun s r unit c)
-  begins_by cdb.TestUnitReady each = good_by cdb.TestUnitReady each
-  begins_by (cdb.RequestSense allocation) each = each (Telling _) (TellsSense allocation)
-  begins_by cdb.ReadCapacity10 each = each (Telling _) TellsCapacity
-  begins_by (cdb.Read6 address blocks) each =
-      each (Reading unit address _) (refl, refl, refl, inl refl)
-  begins_by (cdb.Read10 address blocks forced) each =
-      each (Reading unit address _) (refl, refl, omega arith, inr refl)
-  begins_by (cdb.Write6 address blocks) each =
-      if_cases P (six_blocks blocks == 0) (λ none. good_by (cdb.Write6 address blocks) each)
-      (λ some. each (Gathered (six_blocks blocks) (ForWrite unit address (six_blocks blocks) false)
-      (4096 * six_blocks blocks)) (
-        refl,
-        (λ short. some_blocks _ some),
-        (λ fits. let few = few_six blocks fits.1 in omega arith),
-        refl,
-        written s unit (cdb.Write6 address blocks) (six_blocks blocks) (inl refl) refl refl,
-      ))
-  begins_by (cdb.Write10 address blocks forced) each =
-      if_cases P (blocks == 0) (λ none. good_by (cdb.Write10 address blocks forced) each)
+  begins_by cdb.Nothing each = good_by cdb.Nothing each
+  begins_by (cdb.Tell what select allocation) each =
+      each (Telling _) (record { what = what; select = select; allocation = allocation; is = refl })
+  begins_by (cdb.Read address blocks) each = each (Reading unit address _) (refl, refl, omega arith, refl)
+  begins_by (cdb.Write address blocks forced) each =
+      if_cases P (blocks == 0) (λ none. good_by (cdb.Write address blocks forced) each)
       (λ some. each (Gathered blocks (ForWrite unit address blocks forced) (4096 * blocks)) (
         refl,
         (λ short. some_blocks _ some),
-        (λ fits. let few = fits.1 in omega arith),
+        (λ short listed. let few = few_blocks (numbers_of s) blocks short in omega arith),
         refl,
-        written s unit (cdb.Write10 address blocks forced) blocks (inr refl) refl refl,
+        record {
+          unit_is = refl;
+          address_is = refl;
+          blocks_are = refl;
+          total_is = refl;
+          all = refl;
+          writes = refl;
+          long = refl;
+        },
       ))
-  begins_by (cdb.SynchronizeCache10 address blocks immediate) each =
-      flush_by (cdb.SynchronizeCache10 address blocks immediate) immediate each
-  begins_by (cdb.Inquiry allocation) each = each (Telling _) (TellsUnit allocation)
-  begins_by (cdb.ReportLuns select allocation) each = each (Telling _) (TellsUnits select allocation)
+  begins_by (cdb.Flush immediate) each = flush_by (cdb.Flush immediate) immediate each
   begins_by (cdb.Unmap list) each =
       if_cases P (list == 0) (λ none. good_unmap list none each)
       (λ some. each (Gathered (slots_needed (numbers_of s) (cdb.Unmap list)) (ForUnmap unit) list) (
         refl,
         (λ short. more_than_none list (eqb-false list 0 some)),
-        (λ fits. let few : list < 2 ^ 16 = fits in omega arith),
+        (λ short listed. few_listed list listed),
         refl,
         (refl, refl),
       ))
@@ -185,7 +184,7 @@ module _ (P : State → Type 0) (s : State) (r : Request) (unit : ℕ) where
       each (Gathered (slots_needed (numbers_of s) (cdb.SecurityOut region n)) (ForFrames region) n) (
         refl,
         some_frames region n,
-        (λ fits. fits.1),
+        (λ short listed. few_frames n short),
         refl,
         refl,
       )

@@ -1,5 +1,5 @@
 -- What the host says in the run is spelled by bytes.
-use Rattle.std.proofs.Common.{◌≡◌, ℕ, zero, suc, ◌+◌, ◌==◌, ◌&&◌, ◌||◌, not, if◌then◌else◌, nat_lt, Bool, true, false}
+use Rattle.std.proofs.Common.{◌≡◌, ℕ, zero, suc, ◌+◌, ◌==◌, ◌&&◌, ◌||◌, not, if◌then◌else◌, nat_lt, Bool, true}
 use Rattle.std.proofs.Common.{List, [], ◌∷◌, ◌++◌, length, Option, Some, None, refl, ap, ◌∙◌, arith}
 use Rattle.std.proofs.lemmas.Bool.{ltb-true}
 use Rattle.std.proofs.lemmas.List.{append-nil, length-append}
@@ -31,10 +31,10 @@ looked_at (x ∷ xs) e (suc place) = looked_at xs (and_parts _ _ e).1 place
 -- COMMANDs
 
 abbrev write_cdb : Cdb
-write_cdb = cdb.Write10 0xFF 1 true
+write_cdb = cdb.Write 0xFF 1 true
 
 abbrev read_cdb : Cdb
-read_cdb = cdb.Read10 0xFF 1 false
+read_cdb = cdb.Read 0xFF 1
 
 pub write_said : IsSaid the_write
 write_said = (
@@ -42,7 +42,7 @@ write_said = (
   (
     ((refl, omega arith, omega arith, omega arith, refl, looked_at (cdb_bytes write_cdb) refl), refl),
     refl,
-    ((omega arith, omega arith), refl),
+    refl,
   ),
 )
 
@@ -52,7 +52,7 @@ read_said = (
   (
     ((refl, omega arith, omega arith, omega arith, refl, looked_at (cdb_bytes read_cdb) refl), refl),
     refl,
-    ((omega arith, omega arith), refl),
+    refl,
   ),
 )
 

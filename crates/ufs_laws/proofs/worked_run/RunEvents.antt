@@ -140,8 +140,8 @@ module _ (s : State) (n : IsNew s) where
   unfolding state_9 marked gathering
   event_9 =
       happens event_8.is
-      (host_gets (marked behind_mark) (message.Command 0x20 0 7 4096 (cdb_bytes (cdb.Write10 0xFF 1 true)))
-      (Some (cdb.Write10 0xFF 1 true)) (Ok tt) refl)
+      (host_gets (marked behind_mark) (message.Command 0x20 0 7 4096 (cdb_bytes (cdb.Write 0xFF 1 true)))
+      (Some (cdb.Write 0xFF 1 true)) (Ok tt) refl)
       refl refl
 
   pub event_10 : Happens (state_9 s) Reply ready (state_10 s) (asked behind_mark)
@@ -238,8 +238,8 @@ module _ (s : State) (n : IsNew s) where
     unfolding state_18 told reading
     event_18 =
         happens event_17.is
-        (host_gets (told behind_data body) (message.Command 0x40 0 8 4096 (cdb_bytes (cdb.Read10 0xFF 1 false)))
-        (Some (cdb.Read10 0xFF 1 false)) (Ok tt) refl)
+        (host_gets (told behind_data body) (message.Command 0x40 0 8 4096 (cdb_bytes (cdb.Read 0xFF 1)))
+        (Some (cdb.Read 0xFF 1)) (Ok tt) refl)
         refl (ap (reading_block behind_data body) (block_written behind_data.base body written_shape))
 
     pub event_19 : Happens (state_18 s body) Reply (OfReply None) (state_19 s body) (reading behind_data body)

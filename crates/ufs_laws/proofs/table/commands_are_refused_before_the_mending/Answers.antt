@@ -1,6 +1,9 @@
 use Rattle.std.proofs.Common.{refl}
 use Rattle.ufs_laws.proofs.refusals.TakenRequests.{test_unready, told, unready}
-use Rattle.ufs_laws.specs.Table.{asks, flush, read_at, write_at}
+use Rattle.ufs_laws.specs.Table.{asks, asks_in, flush, read_at, short_bytes, write_at}
+use Rattle.ufs_spec.specs.CdbFields.{no_limit}
+use Rattle.ufs_spec.specs.declared.operations.TheConstants.{READ_6, WRITE_6}
+use Rattle.ufs_spec.specs.declared.operations.Told.TheVariants as told
 use Rattle.ufs_spec.specs.declared.scsi.Cdb.TheVariants as cdb
 use Rattle.ufs_laws.proofs.table.commands_are_refused_before_the_mending.Goals as goal
 
@@ -11,13 +14,13 @@ pub returns-clause-read : goal.returns-clause-read
 returns-clause-read c = λ s tag. unready s (asks 0x40 0 tag (read_at 0 1)) (_, refl)
 
 pub returns-clause-short_read : goal.returns-clause-short_read
-returns-clause-short_read c = λ s tag. unready s (asks 0x40 0 tag (cdb.Read6 0 1)) (_, refl)
+returns-clause-short_read c = λ s tag. unready s (asks_in 0x40 0 tag (short_bytes READ_6)) (_, refl)
 
 pub returns-clause-write : goal.returns-clause-write
 returns-clause-write c = λ s tag. unready s (asks 0x20 0 tag (write_at 0)) (_, refl)
 
 pub returns-clause-short_write : goal.returns-clause-short_write
-returns-clause-short_write c = λ s tag. unready s (asks 0x20 0 tag (cdb.Write6 0 1)) (_, refl)
+returns-clause-short_write c = λ s tag. unready s (asks_in 0x20 0 tag (short_bytes WRITE_6)) (_, refl)
 
 pub returns-clause-unmap : goal.returns-clause-unmap
 returns-clause-unmap c = λ s tag. unready s (asks 0x20 0 tag (cdb.Unmap 24)) (_, refl)
@@ -29,13 +32,13 @@ pub returns-clause-frames : goal.returns-clause-frames
 returns-clause-frames c = λ s tag. unready s (asks 0x20 0xC4 tag (cdb.SecurityOut 0 512)) (_, refl)
 
 pub returns-clause-request_sense : goal.returns-clause-request_sense
-returns-clause-request_sense c = λ s tag. told s (asks 0x40 0 tag (cdb.RequestSense 18)) refl
+returns-clause-request_sense c = λ s tag. told s (asks 0x40 0 tag (cdb.Tell told.Sense 0 18)) refl
 
 pub returns-clause-inquiry : goal.returns-clause-inquiry
-returns-clause-inquiry c = λ s tag. told s (asks 0x40 0 tag (cdb.Inquiry 36)) refl
+returns-clause-inquiry c = λ s tag. told s (asks 0x40 0 tag (cdb.Tell told.Identity 0 36)) refl
 
 pub returns-clause-capacity : goal.returns-clause-capacity
-returns-clause-capacity c = λ s tag. told s (asks 0x40 0 tag cdb.ReadCapacity10) refl
+returns-clause-capacity c = λ s tag. told s (asks 0x40 0 tag (cdb.Tell told.Capacity 0 no_limit)) refl
 
 pub returns-clause-luns : goal.returns-clause-luns
-returns-clause-luns c = λ s tag. told s (asks 0x40 0 tag (cdb.ReportLuns 0 32)) refl
+returns-clause-luns c = λ s tag. told s (asks 0x40 0 tag (cdb.Tell told.Units 0 32)) refl
