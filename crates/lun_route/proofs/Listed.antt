@@ -8,7 +8,8 @@ use Rattle.ufs_spec.specs.Identities.{luns_listed, unit_entry}
 use Rattle.ufs_spec.specs.Keys.{below}
 use Rattle.ufs_spec.specs.Refusals.{units_listed}
 use Rattle.ufs_spec.specs.declared.configs.Numbers.{Numbers}
-use Rattle.ufs_spec.specs.declared.scsi.Cdb.TheVariants.{ReportLuns}
+use Rattle.ufs_spec.specs.declared.operations.Told.TheVariants.{Units}
+use Rattle.ufs_spec.specs.declared.scsi.Cdb.TheVariants.{Tell}
 use Rattle.lun_route.specs.Lists.{joined, ordinary_entries, ordinary_listed, other_entries, others_listed}
 
 -- the two parts of the list, each there or not
@@ -37,7 +38,7 @@ apart : (select : ℕ) → (select == 1) ≡ true → (select == 0) ≡ true →
 apart select one none = grind arith
 
 pub listed_units : (n : Numbers) (select allocation : ℕ) →
-    ordinary_listed n select + others_listed select ≡ units_listed n (ReportLuns select allocation)
+    ordinary_listed n select + others_listed select ≡ units_listed n (Tell Units select allocation)
 listed_units n select allocation = both (select == 1) (select == 0) (length n.units.items) (apart select)
 
 -- how many entries the two parts have, each there or not
@@ -49,7 +50,7 @@ lengths false true xs ys = length-append xs []
 lengths false false xs ys = length-append xs ys
 
 pub listed_count : (n : Numbers) (select allocation : ℕ) →
-    length (luns_listed n select) ≡ units_listed n (ReportLuns select allocation)
+    length (luns_listed n select) ≡ units_listed n (Tell Units select allocation)
 listed_count n select allocation =
     lengths (select == 1) (select == 0) (map (unit_entry 0x00) (below (length n.units.items)))
     (map (unit_entry 0xC1) (0x01 ∷ 0x30 ∷ 0x44 ∷ 0x50 ∷ []))

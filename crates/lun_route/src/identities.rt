@@ -6,7 +6,8 @@ ghost use Rattle.byteorder.specs.Endian.{big_bytes};
 ghost use Rattle.ufs_spec.specs.Identities.{inquiry_bytes, luns_bytes, unit_entry};
 ghost use Rattle.ufs_spec.specs.Messages.{zeros};
 ghost use Rattle.ufs_spec.specs.Refusals.{units_listed};
-ghost use Rattle.ufs_spec.specs.declared.Cdb.TheVariants.{ReportLuns};
+ghost use Rattle.ufs_spec.specs.declared.Cdb.TheVariants.{Tell};
+ghost use Rattle.ufs_spec.specs.declared.Told.TheVariants.{Units};
 ghost use Rattle.lun_route.specs.Lists.{numbered_entries, ordinary_entries, ordinary_listed};
 ghost use Rattle.lun_route.specs.Lists.{other_entries, others_listed, well_known_entries};
 
@@ -50,7 +51,7 @@ pub fn inquiry_bytes(byte: u8) -> [u8; 36]
 
 /// How many units REPORT LUNS lists with this selection.
 pub fn units_listed(numbers: &Numbers, select: u8) -> u8
-    ensures { (allocation : ℕ) → result ≡ units_listed numbers.now (ReportLuns select allocation) }
+    ensures { (allocation : ℕ) → result ≡ units_listed numbers.now (Tell Units select allocation) }
 {
     let ordinary = numbers.units.len() as u8;
     match select {
@@ -65,7 +66,7 @@ pub fn units_listed(numbers: &Numbers, select: u8) -> u8
 pub fn luns_bytes(numbers: &Numbers, select: u8) -> UnitList
     ensures bytes { result.items ≡ luns_bytes numbers.now select }
     ensures count { (allocation : ℕ) →
-        array_vec_len result ≡ 8 + 8 * units_listed numbers.now (ReportLuns select allocation) }
+        array_vec_len result ≡ 8 + 8 * units_listed numbers.now (Tell Units select allocation) }
 {
     let mut list = header(units_listed(numbers, select));
     put_ordinary(&mut list, numbers, select);

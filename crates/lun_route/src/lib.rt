@@ -5,10 +5,9 @@
 mod identities;
 mod laws;
 mod luns;
-mod operations;
 mod routes;
 
 pub use identities::{UnitList, inquiry_bytes, luns_bytes, units_listed};
-pub use laws::routes_are_the_first_lines;
+pub use laws::{each_lun_takes_its_commands, routes_are_the_first_lines};
 pub use luns::{Lun, boot_unit, named_lun};
 pub use routes::{Route, route_of};

@@ -1,16 +1,11 @@
 //! What LUN bytes name.
 ghost use Rattle.std.specs.Prelude.{◌≡◌, ◌==◌, ◌<◌, IfSome, length, position};
-ghost use Rattle.ufs_spec.specs.Messages.{is_among};
-ghost use Rattle.ufs_spec.specs.Refusals.{all_but_security, boot_unit, lun_of, takes, unit_named};
+ghost use Rattle.ufs_spec.specs.Refusals.{boot_unit, lun_of, takes_row, unit_named};
 ghost use Rattle.ufs_spec.specs.Refusals.{well_known};
 ghost use Rattle.ufs_spec.specs.declared.UnitSpec.{UnitSpec as Spec};
 ghost use Rattle.lun_route.specs.Luns.{lun_in, lun_meant};
 
-use crate::operations::{
-    INQUIRY, READ_6, READ_10, READ_CAPACITY_10, REPORT_LUNS, REQUEST_SENSE, SECURITY_IN,
-    SECURITY_OUT, SYNCHRONIZE_CACHE_10, TEST_UNIT_READY, UNMAP, WRITE_6, WRITE_10,
-};
-use ufs_spec::{Numbers, UnitSpec};
+use ufs_spec::{Numbers, Row, UnitSpec};
 
 /// What a LUN byte names (JESD220, 10.8.5).
 #[derive(Clone, Copy)]
@@ -83,49 +78,20 @@ impl Lun {
         }
     }
 
-    /// Whether it takes this operation code.
-    pub fn takes(self, operation: u8) -> bool
-        ensures { result ≡ takes (lun_meant self) operation }
+    /// Whether it takes the commands of this row, if there is one.
+    pub fn takes(self, row: Option<Row>) -> bool
+        ensures { result ≡ takes_row (lun_meant self) row }
     {
+        let Some(row) = row else {
+            return false;
+        };
+        let takers = row.takers;
         match self {
-            Lun::Unit(_) => unit_takes(operation),
-            Lun::ReportLuns => matches!(
-                operation,
-                TEST_UNIT_READY | REQUEST_SENSE | INQUIRY | REPORT_LUNS
-            ),
-            Lun::Boot => matches!(
-                operation,
-                TEST_UNIT_READY | REQUEST_SENSE | INQUIRY | READ_6 | READ_10 | READ_CAPACITY_10
-            ),
-            Lun::Rpmb => matches!(
-                operation,
-                TEST_UNIT_READY | REQUEST_SENSE | INQUIRY | SECURITY_IN | SECURITY_OUT
-            ),
-            Lun::Device => matches!(
-                operation,
-                TEST_UNIT_READY | REQUEST_SENSE | INQUIRY | SYNCHRONIZE_CACHE_10
-            ),
+            Lun::Unit(_) => takers.units,
+            Lun::ReportLuns => takers.report_luns,
+            Lun::Boot => takers.boot,
+            Lun::Rpmb => takers.rpmb,
+            Lun::Device => takers.device,
         }
     }
-}
-
-// Whether a unit of the configuration takes this operation code: all but those of the SECURITY
-// PROTOCOL commands.
-fn unit_takes(operation: u8) -> bool
-    ensures { result ≡ is_among all_but_security operation }
-{
-    matches!(
-        operation,
-        TEST_UNIT_READY
-            | REQUEST_SENSE
-            | READ_6
-            | WRITE_6
-            | INQUIRY
-            | READ_CAPACITY_10
-            | READ_10
-            | WRITE_10
-            | SYNCHRONIZE_CACHE_10
-            | UNMAP
-            | REPORT_LUNS
-    )
 }

@@ -1,2 +1,2 @@
 pub mod ListRead
-pub mod Named
+pub mod ReadRows

@@ -1,66 +1,53 @@
-//! The sixteen bytes of a command (SPC, SBC).
+//! The sixteen bytes in which a host writes a command (SPC, SBC).
 ghost use Rattle.std.specs.Prelude.{◌≡◌, ◌∷◌, replicate};
-ghost use Rattle.ufs_spec.specs.Cdbs.{cdb_bytes, forced_bit, immediate_bit, security_bytes, six_bytes, ten_bytes};
-ghost use Rattle.ufs_spec.specs.declared.Cdb.TheVariants.{Inquiry, ReportLuns, RequestSense, Unmap};
+ghost use Rattle.ufs_spec.specs.Cdbs.{IsAsking, IsCdb, asking_bytes, cdb_bytes, option_byte, security_bytes, ten_bytes};
+ghost use Rattle.ufs_spec.specs.declared.Cdb.TheVariants.{Unmap};
 
-use crate::operations::{
-    INQUIRY, READ_6, READ_10, READ_CAPACITY_10, REPORT_LUNS, REQUEST_SENSE, SECURITY_IN,
-    SECURITY_OUT, SYNCHRONIZE_CACHE_10, TEST_UNIT_READY, UNMAP, WRITE_6, WRITE_10,
-};
-use crate::{FUA, IMMED};
 use ufs_bytes::{write_u16, write_u32};
-use ufs_spec::Cdb;
+use ufs_spec::operations::{
+    FUA, IMMED, INQUIRY, READ_10, READ_CAPACITY_10, REPORT_LUNS, REQUEST_SENSE, SECURITY_IN,
+    SECURITY_OUT, SYNCHRONIZE_CACHE_10, TEST_UNIT_READY, UNMAP, WRITE_10,
+};
+use ufs_spec::{Cdb, Told};
 
-/// The sixteen bytes of a command.
+/// The sixteen bytes in which a host writes a command whose numbers fit: READ and WRITE in their
+/// ten-byte form.
 pub fn bytes_of(cdb: &Cdb) -> [u8; 16]
+    requires { IsCdb cdb.now }
     ensures { result ≡ cdb_bytes cdb.now }
 {
     match cdb {
-        Cdb::TestUnitReady => plain_bytes(TEST_UNIT_READY),
-        Cdb::RequestSense { allocation } => sense_request(*allocation),
-        Cdb::Read6 { address, blocks } => six_bytes_of(READ_6, *address, *blocks),
-        Cdb::Write6 { address, blocks } => six_bytes_of(WRITE_6, *address, *blocks),
-        Cdb::Inquiry { allocation } => inquiry_bytes(*allocation),
-        Cdb::ReadCapacity10 => plain_bytes(READ_CAPACITY_10),
-        Cdb::Read10 {
+        Cdb::Nothing => plain_bytes(TEST_UNIT_READY),
+        Cdb::Tell {
+            told,
+            select,
+            allocation,
+        } => asking_bytes(*told, *select, *allocation),
+        Cdb::Read { address, blocks } => ten_bytes_of(READ_10, 0, *address as u32, *blocks as u16),
+        Cdb::Write {
             address,
             blocks,
             forced,
-        } => ten_bytes_of(READ_10, forced_byte(*forced), *address, *blocks),
-        Cdb::Write10 {
-            address,
-            blocks,
-            forced,
-        } => ten_bytes_of(WRITE_10, forced_byte(*forced), *address, *blocks),
-        Cdb::SynchronizeCache10 {
-            address,
-            blocks,
-            immediate,
         } => ten_bytes_of(
-            SYNCHRONIZE_CACHE_10,
-            immediate_byte(*immediate),
-            *address,
-            *blocks,
+            WRITE_10,
+            option_byte(FUA, *forced),
+            *address as u32,
+            *blocks as u16,
         ),
-        Cdb::Unmap { list } => unmap_bytes(*list),
-        Cdb::ReportLuns { select, allocation } => report_bytes(*select, *allocation),
+        Cdb::Flush { immediate } => {
+            ten_bytes_of(SYNCHRONIZE_CACHE_10, option_byte(IMMED, *immediate), 0, 0)
+        }
+        Cdb::Unmap { list } => unmap_bytes(*list as u16),
         Cdb::SecurityIn { region, length } => security_bytes_of(SECURITY_IN, *region, *length),
         Cdb::SecurityOut { region, length } => security_bytes_of(SECURITY_OUT, *region, *length),
     }
 }
 
-// Byte 1 of READ(10) and WRITE(10).
-fn forced_byte(forced: bool) -> u8
-    ensures { result ≡ forced_bit forced }
+// The byte of the options, if the one that there is is set.
+fn option_byte(option: u8, is: bool) -> u8
+    ensures { result ≡ option_byte option is }
 {
-    if forced { FUA } else { 0 }
-}
-
-// Byte 1 of SYNCHRONIZE CACHE(10).
-fn immediate_byte(immediate: bool) -> u8
-    ensures { result ≡ immediate_bit immediate }
-{
-    if immediate { IMMED } else { 0 }
+    if is { option } else { 0 }
 }
 
 // The sixteen bytes of a command without fields.
@@ -72,39 +59,33 @@ fn plain_bytes(operation: u8) -> [u8; 16]
     bytes
 }
 
-// The sixteen bytes of REQUEST SENSE.
-fn sense_request(allocation: u8) -> [u8; 16]
-    ensures { result ≡ cdb_bytes (RequestSense allocation) }
+// The sixteen bytes of a command that asks for no more than so many bytes.
+fn asking_bytes(told: Told, select: u8, allocation: u32) -> [u8; 16]
+    requires { IsAsking told select allocation }
+    ensures { result ≡ asking_bytes told select allocation }
 {
     let mut bytes = [0; 16];
-    bytes[0] = REQUEST_SENSE;
-    bytes[4] = allocation;
+    match told {
+        Told::Sense => {
+            bytes[0] = REQUEST_SENSE;
+            bytes[4] = allocation as u8;
+        }
+        Told::Identity => {
+            bytes[0] = INQUIRY;
+            write_u16(&mut bytes, 3, allocation as u16);
+        }
+        Told::Capacity => bytes[0] = READ_CAPACITY_10,
+        Told::Units => {
+            bytes[0] = REPORT_LUNS;
+            bytes[2] = select;
+            write_u32(&mut bytes, 6, allocation);
+        }
+    }
     bytes
 }
 
-// The sixteen bytes of READ(6) and WRITE(6).
-fn six_bytes_of(operation: u8, address: u32, blocks: u8) -> [u8; 16]
-    ensures { result ≡ six_bytes operation address blocks }
-{
-    let mut bytes = [0; 16];
-    write_u32(&mut bytes, 0, address);
-    bytes[0] = operation;
-    bytes[4] = blocks;
-    bytes
-}
-
-// The sixteen bytes of INQUIRY.
-fn inquiry_bytes(allocation: u16) -> [u8; 16]
-    ensures { result ≡ cdb_bytes (Inquiry allocation) }
-{
-    let mut bytes = [0; 16];
-    bytes[0] = INQUIRY;
-    write_u16(&mut bytes, 3, allocation);
-    bytes
-}
-
-// The sixteen bytes of a command with an address and a count of blocks.
-fn ten_bytes_of(operation: u8, options: u8, address: u32, blocks: u16) -> [u8; 16]
+/// The sixteen bytes of the ten-byte form of a command with an address and a count of blocks (SBC).
+pub fn ten_bytes_of(operation: u8, options: u8, address: u32, blocks: u16) -> [u8; 16]
     ensures { result ≡ ten_bytes operation options address blocks }
 {
     let mut bytes = [0; 16];
@@ -122,17 +103,6 @@ fn unmap_bytes(list: u16) -> [u8; 16]
     let mut bytes = [0; 16];
     bytes[0] = UNMAP;
     write_u16(&mut bytes, 7, list);
-    bytes
-}
-
-// The sixteen bytes of REPORT LUNS.
-fn report_bytes(select: u8, allocation: u32) -> [u8; 16]
-    ensures { result ≡ cdb_bytes (ReportLuns select allocation) }
-{
-    let mut bytes = [0; 16];
-    bytes[0] = REPORT_LUNS;
-    bytes[2] = select;
-    write_u32(&mut bytes, 6, allocation);
     bytes
 }
 

@@ -1,0 +1,5 @@
+use Rattle.ufs_spec.proofs.CommandTable.{row_behind}
+use Rattle.scsi_cdb.proofs.laws.one_operation.Goals as goal
+
+pub returns-clause-known : goal.returns-clause-known
+returns-clause-known c = λ bytes cdb spells. let its = row_behind bytes cdb spells in (its.row, its.found, its.kind_is)
