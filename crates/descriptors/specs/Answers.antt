@@ -1,8 +1,9 @@
 -- What a query is answered, in the words of the definitions (JESD220, 10.7.9).
-use Rattle.std.specs.Prelude.{◌≡◌, ◌||◌, ℕ, Bool, true, false, Option, Some, None}
+use Rattle.std.specs.Prelude.{◌≡◌, ℕ, Bool, true, false, Option, Some, None}
 use Rattle.ufs_spec.specs.Commands.{Command, SetBoot, SetPermanent}
 use Rattle.ufs_spec.specs.Plain.{Plain}
-use Rattle.ufs_spec.specs.Queries.{Query, sets_power_on, setting_of, value_told}
+use Rattle.ufs_spec.specs.declared.volatile.Volatile.{Volatile}
+use Rattle.ufs_spec.specs.Queries.{Query, setting_of, value_told, volatile_after}
 use Rattle.descriptors.specs.Codes.{response_byte}
 use Rattle.descriptors.specs.declared.answers.QueryAnswer.{QueryAnswer}
 use Rattle.descriptors.specs.declared.answers.QueryAnswer.TheVariants as answer
@@ -38,15 +39,15 @@ is_setting (answer.Code code) = false
 is_setting (answer.Told told) = false
 is_setting (answer.Setting s) = true
 
--- what is told of a query that is no setting, beside the bytes of a descriptor: the value, which tells fPowerOnWPEn as
--- the query leaves it
-pub record IsTold (p : Plain) (was_on : Bool) (q : Query) (told : Told) : Type 0 where
+-- what is told of a query that is no setting, beside the bytes of a descriptor: what is volatile as the query leaves it,
+-- and the value that is told of it
+pub record IsTold (p : Plain) (was : Volatile) (q : Query) (told : Told) : Type 0 where
   pub no_setting : setting_of q ≡ None
-  pub value : told.value ≡ value_told p (was_on || sets_power_on q) q
-  pub power_on : told.sets_power_on ≡ sets_power_on q
+  pub value : told.value ≡ value_told p (volatile_after was q) q
+  pub volatile : told.volatile ≡ volatile_after was q
 
 -- what the answer says beside its response code: what is told, or which setting the query is
-abbrev pub Says : Plain → Bool → Query → QueryAnswer → Type 0
-Says p was_on q (answer.Code code) = Unit {0}
-Says p was_on q (answer.Told told) = IsTold p was_on q told
-Says p was_on q (answer.Setting s) = setting_of q ≡ Some (command_of s)
+abbrev pub Says : Plain → Volatile → Query → QueryAnswer → Type 0
+Says p was q (answer.Code code) = Unit {0}
+Says p was q (answer.Told told) = IsTold p was q told
+Says p was q (answer.Setting s) = setting_of q ≡ Some (command_of s)

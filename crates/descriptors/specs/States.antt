@@ -1,5 +1,5 @@
 -- What an answer makes of the state of the device.
-use Rattle.std.specs.Prelude.{◌||◌, ℕ, length}
+use Rattle.std.specs.Prelude.{ℕ, length}
 use Rattle.ufs_spec.specs.Changes.{with_short}
 use Rattle.ufs_spec.specs.Exchanges.{short_reply}
 use Rattle.ufs_spec.specs.Queries.{Query, descriptor_told}
@@ -20,11 +20,11 @@ response_telling n tag q told =
     message.QueryResponse tag q.function 0x00 q.asked (length (descriptor_told n q)) told.value
     (record { items = descriptor_told n q })
 
--- what an answer makes of the state: a code or what is told is answered at once, fPowerOnWPEn is set if the answer
--- says so, and a setting is accepted
+-- what an answer makes of the state: a code or what is told is answered at once, what is volatile is
+-- as the answer says, and a setting is accepted
 abbrev pub answered_by : State → ℕ → Query → QueryAnswer → State
 answered_by s tag q (answer.Code code) = with_short s (short_reply tag (query_failed tag q (response_byte code)))
 answered_by s tag q (answer.Told told) =
-    with_short (record s { power_on = s.power_on || told.sets_power_on })
+    with_short (record s { volatile = told.volatile })
     (short_reply tag (response_telling (numbers_of s) tag q told))
 answered_by s tag q (answer.Setting setting) = setting_accepted s tag q (command_of setting)

@@ -3,9 +3,10 @@ ghost use Rattle.std.specs.Prelude.{◌≡◌, ◌==◌, ◌&&◌, ◌||◌, Boo
 ghost use Rattle.ufs_spec.specs.Keys.{flag_byte};
 ghost use Rattle.ufs_spec.specs.Plain.{Plain, apply};
 ghost use Rattle.ufs_spec.specs.Queries.{Query, flag_told, has_wrong_value};
-ghost use Rattle.ufs_spec.specs.Queries.{query_code, setting_of, sets_power_on, value_told};
+ghost use Rattle.ufs_spec.specs.Queries.{query_code, setting_of, sets_power_on, value_told, volatile_after};
 ghost use Rattle.descriptors.specs.Answers.{Says, code_of, command_in, command_of, is_setting, succeeds};
 ghost use Rattle.descriptors.specs.Asks.{HasSettings, query_of};
+ghost use Rattle.ufs_spec.specs.declared.Volatile.{Volatile as Life};
 
 use crate::codes::{
     PERMANENT_WP_EN, POWER_ON_WP_EN, READ_ATTRIBUTE, READ_FLAG, SET_FLAG, WRITE_ATTRIBUTE,
@@ -13,7 +14,7 @@ use crate::codes::{
 use crate::queries::{QueryRequest, QuerySettings};
 use crate::responses::ResponseCode;
 use crate::table::{first_line, sets_permanent};
-use ufs_spec::Numbers;
+use ufs_spec::{Numbers, Volatile};
 
 /// What a query is answered.
 #[derive(Clone, Copy)]
@@ -32,8 +33,8 @@ pub enum QueryAnswer {
 pub struct Told {
     /// The attribute or the flag, as it is after the query.
     pub value: u32,
-    /// fPowerOnWPEn is set from now on.
-    pub sets_power_on: bool,
+    /// What is volatile from now on.
+    pub volatile: Volatile,
 }
 
 /// A setting, which is a command.
@@ -48,9 +49,9 @@ pub enum Setting {
 impl Setting {
     /// The value that is told once the setting is durable: the one that it set.
     pub fn value(self) -> u32
-        ensures { (p : Plain) (power_on : Bool) (q : Query) →
+        ensures { (p : Plain) (volatile : Life) (q : Query) →
             setting_of q ≡ Some (command_of self) →
-            result ≡ value_told (apply p (command_of self)) power_on q }
+            result ≡ value_told (apply p (command_of self)) volatile q }
     {
         match self {
             Setting::Boot(boot) => u32::from(boot),
@@ -75,7 +76,7 @@ pub fn answer(
         succeeds result ≡ (query_code numbers.now p may_accept (query_of query.now) == 0x00)
         && not (query.now.asked.opcode == 0) }
     ensures says { (p : Plain) → HasSettings settings p →
-        Says p settings.is_power_on (query_of query.now) result }
+        Says p settings.volatile (query_of query.now) result }
     // A query is a setting only if one can be accepted.
     ensures may { is_setting result ≡ true → may_accept ≡ true }
 {
@@ -91,7 +92,7 @@ fn passed(settings: QuerySettings, query: &QueryRequest) -> QueryAnswer
     ensures code { code_of result ≡ 0 }
     ensures succeeds { succeeds result ≡ true }
     ensures says { (p : Plain) → HasSettings settings p →
-        Says p settings.is_power_on (query_of query.now) result }
+        Says p settings.volatile (query_of query.now) result }
     ensures setting { is_setting result ≡ true → is_none (setting_of (query_of query.now)) ≡ false }
 {
     match setting_of(query) {
@@ -117,17 +118,26 @@ fn setting_of(query: &QueryRequest) -> Option<Setting>
 // What is told of a query that is no setting.
 fn told_at_once(settings: QuerySettings, query: &QueryRequest) -> Told
     ensures value { (p : Plain) → HasSettings settings p → result.value ≡ value_told p
-        (settings.is_power_on || sets_power_on (query_of query.now)) (query_of query.now) }
-    ensures power_on { result.sets_power_on ≡ sets_power_on (query_of query.now) }
+        (volatile_after settings.volatile (query_of query.now)) (query_of query.now) }
+    ensures volatile { result.volatile ≡ volatile_after settings.volatile (query_of query.now) }
 {
-    let sets_power_on = sets_power_on(query);
+    let volatile = volatile_after(settings.volatile, query);
     let settings = QuerySettings {
-        is_power_on: settings.is_power_on || sets_power_on,
+        volatile,
         ..settings
     };
     Told {
         value: value_told(settings, query),
-        sets_power_on,
+        volatile,
+    }
+}
+
+// What is volatile once the query passed.
+fn volatile_after(volatile: Volatile, query: &QueryRequest) -> Volatile
+    ensures { result ≡ volatile_after volatile (query_of query.now) }
+{
+    Volatile {
+        power_on: volatile.power_on || sets_power_on(query),
     }
 }
 
@@ -141,7 +151,7 @@ fn sets_power_on(query: &QueryRequest) -> bool
 // The value of the attribute or flag that is asked for.
 fn value_told(settings: QuerySettings, query: &QueryRequest) -> u32
     ensures { (p : Plain) → HasSettings settings p →
-        result ≡ value_told p settings.is_power_on (query_of query.now) }
+        result ≡ value_told p settings.volatile (query_of query.now) }
 {
     match query.asked.opcode {
         READ_ATTRIBUTE | WRITE_ATTRIBUTE => u32::from(settings.boot),
@@ -153,11 +163,11 @@ fn value_told(settings: QuerySettings, query: &QueryRequest) -> u32
 // Whether a flag is set. Nothing is left to initialize, so fDeviceInit never is.
 fn flag_told(settings: QuerySettings, idn: u8) -> bool
     ensures { (p : Plain) → HasSettings settings p →
-        flag_byte result ≡ flag_told p settings.is_power_on idn }
+        flag_byte result ≡ flag_told p settings.volatile idn }
 {
     match idn {
         PERMANENT_WP_EN => settings.is_permanent,
-        POWER_ON_WP_EN => settings.is_power_on,
+        POWER_ON_WP_EN => settings.volatile.power_on,
         _ => false,
     }
 }

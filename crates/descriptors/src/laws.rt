@@ -13,6 +13,6 @@ pub fn answers_decide_the_state()
     ensures { (s : State) (tag code : ℕ) (q : Query) (answer : QueryAnswer) →
         code_of answer ≡ code →
         succeeds answer ≡ (code == 0x00) && not (q.asked.opcode == 0) →
-        Says (plain_now s) s.power_on q answer →
+        Says (plain_now s) s.volatile q answer →
         query_answered s tag q code ≡ answered_by s tag q answer }
 {}

@@ -1,5 +1,5 @@
 //! What a query asks, and the settings that it finds.
-use ufs_spec::Asked;
+use ufs_spec::{Asked, Volatile};
 
 /// A QUERY REQUEST without its tag and its data (JESD220, 10.7.8).
 #[derive(Clone, Copy)]
@@ -21,6 +21,6 @@ pub struct QuerySettings {
     pub boot: u8,
     /// fPermanentWPEn.
     pub is_permanent: bool,
-    /// fPowerOnWPEn, which lasts until the next power cycle.
-    pub is_power_on: bool,
+    /// What lasts until the next power cycle.
+    pub volatile: Volatile,
 }

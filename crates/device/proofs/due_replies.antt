@@ -1,7 +1,6 @@
 pub mod AreasRead
 pub mod BlocksBehind
 pub mod BlocksOwed
-pub mod BytesSent
 pub mod DeedsBehind
 pub mod NoneOwed
 pub mod PinsLetGo

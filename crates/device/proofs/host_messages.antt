@@ -40,6 +40,7 @@ pub mod SlotsClaimed
 pub mod SlotsFilled
 pub mod TaskBecomes
 pub mod TasksBegin
+pub mod UnitsThere
 pub mod UnitsTold
 pub mod ZerosAccepted
 pub mod ZerosPut

@@ -12,6 +12,6 @@ use Rattle.device.specs.Kept.{DeviceCore}
 pub record IsBare (s : State) (d : DeviceCore) : Type 0 where
   pub boot_is : d.boot ≡ (plain_now s).boot
   pub permanent_is : d.is_permanent ≡ (plain_now s).permanent
-  pub power_on_is : d.is_power_on ≡ s.power_on
+  pub volatile_is : d.volatile ≡ s.volatile
   pub registers_are : (region : ℕ) → s.registers region ≡ (machine_at d.rpmb region).registers
   pub senders_are : list_any (λ (task : Task). sends_frames task.command) s.tasks ≡ list_any is_sender d.tasks

@@ -1,5 +1,5 @@
 -- What the calls make of the layer and of what the device keeps.
-use Rattle.std.specs.Prelude.{◌≡◌, ℕ, ◌+◌, ◌-◌, ◌*◌, ◌==◌, ◌≤◌, ◌<◌, nat_le, Bool, true, false, if◌then◌else◌, List, []}
+use Rattle.std.specs.Prelude.{◌≡◌, ℕ, ◌+◌, ◌-◌, ◌*◌, ◌==◌, ◌≤◌, ◌<◌, nat_le, Bool, false, if◌then◌else◌, List, []}
 use Rattle.std.specs.Prelude.{fold, length, map, replicate, slice_get, Option, Some, None, Result, Ok, Err}
 use Rattle.std.specs.List.{list_any}
 use Rattle.ufs_spec.specs.Keys.{IsKey}
@@ -104,7 +104,6 @@ HasBegun after t claims tag (Ok (plan.Read key blocks size)) p = HasKept after t
 HasBegun after t claims tag (Ok (plan.Write key blocks forced)) p = HasClaimed after t claims tag key blocks forced p
 HasBegun after t claims tag (Err refused) p = (p ≡ phase.Answer refused 0) × IsLayerWith after t claims
 HasBegun after t claims tag (Ok (plan.Nothing n)) p = (p ≡ phase.Answer status.Good n) × IsLayerWith after t claims
-HasBegun after t claims tag (Ok (plan.Send x)) p = (p ≡ phase.SendData x) × IsLayerWith after t claims
 HasBegun after t claims tag (Ok (plan.AskFrames region size)) p = HasClaimedFrames after t claims tag size p
 HasBegun after t claims tag (Ok (plan.AskList unit size)) p =
     HasClaimedFor after t claims tag (list_slots t.numbers size) (phase.AskList unit size) p

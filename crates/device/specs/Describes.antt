@@ -54,9 +54,9 @@ use Rattle.device.specs.Calls.{frame_slots}
 use Rattle.device.specs.Frames.{part_held, part_of_page}
 use Rattle.device.specs.Kept.{DeviceCore}
 use Rattle.device.specs.Lists.{IsOfList, list_slots}
-use Rattle.task_set.specs.Tasks.{data_length, is_sender, read_error, status_kept}
+use Rattle.task_set.specs.Tasks.{is_sender, read_error, status_kept}
 use Rattle.task_set.specs.Shorts.{reply_locked}
-use Rattle.device.specs.Replies.{data_bytes, short_message, short_said}
+use Rattle.device.specs.Replies.{short_message, short_said}
 
 -- Tasks
 
@@ -151,8 +151,6 @@ IsDoing before expected total (phase.SendHeld size) (SendingBytes bytes) =
     (length bytes ≡ size) × (total ≡ size) × (1 ≤ min expected size)
 IsDoing before expected total (phase.AwaitFrontier number size) (Awaiting commands) =
     (number ≡ before + commands) × (total ≡ size)
-IsDoing before expected total (phase.SendData x) (SendingBytes bytes) =
-    (bytes ≡ data_bytes x) × (total ≡ data_length x) × (1 ≤ min expected (data_length x))
 IsDoing before expected total (phase.SendBlocks x) (Sending blocks sent) = IsSending x expected total blocks sent
 IsDoing before expected total (phase.ReadArea r) (ReadingArea pages) = IsReadingArea r total pages
 IsDoing before expected total (phase.Answer told size) (Answering s carried) =
@@ -249,7 +247,6 @@ FramesFit (phase.AwaitFrames size) f held deed = f ≡ Undecided
 FramesFit (phase.AskList unit size) f held deed = f ≡ NotBrought
 FramesFit (phase.AwaitList unit size) f held deed = f ≡ NotBrought
 FramesFit (phase.SendBlocks x) f held deed = f ≡ NotBrought
-FramesFit (phase.SendData x) f held deed = f ≡ NotBrought
 FramesFit (phase.SendHeld size) f held deed = (f ≡ NotBrought) × IsSentFrom size held deed
 FramesFit (phase.ReadArea r) f held deed = HasRequest f × PartsStand r held deed
 FramesFit p f held deed = Unit {0}
@@ -421,7 +418,7 @@ pub record Keeps (d : DeviceCore) (s : State) : Type 0 where
   pub wanted : (tag index : ℕ) → wanted_kept s.translation.pins tag index ≡ wanted_by index (task_of tag s.tasks)
   pub claims : AreClaimed d.ftl (claims_of (numbers_of s) s.tasks)
   pub shorts : ShortsKept (numbers_of s) (before_accepted s.translation.ledger) d.shorts s.shorts
-  pub power_on : d.is_power_on ≡ s.power_on
+  pub volatile : d.volatile ≡ s.volatile
 
 -- what is kept describes the state: it agrees with the state part by part, and the state is one that a life can come to
 pub record Describes (d : DeviceCore) (s : State) : Type 0 where

@@ -5,6 +5,8 @@ use Rattle.std.specs.Prelude.{if◌then◌else◌, List, [], ◌∷◌, ◌++◌
 use Rattle.std.specs.List.{list_any}
 use Rattle.std.specs.Prelude.{drop, fold, length, map, position, replicate, slice_get, take, Option, Some, None}
 use Rattle.std.specs.Prelude.{Result, Ok}
+use Rattle.byteorder.specs.Endian.{big_bytes}
+use Rattle.ufs_spec.specs.Begins.{no_sense}
 use Rattle.ufs_spec.specs.Commands.{Command}
 use Rattle.ufs_spec.specs.Exchanges.{CheckCondition, ReadState}
 use Rattle.ufs_spec.specs.FrameRequests.{first_page, pages_named, reads_area}
@@ -98,12 +100,18 @@ handed_over d k region =
       rpmb = with_machine d.rpmb region (with_none_waiting (machine_at d.rpmb region));
     }
 
--- what is told of the units of a device with this configuration (SPC, INQUIRY and REPORT LUNS)
+-- the last address of a unit of so many blocks, and 4096 as the length of a block (SBC, READ CAPACITY(10))
+abbrev pub capacity_told : ℕ → List ℕ
+capacity_told blocks = big_bytes 4 (blocks - 1) ++ big_bytes 4 4096
+
+-- what is told of a device with this configuration and of its units (SPC, SBC)
 abbrev pub identity_bytes : Numbers → Identity → List ℕ
+identity_bytes n identity.Sense = no_sense
+identity_bytes n (identity.Capacity blocks) = capacity_told blocks
 identity_bytes n (identity.Unit lun) = inquiry_bytes lun
 identity_bytes n (identity.Luns select) = luns_bytes n select
 
--- where that was planned for it, the last task keeps what it sends: what waits, or what it tells of the units
+-- where that was planned for it, the last task keeps what it sends: what waits, or what it tells
 abbrev pub sent_kept : Numbers → DeviceCore → Result Plan Status → DeviceCore
 sent_kept n d (Ok (plan.TakeFrames region size taken)) = handed_over d (length d.tasks - 1) region
 sent_kept n d (Ok (plan.Tell told size taken)) =

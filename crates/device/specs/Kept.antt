@@ -1,5 +1,5 @@
 -- What the device keeps, as its contracts see it.
-use Rattle.std.specs.Prelude.{ℕ, ◌*◌, Bool, false, List, [], ◌∷◌, Option}
+use Rattle.std.specs.Prelude.{ℕ, ◌*◌, Bool, List, [], ◌∷◌, Option}
 use Rattle.ufs_spec.specs.declared.configs.Numbers.{Numbers}
 use Rattle.ufs_spec.specs.declared.flash.Job.{Job}
 use Rattle.ufs_spec.specs.Dies.{DieState}
@@ -12,6 +12,8 @@ use Rattle.rpmb.specs.Kept.{Machine, idle_machines}
 use Rattle.rpmb.specs.declared.regions.RegionState.{RegionState}
 use Rattle.task_set.specs.Kept.{OpenTask}
 use Rattle.task_set.specs.declared.tasks.Short.{Short}
+use Rattle.ufs_spec.specs.declared.volatile.TheConstants.Volatile.{NEW}
+use Rattle.ufs_spec.specs.declared.volatile.Volatile.{Volatile}
 
 -- what is kept of the layer describes it, and these blocks lie in the slots that tasks have claimed, by their tags
 abbrev pub IsLayerWith : Core → Translation → Claims → Type 0
@@ -24,7 +26,7 @@ pub record DeviceCore : Type 0 where
   pub ftl : Core
   pub boot : ℕ
   pub is_permanent : Bool
-  pub is_power_on : Bool
+  pub volatile : Volatile
   pub rpmb : List Machine
   pub tasks : List OpenTask
   pub shorts : List Short
@@ -49,7 +51,7 @@ idle_device layer settings regions = record {
   ftl = layer;
   boot = settings.boot;
   is_permanent = settings.is_permanent;
-  is_power_on = false;
+  volatile = NEW;
   rpmb = idle_machines regions;
   tasks = [];
   shorts = [];

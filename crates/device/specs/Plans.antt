@@ -1,29 +1,29 @@
 -- What a command does, or the status that ends it: the first line of the table that applies decides.
-use Rattle.std.specs.Prelude.{◌≡◌, ℕ, ◌<◌, ◌*◌, ◌==◌, ◌&&◌, ◌||◌, min, not, Bool, false, if◌then◌else◌, List, [], ◌∷◌}
+use Rattle.std.specs.Prelude.{◌≡◌, ℕ, ◌*◌, ◌==◌, ◌||◌, min, Bool, if◌then◌else◌, List, [], ◌∷◌}
 use Rattle.std.specs.Prelude.{Option}
 use Rattle.std.specs.Prelude.{Some, None, Result, Ok, Err}
 use Rattle.std.specs.Int.{div_ceil}
-use Rattle.ufs_spec.specs.Cdbs.{length_of, operation_of, six_blocks}
+use Rattle.ufs_spec.specs.CdbFields.{spelled_cdb}
+use Rattle.ufs_spec.specs.Cdbs.{length_of}
 use Rattle.ufs_spec.specs.Begins.{unit_or_first}
 use Rattle.ufs_spec.specs.Exchanges.{Busy, invalid_field, not_ready, sequence_error, write_protected}
 use Rattle.ufs_spec.specs.Keys.{data_key}
 use Rattle.ufs_spec.specs.Machine.{IsCdbIn}
-use Rattle.ufs_spec.specs.Plain.{regions}
 use Rattle.ufs_spec.specs.Refusals.{Line, Request, State, has_other_response, is_crowded, is_refused_write}
-use Rattle.ufs_spec.specs.Refusals.{is_unready, lacks_response, line, numbers_of, operation_in, refusal}
+use Rattle.ufs_spec.specs.Refusals.{is_unready, lacks_response, line, numbers_of, refusal}
 use Rattle.ufs_spec.specs.Refusals.{units_listed}
 use Rattle.ufs_spec.specs.declared.configs.Numbers.{Numbers}
 use Rattle.ufs_spec.specs.declared.configs.UnitSpec.{UnitSpec}
+use Rattle.ufs_spec.specs.declared.operations.Told.{Told}
+use Rattle.ufs_spec.specs.declared.operations.Told.TheVariants as told
 use Rattle.ufs_spec.specs.declared.scsi.Cdb.{Cdb}
 use Rattle.ufs_spec.specs.declared.scsi.Cdb.TheVariants as cdb
 use Rattle.device.specs.declared.plans.Identity.{Identity}
 use Rattle.device.specs.declared.plans.Identity.TheVariants as identity
 use Rattle.device.specs.declared.plans.Plan.{Plan}
 use Rattle.device.specs.declared.plans.Plan.TheVariants as plan
-use Rattle.task_set.specs.declared.tasks.ShortData.{ShortData}
-use Rattle.task_set.specs.declared.tasks.ShortData.TheVariants as sent
 use Rattle.task_set.specs.declared.tasks.Status.{Status}
-use Rattle.task_set.specs.Tasks.{data_length, status_kept}
+use Rattle.task_set.specs.Tasks.{status_kept}
 use Rattle.device.specs.Targets.{IsNamed, blocks_in, target_of}
 use Rattle.device.specs.declared.targets.Target.{Target}
 
@@ -37,16 +37,10 @@ pub record IsRequest (r : Request) (flags lun expected : ℕ) (bytes : List ℕ)
   pub bytes_are : r.bytes ≡ bytes
   pub spelled : IsCdbIn (Some bytes) r.cdb
 
--- a security command names the number of a region, whether or not that is there
-abbrev pub IsOfRegion : Cdb → Type 0
-IsOfRegion (cdb.SecurityIn region size) = region < regions
-IsOfRegion (cdb.SecurityOut region size) = region < regions
-IsOfRegion command = Unit {0}
-
 -- lines 8 to 11, which depend on what the device is now
 abbrev pub lines_now : State → Option UnitSpec → Cdb → List Line
 lines_now s unit command =
-    line (is_unready s (operation_of command)) not_ready
+    line (is_unready s command) not_ready
     ∷ line (is_refused_write s unit command) write_protected
     ∷ line (lacks_response s command) sequence_error
     ∷ line (has_other_response s command) invalid_field
@@ -66,10 +60,6 @@ abbrev pub write_plan : ℕ → ℕ → ℕ → Bool → Plan
 write_plan lun address blocks forced =
     if blocks == 0 then plan.Nothing 0 else plan.Write (data_key lun address) blocks forced
 
--- data other than blocks are sent, unless there are none or the host expects none
-abbrev pub data_plan : ℕ → ShortData → Plan
-data_plan expected x = if min expected (data_length x) == 0 then plan.Nothing (data_length x) else plan.Send x
-
 -- an UNMAP without a list is done at once; any other asks for its list
 abbrev pub list_plan : ℕ → ℕ → Plan
 list_plan unit list = if list == 0 then plan.Nothing 0 else plan.AskList unit list
@@ -78,38 +68,34 @@ list_plan unit list = if list == 0 then plan.Nothing 0 else plan.AskList unit li
 abbrev pub length_on : Numbers → Cdb → ℕ
 length_on n command = length_of (units_listed n command) command
 
--- what a command about this target tells of the units
-abbrev pub identity_of : Target → Cdb → Option Identity
-identity_of to (cdb.Inquiry allocation) = Some (identity.Unit to.lun)
-identity_of to (cdb.ReportLuns select allocation) = Some (identity.Luns select)
-identity_of to command = None
+-- what a command about this target tells
+abbrev pub identity_of : Target → Told → ℕ → Identity
+identity_of to told.Sense select = identity.Sense
+identity_of to told.Identity select = identity.Unit to.lun
+identity_of to told.Capacity select = identity.Capacity (blocks_in to.spec)
+identity_of to told.Units select = identity.Luns select
 
--- what a command does that tells this of the units in so many bytes
+-- what a command does that tells this in so many bytes
 abbrev pub tell_plan : ℕ → Identity → ℕ → Plan
 tell_plan expected told size = plan.Tell told size (min expected size)
+
+-- a flush with IMMED is answered at once
+abbrev pub flush_plan : Bool → Plan
+flush_plan immediate = if immediate then plan.Nothing 0 else plan.Flush
 
 -- what a command about this target does that passed the table, on a device with this configuration, where the host
 -- expects so many bytes
 abbrev pub plan_of : Numbers → Target → ℕ → Cdb → Plan
-plan_of n to expected (cdb.RequestSense allocation) = data_plan expected (sent.NoSense allocation)
-plan_of n to expected (cdb.Inquiry allocation) =
-    tell_plan expected (identity.Unit to.lun) (length_on n (cdb.Inquiry allocation))
-plan_of n to expected (cdb.ReportLuns select allocation) =
-    tell_plan expected (identity.Luns select) (length_on n (cdb.ReportLuns select allocation))
-plan_of n to expected cdb.ReadCapacity10 = data_plan expected (sent.Capacity (blocks_in to.spec))
-plan_of n to expected (cdb.Read6 address blocks) =
-    read_plan (unit_or_first to.unit) expected address (six_blocks blocks)
-plan_of n to expected (cdb.Write6 address blocks) =
-    write_plan (unit_or_first to.unit) address (six_blocks blocks) false
-plan_of n to expected (cdb.Read10 address blocks forced) = read_plan (unit_or_first to.unit) expected address blocks
-plan_of n to expected (cdb.Write10 address blocks forced) =
+plan_of n to expected cdb.Nothing = plan.Nothing 0
+plan_of n to expected (cdb.Tell what select allocation) =
+    tell_plan expected (identity_of to what select) (length_on n (cdb.Tell what select allocation))
+plan_of n to expected (cdb.Read address blocks) = read_plan (unit_or_first to.unit) expected address blocks
+plan_of n to expected (cdb.Write address blocks forced) =
     write_plan (unit_or_first to.unit) address blocks forced
-plan_of n to expected (cdb.SynchronizeCache10 address blocks immediate) =
-    if immediate then plan.Nothing 0 else plan.Flush
+plan_of n to expected (cdb.Flush immediate) = flush_plan immediate
 plan_of n to expected (cdb.Unmap list) = list_plan (unit_or_first to.unit) list
 plan_of n to expected (cdb.SecurityOut region size) = plan.AskFrames region size
 plan_of n to expected (cdb.SecurityIn region size) = plan.TakeFrames region size (min expected size)
-plan_of n to expected command = plan.Nothing 0
 
 -- a request that no line of the table refuses, and what it does
 pub record Passes (s : State) (r : Request) (todo : Plan) : Type 0 where
@@ -117,8 +103,7 @@ pub record Passes (s : State) (r : Request) (todo : Plan) : Type 0 where
   pub named : IsNamed s r
   pub command : Cdb
   pub is : r.cdb ≡ Some command
-  pub spelled : operation_of command ≡ operation_in r
-  pub in_region : IsOfRegion command
+  pub spelled : spelled_cdb r.bytes ≡ Some command
   pub todo_is : todo ≡ plan_of (numbers_of s) (target_of s r) r.expected command
 
 -- the plan of a request, or the status that ends it

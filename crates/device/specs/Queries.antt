@@ -1,5 +1,5 @@
 -- What a query is answered, and what a setting makes of what the device keeps (JESD220, 10.7.8, 10.7.9 and 14).
-use Rattle.std.specs.Prelude.{◌≡◌, ℕ, ◌==◌, ◌&&◌, ◌||◌, nat_le, not, Bool, true, List, [], Some, None}
+use Rattle.std.specs.Prelude.{◌≡◌, ℕ, ◌==◌, ◌&&◌, nat_le, not, true, List, [], Some, None}
 use Rattle.ufs_spec.specs.Ledger.{next_number}
 use Rattle.ufs_spec.specs.Moves.{Accept, Claim, IsAllowedMove, moved}
 use Rattle.ufs_spec.specs.Plain.{apply, Plain}
@@ -27,12 +27,13 @@ use Rattle.device.specs.Groups.{key_group, settings_kept}
 use Rattle.device.specs.Hears.{with_short}
 use Rattle.device.specs.Kept.{DeviceCore, IsLayerWith}
 use Rattle.device.specs.Replies.{query_with}
+use Rattle.ufs_spec.specs.declared.volatile.Volatile.{Volatile}
 
 -- The answer
 
 -- the settings and flags that a query finds
 abbrev pub settings_found : DeviceCore → QuerySettings
-settings_found d = record { boot = d.boot; is_permanent = d.is_permanent; is_power_on = d.is_power_on }
+settings_found d = record { boot = d.boot; is_permanent = d.is_permanent; volatile = d.volatile }
 
 -- the answer is the right one to the query in this state: its response code is that of the table, it says what it has
 -- to, and it is a setting only if one can be accepted
@@ -40,7 +41,7 @@ pub record IsAnswerTo (s : State) (q : Query) (x : QueryAnswer) : Type 0 where
   pub code : code_of x ≡ query_code (numbers_of s) (plain_now s) (may_set s) q
   pub succeeds_is : succeeds x ≡
       (query_code (numbers_of s) (plain_now s) (may_set s) q == 0x00) && not (q.asked.opcode == 0)
-  pub says : Says (plain_now s) s.power_on q x
+  pub says : Says (plain_now s) s.volatile q x
   pub may : is_setting x ≡ true → may_set s ≡ true
 
 -- What it makes of the device
@@ -49,10 +50,10 @@ pub record IsAnswerTo (s : State) (q : Query) (x : QueryAnswer) : Type 0 where
 abbrev pub at_once : ℕ → ShortReply → Short
 at_once tag said = record { tag = tag; awaits = None; reply = said }
 
--- a query is told this at once; fPowerOnWPEn is set if it says so
+-- a query is told this at once; what is volatile is as it says
 abbrev pub tells_at_once : DeviceCore → ℕ → Queried → Told → DeviceCore
 tells_at_once d tag query told =
-    with_short (record d { is_power_on = d.is_power_on || told.sets_power_on })
+    with_short (record d { volatile = told.volatile })
     (at_once tag (reply.QueryDone query told.value))
 
 -- the boot setting or fPermanentWPEn is as it was accepted
@@ -77,8 +78,8 @@ pub record HasSet (before after : DeviceCore) (tag : ℕ) (query : Queried) (x :
   pub layer : Core
   pub number : ℕ
   pub value : ℕ
-  pub value_is : (p : Plain) (power_on : Bool) (q : Query) → setting_of q ≡ Some (command_of x) →
-      value ≡ value_told (apply p (command_of x)) power_on q
+  pub value_is : (p : Plain) (volatile : Volatile) (q : Query) → setting_of q ≡ Some (command_of x) →
+      value ≡ value_told (apply p (command_of x)) volatile q
   pub put : HasPutSetting before.ftl layer tag (bytes_of (settings_kept (with_setting before x))) number
   pub told : (t : Translation) → Describes layer t →
       after

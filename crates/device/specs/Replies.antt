@@ -1,13 +1,11 @@
 -- Which replies are due, what they say, and what becomes of their tasks.
-use Rattle.std.specs.Prelude.{◌≡◌, ℕ, ◌+◌, ◌-◌, ◌*◌, ◌≤◌, ◌++◌, min, nat_le, nat_lt, Bool, true, false, if◌then◌else◌}
+use Rattle.std.specs.Prelude.{◌≡◌, ℕ, ◌+◌, ◌-◌, ◌*◌, ◌≤◌, min, nat_le, nat_lt, Bool, true, false, if◌then◌else◌}
 use Rattle.std.specs.Prelude.{find, length, ⊤, List, remove, slice_get, take, Option, Some, None, option_map}
 use Rattle.std.specs.List.{list_any}
-use Rattle.byteorder.specs.Endian.{big_bytes}
 use Rattle.ufs_spec.specs.Exchanges as exchange
 use Rattle.ufs_spec.specs.Exchanges.{response}
 use Rattle.ufs_spec.specs.Ledger.{Entry, Ledger, before_accepted, entry_of}
-use Rattle.ufs_spec.specs.Machine.{no_sense}
-use Rattle.ufs_spec.specs.Messages.{spelling, zeros}
+use Rattle.ufs_spec.specs.Messages.{spelling}
 use Rattle.ufs_spec.specs.Moves.{Acknowledge, LetGo, LetGoAll, WantPage, is_pin_of, moved}
 use Rattle.ufs_spec.specs.Plain.{zero_block}
 use Rattle.ufs_spec.specs.Queries.{Query, descriptor_told}
@@ -24,21 +22,19 @@ use Rattle.task_set.specs.declared.tasks.Phase.TheVariants as phase
 use Rattle.task_set.specs.declared.tasks.Queried.{Queried}
 use Rattle.task_set.specs.declared.tasks.Sending.{Sending}
 use Rattle.task_set.specs.declared.tasks.Short.{Short}
-use Rattle.task_set.specs.declared.tasks.ShortData.{ShortData}
 use Rattle.task_set.specs.declared.tasks.ShortReply.{ShortReply}
 use Rattle.task_set.specs.declared.tasks.ShortReply.TheVariants as reply
 use Rattle.task_set.specs.declared.tasks.Status.{Status}
 use Rattle.task_set.specs.declared.tasks.Status.TheVariants as status
 use Rattle.task_set.specs.declared.tasks.Task.{Task}
 use Rattle.task_set.specs.declared.tasks.TaskEvent.TheVariants as event
-use Rattle.task_set.specs.declared.tasks.ShortData.TheVariants as sent
 use Rattle.task_set.specs.Kept.{OpenTask, task_in}
 use Rattle.task_set.specs.Shorts.{is_short_due}
 use Rattle.task_set.specs.declared.frames.Frames.{Frames}
 use Rattle.task_set.specs.declared.frames.Frames.TheVariants.{Answered, Decided, NotBrought, Undecided}
 use Rattle.device.specs.Calls.{with_event}
 use Rattle.device.specs.Kept.{DeviceCore, IsLayerWith}
-use Rattle.task_set.specs.Tasks.{data_length, status_kept}
+use Rattle.task_set.specs.Tasks.{status_kept}
 
 -- Blocks
 
@@ -78,27 +74,6 @@ abbrev pub block_message : Task → Sending → List ℕ → Message
 block_message t x block =
     message.DataIn t.lun t.tag (4096 * x.sent) (record { items = take (count_of t.expected x) block })
 
--- the data of a task other than a block
-abbrev pub data_bytes : ShortData → List ℕ
-data_bytes (sent.NoSense allocation) = take allocation no_sense
-data_bytes (sent.Capacity blocks) = big_bytes 4 (blocks - 1) ++ big_bytes 4 4096
-
--- data other than a block, with zeros behind them up to eighteen bytes
-abbrev pub data_padded : ShortData → List ℕ
-data_padded (sent.NoSense allocation) = no_sense
-data_padded (sent.Capacity blocks) = data_bytes (sent.Capacity blocks) ++ zeros 10
-
--- the first of them, as many as the host expects; of a host that expects none the first one
-abbrev pub data_count : ℕ → ShortData → ℕ
-data_count expected x =
-    if nat_lt (min expected (data_length x)) 1 then 1
-    else if nat_lt 18 (min expected (data_length x)) then 18
-    else min expected (data_length x)
-
--- the DATA IN of a task with data other than blocks: all of them in one message
-abbrev pub data_message : Task → ShortData → Message
-data_message t x = message.DataIn t.lun t.tag 0 (record { items = take (data_count t.expected x) (data_padded x) })
-
 -- how many bytes of what a task keeps are sent: as many as the host expects, at least one and at most 4096
 abbrev pub frames_count : ℕ → ℕ → ℕ
 frames_count expected size = count_in (min expected size)
@@ -127,7 +102,6 @@ owed_in t read held a (phase.AwaitData x) = None
 owed_in t read held a (phase.AwaitFrontier n size) =
     if nat_le n t.ledger.frontier then Some (answer_of a status.Good size) else None
 owed_in t read held a (phase.SendBlocks x) = option_map (block_message a x) (block_for t read a.tag x.sent)
-owed_in t read held a (phase.SendData x) = Some (data_message a x)
 owed_in t read held a (phase.AskFrames size) = Some (message.ReadyToTransfer a.lun a.tag 0 size)
 owed_in t read held a (phase.AwaitFrames size) = None
 owed_in t read held a (phase.AskList unit size) = Some (message.ReadyToTransfer a.lun a.tag 0 size)
@@ -158,7 +132,6 @@ abbrev pub moved_on : DeviceCore → ℕ → Phase → DeviceCore
 moved_on d k (phase.AskData x) = with_event d k event.DataAskedFor
 moved_on d k (phase.AwaitData x) = d
 moved_on d k (phase.AwaitFrontier n size) = without_task d k
-moved_on d k (phase.SendData x) = with_event d k event.DataSent
 moved_on d k (phase.SendBlocks x) = with_event d k event.BlockSent
 moved_on d k (phase.AskFrames size) = with_event d k event.DataAskedFor
 moved_on d k (phase.AwaitFrames size) = d
@@ -173,7 +146,6 @@ moved_on d k (phase.Answer s n) = without_task d k
 abbrev pub HasMoved : Core → Translation → Claims → ℕ → Phase → Type 0
 HasMoved after t claims tag (phase.AskData x) = IsLayerWith after t claims
 HasMoved after t claims tag (phase.AwaitData x) = IsLayerWith after t claims
-HasMoved after t claims tag (phase.SendData x) = IsLayerWith after t claims
 HasMoved after t claims tag (phase.AwaitFrontier n size) =
     (commands : ℕ) → before_accepted t.ledger + commands ≤ t.ledger.frontier →
     IsLayerWith after (moved (moved t (Acknowledge commands)) (LetGoAll tag)) claims

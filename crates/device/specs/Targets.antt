@@ -1,9 +1,8 @@
 -- What a command is about: the unit whose blocks it reads or writes (JESD220, 10.8).
 use Rattle.std.specs.Prelude.{◌≡◌, ℕ, true, false, Option, Some, None, Result, Ok, Err}
 use Rattle.ufs_spec.specs.Exchanges.{CheckCondition}
-use Rattle.ufs_spec.specs.Messages.{is_among}
-use Rattle.ufs_spec.specs.Refusals.{Lun, Request, State, lacks_unit, lun_of, numbers_of, operation_in, operations_of}
-use Rattle.ufs_spec.specs.Refusals.{refusal, unit_numbers_of, unit_of_request}
+use Rattle.ufs_spec.specs.Refusals.{Lun, Request, State, lacks_unit, lun_of, numbers_of, refusal, row_in}
+use Rattle.ufs_spec.specs.Refusals.{takes_row, unit_numbers_of, unit_of_request}
 use Rattle.ufs_spec.specs.declared.configs.UnitSpec.{UnitSpec}
 use Rattle.ufs_spec.specs.declared.scsi.Sense.{Sense}
 use Rattle.device.specs.declared.targets.Target.{Target}
@@ -22,7 +21,7 @@ pub record IsNamed (s : State) (r : Request) : Type 0 where
   pub lun : Lun
   pub named : lun_of (numbers_of s) r.lun ≡ Some lun
   pub there : lacks_unit s r (Some lun) ≡ false
-  pub takes_it : is_among (operations_of lun) (operation_in r) ≡ true
+  pub takes_it : takes_row lun (row_in r) ≡ true
 
 -- what the request is about; or the status that ends it, where its unit is not there or does not take the code
 abbrev pub IsRouted : State → Request → Result Target Sense → Type 0

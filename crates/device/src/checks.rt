@@ -1,24 +1,26 @@
 //! The checks of a command, in the order in which the first that applies ends it.
-ghost use Rattle.std.specs.Prelude.{◌≡◌, ◌≤◌, ℕ, ◌*◌, ◌==◌, ◌&&◌, false, not, option_map, IfErr, IfOk, IsOk, None};
+ghost use Rattle.std.specs.Prelude.{◌≡◌, ◌≤◌, ◌<◌, ◌^◌, ℕ, ◌*◌, ◌==◌, ◌&&◌, false, not, option_map, IfErr, IfOk, IfSome, IsOk, None};
 ghost use Rattle.std.specs.Prelude.{Some};
 ghost use Rattle.ufs_spec.specs.Configs.{command_blocks};
 ghost use Rattle.ufs_spec.specs.Plain.{greatest_command};
 ghost use Rattle.ufs_spec.specs.Translation.{Translation};
-ghost use Rattle.ufs_spec.specs.Cdbs.{address_of, blocks_of, direction_of, operation_of, test_unit_ready};
+ghost use Rattle.ufs_spec.specs.CdbFields.{spelled_in};
+ghost use Rattle.ufs_spec.specs.Cdbs.{address_of, blocks_of, direction_of};
 ghost use Rattle.ufs_spec.specs.Cdbs.{length_of as length_of_command};
 ghost use Rattle.ufs_spec.specs.Refusals.{Request, State, first_line, flushes, has_other_response};
 ghost use Rattle.ufs_spec.specs.Refusals.{has_wrong_list};
 ghost use Rattle.ufs_spec.specs.Refusals.{is_crowded, is_frames, is_past, is_protected, is_refused_write};
 ghost use Rattle.ufs_spec.specs.Refusals.{is_too_long, lacks_data, lacks_region, lacks_response, lines_for};
-ghost use Rattle.ufs_spec.specs.Refusals.{is_ready_for, is_unready};
+ghost use Rattle.ufs_spec.specs.Refusals.{is_ready_for, is_unready, tests_unit};
 ghost use Rattle.ufs_spec.specs.Refusals.{needs_mended, numbers_of, slots_needed, unit_numbers_of, units_listed};
 ghost use Rattle.ufs_spec.specs.Refusals.{writes};
 ghost use Rattle.ufs_spec.specs.Keys.{data_key};
 ghost use Rattle.ufs_spec.specs.declared.configs.Numbers.{Numbers};
+ghost use Rattle.ufs_spec.specs.declared.scsi.Cdb.TheVariants.{Tell};
 ghost use Rattle.ftl_core.specs.Public.{Describes as IsLayer};
 ghost use Rattle.device.specs.Bare.{IsBare};
-ghost use Rattle.device.specs.Plans.{IsPlanned, IsRequest, data_plan, identity_of, lines_now};
-ghost use Rattle.device.specs.Plans.{list_plan, plan_of, read_plan, tell_plan, write_plan};
+ghost use Rattle.device.specs.Plans.{IsPlanned, IsRequest, identity_of, lines_now};
+ghost use Rattle.device.specs.Plans.{flush_plan, list_plan, plan_of, read_plan, tell_plan, write_plan};
 ghost use Rattle.task_set.specs.Tasks.{status_kept};
 
 use crate::device::Device;
@@ -27,9 +29,9 @@ use crate::targets::Target;
 use crate::unmap::{LIST_HEADER, LIST_OF_ONE, list_slots};
 use geometry::command_blocks;
 use lun_route::units_listed;
-use scsi_cdb::{address_of, blocks_of, length_of};
-use task_set::{BLOCK_BYTES, ShortData, Status};
-use ufs_spec::{Cdb, Key, Numbers, Sense, Tag, UnitSpec};
+use scsi_cdb::{address_of, blocks_of, length_of, row_of, spelled};
+use task_set::{BLOCK_BYTES, Status};
+use ufs_spec::{Cdb, Key, Numbers, Row, Sense, Tag, Told, UnitSpec};
 
 /// The flags of a COMMAND whose data go to the device, and of one whose data come from it (JESD220,
 /// 10.7.1).
@@ -49,6 +51,9 @@ const POWER_ON: u8 = 1;
 
 const PERMANENT: u8 = 2;
 
+/// How many addresses a key may have.
+const ADDRESSES: u64 = 1 << 32;
+
 /// How many slots a SECURITY PROTOCOL OUT claims: for two pages of the area and the settings.
 pub(crate) const FRAME_SLOTS: u16 = 3;
 
@@ -57,7 +62,17 @@ fn listed_by(numbers: &Numbers, cdb: &Cdb) -> u8
     ensures { result ≡ units_listed numbers.now cdb.now }
 {
     match cdb {
-        Cdb::ReportLuns { select, .. } => units_listed(numbers, *select),
+        Cdb::Tell { told, select, .. } => listed_in(numbers, *told, *select),
+        _ => 0,
+    }
+}
+
+/// The same of a command that tells this of what is selected.
+fn listed_in(numbers: &Numbers, told: Told, select: u8) -> u8
+    ensures { (allocation : ℕ) → result ≡ units_listed numbers.now (Tell told select allocation) }
+{
+    match told {
+        Told::Units => units_listed(numbers, select),
         _ => 0,
     }
 }
@@ -65,14 +80,15 @@ fn listed_by(numbers: &Numbers, cdb: &Cdb) -> u8
 /// Whether the flag of the direction of the command's data is not set, or the host has fewer bytes to
 /// write than the command. A REPORT LUNS lists so many units.
 fn lacks_data(listed: u8, cdb: &Cdb, flags: u8, expected: u32) -> bool
+    requires { blocks_of cdb.now ≤ greatest_command }
     ensures { (r : Request) → r.flags ≡ flags → r.expected ≡ expected →
         result ≡ lacks_data r (direction_of cdb.now) (length_of_command listed cdb.now) }
 {
     let length = length_of(listed, cdb);
     match cdb {
-        Cdb::TestUnitReady | Cdb::SynchronizeCache10 { .. } => false,
-        Cdb::Write6 { .. } | Cdb::Write10 { .. } | Cdb::Unmap { .. } | Cdb::SecurityOut { .. } =>
-            length > 0 && (flags != WRITES || expected < length),
+        Cdb::Nothing | Cdb::Flush { .. } => false,
+        Cdb::Write { .. } | Cdb::Unmap { .. } | Cdb::SecurityOut { .. } => length > 0
+            && (flags != WRITES || expected < length),
         _ => length > 0 && flags != READS,
     }
 }
@@ -124,33 +140,31 @@ fn are_frames(length: u32) -> bool
 
 /// Whether a block of the command lies past the unit.
 fn is_out_of_range(cdb: &Cdb, unit: Option<UnitSpec>) -> bool
-    ensures { result ≡ is_past cdb.now unit }
+    ensures past { result ≡ is_past cdb.now unit }
+    ensures within { result ≡ false → IfSome unit (λ spec. address_of cdb.now < 2 ^ 32) }
 {
     match unit {
-        Some(unit) => address_of(cdb) as u64 + blocks_of(cdb) as u64 > unit.blocks as u64,
+        Some(unit) => {
+            let (blocks, count) = (u64::from(unit.blocks), u64::from(blocks_of(cdb)));
+            count > blocks || address_of(cdb) > blocks - count
+        }
         None => false,
     }
 }
 
-/// Whether the command is taken only once the device is ready for it: all but those that tell of the device
-/// and of its units.
+/// Whether the command is taken only once the device is ready for it: all but those that tell of the
+/// device.
 fn needs_mended(cdb: &Cdb) -> bool
-    ensures { result ≡ needs_mended (operation_of cdb.now) }
+    ensures { result ≡ needs_mended cdb.now }
 {
-    !matches!(
-        cdb,
-        Cdb::RequestSense { .. }
-            | Cdb::ReadCapacity10
-            | Cdb::Inquiry { .. }
-            | Cdb::ReportLuns { .. }
-    )
+    !matches!(cdb, Cdb::Tell { .. })
 }
 
 /// Whether the command asks if the device is ready.
 fn tests_unit(cdb: &Cdb) -> bool
-    ensures { result ≡ (operation_of cdb.now == test_unit_ready) }
+    ensures { result ≡ tests_unit cdb.now }
 {
-    matches!(cdb, Cdb::TestUnitReady)
+    matches!(cdb, Cdb::Nothing)
 }
 
 /// Whether the command changes blocks: a WRITE of some, or an UNMAP whose list has a descriptor.
@@ -158,8 +172,7 @@ fn writes(cdb: &Cdb) -> bool
     ensures { result ≡ writes cdb.now }
 {
     match cdb {
-        Cdb::Write6 { .. } => true,
-        Cdb::Write10 { blocks, .. } => *blocks > 0,
+        Cdb::Write { blocks, .. } => *blocks > 0,
         Cdb::Unmap { list } => *list == LIST_OF_ONE,
         _ => false,
     }
@@ -169,7 +182,7 @@ fn writes(cdb: &Cdb) -> bool
 fn flushes(cdb: &Cdb) -> bool
     ensures { result ≡ flushes cdb.now }
 {
-    matches!(cdb, Cdb::SynchronizeCache10 { .. })
+    matches!(cdb, Cdb::Flush { .. })
 }
 
 /// How many slots the command needs: one a block that it writes, as many as a command may have blocks
@@ -178,36 +191,61 @@ fn slots_needed(most: u16, cdb: &Cdb) -> u32
     ensures { (n : Numbers) → most ≡ command_blocks n → result ≡ slots_needed n cdb.now }
 {
     match cdb {
-        Cdb::Write6 { .. } | Cdb::Write10 { .. } => blocks_of(cdb),
-        Cdb::Unmap { list } => u32::from(list_slots(most, u32::from(*list))),
+        Cdb::Write { blocks, .. } => *blocks,
+        Cdb::Unmap { list } => u32::from(list_slots(most, *list)),
         Cdb::SecurityOut { .. } => u32::from(FRAME_SLOTS),
         _ => 0,
     }
 }
 
-/// What a command about this target does that passed the checks.
+/// What a command about this target does that passed the checks. Its address fits a key, since its blocks
+/// lie in a unit.
 fn plan_of(numbers: &Numbers, cdb: &Cdb, target: Target, expected: u32) -> Plan
     requires { blocks_of cdb.now ≤ greatest_command }
-    ensures { result ≡ plan_of numbers.now target expected cdb.now }
+    ensures { address_of cdb.now < 2 ^ 32 → result ≡ plan_of numbers.now target expected cdb.now }
 {
-    match identity_of(cdb, target) {
-        Some(told) => tell_plan(told, length_of(listed_by(numbers, cdb), cdb), expected),
-        None => other_plan(cdb, target, expected),
-    }
-}
-
-/// What a command about this target tells of the units.
-fn identity_of(cdb: &Cdb, target: Target) -> Option<Identity>
-    ensures { result ≡ identity_of target cdb.now }
-{
+    let key = Key {
+        kind: Tag::DATA,
+        unit: target.unit_of_blocks(),
+        address: (address_of(cdb) % ADDRESSES) as u32,
+    };
+    let length = length_of(listed_by(numbers, cdb), cdb);
     match cdb {
-        Cdb::Inquiry { .. } => Some(Identity::Unit { lun: target.lun }),
-        Cdb::ReportLuns { select, .. } => Some(Identity::Luns { select: *select }),
-        _ => None,
+        Cdb::Nothing => Plan::Nothing { length },
+        Cdb::Tell { told, select, .. } => {
+            tell_plan(identity_of(target, *told, *select), length, expected)
+        }
+        Cdb::Read { .. } => read_plan(key, length, expected),
+        Cdb::Write { blocks, forced, .. } => write_plan(key, *blocks, *forced),
+        Cdb::Flush { immediate } => flush_plan(*immediate),
+        Cdb::Unmap { list } => list_plan(key.unit, *list),
+        Cdb::SecurityOut { region, length } => Plan::AskFrames {
+            region: *region,
+            length: *length,
+        },
+        Cdb::SecurityIn { region, length } => Plan::TakeFrames {
+            region: *region,
+            length: *length,
+            taken: expected.min(*length),
+        },
     }
 }
 
-/// What a command does that tells of the units in so many bytes.
+/// What a command about this target tells.
+fn identity_of(target: Target, told: Told, select: u8) -> Identity
+    ensures { result ≡ identity_of target told select }
+{
+    match told {
+        Told::Sense => Identity::Sense,
+        Told::Identity => Identity::Unit { lun: target.lun },
+        Told::Capacity => Identity::Capacity {
+            blocks: target.blocks(),
+        },
+        Told::Units => Identity::Luns { select },
+    }
+}
+
+/// What a command does that tells this in so many bytes.
 fn tell_plan(told: Identity, length: u32, expected: u32) -> Plan
     ensures { result ≡ tell_plan expected told length }
 {
@@ -218,48 +256,14 @@ fn tell_plan(told: Identity, length: u32, expected: u32) -> Plan
     }
 }
 
-/// The plan of a command that does not tell of the units.
-fn other_plan(cdb: &Cdb, target: Target, expected: u32) -> Plan
-    requires { blocks_of cdb.now ≤ greatest_command }
-    ensures { (n : Numbers) → identity_of target cdb.now ≡ None →
-        result ≡ plan_of n target expected cdb.now }
+/// What a flush does: with IMMED it is answered at once.
+fn flush_plan(immediate: bool) -> Plan
+    ensures { result ≡ flush_plan immediate }
 {
-    let key = Key {
-        kind: Tag::DATA,
-        unit: target.unit_of_blocks(),
-        address: address_of(cdb),
-    };
-    match cdb {
-        Cdb::Read6 { .. } | Cdb::Read10 { .. } => read_plan(key, length_of(0, cdb), expected),
-        Cdb::Write6 { .. } => write_plan(key, blocks_of(cdb), false),
-        Cdb::Write10 { forced, .. } => write_plan(key, blocks_of(cdb), *forced),
-        Cdb::RequestSense { allocation } => data_plan(
-            ShortData::NoSense {
-                allocation: *allocation,
-            },
-            expected,
-        ),
-        Cdb::ReadCapacity10 => data_plan(
-            ShortData::Capacity {
-                blocks: target.blocks(),
-            },
-            expected,
-        ),
-        Cdb::Unmap { list } => list_plan(key.unit, u32::from(*list)),
-        Cdb::SecurityOut { region, length } => Plan::AskFrames {
-            region: *region,
-            length: *length,
-        },
-        Cdb::SecurityIn { region, length } => Plan::TakeFrames {
-            region: *region,
-            length: *length,
-            taken: expected.min(*length),
-        },
-        Cdb::SynchronizeCache10 {
-            immediate: false,
-            ..
-        } => Plan::Flush,
-        _ => Plan::Nothing { length: 0 },
+    if immediate {
+        Plan::Nothing { length: 0 }
+    } else {
+        Plan::Flush
     }
 }
 
@@ -308,15 +312,13 @@ fn list_plan(unit: u8, length: u32) -> Plan
     }
 }
 
-/// What a command does that sends these data: nothing is sent to a host that expects none.
-fn data_plan(sent: ShortData, expected: u32) -> Plan
-    ensures { result ≡ data_plan expected sent }
+/// The command that a CDB with this row spells, if it has one.
+fn spelled_in(row: Option<Row>, cdb: &[u8; 16]) -> Option<Cdb>
+    ensures { result ≡ spelled_in cdb.now row }
 {
-    let length = sent.length();
-    if length == 0 || expected == 0 {
-        Plan::Nothing { length }
-    } else {
-        Plan::Send { data: sent }
+    match row {
+        Some(row) => spelled(&row, cdb),
+        None => None,
     }
 }
 
@@ -332,13 +334,14 @@ impl Device {
         ensures { (s : State) (r : Request) → IsLayer self.now.ftl s.translation → IsBare s self.now →
             IsRequest r flags lun expected cdb.now → IsPlanned s r result }
     {
-        let target = match self.target(lun, cdb[0]) {
+        let row = row_of(cdb);
+        let target = match self.target(lun, row) {
             Ok(target) => target,
             Err(sense) => return Err(Status::CheckCondition(sense)),
         };
-        match scsi_cdb::read(cdb) {
-            Ok(cdb) => self.plan_taken(flags, expected, target, &cdb),
-            Err(sense) => Err(Status::CheckCondition(sense)),
+        match spelled_in(row, cdb) {
+            Some(cdb) => self.plan_taken(flags, expected, target, &cdb),
+            None => Err(Status::CheckCondition(Sense::INVALID_FIELD)),
         }
     }
 
@@ -351,7 +354,9 @@ impl Device {
         cdb: &Cdb,
     ) -> Result<Plan, Status>
         ensures planned { IfOk result (λ todo. (s : State) → IsLayer self.now.ftl s.translation →
-            todo ≡ plan_of (numbers_of s) target expected cdb.now) }
+            address_of cdb.now < 2 ^ 32 → todo ≡ plan_of (numbers_of s) target expected cdb.now) }
+        // The blocks of a command that passed lie in its unit.
+        ensures within { IsOk result → IfSome target.spec (λ unit. address_of cdb.now < 2 ^ 32) }
         ensures passed { IsOk result → (s : State) (r : Request) → IsLayer self.now.ftl s.translation →
             IsBare s self.now → unit_numbers_of s r ≡ target.spec → r.flags ≡ flags →
             r.expected ≡ expected →
@@ -374,6 +379,7 @@ impl Device {
             r.expected ≡ expected →
             first_line (lines_for s r cdb.now) ≡ option_map status_kept result }
         ensures few { result ≡ None → blocks_of cdb.now ≤ greatest_command }
+        ensures within { result ≡ None → IfSome unit (λ spec. address_of cdb.now < 2 ^ 32) }
     {
         let numbers = self.ftl.numbers();
         if lacks_region(numbers, cdb) {
@@ -428,7 +434,7 @@ impl Device {
     /// Whether the command is taken only once the device is ready for it, and it is not.
     fn is_too_early(&self, cdb: &Cdb) -> bool
         ensures { (s : State) → IsLayer self.now.ftl s.translation →
-            result ≡ is_unready s (operation_of cdb.now) }
+            result ≡ is_unready s cdb.now }
     {
         needs_mended(cdb) && !self.is_ready_for(cdb)
     }
@@ -437,7 +443,7 @@ impl Device {
     /// if it is locked.
     fn is_ready_for(&self, cdb: &Cdb) -> bool
         ensures { (s : State) → IsLayer self.now.ftl s.translation →
-            result ≡ is_ready_for s (operation_of cdb.now) }
+            result ≡ is_ready_for s cdb.now }
     {
         self.ftl.is_mended() || (!tests_unit(cdb) && self.ftl.is_locked())
     }
@@ -492,7 +498,7 @@ impl Device {
     {
         match unit {
             Some(unit) => {
-                (unit.protect == POWER_ON && self.is_power_on)
+                (unit.protect == POWER_ON && self.volatile.power_on)
                     || (unit.protect == PERMANENT && self.is_permanent)
             }
             None => false,

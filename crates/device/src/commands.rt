@@ -203,7 +203,6 @@ impl Device {
                     forced,
                 },
             ) => self.begin_write(tag, key, blocks, forced),
-            Ok(Plan::Send { data }) => Phase::SendData { data },
             Ok(Plan::AskFrames { region: _, length }) => self.begin_frames(tag, length),
             Ok(Plan::AskList { unit, length }) => self.begin_list(tag, unit, length),
             Ok(

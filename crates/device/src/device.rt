@@ -27,7 +27,7 @@ use settings::Settings;
 use std::alloc::{AllocError, Global};
 use std::marker::Model;
 use task_set::TaskSet;
-use ufs_spec::{Block, Job, KeyAndCounter, Numbers, OpenFault, Outcome, Tag};
+use ufs_spec::{Block, Job, KeyAndCounter, Numbers, OpenFault, Outcome, Tag, Volatile};
 
 /// How many blocks of 256 bytes the area of a region has in each of its steps (JESD220, 12.4: 128 KiB).
 const STEP_BLOCKS: u32 = 512;
@@ -65,8 +65,8 @@ pub struct Device {
     pub(crate) boot: u8,
     /// fPermanentWPEn as it was accepted: units are protected for ever (JESD220, 14.2).
     pub(crate) is_permanent: bool,
-    /// fPowerOnWPEn: units are protected until the next power cycle (JESD220, 14.2).
-    pub(crate) is_power_on: bool,
+    /// What lasts until the next power cycle.
+    pub(crate) volatile: Volatile,
     /// The regions of the replay protected memory block: their keys and counters, and their registers.
     pub(crate) rpmb: Machines,
     /// The tasks that are open, the exchanges of one reply, and the blocks that dies read for the tasks.
@@ -144,7 +144,7 @@ impl Device {
             ftl,
             boot: settings.boot,
             is_permanent: settings.is_permanent,
-            is_power_on: false,
+            volatile: Volatile::NEW,
             rpmb: Machines::new(alloc, regions)?,
             set: TaskSet::new(alloc)?,
         })

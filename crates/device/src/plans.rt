@@ -1,12 +1,15 @@
 //! What a command that passed all checks does.
-use task_set::ShortData;
 use ufs_spec::Key;
 
-/// What a command tells of the units.
+/// What a command tells of the device and of its units.
 #[derive(Clone, Copy, Debug, PartialEq, Eq)]
 pub enum Identity {
+    /// Sense data that tell of nothing (SPC, REQUEST SENSE).
+    Sense,
     /// What the unit with this LUN byte is (SPC, INQUIRY).
     Unit { lun: u8 },
+    /// How many blocks the unit has, and how long a block is (SBC, READ CAPACITY).
+    Capacity { blocks: u32 },
     /// Which units there are, of those that are selected (SPC, REPORT LUNS).
     Luns { select: u8 },
 }
@@ -30,11 +33,7 @@ pub enum Plan {
         blocks: u16,
         forced: bool,
     },
-    /// It sends these data, of which its host takes some.
-    Send {
-        data: ShortData,
-    },
-    /// It tells this of the units, the first so many bytes of it, of which its host takes so many.
+    /// It tells this, the first so many bytes of it, of which its host takes so many.
     Tell {
         told: Identity,
         length: u32,

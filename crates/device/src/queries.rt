@@ -97,7 +97,7 @@ impl Device {
         QuerySettings {
             boot: self.boot,
             is_permanent: self.is_permanent,
-            is_power_on: self.is_power_on,
+            volatile: self.volatile,
         }
     }
 
@@ -109,12 +109,12 @@ impl Device {
         self.ftl.is_mended() && !self.ftl.is_locked() && self.ftl.free_slots() > 0
     }
 
-    /// A query that is no setting is answered at once; fPowerOnWPEn may be set by it.
+    /// A query that is no setting is answered at once; it may change what is volatile.
     fn tell_query(&mut self, tag: u8, query: Queried, told: &Told)
         requires { length self.old.shorts < most_short_exchanges }
         ensures { self.new ≡ tells_at_once self.old tag query told.now }
     {
-        self.is_power_on = self.is_power_on || told.sets_power_on;
+        self.volatile = told.volatile;
         let value = told.value;
         self.push_short(at_once(tag, ShortReply::QueryDone { query, value }));
     }

@@ -27,7 +27,7 @@ ghost use Rattle.std.specs.Prelude.{length as count_tasks};
 
 use crate::device::Device;
 use crate::responses::{
-    write_answer, write_block, write_data, write_frames, write_ready, write_ready_all, write_short,
+    write_answer, write_block, write_frames, write_ready, write_ready_all, write_short,
 };
 use task_set::{Frames, Phase, Sending, Status, Task, TaskEvent};
 use ufs_spec::{Block, Looked, Name, Upiu};
@@ -127,10 +127,6 @@ impl Device {
             Phase::ReadArea { reading } => write_area_read(task, reading.length, into),
             Phase::SendBlocks { sending } => self.write_next(index, task, sending, into),
             Phase::SendHeld { length } => self.write_held(index, task, length, into),
-            Phase::SendData { data } => {
-                write_data(task, data, into);
-                true
-            }
             Phase::Answer { status, length } => {
                 write_answer(task, status, length, into);
                 true
@@ -166,7 +162,7 @@ impl Device {
         true
     }
 
-    /// Writes the DATA IN of the frames that the task at this position keeps.
+    /// Writes the DATA IN of what the task at this position keeps to send.
     fn write_held(&self, index: usize, task: &Task, length: u32, into: &mut Upiu) -> bool
         requires { index < count_tasks self.now.tasks }
         ensures nothing { result ≡ false → into.new ≡ into.old }
@@ -243,7 +239,7 @@ impl Device {
             Phase::AwaitData { transfer: _ }
             | Phase::AwaitFrames { length: _ }
             | Phase::AwaitList { unit: _, length: _ } => {}
-            Phase::SendData { data: _ } | Phase::SendHeld { length: _ } => {
+            Phase::SendHeld { length: _ } => {
                 self.happen(index, TaskEvent::DataSent);
             }
             Phase::ReadArea { reading: _ } => self.end_task(index, task.tag),

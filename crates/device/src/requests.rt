@@ -9,7 +9,7 @@ ghost use Rattle.ftl_core.specs.Public.{Claims, Describes as IsLayer, has_number
 ghost use Rattle.device.specs.Calls.{HasClaimedFrames, held_phase, with_event};
 ghost use Rattle.device.specs.Frames.{HasAnswered, HasDecided, HasFilled, HasRefused, HasRequested};
 ghost use Rattle.device.specs.Frames.{HasResponded, IsDecided, data_for, frames_brought, region_brought};
-ghost use Rattle.device.specs.Frames.{handed_over, identity_bytes, is_due_to, sent_kept, to_answer};
+ghost use Rattle.device.specs.Frames.{capacity_told, handed_over, identity_bytes, is_due_to, sent_kept, to_answer};
 ghost use Rattle.device.specs.Frames.{waiting_in_block, with_held, with_none_waiting, with_zeros};
 ghost use Rattle.rpmb.specs.Answers.{AreFew};
 ghost use Rattle.rpmb.specs.Kept.{machine_at, with_machine};
@@ -25,8 +25,9 @@ use crate::plans::{Identity, Plan};
 use crate::replies::zeros;
 use lun_route::{inquiry_bytes, luns_bytes};
 use rpmb::{Accepted, Machines, Outcome, asked_area};
-use task_set::{Frames, Phase, Status, TaskEvent};
-use ufs_spec::{Block, Sense};
+use scsi_cdb::no_sense;
+use task_set::{BLOCK_BYTES, Frames, Phase, Status, TaskEvent};
+use ufs_spec::{Block, Sense, write_u32};
 
 /// How many bytes a frame has.
 const FRAME: usize = 512;
@@ -88,6 +89,17 @@ fn take_waiting(rpmb: &mut Machines, region: u8, into: &mut Block)
     rpmb.input(region, into);
 }
 
+/// The last address of a unit of so many blocks and the length of a block (SBC, READ CAPACITY (10)
+/// parameter data). A unit has a block.
+fn capacity_bytes(blocks: u32) -> [u8; 8]
+    ensures { result ≡ capacity_told blocks }
+{
+    let mut bytes = [0; 8];
+    write_u32(&mut bytes, 0, blocks.saturating_sub(1));
+    write_u32(&mut bytes, 4, BLOCK_BYTES);
+    bytes
+}
+
 impl Device {
     /// A SECURITY PROTOCOL OUT claims slots for the pages that an RPMB write may have.
     pub(crate) fn begin_frames(&mut self, tag: u8, length: u32) -> Phase
@@ -106,7 +118,7 @@ impl Device {
     }
 
     /// The last task keeps what it sends, if this was planned for it: the frames that wait, of which the
-    /// response register is empty from now on, or what it tells of the units.
+    /// response register is empty from now on, or what it tells.
     pub(crate) fn keep_sent(&mut self, planned: Result<Plan, Status>)
         requires { 0 < length self.old.tasks }
         ensures { (t : Translation) → IsLayer self.old.ftl t →
@@ -132,14 +144,16 @@ impl Device {
         }
     }
 
-    /// The task at this position keeps what it tells of the units, with zeros behind it.
+    /// The task at this position keeps what it tells, with zeros behind it.
     fn keep_identity(&mut self, index: usize, told: Identity)
         requires { index < length self.old.tasks }
         ensures { (t : Translation) → IsLayer self.old.ftl t →
             self.new ≡ with_held self.old index (with_zeros (identity_bytes t.numbers told)) }
     {
         match told {
+            Identity::Sense => self.keep_bytes(index, &no_sense()),
             Identity::Unit { lun } => self.keep_bytes(index, &inquiry_bytes(lun)),
+            Identity::Capacity { blocks } => self.keep_bytes(index, &capacity_bytes(blocks)),
             Identity::Luns { select } => {
                 let list = luns_bytes(self.ftl.numbers(), select);
                 self.keep_bytes(index, list.as_slice());

@@ -5,16 +5,14 @@ ghost use Rattle.ufs_spec.specs.Exchanges.{CheckCondition, response, sense_data}
 ghost use Rattle.ufs_spec.specs.Messages.{AreBytes, IsMessage, IsQueryFunction, spelling};
 ghost use Rattle.upiu.specs.Replies.{message_of};
 ghost use Rattle.ufs_spec.specs.declared.Message.{Message};
-ghost use Rattle.device.specs.Replies.{answer_of, block_message, count_of, data_message, data_padded, frames_message};
+ghost use Rattle.device.specs.Replies.{answer_of, block_message, count_of, frames_message};
 ghost use Rattle.device.specs.Replies.{function_of, query_answer, query_with, short_message};
 ghost use Rattle.ufs_spec.specs.QueryAnswers.{query_failed};
 ghost use Rattle.task_set.specs.Tasks.{status_kept};
 
 use descriptors::{STANDARD_READ, STANDARD_WRITE, descriptor_told};
-use task_set::{
-    BLOCK_BYTES, Queried, Sending, Short, ShortData, ShortReply, Status, Task, Transfer,
-};
-use ufs_bytes::{Block, write_u32};
+use task_set::{BLOCK_BYTES, Queried, Sending, Short, ShortReply, Status, Task, Transfer};
+use ufs_bytes::Block;
 use ufs_spec::{Data, Message, Numbers, Sense, Upiu};
 use upiu::Response;
 
@@ -242,37 +240,6 @@ pub(crate) fn write_block(task: &Task, sending: Sending, block: &Block, into: &m
     upiu::write_data_in(task.lun, task.tag, sending.offset(), &block[..count], into);
 }
 
-/// Writes the DATA IN of a task with other data than a block: the first of them, as many as the host
-/// expects, and at least one.
-pub(crate) fn write_data(task: &Task, sent: ShortData, into: &mut Upiu)
-    ensures { into.new.items ≡ spelling (data_message task.now sent) }
-{
-    let count = (task.expected.min(sent.length()) as usize).clamp(1, 18);
-    let bytes = data_bytes(sent);
-    upiu::write_data_in(task.lun, task.tag, 0, &bytes[..count], into);
-}
-
-/// The bytes of data that are sent in one DATA IN, with zeros behind them.
-fn data_bytes(sent: ShortData) -> [u8; 18]
-    ensures { result ≡ data_padded sent }
-{
-    match sent {
-        ShortData::NoSense { allocation: _ } => scsi_cdb::no_sense(),
-        ShortData::Capacity { blocks } => capacity_bytes(blocks),
-    }
-}
-
-/// The last address of a unit of so many blocks and the length of a block, with zeros behind them (SBC,
-/// READ CAPACITY(10)). A unit has a block.
-fn capacity_bytes(blocks: u32) -> [u8; 18]
-    ensures { result ≡ data_padded (ShortData.Capacity blocks) }
-{
-    let mut bytes = [0; 18];
-    write_u32(&mut bytes, 0, blocks.saturating_sub(1));
-    write_u32(&mut bytes, 4, BLOCK_BYTES);
-    bytes
-}
-
 /// Writes the READY TO TRANSFER for the next block of a write (JESD220, 10.7.5).
 pub(crate) fn write_ready(task: &Task, transfer: Transfer, into: &mut Upiu)
     ensures { into.new.items ≡
@@ -289,7 +256,7 @@ pub(crate) fn write_ready_all(task: &Task, length: u32, into: &mut Upiu)
     upiu::write_ready_to_transfer(task.lun, task.tag, 0, length, into);
 }
 
-/// Writes the DATA IN of frames: the first of so many bytes, as many as the host expects, and at least one.
+/// Writes the DATA IN of what a task keeps to send: the first of so many bytes, as many as the host expects, and at least one.
 pub(crate) fn write_frames(task: &Task, length: u32, held: &Block, into: &mut Upiu)
     ensures { into.new.items ≡ spelling (frames_message task.now length held.now) }
 {

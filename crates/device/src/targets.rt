@@ -2,13 +2,13 @@
 ghost use Rattle.std.specs.Prelude.{◌≡◌};
 ghost use Rattle.ftl_core.specs.Public.{Describes as IsLayer};
 ghost use Rattle.ufs_spec.specs.Begins.{unit_or_first};
-ghost use Rattle.ufs_spec.specs.Refusals.{Request, State, operation_in, unit_numbers_at};
+ghost use Rattle.ufs_spec.specs.Refusals.{Request, State, row_in, unit_numbers_at};
 ghost use Rattle.device.specs.Bare.{IsBare};
 ghost use Rattle.device.specs.Targets.{IsRouted, blocks_in};
 
 use crate::device::Device;
 use lun_route::route_of;
-use ufs_spec::{Numbers, Sense, UnitSpec};
+use ufs_spec::{Numbers, Row, Sense, UnitSpec};
 
 /// What a command is about.
 #[derive(Clone, Copy)]
@@ -52,17 +52,17 @@ pub(crate) fn spec_of(numbers: &Numbers, unit: Option<u8>) -> Option<UnitSpec>
 }
 
 impl Device {
-    /// What a command with this LUN byte and this operation code is about.
+    /// What a command with this LUN byte is about whose operation code has this row, if it has one.
     ///
     /// # Errors
     ///
     /// Why it is refused, where there is no such unit, or the unit does not take the operation code.
-    pub(crate) fn target(&self, lun: u8, operation: u8) -> Result<Target, Sense>
+    pub(crate) fn target(&self, lun: u8, row: Option<Row>) -> Result<Target, Sense>
         ensures { (s : State) (r : Request) → IsLayer self.now.ftl s.translation →
-            IsBare s self.now → r.lun ≡ lun → operation_in r ≡ operation → IsRouted s r result }
+            IsBare s self.now → r.lun ≡ lun → row_in r ≡ row → IsRouted s r result }
     {
         let numbers = self.ftl.numbers();
-        let route = route_of(numbers, self.boot, lun, operation)?;
+        let route = route_of(numbers, self.boot, lun, row)?;
         Ok(Target {
             lun,
             unit: route.unit,

@@ -16,20 +16,16 @@ use task_set::{Phase, Status, TaskEvent};
 use ufs_spec::{Key, Sense, Tag};
 
 /// How many bytes the header of UNMAP's list has, and how many it has with one descriptor (SBC).
-pub(crate) const LIST_HEADER: u16 = 8;
+pub(crate) const LIST_HEADER: u32 = 8;
 
-pub(crate) const LIST_OF_ONE: u16 = 24;
+pub(crate) const LIST_OF_ONE: u32 = 24;
 
 /// How many slots an UNMAP claims whose list has so many bytes: with a descriptor as many as a command
 /// may have blocks, `most`, since only the list says how many there are.
 pub(crate) fn list_slots(most: u16, length: u32) -> u16
     ensures { (n : Numbers) → most ≡ command_blocks n → result ≡ list_slots n length }
 {
-    if length == u32::from(LIST_OF_ONE) {
-        most
-    } else {
-        0
-    }
+    if length == LIST_OF_ONE { most } else { 0 }
 }
 
 /// What an UNMAP does whose list came.
@@ -114,7 +110,7 @@ impl Device {
         ensures numbered { is_unmapping result ≡ true → IsTrue (has_number self.now.ftl) }
     {
         // No list of another length is asked for.
-        if list.len() != usize::from(LIST_HEADER) && list.len() != usize::from(LIST_OF_ONE) {
+        if list.len() != LIST_HEADER as usize && list.len() != LIST_OF_ONE as usize {
             return Unmapping::Refused(Sense::INVALID_LIST_FIELD);
         }
         match read_unmap_list(self.command_blocks(), list) {

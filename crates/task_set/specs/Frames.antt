@@ -6,7 +6,7 @@ use Rattle.ufs_spec.specs.Exchanges as exchange
 use Rattle.task_set.specs.declared.frames.AreaPart.{AreaPart}
 use Rattle.task_set.specs.declared.frames.AreaReading.{AreaReading}
 use Rattle.task_set.specs.declared.frames.Frames.{Frames}
-use Rattle.task_set.specs.declared.frames.Frames.TheVariants.{Answered, Decided, NotBrought, Undecided}
+use Rattle.task_set.specs.declared.frames.Frames.TheVariants.{Answered, Decided}
 use Rattle.task_set.specs.declared.frames.PageRead.{PageRead}
 use Rattle.task_set.specs.declared.frames.PageRead.TheVariants as page
 use Rattle.task_set.specs.declared.tasks.TaskEvent.{TaskEvent}

@@ -1,5 +1,5 @@
 -- What becomes of a task.
-use Rattle.std.specs.Prelude.{ℕ, ◌+◌, ◌*◌, ◌==◌, ◌&&◌, min, nat_lt, Bool, true, false, if◌then◌else◌, List, Option}
+use Rattle.std.specs.Prelude.{ℕ, ◌+◌, ◌*◌, ◌==◌, ◌&&◌, nat_lt, Bool, true, false, if◌then◌else◌, List, Option}
 use Rattle.std.specs.Prelude.{Some, None, option_map}
 use Rattle.ufs_spec.specs.Exchanges as exchange
 use Rattle.ufs_spec.specs.declared.scsi.Sense.{Sense}
@@ -9,8 +9,6 @@ use Rattle.task_set.specs.declared.tasks.Phase.{Phase}
 use Rattle.task_set.specs.declared.tasks.Phase.TheVariants as phase
 use Rattle.task_set.specs.declared.tasks.Meant.{Meant}
 use Rattle.task_set.specs.declared.tasks.Sending.{Sending}
-use Rattle.task_set.specs.declared.tasks.ShortData.{ShortData}
-use Rattle.task_set.specs.declared.tasks.ShortData.TheVariants as sent
 use Rattle.task_set.specs.declared.tasks.TaskEvent.{TaskEvent}
 use Rattle.task_set.specs.declared.tasks.TaskEvent.TheVariants as event
 use Rattle.task_set.specs.declared.tasks.Transfer.{Transfer}
@@ -68,11 +66,6 @@ abbrev pub sent_next : Sending → Option Sending → Phase
 sent_next x None = phase.Answer status.Good x.length
 sent_next x (Some y) = phase.SendBlocks y
 
--- how many bytes the data of a task other than a block are
-abbrev pub data_length : ShortData → ℕ
-data_length (sent.NoSense allocation) = min allocation 18
-data_length (sent.Capacity blocks) = 8
-
 -- whether so many bytes at this offset are what was asked for: the next block of a WRITE, all frames, or the list
 abbrev pub is_wanted : Wanted → ℕ → ℕ → Bool
 is_wanted (wanted.Block x) offset count = (4096 * x.gathered == offset) && (count == 4096)
@@ -108,7 +101,6 @@ phase_after (phase.AwaitData x) event.GroupRefused = failed write_error (4096 * 
 phase_after (phase.AwaitFrontier number size) (event.Locked frontier) =
     if nat_lt frontier number then failed write_error size else phase.AwaitFrontier number size
 phase_after (phase.SendBlocks x) event.BlockSent = sent_next x (next_sending x)
-phase_after (phase.SendData x) event.DataSent = phase.Answer status.Good (data_length x)
 phase_after (phase.SendBlocks x) (event.BlockLost index) = failed read_error (4096 * x.sent)
 phase_after p e = frame_phase_after p e
 

@@ -10,6 +10,6 @@ mod tasks;
 pub use frames::{AreaPart, AreaReading, Frames, PageRead};
 pub use set::TaskSet;
 pub use tasks::{
-    AskedFor, BLOCK_BYTES, Meant, Phase, Queried, Sending, Short, ShortData, ShortReply, Status,
-    Task, TaskEvent, Transfer, Wanted,
+    AskedFor, BLOCK_BYTES, Meant, Phase, Queried, Sending, Short, ShortReply, Status, Task,
+    TaskEvent, Transfer, Wanted,
 };

@@ -1,7 +1,7 @@
 //! The tasks that are open, and what each still owes its host (JESD220, 10.9).
 ghost use Rattle.std.specs.Prelude.{◌≡◌, ◌*◌};
 ghost use Rattle.task_set.specs.Tasks.{is_meant};
-ghost use Rattle.task_set.specs.Tasks.{data_length, failed, frame_phase_after, group_taken, is_wanted, list_phase_after};
+ghost use Rattle.task_set.specs.Tasks.{failed, frame_phase_after, group_taken, is_wanted, list_phase_after};
 ghost use Rattle.task_set.specs.Shorts.{is_short_due, reply_locked, short_locked};
 ghost use Rattle.task_set.specs.Tasks.{next_sending, next_transfer, phase_after};
 
@@ -116,8 +116,6 @@ pub enum Phase {
     ReadArea { reading: AreaReading },
     /// A DATA IN is due once the next block that the task keeps is there.
     SendBlocks { sending: Sending },
-    /// A DATA IN with these data is due.
-    SendData { data: ShortData },
     /// A DATA IN with what the task's block holds, so many bytes, is due.
     SendHeld { length: u32 },
     /// The RESPONSE is due: `length` bytes were the command's or were carried.
@@ -153,7 +151,7 @@ pub enum TaskEvent {
     RegisterFilled,
     /// The DATA IN with its next block was handed out.
     BlockSent,
-    /// The DATA IN with its other data was handed out.
+    /// The DATA IN with what its block holds was handed out.
     DataSent,
     /// The die could not read the block or the page of this index. What is before a block was carried.
     BlockLost { index: u16 },
@@ -233,7 +231,6 @@ impl Phase {
             (Phase::AwaitFrontier { number, length }, TaskEvent::Locked { frontier })
                 if number > frontier => { Phase::failed(Sense::WRITE_ERROR, length) }
             (Phase::SendBlocks { sending }, TaskEvent::BlockSent) => Phase::sent(sending),
-            (Phase::SendData { data }, TaskEvent::DataSent) => Phase::good(data.length()),
             (Phase::SendBlocks { sending }, TaskEvent::BlockLost { .. }) => {
                 Phase::failed(Sense::READ_ERROR, sending.offset())
             }
@@ -299,27 +296,6 @@ pub struct Task {
     pub frames: Frames,
     /// The RPMB region to which it brings frames; 0 where it brings none.
     pub region: u8,
-}
-
-/// Data that a task sends in one DATA IN, other than a block.
-#[derive(Clone, Copy, Debug, PartialEq, Eq)]
-pub enum ShortData {
-    /// Sense data that tell of nothing, at most so many bytes of them (SPC, REQUEST SENSE).
-    NoSense { allocation: u8 },
-    /// The last address of a unit of so many blocks, and the length of a block (SBC, READ CAPACITY(10)).
-    Capacity { blocks: u32 },
-}
-
-impl ShortData {
-    /// How many bytes they are.
-    pub fn length(self) -> u32
-        ensures { result ≡ data_length self }
-    {
-        match self {
-            ShortData::NoSense { allocation } => (allocation as u32).min(18),
-            ShortData::Capacity { blocks: _ } => 8,
-        }
-    }
 }
 
 /// The response code of a query that failed for no reason of its own (JESD220, 10.7.9).

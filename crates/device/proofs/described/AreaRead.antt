@@ -258,8 +258,6 @@ module _ (v : State) (tied : IsTied v) (shows : ShowsReads v) (waits : FramesWai
       nothing_asked region_now first code asked
   by_phase (phase.SendBlocks y) (Sending blocks sent) deed doing fits asked due =
       nothing_asked region_now first code asked
-  by_phase (phase.SendData y) (SendingBytes bytes) deed doing fits asked due =
-      nothing_asked region_now first code asked
   by_phase (phase.SendHeld y) (SendingBytes bytes) deed doing fits asked due =
       nothing_asked region_now first code asked
   by_phase p deed is doing fits asked due = absurd doing

@@ -113,7 +113,6 @@ phase_stays (phase.AwaitFrames x) = refl
 phase_stays (phase.AwaitList unit x) = refl
 phase_stays (phase.ReadArea r) = refl
 phase_stays (phase.SendBlocks x) = refl
-phase_stays (phase.SendData x) = refl
 phase_stays (phase.SendHeld x) = refl
 
 frames_fit : (t : Translation) (tag : ℕ) (p : Phase) (code : ℕ) (held : Option (List ℕ)) (deed : Deed) →
@@ -128,7 +127,6 @@ frames_fit t tag (phase.AskList unit x) code held deed due h = absurd (false≢t
 frames_fit t tag (phase.AwaitFrames x) code held deed due h = absurd (false≢true due)
 frames_fit t tag (phase.AwaitList unit x) code held deed due h = absurd (false≢true due)
 frames_fit t tag (phase.SendBlocks x) code held deed due h = absurd (false≢true due)
-frames_fit t tag (phase.SendData x) code held deed due h = absurd (false≢true due)
 frames_fit t tag (phase.SendHeld x) code held deed due h = absurd (false≢true due)
 
 -- One fills
@@ -354,7 +352,7 @@ module _ (e : DeviceCore) (v : State) (k : Keeps e v) (n : ℕ) (a : OpenTask) (
         wanted = wants;
         claims = subst (AreClaimed h.layer) (sym same_claims) h.layer_is.1;
         shorts = k.shorts;
-        power_on = k.power_on;
+        volatile = k.volatile;
       })
     where
       decided : a.frames ≡ frames.Decided h.code

@@ -107,7 +107,6 @@ module _ (v : State) (b : exchange.Task) where
   same_good expected (phase.AwaitFrames x) (Gathering purpose gathered asked) low h = refl
   same_good expected (phase.AwaitList unit x) (Gathering purpose gathered asked) low h = refl
   same_good expected (phase.SendBlocks x) (Sending blocks sent) low h = refl
-  same_good expected (phase.SendData x) (SendingBytes bytes) low h = refl
   same_good expected (phase.SendHeld x) (SendingBytes bytes) low h = refl
   same_good expected p deed low h = absurd h
 

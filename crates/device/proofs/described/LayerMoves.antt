@@ -47,7 +47,7 @@ layer_moves d after s array u k layer claims leaves = record {
   claims = subst (λ n. AreClaimed after (claims_of n s.tasks)) (sym leaves.numbers) claims;
   shorts = same_shorts (numbers_of s) u.numbers (before_accepted s.translation.ledger) (before_accepted u.ledger)
       d.shorts s.shorts leaves.numbers leaves.before k.shorts;
-  power_on = k.power_on;
+  volatile = k.volatile;
 }
 
 -- The end of a job that is for no task
@@ -186,5 +186,5 @@ unmended_moves d after s u k tied layer claims repairs = record {
       d.shorts s.shorts (unmended_shorts s tied repairs.unmended)
       (subst (λ n. ShortsKept n (before_accepted s.translation.ledger) d.shorts s.shorts) (sym repairs.numbers)
       k.shorts);
-  power_on = k.power_on;
+  volatile = k.volatile;
 }

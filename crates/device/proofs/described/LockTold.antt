@@ -178,7 +178,6 @@ deed_kept s n all claimed mended frontier expected task (phase.AwaitList unit si
     same low fits h = h
 deed_kept s n all claimed mended frontier expected task (phase.SendHeld size) (SendingBytes bytes) same low fits h = h
 deed_kept s n all claimed mended frontier expected task (phase.SendBlocks x) (Sending blocks sent) same low fits h = h
-deed_kept s n all claimed mended frontier expected task (phase.SendData x) (SendingBytes bytes) same low fits h = h
 deed_kept s n all claimed mended frontier expected task (phase.ReadArea r) (exchange.ReadingArea pages) same low fits h
     = h
 deed_kept s n all claimed mended frontier expected task (phase.Answer told m) (Answering x carried) same low fits h = h
@@ -222,7 +221,6 @@ frames_fit s task frontier (phase.ReadArea r) f held deed h = (h.0, parts_stand 
     parts_stand (Awaiting commands) k = absurd k
     parts_stand (Answering status carried) k = absurd k
 frames_fit s task frontier (phase.SendBlocks x) f held deed h = h
-frames_fit s task frontier (phase.SendData x) f held deed h = h
 frames_fit s task frontier (phase.Answer told n) f held deed h = h
 
 -- and so does what it has to read
@@ -254,7 +252,6 @@ asks_stay frontier p (frames.Decided code) (Some bytes) h = reads_stay p h
     reads_stay (phase.AwaitList unit size) k = k
     reads_stay (phase.ReadArea r) k = k
     reads_stay (phase.SendBlocks x) k = k
-    reads_stay (phase.SendData x) k = k
     reads_stay (phase.SendHeld size) k = k
     reads_stay (phase.Answer told n) k = k
 
@@ -320,7 +317,7 @@ keeps_locked e s tied k = record {
   claims = subst (AreClaimed e.ftl) (sym (each_claims (numbers_of s) s.tasks (task_locked s) (lock_same s))) k.claims;
   shorts = shorts_locked s (numbers_of s) (length s.accepted) (is_mended s.translation.work.mending) e.shorts s.shorts
       tied.repaired tied.tasks.waits k.shorts;
-  power_on = k.power_on;
+  volatile = k.volatile;
 }
   where
     before : ℕ

@@ -1,5 +1,5 @@
 -- A device over dies whose pages are sound is the one that the definitions open over them.
-use Rattle.std.proofs.Common.{◌≡◌, ◌∙◌, suc, ◌*◌, ◌≤◌, Bool, List, [], ap, arith, subst}
+use Rattle.std.proofs.Common.{◌≡◌, ◌∙◌, suc, ◌≤◌, Bool, List, [], ap, arith, subst}
 use Rattle.std.specs.Prelude.{IfOk, Result}
 use Rattle.std.proofs.lemmas.Result.{IfOk-weaker}
 use Rattle.ufs_spec.specs.Cells.{AreWithin, Array, Cells, Shows}

@@ -52,7 +52,6 @@ doing_else n accepted claimed total before other expected (phase.AwaitList unit 
     fits h = h
 doing_else n accepted claimed total before other expected (phase.SendHeld size) (SendingBytes bytes) fits h = h
 doing_else n accepted claimed total before other expected (phase.SendBlocks x) (Sending blocks sent) fits h = h
-doing_else n accepted claimed total before other expected (phase.SendData x) (SendingBytes bytes) fits h = h
 doing_else n accepted claimed total before other expected (phase.ReadArea r) (ReadingArea pages) fits h = h
 doing_else n accepted claimed total before other expected (phase.Answer told m) (Answering x carried) fits h = h
 doing_else n accepted claimed total before other expected (phase.Answer told m) (Sending blocks sent) fits h = h

@@ -260,7 +260,7 @@ opens_right n array bad s layer settings config inside sound opened kept none sa
             ∙ sym (ap (λ us. wanted_by index (exchange.task_of tag us)) opened.no_tasks);
         claims = subst (λ us. AreClaimed layer (claims_of (numbers_of s) us)) (sym opened.no_tasks) none;
         shorts = subst (ShortsKept (numbers_of s) (before_accepted t.ledger) []) (sym opened.no_shorts) tt;
-        power_on = sym opened.power_off;
+        volatile = sym opened.fresh;
       };
       answered = subst (All (λ task. is_to_fill s task ≡ false)) (sym opened.no_tasks)
           (All-nil (λ task. is_to_fill s task ≡ false));

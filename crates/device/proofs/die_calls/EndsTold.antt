@@ -196,7 +196,7 @@ module _ (d : DeviceCore) (s : State) (die tag index : ℕ) (place : Place) (aft
         (subst (AreClaimed after) (sym (claims_now state)) same);
     shorts = same_shorts (numbers_of s) (over ending).numbers before (before_accepted (over ending).ledger) d.shorts
         s.shorts numbers same_before h.kept.shorts;
-    power_on = h.kept.power_on;
+    volatile = h.kept.volatile;
   }
 
   pub right_keeps : (page : Tag) (body : List ℕ) → s.translation.disk.cells place ≡ GroupPage page body →

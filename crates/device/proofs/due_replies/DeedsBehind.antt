@@ -21,7 +21,6 @@ use Rattle.ftl_core.specs.Public.{AreClaimed, Core}
 use Rattle.task_set.specs.declared.tasks.Phase.{Phase}
 use Rattle.task_set.specs.declared.tasks.Phase.TheVariants as phase
 use Rattle.task_set.specs.declared.tasks.Sending.{Sending as Sends}
-use Rattle.task_set.specs.declared.tasks.ShortData.{ShortData}
 use Rattle.task_set.specs.declared.tasks.TaskEvent.TheVariants as event
 use Rattle.task_set.specs.Kept.{OpenTask, task_in}
 use Rattle.task_set.specs.declared.tasks.Transfer.{Transfer}
@@ -32,7 +31,7 @@ use Rattle.device.specs.Describes.{wanted_by, wanted_in, wanted_kept}
 use Rattle.device.specs.Hears.{with_event}
 use Rattle.device.specs.Kept.{DeviceCore}
 use Rattle.device.specs.Replies.{HasMoved, moved_on, owed_by, owed_in, without_task}
-use Rattle.task_set.specs.Tasks.{data_length, next_sending, sent_next}
+use Rattle.task_set.specs.Tasks.{next_sending, sent_next}
 use Rattle.device.proofs.described.Answered.{IsBehind}
 use Rattle.device.proofs.open_tasks.OpenTasks.{IsOpen}
 use Rattle.device.proofs.due_replies.BlocksBehind.{more_kept, none_kept, none_read_behind}
@@ -99,22 +98,6 @@ module _ (d : DeviceCore) (s : State) (k : ℕ) (a : OpenTask) (b : exchange.Tas
       does_now d s k a b h o after event.DataAskedFor (phase.AskData x) (Gathering purpose gathered true) is
       (its, refl) refl (its_frames (phase.AskData x) is) (still_for purpose gathered asked deed)
       (none_asked d s k a b h o (its_frames (phase.AskData x) is)) refl
-      (record {
-        wanted = λ index. ap (wanted_in index b.request) deed;
-        read = ap read_in deed;
-        claimed = λ m total. ap (claimed_in m total) deed;
-      })
-      tt layer claims
-
-  -- its data were handed out, which are no block
-  sends_data : (after : Core) (x : ShortData) (bytes : List ℕ) → a.phase ≡ phase.SendData x →
-      b.deed ≡ SendingBytes bytes →
-      b.length ≡ data_length x → layer_kept.Describes after s.translation → AreClaimed after (claims_of (numbers_of s) s.tasks) →
-      IsBehind (with_layer after (with_event d k event.DataSent))
-      (set_deed s b.tag (Answering Good b.length))
-  sends_data after x bytes here deed is layer claims =
-      does_now d s k a b h o after event.DataSent (phase.SendData x) (Answering Good b.length) here (refl, is) refl tt tt
-      (none_asked d s k a b h o (its_frames (phase.SendData x) here)) refl
       (record {
         wanted = λ index. ap (wanted_in index b.request) deed;
         read = ap read_in deed;
@@ -311,8 +294,6 @@ module _ (d : DeviceCore) (s : State) (k : ℕ) (a : OpenTask) (b : exchange.Tas
   moves_in after (phase.AskData x) (Gathering purpose gathered asked) m here e doing due new =
       asks after x purpose gathered asked here e doing.0 new.0 new.1
   moves_in after (phase.AwaitData x) deed m here e doing due new = absurd (none-some m due)
-  moves_in after (phase.SendData x) (SendingBytes bytes) m here e doing due new =
-      sends_data after x bytes here e doing.1 new.0 new.1
   moves_in after (phase.AskFrames size) (Gathering purpose gathered asked) m here e doing due new =
       asks_frames after size purpose gathered asked here e doing.0 new.0 new.1
   moves_in after (phase.AskList unit size) (Gathering purpose gathered asked) m here e doing due new =

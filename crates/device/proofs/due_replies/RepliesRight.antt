@@ -18,7 +18,7 @@ use Rattle.power_loss.proofs.open_tasks.TaskLists.{found_short, found_task, no_t
 use Rattle.ftl_core.specs.Public as layer_kept
 use Rattle.device.specs.Describes.{Describes, IsAnswered, IsReplied, claims_of}
 use Rattle.device.specs.Kept.{DeviceCore}
-use Rattle.device.specs.Replies.{HasMoved, IsShortReplied, answer_of, block_for, block_message, data_message, moved_on}
+use Rattle.device.specs.Replies.{HasMoved, IsShortReplied, answer_of, block_for, block_message, moved_on}
 use Rattle.device.specs.Replies.{frames_message, has_filled, owed_by, owed_in, without_short as without_short_at}
 use Rattle.task_set.specs.declared.tasks.Phase.{Phase}
 use Rattle.task_set.specs.declared.tasks.Phase.TheVariants as phase
@@ -70,7 +70,6 @@ reply_tag t read held a (phase.SendBlocks x) m h = by (block_for t read a.tag x.
     by : (o : Option (List ℕ)) → option_map (block_message a x) o ≡ Some m → tag_in m ≡ a.tag
     by None e = absurd (none-some m e)
     by (Some body) e = same_tag (block_message a x body) m a.tag e refl
-reply_tag t read held a (phase.SendData x) m h = same_tag (data_message a x) m a.tag h refl
 reply_tag t read held a (phase.Answer told n) m h = same_tag (answer_of a told n) m a.tag h refl
 
 -- Replies of tasks
@@ -144,7 +143,7 @@ module _ (d : DeviceCore) (s : State) (k : ℕ) (a : kept.Short) (b : Short) (h 
       shorts =
           one_short_gone (numbers_of s) (before_accepted s.translation.ledger) k d.shorts s.shorts b h.kept.shorts
           h.tied.tasks.shorts_differ o.theirs;
-      power_on = h.kept.power_on;
+      volatile = h.kept.volatile;
     };
     answered =
         still_answered s (state_without held) s.tasks

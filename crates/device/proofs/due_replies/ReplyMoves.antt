@@ -194,7 +194,7 @@ module _ (d : DeviceCore) (s : State) (k : ℕ) (a : OpenTask) (b : exchange.Tas
             (sym (claims_left (numbers_of s) s.tasks b.tag
             ∙ claimed_same (claims_of (numbers_of s) s.tasks) b.tag [] (ap (claimed_by (numbers_of s)) found ∙ none))) claims;
         shorts = h.kept.shorts;
-        power_on = h.kept.power_on;
+        volatile = h.kept.volatile;
       })
       layer
     where
@@ -265,7 +265,7 @@ module _ (d : DeviceCore) (s : State) (k : ℕ) (a : OpenTask) (b : exchange.Tas
           (λ n index other. refl);
       claims = subst (AreClaimed after) (sym (same_claims deed (same.claimed (numbers_of s) b.length))) claims;
       shorts = h.kept.shorts;
-      power_on = h.kept.power_on;
+      volatile = h.kept.volatile;
     };
     answered = answered_set s.translation deed none (λ tag other index. refl) refl;
     told = λ lock. set_told (durable s) b.tag deed s.tasks told (h.told lock);
@@ -306,7 +306,7 @@ module _ (d : DeviceCore) (s : State) (k : ℕ) (a : OpenTask) (b : exchange.Tas
               (λ tag index other. next_of_others b.tag n tag index s.translation.pins other);
           claims = subst (AreClaimed after) (sym (same_claims deed same)) claims;
           shorts = h.kept.shorts;
-          power_on = h.kept.power_on;
+          volatile = h.kept.volatile;
         };
         answered = answered_set (sent_layer s.translation b.tag n) deed none
             (λ tag other index. ap (is_at_hand s.translation.work.rests)

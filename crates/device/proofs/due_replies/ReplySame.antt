@@ -38,7 +38,6 @@ use Rattle.task_set.specs.declared.frames.Frames.TheVariants.{Answered, Decided,
 use Rattle.task_set.specs.declared.tasks.Phase.{Phase}
 use Rattle.task_set.specs.declared.tasks.Phase.TheVariants as phase
 use Rattle.task_set.specs.declared.tasks.Sending.{Sending as Sends}
-use Rattle.task_set.specs.declared.tasks.ShortData.{ShortData}
 use Rattle.task_set.specs.declared.tasks.Status.{Status}
 use Rattle.task_set.specs.declared.tasks.Task.{Task}
 use Rattle.task_set.specs.Kept.{OpenTask, task_in}
@@ -50,13 +49,11 @@ use Rattle.device.specs.Describes.{TaskKept, is_lost, is_unread}
 use Rattle.device.specs.Describes.{read_by, read_in, read_of, wanted_by, wanted_in, wanted_kept, wanted_of}
 use Rattle.device.specs.Kept.{DeviceCore}
 use Rattle.device.specs.Replies.{answer_of, block_at, block_for, block_message, block_of, count_in}
-use Rattle.device.specs.Replies.{area_reply, data_message, frames_count, frames_message, has_filled, owed_by, owed_in}
-use Rattle.task_set.specs.Tasks.{data_length, status_kept}
-use Rattle.device.specs.Replies.{data_bytes}
+use Rattle.device.specs.Replies.{area_reply, frames_count, frames_message, has_filled, owed_by, owed_in}
+use Rattle.task_set.specs.Tasks.{status_kept}
 use Rattle.device.proofs.described.GoodDue.{same_test}
 use Rattle.device.proofs.described.Unmended.{waits_mended}
 use Rattle.device.proofs.due_replies.AreasRead.{none_needed}
-use Rattle.device.proofs.due_replies.BytesSent.{bytes_same}
 
 -- Messages
 
@@ -310,14 +307,6 @@ module _ (d : DeviceCore) (s : State) (a : OpenTask) (b : exchange.Task) (h : De
           let whole : length xs ≡ size = ap length (e ∙ sym (bytes_in x.deed_is)) ∙ is.0 in
           omega arith
 
-  -- the first of the data, as many as the host expects
-  data_same : (bytes : List ℕ) (x : ShortData) → bytes ≡ data_bytes x → b.length ≡ data_length x →
-      1 ≤ min a.expected (data_length x) →
-      exchange.data_message b 0 (take (bytes_sent b) bytes) ≡ data_message (task_in a) x
-  data_same bytes x is length some =
-      (λ i. message.DataIn (k.lun i) (k.tag i) 0 (record { items = take (min (k.expected i) (length i)) (is i) }))
-      ∙ ap (λ (xs : List ℕ). message.DataIn a.lun a.tag 0 (record { items = xs })) (bytes_same a.expected x some)
-
   -- a request that is yet to fill its register has a page that needs a read
   area_awaited : (code : ℕ) (pages : List ReadBlock) → b.deed ≡ ReadingArea pages →
       AreFramesKept (Decided code) a.held b.request → is_area_read s b pages ≡ false
@@ -372,7 +361,6 @@ module _ (d : DeviceCore) (s : State) (a : OpenTask) (b : exchange.Task) (h : De
   same_in (phase.AwaitData x) (Gathering purpose gathered asked) e is fits =
       ap (λ z. if z then None else Some (ready_message b gathered)) is.1
   same_in (phase.AwaitFrontier n size) (Awaiting commands) e is fits = awaiting_same n size commands e is.0 is.1
-  same_in (phase.SendData x) (SendingBytes bytes) e is fits = ap (λ z. Some z) (data_same bytes x is.0 is.1 is.2)
   same_in (phase.SendBlocks x) (Sending blocks sent) e is fits = sending_same x blocks sent e is
   same_in (phase.ReadArea r) (ReadingArea pages) e is fits = area_same r pages e is fits.0
   same_in (phase.Answer told n) (Answering x carried) e is fits =

@@ -136,7 +136,6 @@ asked_same lun offset count b before expected (phase.AskList unit size) (Gatheri
           (count == count_at b.length (length gathered))) h.1,
     )
 asked_same lun offset count b before expected (phase.AwaitFrontier n size) (Awaiting commands) h = inl (refl, refl)
-asked_same lun offset count b before expected (phase.SendData x) (SendingBytes bytes) h = inl (refl, refl)
 asked_same lun offset count b before expected (phase.SendHeld x) (SendingBytes bytes) h = inl (refl, refl)
 asked_same lun offset count b before expected (phase.SendBlocks x) (Sending blocks sent) h = inl (refl, refl)
 asked_same lun offset count b before expected (phase.ReadArea r) (ReadingArea pages) h = inl (refl, refl)

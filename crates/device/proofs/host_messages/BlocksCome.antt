@@ -95,7 +95,7 @@ module _ (d : DeviceCore) (s : State) (tag : ℕ) (bytes : List ℕ) (x : Transf
             its_claims d s tag x h r at g after more_deed (blocks_gathered x.blocks all) refl
             (subst (AreClaimed after) filled layer.1);
         shorts = h.kept.shorts;
-        power_on = h.kept.power_on;
+        volatile = h.kept.volatile;
       }
     where
       less : nat_lt (x.gathered + 1) x.blocks ≡ true

@@ -1,7 +1,7 @@
 -- What the table tells of a command that it lets through: no line of it applies.
 use Rattle.std.proofs.Common.{◌≡◌, ◌∙◌, ℕ, zero, suc, ◌+◌, ◌<◌, ◌≤◌, Bool, true, false, List, [], ◌∷◌, length}
 use Rattle.std.proofs.Common.{Option, Some, None, ◌⊎◌, drop, refl, sym, ap, inl, inr, arith}
-use Rattle.std.specs.Prelude.{◌*◌, ◌/◌, ◌%◌, ◌==◌, ◌||◌, ◌&&◌, min, nat_le, nat_lt, not, slice_get}
+use Rattle.std.specs.Prelude.{◌*◌, ◌/◌, ◌%◌, ◌==◌, ◌||◌, ◌&&◌, min, nat_le, nat_lt, slice_get}
 use Rattle.std.specs.Int.{div_ceil}
 use Rattle.std.specs.List.{list_any, sum_by}
 use Rattle.std.proofs.lemmas.Bool.{le-leb}
@@ -12,7 +12,7 @@ use Rattle.ufs_spec.proofs.Facts.{eqb-true, false≢true, ltb-false, or_parts}
 use Rattle.ufs_spec.proofs.ConfigFacts.{command_blocks-few}
 use Rattle.ufs_spec.specs.Configs.{command_blocks}
 use Rattle.ufs_spec.specs.Plain.{greatest_command}
-use Rattle.ufs_spec.specs.Cdbs.{blocks_of, direction_of, operation_of}
+use Rattle.ufs_spec.specs.Cdbs.{blocks_of, direction_of}
 use Rattle.ufs_spec.specs.Exchanges.{Busy, Task, invalid_field, invalid_operation, list_length_error, no_unit}
 use Rattle.ufs_spec.specs.Exchanges.{not_ready, out_of_range, sequence_error, write_protected}
 use Rattle.ufs_spec.specs.Keys.{Group}
@@ -52,7 +52,7 @@ checked s r command is none =
     let d = passed_line (has_wrong_list command) list_length_error _ c.1 in
     let e = passed_line (lacks_data r (direction_of command) (length_in s command)) invalid_field _ d.1 in
     let f = passed_line (is_past command (unit_numbers_of s r)) out_of_range _ e.1 in
-    let g = passed_line (is_unready s (operation_of command)) not_ready _ f.1 in
+    let g = passed_line (is_unready s command) not_ready _ f.1 in
     let i = passed_line (is_refused_write s (unit_numbers_of s r) command) write_protected _ g.1 in
     let j = passed_line (lacks_response s command) sequence_error _ i.1 in
     let k = passed_line (has_other_response s command) invalid_field _ j.1 in

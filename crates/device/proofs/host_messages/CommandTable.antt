@@ -1,9 +1,9 @@
 -- The table by which a command is refused, against the checks of the code: they end a command with the same status.
 use Rattle.std.proofs.Common.{◌≡◌, ◌∙◌, ℕ, Bool, true, false, List, [], ◌∷◌, Option, Some, None}
 use Rattle.std.proofs.Common.{refl, sym, ap, subst}
-use Rattle.std.specs.Prelude.{◌||◌, ◌&&◌, if◌then◌else◌, not, option_map}
+use Rattle.std.specs.Prelude.{◌||◌, if◌then◌else◌, option_map}
 use Rattle.ufs_spec.proofs.Facts.{true≢false}
-use Rattle.ufs_spec.specs.Cdbs.{direction_of, length_of, operation_of}
+use Rattle.ufs_spec.specs.Cdbs.{direction_of, length_of}
 use Rattle.ufs_spec.specs.Exchanges.{Busy, invalid_field, list_length_error}
 use Rattle.ufs_spec.specs.Exchanges.{not_ready, out_of_range, sequence_error, write_protected}
 use Rattle.ufs_spec.specs.Refusals.{Line, Request, State}
@@ -106,7 +106,7 @@ checks_now a b p e f =
     else None
 
 pub now_told : (s : State) (unit : Option UnitSpec) (c : Cdb) (a b p e f : Bool) →
-    is_unready s (operation_of c) ≡ a → is_refused_write s unit c ≡ b → lacks_response s c ≡ p →
+    is_unready s c ≡ a → is_refused_write s unit c ≡ b → lacks_response s c ≡ p →
     has_other_response s c ≡ e → is_crowded s c ≡ f →
     first_line (lines_now s unit c) ≡ option_map status_kept (checks_now a b p e f)
 now_told s unit c a b p e f ka kb kp ke kf =

@@ -124,7 +124,7 @@ module _ (d : DeviceCore) (s : State) (flags lun tag expected : ℕ) (cdb_bytes 
           (record {
             boot_is = h.kept.boot;
             permanent_is = h.kept.permanent;
-            power_on_is = h.kept.power_on;
+            volatile_is = h.kept.volatile;
             registers_are = h.kept.registers;
             senders_are = others_send d s h;
           })

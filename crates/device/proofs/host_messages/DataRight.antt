@@ -57,7 +57,6 @@ wants_block (phase.AskList unit size) x e = absurd (none-some (wanted.Block x) e
 wants_block (phase.AwaitFrontier n size) x e = absurd (none-some (wanted.Block x) e)
 wants_block (phase.ReadArea r) x e = absurd (none-some (wanted.Block x) e)
 wants_block (phase.SendBlocks y) x e = absurd (none-some (wanted.Block x) e)
-wants_block (phase.SendData y) x e = absurd (none-some (wanted.Block x) e)
 wants_block (phase.SendHeld size) x e = absurd (none-some (wanted.Block x) e)
 wants_block (phase.Answer told n) x e = absurd (none-some (wanted.Block x) e)
 

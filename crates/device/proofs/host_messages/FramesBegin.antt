@@ -1,6 +1,6 @@
 -- Frames: a SECURITY PROTOCOL OUT begins that asks for them, or a SECURITY PROTOCOL IN that takes those that wait.
 use Rattle.std.proofs.Common.{◌≡◌, ℕ, ◌<◌, ◌≤◌, Bool, true, false, Some, None, length}
-use Rattle.std.proofs.Common.{refl, sym, ap, subst, arith}
+use Rattle.std.proofs.Common.{refl, sym, subst, arith}
 use Rattle.std.specs.Prelude.{◌%◌, ◌&&◌, ◌==◌, min, nat_le, not, Result, Ok}
 use Rattle.std.specs.List.{list_any}
 use Rattle.ufs_spec.proofs.Facts.{false≢true, leb-true}

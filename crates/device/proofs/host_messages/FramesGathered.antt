@@ -82,7 +82,6 @@ wants_frames (phase.AskList unit n) size e = absurd (none-some (wanted.Frames si
 wants_frames (phase.AwaitFrontier n m) size e = absurd (none-some (wanted.Frames size) e)
 wants_frames (phase.ReadArea r) size e = absurd (none-some (wanted.Frames size) e)
 wants_frames (phase.SendBlocks y) size e = absurd (none-some (wanted.Frames size) e)
-wants_frames (phase.SendData y) size e = absurd (none-some (wanted.Frames size) e)
 wants_frames (phase.SendHeld n) size e = absurd (none-some (wanted.Frames size) e)
 wants_frames (phase.Answer told n) size e = absurd (none-some (wanted.Frames size) e)
 

@@ -79,7 +79,7 @@ emptied e v region there b = record {
     wanted = b.keeps.wanted;
     claims = b.keeps.claims;
     shorts = b.keeps.shorts;
-    power_on = b.keeps.power_on;
+    volatile = b.keeps.volatile;
   };
   answered =
       still_answered v (none_wait v region) v.tasks (kept_stays v.translation v.translation v.tasks refl refl) refl

@@ -126,7 +126,7 @@ module _ (d : DeviceCore) (s : State) (tag : ℕ) (x : Transfer) (h : Describes 
             (record { wanted = λ index request. refl; read = refl });
         claims = its_claims d s tag x h r at g after (Answering exchange.write_error r.b.length) [] refl claims;
         shorts = h.kept.shorts;
-        power_on = h.kept.power_on;
+        volatile = h.kept.volatile;
       }
 
   -- any other accepts the blocks: with FUA the task waits for them, else it was done
@@ -175,7 +175,7 @@ module _ (d : DeviceCore) (s : State) (tag : ℕ) (x : Transfer) (h : Describes 
             its_claims d s tag x h r at g after deed_now [] (write_claims x.forced (numbers_of s) (length s.accepted + 1) r.b.length)
             claims;
         shorts = h.kept.shorts;
-        power_on = h.kept.power_on;
+        volatile = h.kept.volatile;
       }
     where
       sends : SendsNone deed_now

@@ -10,7 +10,7 @@ use Rattle.ufs_spec.specs.Exchanges.{Answering, Deed, ForUnmap, Gathering, task_
 use Rattle.ufs_spec.specs.Ledger.{before_accepted}
 use Rattle.ufs_spec.specs.Messages.{AreBytes}
 use Rattle.ufs_spec.specs.Moves.{Release, moved}
-use Rattle.ufs_spec.specs.Plain.{after, greatest_command, region_of, zero_block}
+use Rattle.ufs_spec.specs.Plain.{after, region_of, zero_block}
 use Rattle.ufs_spec.specs.Refusals.{State, numbers_of, plain_now}
 use Rattle.ufs_spec.specs.Translation.{Pin, Translation}
 use Rattle.power_loss.specs.Exchange.{claim_of}
@@ -81,7 +81,6 @@ wants_list (phase.AskList other n) unit size e = absurd (none-some (wanted.List 
 wants_list (phase.AwaitFrontier n m) unit size e = absurd (none-some (wanted.List unit size) e)
 wants_list (phase.ReadArea r) unit size e = absurd (none-some (wanted.List unit size) e)
 wants_list (phase.SendBlocks y) unit size e = absurd (none-some (wanted.List unit size) e)
-wants_list (phase.SendData y) unit size e = absurd (none-some (wanted.List unit size) e)
 wants_list (phase.SendHeld n) unit size e = absurd (none-some (wanted.List unit size) e)
 wants_list (phase.Answer told n) unit size e = absurd (none-some (wanted.List unit size) e)
 

@@ -22,6 +22,7 @@ use Rattle.device.specs.Groups.{HasPut, key_group}
 use Rattle.device.specs.Kept.{DeviceCore, IsLayerWith}
 use Rattle.device.specs.Queries.{HasPutSetting, IsAnswerTo, settings_found, with_slot}
 use Rattle.device.proofs.open_tasks.KeptByTag.{claimed_own}
+use Rattle.ufs_spec.specs.declared.volatile.Volatile.{Volatile}
 
 -- The answer
 
@@ -32,7 +33,7 @@ pub answer_is : (s : State) (d : DeviceCore) (n : Numbers) (settings : QuerySett
     ((p : Plain) → HasSettings settings p → code_of x ≡ query_code n p may (query_of r)) →
     ((p : Plain) → HasSettings settings p →
     succeeds x ≡ (query_code n p may (query_of r) == 0x00) && not (r.asked.opcode == 0)) →
-    ((p : Plain) → HasSettings settings p → Says p settings.is_power_on (query_of r) x) →
+    ((p : Plain) → HasSettings settings p → Says p settings.volatile (query_of r) x) →
     (is_setting x ≡ true → may ≡ true) → IsAnswerTo s q x
 answer_is s d n settings may r q x bare n_is found may_is q_is code succeeding says only = record {
   code = code (plain_now s) has ∙ (λ i. query_code (n_is i) (plain_now s) (may_is i) (q_is i));
@@ -40,9 +41,9 @@ answer_is s d n settings may r q x bare n_is found may_is q_is code succeeding s
       succeeding (plain_now s) has
       ∙ (λ i. (query_code (n_is i) (plain_now s) (may_is i) (q_is i) == 0x00) && not ((q_is i).asked.opcode == 0));
   says =
-      subst (λ (y : Query). Says (plain_now s) s.power_on y x) q_is
-      (subst (λ (b : Bool). Says (plain_now s) b (query_of r) x)
-      (ap (λ (y : QuerySettings). y.is_power_on) found ∙ bare.power_on_is) (says (plain_now s) has));
+      subst (λ (y : Query). Says (plain_now s) s.volatile y x) q_is
+      (subst (λ (v : Volatile). Says (plain_now s) v (query_of r) x)
+      (ap (λ (y : QuerySettings). y.volatile) found ∙ bare.volatile_is) (says (plain_now s) has));
   may = λ e. sym may_is ∙ only e;
 }
   where

@@ -1,5 +1,5 @@
 -- A QUERY REQUEST is answered as the definitions say.
-use Rattle.std.proofs.Common.{◌≡◌, ◌∙◌, ℕ, ◌==◌, ◌||◌, Bool, true, List, [], ◌∷◌, Some, None, not}
+use Rattle.std.proofs.Common.{◌≡◌, ◌∙◌, ℕ, ◌==◌, true, List, [], ◌∷◌, Some, None, not}
 use Rattle.std.proofs.Common.{refl, sym, ap, subst}
 use Rattle.std.specs.Prelude.{OnErr, OnOk, Result, Ok, Err}
 use Rattle.std.proofs.lemmas.Bool.{and_parts, not-true}
@@ -41,18 +41,19 @@ use Rattle.device.proofs.described.Answered.{IsBehind, answered_as, answered_loc
 use Rattle.device.proofs.host_messages.CommandTags.{others_send, short_fault}
 use Rattle.device.proofs.host_messages.SettingsAccepted.{set_answered, set_keeps}
 use Rattle.device.proofs.host_messages.ShortsOpened.{once_more, spelled_heard}
+use Rattle.ufs_spec.specs.declared.volatile.Volatile.{Volatile}
 
 -- a query that is taken is a standard read or a standard write
 function_is : (function : ℕ) → IsQueryFunction function → function_of (function == 0x81) ≡ function
 function_is function among =
     of_each (λ (n : ℕ). function_of (n == 0x81) ≡ n) (0x01 ∷ 0x81 ∷ []) function (refl, (refl, tt)) among
 
--- with an exchange whose reply is due at once fPowerOnWPEn may be set
-power_on_more : (d : DeviceCore) (s : State) (tag : ℕ) (said : ShortReply) (on : Bool) → Describes d s →
-    IsBehind (with_short (record d { is_power_on = d.is_power_on || on }) (at_once tag said))
-    (machine.with_short (record s { power_on = s.power_on || on })
+-- with an exchange whose reply is due at once what is volatile may change
+volatile_more : (d : DeviceCore) (s : State) (tag : ℕ) (said : ShortReply) (volatile : Volatile) → Describes d s →
+    IsBehind (with_short (record d { volatile = volatile }) (at_once tag said))
+    (machine.with_short (record s { volatile = volatile })
     (short_reply tag (short_said (numbers_of s) tag said)))
-power_on_more d s tag said on h =
+volatile_more d s tag said volatile h =
     let its = once_more d s tag said h in
     record {
       keeps = record {
@@ -68,7 +69,7 @@ power_on_more d s tag said on h =
         wanted = its.keeps.wanted;
         claims = its.keeps.claims;
         shorts = its.keeps.shorts;
-        power_on = ap (λ (b : Bool). b || on) h.kept.power_on;
+        volatile = refl;
       };
       answered = its.answered;
       told = its.told;
@@ -105,7 +106,7 @@ module _ (d : DeviceCore) (s : State) (bytes : List ℕ) (h : Describes d s) (no
   bare = record {
     boot_is = h.kept.boot;
     permanent_is = h.kept.permanent;
-    power_on_is = h.kept.power_on;
+    volatile_is = h.kept.volatile;
     registers_are = h.kept.registers;
     senders_are = others_send d s h;
   }
@@ -148,7 +149,7 @@ module _ (d : DeviceCore) (s : State) (bytes : List ℕ) (h : Describes d s) (no
         subst (IsAnswered s call (OfHost (Ok tt))) (sym did)
         (answered_as d (tells_at_once d tag query told) s (answered_by s tag q (answer.Told told)) call (OfHost (Ok tt))
         h (bytes, heard_so) right (heard_is (answer.Told told) is)
-        (power_on_more d s tag (reply.QueryDone query told.value) told.sets_power_on h))
+        (volatile_more d s tag (reply.QueryDone query told.value) told.volatile h))
     each_right e (answer.Setting x) is did = set_right e x is did
 
   pub query_right : (e : DeviceCore) (result : Result Unit HostFault) → OnErr result (e ≡ d) →

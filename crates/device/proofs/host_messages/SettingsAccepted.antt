@@ -173,12 +173,12 @@ module _ (d : DeviceCore) (s : State) (tag value : ℕ) (query : Queried) (x : S
   awaited = record {
     tag = tag;
     awaits = Some (length s.accepted + 1);
-    reply = query_done (numbers_of s) (apply (plain_now s) c) s.power_on tag q;
+    reply = query_done (numbers_of s) (apply (plain_now s) c) s.volatile tag q;
     locked_reply = query_failed tag q 0xFF;
   }
 
   short_kept : (layer : Core) (number told : ℕ) → HasPutSetting d.ftl layer tag page number →
-      told ≡ value_told (apply (plain_now s) c) s.power_on q →
+      told ≡ value_told (apply (plain_now s) c) s.volatile q →
       ShortKept (numbers_of s) (before_accepted s.translation.ledger) (waiting number told) awaited
   short_kept layer number told put told_is = record {
     tag = refl;
@@ -218,7 +218,7 @@ module _ (d : DeviceCore) (s : State) (tag value : ℕ) (query : Queried) (x : S
     shorts =
         one_short_more (numbers_of s) (before_accepted s.translation.ledger) d.shorts s.shorts (waiting number told)
         awaited h.kept.shorts short;
-    power_on = h.kept.power_on;
+    volatile = h.kept.volatile;
   }
 
   pub set_keeps : (e : DeviceCore) (did : HasSet d e tag query x) →
@@ -229,7 +229,7 @@ module _ (d : DeviceCore) (s : State) (tag value : ℕ) (query : Queried) (x : S
       (sym (else_same d x))
       (keeps_with did.layer did.number did.value (with_setting d x).boot (with_setting d x).is_permanent
       (layer_then did.layer did.number did.put)
-      (short_kept did.layer did.number did.value did.put (did.value_is (plain_now s) s.power_on q is))
+      (short_kept did.layer did.number did.value did.put (did.value_is (plain_now s) s.volatile q is))
       (boot_is d s x h) (permanent_is d s x h))
 
   -- and no request becomes due

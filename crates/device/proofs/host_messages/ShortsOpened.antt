@@ -42,7 +42,7 @@ short_behind d s r b h kept told = record {
     claims = h.keeps.claims;
     shorts = one_short_more (numbers_of s) (before_accepted s.translation.ledger) d.shorts s.shorts r b h.keeps.shorts
         kept;
-    power_on = h.keeps.power_on;
+    volatile = h.keeps.volatile;
   };
   answered = h.answered;
   told = h.told;

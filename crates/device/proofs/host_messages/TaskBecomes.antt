@@ -74,7 +74,7 @@ becomes_kept d s k a new b f layer m u cs registers h o x = record {
       (subst (AreClaimed layer) (sym (claims_changed (numbers_of s) s.tasks f b.tag b x.changes found)) x.layer_is.1);
   shorts = same_shorts (numbers_of s) u.numbers (before_accepted s.translation.ledger) (before_accepted u.ledger)
       d.shorts s.shorts x.numbers x.before h.kept.shorts;
-  power_on = h.kept.power_on;
+  volatile = h.kept.volatile;
 }
   where
     found : task_of b.tag s.tasks ≡ Some b

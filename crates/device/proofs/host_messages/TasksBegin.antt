@@ -1,10 +1,10 @@
 -- A COMMAND begins a task that answers at once, sends data that are known, or waits for all that was accepted.
-use Rattle.std.proofs.Common.{◌≡◌, ℕ, ◌+◌, ◌<◌, Bool, true, false, List, Option, Some, None, length}
+use Rattle.std.proofs.Common.{◌≡◌, ℕ, ◌+◌, ◌<◌, Bool, true, false, Option, Some, None, length}
 use Rattle.std.proofs.Common.{◌∙◌, refl, sym, ap, subst, arith}
-use Rattle.std.specs.Prelude.{◌==◌, if◌then◌else◌, min, nat_le, Result, Ok, Err, not}
+use Rattle.std.specs.Prelude.{if◌then◌else◌, nat_le, Result, Ok, Err, not}
 use Rattle.std.specs.List.{list_any}
 use Rattle.ufs_spec.proofs.Facts.{false≢true}
-use Rattle.ufs_spec.specs.Exchanges.{Answering, Awaiting, Good, SendingBytes, Status, most_tasks, task_of}
+use Rattle.ufs_spec.specs.Exchanges.{Answering, Awaiting, Good, Status, most_tasks, task_of}
 use Rattle.ufs_spec.specs.Ledger.{before_accepted}
 use Rattle.ufs_spec.specs.Machine.{data_begun, durable, flush_begun, with_task}
 use Rattle.ufs_spec.specs.Machine as machine
@@ -16,22 +16,18 @@ use Rattle.ftl_core.specs.Public as layer_kept
 use Rattle.ftl_core.specs.Public.{Core}
 use Rattle.task_set.specs.declared.tasks.Phase.{Phase}
 use Rattle.task_set.specs.declared.tasks.Phase.TheVariants as phase
-use Rattle.task_set.specs.declared.tasks.ShortData.{ShortData}
 use Rattle.task_set.specs.declared.tasks.Status as kept_status
 use Rattle.task_set.specs.declared.tasks.Status.TheVariants as status
 use Rattle.task_set.specs.declared.frames.Frames.TheVariants as frames
 use Rattle.task_set.specs.Kept.{newly_open}
-use Rattle.task_set.specs.Tasks.{data_length, is_sender, status_kept}
+use Rattle.task_set.specs.Tasks.{is_sender, status_kept}
 use Rattle.device.specs.declared.plans.Plan.{Plan}
 use Rattle.device.specs.declared.plans.Plan.TheVariants as plan
 use Rattle.device.specs.Calls.{HasBegun, last_number}
 use Rattle.device.specs.Describes.{Describes, claims_of}
 use Rattle.device.specs.Frames.{frames_brought, region_brought, sent_kept}
 use Rattle.device.specs.Kept.{DeviceCore, IsLayerWith}
-use Rattle.device.specs.Plans.{data_plan}
-use Rattle.device.specs.Replies.{data_bytes}
 use Rattle.device.proofs.described.Answered.{IsBehind}
-use Rattle.device.proofs.host_messages.CommandPasses.{some_told}
 use Rattle.device.proofs.host_messages.NumbersAwaited.{number_awaited}
 use Rattle.device.proofs.host_messages.ReadOpened.{core_opened, core_with}
 use Rattle.device.proofs.open_tasks.TaskOpened.{opens_still, never_in, quiet_here}
@@ -60,7 +56,6 @@ opened_as d s r h e after (Ok (plan.TakeFrames region size taken)) p u begun lay
 opened_as d s r h e after (Ok (plan.Nothing n)) p u begun layer more = more u layer
 opened_as d s r h e after (Ok (plan.Read key blocks size)) p u begun layer more = more u layer
 opened_as d s r h e after (Ok (plan.Write key blocks forced)) p u begun layer more = more u layer
-opened_as d s r h e after (Ok (plan.Send x)) p u begun layer more = more u layer
 opened_as d s r h e after (Ok plan.Flush) p u begun layer more = more u layer
 opened_as d s r h e after (Ok (plan.AskFrames region size)) p u begun layer more = more u layer
 opened_as d s r h e after (Ok (plan.AskList unit size)) p u begun layer more = more u layer
@@ -121,45 +116,6 @@ module _ (d : DeviceCore) (s : State) (r : Request) (h : Describes d s) (free : 
   nothing_begins command n p quiet begun =
       same_phase d r after p (phase.Answer status.Good n) _ begun.0
       (answer_opened (Some command) n n Good status.Good n quiet begun.1 refl refl)
-
-  -- data that are sent in one message
-
-  abbrev data_at : Cdb → ℕ → List ℕ → Bool → State
-  data_at command n bytes b =
-      machine.with_task s r (Some command) n (if b then Answering Good n else SendingBytes bytes)
-
-  pub data_begins : (command : Cdb) (x : ShortData) (p : Phase) → sends_frames (Some command) ≡ false →
-      length (data_bytes x) ≡ data_length x → Begins (Ok (data_plan r.expected x)) p →
-      Opens (Ok (data_plan r.expected x)) p (data_begun s r command (data_bytes x))
-  data_begins command x p quiet long begun =
-      subst (Opens (Ok (data_plan r.expected x)) p)
-      (sym (λ i. data_at command (long i) (data_bytes x) (min r.expected (long i) == 0)))
-      (by (min r.expected (data_length x) == 0) refl begun)
-    where
-      by : (b : Bool) → (min r.expected (data_length x) == 0) ≡ b →
-          Begins (Ok (if b then plan.Nothing (data_length x) else plan.Send x)) p →
-          Opens (Ok (if b then plan.Nothing (data_length x) else plan.Send x)) p
-          (data_at command (data_length x) (data_bytes x) b)
-      by true e k = nothing_begins command (data_length x) p quiet k
-      by false e k =
-          same_phase d r after p (phase.SendData x) _ k.0
-          (opens_still d s r h free few after (Some command) (data_length x) (SendingBytes (data_bytes x)) _ k.1
-          (record { wanted = λ i. refl; claimed = λ m total. refl }) (λ l. tt)
-          (record {
-            lun = refl;
-            tag = refl;
-            expected = refl;
-            sends = quiet;
-            in_regions = never_in 0 (Some command) quiet;
-            sends_to = λ other. quiet_here other (Some command) quiet;
-            gathers = tt;
-            asked_of = tt;
-            request = refl;
-            asks = tt;
-            fits = refl;
-            doing = (refl, refl, some_told (min r.expected (data_length x)) e);
-            read = refl;
-          }) (quiet_task d r (phase.SendData x)))
 
   -- a flush
 

@@ -1,5 +1,5 @@
--- INQUIRY and REPORT LUNS begin tasks that keep what they tell of the units.
-use Rattle.std.proofs.Common.{◌≡◌, ◌∙◌, ℕ, ◌<◌, ◌≤◌, Bool, true, false, List, [], ◌∷◌, ◌++◌, Some, None, length}
+-- A command that tells of the device begins a task that keeps what it tells.
+use Rattle.std.proofs.Common.{◌≡◌, ◌∙◌, ℕ, ◌<◌, ◌≤◌, Bool, true, false, List, [], ◌∷◌, ◌++◌, Option, Some, None, length}
 use Rattle.std.proofs.Common.{refl, sym, ap, subst, arith}
 use Rattle.std.specs.Prelude.{◌*◌, ◌+◌, ◌==◌, if◌then◌else◌, map, min, take, Result, Ok}
 use Rattle.std.specs.List.{flat_map}
@@ -8,11 +8,17 @@ use Rattle.std.proofs.lemmas.List.{length-append, length-take, take_min}
 use Rattle.std.proofs.lemmas.List.Concat.{flat_map-cons}
 use Rattle.ufs_spec.proofs.ConfigFacts.{config_tests, ranges}
 use Rattle.ufs_spec.specs.Exchanges.{most_tasks, task_of}
-use Rattle.ufs_spec.specs.Identities.{inquiry_bytes, luns_bytes, luns_listed, unit_entry}
+use Rattle.ufs_spec.specs.Begins.{capacity_bytes, told_bytes}
+use Rattle.ufs_spec.specs.CdbFields.{spelled_cdb}
+use Rattle.ufs_spec.specs.Cdbs.{told_length}
+use Rattle.ufs_spec.specs.Identities.{luns_bytes, luns_listed, unit_entry}
 use Rattle.ufs_spec.specs.Keys.{below}
 use Rattle.ufs_spec.specs.Machine.{data_begun}
 use Rattle.ufs_spec.specs.Messages.{zeros}
-use Rattle.ufs_spec.specs.Refusals.{Request, State, numbers_of, sends_frames, units_listed}
+use Rattle.ufs_spec.specs.Refusals.{Request, State, numbers_of, sends_frames, unit_numbers_of, units_listed}
+use Rattle.ufs_spec.specs.declared.configs.UnitSpec.{UnitSpec}
+use Rattle.ufs_spec.specs.declared.operations.Told.{Told}
+use Rattle.ufs_spec.specs.declared.operations.Told.TheVariants as told
 use Rattle.ufs_spec.specs.declared.configs.Numbers.{Numbers}
 use Rattle.ufs_spec.specs.declared.scsi.Cdb.{Cdb}
 use Rattle.ufs_spec.specs.declared.scsi.Cdb.TheVariants as cdb
@@ -23,20 +29,18 @@ use Rattle.lun_route.proofs.Listed.{listed_count}
 use Rattle.task_set.specs.declared.tasks.Phase.{Phase}
 use Rattle.task_set.specs.declared.tasks.Status as kept_status
 use Rattle.device.specs.declared.plans.Identity.{Identity}
-use Rattle.device.specs.declared.plans.Identity.TheVariants as identity
 use Rattle.device.specs.declared.plans.Plan.{Plan}
 use Rattle.device.specs.Describes.{Describes}
-use Rattle.device.specs.Frames.{identity_bytes, with_zeros}
+use Rattle.device.specs.Frames.{capacity_told, identity_bytes, with_zeros}
 use Rattle.device.specs.Kept.{DeviceCore}
-use Rattle.device.specs.Plans.{length_on, tell_plan}
+use Rattle.device.specs.Plans.{identity_of, length_on, tell_plan}
+use Rattle.device.specs.Targets.{IsNamed, blocks_in, target_of}
 use Rattle.device.proofs.described.Answered.{IsBehind}
 use Rattle.device.proofs.host_messages.HeldBegins.{core_keeping, held_begins, last_held}
 use Rattle.device.proofs.host_messages.TasksBegin.{HasBegunFor, opened_for}
+use Rattle.device.proofs.host_messages.UnitsThere.{reads_there}
 
 -- How many bytes they tell
-
-pub inquiry_size : (lun : ℕ) → length (inquiry_bytes lun) ≡ 36
-inquiry_size lun = refl
 
 -- each entry has eight bytes
 abbrev AreEntries : List (List ℕ) → Type 0
@@ -71,7 +75,7 @@ listed n select =
     if_entries false high units = entries_of high units
 
 pub luns_length : (n : Numbers) (select allocation : ℕ) →
-    length (luns_bytes n select) ≡ 8 + 8 * units_listed n (cdb.ReportLuns select allocation)
+    length (luns_bytes n select) ≡ 8 + 8 * units_listed n (cdb.Tell told.Units select allocation)
 luns_length n select allocation =
     let list : List ℕ = flat_map (λ (e : List ℕ). e) (luns_listed n select) in
     let count = listed_count n select allocation in
@@ -122,25 +126,53 @@ module _ (d : DeviceCore) (s : State) (r : Request) (h : Describes d s) (free : 
       long : length bytes ≡ size
       long = length-take allocation all ∙ sym size_is
 
-  pub inquiry_begins : (allocation : ℕ) (p : Phase) →
-      Begins
-      (Ok (tell_plan r.expected (identity.Unit r.lun) (length_on (numbers_of s) (cdb.Inquiry allocation)))) p →
-      Opens
-      (Ok (tell_plan r.expected (identity.Unit r.lun) (length_on (numbers_of s) (cdb.Inquiry allocation)))) p
-      (data_begun s r (cdb.Inquiry allocation) (take allocation (inquiry_bytes r.lun)))
-  inquiry_begins allocation p begun =
-      tells_begins (cdb.Inquiry allocation) (identity.Unit r.lun) allocation (min allocation 36) p refl
-      (let size = inquiry_size r.lun in omega arith) (ap (min allocation) (sym (inquiry_size r.lun))) begun
+  -- what is told of the unit of the request
+  abbrev its_identity : Told → ℕ → Identity
+  its_identity what select = identity_of (target_of s r) what select
 
-  pub luns_begin : (select allocation : ℕ) (p : Phase) →
+  -- how many blocks the unit has that is there
+  capacity_same : (o : Option UnitSpec) → (u : UnitSpec) × (o ≡ Some u) → capacity_told (blocks_in o) ≡ capacity_bytes o
+  capacity_same (Some u) there = refl
+  capacity_same None there = absurd (none there.0 there.1)
+    where
+      none : (u : UnitSpec) → None ≡ Some u → ⊥
+      none u k = cc
+
+  -- is what the command tells
+  told_same : (what : Told) (select allocation : ℕ) → IsNamed s r →
+      spelled_cdb r.bytes ≡ Some (cdb.Tell what select allocation) →
+      identity_bytes (numbers_of s) (its_identity what select) ≡ told_bytes s r what select
+  told_same told.Sense select allocation named spells = refl
+  told_same told.Identity select allocation named spells = refl
+  told_same told.Capacity select allocation named spells =
+      capacity_same (unit_numbers_of s r)
+      (reads_there s r (cdb.Tell told.Capacity select allocation) named spells refl)
+  told_same told.Units select allocation named spells = refl
+
+  -- as long as it is said to be, and no longer than a block
+  told_size : (what : Told) (select allocation : ℕ) →
+      (length (identity_bytes (numbers_of s) (its_identity what select))
+      ≡ told_length (units_listed (numbers_of s) (cdb.Tell what select allocation)) what)
+      × (length (identity_bytes (numbers_of s) (its_identity what select)) ≤ 4096)
+  told_size told.Sense select allocation = (refl, omega arith)
+  told_size told.Identity select allocation = (refl, omega arith)
+  told_size told.Capacity select allocation = (refl, omega arith)
+  told_size told.Units select allocation = (luns_length (numbers_of s) select allocation, few_luns s h.tied select)
+
+  pub tell_begins : (what : Told) (select allocation : ℕ) (p : Phase) → IsNamed s r →
+      spelled_cdb r.bytes ≡ Some (cdb.Tell what select allocation) →
       Begins
-      (Ok (tell_plan r.expected (identity.Luns select)
-      (length_on (numbers_of s) (cdb.ReportLuns select allocation)))) p →
+      (Ok (tell_plan r.expected (its_identity what select)
+      (length_on (numbers_of s) (cdb.Tell what select allocation)))) p →
       Opens
-      (Ok (tell_plan r.expected (identity.Luns select)
-      (length_on (numbers_of s) (cdb.ReportLuns select allocation)))) p
-      (data_begun s r (cdb.ReportLuns select allocation) (take allocation (luns_bytes (numbers_of s) select)))
-  luns_begin select allocation p begun =
-      tells_begins (cdb.ReportLuns select allocation) (identity.Luns select) allocation
-      (length_on (numbers_of s) (cdb.ReportLuns select allocation)) p refl (few_luns s h.tied select)
-      (ap (min allocation) (sym (luns_length (numbers_of s) select allocation))) begun
+      (Ok (tell_plan r.expected (its_identity what select)
+      (length_on (numbers_of s) (cdb.Tell what select allocation)))) p
+      (data_begun s r (cdb.Tell what select allocation) (take allocation (told_bytes s r what select)))
+  tell_begins what select allocation p named spells begun =
+      let size = told_size what select allocation in
+      subst (λ (bytes : List ℕ). Opens (Ok (tell_plan r.expected (its_identity what select)
+      (length_on (numbers_of s) (cdb.Tell what select allocation)))) p
+      (data_begun s r (cdb.Tell what select allocation) (take allocation bytes)))
+      (told_same what select allocation named spells)
+      (tells_begins (cdb.Tell what select allocation) (its_identity what select) allocation
+      (length_on (numbers_of s) (cdb.Tell what select allocation)) p refl size.1 (ap (min allocation) (sym size.0)) begun)

@@ -170,7 +170,7 @@ module _ (d : DeviceCore) (s : State) (k : ℕ) (a : OpenTask) (b : exchange.Tas
         (λ n other index. other_pins b.tag n index s.translation.pins other);
     claims = claims_without after its;
     shorts = h.keeps.shorts;
-    power_on = h.keeps.power_on;
+    volatile = h.keeps.volatile;
   }
 
   pub behind_without : (after : Core) → HasLetGo after s.translation claims a.tag →

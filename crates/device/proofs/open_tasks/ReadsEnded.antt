@@ -131,7 +131,6 @@ read_sends_in index body a (phase.AwaitFrames size) = refl
 read_sends_in index body a (phase.AwaitList unit size) = refl
 read_sends_in index body a (phase.AwaitFrontier n size) = refl
 read_sends_in index body a (phase.SendBlocks x) = refl
-read_sends_in index body a (phase.SendData x) = refl
 read_sends_in index body a (phase.SendHeld size) = refl
 read_sends_in index body a (phase.Answer told n) = refl
 

@@ -136,7 +136,7 @@ module _ (d : DeviceCore) (s : State) (r : Request) (h : Describes d s) (free : 
         (subst (AreClaimed c) (sym (claims_more (numbers_of s) s.tasks b free)) claims);
     shorts = same_shorts (numbers_of s) u.numbers (before_accepted s.translation.ledger) (before_accepted u.ledger)
         d.shorts s.shorts numbers before h.kept.shorts;
-    power_on = h.kept.power_on;
+    volatile = h.kept.volatile;
   }
     where
       b : exchange.Task

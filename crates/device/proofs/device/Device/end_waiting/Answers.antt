@@ -35,7 +35,7 @@ returns-then-is_locked c =
       ftl = c.self.inside.ftl;
       boot = c.self.inside.boot;
       is_permanent = c.self.inside.is_permanent;
-      is_power_on = c.self.inside.is_power_on;
+      volatile = c.self.inside.volatile;
       rpmb = c.self.inside.rpmb;
       set = c.lock.new.self;
     }) ≡ lock_told t d)

@@ -56,7 +56,7 @@ returns-then-is_out_of_range-clause-what c =
     (data_lacking s r c.args.cdb.now c.numbers-numbers.result.now c.listed_by.result false
     (c.numbers-numbers.ensures.described s.translation (same_layer _ _ s.translation c.self.view_is h)) c.listed_by.ensures
     (sym (c.lacks_data.ensures r flags expected) ∙ c.if-lacks_data.false))
-    (sym c.is_out_of_range.ensures ∙ c.if-is_out_of_range.true)
+    (sym c.is_out_of_range.ensures.past ∙ c.if-is_out_of_range.true)
 
 pub returns-clause-what : goal.returns-clause-what
 returns-clause-what c =
@@ -70,5 +70,5 @@ returns-clause-what c =
     (data_lacking s r c.args.cdb.now c.numbers-numbers.result.now c.listed_by.result false
     (c.numbers-numbers.ensures.described s.translation (same_layer _ _ s.translation c.self.view_is h)) c.listed_by.ensures
     (sym (c.lacks_data.ensures r flags expected) ∙ c.if-lacks_data.false))
-    (sym c.is_out_of_range.ensures ∙ c.if-is_out_of_range.false)
+    (sym c.is_out_of_range.ensures.past ∙ c.if-is_out_of_range.false)
     (c.refusal_now.ensures s h bare)

@@ -1,0 +1,42 @@
+use Rattle.std.proofs.Common.{◌≡◌, ◌∙◌, Some, ap, refl, sym}
+use Rattle.std.specs.Prelude.{Result, Ok, Err}
+use Rattle.ufs_spec.specs.CdbFields.{row_of, spelled_cdb, spelled_in}
+use Rattle.ufs_spec.specs.Refusals.{Request, State}
+use Rattle.task_set.specs.declared.tasks.Status.{Status}
+use Rattle.ftl_core.specs.Public.{Describes as IsLayer}
+use Rattle.device.specs.Bare.{IsBare}
+use Rattle.device.specs.Plans.{IsPlanned, IsRequest}
+use Rattle.device.specs.Targets.{IsNamed, target_of}
+use Rattle.device.specs.declared.plans.Plan.{Plan}
+use Rattle.device.specs.declared.targets.Target.{Target}
+use Rattle.device.proofs.host_messages.UnitsThere.{if_err, if_ok, is_ok, planned_passes, refused_so}
+use Rattle.device.proofs.device.Device.plan.Goals as goal
+
+pub returns-in-Some : goal.returns-in-Some
+returns-in-Some c = λ s r h bare asks. by s r h bare asks c.plan_taken.result refl
+  where
+    routed : (s : State) (r : Request) → IsLayer c.args.self.now.ftl s.translation → IsBare s c.args.self.now →
+        IsRequest r c.args.flags c.args.lun c.args.expected c.args.cdb.now →
+        IsNamed s r × (c.in-Ok.target ≡ target_of s r)
+    routed s r h bare asks =
+        c.in-Ok.ensures s r h bare asks.lun_is (ap row_of asks.bytes_are ∙ sym c.row_of-row.ensures)
+
+    spells : Some c.in-Some.cdb ≡ spelled_cdb c.args.cdb.now
+    spells =
+        sym c.in-Some.is ∙ c.spelled_in.ensures ∙ ap (spelled_in c.args.cdb.now) c.row_of-row.ensures
+
+    by : (s : State) (r : Request) → IsLayer c.args.self.now.ftl s.translation → IsBare s c.args.self.now →
+        IsRequest r c.args.flags c.args.lun c.args.expected c.args.cdb.now →
+        (x : Result Plan Status) → c.plan_taken.result ≡ x → IsPlanned s r x
+    by s r h bare asks (Ok todo) e =
+        let its = routed s r h bare asks in
+        let ok = is_ok c.plan_taken.result todo e in
+        let spec = sym (ap (λ (t : Target). t.spec) its.1) in
+        planned_passes s r c.args.flags c.args.lun c.args.expected c.args.cdb.now c.in-Ok.target c.in-Some.cdb todo asks
+        its spells (c.plan_taken.ensures.passed ok s r h bare spec asks.flags_are asks.expected_is)
+        (c.plan_taken.ensures.within ok) (if_ok _ c.plan_taken.result todo e c.plan_taken.ensures.planned s h)
+    by s r h bare asks (Err told) e =
+        let its = routed s r h bare asks in
+        let spec = sym (ap (λ (t : Target). t.spec) its.1) in
+        refused_so s r c.args.flags c.args.lun c.args.expected c.args.cdb.now c.in-Some.cdb asks its.0 spells
+        ∙ if_err _ c.plan_taken.result told e c.plan_taken.ensures.refused s r h bare spec asks.flags_are asks.expected_is
