@@ -27,6 +27,7 @@ use Rattle.task_set.specs.Shorts.{short_locked}
 use Rattle.task_set.specs.Tasks.{after_lost_read, after_read, next_transfer, task_after}
 use Rattle.ufs_spec.specs.Plain.{greatest_command}
 use Rattle.ufs_spec.specs.Exchanges.{most_tasks}
+use Rattle.task_set.specs.declared.tasks.Wanted.TheVariants as wanted
 
 -- this happened to the task at this position
 abbrev pub with_event : DeviceCore → ℕ → TaskEvent → DeviceCore
@@ -68,7 +69,8 @@ pub record HasClaimedFor (after : Core) (t : Translation) (claims : Claims) (tag
 
 -- a WRITE of which no block came
 abbrev pub write_asks : Key → ℕ → Bool → Phase
-write_asks key blocks forced = phase.AskData (record { key = key; blocks = blocks; gathered = 0; forced = forced })
+write_asks key blocks forced =
+    phase.Ask (wanted.Block (record { key = key; blocks = blocks; gathered = 0; forced = forced }))
 
 -- so it is of a WRITE, which claims a slot for each block
 abbrev pub HasClaimed : Core → Translation → Claims → ℕ → Key → ℕ → Bool → Phase → Type 0
@@ -82,7 +84,7 @@ frame_slots = 3
 -- so it is of a SECURITY PROTOCOL OUT
 abbrev pub HasClaimedFrames : Core → Translation → Claims → ℕ → ℕ → Phase → Type 0
 HasClaimedFrames after t claims tag size p =
-    HasClaimedFor after t claims tag frame_slots (phase.AskFrames size) p
+    HasClaimedFor after t claims tag frame_slots (phase.Ask (wanted.Frames size)) p
 
 -- how far a command is that begins with what its task keeps to send, so many bytes: where its host takes nothing, it is
 -- done
@@ -106,7 +108,7 @@ HasBegun after t claims tag (Err refused) p = (p ≡ phase.Answer refused 0) × 
 HasBegun after t claims tag (Ok (plan.Nothing n)) p = (p ≡ phase.Answer status.Good n) × IsLayerWith after t claims
 HasBegun after t claims tag (Ok (plan.AskFrames region size)) p = HasClaimedFrames after t claims tag size p
 HasBegun after t claims tag (Ok (plan.AskList unit size)) p =
-    HasClaimedFor after t claims tag (list_slots t.numbers size) (phase.AskList unit size) p
+    HasClaimedFor after t claims tag (list_slots t.numbers size) (phase.Ask (wanted.List unit size)) p
 HasBegun after t claims tag (Ok (plan.TakeFrames region size taken)) p =
     (p ≡ held_phase size taken) × IsLayerWith after t claims
 HasBegun after t claims tag (Ok (plan.Tell told size taken)) p =

@@ -57,6 +57,8 @@ use Rattle.device.specs.Lists.{IsOfList, list_slots}
 use Rattle.task_set.specs.Tasks.{is_sender, read_error, status_kept}
 use Rattle.task_set.specs.Shorts.{reply_locked}
 use Rattle.device.specs.Replies.{short_message, short_said}
+use Rattle.task_set.specs.declared.tasks.Wanted.{Wanted}
+use Rattle.task_set.specs.declared.tasks.Wanted.TheVariants as wanted
 
 -- Tasks
 
@@ -133,20 +135,18 @@ pub record IsReadingArea (r : AreaReading) (total : ℕ) (pages : List ReadBlock
   pub total_is : total ≡ r.length
   pub reads : map (λ (page : ReadBlock). page.state) pages ≡ pages_read r
 
+-- what was gathered is for what was asked for
+abbrev pub IsGathered : Wanted → ℕ → Purpose → List ℕ → Type 0
+IsGathered (wanted.Block x) total purpose gathered = IsGathering x total purpose gathered
+IsGathered (wanted.Frames size) total purpose gathered = IsGatheringFrames size total purpose gathered
+IsGathered (wanted.List unit size) total purpose gathered = IsGatheringList unit size total purpose gathered
+
 -- what a phase of the device is to the specified one; a group's number counts from those before the accepted commands
 abbrev pub IsDoing : (before expected total : ℕ) → Phase → Deed → Type 0
-IsDoing before expected total (phase.AskData x) (Gathering purpose gathered asked) =
-    IsGathering x total purpose gathered × (asked ≡ false)
-IsDoing before expected total (phase.AwaitData x) (Gathering purpose gathered asked) =
-    IsGathering x total purpose gathered × (asked ≡ true)
-IsDoing before expected total (phase.AskFrames size) (Gathering purpose gathered asked) =
-    IsGatheringFrames size total purpose gathered × (asked ≡ false)
-IsDoing before expected total (phase.AwaitFrames size) (Gathering purpose gathered asked) =
-    IsGatheringFrames size total purpose gathered × (asked ≡ true)
-IsDoing before expected total (phase.AskList unit size) (Gathering purpose gathered asked) =
-    IsGatheringList unit size total purpose gathered × (asked ≡ false)
-IsDoing before expected total (phase.AwaitList unit size) (Gathering purpose gathered asked) =
-    IsGatheringList unit size total purpose gathered × (asked ≡ true)
+IsDoing before expected total (phase.Ask w) (Gathering purpose gathered asked) =
+    IsGathered w total purpose gathered × (asked ≡ false)
+IsDoing before expected total (phase.Await w) (Gathering purpose gathered asked) =
+    IsGathered w total purpose gathered × (asked ≡ true)
 IsDoing before expected total (phase.SendHeld size) (SendingBytes bytes) =
     (length bytes ≡ size) × (total ≡ size) × (1 ≤ min expected size)
 IsDoing before expected total (phase.AwaitFrontier number size) (Awaiting commands) =
@@ -238,14 +238,16 @@ HasRequest Undecided = ⊥
 HasRequest (Decided code) = Unit {0}
 HasRequest Answered = Unit {0}
 
+-- what a task that awaits this has to do with frames: none of its own were decided
+abbrev pub frames_awaited : Wanted → Frames
+frames_awaited (wanted.Block x) = NotBrought
+frames_awaited (wanted.Frames size) = Undecided
+frames_awaited (wanted.List unit size) = NotBrought
+
 -- what a task in this phase may have to do with frames: one that gathers or sends has no request yet
 abbrev pub FramesFit : Phase → Frames → Option (List ℕ) → Deed → Type 0
-FramesFit (phase.AskData x) f held deed = f ≡ NotBrought
-FramesFit (phase.AwaitData x) f held deed = f ≡ NotBrought
-FramesFit (phase.AskFrames size) f held deed = f ≡ Undecided
-FramesFit (phase.AwaitFrames size) f held deed = f ≡ Undecided
-FramesFit (phase.AskList unit size) f held deed = f ≡ NotBrought
-FramesFit (phase.AwaitList unit size) f held deed = f ≡ NotBrought
+FramesFit (phase.Ask w) f held deed = f ≡ frames_awaited w
+FramesFit (phase.Await w) f held deed = f ≡ frames_awaited w
 FramesFit (phase.SendBlocks x) f held deed = f ≡ NotBrought
 FramesFit (phase.SendHeld size) f held deed = (f ≡ NotBrought) × IsSentFrom size held deed
 FramesFit (phase.ReadArea r) f held deed = HasRequest f × PartsStand r held deed

@@ -35,6 +35,8 @@ use Rattle.task_set.specs.declared.frames.Frames.TheVariants.{Answered, Decided,
 use Rattle.device.specs.Calls.{with_event}
 use Rattle.device.specs.Kept.{DeviceCore, IsLayerWith}
 use Rattle.task_set.specs.Tasks.{status_kept}
+use Rattle.task_set.specs.declared.tasks.Wanted.{Wanted}
+use Rattle.task_set.specs.Tasks.{wanted_count, wanted_offset}
 
 -- Blocks
 
@@ -83,6 +85,10 @@ abbrev pub frames_message : Task → ℕ → List ℕ → Message
 frames_message t size held =
     message.DataIn t.lun t.tag 0 (record { items = take (frames_count t.expected size) held })
 
+-- the READY TO TRANSFER for what a task asks for
+abbrev pub ready_message : Task → Wanted → Message
+ready_message t w = message.ReadyToTransfer t.lun t.tag (wanted_offset w) (wanted_count w)
+
 -- whether a request has filled its register
 abbrev pub has_filled : Frames → Bool
 has_filled Answered = true
@@ -97,15 +103,11 @@ area_reply t size = if has_filled t.frames then Some (answer_of t status.Good si
 -- the reply that is due in a phase: a request for the next block, a DATA IN, or the RESPONSE. None is due while data of
 -- the host, a durable group or the read of a block is awaited
 abbrev pub owed_in : Translation → (read held : Option (List ℕ)) → Task → Phase → Option Message
-owed_in t read held a (phase.AskData x) = Some (message.ReadyToTransfer a.lun a.tag (4096 * x.gathered) 4096)
-owed_in t read held a (phase.AwaitData x) = None
+owed_in t read held a (phase.Ask w) = Some (ready_message a w)
+owed_in t read held a (phase.Await w) = None
 owed_in t read held a (phase.AwaitFrontier n size) =
     if nat_le n t.ledger.frontier then Some (answer_of a status.Good size) else None
 owed_in t read held a (phase.SendBlocks x) = option_map (block_message a x) (block_for t read a.tag x.sent)
-owed_in t read held a (phase.AskFrames size) = Some (message.ReadyToTransfer a.lun a.tag 0 size)
-owed_in t read held a (phase.AwaitFrames size) = None
-owed_in t read held a (phase.AskList unit size) = Some (message.ReadyToTransfer a.lun a.tag 0 size)
-owed_in t read held a (phase.AwaitList unit size) = None
 owed_in t read held a (phase.ReadArea r) = area_reply a r.length
 owed_in t read held a (phase.SendHeld size) = option_map (frames_message a size) held
 owed_in t read held a (phase.Answer s n) = Some (answer_of a s n)
@@ -129,14 +131,10 @@ without_task d k = record d { tasks = remove d.tasks k }
 
 -- what the device keeps, but for its layer, once the task at this position has handed out its reply
 abbrev pub moved_on : DeviceCore → ℕ → Phase → DeviceCore
-moved_on d k (phase.AskData x) = with_event d k event.DataAskedFor
-moved_on d k (phase.AwaitData x) = d
+moved_on d k (phase.Ask w) = with_event d k event.DataAskedFor
+moved_on d k (phase.Await w) = d
 moved_on d k (phase.AwaitFrontier n size) = without_task d k
 moved_on d k (phase.SendBlocks x) = with_event d k event.BlockSent
-moved_on d k (phase.AskFrames size) = with_event d k event.DataAskedFor
-moved_on d k (phase.AwaitFrames size) = d
-moved_on d k (phase.AskList unit size) = with_event d k event.DataAskedFor
-moved_on d k (phase.AwaitList unit size) = d
 moved_on d k (phase.ReadArea r) = without_task d k
 moved_on d k (phase.SendHeld size) = with_event d k event.DataSent
 moved_on d k (phase.Answer s n) = without_task d k
@@ -144,17 +142,13 @@ moved_on d k (phase.Answer s n) = without_task d k
 -- the layer then: a block that was handed out is let go; a task that ends keeps nothing, and what it waited for is
 -- acknowledged; what the tasks have claimed stays
 abbrev pub HasMoved : Core → Translation → Claims → ℕ → Phase → Type 0
-HasMoved after t claims tag (phase.AskData x) = IsLayerWith after t claims
-HasMoved after t claims tag (phase.AwaitData x) = IsLayerWith after t claims
+HasMoved after t claims tag (phase.Ask w) = IsLayerWith after t claims
+HasMoved after t claims tag (phase.Await w) = IsLayerWith after t claims
 HasMoved after t claims tag (phase.AwaitFrontier n size) =
     (commands : ℕ) → before_accepted t.ledger + commands ≤ t.ledger.frontier →
     IsLayerWith after (moved (moved t (Acknowledge commands)) (LetGoAll tag)) claims
 HasMoved after t claims tag (phase.SendBlocks x) =
     IsLayerWith after (moved (moved t (LetGo tag x.sent)) (WantPage tag (x.sent + 1))) claims
-HasMoved after t claims tag (phase.AskFrames size) = IsLayerWith after t claims
-HasMoved after t claims tag (phase.AwaitFrames size) = IsLayerWith after t claims
-HasMoved after t claims tag (phase.AskList unit size) = IsLayerWith after t claims
-HasMoved after t claims tag (phase.AwaitList unit size) = IsLayerWith after t claims
 HasMoved after t claims tag (phase.SendHeld size) = IsLayerWith after t claims
 HasMoved after t claims tag (phase.ReadArea r) = IsLayerWith after (moved t (LetGoAll tag)) claims
 HasMoved after t claims tag (phase.Answer s n) = IsLayerWith after (moved t (LetGoAll tag)) claims

@@ -23,11 +23,12 @@ use Rattle.device.specs.Kept.{DeviceCore, IsLayerWith}
 use Rattle.device.specs.Lists.{IsOfList, list_slots}
 use Rattle.device.specs.declared.unmap.Unmapping.{Unmapping}
 use Rattle.device.specs.declared.unmap.Unmapping.TheVariants as does
+use Rattle.task_set.specs.declared.tasks.Wanted.TheVariants as wanted
 
 -- how far an UNMAP is that begins, and the layer then: it claims its slots
 abbrev pub HasClaimedList : Core → Translation → Claims → ℕ → ℕ → ℕ → Phase → Type 0
 HasClaimedList after t claims tag unit size p =
-    HasClaimedFor after t claims tag (list_slots t.numbers size) (phase.AskList unit size) p
+    HasClaimedFor after t claims tag (list_slots t.numbers size) (phase.Ask (wanted.List unit size)) p
 
 -- What an UNMAP does with its list
 

@@ -272,7 +272,9 @@ impl Device {
                 gathered: 0,
                 forced,
             };
-            Phase::AskData { transfer }
+            Phase::Ask {
+                wanted: Wanted::Block { transfer },
+            }
         } else {
             Phase::Answer {
                 status: Status::Busy,

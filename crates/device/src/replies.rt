@@ -26,9 +26,7 @@ ghost use Rattle.task_set.specs.Shorts.{is_short_due};
 ghost use Rattle.std.specs.Prelude.{length as count_tasks};
 
 use crate::device::Device;
-use crate::responses::{
-    write_answer, write_block, write_frames, write_ready, write_ready_all, write_short,
-};
+use crate::responses::{write_answer, write_block, write_frames, write_ready, write_short};
 use task_set::{Frames, Phase, Sending, Status, Task, TaskEvent};
 use ufs_spec::{Block, Looked, Name, Upiu};
 
@@ -106,21 +104,11 @@ impl Device {
             (owed_in t (read_at self.now.tasks index) (held_at self.now.tasks index) task.now task.now.phase) }
     {
         match task.phase {
-            Phase::AskData { transfer } => {
-                write_ready(task, transfer, into);
+            Phase::Ask { wanted } => {
+                write_ready(task, wanted, into);
                 true
             }
-            Phase::AskFrames { length } => {
-                write_ready_all(task, length, into);
-                true
-            }
-            Phase::AskList { unit: _, length } => {
-                write_ready_all(task, length, into);
-                true
-            }
-            Phase::AwaitData { transfer: _ } => false,
-            Phase::AwaitFrames { length: _ } => false,
-            Phase::AwaitList { unit: _, length: _ } => false,
+            Phase::Await { wanted: _ } => false,
             Phase::AwaitFrontier { number, length } => {
                 self.write_durable(task, number, length, into)
             }
@@ -231,14 +219,8 @@ impl Device {
             HasMoved self.new.ftl t claims task.tag task.phase }
     {
         match task.phase {
-            Phase::AskData { transfer: _ }
-            | Phase::AskFrames { length: _ }
-            | Phase::AskList { unit: _, length: _ } => {
-                self.happen(index, TaskEvent::DataAskedFor);
-            }
-            Phase::AwaitData { transfer: _ }
-            | Phase::AwaitFrames { length: _ }
-            | Phase::AwaitList { unit: _, length: _ } => {}
+            Phase::Ask { wanted: _ } => self.happen(index, TaskEvent::DataAskedFor),
+            Phase::Await { wanted: _ } => {}
             Phase::SendHeld { length: _ } => {
                 self.happen(index, TaskEvent::DataSent);
             }

@@ -26,7 +26,7 @@ use crate::replies::zeros;
 use lun_route::{inquiry_bytes, luns_bytes};
 use rpmb::{Accepted, Machines, Outcome, asked_area};
 use scsi_cdb::no_sense;
-use task_set::{BLOCK_BYTES, Frames, Phase, Status, TaskEvent};
+use task_set::{BLOCK_BYTES, Frames, Phase, Status, TaskEvent, Wanted};
 use ufs_spec::{Block, Sense, write_u32};
 
 /// How many bytes a frame has.
@@ -108,7 +108,9 @@ impl Device {
             HasClaimedFrames self.new.ftl t claims tag length result }
     {
         if self.ftl.reserve(tag, FRAME_SLOTS) {
-            Phase::AskFrames { length }
+            Phase::Ask {
+                wanted: Wanted::Frames { length },
+            }
         } else {
             Phase::Answer {
                 status: Status::Busy,

@@ -6,12 +6,12 @@ ghost use Rattle.ufs_spec.specs.Messages.{AreBytes, IsMessage, IsQueryFunction, 
 ghost use Rattle.upiu.specs.Replies.{message_of};
 ghost use Rattle.ufs_spec.specs.declared.Message.{Message};
 ghost use Rattle.device.specs.Replies.{answer_of, block_message, count_of, frames_message};
-ghost use Rattle.device.specs.Replies.{function_of, query_answer, query_with, short_message};
+ghost use Rattle.device.specs.Replies.{function_of, query_answer, query_with, ready_message, short_message};
 ghost use Rattle.ufs_spec.specs.QueryAnswers.{query_failed};
 ghost use Rattle.task_set.specs.Tasks.{status_kept};
 
 use descriptors::{STANDARD_READ, STANDARD_WRITE, descriptor_told};
-use task_set::{BLOCK_BYTES, Queried, Sending, Short, ShortReply, Status, Task, Transfer};
+use task_set::{BLOCK_BYTES, Queried, Sending, Short, ShortReply, Status, Task, Wanted};
 use ufs_bytes::Block;
 use ufs_spec::{Data, Message, Numbers, Sense, Upiu};
 use upiu::Response;
@@ -240,20 +240,11 @@ pub(crate) fn write_block(task: &Task, sending: Sending, block: &Block, into: &m
     upiu::write_data_in(task.lun, task.tag, sending.offset(), &block[..count], into);
 }
 
-/// Writes the READY TO TRANSFER for the next block of a write (JESD220, 10.7.5).
-pub(crate) fn write_ready(task: &Task, transfer: Transfer, into: &mut Upiu)
-    ensures { into.new.items ≡
-        spelling (Message.ReadyToTransfer task.now.lun task.now.tag (4096 * transfer.gathered) 4096) }
+/// Writes the READY TO TRANSFER for what a task asks for (JESD220, 10.7.5).
+pub(crate) fn write_ready(task: &Task, wanted: Wanted, into: &mut Upiu)
+    ensures { into.new.items ≡ spelling (ready_message task.now wanted) }
 {
-    let offset = transfer.offset();
-    upiu::write_ready_to_transfer(task.lun, task.tag, offset, BLOCK_BYTES, into);
-}
-
-/// Writes the READY TO TRANSFER for frames or a list, which are asked for all at once (JESD220, 10.7.5).
-pub(crate) fn write_ready_all(task: &Task, length: u32, into: &mut Upiu)
-    ensures { into.new.items ≡ spelling (Message.ReadyToTransfer task.now.lun task.now.tag 0 length) }
-{
-    upiu::write_ready_to_transfer(task.lun, task.tag, 0, length, into);
+    upiu::write_ready_to_transfer(task.lun, task.tag, wanted.offset(), wanted.count(), into);
 }
 
 /// Writes the DATA IN of what a task keeps to send: the first of so many bytes, as many as the host expects, and at least one.

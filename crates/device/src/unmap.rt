@@ -12,7 +12,7 @@ ghost use Rattle.device.specs.Unmaps.{blocks_unmapped, is_unmapping, key_within,
 use crate::device::Device;
 use crate::targets::spec_of;
 use scsi_cdb::{UnmapList, read_unmap_list};
-use task_set::{Phase, Status, TaskEvent};
+use task_set::{Phase, Status, TaskEvent, Wanted};
 use ufs_spec::{Key, Sense, Tag};
 
 /// How many bytes the header of UNMAP's list has, and how many it has with one descriptor (SBC).
@@ -48,7 +48,9 @@ impl Device {
     {
         let most = self.command_blocks();
         if self.ftl.reserve(tag, list_slots(most, length)) {
-            Phase::AskList { unit, length }
+            Phase::Ask {
+                wanted: Wanted::List { unit, length },
+            }
         } else {
             Phase::Answer {
                 status: Status::Busy,

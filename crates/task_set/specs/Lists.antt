@@ -13,7 +13,6 @@ use Rattle.task_set.specs.declared.tasks.Short.{Short}
 use Rattle.task_set.specs.declared.tasks.Task.{Task}
 use Rattle.task_set.specs.declared.tasks.TaskEvent.{TaskEvent}
 use Rattle.task_set.specs.declared.tasks.Wanted.{Wanted}
-use Rattle.task_set.specs.declared.tasks.Wanted.TheVariants as wanted
 use Rattle.task_set.specs.Kept.{OpenTask, task_in}
 use Rattle.task_set.specs.Tasks.{bytes_kept, is_task_of, is_wanted, task_after}
 
@@ -38,9 +37,7 @@ short_allowed tasks shorts tag =
 
 -- what a task asked for that still awaits all of it
 abbrev pub wanted_in : Phase → Option Wanted
-wanted_in (phase.AwaitData x) = Some (wanted.Block x)
-wanted_in (phase.AwaitFrames size) = Some (wanted.Frames size)
-wanted_in (phase.AwaitList unit size) = Some (wanted.List unit size)
+wanted_in (phase.Await w) = Some w
 wanted_in p = None
 
 -- the task at this position, if so many bytes at this offset are what it asked for

@@ -58,13 +58,25 @@ next_sending x = if nat_lt (x.sent + 1) x.blocks then Some (record x { sent = x.
 
 -- after a block of a WRITE: the next one is asked for, if one is to come; the last one is told apart, with its group
 abbrev pub asked_next : Transfer → Option Transfer → Phase
-asked_next x None = phase.AwaitData x
-asked_next x (Some y) = phase.AskData y
+asked_next x None = phase.Await (wanted.Block x)
+asked_next x (Some y) = phase.Ask (wanted.Block y)
 
 -- after a block of a READ: the next one is sent, if there is one, else GOOD is due
 abbrev pub sent_next : Sending → Option Sending → Phase
 sent_next x None = phase.Answer status.Good x.length
 sent_next x (Some y) = phase.SendBlocks y
+
+-- where what is asked for lies in the data of the command
+abbrev pub wanted_offset : Wanted → ℕ
+wanted_offset (wanted.Block x) = 4096 * x.gathered
+wanted_offset (wanted.Frames size) = 0
+wanted_offset (wanted.List unit size) = 0
+
+-- how many bytes are asked for: a block, or all at once
+abbrev pub wanted_count : Wanted → ℕ
+wanted_count (wanted.Block x) = 4096
+wanted_count (wanted.Frames size) = size
+wanted_count (wanted.List unit size) = size
 
 -- whether so many bytes at this offset are what was asked for: the next block of a WRITE, all frames, or the list
 abbrev pub is_wanted : Wanted → ℕ → ℕ → Bool
@@ -72,37 +84,45 @@ is_wanted (wanted.Block x) offset count = (4096 * x.gathered == offset) && (coun
 is_wanted (wanted.Frames size) offset count = (offset == 0) && (count == size)
 is_wanted (wanted.List unit size) offset count = (offset == 0) && (count == size)
 
--- the table of phases for the list of an UNMAP (SBC): all of it is asked for at once, and decided once it came
-abbrev pub list_phase_after : Phase → TaskEvent → Phase
-list_phase_after (phase.AskList unit size) event.DataAskedFor = phase.AwaitList unit size
-list_phase_after (phase.AwaitList unit size) (event.ListRefused sense) = failed sense size
-list_phase_after (phase.AwaitList unit size) event.ListTaken = phase.Answer status.Good size
-list_phase_after p e = p
+-- a block of a WRITE came
+abbrev pub block_came : Transfer → TaskEvent → Phase
+block_came x event.BlockGathered = asked_next x (next_transfer x)
+block_came x (event.GroupAccepted number) = group_taken x number
+block_came x event.GroupRefused = failed write_error (4096 * x.blocks)
+block_came x e = phase.Await (wanted.Block x)
 
--- the table of phases for the frames of the RPMB (JESD220, 12.4): all are asked for at once, and decided once they came
-abbrev pub frame_phase_after : Phase → TaskEvent → Phase
-frame_phase_after (phase.AskFrames size) event.DataAskedFor = phase.AwaitFrames size
-frame_phase_after (phase.AwaitFrames size) (event.FramesRefused sense) = failed sense size
-frame_phase_after (phase.AwaitFrames size) (event.RequestAnswered code) = phase.Answer status.Good size
-frame_phase_after (phase.AwaitFrames size) (event.RequestAccepted code number) = phase.AwaitFrontier number size
-frame_phase_after (phase.AwaitFrames size) (event.AreaAsked code address count) =
-    phase.ReadArea (reading_of address count size)
-frame_phase_after (phase.ReadArea r) (event.PageLoaded index) = phase.ReadArea (page_ended r index page.WasRead)
-frame_phase_after (phase.ReadArea r) (event.BlockLost index) = phase.ReadArea (page_ended r index page.NotRead)
-frame_phase_after (phase.SendHeld size) event.DataSent = phase.Answer status.Good size
-frame_phase_after p e = list_phase_after p e
+-- the frames of the RPMB came, so many bytes (JESD220, 12.4): all are asked for at once, and decided once they came
+abbrev pub frames_came : ℕ → TaskEvent → Phase
+frames_came size (event.FramesRefused sense) = failed sense size
+frames_came size (event.RequestAnswered code) = phase.Answer status.Good size
+frames_came size (event.RequestAccepted code number) = phase.AwaitFrontier number size
+frames_came size (event.AreaAsked code address count) = phase.ReadArea (reading_of address count size)
+frames_came size e = phase.Await (wanted.Frames size)
+
+-- the list of an UNMAP of a unit came, so many bytes (SBC): all of it is asked for at once, and decided once it came
+abbrev pub list_came : ℕ → ℕ → TaskEvent → Phase
+list_came unit size (event.ListRefused sense) = failed sense size
+list_came unit size event.ListTaken = phase.Answer status.Good size
+list_came unit size e = phase.Await (wanted.List unit size)
+
+-- how far a task is that awaited this, after this happened
+abbrev pub came : Wanted → TaskEvent → Phase
+came (wanted.Block x) e = block_came x e
+came (wanted.Frames size) e = frames_came size e
+came (wanted.List unit size) e = list_came unit size e
 
 -- the table of a task's phases: how far it is after this happened; what does not concern its phase changes nothing
 abbrev pub phase_after : Phase → TaskEvent → Phase
-phase_after (phase.AskData x) event.DataAskedFor = phase.AwaitData x
-phase_after (phase.AwaitData x) event.BlockGathered = asked_next x (next_transfer x)
-phase_after (phase.AwaitData x) (event.GroupAccepted number) = group_taken x number
-phase_after (phase.AwaitData x) event.GroupRefused = failed write_error (4096 * x.blocks)
+phase_after (phase.Ask w) event.DataAskedFor = phase.Await w
+phase_after (phase.Await w) e = came w e
 phase_after (phase.AwaitFrontier number size) (event.Locked frontier) =
     if nat_lt frontier number then failed write_error size else phase.AwaitFrontier number size
+phase_after (phase.ReadArea r) (event.PageLoaded index) = phase.ReadArea (page_ended r index page.WasRead)
+phase_after (phase.ReadArea r) (event.BlockLost index) = phase.ReadArea (page_ended r index page.NotRead)
 phase_after (phase.SendBlocks x) event.BlockSent = sent_next x (next_sending x)
 phase_after (phase.SendBlocks x) (event.BlockLost index) = failed read_error (4096 * x.sent)
-phase_after p e = frame_phase_after p e
+phase_after (phase.SendHeld size) event.DataSent = phase.Answer status.Good size
+phase_after p e = p
 
 -- the block that a die read for a task in this phase: once it was handed out it is not there, and nothing else
 -- changes it

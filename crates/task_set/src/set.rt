@@ -303,9 +303,7 @@ fn wanted_in(kept: &OpenTask) -> Option<Wanted>
     ensures { result ≡ wanted_in kept.now.phase }
 {
     match kept.task().phase {
-        Phase::AwaitData { transfer } => Some(Wanted::Block { transfer }),
-        Phase::AwaitFrames { length } => Some(Wanted::Frames { length }),
-        Phase::AwaitList { unit, length } => Some(Wanted::List { unit, length }),
+        Phase::Await { wanted } => Some(wanted),
         _ => None,
     }
 }

@@ -1,9 +1,10 @@
 //! The tasks that are open, and what each still owes its host (JESD220, 10.9).
 ghost use Rattle.std.specs.Prelude.{◌≡◌, ◌*◌};
 ghost use Rattle.task_set.specs.Tasks.{is_meant};
-ghost use Rattle.task_set.specs.Tasks.{failed, frame_phase_after, group_taken, is_wanted, list_phase_after};
+ghost use Rattle.task_set.specs.Tasks.{asked_next, block_came, came, failed, frames_came, group_taken, is_wanted};
 ghost use Rattle.task_set.specs.Shorts.{is_short_due, reply_locked, short_locked};
-ghost use Rattle.task_set.specs.Tasks.{next_sending, next_transfer, phase_after};
+ghost use Rattle.task_set.specs.Tasks.{list_came, next_sending, next_transfer, phase_after, sent_next};
+ghost use Rattle.task_set.specs.Tasks.{wanted_count, wanted_offset};
 
 use crate::frames::{AreaReading, Frames, PageRead};
 use ufs_spec::{Asked, Key, Sense};
@@ -98,18 +99,10 @@ impl Sending {
 /// How far a task is.
 #[derive(Clone, Copy, Debug, PartialEq, Eq)]
 pub enum Phase {
-    /// A READY TO TRANSFER for the next block is due.
-    AskData { transfer: Transfer },
-    /// Its DATA OUT has not come.
-    AwaitData { transfer: Transfer },
-    /// A READY TO TRANSFER for its frames, so many bytes, is due.
-    AskFrames { length: u32 },
-    /// The DATA OUT with its frames has not come.
-    AwaitFrames { length: u32 },
-    /// A READY TO TRANSFER for its list of what to unmap in this unit, so many bytes, is due.
-    AskList { unit: u8, length: u32 },
-    /// The DATA OUT with its list has not come.
-    AwaitList { unit: u8, length: u32 },
+    /// A READY TO TRANSFER for this is due.
+    Ask { wanted: Wanted },
+    /// The DATA OUT with this has not come.
+    Await { wanted: Wanted },
     /// GOOD is due once every group up to this number is durable; `length` bytes were the command's.
     AwaitFrontier { number: u64, length: u32 },
     /// GOOD is due once each of these pages of the RPMB area is at hand, was read or could not be read.
@@ -196,17 +189,21 @@ impl Phase {
 
     /// A WRITE of which a block came: the next one is asked for.
     fn gathered(transfer: Transfer) -> Phase
-        ensures { result ≡ phase_after (Phase.AwaitData transfer) TaskEvent.BlockGathered }
+        ensures { result ≡ asked_next transfer (next_transfer transfer) }
     {
         match transfer.next() {
-            Some(transfer) => Phase::AskData { transfer },
-            None => Phase::AwaitData { transfer },
+            Some(transfer) => Phase::Ask {
+                wanted: Wanted::Block { transfer },
+            },
+            None => Phase::Await {
+                wanted: Wanted::Block { transfer },
+            },
         }
     }
 
     /// A READ of which a block was handed out: the next one follows, or GOOD.
     fn sent(sending: Sending) -> Phase
-        ensures { result ≡ phase_after (Phase.SendBlocks sending) TaskEvent.BlockSent }
+        ensures { result ≡ sent_next sending (next_sending sending) }
     {
         match sending.next() {
             Some(sending) => Phase::SendBlocks { sending },
@@ -220,67 +217,21 @@ impl Phase {
         ensures { result ≡ phase_after self event }
     {
         match (self, event) {
-            (Phase::AskData { transfer }, TaskEvent::DataAskedFor) => Phase::AwaitData { transfer },
-            (Phase::AwaitData { transfer }, TaskEvent::BlockGathered) => Phase::gathered(transfer),
-            (Phase::AwaitData { transfer }, TaskEvent::GroupAccepted { number }) => {
-                Phase::accepted(transfer, number)
-            }
-            (Phase::AwaitData { transfer }, TaskEvent::GroupRefused) => {
-                Phase::failed(Sense::WRITE_ERROR, transfer.length())
-            }
+            (Phase::Ask { wanted }, TaskEvent::DataAskedFor) => Phase::Await { wanted },
+            (Phase::Await { wanted }, event) => wanted.came(event),
             (Phase::AwaitFrontier { number, length }, TaskEvent::Locked { frontier })
                 if number > frontier => { Phase::failed(Sense::WRITE_ERROR, length) }
-            (Phase::SendBlocks { sending }, TaskEvent::BlockSent) => Phase::sent(sending),
-            (Phase::SendBlocks { sending }, TaskEvent::BlockLost { .. }) => {
-                Phase::failed(Sense::READ_ERROR, sending.offset())
-            }
-            (phase, event) => phase.after_frames(event),
-        }
-    }
-
-    /// The same for the frames of the RPMB and what a request reads.
-    fn after_frames(self, event: TaskEvent) -> Phase
-        ensures { result ≡ frame_phase_after self event }
-    {
-        match (self, event) {
-            (Phase::AskFrames { length }, TaskEvent::DataAskedFor) => Phase::AwaitFrames { length },
-            (Phase::AwaitFrames { length }, TaskEvent::FramesRefused { sense }) => {
-                Phase::failed(sense, length)
-            }
-            (Phase::AwaitFrames { length }, TaskEvent::RequestAnswered { .. }) => Phase::good(
-                length,
-            ),
-            (Phase::AwaitFrames { length }, TaskEvent::RequestAccepted { number, .. }) => {
-                Phase::AwaitFrontier { number, length }
-            }
-            (Phase::AwaitFrames { length }, TaskEvent::AreaAsked { address, count, .. }) => {
-                Phase::ReadArea {
-                    reading: AreaReading::new(address, count, length),
-                }
-            }
             (Phase::ReadArea { reading }, TaskEvent::PageLoaded { index }) => Phase::ReadArea {
                 reading: reading.ended(index, PageRead::WasRead),
             },
             (Phase::ReadArea { reading }, TaskEvent::BlockLost { index }) => Phase::ReadArea {
                 reading: reading.ended(index, PageRead::NotRead),
             },
+            (Phase::SendBlocks { sending }, TaskEvent::BlockSent) => Phase::sent(sending),
+            (Phase::SendBlocks { sending }, TaskEvent::BlockLost { .. }) => {
+                Phase::failed(Sense::READ_ERROR, sending.offset())
+            }
             (Phase::SendHeld { length }, TaskEvent::DataSent) => Phase::good(length),
-            (phase, event) => phase.after_list(event),
-        }
-    }
-
-    /// The same for the list of an UNMAP.
-    fn after_list(self, event: TaskEvent) -> Phase
-        ensures { result ≡ list_phase_after self event }
-    {
-        match (self, event) {
-            (Phase::AskList { unit, length }, TaskEvent::DataAskedFor) => {
-                Phase::AwaitList { unit, length }
-            }
-            (Phase::AwaitList { length, .. }, TaskEvent::ListRefused { sense }) => {
-                Phase::failed(sense, length)
-            }
-            (Phase::AwaitList { length, .. }, TaskEvent::ListTaken) => Phase::good(length),
             (phase, _) => phase,
         }
     }
@@ -379,7 +330,7 @@ impl ShortReply {
     }
 }
 
-/// What a task asked its host for.
+/// What a task asks its host for.
 #[derive(Clone, Copy, Debug, PartialEq, Eq)]
 pub enum Wanted {
     /// The next block of a WRITE.
@@ -391,6 +342,26 @@ pub enum Wanted {
 }
 
 impl Wanted {
+    /// Where what is asked for lies in the data of the command.
+    pub fn offset(self) -> u32
+        ensures { result ≡ wanted_offset self }
+    {
+        match self {
+            Wanted::Block { transfer } => transfer.offset(),
+            Wanted::Frames { length: _ } | Wanted::List { unit: _, length: _ } => 0,
+        }
+    }
+
+    /// How many bytes are asked for: a block, or all at once.
+    pub fn count(self) -> u32
+        ensures { result ≡ wanted_count self }
+    {
+        match self {
+            Wanted::Block { transfer: _ } => BLOCK_BYTES,
+            Wanted::Frames { length } | Wanted::List { unit: _, length } => length,
+        }
+    }
+
     /// Whether so many bytes at this offset are what was asked for.
     pub fn is(self, offset: u32, count: usize) -> bool
         ensures { result ≡ is_wanted self offset count }
@@ -402,6 +373,61 @@ impl Wanted {
             Wanted::Frames { length } => offset == 0 && count == length as usize,
             Wanted::List { length, .. } => offset == 0 && count == length as usize,
         }
+    }
+
+    /// How far a task is that awaited this, after this happened.
+    fn came(self, event: TaskEvent) -> Phase
+        ensures { result ≡ came self event }
+    {
+        match self {
+            Wanted::Block { transfer } => block_came(transfer, event),
+            Wanted::Frames { length } => frames_came(length, event),
+            Wanted::List { unit, length } => list_came(unit, length, event),
+        }
+    }
+}
+
+// A block of a WRITE came.
+fn block_came(transfer: Transfer, event: TaskEvent) -> Phase
+    ensures { result ≡ block_came transfer event }
+{
+    match event {
+        TaskEvent::BlockGathered => Phase::gathered(transfer),
+        TaskEvent::GroupAccepted { number } => Phase::accepted(transfer, number),
+        TaskEvent::GroupRefused => Phase::failed(Sense::WRITE_ERROR, transfer.length()),
+        _ => Phase::Await {
+            wanted: Wanted::Block { transfer },
+        },
+    }
+}
+
+// The frames of the RPMB came, so many bytes.
+fn frames_came(length: u32, event: TaskEvent) -> Phase
+    ensures { result ≡ frames_came length event }
+{
+    match event {
+        TaskEvent::FramesRefused { sense } => Phase::failed(sense, length),
+        TaskEvent::RequestAnswered { .. } => Phase::good(length),
+        TaskEvent::RequestAccepted { number, .. } => Phase::AwaitFrontier { number, length },
+        TaskEvent::AreaAsked { address, count, .. } => Phase::ReadArea {
+            reading: AreaReading::new(address, count, length),
+        },
+        _ => Phase::Await {
+            wanted: Wanted::Frames { length },
+        },
+    }
+}
+
+// The list of an UNMAP of this unit came, so many bytes.
+fn list_came(unit: u8, length: u32, event: TaskEvent) -> Phase
+    ensures { result ≡ list_came unit length event }
+{
+    match event {
+        TaskEvent::ListRefused { sense } => Phase::failed(sense, length),
+        TaskEvent::ListTaken => Phase::good(length),
+        _ => Phase::Await {
+            wanted: Wanted::List { unit, length },
+        },
     }
 }
 

@@ -244,17 +244,9 @@ module _ (v : State) (tied : IsTied v) (shows : ShowsReads v) (waits : FramesWai
       nothing_asked region_now first code asked
   by_phase (phase.Answer told n) (Sending blocks sent) deed doing fits asked due =
       nothing_asked region_now first code asked
-  by_phase (phase.AskData y) (Gathering purpose gathered told) deed doing fits asked due =
+  by_phase (phase.Ask w) (Gathering purpose gathered told) deed doing fits asked due =
       nothing_asked region_now first code asked
-  by_phase (phase.AwaitData y) (Gathering purpose gathered told) deed doing fits asked due =
-      nothing_asked region_now first code asked
-  by_phase (phase.AskFrames y) (Gathering purpose gathered told) deed doing fits asked due =
-      nothing_asked region_now first code asked
-  by_phase (phase.AskList unit y) (Gathering purpose gathered told) deed doing fits asked due =
-      nothing_asked region_now first code asked
-  by_phase (phase.AwaitFrames y) (Gathering purpose gathered told) deed doing fits asked due =
-      nothing_asked region_now first code asked
-  by_phase (phase.AwaitList unit y) (Gathering purpose gathered told) deed doing fits asked due =
+  by_phase (phase.Await w) (Gathering purpose gathered told) deed doing fits asked due =
       nothing_asked region_now first code asked
   by_phase (phase.SendBlocks y) (Sending blocks sent) deed doing fits asked due =
       nothing_asked region_now first code asked

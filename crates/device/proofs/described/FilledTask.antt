@@ -36,7 +36,7 @@ use Rattle.rpmb.specs.declared.regions.RegionState.{RegionState}
 use Rattle.task_set.specs.Frames.{frames_after}
 use Rattle.task_set.specs.Kept.{OpenTask}
 use Rattle.task_set.specs.Lists.{task_happened}
-use Rattle.task_set.specs.Tasks.{brings_frames, phase_after, task_after}
+use Rattle.task_set.specs.Tasks.{brings_frames, came, phase_after, task_after}
 use Rattle.task_set.specs.declared.frames.Frames.{Frames}
 use Rattle.task_set.specs.declared.frames.Frames.TheVariants as frames
 use Rattle.task_set.specs.declared.tasks.Phase.{Phase}
@@ -59,6 +59,8 @@ use Rattle.device.proofs.open_tasks.OpenTasks.{IsOpen}
 use Rattle.device.proofs.open_tasks.ReadProgress.{KeepsTag, by_tag, each_goes_on, one_goes_on, tag_kept}
 use Rattle.ufs_spec.specs.Refusals.{numbers_of}
 use Rattle.ufs_spec.specs.declared.configs.Numbers.{Numbers}
+use Rattle.task_set.specs.declared.tasks.Wanted.{Wanted}
+use Rattle.task_set.specs.declared.tasks.Wanted.TheVariants as wanted
 
 -- What a task keeps that fills its register
 
@@ -101,16 +103,18 @@ filled_wants v b (Answering status carried) index good = refl
 abbrev task_frames : Frames → Frames
 task_frames f = frames_after f event.RegisterFilled
 
+-- it awaits the same
+awaits_on : (w : Wanted) → came w event.RegisterFilled ≡ phase.Await w
+awaits_on (wanted.Block x) = refl
+awaits_on (wanted.Frames size) = refl
+awaits_on (wanted.List unit size) = refl
+
 -- its phase stays
 phase_stays : (p : Phase) → phase_after p event.RegisterFilled ≡ p
 phase_stays (phase.AwaitFrontier n size) = refl
 phase_stays (phase.Answer told n) = refl
-phase_stays (phase.AskData x) = refl
-phase_stays (phase.AwaitData x) = refl
-phase_stays (phase.AskFrames x) = refl
-phase_stays (phase.AskList unit x) = refl
-phase_stays (phase.AwaitFrames x) = refl
-phase_stays (phase.AwaitList unit x) = refl
+phase_stays (phase.Ask w) = refl
+phase_stays (phase.Await w) = awaits_on w
 phase_stays (phase.ReadArea r) = refl
 phase_stays (phase.SendBlocks x) = refl
 phase_stays (phase.SendHeld x) = refl
@@ -120,12 +124,8 @@ frames_fit : (t : Translation) (tag : ℕ) (p : Phase) (code : ℕ) (held : Opti
 frames_fit t tag (phase.AwaitFrontier n size) code held deed due h = tt
 frames_fit t tag (phase.Answer told n) code held deed due h = tt
 frames_fit t tag (phase.ReadArea r) code held deed due h = (tt, h.1)
-frames_fit t tag (phase.AskData x) code held deed due h = absurd (false≢true due)
-frames_fit t tag (phase.AwaitData x) code held deed due h = absurd (false≢true due)
-frames_fit t tag (phase.AskFrames x) code held deed due h = absurd (false≢true due)
-frames_fit t tag (phase.AskList unit x) code held deed due h = absurd (false≢true due)
-frames_fit t tag (phase.AwaitFrames x) code held deed due h = absurd (false≢true due)
-frames_fit t tag (phase.AwaitList unit x) code held deed due h = absurd (false≢true due)
+frames_fit t tag (phase.Ask w) code held deed due h = absurd (false≢true due)
+frames_fit t tag (phase.Await w) code held deed due h = absurd (false≢true due)
 frames_fit t tag (phase.SendBlocks x) code held deed due h = absurd (false≢true due)
 frames_fit t tag (phase.SendHeld x) code held deed due h = absurd (false≢true due)
 

@@ -100,12 +100,8 @@ module _ (v : State) (b : exchange.Task) where
       ap is_good h.0 ∙ good_told told v.translation b.tag n
   same_good expected (phase.Answer told n) (Sending blocks sent) low h =
       sym (ap (λ (y : kept_status.Status). is_due_in v.translation b.tag (phase.Answer y n)) h.told_is)
-  same_good expected (phase.AskData x) (Gathering purpose gathered asked) low h = refl
-  same_good expected (phase.AwaitData x) (Gathering purpose gathered asked) low h = refl
-  same_good expected (phase.AskFrames x) (Gathering purpose gathered asked) low h = refl
-  same_good expected (phase.AskList unit x) (Gathering purpose gathered asked) low h = refl
-  same_good expected (phase.AwaitFrames x) (Gathering purpose gathered asked) low h = refl
-  same_good expected (phase.AwaitList unit x) (Gathering purpose gathered asked) low h = refl
+  same_good expected (phase.Ask w) (Gathering purpose gathered asked) low h = refl
+  same_good expected (phase.Await w) (Gathering purpose gathered asked) low h = refl
   same_good expected (phase.SendBlocks x) (Sending blocks sent) low h = refl
   same_good expected (phase.SendHeld x) (SendingBytes bytes) low h = refl
   same_good expected p deed low h = absurd h

@@ -40,6 +40,7 @@ use Rattle.ftl_core.specs.Public.{AreClaimed}
 use Rattle.task_set.specs.declared.tasks.Phase.TheVariants as phase
 use Rattle.task_set.specs.declared.tasks.Status.TheVariants as status
 use Rattle.task_set.specs.declared.tasks.TaskEvent.TheVariants as event
+use Rattle.task_set.specs.declared.tasks.Wanted.TheVariants as wanted
 
 -- Once the lock is told
 
@@ -164,17 +165,17 @@ deed_kept s n all claimed mended frontier expected task (phase.AwaitFrontier m s
         (cond b (Awaiting commands) (Answering exchange.write_error task.length))
     by true = h
     by false = (refl, h.1)
-deed_kept s n all claimed mended frontier expected task (phase.AskData x) (Gathering purpose gathered asked)
+deed_kept s n all claimed mended frontier expected task (phase.Ask (wanted.Block x)) (Gathering purpose gathered asked)
     same low fits h = h
-deed_kept s n all claimed mended frontier expected task (phase.AwaitData x) (Gathering purpose gathered asked)
+deed_kept s n all claimed mended frontier expected task (phase.Await (wanted.Block x)) (Gathering purpose gathered asked)
     same low fits h = h
-deed_kept s n all claimed mended frontier expected task (phase.AskFrames size) (Gathering purpose gathered asked)
+deed_kept s n all claimed mended frontier expected task (phase.Ask (wanted.Frames size)) (Gathering purpose gathered asked)
     same low fits h = h
-deed_kept s n all claimed mended frontier expected task (phase.AskList unit size) (Gathering purpose gathered asked)
+deed_kept s n all claimed mended frontier expected task (phase.Ask (wanted.List unit size)) (Gathering purpose gathered asked)
     same low fits h = h
-deed_kept s n all claimed mended frontier expected task (phase.AwaitFrames size) (Gathering purpose gathered asked)
+deed_kept s n all claimed mended frontier expected task (phase.Await (wanted.Frames size)) (Gathering purpose gathered asked)
     same low fits h = h
-deed_kept s n all claimed mended frontier expected task (phase.AwaitList unit size) (Gathering purpose gathered asked)
+deed_kept s n all claimed mended frontier expected task (phase.Await (wanted.List unit size)) (Gathering purpose gathered asked)
     same low fits h = h
 deed_kept s n all claimed mended frontier expected task (phase.SendHeld size) (SendingBytes bytes) same low fits h = h
 deed_kept s n all claimed mended frontier expected task (phase.SendBlocks x) (Sending blocks sent) same low fits h = h
@@ -205,12 +206,10 @@ frames_fit s task frontier (phase.SendHeld size) f held deed h = (
     deed_is = ap (deed_locked s task) h.1.deed_is;
   },
 )
-frames_fit s task frontier (phase.AskData x) f held deed h = h
-frames_fit s task frontier (phase.AwaitData x) f held deed h = h
-frames_fit s task frontier (phase.AskFrames size) f held deed h = h
-frames_fit s task frontier (phase.AskList unit size) f held deed h = h
-frames_fit s task frontier (phase.AwaitFrames size) f held deed h = h
-frames_fit s task frontier (phase.AwaitList unit size) f held deed h = h
+frames_fit s task frontier (phase.Ask w) f held deed h = h
+frames_fit s task frontier (phase.Await (wanted.Block x)) f held deed h = h
+frames_fit s task frontier (phase.Await (wanted.Frames size)) f held deed h = h
+frames_fit s task frontier (phase.Await (wanted.List unit size)) f held deed h = h
 frames_fit s task frontier (phase.ReadArea r) f held deed h = (h.0, parts_stand deed h.1)
   where
     parts_stand : (d : Deed) → PartsStand r held d → PartsStand r held (deed_locked s task d)
@@ -244,12 +243,10 @@ asks_stay frontier p (frames.Decided code) (Some bytes) h = reads_stay p h
         by : (b : Bool) → ReadsFor (cond b failed (phase.AwaitFrontier n size)) frame code
         by true = k
         by false = k
-    reads_stay (phase.AskData x) k = k
-    reads_stay (phase.AwaitData x) k = k
-    reads_stay (phase.AskFrames size) k = k
-    reads_stay (phase.AskList unit size) k = k
-    reads_stay (phase.AwaitFrames size) k = k
-    reads_stay (phase.AwaitList unit size) k = k
+    reads_stay (phase.Ask w) k = k
+    reads_stay (phase.Await (wanted.Block x)) k = k
+    reads_stay (phase.Await (wanted.Frames size)) k = k
+    reads_stay (phase.Await (wanted.List unit size)) k = k
     reads_stay (phase.ReadArea r) k = k
     reads_stay (phase.SendBlocks x) k = k
     reads_stay (phase.SendHeld size) k = k

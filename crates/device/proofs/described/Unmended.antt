@@ -12,6 +12,7 @@ use Rattle.task_set.specs.declared.tasks.Phase.{Phase}
 use Rattle.task_set.specs.declared.tasks.Phase.TheVariants as phase
 use Rattle.task_set.specs.Kept.{OpenTask}
 use Rattle.device.specs.Describes.{IsDoing, IsTold, IsToldIn, TasksKept}
+use Rattle.task_set.specs.declared.tasks.Wanted.TheVariants as wanted
 
 -- What waits is told nothing new
 
@@ -38,17 +39,17 @@ doing_else : (n : Numbers) (accepted claimed total before other expected : ℕ) 
     IsDoing other expected total p deed
 doing_else n accepted claimed total before other expected (phase.AwaitFrontier m size) (Awaiting commands) fits h =
     absurd (false≢true fits.1)
-doing_else n accepted claimed total before other expected (phase.AskData x) (Gathering purpose gathered asked)
+doing_else n accepted claimed total before other expected (phase.Ask (wanted.Block x)) (Gathering purpose gathered asked)
     fits h = h
-doing_else n accepted claimed total before other expected (phase.AwaitData x) (Gathering purpose gathered asked)
+doing_else n accepted claimed total before other expected (phase.Await (wanted.Block x)) (Gathering purpose gathered asked)
     fits h = h
-doing_else n accepted claimed total before other expected (phase.AskFrames size) (Gathering purpose gathered asked)
+doing_else n accepted claimed total before other expected (phase.Ask (wanted.Frames size)) (Gathering purpose gathered asked)
     fits h = h
-doing_else n accepted claimed total before other expected (phase.AskList unit size) (Gathering purpose gathered asked)
+doing_else n accepted claimed total before other expected (phase.Ask (wanted.List unit size)) (Gathering purpose gathered asked)
     fits h = h
-doing_else n accepted claimed total before other expected (phase.AwaitFrames size) (Gathering purpose gathered asked)
+doing_else n accepted claimed total before other expected (phase.Await (wanted.Frames size)) (Gathering purpose gathered asked)
     fits h = h
-doing_else n accepted claimed total before other expected (phase.AwaitList unit size) (Gathering purpose gathered asked)
+doing_else n accepted claimed total before other expected (phase.Await (wanted.List unit size)) (Gathering purpose gathered asked)
     fits h = h
 doing_else n accepted claimed total before other expected (phase.SendHeld size) (SendingBytes bytes) fits h = h
 doing_else n accepted claimed total before other expected (phase.SendBlocks x) (Sending blocks sent) fits h = h

@@ -39,6 +39,7 @@ use Rattle.device.proofs.due_replies.ReplyMoves.{answered_gone, does_now, goes, 
 use Rattle.device.proofs.due_replies.ReplyMoves.{told_gone, with_layer}
 use Rattle.device.proofs.due_replies.PinsLetGo.{gone_again}
 use Rattle.ufs_spec.specs.Refusals.{numbers_of}
+use Rattle.task_set.specs.declared.tasks.Wanted.TheVariants as wanted
 
 -- what the definitions make of a task
 abbrev pub task_does : State → exchange.Task → Deed → State
@@ -90,14 +91,14 @@ module _ (d : DeviceCore) (s : State) (k : ℕ) (a : OpenTask) (b : exchange.Tas
       subst (IsFor a.region) (ap gathers_for deed ∙ same_for purpose gathered asked) o.kept.gathers
 
   asks : (after : Core) (x : Transfer) (purpose : Purpose) (gathered : List ℕ) (asked : Bool) →
-      a.phase ≡ phase.AskData x → b.deed ≡ Gathering purpose gathered asked → IsGathering x b.length purpose gathered →
+      a.phase ≡ phase.Ask (wanted.Block x) → b.deed ≡ Gathering purpose gathered asked → IsGathering x b.length purpose gathered →
       layer_kept.Describes after s.translation → AreClaimed after (claims_of (numbers_of s) s.tasks) →
       IsBehind (with_layer after (with_event d k event.DataAskedFor))
       (set_deed s b.tag (Gathering purpose gathered true))
   asks after x purpose gathered asked is deed its layer claims =
-      does_now d s k a b h o after event.DataAskedFor (phase.AskData x) (Gathering purpose gathered true) is
-      (its, refl) refl (its_frames (phase.AskData x) is) (still_for purpose gathered asked deed)
-      (none_asked d s k a b h o (its_frames (phase.AskData x) is)) refl
+      does_now d s k a b h o after event.DataAskedFor (phase.Ask (wanted.Block x)) (Gathering purpose gathered true) is
+      (its, refl) refl (its_frames (phase.Ask (wanted.Block x)) is) (still_for purpose gathered asked deed)
+      (none_asked d s k a b h o (its_frames (phase.Ask (wanted.Block x)) is)) refl
       (record {
         wanted = λ index. ap (wanted_in index b.request) deed;
         read = ap read_in deed;
@@ -107,16 +108,16 @@ module _ (d : DeviceCore) (s : State) (k : ℕ) (a : OpenTask) (b : exchange.Tas
 
   -- its frames are asked for
   asks_frames : (after : Core) (size : ℕ) (purpose : Purpose) (gathered : List ℕ) (asked : Bool) →
-      a.phase ≡ phase.AskFrames size → b.deed ≡ Gathering purpose gathered asked →
+      a.phase ≡ phase.Ask (wanted.Frames size) → b.deed ≡ Gathering purpose gathered asked →
       IsGatheringFrames size b.length purpose gathered →
       layer_kept.Describes after s.translation → AreClaimed after (claims_of (numbers_of s) s.tasks) →
       IsBehind (with_layer after (with_event d k event.DataAskedFor))
       (set_deed s b.tag (Gathering purpose gathered true))
   asks_frames after size purpose gathered asked is deed its layer claims =
-      does_now d s k a b h o after event.DataAskedFor (phase.AskFrames size) (Gathering purpose gathered true) is
-      (its, refl) refl (its_frames (phase.AskFrames size) is) (still_for purpose gathered asked deed)
+      does_now d s k a b h o after event.DataAskedFor (phase.Ask (wanted.Frames size)) (Gathering purpose gathered true) is
+      (its, refl) refl (its_frames (phase.Ask (wanted.Frames size)) is) (still_for purpose gathered asked deed)
       (ap is_unfilled
-      (subst (λ f. AreFramesKept f a.held b.request) (its_frames (phase.AskFrames size) is) o.kept.request))
+      (subst (λ f. AreFramesKept f a.held b.request) (its_frames (phase.Ask (wanted.Frames size)) is) o.kept.request))
       refl
       (record {
         wanted = λ index. ap (wanted_in index b.request) deed;
@@ -127,15 +128,15 @@ module _ (d : DeviceCore) (s : State) (k : ℕ) (a : OpenTask) (b : exchange.Tas
 
   -- its list is asked for
   asks_list : (after : Core) (unit size : ℕ) (purpose : Purpose) (gathered : List ℕ) (asked : Bool) →
-      a.phase ≡ phase.AskList unit size → b.deed ≡ Gathering purpose gathered asked →
+      a.phase ≡ phase.Ask (wanted.List unit size) → b.deed ≡ Gathering purpose gathered asked →
       IsGatheringList unit size b.length purpose gathered →
       layer_kept.Describes after s.translation → AreClaimed after (claims_of (numbers_of s) s.tasks) →
       IsBehind (with_layer after (with_event d k event.DataAskedFor))
       (set_deed s b.tag (Gathering purpose gathered true))
   asks_list after unit size purpose gathered asked is deed its layer claims =
-      does_now d s k a b h o after event.DataAskedFor (phase.AskList unit size) (Gathering purpose gathered true) is
-      (its, refl) refl (its_frames (phase.AskList unit size) is) (still_for purpose gathered asked deed)
-      (none_asked d s k a b h o (its_frames (phase.AskList unit size) is)) refl
+      does_now d s k a b h o after event.DataAskedFor (phase.Ask (wanted.List unit size)) (Gathering purpose gathered true) is
+      (its, refl) refl (its_frames (phase.Ask (wanted.List unit size)) is) (still_for purpose gathered asked deed)
+      (none_asked d s k a b h o (its_frames (phase.Ask (wanted.List unit size)) is)) refl
       (record {
         wanted = λ index. ap (wanted_in index b.request) deed;
         read = ap read_in deed;
@@ -291,15 +292,15 @@ module _ (d : DeviceCore) (s : State) (k : ℕ) (a : OpenTask) (b : exchange.Tas
       owed_in s.translation a.block a.held (task_in a) p ≡ Some m →
       HasMoved after s.translation (claims_of (numbers_of s) s.tasks) a.tag p →
       IsBehind (with_layer after (moved_on d k p)) (task_does s b deed)
-  moves_in after (phase.AskData x) (Gathering purpose gathered asked) m here e doing due new =
+  moves_in after (phase.Ask (wanted.Block x)) (Gathering purpose gathered asked) m here e doing due new =
       asks after x purpose gathered asked here e doing.0 new.0 new.1
-  moves_in after (phase.AwaitData x) deed m here e doing due new = absurd (none-some m due)
-  moves_in after (phase.AskFrames size) (Gathering purpose gathered asked) m here e doing due new =
+  moves_in after (phase.Await (wanted.Block x)) deed m here e doing due new = absurd (none-some m due)
+  moves_in after (phase.Ask (wanted.Frames size)) (Gathering purpose gathered asked) m here e doing due new =
       asks_frames after size purpose gathered asked here e doing.0 new.0 new.1
-  moves_in after (phase.AskList unit size) (Gathering purpose gathered asked) m here e doing due new =
+  moves_in after (phase.Ask (wanted.List unit size)) (Gathering purpose gathered asked) m here e doing due new =
       asks_list after unit size purpose gathered asked here e doing.0 new.0 new.1
-  moves_in after (phase.AwaitFrames size) deed m here e doing due new = absurd (none-some m due)
-  moves_in after (phase.AwaitList unit size) deed m here e doing due new = absurd (none-some m due)
+  moves_in after (phase.Await (wanted.Frames size)) deed m here e doing due new = absurd (none-some m due)
+  moves_in after (phase.Await (wanted.List unit size)) deed m here e doing due new = absurd (none-some m due)
   moves_in after (phase.SendHeld size) (SendingBytes bytes) m here e doing due new =
       sends_frames after size bytes here e doing.1 new.0 new.1
   moves_in after (phase.AwaitFrontier n size) (Awaiting commands) m here e doing due new =

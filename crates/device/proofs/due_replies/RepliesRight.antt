@@ -44,12 +44,8 @@ use Rattle.power_loss.proofs.host_commands.HandedOutReplies.{one_tag as same_tag
 reply_tag : (t : Translation) (read held : Option (List ℕ)) (a : Task) (p : Phase) (m : Message) →
     owed_in t read held a p ≡ Some m →
     tag_in m ≡ a.tag
-reply_tag t read held a (phase.AskData x) m h = same_tag _ m a.tag h refl
-reply_tag t read held a (phase.AwaitData x) m h = absurd (none-some m h)
-reply_tag t read held a (phase.AskFrames size) m h = same_tag _ m a.tag h refl
-reply_tag t read held a (phase.AskList unit size) m h = same_tag _ m a.tag h refl
-reply_tag t read held a (phase.AwaitFrames size) m h = absurd (none-some m h)
-reply_tag t read held a (phase.AwaitList unit size) m h = absurd (none-some m h)
+reply_tag t read held a (phase.Ask w) m h = same_tag _ m a.tag h refl
+reply_tag t read held a (phase.Await w) m h = absurd (none-some m h)
 reply_tag t read held a (phase.ReadArea r) m h = by (has_filled a.frames) h
   where
     by : (x : Bool) → (if x then Some (answer_of a status.Good r.length) else None) ≡ Some m → tag_in m ≡ a.tag

@@ -54,6 +54,7 @@ use Rattle.task_set.specs.Tasks.{status_kept}
 use Rattle.device.proofs.described.GoodDue.{same_test}
 use Rattle.device.proofs.described.Unmended.{waits_mended}
 use Rattle.device.proofs.due_replies.AreasRead.{none_needed}
+use Rattle.task_set.specs.declared.tasks.Wanted.TheVariants as wanted
 
 -- Messages
 
@@ -345,20 +346,20 @@ module _ (d : DeviceCore) (s : State) (a : OpenTask) (b : exchange.Task) (h : De
   same_in : (p : Phase) (deed : Deed) → b.deed ≡ deed →
       IsDoing (before_accepted s.translation.ledger) a.expected b.length p deed →
       FramesFit p a.frames a.held deed → deed_reply s b deed ≡ owed_in s.translation a.block a.held (task_in a) p
-  same_in (phase.AskFrames size) (Gathering purpose gathered asked) e is fits =
+  same_in (phase.Ask (wanted.Frames size)) (Gathering purpose gathered asked) e is fits =
       asking_frames size purpose gathered asked is.0 is.1
-  same_in (phase.AskList unit size) (Gathering purpose gathered asked) e is fits =
+  same_in (phase.Ask (wanted.List unit size)) (Gathering purpose gathered asked) e is fits =
       asking_list unit size purpose gathered asked is.0 is.1
-  same_in (phase.AwaitFrames size) (Gathering purpose gathered asked) e is fits =
+  same_in (phase.Await (wanted.Frames size)) (Gathering purpose gathered asked) e is fits =
       ap (λ z. if z then None else Some (ready_message b gathered)) is.1
-  same_in (phase.AwaitList unit size) (Gathering purpose gathered asked) e is fits =
+  same_in (phase.Await (wanted.List unit size)) (Gathering purpose gathered asked) e is fits =
       ap (λ z. if z then None else Some (ready_message b gathered)) is.1
   same_in (phase.SendHeld size) (SendingBytes bytes) e is fits =
       ap (λ z. Some z) (frames_same size bytes is fits.1)
       ∙ sym (ap (option_map (frames_message (task_in a) size)) fits.1.is_held)
-  same_in (phase.AskData x) (Gathering purpose gathered asked) e is fits =
+  same_in (phase.Ask (wanted.Block x)) (Gathering purpose gathered asked) e is fits =
       asking_same x purpose gathered asked is.0 is.1
-  same_in (phase.AwaitData x) (Gathering purpose gathered asked) e is fits =
+  same_in (phase.Await (wanted.Block x)) (Gathering purpose gathered asked) e is fits =
       ap (λ z. if z then None else Some (ready_message b gathered)) is.1
   same_in (phase.AwaitFrontier n size) (Awaiting commands) e is fits = awaiting_same n size commands e is.0 is.1
   same_in (phase.SendBlocks x) (Sending blocks sent) e is fits = sending_same x blocks sent e is

@@ -93,7 +93,7 @@ SaySame lun offset count b p deed =
 -- the tests of the two sides agree
 asked_same : (lun offset count : ℕ) (b : exchange.Task) (before expected : ℕ) (p : Phase) (deed : Deed) →
     IsDoing before expected b.length p deed → SaySame lun offset count b p deed
-asked_same lun offset count b before expected (phase.AwaitData x) (Gathering purpose gathered asked) h =
+asked_same lun offset count b before expected (phase.Await (wanted.Block x)) (Gathering purpose gathered asked) h =
     inr (
       wanted.Block x,
       refl,
@@ -101,7 +101,7 @@ asked_same lun offset count b before expected (phase.AwaitData x) (Gathering pur
           (count == next_count x b.length purpose gathered h.0 i))
           ∙ three (b.lun == lun) (4096 * x.gathered == offset) (count == 4096),
     )
-asked_same lun offset count b before expected (phase.AwaitFrames size) (Gathering purpose gathered asked) h =
+asked_same lun offset count b before expected (phase.Await (wanted.Frames size)) (Gathering purpose gathered asked) h =
     inr (
       wanted.Frames size,
       refl,
@@ -109,7 +109,7 @@ asked_same lun offset count b before expected (phase.AwaitFrames size) (Gatherin
           (count == frames_count size b.length purpose gathered h.0 i))
           ∙ three (b.lun == lun) (offset == 0) (count == size),
     )
-asked_same lun offset count b before expected (phase.AwaitList unit size) (Gathering purpose gathered asked) h =
+asked_same lun offset count b before expected (phase.Await (wanted.List unit size)) (Gathering purpose gathered asked) h =
     inr (
       wanted.List unit size,
       refl,
@@ -117,19 +117,19 @@ asked_same lun offset count b before expected (phase.AwaitList unit size) (Gathe
           (count == list_count unit size b.length purpose gathered h.0 i))
           ∙ three (b.lun == lun) (offset == 0) (count == size),
     )
-asked_same lun offset count b before expected (phase.AskData x) (Gathering purpose gathered asked) h =
+asked_same lun offset count b before expected (phase.Ask (wanted.Block x)) (Gathering purpose gathered asked) h =
     inl (
       refl,
       ap (λ x. ((x && (b.lun == lun)) && (offset == length gathered)) &&
           (count == count_at b.length (length gathered))) h.1,
     )
-asked_same lun offset count b before expected (phase.AskFrames size) (Gathering purpose gathered asked) h =
+asked_same lun offset count b before expected (phase.Ask (wanted.Frames size)) (Gathering purpose gathered asked) h =
     inl (
       refl,
       ap (λ x. ((x && (b.lun == lun)) && (offset == length gathered)) &&
           (count == count_at b.length (length gathered))) h.1,
     )
-asked_same lun offset count b before expected (phase.AskList unit size) (Gathering purpose gathered asked) h =
+asked_same lun offset count b before expected (phase.Ask (wanted.List unit size)) (Gathering purpose gathered asked) h =
     inl (
       refl,
       ap (λ x. ((x && (b.lun == lun)) && (offset == length gathered)) &&

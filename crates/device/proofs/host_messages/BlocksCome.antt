@@ -27,9 +27,10 @@ use Rattle.device.proofs.host_messages.BlocksGathered.{sends_once, slots_filled,
 use Rattle.device.proofs.host_messages.LastBlock.{completes}
 use Rattle.device.proofs.open_tasks.OpenTasks.{Stands}
 use Rattle.ufs_spec.specs.Refusals.{numbers_of}
+use Rattle.task_set.specs.declared.tasks.Wanted.TheVariants as wanted
 
 module _ (d : DeviceCore) (s : State) (tag : ℕ) (bytes : List ℕ) (x : Transfer) (h : Describes d s)
-    (r : Stands (before_accepted s.translation.ledger) tag d.tasks s.tasks) (at : r.a.phase ≡ phase.AwaitData x)
+    (r : Stands (before_accepted s.translation.ledger) tag d.tasks s.tasks) (at : r.a.phase ≡ phase.Await (wanted.Block x))
     (g : Gathers r.b.length x r.b.deed) (long : length bytes ≡ 4096) where
   abbrev purpose : Purpose
   purpose = ForWrite g.unit g.address x.blocks x.forced

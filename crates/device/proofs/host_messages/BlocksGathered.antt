@@ -27,6 +27,7 @@ use Rattle.device.proofs.due_replies.ReplyMoves.{happened_sends, happened_to, no
 use Rattle.device.proofs.host_messages.SlotsFilled.{next_filled}
 use Rattle.device.proofs.open_tasks.KeptByTag.{WantedForAll, claims_set, deed_changed}
 use Rattle.device.proofs.open_tasks.OpenTasks.{Stands}
+use Rattle.task_set.specs.declared.tasks.Wanted.TheVariants as wanted
 
 -- the task gathers the data of these blocks, and so many came
 pub record Gathers (total : ℕ) (x : Transfer) (deed : Deed) : Type 0 where
@@ -40,7 +41,7 @@ pub record Gathers (total : ℕ) (x : Transfer) (deed : Deed) : Type 0 where
   pub total_is : total ≡ 4096 * x.blocks
 
 pub gathers : (before expected total : ℕ) (x : Transfer) (deed : Deed) →
-    IsDoing before expected total (phase.AwaitData x) deed → Gathers total x deed
+    IsDoing before expected total (phase.Await (wanted.Block x)) deed → Gathers total x deed
 gathers before expected total x (Gathering (ForWrite unit address blocks forced) gathered asked) h = record {
   unit = unit;
   address = address;
@@ -64,7 +65,7 @@ abbrev pub core_then : DeviceCore → ℕ → Core → TaskEvent → DeviceCore
 core_then d k after e = record (with_event d k e) { ftl = after }
 
 module _ (d : DeviceCore) (s : State) (tag : ℕ) (x : Transfer) (h : Describes d s)
-    (r : Stands (before_accepted s.translation.ledger) tag d.tasks s.tasks) (at : r.a.phase ≡ phase.AwaitData x)
+    (r : Stands (before_accepted s.translation.ledger) tag d.tasks s.tasks) (at : r.a.phase ≡ phase.Await (wanted.Block x))
     (g : Gathers r.b.length x r.b.deed) where
   -- it brings no frames
   pub none_brought : r.a.frames ≡ frames.NotBrought
@@ -72,14 +73,14 @@ module _ (d : DeviceCore) (s : State) (tag : ℕ) (x : Transfer) (h : Describes 
 
   -- it does something else from now on, and keeps its block
   pub does : (e : TaskEvent) (deed : Deed) →
-      IsDoing (before_accepted s.translation.ledger) r.a.expected r.b.length (phase_after (phase.AwaitData x) e) deed →
+      IsDoing (before_accepted s.translation.ledger) r.a.expected r.b.length (phase_after (phase.Await (wanted.Block x)) e) deed →
       frames_after r.a.frames e ≡ r.a.frames →
-      FramesFit (phase_after (phase.AwaitData x) e) r.a.frames r.a.held deed → IsFor r.a.region (gathers_for deed) →
-      block_after e (phase.AwaitData x) r.a.block ≡ r.a.block → read_in r.b.deed ≡ read_in deed →
+      FramesFit (phase_after (phase.Await (wanted.Block x)) e) r.a.frames r.a.held deed → IsFor r.a.region (gathers_for deed) →
+      block_after e (phase.Await (wanted.Block x)) r.a.block ≡ r.a.block → read_in r.b.deed ≡ read_in deed →
       TasksKept (before_accepted s.translation.ledger) (task_happened d.tasks r.k e (slice_get d.tasks r.k))
       (map (with_deed r.b.tag deed) s.tasks)
   does e deed doing still fits region stays read =
-      happened_to d s r.k r.a r.b h r.opened e (phase.AwaitData x) deed at doing still fits region
+      happened_to d s r.k r.a r.b h r.opened e (phase.Await (wanted.Block x)) deed at doing still fits region
       (none_asked d s r.k r.a r.b h r.opened none_brought) (stays ∙ (r.opened.kept.read ∙ read))
 
   pub sends_once : (e : TaskEvent) → frames_after r.a.frames e ≡ r.a.frames →

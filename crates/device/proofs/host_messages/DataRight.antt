@@ -38,22 +38,22 @@ abbrev call_of : ℕ → ℕ → ℕ → ArrayVec ℕ → Call
 call_of lun tag offset «data» = Host (Spelled (message.DataOut lun tag offset «data») None)
 
 -- what a task asks for in its phase
-wants_block : (p : Phase) (x : Transfer) → wanted_in p ≡ Some (wanted.Block x) → p ≡ phase.AwaitData x
-wants_block (phase.AwaitData y) x e = ap phase.AwaitData (same y x e)
+wants_block : (p : Phase) (x : Transfer) → wanted_in p ≡ Some (wanted.Block x) → p ≡ phase.Await (wanted.Block x)
+wants_block (phase.Await (wanted.Block y)) x e = ap (λ (z : Transfer). phase.Await (wanted.Block z)) (same y x e)
   where
     same : (y x : Transfer) → Some (wanted.Block y) ≡ Some (wanted.Block x) → y ≡ x
     same y x k = cc
-wants_block (phase.AwaitFrames size) x e = absurd (other size x e)
+wants_block (phase.Await (wanted.Frames size)) x e = absurd (other size x e)
   where
     other : (size : ℕ) (x : Transfer) → Some (wanted.Frames size) ≡ Some (wanted.Block x) → ⊥
     other size x k = cc
-wants_block (phase.AwaitList unit size) x e = absurd (other unit size x e)
+wants_block (phase.Await (wanted.List unit size)) x e = absurd (other unit size x e)
   where
     other : (unit size : ℕ) (x : Transfer) → Some (wanted.List unit size) ≡ Some (wanted.Block x) → ⊥
     other unit size x k = cc
-wants_block (phase.AskData y) x e = absurd (none-some (wanted.Block x) e)
-wants_block (phase.AskFrames size) x e = absurd (none-some (wanted.Block x) e)
-wants_block (phase.AskList unit size) x e = absurd (none-some (wanted.Block x) e)
+wants_block (phase.Ask (wanted.Block y)) x e = absurd (none-some (wanted.Block x) e)
+wants_block (phase.Ask (wanted.Frames size)) x e = absurd (none-some (wanted.Block x) e)
+wants_block (phase.Ask (wanted.List unit size)) x e = absurd (none-some (wanted.Block x) e)
 wants_block (phase.AwaitFrontier n size) x e = absurd (none-some (wanted.Block x) e)
 wants_block (phase.ReadArea r) x e = absurd (none-some (wanted.Block x) e)
 wants_block (phase.SendBlocks y) x e = absurd (none-some (wanted.Block x) e)

@@ -27,6 +27,7 @@ use Rattle.device.proofs.host_messages.SlotsClaimed.{LayerThen, slots_found}
 use Rattle.device.proofs.host_messages.TasksBegin.{HasBegunFor, opened_for}
 use Rattle.device.proofs.open_tasks.TaskOpened.{none_claimed, opens_gathering}
 use Rattle.ufs_spec.specs.Refusals.{numbers_of}
+use Rattle.task_set.specs.declared.tasks.Wanted.TheVariants as wanted
 
 -- one to eight frames
 frames_few : (n : ℕ) → not (is_frames n) ≡ false → (512 ≤ n) × (n ≤ 4096)
@@ -79,9 +80,9 @@ module _ (d : DeviceCore) (s : State) (r : Request) (h : Describes d s) (free : 
         read = refl;
       }) (λ e. alone))
     where
-      its : (p ≡ phase.AskFrames n) × LayerThen after s.translation (claims_of (numbers_of s) s.tasks) r.tag 3 true
+      its : (p ≡ phase.Ask (wanted.Frames n)) × LayerThen after s.translation (claims_of (numbers_of s) s.tasks) r.tag 3 true
       its =
-          slots_found after s.translation (claims_of (numbers_of s) s.tasks) r.tag 3 (phase.AskFrames n) p slots
+          slots_found after s.translation (claims_of (numbers_of s) s.tasks) r.tag 3 (phase.Ask (wanted.Frames n)) p slots
           (none_claimed d s r h free few) begun
 
   -- a SECURITY PROTOCOL IN takes the frames that wait

@@ -54,7 +54,7 @@ pub record GathersFrames (region size total : ℕ) (deed : Deed) : Type 0 where
   pub total_is : total ≡ size
 
 pub gathers_frames : (region before expected total size : ℕ) (deed : Deed) →
-    IsDoing before expected total (phase.AwaitFrames size) deed → IsFor region (gathers_for deed) →
+    IsDoing before expected total (phase.Await (wanted.Frames size)) deed → IsFor region (gathers_for deed) →
     GathersFrames region size total deed
 gathers_frames region before expected total size (Gathering (ForFrames other) gathered asked) h to = record {
   deed_is = λ i. Gathering (ForFrames (to i)) (h.0.none_came i) (h.1 i);
@@ -63,22 +63,22 @@ gathers_frames region before expected total size (Gathering (ForFrames other) ga
 gathers_frames region before expected total size (Gathering purpose gathered asked) h to = absurd h.0.for_frames
 gathers_frames region before expected total size deed h to = absurd h
 
-pub wants_frames : (p : Phase) (size : ℕ) → wanted_of p ≡ Some (wanted.Frames size) → p ≡ phase.AwaitFrames size
-wants_frames (phase.AwaitFrames n) size e = ap phase.AwaitFrames (same n size e)
+pub wants_frames : (p : Phase) (size : ℕ) → wanted_of p ≡ Some (wanted.Frames size) → p ≡ phase.Await (wanted.Frames size)
+wants_frames (phase.Await (wanted.Frames n)) size e = ap (λ (m : ℕ). phase.Await (wanted.Frames m)) (same n size e)
   where
     same : (n size : ℕ) → Some (wanted.Frames n) ≡ Some (wanted.Frames size) → n ≡ size
     same n size k = cc
-wants_frames (phase.AwaitData x) size e = absurd (other x size e)
+wants_frames (phase.Await (wanted.Block x)) size e = absurd (other x size e)
   where
     other : (x : Transfer) (size : ℕ) → Some (wanted.Block x) ≡ Some (wanted.Frames size) → ⊥
     other x size k = cc
-wants_frames (phase.AwaitList unit n) size e = absurd (other unit n size e)
+wants_frames (phase.Await (wanted.List unit n)) size e = absurd (other unit n size e)
   where
     other : (unit n size : ℕ) → Some (wanted.List unit n) ≡ Some (wanted.Frames size) → ⊥
     other unit n size k = cc
-wants_frames (phase.AskData y) size e = absurd (none-some (wanted.Frames size) e)
-wants_frames (phase.AskFrames n) size e = absurd (none-some (wanted.Frames size) e)
-wants_frames (phase.AskList unit n) size e = absurd (none-some (wanted.Frames size) e)
+wants_frames (phase.Ask (wanted.Block y)) size e = absurd (none-some (wanted.Frames size) e)
+wants_frames (phase.Ask (wanted.Frames n)) size e = absurd (none-some (wanted.Frames size) e)
+wants_frames (phase.Ask (wanted.List unit n)) size e = absurd (none-some (wanted.Frames size) e)
 wants_frames (phase.AwaitFrontier n m) size e = absurd (none-some (wanted.Frames size) e)
 wants_frames (phase.ReadArea r) size e = absurd (none-some (wanted.Frames size) e)
 wants_frames (phase.SendBlocks y) size e = absurd (none-some (wanted.Frames size) e)
@@ -90,7 +90,7 @@ pub record AllCame (d : DeviceCore) (s : State) (tag : ℕ) (bytes : List ℕ) :
   pub described : Describes d s
   pub stands : Stands (before_accepted s.translation.ledger) tag d.tasks s.tasks
   pub size : ℕ
-  pub awaits : stands.a.phase ≡ phase.AwaitFrames size
+  pub awaits : stands.a.phase ≡ phase.Await (wanted.Frames size)
   pub gathers : GathersFrames stands.a.region size stands.b.length stands.b.deed
   pub long : length bytes ≡ size
 
@@ -209,9 +209,9 @@ module _ {d : DeviceCore} {s : State} {tag : ℕ} {bytes : List ℕ} (c : AllCam
 
   -- this happened to the task, which has the request from now on
   pub record Happens (code : ℕ) (e : TaskEvent) (p : Phase) (deed : Deed) : Type 0 where
-    pub phase_is : phase_after (phase.AwaitFrames c.size) e ≡ p
+    pub phase_is : phase_after (phase.Await (wanted.Frames c.size)) e ≡ p
     pub frames_are_kept : frames_after frames.Undecided e ≡ frames.Decided code
-    pub no_block : block_after e (phase.AwaitFrames c.size) None ≡ None
+    pub no_block : block_after e (phase.Await (wanted.Frames c.size)) None ≡ None
     pub asks : ReadsFor p (first_frame bytes) code
     pub fits_in : FramesFit p (frames.Decided code) (Some (with_zeros bytes)) deed
     pub doing : IsDoing (before_accepted s.translation.ledger) c.stands.a.expected c.stands.b.length p deed

@@ -38,6 +38,7 @@ use Rattle.device.proofs.host_messages.SlotsFilled.{all_came}
 use Rattle.device.proofs.open_tasks.KeptByTag.{claimed_last, claimed_own}
 use Rattle.device.proofs.open_tasks.OpenTasks.{Stands}
 use Rattle.ufs_spec.specs.declared.configs.Numbers.{Numbers}
+use Rattle.task_set.specs.declared.tasks.Wanted.TheVariants as wanted
 
 -- once its command was accepted a WRITE sends none, and has no slot
 write_sends : (forced : Bool) (position n : ℕ) → SendsNone (write_deed forced position n)
@@ -50,7 +51,7 @@ write_claims false m position n = refl
 
 -- all its data came
 module _ (d : DeviceCore) (s : State) (tag : ℕ) (x : Transfer) (h : Describes d s)
-    (r : Stands (before_accepted s.translation.ledger) tag d.tasks s.tasks) (at : r.a.phase ≡ phase.AwaitData x)
+    (r : Stands (before_accepted s.translation.ledger) tag d.tasks s.tasks) (at : r.a.phase ≡ phase.Await (wanted.Block x))
     (g : Gathers r.b.length x r.b.deed) (all : List ℕ) (are : AreBytes all) (long : length all ≡ 4096 * x.blocks) where
   -- the claims where its tag has claimed these blocks
   abbrev claiming : List (List ℕ) → Claims

@@ -22,6 +22,7 @@ use Rattle.device.proofs.host_messages.SlotsClaimed.{LayerThen, slots_found}
 use Rattle.device.proofs.host_messages.TasksBegin.{HasBegunFor, nothing_begins, opened_for, quiet_task, same_phase}
 use Rattle.device.proofs.open_tasks.TaskOpened.{none_claimed, opens_gathering, never_in}
 use Rattle.ufs_spec.specs.Refusals.{numbers_of}
+use Rattle.task_set.specs.declared.tasks.Wanted.TheVariants as wanted
 
 -- a list that is there is a header, or a header with one descriptor
 list_told : (list : ℕ) → has_wrong_list (cdb.Unmap list) ≡ false → (list == 0) ≡ false → IsOfList list
@@ -57,7 +58,7 @@ module _ (d : DeviceCore) (s : State) (r : Request) (h : Describes d s) (free : 
   list_begins unit list p listed slots true e begun =
       nothing_begins d s r h free few after (cdb.Unmap list) 0 p refl begun
   list_begins unit list p listed slots false e begun =
-      same_phase d r after p (phase.AskList unit list) _ its.0
+      same_phase d r after p (phase.Ask (wanted.List unit list)) _ its.0
       (opens_gathering d s r h free few after (Some (cdb.Unmap list)) list (list_slots (numbers_of s) list) (ForUnmap unit) _ its.1
       (record {
         lun = refl;
@@ -76,10 +77,10 @@ module _ (d : DeviceCore) (s : State) (r : Request) (h : Describes d s) (free : 
           refl,
         );
         read = refl;
-      }) (quiet_task d r (phase.AskList unit list)))
+      }) (quiet_task d r (phase.Ask (wanted.List unit list))))
     where
-      its : (p ≡ phase.AskList unit list)
+      its : (p ≡ phase.Ask (wanted.List unit list))
           × LayerThen after s.translation (claims_of (numbers_of s) s.tasks) r.tag (list_slots (numbers_of s) list) true
       its =
-          slots_found after s.translation (claims_of (numbers_of s) s.tasks) r.tag (list_slots (numbers_of s) list) (phase.AskList unit list) p slots
+          slots_found after s.translation (claims_of (numbers_of s) s.tasks) r.tag (list_slots (numbers_of s) list) (phase.Ask (wanted.List unit list)) p slots
           (none_claimed d s r h free few) begun

@@ -152,7 +152,7 @@ list_keeps d come s tag list unit size h r wants long are did =
     (did.unmapped s.translation (claims_of (numbers_of s) s.tasks) (h.kept.layer_kept, h.kept.claims)
     (gathers_its came).fits.unit_in (subst IsOfList (sym long) came.gathers.of_list))))
   where
-    at : r.a.phase ≡ phase.AwaitList unit size
+    at : r.a.phase ≡ phase.Await (wanted.List unit size)
     at = wants_list r.a.phase unit size wants
 
     came : ListCame d s tag list

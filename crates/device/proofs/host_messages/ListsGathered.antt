@@ -49,7 +49,7 @@ pub record GathersList (unit size total : ℕ) (deed : Deed) : Type 0 where
   pub of_list : IsOfList size
 
 pub gathers_list : (before expected total unit size : ℕ) (deed : Deed) →
-    IsDoing before expected total (phase.AwaitList unit size) deed → GathersList unit size total deed
+    IsDoing before expected total (phase.Await (wanted.List unit size)) deed → GathersList unit size total deed
 gathers_list before expected total unit size (Gathering purpose gathered asked) h = record {
   deed_is = λ i. Gathering (h.0.for_list i) (h.0.none_came i) (h.1 i);
   total_is = h.0.total_is;
@@ -58,26 +58,26 @@ gathers_list before expected total unit size (Gathering purpose gathered asked) 
 gathers_list before expected total unit size deed h = absurd h
 
 pub wants_list : (p : Phase) (unit size : ℕ) → wanted_of p ≡ Some (wanted.List unit size) →
-    p ≡ phase.AwaitList unit size
-wants_list (phase.AwaitList other n) unit size e =
-    λ i. phase.AwaitList (same_unit other n unit size e i) (same_size other n unit size e i)
+    p ≡ phase.Await (wanted.List unit size)
+wants_list (phase.Await (wanted.List other n)) unit size e =
+    λ i. phase.Await (wanted.List (same_unit other n unit size e i) (same_size other n unit size e i))
   where
     same_unit : (other n unit size : ℕ) → Some (wanted.List other n) ≡ Some (wanted.List unit size) → other ≡ unit
     same_unit other n unit size k = cc
 
     same_size : (other n unit size : ℕ) → Some (wanted.List other n) ≡ Some (wanted.List unit size) → n ≡ size
     same_size other n unit size k = cc
-wants_list (phase.AwaitData x) unit size e = absurd (other x unit size e)
+wants_list (phase.Await (wanted.Block x)) unit size e = absurd (other x unit size e)
   where
     other : (x : Transfer) (unit size : ℕ) → Some (wanted.Block x) ≡ Some (wanted.List unit size) → ⊥
     other x unit size k = cc
-wants_list (phase.AwaitFrames n) unit size e = absurd (other n unit size e)
+wants_list (phase.Await (wanted.Frames n)) unit size e = absurd (other n unit size e)
   where
     other : (n unit size : ℕ) → Some (wanted.Frames n) ≡ Some (wanted.List unit size) → ⊥
     other n unit size k = cc
-wants_list (phase.AskData y) unit size e = absurd (none-some (wanted.List unit size) e)
-wants_list (phase.AskFrames n) unit size e = absurd (none-some (wanted.List unit size) e)
-wants_list (phase.AskList other n) unit size e = absurd (none-some (wanted.List unit size) e)
+wants_list (phase.Ask (wanted.Block y)) unit size e = absurd (none-some (wanted.List unit size) e)
+wants_list (phase.Ask (wanted.Frames n)) unit size e = absurd (none-some (wanted.List unit size) e)
+wants_list (phase.Ask (wanted.List other n)) unit size e = absurd (none-some (wanted.List unit size) e)
 wants_list (phase.AwaitFrontier n m) unit size e = absurd (none-some (wanted.List unit size) e)
 wants_list (phase.ReadArea r) unit size e = absurd (none-some (wanted.List unit size) e)
 wants_list (phase.SendBlocks y) unit size e = absurd (none-some (wanted.List unit size) e)
@@ -90,7 +90,7 @@ pub record ListCame (d : DeviceCore) (s : State) (tag : ℕ) (list : List ℕ) :
   pub stands : Stands (before_accepted s.translation.ledger) tag d.tasks s.tasks
   pub unit : ℕ
   pub size : ℕ
-  pub awaits : stands.a.phase ≡ phase.AwaitList unit size
+  pub awaits : stands.a.phase ≡ phase.Await (wanted.List unit size)
   pub gathers : GathersList unit size stands.b.length stands.b.deed
   pub long : length list ≡ size
   pub are_bytes : AreBytes list
@@ -133,9 +133,9 @@ module _ {d : DeviceCore} {s : State} {tag : ℕ} {list : List ℕ} (c : ListCam
 
   -- what tells it so
   pub record Tells (e : TaskEvent) (told : Status) : Type 0 where
-    pub phase_is : phase_after (phase.AwaitList c.unit c.size) e ≡ phase.Answer told c.size
+    pub phase_is : phase_after (phase.Await (wanted.List c.unit c.size)) e ≡ phase.Answer told c.size
     pub frames_stay : frames_after c.stands.a.frames e ≡ c.stands.a.frames
-    pub block_stays : block_after e (phase.AwaitList c.unit c.size) c.stands.a.block ≡ c.stands.a.block
+    pub block_stays : block_after e (phase.Await (wanted.List c.unit c.size)) c.stands.a.block ≡ c.stands.a.block
 
   -- what becomes of the layer and of the accepted commands
   pub record Leads (layer : Core) (u : Translation) (cs : List Command) : Type 0 where

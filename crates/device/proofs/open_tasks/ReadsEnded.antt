@@ -123,12 +123,8 @@ is_reading tag index us pins kept waiting = by (task_of tag us) refl (sym kept �
 read_sends_in : (index : ℕ) (body : List ℕ) (a : OpenTask) (p : Phase) →
     is_sender (read_for index body a p) ≡ is_sender a
 read_sends_in index body a (phase.ReadArea r) = refl
-read_sends_in index body a (phase.AskData x) = refl
-read_sends_in index body a (phase.AwaitData x) = refl
-read_sends_in index body a (phase.AskFrames size) = refl
-read_sends_in index body a (phase.AskList unit size) = refl
-read_sends_in index body a (phase.AwaitFrames size) = refl
-read_sends_in index body a (phase.AwaitList unit size) = refl
+read_sends_in index body a (phase.Ask w) = refl
+read_sends_in index body a (phase.Await w) = refl
 read_sends_in index body a (phase.AwaitFrontier n size) = refl
 read_sends_in index body a (phase.SendBlocks x) = refl
 read_sends_in index body a (phase.SendHeld size) = refl

@@ -5,12 +5,13 @@ use Rattle.device.specs.Kept.{DeviceCore, IsLayerWith}
 use Rattle.device.proofs.host_messages.SlotsClaimed.{asks_or_busy, slots_claimed}
 use Rattle.device.proofs.device.Device.begin_list.Goals as goal
 use Rattle.device.proofs.device.Device.begin_list.Goals.{then-reserve, else-reserve}
+use Rattle.task_set.specs.declared.tasks.Wanted.TheVariants as wanted
 
 pub returns-clause-begun : goal.returns-clause-begun
 returns-clause-begun c =
     λ t claims h.
     let layer = subst (λ (d : DeviceCore). IsLayerWith d.ftl t claims) (sym c.self.view_is) h in
-    let asks = phase.AskList c.args.unit c.args.length in
+    let asks = phase.Ask (wanted.List c.args.unit c.args.length) in
     let phase : c.if-reserve.result ≡ asks_or_busy asks c.reserve.result = elim c.if-reserve.branch [
       | then-reserve w ↦ w.result-is ∙ sym (ap (asks_or_busy asks) w.if-reserve.true)
       | else-reserve w ↦ w.result-is ∙ sym (ap (asks_or_busy asks) w.if-reserve.false)
