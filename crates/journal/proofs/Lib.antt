@@ -2,7 +2,6 @@ mod AcceptedFrames
 mod AreaBlocks
 mod EachRegion
 mod EntryFacts
-mod HeardFacts
 mod HeldUnits
 mod KeptEntries
 mod SettingLines

@@ -5,15 +5,15 @@
 -- before the COMMAND of a SYNCHRONIZE CACHE without IMMED by that one's. A setting is accepted with its QUERY REQUEST
 -- or refused at once, which its answer tells; one that was accepted, and all before it, is acknowledged by the response
 -- code 00h. A command that is aborted gets no data and no answer any more, and what it had accepted stays accepted.
-use Rattle.std.specs.Prelude.{ℕ, ◌+◌, ◌==◌, ◌&&◌, nat_le, nat_lt, not, max, Bool, false, if◌then◌else◌}
+use Rattle.std.specs.Prelude.{ℕ, ◌+◌, ◌==◌, ◌&&◌, ◌||◌, ◌^◌, nat_le, nat_lt, max, Bool, false, if◌then◌else◌}
 use Rattle.std.specs.Prelude.{List, [], ◌∷◌, ◌++◌, length, take, drop, slice_index, slice_index_or, slice_set}
 use Rattle.std.specs.Prelude.{Option, Some, None}
-use Rattle.ufs_bytes.specs.Fields.{field_at}
-use Rattle.ufs_spec.specs.CdbFields.{is_forced, is_immediate, six_address}
-use Rattle.ufs_spec.specs.Cdbs.{security_out, six_blocks, synchronize_cache_10, unmap, write_10, write_6}
+use Rattle.ufs_spec.specs.CdbFields.{spelled_cdb}
 use Rattle.ufs_spec.specs.Commands.{Command}
 use Rattle.ufs_spec.specs.Messages.{is_short}
 use Rattle.ufs_spec.specs.declared.configs.Numbers.{Numbers}
+use Rattle.ufs_spec.specs.declared.scsi.Cdb.{Cdb}
+use Rattle.ufs_spec.specs.declared.scsi.Cdb.TheVariants as cdb
 use Rattle.rpmb.specs.Requests.{frames_of}
 use Rattle.rpmb.specs.declared.regions.RegionState.{RegionState}
 use Rattle.journal.specs.Entries.{Accepted, Doubted, Noted, Refused, setting_command}
@@ -51,46 +51,40 @@ with_open j t = record j { tasks = j.tasks ++ t ∷ [] }
 
 -- ## A COMMAND
 
--- a WRITE of one block or more, none of which came yet
+-- a WRITE of one block or more, none of which came yet. No unit has an address that four bytes do not hold
 abbrev pub begun_write : ℕ → ℕ → ℕ → Bool → Option WriteBegun
 begun_write unit address count forced =
-    if count == 0 then None
+    if count == 0 || nat_le (2 ^ 32) address then None
     else Some (record { unit = unit; address = address; count = count; forced = forced; blocks = [] })
-
--- the WRITE that a CDB asks for (SBC, WRITE (6), WRITE (10))
-abbrev pub asked_write : ℕ → List ℕ → Option WriteBegun
-asked_write unit cdb =
-    if slice_index cdb 0 == write_6 then begun_write unit (six_address cdb) (six_blocks (slice_index cdb 4)) false
-    else if slice_index cdb 0 == write_10
-    then begun_write unit (field_at 4 2 cdb) (field_at 2 7 cdb) (is_forced cdb)
-    else None
-
--- it is a SYNCHRONIZE CACHE(10) without IMMED (SBC)
-abbrev pub is_flush : List ℕ → Bool
-is_flush cdb = (slice_index cdb 0 == synchronize_cache_10) && not (is_immediate cdb)
 
 -- a command waits for the blocks of its WRITE, if it is one
 abbrev pub awaited_blocks : Option WriteBegun → Awaited
 awaited_blocks None = Nothing
 awaited_blocks (Some w) = Blocks w
 
--- the data that a command with this CDB waits for: SECURITY PROTOCOL OUT brings frames to the region that byte 2 names
--- (SPC; JESD220), and UNMAP its list (SBC)
-abbrev pub awaited_by : ℕ → List ℕ → Awaited
-awaited_by unit cdb =
-    if slice_index cdb 0 == security_out then Frames (slice_index cdb 2)
-    else if slice_index cdb 0 == unmap then UnmapList
-    else awaited_blocks (asked_write unit cdb)
+-- the data that a command to a unit waits for: a WRITE its blocks, UNMAP its list (SBC), and SECURITY PROTOCOL OUT frames
+-- for its region (SPC; JESD220). A CDB that spells no command is refused, so it gets none
+abbrev pub awaited_by : ℕ → Option Cdb → Awaited
+awaited_by unit (Some (cdb.Write address blocks forced)) = awaited_blocks (begun_write unit address blocks forced)
+awaited_by unit (Some (cdb.Unmap list)) = UnmapList
+awaited_by unit (Some (cdb.SecurityOut region length)) = Frames region
+awaited_by unit command = Nothing
 
--- how many of the accepted commands the GOOD of a CDB acknowledges, as it came
-abbrev pub promised_by : ℕ → List ℕ → ℕ
-promised_by accepted cdb = if is_flush cdb then accepted else 0
+-- how many of the accepted commands, of which there are so many, the GOOD of a command acknowledges as it came: all, if
+-- it is a SYNCHRONIZE CACHE without IMMED (SBC)
+abbrev pub promised_by : ℕ → Option Cdb → ℕ
+promised_by accepted (Some (cdb.Flush immediate)) = if immediate then 0 else accepted
+promised_by accepted command = 0
 
 -- the command is open from now on, and what had its tag no more
-abbrev pub begun : Heard → TaskName → List ℕ → Heard
-begun j name cdb =
+abbrev pub begun : Heard → TaskName → Option Cdb → Heard
+begun j name command =
     with_open (record j { tasks = without name.tag j.tasks })
-    (record { name = name; awaited = awaited_by name.lun cdb; promised = promised_by (length j.entries) cdb })
+    (record { name = name; awaited = awaited_by name.lun command; promised = promised_by (length j.entries) command })
+
+-- what a COMMAND asks for, if the CDB in its bytes 16..31 spells a command
+abbrev pub command_in : List ℕ → Option Cdb
+command_in message = spelled_cdb (take 16 (drop 16 message))
 
 -- ## A DATA OUT
 
@@ -192,7 +186,7 @@ name_in message = record { lun = slice_index message 2; tag = slice_index messag
 abbrev pub heard : Heard → List ℕ → Heard
 heard j message =
     if is_short message then j
-    else if slice_index message 0 == 0x01 then begun j (name_in message) (drop 16 message)
+    else if slice_index message 0 == 0x01 then begun j (name_in message) (command_in message)
     else if slice_index message 0 == 0x02 then received j (slice_index message 3) message
     else if slice_index message 0 == 0x04
     then managed j (slice_index message 5) (slice_index message 2) (slice_index message 19)

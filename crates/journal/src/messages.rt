@@ -4,8 +4,8 @@ ghost use Rattle.std.specs.Prelude.{◌≡◌, ◌++◌, ◌∷◌, [], ◌+◌,
 ghost use Rattle.std.specs.Prelude.{slice_index_or, slice_set};
 ghost use Rattle.ufs_spec.specs.Commands.{command_of};
 ghost use Rattle.journal.specs.Entries.{Accepted, Doubted, Refused, noted_of};
-ghost use Rattle.journal.specs.Heard.{accepted_of, answered, asked, awaited_by, begun, block_of, brought, doubted};
-ghost use Rattle.journal.specs.Heard.{gathered, heard, is_flush, name_in, query_answered, ruled, settled};
+ghost use Rattle.journal.specs.Heard.{accepted_of, answered, asked, awaited_by, begun, block_of, brought, command_in, doubted};
+ghost use Rattle.journal.specs.Heard.{gathered, heard, name_in, promised_by, query_answered, ruled, settled};
 ghost use Rattle.journal.specs.Heard.{life_begun, received, taken, told, unmapped, with_open, written};
 ghost use Rattle.journal.specs.Requests.{accepted_by, state_at};
 ghost use Rattle.journal.specs.Unmaps.{zeros_accepted};
@@ -16,12 +16,13 @@ use crate::queries::setting_asked;
 use crate::requests::{accepted_by, command_of, raise};
 use crate::tasks::{Awaited, OpenTask, TaskName, abort, close};
 use crate::unmaps::zeros_asked;
-use crate::writes::{OpenWrite, write_asked};
+use crate::writes::{OpenWrite, begun_write};
 use rpmb::{RegionState, whole_frames};
+use scsi_cdb::{row_of, spelled};
 use std::alloc::Global;
 use std::marker::Model;
 use ufs_spec::codes::{COMMAND, DATA_OUT, QUERY_REQUEST, QUERY_RESPONSE, RESPONSE, TASK_REQUEST};
-use ufs_spec::{Block, Cmd, NoMemory, Numbers};
+use ufs_spec::{Block, Cdb, Cmd, NoMemory, Numbers};
 
 /// What the host of one life wrote.
 #[derive(Drop)]
@@ -55,15 +56,6 @@ impl Model for Journal {
       regions = j.regions;
     } };
 }
-
-const SYNCHRONIZE_CACHE_10: u8 = 0x35;
-
-const UNMAP: u8 = 0x42;
-
-const SECURITY_OUT: u8 = 0xB5;
-
-/// IMMED, bit 1 of byte 1 of a CDB.
-const IMMED: u8 = 0x02;
 
 /// How long a message is before its data.
 const HEADER: usize = 32;
@@ -126,7 +118,7 @@ impl Journal {
             return Ok(());
         }
         match message[0] {
-            COMMAND => self.begin(alloc, name_in(message), &message[16..]),
+            COMMAND => self.begin(alloc, name_in(message), command_in(message)),
             DATA_OUT => self.receive(alloc, message[3], message),
             TASK_REQUEST => {
                 abort(&mut self.tasks, message[5], message[2], message[19]);
@@ -138,13 +130,12 @@ impl Journal {
     }
 
     // A command is open from now on. Its tag was free.
-    fn begin(&mut self, alloc: Global, name: TaskName, cdb: &[u8]) -> Result<(), NoMemory>
-        requires { 16 ≤ length cdb.now }
-        ensures { OnOk result (self.new ≡ begun self.old name cdb.now) }
+    fn begin(&mut self, alloc: Global, name: TaskName, command: Option<Cdb>) -> Result<(), NoMemory>
+        ensures { OnOk result (self.new ≡ begun self.old name command) }
     {
         close(&mut self.tasks, name.tag);
-        let promised = if is_flush(cdb) { self.entries.len() } else { 0 };
-        let awaited = awaited_by(alloc, name.lun, cdb);
+        let promised = promised_by(self.entries.len(), command);
+        let awaited = awaited_by(alloc, name.lun, command);
         self.open_task(OpenTask {
             name,
             awaited,
@@ -428,26 +419,45 @@ pub fn block_in(message: &[u8]) -> Option<Block>
     Some(block)
 }
 
-// The data that a command with this CDB waits for.
-fn awaited_by(alloc: Global, unit: u8, cdb: &[u8]) -> Awaited
-    requires { 16 ≤ length cdb.now }
-    ensures { result ≡ awaited_by unit cdb.now }
+// What a COMMAND asks for, if its CDB spells a command.
+fn command_in(message: &[u8]) -> Option<Cdb>
+    requires { 32 ≤ length message.now }
+    ensures { result ≡ command_in message.now }
 {
-    match cdb[0] {
-        SECURITY_OUT => Awaited::Frames(cdb[2]),
-        UNMAP => Awaited::UnmapList,
-        _ => match write_asked(alloc, unit, cdb) {
+    let mut cdb = [0; 16];
+    cdb.copy_from_slice(&message[16..32]);
+    let row = row_of(&cdb)?;
+    spelled(&row, &cdb)
+}
+
+// The data that a command to this unit waits for.
+fn awaited_by(alloc: Global, unit: u8, command: Option<Cdb>) -> Awaited
+    ensures { result ≡ awaited_by unit command }
+{
+    match command {
+        Some(
+            Cdb::Write {
+                address,
+                blocks,
+                forced,
+            },
+        ) => match begun_write(alloc, unit, address, blocks, forced) {
             Some(write) => Awaited::Blocks(write),
             None => Awaited::Nothing,
         },
+        Some(Cdb::Unmap { .. }) => Awaited::UnmapList,
+        Some(Cdb::SecurityOut { region, .. }) => Awaited::Frames(region),
+        _ => Awaited::Nothing,
     }
 }
 
-// Whether the CDB is a SYNCHRONIZE CACHE(10) that is answered only once all is durable that was
-// accepted before it: the bit IMMED is not set.
-fn is_flush(cdb: &[u8]) -> bool
-    requires { 16 ≤ length cdb.now }
-    ensures { result ≡ is_flush cdb.now }
+// How many of the accepted commands, of which there are so many, the GOOD of this command acknowledges
+// as it came: all, if it is a SYNCHRONIZE CACHE without IMMED.
+fn promised_by(accepted: usize, command: Option<Cdb>) -> usize
+    ensures { result ≡ promised_by accepted command }
 {
-    cdb[0] == SYNCHRONIZE_CACHE_10 && cdb[1] & IMMED == 0
+    match command {
+        Some(Cdb::Flush { immediate: false }) => accepted,
+        _ => 0,
+    }
 }

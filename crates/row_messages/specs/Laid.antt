@@ -2,17 +2,17 @@
 -- and UNMAP; SPC, SECURITY PROTOCOL IN and OUT).
 use Rattle.std.specs.Prelude.{◌*◌, ◌==◌, ℕ, List, [], ◌∷◌, ◌++◌, min, None, replicate, if◌then◌else◌}
 use Rattle.byteorder.specs.Endian.{big_bytes}
-use Rattle.ufs_spec.specs.Cdbs.{read_10, unmap, write_10}
 use Rattle.ufs_spec.specs.Codes.{data_out_code}
 use Rattle.ufs_spec.specs.Messages.{header, transfer, zeros}
 use Rattle.ufs_spec.specs.declared.messages.Message.{Message}
 use Rattle.ufs_spec.specs.declared.messages.Message.TheVariants.{Command, ReadyToTransfer, Response}
+use Rattle.ufs_spec.specs.declared.operations.TheConstants.{READ_10, UNMAP, WRITE_10}
 
 -- ## Unit 0
 
 -- the flags of a COMMAND by its operation code: a WRITE brings data, a READ fetches them, and others have none
 abbrev pub flags_by : ℕ → ℕ
-flags_by operation = if operation == write_10 then 0x20 else if operation == read_10 then 0x40 else 0
+flags_by operation = if operation == WRITE_10 then 0x20 else if operation == READ_10 then 0x40 else 0
 
 -- a CDB of ten bytes: operation code, bits, address, group 0, blocks and control 0; zeros up to sixteen
 abbrev pub ten : ℕ → ℕ → ℕ → ℕ → List ℕ
@@ -34,7 +34,7 @@ block_message code tag offset byte = block_header code tag offset ++ replicate 4
 
 -- the COMMAND of an UNMAP whose list has one descriptor, so 24 bytes
 abbrev pub unmap_of : ℕ → Message
-unmap_of tag = Command 0x20 0 tag 24 (ten unmap 0 0 24)
+unmap_of tag = Command 0x20 0 tag 24 (ten UNMAP 0 0 24)
 
 -- the list: 22 bytes behind its own length, 16 of them of descriptors; address of 8 bytes, blocks of 4
 abbrev pub unmap_list_of : ℕ → ℕ → List ℕ

@@ -3,7 +3,6 @@
 ghost use Rattle.std.specs.Prelude.{◌≡◌, ◌≤◌, ◌++◌, length, replicate};
 ghost use Rattle.std.specs.List.{flat_map};
 ghost use Rattle.ufs_spec.specs.Codes.{data_in_code, data_out_code};
-ghost use Rattle.ufs_spec.specs.Cdbs.{security_in, security_out};
 ghost use Rattle.ufs_spec.specs.Frames.{frame_bytes};
 ghost use Rattle.ufs_spec.specs.Messages.{header, spelling, zeros};
 ghost use Rattle.row_messages.specs.Laid.{bytes_of, frames_header, frames_ready_of, good_of, rpmb, security_of};
@@ -11,14 +10,10 @@ ghost use Rattle.row_messages.specs.Laid.{bytes_of, frames_header, frames_ready_
 use byteorder::{BigEndian, ByteOrder};
 use rpmb_frame::Frame;
 use ufs_spec::Upiu;
+use ufs_spec::operations::{SECURITY_IN, SECURITY_OUT};
 
 /// A frame, without its meaning.
 pub type FrameBytes = [u8; 512];
-
-/// The operation codes of SECURITY PROTOCOL IN and OUT.
-const SECURITY_IN: u8 = 0xA2;
-
-const SECURITY_OUT: u8 = 0xB5;
 
 /// The LUN byte of the replay protected memory block.
 const RPMB: u8 = 0xC4;
@@ -102,14 +97,14 @@ fn command(flags: u8, tag: u8, operation: u8, frames: usize) -> [u8; 32]
 
 /// The COMMAND that brings so many frames, eight at most.
 pub fn frames_command(tag: u8, frames: usize) -> [u8; 32]
-    ensures { result ≡ spelling (security_of 0x20 tag security_out frames) }
+    ensures { result ≡ spelling (security_of 0x20 tag SECURITY_OUT frames) }
 {
     command(0x20, tag, SECURITY_OUT, frames)
 }
 
 /// The COMMAND that fetches so many frames, eight at most.
 pub fn answer_command(tag: u8, frames: usize) -> [u8; 32]
-    ensures { result ≡ spelling (security_of 0x40 tag security_in frames) }
+    ensures { result ≡ spelling (security_of 0x40 tag SECURITY_IN frames) }
 {
     command(0x40, tag, SECURITY_IN, frames)
 }

@@ -203,9 +203,9 @@ fn flush(tag: u8, is_immediate: bool) -> [u8; 32] {
     command(tag, SYNCHRONIZE, if is_immediate { 0x02 } else { 0 }, 0, 0)
 }
 
-/// A WRITE(6) of one block at an address of 21 bits, all of which are used.
-fn write_6(tag: u8) -> [u8; 32] {
-    command(tag, 0x0A, 0xE1, 0x0203_0100, 0)
+/// A WRITE(6) of one block. Its address has 21 bits, the highest five of them in the second byte.
+fn write_6(tag: u8, second: u8) -> [u8; 32] {
+    command(tag, 0x0A, second, 0x0203_0100, 0)
 }
 
 /// A life begins, without a key.
@@ -278,9 +278,13 @@ fn is_write_at(entry: Option<&Entry>, wanted: u32) -> bool {
 fn write_6_is_accepted_and_an_empty_or_locked_write_is_not(rt: HostRuntime) -> Result<(), Fail> {
     let alloc = rt.alloc();
     let mut journal = begun(alloc)?;
-    journal.hear(alloc, &write_6(1))?;
+    journal.hear(alloc, &write_6(1, 0x1F))?;
     journal.hear(alloc, &block_out(1, 0, 0x11))?;
-    assert!(rt; is_write_at(journal.entries().first(), 0x01_0203));
+    assert!(rt; is_write_at(journal.entries().first(), 0x1F_0203));
+    // A bit above the address: the command is refused.
+    journal.hear(alloc, &write_6(1, 0x3F))?;
+    journal.hear(alloc, &block_out(1, 0, 0x11))?;
+    expect_counts(&rt, &journal, 1, 0);
     journal.hear(alloc, &command(2, WRITE, FUA, 1, 0))?;
     journal.hear(alloc, &block_out(2, 0, 0x22))?;
     journal.tell(&good(2));
