@@ -4,18 +4,18 @@ use Rattle.ufs_spec.specs.Cdbs.{cdb_bytes}
 use Rattle.ufs_spec.specs.declared.messages.Message.{Message}
 use Rattle.ufs_spec.specs.declared.messages.Message.TheVariants.{Command, DataIn, DataOut, ReadyToTransfer, Response}
 use Rattle.ufs_spec.specs.declared.messages.Message.TheVariants.{TaskRequest, TaskResponse}
-use Rattle.ufs_spec.specs.declared.Cdb.TheVariants.{Read10, TestUnitReady, Write10}
+use Rattle.ufs_spec.specs.declared.Cdb.TheVariants.{Nothing, Read, Write}
 use Rattle.stress.specs.Writes.{address_of, content_of}
 
 -- ## What it sends
 
 -- a TEST UNIT READY for unit 0, which carries no data
 abbrev pub is_ready : ℕ → Message
-is_ready host = Command 0x00 0 host 0 (cdb_bytes TestUnitReady)
+is_ready host = Command 0x00 0 host 0 (cdb_bytes Nothing)
 
 -- a WRITE(10) of one block with FUA
 abbrev pub write_one : ℕ → ℕ → Message
-write_one host write = Command 0x20 0 host 4096 (cdb_bytes (Write10 (address_of host write) 1 true))
+write_one host write = Command 0x20 0 host 4096 (cdb_bytes (Write (address_of host write) 1 true))
 
 -- the DATA OUT with the block of the WRITE
 abbrev pub bring : ℕ → ℕ → Message
@@ -23,7 +23,7 @@ bring host write = DataOut 0 host 0 (record { items = content_of host write })
 
 -- a READ(10) of one block
 abbrev pub read_one : ℕ → ℕ → Message
-read_one host write = Command 0x40 0 host 4096 (cdb_bytes (Read10 (address_of host write) 1 false))
+read_one host write = Command 0x40 0 host 4096 (cdb_bytes (Read (address_of host write) 1))
 
 -- the task tag of a request to abort, which no host has as its number
 abbrev pub abort_tag : ℕ → ℕ

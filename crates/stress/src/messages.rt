@@ -1,6 +1,6 @@
 //! What a host sends, and what it has to hear. The task tag of a command is the host's number.
 ghost use Rattle.std.specs.Prelude.{◌≡◌, ◌≤◌, length};
-ghost use Rattle.ufs_spec.specs.Cdbs.{cdb_bytes};
+ghost use Rattle.ufs_spec.specs.Cdbs.{IsCdb, cdb_bytes};
 ghost use Rattle.ufs_spec.specs.Messages.{spelling, AreFlags, IsMessage};
 ghost use Rattle.ufs_spec.specs.declared.Message.{Message};
 ghost use Rattle.stress.specs.Messages.{
@@ -26,15 +26,15 @@ use upiu::{Response, write_data_in, write_ready_to_transfer, write_response};
 pub(crate) fn is_ready(host: u8, into: &mut Upiu)
     ensures { into.new.items ≡ spelling (is_ready host) }
 {
-    command(0x00, host, 0, &Cdb::TestUnitReady, into);
+    command(0x00, host, 0, &Cdb::Nothing, into);
 }
 
 /// Writes the WRITE(10) with FUA of this write in place of what was there.
 pub(crate) fn write_one(host: u8, write: u8, into: &mut Upiu)
     ensures { into.new.items ≡ spelling (write_one host write) }
 {
-    let cdb = Cdb::Write10 {
-        address: address_of(host, write),
+    let cdb = Cdb::Write {
+        address: u64::from(address_of(host, write)),
         blocks: 1,
         forced: true,
     };
@@ -53,10 +53,9 @@ pub(crate) fn bring(host: u8, write: u8, into: &mut Upiu)
 pub(crate) fn read_one(host: u8, write: u8, into: &mut Upiu)
     ensures { into.new.items ≡ spelling (read_one host write) }
 {
-    let cdb = Cdb::Read10 {
-        address: address_of(host, write),
+    let cdb = Cdb::Read {
+        address: u64::from(address_of(host, write)),
         blocks: 1,
-        forced: false,
     };
     command(0x40, host, 4096, &cdb, into);
 }
@@ -140,7 +139,8 @@ fn abort_response(host: u8) -> Message
 
 // Writes a COMMAND for unit 0.
 fn command(flags: u8, tag: u8, expected: u32, cdb: &Cdb, into: &mut Upiu)
-    requires { AreFlags flags }
+    requires flags { AreFlags flags }
+    requires fields { IsCdb cdb.now }
     ensures { into.new.items ≡ spelling (Message.Command flags 0 tag expected (cdb_bytes cdb.now)) }
 {
     upiu::write(&command_message(flags, tag, expected, bytes_of(cdb)), into);

@@ -6,7 +6,9 @@ use nand_model::{Die, MemDie, work};
 use row_messages::row_config;
 use std::test::Fail;
 use ufs_bytes::{Block, read_u16, read_u32, read_u64, write_u16, write_u32, write_u64};
-use ufs_spec::{Cdb, Cmd, ConfigFault, Fence, Job, Outcome, Page, Place, Sense, Tag, UnitSpec};
+use ufs_spec::{
+    Cdb, Cmd, ConfigFault, Fence, Job, Outcome, Page, Place, Sense, Tag, Told, UnitSpec,
+};
 
 /// Fields are written and read with their highest byte first.
 #[test]
@@ -160,7 +162,7 @@ fn a_die_erases_programs_and_reads(rt: HostRuntime) -> Result<(), Fail> {
 #[test]
 fn cdbs_are_taken_or_refused_by_their_tables(rt: HostRuntime) {
     let write = [0x2A, 0x08, 0, 0, 0, 0xFF, 0, 0, 1, 0, 0, 0, 0, 0, 0, 0];
-    let taken = Cdb::Write10 {
+    let taken = Cdb::Write {
         address: 255,
         blocks: 1,
         forced: true,
@@ -168,7 +170,7 @@ fn cdbs_are_taken_or_refused_by_their_tables(rt: HostRuntime) {
     assert!(rt;
         matches!(
             scsi_cdb::read(&write),
-            Ok(Cdb::Write10 {
+            Ok(Cdb::Write {
                 address: 255,
                 blocks: 1,
                 forced: true
@@ -177,7 +179,7 @@ fn cdbs_are_taken_or_refused_by_their_tables(rt: HostRuntime) {
     );
     let verify = [0x2F, 0, 0, 0, 0, 0, 0, 0, 1, 0, 0, 0, 0, 0, 0, 0];
     assert!(rt; is_refused(&verify, Sense::INVALID_OPCODE));
-    assert!(rt; matches!(scsi_cdb::read(&[0; 16]), Ok(Cdb::TestUnitReady)));
+    assert!(rt; matches!(scsi_cdb::read(&[0; 16]), Ok(Cdb::Nothing)));
     assert!(rt; scsi_cdb::blocks_of(&taken) == 1);
     assert!(rt; scsi_cdb::address_of(&taken) == 255);
     assert!(rt; scsi_cdb::length_of(0, &taken) == 4096);
@@ -194,16 +196,20 @@ fn cdbs_are_taken_or_refused_by_their_tables(rt: HostRuntime) {
 #[test]
 fn inquiry_is_taken_without_a_page(rt: HostRuntime) {
     let inquiry = [0x12, 0, 0, 0x01, 0x24, 0, 0, 0, 0, 0, 0, 0, 0, 0, 0, 0];
-    let taken = Cdb::Inquiry { allocation: 0x0124 };
+    let taken = Cdb::Tell {
+        told: Told::Identity,
+        select: 0,
+        allocation: 0x0124,
+    };
     assert!(rt; scsi_cdb::bytes_of(&taken) == inquiry);
-    assert!(rt;
-        matches!(
-            scsi_cdb::read(&inquiry),
-            Ok(Cdb::Inquiry { allocation: 0x0124 })
-        )
-    );
+    assert!(rt; matches!(scsi_cdb::read(&inquiry), Ok(cdb) if cdb == taken));
     assert!(rt; scsi_cdb::length_of(0, &taken) == 36);
-    assert!(rt; scsi_cdb::length_of(0, &Cdb::Inquiry { allocation: 5 }) == 5);
+    let short = Cdb::Tell {
+        told: Told::Identity,
+        select: 0,
+        allocation: 5,
+    };
+    assert!(rt; scsi_cdb::length_of(0, &short) == 5);
     for place in [1usize, 2, 5, 6, 15] {
         let mut other = inquiry;
         other[place] = 0x01;
@@ -216,20 +222,13 @@ fn inquiry_is_taken_without_a_page(rt: HostRuntime) {
 #[test]
 fn report_luns_is_taken_with_its_selection(rt: HostRuntime) {
     let report = [0xA0, 0, 2, 0, 0, 0, 0, 0, 0x01, 0x40, 0, 0, 0, 0, 0, 0];
-    let taken = Cdb::ReportLuns {
+    let taken = Cdb::Tell {
+        told: Told::Units,
         select: 2,
         allocation: 0x0140,
     };
     assert!(rt; scsi_cdb::bytes_of(&taken) == report);
-    assert!(rt;
-        matches!(
-            scsi_cdb::read(&report),
-            Ok(Cdb::ReportLuns {
-                select: 2,
-                allocation: 0x0140
-            })
-        )
-    );
+    assert!(rt; matches!(scsi_cdb::read(&report), Ok(cdb) if cdb == taken));
     // Eight bytes, and eight for each unit.
     assert!(rt; scsi_cdb::length_of(7, &taken) == 64);
     let fourth = [0xA0, 0, 3, 0, 0, 0, 0, 0, 0x01, 0x40, 0, 0, 0, 0, 0, 0];

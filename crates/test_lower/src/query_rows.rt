@@ -6,13 +6,13 @@ use descriptors::{
 };
 use row_messages::row_config;
 use std::test::Fail;
-use ufs_spec::{Asked, Numbers};
+use ufs_spec::{Asked, Numbers, Volatile};
 
 /// The settings of a new device.
 const NEW: QuerySettings = QuerySettings {
     boot: 0,
     is_permanent: false,
-    is_power_on: false,
+    volatile: Volatile::NEW,
 };
 
 /// A query with this opcode, IDN, index and length, and this value.
@@ -102,7 +102,7 @@ fn settings_are_told_apart(rt: HostRuntime) -> Result<(), Fail> {
     assert!(rt; matches!(permanent, QueryAnswer::Setting(Setting::Permanent)));
     let power_on = answer(numbers, NEW, true, &query(6, 3, 0, 0, 0));
     assert!(rt;
-        matches!(&power_on, QueryAnswer::Told(told) if told.sets_power_on && told.value == 1)
+        matches!(&power_on, QueryAnswer::Told(told) if told.volatile.power_on && told.value == 1)
     );
     Ok(())
 }

@@ -2,8 +2,9 @@
 //! bytes are those of SPC, and the LUN bytes those of JESD220, 10.8.5.
 use lun_route::{Lun, inquiry_bytes, luns_bytes, route_of, units_listed};
 use row_messages::row_config;
+use scsi_cdb::row_of;
 use std::test::Fail;
-use ufs_spec::Sense;
+use ufs_spec::{Row, Sense};
 
 /// READ(10), SYNCHRONIZE CACHE(10), and UNMAP.
 const READ: u8 = 0x28;
@@ -11,6 +12,13 @@ const READ: u8 = 0x28;
 const SYNCHRONIZE: u8 = 0x35;
 
 const UNMAP: u8 = 0x42;
+
+/// The row of the command with this operation code.
+fn row(operation: u8) -> Option<Row> {
+    let mut bytes = [0; 16];
+    bytes[0] = operation;
+    row_of(&bytes)
+}
 
 /// INQUIRY tells 36 bytes, and of a well-known unit another device type.
 #[test]
@@ -61,13 +69,18 @@ fn the_boot_setting_names_a_unit(rt: HostRuntime) -> Result<(), Fail> {
     let config = row_config()?;
     let numbers = config.numbers();
     for boot in 1..3u8 {
-        let route = route_of(numbers, boot, 0xB0, READ);
+        let route = route_of(numbers, boot, 0xB0, row(READ));
         assert!(rt; matches!(route, Ok(route) if route.unit == Some(boot)));
     }
-    assert!(rt; matches!(route_of(numbers, 0, 0xB0, READ), Err(Sense::NO_UNIT)));
-    assert!(rt; matches!(route_of(numbers, 0, 3, READ), Err(Sense::NO_UNIT)));
-    assert!(rt; matches!(route_of(numbers, 0, 0xD0, READ), Err(Sense::INVALID_OPCODE)));
-    let device = route_of(numbers, 0, 0xD0, SYNCHRONIZE);
+    assert!(rt; matches!(route_of(numbers, 0, 0xB0, row(READ)), Err(Sense::NO_UNIT)));
+    assert!(rt; matches!(route_of(numbers, 0, 3, row(READ)), Err(Sense::NO_UNIT)));
+    assert!(rt;
+        matches!(
+            route_of(numbers, 0, 0xD0, row(READ)),
+            Err(Sense::INVALID_OPCODE)
+        )
+    );
+    let device = route_of(numbers, 0, 0xD0, row(SYNCHRONIZE));
     assert!(rt; matches!(device, Ok(route) if matches!(route.lun, Lun::Device)));
     Ok(())
 }
@@ -78,14 +91,14 @@ fn units_of_the_configuration_take_unmap(rt: HostRuntime) -> Result<(), Fail> {
     let config = row_config()?;
     let numbers = config.numbers();
     for unit in 0..3u8 {
-        let route = route_of(numbers, 0, unit, UNMAP);
+        let route = route_of(numbers, 0, unit, row(UNMAP));
         assert!(rt; matches!(route, Ok(route) if route.unit == Some(unit)));
     }
-    assert!(rt; matches!(route_of(numbers, 0, 3, UNMAP), Err(Sense::NO_UNIT)));
+    assert!(rt; matches!(route_of(numbers, 0, 3, row(UNMAP)), Err(Sense::NO_UNIT)));
     for byte in [0x81u8, 0xB0, 0xC4, 0xD0] {
         assert!(rt;
             matches!(
-                route_of(numbers, 1, byte, UNMAP),
+                route_of(numbers, 1, byte, row(UNMAP)),
                 Err(Sense::INVALID_OPCODE)
             )
         );

@@ -3,8 +3,8 @@ use Rattle.std.specs.Prelude.{◌≡◌, ◌≢◌, ◌≤◌, ◌*◌, ℕ, ◌
 use Rattle.std.specs.Prelude.{Result, Ok, Err, if◌then◌else◌, length, nat_lt, replicate}
 use Rattle.byteorder.specs.Endian.{big_bytes}
 use Rattle.ufs_bytes.specs.Fields.{field_at}
-use Rattle.ufs_spec.specs.Cdbs.{Direction, IsCdb, NoData, ToDevice, ToHost, cdb_bytes, direction_of, inquiry}
-use Rattle.ufs_spec.specs.Cdbs.{read_capacity_10, report_luns, request_sense, test_unit_ready}
+use Rattle.ufs_spec.specs.CdbFields.{no_limit}
+use Rattle.ufs_spec.specs.Cdbs.{Direction, IsCdb, NoData, ToDevice, ToHost, cdb_bytes, direction_of}
 use Rattle.ufs_spec.specs.DataOuts.{has_list_header}
 use Rattle.ufs_spec.specs.Frames.{frame_bytes, frame_in}
 use Rattle.ufs_spec.specs.Messages.{is_among}
@@ -12,9 +12,11 @@ use Rattle.ufs_spec.specs.declared.messages.Asked.{Asked}
 use Rattle.ufs_spec.specs.declared.messages.Message.{Message}
 use Rattle.ufs_spec.specs.declared.messages.Message.TheVariants.{Command, NopOut, QueryRequest, TaskRequest}
 use Rattle.ufs_spec.specs.declared.scsi.Cdb.{Cdb}
-use Rattle.ufs_spec.specs.declared.scsi.Cdb.TheVariants.{Inquiry, Read10, ReadCapacity10, ReportLuns, RequestSense}
-use Rattle.ufs_spec.specs.declared.scsi.Cdb.TheVariants.{SecurityIn, SecurityOut, SynchronizeCache10, TestUnitReady}
-use Rattle.ufs_spec.specs.declared.scsi.Cdb.TheVariants.{Unmap, Write10}
+use Rattle.ufs_spec.specs.declared.operations.TheConstants.{INQUIRY, READ_CAPACITY_10, REPORT_LUNS, REQUEST_SENSE}
+use Rattle.ufs_spec.specs.declared.operations.TheConstants.{TEST_UNIT_READY}
+use Rattle.ufs_spec.specs.declared.operations.Told.TheVariants as told
+use Rattle.ufs_spec.specs.declared.scsi.Cdb.TheVariants.{Flush, Nothing, Read, SecurityIn, SecurityOut, Tell, Unmap}
+use Rattle.ufs_spec.specs.declared.scsi.Cdb.TheVariants.{Write}
 use Rattle.ufs_spec.specs.Frames as frames
 use Rattle.ufs_handle.specs.Buffers.{IsPut}
 use Rattle.ufs_handle.specs.declared.fault.Fault.{Fault}
@@ -38,17 +40,17 @@ IsCdbWritten lun tag expected cdb answer room into =
 -- a READ(10) of these blocks, of 4096 bytes each
 abbrev pub IsRead : ℕ → ℕ → ℕ → ℕ → Result (Unit {0}) Fault → List ℕ → List ℕ → Type 0
 IsRead lun tag address blocks answer room into =
-    IsCdbWritten lun tag (blocks * 4096) (Read10 address blocks false) answer room into
+    IsCdbWritten lun tag (blocks * 4096) (Read address blocks) answer room into
 
 -- a WRITE(10) of these blocks, with FUA or without it
 abbrev pub IsWrite : ℕ → ℕ → ℕ → ℕ → Bool → Result (Unit {0}) Fault → List ℕ → List ℕ → Type 0
 IsWrite lun tag address blocks forced answer room into =
-    IsCdbWritten lun tag (blocks * 4096) (Write10 address blocks forced) answer room into
+    IsCdbWritten lun tag (blocks * 4096) (Write address blocks forced) answer room into
 
 -- a SYNCHRONIZE CACHE(10), with IMMED or without it
 abbrev pub IsFlush : ℕ → ℕ → Bool → Result (Unit {0}) Fault → List ℕ → List ℕ → Type 0
 IsFlush lun tag immediate answer room into =
-    IsCdbWritten lun tag 0 (SynchronizeCache10 0 0 immediate) answer room into
+    IsCdbWritten lun tag 0 (Flush immediate) answer room into
 
 -- an UNMAP whose list has 24 bytes: a header and one descriptor
 abbrev pub IsUnmap : ℕ → ℕ → Result (Unit {0}) Fault → List ℕ → List ℕ → Type 0
@@ -77,11 +79,11 @@ IsUnmapList lun tag address count answer room into =
 -- number has no room in its field. REPORT LUNS asks for the units of the configuration and the well-known ones
 abbrev pub asked_cdb : ℕ → ℕ → Option Cdb
 asked_cdb operation allocation =
-    if operation == test_unit_ready then Some TestUnitReady
-    else if operation == read_capacity_10 then Some ReadCapacity10
-    else if operation == report_luns then Some (ReportLuns 2 allocation)
-    else if (operation == inquiry) && nat_lt allocation 65536 then Some (Inquiry allocation)
-    else if (operation == request_sense) && nat_lt allocation 256 then Some (RequestSense allocation)
+    if operation == TEST_UNIT_READY then Some Nothing
+    else if operation == READ_CAPACITY_10 then Some (Tell told.Capacity 0 no_limit)
+    else if operation == REPORT_LUNS then Some (Tell told.Units 2 allocation)
+    else if (operation == INQUIRY) && nat_lt allocation 65536 then Some (Tell told.Identity 0 allocation)
+    else if (operation == REQUEST_SENSE) && nat_lt allocation 256 then Some (Tell told.Sense 0 allocation)
     else None
 
 -- such a command is written; the buffer is as before where there is none

@@ -2,18 +2,19 @@
 ghost use Rattle.std.specs.Prelude.{◌≡◌};
 ghost use Rattle.ufs_spec.specs.Cdbs.{IsCdb, direction_of};
 ghost use Rattle.ufs_spec.specs.Messages.{AreFlags};
+ghost use Rattle.ufs_spec.specs.declared.Cdb.TheVariants.{Tell};
 ghost use Rattle.ufs_messages.specs.Commands.{IsAsked, IsCdbWritten, IsFlush, IsNop, IsQueryWritten, IsRead};
 ghost use Rattle.ufs_messages.specs.Commands.{IsTaskRequest, IsUnmap, IsUnmapList, IsWrite, asked_cdb, flags_of};
 ghost use Rattle.ufs_messages.specs.Commands.{list_bytes, query_function};
 
 use crate::{data_of, put, put_with};
 use scsi_cdb::bytes_of;
-use scsi_cdb::operations::{
-    INQUIRY, READ_CAPACITY_10, REPORT_LUNS, REQUEST_SENSE, TEST_UNIT_READY,
-};
 use ufs_bytes::{write_u32, write_u64};
 use ufs_handle::Fault;
-use ufs_spec::{Asked, Cdb, Data, Message};
+use ufs_spec::operations::{
+    INQUIRY, READ_CAPACITY_10, REPORT_LUNS, REQUEST_SENSE, TEST_UNIT_READY,
+};
+use ufs_spec::{Asked, Cdb, Data, Message, Told};
 
 /// The COMMAND with this CDB, whose numbers are in their ranges.
 pub(crate) fn put_cdb(
@@ -35,10 +36,8 @@ fn flags_of(cdb: &Cdb) -> u8
     ensures known { AreFlags result }
 {
     match cdb {
-        Cdb::TestUnitReady | Cdb::SynchronizeCache10 { .. } => 0x00,
-        Cdb::Write6 { .. } | Cdb::Write10 { .. } | Cdb::Unmap { .. } | Cdb::SecurityOut { .. } => {
-            0x20
-        }
+        Cdb::Nothing | Cdb::Flush { .. } => 0x00,
+        Cdb::Write { .. } | Cdb::Unmap { .. } | Cdb::SecurityOut { .. } => 0x20,
         _ => 0x40,
     }
 }
@@ -51,10 +50,9 @@ fn flags_of(cdb: &Cdb) -> u8
 pub fn put_read(lun: u8, tag: u8, address: u32, blocks: u16, into: &mut [u8]) -> Result<(), Fault>
     ensures { IsRead lun tag address blocks result into.old into.new }
 {
-    let cdb = Cdb::Read10 {
-        address,
-        blocks,
-        forced: false,
+    let cdb = Cdb::Read {
+        address: u64::from(address),
+        blocks: u32::from(blocks),
     };
     put_cdb(lun, tag, u32::from(blocks) * 4096, &cdb, into)
 }
@@ -74,9 +72,9 @@ pub fn put_write(
 ) -> Result<(), Fault>
     ensures { IsWrite lun tag address blocks forced result into.old into.new }
 {
-    let cdb = Cdb::Write10 {
-        address,
-        blocks,
+    let cdb = Cdb::Write {
+        address: u64::from(address),
+        blocks: u32::from(blocks),
         forced,
     };
     put_cdb(lun, tag, u32::from(blocks) * 4096, &cdb, into)
@@ -90,12 +88,7 @@ pub fn put_write(
 pub fn put_flush(lun: u8, tag: u8, immediate: bool, into: &mut [u8]) -> Result<(), Fault>
     ensures { IsFlush lun tag immediate result into.old into.new }
 {
-    let cdb = Cdb::SynchronizeCache10 {
-        address: 0,
-        blocks: 0,
-        immediate,
-    };
-    put_cdb(lun, tag, 0, &cdb, into)
+    put_cdb(lun, tag, 0, &Cdb::Flush { immediate }, into)
 }
 
 /// Writes the COMMAND of an UNMAP whose list has one descriptor.
@@ -172,19 +165,23 @@ fn asked_cdb(operation: u8, allocation: u32) -> Option<Cdb>
     ensures { result ≡ asked_cdb operation allocation }
 {
     match operation {
-        TEST_UNIT_READY => Some(Cdb::TestUnitReady),
-        READ_CAPACITY_10 => Some(Cdb::ReadCapacity10),
-        REPORT_LUNS => Some(Cdb::ReportLuns {
-            select: 2,
-            allocation,
-        }),
-        INQUIRY if allocation < 65536 => Some(Cdb::Inquiry {
-            allocation: allocation as u16,
-        }),
-        REQUEST_SENSE if allocation < 256 => Some(Cdb::RequestSense {
-            allocation: allocation as u8,
-        }),
+        TEST_UNIT_READY => Some(Cdb::Nothing),
+        READ_CAPACITY_10 => Some(tell(Told::Capacity, 0, u32::MAX)),
+        REPORT_LUNS => Some(tell(Told::Units, 2, allocation)),
+        INQUIRY if allocation < 65536 => Some(tell(Told::Identity, 0, allocation)),
+        REQUEST_SENSE if allocation < 256 => Some(tell(Told::Sense, 0, allocation)),
         _ => None,
+    }
+}
+
+/// The command that asks for this, of no more than so many bytes.
+fn tell(told: Told, select: u8, allocation: u32) -> Cdb
+    ensures { result ≡ Tell told select allocation }
+{
+    Cdb::Tell {
+        told,
+        select,
+        allocation,
     }
 }
 

@@ -1,5 +1,5 @@
 -- Images: where their blocks begin, and what is known of one that is read.
-use Rattle.std.proofs.Common.{◌≡◌, ◌∙◌, ◌+◌, ◌*◌, ◌<◌, ◌≤◌, ◌⊎◌, inl, inr, ⊎_elim, ℕ, List, [], ◌∷◌, ◌++◌, ap, arith, drop}
+use Rattle.std.proofs.Common.{◌≡◌, ◌∙◌, ◌+◌, ◌<◌, ◌≤◌, ⊎_elim, ℕ, List, [], ◌∷◌, ◌++◌, ap, arith, drop}
 use Rattle.std.proofs.Common.{length, subst, sym, take, length-append}
 use Rattle.std.specs.Prelude.{Err, IfErr, IfSome, None, Ok, Option, Result, Some, slice_index}
 use Rattle.std.specs.Io.KnownBytes.{Consumes, IsAtEnd, Keeps}

@@ -2,6 +2,8 @@
 use Rattle.std.specs.Prelude.{ℕ, List, [], ◌∷◌, ◌++◌, codes, length, replicate, Option, Some, None}
 use Rattle.hex.specs.Hex.{encode_lower}
 use Rattle.ufs_spec.specs.Cdbs.{Direction, NoData, ToDevice, ToHost, cdb_bytes, direction_of, length_of}
+use Rattle.ufstool.specs.HostCdbs.{host_bytes, meaning}
+use Rattle.ufstool.specs.declared.host_cdbs.HostCdb.{HostCdb}
 use Rattle.ufs_spec.specs.Codes.{data_out_code}
 use Rattle.ufs_spec.specs.Messages.{header, padding, spelling, transfer, zeros}
 use Rattle.ufs_spec.specs.declared.Cdb.{Cdb}
@@ -18,11 +20,16 @@ flags_of ToDevice = 0x20
 flags_of ToHost = 0x40
 
 -- how many bytes a host expects: so many, or all of the command, where REPORT LUNS lists twelve units
-abbrev pub expected_of : Cdb → Option ℕ → ℕ
-expected_of cdb None = length_of 12 cdb
+abbrev pub expected_of : HostCdb → Option ℕ → ℕ
+expected_of cdb None = length_of 12 (meaning cdb)
 expected_of cdb (Some n) = n
 
--- the bytes of a COMMAND
+-- the bytes of a COMMAND with a CDB of this command in the form in which it is written
+abbrev pub host_spelled : ℕ → ℕ → HostCdb → ℕ → List ℕ
+host_spelled unit task cdb expected =
+    spelling (CommandMessage (flags_of (direction_of (meaning cdb))) unit task expected (host_bytes cdb))
+
+-- the same in the form in which hosts here write it
 abbrev pub command_spelled : ℕ → ℕ → Cdb → ℕ → List ℕ
 command_spelled unit task cdb expected =
     spelling (CommandMessage (flags_of (direction_of cdb)) unit task expected (cdb_bytes cdb))
@@ -30,7 +37,7 @@ command_spelled unit task cdb expected =
 -- the bytes of a message
 abbrev pub bytes_wanted : HostMessage → List ℕ
 bytes_wanted (NopOut task) = spelling (NopOutMessage task)
-bytes_wanted (Command unit task cdb expected) = command_spelled unit task cdb (expected_of cdb expected)
+bytes_wanted (Command unit task cdb expected) = host_spelled unit task cdb (expected_of cdb expected)
 bytes_wanted (DataOut unit task offset count fill) =
     header data_out_code 0 unit task 0 0 0 count (transfer offset count)
     ++ replicate count fill ++ zeros (padding count)

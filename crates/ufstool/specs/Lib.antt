@@ -1,3 +1,4 @@
+pub mod HostCdbs
 pub mod HostMessages
 pub mod HostQueries
 pub mod HostTasks

@@ -2,7 +2,7 @@
 use Rattle.std.specs.Prelude.{◌==◌, ◌*◌, ◌&&◌, ◌||◌, if◌then◌else◌, ℕ, List, [], ◌∷◌, ◌++◌, codes, length}
 use Rattle.std.specs.Prelude.{Option, Some, None}
 use Rattle.std.specs.List.{flat_map, slice_index}
-use Rattle.ufs_spec.specs.Cdbs.{security_in, security_out}
+use Rattle.ufs_spec.specs.declared.operations.TheConstants.{SECURITY_IN, SECURITY_OUT}
 use Rattle.ufs_spec.specs.Frames.{frame_bytes}
 use Rattle.ufs_spec.specs.declared.scsi.Cdb.TheVariants.{SecurityIn, SecurityOut}
 use Rattle.ufstool.specs.HostMessages.{asked_lines, command_spelled, data_spelled, line_of}
@@ -14,7 +14,7 @@ use Rattle.ufstool.specs.declared.rpmb.RpmbRequest.TheVariants.{WriteData}
 -- the RPMB region that a CDB names: byte 2 of a SECURITY PROTOCOL command whose protocol is ECh, with 01h behind it
 abbrev pub region_named : List ℕ → Option ℕ
 region_named cdb =
-    if (slice_index cdb 0 == security_in || slice_index cdb 0 == security_out)
+    if (slice_index cdb 0 == SECURITY_IN || slice_index cdb 0 == SECURITY_OUT)
     && slice_index cdb 1 == 0xEC && slice_index cdb 3 == 0x01
     then Some (slice_index cdb 2) else None
 

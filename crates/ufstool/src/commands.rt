@@ -3,10 +3,10 @@ ghost use Rattle.std.specs.Prelude.{◌≡◌};
 ghost use Rattle.ufstool.specs.RpmbLines.{region_named};
 
 use crate::names::operation_name;
-use scsi_cdb::blocks_of;
-use scsi_cdb::operations::{SECURITY_IN, SECURITY_OUT};
+use scsi_cdb::row_of;
 use std::fmt;
-use ufs_spec::{Cdb, Sense};
+use ufs_spec::operations::{SECURITY_IN, SECURITY_OUT};
+use ufs_spec::{Cdb, Sense, Told};
 
 /// What a COMMAND asks for, in words: its CDB, the direction of its data, and how many bytes its
 /// host expects.
@@ -40,7 +40,7 @@ fn region_named(cdb: &[u8; 16]) -> Option<u8>
 // What comes after the name of a command.
 fn write_cdb<W: fmt::Write>(f: &mut fmt::Formatter<W>, cdb: &[u8; 16]) -> fmt::Result {
     match scsi_cdb::read(cdb) {
-        Ok(command) => write_fields(f, &command),
+        Ok(command) => write_fields(f, &command, has_option(cdb)),
         Err(Sense::INVALID_OPCODE) => {
             let code = cdb[0];
             write!(f, " ({code:02X}h), which this device does not have")
@@ -49,30 +49,43 @@ fn write_cdb<W: fmt::Write>(f: &mut fmt::Formatter<W>, cdb: &[u8; 16]) -> fmt::R
     }
 }
 
-fn write_fields<W: fmt::Write>(f: &mut fmt::Formatter<W>, command: &Cdb) -> fmt::Result {
-    let blocks = blocks_of(command);
+// Whether one of the options is set that a command of this operation code has.
+fn has_option(cdb: &[u8; 16]) -> bool {
+    match row_of(cdb) {
+        Some(row) => cdb[1] & row.options != 0,
+        None => false,
+    }
+}
+
+fn write_fields<W: fmt::Write>(
+    f: &mut fmt::Formatter<W>,
+    command: &Cdb,
+    has_option: bool,
+) -> fmt::Result {
     match command {
-        Cdb::Read6 { address, .. } | Cdb::Write6 { address, .. } => {
-            write_span(f, "", blocks, *address)
-        }
-        Cdb::Read10 {
+        Cdb::Read { address, blocks }
+        | Cdb::Write {
             address,
-            forced,
+            blocks,
             ..
-        }
-        | Cdb::Write10 {
-            address,
-            forced,
-            ..
-        } => write_span(f, if *forced { " with FUA" } else { "" }, blocks, *address),
-        Cdb::SynchronizeCache10 {
-            immediate: true,
-            ..
-        } => f.write_str(" with IMMED"),
+        } => write_span(
+            f,
+            if has_option { " with FUA" } else { "" },
+            *blocks,
+            *address,
+        ),
+        Cdb::Flush { immediate: true } => f.write_str(" with IMMED"),
         Cdb::Unmap { list } => write!(f, " with a list of {list} bytes"),
-        Cdb::RequestSense { allocation } => write!(f, " of at most {allocation} bytes"),
-        Cdb::Inquiry { allocation } => write!(f, " of at most {allocation} bytes"),
-        Cdb::ReportLuns { select, allocation } => write_selection(f, *select, *allocation),
+        Cdb::Tell {
+            told: Told::Units,
+            select,
+            allocation,
+        } => write_selection(f, *select, *allocation),
+        Cdb::Tell {
+            told: Told::Sense | Told::Identity,
+            allocation,
+            ..
+        } => write!(f, " of at most {allocation} bytes"),
         _ => Ok(()),
     }
 }
@@ -99,7 +112,7 @@ fn write_span<W: fmt::Write>(
     f: &mut fmt::Formatter<W>,
     with: &str,
     blocks: u32,
-    address: u32,
+    address: u64,
 ) -> fmt::Result {
     let noun = if blocks == 1 { "block" } else { "blocks" };
     write!(f, "{with} of {blocks} {noun} at address {address}")

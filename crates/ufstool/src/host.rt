@@ -1,19 +1,21 @@
 //! The lines of a script that hand a device a message.
 ghost use Rattle.std.specs.Prelude.{◌≡◌, ◌≤◌, ◌++◌, IfOk, OnOk, length};
 ghost use Rattle.hex.specs.Hex.{encode_lower};
-ghost use Rattle.ufs_spec.specs.Cdbs.{direction_of};
+ghost use Rattle.ufs_spec.specs.Cdbs.{SpellsCdb, direction_of};
 ghost use Rattle.ufs_spec.specs.Codes.{data_out_code};
 ghost use Rattle.ufs_spec.specs.Messages.{header, padding, spelling, transfer, zeros};
 ghost use Rattle.ufs_spec.specs.Messages.{AreFlags, IsMessage};
 ghost use Rattle.std.specs.Io.KnownBytes.{Appends};
-ghost use Rattle.ufstool.specs.HostMessages.{asked_lines, bytes_wanted, command_spelled};
+ghost use Rattle.ufstool.specs.HostCdbs.{host_bytes, meaning};
+ghost use Rattle.ufstool.specs.HostMessages.{asked_lines, bytes_wanted, host_spelled};
 ghost use Rattle.ufstool.specs.HostMessages.{expected_of, flags_of, line_of};
 ghost use Rattle.ufs_spec.specs.declared.messages.Message.TheVariants.{Command as CommandMessage};
 ghost use Rattle.ufstool.specs.declared.host.HostMessage.TheVariants.{DataOut, NopOut};
 
+use crate::host_cdbs::HostCdb;
 use crate::queries::{HostQuery, query_message};
 use crate::tasks::{TaskCall, task_message};
-use scsi_cdb::{bytes_of, length_of};
+use scsi_cdb::length_of;
 use std::alloc::{AllocError, Global};
 use std::io;
 use std::io::Write;
@@ -35,7 +37,7 @@ pub enum HostMessage {
     Command {
         unit: u8,
         task: u8,
-        cdb: Cdb,
+        cdb: HostCdb,
         expected: Option<u32>,
     },
     /// DATA OUT of so many bytes, each of them `fill`.
@@ -143,7 +145,7 @@ pub fn message_of(wanted: &HostMessage) -> Result<Message, LineFault>
             task,
             cdb,
             expected,
-        } => command_of(unit, task, cdb, expected),
+        } => command_of(unit, task, &cdb, expected),
         HostMessage::DataOut {
             unit,
             task,
@@ -165,28 +167,28 @@ fn nop_message(tag: u8) -> Message
 }
 
 // The COMMAND, if its bytes are read as this command again.
-fn command_of(unit: u8, task: u8, command: Cdb, expected: Option<u32>) -> Result<Message, LineFault>
+fn command_of(
+    unit: u8,
+    task: u8,
+    command: &HostCdb,
+    expected: Option<u32>,
+) -> Result<Message, LineFault>
     ensures message { IfOk result IsMessage }
     ensures bytes { IfOk result (λ message. spelling message
-        ≡ command_spelled unit task command (expected_of command expected)) }
+        ≡ host_spelled unit task command.now (expected_of command.now expected)) }
+    // The device reads it as it is meant.
+    ensures read { IfOk result (λ message. SpellsCdb (meaning command.now) (host_bytes command.now)) }
 {
-    let cdb = bytes_of(&command);
-    if scsi_cdb::read(&cdb) != Ok(command) {
-        return Err(field_fault(&command));
+    let cdb = command.bytes();
+    let meaning = command.meaning();
+    if scsi_cdb::read(&cdb) != Ok(meaning) {
+        return Err(command.fault());
     }
     let length = match expected {
         Some(length) => length,
-        None => length_of(MOST_UNITS, &command),
+        None => length_of(MOST_UNITS, &meaning),
     };
-    Ok(command_message(direction_of(&command), unit, task, length, cdb))
-}
-
-// Why the fields of a command do not fit its bytes.
-fn field_fault(command: &Cdb) -> LineFault {
-    match command {
-        Cdb::ReportLuns { .. } => LineFault::Selection,
-        _ => LineFault::Address,
-    }
+    Ok(command_message(direction_of(&meaning), unit, task, length, cdb))
 }
 
 /// The COMMAND with these fields (JESD220, 10.7.1).
@@ -241,10 +243,8 @@ fn direction_of(command: &Cdb) -> u8
     ensures direction { result ≡ flags_of (direction_of command.now) }
 {
     match command {
-        Cdb::TestUnitReady | Cdb::SynchronizeCache10 { .. } => 0x00,
-        Cdb::Write6 { .. } | Cdb::Write10 { .. } | Cdb::Unmap { .. } | Cdb::SecurityOut { .. } => {
-            0x20
-        }
+        Cdb::Nothing | Cdb::Flush { .. } => 0x00,
+        Cdb::Write { .. } | Cdb::Unmap { .. } | Cdb::SecurityOut { .. } => 0x20,
         _ => 0x40,
     }
 }

@@ -2,9 +2,9 @@
 use crate::fields::{Layout, write_fields};
 use crate::frames::write_frames_of;
 use crate::luns::write_luns;
-use scsi_cdb::operations::{INQUIRY, REPORT_LUNS, TEST_UNIT_READY, UNMAP};
 use std::io;
 use std::io::Write;
+use ufs_spec::operations::{INQUIRY, REPORT_LUNS, TEST_UNIT_READY, UNMAP};
 use ufs_spec::{Asked, Message};
 
 /// The operation codes of the commands that came last, by their task tags.

@@ -100,7 +100,8 @@ fn write_sent<W: Write>(
     frames: &[u8],
     out: &mut W,
 ) -> Result<(), LineFault>
-    requires { (1 ≤ length frames.now) × (length frames.now ≤ 4096) }
+    requires there { region < regions }
+    requires some { (1 ≤ length frames.now) × (length frames.now ≤ 4096) }
     ensures { OnOk result
         (Appends (W.contents out.old) (W.contents out.new) (sent_lines task region frames.now)) }
 {
@@ -118,6 +119,7 @@ fn write_fetched<W: Write>(
     size: Option<u32>,
     out: &mut W,
 ) -> Result<(), LineFault>
+    requires { region < regions }
     ensures { OnOk result
         (Appends (W.contents out.old) (W.contents out.new) (fetched_lines task region size)) }
 {
@@ -130,6 +132,7 @@ fn write_fetched<W: Write>(
 
 // The COMMAND that sends frames.
 fn security_out(task: u8, region: u8, size: u32) -> Message
+    requires { region < regions }
     ensures message { IsMessage result }
     ensures bytes { spelling result ≡ out_spelled task region size }
 {
@@ -142,6 +145,7 @@ fn security_out(task: u8, region: u8, size: u32) -> Message
 
 // The COMMAND that asks for frames.
 fn security_in(task: u8, region: u8, size: u32) -> Message
+    requires { region < regions }
     ensures message { IsMessage result }
     ensures bytes { spelling result ≡ in_spelled task region size }
 {

@@ -70,7 +70,9 @@ fn unmap_command(unit: u8, task: u8) -> Message
     ensures message { IsMessage result }
     ensures bytes { spelling result ≡ command_spelled unit task (Unmap 24) 24 }
 {
-    let cdb = bytes_of(&Cdb::Unmap { list: LIST });
+    let cdb = bytes_of(&Cdb::Unmap {
+        list: u32::from(LIST),
+    });
     command_message(0x20, unit, task, u32::from(LIST), cdb)
 }
 

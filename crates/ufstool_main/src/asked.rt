@@ -3,7 +3,7 @@ use crate::query_calls::read_query;
 use crate::unit_calls::{read_tasks, read_unmap};
 use clap::ArgMatches;
 use die_map::Form;
-use ufstool::{Cdb, HostMessage, HostUnmap, RpmbRequest, spelled};
+use ufstool::{HostCdb, HostMessage, HostUnmap, RpmbRequest, spelled};
 
 /// What the program is asked to do.
 #[derive(Clone, Copy)]
@@ -234,46 +234,44 @@ fn read_host(name: &str, matches: &ArgMatches<'_>) -> Result<HostMessage, WordFa
     }
 }
 
-fn read_cdb(name: &str, matches: &ArgMatches<'_>) -> Cdb {
+fn read_cdb(name: &str, matches: &ArgMatches<'_>) -> HostCdb {
     match name {
-        "synchronize-cache" => Cdb::SynchronizeCache10 {
-            address: 0,
-            blocks: 0,
+        "synchronize-cache" => HostCdb::SynchronizeCache10 {
             immediate: matches.get_flag("immediate"),
         },
-        "request-sense" => Cdb::RequestSense {
+        "request-sense" => HostCdb::RequestSense {
             allocation: byte_in(matches, "allocation"),
         },
-        "read-capacity" => Cdb::ReadCapacity10,
-        "inquiry" => Cdb::Inquiry {
+        "read-capacity" => HostCdb::ReadCapacity10,
+        "inquiry" => HostCdb::Inquiry {
             allocation: short_in(matches, "allocation"),
         },
-        "report-luns" => Cdb::ReportLuns {
+        "report-luns" => HostCdb::ReportLuns {
             select: byte_in(matches, "select"),
             allocation: long_in(matches, "allocation"),
         },
-        "test-unit-ready" => Cdb::TestUnitReady,
+        "test-unit-ready" => HostCdb::TestUnitReady,
         _ => read_transfer(name, matches),
     }
 }
 
-fn read_transfer(name: &str, matches: &ArgMatches<'_>) -> Cdb {
+fn read_transfer(name: &str, matches: &ArgMatches<'_>) -> HostCdb {
     let address = long_in(matches, "address");
     match name {
-        "read6" => Cdb::Read6 {
+        "read6" => HostCdb::Read6 {
             address,
             blocks: byte_in(matches, "blocks"),
         },
-        "write6" => Cdb::Write6 {
+        "write6" => HostCdb::Write6 {
             address,
             blocks: byte_in(matches, "blocks"),
         },
-        "read10" => Cdb::Read10 {
+        "read10" => HostCdb::Read10 {
             address,
             blocks: short_in(matches, "blocks"),
             forced: matches.get_flag("fua"),
         },
-        _ => Cdb::Write10 {
+        _ => HostCdb::Write10 {
             address,
             blocks: short_in(matches, "blocks"),
             forced: matches.get_flag("fua"),
