@@ -1,20 +1,14 @@
 -- How many blocks stand in each bucket: in new buckets, after a block was set, and whether a bucket is empty.
-use Rattle.std.proofs.Common.{◌≡◌, ◌∙◌, ◌⊎◌, ℕ, zero, suc, ◌+◌, ◌*◌, ◌/◌, ◌%◌, ◌<◌, ◌≤◌, ◌&&◌, Bool}
-use Rattle.std.proofs.Common.{true, false, not, cond, List, [], ◌∷◌, Option, Some, ap, arith, length, refl, sym, subst}
-use Rattle.std.proofs.Common.{inl, inr, replicate, if◌then◌else◌, get_or}
-use Rattle.std.specs.Prelude.{nat_lt, ◌==◌, slice_get, slice_set, unwrap_or, count_by}
-use Rattle.std.specs.Bool.{beq}
-use Rattle.std.proofs.lemmas.Bool.{ne_eqb}
-use Rattle.std.proofs.lemmas.List.{length-replicate}
+use Rattle.block_table.proofs.Common.{Bool, Buckets, List, Option, Some, Stands, [], and_parts, ap, arith, below, beq}
+use Rattle.block_table.proofs.Common.{bit, cases_Bool, cases_eq, cases_lt, cond, count_by, eq-eqb, eqb-self, eqb-true}
+use Rattle.block_table.proofs.Common.{false, false_from_ne_true, get_or, get_replicate, has, has_in, if◌then◌else◌, inl}
+use Rattle.block_table.proofs.Common.{inr, le-ltb, length, length-replicate, mul-add-lt, mul_comm, nat_lt, ne_eqb, not}
+use Rattle.block_table.proofs.Common.{refl, replicate, set_length, set_other, set_there, slice_get, slice_get_past}
+use Rattle.block_table.proofs.Common.{slice_get_read, slice_set, subst, suc, sym, true, unwrap_or, with_bit, with_block}
+use Rattle.block_table.proofs.Common.{zero, ℕ, ◌%◌, ◌&&◌, ◌*◌, ◌+◌, ◌/◌, ◌<◌, ◌==◌, ◌∙◌, ◌∷◌, ◌≡◌, ◌≤◌, ◌⊎◌}
 use Rattle.std.proofs.lemmas.List.Sums.{sum_by-append}
-use Rattle.std.proofs.Math.Nat.{mul_comm}
-use Rattle.std.proofs.lemmas.Nat.{mul-add-lt}
-use Rattle.std.proofs.lemmas.Option.{get_or_from_slice_get, slice_get_past, slice_get_read}
-use Rattle.ufs_spec.proofs.Facts.{and_parts, cases_Bool, cases_eq, cases_lt, eq-eqb, eqb-true}
-use Rattle.ufs_spec.proofs.Facts.{eqb-self, false_from_ne_true, le-ltb, same_Some, true≢false}
-use Rattle.ufs_spec.proofs.Lists.{get_replicate, set_other, set_there, set_length}
-use Rattle.ufs_spec.specs.Keys.{below}
-use Rattle.block_table.specs.Buckets.{Buckets, Stands, bit, has, has_in, with_bit, with_block}
+use Rattle.std.proofs.lemmas.Option.{get_or_from_slice_get}
+use Rattle.ufs_spec.proofs.Facts.{same_Some, true≢false}
 use Rattle.block_table.proofs.LiveCounts.{count, count_more, count_room, count_same, count_some, count_zero}
 use Rattle.block_table.proofs.LiveCounts.{count_after, one}
 use Rattle.block_table.proofs.WordBits.{bit_zero, word_inside, word_set, bit_read}

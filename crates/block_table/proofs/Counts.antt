@@ -1,7 +1,8 @@
 -- Some element passes a test where at least one is counted.
-use Rattle.std.proofs.Common.{◌≡◌, ◌∙◌, Bool, true, false, List, [], ◌∷◌, ap, refl, arith, lt-ltb}
-use Rattle.std.specs.Prelude.{ℕ, ◌+◌, ◌||◌, cond, count_by, nat_lt}
-use Rattle.std.specs.List.{list_any}
+use Rattle.block_table.proofs.Common.{Bool, List, [], ap, arith, count_by, false, list_any, nat_lt, refl, true, ◌∙◌}
+use Rattle.block_table.proofs.Common.{◌∷◌, ◌≡◌}
+use Rattle.std.proofs.Common.{lt-ltb}
+use Rattle.std.specs.Prelude.{cond, ℕ, ◌+◌, ◌||◌}
 use Rattle.std.proofs.lemmas.List.Sums.{sum_by-cons}
 
 pub counted_any : {A : Type 0} (p : A → Bool) (xs : List A) → nat_lt 0 (count_by p xs) ≡ list_any p xs

@@ -1,3 +1,4 @@
+mod Common
 pub mod BucketCounts
 pub mod Counts
 pub mod LiveCounts

@@ -1,24 +1,17 @@
 -- Each page has its own place among all pages, and what is live after a page has changed.
-use Rattle.std.proofs.Common.{◌≡◌, ◌≢◌, ◌∙◌, ◌⊎◌, ℕ, zero, suc, ◌+◌, ◌-◌, ◌*◌, ◌<◌, ◌≤◌, ◌&&◌, Bool, true, false, cond}
-use Rattle.std.proofs.Common.{get_or, not, List, [], ◌∷◌, Some, ap, arith, length, length-append, refl, sym, subst}
-use Rattle.std.proofs.Common.{inl, inr, replicate}
-use Rattle.std.specs.Bool.{beq}
-use Rattle.std.specs.Prelude.{nat_lt, filter, map, slice_get, slice_set, unwrap_or}
-use Rattle.std.proofs.Math.Nat.{mul_comm, mul-le-mul_left}
-use Rattle.std.proofs.lemmas.Bool.{and_right}
-use Rattle.std.proofs.lemmas.List.{map-append}
-use Rattle.std.proofs.lemmas.Nat.{mul-add-lt}
+use Rattle.block_table.proofs.Common.{AreCounted, Bool, List, Lives, Place, Sizes, Some, Spot, [], and_parts, and_right}
+use Rattle.block_table.proofs.Common.{ap, arith, below, beq, block_place, cases_Bool, cases_lt, cond, false, filter}
+use Rattle.block_table.proofs.Common.{get_or, get_replicate, has_block, inl, inr, is_live, length, length-replicate}
+use Rattle.block_table.proofs.Common.{live_count, ltb-true, map, map-append, mul-add-lt, mul_comm, nat_lt, not}
+use Rattle.block_table.proofs.Common.{place_in, refl, replicate, set_other, set_there, slice_get, slice_get_past}
+use Rattle.block_table.proofs.Common.{slice_set, spot_of, subst, suc, sym, true, unwrap_or, zero, ℕ, ◌&&◌, ◌*◌, ◌+◌}
+use Rattle.block_table.proofs.Common.{◌-◌, ◌<◌, ◌∙◌, ◌∷◌, ◌≡◌, ◌≤◌, ◌⊎◌}
+use Rattle.std.proofs.Common.{length-append, ◌≢◌}
+use Rattle.std.proofs.Math.Nat.{mul-le-mul_left}
 use Rattle.std.proofs.lemmas.List.Elements.{filter-append}
-use Rattle.std.proofs.lemmas.List.{length-replicate}
-use Rattle.std.proofs.lemmas.Option.{get_or_from_slice_get, slice_get-get_or, slice_get_past, slice_get_within}
-use Rattle.ufs_spec.proofs.Facts.{and_parts, cases_Bool, cases_lt, ltb-true}
-use Rattle.ufs_spec.proofs.Lists.{get_replicate, set_here, set_other, set_there}
-use Rattle.ufs_spec.specs.Disk.{Spot, place_in, spot_of}
-use Rattle.ufs_spec.specs.Keys.{below}
-use Rattle.ufs_spec.specs.declared.flash.Place.{Place}
-use Rattle.block_table.specs.LiveRooms.{AreCounted}
-use Rattle.block_table.specs.Lives.{Lives, block_place, has_block, has_page, is_live, live_count, page_place}
-use Rattle.block_table.specs.declared.Sizes.{Sizes}
+use Rattle.std.proofs.lemmas.Option.{get_or_from_slice_get, slice_get-get_or, slice_get_within}
+use Rattle.ufs_spec.proofs.Lists.{set_here}
+use Rattle.block_table.specs.Lives.{has_page, page_place}
 
 -- Places
 

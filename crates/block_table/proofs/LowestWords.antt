@@ -1,21 +1,15 @@
 -- The lowest block of a die, word by word.
-use Rattle.std.proofs.Common.{◌≡◌, ◌∙◌, ◌⊎◌, ℕ, ◌+◌, ◌-◌, ◌*◌, ◌/◌, ◌%◌, ◌^◌, ◌<◌, ◌≤◌, ◌&&◌, Bool, true, false}
-use Rattle.std.proofs.Common.{None, Some, ap, arith, length, sym, inl, inr, not}
-use Rattle.std.specs.Prelude.{nat_le, nat_lt, ◌==◌, bit_and}
-use Rattle.std.proofs.lemmas.Nat.{div-mul-add, mod-mul-add, mul-add-lt}
+use Rattle.block_table.proofs.Common.{BlockState, Blocks, Bool, Buckets, IsLowest, IsWord, IsWordOf, Lives, None, Some}
+use Rattle.block_table.proofs.Common.{and_from, and_parts, and_right, ap, arith, bit, bit_and, blocks_in, cases_lt}
+use Rattle.block_table.proofs.Common.{false, has, has_block, has_no_pin, inl, inr, is_pinned, is_used_from, le-leb}
+use Rattle.block_table.proofs.Common.{le-ltb, length, lt-ltb, mul-add-lt, mul_comm, nat_le, nat_lt, not, same_state}
+use Rattle.block_table.proofs.Common.{spot, spot_there, state_of, state_there, sym, true, ℕ, ◌%◌, ◌&&◌, ◌*◌, ◌+◌, ◌-◌}
+use Rattle.block_table.proofs.Common.{◌/◌, ◌<◌, ◌==◌, ◌^◌, ◌∙◌, ◌≡◌, ◌≤◌, ◌⊎◌}
+use Rattle.std.proofs.lemmas.Nat.{div-mul-add, mod-mul-add}
 use Rattle.std.proofs.lemmas.Nat.Bits.{bit_at_mask_below, bit_at_mask_inside, ones_shl}
 use Rattle.std.proofs.Math.Bool.{and-true}
-use Rattle.std.proofs.Math.Nat.{mul_comm}
-use Rattle.std.proofs.lemmas.Bool.{and_right}
-use Rattle.ufs_spec.proofs.Facts.{and_from, and_parts, cases_lt, le-leb, le-ltb, leb-true, lt-leb, lt-ltb}
-use Rattle.block_table.specs.Blocks.{Blocks, state_of}
-use Rattle.block_table.specs.Buckets.{Buckets, IsLowest, IsWord, bit, has}
-use Rattle.block_table.specs.LiveRooms.{has_no_pin}
-use Rattle.block_table.specs.Lives.{Lives, has_block, is_pinned, spot}
-use Rattle.block_table.specs.Lowest.{IsLowestBlock, is_used_from, may_be_used}
-use Rattle.block_table.specs.Probes.{spot_there}
-use Rattle.block_table.specs.Sorted.{IsWordOf, blocks_in, same_state, state_there}
-use Rattle.block_table.specs.declared.BlockState.{BlockState}
+use Rattle.ufs_spec.proofs.Facts.{leb-true, lt-leb}
+use Rattle.block_table.specs.Lowest.{IsLowestBlock, may_be_used}
 use Rattle.block_table.proofs.Unpinned.{no_pin_past, no_pin_there}
 use Rattle.block_table.proofs.WordBits.{bit_both}
 

@@ -1,18 +1,12 @@
 -- The search for a victim by the second level of its bucket, and how many probes that takes.
-use Rattle.std.proofs.Common.{◌≡◌, ◌∙◌, ◌⊎◌, ℕ, zero, suc, ◌+◌, ◌-◌, ◌*◌, ◌/◌, ◌%◌, ◌<◌, ◌≤◌, ◌&&◌, Bool}
-use Rattle.std.proofs.Common.{true, false, List, ap, arith, cond, inl, inr, length, sym, subst}
-use Rattle.std.specs.Prelude.{nat_le, ◌==◌, count_by}
-use Rattle.std.proofs.lemmas.Bool.{ne_eqb}
-use Rattle.ufs_spec.proofs.Facts.{and_from, and_parts, cases_lt, eq-eqb, false≢true, le-leb, leb-true}
-use Rattle.ufs_spec.specs.Disk.{Spot}
-use Rattle.ufs_spec.specs.Keys.{below}
-use Rattle.block_table.specs.Blocks.{Blocks}
-use Rattle.block_table.specs.Buckets.{AreMarks, Buckets, IsLowest, IsMark, bit, has, words_for}
-use Rattle.block_table.specs.LiveRooms.{AreCounted}
-use Rattle.block_table.specs.Lives.{Lives, block_place}
-use Rattle.block_table.specs.Probes.{is_unpinned_of, is_victim_at, spot_there, word_has, words_to}
-use Rattle.block_table.specs.Probes.{words_with}
-use Rattle.block_table.specs.Sorted.{blocks_in}
+use Rattle.block_table.proofs.Common.{AreCounted, Blocks, Bool, Buckets, IsLowest, List, Lives, Spot, and_from}
+use Rattle.block_table.proofs.Common.{and_parts, ap, arith, below, bit, block_place, blocks_in, cases_lt, cond}
+use Rattle.block_table.proofs.Common.{count_by, eq-eqb, false, false≢true, has, inl, inr, is_victim_at, le-leb, length}
+use Rattle.block_table.proofs.Common.{nat_le, ne_eqb, spot_there, subst, suc, sym, true, word_has, words_for, words_to}
+use Rattle.block_table.proofs.Common.{words_with, zero, ℕ, ◌%◌, ◌&&◌, ◌*◌, ◌+◌, ◌-◌, ◌/◌, ◌<◌, ◌==◌, ◌∙◌, ◌≡◌, ◌≤◌, ◌⊎◌}
+use Rattle.ufs_spec.proofs.Facts.{leb-true}
+use Rattle.block_table.specs.Buckets.{AreMarks, IsMark}
+use Rattle.block_table.specs.Probes.{is_unpinned_of}
 use Rattle.block_table.proofs.LiveCounts.{count, one}
 use Rattle.block_table.proofs.Unpinned.{AreUnpinned, place_there}
 use Rattle.block_table.proofs.VictimWords.{any_there, none_there}

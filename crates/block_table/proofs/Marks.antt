@@ -1,17 +1,14 @@
 -- The second level of buckets: which words have a bit, after a bit has changed and as it is read.
-use Rattle.std.proofs.Common.{◌≡◌, ◌∙◌, ◌⊎◌, ℕ, ◌+◌, ◌*◌, ◌/◌, ◌%◌, ◌^◌, ◌<◌, ◌≤◌, ◌&&◌, Bool, true, false, List}
-use Rattle.std.proofs.Common.{zero, suc, Some, ap, arith, length, refl, sym, subst, inl, inr, replicate, get_or}
-use Rattle.std.proofs.Common.{if◌then◌else◌}
-use Rattle.std.specs.Prelude.{nat_lt, ◌==◌, slice_get, slice_set, unwrap_or}
-use Rattle.std.specs.Int.{trailing_zeros, w64}
-use Rattle.std.proofs.lemmas.List.{length-replicate}
-use Rattle.std.proofs.lemmas.Nat.{mul-add-lt}
-use Rattle.std.proofs.Math.Nat.{mul_comm, mul-le-mul_left}
-use Rattle.std.proofs.lemmas.Option.{slice_get_read}
-use Rattle.ufs_spec.proofs.Facts.{and_from, and_parts, cases_Bool, eq-eqb, eqb-true, false_from_ne_true}
-use Rattle.ufs_spec.proofs.Facts.{le-ltb, lt-ltb, ltb-true, true≢false}
-use Rattle.ufs_spec.proofs.Lists.{set_there}
-use Rattle.block_table.specs.Buckets.{AreMarks, Buckets, IsMark, bit, has, has_in, with_bit, with_block, words_for}
+use Rattle.block_table.proofs.Common.{Bool, Buckets, List, Some, and_from, and_parts, ap, arith, bit, cases_Bool}
+use Rattle.block_table.proofs.Common.{eq-eqb, eqb-true, false, false_from_ne_true, get_or, has, has_in, if◌then◌else◌}
+use Rattle.block_table.proofs.Common.{inl, inr, le-ltb, length, length-replicate, lt-ltb, ltb-true, mul-add-lt}
+use Rattle.block_table.proofs.Common.{mul_comm, nat_lt, refl, replicate, set_there, slice_get, slice_get_read}
+use Rattle.block_table.proofs.Common.{slice_set, subst, suc, sym, trailing_zeros, true, unwrap_or, w64, with_bit}
+use Rattle.block_table.proofs.Common.{with_block, words_for, zero, ℕ, ◌%◌, ◌&&◌, ◌*◌, ◌+◌, ◌/◌, ◌<◌, ◌==◌, ◌^◌, ◌∙◌}
+use Rattle.block_table.proofs.Common.{◌≡◌, ◌≤◌, ◌⊎◌}
+use Rattle.std.proofs.Math.Nat.{mul-le-mul_left}
+use Rattle.ufs_spec.proofs.Facts.{true≢false}
+use Rattle.block_table.specs.Buckets.{AreMarks, IsMark}
 use Rattle.block_table.proofs.WordBits.{bit_read, bit_zero, lowest_is, word_set}
 use Rattle.block_table.proofs.BucketCounts.{IsRead, is_read, none_in, seen}
 

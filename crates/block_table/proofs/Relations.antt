@@ -1,22 +1,15 @@
 -- What a layer above needs to put its own words in the place of the table's: a fact at each page and each block is a
 -- fact of the live pages and of the victim.
-use Rattle.std.proofs.Common.{◌≡◌, ◌≢◌, ◌∙◌, ◌⊎◌, ℕ, zero, suc, ◌*◌, ◌<◌, ◌&&◌, ◌||◌, Bool, true, false, cond, List, []}
-use Rattle.std.proofs.Common.{◌∷◌, ◌++◌, Some, None, ap, arith, length, refl, sym, subst, inl, inr}
-use Rattle.std.proofs.Common.{if◌then◌else◌}
-use Rattle.std.specs.Prelude.{filter, map, nat_lt, slice_get, slice_set, unwrap_or}
-use Rattle.std.specs.List.{flat_map, list_any}
-use Rattle.std.proofs.Math.Nat.{mul_comm}
-use Rattle.std.proofs.lemmas.Grind.{flat_map-append}
-use Rattle.std.proofs.lemmas.List.{map-append}
-use Rattle.std.proofs.lemmas.Nat.{mul-add-lt}
-use Rattle.ufs_spec.proofs.Facts.{and_from, and_parts, cases_Bool, if_both, lt-ltb, ltb-true}
-use Rattle.ufs_spec.specs.Disk.{Spot, place_in, spot_of}
-use Rattle.ufs_spec.specs.Keys.{below}
+use Rattle.block_table.proofs.Common.{Bool, List, Lives, None, Place, Sizes, Some, Spot, [], and_from, and_parts, ap}
+use Rattle.block_table.proofs.Common.{arith, below, block_place, cases_Bool, cond, false, filter, flat_map}
+use Rattle.block_table.proofs.Common.{flat_map-append, has_block, if◌then◌else◌, inl, inr, is_live, length, list_any}
+use Rattle.block_table.proofs.Common.{lt-ltb, ltb-true, map, map-append, mul-add-lt, mul_comm, nat_lt, place_in, refl}
+use Rattle.block_table.proofs.Common.{slice_get, slice_set, spot, spot_of, subst, suc, sym, true, unwrap_or, zero, ℕ}
+use Rattle.block_table.proofs.Common.{◌&&◌, ◌*◌, ◌++◌, ◌<◌, ◌||◌, ◌∙◌, ◌∷◌, ◌≡◌, ◌⊎◌}
+use Rattle.std.proofs.Common.{◌≢◌}
+use Rattle.ufs_spec.proofs.Facts.{if_both}
 use Rattle.ufs_spec.specs.Translation.{least_of}
-use Rattle.ufs_spec.specs.declared.flash.Place.{Place}
-use Rattle.block_table.specs.Lives.{Lives, block_place, has_block, has_page, is_live, page_place, places_in}
-use Rattle.block_table.specs.Lives.{spot, spots_in, spots_of_die, with_live}
-use Rattle.block_table.specs.declared.Sizes.{Sizes}
+use Rattle.block_table.specs.Lives.{has_page, page_place, places_in, spots_in, spots_of_die, with_live}
 use Rattle.block_table.proofs.LiveCounts.{noted, noted_beside, noted_here, spot_inside}
 
 -- Each of a list

@@ -1,27 +1,21 @@
 -- The plain search, block by block and die by die, and what it finds.
-use Rattle.std.proofs.Common.{◌≡◌, ◌∙◌, ◌⊎◌, ℕ, zero, suc, ◌<◌, ◌≤◌, ◌&&◌, Bool, true, false, cond, not, List, []}
-use Rattle.std.proofs.Common.{◌∷◌, ◌++◌, Option, Some, None, ap, arith, refl, sym, subst, inl, inr, ⊎_elim}
-use Rattle.std.proofs.Common.{if◌then◌else◌}
-use Rattle.std.specs.Prelude.{filter, find, map, nat_le, nat_lt}
+use Rattle.block_table.proofs.Common.{BlockState, Blocks, Bool, CanBeVictim, IsVictim, List, Lives, None, Option, Place}
+use Rattle.block_table.proofs.Common.{Some, Spot, [], and_from, and_parts, ap, arith, below, cases_lt, cond, false}
+use Rattle.block_table.proofs.Common.{false≢true, filter, flat_map, flat_map-append, gains, has_block, if◌then◌else◌}
+use Rattle.block_table.proofs.Common.{inl, inr, is_live, is_pinned, le-leb, live_count, lt-ltb, ltb-true, map}
+use Rattle.block_table.proofs.Common.{map-append, may_be_victim, nat_le, nat_lt, not, place_in, refl, spot, state_of}
+use Rattle.block_table.proofs.Common.{subst, suc, sym, true, zero, ℕ, ◌&&◌, ◌++◌, ◌<◌, ◌∙◌, ◌∷◌, ◌≡◌, ◌≤◌, ◌⊎◌}
+use Rattle.std.proofs.Common.{⊎_elim}
+use Rattle.std.specs.Prelude.{find}
 use Rattle.std.specs.Option.{option_or}
-use Rattle.std.specs.List.{flat_map}
-use Rattle.std.proofs.lemmas.Grind.{flat_map-append}
-use Rattle.std.proofs.lemmas.List.{append-nil, map-append}
+use Rattle.std.proofs.lemmas.List.{append-nil}
 use Rattle.std.proofs.lemmas.List.Elements.{filter-append}
 use Rattle.std.proofs.lemmas.List.Folds.{find-append}
-use Rattle.ufs_spec.proofs.Facts.{and_from, and_parts, false≢true, lt-ltb, ltb-false}
-use Rattle.ufs_spec.proofs.Facts.{cases_lt, le-leb, lt-leb, ltb-true, not-true}
+use Rattle.ufs_spec.proofs.Facts.{lt-leb, ltb-false, not-true}
 use Rattle.ufs_spec.proofs.Lists.{find_behind, find_here}
-use Rattle.ufs_spec.specs.Disk.{Spot, place_in}
-use Rattle.ufs_spec.specs.Keys.{below}
 use Rattle.ufs_spec.specs.Translation.{least_of}
-use Rattle.ufs_spec.specs.declared.flash.Place.{Place}
-use Rattle.block_table.specs.Blocks.{Blocks, state_of}
-use Rattle.block_table.specs.Lives.{Lives, gains, has_block, is_live, is_pinned}
-use Rattle.block_table.specs.Lives.{live_count, live_from, may_be_victim, spot}
-use Rattle.block_table.specs.Lives.{places_in, victim}
-use Rattle.block_table.specs.Victims.{CanBeVictim, IsBefore, IsNoVictim, IsVictim}
-use Rattle.block_table.specs.declared.BlockState.{BlockState}
+use Rattle.block_table.specs.Lives.{live_from, places_in, victim}
+use Rattle.block_table.specs.Victims.{IsBefore, IsNoVictim}
 use Rattle.block_table.specs.declared.BlockState.TheVariants as state
 use Rattle.block_table.proofs.LiveCounts.{order}
 

@@ -1,20 +1,19 @@
 -- The blocks of a table in a bucket for each state: at first, after a change, and word by word.
-use Rattle.std.proofs.Common.{◌≡◌, ◌∙◌, ◌⊎◌, ℕ, zero, suc, ◌+◌, ◌*◌, ◌/◌, ◌%◌, ◌<◌, ◌≤◌, ◌&&◌, Bool, true, false}
-use Rattle.std.proofs.Common.{List, Option, Some, ap, arith, length, refl, sym, inl, inr, get_or}
-use Rattle.std.proofs.Common.{cond, if◌then◌else◌, mul-zero}
-use Rattle.std.specs.Prelude.{nat_lt, ◌==◌, slice_get, slice_set, unwrap_or, count_by}
-use Rattle.std.proofs.lemmas.Bool.{and_right, ne_eqb}
+use Rattle.block_table.proofs.Common.{BlockState, Blocks, Bool, Buckets, IsWord, IsWordOf, List, Option, Sizes, Some}
+use Rattle.block_table.proofs.Common.{Stands, and_right, ap, arith, bit, blocks_in, cases_eq, cases_lt, cond, count_by}
+use Rattle.block_table.proofs.Common.{eq-eqb, eqb-self, false, get_or, has, if◌then◌else◌, inl, inr, le-ltb, length}
+use Rattle.block_table.proofs.Common.{lt-ltb, moved, nat_lt, ne_eqb, refl, same_state, set_length, set_other, set_there}
+use Rattle.block_table.proofs.Common.{slice_get, slice_get_past, slice_set, state_there, suc, sym, true, unwrap_or}
+use Rattle.block_table.proofs.Common.{with_bit, with_block, words_for, zero, ℕ, ◌%◌, ◌&&◌, ◌*◌, ◌+◌, ◌/◌, ◌<◌, ◌==◌}
+use Rattle.block_table.proofs.Common.{◌∙◌, ◌≡◌, ◌≤◌, ◌⊎◌}
+use Rattle.std.proofs.Common.{mul-zero}
 use Rattle.std.proofs.lemmas.List.Sums.{sum_by-set}
 use Rattle.std.proofs.lemmas.Nat.{div-add-mod'}
-use Rattle.std.proofs.lemmas.Option.{slice_get_past}
-use Rattle.ufs_spec.proofs.Facts.{cases_eq, cases_lt, eq-eqb, eqb-self, le-ltb, lt-ltb}
-use Rattle.ufs_spec.proofs.Lists.{get_there, set_length, set_other, set_there}
-use Rattle.block_table.specs.Blocks.{Blocks, block_index}
-use Rattle.block_table.specs.Buckets.{Buckets, IsWord, Stands, bit, has, in_none, moved, with_bit, with_block, words_for}
-use Rattle.block_table.specs.Sorted.{HasAll, IsSorted, IsWordOf, blocks_in, bucket_of, is_for, same_state, state_there}
-use Rattle.block_table.specs.declared.BlockState.{BlockState}
+use Rattle.ufs_spec.proofs.Lists.{get_there}
+use Rattle.block_table.specs.Blocks.{block_index}
+use Rattle.block_table.specs.Buckets.{in_none}
+use Rattle.block_table.specs.Sorted.{HasAll, IsSorted, bucket_of, is_for}
 use Rattle.block_table.specs.declared.BlockState.TheVariants as state
-use Rattle.block_table.specs.declared.Sizes.{Sizes}
 
 -- A list that is sorted into buckets
 

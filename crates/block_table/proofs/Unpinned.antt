@@ -1,22 +1,16 @@
 -- The blocks without a pin in a bucket for each number of live pages: at first, and after a page or a pin has changed.
-use Rattle.std.proofs.Common.{◌≡◌, ◌∙◌, ◌⊎◌, ℕ, zero, suc, ◌/◌, ◌%◌, ◌<◌, ◌≤◌, ◌&&◌, Bool, true, false}
-use Rattle.std.proofs.Common.{List, Option, Some, ap, arith, length, refl, sym, subst, inl, inr, not, replicate}
-use Rattle.std.proofs.Common.{if◌then◌else◌}
-use Rattle.std.specs.Prelude.{nat_lt, ◌==◌, slice_get, slice_set, unwrap_or}
+use Rattle.block_table.proofs.Common.{AreCounted, Bool, Buckets, List, Lives, Option, Sizes, Some, Spot, Stands}
+use Rattle.block_table.proofs.Common.{and_from, and_right, ap, arith, block_place, blocks_in, cases_Bool, cases_eq}
+use Rattle.block_table.proofs.Common.{cases_lt, eq-eqb, eqb-self, false, get_replicate, has, has_block, has_no_pin}
+use Rattle.block_table.proofs.Common.{if◌then◌else◌, inl, inr, is_pinned, le-ltb, length, length-replicate, live_count}
+use Rattle.block_table.proofs.Common.{lt-ltb, moved, nat_lt, ne_eqb, not, refl, replicate, set_other, set_there}
+use Rattle.block_table.proofs.Common.{slice_get, slice_get_past, slice_set, spot_there, subst, suc, sym, true}
+use Rattle.block_table.proofs.Common.{unwrap_or, with_block, zero, ℕ, ◌%◌, ◌&&◌, ◌/◌, ◌<◌, ◌==◌, ◌∙◌, ◌≡◌, ◌≤◌, ◌⊎◌}
 use Rattle.std.proofs.Math.Bool.{and-true}
-use Rattle.std.proofs.lemmas.Bool.{and_right, ne_eqb}
-use Rattle.std.proofs.lemmas.List.{length-replicate}
 use Rattle.std.proofs.lemmas.Nat.{div-add-mod', div_below, mod_below}
-use Rattle.std.proofs.lemmas.Option.{slice_get_past}
-use Rattle.ufs_spec.proofs.Facts.{and_from, cases_Bool, cases_eq, cases_lt, eq-eqb, eqb-self, le-ltb, lt-ltb}
-use Rattle.ufs_spec.proofs.Lists.{get_replicate, get_there, set_here, set_other, set_there}
-use Rattle.ufs_spec.specs.Disk.{Spot}
-use Rattle.block_table.specs.Buckets.{Buckets, Stands, has, in_first, moved, with_block}
-use Rattle.block_table.specs.LiveRooms.{AreCounted, has_no_pin, is_unpinned_with}
-use Rattle.block_table.specs.Lives.{Lives, block_place, has_block, is_pinned, live_count}
-use Rattle.block_table.specs.Probes.{spot_there}
-use Rattle.block_table.specs.Sorted.{blocks_in}
-use Rattle.block_table.specs.declared.Sizes.{Sizes}
+use Rattle.ufs_spec.proofs.Lists.{get_there, set_here}
+use Rattle.block_table.specs.Buckets.{in_first}
+use Rattle.block_table.specs.LiveRooms.{is_unpinned_with}
 use Rattle.block_table.proofs.LiveCounts.{count_within, live_count_is, spot_inside}
 use Rattle.block_table.proofs.States.{moved_beside, moved_here, renumbered, set_beside, some_blocks}
 

@@ -1,30 +1,19 @@
 -- Blocks that may be collected, bucket by bucket: the first of the least live pages, and how many probes that takes.
-use Rattle.std.proofs.Common.{◌≡◌, ◌∙◌, ◌⊎◌, ℕ, ◌+◌, ◌*◌, ◌<◌, ◌≤◌, ◌&&◌, Bool}
-use Rattle.std.proofs.Common.{true, false, cond, List, Some, ap, arith, length, refl, sym, subst}
-use Rattle.std.proofs.Common.{add-one, inl, inr, not}
-use Rattle.std.specs.Prelude.{nat_lt, ◌==◌, count_by}
+use Rattle.block_table.proofs.Common.{AreCounted, Blocks, Bool, Buckets, CanBeVictim, IsLowest, IsVictim, List, Lives}
+use Rattle.block_table.proofs.Common.{Sizes, Some, Spot, and_from, and_parts, ap, arith, below, block_place, blocks_in}
+use Rattle.block_table.proofs.Common.{cases_lt, cond, count_by, eq-eqb, eqb-true, false, false≢true, gains, has}
+use Rattle.block_table.proofs.Common.{has_block, inl, inr, is_pinned, is_victim_at, le-ltb, length, live_count, lt-ltb}
+use Rattle.block_table.proofs.Common.{ltb-true, may_be_victim, mul-add-lt, mul_comm, nat_lt, not, refl, spot_there}
+use Rattle.block_table.proofs.Common.{state_of, subst, sym, true, word_probes, ℕ, ◌&&◌, ◌*◌, ◌+◌, ◌<◌, ◌==◌, ◌∙◌, ◌≡◌}
+use Rattle.block_table.proofs.Common.{◌≤◌, ◌⊎◌}
+use Rattle.std.proofs.Common.{add-one}
 use Rattle.std.specs.List.{sum_by}
-use Rattle.std.proofs.Math.Nat.{mul_comm}
 use Rattle.std.proofs.lemmas.List.Sums.{sum_by_push}
-use Rattle.std.proofs.lemmas.Nat.{mul-add-lt}
-use Rattle.ufs_spec.proofs.Facts.{and_from, and_parts, cases_lt, eq-eqb, eqb-true, false≢true}
-use Rattle.ufs_spec.proofs.Facts.{le-ltb, lt-ltb, ltb-true}
-use Rattle.ufs_spec.specs.Disk.{Spot}
-use Rattle.ufs_spec.specs.Keys.{below}
-use Rattle.block_table.specs.Blocks.{Blocks, state_of}
-use Rattle.block_table.specs.Buckets.{Buckets, IsLowest, has}
-use Rattle.block_table.specs.LiveRooms.{AreCounted}
-use Rattle.block_table.specs.Lives.{Lives, block_place, gains, has_block, is_pinned, live_count}
-use Rattle.block_table.specs.Lives.{may_be_victim}
-use Rattle.block_table.specs.Probes.{has_unpinned, is_unpinned_of, is_victim_at, most_probes}
-use Rattle.block_table.specs.Probes.{spot_there, word_probes}
-use Rattle.block_table.specs.Sorted.{blocks_in}
-use Rattle.block_table.specs.Victims.{CanBeVictim, IsBefore, IsNoVictim, IsVictim}
-use Rattle.block_table.specs.declared.Sizes.{Sizes}
+use Rattle.block_table.specs.Probes.{has_unpinned, is_unpinned_of, most_probes}
+use Rattle.block_table.specs.Victims.{IsBefore, IsNoVictim}
 use Rattle.block_table.proofs.LiveCounts.{order, spot_inside}
 use Rattle.block_table.proofs.Searches.{can_shown, can_told}
-use Rattle.block_table.proofs.Unpinned.{AreUnpinned, count_at_most, place_there}
-use Rattle.block_table.proofs.Unpinned.{spot_block, spot_die}
+use Rattle.block_table.proofs.Unpinned.{AreUnpinned, count_at_most, place_there, spot_block, spot_die}
 use Rattle.block_table.proofs.VictimWords.{unpinned_is, unpinned_past, any_there, spot_placed}
 
 -- Buckets

@@ -1,35 +1,25 @@
 -- Blocks that may be collected, word by word, and bad blocks that hold live pages.
-use Rattle.std.proofs.Common.{◌≡◌, ◌∙◌, ◌⊎◌, ℕ, zero, suc, ◌+◌, ◌-◌, ◌*◌, ◌/◌, ◌%◌, ◌^◌, ◌<◌, ◌≤◌, ◌&&◌, ◌||◌, Bool}
-use Rattle.std.proofs.Common.{true, false, List, [], ◌∷◌, ◌++◌, ap, arith, length, refl, sym}
-use Rattle.std.proofs.Common.{inl, inr, not}
-use Rattle.std.specs.Prelude.{nat_lt, ◌==◌, slice_get, unwrap_or, map, bit_or, bit_and}
-use Rattle.std.specs.Int.{bit_not, trailing_zeros, w64}
-use Rattle.std.specs.List.{flat_map, list_any}
+use Rattle.block_table.proofs.Common.{AreCounted, BlockState, Blocks, Bool, Buckets, IsLowest, IsWord, IsWordOf, List}
+use Rattle.block_table.proofs.Common.{Lives, Sizes, Spot, [], and_parts, ap, arith, below, bit, bit_and, bit_not}
+use Rattle.block_table.proofs.Common.{bit_or, block_place, blocks_in, cases_lt, eqb-true, false, flat_map}
+use Rattle.block_table.proofs.Common.{flat_map-append, gains, has, has_block, has_no_pin, inl, inr, is_bad_at}
+use Rattle.block_table.proofs.Common.{is_pinned, is_victim_at, le-ltb, length, list_any, live_count, lt-ltb, ltb-true}
+use Rattle.block_table.proofs.Common.{map, map-append, may_be_victim, nat_lt, ne_eqb, not, refl, same_state, slice_get}
+use Rattle.block_table.proofs.Common.{spot, spot_there, state_of, state_there, suc, sym, trailing_zeros, true}
+use Rattle.block_table.proofs.Common.{unwrap_or, w64, words_for, zero, ℕ, ◌%◌, ◌&&◌, ◌*◌, ◌++◌, ◌+◌, ◌-◌, ◌/◌, ◌<◌}
+use Rattle.block_table.proofs.Common.{◌==◌, ◌^◌, ◌||◌, ◌∙◌, ◌∷◌, ◌≡◌, ◌≤◌, ◌⊎◌}
 use Rattle.std.proofs.Math.Bool.{and-false}
-use Rattle.std.proofs.lemmas.Bool.{ne_eqb}
-use Rattle.std.proofs.lemmas.Grind.{flat_map-append}
-use Rattle.std.proofs.lemmas.List.{append-nil, map-append}
+use Rattle.std.proofs.lemmas.List.{append-nil}
 use Rattle.std.proofs.lemmas.List.Folds.{list_any-append}
 use Rattle.std.proofs.lemmas.Nat.{div-mul-add, mod-mul-add}
-use Rattle.ufs_spec.proofs.Facts.{and_parts, cases_lt, eqb-true}
-use Rattle.ufs_spec.proofs.Facts.{le-ltb, lt-ltb, ltb-true, or_left, or_right}
-use Rattle.ufs_spec.specs.Disk.{Spot}
-use Rattle.ufs_spec.specs.Keys.{below}
-use Rattle.block_table.specs.Blocks.{Blocks, is_bad, state_of}
-use Rattle.block_table.specs.Buckets.{Buckets, IsLowest, IsWord, bit, has, words_for}
-use Rattle.block_table.specs.LiveRooms.{AreCounted, has_no_pin, is_unpinned_with}
-use Rattle.block_table.specs.Lives.{Lives, block_place, gains, has_block, is_bad_with_live, is_pinned, live_count}
-use Rattle.block_table.specs.Lives.{may_be_victim, spot, spots_in, spots_of_die}
-use Rattle.block_table.specs.Probes.{is_bad_at, is_victim_at}
-use Rattle.block_table.specs.Probes.{spot_there}
-use Rattle.block_table.specs.Sorted.{IsWordOf, blocks_in, same_state, state_there}
-use Rattle.block_table.specs.declared.BlockState.{BlockState}
+use Rattle.ufs_spec.proofs.Facts.{or_left, or_right}
+use Rattle.block_table.specs.Blocks.{is_bad}
+use Rattle.block_table.specs.LiveRooms.{is_unpinned_with}
+use Rattle.block_table.specs.Lives.{is_bad_with_live, spots_in, spots_of_die}
 use Rattle.block_table.specs.declared.BlockState.TheVariants as state
-use Rattle.block_table.specs.declared.Sizes.{Sizes}
 use Rattle.block_table.proofs.LiveCounts.{spot_inside}
 use Rattle.block_table.proofs.Relations.{any_same}
-use Rattle.block_table.proofs.Unpinned.{AreUnpinned, counted_there, no_pin_past, no_pin_there}
-use Rattle.block_table.proofs.Unpinned.{spot_block, spot_die}
+use Rattle.block_table.proofs.Unpinned.{AreUnpinned, counted_there, no_pin_past, no_pin_there, spot_block, spot_die}
 use Rattle.block_table.proofs.WordBits.{bit_both, bit_some, bit_turned, lowest_is}
 
 -- One block

@@ -1,17 +1,14 @@
 -- Bits of words, and which blocks stand in which bucket after a bit has changed.
-use Rattle.std.proofs.Common.{◌≡◌, ◌∙◌, ◌⊎◌, ℕ, zero, suc, ◌+◌, ◌-◌, ◌*◌, ◌/◌, ◌%◌, ◌^◌, ◌<◌, ◌≤◌, ◌&&◌, ◌||◌, Bool}
-use Rattle.std.proofs.Common.{true, false, not, List, Option, Some, ap, arith, refl, sym}
-use Rattle.std.proofs.Common.{inl, inr, if◌then◌else◌}
-use Rattle.std.specs.Prelude.{nat_lt, ◌==◌, slice_get, slice_set, unwrap_or, bit_or, bit_and, min, max}
-use Rattle.std.specs.Int.{bit_at, bit_not, trailing_zeros, w64}
-use Rattle.std.proofs.lemmas.Bool.{ne_eqb}
-use Rattle.std.proofs.lemmas.Nat.Bits.{bit_at_set_same, bit_at_set_other, bit_at_clear_same, bit_at_clear_other}
-use Rattle.std.proofs.lemmas.Nat.Bits.{bit_at_and, bit_at_or, bit_at_not, bit_at-zero, bit_at-lt, bit_at-trailing_zeros}
-use Rattle.ufs_spec.proofs.Facts.{and_parts, cases_eq, cases_lt, eq-eqb, eqb-true}
-use Rattle.ufs_spec.proofs.Facts.{false_from_ne_true, le-ltb, lt-ltb}
-use Rattle.ufs_spec.proofs.Lists.{set_other, set_there}
-use Rattle.ufs_spec.specs.Keys.{below}
-use Rattle.block_table.specs.Buckets.{IsLowest, bit, has_in, with_bit, with_block}
+use Rattle.block_table.proofs.Common.{Bool, IsLowest, List, Option, Some, and_parts, ap, arith, below, bit, bit_and}
+use Rattle.block_table.proofs.Common.{bit_not, bit_or, cases_eq, cases_lt, eq-eqb, eqb-true, false, false_from_ne_true}
+use Rattle.block_table.proofs.Common.{has_in, if◌then◌else◌, inl, inr, le-ltb, lt-ltb, nat_lt, ne_eqb, not, refl}
+use Rattle.block_table.proofs.Common.{set_other, set_there, slice_get, slice_set, suc, sym, trailing_zeros, true}
+use Rattle.block_table.proofs.Common.{unwrap_or, w64, with_bit, with_block, zero, ℕ, ◌%◌, ◌&&◌, ◌*◌, ◌+◌, ◌-◌, ◌/◌, ◌<◌}
+use Rattle.block_table.proofs.Common.{◌==◌, ◌^◌, ◌||◌, ◌∙◌, ◌≡◌, ◌≤◌, ◌⊎◌}
+use Rattle.std.specs.Prelude.{max, min}
+use Rattle.std.specs.Int.{bit_at}
+use Rattle.std.proofs.lemmas.Nat.Bits.{bit_at_clear_other, bit_at_clear_same, bit_at_set_other, bit_at_set_same}
+use Rattle.std.proofs.lemmas.Nat.Bits.{bit_at-lt, bit_at-trailing_zeros, bit_at-zero, bit_at_and, bit_at_not, bit_at_or}
 use Rattle.block_table.proofs.LiveCounts.{one_place}
 
 -- Bits

@@ -1,6 +1,5 @@
 -- An answer decides what the query makes of the state.
-use Rattle.std.proofs.Common.{◌≡◌, ◌==◌, ◌&&◌, ℕ, Bool, true, false, cond, length, not}
-use Rattle.std.proofs.Common.{sym, ap, ◌∙◌}
+use Rattle.std.proofs.Common.{Bool, ap, cond, false, length, not, sym, true, ℕ, ◌&&◌, ◌==◌, ◌∙◌, ◌≡◌}
 use Rattle.ufs_spec.specs.Changes.{with_short}
 use Rattle.ufs_spec.specs.Exchanges.{short_reply}
 use Rattle.ufs_spec.specs.Queries.{Query, descriptor_told, setting_of}

@@ -1,8 +1,7 @@
 -- The groups of RPMB requests and of settings that are accepted (JESD220, 12.4 and 14): the pages of the area that a
 -- write brings, most often in part, and the settings with the key and the counter.
-use Rattle.std.specs.Prelude.{◌≡◌, ℕ, ◌+◌, ◌-◌, ◌*◌, ◌/◌, ◌%◌, nat_le, if◌then◌else◌, IsTrue, List, [], ◌∷◌, ◌++◌}
-use Rattle.std.specs.Prelude.{drop, length, map}
-use Rattle.std.specs.Prelude.{replicate, take}
+use Rattle.std.specs.Prelude.{IsTrue, List, [], drop, if◌then◌else◌, length, map, nat_le, replicate, take, ℕ, ◌%◌, ◌*◌}
+use Rattle.std.specs.Prelude.{◌++◌, ◌+◌, ◌-◌, ◌/◌, ◌∷◌, ◌≡◌}
 use Rattle.ufs_spec.specs.Keys.{Group, Item, area_key, settings_key}
 use Rattle.ufs_spec.specs.Ledger.{all_contents, next_number}
 use Rattle.ufs_spec.specs.Moves.{Accept, IsAllowedMove, moved}

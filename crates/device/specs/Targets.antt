@@ -1,6 +1,6 @@
 -- What a command is about: the unit whose blocks it reads or writes (JESD220, 10.8).
 use Rattle.std.specs.Prelude.{◌≡◌, ℕ, true, false, Option, Some, None, Result, Ok, Err}
-use Rattle.ufs_spec.specs.Exchanges.{CheckCondition}
+use Rattle.ufs_spec.specs.declared.exchanges.Status.TheVariants.{CheckCondition}
 use Rattle.ufs_spec.specs.Refusals.{Lun, Request, State, lacks_unit, lun_of, numbers_of, refusal, row_in}
 use Rattle.ufs_spec.specs.Refusals.{takes_row, unit_numbers_of, unit_of_request}
 use Rattle.ufs_spec.specs.declared.configs.UnitSpec.{UnitSpec}

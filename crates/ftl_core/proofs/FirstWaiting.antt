@@ -1,16 +1,12 @@
 -- The first of a list that passes a test, looked for from the front, and only where a wider test passes.
-use Rattle.std.proofs.Common.{◌≡◌, ℕ, zero, suc, ◌+◌, ◌≤◌, Bool, true, false, cond, not, List, [], ◌∷◌}
-use Rattle.std.proofs.Common.{Option, Some, None, arith, ap, refl, sym, ◌∙◌, subst, take, drop}
-use Rattle.std.specs.Prelude.{◌&&◌, find, if◌then◌else◌, is_none, is_some, slice_get}
-use Rattle.std.specs.List.{list_any, position_from}
-use Rattle.block_table.specs.declared.rows.DieRow.{DieRow}
+use Rattle.ftl_core.proofs.Common.{Bool, DieRow, List, None, Option, Pending, Rest, Some, [], ap, arith, cond, drop}
+use Rattle.ftl_core.proofs.Common.{false, find, find_behind, if◌then◌else◌, is_none, is_some, list_any, none-some}
+use Rattle.ftl_core.proofs.Common.{page_waits, refl, same_Some, slice_get, subst, suc, sym, take, true, true≢false}
+use Rattle.ftl_core.proofs.Common.{zero, ℕ, ◌&&◌, ◌+◌, ◌∙◌, ◌∷◌, ◌≡◌, ◌≤◌}
+use Rattle.std.proofs.Common.{not}
+use Rattle.std.specs.List.{position_from}
 use Rattle.block_table.specs.Rows.{writes_page}
-use Rattle.ufs_spec.proofs.Facts.{none-some, same_Some, true≢false}
-use Rattle.write_cache.specs.declared.rests.Rest.{Rest}
-use Rattle.write_cache.specs.declared.slots.Pending.{Pending}
 use Rattle.write_cache.specs.Ready.{first_ready_from, is_ready}
-use Rattle.ftl_core.specs.Takes.{page_waits}
-use Rattle.ufs_spec.proofs.Lists.{find_behind}
 
 abbrev pub FoundOr : {A : Type 0} → Bool → A → Option A → Option A
 FoundOr b x rest = if b then Some x else rest

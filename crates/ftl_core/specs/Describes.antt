@@ -6,8 +6,7 @@ use Rattle.ufs_spec.specs.Cells.{Cell, Cells, GroupPage, MarkPage, key_of}
 use Rattle.ufs_spec.specs.Disk as disk
 use Rattle.ufs_spec.specs.Disk.{Spot}
 use Rattle.ufs_spec.specs.Keys.{IsKey}
-use Rattle.ufs_spec.specs.Ledger.{Entry, Ledger, before_accepted, entry_of}
-use Rattle.ufs_spec.specs.Ledger.{latest_durable, next_number, pending}
+use Rattle.ufs_spec.specs.Ledger.{Entry, Ledger, before_accepted, entry_of, latest_durable, next_number, pending}
 use Rattle.ufs_spec.specs.Moves.{Ending, ReadRight, ReadWrong, GiveJob, moved}
 use Rattle.ufs_spec.specs.Plain.{shape_of_numbers}
 use Rattle.ufs_spec.specs.Translation as layer

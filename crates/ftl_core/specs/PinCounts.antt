@@ -1,7 +1,6 @@
 -- How many pins each block has: one for each page of it that a reader keeps, and one for each page that is still to be
 -- read from it for a rest (this profile).
-use Rattle.std.specs.Prelude.{◌≡◌, ℕ, ◌+◌, true}
-use Rattle.std.specs.Prelude.{List, filter, length, slice_get, Some}
+use Rattle.std.specs.Prelude.{List, Some, filter, length, slice_get, true, ℕ, ◌+◌, ◌≡◌}
 use Rattle.ufs_spec.specs.Disk.{Spot}
 use Rattle.block_table.specs.Lives.{Lives, block_place, has_block}
 use Rattle.readers.specs.declared.pin.Pin.{Pin}

@@ -3,8 +3,7 @@ use Rattle.std.specs.Prelude.{◌≡◌, ◌≤◌, ◌+◌, ℕ, length, IfSome
 use Rattle.ftl_core.specs.declared.ftl.Ftl.TheInside.{Inside}
 use Rattle.ftl_core.specs.declared.books.Step.{Step}
 use Rattle.ftl_core.specs.declared.books.Step.TheVariants as step
-use Rattle.ufs_spec.specs.Pages.{greatest_number}
-use Rattle.ufs_spec.specs.Pages.{IsTag}
+use Rattle.ufs_spec.specs.Pages.{IsTag, greatest_number}
 use Rattle.ftl_core.specs.Core.{Core}
 use Rattle.ftl_core.specs.PinCounts.{ArePinsCounted}
 use Rattle.readers.specs.Pins.{most_pins, without_pins}

@@ -5,8 +5,7 @@ use Rattle.std.specs.Prelude.{find, is_none, is_some, List, position, slice_get,
 use Rattle.std.specs.Prelude.{option_map}
 use Rattle.std.specs.List.{list_any}
 use Rattle.ufs_spec.specs.Plain.{regions}
-use Rattle.ufs_spec.specs.Pages.{greatest_number, group_bound}
-use Rattle.ufs_spec.specs.Pages.{mark_bytes, seal_page}
+use Rattle.ufs_spec.specs.Pages.{greatest_number, group_bound, mark_bytes, seal_page}
 use Rattle.ufs_spec.specs.declared.flash.Job.{Job}
 use Rattle.ufs_spec.specs.declared.flash.Job.TheVariants as job
 use Rattle.ufs_spec.specs.declared.flash.Tag.{Tag}
@@ -31,12 +30,11 @@ use Rattle.ftl_core.specs.declared.books.Waiting.TheVariants as waiting
 use Rattle.ftl_core.specs.Core.{Core}
 pub use Rattle.block_table.specs.Rows.{flight_writes, is_step_flight, reads_for, writes_page}
 pub use Rattle.block_table.specs.Rows.{writes_step}
-use Rattle.ftl_core.specs.Moves.{first_page, has_room_for_groups, mark_key, may_be_used, may_open}
+use Rattle.ftl_core.specs.Moves.{first_page, has_room_for_groups, mark_key, may_be_used, may_open, rest_look}
+use Rattle.ftl_core.specs.Moves.{single_tag, started, tag_of_page}
 use Rattle.readers.specs.Pins.{is_owed_by, looks_on}
-use Rattle.ftl_core.specs.Moves.{rest_look, single_tag, started}
 use Rattle.write_cache.specs.Rests.{content_of}
 use Rattle.write_cache.specs.Slots.{is_named}
-use Rattle.ftl_core.specs.Moves.{tag_of_page}
 
 -- The lowest number
 

@@ -3,8 +3,7 @@ use Rattle.std.proofs.Common.{◌≡◌, ◌∙◌, ◌==◌, ◌⊎◌, ℕ, �
 use Rattle.std.proofs.Common.{inl, inr, ⊎_elim}
 use Rattle.std.specs.Prelude.{MatchOption, Option, Some, None, if◌then◌else◌, nat_lt, slice_index_or}
 use Rattle.ufs_spec.specs.Keys.{IsArea, IsData, IsKey, IsSettings, area_pages, region_pages}
-use Rattle.ufs_spec.specs.Plain.{Shape}
-use Rattle.ufs_spec.specs.Plain.{regions}
+use Rattle.ufs_spec.specs.Plain.{Shape, regions}
 use Rattle.ufs_spec.specs.declared.flash.Key.{Key}
 use Rattle.ufs_spec.proofs.Facts.{and_from, and_parts, eq-eqb, eqb-true, false≢true, lt-ltb, ltb-true, none-some}
 use Rattle.ufs_spec.proofs.Facts.{same_Some}

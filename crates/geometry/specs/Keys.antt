@@ -2,8 +2,7 @@
 use Rattle.std.specs.Prelude.{◌≡◌, ℕ, ◌+◌, ◌<◌, ◌==◌, ◌&&◌, Option, Some, None, if◌then◌else◌, length, nat_lt}
 use Rattle.std.specs.Prelude.{slice_index_or, sum, take}
 use Rattle.ufs_spec.specs.Keys.{area_pages, region_pages}
-use Rattle.ufs_spec.specs.Plain.{Shape}
-use Rattle.ufs_spec.specs.Plain.{regions}
+use Rattle.ufs_spec.specs.Plain.{Shape, regions}
 use Rattle.ufs_spec.specs.declared.flash.Key.{Key}
 
 -- Indexes

@@ -5,7 +5,8 @@ use Rattle.std.proofs.lemmas.Bool.{and_parts, eqb-true}
 use Rattle.std.proofs.lemmas.List.{length-replicate}
 use Rattle.std.specs.List.{flat_map}
 use Rattle.ufs_spec.specs.Commands.{Command, RpmbWrite, SetKey}
-use Rattle.ufs_spec.specs.Exchanges.{Status, empty_registers, invalid_list_field, sequence_error}
+use Rattle.ufs_spec.specs.Exchanges.{empty_registers, invalid_list_field, sequence_error}
+use Rattle.ufs_spec.specs.declared.exchanges.Status.{Status}
 use Rattle.ufs_spec.specs.Frames.{Frame}
 use Rattle.ufs_spec.specs.Rpmb.{Refused, Region, checks, command_in, first_failed, is_well_formed, lacks_result}
 use Rattle.ufs_spec.specs.Rpmb.{outcome_after, program_key, read_result, write_data}

@@ -1,27 +1,19 @@
 -- The core is put back after a step, and the rule is kept.
-use Rattle.std.proofs.Common.{◌≡◌, ◌≢◌, ℕ, ◌<◌, ◌≤◌, true, false, List, [], ◌∷◌, ◌++◌, length, set, Option, Some, None}
-use Rattle.std.proofs.Common.{refl, sym, ap, ◌∙◌, subst, inl, ⊎_elim, arith, length-set, get_or-set_same}
-use Rattle.std.proofs.Common.{get_or-set_other, append-nil}
+use Rattle.lanes.proofs.Common.{Allows, Apart, AtHome, DeviceCore, DieState, Entry, Fits, IsLegal, IsOut, IsStart, Kept}
+use Rattle.lanes.proofs.Common.{Knows, LaneView, Legal, List, Made, Meets, None, Opening, Option, Some, State, Stepped}
+use Rattle.lanes.proofs.Common.{View, WorldState, [], ap, append-nil, arith, die_at, false, inl, job_at, length, mine}
+use Rattle.lanes.proofs.Common.{new_die, refl, set, set_else, set_here, step_by, subst, sym, true, ℕ, ⊎_elim, ◌++◌, ◌<◌}
+use Rattle.lanes.proofs.Common.{◌∙◌, ◌∷◌, ◌≡◌, ◌≢◌, ◌≤◌}
+use Rattle.std.proofs.Common.{get_or-set_other, get_or-set_same, length-set}
 use mathlib.Core.Option as maybe
 use lib.ListN.{get_elem?}
 use mathlib.Core.Logic.{dite}
 use native.Mathlib.Decide.{ℕ_discrete}
 use Rattle.atomic_table.specs.Table as table
-use Rattle.atomic_table.specs.Table.{Allows, gives}
-use Rattle.atomic_table.proofs.Lists.{set_else, set_here}
-use Rattle.ufs_spec.specs.Dies.{CanDo, DieState, new_die}
-use Rattle.ufs_spec.specs.Refusals.{State}
-use Rattle.device.specs.Kept.{DeviceCore, WorldState}
-use Rattle.device.specs.Worlds.{Fits, die_at, job_at}
+use Rattle.atomic_table.specs.Table.{gives}
+use Rattle.ufs_spec.specs.Dies.{CanDo}
 use Rattle.device.proofs.dies_of_world.WentRight.{finish_can}
-use Rattle.lanes.specs.declared.view.Entry.{Entry}
-use Rattle.lanes.specs.declared.view.LaneView.{LaneView}
-use Rattle.lanes.specs.declared.view.Made.{Made}
-use Rattle.lanes.specs.declared.view.Opening.{Opening}
-use Rattle.lanes.specs.declared.view.View.{View}
-use Rattle.lanes.specs.Legal.{Legal, mine, step_by}
-use Rattle.lanes.specs.Rule.{AgreesIf, Apart, AtHome, CanWork, Deals, IsLegal, IsLegalIf, IsOut, IsStart, Kept, Knows}
-use Rattle.lanes.specs.Rule.{Meets, SameDie, Stepped, placed}
+use Rattle.lanes.specs.Rule.{AgreesIf, CanWork, Deals, IsLegalIf, SameDie, placed}
 use Rattle.lanes.proofs.Growing.{begins_more, legal_more, mine-other}
 use Rattle.lanes.proofs.Opened.{begins}
 use Rattle.lanes.proofs.Moves.{apart_flip, each_set, none_home, some_not_none, some_one, true_false, two_set}

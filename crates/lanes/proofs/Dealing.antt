@@ -1,24 +1,17 @@
 -- The table as it opens, and a seat that is dealt.
-use Rattle.std.proofs.Common.{◌≡◌, ◌≢◌, ◌⊎◌, ℕ, zero, suc, ◌+◌, ◌-◌, ◌<◌, ◌≤◌, true, false, List, [], ◌∷◌, ◌++◌, length}
-use Rattle.std.proofs.Common.{map, set, Option, Some, None, refl, sym, ap, ◌∙◌, subst, inl, inr, ⊎_elim, arith}
-use Rattle.std.proofs.Common.{append_assoc}
-use Rattle.std.specs.List.{All}
-use Rattle.std.specs.Prelude.{slice_get, slice_index_or}
-use Rattle.std.proofs.lemmas.List.{get_or-replicate, length-replicate}
+use Rattle.lanes.proofs.Common.{All, Apart, AtHome, DeviceCore, DieState, IsOpening, IsOut, Job, Kept, Knows, LaneView}
+use Rattle.lanes.proofs.Common.{List, None, Opening, Option, Some, Splits, Undealt, View, WorldState, [], ap}
+use Rattle.lanes.proofs.Common.{append_assoc, arith, die_at, false, inl, inr, job_at, length, length-replicate, map}
+use Rattle.lanes.proofs.Common.{new_die, refl, set, set_else, set_here, slice_index_or, subst, suc, sym, true, zero, ℕ}
+use Rattle.lanes.proofs.Common.{⊎_elim, ◌++◌, ◌+◌, ◌<◌, ◌∙◌, ◌∷◌, ◌≡◌, ◌≢◌, ◌≤◌}
+use Rattle.std.proofs.Common.{◌-◌, ◌⊎◌}
+use Rattle.std.specs.Prelude.{slice_get}
+use Rattle.std.proofs.lemmas.List.{get_or-replicate}
 use mathlib.Core.Option as maybe
 use lib.ListN.{get_elem?}
 use Rattle.atomic_table.specs.Table as table
-use Rattle.atomic_table.specs.Table.{Splits}
-use Rattle.atomic_table.proofs.Lists.{at_longer, set_else, set_here}
-use Rattle.ufs_spec.specs.Dies.{DieState, new_die}
-use Rattle.ufs_spec.specs.declared.flash.Job.{Job}
-use Rattle.device.specs.Kept.{DeviceCore, WorldState}
-use Rattle.device.specs.Worlds.{die_at, job_at}
-use Rattle.lanes.specs.declared.view.LaneView.{LaneView}
-use Rattle.lanes.specs.declared.view.Opening.{Opening}
-use Rattle.lanes.specs.declared.view.View.{View}
-use Rattle.lanes.specs.Callers.{Undealt}
-use Rattle.lanes.specs.Rule.{AgreesIf, Apart, AtHome, IsOpening, IsOut, Kept, Knows, first_view, lane_at, lane_dealt}
+use Rattle.atomic_table.proofs.Lists.{at_longer}
+use Rattle.lanes.specs.Rule.{AgreesIf, first_view, lane_at, lane_dealt}
 use Rattle.lanes.specs.Rule.{new_lane, new_lane_of, new_port, newcomer, opened_world, port_dealt}
 use Rattle.lanes.proofs.Opened.{fits_first, length_kept}
 use Rattle.lanes.proofs.Moves.{apart_flip, below, each_set, some_one, true_false, two_set}

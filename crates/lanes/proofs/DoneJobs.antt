@@ -1,12 +1,12 @@
 -- A die that has done its job, well or not, holds what an interruption of the job may leave.
-use Rattle.std.proofs.Common.{◌≡◌, ◌∙◌, ℕ, ◌<◌, ◌≤◌, List, inl, inr, length, refl, sym, ap, subst, arith}
-use Rattle.std.specs.Prelude.{replicate, slice_index_or}
-use Rattle.std.proofs.lemmas.List.{get_or-replicate, length-replicate}
+use Rattle.lanes.proofs.Common.{DieState, Job, List, ap, arith, inl, inr, length, length-replicate, refl}
+use Rattle.lanes.proofs.Common.{slice_index_or, subst, sym, ℕ, ◌<◌, ◌∙◌, ◌≡◌, ◌≤◌}
+use Rattle.std.specs.Prelude.{replicate}
+use Rattle.std.proofs.lemmas.List.{get_or-replicate}
 use Rattle.ufs_spec.specs.DieLaws.{pages_in}
-use Rattle.ufs_spec.specs.Dies.{CanDo, CanErase, Did, DieState, IsOfSize, blank_page, page_at, pages_of, with_block}
+use Rattle.ufs_spec.specs.Dies.{CanDo, CanErase, Did, IsOfSize, blank_page, page_at, pages_of, with_block}
 use Rattle.ufs_spec.specs.Pages.{MayBeLeft}
 use Rattle.ufs_spec.specs.declared.events.Leftover.TheVariants as leftover
-use Rattle.ufs_spec.specs.declared.flash.Job.{Job}
 use Rattle.ufs_spec.specs.declared.flash.Job.TheVariants as job
 use Rattle.ufs_spec.specs.declared.flash.Outcome.{Outcome}
 use Rattle.ufs_spec.specs.declared.flash.Outcome.TheVariants as outcome

@@ -1,24 +1,22 @@
 -- From a job that its die has done to the step that ends it.
-use Rattle.std.proofs.Common.{◌≡◌, ◌∙◌, ℕ, ◌<◌, ◌≤◌, List, Bool, true, Option, Some, None, refl, sym, ap, subst}
-use Rattle.std.proofs.Common.{length, arith}
-use Rattle.std.specs.Prelude.{slice_index_or, slice_set}
+use Rattle.lanes.proofs.Common.{Bool, DeviceCore, DieState, Done, Fits, Follows, Job, LaneView, List, Meets, None}
+use Rattle.lanes.proofs.Common.{Numbers, Option, Some, State, WorldState, ap, arith, array_of, die_at, job_at}
+use Rattle.lanes.proofs.Common.{lane_ended, length, numbers_of, refl, slice_index_or, subst, sym, true, ℕ, ◌<◌, ◌∙◌}
+use Rattle.lanes.proofs.Common.{◌≡◌, ◌≤◌}
+use Rattle.std.specs.Prelude.{slice_set}
 use Rattle.ufs_spec.specs.Cells.{Array}
 use Rattle.ufs_spec.specs.DieLaws.{pages_in}
 use Rattle.ufs_spec.specs.Dies as dies
-use Rattle.ufs_spec.specs.Dies.{CanErase, DieState, after_job, blank_page, outcome_of, page_at, pages_of, with_bad}
+use Rattle.ufs_spec.specs.Dies.{CanErase, after_job, blank_page, outcome_of, page_at, pages_of, with_bad}
 use Rattle.ufs_spec.specs.Dies.{with_block, with_page}
 use Rattle.ufs_spec.specs.Disk.{Erasing, Flight, Programming, Reading, job_of}
-use Rattle.ufs_spec.specs.Lives.{array_of}
-use Rattle.ufs_spec.specs.Machine.{Done, MayLeave, OfDone}
+use Rattle.ufs_spec.specs.Machine.{MayLeave, OfDone}
 use Rattle.ufs_spec.specs.Moves.{Ending, IsEndingOf, outcome_fits}
 use Rattle.ufs_spec.specs.Pages.{MayBeLeft}
-use Rattle.ufs_spec.specs.Refusals.{State, numbers_of}
-use Rattle.ufs_spec.specs.declared.configs.Numbers.{Numbers}
 use Rattle.ufs_spec.specs.declared.events.Event.TheVariants as event
 use Rattle.ufs_spec.specs.declared.events.Leftover.{Leftover}
 use Rattle.ufs_spec.specs.declared.events.Leftover.TheVariants as leftover
 use Rattle.ufs_spec.specs.declared.events.Output.TheVariants as output
-use Rattle.ufs_spec.specs.declared.flash.Job.{Job}
 use Rattle.ufs_spec.specs.declared.flash.Job.TheVariants as job
 use Rattle.ufs_spec.specs.declared.flash.Outcome.{Outcome}
 use Rattle.ufs_spec.specs.declared.flash.Outcome.TheVariants as outcome
@@ -28,18 +26,16 @@ use Rattle.ufs_laws.specs.Flights.{die_of_flight}
 use Rattle.power_loss.proofs.books.PagesByName.{some_is}
 use Rattle.power_loss.proofs.stops.SealedCells.{ranges_of}
 use Rattle.device.specs.Describes.{Describes, IsAnswered}
-use Rattle.device.specs.Kept.{DeviceCore, WorldState}
 use Rattle.device.specs.Leftovers.{IsOfDie, MayDieLeave}
-use Rattle.device.specs.Worlds.{Fits, die_at, dies_failed, job_at}
+use Rattle.device.specs.Worlds.{dies_failed}
 use Rattle.device.proofs.dies_of_world.DieParts.{die_size, put_same}
 use Rattle.device.proofs.dies_of_world.DiesFit.{is_inside, lies_home}
 use Rattle.device.proofs.dies_of_world.FailRight.{IsToldOf, fail_read_went, fail_went}
 use Rattle.device.proofs.dies_of_world.JobLeaves.{erase_leaves, program_leaves}
 use Rattle.device.proofs.dies_of_world.WentRight.{finish_can, finish_went, has_flight}
-use Rattle.lanes.specs.declared.view.LaneView.{LaneView}
 use Rattle.lanes.specs.declared.view.Made.TheVariants as made
-use Rattle.lanes.specs.Legal.{Follows, IsOutcomeOf, WentWell}
-use Rattle.lanes.specs.Rule.{HasDone, Meets, lane_ended}
+use Rattle.lanes.specs.Legal.{IsOutcomeOf, WentWell}
+use Rattle.lanes.specs.Rule.{HasDone}
 use Rattle.lanes.proofs.Made.{follows_went}
 use Rattle.lanes.proofs.Vectors.{vector_of}
 

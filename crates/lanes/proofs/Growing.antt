@@ -1,10 +1,8 @@
 -- A legal list that grows at its end, and the steps of one seat in it.
-use Rattle.std.proofs.Common.{◌≡◌, ◌≢◌, ℕ, List, [], ◌∷◌, ◌++◌, Bool, true, false, cond, eqb, refl, sym, ap, ◌∙◌, subst}
-use Rattle.std.proofs.Common.{append_assoc, append-nil, ne_eqb, eq-eqb}
-use Rattle.ufs_spec.specs.Refusals.{State}
-use Rattle.lanes.specs.declared.view.Entry.{Entry}
-use Rattle.lanes.specs.declared.view.Made.{Made}
-use Rattle.lanes.specs.Legal.{Begins, Follows, Legal, mine, step_by}
+use Rattle.lanes.proofs.Common.{Bool, Entry, Follows, Legal, List, Made, State, [], ap, append-nil, append_assoc, cond}
+use Rattle.lanes.proofs.Common.{false, mine, refl, step_by, subst, sym, true, ℕ, ◌++◌, ◌∙◌, ◌∷◌, ◌≡◌, ◌≢◌}
+use Rattle.std.proofs.Common.{eq-eqb, eqb, ne_eqb}
+use Rattle.lanes.specs.Legal.{Begins}
 
 pub legal_more : (s t u : State) (es : List Entry) (e : Entry) → Legal s es t → Follows t e.made u →
     Legal s (es ++ e ∷ []) u

@@ -1,27 +1,22 @@
 -- Behind an abort no reply has the tag of the task, up to the next message with this tag that is taken.
-use Rattle.std.proofs.Common.{◌≡◌, ◌≢◌, ◌∙◌, ℕ, ◌==◌, Bool, true, false, cond, not, List, [], ◌∷◌, ◌++◌, Option}
-use Rattle.std.proofs.Common.{Some, None, filter, refl, sym, ap, subst, inl, inr}
-use Rattle.std.specs.Prelude.{All, Err, Ok, Result}
+use Rattle.lanes.proofs.Common.{Bool, DieState, Done, Entry, Event, Follows, IsLegal, IsOpening, IsStart, Legal, List}
+use Rattle.lanes.proofs.Common.{Made, Message, None, OfReply, Ok, Opening, Option, Output, Reply, Some, State, Turn, []}
+use Rattle.lanes.proofs.Common.{ap, cond, false, inl, inr, refl, spelling, subst, sym, true, ℕ, ◌++◌, ◌∙◌, ◌∷◌, ◌≡◌}
+use Rattle.lanes.proofs.Common.{◌≢◌}
+use Rattle.std.proofs.Common.{filter, not, ◌==◌}
+use Rattle.std.specs.Prelude.{All, Err, Result}
 use Rattle.std.specs.List.{AllByRecursion, list_any}
 use Rattle.std.proofs.lemmas.List.Elements.{recursion_from_All}
 use Rattle.ufs_spec.proofs.Facts.{eqb-self, eqb-true, if_both, none-some, or_parts, same_Some, true≢false}
 use Rattle.ufs_spec.proofs.Lists.{any_none}
-use Rattle.ufs_spec.specs.Dies.{DieState}
 use Rattle.ufs_spec.specs.Exchanges.{Short, Task, is_short_of, is_task_of, task_of}
 use Rattle.ufs_spec.specs.Lives.{IsCall, IsShown}
-use Rattle.ufs_spec.specs.Machine.{Allowed, Answer, Call, Due, Faulty, Heard, Host, IsHeard, OfHost, OfReply, Reply}
-use Rattle.ufs_spec.specs.Machine.{Spelled, Done, Take, Turn}
-use Rattle.ufs_spec.specs.Machine.{behind, carried_out, heard, is_aborted, managed}
-use Rattle.ufs_spec.specs.Machine.{MayHear, message_fault, result_of}
-use Rattle.ufs_spec.specs.Machine.{observe, service, tag_in}
-use Rattle.ufs_spec.specs.Messages.{spelling}
-use Rattle.ufs_spec.specs.Refusals.{State}
-use Rattle.ufs_spec.specs.declared.events.Event.{Event}
+use Rattle.ufs_spec.specs.Machine.{Allowed, Answer, Call, Due, Faulty, Heard, Host, IsHeard, MayHear, OfHost, Spelled}
+use Rattle.ufs_spec.specs.Machine.{Take, behind, carried_out, heard, is_aborted, managed, message_fault, observe}
+use Rattle.ufs_spec.specs.Machine.{result_of, service, tag_in}
 use Rattle.ufs_spec.specs.declared.events.Event.TheVariants as event
-use Rattle.ufs_spec.specs.declared.events.Output.{Output}
 use Rattle.ufs_spec.specs.declared.events.Output.TheVariants as output
 use Rattle.ufs_spec.specs.declared.faults.HostFault.{HostFault}
-use Rattle.ufs_spec.specs.declared.messages.Message.{Message}
 use Rattle.ufs_spec.specs.declared.scsi.Cdb.{Cdb}
 use Rattle.ufs_laws.specs.Exchange.{Every, HasOtherTag, IsSpoken, NoTask}
 use Rattle.ufs_laws.proofs.exchanges.AbortedTasks.{no_reply, task_reply_tag}
@@ -35,13 +30,9 @@ use Rattle.power_loss.proofs.open_tasks.FoundInLists.{found_is, none_found}
 use Rattle.power_loss.proofs.open_tasks.TaggedLists.{each_found}
 use Rattle.power_loss.proofs.open_tasks.TaskLists.{short_fits_at}
 use Rattle.power_loss.specs.Exchange.{TasksDiffer, ValidState}
-use Rattle.lanes.specs.declared.view.Entry.{Entry}
-use Rattle.lanes.specs.declared.view.Made.{Made}
 use Rattle.lanes.specs.declared.view.Made.TheVariants as made
-use Rattle.lanes.specs.declared.view.Opening.{Opening}
 use Rattle.lanes.specs.Aborted.{Aborts, AbortsBehind, IsReplyOf, IsTakenOf}
-use Rattle.lanes.specs.Legal.{Follows, IsToldAs, Legal}
-use Rattle.lanes.specs.Rule.{IsLegal, IsOpening, IsStart}
+use Rattle.lanes.specs.Legal.{IsToldAs}
 use Rattle.lanes.proofs.Opened.{begins, fits_first}
 use Rattle.lanes.proofs.Promises.{life_of}
 use Rattle.lanes.proofs.TaggedMessages.{tag_at, byte, request, one_request, one_short, TakesOther, behind_opens}

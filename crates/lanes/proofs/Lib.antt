@@ -1,3 +1,4 @@
+mod Common
 pub mod Back
 pub mod Dealing
 pub mod DoneJobs

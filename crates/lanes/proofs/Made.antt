@@ -1,33 +1,22 @@
 -- From the core that was taken to the step that was made of it.
-use Rattle.std.proofs.Common.{◌≡◌, ◌∙◌, ℕ, List, [], ◌∷◌, ◌++◌, Bool, true, false, Option, Some, None, refl}
-use Rattle.std.proofs.Common.{sym, ap, subst, ⊎_elim}
+use Rattle.lanes.proofs.Common.{Bool, DeviceCore, Did, DieState, Entry, Event, Fits, Follows, Job, LaneView, List, Made}
+use Rattle.lanes.proofs.Common.{Me, Meets, Message, None, OfReply, Ok, Option, Output, Reply, Some, State, Stepped}
+use Rattle.lanes.proofs.Common.{Turn, Vec, View, WorldState, [], ap, false, lane_given, mine, new_die, numbers_of, refl}
+use Rattle.lanes.proofs.Common.{shown, spelling, step_by, subst, sym, true, ℕ, ⊎_elim, ◌++◌, ◌∙◌, ◌∷◌, ◌≡◌}
 use Rattle.std.proofs.lemmas.List.{set-get_or}
-use Rattle.std.specs.Global.{Vec}
-use Rattle.std.specs.Prelude.{Ok, Result, slice_set}
-use Rattle.atomic_table.specs.Table.{Me, rest}
-use Rattle.ufs_spec.specs.Dies.{DieState, new_die}
+use Rattle.std.specs.Prelude.{Result, slice_set}
+use Rattle.atomic_table.specs.Table.{rest}
 use Rattle.ufs_spec.specs.Lives.{IsShown, Leads, Reopens}
-use Rattle.ufs_spec.specs.Machine.{OfReply, OfTurn, Reply, Turn}
-use Rattle.ufs_spec.specs.Messages.{spelling}
-use Rattle.ufs_spec.specs.Refusals.{State, numbers_of}
-use Rattle.ufs_spec.specs.declared.events.Event.{Event}
+use Rattle.ufs_spec.specs.Machine.{OfTurn}
 use Rattle.ufs_spec.specs.declared.events.Event.TheVariants as event
-use Rattle.ufs_spec.specs.declared.events.Output.{Output}
 use Rattle.ufs_spec.specs.declared.events.Output.TheVariants as output
 use Rattle.ufs_spec.specs.declared.faults.HostFault.{HostFault}
-use Rattle.ufs_spec.specs.declared.flash.Job.{Job}
-use Rattle.ufs_spec.specs.declared.messages.Message.{Message}
 use Rattle.device.specs.Describes.{Describes, IsAnswered, IsGiven, IsHeardAs, IsReplied}
-use Rattle.device.specs.Kept.{DeviceCore, WorldState}
-use Rattle.device.specs.Worlds.{Fits, Went, jobs_given}
+use Rattle.device.specs.Worlds.{Went, jobs_given}
 use Rattle.device.proofs.dies_of_world.WentRight.{given_went, heard_went, replied_went, silent_went, stepped_went}
-use Rattle.lanes.specs.declared.view.Entry.{Entry}
-use Rattle.lanes.specs.declared.view.LaneView.{LaneView}
-use Rattle.lanes.specs.declared.view.Made.{Made}
 use Rattle.lanes.specs.declared.view.Made.TheVariants as made
-use Rattle.lanes.specs.declared.view.View.{View}
-use Rattle.lanes.specs.Legal.{Follows, IsReplyTold, IsToldAs, IsToldRight, mine, shown, step_by}
-use Rattle.lanes.specs.Rule.{Agrees, Did, HasTaken, IsAt, IsLaneOf, IsLegalIf, Meets, Stepped, job_given, lane_given}
+use Rattle.lanes.specs.Legal.{IsReplyTold, IsToldAs, IsToldRight}
+use Rattle.lanes.specs.Rule.{Agrees, HasTaken, IsAt, IsLaneOf, IsLegalIf, job_given}
 use Rattle.lanes.proofs.Growing.{mine-own}
 
 first_slot : (xs : List (ℕ × DeviceCore)) (a b : DeviceCore) → xs ≡ (0, a) ∷ [] → xs ≡ (0, b) ∷ rest xs → a ≡ b

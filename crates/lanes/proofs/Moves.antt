@@ -1,22 +1,17 @@
 -- Each step on the table keeps its rule.
-use Rattle.std.proofs.Common.{◌≡◌, ◌≢◌, ℕ, zero, suc, ◌<◌, ◌≤◌, Bool, true, false, List, [], ◌∷◌, ◌++◌, length, set}
-use Rattle.std.proofs.Common.{get_or, Option, Some, None, refl, sym, ap, ◌∙◌, subst, inr, ⊎_elim, arith, length-set}
-use Rattle.std.proofs.Common.{get_or-set_same}
+use Rattle.lanes.proofs.Common.{Allows, Apart, AtHome, Bool, DeviceCore, DieState, Entry, IsOut, Kept, Knows, LaneView}
+use Rattle.lanes.proofs.Common.{List, None, Opening, Option, Some, View, WorldState, [], ap, arith, false, inr, length}
+use Rattle.lanes.proofs.Common.{mine, refl, set, set_else, set_here, subst, suc, sym, true, zero, ℕ, ⊎_elim, ◌++◌, ◌<◌}
+use Rattle.lanes.proofs.Common.{◌∙◌, ◌∷◌, ◌≡◌, ◌≢◌, ◌≤◌}
+use Rattle.std.proofs.Common.{get_or, get_or-set_same, length-set}
 use mathlib.Core.Option as maybe
 use lib.ListN.{get_elem?}
 use mathlib.Core.Logic.{dite}
 use native.Mathlib.Decide.{ℕ_discrete}
 use Rattle.atomic_table.specs.Table as table
-use Rattle.atomic_table.specs.Table.{Allows, keeps, takes}
-use Rattle.atomic_table.proofs.Lists.{at_set, set_again, set_else, set_here}
-use Rattle.ufs_spec.specs.Dies.{DieState}
-use Rattle.device.specs.Kept.{DeviceCore, WorldState}
-use Rattle.lanes.specs.declared.view.Entry.{Entry}
-use Rattle.lanes.specs.declared.view.LaneView.{LaneView}
-use Rattle.lanes.specs.declared.view.Opening.{Opening}
-use Rattle.lanes.specs.declared.view.View.{View}
-use Rattle.lanes.specs.Legal.{mine}
-use Rattle.lanes.specs.Rule.{Apart, AtHome, Deals, HasTaken, IsOut, Kept, Knows, Seized}
+use Rattle.atomic_table.specs.Table.{keeps, takes}
+use Rattle.atomic_table.proofs.Lists.{at_set, set_again}
+use Rattle.lanes.specs.Rule.{Deals, HasTaken, Seized}
 use Rattle.lanes.proofs.Growing.{begins_whole}
 
 module _ {D : Type 0} where

@@ -1,25 +1,19 @@
 -- A device as its opening gave it: there is a state that it is opened in, and it fits each such state.
-use Rattle.std.proofs.Common.{◌≡◌, ◌∙◌, ◌≤◌, ℕ, zero, suc, List, [], ◌∷◌, length, map, refl, sym, ap, subst, arith}
-use Rattle.std.specs.Global.{Vec}
-use Rattle.std.specs.List.{All}
+use Rattle.lanes.proofs.Common.{All, DeviceCore, DieState, Fits, IsOpening, IsStart, List, Numbers, Opening, State}
+use Rattle.lanes.proofs.Common.{Undealt, Vec, [], ap, arith, array_of, length, length-replicate, map, new_die, refl}
+use Rattle.lanes.proofs.Common.{subst, suc, sym, zero, ℕ, ◌∙◌, ◌∷◌, ◌≡◌, ◌≤◌}
 use Rattle.std.specs.Prelude.{None, Option, Some, replicate}
 use Rattle.std.specs.Vec.{with_items}
-use Rattle.std.proofs.lemmas.List.{length-replicate, with_items_is}
-use Rattle.ufs_spec.specs.Dies.{DieState, new_die}
-use Rattle.ufs_spec.specs.Lives.{Fit, IsOpened, array_of, bad_of}
-use Rattle.ufs_spec.specs.Refusals.{State}
-use Rattle.ufs_spec.specs.declared.configs.Numbers.{Numbers}
+use Rattle.std.proofs.lemmas.List.{with_items_is}
+use Rattle.ufs_spec.specs.Lives.{Fit, IsOpened, bad_of}
 use Rattle.power_loss.proofs.die_pages.BlankOutsideDies.{fit_inside, new_die_is, new_fit, new_opens}
 use Rattle.power_loss.proofs.openings.EachSoundArrayOpens.{any_opens}
 use Rattle.power_loss.proofs.stops.SealedCells.{ranges_of}
 use Rattle.ufs_spec.specs.Configs.{IsConfig}
 use Rattle.power_loss.specs.Runs.{AreNewDies, IsNewDie}
-use Rattle.device.specs.Kept.{DeviceCore}
-use Rattle.device.specs.Worlds.{Fits}
 use Rattle.device.proofs.dies_of_world.OpenedWorld.{IsOpenedOver, opened_fits}
-use Rattle.lanes.specs.Callers.{IsOpenedWith, Undealt}
-use Rattle.lanes.specs.declared.view.Opening.{Opening}
-use Rattle.lanes.specs.Rule.{IsOpening, IsOpeningOf, IsStart, IsStartOver, opened_world, world_over}
+use Rattle.lanes.specs.Callers.{IsOpenedWith}
+use Rattle.lanes.specs.Rule.{IsOpeningOf, IsStartOver, opened_world, world_over}
 
 all_same : {A : Type 0} (P : A → Type 0) (count : ℕ) (x : A) → P x → All P (replicate count x)
 all_same P zero x h k d less = absurd (omega (less, arith))

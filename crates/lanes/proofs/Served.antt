@@ -1,13 +1,9 @@
 -- The keeper makes one turn more, and a lane one step more.
-use Rattle.std.proofs.Common.{◌≡◌, ◌∙◌, ℕ, suc, Bool, Option, Some, None, ap, inl, inr, refl, subst}
-use Rattle.ufs_spec.specs.Dies.{DieState}
-use Rattle.ufs_spec.specs.declared.flash.Job.{Job}
-use Rattle.lanes.specs.Callers.{job_of}
-use Rattle.lanes.specs.Rule.{Did, job_given, lane_given}
+use Rattle.lanes.proofs.Common.{Bool, Did, DieState, Job, LaneView, None, Option, Some, View, ap, inl, inr, job_of}
+use Rattle.lanes.proofs.Common.{lane_given, refl, subst, suc, ℕ, ◌∙◌, ◌≡◌}
+use Rattle.lanes.specs.Rule.{job_given}
 use Rattle.lanes.specs.Serving.{HasAsked, HasFinished, HasServed, HasTurned}
-use Rattle.lanes.specs.declared.view.LaneView.{LaneView}
 use Rattle.lanes.specs.declared.view.Made.TheVariants as made
-use Rattle.lanes.specs.declared.view.View.{View}
 
 pub turned_more : {D : Type 0} (state : D → DieState) (v u w : View D) (due : Bool) →
     HasTurned state v u → Did state u (made.Turn due) None w → HasTurned state v w

@@ -1,23 +1,21 @@
 -- Which tag a message has by its bytes, and what the short exchanges and the tasks of a tag are along a step.
-use Rattle.std.proofs.Common.{◌≡◌, ◌≢◌, ◌∙◌, ℕ, ◌==◌, ◌&&◌, true, false, not, List, [], ◌∷◌, ◌++◌, Option}
-use Rattle.std.proofs.Common.{Some, None, find, length, map, nat_le, refl, ap, arith}
-use Rattle.std.specs.Prelude.{Ok, slice_index}
+use Rattle.lanes.proofs.Common.{Done, List, Message, None, OfReply, Ok, Option, Reply, Some, State, Turn, [], ap, arith}
+use Rattle.lanes.proofs.Common.{false, length, map, refl, spelling, true, ℕ, ◌++◌, ◌∙◌, ◌∷◌, ◌≡◌, ◌≢◌}
+use Rattle.std.proofs.Common.{find, nat_le, not, ◌&&◌, ◌==◌}
+use Rattle.std.specs.Prelude.{slice_index}
 use Rattle.std.specs.List.{list_any}
 use Rattle.std.proofs.lemmas.Bool.{ne_eqb}
 use Rattle.ufs_spec.proofs.Facts.{if_both}
 use Rattle.ufs_spec.specs.Commands.{Command}
 use Rattle.ufs_spec.specs.Exchanges.{Short, Task, is_short_of, most_tasks, response, short_reply, task_of}
-use Rattle.ufs_spec.specs.Exchanges.{TaskSetFull}
-use Rattle.ufs_spec.specs.Machine.{Allowed, Answer, Call, Faulty, Host, OfHost, OfReply, Reply}
-use Rattle.ufs_spec.specs.Machine.{Spelled, Done, OfDone, OfTake, OfTurn, Take, Turn}
-use Rattle.ufs_spec.specs.Machine.{behind, command_taken, fills, heard, lock_applied}
-use Rattle.ufs_spec.specs.Machine.{observe, refused_or_begun, replied_by, service, short_locked, short_replied, tag_in}
-use Rattle.ufs_spec.specs.Machine.{task_filled, task_locked, with_short}
-use Rattle.ufs_spec.specs.Messages.{spelling}
+use Rattle.ufs_spec.specs.declared.exchanges.Status.TheVariants.{TaskSetFull}
+use Rattle.ufs_spec.specs.Machine.{Allowed, Answer, Call, Faulty, Host, OfDone, OfHost, OfTake, OfTurn, Spelled, Take}
+use Rattle.ufs_spec.specs.Machine.{behind, command_taken, fills, heard, lock_applied, observe, refused_or_begun}
+use Rattle.ufs_spec.specs.Machine.{replied_by, service, short_locked, short_replied, tag_in, task_filled, task_locked}
+use Rattle.ufs_spec.specs.Machine.{with_short}
 use Rattle.ufs_spec.specs.Queries.{Query, setting_of}
 use Rattle.ufs_spec.specs.QueryAnswers.{query_heard, query_passed}
-use Rattle.ufs_spec.specs.Refusals.{Request, State, locked, refusal}
-use Rattle.ufs_spec.specs.declared.messages.Message.{Message}
+use Rattle.ufs_spec.specs.Refusals.{Request, locked, refusal}
 use Rattle.ufs_spec.specs.declared.messages.Message.TheVariants as message
 use Rattle.ufs_spec.specs.declared.scsi.Cdb.{Cdb}
 use Rattle.ufs_laws.specs.Exchange.{HasOtherTag, IsAskedIn, IsSpoken, NoTask}

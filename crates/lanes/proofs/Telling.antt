@@ -1,22 +1,17 @@
 -- A seat is told what another has seen.
-use Rattle.std.proofs.Common.{◌≡◌, ◌≢◌, ◌⊎◌, ℕ, ◌<◌, ◌≤◌, true, false, cond, nat_le, List, [], ◌∷◌, ◌++◌, length, set}
-use Rattle.std.proofs.Common.{get_or, Some, None, refl, sym, ap, ◌∙◌, subst, inl, inr, ⊎_elim, arith, length-append}
-use Rattle.std.proofs.Common.{append_assoc, append-nil}
+use Rattle.lanes.proofs.Common.{Allows, Apart, AtHome, DeviceCore, DieState, Entry, IsOut, Kept, Knows, LaneView, List}
+use Rattle.lanes.proofs.Common.{None, Opening, Some, Splits, View, [], ap, append-nil, append_assoc, arith, cond, false}
+use Rattle.lanes.proofs.Common.{inl, inr, length, mine, refl, set, set_else, subst, sym, true, ℕ, ⊎_elim, ◌++◌, ◌<◌}
+use Rattle.lanes.proofs.Common.{◌∙◌, ◌∷◌, ◌≡◌, ◌≢◌, ◌≤◌}
+use Rattle.std.proofs.Common.{get_or, length-append, nat_le, ◌⊎◌}
 use mathlib.Core.Option as maybe
 use lib.ListN.{get_elem?}
 use Rattle.std.proofs.lemmas.Bool.Decides.{leb_tells}
 use Rattle.atomic_table.specs.Table as table
-use Rattle.atomic_table.specs.Table.{Allows, Joins, Splits, keeps}
-use Rattle.atomic_table.proofs.Lists.{at_longer, set_again, set_else}
-use Rattle.ufs_spec.specs.Dies.{DieState}
-use Rattle.device.specs.Kept.{DeviceCore}
-use Rattle.lanes.specs.declared.view.Entry.{Entry}
-use Rattle.lanes.specs.declared.view.LaneView.{LaneView}
-use Rattle.lanes.specs.declared.view.Opening.{Opening}
-use Rattle.lanes.specs.declared.view.View.{View}
-use Rattle.lanes.specs.Legal.{Begins, mine}
-use Rattle.lanes.specs.Rule.{Apart, AtHome, HasHeard, HasMet, IsOut, Kept, Knows, Looked, both, longer, messenger}
-use Rattle.lanes.specs.Rule.{spent}
+use Rattle.atomic_table.specs.Table.{Joins, keeps}
+use Rattle.atomic_table.proofs.Lists.{at_longer, set_again}
+use Rattle.lanes.specs.Legal.{Begins}
+use Rattle.lanes.specs.Rule.{HasHeard, HasMet, Looked, both, longer, messenger, spent}
 use Rattle.lanes.proofs.Dealing.{at_more, each_more, two_more}
 use Rattle.lanes.proofs.Growing.{mine-append}
 use Rattle.lanes.proofs.Moves.{apart_flip, deals_same, each_set, one_word_is, some_not_none, two_set}

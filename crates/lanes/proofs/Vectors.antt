@@ -1,6 +1,6 @@
 -- A vector with given elements.
-use Rattle.std.proofs.Common.{◌≡◌, ◌<◌, ◌^◌, List, length, refl, arith}
-use Rattle.std.specs.Global.{Vec}
+use Rattle.lanes.proofs.Common.{List, Vec, arith, length, refl, ◌<◌, ◌≡◌}
+use Rattle.std.proofs.Common.{◌^◌}
 use Rattle.std.specs.Ptr.{null_ptr}
 
 pub vector_of : {A : Type 0} → (xs : List A) → length xs < 2 ^ 63 → (v : Vec A) × (v.items ≡ xs)

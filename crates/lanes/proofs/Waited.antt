@@ -1,12 +1,8 @@
 -- A host that asks once more.
-use Rattle.std.proofs.Common.{◌≡◌, ℕ, suc, List, Bool, false, subst}
+use Rattle.lanes.proofs.Common.{Bool, Did, DieState, List, View, false, shown, subst, suc, ℕ, ◌≡◌}
 use Rattle.std.specs.Prelude.{None}
-use Rattle.ufs_spec.specs.Dies.{DieState}
-use Rattle.lanes.specs.Legal.{shown}
-use Rattle.lanes.specs.Rule.{Did}
 use Rattle.lanes.specs.Waiting.{AskedInVain}
 use Rattle.lanes.specs.declared.view.Made.TheVariants as made
-use Rattle.lanes.specs.declared.view.View.{View}
 
 pub asked_more : {D : Type 0} (state : D → DieState) (v u w : View D) (due : Bool) (bytes : List ℕ) →
     AskedInVain state v u → due ≡ false → Did state u (made.Reply (shown due bytes)) None w → AskedInVain state v w

@@ -1,8 +1,9 @@
 -- The first two lines of the table by which a command is refused (JESD220, 10.8).
-use Rattle.std.specs.Prelude.{ℕ, ◌&&◌, Bool, true, false, is_none, not, [], ◌∷◌, Option, Some, None, Result, Ok}
-use Rattle.std.specs.Prelude.{Err}
+use Rattle.std.specs.Prelude.{Bool, Err, None, Ok, Option, Result, Some, [], false, is_none, not, true, ℕ, ◌&&◌, ◌∷◌}
 use Rattle.ufs_spec.specs.CdbFields.{row_of}
-use Rattle.ufs_spec.specs.Exchanges.{CheckCondition, Status, invalid_operation, no_unit}
+use Rattle.ufs_spec.specs.Exchanges.{invalid_operation, no_unit}
+use Rattle.ufs_spec.specs.declared.exchanges.Status.{Status}
+use Rattle.ufs_spec.specs.declared.exchanges.Status.TheVariants.{CheckCondition}
 use Rattle.ufs_spec.specs.Refusals.{BootUnit, Lun, first_line, is_boot_read, line, takes_row, unit_named}
 use Rattle.ufs_spec.specs.declared.configs.Numbers.{Numbers}
 use Rattle.ufs_spec.specs.declared.operations.Row.{Row}

@@ -1,17 +1,11 @@
 -- How many blocks are free: no fewer where each block that was free is so, one less at the most where all but one are,
 -- and one more where each is and another is free too. And how many are bad.
-use Rattle.std.proofs.Common.{◌≡◌, ◌≢◌, ℕ, ◌+◌, ◌≤◌, Bool, cond, true, false, refl, sym, ap, ◌∙◌, ⊎_elim, arith}
-use Rattle.std.specs.List.{count_by}
-use Rattle.ufs_spec.proofs.Updates.{at_spot_cases}
-use Rattle.ufs_spec.specs.Disk.{BlockState, Bad, Closed, Filling, Free, Spot, at_spot}
-use Rattle.ufs_spec.specs.Translation.{is_bad, is_free, spots}
-use Rattle.ufs_spec.specs.declared.configs.Numbers.{Numbers}
-use Rattle.power_loss.proofs.openings.OpenedPages.{free_or_not}
-use Rattle.power_loss.proofs.ordered_lists.ElementsAndOrders.{in_spots, spots_in}
-use Rattle.power_loss.proofs.room_to_mend.RoomInBlocks.{sum_no_less}
-use Rattle.power_loss.specs.Exchange.{IsSpot}
+use Rattle.many_stops.proofs.Common.{Bad, BlockState, Bool, Closed, Filling, Free, IsSpot, Numbers, Spot, ap, arith}
+use Rattle.many_stops.proofs.Common.{at_spot, at_spot_cases, bad_count, cond, count_by, false, free_count, free_or_not}
+use Rattle.many_stops.proofs.Common.{in_spots, is_bad, is_free, refl, spots, sum_no_less, sym, true, ℕ, ⊎_elim, ◌+◌}
+use Rattle.many_stops.proofs.Common.{◌∙◌, ◌≡◌, ◌≢◌, ◌≤◌}
+use Rattle.power_loss.proofs.ordered_lists.ElementsAndOrders.{spots_in}
 use Rattle.many_stops.proofs.room_left.SumsOfRoom.{spot_told, spots_apart, sum_less, sum_more}
-use Rattle.many_stops.specs.RoomOfGroups.{bad_count, free_count}
 
 -- a block counts if it is free
 abbrev weight : BlockState → ℕ

@@ -1,3 +1,4 @@
+mod Common
 pub mod CountedBlocks
 pub mod finding_room
 pub mod free_at_stops

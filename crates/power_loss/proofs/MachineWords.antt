@@ -19,9 +19,17 @@ pub use Rattle.ufs_spec.specs.Cdbs.{address_of, blocks_of}
 pub use Rattle.ufs_spec.specs.Commands.{Command, Write}
 pub use Rattle.ufs_spec.specs.Configs.{IsConfig}
 pub use Rattle.ufs_spec.specs.Dies.{DieState, blank_page}
-pub use Rattle.ufs_spec.specs.Exchanges.{Answering, Awaiting, Deed, ForFrames, ForUnmap, ForWrite, Gathering, Good}
-pub use Rattle.ufs_spec.specs.Exchanges.{NotRead, Purpose, ReadBlock, ReadState, Sending, SendingBytes, Short, Status}
-pub use Rattle.ufs_spec.specs.Exchanges.{Task, TaskSetFull, Unread, WasRead, count_at, invalid_operation, is_asked_in}
+pub use Rattle.ufs_spec.specs.Exchanges.{Answering, Awaiting, Deed, Gathering}
+pub use Rattle.ufs_spec.specs.declared.exchanges.Status.TheVariants.{Good}
+pub use Rattle.ufs_spec.specs.declared.exchanges.Purpose.TheVariants.{ForFrames, ForUnmap, ForWrite}
+pub use Rattle.ufs_spec.specs.Exchanges.{ReadBlock, Sending, SendingBytes, Short}
+pub use Rattle.ufs_spec.specs.declared.exchanges.ReadState.{ReadState}
+pub use Rattle.ufs_spec.specs.declared.exchanges.ReadState.TheVariants.{NotRead}
+pub use Rattle.ufs_spec.specs.declared.exchanges.Status.{Status}
+pub use Rattle.ufs_spec.specs.declared.exchanges.Purpose.{Purpose}
+pub use Rattle.ufs_spec.specs.Exchanges.{Task, count_at, invalid_operation, is_asked_in}
+pub use Rattle.ufs_spec.specs.declared.exchanges.ReadState.TheVariants.{Unread, WasRead}
+pub use Rattle.ufs_spec.specs.declared.exchanges.Status.TheVariants.{TaskSetFull}
 pub use Rattle.ufs_spec.specs.Exchanges.{is_asked_of, is_short_of, is_task_of, no_unit, response, short_reply, task_of}
 pub use Rattle.ufs_spec.specs.Exchanges.{ReadingArea, Registers, RpmbRequest, with_deed, without_short, without_task}
 pub use Rattle.ufs_spec.specs.Exchanges.{write_error}

@@ -1,12 +1,13 @@
 -- What open tasks are by their commands: what gathers data does so for its command, and what a request for data reads
 -- of the RPMB area shows the area as it is now, as long as the request is open, since only one task at a time can
 -- change the area (JESD220, 12.4).
-use Rattle.std.specs.Prelude.{◌≡◌, ℕ, ◌+◌, Bool, true, false, List, [], ◌∷◌, length, map, slice_get, Option, Some}
-use Rattle.std.specs.Prelude.{None}
+use Rattle.std.specs.Prelude.{Bool, List, None, Option, Some, [], false, length, map, slice_get, true, ℕ, ◌+◌, ◌∷◌, ◌≡◌}
 use Rattle.std.specs.List.{AllByRecursion, list_any}
 use Rattle.ufs_spec.specs.CdbFields.{kind_of}
 use Rattle.ufs_spec.specs.Cdbs.{address_of, blocks_of}
-use Rattle.ufs_spec.specs.Exchanges.{Answering, Awaiting, Deed, ForFrames, ForUnmap, ForWrite, Gathering, Purpose}
+use Rattle.ufs_spec.specs.Exchanges.{Answering, Awaiting, Deed, Gathering}
+use Rattle.ufs_spec.specs.declared.exchanges.Purpose.{Purpose}
+use Rattle.ufs_spec.specs.declared.exchanges.Purpose.TheVariants.{ForFrames, ForUnmap, ForWrite}
 use Rattle.ufs_spec.specs.Exchanges.{ReadBlock, ReadingArea, RpmbRequest, Sending, SendingBytes, Task}
 use Rattle.ufs_spec.specs.FrameRequests.{first_page, pages_named}
 use Rattle.ufs_spec.specs.Frames.{Frame}

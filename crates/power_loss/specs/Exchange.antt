@@ -3,21 +3,20 @@
 use Rattle.std.specs.Prelude.{◌≡◌, ◌⊎◌, ℕ, ◌+◌, ◌*◌, ◌<◌, ◌≤◌, ◌==◌, Bool, true, false, List, [], ◌∷◌, length}
 use Rattle.std.specs.Prelude.{Option, Some, None, slice_index_or}
 use Rattle.std.specs.List.{AllByRecursion, list_any}
-use Rattle.ufs_spec.specs.Pages.{greatest_number}
+use Rattle.ufs_spec.specs.Pages.{greatest_number, group_bound}
 use Rattle.ufs_spec.specs.Cells.{Array, Cell, DataHold, IsCell, IsPlace, Opens, Shows}
 use Rattle.ufs_spec.specs.Configs.{IsConfig, command_blocks}
 use Rattle.ufs_spec.specs.Dies.{blank_page}
 use Rattle.ufs_spec.specs.Disk.{Erasing, Programming, Spot, page_of}
-use Rattle.ufs_spec.specs.Exchanges.{Answering, Awaiting, Deed, ForFrames, ForUnmap, ForWrite, Gathering}
+use Rattle.ufs_spec.specs.Exchanges.{Answering, Awaiting, Deed, Gathering}
+use Rattle.ufs_spec.specs.declared.exchanges.Purpose.TheVariants.{ForFrames, ForUnmap, ForWrite}
 use Rattle.ufs_spec.specs.Exchanges.{ReadingArea, Sending, SendingBytes, Short, Task, is_short_of}
 use Rattle.ufs_spec.specs.Keys.{CanApplyAll, IsBlock, IsKey, IsPlain, IsSettingsBody, content, groups_of}
 use Rattle.ufs_spec.specs.Ledger.{Entry, accepted_groups, before_accepted}
 use Rattle.ufs_spec.specs.Machine.{Call, Done, Host, IsHeard, MayLeave, claimed_by, tag_in}
 use Rattle.ufs_spec.specs.Messages.{AreBytes}
-use Rattle.ufs_spec.specs.Pages.{group_bound}
-use Rattle.ufs_spec.specs.Plain.{shape_of, shape_of_numbers}
+use Rattle.ufs_spec.specs.Plain.{HasRegion, shape_of, shape_of_numbers}
 use Rattle.ufs_spec.specs.Refusals.{State, numbers_of, slots_for_frames}
-use Rattle.ufs_spec.specs.Plain.{HasRegion, shape_of_numbers}
 use Rattle.ufs_spec.specs.Translation.{is_mended}
 use Rattle.ufs_spec.specs.declared.configs.Numbers.{Numbers}
 use Rattle.ufs_spec.specs.declared.flash.Place.{Place}

@@ -7,8 +7,7 @@ use Rattle.ufs_spec.specs.Disk.{BlockState, Bad, Closed, Disk, Erasing, Filling,
 use Rattle.ufs_spec.specs.Disk.{Reading, Ready, Spot, Stale, Vacancy, spot_of}
 use Rattle.ufs_spec.specs.Keys.{Group, Item, put_groups}
 use Rattle.ufs_spec.specs.Kept.{HoldAll, IsKept, IsNewestMark, recorded_in}
-use Rattle.ufs_spec.specs.Ledger.{Entry, Ledger, accepted_groups}
-use Rattle.ufs_spec.specs.Ledger.{before_accepted}
+use Rattle.ufs_spec.specs.Ledger.{Entry, Ledger, accepted_groups, before_accepted}
 use Rattle.ufs_spec.specs.Openings.{IsFirstFence, IsSpare, number_of}
 use Rattle.ufs_spec.specs.Sound.{CellsSound, CellsSuit}
 use Rattle.ufs_spec.specs.Translation.{CopyStep, FromPage, FromSlot, MarkStep, Mended, Mending, Pin, Plan, RepairStep}

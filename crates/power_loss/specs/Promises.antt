@@ -4,7 +4,8 @@ use Rattle.std.specs.Prelude.{◌≡◌, ℕ, ◌*◌, ◌<◌, ◌≤◌, ◌==
 use Rattle.std.specs.Prelude.{find, length, slice_get, Option, Some, Ok}
 use Rattle.std.specs.Global.{Vec}
 use Rattle.ufs_spec.specs.Commands.{Write}
-use Rattle.ufs_spec.specs.Exchanges.{Good, Short, is_short_of, status_byte, task_of}
+use Rattle.ufs_spec.specs.Exchanges.{Short, is_short_of, status_byte, task_of}
+use Rattle.ufs_spec.specs.declared.exchanges.Status.TheVariants.{Good}
 use Rattle.ufs_spec.specs.Lives.{Leads, Life, held}
 use Rattle.ufs_spec.specs.Machine.{Allowed, Answer, Reply, Call, Heard, OfHost, Host, IsHeard, OfReply, Spelled}
 use Rattle.ufs_spec.specs.Machine.{blocks_in, observe, tag_in}

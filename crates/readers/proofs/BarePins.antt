@@ -1,12 +1,10 @@
 -- What becomes of pins changes no page that is live.
-use Rattle.std.proofs.Common.{◌≡◌, ◌∙◌, Bool, true, false, List, [], ◌∷◌, refl}
-use Rattle.std.specs.Prelude.{fold, if◌then◌else◌}
+use Rattle.readers.proofs.Common.{Bool, List, Lives, Pin, [], false, fold, if◌then◌else◌, let_go, pin_moves, refl, true}
+use Rattle.readers.proofs.Common.{without_pins, ◌∙◌, ◌∷◌, ◌≡◌}
 use Rattle.ufs_spec.specs.declared.layer.Looked.{Looked}
 use Rattle.ufs_spec.specs.declared.layer.Looked.TheVariants.{InSlot, OnPage, Unwritten}
-use Rattle.block_table.specs.Lives.{Lives}
 use Rattle.unit_map.specs.declared.Stored.{Stored}
-use Rattle.readers.specs.declared.pin.Pin.{Pin}
-use Rattle.readers.specs.Pins.{block_pinned, block_unpinned, is_slot_of, let_go, pin_moves, without_pins}
+use Rattle.readers.specs.Pins.{block_pinned, block_unpinned, is_slot_of}
 
 pub pinned_bare : (l : Lives) (k : Looked) → without_pins (block_pinned l k) ≡ without_pins l
 pinned_bare l (OnPage name p) = refl

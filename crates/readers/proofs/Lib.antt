@@ -1,3 +1,4 @@
+mod Common
 pub mod BarePins
 pub mod Rises
 pub mod RowWalks

@@ -1,10 +1,8 @@
 -- A row stays one of rising indices, and its counts stay right.
-use Rattle.std.proofs.Common.{◌≡◌, ◌∙◌, ℕ, ◌+◌, ◌≤◌, Bool, true, false, cond, List, [], ◌∷◌, ◌++◌}
-use Rattle.std.proofs.Common.{ap, arith, map, refl, subst, sym}
-use Rattle.std.specs.Prelude.{count_by, filter}
+use Rattle.readers.proofs.Common.{Bool, List, Pin, Rises, [], ap, arith, count_by, false, filter, map, refl, subst, sym}
+use Rattle.readers.proofs.Common.{true, ℕ, ◌++◌, ◌+◌, ◌∙◌, ◌∷◌, ◌≡◌, ◌≤◌}
+use Rattle.std.proofs.Common.{cond}
 use Rattle.std.proofs.lemmas.List.Sums.{sum_by-append, sum_by-cons}
-use Rattle.readers.specs.declared.pin.Pin.{Pin}
-use Rattle.readers.specs.Rows.{Rises}
 
 pub rises_below : (reader above below next : ℕ) (ps : List Pin) → below ≤ above → Rises reader above next ps →
     Rises reader below next ps

@@ -1,19 +1,19 @@
 -- A walk over rows, each of which changes or goes: what is done to the rows before a place and is still to be done to
 -- those from there on comes to the same from place to place.
-use Rattle.std.proofs.Common.{◌≡◌, ◌∙◌, ℕ, ◌+◌, ◌-◌, ◌<◌, ◌≤◌, Bool, List, [], ◌∷◌, ◌++◌, append_assoc, drop, get_or}
-use Rattle.std.proofs.Common.{ap, arith, false, is_some, length, refl, slice_set, subst, sym, take, true, Option, None, Some}
-use Rattle.std.specs.Prelude.{◌==◌, find, fold, if◌then◌else◌}
+use Rattle.readers.proofs.Common.{Bool, List, Lives, Pin, RowPins, [], ap, arith, drop, false, find, fold, get_or}
+use Rattle.readers.proofs.Common.{if◌then◌else◌, length, length-append, pins_in, refl, slice_set, subst, sym, take}
+use Rattle.readers.proofs.Common.{true, ℕ, ◌++◌, ◌+◌, ◌-◌, ◌<◌, ◌∙◌, ◌∷◌, ◌≡◌, ◌≤◌}
+use Rattle.std.proofs.Common.{None, Option, Some, append_assoc, is_some}
+use Rattle.std.specs.Prelude.{◌==◌}
 use Rattle.std.specs.Option.{option_or}
-use Rattle.std.proofs.lemmas.List.{append-nil, drop_all, drop_more, take_all, take_more_set, drop-set-lt}
-use Rattle.std.proofs.lemmas.List.{length-append, length-set, length-take, take-append-drop, take-set}
+use Rattle.std.proofs.lemmas.List.{append-nil, drop-set-lt, drop_all, drop_more, take_all, take_more_set}
+use Rattle.std.proofs.lemmas.List.{length-set, length-take, take-append-drop, take-set}
 use Rattle.std.proofs.Math.Seq.{drop-append_seam, take-append_seam}
 use Rattle.std.proofs.lemmas.List.Folds.{find-append}
 use Rattle.std.proofs.lemmas.Option.{slice_get_read}
 use Rattle.std.proofs.lemmas.List.Sums.{fold-append}
 use Rattle.ufs_spec.proofs.Facts.{eqb-true, false≢true, true≢false}
-use Rattle.block_table.specs.Lives.{Lives}
-use Rattle.readers.specs.declared.pin.Pin.{Pin}
-use Rattle.readers.specs.Rows.{AreFilled, RowPins, last_takes, pins_in, row_of, takes, takes_at, with_pin}
+use Rattle.readers.specs.Rows.{AreFilled, last_takes, row_of, takes, takes_at, with_pin}
 
 pub pins_both : (rs ts : List RowPins) → pins_in (rs ++ ts) ≡ pins_in rs ++ pins_in ts
 pins_both [] ts = refl

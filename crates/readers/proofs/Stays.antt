@@ -1,20 +1,19 @@
 -- Pins of which no call speaks stay as they are.
-use Rattle.std.proofs.Common.{◌≡◌, ◌≢◌, ◌∙◌, ℕ, ◌+◌, ◌<◌, ◌==◌, Bool, true, false, ◌&&◌, not, cond, List, [], ◌∷◌}
-use Rattle.std.proofs.Common.{ap, arith, drop, map, refl, subst, sym, take, None, Some}
-use Rattle.std.specs.Prelude.{Option, count_by, filter, find, fold, if◌then◌else◌, slice_index_or}
+use Rattle.readers.proofs.Common.{Bool, List, Lives, Pin, Rises, RowPins, [], ap, arith, count_by, drop, false, filter}
+use Rattle.readers.proofs.Common.{find, fold, if◌then◌else◌, is_of_reader, is_owed_by, is_pin_of, is_slotted, is_wanted}
+use Rattle.readers.proofs.Common.{let_go, map, moved_pin, not, pin_moves, refl, subst, sym, take, true, wanted_no_more}
+use Rattle.readers.proofs.Common.{wanted_now, with_pins, ℕ, ◌+◌, ◌<◌, ◌∙◌, ◌∷◌, ◌≡◌}
+use Rattle.std.proofs.Common.{None, Some, cond, ◌&&◌, ◌==◌, ◌≢◌}
+use Rattle.std.specs.Prelude.{Option, slice_index_or}
 use Rattle.std.proofs.lemmas.Bool.{and_right}
 use Rattle.std.proofs.lemmas.List.Sums.{sum_by-cons}
 use Rattle.ufs_spec.proofs.Facts.{eqb-self, eqb-true, false≢true, true≢false}
 use Rattle.ufs_spec.specs.declared.layer.Looked.{Looked}
 use Rattle.ufs_spec.specs.declared.layer.Looked.TheVariants.{InSlot, OnPage, Unwritten}
-use Rattle.block_table.specs.Lives.{Lives}
 use Rattle.block_table.specs.declared.rows.DieRow.{DieRow}
 use Rattle.unit_map.specs.declared.Stored.{Stored}
-use Rattle.readers.specs.declared.pin.Pin.{Pin}
-use Rattle.readers.specs.Pins.{block_pinned, block_unpinned, is_of_reader, is_owed_by, is_pin_of, is_slot_of, let_go}
-use Rattle.readers.specs.Pins.{moved_pin, now_stored, pin_moves, wanted_no_more, wanted_now}
-use Rattle.readers.specs.Rows.{first_let_go, first_set, is_in_slot, is_slotted, is_wanted, starts_at, with_pins}
-use Rattle.readers.specs.Rows.{Rises, RowPins}
+use Rattle.readers.specs.Pins.{block_pinned, block_unpinned, is_slot_of, now_stored}
+use Rattle.readers.specs.Rows.{first_let_go, first_set, is_in_slot, starts_at}
 use Rattle.readers.proofs.Rises.{count_on}
 
 -- no pin passes the test

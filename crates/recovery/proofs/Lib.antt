@@ -1,3 +1,4 @@
+mod Common
 pub mod bad_listed
 pub mod frees
 pub mod greatest_numbers

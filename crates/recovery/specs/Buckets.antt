@@ -1,9 +1,7 @@
 -- What is noted of the pages of one group number, and what the groups behind a number are.
 use Rattle.std.specs.Prelude.{◌≡◌, ◌≢◌, ◌⊎◌, ◌↔◌, ℕ, suc, ◌+◌, ◌-◌, ◌*◌, ◌^◌, ◌<◌, ◌≤◌, ◌==◌, ◌&&◌, ◌||◌, Bool}
 use Rattle.std.specs.Prelude.{List, Some, false, if◌then◌else◌, length, min, not, slice_get, true}
-use Rattle.ufs_spec.specs.Pages.{group_bound}
-use Rattle.ufs_spec.specs.Pages.{greatest_number}
-use Rattle.ufs_spec.specs.Pages.{IsTag}
+use Rattle.ufs_spec.specs.Pages.{IsTag, greatest_number, group_bound}
 use Rattle.ufs_spec.specs.declared.flash.Tag.{Tag}
 use Rattle.recovery.specs.declared.kept.Bucket.{Bucket}
 use Rattle.recovery.specs.declared.kept.Groups.{Groups}

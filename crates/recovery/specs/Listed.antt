@@ -1,11 +1,10 @@
 -- A list of the pages of groups that stand on the dies, and what is read off it (this profile).
 use Rattle.std.specs.Prelude.{◌≡◌, ◌≢◌, ◌⊎◌, ℕ, suc, ◌<◌, ◌≤◌, Bool, if◌then◌else◌, List, Option, Some, None, slice_get}
-use Rattle.ufs_spec.specs.Pages.{greatest_number}
+use Rattle.ufs_spec.specs.Pages.{IsTag, greatest_number}
 use Rattle.ufs_spec.specs.Cells.{Cells, GroupPage, Mark, MarkPage, Nothing, key_of}
 use Rattle.ufs_spec.specs.Disk.{Spot, spot_of}
 use Rattle.ufs_spec.specs.Kept.{Counts, HasNone, IsNewest}
 use Rattle.ufs_spec.specs.Openings.{IsNotHigher}
-use Rattle.ufs_spec.specs.Pages.{IsTag}
 use Rattle.ufs_spec.specs.declared.flash.Key.{Key}
 use Rattle.ufs_spec.specs.declared.flash.Place.{Place}
 use Rattle.ufs_spec.specs.declared.flash.Tag.{Tag}

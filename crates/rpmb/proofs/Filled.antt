@@ -4,7 +4,7 @@ use Rattle.std.proofs.Common.{◌==◌, bit_and, bit_or, inl, inr, slice_get}
 use Rattle.std.proofs.lemmas.Bool.{eqb-true, or_cases}
 use Rattle.std.proofs.lemmas.List.{length-replicate}
 use Rattle.std.proofs.lemmas.Nat.{and_or_self}
-use Rattle.ufs_spec.specs.Exchanges.{ReadState}
+use Rattle.ufs_spec.specs.declared.exchanges.ReadState.{ReadState}
 use Rattle.ufs_spec.specs.Frames.{Frame, frame_bytes}
 use Rattle.ufs_spec.specs.Rpmb.{Region, program_key, read_counter, write_data}
 use Rattle.ufs_spec.specs.RpmbResponses.{counter_response, filled_with, is_success, key_response, signed, with_reads}

@@ -1,7 +1,6 @@
 -- The outcome of frames that are malformed, and of well-formed ones.
-use Rattle.std.proofs.Common.{◌≡◌, ◌∙◌, ◌≤◌, ◌∷◌, ℕ, zero, suc, Bool, List, [], ap, arith, drop, get_or, length}
-use Rattle.std.proofs.Common.{map, refl, subst, sym, take}
-use Rattle.std.proofs.Common.{Option, Some, None, option_map, slice_get}
+use Rattle.std.proofs.Common.{Bool, List, None, Option, Some, [], ap, arith, drop, get_or, length, map, option_map}
+use Rattle.std.proofs.Common.{refl, slice_get, subst, suc, sym, take, zero, ℕ, ◌∙◌, ◌∷◌, ◌≡◌, ◌≤◌}
 use Rattle.std.proofs.lemmas.List.{drop_more}
 use Rattle.std.proofs.lemmas.Option.{slice_get-map}
 use Rattle.std.specs.Simd.{first_chunks}

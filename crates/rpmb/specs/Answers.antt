@@ -1,7 +1,8 @@
 -- The frames that answer a request.
 use Rattle.std.specs.Prelude.{◌≡◌, ◌*◌, ◌≤◌, ℕ, true, false, Option, Some, None, List, [], ◌∷◌, drop, length, take}
 use Rattle.std.specs.List.{flat_map, list_any}
-use Rattle.ufs_spec.specs.Exchanges.{ReadState, Registers}
+use Rattle.ufs_spec.specs.Exchanges.{Registers}
+use Rattle.ufs_spec.specs.declared.exchanges.ReadState.{ReadState}
 use Rattle.ufs_spec.specs.Frames.{Frame, frame_bytes}
 use Rattle.ufs_spec.specs.Rpmb.{Region, read_data}
 use Rattle.ufs_spec.specs.RpmbResponses.{data_response, frames_of, is_lost, is_success}

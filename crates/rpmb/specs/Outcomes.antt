@@ -2,7 +2,8 @@
 use Rattle.std.specs.Prelude.{◌≡◌, ℕ, ◌<◌, Bool, false, if◌then◌else◌, List, Option, Some, None}
 use Rattle.ufs_spec.specs.Commands as command
 use Rattle.ufs_spec.specs.Commands.{Command}
-use Rattle.ufs_spec.specs.Exchanges.{Registers, Status, invalid_list_field, sequence_error}
+use Rattle.ufs_spec.specs.Exchanges.{Registers, invalid_list_field, sequence_error}
+use Rattle.ufs_spec.specs.declared.exchanges.Status.{Status}
 use Rattle.ufs_spec.specs.Frames.{Frame}
 use Rattle.ufs_spec.specs.Rpmb as rules
 use Rattle.ufs_spec.specs.Rpmb.{Region, RpmbOutcome, checks, command_in, first_failed, lacks_result, outcome_after}

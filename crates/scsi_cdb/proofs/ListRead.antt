@@ -6,7 +6,8 @@ use Rattle.ufs_bytes.specs.Fields.{field_at}
 use Rattle.ufs_spec.proofs.Facts.{true≢false, false≢true}
 use Rattle.ufs_spec.specs.Changes.{ends_with_status}
 use Rattle.ufs_spec.specs.DataOuts.{has_list_header, is_past_unit, is_wrong_descriptor, unmap_accepted, unmap_complete}
-use Rattle.ufs_spec.specs.Exchanges.{Good, Task, invalid_list_field, out_of_range}
+use Rattle.ufs_spec.specs.Exchanges.{Task, invalid_list_field, out_of_range}
+use Rattle.ufs_spec.specs.declared.exchanges.Status.TheVariants.{Good}
 use Rattle.ufs_spec.specs.Refusals.{State, numbers_of, unit_numbers_at}
 use Rattle.ufs_spec.specs.declared.configs.Numbers.{Numbers}
 use Rattle.ufs_spec.specs.declared.configs.UnitSpec.{UnitSpec}

@@ -1,8 +1,7 @@
 -- A settings page is read, written again and compared.
-use Rattle.std.proofs.Common.{◌≡◌, ◌∙◌, ℕ, zero, suc, ◌+◌, ◌*◌, ◌<◌, ◌≤◌, ◌==◌, Bool, true, false, List, ◌∷◌, ◌++◌}
-use Rattle.std.proofs.Common.{[], ◌-◌, IsTrue, All, None, Some, refl, sym, subst, ap, append_assoc, arith, cond}
-use Rattle.std.proofs.Common.{drop, length, take}
-use Rattle.std.proofs.Common.{replicate, slice_index, length-append, length-take, length-drop}
+use Rattle.std.proofs.Common.{All, Bool, IsTrue, List, None, Some, [], ap, append_assoc, arith, cond, drop, false}
+use Rattle.std.proofs.Common.{length, length-append, length-drop, length-take, refl, replicate, slice_index, subst, suc}
+use Rattle.std.proofs.Common.{sym, take, true, zero, ℕ, ◌*◌, ◌++◌, ◌+◌, ◌-◌, ◌<◌, ◌==◌, ◌∙◌, ◌∷◌, ◌≡◌, ◌≤◌}
 use Rattle.std.specs.Str.{bytes_eq}
 use Rattle.std.proofs.lemmas.List.{drop-drop, drop-replicate, drop_at, take_at}
 use Rattle.std.proofs.lemmas.Slice.Eq.{bytes_eq-Decides}

@@ -1,7 +1,6 @@
 -- What the lists of a set of tasks say: which tags are in use, which data were asked for, which blocks were read.
-use Rattle.std.specs.Prelude.{ℕ, ◌==◌, ◌&&◌, ◌||◌, nat_le, Bool, if◌then◌else◌, List, length}
-use Rattle.std.specs.Prelude.{option_map, position, slice_get, slice_set, is_some, Option, Some, None}
-use Rattle.std.specs.Prelude.{Result, Ok, Err}
+use Rattle.std.specs.Prelude.{Bool, Err, List, None, Ok, Option, Result, Some, if◌then◌else◌, is_some, length, nat_le}
+use Rattle.std.specs.Prelude.{option_map, position, slice_get, slice_set, ℕ, ◌&&◌, ◌==◌, ◌||◌}
 use Rattle.std.specs.List.{list_any}
 use Rattle.ufs_spec.specs.Exchanges.{most_short_exchanges}
 use Rattle.ufs_spec.specs.declared.faults.HostFault.{HostFault}

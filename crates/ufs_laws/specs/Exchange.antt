@@ -2,7 +2,8 @@
 use Rattle.std.specs.Prelude.{◌≡◌, ◌≢◌, ℕ, ◌+◌, ◌-◌, ◌==◌, min, Bool, true, List, [], ◌∷◌, length, map, Option, Some}
 use Rattle.std.specs.Prelude.{None}
 use Rattle.std.specs.List.{AllByRecursion, list_any}
-use Rattle.ufs_spec.specs.Exchanges.{Answering, Awaiting, Deed, Gathering, Purpose, ReadingArea, Sending, SendingBytes}
+use Rattle.ufs_spec.specs.Exchanges.{Answering, Awaiting, Deed, Gathering, ReadingArea, Sending, SendingBytes}
+use Rattle.ufs_spec.specs.declared.exchanges.Purpose.{Purpose}
 use Rattle.ufs_spec.specs.Exchanges.{Task, count_at, invalid_operation}
 use Rattle.ufs_spec.specs.Machine.{Call, Done, Faulty, Heard, Host, IsHeard, Reply, Spelled, Take, Turn}
 use Rattle.ufs_spec.specs.Refusals.{Request, State}

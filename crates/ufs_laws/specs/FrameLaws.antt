@@ -1,6 +1,7 @@
 -- What the laws of RPMB requests speak of.
 use Rattle.std.specs.Prelude.{◌≡◌, ◌⊎◌, ℕ, true, false, List}
-use Rattle.ufs_spec.specs.Exchanges.{NotRead, ReadBlock, Task, Unread, WasRead}
+use Rattle.ufs_spec.specs.Exchanges.{ReadBlock, Task}
+use Rattle.ufs_spec.specs.declared.exchanges.ReadState.TheVariants.{NotRead, Unread, WasRead}
 use Rattle.ufs_spec.specs.Frames.{Frame}
 use Rattle.ufs_spec.specs.Refusals.{State, accepts_nothing, plain_now}
 use Rattle.ufs_spec.specs.Replies.{is_at_hand, pin_of}

@@ -1,8 +1,10 @@
 -- What a task and a short exchange need so that each of their replies is a message of the grammar.
 use Rattle.std.specs.List.{All}
 use Rattle.std.specs.Prelude.{◌≡◌, ◌<◌, ◌+◌, ◌*◌, ◌^◌, ℕ, length, slice_get, take, Some}
-use Rattle.ufs_spec.specs.Exchanges.{Answering, Awaiting, Busy, CheckCondition, Deed, Gathering, Good, ReadBlock}
-use Rattle.ufs_spec.specs.Exchanges.{ReadingArea, Sending, SendingBytes, Short, Status, Task, TaskSetFull, bytes_sent}
+use Rattle.ufs_spec.specs.Exchanges.{Answering, Awaiting, Deed, Gathering, ReadBlock}
+use Rattle.ufs_spec.specs.declared.exchanges.Status.TheVariants.{Busy, CheckCondition, Good, TaskSetFull}
+use Rattle.ufs_spec.specs.Exchanges.{ReadingArea, Sending, SendingBytes, Short, Task, bytes_sent}
+use Rattle.ufs_spec.specs.declared.exchanges.Status.{Status}
 use Rattle.ufs_spec.specs.Keys.{IsBlock}
 use Rattle.ufs_spec.specs.Messages.{IsByte, IsMessage, IsTransferred}
 use Rattle.ufs_spec.specs.Refusals.{State}

@@ -1,6 +1,5 @@
 -- What a settings page says, and what commands make of it.
-use Rattle.std.specs.Prelude.{◌≡◌, ℕ, ◌+◌, Bool, true, List, [], ◌∷◌, ◌++◌, fold, map, slice_get, slice_set}
-use Rattle.std.specs.Prelude.{Some}
+use Rattle.std.specs.Prelude.{Bool, List, Some, [], fold, map, slice_get, slice_set, true, ℕ, ◌++◌, ◌+◌, ◌∷◌, ◌≡◌}
 use Rattle.ufs_spec.specs.Commands.{Command, RpmbWrite, SetBoot, SetKey, SetPermanent, Write, Zero}
 use Rattle.ufs_spec.specs.Keys.{Group, Item, said_by, said_of, settings_bytes, settings_key}
 use Rattle.ufs_spec.specs.Plain.{Plain, region_of}

@@ -4,7 +4,8 @@ use Rattle.ufs_laws.specs.Runs.{IsAnswered, unit}
 use Rattle.ufs_spec.specs.CdbFields.{spelled_cdb}
 use Rattle.ufs_spec.specs.Cdbs.{cdb_bytes}
 use Rattle.ufs_spec.specs.Configs.{numbers_of}
-use Rattle.ufs_spec.specs.Exchanges.{Status, response}
+use Rattle.ufs_spec.specs.Exchanges.{response}
+use Rattle.ufs_spec.specs.declared.exchanges.Status.{Status}
 use Rattle.ufs_spec.specs.Machine.{Heard, Spelled}
 use Rattle.ufs_spec.specs.Refusals.{Request, State}
 use Rattle.ufs_spec.specs.declared.configs.Numbers.{Numbers}

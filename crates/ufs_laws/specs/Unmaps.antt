@@ -1,6 +1,7 @@
 -- What the laws of UNMAP's slots speak of (SBC, UNMAP).
 use Rattle.std.specs.Prelude.{◌≡◌, ◌+◌, ◌≤◌, ℕ, Bool, List, length, Some}
-use Rattle.ufs_spec.specs.Exchanges.{ForUnmap, Gathering, Task}
+use Rattle.ufs_spec.specs.Exchanges.{Gathering, Task}
+use Rattle.ufs_spec.specs.declared.exchanges.Purpose.TheVariants.{ForUnmap}
 use Rattle.ufs_spec.specs.Translation.{Translation, pending_pages}
 use Rattle.ufs_spec.specs.declared.scsi.Cdb.TheVariants as cdb
 

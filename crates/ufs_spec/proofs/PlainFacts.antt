@@ -13,9 +13,8 @@ use Rattle.ufs_spec.specs.declared.configs.UnitSpec.{UnitSpec}
 use Rattle.ufs_spec.specs.declared.configs.Numbers.{Numbers}
 use Rattle.ufs_spec.specs.Keys.{CanApplyAll}
 use Rattle.ufs_spec.specs.Commands.{Command, Write, Zero, SetKey, RpmbWrite}
-use Rattle.ufs_spec.specs.Plain.{Plain, Region, zero_block, zero_area, area_len, empty_region, region_of}
-use Rattle.ufs_spec.specs.Plain.{zero, with_part, changed_by, apply, after, Shape, shape_of, shape_of_numbers}
-use Rattle.ufs_spec.specs.Plain.{LiesWithin}
+use Rattle.ufs_spec.specs.Plain.{LiesWithin, Plain, Region, Shape, after, apply, area_len, changed_by, empty_region}
+use Rattle.ufs_spec.specs.Plain.{region_of, shape_of, shape_of_numbers, with_part, zero, zero_area, zero_block}
 use Rattle.ufs_spec.specs.PlainRegions.{region_seen}
 use Rattle.ufs_spec.specs.declared.plain_device.PlainRegion.{PlainRegion}
 use Rattle.ufs_spec.proofs.RegionPages.{area_there}

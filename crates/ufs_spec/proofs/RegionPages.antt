@@ -1,10 +1,8 @@
 -- How many pages the area of each RPMB region has.
-use Rattle.std.proofs.Common.{◌≡◌, ◌∙◌, ℕ, zero, suc, ◌/◌, ◌<◌, List, [], ◌∷◌, slice_index_or, refl, ap}
-use Rattle.std.proofs.Common.{arith, length}
+use Rattle.std.proofs.Common.{List, [], ap, arith, length, refl, slice_index_or, suc, zero, ℕ, ◌/◌, ◌<◌, ◌∙◌, ◌∷◌, ◌≡◌}
 use Rattle.std.proofs.Math.ListN as lists
 use Rattle.ufs_spec.specs.Keys.{region_pages}
-use Rattle.ufs_spec.specs.Plain.{Plain, Region, area_len, empty_region, region_of, shape_of, shape_of_numbers}
-use Rattle.ufs_spec.specs.Plain.{regions}
+use Rattle.ufs_spec.specs.Plain.{Plain, Region, area_len, empty_region, region_of, regions, shape_of, shape_of_numbers}
 use Rattle.ufs_spec.specs.declared.configs.Numbers.{Numbers}
 
 -- the pages of the area of a region

@@ -6,16 +6,19 @@ use Rattle.byteorder.specs.Endian.{big_bytes}
 use Rattle.std.specs.Int.{div_ceil}
 use Rattle.ufs_spec.specs.Cdbs.{carried}
 use Rattle.ufs_spec.specs.Changes.{with_moves, with_short, with_task}
-use Rattle.ufs_spec.specs.Exchanges.{Answering, Awaiting, Deed, ForFrames, ForUnmap, ForWrite, Gathering, Good}
-use Rattle.ufs_spec.specs.Exchanges.{Purpose, ReadBlock, Sending, SendingBytes, Status, TaskSetFull, Unread}
-use Rattle.ufs_spec.specs.Exchanges.{at_region, most_tasks, response, short_reply}
+use Rattle.ufs_spec.specs.Exchanges.{Answering, Awaiting, Deed, Gathering, ReadBlock, Sending, SendingBytes, at_region}
+use Rattle.ufs_spec.specs.Exchanges.{most_tasks, response, short_reply}
+use Rattle.ufs_spec.specs.declared.exchanges.Status.TheVariants.{Good, TaskSetFull}
+use Rattle.ufs_spec.specs.declared.exchanges.Purpose.TheVariants.{ForFrames, ForUnmap, ForWrite}
+use Rattle.ufs_spec.specs.declared.exchanges.ReadState.TheVariants.{Unread}
+use Rattle.ufs_spec.specs.declared.exchanges.Status.{Status}
+use Rattle.ufs_spec.specs.declared.exchanges.Purpose.{Purpose}
 use Rattle.ufs_spec.specs.Identities.{inquiry_bytes, luns_bytes}
 use Rattle.ufs_spec.specs.Keys.{below, data_key}
 use Rattle.ufs_spec.specs.Messages.{zeros}
 use Rattle.ufs_spec.specs.Moves.{Claim, Keep, Move, look_now}
 use Rattle.ufs_spec.specs.Plain.{block_at}
-use Rattle.ufs_spec.specs.Refusals.{Request, State, mended, numbers_of, plain_now, refusal, refused_state}
-use Rattle.ufs_spec.specs.Refusals.{slots_needed}
+use Rattle.ufs_spec.specs.Refusals.{Request, State, mended, numbers_of, plain_now, refusal, refused_state, slots_needed}
 use Rattle.ufs_spec.specs.Refusals.{unit_numbers_of, unit_of_request}
 use Rattle.ufs_spec.specs.Translation.{Pin}
 use Rattle.ufs_spec.specs.declared.configs.UnitSpec.{UnitSpec}

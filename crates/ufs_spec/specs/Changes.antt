@@ -2,7 +2,8 @@
 use Rattle.std.specs.Prelude.{List, None, Option, Some, [], fold, map, ℕ, ◌++◌, ◌∷◌}
 use Rattle.ufs_spec.specs.Commands.{Command}
 use Rattle.ufs_spec.specs.Exchanges.{Answering, Awaiting, Deed, Gathering, ReadingArea, Sending, SendingBytes, Short}
-use Rattle.ufs_spec.specs.Exchanges.{Status, Task, with_deed}
+use Rattle.ufs_spec.specs.Exchanges.{Task, with_deed}
+use Rattle.ufs_spec.specs.declared.exchanges.Status.{Status}
 use Rattle.ufs_spec.specs.Keys.{group_of}
 use Rattle.ufs_spec.specs.Moves.{Accept, Move, Release, moved}
 use Rattle.ufs_spec.specs.Refusals.{Request, State, numbers_of, plain_now, slots_needed}

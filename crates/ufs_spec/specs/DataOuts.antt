@@ -4,9 +4,11 @@ use Rattle.std.specs.Prelude.{suc, take, true, zero, ℕ, ◌&&◌, ◌++◌, �
 use Rattle.ufs_bytes.specs.Fields.{field_at}
 use Rattle.ufs_spec.specs.Changes.{accepts, claimed_by, ends_with_status, set_deed, with_moves}
 use Rattle.ufs_spec.specs.Configs.{command_blocks}
-use Rattle.ufs_spec.specs.Exchanges.{Answering, Awaiting, Deed, ForFrames, ForUnmap, ForWrite, Gathering, Good}
-use Rattle.ufs_spec.specs.Exchanges.{Purpose, ReadingArea, Sending, SendingBytes, Task, invalid_list_field}
-use Rattle.ufs_spec.specs.Exchanges.{out_of_range, write_error}
+use Rattle.ufs_spec.specs.Exchanges.{Answering, Awaiting, Deed, Gathering, ReadingArea, Sending, SendingBytes, Task}
+use Rattle.ufs_spec.specs.Exchanges.{invalid_list_field, out_of_range, write_error}
+use Rattle.ufs_spec.specs.declared.exchanges.Status.TheVariants.{Good}
+use Rattle.ufs_spec.specs.declared.exchanges.Purpose.TheVariants.{ForFrames, ForUnmap, ForWrite}
+use Rattle.ufs_spec.specs.declared.exchanges.Purpose.{Purpose}
 use Rattle.ufs_spec.specs.FrameRequests.{frames_complete}
 use Rattle.ufs_spec.specs.Frames.{frames_in}
 use Rattle.ufs_spec.specs.Moves.{Release}

@@ -2,8 +2,10 @@
 use Rattle.std.specs.Prelude.{Bool, List, None, Option, Some, [], false, if◌then◌else◌, length, map, true, ℕ, ◌&&◌}
 use Rattle.std.specs.Prelude.{◌+◌, ◌-◌, ◌/◌, ◌==◌, ◌∷◌}
 use Rattle.ufs_spec.specs.Changes.{accepts, claimed_by, ends_with_status, given_back, with_moves}
-use Rattle.ufs_spec.specs.Exchanges.{Answering, Awaiting, Deed, Gathering, Good, ReadBlock, ReadingArea, Registers}
-use Rattle.ufs_spec.specs.Exchanges.{RpmbRequest, Sending, SendingBytes, Task, Unread, at_region, is_task_of}
+use Rattle.ufs_spec.specs.Exchanges.{Answering, Awaiting, Deed, Gathering, ReadBlock, ReadingArea, Registers}
+use Rattle.ufs_spec.specs.declared.exchanges.Status.TheVariants.{Good}
+use Rattle.ufs_spec.specs.Exchanges.{RpmbRequest, Sending, SendingBytes, Task, at_region, is_task_of}
+use Rattle.ufs_spec.specs.declared.exchanges.ReadState.TheVariants.{Unread}
 use Rattle.ufs_spec.specs.Frames.{Frame}
 use Rattle.ufs_spec.specs.Keys.{area_key, below, content}
 use Rattle.ufs_spec.specs.Moves.{Keep, Move, look_now}

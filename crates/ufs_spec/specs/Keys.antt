@@ -9,8 +9,7 @@ use Rattle.byteorder.specs.Endian.{big_bytes}
 use Rattle.ufs_bytes.specs.Fields.{field_at}
 use Rattle.ufs_spec.specs.Messages.{AreBytes}
 use Rattle.ufs_spec.specs.Pages.{zero_filled}
-use Rattle.ufs_spec.specs.Plain.{Plain, Region, Shape, CanApply, block_at, apply, region_of}
-use Rattle.ufs_spec.specs.Plain.{regions}
+use Rattle.ufs_spec.specs.Plain.{CanApply, Plain, Region, Shape, apply, block_at, region_of, regions}
 pub use Rattle.ufs_spec.specs.Counting.{below}
 use Rattle.ufs_spec.specs.Commands.{Command}
 use Rattle.ufs_spec.specs.Commands as cmd

@@ -8,13 +8,14 @@ use Rattle.std.specs.List.{list_any}
 use Rattle.ufs_spec.specs.CdbFields.{spelled_cdb}
 use Rattle.ufs_spec.specs.Cells.{Array}
 use Rattle.ufs_spec.specs.Dies.{blank_page}
-use Rattle.ufs_spec.specs.Disk.{Erasing, Flight, Programming, Reading}
-use Rattle.ufs_spec.specs.Disk.{Spot, at_place, page_of, same_spot, spot_of}
-use Rattle.ufs_spec.specs.Exchanges.{Answering, Awaiting, Deed, Gathering, Good, NotRead, ReadBlock, ReadState}
-use Rattle.ufs_spec.specs.Exchanges.{ReadingArea, Registers, Sending, SendingBytes, Short, Task, Unread, WasRead}
-use Rattle.ufs_spec.specs.Exchanges.{filled, is_asked_of, is_good, is_short_of, is_task_of, is_unfilled}
-use Rattle.ufs_spec.specs.Exchanges.{most_short_exchanges, most_tasks, response, short_reply, task_of, without_short}
-use Rattle.ufs_spec.specs.Exchanges.{without_task, write_error}
+use Rattle.ufs_spec.specs.Disk.{Erasing, Flight, Programming, Reading, Spot, at_place, page_of, same_spot, spot_of}
+use Rattle.ufs_spec.specs.Exchanges.{Answering, Awaiting, Deed, Gathering, ReadBlock, ReadingArea, Registers, Sending}
+use Rattle.ufs_spec.specs.Exchanges.{SendingBytes, Short, Task, filled, is_asked_of, is_good, is_short_of, is_task_of}
+use Rattle.ufs_spec.specs.Exchanges.{is_unfilled, most_short_exchanges, most_tasks, response, short_reply, task_of}
+use Rattle.ufs_spec.specs.Exchanges.{without_short, without_task, write_error}
+use Rattle.ufs_spec.specs.declared.exchanges.ReadState.{ReadState}
+use Rattle.ufs_spec.specs.declared.exchanges.ReadState.TheVariants.{NotRead, Unread, WasRead}
+use Rattle.ufs_spec.specs.declared.exchanges.Status.TheVariants.{Good}
 use Rattle.ufs_spec.specs.Messages.{Spells, host_fault_of}
 use Rattle.ufs_spec.specs.Moves.{Acknowledge, EndJob, Ending, GiveJob, LetGo, LetGoAll, Move, ReadRight, ReadWrong}
 use Rattle.ufs_spec.specs.Moves.{TakeStep, WantPage, WentWell, WentWrong, ending_fits}

@@ -4,9 +4,8 @@ use Rattle.std.specs.Prelude.{◌≡◌, ℕ, ◌+◌, ◌-◌, ◌≤◌, ◌==
 use Rattle.std.specs.Prelude.{◌++◌, All, filter, length, map, max, slice_get, Option, Some, None}
 use Rattle.ufs_spec.specs.Cells.{Cell, Cells, GroupPage, IsCell, Mark, MarkPage, Nothing, Opens, key_of}
 use Rattle.ufs_spec.specs.Configs.{command_blocks}
-use Rattle.ufs_spec.specs.Disk.{BlockState, Bad, CellCrash, Disk, Erasing, Flight}
-use Rattle.ufs_spec.specs.Disk.{Free, Programming, Reading, Stale, at_spot, ended, erase_failed, erased}
-use Rattle.ufs_spec.specs.Disk.{flight_alone, program_failed, programmed}
+use Rattle.ufs_spec.specs.Disk.{Bad, BlockState, CellCrash, Disk, Erasing, Flight, Free, Programming, Reading, Stale}
+use Rattle.ufs_spec.specs.Disk.{at_spot, ended, erase_failed, erased, flight_alone, program_failed, programmed}
 use Rattle.ufs_spec.specs.Keys.{Group, IsBlock, IsKey, IsSettingsBody, Item}
 use Rattle.ufs_spec.specs.Ledger.{Ledger, before_accepted, latest_durable, look, looked_at, page_stands, same_name}
 use Rattle.ufs_spec.specs.Ledger.{settled_look}

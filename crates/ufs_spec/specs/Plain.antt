@@ -1,8 +1,7 @@
 -- What a device holds, as a host sees it, and what each command makes of it (JESD220, 10.8 logical units, 12.4 RPMB;
 -- the commands are this profile's). There are no pages, numbers or tables in it.
-use Rattle.std.specs.Prelude.{◌≡◌, ℕ, ◌+◌, ◌-◌, ◌*◌, ◌^◌, ◌<◌, ◌≤◌, Bool, true, false, List, ◌++◌}
-use Rattle.std.specs.Prelude.{length, take, drop, map, fold, sum}
-use Rattle.std.specs.Prelude.{replicate, slice_index_or, slice_set, [], Option, Some, None}
+use Rattle.std.specs.Prelude.{Bool, List, None, Option, Some, [], drop, false, fold, length, map, replicate}
+use Rattle.std.specs.Prelude.{slice_index_or, slice_set, sum, take, true, ℕ, ◌*◌, ◌++◌, ◌+◌, ◌-◌, ◌<◌, ◌^◌, ◌≡◌, ◌≤◌}
 unfoldable pub use Rattle.ufs_bytes.specs.Blocks.{zero_block}
 use Rattle.ufs_spec.specs.declared.configs.Numbers.{Numbers}
 use Rattle.ufs_spec.specs.Counting.{below}

@@ -1,7 +1,6 @@
 -- How the plain device of the code keeps the RPMB regions.
 use Rattle.std.specs.Prelude.{◌≡◌, List, length}
-use Rattle.ufs_spec.specs.Plain.{Region}
-use Rattle.ufs_spec.specs.Plain.{regions}
+use Rattle.ufs_spec.specs.Plain.{Region, regions}
 use Rattle.ufs_spec.specs.declared.plain_device.PlainRegion.{PlainRegion}
 
 -- the region that is kept so

@@ -1,6 +1,5 @@
 -- What a query makes of the state: it is answered at once, or is a setting, which is a command (JESD220, 10.7.8).
-use Rattle.std.specs.Prelude.{Bool, None, Option, Some, [], if◌then◌else◌, length, nat_lt, not, ℕ, ◌&&◌, ◌+◌, ◌==◌}
-use Rattle.std.specs.Prelude.{◌∷◌}
+use Rattle.std.specs.Prelude.{Bool, None, Option, Some, [], if◌then◌else◌, length, nat_lt, not, ℕ, ◌&&◌, ◌+◌, ◌==◌, ◌∷◌}
 use Rattle.ufs_spec.specs.Changes.{accepts, with_moves, with_short}
 use Rattle.ufs_spec.specs.Commands.{Command}
 use Rattle.ufs_spec.specs.Exchanges.{short_reply}

@@ -8,9 +8,10 @@ use Rattle.ufs_spec.specs.Cdbs.{Direction, NoData, ToDevice, ToHost, address_of,
 use Rattle.ufs_spec.specs.Cells.{Array}
 use Rattle.ufs_spec.specs.Commands.{Command}
 use Rattle.ufs_spec.specs.Configs.{command_blocks}
-use Rattle.ufs_spec.specs.Exchanges.{Busy, Registers, Short, Status, Task, invalid_field, invalid_operation}
-use Rattle.ufs_spec.specs.Exchanges.{list_length_error, no_unit, not_ready, out_of_range, sequence_error}
-use Rattle.ufs_spec.specs.Exchanges.{write_protected}
+use Rattle.ufs_spec.specs.Exchanges.{Registers, Short, Task, invalid_field, invalid_operation, list_length_error}
+use Rattle.ufs_spec.specs.Exchanges.{no_unit, not_ready, out_of_range, sequence_error, write_protected}
+use Rattle.ufs_spec.specs.declared.exchanges.Status.{Status}
+use Rattle.ufs_spec.specs.declared.exchanges.Status.TheVariants.{Busy}
 use Rattle.ufs_spec.specs.Messages.{is_among}
 use Rattle.ufs_spec.specs.Plain.{Plain, after, steps_of}
 use Rattle.ufs_spec.specs.Translation.{Translation, free_slots, has_pending, is_locked, is_mended}

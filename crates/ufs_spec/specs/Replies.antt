@@ -4,8 +4,11 @@ use Rattle.std.specs.Prelude.{slice_get, take, true, ℕ, ◌*◌, ◌-◌, ◌�
 use Rattle.std.specs.List.{list_all, list_any}
 use Rattle.ufs_spec.specs.Cells.{Array, Shows}
 use Rattle.ufs_spec.specs.Disk.{Crash, flight_alone}
-use Rattle.ufs_spec.specs.Exchanges.{Answering, Awaiting, Deed, Gathering, Good, NotRead, ReadBlock, ReadState}
-use Rattle.ufs_spec.specs.Exchanges.{ReadingArea, Sending, SendingBytes, Short, Task, Unread, WasRead, block_message}
+use Rattle.ufs_spec.specs.Exchanges.{Answering, Awaiting, Deed, Gathering, ReadBlock}
+use Rattle.ufs_spec.specs.declared.exchanges.ReadState.{ReadState}
+use Rattle.ufs_spec.specs.declared.exchanges.ReadState.TheVariants.{NotRead, Unread, WasRead}
+use Rattle.ufs_spec.specs.declared.exchanges.Status.TheVariants.{Good}
+use Rattle.ufs_spec.specs.Exchanges.{ReadingArea, Sending, SendingBytes, Short, Task, block_message}
 use Rattle.ufs_spec.specs.Exchanges.{bytes_sent, data_message, read_error, ready_message, response}
 use Rattle.ufs_spec.specs.Keys.{below}
 use Rattle.ufs_spec.specs.Ledger.{before_accepted}

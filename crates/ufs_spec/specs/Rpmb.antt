@@ -8,7 +8,8 @@ use Rattle.std.specs.Prelude.{Some, None}
 use Rattle.std.specs.List.{flat_map, list_all}
 use Rattle.sha2.specs.Sha256.{sha256}
 use Rattle.ufs_spec.specs.Commands.{Command, RpmbWrite, SetKey}
-use Rattle.ufs_spec.specs.Exchanges.{Registers, Status, invalid_list_field, sequence_error}
+use Rattle.ufs_spec.specs.Exchanges.{Registers, invalid_list_field, sequence_error}
+use Rattle.ufs_spec.specs.declared.exchanges.Status.{Status}
 use Rattle.ufs_spec.specs.Frames.{Frame, covered_bytes}
 use Rattle.ufs_spec.specs.Plain.{Region, changed_by, counter_end}
 

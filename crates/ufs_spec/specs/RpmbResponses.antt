@@ -3,7 +3,9 @@
 use Rattle.std.specs.Prelude.{ℕ, ◌+◌, ◌*◌, ◌==◌, ◌||◌, Bool, true, false, if◌then◌else◌, List, [], ◌∷◌, bit_or, drop}
 use Rattle.std.specs.Prelude.{map, slice_get, take, Option, Some, None}
 use Rattle.std.specs.List.{list_any}
-use Rattle.ufs_spec.specs.Exchanges.{NotRead, ReadState, Registers, Unread, WasRead, empty_registers}
+use Rattle.ufs_spec.specs.Exchanges.{Registers, empty_registers}
+use Rattle.ufs_spec.specs.declared.exchanges.ReadState.{ReadState}
+use Rattle.ufs_spec.specs.declared.exchanges.ReadState.TheVariants.{NotRead, Unread, WasRead}
 use Rattle.ufs_spec.specs.Frames.{Frame, frame_bytes}
 use Rattle.ufs_spec.specs.Keys.{below}
 use Rattle.ufs_spec.specs.Messages.{zeros}

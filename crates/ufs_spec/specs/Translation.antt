@@ -7,13 +7,11 @@ use Rattle.std.specs.Prelude.{length, map, sum_by, Option, Some, None, option_ma
 use Rattle.std.specs.Int.{div_ceil}
 use Rattle.std.specs.List.{flat_map, list_any}
 use Rattle.ufs_spec.specs.Cells.{Cell, GroupPage, MarkPage, Nothing, key_of, same_place}
-use Rattle.ufs_spec.specs.Disk.{BlockState, Bad, Closed, Disk, Erasing, Filling, Flight}
-use Rattle.ufs_spec.specs.Disk.{Free, Programming, Reading, Ready, Spot, Stale, Untouched, Vacancy, job_begun}
-use Rattle.ufs_spec.specs.Disk.{place_in, same_spot, spot_of}
+use Rattle.ufs_spec.specs.Disk.{Bad, BlockState, Closed, Disk, Erasing, Filling, Flight, Free, Programming, Reading}
+use Rattle.ufs_spec.specs.Disk.{Ready, Spot, Stale, Untouched, Vacancy, job_begun, place_in, same_spot, spot_of}
 use Rattle.ufs_spec.specs.Keys.{Group, below, Item}
-use Rattle.ufs_spec.specs.Ledger.{Entry, Ledger, accepted_groups, before_accepted, entry_of}
-use Rattle.ufs_spec.specs.Ledger.{is_name, is_standing, latest_durable, next_number, pending, same_name}
-use Rattle.ufs_spec.specs.Ledger.{look}
+use Rattle.ufs_spec.specs.Ledger.{Entry, Ledger, accepted_groups, before_accepted, entry_of, is_name, is_standing}
+use Rattle.ufs_spec.specs.Ledger.{latest_durable, look, next_number, pending, same_name}
 use Rattle.ufs_spec.specs.Pages.{greatest_number}
 use Rattle.ufs_spec.specs.declared.configs.Numbers.{Numbers}
 use Rattle.ufs_spec.specs.declared.flash.Fence.{Fence}

@@ -4,8 +4,7 @@ use Rattle.std.specs.Prelude.{Bool, true, false, IfSome, Option, Some, None, Res
 use Rattle.std.specs.List.{flat_map}
 use Rattle.std.specs.Io.KnownBytes.{Appends, Consumes, IsAtEnd, Keeps}
 pub use Rattle.std.proofs.KnownBytes.{Keeps-trans as kept_more}
-use Rattle.std.proofs.lemmas.List.{append_assoc}
-use Rattle.std.proofs.lemmas.List.{flat_map_more, get_or-set_same, take_more}
+use Rattle.std.proofs.lemmas.List.{append_assoc, flat_map_more, get_or-set_same, take_more}
 use Rattle.std.proofs.lemmas.List.Elements.{All-push}
 use Rattle.ufs_spec.specs.Dies.{DieState, is_bad_block, pages_of}
 use Rattle.ufsim.specs.Images.{IsBlockRead, IsElseSame, IsOfImage, bad_byte, block_bytes, blocks_bytes, die_bytes, marked}

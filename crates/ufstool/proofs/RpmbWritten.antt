@@ -3,8 +3,7 @@ use Rattle.std.proofs.Common.{◌≡◌, ℕ, List, ◌++◌, ap, length, subst,
 use Rattle.std.specs.Prelude.{Option, Some}
 use Rattle.std.specs.Io.KnownBytes.{Appends, Keeps}
 use Rattle.ufstool.specs.HostMessages.{asked_lines, data_spelled, line_of}
-use Rattle.ufstool.specs.RpmbLines.{fetched_lines, in_spelled, out_spelled, reply_line}
-use Rattle.ufstool.specs.RpmbLines.{sent_lines, settled_lines}
+use Rattle.ufstool.specs.RpmbLines.{fetched_lines, in_spelled, out_spelled, reply_line, sent_lines, settled_lines}
 use Rattle.ufstool.proofs.Written.{both_written, then_written}
 
 -- the lines that send frames

@@ -2,9 +2,8 @@
 use Rattle.std.proofs.Common.{◌≡◌, ◌<◌, ◌≤◌, ◌∙◌, ◌⊎◌, ◌==◌, ◌&&◌, Some, None, List, ℕ, Bool, true}
 use Rattle.std.proofs.Common.{◌||◌, ◌+◌, [], ◌∷◌, nat_lt, false, not, length, sym, ap, subst, inl, inr}
 use Rattle.std.proofs.lemmas.Bool.{cond-false, cond-true, le-ltb, lt-ltb, or_from}
-use Rattle.ufs_spec.specs.Messages.{code_of, has_digest, has_extra_header, has_wrong_length}
-use Rattle.ufs_spec.specs.Messages.{is_among, known_codes, may_have, padding, read_fault_of}
-use Rattle.ufs_spec.specs.Messages.{segment_length}
+use Rattle.ufs_spec.specs.Messages.{code_of, has_digest, has_extra_header, has_wrong_length, is_among, known_codes}
+use Rattle.ufs_spec.specs.Messages.{may_have, padding, read_fault_of, segment_length}
 use Rattle.ufs_bytes.specs.Fields.{field_at}
 use Rattle.ufs_spec.specs.declared.faults.HostFault.TheVariants.{Short, Length, Digest, Ehs, Code}
 

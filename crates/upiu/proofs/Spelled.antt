@@ -10,16 +10,14 @@ use Rattle.byteorder.specs.Numbers.{big_number-reads_back}
 use Rattle.ufs_spec.proofs.ReadBack.{again}
 use Rattle.ufs_spec.proofs.SpellingParts.{header_size, segment_size}
 use Rattle.ufs_bytes.specs.Fields.{field_at}
-use Rattle.ufs_spec.specs.Messages.{IsMessage, IsSense, Spells, code_of, has_digest, has_extra_header}
-use Rattle.ufs_spec.specs.Messages.{has_other_code, has_wrong_length, header_of, is_among, is_short, known_codes}
-use Rattle.ufs_spec.specs.Messages.{may_have, padding, read_fault_of, segment_length, segment_of, sense_of}
-use Rattle.ufs_spec.specs.Messages.{spelling, zeros}
+use Rattle.ufs_spec.specs.Messages.{IsMessage, IsSense, Spells, code_of, has_digest, has_extra_header, has_other_code}
+use Rattle.ufs_spec.specs.Messages.{has_wrong_length, header_of, is_among, is_short, known_codes, may_have, padding}
+use Rattle.ufs_spec.specs.Messages.{read_fault_of, segment_length, segment_of, sense_of, spelling, zeros}
 use Rattle.ufs_spec.specs.declared.faults.HostFault.{HostFault}
 use Rattle.ufs_spec.specs.declared.faults.HostFault.TheVariants.{Short, Length, Digest, Ehs, Code}
 use Rattle.ufs_spec.specs.declared.messages.Message.{Message}
-use Rattle.ufs_spec.specs.declared.messages.Message.TheVariants.{NopOut, DataOut, QueryRequest}
-use Rattle.ufs_spec.specs.declared.messages.Message.TheVariants.{Response, DataIn}
-use Rattle.ufs_spec.specs.declared.messages.Message.TheVariants.{QueryResponse}
+use Rattle.ufs_spec.specs.declared.messages.Message.TheVariants.{DataIn, DataOut, NopOut, QueryRequest, QueryResponse}
+use Rattle.ufs_spec.specs.declared.messages.Message.TheVariants.{Response}
 use Rattle.upiu.specs.Reading.{Passes, named_message}
 
 -- a fault that is not told was not there

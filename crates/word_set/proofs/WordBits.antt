@@ -4,8 +4,7 @@ use Rattle.std.proofs.Common.{true, false, List, Option, Some, None, ap, arith, 
 use Rattle.std.proofs.Common.{inl, inr, replicate, if◌then◌else◌, get_or}
 use Rattle.std.specs.Prelude.{nat_le, ◌==◌, slice_get, slice_set, unwrap_or, bit_or, bit_and, min}
 use Rattle.std.specs.Int.{bit_at, trailing_zeros, w64}
-use Rattle.std.proofs.lemmas.Bool.{and_parts, cases_eq, cases_lt, eq-eqb, false_from_ne_true}
-use Rattle.std.proofs.lemmas.Bool.{le-leb, leb-true}
+use Rattle.std.proofs.lemmas.Bool.{and_parts, cases_eq, cases_lt, eq-eqb, false_from_ne_true, le-leb, leb-true}
 use Rattle.std.proofs.lemmas.List.{get_or-replicate, length-replicate}
 use Rattle.std.proofs.lemmas.Nat.{and_le_l, div-mul-add, mod-mul-add}
 use Rattle.std.proofs.lemmas.Nat.Bits.{bit_at_set_same, bit_at_set_other, bit_at_clear_same, bit_at_clear_other}

@@ -1,17 +1,15 @@
 -- The rows of claims: what is done to each row is done to all claims, one row after another.
-use Rattle.std.proofs.Common.{◌≡◌, ◌∙◌, ℕ, ◌+◌, ◌<◌, ◌≤◌, ◌==◌, zero, suc, Bool, true, cond, List, [], ◌∷◌, ◌++◌}
-use Rattle.std.proofs.Common.{length, map, take, drop, get_or, not, slice_set, refl, sym, ap, arith, subst}
-use Rattle.std.proofs.Common.{append_assoc, append-nil, drop-cons, Option, None, Some, MatchOption, length-append}
-use Rattle.std.specs.Prelude.{filter_map}
+use Rattle.write_cache.proofs.Common.{AreBare, Bool, ClaimQueue, Claimed, List, None, Option, Pending, Some, []}
+use Rattle.write_cache.proofs.Common.{all_claims, ap, append_assoc, arith, claims_but, claims_of, cond, drop}
+use Rattle.write_cache.proofs.Common.{false≢true, filter-append, filter_map, get_or, get_or_default, is_claim_of}
+use Rattle.write_cache.proofs.Common.{length, map, map-append, not, refl, subst, suc, sym, take, take_more, true, zero}
+use Rattle.write_cache.proofs.Common.{ℕ, ◌++◌, ◌+◌, ◌<◌, ◌∙◌, ◌∷◌, ◌≡◌, ◌≤◌}
+use Rattle.std.proofs.Common.{MatchOption, append-nil, drop-cons, length-append, slice_set, ◌==◌}
 use Rattle.std.proofs.Math.Dec.{eqb-suc-zero}
-use Rattle.std.proofs.lemmas.List.{get_or_default, map-append, take-append-drop, take_more}
-use Rattle.std.proofs.lemmas.List.Elements.{filter-append, filter_map-append}
+use Rattle.std.proofs.lemmas.List.{take-append-drop}
+use Rattle.std.proofs.lemmas.List.Elements.{filter_map-append}
 use Rattle.std.proofs.lemmas.List.Filters.{length-filter_both}
-use Rattle.ufs_spec.proofs.Facts.{false≢true}
-use Rattle.write_cache.specs.declared.slots.Claimed.{Claimed}
-use Rattle.write_cache.specs.declared.slots.Pending.{Pending}
-use Rattle.write_cache.specs.ClaimRows.{AreBare, ClaimQueue, all_claims, kept_row, kept_rows, used_rows}
-use Rattle.write_cache.specs.Slots.{claims_but, claims_of, is_claim_of}
+use Rattle.write_cache.specs.ClaimRows.{kept_row, kept_rows, used_rows}
 
 -- All claims of rows
 

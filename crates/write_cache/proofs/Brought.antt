@@ -1,15 +1,13 @@
 -- The new pages of a command take the place of claims.
-use Rattle.std.proofs.Common.{◌≡◌, ◌∙◌, ℕ, ◌+◌, ◌<◌, Bool, true, false, cond, List, [], ◌∷◌, ◌++◌, length, map, take}
-use Rattle.std.proofs.Common.{drop, get_or, not, refl, sym, ap, append_assoc, Option, None, Some, slice_get}
-use Rattle.std.specs.Prelude.{option_map, filter_map}
+use Rattle.write_cache.proofs.Common.{Bool, Claimed, List, None, Option, Pending, Some, [], ap, append-nil}
+use Rattle.write_cache.proofs.Common.{append_assoc, claim_brought, claims_of, cond, drop, empty_claim, false}
+use Rattle.write_cache.proofs.Common.{filter-append, filter_map, get_or, is_claim_of, length, map, not, option_map}
+use Rattle.write_cache.proofs.Common.{page_moved, refl, slice_get, sym, take, take_more, true, without_claims, ℕ, ◌++◌}
+use Rattle.write_cache.proofs.Common.{◌+◌, ◌<◌, ◌∙◌, ◌∷◌, ◌≡◌}
 use Rattle.std.specs.List.{cons_option}
-use Rattle.std.proofs.lemmas.List.{append-nil, take_more}
-use Rattle.std.proofs.lemmas.List.Elements.{filter-append, filter_map-append}
+use Rattle.std.proofs.lemmas.List.Elements.{filter_map-append}
 use Rattle.write_cache.specs.declared.rests.NewPage.{NewPage}
-use Rattle.write_cache.specs.declared.slots.Claimed.{Claimed}
-use Rattle.write_cache.specs.declared.slots.Pending.{Pending}
-use Rattle.write_cache.specs.Rests.{body_brought, claim_brought, claim_with, page_brought, page_moved, page_of}
-use Rattle.write_cache.specs.Slots.{claims_of, empty_claim, is_claim_of, without_claims}
+use Rattle.write_cache.specs.Rests.{body_brought, claim_with, page_brought, page_of}
 use Rattle.write_cache.proofs.Turns.{first_next}
 
 -- One claim further

@@ -1,21 +1,19 @@
 -- The entries of the ring tell of the pages after a change: of one page more, of one fewer, and of one that is written.
-use Rattle.std.proofs.Common.{◌≡◌, ◌⊎◌, ◌∙◌, ℕ, zero, suc, ◌+◌, ◌-◌, ◌^◌, ◌<◌, ◌≤◌, Bool, true, false, cond}
-use Rattle.std.proofs.Common.{List, [], ◌∷◌, ◌++◌, length, drop, append_assoc, refl, sym, ap, subst, arith, inl, inr}
-use Rattle.std.proofs.Common.{Option, None, Some, get_or, slice_get}
-use Rattle.std.specs.Prelude.{◌==◌, count_by, min, nat_le, nat_lt, slice_set}
-use Rattle.std.proofs.lemmas.Bool.{ne_eqb}
-use Rattle.std.proofs.lemmas.List.{append-nil, length-append, set-append_left, set-append_right}
+use Rattle.write_cache.proofs.Common.{AreRuns, Bool, GroupAt, List, None, Option, Shown, Some, [], ap, append-nil}
+use Rattle.write_cache.proofs.Common.{append_assoc, arith, cases_eq, cases_lt, cond, drop, eq-eqb, false, false≢true}
+use Rattle.write_cache.proofs.Common.{get_or, inl, inr, le-leb, length, length-append, min, nat_le, nat_lt, ne_eqb}
+use Rattle.write_cache.proofs.Common.{none-some, refl, same_Some, set_length, shortened, slice_get, slice_set, subst}
+use Rattle.write_cache.proofs.Common.{suc, sym, true, wrapped, written, zero, ℕ, ◌++◌, ◌+◌, ◌-◌, ◌<◌, ◌==◌, ◌^◌, ◌∙◌}
+use Rattle.write_cache.proofs.Common.{◌∷◌, ◌≡◌, ◌≤◌, ◌⊎◌}
+use Rattle.std.specs.Prelude.{count_by}
+use Rattle.std.proofs.lemmas.List.{set-append_left, set-append_right}
 use Rattle.std.proofs.lemmas.List.Sums.{sum_by-cons, sum_by_push}
 use Rattle.std.proofs.lemmas.Option.{slice_get-get_or}
-use Rattle.ufs_spec.proofs.Facts.{cases_eq, cases_lt, eq-eqb, false≢true, le-leb, le-ltb, lt-ltb, none-some, same_Some}
-use Rattle.ufs_spec.proofs.Lists.{set_length}
-use Rattle.write_cache.specs.declared.pages.ring.GroupAt.{GroupAt}
-use Rattle.write_cache.specs.Ring.{AreRuns, IsRun, Shown, begun}
-use Rattle.write_cache.specs.Ring.{longer, noted, shorter, shortened, wrapped, written}
+use Rattle.ufs_spec.proofs.Facts.{le-ltb, lt-ltb}
+use Rattle.write_cache.specs.Ring.{IsRun, begun, longer, noted, shorter}
 use Rattle.write_cache.proofs.Entries.{rising_at}
 use Rattle.write_cache.proofs.Rows.{IsLast, last_of_row, row_alone, row_kept, row_longer, same_tests}
-use Rattle.write_cache.proofs.Runs.{of_append, of_at, apart_at, of_set, runs_lower, runs_rising, runs_apart}
-use Rattle.write_cache.proofs.Runs.{runs_most}
+use Rattle.write_cache.proofs.Runs.{apart_at, of_append, of_at, of_set, runs_apart, runs_lower, runs_most, runs_rising}
 
 -- One page more
 

@@ -1,21 +1,19 @@
 -- Queues, from behind, and the first place in a list that passes a test.
-use Rattle.std.proofs.Common.{◌≡◌, ◌∙◌, ℕ, Bool, true, false, cond, List, [], ◌∷◌, length, reverse}
-use Rattle.std.proofs.Common.{◌++◌, take}
-use Rattle.std.proofs.Common.{refl, sym, ap, subst, arith, Option, None, Some, slice_get, ltb}
-use Rattle.std.specs.Prelude.{find, option_and_then, position}
+use Rattle.write_cache.proofs.Common.{Bool, List, None, Option, Pending, Place, Some, [], ap, append-nil, arith, cond}
+use Rattle.write_cache.proofs.Common.{drop_all, false, is_named, length, option_and_then, position, refl, set_length}
+use Rattle.write_cache.proofs.Common.{slice_get, subst, sym, take, true, written_at, ℕ, ◌++◌, ◌∙◌, ◌∷◌, ◌≡◌}
+use Rattle.std.proofs.Common.{ltb, reverse}
+use Rattle.std.specs.Prelude.{find}
 use Rattle.std.specs.Iterator.Adapters.{rev_source, rev_steps}
 use Rattle.std.specs.List.{position_or_len, refill}
 use Rattle.std.specs.VecDeque.Iter.{deque_iter_rest, deque_iter_steps_back}
 use Rattle.std.proofs.lemmas.Iterator.{YieldsList}
 use Rattle.std.proofs.lemmas.Iterator.Consumers.{YieldsList-from_shown}
-use Rattle.std.proofs.lemmas.List.{append-nil, drop_all, length-reverse, reverse-append, take_all}
+use Rattle.std.proofs.lemmas.List.{length-reverse, reverse-append, take_all}
 use Rattle.std.proofs.lemmas.List.Folds.{find_at}
 use Rattle.std.proofs.lemmas.Option.{slice_get_past}
 use Rattle.ufs_spec.proofs.Facts.{ltb-false}
-use Rattle.ufs_spec.proofs.Lists.{set_length}
-use Rattle.ufs_spec.specs.declared.flash.Place.{Place}
-use Rattle.write_cache.specs.declared.slots.Pending.{Pending}
-use Rattle.write_cache.specs.Slots.{is_named, page_written, written_at, written_if}
+use Rattle.write_cache.specs.Slots.{page_written, written_if}
 
 -- a queue's pages from behind
 pub YieldsList-from_rev_deque : {A : Type 0} → {s : _} (xs : List A) → deque_iter_rest (rev_source s) ≡ xs →

@@ -1,10 +1,7 @@
 -- The entries of the ring: their numbers rise.
-use Rattle.std.proofs.Common.{◌≡◌, ℕ, zero, suc, ◌+◌, ◌<◌, ◌≤◌, false, List, [], ◌∷◌, length, drop}
-use Rattle.std.proofs.Common.{sym, ap, subst, arith, Some, slice_get}
-use Rattle.std.specs.Prelude.{◌==◌}
-use Rattle.ufs_spec.proofs.Facts.{none-some, same_Some}
-use Rattle.write_cache.specs.declared.pages.ring.GroupAt.{GroupAt}
-use Rattle.write_cache.specs.Ring.{AreConsecutive, HasNone, IsRising}
+use Rattle.write_cache.proofs.Common.{AreConsecutive, GroupAt, HasNone, IsRising, List, Some, [], ap, arith, drop}
+use Rattle.write_cache.proofs.Common.{false, length, none-some, same_Some, slice_get, subst, suc, sym, zero, ℕ, ◌+◌}
+use Rattle.write_cache.proofs.Common.{◌<◌, ◌==◌, ◌∷◌, ◌≡◌, ◌≤◌}
 
 pub other_above : (n m : ℕ) → n < m → (m == n) ≡ false
 other_above n m l = grind (arith, l)

@@ -1,18 +1,13 @@
 -- The pages whose rests come by one read, one after another.
-use Rattle.std.proofs.Common.{◌≡◌, ◌∙◌, ℕ, zero, suc, ◌+◌, ◌<◌, ◌≤◌, Bool, true, false, cond, List, [], ◌∷◌, ◌++◌}
-use Rattle.std.proofs.Common.{length, take, drop, refl, sym, ap, arith, add-one, Option, None, Some, slice_get}
-use Rattle.std.specs.Prelude.{◌||◌, is_some, option_and_then, option_map, slice_set}
-use Rattle.std.specs.List.{list_any}
-use Rattle.std.proofs.lemmas.List.{append-nil, drop_all, take_all}
-use Rattle.ufs_spec.proofs.Facts.{none-some, same_Some, true≢false}
-use Rattle.ufs_spec.proofs.Lists.{set_length}
+use Rattle.write_cache.proofs.Common.{Bool, List, None, Option, Pending, Rest, Some, [], ap, append-nil, arith, awaits}
+use Rattle.write_cache.proofs.Common.{base_behind, completed, completed_at, completed_by, cond, drop, drop_all, false}
+use Rattle.write_cache.proofs.Common.{is_some, length, list_any, none-some, option_and_then, option_map, passes, refl}
+use Rattle.write_cache.proofs.Common.{rests_filled, same_Some, set_length, shown, slice_get, slice_set, suc, sym, take}
+use Rattle.write_cache.proofs.Common.{tells, true, true≢false, waits, zero, ℕ, ◌++◌, ◌+◌, ◌<◌, ◌||◌, ◌∙◌, ◌∷◌, ◌≡◌, ◌≤◌}
+use Rattle.std.proofs.Common.{add-one}
+use Rattle.std.proofs.lemmas.List.{take_all}
 use Rattle.ufs_spec.specs.declared.layer.Name.{Name}
-use Rattle.word_set.specs.Flags.{passes, tells}
-use Rattle.write_cache.specs.declared.rests.Rest.{Rest}
-use Rattle.write_cache.specs.declared.slots.Pending.{Pending}
-use Rattle.write_cache.specs.Rests.{awaited_by, awaits, base_behind, body_or, comes_by, completed, completed_at}
-use Rattle.write_cache.specs.Rests.{completed_by, own_name, rests_filled, waits}
-use Rattle.write_cache.specs.Ring.{shown}
+use Rattle.write_cache.specs.Rests.{awaited_by, body_or, comes_by, own_name}
 
 -- What stays
 

@@ -1,14 +1,12 @@
 -- The pages of the first group.
-use Rattle.std.proofs.Common.{◌≡◌, ◌∙◌, ℕ, zero, suc, ◌+◌, ◌<◌, ◌≤◌, Bool, true, false, cond, List, [], ◌∷◌, ◌++◌}
-use Rattle.std.proofs.Common.{length, map, take, drop, filter, not, get_or, refl, sym, ap, subst, arith}
-use Rattle.std.proofs.Common.{None, Some, slice_get}
-use Rattle.std.specs.Prelude.{◌&&◌, ◌||◌, if◌then◌else◌, count_by, is_none}
-use Rattle.std.specs.List.{list_any}
+use Rattle.write_cache.proofs.Common.{AreApart, AreRuns, Bool, GroupAt, List, None, Pending, Shown, Some, [], ap, arith}
+use Rattle.write_cache.proofs.Common.{cond, drop, eq-eqb, false, get_or, is_none, length, list_any, map, none-some, not}
+use Rattle.write_cache.proofs.Common.{refl, same_Some, shown, slice_get, subst, suc, sym, take, true, zero, ℕ, ◌&&◌}
+use Rattle.write_cache.proofs.Common.{◌++◌, ◌+◌, ◌<◌, ◌||◌, ◌∙◌, ◌∷◌, ◌≡◌, ◌≤◌}
+use Rattle.std.proofs.Common.{filter}
+use Rattle.std.specs.Prelude.{count_by, if◌then◌else◌}
 use Rattle.std.proofs.lemmas.List.Sums.{sum_by-cons}
-use Rattle.ufs_spec.proofs.Facts.{eq-eqb, none-some, same_Some}
-use Rattle.write_cache.specs.declared.pages.ring.GroupAt.{GroupAt}
-use Rattle.write_cache.specs.declared.slots.Pending.{Pending}
-use Rattle.write_cache.specs.Ring.{AreApart, AreOf, AreRuns, Shown, shown}
+use Rattle.write_cache.specs.Ring.{AreOf}
 use Rattle.write_cache.specs.Slots.{front_written, is_of_group, is_unwritten, whole_group}
 use Rattle.write_cache.proofs.Runs.{runs_apart}
 

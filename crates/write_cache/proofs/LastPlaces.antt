@@ -1,23 +1,21 @@
 -- Where the last page of each key stands, and what the table of positions tells of it.
-use Rattle.std.proofs.Common.{◌≡◌, ◌≢◌, ◌∙◌, ◌⊎◌, ℕ, zero, suc, ◌+◌, ◌-◌, ◌^◌, ◌<◌, Bool, true, false, cond, List, []}
-use Rattle.std.proofs.Common.{◌∷◌, ◌++◌, length, map, replicate, reverse, refl, sym, ap, arith, inl, inr}
-use Rattle.std.proofs.Common.{Option, None, Some, option_map, slice_get}
-use Rattle.std.specs.Prelude.{option_and_then, position}
-use Rattle.std.proofs.lemmas.List.{length-map, length-replicate, length-reverse, map-append, reverse-append}
-use Rattle.std.proofs.lemmas.Option.{slice_get-map, slice_get_within}
+use Rattle.write_cache.proofs.Common.{Bool, List, None, Numbers, Option, Pending, Some, [], ap, arith, cond, false, inl}
+use Rattle.write_cache.proofs.Common.{inr, length, length-map, map, map-append, none-some, option_and_then, position}
+use Rattle.write_cache.proofs.Common.{position_told, refl, replicate, same_Some, set_length, slice_get, slice_get-map}
+use Rattle.write_cache.proofs.Common.{slice_get_within, suc, sym, true, wrapped, zero, ℕ, ◌++◌, ◌+◌, ◌-◌, ◌<◌, ◌^◌, ◌∙◌}
+use Rattle.write_cache.proofs.Common.{◌∷◌, ◌≡◌, ◌≢◌, ◌⊎◌}
+use Rattle.std.proofs.Common.{option_map, reverse}
+use Rattle.std.proofs.lemmas.List.{length-replicate, length-reverse, reverse-append}
 use Rattle.geometry.specs.Keys.{index_of, key_total}
 use Rattle.geometry.proofs.KeyIndexes.{index_below, one_key}
 use Rattle.ufs_spec.proofs.Equalities.{key_cases}
-use Rattle.ufs_spec.proofs.Facts.{none-some, same_Some}
-use Rattle.ufs_spec.proofs.Lists.{position_behind, position_here, position_told, set_here, set_length, set_other}
+use Rattle.ufs_spec.proofs.Lists.{position_behind, position_here, set_here, set_other}
 use Rattle.ufs_spec.specs.Keys.{same_key}
 use Rattle.ufs_spec.specs.Plain.{shape_of_numbers}
-use Rattle.ufs_spec.specs.declared.configs.Numbers.{Numbers}
 use Rattle.ufs_spec.specs.declared.flash.Key.{Key}
 use Rattle.write_cache.specs.declared.pages.newest.Newest.{Newest}
-use Rattle.write_cache.specs.declared.slots.Pending.{Pending}
 use Rattle.write_cache.specs.Newest.{IsNewest, index_in, page_if, place_noted, positions_noted}
-use Rattle.write_cache.specs.Ring.{back, wrapped}
+use Rattle.write_cache.specs.Ring.{back}
 use Rattle.write_cache.specs.Slots.{is_page_of, last_of, last_page}
 
 -- The last of some keys

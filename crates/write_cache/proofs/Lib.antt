@@ -1,3 +1,4 @@
+mod Common
 pub mod AllClaims
 pub mod Brought
 pub mod ChangedRuns

@@ -1,24 +1,18 @@
 -- Which page is written at each place of the dies, as a page is written or leaves its place, and which is found there.
-use Rattle.std.proofs.Common.{◌≡◌, ◌≢◌, ◌⊎◌, ◌∙◌, ℕ, zero, suc, ◌<◌, ◌^◌, Bool, true, false}
-use Rattle.std.proofs.Common.{List, [], ◌∷◌, length, refl, sym, ap, subst, arith, inl, inr}
-use Rattle.std.proofs.Common.{Option, None, Some, slice_get, if◌then◌else◌}
-use Rattle.std.specs.Prelude.{◌==◌, ◌||◌, option_and_then, position, slice_set}
+use Rattle.write_cache.proofs.Common.{Bool, List, None, Numbers, Option, Pending, Place, Some, [], ap, arith, cases_eq}
+use Rattle.write_cache.proofs.Common.{changed, eq-eqb, eqb-true, false, false≢true, get_there, inl, inr, is_there}
+use Rattle.write_cache.proofs.Common.{length, none-some, option_and_then, passes, position, refl, same_Some, set_here}
+use Rattle.write_cache.proofs.Common.{slice_get, slice_get_within, slice_set, subst, suc, sym, tells, true, written_at}
+use Rattle.write_cache.proofs.Common.{zero, ℕ, ◌<◌, ◌==◌, ◌^◌, ◌||◌, ◌∙◌, ◌∷◌, ◌≡◌, ◌≢◌, ◌⊎◌}
+use Rattle.std.proofs.Common.{if◌then◌else◌}
 use Rattle.std.proofs.lemmas.Iterator.Adapters.{position_from-zero}
-use Rattle.std.proofs.lemmas.Option.{slice_get_within}
 use Rattle.ufs_spec.proofs.Equalities.{place_cases}
-use Rattle.ufs_spec.proofs.Facts.{cases_eq, eq-eqb, eqb-self, eqb-true, false≢true, none-some}
-use Rattle.ufs_spec.proofs.Facts.{or_parts, same_Some}
-use Rattle.ufs_spec.proofs.Lists.{get_there}
+use Rattle.ufs_spec.proofs.Facts.{eqb-self, or_parts}
 use Rattle.ufs_spec.specs.Cells.{same_place}
-use Rattle.ufs_spec.specs.declared.configs.Numbers.{Numbers}
-use Rattle.ufs_spec.specs.declared.flash.Place.{Place}
-use Rattle.word_set.specs.Flags.{passes, tells}
-use Rattle.word_set.specs.Tests.{IsFirstFrom, changed}
-use Rattle.word_set.proofs.Flags.{changed_other, changed_there, first_is, ne-eqb}
-use Rattle.word_set.proofs.Flags.{passes_set, set_here, set_length, set_other}
+use Rattle.word_set.specs.Tests.{IsFirstFrom}
+use Rattle.word_set.proofs.Flags.{changed_other, changed_there, first_is, ne-eqb, passes_set, set_length, set_other}
 use Rattle.write_cache.specs.declared.pages.written_at.WrittenAt.{WrittenAt}
-use Rattle.write_cache.specs.declared.slots.Pending.{Pending}
-use Rattle.write_cache.specs.Slots.{is_at, is_there, written_at}
+use Rattle.write_cache.specs.Slots.{is_at}
 use Rattle.write_cache.specs.WrittenAt.{AreThere, IsWrittenAt, entry_left, entry_of, entry_put, is_taken, no_page}
 use Rattle.write_cache.specs.WrittenAt.{place_before, place_index, place_total, position_of, standing, told_of}
 use Rattle.write_cache.proofs.WrittenPlaces.{index_within, one_place, stands, none_stands, own_stands, untaken}

@@ -1,17 +1,11 @@
 -- A page of a group is written: the queue and its ring.
-use Rattle.std.proofs.Common.{◌≡◌, ◌∙◌, ℕ, zero, suc, Bool, true, List, [], ◌∷◌, length, map, refl, sym, ap, subst}
-use Rattle.std.proofs.Common.{Option, None, Some, slice_get}
-use Rattle.std.specs.Prelude.{◌==◌, position, slice_set}
+use Rattle.write_cache.proofs.Common.{AreRuns, Bool, GroupAt, HasNone, List, None, Option, Pending, Place, Shown, Some}
+use Rattle.write_cache.proofs.Common.{[], and_parts, ap, eqb-true, first_number, is_named, length, map, none-some}
+use Rattle.write_cache.proofs.Common.{option_map, position, position_told, refl, same_Some, set_length, shown}
+use Rattle.write_cache.proofs.Common.{slice_get, slice_get-map, slice_set, subst, suc, sym, true, written, written_at}
+use Rattle.write_cache.proofs.Common.{zero, ℕ, ◌==◌, ◌∙◌, ◌∷◌, ◌≡◌}
 use Rattle.std.proofs.lemmas.List.{map-set}
-use Rattle.std.proofs.lemmas.Option.{slice_get-map}
-use Rattle.std.specs.Prelude.{option_map}
-use Rattle.ufs_spec.proofs.Facts.{and_parts, eqb-true, none-some, same_Some}
-use Rattle.ufs_spec.proofs.Lists.{position_told, set_length}
-use Rattle.ufs_spec.specs.declared.flash.Place.{Place}
-use Rattle.write_cache.specs.declared.pages.ring.GroupAt.{GroupAt}
-use Rattle.write_cache.specs.declared.slots.Pending.{Pending}
-use Rattle.write_cache.specs.Ring.{AreRuns, HasNone, Shown, first_number, is_open_at, shown, written}
-use Rattle.write_cache.specs.Slots.{is_named, written_at}
+use Rattle.write_cache.specs.Ring.{is_open_at}
 use Rattle.write_cache.proofs.Places.{found_at, none_named}
 use Rattle.write_cache.proofs.Runs.{runs_none}
 use Rattle.write_cache.proofs.ChangedRuns.{closed, runs_written}

@@ -1,15 +1,11 @@
 -- The claims of a row, which are all of one reader.
-use Rattle.std.proofs.Common.{◌≡◌, ◌∙◌, ℕ, ◌==◌, Bool, true, false, cond, ◌&&◌, List, [], ◌∷◌, ◌++◌, map}
-use Rattle.std.proofs.Common.{not, refl, ap, eq-eqb, ne_eqb, sym, Option, None, Some, slice_get}
-use Rattle.std.proofs.Common.{append-nil}
-use Rattle.std.specs.Prelude.{filter_map, nat_le}
+use Rattle.write_cache.proofs.Common.{AreOf, Bool, Claimed, List, None, Option, Pending, Some, [], ap, claim_brought}
+use Rattle.write_cache.proofs.Common.{claim_filled, claims_but, claims_of, cond, false, filter_map, is_claim_behind}
+use Rattle.write_cache.proofs.Common.{is_claim_of, map, nat_le, not, refl, slice_get, sym, true, without_claims}
+use Rattle.write_cache.proofs.Common.{without_claims_behind, ℕ, ◌++◌, ◌∙◌, ◌∷◌, ◌≡◌}
+use Rattle.std.proofs.Common.{append-nil, eq-eqb, ne_eqb, ◌&&◌, ◌==◌}
 use Rattle.write_cache.specs.declared.rests.NewPage.{NewPage}
-use Rattle.write_cache.specs.declared.slots.Claimed.{Claimed}
-use Rattle.write_cache.specs.declared.slots.Pending.{Pending}
-use Rattle.write_cache.specs.ClaimRows.{AreOf}
-use Rattle.write_cache.specs.Rests.{claim_brought, claim_with}
-use Rattle.write_cache.specs.Slots.{claim_filled, claims_but, claims_of, is_claim_behind, is_claim_of}
-use Rattle.write_cache.specs.Slots.{without_claims, without_claims_behind}
+use Rattle.write_cache.specs.Rests.{claim_with}
 
 -- What is of the reader stays of the reader
 

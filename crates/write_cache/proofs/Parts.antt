@@ -1,8 +1,7 @@
 -- A page's rest is put around its own part.
-use Rattle.std.proofs.Common.{◌≡◌, ◌∙◌, ℕ, ◌+◌, ◌-◌, ◌≤◌, List, [], ◌++◌, length, take, drop, sym, ap, arith}
-use Rattle.std.proofs.Common.{append_assoc}
-use Rattle.std.specs.Prelude.{min}
-use Rattle.std.proofs.lemmas.List.{append-nil, drop_all, drop_min, length-append, length-drop, length-take-le, take_min}
+use Rattle.write_cache.proofs.Common.{List, [], ap, append-nil, append_assoc, arith, drop, drop_all, length}
+use Rattle.write_cache.proofs.Common.{length-append, min, sym, take, ℕ, ◌++◌, ◌+◌, ◌-◌, ◌∙◌, ◌≡◌, ◌≤◌}
+use Rattle.std.proofs.lemmas.List.{drop_min, length-drop, length-take-le, take_min}
 use Rattle.std.proofs.Math.Seq.{take-append-add}
 use Rattle.ufs_spec.specs.Plain.{with_part}
 

@@ -1,21 +1,15 @@
 -- Where a page of a number and index stands.
-use Rattle.std.proofs.Common.{◌≡◌, ◌⊎◌, ◌∙◌, ℕ, zero, suc, ◌+◌, ◌-◌, ◌^◌, ◌<◌, ◌≤◌, Bool, true, false, cond, List, []}
-use Rattle.std.proofs.Common.{◌∷◌, ◌++◌, length, map, take, drop, refl, sym, ap, arith, inl, inr}
-use Rattle.std.proofs.Common.{None, Some, slice_get}
-use Rattle.std.specs.Prelude.{◌==◌, ◌&&◌, nat_lt, position}
-use Rattle.std.specs.List.{position_from}
-use Rattle.std.proofs.lemmas.Bool.{ne_eqb}
+use Rattle.write_cache.proofs.Common.{AreApart, Bool, GroupAt, List, None, Pending, Shown, Some, Stands, [], and_parts}
+use Rattle.write_cache.proofs.Common.{ap, arith, cases_eq, cases_lt, cond, drop, eq-eqb, eqb-true, false, inl, inr}
+use Rattle.write_cache.proofs.Common.{is_named, le-leb, length, map, nat_lt, ne_eqb, none-some, position, position_from}
+use Rattle.write_cache.proofs.Common.{refl, same_Some, shown, slice_get, suc, sym, take, true, wrapped, zero, ℕ, ◌&&◌}
+use Rattle.write_cache.proofs.Common.{◌++◌, ◌+◌, ◌-◌, ◌<◌, ◌==◌, ◌^◌, ◌∙◌, ◌∷◌, ◌≡◌, ◌≤◌, ◌⊎◌}
 use Rattle.std.proofs.lemmas.Iterator.Adapters.{position_from-zero}
 use Rattle.std.proofs.lemmas.List.{drop-map, take-map}
 use Rattle.std.proofs.Math.Seq.{drop-append_seam, take-append_seam}
-use Rattle.ufs_spec.proofs.Facts.{and_parts, cases_eq, cases_lt, eq-eqb, eqb-true, leb-true, le-ltb}
-use Rattle.ufs_spec.proofs.Facts.{le-leb, lt-leb, lt-ltb, none-some, same_Some}
+use Rattle.ufs_spec.proofs.Facts.{le-ltb, leb-true, lt-leb, lt-ltb}
 use Rattle.ufs_spec.proofs.Lists.{take_get}
-use Rattle.write_cache.specs.declared.pages.ring.GroupAt.{GroupAt}
-use Rattle.write_cache.specs.declared.slots.Pending.{Pending}
-use Rattle.write_cache.specs.Ring.{AreApart, AreOf, Shown, Stands, back, is_row, is_straight, place_of, shown}
-use Rattle.write_cache.specs.Ring.{wrapped}
-use Rattle.write_cache.specs.Slots.{is_named}
+use Rattle.write_cache.specs.Ring.{AreOf, back, is_row, is_straight, place_of}
 use Rattle.write_cache.proofs.Runs.{stands_within}
 
 -- the page has this number and index

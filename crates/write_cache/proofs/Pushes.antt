@@ -1,11 +1,8 @@
 -- A page is put behind all others, or leaves before them: the queue and its ring.
-use Rattle.std.proofs.Common.{◌≡◌, ◌∙◌, ℕ, ◌+◌, ◌^◌, ◌<◌, ◌≤◌, Bool, List, [], ◌∷◌, ◌++◌, None, length, map}
-use Rattle.std.proofs.Common.{refl, sym, ap, subst, arith}
-use Rattle.std.specs.Prelude.{is_none}
-use Rattle.std.proofs.lemmas.List.{length-map, map-append}
-use Rattle.write_cache.specs.declared.pages.ring.GroupAt.{GroupAt}
-use Rattle.write_cache.specs.declared.slots.Pending.{Pending}
-use Rattle.write_cache.specs.Ring.{AreRuns, Shown, first_number, noted, shown, shortened, wrapped}
+use Rattle.write_cache.proofs.Common.{AreRuns, Bool, GroupAt, List, None, Pending, Shown, [], ap, arith, first_number}
+use Rattle.write_cache.proofs.Common.{is_none, length, length-map, map, map-append, refl, shortened, shown, subst, sym}
+use Rattle.write_cache.proofs.Common.{wrapped, ℕ, ◌++◌, ◌+◌, ◌<◌, ◌^◌, ◌∙◌, ◌∷◌, ◌≡◌, ◌≤◌}
+use Rattle.write_cache.specs.Ring.{noted}
 use Rattle.write_cache.proofs.Runs.{runs_first, runs_lower}
 use Rattle.write_cache.proofs.ChangedRuns.{new, runs_noted, runs_shorter}
 

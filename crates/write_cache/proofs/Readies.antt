@@ -1,22 +1,17 @@
 -- The places of the pages that pass a test, as those that can be programmed now or wait for their rest: as pages
 -- come, leave, and are written or filled.
-use Rattle.std.proofs.Common.{◌≡◌, ◌⊎◌, ◌∙◌, inl, inr, ℕ, ◌+◌, ◌<◌, ◌≤◌, Bool, false, List, [], ◌∷◌, ◌++◌, length, replicate}
-use Rattle.std.proofs.Common.{map, refl, sym, ap, arith, Option, None, Some, slice_get, zero, suc, drop}
-use Rattle.std.specs.Prelude.{is_some, position, slice_set}
-use Rattle.std.proofs.lemmas.Option.{slice_get_within}
-use Rattle.std.proofs.lemmas.List.{length-append, length-drop}
-use Rattle.ufs_spec.proofs.Facts.{cases_lt, false≢true}
-use Rattle.ufs_spec.proofs.Lists.{get_there, position_told}
-use Rattle.ufs_spec.specs.declared.flash.Place.{Place}
-use Rattle.word_set.specs.Flags.{first_passing, is_set, passes, tells}
-use Rattle.word_set.specs.Tests.{IsFirst, IsFirstFrom, changed}
-use Rattle.word_set.proofs.Flags.{first_told, passes_drop, passes_past, passes_more, passes_set, passes_shifted}
-use Rattle.word_set.proofs.Flags.{same_first, set_here, set_length}
-use Rattle.write_cache.specs.declared.rests.Rest.{Rest}
-use Rattle.write_cache.specs.declared.slots.Pending.{Pending}
-use Rattle.write_cache.specs.Ready.{AreTold, IsSetOf, is_ready}
-use Rattle.write_cache.specs.Rests.{completed, completed_at, completed_by, waits}
-use Rattle.write_cache.specs.Slots.{is_named, written_at}
+use Rattle.write_cache.proofs.Common.{AreTold, Bool, List, None, Option, Pending, Place, Rest, Some, [], ap, arith}
+use Rattle.write_cache.proofs.Common.{cases_lt, changed, completed, completed_at, completed_by, drop, false, false≢true}
+use Rattle.write_cache.proofs.Common.{get_there, inl, inr, is_named, is_ready, is_some, length, length-append, map}
+use Rattle.write_cache.proofs.Common.{passes, position, position_told, refl, replicate, set_here, slice_get}
+use Rattle.write_cache.proofs.Common.{slice_get_within, slice_set, suc, sym, tells, waits, written_at, zero, ℕ, ◌++◌}
+use Rattle.write_cache.proofs.Common.{◌+◌, ◌<◌, ◌∙◌, ◌∷◌, ◌≡◌, ◌≤◌, ◌⊎◌}
+use Rattle.std.proofs.lemmas.List.{length-drop}
+use Rattle.word_set.specs.Flags.{first_passing, is_set}
+use Rattle.word_set.specs.Tests.{IsFirst, IsFirstFrom}
+use Rattle.word_set.proofs.Flags.{first_told, passes_drop, passes_more, passes_past, passes_set, passes_shifted}
+use Rattle.word_set.proofs.Flags.{same_first, set_length}
+use Rattle.write_cache.specs.Ready.{IsSetOf}
 use Rattle.write_cache.proofs.Same.{rest_of, same_passes}
 
 -- no page is there, and no flag is set

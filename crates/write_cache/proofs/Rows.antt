@@ -1,14 +1,14 @@
 -- Pages whose indexes rise by one, at the end of a group.
-use Rattle.std.proofs.Common.{◌≡◌, ◌⊎◌, ◌∙◌, ℕ, zero, suc, ◌+◌, ◌-◌, ◌^◌, ◌<◌, ◌≤◌, Bool, true, false, cond, List, []}
-use Rattle.std.proofs.Common.{◌∷◌, ◌++◌, length, drop, refl, sym, ap, arith, inl, inr, Some, slice_get}
-use Rattle.std.specs.Prelude.{◌==◌, ◌&&◌, min, nat_le, slice_set}
-use Rattle.std.proofs.lemmas.Bool.{ne_eqb}
-use Rattle.std.proofs.lemmas.List.{drop-append-le, length-append}
+use Rattle.write_cache.proofs.Common.{AreStraight, Bool, List, Shown, Some, [], and_parts, ap, arith, cases_eq}
+use Rattle.write_cache.proofs.Common.{cases_lt, cond, drop, eq-eqb, eqb-true, false, inl, inr, le-leb, length}
+use Rattle.write_cache.proofs.Common.{length-append, min, nat_le, ne_eqb, none-some, refl, same_Some, set_length}
+use Rattle.write_cache.proofs.Common.{slice_get, slice_set, suc, sym, true, zero, ℕ, ◌&&◌, ◌++◌, ◌+◌, ◌-◌, ◌<◌, ◌==◌}
+use Rattle.write_cache.proofs.Common.{◌^◌, ◌∙◌, ◌∷◌, ◌≡◌, ◌≤◌, ◌⊎◌}
+use Rattle.std.proofs.lemmas.List.{drop-append-le}
 use Rattle.std.proofs.Math.Bool.{and-false}
 use Rattle.std.proofs.Math.Seq.{drop-append-add}
-use Rattle.ufs_spec.proofs.Lists.{set_length}
-use Rattle.ufs_spec.proofs.Facts.{and_parts, cases_eq, cases_lt, eq-eqb, eqb-true, le-leb, lt-leb, none-some, same_Some}
-use Rattle.write_cache.specs.Ring.{AreOf, AreStraight, Shown, is_row}
+use Rattle.ufs_spec.proofs.Facts.{lt-leb}
+use Rattle.write_cache.specs.Ring.{AreOf, is_row}
 
 -- Tests
 

@@ -1,14 +1,11 @@
 -- What the entries of the ring tell of the pages, and the pages of one group among all.
-use Rattle.std.proofs.Common.{◌≡◌, ◌∙◌, ℕ, zero, suc, ◌+◌, ◌-◌, ◌^◌, ◌<◌, ◌≤◌, false}
-use Rattle.std.proofs.Common.{List, [], ◌∷◌, ◌++◌, length, append_assoc, refl, sym, ap, subst, arith}
-use Rattle.std.proofs.Common.{Option, None, Some, slice_get}
-use Rattle.std.specs.Prelude.{◌==◌, IfSome, slice_set}
-use Rattle.std.proofs.lemmas.List.{length-append}
+use Rattle.write_cache.proofs.Common.{AreApart, AreRuns, GroupAt, HasNone, IsRising, List, None, Option, Shown, Some}
+use Rattle.write_cache.proofs.Common.{Stands, [], ap, append_assoc, arith, false, first_number, length, length-append}
+use Rattle.write_cache.proofs.Common.{none-some, refl, same_Some, slice_get, slice_set, subst, suc, sym, wrapped, zero}
+use Rattle.write_cache.proofs.Common.{ℕ, ◌++◌, ◌+◌, ◌-◌, ◌<◌, ◌==◌, ◌^◌, ◌∙◌, ◌∷◌, ◌≡◌, ◌≤◌}
+use Rattle.std.specs.Prelude.{IfSome}
 use Rattle.std.proofs.lemmas.List.Sums.{count_by-le-length}
-use Rattle.ufs_spec.proofs.Facts.{none-some, same_Some}
-use Rattle.write_cache.specs.declared.pages.ring.GroupAt.{GroupAt}
-use Rattle.write_cache.specs.Ring.{AreApart, AreOf, AreRuns, HasNone, IsRising, IsRun, Shown, Stands}
-use Rattle.write_cache.specs.Ring.{first_number, wrapped}
+use Rattle.write_cache.specs.Ring.{AreOf, IsRun}
 use Rattle.write_cache.proofs.Entries.{other_above, other_below, rising_at}
 
 -- Pages of a group, and apart from it

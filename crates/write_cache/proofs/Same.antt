@@ -1,16 +1,10 @@
 -- What calls leave as it is in each page, and what tests say then.
-use Rattle.std.proofs.Common.{◌≡◌, ◌∙◌, ℕ, zero, suc, Bool, true, false, cond, List, [], ◌∷◌, map, refl, sym, ap}
-use Rattle.std.proofs.Common.{Option, None, Some, option_map, slice_get}
-use Rattle.std.specs.Prelude.{slice_set}
-use Rattle.std.proofs.lemmas.Option.{slice_get-map}
-use Rattle.ufs_spec.proofs.Facts.{same_Some}
-use Rattle.ufs_spec.specs.declared.flash.Place.{Place}
+use Rattle.write_cache.proofs.Common.{Bool, List, None, Option, Pending, Place, Rest, Some, [], ap, awaits, completed}
+use Rattle.write_cache.proofs.Common.{completed_by, cond, false, map, passes, refl, rests_filled, same_Some, slice_get}
+use Rattle.write_cache.proofs.Common.{slice_get-map, slice_set, suc, sym, tells, true, written_at, zero, ℕ, ◌∙◌, ◌∷◌}
+use Rattle.write_cache.proofs.Common.{◌≡◌}
+use Rattle.std.proofs.Common.{option_map}
 use Rattle.ufs_spec.specs.declared.layer.Name.{Name}
-use Rattle.word_set.specs.Flags.{passes, tells}
-use Rattle.write_cache.specs.declared.rests.Rest.{Rest}
-use Rattle.write_cache.specs.declared.slots.Pending.{Pending}
-use Rattle.write_cache.specs.Rests.{awaits, completed, completed_by, rests_filled}
-use Rattle.write_cache.specs.Slots.{written_at}
 
 abbrev pub rest_of : Pending → Option Rest
 rest_of p = p.rest

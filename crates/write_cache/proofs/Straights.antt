@@ -1,9 +1,8 @@
 -- Straight pages: their groups have consecutive numbers, and indexes that rise by one.
-use Rattle.std.proofs.Common.{◌≡◌, ◌∙◌, ℕ, ◌+◌, ◌<◌, ◌≤◌, true, List, [], ◌∷◌, ◌++◌, length, refl}
-use Rattle.std.proofs.Common.{sym, subst, arith}
-use Rattle.write_cache.specs.declared.pages.ring.GroupAt.{GroupAt}
-use Rattle.write_cache.specs.Ring.{AreConsecutive, AreOf, AreRuns, AreStraight, Shown, Stands}
-use Rattle.write_cache.specs.Ring.{first_number, is_straight}
+use Rattle.write_cache.proofs.Common.{AreConsecutive, AreRuns, AreStraight, GroupAt, List, Shown, Stands, [], arith}
+use Rattle.write_cache.proofs.Common.{first_number, length, refl, subst, sym, true, ℕ, ◌++◌, ◌+◌, ◌<◌, ◌∙◌, ◌∷◌, ◌≡◌}
+use Rattle.write_cache.proofs.Common.{◌≤◌}
+use Rattle.write_cache.specs.Ring.{AreOf, is_straight}
 use Rattle.write_cache.proofs.Rows.{row_straight, same_tests}
 use Rattle.write_cache.proofs.ChangedRuns.{last_of_run}
 

@@ -1,11 +1,8 @@
 -- What the invariant of the queue of pages gives its calls.
-use Rattle.std.proofs.Common.{◌≡◌, ℕ, ◌+◌, ◌^◌, ◌<◌, Some, length, map, slice_get, subst, sym, arith}
-use Rattle.std.proofs.lemmas.List.{length-map}
+use Rattle.write_cache.proofs.Common.{AreConsecutive, AreStraight, GroupAt, IsRising, Queue, Some, Stands, arith}
+use Rattle.write_cache.proofs.Common.{length, length-map, map, shown, slice_get, subst, sym, ℕ, ◌+◌, ◌<◌, ◌^◌, ◌≡◌}
 use Rattle.write_cache.specs.declared.pages.Pages.TheInside.{Inside}
-use Rattle.write_cache.specs.declared.pages.ring.GroupAt.{GroupAt}
-use Rattle.write_cache.specs.Kept.{Queue}
 use Rattle.write_cache.specs.Queue.{IsTold, queue_of}
-use Rattle.write_cache.specs.Ring.{AreConsecutive, AreStraight, IsRising, Stands, shown}
 use Rattle.write_cache.proofs.Runs.{runs_length, runs_rising, stands}
 use Rattle.write_cache.proofs.Straights.{consecutive}
 

@@ -1,15 +1,11 @@
 -- The claims as they turn: the first goes to the back, or is gone if it is of the reader.
-use Rattle.std.proofs.Common.{◌≡◌, ◌∙◌, ℕ, ◌+◌, ◌<◌, suc, Bool, true, false, cond, List, [], ◌∷◌, ◌++◌}
-use Rattle.std.proofs.Common.{length, map, take}
-use Rattle.std.proofs.Common.{drop, get_or, not, refl, sym, ap, arith, append_assoc, drop-cons}
-use Rattle.std.proofs.lemmas.List.{append-nil, map-append, take_more}
-use Rattle.std.proofs.lemmas.List.Elements.{filter-append}
-use Rattle.write_cache.specs.declared.slots.Claimed.{Claimed}
-use Rattle.write_cache.specs.declared.slots.Pending.{Pending}
-use Rattle.std.specs.Prelude.{◌&&◌, nat_le}
+use Rattle.write_cache.proofs.Common.{Bool, Claimed, List, Pending, [], ap, append-nil, append_assoc, arith, claims_but}
+use Rattle.write_cache.proofs.Common.{claims_of, cond, drop, empty_claim, false, filter-append, get_or, is_claim_of}
+use Rattle.write_cache.proofs.Common.{length, map, map-append, nat_le, not, refl, suc, sym, take, take_more, true}
+use Rattle.write_cache.proofs.Common.{without_claims, without_claims_behind, ℕ, ◌&&◌, ◌++◌, ◌+◌, ◌<◌, ◌∙◌, ◌∷◌, ◌≡◌}
+use Rattle.std.proofs.Common.{drop-cons}
 use Rattle.std.proofs.lemmas.Bool.Decides.{nat_tests}
-use Rattle.write_cache.specs.Slots.{claims_but, claims_of, empty_claim, is_claim_of, turned_but}
-use Rattle.write_cache.specs.Slots.{without_claims, without_claims_behind}
+use Rattle.write_cache.specs.Slots.{turned_but}
 
 -- those that stay, with this one behind them
 one_more : (goes : Claimed → Bool) (claim : Claimed) (behind front : List Claimed) →

@@ -1,9 +1,6 @@
 -- Whether a page waits for its rest.
-use Rattle.std.proofs.Common.{◌≡◌, ℕ, ◌+◌, Bool, true, false, cond, List, [], ◌∷◌, refl, Some}
-use Rattle.std.specs.Prelude.{◌||◌, is_some}
-use Rattle.std.specs.List.{list_any, position_from}
-use Rattle.write_cache.specs.declared.slots.Pending.{Pending}
-use Rattle.write_cache.specs.Rests.{waits}
+use Rattle.write_cache.proofs.Common.{Bool, List, Pending, Some, [], cond, false, is_some, list_any, position_from}
+use Rattle.write_cache.proofs.Common.{refl, true, waits, ℕ, ◌+◌, ◌||◌, ◌∷◌, ◌≡◌}
 
 -- some page waits where one is the first that does
 pub some_waits : (n : ℕ) (ps : List Pending) → is_some (position_from waits n ps) ≡ list_any waits ps

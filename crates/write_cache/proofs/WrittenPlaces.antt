@@ -1,26 +1,21 @@
 -- Which page is written at each place of the dies: in a new table, and as pages come, are filled and leave.
-use Rattle.std.proofs.Common.{◌≡◌, ◌≢◌, ◌⊎◌, ◌∙◌, ℕ, zero, suc, ◌+◌, ◌-◌, ◌*◌, ◌%◌, ◌<◌, Bool, true, false}
-use Rattle.std.proofs.Common.{List, [], ◌∷◌, ◌++◌, length, map, replicate, refl, sym, ap, subst, arith, inl, inr}
-use Rattle.std.proofs.Common.{Option, None, Some, slice_get, if◌then◌else◌}
-use Rattle.std.specs.Prelude.{◌==◌, ◌&&◌, nat_lt, slice_set}
+use Rattle.write_cache.proofs.Common.{Bool, List, None, Numbers, Option, Pending, Place, Some, [], and_parts, ap, arith}
+use Rattle.write_cache.proofs.Common.{cases_eq, changed, eq-eqb, eqb-true, false, false≢true, get_there, inl, inr}
+use Rattle.write_cache.proofs.Common.{is_there, length, map, nat_lt, none-some, passes, refl, replicate, same_Some}
+use Rattle.write_cache.proofs.Common.{set_here, slice_get, slice_set, subst, suc, sym, tells, true, true≢false, zero, ℕ}
+use Rattle.write_cache.proofs.Common.{◌&&◌, ◌++◌, ◌+◌, ◌-◌, ◌<◌, ◌==◌, ◌∙◌, ◌∷◌, ◌≡◌, ◌≢◌, ◌⊎◌}
+use Rattle.std.proofs.Common.{if◌then◌else◌, ◌%◌, ◌*◌}
 use Rattle.std.proofs.Math.Nat.{mul_comm}
 use Rattle.std.proofs.lemmas.List.{length-replicate}
 use Rattle.std.proofs.lemmas.Nat.{mul-add-lt, same_from_place}
 use Rattle.std.proofs.lemmas.Option.{cond_some}
 use Rattle.ufs_spec.proofs.Equalities.{place_cases, place_is}
-use Rattle.ufs_spec.proofs.Facts.{and_parts, cases_eq, eq-eqb, eqb-true, false≢true, ltb-true, none-some}
-use Rattle.ufs_spec.proofs.Facts.{not-false, same_Some, true≢false}
-use Rattle.ufs_spec.proofs.Lists.{get_there}
+use Rattle.ufs_spec.proofs.Facts.{ltb-true, not-false}
 use Rattle.ufs_spec.specs.Cells.{IsPlace, same_place}
-use Rattle.ufs_spec.specs.declared.configs.Numbers.{Numbers}
-use Rattle.ufs_spec.specs.declared.flash.Place.{Place}
-use Rattle.word_set.specs.Flags.{passes, tells}
-use Rattle.word_set.specs.Tests.{changed}
 use Rattle.word_set.proofs.Flags.{changed_other, changed_there, ne-eqb, passes_drop, passes_more, passes_past}
-use Rattle.word_set.proofs.Flags.{set_here, set_length, set_other}
+use Rattle.word_set.proofs.Flags.{set_length, set_other}
 use Rattle.write_cache.specs.declared.pages.written_at.WrittenAt.{WrittenAt}
-use Rattle.write_cache.specs.declared.slots.Pending.{Pending}
-use Rattle.write_cache.specs.Slots.{is_at, is_there}
+use Rattle.write_cache.specs.Slots.{is_at}
 use Rattle.write_cache.specs.WrittenAt.{AreThere, IsWrittenAt, entry_left, entry_put, is_taken, no_page}
 use Rattle.write_cache.specs.WrittenAt.{place_index, place_total, position_of, standing}
 use Rattle.write_cache.proofs.Same.{place_of, same_passes}

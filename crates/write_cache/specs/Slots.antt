@@ -1,8 +1,7 @@
 -- What a slot holds, and what the calls of the write cache make of it.
-use Rattle.std.specs.Prelude.{ℕ, ◌+◌, ◌-◌, ◌==◌, min, nat_le, nat_lt, Bool, false, ◌&&◌, not}
-use Rattle.std.specs.Prelude.{if◌then◌else◌, List, [], ◌∷◌, ◌++◌, filter}
-use Rattle.std.specs.Prelude.{is_none, length, map, position, reverse, slice_get, slice_set, Option, Some, None}
-use Rattle.std.specs.Prelude.{option_and_then, option_map}
+use Rattle.std.specs.Prelude.{Bool, List, None, Option, Some, [], false, filter, if◌then◌else◌, is_none, length, map}
+use Rattle.std.specs.Prelude.{min, nat_le, nat_lt, not, option_and_then, option_map, position, reverse, slice_get}
+use Rattle.std.specs.Prelude.{slice_set, ℕ, ◌&&◌, ◌++◌, ◌+◌, ◌-◌, ◌==◌, ◌∷◌}
 use Rattle.std.specs.List.{list_any}
 use Rattle.ufs_spec.specs.Pages.{greatest_number}
 use Rattle.ufs_spec.specs.Cells.{same_place}

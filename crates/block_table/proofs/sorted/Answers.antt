@@ -1,6 +1,5 @@
-use Rattle.std.proofs.Common.{ℕ, get_or, length, subst, true}
+use Rattle.block_table.proofs.Common.{Stands, get_or, has, length, subst, true, with_block, words_for, ℕ}
 use Rattle.std.proofs.lemmas.Option.{slice_get-get_or}
-use Rattle.block_table.specs.Buckets.{Stands, has, with_block, words_for}
 use Rattle.block_table.specs.declared.BlockState.TheVariants as state
 use Rattle.block_table.proofs.States.{all_sorted, one_sorted}
 use Rattle.block_table.proofs.sorted.Goals as goal

@@ -1,5 +1,4 @@
-use Rattle.std.proofs.Common.{length}
-use Rattle.block_table.specs.Buckets.{Stands, words_for}
+use Rattle.block_table.proofs.Common.{Stands, length, words_for}
 use Rattle.block_table.proofs.States.{sorted_to}
 use Rattle.block_table.proofs.sorted.Given as goal
 

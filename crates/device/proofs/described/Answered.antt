@@ -1,27 +1,18 @@
 -- A call is answered rightly if its answer is right and what the device keeps is kept of the state behind the call:
 -- what became due fills its register there and the lock is told, and nothing else is to be shown of a call.
-use Rattle.std.proofs.Common.{◌≡◌, ◌∙◌, sym}
-use Rattle.std.proofs.Common.{ap, subst}
-use Rattle.ufs_spec.specs.Machine.{Allowed, Answer, Call, Done, Host, Reply, Take, Turn, behind, fills}
-use Rattle.ufs_spec.specs.Machine.{lock_applied, observe}
-use Rattle.ufs_spec.specs.Refusals.{State}
-use Rattle.ufs_spec.specs.Translation.{Translation}
-use Rattle.power_loss.specs.AreaReads.{AreaReads}
-use Rattle.power_loss.specs.Exchange.{IsTied, MayCome}
-use Rattle.power_loss.specs.Shown.{ShowsReads}
-use Rattle.power_loss.specs.WaitingFrames.{FramesWait}
+use Rattle.device.proofs.Common.{AreaReads, Call, Describes, DeviceCore, Done, FramesWait, HasFilled, HaveAnswered}
+use Rattle.device.proofs.Common.{Host, IsAnswered, IsTied, Keeps, Reply, ShowsReads, State, Take, Translation, Turn, ap}
+use Rattle.device.proofs.Common.{fills, lock_applied, lock_told, observe, subst, sym, ◌∙◌, ◌≡◌}
+use Rattle.ufs_spec.specs.Machine.{Allowed, Answer, behind}
+use Rattle.power_loss.specs.Exchange.{MayCome}
 use Rattle.power_loss.proofs.area_reads.AreaStays.{behind_reads, call_reads}
 use Rattle.power_loss.proofs.calls.CallsKeepTied.{call_keeps}
 use Rattle.power_loss.proofs.spoken_replies.FramesStay.{behind_frames, call_waits}
 use Rattle.ufs_laws.specs.Exchange.{IsSpoken}
 use Rattle.power_loss.proofs.shown_blocks.LivesShowBlocks.{behind_shows, call_shows}
-use Rattle.device.specs.Calls.{lock_told}
-use Rattle.device.specs.Describes.{Describes, HaveAnswered, IsAnswered, Keeps}
 pub use Rattle.device.specs.Describes.{IsBehind}
-use Rattle.device.specs.Frames.{HasFilled}
 use Rattle.device.proofs.described.Filled.{keeps_filled}
 use Rattle.device.proofs.described.Settled.{fills_nothing}
-use Rattle.device.specs.Kept.{DeviceCore}
 use Rattle.ftl_core.specs.Public as layer_kept
 use Rattle.device.proofs.described.LockTold.{describes_told, lock_stays}
 

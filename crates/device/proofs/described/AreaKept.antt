@@ -1,27 +1,17 @@
 -- The pages of the area that a request for data keeps, and what a request without a command does.
-use Rattle.std.proofs.Common.{◌≡◌, ◌∙◌, ℕ, ◌+◌, ◌-◌, ◌*◌, ◌/◌, ◌<◌, ◌≤◌, Bool, true, false, List, [], ◌∷◌, Some, None}
-use Rattle.std.proofs.Common.{length, refl, sym, ap, subst, arith}
-use Rattle.std.specs.Prelude.{fold, if◌then◌else◌, nat_le}
-use Rattle.std.specs.List.{list_any}
-use Rattle.ufs_spec.proofs.Facts.{le-leb, none-some, same_Some}
-use Rattle.ufs_spec.specs.FrameRequests.{pages_named, reads_area}
-use Rattle.ufs_spec.specs.Frames.{Frame}
-use Rattle.ufs_spec.specs.Keys.{IsKey, area_key}
-use Rattle.ufs_spec.specs.Moves.{Move, Release, moved}
-use Rattle.ufs_spec.specs.Plain.{shape_of_numbers}
-use Rattle.ufs_spec.specs.Translation.{Translation}
-use Rattle.ufs_spec.specs.declared.flash.Key.{Key}
-use Rattle.ftl_core.specs.Public.{Claims, Core, Describes, PinsDiffer, keeps_area_of, keeps_for, key_behind}
-use Rattle.ftl_core.specs.Public.{with_claimed}
+use Rattle.device.proofs.Common.{Bool, Claims, Core, Frame, IsKey, IsLayerWith, Key, List, Move, None, PinsDiffer}
+use Rattle.device.proofs.Common.{Release, Some, TaskEvent, Translation, [], ap, area_key, arith, false, fold}
+use Rattle.device.proofs.Common.{greatest_command, if◌then◌else◌, keeps_for, key_behind, length, list_any, most_tasks}
+use Rattle.device.proofs.Common.{moved, nat_le, none-some, reads_area, refl, same_Some, shape_of_numbers, subst, sym}
+use Rattle.device.proofs.Common.{true, with_claimed, ℕ, ◌*◌, ◌+◌, ◌-◌, ◌/◌, ◌<◌, ◌∙◌, ◌∷◌, ◌≡◌, ◌≤◌}
+use Rattle.ufs_spec.proofs.Facts.{le-leb}
+use Rattle.ufs_spec.specs.FrameRequests.{pages_named}
+use Rattle.ftl_core.specs.Public.{Describes, keeps_area_of}
 use Rattle.rpmb.specs.Requests.{area_asked}
 use Rattle.rpmb.specs.declared.requests.AreaBlocks.{AreaBlocks}
-use Rattle.task_set.specs.declared.tasks.TaskEvent.{TaskEvent}
 use Rattle.task_set.specs.declared.tasks.TaskEvent.TheVariants as event
 use Rattle.device.specs.Frames.{HasAnswered, HasKeptArea, MayAnswer, MayKeepArea, answer_event, answer_moves}
 use Rattle.device.specs.Frames.{area_keeps}
-use Rattle.device.specs.Kept.{IsLayerWith}
-use Rattle.ufs_spec.specs.Plain.{greatest_command}
-use Rattle.ufs_spec.specs.Exchanges.{most_tasks}
 
 -- the layer was asked to keep so many pages, from this key on, for the blocks that were asked for
 module _ (after : Core) (t : Translation) (tag region pages : ℕ) (key : Key) (asked : AreaBlocks) (kept : Bool)

@@ -1,13 +1,11 @@
 -- The parts that are asked for of the pages of the RPMB area are, in one piece, the blocks that a request asks for.
-use Rattle.std.proofs.Common.{◌≡◌, ◌∙◌, ℕ, ◌+◌, ◌*◌, ◌-◌, ◌/◌, ◌≤◌, List, [], ◌++◌, length, take, drop, refl, sym, ap}
-use Rattle.std.proofs.Common.{arith}
-use Rattle.std.specs.Prelude.{◌%◌, min}
+use Rattle.device.proofs.Common.{AreaReading, List, [], ap, append-nil, area_page, area_part, arith, drop, length}
+use Rattle.device.proofs.Common.{length-drop, length-take-le, min, part_of_page, refl, sym, take-take, ℕ, ◌%◌, ◌*◌}
+use Rattle.device.proofs.Common.{◌++◌, ◌+◌, ◌-◌, ◌/◌, ◌∙◌, ◌≡◌, ◌≤◌}
+use Rattle.std.proofs.Common.{take}
 use Rattle.std.proofs.Math.Seq.{take-add}
-use Rattle.std.proofs.lemmas.List.{append-nil, drop-drop, drop-take, length-drop, length-take-le, take-take}
-use Rattle.ufs_spec.specs.Keys.{area_page}
-use Rattle.task_set.specs.Frames.{area_part, blocks_in_first}
-use Rattle.task_set.specs.declared.frames.AreaReading.{AreaReading}
-use Rattle.device.specs.Frames.{part_of_page}
+use Rattle.std.proofs.lemmas.List.{drop-drop, drop-take}
+use Rattle.task_set.specs.Frames.{blocks_in_first}
 
 -- a part of a page is that part of the area
 part_of_area : (page from n : ℕ) (area : List ℕ) → n + from ≤ 4096 →

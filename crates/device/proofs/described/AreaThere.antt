@@ -1,20 +1,13 @@
 -- Which of the pages that a task keeps need no read.
-use Rattle.std.proofs.Common.{◌≡◌, ◌∙◌, ℕ, Bool, true, false, Bor, List, Option, Some, None, ap, is_some, refl, subst}
-use Rattle.std.proofs.Common.{sym}
-use Rattle.std.specs.Prelude.{find, if◌then◌else◌, not, option_copied, option_map}
-use Rattle.std.specs.List.{list_any}
-use Rattle.ufs_spec.proofs.Facts.{none-some, same_Some}
-use Rattle.ufs_spec.specs.Ledger.{Entry, entry_of}
-use Rattle.ufs_spec.specs.Moves.{is_pin_of}
+use Rattle.device.proofs.Common.{Bool, Entry, InSlot, List, Looked, None, OnPage, Option, Pin, Some, Translation}
+use Rattle.device.proofs.Common.{Unwritten, all_in, ap, block_at, book, entry_of, false, find, found_in, if◌then◌else◌}
+use Rattle.device.proofs.Common.{is_pin_of, is_rest_of, list_any, none-some, not, option_map, refl, same_Some, subst}
+use Rattle.device.proofs.Common.{sym, true, ℕ, ◌∙◌, ◌≡◌}
+use Rattle.std.proofs.Common.{Bor, is_some}
+use Rattle.std.specs.Prelude.{option_copied}
 use Rattle.ufs_spec.specs.Replies.{is_at_hand, needs_no_read}
-use Rattle.ufs_spec.specs.Translation.{Pin, Translation, is_rest_of}
-use Rattle.ufs_spec.specs.declared.layer.Looked.{Looked}
-use Rattle.ufs_spec.specs.declared.layer.Looked.TheVariants.{InSlot, OnPage, Unwritten}
-use Rattle.power_loss.specs.Book.{book}
 use Rattle.power_loss.specs.Invariant.{PinsRight}
-use Rattle.power_loss.proofs.ordered_lists.ElementsAndOrders.{all_in, found_in}
 use Rattle.ftl_core.specs.Public.{looked_of}
-use Rattle.device.specs.Replies.{block_at}
 use Rattle.device.proofs.due_replies.BlocksOwed.{IsRight}
 
 -- what needs no read is there

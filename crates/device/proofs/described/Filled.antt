@@ -1,28 +1,14 @@
 -- A request whose GOOD is due fills its register: what the device keeps then is kept of the state in which all that
 -- became due has filled its register.
-use Rattle.std.proofs.Common.{◌≡◌, ◌∙◌, ◌⊎◌, ℕ, suc, ◌==◌, ◌&&◌, Bool, true, false, cond, List, [], ◌∷◌, length, map}
-use Rattle.std.proofs.Common.{Option, Some, None, inl, inr, refl, sym, ap, subst}
-use Rattle.std.specs.Prelude.{slice_get}
-use Rattle.std.proofs.lemmas.List.Elements.{All-cons, All-nil}
-use Rattle.ufs_spec.proofs.Facts.{eqb-true, false≢true, same_Some}
+use Rattle.device.proofs.Common.{All-cons, All-nil, AreaReads, Bool, DeviceCore, FramesWait, HasFilled, HaveAnswered}
+use Rattle.device.proofs.Common.{IsTied, Keeps, List, None, OpenTask, Option, ShowsReads, Some, State, Translation, []}
+use Rattle.device.proofs.Common.{ap, before_accepted, claims_of, cond, eq_self, eqb-true, false, false≢true, filled}
+use Rattle.device.proofs.Common.{fills, found_task, if_false, inl, inr, is_decided, is_due_in, is_good_due, is_mended}
+use Rattle.device.proofs.Common.{is_to_fill, is_unfilled, length, map, numbers_of, refl, same_Some, slice_get, subst}
+use Rattle.device.proofs.Common.{suc, sym, task_filled, to_answer, true, ℕ, ◌&&◌, ◌==◌, ◌∙◌, ◌∷◌, ◌≡◌, ◌⊎◌}
 use Rattle.ufs_laws.proofs.frame_laws.RegistersFilled.{never_again}
 use Rattle.ufs_spec.specs.Exchanges as exchange
-use Rattle.ufs_spec.specs.Exchanges.{filled, is_unfilled}
-use Rattle.ufs_spec.specs.Ledger.{before_accepted}
-use Rattle.ufs_spec.specs.Machine.{fills, is_good_due, is_to_fill, task_filled}
-use Rattle.ufs_spec.specs.Refusals.{State, numbers_of}
-use Rattle.ufs_spec.specs.Translation.{Translation, is_mended}
-use Rattle.power_loss.specs.AreaReads.{AreaReads}
-use Rattle.power_loss.specs.Exchange.{IsTied}
-use Rattle.power_loss.specs.Shown.{ShowsReads}
-use Rattle.power_loss.specs.WaitingFrames.{FramesWait}
-use Rattle.power_loss.proofs.books.SmallFacts.{eq_self, if_false}
-use Rattle.power_loss.proofs.open_tasks.TaskLists.{found_task}
-use Rattle.task_set.specs.Kept.{OpenTask}
-use Rattle.task_set.specs.Tasks.{is_decided}
-use Rattle.device.specs.Describes.{HaveAnswered, Keeps, claims_of}
-use Rattle.device.specs.Frames.{HasFilled, HasFilledAt, HasFilledBy, due_at, is_due_in, is_due_to, to_answer}
-use Rattle.device.specs.Kept.{DeviceCore}
+use Rattle.device.specs.Frames.{HasFilledAt, HasFilledBy, due_at, is_due_to}
 use Rattle.device.proofs.described.FilledTask.{FillsOne, Knows, keeps_one, state_is}
 use Rattle.device.proofs.described.GoodDue.{IsLow, all_answered, same_fill, same_unfilled}
 use Rattle.device.proofs.described.OneSender.{DecidedOrNot, OneDecided, decided_cases}

@@ -1,25 +1,21 @@
 -- Where only the translation layer moves, what the device keeps of the tasks stays, if the move leaves what it is to
 -- them.
-use Rattle.std.proofs.Common.{◌≡◌, ◌∙◌, ◌⊎◌, ℕ, Bool, true, false, None, inl, inr, refl, sym, ap}
-use Rattle.std.proofs.Common.{subst}
-use Rattle.std.specs.Prelude.{if◌then◌else◌, length}
-use Rattle.ufs_spec.specs.Cells.{Array, Cell, GroupPage, MarkPage, Nothing}
-use Rattle.ufs_spec.specs.Disk.{Erasing, Flight, Programming, Reading}
+use Rattle.device.proofs.Common.{AreClaimed, Array, Bool, Cell, Core, DeedsFit, DeviceCore, Ending, Erasing, Flight}
+use Rattle.device.proofs.Common.{ForNobody, ForRest, ForStep, ForTask, GroupPage, IsTied, Keeps, MarkPage, None}
+use Rattle.device.proofs.Common.{Nothing, Place, Programming, ReadRight, Reading, ShortsKept, State, TakeStep}
+use Rattle.device.proofs.Common.{TasksKept, Translation, WentWell, WentWrong, ap, before_accepted, claims_of, false}
+use Rattle.device.proofs.Common.{if◌then◌else◌, inl, inr, job_ended, moved, numbers_of, refl, subst, sym, true}
+use Rattle.device.proofs.Common.{wanted_kept, ℕ, ◌∙◌, ◌≡◌, ◌⊎◌}
+use Rattle.std.specs.Prelude.{length}
 use Rattle.ufs_spec.specs.Disk.{program_failed}
-use Rattle.ufs_spec.specs.Ledger.{before_accepted, page_stands}
-use Rattle.ufs_spec.specs.Moves.{Ending, ReadRight, WentWell, WentWrong, TakeStep, job_ended, moved, settled_pin}
-use Rattle.ufs_spec.specs.Refusals.{State, numbers_of}
+use Rattle.ufs_spec.specs.Ledger.{page_stands}
+use Rattle.ufs_spec.specs.Moves.{settled_pin}
 use Rattle.ufs_spec.specs.Translation as layer
-use Rattle.ufs_spec.specs.Translation.{Order, OrderCopy, OrderRepair, Translation, copy_begun, has_mark_number}
+use Rattle.ufs_spec.specs.Translation.{Order, OrderCopy, OrderRepair, copy_begun, has_mark_number}
 use Rattle.ufs_spec.specs.Translation.{mark_ordered, name_of, ordered, with_plan}
-use Rattle.ufs_spec.specs.declared.flash.Place.{Place}
-use Rattle.ufs_spec.specs.declared.layer.Reader.TheVariants.{ForNobody, ForRest, ForStep, ForTask}
 use Rattle.ufs_laws.proofs.walk.LayerEffects.{IsDue, order_due, turned_if}
-use Rattle.power_loss.specs.Exchange.{DeedsFit, IsTied, ShortsFit}
+use Rattle.power_loss.specs.Exchange.{ShortsFit}
 use Rattle.ftl_core.specs.Public as layer_kept
-use Rattle.ftl_core.specs.Public.{AreClaimed, Core}
-use Rattle.device.specs.Describes.{Keeps, ShortsKept, TasksKept, claims_of, wanted_kept}
-use Rattle.device.specs.Kept.{DeviceCore}
 use Rattle.device.proofs.described.ShortExchanges.{same_shorts, shorts_else}
 use Rattle.device.proofs.described.Unmended.{kept_else}
 use Rattle.device.proofs.open_tasks.ReadProgress.{wanted_same}

@@ -1,16 +1,14 @@
 -- The machines of all RPMB regions, of which one is changed.
-use Rattle.std.proofs.Common.{◌≡◌, ◌≢◌, ◌∙◌, ℕ, ◌<◌, ◌==◌, Bool, true, false, List, get_or, length, map, ap, refl, sym, subst}
-use Rattle.std.specs.Prelude.{if◌then◌else◌, slice_index_or}
+use Rattle.device.proofs.Common.{Bool, IsKept, List, Machine, Plain, RegionState, Registers, ap, at_region, eqb-false}
+use Rattle.device.proofs.Common.{eqb-true, false, get_or, get_or-set_same, get_or_default, if◌then◌else◌, length}
+use Rattle.device.proofs.Common.{length-map, length-set, machine_at, map, refl, region_of, regions, said_by}
+use Rattle.device.proofs.Common.{slice_index_or, subst, sym, true, with_machine, ℕ, ◌<◌, ◌==◌, ◌∙◌, ◌≡◌, ◌≢◌}
 use Rattle.std.proofs.Math.ListN as lists
 use Rattle.std.proofs.Math.Seq.{map-set_same}
-use Rattle.std.proofs.lemmas.List.{get_or_default, get_or-set_other, get_or-set_same, length-map, length-set, same_lists}
-use Rattle.ufs_spec.proofs.Facts.{eqb-false, eqb-true}
-use Rattle.ufs_spec.specs.Exchanges.{Registers, at_region}
-use Rattle.ufs_spec.specs.Keys.{said_by}
-use Rattle.ufs_spec.specs.Plain.{Plain, empty_region, region_of, regions}
+use Rattle.std.proofs.lemmas.List.{get_or-set_other, same_lists}
+use Rattle.ufs_spec.specs.Plain.{empty_region}
 use Rattle.ufs_spec.specs.declared.flash.KeyAndCounter.{KeyAndCounter}
-use Rattle.rpmb.specs.Kept.{IsKept, Machine, idle_machine, machine_at, no_state, said_kept, with_machine}
-use Rattle.rpmb.specs.declared.regions.RegionState.{RegionState}
+use Rattle.rpmb.specs.Kept.{idle_machine, no_state, said_kept}
 
 pub at_same : (ms : List Machine) (region : ℕ) (m : Machine) → region < length ms →
     machine_at (with_machine ms region m) region ≡ m

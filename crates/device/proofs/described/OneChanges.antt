@@ -1,11 +1,8 @@
 -- Of the open tasks one changes, and all others stay: it alone passes a test, and it alone is another task then.
-use Rattle.std.proofs.Common.{◌≡◌, ◌∙◌, ℕ, zero, suc, Bool, true, false, cond, List, [], ◌∷◌, map, Some, refl, sym, ap}
-use Rattle.std.proofs.Common.{subst, arith}
-use Rattle.std.specs.Prelude.{filter, slice_get, slice_set}
-use Rattle.ufs_spec.proofs.Facts.{none-some, same_Some}
+use Rattle.device.proofs.Common.{Bool, List, OpenTask, Some, TaskKept, TasksKept, [], ap, arith, cond, false, filter}
+use Rattle.device.proofs.Common.{map, none-some, refl, same_Some, slice_get, slice_set, subst, suc, sym, true, zero, ℕ}
+use Rattle.device.proofs.Common.{◌∙◌, ◌∷◌, ◌≡◌}
 use Rattle.ufs_spec.specs.Exchanges as exchange
-use Rattle.task_set.specs.Kept.{OpenTask}
-use Rattle.device.specs.Describes.{TaskKept, TasksKept}
 
 -- of all tasks only the one at this position passes
 pub only_one : (p : exchange.Task → Bool) (us : List exchange.Task) (k : ℕ) (b : exchange.Task) →

@@ -1,15 +1,10 @@
 -- Of the open tasks of the device no more than one brings frames, so that no more than one request is to fill its
 -- register.
-use Rattle.std.proofs.Common.{◌≡◌, ◌∙◌, ◌⊎◌, ℕ, zero, suc, ◌++◌, Bool, true, false, cond, List, [], ◌∷◌, map}
-use Rattle.std.proofs.Common.{Some, None, inl, inr, refl, sym, ap, subst}
-use Rattle.std.specs.Prelude.{◌||◌, option_map, position, remove, slice_get, slice_set}
-use Rattle.std.specs.List.{list_any}
-use Rattle.ufs_spec.proofs.Facts.{false≢true, none-some, or_parts, same_Some}
-use Rattle.task_set.specs.Kept.{OpenTask}
-use Rattle.task_set.specs.Tasks.{brings_frames, is_decided, is_sender, is_unanswered}
-use Rattle.task_set.specs.declared.frames.Frames.{Frames}
+use Rattle.device.proofs.Common.{Bool, Frames, List, None, OneSends, OpenTask, Some, [], ap, brings_frames, cond, false}
+use Rattle.device.proofs.Common.{false≢true, inl, inr, is_decided, is_sender, is_unanswered, list_any, map, none-some}
+use Rattle.device.proofs.Common.{option_map, or_parts, position, refl, remove, same_Some, slice_get, slice_set, subst}
+use Rattle.device.proofs.Common.{suc, sym, true, zero, ℕ, ◌++◌, ◌||◌, ◌∙◌, ◌∷◌, ◌≡◌, ◌⊎◌}
 use Rattle.task_set.specs.declared.frames.Frames.TheVariants as frames
-use Rattle.device.specs.Describes.{OneSends}
 use Rattle.device.proofs.open_tasks.OpenTasks.{position_step}
 
 -- Who brings frames

@@ -1,38 +1,26 @@
 -- A device over dies whose pages are sound is the one that the definitions open over them.
-use Rattle.std.proofs.Common.{◌≡◌, ◌∙◌, suc, ◌≤◌, Bool, List, [], ap, arith, subst}
-use Rattle.std.specs.Prelude.{IfOk, Result}
+use Rattle.device.proofs.Common.{AreClaimed, Array, Bool, Cells, Core, Describes, DeviceCore, DieState, Fit, HasScanned}
+use Rattle.device.proofs.Common.{IfOk, IsArrayOf, IsConfig, IsOpened, IsSettings, List, Numbers, RegionState, Result}
+use Rattle.device.proofs.Common.{Shows, Sound, Spot, State, Suits, Translation, [], ap, arith, array_of, bad_of}
+use Rattle.device.proofs.Common.{fit_inside, idle_device, ranges_of, regions_kept, settings_key, settings_ranges, subst}
+use Rattle.device.proofs.Common.{suc, ◌∙◌, ◌≡◌, ◌≤◌}
 use Rattle.std.proofs.lemmas.Result.{IfOk-weaker}
-use Rattle.ufs_spec.specs.Cells.{AreWithin, Array, Cells, Shows}
-use Rattle.ufs_spec.specs.Configs.{IsConfig}
-use Rattle.ufs_spec.specs.Disk.{Spot}
-use Rattle.ufs_spec.specs.Keys.{IsSettings, settings_key}
+use Rattle.ufs_spec.specs.Cells.{AreWithin}
 use Rattle.ufs_spec.specs.Kept.{Holds, IsKept, IsNewestMark}
-use Rattle.ufs_spec.specs.Dies.{DieState}
-use Rattle.ufs_spec.specs.Lives.{Fit, IsOpened, array_of, bad_of}
 use Rattle.ufs_spec.specs.Openings.{IsOpenedTranslation}
-use Rattle.ufs_spec.specs.Refusals.{State}
-use Rattle.ufs_spec.specs.Sound.{CellsSound, Sound, Suits}
-use Rattle.ufs_spec.specs.Translation.{Translation}
-use Rattle.ufs_spec.specs.declared.configs.Numbers.{Numbers}
+use Rattle.ufs_spec.specs.Sound.{CellsSound}
 use Rattle.ufs_laws.proofs.array_cells.StandsForOne.{cells_one, kept_one, mark_one}
 use Rattle.ufs_laws.proofs.pages.PageIsOneCell.{one_cell}
 use Rattle.ufs_laws.proofs.pages.PageIsSomeCell.{some_cell}
-use Rattle.ufs_laws.proofs.plain_contents.CommandsKeepPlain.{settings_ranges}
 use Rattle.power_loss.specs.Book.{CellsRight}
-use Rattle.power_loss.specs.Exchange.{IsArrayOf}
-use Rattle.power_loss.proofs.die_pages.BlankOutsideDies.{fit_inside}
 use Rattle.power_loss.proofs.openings.OpenedFromPages.{cells_right, cells_within}
-use Rattle.power_loss.proofs.stops.SealedCells.{ranges_of}
 use Rattle.settings.specs.Told.{settings_in, settings_now}
 use Rattle.settings.proofs.SettingsRead.{said_again}
 use Rattle.recovery.specs.Found.{IsFound, newest_found}
 use Rattle.recovery.specs.Scanned.{IsFoundOn}
 use Rattle.recovery.specs.declared.found.Found.{Found}
-use Rattle.ftl_core.specs.Public.{AreClaimed, Core, Describes as IsLayer, opened}
-use Rattle.rpmb.specs.declared.regions.RegionState.{RegionState}
-use Rattle.device.specs.Describes.{Describes}
-use Rattle.device.specs.Kept.{DeviceCore, idle_device, regions_kept}
-use Rattle.device.specs.Opened.{HasFound, HasScanned, OpensOver, TellsSettings}
+use Rattle.ftl_core.specs.Public.{Describes as IsLayer, opened}
+use Rattle.device.specs.Opened.{HasFound, OpensOver, TellsSettings}
 use Rattle.device.proofs.die_calls.CallsRight.{opens_right}
 
 -- what is found suits the configuration, whatever the pages are

@@ -1,24 +1,12 @@
 -- The task whose request is answered, and what its answer is made of.
-use Rattle.std.proofs.Common.{◌≡◌, ◌∙◌, ℕ, ◌<◌, Bool, true, false, List, Option, Some, None, refl, sym}
-use Rattle.std.proofs.Common.{ap, subst}
-use Rattle.std.specs.Prelude.{if◌then◌else◌, position, slice_get, take}
-use Rattle.ufs_spec.proofs.Facts.{false≢true, none-some, same_Some}
-use Rattle.ufs_spec.proofs.Lists.{position_told}
-use Rattle.ufs_spec.specs.Exchanges.{ReadState}
-use Rattle.ufs_spec.specs.Plain.{regions}
-use Rattle.ufs_spec.specs.Rpmb.{Region}
-use Rattle.ufs_spec.specs.RpmbResponses.{filled_with, with_reads}
-use Rattle.ufs_spec.specs.Translation.{Translation}
-use Rattle.rpmb.specs.Answers.{IsRead}
-use Rattle.rpmb.specs.Kept.{IsKept, Machine, machine_at, with_machine}
-use Rattle.rpmb.specs.Requests.{frames_of}
-use Rattle.task_set.specs.Kept.{OpenTask}
-use Rattle.task_set.specs.Lists.{held_at, held_of}
-use Rattle.task_set.specs.Tasks.{is_decided, is_unanswered}
-use Rattle.task_set.specs.declared.frames.Frames.{Frames}
+use Rattle.device.proofs.Common.{Bool, DeviceCore, Frames, HasResponded, IsKept, IsRead, List, Machine, None, OpenTask}
+use Rattle.device.proofs.Common.{Option, ReadState, Region, Some, Translation, ap, false, false≢true, filled_with}
+use Rattle.device.proofs.Common.{frames_of, held_at, if◌then◌else◌, is_decided, is_due_in, is_unanswered, machine_at}
+use Rattle.device.proofs.Common.{none-some, position, position_told, refl, regions, same_Some, slice_get, subst, sym}
+use Rattle.device.proofs.Common.{take, to_answer, true, with_machine, with_reads, ℕ, ◌<◌, ◌∙◌, ◌≡◌}
+use Rattle.task_set.specs.Lists.{held_of}
 use Rattle.task_set.specs.declared.frames.Frames.TheVariants as frames
-use Rattle.device.specs.Frames.{HasResponded, due_at, first_held, is_due_in, is_due_to, to_answer}
-use Rattle.device.specs.Kept.{DeviceCore}
+use Rattle.device.specs.Frames.{due_at, first_held, is_due_to}
 
 -- the machines respond to what a task at a position keeps
 pub responds : (tasks : List OpenTask) (index code number : ℕ) (held : List ℕ) (task : OpenTask)

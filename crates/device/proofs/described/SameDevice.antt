@@ -1,11 +1,6 @@
 -- What holds of a device or of a world holds of one that is the same.
-use Rattle.std.proofs.Common.{◌≡◌, subst, sym}
-use Rattle.ufs_spec.specs.Refusals.{State}
-use Rattle.ufs_spec.specs.Translation.{Translation}
+use Rattle.device.proofs.Common.{Describes, DeviceCore, Fits, State, Translation, WorldState, subst, sym, ◌≡◌}
 use Rattle.ftl_core.specs.Public as layer
-use Rattle.device.specs.Describes.{Describes}
-use Rattle.device.specs.Kept.{DeviceCore, WorldState}
-use Rattle.device.specs.Worlds.{Fits}
 
 pub same_layer : (x y : DeviceCore) (t : Translation) → x ≡ y → layer.Describes y.ftl t → layer.Describes x.ftl t
 same_layer x y t same h = subst (λ (d : DeviceCore). layer.Describes d.ftl t) (sym same) h

@@ -1,24 +1,17 @@
 -- Requests whose GOOD is due have filled their registers: a call behind which none becomes due fills none.
-use Rattle.std.proofs.Common.{◌≡◌, ◌∙◌, ℕ, ◌==◌, ◌&&◌, Bool, true, false, cond, All, List, [], ◌∷◌, length, map}
-use Rattle.std.proofs.Common.{Option, Some, None, refl, sym, ap}
-use Rattle.std.specs.Prelude.{filter, find, fold, if◌then◌else◌, nat_le, not, slice_get, suc, zero}
+use Rattle.device.proofs.Common.{All, All-cons, All-head, All-nil, All-tail, Answering, Awaiting, Bool, Deed, DeedFits}
+use Rattle.device.proofs.Common.{DeedsFit, Gathering, HaveAnswered, List, None, Numbers, Option, ReadBlock, ReadingArea}
+use Rattle.device.proofs.Common.{Registers, Sending, SendingBytes, Some, State, Translation, [], ap, below, claim_of}
+use Rattle.device.proofs.Common.{cond, durable, false, false≢true, filled, fills, filter, find, fold, if◌then◌else◌}
+use Rattle.device.proofs.Common.{is_area_read, is_good_due, is_pin_of, is_read, is_task_of, is_to_fill, is_unfilled}
+use Rattle.device.proofs.Common.{length, map, nat_le, none-some, not, refl, same_Some, short_locked, slice_get, sym}
+use Rattle.device.proofs.Common.{task_filled, task_of, true, with_deed, with_moves, ℕ, ◌&&◌, ◌==◌, ◌∙◌, ◌∷◌, ◌≡◌}
+use Rattle.std.specs.Prelude.{suc, zero}
 use Rattle.std.specs.List.{list_all}
-use Rattle.std.proofs.lemmas.List.Elements.{All-cons, All-head, All-nil, All-tail}
-use Rattle.ufs_spec.proofs.Facts.{false≢true, none-some, same_Some}
 use Rattle.ufs_spec.specs.Exchanges as exchange
-use Rattle.ufs_spec.specs.Exchanges.{Answering, Awaiting, Deed, Gathering, ReadBlock, ReadingArea, Registers, Sending}
-use Rattle.ufs_spec.specs.Exchanges.{SendingBytes, filled, is_task_of, is_unfilled, task_of, with_deed}
 use Rattle.ufs_spec.specs.FrameRequests.{filled_registers}
-use Rattle.ufs_spec.specs.Keys.{below}
-use Rattle.ufs_spec.specs.Machine.{deed_locked, durable, fill_moves, fills, is_good_due, is_to_fill, short_locked}
-use Rattle.ufs_spec.specs.Machine.{task_filled, task_locked, with_moves}
-use Rattle.ufs_spec.specs.Moves.{is_pin_of}
-use Rattle.ufs_spec.specs.Refusals.{State}
-use Rattle.ufs_spec.specs.Replies.{is_area_read, is_at_hand, is_page_read, is_read}
-use Rattle.ufs_spec.specs.Translation.{Translation}
-use Rattle.ufs_spec.specs.declared.configs.Numbers.{Numbers}
-use Rattle.power_loss.specs.Exchange.{DeedFits, DeedsFit, claim_of}
-use Rattle.device.specs.Describes.{HaveAnswered}
+use Rattle.ufs_spec.specs.Machine.{deed_locked, fill_moves, task_locked}
+use Rattle.ufs_spec.specs.Replies.{is_at_hand, is_page_read}
 
 -- none of these tasks has a request to fill its register in this state
 abbrev pub AreAnswered : State → List exchange.Task → Type 0

@@ -1,29 +1,23 @@
 -- The short exchanges of the device and of the specification, one by one: what is found, added and taken away, when a
 -- reply is due, and what the lock makes of them.
-use Rattle.std.proofs.Common.{◌≡◌, ◌∙◌, ℕ, zero, suc, ◌+◌, ◌-◌, ◌≤◌, ◌==◌, Bool, true, false, cond, All, List, [], ◌∷◌}
-use Rattle.std.proofs.Common.{◌++◌, length, map, Option, Some, None, refl, sym, ap, subst, arith}
-use Rattle.std.specs.Prelude.{◌||◌, nat_le, not, remove, slice_get}
-use Rattle.std.specs.List.{list_any}
-use Rattle.std.proofs.lemmas.Bool.{le-leb, lt-leb}
-use Rattle.std.proofs.lemmas.List.Elements.{All-cons, All-filter, All-head, All-nil, All-push, All-tail}
-use Rattle.ufs_spec.proofs.Facts.{false≢true, leb-false, leb-true, none-some, or_parts, same_Some, true≢false}
-use Rattle.ufs_spec.specs.Exchanges.{Short, is_short_of, short_reply, without_short}
-use Rattle.ufs_spec.specs.Ledger.{before_accepted}
-use Rattle.ufs_spec.specs.Machine.{durable, is_durable, short_locked}
-use Rattle.ufs_spec.specs.Refusals.{State}
-use Rattle.ufs_spec.specs.declared.configs.Numbers.{Numbers}
-use Rattle.ufs_spec.specs.declared.messages.Message.{Message}
+use Rattle.device.proofs.Common.{All, All-cons, All-filter, All-head, All-nil, All-tail, Bool, IsShortTold, List}
+use Rattle.device.proofs.Common.{Message, None, Numbers, Option, Short, ShortKept, ShortReply, ShortsKept, Some, State}
+use Rattle.device.proofs.Common.{[], ap, arith, at_once, before_accepted, cond, durable, eq_self, false, false≢true}
+use Rattle.device.proofs.Common.{if_false, if_true, is_short_due, is_short_of, le-leb, leb-true, length, list_any, map}
+use Rattle.device.proofs.Common.{nat_le, none-some, not, or_parts, other_way, refl, remove, same_Some, short_locked}
+use Rattle.device.proofs.Common.{short_reply, short_said, slice_get, subst, suc, sym, true, true≢false, zero, ℕ, ◌++◌}
+use Rattle.device.proofs.Common.{◌+◌, ◌-◌, ◌==◌, ◌||◌, ◌∙◌, ◌∷◌, ◌≡◌, ◌≤◌}
+use Rattle.std.proofs.lemmas.Bool.{lt-leb}
+use Rattle.std.proofs.lemmas.List.Elements.{All-push}
+use Rattle.ufs_spec.proofs.Facts.{leb-false}
+use Rattle.ufs_spec.specs.Exchanges.{without_short}
+use Rattle.ufs_spec.specs.Machine.{is_durable}
 use Rattle.power_loss.specs.Exchange.{ShortAwaits, ShortsDiffer, ShortsFit}
-use Rattle.power_loss.proofs.books.SmallFacts.{eq_self, if_false, if_true}
-use Rattle.power_loss.proofs.open_tasks.TaggedLists.{other_way}
 use Rattle.task_set.specs.Lists as ours
 use Rattle.task_set.specs.Shorts as ours_locked
-use Rattle.task_set.specs.Shorts.{is_met, is_short_due, reply_locked}
+use Rattle.task_set.specs.Shorts.{is_met, reply_locked}
 use Rattle.task_set.specs.declared.tasks.Short as kept
-use Rattle.task_set.specs.declared.tasks.ShortReply.{ShortReply}
-use Rattle.device.specs.Describes.{IsAwaiting, IsLockTold, IsMetIn, IsShortTold, ShortKept, ShortsKept}
-use Rattle.device.specs.Queries.{at_once}
-use Rattle.device.specs.Replies.{short_said}
+use Rattle.device.specs.Describes.{IsAwaiting, IsLockTold, IsMetIn}
 
 -- What is found
 

@@ -1,48 +1,39 @@
 -- The calls of the dies and of the device itself are answered as the definitions say.
-use Rattle.std.proofs.Common.{◌≡◌, ◌∙◌, ℕ, zero, suc, ◌==◌, ◌||◌, Bool, true, false, List, [], Option, Some, None, length}
-use Rattle.std.proofs.Common.{refl, sym, ap, subst, arith, get_or, ◌*◌, All, inl, inr}
-use Rattle.std.specs.Prelude.{if◌then◌else◌, ◌-◌, ◌≤◌, count_by, nat_lt}
-use Rattle.ufs_spec.specs.Cells.{Array, Cell, Cells, IsCell}
-use Rattle.ufs_spec.specs.Commands.{Command}
-use Rattle.ufs_spec.specs.Configs.{IsConfig}
-use Rattle.ufs_spec.specs.Disk.{CellCrash, Erasing, Flight, Programming, Reading, Spot, flight_alone, page_of}
+use Rattle.device.proofs.Common.{All, All-nil, AreClaimed, Array, Bool, Cell, Cells, Command, Core, Describes}
+use Rattle.device.proofs.Common.{DeviceCore, Ending, Erasing, Flight, HaveAnswered, IsAnswered, IsArrayOf, IsConfig}
+use Rattle.device.proofs.Common.{IsEndingOf, IsKept, IsOpened, IsShortTold, IsTied, IsTold, Job, Keeps, List, MayLeave}
+use Rattle.device.proofs.Common.{None, Numbers, OfTake, OfTurn, Option, Outcome, Pin, Place, Plain, Programming}
+use Rattle.device.proofs.Common.{ReadRight, ReadWrong, Reading, Shape, ShortsKept, Some, Sound, Spot, State, Take}
+use Rattle.device.proofs.Common.{TakeStep, TasksKept, Translation, Turn, WentWell, WentWrong, [], ap, area_there, arith}
+use Rattle.device.proofs.Common.{before_accepted, claims_of, durable, false, get_or, idle_device, if◌then◌else◌, inl}
+use Rattle.device.proofs.Common.{inr, is_to_fill, length, locked, machine_at, most_tasks, moved, nat_lt, next_number}
+use Rattle.device.proofs.Common.{numbers_of, page_of, refl, region_of, regions, regions_kept, said_by, shape_of_numbers}
+use Rattle.device.proofs.Common.{subst, suc, sym, true, wanted_by, wanted_kept, zero, ℕ, ◌*◌, ◌==◌, ◌∙◌, ◌≡◌}
+use Rattle.std.proofs.Common.{◌||◌}
+use Rattle.std.specs.Prelude.{count_by, ◌-◌, ◌≤◌}
+use Rattle.ufs_spec.specs.Cells.{IsCell}
+use Rattle.ufs_spec.specs.Disk.{CellCrash, flight_alone}
 use Rattle.ufs_spec.specs.Exchanges as exchange
-use Rattle.ufs_spec.specs.Lives.{IsOpened}
-use Rattle.ufs_spec.specs.Machine.{Take, OfTake, MayLeave, Turn, OfTurn, behind, durable, is_to_fill}
+use Rattle.ufs_spec.specs.Machine.{behind}
 use Rattle.std.proofs.Math.ListN as lists
-use Rattle.ufs_spec.specs.Keys.{said_by, said_of}
-use Rattle.ufs_spec.specs.Plain.{Plain, Shape, empty_region, region_of, regions, shape_of, shape_of_numbers, steps_of}
+use Rattle.ufs_spec.specs.Keys.{said_of}
+use Rattle.ufs_spec.specs.Plain.{after as after_all, empty_region, shape_of, steps_of}
 use Rattle.ufs_spec.specs.declared.flash.KeyAndCounter.{KeyAndCounter}
-use Rattle.ufs_spec.proofs.RegionPages.{area_there}
-use Rattle.rpmb.specs.Kept.{IsKept, idle_machines, machine_at, no_state}
-use Rattle.ufs_spec.specs.Moves.{Ending, GiveJob, IsEndingOf, MayEnd, MayLeaveCells, ReadRight, ReadWrong, TakeStep}
-use Rattle.ufs_spec.specs.Moves.{WentWell, WentWrong, moved}
-use Rattle.ufs_spec.specs.Plain.{after as after_all}
-use Rattle.ufs_spec.specs.Refusals.{State, locked, numbers_of}
-use Rattle.ufs_spec.specs.Sound.{Sound}
+use Rattle.rpmb.specs.Kept.{idle_machines, no_state}
+use Rattle.ufs_spec.specs.Moves.{GiveJob, MayEnd, MayLeaveCells}
 use Rattle.ufs_spec.specs.Pages.{greatest_number}
-use Rattle.ufs_spec.specs.Translation.{MayTake, Pin, Translation, is_step_due, spots}
-use Rattle.ufs_spec.specs.declared.configs.Numbers.{Numbers}
-use Rattle.ufs_spec.specs.declared.flash.Job.{Job}
-use Rattle.ufs_spec.specs.declared.flash.Outcome.{Outcome}
-use Rattle.ufs_spec.specs.declared.flash.Place.{Place}
+use Rattle.ufs_spec.specs.Translation.{MayTake, is_step_due, spots}
 use Rattle.ufs_laws.proofs.array_cells.CrashedCells.{cell_crash}
-use Rattle.power_loss.specs.Exchange.{IsArrayOf, IsTied}
 use Rattle.power_loss.proofs.jobs_owed.ProgramsAndErases.{program_owed}
 use Rattle.power_loss.proofs.openings.OpenedStates.{opened_state as opened_valid}
 use Rattle.settings.specs.Told.{settings_now}
 use Rattle.settings.specs.declared.page.Settings.{Settings}
 use Rattle.ftl_core.specs.Public as layer_kept
-use Rattle.ftl_core.specs.Public.{AreClaimed, Core}
-use Rattle.device.specs.Describes.{Describes, HaveAnswered, IsAnswered, IsGiven, IsShortTold, IsTold, Keeps, ShortsKept}
-use Rattle.device.specs.Describes.{TasksKept, claims_of, wanted_by, wanted_kept}
-use Rattle.device.specs.Kept.{DeviceCore, idle_device, region_kept, regions_kept}
+use Rattle.device.specs.Describes.{IsGiven}
+use Rattle.device.specs.Kept.{region_kept}
 use Rattle.device.proofs.die_calls.EndsTold.{meant_fits}
 use Rattle.device.proofs.dies_of_world.DieParts.{begun_bad}
 use Rattle.device.proofs.dies_of_world.DiesFit.{named_next}
-use Rattle.std.proofs.lemmas.List.Elements.{All-nil}
-use Rattle.ufs_spec.specs.Ledger.{before_accepted, next_number}
-use Rattle.ufs_spec.specs.Exchanges.{most_tasks}
 use Rattle.power_loss.proofs.area_reads.AreaStays.{opened_reads}
 use Rattle.power_loss.proofs.shown_blocks.LivesShowBlocks.{opened_shows}
 use Rattle.power_loss.proofs.spoken_replies.FramesStay.{opened_frames}

@@ -1,48 +1,34 @@
 -- A job's end tells the right things, and what is kept then describes what it makes of the state.
-use Rattle.std.proofs.Common.{◌≡◌, ◌∙◌, ℕ, suc, ◌≤◌, Bool, true, false, cond, List, [], ◌∷◌, inl, inr, length, map}
-use Rattle.std.proofs.Common.{Option, Some, None, slice_get, refl, sym, ap, subst, arith}
-use Rattle.std.specs.Prelude.{Contains, find, option_map}
-use Rattle.std.proofs.lemmas.List.{length-map}
-use Rattle.std.proofs.lemmas.List.Elements.{All-contains}
-use Rattle.ufs_spec.proofs.Facts.{and_parts, eqb-true, false≢true, none-some, same_Some}
-use Rattle.ufs_spec.specs.Cells.{Array, Cell, Cells, GroupPage, key_of}
-use Rattle.ufs_spec.specs.Disk.{Erasing, Flight, Programming, Reading}
-use Rattle.ufs_spec.specs.Exchanges.{NotRead, ReadState, WasRead, task_of}
-use Rattle.ufs_spec.specs.Ledger.{before_accepted}
-use Rattle.ufs_spec.specs.Machine.{Done, MayLeave, OfDone, array_after, ends_with, read_noted_after, task_read}
-use Rattle.ufs_spec.specs.Machine.{with_moves}
-use Rattle.ufs_spec.specs.Moves.{EndJob, Ending, IsEndingOf, Means, ReadRight, ReadWrong, WentWell, WentWrong}
-use Rattle.ufs_spec.specs.Moves.{cell_read, end_flight, ending_fits, is_pin_of, is_read_ending, is_read_job}
-use Rattle.ufs_spec.specs.Moves.{is_read_outcome, same_bool}
-use Rattle.ufs_spec.specs.Moves.{job_ended, moved, with_wanted}
-use Rattle.ufs_spec.specs.Refusals.{State, numbers_of}
-use Rattle.ufs_spec.specs.Exchanges.{most_tasks}
-use Rattle.ufs_spec.specs.Translation.{Pin, Translation, name_of}
-use Rattle.ufs_spec.specs.declared.flash.Outcome.{Outcome}
+use Rattle.device.proofs.Common.{All-contains, AreClaimed, Array, Bool, Cell, Cells, Core, Describes, DeviceCore, Done}
+use Rattle.device.proofs.Common.{Ending, Erasing, Flight, ForNobody, ForRest, ForStep, ForTask, GroupPage, HasFilled}
+use Rattle.device.proofs.Common.{IsAnswered, IsEndingOf, IsTied, Keeps, List, MayLeave, None, NotRead, OfDone, OneSends}
+use Rattle.device.proofs.Common.{OpenTask, Option, Outcome, Pin, Place, Programming, ReadRight, ReadState, ReadWrong}
+use Rattle.device.proofs.Common.{Reader, Reading, Some, State, TasksKept, Translation, WasRead, WentWell, WentWrong, []}
+use Rattle.device.proofs.Common.{and_parts, ap, arith, array_after, before_accepted, book, claimed_by, claimed_in}
+use Rattle.device.proofs.Common.{claims_of, cond, ending_fits, eqb-true, false, false≢true, find, found_is, inl, inr}
+use Rattle.device.proofs.Common.{is_pin_of, is_unread, job_ended, length, length-map, lock_told, map, most_tasks, moved}
+use Rattle.device.proofs.Common.{none-some, numbers_of, option_map, refl, same_Some, subst, suc, sym, task_of, true}
+use Rattle.device.proofs.Common.{wanted_by, wanted_kept, with_claimed, with_moves, with_wanted, ℕ, ◌∙◌, ◌∷◌, ◌≡◌, ◌≤◌}
+use Rattle.std.proofs.Common.{slice_get}
+use Rattle.std.specs.Prelude.{Contains}
+use Rattle.ufs_spec.specs.Cells.{key_of}
+use Rattle.ufs_spec.specs.Machine.{ends_with, read_noted_after, task_read}
+use Rattle.ufs_spec.specs.Moves.{EndJob, Means, cell_read, end_flight, is_read_ending, is_read_job, is_read_outcome}
+use Rattle.ufs_spec.specs.Moves.{same_bool}
+use Rattle.ufs_spec.specs.Translation.{name_of}
 use Rattle.ufs_spec.specs.declared.flash.Outcome.TheVariants as outcome
-use Rattle.ufs_spec.specs.declared.flash.Place.{Place}
 use Rattle.ufs_spec.specs.declared.flash.Tag.{Tag}
-use Rattle.ufs_spec.specs.declared.layer.Reader.{Reader}
-use Rattle.ufs_spec.specs.declared.layer.Reader.TheVariants.{ForNobody, ForRest, ForStep, ForTask}
-use Rattle.power_loss.specs.Book.{book}
 use Rattle.power_loss.specs.Invariant.{IsGroupPage, LookedRight}
-use Rattle.power_loss.proofs.open_tasks.FoundInLists.{found_is}
 use Rattle.power_loss.proofs.shown_blocks.LivesShowBlocks.{area_body, page_body}
 use Rattle.ftl_core.specs.Public as layer_kept
-use Rattle.ftl_core.specs.Public.{AreClaimed, Core, EndedNow, IsAwaited, IsReadOf, IsTold, with_claimed}
+use Rattle.ftl_core.specs.Public.{EndedNow, IsAwaited, IsReadOf, IsTold}
 use Rattle.ftl_core.specs.Ended as ended
-use Rattle.device.specs.Calls.{lock_told, told}
-use Rattle.device.specs.Describes.{Describes, IsAnswered, Keeps, TasksKept, claimed_by, claimed_in}
-use Rattle.device.specs.Describes.{OneSends, claims_of, is_unread, wanted_by, wanted_kept}
-use Rattle.task_set.specs.Kept.{OpenTask}
+use Rattle.device.specs.Calls.{told}
 use Rattle.task_set.specs.Tasks.{after_lost_read, after_read}
-use Rattle.device.specs.Kept.{DeviceCore}
-use Rattle.power_loss.specs.Exchange.{IsTied}
 use Rattle.power_loss.proofs.calls.CallsKeepTied.{first_keeps}
 use Rattle.power_loss.proofs.calls.RightChanges.{right_keeps as right_keeps_tied}
 use Rattle.power_loss.proofs.jobs.EndsOfJobs.{ends_right as job_right}
 use Rattle.ufs_laws.proofs.walk.SmallChanges.{job_over}
-use Rattle.device.specs.Frames.{HasFilled}
 use Rattle.device.proofs.described.Answered.{answered_told}
 use Rattle.device.proofs.described.OneSender.{each_sends}
 use Rattle.device.proofs.described.ShortExchanges.{same_shorts}

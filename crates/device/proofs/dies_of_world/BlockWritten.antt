@@ -1,10 +1,10 @@
 -- The pages of a block, written one after another.
-use Rattle.std.proofs.Common.{◌≡◌, ◌∙◌, ℕ, zero, suc, ◌+◌, ◌<◌, List, [], ◌∷◌, ◌++◌, length, refl, sym, ap, arith}
-use Rattle.std.specs.Prelude.{drop, slice_index_or, slice_set, take}
-use Rattle.std.proofs.lemmas.List.{get_or-set_same, length-set, set-get_or, set-set}
-use Rattle.ufs_spec.specs.DieLaws.{pages_in}
-use Rattle.ufs_spec.specs.Dies.{DieState, IsOfSize, LiesOnDie, pages_of, with_block, with_page}
-use Rattle.ufs_spec.specs.declared.flash.Page.{Page}
+use Rattle.device.proofs.Common.{DieState, IsOfSize, List, Page, [], ap, arith, get_or-set_same, length, length-set}
+use Rattle.device.proofs.Common.{pages_in, pages_of, refl, slice_index_or, slice_set, suc, sym, take, zero, ℕ, ◌++◌}
+use Rattle.device.proofs.Common.{◌+◌, ◌<◌, ◌∙◌, ◌∷◌, ◌≡◌}
+use Rattle.std.specs.Prelude.{drop}
+use Rattle.std.proofs.lemmas.List.{set-get_or, set-set}
+use Rattle.ufs_spec.specs.Dies.{LiesOnDie, with_block, with_page}
 
 -- Lists
 

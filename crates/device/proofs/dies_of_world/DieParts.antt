@@ -1,32 +1,24 @@
 -- What one die's job makes of a list of dies and of the list of their jobs.
-use Rattle.std.proofs.Common.{◌≡◌, ◌≢◌, ℕ, ◌+◌, ◌<◌, ◌==◌, ◌&&◌, Bool, true, false, if◌then◌else◌, List, Option}
-use Rattle.std.proofs.Common.{Some, None, length, option_map, refl, sym, ap, ◌∙◌, subst, ⊎_elim, arith}
-use Rattle.std.specs.Prelude.{nat_lt, slice_index_or, slice_set}
+use Rattle.device.proofs.Common.{BlockState, BlocksFit, Bool, Closed, DieState, Filling, Fit, Flight, Free, IsOfSize}
+use Rattle.device.proofs.Common.{IsPlace, Job, List, None, Numbers, Option, Outcome, Page, Place, Ready, Some, Spot}
+use Rattle.device.proofs.Common.{Vacancy, after_job, ap, arith, array_of, at_die, at_spot, at_spot_here, at_spot_other}
+use Rattle.device.proofs.Common.{bad_of, blank_page, die_at, false, get_or-set_same, get_or_past, has_page, is_bad}
+use Rattle.device.proofs.Common.{job_at, job_of, length, length-set, ltb-false, nat_lt, new_die, next_of, none-some}
+use Rattle.device.proofs.Common.{page_at, pages_in, pages_of, refl, slice_index_or, slice_set, spot_is, spot_of}
+use Rattle.device.proofs.Common.{state_after, subst, sym, true, ℕ, ⊎_elim, ◌&&◌, ◌+◌, ◌<◌, ◌==◌, ◌∙◌, ◌≡◌, ◌≢◌}
+use Rattle.std.proofs.Common.{if◌then◌else◌, option_map}
 use Rattle.std.proofs.lemmas.Bool.Decides.{eqb_tells}
-use Rattle.std.proofs.lemmas.List.{get_or-set_other, get_or-set_same, get_or_past, length-set, set-get_or}
+use Rattle.std.proofs.lemmas.List.{get_or-set_other, set-get_or}
 use Rattle.std.proofs.lemmas.List.Elements.{All-get_or, All-set}
-use Rattle.ufs_spec.proofs.Facts.{if_both, ltb-false, none-some}
-use Rattle.ufs_spec.specs.Cells.{IsPlace}
-use Rattle.ufs_spec.specs.Dies.{Did, DieState, IsOfSize, after_job, blank_page, die_erased, die_programmed}
-use Rattle.ufs_spec.specs.Dies.{is_bad_block, new_die, page_at, pages_of, ready_page}
+use Rattle.ufs_spec.proofs.Facts.{if_both}
+use Rattle.ufs_spec.specs.Dies.{Did, die_erased, die_programmed, is_bad_block, ready_page}
 use Rattle.ufs_spec.specs.DieLaws.{after_job_size, did_well, erased_blank, erased_next, erased_next_elsewhere}
-use Rattle.ufs_spec.specs.DieLaws.{has_page, pages_in, programmed_next, programmed_next_elsewhere}
-use Rattle.ufs_spec.specs.DieLaws.{with_block_elsewhere, with_page_there}
-use Rattle.ufs_spec.specs.DieLaws.{with_page_elsewhere_in_block}
-use Rattle.ufs_spec.specs.Disk.{BlockState, Closed, Filling, Flight, Free, Ready, Spot, Vacancy, at_die, at_place}
-use Rattle.ufs_spec.specs.Disk.{at_spot, job_of, same_spot, spot_of, state_after}
-use Rattle.ufs_spec.specs.Lives.{Fit, array_of, bad_of}
+use Rattle.ufs_spec.specs.DieLaws.{programmed_next, programmed_next_elsewhere, with_block_elsewhere}
+use Rattle.ufs_spec.specs.DieLaws.{with_page_elsewhere_in_block, with_page_there}
+use Rattle.ufs_spec.specs.Disk.{at_place, same_spot}
 use Rattle.ufs_spec.specs.Machine.{in_block}
-use Rattle.ufs_spec.specs.Translation.{is_bad}
-use Rattle.ufs_spec.specs.declared.configs.Numbers.{Numbers}
-use Rattle.ufs_spec.specs.declared.flash.Job.{Job}
-use Rattle.ufs_spec.specs.declared.flash.Outcome.{Outcome}
-use Rattle.ufs_spec.specs.declared.flash.Page.{Page}
-use Rattle.ufs_spec.specs.declared.flash.Place.{Place}
 use Rattle.ufs_laws.proofs.jobs.JobsInFlight.{at_its_die, at_other}
-use Rattle.power_loss.proofs.books.SmallFacts.{at_spot_cases, spot_cases, spot_is}
-use Rattle.power_loss.proofs.jobs.StandsSecurely.{at_spot_here, at_spot_other}
-use Rattle.device.specs.Worlds.{BlocksFit, die_at, job_at, next_of}
+use Rattle.power_loss.proofs.books.SmallFacts.{at_spot_cases, spot_cases}
 
 -- Lists
 

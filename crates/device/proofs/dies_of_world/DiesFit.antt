@@ -1,30 +1,24 @@
 -- The dies of a world fit the state, event by event.
-use Rattle.std.proofs.Common.{◌≡◌, ◌≢◌, ◌∙◌, ◌⊎◌, ℕ, ◌<◌, ◌≤◌, Bool, true, false, List, [], ◌∷◌, Option, Some, None}
-use Rattle.std.proofs.Common.{length, refl, sym, ap, subst, ⊎_elim, arith}
-use Rattle.std.specs.Prelude.{replicate, if◌then◌else◌, slice_set, option_map, Result, Ok, Err}
-use Rattle.std.proofs.lemmas.List.{get_or-replicate, get_or_past, length-replicate, length-set}
-use Rattle.ufs_spec.proofs.Facts.{none-some, same_Some}
-use Rattle.ufs_spec.specs.Cells.{Array, Cells, GroupPage, IsCell, IsPlace, Nothing}
-use Rattle.ufs_spec.specs.DieLaws.{has_page}
-use Rattle.ufs_spec.specs.Dies.{CanDo, DieState, IsOfSize, after_job, blank_page, outcome_of}
-use Rattle.ufs_spec.specs.Disk.{Bad, BlockState, Closed, Erasing, Filling, Flight, Free, Programming, Reading, Ready}
-use Rattle.ufs_spec.specs.Disk.{Spot, Stale, Untouched, Vacancy, at_die, at_place, blocks_begun, job_of, page_of}
-use Rattle.ufs_spec.specs.Disk.{spot_of}
-use Rattle.ufs_spec.specs.Lives.{Fit, IsOpened, array_of, bad_of, ended_well}
-use Rattle.ufs_spec.specs.Machine.{Reply, Done, OfDone, Take, OfTake, Heard, OfHost, Host, OfReply, Turn, OfTurn}
-use Rattle.ufs_spec.specs.Machine.{array_after, given, hears, in_block, fills, lock_applied, observe, replied}
-use Rattle.ufs_spec.specs.Machine.{with_moves}
-use Rattle.ufs_spec.specs.Moves.{Ending, IsEndingOf, TakeStep, ending_fits}
+use Rattle.device.proofs.Common.{Array, Bad, BlockState, BlocksFit, Bool, CanDo, Cells, Closed, DieState, Done, Ending}
+use Rattle.device.proofs.Common.{Erasing, Err, Filling, Fit, FitState, Flight, Free, GroupPage, Heard, Host, HostFault}
+use Rattle.device.proofs.Common.{IsEndingOf, IsOfSize, IsOpened, IsPlace, IsTied, Job, List, Message, None, Nothing}
+use Rattle.device.proofs.Common.{Numbers, OfDone, OfHost, OfReply, OfTake, OfTurn, Ok, Option, Place, Programming}
+use Rattle.device.proofs.Common.{Reading, Ready, Reply, Result, Some, Spot, State, Take, TakeStep, Translation, Turn}
+use Rattle.device.proofs.Common.{Vacancy, [], after_job, ap, arith, array_after, array_of, at_die, bad_of, blank_page}
+use Rattle.device.proofs.Common.{die_at, ended_well, ending_fits, false, fills, get_or_past, has_page, if◌then◌else◌}
+use Rattle.device.proofs.Common.{is_bad, job_at, job_of, length, length-replicate, length-set, lock_applied, next_of}
+use Rattle.device.proofs.Common.{none-some, numbers_of, observe, option_map, outcome_of, page_of, refl, replied}
+use Rattle.device.proofs.Common.{same_Some, slice_set, spot_is, spot_of, subst, sym, true, with_moves, ℕ, ⊎_elim, ◌<◌}
+use Rattle.device.proofs.Common.{◌∙◌, ◌∷◌, ◌≡◌, ◌≢◌, ◌≤◌, ◌⊎◌}
+use Rattle.std.specs.Prelude.{replicate}
+use Rattle.std.proofs.lemmas.List.{get_or-replicate}
+use Rattle.ufs_spec.specs.Cells.{IsCell}
+use Rattle.ufs_spec.specs.Disk.{Stale, Untouched, at_place, blocks_begun}
+use Rattle.ufs_spec.specs.Machine.{given, hears, in_block}
 use Rattle.ufs_spec.specs.Openings.{IsVacancyAt}
-use Rattle.ufs_spec.specs.Refusals.{State, numbers_of}
-use Rattle.ufs_spec.specs.Translation.{MayTake, Translation, is_bad}
-use Rattle.ufs_spec.specs.declared.configs.Numbers.{Numbers}
-use Rattle.ufs_spec.specs.declared.faults.HostFault.{HostFault}
-use Rattle.ufs_spec.specs.declared.flash.Job.{Job}
+use Rattle.ufs_spec.specs.Translation.{MayTake}
 use Rattle.ufs_spec.specs.declared.flash.Job.TheVariants as job
-use Rattle.ufs_spec.specs.declared.flash.Place.{Place}
 use Rattle.ufs_spec.specs.declared.flash.Tag.{Tag}
-use Rattle.ufs_spec.specs.declared.messages.Message.{Message}
 use Rattle.ufs_laws.proofs.jobs.OneJob.{is_die}
 use Rattle.ufs_laws.proofs.jobs.SameJobs as quiet
 use Rattle.ufs_laws.proofs.deciding.SearchOverPlaces.{is_place, split}
@@ -32,10 +26,9 @@ use Rattle.ufs_laws.proofs.exchanges.RequestsSettled.{settled_jobs}
 use Rattle.ufs_laws.proofs.lives.EventsLead.{well_fits}
 use Rattle.ufs_laws.specs.Flights.{die_of_flight}
 use Rattle.power_loss.proofs.openings.FirstBlocks.{bad_as_before, never_filling}
-use Rattle.power_loss.specs.Exchange.{IsTied}
 use Rattle.power_loss.proofs.jobs_owed.ProgramsAndErases.{OpensReady, program_owed, take_inside}
-use Rattle.power_loss.proofs.books.SmallFacts.{at_die_is, spot_is}
-use Rattle.device.specs.Worlds.{BlocksFit, DiesFit, FitState, die_at, job_at, jobs_given, next_of}
+use Rattle.power_loss.proofs.books.SmallFacts.{at_die_is}
+use Rattle.device.specs.Worlds.{DiesFit, jobs_given}
 use Rattle.device.proofs.dies_of_world.DieParts.{begun_blocks, die_size, erase_blocks, erase_pages, program_blocks}
 use Rattle.device.proofs.dies_of_world.DieParts.{program_pages, put_jobs, put_same, put_sizes}
 use Rattle.device.proofs.dies_of_world.FinishDies.{blocks_behind, doing_behind, seen_behind, vacancies_behind}

@@ -1,18 +1,11 @@
 -- A die whose job failed holds what the job leaves, and the block of the job is bad.
-use Rattle.std.proofs.Common.{◌≡◌, ◌∙◌, ℕ, ◌<◌, Bool, false, List, [], ◌∷◌, Option, None, length, refl, sym, ap}
-use Rattle.std.proofs.Common.{arith}
-use Rattle.std.specs.Prelude.{slice_index_or}
-use Rattle.ufs_spec.proofs.Facts.{none-some}
+use Rattle.device.proofs.Common.{Bad, BlockState, BlocksFit, Bool, DieState, Fit, IsInside, IsLeft, IsOfSize, Leftover}
+use Rattle.device.proofs.Common.{List, None, Numbers, Option, Spot, Vacancy, [], ap, arith, array_of, at_spot}
+use Rattle.device.proofs.Common.{at_spot_here, at_spot_other, die_at, die_of, dies_failed, false, is_bad, length}
+use Rattle.device.proofs.Common.{next_of, none-some, refl, slice_index_or, sym, ℕ, ◌<◌, ◌∙◌, ◌∷◌, ◌≡◌}
 use Rattle.ufs_spec.specs.DieLaws.{with_bad_bad, with_bad_elsewhere, with_bad_next_elsewhere, with_bad_size}
-use Rattle.ufs_spec.specs.Dies.{DieState, IsOfSize, with_bad}
-use Rattle.ufs_spec.specs.Disk.{Bad, BlockState, Spot, Vacancy, at_spot}
-use Rattle.ufs_spec.specs.Lives.{Fit, IsLeft, array_of, die_of}
-use Rattle.ufs_spec.specs.Translation.{is_bad}
-use Rattle.ufs_spec.specs.declared.configs.Numbers.{Numbers}
-use Rattle.ufs_spec.specs.declared.events.Leftover.{Leftover}
-use Rattle.device.specs.Leftovers.{IsInside}
-use Rattle.device.specs.Worlds.{BlocksFit, block_of, die_at, die_left, dies_failed, next_of}
-use Rattle.power_loss.proofs.jobs.StandsSecurely.{at_spot_here, at_spot_other}
+use Rattle.ufs_spec.specs.Dies.{with_bad}
+use Rattle.device.specs.Worlds.{block_of, die_left}
 use Rattle.device.proofs.dies_of_world.DieParts.{die_size, put_blocks}
 use Rattle.device.proofs.dies_of_world.LeftDies.{in_a_block, is_of_dies, left_keeps_bad, left_keeps_ready, left_size}
 use Rattle.device.proofs.dies_of_world.LeftDies.{one_is_left, put_fit, spot_left}

@@ -1,30 +1,21 @@
 -- A job that fails leads to a state that the world then fits, and one that is refused fails not so.
-use Rattle.std.proofs.Common.{◌≡◌, ◌∙◌, ℕ, true, [], ◌∷◌, Option, Some, None, option_map, refl, sym, ap, subst}
-use Rattle.std.specs.Prelude.{slice_set, Ok}
-use Rattle.ufs_spec.specs.Cells.{Array, Cell, Cells}
-use Rattle.ufs_spec.specs.Disk.{Erasing, Flight, Programming, Reading, Spot}
-use Rattle.ufs_spec.specs.Disk.{job_of, spot_of}
-use Rattle.ufs_spec.specs.Lives.{Fit, IsFailure, IsLawfulLeftover, IsLeft, IsLeftoverOf, array_of, die_of}
-use Rattle.ufs_spec.specs.Machine.{Done, OfDone, MayLeave, observe}
-use Rattle.ufs_spec.specs.Moves.{Ending, IsEndingOf, ReadWrong, WentWrong, ending_fits}
-use Rattle.ufs_spec.specs.Refusals.{State, numbers_of}
-use Rattle.ufs_spec.specs.declared.configs.Numbers.{Numbers}
+use Rattle.device.proofs.Common.{Array, Cell, Cells, DeviceCore, Done, Ending, Erasing, Fit, Fits, Flight, IsAnswered}
+use Rattle.device.proofs.Common.{IsEndingOf, IsInside, IsLawfulLeftover, IsLeft, IsLeftoverOf, IsOfDie, Leftover}
+use Rattle.device.proofs.Common.{MayDieLeave, MayLeave, None, Numbers, OfDone, Ok, Option, Outcome, Place, Programming}
+use Rattle.device.proofs.Common.{ReadWrong, Reader, Reading, Some, Spot, State, Went, WentWrong, WorldState, [], ap}
+use Rattle.device.proofs.Common.{array_of, die_of, dies_failed, ending_fits, job_at, job_of, numbers_of, observe, refl}
+use Rattle.device.proofs.Common.{slice_set, spot_of, subst, sym, true, ℕ, ◌∙◌, ◌∷◌, ◌≡◌}
+use Rattle.std.proofs.Common.{option_map}
+use Rattle.ufs_spec.specs.Lives.{IsFailure}
 use Rattle.ufs_spec.specs.declared.events.Event.TheVariants as event
-use Rattle.ufs_spec.specs.declared.events.Leftover.{Leftover}
 use Rattle.ufs_spec.specs.declared.events.Leftover.TheVariants as leftover
 use Rattle.ufs_spec.specs.declared.events.Output.TheVariants as output
 use Rattle.ufs_spec.specs.declared.flash.Job.TheVariants as job
-use Rattle.ufs_spec.specs.declared.flash.Outcome.{Outcome}
 use Rattle.ufs_spec.specs.declared.flash.Outcome.TheVariants as outcome
-use Rattle.ufs_spec.specs.declared.flash.Place.{Place}
-use Rattle.ufs_spec.specs.declared.layer.Reader.{Reader}
 use Rattle.power_loss.proofs.die_pages.LeftoversLeaveOneArray.{one_left}
 use Rattle.power_loss.proofs.jobs.LawfulFailures.{job_fails}
 use Rattle.power_loss.proofs.stops.LeftoverLists.{one_apart}
-use Rattle.device.specs.Describes.{IsAnswered}
-use Rattle.device.specs.Kept.{DeviceCore, WorldState}
-use Rattle.device.specs.Leftovers.{IsInside, IsOfDie, MayDieLeave}
-use Rattle.device.specs.Worlds.{Fits, IsBad, IsFailureOf, IsWrong, Went, dies_failed, job_at}
+use Rattle.device.specs.Worlds.{IsBad, IsFailureOf, IsWrong}
 use Rattle.device.proofs.dies_of_world.DiesFit.{AreBehind, ended_fits}
 use Rattle.device.proofs.dies_of_world.FailDies.{failed_blocks, failed_fits, failed_left}
 use Rattle.device.proofs.dies_of_world.FinishDies.{blocks_failed, layer_failed, seen_erase_failed, seen_program_failed}

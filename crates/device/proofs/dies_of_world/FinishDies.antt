@@ -1,26 +1,17 @@
 -- What the end of a job makes of the pages and of the state of each block.
-use Rattle.std.proofs.Common.{◌≡◌, ◌==◌, ℕ, Bool, true, Option, Some, None, option_map, refl, sym, ap, ◌∙◌}
-use Rattle.std.specs.Prelude.{if◌then◌else◌}
+use Rattle.device.proofs.Common.{Array, Bad, BlockState, Bool, Cell, Cells, Done, Ending, Erasing, Flight, ForNobody}
+use Rattle.device.proofs.Common.{ForRest, ForStep, ForTask, GroupPage, MarkPage, None, NotRead, Nothing, OfDone, Option}
+use Rattle.device.proofs.Common.{Place, Programming, ReadRight, ReadState, ReadWrong, Reader, Reading, Ready, Some}
+use Rattle.device.proofs.Common.{Spot, State, Translation, Vacancy, WasRead, WentWell, WentWrong, ap, array_after}
+use Rattle.device.proofs.Common.{at_die, at_spot, ended_well, ending_fits, eq_self, false≢true, if◌then◌else◌}
+use Rattle.device.proofs.Common.{job_ended, job_of, observe, refl, spot_of, state_after, sym, true, ℕ, ◌==◌, ◌∙◌, ◌≡◌}
+use Rattle.std.proofs.Common.{option_map}
 use Rattle.ufs_spec.proofs.Facts.{if_both}
-use Rattle.ufs_spec.specs.Cells.{Array, Cell, Cells, GroupPage, MarkPage, Nothing}
-use Rattle.ufs_spec.specs.Disk.{Bad, BlockState, Erasing, Flight, Programming}
-use Rattle.ufs_spec.specs.Disk.{Reading, Ready, Spot, Vacancy, at_die, at_spot, program_failed, programmed}
-use Rattle.ufs_spec.specs.Disk.{spot_of, state_after}
-use Rattle.ufs_spec.specs.Exchanges.{NotRead, ReadState, WasRead}
-use Rattle.ufs_spec.specs.Lives.{ended_well}
-use Rattle.ufs_spec.specs.Machine.{Done, OfDone, array_after, ends_with, observe, read_noted, read_noted_after}
-use Rattle.ufs_spec.specs.Moves.{Ending, ReadRight, ReadWrong, WentWell, WentWrong, die_idle, end_flight, ending_fits}
-use Rattle.ufs_spec.specs.Moves.{freed, job_ended, read_right, read_wrong}
-use Rattle.ufs_spec.specs.Refusals.{State}
-use Rattle.ufs_spec.specs.Translation.{Translation, has_mark_number}
-use Rattle.ufs_spec.specs.declared.flash.Place.{Place}
-use Rattle.ufs_spec.specs.declared.layer.Reader.{Reader}
-use Rattle.ufs_spec.specs.declared.layer.Reader.TheVariants.{ForNobody, ForRest, ForStep, ForTask}
+use Rattle.ufs_spec.specs.Disk.{program_failed, programmed}
+use Rattle.ufs_spec.specs.Machine.{Allowed, ends_with, read_noted, read_noted_after}
+use Rattle.ufs_spec.specs.Moves.{die_idle, end_flight, freed, read_right, read_wrong}
+use Rattle.ufs_spec.specs.Translation.{has_mark_number}
 use Rattle.ufs_laws.proofs.jobs.JobsInFlight.{ended_flight, ended_others}
-use Rattle.power_loss.proofs.books.SmallFacts.{eq_self}
-use Rattle.ufs_spec.proofs.Facts.{false≢true}
-use Rattle.ufs_spec.specs.Disk.{job_of}
-use Rattle.ufs_spec.specs.Machine.{Allowed}
 use Rattle.device.proofs.open_tasks.ReadProgress.{by_tag}
 use Rattle.ufs_laws.specs.Flights.{die_of_flight}
 use Rattle.device.proofs.dies_of_world.QuietDies.{LayerSeen, layer_seen, seen, seen_over, told_same}

@@ -1,18 +1,13 @@
 -- The block that a plan frees behind its mark. The same blocks are bad behind it, and where a page of a block may be
 -- programmed behind it, it might be so before, so the dies that fitted the blocks go on to fit them.
-use Rattle.std.proofs.Common.{◌≡◌, ◌≢◌, ℕ, List, Option, Some, None, refl, sym, ap, ◌∙◌, ⊎_elim}
-use Rattle.ufs_spec.proofs.Facts.{none-some}
-use Rattle.ufs_spec.specs.Cells.{Cell, GroupPage, MarkPage, Nothing}
-use Rattle.ufs_spec.specs.Dies.{DieState}
-use Rattle.ufs_spec.specs.Disk.{Bad, BlockState, Closed, Disk, Filling, Free, Programming, Spot, Stale, Vacancy}
-use Rattle.ufs_spec.specs.Disk.{at_spot, programmed, spot_of, state_after}
+use Rattle.device.proofs.Common.{Bad, BlockState, BlocksFit, Cell, Closed, DieState, Filling, Free, GroupPage, List}
+use Rattle.device.proofs.Common.{MarkPage, None, Nothing, Numbers, Option, Place, Programming, Some, Spot, Translation}
+use Rattle.device.proofs.Common.{Vacancy, ap, at_spot, at_spot_here, at_spot_other, is_bad, next_of, none-some, refl}
+use Rattle.device.proofs.Common.{spot_of, state_after, sym, ℕ, ⊎_elim, ◌∙◌, ◌≡◌, ◌≢◌}
+use Rattle.ufs_spec.specs.Disk.{Disk, Stale, programmed}
 use Rattle.ufs_spec.specs.Moves.{freed, freed_state}
-use Rattle.ufs_spec.specs.Translation.{Plan, Translation, is_bad}
-use Rattle.ufs_spec.specs.declared.configs.Numbers.{Numbers}
-use Rattle.ufs_spec.specs.declared.flash.Place.{Place}
+use Rattle.ufs_spec.specs.Translation.{Plan}
 use Rattle.power_loss.proofs.books.SmallFacts.{at_spot_cases}
-use Rattle.device.specs.Worlds.{BlocksFit, next_of}
-use Rattle.power_loss.proofs.jobs.StandsSecurely.{at_spot_here, at_spot_other}
 use Rattle.device.proofs.dies_of_world.DieParts.{still_fit}
 use Rattle.device.proofs.dies_of_world.FinishDies.{blocks_behind, vacancies_behind}
 

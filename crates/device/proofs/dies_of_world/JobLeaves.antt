@@ -1,17 +1,10 @@
 -- What a job may leave on its die.
-use Rattle.std.proofs.Common.{◌≡◌, ℕ, ◌+◌, ◌<◌, List, length, sym, subst, ⊎_elim, arith}
+use Rattle.device.proofs.Common.{DieState, Job, Leftover, List, MayBeLeft, Page, Place, arith, blank_page}
+use Rattle.device.proofs.Common.{get_or_default, length, page_at, slice_index_or, subst, sym, ℕ, ⊎_elim, ◌+◌, ◌<◌, ◌≡◌}
 use Rattle.std.specs.Global.{Vec}
-use Rattle.std.specs.Prelude.{slice_index_or}
-use Rattle.std.proofs.lemmas.List.{get_or_default}
 use Rattle.ufs_spec.proofs.Facts.{cases_lt}
-use Rattle.ufs_spec.specs.Dies.{DieState, blank_page, page_at}
-use Rattle.ufs_spec.specs.Pages.{MayBeLeft}
-use Rattle.ufs_spec.specs.declared.events.Leftover.{Leftover}
 use Rattle.ufs_spec.specs.declared.events.Leftover.TheVariants as leftover
-use Rattle.ufs_spec.specs.declared.flash.Job.{Job}
 use Rattle.ufs_spec.specs.declared.flash.Job.TheVariants as job
-use Rattle.ufs_spec.specs.declared.flash.Page.{Page}
-use Rattle.ufs_spec.specs.declared.flash.Place.{Place}
 use Rattle.device.specs.Leftovers.{MayJobLeave}
 
 -- the pages of a list, up to a number, may be left of an erase of the block

@@ -1,33 +1,28 @@
 -- What leftovers make of dies: their sizes, their pages and their bad blocks.
-use Rattle.std.proofs.Common.{◌≡◌, ◌≢◌, ◌∙◌, ◌⊎◌, ℕ, ◌<◌, ◌≤◌, Bool, true, false, if◌then◌else◌, List, [], ◌∷◌, Option}
-use Rattle.std.proofs.Common.{Some, None, Contains, length, map, refl, sym, ap, subst, inl, inr, ⊎_elim, arith}
-use Rattle.std.specs.Prelude.{slice_get, slice_index_or, slice_set}
+use Rattle.device.proofs.Common.{All-contains, All-weaker, AreLeftovers, Array, Bool, DieState, Erasing, Fit, Flight}
+use Rattle.device.proofs.Common.{IsInside, IsLawfulLeftover, IsLeft, IsLeftoverOf, IsOfSize, IsPlace, Leftover, List}
+use Rattle.device.proofs.Common.{None, Numbers, Option, Page, Place, Programming, Some, Spot, State, [], ap, arith}
+use Rattle.device.proofs.Common.{array_of, bad_of, blank_page, die_at, die_of, dies_left, dies_left_by, false}
+use Rattle.device.proofs.Common.{get_or-set_same, get_or_from_slice_get, get_or_past, has_page, inl, inr, length}
+use Rattle.device.proofs.Common.{length-map, length-set, map, new_die, none-some, numbers_of, page_at, pages_in}
+use Rattle.device.proofs.Common.{pages_of, power_cycle_ended, refl, slice_get, slice_index_or, slice_set, spot_of}
+use Rattle.device.proofs.Common.{subst, sym, true, ℕ, ⊎_elim, ◌<◌, ◌∙◌, ◌∷◌, ◌≡◌, ◌≢◌, ◌≤◌, ◌⊎◌}
+use Rattle.std.proofs.Common.{Contains, if◌then◌else◌}
 use Rattle.std.proofs.Math.ListN.{get_or-map}
-use Rattle.std.proofs.lemmas.List.{get_or-set_same, get_or_past, length-map, length-set}
-use Rattle.std.proofs.lemmas.List.Elements.{All-contains, All-map, All-set, All-weaker}
-use Rattle.std.proofs.lemmas.Option.{get_or_from_slice_get, slice_get_cases}
-use Rattle.ufs_spec.proofs.Facts.{none-some}
-use Rattle.ufs_spec.specs.Cells.{Array, IsPlace}
-use Rattle.ufs_spec.specs.DieLaws.{has_page, pages_in, power_cycle_size, with_block_elsewhere, with_block_size}
+use Rattle.std.proofs.lemmas.List.Elements.{All-map, All-set}
+use Rattle.std.proofs.lemmas.Option.{slice_get_cases}
+use Rattle.ufs_spec.specs.DieLaws.{power_cycle_size, with_block_elsewhere, with_block_size}
 use Rattle.ufs_spec.specs.DieLaws.{with_page_elsewhere_in_block, with_page_size, with_page_there}
-use Rattle.ufs_spec.specs.Dies.{DieState, IsOfSize, blank_page, is_bad_block, new_die, page_at, pages_of}
-use Rattle.ufs_spec.specs.Dies.{power_cycle_ended, with_block, with_page}
-use Rattle.ufs_spec.specs.Disk.{Erasing, Flight, Programming, Spot, same_spot, spot_of}
-use Rattle.ufs_spec.specs.Lives.{AreLeftovers, Fit, IsLawfulLeftover, IsLeft, IsLeftoverOf, Stops, array_of, bad_of}
-use Rattle.ufs_spec.specs.Lives.{die_of, page_left}
-use Rattle.ufs_spec.specs.Refusals.{State, numbers_of}
-use Rattle.ufs_spec.specs.declared.configs.Numbers.{Numbers}
-use Rattle.ufs_spec.specs.declared.events.Leftover.{Leftover}
+use Rattle.ufs_spec.specs.Dies.{is_bad_block, with_block, with_page}
+use Rattle.ufs_spec.specs.Disk.{same_spot}
+use Rattle.ufs_spec.specs.Lives.{Stops, page_left}
 use Rattle.ufs_spec.specs.declared.events.Leftover.TheVariants as leftover
-use Rattle.ufs_spec.specs.declared.flash.Page.{Page}
-use Rattle.ufs_spec.specs.declared.flash.Place.{Place}
 use Rattle.power_loss.proofs.books.SmallFacts.{place_is, spot_cases}
 use Rattle.ufs_spec.proofs.Equalities.{place_cases}
 use Rattle.power_loss.proofs.stops.LeftoverLists.{contained_cases, first_contained, later_contained, none_contained}
 use Rattle.power_loss.proofs.stops.LeftoverLists.{only_contained}
 use Rattle.power_loss.specs.Exchange.{IsSpot, ValidState}
-use Rattle.device.specs.Leftovers.{IsInside}
-use Rattle.device.specs.Worlds.{block_of, die_at, die_left, dies_left, dies_left_by, dies_stopped}
+use Rattle.device.specs.Worlds.{block_of, die_left, dies_stopped}
 use Rattle.device.proofs.dies_of_world.DieParts.{die_size, pages_put, put_bad}
 
 -- Leftovers that lie on the dies

@@ -1,15 +1,13 @@
 -- Leftovers on dies that differ, one more each time.
-use Rattle.std.proofs.Common.{◌≡◌, ◌≢◌, ◌∙◌, ℕ, ◌+◌, ◌<◌, ◌==◌, Bool, true, false, List}
-use Rattle.std.proofs.Common.{◌⊎◌, length, sym, ap, subst, inl, inr, ⊎_elim, arith}
-use Rattle.std.specs.Prelude.{All, AllPairs, slice_index_or, take}
-use Rattle.std.specs.List.{list_any}
+use Rattle.device.proofs.Common.{Bool, Leftover, List, ap, arith, die_of, false, get_or_default, inl, inr, length}
+use Rattle.device.proofs.Common.{length-take-le, list_any, slice_index_or, subst, sym, take, true, true≢false, ℕ}
+use Rattle.device.proofs.Common.{⊎_elim, ◌+◌, ◌<◌, ◌==◌, ◌∙◌, ◌≡◌, ◌≢◌, ◌⊎◌}
+use Rattle.std.specs.Prelude.{All, AllPairs}
 use Rattle.std.proofs.lemmas.Bool.Decides.{eqb_tells}
-use Rattle.std.proofs.lemmas.List.{get_or_default, get_or-take, length-take-le}
+use Rattle.std.proofs.lemmas.List.{get_or-take}
 use Rattle.std.proofs.lemmas.List.Elements.{All-from_get_or, All-get_or}
 use Rattle.std.proofs.lemmas.List.Folds.{list_any_at, list_any_none}
-use Rattle.ufs_spec.proofs.Facts.{eq-eqb, true≢false}
-use Rattle.ufs_spec.specs.Lives.{die_of}
-use Rattle.ufs_spec.specs.declared.events.Leftover.{Leftover}
+use Rattle.ufs_spec.proofs.Facts.{eq-eqb}
 
 abbrev pub ApartTo : List Leftover → ℕ → Type 0
 ApartTo xs k = (i j : ℕ) (d : Leftover) → i < j → j < k →

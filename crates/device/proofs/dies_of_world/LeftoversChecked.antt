@@ -1,30 +1,19 @@
 -- A leftover that is checked over the dies is that of the job in flight, and lawful, just where the state says so.
-use Rattle.std.proofs.Common.{◌≡◌, ◌∙◌, ℕ, ◌<◌, ◌≤◌, List, Option, Some, None, length, option_map, refl, sym, ap, subst}
-use Rattle.std.proofs.Common.{⊎_elim, arith}
-use Rattle.std.specs.Prelude.{slice_index_or, All}
-use Rattle.std.proofs.lemmas.List.{get_or_past}
-use Rattle.std.proofs.lemmas.List.Elements.{All-weaker}
-use Rattle.std.proofs.lemmas.Option.{get_or_from_slice_get, slice_get-get_or, slice_get_within}
+use Rattle.device.proofs.Common.{All-weaker, Array, CanDo, Cell, DieState, Erasing, Fit, Fits, Flight, IsInside}
+use Rattle.device.proofs.Common.{IsLawfulLeftover, IsLeftoverOf, IsOfDie, Job, Leftover, List, MayBeLeft, MayDieLeave}
+use Rattle.device.proofs.Common.{None, Nothing, Numbers, Option, Page, Place, Programming, Reading, Some, Spot, State}
+use Rattle.device.proofs.Common.{WorldState, ap, arith, array_of, blank_page, die_at, die_of, get_or_from_slice_get}
+use Rattle.device.proofs.Common.{get_or_past, job_at, job_of, length, none_some, numbers_of, page_at, page_of, pages_in}
+use Rattle.device.proofs.Common.{pages_of, refl, slice_get-get_or, slice_get_within, slice_index_or, some_is, spot_is}
+use Rattle.device.proofs.Common.{subst, sym, ℕ, ⊎_elim, ◌<◌, ◌∙◌, ◌≡◌, ◌≤◌}
+use Rattle.std.proofs.Common.{option_map}
+use Rattle.std.specs.Prelude.{All}
 use Rattle.ufs_laws.proofs.deciding.SearchOverPlaces.{split}
-use Rattle.ufs_spec.specs.Cells.{Array, Cell, Nothing}
-use Rattle.ufs_spec.specs.DieLaws.{pages_in}
-use Rattle.ufs_spec.specs.Dies.{CanDo, DieState, LiesOnDie, blank_page, page_at, pages_of}
-use Rattle.ufs_spec.specs.Disk.{Erasing, Flight, Programming, Reading, Spot, Touches, job_of, page_of}
-use Rattle.ufs_spec.specs.Lives.{Fit, IsLawfulLeftover, IsLeftoverOf, array_of, die_of}
-use Rattle.ufs_spec.specs.Pages.{MayBeLeft}
-use Rattle.ufs_spec.specs.Refusals.{State, numbers_of}
-use Rattle.ufs_spec.specs.declared.configs.Numbers.{Numbers}
-use Rattle.ufs_spec.specs.declared.events.Leftover.{Leftover}
+use Rattle.ufs_spec.specs.Dies.{LiesOnDie}
+use Rattle.ufs_spec.specs.Disk.{Touches}
 use Rattle.ufs_spec.specs.declared.events.Leftover.TheVariants as leftover
-use Rattle.ufs_spec.specs.declared.flash.Job.{Job}
 use Rattle.ufs_spec.specs.declared.flash.Job.TheVariants as job
-use Rattle.ufs_spec.specs.declared.flash.Page.{Page}
-use Rattle.ufs_spec.specs.declared.flash.Place.{Place}
-use Rattle.power_loss.proofs.books.PagesByName.{none_some, some_is}
-use Rattle.power_loss.proofs.books.SmallFacts.{spot_is}
-use Rattle.device.specs.Kept.{WorldState}
-use Rattle.device.specs.Leftovers.{HasPagesOf, IsInside, IsOfDie, IsOfJob, MayDieLeave, MayJobLeave}
-use Rattle.device.specs.Worlds.{Fits, die_at, job_at}
+use Rattle.device.specs.Leftovers.{HasPagesOf, IsOfJob, MayJobLeave}
 use Rattle.device.proofs.dies_of_world.DieParts.{die_size}
 use Rattle.device.proofs.dies_of_world.WentRight.{finish_can, has_flight}
 

@@ -1,22 +1,12 @@
 -- A world whose device was opened over its dies.
-use Rattle.std.proofs.Common.{◌≡◌, ◌∙◌, List, Option, None, length, map, ap, sym, subst}
-use Rattle.std.specs.Prelude.{Vec}
+use Rattle.device.proofs.Common.{Describes, DeviceCore, DieState, Err, Fit, FitState, Fits, HasScanned, IsConfig}
+use Rattle.device.proofs.Common.{IsOpened, Job, List, None, Numbers, Ok, OnOk, Option, Result, Sound, State, Suits}
+use Rattle.device.proofs.Common.{WorldState, ap, array_of, bad_of, fit_inside, length, map, map-id, subst, sym, ◌∙◌}
+use Rattle.device.proofs.Common.{◌≡◌}
+use Rattle.std.specs.Prelude.{Vec, replicate}
 use Rattle.std.specs.Vec.{with_items}
-use Rattle.std.proofs.lemmas.List.{map-id, with_items_is}
-use Rattle.std.specs.Prelude.{replicate, Err, Ok, OnOk, Result}
-use Rattle.ufs_spec.specs.Configs.{IsConfig}
-use Rattle.ufs_spec.specs.Dies.{DieState}
-use Rattle.ufs_spec.specs.Lives.{Fit, IsOpened, array_of, bad_of}
-use Rattle.ufs_spec.specs.Refusals.{State}
-use Rattle.ufs_spec.specs.Sound.{Sound, Suits}
-use Rattle.ufs_spec.specs.declared.configs.Numbers.{Numbers}
-use Rattle.ufs_spec.specs.declared.flash.Job.{Job}
-use Rattle.power_loss.proofs.die_pages.BlankOutsideDies.{fit_inside}
+use Rattle.std.proofs.lemmas.List.{with_items_is}
 use Rattle.power_loss.proofs.openings.OpenedStates.{opened_state}
-use Rattle.device.specs.Describes.{Describes}
-use Rattle.device.specs.Kept.{DeviceCore, WorldState}
-use Rattle.device.specs.Opened.{HasScanned}
-use Rattle.device.specs.Worlds.{FitState, Fits}
 use Rattle.device.proofs.dies_of_world.DiesFit.{opens_fit}
 
 -- what is written over a list as it was leaves it

@@ -1,22 +1,18 @@
 -- Why a device is not opened over dies in memory: no memory, or they hold another configuration.
-use Rattle.std.proofs.Common.{◌≡◌, ◌≢◌, ℕ, ◌<◌, List, Option, map, refl, sym, subst, arith}
-use Rattle.std.specs.Prelude.{slice_index_or}
+use Rattle.device.proofs.Common.{Cells, DieState, Fit, IsOpeningFault, List, Numbers, Option, RunFaultKind, Shows}
+use Rattle.device.proofs.Common.{Sound, Suits, arith, array_of, map, new_die, refl, slice_index_or, subst, sym, ℕ, ◌<◌}
+use Rattle.device.proofs.Common.{◌≡◌, ◌≢◌}
 use Rattle.std.proofs.Math.ListN.{get_or-map}
 use Rattle.ufs_laws.proofs.array_cells.StandsForOne.{cells_one, mark_one}
 use Rattle.ufs_laws.proofs.pages.PageIsOneCell.{one_cell}
-use Rattle.ufs_spec.specs.Cells.{Cells, Mark, Shows}
-use Rattle.ufs_spec.specs.Dies.{DieState, new_die}
+use Rattle.ufs_spec.specs.Cells.{Mark}
 use Rattle.ufs_spec.specs.Kept.{IsNewestMark}
-use Rattle.ufs_spec.specs.Lives.{Fit, array_of}
-use Rattle.ufs_spec.specs.Sound.{CellsSuit, Sound, Suits}
-use Rattle.ufs_spec.specs.declared.configs.Numbers.{Numbers}
-use Rattle.ufs_spec.specs.declared.events.RunFaultKind.{RunFaultKind}
+use Rattle.ufs_spec.specs.Sound.{CellsSuit}
 use Rattle.ufs_spec.specs.declared.events.RunFaultKind.TheVariants as kind
 use Rattle.ufs_spec.specs.declared.faults.OpenFault.{OpenFault}
 use Rattle.ufs_spec.specs.declared.faults.OpenFault.TheVariants as fault
 use Rattle.recovery.specs.Found.{IsScanFault}
 use Rattle.device.specs.Opened.{HoldAnotherConfig}
-use Rattle.device.specs.Worlds.{IsOpeningFault}
 
 abbrev no_failures : DieState → ℕ
 no_failures d = 0

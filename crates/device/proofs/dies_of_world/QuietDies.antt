@@ -1,14 +1,9 @@
 -- Moves and messages that leave the pages, the numbers, the state of each block and what is in the free ones: all but
 -- the beginning and the end of a job.
-use Rattle.std.proofs.Common.{◌≡◌, [], ◌∷◌, refl, ap, ◌∙◌}
-use Rattle.ufs_spec.specs.Cells.{Array}
-use Rattle.ufs_spec.specs.Disk.{BlockState, Spot, Vacancy}
-use Rattle.ufs_spec.specs.Machine.{Heard, fills, hears, lock_applied, replied, with_moves}
-use Rattle.ufs_spec.specs.Moves.{EndJob, Move, GiveJob, TakeStep, moved}
-use Rattle.ufs_spec.specs.Refusals.{State}
-use Rattle.ufs_spec.specs.Translation.{Translation}
-use Rattle.ufs_spec.specs.declared.configs.Numbers.{Numbers}
-use Rattle.ufs_spec.specs.declared.messages.Message.{Message}
+use Rattle.device.proofs.Common.{Array, BlockState, Heard, Message, Move, Numbers, Spot, State, TakeStep, Translation}
+use Rattle.device.proofs.Common.{Vacancy, [], ap, fills, lock_applied, moved, refl, replied, with_moves, ◌∙◌, ◌∷◌, ◌≡◌}
+use Rattle.ufs_spec.specs.Machine.{hears}
+use Rattle.ufs_spec.specs.Moves.{EndJob, GiveJob}
 use Rattle.ufs_laws.proofs.walk.SmallChanges.{Change, IsQuiet, IsSmall, Moves, Small, changed, hears_small, kept}
 use Rattle.ufs_laws.proofs.walk.SmallChanges.{replied_small, settled_small, small_quiet}
 use Rattle.ufs_laws.proofs.walk.LayerEffects.{turn_only}

@@ -1,34 +1,23 @@
 -- What a stop makes of a world.
-use Rattle.std.proofs.Common.{◌≡◌, ◌≢◌, ◌∙◌, ℕ, suc, ◌+◌, ◌<◌, Bool, List, [], ◌∷◌, ◌++◌, None, length, map, refl}
-use Rattle.std.proofs.Common.{sym, ap, subst, inr, arith}
+use Rattle.device.proofs.Common.{All-contains, All-weaker, AreLeftovers, Bool, DeviceCore, DieState, Err, Fit, FitState}
+use Rattle.device.proofs.Common.{Fits, IfOk, IsArrayOf, IsLawfulLeftover, IsLeftoverOf, IsOfDie, IsOpened}
+use Rattle.device.proofs.Common.{IsOpeningFault, Leftover, List, MayDieLeave, None, Numbers, Ok, OnOk, Output, Result}
+use Rattle.device.proofs.Common.{RunFaultKind, Sound, Spot, State, Suits, Went, WorldState, [], ap, arith, array_of}
+use Rattle.device.proofs.Common.{bad_of, die_of, dies_left, dies_left_by, fit_inside, inr, length, map, numbers_of}
+use Rattle.device.proofs.Common.{power_cycle_ended, refl, slice_index_or, subst, suc, sym, take, ℕ, ◌++◌, ◌+◌, ◌<◌, ◌∙◌}
+use Rattle.device.proofs.Common.{◌∷◌, ◌≡◌, ◌≢◌}
 use Rattle.std.specs.Global.{Vec}
-use Rattle.std.specs.Prelude.{All, AllPairs, Contains, Err, IfErr, IfOk, Ok, OnOk, Result, replicate, slice_index_or}
-use Rattle.std.specs.Prelude.{take}
+use Rattle.std.specs.Prelude.{All, AllPairs, Contains, IfErr, replicate}
 use Rattle.std.proofs.Math.Seq.{take-suc}
-use Rattle.std.proofs.lemmas.List.Elements.{All-contains, All-contains_itself, All-weaker}
-use Rattle.ufs_spec.specs.Disk.{Spot}
-use Rattle.ufs_spec.specs.Dies.{DieState, power_cycle_ended}
-use Rattle.ufs_spec.specs.Lives.{AreLeftovers, Fit, IsLawfulLeftover, IsLeftoverOf, IsOpened, Stops, array_of, bad_in}
-use Rattle.ufs_spec.specs.Lives.{bad_of, die_of}
-use Rattle.ufs_spec.specs.Refusals.{State, numbers_of}
-use Rattle.ufs_spec.specs.Sound.{Sound, Suits}
-use Rattle.ufs_spec.specs.declared.configs.Numbers.{Numbers}
+use Rattle.std.proofs.lemmas.List.Elements.{All-contains_itself}
+use Rattle.ufs_spec.specs.Lives.{Stops, bad_in}
 use Rattle.ufs_spec.specs.declared.events.Event.TheVariants as event
-use Rattle.ufs_spec.specs.declared.events.Leftover.{Leftover}
-use Rattle.ufs_spec.specs.declared.events.Output.{Output}
 use Rattle.ufs_spec.specs.declared.events.Output.TheVariants as output
-use Rattle.ufs_spec.specs.declared.events.RunFaultKind.{RunFaultKind}
 use Rattle.ufs_spec.specs.declared.events.RunFaultKind.TheVariants as kind
-use Rattle.power_loss.proofs.die_pages.BlankOutsideDies.{fit_inside}
 use Rattle.power_loss.proofs.lives.NextLife.{sound_left, suits_left}
 use Rattle.power_loss.proofs.openings.EachSoundArrayOpens.{any_opens}
 use Rattle.power_loss.proofs.openings.OpenedStates.{opened_state}
-use Rattle.power_loss.specs.Exchange.{IsArrayOf}
-use Rattle.device.specs.Kept.{DeviceCore, WorldState}
-use Rattle.device.specs.Leftovers.{IsOfDie, MayDieLeave}
-use Rattle.device.specs.Worlds.{FitState, Fits, IsOpeningFault, IsRefusedAs, Went, dies_left, dies_left_by}
-use Rattle.device.specs.Worlds.{dies_refused}
-use Rattle.device.specs.Worlds.{dies_stopped}
+use Rattle.device.specs.Worlds.{IsRefusedAs, dies_refused, dies_stopped}
 use Rattle.device.proofs.dies_of_world.DiesFit.{opens_fit}
 use Rattle.device.proofs.dies_of_world.LeftDies.{leftovers_on_dies, stopped_bad, stopped_fits, stops_by}
 use Rattle.device.proofs.dies_of_world.LeftoversChecked.{lawful_of, may_of, of_flight, to_die}

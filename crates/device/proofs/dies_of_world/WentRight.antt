@@ -1,29 +1,18 @@
 -- What an event shows leads to a state that the world then fits.
-use Rattle.std.proofs.Common.{◌≡◌, ◌∙◌, ℕ, Bool, true, List, Option, Some, None, inl, refl, sym, ap, subst}
-use Rattle.std.specs.Prelude.{slice_set, option_map, Result, Ok}
-use Rattle.ufs_spec.specs.Cells.{Array}
-use Rattle.ufs_spec.specs.Dies.{CanDo, after_job, outcome_of}
-use Rattle.ufs_spec.specs.Disk.{Flight, job_of}
-use Rattle.ufs_spec.specs.Lives.{IsCall, IsFinish, IsShown, Leads, ended_well}
-use Rattle.ufs_spec.specs.Machine.{Reply, Done, OfDone, Take, OfTake, Heard, OfHost, Host, IsHeard, MayLeave, OfReply}
-use Rattle.ufs_spec.specs.Machine.{Answer, Call, Turn, OfTurn, observe}
-use Rattle.ufs_spec.specs.Moves.{Ending, IsEndingOf}
-use Rattle.ufs_spec.specs.Refusals.{State}
-use Rattle.ufs_spec.specs.declared.faults.HostFault.{HostFault}
-use Rattle.ufs_spec.specs.declared.flash.Job.{Job}
-use Rattle.ufs_spec.specs.declared.flash.Outcome.{Outcome}
-use Rattle.ufs_spec.specs.declared.messages.Message.{Message}
-use Rattle.device.specs.Describes.{IsAnswered, IsGiven, IsHeardAs, IsReplied}
-use Rattle.device.specs.Kept.{DeviceCore, WorldState}
-use Rattle.device.specs.Worlds.{FitState, Fits, Went, die_at, job_at, jobs_given}
+use Rattle.device.proofs.Common.{Array, Bool, Call, CanDo, DeviceCore, Done, Ending, Event, FitState, Fits, Flight}
+use Rattle.device.proofs.Common.{Heard, Host, HostFault, IsAnswered, IsEndingOf, IsHeard, IsHeardAs, Job, List}
+use Rattle.device.proofs.Common.{MayLeave, Message, None, OfDone, OfHost, OfReply, OfTake, OfTurn, Ok, Option, Outcome}
+use Rattle.device.proofs.Common.{Output, Reply, Result, Some, State, Take, Turn, Went, WorldState, after_job, ap}
+use Rattle.device.proofs.Common.{die_at, ended_well, inl, job_at, job_of, none_some, observe, option_map, outcome_of}
+use Rattle.device.proofs.Common.{refl, slice_set, some_is, spelling, subst, sym, true, ℕ, ◌∙◌, ◌≡◌}
+use Rattle.ufs_spec.specs.Lives.{IsCall, IsFinish, IsShown, Leads}
+use Rattle.ufs_spec.specs.Machine.{Answer}
+use Rattle.device.specs.Describes.{IsGiven, IsReplied}
+use Rattle.device.specs.Worlds.{jobs_given}
 use Rattle.device.proofs.dies_of_world.DiesFit.{asks_fit, can_finish, finish_ending, finish_fits, gives_fit, hears_fit}
 use Rattle.device.proofs.dies_of_world.DiesFit.{steps_fit}
-use Rattle.ufs_spec.specs.Messages.{spelling}
-use Rattle.ufs_spec.specs.declared.events.Event.{Event}
 use Rattle.ufs_spec.specs.declared.events.Event.TheVariants as event
-use Rattle.ufs_spec.specs.declared.events.Output.{Output}
 use Rattle.ufs_spec.specs.declared.events.Output.TheVariants as output
-use Rattle.power_loss.proofs.books.PagesByName.{none_some, some_is}
 use Rattle.power_loss.proofs.calls.CallsLeaveTheDevice.{call_kept}
 use Rattle.power_loss.proofs.lives.EachEventKeeps.{one_event, well_leaves as leaves_well}
 

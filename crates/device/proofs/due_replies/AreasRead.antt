@@ -1,15 +1,11 @@
 -- A request for data of the RPMB area: no page needs a read where nothing is kept for it.
-use Rattle.std.proofs.Common.{◌≡◌, ◌∙◌, ℕ, ◌&&◌, Bool, true, List, [], ◌∷◌, Option, Some, None, refl, sym, ap}
-use Rattle.std.specs.Prelude.{length, option_map, slice_get}
+use Rattle.device.proofs.Common.{Bool, List, None, NotRead, Option, Pin, ReadBlock, ReadState, Some, State, Unread}
+use Rattle.device.proofs.Common.{WasRead, [], ap, below, is_area_read, is_read, none-some, option_map, refl, slice_get}
+use Rattle.device.proofs.Common.{sym, true, wanted_kept, ℕ, ◌&&◌, ◌∙◌, ◌∷◌, ◌≡◌}
+use Rattle.std.specs.Prelude.{length}
 use Rattle.std.specs.List.{list_all}
-use Rattle.ufs_spec.proofs.Facts.{none-some}
 use Rattle.ufs_spec.specs.Exchanges as exchange
-use Rattle.ufs_spec.specs.Exchanges.{NotRead, ReadBlock, ReadState, Unread, WasRead}
-use Rattle.ufs_spec.specs.Keys.{below}
-use Rattle.ufs_spec.specs.Refusals.{State}
-use Rattle.ufs_spec.specs.Replies.{is_area_read, is_at_hand, is_page_read, is_read, pin_of}
-use Rattle.ufs_spec.specs.Translation.{Pin}
-use Rattle.device.specs.Describes.{wanted_kept}
+use Rattle.ufs_spec.specs.Replies.{is_at_hand, is_page_read, pin_of}
 
 no_pin : (o : Option Pin) → option_map (λ (pin : Pin). pin.wanted) o ≡ None → o ≡ None
 no_pin None none = refl

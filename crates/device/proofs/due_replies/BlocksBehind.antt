@@ -1,16 +1,10 @@
 -- What is kept for a READ, which has no request, once its next block was handed out: that of the block is gone, that of
 -- the one behind it is wanted, and behind the last one there is nothing.
-use Rattle.std.proofs.Common.{◌≡◌, ◌∙◌, ℕ, ◌+◌, ◌<◌, ◌≤◌, ◌==◌, ◌&&◌, Bool, true, false, List, Option, Some, None}
-use Rattle.std.proofs.Common.{length, refl, sym, ap, subst, arith}
-use Rattle.std.specs.Prelude.{if◌then◌else◌, nat_lt, option_map, slice_get}
-use Rattle.std.proofs.lemmas.Bool.{le-ltb}
-use Rattle.std.proofs.lemmas.Bool.Decides.{nat_tests}
+use Rattle.device.proofs.Common.{Bool, List, None, Option, Pin, ReadBlock, Sending, Some, Unread, ap, arith, eq_self}
+use Rattle.device.proofs.Common.{eqb-true, false, if◌then◌else◌, is_unread, le-ltb, length, nat_lt, nat_tests}
+use Rattle.device.proofs.Common.{option_map, read_by, read_in, read_of, refl, slice_get, subst, sym, true, wanted_in}
+use Rattle.device.proofs.Common.{wanted_kept, wanted_of, ℕ, ◌&&◌, ◌+◌, ◌<◌, ◌==◌, ◌∙◌, ◌≡◌, ◌≤◌}
 use Rattle.std.proofs.lemmas.Option.{slice_get_past}
-use Rattle.ufs_spec.proofs.Facts.{eqb-true}
-use Rattle.ufs_spec.specs.Exchanges.{ReadBlock, Sending, Unread}
-use Rattle.ufs_spec.specs.Translation.{Pin}
-use Rattle.power_loss.proofs.books.SmallFacts.{eq_self}
-use Rattle.device.specs.Describes.{is_unread, read_by, read_in, read_of, wanted_in, wanted_kept, wanted_of}
 use Rattle.device.proofs.due_replies.PinsLetGo.{next_elsewhere, next_gone, next_is_wanted, with_next}
 
 -- the blocks behind the next one were not read yet

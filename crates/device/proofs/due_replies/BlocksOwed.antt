@@ -1,15 +1,9 @@
 -- The block that is handed out for a tag is the one that is kept for it.
-use Rattle.std.proofs.Common.{◌≡◌, ◌∙◌, ℕ, List, Option, Some, None, ap, refl, subst, sym}
-use Rattle.std.specs.Prelude.{find, option_map}
-use Rattle.ufs_spec.proofs.Facts.{none-some, same_Some}
-use Rattle.ufs_spec.specs.Moves.{is_pin_of}
-use Rattle.ufs_spec.specs.Translation.{Pin, Translation}
-use Rattle.ufs_spec.specs.declared.layer.Looked.{Looked}
-use Rattle.power_loss.specs.Book.{book}
+use Rattle.device.proofs.Common.{List, Looked, None, Option, Pin, Some, Translation, all_in, ap, block_at, block_for}
+use Rattle.device.proofs.Common.{block_of, book, find, found_in, is_pin_of, none-some, option_map, refl, same_Some}
+use Rattle.device.proofs.Common.{subst, sym, ℕ, ◌∙◌, ◌≡◌}
 use Rattle.power_loss.specs.Invariant.{LookedRight, PinsRight}
-use Rattle.power_loss.proofs.ordered_lists.ElementsAndOrders.{all_in, found_in}
 use Rattle.ftl_core.specs.Public.{looked_of}
-use Rattle.device.specs.Replies.{block_at, block_for, block_of}
 
 abbrev pub IsRight : Translation → Looked → Type 0
 IsRight t kept = LookedRight (book t) t.ledger.frontier t.disk.cells t.disk.finished t.disk.erasing kept

@@ -1,12 +1,7 @@
 -- Where no task up to a position owes a reply, and the one there owes none, none up to the next one does.
-use Rattle.std.proofs.Common.{◌≡◌, ◌∙◌, ℕ, ◌+◌, ◌<◌, ◌≤◌, List, Some, None, ap, arith, inl, inr, sym}
-use Rattle.std.specs.Prelude.{slice_get}
+use Rattle.device.proofs.Common.{List, None, OpenTask, Some, Task, Translation, ap, arith, held_at, inl, inr, owed_by}
+use Rattle.device.proofs.Common.{owed_in, read_at, slice_get, sym, task_at, ℕ, ◌+◌, ◌<◌, ◌∙◌, ◌≡◌, ◌≤◌}
 use Rattle.std.proofs.Math.Nat.{eq-or-lt_of_le}
-use Rattle.ufs_spec.specs.Translation.{Translation}
-use Rattle.task_set.specs.declared.tasks.Task.{Task}
-use Rattle.task_set.specs.Kept.{OpenTask}
-use Rattle.task_set.specs.Lists.{held_at, read_at, task_at}
-use Rattle.device.specs.Replies.{owed_by, owed_in}
 use Rattle.device.proofs.open_tasks.OpenTasks.{stands_there}
 
 pub none_owed : (t : Translation) (tasks : List OpenTask) (index : ℕ) (here : Task) →

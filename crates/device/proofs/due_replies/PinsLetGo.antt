@@ -1,16 +1,10 @@
 -- What is kept for a tag whose pins are let go: the one that was handed out, or all of them.
-use Rattle.std.proofs.Common.{◌≡◌, ◌∙◌, ℕ, ◌+◌, ◌==◌, ◌&&◌, Bool, true, false, cond, List, [], ◌∷◌, Option, Some}
-use Rattle.std.proofs.Common.{None, map, refl, sym, ap, arith}
-use Rattle.std.proofs.lemmas.Bool.Decides.{nat_tests}
-use Rattle.std.specs.Prelude.{filter, if◌then◌else◌, not, option_map}
-use Rattle.ufs_spec.proofs.Facts.{and_parts, eqb-true}
-use Rattle.ufs_spec.specs.Disk.{Erasing, Flight, Programming, Reading}
-use Rattle.ufs_spec.specs.Moves.{LetGo, LetGoAll, WantPage, is_for, is_for_task, is_pin_of, moved, with_wanted}
-use Rattle.ufs_spec.specs.Moves.{without_reader}
-use Rattle.ufs_spec.specs.Translation.{Pin, Translation}
-use Rattle.ufs_spec.specs.declared.layer.Reader.{Reader}
-use Rattle.ufs_spec.specs.declared.layer.Reader.TheVariants.{ForNobody, ForRest, ForStep, ForTask}
-use Rattle.device.specs.Describes.{wanted_kept}
+use Rattle.device.proofs.Common.{Bool, Erasing, Flight, ForNobody, ForRest, ForStep, ForTask, LetGo, LetGoAll, List}
+use Rattle.device.proofs.Common.{None, Option, Pin, Programming, Reader, Reading, Some, Translation, WantPage, []}
+use Rattle.device.proofs.Common.{and_parts, ap, arith, cond, eqb-true, false, filter, if◌then◌else◌, is_pin_of, map}
+use Rattle.device.proofs.Common.{moved, nat_tests, not, option_map, refl, sym, true, wanted_kept, with_wanted, ℕ, ◌&&◌}
+use Rattle.device.proofs.Common.{◌+◌, ◌==◌, ◌∙◌, ◌∷◌, ◌≡◌}
+use Rattle.ufs_spec.specs.Moves.{is_for, is_for_task, without_reader}
 use Rattle.device.proofs.open_tasks.ReadProgress.{want_other_index, want_other_tag, want_set, wanted_gone, wanted_left}
 
 not_next : (n : ℕ) → (n == (n + 1)) ≡ false

@@ -1,33 +1,24 @@
 -- A reply that is handed out is due, and none is due where none is handed out.
-use Rattle.std.proofs.Common.{◌≡◌, ◌∙◌, ◌⊎◌, ℕ, ◌+◌, ◌≤◌, Bool, true, false, List, Option, Some, None, length, refl}
-use Rattle.std.proofs.Common.{sym, ap, subst, inl, inr, arith}
-use Rattle.std.specs.Prelude.{if◌then◌else◌, max, nat_le, option_map, position, slice_get}
-use Rattle.ufs_spec.proofs.Facts.{leb-true, none-some, true≢false}
+use Rattle.device.proofs.Common.{Acknowledge, Bool, Describes, DeviceCore, HasMoved, IsAnswered, List, Message, None}
+use Rattle.device.proofs.Common.{OfReply, OpenTask, Option, Phase, Reply, Short, Some, State, Task, Translation, ap}
+use Rattle.device.proofs.Common.{arith, before_accepted, block_for, claims_of, durable, false, found_task, held_at}
+use Rattle.device.proofs.Common.{if◌then◌else◌, inl, inr, is_mended, is_short_due, leb-true, length, moved, nat_le}
+use Rattle.device.proofs.Common.{none-some, numbers_of, option_map, owed_by, owed_in, position, read_at, refl, replied}
+use Rattle.device.proofs.Common.{slice_get, spelling, subst, sym, task_at, task_in, task_of, true, true≢false}
+use Rattle.device.proofs.Common.{with_moves, ℕ, ◌+◌, ◌∙◌, ◌≡◌, ◌≤◌, ◌⊎◌}
+use Rattle.std.specs.Prelude.{max}
 use Rattle.ufs_spec.proofs.Lists.{position_cases}
-use Rattle.ufs_spec.specs.Exchanges.{Short, task_of, without_short}
-use Rattle.ufs_spec.specs.Ledger.{before_accepted}
-use Rattle.ufs_spec.specs.Machine.{Due, OfReply, Reply, acknowledges, deed_reply, durable, is_durable, replied}
-use Rattle.ufs_spec.specs.Machine.{replied_by, short_replied, tag_in, with_moves}
-use Rattle.ufs_spec.specs.Messages.{spelling}
-use Rattle.ufs_spec.specs.Moves.{Acknowledge, moved}
-use Rattle.ufs_spec.specs.Refusals.{State, numbers_of}
-use Rattle.ufs_spec.specs.Translation.{Translation, is_mended}
-use Rattle.ufs_spec.specs.declared.messages.Message.{Message}
+use Rattle.ufs_spec.specs.Exchanges.{without_short}
+use Rattle.ufs_spec.specs.Machine.{Due, acknowledges, deed_reply, is_durable, replied_by, short_replied, tag_in}
 use Rattle.power_loss.specs.Exchange.{ShortAwaits, ShortFits}
-use Rattle.power_loss.proofs.open_tasks.TaskLists.{found_short, found_task, no_task_found, short_fits_at}
+use Rattle.power_loss.proofs.open_tasks.TaskLists.{found_short, no_task_found, short_fits_at}
 use Rattle.ftl_core.specs.Public as layer_kept
-use Rattle.device.specs.Describes.{Describes, IsAnswered, IsReplied, claims_of}
-use Rattle.device.specs.Kept.{DeviceCore}
-use Rattle.device.specs.Replies.{HasMoved, IsShortReplied, answer_of, block_for, block_message, moved_on}
-use Rattle.device.specs.Replies.{frames_message, has_filled, owed_by, owed_in, without_short as without_short_at}
-use Rattle.task_set.specs.declared.tasks.Phase.{Phase}
+use Rattle.device.specs.Describes.{IsReplied}
+use Rattle.device.specs.Replies.{IsShortReplied, answer_of, block_message, moved_on}
+use Rattle.device.specs.Replies.{frames_message, has_filled, without_short as without_short_at}
 use Rattle.task_set.specs.declared.tasks.Phase.TheVariants as phase
 use Rattle.task_set.specs.declared.tasks.Short as kept
-use Rattle.task_set.specs.declared.tasks.Status.TheVariants as status
-use Rattle.task_set.specs.declared.tasks.Task.{Task}
-use Rattle.task_set.specs.Kept.{OpenTask, task_in}
-use Rattle.task_set.specs.Lists.{held_at, read_at, task_at}
-use Rattle.task_set.specs.Shorts.{is_short_due}
+use Rattle.ufs_spec.specs.declared.exchanges.Status.TheVariants as status
 use Rattle.device.proofs.described.Answered.{IsBehind, answered, answered_as, stays}
 use Rattle.device.proofs.described.Settled.{kept_stays, still_answered}
 use Rattle.device.proofs.described.ShortExchanges.{IsOpenShort, due_same, one_gone_told, one_short_gone, our_short}

@@ -1,15 +1,9 @@
 -- The first short exchange whose reply is due hands it out.
-use Rattle.std.proofs.Common.{◌≡◌, ◌∙◌, ℕ, ◌+◌, ◌≤◌, true, List, Some, sym, ap, subst}
-use Rattle.std.specs.Prelude.{position, slice_get}
-use Rattle.ufs_spec.proofs.Lists.{position_told}
-use Rattle.ufs_spec.specs.Ledger.{before_accepted}
-use Rattle.ufs_spec.specs.Messages.{spelling}
-use Rattle.ufs_spec.specs.Moves.{Acknowledge, moved}
-use Rattle.ufs_spec.specs.Translation.{Translation}
+use Rattle.device.proofs.Common.{Acknowledge, DeviceCore, List, Some, Translation, ap, before_accepted, is_short_due}
+use Rattle.device.proofs.Common.{moved, position, position_told, slice_get, spelling, subst, sym, true, ℕ, ◌+◌, ◌∙◌}
+use Rattle.device.proofs.Common.{◌≡◌, ◌≤◌}
 use Rattle.ftl_core.specs.Public as layer_kept
-use Rattle.task_set.specs.Shorts.{is_short_due}
 use Rattle.task_set.specs.declared.tasks.Short.{Short}
-use Rattle.device.specs.Kept.{DeviceCore}
 use Rattle.device.specs.Replies.{IsShortReplied, short_message, without_short}
 
 pub hands_out : (d e : DeviceCore) (bytes : List ℕ) (frontier index : ℕ) →

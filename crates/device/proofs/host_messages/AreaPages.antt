@@ -1,10 +1,9 @@
 -- A page of an area, of which a write has a part: the part is laid over what the page had.
-use Rattle.std.proofs.Common.{◌≡◌, ◌∙◌, ◌⊎◌, ℕ, ◌+◌, ◌-◌, ◌<◌, ◌≤◌, List, ◌++◌, length, take, drop, get_or}
-use Rattle.std.proofs.Common.{inl, inr, sym, ap, arith}
+use Rattle.device.proofs.Common.{List, ap, arith, drop, get_or, inl, inr, length, length-drop, length-take-le, sym}
+use Rattle.device.proofs.Common.{with_part, ℕ, ◌++◌, ◌+◌, ◌-◌, ◌<◌, ◌∙◌, ◌≡◌, ◌≤◌, ◌⊎◌}
+use Rattle.std.proofs.Common.{take}
 use Rattle.std.proofs.lemmas.Bool.{cases_lt}
-use Rattle.std.proofs.lemmas.List.{get_or-append_right, get_or-drop, get_or-take, get_or_append_left, length-drop}
-use Rattle.std.proofs.lemmas.List.{length-take-le, same_lists}
-use Rattle.ufs_spec.specs.Plain.{with_part}
+use Rattle.std.proofs.lemmas.List.{get_or-append_right, get_or-drop, get_or-take, get_or_append_left, same_lists}
 use Rattle.ufs_spec.proofs.PlainFacts.{length-with_part}
 use Rattle.ufs_laws.proofs.plain_contents.ListParts.{with_part-outside}
 

@@ -1,24 +1,17 @@
 -- What a READ keeps when it begins: each of its blocks under its index, and the page of the first is wanted.
-use Rattle.std.proofs.Common.{◌≡◌, ◌∙◌, ℕ, zero, suc, ◌≤◌, ◌==◌, Bool, true, false, cond, List, [], ◌∷◌, ◌++◌, Option}
-use Rattle.std.proofs.Common.{Some, None, length, map, refl, sym, ap, arith}
-use Rattle.std.specs.Prelude.{◌&&◌, find, fold, if◌then◌else◌, nat_lt, option_map, slice_get}
-use Rattle.std.specs.Option.{option_or}
-use Rattle.std.proofs.lemmas.Bool.{le-ltb}
-use Rattle.std.proofs.lemmas.Bool.Decides.{nat_tests}
-use Rattle.std.proofs.lemmas.List.{append-nil, append_assoc, map-append}
+use Rattle.device.proofs.Common.{Bool, Key, List, None, Option, Pin, ReadBlock, ReadState, Sending, Some, Translation}
+use Rattle.device.proofs.Common.{Unread, [], ap, append-nil, arith, below, cond, eq_self, eqb-true, false, find, fold}
+use Rattle.device.proofs.Common.{get_or_from_slice_get, if◌then◌else◌, is_pin_of, is_unread, le-ltb, length}
+use Rattle.device.proofs.Common.{length-made, ltb-false, ltb-true, map, moved, nat_lt, nat_tests, none-some, option_map}
+use Rattle.device.proofs.Common.{option_or, other_way, refl, slice_get, slice_get-get_or, slice_get_within, suc, sym}
+use Rattle.device.proofs.Common.{true, wanted_in, wanted_kept, wanted_of, zero, ℕ, ◌++◌, ◌==◌, ◌∙◌, ◌∷◌, ◌≡◌, ◌≤◌}
+use Rattle.std.specs.Prelude.{◌&&◌}
+use Rattle.std.proofs.lemmas.List.{append_assoc, map-append}
 use Rattle.std.proofs.lemmas.List.Folds.{find-append}
-use Rattle.std.proofs.lemmas.Option.{slice_get-get_or, slice_get_past, slice_get_within, get_or_from_slice_get}
-use Rattle.ufs_spec.proofs.Facts.{eqb-true, ltb-false, ltb-true, none-some}
-use Rattle.ufs_spec.specs.Exchanges.{ReadBlock, ReadState, Sending, Unread}
-use Rattle.ufs_spec.specs.Keys.{below}
+use Rattle.std.proofs.lemmas.Option.{slice_get_past}
 use Rattle.ufs_spec.specs.Machine.{sending}
-use Rattle.ufs_spec.specs.Moves.{Keep, is_pin_of, moved}
-use Rattle.ufs_spec.specs.Translation.{Pin, Translation}
-use Rattle.ufs_spec.specs.declared.flash.Key.{Key}
-use Rattle.ufs_laws.proofs.plain_contents.ListParts.{get_or-made, length-made}
-use Rattle.power_loss.proofs.books.SmallFacts.{eq_self}
-use Rattle.power_loss.proofs.open_tasks.TaggedLists.{other_way}
-use Rattle.device.specs.Describes.{is_unread, wanted_in, wanted_kept, wanted_of}
+use Rattle.ufs_spec.specs.Moves.{Keep}
+use Rattle.ufs_laws.proofs.plain_contents.ListParts.{get_or-made}
 
 -- The layer
 

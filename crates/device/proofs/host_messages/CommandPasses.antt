@@ -1,35 +1,25 @@
 -- What the table tells of a command that it lets through: no line of it applies.
-use Rattle.std.proofs.Common.{◌≡◌, ◌∙◌, ℕ, zero, suc, ◌+◌, ◌<◌, ◌≤◌, Bool, true, false, List, [], ◌∷◌, length}
-use Rattle.std.proofs.Common.{Option, Some, None, ◌⊎◌, drop, refl, sym, ap, inl, inr, arith}
-use Rattle.std.specs.Prelude.{◌*◌, ◌/◌, ◌%◌, ◌==◌, ◌||◌, ◌&&◌, min, nat_le, nat_lt, slice_get}
-use Rattle.std.specs.Int.{div_ceil}
-use Rattle.std.specs.List.{list_any, sum_by}
-use Rattle.std.proofs.lemmas.Bool.{le-leb}
-use Rattle.std.proofs.lemmas.Bool.Decides.{nat_tests}
-use Rattle.std.proofs.lemmas.List.{length-drop}
+use Rattle.device.proofs.Common.{Bool, Cdb, Group, IsTied, List, None, Option, Passes, Plan, Request, Some, State, []}
+use Rattle.device.proofs.Common.{ap, arith, command_blocks, div_ceil, drop, durable, eqb-true, false, false≢true}
+use Rattle.device.proofs.Common.{first_line, free_slots, greatest_command, has_other_response, has_wrong_list, inl, inr}
+use Rattle.device.proofs.Common.{invalid_operation, lacks_unit, le-leb, length, length-drop, lines_after, lines_for}
+use Rattle.device.proofs.Common.{list_any, locked, ltb-false, lun_of, min, nat_le, nat_lt, nat_tests, no_unit}
+use Rattle.device.proofs.Common.{numbers_of, or_parts, out_of_range, refl, refusal, sends_frames, sequence_error}
+use Rattle.device.proofs.Common.{slice_get, suc, sym, true, unit_numbers_of, zero, ℕ, ◌%◌, ◌+◌, ◌<◌, ◌||◌, ◌∙◌, ◌∷◌}
+use Rattle.device.proofs.Common.{◌≡◌, ◌≤◌, ◌⊎◌}
+use Rattle.std.specs.Prelude.{◌&&◌, ◌*◌, ◌/◌, ◌==◌}
+use Rattle.std.specs.List.{sum_by}
 use Rattle.std.proofs.lemmas.List.Sums.{get_or-le-sum_by}
-use Rattle.ufs_spec.proofs.Facts.{eqb-true, false≢true, ltb-false, or_parts}
 use Rattle.ufs_spec.proofs.ConfigFacts.{command_blocks-few}
-use Rattle.ufs_spec.specs.Configs.{command_blocks}
-use Rattle.ufs_spec.specs.Plain.{greatest_command}
 use Rattle.ufs_spec.specs.Cdbs.{blocks_of, direction_of}
-use Rattle.ufs_spec.specs.Exchanges.{Busy, Task, invalid_field, invalid_operation, list_length_error, no_unit}
-use Rattle.ufs_spec.specs.Exchanges.{not_ready, out_of_range, sequence_error, write_protected}
-use Rattle.ufs_spec.specs.Keys.{Group}
-use Rattle.ufs_spec.specs.Machine.{durable}
-use Rattle.ufs_spec.specs.Refusals.{Request, State, first_line, has_other_response, has_wrong_list}
-use Rattle.ufs_spec.specs.Refusals.{is_crowded, is_past, is_refused_write, is_security_out, is_too_long, lacks_data}
-use Rattle.ufs_spec.specs.Refusals.{lacks_region, lacks_response, lacks_unit, length_in, lines_after, lines_for, locked, lun_of}
-use Rattle.ufs_spec.specs.Refusals.{is_unready, not_taken, numbers_of, refusal, sends_frames, slots_needed}
-use Rattle.ufs_spec.specs.Refusals.{unit_numbers_of}
-use Rattle.ufs_spec.specs.Translation.{free_slots, has_pending}
-use Rattle.ufs_spec.specs.declared.scsi.Cdb.{Cdb}
+use Rattle.ufs_spec.specs.Exchanges.{Task, invalid_field, list_length_error, not_ready, write_protected}
+use Rattle.ufs_spec.specs.declared.exchanges.Status.TheVariants.{Busy}
+use Rattle.ufs_spec.specs.Refusals.{is_crowded, is_past, is_refused_write, is_security_out, is_too_long, is_unready}
+use Rattle.ufs_spec.specs.Refusals.{lacks_data, lacks_region, lacks_response, length_in, not_taken, slots_needed}
+use Rattle.ufs_spec.specs.Translation.{has_pending}
 use Rattle.ufs_spec.specs.declared.scsi.Cdb.TheVariants as cdb
 use Rattle.ufs_laws.proofs.exchanges.TakenCommandsKnown.{passed_line}
 use Rattle.ufs_laws.proofs.plain_contents.GroupsOfCommands.{length-groups}
-use Rattle.power_loss.specs.Exchange.{IsTied}
-use Rattle.device.specs.declared.plans.Plan.{Plan}
-use Rattle.device.specs.Plans.{Passes}
 
 -- Lines
 

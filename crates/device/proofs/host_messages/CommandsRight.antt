@@ -1,32 +1,21 @@
 -- A COMMAND is answered as the definitions say.
-use Rattle.std.proofs.Common.{◌≡◌, ◌∙◌, ℕ, ◌<◌, Bool, true, false, List, Option, Some, None, inl, inr, length, refl}
-use Rattle.std.proofs.Common.{sym, ap, subst}
-use Rattle.std.specs.Prelude.{OnErr, OnOk, if◌then◌else◌, nat_le, Result, Ok, Err}
-use Rattle.std.specs.List.{list_any}
+use Rattle.device.proofs.Common.{Bool, Cdb, Describes, DeviceCore, Err, Faulty, Heard, HostFault, IsHeard, IsHeardAs}
+use Rattle.device.proofs.Common.{IsPlanned, List, Message, None, Ok, OnErr, OnOk, Option, Request, Result, Short}
+use Rattle.device.proofs.Common.{ShortReply, Some, Spelled, Spells, State, ap, at_once, cdb_of, false, host_fault_of}
+use Rattle.device.proofs.Common.{if◌then◌else◌, inl, inr, is_short_of, is_task_of, length, list_any, message_fault}
+use Rattle.device.proofs.Common.{most_tasks, nat_le, none-some, numbers_of, opening_fault, or_parts, refl, refusal}
+use Rattle.device.proofs.Common.{result_of, short_answer, short_reply, short_said, subst, sym, task_of, true}
+use Rattle.device.proofs.Common.{with_short, ℕ, ◌<◌, ◌∙◌, ◌≡◌}
 use Rattle.std.proofs.lemmas.Bool.{leb-false}
-use Rattle.ufs_spec.proofs.Facts.{none-some, or_parts}
 use Rattle.ufs_spec.proofs.ReadBack.{one_message}
-use Rattle.ufs_spec.specs.Exchanges.{Short, is_short_of, is_task_of, most_tasks, short_reply, task_of}
-use Rattle.ufs_spec.specs.Machine.{Faulty, Heard, IsCdbIn, IsHeard, Spelled, cdb_of, command_taken, message_fault}
-use Rattle.ufs_spec.specs.Machine.{refused_or_begun, opening_fault, result_of}
+use Rattle.ufs_spec.specs.Machine.{IsCdbIn, command_taken, refused_or_begun}
 use Rattle.ufs_spec.specs.Machine as machine
-use Rattle.ufs_spec.specs.Messages.{Spells, host_fault_of}
-use Rattle.ufs_spec.specs.Refusals.{Request, State, numbers_of, refusal}
-use Rattle.ufs_spec.specs.declared.faults.HostFault.{HostFault}
 use Rattle.ufs_spec.specs.declared.faults.HostFault.TheVariants.{TagInUse}
-use Rattle.ufs_spec.specs.declared.messages.Message.{Message}
 use Rattle.ufs_spec.specs.declared.messages.Message.TheVariants as message
-use Rattle.ufs_spec.specs.declared.scsi.Cdb.{Cdb}
 use Rattle.ufs_laws.proofs.exchanges.BytesHeard.{is_heard}
 use Rattle.power_loss.proofs.open_tasks.FoundInLists.{none_found}
-use Rattle.task_set.specs.declared.tasks.ShortReply.{ShortReply}
 use Rattle.task_set.specs.declared.tasks.ShortReply.TheVariants as reply
-use Rattle.device.specs.Describes.{Describes, IsHeardAs}
-use Rattle.device.specs.Hears.{IsTaskOpened, short_answer, uses, with_short}
-use Rattle.device.specs.Kept.{DeviceCore}
-use Rattle.device.specs.Plans.{IsPlanned}
-use Rattle.device.specs.Queries.{at_once}
-use Rattle.device.specs.Replies.{short_said}
+use Rattle.device.specs.Hears.{IsTaskOpened, uses}
 use Rattle.device.proofs.described.Answered.{IsBehind, stays}
 use Rattle.device.proofs.host_messages.CommandBegins.{planned_begins}
 use Rattle.device.proofs.host_messages.CommandTags.{others_send, tag_used, task_fault, tasks_count}

@@ -1,10 +1,7 @@
 -- Bytes that are not read are heard as their fault.
-use Rattle.std.proofs.Common.{◌≡◌, ◌∙◌, ℕ, List, Option, Some, None, refl, sym, ap, inl, inr}
-use Rattle.ufs_spec.specs.Machine.{Faulty, IsHeard}
-use Rattle.ufs_spec.specs.Messages.{Spells, host_fault_of}
-use Rattle.ufs_spec.specs.declared.faults.HostFault.{HostFault}
+use Rattle.device.proofs.Common.{Faulty, HostFault, IsHeard, List, Message, None, Option, Some, Spells, ap}
+use Rattle.device.proofs.Common.{host_fault_of, inl, inr, refl, sym, ℕ, ◌∙◌, ◌≡◌}
 use Rattle.ufs_spec.specs.declared.faults.HostFault.TheVariants.{Reserved}
-use Rattle.ufs_spec.specs.declared.messages.Message.{Message}
 
 fault_of : (bytes : List ℕ) (fault : HostFault) (o : Option HostFault) → host_fault_of bytes ≡ o →
     ((f : HostFault) → host_fault_of bytes ≡ Some f → fault ≡ f) →

@@ -1,27 +1,20 @@
 -- What is accepted of frames that came: it may come now, and what it leaves of key, counter and contents.
-use Rattle.std.proofs.Common.{◌≡◌, ◌≢◌, ◌∙◌, ℕ, ◌<◌, ◌==◌, ◌&&◌, ◌++◌, Bool, true, false, List, [], ◌∷◌, Some, None}
-use Rattle.std.proofs.Common.{length, not, refl, sym, ap, subst, arith, get_or}
-use Rattle.std.proofs.lemmas.List.Sums.{fold-append}
-use Rattle.ufs_spec.proofs.Facts.{eqb-true, none-some, same_Some}
+use Rattle.device.proofs.Common.{Bool, CanApply, Command, Frame, Group, IsKey, IsPlain, IsTied, Key, List, None, Plain}
+use Rattle.device.proofs.Common.{Region, Registers, Results, RpmbWrite, SetKey, Shape, Some, State, [], after}
+use Rattle.device.proofs.Common.{all_contents, ap, apply, area_there, arith, changed_by, content, eqb-true, false}
+use Rattle.device.proofs.Common.{fold-append, get_or, is_success, length, named_changed, none-some, numbers_of}
+use Rattle.device.proofs.Common.{plain_now, read_data, reads_area, refl, region_named, region_of, regions, rpmb_outcome}
+use Rattle.device.proofs.Common.{same_Some, sequence_error, shape_of_numbers, subst, sym, true, ℕ, ◌&&◌, ◌++◌, ◌<◌}
+use Rattle.device.proofs.Common.{◌==◌, ◌∙◌, ◌∷◌, ◌≡◌, ◌≢◌}
+use Rattle.std.proofs.Common.{not}
 use Rattle.ufs_spec.proofs.PlainFacts.{shape_after}
-use Rattle.ufs_spec.proofs.RegionPages.{area_there}
-use Rattle.ufs_spec.specs.Commands.{Command, RpmbWrite, SetKey}
-use Rattle.ufs_spec.specs.Exchanges.{Registers, invalid_list_field, sequence_error}
-use Rattle.ufs_spec.specs.FrameRequests.{reads_area}
-use Rattle.ufs_spec.specs.Frames.{Frame}
-use Rattle.ufs_spec.specs.Keys.{Contents, Group, IsCommand, IsKey, IsPlain, content, put_groups}
-use Rattle.ufs_spec.specs.Ledger.{accepted_groups, all_contents}
-use Rattle.ufs_spec.specs.Plain.{CanApply, Plain, Shape, after, apply, changed_by, region_of, regions, shape_of_numbers}
-use Rattle.ufs_spec.specs.Refusals.{State, numbers_of, plain_now}
-use Rattle.ufs_spec.specs.declared.flash.Key.{Key}
-use Rattle.power_loss.specs.Exchange.{IsTied}
-use Rattle.ufs_spec.specs.Rpmb.{Region, Results, checks, command_in, first_failed, is_well_formed, lacks_result}
-use Rattle.ufs_spec.specs.Rpmb.{read_data, rpmb_outcome}
-use Rattle.ufs_spec.specs.RpmbResponses.{is_success}
+use Rattle.ufs_spec.specs.Exchanges.{invalid_list_field}
+use Rattle.ufs_spec.specs.Keys.{Contents, IsCommand, put_groups}
+use Rattle.ufs_spec.specs.Ledger.{accepted_groups}
+use Rattle.ufs_spec.specs.Rpmb.{checks, command_in, first_failed, is_well_formed, lacks_result}
 use Rattle.ufs_laws.proofs.plain_contents.GroupsOfCommands.{many_commands, put_groups-same}
-use Rattle.ufs_laws.proofs.rpmb_frames.Regions.{named_changed, others_stay}
+use Rattle.ufs_laws.proofs.rpmb_frames.Regions.{others_stay}
 use Rattle.ufs_laws.proofs.rpmb_frames.RightWrites.{none_failed, not_refused}
-use Rattle.ufs_laws.specs.RpmbWrites.{region_named}
 use Rattle.power_loss.proofs.shown_blocks.LooksShowContents.{accepted_alone}
 
 -- Contents

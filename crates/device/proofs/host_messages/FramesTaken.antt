@@ -1,33 +1,23 @@
 -- A SECURITY PROTOCOL IN takes the frames that wait: the task keeps them, and the response register is empty.
-use Rattle.std.proofs.Common.{◌≡◌, ◌∙◌, ℕ, ◌<◌, ◌≤◌, Bool, true, false, All, List, [], ◌∷◌, ◌++◌, drop, None}
-use Rattle.std.proofs.Common.{length, refl, sym, ap, subst, arith}
-use Rattle.std.specs.Prelude.{◌-◌, ◌*◌, ◌==◌, min, not, take}
-use Rattle.std.specs.List.{flat_map}
-use Rattle.std.proofs.lemmas.List.{length-append, take_all}
-use Rattle.std.proofs.lemmas.List.Elements.{All-head, All-tail}
-use Rattle.ufs_spec.proofs.Facts.{eqb-true, false≢true}
+use Rattle.device.proofs.Common.{All, All-head, All-tail, Bool, Core, Describes, DeviceCore, IsKept, IsLayerWith, List}
+use Rattle.device.proofs.Common.{Machine, None, Phase, RegionState, Registers, Request, State, [], ap, arith, at_region}
+use Rattle.device.proofs.Common.{claims_of, data_begun, drop, eqb-true, false, false≢true, flat_map, has_other_response}
+use Rattle.device.proofs.Common.{length, length-append, machine_at, min, most_tasks, not, numbers_of, plain_now, refl}
+use Rattle.device.proofs.Common.{region_of, regions, subst, sym, take, take_all, task_of, true, with_machine}
+use Rattle.device.proofs.Common.{with_zeros, ℕ, ◌++◌, ◌<◌, ◌∙◌, ◌∷◌, ◌≡◌, ◌≤◌}
+use Rattle.std.specs.Prelude.{◌*◌, ◌-◌, ◌==◌}
 use Rattle.ufs_spec.specs.Begins.{frames_begun}
-use Rattle.ufs_spec.specs.Exchanges.{Registers, at_region, most_tasks, task_of}
-use Rattle.ufs_spec.specs.Machine.{data_begun}
-use Rattle.ufs_spec.specs.Plain.{region_of, regions, zero_block}
-use Rattle.ufs_spec.specs.Refusals.{Request, State, has_other_response, plain_now}
+use Rattle.ufs_spec.specs.Plain.{zero_block}
 use Rattle.ufs_spec.specs.declared.scsi.Cdb.TheVariants as cdb
 use Rattle.power_loss.specs.WaitingFrames.{IsFrameSaid}
-use Rattle.ftl_core.specs.Public.{Core}
 use Rattle.rpmb.specs.Answers.{waiting_in}
-use Rattle.rpmb.specs.Kept.{IsKept, Machine, machine_at, with_machine}
-use Rattle.rpmb.specs.declared.regions.RegionState.{RegionState}
-use Rattle.task_set.specs.declared.tasks.Phase.{Phase}
 use Rattle.device.specs.Calls.{held_phase}
-use Rattle.device.specs.Describes.{Describes, claims_of}
-use Rattle.device.specs.Frames.{handed_over, waiting_held, with_none_waiting, with_zeros}
-use Rattle.device.specs.Kept.{DeviceCore, IsLayerWith}
+use Rattle.device.specs.Frames.{handed_over, waiting_held, with_none_waiting}
 use Rattle.device.proofs.described.Answered.{IsBehind}
 use Rattle.device.proofs.described.Machines.{as_many, regions_same, registers_put}
 use Rattle.device.proofs.described.Settled.{kept_stays, still_answered}
 use Rattle.device.proofs.host_messages.HeldBegins.{core_keeping, held_begins, last_held}
 use Rattle.device.proofs.host_messages.ReadOpened.{core_opened}
-use Rattle.ufs_spec.specs.Refusals.{numbers_of}
 
 -- as many bytes as frames of 512
 joined_length : (xs : List (List ℕ)) → All IsFrameSaid xs →

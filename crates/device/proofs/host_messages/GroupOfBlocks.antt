@@ -1,19 +1,15 @@
 -- The group of a WRITE is its blocks, each under its key, and what the WRITE leaves else.
-use Rattle.std.proofs.Common.{◌≡◌, ◌∙◌, ℕ, zero, suc, ◌+◌, ◌-◌, ◌<◌, ◌≤◌, List, [], ◌∷◌, ◌++◌, length, drop, take, map}
-use Rattle.std.proofs.Common.{ap, arith}
-use Rattle.std.specs.Prelude.{slice_index_or, slice_set}
-use Rattle.std.proofs.lemmas.List.{get_or-append_right, get_or_append_left, get_or-map, get_or-set_same}
-use Rattle.std.proofs.lemmas.List.{length-map, length-take-le}
-use Rattle.std.proofs.lemmas.List.Sums.{fold-append}
+use Rattle.device.proofs.Common.{CanApply, Command, Item, Key, List, Plain, [], after, ap, apply, arith, below, content}
+use Rattle.device.proofs.Common.{data_key, drop, fold-append, get_or-set_same, group_of, group_of_blocks, key_behind}
+use Rattle.device.proofs.Common.{length, length-map, length-take-le, map, region_of, slice_index_or, slice_set, suc}
+use Rattle.device.proofs.Common.{with_part, zero, ℕ, ◌++◌, ◌+◌, ◌-◌, ◌<◌, ◌∙◌, ◌∷◌, ◌≡◌, ◌≤◌}
+use Rattle.std.proofs.Common.{take}
+use Rattle.std.proofs.lemmas.List.{get_or-append_right, get_or-map, get_or_append_left}
 use Rattle.std.proofs.lemmas.Simd.{map-map}
-use Rattle.ufs_spec.specs.Commands.{Command}
 use Rattle.ufs_spec.specs.Commands as command
-use Rattle.ufs_spec.specs.Keys.{Item, below, content, data_key, group_of}
-use Rattle.ufs_spec.specs.Plain.{region_of, CanApply, Plain, after, apply, with_part}
-use Rattle.ufs_spec.specs.declared.flash.Key.{Key}
 use Rattle.ufs_laws.proofs.plain_contents.ListParts.{made_of}
 use Rattle.ftl_core.proofs.look_and_accept.GroupsAccepted.{items_length}
-use Rattle.ftl_core.specs.Public.{group_of_blocks, items_behind, key_behind}
+use Rattle.ftl_core.specs.Public.{items_behind}
 
 -- The content of a written block
 

@@ -1,23 +1,18 @@
 -- The group of a key or of a write, as the device makes it, is the one that the definitions have for the command.
-use Rattle.std.proofs.Common.{◌≡◌, ◌∙◌, ℕ, ◌+◌, ◌-◌, ◌*◌, ◌/◌, ◌%◌, ◌<◌, ◌≤◌, Bool, true, false, All}
-use Rattle.std.proofs.Common.{List, [], ◌∷◌, ◌++◌, get_or, length, map, take, drop, refl, sym, ap, subst, arith, inl}
-use Rattle.std.proofs.Common.{inr}
-use Rattle.std.specs.Prelude.{nat_le, if◌then◌else◌}
-use Rattle.std.proofs.lemmas.Bool.{leb-true, leb-false}
-use Rattle.std.proofs.lemmas.List.{append-nil, drop_all, length-drop, take_all}
-use Rattle.ufs_spec.proofs.RegionPages.{area_there}
-use Rattle.ufs_spec.specs.Commands.{Command, RpmbWrite, SetKey}
-use Rattle.ufs_spec.specs.Keys.{Group, IsKey, IsPlain, IsSettings, Item, area_key, area_page, below, content, group_of}
-use Rattle.ufs_spec.specs.Keys.{said_by, settings_key, settings_of}
-use Rattle.ufs_spec.specs.Ledger.{all_contents}
+use Rattle.device.proofs.Common.{All, Bool, CanApply, Command, Group, IsKey, IsPlain, IsSettings, Item, Key, List}
+use Rattle.device.proofs.Common.{Plain, RpmbWrite, SetKey, Translation, [], all_contents, ap, append-nil, apply}
+use Rattle.device.proofs.Common.{area_key, area_page, area_there, arith, below, content, drop, false, get_or, group_of}
+use Rattle.device.proofs.Common.{if◌then◌else◌, inl, inr, key_group, length, length-drop, map, named_changed, nat_le}
+use Rattle.device.proofs.Common.{refl, region_of, regions, said_by, settings_block, settings_key, settings_of}
+use Rattle.device.proofs.Common.{settings_ranges, shape_of_numbers, subst, sym, take_all, true, with_part, write_group}
+use Rattle.device.proofs.Common.{ℕ, ◌*◌, ◌++◌, ◌+◌, ◌-◌, ◌/◌, ◌<◌, ◌∙◌, ◌∷◌, ◌≡◌, ◌≤◌}
+use Rattle.std.proofs.Common.{take, ◌%◌}
+use Rattle.std.proofs.lemmas.Bool.{leb-false, leb-true}
+use Rattle.std.proofs.lemmas.List.{drop_all}
 use Rattle.ufs_spec.specs.Moves.{IsItem}
-use Rattle.ufs_spec.specs.Plain.{CanApply, Plain, Region, apply, region_of, regions, shape_of_numbers, with_part}
-use Rattle.ufs_spec.specs.Translation.{Translation}
-use Rattle.ufs_spec.specs.declared.flash.Key.{Key}
-use Rattle.ufs_laws.proofs.pages.SettingsBodies.{settings_block}
-use Rattle.ufs_laws.proofs.plain_contents.CommandsKeepPlain.{its_region, settings_ranges}
-use Rattle.ufs_laws.proofs.rpmb_frames.Regions.{named_changed}
-use Rattle.device.specs.Groups.{area_item, key_group, room_from, settings_item, write_group}
+use Rattle.ufs_spec.specs.Plain.{Region}
+use Rattle.ufs_laws.proofs.plain_contents.CommandsKeepPlain.{its_region}
+use Rattle.device.specs.Groups.{area_item, room_from, settings_item}
 use Rattle.device.proofs.host_messages.AreaPages.{LiesInPage, page_written}
 
 -- the settings page of a plain state comes whole

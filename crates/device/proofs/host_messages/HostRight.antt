@@ -1,21 +1,13 @@
 -- What a host's bytes are answered.
-use Rattle.std.proofs.Common.{◌≡◌, ℕ, List, None, Some, refl, sym, ap, subst}
-use Rattle.std.specs.Prelude.{OnErr, OnOk, Result, Err}
+use Rattle.device.proofs.Common.{ArrayVec, Describes, DeviceCore, Err, Faulty, Host, HostFault, IsHeard, IsHeardAs}
+use Rattle.device.proofs.Common.{List, Message, None, OfHost, OnErr, OnOk, Result, Some, Spells, State, ap, at_once}
+use Rattle.device.proofs.Common.{cdb_of, heard, host_fault_of, message_fault, refl, short_answer, subst, sym}
+use Rattle.device.proofs.Common.{with_short, ℕ, ◌≡◌}
 use Rattle.ufs_spec.specs.Machine as machine
-use Rattle.ufs_spec.specs.Machine.{Faulty, Host, IsHeard, OfHost, cdb_of, heard, message_fault}
-use Rattle.ufs_spec.specs.Messages.{Spells, host_fault_of}
-use Rattle.ufs_spec.specs.Refusals.{State}
-use Rattle.ufs_spec.specs.declared.faults.HostFault.{HostFault}
 use Rattle.ufs_spec.specs.declared.faults.HostFault.TheVariants.{Code}
-use Rattle.arrayvec.specs.ArrayVec.{ArrayVec}
 use Rattle.ufs_spec.specs.declared.messages.Asked.{Asked}
-use Rattle.ufs_spec.specs.declared.messages.Message.{Message}
 use Rattle.ufs_spec.specs.declared.messages.Message.TheVariants as message
 use Rattle.task_set.specs.declared.tasks.ShortReply.TheVariants as reply
-use Rattle.device.specs.Describes.{Describes, IsHeardAs}
-use Rattle.device.specs.Hears.{short_answer, with_short}
-use Rattle.device.specs.Kept.{DeviceCore}
-use Rattle.device.specs.Queries.{at_once}
 use Rattle.device.proofs.described.Answered.{answered, stays}
 use Rattle.device.proofs.host_messages.ShortsOpened.{short_heard, spelled_heard}
 

@@ -1,10 +1,6 @@
 -- The number that the group of the next command will have. A flush waits for the number before it.
-use Rattle.std.proofs.Common.{◌≡◌, ◌+◌, length, ap, arith}
-use Rattle.std.proofs.lemmas.List.{length-drop}
-use Rattle.ufs_spec.specs.Ledger.{before_accepted, next_number}
-use Rattle.ufs_spec.specs.Refusals.{State}
+use Rattle.device.proofs.Common.{IsTied, State, ap, arith, before_accepted, length, length-drop, next_number, ◌+◌, ◌≡◌}
 use Rattle.ufs_laws.proofs.plain_contents.GroupsOfCommands.{length-groups}
-use Rattle.power_loss.specs.Exchange.{IsTied}
 
 -- the next command's number is that of its group
 pub number_awaited : (s : State) → IsTied s →

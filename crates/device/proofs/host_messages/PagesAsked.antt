@@ -1,15 +1,10 @@
 -- What a request for data keeps of the area: one page or two, each of them wanted, and none of them read yet.
-use Rattle.std.proofs.Common.{◌≡◌, ◌∙◌, ℕ, ◌+◌, ◌-◌, ◌/◌, ◌≤◌, Bool, true, false, List, [], ◌∷◌, ◌++◌, Option}
-use Rattle.std.proofs.Common.{Some, None, map, refl, sym, ap, arith}
-use Rattle.std.specs.Prelude.{◌%◌, if◌then◌else◌, min, nat_lt, slice_get}
-use Rattle.ufs_spec.proofs.Facts.{ltb-false, ltb-true}
-use Rattle.ufs_spec.specs.Exchanges.{ReadBlock, ReadState, Unread, WasRead}
-use Rattle.ufs_spec.specs.Keys.{below}
-use Rattle.ufs_spec.specs.Translation.{Pin}
-use Rattle.task_set.specs.Frames.{pages_read, reading_of, second_read}
-use Rattle.task_set.specs.declared.frames.PageRead.TheVariants as page
-use Rattle.device.specs.Describes.{PartsStand, is_unread, wanted_kept, wanted_of}
-use Rattle.ufs_spec.specs.Exchanges.{ReadingArea}
+use Rattle.device.proofs.Common.{Bool, List, None, Option, PartsStand, Pin, ReadBlock, ReadState, ReadingArea, Some}
+use Rattle.device.proofs.Common.{Unread, WasRead, [], ap, arith, below, false, if◌then◌else◌, is_unread, ltb-false}
+use Rattle.device.proofs.Common.{ltb-true, map, min, nat_lt, refl, second_read, slice_get, sym, true, wanted_kept}
+use Rattle.device.proofs.Common.{wanted_of, ℕ, ◌%◌, ◌++◌, ◌+◌, ◌-◌, ◌/◌, ◌∙◌, ◌∷◌, ◌≡◌, ◌≤◌}
+use Rattle.task_set.specs.Frames.{pages_read, reading_of}
+use Rattle.ufs_spec.specs.declared.exchanges.ReadState.TheVariants as page
 use Rattle.device.proofs.host_messages.BlocksKept.{at, made_at, made_is, own_found, wanted}
 
 -- how many pages these blocks of the area lie in

@@ -1,19 +1,16 @@
 -- The pages that a key or a write brings are those of its group.
-use Rattle.std.proofs.Common.{◌≡◌, ◌∙◌, ℕ, zero, suc, ◌*◌, ◌<◌, ◌≤◌, false, true, List, [], ◌∷◌, Some}
-use Rattle.std.proofs.Common.{length, refl, sym, ap, arith, subst}
-use Rattle.std.specs.Prelude.{◌+◌, ◌/◌, ◌%◌, ◌++◌, Bool, drop, if◌then◌else◌, replicate, slice_get, take}
-use Rattle.std.proofs.lemmas.Bool.{le-leb, lt-leb, true≢false}
-use Rattle.ufs_spec.proofs.Facts.{none-some}
-use Rattle.ufs_spec.specs.Keys.{Group, Item, area_key, settings_key}
-use Rattle.ufs_spec.specs.Ledger.{all_contents, next_number}
-use Rattle.ufs_spec.specs.Moves.{Accept, IsAllowedMove, moved}
-use Rattle.ufs_spec.specs.Plain.{with_part, zero_block}
-use Rattle.ufs_spec.specs.Translation.{Translation, is_in_part}
-use Rattle.ufs_spec.specs.declared.flash.Key.{Key}
-use Rattle.ftl_core.specs.Public.{AreClaimed, AreClaimedBy, Claims, Core, Describes, IsGroupBrought, IsItemBrought}
-use Rattle.ftl_core.specs.Public.{with_claimed}
+use Rattle.device.proofs.Common.{Accept, AreClaimed, AreClaimedBy, Claims, Core, Group, HasPut, IsAllowedMove, Item}
+use Rattle.device.proofs.Common.{Key, List, Some, Translation, [], all_contents, ap, area_key, arith, false}
+use Rattle.device.proofs.Common.{if◌then◌else◌, le-leb, length, moved, next_number, none-some, refl, settings_key}
+use Rattle.device.proofs.Common.{slice_get, subst, suc, sym, take, true, with_claimed, with_part, write_group, zero, ℕ}
+use Rattle.device.proofs.Common.{◌%◌, ◌*◌, ◌<◌, ◌∙◌, ◌∷◌, ◌≡◌, ◌≤◌}
+use Rattle.std.specs.Prelude.{Bool, drop, replicate, ◌++◌, ◌+◌, ◌/◌}
+use Rattle.std.proofs.lemmas.Bool.{lt-leb, true≢false}
+use Rattle.ufs_spec.specs.Plain.{zero_block}
+use Rattle.ufs_spec.specs.Translation.{is_in_part}
+use Rattle.ftl_core.specs.Public.{Describes, IsGroupBrought, IsItemBrought}
 use Rattle.ftl_core.specs.declared.books.Brought.{Brought}
-use Rattle.device.specs.Groups.{HasPut, IsBrought, area_item, laid_item, room_from, settings_item, write_group}
+use Rattle.device.specs.Groups.{IsBrought, area_item, laid_item, room_from, settings_item}
 use Rattle.std.proofs.lemmas.Option.{same_Some}
 
 -- a page that is brought is its item; one that no command has in part is whole

@@ -1,28 +1,21 @@
 -- What a query is answered is right, and a settings page is put in a slot that was free.
-use Rattle.std.proofs.Common.{◌≡◌, ◌∙◌, ℕ, ◌==◌, ◌&&◌, Bool, true, false, cond, List, [], not, refl, sym, ap}
-use Rattle.std.proofs.Common.{subst}
-use Rattle.std.specs.Prelude.{nat_le, replicate}
-use Rattle.ufs_spec.proofs.Facts.{eqb-true}
-use Rattle.ufs_spec.specs.Ledger.{next_number}
-use Rattle.ufs_spec.specs.Moves.{Claim, moved}
-use Rattle.ufs_spec.specs.Plain.{Plain, zero_block}
-use Rattle.ufs_spec.specs.Queries.{Query, query_code}
+use Rattle.device.proofs.Common.{AreClaimed, AreClaimedBy, Bool, Claim, Claims, Core, DeviceCore, HasPut, HasPutSetting}
+use Rattle.device.proofs.Common.{IsBare, IsLayerWith, List, Numbers, Plain, Query, State, Translation, Volatile, [], ap}
+use Rattle.device.proofs.Common.{cond, eqb-true, false, free_slots, key_group, moved, nat_le, next_number, numbers_of}
+use Rattle.device.proofs.Common.{plain_now, refl, subst, sym, true, with_claimed, ℕ, ◌&&◌, ◌==◌, ◌∙◌, ◌≡◌}
+use Rattle.std.proofs.Common.{not}
+use Rattle.std.specs.Prelude.{replicate}
+use Rattle.ufs_spec.specs.Plain.{zero_block}
+use Rattle.ufs_spec.specs.Queries.{query_code}
 use Rattle.ufs_spec.specs.QueryAnswers.{may_set}
-use Rattle.ufs_spec.specs.Refusals.{State, numbers_of, plain_now}
-use Rattle.ufs_spec.specs.Translation.{Translation, free_slots}
-use Rattle.ufs_spec.specs.declared.configs.Numbers.{Numbers}
 use Rattle.descriptors.specs.Answers.{Says, code_of, is_setting, succeeds}
 use Rattle.descriptors.specs.Asks.{HasSettings, query_of}
 use Rattle.descriptors.specs.declared.answers.QueryAnswer.{QueryAnswer}
 use Rattle.descriptors.specs.declared.queries.QueryRequest.{QueryRequest}
 use Rattle.descriptors.specs.declared.queries.QuerySettings.{QuerySettings}
-use Rattle.ftl_core.specs.Public.{AreClaimed, AreClaimedBy, Claims, Core, Describes, with_claimed}
-use Rattle.device.specs.Bare.{IsBare}
-use Rattle.device.specs.Groups.{HasPut, key_group}
-use Rattle.device.specs.Kept.{DeviceCore, IsLayerWith}
-use Rattle.device.specs.Queries.{HasPutSetting, IsAnswerTo, settings_found, with_slot}
+use Rattle.ftl_core.specs.Public.{Describes}
+use Rattle.device.specs.Queries.{IsAnswerTo, settings_found, with_slot}
 use Rattle.device.proofs.open_tasks.KeptByTag.{claimed_own}
-use Rattle.ufs_spec.specs.declared.volatile.Volatile.{Volatile}
 
 -- The answer
 

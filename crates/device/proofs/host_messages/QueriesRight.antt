@@ -1,19 +1,16 @@
 -- A QUERY REQUEST is answered as the definitions say.
-use Rattle.std.proofs.Common.{◌≡◌, ◌∙◌, ℕ, ◌==◌, true, List, [], ◌∷◌, Some, None, not}
-use Rattle.std.proofs.Common.{refl, sym, ap, subst}
-use Rattle.std.specs.Prelude.{OnErr, OnOk, Result, Ok, Err}
+use Rattle.device.proofs.Common.{ArrayVec, Call, Describes, DeviceCore, Err, HaveAnswered, Host, HostFault, IsAnswered}
+use Rattle.device.proofs.Common.{IsBare, IsHeard, IsHeardAs, Keeps, List, Message, None, OfHost, Ok, OnErr, OnOk}
+use Rattle.device.proofs.Common.{Queried, Query, Result, ShortReply, Some, Spelled, Spells, State, Volatile, [], ap}
+use Rattle.device.proofs.Common.{at_once, heard, host_fault_of, is_task_of, numbers_of, opening_fault, query_with, refl}
+use Rattle.device.proofs.Common.{result_of, short_answer, short_reply, short_said, subst, sym, task_of, true}
+use Rattle.device.proofs.Common.{with_short, ℕ, ◌==◌, ◌∙◌, ◌∷◌, ◌≡◌}
+use Rattle.std.proofs.Common.{not}
 use Rattle.std.proofs.lemmas.Bool.{and_parts, not-true}
-use Rattle.ufs_spec.specs.Exchanges.{is_task_of, short_reply, task_of}
 use Rattle.ufs_spec.specs.Machine as machine
-use Rattle.ufs_spec.specs.Machine.{Call, Host, IsHeard, OfHost, Spelled, heard, opening_fault, result_of}
-use Rattle.ufs_spec.specs.Messages.{IsQueryFunction, Spells, host_fault_of}
-use Rattle.ufs_spec.specs.Queries.{Query}
+use Rattle.ufs_spec.specs.Messages.{IsQueryFunction}
 use Rattle.ufs_spec.specs.QueryAnswers.{query_heard}
-use Rattle.ufs_spec.specs.Refusals.{State, numbers_of}
-use Rattle.ufs_spec.specs.declared.faults.HostFault.{HostFault}
-use Rattle.arrayvec.specs.ArrayVec.{ArrayVec}
 use Rattle.ufs_spec.specs.declared.messages.Asked.{Asked}
-use Rattle.ufs_spec.specs.declared.messages.Message.{Message}
 use Rattle.ufs_spec.specs.declared.messages.Message.TheVariants as message
 use Rattle.ufs_laws.proofs.walk.Happenings.{code_of_query}
 use Rattle.power_loss.proofs.calls.CallsKeepTied.{no_fault}
@@ -28,20 +25,13 @@ use Rattle.descriptors.specs.States.{answered_by}
 use Rattle.descriptors.specs.declared.answers.QueryAnswer.{QueryAnswer}
 use Rattle.descriptors.specs.declared.answers.QueryAnswer.TheVariants as answer
 use Rattle.descriptors.specs.declared.answers.Setting.{Setting}
-use Rattle.task_set.specs.declared.tasks.Queried.{Queried}
-use Rattle.task_set.specs.declared.tasks.ShortReply.{ShortReply}
 use Rattle.task_set.specs.declared.tasks.ShortReply.TheVariants as reply
-use Rattle.device.specs.Bare.{IsBare}
-use Rattle.device.specs.Describes.{Describes, HaveAnswered, IsAnswered, IsHeardAs, Keeps}
-use Rattle.device.specs.Hears.{short_answer, with_short}
-use Rattle.device.specs.Kept.{DeviceCore}
-use Rattle.device.specs.Queries.{HasAnsweredBy, HasQueried, IsAnswerTo, at_once, tells_at_once, with_setting}
-use Rattle.device.specs.Replies.{function_of, query_with, short_said}
+use Rattle.device.specs.Queries.{HasAnsweredBy, HasQueried, IsAnswerTo, tells_at_once, with_setting}
+use Rattle.device.specs.Replies.{function_of}
 use Rattle.device.proofs.described.Answered.{IsBehind, answered_as, answered_locked, stays}
 use Rattle.device.proofs.host_messages.CommandTags.{others_send, short_fault}
 use Rattle.device.proofs.host_messages.SettingsAccepted.{set_answered, set_keeps}
 use Rattle.device.proofs.host_messages.ShortsOpened.{once_more, spelled_heard}
-use Rattle.ufs_spec.specs.declared.volatile.Volatile.{Volatile}
 
 -- a query that is taken is a standard read or a standard write
 function_is : (function : ℕ) → IsQueryFunction function → function_of (function == 0x81) ≡ function

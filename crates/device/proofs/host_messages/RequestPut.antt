@@ -1,33 +1,25 @@
 -- A key or a write whose group was put behind all that are pending is accepted.
-use Rattle.std.proofs.Common.{◌≡◌, ◌≢◌, ◌∙◌, ℕ, ◌<◌, ◌==◌, Bool, true, false, IsTrue, List, [], Some, map}
-use Rattle.std.proofs.Common.{length, refl, sym, ap, subst, arith}
+use Rattle.device.proofs.Common.{Accept, Accepted, Bool, Command, Core, DeviceCore, Frame, Group, HasAccepted, HasPut}
+use Rattle.device.proofs.Common.{IsAllowedMove, IsKept, IsLayerWith, IsPlain, IsSettings, List, Machine, Plain, Region}
+use Rattle.device.proofs.Common.{RpmbWrite, SetKey, Some, Translation, [], ap, apply, arith, bytes_of, changed_by}
+use Rattle.device.proofs.Common.{eqb-false, eqb-true, false, frame_slots, group_of, key_group, length, machine_at, map}
+use Rattle.device.proofs.Common.{moved, named_changed, none-some, refl, region_named, region_of, regions, said_by}
+use Rattle.device.proofs.Common.{settings_block, settings_key, settings_of, settings_ranges, subst, sym, true}
+use Rattle.device.proofs.Common.{with_claimed, write_group, ℕ, ◌<◌, ◌==◌, ◌∙◌, ◌≡◌, ◌≢◌}
+use Rattle.std.proofs.Common.{IsTrue}
 use Rattle.std.proofs.lemmas.Option.{same_Some}
-use Rattle.ufs_spec.proofs.Facts.{eqb-false, eqb-true, none-some}
-use Rattle.ufs_spec.specs.Commands.{Command, RpmbWrite, SetKey}
-use Rattle.ufs_spec.specs.Frames.{Frame}
-use Rattle.ufs_spec.specs.Keys.{Group, IsPlain, IsSettings, group_of, said_by, settings_bytes, settings_key}
-use Rattle.ufs_spec.specs.Keys.{settings_of}
-use Rattle.ufs_spec.specs.Moves.{Accept, IsAllowedMove, moved}
-use Rattle.ufs_spec.specs.Plain.{Plain, apply, changed_by, region_of, regions}
-use Rattle.ufs_spec.specs.Rpmb.{Region, applied}
-use Rattle.ufs_spec.specs.Translation.{Translation}
-use Rattle.ufs_laws.proofs.pages.SettingsBodies.{settings_block}
-use Rattle.ufs_laws.proofs.plain_contents.CommandsKeepPlain.{kept_plain, settings_ranges}
-use Rattle.ufs_laws.proofs.rpmb_frames.Regions.{named_changed, others_stay}
-use Rattle.ufs_laws.specs.RpmbWrites.{region_named}
-use Rattle.ftl_core.specs.Public.{Core, has_number, with_claimed}
-use Rattle.rpmb.specs.Kept.{IsKept, Machine, machine_at}
+use Rattle.ufs_spec.specs.Keys.{settings_bytes}
+use Rattle.ufs_spec.specs.Rpmb.{applied}
+use Rattle.ufs_laws.proofs.plain_contents.CommandsKeepPlain.{kept_plain}
+use Rattle.ufs_laws.proofs.rpmb_frames.Regions.{others_stay}
+use Rattle.ftl_core.specs.Public.{has_number}
 use Rattle.rpmb.specs.Outcomes.{AcceptsUnlocked, command_of}
 use Rattle.rpmb.specs.Requests.{payloads}
-use Rattle.rpmb.specs.declared.outcomes.Accepted.{Accepted}
 use Rattle.rpmb.specs.declared.outcomes.Accepted.TheVariants as accepted
 use Rattle.rpmb.specs.declared.outcomes.Outcome.TheVariants as outcome
-use Rattle.settings.specs.Told.{bytes_of}
 use Rattle.task_set.specs.declared.tasks.TaskEvent.TheVariants as event
-use Rattle.device.specs.Calls.{frame_slots}
-use Rattle.device.specs.Frames.{HasAccepted, MayComeNow}
-use Rattle.device.specs.Groups.{HasNumberFor, HasPut, key_group, settings_kept, write_group}
-use Rattle.device.specs.Kept.{DeviceCore, IsLayerWith}
+use Rattle.device.specs.Frames.{MayComeNow}
+use Rattle.device.specs.Groups.{HasNumberFor, settings_kept}
 use Rattle.device.proofs.described.Machines.{all_said}
 use Rattle.device.proofs.host_messages.FramesAccepted.{area_stays, boot_stays, permanent_stays}
 use Rattle.device.proofs.host_messages.GroupsOfFrames.{key_grouped, write_grouped}

@@ -1,16 +1,13 @@
 -- What a LUN byte and the row of an operation code name, by what their routing says (JESD220, 10.8).
-use Rattle.std.proofs.Common.{◌≡◌, ◌∙◌, ℕ, Option, Some, None, refl, sym, ap}
+use Rattle.device.proofs.Common.{IsNamed, None, Numbers, Option, Request, Some, State, UnitSpec, ap, invalid_operation}
+use Rattle.device.proofs.Common.{lacks_unit, lun_of, no_unit, numbers_of, plain_now, refl, sym, target_of}
+use Rattle.device.proofs.Common.{unit_numbers_at, ℕ, ◌∙◌, ◌≡◌}
 use Rattle.ufs_spec.proofs.Facts.{not-false}
-use Rattle.ufs_spec.specs.Exchanges.{invalid_operation, no_unit}
-use Rattle.ufs_spec.specs.Refusals.{BootUnit, DeviceUnit, Lun, ReportLunsUnit, Request, RpmbUnit, State, UnitOf}
-use Rattle.ufs_spec.specs.Refusals.{lacks_unit, lun_of, numbers_of, plain_now, row_in, takes_row, unit_in}
+use Rattle.ufs_spec.specs.Refusals.{BootUnit, DeviceUnit, Lun, ReportLunsUnit, RpmbUnit, UnitOf, row_in, takes_row}
+use Rattle.ufs_spec.specs.Refusals.{unit_in, unit_named, unit_of_request}
 use Rattle.ufs_spec.specs.declared.operations.Row.{Row}
-use Rattle.ufs_spec.specs.Refusals.{unit_named, unit_numbers_at, unit_of_request}
-use Rattle.ufs_spec.specs.declared.configs.Numbers.{Numbers}
-use Rattle.ufs_spec.specs.declared.configs.UnitSpec.{UnitSpec}
 use Rattle.ufs_laws.proofs.exchanges.TakenCommandsKnown.{passed_line}
 use Rattle.lun_route.specs.Routes.{lacks_unit_at, not_taken_by, routing_refusal}
-use Rattle.device.specs.Targets.{IsNamed, target_of}
 
 -- the unit lacks its blocks, by what that looks at
 same_lack : (s : State) (r : Request) (lun : Lun) →

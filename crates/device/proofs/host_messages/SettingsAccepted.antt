@@ -1,46 +1,33 @@
 -- A setting is accepted: what the device keeps then is kept of the state in which its command follows all others, and
 -- its answer waits until that is durable.
-use Rattle.std.proofs.Common.{◌≡◌, ◌∙◌, ℕ, ◌+◌, Bool, true, List, [], ◌∷◌, ◌++◌, Some, None, length, map, refl, sym, ap}
-use Rattle.std.proofs.Common.{arith, subst}
-use Rattle.std.proofs.lemmas.Bool.{le-leb}
-use Rattle.std.proofs.lemmas.List.{append-nil}
-use Rattle.std.proofs.lemmas.List.Sums.{fold-append}
+use Rattle.device.proofs.Common.{Accept, Bool, Claim, Command, Core, Describes, DeviceCore, HasPutSetting, HaveAnswered}
+use Rattle.device.proofs.Common.{IsAllowedMove, IsComing, IsKept, IsLayerWith, IsPlain, IsSettings, IsTied, Keeps, List}
+use Rattle.device.proofs.Common.{None, Plain, Queried, Query, ShortKept, Some, State, Translation, [], all_contents, ap}
+use Rattle.device.proofs.Common.{append-nil, apply, arith, before_accepted, bytes_of, claimed_by, claims_of}
+use Rattle.device.proofs.Common.{command_allowed, content, fold-append, group_of, key_group, le-leb, length, machine_at}
+use Rattle.device.proofs.Common.{map, moved, numbers_of, plain_now, query_with, refl, region_of, said_by}
+use Rattle.device.proofs.Common.{settings_block, settings_key, settings_of, settings_ranges, subst, sym, task_of, true}
+use Rattle.device.proofs.Common.{with_short, ℕ, ◌++◌, ◌+◌, ◌∙◌, ◌∷◌, ◌≡◌}
 use Rattle.ufs_spec.proofs.ConfigFacts.{command_blocks-some}
 use Rattle.ufs_spec.specs.Changes.{with_moves}
-use Rattle.ufs_spec.specs.Commands.{Command}
-use Rattle.ufs_spec.specs.Exchanges.{task_of}
 use Rattle.ufs_spec.specs.Exchanges as exchange
-use Rattle.ufs_spec.specs.Keys.{IsPlain, IsSettings, content, group_of, said_by, settings_bytes, settings_key}
-use Rattle.ufs_spec.specs.Keys.{settings_of}
-use Rattle.ufs_spec.specs.Ledger.{all_contents, before_accepted}
-use Rattle.ufs_spec.specs.Moves.{Accept, Claim, IsAllowedMove, moved}
-use Rattle.ufs_spec.specs.Plain.{Plain, apply, region_of}
-use Rattle.ufs_spec.specs.Queries.{Query, descriptor_told, setting_of, value_told}
+use Rattle.ufs_spec.specs.Keys.{settings_bytes}
+use Rattle.ufs_spec.specs.Queries.{descriptor_told, setting_of, value_told}
 use Rattle.ufs_spec.specs.QueryAnswers.{query_done, query_failed, setting_accepted}
-use Rattle.ufs_spec.specs.Refusals.{State, numbers_of, plain_now}
-use Rattle.ufs_spec.specs.Translation.{Rest, Translation, rests_of}
+use Rattle.ufs_spec.specs.Translation.{Rest, rests_of}
 use Rattle.ufs_spec.specs.declared.messages.Message.TheVariants as message
-use Rattle.ufs_laws.proofs.pages.SettingsBodies.{settings_block}
-use Rattle.ufs_laws.proofs.plain_contents.CommandsKeepPlain.{kept_plain, settings_ranges}
-use Rattle.power_loss.specs.Exchange.{IsTied}
+use Rattle.ufs_laws.proofs.plain_contents.CommandsKeepPlain.{kept_plain}
 use Rattle.power_loss.proofs.calls.RightChanges.{right_keeps, right_move}
-use Rattle.power_loss.proofs.host_commands.AcceptedCommands.{IsComing, command_allowed, plain_tied}
+use Rattle.power_loss.proofs.host_commands.AcceptedCommands.{plain_tied}
 use Rattle.power_loss.proofs.host_commands.QueriesHeard.{IsSetting}
 use Rattle.descriptors.specs.Answers.{command_of}
 use Rattle.descriptors.specs.declared.answers.Setting.{Setting}
 use Rattle.descriptors.specs.declared.answers.Setting.TheVariants as setting
-use Rattle.ftl_core.specs.Public.{Core}
-use Rattle.rpmb.specs.Kept.{IsKept, machine_at, said_kept}
-use Rattle.settings.specs.Told.{bytes_of}
-use Rattle.task_set.specs.declared.tasks.Queried.{Queried}
+use Rattle.rpmb.specs.Kept.{said_kept}
 use Rattle.task_set.specs.declared.tasks.Short as kept
 use Rattle.task_set.specs.declared.tasks.ShortReply.TheVariants as reply
-use Rattle.device.specs.Describes.{Describes, HaveAnswered, Keeps, ShortKept, claimed_by, claims_of}
-use Rattle.device.specs.Groups.{key_group, settings_kept}
-use Rattle.device.specs.Hears.{with_short}
-use Rattle.device.specs.Kept.{DeviceCore, IsLayerWith}
-use Rattle.device.specs.Queries.{HasPutSetting, HasSet, with_setting, with_slot}
-use Rattle.device.specs.Replies.{query_with}
+use Rattle.device.specs.Groups.{settings_kept}
+use Rattle.device.specs.Queries.{HasSet, with_setting, with_slot}
 use Rattle.device.proofs.described.Machines.{all_said}
 use Rattle.device.proofs.described.Settled.{kept_stays, still_answered}
 use Rattle.device.proofs.described.ShortExchanges.{one_short_more}

@@ -1,23 +1,12 @@
 -- A message that opens a short exchange is answered as the definitions say.
-use Rattle.std.proofs.Common.{◌≡◌, ◌∙◌, ℕ, true, List, Option, None, refl, sym, ap, subst}
-use Rattle.std.specs.Prelude.{OnErr, OnOk, Result, Ok, Err}
-use Rattle.ufs_spec.specs.Exchanges.{Short, short_reply}
+use Rattle.device.proofs.Common.{Cdb, Describes, DeviceCore, Err, Host, HostFault, IsHeardAs, IsShortTold, List}
+use Rattle.device.proofs.Common.{Message, None, OfHost, Ok, OnErr, OnOk, Option, Result, Short, ShortKept, ShortReply}
+use Rattle.device.proofs.Common.{Spelled, Spells, State, ap, at_once, before_accepted, cdb_of, durable, heard}
+use Rattle.device.proofs.Common.{host_fault_of, message_fault, numbers_of, opening_fault, refl, result_of, short_answer}
+use Rattle.device.proofs.Common.{short_reply, short_said, subst, sym, true, with_short, ℕ, ◌∙◌, ◌≡◌}
 use Rattle.ufs_spec.specs.Machine as machine
-use Rattle.ufs_spec.specs.Ledger.{before_accepted}
-use Rattle.ufs_spec.specs.Machine.{Host, IsCdbIn, OfHost, Spelled, cdb_of, durable, heard, message_fault, opening_fault}
-use Rattle.ufs_spec.specs.Machine.{result_of}
-use Rattle.ufs_spec.specs.Messages.{Spells, host_fault_of}
-use Rattle.ufs_spec.specs.Refusals.{State, numbers_of}
-use Rattle.ufs_spec.specs.declared.faults.HostFault.{HostFault}
-use Rattle.ufs_spec.specs.declared.messages.Message.{Message}
-use Rattle.ufs_spec.specs.declared.scsi.Cdb.{Cdb}
+use Rattle.ufs_spec.specs.Machine.{IsCdbIn}
 use Rattle.task_set.specs.declared.tasks.Short as kept
-use Rattle.task_set.specs.declared.tasks.ShortReply.{ShortReply}
-use Rattle.device.specs.Describes.{Describes, IsHeardAs, IsShortTold, ShortKept}
-use Rattle.device.specs.Hears.{short_answer, with_short}
-use Rattle.device.specs.Kept.{DeviceCore}
-use Rattle.device.specs.Queries.{at_once}
-use Rattle.device.specs.Replies.{short_said}
 use Rattle.device.proofs.described.Answered.{IsBehind, answered_as, stays}
 use Rattle.device.proofs.described.ShortExchanges.{kept_at_once, one_more_told, one_short_more}
 use Rattle.device.proofs.host_messages.CommandTags.{short_fault}

@@ -1,22 +1,15 @@
 -- A command that begins claims its slots, and each holds zeros.
-use Rattle.std.proofs.Common.{◌≡◌, ◌∙◌, ℕ, zero, suc, ◌≤◌, Bool, true, List, [], ◌∷◌, replicate, sym, ap, subst, refl, ◌<◌, false}
-use Rattle.std.specs.Prelude.{fold, if◌then◌else◌}
-use Rattle.std.specs.List.{list_any}
+use Rattle.device.proofs.Common.{AreClaimed, Bool, Claim, Claims, Core, IsKey, IsLayerWith, Key, List, Phase}
+use Rattle.device.proofs.Common.{PinsDiffer, Translation, [], ap, blocks_gathered, false, fold, free_slots, has_room}
+use Rattle.device.proofs.Common.{if◌then◌else◌, keeps_for, key_behind, le-leb, list_any, moved, refl, replicate}
+use Rattle.device.proofs.Common.{shape_of_numbers, subst, suc, sym, true, with_claimed, zero, ℕ, ◌<◌, ◌∙◌, ◌∷◌, ◌≡◌}
+use Rattle.device.proofs.Common.{◌≤◌}
 use Rattle.std.proofs.Math.Seq.{drop-nil}
-use Rattle.std.proofs.lemmas.Bool.{le-leb}
-use Rattle.ufs_spec.specs.Moves.{Claim, moved}
-use Rattle.ufs_spec.specs.Keys.{IsKey}
-use Rattle.ufs_spec.specs.Plain.{shape_of_numbers, zero_block}
-use Rattle.ufs_spec.specs.Translation.{Translation, free_slots}
-use Rattle.ufs_spec.specs.declared.flash.Key.{Key}
-use Rattle.ftl_core.specs.Public.{AreClaimed, Claims, Core, Describes, PinsDiffer, keeps_for, keeps_of, key_behind}
-use Rattle.ftl_core.specs.Public.{with_claimed}
-use Rattle.task_set.specs.declared.tasks.Phase.{Phase}
+use Rattle.ufs_spec.specs.Plain.{zero_block}
+use Rattle.ftl_core.specs.Public.{Describes, keeps_of}
 use Rattle.task_set.specs.declared.tasks.Phase.TheVariants as phase
-use Rattle.task_set.specs.declared.tasks.Status.TheVariants as status
-use Rattle.device.specs.Calls.{HasClaimedFor, HasKept, has_room, has_slots}
-use Rattle.device.specs.Describes.{blocks_gathered}
-use Rattle.device.specs.Kept.{IsLayerWith}
+use Rattle.ufs_spec.specs.declared.exchanges.Status.TheVariants as status
+use Rattle.device.specs.Calls.{HasClaimedFor, HasKept, has_slots}
 
 -- none of the blocks of a WRITE came
 pub none_gathered : (n : ℕ) → replicate n zero_block ≡ blocks_gathered n []

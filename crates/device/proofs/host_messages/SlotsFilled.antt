@@ -1,12 +1,12 @@
 -- What lies in the slots of a WRITE while its blocks come, and once all of them came.
-use Rattle.std.proofs.Common.{◌≡◌, ◌∙◌, ℕ, zero, suc, ◌*◌, ◌<◌, cond, List, [], ◌∷◌}
-use Rattle.std.proofs.Common.{◌++◌, length, take, drop, refl, sym, ap, arith}
-use Rattle.std.specs.Prelude.{slice_set}
-use Rattle.std.proofs.lemmas.Bool.{le-ltb}
-use Rattle.std.proofs.lemmas.List.{drop_all, drop-append-le, length-append, length-drop, take-append-le, take_all}
+use Rattle.device.proofs.Common.{List, [], ap, arith, blocks_gathered, cond, drop, le-ltb, length, length-append}
+use Rattle.device.proofs.Common.{length-drop, refl, slice_set, suc, sym, take-append-le, take_all, zero, ℕ, ◌*◌, ◌++◌}
+use Rattle.device.proofs.Common.{◌<◌, ◌∙◌, ◌∷◌, ◌≡◌}
+use Rattle.std.proofs.Common.{take}
+use Rattle.std.proofs.lemmas.List.{drop-append-le, drop_all}
 use Rattle.ufs_spec.specs.Machine.{blocks_in}
 use Rattle.ufs_spec.specs.Plain.{zero_block}
-use Rattle.device.specs.Describes.{block_or_zeros, blocks_gathered}
+use Rattle.device.specs.Describes.{block_or_zeros}
 
 -- One block comes
 

@@ -1,22 +1,12 @@
 -- Where one task becomes another, and the layer, key, counter, registers and accepted commands change with it, all is
 -- kept of the state behind.
-use Rattle.std.proofs.Common.{◌≡◌, ◌∙◌, ℕ, ◌≤◌, ◌==◌, false, List, Some, length, map, sym, subst}
-use Rattle.std.specs.Prelude.{slice_set}
-use Rattle.std.proofs.lemmas.List.{length-map}
-use Rattle.ufs_spec.specs.Commands.{Command}
+use Rattle.device.proofs.Common.{AreClaimed, Command, Core, Describes, DeviceCore, IsKept, IsLayerWith, Keeps, List}
+use Rattle.device.proofs.Common.{Machine, OpenTask, Registers, Some, State, TaskKept, TasksKept, Translation, after}
+use Rattle.device.proofs.Common.{before_accepted, claimed_in, claims_of, false, found_task, is_sender, length}
+use Rattle.device.proofs.Common.{length-map, machine_at, map, most_tasks, numbers_of, plain_now, region_of, regions}
+use Rattle.device.proofs.Common.{slice_set, subst, sym, task_of, wanted_by, wanted_kept, with_claimed, ℕ, ◌==◌, ◌∙◌}
+use Rattle.device.proofs.Common.{◌≡◌, ◌≤◌}
 use Rattle.ufs_spec.specs.Exchanges as exchange
-use Rattle.ufs_spec.specs.Exchanges.{Registers, most_tasks, task_of}
-use Rattle.ufs_spec.specs.Ledger.{before_accepted}
-use Rattle.ufs_spec.specs.Plain.{after, region_of, regions}
-use Rattle.ufs_spec.specs.Refusals.{State, numbers_of, plain_now}
-use Rattle.ufs_spec.specs.Translation.{Translation}
-use Rattle.power_loss.proofs.open_tasks.TaskLists.{found_task}
-use Rattle.ftl_core.specs.Public.{AreClaimed, Core, with_claimed}
-use Rattle.rpmb.specs.Kept.{IsKept, Machine, machine_at}
-use Rattle.task_set.specs.Kept.{OpenTask}
-use Rattle.task_set.specs.Tasks.{is_sender}
-use Rattle.device.specs.Describes.{Describes, Keeps, TaskKept, TasksKept, claimed_in, claims_of, wanted_by, wanted_kept}
-use Rattle.device.specs.Kept.{DeviceCore, IsLayerWith}
 use Rattle.device.proofs.described.OneSender.{one_set}
 use Rattle.device.proofs.described.ShortExchanges.{same_shorts}
 use Rattle.device.proofs.open_tasks.KeptByTag.{claims_changed, one_changes}

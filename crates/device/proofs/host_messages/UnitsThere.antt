@@ -1,28 +1,21 @@
 -- The unit of a command that reads or writes blocks is there, so the addresses of its blocks are those of keys.
-use Rattle.std.proofs.Common.{◌≡◌, ◌∙◌, ℕ, ◌<◌, ◌^◌, Bool, true, false, List, ◌∷◌, not, Option, Some, None, get_or}
-use Rattle.std.proofs.Common.{refl, sym, ap, subst, arith, ⊎_elim}
-use Rattle.std.specs.Prelude.{◌&&◌, ◌==◌, if◌then◌else◌, IfErr, IfOk, IfSome, IsOk, is_none, position, slice_get}
-use Rattle.std.specs.Prelude.{Result, Ok, Err}
-use Rattle.task_set.specs.declared.tasks.Status.{Status}
-use Rattle.std.proofs.lemmas.Option.{slice_get-get_or}
+use Rattle.device.proofs.Common.{Bool, Cdb, Err, IfOk, IsNamed, List, None, Numbers, Ok, Option, Passes, Plan, Request}
+use Rattle.device.proofs.Common.{Result, Some, State, Status, UnitSpec, ap, arith, false, false≢true, first_line}
+use Rattle.device.proofs.Common.{get_or, if◌then◌else◌, invalid_operation, lacks_unit, lines_after, lines_for, no_unit}
+use Rattle.device.proofs.Common.{numbers_of, plain_now, position, position_told, refl, refusal, slice_get}
+use Rattle.device.proofs.Common.{slice_get-get_or, spelled_cdb, subst, sym, target_of, true, true≢false}
+use Rattle.device.proofs.Common.{unit_numbers_at, unit_numbers_of, ℕ, ⊎_elim, ◌<◌, ◌∙◌, ◌∷◌, ◌≡◌}
+use Rattle.std.proofs.Common.{not, ◌^◌}
+use Rattle.std.specs.Prelude.{IfErr, IfSome, IsOk, is_none, ◌&&◌, ◌==◌}
 use Rattle.ufs_spec.proofs.CommandTable.{IsUnit, changes_blocks, changing_taken, reading_taken, row_behind}
-use Rattle.ufs_spec.proofs.Facts.{false≢true, true≢false}
-use Rattle.ufs_spec.proofs.Lists.{position_told}
-use Rattle.ufs_spec.specs.CdbFields.{kind_of, spelled_cdb}
+use Rattle.ufs_spec.specs.CdbFields.{kind_of}
 use Rattle.ufs_spec.specs.Cdbs.{address_of}
-use Rattle.ufs_spec.specs.Refusals.{BootUnit, Lun, Request, State, boot_unit, is_boot_read, lacks_unit}
-use Rattle.ufs_spec.specs.Refusals.{needs_blocks, numbers_of, plain_now, row_in, takes_row, unit_in, unit_numbers_at}
-use Rattle.ufs_spec.specs.Refusals.{first_line, line, lines_after, lines_for, not_taken, refusal, unit_numbers_of}
-use Rattle.ufs_spec.specs.declared.configs.Numbers.{Numbers}
-use Rattle.ufs_spec.specs.declared.configs.UnitSpec.{UnitSpec}
+use Rattle.ufs_spec.specs.Refusals.{BootUnit, Lun, boot_unit, is_boot_read, line, needs_blocks, not_taken, row_in}
+use Rattle.ufs_spec.specs.Refusals.{takes_row, unit_in}
 use Rattle.ufs_spec.specs.declared.operations.Row.{Row}
-use Rattle.ufs_spec.specs.declared.scsi.Cdb.{Cdb}
 use Rattle.ufs_spec.specs.declared.scsi.Cdb.TheVariants as cdb
 use Rattle.power_loss.proofs.host_commands.PassedCommands.{lun_told, no_spec}
-use Rattle.ufs_spec.specs.Exchanges.{invalid_operation, no_unit}
-use Rattle.device.specs.Plans.{IsRequest, Passes, plan_of}
-use Rattle.device.specs.Targets.{IsNamed, target_of}
-use Rattle.device.specs.declared.plans.Plan.{Plan}
+use Rattle.device.specs.Plans.{IsRequest, plan_of}
 use Rattle.device.specs.declared.targets.Target.{Target}
 
 -- the unit that boots, where one does

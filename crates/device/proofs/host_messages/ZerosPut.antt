@@ -1,12 +1,10 @@
 -- A claim is shortened to the blocks that are unmapped, and these are accepted: as if they took the place of all of it.
-use Rattle.std.proofs.Common.{◌≡◌, ℕ, ◌≤◌, List, [], length, take, subst, arith}
+use Rattle.device.proofs.Common.{Accept, AreClaimed, AreClaimedBy, Claims, Core, Group, IsAllowedMove, Key, List}
+use Rattle.device.proofs.Common.{Release, Translation, [], arith, group_of_blocks, length, length-take, moved, subst}
+use Rattle.device.proofs.Common.{with_claimed, ℕ, ◌≡◌, ◌≤◌}
+use Rattle.std.proofs.Common.{take}
 use Rattle.std.specs.Prelude.{◌-◌}
-use Rattle.std.proofs.lemmas.List.{length-take}
-use Rattle.ufs_spec.specs.Keys.{Group}
-use Rattle.ufs_spec.specs.Moves.{Accept, IsAllowedMove, Release, moved}
-use Rattle.ufs_spec.specs.Translation.{Translation}
-use Rattle.ufs_spec.specs.declared.flash.Key.{Key}
-use Rattle.ftl_core.specs.Public.{AreClaimed, AreClaimedBy, Claims, Core, Describes, group_of_blocks, with_claimed}
+use Rattle.ftl_core.specs.Public.{Describes}
 use Rattle.ftl_core.proofs.small_calls.ShortenedClaims.{shortened_accept, shortened_may}
 use Rattle.device.specs.Unmaps.{HasPutZeros}
 use Rattle.ftl_core.proofs.look_and_accept.GroupsAccepted.{items_length}

@@ -1,25 +1,15 @@
 -- All tasks that are meant are aborted, one after another.
-use Rattle.std.proofs.Common.{◌≡◌, ◌∙◌, ℕ, Bool, true, false, List, [], ◌∷◌, Option, Some, None, length}
-use Rattle.std.proofs.Common.{refl, sym, ap, subst}
-use Rattle.std.specs.Prelude.{◌||◌, filter, if◌then◌else◌, not, position}
-use Rattle.std.specs.List.{flat_map, list_any}
+use Rattle.device.proofs.Common.{Bool, Claims, Core, DeedFits, DeedsFit, Describes, DeviceCore, Frames, HasLetGo}
+use Rattle.device.proofs.Common.{IsBehind, IsLayerWith, List, Meant, None, Option, Registers, Some, State, Task}
+use Rattle.device.proofs.Common.{TasksDiffer, Translation, [], ap, before_accepted, claim_of, claims_of, false, filter}
+use Rattle.device.proofs.Common.{flat_map, if◌then◌else◌, is_mended, is_task_meant, is_task_of, length, list_any, means}
+use Rattle.device.proofs.Common.{not, numbers_of, position, refl, sends_frames_to, subst, sym, task_at, true}
+use Rattle.device.proofs.Common.{with_moves, ℕ, ◌||◌, ◌∙◌, ◌∷◌, ◌≡◌}
 use Rattle.ufs_spec.specs.Exchanges as exchange
-use Rattle.ufs_spec.specs.Exchanges.{Registers, empty_registers, is_task_of}
-use Rattle.ufs_spec.specs.Ledger.{before_accepted}
-use Rattle.ufs_spec.specs.Machine.{abort_moves, registers_after, with_moves, without_tasks}
-use Rattle.ufs_spec.specs.Refusals.{State, numbers_of, sends_frames_to}
-use Rattle.ufs_spec.specs.Translation.{Translation, is_mended}
-use Rattle.power_loss.specs.Exchange.{DeedFits, DeedsFit, TasksDiffer, claim_of}
+use Rattle.ufs_spec.specs.Exchanges.{empty_registers}
+use Rattle.ufs_spec.specs.Machine.{abort_moves, registers_after, without_tasks}
 use Rattle.power_loss.proofs.open_tasks.TaggedLists.{differ_filter, each_at, each_filter}
-use Rattle.ftl_core.specs.Public.{Claims, Core}
-use Rattle.task_set.specs.Lists.{task_at}
-use Rattle.task_set.specs.Tasks.{is_task_meant}
-use Rattle.task_set.specs.declared.frames.Frames.{Frames}
-use Rattle.task_set.specs.declared.tasks.Meant.{Meant}
-use Rattle.task_set.specs.declared.tasks.Task.{Task}
-use Rattle.device.specs.Describes.{Describes, IsBehind, claims_of}
-use Rattle.device.specs.Kept.{DeviceCore, IsLayerWith}
-use Rattle.device.specs.Manages.{HasLetGo, aborted_at, means}
+use Rattle.device.specs.Manages.{aborted_at}
 use Rattle.device.proofs.described.Answered.{stays}
 use Rattle.device.proofs.managed.ClaimsGivenBack.{claim_counted}
 use Rattle.device.proofs.managed.FirstMeant.{FirstMeant, first_meant, none_goes, none_meant}

@@ -1,17 +1,11 @@
 -- An aborted task gives back as many slots as it has claimed.
-use Rattle.std.proofs.Common.{◌≡◌, ◌∙◌, ◌⊎◌, ℕ, zero, suc, Bool, List, Option, length, drop, inl, inr, refl, sym, ap}
-use Rattle.std.proofs.lemmas.List.{length-replicate}
-use Rattle.ufs_spec.specs.Configs.{command_blocks}
+use Rattle.device.proofs.Common.{Answering, Awaiting, Bool, Cdb, Deed, DeedFits, ForFrames, ForUnmap, ForWrite}
+use Rattle.device.proofs.Common.{Gathering, List, Numbers, Option, ReadingArea, Sending, SendingBytes, ap}
+use Rattle.device.proofs.Common.{blocks_gathered, claim_of, claimed_in, command_blocks, drop, inl, inr, length}
+use Rattle.device.proofs.Common.{length-replicate, list_slots, refl, suc, sym, zero, ℕ, ◌∙◌, ◌≡◌, ◌⊎◌}
 use Rattle.ufs_spec.specs.Exchanges as exchange
-use Rattle.ufs_spec.specs.Exchanges.{Answering, Awaiting, Deed, ForFrames, ForUnmap, ForWrite, Gathering, ReadingArea}
-use Rattle.ufs_spec.specs.Exchanges.{Sending, SendingBytes}
 use Rattle.ufs_spec.specs.Machine.{claimed_by}
 use Rattle.ufs_spec.specs.Plain.{zero_block}
-use Rattle.ufs_spec.specs.declared.configs.Numbers.{Numbers}
-use Rattle.ufs_spec.specs.declared.scsi.Cdb.{Cdb}
-use Rattle.power_loss.specs.Exchange.{DeedFits, claim_of}
-use Rattle.device.specs.Describes.{blocks_gathered, claimed_in}
-use Rattle.device.specs.Lists.{list_slots}
 
 blocks_counted : (n : ℕ) (bytes : List ℕ) → length (blocks_gathered n bytes) ≡ n
 blocks_counted zero bytes = refl

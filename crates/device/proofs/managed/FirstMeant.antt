@@ -1,20 +1,11 @@
 -- Which of the open tasks are meant: the same on both sides, so that the first of them stands at one place.
-use Rattle.std.proofs.Common.{◌≡◌, ◌∙◌, ℕ, suc, Bool, true, false, cond, List, [], ◌∷◌, Option, Some, None}
-use Rattle.std.proofs.Common.{refl, sym, ap, subst}
-use Rattle.std.specs.Prelude.{◌||◌, filter, is_some, not, option_map, position}
-use Rattle.std.specs.List.{list_any}
-use Rattle.ufs_spec.proofs.Facts.{none-some, or_parts, same_Some}
+use Rattle.device.proofs.Common.{Bool, List, Meant, None, OpenTask, Option, Some, TaskKept, TasksDiffer, TasksKept, []}
+use Rattle.device.proofs.Common.{ap, cond, eq_self, false, filter, if_false, if_true, is_some, is_task_meant}
+use Rattle.device.proofs.Common.{is_task_of, list_any, means, none-some, not, option_map, or_parts, other_way, position}
+use Rattle.device.proofs.Common.{refl, same_Some, subst, suc, sym, true, ℕ, ◌||◌, ◌∙◌, ◌∷◌, ◌≡◌}
 use Rattle.ufs_spec.proofs.Lists.{any_none}
 use Rattle.ufs_spec.specs.Exchanges as exchange
-use Rattle.ufs_spec.specs.Exchanges.{is_task_of}
-use Rattle.power_loss.specs.Exchange.{TasksDiffer}
-use Rattle.power_loss.proofs.books.SmallFacts.{eq_self, if_false, if_true}
-use Rattle.power_loss.proofs.open_tasks.TaggedLists.{other_way}
-use Rattle.task_set.specs.Kept.{OpenTask}
-use Rattle.task_set.specs.Tasks.{is_meant, is_task_meant}
-use Rattle.task_set.specs.declared.tasks.Meant.{Meant}
-use Rattle.device.specs.Describes.{TaskKept, TasksKept}
-use Rattle.device.specs.Manages.{means}
+use Rattle.task_set.specs.Tasks.{is_meant}
 use Rattle.device.proofs.open_tasks.OpenTasks.{IsOpen, position_step}
 
 -- Who is meant

@@ -1,21 +1,13 @@
 -- A task management request is answered as the definitions say.
-use Rattle.std.proofs.Common.{◌≡◌, ◌∙◌, ℕ, List, None, refl, sym, ap, subst}
-use Rattle.std.specs.Prelude.{OnErr, OnOk, Result, Ok, Err}
-use Rattle.ufs_spec.specs.Exchanges.{Short, short_reply}
-use Rattle.ufs_spec.specs.Ledger.{before_accepted}
+use Rattle.device.proofs.Common.{Describes, DeviceCore, Err, HostFault, IsBehind, IsHeardAs, List, Message, None, Ok}
+use Rattle.device.proofs.Common.{OnErr, OnOk, Result, Short, Spells, State, ap, at_once, before_accepted, heard}
+use Rattle.device.proofs.Common.{host_fault_of, message_fault, numbers_of, refl, result_of, short_answer, short_reply}
+use Rattle.device.proofs.Common.{subst, sym, with_short, ℕ, ◌∙◌, ◌≡◌}
 use Rattle.ufs_spec.specs.Machine as machine
-use Rattle.ufs_spec.specs.Machine.{heard, managed, message_fault, result_of, service}
-use Rattle.ufs_spec.specs.Messages.{Spells, host_fault_of}
-use Rattle.ufs_spec.specs.Refusals.{State, numbers_of}
-use Rattle.ufs_spec.specs.declared.faults.HostFault.{HostFault}
-use Rattle.ufs_spec.specs.declared.messages.Message.{Message}
+use Rattle.ufs_spec.specs.Machine.{managed, service}
 use Rattle.ufs_spec.specs.declared.messages.Message.TheVariants as message
 use Rattle.task_set.specs.declared.tasks.ShortReply.TheVariants as reply
-use Rattle.device.specs.Describes.{Describes, IsBehind, IsHeardAs}
-use Rattle.device.specs.Hears.{short_answer, with_short}
-use Rattle.device.specs.Kept.{DeviceCore}
 use Rattle.device.specs.Manages.{carried, function_on, service_by}
-use Rattle.device.specs.Queries.{at_once}
 use Rattle.device.specs.declared.management.Managing.{Managing}
 use Rattle.device.proofs.described.Answered.{stays}
 use Rattle.device.proofs.described.ShortExchanges.{kept_at_once}

@@ -1,18 +1,13 @@
 -- What a task management function comes to is what is specified: its service response, and which tasks go.
-use Rattle.std.proofs.Common.{◌≡◌, ◌∙◌, ℕ, ◌==◌, Bool, true, false, List, [], ◌∷◌, refl, sym, ap}
-use Rattle.std.specs.Prelude.{◌&&◌, ◌||◌, if◌then◌else◌, is_none, not}
-use Rattle.std.specs.List.{list_any}
+use Rattle.device.proofs.Common.{Bool, DeviceCore, List, Meant, State, TasksKept, [], ap, before_accepted, false}
+use Rattle.device.proofs.Common.{if◌then◌else◌, is_task_meant, list_any, lun_of, means, not, numbers_of, refl, sym}
+use Rattle.device.proofs.Common.{true, ℕ, ◌==◌, ◌||◌, ◌∙◌, ◌∷◌, ◌≡◌}
+use Rattle.std.specs.Prelude.{is_none, ◌&&◌}
 use Rattle.std.proofs.Math.Bool.{and-true}
 use Rattle.ufs_spec.specs.Exchanges as exchange
-use Rattle.ufs_spec.specs.Ledger.{before_accepted}
 use Rattle.ufs_spec.specs.Machine.{is_named, managed, service, service_found, without_tasks}
 use Rattle.ufs_spec.specs.Messages.{is_among}
-use Rattle.ufs_spec.specs.Refusals.{State, lun_of, numbers_of}
-use Rattle.task_set.specs.Tasks.{is_task_meant}
-use Rattle.task_set.specs.declared.tasks.Meant.{Meant}
-use Rattle.device.specs.Describes.{TasksKept}
-use Rattle.device.specs.Kept.{DeviceCore}
-use Rattle.device.specs.Manages.{all_tasks, carried, function_on, means, one_task, service_by}
+use Rattle.device.specs.Manages.{all_tasks, carried, function_on, one_task, service_by}
 use Rattle.device.specs.declared.management.Managing.{Managing}
 use Rattle.device.specs.declared.management.Managing.TheVariants as managing
 use Rattle.device.proofs.host_messages.AskedData.{other_side}

@@ -1,36 +1,22 @@
 -- There is room for what a READ keeps: each pin is of a block of an open task, no two are of the same, and a task has
 -- at most as many blocks as a command may have.
-use Rattle.std.proofs.Common.{◌≡◌, ◌∙◌, ℕ, suc, ◌+◌, ◌*◌, ◌<◌, ◌≤◌, ◌==◌, Bool, true, false, cond, List, [], ◌∷◌}
-use Rattle.std.proofs.Common.{length, map, Option, Some, None, inl, inr, refl, sym, ap, subst, arith}
-use Rattle.std.specs.Prelude.{◌&&◌, ◌||◌, filter, find, nat_lt, not, option_map, slice_get}
-use Rattle.std.specs.List.{AllByRecursion, IsDistinct, list_any}
+use Rattle.device.proofs.Common.{Answering, AreaReading, Awaiting, Bool, Deed, Describes, DeviceCore, Gathering}
+use Rattle.device.proofs.Common.{IsDoing, IsReadingArea, Keeps, List, None, Option, Phase, Pin, PinsDiffer, ReadBlock}
+use Rattle.device.proofs.Common.{ReadingArea, RpmbRequest, Sending, SendingBytes, Some, State, [], and_parts, ap, arith}
+use Rattle.device.proofs.Common.{before_accepted, cond, eq_self, eqb-true, false, false≢true, filter, find}
+use Rattle.device.proofs.Common.{greatest_command, has_room, inl, inr, is_pin_of, is_task_of, is_unfilled, keeps_for}
+use Rattle.device.proofs.Common.{le-leb, length, length-filter_both, length-map, list_any, map, most_tasks, nat_lt}
+use Rattle.device.proofs.Common.{nat_tests, none-some, not, option_map, or_parts, other_way, refl, same_Some, slice_get}
+use Rattle.device.proofs.Common.{slice_get_within, subst, suc, sym, task_of, true, wanted_by, wanted_in, wanted_kept}
+use Rattle.device.proofs.Common.{wanted_of, ℕ, ◌*◌, ◌+◌, ◌<◌, ◌==◌, ◌||◌, ◌∙◌, ◌∷◌, ◌≡◌, ◌≤◌}
+use Rattle.std.specs.Prelude.{◌&&◌}
+use Rattle.std.specs.List.{AllByRecursion, IsDistinct}
 use Rattle.std.proofs.Math.Dec.{eqb}
-use Rattle.std.proofs.lemmas.Bool.{le-leb}
-use Rattle.std.proofs.lemmas.Bool.Decides.{nat_tests}
-use Rattle.std.proofs.lemmas.List.{length-map}
-use Rattle.std.proofs.lemmas.List.Filters.{length-filter_both}
-use Rattle.std.proofs.lemmas.Option.{slice_get_within}
 use Rattle.std.proofs.lemmas.Map.Steps.{length-le_from_distinct_below}
 use Rattle.std.proofs.lemmas.Map.Views.{any-filter_same}
-use Rattle.ufs_spec.proofs.Facts.{and_parts, eqb-true, false≢true, none-some, or_parts, same_Some}
-use Rattle.ufs_spec.specs.Plain.{greatest_command}
 use Rattle.ufs_spec.specs.Exchanges as exchange
-use Rattle.ufs_spec.specs.Exchanges.{Answering, Awaiting, Deed, Gathering, ReadBlock, ReadingArea, RpmbRequest}
-use Rattle.ufs_spec.specs.Exchanges.{Sending, SendingBytes, is_task_of, is_unfilled, most_tasks, task_of}
-use Rattle.ufs_spec.specs.Ledger.{before_accepted}
-use Rattle.ufs_spec.specs.Moves.{is_pin_of}
-use Rattle.ufs_spec.specs.Refusals.{State}
-use Rattle.ufs_spec.specs.Translation.{Pin}
-use Rattle.power_loss.proofs.books.SmallFacts.{eq_self}
-use Rattle.power_loss.proofs.open_tasks.TaggedLists.{any_fewer, other_way}
-use Rattle.ftl_core.specs.Public.{PinsDiffer, keeps_for}
-use Rattle.task_set.specs.declared.frames.AreaReading.{AreaReading}
-use Rattle.task_set.specs.declared.tasks.Phase.{Phase}
+use Rattle.power_loss.proofs.open_tasks.TaggedLists.{any_fewer}
 use Rattle.task_set.specs.declared.tasks.Phase.TheVariants as phase
-use Rattle.device.specs.Calls.{has_room}
-use Rattle.device.specs.Describes.{Describes, IsDoing, IsReadingArea, Keeps, wanted_by, wanted_in, wanted_kept}
-use Rattle.device.specs.Describes.{wanted_of}
-use Rattle.device.specs.Kept.{DeviceCore}
 use Rattle.device.proofs.open_tasks.OpenTasks.{StandsOrNot, tag_stands}
 use Rattle.device.proofs.open_tasks.PageEnds.{few_read}
 

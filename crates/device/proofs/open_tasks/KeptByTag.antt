@@ -1,18 +1,12 @@
 -- What is kept for each tag, where the task of one tag changes, comes or goes: the pages that are wanted and the blocks
 -- in the slots that are claimed.
-use Rattle.std.proofs.Common.{◌≡◌, ◌∙◌, ℕ, ◌==◌, Bool, true, false, cond, List, [], ◌∷◌, ◌++◌, map, Option}
-use Rattle.std.proofs.Common.{Some, None, refl, sym, ap, subst}
-use Rattle.std.specs.Option.{option_or}
+use Rattle.device.proofs.Common.{Bool, Claims, Deed, List, None, Numbers, Option, Pin, Some, [], ap, claimed_by}
+use Rattle.device.proofs.Common.{claimed_in, claims_of, cond, eq_self, false, map, option_or, other_way, refl, subst}
+use Rattle.device.proofs.Common.{sym, task_of, true, wanted_by, wanted_in, wanted_kept, with_claimed, with_deed, ℕ}
+use Rattle.device.proofs.Common.{◌++◌, ◌==◌, ◌∙◌, ◌∷◌, ◌≡◌}
 use Rattle.ufs_spec.specs.Exchanges as exchange
-use Rattle.ufs_spec.specs.Exchanges.{Deed, task_of, with_deed}
-use Rattle.ufs_spec.specs.Translation.{Pin}
-use Rattle.power_loss.proofs.books.SmallFacts.{eq_self}
-use Rattle.power_loss.proofs.open_tasks.TaggedLists.{other_way}
-use Rattle.ftl_core.specs.Public.{Claims, with_claimed}
-use Rattle.device.specs.Describes.{claimed_by, claimed_in, claims_of, wanted_by, wanted_in, wanted_kept}
 use Rattle.device.proofs.open_tasks.ReadProgress.{ChangesOne, KeepsTag, by_tag, deed_changes, deed_set, each_goes_on}
 use Rattle.device.proofs.open_tasks.ReadProgress.{one_goes_on, others_go_on, others_left, task_gone, task_more}
-use Rattle.ufs_spec.specs.declared.configs.Numbers.{Numbers}
 
 -- where a task comes, of a tag that none has, it is found, and the tasks of other tags are
 comes : (us : List exchange.Task) (b : exchange.Task) → task_of b.tag us ≡ None →

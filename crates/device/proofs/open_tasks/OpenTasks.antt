@@ -1,20 +1,14 @@
 -- The open tasks of the device and of the specification, task by task: what is found, added, changed and taken away.
-use Rattle.std.proofs.Common.{◌≡◌, ◌∙◌, ℕ, zero, suc, ◌+◌, ◌==◌, Bool, true, false, cond, List, [], ◌∷◌, ◌++◌, length}
-use Rattle.std.proofs.Common.{map, ◌⊎◌, Option, Some, None, refl, sym, ap, subst, inl, inr, arith}
-use Rattle.std.proofs.lemmas.Bool.Decides.{nat_tests}
-use Rattle.std.specs.Prelude.{nat_lt, not, option_map, position, remove, slice_get, slice_set}
-use Rattle.std.specs.List.{list_any, position_or_len}
-use Rattle.ufs_spec.proofs.Facts.{eqb-true, none-some, or_parts, same_Some}
+use Rattle.device.proofs.Common.{Bool, Deed, List, None, OpenTask, Option, Some, Task, TaskKept, TasksDiffer, TasksKept}
+use Rattle.device.proofs.Common.{[], ap, arith, cond, eq_self, eqb-true, false, held_at, if_false, if_true, inl, inr}
+use Rattle.device.proofs.Common.{is_task_of, length, list_any, map, nat_lt, nat_tests, none-some, not, option_map}
+use Rattle.device.proofs.Common.{or_parts, other_way, position, read_at, refl, remove, same_Some, slice_get, slice_set}
+use Rattle.device.proofs.Common.{subst, suc, sym, task_at, task_in, task_of, true, with_deed, zero, ℕ, ◌++◌, ◌+◌, ◌==◌}
+use Rattle.device.proofs.Common.{◌∙◌, ◌∷◌, ◌≡◌, ◌⊎◌}
+use Rattle.std.specs.List.{position_or_len}
 use Rattle.ufs_spec.specs.Exchanges as exchange
-use Rattle.ufs_spec.specs.Exchanges.{Deed, is_task_of, task_of, with_deed}
-use Rattle.power_loss.specs.Exchange.{TasksDiffer}
-use Rattle.power_loss.proofs.books.SmallFacts.{eq_self, if_false, if_true}
-use Rattle.power_loss.proofs.open_tasks.TaggedLists.{other_way}
 use Rattle.power_loss.proofs.open_tasks.TaskLists.{none_changed}
-use Rattle.task_set.specs.declared.tasks.Task.{Task}
-use Rattle.task_set.specs.Kept.{OpenTask, task_in}
-use Rattle.task_set.specs.Lists.{held_at, held_of, read_at, read_of, task_at}
-use Rattle.device.specs.Describes.{TaskKept, TasksKept}
+use Rattle.task_set.specs.Lists.{held_of, read_of}
 use Rattle.task_set.specs.Tasks as ours
 
 -- What is found

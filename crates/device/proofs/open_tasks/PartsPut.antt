@@ -1,15 +1,14 @@
 -- Where the parts of pages stand that a request for data asks for: behind its first frame, one behind the other.
-use Rattle.std.proofs.Common.{◌≡◌, ◌∙◌, ℕ, ◌+◌, ◌-◌, ◌*◌, ◌%◌, ◌==◌, ◌≤◌, ◌<◌, Bool, true, false, List, ◌++◌}
-use Rattle.std.proofs.Common.{drop, length, take, sym, ap, subst, arith}
-use Rattle.std.specs.Prelude.{if◌then◌else◌, min}
-use Rattle.std.proofs.lemmas.List.{append_assoc, drop-take, length-append, length-drop, length-take, length-take-le}
-use Rattle.std.proofs.lemmas.List.{take-append-le, take-take}
+use Rattle.device.proofs.Common.{AreaReading, Bool, List, ap, area_part, arith, drop, false, if◌then◌else◌, length}
+use Rattle.device.proofs.Common.{length-append, length-drop, length-take, length-take-le, min, part_held, part_of_page}
+use Rattle.device.proofs.Common.{subst, sym, take-append-le, take-take, true, ℕ, ◌*◌, ◌++◌, ◌+◌, ◌-◌, ◌<◌, ◌==◌, ◌∙◌}
+use Rattle.device.proofs.Common.{◌≡◌, ◌≤◌}
+use Rattle.std.proofs.Common.{take, ◌%◌}
+use Rattle.std.proofs.lemmas.List.{append_assoc, drop-take}
 use Rattle.std.proofs.Math.Seq.{drop-append_seam, take-append_seam}
 use Rattle.std.proofs.lemmas.Slice.{drop-append-drop}
-use Rattle.task_set.specs.Frames.{area_part, blocks_in_first, page_put, put_bytes}
+use Rattle.task_set.specs.Frames.{blocks_in_first, page_put, put_bytes}
 use Rattle.task_set.specs.declared.frames.AreaPart.{AreaPart}
-use Rattle.task_set.specs.declared.frames.AreaReading.{AreaReading}
-use Rattle.device.specs.Frames.{part_held, part_of_page}
 
 -- Bytes that are put
 

@@ -1,16 +1,10 @@
 -- How far the READs are: what is found for each tag where tasks and pins come, change and go.
-use Rattle.std.proofs.Common.{◌≡◌, ◌∙◌, ℕ, ◌==◌, ◌&&◌, Bool, true, false, cond, List, [], ◌∷◌, ◌++◌, map, Option}
-use Rattle.std.proofs.Common.{Some, None, refl, sym, ap, subst}
-use Rattle.std.specs.Prelude.{filter, find, if◌then◌else◌, not, option_map}
-use Rattle.std.specs.Option.{option_or}
+use Rattle.device.proofs.Common.{Bool, Deed, List, None, Option, Pin, Some, [], and_parts, ap, cond, eqb-true, false}
+use Rattle.device.proofs.Common.{false≢true, filter, find, found_is, if◌then◌else◌, is_pin_of, is_task_of, map, not}
+use Rattle.device.proofs.Common.{option_map, option_or, refl, subst, sym, task_of, true, wanted_kept, with_deed}
+use Rattle.device.proofs.Common.{with_wanted, ℕ, ◌&&◌, ◌++◌, ◌==◌, ◌∙◌, ◌∷◌, ◌≡◌}
 use Rattle.std.proofs.lemmas.List.Folds.{find-append}
-use Rattle.ufs_spec.proofs.Facts.{and_parts, eqb-true, false≢true}
 use Rattle.ufs_spec.specs.Exchanges as exchange
-use Rattle.ufs_spec.specs.Exchanges.{Deed, is_task_of, task_of, with_deed}
-use Rattle.ufs_spec.specs.Moves.{is_pin_of, with_wanted}
-use Rattle.ufs_spec.specs.Translation.{Pin}
-use Rattle.power_loss.proofs.open_tasks.FoundInLists.{found_is}
-use Rattle.device.specs.Describes.{wanted_kept}
 
 -- What is found in a list
 

@@ -1,34 +1,24 @@
 -- What the end of a read for a task leaves: the block or the page of the area was read and has the content that it had
 -- when it was looked up, or the task is told that it could not be read.
-use Rattle.std.proofs.Common.{◌≡◌, ◌∙◌, ◌⊎◌, ℕ, ◌==◌, ◌&&◌, Bool, true, false, cond, List, [], inl, inr, length}
-use Rattle.std.proofs.Common.{map, Option, Some, None, slice_get, refl, sym, ap, subst, arith}
-use Rattle.std.specs.Prelude.{if◌then◌else◌, nat_lt, option_map}
-use Rattle.std.proofs.lemmas.Bool.{le-ltb}
-use Rattle.ufs_spec.proofs.Facts.{and_parts, eqb-true, false≢true, none-some, same_Some}
-use Rattle.ufs_spec.proofs.Lists.{set_other, set_there}
+use Rattle.device.proofs.Common.{Answering, Awaiting, Bool, Deed, Gathering, List, None, NotRead, Numbers, OpenTask}
+use Rattle.device.proofs.Common.{Option, Phase, Pin, ReadBlock, ReadState, ReadingArea, RpmbRequest, Sending}
+use Rattle.device.proofs.Common.{SendingBytes, Some, TaskKept, TasksDiffer, TasksKept, Unread, WasRead, [], and_parts}
+use Rattle.device.proofs.Common.{ap, arith, claimed_in, cond, deed_read, eq_self, eqb-true, false, false≢true, found_is}
+use Rattle.device.proofs.Common.{found_task, if_true, if◌then◌else◌, inl, inr, is_sender, is_task_of, is_unfilled}
+use Rattle.device.proofs.Common.{is_unread, le-ltb, length, map, nat_lt, none-some, option_map, read_for, refl}
+use Rattle.device.proofs.Common.{same_Some, set_other, set_state, set_there, subst, sym, task_after, task_of, true}
+use Rattle.device.proofs.Common.{wanted_by, wanted_in, wanted_kept, wanted_of, with_wanted, ℕ, ◌&&◌, ◌==◌, ◌∙◌, ◌≡◌}
+use Rattle.device.proofs.Common.{◌⊎◌}
+use Rattle.std.proofs.Common.{slice_get}
 use Rattle.ufs_spec.specs.Exchanges as exchange
-use Rattle.ufs_spec.specs.Exchanges.{Answering, Awaiting, Deed, Gathering, NotRead, ReadBlock, ReadState, ReadingArea}
-use Rattle.ufs_spec.specs.Exchanges.{RpmbRequest, Sending, SendingBytes, Unread, WasRead, is_task_of, is_unfilled}
-use Rattle.ufs_spec.specs.Exchanges.{task_of}
-use Rattle.ufs_spec.specs.Machine.{deed_read, set_state, task_read, with_block}
-use Rattle.ufs_spec.specs.Moves.{with_wanted}
-use Rattle.ufs_spec.specs.Translation.{Pin}
-use Rattle.power_loss.specs.Exchange.{TasksDiffer}
-use Rattle.power_loss.proofs.books.SmallFacts.{eq_self, if_true}
-use Rattle.power_loss.proofs.open_tasks.FoundInLists.{found_is}
-use Rattle.power_loss.proofs.open_tasks.TaskLists.{found_task}
-use Rattle.task_set.specs.declared.tasks.Phase.{Phase}
+use Rattle.ufs_spec.specs.Machine.{task_read, with_block}
 use Rattle.task_set.specs.declared.tasks.Phase.TheVariants as phase
-use Rattle.task_set.specs.Kept.{OpenTask}
 use Rattle.task_set.specs.declared.tasks.TaskEvent.TheVariants as event
-use Rattle.device.specs.Describes.{TaskKept, TasksKept, claimed_in, is_unread, wanted_by, wanted_in, wanted_kept}
-use Rattle.device.specs.Describes.{wanted_of}
-use Rattle.task_set.specs.Tasks.{after_lost_read, after_read, is_sender, read_for, task_after}
+use Rattle.task_set.specs.Tasks.{after_lost_read, after_read}
 use Rattle.device.proofs.open_tasks.BlockEnds.{block_lost, block_read, set_read}
 use Rattle.device.proofs.open_tasks.OpenTasks.{each_changed}
 use Rattle.device.proofs.open_tasks.PageEnds.{page_lost, page_read}
 use Rattle.device.proofs.open_tasks.ReadProgress.{ChangesOne, want_other_index, want_set}
-use Rattle.ufs_spec.specs.declared.configs.Numbers.{Numbers}
 
 -- The block that is read
 

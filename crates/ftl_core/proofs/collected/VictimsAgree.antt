@@ -1,24 +1,17 @@
 -- What is found of the blocks in what is kept is what the specified layer has of them: the live pages of each, the
 -- block to be collected, and whether something is to be collected at all.
-use Rattle.std.proofs.Common.{◌≡◌, ◌∙◌, ◌&&◌, ◌||◌, Bool, true, false, not, List, [], ◌∷◌, None, ap, refl}
-use Rattle.std.proofs.Common.{sym, count_by, filter, length, map}
-use Rattle.std.specs.Prelude.{nat_lt}
-use Rattle.std.specs.List.{list_any}
-use Rattle.ufs_spec.proofs.Facts.{and_parts, ltb-true}
+use Rattle.ftl_core.proofs.Common.{Bool, Core, Describes, List, None, Sizes, Spot, Translation, [], and_parts, ap}
+use Rattle.ftl_core.proofs.Common.{bad_blocks, below, block_kept, false, has_block, has_few_free, is_bad}
+use Rattle.ftl_core.proofs.Common.{is_bad_with_live, is_live, length, list_any, ltb-true, map, nat_lt, refl, sizes_of}
+use Rattle.ftl_core.proofs.Common.{spots, spots_in, state_of, sym, true, victim, ◌∙◌, ◌∷◌, ◌≡◌}
+use Rattle.std.proofs.Common.{count_by, filter, not, ◌&&◌, ◌||◌}
 use Rattle.ufs_spec.specs.Disk as disk
-use Rattle.ufs_spec.specs.Disk.{Spot, place_in}
-use Rattle.ufs_spec.specs.Keys.{below}
+use Rattle.ufs_spec.specs.Disk.{place_in}
 use Rattle.ufs_spec.specs.Translation as layer
-use Rattle.ufs_spec.specs.Translation.{Translation, count_blocks, least_of, spots, wanted_room}
-use Rattle.block_table.specs.Blocks.{is_bad}
-use Rattle.block_table.specs.Lives.{gains, has_block, is_live, live_count, spots_in}
-use Rattle.block_table.specs.declared.Sizes.{Sizes}
+use Rattle.ufs_spec.specs.Translation.{count_blocks, least_of, wanted_room}
+use Rattle.block_table.specs.Lives.{gains, live_count}
 use Rattle.block_table.proofs.Relations.{any_same, victim_same}
-use Rattle.ftl_core.specs.Collects.{has_few_free, is_bad_with_live, is_pinned, may_be_victim, victim, wants_collection}
-use Rattle.ftl_core.specs.Core.{Core}
-use Rattle.ftl_core.specs.Describes.{Describes, block_kept}
-use Rattle.ftl_core.specs.KnownLive.{sizes_of}
-use Rattle.ftl_core.specs.Moves.{bad_blocks, state_of}
+use Rattle.ftl_core.specs.Collects.{is_pinned, may_be_victim, wants_collection}
 use Rattle.ftl_core.proofs.job_taken.NextErases.{state_is}
 use Rattle.ftl_core.proofs.live_pages.NamesLive.{live_named}
 use Rattle.ftl_core.proofs.opened.FoundBlocks.{some_one}

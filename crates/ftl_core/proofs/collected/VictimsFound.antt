@@ -1,21 +1,17 @@
 -- What the block table finds with its pin counts is what is said of the core, which has none.
-use Rattle.std.proofs.Common.{◌≡◌, ◌∙◌, ℕ, ◌+◌, ◌*◌, ◌&&◌, Option, Some, None, true, not, ap, refl, subst, sym}
-use Rattle.std.specs.Prelude.{All, IfSome, is_some, nat_lt, option_map, slice_get, unwrap_or}
-use Rattle.std.specs.List.{list_any}
-use Rattle.ufs_spec.proofs.Facts.{and_parts, ltb-true}
-use Rattle.ufs_spec.specs.Disk.{Spot}
+use Rattle.ftl_core.proofs.Common.{All, Collection, Inside, IsRoomy, None, Option, Some, Spot, UnitMap, and_parts, ap}
+use Rattle.ftl_core.proofs.Common.{core_of, has_block, has_few_free, is_bad, is_bad_with_live, is_some, list_any}
+use Rattle.ftl_core.proofs.Common.{ltb-true, nat_lt, option_map, refl, slice_get, spots_in, state_of, subst, sym, true}
+use Rattle.ftl_core.proofs.Common.{unwrap_or, victim, ℕ, ◌*◌, ◌+◌, ◌∙◌, ◌≡◌}
+use Rattle.std.proofs.Common.{not, ◌&&◌}
+use Rattle.std.specs.Prelude.{IfSome}
 use Rattle.block_table.specs.Blocks as table
-use Rattle.block_table.specs.Blocks.{is_bad}
 use Rattle.block_table.specs.Lives as lives
-use Rattle.block_table.specs.Lives.{gains, has_block, live_count, spots_in}
+use Rattle.block_table.specs.Lives.{gains, live_count}
 use Rattle.block_table.specs.declared.BlockState.TheVariants as state
 use Rattle.block_table.proofs.Relations.{any_same, victim_same}
-use Rattle.collector.specs.Plans.{Collection, IsCollected, IsNamed, IsPlanned, Plans, live_below, victim_of}
-use Rattle.unit_map.specs.Places.{UnitMap}
-use Rattle.ftl_core.specs.declared.ftl.Ftl.TheInside.{Inside}
-use Rattle.ftl_core.specs.Collects.{has_few_free, is_bad_with_live, is_pinned, may_be_victim, victim}
-use Rattle.ftl_core.specs.Moves.{state_of}
-use Rattle.ftl_core.specs.Rooms.{IsRoomy, core_of}
+use Rattle.collector.specs.Plans.{IsCollected, IsNamed, IsPlanned, Plans, live_below, victim_of}
+use Rattle.ftl_core.specs.Collects.{is_pinned, may_be_victim}
 use Rattle.ftl_core.specs.Turns.{IsBegunIf}
 use Rattle.ftl_core.proofs.live_pages.PinsCounted.{pinned_is}
 

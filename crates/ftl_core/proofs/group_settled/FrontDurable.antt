@@ -1,21 +1,13 @@
 -- The groups at the front whose pages are all written become durable one by one, and the frontier climbs over them.
-use Rattle.std.proofs.Common.{◌≡◌, ◌∙◌, ℕ, zero, suc, ◌<◌, ◌≤◌, true, List, Option, Some, None, length, drop}
-use Rattle.std.proofs.Common.{map, refl, sym, ap, subst, ⊎_elim, arith}
-use Rattle.std.specs.Prelude.{◌-◌, option_map, slice_get}
-use Rattle.std.proofs.lemmas.Option.{slice_get_within}
+use Rattle.ftl_core.proofs.Common.{Core, Entry, Item, Kept, List, None, Numbers, Option, PagesKept, Some, Translation}
+use Rattle.ftl_core.proofs.Common.{ap, arith, before_accepted, climbed, drop, entry_of, front_written, group_durable}
+use Rattle.ftl_core.proofs.Common.{is_mended, is_pin_of, length, map, names_after, option_map, refl, settled}
+use Rattle.ftl_core.proofs.Common.{settled_pin, slice_get, slice_get_within, subst, suc, sym, true, true≢false, zero, ℕ}
+use Rattle.ftl_core.proofs.Common.{⊎_elim, ◌-◌, ◌<◌, ◌∙◌, ◌≡◌, ◌≤◌}
 use Rattle.ufs_spec.specs.Keys as keys
-use Rattle.ufs_spec.specs.Keys.{Item}
-use Rattle.ufs_spec.proofs.Facts.{true≢false}
-use Rattle.ufs_spec.specs.Ledger.{Entry, before_accepted, climbed, climbs, entry_in, entry_of, is_standing}
+use Rattle.ufs_spec.specs.Ledger.{climbs, entry_in, is_standing}
 use Rattle.ufs_spec.specs.Moves as moves
-use Rattle.ufs_spec.specs.Moves.{settled_pin}
-use Rattle.ufs_spec.specs.Translation.{Translation, is_mended, names_after}
-use Rattle.ufs_spec.specs.declared.configs.Numbers.{Numbers}
 use Rattle.power_loss.proofs.books.FrontierClimbs.{climb}
-use Rattle.ftl_core.specs.Core.{Core}
-use Rattle.ftl_core.specs.Describes.{Kept, PagesKept}
-use Rattle.ftl_core.specs.Ends.{front_written, group_durable, settled}
-use Rattle.readers.specs.Pins.{is_pin_of}
 use Rattle.ftl_core.proofs.group_settled.FrontLedger.{BehindKept, GroupsRight, IsNextWhole, goes_on, ledger_next, made}
 use Rattle.ftl_core.proofs.group_settled.FrontLedger.{made_is, next_whole, none_whole}
 use Rattle.ftl_core.proofs.group_settled.FrontPages.{entry_next}

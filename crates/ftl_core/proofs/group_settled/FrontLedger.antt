@@ -1,31 +1,16 @@
 -- One group more is durable: what is kept of pages and places goes on to be what the ledger has.
-use Rattle.std.proofs.Common.{◌≡◌, ◌∙◌, ℕ, suc, ◌+◌, ◌<◌, ◌≤◌, Bool, true, false, List, [], ◌∷◌, ◌++◌, Option, Some}
-use Rattle.std.proofs.Common.{None, length, drop, map, take, refl, sym, ap, subst, ⊎_elim, arith}
-use Rattle.std.specs.Prelude.{◌-◌, filter, fold, if◌then◌else◌, is_some, slice_get}
-use Rattle.std.specs.List.{list_any}
-use Rattle.std.proofs.lemmas.Option.{slice_get_within}
+use Rattle.ftl_core.proofs.Common.{Bool, Core, Entry, IsKey, IsPageAt, Item, Key, Ledger, LedgerKept, List, Name, None}
+use Rattle.ftl_core.proofs.Common.{Numbers, Option, PagesKept, Pending, Some, Standing, Stored, Translation, Valid, []}
+use Rattle.ftl_core.proofs.Common.{all_stand, ap, arith, before_accepted, book, climbed, drop, entry_of, false, filter}
+use Rattle.ftl_core.proofs.Common.{fold, front_written, group_durable, if_false, if_true, if◌then◌else◌, index_in}
+use Rattle.ftl_core.proofs.Common.{is_of_group, is_some, is_unwritten, latest_durable, latest_in, length, list_any, map}
+use Rattle.ftl_core.proofs.Common.{name_or, names_after, page_durable, pending, refl, risen, shape_of_numbers}
+use Rattle.ftl_core.proofs.Common.{slice_get, slice_get_within, stored_of, subst, suc, sym, take, true, two_ways, ℕ}
+use Rattle.ftl_core.proofs.Common.{⊎_elim, ◌++◌, ◌+◌, ◌-◌, ◌<◌, ◌∙◌, ◌∷◌, ◌≡◌, ◌≤◌}
 use Rattle.ufs_spec.specs.Keys as keys
-use Rattle.ufs_spec.specs.Keys.{IsKey, Item}
-use Rattle.ufs_spec.specs.Ledger.{Entry, Ledger, all_stand, before_accepted, climbed, entry_of, index_in}
-use Rattle.ufs_spec.specs.Ledger.{latest_durable, latest_in, name_or, pending}
 use Rattle.ufs_spec.specs.Moves.{KeysDiffer}
-use Rattle.ufs_spec.specs.Plain.{shape_of_numbers}
-use Rattle.ufs_spec.specs.Translation.{Translation, names_after}
-use Rattle.ufs_spec.specs.declared.configs.Numbers.{Numbers}
-use Rattle.ufs_spec.specs.declared.flash.Key.{Key}
-use Rattle.ufs_spec.specs.declared.layer.Name.{Name}
-use Rattle.power_loss.specs.Book.{IsPageAt, book}
-use Rattle.power_loss.specs.Invariant.{Valid}
 use Rattle.power_loss.proofs.books.PagesByName.{new_page}
-use Rattle.power_loss.proofs.books.SmallFacts.{if_false, if_true, two_ways}
-use Rattle.write_cache.specs.declared.slots.Pending.{Pending}
-use Rattle.unit_map.specs.declared.Stored.{Stored}
-use Rattle.ftl_core.specs.Core.{Core}
-use Rattle.ftl_core.specs.Describes.{LedgerKept, PagesKept, Standing}
-use Rattle.ftl_core.specs.Ends.{front_written, group_durable, page_durable, risen}
-use Rattle.write_cache.specs.Slots.{is_of_group, is_unwritten}
 use Rattle.write_cache.specs.Slots.{whole_group}
-use Rattle.ftl_core.specs.Moves.{stored_of}
 use Rattle.ftl_core.proofs.group_settled.FrontPages.{AreItemPages, AreStandingPages, FrontPages, behind_front}
 use Rattle.ftl_core.proofs.group_settled.FrontPages.{front_pages, front_standing, front_whole, group_stands, of_front}
 use Rattle.ftl_core.proofs.group_settled.FrontPlaces.{places_same, stored_next}

@@ -1,26 +1,17 @@
 -- The pages of the first group that is pending: they are the first of all pages, one for each item of the group.
-use Rattle.std.proofs.Common.{◌≡◌, ◌∙◌, ℕ, zero, suc, ◌+◌, ◌<◌, ◌≤◌, Bool, true, false, List, [], ◌∷◌, ◌++◌, Option}
-use Rattle.std.proofs.Common.{Some, None, length, drop, take, refl, sym, ap, subst, arith}
-use Rattle.std.specs.Prelude.{◌-◌, ◌==◌, ◌||◌, ◌&&◌, filter, if◌then◌else◌, is_none, is_some, nat_le, not}
-use Rattle.std.specs.Prelude.{option_and_then, option_map, slice_get}
-use Rattle.std.specs.List.{list_any}
-use Rattle.std.proofs.lemmas.List.{append-nil, length-map, take-append-drop}
-use Rattle.std.proofs.lemmas.List.Elements.{filter-append}
-use Rattle.std.proofs.lemmas.List.Folds.{list_any-append}
-use Rattle.ufs_spec.specs.Keys.{Group, Item, below}
-use Rattle.ufs_spec.specs.Ledger.{Entry, Ledger, all_stand, entry_in, entry_of}
-use Rattle.ufs_spec.specs.Translation.{names_after, names_of}
-use Rattle.ufs_spec.specs.declared.flash.Key.{Key}
-use Rattle.ufs_spec.specs.declared.flash.Place.{Place}
-use Rattle.ufs_spec.specs.declared.layer.Name.{Name}
-use Rattle.ufs_spec.proofs.Facts.{and_parts, eq-eqb, false≢true, lt-leb, or_parts, or_with_false, same_Some}
-use Rattle.ufs_spec.proofs.Lists.{length-below, none_passes}
+use Rattle.ftl_core.proofs.Common.{Bool, Entry, Group, Item, Key, Ledger, List, Name, None, Option, PageKept, PagesKept}
+use Rattle.ftl_core.proofs.Common.{Pending, Place, Some, Standing, [], all_stand, and_parts, ap, append-nil, arith}
+use Rattle.ftl_core.proofs.Common.{at_has, below, drop, entry_of, eq-eqb, false, false≢true, filter, filter-append}
+use Rattle.ftl_core.proofs.Common.{if_false, if◌then◌else◌, is_none, is_of_group, is_some, is_unwritten, length}
+use Rattle.ftl_core.proofs.Common.{length-below, length-map, list_any, list_any-append, name_at, names_after, names_of}
+use Rattle.ftl_core.proofs.Common.{nat_le, not, option_and_then, option_map, or_parts, refl, same_Some, slice_get}
+use Rattle.ftl_core.proofs.Common.{subst, suc, sym, take, true, zero, ℕ, ◌&&◌, ◌++◌, ◌+◌, ◌-◌, ◌<◌, ◌==◌, ◌||◌, ◌∙◌}
+use Rattle.ftl_core.proofs.Common.{◌∷◌, ◌≡◌, ◌≤◌}
+use Rattle.std.proofs.lemmas.List.{take-append-drop}
+use Rattle.ufs_spec.specs.Ledger.{entry_in}
+use Rattle.ufs_spec.proofs.Facts.{lt-leb, or_with_false}
+use Rattle.ufs_spec.proofs.Lists.{none_passes}
 use Rattle.power_loss.proofs.books.FrontierClimbs.{stands_each}
-use Rattle.power_loss.proofs.books.SmallFacts.{if_false}
-use Rattle.power_loss.proofs.ordered_lists.ElementsAndOrders.{at_has}
-use Rattle.write_cache.specs.declared.slots.Pending.{Pending}
-use Rattle.ftl_core.specs.Describes.{PageKept, PagesKept, Standing, name_at}
-use Rattle.write_cache.specs.Slots.{is_of_group, is_unwritten}
 use Rattle.ftl_core.proofs.group_settled.Settling.{others}
 use Rattle.ftl_core.proofs.pages.NamesBehind.{get_name, in_names}
 use Rattle.ftl_core.proofs.pages.PagesNamed.{pages_apart, pages_get, same_count}

@@ -1,26 +1,14 @@
 -- The pages of the first group become durable one by one: what is kept of the places of addresses.
-use Rattle.std.proofs.Common.{◌≡◌, ◌≢◌, ◌∙◌, ℕ, suc, ◌+◌, ◌≤◌, true, false, List, [], ◌∷◌, Option, Some, None, length}
-use Rattle.std.proofs.Common.{refl, sym, ap, subst, ⊎_elim, arith}
-use Rattle.std.specs.Prelude.{fold, option_map, position, slice_get}
-use Rattle.ufs_spec.specs.Keys.{IsKey, Item, same_key}
-use Rattle.ufs_spec.specs.Ledger.{name_or}
+use Rattle.ftl_core.proofs.Common.{Core, IsKey, Item, Key, List, Name, None, Option, Pending, Place, Some, Standing}
+use Rattle.ftl_core.proofs.Common.{Stored, [], ap, arith, false, false≢true, fold, key_total, length, name_or, noted}
+use Rattle.ftl_core.proofs.Common.{option_map, page_at, page_durable, page_durable_at, position, position_of, refl}
+use Rattle.ftl_core.proofs.Common.{shape_of_numbers, slice_get, stored_of, subst, suc, sym, true, two_ways, ℕ, ⊎_elim}
+use Rattle.ftl_core.proofs.Common.{◌+◌, ◌∙◌, ◌∷◌, ◌≡◌, ◌≢◌, ◌≤◌}
+use Rattle.ufs_spec.specs.Keys.{same_key}
 use Rattle.ufs_spec.specs.Moves.{KeysDiffer}
-use Rattle.ufs_spec.specs.Plain.{shape_of_numbers}
-use Rattle.ufs_spec.specs.declared.flash.Key.{Key}
-use Rattle.ufs_spec.specs.declared.flash.Place.{Place}
-use Rattle.ufs_spec.specs.declared.layer.Name.{Name}
-use Rattle.ufs_spec.proofs.Facts.{false≢true}
 use Rattle.ufs_spec.proofs.Lists.{position_behind, position_here}
 use Rattle.power_loss.proofs.books.LastOfEachKey.{key_self, key_told}
-use Rattle.power_loss.proofs.books.SmallFacts.{two_ways}
-use Rattle.geometry.specs.Keys.{key_total}
-use Rattle.write_cache.specs.declared.slots.Pending.{Pending}
-use Rattle.unit_map.specs.declared.Stored.{Stored}
-use Rattle.ftl_core.specs.Core.{Core}
-use Rattle.ftl_core.specs.Describes.{Standing}
-use Rattle.ftl_core.specs.Ends.{noted, page_at, page_durable, page_durable_at, pins_moved}
-use Rattle.ftl_core.specs.Moves.{stored_of}
-use Rattle.unit_map.specs.Places.{position_of}
+use Rattle.ftl_core.specs.Ends.{pins_moved}
 use Rattle.ftl_core.proofs.group_settled.FrontPages.{AreStandingPages}
 use Rattle.ftl_core.proofs.group_settled.NotedPlaces.{places_length, stored_here, stored_other}
 use Rattle.ftl_core.proofs.pages.StoredNames.{AreAlike, stored_is}

@@ -1,24 +1,12 @@
 -- The page of a group is written, and the groups at the front become durable.
-use Rattle.std.proofs.Common.{◌≡◌, ℕ, true, List, Some, sym, subst}
-use Rattle.std.specs.Prelude.{slice_set}
+use Rattle.ftl_core.proofs.Common.{Core, Describes, DieRow, Kept, List, OpenBlock, Some, Tag, Translation, group_ended}
+use Rattle.ftl_core.proofs.Common.{is_mended, name_of, next_place, page_written, pending_written, settled, slice_set}
+use Rattle.ftl_core.proofs.Common.{step_after, subst, sym, true, with_live, ℕ, ◌≡◌}
 use Rattle.ufs_spec.specs.Moves as moves
-use Rattle.ufs_spec.specs.Moves.{step_after}
-use Rattle.ufs_spec.specs.Translation.{Translation, is_mended, name_of}
-use Rattle.ufs_spec.specs.declared.flash.Tag.{Tag}
-use Rattle.block_table.specs.Lives.{with_live}
-use Rattle.block_table.specs.declared.rows.DieRow.{DieRow}
-use Rattle.block_table.specs.declared.rows.OpenBlock.{OpenBlock}
-use Rattle.ftl_core.specs.Core.{Core}
-use Rattle.ftl_core.specs.Describes.{Describes, Kept}
-use Rattle.ftl_core.specs.Ends.{pending_written, settled}
-use Rattle.ftl_core.specs.Gives.{group_ended}
-use Rattle.ftl_core.specs.Moves.{page_written}
-use Rattle.ftl_core.specs.Takes.{next_place}
 use Rattle.ftl_core.proofs.group_settled.FrontDurable.{MayClimb, all_settled, climbed_of}
 use Rattle.ftl_core.proofs.group_settled.FrontLedger.{GroupsRight, groups_right}
 use Rattle.ftl_core.proofs.group_settled.PageStands.{IsPending, written_there}
-use Rattle.ftl_core.proofs.group_settled.PageWritten.{IsGroupFlight, flown_mended, flown_new, flown_pending}
-use Rattle.ftl_core.proofs.group_settled.PageWritten.{page_kept}
+use Rattle.ftl_core.proofs.group_settled.PageWritten.{IsGroupFlight, flown_mended, flown_new, flown_pending, page_kept}
 use Rattle.ftl_core.proofs.group_settled.PageWritten.{with_group_page}
 use Rattle.ftl_core.proofs.look_and_accept.Numbers.{IsRepair, no_repair_mended, step_stays}
 

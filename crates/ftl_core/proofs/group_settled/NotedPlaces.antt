@@ -1,17 +1,8 @@
 -- Where addresses read from once the place of one of them is noted.
-use Rattle.std.proofs.Common.{◌≡◌, ◌≢◌, ◌∙◌, ℕ, ◌<◌, ◌≤◌, List, Option, Some, None, length, refl, sym, ap, subst, arith}
-use Rattle.std.specs.Prelude.{slice_get, option_and_then}
-use Rattle.ufs_spec.specs.Keys.{IsKey}
-use Rattle.ufs_spec.specs.Plain.{shape_of_numbers}
-use Rattle.ufs_spec.specs.declared.flash.Key.{Key}
-use Rattle.ufs_spec.proofs.Lists.{set_here, set_other, set_length}
-use Rattle.geometry.specs.Keys.{key_total}
-use Rattle.unit_map.specs.declared.Stored.{Stored}
-use Rattle.ftl_core.specs.Core.{Core}
-use Rattle.unit_map.specs.Places.{places_noted}
-use Rattle.ftl_core.specs.Moves.{stored_of}
-use Rattle.unit_map.specs.Places.{position_of}
-use Rattle.unit_map.specs.Places.{flat}
+use Rattle.ftl_core.proofs.Common.{Core, IsKey, Key, List, None, Option, Some, Stored, ap, arith, flat, key_total}
+use Rattle.ftl_core.proofs.Common.{length, option_and_then, places_noted, position_of, refl, set_length}
+use Rattle.ftl_core.proofs.Common.{shape_of_numbers, slice_get, stored_of, subst, sym, ℕ, ◌<◌, ◌∙◌, ◌≡◌, ◌≢◌, ◌≤◌}
+use Rattle.ufs_spec.proofs.Lists.{set_here, set_other}
 use Rattle.unit_map.proofs.KeyPlaces.{HasPosition, has_position, one_position}
 
 places_here : (ps : List (Option Stored)) (s : Stored) (o : Option ℕ) (at : ℕ) → o ≡ Some at → at < length ps →

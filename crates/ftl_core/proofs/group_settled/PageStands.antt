@@ -1,34 +1,15 @@
 -- The page of a pending group stands: what is kept of pages, places and flights before any group becomes durable.
-use Rattle.std.proofs.Common.{◌≡◌, ◌≢◌, ◌∙◌, ℕ, true, false, List, Option, Some, None, refl, sym, ap, subst}
-use Rattle.std.proofs.Common.{⊎_elim}
-use Rattle.std.specs.Prelude.{position, slice_get, slice_set}
-use Rattle.ufs_spec.proofs.Facts.{same_Some}
-use Rattle.ufs_spec.proofs.Lists.{set_length}
+use Rattle.ftl_core.proofs.Common.{Core, DieRow, Entry, Flight, GroupPage, IsFlight, IsIn, Kept, Ledger, LedgerKept}
+use Rattle.ftl_core.proofs.Common.{List, Name, None, Numbers, OpenBlock, Option, PageKept, PagesFly, PagesKept, Pending}
+use Rattle.ftl_core.proofs.Common.{Place, Some, Standing, Step, Stored, Translation, WritesGroup, ap, at_die, entry_of}
+use Rattle.ftl_core.proofs.Common.{false, flies_name, is_named, latest_durable, name_cases, name_is, name_of, name_self}
+use Rattle.ftl_core.proofs.Common.{names_pending, none_some, pending, pending_written, position, refl, same_Some}
+use Rattle.ftl_core.proofs.Common.{same_name, set_length, slice_get, slice_set, stored_in, subst, sym, true, with_live}
+use Rattle.ftl_core.proofs.Common.{written_at, written_if, ℕ, ⊎_elim, ◌∙◌, ◌≡◌, ◌≢◌}
 use Rattle.ufs_spec.specs.Disk as disk
-use Rattle.ufs_spec.specs.Disk.{at_die}
-use Rattle.ufs_spec.specs.Ledger.{Entry, Ledger, at_name, entry_of, latest_durable, pending, same_name}
-use Rattle.ufs_spec.specs.Translation.{Translation, flies_name, name_of}
-use Rattle.ufs_spec.specs.declared.configs.Numbers.{Numbers}
-use Rattle.ufs_spec.specs.declared.flash.Place.{Place}
-use Rattle.power_loss.proofs.books.PagesByName.{none_some}
-use Rattle.power_loss.proofs.books.SmallFacts.{at_name_cases, name_is, name_cases, name_self}
-use Rattle.power_loss.proofs.ordered_lists.ElementsAndOrders.{IsIn}
-use Rattle.write_cache.specs.declared.slots.Pending.{Pending}
-use Rattle.block_table.specs.Lives.{with_live}
-use Rattle.unit_map.specs.declared.Stored.{Stored}
-use Rattle.block_table.specs.declared.rows.OpenBlock.{OpenBlock}
-use Rattle.block_table.specs.declared.rows.DieRow.{DieRow}
-use Rattle.block_table.specs.declared.rows.Flight.{Flight}
+use Rattle.ufs_spec.specs.Ledger.{at_name}
+use Rattle.power_loss.proofs.books.SmallFacts.{at_name_cases}
 use Rattle.block_table.specs.declared.rows.Flight.TheVariants as flight
-use Rattle.ftl_core.specs.declared.books.Step.{Step}
-use Rattle.ufs_spec.specs.Cells.{GroupPage}
-use Rattle.ufs_spec.specs.declared.layer.Name.{Name}
-use Rattle.ftl_core.specs.Core.{Core}
-use Rattle.ftl_core.specs.Describes.{IsFlight, Kept, LedgerKept, PageKept, PagesFly, PagesKept, Standing}
-use Rattle.ftl_core.specs.Describes.{WritesGroup, names_pending}
-use Rattle.ftl_core.specs.Ends.{pending_written}
-use Rattle.write_cache.specs.Slots.{is_named, written_at, written_if}
-use Rattle.unit_map.specs.Places.{stored_in}
 use Rattle.ftl_core.proofs.job_taken.Flown.{fly_over, wrote_before}
 use Rattle.ftl_core.proofs.opened.ListParts.{get_set}
 use Rattle.ftl_core.proofs.pages.NamesBehind.{names_differ}

@@ -1,36 +1,20 @@
 -- The page of a group is written, before any group is durable by that.
-use Rattle.std.proofs.Common.{◌≡◌, ◌∙◌, ℕ, suc, ◌+◌, ◌<◌, ◌≤◌, true, false, List, Option, Some, None, length, drop}
-use Rattle.std.proofs.Common.{refl, sym, ap, subst, ⊎_elim, arith}
-use Rattle.std.specs.Prelude.{◌-◌, slice_get, slice_set}
-use Rattle.ufs_spec.specs.Cells.{GroupPage}
+use Rattle.ftl_core.proofs.Common.{BlockState, BlocksKept, Core, Describes, DieRow, Entry, GroupPage, IsFilling, IsIn}
+use Rattle.ftl_core.proofs.Common.{IsLastRepair, IsPageAt, Kept, List, Mended, Mending, MendingRight, Name, None}
+use Rattle.ftl_core.proofs.Common.{Numbers, OpenBlock, Option, Pending, Place, Repairing, Some, Tag, Translation}
+use Rattle.ftl_core.proofs.Common.{Unmarked, Valid, WorkKept, ap, arith, at_spot, book, drop, false, flies_name}
+use Rattle.ftl_core.proofs.Common.{get_drop, is_mended, last_number, length, name_of, name_self, names_after}
+use Rattle.ftl_core.proofs.Common.{names_pending, next_place, none_some, page_within, page_written, refl, repairs_in}
+use Rattle.ftl_core.proofs.Common.{slice_get, slice_set, spot_at, step_after, subst, suc, sym, true, two_ways}
+use Rattle.ftl_core.proofs.Common.{with_live, ℕ, ⊎_elim, ◌+◌, ◌-◌, ◌<◌, ◌∙◌, ◌≡◌, ◌≤◌}
 use Rattle.ufs_spec.specs.Disk as disk
-use Rattle.ufs_spec.specs.Disk.{at_spot, programmed}
+use Rattle.ufs_spec.specs.Disk.{programmed}
 use Rattle.ufs_spec.specs.Keys as keys
-use Rattle.ufs_spec.specs.Ledger.{Entry}
-use Rattle.ufs_spec.specs.Moves.{step_after}
-use Rattle.ufs_spec.specs.Translation.{Mended, Mending, Repairing, Step, Translation, Unmarked, flies_name}
-use Rattle.ufs_spec.specs.Translation.{is_mended, name_of, names_after}
-use Rattle.ufs_spec.specs.declared.configs.Numbers.{Numbers}
-use Rattle.ufs_spec.specs.declared.flash.Place.{Place}
-use Rattle.ufs_spec.specs.declared.flash.Tag.{Tag}
-use Rattle.ufs_spec.specs.declared.layer.Name.{Name}
-use Rattle.power_loss.specs.Book.{IsPageAt, book, last_number}
-use Rattle.power_loss.proofs.books.FrontierClimbs.{get_drop, in_group}
-use Rattle.power_loss.specs.Invariant.{IsLastRepair, MendingRight, Valid}
-use Rattle.power_loss.proofs.books.PagesByName.{at_most, none_some, page_within}
-use Rattle.power_loss.proofs.books.SmallFacts.{name_self, two_ways}
-use Rattle.power_loss.proofs.ordered_lists.ElementsAndOrders.{IsIn}
-use Rattle.block_table.specs.Lives.{with_live}
-use Rattle.block_table.specs.declared.BlockState.{BlockState}
+use Rattle.ufs_spec.specs.Translation.{Step}
+use Rattle.power_loss.proofs.books.FrontierClimbs.{in_group}
+use Rattle.power_loss.proofs.books.PagesByName.{at_most}
 use Rattle.block_table.specs.declared.BlockState.TheVariants as state
-use Rattle.block_table.specs.declared.rows.DieRow.{DieRow}
 use Rattle.block_table.specs.declared.rows.Flight.TheVariants as flight
-use Rattle.block_table.specs.declared.rows.OpenBlock.{OpenBlock}
-use Rattle.write_cache.specs.declared.slots.Pending.{Pending}
-use Rattle.ftl_core.specs.Core.{Core}
-use Rattle.ftl_core.specs.Describes.{BlocksKept, Describes, IsFilling, Kept, WorkKept, names_pending, spot_at}
-use Rattle.ftl_core.specs.Moves.{page_written, repairs_in}
-use Rattle.ftl_core.specs.Takes.{next_place}
 use Rattle.ftl_core.proofs.job_ended.ChangeParts.{blocks_on, blocks_put, closed_fills, elsewhere, filling_kept}
 use Rattle.ftl_core.proofs.job_ended.ChangeParts.{page_ends, states_with}
 use Rattle.ftl_core.proofs.job_taken.Flown.{die_within, dies_put, reads_over, step_reads_over}

@@ -1,20 +1,12 @@
 -- One group more becomes durable, or none does: as the functions do it.
-use Rattle.std.proofs.Common.{◌≡◌, ◌∙◌, ◌⊎◌, ℕ, zero, suc, ◌+◌, ◌<◌, ◌≤◌, List, [], ◌∷◌, length, Option, None, Some}
-use Rattle.std.proofs.Common.{Bool, true, false, ap, arith, drop, refl, sym, subst, inl, inr, ⊎_elim, take}
-use Rattle.std.specs.Prelude.{◌-◌, filter, fold, not, if◌then◌else◌, option_map, slice_get}
-use Rattle.std.specs.List.{list_any}
-use Rattle.ufs_spec.specs.declared.flash.Place.{Place}
-use Rattle.power_loss.proofs.books.SmallFacts.{eq_self}
-use Rattle.block_table.specs.Lives.{Lives}
+use Rattle.ftl_core.proofs.Common.{Bool, Core, List, Lives, None, Option, Pending, Pin, Place, Some, Stored, [], ap}
+use Rattle.ftl_core.proofs.Common.{arith, drop, eq_self, false, filter, fold, front_written, group_durable}
+use Rattle.ftl_core.proofs.Common.{if◌then◌else◌, inl, inr, is_of_group, is_unwritten, length, list_any, not}
+use Rattle.ftl_core.proofs.Common.{option_map, page_durable, page_durable_at, refl, risen, settled, slice_get, subst}
+use Rattle.ftl_core.proofs.Common.{suc, sym, take, true, zero, ℕ, ⊎_elim, ◌+◌, ◌-◌, ◌<◌, ◌∙◌, ◌∷◌, ◌≡◌, ◌≤◌, ◌⊎◌}
 use Rattle.write_cache.specs.declared.slots.Landed.{Landed}
-use Rattle.write_cache.specs.declared.slots.Pending.{Pending}
-use Rattle.readers.specs.declared.pin.Pin.{Pin}
-use Rattle.unit_map.specs.declared.Stored.{Stored}
-use Rattle.ftl_core.specs.Core.{Core}
-use Rattle.ftl_core.specs.Ends.{front_written, group_durable, landed_at, page_landed, pages_landed}
-use Rattle.write_cache.specs.Slots.{is_of_group, is_unwritten, landed}
-use Rattle.ftl_core.specs.Ends.{page_durable, page_durable_at, risen, settled, settled_by}
-use Rattle.write_cache.specs.Slots.{whole_group}
+use Rattle.ftl_core.specs.Ends.{landed_at, page_landed, pages_landed, settled_by}
+use Rattle.write_cache.specs.Slots.{landed, whole_group}
 
 -- Pages of one group and of others
 

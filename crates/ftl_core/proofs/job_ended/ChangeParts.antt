@@ -1,32 +1,21 @@
 -- What describes a translation layer once the program or the erase of one die ended.
-use Rattle.std.proofs.Common.{◌≡◌, ◌≢◌, ◌∙◌, ◌⊎◌, ℕ, ◌+◌, ◌<◌, Bool, true, false, List, [], Option, Some, None, map}
-use Rattle.std.proofs.Common.{refl, sym, ap, subst, inl, inr, ⊎_elim, arith, lt-ltb}
-use Rattle.std.proofs.lemmas.Bool.Decides.{eqb_tells, nat_tests}
-use Rattle.std.specs.Prelude.{◌-◌, ◌*◌, ◌==◌, drop, nat_lt, slice_get, slice_set, All}
-use Rattle.ufs_spec.specs.Cells.{Cells, Mark}
-use Rattle.ufs_spec.specs.declared.configs.Numbers.{Numbers}
-use Rattle.ufs_spec.specs.declared.flash.Place.{Place}
+use Rattle.ftl_core.proofs.Common.{All, BlockState, BlocksKept, Bool, Cells, Core, DieRow, IsFilling, IsFlight}
+use Rattle.ftl_core.proofs.Common.{IsInNoSlot, Kept, Ledger, LedgerKept, List, Mark, None, Numbers, OpenBlock, Option}
+use Rattle.ftl_core.proofs.Common.{PagesFly, Pending, Pin, PinsKept, Place, Some, Spot, Step, StepReadsKept, Stored}
+use Rattle.ftl_core.proofs.Common.{Translation, WorkKept, [], ap, arith, at_die, at_spot, at_spot_cases, block_kept}
+use Rattle.ftl_core.proofs.Common.{entry_of, eqb_tells, false, filling_but, if_false, if_true, inl, inr, is_mended}
+use Rattle.ftl_core.proofs.Common.{lt-ltb, map, nat_lt, nat_tests, page_written, refl, slice_get, slice_set, spot_at}
+use Rattle.ftl_core.proofs.Common.{spots, state_after, subst, sym, true, with_row, ℕ, ⊎_elim, ◌+◌, ◌-◌, ◌<◌, ◌==◌, ◌∙◌}
+use Rattle.ftl_core.proofs.Common.{◌≡◌, ◌≢◌, ◌⊎◌}
+use Rattle.std.specs.Prelude.{drop, ◌*◌}
 use Rattle.ufs_spec.specs.Disk as disk
-use Rattle.ufs_spec.specs.Disk.{Spot, at_die, at_spot, state_after}
-use Rattle.ufs_spec.specs.Ledger.{Ledger, entry_of}
-use Rattle.ufs_spec.specs.Translation.{Translation, Work, is_mended, spots}
-use Rattle.power_loss.proofs.books.SmallFacts.{at_spot_cases, if_false, if_true}
-use Rattle.ftl_core.specs.Core.{Core}
-use Rattle.block_table.specs.declared.BlockState.{BlockState}
+use Rattle.ufs_spec.specs.Translation.{Work}
 use Rattle.block_table.specs.declared.BlockState.TheVariants as state
-use Rattle.block_table.specs.declared.rows.DieRow.{DieRow}
 use Rattle.ftl_core.specs.declared.books.Mending.{Mending}
-use Rattle.block_table.specs.declared.rows.OpenBlock.{OpenBlock}
-use Rattle.write_cache.specs.declared.slots.Pending.{Pending}
-use Rattle.ftl_core.specs.declared.books.Step.{Step}
-use Rattle.unit_map.specs.declared.Stored.{Stored}
-use Rattle.ftl_core.specs.Describes.{BlocksKept, IsFilling, IsFlight, Kept, LedgerKept, PagesFly, PinsKept}
-use Rattle.ftl_core.specs.Describes.{StepReadsKept, WorkKept, block_kept, spot_at, IsInNoSlot}
-use Rattle.block_table.specs.Rows.{failed_set, filling_but}
-use Rattle.ftl_core.specs.Moves.{flight_set, page_written, rows_failed, rows_in_flight, with_row, with_state}
+use Rattle.block_table.specs.Rows.{failed_set}
+use Rattle.ftl_core.specs.Moves.{flight_set, rows_failed, rows_in_flight, with_state}
 use Rattle.ftl_core.proofs.job_taken.Flown.{dies_changed, reads_over, step_reads_over}
 use Rattle.ftl_core.proofs.opened.Spots.{block_lost, block_put, block_vacant}
-use Rattle.readers.specs.declared.pin.Pin.{Pin}
 
 -- The job that ends
 

@@ -1,19 +1,11 @@
 -- A page's program fails, or a block is erased or could not be.
-use Rattle.std.proofs.Common.{◌≡◌, ℕ, ◌<◌, false, List, Some, None, refl, sym, subst}
-use Rattle.std.specs.Prelude.{slice_get}
-use Rattle.ufs_spec.specs.Cells.{Cells}
+use Rattle.ftl_core.proofs.Common.{BlocksKept, Cells, Core, Describes, DieRow, IsFilling, Kept, List, None, OpenBlock}
+use Rattle.ftl_core.proofs.Common.{Some, Spot, Translation, at_place, at_spot, false, filling_but, next_place, refl}
+use Rattle.ftl_core.proofs.Common.{slice_get, spot_at, subst, sym, went_bad, with_row, ℕ, ◌<◌, ◌≡◌}
 use Rattle.ufs_spec.specs.Disk as disk
-use Rattle.ufs_spec.specs.Disk.{Spot, at_place, at_spot}
-use Rattle.ufs_spec.specs.Translation.{Translation}
 use Rattle.power_loss.specs.Invariant.{EraseRight}
-use Rattle.ftl_core.specs.Core.{Core}
-use Rattle.block_table.specs.Rows.{filling_but}
 use Rattle.block_table.specs.declared.BlockState.TheVariants as state
-use Rattle.block_table.specs.declared.rows.DieRow.{DieRow}
-use Rattle.block_table.specs.declared.rows.OpenBlock.{OpenBlock}
-use Rattle.ftl_core.specs.Describes.{BlocksKept, Describes, IsFilling, Kept, spot_at}
-use Rattle.ftl_core.specs.Moves.{erased, went_bad, with_row}
-use Rattle.ftl_core.specs.Takes.{next_place}
+use Rattle.ftl_core.specs.Moves.{erased}
 use Rattle.ftl_core.proofs.job_ended.ChangeParts.{blocks_lost, blocks_vacant, changed, failed_rows, filling_kept}
 use Rattle.ftl_core.proofs.job_ended.ChangeParts.{idle_rows, kept_over, same_put, states_with}
 use Rattle.ftl_core.proofs.job_ended.JobsOver.{filling_failed}

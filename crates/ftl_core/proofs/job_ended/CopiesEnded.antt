@@ -1,42 +1,21 @@
 -- The program of a copy ends well: the page stands where its copy is.
-use Rattle.std.proofs.Common.{◌≡◌, ◌≢◌, ◌∙◌, ℕ, ◌+◌, ◌<◌, ◌≤◌, Bool, true, false, List, Option, Some, None}
-use Rattle.std.proofs.Common.{refl, sym, ap, subst, ⊎_elim, arith, leb-true}
-use Rattle.std.specs.Prelude.{◌==◌, find, nat_le, slice_get}
-use Rattle.std.proofs.lemmas.Bool.Decides.{eqb_tells, nat_tests}
-use Rattle.ufs_spec.proofs.CellKinds.{page_not_nothing}
-use Rattle.ufs_spec.proofs.Facts.{false≢true, same_Some}
-use Rattle.ufs_spec.specs.Cells.{Cells, GroupPage, key_of}
+use Rattle.ftl_core.proofs.Common.{BlockState, BlocksKept, Bool, Cells, CopyKept, CopyStep, Core, Describes, DieRow}
+use Rattle.ftl_core.proofs.Common.{Entry, GroupPage, IsFilling, IsPageAt, IsStepCell, Kept, Key, Ledger, LedgerKept}
+use Rattle.ftl_core.proofs.Common.{List, Lives, Name, None, Numbers, OpenBlock, Option, PageKept, Pending, Place, Some}
+use Rattle.ftl_core.proofs.Common.{Step, StepKept, Stored, Tag, Translation, ap, arith, at_has, at_place, at_spot, book}
+use Rattle.ftl_core.proofs.Common.{copy_durable, copy_over, copy_pending, entry_of, eqb_tells, false, false≢true, find}
+use Rattle.ftl_core.proofs.Common.{flies_name, if_false, if_true, is_mended, is_named, key_of, name_of, name_self}
+use Rattle.ftl_core.proofs.Common.{names_pending, nat_le, nat_tests, next_place, noted, page_not_nothing, page_written}
+use Rattle.ftl_core.proofs.Common.{pending, places_noted, position_of, refl, same_Some, settled, slice_get, spot_at}
+use Rattle.ftl_core.proofs.Common.{step_after, stored_of, subst, sym, true, ℕ, ⊎_elim, ◌+◌, ◌<◌, ◌==◌, ◌∙◌, ◌≡◌, ◌≢◌}
+use Rattle.ftl_core.proofs.Common.{◌≤◌}
+use Rattle.std.proofs.Common.{leb-true}
 use Rattle.ufs_spec.specs.Disk as disk
-use Rattle.ufs_spec.specs.Disk.{at_place, at_spot}
-use Rattle.ufs_spec.specs.Ledger.{Entry, Ledger, entry_of}
 use Rattle.ufs_spec.specs.Moves as moves
-use Rattle.ufs_spec.specs.Moves.{step_after}
 use Rattle.ufs_spec.specs.Translation as layer
-use Rattle.ufs_spec.specs.Translation.{CopyStep, Translation, flies_name, is_mended, name_of}
-use Rattle.ufs_spec.specs.declared.configs.Numbers.{Numbers}
-use Rattle.ufs_spec.specs.declared.flash.Key.{Key}
-use Rattle.ufs_spec.specs.declared.flash.Place.{Place}
-use Rattle.ufs_spec.specs.declared.flash.Tag.{Tag}
-use Rattle.power_loss.specs.Book.{IsPageAt, book}
-use Rattle.power_loss.proofs.books.SmallFacts.{if_false, if_true, name_self}
-use Rattle.block_table.specs.Lives.{Lives}
-use Rattle.block_table.specs.declared.BlockState.{BlockState}
 use Rattle.block_table.specs.declared.BlockState.TheVariants as state
-use Rattle.block_table.specs.declared.rows.OpenBlock.{OpenBlock}
-use Rattle.unit_map.specs.Places.{places_noted, position_of}
-use Rattle.unit_map.specs.declared.Stored.{Stored}
-use Rattle.write_cache.specs.Slots.{is_named}
-use Rattle.write_cache.specs.declared.slots.Pending.{Pending}
-use Rattle.block_table.specs.declared.rows.DieRow.{DieRow}
-use Rattle.ftl_core.specs.declared.books.Step.{Step}
 use Rattle.ftl_core.specs.declared.books.Step.TheVariants as steps
-use Rattle.ftl_core.specs.Core.{Core}
-use Rattle.ftl_core.specs.Describes.{BlocksKept, CopyKept, Describes, IsFilling, IsStepCell, Kept, LedgerKept, StepKept}
-use Rattle.ftl_core.specs.Describes.{PageKept, names_pending, spot_at}
-use Rattle.ftl_core.specs.Ends.{copy_durable, copy_over, copy_pending, noted, settled}
 use Rattle.ftl_core.specs.KnownLive.{live_moved, page_moved}
-use Rattle.ftl_core.specs.Moves.{page_written, stored_of}
-use Rattle.ftl_core.specs.Takes.{next_place}
 use Rattle.ftl_core.proofs.group_settled.FrontDurable.{MayClimb, all_settled, climbed_of}
 use Rattle.ftl_core.proofs.group_settled.FrontLedger.{GroupsRight, groups_right}
 use Rattle.ftl_core.proofs.group_settled.PageStands.{IsPending, fly_written, with_page, writers_fly}
@@ -49,19 +28,15 @@ use Rattle.ftl_core.proofs.job_ended.JobsOver.{filling_on, filling_over}
 use Rattle.ftl_core.proofs.job_ended.StepsOver.{none_reads, suits_next}
 use Rattle.ftl_core.proofs.job_taken.Flown.{copy_name, die_within, dies_changed, reads_over}
 use Rattle.ftl_core.proofs.live_pages.CopiesLive.{durable_known, pending_known}
-use Rattle.ftl_core.proofs.live_pages.DurableLive.{AllKnown, AreKnown, AreOthers, settled_known}
+use Rattle.ftl_core.proofs.live_pages.DurableLive.{AllKnown, AreKnown, AreOthers, settled_known, written_right}
 use Rattle.ftl_core.proofs.live_pages.NotedLive.{IsPageOf}
 use Rattle.ftl_core.proofs.live_pages.ProgramsLive.{all_apart, all_new, all_others, blank, is_page, known_on, owned}
 use Rattle.ftl_core.proofs.live_pages.ProgramsLive.{stays}
-use Rattle.ftl_core.proofs.live_pages.DurableLive.{written_right}
 use Rattle.ftl_core.proofs.live_pages.SameLive.{Knows, facts, written_same}
 use Rattle.ftl_core.proofs.live_pages.StoredPages.{pending_apart, pending_new, pending_right}
 use Rattle.ftl_core.proofs.look_and_accept.Numbers.{IsRepair}
 use Rattle.ftl_core.proofs.pages.NamesBehind.{in_names}
 use Rattle.ftl_core.proofs.pages.PagesNamed.{pages_get}
-use Rattle.power_loss.proofs.ordered_lists.ElementsAndOrders.{at_has}
-use Rattle.ufs_spec.specs.Ledger.{pending}
-use Rattle.ufs_spec.specs.declared.layer.Name.{Name}
 
 -- The copy that is under way
 

@@ -1,30 +1,21 @@
 -- The page that is still to be copied stays, and so does the step that copies it, until it was read.
-use Rattle.std.proofs.Common.{◌≡◌, ◌≢◌, ◌∙◌, ◌⊎◌, ℕ, Bool, true, false, List, Option, Some, None, refl, sym, ap, subst}
-use Rattle.std.proofs.Common.{⊎_elim, arith}
-use Rattle.std.specs.Prelude.{◌==◌, ◌∷◌, All, [], if◌then◌else◌, map, option_map}
-use Rattle.ufs_spec.proofs.CellKinds.{page_not_nothing}
-use Rattle.ufs_spec.proofs.Facts.{false≢true, true≢false}
+use Rattle.ftl_core.proofs.Common.{All, All-cons, All-head, All-nil, All-tail, Bool, Cell, Cells, Collection}
+use Rattle.ftl_core.proofs.Common.{CopiesKnown, CopyStep, EndJob, Ending, Fence, ForNobody, ForRest, ForStep, ForTask}
+use Rattle.ftl_core.proofs.Common.{GroupPage, IsNeededPage, IsOf, List, MarkPage, MayEnd, Name, None, Nothing, Option}
+use Rattle.ftl_core.proofs.Common.{Place, PlannedCopy, ReadRight, ReadWrong, Some, Spot, StepKind, Tag, Translation}
+use Rattle.ftl_core.proofs.Common.{Valid, Want, WentWell, WentWrong, ap, arith, at_place, end_flight, false, false≢true}
+use Rattle.ftl_core.proofs.Common.{if◌then◌else◌, layer_plan, mark_again, moved, name_of, option_map, page_not_nothing}
+use Rattle.ftl_core.proofs.Common.{place_of, refl, step_after, step_there, subst, sym, true, true≢false, want_at}
+use Rattle.ftl_core.proofs.Common.{wants_of_step, ℕ, ⊎_elim, ◌==◌, ◌∙◌, ◌≡◌, ◌≢◌, ◌⊎◌}
+use Rattle.std.specs.Prelude.{[], map, ◌∷◌}
 use Rattle.ufs_spec.proofs.Updates.{at_place_cases}
-use Rattle.ufs_spec.specs.Cells.{Cell, Cells, GroupPage, MarkPage, Nothing}
 use Rattle.ufs_spec.specs.Disk as disk
-use Rattle.ufs_spec.specs.Disk.{CellCrash, Spot, Touches, at_place, flight_alone}
-use Rattle.ufs_spec.specs.Disk.{same_spot, spot_of}
+use Rattle.ufs_spec.specs.Disk.{CellCrash, Touches, flight_alone, same_spot, spot_of}
 use Rattle.ufs_spec.specs.Moves as moves
 use Rattle.ufs_spec.specs.Translation as layer
-use Rattle.ufs_spec.specs.Moves.{EndJob, Ending, MayEnd, ReadRight, ReadWrong, WentWell, WentWrong, end_flight}
-use Rattle.ufs_spec.specs.Moves.{is_kind_of, job_ended, mark_again, moved, step_after, step_there}
-use Rattle.ufs_spec.specs.Translation.{CopyStep, Step, StepKind, Translation, Want, has_mark_number, mark_ordered}
-use Rattle.ufs_spec.specs.Translation.{name_of, want_at, wants_of_step}
-use Rattle.ufs_spec.specs.declared.flash.Fence.{Fence}
-use Rattle.ufs_spec.specs.declared.flash.Place.{Place}
-use Rattle.ufs_spec.specs.declared.flash.Tag.{Tag}
-use Rattle.ufs_spec.specs.declared.layer.Name.{Name}
-use Rattle.ufs_spec.specs.declared.layer.Reader.TheVariants.{ForNobody, ForRest, ForStep, ForTask}
-use Rattle.power_loss.specs.Invariant.{IsNeededPage, Valid}
-use Rattle.std.proofs.lemmas.List.Elements.{All-cons, All-head, All-nil, All-tail}
-use Rattle.collector.specs.Plans.{Collection, layer_plan, place_of}
-use Rattle.collector.specs.declared.PlannedCopy.{PlannedCopy}
-use Rattle.ftl_core.specs.Describes.{CopiesKnown, IsOf, copying}
+use Rattle.ufs_spec.specs.Moves.{is_kind_of, job_ended}
+use Rattle.ufs_spec.specs.Translation.{Step, has_mark_number, mark_ordered}
+use Rattle.ftl_core.specs.Describes.{copying}
 
 -- The step
 

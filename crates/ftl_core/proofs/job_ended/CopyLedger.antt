@@ -1,27 +1,13 @@
 -- The copy of a page stands: the places that are kept of contents and of pending pages are those of the ledger then.
-use Rattle.std.proofs.Common.{◌≡◌, ◌≢◌, ◌∙◌, ℕ, suc, ◌<◌, ◌≤◌, true, List, [], ◌∷◌, Option, Some, refl}
-use Rattle.std.proofs.Common.{sym, ap, subst, ⊎_elim, arith}
-use Rattle.std.specs.Prelude.{find, slice_get, slice_set}
+use Rattle.ftl_core.proofs.Common.{Core, Describes, Entry, HasKey, IsKey, IsPageAt, Key, LedgerKept, List, Name}
+use Rattle.ftl_core.proofs.Common.{Numbers, Option, PageKept, PagesKept, Pending, Place, Some, Standing, Stored}
+use Rattle.ftl_core.proofs.Common.{Translation, [], ap, arith, at_has, book, entry_of, find, is_mended, is_named}
+use Rattle.ftl_core.proofs.Common.{latest_durable, name_is, names_pending, pending, places_noted, position_of, refl}
+use Rattle.ftl_core.proofs.Common.{same_Some, shape_of_numbers, slice_get, slice_set, stored_in, stored_of, subst, suc}
+use Rattle.ftl_core.proofs.Common.{sym, true, written_at, written_if, ℕ, ⊎_elim, ◌<◌, ◌∙◌, ◌∷◌, ◌≡◌, ◌≢◌, ◌≤◌}
 use Rattle.ufs_spec.proofs.Equalities.{key_cases}
-use Rattle.ufs_spec.proofs.Facts.{same_Some}
-use Rattle.ufs_spec.specs.Keys.{IsKey}
-use Rattle.ufs_spec.specs.Ledger.{Entry, at_name, entry_of, latest_durable, pending}
-use Rattle.ufs_spec.specs.Plain.{shape_of_numbers}
-use Rattle.ufs_spec.specs.Translation.{Translation, is_mended}
-use Rattle.ufs_spec.specs.declared.configs.Numbers.{Numbers}
-use Rattle.ufs_spec.specs.declared.flash.Key.{Key}
-use Rattle.ufs_spec.specs.declared.flash.Place.{Place}
-use Rattle.ufs_spec.specs.declared.layer.Name.{Name}
-use Rattle.power_loss.specs.Book.{HasKey, IsPageAt, book}
-use Rattle.power_loss.proofs.books.SmallFacts.{name_is}
-use Rattle.power_loss.proofs.ordered_lists.ElementsAndOrders.{at_has}
-use Rattle.unit_map.specs.Places.{places_noted, position_of, stored_in}
-use Rattle.unit_map.specs.declared.Stored.{Stored}
-use Rattle.write_cache.specs.Slots.{is_named, page_written, written_at, written_if}
-use Rattle.write_cache.specs.declared.slots.Pending.{Pending}
-use Rattle.ftl_core.specs.Core.{Core}
-use Rattle.ftl_core.specs.Describes.{Describes, LedgerKept, PageKept, PagesKept, Standing, names_pending}
-use Rattle.ftl_core.specs.Moves.{stored_of}
+use Rattle.ufs_spec.specs.Ledger.{at_name}
+use Rattle.write_cache.specs.Slots.{page_written}
 use Rattle.ftl_core.proofs.group_settled.NotedPlaces.{places_length, stored_here, stored_other}
 use Rattle.ftl_core.proofs.group_settled.PageStands.{IsPending, at_here, at_other, pages_put, with_page}
 use Rattle.ftl_core.proofs.group_settled.PageWritten.{pending_of}

@@ -1,32 +1,21 @@
 -- The end of a die's job is the one that the definitions say.
-use Rattle.std.proofs.Common.{◌≡◌, ◌∙◌, ℕ, ◌<◌, Bool, true, false, List, Option, Some, None, refl, sym, ap, subst}
-use Rattle.std.specs.Prelude.{is_some, slice_get, option_map}
-use Rattle.ufs_spec.proofs.Facts.{false≢true}
-use Rattle.ufs_spec.specs.Cells.{Cell, Cells, GroupPage}
+use Rattle.ftl_core.proofs.Common.{Bool, Cell, Cells, Core, Describes, DieRow, EndJob, Ending, Flight, ForNobody}
+use Rattle.ftl_core.proofs.Common.{ForRest, ForStep, ForTask, GroupPage, IsEndingOf, IsFlightAfter, IsReadAfter}
+use Rattle.ftl_core.proofs.Common.{IsRowAfter, IsStepCell, Kept, List, MayEnd, None, OpenBlock, Option, Outcome, Place}
+use Rattle.ftl_core.proofs.Common.{Reader, Some, Spot, Tag, Translation, WentWell, WentWrong, all_keep, ap, end_flight}
+use Rattle.ftl_core.proofs.Common.{false, false≢true, is_read, is_some, moved, next_place, option_map, refl, repairs_in}
+use Rattle.ftl_core.proofs.Common.{slice_get, spot_at, subst, sym, true, ℕ, ◌<◌, ◌∙◌, ◌≡◌}
 use Rattle.ufs_spec.specs.Disk as disk
-use Rattle.ufs_spec.specs.Disk.{Spot}
-use Rattle.ufs_spec.specs.Moves.{EndJob, Ending, IsEndingOf, MayEnd, end_flight, WentWell, WentWrong, moved}
 use Rattle.ufs_spec.specs.Moves.{outcome_fits}
-use Rattle.ufs_spec.specs.Translation.{Translation}
-use Rattle.ufs_spec.specs.declared.flash.Outcome.{Outcome}
-use Rattle.ufs_spec.specs.declared.flash.Place.{Place}
-use Rattle.ufs_spec.specs.declared.flash.Tag.{Tag}
 use Rattle.ufs_spec.specs.declared.flash.Outcome.TheVariants as outcome
-use Rattle.ufs_spec.specs.declared.layer.Reader.{Reader}
-use Rattle.ufs_spec.specs.declared.layer.Reader.TheVariants.{ForNobody, ForRest, ForStep, ForTask}
 use Rattle.page_tag.specs.Jobs.{IsTagRead}
-use Rattle.power_loss.proofs.moves.MovesKeepValid.{all_keep}
-use Rattle.block_table.specs.declared.rows.DieRow.{DieRow}
-use Rattle.block_table.specs.declared.rows.Flight.{Flight}
 use Rattle.block_table.specs.declared.rows.Flight.TheVariants as flight
 use Rattle.ftl_core.specs.declared.ftl.Ended.{Ended}
 use Rattle.ftl_core.specs.Ended.{EndedNow, ended_now}
 use Rattle.ftl_core.specs.Ended as ended
-use Rattle.ftl_core.specs.Core.{Core}
-use Rattle.ftl_core.specs.Describes.{Describes, IsStepCell, IsTold, Kept, spot_at}
-use Rattle.ftl_core.specs.Moves.{repairs_in}
-use Rattle.ftl_core.specs.Done.{RowEnds, FlightEnds, IsRowAfter, IsCoreEnded, IsEnded, IsFlightAfter}
-use Rattle.ftl_core.specs.Gives.{GivesIf, IsReadAfter, is_read, other_for}
+use Rattle.ftl_core.specs.Describes.{IsTold}
+use Rattle.ftl_core.specs.Done.{FlightEnds, IsCoreEnded, IsEnded, RowEnds}
+use Rattle.ftl_core.specs.Gives.{GivesIf, other_for}
 use Rattle.ftl_core.specs.Gives as gives
 use Rattle.ftl_core.proofs.job_ended.ChangesEnded.{erase_ends_well, erase_ends_wrong, page_ends_wrong}
 use Rattle.ftl_core.proofs.job_ended.CopiesOn.{copies_on}
@@ -34,8 +23,6 @@ use Rattle.ftl_core.proofs.job_ended.SameClaims.{same_plan}
 use Rattle.ftl_core.proofs.job_ended.StepContent.{step_read_ends}
 use Rattle.ftl_core.proofs.job_ended.StepsEnded.{step_ends_well, step_ends_wrong}
 use Rattle.ftl_core.proofs.group_settled.GroupsEnded.{group_ends_well}
-use Rattle.ftl_core.specs.Takes.{next_place}
-use Rattle.block_table.specs.declared.rows.OpenBlock.{OpenBlock}
 use Rattle.ftl_core.proofs.job_taken.NextStarts.{outside}
 use Rattle.ftl_core.proofs.job_ended.ReadsEnded.{idle_kept, read_ends, task_kept}
 use Rattle.ftl_core.proofs.job_ended.ReadsGiven.{lost_told, rest_told, step_told, task_told}

@@ -1,15 +1,10 @@
 -- What is kept of a die's open block where the state of one of its blocks changes.
-use Rattle.std.proofs.Common.{◌≡◌, ◌≢◌, ◌∙◌, ℕ, ◌<◌, Option, Some, None, true, false, refl, sym, ap, subst, ⊎_elim}
-use Rattle.std.specs.Prelude.{◌==◌}
-use Rattle.std.proofs.lemmas.Bool.Decides.{eqb_tells}
-use Rattle.ufs_spec.specs.declared.configs.Numbers.{Numbers}
+use Rattle.ftl_core.proofs.Common.{IsFilling, None, Numbers, OpenBlock, Option, Some, Spot, ap, at_spot, at_spot_cases}
+use Rattle.ftl_core.proofs.Common.{eqb_tells, false, filling_but, if_false, if_true, refl, spot_at, subst, sym, true, ℕ}
+use Rattle.ftl_core.proofs.Common.{⊎_elim, ◌<◌, ◌==◌, ◌∙◌, ◌≡◌, ◌≢◌}
 use Rattle.ufs_spec.specs.Disk as disk
-use Rattle.ufs_spec.specs.Disk.{Spot, at_spot}
-use Rattle.power_loss.proofs.books.SmallFacts.{at_spot_cases, at_spot_is, if_false, if_true}
+use Rattle.power_loss.proofs.books.SmallFacts.{at_spot_is}
 use Rattle.power_loss.proofs.jobs.StandsSecurely.{at_spot_here}
-use Rattle.block_table.specs.Rows.{filling_but}
-use Rattle.block_table.specs.declared.rows.OpenBlock.{OpenBlock}
-use Rattle.ftl_core.specs.Describes.{IsFilling, spot_at}
 
 -- the block that was filled is filled no more
 pub filling_over : (n : Numbers) (blocks : Spot → disk.BlockState) (die : ℕ) (o : OpenBlock) (x : disk.BlockState) →

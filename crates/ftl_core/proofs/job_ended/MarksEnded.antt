@@ -1,45 +1,26 @@
 -- The program of a mark ends.
-use Rattle.std.proofs.Common.{◌≡◌, ◌∙◌, ℕ, suc, ◌+◌, ◌≤◌, Bool, true, false, List, Option, Some, None, length}
-use Rattle.std.proofs.Common.{refl, sym, ap, subst, inl, inr, ⊎_elim, arith}
-use Rattle.std.specs.Prelude.{if◌then◌else◌, nat_lt, nat_le, option_map, slice_get, drop}
-use Rattle.ufs_spec.proofs.Facts.{false≢true, true≢false}
-use Rattle.ufs_spec.specs.Pages.{greatest_number}
-use Rattle.ufs_spec.specs.Cells.{Cells, Mark, MarkPage}
-use Rattle.ufs_spec.specs.declared.configs.Numbers.{Numbers}
-use Rattle.ufs_spec.specs.declared.flash.Fence.{Fence}
-use Rattle.ufs_spec.specs.declared.flash.Key.{Key}
+use Rattle.ftl_core.proofs.Common.{AreToRepair, BlockState, BlocksKept, Bool, Cells, Collection, Core, Describes}
+use Rattle.ftl_core.proofs.Common.{DieRow, Fence, IsFilling, IsStepCell, Kept, Key, Ledger, List, Mark, MarkPage}
+use Rattle.ftl_core.proofs.Common.{Mended, Mending, MendingRight, Name, None, Numbers, OpenBlock, Option, Place}
+use Rattle.ftl_core.proofs.Common.{Repairing, Some, Spot, Step, StepKept, StepKind, Translation, Unmarked, Valid, ap}
+use Rattle.ftl_core.proofs.Common.{arith, at_place, at_spot_cases, before_accepted, book, false, false≢true}
+use Rattle.ftl_core.proofs.Common.{filling_but, greatest_number, if◌then◌else◌, inl, inr, is_mended, keys_to_repair}
+use Rattle.ftl_core.proofs.Common.{layer_plan, length, mark_again, mark_ordered, mark_over, mending_kept, nat_le}
+use Rattle.ftl_core.proofs.Common.{nat_lt, next_place, option_map, page_written, plan_over, refl, repairs_in, slice_get}
+use Rattle.ftl_core.proofs.Common.{spot_at, state_after, subst, suc, sym, true, true≢false, went_bad, ℕ, ⊎_elim, ◌+◌}
+use Rattle.ftl_core.proofs.Common.{◌∙◌, ◌≡◌, ◌≤◌}
+use Rattle.std.specs.Prelude.{drop}
 use Rattle.ufs_spec.specs.Disk as disk
-use Rattle.ufs_spec.specs.Disk.{Spot, at_place, state_after}
-use Rattle.ufs_spec.specs.declared.flash.Place.{Place}
-use Rattle.ufs_spec.specs.Ledger.{Ledger, before_accepted}
-use Rattle.ufs_spec.specs.Moves.{cell_failed, mark_again}
-use Rattle.ufs_spec.specs.Moves.{mark_written as layer_written, mending_after}
+use Rattle.ufs_spec.specs.Moves.{cell_failed, mark_written as layer_written, mending_after}
 use Rattle.ufs_spec.specs.Translation as layer
-use Rattle.ufs_spec.specs.Translation.{MarkStep, Mended, Mending, Repairing, StepKind, Translation, Unmarked}
-use Rattle.ufs_spec.specs.Translation.{is_mended}
-use Rattle.ufs_spec.specs.declared.layer.Name.{Name}
-use Rattle.power_loss.specs.Book.{book}
-use Rattle.power_loss.proofs.books.SmallFacts.{at_spot_cases}
+use Rattle.ufs_spec.specs.Translation.{MarkStep}
 use Rattle.power_loss.proofs.jobs.MarkEnded.{behind_unmended}
-use Rattle.power_loss.specs.Invariant.{MendingRight, Valid}
-use Rattle.ftl_core.specs.Core.{Core}
-use Rattle.block_table.specs.Rows.{filling_but}
-use Rattle.block_table.specs.declared.BlockState.{BlockState}
 use Rattle.block_table.specs.declared.BlockState.TheVariants as state
-use Rattle.block_table.specs.declared.rows.DieRow.{DieRow}
 use Rattle.ftl_core.specs.declared.books.Mending as kept
 use Rattle.ftl_core.specs.declared.books.Mending.TheVariants as mendings
-use Rattle.block_table.specs.declared.rows.OpenBlock.{OpenBlock}
-use Rattle.ftl_core.specs.declared.books.Step.{Step}
 use Rattle.ftl_core.specs.declared.books.Step.TheVariants as steps
-use Rattle.ftl_core.specs.Describes.{AreToRepair, BlocksKept, Describes, IsFilling, IsStepCell, Kept, StepKept}
-use Rattle.ftl_core.specs.Describes.{keys_to_repair, mending_kept, spot_at}
 use Rattle.ftl_core.specs.Ends as ends
-use Rattle.ftl_core.specs.Ends.{mark_over, plan_over}
 use Rattle.ftl_core.proofs.job_ended.PlansEnded.{IsFreeable, plan_frees, plan_stays}
-use Rattle.collector.specs.Plans.{Collection, layer_plan}
-use Rattle.ftl_core.specs.Moves.{mark_ordered, page_written, repairs_in, went_bad}
-use Rattle.ftl_core.specs.Takes.{next_place}
 use Rattle.ftl_core.proofs.job_ended.ChangeParts.{bad_fills, blocks_lost, blocks_on, blocks_put, blocks_with}
 use Rattle.ftl_core.proofs.job_ended.ChangeParts.{rows_with, changed, closed_fills, failed_rows, filling_kept}
 use Rattle.ftl_core.proofs.job_ended.ChangeParts.{kept_beside, ledger_marked, over, page_ends, states_with}

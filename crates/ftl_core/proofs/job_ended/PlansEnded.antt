@@ -1,25 +1,14 @@
 -- The collection that is begun is over: its block is free, unless it is bad.
-use Rattle.std.proofs.Common.{◌≡◌, ◌∙◌, ◌⊎◌, ℕ, ◌<◌, Bool, true, false, List, Option, Some, None, refl, sym, ap}
-use Rattle.std.proofs.Common.{subst, ⊎_elim}
-use Rattle.std.specs.Prelude.{◌-◌, if◌then◌else◌, nat_lt, option_map}
-use Rattle.ufs_spec.proofs.Facts.{none-some}
+use Rattle.ftl_core.proofs.Common.{BlockState, BlocksKept, Bool, Collection, Core, DieRow, Kept, List, None, OpenBlock}
+use Rattle.ftl_core.proofs.Common.{Option, Some, Spot, Translation, ap, at_spot, block_kept, false, if◌then◌else◌}
+use Rattle.ftl_core.proofs.Common.{layer_plan, nat_lt, none-some, option_map, page_written, plan_freed, plan_over, refl}
+use Rattle.ftl_core.proofs.Common.{state_of, subst, sym, true, ℕ, ⊎_elim, ◌-◌, ◌<◌, ◌∙◌, ◌≡◌, ◌⊎◌}
 use Rattle.ufs_spec.specs.Disk as disk
-use Rattle.ufs_spec.specs.Disk.{Spot, at_spot}
 use Rattle.ufs_spec.specs.Moves as moves
 use Rattle.ufs_spec.specs.Translation as layer
-use Rattle.ufs_spec.specs.Translation.{Translation}
 use Rattle.power_loss.proofs.jobs.StandsSecurely.{at_spot_other}
 use Rattle.block_table.specs.Blocks.{freed_state}
-use Rattle.block_table.specs.declared.BlockState.{BlockState}
-use Rattle.block_table.specs.declared.rows.OpenBlock.{OpenBlock}
-use Rattle.collector.specs.Plans.{Collection, layer_plan}
-use Rattle.block_table.specs.declared.rows.DieRow.{DieRow}
-use Rattle.ftl_core.specs.Core.{Core}
-use Rattle.ftl_core.specs.Describes.{BlocksKept, Kept, block_kept}
-use Rattle.ftl_core.specs.Ends.{plan_freed, plan_over}
-use Rattle.ftl_core.specs.Moves.{page_written, state_of}
-use Rattle.ftl_core.proofs.job_ended.ChangeParts.{bad_fills, blocks_lost_with, blocks_vacant, closed_fills}
-use Rattle.ftl_core.proofs.job_ended.ChangeParts.{states_with}
+use Rattle.ftl_core.proofs.job_ended.ChangeParts.{bad_fills, blocks_lost_with, blocks_vacant, closed_fills, states_with}
 use Rattle.ftl_core.proofs.job_ended.JobsOver.{filling_beside}
 use Rattle.ftl_core.proofs.job_taken.NextErases.{state_kept}
 

@@ -1,37 +1,19 @@
 -- A read ends.
-use Rattle.std.proofs.Common.{◌≡◌, ◌≢◌, ◌∙◌, ℕ, Bool, true, false, Some, None, map}
-use Rattle.std.proofs.Common.{refl, sym, ap, ⊎_elim}
-use Rattle.std.specs.Prelude.{if◌then◌else◌, find, option_map, slice_get}
-use Rattle.ufs_spec.proofs.Facts.{same_Some, false≢true}
-use Rattle.ufs_spec.specs.Cells.{Cells}
+use Rattle.ftl_core.proofs.Common.{All-map, Bool, Cells, Core, Describes, DieRow, Ending, ForTask, IsEndingOf}
+use Rattle.ftl_core.proofs.Common.{IsInNoSlot, IsWanted, Kept, Name, None, OnPage, Outcome, Pin, Place, ReadRight}
+use Rattle.ftl_core.proofs.Common.{ReadWrong, Reader, ReadsKept, Some, Translation, ap, at_die, at_die_cases, entry_of}
+use Rattle.ftl_core.proofs.Common.{false, false≢true, find, if◌then◌else◌, is_pin_of, is_read, map, none_some}
+use Rattle.ftl_core.proofs.Common.{option_map, refl, same_Some, slice_get, sym, true, two_ways, with_row, ℕ, ⊎_elim}
+use Rattle.ftl_core.proofs.Common.{◌∙◌, ◌≡◌, ◌≢◌}
 use Rattle.ufs_spec.specs.Disk as disk
-use Rattle.ufs_spec.specs.Disk.{at_die}
-use Rattle.ufs_spec.specs.Ledger.{entry_of}
-use Rattle.ufs_spec.specs.Moves.{Ending, IsEndingOf, ReadRight, ReadWrong, with_wanted}
-use Rattle.ufs_spec.specs.Translation.{Translation}
-use Rattle.ufs_spec.specs.declared.flash.Outcome.{Outcome}
+use Rattle.ufs_spec.specs.Moves.{with_wanted}
 use Rattle.ufs_spec.specs.declared.flash.Outcome.TheVariants as outcome
-use Rattle.ufs_spec.specs.declared.flash.Place.{Place}
-use Rattle.ufs_spec.specs.declared.layer.Looked.TheVariants.{OnPage}
-use Rattle.ufs_spec.specs.declared.layer.Name.{Name}
-use Rattle.ufs_spec.specs.declared.layer.Reader.{Reader}
-use Rattle.ufs_spec.specs.declared.layer.Reader.TheVariants.{ForTask}
-use Rattle.power_loss.proofs.books.PagesByName.{none_some}
-use Rattle.power_loss.proofs.books.SmallFacts.{at_die_cases, two_ways}
-use Rattle.block_table.specs.declared.rows.DieRow.{DieRow}
-use Rattle.readers.specs.declared.pin.Pin.{Pin}
-use Rattle.ftl_core.specs.Core.{Core}
-use Rattle.ftl_core.specs.Describes.{Describes, IsWanted, Kept, ReadsKept, IsInNoSlot}
-use Rattle.ftl_core.specs.Gives.{is_read}
 use Rattle.readers.specs.Pins.{wanted_no_more}
-use Rattle.ftl_core.specs.Moves.{with_row}
-use Rattle.readers.specs.Pins.{is_pin_of}
 use Rattle.ftl_core.proofs.job_taken.Flown.{dies_put, fly_over, reads_over, step_reads_over}
 use Rattle.ftl_core.proofs.pins.FoundPins.{found_mapped, found_passes, pin_told}
 use Rattle.ftl_core.proofs.pins.PinsAlike.{pins_mapped}
 use Rattle.ftl_core.proofs.pins.PinsDiffer.{differ_mapped}
 use Rattle.ftl_core.proofs.pins.PinsWanted.{wants_alike}
-use Rattle.std.proofs.lemmas.List.Elements.{All-map}
 
 -- How a read ends
 

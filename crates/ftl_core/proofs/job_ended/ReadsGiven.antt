@@ -1,40 +1,26 @@
 -- What the end of a read gives to its reader: the block, if the page is the one that was looked up.
-use Rattle.std.proofs.Common.{◌≡◌, ◌∙◌, ℕ, Bool, true, List, Option, Some, None, refl, sym, ap, subst}
-use Rattle.std.specs.Prelude.{◌&&◌, ◌==◌, find, slice_get}
-use Rattle.std.proofs.lemmas.Option.{get_or_from_slice_get, slice_get_within}
-use Rattle.ufs_spec.proofs.Facts.{false≢true, key_is}
-use Rattle.ufs_spec.specs.Cells.{Cells, GroupPage, IsCell, Opens, key_of}
+use Rattle.ftl_core.proofs.Common.{Bool, Cells, Core, Describes, Ending, Entry, ForNobody, ForRest, ForStep, ForTask}
+use Rattle.ftl_core.proofs.Common.{GroupPage, IsAnother, IsBodyOf, IsCell, IsEndingOf, IsLookOf, IsPageAt, IsWanted}
+use Rattle.ftl_core.proofs.Common.{Key, List, Looked, Name, None, OnPage, Option, Outcome, Page, Pin, PinKept, Place}
+use Rattle.ftl_core.proofs.Common.{ReadRight, ReadWrong, Reader, Some, Tag, Translation, Valid, WentWell, WentWrong}
+use Rattle.ftl_core.proofs.Common.{and_true, ap, book, entry_of, eq_self, false≢true, find, get_or_from_slice_get}
+use Rattle.ftl_core.proofs.Common.{is_pin_of, is_read, key_of, page_one, refl, slice_get, slice_get_within, subst, sym}
+use Rattle.ftl_core.proofs.Common.{true, ℕ, ◌&&◌, ◌==◌, ◌∙◌, ◌≡◌}
+use Rattle.ufs_spec.proofs.Facts.{key_is}
+use Rattle.ufs_spec.specs.Cells.{Opens}
 use Rattle.ufs_spec.specs.Disk as disk
-use Rattle.ufs_spec.specs.Ledger.{Entry, entry_of}
-use Rattle.ufs_spec.specs.Moves.{Ending, IsAnother, IsEndingOf, ReadRight, ReadWrong, WentWell, WentWrong}
 use Rattle.ufs_spec.specs.Translation as layer
-use Rattle.ufs_spec.specs.Translation.{Translation}
-use Rattle.ufs_spec.specs.declared.flash.Key.{Key}
-use Rattle.ufs_spec.specs.declared.flash.Outcome.{Outcome}
 use Rattle.ufs_spec.specs.declared.flash.Outcome.TheVariants as outcome
-use Rattle.ufs_spec.specs.declared.flash.Page.{Page}
-use Rattle.ufs_spec.specs.declared.flash.Place.{Place}
-use Rattle.ufs_spec.specs.declared.flash.Tag.{Tag}
-use Rattle.ufs_spec.specs.declared.layer.Looked.{Looked}
-use Rattle.ufs_spec.specs.declared.layer.Looked.TheVariants.{OnPage}
-use Rattle.ufs_spec.specs.declared.layer.Name.{Name}
-use Rattle.ufs_spec.specs.declared.layer.Reader.{Reader}
-use Rattle.ufs_spec.specs.declared.layer.Reader.TheVariants.{ForNobody, ForRest, ForStep, ForTask}
 use Rattle.ufs_laws.proofs.pages.SealedOnce.{body_opened}
-use Rattle.power_loss.specs.Book.{IsPageAt, book}
-use Rattle.power_loss.specs.Invariant.{IsGroupPage, LookedRight, Valid}
-use Rattle.power_loss.proofs.books.PagesByName.{page_one}
-use Rattle.power_loss.proofs.books.SmallFacts.{and_true, eq_self, eq_told}
-use Rattle.readers.specs.declared.pin.Pin.{Pin}
+use Rattle.power_loss.specs.Invariant.{IsGroupPage, LookedRight}
+use Rattle.power_loss.proofs.books.SmallFacts.{eq_told}
 use Rattle.ftl_core.specs.Ended.{EndedNow}
 use Rattle.ftl_core.specs.Ended as ended
-use Rattle.ftl_core.specs.Core.{Core}
-use Rattle.ftl_core.specs.Describes.{Describes, IsLookOf, IsTold, IsWanted, PinKept}
-use Rattle.ftl_core.specs.Gives.{Gives, GivesIf, IsBodyLooked, IsBodyOf, IsGivenTo, is_read, names}
+use Rattle.ftl_core.specs.Describes.{IsTold}
+use Rattle.ftl_core.specs.Gives.{Gives, GivesIf, IsBodyLooked, IsGivenTo, names}
 use Rattle.ftl_core.proofs.pins.PinsAlike.{pins_at}
 use Rattle.ftl_core.proofs.job_ended.ReadsEnded.{read_ends}
 use Rattle.ftl_core.proofs.pins.FoundPins.{found_there}
-use Rattle.readers.specs.Pins.{is_pin_of}
 
 -- What is given
 

@@ -1,39 +1,18 @@
 -- The read for a repair ends: it gives the content that the repaired key had at the life's start.
-use Rattle.std.proofs.Common.{◌≡◌, ◌≢◌, ◌∙◌, ◌⊎◌, ℕ, true, false, List, Option, Some, None, drop, refl, sym, ap}
-use Rattle.std.proofs.Common.{subst, inl, inr, ⊎_elim}
-use Rattle.std.specs.Prelude.{slice_get}
-use Rattle.ufs_spec.proofs.Facts.{false≢true, none-some, same_Some}
-use Rattle.ufs_spec.specs.Cells.{Cell, GroupPage, IsCell}
+use Rattle.ftl_core.proofs.Common.{AreToRepair, Cell, Core, Describes, DieRow, Entry, ForStep, GroupPage, IsAnother}
+use Rattle.ftl_core.proofs.Common.{IsCell, IsKey, IsStepCell, Kept, Key, Ledger, List, Name, None, Option, Page, Place}
+use Rattle.ftl_core.proofs.Common.{ReadRight, ReadWrong, Some, Step, StepKept, StepReadsKept, Stored, Tag, Translation}
+use Rattle.ftl_core.proofs.Common.{Valid, ap, at_die, at_die_cases, book, drop, end_flight, entry_for, false}
+use Rattle.ftl_core.proofs.Common.{false≢true, inl, inr, is_mended, keys_to_repair, none-some, page_one, refl}
+use Rattle.ftl_core.proofs.Common.{repairs_in, same_Some, shape_of_numbers, slice_get, step_there, step_wants, subst}
+use Rattle.ftl_core.proofs.Common.{sym, true, with_content, with_row, ℕ, ⊎_elim, ◌∙◌, ◌≡◌, ◌≢◌, ◌⊎◌}
 use Rattle.ufs_spec.specs.Disk as disk
-use Rattle.ufs_spec.specs.Disk.{at_die}
-use Rattle.ufs_spec.specs.Keys.{IsKey}
-use Rattle.ufs_spec.specs.Ledger.{Entry, Ledger}
-use Rattle.ufs_spec.specs.Moves.{IsAnother, ReadRight, ReadWrong, end_flight, step_there}
-use Rattle.ufs_spec.specs.Plain.{shape_of_numbers}
 use Rattle.ufs_spec.specs.Translation as layer
-use Rattle.ufs_spec.specs.Translation.{Translation, is_mended}
-use Rattle.ufs_spec.specs.declared.flash.Key.{Key}
-use Rattle.ufs_spec.specs.declared.flash.Page.{Page}
-use Rattle.ufs_spec.specs.declared.flash.Place.{Place}
-use Rattle.ufs_spec.specs.declared.flash.Tag.{Tag}
-use Rattle.ufs_spec.specs.declared.layer.Name.{Name}
-use Rattle.ufs_spec.specs.declared.layer.Reader.TheVariants.{ForStep}
-use Rattle.power_loss.specs.Book.{book}
-use Rattle.power_loss.specs.Invariant.{IsSecure, Valid}
-use Rattle.power_loss.proofs.books.PagesByName.{entry_for, old_page, page_one, page_same}
-use Rattle.power_loss.proofs.books.SmallFacts.{at_die_cases}
-use Rattle.block_table.specs.declared.rows.DieRow.{DieRow}
-use Rattle.ftl_core.specs.declared.books.Step.{Step}
+use Rattle.power_loss.specs.Invariant.{IsSecure}
+use Rattle.power_loss.proofs.books.PagesByName.{old_page, page_same}
 use Rattle.ftl_core.specs.declared.books.Step.TheVariants as steps
-use Rattle.unit_map.specs.declared.Stored.{Stored}
-use Rattle.ftl_core.specs.Core.{Core}
-use Rattle.ftl_core.specs.Describes.{AreToRepair, Describes, IsStepCell, Kept}
-use Rattle.ftl_core.specs.Describes.{StepKept, StepReadsKept, keys_to_repair}
 use Rattle.ftl_core.specs.Ends as ends
-use Rattle.ftl_core.specs.Ends.{with_content}
 use Rattle.ftl_core.specs.Gives.{IsContentOf}
-use Rattle.ftl_core.specs.Moves.{repairs_in, with_row}
-use Rattle.ftl_core.specs.Takes.{step_wants}
 use Rattle.ftl_core.proofs.job_ended.ReadsEnded.{idle_kept}
 use Rattle.ftl_core.proofs.job_ended.ReadsGiven.{IsPageOf, right_body, wrong_body}
 use Rattle.ftl_core.proofs.job_ended.RepairsEnded.{IsRepairOf, key_known, repair_of, unmended}

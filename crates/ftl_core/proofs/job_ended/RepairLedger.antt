@@ -1,31 +1,18 @@
 -- The repair that is the last group becomes durable: the frontier climbs over it alone, and what is kept of places is
 -- what the ledger has then.
-use Rattle.std.proofs.Common.{◌≡◌, ◌≢◌, ◌∙◌, ℕ, zero, suc, ◌≤◌, Bool, true, List, [], ◌∷◌, Option}
-use Rattle.std.proofs.Common.{Some, None, length, drop, map, refl, sym, ap, subst, ⊎_elim, arith}
-use Rattle.std.specs.Prelude.{◌-◌, ◌&&◌, slice_get, All}
+use Rattle.ftl_core.proofs.Common.{All, All-head, All-tail, AreToRepair, Book, Bool, Core, Entry, InSlot, IsInNoSlot}
+use Rattle.ftl_core.proofs.Common.{IsKey, IsLookOf, IsPageAt, Item, Key, Ledger, LedgerKept, List, Looked, Name, None}
+use Rattle.ftl_core.proofs.Common.{OnPage, Option, Pin, PinsKept, Some, Standing, Stored, Unwritten, [], all_stand, ap}
+use Rattle.ftl_core.proofs.Common.{arith, climbed, drop, entry_of, if_true, index_in, key_total, last_number}
+use Rattle.ftl_core.proofs.Common.{latest_durable, length, map, name_at, name_or, names_pending, none_some, page_new}
+use Rattle.ftl_core.proofs.Common.{places_noted, position_of, refl, risen, settled_pin, shape_of_numbers, slice_get}
+use Rattle.ftl_core.proofs.Common.{some_is, stored_of, subst, suc, sym, true, two_ways, zero, ℕ, ⊎_elim, ◌&&◌, ◌-◌, ◌∙◌}
+use Rattle.ftl_core.proofs.Common.{◌∷◌, ◌≡◌, ◌≢◌, ◌≤◌}
 use Rattle.std.specs.List.{slice_index_or}
 use Rattle.ufs_spec.specs.Keys as keys
-use Rattle.ufs_spec.specs.Keys.{IsKey, Item}
-use Rattle.ufs_spec.specs.Ledger.{Entry, Ledger, all_stand, climbed, entry_of, index_in, latest_durable, settled_look}
-use Rattle.ufs_spec.specs.Ledger.{name_or}
-use Rattle.ufs_spec.specs.Plain.{shape_of_numbers}
+use Rattle.ufs_spec.specs.Ledger.{settled_look}
 use Rattle.ufs_spec.specs.Translation as layer
-use Rattle.ufs_spec.specs.declared.flash.Key.{Key}
-use Rattle.ufs_spec.specs.declared.layer.Name.{Name}
-use Rattle.power_loss.specs.Book.{Book, IsPageAt, last_number}
 use Rattle.power_loss.proofs.books.LastOfEachKey.{key_told}
-use Rattle.geometry.specs.Keys.{key_total}
-use Rattle.power_loss.proofs.books.PagesByName.{none_some, page_new, some_is}
-use Rattle.power_loss.proofs.books.SmallFacts.{if_true, two_ways}
-use Rattle.readers.specs.declared.pin.Pin.{Pin}
-use Rattle.unit_map.specs.declared.Stored.{Stored}
-use Rattle.ftl_core.specs.Core.{Core}
-use Rattle.ftl_core.specs.Describes.{AreToRepair, LedgerKept, PinsKept, Standing, name_at, names_pending}
-use Rattle.ftl_core.specs.Describes.{IsInNoSlot, IsLookOf}
-use Rattle.ftl_core.specs.Ends.{risen}
-use Rattle.unit_map.specs.Places.{places_noted}
-use Rattle.ftl_core.specs.Moves.{stored_of}
-use Rattle.unit_map.specs.Places.{position_of}
 use Rattle.ftl_core.proofs.group_settled.FrontLedger.{durable_next, index_other}
 use Rattle.ftl_core.proofs.group_settled.NotedPlaces.{places_length}
 use Rattle.ftl_core.proofs.group_settled.FrontPlaces.{stored_next}
@@ -33,10 +20,6 @@ use Rattle.ftl_core.proofs.look_and_accept.Numbers.{behind}
 use Rattle.ftl_core.proofs.steps_ordered.NonePending.{no_names, none_kept}
 use Rattle.ftl_core.proofs.pins.PinsSettled.{at_frontier}
 use Rattle.ftl_core.proofs.pages.StoredNames.{AreAlike}
-use Rattle.std.proofs.lemmas.List.Elements.{All-head, All-tail}
-use Rattle.ufs_spec.specs.Moves.{settled_pin}
-use Rattle.ufs_spec.specs.declared.layer.Looked.{Looked}
-use Rattle.ufs_spec.specs.declared.layer.Looked.TheVariants.{InSlot, OnPage, Unwritten}
 
 -- The last group
 

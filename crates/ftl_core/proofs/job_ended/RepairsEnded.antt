@@ -1,48 +1,27 @@
 -- The page of a repair is written: the repair is durable, and its key reads from that page.
-use Rattle.std.proofs.Common.{◌≡◌, ◌∙◌, ℕ, suc, ◌+◌, ◌≤◌, Bool, true, false, List, [], ◌∷◌, Option, Some, None}
-use Rattle.std.proofs.Common.{length, drop, refl, sym, ap, subst, arith}
-use Rattle.std.specs.Prelude.{is_some, option_map, slice_get}
-use Rattle.ufs_spec.proofs.Facts.{false≢true}
-use Rattle.ufs_spec.specs.Cells.{GroupPage}
+use Rattle.ftl_core.proofs.Common.{AreToRepair, BlockState, BlocksKept, Bool, Core, Describes, DieRow, GroupPage}
+use Rattle.ftl_core.proofs.Common.{IsFilling, IsKey, IsStepCell, Item, Kept, Key, Ledger, LedgerKept, List, Name, None}
+use Rattle.ftl_core.proofs.Common.{Numbers, OpenBlock, Option, Place, RepairKept, RepairStep, Some, Step, StepKept}
+use Rattle.ftl_core.proofs.Common.{Stored, Tag, Translation, Valid, [], ap, arith, at_place, at_spot, book, climbed}
+use Rattle.ftl_core.proofs.Common.{drop, entry_of, false, false≢true, flies_name, if_true, is_mended, is_some}
+use Rattle.ftl_core.proofs.Common.{keys_to_repair, length, name_at, name_is, name_of, name_self, next_place, noted}
+use Rattle.ftl_core.proofs.Common.{option_map, page_at, page_written, refl, repair_over, risen, settled_pin}
+use Rattle.ftl_core.proofs.Common.{shape_of_numbers, slice_get, spot_at, state_after, step_after, stored_in, subst, suc}
+use Rattle.ftl_core.proofs.Common.{sym, true, ℕ, ◌+◌, ◌∙◌, ◌∷◌, ◌≡◌, ◌≤◌}
 use Rattle.ufs_spec.specs.Disk as disk
-use Rattle.ufs_spec.specs.Disk.{at_place, at_spot, programmed, state_after}
-use Rattle.ufs_spec.specs.Keys.{IsKey, Item}
-use Rattle.ufs_spec.specs.Ledger.{Ledger, climbed, entry_of, is_standing}
+use Rattle.ufs_spec.specs.Disk.{programmed}
+use Rattle.ufs_spec.specs.Ledger.{is_standing}
 use Rattle.ufs_spec.specs.Moves as moves
-use Rattle.ufs_spec.specs.Moves.{settled_pin, step_after}
-use Rattle.ufs_spec.specs.Plain.{shape_of_numbers}
 use Rattle.ufs_spec.specs.Translation as layer
-use Rattle.ufs_spec.specs.Translation.{RepairStep, Translation, flies_name, is_mended, name_of}
-use Rattle.ufs_spec.specs.declared.configs.Numbers.{Numbers}
-use Rattle.ufs_spec.specs.declared.flash.Key.{Key}
-use Rattle.ufs_spec.specs.declared.flash.Place.{Place}
-use Rattle.ufs_spec.specs.declared.flash.Tag.{Tag}
-use Rattle.ufs_spec.specs.declared.layer.Name.{Name}
-use Rattle.power_loss.specs.Book.{book}
-use Rattle.power_loss.specs.Invariant.{Valid}
-use Rattle.power_loss.proofs.books.SmallFacts.{if_true, name_is, name_self}
-use Rattle.block_table.specs.declared.BlockState.{BlockState}
 use Rattle.block_table.specs.declared.BlockState.TheVariants as state
-use Rattle.block_table.specs.declared.rows.DieRow.{DieRow}
-use Rattle.block_table.specs.declared.rows.OpenBlock.{OpenBlock}
-use Rattle.ftl_core.specs.declared.books.Step.{Step}
 use Rattle.ftl_core.specs.declared.books.Step.TheVariants as steps
-use Rattle.unit_map.specs.declared.Stored.{Stored}
-use Rattle.ftl_core.specs.Core.{Core}
-use Rattle.ftl_core.specs.Describes.{AreToRepair, BlocksKept, Describes, IsFilling, IsStepCell, Kept, LedgerKept}
-use Rattle.ftl_core.specs.Describes.{RepairKept, StepKept, keys_to_repair, name_at, spot_at}
-use Rattle.ftl_core.specs.Ends.{noted, page_at, repair_over, risen}
-use Rattle.ftl_core.specs.Moves.{page_written}
-use Rattle.unit_map.specs.Places.{stored_in}
-use Rattle.ftl_core.specs.Takes.{next_place}
 use Rattle.ftl_core.proofs.group_settled.FrontDurable.{climbed_of, raised_to}
 use Rattle.ftl_core.proofs.group_settled.PageStands.{at_here, fly_written, stored_on, with_page, writers_fly}
 use Rattle.ftl_core.proofs.group_settled.PageWritten.{with_group_page}
 use Rattle.ftl_core.proofs.job_ended.ChangeParts.{blocks_on, blocks_put, rows_with, changed, closed_fills}
 use Rattle.ftl_core.proofs.job_ended.ChangeParts.{filling_kept, kept_beside, page_ends, states_with}
 use Rattle.ftl_core.proofs.job_ended.JobsOver.{filling_on, filling_over}
-use Rattle.ftl_core.proofs.job_ended.RepairLedger.{climbs_one, last_alone, ledger_repaired, pins_off}
-use Rattle.ftl_core.proofs.job_ended.RepairLedger.{repaired_left}
+use Rattle.ftl_core.proofs.job_ended.RepairLedger.{climbs_one, last_alone, ledger_repaired, pins_off, repaired_left}
 use Rattle.ftl_core.proofs.job_ended.StepsOver.{none_reads, suits_next}
 use Rattle.ftl_core.proofs.job_taken.Flown.{die_within}
 use Rattle.ftl_core.proofs.job_taken.Mended.{none_waiting}

@@ -1,44 +1,24 @@
 -- The end of a job leaves the pages that wait for their rests, unless it is a read that brings one: no page that is
 -- written, copied or durable waits.
-use Rattle.std.proofs.Common.{◌≡◌, ◌∙◌, ℕ, Bool, true, false, List, [], ◌∷◌, Option, Some, None, refl, sym, ap, subst}
-use Rattle.std.proofs.Common.{inl, inr, ⊎_elim, Contains, find, length}
-use Rattle.std.specs.Prelude.{◌==◌, if◌then◌else◌, nat_le, position, slice_get}
-use Rattle.ufs_spec.proofs.Facts.{and_parts, cases_Bool, eqb-true, false≢true}
-use Rattle.ufs_spec.proofs.Lists.{position_told}
-use Rattle.ufs_spec.specs.Cells.{Cell, GroupPage}
+use Rattle.ftl_core.proofs.Common.{Bool, Cell, Collection, Contains, Core, Describes, DieRow, EndJob, Ending, Flight}
+use Rattle.ftl_core.proofs.Common.{ForNobody, ForStep, ForTask, GroupPage, IsEndingOf, IsFlightAfter, IsIn, IsReadAfter}
+use Rattle.ftl_core.proofs.Common.{IsRowAfter, IsStepCell, Key, List, MayEnd, Name, None, OpenBlock, Option, Outcome}
+use Rattle.ftl_core.proofs.Common.{Pending, Place, RestsKept, Some, Step, StepKept, Stored, Tag, Translation, []}
+use Rattle.ftl_core.proofs.Common.{and_parts, ap, at_has, cases_Bool, change_after, change_ended, copy_durable}
+use Rattle.ftl_core.proofs.Common.{copy_over, copy_pending, end_flight, ending, eqb-true, false, false≢true, has_at}
+use Rattle.ftl_core.proofs.Common.{if◌then◌else◌, in_contained, inl, inr, is_named, is_read, kept_in, length, mark_over}
+use Rattle.ftl_core.proofs.Common.{moved, name_at, name_of, name_self, nat_le, next_place, noted, own_name}
+use Rattle.ftl_core.proofs.Common.{page_written, pending_written, plan_freed, position, position_told, refl}
+use Rattle.ftl_core.proofs.Common.{repair_over, repairs_in, same_name, settled, slice_get, spot_at, step_over}
+use Rattle.ftl_core.proofs.Common.{stored_of, subst, sym, true, waiting, waits, with_content, written_at, written_if, ℕ}
+use Rattle.ftl_core.proofs.Common.{⊎_elim, ◌==◌, ◌∙◌, ◌∷◌, ◌≡◌}
+use Rattle.std.proofs.Common.{find}
 use Rattle.ufs_spec.specs.Disk as disk
-use Rattle.ufs_spec.specs.Ledger.{same_name}
-use Rattle.ufs_spec.specs.Moves.{EndJob, Ending, IsEndingOf, MayEnd, end_flight, is_kind_of, moved}
+use Rattle.ufs_spec.specs.Moves.{is_kind_of}
 use Rattle.ufs_spec.specs.Translation as layer
-use Rattle.ufs_spec.specs.Translation.{Translation, name_of}
-use Rattle.ufs_spec.specs.declared.flash.Key.{Key}
-use Rattle.ufs_spec.specs.declared.flash.Outcome.{Outcome}
-use Rattle.ufs_spec.specs.declared.flash.Place.{Place}
-use Rattle.ufs_spec.specs.declared.flash.Tag.{Tag}
-use Rattle.ufs_spec.specs.declared.layer.Name.{Name}
-use Rattle.ufs_spec.specs.declared.layer.Reader.TheVariants.{ForNobody, ForStep, ForTask}
-use Rattle.power_loss.proofs.books.SmallFacts.{name_self}
-use Rattle.power_loss.proofs.ordered_lists.ElementsAndOrders.{IsIn, at_has, has_at, in_contained, kept_in}
-use Rattle.block_table.specs.declared.rows.DieRow.{DieRow}
-use Rattle.block_table.specs.declared.rows.Flight.{Flight}
 use Rattle.block_table.specs.declared.rows.Flight.TheVariants as flight
-use Rattle.block_table.specs.declared.rows.OpenBlock.{OpenBlock}
-use Rattle.collector.specs.Plans.{Collection}
-use Rattle.unit_map.specs.declared.Stored.{Stored}
-use Rattle.write_cache.specs.declared.slots.Pending.{Pending}
-use Rattle.write_cache.specs.Slots.{is_named, page_written as page_at_written, written_at, written_if}
-use Rattle.ftl_core.specs.declared.books.Step.{Step}
+use Rattle.write_cache.specs.Slots.{page_written as page_at_written}
 use Rattle.ftl_core.specs.declared.books.Step.TheVariants as steps
-use Rattle.ftl_core.specs.Core.{Core}
-use Rattle.ftl_core.specs.Describes.{Describes, IsStepCell, StepKept, name_at, spot_at}
-use Rattle.ftl_core.specs.Done.{IsFlightAfter, IsRowAfter}
-use Rattle.ftl_core.specs.Ends.{copy_durable, copy_over, copy_pending, mark_over, pending_written}
-use Rattle.ftl_core.specs.Ends.{noted, plan_freed, repair_over, settled, step_over, with_content}
-use Rattle.ftl_core.specs.Gives.{IsReadAfter, change_after, change_ended, ending, is_read}
-use Rattle.ftl_core.specs.Moves.{page_written, repairs_in, stored_of}
-use Rattle.ftl_core.specs.Rests.{own_name, waits}
-use Rattle.ftl_core.specs.RestsKept.{RestsKept, waiting}
-use Rattle.ftl_core.specs.Takes.{next_place}
 use Rattle.ftl_core.proofs.job_ended.RestsRead.{rest_read_ends}
 use Rattle.ftl_core.proofs.job_taken.FlightKinds.{flight_cases}
 use Rattle.ftl_core.proofs.job_taken.NextStarts.{outside}

@@ -1,55 +1,33 @@
 -- The end of a read for the rest of a page: the right page brings the rest of all pages that wait for it, and any other
 -- changes nothing, so that it is owed again.
-use Rattle.std.proofs.Common.{◌≡◌, ◌≢◌, ◌∙◌, ℕ, true, false, List, Option, Some, None, sym, ap, subst}
-use Rattle.std.proofs.Common.{⊎_elim, Contains, drop, find, is_some}
-use Rattle.std.specs.Prelude.{◌==◌, filter, filter_map, not, slice_get}
-use Rattle.ufs_spec.proofs.Facts.{and_from, and_parts, eq-eqb, eqb-true, false≢true, same_Some}
-use Rattle.ufs_spec.proofs.Lists.{find_some}
-use Rattle.ufs_spec.specs.Cells.{IsCell}
+use Rattle.ftl_core.proofs.Common.{Contains, Core, Describes, DieRow, EndJob, Ending, ForRest, FromPage, IsAnother}
+use Rattle.ftl_core.proofs.Common.{IsBodyOf, IsCell, IsEndingOf, IsIn, IsNumbered, IsReadAfter, Kept, List, Looked}
+use Rattle.ftl_core.proofs.Common.{MayEnd, Name, None, OnPage, Option, Outcome, OwedSource, Page, PageKept, Pending}
+use Rattle.ftl_core.proofs.Common.{Place, ReadRight, ReadWrong, RestsKept, Some, Tag, Translation, and_from, and_parts}
+use Rattle.ftl_core.proofs.Common.{ap, at_die, at_die_cases, awaited_read, awaits, book, contained_in, drop, end_flight}
+use Rattle.ftl_core.proofs.Common.{entry_of, eq-eqb, eqb-true, false, false≢true, filter, filter_in, filter_map}
+use Rattle.ftl_core.proofs.Common.{find_some, found_in, has_at, in_contained, in_mapped, is_named, is_read, kept_in}
+use Rattle.ftl_core.proofs.Common.{laid_move, look_of_source, name_at, name_cases, none_some, not, own_name, rest_kept}
+use Rattle.ftl_core.proofs.Common.{rest_look, rest_of_name, rests_filled, same_Some, same_name, slice_get, source_kept}
+use Rattle.ftl_core.proofs.Common.{subst, sym, true, waiting, waits, with_rest, with_row, ℕ, ⊎_elim, ◌==◌, ◌∙◌, ◌≡◌}
+use Rattle.ftl_core.proofs.Common.{◌≢◌}
+use Rattle.std.proofs.Common.{find, is_some}
 use Rattle.ufs_spec.specs.Disk as disk
-use Rattle.ufs_spec.specs.Disk.{at_die}
-use Rattle.ufs_spec.specs.Ledger.{entry_of, same_name}
-use Rattle.ufs_spec.specs.Moves.{EndJob, Ending, IsAnother, IsEndingOf, MayEnd, ReadRight, ReadWrong, end_flight}
 use Rattle.ufs_spec.specs.Moves.{rests_without}
 use Rattle.ufs_spec.specs.Translation as layer
-use Rattle.ufs_spec.specs.Translation.{FromPage, Translation, awaited_read}
-use Rattle.ufs_spec.specs.declared.flash.Outcome.{Outcome}
 use Rattle.ufs_spec.specs.declared.flash.Outcome.TheVariants as outcome
-use Rattle.ufs_spec.specs.declared.flash.Page.{Page}
-use Rattle.ufs_spec.specs.declared.flash.Place.{Place}
-use Rattle.ufs_spec.specs.declared.flash.Tag.{Tag}
-use Rattle.ufs_spec.specs.declared.layer.Looked.{Looked}
-use Rattle.ufs_spec.specs.declared.layer.Looked.TheVariants.{OnPage}
-use Rattle.ufs_spec.specs.declared.layer.Name.{Name}
-use Rattle.ufs_spec.specs.declared.layer.Reader.TheVariants.{ForRest}
 use Rattle.power_loss.specs.LaidRests.{HoldsBelow, RestsLaid}
-use Rattle.power_loss.specs.Book.{book}
-use Rattle.power_loss.proofs.books.SmallFacts.{at_die_cases, name_cases}
-use Rattle.power_loss.proofs.laid_rests.AllMoves.{laid_move}
 use Rattle.power_loss.proofs.laid_rests.LaidContents.{laid_page}
-use Rattle.power_loss.proofs.ordered_lists.ElementsAndOrders.{IsIn, contained_in, filter_in, found_in, has_at, in_contained}
-use Rattle.power_loss.proofs.ordered_lists.ElementsAndOrders.{in_mapped, kept_in}
-use Rattle.power_loss.proofs.books.PagesByName.{none_some}
-use Rattle.block_table.specs.declared.rows.DieRow.{DieRow}
-use Rattle.write_cache.specs.declared.rests.OwedSource.{OwedSource}
 use Rattle.write_cache.specs.declared.rests.OwedSource.TheVariants as owed
 use Rattle.write_cache.specs.declared.rests.Rest as cache
-use Rattle.write_cache.specs.declared.slots.Pending.{Pending}
-use Rattle.write_cache.specs.Slots.{is_named}
-use Rattle.ftl_core.specs.Core.{Core}
-use Rattle.ftl_core.specs.Describes.{Describes, Kept, PageKept, name_at}
-use Rattle.ftl_core.specs.Gives.{IsBodyLooked, IsBodyOf, IsReadAfter, IsRestRead, is_read}
-use Rattle.ftl_core.specs.Moves.{look_of_source, rest_look, with_row}
-use Rattle.ftl_core.specs.Rests.{awaits, own_name, rests_filled, waits, with_rest}
-use Rattle.ftl_core.specs.RestsKept.{IsNumbered, RestsKept, rest_kept, rest_of_name, source_kept, waiting}
+use Rattle.ftl_core.specs.Gives.{IsBodyLooked, IsRestRead}
 use Rattle.ftl_core.proofs.job_ended.ReadsEnded.{idle_kept}
 use Rattle.ftl_core.proofs.job_ended.ReadsGiven.{IsPageOf, right_body, wrong_body}
 use Rattle.ftl_core.proofs.look_and_accept.MoreGroups.{rests_more}
 use Rattle.ftl_core.proofs.pages.NamesBehind.{name_is}
 use Rattle.ftl_core.proofs.rests_owed.RestsFilled.{filled_kept}
 use Rattle.ftl_core.proofs.rests_owed.RestsLeft.{filled_waits, left_rests}
-use Rattle.ftl_core.proofs.rests_owed.RestsNamed.{held_at}
-use Rattle.ftl_core.proofs.rests_owed.RestsNamed.{IsRestOfPage, all_rests, one_page, rest_page}
+use Rattle.ftl_core.proofs.rests_owed.RestsNamed.{IsRestOfPage, all_rests, held_at, one_page, rest_page}
 use Rattle.ftl_core.proofs.rests_owed.RestsStay.{ends_rests}
 
 -- what is kept once a read ended describes the layer in which it did, and so do the rests

@@ -1,37 +1,18 @@
 -- The end of a job leaves the slots that readers have claimed, and the collection that is begun, or none.
-use Rattle.std.proofs.Common.{◌≡◌, ◌∙◌, ℕ, zero, suc, Bool, true, false, List, [], ◌∷◌, Option, Some, None, refl, sym}
-use Rattle.std.proofs.Common.{ap, subst}
-use Rattle.collector.specs.Plans.{Collection}
-use Rattle.ufs_spec.proofs.Facts.{none-some}
-use Rattle.std.specs.Prelude.{◌==◌, if◌then◌else◌, filter, find, fold, nat_le, nat_lt, slice_get, ◌-◌}
-use Rattle.ufs_spec.specs.Pages.{greatest_number}
-use Rattle.ufs_spec.specs.declared.flash.Outcome.{Outcome}
-use Rattle.ufs_spec.specs.declared.flash.Key.{Key}
-use Rattle.ufs_spec.specs.declared.flash.Place.{Place}
-use Rattle.ufs_spec.specs.declared.flash.Tag.{Tag}
-use Rattle.ufs_spec.specs.declared.layer.Reader.{Reader}
-use Rattle.ufs_spec.specs.declared.layer.Reader.TheVariants.{ForNobody, ForRest, ForStep, ForTask}
-use Rattle.unit_map.specs.declared.Stored.{Stored}
-use Rattle.block_table.specs.declared.rows.DieRow.{DieRow}
-use Rattle.block_table.specs.declared.rows.Flight.{Flight}
+use Rattle.ftl_core.proofs.Common.{AreClaimed, Bool, Claims, Collection, Core, DieRow, Flight, ForNobody, ForRest}
+use Rattle.ftl_core.proofs.Common.{ForStep, ForTask, IsFlightAfter, IsReadAfter, IsReadOver, IsRowAfter, Key, List}
+use Rattle.ftl_core.proofs.Common.{Name, None, OpenBlock, Option, Outcome, Pending, Place, Reader, Some, Step, Stored}
+use Rattle.ftl_core.proofs.Common.{Tag, [], ap, change_after, change_ended, copy_durable, copy_over, copy_pending}
+use Rattle.ftl_core.proofs.Common.{ending, false, filter, find, fold, front_written, greatest_number, group_durable}
+use Rattle.ftl_core.proofs.Common.{if◌then◌else◌, is_claim_of, is_named, is_of_group, is_read, mark_over, nat_le}
+use Rattle.ftl_core.proofs.Common.{nat_lt, none-some, page_durable, page_durable_at, page_written, pending_written}
+use Rattle.ftl_core.proofs.Common.{plan_freed, plan_over, refl, repair_over, settled, slice_get, step_again, step_over}
+use Rattle.ftl_core.proofs.Common.{stored_of, subst, suc, sym, true, with_content, with_rest, with_row, zero, ℕ, ◌-◌}
+use Rattle.ftl_core.proofs.Common.{◌==◌, ◌∙◌, ◌∷◌, ◌≡◌}
 use Rattle.block_table.specs.declared.rows.Flight.TheVariants as flight
-use Rattle.block_table.specs.declared.rows.OpenBlock.{OpenBlock}
-use Rattle.write_cache.specs.declared.slots.Pending.{Pending}
-use Rattle.ftl_core.specs.declared.books.Step.{Step}
 use Rattle.ftl_core.specs.declared.books.Step.TheVariants as steps
-use Rattle.ftl_core.specs.Core.{Core}
-use Rattle.ftl_core.specs.Done.{IsRowAfter, IsCoreEnded, IsFlightAfter}
-use Rattle.ftl_core.specs.Ends.{copy_durable, copy_over, copy_pending, copy_stands, index_in, mark_over, plan_freed}
-use Rattle.ftl_core.specs.Ends.{plan_over, repair_over, front_written, group_durable, page_durable, page_durable_at}
-use Rattle.write_cache.specs.Slots.{is_named, is_of_group}
-use Rattle.ftl_core.specs.Ends.{pending_written, settled_by, step_again, step_over, with_content}
-use Rattle.ftl_core.specs.Gives.{IsReadAfter, IsReadOver, change_after, change_ended, ending, is_read}
-use Rattle.ftl_core.specs.Ends.{settled}
-use Rattle.ftl_core.specs.Rests.{with_rest}
-use Rattle.ufs_spec.specs.declared.layer.Name.{Name}
-use Rattle.ftl_core.specs.Moves.{page_written, stored_of, with_row}
-use Rattle.ftl_core.specs.Public.{AreClaimed, Claims}
-use Rattle.write_cache.specs.Slots.{is_claim_of}
+use Rattle.ftl_core.specs.Done.{IsCoreEnded}
+use Rattle.ftl_core.specs.Ends.{copy_stands, index_in, settled_by}
 
 -- What stays
 

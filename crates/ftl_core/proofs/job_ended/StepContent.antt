@@ -1,40 +1,25 @@
 -- The read for the step under way ends: it gives the content that the repaired key had at the life's start, or that of
 -- the page that is copied.
-use Rattle.std.proofs.Common.{◌≡◌, ◌∙◌, ◌⊎◌, ℕ, false, List, [], Option, Some, None, drop, refl, sym, ap}
-use Rattle.std.proofs.Common.{subst, inl, inr, ⊎_elim}
-use Rattle.std.specs.Prelude.{All, IfSome, slice_get}
-use Rattle.std.proofs.lemmas.List.Elements.{All-head}
-use Rattle.ufs_spec.proofs.Facts.{false≢true, same_Some}
+use Rattle.ftl_core.proofs.Common.{All, All-head, AreToRepair, CopyKept, CopyStep, Core, Describes, DieRow, Ending}
+use Rattle.ftl_core.proofs.Common.{Entry, ForStep, IsAnother, IsCell, IsEndingOf, IsNeededPage, IsReadAfter, IsStepCell}
+use Rattle.ftl_core.proofs.Common.{Kept, Key, List, Name, None, Option, Outcome, Page, Place, ReadRight, ReadWrong}
+use Rattle.ftl_core.proofs.Common.{Some, Step, StepKept, Tag, Translation, Want, [], ap, at_die, drop, end_flight}
+use Rattle.ftl_core.proofs.Common.{entry_for, entry_of, false, false≢true, inl, inr, is_read, keys_to_repair, name_of}
+use Rattle.ftl_core.proofs.Common.{refl, same_Some, slice_get, step_there, subst, sym, want_at, wants_of_step}
+use Rattle.ftl_core.proofs.Common.{with_content, ℕ, ⊎_elim, ◌∙◌, ◌≡◌, ◌⊎◌}
+use Rattle.std.specs.Prelude.{IfSome}
 use Rattle.ufs_spec.proofs.SealedPages.{sealed_tag}
-use Rattle.ufs_spec.specs.Cells.{IsCell}
 use Rattle.ufs_spec.specs.Disk as disk
-use Rattle.ufs_spec.specs.Disk.{at_die}
-use Rattle.ufs_spec.specs.Ledger.{Entry, entry_of}
-use Rattle.ufs_spec.specs.Moves.{Ending, IsAnother, IsEndingOf, ReadRight, ReadWrong, end_flight, step_there}
 use Rattle.ufs_spec.specs.Translation as layer
-use Rattle.ufs_spec.specs.Translation.{CopyStep, Translation, Want, name_of, tag_of, want_at, wants_of_step}
-use Rattle.ufs_spec.specs.declared.flash.Key.{Key}
-use Rattle.ufs_spec.specs.declared.flash.Outcome.{Outcome}
+use Rattle.ufs_spec.specs.Translation.{tag_of}
 use Rattle.ufs_spec.specs.declared.flash.Outcome.TheVariants as outcome
-use Rattle.ufs_spec.specs.declared.flash.Page.{Page}
-use Rattle.ufs_spec.specs.declared.flash.Place.{Place}
-use Rattle.ufs_spec.specs.declared.flash.Tag.{Tag}
 use Rattle.ufs_spec.specs.Cells.{Opens}
 use Rattle.ufs_spec.specs.Pages.{IsSealedAs, IsTag}
-use Rattle.ufs_spec.specs.declared.layer.Name.{Name}
-use Rattle.ufs_spec.specs.declared.layer.Reader.TheVariants.{ForStep}
 use Rattle.page_tag.specs.Jobs.{IsTagOf, IsTagRead}
-use Rattle.power_loss.specs.Invariant.{IsNeededPage}
-use Rattle.power_loss.proofs.books.PagesByName.{entry_for}
-use Rattle.block_table.specs.declared.rows.DieRow.{DieRow}
-use Rattle.ftl_core.specs.declared.books.Step.{Step}
 use Rattle.ftl_core.specs.declared.books.Step.TheVariants as steps
-use Rattle.ftl_core.specs.Core.{Core}
-use Rattle.ftl_core.specs.Describes.{AreToRepair, CopyKept, Describes, IsCopied, IsStepCell, Kept}
-use Rattle.ftl_core.specs.Describes.{StepKept, keys_to_repair}
+use Rattle.ftl_core.specs.Describes.{IsCopied}
 use Rattle.ftl_core.specs.Ends as ends
-use Rattle.ftl_core.specs.Ends.{with_content}
-use Rattle.ftl_core.specs.Gives.{IsContentOf, IsReadAfter, is_read}
+use Rattle.ftl_core.specs.Gives.{IsContentOf}
 use Rattle.ftl_core.proofs.job_ended.ReadsGiven.{IsPageOf, right_body, wrong_body}
 use Rattle.ftl_core.proofs.job_ended.StepsOver.{flight_suits}
 use Rattle.ftl_core.proofs.job_taken.Flown.{dies_changed, fly_over, reads_over}

@@ -1,20 +1,11 @@
 -- The program of the page of the step under way ends: that of a mark, of a repair or of a copy.
-use Rattle.std.proofs.Common.{◌≡◌, ℕ, true, false, Option, Some, None, refl, sym, subst}
-use Rattle.std.specs.Prelude.{slice_get}
-use Rattle.ufs_spec.proofs.Facts.{false≢true}
-use Rattle.ufs_spec.specs.Cells.{Cell, Cells, GroupPage, MarkPage}
+use Rattle.ftl_core.proofs.Common.{Cell, Cells, Core, Describes, DieRow, GroupPage, IsStepCell, Kept, MarkPage, None}
+use Rattle.ftl_core.proofs.Common.{OpenBlock, Option, Some, Step, Translation, false, false≢true, next_place, refl}
+use Rattle.ftl_core.proofs.Common.{slice_get, step_again, step_over, subst, sym, true, went_bad, ℕ, ◌≡◌}
 use Rattle.ufs_spec.specs.Disk as disk
 use Rattle.ufs_spec.specs.Moves.{cell_failed, cell_written}
-use Rattle.ufs_spec.specs.Translation.{Translation}
-use Rattle.block_table.specs.declared.rows.DieRow.{DieRow}
-use Rattle.block_table.specs.declared.rows.OpenBlock.{OpenBlock}
-use Rattle.ftl_core.specs.declared.books.Step.{Step}
 use Rattle.ftl_core.specs.declared.books.Step.TheVariants as steps
-use Rattle.ftl_core.specs.Core.{Core}
-use Rattle.ftl_core.specs.Describes.{Describes, IsStepCell, Kept}
-use Rattle.ftl_core.specs.Ends.{step_again, step_failed, step_over, step_written}
-use Rattle.ftl_core.specs.Moves.{went_bad}
-use Rattle.ftl_core.specs.Takes.{next_place}
+use Rattle.ftl_core.specs.Ends.{step_failed, step_written}
 use Rattle.ftl_core.proofs.job_ended.ChangesEnded.{page_ends_wrong}
 use Rattle.ftl_core.proofs.job_ended.CopiesEnded.{copy_ends_well}
 use Rattle.ftl_core.proofs.job_ended.MarksEnded.{mark_ends_well, mark_ends_wrong}

@@ -1,24 +1,12 @@
 -- What the end of a step's program leaves of the jobs of the other dies: none of them writes the step's page, and none
 -- reads for the step.
-use Rattle.std.proofs.Common.{◌≡◌, ◌≢◌, ◌∙◌, ℕ, true, Option, Some, None, refl, sym, ap, subst, ⊎_elim}
-use Rattle.ufs_spec.proofs.Facts.{none-some}
-use Rattle.ufs_spec.specs.Cells.{Cell, GroupPage, Mark, MarkPage}
-use Rattle.ufs_spec.specs.declared.configs.Numbers.{Numbers}
-use Rattle.ufs_spec.specs.declared.flash.Place.{Place}
+use Rattle.ftl_core.proofs.Common.{Cell, Core, Describes, Flight, GroupPage, IsFlight, IsStepCell, Mark, MarkPage, Name}
+use Rattle.ftl_core.proofs.Common.{None, Numbers, OpenBlock, Option, Place, Some, Step, StepReadsKept, Translation, ap}
+use Rattle.ftl_core.proofs.Common.{at_die, at_die_cases, flies_name, name_is, name_of, name_self, none-some, refl}
+use Rattle.ftl_core.proofs.Common.{repairs_in, step_wants, subst, sym, true, ℕ, ⊎_elim, ◌∙◌, ◌≡◌, ◌≢◌}
 use Rattle.ufs_spec.specs.Disk as disk
-use Rattle.ufs_spec.specs.Disk.{at_die}
-use Rattle.ufs_spec.specs.Translation.{Translation, flies_name, name_of}
-use Rattle.ufs_spec.specs.declared.layer.Name.{Name}
-use Rattle.power_loss.proofs.books.SmallFacts.{at_die_cases, name_is, name_self}
-use Rattle.block_table.specs.declared.rows.Flight.{Flight}
 use Rattle.block_table.specs.declared.rows.Flight.TheVariants as flight
-use Rattle.block_table.specs.declared.rows.OpenBlock.{OpenBlock}
-use Rattle.ftl_core.specs.declared.books.Step.{Step}
 use Rattle.ftl_core.specs.declared.books.Step.TheVariants as steps
-use Rattle.ftl_core.specs.Core.{Core}
-use Rattle.ftl_core.specs.Describes.{Describes, IsFlight, IsStepCell, StepReadsKept}
-use Rattle.ftl_core.specs.Moves.{repairs_in}
-use Rattle.ftl_core.specs.Takes.{step_wants}
 use Rattle.ftl_core.proofs.job_ended.ChangeParts.{StepSuits}
 
 -- One job

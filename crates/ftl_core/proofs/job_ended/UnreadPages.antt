@@ -1,10 +1,6 @@
 -- A page that opens to nothing gives no body.
-use Rattle.std.proofs.Common.{◌≡◌, ℕ, List, Option, None, Some, refl}
+use Rattle.ftl_core.proofs.Common.{IsBodyOf, Key, List, None, Option, Page, Some, Tag, refl, ℕ, ◌≡◌}
 use Rattle.ufs_spec.specs.Pages.{IsSealedAs, IsTag}
-use Rattle.ufs_spec.specs.declared.flash.Key.{Key}
-use Rattle.ufs_spec.specs.declared.flash.Page.{Page}
-use Rattle.ufs_spec.specs.declared.flash.Tag.{Tag}
-use Rattle.ftl_core.specs.Gives.{IsBodyOf}
 
 none_is : (o : Option Tag) → ((x : Tag) → o ≡ Some x → ⊥) → o ≡ None
 none_is None other = refl

@@ -1,11 +1,7 @@
 -- The die of a job that begins to fill a block is noted twice, once with the block and once with the job.
-use Rattle.std.proofs.Common.{◌≡◌, ◌∙◌, ℕ, zero, suc, List, [], ◌∷◌, Some, ap, refl}
-use Rattle.std.specs.Prelude.{slice_get, slice_set}
+use Rattle.ftl_core.proofs.Common.{DieRow, Flight, List, OpenBlock, Some, [], ap, none_some, refl, slice_get, slice_set}
+use Rattle.ftl_core.proofs.Common.{suc, zero, ℕ, ◌∙◌, ◌∷◌, ◌≡◌}
 use Rattle.block_table.specs.Rows.{filling_set, flight_set, rows_filling, rows_in_flight}
-use Rattle.block_table.specs.declared.rows.DieRow.{DieRow}
-use Rattle.block_table.specs.declared.rows.Flight.{Flight}
-use Rattle.block_table.specs.declared.rows.OpenBlock.{OpenBlock}
-use Rattle.power_loss.proofs.books.PagesByName.{none_some}
 
 there_now : {A : Type 0} (xs : List A) (k : ℕ) (x y : A) → slice_get xs k ≡ Some y →
     slice_get (slice_set xs k x) k ≡ Some x

@@ -1,29 +1,11 @@
 -- Jobs in flight: whether some die has a job of a kind, and which kinds there are.
-use Rattle.std.proofs.Common.{◌≡◌, ◌∙◌, ◌⊎◌, ℕ, zero, suc, ◌<◌, ◌≤◌, Bool, true, false, List, [], ◌∷◌, Option}
-use Rattle.std.proofs.Common.{Some, None, refl, sym, ap, subst, inl, inr, ⊎_elim, arith}
-use Rattle.std.specs.Prelude.{◌||◌}
-use Rattle.std.specs.List.{list_any}
-use Rattle.std.proofs.lemmas.Bool.{cases_lt}
-use Rattle.std.proofs.lemmas.List.Folds.{list_any-append}
-use Rattle.ufs_spec.proofs.Facts.{true≢false}
-use Rattle.ufs_spec.specs.Cells.{Cell, GroupPage}
+use Rattle.ftl_core.proofs.Common.{Bool, Cell, Flight, ForNobody, ForRest, ForStep, ForTask, GroupPage, IsFlight}
+use Rattle.ftl_core.proofs.Common.{IsStepCell, List, None, Numbers, OpenBlock, Option, Place, Reader, Some, Spot, Step}
+use Rattle.ftl_core.proofs.Common.{Tag, [], ap, arith, below, cases_lt, false, inl, inr, list_any, list_any-append}
+use Rattle.ftl_core.proofs.Common.{next_place, refl, repairs_in, spot_at, subst, suc, sym, true, true≢false, two_ways}
+use Rattle.ftl_core.proofs.Common.{zero, ℕ, ⊎_elim, ◌<◌, ◌||◌, ◌∙◌, ◌∷◌, ◌≡◌, ◌≤◌, ◌⊎◌}
 use Rattle.ufs_spec.specs.Disk as disk
-use Rattle.ufs_spec.specs.Disk.{Spot}
-use Rattle.ufs_spec.specs.Keys.{below}
-use Rattle.ufs_spec.specs.declared.configs.Numbers.{Numbers}
-use Rattle.ufs_spec.specs.declared.flash.Place.{Place}
-use Rattle.ufs_spec.specs.declared.flash.Tag.{Tag}
-use Rattle.ufs_spec.specs.declared.layer.Reader.{Reader}
-use Rattle.ufs_spec.specs.declared.layer.Reader.TheVariants.{ForNobody, ForRest, ForStep, ForTask}
-use Rattle.power_loss.proofs.books.SmallFacts.{two_ways}
-use Rattle.block_table.specs.declared.rows.Flight.{Flight}
 use Rattle.block_table.specs.declared.rows.Flight.TheVariants as flight
-use Rattle.block_table.specs.declared.rows.OpenBlock.{OpenBlock}
-use Rattle.ftl_core.specs.declared.books.Step.{Step}
-use Rattle.ftl_core.specs.Describes.{IsFlight, IsStepCell}
-use Rattle.ftl_core.specs.Describes.{spot_at}
-use Rattle.ftl_core.specs.Moves.{repairs_in}
-use Rattle.ftl_core.specs.Takes.{next_place}
 
 -- Some die
 

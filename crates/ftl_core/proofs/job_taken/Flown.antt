@@ -1,45 +1,22 @@
 -- Jobs in flight: what the rows say of them is what the definitions say, and one die's job changes.
-use Rattle.std.proofs.Common.{◌≡◌, ◌≢◌, ◌∙◌, ℕ, ◌<◌, Bool, true, false, List, Option}
-use Rattle.std.proofs.Common.{Some, None, refl, sym, ap, subst, ⊎_elim, arith}
-use Rattle.std.specs.Prelude.{slice_get, slice_set}
-use Rattle.std.specs.List.{list_any}
-use Rattle.std.proofs.lemmas.Bool.{cases_lt}
-use Rattle.std.proofs.lemmas.Option.{slice_get_within}
-use Rattle.ufs_spec.proofs.Facts.{true≢false}
-use Rattle.ufs_spec.specs.Cells.{Cell, GroupPage, MarkPage}
+use Rattle.ftl_core.proofs.Common.{Bool, Cell, CopyKept, Core, DieRow, DiesKept, Fence, Flight, ForStep, ForTask}
+use Rattle.ftl_core.proofs.Common.{GroupPage, IsFilling, IsFlight, IsStepCell, Kept, Key, Ledger, List, MarkPage, Name}
+use Rattle.ftl_core.proofs.Common.{None, Numbers, OpenBlock, Option, PagesFly, Pin, Place, Reader, ReadsKept, RowKept}
+use Rattle.ftl_core.proofs.Common.{Some, Spot, Standing, Step, StepKept, StepReadsKept, Stored, Tag, Translation}
+use Rattle.ftl_core.proofs.Common.{WritesGroup, any_here, ap, arith, at_die, at_die_cases, below, cases_lt, false}
+use Rattle.ftl_core.proofs.Common.{flies_name, get_there, list_any, name_at, name_cases, name_is, name_of, name_self}
+use Rattle.ftl_core.proofs.Common.{next_place, none_some, reads_for, refl, repairs_in, same_name, set_length, slice_get}
+use Rattle.ftl_core.proofs.Common.{slice_get_within, slice_set, some_flight, spot_at, subst, sym, true, true≢false}
+use Rattle.ftl_core.proofs.Common.{writes_page, ℕ, ⊎_elim, ◌<◌, ◌∙◌, ◌≡◌, ◌≢◌}
 use Rattle.ufs_spec.specs.Disk as disk
-use Rattle.ufs_spec.specs.Disk.{Spot, at_die}
-use Rattle.ufs_spec.specs.Keys.{below}
-use Rattle.ufs_spec.specs.Ledger.{Ledger, same_name}
 use Rattle.ufs_spec.specs.Translation as layer
-use Rattle.ufs_spec.specs.Translation.{Translation, flies_mark, flies_name, flies_reader, name_of}
-use Rattle.ufs_spec.specs.Translation.{some_flight}
-use Rattle.ufs_spec.specs.declared.configs.Numbers.{Numbers}
-use Rattle.ufs_spec.specs.declared.flash.Fence.{Fence}
-use Rattle.ufs_spec.specs.declared.flash.Key.{Key}
-use Rattle.ufs_spec.specs.declared.flash.Place.{Place}
-use Rattle.ufs_spec.specs.declared.flash.Tag.{Tag}
-use Rattle.ufs_spec.specs.declared.layer.Name.{Name}
-use Rattle.ufs_spec.specs.declared.layer.Reader.{Reader}
-use Rattle.ufs_spec.specs.declared.layer.Reader.TheVariants.{ForStep, ForTask}
-use Rattle.power_loss.proofs.books.PagesByName.{none_some}
-use Rattle.power_loss.proofs.books.SmallFacts.{at_die_cases, name_cases, name_is, name_self}
-use Rattle.block_table.specs.declared.rows.DieRow.{DieRow}
-use Rattle.block_table.specs.declared.rows.Flight.{Flight}
+use Rattle.ufs_spec.specs.Translation.{flies_mark, flies_reader}
 use Rattle.block_table.specs.declared.rows.Flight.TheVariants as flight
-use Rattle.block_table.specs.declared.rows.OpenBlock.{OpenBlock}
-use Rattle.readers.specs.declared.pin.Pin.{Pin}
-use Rattle.ftl_core.specs.declared.books.Step.{Step}
 use Rattle.ftl_core.specs.declared.books.Step.TheVariants as steps
-use Rattle.unit_map.specs.declared.Stored.{Stored}
-use Rattle.ftl_core.specs.Core.{Core}
-use Rattle.ftl_core.specs.Describes.{RowKept, CopyKept, DiesKept, IsFilling, IsFlight, IsStepCell, Kept, PagesFly}
-use Rattle.ftl_core.specs.Describes.{ReadsKept, Standing, StepKept, StepReadsKept, WritesGroup, name_at, spot_at}
-use Rattle.ftl_core.specs.Moves.{flight_reads, reads_for, repairs_in}
-use Rattle.ftl_core.specs.Takes.{flight_writes, is_step_flight, next_place, writes_page}
-use Rattle.ftl_core.specs.Takes.{writes_step}
+use Rattle.ftl_core.specs.Moves.{flight_reads}
+use Rattle.ftl_core.specs.Takes.{flight_writes, is_step_flight, writes_step}
 use Rattle.ftl_core.proofs.opened.ListParts.{get_set}
-use Rattle.ufs_spec.proofs.Lists.{set_length, any_here, any_told, get_there}
+use Rattle.ufs_spec.proofs.Lists.{any_told}
 use Rattle.ftl_core.proofs.job_taken.FlightKinds.{flight_cases, some_here, some_told}
 
 -- What the rows say is what the definitions say

@@ -1,18 +1,9 @@
 -- What a die is told to do is the same once the job is in flight: nothing that a page is made of changes.
-use Rattle.std.proofs.Common.{◌≡◌, ℕ, List, Option, Some, None, refl}
-use Rattle.block_table.specs.declared.BlockState.{BlockState}
-use Rattle.block_table.specs.declared.rows.DieRow.{DieRow}
-use Rattle.block_table.specs.declared.rows.Flight.{Flight}
+use Rattle.ftl_core.proofs.Common.{BlockState, Core, DieRow, Flight, List, None, OpenBlock, Option, Pending, Place}
+use Rattle.ftl_core.proofs.Common.{Some, Step, find, is_named, job_of, refl, step_job, ℕ, ◌≡◌}
 use Rattle.block_table.specs.declared.rows.Flight.TheVariants as flight
-use Rattle.block_table.specs.declared.rows.OpenBlock.{OpenBlock}
-use Rattle.std.specs.Prelude.{find}
-use Rattle.ufs_spec.specs.declared.flash.Place.{Place}
-use Rattle.write_cache.specs.Slots.{is_named}
-use Rattle.write_cache.specs.declared.slots.Pending.{Pending}
-use Rattle.ftl_core.specs.Core.{Core}
 use Rattle.ftl_core.specs.Moves.{begins, started, started_with}
-use Rattle.ftl_core.specs.Takes.{group_job_of, job_of, step_job}
-use Rattle.ftl_core.specs.declared.books.Step.{Step}
+use Rattle.ftl_core.specs.Takes.{group_job_of}
 use Rattle.ftl_core.specs.declared.books.Step.TheVariants as step
 
 -- the same but for what blocks are and what dies do

@@ -1,18 +1,16 @@
 -- A number of which a test holds, and of none below it, is the lowest; and no block is the lowest stale one where none
 -- is stale.
-use Rattle.std.proofs.Common.{◌≡◌, ◌∙◌, ℕ, zero, suc, ◌<◌, ◌≤◌, Bool, true, false, Option, None, Some}
-use Rattle.std.proofs.Common.{inl, inr, ap, arith, refl, sym}
+use Rattle.ftl_core.proofs.Common.{BlockState, Bool, Core, None, Option, Some, ap, arith, false, found_or, has_stale}
+use Rattle.ftl_core.proofs.Common.{inl, inr, is_so, may_be_used, refl, suc, sym, true, zero, ℕ, ◌&&◌, ◌<◌, ◌∙◌, ◌≡◌}
+use Rattle.ftl_core.proofs.Common.{◌≤◌}
 use Rattle.std.proofs.Math.Nat.{eq-or-lt_of_le}
-use Rattle.std.proofs.Common.{slice_get, option_map, unwrap_or, not, true≢false}
-use Rattle.std.specs.Prelude.{◌&&◌}
+use Rattle.std.proofs.Common.{not, option_map, slice_get, true≢false, unwrap_or}
 use Rattle.std.proofs.lemmas.Map.Keys.{any_passes_from_place}
 use Rattle.block_table.specs.Blocks.{is_stale}
-use Rattle.block_table.specs.declared.BlockState.{BlockState}
 use Rattle.block_table.specs.declared.BlockState.TheVariants as state
 use Rattle.block_table.specs.declared.rows.Flight.TheVariants as flight
-use Rattle.ftl_core.specs.Core.{Core}
-use Rattle.ftl_core.specs.Moves.{has_pin, has_stale, is_so, may_be_used, state_index}
-use Rattle.ftl_core.specs.Takes.{erase_of, found_or, lowest_below}
+use Rattle.ftl_core.specs.Moves.{has_pin, state_index}
+use Rattle.ftl_core.specs.Takes.{erase_of, lowest_below}
 
 pub none_below : (test : ℕ → Bool) (n : ℕ) → ((k : ℕ) → k < n → test k ≡ false) → lowest_below test n ≡ None
 unfolding lowest_below

@@ -1,23 +1,15 @@
 -- Until the device is mended no group is accepted and no page is pending, and once it is no repair is under way.
-use Rattle.std.proofs.Common.{◌≡◌, ◌∙◌, ℕ, zero, suc, ◌-◌, Bool, true, false, List, [], ◌∷◌, Option, Some, None, drop}
-use Rattle.std.proofs.Common.{find, refl, sym, ap, subst, ⊎_elim}
+use Rattle.ftl_core.proofs.Common.{Bool, Core, Describes, Entry, List, Name, None, Option, PagesKept, Pending, Some}
+use Rattle.ftl_core.proofs.Common.{Standing, Step, StepKept, Translation, Valid, [], ap, before_accepted, book, drop}
+use Rattle.ftl_core.proofs.Common.{entry_of, false, false≢true, is_mended, names_after, none_some, refl, repairs_in}
+use Rattle.ftl_core.proofs.Common.{subst, suc, sym, true, two_ways, zero, ℕ, ⊎_elim, ◌∙◌, ◌∷◌, ◌≡◌}
+use Rattle.std.proofs.Common.{find, ◌-◌}
 use Rattle.std.proofs.Math.Seq.{drop-length}
-use Rattle.ufs_spec.proofs.Facts.{false≢true}
 use Rattle.ufs_spec.specs.Keys as keys
-use Rattle.ufs_spec.specs.Ledger.{Entry, accepted_groups, before_accepted, entry_of}
+use Rattle.ufs_spec.specs.Ledger.{accepted_groups}
 use Rattle.ufs_spec.specs.Translation as layer
-use Rattle.ufs_spec.specs.Translation.{Translation, is_mended, names_after}
-use Rattle.ufs_spec.specs.declared.layer.Name.{Name}
-use Rattle.power_loss.specs.Book.{book}
-use Rattle.power_loss.specs.Invariant.{StepKindRight, Valid}
-use Rattle.power_loss.proofs.books.PagesByName.{none_some}
-use Rattle.power_loss.proofs.books.SmallFacts.{two_ways}
-use Rattle.write_cache.specs.declared.slots.Pending.{Pending}
-use Rattle.ftl_core.specs.declared.books.Step.{Step}
+use Rattle.power_loss.specs.Invariant.{StepKindRight}
 use Rattle.ftl_core.specs.declared.books.Step.TheVariants as steps
-use Rattle.ftl_core.specs.Core.{Core}
-use Rattle.ftl_core.specs.Describes.{Describes, PagesKept, Standing, StepKept}
-use Rattle.ftl_core.specs.Moves.{repairs_in}
 
 -- until the device is mended no group is accepted
 pub none_accepted : (t : Translation) → Valid t → is_mended t.work.mending ≡ false → accepted_groups t.ledger ≡ []

@@ -1,19 +1,14 @@
 -- The blocks of a die that are erased or filled next.
-use Rattle.std.proofs.Common.{◌≡◌, ◌∙◌, ℕ, zero, suc, ◌+◌, ◌*◌, ◌<◌, ◌&&◌, not, Bool, true, false, Option, Some, None}
-use Rattle.std.proofs.Common.{slice_get, option_map, refl, sym, ap, arith}
-use Rattle.std.specs.Prelude.{unwrap_or}
-use Rattle.ufs_spec.proofs.Facts.{and_parts, false≢true}
+use Rattle.ftl_core.proofs.Common.{BlockState, Bool, Core, Describes, Kept, None, Numbers, Option, Some, Spot}
+use Rattle.ftl_core.proofs.Common.{Translation, and_parts, ap, arith, block_kept, false, false≢true, found_or, is_so}
+use Rattle.ftl_core.proofs.Common.{lowest, may_be_used, refl, spot_at, state_of, suc, sym, true, unwrap_or, zero, ℕ}
+use Rattle.ftl_core.proofs.Common.{◌*◌, ◌+◌, ◌<◌, ◌∙◌, ◌≡◌}
+use Rattle.std.proofs.Common.{not, option_map, slice_get, ◌&&◌}
 use Rattle.ufs_spec.specs.Disk as disk
-use Rattle.ufs_spec.specs.Disk.{Spot}
 use Rattle.ufs_spec.specs.Translation as layer
-use Rattle.ufs_spec.specs.Translation.{Translation, next_erase}
-use Rattle.ufs_spec.specs.declared.configs.Numbers.{Numbers}
-use Rattle.block_table.specs.declared.BlockState.{BlockState}
+use Rattle.ufs_spec.specs.Translation.{next_erase}
 use Rattle.block_table.specs.declared.BlockState.TheVariants as state
-use Rattle.ftl_core.specs.Core.{Core}
-use Rattle.ftl_core.specs.Describes.{Describes, Kept, block_kept, spot_at}
-use Rattle.ftl_core.specs.Moves.{is_so, may_be_used, state_of}
-use Rattle.ftl_core.specs.Takes.{found_or, lowest, lowest_below}
+use Rattle.ftl_core.specs.Takes.{lowest_below}
 use Rattle.ftl_core.proofs.pins.PinsAlike.{pinned_as}
 use Rattle.ftl_core.proofs.opened.Spots.{found_lowest, state_there}
 

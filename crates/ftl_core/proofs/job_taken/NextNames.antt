@@ -1,35 +1,23 @@
 -- The first pending page that waits is the page of the first name that waits.
-use Rattle.std.proofs.Common.{◌≡◌, ◌∙◌, ℕ, zero, suc, ◌+◌, ◌-◌, ◌<◌, ◌≤◌, ◌&&◌, not, is_some, Bool, true, false, List}
-use Rattle.std.proofs.Common.{[], ◌∷◌, ◌++◌, Option, Some, None, length, drop, map, slice_get, find, option_map, refl}
-use Rattle.std.proofs.Common.{sym, ap, ⊎_elim, arith, is_none}
-use Rattle.std.specs.List.{list_any}
-use Rattle.ufs_spec.proofs.Facts.{none_is}
-use Rattle.write_cache.specs.Slots.{is_named}
+use Rattle.ftl_core.proofs.Common.{Bool, Core, Describes, Entry, IsIn, IsPageAt, List, Name, None, Option, PageKept}
+use Rattle.ftl_core.proofs.Common.{Pending, Place, Rest, Some, Translation, [], and_true, ap, arith, before_accepted}
+use Rattle.ftl_core.proofs.Common.{below, book, drop, entry_of, false, find_behind, flies_name, found_in, get_below}
+use Rattle.ftl_core.proofs.Common.{get_drop, get_there, is_mended, is_named, is_rest_of, length, list_any, map}
+use Rattle.ftl_core.proofs.Common.{names_after, names_pending, none_is, own_name, page_waits, pending, refl}
+use Rattle.ftl_core.proofs.Common.{some_flight, suc, sym, true, two_ways, waits, writes_page, zero, ℕ, ⊎_elim, ◌++◌}
+use Rattle.ftl_core.proofs.Common.{◌+◌, ◌<◌, ◌∙◌, ◌∷◌, ◌≡◌, ◌≤◌}
+use Rattle.std.proofs.Common.{find, is_none, is_some, not, option_map, slice_get, ◌&&◌, ◌-◌}
 use Rattle.ufs_spec.specs.Keys as keys
-use Rattle.ufs_spec.specs.Keys.{below}
-use Rattle.ufs_spec.specs.Ledger.{Entry, accepted_groups, before_accepted, entry_of, pending}
+use Rattle.ufs_spec.specs.Ledger.{accepted_groups}
 use Rattle.ufs_spec.specs.Translation as layer
-use Rattle.ufs_spec.specs.Translation.{Translation, flies_name, is_mended, is_rest_of, names_after}
-use Rattle.ufs_spec.specs.Translation.{some_flight, waiting_name}
-use Rattle.ufs_spec.specs.declared.flash.Place.{Place}
-use Rattle.ufs_spec.specs.declared.layer.Name.{Name}
-use Rattle.power_loss.specs.Book.{IsPageAt, book}
+use Rattle.ufs_spec.specs.Translation.{waiting_name}
 use Rattle.power_loss.proofs.books.PagesByName.{new_page}
-use Rattle.power_loss.proofs.books.SmallFacts.{and_true, two_ways}
-use Rattle.power_loss.proofs.books.FrontierClimbs.{get_drop}
-use Rattle.write_cache.specs.declared.slots.Pending.{Pending}
-use Rattle.ftl_core.specs.Core.{Core}
-use Rattle.ftl_core.specs.Describes.{Describes, PageKept, names_pending}
-use Rattle.ftl_core.specs.Takes.{page_waiting, page_waits, writes_page}
+use Rattle.ftl_core.specs.Takes.{page_waiting}
 use Rattle.ftl_core.proofs.job_taken.Flown.{writes_agree}
 use Rattle.ftl_core.proofs.job_taken.Mended.{no_repair, none_accepted, none_waiting}
 use Rattle.ftl_core.proofs.job_taken.NextPages.{IsProgrammed, page_name, pages_found}
 use Rattle.ftl_core.proofs.pages.NamesBehind.{name_is}
 use Rattle.ftl_core.proofs.rests_owed.RestsNamed.{one_page, rest_named}
-use Rattle.ftl_core.specs.Rests.{own_name, waits}
-use Rattle.power_loss.proofs.ordered_lists.ElementsAndOrders.{IsIn, found_in}
-use Rattle.write_cache.specs.declared.rests.Rest.{Rest}
-use Rattle.ufs_spec.proofs.Lists.{find_behind, get_below, get_there}
 
 -- Names
 

@@ -1,17 +1,11 @@
 -- Pending pages and their names: which of them passes a test first, and what it is programmed as.
-use Rattle.std.proofs.Common.{◌≡◌, ◌∙◌, Bool, true, false, List, [], ◌∷◌, Option, Some, refl, sym, ap, subst}
-use Rattle.std.proofs.Common.{inl, inr}
-use Rattle.std.specs.Prelude.{cond, find, option_map}
-use Rattle.ufs_spec.specs.Cells.{GroupPage}
-use Rattle.ufs_spec.specs.Ledger.{Entry, entry_of}
-use Rattle.ufs_spec.specs.Translation.{Translation, cell_now, cell_of_entry}
-use Rattle.ufs_spec.specs.declared.layer.Name.{Name}
-use Rattle.power_loss.proofs.ordered_lists.ElementsAndOrders.{IsIn, at_has}
-use Rattle.write_cache.specs.declared.slots.Pending.{Pending}
-use Rattle.ftl_core.specs.Core.{Core}
-use Rattle.ftl_core.specs.Describes.{Describes, PageKept, PagesKept, Standing, name_at, names_pending}
+use Rattle.ftl_core.proofs.Common.{Bool, Core, Describes, Entry, GroupPage, IsIn, List, Name, Option, PageKept}
+use Rattle.ftl_core.proofs.Common.{PagesKept, Pending, Some, Standing, Translation, [], ap, at_has, entry_of, false}
+use Rattle.ftl_core.proofs.Common.{find, inl, inr, is_named, name_at, names_pending, option_map, refl, subst, sym, true}
+use Rattle.ftl_core.proofs.Common.{◌∙◌, ◌∷◌, ◌≡◌}
+use Rattle.std.specs.Prelude.{cond}
+use Rattle.ufs_spec.specs.Translation.{cell_now, cell_of_entry}
 use Rattle.ftl_core.specs.Moves.{tag_of_page}
-use Rattle.write_cache.specs.Slots.{is_named}
 use Rattle.ftl_core.proofs.pages.NamesBehind.{name_is}
 use Rattle.ftl_core.proofs.pages.PagesNamed.{page_named, pages_get}
 use Rattle.ftl_core.proofs.pins.FoundPins.{found_there}

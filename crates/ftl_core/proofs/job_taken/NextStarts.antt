@@ -1,44 +1,30 @@
 -- A die begins a job: what is kept then, and what is told.
-use Rattle.std.proofs.Common.{◌≡◌, ◌≢◌, ◌∙◌, ◌⊎◌, ℕ, ◌<◌, ◌≤◌, Bool, true, false, List, [], Option, Some, None, length}
-use Rattle.std.proofs.Common.{refl, sym, ap, subst, inl, inr, ⊎_elim, arith, get_or, is_none, lt-ltb, ltb-true}
-use Rattle.std.specs.Prelude.{◌&&◌, Contains, find, nat_lt, slice_get, slice_set, option_and_then}
+use Rattle.ftl_core.proofs.Common.{BlockState, BlocksKept, Bool, Cell, Cells, CopiesKnown, Core, Describes, DieRow}
+use Rattle.ftl_core.proofs.Common.{Flight, ForStep, ForTask, GroupPage, IsFilling, IsFlight, IsTaken, IsWanted, Kept}
+use Rattle.ftl_core.proofs.Common.{KnowsLive, List, MayTake, Name, None, Numbers, OpenBlock, Option, PagesFly, Pin}
+use Rattle.ftl_core.proofs.Common.{Place, ReadsKept, RestsKept, Some, Spot, Standing, Step, StepReadsKept, Translation}
+use Rattle.ftl_core.proofs.Common.{Want, WritesGroup, [], all_keep, ap, arith, at_die, at_die_cases, core_taken, false}
+use Rattle.ftl_core.proofs.Common.{false≢true, find, first_page, flies_name, get_or, inl, inr, is_pin_of, job_of}
+use Rattle.ftl_core.proofs.Common.{job_taken, length, lt-ltb, moved, nat_lt, next_place, none_some, option_and_then}
+use Rattle.ftl_core.proofs.Common.{refl, slice_get, slice_set, some_flight, spot_at, step_wants, subst, sym, told_by}
+use Rattle.ftl_core.proofs.Common.{true, true≢false, waiting, want_at, wants_on, ℕ, ⊎_elim, ◌&&◌, ◌<◌, ◌∙◌, ◌≡◌, ◌≢◌}
+use Rattle.ftl_core.proofs.Common.{◌≤◌, ◌⊎◌}
+use Rattle.std.proofs.Common.{is_none, ltb-true}
+use Rattle.std.specs.Prelude.{Contains}
 use Rattle.std.proofs.lemmas.Option.{slice_get_cases}
-use Rattle.ufs_spec.proofs.Facts.{false≢true, true≢false}
-use Rattle.ufs_spec.specs.Cells.{Cell, Cells, GroupPage}
 use Rattle.ufs_spec.specs.Disk as disk
-use Rattle.ufs_spec.specs.Disk.{Spot, at_die, job_of as told_by}
-use Rattle.ufs_spec.specs.Moves.{GiveJob, moved}
-use Rattle.ufs_spec.specs.Translation.{MayTake, Translation, Want, flies_name, is_idle, next_flight, some_flight, taken}
-use Rattle.ufs_spec.specs.Translation.{want_at, wants_on}
+use Rattle.ufs_spec.specs.Moves.{GiveJob}
+use Rattle.ufs_spec.specs.Translation.{is_idle, next_flight, taken}
 use Rattle.ufs_spec.specs.Translation as layer
-use Rattle.ufs_spec.specs.declared.configs.Numbers.{Numbers}
-use Rattle.ufs_spec.specs.declared.flash.Place.{Place}
-use Rattle.ufs_spec.specs.declared.layer.Name.{Name}
-use Rattle.ufs_spec.specs.declared.layer.Reader.TheVariants.{ForStep, ForTask}
 use Rattle.ufs_laws.proofs.jobs.OneJob.{given as some_job, nothing_inside}
-use Rattle.power_loss.proofs.moves.MovesKeepValid.{all_keep}
-use Rattle.power_loss.proofs.books.PagesByName.{none_some}
-use Rattle.power_loss.proofs.books.SmallFacts.{at_die_cases}
-use Rattle.block_table.specs.declared.BlockState.{BlockState}
 use Rattle.block_table.specs.declared.BlockState.TheVariants as state
-use Rattle.block_table.specs.declared.rows.DieRow.{DieRow}
-use Rattle.block_table.specs.declared.rows.Flight.{Flight}
 use Rattle.block_table.specs.declared.rows.Flight.TheVariants as flight
-use Rattle.block_table.specs.declared.rows.OpenBlock.{OpenBlock}
-use Rattle.ftl_core.specs.RestsKept.{RestsKept, waiting}
 use Rattle.ftl_core.proofs.rests_owed.RestsStay.{gives_rests}
-use Rattle.ftl_core.specs.Core.{Core}
-use Rattle.ftl_core.specs.Describes.{BlocksKept, CopiesKnown, Describes, IsFilling, IsFlight, IsTaken, Kept, PagesFly}
-use Rattle.ftl_core.specs.Describes.{IsWanted, ReadsKept, Standing, StepReadsKept, WritesGroup, given, spot_at}
-use Rattle.ftl_core.specs.KnownLive.{KnowsLive}
-use Rattle.readers.specs.declared.pin.Pin.{Pin}
-use Rattle.ftl_core.specs.declared.books.Step.{Step}
+use Rattle.ftl_core.specs.Describes.{given}
 use Rattle.ftl_core.specs.declared.books.Waiting.{Waiting}
 use Rattle.ftl_core.specs.declared.books.Waiting.TheVariants as waiting
-use Rattle.ftl_core.specs.Moves.{begins, first_page, started, started_with}
-use Rattle.readers.specs.Pins.{is_pin_of}
-use Rattle.ftl_core.specs.Takes.{begun_if_any, core_taken, flight_taken, job_of, job_taken, next_place, page_flight}
-use Rattle.ftl_core.specs.Takes.{step_wants}
+use Rattle.ftl_core.specs.Moves.{begins, started, started_with}
+use Rattle.ftl_core.specs.Takes.{begun_if_any, flight_taken, page_flight}
 use Rattle.ftl_core.proofs.job_ended.ChangeParts.{blocks_put, elsewhere, same_put, states_with}
 use Rattle.ftl_core.proofs.job_ended.JobsOver.{filling_begun}
 use Rattle.ftl_core.proofs.job_taken.Flown.{die_within, dies_put}

@@ -1,24 +1,15 @@
 -- Where room is for groups, which blocks are open, and where one may be opened: what is kept says the same of it as the
 -- layer.
-use Rattle.std.proofs.Common.{◌≡◌, ◌∙◌, ◌||◌, if◌then◌else◌, Option, Some, None, not, count_by, is_some, option_map}
-use Rattle.std.proofs.Common.{refl, sym, ap}
-use Rattle.std.specs.Prelude.{nat_le, nat_lt}
-use Rattle.std.specs.List.{list_any}
+use Rattle.ftl_core.proofs.Common.{Collection, Core, Describes, Flight, Kept, None, OpenBlock, Option, Place, Some}
+use Rattle.ftl_core.proofs.Common.{Translation, ap, bad_blocks, below, is_bad, layer_plan, list_any, nat_le, nat_lt}
+use Rattle.ftl_core.proofs.Common.{next_place, refl, some_flight, sym, ◌∙◌, ◌≡◌}
+use Rattle.std.proofs.Common.{count_by, if◌then◌else◌, is_some, not, option_map, ◌||◌}
 use Rattle.ufs_spec.specs.Disk as disk
-use Rattle.ufs_spec.specs.Keys.{below}
 use Rattle.ufs_spec.specs.Translation as layer
-use Rattle.ufs_spec.specs.Translation.{Translation, count_blocks, flies_erase, own_room, some_flight, wanted_room}
-use Rattle.ufs_spec.specs.declared.flash.Place.{Place}
-use Rattle.block_table.specs.Blocks.{is_bad, is_free}
-use Rattle.block_table.specs.declared.rows.OpenBlock.{OpenBlock}
-use Rattle.block_table.specs.declared.rows.Flight.{Flight}
-use Rattle.collector.specs.Plans.{Collection, layer_plan}
-use Rattle.ftl_core.specs.Core.{Core}
-use Rattle.ftl_core.specs.Describes.{Describes, Kept}
-use Rattle.ftl_core.specs.Moves.{bad_blocks, erases, fills, flight_erases, free_blocks, has_open_block}
-use Rattle.ftl_core.specs.Moves.{has_room_for_groups, is_plan_of_bad, left_by_groups, may_open_for_group}
-use Rattle.ftl_core.specs.Moves.{may_open_for_step}
-use Rattle.ftl_core.specs.Takes.{next_place}
+use Rattle.ufs_spec.specs.Translation.{count_blocks, flies_erase, own_room, wanted_room}
+use Rattle.block_table.specs.Blocks.{is_free}
+use Rattle.ftl_core.specs.Moves.{erases, fills, flight_erases, free_blocks, has_open_block, has_room_for_groups}
+use Rattle.ftl_core.specs.Moves.{is_plan_of_bad, left_by_groups, may_open_for_group, may_open_for_step}
 use Rattle.ftl_core.proofs.job_taken.FlightKinds.{flight_cases}
 use Rattle.ftl_core.proofs.job_taken.Flown.{rows_agree, dies_agree}
 use Rattle.ftl_core.proofs.job_taken.NextErases.{state_is}

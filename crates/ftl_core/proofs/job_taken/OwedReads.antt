@@ -1,49 +1,28 @@
 -- Which reads are owed to a die: those that readers, the step under way and pages that wait for their rests want of its
 -- pages, where no die reads for them.
-use Rattle.std.proofs.Common.{◌≡◌, ◌∙◌, ℕ, zero, suc, Bool, true, false, List, [], ◌∷◌, ◌++◌, Option, Some, None, refl}
-use Rattle.std.proofs.Common.{sym, ap, subst, arith, ⊎_elim}
-use Rattle.std.proofs.lemmas.List.Elements.{filter-append}
-use Rattle.std.proofs.lemmas.List.{append_assoc}
-use Rattle.std.specs.Prelude.{◌&&◌, ◌||◌, ◌==◌, if◌then◌else◌, Contains, filter_map, slice_get, filter, find, not}
-use Rattle.std.specs.Prelude.{option_and_then, option_map}
-use Rattle.std.specs.List.{list_any, cons_option}
-use Rattle.ufs_spec.specs.Ledger.{Entry, Ledger, entry_of}
+use Rattle.ftl_core.proofs.Common.{Bool, Core, Describes, Entry, Flight, ForRest, ForStep, ForTask, InSlot, Kept}
+use Rattle.ftl_core.proofs.Common.{Ledger, List, Looked, Name, None, OnPage, Option, OwedSource, Pending, Pin, PinKept}
+use Rattle.ftl_core.proofs.Common.{PinsKept, Place, Reader, Some, Step, StepKept, Translation, Unwritten, Want, []}
+use Rattle.ftl_core.proofs.Common.{and_true, ap, append_assoc, arith, cons_option, entry_of, false, false≢true, filter}
+use Rattle.ftl_core.proofs.Common.{filter-append, filter_map, find, find_some, if_false, if_true, if◌then◌else◌}
+use Rattle.ftl_core.proofs.Common.{is_owed_by, list_any, look_of_source, looks_on, none_some, not, option_and_then}
+use Rattle.ftl_core.proofs.Common.{option_map, owes_rest, own_name, reads_for, refl, rest_kept, rest_look, rest_of_name}
+use Rattle.ftl_core.proofs.Common.{rest_read, rest_read_of, slice_get, some_flight, some_is, source_kept, step_read}
+use Rattle.ftl_core.proofs.Common.{step_wants, subst, suc, sym, true, two_ways, want_at, wants_of_step, wants_on, zero}
+use Rattle.ftl_core.proofs.Common.{ℕ, ⊎_elim, ◌&&◌, ◌++◌, ◌==◌, ◌||◌, ◌∙◌, ◌∷◌, ◌≡◌}
+use Rattle.std.specs.Prelude.{Contains}
 use Rattle.ufs_spec.specs.Translation as layer
-use Rattle.ufs_spec.specs.Translation.{Translation, Want, flies_reader, is_of_die, is_unread, some_flight}
-use Rattle.ufs_spec.specs.Translation.{want_at, want_from, want_of_look, want_of_pin, want_of_rest, want_of_source}
-use Rattle.ufs_spec.specs.Translation.{wants_of_step}
-use Rattle.ufs_spec.specs.Translation.{wants_on}
-use Rattle.ufs_spec.specs.declared.flash.Place.{Place}
-use Rattle.power_loss.proofs.books.PagesByName.{none_some, some_is}
-use Rattle.power_loss.proofs.books.SmallFacts.{and_true, if_false, if_true, two_ways}
-use Rattle.readers.specs.declared.pin.Pin.{Pin}
-use Rattle.ftl_core.specs.Core.{Core}
-use Rattle.ftl_core.specs.Describes.{Describes, Kept, PinKept, PinsKept}
-use Rattle.ftl_core.specs.Describes.{StepKept}
-use Rattle.ftl_core.specs.Moves.{look_of_source, reads_for, rest_look}
-use Rattle.readers.specs.Pins.{is_owed_by, looks_on}
-use Rattle.ftl_core.specs.Rests.{own_name}
-use Rattle.ftl_core.specs.RestsKept.{rest_kept, rest_of_name, source_kept}
+use Rattle.ufs_spec.specs.Translation.{flies_reader, is_of_die, is_unread}
+use Rattle.ufs_spec.specs.Translation.{want_from, want_of_look, want_of_pin, want_of_rest, want_of_source}
 use Rattle.ftl_core.proofs.rests_owed.RestsNamed.{all_rests}
-use Rattle.write_cache.specs.declared.rests.OwedSource.{OwedSource}
 use Rattle.write_cache.specs.declared.rests.OwedSource.TheVariants as owed
 use Rattle.write_cache.specs.declared.rests.Rest as cache
-use Rattle.write_cache.specs.declared.slots.Pending.{Pending}
 use Rattle.ftl_core.proofs.job_taken.Flown.{reads_agree}
-use Rattle.ufs_spec.proofs.Facts.{false≢true}
-use Rattle.ufs_spec.specs.declared.layer.Looked.{Looked}
-use Rattle.ufs_spec.specs.declared.layer.Looked.TheVariants.{InSlot, OnPage, Unwritten}
-use Rattle.ufs_spec.specs.declared.layer.Name.{Name}
-use Rattle.ufs_spec.specs.declared.layer.Reader.{Reader}
-use Rattle.ufs_spec.specs.declared.layer.Reader.TheVariants.{ForRest, ForStep, ForTask}
-use Rattle.block_table.specs.declared.rows.Flight.{Flight}
 use Rattle.block_table.specs.declared.rows.Flight.TheVariants as flight
-use Rattle.ftl_core.specs.declared.books.Step.{Step}
 use Rattle.ftl_core.specs.declared.books.Step.TheVariants as steps
 use Rattle.ftl_core.specs.Takes as takes
-use Rattle.ftl_core.specs.Takes.{owes_rest, rest_read, rest_read_of, step_read, step_read_at, step_wants}
+use Rattle.ftl_core.specs.Takes.{step_read_at}
 use Rattle.ftl_core.proofs.pins.FoundPins.{found_passes}
-use Rattle.ufs_spec.proofs.Lists.{find_some}
 
 -- What a pin wants
 

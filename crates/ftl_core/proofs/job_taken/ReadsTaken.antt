@@ -1,46 +1,31 @@
 -- A read that is owed to a die is given to it: of a reader, of the step under way, or of a page for its rest.
-use Rattle.std.proofs.Common.{◌≡◌, ◌∙◌, ℕ, zero, suc, Bool, true, false, List, [], ◌∷◌, ◌++◌, Option, Some, None, refl}
-use Rattle.std.proofs.Common.{sym, ap, subst, arith}
+use Rattle.ftl_core.proofs.Common.{Bool, Core, Describes, DieRow, Flight, ForRest, ForStep, ForTask, InSlot, IsIn}
+use Rattle.ftl_core.proofs.Common.{IsTaken, IsWanted, Kept, List, Looked, Name, None, OnPage, Option, Pending, Pin}
+use Rattle.ftl_core.proofs.Common.{PinKept, Place, Some, Translation, Unwritten, Want, [], and_true, ap, arith}
+use Rattle.ftl_core.proofs.Common.{cons_option, core_taken, entry_of, eq_self, false, false≢true, filter_map, find}
+use Rattle.ftl_core.proofs.Common.{find_behind, first_owed, found_in, has_at, if◌then◌else◌, is_owed_by, is_pin_of}
+use Rattle.ftl_core.proofs.Common.{job_taken, list_any, looks_on, nat_tests, none_some, not, option_and_then}
+use Rattle.ftl_core.proofs.Common.{option_map, owed_read, owes_rest, position_told, reads_for, refl, rest_look}
+use Rattle.ftl_core.proofs.Common.{rest_read, rest_read_of, slice_get, some_is, step_read, step_wants, subst, suc, sym}
+use Rattle.ftl_core.proofs.Common.{true, want_at, wants_on, zero, ℕ, ◌&&◌, ◌++◌, ◌==◌, ◌||◌, ◌∙◌, ◌∷◌, ◌≡◌}
 use Rattle.std.proofs.lemmas.List.Elements.{Contains-append_left}
-use Rattle.std.specs.Prelude.{◌&&◌, ◌||◌, ◌==◌, if◌then◌else◌, Contains, filter_map, slice_get, find, not}
-use Rattle.std.specs.Prelude.{option_and_then, option_map}
-use Rattle.std.specs.List.{list_any, cons_option}
-use Rattle.ufs_spec.specs.Ledger.{entry_of}
+use Rattle.std.specs.Prelude.{Contains}
 use Rattle.ufs_spec.specs.Translation as layer
-use Rattle.ufs_spec.specs.Translation.{Translation, Want, is_of_die, is_unread}
-use Rattle.ufs_spec.specs.Translation.{want_at, want_from, want_of_look, want_of_pin, want_of_rest}
-use Rattle.ufs_spec.specs.Translation.{wants_on}
-use Rattle.ufs_spec.specs.declared.flash.Place.{Place}
-use Rattle.power_loss.proofs.books.PagesByName.{none_some, some_is}
-use Rattle.power_loss.proofs.books.SmallFacts.{and_true, eq_self, eq_told}
-use Rattle.std.proofs.lemmas.Bool.Decides.{nat_tests}
-use Rattle.readers.specs.declared.pin.Pin.{Pin}
-use Rattle.ftl_core.specs.Core.{Core}
-use Rattle.ftl_core.specs.Describes.{Describes, IsTaken, IsWanted, Kept, PinKept, ReadersDiffer}
-use Rattle.ftl_core.specs.Moves.{reads_for, rest_look}
-use Rattle.readers.specs.Pins.{is_owed_by, is_pin_of, looks_on}
-use Rattle.write_cache.specs.declared.slots.Pending.{Pending}
-use Rattle.power_loss.proofs.ordered_lists.ElementsAndOrders.{IsIn, found_in, has_at}
+use Rattle.ufs_spec.specs.Translation.{is_of_die, is_unread, want_from, want_of_look, want_of_pin, want_of_rest}
+use Rattle.power_loss.proofs.books.SmallFacts.{eq_told}
+use Rattle.ftl_core.specs.Describes.{ReadersDiffer}
 use Rattle.ftl_core.proofs.job_taken.Flown.{die_within, no_job}
-use Rattle.ufs_spec.proofs.Facts.{false≢true}
 use Rattle.ufs_spec.specs.Disk as disk
-use Rattle.ufs_spec.specs.declared.layer.Looked.{Looked}
-use Rattle.ufs_spec.specs.declared.layer.Looked.TheVariants.{InSlot, OnPage, Unwritten}
-use Rattle.ufs_spec.specs.declared.layer.Name.{Name}
-use Rattle.ufs_spec.specs.declared.layer.Reader.TheVariants.{ForRest, ForStep, ForTask}
-use Rattle.block_table.specs.declared.rows.DieRow.{DieRow}
-use Rattle.block_table.specs.declared.rows.Flight.{Flight}
 use Rattle.block_table.specs.declared.rows.Flight.TheVariants as flight
 use Rattle.ftl_core.specs.Takes as takes
-use Rattle.ftl_core.specs.Takes.{core_taken, first_owed, idle_flight, job_taken, owed_flight, owed_read, read_of}
-use Rattle.ftl_core.specs.Takes.{own_read, owes_rest, rest_read, rest_read_of, step_read, step_read_at, step_wants}
+use Rattle.ftl_core.specs.Takes.{idle_flight, owed_flight, own_read, read_of, step_read_at}
 use Rattle.ftl_core.proofs.job_taken.OwedReads.{all_want, kept_here, left, no_step_left, one_left, one_wanted}
 use Rattle.ftl_core.proofs.job_taken.OwedReads.{owed_passes, own_left, page_passes, page_want, passes, rests_want}
 use Rattle.ftl_core.proofs.job_taken.OwedReads.{step_free, step_left}
 use Rattle.ftl_core.proofs.job_taken.NextStarts.{is_free_die, job_begun}
 use Rattle.ftl_core.proofs.pins.FoundPins.{position_missed}
 use Rattle.ftl_core.proofs.pins.PinsAlike.{pins_at}
-use Rattle.ufs_spec.proofs.Lists.{any_none, find_behind, find_here, position_told}
+use Rattle.ufs_spec.proofs.Lists.{any_none, find_here}
 
 -- The pin of a block
 

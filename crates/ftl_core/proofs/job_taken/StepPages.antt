@@ -1,43 +1,27 @@
 -- The page of the step under way, as it is programmed once its content is there.
-use Rattle.std.proofs.Common.{◌≡◌, ◌∙◌, ℕ, ◌≤◌, Bool, true, false, Option, Some, None, length, refl, sym, ap}
-use Rattle.std.proofs.Common.{subst, arith}
-use Rattle.std.specs.Prelude.{◌&&◌, not, option_map}
-use Rattle.std.specs.List.{list_any}
-use Rattle.std.proofs.lemmas.List.{length-map}
+use Rattle.ftl_core.proofs.Common.{Bool, Cell, CopyKept, CopyStep, Core, Describes, Entry, Fence, GroupPage, IsKey}
+use Rattle.ftl_core.proofs.Common.{IsStepCell, Key, MarkPage, Mended, Mending, MendingRight, Name, None, Numbers}
+use Rattle.ftl_core.proofs.Common.{Option, Place, RepairKept, RepairStep, Repairing, Shape, Some, Step, StepKept}
+use Rattle.ftl_core.proofs.Common.{Stored, Tag, Translation, Unmarked, Valid, and_true, ap, arith, book, false}
+use Rattle.ftl_core.proofs.Common.{false≢true, flies_name, if_false, if_true, is_sealable, length, length-map, list_any}
+use Rattle.ftl_core.proofs.Common.{name_at, name_is, none_some, not, option_map, refl, regions, shape_of_numbers}
+use Rattle.ftl_core.proofs.Common.{some_flight, step_job, subst, sym, told_by, true, ℕ, ◌&&◌, ◌∙◌, ◌≡◌, ◌≤◌}
 use Rattle.std.proofs.lemmas.Bool.{le-leb, lt-ltb}
-use Rattle.ufs_spec.proofs.Facts.{false≢true, not-true}
-use Rattle.ufs_spec.specs.Plain.{regions}
-use Rattle.ufs_spec.specs.Cells.{Cell, GroupPage, MarkPage}
+use Rattle.ufs_spec.proofs.Facts.{not-true}
 use Rattle.ufs_spec.specs.Disk as disk
-use Rattle.ufs_spec.specs.Disk.{job_of as told_by}
-use Rattle.ufs_spec.specs.Keys.{IsKey, IsArea, IsData, IsSettings}
-use Rattle.ufs_spec.specs.Ledger.{Entry}
+use Rattle.ufs_spec.specs.Keys.{IsArea, IsData, IsSettings}
 use Rattle.ufs_spec.specs.Openings.{IsFirstFence}
 use Rattle.ufs_spec.specs.Pages.{seal_page}
-use Rattle.ufs_spec.specs.Plain.{Shape, shape_of_numbers}
 use Rattle.ufs_spec.specs.Translation as layer
-use Rattle.ufs_spec.specs.Translation.{CopyStep, MarkStep, Mended, Mending, RepairStep, Repairing, Translation}
-use Rattle.ufs_spec.specs.Translation.{Unmarked, cell_of_entry, flies_name, records_now, some_flight, step_cell}
-use Rattle.ufs_spec.specs.Translation.{step_flies, waiting_step}
-use Rattle.ufs_spec.specs.declared.configs.Numbers.{Numbers}
-use Rattle.ufs_spec.specs.declared.flash.Fence.{Fence}
+use Rattle.ufs_spec.specs.Translation.{MarkStep, cell_of_entry, records_now, step_cell, step_flies, waiting_step}
 use Rattle.ufs_spec.specs.declared.flash.Job.TheVariants as job
-use Rattle.ufs_spec.specs.declared.flash.Key.{Key}
-use Rattle.ufs_spec.specs.declared.flash.Place.{Place}
-use Rattle.ufs_spec.specs.declared.flash.Tag.{Tag}
-use Rattle.ufs_spec.specs.declared.layer.Name.{Name}
-use Rattle.power_loss.specs.Book.{book}
-use Rattle.power_loss.specs.Invariant.{FenceRight, MendingRight, Valid}
-use Rattle.power_loss.proofs.books.PagesByName.{none_some}
-use Rattle.power_loss.proofs.books.SmallFacts.{and_true, if_false, if_true, name_is, name_told}
-use Rattle.ftl_core.specs.declared.books.Step.{Step}
+use Rattle.power_loss.specs.Invariant.{FenceRight}
+use Rattle.power_loss.proofs.books.SmallFacts.{name_told}
 use Rattle.ftl_core.specs.declared.books.Step.TheVariants as steps
-use Rattle.unit_map.specs.declared.Stored.{Stored}
-use Rattle.ftl_core.specs.Core.{Core}
 use Rattle.block_table.specs.declared.rows.Flight.TheVariants as flight
-use Rattle.ftl_core.specs.Describes.{CopyKept, Describes, IsCopied, IsStepCell, RepairKept, StepKept, name_at}
+use Rattle.ftl_core.specs.Describes.{IsCopied}
 use Rattle.ftl_core.specs.Moves.{single_tag}
-use Rattle.ftl_core.specs.Takes.{is_sealable, is_step_there, repair_program, step_job, step_waits, writes_step}
+use Rattle.ftl_core.specs.Takes.{is_step_there, repair_program, step_waits, writes_step}
 use Rattle.ftl_core.proofs.job_taken.Flown.{copies_agree, marks_agree, repairs_agree}
 use Rattle.ftl_core.proofs.job_taken.NextStarts.{MayBegin}
 

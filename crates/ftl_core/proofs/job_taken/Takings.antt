@@ -1,42 +1,27 @@
 -- The job that a die is given is one that is owed to it.
-use Rattle.std.proofs.Common.{◌≡◌, ◌∙◌, ℕ, ◌<◌, ◌≤◌, Bool, true, false, List, [], Option, Some, None, length, refl}
-use Rattle.std.proofs.Common.{sym, ap, subst, inl, inr, is_none}
-use Rattle.std.specs.Prelude.{if◌then◌else◌, ◌&&◌, not, slice_get, option_and_then, option_map}
-use Rattle.std.specs.List.{list_any}
-use Rattle.ufs_spec.proofs.Facts.{none_is, false≢true}
-use Rattle.ufs_spec.specs.Cells.{Cell, GroupPage}
+use Rattle.ftl_core.proofs.Common.{Bool, Cell, Core, Describes, DieRow, Flight, GroupPage, IsFlight, IsTaken, Job, List}
+use Rattle.ftl_core.proofs.Common.{Name, None, OpenBlock, Option, PageKept, Pending, Place, Rest, Some, Tag}
+use Rattle.ftl_core.proofs.Common.{Translation, [], and_true, ap, content_by, content_of, core_taken, entry_of, false}
+use Rattle.ftl_core.proofs.Common.{false≢true, first_owed, first_page, flies_name, if_true, if◌then◌else◌, inl, inr}
+use Rattle.ftl_core.proofs.Common.{is_mended, is_owed_by, job_of, job_taken, length, list_any, lowest, name_is, name_of}
+use Rattle.ftl_core.proofs.Common.{names_pending, next_place, none_is, not, option_and_then, option_map, owed_read}
+use Rattle.ftl_core.proofs.Common.{page_waits, refl, rest_read, slice_get, some_flight, spot_at, step_read, subst, sym}
+use Rattle.ftl_core.proofs.Common.{told_by, true, wants_on, writes_page, ℕ, ◌&&◌, ◌<◌, ◌∙◌, ◌≡◌, ◌≤◌}
+use Rattle.std.proofs.Common.{is_none}
 use Rattle.ufs_spec.specs.Disk as disk
-use Rattle.ufs_spec.specs.Disk.{job_of as told_by}
-use Rattle.ufs_spec.specs.Ledger.{entry_of}
 use Rattle.ufs_spec.specs.Translation as layer
-use Rattle.ufs_spec.specs.Translation.{Translation, cell_now, flies_name, flight_at, flight_for, flight_or, is_idle}
-use Rattle.ufs_spec.specs.Translation.{is_mended, name_of, next_erase, next_flight, some_flight, waiting_name}
-use Rattle.ufs_spec.specs.Translation.{waiting_step, wants_on}
-use Rattle.ufs_spec.specs.declared.flash.Job.{Job}
-use Rattle.ufs_spec.specs.declared.flash.Place.{Place}
-use Rattle.ufs_spec.specs.declared.flash.Tag.{Tag}
-use Rattle.ufs_spec.specs.declared.layer.Name.{Name}
-use Rattle.power_loss.proofs.books.SmallFacts.{and_true, if_true, name_is, name_told}
+use Rattle.ufs_spec.specs.Translation.{cell_now, flight_at, flight_for, flight_or, is_idle, next_erase, next_flight}
+use Rattle.ufs_spec.specs.Translation.{waiting_name, waiting_step}
+use Rattle.power_loss.proofs.books.SmallFacts.{name_told}
 use Rattle.block_table.specs.declared.BlockState.TheVariants as state
-use Rattle.block_table.specs.declared.rows.DieRow.{DieRow}
-use Rattle.block_table.specs.declared.rows.Flight.{Flight}
 use Rattle.block_table.specs.declared.rows.Flight.TheVariants as flight
-use Rattle.block_table.specs.declared.rows.OpenBlock.{OpenBlock}
-use Rattle.write_cache.specs.declared.rests.Rest.{Rest}
-use Rattle.write_cache.specs.declared.slots.Pending.{Pending}
-use Rattle.write_cache.specs.Rests.{content_by, content_of}
 use Rattle.ftl_core.specs.declared.books.Waiting.{Waiting}
 use Rattle.ftl_core.specs.declared.books.Waiting.TheVariants as waiting
-use Rattle.ftl_core.specs.Core.{Core}
-use Rattle.ftl_core.specs.Describes.{Describes, IsFlight, IsTaken, PageKept, names_pending, spot_at}
-use Rattle.ftl_core.specs.Moves.{first_page, has_room_for_groups, may_open, tag_of_page}
-use Rattle.readers.specs.Pins.{is_owed_by}
+use Rattle.ftl_core.specs.Moves.{has_room_for_groups, may_open, tag_of_page}
 use Rattle.ftl_core.specs.Takes as takes
-use Rattle.ftl_core.specs.Takes.{core_taken, erase_of, first_owed, flight_into, flight_taken, group_job_of, idle_flight}
-use Rattle.ftl_core.specs.Takes.{is_group_page, job_of, job_taken, lowest, next_place, owed_flight, owed_read}
-use Rattle.ftl_core.specs.Takes.{own_read, page_flight, page_of_group, page_waiting, page_waits, rest_read, step_read}
-use Rattle.ftl_core.specs.Takes.{step_waits}
-use Rattle.ftl_core.specs.Takes.{unread_flight, waiting_flight, waiting_group, waiting_of, waiting_page, writes_page}
+use Rattle.ftl_core.specs.Takes.{erase_of, flight_into, flight_taken, group_job_of, idle_flight, is_group_page}
+use Rattle.ftl_core.specs.Takes.{owed_flight, own_read, page_flight, page_of_group, page_waiting, step_waits}
+use Rattle.ftl_core.specs.Takes.{unread_flight, waiting_flight, waiting_group, waiting_of, waiting_page}
 use Rattle.ftl_core.proofs.job_taken.Flown.{die_within, no_job, writes_agree}
 use Rattle.ftl_core.proofs.job_taken.Mended.{mended_with, no_repair}
 use Rattle.ftl_core.proofs.job_taken.NextErases.{block_free, block_right, erased_next, free_means, lowest_is}

@@ -1,17 +1,15 @@
 -- The lowest block of a die that may be used is the one that the table of live pages finds.
-use Rattle.std.proofs.Common.{◌≡◌, ◌∙◌, ℕ, ◌<◌, ◌&&◌, Bool, true, not, Option, None, Some, ap, arith, refl, sym}
-use Rattle.std.proofs.Common.{◌*◌, ◌+◌, slice_get, unwrap_or, length, nat_lt}
-use Rattle.ufs_spec.proofs.Facts.{and_from, and_parts, lt-ltb, ltb-true}
+use Rattle.ftl_core.proofs.Common.{BlockState, Bool, Inside, IsRoomy, None, Option, Some, and_from, and_parts, ap}
+use Rattle.ftl_core.proofs.Common.{arith, core_of, has_block, is_so, length, ltb-true, may_be_used, refl, state_of, sym}
+use Rattle.ftl_core.proofs.Common.{true, ℕ, ◌*◌, ◌+◌, ◌<◌, ◌∙◌, ◌≡◌}
+use Rattle.std.proofs.Common.{nat_lt, not, slice_get, unwrap_or, ◌&&◌}
+use Rattle.ufs_spec.proofs.Facts.{lt-ltb}
 use Rattle.block_table.specs.Blocks.{state_of as table_state}
-use Rattle.block_table.specs.Lives.{has_block, is_pinned, spot}
+use Rattle.block_table.specs.Lives.{is_pinned, spot}
 use Rattle.block_table.specs.Lowest.{IsLowestBlock, may_be_used as may_be_used_there}
 use Rattle.block_table.specs.Sorted.{same_state}
-use Rattle.block_table.specs.declared.BlockState.{BlockState}
 use Rattle.block_table.specs.declared.BlockState.TheVariants as state
-use Rattle.ftl_core.specs.Moves.{is_so, may_be_used, state_of}
-use Rattle.ftl_core.specs.Rooms.{IsRoomy, core_of}
 use Rattle.ftl_core.specs.Takes.{lowest_below}
-use Rattle.ftl_core.specs.declared.ftl.Ftl.TheInside.{Inside}
 use Rattle.ftl_core.proofs.job_taken.Lowest.{lowest, none_below}
 use Rattle.ftl_core.proofs.live_pages.PinsCounted.{pinned_is}
 

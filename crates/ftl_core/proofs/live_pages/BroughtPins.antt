@@ -1,23 +1,14 @@
 -- A group of pages with keys of their own, as the functions make it of those that a command brings.
-use Rattle.std.proofs.Common.{◌≡◌, ◌∙◌, ℕ, suc, ◌-◌, ◌≤◌, ◌++◌, Bool, List, [], ◌∷◌}
-use Rattle.std.proofs.Common.{Option, Some, None, arith, drop, length, map, min, refl, subst, sym, take}
-use Rattle.std.specs.Prelude.{All, filter, filter_map, option_map, slice_get}
-use Rattle.std.specs.List.{cons_option}
-use Rattle.std.proofs.lemmas.List.Elements.{All-map}
-use Rattle.ufs_spec.proofs.Facts.{same_Some}
-use Rattle.block_table.specs.Lives.{Lives}
+use Rattle.ftl_core.proofs.Common.{All, All-map, Bool, Brought, Claimed, Core, Inside, IsPartBrought, List, Lives, None}
+use Rattle.ftl_core.proofs.Common.{Option, Pending, Some, WriteCache, [], arith, claims_for, cons_option, core_of, drop}
+use Rattle.ftl_core.proofs.Common.{filter, filter_map, length, map, min, new_page, next_number, option_map}
+use Rattle.ftl_core.proofs.Common.{page_brought, refl, same_Some, slice_get, subst, suc, sym, take, without_pins, ℕ}
+use Rattle.ftl_core.proofs.Common.{◌++◌, ◌∙◌, ◌∷◌, ◌≡◌, ◌≤◌}
+use Rattle.std.proofs.Common.{◌-◌}
 use Rattle.write_cache.specs.declared.rests.NewPage.{NewPage}
-use Rattle.write_cache.specs.declared.slots.Claimed.{Claimed}
-use Rattle.write_cache.specs.declared.slots.Pending.{Pending}
-use Rattle.write_cache.specs.Kept.{WriteCache}
-use Rattle.write_cache.specs.Rests.{IsPart, page_brought, pages_appended}
-use Rattle.ftl_core.specs.declared.books.Brought.{Brought}
-use Rattle.ftl_core.specs.declared.ftl.Ftl.TheInside.{Inside}
-use Rattle.ftl_core.specs.Core.{Core}
-use Rattle.ftl_core.specs.Moves.{claims_for, next_number, released}
-use Rattle.readers.specs.Pins.{without_pins}
-use Rattle.ftl_core.specs.Rests.{IsPartBrought, accepted_pages, new_page}
-use Rattle.ftl_core.specs.Rooms.{core_of}
+use Rattle.write_cache.specs.Rests.{IsPart, pages_appended}
+use Rattle.ftl_core.specs.Moves.{released}
+use Rattle.ftl_core.specs.Rests.{accepted_pages}
 use Rattle.ftl_core.proofs.live_pages.PinsCounted.{passed_few}
 
 -- One to three pages

@@ -1,28 +1,13 @@
 -- Which pages are live once the copy of a page stands: the copy in the place of the page, if this was live.
-use Rattle.std.proofs.Common.{◌≡◌, ◌≢◌, ◌∙◌, ℕ, zero, suc, ◌*◌, false, true, List, [], ◌∷◌, Some, None}
-use Rattle.std.proofs.Common.{length, inl, inr, refl, sym, ap, subst, ⊎_elim, arith}
-use Rattle.std.specs.Prelude.{slice_get, slice_set}
-use Rattle.ufs_spec.proofs.Equalities.{place_cases}
-use Rattle.ufs_spec.proofs.Facts.{false≢true, none-some, same_Some}
-use Rattle.ufs_spec.specs.Cells.{Cells}
-use Rattle.ufs_spec.specs.Keys.{IsKey}
-use Rattle.ufs_spec.specs.Plain.{shape_of_numbers}
-use Rattle.ufs_spec.specs.declared.configs.Numbers.{Numbers}
-use Rattle.ufs_spec.specs.declared.flash.Key.{Key}
-use Rattle.ufs_spec.specs.declared.flash.Place.{Place}
-use Rattle.ufs_spec.specs.declared.layer.Name.{Name}
-use Rattle.block_table.specs.Lives.{Lives, has_page, is_live, with_live}
-use Rattle.block_table.specs.declared.Sizes.{Sizes}
-use Rattle.unit_map.specs.Places.{position_of}
-use Rattle.unit_map.specs.declared.Stored.{Stored}
-use Rattle.write_cache.specs.declared.slots.Pending.{Pending}
-use Rattle.ftl_core.specs.Core.{Core}
-use Rattle.ftl_core.specs.Ends.{noted}
-use Rattle.ftl_core.specs.KnownLive.{IsWrittenAt, KnowsLive, page_moved, sizes_of}
+use Rattle.ftl_core.proofs.Common.{Cells, Core, IsKey, IsWrittenAt, Key, KnowsLive, List, Lives, Name, None, Numbers}
+use Rattle.ftl_core.proofs.Common.{Pending, Place, Sizes, Some, Stored, [], ap, arith, false, false≢true, has_page, inl}
+use Rattle.ftl_core.proofs.Common.{inr, is_live, length, live_beside, live_here, none-some, noted, place_cases}
+use Rattle.ftl_core.proofs.Common.{position_of, refl, same_Some, shape_of_numbers, sizes_of, slice_get, slice_set}
+use Rattle.ftl_core.proofs.Common.{subst, suc, sym, true, with_live, zero, ℕ, ⊎_elim, ◌*◌, ◌∙◌, ◌∷◌, ◌≡◌, ◌≢◌}
+use Rattle.ftl_core.specs.KnownLive.{page_moved}
 use Rattle.ftl_core.proofs.group_settled.NotedPlaces.{places_length}
 use Rattle.ftl_core.proofs.live_pages.DurableLive.{AllKnown, AreApart, AreKnown, AreOthers, AreWrittenRight}
 use Rattle.ftl_core.proofs.live_pages.DurableLive.{IsWrittenRight, new_on, old_apart, written_right}
-use Rattle.block_table.proofs.Relations.{live_beside, live_here}
 use Rattle.ftl_core.proofs.live_pages.NotedLive.{IsPageOf, as_long, noted_knows, noted_owned, one_owner}
 use Rattle.ftl_core.proofs.live_pages.ProgramsLive.{put, set_apart, set_at, set_back, set_new}
 use Rattle.ftl_core.proofs.opened.ListParts.{get_set}

@@ -1,24 +1,10 @@
 -- Which pages are live once the groups at the front are durable.
-use Rattle.std.proofs.Common.{◌≡◌, ◌≢◌, ◌∙◌, ◌⊎◌, ℕ, zero, suc, ◌<◌, ◌≤◌, ◌++◌, List, [], ◌∷◌, Option, Some, None}
-use Rattle.std.proofs.Common.{arith, inl, inr, length, refl, sym, ap, subst, ⊎_elim}
-use Rattle.std.specs.Prelude.{fold, slice_get}
-use Rattle.ufs_spec.proofs.Facts.{none-some, same_Some}
-use Rattle.ufs_spec.specs.Cells.{Cells}
-use Rattle.ufs_spec.specs.Keys.{IsKey}
-use Rattle.ufs_spec.specs.Plain.{shape_of_numbers}
-use Rattle.ufs_spec.specs.Translation.{Translation}
-use Rattle.ufs_spec.specs.declared.configs.Numbers.{Numbers}
-use Rattle.ufs_spec.specs.declared.flash.Key.{Key}
-use Rattle.ufs_spec.specs.declared.flash.Place.{Place}
-use Rattle.block_table.specs.Lives.{Lives}
-use Rattle.geometry.specs.Keys.{key_total}
-use Rattle.unit_map.specs.Places.{position_of, stored_in}
-use Rattle.unit_map.specs.declared.Stored.{Stored}
-use Rattle.write_cache.specs.declared.slots.Pending.{Pending}
-use Rattle.ftl_core.specs.Core.{Core}
-use Rattle.ftl_core.specs.Describes.{Kept}
-use Rattle.ftl_core.specs.Ends.{front_written, group_durable, page_at, page_durable, page_durable_at, settled}
-use Rattle.ftl_core.specs.KnownLive.{IsWrittenAt, KnowsLive}
+use Rattle.ftl_core.proofs.Common.{Cells, Core, IsKey, IsWrittenAt, Kept, Key, KnowsLive, List, Lives, None, Numbers}
+use Rattle.ftl_core.proofs.Common.{Option, Pending, Place, Some, Stored, Translation, [], ap, arith, fold}
+use Rattle.ftl_core.proofs.Common.{front_written, group_durable, inl, inr, key_total, length, none-some, page_at}
+use Rattle.ftl_core.proofs.Common.{page_durable, page_durable_at, position_of, refl, same_Some, settled}
+use Rattle.ftl_core.proofs.Common.{shape_of_numbers, slice_get, stored_in, subst, suc, sym, zero, ℕ, ⊎_elim, ◌++◌, ◌<◌}
+use Rattle.ftl_core.proofs.Common.{◌∙◌, ◌∷◌, ◌≡◌, ◌≢◌, ◌≤◌, ◌⊎◌}
 use Rattle.ftl_core.proofs.group_settled.FrontDurable.{MayClimb, climbs_on, front_kept_on, raised_to, whole_behind}
 use Rattle.ftl_core.proofs.group_settled.FrontLedger.{made, made_is}
 use Rattle.ftl_core.proofs.group_settled.NotedPlaces.{places_length}

@@ -1,11 +1,7 @@
 -- The pages where the contents of the first keys stand, one key after another.
-use Rattle.std.proofs.Common.{◌≡◌, ◌∙◌, ℕ, zero, suc, ◌+◌, List, [], ◌∷◌, Option, ap, arith, refl, slice_get}
-use Rattle.std.proofs.Common.{sym, take}
-use Rattle.std.specs.Prelude.{fold}
-use Rattle.block_table.specs.Lives.{Lives}
-use Rattle.unit_map.specs.Places.{flat}
-use Rattle.unit_map.specs.declared.Stored.{Stored}
-use Rattle.ftl_core.specs.KnownLive.{with_stored}
+use Rattle.ftl_core.proofs.Common.{List, Lives, Option, Stored, [], ap, arith, flat, fold, refl, suc, sym, take}
+use Rattle.ftl_core.proofs.Common.{with_stored, zero, ℕ, ◌+◌, ◌∙◌, ◌∷◌, ◌≡◌}
+use Rattle.std.proofs.Common.{slice_get}
 
 fold_next : (l : Lives) (ps : List (Option Stored)) (i : ℕ) →
     fold with_stored l (take (suc i) ps) ≡ with_stored (fold with_stored l (take i ps)) (flat (slice_get ps i))

@@ -1,27 +1,13 @@
 -- Which pages are live once a die's job ended.
-use Rattle.std.proofs.Common.{◌≡◌, ◌∙◌, ℕ, ◌<◌, Bool, true, false, List, Option, Some, None, refl, sym, ap, subst}
-use Rattle.std.specs.Prelude.{slice_get}
-use Rattle.ufs_spec.proofs.Facts.{false≢true}
-use Rattle.ufs_spec.specs.Cells.{Cell, GroupPage}
+use Rattle.ftl_core.proofs.Common.{Bool, Cell, Collection, Core, Describes, DieRow, Flight, ForNobody, ForRest, ForStep}
+use Rattle.ftl_core.proofs.Common.{ForTask, GroupPage, IsFlightAfter, IsRowAfter, IsStepCell, List, None, OpenBlock}
+use Rattle.ftl_core.proofs.Common.{Option, Outcome, Some, Step, Tag, Translation, ap, change_after, change_ended}
+use Rattle.ftl_core.proofs.Common.{ending, false, false≢true, is_read, mark_over, next_place, page_written, plan_freed}
+use Rattle.ftl_core.proofs.Common.{refl, repairs_in, slice_get, spot_at, step_over, subst, sym, true, ℕ, ◌<◌, ◌∙◌, ◌≡◌}
 use Rattle.ufs_spec.specs.Disk as disk
-use Rattle.ufs_spec.specs.Translation.{Translation}
-use Rattle.ufs_spec.specs.declared.flash.Outcome.{Outcome}
-use Rattle.ufs_spec.specs.declared.flash.Tag.{Tag}
-use Rattle.ufs_spec.specs.declared.layer.Reader.TheVariants.{ForNobody, ForRest, ForStep, ForTask}
-use Rattle.block_table.specs.declared.rows.OpenBlock.{OpenBlock}
-use Rattle.collector.specs.Plans.{Collection}
-use Rattle.block_table.specs.declared.rows.DieRow.{DieRow}
-use Rattle.block_table.specs.declared.rows.Flight.{Flight}
 use Rattle.block_table.specs.declared.rows.Flight.TheVariants as flight
-use Rattle.ftl_core.specs.declared.books.Step.{Step}
 use Rattle.ftl_core.specs.declared.books.Step.TheVariants as steps
-use Rattle.ftl_core.specs.Core.{Core}
-use Rattle.ftl_core.specs.Describes.{Describes, IsStepCell, spot_at}
-use Rattle.ftl_core.specs.Done.{IsRowAfter, IsFlightAfter}
-use Rattle.ftl_core.specs.Ends.{mark_over, plan_freed, step_failed, step_over}
-use Rattle.ftl_core.specs.Gives.{change_after, change_ended, ending, is_read}
-use Rattle.ftl_core.specs.Moves.{page_written, repairs_in}
-use Rattle.ftl_core.specs.Takes.{next_place}
+use Rattle.ftl_core.specs.Ends.{step_failed}
 use Rattle.ftl_core.proofs.job_ended.CopiesEnded.{copy_knows}
 use Rattle.ftl_core.proofs.job_taken.FlightKinds.{flight_cases}
 use Rattle.ftl_core.proofs.live_pages.ProgramsLive.{group_live, repair_live}

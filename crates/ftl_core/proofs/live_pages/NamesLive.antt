@@ -1,34 +1,20 @@
 -- A page is live in what is kept exactly if it is live in the layer.
-use Rattle.std.proofs.Common.{◌≡◌, ◌∙◌, ◌⊎◌, ℕ, zero, suc, ◌<◌, ◌≤◌, Bool, true, false, List, []}
-use Rattle.std.proofs.Common.{◌∷◌, Option, Some, None, length, inl, inr, refl, sym, ap, subst, ⊎_elim, arith}
-use Rattle.std.specs.Prelude.{◌-◌, nat_lt, slice_get}
-use Rattle.std.proofs.lemmas.Option.{slice_get_within}
+use Rattle.ftl_core.proofs.Common.{Bool, Cell, Core, Describes, Entry, GroupPage, IsKey, IsLastRepair, IsPageAt}
+use Rattle.ftl_core.proofs.Common.{IsWrittenAt, Ledger, List, Mended, Mending, MendingRight, Name, None, Numbers}
+use Rattle.ftl_core.proofs.Common.{Option, Pending, Place, RepairStep, Repairing, Some, StandsAt, Step, StepKept, Tag}
+use Rattle.ftl_core.proofs.Common.{Translation, Unmarked, [], and_from, and_parts, ap, arith, book, cases_Bool}
+use Rattle.ftl_core.proofs.Common.{entry_of, false, false≢true, inl, inr, is_live, is_mended, key_of, last_number}
+use Rattle.ftl_core.proofs.Common.{latest_durable, length, ltb-true, name_at, name_of, names_pending, nat_lt, none-some}
+use Rattle.ftl_core.proofs.Common.{page_new, page_within, refl, same_Some, shape_of_numbers, slice_get}
+use Rattle.ftl_core.proofs.Common.{slice_get_within, stored_of, subst, suc, sym, true, zero, ℕ, ⊎_elim, ◌-◌, ◌<◌, ◌∙◌}
+use Rattle.ftl_core.proofs.Common.{◌∷◌, ◌≡◌, ◌≤◌, ◌⊎◌}
 use Rattle.ufs_spec.proofs.Equalities.{is_name_told, name_self, place_self, place_told}
-use Rattle.ufs_spec.proofs.Facts.{and_from, and_parts, cases_Bool, false≢true, lt-ltb, ltb-true, none-some, or_cases}
-use Rattle.ufs_spec.proofs.Facts.{or_left, or_right, same_Some}
-use Rattle.ufs_spec.specs.Cells.{Cell, GroupPage, key_of}
+use Rattle.ufs_spec.proofs.Facts.{lt-ltb, or_cases, or_left, or_right}
 use Rattle.ufs_spec.specs.Keys as keys
-use Rattle.ufs_spec.specs.Keys.{IsKey}
-use Rattle.ufs_spec.specs.Ledger.{Entry, Ledger, entry_of, is_name, latest_durable}
-use Rattle.ufs_spec.specs.Plain.{shape_of_numbers}
+use Rattle.ufs_spec.specs.Ledger.{is_name}
 use Rattle.ufs_spec.specs.Translation as layer
-use Rattle.ufs_spec.specs.Translation.{Mended, Mending, RepairStep, Repairing, Translation, Unmarked, is_live_cell}
-use Rattle.ufs_spec.specs.Translation.{is_mended, name_of, stands_there}
-use Rattle.ufs_spec.specs.declared.configs.Numbers.{Numbers}
-use Rattle.ufs_spec.specs.declared.flash.Place.{Place}
-use Rattle.ufs_spec.specs.declared.flash.Tag.{Tag}
-use Rattle.ufs_spec.specs.declared.layer.Name.{Name}
-use Rattle.power_loss.specs.Book.{IsPageAt, book, last_number}
-use Rattle.power_loss.specs.Invariant.{IsLastRepair, MendingRight}
-use Rattle.power_loss.proofs.books.PagesByName.{page_new, page_within}
-use Rattle.block_table.specs.Lives.{is_live}
-use Rattle.write_cache.specs.declared.slots.Pending.{Pending}
-use Rattle.ftl_core.specs.declared.books.Step.{Step}
+use Rattle.ufs_spec.specs.Translation.{is_live_cell, stands_there}
 use Rattle.ftl_core.specs.declared.books.Step.TheVariants as steps
-use Rattle.ftl_core.specs.Core.{Core}
-use Rattle.ftl_core.specs.Describes.{Describes, StepKept, name_at, names_pending}
-use Rattle.ftl_core.specs.KnownLive.{IsWrittenAt, StandsAt}
-use Rattle.ftl_core.specs.Moves.{stored_of}
 use Rattle.ftl_core.proofs.group_settled.PageWritten.{pending_of}
 use Rattle.ftl_core.proofs.job_taken.Flown.{same_tests}
 use Rattle.ftl_core.proofs.live_pages.StoredPages.{pending_named, stored_named}

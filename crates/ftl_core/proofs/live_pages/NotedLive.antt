@@ -1,28 +1,14 @@
 -- Which pages are live once the place of an address is noted: each page of the dies is of one key at most.
-use Rattle.std.proofs.Common.{◌≡◌, ◌≢◌, ◌∙◌, ◌⊎◌, ℕ, ◌*◌, Bool, true, false, List, Option, Some, None, length, refl}
-use Rattle.std.proofs.Common.{sym, ap, subst, inl, inr, ⊎_elim}
-use Rattle.std.specs.Prelude.{if◌then◌else◌, option_and_then, slice_get, slice_set}
-use Rattle.ufs_spec.proofs.Equalities.{key_cases, place_cases}
-use Rattle.ufs_spec.proofs.Facts.{none-some, same_Some}
-use Rattle.ufs_spec.proofs.Lists.{set_length}
-use Rattle.ufs_spec.specs.Cells.{Cells, GroupPage, key_of}
-use Rattle.ufs_spec.specs.Keys.{IsKey}
-use Rattle.ufs_spec.specs.Plain.{shape_of_numbers}
-use Rattle.ufs_spec.specs.declared.configs.Numbers.{Numbers}
-use Rattle.ufs_spec.specs.declared.flash.Key.{Key}
-use Rattle.ufs_spec.specs.declared.flash.Place.{Place}
-use Rattle.ufs_spec.specs.declared.flash.Tag.{Tag}
-use Rattle.block_table.specs.Lives.{Lives, has_page, is_live, page_place, with_live}
-use Rattle.block_table.specs.declared.Sizes.{Sizes}
-use Rattle.block_table.proofs.Relations.{live_beside, live_here}
+use Rattle.ftl_core.proofs.Common.{Bool, Cells, Core, GroupPage, IsKey, IsWrittenAt, Key, KnowsLive, List, Lives, None}
+use Rattle.ftl_core.proofs.Common.{Numbers, Option, Pending, Place, Sizes, Some, StandsAt, Stored, Tag, ap, false, flat}
+use Rattle.ftl_core.proofs.Common.{has_page, if◌then◌else◌, inl, inr, is_live, key_of, length, live_beside, live_here}
+use Rattle.ftl_core.proofs.Common.{none-some, noted, option_and_then, place_cases, position_of, refl, same_Some}
+use Rattle.ftl_core.proofs.Common.{set_length, shape_of_numbers, sizes_of, slice_get, slice_set, stored_in, stored_of}
+use Rattle.ftl_core.proofs.Common.{subst, sym, true, with_live, ℕ, ⊎_elim, ◌*◌, ◌∙◌, ◌≡◌, ◌≢◌, ◌⊎◌}
+use Rattle.ufs_spec.proofs.Equalities.{key_cases}
+use Rattle.block_table.specs.Lives.{page_place}
 use Rattle.geometry.proofs.KeyIndexes.{index_known}
-use Rattle.unit_map.specs.Places.{flat, position_of, stored_in}
-use Rattle.unit_map.specs.declared.Stored.{Stored}
-use Rattle.write_cache.specs.declared.slots.Pending.{Pending}
-use Rattle.ftl_core.specs.Core.{Core}
-use Rattle.ftl_core.specs.Ends.{noted}
-use Rattle.ftl_core.specs.KnownLive.{IsHeld, IsWrittenAt, KnowsLive, StandsAt, sizes_of, without_stored}
-use Rattle.ftl_core.specs.Moves.{stored_of}
+use Rattle.ftl_core.specs.KnownLive.{IsHeld, without_stored}
 use Rattle.ftl_core.proofs.group_settled.FrontPlaces.{HasPlaces}
 use Rattle.ftl_core.proofs.group_settled.NotedPlaces.{stored_here, stored_other}
 

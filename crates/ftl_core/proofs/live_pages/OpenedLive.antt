@@ -1,28 +1,23 @@
 -- Which pages are live when the layer is opened.
-use Rattle.std.proofs.Common.{◌≡◌, ◌≢◌, ◌∙◌, ◌⊎◌, ℕ, zero, suc, ◌+◌, ◌-◌, ◌*◌, ◌/◌, ◌<◌, ◌≤◌, true, false, List, []}
-use Rattle.std.proofs.Common.{◌∷◌, Option, Some, None, length, take, sum, refl, sym, ap, inl, inr, ⊎_elim, arith}
-use Rattle.std.specs.Prelude.{fold, option_and_then, slice_get, slice_index_or}
-use Rattle.std.proofs.lemmas.List.{length-map, length-replicate}
-use Rattle.std.proofs.lemmas.List.Sums.{sum_by-cons}
-use Rattle.ufs_spec.proofs.Equalities.{place_cases}
-use Rattle.ufs_spec.proofs.Facts.{and_parts, cases_lt, false≢true, none-some, same_Some}
+use Rattle.ftl_core.proofs.Common.{Key, KnowsLive, List, Lives, None, Numbers, Option, Place, Shape, Sizes, Some}
+use Rattle.ftl_core.proofs.Common.{StandsAt, Stored, [], and_parts, ap, arith, false, false≢true, flat, fold, has_page}
+use Rattle.ftl_core.proofs.Common.{inl, inr, is_live, key_total, length, length-map, length-replicate, live_beside}
+use Rattle.ftl_core.proofs.Common.{live_here, none-some, none_live, option_and_then, place_cases, position_of, refl}
+use Rattle.ftl_core.proofs.Common.{regions, same_Some, shape_of_numbers, sizes_of, slice_get, stored_in, suc}
+use Rattle.ftl_core.proofs.Common.{sum_by-cons, sym, take, true, with_live, with_stored, zero, ℕ, ⊎_elim, ◌*◌, ◌+◌, ◌<◌}
+use Rattle.ftl_core.proofs.Common.{◌∙◌, ◌∷◌, ◌≡◌, ◌≢◌, ◌≤◌, ◌⊎◌}
+use Rattle.std.proofs.Common.{sum, ◌-◌, ◌/◌}
+use Rattle.std.specs.Prelude.{slice_index_or}
+use Rattle.ufs_spec.proofs.Facts.{cases_lt}
 use Rattle.ufs_spec.proofs.Lists.{get_take, take_get}
 use Rattle.ufs_spec.specs.Keys.{area_pages, region_pages}
-use Rattle.ufs_spec.specs.Plain.{Shape, area_len, shape_of_numbers}
-use Rattle.ufs_spec.specs.Plain.{regions}
-use Rattle.ufs_spec.specs.declared.configs.Numbers.{Numbers}
-use Rattle.ufs_spec.specs.declared.flash.Key.{Key}
-use Rattle.ufs_spec.specs.declared.flash.Place.{Place}
-use Rattle.block_table.specs.Lives.{Lives, has_page, is_live, page_place, with_live}
-use Rattle.block_table.specs.declared.Sizes.{Sizes}
-use Rattle.geometry.specs.Keys.{AtArea, AtData, AtSettings, IsIndex, key_total}
+use Rattle.ufs_spec.specs.Plain.{area_len}
+use Rattle.block_table.specs.Lives.{page_place}
+use Rattle.geometry.specs.Keys.{AtArea, AtData, AtSettings, IsIndex}
 use Rattle.geometry.proofs.KeyIndexes.{index_below, is_index}
 use Rattle.ufs_spec.specs.Counting.{below}
-use Rattle.unit_map.specs.Places.{flat, position_of, stored_in}
-use Rattle.unit_map.specs.declared.Stored.{Stored}
-use Rattle.ftl_core.specs.KnownLive.{KnowsLive, StandsAt, lives_of_places, none_live, sizes_of, with_stored}
+use Rattle.ftl_core.specs.KnownLive.{lives_of_places}
 use Rattle.block_table.proofs.LiveCounts.{replicate_off}
-use Rattle.block_table.proofs.Relations.{live_beside, live_here}
 use Rattle.ftl_core.proofs.live_pages.NotedLive.{as_long}
 
 -- Each index below the count of keys has a key

@@ -1,26 +1,14 @@
 -- The layer's fields go on to be right after what changes pins.
-use Rattle.std.proofs.Common.{◌≡◌, ◌∙◌, ◌<◌, ◌≤◌, ◌++◌, Bool, not, List, [], ◌∷◌, Option, ap, arith, length}
-use Rattle.std.proofs.Common.{length-append, map, replicate, subst, sym}
-use Rattle.std.specs.Prelude.{filter, fold}
-use Rattle.std.proofs.lemmas.List.{length-map, length-replicate}
-use Rattle.block_table.specs.Lives.{Lives}
-use Rattle.block_table.specs.declared.Sizes.{Sizes}
-use Rattle.unit_map.specs.declared.Stored.{Stored}
-use Rattle.block_table.specs.declared.rows.DieRow.{DieRow}
+use Rattle.ftl_core.proofs.Common.{ArePinsCounted, Bool, DieRow, Inside, IsRoomy, List, Lives, Option, Pending, Pin}
+use Rattle.ftl_core.proofs.Common.{Sizes, Stored, [], ap, arith, filter, fold, length, length-append, length-map}
+use Rattle.ftl_core.proofs.Common.{length-replicate, map, most_pins, moved_pin, none_live, subst, sym, with_stored}
+use Rattle.ftl_core.proofs.Common.{without_pins, ◌++◌, ◌<◌, ◌∙◌, ◌∷◌, ◌≡◌, ◌≤◌}
+use Rattle.std.proofs.Common.{not, replicate}
 use Rattle.block_table.specs.Rows.{idle_row}
-use Rattle.write_cache.specs.declared.slots.Pending.{Pending}
-use Rattle.readers.specs.declared.pin.Pin.{Pin}
-use Rattle.ftl_core.specs.declared.ftl.Ftl.TheInside.{Inside}
-use Rattle.ftl_core.specs.KnownLive.{none_live, with_stored}
-use Rattle.readers.specs.Pins.{moved_pin}
-use Rattle.ftl_core.specs.PinCounts.{ArePinsCounted}
-use Rattle.readers.specs.Pins.{block_pinned, let_go, most_pins, pin_moves, without_pins}
-use Rattle.ftl_core.specs.Rooms.{IsRoomy}
-use Rattle.ftl_core.proofs.live_pages.PinsCounted.{gone_counted, looked_counted, moved_counted}
-use Rattle.readers.proofs.BarePins.{gone_bare, moves_bare}
-use Rattle.ftl_core.proofs.live_pages.PinsCounted.{none_counted, passed_few, pinned_counted, stored_counted}
-use Rattle.readers.proofs.BarePins.{pinned_bare}
-use Rattle.ftl_core.proofs.live_pages.PinsCounted.{stored_sizes}
+use Rattle.readers.specs.Pins.{block_pinned, let_go, pin_moves}
+use Rattle.ftl_core.proofs.live_pages.PinsCounted.{gone_counted, looked_counted, moved_counted, none_counted}
+use Rattle.ftl_core.proofs.live_pages.PinsCounted.{passed_few, pinned_counted, stored_counted, stored_sizes}
+use Rattle.readers.proofs.BarePins.{gone_bare, moves_bare, pinned_bare}
 
 pub counted_as : (l m : Lives) (ps qs : List Pin) (pages : List Pending) → l ≡ m → ps ≡ qs →
     ArePinsCounted m qs pages → ArePinsCounted l ps pages

@@ -1,34 +1,24 @@
 -- Each block has as many pins as readers keep pages of it and rests are still to be read from it, and goes on to have
 -- as many while the pins of readers change. RestPins has what changes the rests.
-use Rattle.std.proofs.Common.{◌≡◌, ◌≢◌, ◌∙◌, ◌⊎◌, ℕ, zero, suc, ◌+◌, ◌-◌, ◌*◌, ◌<◌, ◌≤◌, ◌++◌, ◌||◌, Bool, true, false}
-use Rattle.std.proofs.Common.{cond, not, List, [], ◌∷◌, Option, Some, None, ap, arith, length, length-append, refl, sym}
-use Rattle.std.proofs.Common.{inl, inr, map, min}
-use Rattle.std.specs.Prelude.{◌^◌, filter, fold, if◌then◌else◌, nat_lt, slice_get, slice_set, unwrap_or}
-use Rattle.std.specs.List.{list_any}
+use Rattle.ftl_core.proofs.Common.{ArePinsCounted, Bool, InSlot, List, Lives, Looked, Name, None, OnPage, Option}
+use Rattle.ftl_core.proofs.Common.{Pending, Pin, Place, Sizes, Some, Spot, Stored, Unwritten, [], and_from, ap, arith}
+use Rattle.ftl_core.proofs.Common.{cases_Bool, cond, false, false≢true, filter, filter-append, fold, has_block}
+use Rattle.ftl_core.proofs.Common.{if◌then◌else◌, inl, inr, keeps_page, length, length-append, list_any, map, min}
+use Rattle.ftl_core.proofs.Common.{most_pins, moved_pin, nat_lt, none_live, refl, same_name, slice_get, slice_set, suc}
+use Rattle.ftl_core.proofs.Common.{sym, true, unwrap_or, with_live, with_stored, without_pins, zero, ℕ, ◌*◌, ◌++◌, ◌+◌}
+use Rattle.ftl_core.proofs.Common.{◌<◌, ◌∙◌, ◌∷◌, ◌≡◌, ◌≢◌, ◌≤◌, ◌⊎◌}
+use Rattle.std.proofs.Common.{not, ◌-◌, ◌||◌}
+use Rattle.std.specs.Prelude.{◌^◌}
 use Rattle.std.proofs.Math.Nat.{min-eq_left}
-use Rattle.std.proofs.lemmas.List.Elements.{filter-append}
 use Rattle.ufs_spec.proofs.Equalities.{spot_cases, spot_self}
-use Rattle.ufs_spec.proofs.Facts.{and_from, cases_Bool, false≢true, lt-ltb}
+use Rattle.ufs_spec.proofs.Facts.{lt-ltb}
 use Rattle.ufs_spec.proofs.Lists.{get_replicate, set_other, set_there}
-use Rattle.ufs_spec.specs.Disk.{Spot, same_spot, spot_of}
-use Rattle.ufs_spec.specs.Ledger.{same_name}
-use Rattle.ufs_spec.specs.declared.flash.Place.{Place}
-use Rattle.ufs_spec.specs.declared.layer.Looked.{Looked}
-use Rattle.ufs_spec.specs.declared.layer.Looked.TheVariants.{InSlot, OnPage, Unwritten}
-use Rattle.ufs_spec.specs.declared.layer.Name.{Name}
-use Rattle.block_table.specs.Lives.{Lives, block_place, has_block, pins_of, with_live, with_pins}
-use Rattle.block_table.specs.declared.Sizes.{Sizes}
+use Rattle.ufs_spec.specs.Disk.{same_spot, spot_of}
+use Rattle.block_table.specs.Lives.{block_place, pins_of, with_pins}
 use Rattle.block_table.proofs.LiveCounts.{one, one_spot, spot_inside}
-use Rattle.unit_map.specs.declared.Stored.{Stored}
-use Rattle.readers.specs.declared.pin.Pin.{Pin}
-use Rattle.write_cache.specs.declared.slots.Pending.{Pending}
-use Rattle.ftl_core.specs.KnownLive.{none_live, with_stored}
-use Rattle.ftl_core.specs.Moves.{keeps, keeps_page, reads_block}
-use Rattle.readers.specs.Pins.{moved_pin, now_stored}
-use Rattle.ftl_core.specs.PinCounts.{ArePinsCounted}
-use Rattle.readers.specs.Pins.{block_pinned, block_unpinned, is_slot_of, let_go, pin_moves}
+use Rattle.ftl_core.specs.Moves.{keeps, reads_block}
+use Rattle.readers.specs.Pins.{block_pinned, block_unpinned, is_slot_of, let_go, now_stored, pin_moves}
 use Rattle.ftl_core.specs.PinCounts.{pins_on, rests_on}
-use Rattle.readers.specs.Pins.{most_pins, without_pins}
 
 -- Counts of blocks
 

@@ -1,49 +1,24 @@
 -- Which pages are live once the program of a page ended well.
-use Rattle.std.proofs.Common.{◌≡◌, ◌≢◌, ◌∙◌, ℕ, zero, suc, ◌*◌, true, List, [], ◌∷◌, Option, Some, None, length}
-use Rattle.std.proofs.Common.{inl, inr, refl, sym, ap, subst, ⊎_elim, arith}
-use Rattle.std.specs.Prelude.{slice_get, slice_set}
-use Rattle.ufs_spec.proofs.CellKinds.{page_not_nothing}
-use Rattle.ufs_spec.proofs.Facts.{none-some, same_Some}
-use Rattle.ufs_spec.proofs.Equalities.{place_cases}
+use Rattle.ftl_core.proofs.Common.{Cells, Core, Describes, DieRow, Entry, GroupPage, IsKey, IsPageAt, IsStepCell}
+use Rattle.ftl_core.proofs.Common.{IsWrittenAt, Key, KnowsLive, List, Name, None, Nothing, Numbers, OpenBlock, Option}
+use Rattle.ftl_core.proofs.Common.{PageKept, Pending, Place, RepairKept, Sizes, Some, Step, StepKept, Stored, Tag}
+use Rattle.ftl_core.proofs.Common.{Translation, [], ap, arith, at_place, book, entry_of, group_ended, has_page, inl}
+use Rattle.ftl_core.proofs.Common.{inr, is_live, key_of, length, live_beside, live_here, name_at, name_of}
+use Rattle.ftl_core.proofs.Common.{names_pending, next_place, none-some, page_at, page_not_nothing, page_written}
+use Rattle.ftl_core.proofs.Common.{place_cases, refl, repair_over, risen, same_Some, settled, shape_of_numbers}
+use Rattle.ftl_core.proofs.Common.{sizes_of, slice_get, slice_set, subst, suc, sym, true, with_live, zero, ℕ, ⊎_elim}
+use Rattle.ftl_core.proofs.Common.{◌*◌, ◌∙◌, ◌∷◌, ◌≡◌, ◌≢◌}
 use Rattle.ufs_spec.proofs.Updates.{at_place_cases}
-use Rattle.ufs_spec.specs.Cells.{Cells, GroupPage, Nothing, key_of}
 use Rattle.ufs_spec.specs.Disk as disk
-use Rattle.ufs_spec.specs.Disk.{at_place}
-use Rattle.ufs_spec.specs.Keys.{IsKey}
-use Rattle.ufs_spec.specs.Ledger.{Entry, entry_of}
-use Rattle.ufs_spec.specs.Plain.{shape_of_numbers}
-use Rattle.ufs_spec.specs.Translation.{Translation, name_of}
-use Rattle.ufs_spec.specs.declared.configs.Numbers.{Numbers}
-use Rattle.ufs_spec.specs.declared.flash.Key.{Key}
-use Rattle.ufs_spec.specs.declared.flash.Place.{Place}
-use Rattle.ufs_spec.specs.declared.flash.Tag.{Tag}
-use Rattle.ufs_spec.specs.declared.layer.Name.{Name}
-use Rattle.power_loss.specs.Book.{IsPageAt, book}
-use Rattle.block_table.specs.Lives.{has_page, is_live, with_live}
-use Rattle.block_table.specs.declared.Sizes.{Sizes}
-use Rattle.block_table.specs.declared.rows.OpenBlock.{OpenBlock}
-use Rattle.unit_map.specs.declared.Stored.{Stored}
-use Rattle.write_cache.specs.declared.slots.Pending.{Pending}
-use Rattle.block_table.specs.declared.rows.DieRow.{DieRow}
-use Rattle.ftl_core.specs.declared.books.Step.{Step}
 use Rattle.ftl_core.specs.declared.books.Step.TheVariants as steps
-use Rattle.ftl_core.specs.Core.{Core}
-use Rattle.ftl_core.specs.Describes.{Describes, IsStepCell, PageKept, RepairKept, StepKept, name_at, names_pending}
-use Rattle.ftl_core.specs.Ends.{page_at, repair_over, risen, settled}
-use Rattle.ftl_core.specs.Gives.{group_ended}
-use Rattle.ftl_core.specs.KnownLive.{IsWrittenAt, KnowsLive, sizes_of}
-use Rattle.ftl_core.specs.Moves.{page_written}
-use Rattle.ftl_core.specs.Takes.{next_place}
 use Rattle.ftl_core.proofs.group_settled.FrontPlaces.{HasPlaces}
 use Rattle.ftl_core.proofs.group_settled.PageStands.{IsPending}
 use Rattle.ftl_core.proofs.group_settled.PageWritten.{IsGroupFlight, flown_new, with_group_page}
 use Rattle.ftl_core.proofs.group_settled.GroupsEnded.{core_so_far, may_climb, page_stands, pending_page, so_far}
 use Rattle.ftl_core.proofs.job_taken.Mended.{none_waiting}
 use Rattle.ftl_core.proofs.job_ended.RepairsEnded.{repair_of, unmended}
-use Rattle.ftl_core.proofs.live_pages.DurableLive.{AllKnown, AreApart, AreKnown, AreNew, AreOthers}
-use Rattle.ftl_core.proofs.live_pages.DurableLive.{AreWrittenRight, IsNew}
-use Rattle.ftl_core.proofs.live_pages.DurableLive.{IsWrittenRight, settled_known, written_right}
-use Rattle.block_table.proofs.Relations.{live_beside, live_here}
+use Rattle.ftl_core.proofs.live_pages.DurableLive.{AllKnown, AreApart, AreKnown, AreNew, AreOthers, AreWrittenRight}
+use Rattle.ftl_core.proofs.live_pages.DurableLive.{IsNew, IsWrittenRight, settled_known, written_right}
 use Rattle.ftl_core.proofs.live_pages.NotedLive.{AreOwned, IsPageOf, as_long, noted_knows}
 use Rattle.ftl_core.proofs.live_pages.SameLive.{Facts, Knows, facts, written_same}
 use Rattle.ftl_core.proofs.live_pages.StoredPages.{pending_apart, pending_new, pending_right, place_inside}

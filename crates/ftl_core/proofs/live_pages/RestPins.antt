@@ -1,32 +1,19 @@
 -- Each block goes on to have as many pins as rests are still to be read from it, while rests come and go.
-use Rattle.std.proofs.Common.{◌≡◌, ◌∙◌, ℕ, zero, suc, ◌+◌, ◌≤◌, ◌++◌, Bool, true, false, cond, List, [], ◌∷◌}
-use Rattle.std.proofs.Common.{Option, Some, None, ap, arith, drop, length, length-append, map, refl, sym}
-use Rattle.std.specs.Prelude.{filter, fold, if◌then◌else◌, is_some, slice_get, slice_set}
+use Rattle.ftl_core.proofs.Common.{ArePinsCounted, Bool, Claimed, Key, List, Lives, Looked, Name, None, OnPage, Option}
+use Rattle.ftl_core.proofs.Common.{OwedSource, Pending, Pin, Place, Rest, Some, Spot, Unwritten, [], ap, arith}
+use Rattle.ftl_core.proofs.Common.{awaited_by, completed, completed_by, cond, drop, false, filter, filter-append}
+use Rattle.ftl_core.proofs.Common.{first_waiting_from, fold, if◌then◌else◌, is_named, is_some, length, length-append}
+use Rattle.ftl_core.proofs.Common.{map, most_pins, none-some, page_claimed, read_by, refl, rest_pinned, rest_unpinned}
+use Rattle.ftl_core.proofs.Common.{same_Some, same_name, slice_get, slice_set, suc, sym, true, true≢false, without_pins}
+use Rattle.ftl_core.proofs.Common.{written_at, written_if, zero, ℕ, ◌++◌, ◌+◌, ◌∙◌, ◌∷◌, ◌≡◌, ◌≤◌}
 use Rattle.std.specs.List.{position_from}
-use Rattle.std.proofs.lemmas.List.Elements.{filter-append}
-use Rattle.ufs_spec.proofs.Facts.{none-some, same_Some, true≢false}
-use Rattle.ufs_spec.specs.Disk.{Spot}
-use Rattle.ufs_spec.specs.Ledger.{same_name}
-use Rattle.ufs_spec.specs.declared.flash.Key.{Key}
-use Rattle.ufs_spec.specs.declared.flash.Place.{Place}
-use Rattle.ufs_spec.specs.declared.layer.Looked.{Looked}
-use Rattle.ufs_spec.specs.declared.layer.Looked.TheVariants.{OnPage, Unwritten}
-use Rattle.ufs_spec.specs.declared.layer.Name.{Name}
-use Rattle.block_table.specs.Lives.{Lives}
-use Rattle.write_cache.specs.declared.rests.OwedSource.{OwedSource}
 use Rattle.write_cache.specs.declared.rests.OwedSource.TheVariants as owed
-use Rattle.write_cache.specs.declared.rests.Rest.{Rest}
-use Rattle.write_cache.specs.declared.slots.Claimed.{Claimed}
-use Rattle.write_cache.specs.declared.slots.Pending.{Pending}
-use Rattle.write_cache.specs.Rests.{awaited_by, awaits, comes_by, completed, completed_by, own_name, read_by}
-use Rattle.write_cache.specs.Ready.{first_waiting_from}
-use Rattle.write_cache.specs.Rests.{rests_filled, waits}
-use Rattle.write_cache.specs.Slots.{is_named, page_claimed, page_written, written_at, written_if}
-use Rattle.readers.specs.declared.pin.Pin.{Pin}
+use Rattle.write_cache.specs.Rests.{awaits, comes_by, own_name, rests_filled, waits}
+use Rattle.write_cache.specs.Slots.{page_written}
 use Rattle.ftl_core.specs.Pinned.{keeps_page, look_of_source, reads_block, rest_look}
-use Rattle.ftl_core.specs.PinCounts.{ArePinsCounted, pins_on, rests_on}
-use Rattle.readers.specs.Pins.{block_unpinned, most_pins, without_pins}
-use Rattle.ftl_core.specs.Rests.{first_unpinned, rest_pinned, rest_unpinned}
+use Rattle.ftl_core.specs.PinCounts.{pins_on, rests_on}
+use Rattle.readers.specs.Pins.{block_unpinned}
+use Rattle.ftl_core.specs.Rests.{first_unpinned}
 use Rattle.ftl_core.proofs.live_pages.PinsCounted.{HasCounts, bit, block_counted, block_uncounted, counts_as, on_block}
 use Rattle.ftl_core.proofs.live_pages.PinsCounted.{one_more, passed_few, pins_few}
 use Rattle.readers.proofs.BarePins.{pinned_bare, unpinned_bare}

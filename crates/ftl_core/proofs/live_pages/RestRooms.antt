@@ -1,20 +1,10 @@
 -- The layer's fields go on to be right after what changes the pending pages and the pins of their rests.
-use Rattle.std.proofs.Common.{◌≡◌, ◌∙◌, ℕ, ◌+◌, ◌≤◌, ◌++◌, List, ap, drop, length, map, subst, sym}
-use Rattle.std.specs.Prelude.{fold, slice_get}
-use Rattle.ufs_spec.specs.declared.flash.Key.{Key}
-use Rattle.ufs_spec.specs.declared.flash.Place.{Place}
-use Rattle.ufs_spec.specs.declared.layer.Name.{Name}
-use Rattle.block_table.specs.Lives.{Lives}
-use Rattle.write_cache.specs.Kept.{WriteCache}
+use Rattle.ftl_core.proofs.Common.{ArePinsCounted, Claimed, Inside, IsRoomy, Key, List, Lives, Name, Pending, Place}
+use Rattle.ftl_core.proofs.Common.{WriteCache, ap, drop, fold, length, map, page_claimed, rest_pinned, rest_unpinned}
+use Rattle.ftl_core.proofs.Common.{slice_get, subst, sym, without_pins, ℕ, ◌++◌, ◌+◌, ◌∙◌, ◌≡◌, ◌≤◌}
 use Rattle.write_cache.specs.Rests.{rests_filled}
-use Rattle.write_cache.specs.Slots.{page_claimed, page_written}
-use Rattle.write_cache.specs.declared.slots.Claimed.{Claimed}
-use Rattle.write_cache.specs.declared.slots.Pending.{Pending}
-use Rattle.ftl_core.specs.declared.ftl.Ftl.TheInside.{Inside}
-use Rattle.ftl_core.specs.PinCounts.{ArePinsCounted}
-use Rattle.readers.specs.Pins.{without_pins}
-use Rattle.ftl_core.specs.Rests.{first_unpinned, rest_pinned, rest_unpinned}
-use Rattle.ftl_core.specs.Rooms.{IsRoomy}
+use Rattle.write_cache.specs.Slots.{page_written}
+use Rattle.ftl_core.specs.Rests.{first_unpinned}
 use Rattle.ftl_core.proofs.live_pages.RestPins.{behind_bare, behind_counted, claimed_counted, filled_bare}
 use Rattle.ftl_core.proofs.live_pages.RestPins.{filled_counted, landed_bare, landed_counted, written_counted}
 

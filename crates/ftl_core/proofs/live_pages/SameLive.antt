@@ -1,37 +1,16 @@
 -- What changes neither places of contents nor which pages are live.
-use Rattle.std.proofs.Common.{◌≡◌, ◌∙◌, ℕ, Bool, true, false, List, [], ◌∷◌, Option, Some, None, refl, ap, subst, sym}
-use Rattle.std.proofs.Common.{inl, inr, ⊎_elim}
-use Rattle.std.specs.Prelude.{if◌then◌else◌, nat_le, nat_lt, ◌-◌}
-use Rattle.ufs_spec.specs.Pages.{greatest_number}
-use Rattle.ufs_spec.specs.declared.configs.Numbers.{Numbers}
-use Rattle.ufs_spec.specs.declared.flash.Outcome.{Outcome}
-use Rattle.ufs_spec.specs.declared.flash.Tag.{Tag}
-use Rattle.block_table.specs.Lives.{Lives}
-use Rattle.block_table.specs.declared.rows.OpenBlock.{OpenBlock}
-use Rattle.unit_map.specs.declared.Stored.{Stored}
-use Rattle.block_table.specs.declared.rows.DieRow.{DieRow}
-use Rattle.ftl_core.specs.declared.books.Step.{Step}
+use Rattle.ftl_core.proofs.Common.{Bool, Collection, Core, DieRow, Fence, ForNobody, ForRest, ForStep, ForTask}
+use Rattle.ftl_core.proofs.Common.{IsReadAfter, IsReadOver, IsWrittenAt, Key, KnowsLive, List, Lives, Name, None}
+use Rattle.ftl_core.proofs.Common.{Numbers, OpenBlock, Option, Outcome, Pending, Place, PlannedCopy, Reader, Some, Step}
+use Rattle.ftl_core.proofs.Common.{Stored, Tag, [], ap, awaits, completed, false, greatest_number, if◌then◌else◌, inl}
+use Rattle.ftl_core.proofs.Common.{inr, mark_ordered, nat_le, nat_lt, page_written, plan_next, refl, rests_filled}
+use Rattle.ftl_core.proofs.Common.{step_again, subst, sym, true, with_content, with_rest, with_row, ℕ, ⊎_elim, ◌-◌, ◌∙◌}
+use Rattle.ftl_core.proofs.Common.{◌∷◌, ◌≡◌}
 use Rattle.ftl_core.specs.declared.books.Step.TheVariants as steps
-use Rattle.write_cache.specs.declared.slots.Pending.{Pending}
-use Rattle.ftl_core.specs.Core.{Core}
-use Rattle.ftl_core.specs.Ends.{step_again, with_content}
-use Rattle.ftl_core.specs.Gives.{IsReadAfter, IsReadOver}
-use Rattle.ftl_core.specs.KnownLive.{IsWrittenAt, KnowsLive}
-use Rattle.collector.specs.Plans.{Collection}
-use Rattle.collector.specs.declared.PlannedCopy.{PlannedCopy}
-use Rattle.ftl_core.specs.Moves.{mark_ordered, page_written, with_row}
-use Rattle.ftl_core.specs.Rests.{awaits, rests_filled, with_rest}
-use Rattle.write_cache.specs.Rests.{completed}
 use Rattle.write_cache.proofs.Fills.{places_kept}
-use Rattle.ufs_spec.specs.declared.flash.Place.{Place}
-use Rattle.ufs_spec.specs.declared.layer.Name.{Name}
-use Rattle.ftl_core.specs.Turns.{IsCollectionTurned, IsStepTurned, IsTurned, plan_next, plan_turned, repair_turned}
+use Rattle.ftl_core.specs.Turns.{IsCollectionTurned, IsStepTurned, IsTurned, plan_turned, repair_turned}
 use Rattle.ftl_core.specs.declared.books.Mending.{Mending}
 use Rattle.ftl_core.specs.declared.books.Mending.TheVariants as mendings
-use Rattle.ufs_spec.specs.declared.flash.Key.{Key}
-use Rattle.ufs_spec.specs.declared.flash.Fence.{Fence}
-use Rattle.ufs_spec.specs.declared.layer.Reader.{Reader}
-use Rattle.ufs_spec.specs.declared.layer.Reader.TheVariants.{ForNobody, ForRest, ForStep, ForTask}
 
 -- the numbers, the places, the live pages and the pending pages
 abbrev pub Facts : Type 0

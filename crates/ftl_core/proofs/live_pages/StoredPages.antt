@@ -1,37 +1,19 @@
 -- Where the durable content of a key stands there is a page of this key, and so is where a pending page is written.
-use Rattle.std.proofs.Common.{◌≡◌, ◌∙◌, ℕ, ◌<◌, true, List, Option, Some, ◌≤◌}
-use Rattle.std.proofs.Common.{length, take, refl, sym, ap, subst, ⊎_elim, arith}
-use Rattle.std.specs.Prelude.{◌-◌, slice_get}
-use Rattle.ufs_spec.proofs.CellKinds.{page_not_nothing}
-use Rattle.ufs_spec.proofs.Facts.{cases_Bool, false≢true, lt-ltb, same_Some}
+use Rattle.ftl_core.proofs.Common.{Cells, Core, Entry, FirstRight, Group, GroupPage, HasKey, IsKey, IsLastOf, IsPageAt}
+use Rattle.ftl_core.proofs.Common.{Kept, Key, List, Name, NoneOf, Nothing, Numbers, Option, PageKept, Pending, Place}
+use Rattle.ftl_core.proofs.Common.{Some, Stored, Tag, Translation, Valid, ap, arith, at_has, book, cases_Bool, entry_of}
+use Rattle.ftl_core.proofs.Common.{false≢true, has_page, is_mended, key_of, latest_cases, latest_durable, length}
+use Rattle.ftl_core.proofs.Common.{name_is, name_of, names_pending, page_not_nothing, page_within, pending, refl}
+use Rattle.ftl_core.proofs.Common.{same_Some, shape_of_numbers, sizes_of, slice_get, stored_of, subst, sym, take, true}
+use Rattle.ftl_core.proofs.Common.{ℕ, ⊎_elim, ◌-◌, ◌<◌, ◌∙◌, ◌≡◌, ◌≤◌}
+use Rattle.ufs_spec.proofs.Facts.{lt-ltb}
 use Rattle.ufs_spec.proofs.Lists.{get_take}
-use Rattle.ufs_spec.specs.Cells.{Cells, GroupPage, IsPlace, Nothing, key_of}
-use Rattle.ufs_spec.specs.Keys.{Group, IsKey}
-use Rattle.ufs_spec.specs.Ledger.{Entry, entry_of, latest_durable, pending}
-use Rattle.ufs_spec.specs.Plain.{shape_of_numbers}
-use Rattle.ufs_spec.specs.Translation.{Translation, is_mended, name_of}
-use Rattle.ufs_spec.specs.declared.configs.Numbers.{Numbers}
-use Rattle.ufs_spec.specs.declared.flash.Key.{Key}
-use Rattle.ufs_spec.specs.declared.flash.Place.{Place}
-use Rattle.ufs_spec.specs.declared.flash.Tag.{Tag}
-use Rattle.ufs_spec.specs.declared.layer.Name.{Name}
-use Rattle.power_loss.specs.Book.{FirstRight, HasKey, IsPageAt, book}
+use Rattle.ufs_spec.specs.Cells.{IsPlace}
 use Rattle.power_loss.proofs.kept_pages.UnmendedPages.{new_secure, unmended_secure}
-use Rattle.power_loss.proofs.books.SmallFacts.{name_is}
-use Rattle.power_loss.specs.Invariant.{Valid}
-use Rattle.power_loss.proofs.books.LastOfEachKey.{IsLastOf, NoneOf, latest_cases}
 use Rattle.power_loss.proofs.books.LayerParts.{SecureOf}
-use Rattle.power_loss.proofs.books.PagesByName.{old_page, page_within}
+use Rattle.power_loss.proofs.books.PagesByName.{old_page}
 use Rattle.power_loss.proofs.kept_pages.LookedUpPages.{last_page, latest_right, latest_secure, secure_page}
 use Rattle.power_loss.proofs.kept_pages.LookedUpPages.{settled_mended}
-use Rattle.power_loss.proofs.ordered_lists.ElementsAndOrders.{at_has}
-use Rattle.block_table.specs.Lives.{has_page}
-use Rattle.unit_map.specs.declared.Stored.{Stored}
-use Rattle.write_cache.specs.declared.slots.Pending.{Pending}
-use Rattle.ftl_core.specs.Core.{Core}
-use Rattle.ftl_core.specs.Describes.{Kept, names_pending, PageKept}
-use Rattle.ftl_core.specs.KnownLive.{sizes_of}
-use Rattle.ftl_core.specs.Moves.{stored_of}
 use Rattle.ftl_core.proofs.live_pages.DurableLive.{IsNew, IsWrittenRight}
 use Rattle.ftl_core.proofs.live_pages.NotedLive.{AreOwned, IsPageOf, key_stored, same_tag}
 use Rattle.ftl_core.proofs.pages.NamesBehind.{in_names, names_differ}

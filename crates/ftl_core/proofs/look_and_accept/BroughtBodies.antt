@@ -1,12 +1,11 @@
 -- The bytes of a page that a command brings, whole or in part, as they lie in the page's slot.
-use Rattle.std.proofs.Common.{◌≡◌, ◌∙◌, ℕ, ◌+◌, ◌*◌, List, [], ◌++◌, length, drop, take, sym, ap, arith}
-use Rattle.std.proofs.Common.{length-append}
-use Rattle.std.proofs.lemmas.List.{append-nil, length-drop, length-replicate, length-take-le}
+use Rattle.ftl_core.proofs.Common.{Brought, IsPartBrought, List, [], ap, append-nil, arith, drop, length, length-append}
+use Rattle.ftl_core.proofs.Common.{length-drop, length-replicate, part_of, sym, take, with_part_of, ℕ, ◌*◌, ◌++◌, ◌+◌}
+use Rattle.ftl_core.proofs.Common.{◌∙◌, ◌≡◌}
+use Rattle.std.proofs.lemmas.List.{length-take-le}
 use Rattle.std.proofs.Math.ListN.{drop_of_length-le}
 use Rattle.std.proofs.Math.Seq.{drop-append_seam, take-append_seam}
 use Rattle.ufs_spec.specs.Plain.{zero_block}
-use Rattle.ftl_core.specs.Rests.{part_of, with_part_of, IsPartBrought}
-use Rattle.ftl_core.specs.declared.books.Brought.{Brought}
 
 pub zeros_length : length zero_block ≡ 4096
 unfolding zero_block

@@ -1,24 +1,14 @@
 -- The pages of a group of pages with keys of their own, index by index: those of the claimed slots of which the group
 -- has a page, in their order.
-use Rattle.std.proofs.Common.{◌≡◌, ◌∙◌, ℕ, zero, suc, ◌<◌, ◌≤◌, Bool, cond, List, [], ◌∷◌, ◌++◌, Option, Some}
-use Rattle.std.proofs.Common.{None, map, refl, sym, ap, subst, arith, ⊎_elim, inl, inr}
-use Rattle.std.specs.List.{cons_option}
-use Rattle.std.specs.Prelude.{filter_map, is_some}
-use Rattle.std.proofs.lemmas.List.{append-nil, map-append}
-use Rattle.std.proofs.lemmas.List.Elements.{filter-append, filter_map-append}
-use Rattle.ufs_spec.proofs.Facts.{at_most, none-some}
-use Rattle.ufs_spec.specs.Keys.{below}
-use Rattle.ufs_spec.specs.Ledger.{Entry}
+use Rattle.ftl_core.proofs.Common.{Bool, Entry, IsIn, IsWrittenAt, List, Name, None, Option, PageKept, PagesKept}
+use Rattle.ftl_core.proofs.Common.{Pending, Place, Some, Standing, [], ap, append-nil, arith, below, cond, cons_option}
+use Rattle.ftl_core.proofs.Common.{filter-append, filter_map, filter_map-append, inl, inr, is_some, map, map-append}
+use Rattle.ftl_core.proofs.Common.{mapped_in, name_at, none-some, own_name, refl, rest_kept, rest_of_name, subst, suc}
+use Rattle.ftl_core.proofs.Common.{sym, waiting, waits, zero, ℕ, ⊎_elim, ◌++◌, ◌<◌, ◌∙◌, ◌∷◌, ◌≡◌, ◌≤◌}
+use Rattle.ufs_spec.proofs.Facts.{at_most}
 use Rattle.ufs_spec.specs.Translation.{Rest}
-use Rattle.ufs_spec.specs.declared.flash.Place.{Place}
-use Rattle.ufs_spec.specs.declared.layer.Name.{Name}
-use Rattle.power_loss.proofs.ordered_lists.ElementsAndOrders.{IsIn, below_in, mapped_in}
+use Rattle.power_loss.proofs.ordered_lists.ElementsAndOrders.{below_in}
 use Rattle.write_cache.specs.declared.rests.Rest as cache
-use Rattle.write_cache.specs.declared.slots.Pending.{Pending}
-use Rattle.ftl_core.specs.Describes.{PageKept, PagesKept, Standing, name_at}
-use Rattle.ftl_core.specs.KnownLive.{IsWrittenAt}
-use Rattle.ftl_core.specs.Rests.{own_name, waits}
-use Rattle.ftl_core.specs.RestsKept.{rest_kept, rest_of_name, waiting}
 use Rattle.ftl_core.proofs.pages.PagesNamed.{pages_more}
 
 -- Lists by index

@@ -1,42 +1,31 @@
 -- One page of a group of pages with keys of their own, as it is kept once the group is accepted.
-use Rattle.std.proofs.Common.{◌≡◌, ◌∙◌, ℕ, suc, ◌≤◌, Bool, true, false, List, Option, Some, None, length, map, refl}
-use Rattle.std.proofs.Common.{sym, ap, subst, arith, lt-ltb, le-leb}
-use Rattle.std.specs.Prelude.{◌&&◌, All, if◌then◌else◌, nat_le, nat_lt, option_and_then, option_map, slice_get}
-use Rattle.std.proofs.lemmas.List.{length-map}
-use Rattle.std.proofs.lemmas.Option.{get_or_from_slice_get, slice_get-map, slice_get_within}
-use Rattle.ufs_spec.proofs.Facts.{none-some, same_Some}
-use Rattle.ufs_spec.specs.Keys.{Group, IsKey, Item}
+use Rattle.ftl_core.proofs.Common.{All, Bool, Brought, Core, Describes, Group, IsKey, IsNumbered, IsPartBrought, Item}
+use Rattle.ftl_core.proofs.Common.{Key, List, Name, None, Numbers, Option, OwedSource, PageKept, Pending, RestKept}
+use Rattle.ftl_core.proofs.Common.{Some, Translation, added_page, ap, arith, book, claim_at, entry_of, false}
+use Rattle.ftl_core.proofs.Common.{get_or_from_slice_get, greatest_number, grown, if◌then◌else◌, is_mended, is_sealable}
+use Rattle.ftl_core.proofs.Common.{last_number, last_page, length, length-map, look, lt-ltb, map, name_at, nat_le}
+use Rattle.ftl_core.proofs.Common.{nat_lt, new_page, next_number, none-some, option_and_then, option_map, own_name}
+use Rattle.ftl_core.proofs.Common.{page_brought, part_of, refl, rest_kept, rest_of_name, same_Some, shape_of_numbers}
+use Rattle.ftl_core.proofs.Common.{slice_get, slice_get-map, slice_get_within, source_kept, stored_of, subst, suc, sym}
+use Rattle.ftl_core.proofs.Common.{true, with_part_of, ℕ, ◌&&◌, ◌∙◌, ◌≡◌, ◌≤◌}
+use Rattle.std.proofs.Common.{le-leb}
 use Rattle.ufs_spec.specs.Ledger as ledger
-use Rattle.ufs_spec.specs.Ledger.{all_contents, entry_of, look}
+use Rattle.ufs_spec.specs.Ledger.{all_contents}
 use Rattle.ufs_spec.specs.Moves.{IsGroup}
-use Rattle.ufs_spec.specs.Pages.{greatest_number, group_bound}
-use Rattle.ufs_spec.specs.Plain.{shape_of_numbers, zero_block}
-use Rattle.ufs_spec.specs.Translation.{Source, Translation, is_in_part, is_mended, rest_at, rest_of_item, source_of}
-use Rattle.ufs_spec.specs.declared.configs.Numbers.{Numbers}
-use Rattle.ufs_spec.specs.declared.flash.Key.{Key}
-use Rattle.ufs_spec.specs.declared.layer.Name.{Name}
-use Rattle.power_loss.specs.Book.{book, last_number}
+use Rattle.ufs_spec.specs.Pages.{group_bound}
+use Rattle.ufs_spec.specs.Plain.{zero_block}
+use Rattle.ufs_spec.specs.Translation.{Source, is_in_part, rest_at, rest_of_item, source_of}
 use Rattle.power_loss.proofs.accepted_groups.AcceptedGroup.{group_may}
-use Rattle.power_loss.proofs.books.PagesByName.{added_page, grown}
 use Rattle.power_loss.proofs.laid_rests.BelowGroups.{below_last}
 use Rattle.power_loss.proofs.pending_groups.PendingByFrontier.{beyond}
-use Rattle.write_cache.specs.declared.rests.OwedSource.{OwedSource}
 use Rattle.write_cache.specs.declared.rests.Part.{Part}
 use Rattle.write_cache.specs.declared.rests.Rest as cache
 use Rattle.write_cache.specs.declared.rests.RestSource.{RestSource}
 use Rattle.write_cache.specs.declared.rests.RestSource.TheVariants as source
-use Rattle.write_cache.specs.declared.slots.Pending.{Pending}
-use Rattle.write_cache.specs.Rests.{base_in, body_brought, page_brought, page_of, rest_by}
-use Rattle.ftl_core.specs.declared.books.Brought.{Brought}
-use Rattle.ftl_core.specs.Core.{Core}
-use Rattle.ftl_core.specs.Describes.{Describes, PageKept, name_at}
-use Rattle.ftl_core.specs.Moves.{next_number, stored_of}
-use Rattle.write_cache.specs.Slots.{last_page}
+use Rattle.write_cache.specs.Rests.{base_in, body_brought, page_of, rest_by}
 use Rattle.ftl_core.specs.Pinned.{look_of_source}
-use Rattle.ftl_core.specs.Rests.{IsPartBrought, last_source, new_page, own_name, part_of, source_for, with_part_of}
-use Rattle.ftl_core.specs.RestsKept.{IsNumbered, RestKept, rest_kept, rest_of_name, source_kept}
-use Rattle.ftl_core.specs.Takes.{is_sealable}
-use Rattle.ftl_core.specs.Tells.{IsGroupBrought, IsItemBrought, claim_at}
+use Rattle.ftl_core.specs.Rests.{last_source, source_for}
+use Rattle.ftl_core.specs.Tells.{IsGroupBrought, IsItemBrought}
 use Rattle.ftl_core.proofs.job_taken.StepPages.{sealable}
 use Rattle.ftl_core.proofs.look_and_accept.BroughtBodies.{part_back, part_length, whole_page, zeros_length}
 use Rattle.ftl_core.proofs.look_and_accept.MoreGroups.{with_group}

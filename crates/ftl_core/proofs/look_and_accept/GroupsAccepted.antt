@@ -1,50 +1,28 @@
 -- The group of the blocks that a reader gathered is accepted: its pages are those of its claims.
-use Rattle.std.proofs.Common.{⊎_elim, inl, inr}
-use Rattle.std.proofs.Common.{◌≡◌, ◌∙◌, ℕ, zero, suc, ◌+◌, ◌≤◌, ◌==◌, ◌&&◌, true, List, [], ◌∷◌, ◌++◌, Some}
-use Rattle.std.proofs.Common.{length, map, filter, not, refl, sym, ap, subst, arith, drop}
-use Rattle.std.specs.Prelude.{nat_le, nat_lt, slice_get}
-use Rattle.std.proofs.lemmas.List.{length-map}
-use Rattle.std.proofs.lemmas.Option.{get_or_from_slice_get, slice_get_within}
+use Rattle.ftl_core.proofs.Common.{Accept, Claimed, Core, Describes, FromPage, Group, InRange, IsAllowedMove, IsKey}
+use Rattle.ftl_core.proofs.Common.{IsWrittenAt, Item, Key, KnowsLive, List, Name, PageKept, PagesKept, Pending, Place}
+use Rattle.ftl_core.proofs.Common.{RestsKept, Some, Translation, Valid, [], added_page, all_keep, ap, append-nil, arith}
+use Rattle.ftl_core.proofs.Common.{below, book, claim_at, claims_behind, claims_for, claims_of_blocks, drop, entry_of}
+use Rattle.ftl_core.proofs.Common.{eq-eqb, get_or_from_slice_get, get_there, greatest_number, if_true, inl, inr}
+use Rattle.ftl_core.proofs.Common.{is_claim_of, is_sealable, key_at, key_behind, laid_move, length, length-below}
+use Rattle.ftl_core.proofs.Common.{length-map, map, mapped_at, moved, name_at, names_of, nat_le, nat_lt, next_number}
+use Rattle.ftl_core.proofs.Common.{none-some, page_claimed, page_grows, refl, same_Some, shape_of_numbers, slice_get}
+use Rattle.ftl_core.proofs.Common.{slice_get_within, subst, suc, sym, true, waiting, waits, zero, ℕ, ⊎_elim, ◌++◌, ◌+◌}
+use Rattle.ftl_core.proofs.Common.{◌∙◌, ◌∷◌, ◌≡◌, ◌≤◌}
+use Rattle.std.proofs.Common.{filter, not, ◌&&◌, ◌==◌}
 use Rattle.ufs_spec.proofs.ConfigFacts.{command_blocks-few}
-use Rattle.ufs_spec.proofs.Facts.{eq-eqb, le-leb, leb-true, lt-ltb, none-some, same_Some}
-use Rattle.ufs_spec.proofs.Lists.{get_there, length-below}
+use Rattle.ufs_spec.proofs.Facts.{le-leb, leb-true, lt-ltb}
 use Rattle.ufs_spec.specs.Plain.{greatest_command}
-use Rattle.ufs_spec.specs.Pages.{greatest_number, group_bound}
-use Rattle.ufs_spec.specs.Configs.{InRange}
-use Rattle.ufs_spec.specs.Keys.{Group, IsKey, Item, below}
+use Rattle.ufs_spec.specs.Pages.{group_bound}
 use Rattle.ufs_spec.specs.Ledger as ledger
-use Rattle.ufs_spec.specs.Ledger.{entry_of}
-use Rattle.ufs_spec.specs.Moves.{Accept, IsAllowedMove, moved}
-use Rattle.ufs_spec.specs.Plain.{shape_of_numbers}
-use Rattle.ufs_spec.specs.Translation.{Rest, Translation, is_in_part, names_of, rests_of}
-use Rattle.ufs_spec.specs.declared.flash.Key.{Key}
-use Rattle.ufs_spec.specs.declared.flash.Place.{Place}
-use Rattle.ufs_spec.specs.declared.layer.Name.{Name}
-use Rattle.power_loss.specs.Book.{book}
-use Rattle.power_loss.specs.Invariant.{Valid}
+use Rattle.ufs_spec.specs.Translation.{Rest, is_in_part, rests_of}
 use Rattle.power_loss.proofs.accepted_groups.RestsOfGroups.{whole_has_none}
-use Rattle.power_loss.proofs.books.PagesByName.{added_page, page_grows}
-use Rattle.power_loss.proofs.moves.MovesKeepValid.{all_keep}
-use Rattle.power_loss.proofs.ordered_lists.ElementsAndOrders.{mapped_at}
 use Rattle.power_loss.proofs.pending_groups.DurableInOrder as durable
 use Rattle.power_loss.proofs.pending_groups.PendingByFrontier.{beyond}
-use Rattle.write_cache.specs.declared.slots.Claimed.{Claimed}
-use Rattle.write_cache.specs.declared.slots.Pending.{Pending}
 use Rattle.std.specs.Prelude.{Contains, cond}
-use Rattle.std.proofs.lemmas.List.{append-nil}
-use Rattle.ufs_spec.specs.Translation.{FromPage}
-use Rattle.power_loss.proofs.laid_rests.AllMoves.{laid_move}
-use Rattle.power_loss.proofs.books.SmallFacts.{if_true}
-use Rattle.ftl_core.specs.Rests.{waits}
-use Rattle.ftl_core.specs.RestsKept.{RestsKept, waiting}
-use Rattle.ftl_core.specs.Takes.{is_sealable}
 use Rattle.ftl_core.proofs.rests_owed.RestsGrow.{rest_grows}
-use Rattle.ftl_core.specs.Core.{Core}
-use Rattle.ftl_core.specs.KnownLive.{IsWrittenAt, KnowsLive}
-use Rattle.ftl_core.specs.Describes.{Describes, PageKept, PagesKept, name_at}
-use Rattle.ftl_core.specs.Moves.{accepted, claims_for, next_number, pages_claimed}
-use Rattle.write_cache.specs.Slots.{is_claim_of, key_at, page_claimed}
-use Rattle.ftl_core.specs.Tells.{claim_at, claims_behind, claims_of_blocks, group_of_blocks, items_behind, key_behind}
+use Rattle.ftl_core.specs.Moves.{accepted, pages_claimed}
+use Rattle.ftl_core.specs.Tells.{group_of_blocks, items_behind}
 use Rattle.ftl_core.proofs.look_and_accept.BroughtLists.{written_before}
 use Rattle.ftl_core.proofs.look_and_accept.KeysBehind.{keys_same}
 use Rattle.ftl_core.proofs.look_and_accept.MoreGroups.{ledger_more, pins_kept_more, rests_more, with_group, work_more}

@@ -1,36 +1,22 @@
 -- The blocks that a reader keeps: each stays kept as the next is, and looks at what its address has.
-use Rattle.std.proofs.Common.{◌≡◌, ◌∙◌, ℕ, zero, suc, ◌+◌, ◌-◌, ◌<◌, ◌≤◌, ◌==◌, ◌||◌, Bool, true, false, List, []}
-use Rattle.std.proofs.Common.{◌∷◌, ◌++◌, Option, Some, length, map, refl, sym, ap, subst, ⊎_elim, arith, length-append}
-use Rattle.std.specs.Prelude.{fold, if◌then◌else◌, nat_le, slice_get}
-use Rattle.std.specs.List.{list_any}
+use Rattle.ftl_core.proofs.Common.{AreClaimed, Bool, Claims, Core, Describes, Entry, InRange, IsInNoSlot, IsKey}
+use Rattle.ftl_core.proofs.Common.{IsLookOf, Key, List, Name, Option, Pin, PinKept, PinsKept, Some, Translation, Valid}
+use Rattle.ftl_core.proofs.Common.{[], all_keep, ap, append-nil, append_assoc, arith, below, claims_for, entry_of}
+use Rattle.ftl_core.proofs.Common.{false, false≢true, fold, get_below, if◌then◌else◌, is_mended, is_of_reader}
+use Rattle.ftl_core.proofs.Common.{is_pin_of, key_at, key_behind, length, length-append, length-below, length-map}
+use Rattle.ftl_core.proofs.Common.{list_any, look_now, map, map-append, mapped_at, most_pins, moved, nat_le, refl}
+use Rattle.ftl_core.proofs.Common.{shape_of_numbers, slice_get, subst, suc, sym, true, true≢false, waiting, zero, ℕ}
+use Rattle.ftl_core.proofs.Common.{⊎_elim, ◌++◌, ◌+◌, ◌<◌, ◌∙◌, ◌∷◌, ◌≡◌, ◌≤◌}
+use Rattle.std.proofs.Common.{◌-◌, ◌==◌, ◌||◌}
 use Rattle.std.proofs.lemmas.Bool.{and_parts, eqb-true}
-use Rattle.std.proofs.lemmas.List.{append-nil, append_assoc, length-map, map-append}
 use Rattle.std.proofs.lemmas.List.Sums.{fold-append}
-use Rattle.ufs_spec.proofs.Facts.{false≢true, true≢false}
-use Rattle.ufs_spec.proofs.Lists.{any_none, get_below, length-below, none_passes}
-use Rattle.ufs_spec.specs.Configs.{InRange}
-use Rattle.ufs_spec.specs.Keys.{IsKey, below}
-use Rattle.ufs_spec.specs.Ledger.{Entry, entry_of}
-use Rattle.ufs_spec.specs.Moves.{Keep, Move, look_now, moved}
-use Rattle.ufs_spec.specs.Plain.{shape_of_numbers}
+use Rattle.ufs_spec.proofs.Lists.{any_none, none_passes}
+use Rattle.ufs_spec.specs.Moves.{Keep, Move}
 use Rattle.ufs_spec.specs.Translation as layer
-use Rattle.ufs_spec.specs.Translation.{Translation, is_mended}
-use Rattle.ufs_spec.specs.declared.flash.Key.{Key}
-use Rattle.ufs_spec.specs.declared.layer.Name.{Name}
-use Rattle.power_loss.specs.Invariant.{Valid}
-use Rattle.power_loss.proofs.moves.MovesKeepValid.{all_keep}
 use Rattle.power_loss.proofs.open_tasks.FoundInLists.{found_more}
-use Rattle.power_loss.proofs.ordered_lists.ElementsAndOrders.{mapped_at}
-use Rattle.ftl_core.specs.RestsKept.{waiting}
 use Rattle.ftl_core.proofs.rests_owed.RestsStay.{same_rests}
-use Rattle.readers.specs.declared.pin.Pin.{Pin}
-use Rattle.ftl_core.specs.Core.{Core}
-use Rattle.ftl_core.specs.Describes.{Describes, IsInNoSlot, IsLookOf, PinKept, PinsKept}
-use Rattle.ftl_core.specs.Moves.{claims_for, kept_all, look_of, pin_now}
-use Rattle.readers.specs.Pins.{is_of_reader, is_pin_of, most_pins}
-use Rattle.write_cache.specs.Slots.{key_at}
-use Rattle.ftl_core.specs.Public.{AreClaimed, Claims}
-use Rattle.ftl_core.specs.Tells.{PinsDiffer, keep_at, keeps_for, key_behind}
+use Rattle.ftl_core.specs.Moves.{kept_all, look_of, pin_now}
+use Rattle.ftl_core.specs.Tells.{PinsDiffer, keep_at, keeps_for}
 use Rattle.ftl_core.proofs.look_and_accept.KeysBehind.{keys_same}
 use Rattle.ftl_core.proofs.look_and_accept.LookedPages.{found_off, found_there}
 use Rattle.ftl_core.proofs.look_and_accept.LookedUp.{looks_now}

@@ -1,29 +1,21 @@
 -- The last page of a key, among the pages that are kept and among those of the ledger's groups.
-use Rattle.std.proofs.Common.{◌≡◌, ◌∙◌, ◌⊎◌, ℕ, ◌+◌, ◌-◌, ◌<◌, ◌≤◌, Bool, true, false, List, [], ◌∷◌, get_or}
-use Rattle.std.proofs.Common.{length, reverse, Option, Some, None, slice_get, refl, sym, ap, subst, ⊎_elim, arith}
-use Rattle.std.proofs.Common.{inl, inr, lt-ltb}
-use Rattle.std.specs.Prelude.{option_and_then, option_map, position}
+use Rattle.ftl_core.proofs.Common.{Bool, Entry, IsLastOf, Key, List, Name, None, NoneOf, Option, PageKept, PagesKept}
+use Rattle.ftl_core.proofs.Common.{Pending, Some, Translation, Valid, [], ap, arith, at_has, book, cases_Bool, entry_of}
+use Rattle.ftl_core.proofs.Common.{false, get_drop, get_or, get_or_from_slice_get, has_at, inl, inr, last_page, length}
+use Rattle.ftl_core.proofs.Common.{lt-ltb, name_at, names_after, names_of, none-some, option_and_then, option_map}
+use Rattle.ftl_core.proofs.Common.{page_new, position, refl, same_Some, slice_get_within, subst, sym, true, ℕ, ⊎_elim}
+use Rattle.ftl_core.proofs.Common.{◌+◌, ◌<◌, ◌∙◌, ◌∷◌, ◌≡◌, ◌≤◌, ◌⊎◌}
+use Rattle.std.proofs.Common.{reverse, slice_get, ◌-◌}
 use Rattle.std.specs.List.{position_or_len}
 use Rattle.std.proofs.lemmas.List.{get_or-reverse, length-reverse}
 use Rattle.std.proofs.lemmas.List.Sums.{position_or_len_is}
-use Rattle.std.proofs.lemmas.Option.{get_or_from_slice_get, slice_get-get_or, slice_get_within}
-use Rattle.ufs_spec.proofs.Facts.{at_most, cases_Bool, none-some, same_Some}
+use Rattle.std.proofs.lemmas.Option.{slice_get-get_or}
+use Rattle.ufs_spec.proofs.Facts.{at_most}
 use Rattle.ufs_spec.proofs.Lists.{position_cases}
 use Rattle.ufs_spec.proofs.Equalities.{key_self, key_told}
 use Rattle.ufs_spec.specs.Keys as keys
-use Rattle.ufs_spec.specs.Ledger.{Entry, entry_of}
-use Rattle.ufs_spec.specs.Translation.{Translation, names_after, names_of}
-use Rattle.ufs_spec.specs.declared.flash.Key.{Key}
-use Rattle.ufs_spec.specs.declared.layer.Name.{Name}
-use Rattle.power_loss.specs.Book.{book}
-use Rattle.power_loss.specs.Invariant.{Valid}
-use Rattle.power_loss.proofs.books.FrontierClimbs.{get_drop}
-use Rattle.power_loss.proofs.books.LastOfEachKey.{IsLastOf, NoneOf}
-use Rattle.power_loss.proofs.books.PagesByName.{new_page, page_new}
-use Rattle.power_loss.proofs.ordered_lists.ElementsAndOrders.{at_has, has_at}
-use Rattle.write_cache.specs.declared.slots.Pending.{Pending}
-use Rattle.ftl_core.specs.Describes.{PageKept, PagesKept, name_at}
-use Rattle.write_cache.specs.Slots.{is_page_of, last_page}
+use Rattle.power_loss.proofs.books.PagesByName.{new_page}
+use Rattle.write_cache.specs.Slots.{is_page_of}
 use Rattle.ftl_core.proofs.look_and_accept.Numbers.{behind}
 use Rattle.ftl_core.proofs.pages.NamesBehind.{get_either, get_name, in_names, name_is, names_differ, names_in}
 use Rattle.ftl_core.proofs.pages.PagesNamed.{names_get, pages_get}

@@ -1,23 +1,15 @@
 -- What is looked up of a key is of the key: the page of a group that has it, in its slot or where it stands.
-use Rattle.std.proofs.Common.{◌≡◌, ◌<◌, ◌≤◌, true, false, length, Option, Some, None, refl, sym, ◌∙◌, subst, le-ltb}
-use Rattle.std.proofs.Common.{⊎_elim, arith}
-use Rattle.std.specs.Prelude.{nat_lt, if◌then◌else◌, Bool}
-use Rattle.ufs_spec.proofs.Facts.{ltb-false, ltb-true}
-use Rattle.ufs_spec.specs.Ledger.{entry_of, latest, latest_durable, look, looked_at, looked_on}
-use Rattle.ufs_spec.specs.Translation.{Translation, is_mended}
-use Rattle.ufs_spec.specs.declared.flash.Key.{Key}
-use Rattle.ufs_spec.specs.declared.flash.Place.{Place}
-use Rattle.ufs_spec.specs.declared.layer.Looked.TheVariants.{InSlot}
-use Rattle.ufs_spec.specs.declared.layer.Name.{Name}
-use Rattle.power_loss.specs.Book.{FirstRight, HasKey, book}
-use Rattle.power_loss.specs.Invariant.{Valid}
-use Rattle.power_loss.proofs.books.PagesByName.{some_is}
-use Rattle.power_loss.proofs.books.LastOfEachKey.{IsLastOf, NoneOf, latest_cases}
+use Rattle.ftl_core.proofs.Common.{FirstRight, HasKey, InSlot, IsInNoSlot, IsLastOf, IsLookOf, Key, Name, None, NoneOf}
+use Rattle.ftl_core.proofs.Common.{Option, Place, Some, Translation, Valid, arith, book, entry_of, false, if_false}
+use Rattle.ftl_core.proofs.Common.{if_true, if◌then◌else◌, is_mended, latest_cases, latest_durable, le-ltb, length}
+use Rattle.ftl_core.proofs.Common.{look, look_now, looked_on, ltb-true, nat_lt, refl, some_is, subst, sym, true}
+use Rattle.ftl_core.proofs.Common.{two_ways, ⊎_elim, ◌<◌, ◌∙◌, ◌≡◌, ◌≤◌}
+use Rattle.std.specs.Prelude.{Bool}
+use Rattle.ufs_spec.proofs.Facts.{ltb-false}
+use Rattle.ufs_spec.specs.Ledger.{latest, looked_at}
 use Rattle.power_loss.proofs.kept_pages.LookedUpPages.{AreRewritten, last_page, latest_is_durable, latest_right}
 use Rattle.power_loss.proofs.kept_pages.LookedUpPages.{durable_within as durable_below, settled_mended}
-use Rattle.power_loss.proofs.books.SmallFacts.{if_false, if_true, two_ways}
-use Rattle.ftl_core.specs.Describes.{IsLookOf, IsNameOf, IsInNoSlot}
-use Rattle.ufs_spec.specs.Moves.{look_now}
+use Rattle.ftl_core.specs.Describes.{IsNameOf}
 use Rattle.power_loss.proofs.shown_blocks.LooksShowContents.{HasContent, durable_has}
 
 -- once the device is mended what is lost is written again

@@ -1,32 +1,19 @@
 -- What the layer looks up is what the ledger has.
-use Rattle.std.proofs.Common.{◌≡◌, ◌<◌, ◌≤◌, true, Option, Some, None, sym, ap, ◌∙◌, subst, ⊎_elim, arith, lt-ltb}
-use Rattle.std.proofs.Common.{le-ltb, false, refl}
-use Rattle.std.specs.Prelude.{nat_lt, if◌then◌else◌, Bool, List}
-use Rattle.ufs_spec.specs.Keys.{IsKey}
+use Rattle.ftl_core.proofs.Common.{Core, Describes, InSlot, IsKey, IsLastOf, Key, Ledger, Name, None, NoneOf, Numbers}
+use Rattle.ftl_core.proofs.Common.{Option, Pending, Some, Stored, Translation, ap, arith, false, if_false, if_true}
+use Rattle.ftl_core.proofs.Common.{if◌then◌else◌, is_mended, last_page, latest_cases, latest_durable, latest_in, le-ltb}
+use Rattle.ftl_core.proofs.Common.{look, look_now, looked_on, lt-ltb, nat_lt, refl, shape_of_numbers, stored_of, subst}
+use Rattle.ftl_core.proofs.Common.{sym, true, ⊎_elim, ◌<◌, ◌∙◌, ◌≡◌, ◌≤◌}
+use Rattle.std.specs.Prelude.{Bool, List}
 use Rattle.ufs_spec.specs.Ledger as ledger
-use Rattle.ufs_spec.specs.Ledger.{Ledger, latest_durable, latest_in, look, looked_on}
-use Rattle.ufs_spec.specs.Plain.{shape_of_numbers}
-use Rattle.ufs_spec.specs.Translation.{Translation, is_mended}
-use Rattle.ufs_spec.specs.declared.configs.Numbers.{Numbers}
-use Rattle.ufs_spec.specs.declared.flash.Key.{Key}
-use Rattle.ufs_spec.specs.declared.layer.Looked.TheVariants.{InSlot}
-use Rattle.ufs_spec.specs.declared.layer.Name.{Name}
-use Rattle.power_loss.proofs.books.LastOfEachKey.{IsLastOf, NoneOf, latest_cases}
-use Rattle.power_loss.proofs.books.SmallFacts.{if_false, if_true}
 use Rattle.power_loss.proofs.kept_pages.LookedUpPages.{durable_within as durable_below, latest_splits}
 use Rattle.ftl_core.proofs.job_taken.Mended.{none_waiting}
-use Rattle.write_cache.specs.declared.slots.Pending.{Pending}
-use Rattle.unit_map.specs.declared.Stored.{Stored}
-use Rattle.ftl_core.specs.Core.{Core}
-use Rattle.ftl_core.specs.Describes.{Describes}
-use Rattle.ftl_core.specs.Moves.{look_of, looked_at, stored_of}
-use Rattle.write_cache.specs.Slots.{last_page}
+use Rattle.ftl_core.specs.Moves.{look_of, looked_at}
 use Rattle.ftl_core.proofs.look_and_accept.LastPages.{last_kept, none_kept}
 use Rattle.ftl_core.proofs.look_and_accept.LookedPages.{durable_within}
 use Rattle.ftl_core.proofs.look_and_accept.Numbers.{behind, kept_pages}
 use Rattle.ftl_core.proofs.pages.NamesBehind.{name_is}
 use Rattle.ftl_core.proofs.pages.StoredNames.{AreAlike, none_there, stored_there}
-use Rattle.ufs_spec.specs.Moves.{look_now}
 
 -- the last page of the key is looked at in its slot
 in_slot : (l : Ledger) (name : Name) (o : Option Pending) (s : Option Stored) (p : Pending) → o ≡ Some p →

@@ -1,32 +1,21 @@
 -- A group more, that is accepted behind all others: its pages are kept behind those that are, and what is known of the
 -- ledger, of the mending and of pins stays.
-use Rattle.std.proofs.Common.{◌≡◌, ◌∙◌, ℕ, suc, ◌+◌, ◌-◌, ◌≤◌, true, List, [], ◌∷◌, ◌++◌, length, Option, Some}
-use Rattle.std.proofs.Common.{None, sym, ap, subst, arith}
-use Rattle.std.proofs.lemmas.List.{append-nil, length-drop, take-append-le}
+use Rattle.ftl_core.proofs.Common.{Core, Describes, Entry, InSlot, IsLookOf, Key, Ledger, LedgerKept, List, Looked}
+use Rattle.ftl_core.proofs.Common.{Name, None, OnPage, Option, PagesKept, Pending, Pin, PinsKept, Place, Some, Step}
+use Rattle.ftl_core.proofs.Common.{StepKept, Translation, Unwritten, WorkKept, [], ap, append-nil, arith}
+use Rattle.ftl_core.proofs.Common.{before_accepted, book, entry_of, is_mended, latest_durable, latest_in, length}
+use Rattle.ftl_core.proofs.Common.{length-drop, names_after, names_of, names_pending, page_grows, pending, repairs_in}
+use Rattle.ftl_core.proofs.Common.{stored_of, subst, suc, sym, true, true≢false, ℕ, ◌++◌, ◌+◌, ◌∙◌, ◌∷◌, ◌≡◌, ◌≤◌}
+use Rattle.std.proofs.Common.{◌-◌}
+use Rattle.std.proofs.lemmas.List.{take-append-le}
 use Rattle.ufs_spec.specs.Keys as keys
-use Rattle.ufs_spec.proofs.Facts.{true≢false}
-use Rattle.ufs_spec.specs.Ledger.{Entry, Ledger, before_accepted, entry_of}
-use Rattle.ufs_spec.specs.Ledger.{latest_durable, latest_in, next_number, pending}
+use Rattle.ufs_spec.specs.Ledger.{next_number}
 use Rattle.ufs_spec.specs.Translation as layer
-use Rattle.ufs_spec.specs.Translation.{Rest, Translation, Work, is_mended, names_after, names_of}
-use Rattle.ufs_spec.specs.declared.flash.Key.{Key}
-use Rattle.ufs_spec.specs.declared.flash.Place.{Place}
-use Rattle.ufs_spec.specs.declared.layer.Looked.{Looked}
-use Rattle.ufs_spec.specs.declared.layer.Looked.TheVariants.{InSlot, OnPage, Unwritten}
-use Rattle.ufs_spec.specs.declared.layer.Name.{Name}
+use Rattle.ufs_spec.specs.Translation.{Rest, Work}
 use Rattle.ufs_spec.proofs.Lists.{grown_length}
-use Rattle.power_loss.specs.Book.{book}
-use Rattle.power_loss.proofs.books.PagesByName.{page_grows}
 use Rattle.ftl_core.specs.declared.books.Mending.{Mending}
-use Rattle.write_cache.specs.declared.slots.Pending.{Pending}
-use Rattle.readers.specs.declared.pin.Pin.{Pin}
-use Rattle.ftl_core.specs.declared.books.Step.{Step}
 use Rattle.ftl_core.specs.declared.books.Step.TheVariants as steps
-use Rattle.ftl_core.specs.Core.{Core}
-use Rattle.ftl_core.specs.Describes.{Describes, IsLookOf, LedgerKept, PagesKept, PinsKept, StepKept, WorkKept}
-use Rattle.ftl_core.specs.Describes.{names_pending}
 use Rattle.ftl_core.specs.Moves as core
-use Rattle.ftl_core.specs.Moves.{repairs_in, stored_of}
 use Rattle.ftl_core.proofs.look_and_accept.Numbers.{pending_mended}
 use Rattle.ftl_core.proofs.pages.NamesBehind.{names_more}
 use Rattle.ftl_core.proofs.pages.PagesNamed.{pages_known, pages_more}

@@ -1,29 +1,19 @@
 -- The numbers of groups: behind the frontier come those of the pending groups, or that of the repair under way. The
 -- pages that are kept are those of the pending groups.
-use Rattle.std.proofs.Common.{◌≡◌, ◌∙◌, ◌⊎◌, ℕ, suc, ◌+◌, ◌-◌, ◌≤◌, Bool, true, false, List, Option, Some, None, length}
-use Rattle.std.proofs.Common.{drop, refl, sym, ap, subst, inl, inr, ⊎_elim, arith, sum_by}
-use Rattle.std.proofs.lemmas.List.{drop-drop, length-drop}
+use Rattle.ftl_core.proofs.Common.{Bool, Core, Describes, Entry, Key, Ledger, List, Name, None, Option, PagesKept}
+use Rattle.ftl_core.proofs.Common.{Pending, Place, RepairStep, Repairing, Some, Standing, StepKept, Translation, Valid}
+use Rattle.ftl_core.proofs.Common.{ap, arith, before_accepted, drop, entry_of, false, if_false, inl, inr, is_mended}
+use Rattle.ftl_core.proofs.Common.{is_some, length, length-drop, name_cases, names_after, next_number, none_some}
+use Rattle.ftl_core.proofs.Common.{pending, refl, repairs_in, same_name, step_after, subst, suc, sym, true, true≢false}
+use Rattle.ftl_core.proofs.Common.{ℕ, ⊎_elim, ◌+◌, ◌∙◌, ◌≡◌, ◌≤◌, ◌⊎◌}
+use Rattle.std.proofs.Common.{sum_by, ◌-◌}
+use Rattle.std.proofs.lemmas.List.{drop-drop}
 use Rattle.ufs_spec.specs.Keys as keys
 use Rattle.ufs_spec.specs.Ledger as ledger
-use Rattle.std.specs.Prelude.{is_some}
-use Rattle.power_loss.proofs.books.PagesByName.{none_some}
-use Rattle.power_loss.proofs.books.SmallFacts.{if_false, name_cases}
-use Rattle.ufs_spec.specs.Ledger.{Entry, Ledger, before_accepted, entry_of, pending, same_name}
-use Rattle.ufs_spec.specs.Moves.{step_after}
 use Rattle.ufs_spec.specs.Translation as layer
-use Rattle.ufs_spec.specs.Translation.{RepairStep, Repairing, Translation, is_mended}
-use Rattle.ufs_spec.specs.Translation.{names_after, pending_pages}
-use Rattle.ufs_spec.specs.declared.flash.Key.{Key}
-use Rattle.ufs_spec.specs.declared.flash.Place.{Place}
-use Rattle.ufs_spec.specs.declared.layer.Name.{Name}
-use Rattle.ufs_spec.proofs.Facts.{true≢false}
-use Rattle.power_loss.specs.Invariant.{Valid}
-use Rattle.write_cache.specs.declared.slots.Pending.{Pending}
+use Rattle.ufs_spec.specs.Translation.{pending_pages}
 use Rattle.ftl_core.specs.declared.books.Step as kept_step
 use Rattle.ftl_core.specs.declared.books.Step.TheVariants as steps
-use Rattle.ftl_core.specs.Core.{Core}
-use Rattle.ftl_core.specs.Describes.{Describes, PagesKept, Standing, StepKept}
-use Rattle.ftl_core.specs.Moves.{next_number, repairs_in}
 use Rattle.ftl_core.proofs.pages.NamesBehind.{count_names}
 use Rattle.ftl_core.proofs.pages.PagesNamed.{same_count}
 

@@ -1,40 +1,25 @@
 -- A group of pages with keys of their own is accepted: each page waits for its rest, if the rest is still to be read.
-use Rattle.std.proofs.Common.{◌≡◌, ◌∙◌, ℕ, ◌<◌, ◌≤◌, List, ◌++◌, Option, Some, None, length, map, drop}
-use Rattle.std.proofs.Common.{filter, not, refl, sym, ap, subst, arith, ⊎_elim, inl, inr}
-use Rattle.std.specs.Prelude.{All, filter_map, option_map, replicate, slice_get}
-use Rattle.std.proofs.lemmas.List.{length-map}
-use Rattle.std.proofs.lemmas.List.Elements.{filter-append, filter_map-append}
-use Rattle.std.proofs.lemmas.Option.{slice_get-map, slice_get_past}
-use Rattle.ufs_spec.proofs.Facts.{leb-true, same_Some}
-use Rattle.ufs_spec.proofs.Lists.{get_there, length-below}
-use Rattle.ufs_spec.specs.Keys.{Group, below}
+use Rattle.ftl_core.proofs.Common.{Accept, All, AreClaimedBy, Brought, Claimed, Core, Describes, FromPage, Group}
+use Rattle.ftl_core.proofs.Common.{IsAllowedMove, IsIn, IsPartBrought, KnowsLive, List, None, Option, PagesKept}
+use Rattle.ftl_core.proofs.Common.{Pending, RestKept, RestsKept, Some, Translation, all_keep, ap, arith, below, book}
+use Rattle.ftl_core.proofs.Common.{contained_in, drop, empty_claim, entry_of, filter-append, filter_in, filter_map}
+use Rattle.ftl_core.proofs.Common.{filter_map-append, get_there, greatest_number, grown, in_contained, inl, inr}
+use Rattle.ftl_core.proofs.Common.{is_claim_of, laid_move, length, length-below, length-map, map, moved, name_at}
+use Rattle.ftl_core.proofs.Common.{new_page, next_number, option_map, page_brought, page_grows, refl, replicate}
+use Rattle.ftl_core.proofs.Common.{rest_kept, same_Some, slice_get, slice_get-map, subst, sym, waiting, waits, ℕ}
+use Rattle.ftl_core.proofs.Common.{⊎_elim, ◌++◌, ◌<◌, ◌∙◌, ◌≡◌, ◌≤◌}
+use Rattle.std.proofs.Common.{filter, not}
+use Rattle.std.proofs.lemmas.Option.{slice_get_past}
+use Rattle.ufs_spec.proofs.Facts.{leb-true}
 use Rattle.ufs_spec.specs.Ledger as ledger
-use Rattle.ufs_spec.specs.Ledger.{entry_of}
-use Rattle.ufs_spec.specs.Moves.{Accept, IsAllowedMove, moved}
-use Rattle.ufs_spec.specs.Pages.{greatest_number}
 use Rattle.ufs_spec.specs.Plain.{zero_block}
-use Rattle.ufs_spec.specs.Translation.{FromPage, Translation, rest_at, rests_of}
-use Rattle.power_loss.specs.Book.{book}
-use Rattle.power_loss.proofs.books.PagesByName.{grown, page_grows}
-use Rattle.power_loss.proofs.laid_rests.AllMoves.{laid_move}
-use Rattle.power_loss.proofs.moves.MovesKeepValid.{all_keep}
-use Rattle.power_loss.proofs.ordered_lists.ElementsAndOrders.{IsIn, contained_in, filter_in, in_contained, in_either}
-use Rattle.power_loss.proofs.ordered_lists.ElementsAndOrders.{in_left}
+use Rattle.ufs_spec.specs.Translation.{rest_at, rests_of}
+use Rattle.power_loss.proofs.ordered_lists.ElementsAndOrders.{in_either, in_left}
 use Rattle.power_loss.proofs.pending_groups.DurableInOrder as durable
 use Rattle.write_cache.specs.declared.rests.NewPage.{NewPage}
 use Rattle.write_cache.specs.declared.rests.Rest as cache
-use Rattle.write_cache.specs.declared.slots.Claimed.{Claimed}
-use Rattle.write_cache.specs.declared.slots.Pending.{Pending}
-use Rattle.write_cache.specs.Rests.{body_brought, page_brought, page_of}
-use Rattle.write_cache.specs.Slots.{empty_claim, is_claim_of}
-use Rattle.ftl_core.specs.declared.books.Brought.{Brought}
-use Rattle.ftl_core.specs.Core.{Core}
-use Rattle.ftl_core.specs.Describes.{Describes, PagesKept, name_at}
-use Rattle.ftl_core.specs.KnownLive.{KnowsLive}
-use Rattle.ftl_core.specs.Moves.{next_number}
-use Rattle.ftl_core.specs.Public.{AreClaimedBy}
-use Rattle.ftl_core.specs.Rests.{IsPartBrought, accepted_pages, new_page, pages_brought, waits}
-use Rattle.ftl_core.specs.RestsKept.{RestKept, RestsKept, rest_kept, waiting}
+use Rattle.write_cache.specs.Rests.{body_brought, page_of}
+use Rattle.ftl_core.specs.Rests.{accepted_pages, pages_brought}
 use Rattle.ftl_core.specs.Tells.{IsGroupBrought}
 use Rattle.ftl_core.proofs.look_and_accept.BroughtLists.{index_of, mapped_twice, none_behind, pages_by_index}
 use Rattle.ftl_core.proofs.look_and_accept.BroughtLists.{rests_by_index, written_before, written_only}

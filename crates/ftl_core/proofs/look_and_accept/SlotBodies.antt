@@ -1,22 +1,11 @@
 -- The slot of a page of a pending group has the page's body.
-use Rattle.std.proofs.Common.{◌≡◌, ◌∙◌, ℕ, ◌<◌, ◌==◌, true, false, List, Some, None, refl, sym, ap, find}
-use Rattle.std.specs.Prelude.{Option, option_and_then}
-use Rattle.std.specs.List.{list_any}
-use Rattle.ufs_spec.proofs.Facts.{and_parts, eqb-true}
-use Rattle.power_loss.proofs.ordered_lists.ElementsAndOrders.{IsIn, found_in}
-use Rattle.write_cache.specs.declared.slots.Pending.{Pending}
-use Rattle.write_cache.specs.Slots.{is_named}
-use Rattle.ftl_core.specs.Rests.{own_name, waits}
+use Rattle.ftl_core.proofs.Common.{Core, Describes, Entry, IsIn, List, Name, None, Pending, Rest, Some, Translation}
+use Rattle.ftl_core.proofs.Common.{and_parts, ap, content_by, content_of, entry_of, eqb-true, false, found_in}
+use Rattle.ftl_core.proofs.Common.{is_mended, is_named, is_rest_of, list_any, names_after, option_and_then, own_name}
+use Rattle.ftl_core.proofs.Common.{refl, same_Some, slice_get_within, sym, true, waits, ℕ, ◌<◌, ◌∙◌, ◌≡◌}
+use Rattle.std.proofs.Common.{find, ◌==◌}
+use Rattle.std.specs.Prelude.{Option}
 use Rattle.ftl_core.proofs.rests_owed.RestsNamed.{rest_named, waits_rest, whole_rest}
-use Rattle.std.proofs.lemmas.Option.{slice_get_within}
-use Rattle.ufs_spec.proofs.Facts.{same_Some}
-use Rattle.ufs_spec.specs.Ledger.{Entry, entry_of}
-use Rattle.ufs_spec.specs.Translation.{Translation, is_mended, is_rest_of, names_after}
-use Rattle.ufs_spec.specs.declared.layer.Name.{Name}
-use Rattle.write_cache.specs.declared.rests.Rest.{Rest}
-use Rattle.write_cache.specs.Rests.{content_by, content_of}
-use Rattle.ftl_core.specs.Core.{Core}
-use Rattle.ftl_core.specs.Describes.{Describes}
 use Rattle.ftl_core.specs.Moves.{slot_of}
 use Rattle.ftl_core.proofs.look_and_accept.LastPages.{group_above}
 use Rattle.ftl_core.proofs.look_and_accept.Numbers.{behind, kept_pages}

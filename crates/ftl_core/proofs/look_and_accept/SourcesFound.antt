@@ -1,47 +1,33 @@
 -- Where the rest comes from of a page that a command has in part: the layer finds what the ledger has, by the last
 -- pending page of the key, or by where its durable content stands.
-use Rattle.std.proofs.Common.{◌≡◌, ◌∙◌, ℕ, true, List, Option, Some, None, refl, sym, ap, subst, Contains}
-use Rattle.std.specs.Prelude.{find, is_some, option_and_then, option_map, slice_get, unwrap_or}
+use Rattle.ftl_core.proofs.Common.{Cells, Contains, Core, Describes, Entry, GroupPage, InSlot, IsIn, IsKey, IsNumbered}
+use Rattle.ftl_core.proofs.Common.{Key, List, Looked, Name, None, Option, OwedSource, PageKept, Pending, Some, Stored}
+use Rattle.ftl_core.proofs.Common.{Tag, Translation, ap, at_has, awaited_by, awaited_read, book, content_by, content_of}
+use Rattle.ftl_core.proofs.Common.{entry_of, filter_in, find, find_some, found_in, has_at, in_contained, is_mended}
+use Rattle.ftl_core.proofs.Common.{is_named, is_rest_of, is_some, kept_in, last_page, look, mapped_in, none-some}
+use Rattle.ftl_core.proofs.Common.{option_and_then, option_map, own_name, page_one, pending, read_by, read_from, refl}
+use Rattle.ftl_core.proofs.Common.{rest_kept, rest_of_name, same_Some, shape_of_numbers, slice_get, source_kept}
+use Rattle.ftl_core.proofs.Common.{stored_of, subst, sym, true, unwrap_or, waiting, waits, ℕ, ◌∙◌, ◌≡◌}
 use Rattle.ufs_spec.proofs.CellKinds.{one_page}
 use Rattle.ufs_spec.proofs.Equalities.{name_told}
-use Rattle.ufs_spec.proofs.Facts.{none-some, same_Some}
-use Rattle.ufs_spec.proofs.Lists.{find_some}
-use Rattle.ufs_spec.specs.Cells.{Cells, GroupPage}
-use Rattle.ufs_spec.specs.Keys.{IsKey}
-use Rattle.ufs_spec.specs.Ledger.{Entry, all_contents, entry_of, latest, look, pending}
-use Rattle.ufs_spec.specs.Plain.{shape_of_numbers, zero_block}
-use Rattle.ufs_spec.specs.Translation.{FromSlot, Rest, Translation, awaited_read, is_mended, is_rest_of, read_from}
-use Rattle.ufs_spec.specs.Translation.{source_of}
-use Rattle.ufs_spec.specs.declared.flash.Key.{Key}
-use Rattle.ufs_spec.specs.declared.flash.Tag.{Tag}
-use Rattle.ufs_spec.specs.declared.layer.Looked.{Looked}
-use Rattle.ufs_spec.specs.declared.layer.Looked.TheVariants.{InSlot}
-use Rattle.ufs_spec.specs.declared.layer.Name.{Name}
-use Rattle.power_loss.specs.Book.{book}
+use Rattle.ufs_spec.specs.Ledger.{all_contents, latest}
+use Rattle.ufs_spec.specs.Plain.{zero_block}
+use Rattle.ufs_spec.specs.Translation.{FromSlot, Rest, source_of}
 use Rattle.power_loss.specs.Shown.{IsShown}
 use Rattle.power_loss.proofs.books.LayerParts.{LookedOf}
-use Rattle.power_loss.proofs.books.PagesByName.{page_one}
 use Rattle.power_loss.proofs.collected_blocks.FewestLivePages.{mended_told}
 use Rattle.power_loss.proofs.kept_pages.LookedUpPages.{look_right}
 use Rattle.power_loss.proofs.laid_rests.BelowGroups.{rest_is_found}
-use Rattle.power_loss.proofs.ordered_lists.ElementsAndOrders.{IsIn, at_has, filter_in, found_in, has_at, in_contained}
-use Rattle.power_loss.proofs.ordered_lists.ElementsAndOrders.{kept_in, mapped_in}
 use Rattle.power_loss.proofs.shown_blocks.LooksShowContents.{latest_has, looked_has}
-use Rattle.unit_map.specs.declared.Stored.{Stored}
-use Rattle.write_cache.specs.declared.rests.OwedSource.{OwedSource}
 use Rattle.write_cache.specs.declared.rests.OwedSource.TheVariants as owed
 use Rattle.write_cache.specs.declared.rests.Rest as cache
 use Rattle.write_cache.specs.declared.rests.RestSource.{RestSource}
 use Rattle.write_cache.specs.declared.rests.RestSource.TheVariants as source
-use Rattle.write_cache.specs.declared.slots.Pending.{Pending}
-use Rattle.write_cache.specs.Rests.{awaited_by, base_in, content_by, content_of, read_by}
-use Rattle.write_cache.specs.Slots.{is_named, last_of, last_page}
-use Rattle.ftl_core.specs.Core.{Core}
-use Rattle.ftl_core.specs.Describes.{Describes, PageKept}
-use Rattle.ftl_core.specs.Moves.{looked_at, stored_of}
+use Rattle.write_cache.specs.Rests.{base_in}
+use Rattle.write_cache.specs.Slots.{last_of}
+use Rattle.ftl_core.specs.Moves.{looked_at}
 use Rattle.ftl_core.specs.Pinned.{look_of_source}
-use Rattle.ftl_core.specs.Rests.{last_source, own_name, slot_source, stored_source, waits}
-use Rattle.ftl_core.specs.RestsKept.{IsNumbered, rest_kept, rest_of_name, source_kept, waiting}
+use Rattle.ftl_core.specs.Rests.{last_source, slot_source, stored_source}
 use Rattle.ftl_core.proofs.look_and_accept.LookedUp.{looks}
 use Rattle.ftl_core.proofs.pages.NamesBehind.{name_is, names_differ}
 use Rattle.ftl_core.proofs.pages.PagesNamed.{named_true, name_told as told_by_name, pages_get}

@@ -1,21 +1,13 @@
 -- What is kept of the blocks is what was found of each.
-use Rattle.std.proofs.Common.{◌≡◌, ◌∙◌, ℕ, suc, ◌+◌, Bool, true, false, List, [], ◌∷◌, Some, length}
-use Rattle.std.proofs.Common.{map, refl, sym, ap, subst, arith}
-use Rattle.std.specs.Prelude.{◌||◌, if◌then◌else◌, nat_lt, count_by, slice_get}
-use Rattle.std.specs.List.{list_any}
-use Rattle.std.proofs.lemmas.Bool.Decides.{nat_tests}
-use Rattle.std.proofs.lemmas.List.Sums.{sum_by-cons}
-use Rattle.ufs_spec.proofs.Facts.{same_Some}
+use Rattle.ftl_core.proofs.Common.{BlocksKept, Bool, Found, List, Numbers, Some, Spot, [], ap, arith, block_kept, false}
+use Rattle.ftl_core.proofs.Common.{if◌then◌else◌, length, list_any, map, nat_lt, nat_tests, refl, same_Some, slice_get}
+use Rattle.ftl_core.proofs.Common.{spots, subst, suc, sum_by-cons, sym, true, ℕ, ◌+◌, ◌||◌, ◌∙◌, ◌∷◌, ◌≡◌}
+use Rattle.std.specs.Prelude.{count_by}
 use Rattle.ufs_spec.specs.Disk as disk
-use Rattle.ufs_spec.specs.Disk.{Spot}
-use Rattle.ufs_spec.specs.Translation.{spots}
-use Rattle.ufs_spec.specs.declared.configs.Numbers.{Numbers}
 use Rattle.recovery.specs.KeysInOrder.{state_of_found as layer_state}
 use Rattle.recovery.specs.Opened.{IsVacancyOf}
 use Rattle.recovery.specs.declared.keys.FoundBlock.{FoundBlock}
 use Rattle.recovery.specs.declared.keys.FoundBlock.TheVariants as found
-use Rattle.recovery.specs.declared.found.Found.{Found}
-use Rattle.ftl_core.specs.Describes.{BlocksKept, block_kept}
 use Rattle.ftl_core.specs.Moves.{state_of_found}
 
 -- Some block is bad

@@ -1,11 +1,8 @@
 -- Lists with one element put, and what stands before and behind a position.
-use Rattle.std.proofs.Common.{◌≡◌, ◌≢◌, ◌∙◌, ◌⊎◌, ℕ, zero, suc, ◌+◌, List, [], ◌∷◌, ◌++◌, Option, Some, length, drop}
-use Rattle.std.proofs.Common.{take, refl, ap, inl, inr, ⊎_elim, arith}
-use Rattle.std.specs.Prelude.{slice_get, slice_set}
+use Rattle.ftl_core.proofs.Common.{Key, List, Name, Option, Some, [], ap, arith, drop, index_in, inl, inr, latest_in}
+use Rattle.ftl_core.proofs.Common.{length, name_or, refl, slice_get, slice_set, suc, take, zero, ℕ, ⊎_elim, ◌++◌, ◌+◌}
+use Rattle.ftl_core.proofs.Common.{◌∙◌, ◌∷◌, ◌≡◌, ◌≢◌, ◌⊎◌}
 use Rattle.ufs_spec.specs.Keys as keys
-use Rattle.ufs_spec.specs.Ledger.{index_in, latest_in, name_or}
-use Rattle.ufs_spec.specs.declared.flash.Key.{Key}
-use Rattle.ufs_spec.specs.declared.layer.Name.{Name}
 
 -- what stands at each position of a list with one element put
 pub get_set : {A : Type 0} (xs : List A) (i : ℕ) (x : A) (j : ℕ) (y : A) → slice_get (slice_set xs i x) j ≡ Some y →

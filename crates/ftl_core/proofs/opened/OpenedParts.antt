@@ -1,28 +1,14 @@
 -- What is kept when the layer is opened, from what its parts are then.
-use Rattle.std.proofs.Common.{◌≡◌, ◌∙◌, ℕ, List, [], None, Option, ap, map, min, replicate, take}
-use Rattle.std.specs.Prelude.{option_map}
-use Rattle.geometry.specs.Keys.{key_total}
-use Rattle.ufs_spec.specs.Pages.{greatest_number}
-use Rattle.ufs_spec.specs.Plain.{shape_of_numbers, zero_block}
-use Rattle.ufs_spec.specs.declared.configs.Numbers.{Numbers}
-use Rattle.ufs_spec.specs.declared.flash.Key.{Key}
+use Rattle.ftl_core.proofs.Common.{BlockState, Collection, Core, DieRow, Found, Key, List, Lives, None, Numbers, Option}
+use Rattle.ftl_core.proofs.Common.{Pin, Sizes, Stored, UnitMap, WriteCache, [], ap, greatest_number, key_total, map}
+use Rattle.ftl_core.proofs.Common.{min, none_live, option_map, shape_of_numbers, sizes_of, take, without_pins, ℕ, ◌∙◌}
+use Rattle.ftl_core.proofs.Common.{◌≡◌}
+use Rattle.std.proofs.Common.{replicate}
+use Rattle.ufs_spec.specs.Plain.{zero_block}
 use Rattle.block_table.specs.Blocks.{Blocks}
-use Rattle.collector.specs.Plans.{Collection}
-use Rattle.block_table.specs.Lives.{Lives}
-use Rattle.block_table.specs.declared.BlockState.{BlockState}
-use Rattle.block_table.specs.declared.Sizes.{Sizes}
-use Rattle.recovery.specs.declared.found.Found.{Found}
-use Rattle.unit_map.specs.Places.{UnitMap}
-use Rattle.unit_map.specs.declared.Stored.{Stored}
-use Rattle.write_cache.specs.Kept.{WriteCache}
-use Rattle.block_table.specs.declared.rows.DieRow.{DieRow}
 use Rattle.ftl_core.specs.declared.books.Mending.{Mending}
-use Rattle.readers.specs.declared.pin.Pin.{Pin}
-use Rattle.ftl_core.specs.Core.{Core}
-use Rattle.ftl_core.specs.KnownLive.{lives_of_places, none_live, sizes_of}
-use Rattle.ftl_core.specs.Moves.{first_mending, mark_number_behind, opened, state_of_found}
-use Rattle.ftl_core.specs.Moves.{idle_row, stored_of_found}
-use Rattle.readers.specs.Pins.{without_pins}
+use Rattle.ftl_core.specs.KnownLive.{lives_of_places}
+use Rattle.ftl_core.specs.Moves.{first_mending, idle_row, mark_number_behind, opened, state_of_found, stored_of_found}
 use Rattle.ftl_core.proofs.live_pages.PinsCounted.{stored_bare}
 
 -- the parts together

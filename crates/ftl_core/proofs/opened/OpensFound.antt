@@ -1,67 +1,51 @@
 -- What is kept over what a scan found is the layer that the definitions open over the same pages.
-use Rattle.std.proofs.Common.{◌≡◌, ◌≢◌, ◌∙◌, ℕ, zero, suc, ◌+◌, ◌<◌, ◌≤◌, Bool, true, false, List, [], ◌∷◌, Option}
-use Rattle.std.proofs.Common.{Some, None, drop, take, length, map, refl, sym, ap, subst, arith, ⊎_elim}
-use Rattle.std.specs.Prelude.{◌-◌, ◌==◌, ◌&&◌, if◌then◌else◌, nat_lt, All, min, slice_get, option_and_then, option_map, replicate}
-use Rattle.std.specs.Prelude.{sum}
+use Rattle.ftl_core.proofs.Common.{All, All-cons, All-nil, AreToRepair, Bool, Cells, Core, Describes, DieRow, DiesKept}
+use Rattle.ftl_core.proofs.Common.{Entry, Fence, Found, IsInNoSlot, Kept, Key, Ledger, LedgerKept, List, Mended}
+use Rattle.ftl_core.proofs.Common.{Mending, Name, None, Numbers, Option, PagesKept, Pin, PinsKept, Repairing, RowKept}
+use Rattle.ftl_core.proofs.Common.{Shape, Some, Spot, Standing, StepKept, Stored, Translation, Unmarked, WorkKept}
+use Rattle.ftl_core.proofs.Common.{WritesGroup, [], ap, arith, contained_in, drop, entry_of, eqb-true, false, flat}
+use Rattle.ftl_core.proofs.Common.{flies_name, get_or_from_slice_get, greatest_number, if◌then◌else◌, key_total}
+use Rattle.ftl_core.proofs.Common.{latest_durable, length, length-map, length-replicate, map, mending_kept, names_after}
+use Rattle.ftl_core.proofs.Common.{nat_lt, nat_tests, none_some, option_and_then, option_map, refl, regions, replicate}
+use Rattle.ftl_core.proofs.Common.{same_Some, shape_of_numbers, slice_get, slice_get-map, slice_get_within, spot_at}
+use Rattle.ftl_core.proofs.Common.{stored_in, subst, suc, sym, take, true, zero, ℕ, ⊎_elim, ◌&&◌, ◌+◌, ◌-◌, ◌<◌, ◌==◌}
+use Rattle.ftl_core.proofs.Common.{◌∙◌, ◌∷◌, ◌≡◌, ◌≢◌, ◌≤◌}
+use Rattle.std.specs.Prelude.{min, sum}
 use Rattle.std.proofs.Math.Nat.{min-eq_left}
 use Rattle.std.proofs.lemmas.Bool.{and_parts}
-use Rattle.std.proofs.lemmas.Bool.Decides.{nat_tests}
-use Rattle.std.proofs.lemmas.List.{drop_all, get_or-replicate, length-map, length-replicate, take_all}
-use Rattle.std.proofs.lemmas.List.Elements.{All-cons, All-nil}
-use Rattle.std.proofs.lemmas.Option.{get_or_from_slice_get, slice_get-map, slice_get_within}
-use Rattle.ufs_spec.specs.Pages.{greatest_number}
-use Rattle.ufs_spec.specs.Cells.{AreWithin, Cells}
+use Rattle.std.proofs.lemmas.List.{drop_all, get_or-replicate, take_all}
+use Rattle.ufs_spec.specs.Cells.{AreWithin}
 use Rattle.ufs_spec.specs.Cells as cells
 use Rattle.ufs_spec.specs.Disk as disk
-use Rattle.ufs_spec.specs.Disk.{Spot}
 use Rattle.ufs_spec.specs.Keys as keys
 use Rattle.ufs_spec.specs.Keys.{area_pages}
 use Rattle.ufs_spec.specs.Kept.{fence_in}
 use Rattle.ufs_spec.specs.Ledger as ledger
-use Rattle.ufs_spec.specs.Ledger.{Entry, Ledger, entry_of, latest_durable}
 use Rattle.ufs_spec.specs.Openings.{HasNumbers, IsMendingAt, IsOpenedTranslation, MayBeMended, number_of}
-use Rattle.ufs_spec.specs.Plain.{Shape, regions, shape_of_numbers, steps_of}
+use Rattle.ufs_spec.specs.Plain.{steps_of}
 use Rattle.ufs_spec.specs.Sound.{CellsSound, MarkSuits, with_one_region}
 use Rattle.ufs_spec.proofs.RegionPages.{one_region}
 use Rattle.ufs_spec.specs.Translation as layer
-use Rattle.ufs_spec.specs.Translation.{Mended, Mending, Repairing, Translation, Unmarked, flies_name}
-use Rattle.ufs_spec.specs.Translation.{names_after}
-use Rattle.ufs_spec.specs.declared.configs.Numbers.{Numbers}
-use Rattle.ufs_spec.specs.declared.flash.Fence.{Fence}
-use Rattle.ufs_spec.specs.declared.flash.Key.{Key}
-use Rattle.ufs_spec.specs.declared.layer.Name.{Name}
 use Rattle.page_tag.specs.Contents.{mark_of}
 use Rattle.page_tag.specs.declared.contents.Mark.{Mark}
 use Rattle.power_loss.specs.Book.{CellsRight}
-use Rattle.power_loss.proofs.books.PagesByName.{none_some}
 use Rattle.power_loss.proofs.openings.OpenedIsValid.{opening_valid}
 use Rattle.recovery.specs.Found.{IsFound, newest_found}
-use Rattle.geometry.specs.Keys.{AtSettings, IsIndex, key_total}
+use Rattle.geometry.specs.Keys.{AtSettings, IsIndex}
 use Rattle.recovery.specs.Opened.{IsFenceFound, IsPageOf, OpensFound}
-use Rattle.recovery.specs.declared.found.Found.{Found}
 use Rattle.recovery.specs.declared.pages.FoundPage.{FoundPage}
 use Rattle.geometry.proofs.KeyIndexes.{is_index, known_index}
 use Rattle.recovery.proofs.opened.FoundOpens.{found_opens}
-use Rattle.block_table.specs.declared.rows.DieRow.{DieRow}
 use Rattle.block_table.specs.declared.rows.Flight.TheVariants as flight
-use Rattle.ufs_spec.proofs.Facts.{eqb-self, eqb-true, same_Some}
-use Rattle.unit_map.specs.declared.Stored.{Stored}
+use Rattle.ufs_spec.proofs.Facts.{eqb-self}
 use Rattle.power_loss.proofs.laid_rests.AllMoves.{laid_opened}
-use Rattle.power_loss.proofs.ordered_lists.ElementsAndOrders.{contained_in}
-use Rattle.ftl_core.specs.Core.{Core}
-use Rattle.ftl_core.specs.Describes.{AreToRepair, RowKept, Describes, DiesKept, Kept, IsInNoSlot}
-use Rattle.ftl_core.specs.Describes.{LedgerKept, PagesKept, PinsKept, Standing, StepKept, WorkKept, mending_kept}
-use Rattle.ftl_core.specs.Describes.{WritesGroup, spot_at}
 use Rattle.ftl_core.specs.Moves.{first_mending, idle_row, is_own, mark_number_behind, mending_from, same_regions}
-use Rattle.unit_map.specs.Places.{flat}
 use Rattle.ftl_core.specs.Moves.{number_behind, opened, stored_of_found}
-use Rattle.unit_map.specs.Places.{stored_in}
 use Rattle.power_loss.proofs.openings.FirstBlocks.{never_filling}
 use Rattle.ftl_core.proofs.live_pages.OpenedLive.{opened_knows}
 use Rattle.ftl_core.proofs.live_pages.StoredPages.{stored_owned}
 use Rattle.ftl_core.proofs.opened.FoundBlocks.{blocks_found}
 use Rattle.ftl_core.proofs.pages.StoredNames.{AreAlike, stored_is}
-use Rattle.readers.specs.declared.pin.Pin.{Pin}
 
 -- Dies
 

@@ -1,34 +1,27 @@
 -- The states of all blocks, in order by die and block.
-use Rattle.std.proofs.Common.{◌≡◌, ◌≢◌, ◌∙◌, ◌⊎◌, ℕ, zero, suc, ◌+◌, ◌<◌, ◌≤◌, Bool, true, false, List, [], ◌∷◌, ◌++◌}
-use Rattle.std.proofs.Common.{Option, Some, None, length, map, refl, sym, ap, subst, inl, inr, arith, cond, set}
-use Rattle.std.proofs.Common.{get_or, flat_map}
-use Rattle.std.specs.Prelude.{◌-◌, ◌*◌, ◌==◌, count_by, filter_map, find, slice_get, slice_set, option_map}
-use Rattle.std.specs.List.{cons_option}
+use Rattle.ftl_core.proofs.Common.{BlockState, BlocksKept, Bool, IsFilling, List, None, Numbers, OpenBlock, Option}
+use Rattle.ftl_core.proofs.Common.{Place, Some, Spot, [], ap, arith, at_spot, below, block_kept, cases_lt, cond}
+use Rattle.ftl_core.proofs.Common.{cons_option, eqb_tells, false, filter_map, filter_map-append, find, found_or, get_or}
+use Rattle.ftl_core.proofs.Common.{inl, inr, is_bad, length, map, map-append, next_place, option_map, refl, slice_get}
+use Rattle.ftl_core.proofs.Common.{slice_get-map, slice_set, spot_at, spots, subst, suc, sym, true, zero, ℕ, ◌++◌, ◌+◌}
+use Rattle.ftl_core.proofs.Common.{◌-◌, ◌<◌, ◌==◌, ◌∙◌, ◌∷◌, ◌≡◌, ◌≢◌, ◌≤◌, ◌⊎◌}
+use Rattle.std.proofs.Common.{flat_map, set}
+use Rattle.std.specs.Prelude.{count_by, ◌*◌}
 use Rattle.std.specs.Option.{option_or}
 use Rattle.std.proofs.Math.Nat.{mul-le-mul_left}
-use Rattle.std.proofs.lemmas.Bool.{cases_lt}
-use Rattle.std.proofs.lemmas.Bool.Decides.{eqb_tells}
 use Rattle.std.proofs.lemmas.List.{get_or-append_right, get_or-set_other, get_or-set_same, get_or_append_left}
-use Rattle.std.proofs.lemmas.List.{length-set, map-append, set-append_left, set-append_right}
-use Rattle.std.proofs.lemmas.List.Elements.{filter_map-append}
+use Rattle.std.proofs.lemmas.List.{length-set, set-append_left, set-append_right}
 use Rattle.std.proofs.lemmas.List.Folds.{find-append, fold-map}
-use Rattle.std.proofs.lemmas.Option.{slice_get-get_or, slice_get-map}
+use Rattle.std.proofs.lemmas.Option.{slice_get-get_or}
 use Rattle.ufs_spec.specs.Disk as disk
-use Rattle.ufs_spec.specs.Disk.{Spot, at_spot}
-use Rattle.ufs_spec.specs.Keys.{below}
 use Rattle.ufs_spec.specs.Translation as layer
-use Rattle.ufs_spec.specs.Translation.{first_of, next_in, spots, spots_of}
-use Rattle.ufs_spec.specs.declared.configs.Numbers.{Numbers}
-use Rattle.ufs_spec.specs.declared.flash.Place.{Place}
+use Rattle.ufs_spec.specs.Translation.{first_of, next_in, spots_of}
 use Rattle.ufs_laws.proofs.plain_contents.ListParts.{get_or-made, joined_next, joined_same, length-joined, length-made}
 use Rattle.ufs_laws.proofs.plain_contents.ListParts.{made_of, made_same}
 use Rattle.power_loss.proofs.jobs.StandsSecurely.{at_spot_here, at_spot_other}
-use Rattle.block_table.specs.declared.BlockState.{BlockState}
 use Rattle.block_table.specs.declared.BlockState.TheVariants as state
-use Rattle.block_table.specs.declared.rows.OpenBlock.{OpenBlock}
-use Rattle.ftl_core.specs.Describes.{BlocksKept, IsFilling, block_kept, spot_at}
-use Rattle.block_table.specs.Blocks.{is_bad, is_free}
-use Rattle.ftl_core.specs.Takes.{lowest_below, next_place, found_or}
+use Rattle.block_table.specs.Blocks.{is_free}
+use Rattle.ftl_core.specs.Takes.{lowest_below}
 
 -- Rows of the same length
 

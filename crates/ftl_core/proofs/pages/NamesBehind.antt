@@ -1,19 +1,12 @@
 -- The names of the pages of groups that are numbered from one number on: how many there are, which they are, and that
 -- they differ.
-use Rattle.std.proofs.Common.{◌≡◌, ◌⊎◌, ◌∙◌, ℕ, zero, suc, ◌+◌, ◌-◌, ◌<◌, ◌≤◌, List, [], ◌∷◌, ◌++◌, Some, length, map}
-use Rattle.std.proofs.Common.{refl, sym, ap, subst, inl, inr, ⊎_elim, arith, length-append, sum_by}
-use Rattle.std.specs.Prelude.{slice_get}
-use Rattle.std.proofs.lemmas.List.{append_assoc, length-map}
-use Rattle.std.proofs.lemmas.List.Sums.{sum_by-cons}
-use Rattle.ufs_spec.specs.Keys.{Group, below}
-use Rattle.ufs_spec.specs.Translation.{names_after, names_of}
-use Rattle.ufs_spec.specs.declared.layer.Name.{Name}
-use Rattle.ufs_spec.proofs.Facts.{none-some, same_Some}
-use Rattle.ufs_spec.proofs.Lists.{get_below, length-below}
+use Rattle.ftl_core.proofs.Common.{Group, IsIn, List, Name, Some, [], ap, append_assoc, arith, at_has, below, get_below}
+use Rattle.ftl_core.proofs.Common.{inl, inr, length, length-append, length-below, length-map, map, mapped_at, name_at}
+use Rattle.ftl_core.proofs.Common.{names_after, names_of, none-some, refl, same_Some, slice_get, subst, suc}
+use Rattle.ftl_core.proofs.Common.{sum_by-cons, sym, zero, ℕ, ⊎_elim, ◌++◌, ◌+◌, ◌<◌, ◌∙◌, ◌∷◌, ◌≡◌, ◌≤◌, ◌⊎◌}
+use Rattle.std.proofs.Common.{sum_by, ◌-◌}
 use Rattle.power_loss.proofs.jobs_owed.WhatWaits.{name_of_group}
-use Rattle.power_loss.proofs.ordered_lists.ElementsAndOrders.{IsIn, at_has, in_below, in_left, in_map, in_right}
-use Rattle.power_loss.proofs.ordered_lists.ElementsAndOrders.{mapped_at}
-use Rattle.ftl_core.specs.Describes.{name_at}
+use Rattle.power_loss.proofs.ordered_lists.ElementsAndOrders.{in_below, in_left, in_map, in_right}
 
 -- a name by its parts
 pub name_is : (name : Name) {n i : ℕ} → name.number ≡ n → name.index ≡ i → name ≡ name_at n i

@@ -1,15 +1,11 @@
 -- The pages of pending groups and their names, one beside the other.
-use Rattle.std.proofs.Common.{◌≡◌, ◌∙◌, ℕ, zero, suc, ◌==◌, true, List, [], ◌∷◌, ◌++◌, Option, Some}
-use Rattle.std.proofs.Common.{length, drop, take, find, refl, sym, ap, subst, arith}
-use Rattle.std.specs.Prelude.{position, slice_get}
-use Rattle.ufs_spec.specs.Ledger.{Entry}
-use Rattle.ufs_spec.specs.declared.layer.Name.{Name}
-use Rattle.ufs_spec.proofs.Facts.{and_from, and_parts, eq-eqb, eqb-true, none-some, same_Some}
-use Rattle.ufs_spec.proofs.Lists.{any_here, find_some, position_any, position_told}
-use Rattle.power_loss.proofs.ordered_lists.ElementsAndOrders.{IsIn, at_has, found_in, has_at}
-use Rattle.write_cache.specs.declared.slots.Pending.{Pending}
-use Rattle.ftl_core.specs.Describes.{PageKept, PagesKept, Standing, name_at}
-use Rattle.write_cache.specs.Slots.{is_named}
+use Rattle.ftl_core.proofs.Common.{Entry, IsIn, List, Name, Option, PageKept, PagesKept, Pending, Some, Standing, []}
+use Rattle.ftl_core.proofs.Common.{and_from, and_parts, any_here, ap, arith, at_has, drop, eq-eqb, eqb-true, find_some}
+use Rattle.ftl_core.proofs.Common.{found_in, has_at, is_named, length, name_at, none-some, position, position_told}
+use Rattle.ftl_core.proofs.Common.{refl, same_Some, slice_get, subst, suc, sym, take, true, zero, ℕ, ◌++◌, ◌∙◌, ◌∷◌}
+use Rattle.ftl_core.proofs.Common.{◌≡◌}
+use Rattle.std.proofs.Common.{find, ◌==◌}
+use Rattle.ufs_spec.proofs.Lists.{position_any}
 use Rattle.ftl_core.proofs.pages.NamesBehind.{name_is}
 
 -- Position by position

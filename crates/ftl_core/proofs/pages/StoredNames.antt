@@ -1,11 +1,7 @@
 -- What is stored of a content is the page of its name, and where that page stands.
-use Rattle.std.proofs.Common.{◌≡◌, ◌∙◌, Option, Some, None, sym, ap}
-use Rattle.std.specs.Prelude.{option_map}
-use Rattle.ufs_spec.proofs.Facts.{none-some, same_Some}
-use Rattle.ufs_spec.specs.declared.flash.Place.{Place}
-use Rattle.ufs_spec.specs.declared.layer.Name.{Name}
-use Rattle.unit_map.specs.declared.Stored.{Stored}
-use Rattle.ftl_core.specs.Describes.{Standing, page_of_name, page_stored}
+use Rattle.ftl_core.proofs.Common.{Name, None, Option, Place, Some, Standing, Stored, ap, none-some, option_map}
+use Rattle.ftl_core.proofs.Common.{same_Some, sym, ◌∙◌, ◌≡◌}
+use Rattle.ftl_core.specs.Describes.{page_of_name, page_stored}
 
 -- as LedgerKept has it of each key
 abbrev pub AreAlike : Standing → Option Stored → Option Name → Type 0

@@ -1,18 +1,15 @@
 -- The pin of a block of a reader, which is the only one of this block.
-use Rattle.std.proofs.Common.{◌≡◌, ◌∙◌, ℕ, suc, ◌==◌, Bool, true, false, List, [], ◌∷◌, Option, Some, None, ap}
-use Rattle.std.proofs.Common.{refl, subst, sym, ⊎_elim}
+use Rattle.ftl_core.proofs.Common.{Bool, Entry, List, Name, None, Option, Pin, PinKept, PinsKept, Some, [], and_parts}
+use Rattle.ftl_core.proofs.Common.{ap, eqb-true, false, false≢true, filter, find, find_behind, is_pin_of, none-some}
+use Rattle.ftl_core.proofs.Common.{option_and_then, option_map, position, refl, same_Some, slice_get, subst, suc, sym}
+use Rattle.ftl_core.proofs.Common.{true, ℕ, ⊎_elim, ◌&&◌, ◌∙◌, ◌∷◌, ◌≡◌}
+use Rattle.std.proofs.Common.{◌==◌}
 use Rattle.std.proofs.lemmas.List.Folds.{find_at}
 use Rattle.std.specs.List.{position_or_len}
-use Rattle.std.specs.Prelude.{◌&&◌, cond, filter, find, map, option_and_then, option_map, position, slice_get}
-use Rattle.ufs_spec.proofs.Facts.{and_parts, eqb-true, false≢true, none-some, same_Some}
-use Rattle.ufs_spec.proofs.Lists.{find_behind, find_here, position_behind, position_cases, position_here}
-use Rattle.ufs_spec.specs.Ledger.{Entry}
+use Rattle.std.specs.Prelude.{cond, map}
+use Rattle.ufs_spec.proofs.Lists.{find_here, position_behind, position_cases, position_here}
 use Rattle.ufs_spec.specs.Moves as move
 use Rattle.ufs_spec.specs.Translation as layer
-use Rattle.ufs_spec.specs.declared.layer.Name.{Name}
-use Rattle.readers.specs.declared.pin.Pin.{Pin}
-use Rattle.ftl_core.specs.Describes.{PinKept, PinsKept}
-use Rattle.readers.specs.Pins.{is_pin_of}
 
 -- Lists
 

@@ -1,12 +1,7 @@
 -- The read that a reader is owed is that of the first pin that is owed one.
-use Rattle.std.proofs.Common.{◌≡◌, ◌∙◌, ℕ, Option, Some, None, ap, sym}
-use Rattle.std.specs.Prelude.{find, option_and_then, slice_get}
-use Rattle.ufs_spec.proofs.Lists.{position_told}
-use Rattle.block_table.specs.declared.rows.Flight.{Flight}
-use Rattle.readers.specs.declared.pin.Pin.{Pin}
-use Rattle.readers.specs.Pins.{is_owed_by}
-use Rattle.ftl_core.specs.Core.{Core}
-use Rattle.ftl_core.specs.Takes.{first_owed, owed_read, read_of}
+use Rattle.ftl_core.proofs.Common.{Core, Flight, None, Option, Pin, Some, ap, find, first_owed, is_owed_by}
+use Rattle.ftl_core.proofs.Common.{option_and_then, owed_read, position_told, slice_get, sym, ℕ, ◌∙◌, ◌≡◌}
+use Rattle.ftl_core.specs.Takes.{read_of}
 use Rattle.ftl_core.proofs.pins.FoundPins.{found_at}
 
 -- the read of the pin that was found; that of the device itself where none was

@@ -1,24 +1,12 @@
 -- What readers keep is what tasks keep, pin by pin.
-use Rattle.std.proofs.Common.{◌≡◌, ◌∙◌, ℕ, zero, suc, List, [], ◌∷◌, ◌++◌, Option, Some, refl, sym}
-use Rattle.std.proofs.Common.{ap, subst}
-use Rattle.std.specs.Prelude.{◌||◌, map, slice_get}
-use Rattle.std.specs.List.{list_any}
-use Rattle.ufs_spec.specs.Disk.{Spot}
-use Rattle.ufs_spec.specs.Ledger.{Entry}
+use Rattle.ftl_core.proofs.Common.{Core, Describes, Entry, InSlot, List, Looked, Name, OnPage, Option, Pin, PinKept}
+use Rattle.ftl_core.proofs.Common.{PinsKept, Some, Spot, Translation, Unwritten, [], ap, entry_of, keeps_page, list_any}
+use Rattle.ftl_core.proofs.Common.{none_some, refl, slice_get, some_is, subst, suc, sym, zero, ℕ, ◌++◌, ◌||◌, ◌∙◌, ◌∷◌}
+use Rattle.ftl_core.proofs.Common.{◌≡◌}
+use Rattle.std.specs.Prelude.{map}
 use Rattle.ufs_spec.specs.Translation as layer
-use Rattle.ufs_spec.specs.Translation.{Translation}
-use Rattle.ufs_spec.specs.declared.layer.Looked.{Looked}
-use Rattle.ufs_spec.specs.declared.layer.Looked.TheVariants.{InSlot, OnPage, Unwritten}
-use Rattle.ufs_spec.specs.declared.layer.Name.{Name}
-use Rattle.power_loss.proofs.books.PagesByName.{none_some, some_is}
-use Rattle.ufs_spec.specs.Ledger.{entry_of}
-use Rattle.ftl_core.specs.Core.{Core}
-use Rattle.ftl_core.specs.Describes.{Describes}
-use Rattle.ftl_core.specs.Moves.{has_pin}
+use Rattle.ftl_core.specs.Moves.{has_pin, keeps}
 use Rattle.ftl_core.proofs.rests_owed.RestsNamed.{rests_read}
-use Rattle.readers.specs.declared.pin.Pin.{Pin}
-use Rattle.ftl_core.specs.Describes.{PinKept, PinsKept}
-use Rattle.ftl_core.specs.Moves.{keeps, keeps_page}
 
 -- the pins of a list stand for those of another, each for its own; what is shown of each holds of all
 pub pins_mapped : (frontier after : ℕ) (entries now : Name → Option Entry) (f : Pin → Pin) (g : layer.Pin → layer.Pin)

@@ -1,17 +1,14 @@
 -- No block of a reader is kept twice, whatever becomes of the pins.
-use Rattle.std.proofs.Common.{◌≡◌, ◌∙◌, ℕ, ◌==◌, Bool, true, false, List, [], ◌∷◌, ◌++◌, Option, map, refl, ap}
-use Rattle.std.specs.Prelude.{◌||◌, ◌&&◌, cond, filter}
-use Rattle.std.specs.List.{list_any}
-use Rattle.std.proofs.lemmas.List.Folds.{list_any-append}
-use Rattle.ufs_spec.proofs.Facts.{or_from, or_parts}
-use Rattle.ufs_spec.specs.Ledger.{Entry}
+use Rattle.ftl_core.proofs.Common.{Bool, Entry, List, Name, Option, Pin, PinsKept, [], ap, false, filter, is_pin_of}
+use Rattle.ftl_core.proofs.Common.{list_any, list_any-append, map, or_parts, refl, true, ℕ, ◌&&◌, ◌++◌, ◌||◌, ◌∙◌, ◌∷◌}
+use Rattle.ftl_core.proofs.Common.{◌≡◌}
+use Rattle.std.proofs.Common.{◌==◌}
+use Rattle.std.specs.Prelude.{cond}
+use Rattle.ufs_spec.proofs.Facts.{or_from}
 use Rattle.ufs_spec.specs.Moves as move
 use Rattle.ufs_spec.specs.Translation as layer
-use Rattle.ufs_spec.specs.declared.layer.Name.{Name}
 use Rattle.power_loss.proofs.open_tasks.TaggedLists.{any_fewer, any_map, other_way}
-use Rattle.readers.specs.declared.pin.Pin.{Pin}
-use Rattle.ftl_core.specs.Describes.{PinsKept, ReadersDiffer}
-use Rattle.readers.specs.Pins.{is_pin_of}
+use Rattle.ftl_core.specs.Describes.{ReadersDiffer}
 use Rattle.ftl_core.specs.Tells.{PinsDiffer}
 use Rattle.ftl_core.proofs.pins.FoundPins.{same_test}
 

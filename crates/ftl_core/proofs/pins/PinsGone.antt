@@ -1,34 +1,18 @@
 -- A reader lets go of all that it kept, or of one block: the other pins stay, and a read in flight for what it let go
 -- is for nobody.
-use Rattle.std.proofs.Common.{◌≡◌, ◌∙◌, ℕ, zero, suc, Bool, true, false, List, [], ◌∷◌, Option, Some, None}
-use Rattle.std.proofs.Common.{refl, sym, ap, subst}
-use Rattle.std.specs.Prelude.{◌==◌, ◌&&◌, cond, filter, if◌then◌else◌, map, not, slice_get}
-use Rattle.std.proofs.lemmas.List.{length-map}
+use Rattle.ftl_core.proofs.Common.{Bool, Core, DieRow, Entry, Flight, ForNobody, ForRest, ForStep, ForTask, GroupPage}
+use Rattle.ftl_core.proofs.Common.{IsFlight, IsInNoSlot, Kept, List, Name, None, Numbers, OpenBlock, Option, Pin}
+use Rattle.ftl_core.proofs.Common.{PinsKept, Place, Reader, RowKept, Some, Spot, Step, Translation, WritesGroup, [], ap}
+use Rattle.ftl_core.proofs.Common.{false, filter, flies_name, if◌then◌else◌, is_of_reader, is_pin_of, length-map, moved}
+use Rattle.ftl_core.proofs.Common.{none_some, not, refl, slice_get, some_is, subst, suc, sym, true, zero, ℕ, ◌&&◌, ◌==◌}
+use Rattle.ftl_core.proofs.Common.{◌∙◌, ◌∷◌, ◌≡◌}
+use Rattle.std.specs.Prelude.{cond, map}
 use Rattle.ufs_spec.specs.Disk as disk
-use Rattle.ufs_spec.specs.Disk.{Spot}
 use Rattle.ufs_spec.specs.Ledger as ledger
-use Rattle.ufs_spec.specs.Ledger.{Entry}
-use Rattle.ufs_spec.specs.Moves.{LetGo, LetGoAll, is_for, is_for_task, let_go, moved, without_reader as layer_without}
+use Rattle.ufs_spec.specs.Moves.{LetGo, LetGoAll, is_for, is_for_task, let_go, without_reader as layer_without}
 use Rattle.ufs_spec.specs.Translation as layer
-use Rattle.ufs_spec.specs.Translation.{Translation, flies_name}
-use Rattle.ufs_spec.specs.declared.configs.Numbers.{Numbers}
-use Rattle.ufs_spec.specs.declared.flash.Place.{Place}
-use Rattle.ufs_spec.specs.Cells.{GroupPage}
-use Rattle.ufs_spec.specs.declared.layer.Name.{Name}
-use Rattle.ufs_spec.specs.declared.layer.Reader.{Reader}
-use Rattle.ufs_spec.specs.declared.layer.Reader.TheVariants.{ForNobody, ForRest, ForStep, ForTask}
-use Rattle.power_loss.proofs.books.PagesByName.{none_some, some_is}
-use Rattle.block_table.specs.declared.rows.DieRow.{DieRow}
-use Rattle.block_table.specs.declared.rows.Flight.{Flight}
 use Rattle.block_table.specs.declared.rows.Flight.TheVariants as flight
-use Rattle.block_table.specs.declared.rows.OpenBlock.{OpenBlock}
-use Rattle.readers.specs.declared.pin.Pin.{Pin}
-use Rattle.ftl_core.specs.declared.books.Step.{Step}
-use Rattle.ftl_core.specs.Core.{Core}
-use Rattle.ftl_core.specs.Describes.{RowKept, IsFlight, Kept, PinsKept, WritesGroup, IsInNoSlot}
-use Rattle.ftl_core.specs.Moves.{flight_without, flight_without_block, without_block}
-use Rattle.readers.specs.Pins.{is_of_reader, is_pin_of}
-use Rattle.ftl_core.specs.Moves.{without_reader}
+use Rattle.ftl_core.specs.Moves.{flight_without, flight_without_block, without_block, without_reader}
 use Rattle.ftl_core.proofs.pins.FoundPins.{found_kept, pin_told}
 use Rattle.ftl_core.proofs.pins.PinsDiffer.{differ_kept}
 use Rattle.std.proofs.lemmas.List.Elements.{All-filter}

@@ -1,26 +1,15 @@
 -- What readers keep when one group more is durable: who kept its slot keeps its page.
-use Rattle.std.proofs.Common.{◌≡◌, ◌≢◌, ◌∙◌, ℕ, zero, suc, ◌+◌, ◌<◌, ◌≤◌, Bool, true, false, List, [], ◌∷◌, Option}
-use Rattle.std.proofs.Common.{Some, None, length, map, refl, sym, ap, subst, ⊎_elim, arith, lt-ltb, le-ltb}
-use Rattle.std.specs.Prelude.{◌==◌, ◌&&◌, fold, if◌then◌else◌, nat_lt}
+use Rattle.ftl_core.proofs.Common.{Bool, Core, Entry, InSlot, IsLookOf, IsWanted, Item, Key, Ledger, List, Looked, Name}
+use Rattle.ftl_core.proofs.Common.{None, OnPage, Option, Pending, Pin, PinsKept, Place, Some, Standing, Unwritten, []}
+use Rattle.ftl_core.proofs.Common.{ap, arith, eqb_tells, false, fold, if_false, if_true, if◌then◌else◌, le-ltb, length}
+use Rattle.ftl_core.proofs.Common.{looked_on, lt-ltb, map, moved_pin, name_at, name_self, nat_lt, page_at, page_durable}
+use Rattle.ftl_core.proofs.Common.{page_durable_at, refl, same_name, settled_pin, subst, suc, sym, true, zero, ℕ}
+use Rattle.ftl_core.proofs.Common.{⊎_elim, ◌&&◌, ◌+◌, ◌<◌, ◌==◌, ◌∙◌, ◌∷◌, ◌≡◌, ◌≢◌, ◌≤◌}
 use Rattle.std.proofs.lemmas.Bool.{ne_eqb}
-use Rattle.std.proofs.lemmas.Bool.Decides.{eqb_tells}
 use Rattle.ufs_spec.proofs.Lists.{map_twice}
-use Rattle.ufs_spec.specs.Keys.{Item}
-use Rattle.ufs_spec.specs.Ledger.{Entry, Ledger, looked_on, same_name, settled_look}
-use Rattle.ufs_spec.specs.Moves.{settled_pin}
+use Rattle.ufs_spec.specs.Ledger.{settled_look}
 use Rattle.ufs_spec.specs.Translation as layer
-use Rattle.ufs_spec.specs.declared.flash.Key.{Key}
-use Rattle.ufs_spec.specs.declared.flash.Place.{Place}
-use Rattle.ufs_spec.specs.declared.layer.Looked.{Looked}
-use Rattle.ufs_spec.specs.declared.layer.Looked.TheVariants.{InSlot, OnPage, Unwritten}
-use Rattle.ufs_spec.specs.declared.layer.Name.{Name}
-use Rattle.power_loss.proofs.books.SmallFacts.{if_false, if_true, name_self}
-use Rattle.write_cache.specs.declared.slots.Pending.{Pending}
-use Rattle.readers.specs.declared.pin.Pin.{Pin}
-use Rattle.ftl_core.specs.Core.{Core}
-use Rattle.ftl_core.specs.Describes.{IsLookOf, IsWanted, PinsKept, Standing, name_at}
-use Rattle.ftl_core.specs.Ends.{page_at, page_durable, page_durable_at}
-use Rattle.readers.specs.Pins.{moved_pin, now_stored}
+use Rattle.readers.specs.Pins.{now_stored}
 use Rattle.ftl_core.proofs.group_settled.FrontPages.{AreStandingPages}
 use Rattle.ftl_core.proofs.pins.PinsAlike.{pins_mapped}
 

@@ -1,21 +1,13 @@
 -- The page of a block of a reader is wanted from now on, or wanted no more.
-use Rattle.std.proofs.Common.{◌≡◌, ◌∙◌, ℕ, Bool, true, false, Option, map, refl, ap}
-use Rattle.std.specs.Prelude.{if◌then◌else◌, option_map}
-use Rattle.ufs_spec.specs.Ledger.{Entry, entry_of}
+use Rattle.ftl_core.proofs.Common.{All-map, Bool, Core, Entry, IsInNoSlot, IsWanted, Kept, Name, Option, Pin, PinKept}
+use Rattle.ftl_core.proofs.Common.{Place, Translation, ap, entry_of, false, if◌then◌else◌, is_pin_of, map, moved}
+use Rattle.ftl_core.proofs.Common.{option_map, refl, true, wanted_now, ℕ, ◌∙◌, ◌≡◌}
 use Rattle.ufs_spec.specs.Moves as move
-use Rattle.ufs_spec.specs.Moves.{WantPage, moved, with_wanted}
+use Rattle.ufs_spec.specs.Moves.{WantPage, with_wanted}
 use Rattle.ufs_spec.specs.Translation as layer
-use Rattle.ufs_spec.specs.Translation.{Translation}
-use Rattle.ufs_spec.specs.declared.flash.Place.{Place}
-use Rattle.ufs_spec.specs.declared.layer.Name.{Name}
-use Rattle.readers.specs.declared.pin.Pin.{Pin}
-use Rattle.ftl_core.specs.Core.{Core}
-use Rattle.ftl_core.specs.Describes.{IsWanted, Kept, PinKept, IsInNoSlot}
-use Rattle.readers.specs.Pins.{is_pin_of, wanted_now}
 use Rattle.ftl_core.proofs.pins.FoundPins.{found_mapped, same_test}
 use Rattle.ftl_core.proofs.pins.PinsAlike.{pins_mapped}
 use Rattle.ftl_core.proofs.pins.PinsDiffer.{differ_mapped}
-use Rattle.std.proofs.lemmas.List.Elements.{All-map}
 
 -- so it is noted with the pin
 abbrev pub want_noted : ℕ → ℕ → Bool → Pin → Pin

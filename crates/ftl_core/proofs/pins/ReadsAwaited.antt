@@ -1,23 +1,10 @@
 -- A read in flight is for a reader who keeps its page and waits for it, for the step under way, or for nobody.
-use Rattle.std.proofs.Common.{◌≡◌, ◌∙◌, ℕ, Option, Some, None, refl}
-use Rattle.std.proofs.Common.{sym, ap, subst, inl, inr, ◌⊎◌}
-use Rattle.std.specs.Prelude.{slice_get}
-use Rattle.ufs_spec.proofs.Facts.{none-some}
+use Rattle.ftl_core.proofs.Common.{Core, Describes, DieRow, Flight, ForNobody, ForRest, ForStep, ForTask, IsFlight}
+use Rattle.ftl_core.proofs.Common.{None, Numbers, OpenBlock, Option, Place, Reader, Some, Step, Translation, ap}
+use Rattle.ftl_core.proofs.Common.{entry_of, inl, inr, none-some, refl, slice_get, subst, sym, ℕ, ◌∙◌, ◌≡◌, ◌⊎◌}
 use Rattle.ufs_spec.specs.Disk as disk
 use Rattle.ufs_spec.specs.Disk.{Reading}
-use Rattle.ufs_spec.specs.Ledger.{entry_of}
-use Rattle.ufs_spec.specs.Translation.{Translation}
-use Rattle.ufs_spec.specs.declared.configs.Numbers.{Numbers}
-use Rattle.ufs_spec.specs.declared.flash.Place.{Place}
-use Rattle.ufs_spec.specs.declared.layer.Reader.{Reader}
-use Rattle.ufs_spec.specs.declared.layer.Reader.TheVariants.{ForNobody, ForRest, ForStep, ForTask}
-use Rattle.block_table.specs.declared.rows.DieRow.{DieRow}
-use Rattle.block_table.specs.declared.rows.Flight.{Flight}
 use Rattle.block_table.specs.declared.rows.Flight.TheVariants as flight
-use Rattle.block_table.specs.declared.rows.OpenBlock.{OpenBlock}
-use Rattle.ftl_core.specs.declared.books.Step.{Step}
-use Rattle.ftl_core.specs.Core.{Core}
-use Rattle.ftl_core.specs.Describes.{Describes, IsFlight}
 use Rattle.ftl_core.proofs.pins.FoundPins.{pin_found}
 use Rattle.ftl_core.specs.Tells.{IsAwaited, IsReadOf}
 use Rattle.ftl_core.proofs.job_taken.NextStarts.{outside}

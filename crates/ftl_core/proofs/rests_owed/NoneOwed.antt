@@ -1,17 +1,8 @@
 -- Only a pending page that waits for its rest is owed a read.
-use Rattle.std.proofs.Common.{◌≡◌, ℕ, ◌≤◌, Bool, false, List, Option, Some, None, ap, refl, sym, take}
-use Rattle.std.specs.Prelude.{◌&&◌, find, is_some, not}
-use Rattle.std.specs.List.{list_any}
-use Rattle.ufs_spec.proofs.Facts.{true≢false}
-use Rattle.ufs_spec.specs.declared.layer.Reader.TheVariants.{ForRest}
-use Rattle.block_table.specs.declared.rows.DieRow.{DieRow}
-use Rattle.write_cache.specs.declared.rests.Rest.{Rest}
-use Rattle.write_cache.specs.declared.slots.Pending.{Pending}
-use Rattle.write_cache.specs.Ready.{first_waiting_from}
+use Rattle.ftl_core.proofs.Common.{Bool, DieRow, ForRest, List, None, Option, Pending, Rest, Some, ap, false, find}
+use Rattle.ftl_core.proofs.Common.{first_waiting_from, is_some, list_any, looks_on, not, owes_rest, reads_for, refl}
+use Rattle.ftl_core.proofs.Common.{rest_look, sym, take, true≢false, ℕ, ◌&&◌, ◌≡◌, ◌≤◌}
 use Rattle.write_cache.specs.Rests.{waits}
-use Rattle.ftl_core.specs.Moves.{reads_for, rest_look}
-use Rattle.readers.specs.Pins.{looks_on}
-use Rattle.ftl_core.specs.Takes.{owes_rest}
 use Rattle.ftl_core.proofs.FirstWaiting.{IsWider, next_found, none_found}
 
 looks_off : (die : ℕ) (o : Option Rest) → is_some o ≡ false → looks_on die (rest_look o) ≡ false

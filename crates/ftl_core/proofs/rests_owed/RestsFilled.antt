@@ -1,37 +1,23 @@
 -- A read brings the rest of all pages that wait for it: the first of them is laid over what was read, and each later one
 -- over the one before it, so that each has what its group has.
-use Rattle.std.proofs.Common.{◌≡◌, ◌∙◌, ℕ, suc, ◌+◌, ◌<◌, ◌≤◌, Bool, true, false, List, [], ◌∷◌, Option}
-use Rattle.std.proofs.Common.{Some, refl, sym, ap, subst, ⊎_elim, arith, Contains, is_some}
-use Rattle.std.specs.Prelude.{filter_map, if◌then◌else◌, slice_get}
-use Rattle.std.proofs.lemmas.Bool.{cases_lt}
-use Rattle.ufs_spec.proofs.Facts.{same_Some, true≢false}
-use Rattle.ufs_spec.specs.Cells.{GroupPage}
-use Rattle.ufs_spec.specs.Ledger.{Entry, entry_of, pending, same_name}
+use Rattle.ftl_core.proofs.Common.{Bool, Contains, Core, Describes, Entry, FromPage, GroupPage, IsIn, IsPageAt, List}
+use Rattle.ftl_core.proofs.Common.{Name, Option, OwedSource, PageKept, PagesKept, Pending, Place, Some, Tag}
+use Rattle.ftl_core.proofs.Common.{Translation, [], ap, arith, at_has, awaited_read, awaits, book, cases_lt, completed}
+use Rattle.ftl_core.proofs.Common.{completed_by, contained_in, entry_of, false, filter_map, has_at, if◌then◌else◌}
+use Rattle.ftl_core.proofs.Common.{in_contained, in_mapped, kept_in, name_self, names_pending, own_name, page_one}
+use Rattle.ftl_core.proofs.Common.{part_of, pending, read_from, refl, rest_kept, rest_of_name, rests_filled, same_Some}
+use Rattle.ftl_core.proofs.Common.{same_name, slice_get, source_kept, subst, suc, sym, true, true≢false, waiting, waits}
+use Rattle.ftl_core.proofs.Common.{with_part_of, ℕ, ⊎_elim, ◌+◌, ◌<◌, ◌∙◌, ◌∷◌, ◌≡◌, ◌≤◌}
+use Rattle.std.proofs.Common.{is_some}
 use Rattle.ufs_spec.specs.Translation as layer
-use Rattle.ufs_spec.specs.Translation.{FromPage, Translation, awaited_read, read_from}
-use Rattle.ufs_spec.specs.declared.flash.Place.{Place}
-use Rattle.ufs_spec.specs.declared.flash.Tag.{Tag}
-use Rattle.ufs_spec.specs.declared.layer.Name.{Name}
-use Rattle.power_loss.specs.Book.{IsPageAt, book}
 use Rattle.power_loss.specs.LaidRests.{contents_below}
-use Rattle.power_loss.proofs.books.PagesByName.{page_one}
-use Rattle.power_loss.proofs.books.SmallFacts.{name_self}
 use Rattle.power_loss.proofs.laid_rests.LaidContents.{laid_next, laid_page, laid_slot}
-use Rattle.power_loss.proofs.ordered_lists.ElementsAndOrders.{IsIn, at_has, contained_in, has_at, in_contained}
-use Rattle.power_loss.proofs.ordered_lists.ElementsAndOrders.{in_mapped, kept_in}
-use Rattle.write_cache.specs.declared.rests.OwedSource.{OwedSource}
 use Rattle.write_cache.specs.declared.rests.OwedSource.TheVariants as owed
 use Rattle.write_cache.specs.declared.rests.Rest as cache
-use Rattle.write_cache.specs.declared.slots.Pending.{Pending}
-use Rattle.write_cache.specs.Rests.{completed, completed_by}
-use Rattle.ftl_core.specs.Core.{Core}
-use Rattle.ftl_core.specs.Describes.{Describes, PageKept, PagesKept, names_pending}
-use Rattle.ftl_core.specs.Rests.{awaits, own_name, part_of, rests_filled, waits, with_part_of}
-use Rattle.ftl_core.specs.RestsKept.{IsLaid, rest_kept, rest_of_name, source_kept, waiting}
+use Rattle.ftl_core.specs.RestsKept.{IsLaid}
 use Rattle.ftl_core.proofs.look_and_accept.LastPages.{numbers_rise}
 use Rattle.ftl_core.proofs.pages.NamesBehind.{name_is, names_differ}
-use Rattle.ftl_core.proofs.rests_owed.RestsNamed.{IsRestOfPage, all_rests, held_at, one_page, own_place}
-use Rattle.ftl_core.proofs.rests_owed.RestsNamed.{rest_page}
+use Rattle.ftl_core.proofs.rests_owed.RestsNamed.{IsRestOfPage, all_rests, held_at, one_page, own_place, rest_page}
 use Rattle.ftl_core.proofs.rests_owed.RestsLeft.{awaits_by, awaits_rest}
 
 -- What the pages have

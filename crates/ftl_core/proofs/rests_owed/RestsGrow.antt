@@ -1,15 +1,9 @@
 -- A group that is accepted behind all others leaves what is kept of the rests that are there.
-use Rattle.std.proofs.Common.{◌∙◌, sym, ap, arith}
-use Rattle.ufs_spec.specs.Cells.{Cells}
-use Rattle.ufs_spec.specs.Keys.{Group}
-use Rattle.power_loss.specs.Book.{Book}
-use Rattle.power_loss.proofs.books.PagesByName.{grown, page_grows, page_within}
+use Rattle.ftl_core.proofs.Common.{Book, Cells, Group, Pending, RestKept, ap, arith, grown, page_grows, page_within}
+use Rattle.ftl_core.proofs.Common.{part_of, sym, with_part_of, ◌∙◌}
 use Rattle.power_loss.proofs.laid_rests.BelowGroups.{below_grows}
 use Rattle.write_cache.specs.declared.rests.Rest as cache
-use Rattle.write_cache.specs.declared.slots.Pending.{Pending}
 use Rattle.ufs_spec.specs.Keys.{Contents}
-use Rattle.ftl_core.specs.Rests.{part_of, with_part_of}
-use Rattle.ftl_core.specs.RestsKept.{RestKept}
 
 pub rest_grows : (b : Book) (g : Group) (cells : Cells) (p : Pending) (rest : cache.Rest) → RestKept b cells p rest →
     RestKept (grown b g) cells p rest

@@ -1,22 +1,16 @@
 -- Which read brings the rest of a page, and which pages wait still once a read came.
-use Rattle.std.proofs.Common.{◌≡◌, ◌∙◌, ℕ, Bool, true, false, List, [], ◌∷◌, Option}
-use Rattle.std.proofs.Common.{Some, None, refl, sym, ap, ⊎_elim, is_some}
-use Rattle.std.specs.Prelude.{cond, filter, filter_map, if◌then◌else◌, not}
-use Rattle.std.specs.List.{cons_option}
-use Rattle.ufs_spec.proofs.Facts.{false≢true}
-use Rattle.ufs_spec.specs.Ledger.{same_name}
+use Rattle.ftl_core.proofs.Common.{Bool, List, Name, None, Option, OwedSource, Pending, Some, [], ap, awaited_by}
+use Rattle.ftl_core.proofs.Common.{awaits, completed, completed_by, cons_option, false, false≢true, filter, filter_map}
+use Rattle.ftl_core.proofs.Common.{if◌then◌else◌, name_cases, not, own_name, read_by, read_from, refl, rest_kept}
+use Rattle.ftl_core.proofs.Common.{rest_of_name, rests_filled, same_name, source_kept, sym, true, waiting, waits, ℕ}
+use Rattle.ftl_core.proofs.Common.{⊎_elim, ◌∙◌, ◌∷◌, ◌≡◌}
+use Rattle.std.proofs.Common.{is_some}
+use Rattle.std.specs.Prelude.{cond}
 use Rattle.ufs_spec.specs.Moves.{rests_without}
 use Rattle.ufs_spec.specs.Translation as layer
-use Rattle.ufs_spec.specs.Translation.{read_from}
-use Rattle.ufs_spec.specs.declared.layer.Name.{Name}
-use Rattle.power_loss.proofs.books.SmallFacts.{name_cases}
-use Rattle.write_cache.specs.declared.rests.OwedSource.{OwedSource}
 use Rattle.write_cache.specs.declared.rests.OwedSource.TheVariants as owed
 use Rattle.write_cache.specs.declared.rests.Rest as cache
-use Rattle.write_cache.specs.declared.slots.Pending.{Pending}
-use Rattle.write_cache.specs.Rests.{awaited_by, comes_by, completed, completed_by, read_by}
-use Rattle.ftl_core.specs.Rests.{awaits, own_name, rests_filled, waits}
-use Rattle.ftl_core.specs.RestsKept.{rest_kept, rest_of_name, source_kept, waiting}
+use Rattle.write_cache.specs.Rests.{comes_by}
 
 -- What a page awaits
 

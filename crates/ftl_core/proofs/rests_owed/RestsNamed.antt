@@ -1,27 +1,18 @@
 -- Which pending pages wait for their rests: by name as the layer says it, and by the block that they are read from.
-use Rattle.std.proofs.Common.{◌≡◌, ◌∙◌, ℕ, Bool, true, false, List, [], ◌∷◌, Option, Some, None, refl, sym, ap}
-use Rattle.std.proofs.Common.{subst, ⊎_elim, is_some}
-use Rattle.std.specs.Prelude.{◌||◌, cond, filter_map, slice_get}
-use Rattle.std.specs.List.{cons_option, list_any}
-use Rattle.ufs_spec.proofs.Facts.{cases_Bool, false≢true, none-some, same_Some, true≢false}
-use Rattle.ufs_spec.proofs.Lists.{any_here, any_told}
-use Rattle.ufs_spec.specs.Disk.{Spot}
-use Rattle.ufs_spec.specs.Ledger.{entry_of, pending, same_name}
+use Rattle.ftl_core.proofs.Common.{Bool, Core, Describes, IsIn, List, Name, None, Option, OwedSource, PageKept, Pending}
+use Rattle.ftl_core.proofs.Common.{Some, Spot, Translation, [], any_here, ap, at_has, cases_Bool, cons_option, entry_of}
+use Rattle.ftl_core.proofs.Common.{false, false≢true, filter_map, has_at, in_mapped, is_rest_of, keeps_page, list_any}
+use Rattle.ftl_core.proofs.Common.{look_of_source, mapped_in, name_cases, name_self, names_pending, none-some, own_name}
+use Rattle.ftl_core.proofs.Common.{pending, refl, rest_kept, rest_look, rest_of_name, same_Some, same_name, slice_get}
+use Rattle.ftl_core.proofs.Common.{source_kept, subst, sym, true, true≢false, waiting, waits, ℕ, ⊎_elim, ◌||◌, ◌∙◌, ◌∷◌}
+use Rattle.ftl_core.proofs.Common.{◌≡◌}
+use Rattle.std.proofs.Common.{is_some}
+use Rattle.std.specs.Prelude.{cond}
+use Rattle.ufs_spec.proofs.Lists.{any_told}
 use Rattle.ufs_spec.specs.Translation as layer
-use Rattle.ufs_spec.specs.Translation.{Translation, is_rest_of}
-use Rattle.ufs_spec.specs.declared.layer.Name.{Name}
-use Rattle.power_loss.proofs.books.SmallFacts.{name_cases, name_self}
-use Rattle.power_loss.proofs.ordered_lists.ElementsAndOrders.{IsIn, at_has, has_at}
-use Rattle.power_loss.proofs.ordered_lists.ElementsAndOrders.{in_mapped, mapped_in}
-use Rattle.write_cache.specs.declared.rests.OwedSource.{OwedSource}
 use Rattle.write_cache.specs.declared.rests.OwedSource.TheVariants as owed
 use Rattle.write_cache.specs.declared.rests.Rest as cache
-use Rattle.write_cache.specs.declared.slots.Pending.{Pending}
-use Rattle.ftl_core.specs.Core.{Core}
-use Rattle.ftl_core.specs.Describes.{Describes, PageKept, names_pending}
-use Rattle.ftl_core.specs.Moves.{keeps_page, look_of_source, reads_block, rest_look}
-use Rattle.ftl_core.specs.Rests.{own_name, waits}
-use Rattle.ftl_core.specs.RestsKept.{rest_kept, rest_of_name, source_kept, waiting}
+use Rattle.ftl_core.specs.Moves.{reads_block}
 use Rattle.ftl_core.proofs.pages.NamesBehind.{name_is, names_differ}
 use Rattle.ftl_core.proofs.pages.PagesNamed.{pages_get}
 

@@ -1,42 +1,25 @@
 -- What is kept of the rests goes on to describe them along each move that neither accepts a group nor brings a rest.
-use Rattle.std.proofs.Common.{◌≡◌, ◌≢◌, ◌∙◌, ℕ, Bool, true, false, List, Option, Some, None, refl, sym, ap}
-use Rattle.std.proofs.Common.{subst, inl, inr, ⊎_elim, Contains}
-use Rattle.std.specs.Prelude.{filter_map, if◌then◌else◌}
-use Rattle.ufs_spec.proofs.Facts.{none-some}
-use Rattle.ufs_spec.specs.Cells.{Cell, Cells, GroupPage, MarkPage, Nothing}
+use Rattle.ftl_core.proofs.Common.{Book, Bool, Cell, Cells, Contains, EndJob, Ending, Fence, ForNobody, ForRest}
+use Rattle.ftl_core.proofs.Common.{ForStep, ForTask, FromPage, GroupPage, IsAllowedMove, IsIn, IsNumbered, List}
+use Rattle.ftl_core.proofs.Common.{MarkPage, MayEnd, MayTake, Name, None, Nothing, Option, Order, OrderMark}
+use Rattle.ftl_core.proofs.Common.{OrderPlanMark, OrderRepair, OwedSource, Pending, Place, ReadRight, ReadWrong, Reader}
+use Rattle.ftl_core.proofs.Common.{RestKept, RestsKept, Some, Tag, Translation, Valid, WentWell, WentWrong, ap, at_die}
+use Rattle.ftl_core.proofs.Common.{at_die_cases, book, contained_in, end_flight, false, filter_map, if◌then◌else◌}
+use Rattle.ftl_core.proofs.Common.{in_contained, in_mapped, inl, inr, is_mended, laid_move, look_of_source, mark_again}
+use Rattle.ftl_core.proofs.Common.{moved, none-some, own_name, refl, rest_kept, rest_of_name, source_kept, subst, sym}
+use Rattle.ftl_core.proofs.Common.{true, want_at, ℕ, ⊎_elim, ◌∙◌, ◌≡◌, ◌≢◌}
 use Rattle.ufs_spec.specs.Disk as disk
-use Rattle.ufs_spec.specs.Disk.{at_die}
-use Rattle.ufs_spec.specs.Moves.{EndJob, Ending, GiveJob, IsAllowedMove, MayEnd, ReadRight, ReadWrong, TakeStep}
-use Rattle.ufs_spec.specs.Moves.{WentWell}
-use Rattle.ufs_spec.specs.Moves.{WentWrong, end_flight, freed, job_ended, mark_again, moved}
-use Rattle.ufs_spec.specs.Moves.{without_reader}
-use Rattle.ufs_spec.specs.Translation.{FromPage, Order, OrderCopy, OrderMark, OrderPlanMark, OrderRepair, Rest}
-use Rattle.ufs_spec.specs.Translation.{Translation, copy_begun, has_mark_number, is_mended, mark_ordered, ordered}
-use Rattle.ufs_spec.specs.Translation.{MayTake, Plan, want_at}
+use Rattle.ufs_spec.specs.Moves.{GiveJob, TakeStep, freed, job_ended, without_reader}
+use Rattle.ufs_spec.specs.Translation.{OrderCopy, Plan, Rest, copy_begun, has_mark_number, mark_ordered, ordered}
 use Rattle.ufs_spec.specs.Translation.{with_plan}
-use Rattle.ufs_spec.specs.declared.flash.Fence.{Fence}
-use Rattle.ufs_spec.specs.declared.flash.Place.{Place}
-use Rattle.ufs_spec.specs.declared.flash.Tag.{Tag}
-use Rattle.ufs_spec.specs.declared.layer.Name.{Name}
-use Rattle.ufs_spec.specs.declared.layer.Reader.{Reader}
-use Rattle.ufs_spec.specs.declared.layer.Reader.TheVariants.{ForNobody, ForRest, ForStep, ForTask}
 use Rattle.ufs_laws.proofs.walk.LayerEffects.{IsDue, order_due, turned_if}
-use Rattle.power_loss.specs.Book.{Book, book}
-use Rattle.power_loss.specs.Invariant.{SourceRight, Valid}
+use Rattle.power_loss.specs.Invariant.{SourceRight}
 use Rattle.power_loss.specs.LaidRests.{RestsLaid}
-use Rattle.power_loss.proofs.books.SmallFacts.{at_die_cases}
 use Rattle.power_loss.proofs.jobs_owed.OneDieForEachJob.{IsOf, read_owed, step_want}
-use Rattle.power_loss.proofs.laid_rests.AllMoves.{laid_move}
-use Rattle.power_loss.proofs.ordered_lists.ElementsAndOrders.{IsIn, all_in, contained_in, in_contained}
-use Rattle.power_loss.proofs.ordered_lists.ElementsAndOrders.{in_mapped}
+use Rattle.power_loss.proofs.ordered_lists.ElementsAndOrders.{all_in}
 use Rattle.write_cache.specs.declared.rests.OwedSource.TheVariants as owed
-use Rattle.write_cache.specs.declared.rests.OwedSource.{OwedSource}
 use Rattle.write_cache.specs.declared.rests.Rest as cache
-use Rattle.write_cache.specs.declared.slots.Pending.{Pending}
-use Rattle.ftl_core.specs.Moves.{look_of_source}
-use Rattle.ftl_core.specs.RestsKept.{IsNumbered, RestKept, RestReadsKept, RestsKept, rest_kept, rest_of_name}
-use Rattle.ftl_core.specs.RestsKept.{source_kept}
-use Rattle.ftl_core.specs.Rests.{own_name}
+use Rattle.ftl_core.specs.RestsKept.{RestReadsKept}
 use Rattle.ftl_core.proofs.job_ended.CopiesOn.{Stays, again_cells, freed_cells, stays_erased, stays_left, stays_put}
 
 -- Where a rest is read

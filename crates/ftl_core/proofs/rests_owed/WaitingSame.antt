@@ -1,16 +1,11 @@
 -- The pages that wait for their rests stay the same where others are written or become durable.
-use Rattle.std.proofs.Common.{◌≡◌, ◌∙◌, ℕ, zero, suc, Bool, true, false, List, [], ◌∷◌, Some, None, refl}
-use Rattle.std.proofs.Common.{sym, ap, not, is_none, ⊎_elim}
-use Rattle.std.specs.Prelude.{◌&&◌, cond, slice_get, slice_set}
-use Rattle.std.specs.List.{list_any}
-use Rattle.ufs_spec.proofs.Facts.{none-some, or_parts, same_Some, true≢false}
-use Rattle.ufs_spec.specs.declared.flash.Place.{Place}
-use Rattle.write_cache.specs.declared.slots.Pending.{Pending}
-use Rattle.write_cache.specs.Slots.{is_of_group, is_unwritten}
-use Rattle.ftl_core.specs.Core.{Core}
-use Rattle.ftl_core.specs.Ends.{front_written, group_durable, settled_by}
-use Rattle.ftl_core.specs.Rests.{waits}
-use Rattle.ftl_core.specs.RestsKept.{waiting}
+use Rattle.ftl_core.proofs.Common.{Bool, Core, List, None, Pending, Place, Some, [], ap, false, front_written}
+use Rattle.ftl_core.proofs.Common.{group_durable, is_of_group, is_unwritten, list_any, none-some, or_parts, refl}
+use Rattle.ftl_core.proofs.Common.{same_Some, slice_get, slice_set, suc, sym, true, true≢false, waiting, waits, zero, ℕ}
+use Rattle.ftl_core.proofs.Common.{⊎_elim, ◌&&◌, ◌∙◌, ◌∷◌, ◌≡◌}
+use Rattle.std.proofs.Common.{is_none, not}
+use Rattle.std.specs.Prelude.{cond}
+use Rattle.ftl_core.specs.Ends.{settled_by}
 use Rattle.ftl_core.proofs.group_settled.Settling.{others, settled_end, settled_on, whole, written_or_not}
 
 -- no page that is written waits for its rest

@@ -1,20 +1,14 @@
 -- Which blocks lie in the slots that readers have claimed, as they claim slots, fill them and give them back.
-use Rattle.std.proofs.Common.{◌≡◌, ◌∙◌, ℕ, zero, suc, ◌+◌, ◌<◌, Bool, true, false, cond, List, [], ◌∷◌, length, map}
-use Rattle.std.proofs.Common.{refl, sym, ap, subst, arith}
-use Rattle.std.specs.Prelude.{◌==◌, ◌&&◌, filter, if◌then◌else◌, not, replicate, slice_set}
-use Rattle.std.proofs.lemmas.Bool.Decides.{nat_tests}
-use Rattle.ufs_spec.proofs.Facts.{eq-eqb, eqb-self, eqb-true, false≢true}
-use Rattle.ufs_spec.specs.Moves.{Release, moved}
+use Rattle.ftl_core.proofs.Common.{AreClaimed, AreClaimedBy, Bool, Claimed, Claims, Core, Describes, List, Release}
+use Rattle.ftl_core.proofs.Common.{Translation, [], ap, arith, claim_at, claim_filled, claimed_all, claims_behind}
+use Rattle.ftl_core.proofs.Common.{claims_for, claims_of_blocks, cond, eq-eqb, eqb-true, false, false≢true, filter}
+use Rattle.ftl_core.proofs.Common.{if◌then◌else◌, is_claim_of, length, map, moved, nat_tests, not, refl, replicate}
+use Rattle.ftl_core.proofs.Common.{slice_set, subst, suc, sym, true, zero, ℕ, ◌&&◌, ◌+◌, ◌<◌, ◌==◌, ◌∙◌, ◌∷◌, ◌≡◌}
+use Rattle.ufs_spec.proofs.Facts.{eqb-self}
 use Rattle.ufs_spec.specs.Plain.{zero_block}
-use Rattle.ufs_spec.specs.Translation.{Translation}
-use Rattle.write_cache.specs.declared.slots.Claimed.{Claimed}
-use Rattle.write_cache.specs.Slots.{claim_filled, is_claim_of}
 use Rattle.write_cache.proofs.Entries.{other_above}
-use Rattle.ftl_core.specs.Core.{Core}
-use Rattle.ftl_core.specs.Describes.{Describes}
-use Rattle.ftl_core.specs.Moves.{claimed_all, claims_for, filled}
-use Rattle.ftl_core.specs.Public.{AreClaimed, Claims, AreClaimedBy, with_block, with_claimed}
-use Rattle.ftl_core.specs.Tells.{claim_at, claims_behind, claims_of_blocks}
+use Rattle.ftl_core.specs.Moves.{filled}
+use Rattle.ftl_core.specs.Public.{with_block, with_claimed}
 use Rattle.ftl_core.proofs.look_and_accept.GroupsAccepted.{claims_length}
 use Rattle.ftl_core.proofs.small_calls.ReadersClaims.{claims_either, claims_filled, none_after, others_after}
 use Rattle.ftl_core.proofs.small_calls.ReadersClaims.{others_either, others_filled}

@@ -1,24 +1,15 @@
 -- The slots that readers claim for groups to come.
-use Rattle.std.proofs.Common.{◌≡◌, ◌∙◌, ℕ, ◌+◌, Bool, true, false, List, ◌++◌}
-use Rattle.std.proofs.Common.{length, map, filter, not, refl, sym, ap, subst, arith, length-append}
-use Rattle.std.specs.Prelude.{◌-◌, if◌then◌else◌, nat_le}
+use Rattle.ftl_core.proofs.Common.{Bool, Claimed, Core, Describes, Kept, List, Release, Translation, all_keep, ap}
+use Rattle.ftl_core.proofs.Common.{arith, below, claim_filled, claimed_all, claims_for, empty_claim, false}
+use Rattle.ftl_core.proofs.Common.{if◌then◌else◌, is_claim_of, length, length-append, length-below, length-map, map}
+use Rattle.ftl_core.proofs.Common.{moved, nat_le, refl, subst, sym, true, waiting, ℕ, ◌++◌, ◌+◌, ◌-◌, ◌∙◌, ◌≡◌}
+use Rattle.std.proofs.Common.{filter, not}
 use Rattle.std.proofs.lemmas.Bool.{leb-true}
-use Rattle.std.proofs.lemmas.List.{length-map}
-use Rattle.ufs_spec.proofs.Lists.{length-below}
-use Rattle.ufs_spec.specs.Keys.{below}
-use Rattle.ufs_spec.specs.Moves.{Claim, Release, moved}
+use Rattle.ufs_spec.specs.Moves.{Claim}
 use Rattle.ufs_spec.specs.Translation as layer
-use Rattle.ufs_spec.specs.Translation.{Translation}
-use Rattle.power_loss.proofs.moves.MovesKeepValid.{all_keep}
 use Rattle.power_loss.proofs.jobs.ReadsAndTasks.{releases}
-use Rattle.write_cache.specs.declared.slots.Claimed.{Claimed}
-use Rattle.ftl_core.specs.RestsKept.{waiting}
 use Rattle.ftl_core.proofs.rests_owed.RestsStay.{same_rests}
-use Rattle.ftl_core.specs.Core.{Core}
-use Rattle.ftl_core.specs.Describes.{Describes, Kept}
-use Rattle.ftl_core.specs.Moves.{claimed_all, claims_for, filled, free_slots}
-use Rattle.write_cache.specs.Slots.{claim_filled, empty_claim, is_claim_of}
-use Rattle.ftl_core.specs.Moves.{released}
+use Rattle.ftl_core.specs.Moves.{filled, free_slots, released}
 use Rattle.ftl_core.proofs.small_calls.ReadersClaims.{left_beside}
 use Rattle.ftl_core.proofs.small_calls.SmallCalls.{slots_right}
 

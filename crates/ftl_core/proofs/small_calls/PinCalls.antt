@@ -1,35 +1,23 @@
 -- What readers keep shows in the layer that is specified: what they look at, let go and want next.
-use Rattle.std.proofs.Common.{◌≡◌, ℕ, ◌+◌, ◌≤◌, true, List, Option, Some, None, ap, drop, map, max, refl, sym, subst, ⊎_elim}
-use Rattle.std.proofs.Common.{◌∷◌, [], false}
-use Rattle.std.specs.Prelude.{IsSome, filter, find, not, option_map, All, if◌then◌else◌, Bool}
-use Rattle.ufs_spec.proofs.Facts.{cases_Bool, false≢true, same_Some}
-use Rattle.ufs_spec.specs.Ledger.{Ledger, before_accepted, entry_of}
+use Rattle.ftl_core.proofs.Common.{All, All-head, All-tail, Core, Describes, InSlot, IsInNoSlot, Key, Ledger, List}
+use Rattle.ftl_core.proofs.Common.{Name, None, Option, Pin, Some, Step, StepKept, Translation, WorkKept, [], all_keep}
+use Rattle.ftl_core.proofs.Common.{ap, before_accepted, book, cases_Bool, drop, entry_of, false, false≢true, filter}
+use Rattle.ftl_core.proofs.Common.{find, if◌then◌else◌, is_pin_of, laid_move, map, moved, not, option_map, refl}
+use Rattle.ftl_core.proofs.Common.{same_Some, subst, sym, true, waiting, wanted_now, ℕ, ⊎_elim, ◌+◌, ◌∷◌, ◌≡◌, ◌≤◌}
+use Rattle.std.proofs.Common.{max}
+use Rattle.std.specs.Prelude.{Bool, IsSome}
 use Rattle.ufs_spec.specs.Moves as move
-use Rattle.ufs_spec.specs.Moves.{Acknowledge, LetGo, LetGoAll, WantPage, is_for, is_for_task, moved}
+use Rattle.ufs_spec.specs.Moves.{Acknowledge, LetGo, LetGoAll, WantPage, is_for, is_for_task}
 use Rattle.ufs_spec.specs.Translation as layer
-use Rattle.ufs_spec.specs.Translation.{Translation}
-use Rattle.ufs_spec.specs.declared.flash.Key.{Key}
-use Rattle.power_loss.specs.Book.{book}
 use Rattle.power_loss.specs.Invariant.{PinsRight}
-use Rattle.power_loss.proofs.moves.MovesKeepValid.{all_keep}
-use Rattle.power_loss.proofs.laid_rests.AllMoves.{laid_move}
-use Rattle.ftl_core.specs.RestsKept.{waiting}
 use Rattle.ftl_core.proofs.rests_owed.RestsStay.{gone_rests, same_rests}
 use Rattle.ftl_core.specs.declared.books.Mending.{Mending}
-use Rattle.readers.specs.declared.pin.Pin.{Pin}
-use Rattle.ftl_core.specs.declared.books.Step.{Step}
 use Rattle.ftl_core.specs.declared.books.Step.TheVariants as steps
-use Rattle.ftl_core.specs.Core.{Core}
-use Rattle.ftl_core.specs.Describes.{Describes, StepKept, WorkKept, IsInNoSlot}
 use Rattle.ftl_core.specs.Moves.{looked_by, next_wanted, unpinned, without_block}
-use Rattle.readers.specs.Pins.{is_pin_of, wanted_now}
 use Rattle.ftl_core.specs.Tells.{looked_of}
 use Rattle.ftl_core.proofs.pins.FoundPins.{FoundKept, pins_found}
 use Rattle.ftl_core.proofs.pins.PinsGone.{let_go_kept, let_one_go_kept}
 use Rattle.ftl_core.proofs.pins.PinsWanted.{wants_kept}
-use Rattle.std.proofs.lemmas.List.Elements.{All-head, All-tail}
-use Rattle.ufs_spec.specs.declared.layer.Looked.TheVariants.{InSlot}
-use Rattle.ufs_spec.specs.declared.layer.Name.{Name}
 
 -- What is kept
 

@@ -1,18 +1,14 @@
 -- The claims of each reader, as readers claim slots, fill them and give them back.
-use Rattle.std.proofs.Common.{◌≡◌, ◌∙◌, ℕ, zero, suc, ◌+◌, Bool, true, false, cond, List, [], ◌∷◌, ◌++◌, length, map}
-use Rattle.std.proofs.Common.{filter, refl, sym, ap, ⊎_elim, arith}
-use Rattle.std.specs.Prelude.{◌==◌, ◌&&◌, if◌then◌else◌, not, replicate}
-use Rattle.std.proofs.lemmas.List.{append-nil, length-replicate, map-append, replicate_more}
-use Rattle.std.proofs.lemmas.List.Elements.{filter-append}
+use Rattle.ftl_core.proofs.Common.{Bool, Claimed, Core, List, [], ap, append-nil, arith, below, cases_Bool, claim_at}
+use Rattle.ftl_core.proofs.Common.{claim_filled, claimed_all, claims_behind, claims_for, claims_of_blocks, cond}
+use Rattle.ftl_core.proofs.Common.{empty_claim, eq-eqb, eqb-true, false, filter-append, if◌then◌else◌, is_claim_of}
+use Rattle.ftl_core.proofs.Common.{length, length-replicate, map, map-append, not, refl, replicate, suc, sym, true}
+use Rattle.ftl_core.proofs.Common.{zero, ℕ, ⊎_elim, ◌&&◌, ◌++◌, ◌+◌, ◌==◌, ◌∙◌, ◌∷◌, ◌≡◌}
+use Rattle.std.proofs.Common.{filter}
+use Rattle.std.proofs.lemmas.List.{replicate_more}
 use Rattle.std.proofs.lemmas.List.Filters.{length-filter_both}
-use Rattle.ufs_spec.proofs.Facts.{cases_Bool, cond-false, cond-true, eq-eqb, eqb-true}
-use Rattle.ufs_spec.specs.Keys.{below}
+use Rattle.ufs_spec.proofs.Facts.{cond-false, cond-true}
 use Rattle.ufs_spec.specs.Plain.{zero_block}
-use Rattle.write_cache.specs.declared.slots.Claimed.{Claimed}
-use Rattle.write_cache.specs.Slots.{claim_filled, empty_claim, is_claim_of}
-use Rattle.ftl_core.specs.Core.{Core}
-use Rattle.ftl_core.specs.Moves.{claimed_all, claims_for}
-use Rattle.ftl_core.specs.Tells.{claim_at, claims_behind, claims_of_blocks}
 
 -- Filters
 

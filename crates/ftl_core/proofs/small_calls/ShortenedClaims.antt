@@ -1,25 +1,20 @@
 -- A claim that is shortened: the slots behind its first so many are given back.
-use Rattle.std.proofs.Common.{◌≡◌, ◌∙◌, ℕ, zero, suc, ◌+◌, ◌≤◌, Bool, true, false, cond, List, [], ◌∷◌}
-use Rattle.std.proofs.Common.{filter, length, refl, sym, ap, subst, take, arith}
-use Rattle.std.specs.Prelude.{◌-◌, ◌&&◌, nat_le, not}
+use Rattle.ftl_core.proofs.Common.{Accept, AreClaimed, AreClaimedBy, Bool, Claimed, Claims, Core, Describes, Group}
+use Rattle.ftl_core.proofs.Common.{IsAllowedMove, List, Release, Translation, [], ap, arith, claim_at, claims_behind}
+use Rattle.ftl_core.proofs.Common.{claims_for, claims_of_blocks, cond, false, is_claim_of, length, moved, nat_le}
+use Rattle.ftl_core.proofs.Common.{nat_tests, not, refl, subst, suc, sym, take, true, waiting, zero, ℕ, ◌&&◌, ◌+◌, ◌-◌}
+use Rattle.ftl_core.proofs.Common.{◌∙◌, ◌∷◌, ◌≡◌, ◌≤◌}
+use Rattle.std.proofs.Common.{filter}
 use Rattle.std.proofs.lemmas.Bool.{and_parts}
-use Rattle.std.proofs.lemmas.Bool.Decides.{nat_tests}
 use Rattle.std.proofs.lemmas.List.{length-take}
 use Rattle.std.proofs.lemmas.List.Elements.{All-weaker}
 use Rattle.std.proofs.lemmas.List.Filters.{length-filter_both}
 use Rattle.ufs_spec.proofs.Facts.{cond-false, cond-true}
-use Rattle.ufs_spec.specs.Keys.{Group}
-use Rattle.ufs_spec.specs.Moves.{Accept, IsAllowedMove, IsItem, Release, moved}
-use Rattle.ufs_spec.specs.Translation.{Translation}
+use Rattle.ufs_spec.specs.Moves.{IsItem}
 use Rattle.power_loss.proofs.jobs.ReadsAndTasks.{releases}
-use Rattle.write_cache.specs.declared.slots.Claimed.{Claimed}
-use Rattle.write_cache.specs.Slots.{is_claim_behind, is_claim_of}
-use Rattle.ftl_core.specs.RestsKept.{waiting}
-use Rattle.ftl_core.specs.Core.{Core}
-use Rattle.ftl_core.specs.Describes.{Describes}
-use Rattle.ftl_core.specs.Moves.{claims_for, released_behind}
-use Rattle.ftl_core.specs.Public.{AreClaimed, AreClaimedBy, Claims, with_claimed}
-use Rattle.ftl_core.specs.Tells.{claim_at, claims_behind, claims_of_blocks}
+use Rattle.write_cache.specs.Slots.{is_claim_behind}
+use Rattle.ftl_core.specs.Moves.{released_behind}
+use Rattle.ftl_core.specs.Public.{with_claimed}
 use Rattle.ftl_core.proofs.look_and_accept.GroupsAccepted.{claims_length}
 use Rattle.ftl_core.proofs.rests_owed.RestsStay.{same_rests}
 use Rattle.ftl_core.proofs.small_calls.ClaimedBlocks.{one_claims}

@@ -1,14 +1,9 @@
 -- What the smaller calls tell.
-use Rattle.std.proofs.Common.{◌≡◌, ℕ, ◌+◌, Bool, length, ap, arith}
-use Rattle.std.specs.Prelude.{◌-◌, ◌||◌, nat_lt, not}
-use Rattle.std.proofs.lemmas.Bool.Decides.{nat_tests}
-use Rattle.ufs_spec.specs.Pages.{greatest_number}
+use Rattle.ftl_core.proofs.Common.{Bool, Core, Describes, Translation, ap, arith, bad_blocks, greatest_number, length}
+use Rattle.ftl_core.proofs.Common.{nat_lt, nat_tests, not, ℕ, ◌+◌, ◌-◌, ◌||◌, ◌≡◌}
 use Rattle.ufs_spec.specs.Ledger as ledger
 use Rattle.ufs_spec.specs.Translation as layer
-use Rattle.ufs_spec.specs.Translation.{Translation}
-use Rattle.ftl_core.specs.Core.{Core}
-use Rattle.ftl_core.specs.Describes.{Describes}
-use Rattle.ftl_core.specs.Moves.{bad_blocks, free_slots, is_locked}
+use Rattle.ftl_core.specs.Moves.{free_slots, is_locked}
 use Rattle.ftl_core.proofs.job_taken.OpenBlocks.{bad_alike}
 use Rattle.ftl_core.proofs.look_and_accept.Numbers.{kept_length, numbers_right}
 

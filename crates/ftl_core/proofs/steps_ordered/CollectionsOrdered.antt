@@ -1,33 +1,20 @@
 -- A collection begins, or goes on.
-use Rattle.std.proofs.Common.{◌≡◌, ◌∙◌, ℕ, Bool, true, false, List, [], ◌∷◌, Option, Some, None, refl, sym}
-use Rattle.std.proofs.Common.{ap, subst, inl, inr, ⊎_elim}
-use Rattle.std.specs.Prelude.{◌&&◌, All, filter, if◌then◌else◌, is_some, map, option_map}
-use Rattle.std.proofs.lemmas.List.Elements.{All-cons, All-head, All-nil, All-tail, filter_passes}
-use Rattle.ufs_spec.proofs.Facts.{and_from, and_parts}
+use Rattle.ftl_core.proofs.Common.{All, All-cons, All-head, All-nil, All-tail, Bool, Collection, Core, Describes}
+use Rattle.ftl_core.proofs.Common.{IsNeededPage, IsOf, Kept, Key, List, Mended, None, Numbers, Option, Order}
+use Rattle.ftl_core.proofs.Common.{OrderPlanMark, Place, PlannedCopy, Some, Spot, Tag, Translation, UnitMap, []}
+use Rattle.ftl_core.proofs.Common.{and_from, and_parts, ap, below, false, filter, has_mark_number, if_true}
+use Rattle.ftl_core.proofs.Common.{if◌then◌else◌, inl, inr, is_live, is_some, key_of, layer_plan, option_map, place_of}
+use Rattle.ftl_core.proofs.Common.{plan_next, refl, stepped, subst, sym, true, victim, ℕ, ⊎_elim, ◌&&◌, ◌∙◌, ◌∷◌, ◌≡◌}
+use Rattle.std.specs.Prelude.{map}
+use Rattle.std.proofs.lemmas.List.Elements.{filter_passes}
 use Rattle.ufs_spec.proofs.Lists.{at_contained, contained_at}
-use Rattle.ufs_spec.specs.Cells.{key_of}
 use Rattle.ufs_spec.specs.Disk as disk
-use Rattle.ufs_spec.specs.Disk.{Spot}
 use Rattle.ufs_spec.specs.Translation as layer
-use Rattle.ufs_spec.specs.Translation.{Mended, Order, OrderPlanMark, Translation, is_live_cell, stepped}
-use Rattle.ufs_spec.specs.Keys.{below}
-use Rattle.ufs_spec.specs.declared.configs.Numbers.{Numbers}
-use Rattle.ufs_spec.specs.declared.flash.Key.{Key}
-use Rattle.ufs_spec.specs.declared.flash.Place.{Place}
-use Rattle.ufs_spec.specs.declared.flash.Tag.{Tag}
-use Rattle.power_loss.specs.Invariant.{IsNeededPage}
-use Rattle.power_loss.proofs.books.SmallFacts.{if_true}
+use Rattle.ufs_spec.specs.Translation.{is_live_cell}
 use Rattle.power_loss.proofs.collected_blocks.FewestLivePages.{victim_is}
-use Rattle.block_table.specs.Lives.{is_live}
-use Rattle.collector.specs.Plans.{Collection, IsCollected, IsNamed, layer_plan, place_of}
-use Rattle.collector.specs.declared.PlannedCopy.{PlannedCopy}
-use Rattle.unit_map.specs.Places.{UnitMap}
-use Rattle.ftl_core.specs.Collects.{victim, wants_collection}
-use Rattle.ftl_core.specs.Core.{Core}
-use Rattle.ftl_core.specs.Describes.{Describes, IsOf, Kept}
-use Rattle.ftl_core.specs.Moves.{has_mark_number}
-use Rattle.ftl_core.specs.Turns.{IsCollectionTurned, is_collection_due, is_next_due, plan_next}
-use Rattle.ftl_core.specs.Turns.{plan_turned}
+use Rattle.collector.specs.Plans.{IsCollected, IsNamed}
+use Rattle.ftl_core.specs.Collects.{wants_collection}
+use Rattle.ftl_core.specs.Turns.{IsCollectionTurned, is_collection_due, is_next_due, plan_turned}
 use Rattle.ftl_core.proofs.collected.VictimsAgree.{lives_agree, victims_agree, wants_agree}
 use Rattle.ftl_core.proofs.job_ended.CopiesOn.{of_places}
 use Rattle.ftl_core.proofs.live_pages.NamesLive.{live_named, there_told, written_at}

@@ -1,33 +1,19 @@
 -- A copy of a collection is ordered, or the mark that follows the copies.
-use Rattle.std.proofs.Common.{◌≡◌, ◌∙◌, ℕ, ◌<◌, Bool, true, false, List, [], ◌∷◌, Option, Some, None, refl, sym}
-use Rattle.std.proofs.Common.{ap, subst, arith}
-use Rattle.std.specs.Prelude.{◌+◌, All, drop, if◌then◌else◌, map, nat_le}
-use Rattle.std.proofs.lemmas.List.Elements.{All-tail}
-use Rattle.ufs_spec.proofs.Facts.{false≢true, none-some, same_Some}
-use Rattle.ufs_spec.specs.Pages.{greatest_number}
-use Rattle.ufs_spec.specs.Cells.{Cell, Cells, GroupPage, key_of}
+use Rattle.ftl_core.proofs.Common.{All, All-tail, AreToRepair, Bool, Cell, Cells, Collection, CopiesKnown, CopyStep}
+use Rattle.ftl_core.proofs.Common.{Core, Fence, GroupPage, IsOf, Kept, Key, Ledger, List, Name, None, Option, Order}
+use Rattle.ftl_core.proofs.Common.{OrderPlanMark, Place, PlannedCopy, Some, Spot, Step, StepKind, Tag, Translation, []}
+use Rattle.ftl_core.proofs.Common.{ap, arith, entry_for, entry_of, false, false≢true, greatest_number, has_mark_number}
+use Rattle.ftl_core.proofs.Common.{if_true, if◌then◌else◌, key_of, keys_to_repair, mark_ordered, name_of, nat_le}
+use Rattle.ftl_core.proofs.Common.{none-some, place_of, plan_next, refl, same_Some, stepped, subst, sym, true, ℕ, ◌<◌}
+use Rattle.ftl_core.proofs.Common.{◌∙◌, ◌∷◌, ◌≡◌}
+use Rattle.std.specs.Prelude.{drop, map, ◌+◌}
 use Rattle.ufs_spec.specs.Disk as disk
-use Rattle.ufs_spec.specs.Disk.{Spot}
-use Rattle.ufs_spec.specs.Ledger.{Ledger, entry_of}
 use Rattle.ufs_spec.specs.Translation as layer
-use Rattle.ufs_spec.specs.Translation.{CopyStep, Order, OrderPlanMark, StepKind, Translation, name_of, stepped}
 use Rattle.ufs_spec.specs.Translation.{with_plan}
-use Rattle.ufs_spec.specs.declared.flash.Fence.{Fence}
-use Rattle.ufs_spec.specs.declared.flash.Key.{Key}
-use Rattle.ufs_spec.specs.declared.flash.Place.{Place}
-use Rattle.ufs_spec.specs.declared.flash.Tag.{Tag}
-use Rattle.ufs_spec.specs.declared.layer.Name.{Name}
-use Rattle.power_loss.proofs.books.SmallFacts.{if_true}
-use Rattle.power_loss.proofs.books.PagesByName.{entry_for}
 use Rattle.collector.specs.Plans as plans
-use Rattle.collector.specs.Plans.{Collection, place_of}
-use Rattle.collector.specs.declared.PlannedCopy.{PlannedCopy}
-use Rattle.ftl_core.specs.declared.books.Step.{Step}
 use Rattle.ftl_core.specs.declared.books.Step.TheVariants as steps
-use Rattle.ftl_core.specs.Core.{Core}
-use Rattle.ftl_core.specs.Describes.{AreToRepair, CopiesKnown, IsOf, Kept, PlanKept, copying, keys_to_repair}
-use Rattle.ftl_core.specs.Moves.{has_mark_number, mark_ordered}
-use Rattle.ftl_core.specs.Turns.{copy_ordered, is_next_due, plan_next}
+use Rattle.ftl_core.specs.Describes.{PlanKept, copying}
+use Rattle.ftl_core.specs.Turns.{copy_ordered, is_next_due}
 use Rattle.ftl_core.proofs.live_pages.NotedLive.{same_tag}
 use Rattle.ftl_core.proofs.steps_ordered.MarksOrdered.{MayBegin, dies_on, mark_waits, no_reads}
 use Rattle.ftl_core.proofs.steps_ordered.QuietLayers.{mark_number}

@@ -1,25 +1,12 @@
 -- A mark is ordered: it waits with the next mark number.
-use Rattle.std.proofs.Common.{◌≡◌, ℕ, ◌+◌, true, List, Option, Some, None, drop, refl, sym, ap}
-use Rattle.std.proofs.Common.{subst, arith}
-use Rattle.ufs_spec.specs.Cells.{GroupPage}
+use Rattle.ftl_core.proofs.Common.{AreToRepair, Core, DieRow, DiesKept, Fence, Flight, GroupPage, IsFlight, Kept, Key}
+use Rattle.ftl_core.proofs.Common.{Ledger, List, None, Numbers, OpenBlock, Option, Place, Some, Spot, Step}
+use Rattle.ftl_core.proofs.Common.{StepReadsKept, Translation, ap, arith, drop, keys_to_repair, refl, repairs_in, subst}
+use Rattle.ftl_core.proofs.Common.{sym, true, ℕ, ◌+◌, ◌≡◌}
 use Rattle.ufs_spec.specs.Disk as disk
-use Rattle.ufs_spec.specs.Disk.{Spot}
-use Rattle.ufs_spec.specs.Ledger.{Ledger}
 use Rattle.ufs_spec.specs.Translation as layer
-use Rattle.ufs_spec.specs.Translation.{Translation}
-use Rattle.ufs_spec.specs.declared.configs.Numbers.{Numbers}
-use Rattle.ufs_spec.specs.declared.flash.Fence.{Fence}
-use Rattle.ufs_spec.specs.declared.flash.Key.{Key}
-use Rattle.ufs_spec.specs.declared.flash.Place.{Place}
-use Rattle.block_table.specs.declared.rows.DieRow.{DieRow}
-use Rattle.block_table.specs.declared.rows.Flight.{Flight}
 use Rattle.block_table.specs.declared.rows.Flight.TheVariants as flight
-use Rattle.block_table.specs.declared.rows.OpenBlock.{OpenBlock}
-use Rattle.ftl_core.specs.declared.books.Step.{Step}
 use Rattle.ftl_core.specs.declared.books.Step.TheVariants as steps
-use Rattle.ftl_core.specs.Core.{Core}
-use Rattle.ftl_core.specs.Describes.{AreToRepair, DiesKept, IsFlight, Kept, StepReadsKept, keys_to_repair}
-use Rattle.ftl_core.specs.Moves.{repairs_in}
 use Rattle.ftl_core.proofs.job_ended.ChangeParts.{ledger_marked}
 
 -- Jobs in flight, where no step was under way

@@ -1,11 +1,7 @@
 -- Before the device is mended no page is pending: all groups are repairs.
-use Rattle.std.proofs.Common.{◌≡◌, List, [], ◌∷◌, Option, length, ap}
+use Rattle.ftl_core.proofs.Common.{Entry, Ledger, List, Name, Option, PagesKept, Pending, Standing, [], ap, length}
+use Rattle.ftl_core.proofs.Common.{names_after, names_pending, pending, ◌∷◌, ◌≡◌}
 use Rattle.std.proofs.lemmas.List.{nil_from_length}
-use Rattle.ufs_spec.specs.Ledger.{Entry, Ledger, pending}
-use Rattle.ufs_spec.specs.Translation.{names_after}
-use Rattle.ufs_spec.specs.declared.layer.Name.{Name}
-use Rattle.write_cache.specs.declared.slots.Pending.{Pending}
-use Rattle.ftl_core.specs.Describes.{PagesKept, Standing, names_pending}
 use Rattle.ftl_core.proofs.look_and_accept.Numbers.{none_pending}
 
 -- no name is pending where all groups are repairs

@@ -1,31 +1,22 @@
 -- A layer whose mending has no step under way: when a step is due, and that nothing else is pending.
-use Rattle.std.proofs.Common.{◌≡◌, ◌∙◌, ◌⊎◌, ℕ, zero, suc, ◌+◌, Bool, true, false, List, [], ◌∷◌, Option, Some, None}
-use Rattle.std.proofs.Common.{length, drop, refl, sym, ap, subst, inl, inr, arith}
-use Rattle.std.specs.Prelude.{◌&&◌, if◌then◌else◌, nat_le, nat_lt, not, is_none, is_some, slice_get}
-use Rattle.std.specs.List.{list_any}
-use Rattle.std.proofs.lemmas.Bool.Decides.{nat_tests}
-use Rattle.ufs_spec.specs.Pages.{greatest_number}
-use Rattle.ufs_spec.specs.Ledger.{Ledger}
+use Rattle.ftl_core.proofs.Common.{Book, Bool, Core, Describes, HasKey, IsLastRepair, Kept, Key, Ledger, List, None}
+use Rattle.ftl_core.proofs.Common.{Option, OrderMark, OrderRepair, Repairing, Some, Spot, StepKept, Translation, [], ap}
+use Rattle.ftl_core.proofs.Common.{arith, block_kept, book, drop, false, greatest_number, has_mark_number, has_stale}
+use Rattle.ftl_core.proofs.Common.{if◌then◌else◌, inl, inr, is_mended, is_none, is_some, last_number, length, list_any}
+use Rattle.ftl_core.proofs.Common.{mending_kept, nat_le, nat_lt, nat_tests, none_is, none_some, not, refl, slice_get}
+use Rattle.ftl_core.proofs.Common.{spots, subst, suc, sym, true, zero, ℕ, ◌&&◌, ◌+◌, ◌∙◌, ◌∷◌, ◌≡◌, ◌⊎◌}
 use Rattle.ufs_spec.specs.Ledger as ledger
 use Rattle.ufs_spec.specs.Disk as disk
-use Rattle.ufs_spec.specs.Disk.{Spot}
 use Rattle.ufs_spec.specs.Translation as layer
-use Rattle.ufs_spec.specs.Translation.{OrderMark, OrderRepair, Repairing, Translation, due_order, is_mended, spots}
+use Rattle.ufs_spec.specs.Translation.{due_order}
 use Rattle.block_table.specs.Blocks.{is_stale}
-use Rattle.ufs_spec.specs.declared.flash.Key.{Key}
-use Rattle.ufs_spec.proofs.Facts.{none_is}
-use Rattle.power_loss.proofs.books.PagesByName.{none_some}
 use Rattle.power_loss.proofs.books.LayerParts.{MendingOf}
-use Rattle.power_loss.specs.Book.{Book, HasKey, book, last_number}
-use Rattle.power_loss.specs.Invariant.{IsLastRepair}
 use Rattle.ftl_core.specs.declared.books.Step as kept_step
 use Rattle.ftl_core.specs.declared.books.Step.TheVariants as steps
-use Rattle.ftl_core.specs.Core.{Core}
-use Rattle.ftl_core.specs.Describes.{Describes, Kept, StepKept, block_kept, mending_kept}
 use Rattle.ftl_core.proofs.job_taken.Mended.{none_waiting}
 use Rattle.ftl_core.proofs.look_and_accept.Numbers.{numbers_right}
 use Rattle.ftl_core.proofs.opened.FoundBlocks.{any_mapped}
-use Rattle.ftl_core.specs.Moves.{has_mark_number, has_number, has_stale}
+use Rattle.ftl_core.specs.Moves.{has_number}
 use Rattle.ftl_core.specs.Turns.{is_repair_due}
 
 -- Lists

@@ -1,36 +1,22 @@
 -- A repair is ordered: it waits with the next number, and its content is still to be read, or is zeros.
-use Rattle.std.proofs.Common.{◌≡◌, ◌∙◌, ◌⊎◌, ℕ, suc, ◌+◌, Bool, true, false, List, [], ◌∷◌, ◌++◌, Option, Some, None}
-use Rattle.std.proofs.Common.{length, drop, take, refl, sym, ap, subst, inl, inr, arith}
-use Rattle.std.specs.Prelude.{◌-◌, All, is_none, option_map, slice_get}
+use Rattle.ftl_core.proofs.Common.{All, All-head, AreToRepair, Book, Bool, Core, Describes, Entry, FirstRight}
+use Rattle.ftl_core.proofs.Common.{GroupPage, HasKey, IsKey, Kept, Key, Ledger, LedgerKept, List, Name, None, Numbers}
+use Rattle.ftl_core.proofs.Common.{Option, Pending, Place, RepairKept, Repairing, Some, Step, Stored, Tag, Translation}
+use Rattle.ftl_core.proofs.Common.{Valid, [], added_page, ap, arith, book, drop, entry_of, false, inl, inr, is_mended}
+use Rattle.ftl_core.proofs.Common.{is_none, keys_to_repair, latest_durable, latest_in, length, mending_kept, name_at}
+use Rattle.ftl_core.proofs.Common.{names_pending, next_number, none_some, option_map, page_within, refl}
+use Rattle.ftl_core.proofs.Common.{shape_of_numbers, slice_get, stored_in, stored_of, subst, suc, sym, take, true, ℕ}
+use Rattle.ftl_core.proofs.Common.{◌++◌, ◌+◌, ◌-◌, ◌∙◌, ◌∷◌, ◌≡◌, ◌⊎◌}
 use Rattle.std.proofs.lemmas.List.{take-append-le}
-use Rattle.std.proofs.lemmas.List.Elements.{All-head}
-use Rattle.ufs_spec.specs.Cells.{GroupPage}
 use Rattle.ufs_spec.specs.Disk as disk
-use Rattle.ufs_spec.specs.Keys.{IsKey}
 use Rattle.ufs_spec.specs.Ledger as ledger
-use Rattle.ufs_spec.specs.Ledger.{Entry, Ledger, entry_of, latest_durable, latest_in}
-use Rattle.ufs_spec.specs.Plain.{shape_of_numbers, zero_block}
+use Rattle.ufs_spec.specs.Plain.{zero_block}
 use Rattle.ufs_spec.specs.Translation as layer
-use Rattle.ufs_spec.specs.Translation.{Repairing, Translation, is_mended}
 use Rattle.ufs_spec.specs.Translation.{standing_of, with_repair}
-use Rattle.ufs_spec.specs.declared.configs.Numbers.{Numbers}
-use Rattle.ufs_spec.specs.declared.flash.Key.{Key}
-use Rattle.ufs_spec.specs.declared.flash.Place.{Place}
-use Rattle.ufs_spec.specs.declared.flash.Tag.{Tag}
-use Rattle.ufs_spec.specs.declared.layer.Name.{Name}
 use Rattle.ufs_spec.proofs.Lists.{grown_length}
-use Rattle.power_loss.proofs.books.PagesByName.{added_page, none_some, page_within}
-use Rattle.power_loss.specs.Book.{BaseAt, BaseNone, Book, FirstRight, HasKey, book, book_of}
-use Rattle.power_loss.specs.Invariant.{Valid}
+use Rattle.power_loss.specs.Book.{BaseAt, BaseNone, book_of}
 use Rattle.ftl_core.specs.declared.books.Mending.TheVariants as mendings
-use Rattle.write_cache.specs.declared.slots.Pending.{Pending}
-use Rattle.ftl_core.specs.declared.books.Step.{Step}
-use Rattle.unit_map.specs.declared.Stored.{Stored}
-use Rattle.ftl_core.specs.Core.{Core}
-use Rattle.ftl_core.specs.Describes.{AreToRepair, Describes, Kept, LedgerKept}
-use Rattle.ftl_core.specs.Describes.{RepairKept, keys_to_repair, mending_kept, name_at, names_pending}
-use Rattle.ftl_core.specs.Moves.{next_number, repair_ordered, repair_step, stored_of}
-use Rattle.unit_map.specs.Places.{stored_in}
+use Rattle.ftl_core.specs.Moves.{repair_ordered, repair_step}
 use Rattle.ftl_core.proofs.job_taken.Flown.{group_writer}
 use Rattle.ftl_core.proofs.look_and_accept.MoreGroups.{pins_kept_more}
 use Rattle.ftl_core.proofs.look_and_accept.Numbers.{numbers_right}

@@ -1,21 +1,16 @@
 -- A turn orders the step of the mending or of collection that is due.
-use Rattle.std.proofs.Common.{◌≡◌, ◌∙◌, ◌&&◌, Bool, true, false, List, [], ◌∷◌, Option, Some, None, drop, refl, sym}
-use Rattle.std.proofs.Common.{ap, subst}
-use Rattle.std.specs.Prelude.{if◌then◌else◌, is_none, is_some, not}
-use Rattle.ufs_spec.proofs.Facts.{none_is, and_parts}
-use Rattle.ufs_spec.specs.Moves.{TakeStep, moved}
+use Rattle.ftl_core.proofs.Common.{Bool, Core, Describes, Fence, Kept, Key, List, None, Option, Order, OrderMark}
+use Rattle.ftl_core.proofs.Common.{OrderRepair, Pending, Repairing, RestsKept, Some, Translation, [], all_keep}
+use Rattle.ftl_core.proofs.Common.{and_parts, ap, drop, false, has_mark_number, has_stale, if◌then◌else◌, is_none}
+use Rattle.ftl_core.proofs.Common.{is_some, mark_ordered, mending_kept, moved, none_is, not, refl, stepped, subst, sym}
+use Rattle.ftl_core.proofs.Common.{true, waiting, ◌∙◌, ◌∷◌, ◌≡◌}
+use Rattle.std.proofs.Common.{◌&&◌}
+use Rattle.ufs_spec.specs.Moves.{TakeStep}
 use Rattle.ufs_spec.specs.Translation as layer
-use Rattle.ufs_spec.specs.Translation.{Order, OrderMark, OrderRepair, Repairing, Translation, due_order, stepped}
-use Rattle.ufs_spec.specs.declared.flash.Fence.{Fence}
-use Rattle.ufs_spec.specs.declared.flash.Key.{Key}
-use Rattle.power_loss.proofs.moves.MovesKeepValid.{all_keep}
-use Rattle.write_cache.specs.declared.slots.Pending.{Pending}
-use Rattle.ftl_core.specs.RestsKept.{RestsKept, waiting}
+use Rattle.ufs_spec.specs.Translation.{due_order}
 use Rattle.ftl_core.specs.declared.books.Mending as kept
 use Rattle.ftl_core.specs.declared.books.Mending.TheVariants as mendings
-use Rattle.ftl_core.specs.Core.{Core}
-use Rattle.ftl_core.specs.Describes.{Describes, Kept, mending_kept}
-use Rattle.ftl_core.specs.Moves.{has_mark_number, has_stale, mark_ordered, repair_ordered}
+use Rattle.ftl_core.specs.Moves.{repair_ordered}
 use Rattle.ftl_core.specs.Turns.{IsStepTurned, IsTurned, is_repair_due, is_step_due, is_turn_due, repair_turned}
 use Rattle.ftl_core.proofs.live_pages.SameLive.{Facts, Knows, facts, knows_on, turned_same}
 use Rattle.ftl_core.proofs.rests_owed.RestsStay.{turns_rests}

@@ -1,11 +1,9 @@
 -- By the laws of power loss each stop of a layer that is described is right, and an erase is of a block that may go.
-use Rattle.std.proofs.Common.{◌≡◌, ◌∙◌, ℕ, Option, Some, None, ap, sym, subst}
-use Rattle.std.specs.Prelude.{option_map}
-use Rattle.ufs_spec.specs.Cells.{Cells}
+use Rattle.ftl_core.proofs.Common.{Cells, Core, Describes, IsTaken, Job, MayTake, None, Option, Some, Spot}
+use Rattle.ftl_core.proofs.Common.{StopsRightGiven, Translation, Valid, ap, option_map, spot_at, subst, sym, ℕ, ◌∙◌}
+use Rattle.ftl_core.proofs.Common.{◌≡◌}
 use Rattle.ufs_spec.specs.Disk as disk
-use Rattle.ufs_spec.specs.Disk.{CellCrash, Spot}
-use Rattle.ufs_spec.specs.Translation.{MayTake, Translation}
-use Rattle.ufs_spec.specs.declared.flash.Job.{Job}
+use Rattle.ufs_spec.specs.Disk.{CellCrash}
 use Rattle.ufs_spec.specs.declared.flash.Job.TheVariants as job
 use Rattle.ufs_laws.proofs.array_cells.KeptNumberFound.{kept}
 use Rattle.ufs_laws.proofs.array_cells.NewestFound.{newest_mark}
@@ -14,10 +12,8 @@ use Rattle.power_loss.proofs.spent.ErasedIsSpent.{erased_are_spent}
 use Rattle.power_loss.proofs.stops.LeftCells.{within}
 use Rattle.power_loss.proofs.stops.LeftFront.{front}
 use Rattle.power_loss.proofs.stops.LeftIsSound.{sound, suits}
-use Rattle.power_loss.specs.Invariant.{Valid}
-use Rattle.ftl_core.specs.Core.{Core}
-use Rattle.ftl_core.specs.Describes.{Describes, IsTaken, given, spot_at}
-use Rattle.ftl_core.specs.Stops.{IsLeftRight, MayGo, StopsRight, StopsRightGiven}
+use Rattle.ftl_core.specs.Describes.{given}
+use Rattle.ftl_core.specs.Stops.{IsLeftRight, MayGo, StopsRight}
 
 -- Stops
 

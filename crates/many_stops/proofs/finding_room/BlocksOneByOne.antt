@@ -1,38 +1,25 @@
 -- While a device mends, one block after another is filled: so the pages that are left lie in free blocks, but for less
 -- than a block of them, unless as many blocks are free as groups leave, or one less.
-use Rattle.std.proofs.Common.{◌≡◌, ◌⊎◌, ℕ, suc, ◌+◌, ◌*◌, ◌<◌, ◌≤◌, Bool, false, Option, Some, None}
-use Rattle.std.proofs.Common.{inl, inr, ⊎_elim}
-use Rattle.std.proofs.Common.{refl, sym, ap, ◌∙◌, subst, arith}
-use Rattle.std.proofs.Math.Nat.{mul-le-mul_left}
-use Rattle.ufs_laws.proofs.walk.LayerEffects.{IsDue, order_due, turned_if}
-use Rattle.ufs_spec.proofs.Facts.{at_most, cases_Bool, true≢false}
-use Rattle.ufs_spec.proofs.Updates.{at_die_cases}
-use Rattle.ufs_spec.specs.Cells.{Cell, GroupPage, Mark, MarkPage, Nothing}
-use Rattle.ufs_spec.specs.Disk.{BlockState, Bad, Closed, Erasing, Filling, Flight}
-use Rattle.ufs_spec.specs.Disk.{Free, Programming, Reading, Spot, at_spot, spot_of, state_after}
-use Rattle.ufs_spec.specs.Moves.{EndJob, Ending, GiveJob, IsAllowedMove, Move, ReadRight, ReadWrong, TakeStep, WentWell}
-use Rattle.ufs_spec.specs.Moves.{WentWrong, end_flight, mark_written, moved, step_after, step_there}
-use Rattle.ufs_spec.specs.Openings.{IsOpenedTranslation}
-use Rattle.ufs_spec.specs.Cells.{Cells}
-use Rattle.ufs_spec.specs.Translation.{MayTake, Order, OrderCopy, OrderMark, OrderPlanMark, OrderRepair, Plan, Step}
-use Rattle.ufs_spec.specs.Translation.{Translation, is_mended, is_plan_of_bad, left_by_groups, mark_ordered, name_of}
-use Rattle.ufs_spec.specs.Translation.{ordered, own_room, repair_ordered, spots, taken, turned}
-use Rattle.ufs_spec.specs.declared.configs.Numbers.{Numbers}
-use Rattle.ufs_spec.specs.declared.flash.Place.{Place}
-use Rattle.ufs_spec.specs.declared.layer.Reader.TheVariants.{ForNobody, ForRest, ForStep, ForTask}
-use Rattle.power_loss.proofs.jobs.StandsSecurely.{filling_is_not_bad, free_is_not_filling}
-use Rattle.power_loss.proofs.jobs_owed.ProgramsAndErases.{OpensReady, program_owed}
+use Rattle.many_stops.proofs.Common.{Bad, BlockState, Bool, Cell, Cells, Closed, EndJob, Ending, Erasing, Filling}
+use Rattle.many_stops.proofs.Common.{Flight, ForNobody, ForRest, ForStep, ForTask, Free, GiveJob, GroupPage}
+use Rattle.many_stops.proofs.Common.{IsAllowedMove, IsDue, IsIn, IsOpenedTranslation, Mark, MarkPage, MayTake}
+use Rattle.many_stops.proofs.Common.{MendsAlone, Move, None, Nothing, Numbers, OpensReady, Option, Order, OrderCopy}
+use Rattle.many_stops.proofs.Common.{OrderMark, OrderPlanMark, OrderRepair, Place, Plan, Programming, ReadRight}
+use Rattle.many_stops.proofs.Common.{ReadWrong, Reading, Some, Spot, Step, TakeStep, Translation, Valid, WentWell}
+use Rattle.many_stops.proofs.Common.{WentWrong, ap, arith, at_die_cases, at_most, at_spot, bad_count, cases_Bool}
+use Rattle.many_stops.proofs.Common.{end_flight, fails_job, false, filling_is_not_bad, free_count, free_is_not_filling}
+use Rattle.many_stops.proofs.Common.{in_spots, inl, inr, is_mended, is_plan_of_bad, left_by_groups, mark_ordered}
+use Rattle.many_stops.proofs.Common.{mark_written, moved, mul-le-mul_left, name_of, order_due, ordered, own_room}
+use Rattle.many_stops.proofs.Common.{page_of_step, program_owed, refl, repair_ordered, room_in, spot_of, spots}
+use Rattle.many_stops.proofs.Common.{state_after, step_after, step_there, subst, suc, sym, taken, true≢false, turned}
+use Rattle.many_stops.proofs.Common.{turned_if, ℕ, ⊎_elim, ◌*◌, ◌+◌, ◌<◌, ◌∙◌, ◌≡◌, ◌≤◌, ◌⊎◌}
 use Rattle.power_loss.proofs.jobs_owed.RoomLeft.{none_filled}
-use Rattle.power_loss.proofs.ordered_lists.ElementsAndOrders.{IsIn, in_spots, spots_in}
+use Rattle.power_loss.proofs.ordered_lists.ElementsAndOrders.{spots_in}
 use Rattle.power_loss.proofs.room_to_mend.AloneKept.{program_begins}
-use Rattle.power_loss.proofs.room_to_mend.RoomInBlocks.{room_in}
-use Rattle.power_loss.specs.Invariant.{Valid}
-use Rattle.power_loss.specs.MendingRoom.{MendsAlone, fails_job, page_of_step}
 use Rattle.power_loss.proofs.jobs.JobsBegin.{same_blocks}
 use Rattle.many_stops.proofs.CountedBlocks.{good_alike, none_fewer, one_fewer}
 use Rattle.many_stops.proofs.finding_room.RoomForAMending.{free_room_alone, opened_room, program_fills}
 use Rattle.many_stops.proofs.room_left.RoomStays.{bad_is_not_free, left_is, not_bad_after}
-use Rattle.many_stops.specs.RoomOfGroups.{bad_count, free_count}
 
 -- as many blocks are free as groups leave, or one less; or all pages that are left, but for less than a block, and for
 -- that of the step under way, lie in free blocks

@@ -1,22 +1,14 @@
 -- A die erases blocks of the dies, and no others.
-use Rattle.std.proofs.Common.{◌≡◌, ℕ, Bool, true, false, if◌then◌else◌, Option, Some, None, sym, ◌∙◌}
-use Rattle.std.proofs.Common.{subst, ⊎_elim}
-use Rattle.ufs_laws.proofs.walk.LayerEffects.{turn_only}
-use Rattle.ufs_spec.proofs.Facts.{none-some}
-use Rattle.ufs_spec.proofs.Updates.{at_die_is}
-use Rattle.ufs_spec.specs.Cells.{Cells, GroupPage, Mark, MarkPage, Nothing}
-use Rattle.ufs_spec.specs.Disk.{Erasing, Flight, Programming, Reading, Spot, at_die, program_failed, programmed}
-use Rattle.ufs_spec.specs.Moves.{EndJob, Ending, GiveJob, IsAllowedMove, LetGo, LetGoAll, Move, ReadRight, ReadWrong}
-use Rattle.ufs_spec.specs.Moves.{TakeStep, WentWell, WentWrong, end_flight, freed, is_for, is_for_task, mark_again}
-use Rattle.ufs_spec.specs.Moves.{mark_written, moved, without_reader}
-use Rattle.ufs_spec.specs.Openings.{IsOpenedTranslation}
-use Rattle.ufs_spec.specs.Translation.{MayTake, Plan, Translation, has_mark_number, mark_ordered, taken}
-use Rattle.ufs_spec.specs.declared.configs.Numbers.{Numbers}
-use Rattle.ufs_spec.specs.declared.flash.Place.{Place}
-use Rattle.ufs_spec.specs.declared.layer.Reader.{Reader}
-use Rattle.ufs_spec.specs.declared.layer.Reader.TheVariants.{ForNobody, ForRest, ForStep, ForTask}
+use Rattle.many_stops.proofs.Common.{Bool, Cells, EndJob, Ending, Erasing, Flight, ForNobody, ForRest, ForStep, ForTask}
+use Rattle.many_stops.proofs.Common.{GiveJob, GroupPage, IsAllowedMove, IsOpenedTranslation, IsSpot, LetGo, LetGoAll}
+use Rattle.many_stops.proofs.Common.{Mark, MarkPage, MayTake, Move, None, Nothing, Numbers, Option, Place, Plan}
+use Rattle.many_stops.proofs.Common.{Programming, ReadRight, ReadWrong, Reader, Reading, Some, Spot, TakeStep}
+use Rattle.many_stops.proofs.Common.{Translation, WentWell, WentWrong, at_die, at_die_is, end_flight, false, freed}
+use Rattle.many_stops.proofs.Common.{has_mark_number, if◌then◌else◌, is_for, is_for_task, mark_again, mark_ordered}
+use Rattle.many_stops.proofs.Common.{mark_written, moved, none-some, program_failed, programmed, subst, sym, taken}
+use Rattle.many_stops.proofs.Common.{true, turn_only, ℕ, ⊎_elim, ◌∙◌, ◌≡◌}
+use Rattle.ufs_spec.specs.Moves.{without_reader}
 use Rattle.power_loss.proofs.jobs_owed.ProgramsAndErases.{take_inside}
-use Rattle.power_loss.specs.Exchange.{IsSpot}
 
 abbrev pub AreErasesInside : Translation → Type 0
 AreErasesInside t = (die : ℕ) (s : Spot) → t.disk.flights die ≡ Some (Erasing s) → IsSpot t.numbers s

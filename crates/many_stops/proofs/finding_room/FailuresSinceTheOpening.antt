@@ -1,28 +1,17 @@
 -- What a device that mends has made of its opening stays so where a program or an erase fails: the block was free at
 -- the opening, and is bad then.
-use Rattle.std.proofs.Common.{◌≡◌, ◌≢◌, ◌⊎◌, ℕ, ◌<◌, Bool, true, false, if◌then◌else◌, List, [], Option, Some, None}
-use Rattle.std.proofs.Common.{inl, inr, ⊎_elim, refl, sym, ap, ◌∙◌, subst}
-use Rattle.ufs_spec.proofs.CellKinds.{mark_not_nothing}
-use Rattle.ufs_spec.proofs.Equalities.{spot_cases}
-use Rattle.ufs_spec.proofs.Facts.{false≢true, none-some, true≢false}
-use Rattle.ufs_spec.proofs.Updates.{at_spot_cases}
-use Rattle.ufs_spec.specs.Cells.{Cell, Cells, GroupPage, Mark, MarkPage, Nothing}
-use Rattle.ufs_spec.specs.Disk.{Bad, CellCrash, Erasing, Flight, Free, Programming, Reading, Spot, at_spot}
-use Rattle.ufs_spec.specs.Disk.{erase_failed, flight_alone, program_failed, spot_of}
-use Rattle.ufs_spec.specs.Moves.{EndJob, IsAllowedMove, MayEnd, Move, WentWrong, end_flight, mark_again, moved}
-use Rattle.ufs_spec.specs.Openings.{number_of}
-use Rattle.ufs_spec.specs.Translation.{MarkStep, Mended, Mending, RepairStep, Repairing, Step, Translation, Unmarked}
-use Rattle.ufs_spec.specs.Translation.{has_mark_number, is_mended, mark_ordered}
-use Rattle.ufs_spec.specs.declared.flash.Fence.{Fence}
-use Rattle.ufs_spec.specs.declared.flash.Place.{Place}
-use Rattle.ufs_spec.specs.declared.flash.Tag.{Tag}
-use Rattle.ufs_spec.specs.declared.layer.Name.{Name}
+use Rattle.many_stops.proofs.Common.{Bad, Bool, Cell, CellCrash, Cells, EndJob, Erasing, Fence, Flight, Free, GroupPage}
+use Rattle.many_stops.proofs.Common.{IsAllowedMove, List, Mark, MarkPage, MarkStep, MayEnd, Mended, Mending, MendsAlone}
+use Rattle.many_stops.proofs.Common.{Move, Name, None, Nothing, Option, Place, Programming, Reading, RepairStep}
+use Rattle.many_stops.proofs.Common.{Repairing, Some, Spot, Step, StepKindRight, Tag, Translation, Unmarked, Valid}
+use Rattle.many_stops.proofs.Common.{WentWrong, [], ap, at_spot, at_spot_cases, book, end_flight, erase_failed, false}
+use Rattle.many_stops.proofs.Common.{false≢true, flight_alone, has_mark_number, if◌then◌else◌, inl, inr, is_marked}
+use Rattle.many_stops.proofs.Common.{is_mended, mark_again, mark_not_nothing, mark_ordered, moved, none-some, number_of}
+use Rattle.many_stops.proofs.Common.{program_failed, refl, spot_cases, spot_of, subst, sym, true, true≢false, ℕ, ⊎_elim}
+use Rattle.many_stops.proofs.Common.{◌<◌, ◌∙◌, ◌≡◌, ◌≢◌, ◌⊎◌}
 use Rattle.power_loss.proofs.jobs.StandsSecurely.{erase_left, program_left}
 use Rattle.power_loss.proofs.stops.LeftUnmarked.{page_no_mark}
-use Rattle.power_loss.specs.Book.{book}
-use Rattle.power_loss.specs.Invariant.{FenceRight, StepKindRight, Valid}
-use Rattle.power_loss.specs.Losing.{is_marked}
-use Rattle.power_loss.specs.MendingRoom.{MendsAlone}
+use Rattle.power_loss.specs.Invariant.{FenceRight}
 use Rattle.many_stops.proofs.finding_room.MovesSinceTheOpening.{filled_was_free, flown_newer, free_was_free, move_since}
 use Rattle.many_stops.proofs.finding_room.MovesSinceTheOpening.{unmarked_group}
 use Rattle.many_stops.proofs.finding_room.SinceTheOpening.{IsLessOrNewMark, RepairsNone, Since, SinceOpening}

@@ -1,37 +1,25 @@
 -- What a program or an erase that fails while a device mends makes of its blocks: one more is bad, and still all pages
 -- that are left lie in free blocks, but for less than a block of them.
-use Rattle.std.proofs.Common.{◌≡◌, ◌≢◌, ◌⊎◌, ℕ, ◌+◌, ◌-◌, ◌*◌, ◌<◌, ◌≤◌, Bool, true, false, if◌then◌else◌}
-use Rattle.std.proofs.Common.{Option, Some, None, inl, inr, ⊎_elim, refl, sym, ap, ◌∙◌, subst, arith}
-use Rattle.std.proofs.Math.Nat.{mul-le-mul_left}
-use Rattle.ufs_laws.proofs.walk.LayerEffects.{turn_only}
-use Rattle.ufs_spec.proofs.Facts.{false≢true, true≢false}
-use Rattle.ufs_spec.proofs.Updates.{at_spot_cases}
-use Rattle.ufs_spec.specs.Cells.{Cell, Cells, GroupPage, Mark, MarkPage, Nothing}
-use Rattle.ufs_spec.specs.Disk.{BlockState, Bad, Closed, Erasing, Filling, Flight, Free, Programming, Reading, Spot}
-use Rattle.ufs_spec.specs.Disk.{at_spot, erase_failed, program_failed, programmed, spot_of, state_after}
-use Rattle.ufs_spec.specs.Moves.{EndJob, Ending, GiveJob, IsAllowedMove, Move, ReadRight, ReadWrong, TakeStep, WentWell}
-use Rattle.ufs_spec.specs.Moves.{WentWrong, end_flight, ending_fits, freed, freed_state, mark_written, moved}
-use Rattle.ufs_spec.specs.Translation.{MayTake, Plan, Step}
-use Rattle.ufs_spec.specs.Translation.{Translation, count_blocks, has_mark_number, is_bad, is_mended, least_room}
-use Rattle.ufs_spec.specs.Translation.{mark_ordered, own_room, spots, taken}
-use Rattle.ufs_spec.specs.declared.configs.Numbers.{Numbers}
-use Rattle.ufs_spec.specs.declared.flash.Place.{Place}
-use Rattle.ufs_spec.specs.declared.layer.Reader.TheVariants.{ForNobody, ForRest, ForStep, ForTask}
-use Rattle.power_loss.proofs.jobs.StandsSecurely.{filling_is_not_bad, free_is_not_filling}
-use Rattle.power_loss.proofs.jobs_owed.ProgramsAndErases.{OpensReady, program_owed}
-use Rattle.power_loss.proofs.ordered_lists.ElementsAndOrders.{IsIn, in_spots}
-use Rattle.power_loss.proofs.room_to_mend.RoomInBlocks.{room_in}
-use Rattle.power_loss.specs.Exchange.{IsSpot}
-use Rattle.power_loss.specs.Invariant.{Valid}
-use Rattle.power_loss.specs.MendingRoom.{MendsAlone, fails_job, page_of_step, page_room}
-use Rattle.many_stops.proofs.CountedBlocks.{bad_stays, no_fewer_bad, none_fewer, one_bad_more, one_bad_most}
-use Rattle.many_stops.proofs.CountedBlocks.{one_fewer}
+use Rattle.many_stops.proofs.Common.{Bad, BlockState, Bool, Cell, Cells, Closed, EndJob, Ending, Erasing, Filling}
+use Rattle.many_stops.proofs.Common.{Flight, ForNobody, ForRest, ForStep, ForTask, Free, GiveJob, GroupPage}
+use Rattle.many_stops.proofs.Common.{IsAllowedMove, IsIn, IsSpot, IsWithinSpare, Mark, MarkPage, MayTake, MendsAlone}
+use Rattle.many_stops.proofs.Common.{Move, None, Nothing, Numbers, OpensReady, Option, Place, Plan, Programming}
+use Rattle.many_stops.proofs.Common.{ReadRight, ReadWrong, Reading, Some, Spot, Step, TakeStep, Translation, Valid}
+use Rattle.many_stops.proofs.Common.{WentWell, WentWrong, ap, arith, at_spot, at_spot_cases, bad_count, count_blocks}
+use Rattle.many_stops.proofs.Common.{end_flight, ending_fits, erase_failed, fails_job, false, false≢true}
+use Rattle.many_stops.proofs.Common.{filling_is_not_bad, free_count, free_is_not_filling, freed, freed_state}
+use Rattle.many_stops.proofs.Common.{has_mark_number, if◌then◌else◌, in_spots, inl, inr, is_bad, is_mended, least_room}
+use Rattle.many_stops.proofs.Common.{mark_ordered, mark_written, moved, mul-le-mul_left, own_room, page_of_step}
+use Rattle.many_stops.proofs.Common.{program_failed, program_owed, programmed, refl, room_in, spot_of, spots}
+use Rattle.many_stops.proofs.Common.{state_after, subst, sym, taken, true, true≢false, turn_only, ℕ, ⊎_elim, ◌*◌, ◌+◌}
+use Rattle.many_stops.proofs.Common.{◌-◌, ◌<◌, ◌∙◌, ◌≡◌, ◌≢◌, ◌≤◌, ◌⊎◌}
+use Rattle.power_loss.specs.MendingRoom.{page_room}
+use Rattle.many_stops.proofs.CountedBlocks.{bad_stays, no_fewer_bad, none_fewer, one_bad_more, one_bad_most, one_fewer}
 use Rattle.many_stops.proofs.finding_room.BlocksOneByOne.{Filled, FilledIn, move_fills, one_page}
 use Rattle.many_stops.proofs.finding_room.ErasesInside.{AreErasesInside}
 use Rattle.many_stops.proofs.finding_room.RoomForAMending.{failure_fills}
 use Rattle.many_stops.proofs.room_left.FailuresLeaveRoom.{no_more_kept, one_less_kept}
 use Rattle.many_stops.proofs.room_left.RoomStays.{bad_is_not_free, not_bad_after}
-use Rattle.many_stops.specs.RoomOfGroups.{IsWithinSpare, bad_count, free_count}
 
 -- Blocks that are bad
 

@@ -1,22 +1,17 @@
 -- Where the program of the last mark of a mending failed, and left it as it was meant, nothing is lost: the next life
 -- is mended from its start.
-use Rattle.std.proofs.Common.{◌≡◌, ◌⊎◌, suc, ◌≤◌, Bool, true, List, Some, inl, ⊎_elim, sym, ap, ◌∙◌}
-use Rattle.std.proofs.Common.{subst, arith}
-use Rattle.ufs_spec.proofs.Facts.{none-some}
-use Rattle.ufs_spec.specs.Cells.{Cells, Mark}
-use Rattle.ufs_spec.specs.Disk.{Spot}
-use Rattle.ufs_spec.specs.Kept.{IsKept, IsNewestMark, fence_in, recorded_in}
-use Rattle.ufs_spec.specs.Openings.{HasNumbers, IsAtMost, IsOpenedTranslation, MayBeMended, lost_from}
-use Rattle.ufs_spec.specs.Translation.{Repairing, Translation, is_mended}
-use Rattle.ufs_spec.specs.declared.flash.Key.{Key}
-use Rattle.power_loss.proofs.books.LayerParts.{MendingOf, StopLeaves}
-use Rattle.power_loss.proofs.books.PagesByName.{page_within}
+use Rattle.many_stops.proofs.Common.{Bool, Cells, IsKept, IsNewestMark, IsOpenedTranslation, Key, List, Mark, MendingOf}
+use Rattle.many_stops.proofs.Common.{Repairing, Some, Spot, StopLeaves, Translation, Valid, ap, arith, book, fence_in}
+use Rattle.many_stops.proofs.Common.{inl, is_mended, lost_from, none-some, page_within, subst, suc, sym, true, ⊎_elim}
+use Rattle.many_stops.proofs.Common.{◌∙◌, ◌≡◌, ◌≤◌, ◌⊎◌}
+use Rattle.ufs_spec.specs.Kept.{recorded_in}
+use Rattle.ufs_spec.specs.Openings.{HasNumbers, IsAtMost, MayBeMended}
 use Rattle.power_loss.proofs.stops.BookImage.{Image, finished_parts, image}
 use Rattle.power_loss.proofs.stops.ImagePages.{kept_covers}
 use Rattle.power_loss.proofs.stops.LeftCells.{known}
 use Rattle.power_loss.proofs.stops.LeftImage.{all_repairs}
-use Rattle.power_loss.specs.Book.{book, last_number}
-use Rattle.power_loss.specs.Invariant.{IsLaterMark, Valid}
+use Rattle.power_loss.specs.Book.{last_number}
+use Rattle.power_loss.specs.Invariant.{IsLaterMark}
 use Rattle.many_stops.proofs.finding_room.SinceTheOpening.{RepairsNone}
 use Rattle.many_stops.proofs.room_left.IdleLives.{mended_at_once}
 

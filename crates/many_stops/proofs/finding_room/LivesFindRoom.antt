@@ -1,41 +1,38 @@
 -- Over any number of lives whose failures are borne, from new dies on, each opening finds room for its mending, and no
 -- life is locked out.
-use Rattle.std.proofs.Common.{◌≡◌, ℕ, ◌∷◌, ◌+◌, ◌-◌, ◌*◌, ◌<◌, ◌≤◌, Bool, true, false, cond, List}
-use Rattle.std.proofs.Common.{[], length, map, inl, inr, ⊎_elim, refl, sym, ap, ◌∙◌, subst, arith}
-use Rattle.std.proofs.Math.Nat.{lt_of_mul-lt-mul_right, mul-le-mul_left}
+use Rattle.many_stops.proofs.Common.{AreAllowedMoves, AreWithin, Bool, CellCrash, Cells, CellsSound, FindsRoom, Free}
+use Rattle.many_stops.proofs.Common.{HasSpareBlocks, IsOpenedTranslation, List, Move, Nothing, Numbers, Opened, Place}
+use Rattle.many_stops.proofs.Common.{Spot, Translation, Valid, [], ap, arith, below, cond, count_blocks, count_by}
+use Rattle.many_stops.proofs.Common.{div_ceil, false, free_is, inl, inr, is_bad, is_free, least_room, length}
+use Rattle.many_stops.proofs.Common.{may_go_bad, mending_blocks, moved_by, mul-le-mul_left, refl, spots, subst}
+use Rattle.many_stops.proofs.Common.{sum_by-cons, sym, true, true≢false, ℕ, ⊎_elim, ◌*◌, ◌+◌, ◌-◌, ◌<◌, ◌∙◌, ◌∷◌, ◌≡◌}
+use Rattle.many_stops.proofs.Common.{◌≤◌}
+use Rattle.std.proofs.Common.{map}
+use Rattle.std.proofs.Math.Nat.{lt_of_mul-lt-mul_right}
 use Rattle.std.proofs.lemmas.Grind.{div_ceil_times}
 use Rattle.std.proofs.lemmas.List.{length-map}
 use Rattle.std.proofs.lemmas.List.Concat.{length-flat_map}
 use Rattle.std.proofs.lemmas.List.Elements.{All-cons, All-head, All-nil, All-tail}
-use Rattle.std.proofs.lemmas.List.Sums.{sum_by-cons}
-use Rattle.std.specs.Int.{div_ceil}
-use Rattle.std.specs.List.{All, count_by, sum_by}
+use Rattle.std.specs.List.{All, sum_by}
 use Rattle.ufs_laws.proofs.new_dies.FirstLife.{none_there}
 use Rattle.ufs_spec.proofs.ConfigFacts.{config_tests, ranges}
-use Rattle.ufs_spec.proofs.Facts.{ltb-false, true≢false}
+use Rattle.ufs_spec.proofs.Facts.{ltb-false}
 use Rattle.ufs_spec.proofs.Lists.{length-below}
-use Rattle.ufs_spec.specs.Cells.{AreWithin, Array, Cells, Nothing}
+use Rattle.ufs_spec.specs.Cells.{Array}
 use Rattle.ufs_spec.specs.Configs.{IsConfig, blocks_left, blocks_needed, pages_kept}
 use Rattle.ufs_spec.specs.Dies.{DieState}
-use Rattle.ufs_spec.specs.Disk.{CellCrash, Free, Spot}
-use Rattle.ufs_spec.specs.Keys.{below}
 use Rattle.ufs_spec.specs.Lives.{IsOpened, Life, Lived, Lives, Runs, Stops, array_of, bad_in, bad_of}
-use Rattle.ufs_spec.specs.Moves.{Move}
-use Rattle.ufs_spec.specs.Openings.{IsOpenedTranslation}
 use Rattle.ufs_spec.specs.Refusals.{State, mended, numbers_of}
-use Rattle.ufs_spec.specs.Sound.{CellsSound, Sound}
-use Rattle.ufs_spec.specs.Translation.{Translation, count_blocks, is_bad, is_free, least_room, may_go_bad, spots}
-use Rattle.ufs_spec.specs.declared.configs.Numbers.{Numbers}
+use Rattle.ufs_spec.specs.Sound.{Sound}
 use Rattle.ufs_spec.specs.declared.events.Event.{Event}
 use Rattle.ufs_spec.specs.declared.events.Leftover.{Leftover}
 use Rattle.ufs_spec.specs.declared.events.Output.{Output}
-use Rattle.ufs_spec.specs.declared.flash.Place.{Place}
 use Rattle.power_loss.proofs.die_pages.BlankOutsideDies.{new_blank, new_opens}
 use Rattle.power_loss.proofs.lives.ChainedLives.{Left, end_of_life, left_of, life_continues}
 use Rattle.power_loss.proofs.lives.EachEventKeeps.{many_events}
 use Rattle.power_loss.proofs.lives.LivesOfRuns.{lives_of}
 use Rattle.power_loss.proofs.mending_steps.TurnsOfALife.{life_takes}
-use Rattle.power_loss.proofs.openings.OpenedByName.{Opened, opened}
+use Rattle.power_loss.proofs.openings.OpenedByName.{opened}
 use Rattle.power_loss.proofs.openings.OpenedIsValid.{opening_valid}
 use Rattle.power_loss.proofs.openings.OpenedStates.{cells_shown, is_opened, opened_state, valid_is}
 use Rattle.power_loss.proofs.repaired_keys.LivesMendSoon.{few_keys, listed, new_few, stopped_few}
@@ -45,18 +42,14 @@ use Rattle.power_loss.proofs.stops.LeftPages.{cell_crash}
 use Rattle.power_loss.specs.Book.{CellsRight}
 use Rattle.power_loss.specs.Exchange.{IsArrayOf, ValidState}
 use Rattle.power_loss.specs.FewRepairs.{ArrayHasFewLost, HasFewLost, still_lost}
-use Rattle.power_loss.specs.Invariant.{Valid}
-use Rattle.power_loss.specs.Mending.{AreAllowedMoves, moved_by}
 use Rattle.power_loss.specs.MendingRoom.{MayGoOn, makes_bad}
 use Rattle.power_loss.specs.Runs.{AreNewDies}
 use Rattle.many_stops.proofs.finding_room.RoomForAMending.{blocks_hold, least_room_twice}
 use Rattle.many_stops.proofs.finding_room.LivesWithFailures.{life_holds, moves_hold}
 use Rattle.many_stops.proofs.finding_room.MendingLives.{LivesFrom, lives_begin, lives_on, stop_leaves}
 use Rattle.many_stops.proofs.finding_room.StopsOfAMending.{opened_bad, were_unfilled}
-use Rattle.power_loss.proofs.jobs_owed.ProgramsAndErases.{free_is}
 use Rattle.many_stops.specs.BorneFailures.{AreBorne, AreBorneMoves, IsBorneLife}
-use Rattle.many_stops.specs.RoomOfGroups.{mending_blocks}
-use Rattle.many_stops.specs.RoomOverStops.{FindsRoom, HasSpareBlocks, IsNeverLockedOut, OpensWithRoom, more_bad}
+use Rattle.many_stops.specs.RoomOverStops.{IsNeverLockedOut, OpensWithRoom, more_bad}
 
 -- Configurations
 

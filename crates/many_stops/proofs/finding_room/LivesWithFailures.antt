@@ -1,26 +1,22 @@
 -- In a life whose failures are borne, what each move keeps each event keeps.
-use Rattle.std.proofs.Common.{◌≡◌, ◌∷◌, ℕ, true, false, List, [], Option, Some, None, refl, sym, ap, ◌∙◌, subst}
+use Rattle.many_stops.proofs.Common.{AreAllowedMoves, EndJob, Ending, Flight, GiveJob, IsAllowedMove, List, Move, None}
+use Rattle.many_stops.proofs.Common.{Option, ReadRight, ReadWrong, Some, TakeStep, Translation, Valid, WentWell}
+use Rattle.many_stops.proofs.Common.{WentWrong, [], all_keep, ap, ending_fits, false, moved, moved_by, refl, subst, sym}
+use Rattle.many_stops.proofs.Common.{true, true≢false, ℕ, ◌∙◌, ◌∷◌, ◌≡◌}
 use Rattle.ufs_laws.proofs.walk.SmallChanges.{Accepts, Change, IsSmallMove, Moves, changed, first, job_over, kept}
-use Rattle.ufs_spec.proofs.Facts.{true≢false}
 use Rattle.ufs_spec.specs.Cells.{Array}
-use Rattle.ufs_spec.specs.Disk.{Flight}
 use Rattle.ufs_spec.specs.Lives.{IsCall, Leads, Life}
 use Rattle.ufs_spec.specs.Machine.{Allowed, Answer, Call, Done, MayLeave, OfDone, OfTake, OfTurn, Take, Turn}
-use Rattle.ufs_spec.specs.Moves.{Accept, EndJob, Ending, GiveJob, IsAllowedMove, Move, ReadRight, ReadWrong, TakeStep}
-use Rattle.ufs_spec.specs.Moves.{WentWell, WentWrong, ending_fits, moved}
+use Rattle.ufs_spec.specs.Moves.{Accept}
 use Rattle.ufs_spec.specs.Refusals.{State}
-use Rattle.ufs_spec.specs.Translation.{Translation}
 use Rattle.ufs_spec.specs.declared.events.Event.{Event}
 use Rattle.ufs_spec.specs.declared.events.Event.TheVariants as event
 use Rattle.ufs_spec.specs.declared.events.Output.{Output}
 use Rattle.power_loss.proofs.calls.CallsKeepTied.{call_right}
 use Rattle.power_loss.proofs.calls.RightChanges.{IsRight, Right}
 use Rattle.power_loss.proofs.lives.EachEventKeeps.{event_comes, one_event}
-use Rattle.power_loss.proofs.moves.MovesKeepValid.{all_keep}
 use Rattle.power_loss.proofs.jobs.EndsOfJobs.{cells_left}
 use Rattle.power_loss.specs.Exchange.{IsTied, MayCome, ValidState}
-use Rattle.power_loss.specs.Invariant.{Valid}
-use Rattle.power_loss.specs.Mending.{AreAllowedMoves, moved_by}
 use Rattle.power_loss.proofs.room_to_mend.DevicesWithRoom.{ends_badly, event_badly}
 use Rattle.many_stops.specs.BorneFailures.{AreBorne, AreBorneMoves, EventIsBorne, IsBorne, MoveIsBorne}
 

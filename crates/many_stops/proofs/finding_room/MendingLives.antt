@@ -1,34 +1,26 @@
 -- What holds of a life from its opening on, if that found room, and whose failures are borne: until the device is
 -- mended the mending has room, less a block for each failure, and fills one block after another.
-use Rattle.std.proofs.Common.{◌≡◌, ◌≢◌, ◌⊎◌, ℕ, ◌<◌, ◌+◌, ◌-◌, ◌*◌, ◌≤◌, Bool, true, false, length, Option}
-use Rattle.std.proofs.Common.{Some, None}
-use Rattle.std.proofs.Common.{inl, inr, ⊎_elim, refl, sym, ap, ◌∙◌, subst, arith}
-use Rattle.ufs_spec.proofs.Facts.{cases_Bool, true≢false}
-use Rattle.ufs_spec.proofs.Updates.{at_die_cases, at_place_cases}
-use Rattle.ufs_spec.specs.Cells.{Cell, Cells, Mark, MarkPage}
-use Rattle.ufs_spec.specs.Disk.{CellCrash, Programming, Spot, Touches, at_die}
-use Rattle.ufs_spec.specs.Disk.{at_place, programmed}
-use Rattle.ufs_spec.specs.Moves.{EndJob, IsAllowedMove, Move, WentWell, WentWrong, end_flight, ending_fits, freed}
-use Rattle.ufs_spec.specs.Moves.{mark_written, moved}
-use Rattle.ufs_spec.specs.Openings.{AreLost, IsOpenedTranslation}
-use Rattle.ufs_spec.specs.Translation.{Mended, Mending, Plan, Repairing, Translation, Unmarked, count_blocks, is_bad}
-use Rattle.ufs_spec.specs.Translation.{is_free, is_mended, may_go_bad}
-use Rattle.ufs_spec.specs.declared.flash.Place.{Place}
-use Rattle.power_loss.proofs.books.LayerParts.{MendingOf, StopLeaves}
+use Rattle.many_stops.proofs.Common.{Bool, Cell, CellCrash, Cells, EndJob, FailsStale, FindsRoom, HasHandedOut}
+use Rattle.many_stops.proofs.Common.{HasSpareBlocks, IsAllowedMove, IsOpenedTranslation, IsWithinSpare, KeepsFree}
+use Rattle.many_stops.proofs.Common.{LeavesOwnRoom, Mark, MarkPage, Mended, Mending, MendingOf, Move, None, Opened}
+use Rattle.many_stops.proofs.Common.{Option, Place, Plan, Programming, Repairing, Some, Spot, StopLeaves, Touches}
+use Rattle.many_stops.proofs.Common.{Translation, Unmarked, Valid, WentWell, WentWrong, all_keep, ap, arith, at_die}
+use Rattle.many_stops.proofs.Common.{at_die_cases, at_place, at_place_cases, bad_count, cases_Bool, count_blocks}
+use Rattle.many_stops.proofs.Common.{end_flight, ending_fits, fails_job, false, free_count, free_is, freed, inl, inr}
+use Rattle.many_stops.proofs.Common.{is_bad, is_free, is_mended, kept_room, length, mark_written, may_go_bad}
+use Rattle.many_stops.proofs.Common.{mending_blocks, moved, programmed, refl, subst, sym, true, true≢false, ℕ, ⊎_elim}
+use Rattle.many_stops.proofs.Common.{◌*◌, ◌+◌, ◌-◌, ◌<◌, ◌∙◌, ◌≡◌, ◌≢◌, ◌≤◌, ◌⊎◌}
+use Rattle.ufs_spec.specs.Openings.{AreLost}
 use Rattle.power_loss.proofs.mending_steps.TurnsOfALife.{false_before}
 use Rattle.power_loss.proofs.moves.MovesKeepCellsFitting.{move_stays}
-use Rattle.power_loss.proofs.moves.MovesKeepValid.{all_keep}
-use Rattle.power_loss.proofs.openings.OpenedByName.{Opened}
 use Rattle.power_loss.proofs.repaired_keys.LivesMendSoon.{listed}
 use Rattle.power_loss.proofs.repaired_keys.RepairsStayFew.{begins, move_few}
 use Rattle.power_loss.proofs.room_to_mend.AloneKept.{none_flown}
 use Rattle.power_loss.proofs.room_to_mend.LivesWithRoom.{Mends, move_mends}
 use Rattle.power_loss.proofs.room_to_mend.RoomInBlocks.{opening_alone, opening_room}
-use Rattle.power_loss.proofs.jobs_owed.ProgramsAndErases.{free_is}
 use Rattle.power_loss.proofs.stops.LeftCells.{mark_from}
 use Rattle.power_loss.specs.FewRepairs.{HasFewLost, HasFewRepairs, still_lost}
-use Rattle.power_loss.specs.Invariant.{Valid}
-use Rattle.power_loss.specs.MendingRoom.{HasRoom, fails_job}
+use Rattle.power_loss.specs.MendingRoom.{HasRoom}
 use Rattle.power_loss.proofs.room_to_mend.DevicesWithRoom.{no_failure}
 use Rattle.many_stops.proofs.finding_room.BlocksOneByOne.{Filled, opening_filled}
 use Rattle.many_stops.proofs.finding_room.ErasesInside.{AreErasesInside, erases_inside, opening_erases}
@@ -43,16 +35,11 @@ use Rattle.many_stops.proofs.finding_room.StopsOfAMending.{opened_bad, were_unfi
 use Rattle.many_stops.proofs.finding_room.StopsOfRepairs.{LeavesOver, repairing_leaves}
 use Rattle.many_stops.proofs.finding_room.LivesWithFailures.{IsKeptByMoves}
 use Rattle.many_stops.proofs.CountedBlocks.{bad_alike}
-use Rattle.many_stops.proofs.free_at_stops.MovesKeepFree.{move_keeps, opening_keeps}
-use Rattle.many_stops.proofs.free_at_stops.MovesKeepFree.{stop_costs_none}
+use Rattle.many_stops.proofs.free_at_stops.MovesKeepFree.{move_keeps, opening_keeps, stop_costs_none}
 use Rattle.many_stops.proofs.room_left.HandedPages.{handed_or_not}
 use Rattle.many_stops.proofs.room_left.IdleLives.{idle_stop}
 use Rattle.many_stops.proofs.room_left.MovesLeaveRoom.{move_leaves, opening_leaves}
 use Rattle.many_stops.specs.BorneFailures.{IsBorne, MoveIsBorne}
-use Rattle.many_stops.specs.FreeOverStops.{FailsStale, KeepsFree}
-use Rattle.many_stops.specs.RoomOfGroups.{HasHandedOut, IsWithinSpare, LeavesOwnRoom, bad_count, free_count, kept_room}
-use Rattle.many_stops.specs.RoomOfGroups.{mending_blocks}
-use Rattle.many_stops.specs.RoomOverStops.{FindsRoom, HasSpareBlocks}
 
 pub record MendsFrom (o t : Translation) : Type 0 where
   pub room : HasSpareBlocks o

@@ -1,43 +1,31 @@
 -- What a device that mends has made of its opening stays so along each move, and is so when a life begins.
-use Rattle.std.proofs.Common.{◌∷◌, ◌≡◌, ◌≢◌, ◌⊎◌, ℕ, ◌<◌, ◌≤◌, Bool, true, false, List, [], Option, Some, None}
-use Rattle.std.proofs.Common.{inl, inr, ⊎_elim, if◌then◌else◌, length, refl, sym, ap, ◌∙◌, subst, arith}
-use Rattle.ufs_laws.proofs.walk.LayerEffects.{IsDue, order_due, turned_if}
-use Rattle.ufs_spec.proofs.CellKinds.{mark_not_nothing, one_mark, one_page, page_not_nothing}
-use Rattle.ufs_spec.proofs.Equalities.{name_told, spot_cases}
-use Rattle.ufs_spec.proofs.Facts.{false≢true, none-some, same_Some, true≢false}
-use Rattle.ufs_spec.proofs.Updates.{at_place_cases, at_place_is, at_spot_cases}
-use Rattle.ufs_spec.specs.Cells.{Cell, Cells, GroupPage, Mark, MarkPage, Nothing}
-use Rattle.ufs_spec.specs.Disk.{Bad, Erasing, Filling, Flight}
-use Rattle.ufs_spec.specs.Disk.{Free, Programming, Reading, Spot, at_place, at_spot, spot_of, state_after}
-use Rattle.ufs_spec.specs.Moves.{EndJob, Ending, GiveJob, IsAllowedMove, Move, ReadRight, ReadWrong, TakeStep, WentWell}
-use Rattle.ufs_spec.specs.Moves.{WentWrong, end_flight, mark_written, moved, page_written}
-use Rattle.ufs_spec.specs.Moves.{step_there}
-use Rattle.ufs_spec.specs.Openings.{IsMendingAt, IsOpenedTranslation, number_of}
-use Rattle.ufs_spec.specs.Translation.{CopyStep, MarkStep, MayTake, Mended, Mending, Order, OrderCopy, OrderMark}
-use Rattle.ufs_spec.specs.Translation.{OrderPlanMark, OrderRepair, Plan, RepairStep, Repairing, Step, StepKind}
-use Rattle.ufs_spec.specs.Translation.{Translation, Unmarked, is_mended, mark_ordered, name_of, ordered, repair_ordered}
-use Rattle.ufs_spec.specs.Translation.{taken, turned}
-use Rattle.ufs_spec.specs.declared.configs.Numbers.{Numbers}
-use Rattle.ufs_spec.specs.declared.flash.Key.{Key}
-use Rattle.ufs_spec.specs.declared.flash.Place.{Place}
-use Rattle.ufs_spec.specs.declared.flash.Tag.{Tag}
-use Rattle.ufs_spec.specs.declared.layer.Name.{Name}
-use Rattle.ufs_spec.specs.declared.layer.Reader.TheVariants.{ForNobody, ForRest, ForStep, ForTask}
-use Rattle.power_loss.proofs.books.LayerParts.{MendingOf}
-use Rattle.power_loss.proofs.jobs.StandsSecurely.{closed_is_not_free, filling_is_not_bad, ready_is_not_stale}
-use Rattle.power_loss.proofs.jobs_owed.ProgramsAndErases.{OpensReady, program_owed}
+use Rattle.many_stops.proofs.Common.{Bad, Bool, Cell, Cells, CopyStep, EndJob, Ending, Erasing, Filling, Flight}
+use Rattle.many_stops.proofs.Common.{ForNobody, ForRest, ForStep, ForTask, Free, GiveJob, GroupPage, IsAllowedMove}
+use Rattle.many_stops.proofs.Common.{IsDue, IsOpenedTranslation, Key, List, Mark, MarkPage, MarkStep, MayTake, Mended}
+use Rattle.many_stops.proofs.Common.{Mending, MendingOf, MendsAlone, Move, Name, None, Nothing, Numbers, OpensReady}
+use Rattle.many_stops.proofs.Common.{Option, Order, OrderCopy, OrderMark, OrderPlanMark, OrderRepair, Place, Plan}
+use Rattle.many_stops.proofs.Common.{Programming, ReadRight, ReadWrong, Reading, RepairStep, Repairing, Some, Spot}
+use Rattle.many_stops.proofs.Common.{Step, StepKind, StepKindRight, Tag, TakeStep, Translation, Unmarked, Valid}
+use Rattle.many_stops.proofs.Common.{WentWell, WentWrong, [], ap, arith, at_place, at_place_cases, at_spot}
+use Rattle.many_stops.proofs.Common.{at_spot_cases, book, closed_is_not_free, end_flight, fails_job, false, false≢true}
+use Rattle.many_stops.proofs.Common.{filling_is_not_bad, if◌then◌else◌, inl, inr, is_marked, is_mended, length}
+use Rattle.many_stops.proofs.Common.{mark_not_nothing, mark_ordered, mark_written, moved, name_of, name_told, none-some}
+use Rattle.many_stops.proofs.Common.{number_of, order_due, ordered, page_not_nothing, page_written, program_owed, refl}
+use Rattle.many_stops.proofs.Common.{repair_ordered, same_Some, spot_cases, spot_of, state_after, step_there, subst}
+use Rattle.many_stops.proofs.Common.{sym, taken, true, true≢false, turned, turned_if, ℕ, ⊎_elim, ◌<◌, ◌∙◌, ◌∷◌, ◌≡◌}
+use Rattle.many_stops.proofs.Common.{◌≢◌, ◌≤◌, ◌⊎◌}
+use Rattle.ufs_spec.proofs.CellKinds.{one_mark, one_page}
+use Rattle.ufs_spec.proofs.Updates.{at_place_is}
+use Rattle.ufs_spec.specs.Openings.{IsMendingAt}
+use Rattle.power_loss.proofs.jobs.StandsSecurely.{ready_is_not_stale}
 use Rattle.power_loss.proofs.stops.LeftCells.{flying_above}
 use Rattle.power_loss.proofs.stops.LeftUnmarked.{page_no_mark}
-use Rattle.power_loss.specs.Book.{book}
-use Rattle.power_loss.specs.Invariant.{StepKindRight, Valid}
-use Rattle.power_loss.specs.Losing.{is_marked}
-use Rattle.power_loss.specs.MendingRoom.{MendsAlone, fails_job, flies_kind}
+use Rattle.power_loss.specs.MendingRoom.{flies_kind}
 use Rattle.many_stops.proofs.room_left.RoomStays.{bad_is_not_free}
 use Rattle.many_stops.proofs.finding_room.SinceTheOpening.{IsLessOrNewMark, SinceOpening, WereUnfilled, after_is}
-use Rattle.many_stops.proofs.finding_room.SinceTheOpening.{step_of, there_is}
-use Rattle.many_stops.proofs.finding_room.SinceTheOpening.{kind_of_step, mark_no_repair, next_low, name_number}
-use Rattle.many_stops.proofs.finding_room.SinceTheOpening.{behind_marked, closed_apart, bad_apart}
-use Rattle.many_stops.proofs.finding_room.SinceTheOpening.{filling_not_free}
+use Rattle.many_stops.proofs.finding_room.SinceTheOpening.{bad_apart, behind_marked, closed_apart, filling_not_free}
+use Rattle.many_stops.proofs.finding_room.SinceTheOpening.{kind_of_step, mark_no_repair, name_number, next_low, step_of}
+use Rattle.many_stops.proofs.finding_room.SinceTheOpening.{there_is}
 
 -- What was not free
 

@@ -1,21 +1,15 @@
 -- Room for a mending: what free blocks give of it, what programs take of it, and how many blocks hold what a mending
 -- programs.
-use Rattle.std.proofs.Common.{◌≡◌, ℕ, suc, ◌+◌, ◌-◌, ◌*◌, ◌<◌, ◌≤◌, ◌==◌, Bool, true, false, cond, List, [], ◌∷◌}
-use Rattle.std.proofs.Common.{if◌then◌else◌, inl, inr, ⊎_elim, refl, ap, arith}
+use Rattle.many_stops.proofs.Common.{Bad, BlockState, Bool, Closed, Filling, Free, IsIn, List, Numbers, Spot, [], ap}
+use Rattle.many_stops.proofs.Common.{arith, at_spot, at_spot_cases, cond, count_by, div_ceil, false, free_count}
+use Rattle.many_stops.proofs.Common.{if◌then◌else◌, inl, inr, is_free, least_room, mending_blocks, refl, room_in, spots}
+use Rattle.many_stops.proofs.Common.{state_after, suc, sum_by-cons, sum_no_less, true, ℕ, ⊎_elim, ◌*◌, ◌+◌, ◌-◌, ◌<◌}
+use Rattle.many_stops.proofs.Common.{◌==◌, ◌∷◌, ◌≡◌, ◌≤◌}
 use Rattle.std.proofs.Math.Nat.{lt_of_mul-lt-mul_right}
 use Rattle.std.proofs.lemmas.Grind.{div_ceil_times}
-use Rattle.std.proofs.lemmas.List.Sums.{sum_by-cons}
-use Rattle.std.specs.Int.{div_ceil}
-use Rattle.std.specs.List.{count_by, sum_by}
-use Rattle.ufs_spec.proofs.Updates.{at_spot_cases}
-use Rattle.ufs_spec.specs.Disk.{BlockState, Bad, Closed, Filling, Free, Spot, at_spot, state_after}
-use Rattle.ufs_spec.specs.Translation.{is_free, least_room, spots}
-use Rattle.ufs_spec.specs.declared.configs.Numbers.{Numbers}
-use Rattle.power_loss.proofs.ordered_lists.ElementsAndOrders.{IsIn}
-use Rattle.power_loss.proofs.room_to_mend.RoomInBlocks.{room_in, sum_no_less}
+use Rattle.std.specs.List.{sum_by}
 use Rattle.power_loss.specs.MendingRoom.{page_room}
 use Rattle.many_stops.proofs.room_left.SumsOfRoom.{sum_more}
-use Rattle.many_stops.specs.RoomOfGroups.{free_count, mending_blocks}
 
 -- Counts and sums
 

@@ -1,24 +1,12 @@
 -- What a device that mends has made of the cells and blocks of its opening, whatever failed meanwhile: closed blocks
 -- are as they were, and the pages of the blocks that it opened, and that did not go bad, are marks, or have numbers
 -- from the first lost one on.
-use Rattle.std.proofs.Common.{◌≡◌, ◌≢◌, ◌⊎◌, ℕ, suc, ◌+◌, ◌<◌, ◌≤◌, Bool, true, false, List, [], Option, Some, None}
-use Rattle.std.proofs.Common.{if◌then◌else◌, sym, ap, ◌∙◌, arith}
-use Rattle.ufs_spec.proofs.Facts.{none-some, same_Some, true≢false}
-use Rattle.ufs_spec.specs.Cells.{Cell, Cells, GroupPage, Mark, MarkPage, Nothing}
-use Rattle.ufs_spec.specs.Disk.{BlockState, Bad, Closed, Filling}
-use Rattle.ufs_spec.specs.Disk.{Free, Spot, spot_of}
-use Rattle.ufs_spec.specs.Moves.{mending_after, step_after}
-use Rattle.ufs_spec.specs.Moves.{is_kind_of, step_there}
-use Rattle.ufs_spec.specs.Openings.{number_of}
-use Rattle.ufs_spec.specs.Translation.{MarkStep, Mended, Mending}
-use Rattle.ufs_spec.specs.Translation.{RepairStep, Repairing, Step, StepKind}
-use Rattle.ufs_spec.specs.Translation.{Translation, Unmarked}
-use Rattle.ufs_spec.specs.declared.configs.Numbers.{Numbers}
-use Rattle.ufs_spec.specs.declared.flash.Fence.{Fence}
-use Rattle.ufs_spec.specs.declared.flash.Place.{Place}
-use Rattle.ufs_spec.specs.declared.flash.Tag.{Tag}
-use Rattle.ufs_spec.specs.declared.layer.Name.{Name}
-use Rattle.power_loss.specs.Losing.{is_marked}
+use Rattle.many_stops.proofs.Common.{Bad, BlockState, Bool, Cell, Cells, Closed, Fence, Filling, Free, GroupPage, List}
+use Rattle.many_stops.proofs.Common.{Mark, MarkPage, MarkStep, Mended, Mending, Name, None, Nothing, Numbers, Option}
+use Rattle.many_stops.proofs.Common.{Place, RepairStep, Repairing, Some, Spot, Step, StepKind, Tag, Translation}
+use Rattle.many_stops.proofs.Common.{Unmarked, [], ap, arith, false, if◌then◌else◌, is_kind_of, is_marked}
+use Rattle.many_stops.proofs.Common.{mending_after, none-some, number_of, same_Some, spot_of, step_after, step_there}
+use Rattle.many_stops.proofs.Common.{suc, sym, true, true≢false, ℕ, ◌+◌, ◌<◌, ◌∙◌, ◌≡◌, ◌≢◌, ◌≤◌, ◌⊎◌}
 
 -- the cell is what it was, or is gone, or a mark is there that is newer than the given one
 abbrev pub IsLessOrNewMark : Option Mark → Cell → Cell → Type 0

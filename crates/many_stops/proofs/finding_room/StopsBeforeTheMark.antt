@@ -1,34 +1,22 @@
 -- What a stop leaves before the first mark of a mending is finished: what the opening found, but for pages of free
 -- blocks; or besides a mark whose program failed, and then all that was lost lies in its fence.
-use Rattle.std.proofs.Common.{◌≡◌, ◌≢◌, ◌⊎◌, ℕ, ◌<◌, ◌≤◌, Bool, true, false, List, Option, Some, None, inl, inr, ⊎_elim}
-use Rattle.std.proofs.Common.{refl, sym, ap, ◌∙◌, subst, arith}
+use Rattle.many_stops.proofs.Common.{Bad, Bool, Cells, Fence, Free, HasSpareBlocks, HoldsLost, IsFenced, IsKept}
+use Rattle.many_stops.proofs.Common.{IsNewestMark, Key, List, Mark, MarkPage, MendingOf, None, Nothing, Option, Place}
+use Rattle.many_stops.proofs.Common.{Some, Spot, Translation, Unmarked, ap, arith, at_most, closed_is_not_free, false}
+use Rattle.many_stops.proofs.Common.{fence_in, free_is, free_or_not, inl, inr, is_bad, is_free, is_marked, lost_from}
+use Rattle.many_stops.proofs.Common.{mark_not_nothing, mending_blocks, number_of, page_not_nothing, refl, spot_of}
+use Rattle.many_stops.proofs.Common.{subst, sym, true, ℕ, ⊎_elim, ◌<◌, ◌∙◌, ◌≡◌, ◌≢◌, ◌≤◌, ◌⊎◌}
 use Rattle.ufs_laws.proofs.array_cells.StandsForOne.{mark_one}
-use Rattle.ufs_spec.proofs.CellKinds.{mark_not_nothing, page_not_nothing}
-use Rattle.ufs_spec.proofs.Facts.{at_most}
-use Rattle.ufs_spec.specs.Cells.{Cells, Mark, MarkPage, Nothing}
-use Rattle.ufs_spec.specs.Disk.{Bad, Free, Spot, spot_of}
-use Rattle.ufs_spec.specs.Kept.{IsFenced, IsKept, IsNewestMark, fence_in}
-use Rattle.ufs_spec.specs.Openings.{IsFirstFence, lost_from, number_of}
-use Rattle.ufs_spec.specs.Translation.{Translation, Unmarked, is_bad, is_free}
-use Rattle.ufs_spec.specs.declared.flash.Fence.{Fence}
-use Rattle.ufs_spec.specs.declared.flash.Key.{Key}
-use Rattle.ufs_spec.specs.declared.flash.Place.{Place}
-use Rattle.power_loss.proofs.books.LayerParts.{MendingOf}
-use Rattle.power_loss.proofs.jobs.StandsSecurely.{closed_is_not_free}
-use Rattle.power_loss.proofs.jobs_owed.ProgramsAndErases.{free_is}
-use Rattle.power_loss.proofs.openings.OpenedPages.{free_or_not}
+use Rattle.ufs_spec.specs.Openings.{IsFirstFence}
 use Rattle.power_loss.proofs.stops.LeftCells.{blank_there, opened}
 use Rattle.power_loss.proofs.stops.LeftIsSound.{sound}
 use Rattle.power_loss.proofs.stops.LeftUnmarked.{disk_mark, opened_below, some_or_nothing}
-use Rattle.power_loss.specs.Losing.{is_marked}
 use Rattle.many_stops.proofs.CountedBlocks.{is_not_bad}
 use Rattle.many_stops.proofs.finding_room.StopsOfAMending.{UnmendedStop, all_free, blank_is_free, closed_left}
 use Rattle.many_stops.proofs.finding_room.StopsOfAMending.{first_free, free_next, good_next, kept, kept_is}
 use Rattle.many_stops.proofs.finding_room.StopsOfAMending.{lost_is_free, still_many, unfilled, with_blocks}
 use Rattle.many_stops.proofs.finding_room.ThinnerCells.{AreThinner, kept_thinner, newest_thinner, page_was}
 use Rattle.many_stops.proofs.room_left.RoomStays.{bad_is_not_free}
-use Rattle.many_stops.specs.RoomOfGroups.{mending_blocks}
-use Rattle.many_stops.specs.RoomOverStops.{HasSpareBlocks, HoldsLost}
 
 -- all that is lost lies in the first fence
 all_fenced : (newest : Option Mark) (low top : ℕ) (fence : Option Fence) → IsFirstFence newest low top fence →

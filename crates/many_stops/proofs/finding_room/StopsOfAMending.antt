@@ -1,26 +1,16 @@
 -- What a stop leaves before the device is mended, whatever failed: what was free at the opening and did not go bad, or
 -- was lost, is free or lost at the next one.
-use Rattle.std.proofs.Common.{◌≡◌, ◌≢◌, ◌⊎◌, ℕ, ◌+◌, ◌-◌, ◌*◌, ◌<◌, ◌≤◌, Bool, true, false, cond, Option, Some}
-use Rattle.std.proofs.Common.{None, if◌then◌else◌, inl, inr, ⊎_elim, refl, sym, ap, ◌∙◌, subst, arith}
-use Rattle.std.specs.List.{count_by}
-use Rattle.ufs_spec.proofs.Facts.{cases_Bool, true≢false}
-use Rattle.ufs_spec.specs.Cells.{Cell, Cells, GroupPage, Mark, MarkPage, Nothing}
-use Rattle.ufs_spec.specs.Disk.{BlockState, Bad, Closed, Erasing, Filling, Flight, Free, Programming, Reading, Spot}
-use Rattle.ufs_spec.specs.Disk.{Touches, spot_of}
-use Rattle.ufs_spec.specs.Kept.{IsFenced, IsNewestMark}
-use Rattle.ufs_spec.specs.Openings.{AreFirstBlocks, IsItOrFreeBefore, IsOpenedTranslation, IsSpare, number_of}
-use Rattle.ufs_spec.specs.Translation.{Translation, is_bad, is_free, is_mended, may_go_bad, spots}
-use Rattle.ufs_spec.specs.declared.flash.Place.{Place}
-use Rattle.power_loss.proofs.books.LayerParts.{StopLeaves}
-use Rattle.power_loss.proofs.collected_blocks.FewestLivePages.{bad_told}
-use Rattle.power_loss.proofs.jobs.StandsSecurely.{closed_is_not_free}
-use Rattle.power_loss.proofs.openings.BlocksByAge.{inside_spot}
-use Rattle.power_loss.proofs.openings.OpenedByName.{Opened}
-use Rattle.power_loss.proofs.room_to_mend.RoomInBlocks.{sum_no_less}
-use Rattle.power_loss.proofs.stops.LeftCells.{flying_above, mark_from, within}
+use Rattle.many_stops.proofs.Common.{AreFirstBlocks, Bad, BlockState, Bool, Cell, Cells, Closed, Erasing, Filling}
+use Rattle.many_stops.proofs.Common.{Flight, Free, GroupPage, HasSpareBlocks, HoldsLost, IsFenced, IsItOrFreeBefore}
+use Rattle.many_stops.proofs.Common.{IsNewestMark, IsOpenedTranslation, IsSpare, KeepsFree, Mark, MarkPage, MendsAlone}
+use Rattle.many_stops.proofs.Common.{None, Nothing, Opened, Option, Place, Programming, Reading, Some, Spot, StopLeaves}
+use Rattle.many_stops.proofs.Common.{Touches, Translation, Valid, ap, arith, bad_count, bad_told, cases_Bool}
+use Rattle.many_stops.proofs.Common.{closed_is_not_free, cond, count_by, false, free_count, if◌then◌else◌, inl, inr}
+use Rattle.many_stops.proofs.Common.{inside_spot, is_bad, is_free, is_mended, may_go_bad, mending_blocks, number_of}
+use Rattle.many_stops.proofs.Common.{refl, spot_of, spots, subst, sum_no_less, sym, true, true≢false, within, ℕ, ⊎_elim}
+use Rattle.many_stops.proofs.Common.{◌*◌, ◌+◌, ◌-◌, ◌<◌, ◌∙◌, ◌≡◌, ◌≢◌, ◌≤◌, ◌⊎◌}
+use Rattle.power_loss.proofs.stops.LeftCells.{flying_above, mark_from}
 use Rattle.power_loss.proofs.stops.LeftUnmarked.{opened_below}
-use Rattle.power_loss.specs.Invariant.{Valid}
-use Rattle.power_loss.specs.MendingRoom.{MendsAlone}
 use Rattle.many_stops.proofs.CountedBlocks.{bad_alike, is_not_bad}
 use Rattle.many_stops.proofs.finding_room.RoomForAMending.{counts_under}
 use Rattle.many_stops.proofs.finding_room.MovesSinceTheOpening.{filled_was_free, free_was_free}
@@ -28,9 +18,7 @@ use Rattle.many_stops.proofs.finding_room.SinceTheOpening.{SinceOpening, WereUnf
 use Rattle.many_stops.proofs.free_at_stops.BeforeAnyStep.{opened_again}
 use Rattle.many_stops.proofs.free_at_stops.FreeAtStops.{none_lost}
 use Rattle.many_stops.proofs.room_left.RoomStays.{bad_is_not_free}
-use Rattle.many_stops.specs.FreeOverStops.{KeepsFree}
-use Rattle.many_stops.specs.RoomOfGroups.{bad_count, free_count, mending_blocks}
-use Rattle.many_stops.specs.RoomOverStops.{HasSpareBlocks, HoldsLost, IsFreeOrLost}
+use Rattle.many_stops.specs.RoomOverStops.{IsFreeOrLost}
 
 bad_is_not_closed : {x : BlockState} → x ≡ Bad → x ≢ Closed
 bad_is_not_closed {x} e h = let no : Bad ≡ Closed = sym e ∙ h in cc

@@ -1,24 +1,16 @@
 -- What a stop leaves while lost keys are repaired: what the mending filled, and did not go bad, holds nothing that is
 -- not lost, and what was lost before lies in the fence. Where the last mark is left, though its program failed, the
 -- next life is mended at once.
-use Rattle.std.proofs.Common.{◌≡◌, ◌≢◌, ◌⊎◌, ℕ, ◌+◌, ◌-◌, ◌*◌, ◌≤◌, Bool, true, false, cond, List, Option, Some, None}
-use Rattle.std.proofs.Common.{inl, inr, ⊎_elim, refl, sym, ap, ◌∙◌, subst, arith}
-use Rattle.std.specs.List.{count_by}
-use Rattle.ufs_spec.proofs.CellKinds.{page_not_nothing}
-use Rattle.ufs_spec.specs.Cells.{Cells, Mark, MarkPage}
-use Rattle.ufs_spec.specs.Disk.{Bad, Free, Spot}
-use Rattle.ufs_spec.specs.Kept.{IsFenced, IsNewestMark, fence_in}
-use Rattle.ufs_spec.specs.Openings.{lost_from, number_of}
-use Rattle.ufs_spec.specs.Translation.{Repairing, Translation, is_bad, is_free, least_room, spots}
-use Rattle.ufs_spec.specs.declared.flash.Key.{Key}
-use Rattle.power_loss.proofs.books.LayerParts.{MendingOf}
-use Rattle.power_loss.proofs.jobs_owed.ProgramsAndErases.{free_is}
-use Rattle.power_loss.proofs.openings.OpenedPages.{free_or_not}
-use Rattle.power_loss.proofs.stops.BookImage.{newest_or_later, newest_stays}
+use Rattle.many_stops.proofs.Common.{Bad, Bool, Cells, FindsRoom, Free, HasSpareBlocks, HoldsLost, IsFenced}
+use Rattle.many_stops.proofs.Common.{IsNewestMark, Key, List, Mark, MarkPage, MendingOf, None, Option, Repairing, Some}
+use Rattle.many_stops.proofs.Common.{Spot, Translation, ap, arith, bad_count, cond, count_by, false, fence_in}
+use Rattle.many_stops.proofs.Common.{free_count, free_is, free_or_not, inl, inr, is_bad, is_free, is_marked, least_room}
+use Rattle.many_stops.proofs.Common.{lost_from, mending_blocks, newest_or_later, newest_stays, number_of}
+use Rattle.many_stops.proofs.Common.{page_not_nothing, page_of_step, refl, spots, subst, sym, true, ℕ, ⊎_elim, ◌*◌, ◌+◌}
+use Rattle.many_stops.proofs.Common.{◌-◌, ◌∙◌, ◌≡◌, ◌≢◌, ◌≤◌, ◌⊎◌}
 use Rattle.power_loss.proofs.stops.LeftCells.{opened}
-use Rattle.power_loss.specs.Losing.{is_marked}
 use Rattle.power_loss.specs.Mending.{turns_left}
-use Rattle.power_loss.specs.MendingRoom.{HasRoom, page_of_step, pages_left}
+use Rattle.power_loss.specs.MendingRoom.{HasRoom, pages_left}
 use Rattle.many_stops.proofs.CountedBlocks.{no_fewer}
 use Rattle.many_stops.proofs.finding_room.BlocksOneByOne.{Filled}
 use Rattle.many_stops.proofs.finding_room.LateMarks.{late_is_mended}
@@ -27,8 +19,7 @@ use Rattle.many_stops.proofs.finding_room.RoomForAMending.{counts_under, fewer_b
 use Rattle.many_stops.proofs.finding_room.StopsOfAMending.{UnmendedStop, first_free, first_many, free_counts, free_next}
 use Rattle.many_stops.proofs.finding_room.StopsOfAMending.{good_next, kept, kept_is, lost_is_free, more, unfilled}
 use Rattle.many_stops.proofs.finding_room.StopsOfAMending.{with_blocks}
-use Rattle.many_stops.specs.RoomOfGroups.{bad_count, free_count, mending_blocks}
-use Rattle.many_stops.specs.RoomOverStops.{FindsRoom, HasSpareBlocks, HoldsLost, IsFreeOrLost}
+use Rattle.many_stops.specs.RoomOverStops.{IsFreeOrLost}
 
 two_counted : (a : Bool) (x y : ℕ) → 1 ≤ x → 1 ≤ y → cond a 1 0 + 1 ≤ x + y
 two_counted true x y h l = omega (arith, h, l)

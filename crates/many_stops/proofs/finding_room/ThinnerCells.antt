@@ -1,21 +1,15 @@
 -- Cells of an opening that lost pages of free blocks, and no others: the same blocks are free over them, and the same
 -- numbers are lost.
-use Rattle.std.proofs.Common.{◌≡◌, ◌≢◌, ◌⊎◌, ℕ, ◌<◌, ◌≤◌, Bool, true, false, List, Option, Some, None, inl, inr, ⊎_elim}
-use Rattle.std.proofs.Common.{if◌then◌else◌, refl, sym, ap, ◌∙◌, subst, arith}
+use Rattle.many_stops.proofs.Common.{AreFirstBlocks, AreWithin, BlockState, Bool, Cell, Cells, CellsSound, Closed, Free}
+use Rattle.many_stops.proofs.Common.{GroupPage, HasStandIn, IsFree, IsItOrFreeBefore, IsKept, IsNewestMark, IsSpare}
+use Rattle.many_stops.proofs.Common.{List, Mark, MarkPage, None, Nothing, Numbers, Option, Place, Some, Spot, Tag, ap}
+use Rattle.many_stops.proofs.Common.{arith, closed_is_not_free, false, if◌then◌else◌, inl, inr, mark_not_nothing}
+use Rattle.many_stops.proofs.Common.{page_not_nothing, refl, spot_cases, spot_of, subst, sym, true, ℕ, ⊎_elim, ◌<◌, ◌∙◌}
+use Rattle.many_stops.proofs.Common.{◌≡◌, ◌≢◌, ◌≤◌, ◌⊎◌}
 use Rattle.ufs_laws.proofs.array_cells.StandsForOne.{kept_one}
 use Rattle.ufs_laws.proofs.deciding.SearchOverPlaces.{Greatest, greatest}
-use Rattle.ufs_spec.proofs.CellKinds.{mark_not_nothing, page_not_nothing}
-use Rattle.ufs_spec.proofs.Equalities.{spot_cases}
-use Rattle.ufs_spec.specs.Cells.{AreWithin, Cell, Cells, GroupPage, Mark, MarkPage, Nothing}
-use Rattle.ufs_spec.specs.Disk.{BlockState, Closed, Free, Spot, same_spot, spot_of}
-use Rattle.ufs_spec.specs.Kept.{IsKept, IsNewestMark}
-use Rattle.ufs_spec.specs.Openings.{AreFirstBlocks, HasStandIn, IsFree, IsItOrFreeBefore, IsLatestIn, IsOlder, IsSpare}
-use Rattle.ufs_spec.specs.Openings.{recorded_by}
-use Rattle.ufs_spec.specs.Sound.{CellsSound}
-use Rattle.ufs_spec.specs.declared.configs.Numbers.{Numbers}
-use Rattle.ufs_spec.specs.declared.flash.Place.{Place}
-use Rattle.ufs_spec.specs.declared.flash.Tag.{Tag}
-use Rattle.power_loss.proofs.jobs.StandsSecurely.{closed_is_not_free}
+use Rattle.ufs_spec.specs.Disk.{same_spot}
+use Rattle.ufs_spec.specs.Openings.{IsLatestIn, IsOlder, recorded_by}
 use Rattle.power_loss.proofs.spent.CellsLost.{MayGo, kept_less}
 use Rattle.power_loss.proofs.stops.LeftUnmarked.{some_or_nothing}
 

@@ -1,28 +1,20 @@
 -- Before the first step of a life a stop leaves each block as it was found: the free ones are free again, and those
 -- that were closed are closed.
-use Rattle.std.proofs.Common.{◌≡◌, ◌≢◌, ◌⊎◌, ℕ, zero, suc, ◌<◌, ◌≤◌, List, Option, Some, None, refl, sym}
-use Rattle.std.proofs.Common.{ap, ◌∙◌, subst, inl, inr, ⊎_elim, arith}
-use Rattle.ufs_spec.proofs.CellKinds.{mark_not_nothing, page_not_nothing}
-use Rattle.ufs_spec.specs.Cells.{Cell, Cells, GroupPage, Mark, MarkPage, Nothing, AreWithin}
-use Rattle.ufs_spec.specs.Disk.{BlockState, Bad, Closed, Filling, Free, Spot, spot_of}
-use Rattle.ufs_spec.specs.Kept.{IsNewestMark}
-use Rattle.ufs_spec.specs.Openings.{AreFirstBlocks, HasStandIn, IsSpare, IsFree, IsItOrFreeBefore, IsLatestIn}
-use Rattle.ufs_spec.specs.Openings.{IsLowerSpot, IsOlder, recorded_by}
-use Rattle.ufs_spec.specs.Translation.{Translation, is_bad}
-use Rattle.ufs_spec.specs.declared.flash.Place.{Place}
-use Rattle.ufs_spec.specs.declared.flash.Tag.{Tag}
-use Rattle.power_loss.proofs.books.LayerParts.{StopLeaves}
-use Rattle.power_loss.proofs.jobs.StandsSecurely.{closed_is_not_free}
-use Rattle.power_loss.proofs.jobs.StandsSecurely.{free_is_not_bad, free_is_not_filling}
-use Rattle.power_loss.proofs.openings.BlocksByAge.{IsInside, inside_spot, older_rank, rank_else, rank}
+use Rattle.many_stops.proofs.Common.{AreFirstBlocks, AreWithin, Bad, BlockState, Cell, Cells, Closed, Filling, Free}
+use Rattle.many_stops.proofs.Common.{GroupPage, HasStandIn, IsAsOpened, IsFree, IsItOrFreeBefore, IsNewPage}
+use Rattle.many_stops.proofs.Common.{IsNewestMark, IsSpare, List, Mark, MarkPage, None, Nothing, Option, Place, Some}
+use Rattle.many_stops.proofs.Common.{Spot, StopLeaves, Tag, Translation, Valid, ap, arith, closed_is_not_free}
+use Rattle.many_stops.proofs.Common.{free_is_not_filling, free_or_not, inl, inr, inside_spot, is_bad, mark_not_nothing}
+use Rattle.many_stops.proofs.Common.{page_not_nothing, refl, spot_of, subst, suc, sym, within, zero, ℕ, ⊎_elim, ◌<◌}
+use Rattle.many_stops.proofs.Common.{◌∙◌, ◌≡◌, ◌≢◌, ◌≤◌, ◌⊎◌}
+use Rattle.ufs_spec.specs.Openings.{IsLatestIn, IsLowerSpot, IsOlder, recorded_by}
+use Rattle.power_loss.proofs.jobs.StandsSecurely.{free_is_not_bad}
+use Rattle.power_loss.proofs.openings.BlocksByAge.{IsInside, older_rank, rank, rank_else}
 use Rattle.power_loss.proofs.openings.FirstBlocks.{never_filling}
-use Rattle.power_loss.proofs.openings.OpenedPages.{free_or_not}
-use Rattle.power_loss.proofs.stops.LeftCells.{within}
 use Rattle.power_loss.proofs.stops.LeftIsSound.{sound}
-use Rattle.power_loss.specs.Invariant.{Valid}
 use Rattle.power_loss.proofs.stops.LeftUnmarked.{newest_one}
 use Rattle.many_stops.proofs.free_at_stops.FreeAtStops.{NextOpens, left_at, spare_still}
-use Rattle.many_stops.specs.FreeOverStops.{IsAsOpened, IsNewPage, IsThinned}
+use Rattle.many_stops.specs.FreeOverStops.{IsThinned}
 
 -- of this life no step was ordered yet
 abbrev pub AsOpened : Translation → Type 0

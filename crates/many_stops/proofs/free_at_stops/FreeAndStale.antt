@@ -1,23 +1,15 @@
 -- What is free and to be erased, and what is so before any step: no block becomes so unless a job makes it.
-use Rattle.std.proofs.Common.{◌≡◌, ◌≢◌, ◌⊎◌, ℕ, ◌<◌}
-use Rattle.std.proofs.Common.{Option, Some, None, refl, sym, ap, ◌∙◌, subst, inl, inr, ⊎_elim}
-use Rattle.ufs_spec.proofs.Equalities.{spot_cases}
-use Rattle.ufs_spec.proofs.Facts.{none-some}
-use Rattle.ufs_spec.proofs.Updates.{at_die_is, at_spot_is}
-use Rattle.ufs_spec.specs.Cells.{Cell, Cells, Nothing}
-use Rattle.ufs_spec.specs.Disk.{Bad, BlockState, Filling, Flight}
-use Rattle.ufs_spec.specs.Disk.{Free, Programming, Spot, Vacancy}
-use Rattle.ufs_spec.specs.Disk.{at_die, at_spot, spot_of}
-use Rattle.ufs_spec.specs.Translation.{Step, Translation}
-use Rattle.ufs_spec.specs.Translation.{taken}
-use Rattle.ufs_spec.specs.declared.flash.Place.{Place}
+use Rattle.many_stops.proofs.Common.{AreNoneStale, Bad, BlockState, Cell, Cells, Filling, Flight, Free, IsAsOpened}
+use Rattle.many_stops.proofs.Common.{IsNewPage, KeepsFree, None, Nothing, Option, Place, Programming, Some, Spot, Step}
+use Rattle.many_stops.proofs.Common.{Translation, ap, at_die, at_die_is, at_spot, at_spot_is, free_is_not_filling, inl}
+use Rattle.many_stops.proofs.Common.{inr, none-some, refl, spot_cases, spot_of, subst, sym, taken, ℕ, ⊎_elim, ◌<◌, ◌∙◌}
+use Rattle.many_stops.proofs.Common.{◌≡◌, ◌≢◌, ◌⊎◌}
+use Rattle.ufs_spec.specs.Disk.{Vacancy}
 use Rattle.power_loss.proofs.jobs.NoneStale.{WereStale}
-use Rattle.power_loss.proofs.jobs.StandsSecurely.{at_spot_here}
-use Rattle.power_loss.proofs.jobs.StandsSecurely.{free_is_not_filling, free_is_not_bad}
-use Rattle.power_loss.specs.Invariant.{AreNoneStale}
+use Rattle.power_loss.proofs.jobs.StandsSecurely.{at_spot_here, free_is_not_bad}
 use Rattle.many_stops.proofs.free_at_stops.BeforeAnyStep.{AsOpened, was_unfilled}
 use Rattle.many_stops.proofs.free_at_stops.OneStaleBlock.{OneStale}
-use Rattle.many_stops.specs.FreeOverStops.{IsAsOpened, IsNewPage, IsThinned, KeepsFree}
+use Rattle.many_stops.specs.FreeOverStops.{IsThinned}
 
 abbrev pub NoneStale : Translation → Type 0
 NoneStale t = AreNoneStale t.numbers t.disk.blocks t.disk.vacancies

@@ -1,18 +1,11 @@
 -- What a stop leaves of a free block, and which blocks are free at the next opening whatever the others are: those in
 -- which nothing opens.
-use Rattle.std.proofs.Common.{◌≡◌, ◌≢◌, ◌⊎◌, ℕ, ◌<◌, ◌≤◌, List, Option, Some, None, refl, sym, ap, ◌∙◌, subst}
-use Rattle.std.proofs.Common.{inl, inr, ⊎_elim}
-use Rattle.ufs_spec.specs.Cells.{Cell, Cells, GroupPage, Mark, MarkPage, Nothing}
-use Rattle.ufs_spec.specs.Disk.{Erasing, Flight, Free, Programming, Reading, Ready, Spot, Stale, Touches, Untouched}
-use Rattle.ufs_spec.specs.Disk.{Vacancy, spot_of}
-use Rattle.ufs_spec.specs.Openings.{HasStandIn, IsOpenedTranslation, IsSpare}
-use Rattle.ufs_spec.specs.Translation.{Translation, is_free, count_blocks, is_bad}
-use Rattle.ufs_spec.specs.declared.flash.Place.{Place}
-use Rattle.ufs_spec.specs.declared.flash.Tag.{Tag}
-use Rattle.power_loss.proofs.books.LayerParts.{StopLeaves}
-use Rattle.power_loss.proofs.jobs.StandsSecurely.{free_is_not_filling}
-use Rattle.power_loss.specs.Invariant.{AreNoneStale, Valid}
-use Rattle.many_stops.specs.RoomOfGroups.{free_count}
+use Rattle.many_stops.proofs.Common.{AreNoneStale, Cell, Cells, Erasing, Flight, Free, GroupPage, HasStandIn}
+use Rattle.many_stops.proofs.Common.{IsOpenedTranslation, IsSpare, List, Mark, MarkPage, None, Nothing, Option, Place}
+use Rattle.many_stops.proofs.Common.{Programming, Reading, Some, Spot, StopLeaves, Tag, Touches, Translation, Valid, ap}
+use Rattle.many_stops.proofs.Common.{count_blocks, free_count, free_is_not_filling, inl, inr, is_bad, is_free, refl}
+use Rattle.many_stops.proofs.Common.{spot_of, subst, sym, ℕ, ⊎_elim, ◌<◌, ◌∙◌, ◌≡◌, ◌≢◌, ◌≤◌, ◌⊎◌}
+use Rattle.ufs_spec.specs.Disk.{Ready, Stale, Untouched, Vacancy}
 
 -- the next life begins over these cells, with the bad blocks of this one
 abbrev pub NextOpens : Translation → Cells → Translation → Type 0

@@ -1,42 +1,29 @@
 -- The begin and the end of a job keep it so that a stop costs no free block, unless it is the failed end of an erase of
 -- pages that may go while another free block has such pages.
-use Rattle.std.proofs.Common.{◌≡◌, ◌≢◌, ◌⊎◌, ℕ, ◌<◌, Bool, true, false, if◌then◌else◌, List}
-use Rattle.std.proofs.Common.{Option, Some, None, refl, sym, ap, ◌∙◌, subst, inl, inr, ⊎_elim, arith}
-use Rattle.ufs_spec.proofs.CellKinds.{page_not_nothing}
-use Rattle.ufs_spec.proofs.Facts.{none-some, false≢true}
-use Rattle.ufs_spec.proofs.Updates.{at_die_is, at_place_cases, at_spot_is}
-use Rattle.ufs_spec.specs.Cells.{Cell, Cells, GroupPage, Mark, MarkPage, Nothing}
-use Rattle.ufs_spec.specs.Disk.{Bad, BlockState, CellCrash, Erasing, Filling, Flight}
-use Rattle.ufs_spec.specs.Disk.{Free, Programming, Reading, Ready, Spot, Stale}
-use Rattle.ufs_spec.specs.Disk.{at_die, at_spot, spot_of, flight_alone, erased, programmed, state_after}
-use Rattle.ufs_spec.specs.Disk.{program_failed, erase_failed}
-use Rattle.ufs_spec.specs.Ledger.{Entry, accepted_groups, before_accepted, entry_of}
-use Rattle.ufs_spec.specs.Moves.{EndJob, Ending}
-use Rattle.ufs_spec.specs.Moves.{MayEnd, ReadRight, ReadWrong, WentWell}
-use Rattle.ufs_spec.specs.Moves.{WentWrong, die_idle, end_flight, freed, mark_again}
-use Rattle.ufs_spec.specs.Moves.{read_right, read_wrong, step_after, step_there}
-use Rattle.ufs_spec.specs.Moves.{mark_written, mending_after, page_written}
-use Rattle.ufs_spec.specs.Translation.{MayTake, Plan, Translation, cell_of_entry}
-use Rattle.ufs_spec.specs.Translation.{mark_ordered, name_of, taken}
-use Rattle.ufs_spec.specs.Translation.{waiting_name, waiting_step, has_mark_number}
-use Rattle.ufs_spec.specs.declared.flash.Place.{Place}
-use Rattle.ufs_spec.specs.declared.flash.Tag.{Tag}
-use Rattle.ufs_spec.specs.Moves.{freed_state}
-use Rattle.ufs_spec.specs.declared.layer.Name.{Name}
-use Rattle.ufs_spec.specs.declared.layer.Reader.{Reader}
-use Rattle.ufs_spec.specs.declared.layer.Reader.TheVariants.{ForNobody, ForRest, ForStep, ForTask}
-use Rattle.power_loss.proofs.jobs.StandsSecurely.{at_spot_other, behind_is_not_free, erase_left}
-use Rattle.power_loss.proofs.jobs.StandsSecurely.{erased_here, erased_other}
-use Rattle.power_loss.proofs.jobs.StandsSecurely.{program_left, ready_is_not_stale}
-use Rattle.power_loss.proofs.jobs_owed.ProgramsAndErases.{OpensReady, name_owed, program_owed}
+use Rattle.many_stops.proofs.Common.{AreNoneStale, Bad, BlockState, Bool, Cell, CellCrash, Cells, EndJob, Ending, Entry}
+use Rattle.many_stops.proofs.Common.{Erasing, FailsStale, Filling, Flight, ForNobody, ForRest, ForStep, ForTask, Free}
+use Rattle.many_stops.proofs.Common.{GroupPage, IsAsOpened, IsNewPage, KeepsFree, List, Mark, MarkPage, MayEnd, MayTake}
+use Rattle.many_stops.proofs.Common.{Name, None, Nothing, OpensReady, Option, Place, Plan, Programming, ReadRight}
+use Rattle.many_stops.proofs.Common.{ReadWrong, Reader, Reading, Some, Spot, Tag, Translation, Valid, WentWell}
+use Rattle.many_stops.proofs.Common.{WentWrong, ap, arith, at_die, at_die_is, at_place_cases, at_spot, at_spot_is}
+use Rattle.many_stops.proofs.Common.{before_accepted, end_flight, erase_failed, false, false≢true, flight_alone, freed}
+use Rattle.many_stops.proofs.Common.{freed_state, has_mark_number, if◌then◌else◌, inl, inr, mark_again, mark_ordered}
+use Rattle.many_stops.proofs.Common.{mark_written, mending_after, name_of, none-some, page_not_nothing, page_written}
+use Rattle.many_stops.proofs.Common.{program_failed, program_owed, programmed, refl, spot_of, state_after, step_after}
+use Rattle.many_stops.proofs.Common.{step_there, subst, sym, taken, true, ℕ, ⊎_elim, ◌<◌, ◌∙◌, ◌≡◌, ◌≢◌, ◌⊎◌}
+use Rattle.ufs_spec.specs.Disk.{Ready, Stale, erased}
+use Rattle.ufs_spec.specs.Ledger.{accepted_groups, entry_of}
+use Rattle.ufs_spec.specs.Moves.{die_idle, read_right, read_wrong}
+use Rattle.ufs_spec.specs.Translation.{cell_of_entry, waiting_name, waiting_step}
+use Rattle.power_loss.proofs.jobs.StandsSecurely.{at_spot_other, behind_is_not_free, erase_left, erased_here}
+use Rattle.power_loss.proofs.jobs.StandsSecurely.{erased_other, program_left, ready_is_not_stale}
+use Rattle.power_loss.proofs.jobs_owed.ProgramsAndErases.{name_owed}
 use Rattle.power_loss.proofs.jobs_owed.WhatWaits.{name_cell_waits, name_of_group}
-use Rattle.power_loss.specs.Invariant.{AreNoneStale, Valid}
 use Rattle.many_stops.proofs.free_at_stops.BeforeAnyStep.{AsOpened, was_free, was_unfilled}
 use Rattle.many_stops.proofs.free_at_stops.FreeAtStops.{stale_or_not}
-use Rattle.many_stops.specs.FreeOverStops.{IsStaleBlock, FailsStale, IsAsOpened, IsNewPage, KeepsFree}
-use Rattle.many_stops.proofs.free_at_stops.FreeAndStale.{NoneStale, calmly, put_old}
-use Rattle.many_stops.proofs.free_at_stops.FreeAndStale.{filling_is_not_free, bad_is_not_free, fewer, idle, changed}
-use Rattle.many_stops.proofs.free_at_stops.FreeAndStale.{IsUnopened, unopened, put_thinned}
+use Rattle.many_stops.specs.FreeOverStops.{IsStaleBlock}
+use Rattle.many_stops.proofs.free_at_stops.FreeAndStale.{IsUnopened, NoneStale, bad_is_not_free, calmly, changed, fewer}
+use Rattle.many_stops.proofs.free_at_stops.FreeAndStale.{filling_is_not_free, idle, put_old, put_thinned, unopened}
 
 -- Jobs that are given
 

@@ -1,44 +1,26 @@
 -- A life begins in a state in which a stop costs no free block, and each move keeps it so, unless it is the failed end
 -- of an erase of pages that may go while another free block has such pages.
-use Rattle.std.proofs.Common.{◌≡◌, ◌≤◌, Bool, true, false, List, [], ◌∷◌}
-use Rattle.std.proofs.Common.{is_some, Option, Some, None, refl, sym, ap, ◌∙◌, subst, inl, inr, arith, ◌==◌}
-use Rattle.ufs_spec.proofs.Facts.{none-some, true≢false}
-use Rattle.ufs_spec.specs.Cells.{Cell, Cells, AreWithin}
-use Rattle.ufs_spec.specs.Disk.{Erasing, Flight}
-use Rattle.ufs_spec.specs.Disk.{Programming, Reading, Spot}
-use Rattle.ufs_spec.specs.Moves.{EndJob, GiveJob, IsAllowedMove, LetGo}
-use Rattle.ufs_spec.specs.Moves.{LetGoAll, Move, TakeStep}
-use Rattle.ufs_spec.specs.Moves.{WentWrong, is_for, is_for_task, is_pin_of}
-use Rattle.ufs_spec.specs.Moves.{moved, without_reader, let_go}
-use Rattle.ufs_spec.specs.Openings.{IsOpenedTranslation}
-use Rattle.ufs_spec.specs.Sound.{CellsSound}
-use Rattle.ufs_spec.specs.Translation.{Order, Pin, Translation}
-use Rattle.ufs_spec.specs.Translation.{due_order, is_free, is_step_due, stepped, turned}
-use Rattle.ufs_spec.specs.Translation.{count_blocks, is_bad}
-use Rattle.ufs_spec.specs.declared.configs.Numbers.{Numbers}
-use Rattle.ufs_spec.specs.declared.flash.Place.{Place}
-use Rattle.ufs_spec.specs.declared.layer.Reader.{Reader}
-use Rattle.ufs_laws.proofs.walk.LayerEffects.{turn_only}
-use Rattle.power_loss.proofs.books.LayerParts.{StopLeaves}
+use Rattle.many_stops.proofs.Common.{AreAllowedMoves, AreWithin, Bool, Cell, Cells, CellsSound, EndJob, Erasing}
+use Rattle.many_stops.proofs.Common.{FailsStale, Flight, GiveJob, IsAllowedMove, IsOpenedTranslation, KeepsFree, LetGo}
+use Rattle.many_stops.proofs.Common.{LetGoAll, List, Move, None, Numbers, Option, Order, Place, Programming, Reader}
+use Rattle.many_stops.proofs.Common.{Reading, Some, Spot, StopLeaves, TakeStep, Translation, Valid, WentWrong, []}
+use Rattle.many_stops.proofs.Common.{all_keep, ap, arith, cond, count_blocks, count_by, fails_job, false, inl, inr}
+use Rattle.many_stops.proofs.Common.{is_bad, is_for, is_for_task, is_free, moved, moved_by, none-some, refl, subst}
+use Rattle.many_stops.proofs.Common.{sum_by-cons, sym, true, true≢false, turn_only, turned, ◌+◌, ◌==◌, ◌∙◌, ◌∷◌, ◌≡◌}
+use Rattle.many_stops.proofs.Common.{◌≤◌}
+use Rattle.std.proofs.Common.{is_some}
+use Rattle.ufs_spec.specs.Moves.{is_pin_of, let_go, without_reader}
+use Rattle.ufs_spec.specs.Translation.{Pin, due_order, is_step_due, stepped}
 use Rattle.power_loss.proofs.jobs.NoneStale.{none_at_order}
 use Rattle.power_loss.proofs.moves.MovesKeepCellsFitting.{move_stays}
-use Rattle.power_loss.proofs.moves.MovesKeepValid.{all_keep}
 use Rattle.power_loss.proofs.openings.OpenedIsValid.{opening_valid}
 use Rattle.power_loss.specs.Book.{CellsRight}
-use Rattle.power_loss.specs.Invariant.{Valid}
-use Rattle.power_loss.specs.Mending.{AreAllowedMoves, moved_by}
 use Rattle.many_stops.proofs.free_at_stops.BeforeAnyStep.{opened_again}
 use Rattle.many_stops.proofs.CountedBlocks.{no_fewer}
 use Rattle.many_stops.proofs.free_at_stops.FreeAtStops.{NextOpens, counted_alike, none_lost}
 use Rattle.many_stops.proofs.free_at_stops.OneStaleBlock.{one_costs_none}
-use Rattle.std.proofs.Common.{cond, ◌+◌}
-use Rattle.std.proofs.lemmas.List.Sums.{sum_by-cons}
-use Rattle.std.specs.List.{count_by}
-use Rattle.power_loss.specs.MendingRoom.{fails_job}
-use Rattle.many_stops.specs.FreeOverStops.{FailsStale, KeepsFree}
 use Rattle.many_stops.specs.FreeOverStops.{NoneFailsStale}
-use Rattle.many_stops.proofs.free_at_stops.FreeAndStale.{calmly}
-use Rattle.many_stops.proofs.free_at_stops.FreeAndStale.{fewer}
+use Rattle.many_stops.proofs.free_at_stops.FreeAndStale.{calmly, fewer}
 use Rattle.many_stops.proofs.free_at_stops.JobsKeepFree.{gives, ends}
 
 -- Tasks that let go

@@ -1,29 +1,17 @@
 -- Where one free block alone has pages that may go, a stop costs none: if one of these pages has to be kept at the next
 -- opening, another block is free then that was not.
-use Rattle.std.proofs.Common.{◌≡◌, ◌≢◌, ◌⊎◌, ℕ, ◌≤◌, List, Option, Some, None, sym, ap, ◌∙◌, subst}
-use Rattle.std.proofs.Common.{inl, inr, ⊎_elim, arith}
-use Rattle.ufs_spec.proofs.CellKinds.{page_not_nothing}
-use Rattle.ufs_spec.proofs.Equalities.{spot_cases}
-use Rattle.ufs_spec.specs.Cells.{Cells, GroupPage, Mark, Nothing, Cell, MarkPage}
-use Rattle.ufs_spec.specs.Disk.{Free, Spot, spot_of}
-use Rattle.ufs_spec.specs.Kept.{IsNewestMark}
-use Rattle.ufs_spec.specs.Openings.{HasStandIn, IsSpare, IsFree, IsItOrFreeBefore}
-use Rattle.ufs_spec.specs.Translation.{Mended, Translation, is_bad}
-use Rattle.ufs_spec.specs.declared.flash.Place.{Place}
-use Rattle.ufs_spec.specs.declared.flash.Tag.{Tag}
-use Rattle.power_loss.proofs.books.LayerParts.{MendingOf, StopLeaves}
-use Rattle.power_loss.proofs.openings.BlocksByAge.{inside_spot}
-use Rattle.power_loss.proofs.openings.OpenedPages.{free_or_not}
+use Rattle.many_stops.proofs.Common.{Cell, Cells, Free, GroupPage, HasStandIn, IsFree, IsItOrFreeBefore, IsNewestMark}
+use Rattle.many_stops.proofs.Common.{IsSpare, IsSpot, List, Mark, MarkPage, Mended, MendingOf, None, Nothing, Option}
+use Rattle.many_stops.proofs.Common.{Place, Some, Spot, StopLeaves, Tag, Translation, Valid, ap, arith, free_count}
+use Rattle.many_stops.proofs.Common.{free_or_not, inl, inr, inside_spot, is_bad, newest_or_later, newest_stays}
+use Rattle.many_stops.proofs.Common.{page_not_nothing, spot_cases, spot_of, subst, sym, within, ℕ, ⊎_elim, ◌∙◌, ◌≡◌}
+use Rattle.many_stops.proofs.Common.{◌≢◌, ◌≤◌, ◌⊎◌}
 use Rattle.power_loss.proofs.spent.ErasedIsSpent.{fenced_none}
 use Rattle.power_loss.proofs.spent.FreeIsSpare.{free_is_spare}
-use Rattle.power_loss.proofs.stops.BookImage.{newest_or_later, newest_stays}
-use Rattle.power_loss.proofs.stops.LeftCells.{blank_there, within}
-use Rattle.power_loss.specs.Exchange.{IsSpot}
-use Rattle.power_loss.specs.Invariant.{Valid}
+use Rattle.power_loss.proofs.stops.LeftCells.{blank_there}
 use Rattle.many_stops.proofs.CountedBlocks.{no_fewer, one_for_another}
 use Rattle.many_stops.proofs.free_at_stops.FreeAtStops.{NextOpens, found_again, left_at, left_in_free}
 use Rattle.many_stops.specs.FreeOverStops.{IsOneStale}
-use Rattle.many_stops.specs.RoomOfGroups.{free_count}
 
 -- one free block alone is to be erased for what is in it
 abbrev pub OneStale : Translation → Type 0

@@ -1,31 +1,22 @@
 -- A program or an erase that failed leaves the room while no more blocks are bad than are spare: the block that went
 -- bad is one of those that are kept for it.
-use Rattle.std.proofs.Common.{◌≡◌, ◌≢◌, ◌⊎◌, ℕ, ◌+◌, ◌-◌, ◌*◌, ◌<◌, ◌≤◌, ◌==◌, Bool, true, false, Option, Some}
-use Rattle.std.proofs.Common.{if◌then◌else◌, List, None, refl, sym, ap, ◌∙◌, subst, inl, inr, ⊎_elim, arith}
+use Rattle.many_stops.proofs.Common.{Bad, BlockState, Bool, Cell, CellCrash, Cells, Closed, CopyStep, Erasing, Filling}
+use Rattle.many_stops.proofs.Common.{Flight, Free, GroupPage, HasHandedOut, HasOwnRoom, IsHandedOut, IsSpot}
+use Rattle.many_stops.proofs.Common.{LeavesOwnRoom, LeavesRoom, List, Mark, MarkPage, MarkStep, Name, None, Numbers}
+use Rattle.many_stops.proofs.Common.{Option, Place, Plan, Programming, Some, Spot, Step, Tag, Touches, Translation}
+use Rattle.many_stops.proofs.Common.{Valid, ap, arith, at_die, at_spot, at_spot_cases, bad_count, bad_told}
+use Rattle.many_stops.proofs.Common.{before_accepted, closed_is_not_free, count_blocks, ended_fewer, erase_failed}
+use Rattle.many_stops.proofs.Common.{false, filling_is_not_bad, filling_room, flight_alone, free_count}
+use Rattle.many_stops.proofs.Common.{free_is_not_filling, has_mark_number, if◌then◌else◌, inl, inr, is_bad, is_mended}
+use Rattle.many_stops.proofs.Common.{is_plan_of_bad, kept_room, mark_ordered, mending_blocks, none-some, page_of_group}
+use Rattle.many_stops.proofs.Common.{pages_of_plan, program_failed, programs_name, refl, room_on_dies, same_Some}
+use Rattle.many_stops.proofs.Common.{spot_of, subst, sym, true, ℕ, ⊎_elim, ◌*◌, ◌+◌, ◌-◌, ◌<◌, ◌==◌, ◌∙◌, ◌≡◌, ◌≢◌, ◌≤◌}
+use Rattle.many_stops.proofs.Common.{◌⊎◌}
 use Rattle.ufs_laws.proofs.deciding.SearchOverPlaces.{alike, both, is_below}
-use Rattle.ufs_spec.proofs.Facts.{none-some, same_Some}
-use Rattle.ufs_spec.proofs.Updates.{at_spot_cases}
-use Rattle.ufs_spec.specs.Cells.{Cell, Cells, GroupPage, Mark, MarkPage}
-use Rattle.ufs_spec.specs.Disk.{BlockState, Bad, CellCrash, Closed, Erasing, Filling, Flight, Free, Programming, Spot}
-use Rattle.ufs_spec.specs.Disk.{Touches, at_die, at_spot, erase_failed, flight_alone, program_failed, spot_of}
-use Rattle.ufs_spec.specs.Ledger.{before_accepted}
 use Rattle.ufs_spec.specs.Moves.{cell_failed}
-use Rattle.ufs_spec.specs.Translation.{CopyStep, MarkStep, Plan, Step, Translation, count_blocks, has_mark_number}
-use Rattle.ufs_spec.specs.Translation.{is_bad, is_mended, is_plan_of_bad, mark_ordered}
-use Rattle.ufs_spec.specs.declared.configs.Numbers.{Numbers}
-use Rattle.ufs_spec.specs.declared.flash.Place.{Place}
-use Rattle.ufs_spec.specs.declared.flash.Tag.{Tag}
-use Rattle.ufs_spec.specs.declared.layer.Name.{Name}
-use Rattle.power_loss.specs.Exchange.{IsSpot}
-use Rattle.power_loss.specs.Invariant.{Valid}
-use Rattle.power_loss.proofs.collected_blocks.FewestLivePages.{bad_told}
-use Rattle.power_loss.proofs.jobs.StandsSecurely.{closed_is_not_filling, closed_is_not_free, filling_is_not_bad}
-use Rattle.power_loss.proofs.jobs.StandsSecurely.{free_is_not_filling}
-use Rattle.power_loss.proofs.room_to_mend.AloneKept.{ended_fewer}
+use Rattle.power_loss.proofs.jobs.StandsSecurely.{closed_is_not_filling}
 use Rattle.power_loss.proofs.stops.LeftCells.{page_from}
-use Rattle.many_stops.specs.RoomOfGroups.{HasHandedOut, HasOwnRoom, IsHandedOut, LeavesOwnRoom, LeavesRoom, bad_count}
-use Rattle.many_stops.specs.RoomOfGroups.{filling_room, free_count, kept_room, mending_blocks, page_of_group}
-use Rattle.many_stops.specs.RoomOfGroups.{pages_of_copy, pages_of_plan, programs_name, room_on_dies}
+use Rattle.many_stops.specs.RoomOfGroups.{pages_of_copy}
 use Rattle.many_stops.proofs.CountedBlocks.{no_fewer, no_fewer_bad, none_fewer, one_bad_more, one_fewer}
 use Rattle.many_stops.proofs.room_left.RoomInOpenBlocks.{block_less, fewer_pages, groups_most, rooms_no_less, same_room}
 use Rattle.many_stops.proofs.room_left.RoomStays.{bad_is_not_free, bad_room_stays, flies_fewer, mark_is_no_copy}

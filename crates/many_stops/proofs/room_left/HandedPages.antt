@@ -1,28 +1,27 @@
 -- Whether a life handed out a page of its host can be told: its accepted groups have only so many pages, and the dies
 -- only so many places.
-use Rattle.std.proofs.Common.{◌≡◌, ◌⊎◌, ℕ, zero, suc, ◌+◌, ◌-◌, ◌<◌, ◌≤◌, ◌||◌, Bool, true, false, List, [], ◌∷◌, length}
-use Rattle.std.proofs.Common.{Option, Some, None, is_some, refl, sym, ap, ◌∙◌, subst, inl, inr, ⊎_elim, arith}
+use Rattle.many_stops.proofs.Common.{Bool, Cell, Cells, Entry, Flight, Flights, GroupPage, HasHandedOut, IsIn, List}
+use Rattle.many_stops.proofs.Common.{MarkPage, Name, None, Nothing, Option, Place, Programming, Some, Standing}
+use Rattle.many_stops.proofs.Common.{Translation, Valid, [], ap, arith, at_most, before_accepted, below, book, false}
+use Rattle.many_stops.proofs.Common.{false≢true, inl, inr, length, name_of, name_told, none-some, refl, same_Some}
+use Rattle.many_stops.proofs.Common.{subst, suc, sym, true, zero, ℕ, ⊎_elim, ◌+◌, ◌-◌, ◌<◌, ◌∙◌, ◌∷◌, ◌≡◌, ◌≤◌, ◌⊎◌}
+use Rattle.std.proofs.Common.{is_some, ◌||◌}
 use Rattle.std.specs.Prelude.{slice_get}
 use Rattle.std.specs.List.{list_any}
 use Rattle.std.proofs.lemmas.Option.{slice_get_within}
-use Rattle.ufs_spec.proofs.Equalities.{name_self, name_told}
-use Rattle.ufs_spec.proofs.Facts.{at_most, false≢true, none-some, or_cases, or_left, or_right, same_Some}
+use Rattle.ufs_spec.proofs.Equalities.{name_self}
+use Rattle.ufs_spec.proofs.Facts.{or_cases, or_left, or_right}
 use Rattle.ufs_laws.proofs.deciding.SearchOverPlaces.{Greatest, greatest}
-use Rattle.ufs_spec.specs.Cells.{Cell, Cells, GroupPage, MarkPage, Nothing}
-use Rattle.ufs_spec.specs.Disk.{Flight, Programming}
-use Rattle.ufs_spec.specs.Keys.{Group, below}
-use Rattle.ufs_spec.specs.Ledger.{Entry, accepted_groups, before_accepted, is_standing}
-use Rattle.ufs_spec.specs.Translation.{Translation, flies_name, name_of, names_after, names_of, some_flight}
-use Rattle.ufs_spec.specs.declared.flash.Place.{Place}
-use Rattle.ufs_spec.specs.declared.layer.Name.{Name}
-use Rattle.power_loss.specs.Book.{IsPageAt, book}
-use Rattle.power_loss.specs.Invariant.{Flights, Standing, Valid}
+use Rattle.ufs_spec.specs.Keys.{Group}
+use Rattle.ufs_spec.specs.Ledger.{accepted_groups, is_standing}
+use Rattle.ufs_spec.specs.Translation.{flies_name, names_after, names_of, some_flight}
+use Rattle.power_loss.specs.Book.{IsPageAt}
 use Rattle.power_loss.proofs.books.FrontierClimbs.{get_drop}
 use Rattle.power_loss.proofs.books.PagesByName.{page_new}
 use Rattle.power_loss.proofs.collected_blocks.FewestLivePages.{any_in, in_any}
 use Rattle.power_loss.proofs.jobs_owed.WhatWaits.{name_of_group}
-use Rattle.power_loss.proofs.ordered_lists.ElementsAndOrders.{IsIn, in_below, in_left, in_map, in_right}
-use Rattle.many_stops.specs.RoomOfGroups.{FliesBehind, HasHandedOut, ShowsBehind, StandsBehind}
+use Rattle.power_loss.proofs.ordered_lists.ElementsAndOrders.{in_below, in_left, in_map, in_right}
+use Rattle.many_stops.specs.RoomOfGroups.{FliesBehind, ShowsBehind, StandsBehind}
 use Rattle.many_stops.proofs.room_left.RoomStays.{home_of}
 
 -- Names of accepted groups

@@ -1,26 +1,20 @@
 -- A mended life that handed out no page of its host shows no number above its frontier. So a stop loses nothing of it,
 -- and leaves a mark without a fence: the next life is mended from its start.
-use Rattle.std.proofs.Common.{◌≡◌, ℕ, suc, ◌<◌, ◌≤◌, Bool, true, List, Option, Some, None, refl, sym, ap, ◌∙◌}
-use Rattle.std.proofs.Common.{subst, inl, inr, ⊎_elim, arith}
-use Rattle.ufs_spec.proofs.Facts.{at_most, false≢true, none-some}
-use Rattle.ufs_spec.specs.Cells.{Cells, GroupPage, Mark}
-use Rattle.ufs_spec.specs.Disk.{Spot}
-use Rattle.ufs_spec.specs.Kept.{IsKept, IsNewestMark, fence_in, recorded_in}
-use Rattle.ufs_spec.specs.Ledger.{before_accepted}
-use Rattle.ufs_spec.specs.Openings.{HasNumbers, IsAtMost, IsMendingAt, IsOpenedTranslation, MayBeMended}
-use Rattle.ufs_spec.specs.Openings.{lost_from}
-use Rattle.ufs_spec.specs.Translation.{Mended, Mending, Repairing, Translation, Unmarked, is_mended}
-use Rattle.ufs_spec.specs.declared.configs.Numbers.{Numbers}
-use Rattle.ufs_spec.specs.declared.flash.Place.{Place}
-use Rattle.ufs_spec.specs.declared.flash.Tag.{Tag}
-use Rattle.power_loss.specs.Book.{IsPlainMark, book}
+use Rattle.many_stops.proofs.Common.{Bool, Cells, GroupPage, HasHandedOut, IsKept, IsNewestMark, IsOpenedTranslation}
+use Rattle.many_stops.proofs.Common.{List, Mark, Mended, Mending, MendingOf, None, Numbers, Option, Place, Repairing}
+use Rattle.many_stops.proofs.Common.{Some, Spot, StopLeaves, Tag, Translation, Unmarked, Valid, ap, arith, at_most}
+use Rattle.many_stops.proofs.Common.{before_accepted, book, false≢true, fence_in, inl, inr, is_mended, lost_from}
+use Rattle.many_stops.proofs.Common.{newest_or_later, newest_stays, none-some, refl, subst, suc, sym, true, ℕ, ⊎_elim}
+use Rattle.many_stops.proofs.Common.{◌<◌, ◌∙◌, ◌≡◌, ◌≤◌}
+use Rattle.ufs_spec.specs.Kept.{recorded_in}
+use Rattle.ufs_spec.specs.Openings.{HasNumbers, IsAtMost, IsMendingAt, MayBeMended}
+use Rattle.power_loss.specs.Book.{IsPlainMark}
 use Rattle.power_loss.specs.FewRepairs.{HasFewRepairs}
-use Rattle.power_loss.specs.Invariant.{Valid}
-use Rattle.power_loss.proofs.books.LayerParts.{MarksOf, MendingOf, StopLeaves}
-use Rattle.power_loss.proofs.stops.BookImage.{Image, finished_parts, image, newest_or_later, newest_stays}
+use Rattle.power_loss.proofs.books.LayerParts.{MarksOf}
+use Rattle.power_loss.proofs.stops.BookImage.{Image, finished_parts, image}
 use Rattle.power_loss.proofs.stops.ImagePages.{kept_covers}
 use Rattle.power_loss.proofs.stops.LeftCells.{page_from}
-use Rattle.many_stops.specs.RoomOfGroups.{HasHandedOut, HasNothingToMend}
+use Rattle.many_stops.specs.RoomOfGroups.{HasNothingToMend}
 
 module _ {t : Translation} {c : Cells} (v : Valid t) (none : HasHandedOut t → ⊥) (crash : StopLeaves t c) where
   -- Numbers that are shown

@@ -1,20 +1,13 @@
 -- A mark that was programmed leaves the room: that of a plan frees its block.
-use Rattle.std.proofs.Common.{◌≡◌, ◌≢◌, ◌⊎◌, ℕ, ◌+◌, ◌≤◌, Option, Some, None, refl}
-use Rattle.std.proofs.Common.{sym, ap, ◌∙◌, inl, inr, ⊎_elim, arith}
-use Rattle.ufs_spec.proofs.Facts.{false≢true, none-some}
-use Rattle.ufs_spec.proofs.Updates.{at_place_cases, at_spot_cases}
-use Rattle.ufs_spec.specs.Cells.{Cells, GroupPage, Mark, MarkPage}
-use Rattle.ufs_spec.specs.Disk.{BlockState, Bad, Closed, Filling, Free, Programming, Spot, at_die, at_place, at_spot}
-use Rattle.ufs_spec.specs.Disk.{programmed, spot_of, state_after}
-use Rattle.ufs_spec.specs.Ledger.{before_accepted}
-use Rattle.ufs_spec.specs.Moves.{freed, freed_state, mark_written, mending_after}
-use Rattle.ufs_spec.specs.Translation.{count_blocks, Plan, Translation, is_bad, is_free, is_mended, is_plan_of_bad}
-use Rattle.ufs_spec.specs.declared.flash.Place.{Place}
-use Rattle.power_loss.specs.Invariant.{Valid}
-use Rattle.power_loss.proofs.jobs.StandsSecurely.{closed_is_not_free, filling_is_not_bad, free_is_not_filling}
-use Rattle.power_loss.proofs.room_to_mend.AloneKept.{ended_fewer}
-use Rattle.many_stops.specs.RoomOfGroups.{HasHandedOut, IsHandedOut, IsOneShort, LeavesOwnRoom, LeavesRoom, free_count}
-use Rattle.many_stops.specs.RoomOfGroups.{kept_room}
+use Rattle.many_stops.proofs.Common.{Bad, BlockState, Cells, Closed, Filling, Free, GroupPage, HasHandedOut}
+use Rattle.many_stops.proofs.Common.{IsHandedOut, IsOneShort, LeavesOwnRoom, LeavesRoom, Mark, MarkPage, None, Option}
+use Rattle.many_stops.proofs.Common.{Place, Plan, Programming, Some, Spot, Translation, Valid, ap, arith, at_die}
+use Rattle.many_stops.proofs.Common.{at_place, at_place_cases, at_spot, at_spot_cases, before_accepted}
+use Rattle.many_stops.proofs.Common.{closed_is_not_free, count_blocks, ended_fewer, false≢true, filling_is_not_bad}
+use Rattle.many_stops.proofs.Common.{free_count, free_is_not_filling, freed, freed_state, inl, inr, is_bad, is_free}
+use Rattle.many_stops.proofs.Common.{is_mended, is_plan_of_bad, kept_room, mark_written, mending_after, none-some}
+use Rattle.many_stops.proofs.Common.{programmed, refl, spot_of, state_after, sym, ℕ, ⊎_elim, ◌+◌, ◌∙◌, ◌≡◌, ◌≢◌, ◌≤◌}
+use Rattle.many_stops.proofs.Common.{◌⊎◌}
 use Rattle.many_stops.proofs.CountedBlocks.{bad_alike, bad_stays, no_fewer, one_more, others_free}
 use Rattle.many_stops.proofs.room_left.RoomStays.{bad_is_not_free, closed_is_not_bad, flies_fewer, handed_mended}
 use Rattle.many_stops.proofs.room_left.RoomStays.{kept_alike, mark_is_no_page, not_bad_after, shows_from, still_good}

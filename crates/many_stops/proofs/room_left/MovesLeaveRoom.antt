@@ -1,27 +1,19 @@
 -- Each move leaves the device's own pages their room, also where a program or an erase fails by it while no more blocks
 -- are bad than are spare; and a life begins so.
-use Rattle.std.proofs.Common.{◌≡◌, ℕ, ◌<◌, ◌≤◌, Bool, true, false, if◌then◌else◌, List, Option, Some, None, refl}
-use Rattle.std.proofs.Common.{sym, ap, ◌∙◌, subst, inl, inr, arith}
-use Rattle.ufs_spec.proofs.CellKinds.{page_not_nothing}
-use Rattle.ufs_spec.proofs.Facts.{none-some}
-use Rattle.ufs_spec.specs.Cells.{Cell, Cells, GroupPage, MarkPage, Nothing}
-use Rattle.ufs_spec.specs.Disk.{Erasing, Flight, Programming}
-use Rattle.ufs_spec.specs.Disk.{Reading, Spot, at_die, same_spot, spot_of}
-use Rattle.ufs_spec.specs.Ledger.{before_accepted}
-use Rattle.ufs_spec.specs.Moves.{EndJob, Ending, GiveJob, IsAllowedMove, LetGo, LetGoAll, MayEnd, Move, ReadRight}
-use Rattle.ufs_spec.specs.Moves.{ReadWrong, TakeStep, WentWell}
-use Rattle.ufs_spec.specs.Moves.{WentWrong, die_idle, end_flight, is_for, is_for_task, moved, read_right, read_wrong}
-use Rattle.ufs_spec.specs.Openings.{IsOpenedTranslation, StandsAt}
-use Rattle.ufs_spec.specs.Translation.{MayTake, Translation, count_blocks, is_bad, taken}
-use Rattle.ufs_spec.specs.declared.configs.Numbers.{Numbers}
-use Rattle.ufs_spec.specs.declared.flash.Tag.{Tag}
-use Rattle.ufs_spec.specs.declared.layer.Name.{Name}
-use Rattle.ufs_spec.specs.declared.layer.Reader.{Reader}
-use Rattle.ufs_spec.specs.declared.layer.Reader.TheVariants.{ForNobody, ForRest, ForStep, ForTask}
-use Rattle.power_loss.specs.Invariant.{Valid}
+use Rattle.many_stops.proofs.Common.{Bool, Cell, Cells, EndJob, Ending, Erasing, Flight, ForNobody, ForRest, ForStep}
+use Rattle.many_stops.proofs.Common.{ForTask, GiveJob, GroupPage, HasHandedOut, IsAllowedMove, IsOpenedTranslation}
+use Rattle.many_stops.proofs.Common.{IsWithinSpare, LeavesOwnRoom, LetGo, LetGoAll, List, MarkPage, MayEnd, MayTake}
+use Rattle.many_stops.proofs.Common.{Move, Name, None, Nothing, Numbers, Option, Programming, ReadRight, ReadWrong}
+use Rattle.many_stops.proofs.Common.{Reader, Reading, Some, Spot, Tag, TakeStep, Translation, Valid, WentWell}
+use Rattle.many_stops.proofs.Common.{WentWrong, ap, arith, at_die, before_accepted, count_blocks, end_flight}
+use Rattle.many_stops.proofs.Common.{ended_fewer, false, if◌then◌else◌, inl, inr, is_bad, is_for, is_for_task, moved}
+use Rattle.many_stops.proofs.Common.{none-some, page_not_nothing, refl, spot_of, subst, sym, taken, true, ℕ, ◌<◌, ◌∙◌}
+use Rattle.many_stops.proofs.Common.{◌≡◌, ◌≤◌}
+use Rattle.ufs_spec.specs.Disk.{same_spot}
+use Rattle.ufs_spec.specs.Moves.{die_idle, read_right, read_wrong}
+use Rattle.ufs_spec.specs.Openings.{StandsAt}
 use Rattle.power_loss.proofs.jobs.JobsBegin.{erase_is_no_program}
-use Rattle.power_loss.proofs.room_to_mend.AloneKept.{begun_fewer, ended_fewer, gone_fewer, read_is_no_program}
-use Rattle.many_stops.specs.RoomOfGroups.{HasHandedOut, IsWithinSpare, LeavesOwnRoom}
+use Rattle.power_loss.proofs.room_to_mend.AloneKept.{begun_fewer, gone_fewer, read_is_no_program}
 use Rattle.many_stops.proofs.room_left.RoomStays.{fewer_leaves, gone_leaves, there_leaves}
 use Rattle.many_stops.proofs.room_left.FailuresLeaveRoom.{erase_fails, mark_fails, page_fails}
 use Rattle.many_stops.proofs.room_left.MarkEnds.{mark_leaves}

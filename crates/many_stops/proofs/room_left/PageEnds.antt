@@ -1,30 +1,20 @@
 -- A page that was programmed leaves the room: that of a group gives back what it took, and that of a step takes one of
 -- those that its plan needs.
-use Rattle.std.proofs.Common.{◌≡◌, ◌≢◌, ℕ, ◌+◌, ◌-◌, ◌<◌, ◌≤◌, Bool, true, false, if◌then◌else◌, List, length}
-use Rattle.std.proofs.Common.{Option, Some, None, refl, sym, ap, ◌∙◌, subst, inl, inr, ⊎_elim, arith}
-use Rattle.ufs_spec.proofs.Facts.{false≢true, none-some, true≢false}
-use Rattle.ufs_spec.proofs.Updates.{at_die_cases, at_name_cases, at_place_cases, at_spot_cases}
-use Rattle.ufs_spec.specs.Cells.{Cells, GroupPage}
-use Rattle.ufs_spec.specs.Disk.{BlockState, Bad, Filling, Flight, Programming, Spot, at_die, at_place, at_spot, spot_of}
-use Rattle.ufs_spec.specs.Disk.{state_after}
-use Rattle.ufs_spec.specs.Ledger.{at_name, before_accepted}
-use Rattle.ufs_spec.specs.Moves.{is_kind_of, page_written, step_after}
-use Rattle.ufs_spec.specs.Translation.{count_blocks, CopyStep, MarkStep, Plan, RepairStep, Step, StepKind, Translation}
-use Rattle.ufs_spec.specs.Translation.{is_bad, is_free, is_mended, name_of}
-use Rattle.ufs_spec.specs.declared.flash.Place.{Place}
-use Rattle.ufs_spec.specs.declared.flash.Tag.{Tag}
-use Rattle.ufs_spec.specs.declared.layer.Name.{Name}
-use Rattle.power_loss.specs.Book.{book}
-use Rattle.power_loss.specs.Invariant.{Flights, Standing, StepKindRight, Valid}
-use Rattle.power_loss.proofs.jobs.StandsSecurely.{filling_is_not_bad, free_is_not_filling}
-use Rattle.power_loss.proofs.room_to_mend.AloneKept.{ended_fewer}
-use Rattle.many_stops.specs.RoomOfGroups.{HasHandedOut, IsHandedOut, LeavesOwnRoom, LeavesRoom, free_count}
-use Rattle.many_stops.specs.RoomOfGroups.{open_room}
-use Rattle.many_stops.specs.RoomOfGroups.{page_of_group, pages_of_copy, pages_of_plan, programs_name, room_on}
-use Rattle.many_stops.specs.RoomOfGroups.{room_on_dies}
+use Rattle.many_stops.proofs.Common.{Bad, BlockState, Bool, Cells, CopyStep, Filling, Flight, Flights, GroupPage}
+use Rattle.many_stops.proofs.Common.{HasHandedOut, IsHandedOut, LeavesOwnRoom, LeavesRoom, List, MarkStep, Name, None}
+use Rattle.many_stops.proofs.Common.{Option, Place, Plan, Programming, RepairStep, Some, Spot, Standing, Step, StepKind}
+use Rattle.many_stops.proofs.Common.{StepKindRight, Tag, Translation, Valid, ap, arith, at_die, at_die_cases, at_place}
+use Rattle.many_stops.proofs.Common.{at_place_cases, at_spot, at_spot_cases, before_accepted, book, count_blocks}
+use Rattle.many_stops.proofs.Common.{ended_fewer, false, false≢true, filling_is_not_bad, free_count}
+use Rattle.many_stops.proofs.Common.{free_is_not_filling, if◌then◌else◌, inl, inr, is_bad, is_free, is_kind_of}
+use Rattle.many_stops.proofs.Common.{is_mended, length, name_of, none-some, page_of_group, page_written, pages_of_plan}
+use Rattle.many_stops.proofs.Common.{programs_name, refl, room_on_dies, spot_of, state_after, step_after, subst, sym}
+use Rattle.many_stops.proofs.Common.{true, true≢false, ℕ, ⊎_elim, ◌+◌, ◌-◌, ◌<◌, ◌∙◌, ◌≡◌, ◌≢◌, ◌≤◌}
+use Rattle.ufs_spec.proofs.Updates.{at_name_cases}
+use Rattle.ufs_spec.specs.Ledger.{at_name}
+use Rattle.many_stops.specs.RoomOfGroups.{open_room, pages_of_copy, room_on}
 use Rattle.many_stops.proofs.CountedBlocks.{bad_stays, none_fewer}
-use Rattle.many_stops.proofs.room_left.RoomInOpenBlocks.{die_room, other_dies, program_takes}
-use Rattle.many_stops.proofs.room_left.RoomInOpenBlocks.{rooms_less}
+use Rattle.many_stops.proofs.room_left.RoomInOpenBlocks.{die_room, other_dies, program_takes, rooms_less}
 use Rattle.many_stops.proofs.room_left.RoomStays.{IsNoLess, flies_fewer, handed_mended, kind_name, shows_from}
 use Rattle.many_stops.proofs.room_left.RoomStays.{not_bad_after, room_stays, same_pages}
 

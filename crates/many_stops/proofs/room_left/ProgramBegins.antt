@@ -1,44 +1,31 @@
 -- A program that is given to a die leaves the room: that of a group is given where there is enough, and below it that
 -- of a step opens a block only where none is being filled.
-use Rattle.std.proofs.Common.{◌≡◌, ◌≢◌, ◌⊎◌, ℕ, zero, suc, ◌+◌, ◌-◌, ◌*◌, ◌<◌, ◌≤◌, true, false, if◌then◌else◌}
-use Rattle.std.proofs.Common.{List, Option}
-use Rattle.std.proofs.Common.{Some, None, refl, sym, ap, ◌∙◌, subst, inl, inr, ⊎_elim, arith}
-use Rattle.std.proofs.Math.Nat.{mul-le-mul_left}
+use Rattle.many_stops.proofs.Common.{Bad, BlockState, Cell, CopyStep, Entry, Filling, Flights, GroupPage, HasHandedOut}
+use Rattle.many_stops.proofs.Common.{HasOwnRoom, IsHandedOut, IsOneShort, LeavesOwnRoom, List, MarkStep, MayTake, Name}
+use Rattle.many_stops.proofs.Common.{None, Nothing, OpensReady, Option, Place, Plan, Programming, RepairStep, Some}
+use Rattle.many_stops.proofs.Common.{Spot, Step, StepKind, StepKindRight, Tag, Translation, Valid, ap, arith, at_die}
+use Rattle.many_stops.proofs.Common.{at_die_cases, at_most, at_spot, at_spot_cases, before_accepted, book, cases_Bool}
+use Rattle.many_stops.proofs.Common.{count_blocks, false, filling_is_not_bad, filling_room, free_count}
+use Rattle.many_stops.proofs.Common.{free_is_not_filling, if◌then◌else◌, inl, inr, is_bad, is_free, is_kind_of}
+use Rattle.many_stops.proofs.Common.{is_mended, is_plan_of_bad, kept_room, left_by_groups, mul-le-mul_left, name_of}
+use Rattle.many_stops.proofs.Common.{none-some, page_of_group, page_within, pages_of_plan, program_owed, refl}
+use Rattle.many_stops.proofs.Common.{room_on_dies, spot_of, subst, suc, sym, taken, true, true≢false, zero, ℕ, ⊎_elim}
+use Rattle.many_stops.proofs.Common.{◌*◌, ◌+◌, ◌-◌, ◌<◌, ◌∙◌, ◌≡◌, ◌≢◌, ◌≤◌, ◌⊎◌}
 use Rattle.ufs_spec.proofs.Equalities.{name_self}
-use Rattle.ufs_spec.proofs.Facts.{at_most, cases_Bool, none-some, true≢false}
-use Rattle.ufs_spec.proofs.Updates.{at_die_cases, at_spot_cases}
-use Rattle.ufs_spec.specs.Cells.{Cell, GroupPage, Nothing}
-use Rattle.ufs_spec.specs.Disk.{BlockState, Bad, Filling, Programming, Spot, at_die, at_spot, spot_of}
-use Rattle.ufs_spec.specs.Ledger.{Entry, before_accepted, entry_of}
-use Rattle.ufs_spec.specs.Moves.{is_kind_of}
-use Rattle.ufs_spec.specs.Translation.{count_blocks, CopyStep, MarkStep, MayTake, Plan, RepairStep, Step, StepKind}
-use Rattle.ufs_spec.specs.Translation.{Translation, cell_of_entry, is_bad, is_free, is_mended, is_plan_of_bad, name_of}
-use Rattle.ufs_spec.specs.Translation.{left_by_groups, step_cell, tag_of, taken, waiting_name, waiting_step}
-use Rattle.ufs_spec.specs.declared.flash.Place.{Place}
-use Rattle.ufs_spec.specs.declared.flash.Tag.{Tag}
-use Rattle.ufs_spec.specs.declared.layer.Name.{Name}
-use Rattle.power_loss.specs.Book.{book}
-use Rattle.power_loss.specs.Invariant.{Flights, StepKindRight, Valid}
-use Rattle.power_loss.proofs.books.PagesByName.{page_within}
-use Rattle.power_loss.proofs.jobs.StandsSecurely.{filling_is_not_bad, free_is_not_filling}
+use Rattle.ufs_spec.specs.Ledger.{entry_of}
+use Rattle.ufs_spec.specs.Translation.{cell_of_entry, step_cell, tag_of, waiting_name, waiting_step}
 use Rattle.power_loss.proofs.jobs_owed.OneDieForEachJob.{one_page}
-use Rattle.power_loss.proofs.jobs_owed.ProgramsAndErases.{OpensReady, ProgramOwed, StepOwed, idle_below, program_owed}
-use Rattle.power_loss.proofs.jobs_owed.ProgramsAndErases.{step_owed}
+use Rattle.power_loss.proofs.jobs_owed.ProgramsAndErases.{ProgramOwed, StepOwed, idle_below, step_owed}
 use Rattle.power_loss.proofs.jobs_owed.RoomLeft.{block_room, none_filled, page_room}
 use Rattle.power_loss.proofs.jobs_owed.BegunPrograms.{is_this}
-use Rattle.many_stops.specs.RoomOfGroups.{HasHandedOut, HasOwnRoom, HasRoomForBad, IsHandedOut, IsOneShort}
-use Rattle.many_stops.specs.RoomOfGroups.{LeavesOwnRoom}
-use Rattle.many_stops.specs.RoomOfGroups.{filling_room, free_count, kept_room, page_of_group, pages_of_plan}
-use Rattle.many_stops.specs.RoomOfGroups.{room_on_dies}
+use Rattle.many_stops.specs.RoomOfGroups.{HasRoomForBad}
 use Rattle.many_stops.proofs.CountedBlocks.{bad_alike, bad_stays, none_fewer, one_fewer}
-use Rattle.many_stops.proofs.room_left.RoomInOpenBlocks.{die_room, opened_room}
-use Rattle.many_stops.proofs.room_left.RoomInOpenBlocks.{room_is_filled, rooms_hold, rooms_no_less}
-use Rattle.many_stops.proofs.room_left.RoomInOpenBlocks.{same_room}
+use Rattle.many_stops.proofs.room_left.RoomInOpenBlocks.{die_room, opened_room, room_is_filled, rooms_hold}
+use Rattle.many_stops.proofs.room_left.RoomInOpenBlocks.{rooms_no_less, same_room}
 use Rattle.many_stops.proofs.room_left.RoomStays.{bad_is_not_free, bad_plan_pages, bad_room_begins, handed_mended}
-use Rattle.many_stops.proofs.room_left.RoomStays.{home_of}
-use Rattle.many_stops.proofs.room_left.RoomStays.{kept_alike, left_enough, left_enough_for_bad, mark_is_no_page}
-use Rattle.many_stops.proofs.room_left.RoomStays.{no_less}
-use Rattle.many_stops.proofs.room_left.RoomStays.{plan_alike, plan_most, room_stays, same_pages, still_good}
+use Rattle.many_stops.proofs.room_left.RoomStays.{home_of, kept_alike, left_enough, left_enough_for_bad}
+use Rattle.many_stops.proofs.room_left.RoomStays.{mark_is_no_page, no_less, plan_alike, plan_most, room_stays}
+use Rattle.many_stops.proofs.room_left.RoomStays.{same_pages, still_good}
 
 -- What a die programs
 

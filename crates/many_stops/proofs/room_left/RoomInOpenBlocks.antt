@@ -1,22 +1,16 @@
 -- How much room is in the blocks that are being filled, where one block or one job changes.
-use Rattle.std.proofs.Common.{◌≡◌, ◌≢◌, ℕ, ◌+◌, ◌-◌, ◌<◌, ◌≤◌, ◌==◌, Bool, true, false, if◌then◌else◌, Option, Some}
-use Rattle.std.proofs.Common.{refl, sym, ap, ◌∙◌, subst, ⊎_elim, arith}
+use Rattle.many_stops.proofs.Common.{BlockState, Bool, Closed, Filling, Flight, Flights, GroupPage, IsSpot, Name}
+use Rattle.many_stops.proofs.Common.{Numbers, Option, Place, Programming, Some, Spot, Step, ap, arith, at_spot}
+use Rattle.many_stops.proofs.Common.{at_spot_cases, below, false, filling_room, if◌then◌else◌, name_of, page_of_group}
+use Rattle.many_stops.proofs.Common.{programs_name, refl, room_on_dies, spot_of, state_after, subst, sum_no_less, sym}
+use Rattle.many_stops.proofs.Common.{true, true≢false, ℕ, ⊎_elim, ◌+◌, ◌-◌, ◌<◌, ◌==◌, ◌∙◌, ◌≡◌, ◌≢◌, ◌≤◌}
 use Rattle.std.specs.Prelude.{sum_by}
-use Rattle.ufs_spec.proofs.Facts.{eqb-true, true≢false}
-use Rattle.ufs_spec.proofs.Updates.{at_spot_cases}
-use Rattle.ufs_spec.specs.Cells.{GroupPage}
-use Rattle.ufs_spec.specs.Disk.{BlockState, Closed, Filling, Flight, Programming, Spot, at_spot, spot_of, state_after}
-use Rattle.ufs_spec.specs.Keys.{below}
-use Rattle.ufs_spec.specs.Translation.{Step, name_of, spots_of}
-use Rattle.ufs_spec.specs.declared.configs.Numbers.{Numbers}
-use Rattle.ufs_spec.specs.declared.flash.Place.{Place}
-use Rattle.ufs_spec.specs.declared.layer.Name.{Name}
-use Rattle.power_loss.specs.Exchange.{IsSpot}
-use Rattle.power_loss.specs.Invariant.{Flights}
+use Rattle.ufs_spec.proofs.Facts.{eqb-true}
+use Rattle.ufs_spec.specs.Translation.{spots_of}
 use Rattle.power_loss.proofs.ordered_lists.ElementsAndOrders.{below_in, in_below, in_map}
 use Rattle.power_loss.proofs.room_to_mend.AloneKept.{AreFewer}
-use Rattle.power_loss.proofs.room_to_mend.RoomInBlocks.{sum_has, sum_no_less}
-use Rattle.many_stops.specs.RoomOfGroups.{filling_room, page_of_group, programs_name, room_on, room_on_dies}
+use Rattle.power_loss.proofs.room_to_mend.RoomInBlocks.{sum_has}
+use Rattle.many_stops.specs.RoomOfGroups.{room_on}
 use Rattle.many_stops.proofs.room_left.SumsOfRoom.{below_apart, die_apart, die_of, number_told, spot_of_die}
 use Rattle.many_stops.proofs.room_left.SumsOfRoom.{spot_told, sum_holds, sum_less}
 

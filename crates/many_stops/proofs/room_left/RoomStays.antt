@@ -1,34 +1,20 @@
 -- What leaves the room that groups leave: where no fewer blocks are free, and none is taken beside what the plan needs.
-use Rattle.std.proofs.Common.{◌≡◌, ◌≢◌, ◌⊎◌, ℕ, ◌+◌, ◌-◌, ◌*◌, ◌<◌, ◌≤◌, ◌==◌, Bool, true, false, List, Option, Some}
-use Rattle.std.proofs.Common.{None, max, refl, sym}
-use Rattle.std.proofs.Common.{if◌then◌else◌, inl, inr, ap, ◌∙◌, ⊎_elim, arith}
-use Rattle.std.proofs.Math.Nat.{mul-le-mul_left}
-use Rattle.std.specs.Int.{div_ceil}
-use Rattle.ufs_spec.proofs.Equalities.{name_told}
-use Rattle.ufs_spec.proofs.Facts.{cases_Bool, false≢true, same_Some}
-use Rattle.ufs_spec.proofs.Updates.{at_spot_is}
-use Rattle.ufs_spec.specs.Cells.{Cell, Cells, GroupPage, Mark, MarkPage}
-use Rattle.ufs_spec.specs.Disk.{BlockState, Bad, Closed, Filling, Flight, Free, Programming, Spot, at_spot}
-use Rattle.ufs_spec.specs.Disk.{state_after}
-use Rattle.ufs_spec.specs.Ledger.{Entry, before_accepted}
-use Rattle.ufs_spec.specs.Moves.{is_kind_of, step_there}
-use Rattle.ufs_spec.specs.Translation.{CopyStep, MarkStep, Plan, RepairStep, Step, StepKind, Translation, is_bad}
-use Rattle.ufs_spec.specs.Translation.{count_blocks, is_mended, is_plan_of_bad, least_room, left_by_groups, own_room}
+use Rattle.many_stops.proofs.Common.{Bad, BlockState, Bool, Cell, Cells, Closed, CopyStep, Entry, Fence, Filling}
+use Rattle.many_stops.proofs.Common.{Flight, Flights, Free, GroupPage, HasHandedOut, HasOwnRoom, IsHandedOut}
+use Rattle.many_stops.proofs.Common.{IsOneShort, LeavesRoom, List, Mark, MarkPage, MarkStep, Name, None, Numbers}
+use Rattle.many_stops.proofs.Common.{Option, Place, Plan, Programming, RepairStep, Some, Spot, Standing, Step, StepKind}
+use Rattle.many_stops.proofs.Common.{Tag, Translation, Valid, ap, arith, at_spot, at_spot_is, bad_count, bad_told}
+use Rattle.many_stops.proofs.Common.{before_accepted, book, cases_Bool, count_blocks, div_ceil, false, false≢true}
+use Rattle.many_stops.proofs.Common.{free_count, if◌then◌else◌, inl, inr, is_bad, is_kind_of, is_mended, is_plan_of_bad}
+use Rattle.many_stops.proofs.Common.{kept_room, least_room, left_by_groups, mending_blocks, mul-le-mul_left, name_told}
+use Rattle.many_stops.proofs.Common.{own_room, page_of_group, page_within, pages_of_plan, refl, room_on_dies, same_Some}
+use Rattle.many_stops.proofs.Common.{state_after, step_there, sym, true, ℕ, ⊎_elim, ◌*◌, ◌+◌, ◌-◌, ◌<◌, ◌==◌, ◌∙◌, ◌≡◌}
+use Rattle.many_stops.proofs.Common.{◌≢◌, ◌≤◌, ◌⊎◌}
+use Rattle.std.proofs.Common.{max}
 use Rattle.ufs_spec.specs.Translation.{wanted_room}
-use Rattle.ufs_spec.specs.declared.configs.Numbers.{Numbers}
-use Rattle.ufs_spec.specs.declared.flash.Fence.{Fence}
-use Rattle.ufs_spec.specs.declared.flash.Place.{Place}
-use Rattle.ufs_spec.specs.declared.flash.Tag.{Tag}
-use Rattle.ufs_spec.specs.declared.layer.Name.{Name}
-use Rattle.power_loss.specs.Book.{IsPageAt, book}
-use Rattle.power_loss.specs.Invariant.{Flights, Standing, Valid}
-use Rattle.power_loss.proofs.books.PagesByName.{page_within}
-use Rattle.power_loss.proofs.collected_blocks.FewestLivePages.{bad_told}
+use Rattle.power_loss.specs.Book.{IsPageAt}
 use Rattle.power_loss.proofs.room_to_mend.AloneKept.{AreFewer}
-use Rattle.many_stops.specs.RoomOfGroups.{FliesBehind, HasHandedOut, HasOwnRoom, HasRoomForBad, IsHandedOut, IsOneShort}
-use Rattle.many_stops.specs.RoomOfGroups.{LeavesRoom, PlanGains, ShowsBehind}
-use Rattle.many_stops.specs.RoomOfGroups.{StandsBehind, bad_count, free_count, kept_room, mending_blocks}
-use Rattle.many_stops.specs.RoomOfGroups.{page_of_group, pages_of_plan, room_on_dies}
+use Rattle.many_stops.specs.RoomOfGroups.{FliesBehind, HasRoomForBad, PlanGains, ShowsBehind, StandsBehind}
 use Rattle.many_stops.proofs.CountedBlocks.{bad_alike}
 use Rattle.many_stops.proofs.room_left.RoomInOpenBlocks.{fewer_pages, rooms_no_less}
 

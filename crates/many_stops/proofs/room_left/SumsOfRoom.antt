@@ -1,18 +1,12 @@
 -- Sums over lists without repetition: what they lose or gain where one element changes.
-use Rattle.std.proofs.Common.{◌≡◌, ◌≢◌, ◌⊎◌, ℕ, zero, suc, ◌+◌, ◌<◌, ◌≤◌, List, [], ◌∷◌, refl, sym, ap, ◌∙◌, subst, inl}
-use Rattle.std.proofs.Common.{inr, ⊎_elim, arith}
+use Rattle.many_stops.proofs.Common.{IsIn, IsSpot, List, Numbers, Spot, [], ap, arith, below, inl, inr, refl}
+use Rattle.many_stops.proofs.Common.{spot_cases, spots, subst, suc, sum_by-cons, sum_no_less, sym, zero, ℕ, ⊎_elim, ◌+◌}
+use Rattle.many_stops.proofs.Common.{◌<◌, ◌∙◌, ◌∷◌, ◌≡◌, ◌≢◌, ◌≤◌, ◌⊎◌}
 use Rattle.std.specs.Prelude.{sum_by}
-use Rattle.std.proofs.lemmas.List.Sums.{sum_by-cons}
-use Rattle.ufs_spec.proofs.Equalities.{spot_cases}
-use Rattle.ufs_spec.specs.Disk.{Spot}
-use Rattle.ufs_spec.specs.Keys.{below}
-use Rattle.ufs_spec.specs.Translation.{spots, spots_of}
-use Rattle.ufs_spec.specs.declared.configs.Numbers.{Numbers}
+use Rattle.ufs_spec.specs.Translation.{spots_of}
 use Rattle.power_loss.specs.Collection.{IsBefore}
-use Rattle.power_loss.specs.Exchange.{IsSpot}
-use Rattle.power_loss.proofs.ordered_lists.ElementsAndOrders.{IsIn, IsOrdered, below_in, map_in, ordered_append}
+use Rattle.power_loss.proofs.ordered_lists.ElementsAndOrders.{IsOrdered, below_in, map_in, ordered_append}
 use Rattle.power_loss.proofs.ordered_lists.ElementsAndOrders.{ordered_map, spots_ordered}
-use Rattle.power_loss.proofs.room_to_mend.RoomInBlocks.{sum_no_less}
 
 -- Lists without repetition
 

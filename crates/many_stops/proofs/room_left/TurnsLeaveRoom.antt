@@ -1,36 +1,29 @@
 -- A turn leaves the room: a plan begins with no more pages than fill a block, and goes on with as many as it had left.
-use Rattle.std.proofs.Common.{◌≡◌, ℕ, suc, ◌+◌, ◌*◌, ◌<◌, ◌≤◌, Bool, true, false, List, [], ◌∷◌}
-use Rattle.std.proofs.Common.{length, map, not}
-use Rattle.std.proofs.Common.{Option, Some, None, refl, sym, ap, ◌∙◌, subst, inl, inr, ⊎_elim, arith, All}
+use Rattle.many_stops.proofs.Common.{Bad, Bool, CopyStep, Fence, HasHandedOut, HasOwnRoom, IsDue, IsHandedOut, Key}
+use Rattle.many_stops.proofs.Common.{LeavesOwnRoom, LeavesRoom, List, MarkStep, Mended, Mending, Name, None, Option}
+use Rattle.many_stops.proofs.Common.{Order, OrderCopy, OrderMark, OrderPlanMark, OrderRepair, Place, Plan, RepairStep}
+use Rattle.many_stops.proofs.Common.{Repairing, Some, Spot, Step, Translation, Unmarked, Valid, [], ap, arith, at_most}
+use Rattle.many_stops.proofs.Common.{bad_told, before_accepted, below, count_blocks, false, false≢true, inl, inr}
+use Rattle.many_stops.proofs.Common.{is_bad, is_free, is_mended, kept_room, least_room, length, mark_ordered}
+use Rattle.many_stops.proofs.Common.{may_go_bad, name_of, none-some, order_due, ordered, pages_of_plan, refl}
+use Rattle.many_stops.proofs.Common.{repair_ordered, room_on_dies, same_Some, subst, suc, sym, true, true≢false, turned}
+use Rattle.many_stops.proofs.Common.{turned_if, ℕ, ⊎_elim, ◌*◌, ◌+◌, ◌<◌, ◌∙◌, ◌∷◌, ◌≡◌, ◌≤◌}
+use Rattle.std.proofs.Common.{All, map, not}
 use Rattle.std.proofs.lemmas.List.{length-map}
 use Rattle.std.proofs.lemmas.List.Filters.{length-filter_both}
-use Rattle.ufs_spec.proofs.Facts.{at_most, false≢true, none-some, same_Some, true≢false}
 use Rattle.ufs_spec.proofs.Lists.{length-below}
-use Rattle.ufs_spec.specs.Disk.{Bad, Spot, place_in}
-use Rattle.ufs_spec.specs.Keys.{below}
-use Rattle.ufs_spec.specs.Ledger.{before_accepted}
-use Rattle.ufs_spec.specs.Translation.{CopyStep, MarkStep, Mended, Mending, Order, OrderCopy, OrderMark, OrderPlanMark}
-use Rattle.ufs_spec.specs.Translation.{OrderRepair, Plan, RepairStep, Repairing, Step, Translation, Unmarked}
-use Rattle.ufs_spec.specs.Translation.{copy_begun, is_mended, mark_ordered, name_of, ordered, repair_ordered, turned}
-use Rattle.ufs_spec.specs.Translation.{count_blocks, is_bad, is_free, is_live, least_room, live_count, may_go_bad}
-use Rattle.ufs_spec.specs.Translation.{with_plan}
-use Rattle.ufs_spec.specs.declared.flash.Fence.{Fence}
-use Rattle.ufs_spec.specs.declared.flash.Key.{Key}
-use Rattle.ufs_spec.specs.declared.flash.Place.{Place}
-use Rattle.ufs_spec.specs.declared.layer.Name.{Name}
-use Rattle.ufs_laws.proofs.walk.LayerEffects.{IsDue, IsMarkDue, IsPlanned, order_due, turned_if}
+use Rattle.ufs_spec.specs.Disk.{place_in}
+use Rattle.ufs_spec.specs.Translation.{copy_begun, is_live, live_count, with_plan}
+use Rattle.ufs_laws.proofs.walk.LayerEffects.{IsMarkDue, IsPlanned}
 use Rattle.power_loss.specs.Collection.{IsVictim}
-use Rattle.power_loss.specs.Invariant.{Valid}
 use Rattle.power_loss.proofs.books.LayerParts.{NeededOf}
-use Rattle.power_loss.proofs.collected_blocks.FewestLivePages.{bad_told, victim_is}
+use Rattle.power_loss.proofs.collected_blocks.FewestLivePages.{victim_is}
 use Rattle.power_loss.proofs.collected_blocks.LivePages.{live_needed}
 use Rattle.power_loss.proofs.ordered_lists.ElementsAndOrders.{all_in}
-use Rattle.many_stops.specs.RoomOfGroups.{HasHandedOut, HasOwnRoom, IsHandedOut, LeavesOwnRoom, LeavesRoom, PlanGains}
-use Rattle.many_stops.specs.RoomOfGroups.{kept_room, pages_of_plan, room_on_dies}
+use Rattle.many_stops.specs.RoomOfGroups.{PlanGains}
 use Rattle.many_stops.proofs.room_left.RoomInOpenBlocks.{groups_most, rooms_no_less}
-use Rattle.many_stops.proofs.room_left.RoomStays.{bad_room_begins, closed_is_not_bad, handed_mended}
-use Rattle.many_stops.proofs.room_left.RoomStays.{mark_is_no_copy, no_less}
-use Rattle.many_stops.proofs.room_left.RoomStays.{one_copy, own_enough, repair_is_no_copy, step_of}
+use Rattle.many_stops.proofs.room_left.RoomStays.{bad_room_begins, closed_is_not_bad, handed_mended, mark_is_no_copy}
+use Rattle.many_stops.proofs.room_left.RoomStays.{no_less, one_copy, own_enough, repair_is_no_copy, step_of}
 
 -- no more pages of a block are live than it has
 live_within : (t : Translation) (s : Spot) → live_count t s ≤ t.numbers.pages

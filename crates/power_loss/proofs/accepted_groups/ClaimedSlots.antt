@@ -1,7 +1,6 @@
 -- Pages that are accepted and not durable, and claims, have a slot each.
-use Rattle.power_loss.proofs.Common.{◌≡◌, ℕ, zero, suc, ◌+◌, ◌-◌, ◌≤◌, List, [], ◌∷◌, drop, length, ap}
-use Rattle.power_loss.proofs.Common.{arith, sum_by-cons, Group}
-use Rattle.power_loss.proofs.Common.{Translation, pending_pages, SlotsRight, Valid}
+use Rattle.power_loss.proofs.Common.{Group, List, SlotsRight, Translation, Valid, [], ap, arith, drop, length}
+use Rattle.power_loss.proofs.Common.{pending_pages, suc, sum_by-cons, zero, ℕ, ◌+◌, ◌-◌, ◌∷◌, ◌≡◌, ◌≤◌}
 use Rattle.std.proofs.Common.{sum_by}
 
 abbrev pub pages_of : List Group → ℕ

@@ -1,9 +1,8 @@
 -- The rests of a group that is accepted: which pages have one, and where it comes from.
-use Rattle.power_loss.proofs.Common.{◌≡◌, ℕ, Bool, true, false, All, List, [], ◌∷◌, Option, Some, None, length, refl}
-use Rattle.power_loss.proofs.Common.{sym, ap, ◌∙◌, subst, filter_map, option_and_then, option_map, cons_option}
-use Rattle.power_loss.proofs.Common.{get_or_from_slice_get, slice_get_within, Group, Item, below, Name, look}
-use Rattle.power_loss.proofs.Common.{next_number, Rest, Source, Translation, rests_of, source_of, none-some, same_Some}
-use Rattle.power_loss.proofs.Common.{cond-true}
+use Rattle.power_loss.proofs.Common.{All, Bool, Group, Item, List, Name, None, Option, Rest, Some, Source, Translation}
+use Rattle.power_loss.proofs.Common.{[], ap, below, cond-true, cons_option, false, filter_map, get_or_from_slice_get}
+use Rattle.power_loss.proofs.Common.{length, look, next_number, none-some, option_and_then, option_map, refl, rests_of}
+use Rattle.power_loss.proofs.Common.{same_Some, slice_get_within, source_of, subst, sym, true, ℕ, ◌∙◌, ◌∷◌, ◌≡◌}
 use Rattle.power_loss.proofs.MachineWords.{IsRestOf}
 use Rattle.std.proofs.Common.{Contains}
 use Rattle.std.specs.Prelude.{if◌then◌else◌, slice_get}

@@ -4,18 +4,16 @@ use Rattle.power_loss.proofs.Common.{◌≡◌, ℕ, Array, Bool, true, false, n
 use Rattle.power_loss.proofs.Common.{Ok, refl, sym, ap, ◌∙◌, subst, AllByRecursion, Ending, Flight, Numbers, Plain}
 use Rattle.power_loss.proofs.Common.{Spot, below, if_both, list_any, or_parts, ◌&&◌, filter, length, ◌==◌, ◌++◌, ◌+◌}
 use Rattle.power_loss.proofs.Common.{false≢true, if◌then◌else◌, content}
-use Rattle.power_loss.proofs.MachineWords.{Answer, Answering, Awaiting, Call, Cdb, Command, Deed, Done, ForFrames}
-use Rattle.power_loss.proofs.MachineWords.{ForUnmap, ForWrite, Gathering, Host, IsOpened, IsTied, OfDone, OfHost}
-use Rattle.power_loss.proofs.MachineWords.{OfReply, OfTake, OfTurn, Purpose, ReadBlock, ReadingArea, Reply, Request}
-use Rattle.power_loss.proofs.MachineWords.{RpmbRequest, State, Take, Task, Turn, accepts, begun, behind, fills}
-use Rattle.power_loss.proofs.MachineWords.{is_task_of, lock_applied, locked, numbers_of, observe, plain_now, sending}
-use Rattle.power_loss.proofs.MachineWords.{task_filled, task_locked, task_of, task_read, unit_of_request}
-use Rattle.power_loss.proofs.MachineWords.{unit_or_first, with_deed, with_request, TasksDiffer, Good, ReadState}
-use Rattle.power_loss.proofs.MachineWords.{Event, Life, Output, Sending, SendingBytes, Unread, ValidState}
-use Rattle.power_loss.proofs.MachineWords.{is_to_fill, refusal}
-use Rattle.power_loss.proofs.area_reads.AreaKept.{accepted_none, accepted_shows, accepts_same, each_same}
+use Rattle.power_loss.proofs.MachineWords.{Answer, Answering, Awaiting, Call, Cdb, Command, Deed, Done, Event}
+use Rattle.power_loss.proofs.MachineWords.{ForFrames, ForUnmap, ForWrite, Gathering, Good, Host, IsOpened, IsTied, Life}
+use Rattle.power_loss.proofs.MachineWords.{OfDone, OfHost, OfReply, OfTake, OfTurn, Output, Purpose, ReadBlock}
+use Rattle.power_loss.proofs.MachineWords.{ReadState, ReadingArea, Reply, Request, RpmbRequest, Sending, SendingBytes}
+use Rattle.power_loss.proofs.MachineWords.{State, Take, Task, TasksDiffer, Turn, Unread, ValidState, accepts, begun}
+use Rattle.power_loss.proofs.MachineWords.{behind, fills, is_task_of, is_to_fill, lock_applied, locked, numbers_of}
+use Rattle.power_loss.proofs.MachineWords.{observe, plain_now, refusal, sending, task_filled, task_locked, task_of}
+use Rattle.power_loss.proofs.MachineWords.{task_read, unit_of_request, unit_or_first, with_deed, with_request}
+use Rattle.power_loss.proofs.area_reads.AreaKept.{NamesNone, accepted_none, accepted_shows, accepts_same, each_same}
 use Rattle.power_loss.proofs.area_reads.AreaKept.{filled_shows, goes_on, locked_shows, read_shows, setting_none}
-use Rattle.power_loss.proofs.area_reads.AreaKept.{NamesNone}
 use Rattle.power_loss.proofs.area_reads.OneAtATime.{OfTagIfBrings, no_other_brings, one_filtered, one_mapped}
 use Rattle.power_loss.proofs.area_reads.OneAtATime.{one_pushed}
 use Rattle.power_loss.proofs.host_commands.PassedCommands.{passed}
@@ -24,9 +22,8 @@ use Rattle.power_loss.proofs.open_tasks.TaggedLists.{each_filter, each_found, ea
 use Rattle.power_loss.proofs.open_tasks.TaskLists.{each_at_tag, each_set}
 use Rattle.power_loss.specs.AreaReads.{AreaReads, AreaReadsOf, DeedShows, GathersRightly, OneBrings, ShowsArea}
 use Rattle.power_loss.specs.AreaReads.{area_bodies, brings_frames}
-use Rattle.ufs_laws.proofs.walk.Happenings.{Aborts, Begins, BlockRead, Completes, Gathers, GetsData, GoesOn}
-use Rattle.ufs_laws.proofs.walk.Happenings.{Happening, IsOver, Refuses, Sets, Why, behind_by, ends_by, happened}
-use Rattle.ufs_laws.proofs.walk.Happenings.{job_over}
+use Rattle.ufs_laws.proofs.walk.Happenings.{Aborts, Begins, BlockRead, Completes, Gathers, GetsData, GoesOn, Happening}
+use Rattle.ufs_laws.proofs.walk.Happenings.{IsOver, Refuses, Sets, Why, behind_by, ends_by, happened, job_over}
 use Rattle.ufs_laws.proofs.walk.WaysOfCommands.{Answered, Beginning, Gathered, Handing, IsGathered, Reading, Telling}
 use Rattle.ufs_laws.proofs.walk.WaysOfCommands.{Waiting, WhyBegun, begins_by, begun_as}
 use Rattle.ufs_laws.proofs.walk.WaysOfData.{Accepted, AcceptsFrames, Completion, HasResult, ReadsArea, Told}

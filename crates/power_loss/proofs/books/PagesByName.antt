@@ -7,8 +7,7 @@ use Rattle.power_loss.proofs.Common.{option_and_then, option_map, slice_get_with
 use Rattle.power_loss.proofs.Common.{Name, entry_in, KeysDiffer, Key, Tag, none-some, same_Some, BaseAt, BaseNone, Book}
 use Rattle.power_loss.proofs.Common.{BookRight, FirstRight, HasKey, IsFenceMark, IsKnown, IsLostNumber, IsOverwritten}
 use Rattle.power_loss.proofs.Common.{IsPageAt, IsPlainMark, IsWritten, last_number, page_at}
-use Rattle.std.proofs.Common.{nat_le}
-use Rattle.std.proofs.Common.{le-leb}
+use Rattle.std.proofs.Common.{le-leb, nat_le}
 use Rattle.std.proofs.lemmas.Bool.Decides.{leb_tells}
 use Rattle.power_loss.specs.Book.{IsLastOrLost}
 

@@ -1,17 +1,14 @@
 -- Each call that is answered rightly keeps the state tied to its dies and commands, whatever a failed job leaves.
-use Rattle.power_loss.proofs.Common.{List, None, Option, Some, refl, sym, true, ℕ, ◌∙◌, ◌≡◌, false≢true, Ok}
-use Rattle.power_loss.proofs.Common.{Ending, GiveJob, ReadRight, ReadWrong, WentWell, WentWrong, ending_fits, Array}
-use Rattle.power_loss.proofs.Common.{Erasing}
-use Rattle.power_loss.proofs.Common.{Flight, Programming, Reading}
+use Rattle.power_loss.proofs.Common.{Array, Ending, Erasing, Flight, GiveJob, List, None, Ok, Option, Programming}
+use Rattle.power_loss.proofs.Common.{ReadRight, ReadWrong, Reading, Some, WentWell, WentWrong, ending_fits, false≢true}
+use Rattle.power_loss.proofs.Common.{refl, sym, true, ℕ, ◌∙◌, ◌≡◌}
 use Rattle.power_loss.proofs.MachineWords.{Allowed, Answer, Reply, Call, Faulty, Done, OfDone, Take}
 use Rattle.power_loss.proofs.MachineWords.{OfTake, Heard, OfHost, Host, IsCdbIn, IsHeard, MayLeave, OfReply, Spelled}
 use Rattle.power_loss.proofs.MachineWords.{Turn, OfTurn, behind, heard, message_fault, observe, opens_short}
 use Rattle.power_loss.proofs.MachineWords.{service, State, Message, Cdb, IsTied, MayCome}
 use Rattle.std.specs.Prelude.{Err, Result}
 use Rattle.ufs_spec.specs.CdbFields.{spelled_cdb}
-use Rattle.ufs_spec.specs.Machine.{MayHear}
-use Rattle.ufs_spec.specs.Machine.{cdb_of}
-use Rattle.ufs_spec.specs.Machine.{result_of}
+use Rattle.ufs_spec.specs.Machine.{MayHear, cdb_of, result_of}
 use Rattle.ufs_spec.specs.Messages.{Spells}
 use Rattle.ufs_spec.specs.declared.faults.HostFault.{HostFault}
 use Rattle.power_loss.proofs.host_commands.AbortedTasks.{managed_free, managed_right}

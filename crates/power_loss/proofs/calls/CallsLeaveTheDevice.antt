@@ -4,10 +4,9 @@ use Rattle.power_loss.proofs.Common.{◌≡◌, ◌⊎◌, ℕ, Bool, true, [], 
 use Rattle.power_loss.proofs.Common.{inr, ⊎_elim, Array, Erasing, Flight, Spot, at_die, EndJob, Ending, GiveJob, Move}
 use Rattle.power_loss.proofs.Common.{TakeStep, is_for, is_for_task, LetGo, LetGoAll, moved, MayTake, Translation}
 use Rattle.power_loss.proofs.Common.{Numbers, erase_unread as unread_erases}
-use Rattle.power_loss.proofs.MachineWords.{Allowed, Answer, Reply, Call, Done, OfDone, Take, OfTake, Host, Turn, OfTurn}
-use Rattle.power_loss.proofs.MachineWords.{array_after, behind, observe, with_moves, IsOpened, Leads, State, numbers_of}
-use Rattle.power_loss.proofs.MachineWords.{Event}
-use Rattle.power_loss.proofs.MachineWords.{Output, IsSpot}
+use Rattle.power_loss.proofs.MachineWords.{Allowed, Answer, Call, Done, Event, Host, IsOpened, IsSpot, Leads, OfDone}
+use Rattle.power_loss.proofs.MachineWords.{OfTake, OfTurn, Output, Reply, State, Take, Turn, array_after, behind}
+use Rattle.power_loss.proofs.MachineWords.{numbers_of, observe, with_moves}
 use Rattle.ufs_laws.proofs.walk.SmallChanges.{Change, IsSmall, IsSmallMove, Moves, Small, changed, first, first_kept}
 use Rattle.ufs_laws.proofs.walk.SmallChanges.{behind_call, job_over, kept, observed}
 use Rattle.power_loss.proofs.books.SmallFacts.{at_die_is}

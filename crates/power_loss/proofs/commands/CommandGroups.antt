@@ -1,23 +1,20 @@
 -- The group of a command that may come is one that may be accepted.
-use Rattle.power_loss.proofs.Common.{◌≡◌, ℕ, ◌+◌, ◌-◌, ◌*◌, ◌<◌, ◌≤◌, List, [], ◌∷◌, ◌++◌, Some}
-use Rattle.power_loss.proofs.Common.{length, map, slice_get, sym, ap, ◌∙◌, subst, arith, ⊎_elim, length-append}
-use Rattle.power_loss.proofs.Common.{length-map, get_or, slice_get-get_or, none-some, get_splits}
-use Rattle.power_loss.proofs.Common.{Group, IsArea, IsBlock, IsCommand, IsData, IsKey, IsPlain, IsSettings}
-use Rattle.power_loss.proofs.Common.{IsSettingsBody, Item, below, content, data_key, group_of, IsGroup, KeysDiffer}
-use Rattle.power_loss.proofs.Common.{CanApply, Plain, Shape, apply, shape_of, shape_of_numbers, Translation, Key}
-use Rattle.power_loss.proofs.Common.{kept_shape}
+use Rattle.power_loss.proofs.Common.{CanApply, Group, IsArea, IsBlock, IsCommand, IsData, IsGroup, IsKey, IsPlain}
+use Rattle.power_loss.proofs.Common.{IsSettings, IsSettingsBody, Item, Key, KeysDiffer, List, Plain, Shape, Some}
+use Rattle.power_loss.proofs.Common.{Translation, [], ap, apply, arith, below, content, data_key, get_or, get_splits}
+use Rattle.power_loss.proofs.Common.{group_of, kept_shape, length, length-append, length-map, map, none-some, shape_of}
+use Rattle.power_loss.proofs.Common.{shape_of_numbers, slice_get, slice_get-get_or, subst, sym, ℕ, ⊎_elim, ◌*◌, ◌++◌}
+use Rattle.power_loss.proofs.Common.{◌+◌, ◌-◌, ◌<◌, ◌∙◌, ◌∷◌, ◌≡◌, ◌≤◌}
 use Rattle.power_loss.proofs.MachineWords.{Command}
 use Rattle.std.specs.Prelude.{◌/◌}
 use Rattle.ufs_spec.specs.Commands as command
 use Rattle.ufs_spec.specs.Configs.{command_blocks}
 use Rattle.ufs_spec.specs.Keys.{area_key, area_keys, data_keys, keys, region_pages, settings_key}
 use Rattle.ufs_spec.proofs.RegionPages.{area_there, pages_held}
-use Rattle.ufs_laws.proofs.plain_contents.CommandsKeepPlain.{region_right}
+use Rattle.ufs_laws.proofs.plain_contents.CommandsKeepPlain.{kept_plain, region_right}
 use Rattle.ufs_spec.specs.Moves.{IsItem}
-use Rattle.ufs_spec.specs.Plain.{LiesWithin}
-use Rattle.ufs_spec.specs.Plain.{regions}
+use Rattle.ufs_spec.specs.Plain.{LiesWithin, regions}
 use Rattle.ufs_spec.proofs.Lists.{get_below}
-use Rattle.ufs_laws.proofs.plain_contents.CommandsKeepPlain.{kept_plain}
 use Rattle.ufs_laws.proofs.plain_contents.ListParts.{length-below}
 use Rattle.ufs_laws.proofs.plain_contents.PlainFromContents.{contents_of}
 use Rattle.power_loss.proofs.ordered_lists.ElementsAndOrders.{mapped_at}

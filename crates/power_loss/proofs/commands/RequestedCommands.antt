@@ -1,27 +1,24 @@
 -- What an RPMB request was that is accepted: its command may come. What one for data was that passed its checks: its
 -- pages lie in the area.
-use Rattle.power_loss.proofs.Common.{◌≡◌, ◌⊎◌, ℕ, ◌+◌, ◌*◌, ◌<◌, ◌≤◌, ◌==◌, ◌&&◌, Bool, true, false, cond}
-use Rattle.power_loss.proofs.Common.{not, List, [], ◌∷◌, All, Option, Some, None, length, refl, sym, ap, ◌∙◌}
-use Rattle.power_loss.proofs.Common.{subst, inl, inr, arith, flat_map, nat_le, length-append, All-head, All-tail}
-use Rattle.power_loss.proofs.Common.{false≢true, none-some, same_Some, and_parts, eqb-true, ltb-false, not-false}
-use Rattle.power_loss.proofs.Common.{IsCommand, IsPlain, CanApply, Plain, shape_of}
+use Rattle.power_loss.proofs.Common.{All, All-head, All-tail, Bool, CanApply, IsCommand, IsPlain, List, None, Option}
+use Rattle.power_loss.proofs.Common.{Plain, Some, [], and_parts, ap, arith, cond, eqb-true, false, false≢true, flat_map}
+use Rattle.power_loss.proofs.Common.{get_or, inl, inr, length, length-append, ltb-false, nat_le, none-some, not}
+use Rattle.power_loss.proofs.Common.{not-false, refl, same_Some, shape_of, subst, sym, true, ℕ, ◌&&◌, ◌*◌, ◌+◌, ◌<◌}
+use Rattle.power_loss.proofs.Common.{◌==◌, ◌∙◌, ◌∷◌, ◌≡◌, ◌≤◌, ◌⊎◌}
 use Rattle.power_loss.proofs.MachineWords.{AreBytes, Command}
 use Rattle.std.specs.Prelude.{bit_or}
 use Rattle.ufs_spec.specs.Commands as command
-use Rattle.ufs_spec.specs.Exchanges.{Registers, Status, invalid_list_field, sequence_error}
+use Rattle.ufs_spec.specs.Exchanges.{Registers, invalid_list_field, sequence_error}
+use Rattle.ufs_spec.specs.declared.exchanges.Status.{Status}
 use Rattle.ufs_spec.specs.Frames.{Frame, IsFrame}
 use Rattle.ufs_spec.specs.Keys.{keys}
-use Rattle.ufs_spec.specs.Plain.{counter_end}
+use Rattle.ufs_spec.specs.Plain.{HasRegion, counter_end}
 use Rattle.ufs_spec.specs.Rpmb.{Check, Refused, Region, Results, RpmbOutcome, checks, command_in, fails_if}
-use Rattle.ufs_spec.specs.Rpmb.{first_failed}
-use Rattle.ufs_spec.specs.Rpmb.{has_key, is_past_area, is_well_formed, lacks_result, outcome_after, read_data}
-use Rattle.power_loss.proofs.Common.{get_or}
+use Rattle.ufs_spec.specs.Rpmb.{first_failed, has_key, is_past_area, is_well_formed, lacks_result, outcome_after}
+use Rattle.ufs_spec.specs.Rpmb.{read_data, region_of, rpmb_outcome}
 use Rattle.ufs_spec.proofs.RegionPages.{area_there}
 use Rattle.ufs_laws.proofs.plain_contents.CommandsKeepPlain.{its_region}
-use Rattle.ufs_spec.specs.Rpmb.{region_of}
-use Rattle.ufs_spec.specs.Rpmb.{rpmb_outcome}
 use Rattle.ufs_spec.specs.RpmbResponses.{is_success}
-use Rattle.ufs_spec.specs.Plain.{HasRegion}
 use Rattle.ufs_spec.proofs.Facts.{leb-true}
 use Rattle.power_loss.specs.WaitingFrames.{AsksInside}
 use Rattle.ufs_laws.proofs.pages.ByteLists.{bytes-append, bytes-nil}

@@ -1,23 +1,18 @@
 -- Data from the host: a task gathers them, and has all of them at last.
-use Rattle.ufs_spec.specs.Plain.{region_of}
-use Rattle.power_loss.proofs.Common.{◌≡◌, ℕ, ◌+◌, ◌<◌, ◌≤◌, Bool, true, false, List, ◌∷◌}
-use Rattle.power_loss.proofs.Common.{◌++◌, Option, Some, None, length, refl, sym, ◌∙◌}
-use Rattle.power_loss.proofs.Common.{arith, nat_lt}
-use Rattle.power_loss.proofs.Common.{ltb-true, below}
-use Rattle.power_loss.proofs.Common.{is_mended, Numbers}
-use Rattle.power_loss.proofs.MachineWords.{Answering, Awaiting, Command, Deed, ForFrames, ForUnmap, ForWrite, Gathering}
-use Rattle.power_loss.proofs.MachineWords.{Good, Purpose, ReadingArea, Status, Task}
-use Rattle.power_loss.proofs.MachineWords.{is_asked_in, is_asked_of, task_of, asked_fault}
-use Rattle.power_loss.proofs.MachineWords.{claimed_by, complete, data_for, data_heard, set_deed, with_moves, write_deed}
-use Rattle.power_loss.proofs.MachineWords.{AreBytes, State, locked, numbers_of, plain_now, DeedFits, IsTied}
-use Rattle.power_loss.proofs.MachineWords.{claim_of}
+use Rattle.ufs_spec.specs.Plain.{region_of, regions}
+use Rattle.power_loss.proofs.Common.{Bool, List, None, Numbers, Option, Some, arith, below, false, is_mended, length}
+use Rattle.power_loss.proofs.Common.{ltb-true, nat_lt, refl, sym, true, ℕ, ◌++◌, ◌+◌, ◌<◌, ◌∙◌, ◌∷◌, ◌≡◌, ◌≤◌}
+use Rattle.power_loss.proofs.MachineWords.{Answering, AreBytes, Awaiting, Command, Deed, DeedFits, ForFrames, ForUnmap}
+use Rattle.power_loss.proofs.MachineWords.{ForWrite, Gathering, Good, IsTied, Purpose, ReadingArea, State, Status, Task}
+use Rattle.power_loss.proofs.MachineWords.{asked_fault, claim_of, claimed_by, complete, data_for, data_heard}
+use Rattle.power_loss.proofs.MachineWords.{is_asked_in, is_asked_of, locked, numbers_of, plain_now, set_deed, task_of}
+use Rattle.power_loss.proofs.MachineWords.{with_moves, write_deed}
 use Rattle.std.specs.Prelude.{if◌then◌else◌}
 use Rattle.ufs_spec.specs.Changes.{given_back}
 use Rattle.ufs_spec.specs.FrameRequests.{area_read, first_page, keeps_area, page_kept, pages_named, requested}
 use Rattle.ufs_spec.specs.Frames.{Frame}
 use Rattle.ufs_spec.specs.Keys.{area_key}
 use Rattle.ufs_spec.specs.Machine.{gathered_more}
-use Rattle.ufs_spec.specs.Plain.{regions}
 use Rattle.ufs_laws.proofs.walk.Happenings.{is_asked as no_offence}
 use Rattle.ufs_laws.proofs.walk.SmallChanges.{Both, One, SetsRegisters, Still}
 use Rattle.ufs_laws.proofs.walk.WaysOfData.{Accepted, AcceptsFrames, Completion, HasResult, IsAccepted}

@@ -1,15 +1,9 @@
 -- A task that gathers data, what came of them, and whether that is all.
-use Rattle.power_loss.proofs.Common.{◌≡◌, ℕ, ◌<◌, ◌≤◌, ◌==◌, ◌&&◌, Bool, true, false, List}
-use Rattle.power_loss.proofs.Common.{◌++◌, Some, length, ap, ◌∙◌, subst}
-use Rattle.power_loss.proofs.Common.{arith, nat_lt, length-append, and_parts}
-use Rattle.power_loss.proofs.Common.{ltb-false, eqb-true}
-use Rattle.power_loss.proofs.Common.{is_mended}
-use Rattle.power_loss.proofs.MachineWords.{Deed, Gathering}
-use Rattle.power_loss.proofs.MachineWords.{Purpose, Task, count_at}
-use Rattle.power_loss.proofs.MachineWords.{is_asked_in, task_of}
-use Rattle.power_loss.proofs.MachineWords.{claimed_by}
-use Rattle.power_loss.proofs.MachineWords.{AreBytes, State, numbers_of, IsTied}
-use Rattle.power_loss.proofs.MachineWords.{claim_of}
+use Rattle.power_loss.proofs.Common.{Bool, List, Some, and_parts, ap, arith, eqb-true, false, is_mended, length}
+use Rattle.power_loss.proofs.Common.{length-append, ltb-false, nat_lt, subst, true, ℕ, ◌&&◌, ◌++◌, ◌<◌, ◌==◌, ◌∙◌, ◌≡◌}
+use Rattle.power_loss.proofs.Common.{◌≤◌}
+use Rattle.power_loss.proofs.MachineWords.{AreBytes, Deed, Gathering, IsTied, Purpose, State, Task, claim_of}
+use Rattle.power_loss.proofs.MachineWords.{claimed_by, count_at, is_asked_in, numbers_of, task_of}
 use Rattle.ufs_laws.proofs.pages.ByteLists.{bytes-append}
 use Rattle.power_loss.proofs.host_commands.HandedOutReplies.{FitsIn}
 use Rattle.power_loss.proofs.open_tasks.TaskLists.{found_fits}

@@ -2,18 +2,15 @@
 use Rattle.power_loss.proofs.Common.{◌≡◌, ℕ, ◌+◌, ◌≤◌, Bool, true, false, not, List, [], ◌∷◌, Option, Some, None}
 use Rattle.power_loss.proofs.Common.{length, refl, sym, ap, ◌∙◌, subst, inl, inr, arith, find, nat_le, nat_lt, LetGo}
 use Rattle.power_loss.proofs.Common.{LetGoAll, Acknowledge, WantPage, none-some, same_Some, is_mended, Numbers}
-use Rattle.power_loss.proofs.MachineWords.{Answering, Awaiting, Deed, ForFrames, ForUnmap, ForWrite, Gathering, Good}
-use Rattle.power_loss.proofs.MachineWords.{NotRead, Purpose, ReadBlock, ReadState, ReadingArea, Sending, SendingBytes}
-use Rattle.power_loss.proofs.MachineWords.{Short, Task, is_short_of}
-use Rattle.power_loss.proofs.MachineWords.{is_task_of, response, task_of, without_short, without_task, with_deed, Due}
-use Rattle.power_loss.proofs.MachineWords.{claimed_by, deed_after, deed_after_block, deed_reply, durable, is_durable}
-use Rattle.power_loss.proofs.MachineWords.{moves_after, replied_by, set_deed, short_replied, tag_in, task_goes_on}
-use Rattle.power_loss.proofs.MachineWords.{with_moves, State, numbers_of, Message, Cdb, DeedFits, ShortAwaits}
-use Rattle.power_loss.proofs.MachineWords.{ShortFits, IsTied, claim_of}
+use Rattle.power_loss.proofs.MachineWords.{Answering, Awaiting, Cdb, Deed, DeedFits, Due, ForFrames, ForUnmap, ForWrite}
+use Rattle.power_loss.proofs.MachineWords.{Gathering, Good, IsTied, Message, NotRead, Purpose, ReadBlock, ReadState}
+use Rattle.power_loss.proofs.MachineWords.{ReadingArea, Sending, SendingBytes, Short, ShortAwaits, ShortFits, State}
+use Rattle.power_loss.proofs.MachineWords.{Task, claim_of, claimed_by, deed_after, deed_after_block, deed_reply}
+use Rattle.power_loss.proofs.MachineWords.{durable, is_durable, is_short_of, is_task_of, moves_after, numbers_of}
+use Rattle.power_loss.proofs.MachineWords.{replied_by, response, set_deed, short_replied, tag_in, task_goes_on, task_of}
+use Rattle.power_loss.proofs.MachineWords.{with_deed, with_moves, without_short, without_task}
 use Rattle.std.specs.Prelude.{if◌then◌else◌, slice_get}
-use Rattle.ufs_spec.specs.Machine.{deed_after_state}
-use Rattle.ufs_spec.specs.Machine.{replied}
-use Rattle.ufs_spec.specs.Machine.{acknowledges}
+use Rattle.ufs_spec.specs.Machine.{acknowledges, deed_after_state, replied}
 use Rattle.ufs_spec.proofs.Facts.{leb-true}
 use Rattle.power_loss.specs.Exchange.{AwaitsFit}
 use Rattle.power_loss.proofs.open_tasks.TaskLists.{found_short, found_task, no_task_found, short_fits_at, shorts_fewer}

@@ -1,14 +1,11 @@
 -- All data of an UNMAP and of frames: what is accepted of them may come, and the pages of a request for data are keys.
-use Rattle.power_loss.proofs.Common.{◌≡◌, ◌≢◌, ◌⊎◌, ℕ, ◌+◌, ◌<◌, ◌≤◌, ◌==◌, Bool, true, false, All, List, ◌∷◌}
-use Rattle.power_loss.proofs.Common.{Option, Some, None, length, get_or, sym, ◌∙◌, subst, inl, inr, not, not-false}
-use Rattle.power_loss.proofs.Common.{arith, data_key, length-map, get_or-map, slice_get-get_or, and_parts}
-use Rattle.power_loss.proofs.Common.{ltb-false, or_parts, eqb-true, false≢true, below, IsKey, IsArea}
-use Rattle.power_loss.proofs.Common.{Shape, shape_of_numbers, Numbers}
-use Rattle.power_loss.proofs.MachineWords.{Command, ForFrames, ForUnmap, Gathering}
-use Rattle.power_loss.proofs.MachineWords.{Purpose, Task, UnitSpec}
-use Rattle.power_loss.proofs.MachineWords.{claimed_by}
-use Rattle.power_loss.proofs.MachineWords.{State, locked, numbers_of, plain_now, IsTied}
-use Rattle.power_loss.proofs.MachineWords.{claim_of}
+use Rattle.power_loss.proofs.Common.{All, Bool, IsArea, IsKey, List, None, Numbers, Option, Shape, Some, and_parts}
+use Rattle.power_loss.proofs.Common.{arith, below, data_key, eqb-true, false, false≢true, get_or, get_or-map, inl, inr}
+use Rattle.power_loss.proofs.Common.{length, length-map, ltb-false, not, not-false, or_parts, shape_of}
+use Rattle.power_loss.proofs.Common.{shape_of_numbers, slice_get-get_or, subst, sym, true, ℕ, ◌+◌, ◌<◌, ◌==◌, ◌∙◌, ◌∷◌}
+use Rattle.power_loss.proofs.Common.{◌≡◌, ◌≢◌, ◌≤◌, ◌⊎◌}
+use Rattle.power_loss.proofs.MachineWords.{Command, ForFrames, ForUnmap, Gathering, IsTied, Purpose, State, Task}
+use Rattle.power_loss.proofs.MachineWords.{UnitSpec, claim_of, claimed_by, locked, numbers_of, plain_now}
 use Rattle.std.specs.Prelude.{◌/◌}
 use Rattle.ufs_bytes.specs.Fields.{field_at}
 use Rattle.ufs_spec.specs.Commands as command
@@ -16,28 +13,22 @@ use Rattle.ufs_spec.specs.Configs.{command_blocks}
 use Rattle.ufs_spec.specs.DataOuts.{is_past_unit}
 use Rattle.ufs_spec.specs.FrameRequests.{first_page, pages_named, reads_area}
 use Rattle.ufs_spec.specs.Frames.{Frame, IsFrame, frames_in}
-use Rattle.ufs_spec.specs.Keys.{area_key}
-use Rattle.ufs_spec.specs.Plain.{greatest_command}
+use Rattle.ufs_spec.specs.Keys.{area_key, region_pages}
+use Rattle.ufs_spec.specs.Plain.{HasRegion, greatest_command, regions, shape_of_numbers}
 use Rattle.ufs_spec.specs.Refusals.{unit_numbers_at, accepts_nothing, mended}
-use Rattle.power_loss.proofs.Common.{get_or, shape_of}
-use Rattle.ufs_spec.specs.Keys.{region_pages}
 use Rattle.ufs_spec.proofs.RegionPages.{pages_held}
 use Rattle.ufs_laws.proofs.plain_contents.CommandsKeepPlain.{its_region}
 use Rattle.ufs_spec.specs.Rpmb.{Results, read_data, region_of, rpmb_outcome}
 use Rattle.ufs_spec.specs.RpmbResponses.{is_success}
-use Rattle.ufs_spec.specs.Plain.{HasRegion, regions, shape_of_numbers}
 use Rattle.ufs_spec.proofs.ConfigFacts.{command_blocks-few, command_blocks-some}
 use Rattle.ufs_spec.proofs.Facts.{eq-eqb, eqb-false}
 use Rattle.power_loss.specs.Exchange.{FramesFit}
 use Rattle.ufs_laws.proofs.plain_contents.ListParts.{length-below}
-use Rattle.ufs_laws.proofs.rpmb_frames.FramesRead.{first_frames}
-use Rattle.ufs_laws.proofs.walk.WaysOfData.{IsDecided}
-use Rattle.ufs_laws.proofs.walk.WaysOfData.{IsRightList}
+use Rattle.ufs_laws.proofs.rpmb_frames.FramesRead.{first_frames, length-frames_in}
+use Rattle.ufs_laws.proofs.walk.WaysOfData.{IsDecided, IsRightList}
 use Rattle.power_loss.specs.WaitingFrames.{AsksInside}
 use Rattle.power_loss.proofs.commands.RequestedCommands.{data_in_area, frames_requested}
-use Rattle.ufs_laws.proofs.rpmb_frames.FramesRead.{length-frames_in}
-use Rattle.power_loss.proofs.host_commands.AcceptedCommands.{IsComing, plain_tied}
-use Rattle.power_loss.proofs.host_commands.AcceptedCommands.{shape_tied}
+use Rattle.power_loss.proofs.host_commands.AcceptedCommands.{IsComing, plain_tied, shape_tied}
 use Rattle.power_loss.proofs.ordered_lists.ElementsAndOrders.{all_below}
 use Rattle.std.proofs.lemmas.List.Elements.{All-weaker}
 use Rattle.power_loss.proofs.host_commands.GatheringTasks.{GathersIn, HasAll, HasMore}

@@ -25,9 +25,7 @@ use Rattle.std.proofs.lemmas.Bool.{cases_lt, eqb-false, eq-eqb, lt-ltb}
 use Rattle.ufs_spec.specs.declared.scsi.Cdb.TheVariants as cdb
 use Rattle.power_loss.specs.Exchange.{FramesFit, UnmapFits}
 use Rattle.ufs_spec.specs.Exchanges.{most_short_exchanges}
-use Rattle.ufs_spec.specs.Machine.{in_use}
-use Rattle.ufs_spec.specs.Machine.{opening_fault}
-use Rattle.ufs_spec.specs.Machine.{data_begun}
+use Rattle.ufs_spec.specs.Machine.{data_begun, in_use, opening_fault}
 use Rattle.ufs_spec.specs.Configs.{command_blocks}
 use Rattle.ufs_spec.specs.Refusals.{is_frames, needs_blocks, needs_mended, refused_state, slots_needed, writes}
 use Rattle.ufs_spec.specs.declared.faults.HostFault.TheVariants.{Backlog, TagInUse}

@@ -1,9 +1,8 @@
 -- A query: it is answered at once, or is a setting that is accepted.
-use Rattle.power_loss.proofs.Common.{◌≡◌, ℕ, ◌+◌, ◌-◌, ◌≤◌, ◌==◌, ◌&&◌, Bool, true, false, not, List, []}
-use Rattle.power_loss.proofs.Common.{◌∷◌, ◌++◌, Option, Some, None, length, map, refl, sym, ap, ◌∙◌, subst, arith}
-use Rattle.power_loss.proofs.Common.{is_none, nat_lt, length-append, and_parts, cond-false, false≢true, ltb-false}
-use Rattle.power_loss.proofs.Common.{ltb-true, none-some, same_Some, true≢false, CanApply}
-use Rattle.power_loss.proofs.Common.{IsCommand, Claim, free_slots, is_mended}
+use Rattle.power_loss.proofs.Common.{Bool, CanApply, Claim, IsCommand, List, None, Option, Some, [], and_parts, ap}
+use Rattle.power_loss.proofs.Common.{arith, cond-false, false, false≢true, free_slots, is_mended, is_none, length}
+use Rattle.power_loss.proofs.Common.{length-append, ltb-false, ltb-true, map, nat_lt, none-some, not, refl, same_Some}
+use Rattle.power_loss.proofs.Common.{subst, sym, true, true≢false, ℕ, ◌&&◌, ◌++◌, ◌+◌, ◌-◌, ◌==◌, ◌∙◌, ◌∷◌, ◌≡◌, ◌≤◌}
 use Rattle.power_loss.proofs.MachineWords.{Command, Task, short_reply, accepts, with_moves, with_short, State}
 use Rattle.power_loss.proofs.MachineWords.{locked, mended, numbers_of, plain_now, IsTied, TasksRight}
 use Rattle.std.specs.Prelude.{if◌then◌else◌}

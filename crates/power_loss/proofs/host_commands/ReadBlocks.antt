@@ -5,11 +5,10 @@ use Rattle.power_loss.proofs.Common.{arith, All, nat_lt, get_or-map, length-map,
 use Rattle.power_loss.proofs.Common.{All-weaker, get_or_from_slice_get, slice_get-get_or, slice_get_within}
 use Rattle.power_loss.proofs.Common.{ltb-false, ltb-true, not-false, same_Some, IsData, IsKey, below, data_key, Ledger}
 use Rattle.power_loss.proofs.Common.{⊎_elim, look, Keep, shape_of_numbers, Pin, Numbers, Key, is_mended}
-use Rattle.power_loss.proofs.MachineWords.{address_of, blocks_of, blocks_expected, unit_or_first}
-use Rattle.power_loss.proofs.MachineWords.{with_moves, BootUnit, Lun, Request}
-use Rattle.power_loss.proofs.MachineWords.{State, is_past, lacks_unit, lun_of, not_taken, numbers_of}
-use Rattle.power_loss.proofs.MachineWords.{plain_now, unit_numbers_at, unit_in, unit_of_request}
-use Rattle.power_loss.proofs.MachineWords.{UnitSpec, Cdb, IsTied}
+use Rattle.power_loss.proofs.MachineWords.{BootUnit, Cdb, IsTied, Lun, Request, State, UnitSpec, address_of}
+use Rattle.power_loss.proofs.MachineWords.{blocks_expected, blocks_of, is_past, lacks_unit, lun_of, not_taken}
+use Rattle.power_loss.proofs.MachineWords.{numbers_of, plain_now, unit_in, unit_numbers_at, unit_of_request}
+use Rattle.power_loss.proofs.MachineWords.{unit_or_first, with_moves}
 use Rattle.std.proofs.Common.{position}
 use Rattle.std.specs.Prelude.{if◌then◌else◌, is_none, Bool}
 use Rattle.std.specs.Int.{div_ceil}

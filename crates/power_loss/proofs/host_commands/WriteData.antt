@@ -1,9 +1,8 @@
 -- A WRITE that has all its data.
-use Rattle.power_loss.proofs.Common.{◌≡◌, ℕ, zero, suc, ◌+◌, ◌*◌, ◌<◌, ◌≤◌, true, false, List, All, length, get_or}
-use Rattle.power_loss.proofs.Common.{drop}
-use Rattle.power_loss.proofs.Common.{refl, sym, subst, arith, length-drop, length-map, length-take-le, IsBlock}
-use Rattle.power_loss.proofs.Common.{below, data_key, group_of, Accept, IsAllowedMove, CanApply, Shape}
-use Rattle.power_loss.proofs.Common.{Some, shape_of_numbers, is_mended}
+use Rattle.power_loss.proofs.Common.{Accept, All, CanApply, IsAllowedMove, IsBlock, List, Shape, Some, arith, below}
+use Rattle.power_loss.proofs.Common.{data_key, drop, false, get_or, group_of, is_mended, length, length-drop}
+use Rattle.power_loss.proofs.Common.{length-map, length-take-le, refl, shape_of_numbers, subst, suc, sym, true, zero, ℕ}
+use Rattle.power_loss.proofs.Common.{◌*◌, ◌+◌, ◌<◌, ◌≡◌, ◌≤◌}
 use Rattle.power_loss.proofs.MachineWords.{Command, Task, task_of, blocks_in, AreBytes, State, locked, numbers_of}
 use Rattle.power_loss.proofs.MachineWords.{plain_now, IsTied, claim_of}
 use Rattle.ufs_spec.proofs.ConfigFacts.{command_blocks-few}

@@ -7,11 +7,10 @@ use Rattle.power_loss.proofs.Common.{at_place, flight_alone, page_of, program_fa
 use Rattle.power_loss.proofs.Common.{EndJob, Ending, MayEnd, ReadRight, ReadWrong, WentWell, WentWrong, die_idle}
 use Rattle.power_loss.proofs.Common.{end_flight, freed, moved, read_right, read_wrong, MayBeLeft, Plan, Translation}
 use Rattle.power_loss.proofs.Common.{has_mark_number, is_mended, mark_ordered, Numbers, Fence, Place, torn_is_nothing}
-use Rattle.power_loss.proofs.MachineWords.{blank_page, Answering, Awaiting, Deed, Gathering, NotRead, ReadState}
-use Rattle.power_loss.proofs.MachineWords.{ReadingArea, Sending, Task, SendingBytes, WasRead, is_task_of, array_after}
-use Rattle.power_loss.proofs.MachineWords.{claimed_by}
-use Rattle.power_loss.proofs.MachineWords.{deed_read, ends_with, in_block, read_noted, task_read, with_moves, State}
-use Rattle.power_loss.proofs.MachineWords.{numbers_of, DeedFits, IsTied, claim_of}
+use Rattle.power_loss.proofs.MachineWords.{Answering, Awaiting, Deed, DeedFits, Gathering, IsTied, NotRead, ReadState}
+use Rattle.power_loss.proofs.MachineWords.{ReadingArea, Sending, SendingBytes, State, Task, WasRead, array_after}
+use Rattle.power_loss.proofs.MachineWords.{blank_page, claim_of, claimed_by, deed_read, ends_with, in_block, is_task_of}
+use Rattle.power_loss.proofs.MachineWords.{numbers_of, read_noted, task_read, with_moves}
 use Rattle.std.specs.Prelude.{if◌then◌else◌}
 use Rattle.std.proofs.lemmas.Bool.{ltb-false}
 use Rattle.ufs_laws.proofs.pages.BlankPages.{nothing_is_blank}

@@ -1,11 +1,10 @@
 -- Erases that end keep a life valid.
-use Rattle.power_loss.proofs.Common.{◌≡◌, ◌≢◌, ℕ, Bool, true, false, ◌⊎◌, Some, None, refl, sym, ap, ◌∙◌, inl}
-use Rattle.power_loss.proofs.Common.{inr, ⊎_elim, Cell, Cells, Nothing, BlockState, Bad, CellCrash, Erasing}
-use Rattle.power_loss.proofs.Common.{Free, Programming, Spot, at_die, at_spot, erase_failed, erased}
-use Rattle.power_loss.proofs.Common.{flight_alone, spot_of, WentWell, WentWrong, job_ended, Translation, Place}
-use Rattle.power_loss.proofs.Common.{at_die_is, at_spot_is, spot_cases, BlocksRight, EraseRight, ProgramRight, Ready}
-use Rattle.power_loss.proofs.Common.{Stale}
-use Rattle.power_loss.proofs.Common.{VacanciesRight, Valid, none-some}
+use Rattle.power_loss.proofs.Common.{Bad, BlockState, BlocksRight, Bool, Cell, CellCrash, Cells, EraseRight, Erasing}
+use Rattle.power_loss.proofs.Common.{Free, None, Nothing, Place, ProgramRight, Programming, Ready, Some, Spot, Stale}
+use Rattle.power_loss.proofs.Common.{Translation, VacanciesRight, Valid, WentWell, WentWrong, ap, at_die, at_die_is}
+use Rattle.power_loss.proofs.Common.{at_spot, at_spot_is, erase_failed, erased, false, flight_alone, inl, inr}
+use Rattle.power_loss.proofs.Common.{job_ended, none-some, refl, spot_cases, spot_of, sym, true, ℕ, ⊎_elim, ◌∙◌, ◌≡◌}
+use Rattle.power_loss.proofs.Common.{◌≢◌, ◌⊎◌}
 use Rattle.power_loss.proofs.jobs.DiskChanges.{Change, lost_pages}
 use Rattle.power_loss.proofs.jobs.ReadsAndTasks.{idle_fewer}
 use Rattle.power_loss.proofs.kept_pages.ReadsStay.{idle_reads, reads_stay}

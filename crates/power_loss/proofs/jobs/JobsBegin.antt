@@ -1,16 +1,15 @@
 -- A program and an erase that a die is given keep a life valid.
-use Rattle.power_loss.proofs.Common.{◌≡◌, ℕ, zero, suc, ◌<◌, Bool, true, false, ◌⊎◌, List, [], ◌∷◌, Option, Some, None}
-use Rattle.power_loss.proofs.Common.{refl, sym, ap, ◌∙◌, subst, inl, inr, ⊎_elim, arith, list_any, list_any-append}
-use Rattle.power_loss.proofs.Common.{Cell, Mark, MarkPage, Erasing, Flight, Programming, Spot, at_die, at_spot}
-use Rattle.power_loss.proofs.Common.{job_begun, spot_of, below, Entry, Name, IsFirstFence, number_of}
-use Rattle.power_loss.proofs.Common.{CopyStep, MarkStep, Mended, Mending, MayTake, Plan, RepairStep, Repairing, Step}
-use Rattle.power_loss.proofs.Common.{Translation, Unmarked, flies_mark, records_now, some_flight, taken, Fence, Key}
-use Rattle.power_loss.proofs.Common.{Place, spot_cases, at_die_is, at_spot_is, mark_not_nothing, one_mark}
-use Rattle.power_loss.proofs.Common.{page_not_mark, page_not_nothing, or_parts, same_Some, true≢false, none_in_empty}
-use Rattle.power_loss.proofs.Common.{Book, IsKnown, IsLostNumber, IsOverwritten, IsWritten, book, last_number}
-use Rattle.power_loss.proofs.Common.{FenceRight, IsLastRepair, IsLaterMark, IsToCopy, MarkFlightRight}
-use Rattle.power_loss.proofs.Common.{BlockState, BlocksRight, Filling, Free, MarkStepRight, StandsIn, Valid}
-use Rattle.power_loss.proofs.Common.{at_spot_cases, one_page, ◌≢◌}
+use Rattle.power_loss.proofs.Common.{BlockState, BlocksRight, Book, Bool, Cell, CopyStep, Entry, Erasing, Fence}
+use Rattle.power_loss.proofs.Common.{FenceRight, Filling, Flight, Free, IsFirstFence, IsKnown, IsLastRepair}
+use Rattle.power_loss.proofs.Common.{IsLaterMark, IsLostNumber, IsOverwritten, IsToCopy, IsWritten, Key, List, Mark}
+use Rattle.power_loss.proofs.Common.{MarkFlightRight, MarkPage, MarkStep, MarkStepRight, MayTake, Mended, Mending, Name}
+use Rattle.power_loss.proofs.Common.{None, Option, Place, Plan, Programming, RepairStep, Repairing, Some, Spot}
+use Rattle.power_loss.proofs.Common.{StandsIn, Step, Translation, Unmarked, Valid, [], ap, arith, at_die, at_die_is}
+use Rattle.power_loss.proofs.Common.{at_spot, at_spot_cases, at_spot_is, below, book, false, flies_mark, inl, inr}
+use Rattle.power_loss.proofs.Common.{job_begun, last_number, list_any, list_any-append, mark_not_nothing, none_in_empty}
+use Rattle.power_loss.proofs.Common.{number_of, one_mark, one_page, or_parts, page_not_mark, page_not_nothing}
+use Rattle.power_loss.proofs.Common.{records_now, refl, same_Some, some_flight, spot_cases, spot_of, subst, suc, sym}
+use Rattle.power_loss.proofs.Common.{taken, true, true≢false, zero, ℕ, ⊎_elim, ◌<◌, ◌∙◌, ◌∷◌, ◌≡◌, ◌≢◌, ◌⊎◌}
 use Rattle.power_loss.proofs.books.LayerParts.{MarksOf, MendingOf, OwnMarkOf, UnmarkedOf}
 use Rattle.power_loss.proofs.kept_pages.PagesStay.{held_begun}
 use Rattle.power_loss.proofs.jobs_owed.BegunPrograms.{CellRight, IsMarkedOnce, begins}

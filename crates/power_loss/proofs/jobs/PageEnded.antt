@@ -19,11 +19,10 @@ use Rattle.power_loss.proofs.kept_pages.PagesStay.{StayThere, pins_settle, rests
 use Rattle.power_loss.proofs.accepted_groups.ClaimedSlots.{fewer_pages, slots_fewer}
 use Rattle.power_loss.proofs.jobs.DiskChanges.{kind_goes_on}
 use Rattle.power_loss.proofs.jobs.StandsSecurely.{at_place_other, mark_stands_moves}
-use Rattle.power_loss.proofs.jobs.ProgramEnded.{GoesTo, blocks_behind, blocks_programmed}
-use Rattle.power_loss.proofs.jobs.ProgramEnded.{erase_goes_on, goes_to, keeps, not_there, other_flight, program_goes_on}
-use Rattle.power_loss.proofs.jobs.ProgramEnded.{safe_written, secure_written, stay, still_free, still_victim}
+use Rattle.power_loss.proofs.jobs.ProgramEnded.{GoesTo, blocks_behind, blocks_programmed, erase_goes_on, goes_to, keeps}
+use Rattle.power_loss.proofs.jobs.ProgramEnded.{not_there, other_flight, program_goes_on, safe_written, secure_written}
+use Rattle.power_loss.proofs.jobs.ProgramEnded.{stay, still_free, still_victim, vacancies_programmed, was_free}
 use Rattle.power_loss.proofs.jobs.NoneStale.{stale_stays}
-use Rattle.power_loss.proofs.jobs.ProgramEnded.{vacancies_programmed, was_free}
 
 -- The step under way
 

@@ -1,10 +1,9 @@
 -- A program that begins in a block that is being filled keeps a life valid, where what it writes is right.
-use Rattle.power_loss.proofs.Common.{◌≡◌, ℕ, ◌≤◌, ◌⊎◌, List, Option, Some, refl, sym, ◌∙◌, subst, inl, inr, ⊎_elim}
-use Rattle.power_loss.proofs.Common.{Cell, GroupPage, Mark, MarkPage, Nothing, Erasing, Programming, Spot, at_die}
-use Rattle.power_loss.proofs.Common.{Entry, Mending, Plan, Translation, Unmarked, Fence, Key, Place, Tag}
-use Rattle.power_loss.proofs.Common.{at_die_is, IsKnown, IsOverwritten, book, FlightsRight, IsLaterMark, IsOwnMark}
-use Rattle.power_loss.proofs.Common.{MarkFlightRight, MarksRight, MendingRight, PlanRight, ProgramRight, StandsIn}
-use Rattle.power_loss.proofs.Common.{Valid}
+use Rattle.power_loss.proofs.Common.{Cell, Entry, Erasing, Fence, FlightsRight, GroupPage, IsKnown, IsLaterMark}
+use Rattle.power_loss.proofs.Common.{IsOverwritten, IsOwnMark, Key, List, Mark, MarkFlightRight, MarkPage, MarksRight}
+use Rattle.power_loss.proofs.Common.{Mending, MendingRight, Nothing, Option, Place, Plan, PlanRight, ProgramRight}
+use Rattle.power_loss.proofs.Common.{Programming, Some, Spot, StandsIn, Tag, Translation, Unmarked, Valid, at_die}
+use Rattle.power_loss.proofs.Common.{at_die_is, book, inl, inr, refl, subst, sym, ℕ, ⊎_elim, ◌∙◌, ◌≡◌, ◌≤◌, ◌⊎◌}
 use Rattle.power_loss.proofs.kept_pages.ReadsStay.{program_reads, reads_fewer}
 use Rattle.power_loss.proofs.books.LayerParts.{MendingOf}
 

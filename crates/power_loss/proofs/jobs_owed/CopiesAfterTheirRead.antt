@@ -1,14 +1,13 @@
 -- A copy begins without its content, and only the end of the read of its page brings it.
-use Rattle.power_loss.proofs.Common.{◌≡◌, ◌⊎◌, ◌&&◌, ℕ, not, Bool, true, false, is_none, if◌then◌else◌, Option, Some}
-use Rattle.power_loss.proofs.Common.{None, refl}
-use Rattle.power_loss.proofs.Common.{sym, ap, ◌∙◌, subst, inl, inr, ⊎_elim, false≢true, none-some, same_Some, Cell}
-use Rattle.power_loss.proofs.Common.{GroupPage, MarkPage, Nothing, Erasing, Flight, ForRest, ForStep, ForTask}
-use Rattle.power_loss.proofs.Common.{Programming, Reader, Reading, program_failed, Name, EndJob, Ending, Move}
-use Rattle.power_loss.proofs.Common.{ReadRight, ReadWrong, TakeStep, WentWell, WentWrong, die_idle, end_flight}
-use Rattle.power_loss.proofs.Common.{is_kind_of, mark_again, moved, read_right, read_wrong, step_after, CopyStep}
-use Rattle.power_loss.proofs.Common.{MayTake, Order, OrderCopy, Step, StepKind, Translation, Want, copy_begun}
-use Rattle.power_loss.proofs.Common.{due_order, has_mark_number, mark_ordered, name_of, next_order, stepped, turned}
-use Rattle.power_loss.proofs.Common.{want_at, wants_of_step, with_plan, Fence, Place}
+use Rattle.power_loss.proofs.Common.{Bool, Cell, CopyStep, EndJob, Ending, Erasing, Fence, Flight, ForRest, ForStep}
+use Rattle.power_loss.proofs.Common.{ForTask, GroupPage, MarkPage, MayTake, Move, Name, None, Nothing, Option, Order}
+use Rattle.power_loss.proofs.Common.{OrderCopy, Place, Programming, ReadRight, ReadWrong, Reader, Reading, Some, Step}
+use Rattle.power_loss.proofs.Common.{StepKind, TakeStep, Translation, Want, WentWell, WentWrong, ap, copy_begun}
+use Rattle.power_loss.proofs.Common.{die_idle, due_order, end_flight, false, false≢true, has_mark_number, if◌then◌else◌}
+use Rattle.power_loss.proofs.Common.{inl, inr, is_kind_of, is_none, mark_again, mark_ordered, moved, name_of}
+use Rattle.power_loss.proofs.Common.{next_order, none-some, not, program_failed, read_right, read_wrong, refl}
+use Rattle.power_loss.proofs.Common.{same_Some, step_after, stepped, subst, sym, true, turned, want_at, wants_of_step}
+use Rattle.power_loss.proofs.Common.{with_plan, ℕ, ⊎_elim, ◌&&◌, ◌∙◌, ◌≡◌, ◌⊎◌}
 use Rattle.ufs_spec.specs.Translation.{has_stale}
 use Rattle.power_loss.proofs.ordered_lists.ElementsAndOrders.{IsIn}
 use Rattle.power_loss.proofs.jobs_owed.OneDieForEachJob.{read_owed}

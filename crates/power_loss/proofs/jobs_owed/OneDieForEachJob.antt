@@ -9,9 +9,8 @@ use Rattle.power_loss.proofs.Common.{MayTake, Pin, RepairStep, Rest, Source, Ste
 use Rattle.power_loss.proofs.Common.{cell_of_entry, flies_mark, flies_name, name_of, some_flight, step_cell, step_flies}
 use Rattle.power_loss.proofs.Common.{tag_of, want_at, wants_of_step, Place, Tag, name_self}
 use Rattle.ufs_spec.specs.Ledger.{entry_of}
-use Rattle.ufs_spec.specs.Translation.{flies_reader, is_of_die, is_unread, same_reader}
-use Rattle.ufs_spec.specs.Translation.{want_of_kind, want_of_look, want_of_pin}
-use Rattle.ufs_spec.specs.Translation.{want_of_rest, want_of_source, wants, wants_on}
+use Rattle.ufs_spec.specs.Translation.{flies_reader, is_of_die, is_unread, same_reader, want_of_kind, want_of_look}
+use Rattle.ufs_spec.specs.Translation.{want_of_pin, want_of_rest, want_of_source, wants, wants_on}
 use Rattle.power_loss.specs.OwedJobs.{IsFirstProgram, IsStepsPage}
 use Rattle.power_loss.proofs.collected_blocks.FewestLivePages.{in_any}
 use Rattle.power_loss.proofs.ordered_lists.ElementsAndOrders.{IsIn, contained_in, filter_in, in_below, in_either}

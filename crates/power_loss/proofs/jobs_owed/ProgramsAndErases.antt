@@ -1,14 +1,13 @@
 -- What is owed to a die: the place of a program and what is programmed there, and the block of an erase.
-use Rattle.power_loss.proofs.Common.{◌≡◌, ℕ, ◌<◌, ◌&&◌, not, if◌then◌else◌, Bool, true, false, ◌⊎◌, is_none, Option}
-use Rattle.power_loss.proofs.Common.{Some, None, refl, sym, ap, ◌∙◌, subst, inl, inr, ⊎_elim, filter_map, list_any}
-use Rattle.power_loss.proofs.Common.{none_is, and_parts, ltb-true, none-some, not-true, same_Some, Cell, BlockState}
-use Rattle.power_loss.proofs.Common.{Erasing, Filling, Flight, Free, Programming, Reading, Ready, Spot, Stale}
-use Rattle.power_loss.proofs.Common.{Untouched, Vacancy, ◌≢◌, place_in, spot_of}
-use Rattle.power_loss.proofs.Common.{below, Name, accepted_groups, before_accepted, is_standing, MayTake, Step}
-use Rattle.power_loss.proofs.Common.{Translation, cell_now, flies_name, flight_at, flight_for, is_free, is_pinned}
-use Rattle.power_loss.proofs.Common.{has_room_for_groups, is_rest_of, may_open_for_group, may_open_for_step}
-use Rattle.power_loss.proofs.Common.{names_after, next_place, some_flight, step_cell, step_flies}
-use Rattle.power_loss.proofs.Common.{waiting_name, waiting_step, Numbers, Place}
+use Rattle.power_loss.proofs.Common.{BlockState, Bool, Cell, Erasing, Filling, Flight, Free, MayTake, Name, None}
+use Rattle.power_loss.proofs.Common.{Numbers, Option, Place, Programming, Reading, Ready, Some, Spot, Stale, Step}
+use Rattle.power_loss.proofs.Common.{Translation, Untouched, Vacancy, accepted_groups, and_parts, ap, before_accepted}
+use Rattle.power_loss.proofs.Common.{below, cell_now, false, filter_map, flies_name, flight_at, flight_for}
+use Rattle.power_loss.proofs.Common.{has_room_for_groups, if◌then◌else◌, inl, inr, is_free, is_none, is_pinned}
+use Rattle.power_loss.proofs.Common.{is_rest_of, is_standing, list_any, ltb-true, may_open_for_group, may_open_for_step}
+use Rattle.power_loss.proofs.Common.{names_after, next_place, none-some, none_is, not, not-true, place_in, refl}
+use Rattle.power_loss.proofs.Common.{same_Some, some_flight, spot_of, step_cell, step_flies, subst, sym, true}
+use Rattle.power_loss.proofs.Common.{waiting_name, waiting_step, ℕ, ⊎_elim, ◌&&◌, ◌<◌, ◌∙◌, ◌≡◌, ◌≢◌, ◌⊎◌}
 use Rattle.power_loss.proofs.MachineWords.{IsSpot}
 use Rattle.std.proofs.Common.{option_map}
 use Rattle.ufs_laws.proofs.free_blocks.ErasesInOrder.{stale_is, untouched_is}

@@ -1,13 +1,12 @@
 -- Groups leave room to the device's own pages, and below it one block after another is opened.
-use Rattle.power_loss.proofs.Common.{◌≡◌, ℕ, suc, ◌+◌, ◌*◌, ◌<◌, ◌≤◌, ◌⊎◌, not, Bool, true, false, List, [], ◌∷◌}
-use Rattle.power_loss.proofs.Common.{Option, Some, None, is_some, refl, sym, ap, ◌∙◌, inl, inr, ⊎_elim, arith}
-use Rattle.power_loss.proofs.Common.{filter_map, list_any, false≢true, leb-true, ltb-true, none-some, not-true}
-use Rattle.power_loss.proofs.Common.{or_cases, or_left, or_right, same_Some, ◌≢◌, subst, Cell, Erasing, Filling, Flight}
-use Rattle.power_loss.proofs.Common.{Free, Programming, Reading, Spot, Stale, below, place_in, spot_of, Name, MayTake}
-use Rattle.power_loss.proofs.Common.{Translation, cell_now, flight_at, flight_for}
-use Rattle.power_loss.proofs.Common.{has_open_block, has_room_for_groups, is_free, may_open_for_group}
-use Rattle.power_loss.proofs.Common.{may_open_for_step, next_place, some_flight, waiting_name, waiting_step, Numbers}
-use Rattle.power_loss.proofs.Common.{Place}
+use Rattle.power_loss.proofs.Common.{Bool, Cell, Erasing, Filling, Flight, Free, List, MayTake, Name, None, Numbers}
+use Rattle.power_loss.proofs.Common.{Option, Place, Programming, Reading, Some, Spot, Stale, Translation, [], ap, arith}
+use Rattle.power_loss.proofs.Common.{below, cell_now, false, false≢true, filter_map, flight_at, flight_for}
+use Rattle.power_loss.proofs.Common.{has_open_block, has_room_for_groups, inl, inr, is_free, is_some, leb-true}
+use Rattle.power_loss.proofs.Common.{list_any, ltb-true, may_open_for_group, may_open_for_step, next_place, none-some}
+use Rattle.power_loss.proofs.Common.{not, not-true, or_cases, or_left, or_right, place_in, refl, same_Some, some_flight}
+use Rattle.power_loss.proofs.Common.{spot_of, subst, suc, sym, true, waiting_name, waiting_step, ℕ, ⊎_elim, ◌*◌, ◌+◌}
+use Rattle.power_loss.proofs.Common.{◌<◌, ◌∙◌, ◌∷◌, ◌≡◌, ◌≢◌, ◌≤◌, ◌⊎◌}
 use Rattle.power_loss.proofs.MachineWords.{IsSpot}
 use Rattle.std.proofs.Math.Nat.{lt_of_mul-lt-mul_right}
 use Rattle.std.proofs.lemmas.Grind.{div_ceil_times}

@@ -1,12 +1,11 @@
 -- What waits to be programmed is right: a page is known, and a mark is the one of the step under way.
-use Rattle.power_loss.proofs.Common.{true, false, Bool, ◌≡◌, ℕ, suc, ◌+◌, ◌-◌, ◌<◌, ◌⊎◌, List, [], ◌∷◌, length}
-use Rattle.power_loss.proofs.Common.{slice_get, Option, Some, refl, sym, ap, ◌∙◌, subst, inl, inr, ⊎_elim, arith}
-use Rattle.power_loss.proofs.Common.{none-some, true≢false, Cell, GroupPage, MarkPage, Group, below, Entry, Ledger}
-use Rattle.power_loss.proofs.Common.{Name, accepted_groups, before_accepted, CopyStep, MarkStep, Mending, RepairStep}
-use Rattle.power_loss.proofs.Common.{Step, StepKind, Translation, Unmarked, cell_now, cell_of_entry, flies_mark}
-use Rattle.power_loss.proofs.Common.{names_after, records_now, some_flight, step_cell, step_flies, tag_of}
-use Rattle.power_loss.proofs.Common.{waiting_name, waiting_step, Fence, Key, IsPageAt, book, MarkStepRight}
-use Rattle.power_loss.proofs.Common.{StepKindRight, Valid}
+use Rattle.power_loss.proofs.Common.{Bool, Cell, CopyStep, Entry, Fence, Group, GroupPage, IsPageAt, Key, Ledger, List}
+use Rattle.power_loss.proofs.Common.{MarkPage, MarkStep, MarkStepRight, Mending, Name, Option, RepairStep, Some, Step}
+use Rattle.power_loss.proofs.Common.{StepKind, StepKindRight, Translation, Unmarked, Valid, [], accepted_groups, ap}
+use Rattle.power_loss.proofs.Common.{arith, before_accepted, below, book, cell_now, cell_of_entry, false, flies_mark}
+use Rattle.power_loss.proofs.Common.{inl, inr, length, names_after, none-some, records_now, refl, slice_get}
+use Rattle.power_loss.proofs.Common.{some_flight, step_cell, step_flies, subst, suc, sym, tag_of, true, true≢false}
+use Rattle.power_loss.proofs.Common.{waiting_name, waiting_step, ℕ, ⊎_elim, ◌+◌, ◌-◌, ◌<◌, ◌∙◌, ◌∷◌, ◌≡◌, ◌⊎◌}
 use Rattle.ufs_spec.proofs.Lists.{get_there}
 use Rattle.ufs_spec.specs.Ledger.{entry_of}
 use Rattle.ufs_spec.specs.Translation.{names_of}

@@ -4,8 +4,7 @@ use Rattle.power_loss.proofs.Common.{slice_get, refl, sym, ap, ◌∙◌, subst,
 use Rattle.power_loss.proofs.Common.{Programming, InSlot, Ledger, Looked, Name, OnPage, Unwritten, looked_on}
 use Rattle.power_loss.proofs.Common.{page_stands, settled_look, EndJob, WentWell, end_flight, moved, settled_pin, Pin}
 use Rattle.power_loss.proofs.Common.{Translation, name_of, Place, Tag}
-use Rattle.std.proofs.Common.{nat_lt}
-use Rattle.std.proofs.Common.{le-ltb}
+use Rattle.std.proofs.Common.{le-ltb, nat_lt}
 use Rattle.std.proofs.lemmas.Option.{slice_get-map}
 use Rattle.power_loss.proofs.ordered_lists.ElementsAndOrders.{mapped_at}
 

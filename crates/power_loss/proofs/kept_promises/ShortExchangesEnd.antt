@@ -14,8 +14,7 @@ use Rattle.ufs_laws.proofs.walk.WaysOfCommands.{Beginning, Handing, WhyBegun, be
 use Rattle.ufs_laws.proofs.walk.WaysOfData.{Completion, Told, completed}
 use Rattle.ufs_laws.proofs.walk.SmallChanges.{first_kept, lock_short}
 use Rattle.ufs_laws.proofs.walk.Happenings.{Aborts, Begins, Completes, Happening, Replies, Sets, ShortOver, Tells}
-use Rattle.ufs_laws.proofs.walk.Happenings.{behind_by}
-use Rattle.ufs_laws.proofs.walk.Happenings.{ends_by, first, happened, job_over}
+use Rattle.ufs_laws.proofs.walk.Happenings.{behind_by, ends_by, first, happened, job_over}
 use Rattle.ufs_laws.proofs.lives.HeldAlongLives.{life_held, short_held}
 use Rattle.ufs_laws.proofs.lives.LivesJoined.{join}
 use Rattle.power_loss.specs.Promises.{LeadsTo, StaysOpen, WasLocked, short_of}

@@ -1,9 +1,7 @@
 -- Rests stay laid over their pages along each move, and an opened layer has none.
-use Rattle.power_loss.proofs.Common.{Bool, refl}
-use Rattle.power_loss.proofs.Common.{Spot, Accept, Acknowledge, Claim, EndJob}
-use Rattle.power_loss.proofs.Common.{GiveJob, IsAllowedMove, Keep, LetGo, LetGoAll, Move}
-use Rattle.power_loss.proofs.Common.{Release, TakeStep, WantPage, moved}
-use Rattle.power_loss.proofs.Common.{is_for, is_for_task, Translation, Numbers, Valid}
+use Rattle.power_loss.proofs.Common.{Accept, Acknowledge, Bool, Claim, EndJob, GiveJob, IsAllowedMove, Keep, LetGo}
+use Rattle.power_loss.proofs.Common.{LetGoAll, Move, Numbers, Release, Spot, TakeStep, Translation, Valid, WantPage}
+use Rattle.power_loss.proofs.Common.{is_for, is_for_task, moved, refl}
 use Rattle.power_loss.specs.LaidRests.{RestsLaid}
 use Rattle.power_loss.proofs.laid_rests.LaidGroups.{laid_accepts}
 use Rattle.power_loss.proofs.laid_rests.LaidMoves.{job_begins, job_ends, laid_turns, lets_go}

@@ -1,12 +1,8 @@
 -- The content below a group stays as it is when a later group is added; and a rest is found by its name.
-use Rattle.power_loss.proofs.Common.{◌≡◌, ℕ, suc, ◌+◌, ◌-◌, ◌<◌, ◌≤◌, true, List, [], ◌∷◌}
-use Rattle.power_loss.proofs.Common.{length, take, Some, ap, ◌∙◌}
-use Rattle.power_loss.proofs.Common.{⊎_elim, arith, Contains, find, nat_lt}
-use Rattle.power_loss.proofs.Common.{Group, put_groups, Name}
-use Rattle.power_loss.proofs.Common.{name_cases, cond-false, cond-true}
-use Rattle.power_loss.proofs.Common.{Rest}
-use Rattle.power_loss.proofs.Common.{is_rest_of, Book}
-use Rattle.power_loss.proofs.Common.{last_number, cases_Bool, ltb-false}
+use Rattle.power_loss.proofs.Common.{Book, Contains, Group, List, Name, Rest, Some, [], ap, arith, cases_Bool}
+use Rattle.power_loss.proofs.Common.{cond-false, cond-true, find, is_rest_of, last_number, length, ltb-false}
+use Rattle.power_loss.proofs.Common.{name_cases, nat_lt, put_groups, suc, take, true, ℕ, ⊎_elim, ◌+◌, ◌-◌, ◌<◌, ◌∙◌}
+use Rattle.power_loss.proofs.Common.{◌∷◌, ◌≡◌, ◌≤◌}
 use Rattle.std.proofs.lemmas.List.{take-append-le, take_all}
 use Rattle.power_loss.specs.LaidRests.{contents_below}
 use Rattle.power_loss.proofs.books.PagesByName.{grown}

@@ -1,21 +1,17 @@
 -- The rests of a group that is accepted are laid over their pages, and those that were there stay so.
-use Rattle.power_loss.proofs.Common.{◌≡◌, ◌⊎◌, ℕ, suc, ◌-◌, ◌<◌, ◌≤◌, true, false, List, ◌++◌}
-use Rattle.power_loss.proofs.Common.{length, Option, Some, None, slice_get, refl, sym, ap, ◌∙◌, subst, inl, inr}
-use Rattle.power_loss.proofs.Common.{⊎_elim, arith, Contains, find, option_map}
-use Rattle.power_loss.proofs.Common.{none-some, same_Some, false≢true, nat_lt}
-use Rattle.power_loss.proofs.Common.{Group, Item, key_of, put_groups, Entry, InSlot, Looked, Name}
-use Rattle.power_loss.proofs.Common.{OnPage, Unwritten, latest, look, looked_at}
-use Rattle.power_loss.proofs.Common.{looked_on, next_number, same_name, name_of}
-use Rattle.power_loss.proofs.Common.{name_cases, name_is, cond-true, is_kind_of, Accept}
-use Rattle.power_loss.proofs.Common.{IsAllowedMove, IsGroup, moved, CopyStep}
-use Rattle.power_loss.proofs.Common.{FromPage, FromSlot, MarkStep, RepairStep, Rest, Source, StepKind}
-use Rattle.power_loss.proofs.Common.{Translation, is_mended, is_rest_of, rests_of, source_of, Key, Place, Book, book}
-use Rattle.power_loss.proofs.Common.{HasKey, IsPageAt, last_number, Valid, StepKindRight, at_most, one_page}
+use Rattle.power_loss.proofs.Common.{Accept, Book, Contains, CopyStep, Entry, FromPage, FromSlot, Group, HasKey, InSlot}
+use Rattle.power_loss.proofs.Common.{IsAllowedMove, IsGroup, IsPageAt, Item, Key, List, Looked, MarkStep, Name, None}
+use Rattle.power_loss.proofs.Common.{OnPage, Option, Place, RepairStep, Rest, Some, Source, StepKind, StepKindRight}
+use Rattle.power_loss.proofs.Common.{Translation, Unwritten, Valid, ap, arith, at_most, book, cond-true, false}
+use Rattle.power_loss.proofs.Common.{false≢true, find, inl, inr, is_kind_of, is_mended, is_rest_of, key_of, last_number}
+use Rattle.power_loss.proofs.Common.{latest, length, look, looked_at, looked_on, moved, name_cases, name_is, name_of}
+use Rattle.power_loss.proofs.Common.{nat_lt, next_number, none-some, one_page, option_map, put_groups, refl, rests_of}
+use Rattle.power_loss.proofs.Common.{same_Some, same_name, slice_get, source_of, subst, suc, sym, true, ℕ, ⊎_elim, ◌++◌}
+use Rattle.power_loss.proofs.Common.{◌-◌, ◌<◌, ◌∙◌, ◌≡◌, ◌≤◌, ◌⊎◌}
 use Rattle.power_loss.proofs.MachineWords.{IsRestOf, IsShown}
 use Rattle.ufs_spec.specs.Translation.{awaited_read, is_in_part, read_from}
 use Rattle.ufs_spec.proofs.Equalities.{name_told}
-use Rattle.power_loss.specs.LaidRests.{IsOfFirst, IsUnflown, IsUnstepped, RestLaid, RestsLaid, SourceLaid}
-use Rattle.power_loss.specs.LaidRests.{WaitsFor}
+use Rattle.power_loss.specs.LaidRests.{IsOfFirst, IsUnflown, IsUnstepped, RestLaid, RestsLaid, SourceLaid, WaitsFor}
 use Rattle.power_loss.specs.Shown.{IsPageOf}
 use Rattle.power_loss.proofs.accepted_groups.AcceptedGroup.{group_may}
 use Rattle.power_loss.proofs.accepted_groups.RestsOfGroups.{rest_found, rests_told}
@@ -26,9 +22,8 @@ use Rattle.power_loss.proofs.books.PagesByName.{page_splits, page_within}
 use Rattle.power_loss.proofs.collected_blocks.FewestLivePages.{mended_told}
 use Rattle.power_loss.proofs.kept_pages.LookedUpPages.{last_page, look_right}
 use Rattle.power_loss.proofs.laid_rests.BelowGroups.{below_grows, below_last, is_less, rest_is_found}
-use Rattle.power_loss.proofs.ordered_lists.ElementsAndOrders.{IsIn, contained_in, found_in}
-use Rattle.power_loss.proofs.ordered_lists.ElementsAndOrders.{in_contained, in_either, in_left}
-use Rattle.power_loss.proofs.ordered_lists.ElementsAndOrders.{in_right}
+use Rattle.power_loss.proofs.ordered_lists.ElementsAndOrders.{IsIn, contained_in, found_in, in_contained, in_either}
+use Rattle.power_loss.proofs.ordered_lists.ElementsAndOrders.{in_left, in_right}
 use Rattle.power_loss.proofs.shown_blocks.LooksShowContents.{latest_has, looked_has}
 
 module _ {t : Translation} {g : Group} (v : Valid t) (laid : RestsLaid t) (mended : is_mended t.work.mending ≡ true)

@@ -1,36 +1,31 @@
 -- Rests stay laid over their pages along every move but the accepting of a group.
-use Rattle.power_loss.proofs.Common.{◌≡◌, ℕ, Bool, true, false, List, ◌∷◌, Option, Some, None, refl, sym, ap}
-use Rattle.power_loss.proofs.Common.{◌∙◌, subst, ⊎_elim, if◌then◌else◌, none-some, same_Some}
-use Rattle.power_loss.proofs.Common.{false≢true, Cell, Cells, GroupPage, MarkPage, Nothing, Erasing, Flight}
-use Rattle.power_loss.proofs.Common.{ForNobody, ForRest, ForStep, ForTask, Programming, Reader, Reading, Spot, at_die}
-use Rattle.power_loss.proofs.Common.{at_die_is, at_place, programmed, Name}
-use Rattle.power_loss.proofs.Common.{name_cases, name_of, name_self, same_name, is_kind_of, step_after, step_there}
-use Rattle.power_loss.proofs.Common.{mark_ordered, has_mark_number, without_reader, MayTake, taken}
-use Rattle.power_loss.proofs.Common.{CopyStep, MarkStep, Step, Rest}
-use Rattle.power_loss.proofs.Common.{Fence, is_mended, is_rest_of, Translation}
-use Rattle.power_loss.proofs.Common.{Ending, MayEnd, ReadRight, ReadWrong, WentWell, WentWrong, end_flight}
-use Rattle.power_loss.proofs.Common.{read_right, die_idle, Flights, Valid, page_not_nothing, Place, Tag}
-use Rattle.power_loss.proofs.Common.{program_unread, book, ◌+◌, ◌⊎◌, inl, Mark, Plan, read_wrong, freed}
-use Rattle.power_loss.proofs.Common.{CellCrash, flight_alone, program_failed, with_plan}
-use Rattle.power_loss.proofs.Common.{Order, OrderCopy, OrderMark, OrderPlanMark, OrderRepair, ordered, turned}
+use Rattle.power_loss.proofs.Common.{Bool, Cell, CellCrash, Cells, CopyStep, Ending, Erasing, Fence, Flight, Flights}
+use Rattle.power_loss.proofs.Common.{ForNobody, ForRest, ForStep, ForTask, GroupPage, List, Mark, MarkPage, MarkStep}
+use Rattle.power_loss.proofs.Common.{MayEnd, MayTake, Name, None, Nothing, Option, Order, OrderCopy, OrderMark}
+use Rattle.power_loss.proofs.Common.{OrderPlanMark, OrderRepair, Place, Plan, Programming, ReadRight, ReadWrong, Reader}
+use Rattle.power_loss.proofs.Common.{Reading, Rest, Some, Spot, Step, Tag, Translation, Valid, WentWell, WentWrong, ap}
+use Rattle.power_loss.proofs.Common.{at_die, at_die_is, at_place, book, die_idle, end_flight, false, false≢true}
+use Rattle.power_loss.proofs.Common.{flight_alone, freed, has_mark_number, if◌then◌else◌, inl, is_kind_of, is_mended}
+use Rattle.power_loss.proofs.Common.{is_rest_of, mark_ordered, name_cases, name_of, name_self, none-some, ordered}
+use Rattle.power_loss.proofs.Common.{page_not_nothing, program_failed, program_unread, programmed, read_right}
+use Rattle.power_loss.proofs.Common.{read_wrong, refl, same_Some, same_name, step_after, step_there, subst, sym, taken}
+use Rattle.power_loss.proofs.Common.{true, turned, with_plan, without_reader, ℕ, ⊎_elim, ◌+◌, ◌∙◌, ◌∷◌, ◌≡◌, ◌⊎◌}
 use Rattle.ufs_spec.specs.Translation.{copy_begun}
 use Rattle.ufs_laws.proofs.walk.LayerEffects.{IsDue, order_due, turned_if}
 use Rattle.power_loss.proofs.moves.MovesKeepValid.{planned}
-use Rattle.power_loss.proofs.jobs.StandsSecurely.{program_left}
+use Rattle.power_loss.proofs.jobs.StandsSecurely.{erase_left, program_left}
 use Rattle.power_loss.proofs.jobs.ProgramFailed.{program_blank}
 use Rattle.ufs_spec.specs.Moves.{mark_written, page_written}
 use Rattle.power_loss.proofs.books.LayerParts.{SourceOf, NeededOf}
 use Rattle.power_loss.proofs.collected_blocks.FewestLivePages.{in_any}
 use Rattle.power_loss.proofs.jobs.ReadsAndTasks.{idle_fewer}
-use Rattle.power_loss.proofs.jobs.StandsSecurely.{erase_left}
 use Rattle.power_loss.proofs.jobs_owed.OneDieForEachJob.{given}
 use Rattle.power_loss.proofs.kept_pages.PagesStay.{StayThere, stay_erased, stay_failed, stay_unerased, stay_written}
 use Rattle.power_loss.proofs.ordered_lists.ElementsAndOrders.{all_in, contained_in}
 use Rattle.power_loss.specs.OwedJobs.{IsFirstProgram, IsStepsPage}
 use Rattle.power_loss.specs.LaidRests.{RestsLaid, RestsLaidOf}
-use Rattle.power_loss.proofs.laid_rests.LaidStay.{PagesSame, StayUnflown, StayUnstepped}
-use Rattle.power_loss.proofs.laid_rests.LaidStay.{laid_read, laid_stands, laid_stays}
-use Rattle.power_loss.proofs.laid_rests.LaidStay.{none_laid}
+use Rattle.power_loss.proofs.laid_rests.LaidStay.{PagesSame, StayUnflown, StayUnstepped, laid_read, laid_stands}
+use Rattle.power_loss.proofs.laid_rests.LaidStay.{laid_stays, none_laid}
 use Rattle.power_loss.proofs.jobs.MarkEnded.{behind_unmended}
 
 -- What stays

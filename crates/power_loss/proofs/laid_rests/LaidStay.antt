@@ -1,9 +1,7 @@
 -- Rests stay laid over their page where other jobs, steps and pages come and go.
-use Rattle.power_loss.proofs.Common.{◌≡◌, ◌≢◌, ℕ, Bool, true, false, not, List, [], Option, Some, refl, sym, ap}
-use Rattle.power_loss.proofs.Common.{◌∙◌, subst, ⊎_elim, Contains, Cells}
-use Rattle.power_loss.proofs.Common.{at_name, Name, Place, Key}
-use Rattle.power_loss.proofs.Common.{Book, Flights, Standing, Step, FromPage, FromSlot, Rest, Source}
-use Rattle.power_loss.proofs.Common.{at_name_cases, name_is, same_name}
+use Rattle.power_loss.proofs.Common.{Book, Bool, Cells, Contains, Flights, FromPage, FromSlot, Key, List, Name, Option}
+use Rattle.power_loss.proofs.Common.{Place, Rest, Some, Source, Standing, Step, [], ap, at_name, at_name_cases, false}
+use Rattle.power_loss.proofs.Common.{name_is, not, refl, same_name, subst, sym, true, ℕ, ⊎_elim, ◌∙◌, ◌≡◌, ◌≢◌}
 use Rattle.ufs_spec.specs.Moves.{rests_without}
 use Rattle.ufs_spec.specs.Translation.{awaited_read, read_from}
 use Rattle.power_loss.specs.LaidRests.{IsUnflown, IsUnstepped, RestLaid, RestsLaidOf, SourceLaid, WaitsFor}

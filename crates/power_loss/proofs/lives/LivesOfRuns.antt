@@ -5,8 +5,7 @@ use Rattle.power_loss.proofs.MachineWords.{IsConfig, DieState, Fit, GoesOn, IsLi
 use Rattle.power_loss.proofs.MachineWords.{Stops, array_of, bad_in, State, numbers_of, Event, Leftover, Output}
 use Rattle.power_loss.proofs.MachineWords.{IsArrayOf, ValidState, LivesRight, MayBeOpened, last_state}
 use Rattle.ufs_laws.proofs.lives.LivesJoined.{join}
-use Rattle.ufs_spec.specs.Lives.{Headline, Reopens}
-use Rattle.ufs_spec.specs.Lives.{bad_of}
+use Rattle.ufs_spec.specs.Lives.{Headline, Reopens, bad_of}
 use Rattle.power_loss.specs.Runs.{LifeRight}
 use Rattle.power_loss.proofs.lives.ChainedLives.{chained, life_continues}
 use Rattle.power_loss.proofs.die_pages.BlankOutsideDies.{fit_inside}

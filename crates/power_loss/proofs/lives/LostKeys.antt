@@ -1,9 +1,8 @@
 -- How many turns are left when a life begins, by the keys with a lost page.
-use Rattle.power_loss.proofs.Common.{ℕ, ◌+◌, ◌≤◌, Bool, true, false, List, length}
-use Rattle.power_loss.proofs.Common.{Option, Some, None, ap, arith}
-use Rattle.power_loss.proofs.Common.{AreWithin, Cells, Mark, Spot, Move, AreLost}
-use Rattle.power_loss.proofs.Common.{IsMendingAt, IsOpenedTranslation, CellsSound, Mended, Mending, Repairing}
-use Rattle.power_loss.proofs.Common.{Translation, Unmarked, has_mark_number, Numbers, Key, CellsRight}
+use Rattle.power_loss.proofs.Common.{AreLost, AreWithin, Bool, Cells, CellsRight, CellsSound, IsMendingAt}
+use Rattle.power_loss.proofs.Common.{IsOpenedTranslation, Key, List, Mark, Mended, Mending, Move, None, Numbers, Option}
+use Rattle.power_loss.proofs.Common.{Repairing, Some, Spot, Translation, Unmarked, ap, arith, false, has_mark_number}
+use Rattle.power_loss.proofs.Common.{length, true, ℕ, ◌+◌, ◌≤◌}
 use Rattle.power_loss.proofs.MachineWords.{AreAllowedMoves, is_marking, mending_turns, turns_left, turns_of}
 use Rattle.power_loss.proofs.openings.OpenedIsValid.{opening_valid}
 use Rattle.power_loss.proofs.mending_steps.TurnsLeft.{Keeps, all_counted}

@@ -1,25 +1,22 @@
 -- What each move leaves of a translation layer whose pages, once programmed, open as they are meant to.
-use Rattle.power_loss.proofs.Common.{◌≡◌, ℕ, zero, suc, ◌+◌, ◌-◌, ◌≤◌, Bool, true, List, [], ◌∷◌}
-use Rattle.power_loss.proofs.Common.{Option, Some, None, length, drop, refl, sym, ap, ◌∙◌, subst, ⊎_elim, arith}
-use Rattle.power_loss.proofs.Common.{leb-true, length-append, get_or_from_slice_get, slice_get_within}
-use Rattle.power_loss.proofs.Common.{false≢true, none-some, same_Some, Cell, IsCell, IsFence, Mark, MarkPage, Disk}
-use Rattle.power_loss.proofs.Common.{Flight, Programming, Reader, at_die, page_of, Contents, Group}
-use Rattle.power_loss.proofs.Common.{IsBlock, IsKey, IsSettingsBody, Item, Entry, Ledger, Name, at_name}
-use Rattle.power_loss.proofs.Common.{before_accepted, next_number, is_standing, Accept, EndJob, IsAllowedMove, LetGo}
-use Rattle.power_loss.proofs.Common.{LetGoAll, Move, GiveJob, TakeStep, mending_after, moved, without_reader}
-use Rattle.power_loss.proofs.Common.{IsFirstFence, shape_of_numbers, CopyStep, MarkStep, Mended, Mending, MayTake, Plan}
-use Rattle.power_loss.proofs.Common.{Repairing, RepairStep, Step, StepKind, Translation, Unmarked}
-use Rattle.power_loss.proofs.Common.{has_mark_number, cell_now, is_mended, has_number, name_of}
-use Rattle.power_loss.proofs.Common.{repair_ordered, records_now}
-use Rattle.power_loss.proofs.Common.{step_cell, taken, Numbers, Fence, Key, Place, Book, book}
-use Rattle.power_loss.proofs.Common.{last_number, Flights, FenceRight, IsLastRepair, MarkFlightRight, MendingRight}
-use Rattle.power_loss.proofs.Common.{StepKindRight, Valid, program_unread as program_left}
+use Rattle.power_loss.proofs.Common.{Accept, Book, Bool, Cell, Contents, CopyStep, Disk, EndJob, Entry, Fence}
+use Rattle.power_loss.proofs.Common.{FenceRight, Flight, Flights, GiveJob, Group, IsAllowedMove, IsBlock, IsCell}
+use Rattle.power_loss.proofs.Common.{IsFence, IsFirstFence, IsKey, IsLastRepair, IsSettingsBody, Item, Key, Ledger}
+use Rattle.power_loss.proofs.Common.{LetGo, LetGoAll, List, Mark, MarkFlightRight, MarkPage, MarkStep, MayTake, Mended}
+use Rattle.power_loss.proofs.Common.{Mending, MendingRight, Move, Name, None, Numbers, Option, Place, Plan, Programming}
+use Rattle.power_loss.proofs.Common.{Reader, RepairStep, Repairing, Some, Step, StepKind, StepKindRight, TakeStep}
+use Rattle.power_loss.proofs.Common.{Translation, Unmarked, Valid, [], ap, arith, at_die, at_name, before_accepted}
+use Rattle.power_loss.proofs.Common.{book, cell_now, drop, false≢true, get_or_from_slice_get, has_mark_number}
+use Rattle.power_loss.proofs.Common.{has_number, is_mended, is_standing, last_number, leb-true, length, length-append}
+use Rattle.power_loss.proofs.Common.{mending_after, moved, name_of, next_number, none-some, page_of}
+use Rattle.power_loss.proofs.Common.{program_unread as program_left, records_now, refl, repair_ordered, same_Some}
+use Rattle.power_loss.proofs.Common.{shape_of_numbers, slice_get_within, step_cell, subst, suc, sym, taken, true}
+use Rattle.power_loss.proofs.Common.{without_reader, zero, ℕ, ⊎_elim, ◌+◌, ◌-◌, ◌∙◌, ◌∷◌, ◌≡◌, ◌≤◌}
 use Rattle.power_loss.proofs.MachineWords.{IsConfig, BookFits, EntryFits}
 use Rattle.std.specs.Prelude.{slice_get}
 use Rattle.std.proofs.lemmas.Bool.{ltb-true}
 use Rattle.ufs_spec.proofs.ConfigFacts.{command_blocks-few}
-use Rattle.ufs_spec.specs.Pages.{group_bound}
-use Rattle.ufs_spec.specs.Pages.{greatest_number}
+use Rattle.ufs_spec.specs.Pages.{greatest_number, group_bound}
 use Rattle.ufs_spec.specs.Ledger.{entry_of}
 use Rattle.power_loss.proofs.moves.MovesKeepValid.{all_keep}
 use Rattle.power_loss.proofs.jobs_owed.ProgramsAndErases.{NameOwed, page_owed}

@@ -1,13 +1,12 @@
 -- Each move keeps a life valid.
-use Rattle.power_loss.proofs.Common.{◌≡◌, ℕ, Option, Some, None, refl, All, List, [], ◌∷◌, sym, ap, ◌∙◌, subst, inl}
-use Rattle.power_loss.proofs.Common.{inr, false≢true, GroupPage, MarkPage, Nothing, Erasing, Flight, Programming}
-use Rattle.power_loss.proofs.Common.{Reading, Spot, Accept, Claim, EndJob, Ending, IsAllowedMove, Keep, LetGo, LetGoAll}
-use Rattle.power_loss.proofs.Common.{MayEnd, Move, ReadRight, ReadWrong, Release, GiveJob, Acknowledge, TakeStep}
-use Rattle.power_loss.proofs.Common.{WantPage, WentWell, WentWrong, end_flight, moved, MayTake, Translation, taken}
-use Rattle.power_loss.proofs.Common.{Mended, Mending, Order, OrderMark, OrderPlanMark, OrderRepair, Plan, Repairing}
-use Rattle.power_loss.proofs.Common.{Unmarked, live_places, turned, with_plan, OrderCopy, ordered, Valid, FenceRight}
-use Rattle.power_loss.proofs.Common.{AreNoneStale}
-use Rattle.power_loss.proofs.Common.{Fence, Place}
+use Rattle.power_loss.proofs.Common.{Accept, Acknowledge, All, AreNoneStale, Claim, EndJob, Ending, Erasing, Fence}
+use Rattle.power_loss.proofs.Common.{FenceRight, Flight, GiveJob, GroupPage, IsAllowedMove, Keep, LetGo, LetGoAll, List}
+use Rattle.power_loss.proofs.Common.{MarkPage, MayEnd, MayTake, Mended, Mending, Move, None, Nothing, Option, Order}
+use Rattle.power_loss.proofs.Common.{OrderCopy, OrderMark, OrderPlanMark, OrderRepair, Place, Plan, Programming}
+use Rattle.power_loss.proofs.Common.{ReadRight, ReadWrong, Reading, Release, Repairing, Some, Spot, TakeStep}
+use Rattle.power_loss.proofs.Common.{Translation, Unmarked, Valid, WantPage, WentWell, WentWrong, [], ap, end_flight}
+use Rattle.power_loss.proofs.Common.{false≢true, inl, inr, live_places, moved, ordered, refl, subst, sym, taken, turned}
+use Rattle.power_loss.proofs.Common.{with_plan, ℕ, ◌∙◌, ◌∷◌, ◌≡◌}
 use Rattle.power_loss.proofs.accepted_groups.AcceptedGroup.{accepts}
 use Rattle.power_loss.proofs.jobs.JobsBegin.{takes_program, takes_erase}
 use Rattle.power_loss.proofs.jobs.EraseEnded.{ends_erase, fails_erase}

@@ -4,21 +4,19 @@
 use Rattle.power_loss.proofs.Common.{◌≡◌, ℕ, ◌==◌, Bool, true, false, not, map, List, [], ◌∷◌, ◌++◌, length, Option}
 use Rattle.power_loss.proofs.Common.{Some, None, refl, sym, ap, ◌∙◌, subst, nat_le, nat_lt, append-nil, false≢true}
 use Rattle.power_loss.proofs.Common.{eqb-true, cond-false, if_both}
-use Rattle.power_loss.proofs.MachineWords.{Deed, Gathering, Purpose, Short, Status, Task, TaskSetFull, is_task_of}
-use Rattle.power_loss.proofs.MachineWords.{Command, RpmbRequest, response, short_reply, task_of, with_deed}
-use Rattle.power_loss.proofs.MachineWords.{with_request}
-use Rattle.power_loss.proofs.MachineWords.{without_task, begun, begun_if_any}
-use Rattle.power_loss.proofs.MachineWords.{command_taken, complete, data_for, data_heard, deed_after, moves_after}
-use Rattle.power_loss.proofs.MachineWords.{refused_or_begun, set_deed, task_goes_on, task_replied, with_moves}
-use Rattle.power_loss.proofs.MachineWords.{with_short, most_tasks, Request, State, refusal, Cdb}
+use Rattle.power_loss.proofs.MachineWords.{Cdb, Command, Deed, Gathering, Purpose, Request, RpmbRequest, Short, State}
+use Rattle.power_loss.proofs.MachineWords.{Status, Task, TaskSetFull, begun, begun_if_any, command_taken, complete}
+use Rattle.power_loss.proofs.MachineWords.{data_for, data_heard, deed_after, is_task_of, most_tasks, moves_after}
+use Rattle.power_loss.proofs.MachineWords.{refusal, refused_or_begun, response, set_deed, short_reply, task_goes_on}
+use Rattle.power_loss.proofs.MachineWords.{task_of, task_replied, with_deed, with_moves, with_request, with_short}
+use Rattle.power_loss.proofs.MachineWords.{without_task}
 use Rattle.std.specs.Prelude.{if◌then◌else◌, ◌&&◌}
 use Rattle.ufs_spec.specs.Queries.{Query, setting_of}
 use Rattle.ufs_spec.specs.QueryAnswers.{query_heard, query_passed}
 use Rattle.ufs_laws.proofs.walk.Happenings.{code_of_query}
 use Rattle.ufs_laws.proofs.walk.WaysOfCommands.{Beginning, Handing, WhyBegun, begins_by, begun_as}
 use Rattle.ufs_laws.proofs.walk.WaysOfData.{Accepted, AcceptsFrames, Completion, HasResult, ReadsArea, Told}
-use Rattle.ufs_laws.proofs.walk.WaysOfData.{WhyCompleted}
-use Rattle.ufs_laws.proofs.walk.WaysOfData.{completed, completes_by}
+use Rattle.ufs_laws.proofs.walk.WaysOfData.{WhyCompleted, completed, completes_by}
 use Rattle.power_loss.proofs.open_tasks.TaskLists.{SameTag, at_tag, changed_tag}
 use Rattle.power_loss.proofs.open_tasks.FoundInLists.{found_is, found_left, found_map}
 

@@ -3,12 +3,11 @@ use Rattle.power_loss.proofs.Common.{◌≡◌, ℕ, ◌+◌, ◌<◌, ◌≤◌
 use Rattle.power_loss.proofs.Common.{Some, None, length, map, refl, sym, ap, ◌∙◌, subst, arith, filter, find}
 use Rattle.power_loss.proofs.Common.{AllByRecursion, list_any, same_Some, or_parts, eqb-true, cond-false, Numbers}
 use Rattle.power_loss.proofs.Common.{any_none, if_both, ◌⊎◌}
-use Rattle.power_loss.proofs.MachineWords.{Awaiting, Deed, ForFrames, ForUnmap, ForWrite, Gathering, Short, Task}
-use Rattle.power_loss.proofs.MachineWords.{RpmbRequest, with_request}
+use Rattle.power_loss.proofs.MachineWords.{AreApart, AreBytes, Awaiting, Deed, DeedFits, ForFrames, ForUnmap, ForWrite}
+use Rattle.power_loss.proofs.MachineWords.{Gathering, RpmbRequest, Short, ShortAwaits, ShortFits, Task, TasksDiffer}
+use Rattle.power_loss.proofs.MachineWords.{TasksRight, WriteFits, claim_of, claimed_by, claims_of, is_short_of}
+use Rattle.power_loss.proofs.MachineWords.{is_task_of, task_of, with_deed, with_request}
 use Rattle.ufs_spec.specs.Configs.{command_blocks}
-use Rattle.power_loss.proofs.MachineWords.{is_short_of, is_task_of, task_of, with_deed, claimed_by, AreBytes, AreApart}
-use Rattle.power_loss.proofs.MachineWords.{DeedFits, ShortAwaits, ShortFits, TasksDiffer, TasksRight, WriteFits}
-use Rattle.power_loss.proofs.MachineWords.{claim_of, claims_of}
 use Rattle.std.specs.Prelude.{if◌then◌else◌, slice_get}
 use Rattle.power_loss.specs.Exchange.{DeedsFit, FramesFit, ShortsDiffer, ShortsFit, UnmapFits}
 use Rattle.power_loss.proofs.open_tasks.FoundInLists.{found_is}

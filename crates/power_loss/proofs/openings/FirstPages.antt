@@ -1,6 +1,5 @@
 -- The page that a key begins with has the content that the key has at the life's start.
-use Rattle.std.proofs.Common.{◌≡◌, ◌∙◌, ℕ, suc, List, Option, Some, None, sym, ap}
-use Rattle.std.proofs.Common.{inl, inr, arith}
+use Rattle.std.proofs.Common.{List, None, Option, Some, ap, arith, inl, inr, suc, sym, ℕ, ◌∙◌, ◌≡◌}
 use Rattle.ufs_spec.specs.Cells.{Cells, Mark, key_of}
 use Rattle.ufs_spec.specs.Kept.{Counts, Holds, IsNewest}
 use Rattle.ufs_spec.specs.Ledger.{Entry}

@@ -1,13 +1,12 @@
 -- What an opening finds in cells: the page of each name, the greatest number seen, the lost keys in order, the mending
 -- that is due and the state of each block.
-use Rattle.power_loss.proofs.Common.{[], ◌∷◌, ◌<◌}
-use Rattle.power_loss.proofs.Common.{◌≡◌, ◌≢◌, ◌⊎◌, ℕ, suc, ◌≤◌, Bool, true, false, List, Option, Some, None, refl, sym}
-use Rattle.power_loss.proofs.Common.{cases_Bool, is_free, true≢false, ap, ◌∙◌, subst, inl, inr, ⊎_elim, arith}
-use Rattle.power_loss.proofs.Common.{AreWithin, Cell, Cells, GroupPage, IsPlace, Mark, MarkPage, Nothing, key_of}
-use Rattle.power_loss.proofs.Common.{BlockState, Bad, Closed, Filling, Free, Spot, spot_of, Holds, fence_in, Entry}
-use Rattle.power_loss.proofs.Common.{Name, AreLost, HasName, IsAtMost, IsEntry, IsFirst, IsMendingAt, IsGreatestSeen}
-use Rattle.power_loss.proofs.Common.{StandsAt, Mended, Mending, Unmarked, name_of, Numbers, Fence, Key, Place, Tag}
-use Rattle.power_loss.proofs.Common.{name_cases, page_not_nothing}
+use Rattle.power_loss.proofs.Common.{AreLost, AreWithin, Bad, BlockState, Bool, Cell, Cells, Closed, Entry, Fence}
+use Rattle.power_loss.proofs.Common.{Filling, Free, GroupPage, HasName, Holds, IsAtMost, IsEntry, IsFirst}
+use Rattle.power_loss.proofs.Common.{IsGreatestSeen, IsMendingAt, IsPlace, Key, List, Mark, MarkPage, Mended, Mending}
+use Rattle.power_loss.proofs.Common.{Name, None, Nothing, Numbers, Option, Place, Some, Spot, StandsAt, Tag, Unmarked}
+use Rattle.power_loss.proofs.Common.{[], ap, arith, cases_Bool, false, fence_in, inl, inr, is_free, key_of, name_cases}
+use Rattle.power_loss.proofs.Common.{name_of, page_not_nothing, refl, spot_of, subst, suc, sym, true, true≢false, ℕ}
+use Rattle.power_loss.proofs.Common.{⊎_elim, ◌<◌, ◌∙◌, ◌∷◌, ◌≡◌, ◌≢◌, ◌≤◌, ◌⊎◌}
 use Rattle.std.specs.Prelude.{max, if◌then◌else◌}
 use Rattle.ufs_laws.proofs.deciding.SearchOverPlaces.{Decided, Greatest, greatest, is_place, some_cell, split}
 use Rattle.ufs_laws.proofs.deciding.Connectives.{same_bytes}

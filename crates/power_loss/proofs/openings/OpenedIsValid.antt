@@ -1,7 +1,7 @@
 -- An opened translation layer is valid: the mending that is due, and all of it.
 use Rattle.power_loss.proofs.Common.{◌≡◌, ℕ, ◌<◌, ◌≤◌, ◌-◌, All, Bool, List, [], drop, length, Option, Some, None}
 use Rattle.power_loss.proofs.Common.{refl, sym, ap, ◌∙◌, subst, inl, ⊎_elim, arith, drop_all, All-nil, AreWithin, Cells}
-use Rattle.ufs_spec.specs.Openings.{HasNumbers}
+use Rattle.ufs_spec.specs.Openings.{HasNumbers, IsFree}
 use Rattle.power_loss.proofs.Common.{Mark, MarkPage, Spot, spot_of, IsNewestMark, IsWhole, fence_in, recorded_in}
 use Rattle.power_loss.proofs.Common.{AreLost, IsMendingAt, IsOpenedTranslation, CellsSound, Mended, Mending, Repairing}
 use Rattle.power_loss.proofs.Common.{Translation, Unmarked, is_mended, wants_of_step, Numbers, Key, Place}
@@ -13,11 +13,9 @@ use Rattle.power_loss.proofs.accepted_groups.ClaimedSlots.{no_pages}
 use Rattle.power_loss.proofs.openings.OpenedByName.{Opened, low_cases, no_group, old_page, opened, page_is_old, shown}
 use Rattle.power_loss.proofs.openings.OpenedContents.{book_is_right}
 use Rattle.power_loss.proofs.openings.OpenedPages.{all_safe, blocks_are_right, first_stands, flights_are_right}
-use Rattle.power_loss.proofs.openings.OpenedPages.{free_mark, free_or_not, frontier_is_right, mark_not_free}
-use Rattle.power_loss.proofs.openings.OpenedPages.{none_flies, not_erasing, numbered, pages_are_right}
-use Rattle.power_loss.proofs.openings.OpenedPages.{vacancies_are_right}
+use Rattle.power_loss.proofs.openings.OpenedPages.{free_mark, free_or_not, frontier_is_right, mark_not_free, none_flies}
+use Rattle.power_loss.proofs.openings.OpenedPages.{not_erasing, numbered, pages_are_right, vacancies_are_right}
 use Rattle.power_loss.proofs.jobs.DiskChanges.{spare_moves}
-use Rattle.ufs_spec.specs.Openings.{IsFree}
 
 module _ {bad : Spot → Bool} {t : Translation} (o : Opened bad t) where
   whole_is_old : {n : ℕ} → IsWhole t.disk.cells n → IsWholeOld (book t) n

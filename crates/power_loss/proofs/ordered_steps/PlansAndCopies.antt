@@ -1,12 +1,11 @@
 -- Steps that are ordered keep a life valid: a plan, and a copy of it.
-use Rattle.power_loss.proofs.Common.{◌≡◌, ℕ, zero, suc, ◌≤◌, ◌⊎◌, true, false, List, ◌∷◌, Option, Some, None, refl, sym}
-use Rattle.power_loss.proofs.Common.{ap, ◌∙◌, subst, inl, inr, ⊎_elim, arith, Bool, one_page, false≢true, none-some}
-use Rattle.power_loss.proofs.Common.{same_Some, Cell, Cells, GroupPage, Mark, key_of, Disk, Spot, recorded_in, Entry}
-use Rattle.power_loss.proofs.Common.{Ledger, CopyStep, Mended, Mending, Plan, Step, Translation, Want, copy_begun}
-use Rattle.power_loss.proofs.Common.{name_of, with_plan, Place, Tag, Book, IsLostNumber, IsOverwritten, IsPageAt, book}
-use Rattle.power_loss.proofs.Common.{IsToCopy, MendingRight, OnePlanRight, StaleRight, StandsIn, StepKindRight}
-use Rattle.power_loss.proofs.Common.{StepRight}
-use Rattle.power_loss.proofs.Common.{ToReadRight, Valid}
+use Rattle.power_loss.proofs.Common.{Book, Bool, Cell, Cells, CopyStep, Disk, Entry, GroupPage, IsLostNumber}
+use Rattle.power_loss.proofs.Common.{IsOverwritten, IsPageAt, IsToCopy, Ledger, List, Mark, Mended, Mending}
+use Rattle.power_loss.proofs.Common.{MendingRight, None, OnePlanRight, Option, Place, Plan, Some, Spot, StaleRight}
+use Rattle.power_loss.proofs.Common.{StandsIn, Step, StepKindRight, StepRight, Tag, ToReadRight, Translation, Valid}
+use Rattle.power_loss.proofs.Common.{Want, ap, arith, book, copy_begun, false, false≢true, inl, inr, key_of, name_of}
+use Rattle.power_loss.proofs.Common.{none-some, one_page, recorded_in, refl, same_Some, subst, suc, sym, true}
+use Rattle.power_loss.proofs.Common.{with_plan, zero, ℕ, ⊎_elim, ◌∙◌, ◌∷◌, ◌≡◌, ◌≤◌, ◌⊎◌}
 use Rattle.power_loss.proofs.books.PagesByName.{overwritten_more}
 use Rattle.power_loss.proofs.kept_pages.ReadsStay.{copy_read, copy_wants}
 use Rattle.power_loss.proofs.ordered_steps.MarksAndRepairs.{next_step, no_step}

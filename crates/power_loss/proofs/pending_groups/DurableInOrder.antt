@@ -6,8 +6,7 @@ use Rattle.power_loss.proofs.Common.{Group, put_groups, Ledger, Name, at_name, b
 use Rattle.power_loss.proofs.Common.{is_standing, page_stands, IsAllowedMove, Move, moved, IsOpenedTranslation}
 use Rattle.power_loss.proofs.Common.{Translation, name_of, Numbers, Place, Tag, at_name_cases, book, Valid}
 use Rattle.power_loss.proofs.MachineWords.{FrontierStops, PendingStays, accepted_by, brings_page}
-use Rattle.ufs_spec.specs.Ledger.{all_contents}
-use Rattle.ufs_spec.specs.Ledger.{pending}
+use Rattle.ufs_spec.specs.Ledger.{all_contents, pending}
 use Rattle.power_loss.proofs.books.FrontierClimbs.{climbs_up, get_drop}
 use Rattle.power_loss.proofs.pending_groups.PendingByFrontier.{climb_stays, front_of, group_next, page_stops}
 use Rattle.power_loss.proofs.pending_groups.PendingByFrontier.{put_accepted, put_more}

@@ -1,17 +1,12 @@
 -- What moves leave of the programs in flight while nothing but the mending is under way.
-use Rattle.power_loss.proofs.Common.{◌≡◌, ◌≢◌, ℕ, ◌+◌, ◌<◌, ◌⊎◌, if◌then◌else◌, Bool, true, false, List, []}
-use Rattle.power_loss.proofs.Common.{Option, Some, None, refl, sym, ap, ◌∙◌, subst, inl, inr, ⊎_elim, arith}
-use Rattle.power_loss.proofs.Common.{at_die_is, false≢true, none-some, same_Some, slice_get_within}
-use Rattle.power_loss.proofs.Common.{name_self, program_unread, Cell, GroupPage}
-use Rattle.power_loss.proofs.Common.{Filling, Flight, Programming, spot_of}
-use Rattle.power_loss.proofs.Common.{Reader, Reading, at_die, below, Name, same_name}
-use Rattle.power_loss.proofs.Common.{is_kind_of}
-use Rattle.power_loss.proofs.Common.{step_after}
-use Rattle.power_loss.proofs.Common.{without_reader, CopyStep, MarkStep, MayTake}
-use Rattle.power_loss.proofs.Common.{RepairStep, Step, StepKind}
-use Rattle.power_loss.proofs.Common.{Translation, Want, cell_of_entry, flies_mark, flies_name, is_mended}
-use Rattle.power_loss.proofs.Common.{name_of, step_cell, step_flies, taken}
-use Rattle.power_loss.proofs.Common.{waiting_name, Place, Tag, book, StepKindRight, Valid}
+use Rattle.power_loss.proofs.Common.{Bool, Cell, CopyStep, Filling, Flight, GroupPage, List, MarkStep, MayTake, Name}
+use Rattle.power_loss.proofs.Common.{None, Option, Place, Programming, Reader, Reading, RepairStep, Some, Step}
+use Rattle.power_loss.proofs.Common.{StepKind, StepKindRight, Tag, Translation, Valid, Want, [], ap, arith, at_die}
+use Rattle.power_loss.proofs.Common.{at_die_is, below, book, cell_of_entry, false, false≢true, flies_mark, flies_name}
+use Rattle.power_loss.proofs.Common.{if◌then◌else◌, inl, inr, is_kind_of, is_mended, name_of, name_self, none-some}
+use Rattle.power_loss.proofs.Common.{program_unread, refl, same_Some, same_name, slice_get_within, spot_of, step_after}
+use Rattle.power_loss.proofs.Common.{step_cell, step_flies, subst, sym, taken, true, waiting_name, without_reader, ℕ}
+use Rattle.power_loss.proofs.Common.{⊎_elim, ◌+◌, ◌<◌, ◌∙◌, ◌≡◌, ◌≢◌, ◌⊎◌}
 use Rattle.ufs_spec.proofs.Equalities.{name_told}
 use Rattle.ufs_spec.specs.Ledger.{accepted_groups, before_accepted, entry_of}
 use Rattle.ufs_spec.specs.Translation.{want_of_kind}

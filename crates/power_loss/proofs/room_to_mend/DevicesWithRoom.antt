@@ -1,16 +1,13 @@
 -- A device whose mending began with room may go on after any events until it is mended, where a block more was free for
 -- each program and erase that failed.
-use Rattle.power_loss.proofs.Common.{◌≡◌, ◌+◌, ◌-◌, ◌*◌, ◌≤◌, ℕ, Bool, true, false, List, [], ◌∷◌, length, Option}
-use Rattle.power_loss.proofs.Common.{Some, None}
-use Rattle.power_loss.proofs.Common.{refl, sym, ap, ◌∙◌, subst, true≢false, Array, Flight}
-use Rattle.power_loss.proofs.Common.{Erasing, Programming, Reading, Spot, EndJob, Ending, GiveJob}
-use Rattle.power_loss.proofs.Common.{Move, ReadRight, ReadWrong, TakeStep, WentWell, WentWrong, ending_fits}
-use Rattle.power_loss.proofs.Common.{arith, config_tests, ranges, AreLost, Sound, is_free, Numbers, Key}
-use Rattle.power_loss.proofs.MachineWords.{IsConfig, IsOpened, IsCall, IsFailure, IsFinish, Leads, Life, Allowed}
-use Rattle.power_loss.proofs.MachineWords.{Answer}
-use Rattle.power_loss.proofs.MachineWords.{Call, Done, OfDone, Take, OfTake, Turn, OfTurn}
-use Rattle.power_loss.proofs.MachineWords.{State, mended, Event, Output, IsArrayOf}
-use Rattle.power_loss.proofs.MachineWords.{ValidState}
+use Rattle.power_loss.proofs.Common.{AreLost, Array, Bool, EndJob, Ending, Erasing, Flight, GiveJob, Key, List, Move}
+use Rattle.power_loss.proofs.Common.{None, Numbers, Option, Programming, ReadRight, ReadWrong, Reading, Some, Sound}
+use Rattle.power_loss.proofs.Common.{Spot, TakeStep, WentWell, WentWrong, [], ap, arith, config_tests, ending_fits}
+use Rattle.power_loss.proofs.Common.{false, if◌then◌else◌, is_free, length, ranges, refl, subst, sym, true, true≢false}
+use Rattle.power_loss.proofs.Common.{ℕ, ◌*◌, ◌+◌, ◌-◌, ◌∙◌, ◌∷◌, ◌≡◌, ◌≤◌}
+use Rattle.power_loss.proofs.MachineWords.{Allowed, Answer, Call, Done, Event, IsArrayOf, IsCall, IsConfig, IsFailure}
+use Rattle.power_loss.proofs.MachineWords.{IsFinish, IsOpened, IsTied, Leads, Leftover, Life, MayCome, MayLeave, OfDone}
+use Rattle.power_loss.proofs.MachineWords.{OfTake, OfTurn, Output, State, Take, Turn, ValidState, mended}
 use Rattle.ufs_laws.proofs.walk.SmallChanges.{Accepts, Change, IsSmallMove, Moves, changed, first, job_over, kept}
 use Rattle.ufs_laws.proofs.walk.SmallChanges.{observed, small_quiet}
 use Rattle.ufs_spec.specs.Translation.{count_blocks, least_room}
@@ -24,8 +21,6 @@ use Rattle.power_loss.proofs.openings.OpenedStates.{opened_state}
 use Rattle.power_loss.proofs.room_to_mend.LivesWithRoom.{Mends, failures_split, fewer_mend, mends_on, move_mends}
 use Rattle.power_loss.proofs.room_to_mend.LivesWithRoom.{none_more}
 use Rattle.power_loss.proofs.jobs.EndsOfJobs.{cells_left}
-use Rattle.power_loss.proofs.Common.{if◌then◌else◌}
-use Rattle.power_loss.proofs.MachineWords.{IsTied, Leftover, MayCome, MayLeave}
 use Rattle.std.specs.List.{count_by}
 use Rattle.power_loss.proofs.room_to_mend.RoomInBlocks.{opening_alone, opening_room, least_room_mends}
 

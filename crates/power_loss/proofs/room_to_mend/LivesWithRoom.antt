@@ -1,10 +1,9 @@
 -- A mending that began with room has room after any moves, less a block for each program and erase that failed, so it
 -- may go on until it is over.
-use Rattle.power_loss.proofs.Common.{◌≡◌, ℕ, ◌+◌, ◌*◌, ◌≤◌, Bool, false, List, [], ◌∷◌, length, sum_by-cons, subst}
-use Rattle.power_loss.proofs.Common.{arith}
-use Rattle.power_loss.proofs.Common.{if◌then◌else◌, AreWithin, Cells, Spot, IsAllowedMove, Move, moved, AreLost}
-use Rattle.power_loss.proofs.Common.{IsOpenedTranslation, CellsSound, Translation, is_free, is_mended, Numbers, Key}
-use Rattle.power_loss.proofs.Common.{CellsRight, Valid}
+use Rattle.power_loss.proofs.Common.{AreLost, AreWithin, Bool, Cells, CellsRight, CellsSound, IsAllowedMove}
+use Rattle.power_loss.proofs.Common.{IsOpenedTranslation, Key, List, Move, Numbers, Spot, Translation, Valid, [], arith}
+use Rattle.power_loss.proofs.Common.{false, if◌then◌else◌, is_free, is_mended, length, moved, subst, sum_by-cons, ℕ}
+use Rattle.power_loss.proofs.Common.{◌*◌, ◌+◌, ◌∷◌, ◌≡◌, ◌≤◌}
 use Rattle.power_loss.proofs.MachineWords.{AreAllowedMoves}
 use Rattle.std.specs.List.{count_by}
 use Rattle.ufs_spec.specs.Translation.{count_blocks}

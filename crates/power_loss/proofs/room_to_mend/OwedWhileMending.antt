@@ -1,30 +1,27 @@
 -- While the device is not mended and room is left, a die has a job or is owed one, a turn is due, or the numbers are
 -- used up.
-use Rattle.power_loss.proofs.Common.{◌≡◌, ℕ, ◌<◌, ◌≤◌, ◌&&◌, ◌||◌, ◌++◌, ◌⊎◌, not, Bool, true, false, is_none}
-use Rattle.power_loss.proofs.Common.{is_some, if◌then◌else◌, List, [], ◌∷◌, Option, Some, None, refl, sym, ap, ◌∙◌}
-use Rattle.power_loss.proofs.Common.{subst, inl, inr, ⊎_elim, arith, filter_map, list_any, option_map}
-use Rattle.power_loss.proofs.Common.{cases_Bool, eqb-self, false≢true, lt-ltb, or_cases, or_right, Cell}
-use Rattle.power_loss.proofs.Common.{page_not_nothing, BlockState, Bad, Closed, Erasing, Filling, Flight, Free}
-use Rattle.power_loss.proofs.Common.{Programming, Reading, Spot, below, CopyStep, MarkStep, Mended, Mending}
-use Rattle.power_loss.proofs.Common.{OrderMark, OrderRepair, Pin, Plan, RepairStep, Repairing, Rest, Step, StepKind}
-use Rattle.power_loss.proofs.Common.{Translation, Unmarked, Want, flies_mark, flies_name, flight_at}
-use Rattle.power_loss.proofs.Common.{flight_for, has_mark_number, has_number, has_open_block, has_room_for_groups}
-use Rattle.power_loss.proofs.Common.{is_free, is_mended, is_pinned, is_step_due, looks_into, may_open_for_step}
-use Rattle.power_loss.proofs.Common.{next_order, next_place, reads_from, some_flight, spots, step_cell, step_flies}
-use Rattle.power_loss.proofs.Common.{waiting_name, waiting_step, wants_of_step, Place, Numbers}
-use Rattle.power_loss.proofs.Common.{IsNeededPage, Valid}
+use Rattle.power_loss.proofs.Common.{All-weaker, Bad, BlockState, Bool, Cell, Closed, Contains, CopyStep, Erasing}
+use Rattle.power_loss.proofs.Common.{Filling, Flight, Free, IsNeededPage, List, Looked, MarkStep, Mended, Mending, None}
+use Rattle.power_loss.proofs.Common.{Numbers, OnPage, Option, OrderMark, OrderRepair, Pin, Place, Plan, Programming}
+use Rattle.power_loss.proofs.Common.{Reading, Ready, RepairStep, Repairing, Rest, Some, Spot, Stale, Step, StepKind}
+use Rattle.power_loss.proofs.Common.{Translation, Unmarked, Untouched, Vacancy, Valid, Want, [], ap, arith, below}
+use Rattle.power_loss.proofs.Common.{cases_Bool, eqb-self, false, false≢true, filter_map, flies_mark, flies_name}
+use Rattle.power_loss.proofs.Common.{flight_at, flight_for, has_mark_number, has_number, has_open_block}
+use Rattle.power_loss.proofs.Common.{has_room_for_groups, if◌then◌else◌, inl, inr, is_free, is_mended, is_none}
+use Rattle.power_loss.proofs.Common.{is_pinned, is_some, is_step_due, list_any, looks_into, lt-ltb, may_open_for_step}
+use Rattle.power_loss.proofs.Common.{next_order, next_place, not, option_map, or_cases, or_right, page_not_nothing}
+use Rattle.power_loss.proofs.Common.{place_in, reads_from, refl, some_flight, spot_cases, spot_of, spots, step_cell}
+use Rattle.power_loss.proofs.Common.{step_flies, subst, sym, true, waiting_name, waiting_step, wants_of_step, ℕ, ⊎_elim}
+use Rattle.power_loss.proofs.Common.{◌&&◌, ◌++◌, ◌<◌, ◌||◌, ◌∙◌, ◌∷◌, ◌≡◌, ◌≤◌, ◌⊎◌}
 use Rattle.power_loss.proofs.MachineWords.{IsSpot}
 use Rattle.std.proofs.lemmas.List.Folds.{list_any_none}
 use Rattle.ufs_spec.proofs.Lists.{find_some}
-use Rattle.power_loss.proofs.Common.{All-weaker, Contains, Looked, OnPage, Pin, Ready, Stale, Untouched, Vacancy}
-use Rattle.power_loss.proofs.Common.{place_in, spot_cases, spot_of}
 use Rattle.ufs_spec.specs.Translation.{flies_erase, flies_reader, flight_into, flight_or, has_stale, is_idle, is_of_die}
 use Rattle.ufs_spec.specs.Translation.{is_ready, is_stale, is_unread, is_untouched, is_vacant, lowest_vacant}
 use Rattle.ufs_spec.specs.Translation.{may_be_used, next_flight, spots_of, want_of_kind, want_of_pin, want_of_rest}
 use Rattle.ufs_spec.specs.Translation.{wants, wants_on}
 use Rattle.power_loss.specs.MendingRoom.{HasJob, HasRoom, IsOffFree, IsOutOfNumbers, MayGoOn, MendsAlone, OwesJob}
-use Rattle.power_loss.specs.MendingRoom.{page_room}
-use Rattle.power_loss.specs.MendingRoom.{page_of_step, pages_left}
+use Rattle.power_loss.specs.MendingRoom.{page_of_step, page_room, pages_left}
 use Rattle.power_loss.proofs.books.FrontierClimbs.{some_told}
 use Rattle.power_loss.proofs.collected_blocks.FewestLivePages.{any_in, in_any}
 use Rattle.power_loss.proofs.jobs_owed.RoomLeft.{filled_open}

@@ -1,12 +1,10 @@
 -- While the device is not mended what tasks keep lies in no free block.
-use Rattle.power_loss.proofs.Common.{All, All-map, All-weaker, ◌≡◌, ℕ, ◌<◌, ◌≤◌, Bool, Option, Some, None, get_or, List}
-use Rattle.power_loss.proofs.Common.{map, nat_lt, if_both, refl, sym, ap, ◌∙◌, arith, same_Some, BlockState, Free, Spot}
-use Rattle.power_loss.proofs.Common.{spot_of, InSlot, Looked, Name, OnPage, Unwritten, look, looked_at, subst}
-use Rattle.power_loss.proofs.Common.{looked_on, take, ◌-◌, if◌then◌else◌}
-use Rattle.power_loss.proofs.Common.{settled_look, settled_pin, is_pin_of, with_wanted, Pin, Translation, is_mended}
-use Rattle.power_loss.proofs.Common.{Key}
-use Rattle.power_loss.proofs.Common.{◌≢◌, ⊎_elim, at_spot, at_spot_is}
-use Rattle.power_loss.proofs.Common.{Place, HasKey, book, Valid, false}
+use Rattle.power_loss.proofs.Common.{All, All-map, All-weaker, BlockState, Bool, Free, HasKey, InSlot, Key, List}
+use Rattle.power_loss.proofs.Common.{Looked, Name, None, OnPage, Option, Pin, Place, Some, Spot, Translation, Unwritten}
+use Rattle.power_loss.proofs.Common.{Valid, ap, arith, at_spot, at_spot_is, book, false, get_or, if_both, if◌then◌else◌}
+use Rattle.power_loss.proofs.Common.{is_mended, is_pin_of, look, looked_at, looked_on, map, nat_lt, refl, same_Some}
+use Rattle.power_loss.proofs.Common.{settled_look, settled_pin, spot_of, subst, sym, take, with_wanted, ℕ, ⊎_elim, ◌-◌}
+use Rattle.power_loss.proofs.Common.{◌<◌, ◌∙◌, ◌≡◌, ◌≢◌, ◌≤◌}
 use Rattle.power_loss.specs.MendingRoom.{ArePinsOffFree, IsOffFree}
 use Rattle.power_loss.proofs.books.LayerParts.{LookedOf, SecureOf}
 use Rattle.power_loss.proofs.kept_pages.UnmendedPages.{new_secure, unmended_secure}

@@ -1,12 +1,11 @@
 -- The pages that may still be programmed, summed over the blocks of all dies: what free blocks make of the sum at the
 -- least, and what one program and one erase leave of it.
-use Rattle.power_loss.proofs.Common.{Bad, ◌≡◌, ◌≢◌, ℕ, ◌+◌, ◌-◌, ◌*◌, ◌<◌, ◌≤◌, ◌==◌, cond, Bool, true, false}
-use Rattle.power_loss.proofs.Common.{if◌then◌else◌, length, List, [], ◌∷◌, refl, sym, ap, ◌∙◌, subst, inl, inr}
-use Rattle.power_loss.proofs.Common.{⊎_elim, arith}
-use Rattle.power_loss.proofs.Common.{at_most, eqb-true, sum_by-cons, BlockState, Closed, Filling, Free, Spot, at_spot}
-use Rattle.power_loss.proofs.Common.{at_spot_cases, is_free, spot_cases, spots, state_after, Numbers}
-use Rattle.power_loss.proofs.Common.{none-some, Cells, Programming, AreLost, IsOpenedTranslation, Translation}
-use Rattle.power_loss.proofs.Common.{All, All-nil, Key, Pin}
+use Rattle.power_loss.proofs.Common.{All, All-nil, AreLost, Bad, BlockState, Bool, Cells, Closed, Filling, Free}
+use Rattle.power_loss.proofs.Common.{IsOpenedTranslation, Key, List, Numbers, Pin, Programming, Spot, Translation, []}
+use Rattle.power_loss.proofs.Common.{ap, arith, at_most, at_spot, at_spot_cases, cond, eqb-true, false, if◌then◌else◌}
+use Rattle.power_loss.proofs.Common.{inl, inr, is_free, length, none-some, refl, spot_cases, spots, state_after, subst}
+use Rattle.power_loss.proofs.Common.{sum_by-cons, sym, true, ℕ, ⊎_elim, ◌*◌, ◌+◌, ◌-◌, ◌<◌, ◌==◌, ◌∙◌, ◌∷◌, ◌≡◌, ◌≢◌}
+use Rattle.power_loss.proofs.Common.{◌≤◌}
 use Rattle.power_loss.proofs.MachineWords.{IsBefore}
 use Rattle.std.specs.List.{count_by, sum_by}
 use Rattle.std.proofs.Math.Nat.{mul-le-mul_left}

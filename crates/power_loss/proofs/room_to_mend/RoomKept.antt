@@ -1,24 +1,19 @@
 -- Each move by which no program or erase fails leaves room for the mending, which alone takes pages.
-use Rattle.power_loss.proofs.Common.{◌≡◌, ℕ, suc, ◌+◌, ◌≤◌, Bool, true, false, is_none, List, []}
-use Rattle.power_loss.proofs.Common.{Option, Some, None, refl, sym, ap, ◌∙◌, subst, arith, ⊎_elim}
-use Rattle.power_loss.proofs.Common.{◌==◌, none-some, same_Some}
-use Rattle.power_loss.proofs.Common.{true≢false, Cell, GroupPage, Mark, MarkPage}
-use Rattle.power_loss.proofs.Common.{Nothing, Erasing, Flight, ForNobody, ForRest, ForStep, ForTask, Programming}
-use Rattle.power_loss.proofs.Common.{Reader, Reading, Spot, programmed, erased, Accept, spot_of}
-use Rattle.power_loss.proofs.Common.{Acknowledge, Claim, EndJob, Ending, GiveJob, IsAllowedMove, Keep, LetGo, LetGoAll}
-use Rattle.power_loss.proofs.Common.{Move, ReadRight, ReadWrong, Release, TakeStep, WantPage, WentWell, WentWrong}
-use Rattle.power_loss.proofs.Common.{die_idle, end_flight, is_for, is_for_task, is_pin_of, moved}
-use Rattle.power_loss.proofs.Common.{read_right, read_wrong, step_after, step_there}
-use Rattle.power_loss.proofs.Common.{MayTake, Order, OrderCopy}
-use Rattle.power_loss.proofs.Common.{OrderMark, OrderPlanMark, OrderRepair, Pin, Plan, Step}
-use Rattle.power_loss.proofs.Common.{Translation, Want, is_mended, mark_ordered}
-use Rattle.power_loss.proofs.Common.{name_of, ordered, repair_ordered, taken, turned, standing_of}
-use Rattle.power_loss.proofs.Common.{want_at, Place, Tag, Valid}
+use Rattle.power_loss.proofs.Common.{Accept, Acknowledge, All, All-filter, All-push, Bool, Cell, Claim, EndJob, Ending}
+use Rattle.power_loss.proofs.Common.{Erasing, Filling, Flight, ForNobody, ForRest, ForStep, ForTask, GiveJob, GroupPage}
+use Rattle.power_loss.proofs.Common.{IsAllowedMove, Keep, LetGo, LetGoAll, List, Mark, MarkPage, MayTake, Move, None}
+use Rattle.power_loss.proofs.Common.{Nothing, Option, Order, OrderCopy, OrderMark, OrderPlanMark, OrderRepair, Pin}
+use Rattle.power_loss.proofs.Common.{Place, Plan, Programming, ReadRight, ReadWrong, Reader, Reading, Release, Some}
+use Rattle.power_loss.proofs.Common.{Spot, Step, Tag, TakeStep, Translation, Valid, Want, WantPage, WentWell, WentWrong}
+use Rattle.power_loss.proofs.Common.{[], ap, arith, die_idle, end_flight, erased, false, is_for, is_for_task, is_mended}
+use Rattle.power_loss.proofs.Common.{is_none, is_pin_of, map, mark_ordered, moved, name_of, none-some, ordered}
+use Rattle.power_loss.proofs.Common.{programmed, read_right, read_wrong, refl, repair_ordered, same_Some, spot_of}
+use Rattle.power_loss.proofs.Common.{standing_of, step_after, step_there, subst, suc, sym, taken, true, true≢false}
+use Rattle.power_loss.proofs.Common.{turned, want_at, with_wanted, ℕ, ⊎_elim, ◌+◌, ◌==◌, ◌∙◌, ◌≡◌, ◌≤◌}
 use Rattle.power_loss.proofs.MachineWords.{turns_left}
 use Rattle.ufs_spec.specs.Moves.{let_go, mark_written, page_written, rests_without}
 use Rattle.ufs_spec.specs.Translation.{want_from, want_of_kind}
 use Rattle.ufs_laws.proofs.walk.LayerEffects.{IsDue, order_due, turned_if}
-use Rattle.power_loss.proofs.Common.{map, with_wanted, All, All-filter, All-push, Filling}
 use Rattle.power_loss.specs.MendingRoom.{ArePinsOffFree, HasRoom, IsOffFree, MendsAlone, fails_job, flies_kind}
 use Rattle.power_loss.specs.MendingRoom.{page_of_step, page_room, pages_left}
 use Rattle.power_loss.proofs.jobs.JobsBegin.{erase_is_no_program}

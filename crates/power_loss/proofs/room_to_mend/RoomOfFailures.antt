@@ -1,10 +1,9 @@
 -- A program or an erase that fails takes the room of its block, and no more.
-use Rattle.power_loss.proofs.Common.{◌≡◌, ℕ, ◌+◌, ◌*◌, ◌≤◌, true, false, Option, Some, None, refl}
-use Rattle.power_loss.proofs.Common.{ap, ◌∙◌, arith, if_both, true≢false, same_Some, Cells, GroupPage, Mark, MarkPage}
-use Rattle.power_loss.proofs.Common.{Nothing, Bad, Erasing, Flight, Programming, Reading, Spot, spot_of}
-use Rattle.power_loss.proofs.Common.{erase_failed, program_failed, EndJob, IsAllowedMove, Move, WentWrong, end_flight}
-use Rattle.power_loss.proofs.Common.{moved, Step, Translation, has_mark_number, is_mended, mark_ordered, Place}
-use Rattle.power_loss.proofs.Common.{Valid}
+use Rattle.power_loss.proofs.Common.{Bad, Cells, EndJob, Erasing, Flight, GroupPage, IsAllowedMove, Mark, MarkPage}
+use Rattle.power_loss.proofs.Common.{Move, None, Nothing, Option, Place, Programming, Reading, Some, Spot, Step}
+use Rattle.power_loss.proofs.Common.{Translation, Valid, WentWrong, ap, arith, end_flight, erase_failed, false}
+use Rattle.power_loss.proofs.Common.{has_mark_number, if_both, is_mended, mark_ordered, moved, program_failed, refl}
+use Rattle.power_loss.proofs.Common.{same_Some, spot_of, true, true≢false, ℕ, ◌*◌, ◌+◌, ◌∙◌, ◌≡◌, ◌≤◌}
 use Rattle.power_loss.proofs.MachineWords.{turns_left}
 use Rattle.ufs_spec.specs.Moves.{mark_again}
 use Rattle.power_loss.specs.MendingRoom.{HasRoom, MendsAlone, failures_of, flies_kind, page_of_step, pages_left}

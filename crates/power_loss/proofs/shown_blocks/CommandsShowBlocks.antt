@@ -1,14 +1,13 @@
 -- What is kept for a READ shows the blocks that the READ sends: each call keeps it, from the opening on.
-use Rattle.power_loss.proofs.Common.{◌≡◌, ℕ, ◌+◌, Bool, true, false, if◌then◌else◌, All, List, [], ◌∷◌, ◌++◌, Option}
-use Rattle.power_loss.proofs.Common.{Some, None, fold, length, map, refl, sym, ap, ◌∙◌, subst, arith}
-use Rattle.power_loss.proofs.Common.{All-weaker, get_or_from_slice_get, slice_get_within, IsKey, below, data_key}
-use Rattle.power_loss.proofs.Common.{Ledger, moved, block_at, shape_of_numbers, eqb-self}
-use Rattle.power_loss.proofs.MachineWords.{address_of, Answering, Deed, ReadBlock, Status, Unread}
-use Rattle.power_loss.proofs.MachineWords.{is_task_of, begun, begun_if_any, blocks_expected, command_taken, kept_at}
-use Rattle.power_loss.proofs.MachineWords.{keeps, refused_or_begun, read_begun, read_blocks, sending, unit_or_first}
-use Rattle.power_loss.proofs.MachineWords.{with_task, most_tasks, Request, State, numbers_of, plain_now}
-use Rattle.power_loss.proofs.MachineWords.{refusal, unit_of_request, Cdb, IsTied, IsShown, ShowsBlock}
-use Rattle.power_loss.proofs.MachineWords.{ShowsReads, ShowsRight}
+use Rattle.power_loss.proofs.Common.{All, All-weaker, Bool, IsKey, Key, Ledger, List, None, Option, Some, [], ap, arith}
+use Rattle.power_loss.proofs.Common.{below, block_at, content, data_key, eqb-self, false, fold, get_or_from_slice_get}
+use Rattle.power_loss.proofs.Common.{if◌then◌else◌, length, map, moved, refl, shape_of_numbers, slice_get_within, subst}
+use Rattle.power_loss.proofs.Common.{sym, true, ℕ, ◌++◌, ◌+◌, ◌∙◌, ◌∷◌, ◌≡◌}
+use Rattle.power_loss.proofs.MachineWords.{Answering, Cdb, Deed, IsShown, IsTied, ReadBlock, Request, ShowsBlock}
+use Rattle.power_loss.proofs.MachineWords.{ShowsReads, ShowsRight, State, Status, Unread, address_of, begun}
+use Rattle.power_loss.proofs.MachineWords.{begun_if_any, blocks_expected, command_taken, is_task_of, keeps, kept_at}
+use Rattle.power_loss.proofs.MachineWords.{most_tasks, numbers_of, plain_now, read_begun, read_blocks, refusal}
+use Rattle.power_loss.proofs.MachineWords.{refused_or_begun, sending, unit_of_request, unit_or_first, with_task}
 use Rattle.std.proofs.Common.{nat_le}
 use Rattle.std.specs.Prelude.{slice_get}
 use Rattle.ufs_laws.proofs.plain_contents.ListParts.{get_or-made, length-made}
@@ -21,7 +20,6 @@ use Rattle.power_loss.proofs.shown_contents.MovesKeepShown.{kept_ledger, kept_pi
 use Rattle.power_loss.proofs.shown_blocks.PinsShowBlocks.{Show, more_goes, show_goes}
 use Rattle.ufs_laws.proofs.walk.WaysOfCommands.{Beginning, Gathered, Handing, Reading, WhyBegun, begins_by, begun_as}
 use Rattle.power_loss.specs.Shown.{ShowsAt}
-use Rattle.power_loss.proofs.Common.{Key, content}
 use Rattle.ufs_spec.specs.Moves.{look_now}
 use Rattle.ufs_spec.specs.Refusals.{needs_blocks, refused_state}
 use Rattle.ufs_spec.specs.CdbFields.{spelled_cdb}

@@ -14,14 +14,10 @@ use Rattle.power_loss.proofs.MachineWords.{durable, ends_with, fill_moves, fills
 use Rattle.power_loss.proofs.MachineWords.{message_fault, observe, read_noted, short_locked, tag_in, task_filled}
 use Rattle.power_loss.proofs.MachineWords.{task_locked, task_read, with_moves, State, locked, Event, Output, IsTied}
 use Rattle.power_loss.proofs.MachineWords.{MayCome, ValidState, IsShown, ShowsBlock, ShowsReads, ShowsRight}
-use Rattle.std.proofs.Common.{nat_le, Contains}
-use Rattle.std.proofs.Common.{filter}
+use Rattle.std.proofs.Common.{Contains, filter, nat_le}
 use Rattle.std.specs.Prelude.{slice_get, slice_set}
 use Rattle.ufs_spec.specs.Exchanges.{block_message, filled}
-use Rattle.ufs_spec.specs.Machine.{block_reply}
-use Rattle.ufs_spec.specs.Machine.{is_at_hand}
-use Rattle.ufs_spec.specs.Machine.{next_block_reply, pin_of}
-use Rattle.ufs_spec.specs.Machine.{set_state, with_block}
+use Rattle.ufs_spec.specs.Machine.{block_reply, is_at_hand, next_block_reply, pin_of, set_state, with_block}
 use Rattle.ufs_laws.proofs.walk.SmallChanges.{fills_task, first, job_over, reads}
 use Rattle.power_loss.specs.Shown.{ShowsAt}
 use Rattle.power_loss.proofs.calls.CallsKeepTied.{first_keeps, no_fault}

@@ -4,10 +4,9 @@ use Rattle.power_loss.proofs.Common.{◌++◌, Some, fold, map, refl, sym, ap, �
 use Rattle.power_loss.proofs.Common.{All-filter, All-head, All-nil, All-tail, All-weaker, false≢true, none-some}
 use Rattle.power_loss.proofs.Common.{same_Some, eqb-self, eqb-true, cond-false, cond-true, Entry, InSlot, Ledger}
 use Rattle.power_loss.proofs.Common.{Looked, Name, OnPage, Unwritten, moved, Pin, Translation, Key, Numbers}
-use Rattle.power_loss.proofs.MachineWords.{Deed, Gathering, ReadingArea, RpmbRequest, Sending, Task, is_task_of}
-use Rattle.power_loss.proofs.MachineWords.{task_of}
-use Rattle.power_loss.proofs.MachineWords.{with_deed, with_request, abort_moves, fill_moves}
-use Rattle.power_loss.proofs.MachineWords.{IsShown, ShowsBlock, ShowsRight}
+use Rattle.power_loss.proofs.MachineWords.{Deed, Gathering, IsShown, ReadingArea, RpmbRequest, Sending, ShowsBlock}
+use Rattle.power_loss.proofs.MachineWords.{ShowsRight, Task, abort_moves, fill_moves, is_task_of, task_of, with_deed}
+use Rattle.power_loss.proofs.MachineWords.{with_request}
 use Rattle.std.proofs.Common.{filter, find}
 use Rattle.std.specs.Prelude.{◌||◌}
 use Rattle.ufs_spec.specs.Ledger.{entry_of}

@@ -1,37 +1,36 @@
 -- Each call keeps that what is kept for a READ shows the blocks that the READ sends, and so does a whole life.
-use Rattle.ufs_spec.specs.Plain.{region_of}
+use Rattle.ufs_spec.specs.Plain.{region_of, regions}
 use Rattle.power_loss.proofs.host_commands.GatheringTasks.{GathersIn, HasAll, HasMore, all_there, gathers_in}
 use Rattle.power_loss.proofs.host_commands.GatheringTasks.{more_there, no_more}
 use Rattle.power_loss.proofs.host_commands.ListsAndFrames.{frames_came, keys_of_area, reads_inside}
-use Rattle.power_loss.proofs.Common.{◌≡◌, ℕ, ◌+◌, ◌==◌, Bool, true, false, not, if◌then◌else◌, List, ◌++◌, Option, Some}
-use Rattle.power_loss.proofs.Common.{None, fold, length, map, refl, sym, ap, ◌∙◌, subst, flat_map, All-filter}
-use Rattle.power_loss.proofs.Common.{All-weaker, none-some, same_Some, group_of, Ledger, is_pin_of, moved, Pin}
-use Rattle.power_loss.proofs.MachineWords.{Answering, Awaiting, Deed, Gathering, Good, NotRead, Purpose, ReadBlock}
-use Rattle.power_loss.proofs.MachineWords.{ReadState, Sending, Short, Task, SendingBytes, Unread, WasRead, is_short_of}
-use Rattle.power_loss.proofs.MachineWords.{is_task_of, task_of, with_deed, Host, Spelled, abort_moves, accepts}
-use Rattle.power_loss.proofs.MachineWords.{complete, data_for, data_heard, deed_after, deed_after_block, heard}
-use Rattle.power_loss.proofs.MachineWords.{is_aborted, managed, message_fault, moves_after, replied_by, service}
-use Rattle.power_loss.proofs.MachineWords.{short_replied, task_goes_on, with_moves, without_tasks}
-use Rattle.power_loss.proofs.MachineWords.{opens_short, State, plain_now, numbers_of, Message, IsTied, MayCome}
-use Rattle.power_loss.proofs.MachineWords.{ShowsReads, ShowsRight}
+use Rattle.power_loss.proofs.Common.{All, All-filter, All-weaker, Bool, IsKey, Key, Ledger, List, None, Option, Pin}
+use Rattle.power_loss.proofs.Common.{Some, ap, below, content, false, flat_map, fold, group_of, if◌then◌else◌}
+use Rattle.power_loss.proofs.Common.{is_pin_of, length, map, moved, none-some, not, refl, same_Some, shape_of_numbers}
+use Rattle.power_loss.proofs.Common.{subst, sym, true, ℕ, ◌&&◌, ◌++◌, ◌+◌, ◌<◌, ◌==◌, ◌∙◌, ◌∷◌, ◌≡◌}
+use Rattle.power_loss.proofs.MachineWords.{Answering, AreBytes, Awaiting, Deed, Gathering, Good, Host, IsTied, MayCome}
+use Rattle.power_loss.proofs.MachineWords.{Message, NotRead, Purpose, ReadBlock, ReadState, ReadingArea, RpmbRequest}
+use Rattle.power_loss.proofs.MachineWords.{Sending, SendingBytes, Short, ShowsReads, ShowsRight, Spelled, State, Task}
+use Rattle.power_loss.proofs.MachineWords.{Unread, WasRead, abort_moves, accepts, complete, data_for, data_heard}
+use Rattle.power_loss.proofs.MachineWords.{deed_after, deed_after_block, heard, is_aborted, is_asked_in, is_asked_of}
+use Rattle.power_loss.proofs.MachineWords.{is_short_of, is_task_of, managed, message_fault, moves_after, numbers_of}
+use Rattle.power_loss.proofs.MachineWords.{opens_short, plain_now, replied_by, service, short_replied, short_reply}
+use Rattle.power_loss.proofs.MachineWords.{task_goes_on, task_of, with_deed, with_moves, with_request, with_short}
+use Rattle.power_loss.proofs.MachineWords.{without_tasks}
 use Rattle.std.proofs.Common.{filter, find, nat_lt}
 use Rattle.std.specs.Prelude.{slice_get}
-use Rattle.ufs_spec.specs.Machine.{deed_after_sent}
+use Rattle.ufs_spec.specs.Machine.{deed_after_sent, gathered_more}
 use Rattle.ufs_spec.specs.Commands as command
 use Rattle.ufs_spec.specs.declared.messages.Message.TheVariants as message
 use Rattle.ufs_spec.specs.Changes.{given_back}
 use Rattle.ufs_spec.specs.FrameRequests.{area_read, first_page, keeps_area, page_kept, pages_named}
 use Rattle.ufs_spec.specs.Frames.{Frame}
 use Rattle.ufs_spec.specs.Keys.{area_key}
-use Rattle.ufs_spec.specs.Machine.{gathered_more}
 use Rattle.ufs_spec.specs.Queries.{Query, setting_of}
 use Rattle.ufs_spec.specs.QueryAnswers.{query_failed, query_heard, query_passed}
-use Rattle.ufs_spec.specs.Plain.{regions}
 use Rattle.ufs_spec.proofs.Facts.{if_cases}
 use Rattle.ufs_laws.proofs.walk.Happenings.{code_of_query, is_asked as no_offence}
 use Rattle.ufs_laws.proofs.walk.WaysOfData.{Accepted, AcceptsFrames, Completion, HasResult, ReadsArea, Told}
-use Rattle.ufs_laws.proofs.walk.WaysOfData.{WhyCompleted}
-use Rattle.ufs_laws.proofs.walk.WaysOfData.{completed, completes_by}
+use Rattle.ufs_laws.proofs.walk.WaysOfData.{WhyCompleted, completed, completes_by}
 use Rattle.power_loss.proofs.calls.CallsKeepTied.{spelled_is}
 use Rattle.power_loss.specs.WaitingFrames.{AsksInside}
 use Rattle.power_loss.proofs.open_tasks.FoundInLists.{found_is}
@@ -42,10 +41,6 @@ use Rattle.power_loss.proofs.shown_blocks.PinsShowBlocks.{SameBlocks, Show, abor
 use Rattle.power_loss.proofs.shown_blocks.PinsShowBlocks.{filter_passes, found_kept, set_goes, show_goes, show_known}
 use Rattle.power_loss.proofs.shown_blocks.PinsShowBlocks.{request_goes, show_left}
 use Rattle.power_loss.proofs.shown_blocks.CommandsShowBlocks.{command_shows, made_shows, shows_if}
-use Rattle.power_loss.proofs.Common.{Key, IsKey, All, ◌<◌, ◌&&◌, ◌∷◌, below, content}
-use Rattle.power_loss.proofs.Common.{shape_of_numbers}
-use Rattle.power_loss.proofs.MachineWords.{short_reply, with_short, AreBytes, ReadingArea, RpmbRequest, is_asked_in}
-use Rattle.power_loss.proofs.MachineWords.{is_asked_of, with_request}
 
 -- Data
 

@@ -1,12 +1,11 @@
 -- A block of which each page may go loses its pages: what is left shows all that is not lost.
-use Rattle.power_loss.proofs.Common.{◌≡◌, ◌≢◌, ℕ, zero, suc, ◌+◌, ◌<◌, ◌≤◌, ◌⊎◌, true, false, List, Option, Some, None}
-use Rattle.power_loss.proofs.Common.{refl, sym, ap, ◌∙◌, subst, inl, inr, ⊎_elim, arith, AreWithin, Cell, Cells}
-use Rattle.power_loss.proofs.Common.{GroupPage, Mark, MarkPage, Nothing, key_of, CellCrash, Disk, IsNewestFinished}
-use Rattle.power_loss.proofs.Common.{IsReplaced, MayErase, SpentBy, Spot, Touches, spot_of, with_erasing, HasPage}
-use Rattle.power_loss.proofs.Common.{IsFenced, IsNewestMark, recorded_in, Entry, Mended, Mending, Repairing}
-use Rattle.power_loss.proofs.Common.{Translation, Unmarked, Key, Place, Tag, at_spot_cases, mark_not_nothing}
-use Rattle.power_loss.proofs.Common.{true≢false, IsLostNumber, IsOverwritten, IsPageAt, IsPlainMark, IsWritten, book}
-use Rattle.power_loss.proofs.Common.{Valid}
+use Rattle.power_loss.proofs.Common.{AreWithin, Cell, CellCrash, Cells, Disk, Entry, GroupPage, HasPage, IsFenced}
+use Rattle.power_loss.proofs.Common.{IsLostNumber, IsNewestFinished, IsNewestMark, IsOverwritten, IsPageAt, IsPlainMark}
+use Rattle.power_loss.proofs.Common.{IsReplaced, IsWritten, Key, List, Mark, MarkPage, MayErase, Mended, Mending, None}
+use Rattle.power_loss.proofs.Common.{Nothing, Option, Place, Repairing, Some, SpentBy, Spot, Tag, Touches, Translation}
+use Rattle.power_loss.proofs.Common.{Unmarked, Valid, ap, arith, at_spot_cases, book, false, inl, inr, key_of}
+use Rattle.power_loss.proofs.Common.{mark_not_nothing, recorded_in, refl, spot_of, subst, suc, sym, true, true≢false}
+use Rattle.power_loss.proofs.Common.{with_erasing, zero, ℕ, ⊎_elim, ◌+◌, ◌<◌, ◌∙◌, ◌≡◌, ◌≢◌, ◌≤◌, ◌⊎◌}
 use Rattle.power_loss.proofs.MachineWords.{LosesIn, is_marked}
 use Rattle.power_loss.proofs.books.LayerParts.{MarksOf, StopLeaves, MendingOf, SecureOf}
 use Rattle.power_loss.proofs.collected_blocks.LivePages.{newest_is}

@@ -1,25 +1,21 @@
 -- What waits in the registers of the RPMB is always frames of 512 bytes: each call keeps what tasks and registers need.
 use Rattle.power_loss.proofs.host_commands.GatheringTasks.{GathersIn, HasMore, gathers_in, room_for}
 use Rattle.power_loss.proofs.host_commands.ListsAndFrames.{FramesCame, frames_came}
-use Rattle.power_loss.proofs.Common.{◌≡◌, ◌==◌, ℕ, Bool, true, false, not, List, [], ◌∷◌, ◌++◌, Option, Some}
-use Rattle.power_loss.proofs.Common.{None, filter, fold, length, map, refl, sym, ap, subst}
-use Rattle.power_loss.proofs.Common.{Ok, All-head, if_both, Array, Ending, Flight, Spot, Shape, Numbers, Plain}
-use Rattle.power_loss.proofs.Common.{list_any}
-use Rattle.power_loss.proofs.MachineWords.{Allowed, Answer, AreBytes, Answering, Awaiting, Call, Cdb, Command, Deed}
-use Rattle.power_loss.proofs.MachineWords.{Done}
-use Rattle.power_loss.proofs.MachineWords.{Every, Gathering, Host, IsOpened, IsSpoken, IsTied}
-use Rattle.power_loss.proofs.MachineWords.{OfDone, OfHost, OfReply, OfTake, OfTurn, Purpose}
-use Rattle.power_loss.proofs.MachineWords.{ReadingArea, Registers, Reply, Request, RpmbRequest, State, Take, Task}
-use Rattle.power_loss.proofs.MachineWords.{MayCome, Turn, behind, ends_with, begun, fills, is_task_of, is_to_fill}
-use Rattle.power_loss.proofs.MachineWords.{lock_applied}
-use Rattle.power_loss.proofs.MachineWords.{locked, numbers_of, observe, plain_now, task_filled, task_locked}
-use Rattle.power_loss.proofs.MachineWords.{task_read, unit_of_request, unit_or_first, with_deed, with_request}
+use Rattle.power_loss.proofs.Common.{All-head, Array, Bool, Ending, Flight, List, None, Numbers, Ok, Option, Plain}
+use Rattle.power_loss.proofs.Common.{Shape, Some, Spot, [], ap, false, filter, fold, if_both, length, list_any, map}
+use Rattle.power_loss.proofs.Common.{not, refl, subst, sym, true, ℕ, ◌++◌, ◌==◌, ◌∙◌, ◌∷◌, ◌≡◌}
+use Rattle.power_loss.proofs.MachineWords.{Allowed, Answer, Answering, AreBytes, Awaiting, Call, Cdb, Command, Deed}
+use Rattle.power_loss.proofs.MachineWords.{Done, Every, Gathering, Host, IsOpened, IsSpoken, IsTied, MayCome, OfDone}
+use Rattle.power_loss.proofs.MachineWords.{OfHost, OfReply, OfTake, OfTurn, Purpose, ReadingArea, Registers, Reply}
+use Rattle.power_loss.proofs.MachineWords.{Request, RpmbRequest, State, Take, Task, Turn, begun, behind, ends_with}
+use Rattle.power_loss.proofs.MachineWords.{fills, is_task_of, is_to_fill, lock_applied, locked, numbers_of, observe}
+use Rattle.power_loss.proofs.MachineWords.{plain_now, task_filled, task_locked, task_read, unit_of_request}
+use Rattle.power_loss.proofs.MachineWords.{unit_or_first, with_deed, with_request}
 use Rattle.ufs_spec.specs.Exchanges.{at_region, filled}
 use Rattle.ufs_spec.specs.FrameRequests.{filled_by, filled_registers, requested, result_now}
 use Rattle.ufs_spec.specs.Frames.{Frame, IsFrame}
 use Rattle.ufs_spec.specs.Machine.{registers_after}
 use Rattle.ufs_spec.specs.Plain.{shape_of, shape_of_numbers}
-use Rattle.power_loss.proofs.Common.{◌∙◌}
 use Rattle.ufs_spec.proofs.RegionPages.{area_there}
 use Rattle.ufs_laws.proofs.plain_contents.CommandsKeepPlain.{region_right}
 use Rattle.std.specs.Prelude.{slice_index_or}
@@ -33,8 +29,7 @@ use Rattle.ufs_laws.proofs.walk.TaskLaws.{every_filtered, every_mapped, every_mo
 use Rattle.ufs_laws.proofs.walk.WaysOfCommands.{Beginning, Handing, WhyBegun, begins_by, begun_as}
 use Rattle.ufs_laws.proofs.walk.WaysOfData.{Accepted, AcceptsFrames, Completion, HasResult, ReadsArea, Told}
 use Rattle.ufs_laws.proofs.walk.WaysOfData.{WhyCompleted, completed}
-use Rattle.power_loss.specs.WaitingFrames.{AsksInside, FramesAsk, FramesWait, FramesWaitOf, RegistersHold}
-use Rattle.power_loss.specs.WaitingFrames.{RequestAsks}
+use Rattle.power_loss.specs.WaitingFrames.{AsksInside, FramesAsk, FramesWait, FramesWaitOf, RegistersHold, RequestAsks}
 use Rattle.power_loss.proofs.calls.CallsKeepTied.{behind_keeps}
 use Rattle.power_loss.proofs.calls.CallsLeaveTheDevice.{behind_kept, call_kept}
 use Rattle.power_loss.proofs.commands.RequestedCommands.{asks_inside}

@@ -1,9 +1,9 @@
 -- The replies to queries are messages.
-use Rattle.power_loss.proofs.Common.{◌≡◌, ℕ, ◌==◌, ◌≤◌, Bool, true, false, All, List, [], ◌∷◌, length, Option}
-use Rattle.power_loss.proofs.Common.{Some, None, refl, subst, inl, inr, arith, list_any}
-use Rattle.power_loss.proofs.Common.{get_or_from_slice_get}
-use Rattle.power_loss.proofs.Common.{slice_get_within, Numbers}
-use Rattle.power_loss.proofs.MachineWords.{State, numbers_of}
+use Rattle.power_loss.proofs.Common.{All, AllByRecursion, Bool, List, None, Numbers, Option, Plain, Some, [], arith}
+use Rattle.power_loss.proofs.Common.{eqb-true, false, get_or_from_slice_get, if_both, inl, inr, length, list_any, min}
+use Rattle.power_loss.proofs.Common.{not, refl, replicate, slice_get_within, subst, take, true, ℕ, ⊎_elim, ◌&&◌, ◌++◌}
+use Rattle.power_loss.proofs.Common.{◌<◌, ◌==◌, ◌^◌, ◌∷◌, ◌≡◌, ◌≤◌, ◌⊎◌}
+use Rattle.power_loss.proofs.MachineWords.{AreBytes, State, UnitSpec, numbers_of, plain_now}
 use Rattle.std.specs.Prelude.{if◌then◌else◌, slice_get}
 use Rattle.byteorder.specs.Endian.{big_bytes}
 use Rattle.std.proofs.lemmas.List.{length-take}
@@ -11,19 +11,15 @@ use Rattle.ufs_laws.proofs.pages.ByteLists.{bytes-append, bytes-cons, bytes-nil,
 use Rattle.ufs_laws.proofs.walk.Happenings.{code_of_query}
 use Rattle.ufs_spec.specs.Configs.{UnitInRange}
 use Rattle.ufs_spec.specs.Keys.{flag_byte}
-use Rattle.ufs_spec.specs.Messages.{IsQueryFunction, is_among}
+use Rattle.ufs_spec.specs.Messages.{IsByte, IsMessage, IsQueryFunction, is_among}
 use Rattle.ufs_spec.specs.Queries.{Query, QueryLine, boots, descriptor, descriptor_told, device_descriptor, first_code}
 use Rattle.ufs_spec.specs.Queries.{has_wrong_idn, has_wrong_index, has_wrong_opcode, has_wrong_size, has_wrong_value}
 use Rattle.ufs_spec.specs.Queries.{is_not_writable, is_shut, query_line, sets_permanent}
 use Rattle.ufs_spec.specs.Queries.{unit_descriptor, unit_descriptor_at, value_told}
 use Rattle.ufs_spec.specs.QueryAnswers.{may_set, query_done, query_failed}
 use Rattle.ufs_spec.specs.declared.messages.Asked.{Asked}
-use Rattle.power_loss.proofs.Common.{◌<◌, ◌^◌, ◌++◌, ◌⊎◌, ◌&&◌, AllByRecursion, Plain, eqb-true}
-use Rattle.power_loss.proofs.Common.{if_both, min, not, replicate, take, ⊎_elim}
-use Rattle.power_loss.proofs.MachineWords.{AreBytes, UnitSpec, plain_now}
 use Rattle.ufs_laws.proofs.pages.SettingsBodies.{flag_fits}
 use Rattle.ufs_laws.proofs.exchanges.ListedUnits.{seen_bytes}
-use Rattle.ufs_spec.specs.Messages.{IsByte, IsMessage}
 use Rattle.ufs_spec.specs.declared.volatile.Volatile.{Volatile}
 
 -- A QUERY REQUEST

@@ -1,10 +1,9 @@
 -- The frames that answer an RPMB request are 512 bytes each, and no more than eight.
-use Rattle.power_loss.proofs.Common.{◌≡◌, ℕ, zero, suc, ◌+◌, ◌*◌, ◌<◌, ◌≤◌, ◌==◌, Bool, true, false}
-use Rattle.power_loss.proofs.Common.{List, [], ◌∷◌, ◌++◌, All, Option, Some, None, length, map, drop}
-use Rattle.power_loss.proofs.Common.{slice_get, refl, sym, ap, ◌∙◌, subst, arith, ⊎_elim, length-append, length-drop}
-use Rattle.power_loss.proofs.Common.{length-map, length-take-le, All-cons, All-head, All-map, All-nil, All-tail}
-use Rattle.power_loss.proofs.Common.{All-weaker, get_or_from_slice_get, slice_get_within, below, eqb-true}
-use Rattle.power_loss.proofs.Common.{if_both, or_cases}
+use Rattle.power_loss.proofs.Common.{All, All-cons, All-head, All-map, All-nil, All-tail, All-weaker, Bool, List, None}
+use Rattle.power_loss.proofs.Common.{Option, Some, [], ap, arith, below, drop, eqb-true, false, get_or_from_slice_get}
+use Rattle.power_loss.proofs.Common.{if_both, length, length-append, length-drop, length-map, length-take-le, map}
+use Rattle.power_loss.proofs.Common.{or_cases, refl, slice_get, slice_get_within, subst, suc, sym, true, zero, ℕ}
+use Rattle.power_loss.proofs.Common.{⊎_elim, ◌*◌, ◌++◌, ◌+◌, ◌<◌, ◌==◌, ◌∙◌, ◌∷◌, ◌≡◌, ◌≤◌}
 use Rattle.power_loss.proofs.MachineWords.{AreBytes, Deed, ReadBlock, ReadState, ReadingArea, Registers}
 use Rattle.ufs_spec.specs.FrameRequests.{result_now}
 use Rattle.std.specs.Prelude.{bit_and, bit_or, if◌then◌else◌}
@@ -16,11 +15,10 @@ use Rattle.sha2.specs.Sha256.{digest_bytes, sha256}
 use Rattle.ufs_spec.specs.Frames.{Frame, covered_bytes, frame_bytes}
 use Rattle.ufs_spec.specs.Messages.{zeros}
 use Rattle.ufs_spec.specs.Rpmb.{Region, frames_mac, program_key, read_counter, read_data, read_result, write_data}
-use Rattle.ufs_spec.specs.RpmbResponses.{counter_response, write_response}
-use Rattle.ufs_spec.specs.RpmbResponses.{area_block, data_response, data_responses, emptied_by, filled_with, frames_of}
-use Rattle.ufs_spec.specs.RpmbResponses.{has_result_register, is_lost, is_success, response_frame, response_frames}
-use Rattle.ufs_spec.specs.RpmbResponses.{signed}
-use Rattle.ufs_spec.specs.RpmbResponses.{with_last_mac, with_reads}
+use Rattle.ufs_spec.specs.RpmbResponses.{area_block, counter_response, data_response, data_responses, emptied_by}
+use Rattle.ufs_spec.specs.RpmbResponses.{filled_with, frames_of, has_result_register, is_lost, is_success}
+use Rattle.ufs_spec.specs.RpmbResponses.{response_frame, response_frames, signed, with_last_mac, with_reads}
+use Rattle.ufs_spec.specs.RpmbResponses.{write_response}
 use Rattle.ufs_laws.proofs.pages.ByteLists.{bytes-append, bytes-drop, bytes-nil, bytes-number, bytes-take, bytes-zeros}
 use Rattle.ufs_laws.proofs.plain_contents.ListParts.{length-below}
 use Rattle.power_loss.specs.WaitingFrames.{AsksInside, AsksRightly, FramesAsk, IsFrameSaid, RegistersHold}

@@ -1,27 +1,23 @@
 -- Both replies of each open short exchange are messages, in every state that the calls lead to.
-use Rattle.power_loss.proofs.Common.{◌≡◌, ℕ, ◌==◌, ◌≤◌, Bool, true, false, All, List, [], ◌∷◌, length, map, Option}
-use Rattle.power_loss.proofs.Common.{Some, None, refl, sym, subst, inl, inr, arith, Ok, find, nat_le, list_any}
-use Rattle.power_loss.proofs.Common.{All-append, All-cons, All-filter, All-map, All-nil, get_or_from_slice_get}
-use Rattle.power_loss.proofs.Common.{slice_get_within, Array, Spot, Numbers}
-use Rattle.power_loss.proofs.MachineWords.{IsSpoken, TaskSpeaks, Short, Task, TaskSetFull, is_short_of, response}
-use Rattle.power_loss.proofs.MachineWords.{short_reply, task_of, IsOpened, Life, Allowed, Answer, Call, Done, Due}
-use Rattle.power_loss.proofs.MachineWords.{Faulty, Heard, Host, IsHeard, OfDone, OfHost, OfReply, OfTake, OfTurn, Reply}
-use Rattle.power_loss.proofs.MachineWords.{Spelled, Take, Turn, behind, command_taken, fills, heard, hears, is_durable}
-use Rattle.power_loss.proofs.MachineWords.{lock_applied, managed, observe, refused_or_begun}
-use Rattle.power_loss.proofs.MachineWords.{replied_by, service, short_locked, short_replied, tag_in, task_locked}
-use Rattle.power_loss.proofs.MachineWords.{with_short, Request, State, locked, lun_of, numbers_of, refusal, most_tasks}
-use Rattle.power_loss.proofs.MachineWords.{Event, Output, Message, Cdb}
+use Rattle.power_loss.proofs.Common.{All, All-append, All-cons, All-filter, All-map, All-nil, Array, Bool, List, None}
+use Rattle.power_loss.proofs.Common.{Numbers, Ok, Option, Some, Spot, [], and_parts, apply, arith, config_tests, false}
+use Rattle.power_loss.proofs.Common.{false≢true, find, get_or_from_slice_get, inl, inr, length, list_any, map, nat_le}
+use Rattle.power_loss.proofs.Common.{not, ranges, refl, slice_get_within, subst, sym, true, ℕ, ◌&&◌, ◌==◌, ◌∷◌, ◌≡◌}
+use Rattle.power_loss.proofs.Common.{◌≤◌}
+use Rattle.power_loss.proofs.MachineWords.{Allowed, Answer, Call, Cdb, Command, Done, Due, Event, Faulty, Heard, Host}
+use Rattle.power_loss.proofs.MachineWords.{IsHeard, IsOpened, IsSpoken, IsTied, Life, Message, OfDone, OfHost, OfReply}
+use Rattle.power_loss.proofs.MachineWords.{OfTake, OfTurn, Output, Reply, Request, Short, Spelled, State, Take, Task}
+use Rattle.power_loss.proofs.MachineWords.{TaskSetFull, TaskSpeaks, Turn, ValidState, behind, command_taken, fills}
+use Rattle.power_loss.proofs.MachineWords.{heard, hears, is_durable, is_short_of, lock_applied, locked, lun_of, managed}
+use Rattle.power_loss.proofs.MachineWords.{most_tasks, numbers_of, observe, plain_now, refusal, refused_or_begun}
+use Rattle.power_loss.proofs.MachineWords.{replied_by, response, service, short_locked, short_replied, short_reply}
+use Rattle.power_loss.proofs.MachineWords.{tag_in, task_locked, task_of, with_short}
 use Rattle.std.specs.Prelude.{if◌then◌else◌, is_none, slice_get}
 use Rattle.ufs_laws.proofs.plain_contents.CommandsKeepPlain.{kept_plain}
 use Rattle.ufs_laws.proofs.walk.Happenings.{code_of_query, setting_short}
-use Rattle.ufs_spec.specs.Queries.{Query}
-use Rattle.ufs_spec.specs.Queries.{setting_of}
-use Rattle.ufs_spec.specs.Queries.{volatile_after}
+use Rattle.ufs_spec.specs.Queries.{Query, setting_of, volatile_after}
 use Rattle.ufs_spec.specs.QueryAnswers.{query_done, query_failed, query_heard, query_passed}
 use Rattle.power_loss.specs.WaitingFrames.{TasksSpeak}
-use Rattle.power_loss.proofs.Common.{◌&&◌, apply, config_tests}
-use Rattle.power_loss.proofs.Common.{and_parts, false≢true, not, ranges}
-use Rattle.power_loss.proofs.MachineWords.{Command, IsTied, ValidState, plain_now}
 use Rattle.power_loss.proofs.host_commands.AcceptedCommands.{plain_tied}
 use Rattle.power_loss.proofs.host_commands.QueriesHeard.{setting_is}
 use Rattle.power_loss.proofs.lives.EachEventKeeps.{one_event}
@@ -29,9 +25,7 @@ use Rattle.ufs_laws.proofs.exchanges.ReplySizes.{reply_speaks, response_fits, si
 use Rattle.ufs_laws.proofs.exchanges.SpokenCalls.{spoken}
 use Rattle.ufs_laws.proofs.exchanges.AbortedTasks.{every_at}
 use Rattle.ufs_laws.specs.Replies.{ShortSpeaks, ShortsSpeak}
-use Rattle.ufs_spec.specs.Machine.{aborts}
-use Rattle.ufs_spec.specs.Machine.{is_named}
-use Rattle.ufs_spec.specs.Machine.{service_found}
+use Rattle.ufs_spec.specs.Machine.{aborts, is_named, service_found}
 use Rattle.ufs_spec.specs.Messages.{IsByte, IsMessage, spelling}
 use Rattle.ufs_spec.specs.declared.messages.Message.TheVariants as message
 use Rattle.power_loss.proofs.open_tasks.OpenExchanges.{data_leaves, opened_adds, replied_leaves}

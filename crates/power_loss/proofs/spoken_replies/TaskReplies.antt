@@ -1,19 +1,15 @@
 -- In a state that is tied to its dies and commands each call keeps what tasks need for their replies.
-use Rattle.power_loss.proofs.Common.{◌≡◌, ◌+◌, Bool, List, [], ◌∷◌, sym, ap, ◌∙◌, subst, IsKey, data_key}
-use Rattle.power_loss.proofs.Common.{Array, Spot, Shape, shape_of_numbers, Numbers, shape_after}
-use Rattle.power_loss.proofs.MachineWords.{Every, IsSpoken, TaskSpeaks, address_of}
-use Rattle.power_loss.proofs.MachineWords.{IsOpened, Leads, Life, Event, Output, Allowed, Answer, Call, observe}
-use Rattle.power_loss.proofs.MachineWords.{unit_or_first, State, numbers_of, plain_now}
-use Rattle.power_loss.proofs.MachineWords.{unit_of_request, IsTied, ValidState}
+use Rattle.power_loss.proofs.Common.{All, All-head, All-tail, Array, Bool, IsKey, List, Numbers, Shape, Some, Spot, []}
+use Rattle.power_loss.proofs.Common.{ap, arith, config_tests, data_key, flat_map, length, length-append, ranges, refl}
+use Rattle.power_loss.proofs.Common.{shape_after, shape_of_numbers, subst, sym, ℕ, ◌*◌, ◌+◌, ◌∙◌, ◌∷◌, ◌≡◌}
+use Rattle.power_loss.proofs.MachineWords.{Allowed, Answer, AreBytes, Call, Event, Every, IsOpened, IsSpoken, IsTied}
+use Rattle.power_loss.proofs.MachineWords.{Leads, Life, Output, State, TaskSpeaks, ValidState, address_of, numbers_of}
+use Rattle.power_loss.proofs.MachineWords.{observe, plain_now, unit_of_request, unit_or_first}
 use Rattle.ufs_laws.proofs.plain_contents.CommandsKeepPlain.{all_kept_plain}
 use Rattle.ufs_laws.proofs.exchanges.TasksSpeak.{FewUnits, FramesFit, ReadsFit, SetsOne, SetsRequest, speaks_law}
 use Rattle.ufs_laws.proofs.pages.ByteLists.{bytes-append, bytes-nil}
 use Rattle.power_loss.specs.WaitingFrames.{FramesWait, IsFrameSaid, TasksSpeak}
 use Rattle.power_loss.proofs.spoken_replies.FramesStay.{call_waits, opened_frames}
-use Rattle.power_loss.proofs.Common.{ℕ, ◌*◌, All, Some, length, refl, arith, flat_map, length-append, All-head}
-use Rattle.power_loss.proofs.Common.{All-tail}
-use Rattle.power_loss.proofs.Common.{config_tests, ranges}
-use Rattle.power_loss.proofs.MachineWords.{AreBytes}
 use Rattle.ufs_laws.proofs.plain_contents.PlainFromContents.{content_is_block}
 use Rattle.ufs_laws.proofs.walk.TaskLaws.{Any, any_asks, tasks_kept}
 use Rattle.ufs_laws.proofs.exchanges.SpokenCalls.{spoken}

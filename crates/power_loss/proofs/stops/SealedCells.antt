@@ -14,10 +14,9 @@ use Rattle.std.proofs.Math.Nat.{mul-le-mul_right}
 use Rattle.ufs_laws.proofs.pages.BlankPages.{nothing_is_blank}
 use Rattle.ufs_laws.proofs.pages.ByteLists.{bytes-append, bytes-cons, bytes-filled, bytes-nil, bytes-number}
 use Rattle.ufs_laws.proofs.pages.ByteLists.{bytes-zeros, length-filled}
-use Rattle.ufs_spec.specs.Pages.{greatest_number}
+use Rattle.ufs_spec.specs.Pages.{IsTag, fence_bytes, greatest_number, mark_bytes, numbers_bytes, seal_page, unit_bytes}
 use Rattle.ufs_spec.specs.Cells.{NumbersFit, UnitFits}
 use Rattle.ufs_spec.specs.Configs.{InRange, UnitInRange}
-use Rattle.ufs_spec.specs.Pages.{IsTag, fence_bytes, mark_bytes, numbers_bytes, seal_page, unit_bytes}
 use Rattle.ufs_spec.specs.Plain.{regions, steps_of}
 use Rattle.ufs_spec.proofs.RegionPages.{pages_there}
 use Rattle.ufs_spec.proofs.SealedPages.{seals, units_length}

@@ -1,9 +1,8 @@
 -- Two dies are torn at once: one programs the block's page, the other erases a block.
-use Rattle.power_loss.proofs.Common.{◌≡◌, ◌≢◌, ◌==◌, ◌&&◌, ◌++◌, ℕ, zero, suc, if◌then◌else◌, List, [], ◌∷◌}
-use Rattle.power_loss.proofs.Common.{length, Some, refl, sym, ap, ◌∙◌, subst, inr, ⊎_elim, arith}
-use Rattle.power_loss.proofs.Common.{All-cons, All-nil, Vec, Contains, Array, IsCell}
-use Rattle.power_loss.proofs.Common.{MarkPage, Nothing, Shows, same_place, IsCheckRight}
-use Rattle.power_loss.proofs.Common.{block_at, Page, Place}
+use Rattle.power_loss.proofs.Common.{All-cons, All-nil, Array, Contains, IsCell, IsCheckRight, List, MarkPage, Nothing}
+use Rattle.power_loss.proofs.Common.{Page, Place, Shows, Some, Vec, [], ap, arith, block_at, if◌then◌else◌, inr, length}
+use Rattle.power_loss.proofs.Common.{refl, same_place, subst, suc, sym, zero, ℕ, ⊎_elim, ◌&&◌, ◌++◌, ◌==◌, ◌∙◌, ◌∷◌}
+use Rattle.power_loss.proofs.Common.{◌≡◌, ◌≢◌}
 use Rattle.power_loss.proofs.MachineWords.{first_mark, write_page, Gets, IsNew, data_program, place_of, row, the_data}
 use Rattle.power_loss.proofs.MachineWords.{the_write, Write, AreLeftovers, IsLawfulLeftover, IsLeftoverOf}
 use Rattle.power_loss.proofs.MachineWords.{IsOpened, Leads, Life, Stops, bad_in, die_of, held, page_left, Take, OfTake}
@@ -16,8 +15,7 @@ use Rattle.ufs_laws.proofs.worked_run.RunEvents.{is_13}
 use Rattle.ufs_laws.proofs.answers.OnlyAnswers.{flight_gets}
 use Rattle.ufs_laws.proofs.worked_run.RunLife.{pending_life}
 use Rattle.ufs_laws.proofs.worked_run.RunStates.{erased_array, marked_array, pending}
-use Rattle.ufs_laws.specs.Runs.{begins, pending_events, pending_outputs}
-use Rattle.ufs_laws.specs.Runs.{state_13}
+use Rattle.ufs_laws.specs.Runs.{begins, pending_events, pending_outputs, state_13}
 use Rattle.ufs_spec.specs.Plain.{zero as zero_state}
 use Rattle.power_loss.specs.StoppedWrites.{AreTorn, IsTornTwice, other_erase}
 use Rattle.power_loss.proofs.stops.LawfulLeftovers.{each_stops}

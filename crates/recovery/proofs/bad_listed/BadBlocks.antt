@@ -1,10 +1,7 @@
 -- What the list of bad blocks says of each block.
-use Rattle.std.proofs.Common.{◌≡◌, ◌∙◌, ℕ, Bool, List, map, ap, Some, slice_get}
-use Rattle.std.specs.Prelude.{option_map}
-use Rattle.std.proofs.lemmas.Option.{slice_get-map}
-use Rattle.ufs_spec.specs.Disk.{Spot}
-use Rattle.ufs_spec.specs.Translation.{spots}
-use Rattle.ufs_spec.specs.declared.configs.Numbers.{Numbers}
+use Rattle.recovery.proofs.Common.{Bool, List, Numbers, Some, Spot, ap, map, option_map, slice_get-map, spots, ℕ, ◌∙◌}
+use Rattle.recovery.proofs.Common.{◌≡◌}
+use Rattle.std.proofs.Common.{slice_get}
 
 -- whether it is bad
 pub bad_at : (n : Numbers) (is_bad : Spot → Bool) (bads : List Bool) (i : ℕ) (s : Spot) →

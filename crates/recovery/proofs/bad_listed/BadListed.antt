@@ -1,17 +1,12 @@
 -- Which blocks are bad, die by die, is which blocks are bad in the order of all blocks.
-use Rattle.std.proofs.Common.{◌≡◌, ◌∙◌, ℕ, Bool, List, [], ◌∷◌, ◌++◌, length, map, sym, ap, refl, arith}
-use Rattle.std.specs.Prelude.{slice_index_or}
-use Rattle.std.specs.List.{flat_map}
-use Rattle.std.proofs.lemmas.List.{get_or_default, map-append, length-map}
+use Rattle.recovery.proofs.Common.{Bool, DieState, List, Numbers, [], ap, arith, bad_in, bad_of, below, flat_map}
+use Rattle.recovery.proofs.Common.{length, length-map, map, new_die, refl, slice_index_or, spots, sym, ℕ, ◌++◌, ◌∙◌}
+use Rattle.recovery.proofs.Common.{◌∷◌, ◌≡◌}
+use Rattle.std.proofs.lemmas.List.{get_or_default, map-append}
 use Rattle.std.proofs.lemmas.List.Folds.{flat_map-map}
-use Rattle.ufs_spec.specs.Dies.{DieState, is_bad_block, new_die}
-use Rattle.ufs_spec.specs.Keys.{below}
-use Rattle.ufs_spec.specs.Lives.{bad_of}
-use Rattle.ufs_spec.specs.Translation.{spots}
-use Rattle.ufs_spec.specs.declared.configs.Numbers.{Numbers}
+use Rattle.ufs_spec.specs.Dies.{is_bad_block}
 use Rattle.ufs_spec.proofs.Lists.{map_twice}
 use Rattle.ufs_laws.proofs.plain_contents.ListParts.{made_of}
-use Rattle.recovery.specs.Found.{bad_in}
 
 pub map_joined : {X Y Z : Type 0} (f : Y → Z) (g : X → List Y) (xs : List X) →
     map f (flat_map g xs) ≡ flat_map (λ x. map f (g x)) xs

@@ -1,24 +1,17 @@
 -- A list with an answer for each block: where each block stands in it, and the pages outside of the free blocks.
-use Rattle.std.proofs.Common.{◌≡◌, ◌∙◌, ℕ, zero, suc, ◌+◌, ◌*◌, ◌<◌, Bool, true, false, not, List, [], ◌∷◌, length}
-use Rattle.std.proofs.Common.{Some, cond, refl, sym, ap, subst, arith, if◌then◌else◌, ⊎_elim}
-use Rattle.std.specs.List.{filter, flat_map}
-use Rattle.std.specs.Prelude.{nat_lt, option_map, slice_get, slice_index_or}
-use Rattle.std.proofs.lemmas.List.{flat_map_more, length-map}
-use Rattle.std.proofs.lemmas.Option.{slice_get-get_or, slice_get-map, slice_get_within}
-use Rattle.ufs_spec.specs.Cells.{AreWithin, Cells, GroupPage, Nothing}
-use Rattle.ufs_spec.specs.Disk.{Spot, spot_of}
-use Rattle.ufs_spec.specs.Keys.{below}
-use Rattle.ufs_spec.specs.Translation.{spots}
-use Rattle.ufs_spec.specs.declared.configs.Numbers.{Numbers}
-use Rattle.ufs_spec.specs.declared.flash.Place.{Place}
-use Rattle.ufs_spec.specs.declared.flash.Tag.{Tag}
-use Rattle.ufs_spec.proofs.CellKinds.{page_not_nothing}
-use Rattle.ufs_spec.proofs.Facts.{and_from, cond-true, lt-ltb, none-some, same_Some, true≢false}
+use Rattle.recovery.proofs.Common.{AreListed, AreWithin, Bool, Cells, FoundPage, GroupPage, List, Nothing, Numbers}
+use Rattle.recovery.proofs.Common.{Place, Some, Spot, Tag, [], and_from, ap, arith, below, block_of, cond-true, false}
+use Rattle.recovery.proofs.Common.{filter, flat_map, if◌then◌else◌, is_free_in, is_outside, length, length-map, lt-ltb}
+use Rattle.recovery.proofs.Common.{none-some, not, option_map, outside, page_not_nothing, refl, same_Some, slice_get}
+use Rattle.recovery.proofs.Common.{slice_get-get_or, slice_get-map, slice_get_within, slice_index_or, spot_number}
+use Rattle.recovery.proofs.Common.{spot_of, spots, subst, suc, sym, true, true≢false, zero, ℕ, ⊎_elim, ◌*◌, ◌+◌, ◌<◌}
+use Rattle.recovery.proofs.Common.{◌∙◌, ◌∷◌, ◌≡◌}
+use Rattle.std.proofs.Common.{cond}
+use Rattle.std.specs.Prelude.{nat_lt}
+use Rattle.std.proofs.lemmas.List.{flat_map_more}
 use Rattle.ufs_spec.proofs.Lists.{below_at, length-below}
 use Rattle.ufs_laws.proofs.deciding.SearchOverPlaces.{is_place}
-use Rattle.recovery.specs.Frees.{block_of, has_spot, is_free_in, is_outside, spot_number}
-use Rattle.recovery.specs.Listed.{AreListed, outside}
-use Rattle.recovery.specs.declared.pages.FoundPage.{FoundPage}
+use Rattle.recovery.specs.Frees.{has_spot}
 use Rattle.recovery.proofs.frees.Spots.{IsInside, row, rows_long}
 use Rattle.recovery.proofs.tables.Joined.{in_either}
 use Rattle.recovery.proofs.opened.OutsidePages.{outside_there}

@@ -1,12 +1,8 @@
 -- What blocks record last, after one page or one mark more.
-use Rattle.std.proofs.Common.{◌≡◌, ◌≢◌, ◌∙◌, ◌⊎◌, ℕ, suc, ◌<◌, ◌≤◌, List, length, Some}
-use Rattle.std.proofs.Common.{inl, inr, ⊎_elim, refl, sym, ap, subst, arith}
-use Rattle.std.specs.Prelude.{slice_get}
-use Rattle.std.proofs.lemmas.Bool.{cases_eq}
-use Rattle.ufs_spec.proofs.Facts.{cases_lt, same_Some}
-use Rattle.recovery.specs.Frees.{AreGreatest, MarksRecord, PagesRecord, RecordsUpTo, block_number, block_of}
-use Rattle.recovery.specs.declared.pages.FoundMark.{FoundMark}
-use Rattle.recovery.specs.declared.pages.FoundPage.{FoundPage}
+use Rattle.recovery.proofs.Common.{AreGreatest, FoundMark, FoundPage, List, PagesRecord, RecordsUpTo, Some, ap, arith}
+use Rattle.recovery.proofs.Common.{block_of, cases_eq, cases_lt, inl, inr, length, refl, same_Some, slice_get, subst}
+use Rattle.recovery.proofs.Common.{suc, sym, ℕ, ⊎_elim, ◌<◌, ◌∙◌, ◌≡◌, ◌≢◌, ◌≤◌, ◌⊎◌}
+use Rattle.recovery.specs.Frees.{MarksRecord, block_number}
 
 -- What the block records after one thing more
 

@@ -1,13 +1,8 @@
 -- Lists with an answer for each block, or for each page, after one answer more.
-use Rattle.std.proofs.Common.{◌≡◌, ◌∙◌, ℕ, suc, ◌+◌, ◌<◌, ◌≤◌, Bool, true, List, [], ◌∷◌, ◌++◌, length, Some}
-use Rattle.std.proofs.Common.{⊎_elim, sym, ap, subst, arith, Option}
-use Rattle.std.specs.Prelude.{slice_get}
-use Rattle.ufs_spec.specs.Plain.{Shape}
-use Rattle.ufs_spec.specs.declared.flash.Fence.{Fence}
-use Rattle.ufs_spec.proofs.Facts.{cases_lt, same_Some}
-use Rattle.ufs_spec.proofs.Lists.{get_grows, get_last}
-use Rattle.recovery.specs.Frees.{AreNeeded, TellsNeed}
-use Rattle.recovery.specs.declared.pages.FoundPage.{FoundPage}
+use Rattle.recovery.proofs.Common.{AreNeeded, Bool, Fence, FoundPage, List, Option, Shape, Some, [], ap, arith}
+use Rattle.recovery.proofs.Common.{cases_lt, get_grows, get_last, length, same_Some, slice_get, subst, suc, sym, true}
+use Rattle.recovery.proofs.Common.{ℕ, ⊎_elim, ◌++◌, ◌+◌, ◌<◌, ◌∙◌, ◌∷◌, ◌≡◌, ◌≤◌}
+use Rattle.recovery.specs.Frees.{TellsNeed}
 
 -- the answer of the block is written, and the others stay
 pub record IsAnswered (old new : List Bool) (block : ℕ) (given : Bool) : Type 0 where

@@ -1,14 +1,11 @@
 -- The rule at work: what the list says of the blocks up to one of them stays right when that one is answered.
-use Rattle.std.proofs.Common.{◌≡◌, ◌≢◌, ◌∙◌, ◌⊎◌, ℕ, ◌+◌, ◌<◌, ◌≤◌, Bool, true, false, List, length, Option, Some, None}
-use Rattle.std.proofs.Common.{inl, inr, ⊎_elim, refl, sym, ap, subst, arith}
-use Rattle.std.specs.Prelude.{slice_get, slice_index_or, unwrap_or}
-use Rattle.std.proofs.lemmas.Bool.{cases_eq}
-use Rattle.std.proofs.lemmas.Option.{slice_get_within, unwrap_or-slice_get}
-use Rattle.ufs_spec.proofs.Facts.{cases_Bool, cases_lt, false≢true, same_Some}
-use Rattle.recovery.specs.Frees.{AreByAge, AreDecided, HasOther, HasOtherThen, IsBefore, IsDecided}
-use Rattle.recovery.specs.Frees.{IsNeededIn, block_of}
-use Rattle.recovery.specs.declared.free.Aged.{Aged}
-use Rattle.recovery.specs.declared.pages.FoundPage.{FoundPage}
+use Rattle.recovery.proofs.Common.{Aged, AreByAge, Bool, FoundPage, HasOther, IsBefore, IsDecided, IsNeededIn, List}
+use Rattle.recovery.proofs.Common.{None, Option, Some, ap, arith, block_of, cases_Bool, cases_eq, cases_lt, false}
+use Rattle.recovery.proofs.Common.{false≢true, inl, inr, length, refl, same_Some, slice_get, slice_get_within}
+use Rattle.recovery.proofs.Common.{slice_index_or, subst, sym, true, ℕ, ⊎_elim, ◌+◌, ◌<◌, ◌∙◌, ◌≡◌, ◌≢◌, ◌≤◌, ◌⊎◌}
+use Rattle.std.specs.Prelude.{unwrap_or}
+use Rattle.std.proofs.lemmas.Option.{unwrap_or-slice_get}
+use Rattle.recovery.specs.Frees.{AreDecided, HasOtherThen}
 use Rattle.recovery.proofs.frees.Answered.{IsAnswered}
 
 -- What a list says of a block that may be missing

@@ -1,22 +1,10 @@
 -- The age of a block, by what the lists of pages and marks record of it, is its age by the cells.
-use Rattle.std.proofs.Common.{◌≡◌, ◌≢◌, ◌∙◌, ℕ, ◌<◌, ◌≤◌, ◌*◌, List, length, Some}
-use Rattle.std.proofs.Common.{inl, inr, ⊎_elim, refl, sym, ap, arith}
-use Rattle.std.specs.Prelude.{slice_get}
-use Rattle.std.proofs.lemmas.Option.{slice_get_within}
-use Rattle.ufs_spec.specs.Cells.{AreWithin, Cell, Cells, GroupPage, MarkPage, Nothing}
-use Rattle.ufs_spec.specs.Disk.{Spot, spot_of}
-use Rattle.ufs_spec.specs.Openings.{IsNotHigher}
-use Rattle.ufs_spec.specs.Translation.{spots}
-use Rattle.ufs_spec.specs.declared.configs.Numbers.{Numbers}
-use Rattle.ufs_spec.specs.declared.flash.Place.{Place}
-use Rattle.ufs_spec.proofs.CellKinds.{mark_not_nothing, page_not_nothing}
-use Rattle.ufs_spec.proofs.Facts.{cases_lt, same_Some}
-use Rattle.ufs_spec.proofs.Lists.{get_there}
-use Rattle.recovery.specs.Frees.{AreGreatest, AreRising, IsBefore, IsLatestIn, IsLowerSpot, IsOlder, RecordsUpTo}
-use Rattle.recovery.specs.Frees.{block_of, recorded_by, spot_number}
-use Rattle.recovery.specs.Listed.{AreListed, AreMarksListed}
-use Rattle.recovery.specs.declared.pages.FoundMark.{FoundMark}
-use Rattle.recovery.specs.declared.pages.FoundPage.{FoundPage}
+use Rattle.recovery.proofs.Common.{AreGreatest, AreListed, AreMarksListed, AreRising, AreWithin, Cell, Cells, FoundMark}
+use Rattle.recovery.proofs.Common.{FoundPage, GroupPage, IsBefore, IsNotHigher, List, MarkPage, Nothing, Numbers, Place}
+use Rattle.recovery.proofs.Common.{RecordsUpTo, Some, Spot, ap, arith, block_of, cases_lt, get_there, inl, inr, length}
+use Rattle.recovery.proofs.Common.{mark_not_nothing, page_not_nothing, refl, same_Some, slice_get, slice_get_within}
+use Rattle.recovery.proofs.Common.{spot_number, spot_of, spots, sym, ℕ, ⊎_elim, ◌*◌, ◌<◌, ◌∙◌, ◌≡◌, ◌≢◌, ◌≤◌}
+use Rattle.recovery.specs.Frees.{IsLatestIn, IsLowerSpot, IsOlder, recorded_by}
 use Rattle.recovery.proofs.frees.Spots.{IsInside, first_lower, lower_first, one_spot, spot_there}
 
 -- a list of all blocks has an entry for each

@@ -1,14 +1,10 @@
 -- Whether a page is needed, told by the newest page of its key, is whether the newest mark's fence has its number or a
 -- page overwrites it.
-use Rattle.std.proofs.Common.{◌≡◌, ◌∙◌, ◌⊎◌, true, false, not, Option, Some, None, inl, inr, ⊎_elim, sym, arith}
-use Rattle.ufs_spec.specs.Cells.{Cells, Mark, key_of}
-use Rattle.ufs_spec.specs.Kept.{IsFenced}
-use Rattle.ufs_spec.specs.declared.flash.Tag.{Tag}
-use Rattle.ufs_spec.proofs.Facts.{and_false, and_parts, false≢true, lt-ltb, ltb-true, not-false, not-true}
+use Rattle.recovery.proofs.Common.{Cells, FoundPage, IsContentPage, IsFenced, Mark, None, Option, Some, Tag, and_parts}
+use Rattle.recovery.proofs.Common.{arith, false, false≢true, inl, inr, is_fenced, key_of, lt-ltb, ltb-true, not}
+use Rattle.recovery.proofs.Common.{not-true, sym, true, ⊎_elim, ◌∙◌, ◌≡◌, ◌⊎◌}
+use Rattle.ufs_spec.proofs.Facts.{and_false, not-false}
 use Rattle.recovery.specs.Frees.{IsOverwrittenIn, is_needed, is_older}
-use Rattle.recovery.specs.KeysInOrder.{is_fenced}
-use Rattle.recovery.specs.Listed.{IsContentPage}
-use Rattle.recovery.specs.declared.pages.FoundPage.{FoundPage}
 use Rattle.recovery.proofs.key_order.NewestPages.{fenced_test, fenced_told}
 
 module _ (c : Cells) (m : Mark) (t : Tag) where

@@ -1,33 +1,22 @@
 -- What is found of each block by its lists is which blocks are free as the rule goes through them.
-use Rattle.std.proofs.Common.{◌≡◌, ◌≢◌, ◌∙◌, ◌⊎◌, ℕ, ◌≤◌, Bool, true, false, not, List, length, map}
-use Rattle.std.proofs.Common.{Option, Some, None, inl, inr, ⊎_elim, refl, sym, ap, subst, arith, nat_lt}
-use Rattle.std.specs.Prelude.{Err, IfOk, Ok, Result, slice_get, slice_index_or}
-use Rattle.std.proofs.lemmas.List.{length-map}
-use Rattle.std.proofs.lemmas.Option.{get_or_from_slice_get, slice_get_within}
-use Rattle.ufs_spec.specs.Cells.{AreWithin, Cell, Cells, GroupPage, Mark, MarkPage, Nothing, key_of}
-use Rattle.ufs_spec.specs.Disk.{Spot, spot_of}
-use Rattle.ufs_spec.specs.Kept.{IsFenced, IsNewestMark}
-use Rattle.ufs_spec.specs.Plain.{shape_of_numbers}
+use Rattle.recovery.proofs.Common.{AreGreatest, AreHeld, AreListed, AreMarksListed, AreNeeded, AreSamePages, AreWithin}
+use Rattle.recovery.proofs.Common.{Bool, Cell, Cells, FoundMark, FoundPage, GroupPage, IfOk, IsBefore, IsContentPage}
+use Rattle.recovery.proofs.Common.{IsDecided, IsFenced, IsIndex, IsNeededIn, IsNewestMark, Key, List, Mark, MarkPage}
+use Rattle.recovery.proofs.Common.{None, Nothing, Numbers, Option, Place, RecordsUpTo, Some, Spot, Tag, and_from}
+use Rattle.recovery.proofs.Common.{and_parts, ap, arith, block_of, cases_Bool, cond-false, cond-true, false}
+use Rattle.recovery.proofs.Common.{get_or_from_slice_get, inl, inr, is_free_in, key_of, length, length-map, lt-ltb}
+use Rattle.recovery.proofs.Common.{ltb-true, map, mark_not_nothing, nat_lt, not, not-true, refl, same_Some}
+use Rattle.recovery.proofs.Common.{shape_of_numbers, slice_get, slice_get_within, slice_index_or, spot_number, spot_of}
+use Rattle.recovery.proofs.Common.{spots, subst, sym, true, true≢false, ℕ, ⊎_elim, ◌∙◌, ◌≡◌, ◌≢◌, ◌≤◌, ◌⊎◌}
+use Rattle.std.specs.Prelude.{Err, Ok, Result}
 use Rattle.ufs_spec.specs.Sound.{CellsSuit}
-use Rattle.ufs_spec.specs.Translation.{name_of, spots}
-use Rattle.ufs_spec.specs.declared.configs.Numbers.{Numbers}
-use Rattle.ufs_spec.specs.declared.flash.Key.{Key}
-use Rattle.ufs_spec.specs.declared.flash.Place.{Place}
-use Rattle.ufs_spec.specs.declared.flash.Tag.{Tag}
+use Rattle.ufs_spec.specs.Translation.{name_of}
 use Rattle.ufs_spec.specs.declared.layer.Name.{Name}
-use Rattle.ufs_spec.proofs.CellKinds.{mark_not_nothing}
 use Rattle.ufs_spec.proofs.Equalities.{name_is}
-use Rattle.ufs_spec.proofs.Facts.{and_from, and_parts, cases_Bool, cond-false, cond-true, lt-ltb, ltb-true}
-use Rattle.ufs_spec.proofs.Facts.{not-false, not-true, same_Some, true≢false}
-use Rattle.geometry.specs.Keys.{IsIndex}
+use Rattle.ufs_spec.proofs.Facts.{not-false}
 use Rattle.geometry.proofs.Indexes.{known_index}
-use Rattle.recovery.specs.Frees.{AreDecided, AreFoundFree, AreGreatest, AreHeld, AreNeeded}
-use Rattle.recovery.specs.Frees.{AreSamePages, AreUnused, HasOtherThen, IsBefore, IsDecided, IsItOrFoundFree}
-use Rattle.recovery.specs.Frees.{IsNeededIn, IsOlder, IsOverwrittenIn, HasCopyOutside, MayGoWith, RecordsUpTo}
-use Rattle.recovery.specs.Frees.{block_of, has_spot, is_free_in, spot_number}
-use Rattle.recovery.specs.Listed.{AreListed, AreMarksListed, IsContentPage}
-use Rattle.recovery.specs.declared.pages.FoundMark.{FoundMark}
-use Rattle.recovery.specs.declared.pages.FoundPage.{FoundPage}
+use Rattle.recovery.specs.Frees.{AreDecided, AreFoundFree, AreUnused, HasCopyOutside, HasOtherThen, IsItOrFoundFree}
+use Rattle.recovery.specs.Frees.{IsOlder, IsOverwrittenIn, MayGoWith, has_spot}
 use Rattle.recovery.proofs.bad_listed.BadBlocks.{bad_at}
 use Rattle.recovery.proofs.frees.InOrder.{said}
 use Rattle.recovery.proofs.frees.Latests.{entry_there, inside, older_listed, older_told, page_inside, page_some}

@@ -1,18 +1,19 @@
 -- Lists that rise by a number of what stands in them: where they are cut, what sorting makes of pages, and the blocks
 -- from the oldest on.
-use Rattle.std.proofs.Common.{◌≡◌, ◌∙◌, ◌⊎◌, ℕ, zero, suc, ◌+◌, ◌<◌, ◌≤◌, ◌==◌, Bool, true, false, List, length, Some}
-use Rattle.std.proofs.Common.{cond, inl, inr, ⊎_elim, refl, sym, ap, subst, arith, nat_lt, nat_le}
-use Rattle.std.specs.Prelude.{get_or, slice_get}
+use Rattle.recovery.proofs.Common.{Aged, AreByAge, AreRising, AreSamePages, Bool, FoundPage, List, Some, ap, arith}
+use Rattle.recovery.proofs.Common.{cases_lt, false, get_or_from_slice_get, get_there, inl, inr, length, ltb-false}
+use Rattle.recovery.proofs.Common.{ltb-true, nat_le, nat_lt, refl, same_Some, slice_get, slice_get-get_or}
+use Rattle.recovery.proofs.Common.{slice_get_within, subst, suc, sym, true, zero, ℕ, ⊎_elim, ◌+◌, ◌<◌, ◌∙◌, ◌≡◌, ◌≤◌}
+use Rattle.recovery.proofs.Common.{◌⊎◌}
+use Rattle.std.proofs.Common.{cond, ◌==◌}
+use Rattle.std.specs.Prelude.{get_or}
 use Rattle.std.specs.Ordering.{is_lt, nat_cmp}
 use Rattle.std.specs.declared.cmp.Ordering.TheVariants.{Equal, Greater}
 use Rattle.std.specs.List.Sorted.{IsNonDecreasingBy, IsPartitionPoint, IsPermutation, IsSortedByKey, IsStableByKey}
 use Rattle.std.proofs.lemmas.List.Sorted.{Contains-permutation, IsPermutation-sym, ties_still_rise}
-use Rattle.std.proofs.lemmas.Option.{get_or_from_slice_get, slice_get-get_or, slice_get_within}
-use Rattle.ufs_spec.proofs.Facts.{cases_lt, le-ltb, leb-false, leb-true, ltb-false, ltb-true, same_Some}
-use Rattle.ufs_spec.proofs.Lists.{at_contained, contained_at, get_there}
-use Rattle.recovery.specs.Frees.{AreAged, AreByAge, AreRising, AreSamePages, IsCutAt}
-use Rattle.recovery.specs.declared.free.Aged.{Aged}
-use Rattle.recovery.specs.declared.pages.FoundPage.{FoundPage}
+use Rattle.ufs_spec.proofs.Facts.{le-ltb, leb-false, leb-true}
+use Rattle.ufs_spec.proofs.Lists.{at_contained, contained_at}
+use Rattle.recovery.specs.Frees.{AreAged, IsCutAt}
 
 -- What stands in a list
 

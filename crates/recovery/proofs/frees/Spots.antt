@@ -1,19 +1,13 @@
 -- Where the blocks of all dies stand in their list, and that they stand there in their order.
-use Rattle.std.proofs.Common.{◌≡◌, ◌∙◌, ℕ, zero, suc, ◌+◌, ◌*◌, ◌<◌, ◌≤◌, List, [], ◌++◌, length, map, Some}
-use Rattle.std.proofs.Common.{inl, inr, ⊎_elim, sym, ap, arith, length-append}
-use Rattle.std.specs.List.{flat_map}
-use Rattle.std.specs.Prelude.{option_map, slice_get}
+use Rattle.recovery.proofs.Common.{List, Numbers, Some, Spot, [], ap, arith, below, cases_lt, flat_map, get_front, inl}
+use Rattle.recovery.proofs.Common.{inr, length, length-append, length-map, map, option_map, same_Some, slice_get}
+use Rattle.recovery.proofs.Common.{slice_get-map, spot_number, spots, suc, sym, zero, ℕ, ⊎_elim, ◌*◌, ◌++◌, ◌+◌, ◌<◌}
+use Rattle.recovery.proofs.Common.{◌∙◌, ◌≡◌, ◌≤◌}
 use Rattle.std.proofs.Math.Nat.{mul_comm, suc-mul, zero-mul}
-use Rattle.std.proofs.lemmas.List.{flat_map_more, length-map}
+use Rattle.std.proofs.lemmas.List.{flat_map_more}
 use Rattle.std.proofs.lemmas.Nat.{mul-add-lt}
-use Rattle.std.proofs.lemmas.Option.{slice_get-map}
-use Rattle.ufs_spec.specs.Disk.{Spot}
-use Rattle.ufs_spec.specs.Keys.{below}
-use Rattle.ufs_spec.specs.Translation.{spots}
-use Rattle.ufs_spec.specs.declared.configs.Numbers.{Numbers}
-use Rattle.ufs_spec.proofs.Facts.{cases_lt, same_Some}
-use Rattle.ufs_spec.proofs.Lists.{below_at, get_front, length-below}
-use Rattle.recovery.specs.Frees.{IsLowerSpot, spot_number}
+use Rattle.ufs_spec.proofs.Lists.{below_at, length-below}
+use Rattle.recovery.specs.Frees.{IsLowerSpot}
 use Rattle.recovery.proofs.tables.Joined.{in_back}
 
 -- the blocks of a die

@@ -1,18 +1,12 @@
 -- What the list of the blocks with a page that opens says of a block is what the cells say of it.
-use Rattle.std.proofs.Common.{◌≡◌, ◌⊎◌, ℕ, Bool, true, false, List, length, Some, inl, inr, ap, refl}
-use Rattle.std.specs.Prelude.{slice_get}
-use Rattle.std.proofs.lemmas.Option.{slice_get_within}
-use Rattle.ufs_spec.specs.Cells.{AreWithin, Cell, Cells, GroupPage, MarkPage, Nothing}
-use Rattle.ufs_spec.specs.Disk.{Spot, Stale, Untouched, spot_of}
+use Rattle.recovery.proofs.Common.{AreListed, AreMarksListed, AreWithin, Bool, Cell, Cells, FoundMark, FoundPage}
+use Rattle.recovery.proofs.Common.{GroupPage, List, MarkPage, Nothing, Numbers, Some, Spot, ap, block_of, false}
+use Rattle.recovery.proofs.Common.{found_block, inl, inr, length, mark_not_nothing, refl, slice_get, slice_get_within}
+use Rattle.recovery.proofs.Common.{spot_number, spot_of, true, ℕ, ◌≡◌, ◌⊎◌}
+use Rattle.ufs_spec.specs.Disk.{Stale, Untouched}
 use Rattle.ufs_spec.specs.Openings.{IsVacancyAt}
-use Rattle.ufs_spec.specs.declared.configs.Numbers.{Numbers}
-use Rattle.ufs_spec.proofs.CellKinds.{mark_not_nothing}
 use Rattle.recovery.specs.Found.{IsVacancyFound}
-use Rattle.recovery.specs.Frees.{AreOpening, block_number, block_of, spot_number}
-use Rattle.recovery.specs.KeysInOrder.{found_block}
-use Rattle.recovery.specs.Listed.{AreListed, AreMarksListed}
-use Rattle.recovery.specs.declared.pages.FoundMark.{FoundMark}
-use Rattle.recovery.specs.declared.pages.FoundPage.{FoundPage}
+use Rattle.recovery.specs.Frees.{AreOpening, block_number}
 use Rattle.recovery.proofs.frees.Latests.{inside, page_inside, page_some}
 use Rattle.recovery.proofs.frees.Spots.{IsInside, one_spot}
 

@@ -1,10 +1,7 @@
 -- The first pages of a list.
-use Rattle.std.proofs.Common.{◌≡◌, ◌⊎◌, ℕ, ◌+◌, ◌<◌, ◌≤◌, List, Some, get_or, length, subst, ⊎_elim, inl, inr, arith}
-use Rattle.std.specs.Prelude.{slice_get}
+use Rattle.recovery.proofs.Common.{FoundPage, IsAmong, List, Some, arith, get_or, inl, inr, length, slice_get}
+use Rattle.recovery.proofs.Common.{slice_get-get_or, slice_get_within, subst, ℕ, ⊎_elim, ◌+◌, ◌<◌, ◌≡◌, ◌≤◌, ◌⊎◌}
 use Rattle.std.proofs.lemmas.Bool.{cases_lt}
-use Rattle.std.proofs.lemmas.Option.{slice_get-get_or, slice_get_within}
-use Rattle.recovery.specs.Buckets.{IsAmong}
-use Rattle.recovery.specs.declared.pages.FoundPage.{FoundPage}
 
 -- what a read past the end of a list gives
 abbrev pub no_page : FoundPage

@@ -1,17 +1,10 @@
 -- The greatest recorded frontier, page by page.
-use Rattle.std.proofs.Common.{◌≡◌, ◌⊎◌, ℕ, ◌+◌, ◌<◌, ◌≤◌, List, Option, Some, length, max, sym, ◌∙◌, subst}
-use Rattle.std.proofs.Common.{⊎_elim, inl, inr, arith}
-use Rattle.std.specs.Prelude.{slice_get}
+use Rattle.recovery.proofs.Common.{AreListed, Cells, Counts, Fence, FoundPage, IsAmong, IsFenced, IsMarksRecord, List}
+use Rattle.recovery.proofs.Common.{Mark, MarkPage, Option, Place, Some, Tag, arith, fence_in, inl, inr, length, max}
+use Rattle.recovery.proofs.Common.{slice_get, subst, sym, ℕ, ⊎_elim, ◌+◌, ◌<◌, ◌∙◌, ◌≡◌, ◌≤◌, ◌⊎◌}
 use Rattle.ufs_spec.proofs.Facts.{at_most}
-use Rattle.ufs_spec.specs.Cells.{Cells, Mark, MarkPage}
-use Rattle.ufs_spec.specs.Kept.{Counts, IsFenced, IsRecorded, fence_in}
-use Rattle.ufs_spec.specs.declared.flash.Fence.{Fence}
-use Rattle.ufs_spec.specs.declared.flash.Place.{Place}
-use Rattle.ufs_spec.specs.declared.flash.Tag.{Tag}
+use Rattle.ufs_spec.specs.Kept.{IsRecorded}
 use Rattle.recovery.proofs.greatest_numbers.Among.{among_all, among_before, among_last, among_more}
-use Rattle.recovery.specs.Buckets.{IsAmong}
-use Rattle.recovery.specs.Listed.{AreListed, IsMarksRecord}
-use Rattle.recovery.specs.declared.pages.FoundPage.{FoundPage}
 
 -- a page that counts, of the first ones
 abbrev pub IsCounted : List FoundPage → Option Fence → ℕ → FoundPage → Type 0

@@ -1,17 +1,10 @@
 -- The greatest number seen, page by page.
-use Rattle.std.proofs.Common.{◌≡◌, ℕ, ◌+◌, ◌≤◌, List, Option, Some, None, length, max, refl, sym, ◌∙◌, ap, subst}
-use Rattle.std.proofs.Common.{⊎_elim, arith}
-use Rattle.std.specs.Prelude.{slice_get}
-use Rattle.ufs_spec.specs.Cells.{Cells, Mark, MarkPage}
-use Rattle.ufs_spec.specs.Kept.{fence_in}
+use Rattle.recovery.proofs.Common.{AreListed, Cells, Fence, FoundPage, IsAmong, IsMarksRecord, List, Mark, MarkPage}
+use Rattle.recovery.proofs.Common.{None, Option, Place, Some, ap, arith, fence_in, length, max, refl, slice_get, subst}
+use Rattle.recovery.proofs.Common.{sym, ℕ, ⊎_elim, ◌+◌, ◌∙◌, ◌≡◌, ◌≤◌}
 use Rattle.ufs_spec.specs.Openings.{IsGreatestSeen}
-use Rattle.ufs_spec.specs.declared.flash.Fence.{Fence}
-use Rattle.ufs_spec.specs.declared.flash.Place.{Place}
 use Rattle.recovery.proofs.greatest_numbers.Among.{among_all, among_before, among_last, among_more}
-use Rattle.recovery.specs.Buckets.{IsAmong}
 use Rattle.recovery.specs.Greatest.{FrontiersWithin, NumbersWithin, fence_end}
-use Rattle.recovery.specs.Listed.{AreListed, IsMarksRecord}
-use Rattle.recovery.specs.declared.pages.FoundPage.{FoundPage}
 
 -- no number of the first pages, of the marks or of the fence is above it
 pub record AreBelow (pages : List FoundPage) (fence : Option Fence) (records i top : ℕ) : Type 0 where

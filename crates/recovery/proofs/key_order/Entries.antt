@@ -1,22 +1,17 @@
 -- The entries of all keys, in their order, after one page more; and the states of blocks, one by one.
-use Rattle.std.proofs.Common.{◌≡◌, ◌≢◌, ◌∙◌, ℕ, ◌+◌, ◌<◌, ◌≤◌, ◌&&◌, Bool, true, false, not, List}
-use Rattle.std.proofs.Common.{◌++◌, length, take, drop, Option, Some, None, refl, sym, ap, subst, ⊎_elim, arith}
-use Rattle.std.proofs.Common.{replicate, add-one}
-use Rattle.std.specs.Prelude.{cond, get_or, nat_le, slice_get, slice_set}
+use Rattle.recovery.proofs.Common.{Bool, Fence, FoundPage, IsIndex, IsKey, IsNewestOf, Key, List, None, Option, Shape}
+use Rattle.recovery.proofs.Common.{Some, add-one, and_from, ap, arith, cond-false, cond-true, false}
+use Rattle.recovery.proofs.Common.{get_or_from_slice_get, index_known, is_fenced, key_of, key_total, length, not, refl}
+use Rattle.recovery.proofs.Common.{replicate, same_key, slice_get, slice_get-get_or, slice_set, subst, sym, take, true}
+use Rattle.recovery.proofs.Common.{ℕ, ⊎_elim, ◌&&◌, ◌++◌, ◌+◌, ◌<◌, ◌∙◌, ◌≡◌, ◌≢◌, ◌≤◌}
+use Rattle.std.proofs.Common.{drop}
+use Rattle.std.specs.Prelude.{cond, get_or, nat_le}
 use Rattle.std.proofs.Math.Seq.{take-append_seam}
-use Rattle.std.proofs.lemmas.Option.{get_or_from_slice_get, slice_get-get_or}
-use Rattle.ufs_spec.specs.Cells.{key_of}
-use Rattle.ufs_spec.specs.Keys.{IsKey, same_key}
-use Rattle.ufs_spec.specs.Plain.{Shape}
-use Rattle.ufs_spec.specs.declared.flash.Fence.{Fence}
-use Rattle.ufs_spec.specs.declared.flash.Key.{Key}
 use Rattle.ufs_spec.proofs.Equalities.{key_cases, key_same}
-use Rattle.ufs_spec.proofs.Facts.{and_from, cond-false, cond-true, le-leb, not_from_false}
+use Rattle.ufs_spec.proofs.Facts.{le-leb, not_from_false}
 use Rattle.ufs_spec.proofs.Lists.{get_replicate, set_here, set_other}
-use Rattle.geometry.specs.Keys.{IsIndex, key_total}
-use Rattle.recovery.specs.KeysInOrder.{IsNewestOf, is_fenced, is_kept_page, is_newer, with_page}
-use Rattle.recovery.specs.declared.pages.FoundPage.{FoundPage}
-use Rattle.geometry.proofs.Indexes.{index_below, index_known, indexes_apart, one_index}
+use Rattle.recovery.specs.KeysInOrder.{is_kept_page, is_newer, with_page}
+use Rattle.geometry.proofs.Indexes.{index_below, indexes_apart, one_index}
 use Rattle.recovery.proofs.key_order.NewestPages.{one_more}
 
 -- A slice's new content in the list that it is a slice of

@@ -1,24 +1,15 @@
 -- The keys with a lost page: the first pages mark them, one page more marks its key or none, and the marked keys in the
 -- order of their indexes are those with a lost page.
-use Rattle.std.proofs.Common.{◌≡◌, ◌≢◌, ◌∙◌, ◌⊎◌, ℕ, suc, ◌<◌, ◌≤◌, Bool, true, false, List, [], ◌∷◌, ◌++◌, length}
-use Rattle.std.proofs.Common.{Some, sym, ap, subst, inl, inr, ⊎_elim, arith, replicate}
-use Rattle.std.specs.Prelude.{◌↔◌, Err, IfOk, Ok, Result, slice_get, slice_set}
-use Rattle.std.proofs.lemmas.Option.{slice_get_within}
-use Rattle.ufs_spec.specs.Cells.{Cells, GroupPage, key_of}
-use Rattle.ufs_spec.specs.Keys.{IsKey, same_key}
-use Rattle.ufs_spec.specs.Openings.{AreLost, IsBefore}
-use Rattle.ufs_spec.specs.Plain.{Shape}
-use Rattle.ufs_spec.specs.declared.flash.Key.{Key}
-use Rattle.ufs_spec.specs.declared.flash.Place.{Place}
-use Rattle.ufs_spec.specs.declared.flash.Tag.{Tag}
+use Rattle.recovery.proofs.Common.{AreListed, AreLost, AreMarked, Bool, Cells, FoundPage, GroupPage, IfOk, IsIndex}
+use Rattle.recovery.proofs.Common.{IsKey, Key, List, Place, Shape, Some, Tag, [], ap, arith, cases_lt, false, get_grows}
+use Rattle.recovery.proofs.Common.{get_last, inl, inr, key_of, key_total, length, replicate, same_Some, same_key}
+use Rattle.recovery.proofs.Common.{slice_get, slice_get_within, slice_set, subst, suc, sym, true, true≢false, ℕ, ⊎_elim}
+use Rattle.recovery.proofs.Common.{◌++◌, ◌<◌, ◌∙◌, ◌∷◌, ◌≡◌, ◌≢◌, ◌≤◌, ◌⊎◌}
+use Rattle.std.specs.Prelude.{Err, Ok, Result, ◌↔◌}
+use Rattle.ufs_spec.specs.Openings.{IsBefore}
 use Rattle.ufs_spec.proofs.Equalities.{key_cases}
-use Rattle.ufs_spec.proofs.Facts.{cases_lt, true≢false, same_Some}
-use Rattle.ufs_spec.proofs.Lists.{get_grows, get_last, get_splits, none_in_empty, set_here, set_other}
-use Rattle.geometry.specs.Keys.{IsIndex, key_total}
-use Rattle.recovery.specs.KeysInOrder.{AreKnown, AreMarked, IsLostAmong}
-use Rattle.recovery.specs.Listed.{AreListed}
-use Rattle.recovery.specs.declared.pages.FoundPage.{FoundPage}
-use Rattle.ufs_spec.proofs.Lists.{get_replicate}
+use Rattle.ufs_spec.proofs.Lists.{get_replicate, get_splits, none_in_empty, set_here, set_other}
+use Rattle.recovery.specs.KeysInOrder.{AreKnown, IsLostAmong}
 use Rattle.geometry.proofs.Indexes.{index_below, indexes_apart, known_index, one_index, one_key, rise_before}
 
 -- Which keys are marked

@@ -1,23 +1,15 @@
 -- The page with a key's content: the first pages of a list give it, one page more is taken or passed over, and what all
 -- pages of the list give is what the cells have.
-use Rattle.std.proofs.Common.{◌≡◌, ◌∙◌, ◌⊎◌, ℕ, suc, ◌<◌, ◌≤◌, true, false, not, ◌&&◌, List, length, Option}
-use Rattle.std.proofs.Common.{Some, None, refl, sym, ap, subst, inl, inr, ⊎_elim, arith}
-use Rattle.std.specs.Prelude.{nat_le, slice_get}
-use Rattle.std.proofs.lemmas.Option.{slice_get_within}
-use Rattle.ufs_spec.specs.Cells.{Cells, GroupPage, Mark, key_of}
-use Rattle.ufs_spec.specs.Keys.{same_key}
-use Rattle.ufs_spec.specs.Kept.{Counts, HasNone, IsFenced, IsNewest, fence_in}
-use Rattle.ufs_spec.specs.Openings.{IsNotHigher}
-use Rattle.ufs_spec.specs.declared.flash.Fence.{Fence}
-use Rattle.ufs_spec.specs.declared.flash.Key.{Key}
-use Rattle.ufs_spec.specs.declared.flash.Place.{Place}
-use Rattle.ufs_spec.specs.declared.flash.Tag.{Tag}
+use Rattle.recovery.proofs.Common.{AreListed, Cells, Counts, Fence, FoundPage, GroupPage, HasNone, IsContentPage}
+use Rattle.recovery.proofs.Common.{IsFenced, IsNewest, IsNewestOf, IsNotHigher, Key, List, Mark, None, Option, Place}
+use Rattle.recovery.proofs.Common.{Some, Tag, and_from, and_parts, ap, arith, cases_lt, false, false≢true, fence_in}
+use Rattle.recovery.proofs.Common.{inl, inr, is_fenced, key_of, length, ltb-false, ltb-true, not, not-true, refl}
+use Rattle.recovery.proofs.Common.{same_Some, same_key, slice_get, slice_get_within, subst, suc, sym, true, ℕ, ⊎_elim}
+use Rattle.recovery.proofs.Common.{◌&&◌, ◌<◌, ◌∙◌, ◌≡◌, ◌≤◌, ◌⊎◌}
+use Rattle.std.specs.Prelude.{nat_le}
 use Rattle.ufs_spec.proofs.Equalities.{key_same, key_told}
-use Rattle.ufs_spec.proofs.Facts.{and_false, and_from, and_parts, cases_lt, false≢true, if_cases, le-leb, leb-true}
-use Rattle.ufs_spec.proofs.Facts.{ltb-false, ltb-true, false_from_ne_true, not_from_false, not-true, same_Some}
-use Rattle.recovery.specs.KeysInOrder.{IsKeptPage, IsNewestOf, is_fenced, is_kept_page, is_newer, with_page}
-use Rattle.recovery.specs.Listed.{AreListed, IsContentPage}
-use Rattle.recovery.specs.declared.pages.FoundPage.{FoundPage}
+use Rattle.ufs_spec.proofs.Facts.{and_false, false_from_ne_true, if_cases, le-leb, leb-true, not_from_false}
+use Rattle.recovery.specs.KeysInOrder.{IsKeptPage, is_kept_page, is_newer, with_page}
 
 -- Whether a page is of the key and kept
 

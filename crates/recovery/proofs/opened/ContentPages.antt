@@ -1,24 +1,16 @@
 -- The page that has a key's content, found among all pages, is the one that stands under the name with which an opened
 -- layer has the key.
-use Rattle.std.proofs.Common.{◌≡◌, ◌≢◌, ◌∙◌, ℕ, suc, Bool, true, false, List, Option, Some, None, refl, ap, arith}
-use Rattle.std.proofs.Common.{inl, inr, subst, sym, ⊎_elim}
-use Rattle.ufs_spec.specs.Disk.{BlockState, Bad, Closed, Filling, Free, Spot, spot_of}
-use Rattle.ufs_spec.specs.Translation.{is_free}
-use Rattle.ufs_spec.proofs.Facts.{cases_Bool}
-use Rattle.ufs_spec.specs.Cells.{Cells, GroupPage, Mark, key_of}
-use Rattle.ufs_spec.specs.Kept.{Counts, IsFenced, IsNewest, fence_in}
-use Rattle.ufs_spec.specs.Openings.{HasName, IsFirst, IsNotHigher, StandsAt}
-use Rattle.ufs_spec.specs.Sound.{CellsSound}
-use Rattle.ufs_spec.specs.Translation.{name_of}
-use Rattle.ufs_spec.specs.declared.flash.Key.{Key}
-use Rattle.ufs_spec.specs.declared.flash.Place.{Place}
-use Rattle.ufs_spec.specs.declared.flash.Tag.{Tag}
+use Rattle.recovery.proofs.Common.{Bool, Cells, CellsSound, Counts, FoundPage, GroupPage, IsFenced, IsNewest}
+use Rattle.recovery.proofs.Common.{IsNotHigher, Key, List, Mark, None, Option, Place, Some, Spot, Tag, ap, arith}
+use Rattle.recovery.proofs.Common.{block_by, blocks_by, cases_Bool, false, fence_in, inl, inr, key_of, refl, spot_of}
+use Rattle.recovery.proofs.Common.{subst, suc, sym, true, ℕ, ⊎_elim, ◌∙◌, ◌≡◌, ◌≢◌}
+use Rattle.ufs_spec.specs.Disk.{Bad, BlockState, Closed, Filling, Free}
+use Rattle.ufs_spec.specs.Translation.{is_free, name_of}
+use Rattle.ufs_spec.specs.Openings.{HasName, IsFirst, StandsAt}
 use Rattle.ufs_spec.specs.declared.layer.Name.{Name}
 use Rattle.ufs_spec.proofs.Equalities.{place_is}
-use Rattle.power_loss.specs.FreeBlocks.{block_by, blocks_by}
 use Rattle.recovery.proofs.opened.OutsidePages.{IsPageOutside}
 use Rattle.recovery.specs.Opened.{IsPageOf}
-use Rattle.recovery.specs.declared.pages.FoundPage.{FoundPage}
 
 -- two places of which none is higher are the same
 pub same_place : (p q : Place) → IsNotHigher p q → IsNotHigher q p → p ≡ q

@@ -1,30 +1,20 @@
 -- What a scan finds is what the definitions open over the same pages.
-use Rattle.std.proofs.Common.{◌≡◌, ◌∙◌, ℕ, ◌≤◌, Bool, List, Option, Some, None, ap, arith, subst}
-use Rattle.std.proofs.Common.{refl, sym}
-use Rattle.std.specs.Prelude.{slice_get}
-use Rattle.ufs_spec.specs.Pages.{greatest_number}
-use Rattle.ufs_spec.specs.Cells.{Cells, Mark}
-use Rattle.ufs_spec.specs.Disk.{Ready, Spot, Stale, Untouched, Vacancy}
-use Rattle.ufs_spec.specs.Kept.{IsKept, IsNewestMark, fence_in, recorded_in}
-use Rattle.ufs_spec.specs.Openings.{AreLost, IsAtMost, IsFirstFence, IsMendingAt, IsOpenedTranslation, IsGreatestSeen}
+use Rattle.recovery.proofs.Common.{AreLost, Bool, Cells, CellsSound, Fence, Found, FoundPage, IsContentPage, IsFound}
+use Rattle.recovery.proofs.Common.{IsIndex, IsKept, IsNewestMark, Key, List, Mark, None, Numbers, Option, Some, Spot}
+use Rattle.recovery.proofs.Common.{ap, arith, blocks_by, fence_in, greatest_number, index_known, newest_found, outside}
+use Rattle.recovery.proofs.Common.{refl, shape_of_numbers, slice_get, subst, sym, ℕ, ◌∙◌, ◌≡◌, ◌≤◌}
+use Rattle.ufs_spec.specs.Disk.{Ready, Stale, Untouched, Vacancy}
+use Rattle.ufs_spec.specs.Kept.{recorded_in}
+use Rattle.ufs_spec.specs.Openings.{IsAtMost, IsFirstFence, IsGreatestSeen, IsMendingAt, IsOpenedTranslation}
 use Rattle.ufs_spec.specs.Openings.{IsVacancyAt, StandsAt, lost_from, number_of}
-use Rattle.ufs_spec.specs.Plain.{shape_of_numbers}
-use Rattle.ufs_spec.specs.Sound.{CellsSound}
 use Rattle.ufs_spec.specs.Translation.{Translation, Unmarked}
-use Rattle.ufs_spec.specs.declared.configs.Numbers.{Numbers}
-use Rattle.ufs_spec.specs.declared.flash.Fence.{Fence}
-use Rattle.ufs_spec.specs.declared.flash.Key.{Key}
 use Rattle.ufs_laws.proofs.array_cells.StandsForOne.{kept_one, mark_one}
-use Rattle.recovery.specs.Found.{IsFound, IsVacancyFound, newest_found}
-use Rattle.geometry.specs.Keys.{IsIndex}
-use Rattle.recovery.specs.Listed.{AreInRange, IsContentPage, outside}
+use Rattle.recovery.specs.Found.{IsVacancyFound}
+use Rattle.recovery.specs.Listed.{AreInRange}
 use Rattle.recovery.specs.Opened.{IsFenceFound, IsPageOf, IsVacancyOf, OpensFound}
 use Rattle.recovery.specs.declared.keys.FoundBlock.{FoundBlock}
 use Rattle.recovery.specs.declared.keys.FoundBlock.TheVariants as block
-use Rattle.recovery.specs.declared.found.Found.{Found}
-use Rattle.recovery.specs.declared.pages.FoundPage.{FoundPage}
-use Rattle.geometry.proofs.Indexes.{index_known}
-use Rattle.power_loss.specs.FreeBlocks.{AreFoundFree, blocks_by}
+use Rattle.power_loss.specs.FreeBlocks.{AreFoundFree}
 use Rattle.power_loss.proofs.openings.FreeAlone.{blocks_one}
 use Rattle.power_loss.proofs.openings.FreeTogether.{first_blocks}
 use Rattle.recovery.proofs.opened.ContentPages.{is_page_of}

@@ -1,12 +1,9 @@
 -- Two lists of the keys with a lost page, each once and in order, are the same.
-use Rattle.std.proofs.Common.{◌≡◌, ◌≢◌, ◌⊎◌, ℕ, zero, suc, ◌<◌, List, [], ◌∷◌, Some, get_or, refl}
-use Rattle.std.proofs.Common.{arith, inl, inr, subst, sym, ⊎_elim}
-use Rattle.std.proofs.lemmas.Option.{slice_get-get_or}
-use Rattle.std.specs.Prelude.{AllPairs, slice_get}
-use Rattle.ufs_spec.specs.Cells.{Cells}
-use Rattle.ufs_spec.specs.Openings.{AreLost, IsBefore}
-use Rattle.ufs_spec.specs.declared.flash.Key.{Key}
-use Rattle.ufs_spec.proofs.Facts.{none-some, same_Some}
+use Rattle.recovery.proofs.Common.{AreLost, Cells, Key, List, Some, [], arith, get_or, inl, inr, none-some, refl}
+use Rattle.recovery.proofs.Common.{same_Some, slice_get, slice_get-get_or, subst, suc, sym, zero, ℕ, ⊎_elim, ◌<◌, ◌∷◌}
+use Rattle.recovery.proofs.Common.{◌≡◌, ◌≢◌, ◌⊎◌}
+use Rattle.std.specs.Prelude.{AllPairs}
+use Rattle.ufs_spec.specs.Openings.{IsBefore}
 
 -- each of them stands before all that are later
 abbrev pub Rise : List Key → Type 0

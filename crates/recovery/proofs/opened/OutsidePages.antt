@@ -1,22 +1,16 @@
 -- What is the newest outside of the free blocks is the newest of all.
-use Rattle.std.proofs.Common.{◌≡◌, ◌≢◌, ◌⊎◌, ◌∙◌, ℕ, suc, ◌<◌, ◌≤◌, Bool, false, List, Option, Some, None, ap}
-use Rattle.std.proofs.Common.{arith, inl, inr, subst, sym, if◌then◌else◌, ⊎_elim}
-use Rattle.ufs_spec.specs.Cells.{AreWithin, Cell, Cells, GroupPage, Mark, Nothing, key_of}
-use Rattle.ufs_spec.specs.Disk.{Free, Spot, spot_of}
-use Rattle.ufs_spec.specs.Kept.{Counts, HasNone, Holds, IsFenced, IsKept, IsNewest, IsNewestMark, fence_in, recorded_in}
-use Rattle.ufs_spec.specs.Openings.{IsNotHigher}
-use Rattle.ufs_spec.specs.Sound.{CellsSound}
-use Rattle.ufs_spec.specs.declared.flash.Key.{Key}
-use Rattle.ufs_spec.specs.declared.flash.Place.{Place}
-use Rattle.ufs_spec.specs.declared.flash.Tag.{Tag}
-use Rattle.ufs_spec.specs.declared.configs.Numbers.{Numbers}
-use Rattle.ufs_spec.proofs.Facts.{at_most, cases_Bool}
+use Rattle.recovery.proofs.Common.{AreWithin, Bool, Cell, Cells, CellsSound, Counts, FoundPage, GroupPage, HasNone}
+use Rattle.recovery.proofs.Common.{Holds, IsContentPage, IsFenced, IsKept, IsNewest, IsNewestMark, IsNotHigher, Key}
+use Rattle.recovery.proofs.Common.{List, Mark, None, Nothing, Numbers, Option, Place, Some, Spot, Tag, ap, arith}
+use Rattle.recovery.proofs.Common.{block_by, blocks_by, cases_Bool, false, fence_in, if◌then◌else◌, inl, inr, key_of}
+use Rattle.recovery.proofs.Common.{outside, spot_of, subst, suc, sym, ℕ, ⊎_elim, ◌<◌, ◌∙◌, ◌≡◌, ◌≢◌, ◌≤◌, ◌⊎◌}
+use Rattle.ufs_spec.specs.Disk.{Free}
+use Rattle.ufs_spec.specs.Kept.{recorded_in}
+use Rattle.ufs_spec.proofs.Facts.{at_most}
 use Rattle.ufs_laws.proofs.array_cells.NewestFound.{holds}
-use Rattle.power_loss.specs.FreeBlocks.{AreFoundFree, block_by, blocks_by}
+use Rattle.power_loss.specs.FreeBlocks.{AreFoundFree}
 use Rattle.power_loss.proofs.openings.FreeTogether.{first_blocks}
 use Rattle.power_loss.proofs.openings.NewestOutside.{newest_outside}
-use Rattle.recovery.specs.Listed.{IsContentPage, outside}
-use Rattle.recovery.specs.declared.pages.FoundPage.{FoundPage}
 
 -- what the newest mark records is kept
 pub recorded_kept : (c : Cells) (m : Option Mark) (kept : ℕ) → IsNewestMark c m → IsKept c m kept →

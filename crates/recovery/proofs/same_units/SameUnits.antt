@@ -1,5 +1,6 @@
 -- Two units are equal where their comparison says so.
-use Rattle.std.proofs.Common.{◌≡◌, Bool, ◌&&◌, ap, nat_eq}
+use Rattle.recovery.proofs.Common.{Bool, ap, ◌&&◌, ◌≡◌}
+use Rattle.std.proofs.Common.{nat_eq}
 use Rattle.std.specs.Bool.{Decides}
 use Rattle.std.proofs.lemmas.Bool.Decides.{Decides-and, Decides-eqb, Decides-like}
 use Rattle.ufs_spec.specs.declared.configs.UnitSpec.{UnitSpec}

@@ -1,15 +1,9 @@
 -- What was found over the table of all pages is what a scan finds that read the table before.
-use Rattle.std.proofs.Common.{◌≡◌, ℕ, List, length, sym, subst}
-use Rattle.ufs_spec.specs.Cells.{AreWithin, Cells}
-use Rattle.ufs_spec.specs.Dies.{DieState}
-use Rattle.ufs_spec.specs.Lives.{Fit}
-use Rattle.ufs_spec.specs.declared.configs.Numbers.{Numbers}
-use Rattle.ufs_spec.specs.declared.faults.OpenFault.{OpenFault}
+use Rattle.recovery.proofs.Common.{AreWithin, Cells, DieState, Fit, Found, IsTableOf, List, NoLower, Numbers, OpenFault}
+use Rattle.recovery.proofs.Common.{ShowsDies, Table, length, subst, sym, ℕ, ◌≡◌}
 use Rattle.ufs_spec.specs.declared.faults.OpenFault.TheVariants as fault
-use Rattle.recovery.specs.Reading.{IsReadingFault, IsTableOf, NoLower, ShowsDies}
+use Rattle.recovery.specs.Reading.{IsReadingFault}
 use Rattle.recovery.specs.Scanned.{IsFaultOn, IsFoundOn, IsTableOver}
-use Rattle.recovery.specs.declared.found.Found.{Found}
-use Rattle.recovery.specs.declared.reading.Table.{Table}
 use Rattle.recovery.proofs.tables.Counts.{fault_later}
 use Rattle.recovery.proofs.tables.Shown.{all_shown}
 use Rattle.recovery.proofs.tables.Whole.{all_read, shown_within}

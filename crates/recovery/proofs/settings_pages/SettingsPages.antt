@@ -1,31 +1,20 @@
 -- The page that has the settings' content lies on the dies, and over sound pages its body is their content.
-use Rattle.std.proofs.Common.{◌≡◌, ◌∙◌, ◌<◌, ◌+◌, ℕ, suc, Bool, List, Option, Some, None, ap, arith, inl}
-use Rattle.std.proofs.Common.{length, refl}
-use Rattle.std.proofs.Common.{subst, sym, ⊎_elim}
-use Rattle.std.specs.Prelude.{slice_get, slice_index_or, sum}
-use Rattle.ufs_spec.specs.Cells.{Array, Cells, GroupPage, IsCell, Shows}
-use Rattle.ufs_spec.specs.Dies.{DieState, LiesOnDie, new_die}
-use Rattle.ufs_spec.specs.Disk.{Spot}
+use Rattle.recovery.proofs.Common.{Array, Bool, Cells, CellsSound, DieState, Fit, Found, FoundPage, GroupPage, HasNone}
+use Rattle.recovery.proofs.Common.{Holds, IsCell, IsContentPage, IsFound, IsNewest, LiesOnDie, List, None, Numbers}
+use Rattle.recovery.proofs.Common.{Option, Place, Shows, Some, Spot, Tag, ap, arith, array_of, inl, length, new_die}
+use Rattle.recovery.proofs.Common.{newest_found, outside, page_not_nothing, refl, shape_of_numbers, slice_get}
+use Rattle.recovery.proofs.Common.{slice_index_or, subst, suc, sym, ℕ, ⊎_elim, ◌+◌, ◌<◌, ◌∙◌, ◌≡◌}
+use Rattle.std.specs.Prelude.{sum}
 use Rattle.ufs_spec.specs.Keys.{area_pages, settings_key}
-use Rattle.ufs_spec.specs.Kept.{HasNone, Holds, IsNewest}
-use Rattle.ufs_spec.specs.Lives.{Fit, array_of}
-use Rattle.ufs_spec.specs.Plain.{shape_of_numbers, zero_block}
-use Rattle.ufs_spec.specs.Sound.{CellsSound}
-use Rattle.ufs_spec.specs.declared.configs.Numbers.{Numbers}
-use Rattle.ufs_spec.specs.declared.flash.Place.{Place}
-use Rattle.ufs_spec.specs.declared.flash.Tag.{Tag}
-use Rattle.ufs_spec.proofs.CellKinds.{page_not_nothing}
+use Rattle.ufs_spec.specs.Plain.{zero_block}
 use Rattle.ufs_laws.proofs.array_cells.StandsForOne.{content_one}
 use Rattle.ufs_laws.proofs.deciding.SearchOverPlaces.{is_place}
 use Rattle.settings.specs.Told.{settings_in}
 use Rattle.settings.specs.declared.page.Settings.{Settings}
-use Rattle.recovery.specs.Found.{HasSettings, IsFound, newest_found}
+use Rattle.recovery.specs.Found.{HasSettings}
 use Rattle.geometry.specs.Keys.{AtSettings}
-use Rattle.recovery.specs.Listed.{IsContentPage, outside}
 use Rattle.recovery.proofs.opened.OutsidePages.{IsPageOutside, outside_there, page_outside, recorded_kept}
 use Rattle.recovery.specs.Stood.{AreReadSettings, HasContent}
-use Rattle.recovery.specs.declared.found.Found.{Found}
-use Rattle.recovery.specs.declared.pages.FoundPage.{FoundPage}
 use Rattle.recovery.proofs.table_facts.TableFacts.{shown_cells}
 use Rattle.recovery.proofs.tables.Counts.{lies}
 use Rattle.recovery.proofs.tables.Whole.{shown_within}

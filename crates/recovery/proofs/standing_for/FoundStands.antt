@@ -1,27 +1,19 @@
 -- Over sound dies what was found tells the plain state that the dies stand for.
-use Rattle.std.proofs.Common.{◌≡◌, ℕ, suc, Bool, List, Option, Some, None, refl, subst, inl, inr}
-use Rattle.std.specs.Prelude.{slice_get}
-use Rattle.ufs_spec.specs.Cells.{Array, Cells, GroupPage, IsCell, IsPlace, Mark, Opens, Shows}
+use Rattle.recovery.proofs.Common.{Array, Bool, Cells, CellsSound, Found, FoundPage, GroupPage, Holds, IsCell, IsFound}
+use Rattle.recovery.proofs.Common.{IsIndex, IsKept, Key, List, Mark, None, Numbers, Option, Place, Shows, Some, Spot}
+use Rattle.recovery.proofs.Common.{index_known, inl, inr, newest_found, one_cell, refl, shape_of_numbers, slice_get}
+use Rattle.recovery.proofs.Common.{subst, suc, ℕ, ◌≡◌}
+use Rattle.ufs_spec.specs.Cells.{IsPlace, Opens}
 use Rattle.ufs_spec.specs.Dies.{blank_page}
-use Rattle.ufs_spec.specs.Disk.{Spot}
 use Rattle.ufs_spec.specs.Keys.{content}
-use Rattle.ufs_spec.specs.Kept.{CellsStandFor, Holds, IsKept, StandsFor}
-use Rattle.ufs_spec.specs.Plain.{Plain, shape_of_numbers, zero_block}
-use Rattle.ufs_spec.specs.Sound.{CellsSound, Sound}
-use Rattle.ufs_spec.specs.declared.configs.Numbers.{Numbers}
-use Rattle.ufs_spec.specs.declared.flash.Key.{Key}
-use Rattle.ufs_spec.specs.declared.flash.Place.{Place}
+use Rattle.ufs_spec.specs.Kept.{CellsStandFor, StandsFor}
+use Rattle.ufs_spec.specs.Plain.{Plain, zero_block}
+use Rattle.ufs_spec.specs.Sound.{Sound}
 use Rattle.ufs_laws.proofs.array_cells.StandsForOne.{cells_one, content_one, kept_one, mark_one}
 use Rattle.ufs_laws.proofs.array_cells.StandsForSomething.{ContentsArePlain, ContentsAreThere, stands_for_something}
-use Rattle.ufs_laws.proofs.pages.PageIsOneCell.{one_cell}
 use Rattle.ufs_laws.proofs.plain_contents.PlainFromContents.{contents_there, state_is_plain}
-use Rattle.recovery.specs.Found.{IsFound, newest_found}
-use Rattle.geometry.specs.Keys.{IsIndex}
 use Rattle.recovery.proofs.opened.OutsidePages.{IsPageOutside, page_outside, recorded_kept}
 use Rattle.recovery.specs.Stood.{HasContent, IsStoodFor}
-use Rattle.recovery.specs.declared.found.Found.{Found}
-use Rattle.recovery.specs.declared.pages.FoundPage.{FoundPage}
-use Rattle.geometry.proofs.Indexes.{index_known}
 
 are_plain : ContentsArePlain
 are_plain = state_is_plain

@@ -1,19 +1,10 @@
 -- What holds of each table that was read off pages: its numbers have their ranges, and it has each block.
-use Rattle.std.proofs.Common.{◌≡◌, ◌∙◌, ◌≤◌, ℕ, Bool, List, length, map, Some, slice_get, ap, subst, sym}
-use Rattle.std.proofs.Common.{⊎_elim, arith}
-use Rattle.std.proofs.lemmas.List.{length-map}
-use Rattle.ufs_spec.specs.Pages.{greatest_number}
-use Rattle.ufs_spec.specs.Cells.{Array, Cells, GroupPage, IsCell, Mark, MarkPage, Shows}
-use Rattle.ufs_spec.specs.Dies.{DieState}
-use Rattle.ufs_spec.specs.Lives.{Fit, bad_of}
-use Rattle.ufs_spec.specs.Translation.{spots}
-use Rattle.ufs_spec.specs.declared.configs.Numbers.{Numbers}
-use Rattle.ufs_spec.specs.declared.flash.Place.{Place}
+use Rattle.recovery.proofs.Common.{Array, Bool, Cells, DieState, Fit, FoundPage, GroupPage, IsCell, IsTable, List, Mark}
+use Rattle.recovery.proofs.Common.{MarkPage, Numbers, Place, Shows, Some, Table, ap, arith, bad_of, greatest_number}
+use Rattle.recovery.proofs.Common.{length, length-map, map, spots, subst, sym, ℕ, ⊎_elim, ◌∙◌, ◌≡◌, ◌≤◌}
+use Rattle.std.proofs.Common.{slice_get}
 use Rattle.ufs_laws.proofs.pages.PageIsSomeCell.{some_cell}
 use Rattle.recovery.specs.Listed.{AreInRange}
-use Rattle.recovery.specs.Reading.{IsTable}
-use Rattle.recovery.specs.declared.pages.FoundPage.{FoundPage}
-use Rattle.recovery.specs.declared.reading.Table.{Table}
 
 -- what the pages are, whatever they are
 pub shown_cells : (array : Array) → (c : Cells) × Shows array c

@@ -1,18 +1,11 @@
 -- One die of a list does a job: what it holds, and the counts of failures.
-use Rattle.std.proofs.Common.{◌≡◌, ◌∙◌, ℕ, zero, suc, ◌+◌, ◌<◌, ◌≤◌, List, [], ◌∷◌, map, refl, ap, arith, get_or}
-use Rattle.std.proofs.Common.{subst, sym}
-use Rattle.std.proofs.Common.{length}
-use Rattle.std.specs.Prelude.{slice_set}
+use Rattle.recovery.proofs.Common.{DieState, Fit, IsOfSize, LiesOnDie, List, NoLower, Numbers, OpenFault, Place, [], ap}
+use Rattle.recovery.proofs.Common.{arith, get_or, length, map, new_die, place_at, refl, slice_index_or, slice_set}
+use Rattle.recovery.proofs.Common.{subst, suc, sym, zero, ℕ, ◌+◌, ◌<◌, ◌∙◌, ◌∷◌, ◌≡◌, ◌≤◌}
 use Rattle.std.proofs.lemmas.List.Elements.{All-get_or}
-use Rattle.std.specs.Prelude.{slice_index_or}
 use Rattle.ufs_spec.specs.DieLaws.{pages_in}
-use Rattle.ufs_spec.specs.Dies.{DieState, IsOfSize, LiesOnDie, new_die}
-use Rattle.ufs_spec.specs.Lives.{Fit}
-use Rattle.ufs_spec.specs.declared.configs.Numbers.{Numbers}
-use Rattle.ufs_spec.specs.declared.faults.OpenFault.{OpenFault}
 use Rattle.ufs_spec.specs.declared.faults.OpenFault.TheVariants as fault
-use Rattle.ufs_spec.specs.declared.flash.Place.{Place}
-use Rattle.recovery.specs.Reading.{IsBlockFault, IsDieFault, IsFaultOf, IsPageFault, IsReadingFault, NoLower, place_at}
+use Rattle.recovery.specs.Reading.{IsBlockFault, IsDieFault, IsFaultOf, IsPageFault, IsReadingFault}
 
 -- what is told of the one stays, and so does what is told of each
 pub map_stays : {A B : Type 0} (f : A → B) (xs : List A) (i : ℕ) (d y : A) → f y ≡ f (get_or xs i d)

@@ -1,21 +1,13 @@
 -- The tables of some dies and of the dies behind them make the table of both.
-use Rattle.std.proofs.Common.{◌≡◌, ◌≢◌, ◌⊎◌, ◌∙◌, ℕ, zero, suc, ◌+◌, ◌<◌, ◌≤◌, true, false, List, [], ◌∷◌, ◌++◌, length}
-use Rattle.std.proofs.Common.{Option, Some, None, if◌then◌else◌, inl, inr, ⊎_elim, refl, sym, ap, subst, arith, nat_lt}
-use Rattle.std.specs.Prelude.{slice_get}
-use Rattle.ufs_spec.specs.Cells.{Cell, Cells, GroupPage, Mark, MarkPage, Nothing}
-use Rattle.ufs_spec.specs.Kept.{IsNewestMark}
-use Rattle.ufs_spec.specs.Openings.{IsNotHigher}
-use Rattle.ufs_spec.specs.declared.configs.Numbers.{Numbers}
-use Rattle.ufs_spec.specs.declared.flash.Place.{Place}
-use Rattle.ufs_spec.specs.declared.flash.Tag.{Tag}
-use Rattle.ufs_spec.proofs.CellKinds.{mark_not_nothing, page_not_nothing}
-use Rattle.ufs_spec.proofs.Facts.{cases_Bool, cases_lt, cond-false, cond-true, le-ltb, lt-ltb, ltb-false, ltb-true}
-use Rattle.ufs_spec.proofs.Lists.{get_front}
-use Rattle.recovery.specs.Listed.{AreListed, AreMarksListed, IsMarksRecord}
-use Rattle.recovery.specs.Reading.{AreOfDies, IsJoined, IsTableOf, greater_of, newer, newer_of, newest_in}
-use Rattle.recovery.specs.declared.pages.FoundMark.{FoundMark}
-use Rattle.recovery.specs.declared.pages.FoundPage.{FoundPage}
-use Rattle.recovery.specs.declared.reading.Table.{Table}
+use Rattle.recovery.proofs.Common.{AreListed, AreMarksListed, Cell, Cells, FoundMark, FoundPage, GroupPage, IsJoined}
+use Rattle.recovery.proofs.Common.{IsMarksRecord, IsNewestMark, IsNotHigher, IsTableOf, List, Mark, MarkPage, None}
+use Rattle.recovery.proofs.Common.{Nothing, Numbers, Option, Place, Some, Table, Tag, [], ap, arith, cases_Bool}
+use Rattle.recovery.proofs.Common.{cases_lt, cond-false, cond-true, false, get_front, if◌then◌else◌, inl, inr, length}
+use Rattle.recovery.proofs.Common.{lt-ltb, ltb-false, ltb-true, mark_not_nothing, nat_lt, newest_in, page_not_nothing}
+use Rattle.recovery.proofs.Common.{refl, slice_get, subst, suc, sym, true, zero, ℕ, ⊎_elim, ◌++◌, ◌+◌, ◌<◌, ◌∙◌, ◌∷◌}
+use Rattle.recovery.proofs.Common.{◌≡◌, ◌≢◌, ◌≤◌, ◌⊎◌}
+use Rattle.ufs_spec.proofs.Facts.{le-ltb}
+use Rattle.recovery.specs.Reading.{AreOfDies, greater_of, newer, newer_of}
 
 -- ## Two lists, one behind the other
 

@@ -1,14 +1,11 @@
 -- The pages before a page, in the order by die, then by block, then by page.
-use Rattle.std.proofs.Common.{◌≡◌, ◌≢◌, ◌⊎◌, ℕ, ◌+◌, ◌<◌, ◌≤◌, inl, inr, ⊎_elim, refl, sym, ap, subst, ◌∙◌, arith}
-use Rattle.ufs_spec.specs.Cells.{AreWithin, Cells, IsPlace, Nothing}
-use Rattle.ufs_spec.specs.Disk.{at_place}
-use Rattle.ufs_spec.specs.Openings.{IsNotHigher}
-use Rattle.ufs_spec.specs.declared.configs.Numbers.{Numbers}
-use Rattle.ufs_spec.specs.declared.flash.Place.{Place}
+use Rattle.recovery.proofs.Common.{AreWithin, Cells, IsNotHigher, Nothing, Numbers, Place, ap, arith, at_place}
+use Rattle.recovery.proofs.Common.{cases_lt, inl, inr, place_at, refl, subst, sym, ℕ, ⊎_elim, ◌+◌, ◌<◌, ◌∙◌, ◌≡◌, ◌≢◌}
+use Rattle.recovery.proofs.Common.{◌≤◌, ◌⊎◌}
+use Rattle.ufs_spec.specs.Cells.{IsPlace}
 use Rattle.ufs_spec.proofs.Equalities.{place_is}
-use Rattle.ufs_spec.proofs.Facts.{cases_lt}
 use Rattle.ufs_spec.proofs.Updates.{at_place_cases}
-use Rattle.recovery.specs.Reading.{AreRead, StandsBefore, place_at}
+use Rattle.recovery.specs.Reading.{AreRead, StandsBefore}
 
 -- a page before this one stands no higher than it
 pub before_is_lower : (d b g : ℕ) (p : Place) → StandsBefore d b g p → IsNotHigher p (place_at d b g)

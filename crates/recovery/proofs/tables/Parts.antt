@@ -1,18 +1,15 @@
 -- Some dies and the dies behind them, each read by a worker, are read.
-use Rattle.std.proofs.Common.{◌≡◌, ◌⊎◌, ◌∙◌, ℕ, zero, suc, ◌+◌, ◌<◌, List, [], ◌∷◌, ◌++◌, ap, arith, get_or, length}
-use Rattle.std.proofs.Common.{map, subst, sym, ⊎_elim, length-append, Result, Ok, Err}
-use Rattle.std.proofs.lemmas.List.{get_or-append-add, get_or_append_left, length-map, map-append}
-use Rattle.std.proofs.lemmas.Result.{IfErr-weaker, IfOk-weaker}
+use Rattle.recovery.proofs.Common.{AreWithin, Cells, DieState, IfErr-weaker, IfOk, IfOk-weaker, IsJoined, IsOfSize}
+use Rattle.recovery.proofs.Common.{IsTableOf, List, NoLower, Numbers, OpenFault, ShowsDies, Table, [], ap, arith}
+use Rattle.recovery.proofs.Common.{get_or, length, length-append, length-map, map, subst, suc, sym, zero, ℕ, ⊎_elim}
+use Rattle.recovery.proofs.Common.{◌++◌, ◌+◌, ◌<◌, ◌∙◌, ◌∷◌, ◌≡◌, ◌⊎◌}
+use Rattle.std.proofs.Common.{Err, Ok, Result}
+use Rattle.std.proofs.lemmas.List.{get_or-append-add, get_or_append_left, map-append}
 use Rattle.std.specs.List.{All}
-use Rattle.std.specs.Prelude.{IfErr, IfOk}
-use Rattle.ufs_spec.specs.Cells.{AreWithin, Cells}
-use Rattle.ufs_spec.specs.Dies.{DieState, IsOfSize}
-use Rattle.ufs_spec.specs.declared.configs.Numbers.{Numbers}
-use Rattle.ufs_spec.specs.declared.faults.OpenFault.{OpenFault}
+use Rattle.std.specs.Prelude.{IfErr}
 use Rattle.ufs_spec.specs.declared.faults.OpenFault.TheVariants as fault
-use Rattle.recovery.specs.Reading.{IsFaultOf, IsJoined, IsTableOf, NoLower, ShowsDies}
+use Rattle.recovery.specs.Reading.{IsFaultOf}
 use Rattle.recovery.specs.Scanned.{CanRead, HasRead}
-use Rattle.recovery.specs.declared.reading.Table.{Table}
 use Rattle.recovery.proofs.tables.Joined.{dies_joined}
 use Rattle.recovery.proofs.tables.Shown.{back_shown, front_shown}
 

@@ -1,15 +1,10 @@
 -- What the pages of some dies are, die by die.
-use Rattle.std.proofs.Common.{◌≡◌, ◌∙◌, ℕ, ◌+◌, ◌<◌, List, Some, ap, get_or, length, map, sym, subst, arith, ◌++◌}
-use Rattle.std.proofs.lemmas.List.{length-map}
+use Rattle.recovery.proofs.Common.{Cells, DieState, IsCell, IsOfSize, List, Shows, ShowsDies, Some, ap, arith, array_of}
+use Rattle.recovery.proofs.Common.{get_front, get_or, get_or_from_slice_get, length, length-map, map, new_die}
+use Rattle.recovery.proofs.Common.{option_map, page_at, slice_get, slice_get-get_or, slice_get-map, slice_index_or}
+use Rattle.recovery.proofs.Common.{subst, sym, ℕ, ◌++◌, ◌+◌, ◌<◌, ◌∙◌, ◌≡◌}
 use Rattle.std.proofs.lemmas.List.Elements.{All-get_or}
-use Rattle.std.proofs.lemmas.Option.{get_or_from_slice_get, slice_get-get_or, slice_get-map}
 use Rattle.std.specs.List.{All}
-use Rattle.std.specs.Prelude.{option_map, slice_get, slice_index_or}
-use Rattle.ufs_spec.specs.Cells.{Cells, IsCell, Shows}
-use Rattle.ufs_spec.specs.Dies.{DieState, IsOfSize, new_die, page_at}
-use Rattle.ufs_spec.specs.Lives.{array_of}
-use Rattle.recovery.specs.Reading.{ShowsDies}
-use Rattle.ufs_spec.proofs.Lists.{get_front}
 use Rattle.recovery.proofs.tables.Joined.{in_back}
 
 -- the state of a die of the list

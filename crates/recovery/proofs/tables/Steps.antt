@@ -1,26 +1,16 @@
 -- One page more in what is read off the cells.
-use Rattle.std.proofs.Common.{◌≡◌, ◌≢◌, ◌⊎◌, ◌∙◌, ℕ, ◌<◌, ◌≤◌, true, false, List, [], ◌∷◌, ◌++◌, length}
-use Rattle.std.proofs.Common.{Option, Some, None, inl, inr, ⊎_elim, refl, sym, ap, subst, arith, nat_lt}
-use Rattle.std.specs.Prelude.{slice_get}
+use Rattle.recovery.proofs.Common.{AreListed, AreMarksListed, Cell, Cells, FoundMark, FoundPage, GroupPage, IsCell}
+use Rattle.recovery.proofs.Common.{IsMarksRecord, IsNewestMark, IsNotHigher, List, Mark, MarkPage, None, Nothing}
+use Rattle.recovery.proofs.Common.{Option, Page, Place, Some, Tag, [], ap, arith, at_place, cases_Bool, cond-false}
+use Rattle.recovery.proofs.Common.{cond-true, false, get_grows, get_last, inl, inr, length, ltb-false, ltb-true}
+use Rattle.recovery.proofs.Common.{mark_not_nothing, nat_lt, page_not_nothing, refl, slice_get, slice_get_within, subst}
+use Rattle.recovery.proofs.Common.{sym, true, ℕ, ⊎_elim, ◌++◌, ◌<◌, ◌∙◌, ◌∷◌, ◌≡◌, ◌≢◌, ◌≤◌, ◌⊎◌}
 use Rattle.std.proofs.lemmas.List.{append-nil}
-use Rattle.std.proofs.lemmas.Option.{slice_get_within}
-use Rattle.ufs_spec.specs.Cells.{Cell, Cells, GroupPage, IsCell, Mark, MarkPage, Nothing}
-use Rattle.ufs_spec.specs.Disk.{at_place}
-use Rattle.ufs_spec.specs.Kept.{IsNewestMark}
-use Rattle.ufs_spec.specs.Openings.{IsNotHigher}
 use Rattle.ufs_spec.specs.Pages.{IsTag}
-use Rattle.ufs_spec.specs.declared.flash.Page.{Page}
-use Rattle.ufs_spec.specs.declared.flash.Place.{Place}
-use Rattle.ufs_spec.specs.declared.flash.Tag.{Tag}
-use Rattle.ufs_spec.proofs.CellKinds.{mark_not_nothing, one_mark, one_page, page_not_mark, page_not_nothing}
-use Rattle.ufs_spec.proofs.Facts.{cases_Bool, cond-false, cond-true, ltb-false, ltb-true}
-use Rattle.ufs_spec.proofs.Lists.{get_grows, get_last, get_splits}
+use Rattle.ufs_spec.proofs.CellKinds.{one_mark, one_page, page_not_mark}
+use Rattle.ufs_spec.proofs.Lists.{get_splits}
 use Rattle.ufs_spec.proofs.Updates.{at_place_cases, at_place_is}
-use Rattle.recovery.specs.Listed.{AreListed, AreMarksListed, IsMarksRecord}
-use Rattle.recovery.specs.Reading.{listed, newer, newest_after, recorded_after}
-use Rattle.recovery.specs.Reading.{marked as marked_by}
-use Rattle.recovery.specs.declared.pages.FoundMark.{FoundMark}
-use Rattle.recovery.specs.declared.pages.FoundPage.{FoundPage}
+use Rattle.recovery.specs.Reading.{listed, marked as marked_by, newer, newest_after, recorded_after}
 
 -- The cells s, and x at the place p, where nothing stood
 module _ (s : Cells) (p : Place) (x : Cell) (empty : s p ≡ Nothing) where

@@ -1,26 +1,15 @@
 -- A table grows page by page, block by block and die by die to that of all pages.
-use Rattle.std.proofs.Common.{◌≡◌, ◌≢◌, ◌∙◌, ℕ, ◌+◌, ◌<◌, ◌≤◌, ◌==◌, true, false, List, [], Some, None}
-use Rattle.std.proofs.Common.{if◌then◌else◌, ⊎_elim, arith, refl, sym, subst, inl}
-use Rattle.std.specs.Prelude.{slice_get}
-use Rattle.ufs_spec.specs.Cells.{AreWithin, Cell, Cells, IsCell, Nothing, Shows}
-use Rattle.ufs_spec.specs.Dies.{DieState, page_at}
-use Rattle.ufs_spec.specs.Disk.{at_place}
-use Rattle.ufs_spec.specs.Kept.{IsNewestMark}
-use Rattle.ufs_spec.specs.Lives.{Fit, array_of}
-use Rattle.ufs_spec.specs.Openings.{IsNotHigher}
-use Rattle.ufs_spec.specs.declared.configs.Numbers.{Numbers}
-use Rattle.ufs_spec.specs.declared.flash.Page.{Page}
-use Rattle.ufs_spec.specs.declared.flash.Place.{Place}
-use Rattle.ufs_spec.proofs.CellKinds.{mark_not_nothing, page_not_nothing}
-use Rattle.ufs_spec.proofs.Facts.{cases_Bool, cases_lt, cond-false, cond-true, eq-eqb, eqb-true, none-some}
+use Rattle.recovery.proofs.Common.{AreListed, AreMarksListed, AreWithin, Cell, Cells, DieState, Fit, FoundPage, IsCell}
+use Rattle.recovery.proofs.Common.{IsMarksRecord, IsNewestMark, IsNotHigher, IsTable, IsTableOf, IsTableTo, List, None}
+use Rattle.recovery.proofs.Common.{Nothing, Numbers, Page, Place, Shows, ShowsDie, Some, Table, [], arith, array_of}
+use Rattle.recovery.proofs.Common.{at_place, cases_Bool, cases_lt, cond-false, cond-true, false, if◌then◌else◌, inl}
+use Rattle.recovery.proofs.Common.{mark_not_nothing, newest_in, none-some, one_cell, page_at, page_not_nothing}
+use Rattle.recovery.proofs.Common.{place_at, refl, slice_get, subst, sym, true, ℕ, ⊎_elim, ◌+◌, ◌<◌, ◌∙◌, ◌≡◌, ◌≢◌, ◌≤◌}
+use Rattle.std.proofs.Common.{◌==◌}
+use Rattle.ufs_spec.proofs.Facts.{eq-eqb, eqb-true}
 use Rattle.ufs_laws.proofs.array_cells.StandsForSomething.{within_dies}
-use Rattle.ufs_laws.proofs.pages.PageIsOneCell.{one_cell}
 use Rattle.power_loss.proofs.die_pages.BlankOutsideDies.{fit_inside}
-use Rattle.recovery.specs.Listed.{AreListed, AreMarksListed, IsMarksRecord}
-use Rattle.recovery.specs.Reading.{AreRead, IsNoted, IsTable, IsTableOf, IsTableTo, ShowsDie, StandsBefore}
-use Rattle.recovery.specs.Reading.{newest_in, place_at}
-use Rattle.recovery.specs.declared.pages.FoundPage.{FoundPage}
-use Rattle.recovery.specs.declared.reading.Table.{Table}
+use Rattle.recovery.specs.Reading.{AreRead, IsNoted, StandsBefore}
 use Rattle.recovery.proofs.tables.Order.{before_is_lower, block_is_read, die_is_read, is_before}
 use Rattle.recovery.proofs.tables.Order.{not_before_itself, nothing_before, page_is_read}
 use Rattle.recovery.proofs.tables.Steps.{page_more}

@@ -1,19 +1,16 @@
 -- What is noted of a group's pages, page by page.
-use Rattle.std.proofs.Common.{◌≡◌, ◌≢◌, ◌⊎◌, ◌↔◌, ◌∙◌, ℕ, zero, suc, ◌+◌, ◌*◌, ◌^◌, ◌<◌, ◌≤◌, true, false, List, Some}
-use Rattle.std.proofs.Common.{Bool, length, refl, sym, ap, subst, ⊎_elim, inl, inr, arith}
-use Rattle.std.specs.Prelude.{replicate, slice_get, ◌==◌, ◌&&◌, not}
-use Rattle.std.proofs.lemmas.Bool.{and_cases, and_parts, cases_eq, cond-false, cond-true, eq-eqb, eqb-false, eqb-true}
+use Rattle.recovery.proofs.Common.{AreTags, Bool, Bucket, FoundPage, HasIndex, IsAmong, IsBucket, List, Some, Tag, ap}
+use Rattle.recovery.proofs.Common.{arith, cases_eq, false, group_bound, inl, inr, length, length-replicate, refl}
+use Rattle.recovery.proofs.Common.{slice_get, slice_get_within, subst, suc, sym, true, zero, ℕ, ⊎_elim, ◌*◌, ◌+◌, ◌<◌}
+use Rattle.recovery.proofs.Common.{◌∙◌, ◌≡◌, ◌≢◌, ◌≤◌, ◌⊎◌}
+use Rattle.std.proofs.Common.{◌^◌, ◌↔◌}
+use Rattle.std.specs.Prelude.{not, replicate, ◌&&◌, ◌==◌}
+use Rattle.std.proofs.lemmas.Bool.{and_cases, and_parts, cond-false, cond-true, eq-eqb, eqb-false, eqb-true}
 use Rattle.std.proofs.lemmas.Bool.{false≢true, ne_eqb, not-false, not-true, or_cases, or_parts}
-use Rattle.std.proofs.lemmas.List.{length-replicate}
-use Rattle.std.proofs.lemmas.Option.{none-some, same_Some, slice_get_within}
-use Rattle.ufs_spec.specs.Pages.{group_bound}
-use Rattle.ufs_spec.specs.declared.flash.Tag.{Tag}
+use Rattle.std.proofs.lemmas.Option.{none-some, same_Some}
 use Rattle.recovery.proofs.greatest_numbers.Among.{among_before, among_last, among_more, among_none}
-use Rattle.recovery.specs.Buckets.{AreTags, HasIndex, HasRoom, IsAmong, IsBucket, IsNotedAt, IsOfGroup, noted}
-use Rattle.recovery.specs.Buckets.{nothing_noted}
-use Rattle.recovery.specs.declared.kept.Bucket.{Bucket}
+use Rattle.recovery.specs.Buckets.{HasRoom, IsNotedAt, IsOfGroup, noted, nothing_noted}
 use Rattle.recovery.specs.declared.kept.Groups.{Groups}
-use Rattle.recovery.specs.declared.pages.FoundPage.{FoundPage}
 
 -- The size
 

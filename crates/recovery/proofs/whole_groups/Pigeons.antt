@@ -1,6 +1,5 @@
 -- More numbers than places: two of them stand at one place.
-use Rattle.std.proofs.Common.{◌≡◌, ◌≢◌, ◌⊎◌, ℕ, zero, suc, ◌<◌, refl, subst, ⊎_elim, inl, inr, arith}
-use Rattle.std.proofs.lemmas.Bool.{cases_eq}
+use Rattle.recovery.proofs.Common.{arith, cases_eq, inl, inr, refl, subst, suc, zero, ℕ, ⊎_elim, ◌<◌, ◌≡◌, ◌≢◌, ◌⊎◌}
 
 -- the places without the one where the last number stands: who stood at the last place stands there
 abbrev Moved : (ℕ → ℕ → Type 0) → ℕ → ℕ → ℕ → ℕ → Type 0

@@ -1,20 +1,14 @@
 -- The kept number, from the buckets.
-use Rattle.std.proofs.Common.{◌≡◌, ◌≢◌, ◌∙◌, ℕ, suc, ◌+◌, ◌-◌, ◌<◌, ◌≤◌, true, List, Option, Some}
-use Rattle.std.proofs.Common.{length, min, sym, subst, ⊎_elim, arith}
-use Rattle.std.specs.Prelude.{slice_get}
+use Rattle.recovery.proofs.Common.{AreListed, AreTags, Bucket, Cells, FoundPage, HasIndex, IsBucket, IsKept, List, Mark}
+use Rattle.recovery.proofs.Common.{Option, Some, arith, get_there, greatest_number, group_bound, length, slice_get}
+use Rattle.recovery.proofs.Common.{slice_get_within, subst, suc, sym, true, ℕ, ⊎_elim, ◌+◌, ◌<◌, ◌∙◌, ◌≡◌, ◌≢◌, ◌≤◌}
+use Rattle.std.proofs.Common.{min, ◌-◌}
 use Rattle.std.proofs.lemmas.Bool.{cases_lt, false_from_ne_true}
-use Rattle.std.proofs.lemmas.Option.{slice_get_within}
-use Rattle.ufs_spec.proofs.Lists.{get_there}
-use Rattle.ufs_spec.specs.Pages.{greatest_number, group_bound}
-use Rattle.ufs_spec.specs.Cells.{Cells, Mark}
-use Rattle.ufs_spec.specs.Kept.{HasPage, IsKept, IsRecorded, IsWhole}
+use Rattle.ufs_spec.specs.Kept.{HasPage, IsRecorded, IsWhole}
 use Rattle.recovery.proofs.greatest_numbers.Among.{among_all}
 use Rattle.recovery.proofs.whole_groups.Pigeons.{too_many}
-use Rattle.recovery.specs.Buckets.{AreBuckets, AreTags, HasIndex, IsBucket, IsOfGroup, IsWholeBucket}
-use Rattle.recovery.specs.Listed.{AreListed}
-use Rattle.recovery.specs.declared.kept.Bucket.{Bucket}
+use Rattle.recovery.specs.Buckets.{AreBuckets, IsOfGroup, IsWholeBucket}
 use Rattle.recovery.specs.declared.kept.Groups.{Groups}
-use Rattle.recovery.specs.declared.pages.FoundPage.{FoundPage}
 
 module _ (c : Cells) (pages : List FoundPage) (listed : AreListed c pages) where
   pub tags_of : AreTags pages

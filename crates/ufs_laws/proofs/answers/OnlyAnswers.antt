@@ -1,21 +1,14 @@
 -- When an answer is right and no other one is.
-use Rattle.std.proofs.Common.{◌≡◌, ℕ, zero, suc, Bool, true, [], ◌∷◌, Contains, slice_get, Option, Some, None, Result}
-use Rattle.std.proofs.Common.{refl, sym, ap, ◌∙◌, subst, inl, inr, arith}
+use Rattle.ufs_laws.proofs.Common.{Allowed, Answer, Array, Bool, Cdb, Contains, Done, Due, Ending, Flight, Gets, Host}
+use Rattle.ufs_laws.proofs.Common.{HostFault, MayTake, Message, None, OfDone, OfHost, OfReply, OfTake, OfTurn, Option}
+use Rattle.ufs_laws.proofs.Common.{Reading, Reply, Result, Some, Spelled, State, Take, Task, Turn, Want, [], ap, arith}
+use Rattle.ufs_laws.proofs.Common.{deed_reply, ending_fits, inl, inr, is_idle, is_step_due, message_fault, next_flight}
+use Rattle.ufs_laws.proofs.Common.{none-some, refl, result_of, same_Some, subst, suc, sym, true, want_at, wants_on}
+use Rattle.ufs_laws.proofs.Common.{zero, ℕ, ◌∙◌, ◌∷◌, ◌≡◌}
+use Rattle.std.proofs.Common.{slice_get}
 use Rattle.ufs_laws.proofs.jobs.OneJob.{not_both, one_job}
-use Rattle.ufs_laws.specs.Runs.{Gets}
-use Rattle.ufs_spec.proofs.Facts.{none-some, same_Some}
 use Rattle.ufs_spec.proofs.Lists.{none_in_empty}
-use Rattle.ufs_spec.specs.Cells.{Array}
-use Rattle.ufs_spec.specs.Disk.{Flight, Reading}
-use Rattle.ufs_spec.specs.Exchanges.{Task}
-use Rattle.ufs_spec.specs.Machine.{Allowed, Answer, Done, Due, Host, OfDone, OfHost, OfReply, OfTake, OfTurn, Reply}
-use Rattle.ufs_spec.specs.Machine.{Spelled, Take, Turn, deed_reply, message_fault, result_of}
-use Rattle.ufs_spec.specs.Moves.{Ending, ending_fits}
-use Rattle.ufs_spec.specs.Refusals.{State}
-use Rattle.ufs_spec.specs.Translation.{IsOwed, MayTake, Want, is_idle, is_step_due, next_flight, want_at, wants_on}
-use Rattle.ufs_spec.specs.declared.faults.HostFault.{HostFault}
-use Rattle.ufs_spec.specs.declared.messages.Message.{Message}
-use Rattle.ufs_spec.specs.declared.scsi.Cdb.{Cdb}
+use Rattle.ufs_spec.specs.Translation.{IsOwed}
 
 -- Steps, messages and ends of jobs
 

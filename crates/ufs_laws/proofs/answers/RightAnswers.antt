@@ -1,21 +1,14 @@
 -- Replies that are due, and the one right answer to a host, to the end of a job and to a step.
-use Rattle.std.proofs.Common.{◌≡◌, ◌⊎◌, ℕ, true, slice_get, Option, Some, None, Result, Err, refl, sym, ap, ◌∙◌, inl}
-use Rattle.std.proofs.Common.{inr, ⊎_elim}
+use Rattle.ufs_laws.proofs.Common.{Allowed, Answer, Array, Call, Done, Due, Ending, Faulty, Gets, Heard, Host}
+use Rattle.ufs_laws.proofs.Common.{HostFault, Message, None, OfDone, OfHost, OfReply, OfTake, OfTurn, Option, Reply}
+use Rattle.ufs_laws.proofs.Common.{Result, Short, Some, Spelled, State, Take, Task, Turn, ap, deed_reply, ending_fits}
+use Rattle.ufs_laws.proofs.Common.{false≢true, inl, inr, is_durable, is_step_due, message_fault, none-some, refl}
+use Rattle.ufs_laws.proofs.Common.{result_of, sym, true, ℕ, ⊎_elim, ◌∙◌, ◌≡◌, ◌⊎◌}
+use Rattle.std.proofs.Common.{Err, slice_get}
 use Rattle.ufs_laws.proofs.jobs.OneJob.{given}
 use Rattle.ufs_laws.proofs.answers.OnlyAnswers.{finish_gets, host_gets, step_gets}
-use Rattle.ufs_laws.specs.Runs.{Gets}
-use Rattle.ufs_spec.proofs.Facts.{cases_Bool, false≢true, none-some}
+use Rattle.ufs_spec.proofs.Facts.{cases_Bool}
 use Rattle.ufs_spec.proofs.Lists.{some_in}
-use Rattle.ufs_spec.specs.Cells.{Array}
-use Rattle.ufs_spec.specs.Exchanges.{Short, Task}
-use Rattle.ufs_spec.specs.Machine.{Allowed, Answer, Reply, Call, Due, Faulty, Done, OfDone, Take, OfTake, Heard, OfHost}
-use Rattle.ufs_spec.specs.Machine.{Host, OfReply, Spelled, Turn, OfTurn, deed_reply, is_durable, message_fault}
-use Rattle.ufs_spec.specs.Machine.{result_of}
-use Rattle.ufs_spec.specs.Moves.{Ending, ending_fits}
-use Rattle.ufs_spec.specs.Refusals.{State}
-use Rattle.ufs_spec.specs.Translation.{is_step_due}
-use Rattle.ufs_spec.specs.declared.faults.HostFault.{HostFault}
-use Rattle.ufs_spec.specs.declared.messages.Message.{Message}
 
 -- Replies that are due
 

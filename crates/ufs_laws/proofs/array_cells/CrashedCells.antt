@@ -1,19 +1,15 @@
 -- What an interruption may leave of pages, and of what they are.
 pub use Rattle.ufs_spec.proofs.SealedPages.{torn_is_nothing}
-use Rattle.std.proofs.Common.{◌≡◌, ◌⊎◌, ℕ, Bool, true, false, cond, if◌then◌else◌, Option, Some, refl, sym, ap, ◌∙◌}
-use Rattle.std.proofs.Common.{subst, inl, inr, ⊎_elim}
-use Rattle.ufs_spec.specs.Cells.{Array, Cell, Cells, IsCell, Nothing, Shows, same_place}
+use Rattle.ufs_laws.proofs.Common.{Array, Bool, Cell, Cells, Erasing, Flight, IsCell, Nothing, Numbers, Option, Page}
+use Rattle.ufs_laws.proofs.Common.{Place, Programming, Shows, Some, Spot, and_parts, ap, cond, false, if◌then◌else◌}
+use Rattle.ufs_laws.proofs.Common.{inl, inr, page_of, refl, spot_of, subst, sym, true, ℕ, ⊎_elim, ◌∙◌, ◌≡◌, ◌⊎◌}
+use Rattle.ufs_spec.specs.Cells.{same_place}
 use Rattle.ufs_spec.specs.Dies.{blank_page}
-use Rattle.ufs_spec.specs.Disk.{CellCrash, Crash, Erasing, Flight, Programming, Spot, Touches, at_place, page_of}
-use Rattle.ufs_spec.specs.Disk.{same_spot, spot_of}
+use Rattle.ufs_spec.specs.Disk.{CellCrash, Crash, Touches, at_place, same_spot}
 use Rattle.ufs_spec.specs.Machine.{in_block}
 use Rattle.ufs_spec.specs.Pages.{MayBeLeft}
-use Rattle.ufs_spec.specs.declared.configs.Numbers.{Numbers}
-use Rattle.ufs_spec.specs.declared.flash.Page.{Page}
-use Rattle.ufs_spec.specs.declared.flash.Place.{Place}
 use Rattle.ufs_laws.proofs.pages.BlankPages.{nothing_is_blank}
 use Rattle.ufs_laws.proofs.pages.PageIsOneCell.{one_cell}
-use Rattle.ufs_spec.proofs.Facts.{and_parts}
 use Rattle.ufs_spec.proofs.Equalities.{place_told, spot_told}
 use Rattle.ufs_spec.proofs.SealedPages.{torn_is_nothing}
 

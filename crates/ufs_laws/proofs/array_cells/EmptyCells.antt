@@ -1,21 +1,15 @@
 -- Where nothing stands: what the cells record, keep and hold, and that a life that begins there knows nothing else.
-use Rattle.std.proofs.Common.{◌≡◌, ℕ, Bool, true, false, List, [], ◌∷◌, Option, Some, None, refl, ap, inl}
-use Rattle.std.proofs.Common.{⊎_elim, arith}
+use Rattle.ufs_laws.proofs.Common.{Bad, BlockState, Bool, Cells, CellsSound, Closed, Free, GroupPage, HasNone, IsKept}
+use Rattle.ufs_laws.proofs.Common.{IsNewestMark, IsRecorded, IsWhole, Key, List, Mark, MarkPage, Mended, Mending, Name}
+use Rattle.ufs_laws.proofs.Common.{None, Nothing, Numbers, Option, Place, Ready, Some, Spot, Stale, Tag, Unmarked}
+use Rattle.ufs_laws.proofs.Common.{Untouched, Vacancy, [], ap, arith, false, inl, none-some, refl, true, ℕ, ⊎_elim, ◌∷◌}
+use Rattle.ufs_laws.proofs.Common.{◌≡◌}
 use Rattle.ufs_spec.proofs.CellKinds.{mark_not_nothing, page_not_nothing}
-use Rattle.ufs_spec.proofs.Facts.{none-some}
-use Rattle.ufs_spec.specs.Cells.{Cells, GroupPage, Mark, MarkPage, Nothing}
-use Rattle.ufs_spec.specs.Disk.{Bad, BlockState, Closed, Free, Ready, Spot, Stale, Untouched, Vacancy}
-use Rattle.ufs_spec.specs.Kept.{HasNone, IsKept, IsNewestMark, IsRecorded, IsWhole}
 use Rattle.ufs_spec.specs.Ledger.{Entry}
-use Rattle.ufs_spec.specs.Openings.{AreFirstBlocks, AreLost, IsAtMost, IsEntry, IsMendingAt, IsGreatestSeen}
+use Rattle.ufs_spec.specs.Openings.{AreFirstBlocks, AreLost, IsAtMost, IsEntry, IsGreatestSeen, IsMendingAt}
 use Rattle.ufs_spec.specs.Openings.{IsVacancyAt, StandsAt}
-use Rattle.ufs_spec.specs.Sound.{CellsSound, CellsSuit}
-use Rattle.ufs_spec.specs.Translation.{Mended, Mending, Repairing, Unmarked}
-use Rattle.ufs_spec.specs.declared.configs.Numbers.{Numbers}
-use Rattle.ufs_spec.specs.declared.flash.Key.{Key}
-use Rattle.ufs_spec.specs.declared.flash.Place.{Place}
-use Rattle.ufs_spec.specs.declared.flash.Tag.{Tag}
-use Rattle.ufs_spec.specs.declared.layer.Name.{Name}
+use Rattle.ufs_spec.specs.Sound.{CellsSuit}
+use Rattle.ufs_spec.specs.Translation.{Repairing}
 use Rattle.ufs_laws.proofs.array_cells.StandsForOne.{kept_under, recorded_under}
 
 -- the state of a block of which nothing stands

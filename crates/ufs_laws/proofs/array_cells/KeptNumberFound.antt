@@ -1,15 +1,11 @@
 -- Whether a group is whole can be decided, and there is a kept number.
-use Rattle.std.proofs.Common.{◌≡◌, ◌≢◌, ℕ, zero, suc, ◌+◌, ◌<◌, ◌≤◌, List, Option, refl, sym, ap, ◌∙◌, subst, inl, inr}
-use Rattle.std.proofs.Common.{⊎_elim, arith}
+use Rattle.ufs_laws.proofs.Common.{AreWithin, Cell, Cells, GroupPage, IsKept, IsRecorded, IsWhole, List, Mark, MarkPage}
+use Rattle.ufs_laws.proofs.Common.{Nothing, Numbers, Option, Place, Tag, ap, arith, at_most, inl, inr, refl, subst, suc}
+use Rattle.ufs_laws.proofs.Common.{sym, zero, ℕ, ⊎_elim, ◌+◌, ◌<◌, ◌∙◌, ◌≡◌, ◌≢◌, ◌≤◌}
 use Rattle.ufs_laws.proofs.array_cells.NewestFound.{recorded}
 use Rattle.ufs_laws.proofs.deciding.SearchOverPlaces.{Decided, alike, both, greatest, is_number, not, some_below}
 use Rattle.ufs_laws.proofs.deciding.SearchOverPlaces.{some_cell}
-use Rattle.ufs_spec.specs.Cells.{AreWithin, Cell, Cells, GroupPage, Mark, MarkPage, Nothing}
-use Rattle.ufs_spec.specs.Kept.{HasPage, IsKept, IsRecorded, IsWhole}
-use Rattle.ufs_spec.specs.declared.configs.Numbers.{Numbers}
-use Rattle.ufs_spec.specs.declared.flash.Place.{Place}
-use Rattle.ufs_spec.specs.declared.flash.Tag.{Tag}
-use Rattle.ufs_spec.proofs.Facts.{at_most}
+use Rattle.ufs_spec.specs.Kept.{HasPage}
 
 -- Pages of a sort
 

@@ -1,17 +1,14 @@
 -- The newest mark, the greatest recorded frontier and the newest page of a key: each is found by one search.
-use Rattle.ufs_spec.proofs.Facts.{at_most, key_is}
-use Rattle.std.proofs.Common.{◌≡◌, ℕ, suc, ◌<◌, ◌≤◌, ◌⊎◌, List, Option, Some, None, refl, sym, ap, ◌∙◌, inl, inr}
-use Rattle.std.proofs.Common.{⊎_elim, arith}
+use Rattle.ufs_laws.proofs.Common.{AreWithin, Cell, Cells, Fence, GroupPage, HasNone, Holds, IsNewestMark, IsRecorded}
+use Rattle.ufs_laws.proofs.Common.{Key, List, Mark, MarkPage, None, Nothing, Numbers, Option, Place, Some, Tag, ap}
+use Rattle.ufs_laws.proofs.Common.{arith, at_most, fence_in, inl, inr, refl, suc, sym, ℕ, ⊎_elim, ◌<◌, ◌∙◌, ◌≡◌, ◌≤◌}
+use Rattle.ufs_laws.proofs.Common.{◌⊎◌}
+use Rattle.ufs_spec.proofs.Facts.{key_is}
 use Rattle.ufs_laws.proofs.deciding.SearchOverPlaces.{Decided, Greatest, alike, both, greatest, if_so, is_at_most}
 use Rattle.ufs_laws.proofs.deciding.SearchOverPlaces.{is_below, is_number, not, so, was_so}
-use Rattle.ufs_spec.specs.Cells.{AreWithin, Cell, Cells, GroupPage, Mark, MarkPage, Nothing, key_of}
-use Rattle.ufs_spec.specs.Kept.{Counts, HasNone, Holds, IsFenced, IsNewestMark, IsRecorded, fence_in}
+use Rattle.ufs_spec.specs.Cells.{key_of}
+use Rattle.ufs_spec.specs.Kept.{Counts, IsFenced}
 use Rattle.ufs_spec.specs.Plain.{zero_block}
-use Rattle.ufs_spec.specs.declared.configs.Numbers.{Numbers}
-use Rattle.ufs_spec.specs.declared.flash.Fence.{Fence}
-use Rattle.ufs_spec.specs.declared.flash.Key.{Key}
-use Rattle.ufs_spec.specs.declared.flash.Place.{Place}
-use Rattle.ufs_spec.specs.declared.flash.Tag.{Tag}
 
 -- The newest mark
 

@@ -1,17 +1,10 @@
 -- A sound array stands for one thing only.
-use Rattle.std.proofs.Common.{◌≡◌, ℕ, suc, ◌≤◌, List, Option, Some, None, refl, sym, ap, ◌∙◌, subst, inl, inr, ⊎_elim}
-use Rattle.std.proofs.Common.{arith}
-use Rattle.ufs_spec.specs.Cells.{Array, Cell, Cells, IsCell, Mark, MarkPage, Shows}
-use Rattle.ufs_spec.specs.Keys.{IsKey, IsPlain, content}
-use Rattle.ufs_spec.specs.Kept.{CellsStandFor, Counts, Holds, IsKept, IsNewestMark, IsRecorded, StandsFor}
-use Rattle.ufs_spec.specs.Plain.{Plain, shape_of, shape_of_numbers}
-use Rattle.ufs_spec.specs.Sound.{CellsSound, Sound}
-use Rattle.ufs_spec.specs.declared.configs.Numbers.{Numbers}
-use Rattle.ufs_spec.specs.declared.flash.Key.{Key}
-use Rattle.ufs_spec.specs.declared.flash.Page.{Page}
-use Rattle.ufs_spec.specs.declared.flash.Place.{Place}
-use Rattle.ufs_spec.specs.declared.flash.Tag.{Tag}
-use Rattle.ufs_spec.proofs.Facts.{at_most}
+use Rattle.ufs_laws.proofs.Common.{Array, Cell, Cells, CellsSound, Holds, IsCell, IsKept, IsKey, IsNewestMark, IsPlain}
+use Rattle.ufs_laws.proofs.Common.{IsRecorded, Key, List, Mark, MarkPage, None, Numbers, Option, Page, Place, Plain}
+use Rattle.ufs_laws.proofs.Common.{Shows, Some, Tag, ap, arith, at_most, content, inl, inr, refl, shape_of}
+use Rattle.ufs_laws.proofs.Common.{shape_of_numbers, subst, suc, sym, ℕ, ⊎_elim, ◌∙◌, ◌≡◌, ◌≤◌}
+use Rattle.ufs_spec.specs.Kept.{CellsStandFor, Counts, StandsFor}
+use Rattle.ufs_spec.specs.Sound.{Sound}
 
 pub mark_one : (c : Cells) (m a b : Option Mark) → CellsSound c m → IsNewestMark c a → IsNewestMark c b → a ≡ b
 mark_one c m None None s h g = refl

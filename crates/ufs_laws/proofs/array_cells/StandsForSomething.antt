@@ -1,28 +1,22 @@
 -- A sound array stands for a plain state, and new dies for a new device.
-use Rattle.std.proofs.Common.{◌≡◌, ℕ, suc, ◌*◌, ◌/◌, List, Option, None, refl, sym, ap, subst, inl, inr, arith}
-use Rattle.std.proofs.lemmas.List.{length-map}
-use Rattle.std.proofs.lemmas.List.Elements.{All-map}
+use Rattle.ufs_laws.proofs.Common.{All-map, AreWithin, Array, Cell, Cells, Contents, DataHold, GroupPage, Holds}
+use Rattle.ufs_laws.proofs.Common.{IsBlock, IsCell, IsKept, IsKey, IsNewestMark, IsPlain, IsSettingsBody, Key, List}
+use Rattle.ufs_laws.proofs.Common.{Mark, None, Nothing, Numbers, Opens, Option, Page, Place, Plain, Shows, Tag, ap}
+use Rattle.ufs_laws.proofs.Common.{arith, content, inl, inr, length-map, refl, regions, settings_key, shape_of}
+use Rattle.ufs_laws.proofs.Common.{shape_of_numbers, subst, suc, sym, ℕ, ◌*◌, ◌/◌, ◌≡◌}
 use Rattle.ufs_spec.specs.Counting.{below}
 use Rattle.ufs_laws.proofs.pages.BlankPages.{blank_is_nothing, blank_opens_not, nothing_is_blank, zeros_are_settings}
 use Rattle.ufs_laws.proofs.array_cells.EmptyCells as cells
 use Rattle.ufs_laws.proofs.array_cells.NewestFound.{holds}
 use Rattle.ufs_spec.proofs.CellKinds.{page_not_nothing}
 use Rattle.ufs_laws.proofs.array_cells.KeptNumberFound.{kept}
-use Rattle.ufs_spec.specs.Cells.{AreWithin, Array, Cell, Cells, DataHold, GroupPage, IsCell, IsPlace, Mark, Nothing}
-use Rattle.ufs_spec.specs.Cells.{Opens, Shows}
+use Rattle.ufs_spec.specs.Cells.{IsPlace}
 use Rattle.ufs_spec.specs.Dies.{blank_page}
-use Rattle.ufs_spec.specs.Keys.{AreContents, Contents, HasWholeAreas, IsBlock, IsKey, IsPlain, IsSettingsBody, content}
-use Rattle.ufs_spec.specs.Keys.{plain_of, settings_key}
-use Rattle.ufs_spec.specs.Kept.{CellsStandFor, Holds, IsKept, IsNewestMark, StandsFor}
-use Rattle.ufs_spec.specs.Plain.{Plain, Shape, area_len, shape_of, shape_of_numbers, zero_block}
-use Rattle.ufs_spec.specs.Plain.{regions}
+use Rattle.ufs_spec.specs.Keys.{AreContents, HasWholeAreas, plain_of}
+use Rattle.ufs_spec.specs.Kept.{CellsStandFor, StandsFor}
+use Rattle.ufs_spec.specs.Plain.{Shape, area_len, zero_block}
 use Rattle.ufs_spec.specs.Plain as plain
 use Rattle.ufs_spec.specs.Sound.{Sound, Suits}
-use Rattle.ufs_spec.specs.declared.configs.Numbers.{Numbers}
-use Rattle.ufs_spec.specs.declared.flash.Key.{Key}
-use Rattle.ufs_spec.specs.declared.flash.Page.{Page}
-use Rattle.ufs_spec.specs.declared.flash.Place.{Place}
-use Rattle.ufs_spec.specs.declared.flash.Tag.{Tag}
 use Rattle.ufs_laws.proofs.pages.ByteLists.{zero_block_is}
 
 -- What contents found on pages are

@@ -1,21 +1,18 @@
 -- What becomes of an UNMAP by its list.
-use Rattle.std.proofs.Common.{◌≡◌, ◌≢◌, ◌==◌, ◌+◌, ◌-◌, ◌<◌, ◌≤◌, ◌++◌, ℕ, Bool, true, false, if◌then◌else◌, not, List}
-use Rattle.std.proofs.Common.{[]}
-use Rattle.std.proofs.Common.{length, take, drop, replicate, get_or, Some, ap, ne_eqb, eq-eqb, refl, ◌∙◌, arith}
+use Rattle.ufs_laws.proofs.Common.{Answering, Bool, Good, List, Plain, Some, State, Task, Zero, [], ap, apply, arith}
+use Rattle.ufs_laws.proofs.Common.{block_at, cond-false, cond-true, drop, eq-eqb, false, field_at, get_or}
+use Rattle.ufs_laws.proofs.Common.{get_or-append_right, get_or-map, get_or-replicate, get_or-set_same}
+use Rattle.ufs_laws.proofs.Common.{get_or_append_left, if_both, if◌then◌else◌, invalid_list_field, is_past_unit}
+use Rattle.ufs_laws.proofs.Common.{is_wrong_descriptor, length, length-map, length-replicate, length-take-le, locked}
+use Rattle.ufs_laws.proofs.Common.{ne_eqb, not, numbers_of, out_of_range, refl, replicate, shape_of, take, true}
+use Rattle.ufs_laws.proofs.Common.{unit_numbers_at, unmap_complete, with_part, write_error, ℕ, ◌++◌, ◌+◌, ◌-◌, ◌<◌}
+use Rattle.ufs_laws.proofs.Common.{◌==◌, ◌∙◌, ◌≡◌, ◌≢◌, ◌≤◌}
 use Rattle.std.specs.Prelude.{slice_index_or}
-use Rattle.std.proofs.lemmas.List.{get_or-append_right, get_or-map, get_or-replicate, get_or-set_same}
-use Rattle.std.proofs.lemmas.List.{get_or_append_left}
-use Rattle.std.proofs.lemmas.List.{length-map, length-replicate, length-take-le}
-use Rattle.ufs_bytes.specs.Fields.{field_at}
 use Rattle.ufs_laws.proofs.plain_contents.GroupsOfCommands.{blocks_unless}
 use Rattle.ufs_laws.specs.Decisions.{IsListed, PassesList}
-use Rattle.ufs_spec.proofs.Facts.{cond-false, cond-true, if_both}
 use Rattle.ufs_spec.specs.Changes.{accepts, claimed_by, ends_with_status, set_deed}
-use Rattle.ufs_spec.specs.Commands.{Zero}
-use Rattle.ufs_spec.specs.DataOuts.{has_list_header, is_past_unit, is_wrong_descriptor, unmap_accepted, unmap_complete}
-use Rattle.ufs_spec.specs.Exchanges.{Answering, Good, Task, invalid_list_field, out_of_range, write_error}
-use Rattle.ufs_spec.specs.Plain.{LiesWithin, Plain, apply, block_at, shape_of, unit_of, with_part, zero_block}
-use Rattle.ufs_spec.specs.Refusals.{State, locked, numbers_of, unit_numbers_at}
+use Rattle.ufs_spec.specs.DataOuts.{has_list_header, unmap_accepted}
+use Rattle.ufs_spec.specs.Plain.{LiesWithin, unit_of, zero_block}
 
 -- ## The list
 

@@ -1,33 +1,24 @@
 -- The settings page of a command carries what all commands before it and its own make of the settings.
-use Rattle.std.proofs.Common.{◌≡◌, ◌≢◌, ℕ, ◌+◌, ◌-◌, ◌/◌, ◌==◌, Bool, true, false, List, [], ◌∷◌, ◌++◌}
-use Rattle.std.proofs.Common.{length, map, Option, Some, None, refl, sym, ap, ◌∙◌, subst, inl, inr, arith}
+use Rattle.ufs_laws.proofs.Common.{Bool, Command, Frame, Group, Item, Key, KeyAndCounter, List, None, Option, Plain}
+use Rattle.ufs_laws.proofs.Common.{Query, Region, Results, RpmbWrite, SetKey, Some, State, Task, Write, Zero, []}
+use Rattle.ufs_laws.proofs.Common.{accepts_nothing, after, ap, apply, area_key, arith, below, changed_by, command_in}
+use Rattle.ufs_laws.proofs.Common.{content, empty_region, false, flat_map, frames_complete, group_of, inl, inr, length}
+use Rattle.ufs_laws.proofs.Common.{map, none-some, outcome_in, plain_now, query_passed, refl, region_of, said_by}
+use Rattle.ufs_laws.proofs.Common.{said_of, same_Some, setting_of, settings_key, slice_get, slice_get-map, subst, sym}
+use Rattle.ufs_laws.proofs.Common.{true, with_region, ℕ, ◌++◌, ◌+◌, ◌-◌, ◌/◌, ◌==◌, ◌∙◌, ◌∷◌, ◌≡◌, ◌≢◌}
 use Rattle.std.proofs.Math.ListN as lists
 use Rattle.std.proofs.lemmas.List.{map-set}
 use Rattle.std.proofs.lemmas.List.Sums.{fold-append}
-use Rattle.std.proofs.lemmas.Option.{slice_get-map}
-use Rattle.std.specs.List.{flat_map}
-use Rattle.std.specs.Prelude.{if◌then◌else◌, option_map, slice_get}
+use Rattle.std.specs.Prelude.{if◌then◌else◌, option_map}
 use Rattle.ufs_laws.proofs.frame_laws.RegistersEmptied.{decided_as}
 use Rattle.ufs_laws.proofs.exchanges.RpmbResults.{accepted_command}
-use Rattle.ufs_laws.specs.FrameLaws.{outcome_in}
 use Rattle.ufs_laws.specs.SettingsPages.{AddsPage, ChangesSettings, HasSettingsPage, Settings, settings_after}
 use Rattle.ufs_laws.specs.SettingsPages.{counted, settings_after_all, settings_in, with_said}
-use Rattle.ufs_spec.proofs.Facts.{none-some, same_Some}
 use Rattle.ufs_spec.proofs.Lists.{get_last, get_splits}
 use Rattle.ufs_spec.specs.Changes.{accepts}
-use Rattle.ufs_spec.specs.Commands.{Command, RpmbWrite, SetBoot, SetKey, SetPermanent, Write, Zero}
-use Rattle.ufs_spec.specs.Exchanges.{Task}
-use Rattle.ufs_spec.specs.FrameRequests.{frames_complete}
-use Rattle.ufs_spec.specs.Frames.{Frame}
-use Rattle.ufs_spec.specs.Keys.{Group, Item, area_key, area_keys, below, content, group_of, said_by}
-use Rattle.ufs_spec.specs.Keys.{said_of, settings_key}
-use Rattle.ufs_spec.specs.Plain.{Plain, Region, after, apply, changed_by, empty_region, region_of, with_region}
-use Rattle.ufs_spec.specs.Queries.{Query, setting_of, sets_permanent}
-use Rattle.ufs_spec.specs.QueryAnswers.{query_passed}
-use Rattle.ufs_spec.specs.Refusals.{State, accepts_nothing, plain_now}
-use Rattle.ufs_spec.specs.Rpmb.{Results, command_in}
-use Rattle.ufs_spec.specs.declared.flash.Key.{Key}
-use Rattle.ufs_spec.specs.declared.flash.KeyAndCounter.{KeyAndCounter}
+use Rattle.ufs_spec.specs.Commands.{SetBoot, SetPermanent}
+use Rattle.ufs_spec.specs.Keys.{area_keys}
+use Rattle.ufs_spec.specs.Queries.{sets_permanent}
 
 -- ## What commands make of the settings
 

@@ -1,20 +1,13 @@
 -- Settings wait until they are durable, and are refused where none can be accepted.
-use Rattle.std.proofs.Common.{◌≡◌, ◌≢◌, ◌==◌, ◌&&◌, ◌+◌, ◌<◌, ◌≤◌, ◌++◌, ◌∷◌, ℕ, Bool, true, false, if◌then◌else◌, not}
-use Rattle.std.proofs.Common.{[]}
-use Rattle.std.proofs.Common.{length, nat_le, nat_lt, Option, Some, None, ap, ne_eqb, refl, ◌∙◌, arith}
-use Rattle.std.proofs.lemmas.Bool.{le-ltb}
+use Rattle.ufs_laws.proofs.Common.{Bool, Command, None, Numbers, Option, Plain, Query, Short, Some, State, [], ap}
+use Rattle.ufs_laws.proofs.Common.{apply, arith, durable, false, false_from_ne_true, free_slots, if_both, if◌then◌else◌}
+use Rattle.ufs_laws.proofs.Common.{is_durable, le-ltb, leb-true, length, lock_applied, locked, mended, nat_le, nat_lt}
+use Rattle.ufs_laws.proofs.Common.{ne_eqb, not, numbers_of, plain_now, query_passed, refl, setting_of, short_locked}
+use Rattle.ufs_laws.proofs.Common.{short_reply, true, ℕ, ◌&&◌, ◌++◌, ◌+◌, ◌<◌, ◌==◌, ◌∙◌, ◌∷◌, ◌≡◌, ◌≢◌, ◌≤◌}
 use Rattle.ufs_laws.specs.Decisions.{boot_query, permanent_query}
-use Rattle.ufs_spec.proofs.Facts.{false_from_ne_true, if_both, leb-true}
 use Rattle.ufs_spec.specs.Changes.{with_short}
-use Rattle.ufs_spec.specs.Commands.{Command}
-use Rattle.ufs_spec.specs.Exchanges.{Short, short_reply}
-use Rattle.ufs_spec.specs.Machine.{durable, is_durable, lock_applied, short_locked}
-use Rattle.ufs_spec.specs.Plain.{Plain, apply}
-use Rattle.ufs_spec.specs.Queries.{Query, query_code, setting_of}
-use Rattle.ufs_spec.specs.QueryAnswers.{may_set, query_answered, query_done, query_failed, query_passed}
-use Rattle.ufs_spec.specs.Refusals.{State, locked, mended, numbers_of, plain_now}
-use Rattle.ufs_spec.specs.Translation.{free_slots}
-use Rattle.ufs_spec.specs.declared.configs.Numbers.{Numbers}
+use Rattle.ufs_spec.specs.Queries.{query_code}
+use Rattle.ufs_spec.specs.QueryAnswers.{may_set, query_answered, query_done, query_failed}
 
 -- ## Accepted
 

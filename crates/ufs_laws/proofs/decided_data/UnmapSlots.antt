@@ -1,30 +1,24 @@
 -- The slots that an UNMAP claims and gives back, and the group that it becomes.
-use Rattle.std.proofs.Common.{◌≡◌, ◌≢◌, ◌==◌, ◌+◌, ◌-◌, ◌<◌, ◌≤◌, ◌++◌, ◌∷◌, ℕ, false, nat_lt, not, List}
-use Rattle.std.proofs.Common.{[], drop, length, map, sum_by, Some, None, ap, ne_eqb, refl, ◌∙◌}
-use Rattle.std.proofs.Common.{length-drop, arith}
-use Rattle.std.proofs.lemmas.List.{drop-append-le, length-map}
+use Rattle.ufs_laws.proofs.Common.{Answering, Deed, ForUnmap, Gathering, Good, Group, Item, Key, Ledger, List, None}
+use Rattle.ufs_laws.proofs.Common.{Numbers, Plain, Request, Some, State, Status, Task, Zero, [], ap, apply, arith}
+use Rattle.ufs_laws.proofs.Common.{begun, below, command_blocks, cond-false, content, data_key, drop, false, field_at}
+use Rattle.ufs_laws.proofs.Common.{free_slots, group_of, is_past_unit, is_wrong_descriptor, length, length-map, locked}
+use Rattle.ufs_laws.proofs.Common.{map, nat_lt, ne_eqb, not, numbers_of, or_parts, plain_now, refl, row, shape_of}
+use Rattle.ufs_laws.proofs.Common.{unit_numbers_at, unmap_complete, ℕ, ◌++◌, ◌+◌, ◌-◌, ◌<◌, ◌==◌, ◌∙◌, ◌∷◌, ◌≡◌, ◌≢◌}
+use Rattle.ufs_laws.proofs.Common.{◌≤◌}
+use Rattle.std.proofs.Common.{length-drop, sum_by}
+use Rattle.std.proofs.lemmas.List.{drop-append-le}
 use Rattle.std.proofs.lemmas.List.Sums.{sum_by_push}
-use Rattle.ufs_bytes.specs.Fields.{field_at}
 use Rattle.ufs_laws.proofs.decided_data.ListsJudged as judged
 use Rattle.ufs_laws.proofs.plain_contents.ListParts.{length-below, made_same}
 use Rattle.ufs_laws.specs.Decisions.{PassesList, list_of}
-use Rattle.ufs_laws.specs.Runs.{row}
 use Rattle.ufs_laws.specs.Unmaps.{GathersList, HasClaimed}
-use Rattle.ufs_spec.proofs.Facts.{cond-false, ltb-false, or_parts}
+use Rattle.ufs_spec.proofs.Facts.{ltb-false}
 use Rattle.ufs_spec.specs.Changes.{claimed_by, ends_with_status, with_task}
 use Rattle.ufs_spec.specs.Begins.{gathering_begun}
-use Rattle.ufs_spec.specs.Commands.{Zero}
-use Rattle.ufs_spec.specs.Configs.{command_blocks}
-use Rattle.ufs_spec.specs.DataOuts.{is_past_unit, is_wrong_descriptor, unmap_complete}
-use Rattle.ufs_spec.specs.Exchanges.{Answering, Deed, ForUnmap, Gathering, Good, Status, Task}
-use Rattle.ufs_spec.specs.Keys.{Group, Item, below, content, data_key, group_of}
-use Rattle.ufs_spec.specs.Ledger.{Ledger, accepted_groups, before_accepted}
-use Rattle.ufs_spec.specs.Machine.{begun}
-use Rattle.ufs_spec.specs.Plain.{LiesWithin, Plain, apply, shape_of, zero_block}
-use Rattle.ufs_spec.specs.Refusals.{Request, State, locked, numbers_of, plain_now, unit_numbers_at}
-use Rattle.ufs_spec.specs.Translation.{free_slots, pending_pages}
-use Rattle.ufs_spec.specs.declared.configs.Numbers.{Numbers}
-use Rattle.ufs_spec.specs.declared.flash.Key.{Key}
+use Rattle.ufs_spec.specs.Ledger.{accepted_groups, before_accepted}
+use Rattle.ufs_spec.specs.Plain.{LiesWithin, zero_block}
+use Rattle.ufs_spec.specs.Translation.{pending_pages}
 use Rattle.ufs_spec.specs.declared.scsi.Cdb.TheVariants as cdb
 
 -- ## Claims

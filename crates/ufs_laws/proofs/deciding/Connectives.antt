@@ -1,13 +1,11 @@
 -- Facts that can be decided.
-use Rattle.std.proofs.Common.{◌≡◌, ◌⊎◌, ⊎_elim, inl, inr, ℕ, zero, suc, ◌<◌, Bool, true, false, List, [], ◌∷◌, All, Option, None, Some, refl}
-use Rattle.std.proofs.Common.{subst, length, arith}
-use Rattle.std.proofs.Math.Decide.{dec_lt, map_dec, ℕ_discrete}
+use Rattle.ufs_laws.proofs.Common.{All, AreBytes, Bool, IsBlock, List, None, Option, Some, [], arith, dec_lt, false}
+use Rattle.ufs_laws.proofs.Common.{inl, inr, length, map_dec, refl, subst, suc, true, zero, ℕ, ℕ_discrete, ⊎_elim, ◌<◌}
+use Rattle.ufs_laws.proofs.Common.{◌∷◌, ◌≡◌, ◌⊎◌}
 use Rattle.std.specs.Bool.{Decides}
 use Rattle.std.specs.Str.{bytes_eq}
 use Rattle.std.proofs.lemmas.List.Elements.{All-cons, All-head, All-tail}
 use Rattle.std.proofs.lemmas.Slice.Eq.{bytes_eq-Decides}
-use Rattle.ufs_spec.specs.Keys.{IsBlock}
-use Rattle.ufs_spec.specs.Messages.{AreBytes}
 
 -- Connectives
 

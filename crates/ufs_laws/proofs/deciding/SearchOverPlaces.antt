@@ -1,10 +1,8 @@
 -- A search over all places of the dies: the greatest weight of a cell, and whether a cell of some sort stands there.
 pub use Rattle.ufs_spec.proofs.Facts.{at_most as split}
-use Rattle.std.proofs.Common.{◌≡◌, ℕ, zero, suc, ◌<◌, ◌≤◌, ◌⊎◌, refl, ap, ◌∙◌, subst, inl, inr, ⊎_elim, arith}
-use Rattle.ufs_spec.specs.Cells.{AreWithin, Cell, Cells, IsPlace, Nothing}
-use Rattle.ufs_spec.specs.declared.configs.Numbers.{Numbers}
-use Rattle.ufs_spec.specs.declared.flash.Place.{Place}
-use Rattle.ufs_spec.proofs.Facts.{at_most}
+use Rattle.ufs_laws.proofs.Common.{AreWithin, Cell, Cells, Nothing, Numbers, Place, ap, arith, at_most, inl, inr, refl}
+use Rattle.ufs_laws.proofs.Common.{subst, suc, zero, ℕ, ⊎_elim, ◌<◌, ◌∙◌, ◌≡◌, ◌≤◌, ◌⊎◌}
+use Rattle.ufs_spec.specs.Cells.{IsPlace}
 use Rattle.std.proofs.lemmas.Bool.Decides.{eqb_tells}
 
 -- a fact that is so, or is not so

@@ -1,24 +1,18 @@
 -- What is left of aborted tasks: nothing but what they had accepted.
-use Rattle.std.proofs.Common.{◌≡◌, ◌≢◌, ℕ, zero, suc, ◌+◌, ◌-◌, ◌==◌, Bool, true, false, cond, not, List, [], ◌∷◌}
-use Rattle.std.proofs.Common.{filter, fold, Option, Some, None, refl, sym, ap, ◌∙◌, subst, arith}
-use Rattle.std.specs.Prelude.{if◌then◌else◌, nat_le, slice_get, sum_by}
-use Rattle.std.specs.List.{flat_map, list_any}
+use Rattle.ufs_laws.proofs.Common.{Allowed, Answer, Awaiting, Bool, Call, Deed, Every, Gathering, Good, IsSpoken, List}
+use Rattle.ufs_laws.proofs.Common.{Message, None, Numbers, Option, Pin, ReadBlock, ReadState, ReadingArea, Sending}
+use Rattle.ufs_laws.proofs.Common.{Some, State, Task, Translation, Unread, [], abort_moves, ap, arith, block_reply}
+use Rattle.ufs_laws.proofs.Common.{claimed_by, cond, deed_reply, durable, false, filter, flat_map, is_at_hand, list_any}
+use Rattle.ufs_laws.proofs.Common.{moved, next_block_reply, not, numbers_of, observe, or_parts, pin_of, refl, response}
+use Rattle.ufs_laws.proofs.Common.{same_Some, slice_get, subst, suc, sym, tag_in, true, true≢false, unit_of_request}
+use Rattle.ufs_laws.proofs.Common.{unit_or_first, without_tasks, zero, ℕ, ◌+◌, ◌-◌, ◌==◌, ◌∙◌, ◌∷◌, ◌≡◌, ◌≢◌}
+use Rattle.std.proofs.Common.{fold}
+use Rattle.std.specs.Prelude.{if◌then◌else◌, nat_le, sum_by}
 use Rattle.std.proofs.lemmas.Bool.{or_from}
 use Rattle.std.proofs.lemmas.List.Sums.{sum_by-cons}
 use Rattle.ufs_laws.proofs.walk.TaskLaws.{IsTaskLaw, begun_task, tasks_kept}
-use Rattle.ufs_laws.specs.Exchange.{Asks, Every, HasOtherTag, IsSpoken, NoTask, Pinned}
-use Rattle.ufs_spec.proofs.Facts.{or_parts, same_Some, true≢false}
-use Rattle.ufs_spec.specs.Exchanges.{Awaiting, Deed, Gathering, Good, ReadBlock, ReadState, ReadingArea}
-use Rattle.ufs_spec.specs.Exchanges.{Sending, Task, Unread}
-use Rattle.ufs_spec.specs.Exchanges.{response}
-use Rattle.ufs_spec.specs.Machine.{Allowed, Answer, Call, abort_moves, block_reply, claimed_by, deed_reply, durable}
-use Rattle.ufs_spec.specs.Machine.{is_at_hand, next_block_reply, pin_of, tag_in, observe, unit_or_first, without_tasks}
-use Rattle.ufs_spec.specs.Moves.{moved}
+use Rattle.ufs_laws.specs.Exchange.{Asks, HasOtherTag, NoTask, Pinned}
 use Rattle.ufs_spec.specs.Replies.{is_area_read}
-use Rattle.ufs_spec.specs.Refusals.{State, numbers_of, unit_of_request}
-use Rattle.ufs_spec.specs.declared.configs.Numbers.{Numbers}
-use Rattle.ufs_spec.specs.declared.messages.Message.{Message}
-use Rattle.ufs_spec.specs.Translation.{Pin, Translation}
 use Rattle.ufs_laws.proofs.exchanges.DeedLaws.{filled_keeps, read_keeps, set_keeps, set_request_keeps}
 
 -- ## At once

@@ -1,22 +1,17 @@
 -- Every list of bytes is heard, as one message with its command or none, or as one fault.
-use Rattle.std.proofs.Common.{◌≡◌, ◌^◌, ℕ, Bool, true, false, List, [], length, Option, Some, None, refl, sym, ap}
-use Rattle.std.proofs.Common.{subst, ◌∙◌, inl, inr}
-use Rattle.std.proofs.Math.Decide.{dec_le, dec_lt, ℕ_discrete}
+use Rattle.ufs_laws.proofs.Common.{Bool, Cdb, Faulty, Heard, HostFault, IsHeard, List, Message, None, Option, Some}
+use Rattle.ufs_laws.proofs.Common.{Spelled, [], ap, code_of, dec_le, dec_lt, false, false≢true, inl, inr, length, refl}
+use Rattle.ufs_laws.proofs.Common.{spelling, subst, sym, true, ℕ, ℕ_discrete, ◌^◌, ◌∙◌, ◌≡◌}
 use Rattle.ufs_laws.proofs.deciding.Connectives.{are_bytes, dec_and, dec_four, dec_implies, dec_seven, dec_six}
 use Rattle.ufs_laws.proofs.deciding.Connectives.{dec_or, dec_three, same_bytes}
 use Rattle.ufs_laws.proofs.exchanges.HeardOnce.{no_fault, one_fault}
-use Rattle.ufs_spec.proofs.Facts.{false≢true}
 use Rattle.ufs_spec.proofs.ReadBack.{again, message_of, one_message}
 use Rattle.ufs_spec.specs.CdbFields.{spelled_cdb}
-use Rattle.ufs_spec.specs.Machine.{Faulty, Heard, IsCdbIn, IsHeard, Spelled, cdb_of}
-use Rattle.ufs_spec.specs.Messages.{IsByte, IsMessage, IsQuery, IsSense, IsTransferred, Spells, code_of, host_fault_of}
-use Rattle.ufs_spec.specs.Messages.{spelling}
-use Rattle.ufs_spec.specs.declared.faults.HostFault.{HostFault}
+use Rattle.ufs_spec.specs.Machine.{IsCdbIn, cdb_of}
+use Rattle.ufs_spec.specs.Messages.{IsByte, IsMessage, IsQuery, IsSense, IsTransferred, Spells, host_fault_of}
 use Rattle.ufs_spec.specs.declared.faults.HostFault.TheVariants.{Reserved}
 use Rattle.ufs_spec.specs.declared.messages.Asked.{Asked}
-use Rattle.ufs_spec.specs.declared.messages.Message.{Message}
 use Rattle.ufs_spec.specs.declared.messages.Message.TheVariants as message
-use Rattle.ufs_spec.specs.declared.scsi.Cdb.{Cdb}
 
 -- ## What can be decided
 

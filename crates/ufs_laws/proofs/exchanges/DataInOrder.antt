@@ -1,19 +1,15 @@
 -- The data of a command are asked for one part after another, and what a WRITE accepts is all of them.
-use Rattle.std.proofs.Common.{◌≡◌, ◌⊎◌, ℕ, zero, suc, ◌+◌, ◌-◌, ◌*◌, ◌≤◌, ◌<◌, ◌==◌, ◌&&◌, Bool, true, false, nat_lt}
-use Rattle.std.proofs.Common.{List, [], ◌∷◌, ◌++◌, length, take, drop, Option, Some, None, refl, sym, ap, ◌∙◌, inl, inr}
-use Rattle.std.proofs.Common.{arith}
+use Rattle.ufs_laws.proofs.Common.{Bool, Deed, ForWrite, Gathering, List, None, Option, Purpose, Sending, Some, State}
+use Rattle.ufs_laws.proofs.Common.{Task, Write, [], accepts, and_parts, ap, arith, blocks_in, complete, cond-false}
+use Rattle.ufs_laws.proofs.Common.{cond-true, count_at, drop, eqb-true, false, inl, inr, is_asked_of, le-ltb, length}
+use Rattle.ufs_laws.proofs.Common.{length-append, length-drop, locked, message_fault, nat_lt, refl, set_deed, suc, sym}
+use Rattle.ufs_laws.proofs.Common.{take, take-append-drop, task_of, true, zero, ℕ, ◌&&◌, ◌*◌, ◌++◌, ◌+◌, ◌-◌, ◌<◌, ◌==◌}
+use Rattle.ufs_laws.proofs.Common.{◌∙◌, ◌∷◌, ◌≡◌, ◌≤◌, ◌⊎◌}
 use Rattle.std.specs.List.{concat}
-use Rattle.std.proofs.lemmas.Bool.{le-ltb}
-use Rattle.std.proofs.lemmas.List.{length-append, length-drop, take-append-drop}
 use Rattle.ufs_laws.proofs.walk.Happenings.{is_asked}
 use Rattle.ufs_laws.specs.Exchange.{AreAsked, WasAsked}
-use Rattle.ufs_spec.proofs.Facts.{and_parts, cond-false, cond-true, eqb-true}
-use Rattle.ufs_spec.specs.Commands.{Write}
-use Rattle.ufs_spec.specs.Exchanges.{Deed, ForWrite, Gathering, Purpose, Sending, Task, count_at, is_asked_in}
-use Rattle.ufs_spec.specs.Exchanges.{is_asked_of, task_of}
-use Rattle.ufs_spec.specs.Machine.{accepts, blocks_in, complete, data_for, message_fault, set_deed, write_complete}
-use Rattle.ufs_spec.specs.Machine.{write_deed}
-use Rattle.ufs_spec.specs.Refusals.{State, locked}
+use Rattle.ufs_spec.specs.Exchanges.{is_asked_in}
+use Rattle.ufs_spec.specs.Machine.{data_for, write_complete, write_deed}
 use Rattle.ufs_spec.specs.declared.messages.Message.TheVariants as message
 
 -- ## Data that are taken

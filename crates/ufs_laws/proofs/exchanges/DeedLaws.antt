@@ -1,16 +1,12 @@
 -- What holds of what a task does holds of what it does next: behind a reply, at a lock, and where a block was read.
-use Rattle.std.proofs.Common.{◌≡◌, ◌+◌, ℕ, Bool, true, nat_le, nat_lt, List, length, map, Option, Some, None, subst}
-use Rattle.std.specs.Prelude.{slice_get}
+use Rattle.ufs_laws.proofs.Common.{Answering, Awaiting, Bool, Deed, Every, Gathering, Good, List, None, NotRead, Option}
+use Rattle.ufs_laws.proofs.Common.{Purpose, ReadBlock, ReadState, ReadingArea, RpmbRequest, Sending, SendingBytes, Some}
+use Rattle.ufs_laws.proofs.Common.{State, Task, deed_after, deed_locked, durable, filled, if_both, if_cases, is_task_of}
+use Rattle.ufs_laws.proofs.Common.{is_to_fill, length, map, nat_le, nat_lt, none-some, same_Some, slice_get, subst}
+use Rattle.ufs_laws.proofs.Common.{task_filled, task_read, true, with_block, with_deed, with_request, write_error, ℕ}
+use Rattle.ufs_laws.proofs.Common.{◌+◌, ◌≡◌}
 use Rattle.ufs_laws.proofs.walk.TaskLaws.{every_mapped}
-use Rattle.ufs_laws.specs.Exchange.{Every}
-use Rattle.ufs_spec.proofs.Facts.{if_both, if_cases, none-some, same_Some}
-use Rattle.ufs_spec.specs.Exchanges.{Answering, Awaiting, Deed, Gathering, Good, NotRead, Purpose, ReadBlock, ReadState}
-use Rattle.ufs_spec.specs.Exchanges.{ReadingArea, RpmbRequest, Sending, SendingBytes, Task, filled, is_task_of}
-use Rattle.ufs_spec.specs.Exchanges.{with_deed, write_error}
-use Rattle.ufs_spec.specs.FrameRequests.{with_request}
-use Rattle.ufs_spec.specs.Machine.{deed_after, deed_after_block, deed_after_sent, deed_after_state, deed_locked}
-use Rattle.ufs_spec.specs.Machine.{deed_read, durable, is_to_fill, task_filled, task_read, with_block}
-use Rattle.ufs_spec.specs.Refusals.{State}
+use Rattle.ufs_spec.specs.Machine.{deed_after_block, deed_after_sent, deed_after_state, deed_read}
 
 -- a law of what the task does
 pub record IsDeedLaw (D : Deed → Type 0) (task : Task) : Type 0 where

@@ -1,9 +1,6 @@
 -- Bytes are heard as one fault, or as a message, and not as both.
-use Rattle.std.proofs.Common.{◌≡◌, ℕ, List, Option, Some, None, sym, ◌∙◌, inl, inr}
-use Rattle.ufs_spec.specs.Machine.{Faulty, IsHeard, Spelled}
-use Rattle.ufs_spec.specs.declared.faults.HostFault.{HostFault}
-use Rattle.ufs_spec.specs.declared.messages.Message.{Message}
-use Rattle.ufs_spec.specs.declared.scsi.Cdb.{Cdb}
+use Rattle.ufs_laws.proofs.Common.{Cdb, Faulty, HostFault, IsHeard, List, Message, None, Option, Some, Spelled, inl}
+use Rattle.ufs_laws.proofs.Common.{inr, sym, ℕ, ◌∙◌, ◌≡◌}
 
 pub one_fault : (bytes : List ℕ) (f g : HostFault) → IsHeard bytes (Faulty f) → IsHeard bytes (Faulty g) → f ≡ g
 one_fault bytes f g (inl h) (inl k) = let same : Some f ≡ Some g = sym h ∙ k in cc

@@ -1,17 +1,14 @@
 -- What INQUIRY and REPORT LUNS tell are bytes, and not many.
-use Rattle.std.proofs.Common.{◌≡◌, ℕ, zero, suc, ◌*◌, ◌≤◌, ◌<◌, ◌==◌, Bool, true, false, if◌then◌else◌, List, []}
-use Rattle.std.proofs.Common.{◌∷◌, ◌++◌, length, map, nat_lt, refl, sym, ap, ◌∙◌, subst, arith}
-use Rattle.byteorder.specs.Endian.{big_bytes}
-use Rattle.std.specs.List.{flat_map, list_all}
-use Rattle.std.proofs.lemmas.List.{length-append, length-map, map-append}
+use Rattle.ufs_laws.proofs.Common.{AreBytes, Bool, List, Numbers, [], and_parts, ap, arith, below, big_bytes, false}
+use Rattle.ufs_laws.proofs.Common.{flat_map, if_both, if◌then◌else◌, length, length-append, length-map, list_all, map}
+use Rattle.ufs_laws.proofs.Common.{nat_lt, refl, subst, suc, sym, true, zero, zeros, ℕ, ◌*◌, ◌++◌, ◌<◌, ◌==◌, ◌∙◌, ◌∷◌}
+use Rattle.ufs_laws.proofs.Common.{◌≡◌, ◌≤◌}
+use Rattle.std.proofs.lemmas.List.{map-append}
 use Rattle.std.proofs.lemmas.List.Concat.{flat_map-cons}
 use Rattle.ufs_laws.proofs.pages.ByteLists.{bytes-append, bytes-cons, bytes-nil, bytes-number, bytes-zeros}
 use Rattle.ufs_laws.proofs.plain_contents.ListParts.{length-below}
-use Rattle.ufs_spec.proofs.Facts.{and_parts, if_both, ltb-true}
+use Rattle.ufs_spec.proofs.Facts.{ltb-true}
 use Rattle.ufs_spec.specs.Identities.{inquiry_bytes, luns_bytes, luns_listed, unit_entry}
-use Rattle.ufs_spec.specs.Keys.{below}
-use Rattle.ufs_spec.specs.Messages.{AreBytes, zeros}
-use Rattle.ufs_spec.specs.declared.configs.Numbers.{Numbers}
 
 -- numbers that are all seen to be bytes
 pub seen_bytes : (xs : List ℕ) → list_all (λ x. nat_lt x 256) xs ≡ true → AreBytes xs

@@ -1,20 +1,15 @@
 -- Which tasks a function aborts, what an abort leaves, and what is answered to a function that asks for tasks.
-use Rattle.std.proofs.Common.{◌≡◌, ℕ, ◌==◌, ◌&&◌, ◌||◌, Bool, true, false, not, if◌then◌else◌, List, [], ◌∷◌}
-use Rattle.std.proofs.Common.{cond, filter, fold, slice_get, Option, Some, refl, ap, ◌∙◌}
+use Rattle.ufs_laws.proofs.Common.{Bool, IsAmong, List, Lun, Numbers, Option, Some, State, Task, Translation, []}
+use Rattle.ufs_laws.proofs.Common.{abort_moves, and_parts, any_here, ap, cond, eqb-true, false, false_from_ne_true}
+use Rattle.ufs_laws.proofs.Common.{filter, flat_map, if_both, if◌then◌else◌, is_aborted, is_among, list_any, moved}
+use Rattle.ufs_laws.proofs.Common.{none_passes, not, numbers_of, or_parts, plain_now, refl, service, true, with_moves}
+use Rattle.ufs_laws.proofs.Common.{without_tasks, ℕ, ◌&&◌, ◌==◌, ◌||◌, ◌∙◌, ◌∷◌, ◌≡◌}
+use Rattle.std.proofs.Common.{fold, slice_get}
 use Rattle.std.proofs.Math.Bool.{and-true}
-use Rattle.std.specs.List.{flat_map, list_any}
 use Rattle.ufs_laws.proofs.exchanges.TaskManagement.{answer_of, answered_complete}
 use Rattle.ufs_laws.specs.TaskRequests.{HasTask, HasTaskOf, HasUnit, functions}
-use Rattle.ufs_spec.proofs.Facts.{and_from, and_parts, eq-eqb, eqb-true, false_from_ne_true, if_both, or_parts}
-use Rattle.ufs_spec.proofs.Lists.{any_here, none_passes}
-use Rattle.ufs_spec.specs.Exchanges.{Task}
-use Rattle.ufs_spec.specs.Machine.{abort_moves, aborts, carried_out, is_aborted, is_named, managed, registers_after}
-use Rattle.ufs_spec.specs.Machine.{service, service_found, with_moves, without_tasks}
-use Rattle.ufs_spec.specs.Messages.{IsAmong, is_among}
-use Rattle.ufs_spec.specs.Moves.{moved}
-use Rattle.ufs_spec.specs.Refusals.{Lun, State, numbers_of, plain_now}
-use Rattle.ufs_spec.specs.Translation.{Translation}
-use Rattle.ufs_spec.specs.declared.configs.Numbers.{Numbers}
+use Rattle.ufs_spec.proofs.Facts.{and_from, eq-eqb}
+use Rattle.ufs_spec.specs.Machine.{aborts, carried_out, is_named, managed, registers_after, service_found}
 
 -- ## Which tasks
 

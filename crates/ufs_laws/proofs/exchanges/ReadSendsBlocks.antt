@@ -1,29 +1,23 @@
 -- A READ sends its blocks in order, as they were at its COMMAND.
-use Rattle.std.proofs.Common.{◌≡◌, ◌≢◌, ◌⊎◌, ℕ, zero, suc, ◌+◌, ◌-◌, ◌*◌, ◌≤◌, ◌<◌, Bool, true, false, min, nat_lt}
-use Rattle.std.proofs.Common.{if◌then◌else◌, List, [], ◌∷◌, ◌++◌, length, map, take, Option, Some, None, refl, sym, ap}
-use Rattle.std.proofs.Common.{◌∙◌, subst, inl, inr, arith, not}
-use Rattle.std.specs.Prelude.{slice_get, slice_set}
-use Rattle.std.specs.List.{flat_map, list_any}
-use Rattle.std.proofs.lemmas.List.{take_all}
+use Rattle.ufs_laws.proofs.Common.{Allowed, Answer, Answering, Bool, Call, Cdb, Deed, Gathering, Good, IsSpoken, List}
+use Rattle.ufs_laws.proofs.Common.{Message, Name, None, NotRead, Option, Pin, Purpose, ReadBlock, ReadState, Request}
+use Rattle.ufs_laws.proofs.Common.{Sending, Some, State, Task, Unread, WasRead, [], ap, arith, at_most, below, block_at}
+use Rattle.ufs_laws.proofs.Common.{block_reply, blocks_expected, count_at, deed_after, deed_reply, eqb-true, false}
+use Rattle.ufs_laws.proofs.Common.{flat_map, if◌then◌else◌, in_use, inl, inr, is_at_hand, length, list_any, map, nat_lt}
+use Rattle.ufs_laws.proofs.Common.{next_block_reply, not, observe, pin_of, plain_now, read_begun, read_blocks, refl}
+use Rattle.ufs_laws.proofs.Common.{response, same_Some, sending, slice_get, subst, suc, sym, take, take_all, true}
+use Rattle.ufs_laws.proofs.Common.{true≢false, unit_of_request, unit_or_first, with_block, zero, ℕ, ◌*◌, ◌++◌, ◌+◌, ◌-◌}
+use Rattle.ufs_laws.proofs.Common.{◌<◌, ◌∙◌, ◌∷◌, ◌≡◌, ◌≢◌, ◌≤◌, ◌⊎◌}
+use Rattle.std.proofs.Common.{min}
+use Rattle.std.specs.Prelude.{slice_set}
 use Rattle.ufs_laws.proofs.plain_contents.ListParts.{joined_next, length-joined, length-made}
 use Rattle.ufs_laws.proofs.walk.TaskLaws.{Any, any_asks, IsTaskLaw, begun_task, task_for, tasks_kept}
-use Rattle.ufs_laws.specs.Exchange.{IsSpoken, SendsThese, TagSends}
-use Rattle.ufs_spec.proofs.Facts.{at_most, eqb-true, same_Some, true≢false}
-use Rattle.ufs_spec.specs.Exchanges.{Answering, Deed, Gathering, Good, NotRead, Purpose, ReadBlock, ReadState, Sending}
-use Rattle.ufs_spec.specs.Exchanges.{Task, Unread, WasRead, block_message, count_at, read_error, response}
-use Rattle.ufs_spec.specs.Keys.{below}
-use Rattle.ufs_spec.specs.Machine.{Allowed, Answer, Call, block_reply, blocks_expected, deed_after, deed_after_block}
-use Rattle.ufs_spec.specs.Machine.{deed_after_state, deed_reply, in_use, is_at_hand, next_block_reply, observe, pin_of}
-use Rattle.ufs_spec.specs.Machine.{read_begun, read_blocks, sending, set_state, unit_or_first, with_block}
-use Rattle.ufs_spec.specs.Machine.{needs_no_read}
-use Rattle.ufs_spec.specs.Plain.{block_at}
-use Rattle.ufs_spec.specs.Refusals.{Request, State, plain_now, unit_of_request}
-use Rattle.ufs_spec.specs.declared.messages.Message.{Message}
-use Rattle.ufs_spec.specs.declared.scsi.Cdb.{Cdb}
-use Rattle.ufs_spec.specs.Translation.{Pin, is_rest_of}
+use Rattle.ufs_laws.specs.Exchange.{SendsThese, TagSends}
+use Rattle.ufs_spec.specs.Exchanges.{block_message, read_error}
+use Rattle.ufs_spec.specs.Machine.{deed_after_block, deed_after_state, needs_no_read, set_state}
+use Rattle.ufs_spec.specs.Translation.{is_rest_of}
 use Rattle.ufs_spec.specs.declared.layer.Looked.{Looked}
 use Rattle.ufs_spec.specs.declared.layer.Looked.TheVariants.{InSlot}
-use Rattle.ufs_spec.specs.declared.layer.Name.{Name}
 use Rattle.ufs_laws.proofs.exchanges.DeedLaws.{IsDeedLaw, filled_keeps, goes, locks, read_keeps, reads, set_keeps}
 use Rattle.ufs_laws.proofs.exchanges.DeedLaws.{set_request_keeps}
 

@@ -1,24 +1,19 @@
 -- Each message is spelled in at most 4128 bytes, and each reply of a task that fits is a message.
-use Rattle.std.proofs.Common.{◌≡◌, ℕ, zero, suc, ◌+◌, ◌-◌, ◌*◌, ◌≤◌, ◌<◌, ◌^◌, Bool, true, false, nat_le, nat_lt}
-use Rattle.std.proofs.Common.{if◌then◌else◌, List, [], ◌∷◌, ◌++◌, length, take, Option, Some, None, refl, subst}
-use Rattle.std.proofs.Common.{arith}
-use Rattle.std.specs.Prelude.{slice_get}
-use Rattle.std.proofs.lemmas.List.{length-append, length-replicate, length-take-le}
+use Rattle.ufs_laws.proofs.Common.{Answering, AreBytes, Awaiting, Bool, Deed, Gathering, Good, IsAmong, List, Message}
+use Rattle.ufs_laws.proofs.Common.{None, NotRead, Option, ReadBlock, ReadState, ReadingArea, Sending, SendingBytes}
+use Rattle.ufs_laws.proofs.Common.{Some, State, Status, Task, Unread, WasRead, [], arith, block_reply, count_at}
+use Rattle.ufs_laws.proofs.Common.{deed_reply, durable, false, if◌then◌else◌, is_at_hand, length, length-append}
+use Rattle.ufs_laws.proofs.Common.{length-replicate, length-take-le, nat_le, nat_lt, next_block_reply, pin_of, refl}
+use Rattle.ufs_laws.proofs.Common.{response, same_Some, slice_get, spelling, subst, suc, take, true, zero, zeros, ℕ}
+use Rattle.ufs_laws.proofs.Common.{◌*◌, ◌++◌, ◌+◌, ◌-◌, ◌<◌, ◌^◌, ◌∷◌, ◌≡◌, ◌≤◌}
 use Rattle.ufs_laws.specs.Replies.{DeedSpeaks, IsStatus, TaskSpeaks}
-use Rattle.ufs_spec.proofs.Facts.{same_Some}
 use Rattle.ufs_spec.proofs.SpellingParts.{header_size, segment_size}
 use Rattle.ufs_spec.specs.Cdbs.{Residual, fixed_sense, residual_of}
-use Rattle.ufs_spec.specs.Exchanges.{Answering, Awaiting, CheckCondition, Deed, Gathering, Good, NotRead, ReadBlock}
-use Rattle.ufs_spec.specs.Exchanges.{ReadState, ReadingArea, Sending, Status, Task, SendingBytes, Unread, WasRead}
-use Rattle.ufs_spec.specs.Exchanges.{block_message}
-use Rattle.ufs_spec.specs.Exchanges.{bytes_sent, count_at, data_message, read_error, ready_message, response}
-use Rattle.ufs_spec.specs.Exchanges.{response_byte, sense_data, status_byte}
-use Rattle.ufs_spec.specs.Machine.{block_reply, deed_reply, durable, is_at_hand, next_block_reply, pin_of}
-use Rattle.ufs_spec.specs.Messages.{AreBytes, AreFlags, IsAmong, IsByte, IsMessage, IsSense, header_of, padding}
-use Rattle.ufs_spec.specs.Messages.{segment_of, spelling, zeros}
+use Rattle.ufs_spec.specs.declared.exchanges.Status.TheVariants.{CheckCondition}
+use Rattle.ufs_spec.specs.Exchanges.{block_message, bytes_sent, data_message, read_error, ready_message, response_byte}
+use Rattle.ufs_spec.specs.Exchanges.{sense_data, status_byte}
+use Rattle.ufs_spec.specs.Messages.{AreFlags, IsByte, IsMessage, IsSense, header_of, padding, segment_of}
 use Rattle.ufs_spec.specs.Replies.{is_area_read}
-use Rattle.ufs_spec.specs.Refusals.{State}
-use Rattle.ufs_spec.specs.declared.messages.Message.{Message}
 use Rattle.ufs_laws.proofs.pages.ByteLists.{bytes-take}
 
 -- ## The size of a spelling

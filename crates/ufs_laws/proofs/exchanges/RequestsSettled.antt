@@ -1,14 +1,13 @@
 -- What becomes due behind a call fills its register: nothing, if no task has a request that is yet to fill one. And
 -- each die does what it did.
-use Rattle.std.proofs.Common.{◌≡◌, ℕ, Bool, false, ◌&&◌, cond, List, [], ◌∷◌, map, refl, ap, ◌∙◌}
-use Rattle.std.specs.Prelude.{filter, fold}
+use Rattle.ufs_laws.proofs.Common.{Bool, List, Registers, State, Task, [], ap, cond, false, filled, fills, fold}
+use Rattle.ufs_laws.proofs.Common.{is_good_due, is_to_fill, is_unfilled, lock_applied, map, refl, task_filled}
+use Rattle.ufs_laws.proofs.Common.{task_locked, with_moves, ℕ, ◌&&◌, ◌∙◌, ◌∷◌, ◌≡◌}
+use Rattle.std.specs.Prelude.{filter}
 use Rattle.ufs_laws.proofs.walk.SmallChanges.{settled_small}
 use Rattle.ufs_laws.proofs.jobs.SameJobs.{SameJobs, small_same}
 use Rattle.ufs_laws.specs.Requests.{HaveNoneToFill}
-use Rattle.ufs_spec.specs.Exchanges.{Registers, Task, filled, is_unfilled}
-use Rattle.ufs_spec.specs.Machine.{fill_moves, filled_registers, fills, is_good_due, is_to_fill, lock_applied}
-use Rattle.ufs_spec.specs.Machine.{task_filled, task_locked, with_moves}
-use Rattle.ufs_spec.specs.Refusals.{State}
+use Rattle.ufs_spec.specs.Machine.{fill_moves, filled_registers}
 
 pub settled_jobs : (s : State) → SameJobs s.translation (lock_applied (fills s)).translation
 settled_jobs s = small_same (settled_small s)

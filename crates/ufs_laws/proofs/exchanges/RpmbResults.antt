@@ -1,13 +1,11 @@
 -- The result of an RPMB request that is accepted.
-use Rattle.std.proofs.Common.{◌≡◌, ◌⊎◌, ◌&&◌, ◌==◌, ℕ, Bool, true, false, cond, List, [], ◌∷◌, Option, Some, None}
-use Rattle.std.proofs.Common.{bit_or, refl, ◌∙◌, inl, inr}
+use Rattle.ufs_laws.proofs.Common.{Bool, Command, Frame, List, None, Option, Refused, Registers, Results, RpmbOutcome}
+use Rattle.ufs_laws.proofs.Common.{Some, Status, [], checks, command_in, cond, counter_end, false, first_failed}
+use Rattle.ufs_laws.proofs.Common.{has_key, inl, inr, lacks_result, outcome_after, refl, rpmb_outcome, true, ℕ, ◌&&◌}
+use Rattle.ufs_laws.proofs.Common.{◌==◌, ◌∙◌, ◌∷◌, ◌≡◌, ◌⊎◌}
+use Rattle.std.proofs.Common.{bit_or}
 use Rattle.ufs_laws.proofs.rpmb_frames.RequestOutcomes.{no_command, refused, same_command}
-use Rattle.ufs_spec.specs.Commands.{Command}
-use Rattle.ufs_spec.specs.Exchanges.{Registers, Status}
-use Rattle.ufs_spec.specs.Plain.{counter_end}
-use Rattle.ufs_spec.specs.Frames.{Frame}
-use Rattle.ufs_spec.specs.Rpmb.{Refused, Region, Results, RpmbOutcome, applied, checks, command_in, first_failed}
-use Rattle.ufs_spec.specs.Rpmb.{has_key, lacks_result, outcome_after, rpmb_outcome, with_end_bit}
+use Rattle.ufs_spec.specs.Rpmb.{Region, applied, with_end_bit}
 
 end_bit : (b : Bool) → (cond b (bit_or 0 0x80) 0 ≡ 0) ⊎ (cond b (bit_or 0 0x80) 0 ≡ 0x80)
 end_bit true = inr refl

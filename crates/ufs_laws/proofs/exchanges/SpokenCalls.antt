@@ -1,13 +1,7 @@
 -- What each call keeps of what a host says in bytes, a life keeps.
-use Rattle.std.proofs.Common.{List, [], ◌∷◌, Option, Some, None, subst, sym}
-use Rattle.ufs_laws.specs.Exchange.{IsSpoken}
-use Rattle.ufs_spec.specs.Disk.{Flight}
-use Rattle.ufs_spec.specs.Lives.{IsCall, IsFinish, Life}
-use Rattle.ufs_spec.specs.Machine.{Allowed, Answer, Call, observe}
-use Rattle.ufs_spec.specs.Refusals.{State}
-use Rattle.ufs_spec.specs.declared.events.Event.{Event}
+use Rattle.ufs_laws.proofs.Common.{Allowed, Answer, Call, Event, Flight, IsCall, IsFinish, IsSpoken, Life, List, None}
+use Rattle.ufs_laws.proofs.Common.{Option, Output, Some, State, [], observe, subst, sym, ◌∷◌}
 use Rattle.ufs_spec.specs.declared.events.Event.TheVariants as event
-use Rattle.ufs_spec.specs.declared.events.Output.{Output}
 
 finish_spoken : (s : State) (die : _) (o : Option Flight) (call : Call) → IsFinish s die o call → IsSpoken call
 finish_spoken s die None call h = absurd h

@@ -1,30 +1,26 @@
 -- A command that was taken never ends with an invalid operation code.
-use Rattle.std.proofs.Common.{◌≡◌, ◌≢◌, ℕ, ◌+◌, ◌==◌, Bool, true, false, if◌then◌else◌, List, [], ◌∷◌, ◌++◌}
-use Rattle.std.proofs.Common.{Option, Some, None, refl, sym, ap, ◌∙◌, subst, arith}
-use Rattle.std.specs.List.{flat_map}
-use Rattle.std.specs.Prelude.{length, slice_get}
+use Rattle.ufs_laws.proofs.Common.{Allowed, Answer, Answering, Array, Awaiting, Bool, Call, Cdb, Deed, Every, Gathering}
+use Rattle.ufs_laws.proofs.Common.{Good, IsOpened, IsRequest, IsSpoken, List, Lun, None, Numbers, Option, ReadBlock}
+use Rattle.ufs_laws.proofs.Common.{ReadingArea, Request, Sending, Some, Spot, State, Status, Task, [], ap, arith, begun}
+use Rattle.ufs_laws.proofs.Common.{blocks_expected, data_begun, deed_after, false, first_line, flat_map, if_both}
+use Rattle.ufs_laws.proofs.Common.{if◌then◌else◌, invalid_field, invalid_operation, kind_of, lacks_unit, lines_after}
+use Rattle.ufs_laws.proofs.Common.{lun_of, no_unit, none-some, not-false, not_taken, numbers_of, observe, read_begun}
+use Rattle.ufs_laws.proofs.Common.{read_blocks, refl, refusal, sending, slice_get, subst, sym, true, unit_of_request}
+use Rattle.ufs_laws.proofs.Common.{unit_or_first, with_block, write_error, ℕ, ◌++◌, ◌+◌, ◌==◌, ◌∙◌, ◌∷◌, ◌≡◌, ◌≢◌}
+use Rattle.std.specs.Prelude.{length}
 use Rattle.ufs_laws.proofs.walk.WaysOfCommands.{Answered, Beginning, Gathered, Handing, Reading, Telling, Waiting}
 use Rattle.ufs_laws.proofs.walk.WaysOfCommands.{WhyBegun, begins_by, begun_as}
 use Rattle.ufs_laws.proofs.walk.WaysOfData.{IsAnswerOfData, IsGood, IsOutOfRange, IsOutOfSequence, IsWriteError}
 use Rattle.ufs_laws.proofs.walk.WaysOfData.{IsWrongField, answer_one}
 use Rattle.ufs_laws.proofs.walk.TaskLaws.{Any, any_asks, IsTaskLaw, task_for, tasks_kept}
-use Rattle.ufs_laws.specs.Exchange.{AllKnown, Every, IsKnownDeed, IsKnownTask, IsRequest, IsSpoken}
-use Rattle.ufs_spec.proofs.Facts.{if_both, none-some, not-false}
-use Rattle.ufs_spec.specs.Cells.{Array}
-use Rattle.ufs_spec.specs.Disk.{Spot}
-use Rattle.ufs_spec.specs.Lives.{IsOpened}
-use Rattle.ufs_spec.specs.declared.configs.Numbers.{Numbers}
-use Rattle.ufs_spec.specs.CdbFields.{kind_of, row_of}
+use Rattle.ufs_laws.specs.Exchange.{AllKnown, IsKnownDeed, IsKnownTask}
+use Rattle.ufs_spec.specs.CdbFields.{row_of}
 use Rattle.ufs_spec.specs.Cdbs.{carried}
-use Rattle.ufs_spec.specs.Exchanges.{Answering, Awaiting, CheckCondition, Deed, Gathering, Good, ReadBlock, ReadingArea}
-use Rattle.ufs_spec.specs.Exchanges.{Sending, Status, Task, check, invalid_field, invalid_operation, no_unit}
-use Rattle.ufs_spec.specs.Exchanges.{write_error}
-use Rattle.ufs_spec.specs.Machine.{Answer, Call, IsCdbIn, begun, blocks_expected, data_begun, deed_after, observe}
-use Rattle.ufs_spec.specs.Machine.{read_begun, sending_bytes, read_blocks, sending, unit_or_first, with_block, Allowed}
-use Rattle.ufs_spec.specs.Refusals.{Lun, Request, State, first_line, lacks_unit, lines_after, lun_of, not_taken}
-use Rattle.ufs_spec.specs.Refusals.{numbers_of, refusal, row_in, takes, takes_row, unit_of_request}
+use Rattle.ufs_spec.specs.declared.exchanges.Status.TheVariants.{CheckCondition}
+use Rattle.ufs_spec.specs.Exchanges.{check}
+use Rattle.ufs_spec.specs.Machine.{IsCdbIn, sending_bytes}
+use Rattle.ufs_spec.specs.Refusals.{row_in, takes, takes_row}
 use Rattle.ufs_spec.specs.declared.operations.Row.{Row}
-use Rattle.ufs_spec.specs.declared.scsi.Cdb.{Cdb}
 use Rattle.ufs_spec.specs.declared.scsi.Cdb.TheVariants as cdb
 use Rattle.ufs_spec.proofs.CommandTable.{row_behind}
 use Rattle.ufs_laws.proofs.exchanges.DeedLaws.{IsDeedLaw, filled_keeps, goes, locks, read_keeps, reads, set_keeps}

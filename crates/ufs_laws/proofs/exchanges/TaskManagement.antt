@@ -1,21 +1,16 @@
 -- A task management request that is answered other than 00h changes no task; and which kinds of messages are heard.
-use Rattle.std.proofs.Common.{◌≡◌, ◌≢◌, ℕ, ◌==◌, Bool, true, false, cond, if◌then◌else◌, List, Option, Some}
-use Rattle.std.proofs.Common.{None, ap, ne_eqb, ◌∙◌, refl, sym}
+use Rattle.ufs_laws.proofs.Common.{Bool, Cdb, HostFault, IsAmong, IsHeard, List, Lun, Message, None, Option, Some}
+use Rattle.ufs_laws.proofs.Common.{Spelled, State, Task, ap, code_of, cond, false, if◌then◌else◌, is_aborted, is_among}
+use Rattle.ufs_laws.proofs.Common.{list_any, lun_of, ne_eqb, numbers_of, refl, service, short_reply, sym, true}
+use Rattle.ufs_laws.proofs.Common.{with_short, without_tasks, ℕ, ◌==◌, ◌∙◌, ◌≡◌, ◌≢◌}
 use Rattle.std.specs.Prelude.{is_none}
-use Rattle.std.specs.List.{list_any}
 use Rattle.std.proofs.lemmas.Bool.{not-false}
 use Rattle.std.proofs.lemmas.Option.{none-some}
-use Rattle.ufs_spec.specs.Exchanges.{Task, short_reply}
-use Rattle.ufs_spec.specs.Machine.{IsHeard, Spelled, aborts, carried_out, service_found, heard, is_aborted, is_named}
-use Rattle.ufs_spec.specs.Machine.{service, with_short, without_tasks}
-use Rattle.ufs_spec.specs.Messages.{IsAmong, code_of, fault_among, has_digest, has_extra_header, has_other_code}
-use Rattle.ufs_spec.specs.Messages.{has_wrong_length, host_codes, is_among, is_short, known_codes, read_fault_of}
-use Rattle.ufs_spec.specs.Refusals.{Lun, State, lun_of, numbers_of}
-use Rattle.ufs_spec.specs.declared.faults.HostFault.{HostFault}
+use Rattle.ufs_spec.specs.Machine.{aborts, carried_out, heard, is_named, service_found}
+use Rattle.ufs_spec.specs.Messages.{fault_among, has_digest, has_extra_header, has_other_code}
+use Rattle.ufs_spec.specs.Messages.{has_wrong_length, host_codes, is_short, known_codes, read_fault_of}
 use Rattle.ufs_spec.specs.declared.faults.HostFault.TheVariants as fault
-use Rattle.ufs_spec.specs.declared.messages.Message.{Message}
 use Rattle.ufs_spec.specs.declared.messages.Message.TheVariants as message
-use Rattle.ufs_spec.specs.declared.scsi.Cdb.{Cdb}
 
 -- Task management
 

@@ -1,50 +1,41 @@
 -- Each task that a call opens or changes fits what it needs for its replies.
-use Rattle.std.proofs.Common.{◌≡◌, ◌≢◌, ℕ, zero, suc, ◌+◌, ◌-◌, ◌*◌, ◌≤◌, ◌<◌, ◌^◌, ◌/◌, ◌%◌, ◌==◌, Bool, true}
-use Rattle.std.proofs.Common.{false, min, if◌then◌else◌, List, [], ◌∷◌, ◌++◌, length, map, get_or, Option, Some, None}
-use Rattle.std.proofs.Common.{refl, sym, ap, ◌∙◌, subst, arith}
-use Rattle.byteorder.specs.Endian.{big_bytes}
-use Rattle.std.specs.Prelude.{slice_get, slice_set, take}
+use Rattle.ufs_laws.proofs.Common.{Answering, AreBytes, Awaiting, Bool, Cdb, Deed, Every, Gathering, Good, IsBlock}
+use Rattle.ufs_laws.proofs.Common.{IsRequest, List, None, Option, ReadBlock, ReadState, ReadingArea, Request}
+use Rattle.ufs_laws.proofs.Common.{RpmbRequest, Sending, SendingBytes, Some, State, Status, Task, UnitSpec, Unread, []}
+use Rattle.ufs_laws.proofs.Common.{ap, arith, begun, below, big_bytes, block_at, blocks_expected, data_begun}
+use Rattle.ufs_laws.proofs.Common.{deed_locked, false, first_line, flat_map, get_or, has_wrong_list, if◌then◌else◌}
+use Rattle.ufs_laws.proofs.Common.{invalid_field, invalid_operation, is_too_long, kind_of, lacks_unit, length}
+use Rattle.ufs_laws.proofs.Common.{length-take, length-take-le, lines_after, lun_of, map, no_unit, not_taken}
+use Rattle.ufs_laws.proofs.Common.{numbers_of, plain_now, read_begun, read_blocks, refl, refusal, same_Some, sending}
+use Rattle.ufs_laws.proofs.Common.{slice_get, subst, suc, sym, task_of, true, unit_numbers_of, unit_of_request}
+use Rattle.ufs_laws.proofs.Common.{unit_or_first, with_block, with_deed, with_request, write_error, zero, zeros, ℕ, ◌%◌}
+use Rattle.ufs_laws.proofs.Common.{◌*◌, ◌++◌, ◌+◌, ◌-◌, ◌/◌, ◌<◌, ◌==◌, ◌^◌, ◌∙◌, ◌∷◌, ◌≡◌, ◌≢◌, ◌≤◌}
+use Rattle.std.proofs.Common.{min}
+use Rattle.std.specs.Prelude.{slice_set, take}
 use Rattle.std.proofs.lemmas.Grind.{div_ceil_times}
-use Rattle.std.proofs.lemmas.List.{length-set, length-take, length-take-le}
+use Rattle.std.proofs.lemmas.List.{length-set}
 use Rattle.std.proofs.lemmas.Option.{get_or_from_slice_get, slice_get_within}
 use Rattle.ufs_laws.proofs.pages.ByteLists.{bytes-append, bytes-cons, bytes-number, bytes-take, bytes-zeros}
 use Rattle.ufs_laws.proofs.plain_contents.ListParts.{get_or-made, length-made}
 use Rattle.ufs_laws.proofs.walk.WaysOfCommands.{Answered, Beginning, Gathered, Handing, IsTold, Reading, Telling}
-use Rattle.ufs_laws.proofs.walk.WaysOfCommands.{Waiting, WhyBegun}
-use Rattle.ufs_laws.proofs.walk.WaysOfCommands.{begins_by, begun_as, command_few}
+use Rattle.ufs_laws.proofs.walk.WaysOfCommands.{Waiting, WhyBegun, begins_by, begun_as, command_few}
 use Rattle.ufs_laws.proofs.walk.WaysOfData.{IsAnswerOfData, IsGood, IsOutOfRange, IsOutOfSequence, IsWriteError}
 use Rattle.ufs_laws.proofs.walk.WaysOfData.{IsWrongField, answer_one}
 use Rattle.ufs_laws.proofs.exchanges.ListedUnits.{inquiry_told, luns_size, luns_told}
 use Rattle.ufs_laws.proofs.exchanges.TakenCommandsKnown.{passed_line, past}
 use Rattle.ufs_laws.proofs.walk.TaskLaws.{Any, IsTaskLaw, OneMore, task_for}
-use Rattle.ufs_laws.specs.Exchange.{Every, IsRequest}
 use Rattle.ufs_laws.specs.Replies.{DeedSpeaks, IsStatus, TaskSpeaks}
-use Rattle.std.specs.List.{flat_map}
 use Rattle.ufs_spec.specs.Begins.{frames_begun, told_bytes}
-use Rattle.ufs_spec.specs.FrameRequests.{with_request}
 use Rattle.ufs_spec.specs.Identities.{luns_bytes}
-use Rattle.ufs_spec.specs.CdbFields.{kind_of}
-use Rattle.ufs_spec.specs.Refusals.{has_wrong_list, is_too_long, lacks_region}
+use Rattle.ufs_spec.specs.Refusals.{Line, lacks_region, line}
 use Rattle.ufs_spec.specs.declared.operations.Kind.TheVariants as kind
 use Rattle.ufs_spec.specs.declared.operations.Told.{Told}
 use Rattle.ufs_spec.specs.declared.operations.Told.TheVariants as told
 use Rattle.ufs_spec.specs.declared.scsi.Cdb.TheVariants as cdb
-use Rattle.ufs_spec.proofs.Facts.{eqb-false, ltb-true, same_Some}
+use Rattle.ufs_spec.proofs.Facts.{eqb-false, ltb-true}
 use Rattle.ufs_spec.specs.Cdbs.{address_of, blocks_of}
-use Rattle.ufs_spec.specs.Exchanges.{Answering, Awaiting, Deed, Gathering, Good, ReadBlock, ReadState, Sending, Status}
-use Rattle.ufs_spec.specs.Exchanges.{Task, SendingBytes, Unread, bytes_sent, invalid_field, invalid_operation}
-use Rattle.ufs_spec.specs.Exchanges.{list_length_error, no_unit}
-use Rattle.ufs_spec.specs.Exchanges.{ReadingArea, RpmbRequest, task_of, with_deed, write_error}
-use Rattle.ufs_spec.specs.Keys.{IsBlock, below}
-use Rattle.ufs_spec.specs.Machine.{begun, blocks_expected, capacity_bytes, data_begun, deed_locked, deed_read}
-use Rattle.ufs_spec.specs.Machine.{no_sense, read_begun, read_blocks, sending, sending_bytes, set_state, unit_or_first}
-use Rattle.ufs_spec.specs.Machine.{with_block}
-use Rattle.ufs_spec.specs.Messages.{AreBytes, zeros}
-use Rattle.ufs_spec.specs.Plain.{block_at}
-use Rattle.ufs_spec.specs.Refusals.{Line, Request, State, first_line, lacks_unit, line, lines_after, lun_of, not_taken}
-use Rattle.ufs_spec.specs.Refusals.{numbers_of, plain_now, refusal, unit_numbers_of, unit_of_request}
-use Rattle.ufs_spec.specs.declared.configs.UnitSpec.{UnitSpec}
-use Rattle.ufs_spec.specs.declared.scsi.Cdb.{Cdb}
+use Rattle.ufs_spec.specs.Exchanges.{bytes_sent, list_length_error}
+use Rattle.ufs_spec.specs.Machine.{capacity_bytes, deed_read, no_sense, sending_bytes, set_state}
 use Rattle.ufs_laws.proofs.exchanges.DeedLaws.{IsDeedLaw, filled_keeps, goes, locks, read_keeps, reads}
 
 -- ## Statuses of the table

@@ -1,13 +1,10 @@
 -- Which registers an abort empties.
-use Rattle.std.proofs.Common.{◌≡◌, ◌≢◌, ◌||◌, ℕ, zero, suc, Bool, true, false, cond, if◌then◌else◌, List, []}
-use Rattle.std.proofs.Common.{◌∷◌, filter, Option, Some, None, ap, ne_eqb, refl, ◌∙◌}
-use Rattle.std.specs.Prelude.{slice_get}
-use Rattle.std.specs.List.{list_any}
-use Rattle.ufs_spec.proofs.Facts.{eqb-self, or_from, or_right, same_Some}
-use Rattle.ufs_spec.specs.Exchanges.{Registers, Task, empty_registers}
-use Rattle.ufs_spec.specs.Machine.{without_tasks}
-use Rattle.ufs_spec.specs.Refusals.{State, sends_frames_to}
-use Rattle.ufs_spec.specs.declared.scsi.Cdb.{Cdb}
+use Rattle.ufs_laws.proofs.Common.{Bool, Cdb, List, None, Option, Registers, Some, State, Task, [], ap, cond, false}
+use Rattle.ufs_laws.proofs.Common.{filter, if◌then◌else◌, list_any, ne_eqb, or_from, or_right, refl, same_Some}
+use Rattle.ufs_laws.proofs.Common.{slice_get, suc, true, without_tasks, zero, ℕ, ◌||◌, ◌∙◌, ◌∷◌, ◌≡◌, ◌≢◌}
+use Rattle.ufs_spec.proofs.Facts.{eqb-self}
+use Rattle.ufs_spec.specs.Exchanges.{empty_registers}
+use Rattle.ufs_spec.specs.Refusals.{sends_frames_to}
 use Rattle.ufs_spec.specs.declared.scsi.Cdb.TheVariants as cdb
 
 abbrev Sends : ℕ → Task → Bool

@@ -1,25 +1,19 @@
 -- A request for data reads its pages, and its GOOD is due once none of them needs a read any more.
-use Rattle.std.proofs.Common.{◌≡◌, ◌≢◌, ◌==◌, ◌&&◌, ◌<◌, ℕ, zero, suc, Bool, true, false, if◌then◌else◌, List, []}
-use Rattle.std.proofs.Common.{◌∷◌, length, map, Option, Some, None, ap, refl, sym, ◌∙◌, bit_or, inl, inr, ⊎_elim}
-use Rattle.std.proofs.Common.{arith}
-use Rattle.std.specs.Prelude.{slice_get}
-use Rattle.std.specs.List.{list_all, list_any}
+use Rattle.ufs_laws.proofs.Common.{Bool, Frame, Good, List, Message, None, NotRead, Option, ReadBlock, ReadState}
+use Rattle.ufs_laws.proofs.Common.{ReadingArea, Results, Some, State, Task, Unread, WasRead, [], ap, arith, below}
+use Rattle.ufs_laws.proofs.Common.{cond-true, deed_reply, false, frames_complete, given_back, if◌then◌else◌, inl, inr}
+use Rattle.ufs_laws.proofs.Common.{length, list_all, list_any, map, none-some, or_from, or_left, or_right, outcome_in}
+use Rattle.ufs_laws.proofs.Common.{reads_area, refl, requested, response, result_now, same_Some, slice_get, suc, sym}
+use Rattle.ufs_laws.proofs.Common.{true, with_moves, zero, ℕ, ⊎_elim, ◌&&◌, ◌<◌, ◌==◌, ◌∙◌, ◌∷◌, ◌≡◌, ◌≢◌}
+use Rattle.std.proofs.Common.{bit_or}
 use Rattle.std.proofs.lemmas.List.Folds.{list_all-append}
 use Rattle.std.proofs.lemmas.Option.{slice_get_within}
 use Rattle.ufs_laws.proofs.frame_laws.RegistersEmptied.{decided_as}
-use Rattle.ufs_laws.specs.FrameLaws.{IsOwed, IsSuccess, IsThere, outcome_in}
-use Rattle.ufs_spec.proofs.Facts.{cases_eq, cond-true, none-some, or_from, or_left, or_right, same_Some}
-use Rattle.ufs_spec.specs.Changes.{given_back}
-use Rattle.ufs_spec.specs.Exchanges.{Good, NotRead, ReadBlock, ReadState, ReadingArea, Task, Unread, WasRead, response}
-use Rattle.ufs_spec.specs.FrameRequests.{area_read, frames_complete, keeps_area, reads_area, requested, result_now}
-use Rattle.ufs_spec.specs.Frames.{Frame}
-use Rattle.ufs_spec.specs.Keys.{below}
-use Rattle.ufs_spec.specs.Machine.{deed_reply, with_moves}
-use Rattle.ufs_spec.specs.Refusals.{State}
+use Rattle.ufs_laws.specs.FrameLaws.{IsOwed, IsSuccess, IsThere}
+use Rattle.ufs_spec.proofs.Facts.{cases_eq}
+use Rattle.ufs_spec.specs.FrameRequests.{area_read, keeps_area}
 use Rattle.ufs_spec.specs.Replies.{is_at_hand, is_page_read, is_read, pin_of}
-use Rattle.ufs_spec.specs.Rpmb.{Results}
 use Rattle.ufs_spec.specs.RpmbResponses.{is_lost, is_success}
-use Rattle.ufs_spec.specs.declared.messages.Message.{Message}
 
 -- ## What begins
 

@@ -1,17 +1,12 @@
 -- A request that fails a check accepts nothing.
-use Rattle.std.proofs.Common.{◌≡◌, ◌==◌, ◌&&◌, ℕ, Bool, true, false, List, ◌∷◌, Option, Some, None, ap, refl}
-use Rattle.std.proofs.Common.{ne_eqb, ◌∙◌, inl, inr}
+use Rattle.ufs_laws.proofs.Common.{Answering, Bool, Command, Frame, Good, List, None, Option, Results, Some, State}
+use Rattle.ufs_laws.proofs.Common.{Task, accepts_nothing, ap, cond-false, false, frames_complete, given_back, inl, inr}
+use Rattle.ufs_laws.proofs.Common.{ne_eqb, or_from, outcome_in, plain_now, reads_area, refl, requested, true, ℕ, ◌&&◌}
+use Rattle.ufs_laws.proofs.Common.{◌==◌, ◌∙◌, ◌∷◌, ◌≡◌}
 use Rattle.ufs_laws.proofs.exchanges.RpmbResults.{accepted_result}
 use Rattle.ufs_laws.proofs.frame_laws.RegistersEmptied.{decided_as}
-use Rattle.ufs_laws.specs.FrameLaws.{IsSuccess, outcome_in}
-use Rattle.ufs_spec.proofs.Facts.{cond-false, or_from}
-use Rattle.ufs_spec.specs.Changes.{given_back}
-use Rattle.ufs_spec.specs.Commands.{Command}
-use Rattle.ufs_spec.specs.Exchanges.{Answering, Good, Task}
-use Rattle.ufs_spec.specs.FrameRequests.{frames_complete, reads_area, requested}
-use Rattle.ufs_spec.specs.Frames.{Frame}
-use Rattle.ufs_spec.specs.Refusals.{State, accepts_nothing, plain_now}
-use Rattle.ufs_spec.specs.Rpmb.{Results, read_data, region_of}
+use Rattle.ufs_laws.specs.FrameLaws.{IsSuccess}
+use Rattle.ufs_spec.specs.Rpmb.{read_data, region_of}
 use Rattle.ufs_spec.specs.RpmbResponses.{is_success}
 
 no_success : (result : ℕ) → (IsSuccess result → ⊥) → is_success result ≡ false

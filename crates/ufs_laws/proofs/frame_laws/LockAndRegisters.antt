@@ -1,14 +1,12 @@
 -- What the lock ends fills no register, and what it leaves fills what it did: its order shows in none.
-use Rattle.std.proofs.Common.{◌≡◌, ◌&&◌, ℕ, Bool, true, false, cond, if◌then◌else◌, nat_le, List, [], ◌∷◌, map, Option}
-use Rattle.std.proofs.Common.{Some, None, ap, refl, sym, ◌∙◌}
-use Rattle.std.specs.Prelude.{filter, fold}
-use Rattle.ufs_spec.proofs.Facts.{if_both}
-use Rattle.ufs_spec.specs.Exchanges.{Answering, Awaiting, Deed, Registers, RpmbRequest, Task, at_region, is_unfilled}
-use Rattle.ufs_spec.specs.Exchanges.{write_error}
-use Rattle.ufs_spec.specs.FrameRequests.{filled_by, filled_registers, result_now}
-use Rattle.ufs_spec.specs.Machine.{deed_locked, durable, fills, is_good_due, is_to_fill, lock_applied, short_locked}
-use Rattle.ufs_spec.specs.Machine.{task_locked}
-use Rattle.ufs_spec.specs.Refusals.{State, locked, plain_now}
+use Rattle.ufs_laws.proofs.Common.{Answering, Awaiting, Bool, Deed, List, None, Option, Registers, RpmbRequest, Some}
+use Rattle.ufs_laws.proofs.Common.{State, Task, [], ap, cond, deed_locked, durable, false, fills, fold, if_both}
+use Rattle.ufs_laws.proofs.Common.{if◌then◌else◌, is_good_due, is_to_fill, is_unfilled, lock_applied, locked, map}
+use Rattle.ufs_laws.proofs.Common.{nat_le, plain_now, refl, result_now, short_locked, sym, task_locked, true}
+use Rattle.ufs_laws.proofs.Common.{write_error, ℕ, ◌&&◌, ◌∙◌, ◌∷◌, ◌≡◌}
+use Rattle.std.specs.Prelude.{filter}
+use Rattle.ufs_spec.specs.Exchanges.{at_region}
+use Rattle.ufs_spec.specs.FrameRequests.{filled_by, filled_registers}
 use Rattle.ufs_spec.specs.Rpmb.{region_of}
 use Rattle.ufs_spec.specs.RpmbResponses.{filled_with}
 

@@ -1,31 +1,17 @@
 -- One request is open at a time, in three slots.
-use Rattle.std.proofs.Common.{◌||◌, ◌≡◌, ◌≢◌, ◌==◌, ◌&&◌, ◌+◌, ◌-◌, ◌%◌, ◌<◌, ℕ, zero, suc, Bool, true, false}
-use Rattle.std.proofs.Common.{not, nat_le, nat_lt, List, [], ◌∷◌, Option, Some, None, ap, ne_eqb, refl}
-use Rattle.std.proofs.Common.{map, ◌∙◌, arith}
-use Rattle.std.specs.Prelude.{fold, slice_get}
-use Rattle.std.specs.List.{list_any}
-use Rattle.std.proofs.lemmas.Bool.{le-ltb}
+use Rattle.ufs_laws.proofs.Common.{Bool, Busy, Cdb, Deed, ForFrames, Frame, Gathering, Key, List, None, Option, Pin}
+use Rattle.ufs_laws.proofs.Common.{Refused, Request, Results, RpmbOutcome, Some, State, Task, Translation, UnitSpec, []}
+use Rattle.ufs_laws.proofs.Common.{ap, area_key, arith, asks, begun, below, claimed_by, false, false_from_ne_true}
+use Rattle.ufs_laws.proofs.Common.{first_line, fold, frames_complete, free_slots, given_back, if_both, invalid_field}
+use Rattle.ufs_laws.proofs.Common.{le-ltb, leb-true, list_any, locked, map, mended, moved, nat_le, nat_lt, ne_eqb, not}
+use Rattle.ufs_laws.proofs.Common.{not_ready, numbers_of, or_left, or_right, out_of_range, outcome_in, reads_area, refl}
+use Rattle.ufs_laws.proofs.Common.{request_decided, same_Some, slice_get, suc, true, unit_numbers_of, zero, ℕ, ◌%◌}
+use Rattle.ufs_laws.proofs.Common.{◌&&◌, ◌+◌, ◌-◌, ◌<◌, ◌==◌, ◌||◌, ◌∙◌, ◌∷◌, ◌≡◌, ◌≢◌}
 use Rattle.ufs_laws.proofs.refusals.TableLines.{decides, either, is_there, leaves, once_mended}
-use Rattle.ufs_laws.specs.FrameLaws.{outcome_in}
-use Rattle.ufs_laws.specs.Table.{asks}
-use Rattle.ufs_spec.proofs.Facts.{false_from_ne_true, if_both, leb-true, or_left, or_right, same_Some}
-use Rattle.ufs_spec.specs.Changes.{given_back}
-use Rattle.ufs_spec.specs.Exchanges.{Busy, Deed, ForFrames, Gathering, Task, invalid_field, not_ready}
-use Rattle.ufs_spec.specs.Exchanges.{out_of_range}
-use Rattle.ufs_spec.specs.FrameRequests.{first_page, frames_complete, page_kept}
-use Rattle.ufs_spec.specs.FrameRequests.{pages_named, reads_area, request_decided}
-use Rattle.ufs_spec.specs.Frames.{Frame}
-use Rattle.ufs_spec.specs.Keys.{area_key, below}
-use Rattle.ufs_spec.specs.Machine.{begun, claimed_by}
-use Rattle.ufs_spec.specs.Moves.{Keep, moved}
-use Rattle.ufs_spec.specs.Refusals.{Request, State, first_line, is_crowded, is_frames, is_past, lines_for, locked}
-use Rattle.ufs_spec.specs.Refusals.{mended, numbers_of, sends_frames, unit_numbers_of}
+use Rattle.ufs_spec.specs.FrameRequests.{first_page, page_kept, pages_named}
+use Rattle.ufs_spec.specs.Moves.{Keep}
+use Rattle.ufs_spec.specs.Refusals.{is_crowded, is_frames, is_past, lines_for, sends_frames}
 use Rattle.ufs_spec.specs.Plain.{steps_of}
-use Rattle.ufs_spec.specs.Rpmb.{Refused, Results, RpmbOutcome}
-use Rattle.ufs_spec.specs.Translation.{Pin, Translation, free_slots}
-use Rattle.ufs_spec.specs.declared.configs.UnitSpec.{UnitSpec}
-use Rattle.ufs_spec.specs.declared.flash.Key.{Key}
-use Rattle.ufs_spec.specs.declared.scsi.Cdb.{Cdb}
 use Rattle.ufs_spec.specs.declared.scsi.Cdb.TheVariants as cdb
 
 -- ## Busy

@@ -1,14 +1,11 @@
 -- What the last data of a request, and SECURITY PROTOCOL IN, leave in the registers.
-use Rattle.std.proofs.Common.{◌≡◌, ◌≢◌, ◌==◌, ℕ, Bool, false, if◌then◌else◌, List, [], ◌∷◌, Option, Some}
-use Rattle.std.proofs.Common.{None, ap, ne_eqb, refl, ◌∙◌, inl, inr}
-use Rattle.ufs_laws.specs.FrameLaws.{IsKeyOrWrite, outcome_in}
-use Rattle.ufs_spec.proofs.Facts.{eqb-self, if_both, or_from}
-use Rattle.ufs_spec.specs.Commands.{Command}
-use Rattle.ufs_spec.specs.Exchanges.{Registers, Status, Task, at_region, empty_registers}
-use Rattle.ufs_spec.specs.FrameRequests.{frames_complete, reads_area, request_decided}
-use Rattle.ufs_spec.specs.Frames.{Frame}
-use Rattle.ufs_spec.specs.Refusals.{State}
-use Rattle.ufs_spec.specs.Rpmb.{Refused, Results, RpmbOutcome}
+use Rattle.ufs_laws.proofs.Common.{Bool, Command, Frame, List, None, Option, Refused, Registers, Results, RpmbOutcome}
+use Rattle.ufs_laws.proofs.Common.{Some, State, Status, Task, [], ap, false, frames_complete, if_both, if◌then◌else◌}
+use Rattle.ufs_laws.proofs.Common.{inl, inr, ne_eqb, or_from, outcome_in, reads_area, refl, request_decided, ℕ, ◌==◌}
+use Rattle.ufs_laws.proofs.Common.{◌∙◌, ◌∷◌, ◌≡◌, ◌≢◌}
+use Rattle.ufs_laws.specs.FrameLaws.{IsKeyOrWrite}
+use Rattle.ufs_spec.proofs.Facts.{eqb-self}
+use Rattle.ufs_spec.specs.Exchanges.{at_region, empty_registers}
 use Rattle.ufs_spec.specs.RpmbResponses.{emptied_by, has_result_register}
 
 -- ## Regions

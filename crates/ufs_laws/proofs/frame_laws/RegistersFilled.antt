@@ -1,24 +1,19 @@
 -- A request fills its register once, when its GOOD becomes due.
-use Rattle.std.proofs.Common.{◌≡◌, ◌≢◌, ◌⊎◌, ◌==◌, ◌&&◌, ◌++◌, ℕ, Bool, true, false, cond, if◌then◌else◌, List, [], ◌∷◌}
-use Rattle.std.proofs.Common.{Option}
-use Rattle.std.proofs.Common.{Some, None, ap, refl, ◌∙◌, inl, inr, map}
+use Rattle.ufs_laws.proofs.Common.{Answer, Bool, Call, Deed, Frame, List, Message, None, Option, Registers, RpmbRequest}
+use Rattle.ufs_laws.proofs.Common.{Short, Some, State, Task, [], ap, behind, cond, deed_after, false, filled, fills}
+use Rattle.ufs_laws.proofs.Common.{fold, if_both, if◌then◌else◌, inl, inr, is_good_due, is_short_of, is_to_fill}
+use Rattle.ufs_laws.proofs.Common.{is_unfilled, list_any, locked, map, moves_after, observe, or_parts, plain_now, refl}
+use Rattle.ufs_laws.proofs.Common.{replied, replied_by, result_now, short_replied, slice_get, tag_in, task_filled}
+use Rattle.ufs_laws.proofs.Common.{task_goes_on, task_of, true, with_moves, ℕ, ◌&&◌, ◌++◌, ◌==◌, ◌∙◌, ◌∷◌, ◌≡◌, ◌≢◌}
+use Rattle.ufs_laws.proofs.Common.{◌⊎◌}
 use Rattle.std.proofs.Math.Bool.{and-false}
-use Rattle.std.specs.Prelude.{filter, find, fold, slice_get}
-use Rattle.std.specs.List.{list_any}
+use Rattle.std.specs.Prelude.{filter, find}
 use Rattle.ufs_laws.proofs.frame_laws.RegistersEmptied.{at_another, at_own}
 use Rattle.ufs_laws.specs.FrameLaws.{IsKeyOrWrite}
-use Rattle.ufs_spec.proofs.Facts.{if_both, or_parts}
-use Rattle.ufs_spec.specs.Exchanges.{Deed, Registers, RpmbRequest, Short, Task, filled, is_short_of, is_unfilled}
-use Rattle.ufs_spec.specs.Exchanges.{task_of}
-use Rattle.ufs_spec.specs.FrameRequests.{filled_by, filled_registers, result_now}
-use Rattle.ufs_spec.specs.Frames.{Frame, frame_bytes}
-use Rattle.ufs_spec.specs.Machine.{Answer, Call, behind, deed_after, fills, is_good_due, is_to_fill, moves_after}
-use Rattle.ufs_spec.specs.Machine.{observe, replied, replied_by, short_replied, tag_in, task_filled, task_goes_on}
-use Rattle.ufs_spec.specs.Machine.{with_moves}
-use Rattle.ufs_spec.specs.Refusals.{State, locked, plain_now}
+use Rattle.ufs_spec.specs.FrameRequests.{filled_by, filled_registers}
+use Rattle.ufs_spec.specs.Frames.{frame_bytes}
 use Rattle.ufs_spec.specs.Rpmb.{Region, read_result, region_of}
 use Rattle.ufs_spec.specs.RpmbResponses.{filled_with, frames_of, has_result_register, response_frames}
-use Rattle.ufs_spec.specs.declared.messages.Message.{Message}
 
 -- ## When
 

@@ -1,18 +1,17 @@
 -- Which blocks of a die are erased, and in which order.
-use Rattle.std.proofs.Common.{◌≡◌, ◌⊎◌, ◌&&◌, ℕ, Bool, true, false, cond, List, [], ◌∷◌, find, not, Option, Some}
-use Rattle.std.proofs.Common.{None, option_map, if◌then◌else◌, inl, inr, refl, slice_get, subst, suc, sym, ◌∙◌, ⊎_elim}
-use Rattle.ufs_laws.specs.FreeBlocks.{IsVacantOn}
-use Rattle.ufs_spec.proofs.Facts.{and_parts, false≢true, none-some, not-true, same_Some}
+use Rattle.ufs_laws.proofs.Common.{Bad, BlockState, Bool, Cell, Closed, Erasing, Filling, Flight, Free, IsVacantOn}
+use Rattle.ufs_laws.proofs.Common.{List, MayTake, Name, None, Option, Place, Programming, Ready, Some, Spot, Stale}
+use Rattle.ufs_laws.proofs.Common.{Translation, Untouched, Vacancy, [], and_parts, cell_now, cond, false, false≢true}
+use Rattle.ufs_laws.proofs.Common.{find, flight_at, flight_for, flight_into, flight_or, has_room_for_groups}
+use Rattle.ufs_laws.proofs.Common.{if◌then◌else◌, inl, inr, is_ready, is_stale, is_untouched, is_vacant, lowest_vacant}
+use Rattle.ufs_laws.proofs.Common.{may_be_used, may_open_for_group, next_erase, next_place, none-some, not, option_map}
+use Rattle.ufs_laws.proofs.Common.{refl, same_Some, subst, suc, sym, true, waiting_name, waiting_step, ℕ, ⊎_elim, ◌&&◌}
+use Rattle.ufs_laws.proofs.Common.{◌∙◌, ◌∷◌, ◌≡◌, ◌⊎◌}
+use Rattle.std.proofs.Common.{slice_get}
+use Rattle.ufs_spec.proofs.Facts.{not-true}
 use Rattle.ufs_spec.proofs.Lists.{at_contained, contained_at, find_some}
-use Rattle.ufs_spec.specs.Cells.{Cell}
-use Rattle.ufs_spec.specs.Disk.{Bad, BlockState, Closed, Erasing, Filling, Flight, Free, Programming, Ready, Spot}
-use Rattle.ufs_spec.specs.Disk.{Stale, Untouched, Vacancy, place_in}
-use Rattle.ufs_spec.specs.Translation.{MayTake, Translation, cell_now, flight_at, flight_for, flight_into, flight_or}
-use Rattle.ufs_spec.specs.Translation.{has_room_for_groups, is_free, is_pinned, is_ready, is_stale, is_untouched}
-use Rattle.ufs_spec.specs.Translation.{is_vacant, lowest_vacant, may_be_used, may_open_for_group, next_erase}
-use Rattle.ufs_spec.specs.Translation.{next_place, spots_of, waiting_name, waiting_step}
-use Rattle.ufs_spec.specs.declared.flash.Place.{Place}
-use Rattle.ufs_spec.specs.declared.layer.Name.{Name}
+use Rattle.ufs_spec.specs.Disk.{place_in}
+use Rattle.ufs_spec.specs.Translation.{is_free, is_pinned, spots_of}
 
 -- ## Blocks that were looked for
 

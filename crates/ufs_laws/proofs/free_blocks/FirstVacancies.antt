@@ -1,18 +1,12 @@
 -- What is in blocks when a life begins, and what their dies are owed for it.
-use Rattle.std.proofs.Common.{◌≡◌, ◌≢◌, ℕ, Bool, Option, Some, None, refl, sym, ◌∙◌, option_map}
+use Rattle.ufs_laws.proofs.Common.{Array, Bool, Cells, Disk, Erasing, Flight, IsOpened, IsVacantOn, Mark, MayTake, None}
+use Rattle.ufs_laws.proofs.Common.{Nothing, Numbers, Option, Place, Ready, Some, Spot, Stale, State, Untouched, Vacancy}
+use Rattle.ufs_laws.proofs.Common.{flight_or, is_stale, lowest_vacant, next_flight, none-some, option_map, refl}
+use Rattle.ufs_laws.proofs.Common.{same_Some, spot_of, sym, ℕ, ◌∙◌, ◌≡◌, ◌≢◌}
 use Rattle.ufs_laws.proofs.free_blocks.ErasesInOrder.{stale_erase}
 use Rattle.ufs_laws.proofs.jobs.OneJob.{is_next}
 use Rattle.ufs_laws.proofs.new_dies.FirstLife.{no_flight, no_wants}
-use Rattle.ufs_laws.specs.FreeBlocks.{IsVacantOn}
-use Rattle.ufs_spec.proofs.Facts.{none-some, same_Some}
-use Rattle.ufs_spec.specs.Cells.{Array, Cells, Mark, Nothing}
-use Rattle.ufs_spec.specs.Disk.{Disk, Erasing, Flight, Ready, Spot, Stale, Untouched, Vacancy, spot_of}
-use Rattle.ufs_spec.specs.Lives.{IsOpened}
 use Rattle.ufs_spec.specs.Openings.{IsOpenedDisk, IsVacancyAt}
-use Rattle.ufs_spec.specs.Refusals.{State}
-use Rattle.ufs_spec.specs.Translation.{MayTake, flight_or, is_stale, lowest_vacant, next_flight}
-use Rattle.ufs_spec.specs.declared.configs.Numbers.{Numbers}
-use Rattle.ufs_spec.specs.declared.flash.Place.{Place}
 
 -- ## By cells
 

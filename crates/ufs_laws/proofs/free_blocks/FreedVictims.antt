@@ -1,12 +1,11 @@
 -- What becomes of a block once its plan's mark is finished, and of blocks that are erased or filled.
-use Rattle.std.proofs.Common.{◌≡◌, ◌≢◌, ℕ, Some, ap, refl, ◌∙◌}
+use Rattle.ufs_laws.proofs.Common.{Bad, BlockState, Cell, Closed, Disk, Filling, Free, Mark, MarkPage, Place}
+use Rattle.ufs_laws.proofs.Common.{Programming, Ready, Some, Spot, Stale, Translation, ap, erased, programmed, refl}
+use Rattle.ufs_laws.proofs.Common.{spot_of, ℕ, ◌∙◌, ◌≡◌, ◌≢◌}
 use Rattle.ufs_spec.proofs.Equalities.{spot_self}
-use Rattle.ufs_spec.specs.Cells.{Cell, Mark, MarkPage}
-use Rattle.ufs_spec.specs.Disk.{Bad, BlockState, Closed, Disk, Filling, Free, Programming, Ready, Spot, Stale, erased}
-use Rattle.ufs_spec.specs.Disk.{job_begun, programmed, spot_of}
+use Rattle.ufs_spec.specs.Disk.{job_begun}
 use Rattle.ufs_spec.specs.Moves.{freed_state, mark_written}
-use Rattle.ufs_spec.specs.Translation.{Plan, Translation}
-use Rattle.ufs_spec.specs.declared.flash.Place.{Place}
+use Rattle.ufs_spec.specs.Translation.{Plan}
 
 -- ## Erased and filled
 

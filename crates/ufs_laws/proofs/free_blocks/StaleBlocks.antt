@@ -1,14 +1,14 @@
 -- What waits for the erase of stale blocks: any step, and any other job but a read.
-use Rattle.std.proofs.Common.{◌≡◌, ◌&&◌, ℕ, Bool, true, false, Contains, is_none, is_some, not, Option, Some, None}
-use Rattle.std.proofs.Common.{[], ap, inl, inr, if◌then◌else◌, option_map, refl, sym, ◌∙◌}
+use Rattle.ufs_laws.proofs.Common.{Bool, Contains, Erasing, Flight, Free, IsVacantOn, MayTake, None, Option, Some, Spot}
+use Rattle.ufs_laws.proofs.Common.{Stale, Translation, [], any_here, ap, false, has_stale, if◌then◌else◌, inl, inr}
+use Rattle.ufs_laws.proofs.Common.{is_idle, is_none, is_stale, is_step_due, is_vacant, lowest_vacant, next_erase}
+use Rattle.ufs_laws.proofs.Common.{next_flight, none-some, not, option_map, refl, same_Some, spots, sym, true}
+use Rattle.ufs_laws.proofs.Common.{true≢false, wants_on, ℕ, ◌&&◌, ◌∙◌, ◌≡◌}
+use Rattle.std.proofs.Common.{is_some}
 use Rattle.ufs_laws.proofs.free_blocks.ErasesInOrder.{lowest_some, stale_erase}
 use Rattle.ufs_laws.proofs.jobs.OneJob.{is_next}
-use Rattle.ufs_laws.specs.FreeBlocks.{IsVacantOn}
-use Rattle.ufs_spec.proofs.Facts.{none-some, same_Some, true≢false}
-use Rattle.ufs_spec.proofs.Lists.{any_here, contained_at}
-use Rattle.ufs_spec.specs.Disk.{Erasing, Flight, Free, Spot, Stale}
-use Rattle.ufs_spec.specs.Translation.{MayTake, Order, Translation, has_stale, is_idle, is_stale, is_step_due}
-use Rattle.ufs_spec.specs.Translation.{is_vacant, lowest_vacant, next_erase, next_flight, next_order, spots, wants_on}
+use Rattle.ufs_spec.proofs.Lists.{contained_at}
+use Rattle.ufs_spec.specs.Translation.{Order, next_order}
 
 -- ## Steps
 

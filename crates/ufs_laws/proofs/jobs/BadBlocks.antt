@@ -1,21 +1,19 @@
 -- How many blocks are bad, and when that locks the device.
-use Rattle.std.proofs.Common.{◌≡◌, ◌≢◌, ◌⊎◌, ◌<◌, ◌≤◌, ◌+◌, ◌==◌, ◌&&◌, ◌∷◌, [], ℕ, zero, suc, Bool, true, false}
-use Rattle.std.proofs.Common.{cond, if◌then◌else◌, nat_lt, List, map, sum_by, inl, inr, ne_eqb, refl, sym, ap, ◌∙◌}
-use Rattle.std.proofs.Common.{arith}
+use Rattle.ufs_laws.proofs.Common.{Bad, BlockState, Bool, List, Numbers, Spot, Translation, [], ap, arith, below, cond}
+use Rattle.ufs_laws.proofs.Common.{false, flat_map, if◌then◌else◌, inl, inr, le-ltb, lt-ltb, map, nat_lt, ne_eqb}
+use Rattle.ufs_laws.proofs.Common.{or_from, or_left, or_right, refl, spots, suc, sym, true, zero, ℕ, ◌&&◌, ◌+◌, ◌<◌}
+use Rattle.ufs_laws.proofs.Common.{◌==◌, ◌∙◌, ◌∷◌, ◌≡◌, ◌≢◌, ◌≤◌, ◌⊎◌}
+use Rattle.std.proofs.Common.{sum_by}
 use Rattle.std.specs.Prelude.{count_by}
-use Rattle.std.specs.List.{flat_map}
-use Rattle.std.proofs.lemmas.Bool.{and_right, cases_eq, le-ltb, lt-ltb}
+use Rattle.std.proofs.lemmas.Bool.{and_right, cases_eq}
 use Rattle.std.proofs.lemmas.List.{map-append}
 use Rattle.std.proofs.lemmas.List.Sums.{sum_by-append, sum_by-cons}
 use Rattle.ufs_laws.proofs.plain_contents.ListParts.{joined_next}
 use Rattle.ufs_spec.proofs.Equalities.{spot_cases, spot_self}
-use Rattle.ufs_spec.proofs.Facts.{or_from, or_left, or_right}
-use Rattle.ufs_spec.specs.Disk.{Bad, BlockState, Spot, at_spot, same_spot}
-use Rattle.ufs_spec.specs.Keys.{below}
+use Rattle.ufs_spec.specs.Disk.{at_spot, same_spot}
 use Rattle.ufs_spec.specs.Ledger.{next_number}
 use Rattle.ufs_spec.specs.Pages.{greatest_number}
-use Rattle.ufs_spec.specs.Translation.{Translation, count_blocks, is_bad, is_locked, spots}
-use Rattle.ufs_spec.specs.declared.configs.Numbers.{Numbers}
+use Rattle.ufs_spec.specs.Translation.{count_blocks, is_bad, is_locked}
 
 -- ## The lock
 

@@ -1,25 +1,19 @@
 -- What a job's beginning and its end make of the jobs in flight.
-use Rattle.std.proofs.Common.{◌≡◌, ◌≢◌, ℕ, true, false, List, [], ◌∷◌, map, Option, Some, None, option_map, refl, sym}
-use Rattle.std.proofs.Common.{ap, ◌∙◌}
-use Rattle.std.proofs.Common.{eq-eqb, ne_eqb}
+use Rattle.ufs_laws.proofs.Common.{Allowed, Array, Done, Ending, Erasing, Flight, List, None, OfDone, OfTake, Option}
+use Rattle.ufs_laws.proofs.Common.{Programming, ReadState, Reading, Some, State, Take, Task, Translation, [], ap}
+use Rattle.ufs_laws.proofs.Common.{at_die, die_of_flight, ending_fits, eq-eqb, false, fills, if_both, is_unfilled}
+use Rattle.ufs_laws.proofs.Common.{job_of, lock_applied, locked, map, ne_eqb, observe, option_map, refl, sym, task_read}
+use Rattle.ufs_laws.proofs.Common.{true, ℕ, ◌∙◌, ◌∷◌, ◌≡◌, ◌≢◌}
 use Rattle.std.proofs.lemmas.Option.{none-some}
 use Rattle.ufs_laws.proofs.exchanges.DeedLaws.{read_keeps}
-use Rattle.ufs_spec.proofs.Facts.{if_both}
 use Rattle.ufs_laws.proofs.walk.SmallChanges.{first, observed}
 use Rattle.ufs_laws.proofs.jobs.SameJobs.{Does, small_same}
 use Rattle.ufs_laws.proofs.walk.Happenings.{ends_by, job_over}
 use Rattle.ufs_laws.proofs.exchanges.RequestsSettled.{settled_is}
 use Rattle.ufs_laws.proofs.walk.LayerEffects.{die_in, effect_flights, effect_of, freed_die, without_job}
-use Rattle.ufs_laws.specs.Flights.{die_of_flight}
 use Rattle.ufs_laws.specs.Requests.{HaveNoneToFill}
-use Rattle.ufs_spec.specs.Cells.{Array}
-use Rattle.ufs_spec.specs.Disk.{Flight, Erasing, Programming, Reading, at_die, job_of}
-use Rattle.ufs_spec.specs.Exchanges.{ReadState, Task, is_unfilled}
-use Rattle.ufs_spec.specs.Machine.{Allowed, Done, OfDone, Take, OfTake, ends_with, fills, given as given_job}
-use Rattle.ufs_spec.specs.Machine.{lock_applied, observe, task_read}
-use Rattle.ufs_spec.specs.Moves.{Ending, end_flight, ending_fits, job_ended}
-use Rattle.ufs_spec.specs.Refusals.{State, locked}
-use Rattle.ufs_spec.specs.Translation.{Translation}
+use Rattle.ufs_spec.specs.Machine.{ends_with, given as given_job}
+use Rattle.ufs_spec.specs.Moves.{end_flight, job_ended}
 
 -- The job that was given
 

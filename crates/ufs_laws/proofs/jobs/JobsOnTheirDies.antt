@@ -1,21 +1,16 @@
 -- Each job that a die may be given lies on it.
-use Rattle.std.proofs.Common.{◌≡◌, ℕ, Bool, true, false, cond, List, [], ◌∷◌, map, filter_map, find, Option, Some, None}
-use Rattle.std.proofs.Common.{option_map, if◌then◌else◌, refl, sym, ap, ◌∙◌, eqb-true}
+use Rattle.ufs_laws.proofs.Common.{BlockState, Bool, Cell, Erasing, Filling, Flight, List, MayTake, Name, None, Option}
+use Rattle.ufs_laws.proofs.Common.{Place, Programming, Reader, Reading, Some, Spot, Translation, Vacancy, Want, [], ap}
+use Rattle.ufs_laws.proofs.Common.{below, cell_now, cond, die_of_flight, false, find, flight_at, flight_for}
+use Rattle.ufs_laws.proofs.Common.{flight_into, flight_or, has_room_for_groups, if◌then◌else◌, is_ready, is_stale}
+use Rattle.ufs_laws.proofs.Common.{is_untouched, lowest_vacant, map, may_be_used, may_open_for_group, next_erase}
+use Rattle.ufs_laws.proofs.Common.{next_flight, next_place, option_map, refl, sym, true, waiting_name, waiting_step}
+use Rattle.ufs_laws.proofs.Common.{want_at, wants_on, ℕ, ◌∙◌, ◌∷◌, ◌≡◌}
+use Rattle.std.proofs.Common.{eqb-true, filter_map}
 use Rattle.std.specs.List.{cons_option}
 use Rattle.std.proofs.lemmas.List.Elements.{All-contains, filter_passes}
-use Rattle.ufs_laws.specs.Flights.{die_of_flight}
-use Rattle.ufs_spec.specs.Cells.{Cell}
-use Rattle.ufs_spec.specs.Disk.{BlockState, Filling, Flight, Erasing, Programming, Reading, Spot, Vacancy}
 use Rattle.ufs_spec.specs.Disk.{place_in}
-use Rattle.ufs_spec.specs.Keys.{below}
-use Rattle.ufs_spec.specs.Translation.{MayTake, Translation, Want, cell_now, first_of, flight_at, flight_for, is_of_die}
-use Rattle.ufs_spec.specs.Translation.{flight_into, flight_or, has_room_for_groups, is_ready, is_stale, is_untouched}
-use Rattle.ufs_spec.specs.Translation.{lowest_vacant, may_be_used, may_open_for_group, may_open_for_step, next_erase}
-use Rattle.ufs_spec.specs.Translation.{next_flight, next_in, next_place, waiting_name, waiting_step}
-use Rattle.ufs_spec.specs.Translation.{want_at, wants, wants_on}
-use Rattle.ufs_spec.specs.declared.flash.Place.{Place}
-use Rattle.ufs_spec.specs.declared.layer.Name.{Name}
-use Rattle.ufs_spec.specs.declared.layer.Reader.{Reader}
+use Rattle.ufs_spec.specs.Translation.{first_of, is_of_die, may_open_for_step, next_in, wants}
 
 -- Reads
 

@@ -1,27 +1,18 @@
 -- Every job in flight lies on its die, from the beginning of a life to its end.
-use Rattle.std.proofs.Common.{◌≡◌, ◌≢◌, ℕ, ◌==◌, Bool, true, false, cond, List, [], ◌∷◌, Option, Some, None, Result}
-use Rattle.std.proofs.Common.{option_map, refl, sym, ap, ◌∙◌, subst, ⊎_elim}
+use Rattle.ufs_laws.proofs.Common.{Allowed, Answer, Array, Bool, Call, Done, Erasing, Event, Flight, Heard, Host}
+use Rattle.ufs_laws.proofs.Common.{HostFault, IsOpened, Life, List, MayTake, Message, None, Numbers, OfDone, OfHost}
+use Rattle.ufs_laws.proofs.Common.{OfReply, OfTake, OfTurn, Option, Output, Programming, Reading, Reply, Result, Some}
+use Rattle.ufs_laws.proofs.Common.{Spot, State, Take, Turn, [], ap, at_die, cond, die_of_flight, false, job_of}
+use Rattle.ufs_laws.proofs.Common.{none-some, observe, option_map, refl, subst, sym, true, ℕ, ⊎_elim, ◌==◌, ◌∙◌, ◌∷◌}
+use Rattle.ufs_laws.proofs.Common.{◌≡◌, ◌≢◌}
 use Rattle.std.proofs.lemmas.Bool.Decides.{eqb_tells}
 use Rattle.ufs_laws.proofs.jobs.JobsInFlight.{at_other, jobs_left, over}
 use Rattle.ufs_laws.proofs.walk.SmallChanges.{first, job_over, observed}
-use Rattle.ufs_spec.proofs.Facts.{none-some}
 use Rattle.ufs_laws.proofs.jobs.JobsOnTheirDies.{job_here}
 use Rattle.ufs_laws.proofs.jobs.SameJobs.{Does, small_same, step_same}
-use Rattle.ufs_laws.specs.Flights.{JobsLieOnTheirDies, die_of_flight}
-use Rattle.ufs_spec.specs.Cells.{Array}
-use Rattle.ufs_spec.specs.Disk.{Erasing, Flight, Programming, Reading, Spot, at_die, job_of}
-use Rattle.ufs_spec.specs.Lives.{IsOpened, Life}
-use Rattle.ufs_spec.specs.Machine.{Allowed, Answer, Reply, Call, Done, OfDone, Take, OfTake, Heard, OfHost, Host}
-use Rattle.ufs_spec.specs.Machine.{OfReply, Turn, OfTurn, observe}
-use Rattle.ufs_spec.specs.Refusals.{State}
-use Rattle.ufs_spec.specs.Translation.{MayTake}
-use Rattle.ufs_spec.specs.declared.configs.Numbers.{Numbers}
-use Rattle.ufs_spec.specs.declared.events.Event.{Event}
-use Rattle.ufs_spec.specs.declared.events.Output.{Output}
+use Rattle.ufs_laws.specs.Flights.{JobsLieOnTheirDies}
 use Rattle.ufs_spec.specs.declared.flash.Job.{Job}
 use Rattle.ufs_spec.specs.declared.flash.Job.TheVariants as job
-use Rattle.ufs_spec.specs.declared.faults.HostFault.{HostFault}
-use Rattle.ufs_spec.specs.declared.messages.Message.{Message}
 
 abbrev Stay : (ℕ → Option Flight) → Type 0
 Stay flights = (die : ℕ) (flight : Flight) → flights die ≡ Some flight → die_of_flight flight ≡ die

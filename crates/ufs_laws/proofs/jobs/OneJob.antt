@@ -1,17 +1,13 @@
 -- Jobs that dies may be given: one is there or none is owed, where it lies, and when it is one.
-use Rattle.std.proofs.Common.{◌≡◌, ◌⊎◌, ℕ, ◌<◌, Bool, true, false, List, [], ◌∷◌, Contains, nat_lt, is_none, Option}
-use Rattle.std.proofs.Common.{Some, None, option_map, if◌then◌else◌, refl, sym, ◌∙◌, subst, inl, inr}
-use Rattle.std.proofs.Common.{arith, ltb-true, true≢false}
-use Rattle.ufs_spec.specs.Cells.{Cell}
-use Rattle.ufs_spec.specs.Disk.{Flight, Erasing, Reading, Spot}
-use Rattle.ufs_spec.specs.Translation.{IsOwed, MayTake, Translation, Want, cell_now, flight_at, flight_for}
-use Rattle.ufs_spec.specs.Translation.{flight_into, flight_or, has_room_for_groups, is_idle, is_stale}
-use Rattle.ufs_spec.specs.Translation.{may_open_for_group, next_erase, next_flight, next_place}
-use Rattle.ufs_spec.specs.Translation.{want_at, wants_on}
-use Rattle.ufs_spec.specs.declared.flash.Place.{Place}
-use Rattle.ufs_spec.specs.declared.layer.Name.{Name}
-use Rattle.ufs_spec.specs.declared.layer.Reader.{Reader}
-use Rattle.ufs_spec.proofs.Facts.{and_parts, none_is}
+use Rattle.ufs_laws.proofs.Common.{Bool, Cell, Contains, Erasing, Flight, List, MayTake, Name, None, Option, Place}
+use Rattle.ufs_laws.proofs.Common.{Reader, Reading, Some, Spot, Translation, Want, [], and_parts, arith, cell_now}
+use Rattle.ufs_laws.proofs.Common.{false, flight_at, flight_for, flight_into, flight_or, has_room_for_groups}
+use Rattle.ufs_laws.proofs.Common.{if◌then◌else◌, inl, inr, is_idle, is_none, is_stale, may_open_for_group, nat_lt}
+use Rattle.ufs_laws.proofs.Common.{next_erase, next_flight, next_place, option_map, refl, subst, sym, true, want_at}
+use Rattle.ufs_laws.proofs.Common.{wants_on, ℕ, ◌<◌, ◌∙◌, ◌∷◌, ◌≡◌, ◌⊎◌}
+use Rattle.std.proofs.Common.{ltb-true, true≢false}
+use Rattle.ufs_spec.specs.Translation.{IsOwed}
+use Rattle.ufs_spec.proofs.Facts.{none_is}
 
 -- Tests
 

@@ -1,15 +1,11 @@
 -- Moves and messages that leave to each die the job that it does: all but the beginning and the end of a job.
 use Rattle.ufs_laws.proofs.walk.SmallChanges.{IsQuiet, Small, layer_kept, hears_small, replied_small}
-use Rattle.std.proofs.Common.{◌≡◌, ℕ, Bool, [], ◌∷◌, Option, Some, None, option_map, ap, refl, ◌∙◌}
-use Rattle.ufs_spec.specs.Disk.{Erasing, Flight, Programming, Reading, job_of}
-use Rattle.ufs_spec.specs.Machine.{with_moves, Heard, hears, replied}
-use Rattle.ufs_spec.specs.Moves.{EndJob, LetGo, LetGoAll, Move, GiveJob, TakeStep, is_for, is_for_task, moved}
-use Rattle.ufs_spec.specs.Moves.{without_reader}
-use Rattle.ufs_spec.specs.Refusals.{State}
-use Rattle.ufs_spec.specs.Translation.{Translation}
+use Rattle.ufs_laws.proofs.Common.{Bool, EndJob, Erasing, Flight, GiveJob, Heard, Message, Move, None, Option}
+use Rattle.ufs_laws.proofs.Common.{Programming, Reader, Reading, Some, State, TakeStep, Translation, [], ap, job_of}
+use Rattle.ufs_laws.proofs.Common.{moved, option_map, refl, replied, with_moves, ℕ, ◌∙◌, ◌∷◌, ◌≡◌}
+use Rattle.ufs_spec.specs.Machine.{hears}
+use Rattle.ufs_spec.specs.Moves.{LetGo, LetGoAll, is_for, is_for_task, without_reader}
 use Rattle.ufs_spec.specs.declared.flash.Job.{Job}
-use Rattle.ufs_spec.specs.declared.layer.Reader.{Reader}
-use Rattle.ufs_spec.specs.declared.messages.Message.{Message}
 use Rattle.ufs_laws.proofs.walk.LayerEffects.{turn_only}
 
 -- Moves

@@ -1,13 +1,7 @@
 -- What only grows in a life: the accepted commands at their end, and how many of them are acknowledged as durable.
-use Rattle.std.proofs.Common.{◌≡◌, ◌≤◌, List, [], ◌∷◌, ◌++◌, refl, sym, ◌∙◌, ap, arith}
-use Rattle.std.proofs.lemmas.List.{append-nil, append_assoc}
-use Rattle.ufs_spec.specs.Cells.{Array}
-use Rattle.ufs_spec.specs.Commands.{Command}
-use Rattle.ufs_spec.specs.Lives.{held}
-use Rattle.ufs_spec.specs.Machine.{Answer, Call, behind, observe, with_moves}
-use Rattle.ufs_spec.specs.Moves.{EndJob, Move, TakeStep, moved}
-use Rattle.ufs_spec.specs.Refusals.{State}
-use Rattle.ufs_spec.specs.Translation.{Translation}
+use Rattle.ufs_laws.proofs.Common.{Answer, Array, Call, Command, EndJob, List, Move, State, TakeStep, Translation, []}
+use Rattle.ufs_laws.proofs.Common.{ap, append-nil, append_assoc, arith, behind, held, moved, observe, refl, sym}
+use Rattle.ufs_laws.proofs.Common.{with_moves, ◌++◌, ◌∙◌, ◌∷◌, ◌≡◌, ◌≤◌}
 use Rattle.ufs_laws.proofs.walk.SmallChanges.{Accepts, Change, IsKept, IsSmall, Moves, Small, call_kept, changed, kept}
 use Rattle.ufs_laws.proofs.walk.LayerEffects.{Effect, NoEffect, ended, turned_by, with_effect}
 

@@ -1,22 +1,15 @@
 -- Each event that is a call leads somewhere.
-use Rattle.std.proofs.Common.{◌≡◌, ◌⊎◌, ℕ, true, Option, Some, None, refl, sym, subst, ⊎_elim}
+use Rattle.ufs_laws.proofs.Common.{Allowed, Answer, Array, Call, Done, Due, Ending, Event, Flight, Host, IsCall}
+use Rattle.ufs_laws.proofs.Common.{IsFinish, Leads, MayTake, Message, None, OfDone, OfHost, OfReply, OfTake, OfTurn}
+use Rattle.ufs_laws.proofs.Common.{Option, Output, ReadWrong, Reading, Reply, Some, State, Take, Turn, WentWrong}
+use Rattle.ufs_laws.proofs.Common.{ending_fits, is_step_due, job_of, observe, refl, spelling, subst, sym, true, ℕ}
+use Rattle.ufs_laws.proofs.Common.{⊎_elim, ◌≡◌, ◌⊎◌}
 use Rattle.ufs_laws.proofs.jobs.OneJob.{given}
 use Rattle.ufs_laws.proofs.answers.RightAnswers.{heard, reply_due}
-use Rattle.ufs_spec.specs.Cells.{Array}
-use Rattle.ufs_spec.specs.Disk.{Flight, Reading, job_of}
-use Rattle.ufs_spec.specs.Lives.{IsCall, IsFailure, IsFinish, IsShown, Leads, ended_well}
-use Rattle.ufs_spec.specs.Machine.{Allowed, Answer, Reply, Call, Due, Done, OfDone, Take, OfTake, OfHost, Host, OfReply}
-use Rattle.ufs_spec.specs.Machine.{Turn, OfTurn, observe}
-use Rattle.ufs_spec.specs.Messages.{spelling}
-use Rattle.ufs_spec.specs.Moves.{Ending, ReadWrong, WentWrong, ending_fits}
-use Rattle.ufs_spec.specs.Refusals.{State}
-use Rattle.ufs_spec.specs.Translation.{MayTake, is_step_due}
-use Rattle.ufs_spec.specs.declared.events.Event.{Event}
+use Rattle.ufs_spec.specs.Lives.{IsFailure, IsShown, ended_well}
 use Rattle.ufs_spec.specs.declared.events.Event.TheVariants as event
 use Rattle.ufs_spec.specs.declared.events.Leftover.{Leftover}
-use Rattle.ufs_spec.specs.declared.events.Output.{Output}
 use Rattle.ufs_spec.specs.declared.events.Output.TheVariants as output
-use Rattle.ufs_spec.specs.declared.messages.Message.{Message}
 
 abbrev Somewhere : State → Event → Type 0
 Somewhere s e = (o : Output) × (t : State) × Leads s e o t

@@ -1,17 +1,13 @@
 -- Along a life what is held stays held, and accepted commands keep their places; what waits for commands is held
 -- once its answer was handed out.
-use Rattle.std.proofs.Common.{◌≡◌, ℕ, ◌≤◌, List, [], ◌∷◌, ◌++◌, Option, Some, None, max, sym, ◌∙◌, ap, arith}
+use Rattle.ufs_laws.proofs.Common.{Awaiting, Command, Event, Life, List, Message, None, OfReply, Option, Output, Reply}
+use Rattle.ufs_laws.proofs.Common.{Short, Some, State, Task, [], ap, append-nil, append_assoc, arith, fills, held}
+use Rattle.ufs_laws.proofs.Common.{is_short_of, lock_applied, observe, replied_by, short_replied, sym, tag_in, task_of}
+use Rattle.ufs_laws.proofs.Common.{with_moves, ℕ, ◌++◌, ◌∙◌, ◌∷◌, ◌≡◌, ◌≤◌}
+use Rattle.std.proofs.Common.{max}
 use Rattle.std.specs.Prelude.{find}
-use Rattle.std.proofs.lemmas.List.{append-nil, append_assoc}
-use Rattle.ufs_spec.specs.Commands.{Command}
-use Rattle.ufs_spec.specs.Exchanges.{Awaiting, Short, Task, is_short_of, task_of, without_short}
-use Rattle.ufs_spec.specs.Lives.{Life, held}
-use Rattle.ufs_spec.specs.Machine.{Reply, OfReply, fills, lock_applied, observe, replied_by, short_replied, tag_in}
-use Rattle.ufs_spec.specs.Machine.{task_replied, acknowledges, with_moves}
-use Rattle.ufs_spec.specs.Refusals.{State}
-use Rattle.ufs_spec.specs.declared.events.Event.{Event}
-use Rattle.ufs_spec.specs.declared.events.Output.{Output}
-use Rattle.ufs_spec.specs.declared.messages.Message.{Message}
+use Rattle.ufs_spec.specs.Exchanges.{without_short}
+use Rattle.ufs_spec.specs.Machine.{acknowledges, task_replied}
 use Rattle.ufs_laws.proofs.walk.SmallChanges.{settled_small}
 use Rattle.ufs_laws.proofs.lives.HeldByAnswers.{handed}
 use Rattle.ufs_laws.proofs.lives.AcceptedAndHeldGrow.{Grows, accepted_grows, held_stays, small_held}

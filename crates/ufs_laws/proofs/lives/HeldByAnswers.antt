@@ -1,14 +1,11 @@
 -- What is held once an answer is handed out.
-use Rattle.std.proofs.Common.{◌≡◌, ◌+◌, ℕ, Bool, true, false, if◌then◌else◌, List, Some, ap, length, max, not, refl, subst}
-use Rattle.std.proofs.Common.{sym}
+use Rattle.ufs_laws.proofs.Common.{Answering, Awaiting, Bool, Cdb, Deed, Good, List, Request, Some, State, Task}
+use Rattle.ufs_laws.proofs.Common.{accepts, ap, blocks_in, cond-false, deed_after, false, held, if◌then◌else◌, length}
+use Rattle.ufs_laws.proofs.Common.{locked, mended, moves_after, not, refl, set_deed, subst, sym, task_goes_on, true}
+use Rattle.ufs_laws.proofs.Common.{with_moves, with_task, ℕ, ◌+◌, ◌≡◌}
+use Rattle.std.proofs.Common.{max}
 use Rattle.ufs_spec.specs.Commands as command
-use Rattle.ufs_spec.specs.Exchanges.{Answering, Awaiting, Deed, Good, Task}
-use Rattle.ufs_spec.specs.Lives.{held}
-use Rattle.ufs_spec.specs.Machine.{accepts, blocks_in, deed_after, flush_begun, moves_after, set_deed, task_goes_on, task_replied}
-use Rattle.ufs_spec.specs.Machine.{with_moves, with_task, write_complete}
-use Rattle.ufs_spec.specs.Refusals.{Request, State, locked, mended}
-use Rattle.ufs_spec.specs.declared.scsi.Cdb.{Cdb}
-use Rattle.ufs_spec.proofs.Facts.{cond-false}
+use Rattle.ufs_spec.specs.Machine.{flush_begun, task_replied, write_complete}
 
 pub forced : (s : State) (task : Task) (unit address blocks : ℕ) (bytes : List ℕ) → locked s ≡ false →
     write_complete s task unit address blocks true bytes ≡ set_deed

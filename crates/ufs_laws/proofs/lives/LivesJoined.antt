@@ -1,9 +1,6 @@
 -- A life begins with its beginning: it is cut at any of its events, and two lives joined are one.
-use Rattle.std.proofs.Common.{◌≡◌, suc, List, [], ◌∷◌, ◌++◌, length, refl, ap, subst}
-use Rattle.ufs_spec.specs.Lives.{Leads, Life}
-use Rattle.ufs_spec.specs.Refusals.{State}
-use Rattle.ufs_spec.specs.declared.events.Event.{Event}
-use Rattle.ufs_spec.specs.declared.events.Output.{Output}
+use Rattle.ufs_laws.proofs.Common.{Event, Leads, Life, List, Output, State, [], ap, length, refl, subst, suc, ◌++◌, ◌∷◌}
+use Rattle.ufs_laws.proofs.Common.{◌≡◌}
 
 -- each event shows one output
 pub life_length : (s : State) (es : List Event) (os : List Output) (t : State) → Life s es os t → length os ≡ length es

@@ -1,7 +1,11 @@
 -- In the first life of new dies each die with a block that is not bad is given an erase behind the first step.
-use Rattle.std.proofs.Common.{◌≡◌, ℕ, ◌<◌, Bool, true, false, List, [], ◌∷◌, find, filter_map, map, Some, None, refl}
-use Rattle.std.proofs.Common.{is_some, not, sym, ap, ◌∙◌, ◌||◌, subst}
-use Rattle.std.proofs.lemmas.Option.{slice_get-map}
+use Rattle.ufs_laws.proofs.Common.{Array, Bool, Erasing, IsOpened, List, MayTake, None, Numbers, OfTurn, Some, Spot}
+use Rattle.ufs_laws.proofs.Common.{State, TakeStep, Translation, Turn, [], ap, below, below_at, false, false≢true, find}
+use Rattle.ufs_laws.proofs.Common.{has_room_for_groups, is_ready, is_stale, is_untouched, lowest_vacant, map}
+use Rattle.ufs_laws.proofs.Common.{may_be_used, next_flight, next_place, none_passes, not, observe, or_right, refl}
+use Rattle.ufs_laws.proofs.Common.{slice_get-map, subst, sym, true, waiting_step, with_moves, ℕ, ◌<◌, ◌||◌, ◌∙◌, ◌∷◌}
+use Rattle.ufs_laws.proofs.Common.{◌≡◌}
+use Rattle.std.proofs.Common.{filter_map, is_some}
 use Rattle.std.specs.Prelude.{option_map}
 use Rattle.ufs_laws.proofs.array_cells.EmptyCells.{fresh_block}
 use Rattle.ufs_laws.proofs.jobs.JobsInFlight.{told_layer}
@@ -10,20 +14,10 @@ use Rattle.ufs_laws.proofs.exchanges.RequestsSettled.{settled_is}
 use Rattle.ufs_laws.proofs.new_dies.NewDeviceState.{Open, first_is, first_layer, first_state, no_stale, none_ready}
 use Rattle.ufs_laws.proofs.new_dies.NewDeviceState.{none_stale, open_in}
 use Rattle.ufs_laws.proofs.array_cells.StandsForSomething.{AllBlank}
-use Rattle.ufs_spec.proofs.Facts.{false≢true, lt-ltb, or_right}
-use Rattle.ufs_spec.proofs.Lists.{below_at, find_some, none_passes}
-use Rattle.ufs_spec.specs.Cells.{Array}
-use Rattle.ufs_spec.specs.Disk.{Erasing, Spot}
-use Rattle.ufs_spec.specs.Keys.{below}
-use Rattle.ufs_spec.specs.Lives.{IsOpened}
-use Rattle.ufs_spec.specs.Machine.{Turn, OfTurn, observe, with_moves}
-use Rattle.ufs_spec.specs.Moves.{TakeStep}
-use Rattle.ufs_spec.specs.Refusals.{State}
-use Rattle.ufs_spec.specs.Translation.{MarkStep, MayTake, Translation, has_open_block, has_room_for_groups}
-use Rattle.ufs_spec.specs.Translation.{is_ready, is_stale, is_untouched, lowest_vacant, mark_ordered, may_be_used}
-use Rattle.ufs_spec.specs.Translation.{may_open_for_step, next_flight, next_in, next_place, step_cell, turned}
-use Rattle.ufs_spec.specs.Translation.{waiting_step}
-use Rattle.ufs_spec.specs.declared.configs.Numbers.{Numbers}
+use Rattle.ufs_spec.proofs.Facts.{lt-ltb}
+use Rattle.ufs_spec.proofs.Lists.{find_some}
+use Rattle.ufs_spec.specs.Translation.{MarkStep, has_open_block, mark_ordered, may_open_for_step, next_in, step_cell}
+use Rattle.ufs_spec.specs.Translation.{turned}
 
 -- no block of new dies is being filled
 none_filling : (bad : Spot → Bool) (die : ℕ) (blocks : List ℕ) →

@@ -1,6 +1,9 @@
 -- The first life of new dies: it begins, and it begins with a mark to be programmed and nothing else to do.
 pub use Rattle.ufs_laws.proofs.new_dies.NewDeviceState.{none_there}
-use Rattle.std.proofs.Common.{◌≡◌, ◌∙◌, ℕ, Bool, true, false, [], None, refl, ap, inr, subst, sym}
+use Rattle.ufs_laws.proofs.Common.{Array, BlockState, Bool, Due, IsOpened, MayTake, Message, None, Nothing, Numbers}
+use Rattle.ufs_laws.proofs.Common.{Place, Spot, State, Translation, [], ap, content, false, flight_for, inr}
+use Rattle.ufs_laws.proofs.Common.{is_step_due, mended, next_flight, refl, subst, sym, true, waiting_name, waiting_step}
+use Rattle.ufs_laws.proofs.Common.{wants_on, ℕ, ◌∙◌, ◌≡◌}
 use Rattle.ufs_laws.proofs.array_cells.EmptyCells as cells
 use Rattle.ufs_laws.proofs.plain_contents.NewDevice.{new_plain, new_zeros}
 use Rattle.ufs_laws.proofs.new_dies.NewDeviceState.{Open, first_disk, first_is, first_layer, first_state, new_ledger}
@@ -12,19 +15,8 @@ use Rattle.ufs_laws.proofs.array_cells.StandsForSomething.{AllBlank, empty, new_
 use Rattle.ufs_laws.proofs.array_cells.StandsForSomething.{shows_nothing}
 use Rattle.ufs_laws.proofs.plain_contents.PlainFromContents.{same_contents}
 use Rattle.ufs_spec.proofs.PlainFacts.{new_shape}
-use Rattle.ufs_spec.specs.Cells.{Array, Nothing}
-use Rattle.ufs_spec.specs.Disk.{BlockState, Spot}
-use Rattle.ufs_spec.specs.Keys.{content}
-use Rattle.ufs_spec.specs.Lives.{IsOpened}
-use Rattle.ufs_spec.specs.Machine.{Due}
 use Rattle.ufs_spec.specs.Openings.{IsOpenedDisk, IsOpenedLedger}
 use Rattle.ufs_spec.specs.Plain.{zero as zero_state}
-use Rattle.ufs_spec.specs.Refusals.{State, mended}
-use Rattle.ufs_spec.specs.Translation.{MayTake, Translation, flight_for, is_step_due, next_flight, waiting_name}
-use Rattle.ufs_spec.specs.Translation.{waiting_step, wants_on}
-use Rattle.ufs_spec.specs.declared.configs.Numbers.{Numbers}
-use Rattle.ufs_spec.specs.declared.flash.Place.{Place}
-use Rattle.ufs_spec.specs.declared.messages.Message.{Message}
 
 -- It begins
 

@@ -1,11 +1,9 @@
 -- There is a device that was opened over new dies.
-use Rattle.std.proofs.Common.{◌≡◌, true, false, ap, refl}
+use Rattle.ufs_laws.proofs.Common.{IsIdle, IsNew, State, ap, false, locked, mended, refl, row, true, ◌≡◌}
 use Rattle.ufs_laws.proofs.new_dies.FirstLife.{opens_new}
 use Rattle.ufs_laws.proofs.new_dies.NewDeviceState.{first_is, open_in}
 use Rattle.ufs_laws.proofs.worked_run.RunStates.{marked}
-use Rattle.ufs_laws.specs.Runs.{IsIdle, IsNew, row}
 use Rattle.ufs_spec.specs.Dies.{blank_page}
-use Rattle.ufs_spec.specs.Refusals.{State, locked, mended}
 
 pub new_opens : (s : State) × IsNew s
 new_opens =

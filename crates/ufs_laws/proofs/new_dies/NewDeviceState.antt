@@ -1,31 +1,18 @@
 -- What a device is that was opened over new dies: all of it is known, but for the arrays, the base, and what its ledger
 -- says of keys.
-use Rattle.std.proofs.Common.{◌≡◌, ◌&&◌, ℕ, suc, Bool, true, false, List, [], ◌∷◌, find, Option, None, ap, ◌∙◌}
-use Rattle.std.proofs.Common.{refl, subst, sym}
+use Rattle.ufs_laws.proofs.Common.{Array, Bool, Contents, Disk, IsCell, IsNew, IsOpened, Key, Ledger, List, Mending}
+use Rattle.ufs_laws.proofs.Common.{Name, None, Nothing, Numbers, Option, Place, Plain, Spot, State, Translation}
+use Rattle.ufs_laws.proofs.Common.{Unmarked, Untouched, Work, [], ap, false, false≢true, fence_in, find, has_stale}
+use Rattle.ufs_laws.proofs.Common.{is_ready, is_stale, is_vacant, lowest_vacant, may_be_used, none_passes, refl, row}
+use Rattle.ufs_laws.proofs.Common.{spots, subst, suc, sym, true, ℕ, ◌&&◌, ◌∙◌, ◌∷◌, ◌≡◌}
 use Rattle.std.proofs.Math.Bool.{and-false}
-use Rattle.ufs_spec.proofs.Facts.{false≢true}
-use Rattle.ufs_spec.proofs.Lists.{none_passes}
 use Rattle.ufs_laws.proofs.pages.BlankPages.{blank_is_nothing}
 use Rattle.ufs_laws.proofs.array_cells.EmptyCells as cells
 use Rattle.ufs_laws.proofs.array_cells.EmptyCells.{fresh_block}
 use Rattle.ufs_laws.proofs.array_cells.StandsForSomething.{AllBlank}
-use Rattle.ufs_laws.specs.Runs.{IsNew, row}
-use Rattle.ufs_spec.specs.Cells.{Array, IsCell, Nothing}
-use Rattle.ufs_spec.specs.Disk.{Disk, Spot, Untouched}
 use Rattle.ufs_spec.specs.Exchanges.{all_empty}
-use Rattle.ufs_spec.specs.Keys.{Contents}
-use Rattle.ufs_spec.specs.Kept.{fence_in}
-use Rattle.ufs_spec.specs.Ledger.{Ledger}
-use Rattle.ufs_spec.specs.Lives.{IsOpened}
-use Rattle.ufs_spec.specs.Openings.{IsMendingAt, IsGreatestSeen, lost_from, number_of}
-use Rattle.ufs_spec.specs.Plain.{Plain}
-use Rattle.ufs_spec.specs.Refusals.{State}
-use Rattle.ufs_spec.specs.Translation.{Mending, Translation, Unmarked, Work, has_stale, is_free, is_ready, is_stale}
-use Rattle.ufs_spec.specs.Translation.{is_vacant, lowest_vacant, may_be_used, spots, spots_of}
-use Rattle.ufs_spec.specs.declared.configs.Numbers.{Numbers}
-use Rattle.ufs_spec.specs.declared.flash.Key.{Key}
-use Rattle.ufs_spec.specs.declared.flash.Place.{Place}
-use Rattle.ufs_spec.specs.declared.layer.Name.{Name}
+use Rattle.ufs_spec.specs.Openings.{IsGreatestSeen, IsMendingAt, lost_from, number_of}
+use Rattle.ufs_spec.specs.Translation.{is_free, spots_of}
 use Rattle.ufs_spec.specs.declared.volatile.TheConstants.Volatile.{NEW}
 
 -- what a life begins with that the numbers do not say

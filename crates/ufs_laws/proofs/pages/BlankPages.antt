@@ -1,11 +1,8 @@
 -- A blank page is nothing, and a block of zeros is the settings page of a new device.
-use Rattle.std.proofs.Common.{◌≡◌, ℕ, false, List, get_or, inl, inr, refl, sym, take, ap, arith}
-use Rattle.ufs_spec.specs.Cells.{Cell, GroupPage, IsCell, MarkPage, Nothing, Opens, mark_tag}
+use Rattle.ufs_laws.proofs.Common.{Cell, GroupPage, IsCell, IsFrontOf, IsSettingsBody, List, MarkPage, Nothing, Opens}
+use Rattle.ufs_laws.proofs.Common.{Tag, ap, arith, false, get_or, inl, inr, mark_tag, refl, sym, take, ℕ, ◌≡◌}
 use Rattle.ufs_spec.specs.Dies.{blank_page}
-use Rattle.ufs_spec.specs.Keys.{IsSettingsBody}
-use Rattle.ufs_spec.specs.Pages.{IsFrontOf}
 use Rattle.ufs_spec.specs.Plain.{zero_block}
-use Rattle.ufs_spec.specs.declared.flash.Tag.{Tag}
 use Rattle.ufs_laws.proofs.pages.SettingsBodies.{none_in_ranges, none_said, zero_settings}
 
 -- Blank pages

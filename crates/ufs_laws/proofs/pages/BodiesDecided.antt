@@ -1,15 +1,10 @@
 -- Whether a body is that of a settings page, or of a mark.
-use Rattle.std.proofs.Common.{◌≡◌, ℕ, ◌<◌, ◌^◌, ◌==◌, List, Option, length, sym, subst, slice_index}
-use Rattle.std.proofs.Math.Decide.{dec_le, dec_lt, map_dec, ℕ_discrete}
-use Rattle.ufs_spec.specs.Cells.{IsFence, IsMarkBody, NumbersFit, UnitFits}
-use Rattle.ufs_spec.specs.Keys.{AreSettings, IsKeyAndCounter, IsSettingsBody, said_in, settings_bytes}
-use Rattle.ufs_spec.specs.Messages.{AreBytes}
+use Rattle.ufs_laws.proofs.Common.{AreBytes, AreSettings, Fence, IsKeyAndCounter, IsMarkBody, IsSettingsBody}
+use Rattle.ufs_laws.proofs.Common.{KeyAndCounter, List, Numbers, Option, UnitSpec, dec_le, dec_lt, length, map_dec}
+use Rattle.ufs_laws.proofs.Common.{regions, said_in, slice_index, subst, sym, ℕ, ℕ_discrete, ◌<◌, ◌==◌, ◌^◌, ◌≡◌}
+use Rattle.ufs_spec.specs.Cells.{IsFence, NumbersFit, UnitFits}
+use Rattle.ufs_spec.specs.Keys.{settings_bytes}
 use Rattle.ufs_spec.specs.Pages.{mark_bytes}
-use Rattle.ufs_spec.specs.Plain.{regions}
-use Rattle.ufs_spec.specs.declared.configs.Numbers.{Numbers}
-use Rattle.ufs_spec.specs.declared.configs.UnitSpec.{UnitSpec}
-use Rattle.ufs_spec.specs.declared.flash.Fence.{Fence}
-use Rattle.ufs_spec.specs.declared.flash.KeyAndCounter.{KeyAndCounter}
 use Rattle.ufs_laws.proofs.deciding.Connectives.{are_bytes, dec_all, dec_and, dec_some, same_bytes}
 use Rattle.ufs_laws.proofs.pages.MarkBodies.{fence_in, fence_of_mark, numbers_in, numbers_of_mark}
 use Rattle.ufs_laws.proofs.pages.SettingsBodies.{ranges_read, written_again}

@@ -1,18 +1,14 @@
 -- Lists of bytes, and blocks.
-use Rattle.std.proofs.Common.{◌≡◌, ℕ, zero, suc, ◌+◌, ◌-◌, ◌*◌, ◌/◌, ◌<◌, ◌≤◌, List, [], ◌∷◌, ◌++◌, length, take, drop}
-use Rattle.std.proofs.Common.{replicate, refl, ap, ◌∙◌, inl, inr, subst, sym, arith}
+use Rattle.ufs_laws.proofs.Common.{AreBytes, IsBlock, List, Numbers, [], ap, area_page, arith, below, cases_lt, drop}
+use Rattle.ufs_laws.proofs.Common.{flat_map, get_or-append_right, get_or-replicate, get_or-take, get_or_append_left}
+use Rattle.ufs_laws.proofs.Common.{inl, inr, length, length-append, length-drop, length-replicate, length-take}
+use Rattle.ufs_laws.proofs.Common.{length-take-le, refl, replicate, subst, suc, sym, take, zero, zeros, ℕ, ◌*◌, ◌++◌}
+use Rattle.ufs_laws.proofs.Common.{◌+◌, ◌-◌, ◌/◌, ◌<◌, ◌∙◌, ◌∷◌, ◌≡◌, ◌≤◌}
 use Rattle.std.proofs.Math.Nat.{mod-lt}
-use Rattle.std.proofs.lemmas.Bool.{cases_lt}
-use Rattle.std.proofs.lemmas.List.{drop-replicate, get_or-append_right, get_or-drop, get_or-replicate, get_or-take}
-use Rattle.std.proofs.lemmas.List.{get_or_append_left, get_or_past, length-append, length-drop, length-replicate}
-use Rattle.std.proofs.lemmas.List.{length-take, length-take-le, take-replicate}
+use Rattle.std.proofs.lemmas.List.{drop-replicate, get_or-drop, get_or_past, take-replicate}
 use Rattle.std.specs.Int.{byte_at, bytes_high_first}
-use Rattle.std.specs.List.{flat_map}
-use Rattle.ufs_spec.specs.Keys.{IsBlock, area_page, below}
-use Rattle.ufs_spec.specs.Messages.{AreBytes, zeros}
 use Rattle.ufs_spec.specs.Pages.{zero_filled}
 use Rattle.ufs_spec.specs.Plain.{area_len, zero_area, zero_block}
-use Rattle.ufs_spec.specs.declared.configs.Numbers.{Numbers}
 use Rattle.ufs_laws.proofs.plain_contents.ListParts.{joined_next}
 
 -- Bytes

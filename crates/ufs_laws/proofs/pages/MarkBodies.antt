@@ -1,20 +1,13 @@
 -- A mark's fence and numbers are read back from its body.
-use Rattle.std.proofs.Common.{get_or, ◌+◌, ◌*◌, ◌≡◌, ◌∙◌, ◌-◌, ℕ, zero, suc, ◌^◌, ◌<◌, ◌==◌, false, List, [], ◌∷◌, ◌++◌}
-use Rattle.std.proofs.Common.{All, Option}
-use Rattle.std.proofs.Common.{None, Some, length, refl, sym, ap, drop, replicate, slice_index, slice_index_or, append_assoc, arith}
+use Rattle.ufs_laws.proofs.Common.{All, Fence, IsMarkBody, List, None, Numbers, Option, Some, UnitSpec, [], ap, arith}
+use Rattle.ufs_laws.proofs.Common.{big_number, big_number-reads_back, drop, drop-drop, false, field_at, flat_map}
+use Rattle.ufs_laws.proofs.Common.{get_or, length, refl, regions, replicate, slice_index, slice_index_or, suc, sym}
+use Rattle.ufs_laws.proofs.Common.{zero, ℕ, ◌*◌, ◌++◌, ◌+◌, ◌-◌, ◌<◌, ◌==◌, ◌^◌, ◌∙◌, ◌∷◌, ◌≡◌}
+use Rattle.std.proofs.Common.{append_assoc}
 use Rattle.std.specs.Prelude.{if◌then◌else◌}
-use Rattle.std.specs.List.{flat_map}
 use Rattle.std.proofs.lemmas.Bool.Decides.{nat_tests}
-use Rattle.std.proofs.lemmas.List.{drop-drop}
-use Rattle.byteorder.specs.Endian.{big_number}
-use Rattle.byteorder.specs.Numbers.{big_number-reads_back}
-use Rattle.ufs_spec.specs.Cells.{IsFence, IsMarkBody, NumbersFit, UnitFits}
-use Rattle.ufs_bytes.specs.Fields.{field_at}
+use Rattle.ufs_spec.specs.Cells.{IsFence, NumbersFit, UnitFits}
 use Rattle.ufs_spec.specs.Pages.{fence_bytes, numbers_bytes, unit_bytes, zero_filled}
-use Rattle.ufs_spec.specs.Plain.{regions}
-use Rattle.ufs_spec.specs.declared.configs.Numbers.{Numbers}
-use Rattle.ufs_spec.specs.declared.configs.UnitSpec.{UnitSpec}
-use Rattle.ufs_spec.specs.declared.flash.Fence.{Fence}
 
 -- Reading
 

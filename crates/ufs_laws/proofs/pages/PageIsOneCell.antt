@@ -1,9 +1,6 @@
 -- A page is no two cells.
-use Rattle.std.proofs.Common.{◌≡◌, ◌≢◌, ℕ, List, refl, sym, ap, subst, arith}
-use Rattle.ufs_spec.specs.Cells.{Cell, DataHold, GroupPage, IsCell, IsMarkBody, Mark, MarkPage, Nothing, Opens}
-use Rattle.ufs_spec.specs.Cells.{mark_tag}
-use Rattle.ufs_spec.specs.declared.flash.Page.{Page}
-use Rattle.ufs_spec.specs.declared.flash.Tag.{Tag}
+use Rattle.ufs_laws.proofs.Common.{Cell, DataHold, GroupPage, IsCell, IsMarkBody, List, Mark, MarkPage, Nothing, Opens}
+use Rattle.ufs_laws.proofs.Common.{Page, Tag, ap, arith, mark_tag, refl, subst, sym, ℕ, ◌≡◌, ◌≢◌}
 use Rattle.ufs_laws.proofs.pages.MarkBodies.{one_configuration, one_fence}
 use Rattle.ufs_spec.proofs.SealedPages.{one_body, one_tag}
 

@@ -1,15 +1,12 @@
 -- A page is some cell.
-use Rattle.std.proofs.Common.{◌≡◌, ℕ, ◌≤◌, ◌^◌, List, refl, sym, subst, arith, drop, take}
-use Rattle.std.proofs.Math.Decide.{dec_le, dec_lt, map_dec, ℕ_discrete}
-use Rattle.ufs_spec.specs.Cells.{Cell, DataHold, GroupPage, IsCell, Mark, MarkPage, Nothing, Opens, mark_tag}
-use Rattle.ufs_spec.specs.Pages.{IsFrontOf, IsTag, check_of, greatest_number, group_bound, old_front, old_group_bound}
+use Rattle.ufs_laws.proofs.Common.{Cell, DataHold, GroupPage, IsCell, IsFrontOf, List, Mark, MarkPage, Nothing, Opens}
+use Rattle.ufs_laws.proofs.Common.{Page, Tag, arith, dec_le, dec_lt, drop, map_dec, mark_tag, refl, regions, subst, sym}
+use Rattle.ufs_laws.proofs.Common.{take, ℕ, ℕ_discrete, ◌^◌, ◌≡◌, ◌≤◌}
+use Rattle.ufs_spec.specs.Pages.{IsTag, check_of, greatest_number, group_bound, old_front, old_group_bound}
 use Rattle.ufs_spec.specs.Pages.{spare_front, tag_in}
-use Rattle.ufs_spec.specs.declared.flash.Page.{Page}
-use Rattle.ufs_spec.specs.declared.flash.Tag.{Tag}
 use Rattle.ufs_laws.proofs.pages.BodiesDecided.{is_mark_body, is_settings_body}
 use Rattle.ufs_laws.proofs.deciding.Connectives.{dec_and, dec_implies, dec_or, is_block, same_bytes}
 use Rattle.ufs_spec.proofs.SealedPages.{body_opened, tag_opened}
-use Rattle.ufs_spec.specs.Plain.{regions}
 
 -- Deciding
 

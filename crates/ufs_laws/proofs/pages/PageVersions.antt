@@ -1,11 +1,7 @@
 -- A page that opens is of version 2 or of version 1, and pages of either version open.
-use Rattle.std.proofs.Common.{◌≡◌, ◌⊎◌, ◌≤◌, ℕ, List, ◌++◌, ap, arith, inl, inr, refl, slice_index, subst, take}
-use Rattle.std.proofs.lemmas.List.{get_or-take}
-use Rattle.ufs_spec.specs.Cells.{Opens}
-use Rattle.ufs_spec.specs.Keys.{IsBlock}
-use Rattle.ufs_spec.specs.Pages.{IsFrontOf, IsTag, check_of, old_front, seal_page}
-use Rattle.ufs_spec.specs.declared.flash.Page.{Page}
-use Rattle.ufs_spec.specs.declared.flash.Tag.{Tag}
+use Rattle.ufs_laws.proofs.Common.{IsBlock, IsFrontOf, List, Opens, Page, Tag, ap, arith, get_or-take, inl, inr, refl}
+use Rattle.ufs_laws.proofs.Common.{slice_index, subst, take, ℕ, ◌++◌, ◌≡◌, ◌≤◌, ◌⊎◌}
+use Rattle.ufs_spec.specs.Pages.{IsTag, check_of, old_front, seal_page}
 use Rattle.ufs_spec.proofs.SealedPages.{seals}
 
 -- the version and the size that its groups may have

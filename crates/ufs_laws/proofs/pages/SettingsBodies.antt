@@ -1,20 +1,16 @@
 -- What a settings page says, read back.
-use Rattle.std.proofs.Common.{◌≡◌, ℕ, zero, suc, ◌+◌, ◌-◌, ◌<◌, ◌≤◌, ◌==◌, Bool, true, false, List, [], ◌∷◌}
-use Rattle.std.proofs.Common.{◌++◌, length, take, drop, replicate, slice_index, Option, Some, None, refl, sym, ap}
-use Rattle.std.proofs.Common.{◌∙◌, subst, arith, append_assoc, if◌then◌else◌}
-use Rattle.std.proofs.lemmas.List.{drop_at, drop-drop, length-append, length-replicate, replicate-append-replicate}
-use Rattle.std.proofs.lemmas.List.{take_at}
-use Rattle.std.proofs.lemmas.List.Elements.{All-replicate}
-use Rattle.byteorder.specs.Endian.{big_bytes, big_number}
-use Rattle.byteorder.specs.Numbers.{big_number-reads_back}
-use Rattle.ufs_bytes.specs.Fields.{field_at}
-use Rattle.ufs_spec.specs.Keys.{AreSettings, IsBlock, IsKeyAndCounter, IsSettingsBody, counter_in}
-use Rattle.ufs_spec.specs.Keys.{first_bytes, flag_byte, forty_bytes, key_bytes, key_flag, key_in, key_named}
-use Rattle.ufs_spec.specs.Keys.{region_bytes, said_in, said_of, settings_bytes}
-use Rattle.ufs_spec.specs.Messages.{AreBytes}
+use Rattle.ufs_laws.proofs.Common.{All-replicate, AreBytes, AreSettings, Bool, IsBlock, IsKeyAndCounter, IsSettingsBody}
+use Rattle.ufs_laws.proofs.Common.{KeyAndCounter, List, None, Option, Some, [], ap, arith, big_bytes, big_number}
+use Rattle.ufs_laws.proofs.Common.{big_number-reads_back, drop, drop-drop, drop_at, false, field_at, if◌then◌else◌}
+use Rattle.ufs_laws.proofs.Common.{length, length-append, length-replicate, refl, regions, replicate, said_in, said_of}
+use Rattle.ufs_laws.proofs.Common.{slice_index, subst, suc, sym, take, true, zero, ℕ, ◌++◌, ◌+◌, ◌-◌, ◌<◌, ◌==◌, ◌∙◌}
+use Rattle.ufs_laws.proofs.Common.{◌∷◌, ◌≡◌, ◌≤◌}
+use Rattle.std.proofs.Common.{append_assoc}
+use Rattle.std.proofs.lemmas.List.{replicate-append-replicate, take_at}
+use Rattle.ufs_spec.specs.Keys.{counter_in, first_bytes, flag_byte, forty_bytes, key_bytes, key_flag, key_in, key_named}
+use Rattle.ufs_spec.specs.Keys.{region_bytes, settings_bytes}
 use Rattle.ufs_spec.specs.Pages.{zero_filled}
-use Rattle.ufs_spec.specs.Plain.{regions, zero_block}
-use Rattle.ufs_spec.specs.declared.flash.KeyAndCounter.{KeyAndCounter}
+use Rattle.ufs_spec.specs.Plain.{zero_block}
 use Rattle.ufs_laws.proofs.pages.ByteLists.{bytes-append, bytes-cons, bytes-filled, bytes-number, bytes-zeros}
 use Rattle.ufs_laws.proofs.pages.ByteLists.{length-filled}
 

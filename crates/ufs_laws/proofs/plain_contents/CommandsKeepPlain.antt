@@ -1,22 +1,19 @@
 -- Commands leave a plain state plain.
-use Rattle.std.proofs.Common.{All, List, [], arith, drop, length, map, replicate, slice_index_or, slice_set}
-use Rattle.std.proofs.Common.{inl, inr, subst, sym, take, ℕ, ◌*◌, ◌++◌, ◌+◌, ◌/◌, ◌<◌, ◌∙◌, ◌∷◌, ◌≡◌, ◌≤◌}
-use Rattle.std.proofs.lemmas.List.{length-map, length-set}
-use Rattle.std.proofs.lemmas.List.Elements.{All-append, All-drop, All-map, All-replicate, All-set, All-take}
-use Rattle.ufs_spec.specs.Keys.{AreSettings, CanApplyAll, IsBlock, IsCommand, IsKeyAndCounter, IsPlain, IsRegion}
-use Rattle.ufs_spec.specs.Keys.{said_by}
-use Rattle.ufs_spec.specs.Messages.{AreBytes}
-use Rattle.ufs_spec.specs.Plain.{CanApply, Plain, Region, after, apply, changed_by, counter_end, empty_region}
-use Rattle.ufs_spec.specs.Plain.{region_of, with_part, with_region, zero_block}
-use Rattle.ufs_spec.specs.Plain.{regions}
-use Rattle.ufs_spec.specs.Commands.{Command}
+use Rattle.ufs_laws.proofs.Common.{All, All-map, All-replicate, AreBytes, AreSettings, Command, IsBlock}
+use Rattle.ufs_laws.proofs.Common.{IsKeyAndCounter, IsPlain, IsRegion, List, Plain, Region, [], after, apply, arith}
+use Rattle.ufs_laws.proofs.Common.{cases_lt, changed_by, counter_end, drop, empty_region, inl, inr, length, length-map}
+use Rattle.ufs_laws.proofs.Common.{map, none-some, region_of, regions, replicate, said_by, same_Some, slice_index_or}
+use Rattle.ufs_laws.proofs.Common.{slice_set, subst, sym, take, with_part, with_region, ℕ, ◌*◌, ◌++◌, ◌+◌, ◌/◌, ◌<◌}
+use Rattle.ufs_laws.proofs.Common.{◌∙◌, ◌∷◌, ◌≡◌, ◌≤◌}
+use Rattle.std.proofs.lemmas.List.{length-set}
+use Rattle.std.proofs.lemmas.List.Elements.{All-append, All-drop, All-set, All-take}
+use Rattle.ufs_spec.specs.Keys.{CanApplyAll, IsCommand}
+use Rattle.ufs_spec.specs.Plain.{CanApply, zero_block}
 use Rattle.ufs_spec.specs.Commands as cmd
 use Rattle.ufs_spec.proofs.PlainFacts.{length-with_part}
 use Rattle.ufs_spec.proofs.RegionPages.{area_there}
 use Rattle.std.proofs.Math.ListN.{get_or-eq_default}
-use Rattle.std.proofs.lemmas.Bool.{cases_lt}
 use Rattle.ufs_laws.proofs.pages.ByteLists.{bytes-append, bytes-drop, bytes-nil, bytes-take, zero_block_is}
-use Rattle.ufs_spec.proofs.Facts.{none-some, same_Some}
 
 -- blocks in place of others
 written_blocks : (units : List (List (List ℕ))) (unit address : ℕ) (blocks : List (List ℕ)) → All (All IsBlock) units →

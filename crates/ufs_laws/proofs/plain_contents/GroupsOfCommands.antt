@@ -1,30 +1,26 @@
 -- What the group of a command puts into contents.
 pub use Rattle.ufs_spec.proofs.Equalities.{key_told as same_from_true}
-use Rattle.std.proofs.Common.{Bool, List, Some, [], cond, false, suc, ℕ, ◌*◌, ◌+◌, ◌-◌, ◌/◌, ◌<◌, ◌≡◌, ◌≤◌, ◌⊎◌, ◌∷◌}
-use Rattle.std.proofs.Common.{◌++◌, length, map, replicate, slice_index_or, slice_set, refl, sym, ap, ◌∙◌, subst, inl}
-use Rattle.std.proofs.Common.{inr, arith}
+use Rattle.ufs_laws.proofs.Common.{Bool, Command, Contents, Group, IsArea, IsData, IsKey, IsSettings, Key, List, Plain}
+use Rattle.ufs_laws.proofs.Common.{Region, Some, [], after, any_here, ap, apply, area_key, area_page, arith, below}
+use Rattle.ufs_laws.proofs.Common.{below_at, cases_lt, changed_by, cond, content, data_key, empty_region, false}
+use Rattle.ufs_laws.proofs.Common.{get_or-map, get_or-set_same, group_of, inl, inr, length, length-map}
+use Rattle.ufs_laws.proofs.Common.{length-replicate, list_any, map, refl, region_of, replicate, settings_key, shape_of}
+use Rattle.ufs_laws.proofs.Common.{slice_get, slice_get-map, slice_index_or, slice_set, subst, suc, sym, with_part}
+use Rattle.ufs_laws.proofs.Common.{with_region, ℕ, ◌*◌, ◌++◌, ◌+◌, ◌-◌, ◌/◌, ◌<◌, ◌∙◌, ◌∷◌, ◌≡◌, ◌≤◌, ◌⊎◌}
 use Rattle.std.proofs.Math.ListN as lists
 use Rattle.std.proofs.Math.ListN.{get_or-eq_default}
 use Rattle.std.proofs.Math.Seq.{map-set_same}
-use Rattle.std.proofs.lemmas.Bool.{cases_Bool, cases_eq, cases_lt, cond-false, cond-true, false≢true, or_from, or_parts}
-use Rattle.std.proofs.lemmas.List.{get_or-map, get_or-set_other, get_or-set_same, length-map, length-replicate}
-use Rattle.ufs_spec.specs.Keys.{CanApplyAll, Contents, Group, IsKey, IsData, IsArea, IsSettings, area_key, area_keys}
-use Rattle.ufs_spec.specs.Keys.{area_page, below, content, data_key, data_keys, group_of, groups_of, keys, put_group}
-use Rattle.ufs_spec.specs.Keys.{put_groups, same_key, settings_key}
-use Rattle.ufs_spec.specs.Plain.{CanApply, Plain, Region, after, apply, changed_by, empty_region, region_of, shape_of}
-use Rattle.ufs_spec.specs.Plain.{with_part, with_region, zero_block}
-use Rattle.ufs_spec.specs.Commands.{Command}
+use Rattle.std.proofs.lemmas.Bool.{cases_Bool, cases_eq, cond-false, cond-true, false≢true, or_from, or_parts}
+use Rattle.std.proofs.lemmas.List.{get_or-set_other}
+use Rattle.ufs_spec.specs.Keys.{CanApplyAll, area_keys, data_keys, groups_of, keys, put_group, put_groups, same_key}
+use Rattle.ufs_spec.specs.Plain.{CanApply, zero_block}
 use Rattle.ufs_spec.specs.Commands as cmd
-use Rattle.ufs_spec.specs.declared.flash.Key.{Key}
 use Rattle.ufs_spec.proofs.PlainFacts.{kept_shape, length-with_part}
 use Rattle.ufs_spec.proofs.RegionPages.{area_there}
 use Rattle.ufs_laws.proofs.plain_contents.ListParts.{same_part, with_part-outside}
 use Rattle.ufs_spec.proofs.Equalities.{key_same, key_told}
-use Rattle.ufs_spec.proofs.Lists.{any_here, below_at}
 use Rattle.std.proofs.lemmas.List.Folds.{list_any-append}
-use Rattle.std.proofs.lemmas.Option.{slice_get-map}
-use Rattle.std.specs.List.{list_any}
-use Rattle.std.specs.Prelude.{option_map, slice_get}
+use Rattle.std.specs.Prelude.{option_map}
 
 -- Keys
 

@@ -1,18 +1,14 @@
 -- Lists by their places: what a write leaves, lists made from numbers, and parts of the same size.
 pub use Rattle.ufs_spec.proofs.Lists.{length-below}
-use Rattle.std.proofs.Common.{◌≡◌, ℕ, zero, suc, ◌+◌, ◌-◌, ◌*◌, ◌<◌, ◌≤◌, ◌⊎◌, List, [], ◌∷◌, ◌++◌, length, take, drop}
-use Rattle.std.proofs.Common.{map, get_or, refl, sym, ap, ◌∙◌, inl, inr, arith}
+use Rattle.ufs_laws.proofs.Common.{List, [], ap, append-nil, arith, below, below_at, cases_lt, drop, drop_at, flat_map}
+use Rattle.ufs_laws.proofs.Common.{get_or, get_or-append_right, get_or-map, get_or-take, get_or_append_left, inl, inr}
+use Rattle.ufs_laws.proofs.Common.{length, length-append, length-drop, length-map, length-take, length-take-le, map}
+use Rattle.ufs_laws.proofs.Common.{refl, suc, sym, take, take-append-drop, take_all, with_part, zero, ℕ, ◌*◌, ◌++◌, ◌+◌}
+use Rattle.ufs_laws.proofs.Common.{◌-◌, ◌<◌, ◌∙◌, ◌∷◌, ◌≡◌, ◌≤◌, ◌⊎◌}
 use Rattle.std.proofs.Math.Nat.{mul-le-mul_left}
-use Rattle.std.proofs.lemmas.Bool.{cases_lt}
-use Rattle.std.proofs.lemmas.List.{append-nil, drop-append-le, drop_at, drop-take, get_or-append_right, get_or-drop}
-use Rattle.std.proofs.lemmas.List.{get_or-map, get_or-take, get_or_append_left, length-append, length-drop, length-map}
-use Rattle.std.proofs.lemmas.List.{length-take, length-take-le, same_lists, take-append-drop, take-append-le, take-take}
-use Rattle.std.proofs.lemmas.List.{take_all}
+use Rattle.std.proofs.lemmas.List.{drop-append-le, drop-take, get_or-drop, same_lists, take-append-le, take-take}
 use Rattle.std.proofs.lemmas.List.Concat.{flat_map-append}
-use Rattle.std.specs.List.{flat_map}
-use Rattle.ufs_spec.specs.Keys.{below}
-use Rattle.ufs_spec.specs.Plain.{with_part}
-use Rattle.ufs_spec.proofs.Lists.{below_at, length-below}
+use Rattle.ufs_spec.proofs.Lists.{length-below}
 use Rattle.std.proofs.lemmas.Option.{get_or_from_slice_get}
 
 -- What a write leaves

@@ -1,15 +1,9 @@
 -- A new device is plain, and all zeros.
-use Rattle.std.proofs.Common.{◌≡◌, ◌∙◌, ℕ, zero, suc, ◌<◌, List, [], ◌∷◌, All, length, map, replicate, slice_index_or}
-use Rattle.std.proofs.Common.{ap, arith, refl}
-use Rattle.std.proofs.lemmas.List.{get_or-replicate, length-map}
-use Rattle.std.proofs.lemmas.List.Elements.{All-map, All-replicate}
-use Rattle.ufs_spec.specs.Keys.{IsArea, IsBlock, IsData, IsKey, IsPlain, IsRegion, IsSettings, area_page, content}
-use Rattle.ufs_spec.specs.Plain.{Region, new_region, shape_of_numbers, zero as zero_state, zero_block}
-use Rattle.ufs_spec.specs.Plain.{region_of, regions}
-use Rattle.ufs_spec.specs.Keys.{below}
-use Rattle.ufs_spec.specs.declared.configs.Numbers.{Numbers}
-use Rattle.ufs_spec.specs.declared.configs.UnitSpec.{UnitSpec}
-use Rattle.ufs_spec.specs.declared.flash.Key.{Key}
+use Rattle.ufs_laws.proofs.Common.{All, All-map, All-replicate, IsArea, IsBlock, IsData, IsKey, IsPlain, IsRegion}
+use Rattle.ufs_laws.proofs.Common.{IsSettings, Key, List, Numbers, Region, UnitSpec, [], ap, area_page, arith, below}
+use Rattle.ufs_laws.proofs.Common.{content, get_or-replicate, length, length-map, map, refl, region_of, regions}
+use Rattle.ufs_laws.proofs.Common.{replicate, shape_of_numbers, slice_index_or, suc, zero, ℕ, ◌<◌, ◌∙◌, ◌∷◌, ◌≡◌}
+use Rattle.ufs_spec.specs.Plain.{new_region, zero as zero_state, zero_block}
 use Rattle.ufs_spec.proofs.PlainFacts.{new_area}
 use Rattle.ufs_spec.proofs.RegionPages.{pages_there}
 use Rattle.ufs_laws.proofs.pages.ByteLists.{bytes-zero_area, zero_block_is, zero_page}

@@ -1,18 +1,16 @@
 -- A plain state is the same as a content for each key.
-use Rattle.std.proofs.Common.{◌≡◌, ℕ, ◌==◌, ◌*◌, ◌/◌, ◌<◌, List, [], All, length, map, get_or, slice_index}
-use Rattle.std.proofs.Common.{slice_index_or, refl, sym, ap, ◌∙◌, subst, arith}
+use Rattle.ufs_laws.proofs.Common.{All, Contents, IsArea, IsBlock, IsData, IsKey, IsKeyAndCounter, IsPlain, IsRegion}
+use Rattle.ufs_laws.proofs.Common.{IsSettings, IsSettingsBody, Key, KeyAndCounter, List, Plain, Region, [], ap}
+use Rattle.ufs_laws.proofs.Common.{area_key, area_page, arith, below, content, data_key, empty_region, flat_map, get_or}
+use Rattle.ufs_laws.proofs.Common.{get_or-map, length, length-map, map, refl, region_of, regions, said_by, said_in}
+use Rattle.ufs_laws.proofs.Common.{said_of, settings_key, shape_of, slice_index, slice_index_or, subst, sym, take_all}
+use Rattle.ufs_laws.proofs.Common.{ℕ, ◌*◌, ◌/◌, ◌<◌, ◌==◌, ◌∙◌, ◌≡◌}
 use Rattle.std.proofs.Math.ListN as lists
-use Rattle.std.proofs.lemmas.List.{get_or-map, get_or_default, length-map, same_lists, take_all}
-use Rattle.std.specs.List.{flat_map}
-use Rattle.ufs_spec.specs.Keys.{AreContents, Contents, HasWholeAreas, IsArea, IsBlock, IsData, IsKey, IsPlain, IsRegion}
-use Rattle.ufs_spec.specs.Keys.{IsKeyAndCounter, IsSettings, IsSettingsBody, area_key, area_page}
-use Rattle.ufs_spec.specs.Keys.{below, content, counter_in, data_key, key_in, said_by, said_in, said_of}
-use Rattle.ufs_spec.specs.Keys.{plain_of, region_in, region_pages, settings_key, settings_of}
-use Rattle.ufs_spec.specs.Plain.{Plain, Region, Shape, empty_region, region_of, shape_of}
-use Rattle.ufs_spec.specs.Plain.{regions}
-use Rattle.ufs_spec.specs.declared.flash.Key.{Key}
+use Rattle.std.proofs.lemmas.List.{get_or_default, same_lists}
+use Rattle.ufs_spec.specs.Keys.{AreContents, HasWholeAreas, counter_in, key_in, plain_of, region_in, region_pages}
+use Rattle.ufs_spec.specs.Keys.{settings_of}
+use Rattle.ufs_spec.specs.Plain.{Shape}
 use Rattle.ufs_spec.proofs.RegionPages.{pages_held}
-use Rattle.ufs_spec.specs.declared.flash.KeyAndCounter.{KeyAndCounter}
 use Rattle.ufs_laws.proofs.pages.ByteLists.{bytes-joined, page_is_block}
 use Rattle.ufs_laws.proofs.plain_contents.CommandsKeepPlain.{its_region, settings_ranges}
 use Rattle.ufs_laws.proofs.plain_contents.ListParts.{get_or-made, joined_part, joined_same, length-joined, length-made}

@@ -1,20 +1,19 @@
 -- A flush with nothing to wait for is answered GOOD, on a locked device too.
-use Rattle.std.proofs.Common.{◌≡◌, ◌≤◌, ◌&&◌, ◌||◌, ℕ, nat_le, nat_lt, not, Bool, true, false, if◌then◌else◌, [], ◌∷◌}
-use Rattle.std.proofs.Common.{map, length, Option, Some, None, Ok, refl, sym, ap, ◌∙◌, subst}
+use Rattle.ufs_laws.proofs.Common.{Answering, Awaiting, Bool, Busy, Deed, Gets, Good, Host, IsIdle, None, OfReply, Ok}
+use Rattle.ufs_laws.proofs.Common.{Option, Reply, Request, Some, State, Status, Task, [], ap, asks, cond-true}
+use Rattle.ufs_laws.proofs.Common.{deed_reply, durable, false, fills, flush, free_slots, heard, if◌then◌else◌, length}
+use Rattle.ufs_laws.proofs.Common.{lock_applied, locked, map, mended, nat_le, nat_lt, not, not_ready, observe, refl}
+use Rattle.ufs_laws.proofs.Common.{refusal, refused_or_begun, response, short_locked, subst, sym, task_locked, true}
+use Rattle.ufs_laws.proofs.Common.{with_task, write_error, write_protected, ℕ, ◌&&◌, ◌||◌, ◌∙◌, ◌∷◌, ◌≡◌, ◌≤◌}
 use Rattle.std.proofs.lemmas.Bool.{and_right}
 use Rattle.ufs_laws.proofs.answers.OnlyAnswers.{host_gets, reply_gets}
 use Rattle.ufs_laws.proofs.refusals.RefusedCommands.{idle_is, idle_state}
 use Rattle.ufs_laws.proofs.refusals.TableLines.{locked_idle, once_locked, once_mended}
 use Rattle.ufs_laws.proofs.refusals.TakenRequests.{needs_none, skips}
-use Rattle.ufs_laws.specs.Runs.{Gets, IsAnswered, IsIdle, heard}
-use Rattle.ufs_laws.specs.Table.{asks, flush, heard_as}
-use Rattle.ufs_spec.proofs.Facts.{cond-true, le-leb}
-use Rattle.ufs_spec.specs.Exchanges.{Answering, Awaiting, Busy, Deed, Good, Status, Task, not_ready, response}
-use Rattle.ufs_spec.specs.Exchanges.{write_error, write_protected}
-use Rattle.ufs_spec.specs.Machine.{Host, OfReply, Reply, deed_reply, durable, fills, lock_applied, observe}
-use Rattle.ufs_spec.specs.Machine.{refused_or_begun, short_locked, task_locked, with_task}
-use Rattle.ufs_spec.specs.Refusals.{Request, State, locked, mended, refusal}
-use Rattle.ufs_spec.specs.Translation.{free_slots, has_pending}
+use Rattle.ufs_laws.specs.Runs.{IsAnswered}
+use Rattle.ufs_laws.specs.Table.{heard_as}
+use Rattle.ufs_spec.proofs.Facts.{le-leb}
+use Rattle.ufs_spec.specs.Translation.{has_pending}
 use Rattle.ufs_spec.specs.declared.messages.Message.TheVariants as message
 
 -- ## The lock on one task

@@ -1,20 +1,18 @@
 -- Commands that are refused: each is a task that answers at once, whatever else the device is doing.
-use Rattle.std.proofs.Common.{◌≡◌, ℕ, ◌-◌, ◌<◌, ◌≤◌, nat_lt, Bool, true, false, if◌then◌else◌, List, [], ◌∷◌, map}
-use Rattle.std.proofs.Common.{Option, Some, None, Ok, refl, sym, ap, ◌∙◌, subst, arith}
-use Rattle.std.proofs.lemmas.Bool.{le-ltb, lt-ltb}
+use Rattle.ufs_laws.proofs.Common.{Answering, Bool, Cdb, Gets, Heard, Host, IsIdle, List, Message, None, OfReply, Ok}
+use Rattle.ufs_laws.proofs.Common.{Option, Reply, Request, Some, Spelled, State, Status, Task, [], ap, arith, false}
+use Rattle.ufs_laws.proofs.Common.{fills, first_line, heard, if◌then◌else◌, invalid_field, invalid_operation}
+use Rattle.ufs_laws.proofs.Common.{lacks_unit, le-ltb, lines_after, lock_applied, locked, lt-ltb, lun_of, map, nat_lt}
+use Rattle.ufs_laws.proofs.Common.{no_unit, not_taken, observe, out_of_range, refl, refusal, refused_or_begun}
+use Rattle.ufs_laws.proofs.Common.{refused_state, response, row, short_locked, subst, sym, task_locked, true, with_task}
+use Rattle.ufs_laws.proofs.Common.{ℕ, ◌-◌, ◌<◌, ◌∙◌, ◌∷◌, ◌≡◌, ◌≤◌}
 use Rattle.ufs_laws.proofs.answers.OnlyAnswers.{host_gets, reply_gets}
-use Rattle.ufs_laws.specs.Runs.{Gets, IsAnswered, IsIdle, heard, read_bytes, read_of, refused, row}
+use Rattle.ufs_laws.specs.Runs.{IsAnswered, read_bytes, read_of, refused}
 use Rattle.ufs_spec.specs.Cdbs.{Residual, residual_of}
 use Rattle.ufs_spec.specs.declared.operations.TheConstants.{READ_10}
-use Rattle.ufs_spec.specs.Exchanges.{Answering, Status, Task, check, invalid_field, invalid_operation, no_unit}
-use Rattle.ufs_spec.specs.Exchanges.{out_of_range, response, response_message}
-use Rattle.ufs_spec.specs.Machine.{Reply, Heard, Host, OfReply, Spelled, fills, lock_applied, observe, refused_or_begun}
-use Rattle.ufs_spec.specs.Machine.{short_locked, task_locked, with_task}
-use Rattle.ufs_spec.specs.Refusals.{Request, State, UnitOf, first_line, lacks_unit, line, lines_after, locked, lun_of, refused_state}
-use Rattle.ufs_spec.specs.Refusals.{not_taken, refusal, well_known}
-use Rattle.ufs_spec.specs.declared.messages.Message.{Message}
+use Rattle.ufs_spec.specs.Exchanges.{check, response_message}
+use Rattle.ufs_spec.specs.Refusals.{UnitOf, line, well_known}
 use Rattle.ufs_spec.specs.declared.messages.Message.TheVariants as message
-use Rattle.ufs_spec.specs.declared.scsi.Cdb.{Cdb}
 use Rattle.ufs_spec.specs.declared.scsi.Cdb.TheVariants as cdb
 
 -- Idle states

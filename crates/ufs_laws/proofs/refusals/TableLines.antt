@@ -1,29 +1,25 @@
 -- The line of the table that stands first decides.
-use Rattle.std.proofs.Common.{◌≡◌, ℕ, ◌*◌, ◌<◌, ◌≤◌, ◌==◌, ◌&&◌, ◌||◌, nat_le, nat_lt, not, Bool, true, false, if◌then◌else◌}
-use Rattle.std.proofs.Common.{List, ne_eqb}
-use Rattle.std.proofs.Common.{[], ◌∷◌, length, Option, Some, None, refl, sym, ap, ◌∙◌, subst, arith}
-use Rattle.std.proofs.lemmas.Bool.{le-leb, le-ltb, lt-ltb, ltb-true}
+use Rattle.ufs_laws.proofs.Common.{Bool, Busy, Cdb, IsIdle, List, None, Numbers, Option, Request, Some, State, Status}
+use Rattle.ufs_laws.proofs.Common.{UnitSpec, [], ap, arith, asks, command_blocks, cond-false, cond-true, false}
+use Rattle.ufs_laws.proofs.Common.{false≢true, first_line, flush, free_slots, has_wrong_list, if◌then◌else◌}
+use Rattle.ufs_laws.proofs.Common.{invalid_field, invalid_operation, is_too_long, le-ltb, length, locked, lt-ltb}
+use Rattle.ufs_laws.proofs.Common.{mended, nat_le, nat_lt, ne_eqb, no_unit, not, not_ready, not_taken, numbers_of}
+use Rattle.ufs_laws.proofs.Common.{out_of_range, read_at, refl, refusal, refused_or_begun, response, sequence_error}
+use Rattle.ufs_laws.proofs.Common.{short_reply, subst, sym, true, unit_numbers_of, with_short, write_at}
+use Rattle.ufs_laws.proofs.Common.{write_protected, ℕ, ◌&&◌, ◌*◌, ◌<◌, ◌==◌, ◌||◌, ◌∙◌, ◌∷◌, ◌≡◌, ◌≤◌}
+use Rattle.std.proofs.lemmas.Bool.{le-leb, ltb-true}
 use Rattle.ufs_laws.proofs.refusals.RefusedCommands.{answers, idle_is, idle_state, lacks}
-use Rattle.ufs_laws.specs.Runs.{IsIdle}
-use Rattle.ufs_laws.specs.Table.{IsRefused, asks, flush, protected_row, read_at, reads_response, spells_none, write_at}
-use Rattle.ufs_spec.specs.Exchanges.{Busy, Status, TaskSetFull, invalid_field, invalid_operation, list_length_error}
-use Rattle.ufs_spec.specs.Exchanges.{no_unit, not_ready, out_of_range, response, sequence_error, short_reply}
-use Rattle.ufs_spec.specs.Exchanges.{write_protected}
-use Rattle.ufs_spec.specs.Machine.{command_taken, refused_or_begun, with_short}
-use Rattle.ufs_spec.specs.declared.configs.Numbers.{Numbers}
-use Rattle.ufs_spec.specs.Configs.{command_blocks}
-use Rattle.ufs_spec.specs.Exchanges.{most_tasks}
+use Rattle.ufs_laws.specs.Table.{IsRefused, protected_row, reads_response, spells_none}
+use Rattle.ufs_spec.specs.Exchanges.{list_length_error, most_tasks}
+use Rattle.ufs_spec.specs.declared.exchanges.Status.TheVariants.{TaskSetFull}
+use Rattle.ufs_spec.specs.Machine.{command_taken}
 use Rattle.ufs_spec.specs.Plain.{steps_of}
-use Rattle.ufs_spec.specs.Refusals.{BootUnit, is_boot_read, needs_blocks, not_taken, Request, State, first_line}
-use Rattle.ufs_spec.specs.Refusals.{has_other_response, has_wrong_list, is_crowded, is_past, is_refused_write}
-use Rattle.ufs_spec.specs.Refusals.{is_too_long, lacks_response, lines_for, locked, mended, numbers_of, refusal}
-use Rattle.ufs_spec.specs.Refusals.{takes_row, unit_numbers_of}
-use Rattle.ufs_spec.specs.Translation.{free_slots, has_pending}
-use Rattle.ufs_spec.specs.declared.configs.UnitSpec.{UnitSpec}
-use Rattle.ufs_spec.specs.declared.scsi.Cdb.{Cdb}
+use Rattle.ufs_spec.specs.Refusals.{BootUnit, has_other_response, is_boot_read, is_crowded, is_past, is_refused_write}
+use Rattle.ufs_spec.specs.Refusals.{lacks_response, lines_for, needs_blocks, takes_row}
+use Rattle.ufs_spec.specs.Translation.{has_pending}
 use Rattle.ufs_spec.specs.declared.scsi.Cdb.TheVariants as cdb
 use Rattle.ufs_spec.proofs.CommandTable.{row_holds}
-use Rattle.ufs_spec.proofs.Facts.{and_from, cond-false, cond-true, false≢true, or_with_false}
+use Rattle.ufs_spec.proofs.Facts.{and_from, or_with_false}
 use Rattle.ufs_spec.specs.CdbFields.{row_of}
 use Rattle.ufs_spec.specs.declared.operations.Row.{Row}
 

@@ -1,16 +1,12 @@
 -- Requests that no line of the table refuses, and those that only one line refuses.
-use Rattle.std.proofs.Common.{◌≡◌, ◌<◌, ◌≤◌, ◌||◌, ℕ, nat_lt, not, Bool, true, false, if◌then◌else◌, Option, Some, None}
-use Rattle.std.proofs.Common.{ap, refl, ◌∙◌, sym, subst, arith}
-use Rattle.std.proofs.lemmas.Bool.{le-ltb, lt-ltb}
+use Rattle.ufs_laws.proofs.Common.{Bool, Busy, IsIdle, None, Numbers, Option, Request, Some, State, Status, ap, arith}
+use Rattle.ufs_laws.proofs.Common.{asks, cond-false, false, free_slots, if◌then◌else◌, le-ltb, locked, lt-ltb, mended}
+use Rattle.ufs_laws.proofs.Common.{nat_lt, not, not_ready, numbers_of, plain_now, read_at, refl, refusal, subst, sym}
+use Rattle.ufs_laws.proofs.Common.{true, write_at, write_protected, ℕ, ◌<◌, ◌||◌, ◌∙◌, ◌≡◌, ◌≤◌}
 use Rattle.ufs_laws.proofs.refusals.RefusedCommands.{answers, idle_is, idle_state}
 use Rattle.ufs_laws.proofs.refusals.TableLines.{decides, leaves, locked_idle, neither, once_locked, once_mended}
-use Rattle.ufs_laws.specs.Runs.{IsIdle}
-use Rattle.ufs_laws.specs.Table.{IsRefused, asks, protected_row, read_at, write_at}
-use Rattle.ufs_spec.proofs.Facts.{cond-false, or_with_false}
-use Rattle.ufs_spec.specs.Exchanges.{Busy, Status, not_ready, write_protected}
-use Rattle.ufs_spec.specs.Refusals.{Request, State, locked, mended, numbers_of, plain_now, refusal}
-use Rattle.ufs_spec.specs.Translation.{free_slots}
-use Rattle.ufs_spec.specs.declared.configs.Numbers.{Numbers}
+use Rattle.ufs_laws.specs.Table.{IsRefused, protected_row}
+use Rattle.ufs_spec.proofs.Facts.{or_with_false}
 use Rattle.ufs_spec.specs.declared.scsi.Cdb.TheVariants as cdb
 
 -- a line that does not apply leaves it to the rest, which do not either

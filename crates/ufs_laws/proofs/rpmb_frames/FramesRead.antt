@@ -1,14 +1,13 @@
 -- Frames as bytes: what is read of 512 bytes is written again, and the other way round.
-use Rattle.std.proofs.Common.{◌≡◌, ◌≤◌, ◌∙◌, ℕ, zero, suc, ◌+◌, ◌*◌, ◌/◌, ◌%◌, ◌^◌, ◌<◌, List, [], ◌∷◌, ◌++◌, All}
-use Rattle.std.proofs.Common.{length, take, drop, refl, sym, ap, arith, length-append, length-take, length-drop}
-use Rattle.std.proofs.lemmas.List.{append_assoc, drop-drop, drop_at, length-take-le, take_all, take_at, take-append-drop}
-use Rattle.std.specs.List.{flat_map}
-use Rattle.byteorder.specs.Endian.{big_bytes, big_number}
-use Rattle.byteorder.specs.Numbers.{big_from-take, big_number-reads_back, length-bytes_high_first}
-use Rattle.ufs_bytes.specs.Fields.{field_at}
+use Rattle.ufs_laws.proofs.Common.{All, AreBytes, Frame, List, [], ap, append_assoc, arith, big_bytes, big_number}
+use Rattle.ufs_laws.proofs.Common.{big_number-reads_back, drop, drop-drop, drop_at, field_at, flat_map, length}
+use Rattle.ufs_laws.proofs.Common.{length-take-le, refl, suc, sym, take, take-append-drop, take_all, zero, ℕ, ◌%◌, ◌*◌}
+use Rattle.ufs_laws.proofs.Common.{◌++◌, ◌+◌, ◌/◌, ◌<◌, ◌^◌, ◌∙◌, ◌∷◌, ◌≡◌, ◌≤◌}
+use Rattle.std.proofs.Common.{length-append, length-drop, length-take}
+use Rattle.std.proofs.lemmas.List.{take_at}
+use Rattle.byteorder.specs.Numbers.{big_from-take, length-bytes_high_first}
 use Rattle.ufs_bytes.proofs.FieldRanges.{field_fits}
-use Rattle.ufs_spec.specs.Messages.{AreBytes}
-use Rattle.ufs_spec.specs.Frames.{Frame, IsFrame, covered_bytes, frame_bytes, frame_in, frames_in}
+use Rattle.ufs_spec.specs.Frames.{IsFrame, covered_bytes, frame_bytes, frame_in, frames_in}
 use Rattle.ufs_laws.proofs.pages.ByteLists.{bytes-drop, bytes-take}
 
 -- parts that are joined from the front are joined from the back

@@ -1,13 +1,12 @@
 -- A command changes the region of a plain state as it changes the state, and the words of laws about MACs.
-use Rattle.std.proofs.Common.{◌≡◌, ◌∙◌, ◌++◌, ◌-◌, ◌<◌, ℕ, true, List, [], ◌∷◌, Some, bit_xor, drop, length, map}
-use Rattle.std.proofs.Common.{nat_lt, refl, replicate, sym, ap}
-use Rattle.std.proofs.lemmas.List.{get_or-set_other, get_or-set_same}
-use Rattle.ufs_spec.proofs.Facts.{cond-false, cond-true, none-some, same_Some}
+use Rattle.ufs_laws.proofs.Common.{AreBytes, Command, List, Plain, Region, RpmbWrite, SetKey, Some, [], ap, apply}
+use Rattle.ufs_laws.proofs.Common.{changed_by, cond-false, cond-true, drop, empty_region, get_or-set_same, length, map}
+use Rattle.ufs_laws.proofs.Common.{nat_lt, none-some, refl, region_of, replicate, same_Some, sym, true, with_region, ℕ}
+use Rattle.ufs_laws.proofs.Common.{◌++◌, ◌-◌, ◌<◌, ◌∙◌, ◌∷◌, ◌≡◌}
+use Rattle.std.proofs.Common.{bit_xor}
+use Rattle.std.proofs.lemmas.List.{get_or-set_other}
 use Rattle.sha2.proofs.Facts256.{length-sha256}
 use Rattle.sha2.specs.Sha256.{sha256}
-use Rattle.ufs_spec.specs.Commands.{Command, RpmbWrite, SetKey}
-use Rattle.ufs_spec.specs.Messages.{AreBytes}
-use Rattle.ufs_spec.specs.Plain.{Plain, Region, apply, changed_by, empty_region, region_of, with_region}
 use Rattle.ufs_spec.specs.Frames.{frame_in}
 use Rattle.ufs_spec.specs.Rpmb.{frames_mac, mac, short_key}
 use Rattle.ufs_laws.specs.RpmbWrites.{region_named}

@@ -1,8 +1,5 @@
 -- Outcomes of RPMB requests: by which no command is accepted, and which one by the others.
-use Rattle.std.proofs.Common.{◌≡◌, ℕ, Option, Some, None}
-use Rattle.ufs_spec.specs.Commands.{Command}
-use Rattle.ufs_spec.specs.Exchanges.{Status}
-use Rattle.ufs_spec.specs.Rpmb.{Refused, Results}
+use Rattle.ufs_laws.proofs.Common.{Command, None, Option, Refused, Results, Some, Status, ℕ, ◌≡◌}
 
 pub no_command : (n result : ℕ) (c : Command) → Results n None ≡ Results result (Some c) → ⊥
 no_command n result c e = cc

@@ -1,15 +1,12 @@
 -- What an RPMB request was that is accepted.
-use Rattle.std.proofs.Common.{◌≡◌, ◌∙◌, ◌&&◌, ◌==◌, ◌*◌, ◌+◌, ℕ, zero, suc, Bool, true, false, cond, not}
-use Rattle.std.proofs.Common.{List, [], ◌∷◌, All, Option, Some, None, refl, sym, ap, arith, length}
-use Rattle.std.proofs.lemmas.Bool.{and_parts, eqb-true, eq-eqb, false≢true, ltb-false, not-false, true≢false}
-use Rattle.std.specs.List.{flat_map, list_all}
-use Rattle.ufs_spec.specs.Commands.{Command, RpmbWrite, SetKey}
-use Rattle.ufs_spec.specs.Exchanges.{Registers, Status, invalid_list_field, sequence_error}
-use Rattle.ufs_spec.specs.Plain.{counter_end}
-use Rattle.ufs_spec.specs.Frames.{Frame}
-use Rattle.ufs_spec.specs.Rpmb.{Refused, Region, Results, RpmbOutcome, agrees, checks, command_in}
-use Rattle.ufs_spec.specs.Rpmb.{first_failed, fails_if, frames_mac, has_key, has_wrong_mac, is_past_area}
-use Rattle.ufs_spec.specs.Rpmb.{is_well_formed, lacks_result, last_mac, outcome_after, rpmb_outcome, same_bytes}
+use Rattle.ufs_laws.proofs.Common.{All, Bool, Command, Frame, List, None, Option, Refused, Registers, Results}
+use Rattle.ufs_laws.proofs.Common.{RpmbOutcome, RpmbWrite, SetKey, Some, Status, [], ap, arith, checks, command_in}
+use Rattle.ufs_laws.proofs.Common.{cond, counter_end, false, first_failed, flat_map, has_key, invalid_list_field}
+use Rattle.ufs_laws.proofs.Common.{is_well_formed, lacks_result, length, list_all, not, outcome_after, refl}
+use Rattle.ufs_laws.proofs.Common.{rpmb_outcome, sequence_error, suc, sym, true, zero, ℕ, ◌&&◌, ◌*◌, ◌+◌, ◌==◌, ◌∙◌}
+use Rattle.ufs_laws.proofs.Common.{◌∷◌, ◌≡◌}
+use Rattle.std.proofs.lemmas.Bool.{and_parts, eq-eqb, eqb-true, false≢true, ltb-false, not-false, true≢false}
+use Rattle.ufs_spec.specs.Rpmb.{Region, agrees, fails_if, frames_mac, has_wrong_mac, is_past_area, last_mac, same_bytes}
 use Rattle.ufs_laws.specs.RpmbWrites.{IsRightWrite, SaysTheSame}
 use Rattle.ufs_laws.proofs.rpmb_frames.RequestOutcomes.{no_command, refused, same_command}
 

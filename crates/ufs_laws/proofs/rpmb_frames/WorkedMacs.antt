@@ -1,5 +1,5 @@
 -- MACs by computing them (RFC 4231).
-use Rattle.std.proofs.Common.{◌≡◌, [], ◌∷◌, replicate, refl}
+use Rattle.ufs_laws.proofs.Common.{[], refl, replicate, ◌∷◌, ◌≡◌}
 use Rattle.sha2.specs.Sha256.{compress, digest_bytes, first_words, hash_after, rounds, schedule, sha256}
 use Rattle.ufs_spec.specs.Rpmb.{mac}
 

@@ -1,38 +1,28 @@
 -- What a call makes of the exchanges, behind what it does first: one happening of few kinds, for a reason. This is the
 -- one walk through messages, data and replies; what follows of it is a case for each kind (`behind_by`).
-use Rattle.std.proofs.Common.{◌≡◌, ℕ, ◌==◌, ◌&&◌, ◌+◌, Bool, true, false, if◌then◌else◌, not}
-use Rattle.std.proofs.Common.{List, [], ◌∷◌, ◌++◌, length, map}
-use Rattle.std.proofs.Common.{find, nat_le, nat_lt, Option, Some, None, refl, sym, subst}
+use Rattle.ufs_laws.proofs.Common.{Allowed, Answer, Answering, AreBytes, Array, Bool, Call, Cdb, Claim, Command, Deed}
+use Rattle.ufs_laws.proofs.Common.{Done, EndJob, Ending, Erasing, Faulty, Flight, ForTask, Gathering, GiveJob, Host}
+use Rattle.ufs_laws.proofs.Common.{HostFault, IsSpoken, List, Message, None, NotRead, OfDone, OfHost, OfReply, OfTake}
+use Rattle.ufs_laws.proofs.Common.{OfTurn, Option, Programming, Purpose, Query, ReadState, ReadWrong, Reader, Reading}
+use Rattle.ufs_laws.proofs.Common.{Reply, Request, Short, Some, Spelled, State, Status, Take, TakeStep, Task, Turn}
+use Rattle.ufs_laws.proofs.Common.{WasRead, WentWrong, [], accepts, and_parts, apply, begun, behind, count_at}
+use Rattle.ufs_laws.proofs.Common.{deed_after, eqb-true, false, find, if_cases, if◌then◌else◌, in_use, is_aborted}
+use Rattle.ufs_laws.proofs.Common.{is_asked_of, is_short_of, is_task_of, length, map, moves_after, nat_le, nat_lt}
+use Rattle.ufs_laws.proofs.Common.{none-some, not, numbers_of, plain_now, query_passed, refl, refusal, refused_or_begun}
+use Rattle.ufs_laws.proofs.Common.{refused_state, replied_by, result_of, same_Some, service, set_deed, setting_of}
+use Rattle.ufs_laws.proofs.Common.{short_replied, short_reply, subst, sym, tag_in, task_goes_on, task_of, task_read}
+use Rattle.ufs_laws.proofs.Common.{true, unit_of_request, unit_or_first, with_moves, with_short, with_task}
+use Rattle.ufs_laws.proofs.Common.{without_tasks, ℕ, ◌&&◌, ◌++◌, ◌+◌, ◌==◌, ◌∷◌, ◌≡◌}
 use Rattle.std.specs.Prelude.{Err, Ok}
-use Rattle.ufs_spec.proofs.Facts.{and_parts, eqb-true, if_cases, none-some, same_Some}
-use Rattle.ufs_spec.specs.Cells.{Array}
-use Rattle.ufs_spec.specs.Commands.{Command}
-use Rattle.ufs_spec.specs.Disk.{Erasing, Flight, Programming, Reading}
-use Rattle.ufs_spec.specs.Exchanges.{Answering, Deed, Gathering, NotRead, Purpose, ReadState, Short, Status, Task}
-use Rattle.ufs_spec.specs.Exchanges.{WasRead, count_at, is_asked_in, is_asked_of, is_short_of, is_task_of, short_reply}
-use Rattle.ufs_spec.specs.Exchanges.{task_of}
-use Rattle.ufs_spec.specs.Machine.{Allowed, Answer, Call, Done, Faulty, Host, OfDone, OfHost, OfReply, OfTake, OfTurn}
-use Rattle.ufs_spec.specs.Machine.{Reply, Spelled, Take, Turn, array_after, asked_fault, behind, begun, begun_if_any}
-use Rattle.ufs_spec.specs.Machine.{accepts, command_taken, data_for, data_heard, deed_after, ends_with, heard, in_use}
-use Rattle.ufs_spec.specs.Machine.{is_aborted, moves_after, refused_or_begun, read_noted, opening_fault, replied_by}
-use Rattle.ufs_spec.specs.Machine.{result_of, service, set_deed, short_replied, tag_in, task_goes_on, task_read}
-use Rattle.ufs_spec.specs.Machine.{unit_or_first, with_moves, with_short, with_task, without_tasks}
-use Rattle.ufs_spec.specs.Moves.{Claim, EndJob, Ending, GiveJob, ReadRight, ReadWrong, TakeStep, WentWell, WentWrong}
-use Rattle.ufs_spec.specs.Plain.{apply}
-use Rattle.ufs_spec.specs.Queries.{Query, query_code, volatile_after, setting_of}
-use Rattle.ufs_spec.specs.QueryAnswers.{may_set, query_done, query_failed, query_heard, query_passed}
-use Rattle.ufs_spec.specs.Refusals.{Request, State, numbers_of, plain_now, refusal, refused_state}
-use Rattle.ufs_spec.specs.Refusals.{unit_of_request}
-use Rattle.ufs_spec.specs.Exchanges.{most_tasks}
-use Rattle.ufs_spec.specs.declared.faults.HostFault.{HostFault}
+use Rattle.ufs_spec.specs.Exchanges.{is_asked_in, most_tasks}
+use Rattle.ufs_spec.specs.Machine.{array_after, asked_fault, begun_if_any, command_taken, data_for, data_heard}
+use Rattle.ufs_spec.specs.Machine.{ends_with, heard, opening_fault, read_noted}
+use Rattle.ufs_spec.specs.Moves.{ReadRight, WentWell}
+use Rattle.ufs_spec.specs.Queries.{query_code, volatile_after}
+use Rattle.ufs_spec.specs.QueryAnswers.{may_set, query_done, query_failed, query_heard}
 use Rattle.ufs_spec.specs.declared.faults.HostFault.TheVariants.{NotAskedFor, TagInUse}
-use Rattle.ufs_spec.specs.Messages.{AreBytes}
-use Rattle.ufs_laws.specs.Exchange.{IsSpoken}
-use Rattle.ufs_spec.specs.declared.messages.Message.{Message}
 use Rattle.ufs_spec.specs.declared.messages.Message.TheVariants as message
-use Rattle.ufs_spec.specs.declared.scsi.Cdb.{Cdb}
-use Rattle.ufs_spec.specs.declared.layer.Reader.{Reader}
-use Rattle.ufs_spec.specs.declared.layer.Reader.TheVariants.{ForNobody, ForRest, ForStep, ForTask}
+use Rattle.ufs_spec.specs.declared.layer.Reader.TheVariants.{ForNobody, ForRest, ForStep}
 use Rattle.ufs_laws.proofs.walk.WaysOfData.{Completion, WhyCompleted, completed, completes_by}
 use Rattle.ufs_spec.specs.declared.volatile.Volatile.{Volatile}
 

@@ -1,28 +1,19 @@
 -- What the end of a job, and a step of mending or collection, make of the translation layer: one effect of few kinds.
 -- So a law of both is a case for each kind that it looks at, and one for all others (`ended`, `turned_by`).
-use Rattle.std.proofs.Common.{◌≡◌, ◌⊎◌, ◌&&◌, ℕ, Bool, true, false, if◌then◌else◌, is_none, List, [], ◌∷◌, map, Option}
-use Rattle.std.proofs.Common.{Some, None, inl, inr, not, refl, sym, subst}
-use Rattle.ufs_spec.proofs.Facts.{none-some, same_Some}
-use Rattle.ufs_spec.specs.Cells.{Cell, Cells, GroupPage, Mark, MarkPage, Nothing}
-use Rattle.ufs_spec.specs.Disk.{Erasing, Flight, Programming, Reading}
-use Rattle.ufs_spec.specs.Disk.{Spot, at_die, erase_failed, erased, program_failed, programmed}
-use Rattle.ufs_spec.specs.Ledger.{Ledger}
-use Rattle.ufs_spec.specs.Moves.{Ending, ReadRight, ReadWrong, TakeStep, WentWell, WentWrong, die_idle, end_flight}
-use Rattle.ufs_spec.specs.Moves.{ending_fits, freed, mark_written, moved, page_written, read_right, read_wrong}
-use Rattle.ufs_spec.specs.Moves.{rests_without}
-use Rattle.ufs_spec.specs.Moves.{step_there, with_wanted}
-use Rattle.ufs_spec.specs.Translation.{CopyStep, Mended, Mending, Order, OrderCopy, OrderMark, OrderPlanMark}
-use Rattle.ufs_spec.specs.Translation.{OrderRepair, Plan, Repairing, Step, Translation, Unmarked, Work, copy_begun}
-use Rattle.ufs_spec.specs.Translation.{due_order, has_mark_number, has_number, has_stale, live_places, mark_ordered}
-use Rattle.ufs_spec.specs.Translation.{name_of, next_order, ordered, plan_order, repair_ordered, stepped, turned}
-use Rattle.ufs_spec.specs.Translation.{victim, victim_order, wants_collection, with_plan, with_step}
-use Rattle.ufs_spec.specs.declared.flash.Fence.{Fence}
-use Rattle.ufs_spec.specs.declared.flash.Key.{Key}
-use Rattle.ufs_spec.specs.declared.flash.Place.{Place}
-use Rattle.ufs_spec.specs.declared.flash.Tag.{Tag}
-use Rattle.ufs_spec.specs.declared.layer.Name.{Name}
-use Rattle.ufs_spec.specs.declared.layer.Reader.{Reader}
-use Rattle.ufs_spec.specs.declared.layer.Reader.TheVariants.{ForNobody, ForRest, ForStep, ForTask}
+use Rattle.ufs_laws.proofs.Common.{Bool, Cell, Cells, Ending, Erasing, Fence, Flight, ForTask, GroupPage, Key, Ledger}
+use Rattle.ufs_laws.proofs.Common.{List, Mark, MarkPage, Mended, Mending, Name, None, Nothing, Option, Place}
+use Rattle.ufs_laws.proofs.Common.{Programming, ReadWrong, Reader, Reading, Some, Spot, Tag, TakeStep, Translation}
+use Rattle.ufs_laws.proofs.Common.{Unmarked, WentWrong, Work, [], at_die, ending_fits, erased, false, has_stale}
+use Rattle.ufs_laws.proofs.Common.{if◌then◌else◌, inl, inr, is_none, map, moved, none-some, not, programmed, refl}
+use Rattle.ufs_laws.proofs.Common.{same_Some, subst, sym, true, ℕ, ◌&&◌, ◌∷◌, ◌≡◌, ◌⊎◌}
+use Rattle.ufs_spec.specs.Disk.{erase_failed, program_failed}
+use Rattle.ufs_spec.specs.Moves.{ReadRight, WentWell, die_idle, end_flight, freed, mark_written, page_written}
+use Rattle.ufs_spec.specs.Moves.{read_right, read_wrong, rests_without, step_there, with_wanted}
+use Rattle.ufs_spec.specs.Translation.{CopyStep, Order, OrderCopy, OrderMark, OrderPlanMark, OrderRepair, Plan}
+use Rattle.ufs_spec.specs.Translation.{Repairing, Step, copy_begun, due_order, has_mark_number, has_number, live_places}
+use Rattle.ufs_spec.specs.Translation.{mark_ordered, name_of, next_order, ordered, plan_order, repair_ordered, stepped}
+use Rattle.ufs_spec.specs.Translation.{turned, victim, victim_order, wants_collection, with_plan, with_step}
+use Rattle.ufs_spec.specs.declared.layer.Reader.TheVariants.{ForNobody, ForRest, ForStep}
 
 -- ## Effects
 

@@ -1,38 +1,25 @@
 -- What a call makes of the state: first a job begins or ends, or a step; and then come small changes alone. What they
 -- keep is a case for each kind of them (`kept`, `layer_kept`).
-use Rattle.std.proofs.Common.{◌≡◌, ℕ, ◌+◌, Bool, true, false, not, List, [], ◌∷◌, ◌++◌, map, filter, length, subst}
-use Rattle.std.proofs.Common.{Option, Some, None, refl}
-use Rattle.std.specs.List.{flat_map}
+use Rattle.ufs_laws.proofs.Common.{Answer, Answering, Array, Awaiting, Bool, Call, Cdb, Claim, Command, Deed, Done}
+use Rattle.ufs_laws.proofs.Common.{EndJob, Flight, Frame, GiveJob, Heard, Host, Key, List, Message, Move, None, Numbers}
+use Rattle.ufs_laws.proofs.Common.{OfDone, OfHost, OfReply, OfTake, OfTurn, Option, Pin, ReadState, Registers, Reply}
+use Rattle.ufs_laws.proofs.Common.{Request, RpmbRequest, Sending, Short, Some, State, Take, TakeStep, Task, Translation}
+use Rattle.ufs_laws.proofs.Common.{Turn, [], abort_moves, accepts, area_key, begun, behind, below, blocks_expected}
+use Rattle.ufs_laws.proofs.Common.{claimed_by, data_key, false, fills, filter, flat_map, given_back, group_of, if_both}
+use Rattle.ufs_laws.proofs.Common.{is_durable, is_short_of, is_task_of, is_to_fill, length, lock_applied, locked, map}
+use Rattle.ufs_laws.proofs.Common.{moved, moves_after, not, numbers_of, observe, plain_now, read_begun, refl}
+use Rattle.ufs_laws.proofs.Common.{refused_state, replied, requested, set_deed, short_locked, subst, task_filled}
+use Rattle.ufs_laws.proofs.Common.{task_locked, task_read, true, with_deed, with_moves, with_request, with_short}
+use Rattle.ufs_laws.proofs.Common.{with_task, without_tasks, ℕ, ◌++◌, ◌+◌, ◌∷◌, ◌≡◌}
 use Rattle.std.specs.Prelude.{Ok}
-use Rattle.ufs_spec.specs.Cells.{Array}
-use Rattle.ufs_spec.specs.Commands.{Command}
-use Rattle.ufs_spec.specs.Changes.{given_back}
-use Rattle.ufs_spec.specs.Disk.{Flight}
-use Rattle.ufs_spec.specs.FrameRequests.{first_page, page_kept, pages_named, requested, with_request}
-use Rattle.ufs_spec.specs.Frames.{Frame}
-use Rattle.ufs_spec.specs.Exchanges.{Answering, Awaiting, Deed, ReadState, Registers, Sending, Short, Task, is_short_of}
-use Rattle.ufs_spec.specs.Exchanges.{is_task_of, with_deed, RpmbRequest}
-use Rattle.ufs_spec.specs.Keys.{area_key, below, data_key, group_of}
-use Rattle.ufs_spec.specs.Machine.{Answer, Reply, Call, Done, OfDone, Take, OfTake, Heard, OfHost, Host, OfReply, Turn}
-use Rattle.ufs_spec.specs.Machine.{OfTurn, abort_moves, accepts, array_after, behind, begun, blocks_expected}
-use Rattle.ufs_spec.specs.Machine.{claimed_by, fill_moves, fills, hears, is_to_fill, is_durable, kept_at, lock_applied}
-use Rattle.ufs_spec.specs.Machine.{moves_after, observe, read_begun, registers_after, replied, set_deed, short_locked}
-use Rattle.ufs_spec.specs.Machine.{task_filled, task_locked, task_read, acknowledges, with_moves, with_short, with_task}
-use Rattle.ufs_spec.specs.Machine.{without_tasks}
-use Rattle.ufs_spec.specs.Moves.{Accept, Claim, EndJob, Keep, LetGo, LetGoAll, Move, Release, GiveJob, Acknowledge}
-use Rattle.ufs_spec.specs.Moves.{TakeStep, WantPage, moved}
-use Rattle.ufs_spec.specs.Refusals.{Request, State, locked, numbers_of, plain_now, refused_state}
-use Rattle.ufs_spec.specs.Translation.{Pin, Translation}
-use Rattle.ufs_spec.specs.declared.configs.Numbers.{Numbers}
-use Rattle.ufs_spec.specs.declared.flash.Key.{Key}
-use Rattle.ufs_spec.specs.declared.messages.Message.{Message}
-use Rattle.ufs_spec.specs.declared.scsi.Cdb.{Cdb}
+use Rattle.ufs_spec.specs.FrameRequests.{first_page, page_kept, pages_named}
+use Rattle.ufs_spec.specs.Machine.{acknowledges, array_after, fill_moves, hears, kept_at, registers_after}
+use Rattle.ufs_spec.specs.Moves.{Accept, Acknowledge, Keep, LetGo, LetGoAll, Release, WantPage}
 use Rattle.ufs_spec.specs.declared.scsi.Cdb.TheVariants as cdb
 pub use Rattle.ufs_laws.proofs.walk.Happenings.{first, job_over, Aborts, Begins, BlockRead, Gathers, GoesOn, Happening}
 pub use Rattle.ufs_laws.proofs.walk.Happenings.{IsOver, NothingMore, Refuses, Replies, ShortOver, behind_by, happened}
 pub use Rattle.ufs_laws.proofs.walk.Happenings.{Completes, Sets, Tells}
 use Rattle.std.proofs.lemmas.List.{map-id}
-use Rattle.ufs_spec.proofs.Facts.{if_both}
 use Rattle.ufs_laws.proofs.walk.WaysOfCommands.{Beginning, Gathered, Handing, Reading, WhyBegun, begins_by, begun_as}
 use Rattle.ufs_laws.proofs.walk.WaysOfData.{Accepted, AcceptsFrames, Completion, HasResult, ReadsArea, Told}
 use Rattle.ufs_laws.proofs.walk.WaysOfData.{claim_of_task, completed}

@@ -1,24 +1,17 @@
 -- What holds of each open task: a law of tasks is a case for each way in which a task is opened and goes on, and each
 -- call keeps it.
-use Rattle.std.proofs.Common.{◌≡◌, ℕ, Bool, true, false, not, ◌++◌, List, [], ◌∷◌, filter, find, length, map, nat_lt}
-use Rattle.std.proofs.Common.{Option, Some, None, refl, sym, subst, ap, ◌∙◌, inl}
+use Rattle.ufs_laws.proofs.Common.{Allowed, Answer, Answering, Array, Awaiting, Bool, Call, Cdb, Deed, Done, Ending}
+use Rattle.ufs_laws.proofs.Common.{Every, Faulty, Flight, ForFrames, Gathering, Good, Host, IsRequest, IsSpoken, List}
+use Rattle.ufs_laws.proofs.Common.{Message, None, OfDone, OfHost, OfReply, OfTake, OfTurn, Option, Purpose, ReadBlock}
+use Rattle.ufs_laws.proofs.Common.{ReadState, ReadingArea, Reply, Request, RpmbRequest, Sending, SendingBytes, Some}
+use Rattle.ufs_laws.proofs.Common.{Spelled, State, Status, Take, Task, Turn, [], ap, begun, behind, count_at}
+use Rattle.ufs_laws.proofs.Common.{deed_after, false, fills, filter, find, if_both, in_use, inl, is_task_of, length}
+use Rattle.ufs_laws.proofs.Common.{locked, map, nat_lt, none-some, not, observe, refl, refusal, same_Some, service}
+use Rattle.ufs_laws.proofs.Common.{subst, sym, task_filled, task_locked, task_of, task_read, true, unit_of_request}
+use Rattle.ufs_laws.proofs.Common.{unit_or_first, with_deed, with_request, ℕ, ◌++◌, ◌∙◌, ◌∷◌, ◌≡◌}
 use Rattle.std.specs.Prelude.{Ok}
-use Rattle.ufs_spec.proofs.Facts.{if_both, none-some, same_Some}
-use Rattle.ufs_laws.specs.Exchange.{Asks, Every, IsAskedIn, IsRequest, IsSpoken}
-use Rattle.ufs_spec.specs.Cells.{Array}
-use Rattle.ufs_spec.specs.Disk.{Flight}
-use Rattle.ufs_spec.specs.Exchanges.{Answering, Awaiting, Deed, ForFrames, Gathering, Good, Purpose, ReadBlock}
-use Rattle.ufs_spec.specs.Exchanges.{ReadState, ReadingArea, RpmbRequest, Sending, SendingBytes, Status, Task}
-use Rattle.ufs_spec.specs.Exchanges.{count_at, is_task_of, task_of, with_deed}
-use Rattle.ufs_spec.specs.FrameRequests.{with_request}
-use Rattle.ufs_spec.specs.Machine.{Answer, Reply, Call, Faulty, Done, OfDone, Take, OfTake, OfHost, Host, OfReply}
-use Rattle.ufs_spec.specs.Machine.{Spelled, Turn, OfTurn, begun, deed_after, fills, observe, behind, task_filled}
-use Rattle.ufs_spec.specs.Machine.{task_locked, task_read, unit_or_first, Allowed, in_use, service}
-use Rattle.ufs_spec.specs.Moves.{Ending}
-use Rattle.ufs_spec.specs.Refusals.{Request, State, locked, refusal, unit_of_request}
-use Rattle.ufs_spec.specs.declared.messages.Message.{Message}
+use Rattle.ufs_laws.specs.Exchange.{Asks, IsAskedIn}
 use Rattle.ufs_spec.specs.declared.messages.Message.TheVariants as message
-use Rattle.ufs_spec.specs.declared.scsi.Cdb.{Cdb}
 use Rattle.ufs_laws.proofs.walk.Happenings.{Aborts, Begins, BlockRead, Gathers, GoesOn, Happening, IsCommand, IsOver}
 use Rattle.ufs_laws.proofs.walk.Happenings.{Refuses, Why, behind_by, ends_by, happened, job_over, Completes}
 use Rattle.ufs_laws.proofs.walk.WaysOfCommands.{begins_by, beginning_opens}

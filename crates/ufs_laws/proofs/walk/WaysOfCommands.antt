@@ -1,23 +1,19 @@
 -- How a command begins: in one of few ways, for a reason. A law of it is a case for each way (`begins_by`), so that a
 -- new command adds its lines here. What comes of it once all its data are there is told in WaysOfData.
-use Rattle.std.proofs.Common.{nat_le, nat_lt, not, zero, suc, ◌≢◌, true, false, ◌≡◌, ℕ, ◌*◌, ◌<◌, ◌≤◌, ◌^◌, ◌==◌, ◌||◌, Bool}
-use Rattle.std.proofs.Common.{if◌then◌else◌, List, [], ◌∷◌, ◌++◌, length, take, Some, refl, arith}
-use Rattle.ufs_spec.proofs.Facts.{and_parts, eqb-false, eqb-true, false≢true, if_both, if_cases, leb-true, ltb-false, not-false}
+use Rattle.ufs_laws.proofs.Common.{Answering, Awaiting, Bool, Cdb, Claim, ForFrames, ForUnmap, ForWrite, Gathering}
+use Rattle.ufs_laws.proofs.Common.{Good, List, Numbers, Purpose, Request, Some, State, Task, [], and_parts, arith}
+use Rattle.ufs_laws.proofs.Common.{begun, command_blocks, data_begun, eqb-true, false, false≢true, has_wrong_list}
+use Rattle.ufs_laws.proofs.Common.{if_both, if_cases, if◌then◌else◌, is_among, is_too_long, kind_of, leb-true, length}
+use Rattle.ufs_laws.proofs.Common.{mended, nat_le, nat_lt, not, not-false, numbers_of, read_begun, refl, suc, take}
+use Rattle.ufs_laws.proofs.Common.{true, with_moves, with_task, zero, ℕ, ◌*◌, ◌++◌, ◌<◌, ◌==◌, ◌^◌, ◌||◌, ◌∷◌, ◌≡◌, ◌≢◌}
+use Rattle.ufs_laws.proofs.Common.{◌≤◌}
+use Rattle.ufs_spec.proofs.Facts.{eqb-false, ltb-false}
 use Rattle.ufs_spec.specs.Begins.{frames_begun, told_bytes}
-use Rattle.ufs_spec.specs.CdbFields.{kind_of}
 use Rattle.ufs_spec.specs.Cdbs.{address_of, blocks_of}
-use Rattle.ufs_spec.specs.Exchanges.{Answering, Awaiting, ForFrames, ForUnmap, ForWrite, Gathering, Good, Purpose, Task}
-use Rattle.ufs_spec.specs.Messages.{is_among}
-use Rattle.ufs_spec.specs.Machine.{begun, data_begun, flush_begun, read_begun, with_moves}
-use Rattle.ufs_spec.specs.Machine.{with_task}
-use Rattle.ufs_spec.specs.Moves.{Claim}
-use Rattle.ufs_spec.specs.Refusals.{Request, State, has_wrong_list, is_frames, is_too_long, mended, needs_mended}
-use Rattle.ufs_spec.specs.Refusals.{numbers_of, slots_needed}
-use Rattle.ufs_spec.specs.Configs.{command_blocks}
-use Rattle.ufs_spec.specs.declared.configs.Numbers.{Numbers}
+use Rattle.ufs_spec.specs.Machine.{flush_begun}
+use Rattle.ufs_spec.specs.Refusals.{is_frames, needs_mended, slots_needed}
 use Rattle.ufs_spec.specs.declared.operations.Kind.TheVariants as kind
 use Rattle.ufs_spec.specs.declared.operations.Told.{Told}
-use Rattle.ufs_spec.specs.declared.scsi.Cdb.{Cdb}
 use Rattle.ufs_spec.specs.declared.scsi.Cdb.TheVariants as cdb
 
 pub data Beginning : Type 0 where

@@ -1,23 +1,21 @@
 -- What comes of a task once all its data are there: one of few ways, for a reason. A law of it is a case for each way
 -- (`completes_by`), so that new data add their lines here.
-use Rattle.std.proofs.Common.{true, false, ◌≡◌, ◌⊎◌, ℕ, ◌+◌, ◌/◌, ◌==◌, Bool, if◌then◌else◌, not, List, [], ◌∷◌, length}
-use Rattle.std.proofs.Common.{Option, Some, None, inl, inr, refl, sym, subst}
-use Rattle.ufs_bytes.specs.Fields.{field_at}
-use Rattle.ufs_spec.proofs.Facts.{if_cases, not-false}
-use Rattle.ufs_spec.specs.Changes.{given_back}
-use Rattle.ufs_spec.specs.Commands.{Command, Write, Zero}
-use Rattle.ufs_spec.specs.DataOuts.{has_list_header, is_past_unit, is_wrong_descriptor, unmap_accepted, unmap_complete}
-use Rattle.ufs_spec.specs.Exchanges.{Answering, Awaiting, Deed, ForFrames, ForUnmap, ForWrite, Gathering, Good, Purpose}
-use Rattle.ufs_spec.specs.Exchanges.{ReadingArea, Registers, Sending, SendingBytes, Status, Task, invalid_list_field}
-use Rattle.ufs_spec.specs.Exchanges.{out_of_range, sequence_error, write_error}
-use Rattle.ufs_spec.specs.FrameRequests.{answered_at_once, area_read, frames_complete, keeps_area, reads_area}
-use Rattle.ufs_spec.specs.FrameRequests.{request_decided, requested}
-use Rattle.ufs_spec.specs.Frames.{Frame, frames_in}
-use Rattle.ufs_spec.specs.Machine.{accepts, blocks_in, claimed_by, complete, set_deed, with_moves, write_deed}
+use Rattle.ufs_laws.proofs.Common.{Answering, Awaiting, Bool, Command, Deed, ForFrames, ForUnmap, ForWrite, Frame}
+use Rattle.ufs_laws.proofs.Common.{Gathering, Good, List, None, Option, Purpose, ReadingArea, Refused, Registers}
+use Rattle.ufs_laws.proofs.Common.{Results, RpmbOutcome, Sending, SendingBytes, Some, State, Status, Task, Write, Zero}
+use Rattle.ufs_laws.proofs.Common.{[], accepts, accepts_nothing, blocks_in, checks, claimed_by, command_in, complete}
+use Rattle.ufs_laws.proofs.Common.{false, field_at, first_failed, frames_complete, given_back, if_cases, if◌then◌else◌}
+use Rattle.ufs_laws.proofs.Common.{inl, inr, invalid_list_field, is_past_unit, is_well_formed, is_wrong_descriptor}
+use Rattle.ufs_laws.proofs.Common.{lacks_result, length, locked, not, not-false, numbers_of, out_of_range}
+use Rattle.ufs_laws.proofs.Common.{outcome_after, plain_now, reads_area, refl, request_decided, requested, rpmb_outcome}
+use Rattle.ufs_laws.proofs.Common.{sequence_error, set_deed, subst, sym, true, unit_numbers_at, unmap_complete}
+use Rattle.ufs_laws.proofs.Common.{with_moves, write_error, ℕ, ◌+◌, ◌/◌, ◌==◌, ◌∷◌, ◌≡◌, ◌⊎◌}
+use Rattle.ufs_spec.specs.DataOuts.{has_list_header, unmap_accepted}
+use Rattle.ufs_spec.specs.FrameRequests.{answered_at_once, area_read, keeps_area}
+use Rattle.ufs_spec.specs.Frames.{frames_in}
+use Rattle.ufs_spec.specs.Machine.{write_deed}
 use Rattle.ufs_spec.specs.Moves.{Release}
-use Rattle.ufs_spec.specs.Refusals.{State, accepts_nothing, locked, numbers_of, plain_now, unit_numbers_at}
-use Rattle.ufs_spec.specs.Rpmb.{Refused, Region, Results, RpmbOutcome, lacks_result, outcome_after, region_of}
-use Rattle.ufs_spec.specs.Rpmb.{checks, command_in, first_failed, is_well_formed, rpmb_outcome}
+use Rattle.ufs_spec.specs.Rpmb.{Region, region_of}
 
 pub data Completion : Type 0 where
   -- the task is answered, and gives back slots

@@ -1,18 +1,13 @@
 -- The worked rows of a gap: what is asked of their lists of pages is computed.
-use Rattle.std.proofs.Common.{◌≡◌, ℕ, suc, true, leb, List, Some, None, refl, sym, ◌∙◌, subst, arith}
+use Rattle.ufs_laws.proofs.Common.{CellsSound, Fence, Holds, IsKept, IsNewestMark, IsRecorded, IsWhole, List, Mark}
+use Rattle.ufs_laws.proofs.Common.{None, Numbers, Place, Some, Tag, arith, data_key, first_mark, refl, subst, suc, sym}
+use Rattle.ufs_laws.proofs.Common.{true, ℕ, ◌∙◌, ◌≡◌}
+use Rattle.std.proofs.Common.{leb}
 use Rattle.ufs_laws.proofs.worked_rows.ListedCells.{every, held, newest, not_whole, recorded, sound, tags, whole, zeros}
 use Rattle.ufs_laws.proofs.array_cells.StandsForOne.{kept_one}
-use Rattle.ufs_laws.specs.GapRows.{Standing, block_of, cells_of, fence_mark, fenced_pages, first_mark, gap, gap_fenced}
+use Rattle.ufs_laws.specs.GapRows.{Standing, block_of, cells_of, fence_mark, fenced_pages, gap, gap_fenced}
 use Rattle.ufs_laws.specs.GapRows.{gap_pages, gap_then_write, last_mark, write_pages}
-use Rattle.ufs_spec.specs.Cells.{Mark}
-use Rattle.ufs_spec.specs.Keys.{data_key}
-use Rattle.ufs_spec.specs.Kept.{Holds, IsKept, IsNewestMark, IsRecorded, IsWhole}
 use Rattle.ufs_spec.specs.Plain.{zero_block}
-use Rattle.ufs_spec.specs.Sound.{CellsSound}
-use Rattle.ufs_spec.specs.declared.configs.Numbers.{Numbers}
-use Rattle.ufs_spec.specs.declared.flash.Fence.{Fence}
-use Rattle.ufs_spec.specs.declared.flash.Place.{Place}
-use Rattle.ufs_spec.specs.declared.flash.Tag.{Tag}
 
 abbrev place : ℕ → ℕ → ℕ → Place
 place die block page = record { die = die; block = block; page = page }

@@ -1,19 +1,16 @@
 -- Cells that stand in a list: a test of each of them tells of every place.
-use Rattle.std.proofs.Common.{◌≡◌, ℕ, ◌<◌, Bool, true, false, not, ◌&&◌, ◌||◌, if◌then◌else◌, eqb, leb, List, [], ◌∷◌}
-use Rattle.std.proofs.Common.{Option, Some, None, refl, sym, ap, ap₂, ◌∙◌, inl, inr, ⊎_elim, arith, leb-true, eqb-true}
-use Rattle.std.proofs.Common.{eq-eqb, true≢false}
+use Rattle.ufs_laws.proofs.Common.{Bool, Cell, CellsSound, Fence, GroupPage, HasNone, Holds, IsNewestMark, IsRecorded}
+use Rattle.ufs_laws.proofs.Common.{IsWhole, Key, List, Mark, MarkPage, None, Nothing, Option, Place, Some, Tag, []}
+use Rattle.ufs_laws.proofs.Common.{and_parts, ap, arith, at_most, eq-eqb, false, fence_in, if◌then◌else◌, inl, inr, not}
+use Rattle.ufs_laws.proofs.Common.{refl, sym, true, ℕ, ⊎_elim, ◌&&◌, ◌<◌, ◌||◌, ◌∙◌, ◌∷◌, ◌≡◌}
+use Rattle.std.proofs.Common.{ap₂, eqb, eqb-true, leb, leb-true, true≢false}
 use Rattle.ufs_laws.proofs.array_cells.StandsForOne.{recorded_one}
 use Rattle.ufs_laws.specs.GapRows.{Standing, cells_of}
-use Rattle.ufs_spec.specs.Cells.{Cell, GroupPage, Mark, MarkPage, Nothing, key_of, same_place}
+use Rattle.ufs_spec.specs.Cells.{key_of, same_place}
 use Rattle.ufs_spec.specs.Keys.{same_key}
-use Rattle.ufs_spec.specs.Kept.{HasNone, Holds, IsFenced, IsNewestMark, IsRecorded, IsWhole, fence_in}
+use Rattle.ufs_spec.specs.Kept.{IsFenced}
 use Rattle.ufs_spec.specs.Plain.{zero_block}
-use Rattle.ufs_spec.specs.Sound.{CellsSound}
-use Rattle.ufs_spec.specs.declared.flash.Fence.{Fence}
-use Rattle.ufs_spec.specs.declared.flash.Key.{Key}
-use Rattle.ufs_spec.specs.declared.flash.Place.{Place}
-use Rattle.ufs_spec.specs.declared.flash.Tag.{Tag}
-use Rattle.ufs_spec.proofs.Facts.{and_parts, at_most, or_cases}
+use Rattle.ufs_spec.proofs.Facts.{or_cases}
 use Rattle.ufs_spec.proofs.Equalities.{key_same}
 
 -- Tests

@@ -1,21 +1,16 @@
 -- What the host says in the run is spelled by bytes.
-use Rattle.std.proofs.Common.{◌≡◌, ℕ, zero, suc, ◌+◌, ◌==◌, ◌&&◌, ◌||◌, not, if◌then◌else◌, nat_lt, Bool, true}
-use Rattle.std.proofs.Common.{List, [], ◌∷◌, ◌++◌, length, Option, Some, None, refl, ap, ◌∙◌, arith}
+use Rattle.ufs_laws.proofs.Common.{AreBytes, Bool, Cdb, HostFault, IsBlock, List, Message, None, Option, Some, []}
+use Rattle.ufs_laws.proofs.Common.{and_parts, ap, append-nil, arith, code_of, if◌then◌else◌, length, length-append}
+use Rattle.ufs_laws.proofs.Common.{nat_lt, not, refl, spelling, suc, the_data, the_read, the_write, true, zero, zeros}
+use Rattle.ufs_laws.proofs.Common.{ℕ, ◌&&◌, ◌++◌, ◌+◌, ◌==◌, ◌||◌, ◌∙◌, ◌∷◌, ◌≡◌}
 use Rattle.std.proofs.lemmas.Bool.{ltb-true}
-use Rattle.std.proofs.lemmas.List.{append-nil, length-append}
-use Rattle.ufs_laws.specs.Runs.{IsSaid, the_data, the_read, the_write}
+use Rattle.ufs_laws.specs.Runs.{IsSaid}
 use Rattle.ufs_spec.specs.Cdbs.{cdb_bytes}
-use Rattle.ufs_spec.specs.Keys.{IsBlock}
-use Rattle.ufs_spec.specs.Messages.{AreBytes, code_of, has_digest, has_extra_header, has_other_code, header}
-use Rattle.ufs_spec.specs.Messages.{host_codes, host_fault_of, may_have, padding, segment_length, spelling, transfer}
-use Rattle.ufs_spec.specs.Messages.{zeros}
-use Rattle.ufs_spec.specs.declared.faults.HostFault.{HostFault}
+use Rattle.ufs_spec.specs.Messages.{has_digest, has_extra_header, has_other_code, header}
+use Rattle.ufs_spec.specs.Messages.{host_codes, host_fault_of, may_have, padding, segment_length, transfer}
 use Rattle.ufs_spec.specs.declared.faults.HostFault.TheVariants.{Code, Digest, Ehs, Length, Short}
-use Rattle.ufs_spec.specs.declared.messages.Message.{Message}
 use Rattle.ufs_spec.specs.declared.messages.Message.TheVariants as message
-use Rattle.ufs_spec.specs.declared.scsi.Cdb.{Cdb}
 use Rattle.ufs_spec.specs.declared.scsi.Cdb.TheVariants as cdb
-use Rattle.ufs_spec.proofs.Facts.{and_parts}
 
 -- Bytes that can be looked at
 

@@ -1,7 +1,11 @@
 -- The run of a new device, event by event: each answer is right and no other one is, and the state behind it is known.
-use Rattle.std.proofs.Common.{◌≡◌, ℕ, true, false, List, [], ◌∷◌, length, Some, None, Ok, refl, sym, ap, ◌∙◌, subst}
-use Rattle.std.proofs.Common.{inl, inr, arith}
-use Rattle.std.proofs.lemmas.List.{take_all}
+use Rattle.ufs_laws.proofs.Common.{Answer, Answering, Awaiting, Call, Done, Flight, ForTask, ForWrite, Gets, Good, Host}
+use Rattle.ufs_laws.proofs.Common.{IsNew, List, MarkPage, None, OfDone, OfReply, OfTake, OfTurn, Ok, Reply, Some, State}
+use Rattle.ufs_laws.proofs.Common.{Take, Turn, Unread, WasRead, [], accepts, ap, arith, data_program, data_read}
+use Rattle.ufs_laws.proofs.Common.{ending_fits, erased, false, fills, first_mark, heard, held, inl, inr, is_asked_of}
+use Rattle.ufs_laws.proofs.Common.{length, lock_applied, mended, observe, programmed, refl, result_of, row, set_deed}
+use Rattle.ufs_laws.proofs.Common.{shape_of, shape_of_numbers, subst, sym, take_all, the_data, the_read, the_write}
+use Rattle.ufs_laws.proofs.Common.{true, want_at, ℕ, ◌∙◌, ◌∷◌, ◌≡◌}
 use Rattle.ufs_laws.proofs.lives.EventsLead.{well_fits}
 use Rattle.ufs_laws.proofs.new_dies.NewDeviceState.{Open, new_state, open_in, state_is}
 use Rattle.ufs_laws.proofs.answers.OnlyAnswers.{finish_gets, flight_gets, host_gets, none_gets, nothing_gets, read_gets}
@@ -14,25 +18,17 @@ use Rattle.ufs_laws.proofs.worked_run.RunStates.{pending, pending_with, programm
 use Rattle.ufs_laws.proofs.worked_run.RunStates.{reading_disk, reading_with, sending_block, sent, told, was_read}
 use Rattle.ufs_laws.proofs.worked_run.RunStates.{write_task, writing, writing_disk, written, written_array}
 use Rattle.ufs_laws.proofs.worked_run.RunStates.{written_ledger}
-use Rattle.ufs_laws.specs.GapRows.{first_mark, write_page}
-use Rattle.ufs_laws.specs.Runs.{Gets, IsNew, data_in, the_data, data_program, data_read, erase, good, heard}
-use Rattle.ufs_laws.specs.Runs.{mark_program, place_of, the_read, ready, row, the_write, state_1, state_2, state_3}
-use Rattle.ufs_laws.specs.Runs.{state_4, state_5, state_6, state_7, state_8, state_9, state_10, state_11, state_12}
-use Rattle.ufs_laws.specs.Runs.{state_13, state_14, state_15, state_16, state_17, state_18, state_19, state_20}
-use Rattle.ufs_laws.specs.Runs.{state_21, state_22, state_23, state_24}
+use Rattle.ufs_laws.specs.GapRows.{write_page}
+use Rattle.ufs_laws.specs.Runs.{data_in, erase, good, mark_program, place_of, ready, state_1, state_10, state_11}
+use Rattle.ufs_laws.specs.Runs.{state_12, state_13, state_14, state_15, state_16, state_17, state_18, state_19, state_2}
+use Rattle.ufs_laws.specs.Runs.{state_20, state_21, state_22, state_23, state_24, state_3, state_4, state_5, state_6}
+use Rattle.ufs_laws.specs.Runs.{state_7, state_8, state_9}
 use Rattle.ufs_spec.specs.Cdbs.{cdb_bytes}
-use Rattle.ufs_spec.specs.Cells.{MarkPage}
 use Rattle.ufs_spec.specs.Commands as command
-use Rattle.ufs_spec.specs.Disk.{Flight, ended, erased, programmed}
-use Rattle.ufs_spec.specs.Exchanges.{Answering, Awaiting, ForWrite, Good, Unread, WasRead, data_message, is_asked_of}
-use Rattle.ufs_spec.specs.Lives.{ended_well, held}
-use Rattle.ufs_spec.specs.Machine.{Answer, Reply, Call, Done, Host, OfDone, Take, OfTake, OfReply, Turn, OfTurn}
-use Rattle.ufs_spec.specs.Machine.{observe, accepts, asked_fault, fills, lock_applied, result_of, set_deed}
-use Rattle.ufs_spec.specs.Moves.{ending_fits}
-use Rattle.ufs_spec.specs.Plain.{shape_of, shape_of_numbers}
-use Rattle.ufs_spec.specs.Refusals.{State, mended}
-use Rattle.ufs_spec.specs.Translation.{want_at}
-use Rattle.ufs_spec.specs.declared.layer.Reader.TheVariants.{ForTask}
+use Rattle.ufs_spec.specs.Disk.{ended}
+use Rattle.ufs_spec.specs.Exchanges.{data_message}
+use Rattle.ufs_spec.specs.Lives.{ended_well}
+use Rattle.ufs_spec.specs.Machine.{asked_fault}
 use Rattle.ufs_spec.specs.declared.messages.Message.TheVariants as message
 use Rattle.ufs_spec.specs.declared.scsi.Cdb.TheVariants as cdb
 

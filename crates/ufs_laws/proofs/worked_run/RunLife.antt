@@ -1,24 +1,20 @@
 -- The run of a new device is a life: each event is a call, and each output shows its answer.
-use Rattle.std.proofs.Common.{◌≡◌, ℕ, List, [], ◌∷◌, length, None, Ok, refl, sym, subst}
+use Rattle.ufs_laws.proofs.Common.{Answer, Call, Event, Flight, IsCall, IsFinish, IsHeard, IsNew, Leads, Life, List}
+use Rattle.ufs_laws.proofs.Common.{None, Ok, Output, State, [], data_program, data_read, length, refl, subst, sym}
+use Rattle.ufs_laws.proofs.Common.{the_data, the_read, the_write, ℕ, ◌∷◌, ◌≡◌}
 use Rattle.std.specs.Global.{Vec}
 use Rattle.ufs_laws.proofs.lives.LivesJoined.{join}
 use Rattle.ufs_laws.proofs.worked_run.RunEvents.{Happens, end_of, event_1, event_2, event_3, event_4, event_5, event_6}
 use Rattle.ufs_laws.proofs.worked_run.RunEvents.{event_7, event_8, event_9, event_10, event_11, event_12, event_13}
 use Rattle.ufs_laws.proofs.worked_run.RunEvents.{event_14, event_15, event_16, event_17, event_18, event_19, event_20}
 use Rattle.ufs_laws.proofs.worked_run.RunEvents.{event_21, event_22, event_23, event_24, Ends}
-use Rattle.ufs_laws.specs.Runs.{IsNew, begins, data_message, data_program, data_read, good_message, pending_events}
-use Rattle.ufs_laws.specs.Runs.{pending_outputs, run_events, run_outputs, the_data, the_read, the_write, state_1}
-use Rattle.ufs_laws.specs.Runs.{state_2, state_3, state_4, state_5, state_6, state_7, state_8, state_9, state_10}
-use Rattle.ufs_laws.specs.Runs.{state_11, state_12, state_13, state_14, state_15, state_16, state_17, state_18}
-use Rattle.ufs_laws.specs.Runs.{state_19, state_20, state_21, state_22, state_23, state_24, told, write_events}
-use Rattle.ufs_laws.specs.Runs.{write_outputs}
-use Rattle.ufs_spec.specs.Disk.{Flight}
-use Rattle.ufs_spec.specs.Lives.{IsCall, IsFinish, IsShown, Leads, Life}
-use Rattle.ufs_spec.specs.Machine.{Answer, Call, IsHeard}
-use Rattle.ufs_spec.specs.Refusals.{State}
-use Rattle.ufs_spec.specs.declared.events.Event.{Event}
+use Rattle.ufs_laws.specs.Runs.{begins, data_message, good_message, pending_events, pending_outputs, run_events}
+use Rattle.ufs_laws.specs.Runs.{run_outputs, state_1, state_10, state_11, state_12, state_13, state_14, state_15}
+use Rattle.ufs_laws.specs.Runs.{state_16, state_17, state_18, state_19, state_2, state_20, state_21, state_22, state_23}
+use Rattle.ufs_laws.specs.Runs.{state_24, state_3, state_4, state_5, state_6, state_7, state_8, state_9, told}
+use Rattle.ufs_laws.specs.Runs.{write_events, write_outputs}
+use Rattle.ufs_spec.specs.Lives.{IsShown}
 use Rattle.ufs_spec.specs.declared.events.Event.TheVariants as event
-use Rattle.ufs_spec.specs.declared.events.Output.{Output}
 use Rattle.ufs_spec.specs.declared.events.Output.TheVariants as output
 
 -- an event leads on by its call and the answer to it

@@ -1,25 +1,22 @@
 -- The states of the run of a new device, one by one.
-use Rattle.std.proofs.Common.{Option, ◌≡◌, ◌==◌, ℕ, ◌≤◌, Bool, true, false, if◌then◌else◌, List, [], ◌∷◌, length, take}
-use Rattle.std.proofs.Common.{drop, map, slice_index_or, slice_set, Some, None, refl, ap, arith}
-use Rattle.std.proofs.lemmas.Bool.{le-ltb}
-use Rattle.std.proofs.lemmas.List.{get_or_at, length-take-le}
+use Rattle.ufs_laws.proofs.Common.{Answering, Awaiting, Bool, Deed, Disk, Flight, ForWrite, Gathering, Good, Item}
+use Rattle.ufs_laws.proofs.Common.{Ledger, List, MarkPage, Mended, Name, None, Option, Pin, Plain, Purpose, ReadState}
+use Rattle.ufs_laws.proofs.Common.{Sending, Some, Spot, State, Task, Unread, WasRead, Work, [], ap, apply, arith}
+use Rattle.ufs_laws.proofs.Common.{at_die, block_at, complete, data_key, data_program, data_read, drop, erased, false}
+use Rattle.ufs_laws.proofs.Common.{first_mark, if◌then◌else◌, le-ltb, length, length-take-le, map, page_of, programmed}
+use Rattle.ufs_laws.proofs.Common.{refl, row, set_deed, shape_of, shape_of_numbers, slice_index_or, slice_set, take}
+use Rattle.ufs_laws.proofs.Common.{true, with_part, ℕ, ◌==◌, ◌∷◌, ◌≡◌, ◌≤◌}
+use Rattle.std.proofs.lemmas.List.{get_or_at}
 use Rattle.ufs_laws.proofs.new_dies.NewDeviceState.{Open, new_disk, new_ledger, new_state, new_translation, new_work}
-use Rattle.ufs_laws.specs.GapRows.{first_mark, write_page}
-use Rattle.ufs_laws.specs.Runs.{data_program, data_read, erase, mark_program, place_of, row}
-use Rattle.ufs_spec.specs.Cells.{MarkPage}
+use Rattle.ufs_laws.specs.GapRows.{write_page}
+use Rattle.ufs_laws.specs.Runs.{erase, mark_program, place_of}
 use Rattle.ufs_spec.specs.Commands as command
 use Rattle.ufs_spec.specs.Dies.{blank_page}
-use Rattle.ufs_spec.specs.Disk.{Disk, Flight, Spot, at_die, at_place, job_begun, ended, erased, page_of, programmed}
-use Rattle.ufs_spec.specs.Exchanges.{Answering, Awaiting, Deed, ForWrite, Gathering, Good, Purpose, ReadState, Sending}
-use Rattle.ufs_spec.specs.Exchanges.{Task, Unread, WasRead}
-use Rattle.ufs_spec.specs.Keys.{Item, data_key}
-use Rattle.ufs_spec.specs.Ledger.{Ledger, at_name}
-use Rattle.ufs_spec.specs.Machine.{complete, gathered_more, in_block, set_deed}
-use Rattle.ufs_spec.specs.Plain.{Plain, apply, block_at, shape_of, shape_of_numbers, with_part}
-use Rattle.ufs_spec.specs.Refusals.{State}
-use Rattle.ufs_spec.specs.Translation.{MarkStep, Mended, Pin, Work}
+use Rattle.ufs_spec.specs.Disk.{at_place, ended, job_begun}
+use Rattle.ufs_spec.specs.Ledger.{at_name}
+use Rattle.ufs_spec.specs.Machine.{gathered_more, in_block}
+use Rattle.ufs_spec.specs.Translation.{MarkStep}
 use Rattle.ufs_spec.specs.declared.layer.Looked.TheVariants.{OnPage}
-use Rattle.ufs_spec.specs.declared.layer.Name.{Name}
 use Rattle.ufs_spec.specs.declared.scsi.Cdb.TheVariants as cdb
 
 -- The block

@@ -1,4 +1,5 @@
-use Rattle.std.proofs.Common.{◌≡◌, ◌++◌, map, take, drop}
+use Rattle.block_table.proofs.Common.{◌++◌, ◌≡◌}
+use Rattle.std.proofs.Common.{drop, map, take}
 use Rattle.block_table.specs.Rows.{without_reader}
 use Rattle.block_table.proofs.BlockTable.forget_reader.Given as goal
 

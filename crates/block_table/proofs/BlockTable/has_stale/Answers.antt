@@ -1,4 +1,4 @@
-use Rattle.std.proofs.Common.{rules}
+use Rattle.block_table.proofs.Common.{rules}
 use Rattle.block_table.specs.Blocks.{is_stale}
 use Rattle.block_table.proofs.Counts.{counted_any}
 use Rattle.block_table.proofs.BlockTable.has_stale.Goals as goal

@@ -1,7 +1,5 @@
-use Rattle.std.proofs.Common.{ℕ, ◌<◌, arith, length, refl, subst}
-use Rattle.std.proofs.lemmas.Option.{slice_get_read}
+use Rattle.block_table.proofs.Common.{Stands, arith, has, length, moved, refl, slice_get_read, subst, ℕ, ◌<◌}
 use Rattle.block_table.specs.Blocks.{is_bad, is_free, is_stale}
-use Rattle.block_table.specs.Buckets.{Stands, has, moved}
 use Rattle.block_table.specs.Sorted.{bucket_of}
 use Rattle.block_table.proofs.States.{counted_after, sorted_moved}
 use Rattle.block_table.proofs.BlockTable.set_state.Goals as goal

@@ -1,5 +1,4 @@
-use Rattle.std.proofs.Common.{◌∙◌, ◌+◌, ◌*◌, ◌/◌, ◌%◌, ap}
-use Rattle.block_table.specs.Blocks.{Blocks}
+use Rattle.block_table.proofs.Common.{Blocks, ap, ◌%◌, ◌*◌, ◌+◌, ◌/◌, ◌∙◌}
 use Rattle.block_table.proofs.States.{word_more}
 use Rattle.block_table.proofs.BlockTable.word_by_states.Goals as goal
 

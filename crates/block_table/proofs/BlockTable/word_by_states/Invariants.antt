@@ -1,6 +1,4 @@
-use Rattle.std.proofs.Common.{◌≡◌, ℕ, ◌+◌, ◌*◌, ◌<◌}
-use Rattle.block_table.specs.Buckets.{bit}
-use Rattle.block_table.specs.Sorted.{blocks_in, same_state, state_there}
+use Rattle.block_table.proofs.Common.{bit, blocks_in, same_state, state_there, ℕ, ◌*◌, ◌+◌, ◌<◌, ◌≡◌}
 use Rattle.block_table.proofs.BlockTable.word_by_states.Given as goal
 
 abbrev pub invariant-loop-place : goal.invariant-loop-place

@@ -1,4 +1,4 @@
-use Rattle.std.proofs.Common.{arith}
+use Rattle.block_table.proofs.Common.{arith}
 use Rattle.block_table.proofs.WordBits.{lowest_is}
 use Rattle.block_table.proofs.buckets.lowest_bit.Goals as goal
 

@@ -1,5 +1,4 @@
-use Rattle.std.proofs.Common.{Bool, ◌∙◌, ap, sym}
-use Rattle.block_table.specs.Buckets.{bit, with_bit}
+use Rattle.block_table.proofs.Common.{Bool, ap, bit, sym, with_bit, ◌∙◌}
 use Rattle.block_table.proofs.WordBits.{bit_clear, bit_set}
 use Rattle.block_table.proofs.buckets.with_bit.Goals as goal
 

@@ -1,5 +1,4 @@
-use Rattle.std.proofs.Common.{◌∙◌, ap, sym}
-use Rattle.ufs_spec.specs.Refusals.{units_listed}
+use Rattle.device.proofs.Common.{ap, sym, units_listed, ◌∙◌}
 use Rattle.device.proofs.checks.listed_by.Goals as goal
 
 pub returns-in-Tell : goal.returns-in-Tell

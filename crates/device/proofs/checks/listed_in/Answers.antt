@@ -1,5 +1,4 @@
-use Rattle.std.proofs.Common.{◌∙◌, ap, sym}
-use Rattle.ufs_spec.specs.Refusals.{units_listed}
+use Rattle.device.proofs.Common.{ap, sym, units_listed, ◌∙◌}
 use Rattle.ufs_spec.specs.declared.operations.Told.{Told}
 use Rattle.ufs_spec.specs.declared.scsi.Cdb.TheVariants as cdb
 use Rattle.device.proofs.checks.listed_in.Goals as goal

@@ -1,4 +1,4 @@
-use Rattle.std.proofs.Common.{◌∙◌, sym}
+use Rattle.device.proofs.Common.{sym, ◌∙◌}
 use Rattle.device.proofs.dies_of_world.LeftoversApart.{apart_clash, apart_more}
 use Rattle.device.proofs.leftovers.are_apart.Goals as goal
 

@@ -1,7 +1,4 @@
-use Rattle.std.proofs.Common.{◌≢◌, ℕ, ◌<◌}
-use Rattle.std.specs.Prelude.{slice_index_or}
-use Rattle.ufs_spec.specs.Lives.{die_of}
-use Rattle.ufs_spec.specs.declared.events.Leftover.{Leftover}
+use Rattle.device.proofs.Common.{Leftover, die_of, slice_index_or, ℕ, ◌<◌, ◌≢◌}
 use Rattle.device.proofs.leftovers.are_apart.Given as goal
 
 abbrev pub invariant-loop-index : goal.invariant-loop-index

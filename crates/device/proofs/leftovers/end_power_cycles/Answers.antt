@@ -1,7 +1,6 @@
-use Rattle.std.proofs.Common.{◌<◌, ◌∙◌, ap, arith, get_or, length, slice_set}
-use Rattle.std.proofs.lemmas.List.{get_or_default}
+use Rattle.device.proofs.Common.{ap, arith, get_or, get_or_default, length, power_cycle_ended, ◌<◌, ◌∙◌}
+use Rattle.std.proofs.Common.{slice_set}
 use Rattle.std.proofs.lemmas.List.Edits.{map_over_more}
-use Rattle.ufs_spec.specs.Dies.{power_cycle_ended}
 use Rattle.device.proofs.leftovers.end_power_cycles.Goals as goal
 
 pub loop-die-preserved : goal.loop-die-preserved

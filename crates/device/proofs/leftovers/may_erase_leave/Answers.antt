@@ -1,4 +1,4 @@
-use Rattle.std.proofs.Common.{arith}
+use Rattle.device.proofs.Common.{arith}
 use Rattle.device.proofs.dies_of_world.BlockWritten.{pages_many}
 use Rattle.device.proofs.dies_of_world.JobLeaves.{erased_more, page_may}
 use Rattle.device.proofs.leftovers.may_erase_leave.Goals as goal

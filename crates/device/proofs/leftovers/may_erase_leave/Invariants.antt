@@ -1,7 +1,4 @@
-use Rattle.std.proofs.Common.{ℕ, ◌<◌, length}
-use Rattle.std.specs.Prelude.{slice_index_or}
-use Rattle.ufs_spec.specs.Dies.{blank_page, page_at}
-use Rattle.ufs_spec.specs.Pages.{MayBeLeft}
+use Rattle.device.proofs.Common.{MayBeLeft, blank_page, length, page_at, slice_index_or, ℕ, ◌<◌}
 use Rattle.device.proofs.leftovers.may_erase_leave.Given as goal
 
 abbrev pub invariant-loop-index : goal.invariant-loop-index

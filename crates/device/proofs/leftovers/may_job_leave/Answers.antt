@@ -1,6 +1,4 @@
-use Rattle.std.proofs.Common.{sym, subst}
-use Rattle.ufs_spec.specs.Pages.{MayBeLeft}
-use Rattle.ufs_spec.specs.declared.flash.Page.{Page}
+use Rattle.device.proofs.Common.{MayBeLeft, Page, subst, sym}
 use Rattle.device.proofs.dies_of_world.JobLeaves.{MayAllBe, erase_leaves, erase_left, program_leaves}
 use Rattle.device.proofs.leftovers.may_job_leave.Goals as goal
 

@@ -1,4 +1,4 @@
-use Rattle.std.proofs.Common.{◌∙◌, arith}
+use Rattle.device.proofs.Common.{arith, ◌∙◌}
 use Rattle.device.proofs.dies_of_world.BlockWritten.{next_written, pages_many}
 use Rattle.device.proofs.leftovers.set_block.Goals as goal
 use Rattle.device.proofs.leftovers.set_block.Goals.{then-page-pages, else-page-pages}

@@ -1,4 +1,4 @@
-use Rattle.std.proofs.Common.{◌≡◌}
+use Rattle.device.proofs.Common.{◌≡◌}
 use Rattle.device.proofs.dies_of_world.BlockWritten.{written_to}
 use Rattle.device.proofs.leftovers.set_block.Given as goal
 

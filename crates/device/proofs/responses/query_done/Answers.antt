@@ -1,11 +1,9 @@
-use Rattle.std.proofs.Common.{rules, ◌≡◌, ◌∙◌, ◌⊎◌, ◌==◌, ℕ, Bool, true, false, cond, List, [], length, take, inl, inr}
-use Rattle.std.proofs.Common.{refl, ap, arith}
-use Rattle.ufs_spec.proofs.Facts.{eqb-true}
-use Rattle.ufs_spec.specs.Queries.{Query, descriptor, descriptor_told}
-use Rattle.ufs_spec.specs.declared.configs.Numbers.{Numbers}
+use Rattle.device.proofs.Common.{Bool, List, Numbers, Queried, Query, [], ap, arith, cond, eqb-true, false, inl, inr}
+use Rattle.device.proofs.Common.{length, query_with, refl, rules, true, ℕ, ◌==◌, ◌∙◌, ◌≡◌, ◌⊎◌}
+use Rattle.std.proofs.Common.{take}
+use Rattle.ufs_spec.specs.Queries.{descriptor, descriptor_told}
 use Rattle.ufs_spec.specs.declared.messages.Message.TheVariants as message
-use Rattle.task_set.specs.declared.tasks.Queried.{Queried}
-use Rattle.device.specs.Replies.{function_of, query_answer, query_with}
+use Rattle.device.specs.Replies.{function_of, query_answer}
 use Rattle.device.proofs.responses.query_done.Goals as goal
 
 done_is : (n : Numbers) (tag value function size : ℕ) (query : Queried) (told items : List ℕ) →

@@ -1,4 +1,4 @@
-use Rattle.std.proofs.Common.{◌≡◌, replicate, None}
+use Rattle.device.proofs.Common.{None, replicate, ◌≡◌}
 use Rattle.device.proofs.world.idle.Given as goal
 
 abbrev pub invariant-loop : goal.invariant-loop

@@ -1,10 +1,5 @@
-use Rattle.std.proofs.Common.{List, sym, subst}
-use Rattle.std.proofs.lemmas.List.{map-id}
-use Rattle.ufs_spec.specs.Cells.{Shows}
-use Rattle.ufs_spec.specs.Dies.{DieState}
-use Rattle.ufs_spec.specs.Lives.{Fit, IsOpened, array_of, bad_of}
-use Rattle.ufs_spec.specs.Sound.{Sound, Suits}
-use Rattle.device.specs.Opened.{HasScanned}
+use Rattle.device.proofs.Common.{DieState, Fit, HasScanned, IsOpened, List, Shows, Sound, Suits, array_of, bad_of}
+use Rattle.device.proofs.Common.{map-id, subst, sym}
 use Rattle.device.proofs.dies_of_world.OpeningRefused.{opening_refused}
 use Rattle.device.proofs.world.open_device.Goals as goal
 

@@ -1,5 +1,4 @@
-use Rattle.std.proofs.Common.{◌≡◌, ◌∙◌, ◌+◌, ◌≤◌, List, [], arith, length, sym, subst, ap}
-use Rattle.ufs_spec.specs.declared.events.Output.{Output}
+use Rattle.device.proofs.Common.{List, Output, [], ap, arith, length, subst, sym, ◌+◌, ◌∙◌, ◌≡◌, ◌≤◌}
 use Rattle.device.specs.Worlds.{IsUnderWay}
 use Rattle.device.proofs.dies_of_world.Runs.{MayRun, run_begins, run_breaks, run_broken, run_ends, run_more}
 use Rattle.device.proofs.world.run.Goals as goal

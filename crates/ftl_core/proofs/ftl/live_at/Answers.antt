@@ -1,4 +1,4 @@
-use Rattle.ftl_core.specs.KnownLive.{none_live}
+use Rattle.ftl_core.proofs.Common.{none_live}
 use Rattle.ftl_core.proofs.live_pages.FirstLive.{next_stored}
 use Rattle.ftl_core.proofs.ftl.live_at.Goals as goal
 

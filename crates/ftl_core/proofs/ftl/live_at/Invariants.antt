@@ -1,6 +1,4 @@
-use Rattle.std.proofs.Common.{◌≡◌, take}
-use Rattle.std.specs.Prelude.{fold}
-use Rattle.ftl_core.specs.KnownLive.{none_live, with_stored}
+use Rattle.ftl_core.proofs.Common.{fold, none_live, take, with_stored, ◌≡◌}
 use Rattle.ftl_core.proofs.ftl.live_at.Given as goal
 
 abbrev pub invariant-loop-index : goal.invariant-loop-index

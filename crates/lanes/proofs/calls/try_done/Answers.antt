@@ -1,4 +1,4 @@
-use Rattle.lanes.specs.Rule.{lane_ended}
+use Rattle.lanes.proofs.Common.{lane_ended}
 use Rattle.lanes.proofs.Ended.{done_meets}
 use Rattle.lanes.proofs.Made.{call_did, call_meets}
 use Rattle.lanes.proofs.calls.try_done.Goals as goal

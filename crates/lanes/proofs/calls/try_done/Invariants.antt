@@ -1,5 +1,5 @@
 use Rattle.lanes.specs.declared.view.Made.TheVariants as made
-use Rattle.lanes.specs.Rule.{lane_ended}
+use Rattle.lanes.proofs.Common.{lane_ended}
 use Rattle.lanes.proofs.calls.try_done.Given as goal
 
 abbrev pub ghosts-put_back : goal.ghosts-put_back

@@ -1,6 +1,4 @@
-use Rattle.std.proofs.Common.{Option, subst, sym}
-use Rattle.ufs_spec.specs.declared.flash.Job.{Job}
-use Rattle.lanes.specs.Rule.{Did, lane_given}
+use Rattle.lanes.proofs.Common.{Did, Job, Option, lane_given, subst, sym}
 use Rattle.lanes.specs.declared.view.Made.TheVariants as made
 use Rattle.lanes.proofs.Made.{call_did, call_meets, take_meets}
 use Rattle.lanes.proofs.calls.try_take.Goals as goal

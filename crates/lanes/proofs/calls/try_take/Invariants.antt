@@ -1,5 +1,5 @@
 use Rattle.lanes.specs.declared.view.Made.TheVariants as made
-use Rattle.lanes.specs.Rule.{lane_given}
+use Rattle.lanes.proofs.Common.{lane_given}
 use Rattle.lanes.proofs.calls.try_take.Given as goal
 
 abbrev pub ghosts-put_back : goal.ghosts-put_back

@@ -1,6 +1,5 @@
-use Rattle.std.proofs.Common.{rules, ℕ, sym, subst}
-use Rattle.atomic_table.specs.Table.{Splits}
-use Rattle.lanes.specs.Rule.{Kept, lane_dealt, new_lane}
+use Rattle.lanes.proofs.Common.{Kept, Splits, rules, subst, sym, ℕ}
+use Rattle.lanes.specs.Rule.{lane_dealt, new_lane}
 use Rattle.lanes.proofs.Dealing.{deals_lane}
 use Rattle.lanes.proofs.deal.deal_lane.Goals as goal
 

@@ -1,6 +1,5 @@
-use Rattle.std.proofs.Common.{rules, ℕ, sym, subst}
-use Rattle.atomic_table.specs.Table.{Splits}
-use Rattle.lanes.specs.Rule.{Kept, port_dealt, new_port}
+use Rattle.lanes.proofs.Common.{Kept, Splits, rules, subst, sym, ℕ}
+use Rattle.lanes.specs.Rule.{new_port, port_dealt}
 use Rattle.lanes.proofs.Dealing.{deals_port}
 use Rattle.lanes.proofs.deal.deal_port.Goals as goal
 

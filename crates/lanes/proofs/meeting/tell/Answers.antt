@@ -1,7 +1,6 @@
-use Rattle.std.proofs.Common.{rules, ◌≡◌, None, ap, ◌∙◌, sym, subst}
+use Rattle.lanes.proofs.Common.{Kept, None, View, ap, rules, subst, sym, ◌∙◌, ◌≡◌}
 use Rattle.atomic_table.specs.Table.{Joins}
-use Rattle.lanes.specs.declared.view.View.{View}
-use Rattle.lanes.specs.Rule.{Kept, both, messenger, spent}
+use Rattle.lanes.specs.Rule.{both, messenger, spent}
 use Rattle.lanes.proofs.Telling.{hears, looks, tells}
 use Rattle.lanes.proofs.meeting.tell.Goals as goal
 

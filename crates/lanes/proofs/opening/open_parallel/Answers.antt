@@ -1,4 +1,4 @@
-use Rattle.std.proofs.Common.{map}
+use Rattle.lanes.proofs.Common.{map}
 use Rattle.device.proofs.described.Opens.{opened_described, opened_scanned, opened_suits}
 use Rattle.lanes.proofs.opening.open_parallel.Goals as goal
 

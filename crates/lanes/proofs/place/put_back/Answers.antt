@@ -1,11 +1,6 @@
-use Rattle.std.proofs.Common.{rules, ◌≡◌, ℕ, ◌<◌, true, Option, sym, subst, arith}
-use Rattle.atomic_table.specs.Table.{Allows, Me}
-use Rattle.ufs_spec.specs.Dies.{DieState}
-use Rattle.device.specs.Kept.{DeviceCore}
-use Rattle.lanes.specs.declared.view.LaneView.{LaneView}
-use Rattle.lanes.specs.declared.view.Made.{Made}
-use Rattle.lanes.specs.declared.view.View.{View}
-use Rattle.lanes.specs.Rule.{IsAt, Kept, Meets, Stepped}
+use Rattle.lanes.proofs.Common.{Allows, DeviceCore, DieState, Kept, LaneView, Made, Me, Meets, Option, Stepped, View}
+use Rattle.lanes.proofs.Common.{arith, rules, subst, sym, true, ℕ, ◌<◌, ◌≡◌}
+use Rattle.lanes.specs.Rule.{IsAt}
 use Rattle.lanes.proofs.Back.{puts_back}
 use Rattle.lanes.proofs.place.put_back.Goals as goal
 

@@ -1,9 +1,7 @@
-use Rattle.std.proofs.Common.{rules, ◌≡◌, ℕ, [], true, false, eqb, sym, subst}
-use Rattle.atomic_table.specs.Table.{Allows, Me}
-use Rattle.ufs_spec.specs.Dies.{DieState}
-use Rattle.device.specs.Kept.{DeviceCore}
-use Rattle.lanes.specs.declared.view.View.{View}
-use Rattle.lanes.specs.Rule.{Kept, Seized}
+use Rattle.lanes.proofs.Common.{Allows, DeviceCore, DieState, Kept, Me, View, [], false, rules, subst, sym, true, ℕ}
+use Rattle.lanes.proofs.Common.{◌≡◌}
+use Rattle.std.proofs.Common.{eqb}
+use Rattle.lanes.specs.Rule.{Seized}
 use Rattle.lanes.proofs.Moves.{seizes}
 use Rattle.lanes.proofs.place.seize.Goals as goal
 

@@ -1,10 +1,7 @@
-use Rattle.std.proofs.Common.{rules, ◌≡◌, ◌+◌, ◌++◌, [], ◌∷◌, length, refl, sym, ap, ◌∙◌, subst, append-nil, Some, None}
-use Rattle.std.proofs.Common.{arith}
-use Rattle.std.specs.List.{All}
+use Rattle.lanes.proofs.Common.{All, IsDealer, IsNewLane, None, Some, Undealt, [], ap, append-nil, arc_value, arith}
+use Rattle.lanes.proofs.Common.{length, refl, rules, subst, sym, ◌++◌, ◌+◌, ◌∙◌, ◌∷◌, ◌≡◌}
 use Rattle.std.proofs.lemmas.List.Elements.{All-append}
-use Rattle.std.specs.Arc.{arc_value}
-use Rattle.lanes.specs.Callers.{IsNewLane, Undealt}
-use Rattle.lanes.specs.Rule.{IsDealer, lane_at}
+use Rattle.lanes.specs.Rule.{lane_at}
 use Rattle.lanes.proofs.Dealing.{all_front, all_last, all_none, all_one, gone_more, next_die}
 use Rattle.lanes.proofs.shared.deal_lanes.Goals as goal
 

@@ -1,5 +1,5 @@
-use Rattle.std.proofs.Common.{◌≡◌, length, All}
-use Rattle.std.specs.Arc.{arc_value}
+use Rattle.lanes.proofs.Common.{arc_value, length, ◌≡◌}
+use Rattle.std.proofs.Common.{All}
 use Rattle.lanes.proofs.shared.more_boards.Given as goal
 
 abbrev pub invariant-loop : goal.invariant-loop

@@ -1,8 +1,6 @@
-use Rattle.std.proofs.Common.{[], ◌∷◌, sym, ap, ◌∙◌, subst}
+use Rattle.lanes.proofs.Common.{DeviceCore, Kept, Opening, [], ap, subst, sym, ◌∙◌, ◌∷◌}
 use Rattle.atomic_table.specs.Table as table
-use Rattle.device.specs.Kept.{DeviceCore}
-use Rattle.lanes.specs.Rule.{IsOpeningOf, Kept, first_view}
-use Rattle.lanes.specs.declared.view.Opening.{Opening}
+use Rattle.lanes.specs.Rule.{IsOpeningOf, first_view}
 use Rattle.lanes.proofs.Dealing.{opens}
 use Rattle.lanes.proofs.shared.open_board.Goals as goal
 

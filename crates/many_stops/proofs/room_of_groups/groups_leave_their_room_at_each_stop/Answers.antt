@@ -1,4 +1,4 @@
-use Rattle.std.proofs.Common.{⊎_elim, arith}
+use Rattle.many_stops.proofs.Common.{arith, ⊎_elim}
 use Rattle.many_stops.proofs.room_left.HandedPages.{handed_or_not}
 use Rattle.many_stops.proofs.room_left.MovesLeaveRoom.{move_leaves, opening_leaves}
 use Rattle.many_stops.proofs.room_of_groups.groups_leave_their_room_at_each_stop.Goals as goal

@@ -1,6 +1,4 @@
-use Rattle.std.proofs.Common.{◌≡◌, take}
-use Rattle.std.specs.Prelude.{fold}
-use Rattle.readers.specs.Pins.{pin_moves}
+use Rattle.readers.proofs.Common.{fold, pin_moves, take, ◌≡◌}
 use Rattle.readers.proofs.counts.pin_moves.Given as goal
 
 abbrev pub invariant-loop-pin : goal.invariant-loop-pin

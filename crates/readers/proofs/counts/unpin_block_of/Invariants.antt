@@ -1,6 +1,4 @@
-use Rattle.std.proofs.Common.{◌≡◌, take}
-use Rattle.std.specs.Prelude.{fold}
-use Rattle.readers.specs.Pins.{is_pin_of, let_go}
+use Rattle.readers.proofs.Common.{fold, is_pin_of, let_go, take, ◌≡◌}
 use Rattle.readers.proofs.counts.unpin_block_of.Given as goal
 
 abbrev pub invariant-loop-pin : goal.invariant-loop-pin

@@ -1,5 +1,5 @@
-use Rattle.std.proofs.Common.{◌≡◌, ◌+◌, ◌*◌, ◌≤◌, drop, length}
-use Rattle.readers.specs.Rows.{pins_in}
+use Rattle.readers.proofs.Common.{drop, length, pins_in, ◌+◌, ◌≡◌, ◌≤◌}
+use Rattle.std.proofs.Common.{◌*◌}
 use Rattle.readers.proofs.rows.count_in.Given as goal
 
 abbrev pub invariant-loop-row : goal.invariant-loop-row

@@ -1,10 +1,7 @@
-use Rattle.std.proofs.Common.{◌≡◌, ◌+◌, ◌<◌, ◌∙◌, ap, arith, length, not}
-use Rattle.std.specs.Prelude.{filter}
-use Rattle.std.proofs.lemmas.List.{length-append, length-set}
+use Rattle.readers.proofs.Common.{Pin, RowPins, ap, arith, filter, is_of_reader, length, length-append, let_go, not}
+use Rattle.readers.proofs.Common.{◌+◌, ◌<◌, ◌∙◌, ◌≡◌}
+use Rattle.std.proofs.lemmas.List.{length-set}
 use Rattle.std.proofs.lemmas.List.Elements.{filter-append}
-use Rattle.readers.specs.declared.pin.Pin.{Pin}
-use Rattle.readers.specs.Pins.{is_of_reader, let_go}
-use Rattle.readers.specs.Rows.{RowPins}
 use Rattle.readers.proofs.RowWalks.{filled_end, filled_gone, filled_on, fold_gone, fold_on, gone_on, none_there, walk_on}
 use Rattle.readers.proofs.rows.drop_all_in.Goals as goal
 

@@ -1,7 +1,7 @@
-use Rattle.std.proofs.Common.{◌≡◌, ◌+◌, ◌-◌, ◌++◌, ◌≤◌, drop, length, not, take, vec_capacity}
-use Rattle.std.specs.Prelude.{filter, fold}
-use Rattle.readers.specs.Pins.{is_of_reader, let_go}
-use Rattle.readers.specs.Rows.{AreFilled, pins_in}
+use Rattle.readers.proofs.Common.{drop, filter, fold, is_of_reader, length, let_go, not, pins_in, take, ◌++◌, ◌+◌, ◌-◌}
+use Rattle.readers.proofs.Common.{◌≡◌, ◌≤◌}
+use Rattle.std.proofs.Common.{vec_capacity}
+use Rattle.readers.specs.Rows.{AreFilled}
 use Rattle.readers.proofs.rows.drop_all_in.Given as goal
 
 abbrev pub invariant-loop-at : goal.invariant-loop-at

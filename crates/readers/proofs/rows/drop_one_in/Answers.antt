@@ -1,10 +1,6 @@
-use Rattle.std.proofs.Common.{◌≡◌, ◌<◌, ◌∙◌, ap, arith, get_or, length, not, refl}
-use Rattle.std.specs.Prelude.{filter, fold}
-use Rattle.std.proofs.lemmas.List.{get_or_default}
+use Rattle.readers.proofs.Common.{Pin, RowPins, ap, arith, filter, fold, get_or, get_or_default, is_pin_of, length}
+use Rattle.readers.proofs.Common.{let_go, not, refl, with_pins, ◌<◌, ◌∙◌, ◌≡◌}
 use Rattle.std.proofs.lemmas.List.Elements.{filter-append}
-use Rattle.readers.specs.declared.pin.Pin.{Pin}
-use Rattle.readers.specs.Pins.{is_pin_of, let_go}
-use Rattle.readers.specs.Rows.{with_pins, RowPins}
 use Rattle.readers.proofs.RowWalks.{fold_end, fold_on, walk_end, walk_on}
 use Rattle.readers.proofs.rows.drop_one_in.Goals as goal
 

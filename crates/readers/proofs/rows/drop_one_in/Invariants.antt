@@ -1,7 +1,4 @@
-use Rattle.std.proofs.Common.{◌≡◌, ◌++◌, drop, not, take}
-use Rattle.std.specs.Prelude.{filter, fold}
-use Rattle.readers.specs.Pins.{is_pin_of, let_go}
-use Rattle.readers.specs.Rows.{pins_in}
+use Rattle.readers.proofs.Common.{drop, filter, fold, is_pin_of, let_go, not, pins_in, take, ◌++◌, ◌≡◌}
 use Rattle.readers.proofs.rows.drop_one_in.Given as goal
 
 abbrev pub invariant-loop-row : goal.invariant-loop-row

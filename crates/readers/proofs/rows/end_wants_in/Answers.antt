@@ -1,7 +1,5 @@
-use Rattle.std.proofs.Common.{◌≡◌, ◌<◌, ◌∙◌, ap, arith, get_or, length, map, refl}
-use Rattle.std.proofs.lemmas.List.{get_or_default, map-append}
-use Rattle.readers.specs.Pins.{wanted_no_more}
-use Rattle.readers.specs.Rows.{with_pins, RowPins}
+use Rattle.readers.proofs.Common.{RowPins, ap, arith, get_or, get_or_default, length, map, map-append, refl}
+use Rattle.readers.proofs.Common.{wanted_no_more, with_pins, ◌<◌, ◌∙◌, ◌≡◌}
 use Rattle.readers.proofs.RowWalks.{walk_end, walk_on}
 use Rattle.readers.proofs.rows.end_wants_in.Goals as goal
 

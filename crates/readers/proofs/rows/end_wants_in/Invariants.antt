@@ -1,6 +1,4 @@
-use Rattle.std.proofs.Common.{◌≡◌, ◌++◌, drop, map, take}
-use Rattle.readers.specs.Pins.{wanted_no_more}
-use Rattle.readers.specs.Rows.{pins_in}
+use Rattle.readers.proofs.Common.{drop, map, pins_in, take, wanted_no_more, ◌++◌, ◌≡◌}
 use Rattle.readers.proofs.rows.end_wants_in.Given as goal
 
 abbrev pub invariant-loop-row : goal.invariant-loop-row

@@ -1,5 +1,4 @@
-use Rattle.std.proofs.Common.{◌<◌, ◌∙◌, arith, length, sym}
-use Rattle.readers.specs.Pins.{is_pin_of}
+use Rattle.readers.proofs.Common.{arith, is_pin_of, length, sym, ◌<◌, ◌∙◌}
 use Rattle.readers.proofs.RowWalks.{find_on, found_on}
 use Rattle.readers.proofs.rows.find_in.Goals as goal
 

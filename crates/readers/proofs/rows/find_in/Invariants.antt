@@ -1,7 +1,4 @@
-use Rattle.std.proofs.Common.{◌≡◌, drop}
-use Rattle.std.specs.Prelude.{find}
-use Rattle.readers.specs.Pins.{is_pin_of}
-use Rattle.readers.specs.Rows.{pins_in}
+use Rattle.readers.proofs.Common.{drop, find, is_pin_of, pins_in, ◌≡◌}
 use Rattle.readers.proofs.rows.find_in.Given as goal
 
 abbrev pub invariant-loop-row : goal.invariant-loop-row

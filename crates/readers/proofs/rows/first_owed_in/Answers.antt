@@ -1,5 +1,4 @@
-use Rattle.std.proofs.Common.{◌<◌, ◌∙◌, arith, length, sym}
-use Rattle.readers.specs.Pins.{is_owed_by}
+use Rattle.readers.proofs.Common.{arith, is_owed_by, length, sym, ◌<◌, ◌∙◌}
 use Rattle.readers.proofs.RowWalks.{find_on, found_on}
 use Rattle.readers.proofs.rows.first_owed_in.Goals as goal
 

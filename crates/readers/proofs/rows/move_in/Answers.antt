@@ -1,8 +1,5 @@
-use Rattle.std.proofs.Common.{◌≡◌, ◌<◌, ◌∙◌, ap, arith, get_or, length, map, refl}
-use Rattle.std.specs.Prelude.{fold}
-use Rattle.std.proofs.lemmas.List.{get_or_default, map-append}
-use Rattle.readers.specs.Pins.{moved_pin, pin_moves}
-use Rattle.readers.specs.Rows.{with_pins, RowPins}
+use Rattle.readers.proofs.Common.{RowPins, ap, arith, fold, get_or, get_or_default, length, map, map-append, moved_pin}
+use Rattle.readers.proofs.Common.{pin_moves, refl, with_pins, ◌<◌, ◌∙◌, ◌≡◌}
 use Rattle.readers.proofs.RowWalks.{fold_end, fold_on, walk_end, walk_on}
 use Rattle.readers.proofs.rows.move_in.Goals as goal
 

@@ -1,7 +1,4 @@
-use Rattle.std.proofs.Common.{◌≡◌, ◌++◌, drop, map, take}
-use Rattle.std.specs.Prelude.{fold}
-use Rattle.readers.specs.Pins.{moved_pin, pin_moves}
-use Rattle.readers.specs.Rows.{pins_in}
+use Rattle.readers.proofs.Common.{drop, fold, map, moved_pin, pin_moves, pins_in, take, ◌++◌, ◌≡◌}
 use Rattle.readers.proofs.rows.move_in.Given as goal
 
 abbrev pub invariant-loop-row : goal.invariant-loop-row

@@ -1,6 +1,4 @@
-use Rattle.std.proofs.Common.{◌++◌, ◌∷◌, ◌∙◌, [], List, ap, length}
-use Rattle.std.specs.Prelude.{if◌then◌else◌}
-use Rattle.readers.specs.Rows.{pins_in, RowPins}
+use Rattle.readers.proofs.Common.{List, RowPins, [], ap, if◌then◌else◌, length, pins_in, ◌++◌, ◌∙◌, ◌∷◌}
 use Rattle.readers.proofs.RowWalks.{begun_more, written}
 use Rattle.readers.proofs.rows.push_in.Goals as goal
 

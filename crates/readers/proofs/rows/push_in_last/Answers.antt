@@ -1,6 +1,4 @@
-use Rattle.std.proofs.Common.{◌<◌, ◌-◌, ◌∙◌, ◌∷◌, [], arith, get_or, length}
-use Rattle.std.specs.Prelude.{if◌then◌else◌}
-use Rattle.std.proofs.lemmas.List.{get_or_default}
+use Rattle.readers.proofs.Common.{[], arith, get_or, get_or_default, if◌then◌else◌, length, ◌-◌, ◌<◌, ◌∙◌, ◌∷◌}
 use Rattle.readers.proofs.RowWalks.{last_more, last_told, none_told, pushed}
 use Rattle.readers.proofs.rows.push_in_last.Goals as goal
 

@@ -1,4 +1,5 @@
-use Rattle.std.proofs.Common.{◌≡◌, length, vec_capacity}
+use Rattle.readers.proofs.Common.{length, ◌≡◌}
+use Rattle.std.proofs.Common.{vec_capacity}
 use Rattle.readers.proofs.rows.spare_rows.Given as goal
 
 abbrev pub invariant-loop : goal.invariant-loop

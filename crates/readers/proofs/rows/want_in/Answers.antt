@@ -1,7 +1,5 @@
-use Rattle.std.proofs.Common.{◌≡◌, ◌<◌, ◌∙◌, ap, arith, get_or, length, map, refl}
-use Rattle.std.proofs.lemmas.List.{get_or_default, map-append}
-use Rattle.readers.specs.Pins.{wanted_now}
-use Rattle.readers.specs.Rows.{with_pins, RowPins}
+use Rattle.readers.proofs.Common.{RowPins, ap, arith, get_or, get_or_default, length, map, map-append, refl, wanted_now}
+use Rattle.readers.proofs.Common.{with_pins, ◌<◌, ◌∙◌, ◌≡◌}
 use Rattle.readers.proofs.RowWalks.{walk_end, walk_on}
 use Rattle.readers.proofs.rows.want_in.Goals as goal
 

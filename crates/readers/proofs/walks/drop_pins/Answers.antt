@@ -1,5 +1,4 @@
-use Rattle.std.proofs.Common.{rules}
-use Rattle.std.proofs.lemmas.Fn.{filter_same}
+use Rattle.readers.proofs.Common.{filter_same, rules}
 use Rattle.readers.proofs.walks.drop_pins.Goals as goal
 
 pub returns-clause-left : goal.returns-clause-left

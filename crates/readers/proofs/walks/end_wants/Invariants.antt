@@ -1,5 +1,4 @@
-use Rattle.std.proofs.Common.{◌≡◌, ◌++◌, map, take, drop}
-use Rattle.readers.specs.Pins.{wanted_no_more}
+use Rattle.readers.proofs.Common.{drop, map, take, wanted_no_more, ◌++◌, ◌≡◌}
 use Rattle.readers.proofs.walks.end_wants.Given as goal
 
 abbrev pub invariant-loop-pin : goal.invariant-loop-pin

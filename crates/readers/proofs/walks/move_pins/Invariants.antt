@@ -1,5 +1,4 @@
-use Rattle.std.proofs.Common.{◌≡◌, ◌++◌, map, take, drop}
-use Rattle.readers.specs.Pins.{moved_pin}
+use Rattle.readers.proofs.Common.{drop, map, moved_pin, take, ◌++◌, ◌≡◌}
 use Rattle.readers.proofs.walks.move_pins.Given as goal
 
 abbrev pub invariant-loop-pin : goal.invariant-loop-pin

@@ -1,7 +1,5 @@
-use Rattle.std.proofs.Common.{◌≡◌, ◌<◌, ◌∙◌, ap, arith, get_or, length, slice_set}
-use Rattle.std.proofs.lemmas.List.{get_or_default}
-use Rattle.std.proofs.lemmas.List.Edits.{map_over_more}
-use Rattle.readers.specs.Pins.{wanted_now}
+use Rattle.readers.proofs.Common.{ap, arith, get_or, get_or_default, length, map_over_more, slice_set, wanted_now, ◌<◌}
+use Rattle.readers.proofs.Common.{◌∙◌, ◌≡◌}
 use Rattle.readers.proofs.walks.want.Goals as goal
 
 pub loop-pin-preserved : goal.loop-pin-preserved

@@ -1,5 +1,4 @@
-use Rattle.std.proofs.Common.{◌≡◌, ◌++◌, map, take, drop}
-use Rattle.readers.specs.Pins.{wanted_now}
+use Rattle.readers.proofs.Common.{drop, map, take, wanted_now, ◌++◌, ◌≡◌}
 use Rattle.readers.proofs.walks.want.Given as goal
 
 abbrev pub invariant-loop-pin : goal.invariant-loop-pin

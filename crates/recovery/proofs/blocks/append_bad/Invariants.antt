@@ -1,5 +1,4 @@
-use Rattle.std.proofs.Common.{◌≡◌, ◌++◌}
-use Rattle.recovery.specs.Found.{bad_in}
+use Rattle.recovery.proofs.Common.{bad_in, ◌++◌, ◌≡◌}
 use Rattle.recovery.proofs.blocks.append_bad.Given as goal
 
 abbrev pub invariant-loop-block : goal.invariant-loop-block

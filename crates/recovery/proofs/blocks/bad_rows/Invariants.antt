@@ -1,7 +1,5 @@
-use Rattle.std.proofs.Common.{◌≡◌}
+use Rattle.recovery.proofs.Common.{bad_in, flat_map, ◌≡◌}
 use Rattle.std.specs.Prelude.{take}
-use Rattle.std.specs.List.{flat_map}
-use Rattle.recovery.specs.Found.{bad_in}
 use Rattle.recovery.proofs.blocks.bad_rows.Given as goal
 
 abbrev pub invariant-loop-die : goal.invariant-loop-die

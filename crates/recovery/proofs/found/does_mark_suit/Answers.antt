@@ -1,8 +1,7 @@
-use Rattle.std.proofs.Common.{◌≡◌, ◌∙◌, Some, ap, option_map, subst, sym}
+use Rattle.recovery.proofs.Common.{Some, ap, mark_of, same_Some, subst, sym, ◌∙◌, ◌≡◌}
+use Rattle.std.proofs.Common.{option_map}
 use Rattle.ufs_spec.specs.Cells as cells
 use Rattle.ufs_spec.specs.Sound.{MarkSuits}
-use Rattle.ufs_spec.proofs.Facts.{same_Some}
-use Rattle.page_tag.specs.Contents.{mark_of}
 use Rattle.recovery.proofs.found.does_mark_suit.Goals as goal
 
 pub returns-in-Some : goal.returns-in-Some

@@ -1,19 +1,11 @@
-use Rattle.std.proofs.Common.{◌≡◌, ap, Option, Some, sym, subst, ◌∙◌, ℕ, Bool, true, false, length, slice_get, List}
-use Rattle.std.proofs.Common.{arith, get_or, refl}
-use Rattle.std.proofs.lemmas.List.{length-map}
-use Rattle.std.proofs.lemmas.Option.{slice_get-get_or, slice_get_within}
+use Rattle.recovery.proofs.Common.{AreListed, AreMarksListed, Bool, Fence, FoundPage, List, Numbers, Option, Some, ap}
+use Rattle.recovery.proofs.Common.{arith, block_by, false, filter, found_block, get_or, is_free_in, is_outside, length}
+use Rattle.recovery.proofs.Common.{length-map, newest_in, refl, slice_get-get_or, slice_get_within, spots, subst, sym}
+use Rattle.recovery.proofs.Common.{true, ℕ, ◌∙◌, ◌≡◌}
+use Rattle.std.proofs.Common.{slice_get}
 use Rattle.ufs_spec.specs.Openings.{lost_from}
-use Rattle.ufs_spec.specs.Translation.{spots}
-use Rattle.ufs_spec.specs.declared.configs.Numbers.{Numbers}
-use Rattle.ufs_spec.specs.declared.flash.Fence.{Fence}
-use Rattle.power_loss.specs.FreeBlocks.{block_by}
-use Rattle.recovery.specs.Frees.{is_free_in, is_outside}
-use Rattle.recovery.specs.KeysInOrder.{found_block, state_of_found}
-use Rattle.recovery.specs.Listed.{AreListed, AreMarksListed}
+use Rattle.recovery.specs.KeysInOrder.{state_of_found}
 use Rattle.recovery.specs.Listed as lists
-use Rattle.std.specs.List.{filter}
-use Rattle.recovery.specs.Reading.{newest_in}
-use Rattle.recovery.specs.declared.pages.FoundPage.{FoundPage}
 use Rattle.recovery.proofs.bad_listed.BadBlocks.{bad_at}
 use Rattle.recovery.proofs.bad_listed.FreeLists.{free_at, outside_listed, spot_at}
 use Rattle.recovery.proofs.frees.Vacancies.{vacancy_found}

@@ -1,19 +1,12 @@
-use Rattle.std.proofs.Common.{sym, subst, ◌≡◌, ◌∙◌, List, map, refl}
-use Rattle.ufs_spec.specs.Cells.{AreWithin, Cells, Shows}
-use Rattle.ufs_spec.specs.Dies.{DieState}
-use Rattle.ufs_spec.specs.Lives.{array_of, bad_of}
+use Rattle.recovery.proofs.Common.{AreWithin, Cells, DieState, IsFound, IsTable, List, Numbers, Shows, Table, array_of}
+use Rattle.recovery.proofs.Common.{bad_of, false≢true, map, newest_in, refl, subst, sym, ◌∙◌, ◌≡◌}
 use Rattle.ufs_spec.specs.Sound.{CellsSuit}
-use Rattle.ufs_spec.specs.declared.configs.Numbers.{Numbers}
-use Rattle.ufs_spec.proofs.Facts.{false≢true}
 use Rattle.power_loss.proofs.die_pages.BlankOutsideDies.{fit_inside}
 use Rattle.recovery.proofs.settings_pages.SettingsPages.{has_settings, still_found}
 use Rattle.recovery.proofs.table_facts.TableFacts.{bads_of, frontiers_fit, records_fit, shown_in_range}
 use Rattle.recovery.proofs.tables.Whole.{shown_within}
-use Rattle.recovery.specs.Found.{IsFound}
-use Rattle.recovery.specs.Reading.{IsTable, newest_in}
 use Rattle.recovery.specs.Scanned.{IsTableOver}
 use Rattle.recovery.specs.Stood.{AreReadSettings}
-use Rattle.recovery.specs.declared.reading.Table.{Table}
 use Rattle.recovery.proofs.standing_for.FoundStands.{found_stands}
 use Rattle.recovery.proofs.found.found_over.Goals as goal
 

@@ -1,6 +1,4 @@
-use Rattle.std.proofs.Common.{sym, subst, ◌∙◌, map}
-use Rattle.std.proofs.lemmas.Result.{IfErr-weaker, IfOk-weaker}
-use Rattle.ufs_spec.specs.Lives.{Fit}
+use Rattle.recovery.proofs.Common.{Fit, IfErr-weaker, IfOk-weaker, map, subst, sym, ◌∙◌}
 use Rattle.recovery.proofs.scan_facts.ScanFacts.{fault_behind, found_before, reading_fault, table_still}
 use Rattle.recovery.proofs.found.scan.Goals as goal
 

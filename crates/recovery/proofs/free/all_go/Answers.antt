@@ -1,9 +1,5 @@
-use Rattle.std.proofs.Common.{◌≡◌, ◌∙◌, ap, arith, false, get_or, Some, sym, true}
-use Rattle.std.specs.Prelude.{slice_get}
-use Rattle.std.proofs.lemmas.Option.{slice_get-get_or}
-use Rattle.ufs_spec.proofs.Facts.{false≢true, same_Some}
-use Rattle.recovery.specs.Frees.{HasOther}
-use Rattle.recovery.specs.declared.pages.FoundPage.{FoundPage}
+use Rattle.recovery.proofs.Common.{FoundPage, HasOther, Some, ap, arith, false, false≢true, get_or, same_Some}
+use Rattle.recovery.proofs.Common.{slice_get, slice_get-get_or, sym, true, ◌∙◌, ◌≡◌}
 use Rattle.recovery.proofs.frees.Answered.{one_more}
 use Rattle.recovery.proofs.key_order.Entries.{no_page}
 use Rattle.recovery.proofs.free.all_go.Goals as goal

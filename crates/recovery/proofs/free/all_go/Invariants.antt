@@ -1,7 +1,4 @@
-use Rattle.std.proofs.Common.{◌≡◌, ◌<◌, ◌≤◌, ℕ, true, Some}
-use Rattle.std.specs.Prelude.{slice_get}
-use Rattle.recovery.specs.Frees.{AreRising, HasOther}
-use Rattle.recovery.specs.declared.pages.FoundPage.{FoundPage}
+use Rattle.recovery.proofs.Common.{AreRising, FoundPage, HasOther, Some, slice_get, true, ℕ, ◌<◌, ◌≡◌, ◌≤◌}
 use Rattle.recovery.proofs.free.all_go.Given as goal
 
 abbrev pub invariant-loop-index : goal.invariant-loop-index

@@ -1,6 +1,5 @@
-use Rattle.std.proofs.Common.{rules}
+use Rattle.recovery.proofs.Common.{Aged, rules}
 use Rattle.std.proofs.lemmas.List.Sorted.{IsNonDecreasingBy-from_sort_by_key, answers_always}
-use Rattle.recovery.specs.declared.free.Aged.{Aged}
 use Rattle.recovery.proofs.frees.Sorting.{oldest_on}
 use Rattle.recovery.proofs.free.by_age.Goals as goal
 

@@ -1,7 +1,6 @@
-use Rattle.std.proofs.Common.{List, rules, subst}
+use Rattle.recovery.proofs.Common.{FoundPage, List, rules, subst}
 use Rattle.std.specs.List.Sorted.{IsPermutation}
 use Rattle.std.proofs.lemmas.List.Sorted.{IsNonDecreasingBy-from_sort_by_key}
-use Rattle.recovery.specs.declared.pages.FoundPage.{FoundPage}
 use Rattle.recovery.proofs.frees.Sorting.{rising_sorted, same_pages}
 use Rattle.recovery.proofs.free.by_number.Goals as goal
 

@@ -1,7 +1,5 @@
-use Rattle.std.proofs.Common.{nat_le, rules}
-use Rattle.std.proofs.lemmas.List.Sorted.{IsPartitionPoint-from_clause, IsPartitionedBy-leb}
-use Rattle.recovery.specs.Frees.{block_of}
-use Rattle.recovery.specs.declared.pages.FoundPage.{FoundPage}
+use Rattle.recovery.proofs.Common.{FoundPage, IsPartitionPoint-from_clause, block_of, nat_le, rules}
+use Rattle.std.proofs.lemmas.List.Sorted.{IsPartitionedBy-leb}
 use Rattle.recovery.proofs.frees.Sorting.{cut_behind, sorted_rising}
 use Rattle.recovery.proofs.free.end_of.Goals as goal
 

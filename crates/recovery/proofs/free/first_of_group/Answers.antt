@@ -1,6 +1,5 @@
-use Rattle.std.proofs.Common.{nat_lt, rules}
-use Rattle.std.proofs.lemmas.List.Sorted.{IsPartitionPoint-from_clause, IsPartitionedBy-ltb}
-use Rattle.recovery.specs.declared.pages.FoundPage.{FoundPage}
+use Rattle.recovery.proofs.Common.{FoundPage, IsPartitionPoint-from_clause, nat_lt, rules}
+use Rattle.std.proofs.lemmas.List.Sorted.{IsPartitionedBy-ltb}
 use Rattle.recovery.proofs.frees.Sorting.{cut_below, sorted_rising}
 use Rattle.recovery.proofs.free.first_of_group.Goals as goal
 

@@ -1,15 +1,6 @@
-use Rattle.std.proofs.Common.{◌≡◌, ◌∙◌, ℕ, Bool, List, Option, Some, ap, arith, length, refl, subst, sym}
-use Rattle.std.specs.Prelude.{slice_get}
-use Rattle.std.proofs.lemmas.Option.{slice_get_within}
-use Rattle.ufs_spec.specs.Cells.{Mark}
-use Rattle.ufs_spec.specs.Plain.{shape_of_numbers}
-use Rattle.ufs_spec.specs.declared.flash.Key.{Key}
-use Rattle.page_tag.specs.Contents.{mark_of}
-use Rattle.geometry.specs.Keys.{IsIndex}
-use Rattle.recovery.specs.Frees.{AreByAge, AreHeld, AreNeeded, AreRising, AreSamePages}
-use Rattle.recovery.specs.Listed.{IsContentPage}
-use Rattle.recovery.specs.declared.free.Aged.{Aged}
-use Rattle.recovery.specs.declared.pages.FoundPage.{FoundPage}
+use Rattle.recovery.proofs.Common.{Aged, AreByAge, AreHeld, AreNeeded, AreRising, AreSamePages, Bool, FoundPage}
+use Rattle.recovery.proofs.Common.{IsContentPage, IsIndex, Key, List, Mark, Option, Some, ap, arith, length, mark_of}
+use Rattle.recovery.proofs.Common.{refl, shape_of_numbers, slice_get, slice_get_within, subst, sym, ℕ, ◌∙◌, ◌≡◌}
 use Rattle.recovery.proofs.frees.Latests.{pages_rise}
 use Rattle.recovery.proofs.frees.Rule.{both_ok, free_marked}
 use Rattle.recovery.proofs.free.free_behind.Goals as goal

@@ -1,9 +1,7 @@
-use Rattle.std.proofs.Common.{◌≡◌, None, Option, ap, option_map, subst, sym}
-use Rattle.std.proofs.lemmas.Result.{IfOk-weaker}
-use Rattle.ufs_spec.specs.Cells.{Mark}
-use Rattle.ufs_spec.specs.Kept.{IsNewestMark}
-use Rattle.page_tag.specs.Contents.{mark_of}
-use Rattle.recovery.specs.Frees.{AreFoundFree, is_free_in}
+use Rattle.recovery.proofs.Common.{IfOk-weaker, IsNewestMark, Mark, None, Option, ap, is_free_in, mark_of, subst, sym}
+use Rattle.recovery.proofs.Common.{◌≡◌}
+use Rattle.std.proofs.Common.{option_map}
+use Rattle.recovery.specs.Frees.{AreFoundFree}
 use Rattle.recovery.proofs.frees.Rule.{free_unmarked}
 use Rattle.recovery.proofs.free.free_blocks.Goals as goal
 

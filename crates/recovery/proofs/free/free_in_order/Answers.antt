@@ -1,9 +1,5 @@
-use Rattle.std.proofs.Common.{◌≡◌, ◌∙◌, ◌⊎◌, ◌<◌, ℕ, Bool, List, Some, arith, false, get_or, length, subst, true}
-use Rattle.std.specs.Prelude.{slice_get}
-use Rattle.std.proofs.lemmas.Option.{slice_get-get_or}
-use Rattle.recovery.specs.Frees.{HasOther, IsDecided, IsNeededIn}
-use Rattle.recovery.specs.declared.free.Aged.{Aged}
-use Rattle.recovery.specs.declared.pages.FoundPage.{FoundPage}
+use Rattle.recovery.proofs.Common.{Aged, Bool, FoundPage, HasOther, IsDecided, IsNeededIn, List, Some, arith, false}
+use Rattle.recovery.proofs.Common.{get_or, length, slice_get, slice_get-get_or, subst, true, ℕ, ◌<◌, ◌∙◌, ◌≡◌, ◌⊎◌}
 use Rattle.recovery.proofs.frees.Answered.{IsAnswered}
 use Rattle.recovery.proofs.frees.InOrder.{all_decided, gone_now, no_block, one_decided}
 use Rattle.recovery.proofs.free.free_in_order.Goals as goal

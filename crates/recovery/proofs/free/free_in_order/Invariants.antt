@@ -1,8 +1,5 @@
-use Rattle.std.proofs.Common.{◌≡◌, ◌<◌, ℕ, List, length, true, Some}
-use Rattle.std.specs.Prelude.{slice_get}
-use Rattle.recovery.specs.Frees.{AreByAge, AreRising, IsDecided, block_of}
-use Rattle.recovery.specs.declared.free.Aged.{Aged}
-use Rattle.recovery.specs.declared.pages.FoundPage.{FoundPage}
+use Rattle.recovery.proofs.Common.{Aged, AreByAge, AreRising, FoundPage, IsDecided, List, Some, block_of, length}
+use Rattle.recovery.proofs.Common.{slice_get, true, ℕ, ◌<◌, ◌≡◌}
 use Rattle.recovery.proofs.free.free_in_order.Given as goal
 
 abbrev pub invariant-loop-aged : goal.invariant-loop-aged

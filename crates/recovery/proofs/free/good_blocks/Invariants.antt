@@ -1,4 +1,4 @@
-use Rattle.std.proofs.Common.{◌≡◌, map, not, take}
+use Rattle.recovery.proofs.Common.{map, not, take, ◌≡◌}
 use Rattle.recovery.proofs.free.good_blocks.Given as goal
 
 abbrev pub invariant-loop-is_bad : goal.invariant-loop-is_bad

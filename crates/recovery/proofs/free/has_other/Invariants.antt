@@ -1,7 +1,5 @@
-use Rattle.std.proofs.Common.{◌≡◌, ◌<◌, ◌≤◌, ℕ, Some}
-use Rattle.std.specs.Prelude.{slice_get}
+use Rattle.recovery.proofs.Common.{FoundPage, Some, slice_get, ℕ, ◌<◌, ◌≡◌, ◌≤◌}
 use Rattle.recovery.specs.Frees.{IsKeptCopy}
-use Rattle.recovery.specs.declared.pages.FoundPage.{FoundPage}
 use Rattle.recovery.proofs.free.has_other.Given as goal
 
 abbrev pub invariant-loop-index : goal.invariant-loop-index

@@ -1,4 +1,4 @@
-use Rattle.recovery.specs.Frees.{AreHeld}
+use Rattle.recovery.proofs.Common.{AreHeld}
 use Rattle.recovery.proofs.free.held_blocks.Given as goal
 
 abbrev pub invariant-loop-mark : goal.invariant-loop-mark

@@ -1,6 +1,5 @@
-use Rattle.std.proofs.Common.{◌≡◌, ◌∙◌, ℕ, add-one, arith, get_or, length, subst}
-use Rattle.std.proofs.lemmas.Option.{slice_get-get_or}
-use Rattle.recovery.specs.Frees.{AreGreatest, PagesRecord}
+use Rattle.recovery.proofs.Common.{AreGreatest, PagesRecord, add-one, arith, get_or, length, slice_get-get_or, subst, ℕ}
+use Rattle.recovery.proofs.Common.{◌∙◌, ◌≡◌}
 use Rattle.recovery.proofs.frees.Ages.{IsRaised, page_recorded}
 use Rattle.recovery.proofs.key_order.Entries.{no_page}
 use Rattle.recovery.proofs.free.latest_of_pages.Goals as goal

@@ -1,5 +1,4 @@
-use Rattle.std.proofs.Common.{◌≡◌, length}
-use Rattle.recovery.specs.Frees.{AreGreatest, PagesRecord}
+use Rattle.recovery.proofs.Common.{AreGreatest, PagesRecord, length, ◌≡◌}
 use Rattle.recovery.proofs.free.latest_of_pages.Given as goal
 
 abbrev pub invariant-loop-page : goal.invariant-loop-page

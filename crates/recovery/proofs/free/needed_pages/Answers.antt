@@ -1,7 +1,5 @@
-use Rattle.std.proofs.Common.{◌+◌, ◌∷◌, ◌++◌, [], Bool, List, add-one, arith, get_or, subst, sym}
-use Rattle.std.proofs.lemmas.Option.{slice_get-get_or}
-use Rattle.ufs_spec.specs.Plain.{shape_of_numbers}
-use Rattle.recovery.specs.Frees.{AreNeeded}
+use Rattle.recovery.proofs.Common.{AreNeeded, Bool, List, [], add-one, arith, get_or, shape_of_numbers}
+use Rattle.recovery.proofs.Common.{slice_get-get_or, subst, sym, ◌++◌, ◌+◌, ◌∷◌}
 use Rattle.recovery.proofs.frees.Answered.{one_told}
 use Rattle.recovery.proofs.key_order.Entries.{no_page}
 use Rattle.recovery.proofs.free.needed_pages.Goals as goal

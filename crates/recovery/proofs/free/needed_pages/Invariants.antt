@@ -1,6 +1,4 @@
-use Rattle.std.proofs.Common.{◌≡◌, length}
-use Rattle.ufs_spec.specs.Plain.{shape_of_numbers}
-use Rattle.recovery.specs.Frees.{AreNeeded}
+use Rattle.recovery.proofs.Common.{AreNeeded, length, shape_of_numbers, ◌≡◌}
 use Rattle.recovery.proofs.free.needed_pages.Given as goal
 
 abbrev pub invariant-loop-page : goal.invariant-loop-page

@@ -1,4 +1,4 @@
-use Rattle.std.proofs.Common.{◌≡◌, length}
+use Rattle.recovery.proofs.Common.{length, ◌≡◌}
 use Rattle.recovery.specs.Frees.{AreOpening}
 use Rattle.recovery.proofs.free.opening_blocks.Given as goal
 

@@ -1,5 +1,4 @@
-use Rattle.std.proofs.Common.{◌∙◌, ℕ, add-one, get_or, refl, subst}
-use Rattle.std.proofs.lemmas.Option.{slice_get-get_or}
+use Rattle.recovery.proofs.Common.{add-one, get_or, refl, slice_get-get_or, subst, ℕ, ◌∙◌}
 use Rattle.recovery.proofs.frees.Ages.{IsRaised, mark_recorded, no_mark, no_mark_recorded}
 use Rattle.recovery.proofs.free.raise_by_marks.Goals as goal
 

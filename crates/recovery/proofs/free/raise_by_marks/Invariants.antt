@@ -1,6 +1,4 @@
-use Rattle.std.proofs.Common.{◌≡◌, length, List}
-use Rattle.recovery.specs.Frees.{AreGreatest, PagesRecord, RecordsUpTo}
-use Rattle.recovery.specs.declared.pages.FoundPage.{FoundPage}
+use Rattle.recovery.proofs.Common.{AreGreatest, FoundPage, List, PagesRecord, RecordsUpTo, length, ◌≡◌}
 use Rattle.recovery.proofs.free.raise_by_marks.Given as goal
 
 abbrev pub invariant-loop-mark : goal.invariant-loop-mark

@@ -1,4 +1,4 @@
-use Rattle.std.proofs.Common.{◌≡◌, ◌+◌, ◌∙◌, ap, arith, get_or, length, max, subst, sym}
+use Rattle.recovery.proofs.Common.{ap, arith, get_or, length, max, subst, sym, ◌+◌, ◌∙◌, ◌≡◌}
 use Rattle.recovery.proofs.greatest_numbers.Among.{no_page, page_at}
 use Rattle.recovery.proofs.greatest_numbers.Tops.{IsTopAmong, top_bounded, top_more, top_seen}
 use Rattle.recovery.proofs.kept.greatest_seen.Goals as goal

@@ -1,10 +1,8 @@
-use Rattle.std.proofs.Common.{◌≡◌, ◌+◌, ◌*◌, ◌∙◌, suc, ap, arith, get_or, length, subst, sym}
-use Rattle.std.specs.Prelude.{slice_get}
-use Rattle.std.proofs.lemmas.List.{length-replicate}
+use Rattle.recovery.proofs.Common.{HasIndex, IsBucket, ap, arith, get_or, group_bound, length, length-replicate}
+use Rattle.recovery.proofs.Common.{slice_get, subst, suc, sym, ◌*◌, ◌+◌, ◌∙◌, ◌≡◌}
 use Rattle.recovery.proofs.greatest_numbers.Among.{no_page, page_at}
 use Rattle.recovery.proofs.whole_groups.Noting.{buckets_more, buckets_none, room_none, room_stays}
-use Rattle.recovery.specs.Buckets.{HasIndex, IsBucket, nothing_noted}
-use Rattle.ufs_spec.specs.Pages.{group_bound}
+use Rattle.recovery.specs.Buckets.{nothing_noted}
 use Rattle.recovery.proofs.kept.groups_behind.Goals as goal
 
 pub loop-page-init : goal.loop-page-init

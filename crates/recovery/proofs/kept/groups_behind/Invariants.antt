@@ -1,7 +1,5 @@
-use Rattle.std.proofs.Common.{◌≡◌, ◌+◌, ℕ, suc, length, Some}
-use Rattle.std.specs.Prelude.{slice_get}
-use Rattle.recovery.specs.Buckets.{AreTags, HasIndex, HasRoom, IsBucket}
-use Rattle.recovery.specs.declared.kept.Bucket.{Bucket}
+use Rattle.recovery.proofs.Common.{AreTags, Bucket, HasIndex, IsBucket, Some, length, slice_get, suc, ℕ, ◌+◌, ◌≡◌}
+use Rattle.recovery.specs.Buckets.{HasRoom}
 use Rattle.recovery.proofs.kept.groups_behind.Given as goal
 
 abbrev pub invariant-loop-page : goal.invariant-loop-page

@@ -1,8 +1,7 @@
-use Rattle.std.proofs.Common.{◌≡◌, ◌+◌, ◌∙◌, arith, get_or, length, subst, sym}
+use Rattle.recovery.proofs.Common.{arith, get_or, length, subst, sym, ◌+◌, ◌∙◌, ◌≡◌}
 use Rattle.std.proofs.lemmas.Bool.{false≢true}
 use Rattle.recovery.proofs.greatest_numbers.Among.{no_page, page_at}
-use Rattle.recovery.proofs.greatest_numbers.Frontiers.{IsFrontier, frontier_passed, frontier_recorded}
-use Rattle.recovery.proofs.greatest_numbers.Frontiers.{frontier_taken}
+use Rattle.recovery.proofs.greatest_numbers.Frontiers.{IsFrontier, frontier_passed, frontier_recorded, frontier_taken}
 use Rattle.recovery.proofs.kept.recorded_frontier.Goals as goal
 use Rattle.recovery.proofs.kept.recorded_frontier.Goals.{else-not-is_fenced, then-not-is_fenced}
 

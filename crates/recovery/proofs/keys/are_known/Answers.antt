@@ -1,18 +1,10 @@
-use Rattle.std.proofs.Common.{◌≡◌, ◌∙◌, ◌⊎◌, ℕ, ◌+◌, ◌<◌, ◌≤◌, true, false, Option, Some, None, List, length, get_or}
-use Rattle.std.proofs.Common.{arith, ap, refl, subst, sym, ⊎_elim}
-use Rattle.std.proofs.lemmas.Option.{slice_get-get_or, slice_get_within}
-use Rattle.std.specs.Prelude.{MatchOption, is_some, not, slice_get}
-use Rattle.ufs_spec.specs.Cells.{Cells, key_of}
-use Rattle.ufs_spec.specs.Keys.{IsKey}
-use Rattle.ufs_spec.specs.Plain.{Shape, shape_of_numbers as shape}
-use Rattle.ufs_spec.specs.declared.flash.Key.{Key}
-use Rattle.ufs_spec.proofs.Facts.{false≢true, same_Some, true≢false}
-use Rattle.geometry.specs.Keys.{IsIndex}
+use Rattle.recovery.proofs.Common.{AreListed, Cells, FoundPage, IsIndex, IsKey, Key, List, None, Option, Shape, Some}
+use Rattle.recovery.proofs.Common.{ap, arith, false, false≢true, get_or, index_known, key_of, length, refl, same_Some}
+use Rattle.recovery.proofs.Common.{shape, slice_get, slice_get-get_or, slice_get_within, subst, sym, true, true≢false}
+use Rattle.recovery.proofs.Common.{ℕ, ⊎_elim, ◌+◌, ◌<◌, ◌∙◌, ◌≡◌, ◌≤◌, ◌⊎◌}
+use Rattle.std.specs.Prelude.{MatchOption, is_some, not}
 use Rattle.recovery.specs.KeysInOrder.{AreKnown}
-use Rattle.recovery.specs.Listed.{AreListed}
-use Rattle.recovery.specs.declared.pages.FoundPage.{FoundPage}
 use Rattle.recovery.proofs.key_order.Entries.{no_page}
-use Rattle.geometry.proofs.Indexes.{index_known}
 use Rattle.recovery.proofs.keys.are_known.Goals as goal
 
 -- the search for an index tells whether the device has the key

@@ -1,10 +1,6 @@
-use Rattle.std.proofs.Common.{◌≡◌, ◌∙◌, ◌+◌, ◌<◌, ◌≤◌, ℕ, List, [], ◌∷◌, ◌++◌, Some, length, false, get_or}
-use Rattle.std.proofs.Common.{⊎_elim, ap, arith, length-append, sym}
-use Rattle.std.proofs.lemmas.Option.{get_or_from_slice_get, slice_get_within}
-use Rattle.std.specs.Prelude.{slice_get}
-use Rattle.ufs_spec.proofs.Facts.{cases_lt}
-use Rattle.ufs_spec.proofs.Lists.{get_grows, get_last}
-use Rattle.recovery.specs.KeysInOrder.{found_block}
+use Rattle.recovery.proofs.Common.{List, Some, [], ap, arith, cases_lt, false, found_block, get_grows, get_last, get_or}
+use Rattle.recovery.proofs.Common.{get_or_from_slice_get, length, length-append, slice_get, slice_get_within, sym, ℕ}
+use Rattle.recovery.proofs.Common.{⊎_elim, ◌++◌, ◌+◌, ◌<◌, ◌∙◌, ◌∷◌, ◌≡◌, ◌≤◌}
 use Rattle.recovery.specs.declared.keys.FoundBlock.{FoundBlock}
 use Rattle.recovery.proofs.keys.block_states.Goals as goal
 

@@ -1,6 +1,5 @@
-use Rattle.std.proofs.Common.{◌≡◌, ℕ, ◌<◌, length, get_or, false}
-use Rattle.std.specs.Prelude.{slice_get, Some}
-use Rattle.recovery.specs.KeysInOrder.{found_block}
+use Rattle.recovery.proofs.Common.{false, found_block, get_or, length, slice_get, ℕ, ◌<◌, ◌≡◌}
+use Rattle.std.specs.Prelude.{Some}
 use Rattle.recovery.proofs.keys.block_states.Given as goal
 
 abbrev pub invariant-loop-index : goal.invariant-loop-index

@@ -1,8 +1,5 @@
-use Rattle.std.proofs.Common.{◌≡◌, ◌∙◌, ◌+◌, ℕ, List, None, Option, length, sym, arith, subst, ap}
-use Rattle.std.proofs.lemmas.List.{length-replicate}
-use Rattle.ufs_spec.specs.Plain.{shape_of_numbers as shape}
-use Rattle.recovery.specs.KeysInOrder.{IsNewestOf}
-use Rattle.recovery.specs.declared.pages.FoundPage.{FoundPage}
+use Rattle.recovery.proofs.Common.{FoundPage, IsNewestOf, List, None, Option, ap, arith, length, length-replicate}
+use Rattle.recovery.proofs.Common.{shape, subst, sym, ℕ, ◌+◌, ◌∙◌, ◌≡◌}
 use Rattle.recovery.proofs.key_order.Entries.{AreNewest, entries_grow, no_page, none_newest, whole_written}
 use Rattle.recovery.proofs.key_order.NewestPages.{content_of}
 use Rattle.recovery.proofs.keys.content_pages.Goals as goal

@@ -1,6 +1,4 @@
-use Rattle.std.proofs.Common.{◌≡◌, length}
-use Rattle.ufs_spec.specs.Plain.{shape_of_numbers}
-use Rattle.geometry.specs.Keys.{key_total}
+use Rattle.recovery.proofs.Common.{key_total, length, shape_of_numbers, ◌≡◌}
 use Rattle.recovery.proofs.key_order.Entries.{AreNewest}
 use Rattle.recovery.proofs.keys.content_pages.Given as goal
 

@@ -1,6 +1,5 @@
+use Rattle.recovery.proofs.Common.{Key, shape_of_numbers}
 use Rattle.std.proofs.Common.{Global, Vec}
-use Rattle.ufs_spec.specs.Plain.{shape_of_numbers}
-use Rattle.ufs_spec.specs.declared.flash.Key.{Key}
 use Rattle.recovery.proofs.key_order.LostKeys.{lost_result}
 use Rattle.recovery.proofs.keys.lost_keys.Goals as goal
 

@@ -1,6 +1,5 @@
-use Rattle.std.proofs.Common.{◌≡◌, ◌∙◌, ◌+◌, ℕ, Bool, List, length, sym, arith, subst, ap, add-one, get_or}
-use Rattle.std.proofs.lemmas.Option.{slice_get-get_or}
-use Rattle.ufs_spec.specs.Plain.{shape_of_numbers}
+use Rattle.recovery.proofs.Common.{Bool, List, add-one, ap, arith, get_or, length, shape_of_numbers, slice_get-get_or}
+use Rattle.recovery.proofs.Common.{subst, sym, ℕ, ◌+◌, ◌∙◌, ◌≡◌}
 use Rattle.recovery.proofs.key_order.Entries.{no_page, whole_written}
 use Rattle.recovery.proofs.key_order.LostKeys.{MarksLost, page_marked}
 use Rattle.recovery.proofs.keys.lost_marks.Goals as goal

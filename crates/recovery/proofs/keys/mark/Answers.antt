@@ -1,10 +1,4 @@
-use Rattle.std.proofs.Common.{arith, subst, sym}
-use Rattle.ufs_spec.specs.Cells.{key_of}
-use Rattle.ufs_spec.specs.Keys.{IsKey}
-use Rattle.ufs_spec.specs.Plain.{shape_of_numbers}
-use Rattle.ufs_spec.specs.declared.flash.Key.{Key}
-use Rattle.geometry.specs.Keys.{IsIndex}
-use Rattle.geometry.proofs.Indexes.{index_known}
+use Rattle.recovery.proofs.Common.{IsIndex, IsKey, Key, arith, index_known, key_of, shape_of_numbers, subst, sym}
 use Rattle.recovery.proofs.key_order.LostKeys.{key_marked, other_stays}
 use Rattle.recovery.proofs.keys.mark.Goals as goal
 

@@ -1,8 +1,6 @@
-use Rattle.std.proofs.Common.{◌∙◌, ◌+◌, Global, List, Some, Vec, add-one, ap, false, subst, sym}
-use Rattle.std.proofs.lemmas.Option.{slice_get-get_or}
-use Rattle.ufs_spec.specs.Plain.{shape_of_numbers as shape}
-use Rattle.ufs_spec.specs.declared.flash.Key.{Key}
-use Rattle.recovery.specs.KeysInOrder.{AreMarked}
+use Rattle.recovery.proofs.Common.{AreMarked, Key, List, Some, add-one, ap, false, shape, slice_get-get_or, subst, sym}
+use Rattle.recovery.proofs.Common.{◌+◌, ◌∙◌}
+use Rattle.std.proofs.Common.{Global, Vec}
 use Rattle.recovery.proofs.key_order.LostKeys.{key_listed, key_skipped}
 use Rattle.recovery.proofs.keys.marked_keys.Goals as goal
 use Rattle.recovery.proofs.keys.marked_keys.Goals.{then-is_marked+in_ok-push, else-is_marked}

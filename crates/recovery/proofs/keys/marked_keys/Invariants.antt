@@ -1,5 +1,4 @@
-use Rattle.ufs_spec.specs.Plain.{shape_of_numbers}
-use Rattle.recovery.specs.KeysInOrder.{AreMarked}
+use Rattle.recovery.proofs.Common.{AreMarked, shape_of_numbers}
 use Rattle.recovery.proofs.keys.marked_keys.Given as goal
 
 abbrev pub invariant-loop-index : goal.invariant-loop-index

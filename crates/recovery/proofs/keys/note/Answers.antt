@@ -1,8 +1,4 @@
-use Rattle.std.proofs.Common.{◌∙◌, sym, subst, arith}
-use Rattle.ufs_spec.specs.Keys.{IsKey}
-use Rattle.ufs_spec.specs.Plain.{shape_of_numbers}
-use Rattle.ufs_spec.specs.declared.flash.Key.{Key}
-use Rattle.geometry.specs.Keys.{IsIndex}
+use Rattle.recovery.proofs.Common.{IsIndex, IsKey, Key, arith, shape_of_numbers, subst, sym, ◌∙◌}
 use Rattle.recovery.proofs.key_order.Entries.{entry_stays, entry_taken, unknown_passed}
 use Rattle.recovery.proofs.keys.note.Goals as goal
 

@@ -1,4 +1,4 @@
-use Rattle.std.proofs.Common.{◌≡◌, replicate, None}
+use Rattle.recovery.proofs.Common.{None, replicate, ◌≡◌}
 use Rattle.recovery.proofs.keys.nowhere.Given as goal
 
 abbrev pub invariant-loop : goal.invariant-loop

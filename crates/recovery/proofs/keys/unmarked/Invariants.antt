@@ -1,4 +1,4 @@
-use Rattle.std.proofs.Common.{◌≡◌, replicate, false}
+use Rattle.recovery.proofs.Common.{false, replicate, ◌≡◌}
 use Rattle.recovery.proofs.keys.unmarked.Given as goal
 
 abbrev pub invariant-loop : goal.invariant-loop

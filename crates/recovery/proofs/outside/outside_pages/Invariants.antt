@@ -1,6 +1,4 @@
-use Rattle.std.proofs.Common.{◌≡◌, take}
-use Rattle.std.specs.List.{filter}
-use Rattle.recovery.specs.Frees.{is_outside}
+use Rattle.recovery.proofs.Common.{filter, is_outside, take, ◌≡◌}
 use Rattle.recovery.proofs.outside.outside_pages.Given as goal
 
 abbrev pub invariant-loop-page : goal.invariant-loop-page

@@ -1,5 +1,4 @@
-use Rattle.std.proofs.Common.{ℕ, ◌<◌, arith, map, refl, subst}
-use Rattle.std.specs.Prelude.{slice_index_or, slice_set}
+use Rattle.recovery.proofs.Common.{arith, map, refl, slice_index_or, slice_set, subst, ℕ, ◌<◌}
 use Rattle.recovery.proofs.tables.Counts.{count_rose, counts_stay, map_stays}
 use Rattle.recovery.proofs.reading.fetch.Goals as goal
 

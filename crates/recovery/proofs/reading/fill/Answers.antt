@@ -1,6 +1,6 @@
-use Rattle.std.proofs.Common.{◌≡◌, ◌∙◌, ℕ, ◌+◌, ◌<◌, ap, arith, length, subst, sym}
-use Rattle.std.proofs.lemmas.Result.{IfErr-weaker, on_ok_weaker}
-use Rattle.ufs_spec.specs.Dies.{DieState, LiesOnDie, page_at, pages_of}
+use Rattle.recovery.proofs.Common.{DieState, IfErr-weaker, LiesOnDie, ap, arith, length, on_ok_weaker, page_at, subst}
+use Rattle.recovery.proofs.Common.{sym, ℕ, ◌+◌, ◌<◌, ◌∙◌, ◌≡◌}
+use Rattle.ufs_spec.specs.Dies.{pages_of}
 use Rattle.recovery.proofs.tables.Counts.{block_fault_later}
 use Rattle.recovery.proofs.reading.fill.Goals as goal
 

@@ -1,7 +1,4 @@
-use Rattle.std.proofs.Common.{◌≡◌, ℕ, ◌+◌, arith, subst}
-use Rattle.std.proofs.lemmas.Result.{on_ok_weaker}
-use Rattle.ufs_spec.specs.Cells.{IsCell}
-use Rattle.recovery.specs.Reading.{IsTableTo, place_at}
+use Rattle.recovery.proofs.Common.{IsCell, IsTableTo, arith, on_ok_weaker, place_at, subst, ℕ, ◌+◌, ◌≡◌}
 use Rattle.recovery.proofs.reading.note_four.Goals as goal
 
 pub returns-clause-noted : goal.returns-clause-noted

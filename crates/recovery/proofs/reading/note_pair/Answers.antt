@@ -1,5 +1,4 @@
-use Rattle.std.proofs.Common.{◌+◌, arith, refl}
-use Rattle.std.proofs.lemmas.Result.{on_ok_weaker}
+use Rattle.recovery.proofs.Common.{arith, on_ok_weaker, refl, ◌+◌}
 use Rattle.page_tag.specs.Contents.{cell_of}
 use Rattle.recovery.proofs.tables.Whole.{told_and_noted}
 use Rattle.recovery.proofs.reading.note_pair.Goals as goal

@@ -1,7 +1,4 @@
-use Rattle.std.proofs.Common.{◌≡◌, ◌∙◌, ℕ, length, map, subst, sym}
-use Rattle.std.proofs.lemmas.List.{length-map}
-use Rattle.std.proofs.lemmas.Result.{IfOk-weaker}
-use Rattle.recovery.specs.Reading.{IsTableOf}
+use Rattle.recovery.proofs.Common.{IfOk-weaker, IsTableOf, length, length-map, map, subst, sym, ℕ, ◌∙◌, ◌≡◌}
 use Rattle.recovery.proofs.tables.Shown.{all_shown}
 use Rattle.recovery.proofs.tables.Whole.{all_read, shown_within}
 use Rattle.recovery.proofs.reading.read_all.Goals as goal

@@ -1,7 +1,4 @@
-use Rattle.std.proofs.Common.{◌∙◌, arith, subst, sym}
-use Rattle.std.proofs.lemmas.Result.{IfErr-weaker, on_ok_weaker}
-use Rattle.ufs_spec.specs.Dies.{DieState, IsOfSize}
-use Rattle.recovery.specs.Reading.{ShowsDie}
+use Rattle.recovery.proofs.Common.{DieState, IfErr-weaker, IsOfSize, ShowsDie, arith, on_ok_weaker, subst, sym, ◌∙◌}
 use Rattle.recovery.proofs.tables.Counts.{block_fault_later}
 use Rattle.recovery.proofs.reading.read_block.Goals as goal
 

@@ -1,7 +1,6 @@
-use Rattle.std.proofs.Common.{◌≡◌, ◌∙◌, ℕ, ap, arith, option_map, refl, subst, sym}
-use Rattle.ufs_spec.specs.Dies.{DieState, IsOfSize}
-use Rattle.page_tag.specs.Contents.{mark_of}
-use Rattle.recovery.specs.Reading.{IsTableTo, ShowsDie}
+use Rattle.recovery.proofs.Common.{DieState, IsOfSize, IsTableTo, ShowsDie, ap, arith, mark_of, refl, subst, sym, ℕ}
+use Rattle.recovery.proofs.Common.{◌∙◌, ◌≡◌}
+use Rattle.std.proofs.Common.{option_map}
 use Rattle.recovery.proofs.tables.Counts.{die_fault_later, fault_of_block}
 use Rattle.recovery.proofs.tables.Whole.{die_read, nothing_read, only, only_before, only_shown, only_within}
 use Rattle.recovery.proofs.reading.read_die.Goals as goal

@@ -1,6 +1,4 @@
-use Rattle.std.proofs.Common.{◌≡◌, ◌≤◌}
-use Rattle.ufs_spec.specs.Cells.{AreWithin, Cells}
-use Rattle.recovery.specs.Reading.{IsTableTo, ShowsDie}
+use Rattle.recovery.proofs.Common.{AreWithin, Cells, IsTableTo, ShowsDie, ◌≡◌, ◌≤◌}
 use Rattle.recovery.proofs.tables.Whole.{only}
 use Rattle.recovery.proofs.reading.read_die.Given as goal
 

@@ -1,8 +1,6 @@
-use Rattle.std.proofs.Common.{◌≡◌, ◌∙◌, ℕ, ◌+◌, ◌<◌, ap, arith, get_or, length, map, option_map, refl, rules, subst}
-use Rattle.std.proofs.Common.{sym}
-use Rattle.page_tag.specs.Contents.{mark_of}
-use Rattle.ufs_spec.specs.Dies.{DieState}
-use Rattle.recovery.specs.Reading.{IsJoined, IsTableOf, ShowsDie}
+use Rattle.recovery.proofs.Common.{DieState, IsJoined, IsTableOf, ShowsDie, ap, arith, get_or, length, map, mark_of}
+use Rattle.recovery.proofs.Common.{refl, rules, subst, sym, ℕ, ◌+◌, ◌<◌, ◌∙◌, ◌≡◌}
+use Rattle.std.proofs.Common.{option_map}
 use Rattle.recovery.proofs.tables.Counts.{counts_stay, fault_of_later, fault_of_one, map_stays, no_lower}
 use Rattle.recovery.proofs.tables.Counts.{no_lower_after}
 use Rattle.recovery.proofs.tables.Joined.{dies_joined}

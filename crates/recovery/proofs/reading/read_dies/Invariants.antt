@@ -1,6 +1,4 @@
-use Rattle.std.proofs.Common.{◌≡◌, map}
-use Rattle.ufs_spec.specs.Cells.{AreWithin, Cells}
-use Rattle.recovery.specs.Reading.{IsTableOf, NoLower, ShowsDies}
+use Rattle.recovery.proofs.Common.{AreWithin, Cells, IsTableOf, NoLower, ShowsDies, map, ◌≡◌}
 use Rattle.recovery.proofs.reading.read_dies.Given as goal
 
 abbrev pub invariant-loop-index : goal.invariant-loop-index

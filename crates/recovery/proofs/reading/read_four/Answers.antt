@@ -1,8 +1,4 @@
-use Rattle.std.proofs.Common.{◌+◌, refl, subst, sym}
-use Rattle.std.proofs.lemmas.Result.{on_ok_weaker}
-use Rattle.ufs_spec.specs.Cells.{IsCell}
-use Rattle.ufs_spec.specs.declared.flash.Page.{Page}
-use Rattle.recovery.specs.Reading.{place_at}
+use Rattle.recovery.proofs.Common.{IsCell, Page, on_ok_weaker, place_at, refl, subst, sym, ◌+◌}
 use Rattle.recovery.proofs.reading.read_four.Goals as goal
 
 pub returns-clause-read : goal.returns-clause-read

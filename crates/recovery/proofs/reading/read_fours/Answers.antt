@@ -1,6 +1,5 @@
-use Rattle.std.proofs.Common.{◌≡◌, ◌∙◌, ℕ, ◌+◌, ◌*◌, ◌/◌, arith, refl, subst, sym}
-use Rattle.ufs_spec.specs.Dies.{DieState, LiesOnDie}
-use Rattle.recovery.specs.Reading.{IsTableTo, ShowsDie}
+use Rattle.recovery.proofs.Common.{DieState, IsTableTo, LiesOnDie, ShowsDie, arith, refl, subst, sym, ℕ, ◌*◌, ◌+◌, ◌/◌}
+use Rattle.recovery.proofs.Common.{◌∙◌, ◌≡◌}
 use Rattle.recovery.proofs.tables.Counts.{block_fault_later, lies_there}
 use Rattle.recovery.proofs.reading.read_fours.Goals as goal
 

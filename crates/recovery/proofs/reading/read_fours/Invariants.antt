@@ -1,6 +1,4 @@
-use Rattle.std.proofs.Common.{◌≡◌, ◌*◌, ◌≤◌}
-use Rattle.ufs_spec.specs.Cells.{Cells}
-use Rattle.recovery.specs.Reading.{IsTableTo, ShowsDie}
+use Rattle.recovery.proofs.Common.{Cells, IsTableTo, ShowsDie, ◌*◌, ◌≡◌, ◌≤◌}
 use Rattle.recovery.proofs.reading.read_fours.Given as goal
 
 abbrev pub invariant-loop-four : goal.invariant-loop-four

@@ -1,8 +1,4 @@
-use Rattle.std.proofs.Common.{refl, subst, sym}
-use Rattle.std.proofs.lemmas.Result.{on_ok_weaker}
-use Rattle.ufs_spec.specs.Cells.{Cell, IsCell}
-use Rattle.ufs_spec.specs.declared.flash.Page.{Page}
-use Rattle.ufs_laws.proofs.pages.PageIsOneCell.{one_cell}
+use Rattle.recovery.proofs.Common.{Cell, IsCell, Page, on_ok_weaker, one_cell, refl, subst, sym}
 use Rattle.page_tag.specs.Contents.{cell_of}
 use Rattle.recovery.specs.Reading.{IsNoted}
 use Rattle.recovery.proofs.tables.Counts.{fault_of_page}

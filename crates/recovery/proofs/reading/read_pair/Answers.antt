@@ -1,6 +1,5 @@
-use Rattle.std.proofs.Common.{◌∙◌, ◌+◌, ap, arith, subst, sym}
-use Rattle.std.proofs.lemmas.Result.{IfErr-weaker, on_ok_weaker}
-use Rattle.ufs_spec.specs.Dies.{DieState, LiesOnDie, page_at}
+use Rattle.recovery.proofs.Common.{DieState, IfErr-weaker, LiesOnDie, ap, arith, on_ok_weaker, page_at, subst, sym, ◌+◌}
+use Rattle.recovery.proofs.Common.{◌∙◌}
 use Rattle.recovery.proofs.tables.Counts.{block_fault_later, fault_of_page}
 use Rattle.recovery.proofs.reading.read_pair.Goals as goal
 

@@ -1,6 +1,5 @@
-use Rattle.std.proofs.Common.{◌≡◌, ◌∙◌, ℕ, arith, refl, subst, sym}
-use Rattle.ufs_spec.specs.Dies.{DieState, LiesOnDie, page_at}
-use Rattle.recovery.specs.Reading.{IsTableTo, ShowsDie, place_at}
+use Rattle.recovery.proofs.Common.{DieState, IsTableTo, LiesOnDie, ShowsDie, arith, page_at, place_at, refl, subst, sym}
+use Rattle.recovery.proofs.Common.{ℕ, ◌∙◌, ◌≡◌}
 use Rattle.recovery.proofs.tables.Counts.{block_fault_later, lies_there}
 use Rattle.recovery.proofs.tables.Whole.{block_read, page_read}
 use Rattle.recovery.proofs.reading.read_rest.Goals as goal

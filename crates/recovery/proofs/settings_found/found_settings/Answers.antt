@@ -1,7 +1,4 @@
-use Rattle.std.proofs.Common.{None, Some, arith, map, subst}
-use Rattle.std.proofs.lemmas.Result.{IfOk-weaker}
-use Rattle.std.proofs.lemmas.List.{length-map}
-use Rattle.ufs_spec.specs.Lives.{array_of, bad_of}
+use Rattle.recovery.proofs.Common.{IfOk-weaker, None, Some, arith, array_of, bad_of, length-map, map, subst}
 use Rattle.recovery.proofs.settings_pages.SettingsPages.{IsSettingsPage, lies_there, none_says, page_says}
 use Rattle.recovery.proofs.settings_pages.SettingsPages.{none_read, page_read, settings_there}
 use Rattle.recovery.proofs.settings_found.found_settings.Goals as goal

@@ -1,4 +1,4 @@
-use Rattle.std.proofs.Common.{map}
+use Rattle.recovery.proofs.Common.{map}
 use Rattle.recovery.proofs.tables.Counts.{fault_of_place}
 use Rattle.recovery.proofs.settings_found.settings_at.Goals as goal
 

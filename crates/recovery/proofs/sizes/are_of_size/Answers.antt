@@ -1,8 +1,7 @@
-use Rattle.std.proofs.Common.{◌≡◌, ◌<◌, ◌≤◌, ◌∙◌, ℕ, ap, arith, map, subst, sym, ⊎_elim}
+use Rattle.recovery.proofs.Common.{IsOfSize, ap, arith, length-map, map, slice_index_or, subst, sym, ℕ, ⊎_elim, ◌<◌}
+use Rattle.recovery.proofs.Common.{◌∙◌, ◌≡◌, ◌≤◌}
 use Rattle.std.proofs.lemmas.Bool.{cases_lt}
-use Rattle.std.proofs.lemmas.List.{get_or-map, length-map}
-use Rattle.std.specs.Prelude.{slice_index_or}
-use Rattle.ufs_spec.specs.Dies.{IsOfSize}
+use Rattle.std.proofs.lemmas.List.{get_or-map}
 use Rattle.recovery.proofs.sizes.are_of_size.Goals as goal
 
 pub loop-die-preserved : goal.loop-die-preserved

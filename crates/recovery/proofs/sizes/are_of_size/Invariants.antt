@@ -1,6 +1,5 @@
-use Rattle.std.proofs.Common.{◌<◌, ℕ}
-use Rattle.std.specs.Prelude.{map, slice_index_or}
-use Rattle.ufs_spec.specs.Dies.{DieState, IsOfSize}
+use Rattle.recovery.proofs.Common.{DieState, IsOfSize, slice_index_or, ℕ, ◌<◌}
+use Rattle.std.specs.Prelude.{map}
 use Rattle.recovery.proofs.sizes.are_of_size.Given as goal
 
 abbrev pub invariant-loop-die : goal.invariant-loop-die

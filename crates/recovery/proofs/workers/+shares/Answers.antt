@@ -1,4 +1,4 @@
-use Rattle.std.proofs.Common.{◌≡◌, ℕ, ◌+◌, ◌/◌, ap, length, sym}
+use Rattle.recovery.proofs.Common.{ap, length, sym, ℕ, ◌+◌, ◌/◌, ◌≡◌}
 use Rattle.recovery.proofs.tables.Parts.{can_high, can_low, parts_read}
 use Rattle.recovery.proofs.workers.+shares.Goals as goal
 

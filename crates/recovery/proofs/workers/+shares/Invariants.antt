@@ -1,4 +1,4 @@
-use Rattle.std.proofs.Common.{◌+◌, ◌*◌}
+use Rattle.recovery.proofs.Common.{◌*◌, ◌+◌}
 use Rattle.recovery.proofs.workers.+shares.Given as goal
 
 abbrev pub decreases-read_by : goal.decreases-read_by

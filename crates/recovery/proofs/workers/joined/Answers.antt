@@ -1,5 +1,4 @@
-use Rattle.std.proofs.Common.{rules}
-use Rattle.recovery.specs.Reading.{IsJoined}
+use Rattle.recovery.proofs.Common.{IsJoined, rules}
 use Rattle.recovery.proofs.workers.joined.Goals as goal
 
 pub returns-clause-joined : goal.returns-clause-joined

@@ -1,6 +1,5 @@
-use Rattle.std.proofs.Common.{sym, subst, map}
-use Rattle.std.proofs.lemmas.Result.{IfErr-weaker, IfOk-at_ok, IfOk-weaker}
-use Rattle.ufs_spec.specs.Lives.{Fit}
+use Rattle.recovery.proofs.Common.{Fit, IfErr-weaker, IfOk-weaker, map, subst, sym}
+use Rattle.std.proofs.lemmas.Result.{IfOk-at_ok}
 use Rattle.recovery.proofs.scan_facts.ScanFacts.{fault_behind, found_before, table_of_all, table_still}
 use Rattle.recovery.proofs.workers.scan_parallel.Goals as goal
 

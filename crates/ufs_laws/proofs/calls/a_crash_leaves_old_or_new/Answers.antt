@@ -1,5 +1,4 @@
-use Rattle.std.proofs.Common.{refl, inl, inr, ◌∙◌, ap}
-use Rattle.ufs_spec.specs.Disk.{page_of}
+use Rattle.ufs_laws.proofs.Common.{ap, inl, inr, page_of, refl, ◌∙◌}
 use Rattle.ufs_laws.proofs.array_cells.CrashedCells.{block_left, old_left, page_left, pages_left, untouched}
 use Rattle.ufs_laws.proofs.calls.a_crash_leaves_old_or_new.Goals as goal
 

@@ -1,6 +1,4 @@
-use Rattle.std.proofs.Common.{refl}
-use Rattle.ufs_spec.specs.Moves.{ending_fits}
-use Rattle.ufs_spec.specs.Translation.{is_step_due}
+use Rattle.ufs_laws.proofs.Common.{ending_fits, is_step_due, refl}
 use Rattle.ufs_laws.proofs.lives.EventsLead.{leads_somewhere}
 use Rattle.ufs_laws.proofs.jobs.OneJob.{given}
 use Rattle.ufs_laws.proofs.answers.RightAnswers.{answered, heard, reply_due}

@@ -1,10 +1,9 @@
-use Rattle.std.proofs.Common.{subst}
+use Rattle.ufs_laws.proofs.Common.{RpmbWrite, plain_now, subst}
 use Rattle.ufs_laws.proofs.decided_data.SettingsCarried as pages
 use Rattle.ufs_laws.proofs.decisions.a_settings_page_carries_all_before_it.Goals as goal
 use Rattle.ufs_laws.specs.SettingsPages.{AddsPage, Settings}
 use Rattle.ufs_spec.specs.Changes.{accepts}
-use Rattle.ufs_spec.specs.Commands.{RpmbWrite, SetBoot}
-use Rattle.ufs_spec.specs.Refusals.{plain_now}
+use Rattle.ufs_spec.specs.Commands.{SetBoot}
 
 pub returns-clause-commands : goal.returns-clause-commands
 returns-clause-commands c = pages.commands

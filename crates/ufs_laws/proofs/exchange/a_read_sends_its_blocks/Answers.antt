@@ -1,5 +1,5 @@
 use Rattle.ufs_laws.proofs.exchanges.ReadSendsBlocks.{begins, contents, goes_on, joined, owed, sends, stays}
-use Rattle.std.proofs.Common.{refl}
+use Rattle.ufs_laws.proofs.Common.{refl}
 use Rattle.ufs_laws.proofs.exchange.a_read_sends_its_blocks.Goals as goal
 
 pub returns-clause-begins : goal.returns-clause-begins

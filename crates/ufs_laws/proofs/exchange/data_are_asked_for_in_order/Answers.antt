@@ -1,5 +1,5 @@
 use Rattle.ufs_laws.proofs.exchanges.DataInOrder.{accepted, all_bytes, gathered, offsets, taken, within}
-use Rattle.std.proofs.Common.{refl}
+use Rattle.ufs_laws.proofs.Common.{refl}
 use Rattle.ufs_laws.proofs.exchange.data_are_asked_for_in_order.Goals as goal
 
 pub returns-clause-asks : goal.returns-clause-asks

@@ -1,4 +1,4 @@
-use Rattle.std.proofs.Common.{refl}
+use Rattle.ufs_laws.proofs.Common.{refl}
 use Rattle.ufs_laws.proofs.exchanges.AbortedTasks.{claims, gone, no_reply, no_tag, pins, stays_gone, task_reply_tag}
 use Rattle.ufs_laws.proofs.exchange.nothing_of_an_aborted_tag_follows.Goals as goal
 

@@ -1,5 +1,4 @@
-use Rattle.std.proofs.Common.{arith, Some}
-use Rattle.ufs_spec.specs.Machine.{Reply, OfReply, observe}
+use Rattle.ufs_laws.proofs.Common.{OfReply, Reply, Some, arith, observe}
 use Rattle.ufs_laws.proofs.lives.HeldAlongLives.{life_grows, life_held, short_held, task_held}
 use Rattle.ufs_laws.proofs.held.held_commands_stay_held.Goals as goal
 

@@ -1,4 +1,4 @@
-use Rattle.ufs_spec.specs.Disk.{spot_of}
+use Rattle.ufs_laws.proofs.Common.{spot_of}
 use Rattle.ufs_laws.proofs.jobs.BadBlocks.{bad_again, one_bad_more}
 use Rattle.ufs_laws.proofs.lock.a_bad_block_counts_once.Goals as goal
 

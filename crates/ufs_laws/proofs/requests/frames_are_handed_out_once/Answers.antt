@@ -1,4 +1,4 @@
-use Rattle.std.proofs.Common.{[]}
+use Rattle.ufs_laws.proofs.Common.{[]}
 use Rattle.ufs_laws.proofs.frame_laws.RegistersEmptied.{at_another, at_own}
 use Rattle.ufs_laws.proofs.requests.frames_are_handed_out_once.Goals as goal
 

@@ -1,6 +1,6 @@
-use Rattle.std.proofs.Common.{refl}
+use Rattle.ufs_laws.proofs.Common.{asks, flush, read_at, refl, write_at}
 use Rattle.ufs_laws.proofs.refusals.TakenRequests.{test_unready, told, unready}
-use Rattle.ufs_laws.specs.Table.{asks, asks_in, flush, read_at, short_bytes, write_at}
+use Rattle.ufs_laws.specs.Table.{asks_in, short_bytes}
 use Rattle.ufs_spec.specs.CdbFields.{no_limit}
 use Rattle.ufs_spec.specs.declared.operations.TheConstants.{READ_6, WRITE_6}
 use Rattle.ufs_spec.specs.declared.operations.Told.TheVariants as told

@@ -1,4 +1,4 @@
-use Rattle.std.proofs.Common.{refl}
+use Rattle.ufs_laws.proofs.Common.{refl}
 use Rattle.ufs_laws.proofs.decided_data.UnmapSlots.{gathers, header_claims}
 use Rattle.ufs_laws.proofs.refusals.TakenRequests.{crowded, header_taken, taken}
 use Rattle.ufs_laws.proofs.unmap.an_unmap_claims_slots_for_its_list.Goals as goal

@@ -1,7 +1,6 @@
-use Rattle.std.proofs.Common.{refl}
+use Rattle.ufs_laws.proofs.Common.{Zero, refl}
 use Rattle.ufs_laws.proofs.decided_data.SettingsCarried.{now_applied}
 use Rattle.ufs_laws.proofs.decided_data.UnmapSlots.{list, pages}
-use Rattle.ufs_spec.specs.Commands.{Zero}
 use Rattle.ufs_laws.proofs.unmap.an_unmap_is_one_group_of_zeros.Goals as goal
 
 pub returns-clause-pages : goal.returns-clause-pages

@@ -1,5 +1,4 @@
-use Rattle.std.proofs.Common.{◌≡◌, ◌≤◌, length}
-use Rattle.std.specs.Prelude.{vec_capacity}
+use Rattle.write_cache.proofs.Common.{length, vec_capacity, ◌≡◌, ◌≤◌}
 use Rattle.write_cache.proofs.cache.bodies.Given as goal
 
 abbrev pub invariant-loop : goal.invariant-loop

@@ -1,8 +1,6 @@
-use Rattle.std.proofs.Common.{◌≡◌, ◌∙◌, ℕ, ◌+◌, ◌<◌, Bool, Some, ap, cond, drop, length, refl, sym, take, arith}
-use Rattle.std.proofs.Common.{slice_get}
-use Rattle.std.specs.List.{position_from}
+use Rattle.write_cache.proofs.Common.{Bool, Some, ap, arith, cond, drop, is_named, length, position_from, refl}
+use Rattle.write_cache.proofs.Common.{slice_get, sym, take, ℕ, ◌+◌, ◌<◌, ◌∙◌, ◌≡◌}
 use Rattle.std.proofs.lemmas.Option.{slice_get_read}
-use Rattle.write_cache.specs.Slots.{is_named}
 use Rattle.write_cache.proofs.Places.{next_page}
 use Rattle.write_cache.proofs.pages.place_among.Goals as goal
 

@@ -1,6 +1,4 @@
-use Rattle.std.proofs.Common.{◌≡◌, ◌+◌, drop, take}
-use Rattle.std.specs.List.{position_from}
-use Rattle.write_cache.specs.Slots.{is_named}
+use Rattle.write_cache.proofs.Common.{drop, is_named, position_from, take, ◌+◌, ◌≡◌}
 use Rattle.write_cache.proofs.pages.place_among.Given as goal
 
 abbrev pub invariant-loop-passed : goal.invariant-loop-passed

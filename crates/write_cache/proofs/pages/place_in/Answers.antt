@@ -1,7 +1,4 @@
-use Rattle.std.proofs.Common.{◌∙◌, arith, map, sym}
-use Rattle.std.proofs.lemmas.List.{length-map}
-use Rattle.ufs_spec.proofs.Facts.{true≢false}
-use Rattle.write_cache.specs.Ring.{shown}
+use Rattle.write_cache.proofs.Common.{arith, length-map, map, shown, sym, true≢false, ◌∙◌}
 use Rattle.write_cache.proofs.Places.{found_at, searched, straight_place}
 use Rattle.write_cache.proofs.Straights.{straight_group}
 use Rattle.write_cache.proofs.pages.place_in.Goals as goal

@@ -1,6 +1,5 @@
-use Rattle.std.proofs.Common.{◌∙◌, ap, sym}
+use Rattle.write_cache.proofs.Common.{ap, is_named, sym, ◌∙◌}
 use Rattle.std.specs.Prelude.{option_copied}
-use Rattle.write_cache.specs.Slots.{is_named}
 use Rattle.write_cache.proofs.Deques.{find_placed}
 use Rattle.write_cache.proofs.rests.page_named.Goals as goal
 

@@ -1,4 +1,5 @@
-use Rattle.std.proofs.Common.{◌≡◌, ◌∙◌, ◌*◌, length, arith, ap, sym, List, ℕ, rules}
+use Rattle.write_cache.proofs.Common.{List, ap, arith, length, rules, sym, ℕ, ◌∙◌, ◌≡◌}
+use Rattle.std.proofs.Common.{◌*◌}
 use Rattle.std.proofs.lemmas.List.{take_rest}
 use Rattle.write_cache.proofs.Parts.{around}
 use Rattle.write_cache.proofs.rests.take_around.Goals as goal

@@ -1,4 +1,5 @@
-use Rattle.block_table.specs.Buckets.{Stands, in_first}
+use Rattle.block_table.proofs.Common.{Stands}
+use Rattle.block_table.specs.Buckets.{in_first}
 use Rattle.block_table.proofs.buckets.BlockBuckets.fill_first.Given as goal
 
 abbrev pub invariant-loop-place : goal.invariant-loop-place

@@ -1,4 +1,4 @@
-use Rattle.std.proofs.Common.{ℕ, ◌<◌, ◌≡◌, ◌+◌, ◌*◌, get_or, subst}
+use Rattle.block_table.proofs.Common.{get_or, subst, ℕ, ◌*◌, ◌+◌, ◌<◌, ◌≡◌}
 use Rattle.block_table.proofs.Marks.{marks_read}
 use Rattle.block_table.proofs.buckets.BlockBuckets.marks.Goals as goal
 

@@ -1,6 +1,5 @@
-use Rattle.std.proofs.Common.{◌≡◌, ◌∙◌, ap, arith, length, replicate, List, ℕ, ◌*◌}
-use Rattle.std.proofs.lemmas.List.{length-replicate}
-use Rattle.block_table.specs.Buckets.{has_in, words_for}
+use Rattle.block_table.proofs.Common.{List, ap, arith, has_in, length, length-replicate, replicate, words_for, ℕ, ◌*◌}
+use Rattle.block_table.proofs.Common.{◌∙◌, ◌≡◌}
 use Rattle.block_table.proofs.Marks.{new_level, new_marks}
 use Rattle.block_table.proofs.BucketCounts.{new_counts, new_whole, none_in}
 use Rattle.block_table.proofs.buckets.BlockBuckets.new.Goals as goal

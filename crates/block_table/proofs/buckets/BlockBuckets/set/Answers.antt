@@ -1,6 +1,4 @@
-use Rattle.std.proofs.Common.{Bool, ◌∙◌, ap, arith, sym}
-use Rattle.std.specs.Bool.{beq}
-use Rattle.block_table.specs.Buckets.{words_for}
+use Rattle.block_table.proofs.Common.{Bool, ap, arith, beq, sym, words_for, ◌∙◌}
 use Rattle.block_table.proofs.LiveCounts.{count_after}
 use Rattle.block_table.proofs.Marks.{group_read, marked_at}
 use Rattle.block_table.proofs.BucketCounts.{held_after, held_room, held_some, is_read, stands_after}

@@ -1,10 +1,4 @@
-use Rattle.std.proofs.Common.{subst}
-use Rattle.std.specs.Int.{bit_not, w64}
-use Rattle.std.specs.Prelude.{bit_and}
-use Rattle.block_table.specs.Buckets.{IsWord}
-use Rattle.block_table.specs.LiveRooms.{lives_of}
-use Rattle.block_table.specs.Lives.{Lives}
-use Rattle.block_table.specs.Probes.{is_bad_at}
+use Rattle.block_table.proofs.Common.{IsWord, Lives, bit_and, bit_not, is_bad_at, lives_of, subst, w64}
 use Rattle.block_table.proofs.VictimWords.{bad_bits}
 use Rattle.block_table.proofs.live.LivePages.bad_with_live.Goals as goal
 

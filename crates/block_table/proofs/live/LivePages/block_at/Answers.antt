@@ -1,6 +1,4 @@
-use Rattle.std.proofs.Common.{◌<◌, arith, subst, sym}
-use Rattle.block_table.specs.Lives.{Lives}
-use Rattle.block_table.specs.Sorted.{blocks_in}
+use Rattle.block_table.proofs.Common.{Lives, arith, blocks_in, subst, sym, ◌<◌}
 use Rattle.block_table.proofs.Unpinned.{spot_die}
 use Rattle.block_table.proofs.live.LivePages.block_at.Goals as goal
 

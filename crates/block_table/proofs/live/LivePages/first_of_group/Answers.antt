@@ -1,6 +1,4 @@
-use Rattle.std.proofs.Common.{arith, ◌+◌, ◌*◌}
-use Rattle.block_table.specs.LiveRooms.{lives_of}
-use Rattle.block_table.specs.Probes.{is_victim_at, word_has, words_to}
+use Rattle.block_table.proofs.Common.{arith, is_victim_at, lives_of, word_has, words_to, ◌*◌, ◌+◌}
 use Rattle.block_table.proofs.MarkedWords.{level_probed, next_mark, no_mark, none_probed, none_to_end, none_to_mark}
 use Rattle.block_table.proofs.MarkedWords.{tells, word_probed}
 use Rattle.block_table.proofs.VictimWords.{word_first, word_passed}

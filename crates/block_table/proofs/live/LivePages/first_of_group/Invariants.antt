@@ -1,5 +1,4 @@
-use Rattle.std.proofs.Common.{◌≡◌, ℕ, ◌+◌, ◌-◌, ◌*◌, ◌<◌, ◌≤◌, false}
-use Rattle.block_table.specs.Probes.{is_victim_at, words_to}
+use Rattle.block_table.proofs.Common.{false, is_victim_at, words_to, ℕ, ◌*◌, ◌+◌, ◌-◌, ◌<◌, ◌≡◌, ◌≤◌}
 use Rattle.block_table.proofs.live.LivePages.first_of_group.Given as goal
 
 abbrev pub decreases-loop-from : goal.decreases-loop-from

@@ -1,4 +1,4 @@
-use Rattle.block_table.specs.Lowest.{is_used_from}
+use Rattle.block_table.proofs.Common.{is_used_from}
 use Rattle.block_table.proofs.VictimWords.{word_first, word_passed}
 use Rattle.block_table.proofs.live.LivePages.first_used.Goals as goal
 

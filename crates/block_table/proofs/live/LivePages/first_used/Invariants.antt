@@ -1,5 +1,4 @@
-use Rattle.std.proofs.Common.{◌≡◌, ℕ, ◌*◌, ◌<◌, false}
-use Rattle.block_table.specs.Lowest.{is_used_from}
+use Rattle.block_table.proofs.Common.{false, is_used_from, ℕ, ◌*◌, ◌<◌, ◌≡◌}
 use Rattle.block_table.proofs.live.LivePages.first_used.Given as goal
 
 abbrev pub invariant-loop-number : goal.invariant-loop-number

@@ -1,5 +1,4 @@
-use Rattle.std.proofs.Common.{◌≤◌, ◌+◌, ◌*◌, ℕ, arith, subst}
-use Rattle.block_table.specs.Probes.{word_has, words_with}
+use Rattle.block_table.proofs.Common.{arith, subst, word_has, words_with, ℕ, ◌*◌, ◌+◌, ◌≤◌}
 use Rattle.block_table.proofs.MarkedWords.{group_probed, groups_probed}
 use Rattle.block_table.proofs.VictimWords.{no_victim_left}
 use Rattle.block_table.proofs.live.LivePages.first_victim.Goals as goal

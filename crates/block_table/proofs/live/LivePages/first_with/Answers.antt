@@ -1,9 +1,6 @@
-use Rattle.std.proofs.Common.{Bool, ℕ, ◌≡◌, ◌+◌, ◌≤◌, ap, arith, false, if◌then◌else◌, subst, sym, true}
-use Rattle.block_table.specs.Buckets.{words_for}
-use Rattle.block_table.specs.LiveRooms.{lives_of}
-use Rattle.block_table.specs.Lives.{Lives}
-use Rattle.block_table.specs.Probes.{has_unpinned, is_victim_at, word_probes, words_with}
-use Rattle.block_table.specs.Sorted.{blocks_in}
+use Rattle.block_table.proofs.Common.{Bool, Lives, ap, arith, blocks_in, false, if◌then◌else◌, is_victim_at, lives_of}
+use Rattle.block_table.proofs.Common.{subst, sym, true, word_probes, words_for, words_with, ℕ, ◌+◌, ◌≡◌, ◌≤◌}
+use Rattle.block_table.specs.Probes.{has_unpinned}
 use Rattle.block_table.proofs.VictimBuckets.{empty_none, held_unpinned}
 use Rattle.block_table.proofs.live.LivePages.first_with.Goals as goal
 

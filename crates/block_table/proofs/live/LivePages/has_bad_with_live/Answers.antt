@@ -1,6 +1,4 @@
-use Rattle.std.proofs.Common.{ℕ, ◌≡◌, ◌∙◌, ap, arith}
-use Rattle.block_table.specs.Buckets.{bit}
-use Rattle.block_table.specs.Probes.{is_bad_at}
+use Rattle.block_table.proofs.Common.{ap, arith, bit, is_bad_at, ℕ, ◌∙◌, ◌≡◌}
 use Rattle.block_table.proofs.VictimWords.{bad_found, bad_none, word_passed}
 use Rattle.block_table.proofs.WordBits.{bit_zero}
 use Rattle.block_table.proofs.live.LivePages.has_bad_with_live.Goals as goal

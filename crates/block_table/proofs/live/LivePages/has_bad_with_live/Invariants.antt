@@ -1,5 +1,4 @@
-use Rattle.std.proofs.Common.{◌≡◌, ℕ, ◌*◌, ◌<◌, false}
-use Rattle.block_table.specs.Probes.{is_bad_at}
+use Rattle.block_table.proofs.Common.{false, is_bad_at, ℕ, ◌*◌, ◌<◌, ◌≡◌}
 use Rattle.block_table.proofs.live.LivePages.has_bad_with_live.Given as goal
 
 abbrev pub invariant-loop-number : goal.invariant-loop-number

@@ -1,6 +1,4 @@
-use Rattle.std.proofs.Common.{◌∙◌, arith, sym}
-use Rattle.block_table.specs.LiveRooms.{lives_of}
-use Rattle.block_table.specs.Lives.{spot}
+use Rattle.block_table.proofs.Common.{arith, lives_of, spot, sym, ◌∙◌}
 use Rattle.block_table.proofs.LiveCounts.{counts_none, count_inside, count_read}
 use Rattle.block_table.proofs.live.LivePages.live_count.Goals as goal
 

@@ -1,7 +1,6 @@
-use Rattle.std.proofs.Common.{ℕ, ◌≡◌, ◌+◌, ◌-◌, ◌*◌, ◌<◌, ◌≤◌, Some, arith, false, subst, sym}
-use Rattle.block_table.specs.Buckets.{IsLowest}
-use Rattle.block_table.specs.Lives.{Lives}
-use Rattle.block_table.specs.Lowest.{IsLowestBlock, is_used_from}
+use Rattle.block_table.proofs.Common.{IsLowest, Lives, Some, arith, false, is_used_from, subst, sym, ℕ, ◌*◌, ◌+◌, ◌-◌}
+use Rattle.block_table.proofs.Common.{◌<◌, ◌≡◌, ◌≤◌}
+use Rattle.block_table.specs.Lowest.{IsLowestBlock}
 use Rattle.block_table.proofs.LowestWords.{found_from, no_block, some_block}
 use Rattle.block_table.proofs.live.LivePages.lowest_unpinned.Goals as goal
 

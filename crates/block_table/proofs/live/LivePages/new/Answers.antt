@@ -1,5 +1,4 @@
-use Rattle.std.proofs.Common.{ℕ, ◌≡◌, ◌∙◌, ◌*◌, ap, length, replicate, false}
-use Rattle.std.proofs.lemmas.List.{length-replicate}
+use Rattle.block_table.proofs.Common.{ap, false, length, length-replicate, replicate, ℕ, ◌*◌, ◌∙◌, ◌≡◌}
 use Rattle.block_table.proofs.LiveCounts.{new_counted}
 use Rattle.block_table.proofs.Unpinned.{new_no_pin, new_unpinned}
 use Rattle.block_table.proofs.live.LivePages.new.Goals as goal

@@ -1,5 +1,4 @@
-use Rattle.std.proofs.Common.{◌∙◌, ◌<◌, ◌≤◌, arith, subst, sym}
-use Rattle.block_table.specs.Lives.{Lives, spot}
+use Rattle.block_table.proofs.Common.{Lives, arith, spot, subst, sym, ◌<◌, ◌∙◌, ◌≤◌}
 use Rattle.block_table.proofs.Searches.{live_found, live_none}
 use Rattle.block_table.proofs.live.LivePages.next_live.Goals as goal
 

@@ -1,6 +1,4 @@
-use Rattle.std.proofs.Common.{◌≡◌, ℕ, ◌<◌, ◌≤◌, false}
-use Rattle.ufs_spec.specs.Disk.{place_in}
-use Rattle.block_table.specs.Lives.{is_live, spot}
+use Rattle.block_table.proofs.Common.{false, is_live, place_in, spot, ℕ, ◌<◌, ◌≡◌, ◌≤◌}
 use Rattle.block_table.proofs.live.LivePages.next_live.Given as goal
 
 abbrev pub invariant-loop-page : goal.invariant-loop-page

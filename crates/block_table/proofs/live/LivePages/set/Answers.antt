@@ -1,13 +1,8 @@
-use Rattle.std.specs.Bool.{beq}
-use Rattle.std.proofs.Common.{Bool, ℕ, ◌≡◌, ◌≤◌, ◌∙◌, Some, ap, arith, subst, sym, true, false}
-use Rattle.ufs_spec.proofs.Facts.{and_parts}
-use Rattle.ufs_spec.specs.Disk.{spot_of}
-use Rattle.block_table.specs.Lives.{live_count}
-use Rattle.block_table.specs.LiveRooms.{lives_of}
-use Rattle.block_table.proofs.LiveCounts.{IsChange, change_counted, change_inside}
-use Rattle.block_table.proofs.LiveCounts.{change_room, change_some, change_within, count_after, count_there}
+use Rattle.block_table.proofs.Common.{Bool, Some, and_parts, ap, arith, beq, false, live_count, lives_of, spot_of}
+use Rattle.block_table.proofs.Common.{subst, sym, true, ℕ, ◌∙◌, ◌≡◌, ◌≤◌}
+use Rattle.block_table.proofs.LiveCounts.{IsChange, change_counted, change_inside, change_room, change_some}
+use Rattle.block_table.proofs.LiveCounts.{change_within, count_after, count_there, is_change, place_now, seen_now}
 use Rattle.block_table.proofs.Unpinned.{count_at_most, moved_unpinned}
-use Rattle.block_table.proofs.LiveCounts.{is_change, place_now, seen_now}
 use Rattle.block_table.proofs.live.LivePages.set.Goals as goal
 use Rattle.block_table.proofs.live.LivePages.set.Goals.{then-live, else-live}
 

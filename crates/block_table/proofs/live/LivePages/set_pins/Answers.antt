@@ -1,8 +1,5 @@
-use Rattle.std.proofs.Common.{ℕ, ◌<◌, ◌≤◌, ◌∙◌, Some, ap, arith, length, subst, sym}
-use Rattle.ufs_spec.proofs.Lists.{set_length}
-use Rattle.block_table.specs.LiveRooms.{lives_of}
-use Rattle.block_table.specs.Lives.{Lives, live_count, spot}
-use Rattle.block_table.specs.Sorted.{blocks_in}
+use Rattle.block_table.proofs.Common.{Lives, Some, ap, arith, blocks_in, length, live_count, lives_of, set_length, spot}
+use Rattle.block_table.proofs.Common.{subst, sym, ℕ, ◌<◌, ◌∙◌, ◌≤◌}
 use Rattle.block_table.proofs.LiveCounts.{count_there}
 use Rattle.block_table.proofs.Unpinned.{count_at_most, place_inside, set_no_pin, set_unpinned}
 use Rattle.block_table.proofs.live.LivePages.set_pins.Goals as goal

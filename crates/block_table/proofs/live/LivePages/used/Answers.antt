@@ -1,8 +1,4 @@
-use Rattle.std.proofs.Common.{subst}
-use Rattle.block_table.specs.Buckets.{IsWord}
-use Rattle.block_table.specs.LiveRooms.{lives_of}
-use Rattle.block_table.specs.Lives.{Lives}
-use Rattle.block_table.specs.Lowest.{is_used_from}
+use Rattle.block_table.proofs.Common.{IsWord, Lives, is_used_from, lives_of, subst}
 use Rattle.block_table.proofs.LowestWords.{used_bits}
 use Rattle.block_table.proofs.live.LivePages.used.Goals as goal
 

@@ -1,8 +1,6 @@
-use Rattle.std.proofs.Common.{Some, ◌+◌, ◌≤◌, ◌∙◌, ap, subst, sym}
-use Rattle.ufs_spec.specs.Disk.{Spot}
-use Rattle.block_table.specs.Lives.{Lives, live_count, spot_at}
-use Rattle.block_table.specs.Probes.{word_probes}
-use Rattle.block_table.specs.Victims.{IsVictim}
+use Rattle.block_table.proofs.Common.{IsVictim, Lives, Some, Spot, ap, live_count, subst, sym, word_probes, ◌+◌, ◌∙◌}
+use Rattle.block_table.proofs.Common.{◌≤◌}
+use Rattle.block_table.specs.Lives.{spot_at}
 use Rattle.block_table.proofs.Searches.{no_victim_is, victim_is}
 use Rattle.block_table.proofs.VictimBuckets.{first_is, none_left, none_more, probes_more, probes_with}
 use Rattle.block_table.proofs.live.LivePages.victim_counted.Goals as goal

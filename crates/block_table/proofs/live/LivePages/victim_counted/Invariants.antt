@@ -1,10 +1,5 @@
-use Rattle.std.proofs.Common.{◌+◌, ◌≤◌}
+use Rattle.block_table.proofs.Common.{CanBeVictim, Spot, below, live_count, word_probes, ◌+◌, ◌≤◌}
 use Rattle.std.specs.List.{sum_by}
-use Rattle.ufs_spec.specs.Disk.{Spot}
-use Rattle.ufs_spec.specs.Keys.{below}
-use Rattle.block_table.specs.Lives.{live_count}
-use Rattle.block_table.specs.Probes.{word_probes}
-use Rattle.block_table.specs.Victims.{CanBeVictim}
 use Rattle.block_table.proofs.live.LivePages.victim_counted.Given as goal
 
 abbrev pub invariant-loop-count : goal.invariant-loop-count

@@ -1,9 +1,5 @@
-use Rattle.std.proofs.Common.{Bool, not, ◌&&◌, ◌∙◌, ap, subst, sym, ◌≤◌}
-use Rattle.std.specs.Prelude.{bit_and, bit_or}
-use Rattle.block_table.specs.Buckets.{IsWord}
-use Rattle.block_table.specs.LiveRooms.{lives_of}
-use Rattle.block_table.specs.Lives.{Lives}
-use Rattle.block_table.specs.Probes.{is_victim_at}
+use Rattle.block_table.proofs.Common.{Bool, IsWord, Lives, ap, bit_and, bit_or, is_victim_at, lives_of, not, subst, sym}
+use Rattle.block_table.proofs.Common.{◌&&◌, ◌∙◌, ◌≤◌}
 use Rattle.block_table.proofs.VictimWords.{victim_bits}
 use Rattle.block_table.proofs.live.LivePages.victims.Goals as goal
 

@@ -1,6 +1,4 @@
-use Rattle.std.proofs.Common.{subst, sym}
-use Rattle.device.specs.Kept.{DeviceCore, IsLayerWith}
-use Rattle.device.specs.Manages.{HasLetGo}
+use Rattle.device.proofs.Common.{DeviceCore, HasLetGo, IsLayerWith, subst, sym}
 use Rattle.device.proofs.device.Device.abort.Goals as goal
 
 pub returns-clause-layer : goal.returns-clause-layer

@@ -1,9 +1,4 @@
-use Rattle.std.proofs.Common.{◌∙◌, refl, sym, ap, subst}
-use Rattle.std.specs.Prelude.{position}
-use Rattle.task_set.specs.Lists.{task_at}
-use Rattle.task_set.specs.Tasks.{is_task_meant}
-use Rattle.device.specs.Kept.{DeviceCore}
-use Rattle.device.specs.Manages.{means}
+use Rattle.device.proofs.Common.{DeviceCore, ap, is_task_meant, means, position, refl, subst, sym, task_at, ◌∙◌}
 use Rattle.device.proofs.managed.AllAborted.{IsOnTheWay, all_gone, begins, goes_on, not_found, rest_stays}
 use Rattle.device.proofs.device.Device.abort_all.Goals as goal
 

@@ -1,7 +1,4 @@
-use Rattle.std.proofs.Common.{◌≡◌, length}
-use Rattle.ufs_spec.specs.Refusals.{State}
-use Rattle.device.specs.Describes.{Describes}
-use Rattle.device.specs.Manages.{means}
+use Rattle.device.proofs.Common.{Describes, State, length, means, ◌≡◌}
 use Rattle.device.proofs.managed.AllAborted.{IsOnTheWay}
 use Rattle.device.proofs.device.Device.abort_all.Given as goal
 

@@ -1,11 +1,6 @@
-use Rattle.std.proofs.Common.{◌∙◌, List, ℕ, ap, subst, sym}
-use Rattle.rpmb.specs.Requests.{frames_of}
-use Rattle.settings.specs.Told.{bytes_of}
+use Rattle.device.proofs.Common.{DeviceCore, HasAccepted, HasPut, List, ap, bytes_of, core_of, frames_of, subst, sym}
+use Rattle.device.proofs.Common.{write_group, ℕ, ◌∙◌}
 use Rattle.task_set.specs.declared.tasks.TaskEvent.TheVariants as event
-use Rattle.device.specs.Frames.{HasAccepted}
-use Rattle.device.specs.Groups.{HasPut, write_group}
-use Rattle.device.specs.Kept.{DeviceCore}
-use Rattle.device.specs.Rooms.{core_of}
 use Rattle.device.proofs.host_messages.RequestPut.{no_write_accepted, write_accepted}
 use Rattle.device.proofs.device.Device.accept_request.Goals as goal
 

@@ -1,7 +1,5 @@
-use Rattle.std.proofs.Common.{◌∙◌, subst, sym}
-use Rattle.rpmb.specs.Requests.{frames_of}
+use Rattle.device.proofs.Common.{DeviceCore, frames_of, subst, sym, ◌∙◌}
 use Rattle.device.specs.Frames.{HasAnswered}
-use Rattle.device.specs.Kept.{DeviceCore}
 use Rattle.task_set.specs.declared.tasks.TaskEvent.TheVariants as event
 use Rattle.device.proofs.described.AreaKept.{answered_at_once, asked_then}
 use Rattle.device.proofs.device.Device.answer_request.Goals as goal

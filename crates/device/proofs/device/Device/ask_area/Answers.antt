@@ -1,8 +1,5 @@
-use Rattle.std.proofs.Common.{subst}
-use Rattle.ufs_spec.specs.Translation.{Translation}
-use Rattle.ftl_core.specs.Public.{Claims}
+use Rattle.device.proofs.Common.{Claims, DeviceCore, IsLayerWith, Translation, subst}
 use Rattle.device.specs.Frames.{HasKeptArea}
-use Rattle.device.specs.Kept.{DeviceCore, IsLayerWith}
 use Rattle.device.proofs.described.AreaKept.{pages_kept}
 use Rattle.device.proofs.device.Device.ask_area.Goals as goal
 

@@ -1,8 +1,6 @@
-use Rattle.std.proofs.Common.{◌∙◌, None, Some, ◌≡◌, ap, sym}
+use Rattle.device.proofs.Common.{InSlot, Name, None, Some, ap, sym, ◌∙◌, ◌≡◌}
 use Rattle.device.proofs.described.SameDevice.{same_layer}
 use Rattle.device.proofs.due_replies.BlocksOwed.{block_found}
-use Rattle.ufs_spec.specs.declared.layer.Looked.TheVariants.{InSlot}
-use Rattle.ufs_spec.specs.declared.layer.Name.{Name}
 use Rattle.device.proofs.device.Device.at_hand.Goals as goal
 
 pub returns : goal.returns

@@ -1,6 +1,5 @@
-use Rattle.std.proofs.Common.{◌≡◌, ◌∙◌, ap, subst, sym}
+use Rattle.device.proofs.Common.{DeviceCore, IsLayerWith, ap, subst, sym, ◌∙◌, ◌≡◌}
 use Rattle.task_set.specs.declared.tasks.Phase.TheVariants as phase
-use Rattle.device.specs.Kept.{DeviceCore, IsLayerWith}
 use Rattle.device.proofs.host_messages.SlotsClaimed.{asks_or_busy, blocks_kept}
 use Rattle.device.proofs.device.Device.begin_read.Goals as goal
 use Rattle.device.proofs.device.Device.begin_read.Goals.{then-keep, else-keep}

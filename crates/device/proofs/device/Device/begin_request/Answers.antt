@@ -1,10 +1,7 @@
-use Rattle.std.proofs.Common.{◌≡◌, ◌∙◌, List, ap, subst}
-use Rattle.rpmb.specs.Kept.{Machine}
-use Rattle.rpmb.specs.Requests.{frames_of}
+use Rattle.device.proofs.Common.{DeviceCore, List, Machine, ap, core_of, frames_of, subst, with_held, with_zeros, ◌∙◌}
+use Rattle.device.proofs.Common.{◌≡◌}
 use Rattle.device.specs.Calls.{with_event}
-use Rattle.device.specs.Frames.{IsDecided, with_emptied, with_held, with_zeros}
-use Rattle.device.specs.Kept.{DeviceCore}
-use Rattle.device.specs.Rooms.{core_of}
+use Rattle.device.specs.Frames.{IsDecided, with_emptied}
 use Rattle.device.proofs.device.Device.begin_request.Goals as goal
 
 pub returns : goal.returns

@@ -1,9 +1,6 @@
-use Rattle.std.proofs.Common.{◌∙◌, ap, sym, Some, ◌≡◌}
+use Rattle.device.proofs.Common.{InSlot, Name, Some, ap, read_at, sym, ◌∙◌, ◌≡◌}
 use Rattle.device.proofs.due_replies.BlocksOwed.{block_found}
 use Rattle.device.proofs.described.SameDevice.{same_layer}
-use Rattle.task_set.specs.Lists.{read_at}
-use Rattle.ufs_spec.specs.declared.layer.Looked.TheVariants.{InSlot}
-use Rattle.ufs_spec.specs.declared.layer.Name.{Name}
 use Rattle.device.proofs.device.Device.block.Goals as goal
 
 pub returns : goal.returns

@@ -1,5 +1,4 @@
-use Rattle.std.proofs.Common.{refl, sym, subst}
-use Rattle.device.specs.Describes.{IsBehind}
+use Rattle.device.proofs.Common.{IsBehind, refl, subst, sym}
 use Rattle.device.proofs.described.Answered.{stays}
 use Rattle.device.proofs.managed.Services.{none_carried}
 use Rattle.device.proofs.device.Device.carry_out.Goals as goal

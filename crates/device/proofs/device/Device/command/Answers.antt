@@ -1,4 +1,4 @@
-use Rattle.std.proofs.Common.{◌∙◌, sym}
+use Rattle.device.proofs.Common.{sym, ◌∙◌}
 use Rattle.device.proofs.host_messages.CommandsRight.{full_right, opened_right, used_right}
 use Rattle.device.proofs.device.Device.command.Goals as goal
 

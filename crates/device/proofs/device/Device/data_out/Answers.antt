@@ -1,7 +1,6 @@
-use Rattle.std.proofs.Common.{◌∙◌, refl, sym, subst}
-use Rattle.std.specs.Prelude.{Option, Ok}
+use Rattle.device.proofs.Common.{AskedFor, Ok, refl, subst, sym, ◌∙◌}
+use Rattle.std.specs.Prelude.{Option}
 use Rattle.device.specs.Hears.{IsDataHeard}
-use Rattle.task_set.specs.declared.tasks.AskedFor.{AskedFor}
 use Rattle.device.proofs.device.Device.data_out.Goals as goal
 
 pub returns-clause-heard : goal.returns-clause-heard

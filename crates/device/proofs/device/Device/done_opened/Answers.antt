@@ -1,9 +1,6 @@
-use Rattle.std.proofs.Common.{◌∙◌, refl, sym, subst, ap}
+use Rattle.device.proofs.Common.{DeviceCore, HasFilled, ap, is_some, none_some, option_map, refl, some_is, subst, sym}
+use Rattle.device.proofs.Common.{◌∙◌}
 use Rattle.device.proofs.described.SameDevice.{same_core}
-use Rattle.std.specs.Prelude.{is_some, option_map}
-use Rattle.device.specs.Frames.{HasFilled}
-use Rattle.device.specs.Kept.{DeviceCore}
-use Rattle.power_loss.proofs.books.PagesByName.{none_some, some_is}
 use Rattle.ftl_core.specs.Public.{IsTold, ended_now}
 use Rattle.device.proofs.die_calls.CallsRight.{may_end}
 use Rattle.device.proofs.die_calls.EndsTold.{ends_right}

@@ -1,11 +1,6 @@
-use Rattle.std.proofs.Common.{◌≡◌, ◌∙◌, ◌<◌, ℕ, Bool, true, false, List, Option, Some, None, refl, ap, arith}
-use Rattle.std.proofs.Common.{rules, length, sym}
-use Rattle.ufs_spec.proofs.Facts.{true≢false}
-use Rattle.ufs_spec.specs.declared.messages.Message.{Message}
+use Rattle.device.proofs.Common.{Bool, DeviceCore, List, Message, None, Option, Some, ap, arith, false, length, refl}
+use Rattle.device.proofs.Common.{rules, slice_get_within, sym, task_at, true, true≢false, ℕ, ◌<◌, ◌∙◌, ◌≡◌}
 use Rattle.device.specs.Replies.{IsWritten}
-use Rattle.std.proofs.lemmas.Option.{slice_get_within}
-use Rattle.device.specs.Kept.{DeviceCore}
-use Rattle.task_set.specs.Lists.{task_at}
 use Rattle.device.proofs.due_replies.NoneOwed.{none_owed}
 use Rattle.device.proofs.device.Device.due.Goals as goal
 

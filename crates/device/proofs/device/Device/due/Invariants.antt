@@ -1,8 +1,6 @@
-use Rattle.std.proofs.Common.{◌≡◌, ◌<◌, ℕ, slice_get, Some, None}
-use Rattle.ufs_spec.specs.Translation.{Translation}
+use Rattle.device.proofs.Common.{None, OpenTask, Some, Translation, owed_by, ℕ, ◌<◌, ◌≡◌}
+use Rattle.std.proofs.Common.{slice_get}
 use Rattle.ftl_core.specs.Public.{Describes}
-use Rattle.task_set.specs.Kept.{OpenTask}
-use Rattle.device.specs.Replies.{owed_by}
 use Rattle.device.proofs.device.Device.due.Given as goal
 
 abbrev pub invariant-loop-index : goal.invariant-loop-index

@@ -1,9 +1,5 @@
-use Rattle.std.proofs.Common.{◌≡◌, ◌∙◌, ℕ, Some, ap, subst, sym}
-use Rattle.ufs_spec.specs.Moves.{LetGoAll, moved}
-use Rattle.ftl_core.specs.Public.{AreClaimed, Core}
-use Rattle.device.specs.Kept.{DeviceCore, IsLayerWith}
-use Rattle.task_set.specs.Lists.{task_at}
-use Rattle.task_set.specs.declared.tasks.Task.{Task}
+use Rattle.device.proofs.Common.{AreClaimed, Core, DeviceCore, IsLayerWith, LetGoAll, Some, Task, ap, moved, subst, sym}
+use Rattle.device.proofs.Common.{task_at, ℕ, ◌∙◌, ◌≡◌}
 use Rattle.device.proofs.described.SameDevice.{same_layer}
 use Rattle.device.proofs.open_tasks.OpenTasks.{stands_there}
 use Rattle.device.proofs.device.Device.end_request.Goals as goal

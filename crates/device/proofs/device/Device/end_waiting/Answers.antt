@@ -1,13 +1,9 @@
-use Rattle.std.proofs.Common.{◌≡◌, ◌∙◌, ℕ, true, ap, map, subst, sym}
-use Rattle.ufs_spec.specs.Translation.{Translation, is_locked}
-use Rattle.power_loss.proofs.books.SmallFacts.{if_false, if_true}
+use Rattle.device.proofs.Common.{DeviceCore, Translation, ap, core_of, if_false, if_true, lock_told, map, subst, sym}
+use Rattle.device.proofs.Common.{task_after, true, ℕ, ◌∙◌, ◌≡◌}
+use Rattle.ufs_spec.specs.Translation.{is_locked}
 use Rattle.task_set.specs.Kept.{Tasks}
 use Rattle.task_set.specs.Shorts.{short_locked}
-use Rattle.task_set.specs.Tasks.{task_after}
 use Rattle.task_set.specs.declared.tasks.TaskEvent.TheVariants as event
-use Rattle.device.specs.Calls.{lock_told}
-use Rattle.device.specs.Kept.{DeviceCore}
-use Rattle.device.specs.Rooms.{core_of}
 use Rattle.device.proofs.described.SameDevice.{same_layer}
 use Rattle.device.proofs.device.Device.end_waiting.Goals as goal
 

@@ -1,9 +1,7 @@
-use Rattle.std.proofs.Common.{◌≡◌, ◌∙◌, Some, ap, subst, sym}
-use Rattle.std.specs.Prelude.{slice_get}
+use Rattle.device.proofs.Common.{DeviceCore, IsLayerWith, Some, ap, slice_get, subst, sym, to_answer, ◌∙◌, ◌≡◌}
 use Rattle.task_set.specs.declared.tasks.TaskEvent.TheVariants as event
 use Rattle.device.specs.Calls.{with_event}
-use Rattle.device.specs.Frames.{HasFilledBy, to_answer}
-use Rattle.device.specs.Kept.{DeviceCore, IsLayerWith}
+use Rattle.device.specs.Frames.{HasFilledBy}
 use Rattle.device.proofs.described.Responded.{Answers, answers_at}
 use Rattle.device.proofs.device.Device.fill_register.Goals as goal
 

@@ -1,7 +1,5 @@
-use Rattle.std.proofs.Common.{◌∙◌, List, ap, sym, subst}
-use Rattle.rpmb.specs.declared.regions.RegionState.{RegionState}
-use Rattle.device.specs.Describes.{Describes}
-use Rattle.device.specs.Kept.{DeviceCore, idle_device, regions_kept}
+use Rattle.device.proofs.Common.{Describes, DeviceCore, List, RegionState, ap, idle_device, regions_kept, subst, sym}
+use Rattle.device.proofs.Common.{◌∙◌}
 use Rattle.device.proofs.described.Opens.{device_opens, has_found}
 use Rattle.device.proofs.device.Device.from_found.Goals as goal
 

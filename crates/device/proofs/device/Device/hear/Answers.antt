@@ -1,5 +1,4 @@
-use Rattle.std.proofs.Common.{refl, subst}
-use Rattle.ufs_spec.specs.Messages.{Spells}
+use Rattle.device.proofs.Common.{Spells, refl, subst}
 use Rattle.device.proofs.host_messages.HostRight.{device_kind, nop_right}
 use Rattle.device.proofs.host_messages.QueriesRight.{query_right}
 use Rattle.device.proofs.managed.ManagedRight.{managing_right}

@@ -1,8 +1,4 @@
-use Rattle.std.proofs.Common.{◌∙◌, refl, sym, ap, subst}
-use Rattle.std.specs.Prelude.{Result, Ok, Err}
-use Rattle.ufs_spec.specs.declared.faults.HostFault.{HostFault}
-use Rattle.ufs_spec.specs.declared.messages.Message.{Message}
-use Rattle.ufs_spec.specs.Messages.{Spells}
+use Rattle.device.proofs.Common.{Err, HostFault, Message, Ok, Result, Spells, ap, refl, subst, sym, ◌∙◌}
 use Rattle.device.proofs.host_messages.FaultsHeard.{fault_heard}
 use Rattle.device.proofs.host_messages.HostRight.{faults_right}
 use Rattle.device.proofs.device.Device.hear_other.Goals as goal

@@ -1,4 +1,5 @@
-use Rattle.std.proofs.Common.{refl, List, ℕ, ◌+◌, slice_range}
+use Rattle.device.proofs.Common.{List, refl, ℕ, ◌+◌}
+use Rattle.std.proofs.Common.{slice_range}
 use Rattle.device.proofs.host_messages.DataRight.{data_heard_as}
 use Rattle.device.proofs.device.Device.host.Goals as goal
 

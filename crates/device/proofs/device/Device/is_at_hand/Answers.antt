@@ -1,8 +1,6 @@
-use Rattle.std.proofs.Common.{◌∙◌, ap, sym, Some, ◌≡◌}
+use Rattle.device.proofs.Common.{InSlot, Name, Some, ap, sym, ◌∙◌, ◌≡◌}
 use Rattle.device.proofs.described.AreaThere.{at_hand_found, copied_there}
 use Rattle.device.proofs.described.SameDevice.{same_layer}
-use Rattle.ufs_spec.specs.declared.layer.Looked.TheVariants.{InSlot}
-use Rattle.ufs_spec.specs.declared.layer.Name.{Name}
 use Rattle.device.proofs.device.Device.is_at_hand.Goals as goal
 
 pub returns-in-Some : goal.returns-in-Some

@@ -1,6 +1,4 @@
-use Rattle.std.proofs.Common.{subst, sym}
-use Rattle.ftl_core.specs.Public.{AreClaimed}
-use Rattle.device.specs.Kept.{DeviceCore}
+use Rattle.device.proofs.Common.{AreClaimed, DeviceCore, subst, sym}
 use Rattle.device.proofs.described.SameDevice.{same_layer}
 use Rattle.device.proofs.device.Device.let_go.Goals as goal
 

@@ -1,5 +1,4 @@
-use Rattle.std.proofs.Common.{◌∙◌, ap}
-use Rattle.device.specs.Hears.{with_short}
+use Rattle.device.proofs.Common.{ap, with_short, ◌∙◌}
 use Rattle.task_set.specs.declared.tasks.Short.{Short}
 use Rattle.device.proofs.managed.ManagedRight.{managing_taken}
 use Rattle.device.proofs.device.Device.manage.Goals as goal

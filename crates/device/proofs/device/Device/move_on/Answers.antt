@@ -1,6 +1,4 @@
-use Rattle.std.proofs.Common.{subst, sym}
-use Rattle.task_set.specs.declared.tasks.Phase.{Phase}
-use Rattle.device.specs.Replies.{HasMoved}
+use Rattle.device.proofs.Common.{HasMoved, Phase, subst, sym}
 use Rattle.device.proofs.device.Device.move_on.Goals as goal
 
 pub returns-in-SendBlocks-clause-moved : goal.returns-in-SendBlocks-clause-moved

@@ -1,9 +1,6 @@
-use Rattle.std.proofs.Common.{◌∙◌, ap, subst, sym}
+use Rattle.device.proofs.Common.{DeviceCore, ap, newly_open, subst, sym, with_task, ◌∙◌}
 use Rattle.ftl_core.specs.Public.{Describes}
 use Rattle.device.specs.Frames.{sent_kept}
-use Rattle.device.specs.Hears.{with_task}
-use Rattle.device.specs.Kept.{DeviceCore}
-use Rattle.task_set.specs.Kept.{newly_open}
 use Rattle.device.proofs.device.Device.open_task.Goals as goal
 
 pub returns : goal.returns

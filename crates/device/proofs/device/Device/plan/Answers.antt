@@ -1,13 +1,8 @@
-use Rattle.std.proofs.Common.{◌≡◌, ◌∙◌, Some, ap, refl, sym}
-use Rattle.std.specs.Prelude.{Result, Ok, Err}
-use Rattle.ufs_spec.specs.CdbFields.{row_of, spelled_cdb, spelled_in}
-use Rattle.ufs_spec.specs.Refusals.{Request, State}
-use Rattle.task_set.specs.declared.tasks.Status.{Status}
+use Rattle.device.proofs.Common.{Err, IsBare, IsNamed, IsPlanned, Ok, Plan, Request, Result, Some, State, Status, ap}
+use Rattle.device.proofs.Common.{refl, spelled_cdb, sym, target_of, ◌∙◌, ◌≡◌}
+use Rattle.ufs_spec.specs.CdbFields.{row_of, spelled_in}
 use Rattle.ftl_core.specs.Public.{Describes as IsLayer}
-use Rattle.device.specs.Bare.{IsBare}
-use Rattle.device.specs.Plans.{IsPlanned, IsRequest}
-use Rattle.device.specs.Targets.{IsNamed, target_of}
-use Rattle.device.specs.declared.plans.Plan.{Plan}
+use Rattle.device.specs.Plans.{IsRequest}
 use Rattle.device.specs.declared.targets.Target.{Target}
 use Rattle.device.proofs.host_messages.UnitsThere.{if_err, if_ok, is_ok, planned_passes, refused_so}
 use Rattle.device.proofs.device.Device.plan.Goals as goal

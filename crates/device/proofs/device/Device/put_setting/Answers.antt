@@ -1,6 +1,4 @@
-use Rattle.std.proofs.Common.{subst}
-use Rattle.device.specs.Kept.{DeviceCore}
-use Rattle.device.specs.Queries.{HasPutSetting}
+use Rattle.device.proofs.Common.{DeviceCore, HasPutSetting, subst}
 use Rattle.device.proofs.host_messages.QueriesAnswered.{setting_put}
 use Rattle.device.proofs.device.Device.put_setting.Goals as goal
 

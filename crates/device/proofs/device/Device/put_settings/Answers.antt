@@ -1,7 +1,4 @@
-use Rattle.std.proofs.Common.{[], ◌∷◌, subst}
-use Rattle.ufs_spec.specs.Keys.{settings_key}
-use Rattle.device.specs.Groups.{HasPut, key_group}
-use Rattle.device.specs.Kept.{DeviceCore}
+use Rattle.device.proofs.Common.{DeviceCore, HasPut, [], key_group, settings_key, subst, ◌∷◌}
 use Rattle.device.proofs.host_messages.PagesBrought.{has_put, item_brought, one_brought}
 use Rattle.device.proofs.device.Device.put_settings.Goals as goal
 

@@ -1,8 +1,7 @@
-use Rattle.std.proofs.Common.{◌∙◌, ◌+◌, ◌/◌, ◌%◌, ◌*◌, List, ℕ, ap, arith, drop, subst}
-use Rattle.std.proofs.Common.{take}
-use Rattle.ufs_spec.specs.Keys.{area_key}
-use Rattle.device.specs.Groups.{HasPut, IsBrought, write_group}
-use Rattle.device.specs.Kept.{DeviceCore}
+use Rattle.device.proofs.Common.{DeviceCore, HasPut, List, ap, area_key, arith, drop, subst, write_group, ℕ, ◌*◌, ◌+◌}
+use Rattle.device.proofs.Common.{◌/◌, ◌∙◌}
+use Rattle.std.proofs.Common.{take, ◌%◌}
+use Rattle.device.specs.Groups.{IsBrought}
 use Rattle.device.proofs.host_messages.PagesBrought.{one_put, two_put}
 use Rattle.device.proofs.device.Device.put_write.Goals as goal
 

@@ -1,5 +1,4 @@
-use Rattle.std.proofs.Common.{subst, sym}
-use Rattle.device.specs.Kept.{DeviceCore, IsLayerWith}
+use Rattle.device.proofs.Common.{DeviceCore, IsLayerWith, subst, sym}
 use Rattle.device.proofs.host_messages.ZerosPut.{zeros_put}
 use Rattle.device.proofs.device.Device.put_zeros.Goals as goal
 

@@ -1,4 +1,4 @@
-use Rattle.device.specs.Replies.{query_with}
+use Rattle.device.proofs.Common.{query_with}
 use Rattle.device.proofs.described.SameDevice.{same_layer}
 use Rattle.device.proofs.host_messages.QueriesAnswered.{answer_is}
 use Rattle.device.proofs.device.Device.query_answer.Goals as goal

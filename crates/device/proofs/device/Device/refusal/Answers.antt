@@ -1,7 +1,6 @@
-use Rattle.std.proofs.Common.{◌∙◌, true, false, refl, sym}
+use Rattle.device.proofs.Common.{false, numbers_of, refl, sym, true, ◌∙◌}
 use Rattle.device.proofs.described.SameDevice.{same_layer}
 use Rattle.device.proofs.host_messages.CommandTable.{data_lacking, region_lacking, told_by, told_early}
-use Rattle.ufs_spec.specs.Refusals.{numbers_of}
 use Rattle.device.proofs.device.Device.refusal.Goals as goal
 
 pub returns-then-lacks_region-clause-what : goal.returns-then-lacks_region-clause-what

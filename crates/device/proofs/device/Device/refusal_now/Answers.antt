@@ -1,4 +1,4 @@
-use Rattle.std.proofs.Common.{◌∙◌, true, false, refl, sym}
+use Rattle.device.proofs.Common.{false, refl, sym, true, ◌∙◌}
 use Rattle.device.proofs.host_messages.CommandTable.{now_told}
 use Rattle.device.proofs.device.Device.refusal_now.Goals as goal
 

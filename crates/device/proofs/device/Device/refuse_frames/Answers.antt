@@ -1,6 +1,5 @@
-use Rattle.std.proofs.Common.{subst}
+use Rattle.device.proofs.Common.{DeviceCore, subst}
 use Rattle.device.specs.Frames.{HasRefused}
-use Rattle.device.specs.Kept.{DeviceCore}
 use Rattle.device.proofs.device.Device.refuse_frames.Goals as goal
 
 pub returns : goal.returns

@@ -1,9 +1,5 @@
-use Rattle.std.proofs.Common.{◌≡◌, ℕ, List, Option, true, Some, None, refl, sym, subst}
-use Rattle.ufs_spec.specs.Messages.{spelling}
-use Rattle.ufs_spec.specs.declared.messages.Message.{Message}
-use Rattle.ufs_spec.specs.Machine.{Reply, OfReply}
-use Rattle.device.specs.Describes.{IsAnswered}
-use Rattle.device.specs.Kept.{DeviceCore}
+use Rattle.device.proofs.Common.{DeviceCore, IsAnswered, List, Message, None, OfReply, Option, Reply, Some, refl}
+use Rattle.device.proofs.Common.{spelling, subst, sym, true, ℕ, ◌≡◌}
 use Rattle.device.specs.Replies.{IsWritten}
 use Rattle.device.proofs.due_replies.RepliesRight.{replies_right, shorts_right, silence_right}
 use Rattle.device.proofs.device.Device.reply.Goals as goal

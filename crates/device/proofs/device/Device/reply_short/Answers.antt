@@ -1,8 +1,4 @@
-use Rattle.std.proofs.Common.{◌∙◌, ap, sym}
-use Rattle.std.specs.Prelude.{position}
-use Rattle.ufs_spec.specs.Moves.{Acknowledge, moved}
-use Rattle.task_set.specs.Shorts.{is_short_due}
-use Rattle.device.specs.Kept.{DeviceCore}
+use Rattle.device.proofs.Common.{Acknowledge, DeviceCore, ap, is_short_due, moved, position, sym, ◌∙◌}
 use Rattle.device.proofs.described.SameDevice.{same_layer}
 use Rattle.device.proofs.due_replies.ShortsDue.{hands_out}
 use Rattle.device.proofs.device.Device.reply_short.Goals as goal

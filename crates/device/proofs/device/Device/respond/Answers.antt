@@ -1,9 +1,5 @@
-use Rattle.std.proofs.Common.{◌≡◌, ◌∙◌, Some, ap, subst, sym}
+use Rattle.device.proofs.Common.{DeviceCore, HasResponded, OpenTask, Some, ap, slice_get, subst, sym, ◌∙◌, ◌≡◌}
 use Rattle.std.specs.Option.{option_copied}
-use Rattle.std.specs.Prelude.{slice_get}
-use Rattle.task_set.specs.Kept.{OpenTask}
-use Rattle.device.specs.Frames.{HasResponded}
-use Rattle.device.specs.Kept.{DeviceCore}
 use Rattle.device.proofs.described.Responded.{responds}
 use Rattle.device.proofs.device.Device.respond.Goals as goal
 

@@ -1,9 +1,5 @@
-use Rattle.std.proofs.Common.{◌∙◌, ap}
-use Rattle.std.specs.Prelude.{is_some}
-use Rattle.std.specs.List.{list_any}
+use Rattle.device.proofs.Common.{DeviceCore, ap, is_some, is_task_meant, list_any, ◌∙◌}
 use Rattle.ufs_spec.specs.Management.{service_found}
-use Rattle.task_set.specs.Tasks.{is_task_meant}
-use Rattle.device.specs.Kept.{DeviceCore}
 use Rattle.device.proofs.managed.FirstMeant.{any_found}
 use Rattle.device.proofs.device.Device.service_found.Goals as goal
 

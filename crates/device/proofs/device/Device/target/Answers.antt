@@ -1,6 +1,5 @@
-use Rattle.std.proofs.Common.{◌∙◌, ap}
+use Rattle.device.proofs.Common.{DeviceCore, ap, ◌∙◌}
 use Rattle.lun_route.specs.Luns.{lun_meant}
-use Rattle.device.specs.Kept.{DeviceCore}
 use Rattle.device.proofs.described.SameDevice.{same_layer}
 use Rattle.device.proofs.host_messages.Routed.{routed}
 use Rattle.device.proofs.device.Device.target.Goals as goal

@@ -1,4 +1,4 @@
-use Rattle.std.proofs.Common.{◌∙◌, ap, sym}
+use Rattle.device.proofs.Common.{ap, sym, ◌∙◌}
 use Rattle.device.specs.Unmaps.{unmapping_of}
 use Rattle.device.proofs.device.Device.unmapping.Goals as goal
 

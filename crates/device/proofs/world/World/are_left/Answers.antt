@@ -1,4 +1,4 @@
-use Rattle.device.specs.Leftovers.{IsOfDie}
+use Rattle.device.proofs.Common.{IsOfDie}
 use Rattle.device.proofs.dies_of_world.LeftoversApart.{next_of_all, one_more_has}
 use Rattle.device.proofs.world.World.are_left.Goals as goal
 

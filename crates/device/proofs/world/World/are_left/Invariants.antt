@@ -1,8 +1,4 @@
-use Rattle.std.proofs.Common.{ℕ, ◌<◌}
-use Rattle.std.specs.Prelude.{slice_index_or}
-use Rattle.ufs_spec.specs.Lives.{die_of}
-use Rattle.ufs_spec.specs.declared.events.Leftover.{Leftover}
-use Rattle.device.specs.Leftovers.{IsOfDie}
+use Rattle.device.proofs.Common.{IsOfDie, Leftover, die_of, slice_index_or, ℕ, ◌<◌}
 use Rattle.device.proofs.world.World.are_left.Given as goal
 
 abbrev pub invariant-loop-left : goal.invariant-loop-left

@@ -1,6 +1,4 @@
-use Rattle.std.proofs.Common.{◌∙◌, ◌<◌, length, subst, sym}
-use Rattle.std.proofs.lemmas.List.{length-set}
-use Rattle.device.specs.Kept.{WorldState}
+use Rattle.device.proofs.Common.{WorldState, length, length-set, subst, sym, ◌<◌, ◌∙◌}
 use Rattle.device.proofs.dies_of_world.DieParts.{worked_sizes}
 use Rattle.device.proofs.world.World.do_job.Goals as goal
 

@@ -1,11 +1,7 @@
-use Rattle.std.proofs.Common.{◌≡◌, ◌∙◌, None, Some, sym, subst, ap}
-use Rattle.std.specs.Prelude.{slice_set, Ok}
+use Rattle.device.proofs.Common.{Describes, DeviceCore, None, Ok, Some, Went, WorldState, ap, dies_failed, slice_set}
+use Rattle.device.proofs.Common.{subst, sym, world_of, ◌∙◌, ◌≡◌}
 use Rattle.ufs_spec.specs.declared.events.Event.TheVariants as event
 use Rattle.ufs_spec.specs.declared.events.Output.TheVariants as output
-use Rattle.device.specs.Describes.{Describes}
-use Rattle.device.specs.Kept.{DeviceCore, WorldState}
-use Rattle.device.specs.Rooms.{world_of}
-use Rattle.device.specs.Worlds.{Went, dies_failed}
 use Rattle.device.proofs.dies_of_world.FailRight.{fail_bad, fail_went, fail_wrong}
 use Rattle.device.proofs.world.World.fail_leaving.Goals as goal
 

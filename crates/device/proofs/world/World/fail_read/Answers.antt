@@ -1,11 +1,7 @@
-use Rattle.std.proofs.Common.{◌≡◌, ◌∙◌, None, sym, subst, ap}
-use Rattle.std.specs.Prelude.{slice_set, Ok}
+use Rattle.device.proofs.Common.{Describes, DeviceCore, None, Ok, Went, WorldState, ap, slice_set, subst, sym, world_of}
+use Rattle.device.proofs.Common.{◌∙◌, ◌≡◌}
 use Rattle.ufs_spec.specs.declared.events.Event.TheVariants as event
 use Rattle.ufs_spec.specs.declared.events.Output.TheVariants as output
-use Rattle.device.specs.Describes.{Describes}
-use Rattle.device.specs.Kept.{DeviceCore, WorldState}
-use Rattle.device.specs.Rooms.{world_of}
-use Rattle.device.specs.Worlds.{Went}
 use Rattle.device.proofs.dies_of_world.FailRight.{fail_read_went, fail_read_wrong}
 use Rattle.device.proofs.world.World.fail_read.Goals as goal
 

@@ -1,14 +1,8 @@
-use Rattle.std.proofs.Common.{◌≡◌, ◌∙◌, ℕ, None, List, sym, subst, ap}
+use Rattle.device.proofs.Common.{CanDo, Describes, DeviceCore, DieState, Job, List, None, Ok, Went, WorldState}
+use Rattle.device.proofs.Common.{after_job, ap, die_at, outcome_of, slice_set, subst, sym, world_of, ℕ, ◌∙◌, ◌≡◌}
 use Rattle.ufs_spec.specs.declared.events.Event.TheVariants as event
 use Rattle.ufs_spec.specs.declared.events.Output.TheVariants as output
-use Rattle.device.specs.Describes.{Describes}
-use Rattle.device.specs.Kept.{WorldState, DeviceCore}
-use Rattle.device.specs.Rooms.{world_of}
-use Rattle.device.specs.Worlds.{Went, die_at}
 use Rattle.device.proofs.dies_of_world.WentRight.{finish_can, finish_went}
-use Rattle.std.specs.Prelude.{slice_set, Ok}
-use Rattle.ufs_spec.specs.Dies.{CanDo, DieState, after_job, outcome_of}
-use Rattle.ufs_spec.specs.declared.flash.Job.{Job}
 use Rattle.device.proofs.world.World.finish.Goals as goal
 
 -- the die does the job

@@ -1,6 +1,5 @@
-use Rattle.std.proofs.Common.{ℕ, List, refl, subst}
+use Rattle.device.proofs.Common.{IsHeardAs, List, refl, subst, ℕ}
 use Rattle.ufs_spec.specs.declared.events.Event.TheVariants as event
-use Rattle.device.specs.Describes.{IsHeardAs}
 use Rattle.device.proofs.described.SameDevice.{same_core, same_world}
 use Rattle.device.proofs.dies_of_world.WentRight.{heard_went}
 use Rattle.device.proofs.world.World.hear.Goals as goal

@@ -1,7 +1,4 @@
-use Rattle.std.proofs.Common.{◌∙◌, List, ap}
-use Rattle.ufs_spec.specs.Dies.{DieState}
-use Rattle.device.specs.Kept.{WorldState}
-use Rattle.device.specs.Worlds.{dies_left_by}
+use Rattle.device.proofs.Common.{DieState, List, WorldState, ap, dies_left_by, ◌∙◌}
 use Rattle.device.proofs.dies_of_world.StoppedWorld.{left_more}
 use Rattle.device.proofs.world.World.leave_all.Goals as goal
 

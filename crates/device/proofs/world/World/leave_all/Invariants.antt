@@ -1,6 +1,4 @@
-use Rattle.std.proofs.Common.{◌≡◌}
-use Rattle.std.specs.Prelude.{take}
-use Rattle.device.specs.Worlds.{dies_left}
+use Rattle.device.proofs.Common.{dies_left, take, ◌≡◌}
 use Rattle.device.proofs.world.World.leave_all.Given as goal
 
 abbrev pub invariant-loop-left : goal.invariant-loop-left

@@ -1,4 +1,4 @@
-use Rattle.device.specs.Leftovers.{IsOfDie, MayDieLeave}
+use Rattle.device.proofs.Common.{IsOfDie, MayDieLeave}
 use Rattle.device.proofs.dies_of_world.LeftoversApart.{next_of_all, one_more_has}
 use Rattle.device.proofs.world.World.may_all_be_left.Goals as goal
 

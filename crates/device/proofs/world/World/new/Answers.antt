@@ -1,9 +1,5 @@
-use Rattle.std.proofs.Common.{◌∙◌, None, ap, length, refl, replicate, sym, subst}
-use Rattle.std.proofs.lemmas.List.{length-replicate, map-id}
-use Rattle.ufs_spec.specs.Lives.{Fit}
-use Rattle.ufs_spec.specs.declared.configs.Numbers.{Numbers}
-use Rattle.device.specs.Opened.{HasScanned}
-use Rattle.device.specs.Worlds.{IsOpeningFault}
+use Rattle.device.proofs.Common.{Fit, HasScanned, IsOpeningFault, None, Numbers, ap, length, length-replicate, map-id}
+use Rattle.device.proofs.Common.{refl, replicate, subst, sym, ◌∙◌}
 use Rattle.device.proofs.dies_of_world.OpenedWorld.{IsOpenedOver, fit_same, opened_fits, opened_over, suits_over}
 use Rattle.device.proofs.dies_of_world.OpenedWorld.{scanned_over, written_same}
 use Rattle.device.proofs.world.World.new.Goals as goal

@@ -1,8 +1,6 @@
-use Rattle.std.proofs.Common.{sym, subst}
-use Rattle.std.specs.Prelude.{Ok, OnOk}
-use Rattle.ufs_spec.specs.declared.events.Event.{Event}
+use Rattle.device.proofs.Common.{Event, Ok, OnOk, Went, subst, sym}
 use Rattle.ufs_spec.specs.declared.events.Output.TheVariants as output
-use Rattle.device.specs.Worlds.{IsReopened, Went}
+use Rattle.device.specs.Worlds.{IsReopened}
 use Rattle.device.proofs.dies_of_world.OpenedWorld.{on_ok}
 use Rattle.device.proofs.world.World.perform.Goals as goal
 

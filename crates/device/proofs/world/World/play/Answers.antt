@@ -1,12 +1,8 @@
 -- What an event showed is put behind the trace; without memory for that the trace stays.
-use Rattle.std.proofs.Common.{◌≡◌, List, [], ◌∷◌, ◌++◌, Result, Ok, Err, IfErr, OnOk, inr}
-use Rattle.ufs_spec.specs.Refusals.{State}
-use Rattle.ufs_spec.specs.declared.events.Event.{Event}
-use Rattle.ufs_spec.specs.declared.events.Output.{Output}
-use Rattle.ufs_spec.specs.declared.events.RunFaultKind.{RunFaultKind}
+use Rattle.device.proofs.Common.{Event, List, Output, RunFaultKind, State, Went, WorldState, [], inr, ◌++◌, ◌∷◌, ◌≡◌}
+use Rattle.std.proofs.Common.{Err, IfErr, Ok, OnOk, Result}
 use Rattle.ufs_spec.specs.declared.events.RunFaultKind.TheVariants as kind
-use Rattle.device.specs.Kept.{WorldState}
-use Rattle.device.specs.Worlds.{Played, Went}
+use Rattle.device.specs.Worlds.{Played}
 use Rattle.device.proofs.world.World.play.Goals as goal
 
 noted_played : (s : State) (e : Event) (after : WorldState) (before trace : List Output) (o : Output)

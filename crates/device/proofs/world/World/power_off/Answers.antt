@@ -1,7 +1,5 @@
-use Rattle.std.proofs.Common.{◌≡◌, ◌∙◌, ap, length, map, sym, subst}
-use Rattle.std.proofs.lemmas.List.{length-map, with_items_is}
-use Rattle.ufs_spec.specs.Dies.{power_cycle_ended}
-use Rattle.ufs_spec.specs.Lives.{Fit}
+use Rattle.device.proofs.Common.{Fit, ap, length, length-map, map, power_cycle_ended, subst, sym, ◌∙◌, ◌≡◌}
+use Rattle.std.proofs.lemmas.List.{with_items_is}
 use Rattle.device.proofs.dies_of_world.LeftDies.{cycled_fits}
 use Rattle.device.proofs.world.World.power_off.Goals as goal
 

@@ -1,9 +1,4 @@
-use Rattle.std.proofs.Common.{◌∙◌, List, ap, length, sym, subst}
-use Rattle.ufs_spec.specs.Dies.{DieState}
-use Rattle.ufs_spec.specs.Lives.{Fit}
-use Rattle.device.specs.Kept.{WorldState}
-use Rattle.device.specs.Rooms.{world_of}
-use Rattle.device.specs.Opened.{HasScanned}
+use Rattle.device.proofs.Common.{DieState, Fit, HasScanned, List, WorldState, ap, length, subst, sym, world_of, ◌∙◌}
 use Rattle.device.proofs.dies_of_world.OpenedWorld.{opened_over, scanned_over, written_same}
 use Rattle.device.proofs.world.World.reopen.Goals as goal
 

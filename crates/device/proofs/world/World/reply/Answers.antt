@@ -1,4 +1,4 @@
-use Rattle.std.proofs.Common.{Some}
+use Rattle.device.proofs.Common.{Some}
 use Rattle.ufs_spec.specs.declared.events.Output.TheVariants as output
 use Rattle.device.proofs.described.SameDevice.{same_core, same_world}
 use Rattle.device.proofs.dies_of_world.WentRight.{replied_went, silent_went}

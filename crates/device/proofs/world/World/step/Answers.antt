@@ -1,6 +1,4 @@
-use Rattle.std.proofs.Common.{◌∙◌, ap, subst, sym}
-use Rattle.ufs_spec.specs.declared.events.RunFaultKind.{RunFaultKind}
-use Rattle.device.specs.Kept.{WorldState}
+use Rattle.device.proofs.Common.{RunFaultKind, WorldState, ap, subst, sym, ◌∙◌}
 use Rattle.device.specs.Worlds.{IsRefusedAs, dies_refused}
 use Rattle.device.proofs.described.SameDevice.{same_world}
 use Rattle.device.proofs.world.World.step.Goals as goal

@@ -1,10 +1,5 @@
-use Rattle.std.proofs.Common.{◌≡◌, ◌∙◌, length, sym, subst}
+use Rattle.device.proofs.Common.{AreLeftovers, Fit, Fits, IsInside, State, WorldState, length, subst, sym, ◌∙◌, ◌≡◌}
 use Rattle.std.specs.Prelude.{All}
-use Rattle.ufs_spec.specs.Lives.{AreLeftovers, Fit}
-use Rattle.ufs_spec.specs.Refusals.{State}
-use Rattle.device.specs.Kept.{WorldState}
-use Rattle.device.specs.Leftovers.{IsInside}
-use Rattle.device.specs.Worlds.{Fits}
 use Rattle.device.proofs.dies_of_world.LeftoversChecked.{all_inside}
 use Rattle.device.proofs.dies_of_world.StoppedWorld.{AreApart, AreLawful, AreOfDies, MayAllBeLeft, are_lawful}
 use Rattle.device.proofs.dies_of_world.StoppedWorld.{are_leftovers, are_of_dies, may_all, stop_dies, stop_shown}

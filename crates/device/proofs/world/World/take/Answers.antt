@@ -1,9 +1,6 @@
-use Rattle.std.proofs.Common.{sym, subst}
-use Rattle.std.specs.Prelude.{Ok}
+use Rattle.device.proofs.Common.{Ok, Went, WorldState, subst, sym}
 use Rattle.ufs_spec.specs.declared.events.Event.TheVariants as event
 use Rattle.ufs_spec.specs.declared.events.Output.TheVariants as output
-use Rattle.device.specs.Kept.{WorldState}
-use Rattle.device.specs.Worlds.{Went}
 use Rattle.device.proofs.described.SameDevice.{same_core, same_world}
 use Rattle.device.proofs.dies_of_world.WentRight.{given_went}
 use Rattle.device.proofs.world.World.take.Goals as goal

@@ -1,5 +1,4 @@
-use Rattle.std.proofs.Common.{◌∙◌, ap, rules}
-use Rattle.ftl_core.specs.Core.{Core}
+use Rattle.ftl_core.proofs.Common.{Core, ap, rules, ◌∙◌}
 use Rattle.ftl_core.proofs.look_and_accept.GroupsAccepted.{accepts_told}
 use Rattle.ftl_core.proofs.look_and_accept.Numbers.{numbers_right}
 use Rattle.ftl_core.proofs.small_calls.ClaimedBlocks.{slots_released}

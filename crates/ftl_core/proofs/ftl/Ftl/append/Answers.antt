@@ -1,6 +1,4 @@
-use Rattle.std.proofs.Common.{◌∙◌, ap}
-use Rattle.write_cache.specs.Kept.{WriteCache}
-use Rattle.ftl_core.specs.Moves.{next_number}
+use Rattle.ftl_core.proofs.Common.{WriteCache, ap, next_number, ◌∙◌}
 use Rattle.ftl_core.proofs.live_pages.RestRooms.{roomy_claimed}
 use Rattle.ftl_core.proofs.ftl.Ftl.append.Goals as goal
 

@@ -1,11 +1,5 @@
-use Rattle.std.proofs.Common.{◌∙◌, ◌+◌, List, [], ◌∷◌, ap, arith, length, take}
-use Rattle.std.specs.Prelude.{fold}
-use Rattle.write_cache.specs.Kept.{WriteCache}
-use Rattle.write_cache.specs.Rests.{page_brought}
-use Rattle.write_cache.specs.Slots.{is_claim_of}
-use Rattle.write_cache.specs.declared.slots.Pending.{Pending}
-use Rattle.ftl_core.specs.Core.{Core}
-use Rattle.ftl_core.specs.Rests.{new_page, rest_pinned}
+use Rattle.ftl_core.proofs.Common.{Core, List, Pending, WriteCache, [], ap, arith, fold, is_claim_of, length, new_page}
+use Rattle.ftl_core.proofs.Common.{page_brought, rest_pinned, take, ◌+◌, ◌∙◌, ◌∷◌}
 use Rattle.ftl_core.proofs.live_pages.BroughtPins.{accepted_as, brought_few, dropped, made_of_all, parts_made}
 use Rattle.ftl_core.proofs.live_pages.RestRooms.{roomy_behind}
 use Rattle.ftl_core.proofs.ftl.Ftl.append_pages.Goals as goal

@@ -1,5 +1,4 @@
-use Rattle.std.proofs.Common.{rules}
-use Rattle.ftl_core.specs.Moves.{first_page}
+use Rattle.ftl_core.proofs.Common.{first_page, rules}
 use Rattle.ftl_core.proofs.job_taken.BegunRows.{opened_rows}
 use Rattle.ftl_core.proofs.ftl.Ftl.begin_block.Goals as goal
 

@@ -1,5 +1,4 @@
-use Rattle.std.proofs.Common.{rules}
-use Rattle.std.specs.Prelude.{option_map}
+use Rattle.ftl_core.proofs.Common.{option_map, rules}
 use Rattle.ftl_core.specs.Ended.{ended_now}
 use Rattle.ftl_core.proofs.job_ended.Endings.{ends_known, ends_right, ends_told}
 use Rattle.ftl_core.proofs.job_ended.SameClaims.{still_claimed}

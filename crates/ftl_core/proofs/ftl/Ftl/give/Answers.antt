@@ -1,4 +1,4 @@
-use Rattle.std.proofs.Common.{refl}
+use Rattle.ftl_core.proofs.Common.{refl}
 use Rattle.readers.specs.Pins.{wanted_no_more}
 use Rattle.ftl_core.proofs.live_pages.PinRooms.{roomy_looked}
 use Rattle.ftl_core.proofs.ftl.Ftl.give.Goals as goal

@@ -1,10 +1,4 @@
-use Rattle.std.proofs.Common.{◌∙◌, ap, sym, true}
-use Rattle.block_table.specs.Lives.{with_live}
-use Rattle.ftl_core.specs.Core.{Core}
-use Rattle.ftl_core.specs.Rooms.{core_of}
-use Rattle.ftl_core.specs.Ends.{settled}
-use Rattle.ftl_core.specs.Gives.{group_ended}
-use Rattle.ftl_core.specs.Moves.{page_written}
+use Rattle.ftl_core.proofs.Common.{Core, ap, core_of, group_ended, page_written, settled, sym, true, with_live, ◌∙◌}
 use Rattle.ftl_core.proofs.ftl.Ftl.group_ended.Goals as goal
 
 pub returns-then-is_done : goal.returns-then-is_done

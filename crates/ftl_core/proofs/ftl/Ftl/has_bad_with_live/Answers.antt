@@ -1,8 +1,4 @@
-use Rattle.std.proofs.Common.{◌∙◌, ap}
-use Rattle.std.specs.List.{list_any}
-use Rattle.block_table.specs.Lives.{spots_in}
-use Rattle.ftl_core.specs.Collects.{is_bad_with_live}
-use Rattle.ftl_core.specs.Core.{Core}
+use Rattle.ftl_core.proofs.Common.{Core, ap, is_bad_with_live, list_any, spots_in, ◌∙◌}
 use Rattle.ftl_core.proofs.collected.VictimsFound.{bad_found}
 use Rattle.ftl_core.proofs.ftl.Ftl.has_bad_with_live.Goals as goal
 

@@ -1,4 +1,5 @@
-use Rattle.std.proofs.Common.{rules, ◌≡◌, ◌∙◌, length, nat_lt}
+use Rattle.ftl_core.proofs.Common.{length, rules, ◌∙◌, ◌≡◌}
+use Rattle.std.proofs.Common.{nat_lt}
 use Rattle.ftl_core.proofs.small_calls.SmallCalls.{pending_right}
 use Rattle.ftl_core.proofs.ftl.Ftl.has_pending.Goals as goal
 

@@ -1,6 +1,4 @@
-use Rattle.std.proofs.Common.{◌∙◌, ◌<◌, ap, arith, length}
-use Rattle.ftl_core.specs.Core.{Core}
-use Rattle.ftl_core.specs.Takes.{lowest}
+use Rattle.ftl_core.proofs.Common.{Core, ap, arith, length, lowest, ◌<◌, ◌∙◌}
 use Rattle.ftl_core.proofs.job_taken.UsedBlocks.{found_lowest}
 use Rattle.ftl_core.proofs.ftl.Ftl.lowest.Goals as goal
 

@@ -1,9 +1,7 @@
-use Rattle.std.proofs.Common.{◌≡◌, [], replicate, rules, take}
-use Rattle.std.specs.Prelude.{fold}
-use Rattle.ufs_spec.specs.Plain.{shape_of_numbers}
-use Rattle.geometry.specs.Keys.{key_total}
+use Rattle.ftl_core.proofs.Common.{[], fold, key_total, none_live, rules, shape_of_numbers, sizes_of, take, with_stored}
+use Rattle.ftl_core.proofs.Common.{◌≡◌}
+use Rattle.std.proofs.Common.{replicate}
 use Rattle.block_table.specs.Rows.{idle_row}
-use Rattle.ftl_core.specs.KnownLive.{none_live, sizes_of, with_stored}
 use Rattle.ftl_core.proofs.live_pages.PinRooms.{first_blocks, first_counted, first_dies}
 use Rattle.ftl_core.proofs.opened.OpenedParts.{opened_as}
 use Rattle.ftl_core.proofs.opened.OpensFound.{opens_described}

@@ -1,6 +1,4 @@
-use Rattle.std.proofs.Common.{◌∙◌, ap, refl, rules}
-use Rattle.ftl_core.specs.Core.{Core}
-use Rattle.ftl_core.specs.Takes.{job_of, job_taken}
+use Rattle.ftl_core.proofs.Common.{Core, ap, job_of, job_taken, refl, rules, ◌∙◌}
 use Rattle.ftl_core.proofs.job_taken.JobStays.{job_stays}
 use Rattle.ftl_core.proofs.job_taken.Takings.{takes_right}
 use Rattle.ftl_core.proofs.stopped.EachStop.{takes_erase, takes_stop}

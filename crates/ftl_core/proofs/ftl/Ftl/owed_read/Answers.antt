@@ -1,4 +1,4 @@
-use Rattle.std.proofs.Common.{◌∙◌, Some, None, rules}
+use Rattle.ftl_core.proofs.Common.{None, Some, rules, ◌∙◌}
 use Rattle.ftl_core.proofs.pins.OwedPins.{owed_found}
 use Rattle.ftl_core.proofs.ftl.Ftl.owed_read.Goals as goal
 

@@ -1,5 +1,4 @@
-use Rattle.std.proofs.Common.{ap, arith, length}
-use Rattle.ftl_core.specs.Core.{Core}
+use Rattle.ftl_core.proofs.Common.{Core, ap, arith, length}
 use Rattle.ftl_core.proofs.live_pages.PinRooms.{roomy_moved}
 use Rattle.ftl_core.proofs.ftl.Ftl.page_durable.Goals as goal
 

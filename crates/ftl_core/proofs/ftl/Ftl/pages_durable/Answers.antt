@@ -1,5 +1,5 @@
-use Rattle.std.proofs.Common.{◌≡◌, ◌∙◌, ap, drop, slice_get}
-use Rattle.ftl_core.specs.Core.{Core}
+use Rattle.ftl_core.proofs.Common.{Core, ap, drop, ◌∙◌, ◌≡◌}
+use Rattle.std.proofs.Common.{slice_get}
 use Rattle.ftl_core.specs.Ends.{page_landed}
 use Rattle.ftl_core.proofs.group_settled.Settling.{land_first, landed_none, landed_some, next_landed}
 use Rattle.ftl_core.proofs.ftl.Ftl.pages_durable.Goals as goal

@@ -1,4 +1,4 @@
-use Rattle.std.proofs.Common.{◌≡◌}
+use Rattle.ftl_core.proofs.Common.{◌≡◌}
 use Rattle.ftl_core.specs.Ends.{pages_landed}
 use Rattle.ftl_core.proofs.ftl.Ftl.pages_durable.Given as goal
 

@@ -1,4 +1,4 @@
-use Rattle.std.proofs.Common.{arith}
+use Rattle.ftl_core.proofs.Common.{arith}
 use Rattle.ftl_core.proofs.look_and_accept.KeptBlocks.{kept_count, kept_next}
 use Rattle.ftl_core.proofs.ftl.Ftl.pin_all.Goals as goal
 

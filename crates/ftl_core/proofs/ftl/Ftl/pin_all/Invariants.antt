@@ -1,4 +1,4 @@
-use Rattle.std.proofs.Common.{◌≡◌}
+use Rattle.ftl_core.proofs.Common.{◌≡◌}
 use Rattle.ftl_core.specs.Moves.{kept_all}
 use Rattle.ftl_core.proofs.ftl.Ftl.pin_all.Given as goal
 

@@ -1,4 +1,4 @@
-use Rattle.std.proofs.Common.{◌∙◌, sym}
+use Rattle.ftl_core.proofs.Common.{sym, ◌∙◌}
 use Rattle.ftl_core.proofs.small_calls.PinCalls.{keeps_mended}
 use Rattle.ftl_core.proofs.ftl.Ftl.pinned.Goals as goal
 

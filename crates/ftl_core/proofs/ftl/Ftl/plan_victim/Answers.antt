@@ -1,9 +1,6 @@
-use Rattle.std.proofs.Common.{◌≡◌, ◌∙◌, Bool, ap, is_some, subst, sym}
+use Rattle.ftl_core.proofs.Common.{Bool, Core, Inside, ap, core_of, has_few_free, subst, sym, victim, ◌∙◌, ◌≡◌}
+use Rattle.std.proofs.Common.{is_some}
 use Rattle.collector.specs.Plans.{IsPlanned, Plans}
-use Rattle.ftl_core.specs.Collects.{has_few_free, victim}
-use Rattle.ftl_core.specs.declared.ftl.Ftl.TheInside.{Inside}
-use Rattle.ftl_core.specs.Core.{Core}
-use Rattle.ftl_core.specs.Rooms.{core_of}
 use Rattle.ftl_core.specs.Turns.{IsBegunIf}
 use Rattle.ftl_core.proofs.collected.VictimsFound.{begun_if, planned_if}
 use Rattle.ftl_core.proofs.ftl.Ftl.plan_victim.Goals as goal

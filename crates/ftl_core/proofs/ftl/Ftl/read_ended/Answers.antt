@@ -1,7 +1,5 @@
-use Rattle.std.proofs.Common.{◌≡◌, ◌∙◌, Bool, None, Option, ap, rules, subst, sym, true}
-use Rattle.block_table.specs.declared.rows.DieRow.{DieRow}
-use Rattle.ftl_core.specs.Core.{Core}
-use Rattle.ftl_core.specs.Gives.{IsReadAfter, IsReadOver, is_read}
+use Rattle.ftl_core.proofs.Common.{Bool, Core, DieRow, IsReadAfter, IsReadOver, None, Option, ap, is_read, rules, subst}
+use Rattle.ftl_core.proofs.Common.{sym, true, ◌∙◌, ◌≡◌}
 use Rattle.ftl_core.specs.Moves.{flight_set}
 use Rattle.ftl_core.proofs.ftl.Ftl.read_ended.Goals as goal
 

@@ -1,6 +1,4 @@
-use Rattle.std.proofs.Common.{◌∙◌, ap}
-use Rattle.ftl_core.specs.Core.{Core}
-use Rattle.ftl_core.specs.Moves.{page_written}
+use Rattle.ftl_core.proofs.Common.{Core, ap, page_written, ◌∙◌}
 use Rattle.ftl_core.proofs.ftl.Ftl.repair_written.Goals as goal
 
 -- by hand, so that what is written otherwise does not fit at once

@@ -1,9 +1,5 @@
-use Rattle.std.proofs.Common.{◌≡◌, ◌∙◌, List, Some, ap, arith, false, length, rules, sym, true}
-use Rattle.std.specs.Prelude.{option_and_then, slice_get}
-use Rattle.write_cache.specs.declared.slots.Pending.{Pending}
-use Rattle.write_cache.specs.Ready.{first_waiting_from}
-use Rattle.ftl_core.specs.Core.{Core}
-use Rattle.ftl_core.specs.Takes.{owes_rest, rest_read_of}
+use Rattle.ftl_core.proofs.Common.{Core, List, Pending, Some, ap, arith, false, first_waiting_from, length}
+use Rattle.ftl_core.proofs.Common.{option_and_then, owes_rest, rest_read_of, rules, slice_get, sym, true, ◌∙◌, ◌≡◌}
 use Rattle.ftl_core.proofs.FirstWaiting.{first_found, none_yet}
 use Rattle.ftl_core.proofs.rests_owed.NoneOwed.{none_owed, none_owed_to}
 use Rattle.ftl_core.proofs.ftl.Ftl.rest_read.Goals as goal

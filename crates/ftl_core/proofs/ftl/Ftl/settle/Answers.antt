@@ -1,9 +1,7 @@
-use Rattle.std.proofs.Common.{◌≡◌, ◌∙◌, None, Some, ap, drop, filter, length, sym, take}
-use Rattle.std.specs.Prelude.{option_map}
-use Rattle.write_cache.specs.Slots.{is_of_group}
+use Rattle.ftl_core.proofs.Common.{Core, None, Some, ap, drop, front_written, is_of_group, length, option_map, settled}
+use Rattle.ftl_core.proofs.Common.{sym, take, ◌∙◌, ◌≡◌}
+use Rattle.std.proofs.Common.{filter}
 use Rattle.write_cache.specs.declared.slots.WholeGroup.{WholeGroup}
-use Rattle.ftl_core.specs.Core.{Core}
-use Rattle.ftl_core.specs.Ends.{front_written, settled}
 use Rattle.ftl_core.proofs.group_settled.Settling.{group_landed, none_written, others, settled_end, settled_step}
 use Rattle.ftl_core.proofs.ftl.Ftl.settle.Goals as goal
 

@@ -1,5 +1,4 @@
-use Rattle.std.proofs.Common.{◌≡◌, length}
-use Rattle.ftl_core.specs.Ends.{settled}
+use Rattle.ftl_core.proofs.Common.{length, settled, ◌≡◌}
 use Rattle.ftl_core.proofs.ftl.Ftl.settle.Given as goal
 
 abbrev pub decreases-loop-group : goal.decreases-loop-group

@@ -1,4 +1,4 @@
-use Rattle.std.proofs.Common.{◌≡◌, ◌∙◌, rules}
+use Rattle.ftl_core.proofs.Common.{rules, ◌∙◌, ◌≡◌}
 use Rattle.std.specs.Prelude.{option_copied}
 use Rattle.ftl_core.specs.Moves.{slot_of}
 use Rattle.ftl_core.proofs.look_and_accept.SlotBodies.{slot_is, slot_waits}

@@ -1,5 +1,4 @@
-use Rattle.std.proofs.Common.{◌∙◌, ap, sym}
-use Rattle.ftl_core.specs.Moves.{has_stale}
+use Rattle.ftl_core.proofs.Common.{ap, has_stale, sym, ◌∙◌}
 use Rattle.ftl_core.proofs.job_taken.Lowest.{none_stale}
 use Rattle.ftl_core.proofs.ftl.Ftl.stale_erase.Goals as goal
 

@@ -1,5 +1,4 @@
-use Rattle.std.proofs.Common.{◌≡◌, ◌∙◌, Some, ap, rules}
-use Rattle.ftl_core.specs.Takes.{step_job}
+use Rattle.ftl_core.proofs.Common.{Some, ap, rules, step_job, ◌∙◌, ◌≡◌}
 use Rattle.ftl_core.specs.declared.books.Step.TheVariants as step
 use Rattle.ftl_core.proofs.ftl.Ftl.step_job.Goals as goal
 

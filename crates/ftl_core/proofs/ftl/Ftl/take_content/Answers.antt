@@ -1,7 +1,5 @@
-use Rattle.std.proofs.Common.{Option, Some, ap, rules, subst}
-use Rattle.ftl_core.specs.Core.{Core}
+use Rattle.ftl_core.proofs.Common.{Core, Option, Some, Step, ap, rules, subst}
 use Rattle.ftl_core.specs.Gives.{IsContentRead}
-use Rattle.ftl_core.specs.declared.books.Step.{Step}
 use Rattle.ftl_core.proofs.ftl.Ftl.take_content.Goals as goal
 
 pub returns-in-Some : goal.returns-in-Some

@@ -1,8 +1,4 @@
-use Rattle.std.proofs.Common.{◌≡◌, ◌∙◌, Option, rules, subst}
-use Rattle.ufs_spec.specs.declared.flash.Job.{Job}
-use Rattle.ftl_core.specs.Describes.{IsTaken}
-use Rattle.ftl_core.specs.Stops.{StopsRightGiven}
-use Rattle.ftl_core.specs.Takes.{job_taken}
+use Rattle.ftl_core.proofs.Common.{IsTaken, Job, Option, StopsRightGiven, job_taken, rules, subst, ◌∙◌, ◌≡◌}
 use Rattle.ftl_core.proofs.ftl.Ftl.take_unsealed.Goals as goal
 
 pub returns-in_err-flight-clause-described : goal.returns-in_err-flight-clause-described

@@ -1,7 +1,6 @@
-use Rattle.std.proofs.Common.{◌≡◌, ◌∙◌, false, rules}
+use Rattle.ftl_core.proofs.Common.{false, rules, ◌∙◌, ◌≡◌}
 use Rattle.ftl_core.specs.Turns.{is_turn_due}
-use Rattle.ftl_core.proofs.steps_ordered.Turns.{turns_due}
-use Rattle.ftl_core.proofs.steps_ordered.Turns.{turns_told}
+use Rattle.ftl_core.proofs.steps_ordered.Turns.{turns_due, turns_told}
 use Rattle.ftl_core.proofs.stopped.EachStop.{stops_right}
 use Rattle.ftl_core.proofs.ftl.Ftl.turn.Goals as goal
 

@@ -1,9 +1,7 @@
-use Rattle.std.proofs.Common.{◌≡◌, ◌∙◌, List, Some, ap, arith, length, rules, sym, true, false}
-use Rattle.std.specs.Prelude.{option_map, slice_get}
-use Rattle.write_cache.specs.declared.slots.Pending.{Pending}
+use Rattle.ftl_core.proofs.Common.{Core, List, Pending, Some, ap, arith, false, length, option_map, page_waits, rules}
+use Rattle.ftl_core.proofs.Common.{slice_get, sym, true, ◌∙◌, ◌≡◌}
 use Rattle.write_cache.specs.Ready.{first_ready_from}
-use Rattle.ftl_core.specs.Core.{Core}
-use Rattle.ftl_core.specs.Takes.{page_waits, waiting_page}
+use Rattle.ftl_core.specs.Takes.{waiting_page}
 use Rattle.ftl_core.proofs.FirstWaiting.{first_found, none_after_all, none_to, none_yet}
 use Rattle.ftl_core.proofs.ftl.Ftl.waiting_group.Goals as goal
 

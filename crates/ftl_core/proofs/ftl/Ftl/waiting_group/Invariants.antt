@@ -1,6 +1,5 @@
-use Rattle.std.proofs.Common.{◌≡◌, ◌-◌, None, length, take}
-use Rattle.std.specs.Prelude.{find}
-use Rattle.ftl_core.specs.Takes.{page_waits}
+use Rattle.ftl_core.proofs.Common.{None, find, length, page_waits, take, ◌≡◌}
+use Rattle.std.proofs.Common.{◌-◌}
 use Rattle.ftl_core.proofs.ftl.Ftl.waiting_group.Given as goal
 
 abbrev pub invariant-loop-at : goal.invariant-loop-at

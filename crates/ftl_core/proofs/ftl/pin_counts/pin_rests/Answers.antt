@@ -1,6 +1,5 @@
-use Rattle.std.proofs.Common.{◌∙◌, ap, drop, refl, sym}
-use Rattle.readers.specs.Pins.{without_pins}
-use Rattle.ftl_core.specs.Rests.{rest_pinned, rest_pinned_at}
+use Rattle.ftl_core.proofs.Common.{ap, drop, refl, rest_pinned, sym, without_pins, ◌∙◌}
+use Rattle.ftl_core.specs.Rests.{rest_pinned_at}
 use Rattle.ftl_core.proofs.live_pages.RestPins.{behind_bare, walked_on}
 use Rattle.ftl_core.proofs.ftl.pin_counts.pin_rests.Goals as goal
 

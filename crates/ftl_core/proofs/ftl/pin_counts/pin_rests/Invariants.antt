@@ -1,6 +1,4 @@
-use Rattle.std.proofs.Common.{◌≡◌, drop}
-use Rattle.std.specs.Prelude.{fold}
-use Rattle.ftl_core.specs.Rests.{rest_pinned}
+use Rattle.ftl_core.proofs.Common.{drop, fold, rest_pinned, ◌≡◌}
 use Rattle.ftl_core.proofs.ftl.pin_counts.pin_rests.Given as goal
 
 abbrev pub invariant-loop-at : goal.invariant-loop-at

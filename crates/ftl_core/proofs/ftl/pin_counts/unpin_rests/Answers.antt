@@ -1,6 +1,5 @@
-use Rattle.std.proofs.Common.{◌∙◌, ap, arith, drop, refl, sym}
-use Rattle.readers.specs.Pins.{without_pins}
-use Rattle.ftl_core.specs.Rests.{rest_unpinned, rest_unpinned_at}
+use Rattle.ftl_core.proofs.Common.{ap, arith, drop, refl, rest_unpinned, sym, without_pins, ◌∙◌}
+use Rattle.ftl_core.specs.Rests.{rest_unpinned_at}
 use Rattle.ftl_core.proofs.live_pages.RestPins.{filled_bare, next_unpinned, none_unpinned, walked_on}
 use Rattle.ftl_core.proofs.ftl.pin_counts.unpin_rests.Goals as goal
 

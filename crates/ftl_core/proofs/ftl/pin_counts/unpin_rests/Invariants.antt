@@ -1,6 +1,5 @@
-use Rattle.std.proofs.Common.{◌≡◌, ◌-◌, drop, length}
-use Rattle.std.specs.Prelude.{fold}
-use Rattle.ftl_core.specs.Rests.{rest_unpinned}
+use Rattle.ftl_core.proofs.Common.{drop, fold, length, rest_unpinned, ◌≡◌}
+use Rattle.std.proofs.Common.{◌-◌}
 use Rattle.ftl_core.proofs.ftl.pin_counts.unpin_rests.Given as goal
 
 abbrev pub invariant-loop-at : goal.invariant-loop-at

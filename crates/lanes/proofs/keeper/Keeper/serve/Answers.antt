@@ -1,4 +1,4 @@
-use Rattle.std.proofs.Common.{◌∙◌}
+use Rattle.lanes.proofs.Common.{◌∙◌}
 use Rattle.lanes.proofs.Served.{turned_more}
 use Rattle.lanes.proofs.keeper.Keeper.serve.Goals as goal
 

@@ -1,4 +1,4 @@
-use Rattle.std.proofs.Common.{◌≡◌}
+use Rattle.lanes.proofs.Common.{◌≡◌}
 use Rattle.lanes.specs.Serving.{HasTurned}
 use Rattle.lanes.proofs.keeper.Keeper.serve.Given as goal
 

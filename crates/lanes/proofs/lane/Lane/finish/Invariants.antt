@@ -1,4 +1,4 @@
-use Rattle.std.proofs.Common.{◌≡◌, Some}
+use Rattle.lanes.proofs.Common.{Some, ◌≡◌}
 use Rattle.lanes.proofs.lane.Lane.finish.Given as goal
 
 -- every attempt up to now was in vain

@@ -1,5 +1,4 @@
-use Rattle.std.proofs.Common.{◌∙◌, ap}
-use Rattle.lanes.specs.Callers.{job_of}
+use Rattle.lanes.proofs.Common.{ap, job_of, ◌∙◌}
 use Rattle.lanes.proofs.Served.{asked_for_one, finished_one, still_idle}
 use Rattle.lanes.proofs.lane.Lane.serve.Goals as goal
 

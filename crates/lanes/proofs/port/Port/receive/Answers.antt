@@ -1,4 +1,4 @@
-use Rattle.std.proofs.Common.{◌∙◌}
+use Rattle.lanes.proofs.Common.{◌∙◌}
 use Rattle.lanes.proofs.Waited.{asked_more}
 use Rattle.lanes.proofs.port.Port.receive.Goals as goal
 

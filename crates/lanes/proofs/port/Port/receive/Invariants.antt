@@ -1,4 +1,4 @@
-use Rattle.std.proofs.Common.{◌≡◌}
+use Rattle.lanes.proofs.Common.{◌≡◌}
 use Rattle.lanes.specs.Waiting.{AskedInVain}
 use Rattle.lanes.proofs.port.Port.receive.Given as goal
 

@@ -1,4 +1,4 @@
-use Rattle.std.proofs.Common.{◌≡◌}
+use Rattle.lanes.proofs.Common.{◌≡◌}
 use Rattle.lanes.proofs.port.Port.send.Given as goal
 
 abbrev pub invariant-loop : goal.invariant-loop

@@ -1,7 +1,4 @@
-use Rattle.std.proofs.Common.{arith, ◌≡◌, ap, ◌∙◌, sym, subst}
-use Rattle.std.specs.List.{All}
-use Rattle.std.specs.Arc.{arc_value}
-use Rattle.lanes.specs.Callers.{IsNewLane, IsNewPort}
+use Rattle.lanes.proofs.Common.{All, IsNewLane, IsNewPort, ap, arc_value, arith, subst, sym, ◌∙◌, ◌≡◌}
 use Rattle.lanes.proofs.Opened.{few_dies, undealt_opened}
 use Rattle.lanes.proofs.shared.Shared.new.Goals as goal
 

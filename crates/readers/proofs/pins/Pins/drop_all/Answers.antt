@@ -1,6 +1,4 @@
-use Rattle.std.proofs.Common.{◌∙◌, ap}
-use Rattle.readers.specs.Pins.{is_of_reader, without_pins}
-use Rattle.readers.specs.Rows.{pins_in}
+use Rattle.readers.proofs.Common.{ap, is_of_reader, pins_in, without_pins, ◌∙◌}
 use Rattle.readers.proofs.BarePins.{gone_bare}
 use Rattle.readers.proofs.pins.Pins.drop_all.Goals as goal
 

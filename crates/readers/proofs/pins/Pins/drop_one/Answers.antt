@@ -1,6 +1,4 @@
-use Rattle.std.proofs.Common.{◌∙◌, ap}
-use Rattle.readers.specs.Pins.{is_pin_of, without_pins}
-use Rattle.readers.specs.Rows.{pins_in}
+use Rattle.readers.proofs.Common.{ap, is_pin_of, pins_in, without_pins, ◌∙◌}
 use Rattle.readers.proofs.BarePins.{gone_bare}
 use Rattle.readers.proofs.pins.Pins.drop_one.Goals as goal
 

@@ -1,7 +1,4 @@
-use Rattle.std.proofs.Common.{◌∙◌, List, ap, sym}
-use Rattle.std.specs.Prelude.{find}
-use Rattle.readers.specs.Pins.{is_pin_of}
-use Rattle.readers.specs.Rows.{pins_in, RowPins}
+use Rattle.readers.proofs.Common.{List, RowPins, ap, find, is_pin_of, pins_in, sym, ◌∙◌}
 use Rattle.readers.proofs.RowWalks.{found_behind, found_first}
 use Rattle.readers.proofs.pins.Pins.find.Goals as goal
 

@@ -1,6 +1,4 @@
-use Rattle.std.proofs.Common.{◌∙◌, ap}
-use Rattle.readers.specs.Pins.{without_pins}
-use Rattle.readers.specs.Rows.{pins_in}
+use Rattle.readers.proofs.Common.{ap, pins_in, without_pins, ◌∙◌}
 use Rattle.readers.proofs.BarePins.{moves_bare}
 use Rattle.readers.proofs.pins.Pins.move_to.Goals as goal
 

@@ -1,8 +1,4 @@
-use Rattle.std.proofs.Common.{◌∙◌, not, refl, sym}
-use Rattle.std.specs.Prelude.{filter}
-use Rattle.readers.specs.declared.pin.Pin.{Pin}
-use Rattle.readers.specs.Pins.{is_of_reader, let_go}
-use Rattle.readers.specs.RowInside.{row_seen}
+use Rattle.readers.proofs.Common.{Pin, filter, is_of_reader, let_go, not, refl, row_seen, sym, ◌∙◌}
 use Rattle.readers.proofs.Stays.{all_gone, live_stays, none_gone, none_left, other_readers, row_becomes, row_rises}
 use Rattle.readers.proofs.Stays.{row_stays}
 use Rattle.readers.proofs.row.Row.drop_all.Goals as goal

@@ -1,6 +1,5 @@
-use Rattle.std.proofs.Common.{◌≡◌, ◌+◌, ◌∙◌, ◌∷◌, ap, arith, length, subst, sym}
-use Rattle.std.specs.Prelude.{count_by}
-use Rattle.readers.specs.Rows.{is_slotted, is_wanted, Rises}
+use Rattle.readers.proofs.Common.{Rises, ap, arith, count_by, is_slotted, is_wanted, length, subst, sym, ◌+◌, ◌∙◌, ◌∷◌}
+use Rattle.readers.proofs.Common.{◌≡◌}
 use Rattle.readers.proofs.Rises.{count_on, rises_on}
 use Rattle.readers.proofs.row.Row.drop_first.Goals as goal
 

@@ -1,9 +1,4 @@
-use Rattle.std.proofs.Common.{◌∙◌, ap, not, sym}
-use Rattle.std.specs.Prelude.{filter}
-use Rattle.readers.specs.declared.pin.Pin.{Pin}
-use Rattle.readers.specs.Pins.{is_pin_of, let_go}
-use Rattle.readers.specs.Rows.{with_pins}
-use Rattle.readers.specs.RowInside.{row_seen}
+use Rattle.readers.proofs.Common.{Pin, ap, filter, is_pin_of, let_go, not, row_seen, sym, with_pins, ◌∙◌}
 use Rattle.readers.proofs.Stays.{first_dropped, first_freed, live_stays, none_gone, none_left, other_pins, row_rises}
 use Rattle.readers.proofs.Stays.{row_stays}
 use Rattle.readers.proofs.row.Row.drop_one.Goals as goal

@@ -1,8 +1,4 @@
-use Rattle.std.proofs.Common.{◌≡◌, ◌∙◌, ap, arith, length, not, subst, sym}
-use Rattle.std.specs.Prelude.{filter}
-use Rattle.readers.specs.declared.pin.Pin.{Pin}
-use Rattle.readers.specs.Pins.{is_pin_of}
-use Rattle.readers.specs.Rows.{Rises}
+use Rattle.readers.proofs.Common.{Pin, Rises, ap, arith, filter, is_pin_of, length, not, subst, sym, ◌∙◌, ◌≡◌}
 use Rattle.readers.proofs.Rises.{rises_left}
 use Rattle.readers.proofs.row.Row.drop_within.Goals as goal
 

@@ -1,7 +1,4 @@
-use Rattle.std.proofs.Common.{◌∙◌, ap, map, sym}
-use Rattle.readers.specs.Pins.{wanted_no_more}
-use Rattle.readers.specs.Rows.{with_pins}
-use Rattle.readers.specs.RowInside.{row_seen}
+use Rattle.readers.proofs.Common.{ap, map, row_seen, sym, wanted_no_more, with_pins, ◌∙◌}
 use Rattle.readers.proofs.Stays.{first_unwanted, none_unwanted, other_pins, row_rises, row_stays}
 use Rattle.readers.proofs.row.Row.end_wants.Goals as goal
 

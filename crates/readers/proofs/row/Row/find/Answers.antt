@@ -1,7 +1,4 @@
-use Rattle.std.proofs.Common.{◌∙◌, ap, sym}
-use Rattle.std.specs.Prelude.{find}
-use Rattle.readers.specs.Pins.{is_pin_of}
-use Rattle.readers.specs.Rows.{RowPins}
+use Rattle.readers.proofs.Common.{RowPins, ap, find, is_pin_of, sym, ◌∙◌}
 use Rattle.readers.proofs.Stays.{none_found, other_pins}
 use Rattle.readers.proofs.row.Row.find.Goals as goal
 

@@ -1,7 +1,4 @@
-use Rattle.std.proofs.Common.{◌<◌, ◌∙◌, ap, arith, sym}
-use Rattle.std.specs.Prelude.{count_by, find}
-use Rattle.readers.specs.Pins.{is_owed_by}
-use Rattle.readers.specs.Rows.{is_wanted, RowPins}
+use Rattle.readers.proofs.Common.{RowPins, ap, arith, count_by, find, is_owed_by, is_wanted, sym, ◌<◌, ◌∙◌}
 use Rattle.readers.proofs.Stays.{first_alone, none_counted, none_found, none_owed}
 use Rattle.readers.proofs.row.Row.first_owed.Goals as goal
 

@@ -1,9 +1,5 @@
-use Rattle.std.proofs.Common.{◌≡◌, ◌∙◌, ap, arith, length, map, refl, subst, sym}
-use Rattle.std.specs.Prelude.{count_by}
-use Rattle.std.proofs.lemmas.List.{length-map}
-use Rattle.readers.specs.Pins.{moved_pin, pin_moves}
-use Rattle.readers.specs.Rows.{is_slotted, is_wanted, Rises}
-use Rattle.readers.specs.RowInside.{row_seen}
+use Rattle.readers.proofs.Common.{Rises, ap, arith, count_by, is_slotted, is_wanted, length, length-map, map, moved_pin}
+use Rattle.readers.proofs.Common.{pin_moves, refl, row_seen, subst, sym, ◌∙◌, ◌≡◌}
 use Rattle.readers.proofs.Rises.{count_same, rises_same}
 use Rattle.readers.proofs.Stays.{live_stays, none_come, none_counted, none_moved, row_stays}
 use Rattle.readers.proofs.row.Row.move_to.Goals as goal

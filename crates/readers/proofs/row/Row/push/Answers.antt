@@ -1,8 +1,5 @@
-use Rattle.std.proofs.Common.{ℕ, List, ◌+◌, ◌∙◌, ◌∷◌, [], ap, arith, length, subst, sym}
-use Rattle.std.specs.Prelude.{count_by}
-use Rattle.std.proofs.lemmas.List.{length-append}
-use Rattle.readers.specs.declared.pin.Pin.{Pin}
-use Rattle.readers.specs.Rows.{is_slotted, is_wanted, Rises}
+use Rattle.readers.proofs.Common.{List, Pin, Rises, [], ap, arith, count_by, is_slotted, is_wanted, length}
+use Rattle.readers.proofs.Common.{length-append, subst, sym, ℕ, ◌+◌, ◌∙◌, ◌∷◌}
 use Rattle.readers.proofs.Rises.{count_more, rises_more}
 use Rattle.readers.proofs.row.Row.push.Goals as goal
 

@@ -1,7 +1,5 @@
-use Rattle.std.proofs.Common.{◌≡◌, ◌+◌, ◌∙◌, ◌∷◌, List, ap, arith, length, subst, sym}
-use Rattle.std.specs.Prelude.{count_by}
-use Rattle.readers.specs.declared.pin.Pin.{Pin}
-use Rattle.readers.specs.Rows.{is_slotted, is_wanted, Rises}
+use Rattle.readers.proofs.Common.{List, Pin, Rises, ap, arith, count_by, is_slotted, is_wanted, length, subst, sym, ◌+◌}
+use Rattle.readers.proofs.Common.{◌∙◌, ◌∷◌, ◌≡◌}
 use Rattle.readers.proofs.Rises.{count_on}
 use Rattle.readers.proofs.row.Row.set_first.Goals as goal
 

@@ -1,7 +1,4 @@
-use Rattle.std.proofs.Common.{◌∙◌, ap, map, sym}
-use Rattle.readers.specs.Pins.{wanted_now}
-use Rattle.readers.specs.Rows.{with_pins}
-use Rattle.readers.specs.RowInside.{row_seen}
+use Rattle.readers.proofs.Common.{ap, map, row_seen, sym, wanted_now, with_pins, ◌∙◌}
 use Rattle.readers.proofs.Stays.{first_wanted, none_wanted, other_pins, row_rises, row_stays}
 use Rattle.readers.proofs.row.Row.want.Goals as goal
 

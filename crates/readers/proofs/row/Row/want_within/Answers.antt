@@ -1,8 +1,5 @@
-use Rattle.std.proofs.Common.{◌≡◌, ◌∙◌, ap, arith, length, map, refl, subst, sym}
-use Rattle.std.specs.Prelude.{count_by}
-use Rattle.std.proofs.lemmas.List.{length-map}
-use Rattle.readers.specs.Pins.{wanted_now}
-use Rattle.readers.specs.Rows.{is_slotted, Rises}
+use Rattle.readers.proofs.Common.{Rises, ap, arith, count_by, is_slotted, length, length-map, map, refl, subst, sym}
+use Rattle.readers.proofs.Common.{wanted_now, ◌∙◌, ◌≡◌}
 use Rattle.readers.proofs.Rises.{count_same, rises_same}
 use Rattle.readers.proofs.row.Row.want_within.Goals as goal
 

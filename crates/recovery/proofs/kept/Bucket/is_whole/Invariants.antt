@@ -1,5 +1,4 @@
-use Rattle.std.proofs.Common.{◌<◌, ℕ}
-use Rattle.recovery.specs.Buckets.{HasIndex}
+use Rattle.recovery.proofs.Common.{HasIndex, ℕ, ◌<◌}
 use Rattle.recovery.proofs.kept.Bucket.is_whole.Given as goal
 
 abbrev pub invariant-loop-index : goal.invariant-loop-index

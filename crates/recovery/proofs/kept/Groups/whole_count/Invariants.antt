@@ -1,7 +1,5 @@
-use Rattle.std.proofs.Common.{◌≡◌, ◌<◌, ℕ, Some}
-use Rattle.std.specs.Prelude.{slice_get}
-use Rattle.recovery.specs.Buckets.{HasIndex, IsWholeBucket}
-use Rattle.recovery.specs.declared.kept.Bucket.{Bucket}
+use Rattle.recovery.proofs.Common.{Bucket, HasIndex, Some, slice_get, ℕ, ◌<◌, ◌≡◌}
+use Rattle.recovery.specs.Buckets.{IsWholeBucket}
 use Rattle.recovery.proofs.kept.Groups.whole_count.Given as goal
 
 abbrev pub invariant-loop-count : goal.invariant-loop-count

@@ -1,5 +1,4 @@
-use Rattle.std.proofs.Common.{◌∙◌, ap, arith}
-use Rattle.write_cache.specs.ClaimRows.{ClaimQueue}
+use Rattle.write_cache.proofs.Common.{ClaimQueue, ap, arith, ◌∙◌}
 use Rattle.write_cache.proofs.cache.Cache.append.Goals as goal
 
 pub invariant_of-self : goal.invariant_of-self

@@ -1,13 +1,8 @@
-use Rattle.std.proofs.Common.{◌≡◌, ◌∙◌, ◌+◌, ◌++◌, List, ap, arith, length}
-use Rattle.std.specs.Prelude.{filter_map}
-use Rattle.std.proofs.lemmas.List.{length-map}
-use Rattle.write_cache.specs.declared.slots.Claimed.{Claimed}
-use Rattle.write_cache.specs.declared.slots.Pending.{Pending}
-use Rattle.write_cache.specs.ClaimRows.{ClaimQueue}
-use Rattle.write_cache.specs.Kept.{WriteCache}
-use Rattle.write_cache.specs.Rests.{claim_brought, page_brought, page_moved, pages_appended}
+use Rattle.write_cache.proofs.Common.{ClaimQueue, Claimed, List, Pending, WriteCache, ap, arith, claim_brought}
+use Rattle.write_cache.proofs.Common.{claims_of, filter_map, length, length-map, page_moved, without_claims, ◌++◌, ◌+◌}
+use Rattle.write_cache.proofs.Common.{◌∙◌, ◌≡◌}
+use Rattle.write_cache.specs.Rests.{page_brought, pages_appended}
 use Rattle.write_cache.specs.Rooms.{cache_of}
-use Rattle.write_cache.specs.Slots.{claims_of, without_claims}
 use Rattle.write_cache.proofs.Brought.{brought_left, brought_pages}
 use Rattle.write_cache.proofs.cache.Cache.append_pages.Goals as goal
 

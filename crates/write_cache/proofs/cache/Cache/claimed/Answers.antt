@@ -1,4 +1,4 @@
-use Rattle.std.proofs.Common.{arith}
+use Rattle.write_cache.proofs.Common.{arith}
 use Rattle.write_cache.proofs.AllClaims.{own_within}
 use Rattle.write_cache.proofs.cache.Cache.claimed.Goals as goal
 

@@ -1,7 +1,4 @@
-use Rattle.std.proofs.Common.{◌∙◌, ap, arith, length}
-use Rattle.std.specs.List.{list_any}
-use Rattle.write_cache.specs.Kept.{Queue}
-use Rattle.write_cache.specs.Rests.{awaits}
+use Rattle.write_cache.proofs.Common.{Queue, ap, arith, awaits, length, list_any, ◌∙◌}
 use Rattle.write_cache.proofs.Fills.{none_waits, rests_length}
 use Rattle.write_cache.proofs.cache.Cache.fill_rests.Goals as goal
 

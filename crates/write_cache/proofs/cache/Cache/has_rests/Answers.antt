@@ -1,8 +1,4 @@
-use Rattle.std.proofs.Common.{◌≡◌, ◌∙◌, ap, rules}
-use Rattle.std.specs.Prelude.{is_some}
-use Rattle.std.specs.List.{list_any}
-use Rattle.write_cache.specs.Kept.{WriteCache}
-use Rattle.write_cache.specs.Rests.{waits}
+use Rattle.write_cache.proofs.Common.{WriteCache, ap, is_some, list_any, rules, waits, ◌∙◌, ◌≡◌}
 use Rattle.write_cache.proofs.Waiting.{some_waits}
 use Rattle.write_cache.proofs.cache.Cache.has_rests.Goals as goal
 

@@ -1,5 +1,4 @@
-use Rattle.std.proofs.Common.{◌∙◌, ap, arith, length}
-use Rattle.write_cache.specs.Kept.{Queue}
+use Rattle.write_cache.proofs.Common.{Queue, ap, arith, length, ◌∙◌}
 use Rattle.write_cache.proofs.Deques.{written_length}
 use Rattle.write_cache.proofs.cache.Cache.mark_written_counted.Goals as goal
 

@@ -1,7 +1,5 @@
-use Rattle.std.proofs.Common.{◌∙◌, ap, sym}
-use Rattle.std.specs.Prelude.{option_copied, position}
-use Rattle.write_cache.specs.Kept.{WriteCache}
-use Rattle.write_cache.specs.Slots.{is_named}
+use Rattle.write_cache.proofs.Common.{WriteCache, ap, is_named, position, sym, ◌∙◌}
+use Rattle.std.specs.Prelude.{option_copied}
 use Rattle.write_cache.proofs.Deques.{find_placed}
 use Rattle.write_cache.proofs.cache.Cache.page_named.Goals as goal
 

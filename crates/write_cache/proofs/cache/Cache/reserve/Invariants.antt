@@ -1,6 +1,6 @@
-use Rattle.std.proofs.Common.{◌≡◌, ◌+◌, ◌++◌, ◌≤◌, length, map}
+use Rattle.write_cache.proofs.Common.{empty_claim, length, map, ◌++◌, ◌+◌, ◌≡◌, ◌≤◌}
 use Rattle.ufs_spec.specs.Keys.{below}
-use Rattle.write_cache.specs.Slots.{empty_claim, free_slots}
+use Rattle.write_cache.specs.Slots.{free_slots}
 use Rattle.write_cache.proofs.cache.Cache.reserve.Given as goal
 
 abbrev pub invariant-loop-index : goal.invariant-loop-index

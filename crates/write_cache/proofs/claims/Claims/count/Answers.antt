@@ -1,5 +1,4 @@
-use Rattle.std.proofs.Common.{◌++◌, ap, arith, length}
-use Rattle.write_cache.specs.ClaimRows.{ClaimQueue, all_claims}
+use Rattle.write_cache.proofs.Common.{ClaimQueue, all_claims, ap, arith, length, ◌++◌}
 use Rattle.write_cache.proofs.AllClaims.{count_joined, own_within}
 use Rattle.write_cache.proofs.claims.Claims.count.Goals as goal
 

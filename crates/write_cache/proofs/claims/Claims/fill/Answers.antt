@@ -1,9 +1,5 @@
-use Rattle.std.proofs.Common.{◌≡◌, ◌∙◌, ◌++◌, List, ap, length, map, refl}
-use Rattle.std.specs.VecDeque.{deque_capacity}
-use Rattle.std.proofs.lemmas.List.{length-map}
-use Rattle.write_cache.specs.declared.slots.Claimed.{Claimed}
-use Rattle.write_cache.specs.ClaimRows.{all_claims}
-use Rattle.write_cache.specs.Slots.{claim_filled}
+use Rattle.write_cache.proofs.Common.{Claimed, List, all_claims, ap, claim_filled, deque_capacity, length, length-map}
+use Rattle.write_cache.proofs.Common.{map, refl, ◌++◌, ◌∙◌, ◌≡◌}
 use Rattle.write_cache.proofs.Deques.{refilled}
 use Rattle.write_cache.proofs.AllClaims.{made_joined, queue_made}
 use Rattle.write_cache.proofs.claims.Claims.fill.Goals as goal

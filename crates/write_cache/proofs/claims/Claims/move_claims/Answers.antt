@@ -1,7 +1,4 @@
-use Rattle.std.proofs.Common.{◌++◌}
-use Rattle.std.specs.VecDeque.{deque_capacity}
-use Rattle.write_cache.specs.ClaimRows.{all_claims}
-use Rattle.write_cache.specs.Slots.{claims_but, is_claim_of}
+use Rattle.write_cache.proofs.Common.{all_claims, claims_but, deque_capacity, is_claim_of, ◌++◌}
 use Rattle.write_cache.proofs.AllClaims.{left_joined, queue_made}
 use Rattle.write_cache.proofs.claims.Claims.move_claims.Goals as goal
 

@@ -1,10 +1,5 @@
-use Rattle.std.proofs.Common.{◌∙◌, ◌++◌, List, ap, append_assoc, sym}
-use Rattle.std.specs.Prelude.{filter_map}
-use Rattle.std.specs.VecDeque.{deque_capacity}
-use Rattle.write_cache.specs.declared.slots.Pending.{Pending}
-use Rattle.write_cache.specs.ClaimRows.{ClaimQueue, all_claims}
-use Rattle.write_cache.specs.Rests.{page_moved}
-use Rattle.write_cache.specs.Slots.{claims_but, claims_of, is_claim_of}
+use Rattle.write_cache.proofs.Common.{ClaimQueue, List, Pending, all_claims, ap, append_assoc, claims_but, claims_of}
+use Rattle.write_cache.proofs.Common.{deque_capacity, filter_map, is_claim_of, page_moved, sym, ◌++◌, ◌∙◌}
 use Rattle.write_cache.proofs.AllClaims.{left_joined, paged_joined, queue_made}
 use Rattle.write_cache.proofs.claims.Claims.move_pages.Goals as goal
 

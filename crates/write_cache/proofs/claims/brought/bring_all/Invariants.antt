@@ -1,5 +1,4 @@
-use Rattle.std.proofs.Common.{◌≡◌, ◌++◌, map, take, drop}
-use Rattle.write_cache.specs.Rests.{claim_brought}
+use Rattle.write_cache.proofs.Common.{claim_brought, drop, map, take, ◌++◌, ◌≡◌}
 use Rattle.write_cache.proofs.claims.brought.bring_all.Given as goal
 
 abbrev pub invariant-loop-claim : goal.invariant-loop-claim

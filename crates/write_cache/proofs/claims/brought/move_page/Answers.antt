@@ -1,6 +1,5 @@
-use Rattle.std.proofs.Common.{◌≡◌, ◌∷◌, [], true, None, arith, rules, slice_get, take}
+use Rattle.write_cache.proofs.Common.{None, [], arith, is_claim_of, rules, slice_get, take, true, ◌∷◌, ◌≡◌}
 use Rattle.std.proofs.lemmas.Option.{slice_get_past}
-use Rattle.write_cache.specs.Slots.{is_claim_of}
 use Rattle.write_cache.proofs.Brought.{none_moved}
 use Rattle.write_cache.proofs.claims.brought.move_page.Goals as goal
 

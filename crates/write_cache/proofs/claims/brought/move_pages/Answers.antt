@@ -1,8 +1,5 @@
-use Rattle.std.proofs.Common.{◌∙◌, ◌++◌, List, ap, arith, take}
-use Rattle.std.specs.Prelude.{filter_map}
-use Rattle.write_cache.specs.declared.slots.Pending.{Pending}
-use Rattle.write_cache.specs.Rests.{page_moved}
-use Rattle.write_cache.specs.Slots.{claims_of, is_claim_of}
+use Rattle.write_cache.proofs.Common.{List, Pending, ap, arith, claims_of, filter_map, is_claim_of, page_moved, take}
+use Rattle.write_cache.proofs.Common.{◌++◌, ◌∙◌}
 use Rattle.write_cache.proofs.Brought.{brought_more}
 use Rattle.write_cache.proofs.Turns.{turned_more}
 use Rattle.write_cache.proofs.claims.brought.move_pages.Goals as goal

@@ -1,8 +1,5 @@
-use Rattle.std.proofs.Common.{◌≡◌, ◌+◌, ◌≤◌, ◌++◌, length, take, drop}
-use Rattle.std.specs.Prelude.{filter_map, vec_capacity}
-use Rattle.std.specs.VecDeque.{deque_capacity}
-use Rattle.write_cache.specs.Rests.{page_moved}
-use Rattle.write_cache.specs.Slots.{claims_of, without_claims}
+use Rattle.write_cache.proofs.Common.{claims_of, deque_capacity, drop, filter_map, length, page_moved, take}
+use Rattle.write_cache.proofs.Common.{vec_capacity, without_claims, ◌++◌, ◌+◌, ◌≡◌, ◌≤◌}
 use Rattle.write_cache.proofs.claims.brought.move_pages.Given as goal
 
 abbrev pub invariant-loop : goal.invariant-loop

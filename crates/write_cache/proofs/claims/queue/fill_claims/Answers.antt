@@ -1,7 +1,6 @@
-use Rattle.std.proofs.Common.{◌≡◌, ◌<◌, ◌∙◌, ap, arith, get_or, length, slice_set}
-use Rattle.std.proofs.lemmas.List.{get_or_default}
-use Rattle.std.proofs.lemmas.List.Edits.{map_over_more}
-use Rattle.write_cache.specs.Slots.{claim_filled}
+use Rattle.write_cache.proofs.Common.{ap, arith, claim_filled, get_or, get_or_default, length, map_over_more, ◌<◌, ◌∙◌}
+use Rattle.write_cache.proofs.Common.{◌≡◌}
+use Rattle.std.proofs.Common.{slice_set}
 use Rattle.write_cache.proofs.claims.queue.fill_claims.Goals as goal
 
 pub loop-claim-preserved : goal.loop-claim-preserved

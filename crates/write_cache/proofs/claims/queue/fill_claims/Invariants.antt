@@ -1,5 +1,4 @@
-use Rattle.std.proofs.Common.{◌≡◌, ◌++◌, map, take, drop}
-use Rattle.write_cache.specs.Slots.{claim_filled}
+use Rattle.write_cache.proofs.Common.{claim_filled, drop, map, take, ◌++◌, ◌≡◌}
 use Rattle.write_cache.proofs.claims.queue.fill_claims.Given as goal
 
 abbrev pub invariant-loop-claim : goal.invariant-loop-claim

@@ -1,5 +1,4 @@
-use Rattle.std.proofs.Common.{◌∙◌, arith}
-use Rattle.write_cache.specs.Slots.{is_claim_behind}
+use Rattle.write_cache.proofs.Common.{arith, is_claim_behind, ◌∙◌}
 use Rattle.write_cache.proofs.Turns.{turned_more}
 use Rattle.write_cache.proofs.claims.queue.free_claims.Goals as goal
 

@@ -1,7 +1,5 @@
-use Rattle.std.proofs.Common.{◌≡◌, ◌+◌, ◌++◌, length, take, drop}
-use Rattle.std.specs.Prelude.{vec_capacity}
-use Rattle.std.specs.VecDeque.{deque_capacity}
-use Rattle.write_cache.specs.Slots.{without_claims_behind}
+use Rattle.write_cache.proofs.Common.{deque_capacity, drop, length, take, vec_capacity, without_claims_behind, ◌++◌}
+use Rattle.write_cache.proofs.Common.{◌+◌, ◌≡◌}
 use Rattle.write_cache.proofs.claims.queue.free_claims.Given as goal
 
 abbrev pub invariant-loop : goal.invariant-loop

@@ -1,6 +1,5 @@
-use Rattle.std.proofs.Common.{◌∙◌, ◌++◌, List, ap, arith, map, take}
-use Rattle.write_cache.specs.declared.slots.Pending.{Pending}
-use Rattle.write_cache.specs.Slots.{claims_of, is_claim_of, page_claimed}
+use Rattle.write_cache.proofs.Common.{List, Pending, ap, arith, claims_of, is_claim_of, map, page_claimed, take, ◌++◌}
+use Rattle.write_cache.proofs.Common.{◌∙◌}
 use Rattle.write_cache.proofs.Turns.{moved_more, turned_more}
 use Rattle.write_cache.proofs.claims.queue.move_claims.Goals as goal
 

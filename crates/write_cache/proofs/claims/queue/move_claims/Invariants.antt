@@ -1,6 +1,5 @@
-use Rattle.std.proofs.Common.{◌≡◌, ◌≤◌, ◌+◌, ◌++◌, length, map, take, drop}
-use Rattle.std.specs.VecDeque.{deque_capacity}
-use Rattle.write_cache.specs.Slots.{claims_of, page_claimed, without_claims}
+use Rattle.write_cache.proofs.Common.{claims_of, deque_capacity, drop, length, map, page_claimed, take, without_claims}
+use Rattle.write_cache.proofs.Common.{◌++◌, ◌+◌, ◌≡◌, ◌≤◌}
 use Rattle.write_cache.proofs.claims.queue.move_claims.Given as goal
 
 abbrev pub invariant-loop : goal.invariant-loop

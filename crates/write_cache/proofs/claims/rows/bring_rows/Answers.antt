@@ -1,7 +1,5 @@
-use Rattle.std.proofs.Common.{◌<◌, ◌∙◌, ap, arith, length, map, slice_set}
-use Rattle.std.proofs.lemmas.List.Edits.{map_over_more}
-use Rattle.ufs_spec.proofs.Lists.{set_length}
-use Rattle.write_cache.specs.Rests.{claim_brought}
+use Rattle.write_cache.proofs.Common.{ap, arith, claim_brought, length, map, map_over_more, set_length, ◌<◌, ◌∙◌}
+use Rattle.std.proofs.Common.{slice_set}
 use Rattle.write_cache.proofs.claims.rows.bring_rows.Goals as goal
 
 pub loop-at-preserved : goal.loop-at-preserved

@@ -1,6 +1,4 @@
-use Rattle.std.proofs.Common.{◌≡◌, ◌++◌, length, map, take, drop}
-use Rattle.std.specs.VecDeque.{deque_capacity}
-use Rattle.write_cache.specs.Rests.{claim_brought}
+use Rattle.write_cache.proofs.Common.{claim_brought, deque_capacity, drop, length, map, take, ◌++◌, ◌≡◌}
 use Rattle.write_cache.proofs.claims.rows.bring_rows.Given as goal
 
 abbrev pub invariant-loop-at : goal.invariant-loop-at

@@ -1,4 +1,4 @@
-use Rattle.std.proofs.Common.{◌+◌, ◌<◌, arith, length}
+use Rattle.write_cache.proofs.Common.{arith, length, ◌+◌, ◌<◌}
 use Rattle.write_cache.proofs.AllClaims.{counted_on, counted_within}
 use Rattle.write_cache.proofs.claims.rows.count_in_rows.Goals as goal
 

@@ -1,6 +1,4 @@
-use Rattle.std.proofs.Common.{◌≡◌, length, take}
-use Rattle.write_cache.specs.ClaimRows.{all_claims}
-use Rattle.write_cache.specs.Slots.{claims_of}
+use Rattle.write_cache.proofs.Common.{all_claims, claims_of, length, take, ◌≡◌}
 use Rattle.write_cache.proofs.claims.rows.count_in_rows.Given as goal
 
 abbrev pub invariant-loop-at : goal.invariant-loop-at

@@ -1,6 +1,4 @@
-use Rattle.std.proofs.Common.{◌≡◌, ◌++◌, length, map, take, drop}
-use Rattle.std.specs.VecDeque.{deque_capacity}
-use Rattle.write_cache.specs.Slots.{claim_filled}
+use Rattle.write_cache.proofs.Common.{claim_filled, deque_capacity, drop, length, map, take, ◌++◌, ◌≡◌}
 use Rattle.write_cache.proofs.claims.rows.fill_rows.Given as goal
 
 abbrev pub invariant-loop-at : goal.invariant-loop-at

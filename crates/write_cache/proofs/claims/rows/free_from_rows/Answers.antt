@@ -1,7 +1,6 @@
-use Rattle.std.proofs.Common.{◌<◌, ◌∙◌, ap, arith, length, slice_set}
-use Rattle.std.proofs.lemmas.List.Edits.{map_over_more}
-use Rattle.ufs_spec.proofs.Lists.{set_length}
-use Rattle.write_cache.specs.Slots.{claims_but, is_claim_behind}
+use Rattle.write_cache.proofs.Common.{ap, arith, claims_but, is_claim_behind, length, map_over_more, set_length, ◌<◌}
+use Rattle.write_cache.proofs.Common.{◌∙◌}
+use Rattle.std.proofs.Common.{slice_set}
 use Rattle.write_cache.proofs.AllClaims.{row_within, set_long}
 use Rattle.write_cache.proofs.claims.rows.free_from_rows.Goals as goal
 

@@ -1,8 +1,5 @@
-use Rattle.std.proofs.Common.{◌≡◌, ◌+◌, ◌++◌, length, map, take, drop}
-use Rattle.std.specs.Prelude.{vec_capacity}
-use Rattle.std.specs.VecDeque.{deque_capacity}
-use Rattle.write_cache.specs.ClaimRows.{all_claims}
-use Rattle.write_cache.specs.Slots.{claims_but, is_claim_behind}
+use Rattle.write_cache.proofs.Common.{all_claims, claims_but, deque_capacity, drop, is_claim_behind, length, map, take}
+use Rattle.write_cache.proofs.Common.{vec_capacity, ◌++◌, ◌+◌, ◌≡◌}
 use Rattle.write_cache.proofs.claims.rows.free_from_rows.Given as goal
 
 abbrev pub invariant-loop-at : goal.invariant-loop-at

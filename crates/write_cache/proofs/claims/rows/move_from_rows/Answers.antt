@@ -1,8 +1,6 @@
-use Rattle.std.proofs.Common.{◌<◌, ◌∙◌, ◌++◌, List, ap, arith, length, map, slice_set}
-use Rattle.std.proofs.lemmas.List.Edits.{map_over_more}
-use Rattle.ufs_spec.proofs.Lists.{set_length}
-use Rattle.write_cache.specs.declared.slots.Pending.{Pending}
-use Rattle.write_cache.specs.Slots.{claims_but, claims_of, is_claim_of, page_claimed}
+use Rattle.write_cache.proofs.Common.{List, Pending, ap, arith, claims_but, claims_of, is_claim_of, length, map}
+use Rattle.write_cache.proofs.Common.{map_over_more, page_claimed, set_length, ◌++◌, ◌<◌, ◌∙◌}
+use Rattle.std.proofs.Common.{slice_set}
 use Rattle.write_cache.proofs.AllClaims.{moved_on, next_at, row_within, set_long}
 use Rattle.write_cache.proofs.claims.rows.move_from_rows.Goals as goal
 

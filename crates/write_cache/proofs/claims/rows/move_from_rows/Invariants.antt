@@ -1,7 +1,5 @@
-use Rattle.std.proofs.Common.{◌≡◌, ◌≤◌, ◌+◌, ◌++◌, length, map, take, drop}
-use Rattle.std.specs.VecDeque.{deque_capacity}
-use Rattle.write_cache.specs.ClaimRows.{all_claims}
-use Rattle.write_cache.specs.Slots.{claims_but, claims_of, is_claim_of, page_claimed}
+use Rattle.write_cache.proofs.Common.{all_claims, claims_but, claims_of, deque_capacity, drop, is_claim_of, length, map}
+use Rattle.write_cache.proofs.Common.{page_claimed, take, ◌++◌, ◌+◌, ◌≡◌, ◌≤◌}
 use Rattle.write_cache.proofs.claims.rows.move_from_rows.Given as goal
 
 abbrev pub invariant-loop-at : goal.invariant-loop-at

@@ -1,10 +1,6 @@
-use Rattle.std.proofs.Common.{◌<◌, ◌∙◌, ◌++◌, List, ap, arith, length, slice_set}
-use Rattle.std.specs.Prelude.{filter_map}
-use Rattle.std.proofs.lemmas.List.Edits.{map_over_more}
-use Rattle.ufs_spec.proofs.Lists.{set_length}
-use Rattle.write_cache.specs.declared.slots.Pending.{Pending}
-use Rattle.write_cache.specs.Rests.{page_moved}
-use Rattle.write_cache.specs.Slots.{claims_but, claims_of, is_claim_of}
+use Rattle.write_cache.proofs.Common.{List, Pending, ap, arith, claims_but, claims_of, filter_map, is_claim_of, length}
+use Rattle.write_cache.proofs.Common.{map_over_more, page_moved, set_length, ◌++◌, ◌<◌, ◌∙◌}
+use Rattle.std.proofs.Common.{slice_set}
 use Rattle.write_cache.proofs.AllClaims.{next_at, paged_on, row_within, set_long}
 use Rattle.write_cache.proofs.claims.rows.move_pages_from_rows.Goals as goal
 

@@ -1,9 +1,5 @@
-use Rattle.std.proofs.Common.{◌≡◌, ◌≤◌, ◌+◌, ◌++◌, length, map, take, drop}
-use Rattle.std.specs.Prelude.{filter_map, vec_capacity}
-use Rattle.std.specs.VecDeque.{deque_capacity}
-use Rattle.write_cache.specs.ClaimRows.{all_claims}
-use Rattle.write_cache.specs.Rests.{page_moved}
-use Rattle.write_cache.specs.Slots.{claims_but, claims_of, is_claim_of}
+use Rattle.write_cache.proofs.Common.{all_claims, claims_but, claims_of, deque_capacity, drop, filter_map, is_claim_of}
+use Rattle.write_cache.proofs.Common.{length, map, page_moved, take, vec_capacity, ◌++◌, ◌+◌, ◌≡◌, ◌≤◌}
 use Rattle.write_cache.proofs.claims.rows.move_pages_from_rows.Given as goal
 
 abbrev pub invariant-loop-at : goal.invariant-loop-at

@@ -1,4 +1,4 @@
-use Rattle.std.proofs.Common.{◌<◌, ◌∙◌, arith, length}
+use Rattle.write_cache.proofs.Common.{arith, length, ◌<◌, ◌∙◌}
 use Rattle.write_cache.proofs.AllClaims.{shed_next, shed_on, shed_there}
 use Rattle.write_cache.proofs.claims.rows.shed.Goals as goal
 

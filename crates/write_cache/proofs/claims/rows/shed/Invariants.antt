@@ -1,7 +1,5 @@
-use Rattle.std.proofs.Common.{◌≡◌, ◌+◌, ◌++◌, length, take, drop}
-use Rattle.std.specs.Prelude.{vec_capacity}
-use Rattle.std.specs.VecDeque.{deque_capacity}
-use Rattle.write_cache.specs.ClaimRows.{AreBare, used_rows}
+use Rattle.write_cache.proofs.Common.{AreBare, deque_capacity, drop, length, take, vec_capacity, ◌++◌, ◌+◌, ◌≡◌}
+use Rattle.write_cache.specs.ClaimRows.{used_rows}
 use Rattle.write_cache.proofs.claims.rows.shed.Given as goal
 
 abbrev pub invariant-loop : goal.invariant-loop

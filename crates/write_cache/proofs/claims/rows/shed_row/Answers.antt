@@ -1,5 +1,4 @@
-use Rattle.std.proofs.Common.{◌∙◌, subst, sym}
-use Rattle.write_cache.specs.ClaimRows.{AreBare}
+use Rattle.write_cache.proofs.Common.{AreBare, subst, sym, ◌∙◌}
 use Rattle.write_cache.proofs.AllClaims.{bare_more, same_bare}
 use Rattle.write_cache.proofs.claims.rows.shed_row.Goals as goal
 

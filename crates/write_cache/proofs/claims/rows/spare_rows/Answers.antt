@@ -1,5 +1,4 @@
-use Rattle.std.proofs.Common.{arith, subst, sym}
-use Rattle.write_cache.specs.ClaimRows.{AreBare}
+use Rattle.write_cache.proofs.Common.{AreBare, arith, subst, sym}
 use Rattle.write_cache.proofs.AllClaims.{bare_more}
 use Rattle.write_cache.proofs.claims.rows.spare_rows.Goals as goal
 

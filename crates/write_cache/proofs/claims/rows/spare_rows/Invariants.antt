@@ -1,6 +1,4 @@
-use Rattle.std.proofs.Common.{◌≡◌, ◌≤◌, length}
-use Rattle.std.specs.Prelude.{vec_capacity}
-use Rattle.write_cache.specs.ClaimRows.{AreBare}
+use Rattle.write_cache.proofs.Common.{AreBare, length, vec_capacity, ◌≡◌, ◌≤◌}
 use Rattle.write_cache.proofs.claims.rows.spare_rows.Given as goal
 
 abbrev pub invariant-loop : goal.invariant-loop

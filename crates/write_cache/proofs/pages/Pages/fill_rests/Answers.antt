@@ -1,6 +1,4 @@
-use Rattle.std.proofs.Common.{◌∙◌, List, ap, arith, length, map, subst, sym}
-use Rattle.write_cache.specs.declared.slots.Pending.{Pending}
-use Rattle.write_cache.specs.Ring.{AreRuns, Shown, shown}
+use Rattle.write_cache.proofs.Common.{AreRuns, List, Pending, Shown, ap, arith, length, map, shown, subst, sym, ◌∙◌}
 use Rattle.write_cache.proofs.Fills.{keys_kept, places_kept, rests_length, shown_kept}
 use Rattle.write_cache.proofs.LastPlaces.{key_of, newest_same}
 use Rattle.write_cache.proofs.Same.{place_of, rests_same}

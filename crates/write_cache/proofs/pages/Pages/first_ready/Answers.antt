@@ -1,8 +1,7 @@
-use Rattle.std.proofs.Common.{ℕ, ◌<◌, ◌∙◌, ap, arith, length}
+use Rattle.write_cache.proofs.Common.{Queue, ap, arith, is_ready, length, ℕ, ◌<◌, ◌∙◌}
 use Rattle.std.proofs.lemmas.Option.{IfSome_then}
 use Rattle.word_set.proofs.Flags.{first_less}
-use Rattle.write_cache.specs.Kept.{Queue}
-use Rattle.write_cache.specs.Ready.{first_ready_from, is_ready}
+use Rattle.write_cache.specs.Ready.{first_ready_from}
 use Rattle.write_cache.proofs.Readies.{first_is_told}
 use Rattle.write_cache.proofs.pages.Pages.first_ready.Goals as goal
 

@@ -1,7 +1,5 @@
-use Rattle.std.proofs.Common.{◌≡◌, ◌∙◌, ◌≤◌, ap, arith, false, length, map, subst, sym, true}
-use Rattle.std.specs.Prelude.{filter, not, take, drop}
-use Rattle.write_cache.specs.Kept.{Queue}
-use Rattle.write_cache.specs.Ring.{shown}
+use Rattle.write_cache.proofs.Common.{Queue, ap, arith, false, length, map, shown, subst, sym, true, ◌∙◌, ◌≡◌, ◌≤◌}
+use Rattle.std.specs.Prelude.{drop, filter, not, take}
 use Rattle.write_cache.specs.Slots.{front_written, is_of_group}
 use Rattle.write_cache.proofs.Fronts.{first_page, first_unwritten, first_written, front_told}
 use Rattle.write_cache.proofs.Runs.{stands}

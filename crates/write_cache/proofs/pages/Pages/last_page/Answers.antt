@@ -1,5 +1,4 @@
-use Rattle.std.proofs.Common.{◌∙◌, ap, arith, sym}
-use Rattle.write_cache.specs.Kept.{Queue}
+use Rattle.write_cache.proofs.Common.{Queue, ap, arith, sym, ◌∙◌}
 use Rattle.write_cache.specs.Slots.{last_page}
 use Rattle.write_cache.proofs.LastPlaces.{newest_found}
 use Rattle.write_cache.proofs.pages.Pages.last_page.Goals as goal

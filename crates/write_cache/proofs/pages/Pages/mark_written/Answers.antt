@@ -1,9 +1,6 @@
-use Rattle.std.proofs.Common.{◌≡◌, ◌∙◌, List, ap, arith, length, map, refl, slice_get, subst, sym}
-use Rattle.std.specs.Prelude.{slice_set}
-use Rattle.write_cache.specs.declared.pages.ring.GroupAt.{GroupAt}
-use Rattle.write_cache.specs.Kept.{Queue}
+use Rattle.write_cache.proofs.Common.{AreRuns, GroupAt, List, Pending, Queue, ap, arith, first_number, length, map}
+use Rattle.write_cache.proofs.Common.{refl, shown, slice_get, slice_set, subst, sym, written, ◌∙◌, ◌≡◌}
 use Rattle.write_cache.specs.Queue.{queue_of}
-use Rattle.write_cache.specs.Ring.{AreRuns, first_number, shown, written}
 use Rattle.write_cache.specs.Slots.{page_written}
 use Rattle.write_cache.proofs.Deques.{unfound_told}
 use Rattle.write_cache.proofs.LastPlaces.{key_of, newest_same}
@@ -12,7 +9,6 @@ use Rattle.write_cache.proofs.Readies.{found_within, rests_kept, written_ready}
 use Rattle.write_cache.proofs.Same.{rest_of, written_same}
 use Rattle.write_cache.proofs.Told.{told_consecutive, told_few, told_rising, told_stands, told_straight}
 use Rattle.write_cache.proofs.MarkedPlaces.{written_marked}
-use Rattle.write_cache.specs.declared.slots.Pending.{Pending}
 use Rattle.write_cache.proofs.pages.Pages.mark_written.Goals as goal
 
 pub find-requires-clause-rising : goal.find-requires-clause-rising

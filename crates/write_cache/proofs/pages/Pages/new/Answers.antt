@@ -1,11 +1,7 @@
-use Rattle.std.proofs.Common.{List, ap, arith, length, map, subst, sym}
-use Rattle.write_cache.specs.declared.pages.ring.GroupAt.{GroupAt}
-use Rattle.write_cache.specs.declared.slots.Pending.{Pending}
-use Rattle.write_cache.specs.Ring.{AreRuns, first_number, shown}
+use Rattle.write_cache.proofs.Common.{AreRuns, GroupAt, List, Pending, ap, arith, first_number, is_ready, length, map}
+use Rattle.write_cache.proofs.Common.{shown, subst, sym, waits}
 use Rattle.write_cache.specs.Newest.{IsNewest}
 use Rattle.write_cache.proofs.LastPlaces.{newest_none}
-use Rattle.write_cache.specs.Ready.{is_ready}
-use Rattle.write_cache.specs.Rests.{waits}
 use Rattle.write_cache.proofs.Readies.{none_set}
 use Rattle.write_cache.proofs.WrittenPlaces.{written_none}
 use Rattle.write_cache.proofs.pages.Pages.new.Goals as goal

@@ -1,7 +1,5 @@
-use Rattle.std.proofs.Common.{◌∙◌, ap, sym}
-use Rattle.std.specs.Prelude.{find, option_and_then, slice_get}
-use Rattle.write_cache.specs.Kept.{Queue}
-use Rattle.write_cache.specs.Slots.{is_there}
+use Rattle.write_cache.proofs.Common.{Queue, ap, is_there, option_and_then, sym, ◌∙◌}
+use Rattle.std.specs.Prelude.{find, slice_get}
 use Rattle.write_cache.proofs.Deques.{find_placed}
 use Rattle.write_cache.proofs.MarkedPlaces.{written_found}
 use Rattle.write_cache.proofs.pages.Pages.page_there.Goals as goal

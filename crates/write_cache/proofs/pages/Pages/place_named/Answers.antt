@@ -1,7 +1,4 @@
-use Rattle.std.proofs.Common.{◌∙◌, ap, arith, sym}
-use Rattle.std.specs.Prelude.{position}
-use Rattle.write_cache.specs.Kept.{Queue}
-use Rattle.write_cache.specs.Slots.{is_named}
+use Rattle.write_cache.proofs.Common.{Queue, ap, arith, is_named, position, sym, ◌∙◌}
 use Rattle.write_cache.proofs.Marks.{none_marked}
 use Rattle.write_cache.proofs.Told.{told_consecutive, told_few, told_rising, told_stands, told_straight}
 use Rattle.write_cache.proofs.pages.Pages.place_named.Goals as goal

@@ -1,11 +1,6 @@
-use Rattle.std.proofs.Common.{◌∙◌, ◌+◌, List, ap, arith, length, map, ℕ}
-use Rattle.std.proofs.lemmas.List.{length-append, length-map}
-use Rattle.std.specs.Prelude.{◌-◌, ◌∷◌, []}
-use Rattle.write_cache.specs.declared.slots.Pending.{Pending}
-use Rattle.write_cache.specs.Kept.{Queue}
-use Rattle.write_cache.specs.Ready.{is_ready}
-use Rattle.write_cache.specs.Rests.{waits}
-use Rattle.write_cache.specs.Ring.{shown, wrapped}
+use Rattle.write_cache.proofs.Common.{List, Pending, Queue, ap, arith, is_ready, length, length-append, length-map, map}
+use Rattle.write_cache.proofs.Common.{shown, waits, wrapped, ℕ, ◌+◌, ◌∙◌}
+use Rattle.std.specs.Prelude.{[], ◌-◌, ◌∷◌}
 use Rattle.write_cache.proofs.LastPlaces.{newest_pushed}
 use Rattle.write_cache.proofs.Pushes.{first_again, pushed}
 use Rattle.write_cache.proofs.Readies.{pushed_set}

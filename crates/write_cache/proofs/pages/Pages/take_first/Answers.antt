@@ -1,9 +1,5 @@
-use Rattle.std.proofs.Common.{◌≡◌, ◌∙◌, Bool, List, ap, arith, length, rules}
-use Rattle.std.specs.Prelude.{is_none}
-use Rattle.write_cache.specs.declared.slots.Pending.{Pending}
-use Rattle.write_cache.specs.Ready.{is_ready}
-use Rattle.write_cache.specs.Rests.{waits}
-use Rattle.write_cache.specs.Ring.{shortened}
+use Rattle.write_cache.proofs.Common.{Bool, List, Pending, ap, arith, is_none, is_ready, length, rules, shortened}
+use Rattle.write_cache.proofs.Common.{waits, ◌∙◌, ◌≡◌}
 use Rattle.write_cache.proofs.LastPlaces.{newest_taken}
 use Rattle.write_cache.proofs.Pushes.{first_again, taken}
 use Rattle.write_cache.proofs.Readies.{taken_set}

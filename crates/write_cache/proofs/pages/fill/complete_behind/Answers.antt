@@ -1,6 +1,5 @@
-use Rattle.std.proofs.Common.{◌∙◌, ap, sym}
+use Rattle.write_cache.proofs.Common.{ap, completed_at, sym, ◌∙◌}
 use Rattle.std.specs.Prelude.{slice_get}
-use Rattle.write_cache.specs.Rests.{completed_at}
 use Rattle.write_cache.proofs.Fills.{base_read, base_there}
 use Rattle.write_cache.proofs.pages.fill.complete_behind.Goals as goal
 

@@ -1,13 +1,8 @@
-use Rattle.std.proofs.Common.{◌≡◌, ◌∙◌, Bool, List, ◌+◌, ◌-◌, ◌<◌, ◌++◌, None, Some, ap, arith, drop, false, length}
-use Rattle.std.specs.VecDeque.{deque_capacity}
-use Rattle.std.proofs.Common.{slice_get, subst, sym, take}
-use Rattle.ufs_spec.proofs.Lists.{get_there}
-use Rattle.word_set.specs.Flags.{passes, tells}
+use Rattle.write_cache.proofs.Common.{AreTold, Bool, List, None, Pending, Some, ap, arith, awaits, base_behind}
+use Rattle.write_cache.proofs.Common.{deque_capacity, drop, false, get_there, is_ready, length, passes, rests_filled}
+use Rattle.write_cache.proofs.Common.{slice_get, subst, sym, take, tells, waits, ◌++◌, ◌+◌, ◌-◌, ◌<◌, ◌∙◌, ◌≡◌}
 use Rattle.word_set.specs.Tests.{IsFirst}
 use Rattle.word_set.proofs.Flags.{set_length}
-use Rattle.write_cache.specs.declared.slots.Pending.{Pending}
-use Rattle.write_cache.specs.Ready.{AreTold, is_ready}
-use Rattle.write_cache.specs.Rests.{awaits, base_behind, rests_filled, waits}
 use Rattle.write_cache.proofs.Fills.{all_filled, completed_length, filled_more, passed_more, skipped}
 use Rattle.write_cache.proofs.Readies.{filled_ready, filled_waiting, next_told, next_within}
 use Rattle.write_cache.proofs.pages.fill.fill_pages.Goals as goal

@@ -1,7 +1,5 @@
-use Rattle.std.proofs.Common.{◌≡◌, ◌-◌, ◌++◌, length, take, drop}
-use Rattle.std.specs.VecDeque.{deque_capacity}
-use Rattle.write_cache.specs.Ready.{AreTold, is_ready}
-use Rattle.write_cache.specs.Rests.{base_behind, rests_filled, waits}
+use Rattle.write_cache.proofs.Common.{AreTold, base_behind, deque_capacity, drop, is_ready, length, rests_filled, take}
+use Rattle.write_cache.proofs.Common.{waits, ◌++◌, ◌-◌, ◌≡◌}
 use Rattle.write_cache.proofs.pages.fill.fill_pages.Given as goal
 
 abbrev pub invariant-loop-at : goal.invariant-loop-at

@@ -1,4 +1,5 @@
-use Rattle.std.proofs.Common.{rules, tests}
+use Rattle.write_cache.proofs.Common.{rules}
+use Rattle.std.proofs.Common.{tests}
 use Rattle.std.proofs.lemmas.Iterator.Search.{position_from_yields_List}
 use Rattle.write_cache.specs.Slots.{is_page_of}
 use Rattle.write_cache.proofs.Deques.{YieldsList-from_rev_deque}

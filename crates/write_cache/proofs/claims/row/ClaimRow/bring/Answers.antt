@@ -1,8 +1,5 @@
-use Rattle.std.proofs.Common.{◌≡◌, ◌∙◌, List, ap, length, map, subst, sym}
-use Rattle.std.proofs.lemmas.List.{length-map}
-use Rattle.write_cache.specs.declared.slots.Claimed.{Claimed}
-use Rattle.write_cache.specs.ClaimRows.{AreOf}
-use Rattle.write_cache.specs.Rests.{claim_brought}
+use Rattle.write_cache.proofs.Common.{AreOf, Claimed, List, ap, claim_brought, length, length-map, map, subst, sym, ◌∙◌}
+use Rattle.write_cache.proofs.Common.{◌≡◌}
 use Rattle.write_cache.proofs.Deques.{refilled}
 use Rattle.write_cache.proofs.OwnClaims.{brought_reader, of_map, others_brought}
 use Rattle.write_cache.proofs.claims.row.ClaimRow.bring.Goals as goal

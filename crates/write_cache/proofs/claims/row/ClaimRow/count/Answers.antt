@@ -1,6 +1,4 @@
-use Rattle.std.proofs.Common.{◌∙◌, List, ap, length, sym}
-use Rattle.write_cache.specs.declared.slots.Claimed.{Claimed}
-use Rattle.write_cache.specs.Slots.{claims_of}
+use Rattle.write_cache.proofs.Common.{Claimed, List, ap, claims_of, length, sym, ◌∙◌}
 use Rattle.write_cache.proofs.OwnClaims.{others_none, own_same}
 use Rattle.write_cache.proofs.claims.row.ClaimRow.count.Goals as goal
 

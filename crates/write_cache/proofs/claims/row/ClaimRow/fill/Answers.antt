@@ -1,8 +1,5 @@
-use Rattle.std.proofs.Common.{◌≡◌, ◌∙◌, List, ap, length, map, refl, subst, sym}
-use Rattle.std.proofs.lemmas.List.{length-map}
-use Rattle.write_cache.specs.declared.slots.Claimed.{Claimed}
-use Rattle.write_cache.specs.ClaimRows.{AreOf}
-use Rattle.write_cache.specs.Slots.{claim_filled}
+use Rattle.write_cache.proofs.Common.{AreOf, Claimed, List, ap, claim_filled, length, length-map, map, refl, subst, sym}
+use Rattle.write_cache.proofs.Common.{◌∙◌, ◌≡◌}
 use Rattle.write_cache.proofs.Deques.{refilled}
 use Rattle.write_cache.proofs.OwnClaims.{of_map, others_filled}
 use Rattle.write_cache.proofs.claims.row.ClaimRow.fill.Goals as goal

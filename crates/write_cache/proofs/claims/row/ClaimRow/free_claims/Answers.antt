@@ -1,7 +1,5 @@
-use Rattle.std.proofs.Common.{◌∙◌, List, ap, arith, subst, sym}
-use Rattle.write_cache.specs.declared.slots.Claimed.{Claimed}
-use Rattle.write_cache.specs.ClaimRows.{AreOf}
-use Rattle.write_cache.specs.Slots.{is_claim_behind, without_claims_behind}
+use Rattle.write_cache.proofs.Common.{AreOf, Claimed, List, ap, arith, is_claim_behind, subst, sym}
+use Rattle.write_cache.proofs.Common.{without_claims_behind, ◌∙◌}
 use Rattle.write_cache.proofs.OwnClaims.{of_but, others_left_behind}
 use Rattle.write_cache.proofs.claims.row.ClaimRow.free_claims.Goals as goal
 

@@ -1,7 +1,5 @@
-use Rattle.std.proofs.Common.{◌∙◌, ◌++◌, List, ap, arith, map, subst, sym}
-use Rattle.write_cache.specs.declared.slots.Claimed.{Claimed}
-use Rattle.write_cache.specs.ClaimRows.{AreOf}
-use Rattle.write_cache.specs.Slots.{claims_of, is_claim_of, page_claimed, without_claims}
+use Rattle.write_cache.proofs.Common.{AreOf, Claimed, List, ap, arith, claims_of, is_claim_of, map, page_claimed, subst}
+use Rattle.write_cache.proofs.Common.{sym, without_claims, ◌++◌, ◌∙◌}
 use Rattle.write_cache.proofs.OwnClaims.{of_but, others_left, others_moved}
 use Rattle.write_cache.proofs.claims.row.ClaimRow.move_claims.Goals as goal
 

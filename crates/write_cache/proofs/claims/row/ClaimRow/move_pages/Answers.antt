@@ -1,9 +1,5 @@
-use Rattle.std.proofs.Common.{◌∙◌, ◌++◌, List, ap, arith, subst, sym}
-use Rattle.std.specs.Prelude.{filter_map}
-use Rattle.write_cache.specs.declared.slots.Claimed.{Claimed}
-use Rattle.write_cache.specs.ClaimRows.{AreOf}
-use Rattle.write_cache.specs.Rests.{page_moved}
-use Rattle.write_cache.specs.Slots.{claims_of, is_claim_of, without_claims}
+use Rattle.write_cache.proofs.Common.{AreOf, Claimed, List, ap, arith, claims_of, filter_map, is_claim_of, page_moved}
+use Rattle.write_cache.proofs.Common.{subst, sym, without_claims, ◌++◌, ◌∙◌}
 use Rattle.write_cache.proofs.OwnClaims.{of_but, others_left, others_paged}
 use Rattle.write_cache.proofs.claims.row.ClaimRow.move_pages.Goals as goal
 

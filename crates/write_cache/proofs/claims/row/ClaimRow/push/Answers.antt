@@ -1,7 +1,4 @@
-use Rattle.std.proofs.Common.{◌∙◌, List, ap, arith, inl, inr, length, subst, sym}
-use Rattle.write_cache.specs.declared.slots.Claimed.{Claimed}
-use Rattle.write_cache.specs.ClaimRows.{AreOf}
-use Rattle.write_cache.specs.Slots.{claims_of}
+use Rattle.write_cache.proofs.Common.{AreOf, Claimed, List, ap, arith, claims_of, inl, inr, length, subst, sym, ◌∙◌}
 use Rattle.write_cache.proofs.OwnClaims.{of_more, others_none}
 use Rattle.write_cache.proofs.claims.row.ClaimRow.push.Goals as goal
 use Rattle.write_cache.proofs.claims.row.ClaimRow.push.Goals.{else-claim-self-via-then-claim-self+else-len}

@@ -1,6 +1,4 @@
-use Rattle.std.proofs.Common.{List, ap, arith, length}
-use Rattle.write_cache.specs.declared.slots.Claimed.{Claimed}
-use Rattle.write_cache.specs.ClaimRows.{all_claims}
+use Rattle.write_cache.proofs.Common.{Claimed, List, all_claims, ap, arith, length}
 use Rattle.write_cache.proofs.AllClaims.{as_long}
 use Rattle.write_cache.proofs.claims.rows.ClaimRows.move_pages.Goals as goal
 

@@ -1,5 +1,5 @@
-use Rattle.std.proofs.Common.{◌∙◌, IsSome, List, ap, arith, length}
-use Rattle.write_cache.specs.declared.slots.Claimed.{Claimed}
+use Rattle.write_cache.proofs.Common.{Claimed, List, ap, arith, length, ◌∙◌}
+use Rattle.std.proofs.Common.{IsSome}
 use Rattle.write_cache.proofs.AllClaims.{spare_took}
 use Rattle.write_cache.proofs.claims.rows.ClaimRows.push.Goals as goal
 

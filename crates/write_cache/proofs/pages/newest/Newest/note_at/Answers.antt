@@ -1,8 +1,7 @@
-use Rattle.std.proofs.Common.{◌∙◌, ap, sym}
+use Rattle.write_cache.proofs.Common.{Numbers, ap, sym, ◌∙◌}
 use Rattle.std.proofs.lemmas.List.{set_past}
 use Rattle.geometry.specs.Keys.{index_of}
 use Rattle.ufs_spec.specs.Plain.{shape_of_numbers}
-use Rattle.ufs_spec.specs.declared.configs.Numbers.{Numbers}
 use Rattle.write_cache.specs.Newest.{positions_noted}
 use Rattle.write_cache.proofs.pages.newest.Newest.note_at.Goals as goal
 

@@ -1,4 +1,4 @@
-use Rattle.std.proofs.Common.{◌≡◌, ℕ, ◌-◌, ◌<◌, suc, drop, subst, refl, arith}
+use Rattle.write_cache.proofs.Common.{arith, drop, refl, subst, suc, ℕ, ◌-◌, ◌<◌, ◌≡◌}
 use Rattle.write_cache.proofs.Entries.{AreAbove, above_from, above_more, above_none, consecutive_at, none_between}
 use Rattle.write_cache.proofs.Entries.{rising_above}
 use Rattle.write_cache.proofs.pages.ring.Ring.find.Goals as goal

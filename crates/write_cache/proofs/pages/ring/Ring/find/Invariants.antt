@@ -1,5 +1,4 @@
-use Rattle.std.proofs.Common.{◌≡◌, ◌+◌, ◌-◌, drop}
-use Rattle.write_cache.specs.Ring.{AreConsecutive}
+use Rattle.write_cache.proofs.Common.{AreConsecutive, drop, ◌+◌, ◌-◌, ◌≡◌}
 use Rattle.write_cache.proofs.Entries.{AreAbove}
 use Rattle.write_cache.proofs.pages.ring.Ring.find.Given as goal
 
