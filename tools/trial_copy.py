@@ -16,7 +16,7 @@ from crates import ROOT, needed
 
 # These crates hold laws and lemmas only, so a part of them can be cut out. Of any other crate below, as that of the
 # definitions, only lemmas can be cut, as long as its functions are proved.
-CRATES_OF_LAWS = ("ufs_laws", "power_loss", "many_stops")
+CRATES_OF_LAWS = ("ufs_laws", "power_loss", "many_stops", "heard_laws")
 # So many times a copy is cut before a try is given up.
 MOST_CUTS = 12
 

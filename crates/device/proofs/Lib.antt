@@ -1,3 +1,4 @@
+mod Common
 pub mod described
 pub mod die_calls
 pub mod dies_of_world

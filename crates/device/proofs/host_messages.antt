@@ -16,12 +16,12 @@ pub mod FramesBegin
 pub mod FramesCome
 pub mod FramesGathered
 pub mod FramesTaken
+pub mod GathersBegin
 pub mod GroupOfBlocks
 pub mod GroupsOfFrames
 pub mod HeldBegins
 pub mod HostRight
 pub mod LastBlock
-pub mod ListsBegin
 pub mod ListsCome
 pub mod ListsGathered
 pub mod NumbersAwaited

@@ -7,3 +7,4 @@ pub mod PartsPut
 pub mod ReadProgress
 pub mod ReadsEnded
 pub mod TaskOpened
+pub mod WantedData

@@ -5,29 +5,26 @@ use Rattle.std.specs.List.{list_any}
 use Rattle.ufs_spec.specs.Keys.{IsKey}
 use Rattle.ufs_spec.specs.Ledger.{Ledger, next_number}
 use Rattle.ufs_spec.specs.Moves.{Accept, Claim, IsAllowedMove, Move, Release, moved}
-use Rattle.ufs_spec.specs.Plain.{shape_of_numbers, zero_block}
+use Rattle.ufs_spec.specs.Plain.{greatest_command, shape_of_numbers, zero_block}
 use Rattle.ufs_spec.specs.Translation.{Translation, free_slots, is_locked, is_mended}
 use Rattle.ufs_spec.specs.declared.flash.Key.{Key}
 use Rattle.ftl_core.specs.Public.{Claims, Core, PinsDiffer, group_of_blocks, keeps_for, keeps_of, key_behind}
 use Rattle.ftl_core.specs.Public.{EndedNow, with_block, with_claimed}
 use Rattle.ftl_core.specs.Ended as ended
-use Rattle.task_set.specs.declared.tasks.Status.{Status}
-use Rattle.task_set.specs.declared.tasks.Status.TheVariants as status
+use Rattle.ufs_spec.specs.declared.exchanges.Status.{Status}
+use Rattle.ufs_spec.specs.declared.exchanges.Status.TheVariants as status
 use Rattle.task_set.specs.declared.tasks.Phase.{Phase}
 use Rattle.task_set.specs.declared.tasks.Phase.TheVariants as phase
 use Rattle.device.specs.declared.plans.Plan.{Plan}
 use Rattle.device.specs.declared.plans.Plan.TheVariants as plan
 use Rattle.task_set.specs.declared.tasks.TaskEvent.{TaskEvent}
 use Rattle.task_set.specs.declared.tasks.TaskEvent.TheVariants as event
-use Rattle.task_set.specs.declared.tasks.Transfer.{Transfer}
 use Rattle.device.specs.Kept.{DeviceCore, IsLayerWith}
-use Rattle.device.specs.Lists.{list_slots}
 use Rattle.task_set.specs.Lists.{task_happened}
 use Rattle.task_set.specs.Shorts.{short_locked}
-use Rattle.task_set.specs.Tasks.{after_lost_read, after_read, next_transfer, task_after}
-use Rattle.ufs_spec.specs.Plain.{greatest_command}
+use Rattle.task_set.specs.Tasks.{after_lost_read, after_read, next_wanted, task_after, wanted_block, write_error}
 use Rattle.ufs_spec.specs.Exchanges.{most_tasks}
-use Rattle.task_set.specs.declared.tasks.Wanted.TheVariants as wanted
+use Rattle.task_set.specs.declared.tasks.Wanted.{Wanted}
 
 -- this happened to the task at this position
 abbrev pub with_event : DeviceCore → ℕ → TaskEvent → DeviceCore
@@ -67,25 +64,6 @@ pub record HasClaimedFor (after : Core) (t : Translation) (claims : Claims) (tag
     pub layer : claims tag ≡ [] → IsLayerWith after (if has_slots t slots then moved t (Claim slots) else t)
         (if has_slots t slots then with_claimed claims tag (replicate slots zero_block) else claims)
 
--- a WRITE of which no block came
-abbrev pub write_asks : Key → ℕ → Bool → Phase
-write_asks key blocks forced =
-    phase.Ask (wanted.Block (record { key = key; blocks = blocks; gathered = 0; forced = forced }))
-
--- so it is of a WRITE, which claims a slot for each block
-abbrev pub HasClaimed : Core → Translation → Claims → ℕ → Key → ℕ → Bool → Phase → Type 0
-HasClaimed after t claims tag key blocks forced p =
-    HasClaimedFor after t claims tag blocks (write_asks key blocks forced) p
-
--- how many slots a SECURITY PROTOCOL OUT claims: for two pages of the area and the settings
-abbrev pub frame_slots : ℕ
-frame_slots = 3
-
--- so it is of a SECURITY PROTOCOL OUT
-abbrev pub HasClaimedFrames : Core → Translation → Claims → ℕ → ℕ → Phase → Type 0
-HasClaimedFrames after t claims tag size p =
-    HasClaimedFor after t claims tag frame_slots (phase.Ask (wanted.Frames size)) p
-
 -- how far a command is that begins with what its task keeps to send, so many bytes: where its host takes nothing, it is
 -- done
 abbrev pub held_phase : ℕ → ℕ → Phase
@@ -103,15 +81,10 @@ flush_phase t =
 -- how far a task is that begins what was planned for it, and the layer then
 abbrev pub HasBegun : Core → Translation → Claims → ℕ → Result Plan Status → Phase → Type 0
 HasBegun after t claims tag (Ok (plan.Read key blocks size)) p = HasKept after t claims tag key blocks size p
-HasBegun after t claims tag (Ok (plan.Write key blocks forced)) p = HasClaimed after t claims tag key blocks forced p
+HasBegun after t claims tag (Ok (plan.Gather w slots)) p = HasClaimedFor after t claims tag slots (phase.Ask w) p
 HasBegun after t claims tag (Err refused) p = (p ≡ phase.Answer refused 0) × IsLayerWith after t claims
 HasBegun after t claims tag (Ok (plan.Nothing n)) p = (p ≡ phase.Answer status.Good n) × IsLayerWith after t claims
-HasBegun after t claims tag (Ok (plan.AskFrames region size)) p = HasClaimedFrames after t claims tag size p
-HasBegun after t claims tag (Ok (plan.AskList unit size)) p =
-    HasClaimedFor after t claims tag (list_slots t.numbers size) (phase.Ask (wanted.List unit size)) p
-HasBegun after t claims tag (Ok (plan.TakeFrames region size taken)) p =
-    (p ≡ held_phase size taken) × IsLayerWith after t claims
-HasBegun after t claims tag (Ok (plan.Tell told size taken)) p =
+HasBegun after t claims tag (Ok (plan.Send from size taken)) p =
     (p ≡ held_phase size taken) × IsLayerWith after t claims
 HasBegun after t claims tag (Ok plan.Flush) p =
     (p ≡ flush_phase t) × IsLayerWith after t claims
@@ -133,20 +106,20 @@ taken_move t key bodies =
 -- what its task is told, and the layer then
 pub record HasTaken (after : Core) (t : Translation) (claims : Claims) (tag : ℕ) (key : Key) (e : TaskEvent) : Type 0
   where
-    pub event_is : e ≡ (if is_locked t then event.GroupRefused else event.GroupAccepted (next_number t.ledger))
+    pub event_is : e ≡ (if is_locked t then event.DataRefused write_error else event.GroupAccepted (next_number t.ledger))
     pub layer : (is_locked t ≡ false → MayAccept t key (claims tag)) →
         IsLayerWith after (moved t (taken_move t key (claims tag))) (with_claimed claims tag [])
 
 -- where more blocks are to come nothing else happens, and with the last one the group is taken
-abbrev pub HasGatheredThen : Core → Translation → Claims → ℕ → Key → TaskEvent → Option Transfer → Type 0
+abbrev pub HasGatheredThen : Core → Translation → Claims → ℕ → Key → TaskEvent → Option Wanted → Type 0
 HasGatheredThen after t claims tag key e (Some more) = (e ≡ event.BlockGathered) × IsLayerWith after t claims
 HasGatheredThen after t claims tag key e None = HasTaken after t claims tag key e
 
 -- a block of a WRITE came: it lies in its slot, and with the last block the group is accepted, or refused by a locked
 -- device
-abbrev pub HasGathered : Core → Translation → Claims → ℕ → Transfer → List ℕ → TaskEvent → Type 0
-HasGathered after t claims tag x bytes e =
-    HasGatheredThen after t (with_block claims tag x.gathered bytes) tag x.key e (next_transfer x)
+abbrev pub HasGathered : Core → Translation → Claims → ℕ → Wanted → Key → List ℕ → TaskEvent → Type 0
+HasGathered after t claims tag w key bytes e =
+    HasGatheredThen after t (with_block claims tag (wanted_block w) bytes) tag key e (next_wanted w)
 
 -- What the end of a job told
 

@@ -1,35 +1,33 @@
 -- How what the device keeps describes the specified device: one relation for each part of its state, each over the
 -- fields that it reads.
-use Rattle.std.specs.Prelude.{◌≡◌, ℕ, zero, suc, ◌+◌, ◌*◌, ◌≤◌, ◌<◌, ◌==◌, ◌&&◌, min, nat_le, nat_lt, true, false}
-use Rattle.std.specs.Prelude.{All, List}
-use Rattle.std.specs.Prelude.{[], ◌∷◌, drop, find, if◌then◌else◌, length, map, replicate, slice_get, take, Bool, Option}
-use Rattle.std.specs.Prelude.{Some}
-use Rattle.std.specs.Prelude.{None, option_map, Result}
+use Rattle.std.specs.Prelude.{All, Bool, List, None, Option, Result, Some, [], drop, false, find, if◌then◌else◌, length}
+use Rattle.std.specs.Prelude.{map, min, nat_le, nat_lt, option_map, replicate, slice_get, suc, take, true, zero, ℕ}
+use Rattle.std.specs.Prelude.{◌&&◌, ◌*◌, ◌+◌, ◌<◌, ◌==◌, ◌∷◌, ◌≡◌, ◌≤◌}
 use Rattle.std.specs.Int.{div_ceil}
 use Rattle.std.specs.List.{list_any}
-use Rattle.ufs_spec.specs.Plain.{greatest_command}
+use Rattle.ufs_spec.specs.Plain.{greatest_command, region_of, regions, zero_block}
 use Rattle.ufs_spec.specs.Disk.{Flight, job_of}
 use Rattle.ufs_spec.specs.Exchanges as exchange
-use Rattle.ufs_spec.specs.Exchanges.{Answering, Awaiting, Deed, ForFrames, ForUnmap, ForWrite, Gathering, Purpose}
-use Rattle.ufs_spec.specs.Exchanges.{ReadBlock}
-use Rattle.ufs_spec.specs.Exchanges.{NotRead, ReadingArea, RpmbRequest, Sending, SendingBytes, Short, Unread, WasRead}
-use Rattle.ufs_spec.specs.Exchanges.{is_unfilled, task_of}
+use Rattle.ufs_spec.specs.Exchanges.{Answering, Awaiting, Deed, Gathering, ReadBlock, ReadingArea, RpmbRequest, Sending}
+use Rattle.ufs_spec.specs.Exchanges.{SendingBytes, Short, is_unfilled, most_tasks, task_of}
+use Rattle.ufs_spec.specs.declared.exchanges.Purpose.{Purpose}
+use Rattle.ufs_spec.specs.declared.exchanges.Purpose.TheVariants.{ForFrames, ForUnmap, ForWrite}
+use Rattle.ufs_spec.specs.declared.exchanges.ReadState.{ReadState}
+use Rattle.ufs_spec.specs.declared.exchanges.ReadState.TheVariants.{NotRead, Unread, WasRead}
 use Rattle.ufs_spec.specs.FrameRequests.{reads_area}
 use Rattle.ufs_spec.specs.Frames.{Frame, frame_in}
-use Rattle.ufs_spec.specs.Keys.{data_key}
 use Rattle.ufs_spec.specs.Ledger.{before_accepted}
 use Rattle.ufs_spec.specs.Machine.{Allowed, Answer, Call, Heard, Host, IsHeard, OfHost, OfReply, OfTake, Reply, Take}
 use Rattle.ufs_spec.specs.Machine.{durable, is_to_fill, observe}
 use Rattle.ufs_spec.specs.Messages.{spelling}
 use Rattle.ufs_spec.specs.Moves.{is_pin_of}
-use Rattle.ufs_spec.specs.Plain.{region_of, regions, zero_block}
 use Rattle.ufs_spec.specs.Refusals.{State, locked, numbers_of, plain_now, sends_frames, sends_frames_to}
-use Rattle.ufs_spec.specs.Exchanges.{most_tasks}
 use Rattle.ufs_spec.specs.Translation.{Pin}
 use Rattle.ufs_spec.specs.declared.configs.Numbers.{Numbers}
 use Rattle.ufs_spec.specs.declared.faults.HostFault.{HostFault}
 use Rattle.ufs_spec.specs.declared.flash.Job.{Job}
 use Rattle.ufs_spec.specs.declared.messages.Message.{Message}
+use Rattle.ufs_spec.specs.declared.scsi.Cdb.{Cdb}
 use Rattle.power_loss.specs.AreaReads.{AreaReads}
 use Rattle.power_loss.specs.Exchange.{IsTied}
 use Rattle.power_loss.specs.Shown.{ShowsReads}
@@ -43,46 +41,30 @@ use Rattle.task_set.specs.declared.tasks.Phase.{Phase}
 use Rattle.task_set.specs.declared.tasks.Phase.TheVariants as phase
 use Rattle.task_set.specs.declared.tasks.Sending.{Sending as Sends}
 use Rattle.task_set.specs.declared.tasks.Short as kept
-use Rattle.task_set.specs.declared.tasks.Status.{Status}
-use Rattle.task_set.specs.declared.tasks.Status.TheVariants as status
-use Rattle.task_set.specs.declared.tasks.Transfer.{Transfer}
+use Rattle.ufs_spec.specs.declared.exchanges.Status.{Status}
+use Rattle.ufs_spec.specs.declared.exchanges.Status.TheVariants as status
 use Rattle.rpmb.specs.Kept.{IsKept, machine_at}
 use Rattle.task_set.specs.Kept.{OpenTask}
 use Rattle.task_set.specs.declared.frames.Frames.{Frames}
 use Rattle.task_set.specs.declared.frames.Frames.TheVariants.{Answered, Decided, NotBrought, Undecided}
-use Rattle.device.specs.Calls.{frame_slots}
-use Rattle.device.specs.Frames.{part_held, part_of_page}
+use Rattle.device.specs.Frames.{frames_for, part_held, part_of_page}
 use Rattle.device.specs.Kept.{DeviceCore}
-use Rattle.device.specs.Lists.{IsOfList, list_slots}
-use Rattle.task_set.specs.Tasks.{is_sender, read_error, status_kept}
+use Rattle.device.specs.Lists.{IsOfList, frame_slots, list_slots}
+use Rattle.task_set.specs.Tasks.{is_sender, read_error}
 use Rattle.task_set.specs.Shorts.{reply_locked}
 use Rattle.device.specs.Replies.{short_message, short_said}
 use Rattle.task_set.specs.declared.tasks.Wanted.{Wanted}
-use Rattle.task_set.specs.declared.tasks.Wanted.TheVariants as wanted
 
 -- Tasks
 
--- a WRITE of these blocks, with FUA or without it
-abbrev pub IsWrite : Transfer → Purpose → Type 0
-IsWrite x (ForWrite unit address blocks forced) =
-    (x.key ≡ data_key unit address) × (blocks ≡ x.blocks) × (forced ≡ x.forced)
-IsWrite x purpose = ⊥
-
--- a WRITE of which so many blocks came, the bytes gathered being theirs; more are to come
-pub record IsGathering (x : Transfer) (total : ℕ) (purpose : Purpose) (gathered : List ℕ) : Type 0 where
-  pub write : IsWrite x purpose
-  pub came : length gathered ≡ 4096 * x.gathered
-  pub more : x.gathered < x.blocks
-  pub total_is : total ≡ 4096 * x.blocks
-
 -- the block of a READ is still to be read
-abbrev pub is_unread : exchange.ReadState → Bool
+abbrev pub is_unread : ReadState → Bool
 is_unread Unread = true
 is_unread WasRead = false
 is_unread NotRead = false
 
 -- the block of a READ could not be read, which ends the READ
-abbrev pub is_lost : exchange.ReadState → Bool
+abbrev pub is_lost : ReadState → Bool
 is_lost Unread = false
 is_lost WasRead = false
 is_lost NotRead = true
@@ -109,37 +91,26 @@ pub record IsLost (blocks : List ReadBlock) (sent : ℕ) (told : Status) (size :
   pub few : length blocks ≤ greatest_command
   pub behind : (i : ℕ) (other : ReadBlock) → sent < i → slice_get blocks i ≡ Some other → other.state ≡ Unread
 
--- frames for an RPMB region
-abbrev pub IsForFrames : Purpose → Type 0
-IsForFrames (ForFrames region) = Unit {0}
-IsForFrames purpose = ⊥
+-- data of so many bytes, of which so many came: whole blocks of a WRITE; nothing yet of frames or of a list, which come
+-- in one message
+abbrev pub ComesSo : Purpose → (came size : ℕ) → Type 0
+ComesSo (ForWrite unit address blocks forced) came size =
+    (n : ℕ) × (came ≡ 4096 * n) × (n < blocks) × (size ≡ 4096 * blocks)
+ComesSo (ForUnmap unit) came size = (came ≡ 0) × IsOfList size
+ComesSo (ForFrames region) came size = (came ≡ 0) × (1 ≤ size) × (size ≤ 4096)
 
--- a SECURITY PROTOCOL OUT of so many bytes, all of which are to come in one message
-pub record IsGatheringFrames (size total : ℕ) (purpose : Purpose) (gathered : List ℕ) : Type 0 where
-  pub for_frames : IsForFrames purpose
-  pub none_came : gathered ≡ []
-  pub total_is : total ≡ size
-  pub some : 1 ≤ size
-  pub few : size ≤ 4096
-
--- an UNMAP of this unit with a list of so many bytes, all of which are to come in one message
-pub record IsGatheringList (unit size total : ℕ) (purpose : Purpose) (gathered : List ℕ) : Type 0 where
-  pub for_list : purpose ≡ ForUnmap unit
-  pub none_came : gathered ≡ []
-  pub total_is : total ≡ size
-  pub of_list : IsOfList size
+-- what was gathered is for what was asked for, and more is to come
+pub record IsGathered (w : Wanted) (total : ℕ) (purpose : Purpose) (gathered : List ℕ) : Type 0 where
+  pub same : w.purpose ≡ purpose
+  pub came : length gathered ≡ w.came
+  pub total_is : total ≡ w.length
+  pub so : ComesSo purpose w.came w.length
 
 -- the pages of the area are read that the request asks for, of a command of so many bytes: as many, and how each read
 -- ended
 pub record IsReadingArea (r : AreaReading) (total : ℕ) (pages : List ReadBlock) : Type 0 where
   pub total_is : total ≡ r.length
   pub reads : map (λ (page : ReadBlock). page.state) pages ≡ pages_read r
-
--- what was gathered is for what was asked for
-abbrev pub IsGathered : Wanted → ℕ → Purpose → List ℕ → Type 0
-IsGathered (wanted.Block x) total purpose gathered = IsGathering x total purpose gathered
-IsGathered (wanted.Frames size) total purpose gathered = IsGatheringFrames size total purpose gathered
-IsGathered (wanted.List unit size) total purpose gathered = IsGatheringList unit size total purpose gathered
 
 -- what a phase of the device is to the specified one; a group's number counts from those before the accepted commands
 abbrev pub IsDoing : (before expected total : ℕ) → Phase → Deed → Type 0
@@ -154,12 +125,12 @@ IsDoing before expected total (phase.AwaitFrontier number size) (Awaiting comman
 IsDoing before expected total (phase.SendBlocks x) (Sending blocks sent) = IsSending x expected total blocks sent
 IsDoing before expected total (phase.ReadArea r) (ReadingArea pages) = IsReadingArea r total pages
 IsDoing before expected total (phase.Answer told size) (Answering s carried) =
-    (s ≡ status_kept told) × (carried ≡ size)
+    (s ≡ told) × (carried ≡ size)
 IsDoing before expected total (phase.Answer told size) (Sending blocks sent) = IsLost blocks sent told size
 IsDoing before expected total kept deed = ⊥
 
 -- what a die read of a block: its body once it was read; none before that, or where the read failed
-abbrev pub read_by : List ℕ → exchange.ReadState → Option (List ℕ)
+abbrev pub read_by : List ℕ → ReadState → Option (List ℕ)
 read_by body Unread = None
 read_by body WasRead = Some body
 read_by body NotRead = None
@@ -238,16 +209,10 @@ HasRequest Undecided = ⊥
 HasRequest (Decided code) = Unit {0}
 HasRequest Answered = Unit {0}
 
--- what a task that awaits this has to do with frames: none of its own were decided
-abbrev pub frames_awaited : Wanted → Frames
-frames_awaited (wanted.Block x) = NotBrought
-frames_awaited (wanted.Frames size) = Undecided
-frames_awaited (wanted.List unit size) = NotBrought
-
 -- what a task in this phase may have to do with frames: one that gathers or sends has no request yet
 abbrev pub FramesFit : Phase → Frames → Option (List ℕ) → Deed → Type 0
-FramesFit (phase.Ask w) f held deed = f ≡ frames_awaited w
-FramesFit (phase.Await w) f held deed = f ≡ frames_awaited w
+FramesFit (phase.Ask w) f held deed = f ≡ frames_for w.purpose
+FramesFit (phase.Await w) f held deed = f ≡ frames_for w.purpose
 FramesFit (phase.SendBlocks x) f held deed = f ≡ NotBrought
 FramesFit (phase.SendHeld size) f held deed = (f ≡ NotBrought) × IsSentFrom size held deed
 FramesFit (phase.ReadArea r) f held deed = HasRequest f × PartsStand r held deed
@@ -267,15 +232,19 @@ gathers_for deed = None
 abbrev pub asks_of : Option RpmbRequest → Option ℕ
 asks_of request = option_map (λ (asked : RpmbRequest). asked.region) request
 
+-- a command brings frames if so, and then for this region, which is one of the RPMB
+pub record BringsFor (region : ℕ) (brings : Bool) (command : Option Cdb) : Type 0 where
+  pub sends : sends_frames command ≡ brings
+  pub in_regions : sends_frames command ≡ true → region < regions
+  pub sends_to : (other : ℕ) → sends_frames_to other command ≡ (brings && (region == other))
+
 -- the kept task is the specified one: its unit, its tag, the bytes that its host expects, how far it is, and the block
 -- that a die read for it; `before` is the number of the last group before the accepted commands
 pub record TaskKept (before : ℕ) (a : OpenTask) (b : exchange.Task) : Type 0 where
   pub lun : b.lun ≡ a.lun
   pub tag : b.tag ≡ a.tag
   pub expected : b.expected ≡ a.expected
-  pub sends : sends_frames b.command ≡ is_sender a
-  pub in_regions : sends_frames b.command ≡ true → a.region < regions
-  pub sends_to : (other : ℕ) → sends_frames_to other b.command ≡ (is_sender a && (a.region == other))
+  pub brings : BringsFor a.region (is_sender a) b.command
   pub gathers : IsFor a.region (gathers_for b.deed)
   pub asked_of : IsFor a.region (asks_of b.request)
   pub request : AreFramesKept a.frames a.held b.request

@@ -1,21 +1,20 @@
 -- Frames of the RPMB: what is decided of those that a SECURITY PROTOCOL OUT brought, what a request leaves in the
 -- registers, and what a SECURITY PROTOCOL IN takes from them (JESD220, 12.4).
-use Rattle.std.specs.Prelude.{◌≡◌, ◌≢◌, ℕ, ◌+◌, ◌-◌, ◌*◌, ◌<◌, ◌≤◌, ◌&&◌, min, nat_le, Bool, true, false, ◌||◌, not}
-use Rattle.std.specs.Prelude.{if◌then◌else◌, List, [], ◌∷◌, ◌++◌, find, option_map}
+use Rattle.std.specs.Prelude.{Bool, List, None, Ok, Option, Result, Some, [], drop, false, find, fold, if◌then◌else◌}
+use Rattle.std.specs.Prelude.{length, map, min, nat_le, not, option_map, position, replicate, slice_get, take, true, ℕ}
+use Rattle.std.specs.Prelude.{◌&&◌, ◌*◌, ◌++◌, ◌+◌, ◌-◌, ◌<◌, ◌||◌, ◌∷◌, ◌≡◌, ◌≢◌, ◌≤◌}
 use Rattle.std.specs.List.{list_any}
-use Rattle.std.specs.Prelude.{drop, fold, length, map, position, replicate, slice_get, take, Option, Some, None}
-use Rattle.std.specs.Prelude.{Result, Ok}
 use Rattle.byteorder.specs.Endian.{big_bytes}
 use Rattle.ufs_spec.specs.Begins.{no_sense}
 use Rattle.ufs_spec.specs.Commands.{Command}
-use Rattle.ufs_spec.specs.Exchanges.{CheckCondition, ReadState}
+use Rattle.ufs_spec.specs.declared.exchanges.Status.TheVariants.{CheckCondition}
 use Rattle.ufs_spec.specs.FrameRequests.{first_page, pages_named, reads_area}
 use Rattle.ufs_spec.specs.Frames.{Frame}
 use Rattle.ufs_spec.specs.Identities.{inquiry_bytes, luns_bytes}
 use Rattle.ufs_spec.specs.Keys.{IsCommand, IsKey, IsPlain, area_key, below, content, group_of}
 use Rattle.ufs_spec.specs.Ledger.{all_contents, next_number}
 use Rattle.ufs_spec.specs.Moves.{Accept, IsAllowedMove, Keep, LetGoAll, Move, Release, is_pin_of, moved, look_now}
-use Rattle.ufs_spec.specs.Plain.{CanApply, Plain, region_of, regions, shape_of_numbers, zero_block}
+use Rattle.ufs_spec.specs.Plain.{CanApply, Plain, greatest_command, region_of, regions, shape_of_numbers, zero_block}
 use Rattle.ufs_spec.specs.Rpmb.{Region, applied, rpmb_outcome}
 use Rattle.ufs_spec.specs.RpmbResponses.{emptied_by, filled_with, with_reads}
 use Rattle.ufs_spec.specs.Replies.{is_at_hand, is_read}
@@ -36,39 +35,55 @@ use Rattle.rpmb.specs.declared.outcomes.Outcome.TheVariants as outcome
 use Rattle.task_set.specs.Kept.{OpenTask}
 use Rattle.task_set.specs.Lists.{task_keeps}
 use Rattle.task_set.specs.Tasks.{is_decided}
-use Rattle.task_set.specs.Frames.{area_part, read_kept}
+use Rattle.task_set.specs.Frames.{area_part}
 use Rattle.task_set.specs.declared.frames.AreaPart.{AreaPart}
 use Rattle.task_set.specs.declared.frames.AreaReading.{AreaReading}
-use Rattle.task_set.specs.declared.frames.PageRead.{PageRead}
-use Rattle.task_set.specs.declared.frames.PageRead.TheVariants as page
 use Rattle.task_set.specs.declared.frames.Frames.{Frames}
 use Rattle.task_set.specs.declared.frames.Frames.TheVariants.{Decided, NotBrought, Undecided}
 use Rattle.task_set.specs.declared.tasks.Phase.{Phase}
 use Rattle.task_set.specs.declared.tasks.Phase.TheVariants as phase
-use Rattle.task_set.specs.declared.tasks.Status.{Status}
-use Rattle.task_set.specs.declared.tasks.Status.TheVariants as status
+use Rattle.ufs_spec.specs.declared.exchanges.Status.{Status}
+use Rattle.ufs_spec.specs.declared.exchanges.Status.TheVariants as status
 use Rattle.task_set.specs.declared.tasks.TaskEvent.{TaskEvent}
 use Rattle.task_set.specs.declared.tasks.TaskEvent.TheVariants as event
-use Rattle.device.specs.Calls.{frame_slots, with_event}
+use Rattle.device.specs.Calls.{with_event}
+use Rattle.device.specs.Lists.{frame_slots}
 use Rattle.device.specs.Kept.{DeviceCore, IsLayerWith}
 use Rattle.device.specs.Replies.{block_for}
 use Rattle.device.specs.declared.plans.Identity.{Identity}
 use Rattle.device.specs.declared.plans.Identity.TheVariants as identity
+use Rattle.device.specs.declared.plans.Source.{Source}
+use Rattle.device.specs.declared.plans.Source.TheVariants as source
+use Rattle.ufs_spec.specs.declared.exchanges.Purpose.{Purpose}
+use Rattle.ufs_spec.specs.declared.exchanges.ReadState.{ReadState}
+use Rattle.ufs_spec.specs.declared.exchanges.ReadState.TheVariants.{NotRead, Unread, WasRead}
+use Rattle.ufs_spec.specs.declared.exchanges.Purpose.TheVariants.{ForFrames, ForUnmap, ForWrite}
 use Rattle.device.specs.declared.plans.Plan.{Plan}
 use Rattle.device.specs.declared.plans.Plan.TheVariants as plan
-use Rattle.ufs_spec.specs.Plain.{greatest_command}
 use Rattle.ufs_spec.specs.Exchanges.{most_tasks}
 
 -- Tasks that begin
 
+-- what a task has to do with frames that gathers data for this purpose: none of its own were decided
+abbrev pub frames_for : Purpose → Frames
+frames_for (ForFrames region) = Undecided
+frames_for (ForWrite unit address blocks forced) = NotBrought
+frames_for (ForUnmap unit) = NotBrought
+
+-- the RPMB region that the data are for; 0 if they are for none
+abbrev pub region_for : Purpose → ℕ
+region_for (ForFrames region) = region
+region_for (ForWrite unit address blocks forced) = 0
+region_for (ForUnmap unit) = 0
+
 -- what a task has to do with frames for which this was planned
 abbrev pub frames_brought : Result Plan Status → Frames
-frames_brought (Ok (plan.AskFrames region size)) = Undecided
+frames_brought (Ok (plan.Gather w slots)) = frames_for w.purpose
 frames_brought planned = NotBrought
 
 -- the RPMB region to which it brings them; 0 if it brings none
 abbrev pub region_brought : Result Plan Status → ℕ
-region_brought (Ok (plan.AskFrames region size)) = region
+region_brought (Ok (plan.Gather w slots)) = region_for w.purpose
 region_brought planned = 0
 
 -- bytes of a block of the pool: these, and zeros behind them
@@ -111,11 +126,14 @@ identity_bytes n (identity.Capacity blocks) = capacity_told blocks
 identity_bytes n (identity.Unit lun) = inquiry_bytes lun
 identity_bytes n (identity.Luns select) = luns_bytes n select
 
--- where that was planned for it, the last task keeps what it sends: what waits, or what it tells
+-- the task at this position keeps what comes from there: what it tells, or what waits
+abbrev pub source_kept : Numbers → DeviceCore → ℕ → Source → DeviceCore
+source_kept n d k (source.Identity told) = with_held d k (with_zeros (identity_bytes n told))
+source_kept n d k (source.Response region) = handed_over d k region
+
+-- where that was planned for it, the last task keeps what it sends
 abbrev pub sent_kept : Numbers → DeviceCore → Result Plan Status → DeviceCore
-sent_kept n d (Ok (plan.TakeFrames region size taken)) = handed_over d (length d.tasks - 1) region
-sent_kept n d (Ok (plan.Tell told size taken)) =
-    with_held d (length d.tasks - 1) (with_zeros (identity_bytes n told))
+sent_kept n d (Ok (plan.Send from size taken)) = source_kept n d (length d.tasks - 1) from
 sent_kept n d planned = d
 
 -- Frames that came
@@ -130,7 +148,7 @@ HasReleased before after tag =
 pub record HasRefused (before after : DeviceCore) (tag index : ℕ) (sense : Sense) : Type 0 where
   pub layer : Core
   pub released : HasReleased before.ftl layer tag
-  pub after_is : after ≡ record (with_event before index (event.FramesRefused sense)) { ftl = layer }
+  pub after_is : after ≡ record (with_event before index (event.DataRefused sense)) { ftl = layer }
 
 -- what a request without a command does: one for data that passed its checks reads its pages, any other is answered
 abbrev pub answer_event : List Frame → ℕ → TaskEvent
@@ -268,12 +286,12 @@ pub record HasDecided (before after : DeviceCore) (tag index : ℕ) (bytes : Lis
 
 -- a page of the area needs no read any more: it was read or could not be read, or what the reader keeps of it is at
 -- hand
-abbrev pub is_page_there : Translation → ℕ → ℕ → PageRead → Bool
+abbrev pub is_page_there : Translation → ℕ → ℕ → ReadState → Bool
 is_page_there t tag index how =
-    is_read (read_kept how) (is_at_hand t.work.rests (find (is_pin_of tag index) t.pins))
+    is_read how (is_at_hand t.work.rests (find (is_pin_of tag index) t.pins))
 
 -- the same of the second page, if there is one
-abbrev pub is_second_there : Translation → ℕ → Option PageRead → Bool
+abbrev pub is_second_there : Translation → ℕ → Option ReadState → Bool
 is_second_there t tag None = true
 is_second_there t tag (Some how) = is_page_there t tag 1 how
 
@@ -318,10 +336,10 @@ part_of_page p body = take p.length (drop p.from body)
 
 -- the part that is asked for of the page of this index: from the block of the task if the page was read, from what the
 -- task keeps if the page is at hand; none if it could not be read
-abbrev pub part_read : Translation → OpenTask → AreaReading → ℕ → PageRead → Option (List ℕ)
-part_read t a r index page.WasRead = option_map (part_held (area_part r index)) a.held
-part_read t a r index page.Unread = option_map (part_of_page (area_part r index)) (block_for t None a.tag index)
-part_read t a r index page.NotRead = None
+abbrev pub part_read : Translation → OpenTask → AreaReading → ℕ → ReadState → Option (List ℕ)
+part_read t a r index WasRead = option_map (part_held (area_part r index)) a.held
+part_read t a r index Unread = option_map (part_of_page (area_part r index)) (block_for t None a.tag index)
+part_read t a r index NotRead = None
 
 -- two parts in one piece, if both are there
 abbrev pub joined : Option (List ℕ) → Option (List ℕ) → Option (List ℕ)
@@ -330,7 +348,7 @@ joined (Some first) None = None
 joined (Some first) (Some later) = Some (first ++ later)
 
 -- the part that is asked for of the second page: nothing if all blocks lie in the first one
-abbrev pub second_part : Translation → OpenTask → AreaReading → Option PageRead → Option (List ℕ)
+abbrev pub second_part : Translation → OpenTask → AreaReading → Option ReadState → Option (List ℕ)
 second_part t a r None = Some []
 second_part t a r (Some how) = part_read t a r 1 how
 

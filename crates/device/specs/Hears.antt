@@ -1,6 +1,5 @@
 -- What a message of the host is answered, and what it makes of what the device keeps.
-use Rattle.std.specs.Prelude.{◌≡◌, ℕ, Bool, List, [], ◌∷◌, ◌++◌}
-use Rattle.std.specs.Prelude.{Option, Some, None, Result, Ok, Err}
+use Rattle.std.specs.Prelude.{Bool, Err, List, None, Ok, Option, Result, Some, [], ℕ, ◌++◌, ◌∷◌, ◌≡◌}
 use Rattle.ufs_spec.specs.Refusals.{Request, State}
 use Rattle.ufs_spec.specs.Translation.{Translation}
 use Rattle.ufs_spec.specs.declared.faults.HostFault.{HostFault}
@@ -10,15 +9,17 @@ use Rattle.task_set.specs.declared.tasks.AskedFor.{AskedFor}
 use Rattle.task_set.specs.declared.tasks.Phase.{Phase}
 use Rattle.device.specs.declared.plans.Plan.{Plan}
 use Rattle.task_set.specs.declared.tasks.Short.{Short}
-use Rattle.task_set.specs.declared.tasks.Status.{Status}
+use Rattle.ufs_spec.specs.declared.exchanges.Status.{Status}
 use Rattle.task_set.specs.Kept.{OpenTask, newly_open}
 use Rattle.task_set.specs.declared.tasks.TaskEvent.{TaskEvent}
 pub use Rattle.device.specs.Calls.{with_event}
 use Rattle.device.specs.Calls.{HasBegun, HasGathered, lock_told}
 use Rattle.device.specs.Frames.{HasDecided, HasFilled, frames_brought, region_brought, sent_kept}
-use Rattle.task_set.specs.declared.tasks.Transfer.{Transfer}
 use Rattle.task_set.specs.declared.tasks.Wanted.{Wanted}
-use Rattle.task_set.specs.declared.tasks.Wanted.TheVariants as wanted
+use Rattle.ufs_spec.specs.Keys.{data_key}
+use Rattle.ufs_spec.specs.declared.exchanges.Purpose.{Purpose}
+use Rattle.ufs_spec.specs.declared.exchanges.Purpose.TheVariants.{ForFrames, ForUnmap, ForWrite}
+use Rattle.ufs_spec.specs.declared.flash.Key.{Key}
 use Rattle.device.specs.Kept.{DeviceCore, IsLayerWith}
 use Rattle.device.specs.Bare.{IsBare}
 use Rattle.device.specs.Plans.{IsPlanned, IsRequest}
@@ -75,25 +76,24 @@ pub record IsTaskOpened (before after : DeviceCore) (flags lun tag expected : �
 abbrev pub asked_for : DeviceCore → ℕ → ℕ → ℕ → ℕ → Option AskedFor
 asked_for d lun tag offset count = asked_among d.tasks lun tag offset count
 
--- so many bytes are what was asked for: a block of 4096, the frames, or the list
-abbrev pub HasLength : Wanted → ℕ → Type 0
-HasLength (wanted.Block x) count = count ≡ 4096
-HasLength (wanted.Frames size) count = count ≡ size
-HasLength (wanted.List unit size) count = count ≡ size
-
--- a block of a WRITE came, with the last its group was accepted or not
-pub record HasBlock (before after : DeviceCore) (tag index : ℕ) (x : Transfer) (bytes : List ℕ) : Type 0 where
-  pub layer : Core
-  pub event : TaskEvent
-  pub taken : (t : Translation) (claims : Claims) → IsLayerWith before.ftl t claims →
-      HasGathered layer t claims tag x bytes event
-  pub after_is : after ≡ record (with_event before index event) { ftl = layer }
+-- a block of a WRITE came, whose first block has this key; with the last its group was accepted or not
+pub record HasBlock (before after : DeviceCore) (tag index : ℕ) (w : Wanted) (key : Key) (bytes : List ℕ) : Type 0
+  where
+    pub layer : Core
+    pub event : TaskEvent
+    pub taken : (t : Translation) (claims : Claims) → IsLayerWith before.ftl t claims →
+        HasGathered layer t claims tag w key bytes event
+    pub after_is : after ≡ record (with_event before index event) { ftl = layer }
 
 -- what was asked for came: a block of a WRITE, all frames of a SECURITY PROTOCOL OUT, or the list of an UNMAP
+abbrev pub HasComeFor : DeviceCore → DeviceCore → ℕ → ℕ → Wanted → List ℕ → Purpose → Type 0
+HasComeFor before after tag index w bytes (ForWrite unit address blocks forced) =
+    HasBlock before after tag index w (data_key unit address) bytes
+HasComeFor before after tag index w bytes (ForUnmap unit) = HasListCome before after tag index unit bytes
+HasComeFor before after tag index w bytes (ForFrames region) = HasDecided before after tag index bytes
+
 abbrev pub HasCome : DeviceCore → DeviceCore → ℕ → ℕ → Wanted → List ℕ → Type 0
-HasCome before after tag index (wanted.Block x) bytes = HasBlock before after tag index x bytes
-HasCome before after tag index (wanted.Frames size) bytes = HasDecided before after tag index bytes
-HasCome before after tag index (wanted.List unit size) bytes = HasListCome before after tag index unit bytes
+HasCome before after tag index w bytes = HasComeFor before after tag index w bytes w.purpose
 
 -- what a task asked for came; then what became due filled its register, and the lock was told
 pub record IsDataTaken (before after : DeviceCore) (tag : ℕ) (asked : AskedFor) (bytes : List ℕ) : Type 0 where

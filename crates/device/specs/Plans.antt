@@ -1,17 +1,16 @@
 -- What a command does, or the status that ends it: the first line of the table that applies decides.
-use Rattle.std.specs.Prelude.{◌≡◌, ℕ, ◌*◌, ◌==◌, ◌||◌, min, Bool, if◌then◌else◌, List, [], ◌∷◌}
-use Rattle.std.specs.Prelude.{Option}
-use Rattle.std.specs.Prelude.{Some, None, Result, Ok, Err}
+use Rattle.std.specs.Prelude.{Bool, Err, List, None, Ok, Option, Result, Some, [], if◌then◌else◌, min, ℕ, ◌*◌, ◌==◌}
+use Rattle.std.specs.Prelude.{◌||◌, ◌∷◌, ◌≡◌}
 use Rattle.std.specs.Int.{div_ceil}
 use Rattle.ufs_spec.specs.CdbFields.{spelled_cdb}
 use Rattle.ufs_spec.specs.Cdbs.{length_of}
 use Rattle.ufs_spec.specs.Begins.{unit_or_first}
-use Rattle.ufs_spec.specs.Exchanges.{Busy, invalid_field, not_ready, sequence_error, write_protected}
+use Rattle.ufs_spec.specs.Exchanges.{invalid_field, not_ready, sequence_error, write_protected}
+use Rattle.ufs_spec.specs.declared.exchanges.Status.TheVariants.{Busy}
 use Rattle.ufs_spec.specs.Keys.{data_key}
 use Rattle.ufs_spec.specs.Machine.{IsCdbIn}
-use Rattle.ufs_spec.specs.Refusals.{Line, Request, State, has_other_response, is_crowded, is_refused_write}
-use Rattle.ufs_spec.specs.Refusals.{is_unready, lacks_response, line, numbers_of, refusal}
-use Rattle.ufs_spec.specs.Refusals.{units_listed}
+use Rattle.ufs_spec.specs.Refusals.{Line, Request, State, has_other_response, is_crowded, is_refused_write, is_unready}
+use Rattle.ufs_spec.specs.Refusals.{lacks_response, line, numbers_of, refusal, units_listed}
 use Rattle.ufs_spec.specs.declared.configs.Numbers.{Numbers}
 use Rattle.ufs_spec.specs.declared.configs.UnitSpec.{UnitSpec}
 use Rattle.ufs_spec.specs.declared.operations.Told.{Told}
@@ -22,8 +21,12 @@ use Rattle.device.specs.declared.plans.Identity.{Identity}
 use Rattle.device.specs.declared.plans.Identity.TheVariants as identity
 use Rattle.device.specs.declared.plans.Plan.{Plan}
 use Rattle.device.specs.declared.plans.Plan.TheVariants as plan
-use Rattle.task_set.specs.declared.tasks.Status.{Status}
-use Rattle.task_set.specs.Tasks.{status_kept}
+use Rattle.ufs_spec.specs.declared.exchanges.Purpose.{Purpose}
+use Rattle.ufs_spec.specs.declared.exchanges.Status.{Status}
+use Rattle.ufs_spec.specs.declared.exchanges.Purpose.TheVariants.{ForFrames, ForUnmap, ForWrite}
+use Rattle.device.specs.declared.plans.Source.{Source}
+use Rattle.device.specs.declared.plans.Source.TheVariants as source
+use Rattle.device.specs.Lists.{frame_slots, list_slots}
 use Rattle.device.specs.Targets.{IsNamed, blocks_in, target_of}
 use Rattle.device.specs.declared.targets.Target.{Target}
 
@@ -55,14 +58,11 @@ read_plan lun expected address blocks =
     if (blocks == 0) || (expected == 0) then plan.Nothing (4096 * blocks)
     else plan.Read (data_key lun address) (div_ceil (min expected (4096 * blocks)) 4096) (4096 * blocks)
 
--- a WRITE of no blocks is done at once; any other asks for its blocks, however many bytes the host expects
-abbrev pub write_plan : ℕ → ℕ → ℕ → Bool → Plan
-write_plan lun address blocks forced =
-    if blocks == 0 then plan.Nothing 0 else plan.Write (data_key lun address) blocks forced
-
--- an UNMAP without a list is done at once; any other asks for its list
-abbrev pub list_plan : ℕ → ℕ → Plan
-list_plan unit list = if list == 0 then plan.Nothing 0 else plan.AskList unit list
+-- a command that brings no data is done at once; any other claims its slots and asks for all of them
+abbrev pub gather_plan : Purpose → ℕ → ℕ → Plan
+gather_plan purpose size slots =
+    if size == 0 then plan.Nothing 0
+    else plan.Gather (record { purpose = purpose; length = size; came = 0 }) slots
 
 -- how many bytes of data a command has on a device with this configuration
 abbrev pub length_on : Numbers → Cdb → ℕ
@@ -75,9 +75,9 @@ identity_of to told.Identity select = identity.Unit to.lun
 identity_of to told.Capacity select = identity.Capacity (blocks_in to.spec)
 identity_of to told.Units select = identity.Luns select
 
--- what a command does that tells this in so many bytes
-abbrev pub tell_plan : ℕ → Identity → ℕ → Plan
-tell_plan expected told size = plan.Tell told size (min expected size)
+-- what a command does that sends so many bytes from there
+abbrev pub send_plan : ℕ → Source → ℕ → Plan
+send_plan expected from size = plan.Send from size (min expected size)
 
 -- a flush with IMMED is answered at once
 abbrev pub flush_plan : Bool → Plan
@@ -88,14 +88,14 @@ flush_plan immediate = if immediate then plan.Nothing 0 else plan.Flush
 abbrev pub plan_of : Numbers → Target → ℕ → Cdb → Plan
 plan_of n to expected cdb.Nothing = plan.Nothing 0
 plan_of n to expected (cdb.Tell what select allocation) =
-    tell_plan expected (identity_of to what select) (length_on n (cdb.Tell what select allocation))
+    send_plan expected (source.Identity (identity_of to what select)) (length_on n (cdb.Tell what select allocation))
 plan_of n to expected (cdb.Read address blocks) = read_plan (unit_or_first to.unit) expected address blocks
 plan_of n to expected (cdb.Write address blocks forced) =
-    write_plan (unit_or_first to.unit) address blocks forced
+    gather_plan (ForWrite (unit_or_first to.unit) address blocks forced) (4096 * blocks) blocks
 plan_of n to expected (cdb.Flush immediate) = flush_plan immediate
-plan_of n to expected (cdb.Unmap list) = list_plan (unit_or_first to.unit) list
-plan_of n to expected (cdb.SecurityOut region size) = plan.AskFrames region size
-plan_of n to expected (cdb.SecurityIn region size) = plan.TakeFrames region size (min expected size)
+plan_of n to expected (cdb.Unmap list) = gather_plan (ForUnmap (unit_or_first to.unit)) list (list_slots n list)
+plan_of n to expected (cdb.SecurityOut region size) = gather_plan (ForFrames region) size frame_slots
+plan_of n to expected (cdb.SecurityIn region size) = send_plan expected (source.Response region) size
 
 -- a request that no line of the table refuses, and what it does
 pub record Passes (s : State) (r : Request) (todo : Plan) : Type 0 where
@@ -108,5 +108,5 @@ pub record Passes (s : State) (r : Request) (todo : Plan) : Type 0 where
 
 -- the plan of a request, or the status that ends it
 abbrev pub IsPlanned : State → Request → Result Plan Status → Type 0
-IsPlanned s r (Err told) = refusal s r ≡ Some (status_kept told)
+IsPlanned s r (Err told) = refusal s r ≡ Some told
 IsPlanned s r (Ok todo) = Passes s r todo

@@ -2,7 +2,6 @@
 use Rattle.std.specs.Prelude.{◌≡◌, ℕ, ◌+◌, ◌-◌, ◌*◌, ◌≤◌, min, nat_le, nat_lt, Bool, true, false, if◌then◌else◌}
 use Rattle.std.specs.Prelude.{find, length, ⊤, List, remove, slice_get, take, Option, Some, None, option_map}
 use Rattle.std.specs.List.{list_any}
-use Rattle.ufs_spec.specs.Exchanges as exchange
 use Rattle.ufs_spec.specs.Exchanges.{response}
 use Rattle.ufs_spec.specs.Ledger.{Entry, Ledger, before_accepted, entry_of}
 use Rattle.ufs_spec.specs.Messages.{spelling}
@@ -24,8 +23,8 @@ use Rattle.task_set.specs.declared.tasks.Sending.{Sending}
 use Rattle.task_set.specs.declared.tasks.Short.{Short}
 use Rattle.task_set.specs.declared.tasks.ShortReply.{ShortReply}
 use Rattle.task_set.specs.declared.tasks.ShortReply.TheVariants as reply
-use Rattle.task_set.specs.declared.tasks.Status.{Status}
-use Rattle.task_set.specs.declared.tasks.Status.TheVariants as status
+use Rattle.ufs_spec.specs.declared.exchanges.Status.{Status}
+use Rattle.ufs_spec.specs.declared.exchanges.Status.TheVariants as status
 use Rattle.task_set.specs.declared.tasks.Task.{Task}
 use Rattle.task_set.specs.declared.tasks.TaskEvent.TheVariants as event
 use Rattle.task_set.specs.Kept.{OpenTask, task_in}
@@ -34,9 +33,8 @@ use Rattle.task_set.specs.declared.frames.Frames.{Frames}
 use Rattle.task_set.specs.declared.frames.Frames.TheVariants.{Answered, Decided, NotBrought, Undecided}
 use Rattle.device.specs.Calls.{with_event}
 use Rattle.device.specs.Kept.{DeviceCore, IsLayerWith}
-use Rattle.task_set.specs.Tasks.{status_kept}
 use Rattle.task_set.specs.declared.tasks.Wanted.{Wanted}
-use Rattle.task_set.specs.Tasks.{wanted_count, wanted_offset}
+use Rattle.task_set.specs.Tasks.{wanted_count}
 
 -- Blocks
 
@@ -61,7 +59,7 @@ block_for t read tag index = block_of t.work.rests t.ledger read (find (is_pin_o
 
 -- the RESPONSE that ends a task with this status; `length` is how many bytes there were to carry, for the residual
 abbrev pub answer_of : Task → Status → ℕ → Message
-answer_of t s length = response t.lun t.tag t.expected length (status_kept s)
+answer_of t s length = response t.lun t.tag t.expected length s
 
 -- how many of these bytes one DATA IN carries: at least 1 and at most 4096
 abbrev pub count_in : ℕ → ℕ
@@ -87,7 +85,7 @@ frames_message t size held =
 
 -- the READY TO TRANSFER for what a task asks for
 abbrev pub ready_message : Task → Wanted → Message
-ready_message t w = message.ReadyToTransfer t.lun t.tag (wanted_offset w) (wanted_count w)
+ready_message t w = message.ReadyToTransfer t.lun t.tag w.came (wanted_count w)
 
 -- whether a request has filled its register
 abbrev pub has_filled : Frames → Bool
@@ -173,7 +171,7 @@ query_answer n tag q value =
 
 -- what a reply of one says with its tag, on a device with this configuration
 abbrev pub short_said : Numbers → ℕ → ShortReply → Message
-short_said n tag (reply.TaskSetFull lun expected) = response lun tag expected 0 exchange.TaskSetFull
+short_said n tag (reply.TaskSetFull lun expected) = response lun tag expected 0 status.TaskSetFull
 short_said n tag reply.NopIn = message.NopIn tag
 short_said n tag (reply.Managed lun service) = message.TaskResponse lun tag service
 short_said n tag (reply.QueryFailed query code) = query_failed tag (query_with query 0) code

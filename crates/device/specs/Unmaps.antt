@@ -14,21 +14,13 @@ use Rattle.scsi_cdb.specs.Lists.{list_read}
 use Rattle.scsi_cdb.specs.declared.unmap_list.UnmapList.{UnmapList}
 use Rattle.scsi_cdb.specs.declared.unmap_list.UnmapList.TheVariants as said
 use Rattle.task_set.specs.Tasks.{write_error}
-use Rattle.task_set.specs.declared.tasks.Phase.{Phase}
-use Rattle.task_set.specs.declared.tasks.Phase.TheVariants as phase
 use Rattle.task_set.specs.declared.tasks.TaskEvent.{TaskEvent}
 use Rattle.task_set.specs.declared.tasks.TaskEvent.TheVariants as event
-use Rattle.device.specs.Calls.{HasClaimedFor, with_event}
+use Rattle.device.specs.Calls.{with_event}
 use Rattle.device.specs.Kept.{DeviceCore, IsLayerWith}
-use Rattle.device.specs.Lists.{IsOfList, list_slots}
+use Rattle.device.specs.Lists.{IsOfList}
 use Rattle.device.specs.declared.unmap.Unmapping.{Unmapping}
 use Rattle.device.specs.declared.unmap.Unmapping.TheVariants as does
-use Rattle.task_set.specs.declared.tasks.Wanted.TheVariants as wanted
-
--- how far an UNMAP is that begins, and the layer then: it claims its slots
-abbrev pub HasClaimedList : Core → Translation → Claims → ℕ → ℕ → ℕ → Phase → Type 0
-HasClaimedList after t claims tag unit size p =
-    HasClaimedFor after t claims tag (list_slots t.numbers size) (phase.Ask (wanted.List unit size)) p
 
 -- What an UNMAP does with its list
 
@@ -91,10 +83,10 @@ HasPutZeros after t claims tag key count =
 
 -- what its task is told of this, and the layer then
 abbrev pub HasUnmapped : Core → Translation → Claims → ℕ → Unmapping → TaskEvent → Type 0
-HasUnmapped after t claims tag (does.Refused why) e = (e ≡ event.ListRefused why) × HasGivenBack after t claims tag
-HasUnmapped after t claims tag does.Nothing e = (e ≡ event.ListTaken) × HasGivenBack after t claims tag
+HasUnmapped after t claims tag (does.Refused why) e = (e ≡ event.DataRefused why) × HasGivenBack after t claims tag
+HasUnmapped after t claims tag does.Nothing e = (e ≡ event.DataTaken) × HasGivenBack after t claims tag
 HasUnmapped after t claims tag (does.Blocks key count) e =
-    (e ≡ event.ListTaken) × HasPutZeros after t claims tag key count
+    (e ≡ event.DataTaken) × HasPutZeros after t claims tag key count
 
 -- the list of an UNMAP came
 pub record HasListCome (before after : DeviceCore) (tag index unit : ℕ) (list : List ℕ) : Type 0 where

@@ -4,8 +4,8 @@ use Rattle.std.specs.Prelude.{slice_index_or, slice_set, take, Option, Some, Non
 use Rattle.ufs_spec.specs.Cells.{Array}
 use Rattle.ufs_spec.specs.Dies.{DieState, new_die, power_cycle_ended, ready_page, with_bad, with_block, with_page}
 use Rattle.ufs_spec.specs.Disk.{BlockState, Erasing, Filling, Flight, Free, Reading, Ready, Spot, Vacancy, job_of}
-use Rattle.ufs_spec.specs.Lives.{AreLeftovers, Fit, GoesOn, Headline, IsLawfulLeftover, IsLeftoverOf, IsOpened, Lived}
-use Rattle.ufs_spec.specs.Lives.{Lives, Runs, Stops, array_of, bad_of, die_of}
+use Rattle.ufs_spec.specs.Lives.{AreLeftovers, Fit, GoesOn, Headline, IsLawfulLeftover, IsLeftoverOf, IsOpened, Runs}
+use Rattle.ufs_spec.specs.Lives.{Stops, array_of, bad_of, die_of}
 use Rattle.ufs_spec.specs.Sound.{Sound}
 use Rattle.ufs_spec.specs.Translation.{is_bad}
 use Rattle.ufs_spec.specs.Refusals.{State, numbers_of}
@@ -206,10 +206,7 @@ pub record IsPlayed (n : Numbers) (dies : List DieState) (events : List Event) (
 pub record KeepsThePromise (n : Numbers) (dies : List DieState) (events : List Event) (trace : List Output) :
     Type 0 where
   pub headline : Headline n dies events trace
-  pub first : Lived
-  pub later : List Lived
-  pub lives : Lives n (array_of dies) (bad_of dies) first later events trace
-  pub right : LivesRight n (array_of dies) (bad_of dies) first later
+  pub right : LivesRight n (array_of dies) (bad_of dies) headline.first headline.later
 
 -- the event at this position, counted from 0, was refused, or memory for what it showed was; the trace is that of the
 -- events before it, and keeps the promise

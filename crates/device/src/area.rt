@@ -23,8 +23,8 @@ use crate::device::Device;
 use crate::replies::zeros;
 use arrayvec::ArrayVec;
 use rpmb::AreaBlocks;
-use task_set::{AreaReading, PageRead, Phase, Task, TaskEvent};
-use ufs_spec::{Block, Key, Looked, Tag};
+use task_set::{AreaReading, Phase, Task, TaskEvent};
+use ufs_spec::{Block, Key, Looked, ReadState, Tag};
 
 /// How many blocks of the area a page has.
 pub(crate) const PAGE_BLOCKS: u16 = 16;
@@ -103,7 +103,7 @@ impl Device {
     }
 
     /// The same of the second page, if there is one.
-    fn is_second_there(&self, tag: u8, second: Option<PageRead>) -> bool
+    fn is_second_there(&self, tag: u8, second: Option<ReadState>) -> bool
         ensures { (t : Translation) → IsLayer self.now.ftl t →
             result ≡ is_second_there t tag second }
     {
@@ -114,14 +114,14 @@ impl Device {
     }
 
     /// The same of the page of this index.
-    fn is_page_there(&self, tag: u8, index: u16, how: PageRead) -> bool
+    fn is_page_there(&self, tag: u8, index: u16, how: ReadState) -> bool
         ensures { (t : Translation) → IsLayer self.now.ftl t →
             result ≡ is_page_there t tag index how }
     {
         match how {
-            PageRead::Unread => self.is_at_hand(tag, index),
-            PageRead::WasRead => true,
-            PageRead::NotRead => true,
+            ReadState::Unread => self.is_at_hand(tag, index),
+            ReadState::WasRead => true,
+            ReadState::NotRead => true,
         }
     }
 
@@ -211,7 +211,7 @@ impl Device {
         tag: u8,
         reading: AreaReading,
         page: u16,
-        how: PageRead,
+        how: ReadState,
     ) -> Option<&[u8]>
         requires { index < length self.now.tasks }
         ensures read { (t : Translation) (kept : OpenTask) → IsLayer self.now.ftl t →
@@ -221,15 +221,15 @@ impl Device {
     {
         let part = reading.part(page);
         match how {
-            PageRead::WasRead => {
+            ReadState::WasRead => {
                 let held = self.set.held(index)?;
                 Some(&held[part.at..part.at + part.length])
             }
-            PageRead::Unread => {
+            ReadState::Unread => {
                 let block = self.at_hand(tag, page)?;
                 Some(&block[part.from..part.from + part.length])
             }
-            PageRead::NotRead => None,
+            ReadState::NotRead => None,
         }
     }
 }

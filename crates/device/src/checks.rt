@@ -20,18 +20,17 @@ ghost use Rattle.ufs_spec.specs.declared.scsi.Cdb.TheVariants.{Tell};
 ghost use Rattle.ftl_core.specs.Public.{Describes as IsLayer};
 ghost use Rattle.device.specs.Bare.{IsBare};
 ghost use Rattle.device.specs.Plans.{IsPlanned, IsRequest, identity_of, lines_now};
-ghost use Rattle.device.specs.Plans.{flush_plan, list_plan, plan_of, read_plan, tell_plan, write_plan};
-ghost use Rattle.task_set.specs.Tasks.{status_kept};
+ghost use Rattle.device.specs.Plans.{flush_plan, gather_plan, plan_of, read_plan, send_plan};
 
 use crate::device::Device;
-use crate::plans::{Identity, Plan};
-use crate::targets::Target;
+use crate::plans::{Identity, Plan, Source};
+use crate::targets::{Target, key_of};
 use crate::unmap::{LIST_HEADER, LIST_OF_ONE, list_slots};
 use geometry::command_blocks;
 use lun_route::units_listed;
 use scsi_cdb::{address_of, blocks_of, length_of, row_of, spelled};
-use task_set::{BLOCK_BYTES, Status};
-use ufs_spec::{Cdb, Key, Numbers, Row, Sense, Tag, Told, UnitSpec};
+use task_set::{BLOCK_BYTES, Wanted};
+use ufs_spec::{Cdb, Key, Numbers, Purpose, Row, Sense, Status, Told, UnitSpec};
 
 /// The flags of a COMMAND whose data go to the device, and of one whose data come from it (JESD220,
 /// 10.7.1).
@@ -55,7 +54,7 @@ const PERMANENT: u8 = 2;
 const ADDRESSES: u64 = 1 << 32;
 
 /// How many slots a SECURITY PROTOCOL OUT claims: for two pages of the area and the settings.
-pub(crate) const FRAME_SLOTS: u16 = 3;
+const FRAME_SLOTS: u16 = 3;
 
 /// How many units a REPORT LUNS lists; no other command lists any.
 fn listed_by(numbers: &Numbers, cdb: &Cdb) -> u8
@@ -204,30 +203,38 @@ fn plan_of(numbers: &Numbers, cdb: &Cdb, target: Target, expected: u32) -> Plan
     requires { blocks_of cdb.now ≤ greatest_command }
     ensures { address_of cdb.now < 2 ^ 32 → result ≡ plan_of numbers.now target expected cdb.now }
 {
-    let key = Key {
-        kind: Tag::DATA,
-        unit: target.unit_of_blocks(),
-        address: (address_of(cdb) % ADDRESSES) as u32,
-    };
+    let key = key_of(
+        target.unit_of_blocks(),
+        (address_of(cdb) % ADDRESSES) as u32,
+    );
     let length = length_of(listed_by(numbers, cdb), cdb);
     match cdb {
         Cdb::Nothing => Plan::Nothing { length },
         Cdb::Tell { told, select, .. } => {
-            tell_plan(identity_of(target, *told, *select), length, expected)
+            let told = identity_of(target, *told, *select);
+            send_plan(Source::Identity { told }, length, expected)
         }
         Cdb::Read { .. } => read_plan(key, length, expected),
-        Cdb::Write { blocks, forced, .. } => write_plan(key, *blocks, *forced),
         Cdb::Flush { immediate } => flush_plan(*immediate),
-        Cdb::Unmap { list } => list_plan(key.unit, *list),
-        Cdb::SecurityOut { region, length } => Plan::AskFrames {
-            region: *region,
-            length: *length,
-        },
-        Cdb::SecurityIn { region, length } => Plan::TakeFrames {
-            region: *region,
-            length: *length,
-            taken: expected.min(*length),
-        },
+        Cdb::Write { blocks, forced, .. } => {
+            let purpose = Purpose::ForWrite {
+                unit: key.unit,
+                address: key.address,
+                blocks: *blocks as u16,
+                forced: *forced,
+            };
+            gather_plan(purpose, length, *blocks as u16)
+        }
+        Cdb::Unmap { list } => {
+            let slots = list_slots(command_blocks(numbers), *list);
+            gather_plan(Purpose::ForUnmap { unit: key.unit }, *list, slots)
+        }
+        Cdb::SecurityOut { region, length } => {
+            gather_plan(Purpose::ForFrames { region: *region }, *length, FRAME_SLOTS)
+        }
+        Cdb::SecurityIn { region, length } => {
+            send_plan(Source::Response { region: *region }, *length, expected)
+        }
     }
 }
 
@@ -245,12 +252,12 @@ fn identity_of(target: Target, told: Told, select: u8) -> Identity
     }
 }
 
-/// What a command does that tells this in so many bytes.
-fn tell_plan(told: Identity, length: u32, expected: u32) -> Plan
-    ensures { result ≡ tell_plan expected told length }
+/// What a command does that sends so many bytes from there.
+fn send_plan(from: Source, length: u32, expected: u32) -> Plan
+    ensures { result ≡ send_plan expected from length }
 {
-    Plan::Tell {
-        told,
+    Plan::Send {
+        from,
         length,
         taken: expected.min(length),
     }
@@ -284,31 +291,20 @@ fn read_plan(key: Key, length: u32, expected: u32) -> Plan
     }
 }
 
-/// What a WRITE of so many blocks does.
-fn write_plan(key: Key, blocks: u32, forced: bool) -> Plan
-    requires { blocks ≤ greatest_command }
-    ensures { key ≡ data_key key.unit key.address → result ≡ write_plan key.unit key.address blocks forced }
-{
-    if blocks == 0 {
-        Plan::Nothing { length: 0 }
-    } else {
-        Plan::Write {
-            key,
-            blocks: blocks as u16,
-            forced,
-        }
-    }
-}
-
-/// What an UNMAP of this unit does whose list has so many bytes: without a list there is nothing to
-/// unmap.
-fn list_plan(unit: u8, length: u32) -> Plan
-    ensures { result ≡ list_plan unit length }
+/// What a command does that brings so many bytes for this purpose, for which it needs so many slots:
+/// without a byte there is nothing to do.
+fn gather_plan(purpose: Purpose, length: u32, slots: u16) -> Plan
+    ensures { result ≡ gather_plan purpose length slots }
 {
     if length == 0 {
         Plan::Nothing { length: 0 }
     } else {
-        Plan::AskList { unit, length }
+        let wanted = Wanted {
+            purpose,
+            length,
+            came: 0,
+        };
+        Plan::Gather { wanted, slots }
     }
 }
 
@@ -364,7 +360,7 @@ impl Device {
         ensures refused { IfErr result (λ told. (s : State) (r : Request) → IsLayer self.now.ftl s.translation →
             IsBare s self.now → unit_numbers_of s r ≡ target.spec → r.flags ≡ flags →
             r.expected ≡ expected →
-            first_line (lines_for s r cdb.now) ≡ Some (status_kept told)) }
+            first_line (lines_for s r cdb.now) ≡ Some told) }
     {
         match self.refusal(target.spec, flags, expected, cdb) {
             Some(refused) => Err(refused),
@@ -377,7 +373,7 @@ impl Device {
         ensures what { (s : State) (r : Request) → IsLayer self.now.ftl s.translation →
             IsBare s self.now → unit_numbers_of s r ≡ unit → r.flags ≡ flags →
             r.expected ≡ expected →
-            first_line (lines_for s r cdb.now) ≡ option_map status_kept result }
+            first_line (lines_for s r cdb.now) ≡ result }
         ensures few { result ≡ None → blocks_of cdb.now ≤ greatest_command }
         ensures within { result ≡ None → IfSome unit (λ spec. address_of cdb.now < 2 ^ 32) }
     {
@@ -411,7 +407,7 @@ impl Device {
     /// The same by what the device is now.
     fn refusal_now(&self, unit: Option<UnitSpec>, cdb: &Cdb) -> Option<Status>
         ensures { (s : State) → IsLayer self.now.ftl s.translation → IsBare s self.now →
-            first_line (lines_now s unit cdb.now) ≡ option_map status_kept result }
+            first_line (lines_now s unit cdb.now) ≡ result }
     {
         if self.is_too_early(cdb) {
             return Some(Status::CheckCondition(Sense::NOT_READY));

@@ -1,8 +1,10 @@
 //! Messages of the host: a COMMAND opens a task, a DATA OUT brings what a task asked for.
 ghost use Rattle.std.specs.Prelude.{◌≡◌, ◌<◌, ◌≤◌, length, ◌∷◌, ◌++◌, []};
 ghost use Rattle.std.specs.Prelude.{IfSome, OnErr, OnOk};
-ghost use Rattle.device.specs.Calls.{HasBegun, HasClaimed, HasGathered, HasKept, HasTaken, flush_phase};
-ghost use Rattle.device.specs.Hears.{HasBlock, HasCome, HasLength, IsDataHeard, IsTaskOpened, asked_for};
+ghost use Rattle.device.specs.Calls.{HasBegun, HasClaimedFor, HasGathered, HasKept, HasTaken, flush_phase};
+ghost use Rattle.device.specs.Hears.{HasBlock, HasCome, IsDataHeard, IsTaskOpened, asked_for};
+ghost use Rattle.task_set.specs.Tasks.{wanted_count};
+ghost use Rattle.task_set.specs.declared.tasks.Phase.TheVariants.{Ask};
 ghost use Rattle.device.specs.Hears.{short_answer, with_event, uses, with_short, with_task};
 ghost use Rattle.task_set.specs.Kept.{newly_open};
 ghost use Rattle.ufs_spec.specs.Exchanges.{most_tasks};
@@ -21,11 +23,10 @@ use crate::device::Device;
 use crate::plans::Plan;
 use crate::queries::at_once;
 use crate::requests::{frames_of, held_phase, region_of};
+use crate::targets::key_of;
 use descriptors::STANDARD_WRITE;
-use task_set::{
-    AskedFor, Phase, Queried, Sending, ShortReply, Status, Task, TaskEvent, Transfer, Wanted,
-};
-use ufs_spec::{HostFault, Key, Message};
+use task_set::{AskedFor, Phase, Queried, Sending, ShortReply, Task, TaskEvent, Wanted};
+use ufs_spec::{HostFault, Key, Message, Purpose, Sense, Status};
 
 impl Device {
     /// Takes a message of the host.
@@ -196,25 +197,10 @@ impl Device {
                     length,
                 },
             ) => self.begin_read(tag, key, blocks, length),
+            Ok(Plan::Gather { wanted, slots }) => self.begin_gather(tag, wanted, slots),
             Ok(
-                Plan::Write {
-                    key,
-                    blocks,
-                    forced,
-                },
-            ) => self.begin_write(tag, key, blocks, forced),
-            Ok(Plan::AskFrames { region: _, length }) => self.begin_frames(tag, length),
-            Ok(Plan::AskList { unit, length }) => self.begin_list(tag, unit, length),
-            Ok(
-                Plan::TakeFrames {
-                    region: _,
-                    length,
-                    taken,
-                },
-            ) => held_phase(length, taken),
-            Ok(
-                Plan::Tell {
-                    told: _,
+                Plan::Send {
+                    from: _,
                     length,
                     taken,
                 },
@@ -259,22 +245,14 @@ impl Device {
         }
     }
 
-    /// A write claims a slot for each of its blocks.
-    fn begin_write(&mut self, tag: u8, key: Key, blocks: u16, forced: bool) -> Phase
+    /// A command whose host brings data claims its slots and asks for them.
+    fn begin_gather(&mut self, tag: u8, wanted: Wanted, slots: u16) -> Phase
         ensures left { self.new ≡ record self.old { ftl = self.new.ftl } }
         ensures begun { (t : Translation) (claims : Claims) → IsLayerWith self.old.ftl t claims →
-            HasClaimed self.new.ftl t claims tag key blocks forced result }
+            HasClaimedFor self.new.ftl t claims tag slots (Ask wanted) result }
     {
-        if self.ftl.reserve(tag, blocks) {
-            let transfer = Transfer {
-                key,
-                blocks,
-                gathered: 0,
-                forced,
-            };
-            Phase::Ask {
-                wanted: Wanted::Block { transfer },
-            }
+        if self.ftl.reserve(tag, slots) {
+            Phase::Ask { wanted }
         } else {
             Phase::Answer {
                 status: Status::Busy,
@@ -287,7 +265,7 @@ impl Device {
     fn asked_for(&self, lun: u8, tag: u8, offset: u32, count: usize) -> Option<AskedFor>
         ensures what { result ≡ asked_for self.now lun tag offset count }
         ensures within { IfSome result (λ asked. asked.index < length self.now.tasks) }
-        ensures long { IfSome result (λ asked. HasLength asked.wanted count) }
+        ensures long { IfSome result (λ asked. count ≡ wanted_count asked.wanted) }
     {
         self.set.asked_for(lun, tag, offset, count)
     }
@@ -311,24 +289,27 @@ impl Device {
     /// What the task of this position and tag asked for came.
     fn take_data(&mut self, index: usize, tag: u8, wanted: Wanted, bytes: &[u8])
         requires there { index < length self.old.tasks }
-        requires long { HasLength wanted (length bytes.now) }
+        requires long { length bytes.now ≡ wanted_count wanted }
         requires few { length bytes.now ≤ 4096 }
         ensures { HasCome self.old self.new tag index wanted bytes.now }
     {
-        match wanted {
-            Wanted::Block { transfer } => self.hear_block(index, tag, transfer, bytes),
-            Wanted::Frames { length: _ } => self.hear_frames(index, tag, bytes),
-            Wanted::List { unit, length: _ } => self.hear_list(index, tag, unit, bytes),
+        match wanted.purpose {
+            Purpose::ForWrite { unit, address, .. } => {
+                let key = key_of(unit, address);
+                self.hear_block(index, tag, wanted, key, bytes)
+            }
+            Purpose::ForFrames { region: _ } => self.hear_frames(index, tag, bytes),
+            Purpose::ForUnmap { unit } => self.hear_list(index, tag, unit, bytes),
         }
     }
 
-    /// The next block of the WRITE of this position and tag came.
-    fn hear_block(&mut self, index: usize, tag: u8, transfer: Transfer, block: &[u8])
+    /// The block came that the WRITE of this position and tag asked for, whose first block has this key.
+    fn hear_block(&mut self, index: usize, tag: u8, wanted: Wanted, key: Key, block: &[u8])
         requires there { index < length self.old.tasks }
         requires long { length block.now ≡ 4096 }
-        ensures { HasBlock self.old self.new tag index transfer block.now }
+        ensures { HasBlock self.old self.new tag index wanted key block.now }
     {
-        let event = self.gather(tag, transfer, block);
+        let event = self.gather(tag, wanted, key, block);
         self.happen(index, event);
     }
 
@@ -342,17 +323,17 @@ impl Device {
 
     /// A block that came lies in the slot that was claimed for it. With the last one the group is
     /// accepted.
-    fn gather(&mut self, tag: u8, transfer: Transfer, bytes: &[u8]) -> TaskEvent
+    fn gather(&mut self, tag: u8, wanted: Wanted, key: Key, bytes: &[u8]) -> TaskEvent
         requires { length bytes.now ≡ 4096 }
         ensures left { self.new ≡ record self.old { ftl = self.new.ftl } }
         ensures taken { (t : Translation) (claims : Claims) → IsLayerWith self.old.ftl t claims →
-            HasGathered self.new.ftl t claims tag transfer bytes.now result }
+            HasGathered self.new.ftl t claims tag wanted key bytes.now result }
     {
-        self.ftl.fill(tag, transfer.gathered, bytes);
-        if transfer.next().is_some() {
+        self.ftl.fill(tag, wanted.block(), bytes);
+        if wanted.next().is_some() {
             TaskEvent::BlockGathered
         } else {
-            self.accept(tag, transfer.key)
+            self.accept(tag, key)
         }
     }
 
@@ -365,7 +346,9 @@ impl Device {
     {
         if self.ftl.is_locked() {
             self.ftl.release(tag);
-            return TaskEvent::GroupRefused;
+            return TaskEvent::DataRefused {
+                sense: Sense::WRITE_ERROR,
+            };
         }
         let number = self.ftl.accept(tag, key);
         TaskEvent::GroupAccepted { number }

@@ -1,4 +1,5 @@
 //! What a command that passed all checks does.
+use task_set::Wanted;
 use ufs_spec::Key;
 
 /// What a command tells of the device and of its units.
@@ -14,6 +15,15 @@ pub enum Identity {
     Luns { select: u8 },
 }
 
+/// Where the data come from that a task keeps and sends in one DATA IN.
+#[derive(Clone, Copy, Debug, PartialEq, Eq)]
+pub enum Source {
+    /// It tells this.
+    Identity { told: Identity },
+    /// It takes the frames that wait in the response register of this region of the RPMB (JESD220, 12.4).
+    Response { region: u8 },
+}
+
 /// What a command that passed all checks does.
 #[derive(Clone, Copy, Debug, PartialEq, Eq)]
 pub enum Plan {
@@ -27,35 +37,17 @@ pub enum Plan {
         blocks: u16,
         length: u32,
     },
-    /// It asks for so many blocks from this address on.
-    Write {
-        key: Key,
-        blocks: u16,
-        forced: bool,
+    /// It claims so many slots of the write cache, and asks its host for this.
+    Gather {
+        wanted: Wanted,
+        slots: u16,
     },
-    /// It tells this, the first so many bytes of it, of which its host takes so many.
-    Tell {
-        told: Identity,
+    /// It sends the first so many bytes of what comes from there, of which its host takes so many.
+    Send {
+        from: Source,
         length: u32,
         taken: u32,
     },
     /// It is answered GOOD once all that was accepted before it is durable.
     Flush,
-    /// It asks for frames for this region of the RPMB, so many bytes.
-    AskFrames {
-        region: u8,
-        length: u32,
-    },
-    /// It asks for the list of what to unmap in this unit, so many bytes (SBC, UNMAP).
-    AskList {
-        unit: u8,
-        length: u32,
-    },
-    /// It takes the frames that wait in the response register of this region, so many bytes, of which its
-    /// host takes so many.
-    TakeFrames {
-        region: u8,
-        length: u32,
-        taken: u32,
-    },
 }

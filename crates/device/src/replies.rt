@@ -27,8 +27,8 @@ ghost use Rattle.std.specs.Prelude.{length as count_tasks};
 
 use crate::device::Device;
 use crate::responses::{write_answer, write_block, write_frames, write_ready, write_short};
-use task_set::{Frames, Phase, Sending, Status, Task, TaskEvent};
-use ufs_spec::{Block, Looked, Name, Upiu};
+use task_set::{Frames, Phase, Sending, Task, TaskEvent};
+use ufs_spec::{Block, Looked, Name, Status, Upiu};
 
 /// A block of zeros, as an address reads that was never written.
 static ZEROS: Block = [0; 4096];

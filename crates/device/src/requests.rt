@@ -2,14 +2,15 @@
 //! (JESD220, 12.4).
 ghost use Rattle.std.specs.Prelude.{◌≡◌, ◌≤◌, ◌<◌, ◌||◌, ℕ, IfSome, IsTrue, Some, false, length, not, option_copied};
 ghost use Rattle.std.specs.Prelude.{slice_get};
-ghost use Rattle.ufs_spec.specs.Exchanges.{CheckCondition};
+ghost use Rattle.ufs_spec.specs.declared.exchanges.Status.TheVariants.{CheckCondition};
 ghost use Rattle.ufs_spec.specs.Moves.{LetGoAll, moved};
 ghost use Rattle.ufs_spec.specs.Translation.{Translation, is_locked, is_mended};
 ghost use Rattle.ftl_core.specs.Public.{Claims, Describes as IsLayer, has_number};
-ghost use Rattle.device.specs.Calls.{HasClaimedFrames, held_phase, with_event};
+ghost use Rattle.device.specs.Calls.{held_phase, with_event};
 ghost use Rattle.device.specs.Frames.{HasAnswered, HasDecided, HasFilled, HasRefused, HasRequested};
-ghost use Rattle.device.specs.Frames.{HasResponded, IsDecided, data_for, frames_brought, region_brought};
-ghost use Rattle.device.specs.Frames.{capacity_told, handed_over, identity_bytes, is_due_to, sent_kept, to_answer};
+ghost use Rattle.device.specs.Frames.{HasResponded, IsDecided, data_for, frames_brought, frames_for, region_brought};
+ghost use Rattle.device.specs.Frames.{capacity_told, handed_over, identity_bytes, is_due_to, region_for, sent_kept};
+ghost use Rattle.device.specs.Frames.{source_kept, to_answer};
 ghost use Rattle.device.specs.Frames.{waiting_in_block, with_held, with_none_waiting, with_zeros};
 ghost use Rattle.rpmb.specs.Answers.{AreFew};
 ghost use Rattle.rpmb.specs.Kept.{machine_at, with_machine};
@@ -19,15 +20,14 @@ ghost use Rattle.rpmb.specs.Outcomes.{MayChange};
 ghost use Rattle.rpmb.specs.Requests.{frames_of};
 ghost use Rattle.task_set.specs.Kept.{OpenTask};
 
-use crate::checks::FRAME_SLOTS;
 use crate::device::Device;
-use crate::plans::{Identity, Plan};
+use crate::plans::{Identity, Plan, Source};
 use crate::replies::zeros;
 use lun_route::{inquiry_bytes, luns_bytes};
 use rpmb::{Accepted, Machines, Outcome, asked_area};
 use scsi_cdb::no_sense;
-use task_set::{BLOCK_BYTES, Frames, Phase, Status, TaskEvent, Wanted};
-use ufs_spec::{Block, Sense, write_u32};
+use task_set::{BLOCK_BYTES, Frames, Phase, TaskEvent};
+use ufs_spec::{Block, Purpose, Sense, Status, write_u32};
 
 /// How many bytes a frame has.
 const FRAME: usize = 512;
@@ -49,12 +49,7 @@ pub(crate) fn frames_of(planned: Result<Plan, Status>) -> Frames
     ensures { result ≡ frames_brought planned }
 {
     match planned {
-        Ok(
-            Plan::AskFrames {
-                region: _,
-                length: _,
-            },
-        ) => Frames::Undecided,
+        Ok(Plan::Gather { wanted, slots: _ }) => frames_for(wanted.purpose),
         _ => Frames::NotBrought,
     }
 }
@@ -64,7 +59,27 @@ pub(crate) fn region_of(planned: Result<Plan, Status>) -> u8
     ensures { result ≡ region_brought planned }
 {
     match planned {
-        Ok(Plan::AskFrames { region, length: _ }) => region,
+        Ok(Plan::Gather { wanted, slots: _ }) => region_for(wanted.purpose),
+        _ => 0,
+    }
+}
+
+/// What a task has to do with frames that gathers data for this purpose: none of its own were decided.
+fn frames_for(purpose: Purpose) -> Frames
+    ensures { result ≡ frames_for purpose }
+{
+    match purpose {
+        Purpose::ForFrames { region: _ } => Frames::Undecided,
+        _ => Frames::NotBrought,
+    }
+}
+
+/// The RPMB region that the data are for; 0 if they are for none.
+fn region_for(purpose: Purpose) -> u8
+    ensures { result ≡ region_for purpose }
+{
+    match purpose {
+        Purpose::ForFrames { region } => region,
         _ => 0,
     }
 }
@@ -101,48 +116,35 @@ fn capacity_bytes(blocks: u32) -> [u8; 8]
 }
 
 impl Device {
-    /// A SECURITY PROTOCOL OUT claims slots for the pages that an RPMB write may have.
-    pub(crate) fn begin_frames(&mut self, tag: u8, length: u32) -> Phase
-        ensures left { self.new ≡ record self.old { ftl = self.new.ftl } }
-        ensures begun { (t : Translation) (claims : Claims) → IsLayerWith self.old.ftl t claims →
-            HasClaimedFrames self.new.ftl t claims tag length result }
-    {
-        if self.ftl.reserve(tag, FRAME_SLOTS) {
-            Phase::Ask {
-                wanted: Wanted::Frames { length },
-            }
-        } else {
-            Phase::Answer {
-                status: Status::Busy,
-                length: 0,
-            }
-        }
-    }
-
-    /// The last task keeps what it sends, if this was planned for it: the frames that wait, of which the
-    /// response register is empty from now on, or what it tells.
+    /// The last task keeps what it sends, if this was planned for it.
     pub(crate) fn keep_sent(&mut self, planned: Result<Plan, Status>)
         requires { 0 < length self.old.tasks }
         ensures { (t : Translation) → IsLayer self.old.ftl t →
             self.new ≡ sent_kept t.numbers self.old planned }
     {
         let last = self.set.count() - 1;
-        match planned {
-            Ok(
-                Plan::TakeFrames {
-                    region,
-                    length: _,
-                    taken: _,
-                },
-            ) => self.hand_over(last, region),
-            Ok(
-                Plan::Tell {
-                    told,
-                    length: _,
-                    taken: _,
-                },
-            ) => self.keep_identity(last, told),
-            _ => {}
+        if let Ok(
+            Plan::Send {
+                from,
+                length: _,
+                taken: _,
+            },
+        ) = planned
+        {
+            self.keep_source(last, from);
+        }
+    }
+
+    /// The task at this position keeps what comes from there: what it tells, or the frames that wait, of which
+    /// the response register is empty from now on.
+    fn keep_source(&mut self, index: usize, from: Source)
+        requires { index < length self.old.tasks }
+        ensures { (t : Translation) → IsLayer self.old.ftl t →
+            self.new ≡ source_kept t.numbers self.old index from }
+    {
+        match from {
+            Source::Identity { told } => self.keep_identity(index, told),
+            Source::Response { region } => self.hand_over(index, region),
         }
     }
 
@@ -205,7 +207,7 @@ impl Device {
         ensures { HasRefused self.old self.new tag index sense }
     {
         self.ftl.release(tag);
-        self.happen(index, TaskEvent::FramesRefused { sense });
+        self.happen(index, TaskEvent::DataRefused { sense });
     }
 
     /// The frames are a request to the region with this result, of which this is accepted.

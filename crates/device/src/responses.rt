@@ -1,19 +1,19 @@
 //! The messages that the device sends: what they say and how they are flagged (JESD220, 10.7).
 ghost use Rattle.std.specs.Prelude.{◌≡◌, ◌≤◌, ◌==◌, ◌*◌, length, take, if◌then◌else◌, Some, None, ◌∷◌, []};
 ghost use Rattle.ufs_spec.specs.Cdbs.{residual_of};
-ghost use Rattle.ufs_spec.specs.Exchanges.{CheckCondition, response, sense_data};
+ghost use Rattle.ufs_spec.specs.Exchanges.{response, sense_data};
+ghost use Rattle.ufs_spec.specs.declared.exchanges.Status.TheVariants.{CheckCondition};
 ghost use Rattle.ufs_spec.specs.Messages.{AreBytes, IsMessage, IsQueryFunction, spelling};
 ghost use Rattle.upiu.specs.Replies.{message_of};
 ghost use Rattle.ufs_spec.specs.declared.Message.{Message};
 ghost use Rattle.device.specs.Replies.{answer_of, block_message, count_of, frames_message};
 ghost use Rattle.device.specs.Replies.{function_of, query_answer, query_with, ready_message, short_message};
 ghost use Rattle.ufs_spec.specs.QueryAnswers.{query_failed};
-ghost use Rattle.task_set.specs.Tasks.{status_kept};
 
 use descriptors::{STANDARD_READ, STANDARD_WRITE, descriptor_told};
-use task_set::{BLOCK_BYTES, Queried, Sending, Short, ShortReply, Status, Task, Wanted};
+use task_set::{BLOCK_BYTES, Queried, Sending, Short, ShortReply, Task, Wanted};
 use ufs_bytes::Block;
-use ufs_spec::{Data, Message, Numbers, Sense, Upiu};
+use ufs_spec::{Data, Message, Numbers, Sense, Status, Upiu};
 use upiu::Response;
 
 /// The flag of a RESPONSE that says that less than expected was carried (JESD220, 10.7.2).
@@ -78,7 +78,7 @@ fn sense_segment(sense: &Sense) -> [u8; 20]
 
 /// The RESPONSE that ends a task (JESD220, 10.7.2).
 fn response(lun: u8, tag: u8, expected: u32, status: Status, length: u32) -> Response
-    ensures { message_of result ≡ response lun tag expected length (status_kept status) }
+    ensures { message_of result ≡ response lun tag expected length status }
 {
     let residual = residual_of(expected, length);
     match status {
@@ -244,7 +244,7 @@ pub(crate) fn write_block(task: &Task, sending: Sending, block: &Block, into: &m
 pub(crate) fn write_ready(task: &Task, wanted: Wanted, into: &mut Upiu)
     ensures { into.new.items ≡ spelling (ready_message task.now wanted) }
 {
-    upiu::write_ready_to_transfer(task.lun, task.tag, wanted.offset(), wanted.count(), into);
+    upiu::write_ready_to_transfer(task.lun, task.tag, wanted.came, wanted.count(), into);
 }
 
 /// Writes the DATA IN of what a task keeps to send: the first of so many bytes, as many as the host expects, and at least one.

@@ -2,13 +2,14 @@
 ghost use Rattle.std.specs.Prelude.{◌≡◌};
 ghost use Rattle.ftl_core.specs.Public.{Describes as IsLayer};
 ghost use Rattle.ufs_spec.specs.Begins.{unit_or_first};
+ghost use Rattle.ufs_spec.specs.Keys.{data_key};
 ghost use Rattle.ufs_spec.specs.Refusals.{Request, State, row_in, unit_numbers_at};
 ghost use Rattle.device.specs.Bare.{IsBare};
 ghost use Rattle.device.specs.Targets.{IsRouted, blocks_in};
 
 use crate::device::Device;
 use lun_route::route_of;
-use ufs_spec::{Numbers, Row, Sense, UnitSpec};
+use ufs_spec::{Key, Numbers, Row, Sense, Tag, UnitSpec};
 
 /// What a command is about.
 #[derive(Clone, Copy)]
@@ -40,6 +41,17 @@ impl Target {
             Some(unit) => unit,
             None => 0,
         }
+    }
+}
+
+/// The key of the block at this address of a unit.
+pub(crate) fn key_of(unit: u8, address: u32) -> Key
+    ensures { result ≡ data_key unit address }
+{
+    Key {
+        kind: Tag::DATA,
+        unit,
+        address,
     }
 }
 

@@ -5,15 +5,15 @@ ghost use Rattle.ufs_spec.specs.Translation.{Translation};
 ghost use Rattle.ufs_spec.specs.declared.configs.Numbers.{Numbers};
 ghost use Rattle.ftl_core.specs.Public.{Claims, Describes as IsLayer, has_number};
 ghost use Rattle.device.specs.Kept.{IsLayerWith};
-ghost use Rattle.device.specs.Unmaps.{HasClaimedList, HasListCome, HasPutZeros, HasUnmapped};
+ghost use Rattle.device.specs.Unmaps.{HasListCome, HasPutZeros, HasUnmapped};
 ghost use Rattle.device.specs.Lists.{IsOfList, list_slots};
 ghost use Rattle.device.specs.Unmaps.{blocks_unmapped, is_unmapping, key_within, unmapping_in};
 
 use crate::device::Device;
-use crate::targets::spec_of;
+use crate::targets::{key_of, spec_of};
 use scsi_cdb::{UnmapList, read_unmap_list};
-use task_set::{Phase, Status, TaskEvent, Wanted};
-use ufs_spec::{Key, Sense, Tag};
+use task_set::TaskEvent;
+use ufs_spec::{Key, Sense};
 
 /// How many bytes the header of UNMAP's list has, and how many it has with one descriptor (SBC).
 pub(crate) const LIST_HEADER: u32 = 8;
@@ -40,25 +40,6 @@ pub enum Unmapping {
 }
 
 impl Device {
-    /// An UNMAP claims its slots and asks for its list, so many bytes.
-    pub(crate) fn begin_list(&mut self, tag: u8, unit: u8, length: u32) -> Phase
-        ensures left { self.new ≡ record self.old { ftl = self.new.ftl } }
-        ensures begun { (t : Translation) (claims : Claims) → IsLayerWith self.old.ftl t claims →
-            HasClaimedList self.new.ftl t claims tag unit length result }
-    {
-        let most = self.command_blocks();
-        if self.ftl.reserve(tag, list_slots(most, length)) {
-            Phase::Ask {
-                wanted: Wanted::List { unit, length },
-            }
-        } else {
-            Phase::Answer {
-                status: Status::Busy,
-                length: 0,
-            }
-        }
-    }
-
     /// The list of the UNMAP of this position, tag and unit came.
     pub(crate) fn hear_list(&mut self, index: usize, tag: u8, unit: u8, list: &[u8])
         requires { index < length self.old.tasks }
@@ -79,15 +60,15 @@ impl Device {
         match self.unmapping(unit, list) {
             Unmapping::Refused(sense) => {
                 self.ftl.release(tag);
-                TaskEvent::ListRefused { sense }
+                TaskEvent::DataRefused { sense }
             }
             Unmapping::Nothing => {
                 self.ftl.release(tag);
-                TaskEvent::ListTaken
+                TaskEvent::DataTaken
             }
             Unmapping::Blocks { key, count } => {
                 self.put_zeros(tag, key, count);
-                TaskEvent::ListTaken
+                TaskEvent::DataTaken
             }
         }
     }
@@ -150,10 +131,6 @@ impl Device {
         if address > blocks || address + u64::from(count) > blocks {
             return None;
         }
-        Some(Key {
-            kind: Tag::DATA,
-            unit,
-            address: address as u32,
-        })
+        Some(key_of(unit, address as u32))
     }
 }

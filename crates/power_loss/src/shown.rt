@@ -2,7 +2,8 @@
 ghost use Rattle.std.specs.Prelude.{◌≡◌, ℕ, Bool, true, Contains, List, Some, slice_get};
 ghost use Rattle.ufs_spec.specs.Cells.{Array};
 ghost use Rattle.ufs_spec.specs.Disk.{Spot};
-ghost use Rattle.ufs_spec.specs.Exchanges.{ReadBlock, ReadingArea, Sending, Task, WasRead, block_message, task_of};
+ghost use Rattle.ufs_spec.specs.Exchanges.{ReadBlock, ReadingArea, Sending, Task, block_message, task_of};
+ghost use Rattle.ufs_spec.specs.declared.exchanges.ReadState.TheVariants.{WasRead};
 ghost use Rattle.ufs_spec.specs.Keys.{IsKey, content};
 ghost use Rattle.ufs_spec.specs.Lives.{IsOpened, Life};
 ghost use Rattle.ufs_spec.specs.Machine.{Allowed, Answer, Call, deed_reply, observe};

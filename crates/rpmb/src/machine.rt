@@ -8,7 +8,8 @@ ghost use Rattle.rpmb.specs.Outcomes.{AcceptsUnlocked, MayChange, MayFollow, com
 ghost use Rattle.rpmb.specs.Outcomes.{outcome_formed, outcome_of};
 ghost use Rattle.rpmb.specs.Requests.{IsRequest, frames_of};
 ghost use Rattle.rpmb_frame.specs.Fields.{frame_of};
-ghost use Rattle.ufs_spec.specs.Exchanges.{ReadState, empty_registers};
+ghost use Rattle.ufs_spec.specs.Exchanges.{empty_registers};
+ghost use Rattle.ufs_spec.specs.declared.exchanges.ReadState.{ReadState};
 ghost use Rattle.ufs_spec.specs.Frames as defined;
 ghost use Rattle.ufs_spec.specs.Frames.{frame_bytes, frame_in};
 ghost use Rattle.ufs_spec.specs.Rpmb.{Region, applied, lacks_result, rpmb_outcome};

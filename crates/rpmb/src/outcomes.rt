@@ -1,6 +1,6 @@
 //! What becomes of a request.
 ghost use Rattle.std.specs.Prelude.{◌≡◌};
-ghost use Rattle.ufs_spec.specs.Exchanges.{CheckCondition};
+ghost use Rattle.ufs_spec.specs.declared.exchanges.Status.TheVariants.{CheckCondition};
 ghost use Rattle.rpmb.specs.Outcomes.{code_of, status_of};
 
 use rpmb_frame::codes;

@@ -1,6 +1,6 @@
 //! The codes in frames: message types and results (JESD220, 12.4).
 ghost use Rattle.std.specs.Prelude.{◌≡◌, ◌==◌, ◌∷◌, ℕ, [], Bool, List, None, Some, not};
-ghost use Rattle.ufs_spec.specs.Exchanges.{NotRead};
+ghost use Rattle.ufs_spec.specs.declared.exchanges.ReadState.TheVariants.{NotRead};
 ghost use Rattle.ufs_spec.specs.Frames.{Frame};
 ghost use Rattle.ufs_spec.specs.Plain.{counter_end};
 ghost use Rattle.ufs_spec.specs.Rpmb.{Region, Results, checks, fails_if, has_key, has_wrong_mac, is_past_area};

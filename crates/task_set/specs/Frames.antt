@@ -1,14 +1,12 @@
 -- What a task has to do with the frames of the RPMB (JESD220, 12.4), and where the data stand that a request asks for.
-use Rattle.std.specs.Prelude.{ℕ, ◌+◌, ◌-◌, ◌*◌, ◌%◌, ◌==◌, min, nat_lt, if◌then◌else◌, List, [], ◌∷◌, ◌++◌, drop}
-use Rattle.std.specs.Prelude.{length}
-use Rattle.std.specs.Prelude.{option_map, take, Option, Some, None}
-use Rattle.ufs_spec.specs.Exchanges as exchange
+use Rattle.std.specs.Prelude.{List, None, Option, Some, [], drop, if◌then◌else◌, length, min, nat_lt, option_map, take}
+use Rattle.std.specs.Prelude.{ℕ, ◌%◌, ◌*◌, ◌++◌, ◌+◌, ◌-◌, ◌==◌, ◌∷◌}
+use Rattle.ufs_spec.specs.declared.exchanges.ReadState.{ReadState}
+use Rattle.ufs_spec.specs.declared.exchanges.ReadState.TheVariants.{Unread}
 use Rattle.task_set.specs.declared.frames.AreaPart.{AreaPart}
 use Rattle.task_set.specs.declared.frames.AreaReading.{AreaReading}
 use Rattle.task_set.specs.declared.frames.Frames.{Frames}
 use Rattle.task_set.specs.declared.frames.Frames.TheVariants.{Answered, Decided}
-use Rattle.task_set.specs.declared.frames.PageRead.{PageRead}
-use Rattle.task_set.specs.declared.frames.PageRead.TheVariants as page
 use Rattle.task_set.specs.declared.tasks.TaskEvent.{TaskEvent}
 use Rattle.task_set.specs.declared.tasks.TaskEvent.TheVariants as event
 
@@ -21,20 +19,14 @@ frames_after f (event.AreaAsked code address count) = Decided code
 frames_after (Decided code) event.RegisterFilled = Answered
 frames_after f e = f
 
--- how the read of a page ended, in the words of the definitions
-abbrev pub read_kept : PageRead → exchange.ReadState
-read_kept page.Unread = exchange.Unread
-read_kept page.WasRead = exchange.WasRead
-read_kept page.NotRead = exchange.NotRead
-
 -- how the read of the second page ended, if there is one
-abbrev pub second_read : Option PageRead → List exchange.ReadState
+abbrev pub second_read : Option ReadState → List ReadState
 second_read None = []
-second_read (Some how) = read_kept how ∷ []
+second_read (Some how) = how ∷ []
 
 -- how the reads of all its pages ended
-abbrev pub pages_read : AreaReading → List exchange.ReadState
-pages_read r = read_kept r.first ∷ second_read r.second
+abbrev pub pages_read : AreaReading → List ReadState
+pages_read r = r.first ∷ second_read r.second
 
 -- so many blocks of 256 bytes from this address on, at most eight, lie in one page of sixteen or in two; none is read
 -- yet
@@ -43,13 +35,13 @@ reading_of address count size =
     record {
       address = address;
       count = count;
-      first = page.Unread;
-      second = if nat_lt 16 (address % 16 + min count 8) then Some page.Unread else None;
+      first = Unread;
+      second = if nat_lt 16 (address % 16 + min count 8) then Some Unread else None;
       length = size;
     }
 
 -- the read of the page of this index ended so
-abbrev pub page_ended : AreaReading → ℕ → PageRead → AreaReading
+abbrev pub page_ended : AreaReading → ℕ → ReadState → AreaReading
 page_ended r index how =
     if index == 0 then record r { first = how } else record r { second = option_map (λ old. how) r.second }
 

@@ -3,6 +3,7 @@ ghost use Rattle.std.specs.Prelude.{◌≡◌, ◌≤◌, ◌+◌};
 ghost use Rattle.task_set.specs.Frames.{area_part, frames_after, page_ended, reading_of};
 
 use crate::tasks::TaskEvent;
+use ufs_spec::ReadState;
 
 /// Where the data that a request asks for stand in its task's block: behind its first frame.
 const DATA_AT: usize = 512;
@@ -45,22 +46,14 @@ impl Frames {
     }
 }
 
-/// Whether a page of the RPMB area was read.
-#[derive(Clone, Copy, Debug, PartialEq, Eq)]
-pub enum PageRead {
-    Unread,
-    WasRead,
-    NotRead,
-}
-
 /// The blocks of the RPMB area that a request asks for: so many from this address on, at most eight; how
 /// the reads of their one page or two pages ended; and how many bytes the command has.
 #[derive(Clone, Copy, Debug, PartialEq, Eq)]
 pub struct AreaReading {
     pub address: u16,
     pub count: u16,
-    pub first: PageRead,
-    pub second: Option<PageRead>,
+    pub first: ReadState,
+    pub second: Option<ReadState>,
     pub length: u32,
 }
 
@@ -79,21 +72,21 @@ impl AreaReading {
         ensures { result ≡ reading_of address count length }
     {
         let second = if address % PAGE_BLOCKS + count.min(MOST_BLOCKS) > PAGE_BLOCKS {
-            Some(PageRead::Unread)
+            Some(ReadState::Unread)
         } else {
             None
         };
         AreaReading {
             address,
             count,
-            first: PageRead::Unread,
+            first: ReadState::Unread,
             second,
             length,
         }
     }
 
     /// The read of the page of this index ended so.
-    pub fn ended(self, index: u16, how: PageRead) -> AreaReading
+    pub fn ended(self, index: u16, how: ReadState) -> AreaReading
         ensures { result ≡ page_ended self index how }
     {
         let mut reading = self;

@@ -7,9 +7,9 @@ mod open_task;
 mod set;
 mod tasks;
 
-pub use frames::{AreaPart, AreaReading, Frames, PageRead};
+pub use frames::{AreaPart, AreaReading, Frames};
 pub use set::TaskSet;
 pub use tasks::{
-    AskedFor, BLOCK_BYTES, Meant, Phase, Queried, Sending, Short, ShortReply, Status, Task,
-    TaskEvent, Transfer, Wanted,
+    AskedFor, BLOCK_BYTES, Meant, Phase, Queried, Sending, Short, ShortReply, Task, TaskEvent,
+    Wanted,
 };

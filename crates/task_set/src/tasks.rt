@@ -1,67 +1,17 @@
 //! The tasks that are open, and what each still owes its host (JESD220, 10.9).
 ghost use Rattle.std.specs.Prelude.{◌≡◌, ◌*◌};
-ghost use Rattle.task_set.specs.Tasks.{is_meant};
-ghost use Rattle.task_set.specs.Tasks.{asked_next, block_came, came, failed, frames_came, group_taken, is_wanted};
+ghost use Rattle.task_set.specs.Tasks.{asked_next, came, failed, group_done, is_forced, is_meant, is_wanted};
+ghost use Rattle.task_set.specs.Tasks.{next_sending, next_wanted, phase_after, sent_next, wanted_block, wanted_count};
 ghost use Rattle.task_set.specs.Shorts.{is_short_due, reply_locked, short_locked};
-ghost use Rattle.task_set.specs.Tasks.{list_came, next_sending, next_transfer, phase_after, sent_next};
-ghost use Rattle.task_set.specs.Tasks.{wanted_count, wanted_offset};
 
-use crate::frames::{AreaReading, Frames, PageRead};
-use ufs_spec::{Asked, Key, Sense};
+use crate::frames::{AreaReading, Frames};
+use ufs_spec::{Asked, Purpose, ReadState, Sense, Status};
 
 /// How many bytes a block has.
 pub const BLOCK_BYTES: u32 = 4096;
 
-/// How a command ended (JESD220, 10.7.2; SAM, 5.3).
-#[derive(Clone, Copy, Debug, Default, PartialEq, Eq)]
-pub enum Status {
-    #[default]
-    Good,
-    CheckCondition(Sense),
-    Busy,
-    TaskSetFull,
-}
-
-/// The blocks of a WRITE: so many from this address on, of which so many came; and whether it has FUA.
-#[derive(Clone, Copy, Debug, PartialEq, Eq)]
-pub struct Transfer {
-    pub key: Key,
-    pub blocks: u16,
-    pub gathered: u16,
-    pub forced: bool,
-}
-
-impl Transfer {
-    /// What is still to come once one block more came; `None` if that was the last.
-    pub fn next(self) -> Option<Transfer>
-        ensures { result ≡ next_transfer self }
-    {
-        if self.gathered as u32 + 1 < self.blocks as u32 {
-            Some(Transfer {
-                key: self.key,
-                blocks: self.blocks,
-                gathered: self.gathered + 1,
-                forced: self.forced,
-            })
-        } else {
-            None
-        }
-    }
-
-    /// How many bytes it has.
-    pub fn length(self) -> u32
-        ensures { result ≡ 4096 * self.blocks }
-    {
-        BLOCK_BYTES * self.blocks as u32
-    }
-
-    /// Where the block that comes next lies in its data.
-    pub fn offset(self) -> u32
-        ensures { result ≡ 4096 * self.gathered }
-    {
-        BLOCK_BYTES * self.gathered as u32
-    }
-}
+/// How many indexes a block of a command may have.
+const INDEXES: u32 = 1 << 16;
 
 /// The blocks of a READ: so many that its host expects, of which so many were handed out; and how many
 /// bytes the command has.
@@ -124,14 +74,10 @@ pub enum TaskEvent {
     BlockGathered,
     /// The last block that it asked for came, and its group was accepted under this number.
     GroupAccepted { number: u64 },
-    /// The last block that it asked for came, and the device is locked: it is told as not written.
-    GroupRefused,
-    /// Its list of what to unmap came, and it is refused with this sense.
-    ListRefused { sense: Sense },
-    /// Its list came: what it names is unmapped, which may be nothing.
-    ListTaken,
-    /// Its frames came, and they are refused with this sense.
-    FramesRefused { sense: Sense },
+    /// All data that it asked for came, and they are refused with this sense.
+    DataRefused { sense: Sense },
+    /// All data that it asked for came, and it was done.
+    DataTaken,
     /// Its frames came: a request that has this result at once.
     RequestAnswered { code: u16 },
     /// Its frames came: a request with this result, whose group was accepted under this number.
@@ -174,30 +120,25 @@ impl Phase {
         }
     }
 
-    /// A WRITE whose group was accepted under this number: with FUA it is answered once the group is
-    /// durable, else at once.
-    fn accepted(transfer: Transfer, number: u64) -> Phase
-        ensures { result ≡ group_taken transfer number }
+    /// A WRITE of so many bytes whose group was accepted under this number: with FUA (`forced`) it is
+    /// answered once the group is durable, else at once.
+    fn accepted(forced: bool, number: u64, length: u32) -> Phase
+        ensures { result ≡ group_done forced number length }
     {
-        let length = transfer.length();
-        if transfer.forced {
+        if forced {
             Phase::AwaitFrontier { number, length }
         } else {
             Phase::good(length)
         }
     }
 
-    /// A WRITE of which a block came: the next one is asked for.
-    fn gathered(transfer: Transfer) -> Phase
-        ensures { result ≡ asked_next transfer (next_transfer transfer) }
+    /// A block of the data came: the next one is asked for.
+    fn gathered(wanted: Wanted) -> Phase
+        ensures { result ≡ asked_next wanted (next_wanted wanted) }
     {
-        match transfer.next() {
-            Some(transfer) => Phase::Ask {
-                wanted: Wanted::Block { transfer },
-            },
-            None => Phase::Await {
-                wanted: Wanted::Block { transfer },
-            },
+        match wanted.next() {
+            Some(wanted) => Phase::Ask { wanted },
+            None => Phase::Await { wanted },
         }
     }
 
@@ -222,10 +163,10 @@ impl Phase {
             (Phase::AwaitFrontier { number, length }, TaskEvent::Locked { frontier })
                 if number > frontier => { Phase::failed(Sense::WRITE_ERROR, length) }
             (Phase::ReadArea { reading }, TaskEvent::PageLoaded { index }) => Phase::ReadArea {
-                reading: reading.ended(index, PageRead::WasRead),
+                reading: reading.ended(index, ReadState::WasRead),
             },
             (Phase::ReadArea { reading }, TaskEvent::BlockLost { index }) => Phase::ReadArea {
-                reading: reading.ended(index, PageRead::NotRead),
+                reading: reading.ended(index, ReadState::NotRead),
             },
             (Phase::SendBlocks { sending }, TaskEvent::BlockSent) => Phase::sent(sending),
             (Phase::SendBlocks { sending }, TaskEvent::BlockLost { .. }) => {
@@ -330,35 +271,22 @@ impl ShortReply {
     }
 }
 
-/// What a task asks its host for.
+/// What a task asks its host for: data for this purpose, so many bytes in all, of which so many came.
 #[derive(Clone, Copy, Debug, PartialEq, Eq)]
-pub enum Wanted {
-    /// The next block of a WRITE.
-    Block { transfer: Transfer },
-    /// All frames of a SECURITY PROTOCOL OUT, so many bytes.
-    Frames { length: u32 },
-    /// The list of an UNMAP of this unit, so many bytes.
-    List { unit: u8, length: u32 },
+pub struct Wanted {
+    pub purpose: Purpose,
+    pub length: u32,
+    pub came: u32,
 }
 
 impl Wanted {
-    /// Where what is asked for lies in the data of the command.
-    pub fn offset(self) -> u32
-        ensures { result ≡ wanted_offset self }
-    {
-        match self {
-            Wanted::Block { transfer } => transfer.offset(),
-            Wanted::Frames { length: _ } | Wanted::List { unit: _, length: _ } => 0,
-        }
-    }
-
-    /// How many bytes are asked for: a block, or all at once.
+    /// How many bytes are asked for: a block of a WRITE, or all at once.
     pub fn count(self) -> u32
         ensures { result ≡ wanted_count self }
     {
-        match self {
-            Wanted::Block { transfer: _ } => BLOCK_BYTES,
-            Wanted::Frames { length } | Wanted::List { unit: _, length } => length,
+        match self.purpose {
+            Purpose::ForWrite { .. } => BLOCK_BYTES,
+            Purpose::ForUnmap { .. } | Purpose::ForFrames { .. } => self.length,
         }
     }
 
@@ -366,12 +294,28 @@ impl Wanted {
     pub fn is(self, offset: u32, count: usize) -> bool
         ensures { result ≡ is_wanted self offset count }
     {
-        match self {
-            Wanted::Block { transfer } => {
-                transfer.offset() == offset && count == BLOCK_BYTES as usize
-            }
-            Wanted::Frames { length } => offset == 0 && count == length as usize,
-            Wanted::List { length, .. } => offset == 0 && count == length as usize,
+        self.came == offset && count == self.count() as usize
+    }
+
+    /// Which block of the data is asked for, counted from 0, in 16 bits.
+    pub fn block(self) -> u16
+        ensures { result ≡ wanted_block self }
+    {
+        (self.came / BLOCK_BYTES % INDEXES) as u16
+    }
+
+    /// What is asked for once a block more came; `None` if that was the last.
+    pub fn next(self) -> Option<Wanted>
+        ensures { result ≡ next_wanted self }
+    {
+        if self.length.saturating_sub(self.came) > BLOCK_BYTES {
+            Some(Wanted {
+                purpose: self.purpose,
+                length: self.length,
+                came: self.came + BLOCK_BYTES,
+            })
+        } else {
+            None
         }
     }
 
@@ -379,55 +323,30 @@ impl Wanted {
     fn came(self, event: TaskEvent) -> Phase
         ensures { result ≡ came self event }
     {
-        match self {
-            Wanted::Block { transfer } => block_came(transfer, event),
-            Wanted::Frames { length } => frames_came(length, event),
-            Wanted::List { unit, length } => list_came(unit, length, event),
+        let length = self.length;
+        match event {
+            TaskEvent::BlockGathered => Phase::gathered(self),
+            TaskEvent::GroupAccepted { number } => {
+                Phase::accepted(is_forced(self.purpose), number, length)
+            }
+            TaskEvent::DataRefused { sense } => Phase::failed(sense, length),
+            TaskEvent::DataTaken | TaskEvent::RequestAnswered { .. } => Phase::good(length),
+            TaskEvent::RequestAccepted { number, .. } => Phase::AwaitFrontier { number, length },
+            TaskEvent::AreaAsked { address, count, .. } => Phase::ReadArea {
+                reading: AreaReading::new(address, count, length),
+            },
+            _ => Phase::Await { wanted: self },
         }
     }
 }
 
-// A block of a WRITE came.
-fn block_came(transfer: Transfer, event: TaskEvent) -> Phase
-    ensures { result ≡ block_came transfer event }
+/// Whether the data are for a WRITE with FUA.
+fn is_forced(purpose: Purpose) -> bool
+    ensures { result ≡ is_forced purpose }
 {
-    match event {
-        TaskEvent::BlockGathered => Phase::gathered(transfer),
-        TaskEvent::GroupAccepted { number } => Phase::accepted(transfer, number),
-        TaskEvent::GroupRefused => Phase::failed(Sense::WRITE_ERROR, transfer.length()),
-        _ => Phase::Await {
-            wanted: Wanted::Block { transfer },
-        },
-    }
-}
-
-// The frames of the RPMB came, so many bytes.
-fn frames_came(length: u32, event: TaskEvent) -> Phase
-    ensures { result ≡ frames_came length event }
-{
-    match event {
-        TaskEvent::FramesRefused { sense } => Phase::failed(sense, length),
-        TaskEvent::RequestAnswered { .. } => Phase::good(length),
-        TaskEvent::RequestAccepted { number, .. } => Phase::AwaitFrontier { number, length },
-        TaskEvent::AreaAsked { address, count, .. } => Phase::ReadArea {
-            reading: AreaReading::new(address, count, length),
-        },
-        _ => Phase::Await {
-            wanted: Wanted::Frames { length },
-        },
-    }
-}
-
-// The list of an UNMAP of this unit came, so many bytes.
-fn list_came(unit: u8, length: u32, event: TaskEvent) -> Phase
-    ensures { result ≡ list_came unit length event }
-{
-    match event {
-        TaskEvent::ListRefused { sense } => Phase::failed(sense, length),
-        TaskEvent::ListTaken => Phase::good(length),
-        _ => Phase::Await {
-            wanted: Wanted::List { unit, length },
-        },
+    match purpose {
+        Purpose::ForWrite { forced, .. } => forced,
+        Purpose::ForUnmap { .. } | Purpose::ForFrames { .. } => false,
     }
 }
 

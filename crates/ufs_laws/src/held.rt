@@ -2,7 +2,8 @@
 ghost use Rattle.std.specs.Prelude.{◌≡◌, ◌+◌, ◌≤◌, ◌++◌, ℕ, true, false, List, Some, None, find, length, max};
 ghost use Rattle.ufs_spec.specs.Commands.{Command};
 ghost use Rattle.ufs_spec.specs.Commands as command;
-ghost use Rattle.ufs_spec.specs.Exchanges.{Answering, Awaiting, Good, Short, Task, is_short_of, task_of};
+ghost use Rattle.ufs_spec.specs.Exchanges.{Answering, Awaiting, Short, Task, is_short_of, task_of};
+ghost use Rattle.ufs_spec.specs.declared.exchanges.Status.TheVariants.{Good};
 ghost use Rattle.ufs_spec.specs.Lives.{Life, held};
 ghost use Rattle.ufs_spec.specs.Machine.{Reply, OfReply, accepts, blocks_in, flush_begun, observe, set_deed, tag_in, task_replied, with_task, write_complete};
 ghost use Rattle.ufs_spec.specs.Moves.{Acknowledge, moved};

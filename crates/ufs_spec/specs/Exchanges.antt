@@ -4,19 +4,16 @@ use Rattle.std.specs.Prelude.{ℕ, ◌-◌, ◌*◌, ◌==◌, ◌&&◌, min, no
 use Rattle.std.specs.Prelude.{filter, find, length, take, Option, Some, None}
 use Rattle.ufs_spec.specs.Cdbs.{Residual, carried, fixed_sense, residual_of}
 use Rattle.ufs_spec.specs.Frames.{Frame}
+use Rattle.ufs_spec.specs.declared.exchanges.Purpose.{Purpose}
+use Rattle.ufs_spec.specs.declared.exchanges.ReadState.{ReadState}
+use Rattle.ufs_spec.specs.declared.exchanges.Status.{Status}
+use Rattle.ufs_spec.specs.declared.exchanges.Status.TheVariants.{Busy, CheckCondition, Good, TaskSetFull}
 use Rattle.ufs_spec.specs.declared.messages.Message.{Message}
 use Rattle.ufs_spec.specs.declared.messages.Message.TheVariants as message
 use Rattle.ufs_spec.specs.declared.scsi.Cdb.{Cdb}
 use Rattle.ufs_spec.specs.declared.scsi.Sense.{Sense}
 
 -- ## Statuses and sense
-
--- how a command ends: GOOD, CHECK CONDITION with sense that says why, BUSY or TASK SET FULL (SAM, status codes)
-pub data Status : Type 0 where
-  Good : Status
-  CheckCondition : (sense : Sense) → Status
-  Busy : Status
-  TaskSetFull : Status
 
 -- the status in byte 7 of a RESPONSE (SAM)
 abbrev pub status_byte : Status → ℕ
@@ -109,25 +106,11 @@ response lun tag expected length status = response_message (residual_of expected
 
 -- ## Tasks
 
--- whether a block that stood on a page when it was looked up has been read
-pub data ReadState : Type 0 where
-  Unread : ReadState
-  WasRead : ReadState
-  -- the read failed, or gave another page
-  NotRead : ReadState
-
 -- a block of a READ, or a page of the RPMB area: its content as it was when it was looked up, at the COMMAND or at the
 -- last data, and whether it was read from its page
 pub record ReadBlock : Type 0 where
   pub body : List ℕ
   pub state : ReadState
-
--- what the host's data are for: the blocks of a WRITE (`forced`: with FUA), the list of UNMAP,
--- the frames of SECURITY PROTOCOL OUT, for a region of the RPMB
-pub data Purpose : Type 0 where
-  ForWrite : (unit address blocks : ℕ) → (forced : Bool) → Purpose
-  ForUnmap : (unit : ℕ) → Purpose
-  ForFrames : (region : ℕ) → Purpose
 
 -- what a task still does
 pub data Deed : Type 0 where

@@ -6,6 +6,7 @@ pub mod codes;
 mod commands;
 mod configs;
 mod events;
+mod exchanges;
 mod faults;
 mod flash;
 mod layer;
@@ -19,6 +20,7 @@ pub use codes::{GREATEST_COMMAND, MOST_SHORT_EXCHANGES, MOST_TASKS, REGIONS};
 pub use commands::Cmd;
 pub use configs::{Numbers, UnitSpec};
 pub use events::{Event, Leftover, Output, RunFault, RunFaultKind, Trace};
+pub use exchanges::{Purpose, ReadState, Status};
 pub use faults::{ConfigFault, HostFault, NoMemory, OpenFault};
 pub use flash::{
     Fence, GREATEST_GROUP, GREATEST_NUMBER, Job, Key, KeyAndCounter, Opened, Outcome, Page, Place,

@@ -1,44 +1,29 @@
 -- What was read for a request whose GOOD is due is what it asks for: of a request for data the blocks of the area as it
 -- is now, unless a page of them could not be read, and of any other request nothing.
-use Rattle.std.proofs.Common.{◌≡◌, ◌∙◌, ℕ, ◌+◌, ◌*◌, ◌-◌, ◌/◌, ◌==◌, ◌≤◌, ◌&&◌, ◌++◌, true, false, List, [], ◌∷◌}
-use Rattle.std.proofs.Common.{length, map}
-use Rattle.std.proofs.Common.{Option, Some, None, refl, sym, ap, subst, arith}
-use Rattle.std.specs.Prelude.{drop, not, slice_get, slice_index_or, take}
-use Rattle.std.proofs.lemmas.List.{length-take, take-take}
-use Rattle.ufs_spec.proofs.Facts.{and_parts, false≢true}
-use Rattle.ufs_spec.proofs.RegionPages.{area_there}
+use Rattle.device.proofs.Common.{Answering, AreaReading, AreaReads, Awaiting, Deed, Frame, Frames, FramesFit}
+use Rattle.device.proofs.Common.{FramesWait, Gathering, IsAsked, IsDoing, IsFor, IsRead, IsTied, List, None, OpenTask}
+use Rattle.device.proofs.Common.{Option, PartsStand, Phase, ReadBlock, ReadState, ReadingArea, ReadsAsked, ReadsFor}
+use Rattle.device.proofs.Common.{Region, Registers, RpmbRequest, Sending, SendingBytes, Shape, ShowsReads, Some, State}
+use Rattle.device.proofs.Common.{TaskKept, [], and_parts, ap, area_page, area_part, area_there, arith, before_accepted}
+use Rattle.device.proofs.Common.{false, false≢true, filled_with, frame_in, frames_of, is_due_in, is_page_there}
+use Rattle.device.proofs.Common.{is_success, is_task_of, is_unfilled, length, length-take, map, not, numbers_of}
+use Rattle.device.proofs.Common.{part_of_page, plain_now, read_data, reads_area, refl, region_of, second_read}
+use Rattle.device.proofs.Common.{shape_of_numbers, slice_get, slice_index_or, subst, sym, take, take-take, task_of}
+use Rattle.device.proofs.Common.{true, with_reads, ℕ, ◌&&◌, ◌*◌, ◌++◌, ◌+◌, ◌-◌, ◌/◌, ◌==◌, ◌∙◌, ◌∷◌, ◌≡◌, ◌≤◌}
+use Rattle.std.specs.Prelude.{drop}
 use Rattle.ufs_spec.specs.Exchanges as exchange
-use Rattle.ufs_spec.specs.Exchanges.{Answering, Awaiting, Deed, Gathering, ReadBlock, ReadState, ReadingArea, Registers}
-use Rattle.ufs_spec.specs.Exchanges.{RpmbRequest, Sending, SendingBytes, is_task_of, is_unfilled, task_of}
-use Rattle.ufs_spec.specs.FrameRequests.{reads_area, result_now}
-use Rattle.ufs_spec.specs.Frames.{Frame, frame_in, frames_in}
-use Rattle.ufs_spec.specs.Keys.{area_page}
-use Rattle.ufs_spec.specs.Ledger.{before_accepted}
-use Rattle.ufs_spec.specs.Plain.{Shape, region_of, shape_of_numbers}
-use Rattle.ufs_spec.specs.Refusals.{State, numbers_of, plain_now}
-use Rattle.ufs_spec.specs.Rpmb.{Region, read_data}
-use Rattle.ufs_spec.specs.RpmbResponses.{filled_with, is_success, with_reads}
-use Rattle.power_loss.specs.AreaReads.{AreaReads, ArePagesOf}
-use Rattle.power_loss.specs.Exchange.{IsTied}
-use Rattle.power_loss.specs.Shown.{ShowsReads}
-use Rattle.power_loss.specs.WaitingFrames.{AsksInside, AsksRightly, FramesAsk, FramesWait, RequestAsks}
+use Rattle.ufs_spec.specs.FrameRequests.{result_now}
+use Rattle.ufs_spec.specs.Frames.{frames_in}
+use Rattle.power_loss.specs.AreaReads.{ArePagesOf}
+use Rattle.power_loss.specs.WaitingFrames.{AsksInside, AsksRightly, FramesAsk, RequestAsks}
 use Rattle.power_loss.proofs.area_reads.PagesRead.{pages_found}
 use Rattle.power_loss.proofs.host_commands.AcceptedCommands.{shape_tied}
 use Rattle.power_loss.proofs.open_tasks.TaggedLists.{each_found}
-use Rattle.rpmb.specs.Answers.{HasAskedData, IsRead}
-use Rattle.rpmb.specs.Requests.{frames_of}
-use Rattle.task_set.specs.Frames.{area_part, read_kept, second_read}
-use Rattle.task_set.specs.Kept.{OpenTask}
-use Rattle.task_set.specs.declared.frames.AreaReading.{AreaReading}
-use Rattle.task_set.specs.declared.frames.Frames.{Frames}
+use Rattle.rpmb.specs.Answers.{HasAskedData}
 use Rattle.task_set.specs.declared.frames.Frames.TheVariants as frames
-use Rattle.task_set.specs.declared.frames.PageRead.{PageRead}
-use Rattle.task_set.specs.declared.tasks.Phase.{Phase}
 use Rattle.task_set.specs.declared.tasks.Phase.TheVariants as phase
-use Rattle.device.specs.Describes.{FramesFit, IsAsked, IsDoing, IsFirstFrame, PartsStand, ReadsAsked, ReadsFor}
-use Rattle.device.specs.Describes.{IsFor, TaskKept, asks_of}
-use Rattle.device.specs.Frames.{data_for, is_due_in, is_page_there, is_second_there, joined, part_of_page, part_read}
-use Rattle.device.specs.Frames.{second_part}
+use Rattle.device.specs.Describes.{IsFirstFrame, asks_of}
+use Rattle.device.specs.Frames.{data_for, is_second_there, joined, part_read, second_part}
 use Rattle.device.proofs.described.AreaParts.{AreAsked, one_part, part, two_parts}
 use Rattle.device.proofs.described.GoodDue.{same_first, same_rest, some_left}
 use Rattle.device.proofs.described.PagesThere.{one_read, page_part, two_read}
@@ -153,8 +138,8 @@ module _ (v : State) (a : OpenTask) (b : exchange.Task) (pages : List ReadBlock)
       part_of_page (area_part r i) block.body ≡ part r region.area i
   its_part i block at = ap (part_of_page (area_part r i)) (body_is i block at)
 
-  data_read : (ps : List ReadBlock) → pages ≡ ps → (first : PageRead) (second : Option PageRead) →
-      map (λ (page : ReadBlock). page.state) ps ≡ read_kept first ∷ second_read second →
+  data_read : (ps : List ReadBlock) → pages ≡ ps → (first : ReadState) (second : Option ReadState) →
+      map (λ (page : ReadBlock). page.state) ps ≡ first ∷ second_read second →
       is_page_there v.translation a.tag 0 first ≡ true → is_second_there v.translation a.tag second ≡ true →
       IsRead region (g ∷ []) code (map (λ (page : ReadBlock). page.state) ps)
       (joined (part_read v.translation a r 0 first) (second_part v.translation a r second))

@@ -1,53 +1,29 @@
 -- The task that fills its register: what it keeps then is kept of the specified task, whose request has filled its
 -- register and which keeps no page any more; all other tasks stay.
-use Rattle.std.proofs.Common.{length}
-use Rattle.std.proofs.Common.{◌≡◌, ◌∙◌, ℕ, ◌<◌, ◌≤◌, ◌==◌, ◌&&◌, Bool, true, false, cond, List, [], ◌∷◌, map}
-use Rattle.std.proofs.Common.{Option, Some, None, refl, sym, ap, subst}
-use Rattle.std.specs.Prelude.{filter, not, option_map, slice_get, take}
-use Rattle.std.proofs.lemmas.List.{length-map}
-use Rattle.ufs_spec.proofs.Facts.{and_parts, eqb-true, false≢true, same_Some}
+use Rattle.device.specs.Describes.{BringsFor}
+use Rattle.device.proofs.Common.{Answering, AreClaimed, AreFramesKept, AreaReads, Awaiting, Bool, Deed, DeviceCore}
+use Rattle.device.proofs.Common.{Frames, FramesFit, FramesWait, Gathering, HasResponded, IsAsked, IsDoing, IsFor}
+use Rattle.device.proofs.Common.{IsKept, IsRead, IsTied, Keeps, LetGoAll, List, Machine, None, Numbers, OneSends}
+use Rattle.device.proofs.Common.{OpenTask, Option, Phase, Pin, ReadingArea, ReadsAsked, Region, RegionState}
+use Rattle.device.proofs.Common.{RpmbRequest, Sending, SendingBytes, ShowsReads, Some, State, TaskKept, TasksKept}
+use Rattle.device.proofs.Common.{Translation, [], and_parts, ap, at_region, before_accepted, brings_frames, claimed_by}
+use Rattle.device.proofs.Common.{claimed_in, claims_of, cond, eq_self, eqb-true, false, false≢true, filled, filled_with}
+use Rattle.device.proofs.Common.{fills, filter, found_in, found_is, frames_after, frames_of, if_false, if_true}
+use Rattle.device.proofs.Common.{is_due_in, is_good_due, is_task_of, is_to_fill, is_unfilled, length, length-map}
+use Rattle.device.proofs.Common.{machine_at, map, most_tasks, moved, not, numbers_of, option_map, phase_after}
+use Rattle.device.proofs.Common.{plain_now, refl, region_of, regions, same_Some, slice_get, subst, sym, take}
+use Rattle.device.proofs.Common.{task_after, task_filled, task_happened, task_of, true, wanted_by, wanted_in}
+use Rattle.device.proofs.Common.{wanted_kept, with_machine, with_reads, ℕ, ◌&&◌, ◌<◌, ◌==◌, ◌∙◌, ◌∷◌, ◌≡◌, ◌≤◌}
 use Rattle.ufs_spec.specs.Exchanges as exchange
-use Rattle.ufs_spec.specs.Exchanges.{Answering, Awaiting, Deed, Gathering, ReadingArea, RpmbRequest, Sending}
-use Rattle.ufs_spec.specs.Exchanges.{SendingBytes}
-use Rattle.ufs_spec.specs.Exchanges.{at_region, filled, is_task_of, is_unfilled, most_tasks, task_of}
 use Rattle.ufs_spec.specs.FrameRequests.{filled_by, filled_registers}
-use Rattle.ufs_spec.specs.Ledger.{before_accepted}
-use Rattle.ufs_spec.specs.Machine.{fills, is_good_due, is_to_fill, task_filled}
-use Rattle.ufs_spec.specs.Moves.{LetGoAll, moved}
-use Rattle.ufs_spec.specs.Plain.{region_of, regions}
-use Rattle.ufs_spec.specs.Refusals.{State, plain_now}
-use Rattle.ufs_spec.specs.Rpmb.{Region}
-use Rattle.ufs_spec.specs.RpmbResponses.{filled_with, with_reads}
-use Rattle.ufs_spec.specs.Translation.{Pin, Translation}
 use Rattle.ufs_laws.proofs.frame_laws.RegistersFilled.{filled_done}
-use Rattle.power_loss.specs.AreaReads.{AreaReads}
-use Rattle.power_loss.specs.Exchange.{IsTied}
-use Rattle.power_loss.specs.Shown.{ShowsReads}
-use Rattle.power_loss.specs.WaitingFrames.{FramesWait}
-use Rattle.power_loss.proofs.books.SmallFacts.{eq_self, if_false, if_true}
-use Rattle.power_loss.proofs.open_tasks.FoundInLists.{found_is}
-use Rattle.power_loss.proofs.ordered_lists.ElementsAndOrders.{found_in, has_at}
+use Rattle.power_loss.proofs.ordered_lists.ElementsAndOrders.{has_at}
 use Rattle.ftl_core.specs.Public as layer_kept
-use Rattle.ftl_core.specs.Public.{AreClaimed}
-use Rattle.rpmb.specs.Answers.{IsRead}
-use Rattle.rpmb.specs.Kept.{IsKept, Machine, machine_at, with_machine}
-use Rattle.rpmb.specs.Requests.{frames_of}
-use Rattle.rpmb.specs.declared.regions.RegionState.{RegionState}
-use Rattle.task_set.specs.Frames.{frames_after}
-use Rattle.task_set.specs.Kept.{OpenTask}
-use Rattle.task_set.specs.Lists.{task_happened}
-use Rattle.task_set.specs.Tasks.{brings_frames, came, phase_after, task_after}
-use Rattle.task_set.specs.declared.frames.Frames.{Frames}
 use Rattle.task_set.specs.declared.frames.Frames.TheVariants as frames
-use Rattle.task_set.specs.declared.tasks.Phase.{Phase}
 use Rattle.task_set.specs.declared.tasks.Phase.TheVariants as phase
 use Rattle.task_set.specs.declared.tasks.TaskEvent.TheVariants as event
-use Rattle.device.specs.Describes.{AreFramesKept, FramesFit, IsAsked, IsDoing, Keeps, OneSends, ReadsAsked}
-use Rattle.device.specs.Describes.{TaskKept, TasksKept, claimed_by, claimed_in, claims_of, wanted_by, wanted_in}
-use Rattle.device.specs.Describes.{IsFor, asks_of, wanted_kept}
-use Rattle.device.specs.Frames.{HasFilledAt, HasResponded, data_for, first_held, frame_held}
-use Rattle.device.specs.Frames.{is_due_in}
-use Rattle.device.specs.Kept.{DeviceCore}
+use Rattle.device.specs.Describes.{asks_of}
+use Rattle.device.specs.Frames.{HasFilledAt, data_for, first_held, frame_held}
 use Rattle.device.proofs.described.AreaRead.{filled_by_first, read_right, reads_of, result_is}
 use Rattle.device.proofs.described.Machines.{as_many, regions_same, registers_put}
 use Rattle.device.proofs.described.OneChanges.{changed_at, only_one}
@@ -57,10 +33,6 @@ use Rattle.device.proofs.due_replies.PinsLetGo.{gone_pins, other_pins}
 use Rattle.device.proofs.open_tasks.KeptByTag.{WantedForAll}
 use Rattle.device.proofs.open_tasks.OpenTasks.{IsOpen}
 use Rattle.device.proofs.open_tasks.ReadProgress.{KeepsTag, by_tag, each_goes_on, one_goes_on, tag_kept}
-use Rattle.ufs_spec.specs.Refusals.{numbers_of}
-use Rattle.ufs_spec.specs.declared.configs.Numbers.{Numbers}
-use Rattle.task_set.specs.declared.tasks.Wanted.{Wanted}
-use Rattle.task_set.specs.declared.tasks.Wanted.TheVariants as wanted
 
 -- What a task keeps that fills its register
 
@@ -103,18 +75,12 @@ filled_wants v b (Answering status carried) index good = refl
 abbrev task_frames : Frames → Frames
 task_frames f = frames_after f event.RegisterFilled
 
--- it awaits the same
-awaits_on : (w : Wanted) → came w event.RegisterFilled ≡ phase.Await w
-awaits_on (wanted.Block x) = refl
-awaits_on (wanted.Frames size) = refl
-awaits_on (wanted.List unit size) = refl
-
 -- its phase stays
 phase_stays : (p : Phase) → phase_after p event.RegisterFilled ≡ p
 phase_stays (phase.AwaitFrontier n size) = refl
 phase_stays (phase.Answer told n) = refl
 phase_stays (phase.Ask w) = refl
-phase_stays (phase.Await w) = awaits_on w
+phase_stays (phase.Await w) = refl
 phase_stays (phase.ReadArea r) = refl
 phase_stays (phase.SendBlocks x) = refl
 phase_stays (phase.SendHeld x) = refl
@@ -183,12 +149,9 @@ module _ (e : DeviceCore) (v : State) (k : Keeps e v) (n : ℕ) (a : OpenTask) (
       lun = o.kept.lun;
       tag = o.kept.tag;
       expected = o.kept.expected;
-      sends = o.kept.sends ∙ (ap brings_frames decided ∙ sym (ap brings_frames (ap task_frames decided)));
-      in_regions = o.kept.in_regions;
-      sends_to =
-          λ other. (o.kept.sends_to other
-          ∙ ap (λ (c : Bool). c && (a.region == other))
-          (ap brings_frames decided ∙ sym (ap brings_frames (ap task_frames decided))));
+      brings =
+          subst (λ (x : Bool). BringsFor a.region x b.command)
+          (ap brings_frames decided ∙ sym (ap brings_frames (ap task_frames decided))) o.kept.brings;
       gathers = o.kept.gathers;
       asked_of = asked_still a.region b.request o.kept.asked_of;
       request = subst (λ (f : Frames). AreFramesKept f a.held (filled b.request)) (sym (ap task_frames decided))
@@ -241,7 +204,7 @@ module _ (e : DeviceCore) (v : State) (k : Keeps e v) (n : ℕ) (a : OpenTask) (
     machine = machine_at e.rpmb a.region
 
     there : a.region < regions
-    there = o.kept.in_regions (o.kept.sends ∙ ap brings_frames decided)
+    there = o.kept.brings.in_regions (o.kept.brings.sends ∙ ap brings_frames decided)
 
     region_is : x.asked.region ≡ a.region
     region_is = subst (λ (request : Option RpmbRequest). IsFor a.region (asks_of request)) x.is o.kept.asked_of

@@ -1,33 +1,19 @@
 -- GOOD is due to a task of the device just where it is due to the specified one: at once, once its group is durable, or
 -- once each page of the RPMB area that it reads is there.
-use Rattle.std.proofs.Common.{◌≡◌, ◌∙◌, ℕ, zero, suc, ◌+◌, ◌≤◌, ◌-◌, ◌&&◌, Bool, true, false, List, [], ◌∷◌, map}
-use Rattle.std.proofs.Common.{Option, Some, None, refl, sym, ap, arith}
-use Rattle.std.specs.Prelude.{find, nat_le, not, slice_get}
+use Rattle.device.proofs.Common.{All-cons, All-nil, Answering, AreFramesKept, Awaiting, Bool, Deed, Frames, Gathering}
+use Rattle.device.proofs.Common.{IsDoing, List, None, OpenTask, Option, Phase, ReadBlock, ReadState, ReadingArea}
+use Rattle.device.proofs.Common.{RpmbRequest, Sending, SendingBytes, Some, State, Status, TaskKept, TasksKept}
+use Rattle.device.proofs.Common.{Translation, [], ap, arith, before_accepted, false, find, is_area_read, is_at_hand}
+use Rattle.device.proofs.Common.{is_decided, is_due_in, is_good_due, is_page_there, is_pin_of, is_read, is_to_fill}
+use Rattle.device.proofs.Common.{is_unanswered, is_unfilled, map, nat_le, nat_tests, not, refl, second_read, slice_get}
+use Rattle.device.proofs.Common.{suc, sym, true, zero, ℕ, ◌&&◌, ◌+◌, ◌-◌, ◌∙◌, ◌∷◌, ◌≡◌, ◌≤◌}
 use Rattle.std.proofs.Math.Bool.{and-true}
-use Rattle.std.proofs.lemmas.Bool.Decides.{nat_tests}
-use Rattle.std.proofs.lemmas.List.Elements.{All-cons, All-nil}
 use Rattle.ufs_spec.specs.Exchanges as exchange
-use Rattle.ufs_spec.specs.Exchanges.{Answering, Awaiting, Deed, Gathering, ReadBlock, ReadState, ReadingArea}
-use Rattle.ufs_spec.specs.Exchanges.{RpmbRequest}
-use Rattle.ufs_spec.specs.Exchanges.{Sending, SendingBytes, is_good, is_unfilled}
-use Rattle.ufs_spec.specs.Ledger.{before_accepted}
-use Rattle.ufs_spec.specs.Machine.{is_at_hand, is_good_due, is_to_fill}
-use Rattle.ufs_spec.specs.Moves.{is_pin_of}
-use Rattle.ufs_spec.specs.Refusals.{State}
-use Rattle.ufs_spec.specs.Replies.{is_area_read, is_read}
-use Rattle.ufs_spec.specs.Translation.{Translation}
-use Rattle.task_set.specs.Frames.{read_kept, second_read}
-use Rattle.task_set.specs.Kept.{OpenTask}
-use Rattle.task_set.specs.Tasks.{is_decided, is_unanswered, status_kept}
-use Rattle.task_set.specs.declared.frames.Frames.{Frames}
+use Rattle.ufs_spec.specs.Exchanges.{is_good}
 use Rattle.task_set.specs.declared.frames.Frames.TheVariants as frames
-use Rattle.task_set.specs.declared.frames.PageRead.{PageRead}
-use Rattle.task_set.specs.declared.tasks.Phase.{Phase}
 use Rattle.task_set.specs.declared.tasks.Phase.TheVariants as phase
-use Rattle.task_set.specs.declared.tasks.Status as kept_status
-use Rattle.task_set.specs.declared.tasks.Status.TheVariants as status
-use Rattle.device.specs.Describes.{AreFramesKept, IsDoing, TaskKept, TasksKept}
-use Rattle.device.specs.Frames.{is_due_in, is_page_there, is_second_there}
+use Rattle.ufs_spec.specs.declared.exchanges.Status.TheVariants as status
+use Rattle.device.specs.Frames.{is_second_there}
 use Rattle.device.proofs.described.Settled.{AreAnswered}
 
 -- Pages of the area
@@ -48,8 +34,8 @@ module _ (s : State) (b : exchange.Task) where
   is_there index state =
       is_read state (is_at_hand s.translation.work.rests (find (is_pin_of b.tag index) s.translation.pins))
 
-  pub same_pages : (pages : List ReadBlock) (first : PageRead) (second : Option PageRead) →
-      map (λ (page : ReadBlock). page.state) pages ≡ read_kept first ∷ second_read second →
+  pub same_pages : (pages : List ReadBlock) (first : ReadState) (second : Option ReadState) →
+      map (λ (page : ReadBlock). page.state) pages ≡ first ∷ second_read second →
       is_area_read s b pages
       ≡ (is_page_there s.translation b.tag 0 first && is_second_there s.translation b.tag second)
   same_pages [] first second e = absurd (some_left (sym e))
@@ -57,7 +43,7 @@ module _ (s : State) (b : exchange.Task) where
   same_pages (p ∷ []) first (Some how) e = absurd (some_left (sym (same_rest e)))
   same_pages (p ∷ q ∷ []) first (Some how) e =
       (λ i. is_there 0 (same_first e i) && (is_there 1 (same_first (same_rest e) i) && true))
-      ∙ ap (λ (c : Bool). is_there 0 (read_kept first) && c) (and-true (is_there 1 (read_kept how)))
+      ∙ ap (λ (c : Bool). is_there 0 first && c) (and-true (is_there 1 how))
   same_pages (p ∷ q ∷ pages) first None e = absurd (some_left (same_rest e))
   same_pages (p ∷ q ∷ w ∷ pages) first (Some how) e = absurd (some_left (same_rest (same_rest e)))
 
@@ -71,8 +57,8 @@ same_unfilled frames.Undecided held request h = ap is_unfilled h
 same_unfilled (frames.Decided code) held request h = ap is_unfilled h.is ∙ ap not h.unfilled
 same_unfilled frames.Answered held request h = h
 
-good_told : (told : kept_status.Status) (t : Translation) (tag n : ℕ) →
-    is_good (status_kept told) ≡ is_due_in t tag (phase.Answer told n)
+good_told : (told : Status) (t : Translation) (tag n : ℕ) →
+    is_good told ≡ is_due_in t tag (phase.Answer told n)
 good_told status.Good t tag n = refl
 good_told (status.CheckCondition sense) t tag n = refl
 good_told status.Busy t tag n = refl
@@ -99,7 +85,7 @@ module _ (v : State) (b : exchange.Task) where
   same_good expected (phase.Answer told n) (Answering x carried) low h =
       ap is_good h.0 ∙ good_told told v.translation b.tag n
   same_good expected (phase.Answer told n) (Sending blocks sent) low h =
-      sym (ap (λ (y : kept_status.Status). is_due_in v.translation b.tag (phase.Answer y n)) h.told_is)
+      sym (ap (λ (y : Status). is_due_in v.translation b.tag (phase.Answer y n)) h.told_is)
   same_good expected (phase.Ask w) (Gathering purpose gathered asked) low h = refl
   same_good expected (phase.Await w) (Gathering purpose gathered asked) low h = refl
   same_good expected (phase.SendBlocks x) (Sending blocks sent) low h = refl

@@ -1,46 +1,29 @@
 -- Once the lock is told to the tasks, what the device keeps describes the state in which the lock is told.
-use Rattle.std.proofs.Common.{◌≡◌, ◌∙◌, ℕ, ◌+◌, ◌-◌, ◌≤◌, Bool, true, false, cond, All, List, [], ◌∷◌, map, refl, sym}
-use Rattle.std.proofs.Common.{ap, subst, arith, Option}
-use Rattle.std.specs.Prelude.{length, nat_lt, nat_le, slice_get, take, zero, suc, Some, None}
-use Rattle.std.proofs.lemmas.List.{length-map}
-use Rattle.std.proofs.lemmas.List.Elements.{All-cons, All-head, All-nil, All-tail}
-use Rattle.std.proofs.lemmas.Bool.{le-ltb, lt-ltb}
-use Rattle.ufs_spec.proofs.Facts.{false≢true, leb-false, leb-true, none-some, same_Some}
-use Rattle.ufs_spec.specs.Exchanges.{Answering, Awaiting, Deed, Gathering, Sending, SendingBytes}
-use Rattle.ufs_spec.specs.Frames.{Frame, frame_in}
-use Rattle.ufs_spec.specs.Ledger.{before_accepted}
-use Rattle.ufs_spec.specs.Machine.{deed_locked, durable}
-use Rattle.ufs_spec.specs.Machine.{lock_applied}
-use Rattle.ufs_spec.specs.Machine.{short_locked, task_locked}
-use Rattle.ufs_spec.specs.Refusals.{State, locked, numbers_of}
-use Rattle.ufs_spec.specs.Exchanges.{most_tasks}
-use Rattle.ufs_spec.specs.Translation.{is_mended}
-use Rattle.ufs_spec.specs.declared.configs.Numbers.{Numbers}
-use Rattle.power_loss.specs.AreaReads.{AreaReads}
-use Rattle.power_loss.specs.Exchange.{DeedFits, DeedsFit, IsTied, claim_of}
-use Rattle.power_loss.specs.Shown.{ShowsReads}
-use Rattle.power_loss.specs.WaitingFrames.{FramesWait}
-use Rattle.task_set.specs.declared.tasks.Phase.{Phase}
+use Rattle.device.proofs.Common.{All, All-cons, All-head, All-nil, All-tail, Answering, AreClaimed, AreaReads, Awaiting}
+use Rattle.device.proofs.Common.{Bool, Deed, DeedFits, DeedsFit, Describes, DeviceCore, Frame, Frames, FramesFit}
+use Rattle.device.proofs.Common.{FramesWait, Gathering, HaveAnswered, IsDoing, IsFor, IsShortTold, IsTied, IsTold}
+use Rattle.device.proofs.Common.{IsToldIn, Keeps, List, Numbers, OpenTask, Option, PartsStand, Phase, ReadsAsked}
+use Rattle.device.proofs.Common.{ReadsFor, Sending, SendingBytes, ShowsReads, State, Status, TaskKept, [], ap, arith}
+use Rattle.device.proofs.Common.{before_accepted, claim_of, claimed_in, cond, durable, false, false≢true, frame_in}
+use Rattle.device.proofs.Common.{gathers_for, is_mended, le-ltb, leb-true, length-map, lock_applied, lock_told, locked}
+use Rattle.device.proofs.Common.{map, most_tasks, nat_le, nat_lt, none-some, numbers_of, phase_after, read_in, refl}
+use Rattle.device.proofs.Common.{same_Some, short_locked, slice_get, subst, sym, take, task_after, true, wanted_in}
+use Rattle.device.proofs.Common.{write_error, ℕ, ◌+◌, ◌-◌, ◌∙◌, ◌∷◌, ◌≡◌, ◌≤◌}
+use Rattle.std.specs.Prelude.{None, Some, length, suc, zero}
+use Rattle.std.proofs.lemmas.Bool.{lt-ltb}
+use Rattle.ufs_spec.proofs.Facts.{leb-false}
+use Rattle.ufs_spec.specs.Machine.{deed_locked, task_locked}
 use Rattle.task_set.specs.Shorts as ours
-use Rattle.task_set.specs.Kept.{OpenTask}
-use Rattle.device.specs.Calls.{lock_told}
-use Rattle.device.specs.Describes.{Describes, FramesFit, HaveAnswered, IsDoing, IsShortTold, IsTold, IsToldIn, Keeps}
-use Rattle.device.specs.Describes.{IsFor, PartsStand, gathers_for, ReadsAsked, ReadsFor, TaskKept, claimed_in, read_in, wanted_in}
-use Rattle.task_set.specs.declared.frames.Frames.{Frames}
 use Rattle.task_set.specs.declared.frames.Frames.TheVariants as frames
 use Rattle.device.proofs.described.OneSender.{each_sends}
 use Rattle.device.proofs.described.Settled.{told_answered}
 use Rattle.device.proofs.described.ShortExchanges.{all_shorts_told, shorts_locked, shorts_stay}
-use Rattle.device.specs.Kept.{DeviceCore}
-use Rattle.task_set.specs.Tasks.{write_error, phase_after, task_after}
 use Rattle.device.proofs.open_tasks.OpenTasks.{each_changed}
 use Rattle.device.proofs.open_tasks.KeptByTag.{SameDeed, each_claims, each_wants}
 use Rattle.ufs_spec.specs.Exchanges as exchange
-use Rattle.ftl_core.specs.Public.{AreClaimed}
 use Rattle.task_set.specs.declared.tasks.Phase.TheVariants as phase
-use Rattle.task_set.specs.declared.tasks.Status.TheVariants as status
+use Rattle.ufs_spec.specs.declared.exchanges.Status.TheVariants as status
 use Rattle.task_set.specs.declared.tasks.TaskEvent.TheVariants as event
-use Rattle.task_set.specs.declared.tasks.Wanted.TheVariants as wanted
 
 -- Once the lock is told
 
@@ -98,7 +81,7 @@ all_told s (y ∷ us) = All-cons (IsTold (durable s)) (task_locked s y) (map (ta
     (all_told s us)
 
 -- what a deed tells of blocks it tells once the lock is told
-same_told : {X : Type 0} (G : Deed → X) → ((commands n : ℕ) (status : exchange.Status) →
+same_told : {X : Type 0} (G : Deed → X) → ((commands n : ℕ) (status : Status) →
     G (Answering status n) ≡ G (Awaiting commands)) → (s : State) (task : exchange.Task) (deed : Deed) →
     G (deed_locked s task deed) ≡ G deed
 same_told G same s task (Awaiting commands) = by (nat_le commands (durable s))
@@ -165,18 +148,10 @@ deed_kept s n all claimed mended frontier expected task (phase.AwaitFrontier m s
         (cond b (Awaiting commands) (Answering exchange.write_error task.length))
     by true = h
     by false = (refl, h.1)
-deed_kept s n all claimed mended frontier expected task (phase.Ask (wanted.Block x)) (Gathering purpose gathered asked)
-    same low fits h = h
-deed_kept s n all claimed mended frontier expected task (phase.Await (wanted.Block x)) (Gathering purpose gathered asked)
-    same low fits h = h
-deed_kept s n all claimed mended frontier expected task (phase.Ask (wanted.Frames size)) (Gathering purpose gathered asked)
-    same low fits h = h
-deed_kept s n all claimed mended frontier expected task (phase.Ask (wanted.List unit size)) (Gathering purpose gathered asked)
-    same low fits h = h
-deed_kept s n all claimed mended frontier expected task (phase.Await (wanted.Frames size)) (Gathering purpose gathered asked)
-    same low fits h = h
-deed_kept s n all claimed mended frontier expected task (phase.Await (wanted.List unit size)) (Gathering purpose gathered asked)
-    same low fits h = h
+deed_kept s n all claimed mended frontier expected task (phase.Ask w) (Gathering purpose gathered asked) same low fits h
+    = h
+deed_kept s n all claimed mended frontier expected task (phase.Await w) (Gathering purpose gathered asked) same low fits h
+    = h
 deed_kept s n all claimed mended frontier expected task (phase.SendHeld size) (SendingBytes bytes) same low fits h = h
 deed_kept s n all claimed mended frontier expected task (phase.SendBlocks x) (Sending blocks sent) same low fits h = h
 deed_kept s n all claimed mended frontier expected task (phase.ReadArea r) (exchange.ReadingArea pages) same low fits h
@@ -207,9 +182,7 @@ frames_fit s task frontier (phase.SendHeld size) f held deed h = (
   },
 )
 frames_fit s task frontier (phase.Ask w) f held deed h = h
-frames_fit s task frontier (phase.Await (wanted.Block x)) f held deed h = h
-frames_fit s task frontier (phase.Await (wanted.Frames size)) f held deed h = h
-frames_fit s task frontier (phase.Await (wanted.List unit size)) f held deed h = h
+frames_fit s task frontier (phase.Await w) f held deed h = h
 frames_fit s task frontier (phase.ReadArea r) f held deed h = (h.0, parts_stand deed h.1)
   where
     parts_stand : (d : Deed) → PartsStand r held d → PartsStand r held (deed_locked s task d)
@@ -244,9 +217,7 @@ asks_stay frontier p (frames.Decided code) (Some bytes) h = reads_stay p h
         by true = k
         by false = k
     reads_stay (phase.Ask w) k = k
-    reads_stay (phase.Await (wanted.Block x)) k = k
-    reads_stay (phase.Await (wanted.Frames size)) k = k
-    reads_stay (phase.Await (wanted.List unit size)) k = k
+    reads_stay (phase.Await w) k = k
     reads_stay (phase.ReadArea r) k = k
     reads_stay (phase.SendBlocks x) k = k
     reads_stay (phase.SendHeld size) k = k
@@ -262,9 +233,7 @@ task_kept s n accepted claimed mended frontier a b same low fits h = record {
   lun = h.lun;
   tag = h.tag;
   expected = h.expected;
-  sends = h.sends;
-  in_regions = h.in_regions;
-  sends_to = h.sends_to;
+  brings = h.brings;
   gathers =
       subst (IsFor a.region) (sym (same_told gathers_for (λ commands n status. refl) s b b.deed)) h.gathers;
   asked_of = h.asked_of;

@@ -1,35 +1,22 @@
 -- Of a page of the RPMB area that needs no read any more, the part that is asked for is there, unless the page could
 -- not be read.
-use Rattle.std.proofs.Common.{◌≡◌, ◌∙◌, ℕ, ◌&&◌, ◌++◌, Bool, true, false, List, [], ◌∷◌, Option, Some, None, refl, sym}
-use Rattle.std.proofs.Common.{ap, subst}
-use Rattle.std.specs.Prelude.{find, if◌then◌else◌, not, option_map, slice_get}
-use Rattle.std.specs.List.{list_any}
-use Rattle.ufs_spec.proofs.Facts.{and_parts, eqb-true, false≢true, none-some, same_Some}
+use Rattle.device.proofs.Common.{AreaReading, Bool, Entry, Frame, InSlot, IsRead, Key, List, Looked, None, NotRead}
+use Rattle.device.proofs.Common.{OnPage, OpenTask, Option, PartsStand, Pin, ReadBlock, ReadState, ReadingArea, Region}
+use Rattle.device.proofs.Common.{ShowsReads, ShowsRight, Some, State, Unread, Unwritten, WasRead, [], all_in, and_parts}
+use Rattle.device.proofs.Common.{ap, area_part, block_at, block_for, block_of, entry_of, eqb-true, false, false≢true}
+use Rattle.device.proofs.Common.{find, found_in, found_is, if◌then◌else◌, is_at_hand, is_page_there, is_pin_of}
+use Rattle.device.proofs.Common.{is_rest_of, is_unfilled, is_unread, list_any, none-some, not, option_map, part_held}
+use Rattle.device.proofs.Common.{part_of_page, refl, same_Some, slice_get, subst, sym, task_of, true, wanted_by}
+use Rattle.device.proofs.Common.{wanted_in, wanted_kept, wanted_of, ℕ, ◌&&◌, ◌++◌, ◌∙◌, ◌∷◌, ◌≡◌}
 use Rattle.ufs_spec.specs.Exchanges as exchange
-use Rattle.ufs_spec.specs.Exchanges.{NotRead, ReadBlock, ReadState, ReadingArea, Unread, WasRead, is_unfilled, task_of}
-use Rattle.ufs_spec.specs.Frames.{Frame}
-use Rattle.ufs_spec.specs.Ledger.{Entry, Ledger, entry_of}
-use Rattle.ufs_spec.specs.Machine.{is_at_hand, needs_no_read}
-use Rattle.ufs_spec.specs.Moves.{is_pin_of}
-use Rattle.ufs_spec.specs.Refusals.{State}
-use Rattle.ufs_spec.specs.Rpmb.{Region}
+use Rattle.ufs_spec.specs.Ledger.{Ledger}
+use Rattle.ufs_spec.specs.Machine.{needs_no_read}
 use Rattle.ufs_spec.specs.RpmbResponses.{is_lost}
-use Rattle.ufs_spec.specs.Translation.{Pin, Rest, is_rest_of}
-use Rattle.ufs_spec.specs.declared.flash.Key.{Key}
-use Rattle.ufs_spec.specs.declared.layer.Looked.{Looked}
-use Rattle.ufs_spec.specs.declared.layer.Looked.TheVariants.{InSlot, OnPage, Unwritten}
-use Rattle.power_loss.specs.Shown.{IsShown, ShowsBlock, ShowsReads, ShowsRight}
-use Rattle.power_loss.proofs.open_tasks.FoundInLists.{found_is}
-use Rattle.power_loss.proofs.ordered_lists.ElementsAndOrders.{all_in, found_in}
-use Rattle.rpmb.specs.Answers.{HasAskedData, IsRead}
-use Rattle.task_set.specs.Frames.{area_part, read_kept}
-use Rattle.task_set.specs.Kept.{OpenTask}
-use Rattle.task_set.specs.declared.frames.AreaReading.{AreaReading}
-use Rattle.task_set.specs.declared.frames.PageRead.{PageRead}
-use Rattle.task_set.specs.declared.frames.PageRead.TheVariants as page
-use Rattle.device.specs.Describes.{PartsStand, is_unread, wanted_by, wanted_in, wanted_kept, wanted_of}
-use Rattle.device.specs.Frames.{is_page_there, joined, part_held, part_of_page, part_read}
-use Rattle.device.specs.Replies.{block_at, block_for, block_of}
+use Rattle.ufs_spec.specs.Translation.{Rest}
+use Rattle.power_loss.specs.Shown.{IsShown, ShowsBlock}
+use Rattle.rpmb.specs.Answers.{HasAskedData}
+use Rattle.ufs_spec.specs.declared.exchanges.ReadState.TheVariants as page
+use Rattle.device.specs.Frames.{joined, part_read}
 use Rattle.device.proofs.open_tasks.KeptByTag.{WantedForAll}
 
 -- One page
@@ -107,16 +94,16 @@ module _ (v : State) (a : OpenTask) (b : exchange.Task) (pages : List ReadBlock)
       pinned = ap (λ (tag : ℕ). find (is_pin_of tag i) v.translation.pins) (sym tag_is) ∙ kept.found
 
   -- the part that is asked for of a page
-  pub page_part : (i : ℕ) (how : PageRead) (block : ReadBlock) → slice_get pages i ≡ Some block →
-      block.state ≡ read_kept how → is_page_there v.translation a.tag i how ≡ true →
+  pub page_part : (i : ℕ) (how : ReadState) (block : ReadBlock) → slice_get pages i ≡ Some block →
+      block.state ≡ how → is_page_there v.translation a.tag i how ≡ true →
       IsPartRead block.state (part_of_page (area_part r i) block.body) (part_read v.translation a r i how)
   page_part i how block at state there =
       subst (λ (s : ReadState).
       IsPartRead s (part_of_page (area_part r i) block.body) (part_read v.translation a r i how)) (sym state)
       (by how state there)
     where
-      by : (how : PageRead) → block.state ≡ read_kept how → is_page_there v.translation a.tag i how ≡ true →
-          IsPartRead (read_kept how) (part_of_page (area_part r i) block.body) (part_read v.translation a r i how)
+      by : (how : ReadState) → block.state ≡ how → is_page_there v.translation a.tag i how ≡ true →
+          IsPartRead how (part_of_page (area_part r i) block.body) (part_read v.translation a r i how)
       by page.WasRead is here =
           let it = stand i block at is in
           ap (option_map (part_held (area_part r i))) it.is_held ∙ ap (λ (x : List ℕ). Some x) it.same

@@ -1,18 +1,11 @@
 -- Until the device is mended no task waits for commands, so the tasks do not read from which number groups count.
-use Rattle.std.proofs.Common.{◌≡◌, ℕ, Bool, true, false, All, List, [], ◌∷◌, Some, subst}
-use Rattle.std.proofs.lemmas.List.Elements.{All-cons, All-nil}
-use Rattle.ufs_spec.proofs.Facts.{false≢true}
+use Rattle.device.proofs.Common.{All, All-cons, All-nil, Answering, Awaiting, Bool, Deed, DeedFits, DeedsFit, Gathering}
+use Rattle.device.proofs.Common.{IsDoing, IsTold, IsToldIn, List, Numbers, OpenTask, Phase, ReadingArea, Sending}
+use Rattle.device.proofs.Common.{SendingBytes, Some, TasksKept, [], claim_of, false, false≢true, is_task_of, subst}
+use Rattle.device.proofs.Common.{task_of, true, ℕ, ◌∷◌, ◌≡◌}
 use Rattle.ufs_spec.specs.Exchanges as exchange
-use Rattle.ufs_spec.specs.Exchanges.{Answering, Awaiting, Deed, Gathering, ReadingArea, Sending, SendingBytes}
-use Rattle.ufs_spec.specs.Exchanges.{is_task_of, task_of}
-use Rattle.ufs_spec.specs.declared.configs.Numbers.{Numbers}
-use Rattle.power_loss.specs.Exchange.{DeedFits, DeedsFit, claim_of}
 use Rattle.power_loss.proofs.open_tasks.TaggedLists.{each_found}
-use Rattle.task_set.specs.declared.tasks.Phase.{Phase}
 use Rattle.task_set.specs.declared.tasks.Phase.TheVariants as phase
-use Rattle.task_set.specs.Kept.{OpenTask}
-use Rattle.device.specs.Describes.{IsDoing, IsTold, IsToldIn, TasksKept}
-use Rattle.task_set.specs.declared.tasks.Wanted.TheVariants as wanted
 
 -- What waits is told nothing new
 
@@ -39,18 +32,8 @@ doing_else : (n : Numbers) (accepted claimed total before other expected : ℕ) 
     IsDoing other expected total p deed
 doing_else n accepted claimed total before other expected (phase.AwaitFrontier m size) (Awaiting commands) fits h =
     absurd (false≢true fits.1)
-doing_else n accepted claimed total before other expected (phase.Ask (wanted.Block x)) (Gathering purpose gathered asked)
-    fits h = h
-doing_else n accepted claimed total before other expected (phase.Await (wanted.Block x)) (Gathering purpose gathered asked)
-    fits h = h
-doing_else n accepted claimed total before other expected (phase.Ask (wanted.Frames size)) (Gathering purpose gathered asked)
-    fits h = h
-doing_else n accepted claimed total before other expected (phase.Ask (wanted.List unit size)) (Gathering purpose gathered asked)
-    fits h = h
-doing_else n accepted claimed total before other expected (phase.Await (wanted.Frames size)) (Gathering purpose gathered asked)
-    fits h = h
-doing_else n accepted claimed total before other expected (phase.Await (wanted.List unit size)) (Gathering purpose gathered asked)
-    fits h = h
+doing_else n accepted claimed total before other expected (phase.Ask w) (Gathering purpose gathered asked) fits h = h
+doing_else n accepted claimed total before other expected (phase.Await w) (Gathering purpose gathered asked) fits h = h
 doing_else n accepted claimed total before other expected (phase.SendHeld size) (SendingBytes bytes) fits h = h
 doing_else n accepted claimed total before other expected (phase.SendBlocks x) (Sending blocks sent) fits h = h
 doing_else n accepted claimed total before other expected (phase.ReadArea r) (ReadingArea pages) fits h = h
@@ -66,9 +49,7 @@ kept_else n accepted before other (x ∷ ts) (y ∷ us) fits h = (
     lun = h.0.lun;
     tag = h.0.tag;
     expected = h.0.expected;
-    sends = h.0.sends;
-    in_regions = h.0.in_regions;
-    sends_to = h.0.sends_to;
+    brings = h.0.brings;
     gathers = h.0.gathers;
     asked_of = h.0.asked_of;
     request = h.0.request;

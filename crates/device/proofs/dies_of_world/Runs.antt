@@ -1,26 +1,17 @@
 -- A run: the lives that its trace is, event by event.
-use Rattle.std.proofs.Common.{◌≡◌, ◌∙◌, ℕ, suc, ◌+◌, ◌<◌, ◌≤◌, List, [], ◌∷◌, ◌++◌, Some, length, refl, sym, ap, subst}
-use Rattle.std.proofs.Common.{⊎_elim, add-one}
-use Rattle.std.specs.Prelude.{slice_index_or, take, Ok}
+use Rattle.device.proofs.Common.{DieState, Event, Fit, Fits, IsConfig, IsOpened, List, Numbers, Ok, Output, Some, Sound}
+use Rattle.device.proofs.Common.{State, Suits, Went, WorldState, [], ap, array_of, bad_of, fit_inside, length}
+use Rattle.device.proofs.Common.{numbers_of, refl, slice_get-get_or, slice_index_or, subst, suc, sym, take, take_all, ℕ}
+use Rattle.device.proofs.Common.{⊎_elim, ◌++◌, ◌+◌, ◌<◌, ◌∙◌, ◌∷◌, ◌≡◌, ◌≤◌}
+use Rattle.std.proofs.Common.{add-one}
 use Rattle.std.proofs.Math.Seq.{take-suc}
-use Rattle.std.proofs.lemmas.List.{take_all}
-use Rattle.std.proofs.lemmas.Option.{slice_get-get_or}
-use Rattle.ufs_spec.specs.Configs.{IsConfig}
-use Rattle.ufs_spec.specs.Dies.{DieState}
-use Rattle.ufs_spec.specs.Lives.{Fit, GoesOn, IsOpened, Leads, Reopens, Runs, array_of, bad_of}
-use Rattle.ufs_spec.specs.Refusals.{State, numbers_of}
-use Rattle.ufs_spec.specs.Sound.{Sound, Suits}
-use Rattle.ufs_spec.specs.declared.configs.Numbers.{Numbers}
-use Rattle.device.specs.Kept.{WorldState}
-use Rattle.device.specs.Worlds.{Fits, IsBroken, IsRefused, IsRunFault, IsUnderWay, KeepsThePromise, Went}
-use Rattle.ufs_spec.specs.declared.events.Event.{Event}
+use Rattle.ufs_spec.specs.Lives.{GoesOn, Leads, Reopens, Runs}
+use Rattle.device.specs.Worlds.{IsBroken, IsRefused, IsRunFault, IsUnderWay, KeepsThePromise}
 use Rattle.ufs_spec.specs.declared.events.Event.TheVariants as event
-use Rattle.ufs_spec.specs.declared.events.Output.{Output}
 use Rattle.ufs_spec.specs.declared.events.Output.TheVariants as output
 use Rattle.ufs_spec.specs.declared.events.RunFault.{RunFault}
 use Rattle.power_loss.proofs.calls.CallsLeaveTheDevice.{call_kept}
-use Rattle.power_loss.proofs.die_pages.BlankOutsideDies.{fit_inside}
-use Rattle.power_loss.proofs.lives.LivesOfRuns.{headline, lives_of, lives_right, more}
+use Rattle.power_loss.proofs.lives.LivesOfRuns.{headline, lives_right, more}
 use Rattle.power_loss.proofs.openings.EachSoundArrayOpens.{any_opens}
 
 -- what is known of the dies of a run
@@ -51,7 +42,7 @@ goes_numbers n s t e o is h =
     ap (λ (x : State). numbers_of x) leads.next ∙ ((call_kept s leads.call leads.answer).0 ∙ is))
     (λ (stop : Reopens n s e o t). reopens_numbers n s t e o stop) h
 
-runs_numbers : (n : Numbers) (s t : State) (es : List Event) (os : List Output) → numbers_of s ≡ n →
+pub runs_numbers : (n : Numbers) (s t : State) (es : List Event) (os : List Output) → numbers_of s ≡ n →
     Runs n s es os t → numbers_of t ≡ n
 runs_numbers n s t [] [] is h = ap (λ (x : State). numbers_of x) h ∙ is
 runs_numbers n s t (e ∷ es) (o ∷ os) is h =
@@ -83,19 +74,16 @@ run_more n dies events before trace k e w after less is u played =
 
 -- the promise
 
-promise : (n : Numbers) (dies : List DieState) (events : List Event) (trace : List Output) (s t : State) →
+pub promise : (n : Numbers) (dies : List DieState) (events : List Event) (trace : List Output) (s t : State) →
     IsConfig n → MayRun n dies → Sound (array_of dies) → IsOpened n (array_of dies) (bad_of dies) s →
     Runs n s events trace t → KeepsThePromise n dies events trace
 promise n dies events trace s t config may sound opened runs =
-    let l = lives_of opened runs in
+    let told = headline n dies s t events trace config may.fit sound opened runs in
     record {
-      headline = headline n dies s t events trace config may.fit sound opened runs;
-      first = l.first;
-      later = l.later;
-      lives = l.lives;
+      headline = told;
       right =
-          lives_right n (array_of dies) (bad_of dies) l.first l.later events trace config
-          (record { inside = fit_inside n dies may.fit; sound = sound; suits = may.suits }) l.lives;
+          lives_right n (array_of dies) (bad_of dies) told.first told.later events trace config
+          (record { inside = fit_inside n dies may.fit; sound = sound; suits = may.suits }) told.lives;
     }
 
 -- the numbers are those of a configuration

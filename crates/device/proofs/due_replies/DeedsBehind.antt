@@ -1,36 +1,23 @@
 -- What a reply makes of a task is what the definitions make of it.
-use Rattle.std.proofs.Common.{◌≡◌, ◌∙◌, ℕ, ◌+◌, ◌<◌, Bool, true, false, List, [], ◌∷◌, Option, Some, None, length}
-use Rattle.std.proofs.Common.{refl, sym, ap, subst, arith}
-use Rattle.std.specs.Prelude.{if◌then◌else◌, max, nat_le, nat_lt, slice_get}
-use Rattle.ufs_spec.proofs.Facts.{false≢true, leb-true, ltb-false, ltb-true, none-some}
+use Rattle.device.proofs.Common.{Acknowledge, Answering, AreClaimed, AreFramesKept, Awaiting, Bool, Core, Deed}
+use Rattle.device.proofs.Common.{Describes, DeviceCore, ForFrames, ForUnmap, ForWrite, FramesFit, Gathering, Good}
+use Rattle.device.proofs.Common.{HasMoved, IsDoing, IsFor, IsGathered, IsSending, LetGo, LetGoAll, List, Message, None}
+use Rattle.device.proofs.Common.{NotRead, OpenTask, Option, Phase, Purpose, ReadBlock, ReadState, ReadingArea}
+use Rattle.device.proofs.Common.{RpmbRequest, Sending, SendingBytes, Sends, Some, State, Translation, Unread, WantPage}
+use Rattle.device.proofs.Common.{Wanted, WasRead, [], ap, arith, before_accepted, claimed_in, claims_of, false}
+use Rattle.device.proofs.Common.{false≢true, found_task, frames_for, gathers_for, if◌then◌else◌, is_lost, is_unfilled}
+use Rattle.device.proofs.Common.{leb-true, length, ltb-false, ltb-true, moved, nat_le, nat_lt, none-some, numbers_of}
+use Rattle.device.proofs.Common.{owed_by, owed_in, read_in, refl, set_deed, slice_get, subst, sym, task_in, task_of}
+use Rattle.device.proofs.Common.{true, wanted_by, wanted_in, wanted_kept, with_event, with_moves, ℕ, ◌+◌, ◌<◌, ◌∙◌, ◌∷◌}
+use Rattle.device.proofs.Common.{◌≡◌}
+use Rattle.std.specs.Prelude.{max}
 use Rattle.ufs_spec.proofs.Lists.{get_there}
 use Rattle.ufs_spec.specs.Exchanges as exchange
-use Rattle.ufs_spec.specs.Exchanges.{Answering, Awaiting, Deed, Gathering, Good, NotRead, Purpose, ReadBlock, ReadState, ForFrames, ForUnmap, ForWrite}
-use Rattle.ufs_spec.specs.Exchanges.{ReadingArea, Sending, SendingBytes, Unread, WasRead, is_unfilled, task_of}
-use Rattle.ufs_spec.specs.Ledger.{before_accepted}
-use Rattle.ufs_spec.specs.Machine.{deed_after, deed_after_block, deed_after_state, moves_after, set_deed}
-use Rattle.ufs_spec.specs.Machine.{task_goes_on}
-use Rattle.ufs_spec.specs.Machine.{with_moves}
-use Rattle.ufs_spec.specs.Moves.{Acknowledge, LetGo, LetGoAll, WantPage, moved}
-use Rattle.ufs_spec.specs.Refusals.{State}
-use Rattle.ufs_spec.specs.Translation.{Translation}
-use Rattle.ufs_spec.specs.declared.messages.Message.{Message}
-use Rattle.power_loss.proofs.open_tasks.TaskLists.{found_task}
+use Rattle.ufs_spec.specs.Machine.{deed_after, deed_after_block, deed_after_state, moves_after, task_goes_on}
 use Rattle.ftl_core.specs.Public as layer_kept
-use Rattle.ftl_core.specs.Public.{AreClaimed, Core}
-use Rattle.task_set.specs.declared.tasks.Phase.{Phase}
 use Rattle.task_set.specs.declared.tasks.Phase.TheVariants as phase
-use Rattle.task_set.specs.declared.tasks.Sending.{Sending as Sends}
 use Rattle.task_set.specs.declared.tasks.TaskEvent.TheVariants as event
-use Rattle.task_set.specs.Kept.{OpenTask, task_in}
-use Rattle.task_set.specs.declared.tasks.Transfer.{Transfer}
-use Rattle.device.specs.Describes.{AreFramesKept, Describes, FramesFit, IsDoing, IsGathering, IsGatheringFrames}
-use Rattle.device.specs.Describes.{IsFor, IsGatheringList, IsSending, gathers_for}
-use Rattle.device.specs.Describes.{claimed_in, claims_of, is_lost, read_in}
-use Rattle.device.specs.Describes.{wanted_by, wanted_in, wanted_kept}
-use Rattle.device.specs.Hears.{with_event}
-use Rattle.device.specs.Kept.{DeviceCore}
-use Rattle.device.specs.Replies.{HasMoved, moved_on, owed_by, owed_in, without_task}
+use Rattle.device.specs.Replies.{moved_on, without_task}
 use Rattle.task_set.specs.Tasks.{next_sending, sent_next}
 use Rattle.device.proofs.described.Answered.{IsBehind}
 use Rattle.device.proofs.open_tasks.OpenTasks.{IsOpen}
@@ -38,8 +25,6 @@ use Rattle.device.proofs.due_replies.BlocksBehind.{more_kept, none_kept, none_re
 use Rattle.device.proofs.due_replies.ReplyMoves.{answered_gone, does_now, goes, none_asked, sends, sent_layer}
 use Rattle.device.proofs.due_replies.ReplyMoves.{told_gone, with_layer}
 use Rattle.device.proofs.due_replies.PinsLetGo.{gone_again}
-use Rattle.ufs_spec.specs.Refusals.{numbers_of}
-use Rattle.task_set.specs.declared.tasks.Wanted.TheVariants as wanted
 
 -- what the definitions make of a task
 abbrev pub task_does : State → exchange.Task → Deed → State
@@ -78,6 +63,13 @@ same_for (ForFrames region) gathered asked = refl
 same_for (ForWrite unit address blocks forced) gathered asked = refl
 same_for (ForUnmap unit) gathered asked = refl
 
+-- a task that gathers data has no request yet
+none_decided : (purpose : Purpose) (held : Option (List ℕ)) (request : Option RpmbRequest) →
+    AreFramesKept (frames_for purpose) held request → is_unfilled request ≡ false
+none_decided (ForFrames region) held request none = ap is_unfilled none
+none_decided (ForWrite unit address blocks forced) held request none = ap is_unfilled none
+none_decided (ForUnmap unit) held request none = ap is_unfilled none
+
 module _ (d : DeviceCore) (s : State) (k : ℕ) (a : OpenTask) (b : exchange.Task) (h : Describes d s)
     (o : IsOpen (before_accepted s.translation.ledger) k d.tasks s.tasks a b) where
   -- what its phase has to do with frames
@@ -90,53 +82,16 @@ module _ (d : DeviceCore) (s : State) (k : ℕ) (a : OpenTask) (b : exchange.Tas
   still_for purpose gathered asked deed =
       subst (IsFor a.region) (ap gathers_for deed ∙ same_for purpose gathered asked) o.kept.gathers
 
-  asks : (after : Core) (x : Transfer) (purpose : Purpose) (gathered : List ℕ) (asked : Bool) →
-      a.phase ≡ phase.Ask (wanted.Block x) → b.deed ≡ Gathering purpose gathered asked → IsGathering x b.length purpose gathered →
+  asks : (after : Core) (w : Wanted) (purpose : Purpose) (gathered : List ℕ) (asked : Bool) → a.phase ≡ phase.Ask w →
+      b.deed ≡ Gathering purpose gathered asked → IsGathered w b.length purpose gathered →
       layer_kept.Describes after s.translation → AreClaimed after (claims_of (numbers_of s) s.tasks) →
       IsBehind (with_layer after (with_event d k event.DataAskedFor))
       (set_deed s b.tag (Gathering purpose gathered true))
-  asks after x purpose gathered asked is deed its layer claims =
-      does_now d s k a b h o after event.DataAskedFor (phase.Ask (wanted.Block x)) (Gathering purpose gathered true) is
-      (its, refl) refl (its_frames (phase.Ask (wanted.Block x)) is) (still_for purpose gathered asked deed)
-      (none_asked d s k a b h o (its_frames (phase.Ask (wanted.Block x)) is)) refl
-      (record {
-        wanted = λ index. ap (wanted_in index b.request) deed;
-        read = ap read_in deed;
-        claimed = λ m total. ap (claimed_in m total) deed;
-      })
-      tt layer claims
-
-  -- its frames are asked for
-  asks_frames : (after : Core) (size : ℕ) (purpose : Purpose) (gathered : List ℕ) (asked : Bool) →
-      a.phase ≡ phase.Ask (wanted.Frames size) → b.deed ≡ Gathering purpose gathered asked →
-      IsGatheringFrames size b.length purpose gathered →
-      layer_kept.Describes after s.translation → AreClaimed after (claims_of (numbers_of s) s.tasks) →
-      IsBehind (with_layer after (with_event d k event.DataAskedFor))
-      (set_deed s b.tag (Gathering purpose gathered true))
-  asks_frames after size purpose gathered asked is deed its layer claims =
-      does_now d s k a b h o after event.DataAskedFor (phase.Ask (wanted.Frames size)) (Gathering purpose gathered true) is
-      (its, refl) refl (its_frames (phase.Ask (wanted.Frames size)) is) (still_for purpose gathered asked deed)
-      (ap is_unfilled
-      (subst (λ f. AreFramesKept f a.held b.request) (its_frames (phase.Ask (wanted.Frames size)) is) o.kept.request))
-      refl
-      (record {
-        wanted = λ index. ap (wanted_in index b.request) deed;
-        read = ap read_in deed;
-        claimed = λ m total. ap (claimed_in m total) deed;
-      })
-      tt layer claims
-
-  -- its list is asked for
-  asks_list : (after : Core) (unit size : ℕ) (purpose : Purpose) (gathered : List ℕ) (asked : Bool) →
-      a.phase ≡ phase.Ask (wanted.List unit size) → b.deed ≡ Gathering purpose gathered asked →
-      IsGatheringList unit size b.length purpose gathered →
-      layer_kept.Describes after s.translation → AreClaimed after (claims_of (numbers_of s) s.tasks) →
-      IsBehind (with_layer after (with_event d k event.DataAskedFor))
-      (set_deed s b.tag (Gathering purpose gathered true))
-  asks_list after unit size purpose gathered asked is deed its layer claims =
-      does_now d s k a b h o after event.DataAskedFor (phase.Ask (wanted.List unit size)) (Gathering purpose gathered true) is
-      (its, refl) refl (its_frames (phase.Ask (wanted.List unit size)) is) (still_for purpose gathered asked deed)
-      (none_asked d s k a b h o (its_frames (phase.Ask (wanted.List unit size)) is)) refl
+  asks after w purpose gathered asked is deed its layer claims =
+      does_now d s k a b h o after event.DataAskedFor (phase.Ask w) (Gathering purpose gathered true) is
+      (its, refl) refl (its_frames (phase.Ask w) is) (still_for purpose gathered asked deed)
+      (none_decided w.purpose a.held b.request
+      (subst (λ f. AreFramesKept f a.held b.request) (its_frames (phase.Ask w) is) o.kept.request)) refl
       (record {
         wanted = λ index. ap (wanted_in index b.request) deed;
         read = ap read_in deed;
@@ -292,15 +247,9 @@ module _ (d : DeviceCore) (s : State) (k : ℕ) (a : OpenTask) (b : exchange.Tas
       owed_in s.translation a.block a.held (task_in a) p ≡ Some m →
       HasMoved after s.translation (claims_of (numbers_of s) s.tasks) a.tag p →
       IsBehind (with_layer after (moved_on d k p)) (task_does s b deed)
-  moves_in after (phase.Ask (wanted.Block x)) (Gathering purpose gathered asked) m here e doing due new =
-      asks after x purpose gathered asked here e doing.0 new.0 new.1
-  moves_in after (phase.Await (wanted.Block x)) deed m here e doing due new = absurd (none-some m due)
-  moves_in after (phase.Ask (wanted.Frames size)) (Gathering purpose gathered asked) m here e doing due new =
-      asks_frames after size purpose gathered asked here e doing.0 new.0 new.1
-  moves_in after (phase.Ask (wanted.List unit size)) (Gathering purpose gathered asked) m here e doing due new =
-      asks_list after unit size purpose gathered asked here e doing.0 new.0 new.1
-  moves_in after (phase.Await (wanted.Frames size)) deed m here e doing due new = absurd (none-some m due)
-  moves_in after (phase.Await (wanted.List unit size)) deed m here e doing due new = absurd (none-some m due)
+  moves_in after (phase.Ask w) (Gathering purpose gathered asked) m here e doing due new =
+      asks after w purpose gathered asked here e doing.0 new.0 new.1
+  moves_in after (phase.Await w) deed m here e doing due new = absurd (none-some m due)
   moves_in after (phase.SendHeld size) (SendingBytes bytes) m here e doing due new =
       sends_frames after size bytes here e doing.1 new.0 new.1
   moves_in after (phase.AwaitFrontier n size) (Awaiting commands) m here e doing due new =

@@ -1,39 +1,25 @@
 -- What is kept of all tasks once one of them has handed out a reply: it does something else from now on, or it goes.
-use Rattle.std.proofs.Common.{◌≡◌, ◌∙◌, ℕ, ◌+◌, ◌≤◌, ◌==◌, Bool, true, false, All, List, [], Option, Some, ◌&&◌}
-use Rattle.std.proofs.Common.{None, length}
-use Rattle.std.proofs.Common.{map, refl, sym, ap, subst, arith}
-use Rattle.std.specs.Prelude.{filter, if◌then◌else◌, not, slice_get}
-use Rattle.std.proofs.lemmas.List.{length-map}
-use Rattle.std.proofs.lemmas.List.Elements.{All-filter, All-map, All-weaker}
-use Rattle.std.proofs.lemmas.List.Filters.{length-filter_both}
+use Rattle.device.specs.Describes.{BringsFor}
+use Rattle.device.proofs.Common.{All, All-filter, All-weaker, AreClaimed, AreFramesKept, Bool, Core, Deed, Describes}
+use Rattle.device.proofs.Common.{DeviceCore, Frames, FramesFit, HaveAnswered, IsDoing, IsFor, IsTold, IsToldIn, Keeps}
+use Rattle.device.proofs.Common.{LetGo, LetGoAll, List, None, Numbers, OneSends, OpenTask, Option, Phase, Pin}
+use Rattle.device.proofs.Common.{ReadsAsked, RpmbRequest, Some, State, TaskEvent, TasksKept, Translation, WantPage, []}
+use Rattle.device.proofs.Common.{ap, arith, before_accepted, block_after, brings_frames, claimed_by, claimed_in}
+use Rattle.device.proofs.Common.{claims_of, durable, eqb-true, false, false≢true, filter, found_task, frames_after}
+use Rattle.device.proofs.Common.{gathers_for, if◌then◌else◌, is_at_hand, is_pin_of, is_unfilled, length}
+use Rattle.device.proofs.Common.{length-filter_both, length-map, locked, map, most_tasks, moved, not, numbers_of}
+use Rattle.device.proofs.Common.{phase_after, read_in, refl, same_Some, set_deed, slice_get, subst, sym, task_after}
+use Rattle.device.proofs.Common.{task_happened, task_of, true, wanted_by, wanted_in, wanted_kept, with_deed, with_event}
+use Rattle.device.proofs.Common.{ℕ, ◌&&◌, ◌+◌, ◌==◌, ◌∙◌, ◌≡◌, ◌≤◌}
+use Rattle.std.proofs.lemmas.List.Elements.{All-map}
 use Rattle.ufs_spec.specs.Exchanges as exchange
-use Rattle.ufs_spec.proofs.Facts.{eqb-true, false≢true, same_Some}
-use Rattle.ufs_spec.specs.Exchanges.{Deed, RpmbRequest, is_unfilled, task_of, with_deed}
-use Rattle.ufs_spec.specs.Ledger.{before_accepted}
-use Rattle.ufs_spec.specs.Machine.{durable, is_at_hand, set_deed, task_goes_on}
-use Rattle.ufs_spec.specs.Moves.{LetGo, LetGoAll, WantPage, is_pin_of, moved}
-use Rattle.ufs_spec.specs.Refusals.{State, locked}
-use Rattle.ufs_spec.specs.Exchanges.{most_tasks}
-use Rattle.ufs_spec.specs.Translation.{Pin, Translation}
-use Rattle.power_loss.proofs.open_tasks.TaskLists.{found_task}
+use Rattle.ufs_spec.specs.Machine.{task_goes_on}
 use Rattle.ftl_core.specs.Public as layer_kept
-use Rattle.ftl_core.specs.Public.{AreClaimed, Core}
-use Rattle.task_set.specs.declared.tasks.Phase.{Phase}
 use Rattle.task_set.specs.declared.tasks.Phase.TheVariants as phase
 use Rattle.task_set.specs.declared.tasks.Sending.{Sending}
-use Rattle.task_set.specs.declared.tasks.TaskEvent.{TaskEvent}
 use Rattle.task_set.specs.declared.tasks.TaskEvent.TheVariants as event
-use Rattle.task_set.specs.Kept.{OpenTask}
-use Rattle.device.specs.Describes.{AreFramesKept, Describes, FramesFit, HaveAnswered, IsDoing, IsTold, IsToldIn, Keeps}
-use Rattle.device.specs.Describes.{IsFor, OneSends, ReadsAsked, TasksKept, gathers_for}
-use Rattle.device.specs.Describes.{claimed_by, claimed_in, claims_of, read_in, wanted_by, wanted_in, wanted_kept}
-use Rattle.task_set.specs.Lists.{task_happened}
-use Rattle.task_set.specs.Frames.{frames_after}
-use Rattle.task_set.specs.Tasks.{block_after, brings_frames, next_sending, phase_after, sent_next, task_after}
-use Rattle.task_set.specs.declared.frames.Frames.{Frames}
+use Rattle.task_set.specs.Tasks.{next_sending, sent_next}
 use Rattle.task_set.specs.declared.frames.Frames.TheVariants as frames
-use Rattle.device.specs.Hears.{with_event}
-use Rattle.device.specs.Kept.{DeviceCore}
 use Rattle.device.specs.Replies.{without_task}
 use Rattle.device.proofs.described.Answered.{IsBehind}
 use Rattle.device.proofs.described.OneSender.{one_removed, one_set}
@@ -43,8 +29,6 @@ use Rattle.device.proofs.open_tasks.KeptByTag.{WantedFor, WantedForAll, claimed_
 use Rattle.device.proofs.open_tasks.KeptByTag.{deed_changed, one_goes}
 use Rattle.device.proofs.open_tasks.ReadProgress.{gone_finds_others, sent_finds_others, want_finds_others}
 use Rattle.device.proofs.due_replies.PinsLetGo.{gone_pins, next_of_others, other_pins, with_next}
-use Rattle.ufs_spec.specs.Refusals.{numbers_of}
-use Rattle.ufs_spec.specs.declared.configs.Numbers.{Numbers}
 
 -- What stays
 
@@ -107,11 +91,7 @@ module _ (d : DeviceCore) (s : State) (k : ℕ) (a : OpenTask) (b : exchange.Tas
         lun = o.kept.lun;
         tag = o.kept.tag;
         expected = o.kept.expected;
-        sends = o.kept.sends ∙ sym (ap brings_frames still);
-        in_regions = o.kept.in_regions;
-        sends_to =
-            λ other. (o.kept.sends_to other
-            ∙ sym (ap (λ (b : Bool). b && (a.region == other)) (ap brings_frames still)));
+        brings = subst (λ (x : Bool). BringsFor a.region x b.command) (sym (ap brings_frames still)) o.kept.brings;
         gathers = gathers;
         asked_of = o.kept.asked_of;
         request = subst (λ (f : Frames). AreFramesKept f a.held b.request) (sym still) o.kept.request;

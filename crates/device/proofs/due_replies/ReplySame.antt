@@ -1,60 +1,38 @@
 -- The reply that a task owes is the one that the definitions say is due.
-use Rattle.std.proofs.Common.{◌≡◌, ◌∙◌, ℕ, ◌+◌, ◌-◌, ◌*◌, ◌<◌, ◌≤◌, ◌==◌, ◌&&◌, Bool, true, false}
-use Rattle.std.proofs.Common.{List, Option, Some, None, length, refl, sym, ap, subst, ⊎_elim, arith}
-use Rattle.std.specs.Prelude.{find, if◌then◌else◌, min, nat_le, nat_lt, not, option_map, slice_get, take}
-use Rattle.std.specs.List.{list_any}
-use Rattle.std.specs.Int.{div_ceil}
-use Rattle.std.proofs.lemmas.Bool.{le-ltb}
+use Rattle.device.proofs.Common.{Answering, AreFramesKept, AreaReading, Awaiting, Bool, Deed, Describes, DeviceCore}
+use Rattle.device.proofs.Common.{Entry, Frames, FramesFit, Gathering, Good, InSlot, IsDoing, IsGathered, IsReadingArea}
+use Rattle.device.proofs.Common.{IsSending, Key, List, Looked, Message, Name, None, NotRead, OnPage, OpenTask, Option}
+use Rattle.device.proofs.Common.{Phase, Pin, Purpose, ReadBlock, ReadState, ReadingArea, Sending, SendingBytes, Sends}
+use Rattle.device.proofs.Common.{ShowsRight, Some, State, Status, Task, TaskKept, Unread, Unwritten, Wanted, WasRead}
+use Rattle.device.proofs.Common.{all_in, and_parts, ap, arith, before_accepted, block_at, block_for, block_of}
+use Rattle.device.proofs.Common.{count_for, div_ceil, entry_of, eqb-true, false, false≢true, find, found_in, found_is}
+use Rattle.device.proofs.Common.{if_false, if_true, if◌then◌else◌, is_area_read, is_at_hand, is_lost, is_mended}
+use Rattle.device.proofs.Common.{is_pin_of, is_rest_of, is_task_of, is_to_fill, is_unfilled, is_unread, le-ltb, length}
+use Rattle.device.proofs.Common.{length-take, list_any, ltb-false, ltb-true, min, nat_le, nat_lt, none-some, not}
+use Rattle.device.proofs.Common.{numbers_of, option_map, owed_by, owed_in, read_by, read_in, read_of, refl, same_Some}
+use Rattle.device.proofs.Common.{slice_get, subst, sym, take, take-take, task_in, task_of, true, wanted_by, wanted_in}
+use Rattle.device.proofs.Common.{wanted_kept, wanted_of, ℕ, ⊎_elim, ◌&&◌, ◌*◌, ◌+◌, ◌-◌, ◌<◌, ◌==◌, ◌∙◌, ◌≡◌, ◌≤◌}
 use Rattle.std.proofs.lemmas.Grind.{div_ceil_times}
-use Rattle.std.proofs.lemmas.List.{length-take, take-take}
-use Rattle.ufs_spec.proofs.Facts.{and_parts, eqb-true, false≢true, ltb-false, ltb-true, none-some, same_Some}
 use Rattle.ufs_spec.proofs.Lists.{get_there}
 use Rattle.ufs_spec.specs.Exchanges as exchange
-use Rattle.ufs_spec.specs.Exchanges.{Answering, Awaiting, Deed, Gathering, Good, NotRead, Purpose, ReadBlock, ReadState}
-use Rattle.ufs_spec.specs.Exchanges.{ReadingArea, Sending}
-use Rattle.ufs_spec.specs.Exchanges.{SendingBytes, Unread, WasRead, bytes_sent, count_at, is_task_of, is_unfilled}
-use Rattle.ufs_spec.specs.Exchanges.{ready_message, response, task_of}
-use Rattle.ufs_spec.specs.Ledger.{Entry, Ledger, before_accepted, entry_of}
+use Rattle.ufs_spec.specs.Exchanges.{bytes_sent, count_at, ready_message, response}
+use Rattle.ufs_spec.specs.Ledger.{Ledger}
 use Rattle.ufs_spec.specs.Machine as machine
-use Rattle.ufs_spec.specs.Machine.{block_reply, deed_reply, is_at_hand, is_to_fill, needs_no_read, next_block_reply}
-use Rattle.ufs_spec.specs.Moves.{is_pin_of}
-use Rattle.ufs_spec.specs.Refusals.{State, numbers_of}
-use Rattle.ufs_spec.specs.Replies.{is_area_read}
+use Rattle.ufs_spec.specs.Machine.{block_reply, deed_reply, needs_no_read, next_block_reply}
 use Rattle.ufs_spec.specs.Translation as layer
-use Rattle.ufs_spec.specs.Translation.{Pin, is_mended, is_rest_of}
-use Rattle.ufs_spec.specs.declared.flash.Key.{Key}
-use Rattle.ufs_spec.specs.declared.layer.Looked.{Looked}
-use Rattle.ufs_spec.specs.declared.layer.Looked.TheVariants.{InSlot, OnPage, Unwritten}
-use Rattle.ufs_spec.specs.declared.layer.Name.{Name}
-use Rattle.ufs_spec.specs.declared.messages.Message.{Message}
 use Rattle.ufs_spec.specs.declared.messages.Message.TheVariants as message
-use Rattle.power_loss.specs.Shown.{IsShown, ShowsBlock, ShowsRight}
-use Rattle.power_loss.proofs.open_tasks.FoundInLists.{found_is}
-use Rattle.power_loss.proofs.books.SmallFacts.{if_false, if_true, two_ways}
-use Rattle.power_loss.proofs.ordered_lists.ElementsAndOrders.{all_in, found_in}
-use Rattle.task_set.specs.declared.frames.AreaReading.{AreaReading}
-use Rattle.task_set.specs.declared.frames.Frames.{Frames}
+use Rattle.power_loss.specs.Shown.{IsShown, ShowsBlock}
+use Rattle.power_loss.proofs.books.SmallFacts.{two_ways}
 use Rattle.task_set.specs.declared.frames.Frames.TheVariants.{Answered, Decided, NotBrought, Undecided}
-use Rattle.task_set.specs.declared.tasks.Phase.{Phase}
 use Rattle.task_set.specs.declared.tasks.Phase.TheVariants as phase
-use Rattle.task_set.specs.declared.tasks.Sending.{Sending as Sends}
-use Rattle.task_set.specs.declared.tasks.Status.{Status}
-use Rattle.task_set.specs.declared.tasks.Task.{Task}
-use Rattle.task_set.specs.Kept.{OpenTask, task_in}
-use Rattle.task_set.specs.declared.tasks.Transfer.{Transfer}
-use Rattle.device.specs.Describes.{AreFramesKept, Describes, FramesFit, HasRequest, IsDoing, IsGathering}
-use Rattle.device.specs.Lists.{IsOfList}
-use Rattle.device.specs.Describes.{IsGatheringFrames, IsGatheringList, IsLost, IsReadingArea, IsSending, IsSentFrom}
-use Rattle.device.specs.Describes.{TaskKept, is_lost, is_unread}
-use Rattle.device.specs.Describes.{read_by, read_in, read_of, wanted_by, wanted_in, wanted_kept, wanted_of}
-use Rattle.device.specs.Kept.{DeviceCore}
-use Rattle.device.specs.Replies.{answer_of, block_at, block_for, block_message, block_of, count_in}
-use Rattle.device.specs.Replies.{area_reply, frames_count, frames_message, has_filled, owed_by, owed_in}
-use Rattle.task_set.specs.Tasks.{status_kept}
+use Rattle.device.specs.Describes.{HasRequest, IsLost, IsSentFrom}
+use Rattle.device.proofs.open_tasks.WantedData.{count_so}
+use Rattle.device.specs.Replies as ours
+use Rattle.device.specs.Replies.{answer_of, block_message, count_in}
+use Rattle.device.specs.Replies.{area_reply, frames_count, frames_message, has_filled}
 use Rattle.device.proofs.described.GoodDue.{same_test}
 use Rattle.device.proofs.described.Unmended.{waits_mended}
 use Rattle.device.proofs.due_replies.AreasRead.{none_needed}
-use Rattle.task_set.specs.declared.tasks.Wanted.TheVariants as wanted
 
 -- Messages
 
@@ -131,18 +109,6 @@ record HasPin (s : State) (b : exchange.Task) (sent : ℕ) (body : List ℕ) : T
   key : Key
   shown : IsShown s.translation.ledger key pin.looked body
 
--- a block that is to come is whole
-whole_block : (blocks gathered : ℕ) → gathered < blocks → min 4096 (4096 * blocks - 4096 * gathered) ≡ 4096
-whole_block blocks gathered more = omega arith
-
--- frames are no more than a message carries
-all_at_once : (size : ℕ) → size ≤ 4096 → min 4096 (size - 0) ≡ size
-all_at_once size few = omega arith
-
--- and so is a list
-list_few : (size : ℕ) → IsOfList size → size ≤ 4096
-list_few size = ⊎_elim (λ is. omega arith) (λ is. omega arith)
-
 cut_same : (expected size : ℕ) (all : List ℕ) → 1 ≤ min expected size → size ≤ 4096 →
     take (min expected size) (take size all) ≡ take (frames_count expected size) all
 cut_same expected size all some few =
@@ -169,7 +135,7 @@ module _ (d : DeviceCore) (s : State) (a : OpenTask) (b : exchange.Task) (h : De
       ∙ ap (λ (n : ℕ). message.DataIn a.lun a.tag (4096 * x.sent) (record { items = take n body }))
       (counts (min a.expected x.length - 4096 * x.sent) some)
 
-  answer_same : (n m : ℕ) (x y : exchange.Status) → n ≡ m → x ≡ y →
+  answer_same : (n m : ℕ) (x y : Status) → n ≡ m → x ≡ y →
       response b.lun b.tag b.expected n x ≡ response a.lun a.tag a.expected m y
   answer_same n m x y length status i = response (k.lun i) (k.tag i) (k.expected i) (length i) (status i)
 
@@ -240,8 +206,8 @@ module _ (d : DeviceCore) (s : State) (a : OpenTask) (b : exchange.Task) (h : De
       ap (next_block_reply s b sent) is.there
       ∙ (ap (λ (x : ReadState). block_reply b sent is.block.body x
       (is_at_hand s.translation.work.rests (machine.pin_of s b sent))) is.lost
-      ∙ ap (λ z. Some z) (answer_same (4096 * sent) n exchange.read_error (status_kept told) (sym is.carried)
-      (sym (ap status_kept is.told_is))))
+      ∙ ap (λ z. Some z) (answer_same (4096 * sent) n exchange.read_error told (sym is.carried)
+      (sym is.told_is)))
 
   awaiting_same : (n size commands : ℕ) → b.deed ≡ Awaiting commands →
       n ≡ before_accepted s.translation.ledger + commands → b.length ≡ size →
@@ -256,36 +222,14 @@ module _ (d : DeviceCore) (s : State) (a : OpenTask) (b : exchange.Task) (h : De
       ∙ ap (λ (m : Message). if nat_le n l.frontier then Some m else None)
       (answer_same b.length size Good Good whole refl)
 
-  asking_same : (x : Transfer) (purpose : Purpose) (gathered : List ℕ) (asked : Bool) →
-      IsGathering x b.length purpose gathered → asked ≡ false →
-      (if asked then None else Some (ready_message b gathered))
-      ≡ Some (message.ReadyToTransfer a.lun a.tag (4096 * x.gathered) 4096)
-  asking_same x purpose gathered asked its is =
+  asking_same : (w : Wanted) (purpose : Purpose) (gathered : List ℕ) (asked : Bool) →
+      IsGathered w b.length purpose gathered → asked ≡ false →
+      (if asked then None else Some (ready_message b gathered)) ≡ Some (ours.ready_message (task_in a) w)
+  asking_same w purpose gathered asked its is =
       ap (λ z. if z then None else Some (ready_message b gathered)) is
       ∙ ((λ i. Some (message.ReadyToTransfer (k.lun i) (k.tag i) (its.came i) (count_at (its.total_is i) (its.came i))))
-      ∙ ap (λ (n : ℕ). Some (message.ReadyToTransfer a.lun a.tag (4096 * x.gathered) n))
-      (whole_block x.blocks x.gathered its.more))
-
-  -- all frames are asked for at once
-  asking_frames : (size : ℕ) (purpose : Purpose) (gathered : List ℕ) (asked : Bool) →
-      IsGatheringFrames size b.length purpose gathered → asked ≡ false →
-      (if asked then None else Some (ready_message b gathered))
-      ≡ Some (message.ReadyToTransfer a.lun a.tag 0 size)
-  asking_frames size purpose gathered asked its is =
-      ap (λ z. if z then None else Some (ready_message b gathered)) is
-      ∙ ((λ i. Some (message.ReadyToTransfer (k.lun i) (k.tag i) (length (its.none_came i))
-      (count_at (its.total_is i) (length (its.none_came i)))))
-      ∙ ap (λ (n : ℕ). Some (message.ReadyToTransfer a.lun a.tag 0 n)) (all_at_once size its.few))
-
-  asking_list : (unit size : ℕ) (purpose : Purpose) (gathered : List ℕ) (asked : Bool) →
-      IsGatheringList unit size b.length purpose gathered → asked ≡ false →
-      (if asked then None else Some (ready_message b gathered))
-      ≡ Some (message.ReadyToTransfer a.lun a.tag 0 size)
-  asking_list unit size purpose gathered asked its is =
-      ap (λ z. if z then None else Some (ready_message b gathered)) is
-      ∙ ((λ i. Some (message.ReadyToTransfer (k.lun i) (k.tag i) (length (its.none_came i))
-      (count_at (its.total_is i) (length (its.none_came i)))))
-      ∙ ap (λ (n : ℕ). Some (message.ReadyToTransfer a.lun a.tag 0 n)) (all_at_once size (list_few size its.of_list)))
+      ∙ ap (λ (n : ℕ). Some (message.ReadyToTransfer a.lun a.tag w.came n))
+      (count_so purpose w.came w.length its.so ∙ ap (λ (p : Purpose). count_for p w.length) (sym its.same)))
 
   -- the frames that are kept, as many bytes as the host expects
   frames_same : (size : ℕ) (bytes : List ℕ) → (length bytes ≡ size) × (b.length ≡ size) × (1 ≤ min a.expected size) →
@@ -346,26 +290,17 @@ module _ (d : DeviceCore) (s : State) (a : OpenTask) (b : exchange.Task) (h : De
   same_in : (p : Phase) (deed : Deed) → b.deed ≡ deed →
       IsDoing (before_accepted s.translation.ledger) a.expected b.length p deed →
       FramesFit p a.frames a.held deed → deed_reply s b deed ≡ owed_in s.translation a.block a.held (task_in a) p
-  same_in (phase.Ask (wanted.Frames size)) (Gathering purpose gathered asked) e is fits =
-      asking_frames size purpose gathered asked is.0 is.1
-  same_in (phase.Ask (wanted.List unit size)) (Gathering purpose gathered asked) e is fits =
-      asking_list unit size purpose gathered asked is.0 is.1
-  same_in (phase.Await (wanted.Frames size)) (Gathering purpose gathered asked) e is fits =
-      ap (λ z. if z then None else Some (ready_message b gathered)) is.1
-  same_in (phase.Await (wanted.List unit size)) (Gathering purpose gathered asked) e is fits =
-      ap (λ z. if z then None else Some (ready_message b gathered)) is.1
   same_in (phase.SendHeld size) (SendingBytes bytes) e is fits =
       ap (λ z. Some z) (frames_same size bytes is fits.1)
       ∙ sym (ap (option_map (frames_message (task_in a) size)) fits.1.is_held)
-  same_in (phase.Ask (wanted.Block x)) (Gathering purpose gathered asked) e is fits =
-      asking_same x purpose gathered asked is.0 is.1
-  same_in (phase.Await (wanted.Block x)) (Gathering purpose gathered asked) e is fits =
+  same_in (phase.Ask w) (Gathering purpose gathered asked) e is fits = asking_same w purpose gathered asked is.0 is.1
+  same_in (phase.Await w) (Gathering purpose gathered asked) e is fits =
       ap (λ z. if z then None else Some (ready_message b gathered)) is.1
   same_in (phase.AwaitFrontier n size) (Awaiting commands) e is fits = awaiting_same n size commands e is.0 is.1
   same_in (phase.SendBlocks x) (Sending blocks sent) e is fits = sending_same x blocks sent e is
   same_in (phase.ReadArea r) (ReadingArea pages) e is fits = area_same r pages e is fits.0
   same_in (phase.Answer told n) (Answering x carried) e is fits =
-      ap (λ z. Some z) (answer_same carried n x (status_kept told) is.1 is.0)
+      ap (λ z. Some z) (answer_same carried n x told is.1 is.0)
   same_in (phase.Answer told n) (Sending blocks sent) e is fits = lost_same blocks sent told n is
   same_in p deed e is fits = absurd is
 

@@ -1,24 +1,15 @@
 -- Which data the device asked for, and that the specification asks for the same.
-use Rattle.std.proofs.Common.{◌≡◌, ◌∙◌, ◌⊎◌, ℕ, ◌*◌, ◌==◌, ◌≤◌, ◌&&◌, Bool, true, false, cond, List, Option, Some, None}
-use Rattle.std.proofs.Common.{length, refl, ap, inl, inr, arith}
-use Rattle.std.proofs.lemmas.Bool.Decides.{nat_tests}
-use Rattle.ufs_spec.proofs.Facts.{and_parts, eqb-true}
+use Rattle.device.proofs.Common.{Answering, AskedFor, Awaiting, Bool, Deed, DeviceCore, Gathering, IsDoing, IsGathered}
+use Rattle.device.proofs.Common.{List, None, OpenTask, Option, Phase, Purpose, ReadingArea, Sending, SendingBytes, Some}
+use Rattle.device.proofs.Common.{TasksKept, Wanted, and_parts, ap, arith, cond, count_for, eqb-true, false, inl, inr}
+use Rattle.device.proofs.Common.{length, nat_tests, refl, sym, task_of, true, ℕ, ◌&&◌, ◌==◌, ◌∙◌, ◌≡◌, ◌⊎◌}
 use Rattle.ufs_spec.specs.Exchanges as exchange
-use Rattle.ufs_spec.specs.Exchanges.{Answering, Awaiting, Deed, Gathering, Purpose, ReadingArea, Sending, SendingBytes}
-use Rattle.ufs_spec.specs.Exchanges.{count_at, is_asked_in, is_asked_of, task_of}
-use Rattle.task_set.specs.declared.tasks.AskedFor.{AskedFor}
-use Rattle.task_set.specs.declared.tasks.Phase.{Phase}
+use Rattle.ufs_spec.specs.Exchanges.{count_at, is_asked_in, is_asked_of}
 use Rattle.task_set.specs.declared.tasks.Phase.TheVariants as phase
-use Rattle.task_set.specs.Kept.{OpenTask}
-use Rattle.task_set.specs.declared.tasks.Transfer.{Transfer}
-use Rattle.task_set.specs.declared.tasks.Wanted.{Wanted}
-use Rattle.task_set.specs.declared.tasks.Wanted.TheVariants as wanted
-use Rattle.device.specs.Describes.{IsDoing, IsGathering, IsGatheringFrames, IsGatheringList, TasksKept}
 use Rattle.task_set.specs.Lists.{asked_at, asked_by, asked_what, wanted_in}
-use Rattle.task_set.specs.Tasks.{is_wanted}
-use Rattle.device.specs.Hears.{HasLength, asked_for}
-use Rattle.device.specs.Kept.{DeviceCore}
-use Rattle.device.specs.Lists.{IsOfList}
+use Rattle.task_set.specs.Tasks.{is_wanted, wanted_count}
+use Rattle.device.specs.Hears.{asked_for}
+use Rattle.device.proofs.open_tasks.WantedData.{count_so}
 use Rattle.device.proofs.open_tasks.OpenTasks.{Stands, StandsOrNot, tag_stands}
 
 -- the task of the tag asked for these data
@@ -27,7 +18,7 @@ pub record HasAsked (before tag count : ℕ) (ours : List OpenTask) (theirs : Li
   pub stands : Stands before tag ours theirs
   pub wanted : Wanted
   pub wants : wanted_in stands.a.phase ≡ Some wanted
-  pub count_is : HasLength wanted count
+  pub count_is : count ≡ wanted_count wanted
   pub asked_is : asked ≡ Some (record { index = stands.k; wanted = wanted })
 
 -- both sides asked for the data, or neither
@@ -42,42 +33,24 @@ none_asked = None
 abbrev asks : ℕ → Wanted → Option AskedFor
 asks k w = Some (record { index = k; wanted = w })
 
--- The next block of a WRITE, frames, and a list
+-- What is asked for
 
 -- two numbers are compared the other way round
 pub other_side : (m n : ℕ) → (m == n) ≡ (n == m)
 other_side m n = grind (arith, nat_tests)
 
--- it begins behind those that came
-next_offset : (x : Transfer) (total offset : ℕ) (purpose : Purpose) (gathered : List ℕ) →
-    IsGathering x total purpose gathered → (offset == length gathered) ≡ (4096 * x.gathered == offset)
-next_offset x total offset purpose gathered h =
+-- it begins behind what came
+next_offset : (w : Wanted) (total offset : ℕ) (purpose : Purpose) (gathered : List ℕ) →
+    IsGathered w total purpose gathered → (offset == length gathered) ≡ (w.came == offset)
+next_offset w total offset purpose gathered h =
     other_side offset (length gathered) ∙ ap (λ (n : ℕ). n == offset) h.came
 
--- and is a whole one
-next_count : (x : Transfer) (total : ℕ) (purpose : Purpose) (gathered : List ℕ) →
-    IsGathering x total purpose gathered → count_at total (length gathered) ≡ 4096
-next_count x total purpose gathered h =
-    let came = h.came in let more = h.more in let all = h.total_is in omega arith
-
--- frames come all at once
-frames_count : (size total : ℕ) (purpose : Purpose) (gathered : List ℕ) →
-    IsGatheringFrames size total purpose gathered → count_at total (length gathered) ≡ size
-frames_count size total purpose gathered h =
-    let none = ap length h.none_came in let few = h.few in let all = h.total_is in omega arith
-
--- so does a list, which fits into one message
-list_count : (unit size total : ℕ) (purpose : Purpose) (gathered : List ℕ) →
-    IsGatheringList unit size total purpose gathered → count_at total (length gathered) ≡ size
-list_count unit size total purpose gathered h =
-    let none = ap length h.none_came in
-    let all = h.total_is in
-    let few = short h.of_list in
-    omega arith
-  where
-    short : IsOfList size → size ≤ 4096
-    short (inl header) = omega arith
-    short (inr whole) = omega arith
+-- and has as many bytes
+next_count : (w : Wanted) (total : ℕ) (purpose : Purpose) (gathered : List ℕ) →
+    IsGathered w total purpose gathered → count_at total (length gathered) ≡ wanted_count w
+next_count w total purpose gathered h =
+    (λ i. count_at (h.total_is i) (h.came i))
+    ∙ (count_so purpose w.came w.length h.so ∙ ap (λ (p : Purpose). count_for p w.length) (sym h.same))
 
 three : (a b c : Bool) → ((a && b) && c) ≡ (a && (b && c))
 three true b c = refl
@@ -93,43 +66,15 @@ SaySame lun offset count b p deed =
 -- the tests of the two sides agree
 asked_same : (lun offset count : ℕ) (b : exchange.Task) (before expected : ℕ) (p : Phase) (deed : Deed) →
     IsDoing before expected b.length p deed → SaySame lun offset count b p deed
-asked_same lun offset count b before expected (phase.Await (wanted.Block x)) (Gathering purpose gathered asked) h =
+asked_same lun offset count b before expected (phase.Await w) (Gathering purpose gathered asked) h =
     inr (
-      wanted.Block x,
+      w,
       refl,
-      (λ i. ((h.1 i && (b.lun == lun)) && next_offset x b.length offset purpose gathered h.0 i) &&
-          (count == next_count x b.length purpose gathered h.0 i))
-          ∙ three (b.lun == lun) (4096 * x.gathered == offset) (count == 4096),
+      (λ i. ((h.1 i && (b.lun == lun)) && next_offset w b.length offset purpose gathered h.0 i) &&
+          (count == next_count w b.length purpose gathered h.0 i))
+          ∙ three (b.lun == lun) (w.came == offset) (count == wanted_count w),
     )
-asked_same lun offset count b before expected (phase.Await (wanted.Frames size)) (Gathering purpose gathered asked) h =
-    inr (
-      wanted.Frames size,
-      refl,
-      (λ i. ((h.1 i && (b.lun == lun)) && (offset == length (h.0.none_came i))) &&
-          (count == frames_count size b.length purpose gathered h.0 i))
-          ∙ three (b.lun == lun) (offset == 0) (count == size),
-    )
-asked_same lun offset count b before expected (phase.Await (wanted.List unit size)) (Gathering purpose gathered asked) h =
-    inr (
-      wanted.List unit size,
-      refl,
-      (λ i. ((h.1 i && (b.lun == lun)) && (offset == length (h.0.none_came i))) &&
-          (count == list_count unit size b.length purpose gathered h.0 i))
-          ∙ three (b.lun == lun) (offset == 0) (count == size),
-    )
-asked_same lun offset count b before expected (phase.Ask (wanted.Block x)) (Gathering purpose gathered asked) h =
-    inl (
-      refl,
-      ap (λ x. ((x && (b.lun == lun)) && (offset == length gathered)) &&
-          (count == count_at b.length (length gathered))) h.1,
-    )
-asked_same lun offset count b before expected (phase.Ask (wanted.Frames size)) (Gathering purpose gathered asked) h =
-    inl (
-      refl,
-      ap (λ x. ((x && (b.lun == lun)) && (offset == length gathered)) &&
-          (count == count_at b.length (length gathered))) h.1,
-    )
-asked_same lun offset count b before expected (phase.Ask (wanted.List unit size)) (Gathering purpose gathered asked) h =
+asked_same lun offset count b before expected (phase.Ask w) (Gathering purpose gathered asked) h =
     inl (
       refl,
       ap (λ x. ((x && (b.lun == lun)) && (offset == length gathered)) &&
@@ -144,11 +89,9 @@ asked_same lun offset count b before expected (phase.Answer s n) (Sending blocks
 asked_same lun offset count b before expected p deed h = absurd h
 
 -- what is wanted tells how many bytes come
-long_enough : (w : Wanted) (offset count : ℕ) → is_wanted w offset count ≡ true → HasLength w count
-long_enough (wanted.Block x) offset count e =
-    eqb-true count 4096 (and_parts (4096 * x.gathered == offset) (count == 4096) e).1
-long_enough (wanted.Frames size) offset count e = eqb-true count size (and_parts (offset == 0) (count == size) e).1
-long_enough (wanted.List unit size) offset count e = eqb-true count size (and_parts (offset == 0) (count == size) e).1
+long_enough : (w : Wanted) (offset count : ℕ) → is_wanted w offset count ≡ true → count ≡ wanted_count w
+long_enough w offset count e =
+    eqb-true count (wanted_count w) (and_parts (w.came == offset) (count == wanted_count w) e).1
 
 -- the data are asked for by the task of the tag on both sides, or on neither
 pub data_asked : (d : DeviceCore) (before lun tag offset count : ℕ) (theirs : List exchange.Task) →

@@ -1,46 +1,30 @@
--- A READ begins, which keeps its blocks, or a WRITE, which claims a slot for each of its blocks.
-use Rattle.std.proofs.Common.{◌≡◌, ◌∙◌, ℕ, ◌+◌, ◌<◌, ◌≤◌, Bool, true, false, Some, None, length}
-use Rattle.std.proofs.Common.{refl, sym, ap, subst, arith, []}
-use Rattle.std.specs.Prelude.{◌*◌, ◌||◌, ◌==◌, ◌∷◌, fold, if◌then◌else◌, min, Result, Ok}
-use Rattle.std.specs.Int.{div_ceil}
-use Rattle.ufs_spec.specs.Exchanges.{Answering, ForWrite, Gathering, Good, most_tasks, task_of}
-use Rattle.ufs_spec.specs.Keys.{IsKey, data_key}
-use Rattle.ufs_spec.specs.Machine.{keeps, read_begun, read_blocks, sending, with_moves}
+-- A READ begins, which keeps its blocks.
+use Rattle.device.proofs.Common.{Bool, Cdb, Core, Describes, DeviceCore, Good, IsKey, IsLayerWith, None, Ok, Phase}
+use Rattle.device.proofs.Common.{Plan, Request, Result, Some, State, Status, ap, arith, claims_of, data_key, div_ceil}
+use Rattle.device.proofs.Common.{false, fold, greatest_command, has_room, if◌then◌else◌, length, length-made, min}
+use Rattle.device.proofs.Common.{most_tasks, moved, numbers_of, refl, sends_frames, shape_of_numbers, subst, sym}
+use Rattle.device.proofs.Common.{task_of, true, with_moves, ℕ, ◌+◌, ◌<◌, ◌||◌, ◌∙◌, ◌≡◌, ◌≤◌}
+use Rattle.std.specs.Prelude.{◌*◌, ◌==◌}
+use Rattle.ufs_spec.specs.Machine.{keeps, read_begun, read_blocks, sending}
 use Rattle.ufs_spec.specs.Machine as machine
-use Rattle.ufs_spec.specs.Moves.{Claim, moved}
-use Rattle.ufs_spec.specs.Plain.{greatest_command, shape_of_numbers}
-use Rattle.ufs_spec.specs.Refusals.{Request, State, numbers_of, sends_frames}
-use Rattle.ufs_spec.specs.Translation.{free_slots}
-use Rattle.ufs_spec.specs.declared.scsi.Cdb.{Cdb}
-use Rattle.ufs_laws.proofs.plain_contents.ListParts.{length-made}
-use Rattle.ftl_core.specs.Public.{AreClaimed, Core, with_claimed}
-use Rattle.task_set.specs.declared.tasks.Phase.{Phase}
 use Rattle.task_set.specs.declared.tasks.Phase.TheVariants as phase
-use Rattle.task_set.specs.declared.tasks.Status as kept_status
-use Rattle.task_set.specs.declared.tasks.Status.TheVariants as status
-use Rattle.device.specs.declared.plans.Plan.{Plan}
+use Rattle.ufs_spec.specs.declared.exchanges.Status.TheVariants as status
 use Rattle.device.specs.declared.plans.Plan.TheVariants as plan
-use Rattle.device.specs.Calls.{has_room, write_asks}
-use Rattle.device.specs.Describes.{Describes, claims_of}
-use Rattle.device.specs.Kept.{DeviceCore, IsLayerWith}
 use Rattle.device.proofs.described.Answered.{IsBehind}
 use Rattle.device.proofs.host_messages.BlocksKept.{sends}
-use Rattle.device.proofs.host_messages.CommandPasses.{none_expected, some_expected, some_told}
+use Rattle.device.proofs.host_messages.CommandPasses.{none_expected, some_expected}
 use Rattle.device.proofs.host_messages.ReadOpened.{block_now, core_opened, read_opened, reading_at, sending_now}
-use Rattle.device.proofs.host_messages.SlotsClaimed.{LayerThen, none_gathered, slots_found}
-use Rattle.device.proofs.host_messages.TasksBegin.{HasBegunFor, nothing_begins, opened_for, quiet_task, same_phase}
+use Rattle.device.proofs.host_messages.TasksBegin.{HasBegunFor, nothing_begins, opened_for, same_phase}
 use Rattle.device.proofs.open_tasks.FewPins.{pin_has_room}
-use Rattle.device.proofs.open_tasks.TaskOpened.{nobody, none_claimed, opens_gathering, never_in, quiet_here}
+use Rattle.device.proofs.open_tasks.TaskOpened.{nobody}
 
 module _ (d : DeviceCore) (s : State) (r : Request) (h : Describes d s) (free : task_of r.tag s.tasks ≡ None)
     (few : length s.tasks < most_tasks) (after : Core) where
-  abbrev Begins : Result Plan kept_status.Status → Phase → Type 0
+  abbrev Begins : Result Plan Status → Phase → Type 0
   Begins todo p = HasBegunFor s r after todo p
 
-  abbrev Opens : Result Plan kept_status.Status → Phase → State → Type 0
+  abbrev Opens : Result Plan Status → Phase → State → Type 0
   Opens todo p v = IsBehind (opened_for d r after todo p) v
-
-  -- READ
 
   -- how many blocks are sent, of a READ of so many
   abbrev sent_of : ℕ → ℕ
@@ -111,51 +95,3 @@ module _ (d : DeviceCore) (s : State) (r : Request) (h : Describes d s) (free : 
             there = keys;
             new = nobody d s r h free few;
           }))
-
-  -- WRITE
-
-  -- what is planned for it
-  abbrev write_todo : (unit address blocks : ℕ) → Bool → Bool → Plan
-  write_todo unit address blocks forced b =
-      if b then plan.Nothing 0 else plan.Write (data_key unit address) blocks forced
-
-  abbrev write_at : Cdb → ℕ → ℕ → ℕ → Bool → Bool → State
-  write_at command unit address blocks forced b =
-      if b then machine.with_task s r (Some command) 0 (Answering Good 0)
-      else machine.with_task (with_moves s (Claim blocks ∷ [])) r (Some command) (4096 * blocks)
-      (Gathering (ForWrite unit address blocks forced) [] false)
-
-  pub write_begins : (command : Cdb) (unit address blocks : ℕ) (forced : Bool) (p : Phase) →
-      sends_frames (Some command) ≡ false → blocks ≤ free_slots s.translation →
-      (b : Bool) → (blocks == 0) ≡ b → Begins (Ok (write_todo unit address blocks forced b)) p →
-      Opens (Ok (write_todo unit address blocks forced b)) p (write_at command unit address blocks forced b)
-  write_begins command unit address blocks forced p quiet slots true e begun =
-      nothing_begins d s r h free few after command 0 p quiet begun
-  write_begins command unit address blocks forced p quiet slots false e begun =
-      same_phase d r after p asks _ its.0
-      (opens_gathering d s r h free few after (Some command) (4096 * blocks) blocks
-      (ForWrite unit address blocks forced) _
-      (its.1.0, subst (AreClaimed after) (ap (with_claimed (claims_of (numbers_of s) s.tasks) r.tag) (none_gathered blocks)) its.1.1)
-      (record {
-        lun = refl;
-        tag = refl;
-        expected = refl;
-        sends = quiet;
-        in_regions = never_in 0 (Some command) quiet;
-        sends_to = λ other. quiet_here other (Some command) quiet;
-        gathers = tt;
-        asked_of = tt;
-        request = refl;
-        asks = tt;
-        fits = refl;
-        doing = (record { write = (refl, refl, refl); came = refl; more = some_told blocks e; total_is = refl }, refl);
-        read = refl;
-      }) (quiet_task d r asks))
-    where
-      asks : Phase
-      asks = write_asks (data_key unit address) blocks forced
-
-      its : (p ≡ asks) × LayerThen after s.translation (claims_of (numbers_of s) s.tasks) r.tag blocks true
-      its =
-          slots_found after s.translation (claims_of (numbers_of s) s.tasks) r.tag blocks asks p slots (none_claimed d s r h free few)
-          begun

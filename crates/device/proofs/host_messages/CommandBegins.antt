@@ -1,43 +1,27 @@
 -- A command that the table lets through begins what was planned for it, and any other is refused.
-use Rattle.std.proofs.Common.{◌≡◌, ◌∙◌, ℕ, ◌<◌, Bool, true, false, List, [], ◌∷◌, Option, Some, None, length, refl}
-use Rattle.std.proofs.Common.{sym, ap, subst, arith}
-use Rattle.std.specs.Prelude.{◌+◌, ◌*◌, ◌||◌, ◌==◌, if◌then◌else◌, min}
-use Rattle.std.specs.Prelude.{Result, Ok, Err}
-use Rattle.std.specs.Int.{div_ceil}
-use Rattle.ufs_spec.specs.Begins.{begun_if_any, refused_or_begun}
-use Rattle.ufs_spec.specs.Begins.{unit_or_first}
+use Rattle.device.proofs.Common.{Answering, Bool, Cdb, Core, Describes, DeviceCore, Err, IsKey, IsNamed, IsPlanned}
+use Rattle.device.proofs.Common.{List, None, Ok, Option, Passes, Phase, Plan, Request, Result, Some, State, Status}
+use Rattle.device.proofs.Common.{Volatile, [], ap, arith, data_key, div_ceil, false, if◌then◌else◌, length, lines_after}
+use Rattle.device.proofs.Common.{min, most_tasks, numbers_of, refl, refusal, shape_of_numbers, spelled_cdb, subst, sym}
+use Rattle.device.proofs.Common.{target_of, task_of, true, ℕ, ◌<◌, ◌||◌, ◌∙◌, ◌∷◌, ◌≡◌}
+use Rattle.std.specs.Prelude.{◌*◌, ◌+◌, ◌==◌}
+use Rattle.ufs_spec.specs.Begins.{begun_if_any, refused_or_begun, unit_or_first}
 use Rattle.ufs_spec.proofs.CommandTable.{region_in}
-use Rattle.ufs_spec.specs.CdbFields.{spelled_cdb}
 use Rattle.ufs_spec.specs.Cdbs.{address_of, blocks_of}
-use Rattle.ufs_spec.specs.Exchanges.{most_tasks, task_of}
-use Rattle.ufs_spec.specs.Keys.{IsKey, data_key}
-use Rattle.ufs_spec.specs.Plain.{shape_of_numbers}
 use Rattle.ufs_spec.specs.Changes.{with_task}
-use Rattle.ufs_spec.specs.Exchanges.{Answering}
-use Rattle.ufs_spec.specs.Refusals.{Line, Request, State, lines_after, numbers_of, refusal, table, unit_of_request}
-use Rattle.ufs_spec.specs.Refusals.{volatile_by}
-use Rattle.ufs_spec.specs.declared.volatile.Volatile.{Volatile}
+use Rattle.ufs_spec.specs.Refusals.{Line, table, unit_of_request, volatile_by}
 use Rattle.std.specs.List.{AllByRecursion}
-use Rattle.ufs_spec.specs.declared.scsi.Cdb.{Cdb}
 use Rattle.ufs_spec.specs.declared.scsi.Cdb.TheVariants as cdb
 use Rattle.power_loss.proofs.host_commands.PassedCommands.{Passed, passed}
 use Rattle.power_loss.proofs.host_commands.ReadBlocks.{Reads, key_read, reads_in}
-use Rattle.ftl_core.specs.Public.{Core}
-use Rattle.task_set.specs.declared.tasks.Phase.{Phase}
 use Rattle.task_set.specs.declared.tasks.Phase.TheVariants as phase
-use Rattle.task_set.specs.declared.tasks.Status as kept_status
-use Rattle.task_set.specs.Tasks.{status_kept}
-use Rattle.device.specs.declared.plans.Plan.{Plan}
-use Rattle.device.specs.Describes.{Describes}
-use Rattle.device.specs.Kept.{DeviceCore}
-use Rattle.device.specs.Plans.{IsPlanned, Passes, plan_of}
-use Rattle.device.specs.Targets.{IsNamed, target_of}
+use Rattle.device.specs.Plans.{plan_of}
 use Rattle.device.proofs.described.Answered.{IsBehind}
-use Rattle.device.proofs.host_messages.BlocksBegin.{read_begins, write_begins}
+use Rattle.device.proofs.host_messages.BlocksBegin.{read_begins}
 use Rattle.device.proofs.host_messages.CommandPasses.{IsFree, flush_durable, free_told}
 use Rattle.device.proofs.host_messages.CommandTags.{others_send}
-use Rattle.device.proofs.host_messages.FramesBegin.{asked_begins, taken_begins}
-use Rattle.device.proofs.host_messages.ListsBegin.{list_begins}
+use Rattle.device.proofs.host_messages.FramesBegin.{taken_begins}
+use Rattle.device.proofs.host_messages.GathersBegin.{asked_begins, list_begins, write_begins}
 use Rattle.device.proofs.host_messages.ReadOpened.{core_opened}
 use Rattle.device.proofs.host_messages.TasksBegin.{HasBegunFor, answer_opened, flush_begins}
 use Rattle.device.proofs.host_messages.TasksBegin.{nothing_begins, opened_for, same_phase}
@@ -68,10 +52,10 @@ table_stays s r = stays (table s r) s.volatile (refl, (refl, lines_stay s r r.cd
 
 module _ (d : DeviceCore) (s : State) (r : Request) (h : Describes d s) (free : task_of r.tag s.tasks ≡ None)
     (few : length s.tasks < most_tasks) (after : Core) where
-  abbrev Begins : Result Plan kept_status.Status → Phase → Type 0
+  abbrev Begins : Result Plan Status → Phase → Type 0
   Begins todo p = HasBegunFor s r after todo p
 
-  abbrev Opens : Result Plan kept_status.Status → Phase → State → Type 0
+  abbrev Opens : Result Plan Status → Phase → State → Type 0
   Opens todo p v = IsBehind (opened_for d r after todo p) v
 
   abbrev unit_now : ℕ
@@ -100,8 +84,7 @@ module _ (d : DeviceCore) (s : State) (r : Request) (h : Describes d s) (free : 
       k.few (read_keys (cdb.Read address blocks) blocks refl (reads_in r.bytes (cdb.Read address blocks) spelled refl) lets)
       ((blocks == 0) || (r.expected == 0)) refl begun
   command_begins (cdb.Write address blocks forced) p spelled named lets k begun =
-      write_begins d s r h free few after (cdb.Write address blocks forced) unit_now address blocks forced p refl
-      k.slots (blocks == 0) refl begun
+      write_begins d s r h free few after unit_now address blocks forced p k.slots begun
   command_begins (cdb.Flush immediate) p spelled named lets k begun =
       flush_begins d s r h free few after (cdb.Flush immediate) immediate p refl
       (flush_durable s true h.tied k.refused refl) begun
@@ -125,14 +108,14 @@ module _ (d : DeviceCore) (s : State) (r : Request) (h : Describes d s) (free : 
       (subst (λ (x : Plan). Begins (Ok x) p) passes.todo_is begun)))
 
   -- what is planned begins, and is described then
-  pub planned_begins : (todo : Result Plan kept_status.Status) (p : Phase) → IsPlanned s r todo → Begins todo p →
+  pub planned_begins : (todo : Result Plan Status) (p : Phase) → IsPlanned s r todo → Begins todo p →
       Opens todo p (refused_or_begun s r (refusal s r))
   planned_begins (Err told) p is_planned begun =
       subst (IsBehind (core_opened d r after p))
       (sym (ap (refused_or_begun s r) is_planned ∙ ap (λ (v : Volatile). with_task (record s { volatile = v }) r None 0
-      (Answering (status_kept told) 0)) (table_stays s r)))
+      (Answering told 0)) (table_stays s r)))
       (same_phase d r after p (phase.Answer told 0) _ begun.0
-      (answer_opened d s r h free few after None 0 0 (status_kept told) told 0 refl begun.1 refl refl))
+      (answer_opened d s r h free few after None 0 0 told told 0 refl begun.1 refl refl))
   planned_begins (Ok todo) p is_planned begun =
       subst (Opens (Ok todo) p) (sym (ap (refused_or_begun s r) is_planned.passed))
       (passes_begin todo p is_planned begun)

@@ -1,26 +1,17 @@
 -- The table by which a command is refused, against the checks of the code: they end a command with the same status.
-use Rattle.std.proofs.Common.{◌≡◌, ◌∙◌, ℕ, Bool, true, false, List, [], ◌∷◌, Option, Some, None}
-use Rattle.std.proofs.Common.{refl, sym, ap, subst}
-use Rattle.std.specs.Prelude.{◌||◌, if◌then◌else◌, option_map}
-use Rattle.ufs_spec.proofs.Facts.{true≢false}
+use Rattle.device.proofs.Common.{Bool, Cdb, List, None, Numbers, Option, Request, Sense, Some, State, Status, UnitSpec}
+use Rattle.device.proofs.Common.{[], ap, false, first_line, has_other_response, has_wrong_list, if◌then◌else◌}
+use Rattle.device.proofs.Common.{lines_for, numbers_of, out_of_range, refl, sequence_error, subst, sym, true}
+use Rattle.device.proofs.Common.{true≢false, unit_numbers_of, units_listed, ℕ, ◌||◌, ◌∙◌, ◌∷◌, ◌≡◌}
 use Rattle.ufs_spec.specs.Cdbs.{direction_of, length_of}
-use Rattle.ufs_spec.specs.Exchanges.{Busy, invalid_field, list_length_error}
-use Rattle.ufs_spec.specs.Exchanges.{not_ready, out_of_range, sequence_error, write_protected}
-use Rattle.ufs_spec.specs.Refusals.{Line, Request, State}
-use Rattle.ufs_spec.specs.Refusals.{first_line, has_other_response, has_wrong_list, is_crowded, is_past}
-use Rattle.ufs_spec.specs.Refusals.{is_refused_write, is_too_long, lacks_data, lacks_region, lacks_response, length_in}
-use Rattle.ufs_spec.specs.Refusals.{is_unready, line, lines_for, numbers_of}
-use Rattle.ufs_spec.specs.Refusals.{unit_numbers_of, units_listed}
-use Rattle.ufs_spec.specs.declared.configs.Numbers.{Numbers}
-use Rattle.ufs_spec.specs.declared.configs.UnitSpec.{UnitSpec}
-use Rattle.ufs_spec.specs.declared.scsi.Cdb.{Cdb}
-use Rattle.ufs_spec.specs.declared.scsi.Sense.{Sense}
+use Rattle.ufs_spec.specs.Exchanges.{invalid_field, list_length_error, not_ready, write_protected}
+use Rattle.ufs_spec.specs.declared.exchanges.Status.TheVariants.{Busy}
+use Rattle.ufs_spec.specs.Refusals.{Line, is_crowded, is_past, is_refused_write, is_too_long, is_unready, lacks_data}
+use Rattle.ufs_spec.specs.Refusals.{lacks_region, lacks_response, length_in, line}
 use Rattle.ufs_spec.specs.declared.scsi.TheConstants.Sense.{COMMAND_SEQUENCE, INVALID_FIELD, LIST_LENGTH, NOT_READY}
 use Rattle.ufs_spec.specs.declared.scsi.TheConstants.Sense.{OUT_OF_RANGE, WRITE_PROTECTED}
 use Rattle.device.specs.Plans.{lines_now}
-use Rattle.task_set.specs.declared.tasks.Status as kept_status
-use Rattle.task_set.specs.declared.tasks.Status.TheVariants as status
-use Rattle.task_set.specs.Tasks.{status_kept}
+use Rattle.ufs_spec.specs.declared.exchanges.Status.TheVariants as status
 
 -- Lines
 
@@ -40,11 +31,11 @@ pub data_lacking : (s : State) (r : Request) (c : Cdb) (n : Numbers) (listed : �
 data_lacking s r c n listed b are is lacks =
     (λ i. lacks_data r (direction_of c) (length_of (sym (is ∙ ap (λ (m : Numbers). units_listed m c) are) i) c)) ∙ lacks
 
-abbrev check : Sense → Option kept_status.Status
+abbrev check : Sense → Option Status
 check sense = Some (status.CheckCondition sense)
 
 -- what the code's first checks give, in their order, and then the rest
-abbrev pub checks_of : Bool → Bool → Bool → Bool → Bool → Option kept_status.Status → Option kept_status.Status
+abbrev pub checks_of : Bool → Bool → Bool → Bool → Bool → Option Status → Option Status
 checks_of g a w b p rest =
     if g then check INVALID_FIELD
     else if a then check INVALID_FIELD
@@ -62,15 +53,15 @@ lines_found s r unit c spec g a w b p kg ka kw kb kp = λ i.
     first_line (lines_at (kg i) (ka i) (kw i) (kb i) ((ap (is_past c) spec ∙ kp) i) (lines_now s (spec i) c))
 
 pub told_by : (s : State) (r : Request) (unit : Option UnitSpec) (c : Cdb) → unit_numbers_of s r ≡ unit →
-    (g a w b p : Bool) (rest : Option kept_status.Status) → lacks_region (numbers_of s) c ≡ g →
+    (g a w b p : Bool) (rest : Option Status) → lacks_region (numbers_of s) c ≡ g →
     is_too_long (numbers_of s) c ≡ a → has_wrong_list c ≡ w → lacks_data r (direction_of c) (length_in s c) ≡ b →
-    is_past c unit ≡ p → first_line (lines_now s unit c) ≡ option_map status_kept rest →
-    first_line (lines_for s r c) ≡ option_map status_kept (checks_of g a w b p rest)
+    is_past c unit ≡ p → first_line (lines_now s unit c) ≡ rest →
+    first_line (lines_for s r c) ≡ checks_of g a w b p rest
 told_by s r unit c spec g a w b p rest kg ka kw kb kp now =
     lines_found s r unit c spec g a w b p kg ka kw kb kp ∙ by g a w b p
   where
     by : (g a w b p : Bool) →
-        first_line (lines_at g a w b p (lines_now s unit c)) ≡ option_map status_kept (checks_of g a w b p rest)
+        first_line (lines_at g a w b p (lines_now s unit c)) ≡ checks_of g a w b p rest
     by true a w b p = refl
     by false true w b p = refl
     by false false true b p = refl
@@ -82,12 +73,12 @@ told_by s r unit c spec g a w b p rest kg ka kw kb kp now =
 pub told_early : (s : State) (r : Request) (unit : Option UnitSpec) (c : Cdb) → unit_numbers_of s r ≡ unit →
     (g a w b p : Bool) → (g || (a || (w || (b || p)))) ≡ true → lacks_region (numbers_of s) c ≡ g →
     is_too_long (numbers_of s) c ≡ a → has_wrong_list c ≡ w → lacks_data r (direction_of c) (length_in s c) ≡ b →
-    is_past c unit ≡ p → first_line (lines_for s r c) ≡ option_map status_kept (checks_of g a w b p None)
+    is_past c unit ≡ p → first_line (lines_for s r c) ≡ checks_of g a w b p None
 told_early s r unit c spec g a w b p early kg ka kw kb kp =
     lines_found s r unit c spec g a w b p kg ka kw kb kp ∙ by g a w b p early
   where
     by : (g a w b p : Bool) → (g || (a || (w || (b || p)))) ≡ true →
-        first_line (lines_at g a w b p (lines_now s unit c)) ≡ option_map status_kept (checks_of g a w b p None)
+        first_line (lines_at g a w b p (lines_now s unit c)) ≡ checks_of g a w b p None
     by true a w b p e = refl
     by false true w b p e = refl
     by false false true b p e = refl
@@ -96,7 +87,7 @@ told_early s r unit c spec g a w b p early kg ka kw kb kp =
     by false false false false false e = absurd (true≢false (sym e))
 
 -- what the checks by what the device is now give
-abbrev pub checks_now : Bool → Bool → Bool → Bool → Bool → Option kept_status.Status
+abbrev pub checks_now : Bool → Bool → Bool → Bool → Bool → Option Status
 checks_now a b p e f =
     if a then check NOT_READY
     else if b then check WRITE_PROTECTED
@@ -108,7 +99,7 @@ checks_now a b p e f =
 pub now_told : (s : State) (unit : Option UnitSpec) (c : Cdb) (a b p e f : Bool) →
     is_unready s c ≡ a → is_refused_write s unit c ≡ b → lacks_response s c ≡ p →
     has_other_response s c ≡ e → is_crowded s c ≡ f →
-    first_line (lines_now s unit c) ≡ option_map status_kept (checks_now a b p e f)
+    first_line (lines_now s unit c) ≡ checks_now a b p e f
 now_told s unit c a b p e f ka kb kp ke kf =
     (λ i. first_line (line (ka i) not_ready ∷ line (kb i) write_protected ∷ line (kp i) sequence_error
     ∷ line (ke i) invalid_field ∷ line (kf i) Busy ∷ []))
@@ -116,7 +107,7 @@ now_told s unit c a b p e f ka kb kp ke kf =
   where
     by : (a b p e f : Bool) →
         first_line (line a not_ready ∷ line b write_protected ∷ line p sequence_error ∷ line e invalid_field
-        ∷ line f Busy ∷ []) ≡ option_map status_kept (checks_now a b p e f)
+        ∷ line f Busy ∷ []) ≡ checks_now a b p e f
     by true b p e f = refl
     by false true p e f = refl
     by false false true e f = refl

@@ -1,20 +1,15 @@
 -- Whether a message may open an exchange.
-use Rattle.std.proofs.Common.{◌≡◌, ◌∙◌, ℕ, Bool, true, false, List, [], ◌∷◌, None, length, refl, sym, ap}
-use Rattle.std.proofs.Common.{inl, inr, cond}
-use Rattle.std.specs.Prelude.{◌||◌, if◌then◌else◌, find, nat_le, is_some, position, Ok, Err, Some}
-use Rattle.std.specs.List.{list_any}
+use Rattle.device.proofs.Common.{Bool, Describes, DeviceCore, Err, List, None, Ok, OpenTask, State, TasksKept, [], ap}
+use Rattle.device.proofs.Common.{before_accepted, cond, false, find, if◌then◌else◌, inl, inr, is_sender, is_short_of}
+use Rattle.device.proofs.Common.{is_some, length, list_any, nat_le, numbers_of, opening_fault, position, refl}
+use Rattle.device.proofs.Common.{result_of, sends_frames, short_answer, sym, task_of, true, ℕ, ◌||◌, ◌∙◌, ◌∷◌, ◌≡◌}
+use Rattle.std.specs.Prelude.{Some}
 use Rattle.ufs_spec.specs.Exchanges.{most_short_exchanges}
 use Rattle.ufs_spec.specs.Exchanges as exchange
-use Rattle.ufs_spec.specs.Exchanges.{is_short_of, task_of}
-use Rattle.ufs_spec.specs.Ledger.{before_accepted}
-use Rattle.ufs_spec.specs.Machine.{in_use, opening_fault, result_of}
-use Rattle.ufs_spec.specs.Refusals.{State, numbers_of, sends_frames}
+use Rattle.ufs_spec.specs.Machine.{in_use}
 use Rattle.ufs_spec.specs.declared.faults.HostFault.TheVariants.{Backlog, TagInUse}
-use Rattle.task_set.specs.Kept.{OpenTask}
-use Rattle.device.specs.Describes.{Describes, TasksKept}
-use Rattle.device.specs.Hears.{short_answer, uses}
-use Rattle.device.specs.Kept.{DeviceCore}
-use Rattle.task_set.specs.Tasks.{is_sender, is_task_of}
+use Rattle.device.specs.Hears.{uses}
+use Rattle.task_set.specs.Tasks.{is_task_of}
 use Rattle.device.proofs.described.ShortExchanges.{as_many_shorts, same_short_tags}
 use Rattle.device.proofs.open_tasks.OpenTasks.{StandsOrNot, as_many, tag_stands}
 
@@ -47,7 +42,7 @@ others_send d s h = all d.tasks s.tasks h.kept.tasks
     all : (ts : List OpenTask) (us : List exchange.Task) → TasksKept (before_accepted s.translation.ledger) ts us →
         list_any (λ (task : exchange.Task). sends_frames task.command) us ≡ list_any is_sender ts
     all [] [] k = refl
-    all (x ∷ ts) (y ∷ us) k = λ i. k.0.sends i || all ts us k.1 i
+    all (x ∷ ts) (y ∷ us) k = λ i. k.0.brings.sends i || all ts us k.1 i
     all ts us k = absurd k
 
 pub tag_used : (d : DeviceCore) (s : State) (tag : ℕ) → Describes d s → in_use s tag ≡ uses d tag

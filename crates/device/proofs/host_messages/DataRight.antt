@@ -1,35 +1,25 @@
 -- A DATA OUT is answered as the definitions say.
-use Rattle.std.proofs.Common.{◌≡◌, ◌∙◌, ℕ, Bool, List, Option, None, length, refl, sym, ap, subst, inl, inr}
-use Rattle.std.specs.Prelude.{Result, Ok, Err}
-use Rattle.arrayvec.specs.ArrayVec.{ArrayVec}
-use Rattle.ufs_spec.specs.Exchanges.{is_asked_of, task_of}
-use Rattle.ufs_spec.specs.Ledger.{before_accepted}
-use Rattle.ufs_spec.specs.Machine.{Call, Host, IsHeard, OfHost, Spelled, asked_fault, result_of}
-use Rattle.ufs_spec.specs.Messages.{Spells, host_fault_of}
-use Rattle.ufs_spec.specs.Refusals.{State}
-use Rattle.ufs_spec.specs.declared.faults.HostFault.{HostFault}
+use Rattle.device.proofs.Common.{AreBytes, ArrayVec, AskedFor, Bool, Call, ComesSo, Describes, DeviceCore, Err}
+use Rattle.device.proofs.Common.{ForFrames, ForUnmap, ForWrite, Host, HostFault, IsAnswered, IsDoing, IsHeard}
+use Rattle.device.proofs.Common.{IsHeardAs, Keeps, List, None, OfHost, Ok, Option, Phase, Purpose, Result, Some}
+use Rattle.device.proofs.Common.{Spelled, Spells, State, Wanted, ap, before_accepted, count_for, data_heard}
+use Rattle.device.proofs.Common.{host_fault_of, inl, inr, length, none-some, refl, result_of, same_Some, subst, sym}
+use Rattle.device.proofs.Common.{task_of, ℕ, ◌∙◌, ◌≡◌}
+use Rattle.ufs_spec.specs.Exchanges.{is_asked_of}
+use Rattle.ufs_spec.specs.Machine.{asked_fault}
 use Rattle.ufs_spec.specs.declared.faults.HostFault.TheVariants.{NotAskedFor}
 use Rattle.ufs_spec.specs.declared.messages.Message.TheVariants as message
-use Rattle.std.proofs.Common.{Some}
-use Rattle.ufs_spec.proofs.Facts.{none-some}
-use Rattle.ufs_spec.specs.Machine.{data_heard}
-use Rattle.ufs_spec.specs.Messages.{AreBytes}
 use Rattle.power_loss.proofs.calls.RightChanges.{right_keeps}
 use Rattle.power_loss.proofs.host_commands.GatheredData.{data_right}
 use Rattle.task_set.specs.Lists.{wanted_in}
-use Rattle.task_set.specs.declared.tasks.AskedFor.{AskedFor}
-use Rattle.task_set.specs.declared.tasks.Phase.{Phase}
 use Rattle.task_set.specs.declared.tasks.Phase.TheVariants as phase
-use Rattle.task_set.specs.declared.tasks.Transfer.{Transfer}
-use Rattle.task_set.specs.declared.tasks.Wanted.{Wanted}
-use Rattle.task_set.specs.declared.tasks.Wanted.TheVariants as wanted
-use Rattle.device.specs.Describes.{Describes, IsAnswered, IsDoing, IsHeardAs, Keeps}
-use Rattle.device.specs.Hears.{HasCome, HasLength, IsDataHeard, asked_for}
-use Rattle.device.specs.Kept.{DeviceCore}
+use Rattle.device.specs.Hears.{HasCome, HasComeFor, IsDataHeard, asked_for}
+use Rattle.task_set.specs.Tasks.{wanted_count}
 use Rattle.device.proofs.described.Answered.{answered, answered_told, stays}
 use Rattle.device.proofs.host_messages.AskedData.{AreAsked, data_asked}
 use Rattle.device.proofs.host_messages.BlocksCome.{block_keeps}
-use Rattle.device.proofs.host_messages.BlocksGathered.{gathers}
+use Rattle.device.proofs.host_messages.BlocksGathered.{gathers_blocks}
+use Rattle.device.proofs.open_tasks.WantedData.{Gathers, gathers}
 use Rattle.device.proofs.host_messages.FramesCome.{frames_keep}
 use Rattle.device.proofs.host_messages.ListsCome.{list_keeps}
 use Rattle.device.proofs.open_tasks.OpenTasks.{Stands}
@@ -38,45 +28,46 @@ abbrev call_of : ℕ → ℕ → ℕ → ArrayVec ℕ → Call
 call_of lun tag offset «data» = Host (Spelled (message.DataOut lun tag offset «data») None)
 
 -- what a task asks for in its phase
-wants_block : (p : Phase) (x : Transfer) → wanted_in p ≡ Some (wanted.Block x) → p ≡ phase.Await (wanted.Block x)
-wants_block (phase.Await (wanted.Block y)) x e = ap (λ (z : Transfer). phase.Await (wanted.Block z)) (same y x e)
-  where
-    same : (y x : Transfer) → Some (wanted.Block y) ≡ Some (wanted.Block x) → y ≡ x
-    same y x k = cc
-wants_block (phase.Await (wanted.Frames size)) x e = absurd (other size x e)
-  where
-    other : (size : ℕ) (x : Transfer) → Some (wanted.Frames size) ≡ Some (wanted.Block x) → ⊥
-    other size x k = cc
-wants_block (phase.Await (wanted.List unit size)) x e = absurd (other unit size x e)
-  where
-    other : (unit size : ℕ) (x : Transfer) → Some (wanted.List unit size) ≡ Some (wanted.Block x) → ⊥
-    other unit size x k = cc
-wants_block (phase.Ask (wanted.Block y)) x e = absurd (none-some (wanted.Block x) e)
-wants_block (phase.Ask (wanted.Frames size)) x e = absurd (none-some (wanted.Block x) e)
-wants_block (phase.Ask (wanted.List unit size)) x e = absurd (none-some (wanted.Block x) e)
-wants_block (phase.AwaitFrontier n size) x e = absurd (none-some (wanted.Block x) e)
-wants_block (phase.ReadArea r) x e = absurd (none-some (wanted.Block x) e)
-wants_block (phase.SendBlocks y) x e = absurd (none-some (wanted.Block x) e)
-wants_block (phase.SendHeld size) x e = absurd (none-some (wanted.Block x) e)
-wants_block (phase.Answer told n) x e = absurd (none-some (wanted.Block x) e)
+awaits : (p : Phase) (w : Wanted) → wanted_in p ≡ Some w → p ≡ phase.Await w
+awaits (phase.Await v) w e = ap (λ (x : Wanted). phase.Await x) (same_Some v w e)
+awaits (phase.Ask v) w e = absurd (none-some w e)
+awaits (phase.AwaitFrontier n size) w e = absurd (none-some w e)
+awaits (phase.ReadArea r) w e = absurd (none-some w e)
+awaits (phase.SendBlocks x) w e = absurd (none-some w e)
+awaits (phase.SendHeld size) w e = absurd (none-some w e)
+awaits (phase.Answer told n) w e = absurd (none-some w e)
 
 -- what was asked for came, and is kept of the state behind it
 come_keeps : (d come : DeviceCore) (s : State) (tag : ℕ) (bytes : List ℕ)
     (r : Stands (before_accepted s.translation.ledger) tag d.tasks s.tasks) (w : Wanted) → Describes d s →
-    wanted_in r.a.phase ≡ Some w → HasLength w (length bytes) → AreBytes bytes →
+    wanted_in r.a.phase ≡ Some w → length bytes ≡ wanted_count w → AreBytes bytes →
     HasCome d come tag r.k w bytes → Keeps come (data_heard s (task_of tag s.tasks) bytes)
-come_keeps d come s tag bytes r (wanted.Block x) h wants long are did =
-    let at = wants_block r.a.phase x wants in
-    let g = gathers (before_accepted s.translation.ledger) r.a.expected r.b.length x r.b.deed
-    (subst (λ p. IsDoing (before_accepted s.translation.ledger) r.a.expected r.b.length p r.b.deed) at
-    r.opened.kept.doing) in
-    subst (λ (y : DeviceCore). Keeps y (data_heard s (task_of tag s.tasks) bytes)) (sym did.after_is)
-    (block_keeps d s tag bytes x h r at g long are did.layer did.event
-    (did.taken s.translation _ (h.kept.layer_kept, h.kept.claims)))
-come_keeps d come s tag bytes r (wanted.Frames size) h wants long are did =
-    frames_keep d come s tag bytes size h r wants long are did
-come_keeps d come s tag bytes r (wanted.List unit size) h wants long are did =
-    list_keeps d come s tag bytes unit size h r wants long are did
+come_keeps d come s tag bytes r w h wants long are did = by w.purpose refl did
+  where
+    at : r.a.phase ≡ phase.Await w
+    at = awaits r.a.phase w wants
+
+    came : Gathers w r.b.length r.b.deed
+    came =
+        gathers (before_accepted s.translation.ledger) r.a.expected r.b.length w r.b.deed
+        (subst (λ p. IsDoing (before_accepted s.translation.ledger) r.a.expected r.b.length p r.b.deed) at
+        r.opened.kept.doing)
+
+    by : (purpose : Purpose) → w.purpose ≡ purpose → HasComeFor d come tag r.k w bytes purpose →
+        Keeps come (data_heard s (task_of tag s.tasks) bytes)
+    by (ForWrite unit address blocks forced) is did =
+        subst (λ (y : DeviceCore). Keeps y (data_heard s (task_of tag s.tasks) bytes)) (sym did.after_is)
+        (block_keeps d s tag bytes w h r at
+        (gathers_blocks unit address blocks forced w r.b.length r.b.deed is came
+        (subst (λ (p : Purpose). ComesSo p w.came w.length) is came.so))
+        (long ∙ ap (λ (p : Purpose). count_for p w.length) is) are did.layer did.event
+        (did.taken s.translation _ (h.kept.layer_kept, h.kept.claims)))
+    by (ForFrames region) is did =
+        frames_keep d come s tag bytes region w h r at is came
+        (long ∙ ap (λ (p : Purpose). count_for p w.length) is) are did
+    by (ForUnmap unit) is did =
+        list_keeps d come s tag bytes unit w h r at is came
+        (long ∙ ap (λ (p : Purpose). count_for p w.length) is) are did
 
 -- what a DATA OUT is answered, whether it was asked for or not
 each_right : (d e : DeviceCore) (s : State) (lun tag offset : ℕ) («data» : ArrayVec ℕ) (whole : List ℕ)

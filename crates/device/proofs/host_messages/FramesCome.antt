@@ -1,47 +1,27 @@
 -- All frames of a SECURITY PROTOCOL OUT came: what was decided of them is kept of the state behind them.
-use Rattle.std.proofs.Common.{◌≡◌, ◌∙◌, ℕ, ◌<◌, Bool, false, List, [], cond, length, refl, sym, ap, subst, arith}
-use Rattle.std.specs.Prelude.{nat_lt, Some, None}
-use Rattle.std.specs.List.{flat_map}
-use Rattle.std.proofs.lemmas.Bool.{le-ltb}
-use Rattle.ufs_spec.proofs.Facts.{same_Some}
-use Rattle.ufs_spec.specs.Changes.{ends_with_status}
-use Rattle.ufs_spec.specs.Commands.{RpmbWrite, SetKey}
+use Rattle.device.proofs.Common.{Answering, AreBytes, Bool, Deed, Describes, DeviceCore, ForFrames, Frame, Frames}
+use Rattle.device.proofs.Common.{FramesFit, IsDoing, IsKept, IsLayerWith, Keeps, List, OpenTask, Phase, ReadsAsked}
+use Rattle.device.proofs.Common.{Registers, Release, Results, RpmbWrite, Sense, SetKey, State, TaskKept, Wanted, []}
+use Rattle.device.proofs.Common.{accepts_nothing, ap, arith, before_accepted, claim_of, claimed_in, claims_of, cond}
+use Rattle.device.proofs.Common.{data_heard, ends_with_status, eq_self, false, flat_map, frames_of, if_false, le-ltb}
+use Rattle.device.proofs.Common.{length, machine_at, moved, nat_lt, numbers_of, phase_after, plain_now, read_in, refl}
+use Rattle.device.proofs.Common.{region_of, regions, request_decided, rpmb_outcome, same_Some, subst, sym, task_after}
+use Rattle.device.proofs.Common.{task_happened, task_of, wanted_by, with_claimed, with_deed, ℕ, ◌<◌, ◌∙◌, ◌≡◌}
+use Rattle.std.specs.Prelude.{None, Some}
 use Rattle.ufs_spec.specs.Exchanges as exchange
-use Rattle.ufs_spec.specs.Exchanges.{Answering, CheckCondition, Deed, Registers, task_of, with_deed}
-use Rattle.ufs_spec.specs.FrameRequests.{request_decided}
-use Rattle.ufs_spec.specs.Frames.{Frame}
-use Rattle.ufs_spec.specs.Ledger.{before_accepted}
-use Rattle.ufs_spec.specs.Machine.{data_for, data_heard}
-use Rattle.ufs_spec.specs.Messages.{AreBytes}
-use Rattle.ufs_spec.specs.Moves.{Release, moved}
-use Rattle.ufs_spec.specs.Plain.{region_of, regions}
-use Rattle.ufs_spec.specs.Refusals.{State, accepts_nothing, numbers_of, plain_now}
-use Rattle.ufs_spec.specs.Rpmb.{Results, rpmb_outcome}
-use Rattle.ufs_spec.specs.declared.scsi.Sense.{Sense}
-use Rattle.power_loss.specs.Exchange.{claim_of}
-use Rattle.power_loss.proofs.books.SmallFacts.{eq_self, if_false}
-use Rattle.ftl_core.specs.Public.{with_claimed}
-use Rattle.rpmb.specs.Kept.{IsKept, machine_at}
+use Rattle.ufs_spec.specs.declared.exchanges.Status.TheVariants.{CheckCondition}
+use Rattle.ufs_spec.specs.Machine.{data_for}
 use Rattle.rpmb.specs.Outcomes.{outcome_of, status_of}
-use Rattle.rpmb.specs.Requests.{frames_of}
 use Rattle.rpmb.specs.declared.outcomes.Accepted.TheVariants as accepted
 use Rattle.rpmb.specs.declared.outcomes.Outcome.{Outcome}
 use Rattle.rpmb.specs.declared.outcomes.Outcome.TheVariants as outcome
 use Rattle.rpmb.specs.declared.outcomes.Refusal.{Refusal}
-use Rattle.task_set.specs.Kept.{OpenTask}
-use Rattle.task_set.specs.Lists.{task_happened, wanted_in as wanted_of}
-use Rattle.task_set.specs.Tasks.{phase_after, task_after}
-use Rattle.task_set.specs.declared.frames.Frames.{Frames}
-use Rattle.task_set.specs.declared.tasks.Phase.{Phase}
 use Rattle.task_set.specs.declared.tasks.TaskEvent.TheVariants as event
-use Rattle.task_set.specs.declared.tasks.Wanted.TheVariants as wanted
-use Rattle.device.specs.Describes.{Describes, FramesFit, IsDoing, Keeps, ReadsAsked, TaskKept}
-use Rattle.device.specs.Describes.{claimed_in, claims_of, read_in, wanted_by}
+use Rattle.task_set.specs.declared.tasks.Phase.TheVariants as phase
 use Rattle.device.specs.Frames.{HasDecided, HasDone, HasRefused}
-use Rattle.device.specs.Hears.{HasLength}
-use Rattle.device.specs.Kept.{DeviceCore, IsLayerWith}
-use Rattle.device.proofs.host_messages.FramesGathered.{AllCame, frames_are, gathers_frames}
-use Rattle.device.proofs.host_messages.FramesGathered.{not_wanted, released, to, to_there, undecided, wants_frames}
+use Rattle.device.proofs.open_tasks.WantedData.{Gathers}
+use Rattle.device.proofs.host_messages.FramesGathered.{AllCame, for_region, frames_are, gathers_frames}
+use Rattle.device.proofs.host_messages.FramesGathered.{not_wanted, released, to, to_there, undecided}
 use Rattle.device.proofs.host_messages.RequestsAccepted.{command_keeps}
 use Rattle.device.proofs.host_messages.RequestsAnswered.{answered_keeps}
 use Rattle.device.proofs.host_messages.TaskBecomes.{becomes_kept, device_then}
@@ -54,7 +34,7 @@ module _ {d : DeviceCore} {s : State} {tag : ℕ} {bytes : List ℕ} (c : AllCam
   module _ (come : DeviceCore) (why : Refusal) (sense : Sense) (is : CheckCondition sense ≡ status_of why)
       (did : HasRefused d come tag c.stands.k sense) where
     abbrev new : OpenTask
-    new = task_after (event.FramesRefused sense) c.stands.a
+    new = task_after (event.DataRefused sense) c.stands.a
 
     abbrev answering : Deed
     answering = Answering (status_of why) c.stands.b.length
@@ -64,22 +44,20 @@ module _ {d : DeviceCore} {s : State} {tag : ℕ} {bytes : List ℕ} (c : AllCam
       lun = c.stands.opened.kept.lun;
       tag = c.stands.opened.kept.tag;
       expected = c.stands.opened.kept.expected;
-      sends = c.stands.opened.kept.sends;
-      in_regions = c.stands.opened.kept.in_regions;
-      sends_to = c.stands.opened.kept.sends_to;
+      brings = c.stands.opened.kept.brings;
       gathers = tt;
       asked_of = c.stands.opened.kept.asked_of;
       request = c.stands.opened.kept.request;
       asks =
           subst
-          (λ (f : Frames). ReadsAsked (phase_after c.stands.a.phase (event.FramesRefused sense)) f c.stands.a.held)
+          (λ (f : Frames). ReadsAsked (phase_after c.stands.a.phase (event.DataRefused sense)) f c.stands.a.held)
           (sym (undecided c)) tt;
       fits =
-          subst (λ (p : Phase). FramesFit (phase_after p (event.FramesRefused sense)) c.stands.a.frames c.stands.a.held
+          subst (λ (p : Phase). FramesFit (phase_after p (event.DataRefused sense)) c.stands.a.frames c.stands.a.held
           answering) (sym c.awaits) tt;
       doing =
           subst (λ (p : Phase). IsDoing (before_accepted s.translation.ledger) c.stands.a.expected c.stands.b.length
-          (phase_after p (event.FramesRefused sense)) answering) (sym c.awaits) (sym is, c.gathers.total_is);
+          (phase_after p (event.DataRefused sense)) answering) (sym c.awaits) (sym is, c.gathers.total_is);
       read = c.stands.opened.kept.read ∙ ap read_in c.gathers.deed_is;
     }
 
@@ -88,7 +66,7 @@ module _ {d : DeviceCore} {s : State} {tag : ℕ} {bytes : List ℕ} (c : AllCam
         did.after_is
         ∙ (λ i. record d {
           ftl = did.layer;
-          tasks = task_happened d.tasks c.stands.k (event.FramesRefused sense) (c.stands.opened.ours i);
+          tasks = task_happened d.tasks c.stands.k (event.DataRefused sense) (c.stands.opened.ours i);
         })
 
     refused_keeps : Keeps come (ends_with_status s c.stands.b (status_of why))
@@ -178,21 +156,20 @@ module _ {d : DeviceCore} {s : State} {tag : ℕ} {bytes : List ℕ} (c : AllCam
           (did.outcome_is s.translation (region_of (plain_now s) (to c)) c.described.kept.layer_kept) (to_there c)
           (c.described.kept.region (to c))
 
-pub frames_keep : (d come : DeviceCore) (s : State) (tag : ℕ) (bytes : List ℕ) (size : ℕ) → Describes d s →
-    (r : Stands (before_accepted s.translation.ledger) tag d.tasks s.tasks) →
-    wanted_of r.a.phase ≡ Some (wanted.Frames size) → HasLength (wanted.Frames size) (length bytes) → AreBytes bytes →
-    HasDecided d come tag r.k bytes → Keeps come (data_heard s (task_of tag s.tasks) bytes)
-frames_keep d come s tag bytes size h r wants long are did =
-    let at = wants_frames r.a.phase size wants in
+pub frames_keep : (d come : DeviceCore) (s : State) (tag : ℕ) (bytes : List ℕ) (region : ℕ) (w : Wanted) →
+    Describes d s → (r : Stands (before_accepted s.translation.ledger) tag d.tasks s.tasks) →
+    r.a.phase ≡ phase.Await w → w.purpose ≡ ForFrames region → Gathers w r.b.length r.b.deed →
+    length bytes ≡ w.length → AreBytes bytes → HasDecided d come tag r.k bytes →
+    Keeps come (data_heard s (task_of tag s.tasks) bytes)
+frames_keep d come s tag bytes region w h r at is g long are did =
+    let its = for_region r.a.region region w r.b.length r.b.deed is g r.opened.kept.gathers in
     come_keeps
     (record {
       described = h;
       stands = r;
-      size = size;
+      wanted = w;
       awaits = at;
-      gathers =
-          gathers_frames r.a.region (before_accepted s.translation.ledger) r.a.expected r.b.length size r.b.deed
-          (subst (λ p. IsDoing (before_accepted s.translation.ledger) r.a.expected r.b.length p r.b.deed) at
-          r.opened.kept.doing) r.opened.kept.gathers;
+      purpose_is = its;
+      gathers = gathers_frames r.a.region w r.b.length r.b.deed its g;
       long = long;
     }) are come did

@@ -1,46 +1,29 @@
 -- All frames of a SECURITY PROTOCOL OUT came: what its task has gathered and claimed, and what becomes of it once they
 -- are a request.
-use Rattle.std.proofs.Common.{◌≡◌, ◌∙◌, ℕ, zero, suc, ◌-◌, ◌/◌, ◌≤◌, ◌==◌, Bool, true, false, List, [], ◌∷◌, drop, ◌<◌, ◌&&◌}
-use Rattle.std.proofs.Common.{Some, None, cond, length, replicate, refl, sym, ap, subst, arith}
-use Rattle.std.specs.Prelude.{fold, slice_get, slice_set, take}
-use Rattle.std.proofs.lemmas.List.{take-append-le}
-use Rattle.rpmb.specs.declared.regions.RegionState.{RegionState}
-use Rattle.ufs_spec.proofs.Facts.{none-some}
-use Rattle.ufs_spec.specs.Commands.{Command}
+use Rattle.device.specs.Describes.{BringsFor}
+use Rattle.device.proofs.Common.{Accepted, AreFramesKept, Bool, Claims, ComesSo, Command, Core, Deed, DeedFits}
+use Rattle.device.proofs.Common.{Describes, DeviceCore, ForFrames, Frame, Frames, FramesFit, Gathering, HasRequested}
+use Rattle.device.proofs.Common.{IsDoing, IsFor, IsKept, IsLayerWith, Keeps, List, Machine, Move, None, OpenTask, Phase}
+use Rattle.device.proofs.Common.{Purpose, ReadsAsked, ReadsFor, RegionState, Registers, Release, RpmbRequest, Some}
+use Rattle.device.proofs.Common.{State, TaskEvent, TaskKept, Translation, Wanted, [], after, ap, arith, before_accepted}
+use Rattle.device.proofs.Common.{block_after, brings_frames, claim_of, claimed_by, claimed_in, claims_of, cond, drop}
+use Rattle.device.proofs.Common.{eq_self, false, fold, found_fits, frame_in, frame_slots, frames_after, frames_for}
+use Rattle.device.proofs.Common.{frames_of, gathers_for, is_mended, length, machine_at, moved, numbers_of, phase_after}
+use Rattle.device.proofs.Common.{plain_now, read_in, refl, region_of, regions, replicate, requested, slice_get}
+use Rattle.device.proofs.Common.{slice_set, subst, suc, sym, take, take-append-le, task_after, task_happened, task_of}
+use Rattle.device.proofs.Common.{true, wanted_by, wanted_in, wanted_kept, with_claimed, with_held, with_machine}
+use Rattle.device.proofs.Common.{with_zeros, zero, ℕ, ◌&&◌, ◌-◌, ◌/◌, ◌<◌, ◌==◌, ◌∙◌, ◌∷◌, ◌≡◌, ◌≤◌}
 use Rattle.ufs_spec.specs.Exchanges as exchange
-use Rattle.ufs_spec.specs.Exchanges.{Deed, ForFrames, Gathering, Registers, RpmbRequest, task_of}
-use Rattle.ufs_spec.specs.FrameRequests.{requested, with_request}
-use Rattle.ufs_spec.specs.Frames.{Frame, frame_in, frames_in}
-use Rattle.ufs_spec.specs.Ledger.{before_accepted}
-use Rattle.ufs_spec.specs.Moves.{Move, Release, moved}
-use Rattle.ufs_spec.specs.Plain.{after, region_of, zero_block, regions}
-use Rattle.ufs_spec.specs.Refusals.{State, numbers_of, plain_now}
+use Rattle.ufs_spec.specs.FrameRequests.{with_request}
+use Rattle.ufs_spec.specs.Frames.{frames_in}
+use Rattle.ufs_spec.specs.Plain.{zero_block}
 use Rattle.ufs_spec.specs.RpmbResponses.{emptied_by}
-use Rattle.ufs_spec.specs.Translation.{Translation, is_mended}
-use Rattle.power_loss.specs.Exchange.{DeedFits, FramesFit as WaitsFrames, claim_of}
-use Rattle.power_loss.proofs.books.SmallFacts.{eq_self}
-use Rattle.power_loss.proofs.open_tasks.TaskLists.{found_fits}
-use Rattle.ftl_core.specs.Public.{Claims, Core, with_claimed}
-use Rattle.rpmb.specs.Kept.{IsKept, Machine, machine_at, with_machine}
-use Rattle.rpmb.specs.Requests.{frames_of}
-use Rattle.rpmb.specs.declared.outcomes.Accepted.{Accepted}
-use Rattle.task_set.specs.Frames.{frames_after}
-use Rattle.task_set.specs.Kept.{OpenTask}
-use Rattle.task_set.specs.Lists.{task_happened, task_keeps, wanted_in as wanted_of}
-use Rattle.task_set.specs.Tasks.{block_after, brings_frames, bytes_kept, phase_after, task_after}
-use Rattle.task_set.specs.declared.frames.Frames.{Frames}
+use Rattle.power_loss.specs.Exchange.{FramesFit as WaitsFrames}
+use Rattle.task_set.specs.Lists.{task_keeps}
+use Rattle.task_set.specs.Tasks.{bytes_kept}
 use Rattle.task_set.specs.declared.frames.Frames.TheVariants as frames
-use Rattle.task_set.specs.declared.tasks.Phase.{Phase}
 use Rattle.task_set.specs.declared.tasks.Phase.TheVariants as phase
-use Rattle.task_set.specs.declared.tasks.TaskEvent.{TaskEvent}
-use Rattle.task_set.specs.declared.tasks.Transfer.{Transfer}
-use Rattle.task_set.specs.declared.tasks.Wanted.TheVariants as wanted
-use Rattle.device.specs.Calls.{frame_slots}
-use Rattle.device.specs.Describes.{AreFramesKept, Describes, FramesFit, IsDoing, Keeps, ReadsAsked, ReadsFor, TaskKept}
-use Rattle.device.specs.Describes.{claimed_by, claimed_in, claims_of, read_in, wanted_by, wanted_in, wanted_kept}
-use Rattle.device.specs.Describes.{IsFor, gathers_for}
-use Rattle.device.specs.Frames.{HasRequested, with_held, with_zeros}
-use Rattle.device.specs.Kept.{DeviceCore, IsLayerWith}
+use Rattle.device.proofs.open_tasks.WantedData.{Gathers, none_came}
 use Rattle.device.proofs.described.Machines.{as_many, regions_same, registers_put}
 use Rattle.device.proofs.host_messages.HeldBegins.{zeros_length}
 use Rattle.device.proofs.host_messages.TaskBecomes.{becomes_kept, device_then}
@@ -53,46 +36,32 @@ pub record GathersFrames (region size total : ℕ) (deed : Deed) : Type 0 where
   pub deed_is : deed ≡ Gathering (ForFrames region) [] true
   pub total_is : total ≡ size
 
-pub gathers_frames : (region before expected total size : ℕ) (deed : Deed) →
-    IsDoing before expected total (phase.Await (wanted.Frames size)) deed → IsFor region (gathers_for deed) →
-    GathersFrames region size total deed
-gathers_frames region before expected total size (Gathering (ForFrames other) gathered asked) h to = record {
-  deed_is = λ i. Gathering (ForFrames (to i)) (h.0.none_came i) (h.1 i);
-  total_is = h.0.total_is;
+pub gathers_frames : (region : ℕ) (w : Wanted) (total : ℕ) (deed : Deed) → w.purpose ≡ ForFrames region →
+    Gathers w total deed → GathersFrames region w.length total deed
+gathers_frames region w total deed is g = record {
+  deed_is = g.deed_is ∙ (λ i. Gathering (is i) (none_came g.gathered (g.came ∙ so.0) i) true);
+  total_is = g.total_is;
 }
-gathers_frames region before expected total size (Gathering purpose gathered asked) h to = absurd h.0.for_frames
-gathers_frames region before expected total size deed h to = absurd h
+  where
+    so : ComesSo (ForFrames region) w.came w.length
+    so = subst (λ (p : Purpose). ComesSo p w.came w.length) is g.so
 
-pub wants_frames : (p : Phase) (size : ℕ) → wanted_of p ≡ Some (wanted.Frames size) → p ≡ phase.Await (wanted.Frames size)
-wants_frames (phase.Await (wanted.Frames n)) size e = ap (λ (m : ℕ). phase.Await (wanted.Frames m)) (same n size e)
-  where
-    same : (n size : ℕ) → Some (wanted.Frames n) ≡ Some (wanted.Frames size) → n ≡ size
-    same n size k = cc
-wants_frames (phase.Await (wanted.Block x)) size e = absurd (other x size e)
-  where
-    other : (x : Transfer) (size : ℕ) → Some (wanted.Block x) ≡ Some (wanted.Frames size) → ⊥
-    other x size k = cc
-wants_frames (phase.Await (wanted.List unit n)) size e = absurd (other unit n size e)
-  where
-    other : (unit n size : ℕ) → Some (wanted.List unit n) ≡ Some (wanted.Frames size) → ⊥
-    other unit n size k = cc
-wants_frames (phase.Ask (wanted.Block y)) size e = absurd (none-some (wanted.Frames size) e)
-wants_frames (phase.Ask (wanted.Frames n)) size e = absurd (none-some (wanted.Frames size) e)
-wants_frames (phase.Ask (wanted.List unit n)) size e = absurd (none-some (wanted.Frames size) e)
-wants_frames (phase.AwaitFrontier n m) size e = absurd (none-some (wanted.Frames size) e)
-wants_frames (phase.ReadArea r) size e = absurd (none-some (wanted.Frames size) e)
-wants_frames (phase.SendBlocks y) size e = absurd (none-some (wanted.Frames size) e)
-wants_frames (phase.SendHeld n) size e = absurd (none-some (wanted.Frames size) e)
-wants_frames (phase.Answer told n) size e = absurd (none-some (wanted.Frames size) e)
+-- they are for the region of the task
+pub for_region : (region other : ℕ) (w : Wanted) (total : ℕ) (deed : Deed) → w.purpose ≡ ForFrames other →
+    Gathers w total deed → IsFor region (gathers_for deed) → w.purpose ≡ ForFrames region
+for_region region other w total deed is g to =
+    is ∙ ap (λ (n : ℕ). ForFrames n) (subst (λ (x : Deed). IsFor region (gathers_for x))
+    (g.deed_is ∙ ap (λ (p : Purpose). Gathering p g.gathered true) is) to)
 
 -- all frames came that the task of this tag asked for
 pub record AllCame (d : DeviceCore) (s : State) (tag : ℕ) (bytes : List ℕ) : Type 0 where
   pub described : Describes d s
   pub stands : Stands (before_accepted s.translation.ledger) tag d.tasks s.tasks
-  pub size : ℕ
-  pub awaits : stands.a.phase ≡ phase.Await (wanted.Frames size)
-  pub gathers : GathersFrames stands.a.region size stands.b.length stands.b.deed
-  pub long : length bytes ≡ size
+  pub wanted : Wanted
+  pub awaits : stands.a.phase ≡ phase.Await wanted
+  pub purpose_is : wanted.purpose ≡ ForFrames stands.a.region
+  pub gathers : GathersFrames stands.a.region wanted.length stands.b.length stands.b.deed
+  pub long : length bytes ≡ wanted.length
 
 -- The request
 
@@ -131,13 +100,14 @@ module _ {d : DeviceCore} {s : State} {tag : ℕ} {bytes : List ℕ} (c : AllCam
   undecided =
       subst (λ (p : Phase). FramesFit p c.stands.a.frames c.stands.a.held c.stands.b.deed) c.awaits
       c.stands.opened.kept.fits
+      ∙ ap frames_for c.purpose_is
 
   -- the region to which the task brings frames
   abbrev pub to : ℕ
   to = c.stands.a.region
 
   pub to_there : to < regions
-  to_there = c.stands.opened.kept.in_regions (c.stands.opened.kept.sends ∙ ap brings_frames undecided)
+  to_there = c.stands.opened.kept.brings.in_regions (c.stands.opened.kept.brings.sends ∙ ap brings_frames undecided)
 
   pub found : task_of c.stands.b.tag s.tasks ≡ Some c.stands.b
   found = ap (λ (n : ℕ). task_of n s.tasks) c.stands.tag_is ∙ c.stands.found
@@ -209,9 +179,9 @@ module _ {d : DeviceCore} {s : State} {tag : ℕ} {bytes : List ℕ} (c : AllCam
 
   -- this happened to the task, which has the request from now on
   pub record Happens (code : ℕ) (e : TaskEvent) (p : Phase) (deed : Deed) : Type 0 where
-    pub phase_is : phase_after (phase.Await (wanted.Frames c.size)) e ≡ p
+    pub phase_is : phase_after (phase.Await c.wanted) e ≡ p
     pub frames_are_kept : frames_after frames.Undecided e ≡ frames.Decided code
-    pub no_block : block_after e (phase.Await (wanted.Frames c.size)) None ≡ None
+    pub no_block : block_after e (phase.Await c.wanted) None ≡ None
     pub asks : ReadsFor p (first_frame bytes) code
     pub fits_in : FramesFit p (frames.Decided code) (Some (with_zeros bytes)) deed
     pub doing : IsDoing (before_accepted s.translation.ledger) c.stands.a.expected c.stands.b.length p deed
@@ -225,11 +195,8 @@ module _ {d : DeviceCore} {s : State} {tag : ℕ} {bytes : List ℕ} (c : AllCam
     lun = c.stands.opened.kept.lun;
     tag = c.stands.opened.kept.tag;
     expected = c.stands.opened.kept.expected;
-    sends = c.stands.opened.kept.sends ∙ still_brings;
-    in_regions = c.stands.opened.kept.in_regions;
-    sends_to =
-        λ other. (c.stands.opened.kept.sends_to other
-        ∙ ap (λ (b : Bool). b && (c.stands.a.region == other)) still_brings);
+    brings =
+        subst (λ (x : Bool). BringsFor c.stands.a.region x c.stands.b.command) still_brings c.stands.opened.kept.brings;
     gathers = subst (IsFor c.stands.a.region) (sym x.none_gathered) tt;
     asked_of = refl;
     request =

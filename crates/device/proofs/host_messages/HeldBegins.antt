@@ -1,33 +1,23 @@
 -- A COMMAND begins a task that keeps what it sends in its block of the pool, with zeros behind it.
-use Rattle.std.proofs.Common.{◌≡◌, ◌∙◌, ℕ, ◌<◌, ◌≤◌, Bool, true, false, List, [], ◌∷◌, ◌++◌, drop, Some, None}
-use Rattle.std.proofs.Common.{length, refl, sym, ap, subst, arith}
-use Rattle.std.specs.Prelude.{◌+◌, ◌-◌, ◌==◌, if◌then◌else◌, min, slice_get, slice_set, take}
-use Rattle.std.proofs.lemmas.List.{length-append, length-drop, length-replicate, length-take, take-append-le}
-use Rattle.ufs_spec.proofs.Facts.{false≢true}
-use Rattle.ufs_spec.specs.Exchanges.{Answering, Good, SendingBytes, most_tasks, task_of}
+use Rattle.device.proofs.Common.{Answering, Bool, Cdb, Core, Describes, DeviceCore, Good, IsLayerWith, List, None}
+use Rattle.device.proofs.Common.{OpenTask, Phase, Request, SendingBytes, Some, State, [], ap, arith, claims_of}
+use Rattle.device.proofs.Common.{data_begun, drop, false, false≢true, if◌then◌else◌, length, length-append, length-drop}
+use Rattle.device.proofs.Common.{length-replicate, length-take, min, most_tasks, newly_open, numbers_of, refl}
+use Rattle.device.proofs.Common.{sends_frames, slice_get, slice_set, subst, sym, take, take-append-le, task_of, true}
+use Rattle.device.proofs.Common.{with_held, with_task, with_zeros, ℕ, ◌++◌, ◌<◌, ◌∙◌, ◌∷◌, ◌≡◌, ◌≤◌}
+use Rattle.std.specs.Prelude.{◌+◌, ◌-◌, ◌==◌}
 use Rattle.ufs_spec.specs.Machine as machine
-use Rattle.ufs_spec.specs.Machine.{data_begun}
 use Rattle.ufs_spec.specs.Plain.{zero_block}
-use Rattle.ufs_spec.specs.Refusals.{Request, State, sends_frames}
-use Rattle.ufs_spec.specs.declared.scsi.Cdb.{Cdb}
-use Rattle.ftl_core.specs.Public.{Core}
-use Rattle.task_set.specs.Kept.{OpenTask, newly_open}
 use Rattle.task_set.specs.Lists.{task_keeps}
 use Rattle.task_set.specs.Tasks.{bytes_kept}
 use Rattle.task_set.specs.declared.frames.Frames.TheVariants as frames
-use Rattle.task_set.specs.declared.tasks.Phase.{Phase}
 use Rattle.task_set.specs.declared.tasks.Phase.TheVariants as phase
-use Rattle.task_set.specs.declared.tasks.Status.TheVariants as status
+use Rattle.ufs_spec.specs.declared.exchanges.Status.TheVariants as status
 use Rattle.device.specs.Calls.{held_phase}
-use Rattle.device.specs.Describes.{Describes, claims_of}
-use Rattle.device.specs.Frames.{with_held, with_zeros}
-use Rattle.device.specs.Hears.{with_task}
-use Rattle.device.specs.Kept.{DeviceCore, IsLayerWith}
 use Rattle.device.proofs.described.Answered.{IsBehind}
 use Rattle.device.proofs.host_messages.CommandPasses.{some_told}
 use Rattle.device.proofs.host_messages.ReadOpened.{core_opened}
-use Rattle.device.proofs.open_tasks.TaskOpened.{opens_still, never_in, quiet_here}
-use Rattle.ufs_spec.specs.Refusals.{numbers_of}
+use Rattle.device.proofs.open_tasks.TaskOpened.{brings_none, opens_still}
 
 -- The block of the pool
 
@@ -121,9 +111,7 @@ module _ (d : DeviceCore) (s : State) (r : Request) (h : Describes d s) (free : 
             lun = refl;
             tag = refl;
             expected = refl;
-            sends = quiet;
-            in_regions = never_in 0 (Some command) quiet;
-            sends_to = λ other. quiet_here other (Some command) quiet;
+            brings = brings_none 0 (Some command) quiet;
             gathers = tt;
             asked_of = tt;
             request = refl;
@@ -139,9 +127,7 @@ module _ (d : DeviceCore) (s : State) (r : Request) (h : Describes d s) (free : 
             lun = refl;
             tag = refl;
             expected = refl;
-            sends = quiet;
-            in_regions = never_in 0 (Some command) quiet;
-            sends_to = λ other. quiet_here other (Some command) quiet;
+            brings = brings_none 0 (Some command) quiet;
             gathers = tt;
             asked_of = tt;
             request = refl;

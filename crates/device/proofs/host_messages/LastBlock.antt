@@ -1,44 +1,30 @@
 -- The last block of a WRITE comes: its command is accepted, or is told that it was not written where the device is
 -- locked.
-use Rattle.std.proofs.Common.{◌≡◌, ◌∙◌, ℕ, ◌+◌, ◌*◌, Bool, true, false, cond, List, [], ◌∷◌, length}
-use Rattle.std.proofs.Common.{refl, sym, ap, subst, arith}
-use Rattle.std.proofs.lemmas.List.{length-map}
-use Rattle.ufs_spec.specs.Commands.{Command}
+use Rattle.device.proofs.Common.{Accept, Answering, AreBytes, AreClaimed, Bool, Claims, Command, Core, Deed, Describes}
+use Rattle.device.proofs.Common.{DeviceCore, FramesFit, HasTaken, IsAllowedMove, IsDoing, IsFor, IsKept, IsLayerWith}
+use Rattle.device.proofs.Common.{Keeps, List, Move, Numbers, Release, State, TaskEvent, UnitSpec, Wanted, [], ap, arith}
+use Rattle.device.proofs.Common.{before_accepted, blocks_gathered, claimed_in, claims_of, cond, data_key, false}
+use Rattle.device.proofs.Common.{gathers_for, group_of, group_of_blocks, length, length-map, locked, machine_at, moved}
+use Rattle.device.proofs.Common.{next_number, numbers_of, plain_now, ranges_of, read_in, refl, set_deed, subst, sym}
+use Rattle.device.proofs.Common.{true, with_claimed, with_moves, write_error, ℕ, ◌*◌, ◌+◌, ◌∙◌, ◌∷◌, ◌≡◌}
 use Rattle.ufs_spec.specs.Commands as command
 use Rattle.ufs_spec.specs.Exchanges as exchange
-use Rattle.ufs_spec.specs.Exchanges.{Answering, Deed}
-use Rattle.ufs_spec.specs.Keys.{data_key, group_of}
-use Rattle.ufs_spec.specs.Ledger.{before_accepted, next_number}
-use Rattle.ufs_spec.specs.Machine.{accepts, blocks_in, set_deed, with_moves, write_complete, write_deed}
-use Rattle.ufs_spec.specs.Messages.{AreBytes}
-use Rattle.ufs_spec.specs.Moves.{Accept, IsAllowedMove, Move, Release, moved}
-use Rattle.ufs_spec.specs.Refusals.{State, locked, numbers_of, plain_now}
-use Rattle.ufs_spec.specs.declared.configs.UnitSpec.{UnitSpec}
+use Rattle.ufs_spec.specs.Machine.{accepts, blocks_in, write_complete, write_deed}
 use Rattle.power_loss.proofs.host_commands.WriteData.{MayAccept as MayWrite, accept_allowed, can_write}
 use Rattle.power_loss.proofs.host_commands.WriteData.{length-blocks_in}
-use Rattle.power_loss.proofs.stops.SealedCells.{ranges_of}
 use Rattle.ftl_core.specs.Public as layer_kept
-use Rattle.ftl_core.specs.Public.{AreClaimed, Claims, Core, group_of_blocks, with_claimed}
-use Rattle.rpmb.specs.Kept.{IsKept, machine_at}
-use Rattle.task_set.specs.Tasks.{group_done}
+use Rattle.task_set.specs.Tasks.{group_done, is_forced}
 use Rattle.task_set.specs.declared.tasks.Phase.TheVariants as phase
-use Rattle.task_set.specs.declared.tasks.TaskEvent.{TaskEvent}
 use Rattle.task_set.specs.declared.tasks.TaskEvent.TheVariants as event
-use Rattle.task_set.specs.declared.tasks.Transfer.{Transfer}
-use Rattle.device.specs.Calls.{HasTaken, MayAccept, taken_move}
-use Rattle.device.specs.Describes.{Describes, FramesFit, IsDoing, Keeps, blocks_gathered, claimed_in}
-use Rattle.device.specs.Describes.{IsFor, claims_of, gathers_for, read_in}
-use Rattle.device.specs.Kept.{DeviceCore, IsLayerWith}
+use Rattle.device.specs.Calls.{MayAccept, taken_move}
 use Rattle.device.proofs.due_replies.ReplyMoves.{few_set}
-use Rattle.device.proofs.host_messages.BlocksGathered.{Gathers, SendsNone, core_then, does, fits, found}
+use Rattle.device.proofs.host_messages.BlocksGathered.{GathersBlocks, SendsNone, core_then, does, fits, found}
 use Rattle.device.proofs.host_messages.BlocksGathered.{its_claims, sends_once, slots_few, still_wanted}
 use Rattle.device.proofs.host_messages.GroupOfBlocks.{boot_still, group_written, permanent_still, region_still}
 use Rattle.device.proofs.host_messages.NumbersAwaited.{number_awaited}
 use Rattle.device.proofs.host_messages.SlotsFilled.{all_came}
 use Rattle.device.proofs.open_tasks.KeptByTag.{claimed_last, claimed_own}
 use Rattle.device.proofs.open_tasks.OpenTasks.{Stands}
-use Rattle.ufs_spec.specs.declared.configs.Numbers.{Numbers}
-use Rattle.task_set.specs.declared.tasks.Wanted.TheVariants as wanted
 
 -- once its command was accepted a WRITE sends none, and has no slot
 write_sends : (forced : Bool) (position n : ℕ) → SendsNone (write_deed forced position n)
@@ -50,28 +36,28 @@ write_claims true m position n = refl
 write_claims false m position n = refl
 
 -- all its data came
-module _ (d : DeviceCore) (s : State) (tag : ℕ) (x : Transfer) (h : Describes d s)
-    (r : Stands (before_accepted s.translation.ledger) tag d.tasks s.tasks) (at : r.a.phase ≡ phase.Await (wanted.Block x))
-    (g : Gathers r.b.length x r.b.deed) (all : List ℕ) (are : AreBytes all) (long : length all ≡ 4096 * x.blocks) where
+module _ (d : DeviceCore) (s : State) (tag : ℕ) (w : Wanted) (h : Describes d s)
+    (r : Stands (before_accepted s.translation.ledger) tag d.tasks s.tasks) (at : r.a.phase ≡ phase.Await w)
+    (g : GathersBlocks w r.b.length r.b.deed) (all : List ℕ) (are : AreBytes all) (long : length all ≡ 4096 * g.blocks) where
   -- the claims where its tag has claimed these blocks
   abbrev claiming : List (List ℕ) → Claims
   claiming = with_claimed (claims_of (numbers_of s) s.tasks) r.b.tag
 
   -- the blocks that are written
   abbrev bodies : List (List ℕ)
-  bodies = blocks_in x.blocks all
+  bodies = blocks_in g.blocks all
 
   abbrev written : Command
   written = command.Write g.unit g.address bodies
 
   -- they may be accepted
-  may : MayWrite s r.b g.unit g.address x.blocks all
+  may : MayWrite s r.b g.unit g.address g.blocks all
   may =
-      let its = fits d s tag x h r at g in
+      let its = fits d s tag w h r at g in
       record {
-        there = found d s tag x h r at g;
+        there = found d s tag w h r at g;
         claim = its.claimed_is;
-        few = slots_few d s tag x h r at g;
+        few = slots_few d s tag w h r at g;
         unit_in = its.unit_in;
         some = its.some;
         not_long = its.not_long;
@@ -83,12 +69,12 @@ module _ (d : DeviceCore) (s : State) (tag : ℕ) (x : Transfer) (h : Describes 
 
   group_is : group_of (plain_now s) written ≡ group_of_blocks (data_key g.unit g.address) bodies
   group_is = group_written (plain_now s) g.unit g.address bodies
-      (can_write s r.b g.unit g.address x.blocks all h.tied may)
+      (can_write s r.b g.unit g.address g.blocks all h.tied may)
 
-  count : length bodies ≡ x.blocks
-  count = length-blocks_in x.blocks all
+  count : length bodies ≡ g.blocks
+  count = length-blocks_in g.blocks all
 
-  move_is : Accept x.blocks (group_of (plain_now s) written)
+  move_is : Accept g.blocks (group_of (plain_now s) written)
       ≡ Accept (length bodies) (group_of_blocks (data_key g.unit g.address) bodies)
   move_is = λ i. Accept (sym count i) (group_is i)
 
@@ -98,17 +84,17 @@ module _ (d : DeviceCore) (s : State) (tag : ℕ) (x : Transfer) (h : Describes 
     of_unit =
         let most = (ranges_of (numbers_of s) h.tied.config).units_bound in
         let units = length-map (numbers_of s).units.items (λ (u : UnitSpec). u.blocks) in
-        let there = (fits d s tag x h r at g).unit_in in
+        let there = (fits d s tag w h r at g).unit_in in
         omega arith;
     allowed = subst (IsAllowedMove s.translation) move_is
-        (accept_allowed s r.b g.unit g.address x.blocks all h.tied may free);
+        (accept_allowed s r.b g.unit g.address g.blocks all h.tied may free);
   }
 
   -- a locked device gives the slots back
   refused_keeps : (after : Core) → layer_kept.Describes after (moved s.translation (Release (length bodies))) →
       AreClaimed after (claiming []) →
-      Keeps (core_then d r.k after event.GroupRefused)
-      (set_deed (with_moves s (Release x.blocks ∷ [])) r.b.tag (Answering exchange.write_error r.b.length))
+      Keeps (core_then d r.k after (event.DataRefused write_error))
+      (set_deed (with_moves s (Release g.blocks ∷ [])) r.b.tag (Answering exchange.write_error r.b.length))
   refused_keeps after layer claims =
       record {
         boot = h.kept.boot;
@@ -116,30 +102,30 @@ module _ (d : DeviceCore) (s : State) (tag : ℕ) (x : Transfer) (h : Describes 
         each = h.kept.each;
         region = h.kept.region;
         registers = h.kept.registers;
-        one_sends = sends_once d s tag x h r at g event.GroupRefused refl;
+        one_sends = sends_once d s tag w h r at g (event.DataRefused write_error) refl;
         layer_kept = subst (λ n. layer_kept.Describes after (moved s.translation (Release n))) count layer;
         few = few_set d s r.k r.a r.b h r.opened (Answering exchange.write_error r.b.length);
         tasks =
-            does d s tag x h r at g event.GroupRefused (Answering exchange.write_error r.b.length) (refl, g.total_is)
+            does d s tag w h r at g (event.DataRefused write_error) (Answering exchange.write_error r.b.length) (refl, g.size_is)
             refl tt tt refl (ap read_in g.deed_is);
         wanted =
-            still_wanted d s tag x h r at g (Answering exchange.write_error r.b.length)
+            still_wanted d s tag w h r at g (Answering exchange.write_error r.b.length)
             (record { wanted = λ index request. refl; read = refl });
-        claims = its_claims d s tag x h r at g after (Answering exchange.write_error r.b.length) [] refl claims;
+        claims = its_claims d s tag w h r at g after (Answering exchange.write_error r.b.length) [] refl claims;
         shorts = h.kept.shorts;
         volatile = h.kept.volatile;
       }
 
   -- any other accepts the blocks: with FUA the task waits for them, else it was done
   taken_does : (fua : Bool) → IsDoing (before_accepted s.translation.ledger) r.a.expected r.b.length
-      (group_done fua (next_number s.translation.ledger) (4096 * x.blocks))
+      (group_done fua (next_number s.translation.ledger) w.length)
       (write_deed fua (length s.accepted + 1) r.b.length)
-  taken_does true = (number_awaited s h.tied, g.total_is)
-  taken_does false = (refl, g.total_is)
+  taken_does true = (number_awaited s h.tied, g.size_is)
+  taken_does false = (refl, g.size_is)
 
   taken_fits : (fua : Bool) →
-      FramesFit (group_done fua (next_number s.translation.ledger) (4096 * x.blocks)) r.a.frames r.a.held
-      (write_deed x.forced (length s.accepted + 1) r.b.length)
+      FramesFit (group_done fua (next_number s.translation.ledger) w.length) r.a.frames r.a.held
+      (write_deed g.forced (length s.accepted + 1) r.b.length)
   taken_fits true = tt
   taken_fits false = tt
 
@@ -148,14 +134,14 @@ module _ (d : DeviceCore) (s : State) (tag : ℕ) (x : Transfer) (h : Describes 
   for_none false = tt
 
   abbrev deed_now : Deed
-  deed_now = write_deed x.forced (length s.accepted + 1) r.b.length
+  deed_now = write_deed g.forced (length s.accepted + 1) r.b.length
 
   accepted_keeps : (after : Core) →
       layer_kept.Describes after
       (moved s.translation (Accept (length bodies) (group_of_blocks (data_key g.unit g.address) bodies))) →
       AreClaimed after (claiming []) →
       Keeps (core_then d r.k after (event.GroupAccepted (next_number s.translation.ledger)))
-      (set_deed (accepts s written x.blocks) r.b.tag deed_now)
+      (set_deed (accepts s written g.blocks) r.b.tag deed_now)
   accepted_keeps after layer claims =
       record {
         boot = h.kept.boot ∙ sym (boot_still s.base s.accepted g.unit g.address bodies);
@@ -165,34 +151,40 @@ module _ (d : DeviceCore) (s : State) (tag : ℕ) (x : Transfer) (h : Describes 
             λ number. subst (IsKept (machine_at d.rpmb number).region)
             (sym (region_still s.base s.accepted g.unit g.address bodies number)) (h.kept.region number);
         registers = h.kept.registers;
-        one_sends = sends_once d s tag x h r at g (event.GroupAccepted (next_number s.translation.ledger)) refl;
+        one_sends = sends_once d s tag w h r at g (event.GroupAccepted (next_number s.translation.ledger)) refl;
         layer_kept = subst (λ (m : Move). layer_kept.Describes after (moved s.translation m)) (sym move_is) layer;
         few = few_set d s r.k r.a r.b h r.opened deed_now;
         tasks =
-            does d s tag x h r at g (event.GroupAccepted (next_number s.translation.ledger)) deed_now
-            (taken_does x.forced) refl (taken_fits x.forced) (for_none x.forced) refl (ap read_in g.deed_is ∙ sym sends.read);
-        wanted = still_wanted d s tag x h r at g deed_now sends;
+            does d s tag w h r at g (event.GroupAccepted (next_number s.translation.ledger)) deed_now
+            (subst (λ (b : Bool). IsDoing (before_accepted s.translation.ledger) r.a.expected r.b.length
+            (group_done b (next_number s.translation.ledger) w.length) deed_now) (sym forced_is)
+            (taken_does g.forced)) refl (taken_fits (is_forced w.purpose)) (for_none g.forced) refl
+            (ap read_in g.deed_is ∙ sym sends.read);
+        wanted = still_wanted d s tag w h r at g deed_now sends;
         claims =
-            its_claims d s tag x h r at g after deed_now [] (write_claims x.forced (numbers_of s) (length s.accepted + 1) r.b.length)
+            its_claims d s tag w h r at g after deed_now [] (write_claims g.forced (numbers_of s) (length s.accepted + 1) r.b.length)
             claims;
         shorts = h.kept.shorts;
         volatile = h.kept.volatile;
       }
     where
+      forced_is : is_forced w.purpose ≡ g.forced
+      forced_is = ap is_forced g.purpose_is
+
       sends : SendsNone deed_now
-      sends = write_sends x.forced (length s.accepted + 1) r.b.length
+      sends = write_sends g.forced (length s.accepted + 1) r.b.length
 
   -- the data complete the WRITE
   pub completes : (after : Core) (e : TaskEvent) →
-      HasTaken after s.translation (claiming (blocks_gathered x.blocks all)) r.b.tag (data_key g.unit g.address) e →
-      Keeps (core_then d r.k after e) (write_complete s r.b g.unit g.address x.blocks x.forced all)
+      HasTaken after s.translation (claiming (blocks_gathered g.blocks all)) r.b.tag (data_key g.unit g.address) e →
+      Keeps (core_then d r.k after e) (write_complete s r.b g.unit g.address g.blocks g.forced all)
   completes after e took = by (locked s) refl
     where
       -- all its blocks lie in its slots
       taken : HasTaken after s.translation (claiming bodies) r.b.tag (data_key g.unit g.address) e
       taken =
           subst (λ claims. HasTaken after s.translation claims r.b.tag (data_key g.unit g.address) e)
-          (ap claiming (all_came x.blocks all long)) took
+          (ap claiming (all_came g.blocks all long)) took
 
       own : claiming bodies r.b.tag ≡ bodies
       own = claimed_own (claims_of (numbers_of s) s.tasks) r.b.tag bodies
@@ -212,9 +204,9 @@ module _ (d : DeviceCore) (s : State) (tag : ℕ) (x : Transfer) (h : Describes 
           (may_accept free))))
 
       event_at : (b : Bool) → locked s ≡ b →
-          e ≡ cond b event.GroupRefused (event.GroupAccepted (next_number s.translation.ledger))
+          e ≡ cond b (event.DataRefused write_error) (event.GroupAccepted (next_number s.translation.ledger))
       event_at b is = taken.event_is
-          ∙ ap (λ c. cond c event.GroupRefused (event.GroupAccepted (next_number s.translation.ledger))) is
+          ∙ ap (λ c. cond c (event.DataRefused write_error) (event.GroupAccepted (next_number s.translation.ledger))) is
 
       layer_at : (b : Bool) → locked s ≡ b → layer_kept.Describes after (moved s.translation (cond b
           (Release (length bodies)) (Accept (length bodies) (group_of_blocks (data_key g.unit g.address) bodies))))
@@ -226,15 +218,15 @@ module _ (d : DeviceCore) (s : State) (tag : ℕ) (x : Transfer) (h : Describes 
 
       by : (b : Bool) → locked s ≡ b → Keeps (core_then d r.k after e)
           (cond b
-          (set_deed (with_moves s (Release x.blocks ∷ [])) r.b.tag (Answering exchange.write_error r.b.length))
-          (set_deed (accepts s written x.blocks) r.b.tag deed_now))
+          (set_deed (with_moves s (Release g.blocks ∷ [])) r.b.tag (Answering exchange.write_error r.b.length))
+          (set_deed (accepts s written g.blocks) r.b.tag deed_now))
       by true is =
           subst
           (λ (y : TaskEvent). Keeps (core_then d r.k after y)
-          (set_deed (with_moves s (Release x.blocks ∷ [])) r.b.tag (Answering exchange.write_error r.b.length)))
+          (set_deed (with_moves s (Release g.blocks ∷ [])) r.b.tag (Answering exchange.write_error r.b.length)))
           (sym (event_at true is)) (refused_keeps after (layer_at true is) its.1)
       by false is =
           subst
           (λ (y : TaskEvent). Keeps (core_then d r.k after y)
-          (set_deed (accepts s written x.blocks) r.b.tag deed_now))
+          (set_deed (accepts s written g.blocks) r.b.tag deed_now))
           (sym (event_at false is)) (accepted_keeps after (layer_at false is) its.1)

@@ -1,41 +1,28 @@
 -- The list of an UNMAP came: what is decided of it is kept of the state behind it.
-use Rattle.std.proofs.Common.{◌≡◌, ◌∙◌, ℕ, ◌==◌, Bool, true, false, List, Some, length, refl, sym, ap, subst, arith}
-use Rattle.std.specs.Prelude.{Option, None, if◌then◌else◌, nat_lt, not}
-use Rattle.std.proofs.lemmas.Bool.{le-ltb}
+use Rattle.device.proofs.Common.{Answering, AreBytes, Bool, Core, Deed, Describes, DeviceCore, ForUnmap, Good, IsOfList}
+use Rattle.device.proofs.Common.{Keeps, List, Sense, Some, State, TaskEvent, UnitSpec, Wanted, accepts, ap, arith}
+use Rattle.device.proofs.Common.{before_accepted, claim_of, claims_of, data_heard, data_key, ends_with_status, false}
+use Rattle.device.proofs.Common.{if_false, if◌then◌else◌, le-ltb, length, locked, nat_lt, not, numbers_of, out_of_range}
+use Rattle.device.proofs.Common.{refl, subst, sym, task_of, true, unit_numbers_at, write_error, ℕ, ◌==◌, ◌∙◌, ◌≡◌}
+use Rattle.std.specs.Prelude.{None, Option}
 use Rattle.ufs_bytes.specs.Fields.{field_at}
 use Rattle.ufs_spec.proofs.Facts.{not-false}
-use Rattle.ufs_spec.specs.Changes.{accepts, ends_with_status, set_deed}
+use Rattle.ufs_spec.specs.Changes.{set_deed}
 use Rattle.ufs_spec.specs.Commands as command
 use Rattle.ufs_spec.specs.DataOuts.{data_for, has_list_header, is_past_unit, is_wrong_descriptor, unmap_accepted}
 use Rattle.ufs_spec.specs.DataOuts.{unmap_complete}
-use Rattle.ufs_spec.specs.Exchanges.{Answering, CheckCondition, Deed, Good, out_of_range, sense, task_of}
-use Rattle.ufs_spec.specs.Keys.{data_key}
-use Rattle.ufs_spec.specs.Ledger.{before_accepted}
-use Rattle.ufs_spec.specs.Machine.{data_heard}
-use Rattle.ufs_spec.specs.Messages.{AreBytes}
-use Rattle.ufs_spec.specs.Refusals.{State, locked, numbers_of, unit_numbers_at}
-use Rattle.ufs_spec.specs.declared.configs.UnitSpec.{UnitSpec}
-use Rattle.ufs_spec.specs.declared.scsi.Sense.{Sense}
-use Rattle.power_loss.specs.Exchange.{claim_of}
-use Rattle.power_loss.proofs.books.SmallFacts.{if_false}
-use Rattle.ftl_core.specs.Public.{Core}
+use Rattle.ufs_spec.specs.Exchanges.{sense}
+use Rattle.ufs_spec.specs.declared.exchanges.Status.TheVariants.{CheckCondition}
 use Rattle.scsi_cdb.specs.declared.unmap_list.UnmapList.{UnmapList}
-use Rattle.task_set.specs.Lists.{wanted_in as wanted_of}
-use Rattle.task_set.specs.Tasks.{write_error}
 use Rattle.task_set.specs.declared.tasks.Phase.TheVariants as phase
-use Rattle.task_set.specs.declared.tasks.Status.TheVariants as status
-use Rattle.task_set.specs.declared.tasks.TaskEvent.{TaskEvent}
+use Rattle.ufs_spec.specs.declared.exchanges.Status.TheVariants as status
 use Rattle.task_set.specs.declared.tasks.TaskEvent.TheVariants as event
-use Rattle.task_set.specs.declared.tasks.Wanted.TheVariants as wanted
-use Rattle.device.specs.Describes.{Describes, IsDoing, Keeps, claims_of}
-use Rattle.device.specs.Hears.{HasLength}
-use Rattle.device.specs.Kept.{DeviceCore}
-use Rattle.device.specs.Lists.{IsOfList}
+use Rattle.device.proofs.open_tasks.WantedData.{Gathers}
 use Rattle.device.specs.Unmaps.{HasListCome, HasUnmapped, is_past, unmapping_in, unmapping_of}
 use Rattle.device.specs.declared.unmap.Unmapping.{Unmapping}
 use Rattle.device.specs.declared.unmap.Unmapping.TheVariants as does
 use Rattle.device.proofs.host_messages.BlocksGathered.{core_then}
-use Rattle.device.proofs.host_messages.ListsGathered.{ListCame, ended_keeps, gathers_its, gathers_list, wants_list}
+use Rattle.device.proofs.host_messages.ListsGathered.{ListCame, ended_keeps, gathers_its, gathers_list}
 use Rattle.device.proofs.host_messages.ZerosAccepted.{zeroed_keeps}
 use Rattle.device.proofs.open_tasks.OpenTasks.{Stands}
 
@@ -65,7 +52,7 @@ module _ {d : DeviceCore} {s : State} {tag : ℕ} {list : List ℕ} (c : ListCam
       (λ (y : TaskEvent). Keeps (core_then d c.stands.k layer y)
       (ends_with_status s c.stands.b (CheckCondition why)))
       (sym did.0)
-      (ended_keeps c (event.ListRefused why) (status.CheckCondition why)
+      (ended_keeps c (event.DataRefused why) (status.CheckCondition why)
       (record { phase_is = refl; frames_stay = refl; block_stays = refl }) layer did.1)
 
   -- it names no block
@@ -74,7 +61,7 @@ module _ {d : DeviceCore} {s : State} {tag : ℕ} {list : List ℕ} (c : ListCam
       subst
       (λ (y : TaskEvent). Keeps (core_then d c.stands.k layer y) (ends_with_status s c.stands.b Good))
       (sym did.0)
-      (ended_keeps c event.ListTaken status.Good
+      (ended_keeps c event.DataTaken status.Good
       (record { phase_is = refl; frames_stay = refl; block_stays = refl }) layer did.1)
 
   abbrev address : ℕ
@@ -141,31 +128,27 @@ complete_is {d} {s} {tag} {list} c =
     all_came =
         le-ltb (length list) c.stands.b.length (let total = c.gathers.total_is in let long = c.long in omega arith)
 
-pub list_keeps : (d come : DeviceCore) (s : State) (tag : ℕ) (list : List ℕ) (unit size : ℕ) → Describes d s →
-    (r : Stands (before_accepted s.translation.ledger) tag d.tasks s.tasks) →
-    wanted_of r.a.phase ≡ Some (wanted.List unit size) → HasLength (wanted.List unit size) (length list) →
-    AreBytes list → HasListCome d come tag r.k unit list → Keeps come (data_heard s (task_of tag s.tasks) list)
-list_keeps d come s tag list unit size h r wants long are did =
+pub list_keeps : (d come : DeviceCore) (s : State) (tag : ℕ) (list : List ℕ) (unit : ℕ) (w : Wanted) →
+    Describes d s → (r : Stands (before_accepted s.translation.ledger) tag d.tasks s.tasks) →
+    r.a.phase ≡ phase.Await w → w.purpose ≡ ForUnmap unit → Gathers w r.b.length r.b.deed →
+    length list ≡ w.length → AreBytes list → HasListCome d come tag r.k unit list →
+    Keeps come (data_heard s (task_of tag s.tasks) list)
+list_keeps d come s tag list unit w h r at is g long are did =
     subst (λ (y : DeviceCore). Keeps y (data_heard s (task_of tag s.tasks) list)) (sym did.after_is)
     (subst (Keeps (core_then d r.k did.layer did.event)) (sym (complete_is came))
     (list_same came did.layer did.event
     (did.unmapped s.translation (claims_of (numbers_of s) s.tasks) (h.kept.layer_kept, h.kept.claims)
     (gathers_its came).fits.unit_in (subst IsOfList (sym long) came.gathers.of_list))))
   where
-    at : r.a.phase ≡ phase.Await (wanted.List unit size)
-    at = wants_list r.a.phase unit size wants
-
     came : ListCame d s tag list
     came = record {
       described = h;
       stands = r;
       unit = unit;
-      size = size;
+      wanted = w;
       awaits = at;
-      gathers =
-          gathers_list (before_accepted s.translation.ledger) r.a.expected r.b.length unit size r.b.deed
-          (subst (λ p. IsDoing (before_accepted s.translation.ledger) r.a.expected r.b.length p r.b.deed) at
-          r.opened.kept.doing);
+      purpose_is = is;
+      gathers = gathers_list unit w r.b.length r.b.deed is g;
       long = long;
       are_bytes = are;
     }

@@ -1,45 +1,26 @@
 -- The list of an UNMAP came: what its task has claimed, and what is kept once the task is answered.
-use Rattle.std.proofs.Common.{◌≡◌, ◌∙◌, ◌⊎◌, ℕ, Bool, true, List, [], Some, None, cond, length, replicate, inl, inr, ◌&&◌, ◌==◌}
-use Rattle.std.proofs.Common.{refl, sym, ap, subst}
-use Rattle.std.proofs.lemmas.List.{length-replicate}
-use Rattle.ufs_spec.proofs.Facts.{none-some}
-use Rattle.ufs_spec.specs.Changes.{ends_with_status}
-use Rattle.ufs_spec.specs.Commands.{Command}
+use Rattle.device.specs.Describes.{BringsFor}
+use Rattle.device.proofs.Common.{Answering, AreBytes, AreFramesKept, Bool, ComesSo, Command, Core, Deed, Describes}
+use Rattle.device.proofs.Common.{DeviceCore, ForUnmap, Frames, FramesFit, Gathering, IsDoing, IsKept, IsLayerWith}
+use Rattle.device.proofs.Common.{IsOfList, Keeps, List, None, OpenTask, Phase, Pin, Purpose, ReadsAsked, Release, Some}
+use Rattle.device.proofs.Common.{State, Status, TaskEvent, TaskKept, Translation, Wanted, [], after, ap}
+use Rattle.device.proofs.Common.{before_accepted, block_after, brings_frames, claim_of, claimed_by, claimed_in}
+use Rattle.device.proofs.Common.{claims_of, command_blocks, cond, ends_with_status, eq_self, frames_after, frames_for}
+use Rattle.device.proofs.Common.{inl, inr, length, length-replicate, list_slots, machine_at, moved, numbers_of}
+use Rattle.device.proofs.Common.{phase_after, plain_now, read_in, refl, region_of, replicate, subst, sym, task_after}
+use Rattle.device.proofs.Common.{task_happened, task_of, true, wanted_by, wanted_in, wanted_kept, with_claimed}
+use Rattle.device.proofs.Common.{with_deed, ℕ, ◌&&◌, ◌==◌, ◌∙◌, ◌≡◌, ◌⊎◌}
 use Rattle.ufs_spec.specs.Exchanges as exchange
-use Rattle.ufs_spec.specs.Exchanges.{Answering, Deed, ForUnmap, Gathering, task_of, with_deed}
-use Rattle.ufs_spec.specs.Ledger.{before_accepted}
-use Rattle.ufs_spec.specs.Messages.{AreBytes}
-use Rattle.ufs_spec.specs.Moves.{Release, moved}
-use Rattle.ufs_spec.specs.Plain.{after, region_of, zero_block}
-use Rattle.ufs_spec.specs.Refusals.{State, numbers_of, plain_now}
-use Rattle.ufs_spec.specs.Translation.{Pin, Translation}
-use Rattle.power_loss.specs.Exchange.{claim_of}
-use Rattle.power_loss.proofs.books.SmallFacts.{eq_self}
+use Rattle.ufs_spec.specs.Plain.{zero_block}
 use Rattle.power_loss.proofs.host_commands.GatheringTasks.{GathersIn, gathers_in}
-use Rattle.ftl_core.specs.Public.{Core, with_claimed}
-use Rattle.rpmb.specs.Kept.{IsKept, machine_at}
-use Rattle.task_set.specs.Frames.{frames_after}
-use Rattle.task_set.specs.Kept.{OpenTask}
-use Rattle.task_set.specs.Lists.{task_happened, wanted_in as wanted_of}
-use Rattle.task_set.specs.Tasks.{block_after, brings_frames, phase_after, status_kept, task_after}
-use Rattle.task_set.specs.declared.frames.Frames.{Frames}
 use Rattle.task_set.specs.declared.frames.Frames.TheVariants as frames
-use Rattle.task_set.specs.declared.tasks.Phase.{Phase}
 use Rattle.task_set.specs.declared.tasks.Phase.TheVariants as phase
-use Rattle.task_set.specs.declared.tasks.Status.{Status}
-use Rattle.task_set.specs.declared.tasks.TaskEvent.{TaskEvent}
-use Rattle.task_set.specs.declared.tasks.Transfer.{Transfer}
-use Rattle.task_set.specs.declared.tasks.Wanted.TheVariants as wanted
-use Rattle.device.specs.Describes.{AreFramesKept, Describes, FramesFit, IsDoing, Keeps, ReadsAsked, TaskKept}
-use Rattle.device.specs.Describes.{claimed_by, claimed_in, claims_of, read_in, wanted_by, wanted_in, wanted_kept}
-use Rattle.device.specs.Kept.{DeviceCore, IsLayerWith}
-use Rattle.device.specs.Lists.{IsOfList, list_slots}
+use Rattle.device.proofs.open_tasks.WantedData.{Gathers, none_came}
 use Rattle.device.specs.Unmaps.{HasGivenBack}
 use Rattle.device.proofs.host_messages.BlocksGathered.{core_then}
 use Rattle.device.proofs.host_messages.TaskBecomes.{becomes_kept, device_then, state_then}
 use Rattle.device.proofs.open_tasks.OpenTasks.{Stands}
 use Rattle.device.proofs.open_tasks.ReadProgress.{deed_changes}
-use Rattle.ufs_spec.specs.Configs.{command_blocks}
 
 -- What the task gathered
 
@@ -48,51 +29,27 @@ pub record GathersList (unit size total : ℕ) (deed : Deed) : Type 0 where
   pub total_is : total ≡ size
   pub of_list : IsOfList size
 
-pub gathers_list : (before expected total unit size : ℕ) (deed : Deed) →
-    IsDoing before expected total (phase.Await (wanted.List unit size)) deed → GathersList unit size total deed
-gathers_list before expected total unit size (Gathering purpose gathered asked) h = record {
-  deed_is = λ i. Gathering (h.0.for_list i) (h.0.none_came i) (h.1 i);
-  total_is = h.0.total_is;
-  of_list = h.0.of_list;
+pub gathers_list : (unit : ℕ) (w : Wanted) (total : ℕ) (deed : Deed) → w.purpose ≡ ForUnmap unit →
+    Gathers w total deed → GathersList unit w.length total deed
+gathers_list unit w total deed is g = record {
+  deed_is = g.deed_is ∙ (λ i. Gathering (is i) (none_came g.gathered (g.came ∙ so.0) i) true);
+  total_is = g.total_is;
+  of_list = so.1;
 }
-gathers_list before expected total unit size deed h = absurd h
-
-pub wants_list : (p : Phase) (unit size : ℕ) → wanted_of p ≡ Some (wanted.List unit size) →
-    p ≡ phase.Await (wanted.List unit size)
-wants_list (phase.Await (wanted.List other n)) unit size e =
-    λ i. phase.Await (wanted.List (same_unit other n unit size e i) (same_size other n unit size e i))
   where
-    same_unit : (other n unit size : ℕ) → Some (wanted.List other n) ≡ Some (wanted.List unit size) → other ≡ unit
-    same_unit other n unit size k = cc
-
-    same_size : (other n unit size : ℕ) → Some (wanted.List other n) ≡ Some (wanted.List unit size) → n ≡ size
-    same_size other n unit size k = cc
-wants_list (phase.Await (wanted.Block x)) unit size e = absurd (other x unit size e)
-  where
-    other : (x : Transfer) (unit size : ℕ) → Some (wanted.Block x) ≡ Some (wanted.List unit size) → ⊥
-    other x unit size k = cc
-wants_list (phase.Await (wanted.Frames n)) unit size e = absurd (other n unit size e)
-  where
-    other : (n unit size : ℕ) → Some (wanted.Frames n) ≡ Some (wanted.List unit size) → ⊥
-    other n unit size k = cc
-wants_list (phase.Ask (wanted.Block y)) unit size e = absurd (none-some (wanted.List unit size) e)
-wants_list (phase.Ask (wanted.Frames n)) unit size e = absurd (none-some (wanted.List unit size) e)
-wants_list (phase.Ask (wanted.List other n)) unit size e = absurd (none-some (wanted.List unit size) e)
-wants_list (phase.AwaitFrontier n m) unit size e = absurd (none-some (wanted.List unit size) e)
-wants_list (phase.ReadArea r) unit size e = absurd (none-some (wanted.List unit size) e)
-wants_list (phase.SendBlocks y) unit size e = absurd (none-some (wanted.List unit size) e)
-wants_list (phase.SendHeld n) unit size e = absurd (none-some (wanted.List unit size) e)
-wants_list (phase.Answer told n) unit size e = absurd (none-some (wanted.List unit size) e)
+    so : ComesSo (ForUnmap unit) w.came w.length
+    so = subst (λ (p : Purpose). ComesSo p w.came w.length) is g.so
 
 -- the list came that the task of this tag asked for
 pub record ListCame (d : DeviceCore) (s : State) (tag : ℕ) (list : List ℕ) : Type 0 where
   pub described : Describes d s
   pub stands : Stands (before_accepted s.translation.ledger) tag d.tasks s.tasks
   pub unit : ℕ
-  pub size : ℕ
-  pub awaits : stands.a.phase ≡ phase.Await (wanted.List unit size)
-  pub gathers : GathersList unit size stands.b.length stands.b.deed
-  pub long : length list ≡ size
+  pub wanted : Wanted
+  pub awaits : stands.a.phase ≡ phase.Await wanted
+  pub purpose_is : wanted.purpose ≡ ForUnmap unit
+  pub gathers : GathersList unit wanted.length stands.b.length stands.b.deed
+  pub long : length list ≡ wanted.length
   pub are_bytes : AreBytes list
 
 module _ {d : DeviceCore} {s : State} {tag : ℕ} {list : List ℕ} (c : ListCame d s tag list) where
@@ -106,6 +63,7 @@ module _ {d : DeviceCore} {s : State} {tag : ℕ} {list : List ℕ} (c : ListCam
   none_brought =
       subst (λ (p : Phase). FramesFit p c.stands.a.frames c.stands.a.held c.stands.b.deed) c.awaits
       c.stands.opened.kept.fits
+      ∙ ap frames_for c.purpose_is
 
   -- zeros lie in its slots
   pub its_slots : claims_of (numbers_of s) s.tasks tag ≡ replicate (claim_of (numbers_of s) c.stands.b) zero_block
@@ -133,9 +91,9 @@ module _ {d : DeviceCore} {s : State} {tag : ℕ} {list : List ℕ} (c : ListCam
 
   -- what tells it so
   pub record Tells (e : TaskEvent) (told : Status) : Type 0 where
-    pub phase_is : phase_after (phase.Await (wanted.List c.unit c.size)) e ≡ phase.Answer told c.size
+    pub phase_is : phase_after (phase.Await c.wanted) e ≡ phase.Answer told c.wanted.length
     pub frames_stay : frames_after c.stands.a.frames e ≡ c.stands.a.frames
-    pub block_stays : block_after e (phase.Await (wanted.List c.unit c.size)) c.stands.a.block ≡ c.stands.a.block
+    pub block_stays : block_after e (phase.Await c.wanted) c.stands.a.block ≡ c.stands.a.block
 
   -- what becomes of the layer and of the accepted commands
   pub record Leads (layer : Core) (u : Translation) (cs : List Command) : Type 0 where
@@ -152,9 +110,9 @@ module _ {d : DeviceCore} {s : State} {tag : ℕ} {list : List ℕ} (c : ListCam
     new = task_after e c.stands.a
 
     abbrev answering : Deed
-    answering = Answering (status_kept told) c.stands.b.length
+    answering = Answering told c.stands.b.length
 
-    phase_is : phase_after c.stands.a.phase e ≡ phase.Answer told c.size
+    phase_is : phase_after c.stands.a.phase e ≡ phase.Answer told c.wanted.length
     phase_is = ap (λ (p : Phase). phase_after p e) c.awaits ∙ tells.phase_is
 
     still_brings : brings_frames c.stands.a.frames ≡ brings_frames (frames_after c.stands.a.frames e)
@@ -165,11 +123,9 @@ module _ {d : DeviceCore} {s : State} {tag : ℕ} {list : List ℕ} (c : ListCam
       lun = c.stands.opened.kept.lun;
       tag = c.stands.opened.kept.tag;
       expected = c.stands.opened.kept.expected;
-      sends = c.stands.opened.kept.sends ∙ still_brings;
-      in_regions = c.stands.opened.kept.in_regions;
-      sends_to =
-          λ other. (c.stands.opened.kept.sends_to other
-          ∙ ap (λ (b : Bool). b && (c.stands.a.region == other)) still_brings);
+      brings =
+          subst (λ (x : Bool). BringsFor c.stands.a.region x c.stands.b.command) still_brings
+          c.stands.opened.kept.brings;
       gathers = tt;
       asked_of = c.stands.opened.kept.asked_of;
       request =
@@ -235,7 +191,7 @@ module _ {d : DeviceCore} {s : State} {tag : ℕ} {list : List ℕ} (c : ListCam
 
     -- where it gives back all that it claimed
     pub ended_keeps : (layer : Core) → HasGivenBack layer s.translation (claims_of (numbers_of s) s.tasks) tag →
-        Keeps (core_then d c.stands.k layer e) (ends_with_status s c.stands.b (status_kept told))
+        Keeps (core_then d c.stands.k layer e) (ends_with_status s c.stands.b told)
     ended_keeps layer given =
         told_keeps layer (moved s.translation (Release (claim_of (numbers_of s) c.stands.b))) s.accepted (record {
           boot = refl;

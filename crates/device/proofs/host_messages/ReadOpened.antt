@@ -1,39 +1,21 @@
 -- A READ opens a task: the device keeps each of the blocks that are sent, and wants the page of the first.
-use Rattle.std.proofs.Common.{◌≡◌, ℕ, ◌+◌, ◌<◌, ◌≤◌, ◌==◌, false, true, All, ◌++◌, Option, Some, None}
-use Rattle.std.proofs.Common.{length, map, refl, sym, ap, subst}
-use Rattle.std.specs.Prelude.{fold, min, slice_get}
-use Rattle.std.specs.Int.{div_ceil}
-use Rattle.ufs_spec.proofs.Facts.{false≢true}
-use Rattle.ufs_spec.specs.Plain.{greatest_command}
-use Rattle.ufs_spec.specs.Exchanges.{ReadBlock, Sending, Unread, most_tasks, task_of}
-use Rattle.ufs_spec.specs.Keys.{below, data_key}
-use Rattle.ufs_spec.specs.Ledger.{before_accepted}
-use Rattle.ufs_spec.specs.Machine.{durable, is_at_hand, keeps, kept_at, read_blocks, with_moves}
+use Rattle.device.proofs.Common.{All, AreClaimed, Cdb, Core, Describes, DeviceCore, Frames, HaveAnswered, IsShortTold}
+use Rattle.device.proofs.Common.{IsTold, None, Option, Phase, Pin, ReadBlock, Request, Sending, Sends, Some, State}
+use Rattle.device.proofs.Common.{Translation, Unread, ap, before_accepted, below, claims_of, data_key, div_ceil}
+use Rattle.device.proofs.Common.{durable, false, false≢true, fold, greatest_command, is_at_hand, is_lost, length}
+use Rattle.device.proofs.Common.{length-made, locked, map, min, most_tasks, moved, newly_open, numbers_of, plain_now}
+use Rattle.device.proofs.Common.{read_by, read_of, refl, sends_frames, slice_get, subst, sym, task_of, true, wanted_in}
+use Rattle.device.proofs.Common.{wanted_kept, with_moves, with_task, ℕ, ◌++◌, ◌+◌, ◌<◌, ◌==◌, ◌≡◌, ◌≤◌}
+use Rattle.ufs_spec.specs.Machine.{keeps, kept_at, read_blocks}
 use Rattle.ufs_spec.specs.Machine as machine
-use Rattle.ufs_spec.specs.Moves.{moved}
 use Rattle.ufs_spec.specs.Plain.{block_at}
-use Rattle.ufs_spec.specs.Refusals.{Request, State, locked, plain_now, sends_frames}
-use Rattle.ufs_spec.specs.Translation.{Pin, Translation}
-use Rattle.ufs_spec.specs.declared.scsi.Cdb.{Cdb}
-use Rattle.ufs_laws.proofs.plain_contents.ListParts.{length-made}
 use Rattle.ftl_core.specs.Public as layer_kept
-use Rattle.ftl_core.specs.Public.{AreClaimed, Core}
-use Rattle.task_set.specs.declared.tasks.Phase.{Phase}
 use Rattle.task_set.specs.declared.tasks.Phase.TheVariants as phase
-use Rattle.task_set.specs.declared.tasks.Sending.{Sending as Sends}
-use Rattle.task_set.specs.Kept.{newly_open}
-use Rattle.task_set.specs.declared.frames.Frames.{Frames}
 use Rattle.task_set.specs.declared.frames.Frames.TheVariants as frames
-use Rattle.device.specs.Describes.{Describes, HaveAnswered, IsShortTold, IsTold, claims_of, is_lost, read_by, read_of}
-use Rattle.device.specs.Describes.{wanted_in}
-use Rattle.device.specs.Describes.{wanted_kept}
-use Rattle.device.specs.Hears.{with_task}
-use Rattle.device.specs.Kept.{DeviceCore}
 use Rattle.device.proofs.described.Answered.{IsBehind}
 use Rattle.device.proofs.host_messages.BlocksKept.{kept_are, made_is, others_found, others_wanted, own_wanted}
-use Rattle.device.proofs.open_tasks.TaskOpened.{none_wanted, open_answered, open_keeps, open_told, never_in, quiet_here}
+use Rattle.device.proofs.open_tasks.TaskOpened.{brings_none, none_wanted, open_answered, open_keeps, open_told}
 use Rattle.device.proofs.open_tasks.TaskOpened.{still_claimed}
-use Rattle.ufs_spec.specs.Refusals.{numbers_of}
 
 -- the device with the new task, which has this to do with frames of this region, over the layer as it is then
 abbrev pub core_with : DeviceCore → Request → Core → Phase → Frames → ℕ → DeviceCore
@@ -93,9 +75,7 @@ module _ (d : DeviceCore) (s : State) (r : Request) (h : Describes d s) (free : 
           lun = refl;
           tag = refl;
           expected = refl;
-          sends = sends;
-          in_regions = never_in 0 (Some command) sends;
-          sends_to = λ other. quiet_here other (Some command) sends;
+          brings = brings_none 0 (Some command) sends;
           gathers = tt;
           asked_of = tt;
           request = refl;

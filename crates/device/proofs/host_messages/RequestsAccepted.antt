@@ -1,39 +1,23 @@
 -- The frames are a key or a write: its group is accepted, and its task waits until that is durable.
-use Rattle.std.proofs.Common.{◌≡◌, ◌∙◌, ℕ, ◌+◌, ◌/◌, ◌≤◌, ◌==◌, ◌++◌, Bool, true, false, List, [], ◌∷◌, Some, length}
-use Rattle.std.proofs.Common.{replicate, refl, sym, ap, subst, arith}
-use Rattle.std.proofs.lemmas.List.Sums.{fold-append}
-use Rattle.ufs_spec.proofs.Facts.{eqb-false, eqb-true}
-use Rattle.ufs_spec.specs.Changes.{accepts, claimed_by as claimed_by_deed}
-use Rattle.ufs_spec.specs.Commands.{Command}
-use Rattle.ufs_spec.specs.Exchanges.{Awaiting, Deed}
-use Rattle.ufs_spec.specs.FrameRequests.{reads_area, request_decided, requested}
-use Rattle.ufs_spec.specs.Frames.{Frame}
-use Rattle.ufs_spec.specs.Keys.{group_of}
-use Rattle.ufs_spec.specs.Ledger.{next_number}
-use Rattle.ufs_spec.specs.Messages.{AreBytes}
-use Rattle.ufs_spec.specs.Moves.{Accept, IsAllowedMove, Move, moved}
-use Rattle.ufs_spec.specs.Plain.{Plain, after, apply, changed_by, region_of, zero_block}
-use Rattle.ufs_spec.specs.Refusals.{State, accepts_nothing, numbers_of, plain_now}
-use Rattle.ufs_spec.specs.Rpmb.{Region, Results, applied, rpmb_outcome}
-use Rattle.ufs_spec.specs.Translation.{is_mended}
-use Rattle.ufs_laws.proofs.rpmb_frames.FramesRead.{first_frames}
-use Rattle.ufs_laws.specs.RpmbWrites.{region_named}
-use Rattle.power_loss.specs.Exchange.{claim_of}
-use Rattle.ufs_laws.proofs.rpmb_frames.FramesRead.{length-frames_in}
-use Rattle.power_loss.proofs.host_commands.AcceptedCommands.{IsComing, command_allowed, plain_tied}
+use Rattle.device.proofs.Common.{Accept, Accepted, AreBytes, Awaiting, Bool, Command, Deed, DeviceCore, Frame}
+use Rattle.device.proofs.Common.{HasAccepted, HasRequested, IsAllowedMove, IsComing, IsKept, IsLayerWith, Keeps, List}
+use Rattle.device.proofs.Common.{Machine, Move, Plain, Region, Results, Some, State, [], accepts, accepts_nothing}
+use Rattle.device.proofs.Common.{after, ap, apply, arith, changed_by, claim_of, claims_of, command_allowed, eqb-false}
+use Rattle.device.proofs.Common.{eqb-true, false, fold-append, found_fits, frame_slots, frames_of, group_of, is_mended}
+use Rattle.device.proofs.Common.{length, machine_at, moved, next_number, numbers_of, plain_now, reads_area, refl}
+use Rattle.device.proofs.Common.{region_named, region_of, replicate, request_decided, requested, rpmb_outcome, subst}
+use Rattle.device.proofs.Common.{sym, true, with_claimed, with_held, with_zeros, ℕ, ◌++◌, ◌+◌, ◌/◌, ◌==◌, ◌∙◌, ◌∷◌, ◌≡◌}
+use Rattle.device.proofs.Common.{◌≤◌}
+use Rattle.ufs_spec.specs.Changes.{claimed_by as claimed_by_deed}
+use Rattle.ufs_spec.specs.Plain.{zero_block}
+use Rattle.ufs_spec.specs.Rpmb.{applied}
+use Rattle.ufs_laws.proofs.rpmb_frames.FramesRead.{first_frames, length-frames_in}
+use Rattle.power_loss.proofs.host_commands.AcceptedCommands.{plain_tied}
 use Rattle.power_loss.proofs.host_commands.ListsAndFrames.{FramesCame, frames_coming}
-use Rattle.power_loss.proofs.open_tasks.TaskLists.{found_fits}
-use Rattle.ftl_core.specs.Public.{with_claimed}
-use Rattle.rpmb.specs.Kept.{IsKept, Machine, machine_at}
 use Rattle.rpmb.specs.Outcomes.{command_of}
-use Rattle.rpmb.specs.Requests.{frames_of}
-use Rattle.rpmb.specs.declared.outcomes.Accepted.{Accepted}
 use Rattle.task_set.specs.declared.tasks.Phase.TheVariants as phase
 use Rattle.task_set.specs.declared.tasks.TaskEvent.TheVariants as event
-use Rattle.device.specs.Calls.{frame_slots}
-use Rattle.device.specs.Describes.{Keeps, claims_of}
-use Rattle.device.specs.Frames.{HasAccepted, HasRequested, IsPlainOf, with_held, with_zeros}
-use Rattle.device.specs.Kept.{DeviceCore, IsLayerWith}
+use Rattle.device.specs.Frames.{IsPlainOf}
 use Rattle.device.proofs.host_messages.FramesAccepted.{area_stays, boot_stays, contents_now, permanent_stays}
 use Rattle.device.proofs.host_messages.FramesAccepted.{other_region, reads_none, region_changed}
 use Rattle.device.proofs.host_messages.FramesGathered.{AllCame, all_frames, first_frame, fits, frames_are, frames_long}
@@ -107,7 +91,7 @@ module _ {d : DeviceCore} {s : State} {tag : ℕ} {bytes : List ℕ} (c : AllCam
       (requested (accepts s command (claimed_by_deed (numbers_of s) c.stands.b.deed c.stands.b.command)) c.stands.b (to c)
       (all_frames bytes) code awaits)
   accepted_keeps come did took =
-      requested_keeps c come code what did (event.RequestAccepted code number) (phase.AwaitFrontier number c.size)
+      requested_keeps c come code what did (event.RequestAccepted code number) (phase.AwaitFrontier number c.wanted.length)
       awaits (moved s.translation (taking (claim_of (numbers_of s) c.stands.b))) (s.accepted ++ command ∷ [])
       (took.event_is s.translation c.described.kept.layer_kept)
       (record {

@@ -1,38 +1,25 @@
 -- The frames are a request that accepts nothing: one for data that passed its checks keeps its pages of the area, and
 -- any other is answered at once.
-use Rattle.std.proofs.Common.{◌≡◌, ◌∙◌, ℕ, ◌+◌, ◌<◌, ◌==◌, ◌++◌, Bool, true, false, List, [], cond}
-use Rattle.std.proofs.Common.{length, map, Some, None, refl, sym, ap, subst, arith}
-use Rattle.std.specs.Prelude.{fold, if◌then◌else◌}
-use Rattle.ufs_spec.proofs.Facts.{and_parts, eqb-true, true≢false}
+use Rattle.device.proofs.Common.{Answering, Bool, Deed, DeviceCore, Frame, Good, HasRequested, IsKept, IsKey}
+use Rattle.device.proofs.Common.{IsLayerWith, Keeps, List, Machine, Move, None, Pin, ReadBlock, ReadingArea, Release}
+use Rattle.device.proofs.Common.{Results, Some, State, Translation, Unread, [], accepts_nothing, and_parts, ap}
+use Rattle.device.proofs.Common.{area_key, arith, before_accepted, below, claim_of, claims_of, cond, content, eqb-true}
+use Rattle.device.proofs.Common.{false, fold, if◌then◌else◌, is_success, length, machine_at, map, moved, numbers_of}
+use Rattle.device.proofs.Common.{plain_now, read_data, reads_area, refl, region_of, request_decided, requested}
+use Rattle.device.proofs.Common.{rpmb_outcome, shape_of_numbers, subst, sym, true, true≢false, wanted_kept}
+use Rattle.device.proofs.Common.{with_claimed, with_zeros, ℕ, ◌++◌, ◌+◌, ◌<◌, ◌==◌, ◌∙◌, ◌≡◌}
 use Rattle.ufs_spec.specs.Changes.{given_back, with_moves}
-use Rattle.ufs_spec.specs.Exchanges.{Answering, Deed, Good, ReadBlock, ReadingArea, Unread}
 use Rattle.ufs_spec.specs.FrameRequests.{area_read, first_page, keeps_area, page_kept, pages_named}
-use Rattle.ufs_spec.specs.FrameRequests.{reads_area, request_decided, requested}
-use Rattle.ufs_spec.specs.Frames.{Frame}
-use Rattle.ufs_spec.specs.Keys.{IsKey, area_key, below, content}
-use Rattle.ufs_spec.specs.Ledger.{before_accepted}
-use Rattle.ufs_spec.specs.Moves.{Move, Release, moved}
-use Rattle.ufs_spec.specs.Plain.{region_of, shape_of_numbers}
-use Rattle.ufs_spec.specs.Refusals.{State, accepts_nothing, numbers_of, plain_now}
-use Rattle.ufs_spec.specs.Rpmb.{Results, read_data, rpmb_outcome}
-use Rattle.ufs_spec.specs.RpmbResponses.{is_success}
-use Rattle.ufs_spec.specs.Translation.{Pin, Translation}
 use Rattle.ufs_laws.proofs.plain_contents.ListParts.{get_or-below, length-below}
-use Rattle.power_loss.specs.Exchange.{claim_of}
 use Rattle.power_loss.specs.WaitingFrames.{AsksInside}
 use Rattle.power_loss.proofs.commands.RequestedCommands.{asks_inside}
 use Rattle.power_loss.proofs.host_commands.ListsAndFrames.{keys_of_area}
-use Rattle.ftl_core.specs.Public.{with_claimed}
-use Rattle.rpmb.specs.Kept.{IsKept, Machine, machine_at}
 use Rattle.rpmb.specs.declared.outcomes.Accepted.TheVariants as accepted
 use Rattle.task_set.specs.Frames.{reading_of}
 use Rattle.task_set.specs.declared.tasks.Phase.TheVariants as phase
-use Rattle.task_set.specs.declared.tasks.Status.TheVariants as status
+use Rattle.ufs_spec.specs.declared.exchanges.Status.TheVariants as status
 use Rattle.task_set.specs.declared.tasks.TaskEvent.TheVariants as event
-use Rattle.device.specs.Describes.{Keeps, claims_of, wanted_kept}
-use Rattle.device.specs.Frames.{HasRequested, MayAnswer, MayKeepArea, answer_event, answer_moves, area_keeps}
-use Rattle.device.specs.Frames.{with_zeros}
-use Rattle.device.specs.Kept.{DeviceCore, IsLayerWith}
+use Rattle.device.specs.Frames.{MayAnswer, MayKeepArea, answer_event, answer_moves, area_keeps}
 use Rattle.device.proofs.host_messages.BlocksKept.{kept_are, others_wanted}
 use Rattle.device.proofs.host_messages.FramesGathered.{AllCame, all_frames, first_frame, fits, frames_are, given_up}
 use Rattle.device.proofs.host_messages.FramesGathered.{not_wanted, released, requested_keeps, to}
@@ -87,7 +74,7 @@ module _ {d : DeviceCore} {s : State} {tag : ℕ} {bytes : List ℕ} (c : AllCam
       Keeps come
       (requested (given_back s c.stands.b) c.stands.b (to c) (all_frames bytes) code (Answering Good c.stands.b.length))
   quiet_keeps none =
-      requested_keeps c come code accepted.Nothing did (event.RequestAnswered code) (phase.Answer status.Good c.size)
+      requested_keeps c come code accepted.Nothing did (event.RequestAnswered code) (phase.Answer status.Good c.wanted.length)
       (Answering Good c.stands.b.length) given s.accepted (event_is false none)
       (record {
         phase_is = refl;
@@ -169,7 +156,7 @@ module _ {d : DeviceCore} {s : State} {tag : ℕ} {bytes : List ℕ} (c : AllCam
         (all_frames bytes) code reading)
     reading_keeps =
         requested_keeps c come code accepted.Nothing did (event.AreaAsked code first.address first.count)
-        (phase.ReadArea (reading_of first.address first.count c.size)) reading area_kept s.accepted
+        (phase.ReadArea (reading_of first.address first.count c.wanted.length)) reading area_kept s.accepted
         (event_is true reads)
         (record {
           phase_is = refl;
@@ -178,12 +165,12 @@ module _ {d : DeviceCore} {s : State} {tag : ℕ} {bytes : List ℕ} (c : AllCam
           asks = (reads, refl, refl);
           fits_in = (
             tt,
-            none_stands first.address first.count c.size (pages_named first) (Some (with_zeros bytes)) page_read
+            none_stands first.address first.count c.wanted.length (pages_named first) (Some (with_zeros bytes)) page_read
                 (λ j. refl),
           );
           doing = record {
             total_is = c.gathers.total_is;
-            reads = none_read first.address first.count c.size page_read inside.some inside.few (λ j. refl);
+            reads = none_read first.address first.count c.wanted.length page_read inside.some inside.few (λ j. refl);
           };
           none_sent = refl;
           none_gathered = refl;

@@ -1,64 +1,47 @@
 -- A COMMAND begins a task that answers at once, sends data that are known, or waits for all that was accepted.
-use Rattle.std.proofs.Common.{◌≡◌, ℕ, ◌+◌, ◌<◌, Bool, true, false, Option, Some, None, length}
-use Rattle.std.proofs.Common.{◌∙◌, refl, sym, ap, subst, arith}
-use Rattle.std.specs.Prelude.{if◌then◌else◌, nat_le, Result, Ok, Err, not}
-use Rattle.std.specs.List.{list_any}
-use Rattle.ufs_spec.proofs.Facts.{false≢true}
-use Rattle.ufs_spec.specs.Exchanges.{Answering, Awaiting, Good, Status, most_tasks, task_of}
-use Rattle.ufs_spec.specs.Ledger.{before_accepted}
-use Rattle.ufs_spec.specs.Machine.{data_begun, durable, flush_begun, with_task}
+use Rattle.device.proofs.Common.{Answering, Awaiting, Bool, Cdb, Core, Describes, DeviceCore, Err, Good, IsLayerWith}
+use Rattle.device.proofs.Common.{None, Numbers, Ok, Option, Phase, Plan, Request, Result, Some, State, Status}
+use Rattle.device.proofs.Common.{Translation, ap, arith, before_accepted, claims_of, data_begun, durable, false}
+use Rattle.device.proofs.Common.{false≢true, if◌then◌else◌, is_mended, is_sender, length, list_any, locked, most_tasks}
+use Rattle.device.proofs.Common.{nat_le, newly_open, not, numbers_of, refl, sends_frames, subst, sym, task_of, true, ℕ}
+use Rattle.device.proofs.Common.{◌+◌, ◌<◌, ◌∙◌, ◌≡◌}
+use Rattle.ufs_spec.specs.Machine.{flush_begun, with_task}
 use Rattle.ufs_spec.specs.Machine as machine
-use Rattle.ufs_spec.specs.Refusals.{Request, State, locked, sends_frames}
-use Rattle.ufs_spec.specs.Translation.{Translation, is_mended}
-use Rattle.ufs_spec.specs.declared.configs.Numbers.{Numbers}
-use Rattle.ufs_spec.specs.declared.scsi.Cdb.{Cdb}
 use Rattle.ftl_core.specs.Public as layer_kept
-use Rattle.ftl_core.specs.Public.{Core}
-use Rattle.task_set.specs.declared.tasks.Phase.{Phase}
 use Rattle.task_set.specs.declared.tasks.Phase.TheVariants as phase
-use Rattle.task_set.specs.declared.tasks.Status as kept_status
-use Rattle.task_set.specs.declared.tasks.Status.TheVariants as status
+use Rattle.ufs_spec.specs.declared.exchanges.Status.TheVariants as status
 use Rattle.task_set.specs.declared.frames.Frames.TheVariants as frames
-use Rattle.task_set.specs.Kept.{newly_open}
-use Rattle.task_set.specs.Tasks.{is_sender, status_kept}
-use Rattle.device.specs.declared.plans.Plan.{Plan}
 use Rattle.device.specs.declared.plans.Plan.TheVariants as plan
 use Rattle.device.specs.Calls.{HasBegun, last_number}
-use Rattle.device.specs.Describes.{Describes, claims_of}
 use Rattle.device.specs.Frames.{frames_brought, region_brought, sent_kept}
-use Rattle.device.specs.Kept.{DeviceCore, IsLayerWith}
 use Rattle.device.proofs.described.Answered.{IsBehind}
 use Rattle.device.proofs.host_messages.NumbersAwaited.{number_awaited}
 use Rattle.device.proofs.host_messages.ReadOpened.{core_opened, core_with}
-use Rattle.device.proofs.open_tasks.TaskOpened.{opens_still, never_in, quiet_here}
-use Rattle.ufs_spec.specs.Refusals.{numbers_of}
+use Rattle.device.proofs.open_tasks.TaskOpened.{brings_none, opens_still}
 
 -- what was planned begins, over the layer as it is then
-abbrev pub HasBegunFor : State → Request → Core → Result Plan kept_status.Status → Phase → Type 0
+abbrev pub HasBegunFor : State → Request → Core → Result Plan Status → Phase → Type 0
 HasBegunFor s r after todo p = HasBegun after s.translation (claims_of (numbers_of s) s.tasks) r.tag todo p
 
 -- the device once this was planned and its task is so far, which keeps what it sends
-abbrev pub opened_for : DeviceCore → Request → Core → Result Plan kept_status.Status → Phase → DeviceCore
+abbrev pub opened_for : DeviceCore → Request → Core → Result Plan Status → Phase → DeviceCore
 opened_for d r after todo p = sent_kept d.ftl.numbers (core_with d r after p (frames_brought todo) (region_brought todo)) todo
 
 -- the device that was opened is that one: the layer has the configuration of which a task tells, before and after
 pub opened_as : (d : DeviceCore) (s : State) (r : Request) → Describes d s → (e : DeviceCore) (after : Core)
-    (todo : Result Plan kept_status.Status) (p : Phase) (u : Translation) → HasBegunFor s r after todo p →
+    (todo : Result Plan Status) (p : Phase) (u : Translation) → HasBegunFor s r after todo p →
     layer_kept.Describes (opened_for d r after todo p).ftl u →
     ((t : Translation) → layer_kept.Describes after t →
     e ≡ sent_kept t.numbers (core_with d r after p (frames_brought todo) (region_brought todo)) todo) →
     e ≡ opened_for d r after todo p
-opened_as d s r h e after (Ok (plan.Tell told size taken)) p u begun layer more =
+opened_as d s r h e after (Ok (plan.Send from size taken)) p u begun layer more =
     more s.translation begun.1.0
-    ∙ ap (λ (n : Numbers). sent_kept n (core_with d r after p frames.NotBrought 0) (Ok (plan.Tell told size taken)))
+    ∙ ap (λ (n : Numbers). sent_kept n (core_with d r after p frames.NotBrought 0) (Ok (plan.Send from size taken)))
     (sym h.kept.layer_kept.kept.numbers)
-opened_as d s r h e after (Ok (plan.TakeFrames region size taken)) p u begun layer more = more u layer
 opened_as d s r h e after (Ok (plan.Nothing n)) p u begun layer more = more u layer
 opened_as d s r h e after (Ok (plan.Read key blocks size)) p u begun layer more = more u layer
-opened_as d s r h e after (Ok (plan.Write key blocks forced)) p u begun layer more = more u layer
+opened_as d s r h e after (Ok (plan.Gather w slots)) p u begun layer more = more u layer
 opened_as d s r h e after (Ok plan.Flush) p u begun layer more = more u layer
-opened_as d s r h e after (Ok (plan.AskFrames region size)) p u begun layer more = more u layer
-opened_as d s r h e after (Ok (plan.AskList unit size)) p u begun layer more = more u layer
 opened_as d s r h e after (Err told) p u begun layer more = more u layer
 
 pub same_phase : (d : DeviceCore) (r : Request) (after : Core) (p q : Phase) (v : State) → p ≡ q →
@@ -78,16 +61,16 @@ quiet_task d r p e = absurd (false≢true e)
 
 module _ (d : DeviceCore) (s : State) (r : Request) (h : Describes d s) (free : task_of r.tag s.tasks ≡ None)
     (few : length s.tasks < most_tasks) (after : Core) where
-  abbrev Begins : Result Plan kept_status.Status → Phase → Type 0
+  abbrev Begins : Result Plan Status → Phase → Type 0
   Begins todo p = HasBegunFor s r after todo p
 
-  abbrev Opens : Result Plan kept_status.Status → Phase → State → Type 0
+  abbrev Opens : Result Plan Status → Phase → State → Type 0
   Opens todo p v = IsBehind (opened_for d r after todo p) v
 
   -- a task that answers at once
-  pub answer_opened : (command : Option Cdb) (n carried : ℕ) (answer : Status) (told : kept_status.Status) (m : ℕ) →
+  pub answer_opened : (command : Option Cdb) (n carried : ℕ) (answer : Status) (told : Status) (m : ℕ) →
       sends_frames command ≡ false → IsLayerWith after s.translation (claims_of (numbers_of s) s.tasks) →
-      answer ≡ status_kept told → carried ≡ m →
+      answer ≡ told → carried ≡ m →
       IsBehind (core_opened d r after (phase.Answer told m))
       (machine.with_task s r command n (Answering answer carried))
   answer_opened command n carried answer told m quiet layer same count =
@@ -97,9 +80,7 @@ module _ (d : DeviceCore) (s : State) (r : Request) (h : Describes d s) (free : 
         lun = refl;
         tag = refl;
         expected = refl;
-        sends = quiet;
-        in_regions = never_in 0 command quiet;
-        sends_to = λ other. quiet_here other command quiet;
+        brings = brings_none 0 command quiet;
         gathers = tt;
         asked_of = tt;
         request = refl;
@@ -144,9 +125,7 @@ module _ (d : DeviceCore) (s : State) (r : Request) (h : Describes d s) (free : 
             lun = refl;
             tag = refl;
             expected = refl;
-            sends = quiet;
-            in_regions = never_in 0 (Some command) quiet;
-            sends_to = λ other. quiet_here other (Some command) quiet;
+            brings = brings_none 0 (Some command) quiet;
             gathers = tt;
             asked_of = tt;
             request = refl;

@@ -1,40 +1,29 @@
 -- A command that tells of the device begins a task that keeps what it tells.
-use Rattle.std.proofs.Common.{◌≡◌, ◌∙◌, ℕ, ◌<◌, ◌≤◌, Bool, true, false, List, [], ◌∷◌, ◌++◌, Option, Some, None, length}
-use Rattle.std.proofs.Common.{refl, sym, ap, subst, arith}
-use Rattle.std.specs.Prelude.{◌*◌, ◌+◌, ◌==◌, if◌then◌else◌, map, min, take, Result, Ok}
-use Rattle.std.specs.List.{flat_map}
+use Rattle.device.proofs.Common.{Bool, Cdb, Core, Describes, DeviceCore, IsNamed, IsTied, List, None, Numbers, Ok}
+use Rattle.device.proofs.Common.{Option, Phase, Plan, Request, Result, Some, State, Status, UnitSpec, [], ap, arith}
+use Rattle.device.proofs.Common.{below, data_begun, false, flat_map, if◌then◌else◌, length, length-append, length-take}
+use Rattle.device.proofs.Common.{min, most_tasks, numbers_of, refl, sends_frames, spelled_cdb, subst, sym, take}
+use Rattle.device.proofs.Common.{target_of, task_of, true, unit_numbers_of, units_listed, with_zeros, ℕ, ◌++◌, ◌<◌, ◌∙◌}
+use Rattle.device.proofs.Common.{◌∷◌, ◌≡◌, ◌≤◌}
+use Rattle.std.specs.Prelude.{map, ◌*◌, ◌+◌, ◌==◌}
 use Rattle.byteorder.specs.Endian.{big_bytes}
-use Rattle.std.proofs.lemmas.List.{length-append, length-take, take_min}
+use Rattle.std.proofs.lemmas.List.{take_min}
 use Rattle.std.proofs.lemmas.List.Concat.{flat_map-cons}
 use Rattle.ufs_spec.proofs.ConfigFacts.{config_tests, ranges}
-use Rattle.ufs_spec.specs.Exchanges.{most_tasks, task_of}
 use Rattle.ufs_spec.specs.Begins.{capacity_bytes, told_bytes}
-use Rattle.ufs_spec.specs.CdbFields.{spelled_cdb}
 use Rattle.ufs_spec.specs.Cdbs.{told_length}
 use Rattle.ufs_spec.specs.Identities.{luns_bytes, luns_listed, unit_entry}
-use Rattle.ufs_spec.specs.Keys.{below}
-use Rattle.ufs_spec.specs.Machine.{data_begun}
 use Rattle.ufs_spec.specs.Messages.{zeros}
-use Rattle.ufs_spec.specs.Refusals.{Request, State, numbers_of, sends_frames, unit_numbers_of, units_listed}
-use Rattle.ufs_spec.specs.declared.configs.UnitSpec.{UnitSpec}
 use Rattle.ufs_spec.specs.declared.operations.Told.{Told}
 use Rattle.ufs_spec.specs.declared.operations.Told.TheVariants as told
-use Rattle.ufs_spec.specs.declared.configs.Numbers.{Numbers}
-use Rattle.ufs_spec.specs.declared.scsi.Cdb.{Cdb}
 use Rattle.ufs_spec.specs.declared.scsi.Cdb.TheVariants as cdb
 use Rattle.ufs_laws.proofs.exchanges.ListedUnits.{luns_size}
-use Rattle.power_loss.specs.Exchange.{IsTied}
-use Rattle.ftl_core.specs.Public.{Core}
 use Rattle.lun_route.proofs.Listed.{listed_count}
-use Rattle.task_set.specs.declared.tasks.Phase.{Phase}
-use Rattle.task_set.specs.declared.tasks.Status as kept_status
 use Rattle.device.specs.declared.plans.Identity.{Identity}
-use Rattle.device.specs.declared.plans.Plan.{Plan}
-use Rattle.device.specs.Describes.{Describes}
-use Rattle.device.specs.Frames.{capacity_told, identity_bytes, with_zeros}
-use Rattle.device.specs.Kept.{DeviceCore}
-use Rattle.device.specs.Plans.{identity_of, length_on, tell_plan}
-use Rattle.device.specs.Targets.{IsNamed, blocks_in, target_of}
+use Rattle.device.specs.Frames.{capacity_told, identity_bytes}
+use Rattle.device.specs.Plans.{identity_of, length_on, send_plan}
+use Rattle.device.specs.declared.plans.Source.TheVariants as source
+use Rattle.device.specs.Targets.{blocks_in}
 use Rattle.device.proofs.described.Answered.{IsBehind}
 use Rattle.device.proofs.host_messages.HeldBegins.{core_keeping, held_begins, last_held}
 use Rattle.device.proofs.host_messages.TasksBegin.{HasBegunFor, opened_for}
@@ -92,18 +81,18 @@ few_luns s v select =
 
 module _ (d : DeviceCore) (s : State) (r : Request) (h : Describes d s) (free : task_of r.tag s.tasks ≡ None)
     (few : length s.tasks < most_tasks) (after : Core) where
-  abbrev Begins : Result Plan kept_status.Status → Phase → Type 0
+  abbrev Begins : Result Plan Status → Phase → Type 0
   Begins todo p = HasBegunFor s r after todo p
 
-  abbrev Opens : Result Plan kept_status.Status → Phase → State → Type 0
+  abbrev Opens : Result Plan Status → Phase → State → Type 0
   Opens todo p v = IsBehind (opened_for d r after todo p) v
 
   -- what is told is told of the configuration of the state
   tells_begins : (command : Cdb) (told : Identity) (allocation size : ℕ) (p : Phase) →
       sends_frames (Some command) ≡ false → length (identity_bytes (numbers_of s) told) ≤ 4096 →
       size ≡ min allocation (length (identity_bytes (numbers_of s) told)) →
-      Begins (Ok (tell_plan r.expected told size)) p →
-      Opens (Ok (tell_plan r.expected told size)) p
+      Begins (Ok (send_plan r.expected (source.Identity told) size)) p →
+      Opens (Ok (send_plan r.expected (source.Identity told) size)) p
       (data_begun s r command (take allocation (identity_bytes (numbers_of s) told)))
   tells_begins command told allocation size p quiet short size_is begun =
       subst (λ (x : DeviceCore). IsBehind x (data_begun s r command bytes))
@@ -162,15 +151,15 @@ module _ (d : DeviceCore) (s : State) (r : Request) (h : Describes d s) (free : 
   pub tell_begins : (what : Told) (select allocation : ℕ) (p : Phase) → IsNamed s r →
       spelled_cdb r.bytes ≡ Some (cdb.Tell what select allocation) →
       Begins
-      (Ok (tell_plan r.expected (its_identity what select)
+      (Ok (send_plan r.expected (source.Identity (its_identity what select))
       (length_on (numbers_of s) (cdb.Tell what select allocation)))) p →
       Opens
-      (Ok (tell_plan r.expected (its_identity what select)
+      (Ok (send_plan r.expected (source.Identity (its_identity what select))
       (length_on (numbers_of s) (cdb.Tell what select allocation)))) p
       (data_begun s r (cdb.Tell what select allocation) (take allocation (told_bytes s r what select)))
   tell_begins what select allocation p named spells begun =
       let size = told_size what select allocation in
-      subst (λ (bytes : List ℕ). Opens (Ok (tell_plan r.expected (its_identity what select)
+      subst (λ (bytes : List ℕ). Opens (Ok (send_plan r.expected (source.Identity (its_identity what select))
       (length_on (numbers_of s) (cdb.Tell what select allocation)))) p
       (data_begun s r (cdb.Tell what select allocation) (take allocation bytes)))
       (told_same what select allocation named spells)

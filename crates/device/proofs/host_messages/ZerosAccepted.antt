@@ -1,30 +1,23 @@
 -- The blocks that the list of an UNMAP names become zeros: its group is that of as many zero blocks, and takes the
 -- place of all slots that its task claimed.
-use Rattle.std.proofs.Common.{◌≡◌, ◌∙◌, ℕ, ◌+◌, ◌≤◌, ◌∷◌, ◌++◌, false, List, [], map, replicate, take}
-use Rattle.std.proofs.Common.{refl, sym, ap, subst, arith}
-use Rattle.std.proofs.lemmas.List.{length-map, length-replicate, take-replicate}
-use Rattle.std.proofs.lemmas.List.Sums.{fold-append}
+use Rattle.device.proofs.Common.{Accept, Answering, CanApply, Command, Core, DeviceCore, Good, IsAllowedMove, IsComing}
+use Rattle.device.proofs.Common.{IsLayerWith, Item, Keeps, Key, List, Move, Plain, State, [], accepts, ap, apply, arith}
+use Rattle.device.proofs.Common.{below, claim_of, claims_of, command_allowed, content, data_key, false, fold-append}
+use Rattle.device.proofs.Common.{group_of, group_of_blocks, length-map, length-replicate, locked, map, moved}
+use Rattle.device.proofs.Common.{numbers_of, plain_now, ranges_of, refl, region_of, replicate, subst, sym, with_claimed}
+use Rattle.device.proofs.Common.{ℕ, ◌++◌, ◌+◌, ◌∙◌, ◌∷◌, ◌≡◌, ◌≤◌}
+use Rattle.std.proofs.Common.{take}
+use Rattle.std.proofs.lemmas.List.{take-replicate}
 use Rattle.ufs_bytes.specs.Fields.{field_at}
-use Rattle.ufs_spec.specs.Changes.{accepts, set_deed}
-use Rattle.ufs_spec.specs.Commands.{Command}
+use Rattle.ufs_spec.specs.Changes.{set_deed}
 use Rattle.ufs_spec.specs.Commands as command
-use Rattle.ufs_spec.specs.Exchanges.{Answering, Good}
-use Rattle.ufs_spec.specs.Keys.{Item, below, content, data_key, data_keys, group_of}
-use Rattle.ufs_spec.specs.Moves.{Accept, IsAllowedMove, Move, moved}
-use Rattle.ufs_spec.specs.Plain.{CanApply, IsBlocksOf, Plain, apply, region_of, shape_of, with_blocks, zero_block}
-use Rattle.ufs_spec.specs.Refusals.{State, locked, numbers_of, plain_now}
-use Rattle.ufs_spec.specs.declared.flash.Key.{Key}
+use Rattle.ufs_spec.specs.Keys.{data_keys}
+use Rattle.ufs_spec.specs.Plain.{IsBlocksOf, shape_of, with_blocks, zero_block}
 use Rattle.ufs_laws.proofs.plain_contents.ListParts.{length-below}
 use Rattle.ufs_laws.proofs.walk.WaysOfData.{IsRightList}
-use Rattle.power_loss.specs.Exchange.{claim_of}
-use Rattle.power_loss.proofs.host_commands.AcceptedCommands.{IsComing, command_allowed}
 use Rattle.power_loss.proofs.host_commands.ListsAndFrames.{unmap_coming}
-use Rattle.power_loss.proofs.stops.SealedCells.{ranges_of}
-use Rattle.ftl_core.specs.Public.{Core, group_of_blocks, with_claimed}
-use Rattle.task_set.specs.declared.tasks.Status.TheVariants as status
+use Rattle.ufs_spec.specs.declared.exchanges.Status.TheVariants as status
 use Rattle.task_set.specs.declared.tasks.TaskEvent.TheVariants as event
-use Rattle.device.specs.Describes.{Keeps, claims_of}
-use Rattle.device.specs.Kept.{DeviceCore, IsLayerWith}
 use Rattle.device.specs.Unmaps.{HasPutZeros, MayPutZeros, first_accepted}
 use Rattle.device.proofs.host_messages.BlocksGathered.{core_then}
 use Rattle.device.proofs.host_messages.GroupOfBlocks.{group_written}
@@ -109,10 +102,10 @@ module _ {d : DeviceCore} {s : State} {tag : ℕ} {list : List ℕ} (c : ListCam
   -- they are accepted
   pub zeroed_keeps : (layer : Core) →
       HasPutZeros layer s.translation (claims_of (numbers_of s) s.tasks) tag (data_key c.unit address) count →
-      Keeps (core_then d c.stands.k layer event.ListTaken)
+      Keeps (core_then d c.stands.k layer event.DataTaken)
       (set_deed (accepts s zeros slots) c.stands.b.tag (Answering Good c.stands.b.length))
   zeroed_keeps layer put =
-      told_keeps c event.ListTaken status.Good (record { phase_is = refl; frames_stay = refl; block_stays = refl })
+      told_keeps c event.DataTaken status.Good (record { phase_is = refl; frames_stay = refl; block_stays = refl })
       layer (moved s.translation (Accept slots (group_of (plain_now s) zeros))) (s.accepted ++ zeros ∷ []) (record {
         boot = ap (λ (q : Plain). q.boot) (fold-append apply s.base s.accepted (zeros ∷ []));
         permanent = ap (λ (q : Plain). q.permanent) (fold-append apply s.base s.accepted (zeros ∷ []));

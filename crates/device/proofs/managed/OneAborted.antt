@@ -1,30 +1,19 @@
 -- One task is aborted: what is kept is kept of the state without it.
-use Rattle.std.proofs.Common.{◌≡◌, ◌∙◌, ℕ, ◌≤◌, ◌==◌, Bool, true, false, List, [], ◌∷◌, Some, length, refl, sym, ap}
-use Rattle.std.proofs.Common.{subst, arith}
-use Rattle.std.specs.Prelude.{◌<◌, ◌||◌, ◌&&◌, filter, if◌then◌else◌, not}
-use Rattle.std.proofs.lemmas.List.Elements.{All-filter}
-use Rattle.std.proofs.lemmas.List.Filters.{length-filter_both}
-use Rattle.ufs_spec.proofs.Facts.{eqb-false, eqb-true, or_with_false}
-use Rattle.ufs_spec.specs.Plain.{region_of}
+use Rattle.device.proofs.Common.{All-filter, AreClaimed, Bool, Claims, Core, DeviceCore, Frames, HasLetGo, IsBehind}
+use Rattle.device.proofs.Common.{IsKept, IsTold, Keeps, LetGoAll, List, Machine, OpenTask, Pin, RegionState, Registers}
+use Rattle.device.proofs.Common.{Release, Some, State, TasksDiffer, Translation, [], ap, arith, before_accepted}
+use Rattle.device.proofs.Common.{brings_frames, claim_of, claimed_by, claimed_in, claims_of, durable, eqb-false}
+use Rattle.device.proofs.Common.{eqb-true, false, filter, found_task, if◌then◌else◌, is_at_hand, is_task_of, length}
+use Rattle.device.proofs.Common.{length-filter_both, machine_at, most_tasks, moved, not, numbers_of, plain_now, refl}
+use Rattle.device.proofs.Common.{region_of, subst, sym, task_of, true, with_claimed, with_machine, ℕ, ◌==◌, ◌||◌, ◌∙◌}
+use Rattle.device.proofs.Common.{◌∷◌, ◌≡◌, ◌≤◌}
+use Rattle.std.specs.Prelude.{◌&&◌, ◌<◌}
+use Rattle.ufs_spec.proofs.Facts.{or_with_false}
 use Rattle.ufs_spec.specs.Exchanges as exchange
-use Rattle.ufs_spec.specs.Exchanges.{Registers, empty_registers, is_task_of, most_tasks, task_of}
-use Rattle.ufs_spec.specs.Ledger.{before_accepted}
-use Rattle.ufs_spec.specs.Machine.{durable, is_at_hand, registers_after}
-use Rattle.ufs_spec.specs.Moves.{LetGoAll, Release, moved}
-use Rattle.ufs_spec.specs.Refusals.{State, numbers_of, plain_now}
-use Rattle.ufs_spec.specs.Translation.{Pin, Translation}
-use Rattle.power_loss.specs.Exchange.{TasksDiffer, claim_of}
-use Rattle.power_loss.proofs.open_tasks.TaskLists.{found_task}
+use Rattle.ufs_spec.specs.Exchanges.{empty_registers}
+use Rattle.ufs_spec.specs.Machine.{registers_after}
 use Rattle.ftl_core.specs.Public as layer
-use Rattle.ftl_core.specs.Public.{AreClaimed, Claims, Core, with_claimed}
-use Rattle.rpmb.specs.Kept.{IsKept, Machine, machine_at, with_machine}
-use Rattle.rpmb.specs.declared.regions.RegionState.{RegionState}
-use Rattle.task_set.specs.Kept.{OpenTask}
-use Rattle.task_set.specs.Tasks.{brings_frames}
-use Rattle.task_set.specs.declared.frames.Frames.{Frames}
-use Rattle.device.specs.Describes.{IsBehind, IsTold, Keeps, claimed_by, claimed_in, claims_of}
-use Rattle.device.specs.Kept.{DeviceCore}
-use Rattle.device.specs.Manages.{HasLetGo, aborted_at, machines_after}
+use Rattle.device.specs.Manages.{aborted_at, machines_after}
 use Rattle.device.proofs.described.Machines.{as_many, at_other, at_same, regions_same}
 use Rattle.device.proofs.described.OneSender.{one_removed}
 use Rattle.device.proofs.described.Settled.{left_answered}
@@ -157,8 +146,8 @@ module _ (d : DeviceCore) (s : State) (k : ℕ) (a : OpenTask) (b : exchange.Tas
         λ number. subst (λ (r : RegionState). IsKept r (region_of (plain_now s) number))
         (sym (regions_stay d.rpmb a.frames a.region number)) (h.keeps.region number);
     registers =
-        λ number. same_registers d.rpmb a.frames a.region number (s.registers number) _ (o.kept.sends_to number)
-        (λ e. subst (λ (n : ℕ). a.region < n) (sym h.keeps.each) (o.kept.in_regions (o.kept.sends ∙ e)))
+        λ number. same_registers d.rpmb a.frames a.region number (s.registers number) _ (o.kept.brings.sends_to number)
+        (λ e. subst (λ (n : ℕ). a.region < n) (sym h.keeps.each) (o.kept.brings.in_regions (o.kept.brings.sends ∙ e)))
         (h.keeps.registers number);
     layer_kept = layer_without after its;
     few = few_left (is_task_of b.tag) s.tasks h.keeps.few;

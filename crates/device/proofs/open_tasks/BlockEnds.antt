@@ -1,23 +1,21 @@
 -- What the end of a read leaves of a task that sends blocks: the next one was read, or it could not be read and that is
 -- what the task tells.
-use Rattle.std.proofs.Common.{◌≡◌, ◌∙◌, ℕ, ◌*◌, ◌<◌, List, Some, None, slice_get, slice_set, refl, sym, ap, ◌&&◌, ◌==◌, Bool}
-use Rattle.std.proofs.Common.{arith, subst}
-use Rattle.ufs_spec.proofs.Facts.{same_Some}
-use Rattle.ufs_spec.proofs.Lists.{set_length, set_other, set_there}
+use Rattle.device.specs.Describes.{BringsFor}
+use Rattle.device.proofs.Common.{AreFramesKept, Bool, Frames, FramesFit, IsDoing, IsSending, List, None, NotRead}
+use Rattle.device.proofs.Common.{OpenTask, Phase, ReadBlock, ReadState, Sending, Sends, Some, TaskKept, Unread, WasRead}
+use Rattle.device.proofs.Common.{ap, arith, block_after, brings_frames, deed_read, is_lost, phase_after, read_by}
+use Rattle.device.proofs.Common.{read_for, read_in, read_of, refl, same_Some, set_other, set_state, set_there, subst}
+use Rattle.device.proofs.Common.{sym, task_after, ℕ, ◌&&◌, ◌*◌, ◌<◌, ◌==◌, ◌∙◌, ◌≡◌}
+use Rattle.std.proofs.Common.{slice_get, slice_set}
+use Rattle.ufs_spec.proofs.Lists.{set_length}
 use Rattle.ufs_spec.specs.Exchanges as exchange
-use Rattle.ufs_spec.specs.Exchanges.{NotRead, ReadBlock, ReadState, Sending, Unread, WasRead}
-use Rattle.ufs_spec.specs.Machine.{deed_read, set_state, with_block}
-use Rattle.task_set.specs.Kept.{OpenTask}
-use Rattle.task_set.specs.Tasks.{block_after, brings_frames, phase_after, read_error, read_for, task_after}
-use Rattle.task_set.specs.declared.frames.Frames.{Frames}
+use Rattle.ufs_spec.specs.Machine.{with_block}
+use Rattle.task_set.specs.Tasks.{read_error}
 use Rattle.task_set.specs.declared.frames.Frames.TheVariants as frames
-use Rattle.task_set.specs.declared.tasks.Phase.{Phase}
 use Rattle.task_set.specs.declared.tasks.Phase.TheVariants as phase
-use Rattle.task_set.specs.declared.tasks.Sending.{Sending as Sends}
-use Rattle.task_set.specs.declared.tasks.Status.TheVariants as status
+use Rattle.ufs_spec.specs.declared.exchanges.Status.TheVariants as status
 use Rattle.task_set.specs.declared.tasks.TaskEvent.TheVariants as event
-use Rattle.device.specs.Describes.{AreFramesKept, FramesFit, IsDoing, IsLost, IsSending, TaskKept, is_lost, read_by}
-use Rattle.device.specs.Describes.{read_in, read_of}
+use Rattle.device.specs.Describes.{IsLost}
 
 -- once the state of a block is set
 abbrev pub blocks_ended : List ReadBlock → ℕ → ReadState → ReadBlock → List ReadBlock
@@ -127,9 +125,7 @@ module _ (before index : ℕ) (a : OpenTask) (b : exchange.Task) (blocks : List 
         lun = h.lun;
         tag = h.tag;
         expected = h.expected;
-        sends = h.sends ∙ ap brings_frames quiet;
-        in_regions = h.in_regions;
-        sends_to = λ other. (h.sends_to other ∙ ap (λ (c : Bool). c && (a.region == other)) (ap brings_frames quiet));
+        brings = subst (λ (x : Bool). BringsFor a.region x b.command) (ap brings_frames quiet) h.brings;
         gathers = tt;
         asked_of = h.asked_of;
         request = none_asked;
@@ -163,9 +159,7 @@ module _ (before index : ℕ) (a : OpenTask) (b : exchange.Task) (blocks : List 
         lun = h.lun;
         tag = h.tag;
         expected = h.expected;
-        sends = h.sends ∙ ap brings_frames quiet;
-        in_regions = h.in_regions;
-        sends_to = λ other. (h.sends_to other ∙ ap (λ (c : Bool). c && (a.region == other)) (ap brings_frames quiet));
+        brings = subst (λ (x : Bool). BringsFor a.region x b.command) (ap brings_frames quiet) h.brings;
         gathers = tt;
         asked_of = h.asked_of;
         request = none_asked;

@@ -1,32 +1,24 @@
 -- What the end of a read leaves of a task that reads pages of the RPMB area: the part that is asked for of the page
 -- stands in its block, or the page is known to be lost.
-use Rattle.std.proofs.Common.{◌≡◌, ◌∙◌, ℕ, zero, suc, ◌<◌, ◌≤◌, ◌==◌, Bool, true, false, List, [], ◌∷◌, length, map, ◌&&◌}
-use Rattle.std.proofs.Common.{Option, Some, None, slice_get, slice_set, take, refl, sym, ap, subst, arith}
-use Rattle.std.specs.Prelude.{if◌then◌else◌, option_map}
-use Rattle.std.proofs.lemmas.List.{length-map}
-use Rattle.std.proofs.lemmas.Option.{slice_get_within}
-use Rattle.ufs_spec.proofs.Facts.{eqb-true, false≢true, same_Some}
-use Rattle.ufs_spec.proofs.Lists.{set_other, set_there}
+use Rattle.device.specs.Describes.{BringsFor}
+use Rattle.device.proofs.Common.{AreFramesKept, AreaReading, Bool, Frame, Frames, FramesFit, IsAsked, IsDoing}
+use Rattle.device.proofs.Common.{IsReadingArea, List, None, NotRead, OpenTask, Option, PartsStand, Phase, ReadBlock}
+use Rattle.device.proofs.Common.{ReadState, ReadingArea, ReadsAsked, ReadsFor, RpmbRequest, Some, TaskKept, WasRead, []}
+use Rattle.device.proofs.Common.{ap, area_part, arith, block_after, brings_frames, deed_read, eq_self, eqb-true, false}
+use Rattle.device.proofs.Common.{false≢true, frame_in, frames_after, if◌then◌else◌, is_unfilled, length, length-map}
+use Rattle.device.proofs.Common.{map, option_map, part_held, part_of_page, phase_after, read_for, read_in, refl}
+use Rattle.device.proofs.Common.{same_Some, second_read, set_other, set_state, set_there, slice_get_within, subst, suc}
+use Rattle.device.proofs.Common.{sym, task_after, true, zero, ℕ, ◌&&◌, ◌<◌, ◌==◌, ◌∙◌, ◌∷◌, ◌≡◌, ◌≤◌}
+use Rattle.std.proofs.Common.{slice_get, slice_set, take}
 use Rattle.ufs_spec.specs.Exchanges as exchange
-use Rattle.ufs_spec.specs.Exchanges.{NotRead, ReadBlock, ReadState, ReadingArea, RpmbRequest, WasRead, is_unfilled}
-use Rattle.ufs_spec.specs.Frames.{Frame, frame_in}
-use Rattle.ufs_spec.specs.Machine.{deed_read, set_state, with_block}
-use Rattle.power_loss.proofs.books.SmallFacts.{eq_self}
-use Rattle.task_set.specs.Frames.{area_part, frames_after, page_ended, page_put, pages_read, read_kept, second_read}
-use Rattle.task_set.specs.Kept.{OpenTask}
-use Rattle.task_set.specs.Tasks.{block_after, brings_frames, phase_after, read_for, task_after}
-use Rattle.task_set.specs.declared.frames.AreaReading.{AreaReading}
+use Rattle.ufs_spec.specs.Machine.{with_block}
+use Rattle.task_set.specs.Frames.{page_ended, page_put, pages_read}
 use Rattle.task_set.specs.declared.frames.AreaPart.{AreaPart}
-use Rattle.task_set.specs.declared.frames.Frames.{Frames}
 use Rattle.task_set.specs.declared.frames.Frames.TheVariants as frames
-use Rattle.task_set.specs.declared.frames.PageRead.{PageRead}
-use Rattle.task_set.specs.declared.frames.PageRead.TheVariants as ended
-use Rattle.task_set.specs.declared.tasks.Phase.{Phase}
+use Rattle.ufs_spec.specs.declared.exchanges.ReadState.TheVariants as ended
 use Rattle.task_set.specs.declared.tasks.Phase.TheVariants as phase
 use Rattle.task_set.specs.declared.tasks.TaskEvent.TheVariants as event
-use Rattle.device.specs.Describes.{AreFramesKept, FramesFit, IsAsked, IsDoing, IsFirstFrame, IsReadingArea, PartsStand}
-use Rattle.device.specs.Describes.{ReadsAsked, ReadsFor, StandsIn, TaskKept, read_in}
-use Rattle.device.specs.Frames.{part_held, part_of_page}
+use Rattle.device.specs.Describes.{IsFirstFrame, StandsIn}
 use Rattle.device.proofs.open_tasks.BlockEnds.{blocks_ended, set_read}
 use Rattle.device.proofs.open_tasks.PartsPut.{first_part_stays, frame_stays, page_put_long, part_put_there}
 use Rattle.device.proofs.open_tasks.PartsPut.{second_part_stays}
@@ -47,18 +39,18 @@ states_set (x ∷ xs) (suc index) new = ap (λ ys. x.state ∷ ys) (states_set x
 pub few_read : (r : AreaReading) → length (pages_read r) ≤ 2
 few_read r = by r.second
   where
-    by : (o : Option PageRead) → suc (length (second_read o)) ≤ 2
+    by : (o : Option ReadState) → suc (length (second_read o)) ≤ 2
     by None = omega arith
     by (Some how) = omega arith
 
-read_set : (r : AreaReading) (index : ℕ) (how : PageRead) → index < length (pages_read r) →
-    slice_set (pages_read r) index (read_kept how) ≡ pages_read (page_ended r index how)
+read_set : (r : AreaReading) (index : ℕ) (how : ReadState) → index < length (pages_read r) →
+    slice_set (pages_read r) index how ≡ pages_read (page_ended r index how)
 read_set r zero how low = refl
 read_set r (suc zero) how low = by r.second low
   where
-    by : (o : Option PageRead) → 1 < suc (length (second_read o)) →
-        read_kept r.first ∷ slice_set (second_read o) 0 (read_kept how)
-        ≡ read_kept r.first ∷ second_read (option_map (λ old. how) o)
+    by : (o : Option ReadState) → 1 < suc (length (second_read o)) →
+        r.first ∷ slice_set (second_read o) 0 how
+        ≡ r.first ∷ second_read (option_map (λ old. how) o)
     by None few = absurd (omega arith)
     by (Some old) few = refl
 read_set r (suc (suc index)) how low = let few = few_read r in absurd (omega arith)
@@ -70,7 +62,7 @@ record AsksSame (r s : AreaReading) : Type 0 where
   total : s.length ≡ r.length
   parts : (i : ℕ) → area_part s i ≡ area_part r i
 
-asks_same : (r : AreaReading) (index : ℕ) (how : PageRead) → AsksSame r (page_ended r index how)
+asks_same : (r : AreaReading) (index : ℕ) (how : ReadState) → AsksSame r (page_ended r index how)
 asks_same r index how = by (index == 0)
   where
     by : (b : Bool) →
@@ -78,14 +70,14 @@ asks_same r index how = by (index == 0)
     by true = record { address = refl; count = refl; total = refl; parts = λ i. refl }
     by false = record { address = refl; count = refl; total = refl; parts = λ i. refl }
 
-reading_ended : (r : AreaReading) (total : ℕ) (pages : List ReadBlock) (index : ℕ) (page : ReadBlock) (how : PageRead) →
+reading_ended : (r : AreaReading) (total : ℕ) (pages : List ReadBlock) (index : ℕ) (page : ReadBlock) (how : ReadState) →
     slice_get pages index ≡ Some page → IsReadingArea r total pages →
-    IsReadingArea (page_ended r index how) total (blocks_ended pages index (read_kept how) page)
+    IsReadingArea (page_ended r index how) total (blocks_ended pages index how page)
 reading_ended r total pages index page how there h = record {
   total_is = h.total_is ∙ sym (asks_same r index how).total;
   reads =
-      states_set pages index (set_state (read_kept how) page)
-      ∙ (ap (λ (xs : List ReadState). slice_set xs index (read_kept how)) h.reads ∙ read_set r index how low);
+      states_set pages index (set_state how page)
+      ∙ (ap (λ (xs : List ReadState). slice_set xs index how) h.reads ∙ read_set r index how low);
 }
   where
     low : index < length (pages_read r)
@@ -201,7 +193,7 @@ asked_same code xs ys request long same h = record {
 }
 
 -- and a task that reads the blocks that it asks for does so once the read of one of its pages ended
-reads_same : (r : AreaReading) (index code : ℕ) (how : PageRead) (xs ys : List ℕ) → take 512 ys ≡ take 512 xs →
+reads_same : (r : AreaReading) (index code : ℕ) (how : ReadState) (xs ys : List ℕ) → take 512 ys ≡ take 512 xs →
     ReadsAsked (phase.ReadArea r) (frames.Decided code) (Some xs) →
     ReadsAsked (phase.ReadArea (page_ended r index how)) (frames.Decided code) (Some ys)
 reads_same r index code how xs ys same h =
@@ -271,24 +263,21 @@ module _ (before index : ℕ) (a : OpenTask) (b : exchange.Task) (pages : List R
       (ap (λ o. ReadingArea (with_block pages index state o)) (sym there) ∙ ap (deed_read index state) (sym deed))
 
   -- the task behind the read of its page
-  then_kept : (how : PageRead) (new : List ℕ) → length new ≡ 4096 → take 512 new ≡ take 512 row →
+  then_kept : (how : ReadState) (new : List ℕ) → length new ≡ 4096 → take 512 new ≡ take 512 row →
       PartsStand (page_ended its.r index how) (Some new)
-      (ReadingArea (blocks_ended pages index (read_kept how) page)) →
+      (ReadingArea (blocks_ended pages index how page)) →
       TaskKept before
       (record a {
         phase = phase.ReadArea (page_ended its.r index how);
         frames = frames.Decided decision.code;
         held = Some new;
       })
-      (record b { deed = ReadingArea (blocks_ended pages index (read_kept how) page) })
+      (record b { deed = ReadingArea (blocks_ended pages index how page) })
   then_kept how new long same stand = record {
     lun = h.lun;
     tag = h.tag;
     expected = h.expected;
-    sends = h.sends ∙ ap brings_frames decision.is;
-    in_regions = h.in_regions;
-    sends_to =
-        λ other. (h.sends_to other ∙ ap (λ (c : Bool). c && (a.region == other)) (ap brings_frames decision.is));
+    brings = subst (λ (x : Bool). BringsFor a.region x b.command) (ap brings_frames decision.is) h.brings;
     gathers = tt;
     asked_of = h.asked_of;
     request = asked_same decision.code row new b.request long same asked_row;

@@ -1,39 +1,26 @@
 -- A COMMAND opens a task: what the device keeps then is kept of the state with the new task.
-use Rattle.std.proofs.Common.{◌≡◌, ◌∙◌, ℕ, ◌<◌, ◌==◌, Bool, true, false, All, List, [], ◌∷◌, ◌++◌, Option}
-use Rattle.std.proofs.Common.{Some, None, length, refl, sym, ap, subst, arith}
-use Rattle.std.specs.Prelude.{◌||◌}
-use Rattle.std.specs.List.{list_any}
-use Rattle.std.proofs.lemmas.List.{length-append}
-use Rattle.std.proofs.lemmas.List.Elements.{All-head, All-push, All-tail}
-use Rattle.ufs_spec.specs.Plain.{regions}
-use Rattle.ufs_spec.proofs.Facts.{eqb-true, none-some, true≢false}
+use Rattle.device.specs.Describes.{BringsFor}
+use Rattle.device.proofs.Common.{All, All-head, All-tail, AreClaimed, Bool, Cdb, Claim, Core, Deed, Describes}
+use Rattle.device.proofs.Common.{DeviceCore, Gathering, HaveAnswered, IsLayerWith, IsTold, IsToldIn, Keeps, List, None}
+use Rattle.device.proofs.Common.{Numbers, OneSends, OpenTask, Option, Pin, Purpose, Request, ShowsRight, Some, State}
+use Rattle.device.proofs.Common.{TaskKept, TasksKept, Translation, [], ap, arith, before_accepted, claimed_by}
+use Rattle.device.proofs.Common.{claimed_in, claims_of, durable, eqb-true, false, is_sender, is_to_fill, keeps_for}
+use Rattle.device.proofs.Common.{length, length-append, list_any, locked, most_tasks, moved, none-some, numbers_of}
+use Rattle.device.proofs.Common.{refl, regions, sends_frames, sends_frames_to, subst, sym, task_of, true, true≢false}
+use Rattle.device.proofs.Common.{wanted_in, wanted_kept, with_claimed, with_moves, with_task, ℕ, ◌++◌, ◌<◌, ◌==◌, ◌||◌}
+use Rattle.device.proofs.Common.{◌∙◌, ◌∷◌, ◌≡◌}
+use Rattle.std.proofs.lemmas.List.Elements.{All-push}
 use Rattle.ufs_spec.specs.Exchanges as exchange
-use Rattle.ufs_spec.specs.Exchanges.{Deed, Gathering, Purpose, task_of}
-use Rattle.ufs_spec.specs.Ledger.{before_accepted}
 use Rattle.ufs_spec.specs.Machine as machine
-use Rattle.ufs_spec.specs.Machine.{durable, is_to_fill, with_moves}
-use Rattle.ufs_spec.specs.Moves.{Claim, moved}
-use Rattle.ufs_spec.specs.Refusals.{Request, State, locked, numbers_of, sends_frames, sends_frames_to}
-use Rattle.ufs_spec.specs.Exchanges.{most_tasks}
-use Rattle.ufs_spec.specs.Translation.{Pin, Translation}
-use Rattle.ufs_spec.specs.declared.scsi.Cdb.{Cdb}
 use Rattle.ufs_spec.specs.declared.scsi.Cdb.TheVariants as cdb
-use Rattle.power_loss.specs.Shown.{ShowsRight}
 use Rattle.ftl_core.specs.Public as layer_kept
-use Rattle.ftl_core.specs.Public.{AreClaimed, Core, keeps_for, with_claimed}
-use Rattle.task_set.specs.Kept.{OpenTask}
-use Rattle.task_set.specs.Tasks.{is_sender}
-use Rattle.device.specs.Describes.{Describes, HaveAnswered, IsTold, IsToldIn, Keeps, OneSends, TaskKept, TasksKept}
-use Rattle.device.specs.Describes.{claimed_by, claimed_for, claimed_in, claims_of, wanted_in, wanted_kept}
-use Rattle.device.specs.Hears.{with_task}
-use Rattle.device.specs.Kept.{DeviceCore, IsLayerWith}
+use Rattle.device.specs.Describes.{claimed_for}
 use Rattle.device.proofs.described.Answered.{IsBehind}
 use Rattle.device.proofs.open_tasks.KeptByTag.{WantedFor, claimed_same, claims_more, one_comes}
 use Rattle.device.proofs.described.OneSender.{one_more_sends}
 use Rattle.device.proofs.described.ShortExchanges.{same_shorts}
 use Rattle.device.proofs.described.Settled.{SameAtHand, none_stay, still_answered}
 use Rattle.device.proofs.open_tasks.OpenTasks.{one_more}
-use Rattle.ufs_spec.specs.declared.configs.Numbers.{Numbers}
 
 -- the specified task that is opened
 abbrev pub opened : Request → Option Cdb → ℕ → Deed → exchange.Task
@@ -50,15 +37,22 @@ opened r command n deed =
 
 -- a command that brings no frames brings none to a region
 -- a command that brings no frames names no region
-pub never_in : (region : ℕ) (command : Option Cdb) → sends_frames command ≡ false → sends_frames command ≡ true →
+never_in : (region : ℕ) (command : Option Cdb) → sends_frames command ≡ false → sends_frames command ≡ true →
     region < regions
 never_in region command quiet e = absurd (true≢false (sym e ∙ quiet))
 
-pub quiet_here : (region : ℕ) (command : Option Cdb) → sends_frames command ≡ false →
+quiet_here : (region : ℕ) (command : Option Cdb) → sends_frames command ≡ false →
     sends_frames_to region command ≡ false
 quiet_here region None quiet = refl
 quiet_here region (Some (cdb.SecurityOut other size)) quiet = absurd (true≢false quiet)
 quiet_here region (Some command) quiet = refl
+
+pub brings_none : (region : ℕ) (command : Option Cdb) → sends_frames command ≡ false → BringsFor region false command
+brings_none region command quiet = record {
+  sends = quiet;
+  in_regions = never_in region command quiet;
+  sends_to = λ other. quiet_here other command quiet;
+}
 
 -- the deed of a task without a request tells of no block
 pub record TellsNothing (deed : Deed) : Type 0 where

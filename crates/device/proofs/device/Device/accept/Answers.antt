@@ -1,20 +1,17 @@
-use Rattle.std.proofs.Common.{◌≡◌, ◌∙◌, ◌≤◌, ℕ, true, false, cond, [], length, sym, ap, subst}
-use Rattle.ufs_spec.specs.Ledger.{next_number}
-use Rattle.ufs_spec.specs.Moves.{Accept, IsAllowedMove, Move, Release, moved}
-use Rattle.ufs_spec.specs.Translation.{Translation, is_locked}
-use Rattle.ufs_spec.specs.declared.flash.Key.{Key}
-use Rattle.ftl_core.specs.Public.{AreClaimed, Claims, Core, Describes, group_of_blocks, with_claimed}
-use Rattle.device.specs.Kept.{DeviceCore, IsLayerWith}
-use Rattle.device.specs.Calls.{HasTaken}
+use Rattle.device.proofs.Common.{Accept, AreClaimed, Claims, Core, DeviceCore, HasTaken, IsAllowedMove, IsLayerWith}
+use Rattle.device.proofs.Common.{Key, Move, Release, Translation, [], ap, cond, false, group_of_blocks, length, moved}
+use Rattle.device.proofs.Common.{next_number, subst, sym, true, with_claimed, write_error, ℕ, ◌∙◌, ◌≡◌, ◌≤◌}
+use Rattle.ufs_spec.specs.Translation.{is_locked}
+use Rattle.ftl_core.specs.Public.{Describes}
 use Rattle.task_set.specs.declared.tasks.TaskEvent.TheVariants as event
 use Rattle.device.proofs.device.Device.accept.Goals as goal
 
 -- a locked layer gives the slots back
 given_back : (after : Core) (t : Translation) (claims : Claims) (tag : ℕ) (key : Key) → true ≡ is_locked t →
     Describes after (moved t (Release (length (claims tag)))) → AreClaimed after (with_claimed claims tag []) →
-    HasTaken after t claims tag key event.GroupRefused
+    HasTaken after t claims tag key (event.DataRefused write_error)
 given_back after t claims tag key is layer none = record {
-  event_is = ap (λ b. cond b event.GroupRefused (event.GroupAccepted (next_number t.ledger))) is;
+  event_is = ap (λ b. cond b (event.DataRefused write_error) (event.GroupAccepted (next_number t.ledger))) is;
   layer =
       λ may. (
         subst (λ (m : Move). Describes after (moved t m))
@@ -41,7 +38,7 @@ taken_over : (after : Core) (t : Translation) (claims : Claims) (tag number : �
     AreClaimed after (with_claimed claims tag []) → HasTaken after t claims tag key (event.GroupAccepted number)
 taken_over after t claims tag number key free is accepts none = record {
   event_is = ap event.GroupAccepted is
-      ∙ ap (λ b. cond b event.GroupRefused (event.GroupAccepted (next_number t.ledger))) (sym free);
+      ∙ ap (λ b. cond b (event.DataRefused write_error) (event.GroupAccepted (next_number t.ledger))) (sym free);
   layer =
       λ may.
       let its = may free in (
