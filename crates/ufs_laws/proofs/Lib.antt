@@ -1,3 +1,4 @@
+mod Common
 pub mod answers
 pub mod array_cells
 pub mod decided_data

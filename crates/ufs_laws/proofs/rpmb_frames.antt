@@ -1,4 +1,5 @@
 pub mod AcceptedWrites
+pub mod FailedWrites
 pub mod FramesRead
 pub mod Regions
 pub mod RequestOutcomes

@@ -13,3 +13,4 @@ pub mod SettingsPages
 pub mod Table
 pub mod TaskRequests
 pub mod Unmaps
+pub mod WorkedBytes

@@ -7,6 +7,7 @@ mod calls;
 mod contents;
 mod decisions;
 mod exchange;
+mod formats;
 mod held;
 mod lock;
 mod management;
@@ -41,6 +42,7 @@ pub use exchange::{
     a_command_is_never_unknown_once_taken, a_read_sends_its_blocks, data_are_asked_for_in_order,
     every_byte_string_is_heard, nothing_of_an_aborted_tag_follows,
 };
+pub use formats::{worked_configurations, worked_fronts, worked_marks, worked_settings};
 pub use held::{acknowledged_commands_are_held, held_commands_stay_held};
 pub use lock::{
     a_bad_block_counts_once, a_locked_device_can_be_read, the_lock_begins_past_the_spare_blocks,
@@ -60,8 +62,8 @@ pub use requests::{
 pub use rows::{gap_keeps_the_first_write, write_after_the_gap_is_kept};
 pub use rpmb::{
     a_command_changes_its_region, a_mac_covers_every_frame, a_right_write_is_accepted,
-    an_accepted_write_is_right, frames_are_their_bytes, worked_macs, worked_registers,
-    worked_requests, worked_responses,
+    an_accepted_write_is_right, frames_are_their_bytes, worked_failures, worked_macs,
+    worked_registers, worked_requests, worked_responses,
 };
 pub use runs::{a_refused_read_says_why, a_written_block_is_read};
 pub use table::{

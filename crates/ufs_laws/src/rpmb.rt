@@ -1,16 +1,17 @@
 //! The replay protected memory block: frames as bytes, their MAC, requests, and what answers them.
-ghost use Rattle.std.specs.Prelude.{◌≡◌, ◌*◌, ◌<◌, ◌++◌, ◌∷◌, ℕ, [], All, Bool, List, None, Some, drop, length, map, nat_lt};
+ghost use Rattle.std.specs.Prelude.{◌≡◌, ◌≢◌, ◌*◌, ◌<◌, ◌++◌, ◌∷◌, ℕ, [], All, Bool, List, None, Some, drop, length, map, nat_lt};
 ghost use Rattle.std.specs.Prelude.{replicate, take, true, false};
 ghost use Rattle.std.specs.List.{flat_map};
 ghost use Rattle.sha2.specs.Sha256.{sha256};
 ghost use Rattle.ufs_spec.specs.Commands.{Command, RpmbWrite};
-ghost use Rattle.ufs_spec.specs.Exchanges.{NotRead, Registers, Task, Unread, WasRead, empty_registers};
+ghost use Rattle.ufs_spec.specs.Exchanges.{Registers, Task, empty_registers};
+ghost use Rattle.ufs_spec.specs.declared.exchanges.ReadState.TheVariants.{NotRead, Unread, WasRead};
 ghost use Rattle.ufs_spec.specs.Exchanges.{invalid_list_field, sequence_error};
 ghost use Rattle.ufs_spec.specs.Frames.{Frame, IsFrame, covered_bytes, frame_bytes, frame_in, frames_in};
 ghost use Rattle.ufs_spec.specs.Machine.{registers_after};
 ghost use Rattle.ufs_spec.specs.Messages.{AreBytes, zeros};
 ghost use Rattle.ufs_spec.specs.Plain.{Plain, apply};
-ghost use Rattle.ufs_spec.specs.Rpmb.{Refused, Region, Results, changed_by, frames_mac, mac, region_of, rpmb_outcome};
+ghost use Rattle.ufs_spec.specs.Rpmb.{Refused, Region, Results, changed_by, frames_mac, last_mac, mac, region_of, rpmb_outcome};
 ghost use Rattle.ufs_spec.specs.Rpmb.{with_end_bit};
 ghost use Rattle.ufs_spec.specs.RpmbResponses.{emptied_by, filled_with, response_frame, response_frames, with_reads};
 ghost use Rattle.ufs_spec.specs.declared.Cdb.TheVariants.{SecurityOut};
@@ -88,6 +89,25 @@ pub fn a_right_write_is_accepted()
         written ≡ RpmbWrite number f.address (flat_map (λ (g : Frame). g.payload) (f ∷ fs)) →
         rpmb_outcome number region r false (f ∷ fs)
         ≡ Results (with_end_bit (changed_by region written) 0) (Some written) }
+{}
+
+/// The results of a write that is no right one, or comes to a locked device. One that would be right under another key,
+/// whatever its counter, has result 2, and one that would be right with another counter 3. The counter of the region is
+/// not at its end. On a locked device a right write has result 5, and so has the first key.
+pub fn worked_failures()
+    ensures wrong_mac { (number : ℕ) (region : Region) (r : Registers) (locked : Bool) (f : Frame) (fs : List Frame)
+        (key other : List ℕ) (counter : ℕ) → region.key ≡ Some key → region.counter ≢ 0xFFFFFFFF →
+        last_mac f fs ≢ frames_mac key (f ∷ fs) →
+        IsRightWrite (record region { key = Some other; counter = counter }) f fs →
+        rpmb_outcome number region r locked (f ∷ fs) ≡ Results 2 None }
+    ensures wrong_counter { (number : ℕ) (region : Region) (r : Registers) (locked : Bool) (f : Frame) (fs : List Frame)
+        (counter : ℕ) → region.counter ≢ 0xFFFFFFFF → counter ≢ region.counter →
+        IsRightWrite (record region { counter = counter }) f fs →
+        rpmb_outcome number region r locked (f ∷ fs) ≡ Results 3 None }
+    ensures locked_write { (number : ℕ) (region : Region) (r : Registers) (f : Frame) (fs : List Frame) →
+        IsRightWrite region f fs → rpmb_outcome number region r true (f ∷ fs) ≡ Results 5 None }
+    ensures locked_key { (number : ℕ) (region : Region) (r : Registers) (f : Frame) →
+        rpmb_outcome number (record region { key = None }) r true (record f { kind = 1 } ∷ []) ≡ Results 5 None }
 {}
 
 /// Requests and their outcomes, whatever is not named: frames whose counts or counters differ, a result read without a

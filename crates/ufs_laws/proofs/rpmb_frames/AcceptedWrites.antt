@@ -1,15 +1,11 @@
 -- A right write is accepted.
-use Rattle.std.proofs.Common.{◌≡◌, ◌∙◌, ◌==◌, ◌*◌, ◌+◌, ℕ, suc, true, false, not, List, [], ◌∷◌, All, Some, None}
-use Rattle.std.proofs.Common.{refl, sym, ap, arith, length}
-use Rattle.std.proofs.lemmas.Bool.{eq-eqb, eqb-true, false_from_ne_true, le-ltb}
-use Rattle.std.specs.List.{flat_map, list_all}
-use Rattle.ufs_spec.specs.Commands.{Command, RpmbWrite}
-use Rattle.ufs_spec.specs.Exchanges.{Registers}
-use Rattle.ufs_spec.specs.Plain.{counter_end}
-use Rattle.ufs_spec.specs.Frames.{Frame}
-use Rattle.ufs_spec.specs.Rpmb.{Region, Results, agrees, changed_by, checks, command_in, fails_if, first_failed}
-use Rattle.ufs_spec.specs.Rpmb.{has_key, has_wrong_mac, is_past_area, is_well_formed, lacks_result, rpmb_outcome}
-use Rattle.ufs_spec.specs.Rpmb.{same_bytes, with_end_bit}
+use Rattle.ufs_laws.proofs.Common.{All, Command, Frame, List, None, Registers, Results, RpmbWrite, Some, [], ap, arith}
+use Rattle.ufs_laws.proofs.Common.{checks, command_in, counter_end, false, first_failed, flat_map, has_key}
+use Rattle.ufs_laws.proofs.Common.{is_well_formed, lacks_result, le-ltb, length, list_all, not, refl, rpmb_outcome, suc}
+use Rattle.ufs_laws.proofs.Common.{sym, true, ℕ, ◌*◌, ◌+◌, ◌==◌, ◌∙◌, ◌∷◌, ◌≡◌}
+use Rattle.std.proofs.lemmas.Bool.{eq-eqb, eqb-true, false_from_ne_true}
+use Rattle.ufs_spec.specs.Rpmb.{Region, agrees, changed_by, fails_if, has_wrong_mac, is_past_area, same_bytes}
+use Rattle.ufs_spec.specs.Rpmb.{with_end_bit}
 use Rattle.ufs_laws.specs.RpmbWrites.{IsRightWrite, SaysTheSame}
 
 agree : (f g : Frame) → SaysTheSame f g → agrees f g ≡ true
@@ -36,34 +32,34 @@ module _ (number : ℕ) (region : Region) (r : Registers) (f : Frame) (fs : List
   abbrev written : Command
   written = RpmbWrite number f.address (flat_map (λ (g : Frame). g.payload) (f ∷ fs))
 
-  formed : is_well_formed f fs ≡ true
+  pub formed : is_well_formed f fs ≡ true
   formed =
       let kind : (f.kind == 3) ≡ true = eq-eqb f.kind 3 is.kind in
       let all = all_agree f fs is.agree in
       let count : (f.count == length fs + 1) ≡ true = eq-eqb f.count (length fs + 1) (omega (arith, is.count)) in
       rw (kind, all, count) refl
 
-  not_lacking : lacks_result f r ≡ false
+  pub not_lacking : lacks_result f r ≡ false
   not_lacking = let kind = is.kind in rw kind refl
 
   its_command : command_in number f fs ≡ Some written
   its_command = let kind = is.kind in rw kind refl
 
-  key_set : has_key region ≡ true
+  pub key_set : has_key region ≡ true
   key_set = let key = is.is_key in rw key refl
 
-  not_at_end : (region.counter == counter_end) ≡ false
+  pub not_at_end : (region.counter == counter_end) ≡ false
   not_at_end =
       false_from_ne_true (region.counter == counter_end)
       (λ e. is.below_end (eqb-true region.counter counter_end e))
 
-  not_past : is_past_area region f ≡ false
+  pub not_past : is_past_area region f ≡ false
   not_past = le-ltb (length region.area) (256 * (f.address + f.count)) is.within
 
-  mac_right : has_wrong_mac region.key f fs ≡ false
+  pub mac_right : has_wrong_mac region.key f fs ≡ false
   mac_right = let key = is.is_key in let mac = is.mac in rw (key, mac, same_refl) refl
 
-  present : (f.counter == region.counter) ≡ true
+  pub present : (f.counter == region.counter) ≡ true
   present = eq-eqb f.counter region.counter is.counter
 
   of_write : checks region false f fs
