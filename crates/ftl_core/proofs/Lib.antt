@@ -1,3 +1,4 @@
+mod Common
 pub mod collected
 pub mod FirstWaiting
 pub mod group_settled

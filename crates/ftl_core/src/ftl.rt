@@ -406,6 +406,9 @@ impl Ftl {
         ensures described_found { (t : Translation) → Describes self.old t → result ≡ nat_le blocks (layer_slots t) }
         ensures described { (t : Translation) → Describes self.old t →
             Describes self.new (if result then moved t (Claim blocks) else t) }
+        // Whatever a stop leaves then is right.
+        ensures stop { (t : Translation) → Describes self.old t →
+            StopsRight self.new (if result then moved t (Claim blocks) else t) }
         // The slots of a reader who had claimed none hold zeros, and those of the others what they held.
         ensures claims { (claims : Claims) → AreClaimed self.old claims → claims reader ≡ [] → AreClaimed self.new
             (if result then with_claimed claims reader (replicate blocks zero_block) else claims) }
@@ -431,6 +434,9 @@ impl Ftl {
         // As many slots are given back as blocks lie in them.
         ensures described_blocks { (t : Translation) (blocks : List (List ℕ)) → Describes self.old t →
             AreClaimedBy self.old reader blocks → Describes self.new (moved t (Release (length blocks))) }
+        // Whatever a stop leaves then is right.
+        ensures stop { (t : Translation) → Describes self.old t →
+            StopsRight self.new (moved t (Release (length (claims_for self.old reader)))) }
         ensures claims { (claims : Claims) → AreClaimed self.old claims →
             AreClaimed self.new (with_claimed claims reader []) }
     {
@@ -451,6 +457,10 @@ impl Ftl {
         ensures described { (t : Translation) (blocks : List (List ℕ)) → Describes self.old t →
             AreClaimedBy self.old reader blocks →
             Describes self.new (moved t (Release (length blocks - count))) }
+        // Whatever a stop leaves then is right.
+        ensures stop { (t : Translation) (blocks : List (List ℕ)) → Describes self.old t →
+            AreClaimedBy self.old reader blocks →
+            StopsRight self.new (moved t (Release (length blocks - count))) }
         ensures claims { (claims : Claims) → AreClaimed self.old claims →
             AreClaimed self.new (with_claimed claims reader (take count (claims reader))) }
         // It takes no number.
@@ -473,6 +483,8 @@ impl Ftl {
         ensures after { self.new ≡ filled self.old reader index body.now }
         // What is claimed shows in the layer by its number alone.
         ensures described { (t : Translation) → Describes self.old t → Describes self.new t }
+        // Whatever a stop leaves then is right.
+        ensures stop { (t : Translation) → Describes self.old t → StopsRight self.new t }
         ensures claims { (claims : Claims) → AreClaimed self.old claims →
             AreClaimed self.new (with_block claims reader index body.now) }
     {
@@ -522,6 +534,8 @@ impl Ftl {
     pub fn unpin(&mut self, reader: u8)
         ensures after { self.new ≡ unpinned self.old reader }
         ensures described { (t : Translation) → Describes self.old t → Describes self.new (moved t (LetGoAll reader)) }
+        // Whatever a stop leaves then is right.
+        ensures stop { (t : Translation) → Describes self.old t → StopsRight self.new (moved t (LetGoAll reader)) }
         // What it waited for may be acknowledged, once it is durable.
         ensures described_told { (t : Translation) (count : ℕ) → Describes self.old t →
             before_accepted t.ledger + count ≤ t.ledger.frontier →
@@ -544,6 +558,9 @@ impl Ftl {
         ensures after { self.new ≡ next_wanted self.old reader index }
         ensures described { (t : Translation) → Describes self.old t →
             Describes self.new (moved (moved t (LetGo reader index)) (WantPage reader (index + 1))) }
+        // Whatever a stop leaves then is right.
+        ensures stop { (t : Translation) → Describes self.old t →
+            StopsRight self.new (moved (moved t (LetGo reader index)) (WantPage reader (index + 1))) }
         ensures claims { (claims : Claims) → AreClaimed self.old claims → AreClaimed self.new claims }
     {
         self.forget_one(reader, index);

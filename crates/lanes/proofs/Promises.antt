@@ -1,35 +1,27 @@
 -- What threads do is a life, and a stop among them is one of a run.
-use Rattle.std.proofs.Common.{◌≡◌, ◌∙◌, List, [], ◌∷◌, ◌++◌, inr, map, sym, ap, subst}
-use Rattle.std.specs.Global.{Vec}
+use Rattle.lanes.proofs.Common.{DieState, Entry, Event, Fits, IsLegal, IsOpening, IsStart, Legal, List, Numbers}
+use Rattle.lanes.proofs.Common.{Opening, Output, State, Vec, WorldState, [], ap, array_of, inr, map, numbers_of, subst}
+use Rattle.lanes.proofs.Common.{sym, ◌++◌, ◌∙◌, ◌∷◌, ◌≡◌}
 use Rattle.std.specs.Prelude.{take}
 use Rattle.std.proofs.lemmas.List.{append-nil}
 use Rattle.ufs_spec.specs.Configs.{IsConfig}
-use Rattle.ufs_spec.specs.Dies.{DieState}
-use Rattle.ufs_spec.specs.Lives.{Fit, GoesOn, IsOpened, Runs, Stops, array_of, bad_in, bad_of}
+use Rattle.ufs_spec.specs.Lives.{Fit, GoesOn, IsOpened, Runs, Stops, bad_in, bad_of}
 use Rattle.ufs_spec.specs.Plain.{Plain, after}
-use Rattle.ufs_spec.specs.Refusals.{State, numbers_of}
 use Rattle.ufs_spec.specs.Sound.{Suits}
-use Rattle.ufs_spec.specs.declared.configs.Numbers.{Numbers}
-use Rattle.ufs_spec.specs.declared.events.Event.{Event}
 use Rattle.ufs_spec.specs.declared.events.Event.TheVariants as event
 use Rattle.ufs_spec.specs.declared.events.Leftover.{Leftover}
-use Rattle.ufs_spec.specs.declared.events.Output.{Output}
 use Rattle.ufs_spec.specs.declared.events.Output.TheVariants as output
 use Rattle.power_loss.proofs.die_pages.BlankOutsideDies.{fit_inside}
 use Rattle.power_loss.proofs.lives.ChainedLives.{life_continues}
-use Rattle.power_loss.proofs.lives.LivesOfRuns.{headline, life_runs, lives_of, lives_right, more}
+use Rattle.power_loss.proofs.lives.LivesOfRuns.{life_runs, more}
 use Rattle.power_loss.proofs.lives.NextLife.{prefix_left, sound_left, suits_left, within_left}
 use Rattle.power_loss.proofs.openings.EachSoundArrayOpens.{any_opens}
 use Rattle.power_loss.specs.Exchange.{IsArrayOf}
-use Rattle.device.specs.Kept.{WorldState}
-use Rattle.device.specs.Worlds.{Fits, KeepsThePromise, dies_stopped}
+use Rattle.device.specs.Worlds.{KeepsThePromise, dies_stopped}
 use Rattle.device.proofs.dies_of_world.LeftDies.{stops_by}
+use Rattle.device.proofs.dies_of_world.Runs.{promise}
 use Rattle.device.proofs.dies_of_world.StoppedWorld.{are_lawful, are_leftovers}
-use Rattle.lanes.specs.declared.view.Entry.{Entry}
-use Rattle.lanes.specs.declared.view.Opening.{Opening}
-use Rattle.lanes.specs.Legal.{Legal}
 use Rattle.lanes.specs.Promised.{IsLife, IsStoppedSafely, KeepsItsPromise, KeepsItsPromiseStopped, MayBeStopped}
-use Rattle.lanes.specs.Rule.{IsLegal, IsOpening, IsStart}
 use Rattle.lanes.proofs.Opened.{begins, fit_of, fits_first, is_config, same_numbers}
 
 -- Lists of steps are lives
@@ -66,16 +58,7 @@ module _ {D : Type 0} (state : D → DieState) (opening : Opening D) (is : IsOpe
   keeps : (s t : State) (es : List Event) (os : List Output) → IsOpened n (array_of ds) (bad_of ds) s →
       Runs n s es os t → KeepsThePromise n ds es os
   keeps s t es os opened runs =
-      let l = lives_of opened runs in
-      record {
-        headline = headline n ds s t es os config fit is.sound opened runs;
-        first = l.first;
-        later = l.later;
-        lives = l.lives;
-        right =
-            lives_right n (array_of ds) (bad_of ds) l.first l.later es os config
-            (record { inside = fit_inside n ds fit; sound = is.sound; suits = suits }) l.lives;
-      }
+      promise n ds es os s t config (record { fit = fit; suits = suits }) is.sound opened runs
 
   -- without a stop
   pub list_keeps : (list : List Entry) → IsLegal state opening list → KeepsItsPromise state opening list [] []

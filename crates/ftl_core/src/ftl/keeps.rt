@@ -9,6 +9,7 @@ ghost use Rattle.readers.specs.Pins.{most_pins};
 ghost use Rattle.ftl_core.specs.Describes.{Describes};
 ghost use Rattle.ftl_core.specs.Moves.{kept_all, pin_now};
 ghost use Rattle.ftl_core.specs.Public.{AreClaimed, Claims};
+ghost use Rattle.ftl_core.specs.Stops.{StopsRight};
 ghost use Rattle.ftl_core.specs.Tells.{PinsDiffer, keeps_area_of, keeps_for, keeps_of, key_behind};
 
 use super::Ftl;
@@ -32,6 +33,11 @@ impl Ftl {
             ((i : ℕ) → i < blocks → IsKey (shape_of_numbers t.numbers) (key_behind key i)) →
             list_any (keeps_for reader) t.pins ≡ false →
             Describes self.new (if result then fold moved t (keeps_of t reader key blocks) else t) }
+        // Whatever a stop leaves then is right.
+        ensures stop { (t : Translation) → Describes self.old t → key.kind ≡ 1 →
+            ((i : ℕ) → i < blocks → IsKey (shape_of_numbers t.numbers) (key_behind key i)) →
+            list_any (keeps_for reader) t.pins ≡ false →
+            StopsRight self.new (if result then fold moved t (keeps_of t reader key blocks) else t) }
         ensures claims { (claims : Claims) → AreClaimed self.old claims → AreClaimed self.new claims }
     {
         self.has_numbers_in_range();
@@ -54,6 +60,11 @@ impl Ftl {
             ((i : ℕ) → i < pages → IsKey (shape_of_numbers t.numbers) (key_behind key i)) →
             list_any (keeps_for reader) t.pins ≡ false →
             Describes self.new (if result then fold moved t (keeps_area_of t reader key pages) else t) }
+        // Whatever a stop leaves then is right.
+        ensures stop { (t : Translation) → Describes self.old t →
+            ((i : ℕ) → i < pages → IsKey (shape_of_numbers t.numbers) (key_behind key i)) →
+            list_any (keeps_for reader) t.pins ≡ false →
+            StopsRight self.new (if result then fold moved t (keeps_area_of t reader key pages) else t) }
         ensures claims { (claims : Claims) → AreClaimed self.old claims → AreClaimed self.new claims }
     {
         self.has_numbers_in_range();
