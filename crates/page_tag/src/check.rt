@@ -5,7 +5,8 @@ ghost use Rattle.ufs_spec.specs.Pages.{IsCheckRight, check_of};
 use sha256_lanes::{OneHash, sha256_four};
 use ufs_spec::{Block, Page};
 
-/// The check of a block and of the first 64 spare bytes: one SHA-256.
+/// The check of a block and of the first 64 spare bytes, the last 32 bytes of a page with both: one SHA-256 (FIPS
+/// 180-4).
 pub fn check_bytes(body: &Block, front: &[u8]) -> [u8; 32]
     ensures { result ≡ check_of body.now front.now }
 {

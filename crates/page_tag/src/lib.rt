@@ -14,6 +14,7 @@ mod owed;
 mod page;
 mod zeros;
 
+pub use check::check_bytes;
 pub use contents::{Content, Mark, content_of, contents_of_four};
 pub use facts::one_seal;
 pub use jobs::{UnsealedJob, tag_read};
