@@ -4,6 +4,6 @@ mod EachRegion
 mod EntryFacts
 mod HeldUnits
 mod KeptEntries
-mod SettingLines
+pub mod SettingLines
 mod ShownFacts
-mod UnmapLists
+pub mod UnmapLists

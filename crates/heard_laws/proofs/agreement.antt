@@ -1,0 +1,4 @@
+pub mod Agreement
+pub mod PairsKept
+pub mod PairsOpened
+pub mod PairsChanged

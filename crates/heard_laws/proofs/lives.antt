@@ -1,0 +1,8 @@
+pub mod LockStays
+pub mod SettledAgree
+pub mod EventsAgree
+pub mod KeptEntries
+pub mod LivesAgree
+pub mod BaseRegions
+pub mod HeardLives
+pub mod MessagesAlone

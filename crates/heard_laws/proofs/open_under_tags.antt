@@ -1,0 +1,3 @@
+pub mod TaggedFinds
+pub mod TaskFinds
+pub mod OpenTasks

@@ -1,0 +1,2 @@
+pub mod RepliesAgree
+pub mod ShortRepliesAgree

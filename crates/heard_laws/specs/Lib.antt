@@ -1,0 +1,3 @@
+pub mod Resolving
+pub mod Listening
+pub mod HeardHeadline
