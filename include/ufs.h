@@ -5,6 +5,12 @@
  * UFS_OK, or why it did nothing. `ufs_fault_text` says each in words. Under each call stand the
  * faults that it answers.
  *
+ * Promised, and proved, of any list of calls on a handle with dies in memory, new ones or those of an
+ * image that a handle of the same configuration saved (no law has `ufs_settle`, which makes turns and
+ * jobs): after each power cut the device holds the effect of the first k commands
+ * that it accepted, for some k, and every command that was acknowledged as durable is among them.
+ * The caller owes the rules below, and an image in the bytes in which it was saved.
+ *
  * The library does not check these rules, so the caller has to keep them:
  *
  * - No pointer is NULL, not even one to an empty range. A pointer leads to as many objects as the
@@ -123,7 +129,7 @@ enum ufs_outcome {
 enum ufs_left {
     UFS_LEFT_OLD = 0, /* what was there before */
     UFS_LEFT_NEW = 1, /* what the job was to make of it */
-    UFS_LEFT_TORN = 2 /* zeros, which do not pass the check of a page */
+    UFS_LEFT_TORN = 2 /* the same, but for one bit of the check of each page, which so fails */
 };
 
 /*
@@ -239,7 +245,9 @@ uint32_t ufs_settle(ufs_device *device, uint16_t rounds);
  * then opened again over the dies, and mends, so let it settle.
  *
  * UFS_NO_DEVICE; UFS_HAS_OWN_DIES; UFS_BAD_NUMBER if one of the numbers is no `ufs_left`, or if
- * there are more than 256. Nothing changes then. After UFS_NO_MEMORY the handle holds no device.
+ * there are more than 256. Nothing changes then. After UFS_NO_MEMORY the power stays off: the handle
+ * keeps the dies as the stop left them, and answers UFS_NO_DEVICE to all but `ufs_image_length`,
+ * `ufs_save`, `ufs_close` and a further `ufs_stop`, which opens the device if it gets the memory.
  */
 uint32_t ufs_stop(ufs_device *device, const uint8_t *lefts, size_t count);
 

@@ -4,6 +4,12 @@
  * `ufs_open_dies` reads what the dies hold, and opens a device over it; `ufs_work_die` lets a die
  * do the next job that the device has for it. After a power failure close the device, and open it
  * anew over the dies. What this header does is not proved: it is C over calls that are.
+ *
+ * The promise of ufs.h holds over such dies too. For it the caller owes this: a die that answers that
+ * it did a job did just this job, and a read gave what is there; a program or an erase that failed, or
+ * that a power failure interrupted, leaves each page that it touches as it was, as intended, or with a
+ * check that does not match; and nothing else changes a page. Before the first opening the dies are
+ * new, or hold what such a device left.
  */
 #ifndef UFS_DIES_H
 #define UFS_DIES_H

@@ -30,7 +30,7 @@ CRATE = ROOT / "crates" / "memory_refused"
 ROW, OPENED = ("row",), ("opened",)
 CALLS = tuple(("refused", it) for it in (
     "MemDie::new", "scan", "scan_parallel", "Device::from_found", "Device::open", "open_parallel", "Shared::new",
-    "World::new", "World::step", "run"))
+    "World::new", "World::step", "run", "Handle::stop"))
 HEAD = ("butcherford: each allocation of the calls is refused in a run of its own; "
         "about 6 minutes on four processors, 12 on two")
 ROW_HEAD = "butcherford: the allocations of a row are counted; about a minute"

@@ -23,6 +23,8 @@ FIRST_TAG, TAGS = 0x80, 0x80
 BECOMING_READY = (2, 0x04, 1)
 OUT_OF_RANGE, BAD_NUMBER = 4, 12
 LEFT_OLD, LEFT_NEW, LEFT_TORN = range(3)
+# The fault of a call to which memory was refused (ufs.h).
+NO_MEMORY = 3
 
 
 class UnitNumbers(NamedTuple):
@@ -340,13 +342,19 @@ class Device:
         self.power_on(mend=mend)
 
     def power_off(self, *, new: Iterable[int] = (), torn: Iterable[int] = ()) -> None:
-        """The first half of a `power_cut`: from now on each call raises `PowerCut`."""
+        """The first half of a `power_cut`: from now on each call raises `PowerCut`.
+
+        It raises `UfsError` where memory was refused: the power stays off then, and the dies are kept. `image`
+        gives them, a further `power_off` may open the device, and each other call raises `DeviceClosed`.
+        """
         lefts = (ctypes.c_uint8 * max(1, self.dies))()
         for dies, left in ((new, LEFT_NEW), (torn, LEFT_TORN)):
             for die in dies:
                 lefts[self._die(die)] = left
-        self._expect(self._calls.ufs_stop(self._at(), lefts, self.dies))
-        self._kept.clear()
+        number = self._calls.ufs_stop(self._at(), lefts, self.dies)
+        if number in (0, NO_MEMORY):
+            self._kept.clear()
+        self._expect(number)
         self._is_off = True
 
     def power_on(self, *, mend: bool = True) -> None:

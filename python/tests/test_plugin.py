@@ -6,6 +6,8 @@ program, and one of two blocks is two. Each has three cuts. One run is without a
 import pytest
 
 HEAD = """
+import hashlib
+
 import pytest
 from butcherford import PowerCut
 
@@ -98,8 +100,11 @@ def test_write(device, power_cuts, request):
     name = request.node.name
     has_gone = name.endswith(("old]", "torn]"))
     assert device.units[0].read(0) == (ZEROS if has_gone else NEW)
-    page = ZEROS if name.endswith("torn]") else b"\\xff" * 4096 if has_gone else NEW
-    assert device.image()[14 + 1 + 4192:][:4096] == page
+    page = device.image()[14 + 1 + 4192:][:4192]
+    assert page[:4096] == (b"\\xff" * 4096 if name.endswith("old]") else NEW)
+    right = hashlib.sha256(page[:4160]).digest()
+    torn = bytes([right[0] ^ 1]) + right[1:]
+    assert page[4160:] == (b"\\xff" * 32 if name.endswith("old]") else torn if name.endswith("torn]") else right)
 """)
     result.assert_outcomes(passed=5)
 

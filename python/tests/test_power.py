@@ -45,13 +45,14 @@ def page_of(image, pages, job):
 
 @pytest.mark.parametrize("left", ["old", "new", "torn"])
 def test_the_page_that_a_cut_leaves(left, device):
-    """It is blank, which is FFh, or as intended, or zeros in all bytes."""
+    """It is blank, which is FFh, or as intended, or has the lowest bit of its check turned (docs/FORMATS.md)."""
     device.host(WRITE)
     device.reply()
     device.host(DATA)
     job = device.take(0)
     device.power_cut(new=[0] if left == "new" else [], torn=[0] if left == "torn" else [], mend=False)
-    wanted = {"old": b"\xff" * 4192, "new": job.body + job.spare, "torn": bytes(4192)}
+    check = bytes([job.spare[64] ^ 1]) + job.spare[65:]
+    wanted = {"old": b"\xff" * 4192, "new": job.body + job.spare, "torn": job.body + job.spare[:64] + check}
     assert page_of(device.image(), 16, job) == wanted[left]
 
 

@@ -19,12 +19,14 @@ mod dies;
 mod events;
 mod fault;
 mod five_calls;
+mod handles;
 mod shares;
 mod worlds;
 
 use crate::calls::{Readers, new_die, open_device, open_found, scan_dies};
 use crate::fault::Fault;
 use crate::five_calls::{open, play};
+use crate::handles::stop_handle;
 use crate::shares::share_device;
 use crate::worlds::{new_world, run_events, stop_world};
 use anyhow::{Result, bail};
@@ -33,7 +35,7 @@ use std::thread::Threads;
 use std::{env, io};
 
 /// The names of the calls, in the order in which the program goes through them.
-const CALLS: [&str; 10] = [
+const CALLS: [&str; 11] = [
     "MemDie::new",
     "scan",
     "scan_parallel",
@@ -44,6 +46,7 @@ const CALLS: [&str; 10] = [
     "World::new",
     "World::step",
     "run",
+    "Handle::stop",
 ];
 
 /// So often is memory taken at most to see when it is refused.
@@ -88,6 +91,7 @@ fn make<R: Threads + Sync>(rt: &R, alloc: Global, name: &str) -> Result<(), Faul
         "World::new" => new_world(alloc),
         "World::step" => stop_world(alloc),
         "run" => run_events(alloc),
+        "Handle::stop" => stop_handle(alloc),
         _ => Err(Fault::Wrong("there is no such call")),
     }
 }

@@ -22,7 +22,7 @@ new_fit n = (
 )
 
 -- a die among new ones is blank, and so is the one that stands for a die that is not there
-all_blank : (dies blocks pages : ℕ) (p : Place) → array_of (replicate dies (new_die blocks pages)) p ≡ blank_page
+pub all_blank : (dies blocks pages : ℕ) (p : Place) → array_of (replicate dies (new_die blocks pages)) p ≡ blank_page
 all_blank dies blocks pages p =
     elim (cases_lt p.die dies) [
       | inl less ↦

@@ -2,9 +2,9 @@
 use Rattle.std.proofs.Common.{◌≡◌, ℕ, zero, suc, ◌+◌, ◌*◌, List, [], ◌∷◌, ◌++◌, add-one, arith, length, length-append, refl}
 use Rattle.std.proofs.Common.{subst, sym}
 use Rattle.std.proofs.Math.Nat.{suc-mul, zero-mul}
-use Rattle.std.specs.Prelude.{Bool, Some, None}
+use Rattle.std.specs.Prelude.{Bool}
 use Rattle.ufs_handle.specs.Calls.{Turns, Works}
-use Rattle.ufs_handle.specs.Exports.{GivesJob}
+use Rattle.ufs_handle.specs.Exports.{HandsJob}
 use Rattle.ufs_handle.specs.Kept.{HeldState}
 use Rattle.ufs_handle.specs.declared.plain.PlainJob.{PlainJob}
 use Rattle.ufs_handle.specs.Steps.{Step, Taking, Walks, Working, die_steps, round_steps, settle_steps}
@@ -18,13 +18,12 @@ then (step ∷ first) later h between after one other =
 
 -- one more die takes a job and does it
 pub one_more_die : (die : ℕ) (h before taken after : HeldState) (shown other : PlainJob) (given did : Bool) →
-    Walks (round_steps die) h before → GivesJob die shown other (Some before) (Some given) (Some taken) →
+    Walks (round_steps die) h before → HandsJob die shown other before given taken →
     Works die taken did after → Walks (round_steps (die + 1)) h after
-one_more_die die h before taken after shown other given did walked (Some job, is, takes, is_shown) works =
+one_more_die die h before taken after shown other given did walked (job, is, takes, is_shown) works =
     subst (λ (n : ℕ). Walks (round_steps n) h after) (sym (add-one die))
     (then (round_steps die) (Taking die ∷ Working die ∷ []) h before after walked
     (taken, (job, takes), (after, (did, works), refl)))
-one_more_die die h before taken after shown other given did walked (None, is, takes, is_shown) works = absurd takes
 
 -- one more round
 pub one_more_round : (dies round : ℕ) (h before after : HeldState) → Walks (settle_steps dies round) h before →

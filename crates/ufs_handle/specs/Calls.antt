@@ -1,6 +1,6 @@
 -- What a call makes of a device that a C program holds.
-use Rattle.std.specs.Prelude.{◌<◌, ◌≡◌, ℕ, Bool, true, false, List, [], Option, Some, None, Result, Ok, Err, length}
-use Rattle.std.specs.Prelude.{replicate, slice_set}
+use Rattle.std.specs.Prelude.{◌<◌, ◌≡◌, ◌⊎◌, ℕ, Bool, true, false, List, [], Option, Some, None, Result, Ok, Err, length}
+use Rattle.std.specs.Prelude.{IfNone, OnErr, replicate, slice_set}
 use Rattle.ufs_spec.specs.Cells.{Array}
 use Rattle.ufs_spec.specs.Dies.{CanDo, DieState, after_job, outcome_of}
 use Rattle.ufs_spec.specs.Lives.{Fit, IsOpened, array_of, bad_of}
@@ -23,12 +23,18 @@ use Rattle.ufs_handle.specs.declared.left.Left.{Left}
 
 -- ## A handle
 
--- a call of a handle: one that holds no device answers nothing and stays so; any other holds one afterwards too, which
--- is as `Made` says
+-- a call of a handle: one that holds no device, or one whose power is off, answers nothing and stays as it is; any other
+-- holds one afterwards too, which is as `Made` says
 abbrev pub Called : {A : Type 0} → (HeldState → A → HeldState → Type 0) → Option HeldState → Option A → Option HeldState → Type 0
 Called Made None None None = Unit {0}
-Called Made (Some h) (Some answer) (Some after) = Made h answer after
+Called Made (Some h) None (Some after) = (h.is_off ≡ true) × (after ≡ h)
+Called Made (Some h) (Some answer) (Some after) = (h.is_off ≡ false) × Made h answer after
 Called Made before answer after = ⊥
+
+-- the handle holds no device, or one whose power is off
+abbrev pub IsOff : Option HeldState → Type 0
+IsOff None = Unit {0}
+IsOff (Some h) = h.is_off ≡ true
 
 -- ## The five calls
 
@@ -39,18 +45,22 @@ IsElseSame h after = after ≡ record h { core = after.core }
 -- the device heard the message
 pub record Hears (message : List ℕ) (h : HeldState) (answer : Result (Unit {0}) HostFault) (after : HeldState) : Type 0 where
   pub rest : IsElseSame h after
+  -- a message that is refused changes nothing
+  pub refused : OnErr answer (after ≡ h)
   pub heard : (s : State) → Describes h.core s → IsHeardAs s message answer after.core
 
 -- a step was ordered, or none was due
 pub record Turns (h : HeldState) (answer : Bool) (after : HeldState) : Type 0 where
   pub rest : IsElseSame h after
+  pub nothing : answer ≡ false → after ≡ h
   pub turned : (s : State) → Describes h.core s → IsAnswered s Turn (OfTurn answer) after.core
 
--- these bytes are a reply that was due, in place of the ones before, or none was due and they are the ones before
+-- these bytes are a reply that was due, in place of the ones before; or none was due, they are the ones before, and
+-- nothing changed
 abbrev pub RepliesSo : List ℕ → List ℕ → DeviceCore → Bool → DeviceCore → Type 0
 RepliesSo before bytes core true after = (s : State) → Describes core s → IsReplied s bytes after
 RepliesSo before bytes core false after =
-    (bytes ≡ before) × ((s : State) → Describes core s → IsAnswered s Reply (OfReply None) after)
+    (bytes ≡ before) × (after ≡ core) × ((s : State) → Describes core s → IsAnswered s Reply (OfReply None) after)
 
 pub record Replies (before bytes : List ℕ) (h : HeldState) (answer : Bool) (after : HeldState) : Type 0 where
   pub rest : IsElseSame h after
@@ -59,6 +69,7 @@ pub record Replies (before bytes : List ℕ) (h : HeldState) (answer : Bool) (af
 -- the die was given a job, or none was due
 pub record Takes (die : ℕ) (h : HeldState) (answer : Option Job) (after : HeldState) : Type 0 where
   pub rest : after ≡ record h { core = after.core; jobs = jobs_given h.jobs die answer }
+  pub nothing : IfNone answer (after ≡ h)
   pub given : (s : State) → Describes h.core s → IsGiven s die answer after.core
 
 -- the device was told that the die's job ended so
@@ -115,6 +126,7 @@ pub record OpensOver (n : Numbers) (dies : List DieState) (core : DeviceCore) : 
   pub described : (s : State) → Sound (array_of dies) → IsOpened n (array_of dies) (bad_of dies) s → Describes core s
   pub found : HasScanned n dies core
   pub suits : Suits n (array_of dies)
+  pub fit : Fit n dies
 
 -- why no device of this configuration is opened over the dies: memory was refused; or they are not as many and as large as
 -- it says, or hold another one, whether they are sound or not
@@ -132,14 +144,21 @@ IsNotOpened n dies (Some h) f = f ≡ fault.Open
 abbrev pub IsOpen : Numbers → List DieState → Option HeldState → Type 0
 IsOpen n dies None = ⊥
 IsOpen n dies (Some h) =
-    (h.config ≡ n) × (h.dies ≡ dies) × (h.jobs ≡ replicate (length dies) None) × OpensOver n dies h.core
+    (h.is_off ≡ false) × (h.config ≡ n) × (h.dies ≡ dies) × (h.jobs ≡ replicate (length dies) None)
+    × OpensOver n dies h.core
 
 -- the dies once the power went from all that the device has in memory
 abbrev pub dies_stopped : List Left → HeldState → List DieState
 dies_stopped lefts h = stopped h.config.pages lefts h.jobs (length h.dies) h.dies
 
--- the power went: each die holds what its job leaves, no die has a job, and the device was opened again
+-- the power went, and is off: each die holds what its job leaves, and no die has a job
+abbrev pub left_off : List Left → HeldState → HeldState
+left_off lefts h =
+    record h { dies = dies_stopped lefts h; jobs = replicate (length h.jobs) None; is_off = true }
+
+-- the power went, and the device was opened again: each die holds what its job leaves, and no die has a job
 pub record Stopped (lefts : List Left) (h after : HeldState) : Type 0 where
+  pub on : after.is_off ≡ false
   pub config : after.config ≡ h.config
   pub dies : after.dies ≡ dies_stopped lefts h
   pub jobs : after.jobs ≡ replicate (length h.jobs) None
@@ -149,11 +168,12 @@ pub record Stopped (lefts : List Left) (h after : HeldState) : Type 0 where
 abbrev pub GivesUp : HeldState → Unit {0} → HeldState → Type 0
 GivesUp h _ after = after ≡ record h { dies = [] }
 
--- the power went from dies in memory; or there are none, and nothing changed; or the device could not be opened again
--- over what they hold then, and the handle holds none
+-- the power went from dies in memory, also where it was off; or there are none, and nothing changed; or the device could
+-- not be opened again over what they hold then: the power is off, and the handle keeps them
 abbrev pub StopsSo : List Left → Option HeldState → Option (Result (Unit {0}) Fault) → Option HeldState → Type 0
 StopsSo lefts None None None = Unit {0}
 StopsSo lefts (Some h) (Some (Ok _)) (Some after) = (0 < length h.dies) × Stopped lefts h after
-StopsSo lefts (Some h) (Some (Err f)) (Some after) = (f ≡ fault.OwnDies) × (length h.dies ≡ 0) × (after ≡ h)
-StopsSo lefts (Some h) (Some (Err f)) None = (0 < length h.dies) × IsUnopened h.config (dies_stopped lefts h) f
+StopsSo lefts (Some h) (Some (Err f)) (Some after) =
+    ((f ≡ fault.OwnDies) × (length h.dies ≡ 0) × (after ≡ h))
+    ⊎ ((0 < length h.dies) × IsUnopened h.config (dies_stopped lefts h) f × (after ≡ left_off lefts h))
 StopsSo lefts before answer after = ⊥

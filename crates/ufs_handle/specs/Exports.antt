@@ -40,7 +40,12 @@ IsHandedOut (Some true) bytes room into count n =
     (n ≡ length bytes) × (length bytes ≤ length room) × (into ≡ bytes ++ drop (length bytes) room)
 IsHandedOut flag bytes room into count n = (into ≡ room) × (n ≡ count)
 
--- a reply was asked for of a handle, and was handed out where one was due
+-- a reply was asked for of a device, and was handed out where one was due
+abbrev pub HandsReply : List ℕ → List ℕ → ℕ → ℕ → HeldState → Bool → HeldState → Type 0
+HandsReply room into count n h flag after =
+    (bytes : List ℕ) × Replies [] bytes h flag after × IsHandedOut (Some flag) bytes room into count n
+
+-- the same of a handle
 abbrev pub GivesReply : List ℕ → List ℕ → ℕ → ℕ → Option HeldState → Option Bool → Option HeldState → Type 0
 GivesReply room into count n before flag after =
     (bytes : List ℕ) × Called (Replies [] bytes) before flag after × IsHandedOut flag bytes room into count n
@@ -66,7 +71,12 @@ abbrev pub is_given : Option (Option Job) → Option Bool
 is_given None = None
 is_given (Some answer) = Some (is_some answer)
 
--- a job for the die was asked for of a handle: whether one was given, and what is shown of it
+-- a job for the die was asked for of a device: whether one was given, and what is shown of it
+abbrev pub HandsJob : ℕ → PlainJob → PlainJob → HeldState → Bool → HeldState → Type 0
+HandsJob die shown after h flag held =
+    (answer : Option Job) × (flag ≡ is_some answer) × Takes die h answer held × IsJobShown (Some answer) shown after
+
+-- the same of a handle
 abbrev pub GivesJob : ℕ → PlainJob → PlainJob → Option HeldState → Option Bool → Option HeldState → Type 0
 GivesJob die shown after before flag held =
     (answer : Option (Option Job)) × (flag ≡ is_given answer) × Called (Takes die) before answer held

@@ -5,5 +5,8 @@ pub mod Holding
 pub mod Kept
 pub mod Left
 pub mod Numbers
+pub mod OwnDies
 pub mod Plain
+pub mod Runs
 pub mod Steps
+pub mod Words

@@ -1,4 +1,5 @@
-//! Calls of the device that a handle holds. Where it holds none they do nothing and answer `None`.
+//! Calls of the device that a handle holds. Where it holds none, or the power is off, they do nothing and
+//! answer `None`; `stop` alone brings the power back.
 ghost use Rattle.std.specs.Prelude.{◌≡◌, ◌≤◌, None, IfErr, OnErr, OnOk, is_some, length};
 ghost use Rattle.ufs_handle.specs.Calls.{Called, Ends, Fails, GivesUp, Hears, IsNotOpened, IsOpen, StopsSo, Turns};
 ghost use Rattle.ufs_handle.specs.Calls.{Works};
@@ -48,7 +49,7 @@ impl Handle {
     pub fn host(&mut self, alloc: Global, message: &[u8]) -> Option<Result<(), HostFault>>
         ensures { Called (Hears message.now) self.old.value result self.new.value }
     {
-        let mut held = self.take(alloc)?;
+        let mut held = self.take_on(alloc)?;
         let answer = held.host(message);
         self.put(held);
         Some(answer)
@@ -59,7 +60,7 @@ impl Handle {
         requires { most_reply ≤ length into.old }
         ensures { GivesReply into.old into.new count.old count.new self.old.value result self.new.value }
     {
-        let mut held = self.take(alloc)?;
+        let mut held = self.take_on(alloc)?;
         let answer = held.reply(into, count);
         self.put(held);
         Some(answer)
@@ -69,7 +70,7 @@ impl Handle {
     pub fn turn(&mut self, alloc: Global) -> Option<bool>
         ensures { Called Turns self.old.value result self.new.value }
     {
-        let mut held = self.take(alloc)?;
+        let mut held = self.take_on(alloc)?;
         let answer = held.turn();
         self.put(held);
         Some(answer)
@@ -79,7 +80,7 @@ impl Handle {
     pub fn take_job(&mut self, alloc: Global, die: u8, shown: &mut PlainJob) -> Option<bool>
         ensures { GivesJob die shown.old shown.new self.old.value result self.new.value }
     {
-        let mut held = self.take(alloc)?;
+        let mut held = self.take_on(alloc)?;
         let answer = held.take(die, shown);
         self.put(held);
         Some(answer)
@@ -89,7 +90,7 @@ impl Handle {
     pub fn done(&mut self, alloc: Global, die: u8, outcome: &Outcome) -> Option<bool>
         ensures { Called (Ends die outcome.now) self.old.value result self.new.value }
     {
-        let mut held = self.take(alloc)?;
+        let mut held = self.take_on(alloc)?;
         let answer = held.done(die, outcome);
         self.put(held);
         Some(answer)
@@ -99,7 +100,7 @@ impl Handle {
     pub fn work(&mut self, alloc: Global, die: u8) -> Option<bool>
         ensures { Called (Works die) self.old.value result self.new.value }
     {
-        let mut held = self.take(alloc)?;
+        let mut held = self.take_on(alloc)?;
         let answer = held.work(die);
         self.put(held);
         Some(answer)
@@ -109,7 +110,7 @@ impl Handle {
     pub fn fail(&mut self, alloc: Global, die: u8, left: Left) -> Option<bool>
         ensures { Called (Fails die left) self.old.value result self.new.value }
     {
-        let mut held = self.take(alloc)?;
+        let mut held = self.take_on(alloc)?;
         let answer = held.fail(die, left);
         self.put(held);
         Some(answer)
@@ -119,7 +120,7 @@ impl Handle {
     pub fn settle(&mut self, alloc: Global, rounds: u16) -> Option<()>
         ensures { Called (Settles rounds) self.old.value result self.new.value }
     {
-        let mut held = self.take(alloc)?;
+        let mut held = self.take_on(alloc)?;
         held.settle(rounds);
         self.put(held);
         Some(())
@@ -129,7 +130,7 @@ impl Handle {
     pub fn give_up_dies(&mut self, alloc: Global) -> Option<()>
         ensures { Called GivesUp self.old.value result self.new.value }
     {
-        let mut held = self.take(alloc)?;
+        let mut held = self.take_on(alloc)?;
         held.give_up_dies();
         self.put(held);
         Some(())
@@ -141,7 +142,7 @@ impl Handle {
     /// # Errors
     ///
     /// `OwnDies` where there are no dies in memory: nothing changes then. Else those of
-    /// `Held::stop`: the handle holds no device then.
+    /// `Held::stop`: the handle keeps the dies, and a further call may open the device.
     pub fn stop(&mut self, alloc: Global, lefts: &[Left]) -> Option<Result<(), Fault>>
         ensures { StopsSo lefts.now self.old.value result self.new.value }
     {
@@ -151,9 +152,7 @@ impl Handle {
             return Some(Err(Fault::OwnDies));
         }
         let answer = held.stop(lefts);
-        if answer.is_ok() {
-            self.put(held);
-        }
+        self.put(held);
         Some(answer)
     }
 }

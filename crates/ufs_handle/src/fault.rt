@@ -3,6 +3,7 @@ ghost use Rattle.std.specs.Prelude.{◌≡◌, ◌<◌, ◌≤◌, length, slice
 ghost use Rattle.ufs_handle.specs.Numbers.{answer_number, config_fault_of, ended_number, fault_number};
 ghost use Rattle.ufs_handle.specs.Numbers.{flag_number, heard_number, host_number, open_number, reply_number};
 ghost use Rattle.ufs_handle.specs.Numbers.{saved_number, stop_number};
+ghost use Rattle.ufs_handle.specs.Words.{IsText, fault_words, host_words};
 
 use ufs_spec::{ConfigFault, HostFault};
 
@@ -175,6 +176,7 @@ pub fn saved_number(answer: &Option<Result<(), Fault>>) -> u32
 /// Writes what the number says, and behind it a zero byte; cut off where the room ends. The answer
 /// is how many bytes stand before the zero byte.
 pub fn copy_text(number: u32, into: &mut [u8]) -> usize
+    ensures said { IsText (fault_words number) into.old result into.new }
     ensures within { result ≤ length into.old }
     ensures ended { 0 < length into.old → (result < length into.old) × (slice_index into.new result ≡ 0) }
 {
@@ -189,7 +191,9 @@ pub fn copy_text(number: u32, into: &mut [u8]) -> usize
 }
 
 /// What the number says, in English.
-fn text(number: u32) -> &'static str {
+fn text(number: u32) -> &'static str
+    ensures { result.now ≡ fault_words number }
+{
     match number {
         0 => "it went well",
         1 => "the handle holds no device",
@@ -211,7 +215,9 @@ fn text(number: u32) -> &'static str {
 }
 
 /// What the number of a message that was not taken says.
-fn host_text(number: u32) -> &'static str {
+fn host_text(number: u32) -> &'static str
+    ensures { result.now ≡ host_words number }
+{
     match number {
         21 => "the message has fewer than 32 bytes",
         22 => "the data segment's length is wrong for the message's kind or for its bytes",

@@ -1,5 +1,6 @@
 //! The handle that a C program keeps.
-ghost use Rattle.std.specs.Prelude.{◌≡◌, None, Some, IfSome, IfNone, is_some};
+ghost use Rattle.std.specs.Prelude.{◌≡◌, None, Some, IfSome, IfNone, false, is_some};
+ghost use Rattle.ufs_handle.specs.Calls.{IsOff};
 
 use crate::bare::Bare;
 use crate::held::Held;
@@ -63,6 +64,20 @@ impl Handle {
         self.is_open = false;
         let bare = replace(&mut self.bare, Bare::none(alloc));
         Some(bare.into_loose().into_box())
+    }
+
+    /// The device that it holds, if its power is on; it holds none from now on.
+    pub fn take_on(&mut self, alloc: Global) -> Option<Box<Held>>
+        ensures some { IfSome result (λ held. (self.old.value ≡ Some held.value) × (held.value.is_off ≡ false)
+            × (self.new.value ≡ None)) }
+        ensures none { IfNone result (IsOff self.old.value × (self.new.value ≡ self.old.value)) }
+    {
+        let held = self.take(alloc)?;
+        if held.is_off() {
+            self.put(held);
+            return None;
+        }
+        Some(held)
     }
 
     /// It holds this device from now on, where it held none.

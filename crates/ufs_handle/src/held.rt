@@ -1,11 +1,11 @@
 //! A device with its dies and their jobs in flight.
-ghost use Rattle.std.specs.Prelude.{◌≡◌, ◌<◌, ◌≤◌, IfErr, IfOk, IfSome, IfNone, None, OnOk, length, replicate};
+ghost use Rattle.std.specs.Prelude.{◌≡◌, ◌<◌, ◌≤◌, IfErr, IfOk, IfSome, IfNone, None, OnErr, OnOk, false, length, replicate};
 ghost use Rattle.std.specs.Prelude.{[], Some, slice_index_or, slice_set, true};
 ghost use Rattle.ufs_spec.specs.Dies.{CanDo, new_die, power_cycle_ended};
 ghost use Rattle.ufs_spec.specs.Lives.{Fit};
 ghost use Rattle.ufs_handle.specs.Calls.{Ends, Fails, Hears, IsUnopened, OpensOver, Stopped, Turns};
-ghost use Rattle.ufs_handle.specs.Calls.{Works, dies_stopped};
-ghost use Rattle.ufs_handle.specs.Exports.{GivesJob, GivesReply, IsHandedOut, most_reply};
+ghost use Rattle.ufs_handle.specs.Calls.{Works, dies_stopped, left_off};
+ghost use Rattle.ufs_handle.specs.Exports.{HandsJob, HandsReply, IsHandedOut, most_reply};
 ghost use Rattle.ufs_handle.specs.Kept.{die_at, job_at};
 ghost use Rattle.ufs_handle.specs.Left.{failed_by, failed_outcome, left_by};
 ghost use Rattle.ufs_handle.specs.Numbers.{open_fault_of};
@@ -36,6 +36,9 @@ pub struct Held {
     dies: Vec<MemDie>,
     /// For each die the job that it was given and has not ended.
     jobs: Vec<Option<Job>>,
+    /// The power went, and memory was refused to open the device again: it says nothing of the dies,
+    /// which have no job in flight.
+    is_off: bool,
     /// Where the device writes a reply, before it goes into a room of the program's: the bytes that it
     /// has between two calls say nothing.
     reply: Upiu,
@@ -86,6 +89,7 @@ impl Held {
     pub fn open(alloc: Global, config: Config, dies: Vec<MemDie>) -> Result<Box<Held>, Fault>
         ensures kept { IfOk result (λ held. (held.value.config ≡ config) × (held.value.dies ≡ dies.items)) }
         ensures idle { IfOk result (λ held. held.value.jobs ≡ replicate (length dies.items) None) }
+        ensures on { IfOk result (λ held. held.value.is_off ≡ false) }
         ensures opened { IfOk result (λ held. OpensOver config dies.items held.value.core) }
         ensures refused { IfErr result (IsUnopened config dies.items) }
     {
@@ -106,6 +110,7 @@ impl Held {
             device,
             dies,
             jobs,
+            is_off: false,
             reply: Upiu::new(),
         };
         match Box::new(alloc, held) {
@@ -127,6 +132,13 @@ impl Held {
         ensures { result.now ≡ self.now.dies }
     {
         self.dies.as_slice()
+    }
+
+    /// Whether the power is off: it went, and memory was refused to open the device again.
+    pub fn is_off(&self) -> bool
+        ensures { result ≡ self.now.is_off }
+    {
+        self.is_off
     }
 
     /// From now on the dies are the program's own: those in memory are given up.
@@ -151,7 +163,7 @@ impl Held {
     /// false, and nothing changes, where none is.
     pub fn reply(&mut self, into: &mut [u8], count: &mut usize) -> bool
         requires { most_reply ≤ length into.old }
-        ensures { GivesReply into.old into.new count.old count.new (Some self.old) (Some result) (Some self.new) }
+        ensures { HandsReply into.old into.new count.old count.new self.old result self.new }
     {
         self.reply.clear();
         if !self.device.reply(&mut self.reply) {
@@ -171,7 +183,7 @@ impl Held {
     /// A job for the die, which is then in flight, also as numbers and bytes; false, and these stay,
     /// where the die is owed none, has one in flight or is none of the device.
     pub fn take(&mut self, die: u8, shown: &mut PlainJob) -> bool
-        ensures { GivesJob die shown.old shown.new (Some self.old) (Some result) (Some self.new) }
+        ensures { HandsJob die shown.old shown.new self.old result self.new }
     {
         match &self.device.take(die) {
             Some(job) => {
@@ -319,13 +331,15 @@ impl Held {
     /// # Errors
     ///
     /// `NoMemory` where memory was refused, and `OtherConfig` where the dies hold another
-    /// configuration, which no device writes. The device is of no use then.
+    /// configuration, which no device writes. The power stays off then, and the dies are kept.
     pub fn stop(&mut self, lefts: &[Left]) -> Result<(), Fault>
         ensures stopped { OnOk result (Stopped lefts.now self.old self.new) }
         ensures refused { IfErr result (IsUnopened self.old.config (dies_stopped lefts.now self.old)) }
+        ensures off { OnErr result (self.new ≡ left_off lefts.now self.old) }
     {
         self.leave_all(lefts);
         self.jobs.fill(None);
+        self.is_off = true;
         self.reopen()
     }
 
@@ -352,16 +366,18 @@ impl Held {
         stop(&mut self.dies[index], &job, left, pages);
     }
 
-    /// The device is opened again over the dies.
+    /// The device is opened again over the dies, and the power is on.
     fn reopen(&mut self) -> Result<(), Fault>
-        ensures same { OnOk result (self.new ≡ record self.old { core = self.new.core }) }
+        ensures same { OnOk result (self.new ≡ record self.old { core = self.new.core; is_off = false }) }
         ensures opened { OnOk result (OpensOver self.old.config self.old.dies self.new.core) }
         ensures refused { IfErr result (IsUnopened self.old.config self.old.dies) }
+        ensures nothing { OnErr result (self.new ≡ self.old) }
     {
         if !fit(&self.config, self.dies.as_slice()) {
             return Err(Fault::OtherConfig);
         }
         *self.device = open_device(self.alloc, self.config.copied(), self.dies.as_mut_slice())?;
+        self.is_off = false;
         Ok(())
     }
 }

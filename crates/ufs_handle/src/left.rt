@@ -2,9 +2,10 @@
 ghost use Rattle.std.specs.Prelude.{◌≡◌, ◌<◌, IfNone, IfSome};
 ghost use Rattle.ufs_handle.specs.Plain.{left_number};
 ghost use Rattle.ufs_spec.specs.Dies.{blank_page, power_cycle_ended, with_bad, with_page};
-ghost use Rattle.ufs_handle.specs.Left.{failed_by, failed_outcome, filled, left_by, torn_page};
+ghost use Rattle.ufs_handle.specs.Left.{bit_turned, failed_by, failed_outcome, filled, left_by, torn_page};
 
 use nand_model::{Die, MemDie};
+use page_tag::check_bytes;
 use ufs_spec::{Job, Outcome, Page};
 
 /// What the page of a program, or each page of the block of an erase, holds.
@@ -15,7 +16,7 @@ pub enum Left {
     Old,
     /// What the job was to make of it.
     New,
-    /// Zeros, whose check does not hold.
+    /// What the job was to make of it, with a check of which one bit is turned: it does not hold.
     Torn,
 }
 
@@ -23,12 +24,6 @@ pub enum Left {
 static BLANK: Page = Page {
     body: [0xFF; 4096],
     spare: [0xFF; 96],
-};
-
-/// A page that was torn, in one place.
-static TORN: Page = Page {
-    body: [0; 4096],
-    spare: [0; 96],
 };
 
 /// A page of which all bytes are FFh.
@@ -39,12 +34,23 @@ fn blank() -> &'static Page
     &BLANK
 }
 
-/// A page of which all bytes are zeros.
-#[tactic(auto, unfolding(crate::specs::Left::torn_page))]
-fn torn() -> &'static Page
-    ensures { result.now ≡ torn_page }
+/// The byte with its lowest bit turned.
+fn bit_turned(byte: u8) -> u8
+    ensures { result ≡ bit_turned byte }
 {
-    &TORN
+    if byte % 2 == 0 { byte + 1 } else { byte - 1 }
+}
+
+/// The page with its right check but for one bit of it, so that it does not hold: one SHA-256.
+fn torn(page: &Page) -> Page
+    ensures { result ≡ torn_page page.now }
+{
+    let (front, _) = page.spare.split_at(64);
+    let mut check = check_bytes(&page.body, front);
+    check[0] = bit_turned(check[0]);
+    let mut torn = *page;
+    torn.spare[64..].copy_from_slice(&check);
+    torn
 }
 
 impl Left {
@@ -88,12 +94,12 @@ fn leave(die: &mut MemDie, job: &Option<Job>, left: Left, pages: u16)
         Some(Job::Program(place, page)) => match left {
             Left::Old => {}
             Left::New => put_page(die, place.block, place.page, page),
-            Left::Torn => put_page(die, place.block, place.page, torn()),
+            Left::Torn => put_page(die, place.block, place.page, &torn(page)),
         },
         Some(Job::Erase { die: _, block }) => match left {
             Left::Old => {}
             Left::New => fill(die, *block, pages, blank()),
-            Left::Torn => fill(die, *block, pages, torn()),
+            Left::Torn => fill(die, *block, pages, &torn(blank())),
         },
         _ => {}
     }

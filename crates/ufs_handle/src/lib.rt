@@ -22,6 +22,9 @@ pub use fault::{
 };
 pub use handle::Handle;
 pub use held::{Held, new_dies};
-pub use laws::rounds_are_counted;
+pub use laws::{
+    a_torn_page_fails_its_check, calls_keep_the_promise, calls_over_own_dies_keep_the_promise,
+    each_call_is_an_event, rounds_are_counted,
+};
 pub use left::Left;
 pub use plain::{PlainConfig, PlainJob, PlainUnit, config_of, lefts_of, outcome_of};

@@ -1,7 +1,9 @@
 -- How the dies of a device that a handle holds are saved and opened again.
 use Rattle.std.specs.Prelude.{◌≡◌, ◌<◌, ℕ, ◌+◌, ◌*◌, List, Option, Some, None, Result, Ok, Err, length}
-use Rattle.ufs_spec.specs.Dies.{DieState}
+use Rattle.std.specs.List.{All}
+use Rattle.ufs_spec.specs.Dies.{DieState, pages_of}
 use Rattle.ufs_spec.specs.declared.configs.Numbers.{Numbers}
+use Rattle.ufs_spec.specs.declared.flash.Page.{Page}
 use Rattle.ufsim.specs.Images.{IsImage, image_bytes}
 use Rattle.ufsim.specs.declared.image.ImageFault.{ImageFault}
 use Rattle.ufsim.specs.declared.image.ImageFault.TheVariants as image_fault
@@ -24,6 +26,14 @@ abbrev pub IsLength : Option HeldState → Option (Unit {0}) → ℕ → ℕ →
 IsLength None None before after = after ≡ before
 IsLength (Some h) (Some _) before after = after ≡ image_length h.config
 IsLength h answer before after = ⊥
+
+-- a page of 4096 bytes and 96 spare ones, as its type has each page in memory
+abbrev pub IsWhole : Page → Type 0
+IsWhole page = (length page.body ≡ 4096) × (length page.spare ≡ 96)
+
+-- each page of the die is one
+abbrev pub AreWhole : DieState → Type 0
+AreWhole die = (block : ℕ) → All IsWhole (pages_of die block)
 
 -- the bytes are the image of these dies, which are of the sizes that the numbers say
 abbrev pub IsImageOf : PlainConfig → List ℕ → List DieState → Type 0

@@ -1,9 +1,16 @@
 //! Images of the dies of a device that a handle holds.
 #![tactic(auto)]
 
-ghost use Rattle.std.specs.Prelude.{◌≡◌, IfErr, IfOk};
+ghost use Rattle.std.specs.Prelude.{◌≡◌, All, IfErr, IfOk, List, Some};
+ghost use Rattle.ufs_spec.specs.Dies.{DieState};
+ghost use Rattle.ufs_spec.specs.Lives.{Fit};
 ghost use Rattle.ufsim.specs.Images.{image_bytes};
-ghost use Rattle.ufs_images.specs.Saved.{IsLength, IsSaved, OpensImage, SavesTo, image_fault_of, image_length};
+ghost use Rattle.ufs_handle.specs.Calls.{IsOpen};
+ghost use Rattle.ufs_handle.specs.Kept.{HeldState};
+ghost use Rattle.ufs_handle.specs.Plain.{config_numbers};
+ghost use Rattle.ufs_handle.specs.Runs.{Makes, Save};
+ghost use Rattle.ufs_images.specs.Saved.{AreWhole, IsImageOf, IsLength, IsSaved, OpensImage, SavesTo, image_fault_of};
+ghost use Rattle.ufs_images.specs.Saved.{image_length, image_of};
 
 use geometry::Config;
 use nand_model::MemDie;
@@ -129,3 +136,12 @@ fn image_of(alloc: Global, sizes: Sizes, dies: &[MemDie]) -> Result<Vec<u8>, Fau
         Err(_) => Err(Fault::NoMemory),
     }
 }
+
+/// A handle that opens the image of saved dies, with the configuration that they were saved with, holds the same pages and
+/// the same bad blocks as these dies: so the save and the opening are a stop at which each job in flight left what was
+/// there before. Pages in memory have their 4096 and 96 bytes by their type. It does nothing: its contract is a law.
+pub fn an_image_opens_as_it_was_saved()
+    ensures { (h after : HeldState) (others : List DieState) (config : PlainConfig) (units : List PlainUnit) →
+        h.config ≡ config_numbers config units → Fit h.config h.dies → All AreWhole h.dies → All AreWhole others →
+        IsImageOf config (image_of h) others → IsOpen h.config others (Some after) → Makes Save h after }
+{}

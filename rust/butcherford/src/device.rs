@@ -326,7 +326,9 @@ impl Device {
     ///
     /// [`HasOwnDies`](Error::HasOwnDies): open a device over an image of what your dies hold.
     /// [`BadNumber`](Error::BadNumber) where there are more than 256. Nothing changes then.
-    /// [`NoMemory`](Error::NoMemory): the device is closed then, and its dies are gone.
+    /// [`NoMemory`](Error::NoMemory): the power stays off then, and the dies are kept. All calls but
+    /// [`image`](Device::image) and a further [`stop`](Device::stop), which opens the device if it gets
+    /// the memory, answer [`NoDevice`](Error::NoDevice).
     pub fn stop(&mut self, lefts: &[Left]) -> Result<()> {
         let numbers: Vec<u8> = lefts.iter().map(|it| it.number()).collect();
         // SAFETY: as in `host`, of the numbers in place of the message: they are this call's own.

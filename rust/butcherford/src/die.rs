@@ -100,7 +100,7 @@ pub enum Left {
     Old,
     /// What the job was to make of it.
     New,
-    /// Zeros, whose check does not hold.
+    /// What the job was to make of it, with a check of which one bit is turned: it does not hold.
     Torn,
 }
 

@@ -77,7 +77,13 @@ fn image_there_and_back() {
     assert_eq!(device.read(0, 8, 4).unwrap(), wanted);
 }
 
-/// The page is blank, which is FFh, or as intended, or zeros in all bytes; tasks and replies are gone.
+/// The page with the lowest bit of its check turned: the check begins behind 4096 bytes and 64 spare ones.
+fn torn(mut page: [u8; PAGE_BYTES]) -> [u8; PAGE_BYTES] {
+    page[4096 + 64] ^= 1;
+    page
+}
+
+/// The page is blank, which is FFh, or as intended, or has one bit of its check turned; tasks and replies are gone.
 #[test]
 fn what_a_stop_leaves() {
     for left in [Left::Old, Left::New, Left::Torn] {
@@ -92,7 +98,7 @@ fn what_a_stop_leaves() {
         let wanted = match left {
             Left::Old => [0xFF; PAGE_BYTES],
             Left::New => job.content,
-            Left::Torn => [0; PAGE_BYTES],
+            Left::Torn => torn(job.content),
         };
         assert!(image[page..][..PAGE_BYTES] == wanted, "{left:?}");
         device.make_ready().unwrap();
@@ -117,7 +123,7 @@ fn what_a_failed_program_leaves() {
         let wanted = match left {
             Left::Old => [0xFF; PAGE_BYTES],
             Left::New => job.content,
-            Left::Torn => [0; PAGE_BYTES],
+            Left::Torn => torn(job.content),
         };
         assert_eq!(image[block], 1, "the block is bad");
         assert!(image[page..][..PAGE_BYTES] == wanted, "{left:?}");

@@ -280,6 +280,10 @@ fn in_little_memory() {
     assert_eq!(answer, Err(Error::NoMemory));
     assert_eq!(device.turn(), Err(Error::NoDevice));
     assert_eq!(device.reply(), Err(Error::NoDevice));
+    let image = device.image().expect("the dies are kept");
+    assert_eq!(device.stop(&[]), Ok(()));
+    assert_eq!(device.image(), Ok(image));
+    device.make_ready().expect("the power is back");
 }
 
 /// All memory that there is, in ever smaller pieces, down to less than a device takes at once.

@@ -18,6 +18,7 @@ returns-in-Ok-clause-opened c =
       described = c.in-Ok.ensures.described;
       found = c.in-Ok.ensures.found;
       suits = c.in-Ok.ensures.suits;
+      fit = subst (Fit c.args.config) (sym (map-id c.args.dies.now)) c.requires.fit;
     })
 
 pub returns-in-Err-clause-refused : goal.returns-in-Err-clause-refused

@@ -13,6 +13,8 @@ returns-then-not-reply c = (
     rest = search rules;
     replied = (
       refl,
+      (c.reply.ensures.nothing c.if-not-reply.true).0
+          ∙ c.deref_mut.ensures.value ∙ ap (λ (h : HeldState). h.core) c.self.view_is,
       told_so (λ s. IsAnswered s Reply (OfReply None) c.reply.new.self) c.deref_mut.result.now c.args.self.now.core
           (c.deref_mut.ensures.value ∙ ap (λ (h : HeldState). h.core) c.self.view_is)
           (λ s d. c.reply.ensures.silent s d c.if-not-reply.true),

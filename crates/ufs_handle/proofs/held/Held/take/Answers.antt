@@ -6,10 +6,11 @@ use Rattle.ufs_handle.proofs.held.Held.take.Goals as goal
 
 pub returns-in-Some : goal.returns-in-Some
 returns-in-Some c = (
-  Some (Some c.in-Some.job),
+  Some c.in-Some.job,
   refl,
   record {
     rest = search rules;
+    nothing = tt;
     given =
         given_so c.args.die c.deref_mut.result.now c.args.self.now.core c.take.new.self c.note.new.self.core
         c.take.result (Some c.in-Some.job)
@@ -21,10 +22,11 @@ returns-in-Some c = (
 
 pub returns-in-None : goal.returns-in-None
 returns-in-None c = (
-  Some None,
+  None,
   refl,
   record {
     rest = search rules;
+    nothing = search rules;
     given =
         given_so c.args.die c.deref_mut.result.now c.args.self.now.core c.take.new.self c.take.new.self
         c.take.result None

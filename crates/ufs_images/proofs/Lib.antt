@@ -1,0 +1,2 @@
+mod SameImages
+mod SavedDies
