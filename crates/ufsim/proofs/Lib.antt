@@ -1,3 +1,5 @@
+pub mod Counting
 pub mod ImageLemmas
 mod ImageParts
+pub mod Judging
 pub mod SpellingLemmas

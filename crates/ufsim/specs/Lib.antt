@@ -1,2 +1,4 @@
+pub mod Checked
 pub mod Images
 pub mod Spelling
+pub mod Trials

@@ -2,9 +2,12 @@
 //! that opens afterwards holds what a prefix of the accepted commands makes, with each acknowledged
 //! one in it: the blocks of the units, the settings bBootLunEn and fPermanentWPEn, and the key, the
 //! counter and the area of each region of the replay protected memory block.
-ghost use Rattle.journal.specs.Requests.{state_at};
-ghost use Rattle.std.specs.Prelude.{◌≡◌, ◌∷◌, [], IfOk, IfSome, map};
+ghost use Rattle.std.specs.Prelude.{◌≡◌, ◌∷◌, [], Bool, IfOk, IfSome, None, OnOk, Option, Some, map, true};
 ghost use Rattle.ufs_spec.specs.Plain.{shape_of, shape_of_numbers};
+ghost use Rattle.journal.specs.Heard.{told};
+ghost use Rattle.journal.specs.Requests.{state_at};
+ghost use Rattle.ufsim.specs.Trials.{AreCounted, Found, IsMore, IsRight, Trial, counted};
+ghost use Rattle.ufsim.specs.Checked.{GoesOn, IsMade, IsToldAs, IsTrialIn, given_in};
 
 use crate::fault::Word;
 use crate::keys::{Keys, keys_on};
@@ -12,6 +15,7 @@ use crate::reading::{Holdings, Visit, read_dies};
 use crate::stopped::{
     CONTENTS, bad_blocks, copied_dies, is_at_work, is_write, pair_stopped, stopped_dies,
 };
+use crate::tally::Tally;
 use device::World;
 use geometry::Config;
 use journal::{FoundRegion, Journal, device_holding, is_kept};
@@ -40,7 +44,9 @@ pub enum Stops {
 
 impl Stops {
     // Whether any are tried at the moment of this number.
-    fn are_at(&self, moment: usize) -> bool {
+    fn are_at(&self, moment: usize) -> bool
+        ensures { self.now ≡ Stops.One → result ≡ true }
+    {
         match self {
             Stops::SecondOf { part, parts } => moment.checked_rem(*parts) == Some(*part),
             _ => true,
@@ -48,36 +54,41 @@ impl Stops {
     }
 }
 
-/// What was tried so far.
+/// What a life began with, and what its host wrote. The stops of a check are tried in it.
 #[derive(Drop)]
-pub(crate) struct Check {
+pub(crate) struct Life {
     config: Config,
     tries: Stops,
     /// What the life began with; `None` where it began over new dies, or over dies of an image that
     /// were not told rightly.
     base: Option<Holdings>,
     journal: Journal,
-    /// How often a program or an erase was given to a die.
-    moments: usize,
-    /// How many stops were tried.
-    pub stops: usize,
-    /// How many of them the device did not come back from rightly.
-    pub bad: usize,
+}
+
+/// What was tried so far.
+#[derive(Drop)]
+pub(crate) struct Check {
+    life: Life,
+    tally: Tally,
 }
 
 impl Check {
     /// Nothing was tried yet, over new dies.
-    pub fn new(alloc: Global, config: Config, tries: Stops) -> Check {
+    pub fn new(alloc: Global, config: Config, tries: Stops) -> Check
+        ensures tries { result.life.tries ≡ tries }
+        ensures none { result.tally ≡ record { moments = 0; stops = 0; bad = 0 } }
+    {
         let numbers = config.numbers();
         let journal = Journal::new(alloc, numbers, new_regions(numbers));
-        Check {
+        let life = Life {
             config,
             tries,
             base: None,
             journal,
-            moments: 0,
-            stops: 0,
-            bad: 0,
+        };
+        Check {
+            life,
+            tally: Tally::new(),
         }
     }
 
@@ -94,6 +105,15 @@ impl Check {
         Ok(check)
     }
 
+    /// How many stops were tried, and how many of them were bad.
+    pub fn counts(&self) -> (usize, usize)
+        ensures stops { result.0 ≡ self.now.tally.stops }
+        ensures bad { result.1 ≡ self.now.tally.bad }
+        ensures counted { AreCounted self.now.tally.stops self.now.tally.bad }
+    {
+        self.tally.counts()
+    }
+
     /// An event of the script showed this. After a program or an erase was given to a die the stops
     /// are tried.
     pub fn note(
@@ -102,16 +122,19 @@ impl Check {
         world: &World,
         event: &Event,
         output: &Output,
-    ) -> Result<(), Word> {
+    ) -> Result<(), Word>
+        ensures counted { OnOk result (GoesOn (given_in output.now)
+            self.old.life.tries self.old.tally self.new.life.tries self.new.tally) }
+    {
         match output {
-            Output::Host(Ok(_)) => self.hear(alloc, event),
+            Output::Host(Ok(_)) => self.life.hear(alloc, event),
             Output::Reply(Some(message)) => {
-                self.journal.tell(message.as_slice());
+                self.life.tell(message.as_slice());
                 Ok(())
             }
             Output::Take(Some(job)) if is_write(job) => self.stop_here(alloc, world),
             Output::Ended => {
-                self.end(world, event);
+                self.life.end(world, event);
                 Ok(())
             }
             Output::Stopped => self.begin_over(alloc, world.dies(), &self.keys()),
@@ -119,16 +142,59 @@ impl Check {
         }
     }
 
+    // The keys that the life programmed or began with.
+    fn keys(&self) -> Keys {
+        self.life.keys()
+    }
+
+    // A life begins over dies of an earlier one; if they are not told rightly, that counts as one
+    // bad stop.
+    fn begin_over(&mut self, alloc: Global, dies: &[MemDie], keys: &Keys) -> Result<(), Word>
+        ensures counted { OnOk result
+            (GoesOn 0 self.old.life.tries self.old.tally self.new.life.tries self.new.tally) }
+    {
+        if !self.life.begin_over(alloc, dies, keys)? {
+            self.tally.add_unread();
+        }
+        Ok(())
+    }
+
+    // The stops at this moment, if any are tried at it.
+    #[tactic(auto, using(crate::proofs::Counting::moment_more, crate::proofs::Counting::moment_passed))]
+    fn stop_here(&mut self, alloc: Global, world: &World) -> Result<(), Word>
+        ensures counted { OnOk result
+            (GoesOn 1 self.old.life.tries self.old.tally self.new.life.tries self.new.tally) }
+    {
+        let moment = self.tally.begin_moment();
+        if self.life.tries.are_at(moment) {
+            self.life.stop_now(alloc, world, &mut self.tally)?;
+        }
+        Ok(())
+    }
+}
+
+impl Life {
     // The device took a message.
-    fn hear(&mut self, alloc: Global, event: &Event) -> Result<(), Word> {
+    fn hear(&mut self, alloc: Global, event: &Event) -> Result<(), Word>
+        ensures tries { self.new.tries ≡ self.old.tries }
+    {
         match event {
             Event::Host(message) => Ok(self.journal.hear(alloc, message.as_slice())?),
             _ => Ok(()),
         }
     }
 
+    // The device handed out a reply.
+    fn tell(&mut self, reply: &[u8])
+        ensures told { self.new ≡ record self.old { journal = told self.old.journal reply.now } }
+    {
+        self.journal.tell(reply);
+    }
+
     // A job ended. A program or an erase that failed made a block bad.
-    fn end(&mut self, world: &World, event: &Event) {
+    fn end(&mut self, world: &World, event: &Event)
+        ensures tries { self.new.tries ≡ self.old.tries }
+    {
         if let Event::Fail(_, Some(_)) = event {
             self.lock(world.dies());
         }
@@ -136,51 +202,64 @@ impl Check {
 
     // Where more blocks of the dies are bad than the device has spare ones, nothing more is
     // accepted.
-    fn lock(&mut self, dies: &[MemDie]) {
+    fn lock(&mut self, dies: &[MemDie])
+        ensures tries { self.new.tries ≡ self.old.tries }
+    {
         if bad_blocks(dies) > usize::from(self.config.numbers().spare) {
             self.journal.lock();
         }
     }
 
     // A life begins over dies of an earlier one. Its base is what they read as under the keys that
-    // the earlier one left; if they are not told rightly, that counts as one bad stop.
-    fn begin_over(&mut self, alloc: Global, dies: &[MemDie], keys: &Keys) -> Result<(), Word> {
+    // the earlier one left. It answers whether they are told rightly.
+    fn begin_over(&mut self, alloc: Global, dies: &[MemDie], keys: &Keys) -> Result<bool, Word>
+        ensures tries { self.new.tries ≡ self.old.tries }
+    {
         let copies = copied_dies(alloc, dies)?;
-        match read_dies(alloc, &self.config, copies, keys)? {
-            Some(found) => {
-                let numbers = self.config.numbers();
-                let regions = regions_like(numbers, &found.regions());
-                self.journal = Journal::new(alloc, numbers, regions);
-                self.base = Some(found);
-            }
-            None => self.bad = self.bad.saturating_add(1),
+        let found = read_dies(alloc, &self.config, copies, keys)?;
+        let is_told = found.is_some();
+        if let Some(found) = found {
+            let numbers = self.config.numbers();
+            let regions = regions_like(numbers, &found.regions());
+            self.journal = Journal::new(alloc, numbers, regions);
+            self.base = Some(found);
         }
         self.lock(dies);
-        Ok(())
+        Ok(is_told)
     }
 
-    // The stops at this moment, if any are tried at it.
-    fn stop_here(&mut self, alloc: Global, world: &World) -> Result<(), Word> {
-        let moment = self.moments;
-        self.moments = moment.saturating_add(1);
-        if self.tries.are_at(moment) {
-            self.stop_now(alloc, world)?;
-        }
-        Ok(())
-    }
-
-    fn stop_now(&mut self, alloc: Global, world: &World) -> Result<(), Word> {
-        for content in CONTENTS {
-            let dies = stopped_dies(alloc, world, content)?;
-            match self.tries {
-                Stops::Second | Stops::SecondOf { .. } => self.stop_twice(alloc, dies)?,
-                _ => self.try_stop(alloc, dies)?,
+    // The stops at a program or an erase.
+    fn stop_now(&self, alloc: Global, world: &World, tally: &mut Tally) -> Result<(), Word>
+        ensures stops { OnOk result (self.now.tries ≡ Stops.One → IsMore 3 tally.old tally.new) }
+    {
+        match self.tries {
+            Stops::One => self.stop_once(alloc, world, tally),
+            Stops::Second | Stops::SecondOf { .. } => self.stop_each_twice(alloc, world, tally),
+            Stops::Pairs => {
+                self.stop_once(alloc, world, tally)?;
+                self.stop_pairs(alloc, world, tally)
             }
         }
-        match self.tries {
-            Stops::Pairs => self.stop_pairs(alloc, world),
-            _ => Ok(()),
+    }
+
+    // A stop with each content.
+    fn stop_once(&self, alloc: Global, world: &World, tally: &mut Tally) -> Result<(), Word>
+        ensures stops { OnOk result (IsMore 3 tally.old tally.new) }
+    {
+        for content in CONTENTS {
+            let dies = stopped_dies(alloc, world, content)?;
+            self.try_stop(alloc, dies, tally)?;
         }
+        Ok(())
+    }
+
+    // A stop with each content, and second ones in the mending after it.
+    fn stop_each_twice(&self, alloc: Global, world: &World, tally: &mut Tally) -> Result<(), Word> {
+        for content in CONTENTS {
+            let dies = stopped_dies(alloc, world, content)?;
+            self.stop_twice(alloc, dies, tally)?;
+        }
+        Ok(())
     }
 
     // The keys that the life programmed or began with. No other can be set after a stop.
@@ -197,26 +276,40 @@ impl Check {
     }
 
     // Opens a device over these dies, lets it mend, and compares what it holds.
-    fn try_stop(&mut self, alloc: Global, dies: Vec<MemDie>) -> Result<(), Word> {
+    fn try_stop(&self, alloc: Global, dies: Vec<MemDie>, tally: &mut Tally) -> Result<(), Word>
+        ensures counted { OnOk result ((good : Bool) × (tally.new ≡ counted tally.old good)) }
+    {
         let found = read_dies(alloc, &self.config, dies, &self.keys())?;
-        self.count(alloc, found)
+        self.count(alloc, &found, tally)
     }
 
     // Counts a stop after which this was found; `None` where it was not told rightly.
-    fn count(&mut self, alloc: Global, found: Option<Holdings>) -> Result<(), Word> {
-        let is_good = match found {
-            Some(found) => self.is_kept(alloc, &found)?,
-            None => false,
-        };
-        self.stops = self.stops.saturating_add(1);
-        if !is_good {
-            self.bad = self.bad.saturating_add(1);
-        }
+    fn count(&self, alloc: Global, found: &Option<Holdings>, tally: &mut Tally) -> Result<(), Word>
+        ensures counted { OnOk result
+            ((t : Trial) × IsTrialIn self.now found.now t × IsRight t × (tally.new ≡ counted tally.old t.good)) }
+    {
+        let is_good = self.is_good(alloc, found)?;
+        tally.add(is_good);
         Ok(())
     }
 
+    // Whether a stop after which this was found was good.
+    fn is_good(&self, alloc: Global, found: &Option<Holdings>) -> Result<bool, Word>
+        ensures { IfOk result (λ good.
+            (t : Trial) × IsTrialIn self.now found.now t × IsRight t × (t.good ≡ good)) }
+    {
+        match found {
+            Some(found) => self.is_kept(alloc, found),
+            None => Ok(false),
+        }
+    }
+
     // Whether this is what is there after a prefix of what was accepted in the life.
-    fn is_kept(&self, alloc: Global, found: &Holdings) -> Result<bool, Word> {
+    fn is_kept(&self, alloc: Global, found: &Holdings) -> Result<bool, Word>
+        ensures { IfOk result (λ good.
+            (t : Trial) × IsTrialIn self.now (Some found.now) t × IsRight t × (t.good ≡ good)) }
+    {
+        let rest = found.rest();
         let Some(base) = self.base(alloc)? else {
             return Ok(false);
         };
@@ -226,14 +319,16 @@ impl Check {
             self.journal.entries(),
             self.journal.held(),
             found.units.as_slice(),
-            &found.rest(),
+            &rest,
         ))
     }
 
     // The plain device that the life began with; `None` where what was read is not as large as the
     // units and the area, or has no boot setting.
     fn base(&self, alloc: Global) -> Result<Option<PlainDevice>, Word>
-        ensures { IfOk result (λ o. IfSome o (λ p. shape_of p ≡ shape_of_numbers self.now.config)) }
+        ensures shape { IfOk result (λ o. IfSome o (λ p. shape_of p ≡ shape_of_numbers self.now.config)) }
+        ensures made { IfOk result (λ o.
+            (began : Option Found) × IsToldAs self.now.base began × IsMade self.now.config began o) }
     {
         let numbers = self.config.numbers();
         match &self.base {
@@ -243,31 +338,41 @@ impl Check {
     }
 
     // As `try_stop`, and in the mending a second stop at each program and each erase.
-    fn stop_twice(&mut self, alloc: Global, dies: Vec<MemDie>) -> Result<(), Word> {
+    fn stop_twice(&self, alloc: Global, dies: Vec<MemDie>, tally: &mut Tally) -> Result<(), Word> {
         match Visit::open(alloc, &self.config, dies)? {
-            Some(mut visit) => self.stop_in_mending(alloc, &mut visit),
-            None => self.count(alloc, None),
+            Some(mut visit) => self.stop_in_mending(alloc, &mut visit, tally),
+            None => self.count(alloc, &None, tally),
         }
     }
 
     // The second stops of each round of the mending, and then what the device holds without one.
-    fn stop_in_mending(&mut self, alloc: Global, visit: &mut Visit) -> Result<(), Word> {
+    fn stop_in_mending(
+        &self,
+        alloc: Global,
+        visit: &mut Visit,
+        tally: &mut Tally,
+    ) -> Result<(), Word> {
         for _ in 0..Visit::ROUNDS {
-            if !self.stop_in_round(alloc, visit)? {
+            if !self.stop_in_round(alloc, visit, tally)? {
                 break;
             }
         }
         let found = visit.read_all(self.config.numbers(), &self.keys())?;
-        self.count(alloc, found)
+        self.count(alloc, &found, tally)
     }
 
     // The second stops of one turn and a job of each die: whether there was any work.
-    fn stop_in_round(&mut self, alloc: Global, visit: &mut Visit) -> Result<bool, Word> {
+    fn stop_in_round(
+        &self,
+        alloc: Global,
+        visit: &mut Visit,
+        tally: &mut Tally,
+    ) -> Result<bool, Word> {
         let mut has_worked = visit.turn()?;
         for die in 0..visit.dies {
             if visit.take(die)? {
                 has_worked = true;
-                self.stop_again(alloc, &visit.world, die)?;
+                self.stop_again(alloc, &visit.world, die, tally)?;
                 visit.finish(die)?;
             }
         }
@@ -275,23 +380,29 @@ impl Check {
     }
 
     // The second stops, where this die was just given a job.
-    fn stop_again(&mut self, alloc: Global, world: &World, die: u8) -> Result<(), Word> {
+    fn stop_again(
+        &self,
+        alloc: Global,
+        world: &World,
+        die: u8,
+        tally: &mut Tally,
+    ) -> Result<(), Word> {
         if is_at_work(world, die) {
             for content in CONTENTS {
                 let dies = stopped_dies(alloc, world, content)?;
-                self.try_stop(alloc, dies)?;
+                self.try_stop(alloc, dies, tally)?;
             }
         }
         Ok(())
     }
 
     // The stops with two contents on each two dies.
-    fn stop_pairs(&mut self, alloc: Global, world: &World) -> Result<(), Word> {
+    fn stop_pairs(&self, alloc: Global, world: &World, tally: &mut Tally) -> Result<(), Word> {
         let count = self.config.numbers().dies;
         for first in 0..count {
             for second in 0..count {
                 if first < second && is_at_work(world, first) && is_at_work(world, second) {
-                    self.stop_pair(alloc, world, first, second)?;
+                    self.stop_pair(alloc, world, (first, second), tally)?;
                 }
             }
         }
@@ -299,16 +410,16 @@ impl Check {
     }
 
     fn stop_pair(
-        &mut self,
+        &self,
         alloc: Global,
         world: &World,
-        first: u8,
-        second: u8,
+        pair: (u8, u8),
+        tally: &mut Tally,
     ) -> Result<(), Word> {
         for content in CONTENTS {
             for other in CONTENTS {
-                let dies = pair_stopped(alloc, world, (first, content), (second, other))?;
-                self.try_stop(alloc, dies)?;
+                let dies = pair_stopped(alloc, world, (pair.0, content), (pair.1, other))?;
+                self.try_stop(alloc, dies, tally)?;
             }
         }
         Ok(())
@@ -349,7 +460,8 @@ fn region_of(steps: u8, key: Option<[u8; 32]>, counter: u32) -> RegionState
 
 // A new device.
 fn new_device(alloc: Global, numbers: &Numbers) -> Result<Option<PlainDevice>, Word>
-    ensures { IfOk result (λ o. IfSome o (λ p. shape_of p ≡ shape_of_numbers numbers.now)) }
+    ensures new { IfOk result (λ o. IsMade numbers.now None o) }
+    ensures shape { IfOk result (λ o. IfSome o (λ p. shape_of p ≡ shape_of_numbers numbers.now)) }
 {
     commands_keep_the_shape();
     Ok(Some(PlainDevice::new(alloc, numbers)?))

@@ -18,6 +18,7 @@ mod run;
 mod settings_shown;
 mod spelling;
 mod stopped;
+mod tally;
 mod words;
 
 pub use check::Stops;

@@ -1,4 +1,7 @@
 //! Opens a device again over dies, and reads by messages all that it holds.
+ghost use Rattle.std.specs.Prelude.{◌≡◌, ◌∷◌, [], map, slice_get};
+ghost use Rattle.ufsim.specs.Checked.{IsRest, area_read, counter_read, key_read};
+
 use crate::fault::{Word, word_of};
 use crate::keys::Keys;
 use crate::regions::{Region, targets_of};
@@ -26,7 +29,9 @@ pub(crate) struct Holdings {
 
 impl Holdings {
     /// All but the blocks, for a comparison.
-    pub fn rest(&self) -> FoundRest<'_> {
+    pub fn rest(&self) -> FoundRest<'_>
+        ensures { IsRest self.now result }
+    {
         FoundRest {
             boot: self.settings.boot,
             is_permanent: self.settings.is_permanent,
@@ -35,7 +40,14 @@ impl Holdings {
     }
 
     /// The regions of the replay protected memory block, for a comparison.
-    pub fn regions(&self) -> [FoundRegion<'_>; 4] {
+    pub fn regions(&self) -> [FoundRegion<'_>; 4]
+        ensures keys { map (λ f. f.key) result
+            ≡ map (λ n. key_read (slice_get self.now.regions.items n)) (0 ∷ 1 ∷ 2 ∷ 3 ∷ []) }
+        ensures counters { map (λ f. f.counter) result
+            ≡ map (λ n. counter_read (slice_get self.now.regions.items n)) (0 ∷ 1 ∷ 2 ∷ 3 ∷ []) }
+        ensures areas { map (λ f. f.area.now) result
+            ≡ map (λ n. area_read (slice_get self.now.regions.items n)) (0 ∷ 1 ∷ 2 ∷ 3 ∷ []) }
+    {
         [
             self.region(0),
             self.region(1),
@@ -45,7 +57,11 @@ impl Holdings {
     }
 
     // The region of this number.
-    fn region(&self, number: usize) -> FoundRegion<'_> {
+    fn region(&self, number: usize) -> FoundRegion<'_>
+        ensures key { result.key ≡ key_read (slice_get self.now.regions.items number) }
+        ensures counter { result.counter ≡ counter_read (slice_get self.now.regions.items number) }
+        ensures area { result.area.now ≡ area_read (slice_get self.now.regions.items number) }
+    {
         match self.regions.get(number) {
             Some(region) => region.found(),
             None => FoundRegion {

@@ -93,7 +93,11 @@ impl Region {
     }
 
     /// The same, for a comparison.
-    pub fn found(&self) -> FoundRegion<'_> {
+    pub fn found(&self) -> FoundRegion<'_>
+        ensures key { result.key ≡ self.now.key }
+        ensures counter { result.counter ≡ self.now.counter }
+        ensures area { result.area.now ≡ self.now.area.items }
+    {
         FoundRegion {
             key: self.key,
             counter: self.counter,

@@ -1,5 +1,8 @@
 //! Runs a script line by line.
-ghost use Rattle.std.specs.Prelude.{◌≡◌, ◌≤◌};
+ghost use Rattle.std.specs.Prelude.{◌≡◌, ◌≤◌, ◌↔◌, IfOk, Ok, OnOk, true};
+ghost use Rattle.std.specs.Io.KnownBytes.{Appends};
+ghost use Rattle.ufsim.specs.Checked.{NotesMore, given_in};
+ghost use Rattle.ufsim.specs.Trials.{AreCounted, Tells, TellsGood, check_line};
 
 use crate::check::{Check, Stops};
 use crate::commands::{Command, Content, Left};
@@ -29,7 +32,9 @@ pub fn run_text<W: Write, F: Write>(alloc: Global, script: &[u8], out: &mut W, f
 /// program or erase. The device is opened again, mended and read by messages, and what it holds is
 /// compared with what each prefix of the accepted commands makes that has every acknowledged one.
 /// It writes the line `check stops S bad B` to `out`, or the one line of a fault to `faults`. The
-/// status is 0 if no stop was bad.
+/// status is 0 if no stop was bad. The contract says that S and B are counts over a list of stops,
+/// each counted as good or bad as the journal of its life allows what was read. It does not say that
+/// each program and erase of the script is in that list.
 pub fn check_text<W: Write, F: Write>(
     alloc: Global,
     script: &[u8],
@@ -38,11 +43,13 @@ pub fn check_text<W: Write, F: Write>(
 ) -> u8
     ensures status { result ≤ 1 }
     ensures quiet { result ≡ 0 → faults.new ≡ faults.old }
+    ensures told { result ≡ 0 → TellsGood (W.contents out.old) (W.contents out.new) }
 {
     check_each_text(alloc, script, Stops::One, out, faults)
 }
 
 /// As `check_text`, with the stops that `tries` names. S counts all stops that were tried.
+#[tactic(auto, using(crate::proofs::Counting::tells_good))]
 pub fn check_each_text<W: Write, F: Write>(
     alloc: Global,
     script: &[u8],
@@ -52,6 +59,7 @@ pub fn check_each_text<W: Write, F: Write>(
 ) -> u8
     ensures status { result ≤ 1 }
     ensures quiet { result ≡ 0 → faults.new ≡ faults.old }
+    ensures told { result ≡ 0 → TellsGood (W.contents out.old) (W.contents out.new) }
 {
     status_of(check_script(alloc, script, tries, out, &mut Silent), faults)
 }
@@ -59,6 +67,7 @@ pub fn check_each_text<W: Write, F: Write>(
 /// As `check_text`, for a person who waits: behind each line of the script at which stops were tried
 /// it writes to `progress` which line it was, of how many, and what was counted so far. Each such
 /// line takes the place of the one before, and at the end the last one is taken away.
+#[tactic(auto, using(crate::proofs::Counting::tells_good))]
 pub fn check_shown<W: Write, P: Write, F: Write>(
     alloc: Global,
     script: &[u8],
@@ -68,6 +77,7 @@ pub fn check_shown<W: Write, P: Write, F: Write>(
 ) -> u8
     ensures status { result ≤ 1 }
     ensures quiet { result ≡ 0 → faults.new ≡ faults.old }
+    ensures told { result ≡ 0 → TellsGood (W.contents out.old) (W.contents out.new) }
 {
     let ended = check_script(alloc, script, Stops::One, out, progress);
     status_of(ended, faults)
@@ -76,6 +86,7 @@ pub fn check_shown<W: Write, P: Write, F: Write>(
 // The status of what ended so, whether it went well or not. A fault is told in one line.
 fn status_of<F: Write>(ended: Result<bool, ScriptFault>, faults: &mut F) -> u8
     ensures status { result ≤ 1 }
+    ensures well { result ≡ 0 → ended ≡ Ok true }
     ensures quiet { result ≡ 0 → faults.new ≡ faults.old }
 {
     match ended {
@@ -96,7 +107,9 @@ fn check_script<W: Write, P: Write>(
     tries: Stops,
     out: &mut W,
     progress: &mut P,
-) -> Result<bool, ScriptFault> {
+) -> Result<bool, ScriptFault>
+    ensures { IfOk result (λ well. Tells (W.contents out.old) (W.contents out.new) well) }
+{
     let first = FirstLines::read(script)?;
     let mut runner = first.last.told(Runner::checking(alloc, &first, tries))?;
     runner.check_each(first.rest, out, progress)
@@ -110,7 +123,9 @@ pub(crate) fn check_on<W: Write, P: Write>(
     world: World,
     out: &mut W,
     progress: &mut P,
-) -> Result<bool, ScriptFault> {
+) -> Result<bool, ScriptFault>
+    ensures { IfOk result (λ well. Tells (W.contents out.old) (W.contents out.new) well) }
+{
     let mut runner = first.last.told(Runner::checking_on(alloc, first, world))?;
     runner.check_each(first.rest, out, progress)
 }
@@ -124,7 +139,16 @@ fn last_number(lines: Lines<'_>) -> usize {
     last
 }
 
-fn tell_stops<W: Write>(out: &mut W, stops: usize, bad: usize) -> Result<(), ScriptFault> {
+// Whether no stop was bad, where so many were.
+fn is_none(bad: usize) -> bool
+    ensures { result ≡ true ↔ bad ≡ 0 }
+{
+    bad == 0
+}
+
+fn tell_stops<W: Write>(out: &mut W, stops: usize, bad: usize) -> Result<(), ScriptFault>
+    ensures { OnOk result (Appends (W.contents out.old) (W.contents out.new) (check_line stops bad)) }
+{
     writeln!(out, "check stops {stops} bad {bad}")?;
     Ok(out.flush()?)
 }
@@ -240,19 +264,22 @@ impl Runner {
 
     // Runs the lines, shows how far it is, and tells of the stops that were tried. It answers
     // whether none of them was bad.
+    #[tactic(auto, using(crate::proofs::Counting::tells))]
     fn check_each<W: Write, P: Write>(
         &mut self,
         lines: Lines<'_>,
         out: &mut W,
         progress: &mut P,
-    ) -> Result<bool, ScriptFault> {
+    ) -> Result<bool, ScriptFault>
+        ensures { IfOk result (λ well. Tells (W.contents out.old) (W.contents out.new) well) }
+    {
         let ended = self.run_shown(lines, progress);
         // Who cannot be told how far it is misses nothing of the result.
         let _ = progress.write_all(NO_LINE);
         ended?;
         let (stops, bad) = self.stops();
         tell_stops(out, stops, bad)?;
-        Ok(bad == 0)
+        Ok(is_none(bad))
     }
 
     // Runs the lines. Behind each one at which stops were tried it shows how far it is.
@@ -290,9 +317,11 @@ impl Runner {
     }
 
     // How many stops were tried, and how many of them were bad.
-    fn stops(&self) -> (usize, usize) {
+    fn stops(&self) -> (usize, usize)
+        ensures counted { AreCounted result.0 result.1 }
+    {
         match &self.check {
-            Some(check) => (check.stops, check.bad),
+            Some(check) => check.counts(),
             None => (0, 0),
         }
     }
@@ -395,7 +424,9 @@ impl Runner {
         Ok(show(&mut self.shown, die, output)?)
     }
 
-    fn step(&mut self, event: &Event) -> Result<Output, Word> {
+    fn step(&mut self, event: &Event) -> Result<Output, Word>
+        ensures noted { IfOk result (λ output. NotesMore (given_in output) self.old.check self.new.check) }
+    {
         match self.world.step(event) {
             Ok(output) => {
                 self.note(event, &output)?;
@@ -406,7 +437,9 @@ impl Runner {
     }
 
     // Where the script is checked, the stops at this moment are tried.
-    fn note(&mut self, event: &Event, output: &Output) -> Result<(), Word> {
+    fn note(&mut self, event: &Event, output: &Output) -> Result<(), Word>
+        ensures { OnOk result (NotesMore (given_in output.now) self.old.check self.new.check) }
+    {
         match &mut self.check {
             Some(check) => check.note(self.alloc, &self.world, event, output),
             None => Ok(()),

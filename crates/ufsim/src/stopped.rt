@@ -1,4 +1,7 @@
 //! The dies as a stop leaves them, on copies.
+ghost use Rattle.std.specs.Prelude.{◌≡◌, Some, if◌then◌else◌};
+ghost use Rattle.ufsim.specs.Checked.{given_by};
+
 use crate::commands::Content;
 use crate::fault::Word;
 use crate::leftovers::leftover;
@@ -47,7 +50,9 @@ pub(crate) fn is_at_work(world: &World, die: u8) -> bool {
 }
 
 /// Whether the job is a program or an erase.
-pub(crate) fn is_write(job: &Job) -> bool {
+pub(crate) fn is_write(job: &Job) -> bool
+    ensures { given_by (Some job.now) ≡ if result then 1 else 0 }
+{
     !matches!(job, Job::Read(_))
 }
 
