@@ -6,8 +6,7 @@ pub use Rattle.block_table.specs.LiveRooms.{AreCounted, has_no_pin, lives_of}
 pub use Rattle.block_table.specs.Lives.{Lives, block_place, gains, has_block, is_live, is_pinned, live_count}
 pub use Rattle.block_table.specs.Lives.{may_be_victim, spot}
 pub use Rattle.block_table.specs.Lowest.{is_used_from}
-pub use Rattle.block_table.specs.Probes.{is_bad_at, is_victim_at, spot_there, word_has, word_probes, words_to}
-pub use Rattle.block_table.specs.Probes.{words_with}
+pub use Rattle.block_table.specs.Places.{is_bad_at, is_victim_at, spot_there}
 pub use Rattle.block_table.specs.Sorted.{IsWordOf, blocks_in, same_state, state_there}
 pub use Rattle.block_table.specs.Victims.{CanBeVictim, IsVictim}
 pub use Rattle.block_table.specs.declared.BlockState.{BlockState}

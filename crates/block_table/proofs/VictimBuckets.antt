@@ -1,20 +1,15 @@
--- Blocks that may be collected, bucket by bucket: the first of the least live pages, and how many probes that takes.
+-- Blocks that may be collected, bucket by bucket: the first of the least live pages.
 use Rattle.block_table.proofs.Common.{AreCounted, Blocks, Bool, Buckets, CanBeVictim, IsLowest, IsVictim, List, Lives}
-use Rattle.block_table.proofs.Common.{Sizes, Some, Spot, and_from, and_parts, ap, arith, below, block_place, blocks_in}
-use Rattle.block_table.proofs.Common.{cases_lt, cond, count_by, eq-eqb, eqb-true, false, false≢true, gains, has}
-use Rattle.block_table.proofs.Common.{has_block, inl, inr, is_pinned, is_victim_at, le-ltb, length, live_count, lt-ltb}
-use Rattle.block_table.proofs.Common.{ltb-true, may_be_victim, mul-add-lt, mul_comm, nat_lt, not, refl, spot_there}
-use Rattle.block_table.proofs.Common.{state_of, subst, sym, true, word_probes, ℕ, ◌&&◌, ◌*◌, ◌+◌, ◌<◌, ◌==◌, ◌∙◌, ◌≡◌}
-use Rattle.block_table.proofs.Common.{◌≤◌, ◌⊎◌}
-use Rattle.std.proofs.Common.{add-one}
-use Rattle.std.specs.List.{sum_by}
-use Rattle.std.proofs.lemmas.List.Sums.{sum_by_push}
-use Rattle.block_table.specs.Probes.{has_unpinned, is_unpinned_of, most_probes}
+use Rattle.block_table.proofs.Common.{Sizes, Spot, and_from, and_parts, ap, arith, block_place, blocks_in, cases_lt}
+use Rattle.block_table.proofs.Common.{eq-eqb, eqb-true, false, false≢true, gains, has, has_block, inl, inr, is_pinned}
+use Rattle.block_table.proofs.Common.{is_victim_at, le-ltb, length, live_count, lt-ltb, ltb-true, may_be_victim}
+use Rattle.block_table.proofs.Common.{mul-add-lt, mul_comm, nat_lt, not, refl, spot_there, state_of, subst, sym, true}
+use Rattle.block_table.proofs.Common.{ℕ, ◌&&◌, ◌*◌, ◌+◌, ◌<◌, ◌==◌, ◌∙◌, ◌≡◌, ◌≤◌, ◌⊎◌}
 use Rattle.block_table.specs.Victims.{IsBefore, IsNoVictim}
 use Rattle.block_table.proofs.LiveCounts.{order, spot_inside}
 use Rattle.block_table.proofs.Searches.{can_shown, can_told}
 use Rattle.block_table.proofs.Unpinned.{AreUnpinned, count_at_most, place_there, spot_block, spot_die}
-use Rattle.block_table.proofs.VictimWords.{unpinned_is, unpinned_past, any_there, spot_placed}
+use Rattle.block_table.proofs.VictimWords.{unpinned_is, spot_placed}
 
 -- Buckets
 
@@ -43,26 +38,6 @@ empty_none l t scarce counts b count few whole kept old p empty = by (cases_lt p
     by (inr out) =
         ap (λ (c : Bool). c && ((live_count l s == count) && may_be_victim l t scarce s))
         (le-ltb p (blocks_in l.sizes) out)
-
--- one that does has no pin
-pub held_there : (l : Lives) (counts : List ℕ) (b : Buckets) (count p : ℕ) → count ≤ l.sizes.pages →
-    length l.pins ≡ blocks_in l.sizes → AreCounted l counts → AreUnpinned b l.sizes.pages counts l.pins →
-    has b count p ≡ true → (p < blocks_in l.sizes) × (is_unpinned_of l count (spot_there l.sizes p) ≡ true)
-held_there l counts b count p few whole kept old h = by (cases_lt p (blocks_in l.sizes))
-  where
-    by : (p < blocks_in l.sizes) ⊎ (blocks_in l.sizes ≤ p) →
-        (p < blocks_in l.sizes) × (is_unpinned_of l count (spot_there l.sizes p) ≡ true)
-    by (inl inside) =
-        (inside, sym (unpinned_is l counts count p kept whole inside) ∙ sym (old count p few) ∙ h)
-    by (inr out) = absurd (false≢true (sym (unpinned_past l counts count p whole out) ∙ sym (old count p few) ∙ h))
-
--- so a bucket that is not empty has a block without a pin
-pub held_unpinned : (l : Lives) (counts : List ℕ) (b : Buckets) (count : ℕ) → count ≤ l.sizes.pages →
-    length l.pins ≡ blocks_in l.sizes → AreCounted l counts → AreUnpinned b l.sizes.pages counts l.pins →
-    (p : ℕ) × (has b count p ≡ true) → has_unpinned l count ≡ true
-held_unpinned l counts b count few whole kept old (p, h) =
-    let u = held_there l counts b count p few whole kept old h in
-    any_there (is_unpinned_of l count) l.sizes p u.0 u.1
 
 -- Victims
 
@@ -115,17 +90,13 @@ place_before n a b h k (inr (e, m)) =
 pub first_is : (l : Lives) (t : Blocks) (scarce : Bool) (count p : ℕ) →
     ((s : Spot) → CanBeVictim l t scarce s → count ≤ live_count l s) →
     IsLowest (is_victim_at l t scarce count) p →
-    IsVictim l t scarce (spot_there l.sizes p) × (live_count l (spot_there l.sizes p) ≡ count) × (p < blocks_in l.sizes)
-first_is l t scarce count p before first = (
-  record {
-    can = can;
-    least = λ a q. subst (λ (c : ℕ). c ≤ live_count l a) (sym count_is) (before a q);
-    lowest = λ a q same w. false≢true (sym (first.below (block_place l.sizes a) (earlier a q w))
-        ∙ ap (λ (c : ℕ). is_victim_at l t scarce c (block_place l.sizes a)) (sym (same ∙ count_is)) ∙ at_place a q);
-  },
-  count_is,
-  inside,
-)
+    IsVictim l t scarce (spot_there l.sizes p)
+first_is l t scarce count p before first = record {
+  can = can;
+  least = λ a q. subst (λ (c : ℕ). c ≤ live_count l a) (sym count_is) (before a q);
+  lowest = λ a q same w. false≢true (sym (first.below (block_place l.sizes a) (earlier a q w))
+      ∙ ap (λ (c : ℕ). is_victim_at l t scarce c (block_place l.sizes a)) (sym (same ∙ count_is)) ∙ at_place a q);
+}
   where
     s : Spot
     s = spot_there l.sizes p
@@ -149,24 +120,3 @@ first_is l t scarce count p before first = (
     earlier : (a : Spot) → CanBeVictim l t scarce a → IsBefore a s → block_place l.sizes a < p
     earlier a q w = subst (λ (k : ℕ). block_place l.sizes a < k) (place_there l.sizes p)
         (place_before l.sizes a s q.inside can.inside w)
-
--- Probes
-
-pub one_more : (f : ℕ → Bool) (n : ℕ) → count_by f (below (n + 1)) ≡ count_by f (below n) + cond (f n) 1 0
-one_more f n = ap (λ (k : ℕ). count_by f (below k)) (add-one n) ∙ sum_by_push (λ k. cond (f k) 1 0) (below n) n
-
--- the probes of one bucket more
-pub probes_more : (f : ℕ → ℕ) (count i x y : ℕ) → x ≤ i + (count + sum_by f (below count)) → y ≤ x + 1 + f count →
-    y ≤ i + (count + 1 + sum_by f (below (count + 1)))
-probes_more f count i x y h k =
-    let e : sum_by f (below (count + 1)) ≡ sum_by f (below count) + f count =
-    ap (λ (n : ℕ). sum_by f (below n)) (add-one count) ∙ sum_by_push f (below count) count in
-    omega arith
-
--- and those of the buckets up to the victim's
-pub probes_with : (l : Lives) (s : Spot) (count i x y : ℕ) → live_count l s ≡ count →
-    x ≤ i + (count + sum_by (word_probes l) (below count)) → y ≤ x + 1 + word_probes l count →
-    y ≤ i + most_probes l (Some s)
-probes_with l s count i x y e h k =
-    subst (λ (c : ℕ). y ≤ i + (c + 1 + sum_by (word_probes l) (below (c + 1)))) (sym e)
-    (probes_more (word_probes l) count i x y h k)

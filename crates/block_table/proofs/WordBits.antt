@@ -1,5 +1,5 @@
 -- Bits of words, and which blocks stand in which bucket after a bit has changed.
-use Rattle.block_table.proofs.Common.{Bool, IsLowest, List, Option, Some, and_parts, ap, arith, below, bit, bit_and}
+use Rattle.block_table.proofs.Common.{Bool, IsLowest, List, Option, Some, and_parts, ap, arith, bit, bit_and}
 use Rattle.block_table.proofs.Common.{bit_not, bit_or, cases_eq, cases_lt, eq-eqb, eqb-true, false, false_from_ne_true}
 use Rattle.block_table.proofs.Common.{has_in, if◌then◌else◌, inl, inr, le-ltb, lt-ltb, nat_lt, ne_eqb, not, refl}
 use Rattle.block_table.proofs.Common.{set_other, set_there, slice_get, slice_set, suc, sym, trailing_zeros, true}

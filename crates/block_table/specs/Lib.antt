@@ -4,7 +4,7 @@ pub mod Buckets
 pub mod LiveRooms
 pub mod Lives
 pub mod Lowest
-pub mod Probes
+pub mod Places
 pub mod Rooms
 pub mod Rows
 pub mod Sorted

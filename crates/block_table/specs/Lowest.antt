@@ -3,7 +3,7 @@ use Rattle.std.specs.Prelude.{ℕ, ◌<◌, ◌≡◌, ◌&&◌, nat_le, nat_lt,
 use Rattle.block_table.specs.Blocks.{Blocks, state_of}
 use Rattle.block_table.specs.Buckets.{IsLowest}
 use Rattle.block_table.specs.Lives.{Lives, has_block, is_pinned, spot}
-use Rattle.block_table.specs.Probes.{spot_there}
+use Rattle.block_table.specs.Places.{spot_there}
 use Rattle.block_table.specs.Sorted.{blocks_in, same_state, state_there}
 use Rattle.block_table.specs.declared.BlockState.{BlockState}
 

@@ -18,7 +18,7 @@ mod live;
 mod rows;
 
 use buckets::{BlockBuckets, WORD, with_bit};
-pub use live::{BlockAt, LivePages, Probes};
+pub use live::{BlockAt, LivePages};
 use rows::{is_read_for, without_block, without_reader};
 pub use rows::{DieRow, Flight, OpenBlock};
 

@@ -5,7 +5,8 @@ ghost use Rattle.std.specs.List.{list_any};
 ghost use Rattle.block_table.specs.Lives.{block_place, has_block, has_page, is_bad_with_live, is_live, is_pinned, live_count, live_from, page_place, pins_of, places_in, spot, spot_at, spots_in, victim, with_live, with_pins};
 ghost use Rattle.block_table.specs.Buckets.{IsWord, Stands, bit, in_first, words_for};
 ghost use Rattle.block_table.specs.Lowest.{IsFirstUsed, IsLowestBlock, is_used_from};
-ghost use Rattle.block_table.specs.Probes.{IsFirstVictim, IsFirstVictimTo, is_bad_at, is_victim_at, most_probes, spot_there, word_probes, words_to, words_with};
+ghost use Rattle.block_table.specs.Places.{IsFirstVictim, IsFirstVictimTo, is_bad_at, is_victim_at};
+ghost use Rattle.block_table.specs.Places.{spot_there};
 ghost use Rattle.block_table.specs.Sorted.{blocks_in};
 ghost use Rattle.block_table.specs.Victims.{IsNoVictim, IsVictim};
 
@@ -20,23 +21,6 @@ use ufs_spec::Place;
 pub struct BlockAt {
     pub die: u8,
     pub block: u16,
-}
-
-/// How many looks a search took. A probe is a look at whether any block stands in a bucket, at one
-/// word of the second level of a bucket, which says of 64 words whether a block stands there, or at
-/// one word of 64 blocks of a bucket, with the words of the same blocks that say what each is.
-#[derive(Clone, Copy, Debug, Default, PartialEq, Eq)]
-pub struct Probes {
-    pub count: u64,
-}
-
-impl Probes {
-    /// One look more. After 18,446,744,073,709,551,615 of them none is counted.
-    fn look(&mut self)
-        ensures { self.new.count ≡ min (self.old.count + 1) (2 ^ 64 - 1) }
-    {
-        self.count = self.count.saturating_add(1);
-    }
 }
 
 /// Of each block of all dies which pages are live, how many, and how many pins the block has. The
@@ -173,28 +157,8 @@ impl LivePages {
         ensures least { MatchOption result (IsNoVictim self.now blocks.now scarce)
             (λ at. IsVictim self.now blocks.now scarce (spot_at at)) }
     {
-        let mut probes = Probes::default();
-        self.victim_counted(blocks, scarce, &mut probes)
-    }
-
-    /// As `victim`, and counts its probes: one for each number of live pages up to that of the
-    /// victim; and for each of these numbers that a block without a pin has, one for each word of
-    /// the second level, which tells of 64 words, and one for each word of 64 blocks in which such a
-    /// block stands. Without a victim that is each number of live pages.
-    pub fn victim_counted(
-        &self,
-        blocks: &BlockTable,
-        scarce: bool,
-        probes: &mut Probes,
-    ) -> Option<BlockAt>
-        ensures search { option_map spot_at result ≡ victim self.now blocks.now scarce }
-        ensures least { MatchOption result (IsNoVictim self.now blocks.now scarce)
-            (λ at. IsVictim self.now blocks.now scarce (spot_at at)) }
-        ensures bound { probes.new.count ≤ probes.old.count
-            + most_probes self.now (option_map spot_at result) }
-    {
         for count in 0..self.sizes.pages as usize + 1 {
-            if let Some(place) = self.first_with(blocks, scarce, count, probes) {
+            if let Some(place) = self.first_with(blocks, scarce, count) {
                 return Some(self.block_at(place));
             }
         }
@@ -276,39 +240,23 @@ impl LivePages {
 
     /// The place of the first block with so many live pages that may be collected, if there is one.
     /// No word is read unless a block without a pin has so many.
-    fn first_with(
-        &self,
-        blocks: &BlockTable,
-        scarce: bool,
-        count: usize,
-        probes: &mut Probes,
-    ) -> Option<usize>
+    fn first_with(&self, blocks: &BlockTable, scarce: bool, count: usize) -> Option<usize>
         requires { count ≤ self.now.sizes.pages }
-        ensures first { IsFirstVictim self.now blocks.now scarce count result }
-        ensures bound { probes.new.count ≤ probes.old.count + 1 + word_probes self.now count }
+        ensures { IsFirstVictim self.now blocks.now scarce count result }
     {
-        probes.look();
         if self.unpinned_with.is_empty(count) {
             return None;
         }
-        self.first_victim(blocks, scarce, count, probes)
+        self.first_victim(blocks, scarce, count)
     }
 
     /// The same, by the words of its bucket.
-    fn first_victim(
-        &self,
-        blocks: &BlockTable,
-        scarce: bool,
-        count: usize,
-        probes: &mut Probes,
-    ) -> Option<usize>
+    fn first_victim(&self, blocks: &BlockTable, scarce: bool, count: usize) -> Option<usize>
         requires { count ≤ self.now.sizes.pages }
-        ensures first { IsFirstVictim self.now blocks.now scarce count result }
-        ensures bound { probes.new.count ≤ probes.old.count
-            + (words_for (words_for (blocks_in self.now.sizes)) + words_with self.now count) }
+        ensures { IsFirstVictim self.now blocks.now scarce count result }
     {
         for group in 0..self.groups() {
-            if let Some(first) = self.first_of_group(blocks, scarce, count, group, probes) {
+            if let Some(first) = self.first_of_group(blocks, scarce, count, group) {
                 return Some(first);
             }
         }
@@ -322,24 +270,20 @@ impl LivePages {
         scarce: bool,
         count: usize,
         group: usize,
-        probes: &mut Probes,
     ) -> Option<usize>
         requires count_there { count ≤ self.now.sizes.pages }
         requires few { group < 2 ^ 26 }
         requires none { (p : ℕ) → p < 64 * (64 * group)
             → is_victim_at self.now blocks.now scarce count p ≡ false }
-        ensures first { IsFirstVictimTo self.now blocks.now scarce count (64 * (64 * (group + 1))) result }
-        ensures bound { probes.new.count + words_to self.now count (64 * group)
-            ≤ probes.old.count + 1 + words_to self.now count (64 * (group + 1)) }
+        ensures { IsFirstVictimTo self.now blocks.now scarce count
+            (64 * (64 * (group + 1))) result }
     {
-        probes.look();
         let marks = self.unpinned_with.marks(count, group);
         let mut from = 0;
         while from < WORD {
             let Some(mark) = lowest_bit(from_bit(marks, from)) else {
                 return None;
             };
-            probes.look();
             let number = group * WORD + mark;
             if let Some(bit) = lowest_bit(self.victims(blocks, scarce, count, number)) {
                 return Some(number * WORD + bit);

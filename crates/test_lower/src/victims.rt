@@ -1,7 +1,7 @@
 //! Victims and plans of two dies of four blocks of four pages, by the rule: of the blocks without a
 //! pin that are closed and not wholly live, or bad with live pages, the one with the fewest live
 //! pages, and of several the lowest.
-use block_table::{BlockAt, BlockState, BlockTable, LivePages, Probes, Sizes};
+use block_table::{BlockAt, BlockState, BlockTable, LivePages, Sizes};
 use collector::{Plan, PlanStep, PlannedCopy};
 use geometry::Config;
 use row_messages::row_config;
@@ -98,19 +98,13 @@ fn has_no_victim(live: &LivePages, blocks: &BlockTable) -> bool {
 
 /// Blocks with equally few live pages are taken from the lowest on, unless they are pinned. An open
 /// and a free block and those that are wholly live are left, and so is a bad one while free blocks
-/// are scarce. While enough are free the bad one is taken. A probe is for each of the numbers 0,
-/// 1 and 2 of live pages, and where blocks have 0 and 2 one for the only word of 64 blocks and one
-/// for the word of the second level that tells of it.
+/// are scarce. While enough are free the bad one is taken.
 #[test]
 fn the_block_with_the_fewest_live_pages_is_the_victim(rt: HostRuntime) -> Result<(), Fail> {
     let blocks = blocks(rt.alloc())?;
     let mut live = lives(rt.alloc(), [0, 3, 2, 4, 2, 3, 4, 0])?;
     assert!(rt; live.live_count(0, 2) == 2);
-    let mut probes = Probes::default();
-    assert!(rt;
-        live.victim_counted(&blocks, true, &mut probes) == Some(BlockAt { die: 0, block: 2 })
-    );
-    assert!(rt; probes.count == 7);
+    assert!(rt; is_victim(&live, &blocks, 0, 2));
     assert!(rt; is_bad_victim(&live, &blocks, 1, 1));
     live.pin(0, 2);
     live.pin(0, 2);

@@ -25,7 +25,7 @@ pub use Rattle.write_cache.specs.Kept.{Queue, WriteCache}
 pub use Rattle.write_cache.specs.Ready.{AreTold, is_ready}
 pub use Rattle.write_cache.specs.Rests.{awaits, base_behind, claim_brought, completed, completed_at, completed_by}
 pub use Rattle.write_cache.specs.Rests.{page_moved, rests_filled, waits}
-pub use Rattle.write_cache.specs.Ring.{AreApart, AreConsecutive, AreRuns, AreStraight, HasNone, IsRising, Shown, Stands}
+pub use Rattle.write_cache.specs.Ring.{AreApart, AreRuns, HasNone, IsRising, Shown, Stands}
 pub use Rattle.write_cache.specs.Ring.{first_number, shortened, shown, wrapped, written}
 pub use Rattle.write_cache.specs.Slots.{claim_filled, claims_but, claims_of, empty_claim, is_claim_behind, is_claim_of}
 pub use Rattle.write_cache.specs.Slots.{is_named, is_there, page_claimed, without_claims, without_claims_behind}

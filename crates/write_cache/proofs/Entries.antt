@@ -1,5 +1,5 @@
 -- The entries of the ring: their numbers rise.
-use Rattle.write_cache.proofs.Common.{AreConsecutive, GroupAt, HasNone, IsRising, List, Some, [], ap, arith, drop}
+use Rattle.write_cache.proofs.Common.{GroupAt, HasNone, IsRising, List, Some, [], ap, arith, drop}
 use Rattle.write_cache.proofs.Common.{false, length, none-some, same_Some, slice_get, subst, suc, sym, zero, ℕ, ◌+◌}
 use Rattle.write_cache.proofs.Common.{◌<◌, ◌==◌, ◌∷◌, ◌≡◌, ◌≤◌}
 
@@ -64,14 +64,3 @@ none_between n least zero (x ∷ gs) g h e l above =
 none_between n least (suc at) (x ∷ gs) g h e l above =
     let more = rising_at (x.number + 1) at gs g h.1 e in
     (other_below n x.number (omega (arith, more, l)), none_between n (x.number + 1) at gs g h.1 e l above)
-
-pub consecutive_at : (n at : ℕ) (gs : List GroupAt) (g : GroupAt) → AreConsecutive n gs → slice_get gs at ≡ Some g →
-    g.number ≡ n + at
-consecutive_at n at [] g h e = absurd (none-some g e)
-consecutive_at n zero (x ∷ gs) g h e =
-    let a = h.0 in
-    let same = ap (λ (y : GroupAt). y.number) (same_Some x g e) in
-    omega (arith, a, same)
-consecutive_at n (suc at) (x ∷ gs) g h e =
-    let more = consecutive_at (n + 1) at gs g h.1 e in
-    omega (arith, more)

@@ -17,7 +17,6 @@ pub mod Readies
 pub mod Rows
 pub mod Runs
 pub mod Same
-pub mod Straights
 pub mod Told
 pub mod Turns
 pub mod Waiting

@@ -1,5 +1,5 @@
 -- Pages whose indexes rise by one, at the end of a group.
-use Rattle.write_cache.proofs.Common.{AreStraight, Bool, List, Shown, Some, [], and_parts, ap, arith, cases_eq}
+use Rattle.write_cache.proofs.Common.{Bool, List, Shown, Some, [], and_parts, ap, arith, cases_eq}
 use Rattle.write_cache.proofs.Common.{cases_lt, cond, drop, eq-eqb, eqb-true, false, inl, inr, le-leb, length}
 use Rattle.write_cache.proofs.Common.{length-append, min, nat_le, ne_eqb, none-some, refl, same_Some, set_length}
 use Rattle.write_cache.proofs.Common.{slice_get, slice_set, suc, sym, true, zero, ℕ, ◌&&◌, ◌++◌, ◌+◌, ◌-◌, ◌<◌, ◌==◌}
@@ -8,7 +8,7 @@ use Rattle.std.proofs.lemmas.List.{drop-append-le}
 use Rattle.std.proofs.Math.Bool.{and-false}
 use Rattle.std.proofs.Math.Seq.{drop-append-add}
 use Rattle.ufs_spec.proofs.Facts.{lt-leb}
-use Rattle.write_cache.specs.Ring.{AreOf, is_row}
+use Rattle.write_cache.specs.Ring.{is_row}
 
 -- Tests
 
@@ -147,17 +147,3 @@ row_kept last k m [] x y at e = absurd (none-some x at)
 row_kept last zero m (z ∷ xs) x y at e = row_same last m (z ∷ xs) x y at e
 row_kept last (suc k) zero (z ∷ xs) x y at e = refl
 row_kept last (suc k) (suc m) (z ∷ xs) x y at e = row_kept last k m xs x y at e
-
--- Straight pages
-
-pub row_straight : (n last : ℕ) (xs : List Shown) → AreOf n xs → AreStraight xs → IsLast last xs → is_row last xs ≡ true
-row_straight n last [] are h l = refl
-row_straight n last (x ∷ []) are h l =
-    ap (λ (b : Bool). b && true) (eq-eqb (x.index + 0) last (omega (arith, l)))
-row_straight n last (x ∷ y ∷ xs) are h l =
-    let more = row_straight n last (y ∷ xs) are.1 h.1 l in
-    let end = eqb-true (y.index + length xs) last (and_parts (y.index + length xs == last) (is_row last xs) more).0 in
-    let next = h.0.1 (are.1.0 ∙ sym are.0) in
-    ap (λ (b : Bool). b && is_row last (y ∷ xs))
-    (eq-eqb (x.index + length (y ∷ xs)) last (omega (arith, end, next)))
-    ∙ more

@@ -1,10 +1,9 @@
 -- The ring of pending groups: what its entries tell of the pages, and how calls change it.
 use Rattle.std.specs.Prelude.{◌≡◌, ℕ, ◌+◌, ◌-◌, ◌%◌, ◌^◌, ◌<◌, ◌≤◌, ◌==◌, min, nat_le, nat_lt, Bool, true, false, ◌&&◌}
-use Rattle.std.specs.Prelude.{if◌then◌else◌, List, [], ◌∷◌, ◌++◌, count_by, drop, is_none, length, map, slice_get}
+use Rattle.std.specs.Prelude.{if◌then◌else◌, List, [], ◌∷◌, ◌++◌, count_by, drop, is_none, length, slice_get}
 use Rattle.std.specs.Prelude.{slice_set, Option, Some, None}
 use Rattle.write_cache.specs.declared.pages.ring.GroupAt.{GroupAt}
 use Rattle.write_cache.specs.declared.slots.Pending.{Pending}
-use Rattle.write_cache.specs.Kept.{WriteCache}
 
 -- Pages
 
@@ -116,11 +115,6 @@ abbrev pub IsRising : ℕ → List GroupAt → Type 0
 IsRising least [] = Unit {0}
 IsRising least (g ∷ gs) = (least ≤ g.number) × IsRising (g.number + 1) gs
 
--- the numbers rise by one from entry to entry, and begin at this one
-abbrev pub AreConsecutive : ℕ → List GroupAt → Type 0
-AreConsecutive n [] = Unit {0}
-AreConsecutive n (g ∷ gs) = (g.number ≡ n) × AreConsecutive (n + 1) gs
-
 -- no entry has this number
 abbrev pub HasNone : ℕ → List GroupAt → Type 0
 HasNone n [] = Unit {0}
@@ -167,19 +161,3 @@ pub record Stands (landed : ℕ) (g : GroupAt) (xs : List Shown) : Type 0 where
   pub place : g.end ≡ wrapped (landed + (length before + g.pages))
   pub apart_before : AreApart g.number before
   pub apart_behind : AreApart g.number behind
-
--- Straight pages
-
--- the page that follows is the next of the same group, or one of the next group
-abbrev pub IsFollowed : Shown → List Shown → Type 0
-IsFollowed x [] = Unit {0}
-IsFollowed x (y ∷ ys) = (y.number ≤ x.number + 1) × (y.number ≡ x.number → y.index ≡ x.index + 1)
-
--- from page to page the number rises by one at most, and within a group the index rises by one
-abbrev pub AreStraight : List Shown → Type 0
-AreStraight [] = Unit {0}
-AreStraight (x ∷ xs) = IsFollowed x xs × AreStraight xs
-
--- the numbers of the pending groups are consecutive, and the indexes of the pages that each has left rise by one
-abbrev pub IsStraight : WriteCache → Type 0
-IsStraight c = AreStraight (map shown c.pages)

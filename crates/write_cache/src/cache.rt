@@ -6,7 +6,6 @@ ghost use Rattle.std.specs.Prelude.{take, drop};
 ghost use Rattle.ufs_spec.specs.Pages.{greatest_number};
 ghost use Rattle.write_cache.specs.Kept.{WriteCache};
 ghost use Rattle.write_cache.specs.Ready.{first_ready_from, first_waiting_from};
-ghost use Rattle.write_cache.specs.Ring.{IsStraight};
 ghost use Rattle.write_cache.specs.Slots.{appended, claim_filled, claimed_all, claims_of};
 ghost use Rattle.write_cache.specs.Slots.{free_slots, front_written, has_number, empty_claim};
 ghost use Rattle.write_cache.specs.Slots.{is_named, is_of_group, is_there};
@@ -17,7 +16,6 @@ mod groups;
 
 use crate::claims::{Claims, NewGroup};
 use crate::pages::Pages;
-use crate::probes::Probes;
 use crate::slots::{Claimed, Landed, Pending, WholeGroup};
 use geometry::Config;
 use std::alloc::{AllocError, Global};
@@ -160,7 +158,7 @@ impl Cache {
     pub fn page_named(&self, number: u64, index: u16) -> Option<&Pending>
         ensures { option_copied result ≡ find (is_named number index) self.now.pages }
     {
-        let at = self.pages.place_named(number, index, &mut Probes::none())?;
+        let at = self.pages.place_named(number, index)?;
         self.page(at)
     }
 
@@ -261,25 +259,7 @@ impl Cache {
     pub fn mark_written(&mut self, number: u64, index: u16, place: Place)
         ensures { self.new ≡ record self.old { pages = page_written self.old.pages number index place } }
     {
-        self.mark_written_counted(number, index, place, &mut Probes::none());
-    }
-
-    /// `mark_written`, with the probes that it takes counted: two at most, of the entry of the page's
-    /// group and of its slot, where the pending groups are straight.
-    pub fn mark_written_counted(
-        &mut self,
-        number: u64,
-        index: u16,
-        place: Place,
-        probes: &mut Probes,
-    )
-        requires counted { probes.old.count ≤ 2 ^ 63 }
-        ensures after { self.new ≡ record self.old {
-          pages = page_written self.old.pages number index place;
-        } }
-        ensures bound { IsStraight self.old → probes.new.count ≤ probes.old.count + 2 }
-    {
-        self.pages.mark_written(number, index, place, probes);
+        self.pages.mark_written(number, index, place);
     }
 
     /// The first pending group, if all its pages are written: its number, and how many pages stand first in the order.
@@ -290,22 +270,7 @@ impl Cache {
             filter (λ p. not (is_of_group g.number p)) self.now.pages) }
         ensures some { IfSome result (λ g. (0 < g.pages) × (g.pages ≤ length self.now.pages)) }
     {
-        self.front_written_counted(&mut Probes::none())
-    }
-
-    /// `front_written`, with the probes that it takes counted: one at most.
-    pub fn front_written_counted(&self, probes: &mut Probes) -> Option<WholeGroup>
-        requires counted { probes.old.count ≤ 2 ^ 63 }
-        ensures what { option_map (λ (g : WholeGroup). g.number) result
-            ≡ front_written self.now.pages }
-        ensures first { IfSome result (λ g. take g.pages self.now.pages ≡
-            filter (is_of_group g.number) self.now.pages) }
-        ensures others { IfSome result (λ g. drop g.pages self.now.pages ≡
-            filter (λ p. not (is_of_group g.number p)) self.now.pages) }
-        ensures some { IfSome result (λ g. (0 < g.pages) × (g.pages ≤ length self.now.pages)) }
-        ensures bound { probes.new.count ≤ probes.old.count + 1 }
-    {
-        self.pages.front_written(probes)
+        self.pages.front_written()
     }
 
     /// Takes the first page out of its slot, which is free from then on.
@@ -313,18 +278,7 @@ impl Cache {
         ensures where_it_is { result ≡ option_map landed (slice_get self.old.pages 0) }
         ensures after { self.new ≡ record self.old { pages = drop 1 self.old.pages } }
     {
-        self.land_counted(&mut Probes::none())
-    }
-
-    /// `land`, with the probes that it takes counted: three at most, of the slot, of the entry of
-    /// the page's group, and, with its last page, of that of the next group.
-    pub fn land_counted(&mut self, probes: &mut Probes) -> Option<Landed>
-        requires counted { probes.old.count ≤ 2 ^ 63 }
-        ensures where_it_is { result ≡ option_map landed (slice_get self.old.pages 0) }
-        ensures after { self.new ≡ record self.old { pages = drop 1 self.old.pages } }
-        ensures bound { probes.new.count ≤ probes.old.count + 3 }
-    {
-        let page = self.pages.take_first(probes)?;
+        let page = self.pages.take_first()?;
         let landed = Landed {
             key: page.key,
             number: page.number,

@@ -4,11 +4,9 @@
 mod cache;
 mod claims;
 mod pages;
-mod probes;
 mod rests;
 mod slots;
 
 pub use cache::Cache;
-pub use probes::Probes;
 pub use rests::{NewPage, OwedSource, Part, Rest, RestSource};
 pub use slots::{Claimed, Landed, Pending, WholeGroup, key_at};

@@ -8,7 +8,7 @@ ghost use Rattle.std.specs.VecDeque.{deque_capacity};
 ghost use Rattle.write_cache.specs.Kept.{Queue};
 ghost use Rattle.write_cache.specs.Ready.{first_ready_from, first_waiting_from};
 ghost use Rattle.write_cache.specs.Rests.{rests_filled};
-ghost use Rattle.write_cache.specs.Ring.{AreStraight, Stands, is_open_at, shown};
+ghost use Rattle.write_cache.specs.Ring.{Stands, is_open_at, shown};
 ghost use Rattle.write_cache.specs.WrittenAt.{place_before};
 ghost use Rattle.write_cache.specs.Slots.{front_written, is_named, is_of_group, is_there, last_page};
 ghost use Rattle.write_cache.specs.Slots.{page_written, written_at};
@@ -22,7 +22,6 @@ use self::fill::fill_pages;
 use self::newest::{Newest, last_among, page_if_of};
 use self::ring::{GroupAt, Ring};
 use self::written_at::{WrittenAt, first_there};
-use crate::probes::Probes;
 use crate::slots::{Pending, WholeGroup};
 use geometry::Config;
 use std::alloc::{AllocError, Global};
@@ -104,7 +103,7 @@ impl Pages {
         })
     }
 
-    /// The pages, for calls that look at all of them and count no probes.
+    /// The pages, for calls that look at all of them.
     pub(crate) fn all(&self) -> &VecDeque<Pending>
         ensures { result.now.items ≡ self.now.items }
     {
@@ -151,7 +150,7 @@ impl Pages {
         } }
     {
         self.groups.note(self.landed, page.number, page.index);
-        self.front = self.groups.first_number(self.front, &mut Probes::none());
+        self.front = self.groups.first_number(self.front);
         self.newest = page.number;
         let position = self.landed.wrapping_add(self.pages.len() as u16);
         self.positions.note_at(page.key, position);
@@ -160,18 +159,15 @@ impl Pages {
         self.pages.push_back_reserved(page);
     }
 
-    /// Takes the first page out. It takes three probes at most: for its slot, for the entry of its
-    /// group and, where it was the last page of this, for that of the next.
-    pub(crate) fn take_first(&mut self, probes: &mut Probes) -> Option<Pending>
-        requires counted { probes.old.count ≤ 2 ^ 63 }
+    /// Takes the first page out. This looks at the slot of the page, at the entry of its group and,
+    /// where it was the last page of this, at that of the next.
+    pub(crate) fn take_first(&mut self) -> Option<Pending>
         ensures what { result ≡ slice_get self.old.items 0 }
         ensures after { self.new ≡ record self.old { items = drop 1 self.old.items } }
-        ensures bound { probes.new.count ≤ probes.old.count + 3 }
     {
-        probes.add();
         let page = self.pages.pop_front()?;
-        self.groups.shorten(page.written.is_none(), probes);
-        self.front = self.groups.first_number(self.front, probes);
+        self.groups.shorten(page.written.is_none());
+        self.front = self.groups.first_number(self.front);
         self.landed = self.landed.wrapping_add(1);
         self.written.leave(page.written);
         self.ready.pass();
@@ -179,9 +175,8 @@ impl Pages {
         Some(page)
     }
 
-    /// The first group, if all its pages are written. It takes one probe.
-    pub(crate) fn front_written(&self, probes: &mut Probes) -> Option<WholeGroup>
-        requires counted { probes.old.count ≤ 2 ^ 63 }
+    /// The first group, if all its pages are written. This looks at the entry of the group alone.
+    pub(crate) fn front_written(&self) -> Option<WholeGroup>
         ensures what { option_map (λ (g : WholeGroup). g.number) result
             ≡ front_written self.now.items }
         ensures first { IfSome result (λ g. take g.pages self.now.items ≡
@@ -189,12 +184,11 @@ impl Pages {
         ensures others { IfSome result (λ g. drop g.pages self.now.items ≡
             filter (λ p. not (is_of_group g.number p)) self.now.items) }
         ensures some { IfSome result (λ g. (0 < g.pages) × (g.pages ≤ length self.now.items)) }
-        ensures bound { probes.new.count ≤ probes.old.count + 1 }
     {
         if self.groups.len() == 0 {
             return None;
         }
-        let group = self.groups.entry(0, probes);
+        let group = self.groups.entry(0);
         if group.unwritten > 0 {
             return None;
         }
@@ -205,38 +199,26 @@ impl Pages {
     }
 
     /// Where the page with this number and index stands, if it is pending.
-    pub(crate) fn place_named(&self, number: u64, index: u16, probes: &mut Probes) -> Option<usize>
-        requires counted { probes.old.count ≤ 2 ^ 63 }
-        ensures what { result ≡ position (is_named number index) self.now.items }
-        ensures bound { AreStraight (map shown self.now.items) →
-            probes.new.count ≤ probes.old.count + 1 }
+    pub(crate) fn place_named(&self, number: u64, index: u16) -> Option<usize>
+        ensures { result ≡ position (is_named number index) self.now.items }
     {
-        let entry = self.groups.find(self.front, number, probes)?;
-        place_in(&self.pages, self.landed, entry.group, index, probes)
+        let entry = self.groups.find(self.front, number)?;
+        place_in(&self.pages, self.landed, entry.group, index)
     }
 
     /// The page with this number and index is written there, if it is pending.
-    pub(crate) fn mark_written(
-        &mut self,
-        number: u64,
-        index: u16,
-        place: Place,
-        probes: &mut Probes,
-    )
-        requires counted { probes.old.count ≤ 2 ^ 63 }
-        ensures after { self.new ≡ record self.old {
+    pub(crate) fn mark_written(&mut self, number: u64, index: u16, place: Place)
+        ensures { self.new ≡ record self.old {
           items = page_written self.old.items number index place;
         } }
-        ensures bound { AreStraight (map shown self.old.items) →
-            probes.new.count ≤ probes.old.count + 2 }
     {
-        let Some(entry) = self.groups.find(self.front, number, probes) else {
+        let Some(entry) = self.groups.find(self.front, number) else {
             return;
         };
-        let found = place_in(&self.pages, self.landed, entry.group, index, probes);
+        let found = place_in(&self.pages, self.landed, entry.group, index);
         if let Some(at) = found {
             let before = written_before(&self.pages, at);
-            let is_open = write_at(&mut self.pages, at, place, probes);
+            let is_open = write_at(&mut self.pages, at, place);
             self.groups.set(entry.at, entry.group.written(is_open));
             self.ready.set(at, false);
             self.written.mark(place, at, before);
@@ -288,46 +270,28 @@ fn page_standing(pages: &VecDeque<Pending>, at: Option<usize>) -> Option<&Pendin
 }
 
 /// Where the page of this index stands that is of the group of this entry, if there is one. It
-/// takes no probe where the indexes of the group rise by one from page to page.
-fn place_in(
-    pages: &VecDeque<Pending>,
-    landed: u16,
-    group: GroupAt,
-    index: u16,
-    probes: &mut Probes,
-) -> Option<usize>
+/// looks at no page where the indexes of the group rise by one from page to page.
+fn place_in(pages: &VecDeque<Pending>, landed: u16, group: GroupAt, index: u16) -> Option<usize>
     requires stands { Stands landed group (map shown pages.now.items) }
     requires few { length pages.now.items < 2 ^ 16 }
-    requires counted { probes.old.count ≤ 2 ^ 63 + 2 ^ 16 }
-    ensures what { result ≡ position (is_named group.number index) pages.now.items }
-    ensures bound { AreStraight (map shown pages.now.items) → probes.new.count ≡ probes.old.count }
-    ensures most { probes.new.count ≤ probes.old.count + 2 ^ 16 }
+    ensures { result ≡ position (is_named group.number index) pages.now.items }
 {
     if group.is_straight() {
         return group.place_of(landed, index);
     }
     let first = group.first(landed);
-    place_among(pages, first, group, index, probes)
+    place_among(pages, first, group, index)
 }
 
 /// Where the page of this index stands that is of the group of this entry, among as many from this
 /// place on as the group has.
-fn place_among(
-    pages: &VecDeque<Pending>,
-    first: usize,
-    group: GroupAt,
-    index: u16,
-    probes: &mut Probes,
-) -> Option<usize>
-    requires there { first + group.pages ≤ length pages.now.items }
-    requires counted { probes.old.count ≤ 2 ^ 63 + 2 ^ 16 }
-    ensures what { result ≡ position_from (is_named group.number index) first
+fn place_among(pages: &VecDeque<Pending>, first: usize, group: GroupAt, index: u16) -> Option<usize>
+    requires { first + group.pages ≤ length pages.now.items }
+    ensures { result ≡ position_from (is_named group.number index) first
         (take group.pages (drop first pages.now.items)) }
-    ensures most { probes.new.count ≤ probes.old.count + 2 ^ 16 }
 {
     for passed in 0..group.pages {
         let at = first + passed as usize;
-        probes.add();
         if pages[at].is_named(group.number, index) {
             return Some(at);
         }
@@ -346,15 +310,12 @@ fn written_before(pages: &VecDeque<Pending>, at: usize) -> Option<Place>
 }
 
 /// The page at this place is written there, and whether it was not written before.
-fn write_at(pages: &mut VecDeque<Pending>, at: usize, place: Place, probes: &mut Probes) -> bool
-    requires counted { probes.old.count < 2 ^ 64 - 1 }
+fn write_at(pages: &mut VecDeque<Pending>, at: usize, place: Place) -> bool
     ensures was { result ≡ is_open_at (slice_get pages.old.items at) }
     ensures after { pages.new.items ≡
         written_at pages.old.items at place (slice_get pages.old.items at) }
     ensures room { deque_capacity pages.new ≡ deque_capacity pages.old }
-    ensures probes { probes.new.count ≡ probes.old.count + 1 }
 {
-    probes.add();
     match pages.get_mut(at) {
         Some(page) => {
             let is_open = page.written.is_none();

@@ -8,7 +8,6 @@ ghost use Rattle.write_cache.specs.Rests.{waits, with_part_of};
 ghost use Rattle.write_cache.specs.Slots.{is_named};
 
 use crate::pages::Pages;
-use crate::probes::Probes;
 use crate::slots::{Claimed, Pending};
 use ufs_bytes::Body;
 use ufs_spec::{Block, Key, Name, Place};
@@ -221,7 +220,7 @@ fn content_named(pages: &Pages, name: Name) -> Option<&Block>
 fn page_named(pages: &Pages, name: Name) -> Option<&Pending>
     ensures { option_copied result ≡ find (is_named name.number name.index) pages.now.items }
 {
-    let at = pages.place_named(name.number, name.index, &mut Probes::none())?;
+    let at = pages.place_named(name.number, name.index)?;
     pages.page(at)
 }
 

@@ -3,11 +3,10 @@ ghost use Rattle.std.specs.Prelude.{◌≡◌, ◌+◌, ◌-◌, ◌^◌, ◌<�
 ghost use Rattle.std.specs.Prelude.{Some, []};
 ghost use Rattle.std.specs.Prelude.{length, min, slice_get, slice_set};
 ghost use Rattle.std.specs.VecDeque.{deque_capacity};
-ghost use Rattle.write_cache.specs.Ring.{AreConsecutive, IsRising, HasNone, back, begun};
+ghost use Rattle.write_cache.specs.Ring.{IsRising, HasNone, back, begun};
 ghost use Rattle.write_cache.specs.Ring.{first_number, is_straight, longer, noted, place_of};
 ghost use Rattle.write_cache.specs.Ring.{row_with, shorter, shortened, written};
 
-use crate::probes::Probes;
 use std::alloc::{AllocError, Global};
 use std::collections::VecDeque;
 
@@ -131,7 +130,7 @@ impl GroupAt {
     }
 }
 
-/// The entries of the pending groups, in order of number. Each look at one of them is a probe.
+/// The entries of the pending groups, in order of number.
 #[derive(Drop)]
 pub(crate) struct Ring {
     entries: VecDeque<GroupAt>,
@@ -155,13 +154,10 @@ impl Ring {
     }
 
     /// The entry at this place.
-    pub(crate) fn entry(&self, at: usize, probes: &mut Probes) -> GroupAt
-        requires there { at < length self.now.entries.items }
-        requires counted { probes.old.count < 2 ^ 64 - 1 }
-        ensures is { slice_get self.now.entries.items at ≡ Some result }
-        ensures probes { probes.new.count ≡ probes.old.count + 1 }
+    pub(crate) fn entry(&self, at: usize) -> GroupAt
+        requires { at < length self.now.entries.items }
+        ensures { slice_get self.now.entries.items at ≡ Some result }
     {
-        probes.add();
         self.entries[at]
     }
 
@@ -176,15 +172,13 @@ impl Ring {
     }
 
     /// The number of the first group, and this one where none is pending.
-    pub(crate) fn first_number(&self, otherwise: u64, probes: &mut Probes) -> u64
-        requires counted { probes.old.count < 2 ^ 64 - 1 }
-        ensures is { result ≡ first_number otherwise self.now.entries.items }
-        ensures probes { probes.new.count ≤ probes.old.count + 1 }
+    pub(crate) fn first_number(&self, otherwise: u64) -> u64
+        ensures { result ≡ first_number otherwise self.now.entries.items }
     {
         if self.len() == 0 {
             return otherwise;
         }
-        self.entry(0, probes).number
+        self.entry(0).number
     }
 
     /// A page more is behind all others, at this position if it is the only one: one of this number
@@ -202,7 +196,7 @@ impl Ring {
             return;
         }
         let at = self.len() - 1;
-        let last = self.entry(at, &mut Probes::none());
+        let last = self.entry(at);
         if last.number == number {
             self.set(at, last.longer(index));
         } else {
@@ -212,16 +206,14 @@ impl Ring {
     }
 
     /// The first page of the first group is gone, and the group with its last one.
-    pub(crate) fn shorten(&mut self, is_open: bool, probes: &mut Probes)
-        requires counted { probes.old.count < 2 ^ 64 - 1 }
+    pub(crate) fn shorten(&mut self, is_open: bool)
         ensures after { self.new.entries.items ≡ shortened is_open self.old.entries.items }
         ensures room { deque_capacity self.new.entries ≡ deque_capacity self.old.entries }
-        ensures probes { probes.new.count ≤ probes.old.count + 1 }
     {
         if self.len() == 0 {
             return;
         }
-        let first = self.entry(0, probes);
+        let first = self.entry(0);
         if first.pages > 1 {
             self.set(0, first.shorter(is_open));
         } else {
@@ -233,15 +225,10 @@ impl Ring {
     ///
     /// Each number has one entry at most, so the entry stands no further behind the first than its
     /// number does. Where all numbers between are pending it is the first one looked at.
-    pub(crate) fn find(&self, front: u64, number: u64, probes: &mut Probes) -> Option<Entry>
-        requires rising { IsRising front self.now.entries.items }
-        requires few { length self.now.entries.items < 2 ^ 16 }
-        requires counted { probes.old.count ≤ 2 ^ 63 }
-        ensures what { MatchOption result (HasNone number self.now.entries.items) (λ e.
+    pub(crate) fn find(&self, front: u64, number: u64) -> Option<Entry>
+        requires { IsRising front self.now.entries.items }
+        ensures { MatchOption result (HasNone number self.now.entries.items) (λ e.
             (slice_get self.now.entries.items e.at ≡ Some e.group) × (e.group.number ≡ number)) }
-        ensures most { probes.new.count ≤ probes.old.count + length self.now.entries.items }
-        ensures bound { AreConsecutive front self.now.entries.items →
-            probes.new.count ≤ probes.old.count + 1 }
     {
         if number < front {
             return None;
@@ -249,7 +236,7 @@ impl Ring {
         let reach = self.reach(number - front);
         for passed in 0..reach {
             let at = reach - 1 - passed;
-            let group = self.entry(at, probes);
+            let group = self.entry(at);
             if group.number == number {
                 return Some(Entry { at, group });
             }

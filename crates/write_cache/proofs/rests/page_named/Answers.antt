@@ -7,9 +7,9 @@ pub returns-in_err-at : goal.returns-in_err-at
 returns-in_err-at c =
     ap option_copied c.from_residual.ensures
     ∙ sym (find_placed (is_named c.args.name.number c.args.name.index) c.args.pages.now.items _
-    c.in_err-at.ensures.what)
+    c.in_err-at.ensures)
 
 pub returns : goal.returns
 returns c =
     c.page.ensures
-    ∙ sym (find_placed (is_named c.args.name.number c.args.name.index) c.args.pages.now.items _ c.in_ok-at.ensures.what)
+    ∙ sym (find_placed (is_named c.args.name.number c.args.name.index) c.args.pages.now.items _ c.in_ok-at.ensures)

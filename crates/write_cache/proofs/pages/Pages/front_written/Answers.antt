@@ -11,9 +11,9 @@ returns-then-group-gt0-clause-what c =
     let g = c.entry-group.result in
     let gs = f.groups.entries.items in
     let first = first_page f.landed f.front f.newest gs f.pages.items g c.self.invariant.runs
-    c.entry-group.ensures.is in
+    c.entry-group.ensures in
     sym (front_told g.number true f.pages.items first.page first.at first.number
-    (first_unwritten f.landed f.front f.newest gs f.pages.items g c.self.invariant.runs c.entry-group.ensures.is
+    (first_unwritten f.landed f.front f.newest gs f.pages.items g c.self.invariant.runs c.entry-group.ensures
     c.if-group-gt0.true))
     ∙ ap (λ (z : Queue). front_written z.items) c.self.view_is
 
@@ -23,9 +23,8 @@ returns c =
     let g = c.entry-group.result in
     let gs = f.groups.entries.items in
     let runs = c.self.invariant.runs in
-    let is = c.entry-group.ensures.is in
+    let is = c.entry-group.ensures in
     let none = c.if-group-gt0.false in
-    let probes = c.entry-group.ensures.probes in
     let page = first_page f.landed f.front f.newest gs f.pages.items g runs is in
     let front = first_written f.landed f.front f.newest gs f.pages.items g runs is (omega (arith, none)) in
     record {
@@ -39,5 +38,4 @@ returns c =
         (stands f.landed f.front f.newest 0 gs (map shown f.pages.items) g runs is).is_run.some,
         subst (λ (z : Queue). g.pages ≤ length z.items) c.self.view_is front.within,
       );
-      bound = omega (arith, probes);
     }

@@ -7,49 +7,33 @@ use Rattle.write_cache.proofs.LastPlaces.{key_of, newest_same}
 use Rattle.write_cache.proofs.Marks.{first_marked, marked_length, marked_runs, none_marked}
 use Rattle.write_cache.proofs.Readies.{found_within, rests_kept, written_ready}
 use Rattle.write_cache.proofs.Same.{rest_of, written_same}
-use Rattle.write_cache.proofs.Told.{told_consecutive, told_few, told_rising, told_stands, told_straight}
+use Rattle.write_cache.proofs.Told.{told_rising, told_stands}
 use Rattle.write_cache.proofs.MarkedPlaces.{written_marked}
 use Rattle.write_cache.proofs.pages.Pages.mark_written.Goals as goal
 
-pub find-requires-clause-rising : goal.find-requires-clause-rising
-find-requires-clause-rising c = told_rising c.self.inside c.self.invariant
+pub find-requires : goal.find-requires
+find-requires c = told_rising c.self.inside c.self.invariant
 
-pub find-requires-clause-few : goal.find-requires-clause-few
-find-requires-clause-few c = told_few c.self.inside c.self.invariant
-
-pub returns-in_default-clause-after : goal.returns-in_default-clause-after
-returns-in_default-clause-after c =
+pub returns-in_default : goal.returns-in_default
+returns-in_default c =
     let f = c.self.inside in
     sym c.self.view_is
     ∙ ap (λ (ps : List Pending). record (queue_of f) { items = ps })
     (unfound_told f.pages.items c.args.number c.args.index c.args.place
     (none_marked f.landed f.front f.newest c.args.number c.args.index f.groups.entries.items f.pages.items
-    c.self.invariant.runs c.in_default.ensures.what))
+    c.self.invariant.runs c.in_default.ensures))
     ∙ ap (λ (z : Queue). record z { items = page_written z.items c.args.number c.args.index c.args.place })
     c.self.view_is
 
-pub returns-in_default-clause-bound : goal.returns-in_default-clause-bound
-returns-in_default-clause-bound c = λ all.
-    let one = c.in_default.ensures.bound
-    (told_consecutive c.self.inside c.args.self.now c.self.invariant c.self.view_is all) in
-    omega (arith, one)
-
 pub place_in-found-requires-clause-stands : goal.place_in-found-requires-clause-stands
 place_in-found-requires-clause-stands c =
-    told_stands c.self.inside c.in-Some.entry.at c.in-Some.entry.group c.self.invariant c.in-Some.ensures.what.0
-
-pub place_in-found-requires-clause-counted : goal.place_in-found-requires-clause-counted
-place_in-found-requires-clause-counted c =
-    let few = told_few c.self.inside c.self.invariant in
-    let most = c.in-Some.ensures.most in
-    let counted = c.requires.counted in
-    omega (arith, few, most, counted)
+    told_stands c.self.inside c.in-Some.entry.at c.in-Some.entry.group c.self.invariant c.in-Some.ensures.0
 
 pub set-requires-in-Some-found : goal.set-requires-in-Some-found
 set-requires-in-Some-found c =
     let f = c.self.inside in
     let within = found_within f.pages.items c.in-Some.entry.group.number c.args.index c.in-Some-found.at
-    c.in-Some-found.ensures.what in
+    c.in-Some-found.ensures in
     let fits = c.self.invariant.fits in
     let flags = c.self.invariant.ready.flags_room in
     omega (arith, within, fits, flags)
@@ -58,7 +42,7 @@ pub mark-requires : goal.mark-requires
 mark-requires c =
     let f = c.self.inside in
     let within = found_within f.pages.items c.in-Some.entry.group.number c.args.index c.in-Some-found.at
-    c.in-Some-found.ensures.what in
+    c.in-Some-found.ensures in
     let fits = c.self.invariant.fits in
     let few = c.self.invariant.few in
     omega (arith, within, fits, few)
@@ -73,7 +57,7 @@ invariant_of-self c =
     c.set.ensures.after ∙ ap (λ (h : GroupAt). slice_set f.groups.entries.items at h) c.written.ensures in
     let long = ap (λ (ps : List Pending). length ps) c.write_at-is_open.ensures.after
     ∙ marked_length k c.args.place f.pages.items in
-    let within = found_within f.pages.items g.number c.args.index k c.in-Some-found.ensures.what in
+    let within = found_within f.pages.items g.number c.args.index k c.in-Some-found.ensures in
     let fits = c.self.invariant.fits in
     let few = c.self.invariant.few in
     let room = c.self.invariant.pages_room in
@@ -86,13 +70,13 @@ invariant_of-self c =
       pages_room = omega (arith, room, same_room);
       groups_room = omega (arith, ring_room, same_ring_room);
       front = c.self.invariant.front
-          ∙ first_marked f.front at f.groups.entries.items g c.write_at-is_open.result c.in-Some.ensures.what.0
+          ∙ first_marked f.front at f.groups.entries.items g c.write_at-is_open.result c.in-Some.ensures.0
           ∙ ap (first_number f.front) (sym is);
       runs = subst (λ (gs : List GroupAt). AreRuns f.landed f.front f.newest gs
           (map shown c.write_at-is_open.new.pages.items)) (sym is)
           (marked_runs f.landed f.front f.newest at k c.args.index f.groups.entries.items f.pages.items
           c.write_at-is_open.new.pages.items g c.args.place c.write_at-is_open.result c.self.invariant.runs
-          c.in-Some.ensures.what.0 (sym c.in-Some-found.ensures.what) c.write_at-is_open.ensures.was
+          c.in-Some.ensures.0 (sym c.in-Some-found.ensures) c.write_at-is_open.ensures.was
           c.write_at-is_open.ensures.after);
       landed = c.self.invariant.landed;
       positions = newest_same f.positions f.landed f.pages.items c.write_at-is_open.new.pages.items
@@ -111,18 +95,3 @@ invariant_of-self c =
           ∙ written_same rest_of f.pages.items k c.args.place (λ p. refl) (slice_get f.pages.items k) refl)
           c.self.invariant.waiting;
     }
-
-pub returns-in-Some-found-clause-bound : goal.returns-in-Some-found-clause-bound
-returns-in-Some-found-clause-bound c = λ all.
-    let one = c.in-Some.ensures.bound
-    (told_consecutive c.self.inside c.args.self.now c.self.invariant c.self.view_is all) in
-    let none = c.in-Some-found.ensures.bound (told_straight c.self.inside c.args.self.now c.self.view_is all) in
-    let last = c.write_at-is_open.ensures.probes in
-    omega (arith, one, none, last)
-
-pub returns-in_default-found-clause-bound : goal.returns-in_default-found-clause-bound
-returns-in_default-found-clause-bound c = λ all.
-    let one = c.in-Some.ensures.bound
-    (told_consecutive c.self.inside c.args.self.now c.self.invariant c.self.view_is all) in
-    let none = c.in_default-found.ensures.bound (told_straight c.self.inside c.args.self.now c.self.view_is all) in
-    omega (arith, one, none)

@@ -62,12 +62,12 @@ invariant_of-self c =
       pages_room = omega (arith, pages_room, same_pages);
       groups_room = omega (arith, ring_room, same_ring);
       front = first_again f.front c.first_number-self-inside.result c.note.new.self.entries.items
-          c.first_number-self-inside.ensures.is;
+          c.first_number-self-inside.ensures;
       runs = pushed f.landed f.front f.newest c.first_number-self-inside.result f.groups.entries.items
           c.note.new.self.entries.items f.pages.items c.push_back_reserved.new.self.items p c.self.invariant.runs
           c.note.ensures.after c.push_back_reserved.ensures.items (omega (arith, newer, newest_is))
           c.requires.unwritten (omega (arith, room, length_is, room_is, few))
-          c.first_number-self-inside.ensures.is;
+          c.first_number-self-inside.ensures;
       landed = c.self.invariant.landed;
       positions = newest_pushed f.positions c.note_at.new.self f.landed _ f.pages.items
           c.push_back_reserved.new.self.items p c.self.invariant.positions c.note_at.ensures.config

@@ -22,12 +22,12 @@ invariant_of-self-2 c =
       pages_room = omega (arith, pages_room, same_pages);
       groups_room = omega (arith, ring_room, same_ring);
       front = first_again f.front c.first_number-self-inside.result c.shorten.new.self.entries.items
-          c.first_number-self-inside.ensures.is;
+          c.first_number-self-inside.ensures;
       runs = taken f.landed f.front f.newest c.first_number-self-inside.result f.groups.entries.items
           c.shorten.new.self.entries.items f.pages.items c.pop_front.new.self.items c.in_ok-page.page
           c.self.invariant.runs c.in_ok-page.ensures.items
           (c.shorten.ensures.after ∙ ap (λ (b : Bool). shortened b f.groups.entries.items) unwritten)
-          c.first_number-self-inside.ensures.is;
+          c.first_number-self-inside.ensures;
       landed = omega arith;
       positions = newest_taken f.positions f.landed f.pages.items c.pop_front.new.self.items c.in_ok-page.page
           c.in_ok-page.ensures.items c.self.invariant.positions;

@@ -1,11 +1,11 @@
 use Rattle.write_cache.proofs.Common.{Queue, ap, arith, length, ◌∙◌}
 use Rattle.write_cache.proofs.Deques.{written_length}
-use Rattle.write_cache.proofs.cache.Cache.mark_written_counted.Goals as goal
+use Rattle.write_cache.proofs.cache.Cache.mark_written.Goals as goal
 
 pub invariant_of-self : goal.invariant_of-self
 invariant_of-self c =
     let ps = c.self.inside.pages.items in
-    let is = c.mark_written.ensures.after in
+    let is = c.mark_written.ensures in
     let long = ap (λ (q : Queue). length q.items) is ∙ written_length ps c.args.number c.args.index c.args.place in
     let slots = c.self.invariant.slots in
     record {
