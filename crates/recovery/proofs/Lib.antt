@@ -1,4 +1,5 @@
 mod Common
+mod Sharing
 pub mod bad_listed
 pub mod frees
 pub mod greatest_numbers

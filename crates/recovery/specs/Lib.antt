@@ -7,4 +7,5 @@ pub mod Listed
 pub mod Opened
 pub mod Reading
 pub mod Scanned
+pub mod Shares
 pub mod Stood
