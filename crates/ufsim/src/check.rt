@@ -132,7 +132,7 @@ impl Check {
                 self.life.tell(message.as_slice());
                 Ok(())
             }
-            Output::Take(Some(job)) if is_write(job) => self.stop_here(alloc, world),
+            Output::Take(job) if is_write(job) => self.stop_here(alloc, world),
             Output::Ended => {
                 self.life.end(world, event);
                 Ok(())

@@ -1,5 +1,5 @@
 //! The dies as a stop leaves them, on copies.
-ghost use Rattle.std.specs.Prelude.{◌≡◌, Some, if◌then◌else◌};
+ghost use Rattle.std.specs.Prelude.{◌≡◌, if◌then◌else◌};
 ghost use Rattle.ufsim.specs.Checked.{given_by};
 
 use crate::commands::Content;
@@ -44,16 +44,16 @@ fn bad_blocks_of(die: &MemDie) -> usize {
 /// Whether the die has a program or an erase in flight.
 pub(crate) fn is_at_work(world: &World, die: u8) -> bool {
     match world.job(die) {
-        Some(job) => is_write(job),
-        None => false,
+        None | Some(Job::Read(_)) => false,
+        Some(_) => true,
     }
 }
 
-/// Whether the job is a program or an erase.
-pub(crate) fn is_write(job: &Job) -> bool
-    ensures { given_by (Some job.now) ≡ if result then 1 else 0 }
+/// Whether a die is given a program or an erase with this.
+pub(crate) fn is_write(job: &Option<Job>) -> bool
+    ensures { given_by job.now ≡ if result then 1 else 0 }
 {
-    !matches!(job, Job::Read(_))
+    !matches!(job, None | Some(Job::Read(_)))
 }
 
 /// Copies of the dies as a stop leaves them with this content in all that is programmed or erased.
