@@ -1,14 +1,14 @@
 -- Each command is read back from the sixteen bytes in which a host writes it, so no two commands have the same.
 use Rattle.std.proofs.Common.{◌≡◌, ◌<◌, ◌^◌, ℕ, true, false, List, drop, nat_le, nat_lt, Bool}
-use Rattle.std.proofs.Common.{replicate, Some, sym, ap, ◌∙◌, refl}
+use Rattle.std.proofs.Common.{replicate, Some, None, cond, sym, ap, ◌∙◌, ◌&&◌, refl}
 use Rattle.std.proofs.lemmas.Bool.{le-leb, lt-ltb}
 use Rattle.byteorder.specs.Numbers.{big_number-reads_back}
 use Rattle.ufs_bytes.specs.Fields.{field_at}
 use Rattle.ufs_spec.proofs.Facts.{same_Some}
-use Rattle.ufs_spec.specs.CdbFields.{spelled_cdb, taken_if}
+use Rattle.ufs_spec.specs.CdbFields.{selects_modes, spelled_cdb, taken_if}
 use Rattle.ufs_spec.specs.Cdbs.{IsCdb, cdb_bytes, ten_bytes}
 use Rattle.ufs_spec.specs.Plain.{regions}
-use Rattle.ufs_spec.specs.declared.operations.TheConstants.{READ_10, WRITE_10}
+use Rattle.ufs_spec.specs.declared.operations.TheConstants.{PRE_FETCH_10, READ_10, WRITE_10}
 use Rattle.ufs_spec.specs.declared.operations.Told.TheVariants as told
 use Rattle.ufs_spec.specs.declared.scsi.Cdb.{Cdb}
 use Rattle.ufs_spec.specs.declared.scsi.Cdb.TheVariants as cdb
@@ -42,6 +42,30 @@ again (cdb.Tell told.Units select allocation) h =
     ap (λ (n : ℕ). taken_if (nat_le select 2) (cdb.Tell told.Units select n))
     (big_number-reads_back 4 allocation (replicate 6 0) h.1)
     ∙ if_right (nat_le select 2) (cdb.Tell told.Units select allocation) (le-leb select 2 h.0)
+again (cdb.Tell told.LongCapacity select allocation) h =
+    ap (λ (n : ℕ). Some (cdb.Tell told.LongCapacity 0 n)) (big_number-reads_back 4 allocation (replicate 2 0) h.1)
+    ∙ ap (λ (n : ℕ). Some (cdb.Tell told.LongCapacity n allocation)) (sym h.0)
+again (cdb.Tell told.Page select allocation) h =
+    ap (λ (n : ℕ). Some (cdb.Tell told.Page select n)) (big_number-reads_back 2 allocation (replicate 11 0) h.1)
+again (cdb.Tell told.Modes select allocation) h =
+    let bytes : List ℕ = cdb_bytes (cdb.Tell told.Modes select allocation) in
+    ap (λ (n : ℕ). taken_if (selects_modes n) (cdb.Tell told.Modes n (field_at 2 7 bytes)))
+    (big_number-reads_back 2 select (drop 4 bytes) h.1)
+    ∙ ap (λ (n : ℕ). taken_if (selects_modes select) (cdb.Tell told.Modes select n))
+    (big_number-reads_back 2 allocation (replicate 7 0) h.2)
+    ∙ if_right (selects_modes select) (cdb.Tell told.Modes select allocation) h.0
+again (cdb.Tell told.ShortModes select allocation) h =
+    let bytes : List ℕ = cdb_bytes (cdb.Tell told.ShortModes select allocation) in
+    ap (λ (n : ℕ). taken_if (selects_modes n) (cdb.Tell told.ShortModes n allocation))
+    (big_number-reads_back 2 select (drop 4 bytes) h.1)
+    ∙ if_right (selects_modes select) (cdb.Tell told.ShortModes select allocation) h.0
+again (cdb.Tell told.Operations select allocation) h =
+    let bytes : List ℕ = cdb_bytes (cdb.Tell told.Operations select allocation) in
+    let all : Cdb = cdb.Tell told.Operations (field_at 4 2 bytes) (field_at 4 6 bytes) in
+    ap (λ (b : Bool). cond (b && true) (Some all) None) h.0
+    ∙ ap (λ (n : ℕ). Some (cdb.Tell told.Operations n (field_at 4 6 bytes)))
+    (big_number-reads_back 4 select (drop 6 bytes) h.1)
+    ∙ ap (λ (n : ℕ). Some (cdb.Tell told.Operations select n)) (big_number-reads_back 4 allocation (replicate 6 0) h.2)
 again (cdb.Read address blocks) h =
     ten_again (λ n m. Some (cdb.Read n m)) READ_10 0x00 address blocks h.0 h.1
 again (cdb.Write address blocks true) h =
@@ -50,6 +74,10 @@ again (cdb.Write address blocks false) h =
     ten_again (λ n m. Some (cdb.Write n m false)) WRITE_10 0x00 address blocks h.0 h.1
 again (cdb.Flush true) h = refl
 again (cdb.Flush false) h = refl
+again (cdb.Prefetch address blocks) h =
+    ten_again (λ n m. Some (cdb.Prefetch n m)) PRE_FETCH_10 0x00 address blocks h.0 h.1
+again (cdb.Diagnose true) h = refl
+again (cdb.Diagnose false) h = refl
 again (cdb.Unmap list) h = ap (λ (n : ℕ). Some (cdb.Unmap n)) (big_number-reads_back 2 list (replicate 7 0) h)
 again (cdb.SecurityIn region length) h =
     ap (λ (n : ℕ). taken_if (nat_lt region regions) (cdb.SecurityIn region n))

@@ -39,7 +39,8 @@ few_steps sizes h = λ k d lt. (from_test 0 8 _ (AllPass-from_list_all (is_betwe
 
 pub ranges : (n : Numbers) → in_range n ≡ true → InRange n
 ranges n h =
-    let spare = and_parts _ _ h in
+    let profile = and_parts _ _ h in
+    let spare = and_parts _ _ profile.0 in
     let slots = and_parts _ _ spare.0 in
     let rpmb = and_parts _ _ slots.0 in
     let first = and_parts _ _ rpmb.0 in
@@ -64,6 +65,7 @@ ranges n h =
       has_slots = (from_test _ _ _ slots.1).0;
       slots_bound = (from_test _ _ _ slots.1).1;
       spare_bound = (from_test _ _ _ spare.1).1;
+      profile_bound = leb-true _ _ profile.1;
     }
 
 -- where none of the three tests finds a fault

@@ -1,30 +1,33 @@
 -- What a COMMAND makes of the state: it is refused, or begins (JESD220, 10.7.1; SPC and SBC for the commands).
 use Rattle.std.specs.Prelude.{Bool, List, None, Option, Some, [], false, if◌then◌else◌, length, map, nat_le, not, take, ℕ}
-use Rattle.std.specs.Prelude.{◌*◌, ◌++◌, ◌+◌, ◌-◌, ◌==◌, ◌||◌, ◌∷◌}
+use Rattle.std.specs.Prelude.{is_some, ◌*◌, ◌++◌, ◌+◌, ◌-◌, ◌==◌, ◌||◌, ◌∷◌}
 use Rattle.std.specs.List.{flat_map}
-use Rattle.byteorder.specs.Endian.{big_bytes}
 use Rattle.std.specs.Int.{div_ceil}
-use Rattle.ufs_spec.specs.Cdbs.{carried}
+use Rattle.ufs_spec.specs.Cdbs.{carried, fixed_sense}
 use Rattle.ufs_spec.specs.Changes.{with_moves, with_short, with_task}
 use Rattle.ufs_spec.specs.Exchanges.{Answering, Awaiting, Deed, Gathering, ReadBlock, Sending, SendingBytes, at_region}
-use Rattle.ufs_spec.specs.Exchanges.{most_tasks, response, short_reply}
+use Rattle.ufs_spec.specs.Exchanges.{most_tasks, response, sense, short_reply}
 use Rattle.ufs_spec.specs.declared.exchanges.Status.TheVariants.{Good, TaskSetFull}
 use Rattle.ufs_spec.specs.declared.exchanges.Purpose.TheVariants.{ForFrames, ForUnmap, ForWrite}
 use Rattle.ufs_spec.specs.declared.exchanges.ReadState.TheVariants.{Unread}
 use Rattle.ufs_spec.specs.declared.exchanges.Status.{Status}
 use Rattle.ufs_spec.specs.declared.exchanges.Purpose.{Purpose}
-use Rattle.ufs_spec.specs.Identities.{inquiry_bytes, luns_bytes}
+use Rattle.ufs_spec.specs.Identities.{device_type, inquiry_bytes, long_capacity_bytes, luns_bytes, modes_told, operations_told}
+use Rattle.ufs_spec.specs.Identities.{page_bytes, short_modes_told}
+pub use Rattle.ufs_spec.specs.Identities.{capacity_bytes}
 use Rattle.ufs_spec.specs.Keys.{below, data_key}
 use Rattle.ufs_spec.specs.Messages.{zeros}
 use Rattle.ufs_spec.specs.Moves.{Claim, Keep, Move, look_now}
 use Rattle.ufs_spec.specs.Plain.{block_at}
-use Rattle.ufs_spec.specs.Refusals.{Request, State, mended, numbers_of, plain_now, refusal, refused_state, slots_needed}
+use Rattle.ufs_spec.specs.Refusals.{Lun, Request, State, has_attention, is_guarded, lun_of, mended, numbers_of, plain_now}
+use Rattle.ufs_spec.specs.Refusals.{refusal, refused_state, slots_needed, without_attention}
 use Rattle.ufs_spec.specs.Refusals.{unit_numbers_of, unit_of_request}
 use Rattle.ufs_spec.specs.Translation.{Pin}
-use Rattle.ufs_spec.specs.declared.configs.UnitSpec.{UnitSpec}
 use Rattle.ufs_spec.specs.declared.operations.Told.{Told}
 use Rattle.ufs_spec.specs.declared.operations.Told.TheVariants as told
 use Rattle.ufs_spec.specs.declared.scsi.Cdb.{Cdb}
+use Rattle.ufs_spec.specs.declared.scsi.Sense.{Sense}
+use Rattle.ufs_spec.specs.declared.volatile.Volatile.{Volatile}
 use Rattle.ufs_spec.specs.declared.scsi.Cdb.TheVariants as cdb
 
 -- the n blocks of a READ that are sent, from an address on. Their content is that of this moment, the COMMAND:
@@ -88,16 +91,32 @@ sending_bytes r bytes = if carried r.expected (length bytes) == 0 then Answering
 abbrev pub data_begun : State → Request → Cdb → List ℕ → State
 data_begun s r command bytes = with_task s r (Some command) (length bytes) (sending_bytes r bytes)
 
--- what REQUEST SENSE sends: there is no sense to tell, so that all but the format is zero
--- (SPC, fixed format sense data)
-abbrev pub no_sense : List ℕ
-no_sense = (0x70 ∷ zeros 6) ++ (0x0A ∷ zeros 10)
+-- the sense that says nothing: all but the format is zero (SPC, fixed format sense data)
+abbrev pub nothing_wrong : Sense
+nothing_wrong = record { key = 0; asc = 0; ascq = 0 }
 
--- what READ CAPACITY(10) sends (SBC): the unit's last address, and 4096 as the length of a block. Without a unit
--- the command is refused before
-abbrev pub capacity_bytes : Option UnitSpec → List ℕ
-capacity_bytes None = zeros 8
-capacity_bytes (Some u) = big_bytes 4 (u.blocks - 1) ++ big_bytes 4 4096
+-- what REQUEST SENSE tells at a LUN of a device of profile 1, the first of these that applies (SPC): that there is no such
+-- unit, 5/25/00; the attention of this one, 6/29/00; that the device is not ready, 2/04/01; or nothing
+abbrev pub sense_at : State → Option Lun → Sense
+sense_at s None = sense 0x05 0x25
+sense_at s (Some lun) =
+    if has_attention s lun then sense 0x06 0x29
+    else if mended s then nothing_wrong
+    else record { key = 0x02; asc = 0x04; ascq = 0x01 }
+
+-- the same on a device of either profile: that of profile 0 has nothing to tell
+abbrev pub sense_told : State → Request → Sense
+sense_told s r =
+    if (numbers_of s).profile == 0 then nothing_wrong else sense_at s (lun_of (numbers_of s) r.lun)
+
+-- REQUEST SENSE ends the attention that it tells; whatever else is told leaves it
+abbrev pub volatile_told : State → Request → Told → Volatile
+volatile_told s r told.Sense = without_attention (lun_of (numbers_of s) r.lun) s.volatile
+volatile_told s r what = s.volatile
+
+-- the device type that INQUIRY tells (SPC): 7Fh where there is no unit
+abbrev pub type_told : State → Request → ℕ
+type_told s r = if is_some (lun_of (numbers_of s) r.lun) then device_type r.lun else 0x7F
 
 -- the unit of a command; for a command that needs no unit's blocks any number does, here 0
 abbrev pub unit_or_first : Option ℕ → ℕ
@@ -126,21 +145,30 @@ frames_begun s r region n =
 
 -- what a command tells that is about this request
 abbrev pub told_bytes : State → Request → Told → ℕ → List ℕ
-told_bytes s r told.Sense select = no_sense
-told_bytes s r told.Identity select = inquiry_bytes r.lun
+told_bytes s r told.Sense select = fixed_sense (sense_told s r)
+told_bytes s r told.Identity select = inquiry_bytes (type_told s r)
 told_bytes s r told.Capacity select = capacity_bytes (unit_numbers_of s r)
 told_bytes s r told.Units select = luns_bytes (numbers_of s) select
+told_bytes s r told.LongCapacity select = long_capacity_bytes (unit_numbers_of s r)
+told_bytes s r told.Page select = page_bytes (numbers_of s) r.lun select
+told_bytes s r told.Modes select = modes_told select (is_guarded s (unit_numbers_of s r))
+told_bytes s r told.ShortModes select = short_modes_told select (is_guarded s (unit_numbers_of s r))
+told_bytes s r told.Operations select = operations_told select
 
--- a command that is not refused begins on this unit: TEST UNIT READY is answered GOOD at once; the others begin
--- as the definitions above say
+-- a command that is not refused begins on this unit: TEST UNIT READY, PRE-FETCH and SEND DIAGNOSTIC are answered GOOD at
+-- once; the others begin as the definitions above say. A PRE-FETCH reads nothing
 abbrev pub begun : State → Request → ℕ → Cdb → State
 begun s r unit cdb.Nothing = with_task s r (Some cdb.Nothing) 0 (Answering Good 0)
 begun s r unit (cdb.Tell what select allocation) =
-    data_begun s r (cdb.Tell what select allocation) (take allocation (told_bytes s r what select))
+    data_begun (record s { volatile = volatile_told s r what }) r (cdb.Tell what select allocation)
+    (take allocation (told_bytes s r what select))
 begun s r unit (cdb.Read address blocks) = read_begun s r (cdb.Read address blocks) unit address (4096 * blocks)
 begun s r unit (cdb.Write address blocks forced) =
     write_begun s r (cdb.Write address blocks forced) unit address blocks forced
 begun s r unit (cdb.Flush immediate) = flush_begun s r (cdb.Flush immediate) immediate
+begun s r unit (cdb.Prefetch address blocks) =
+    with_task s r (Some (cdb.Prefetch address blocks)) 0 (Answering Good 0)
+begun s r unit (cdb.Diagnose tests) = with_task s r (Some (cdb.Diagnose tests)) 0 (Answering Good 0)
 begun s r unit (cdb.Unmap list) = unmap_begun s r unit list
 begun s r unit (cdb.SecurityIn region n) = frames_begun s r region n
 begun s r unit (cdb.SecurityOut region n) = gathering_begun s r (cdb.SecurityOut region n) n (ForFrames region)

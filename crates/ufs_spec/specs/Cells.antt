@@ -51,6 +51,9 @@ pub record NumbersFit (n : Numbers) : Type 0 where
   pub rpmb : All (λ steps. steps < 2 ^ 8) n.rpmb
   pub slots : n.slots < 2 ^ 16
   pub spare : n.spare < 2 ^ 16
+  -- what no mark holds
+  pub profile : n.profile ≡ 0
+  pub serial : n.serial ≡ 1
 
 -- the body is that of a mark with this fence and these numbers
 pub record IsMarkBody (fence : Option Fence) (n : Numbers) (body : List ℕ) : Type 0 where

@@ -22,7 +22,17 @@ numbers_of dies blocks pages units rpmb slots spare =
       rpmb = rpmb;
       slots = slots;
       spare = spare;
+      profile = 0;
+      serial = 1;
     }
+
+-- the same numbers for a device of this profile with this serial number
+abbrev pub with_profile : Numbers → ℕ → ℕ → Numbers
+with_profile n profile serial = record n { profile = profile; serial = serial }
+
+-- the same numbers as the dies hold them: profile and serial number stand on no page
+abbrev pub marked : Numbers → Numbers
+marked n = with_profile n 0 1
 
 -- ## Ranges
 
@@ -49,6 +59,7 @@ in_range n =
     && list_all (is_between 0 8) n.rpmb
     && is_between 64 1024 n.slots
     && is_between 0 (n.dies * n.blocks) n.spare
+    && nat_le n.profile 1
 
 -- how many blocks a command may have in a configuration, each of them a page of its group: 128 where the write cache
 -- has 256 slots or more, and 32 where it has fewer
@@ -132,6 +143,7 @@ pub record InRange (n : Numbers) : Type 0 where
   pub has_slots : 64 ≤ n.slots
   pub slots_bound : n.slots ≤ 1024
   pub spare_bound : n.spare ≤ n.dies * n.blocks
+  pub profile_bound : n.profile ≤ 1
 
 -- the dies have a page for each block of a unit
 abbrev pub HasRoom : Numbers → Type 0

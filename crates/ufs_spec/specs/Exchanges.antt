@@ -86,6 +86,22 @@ no_unit = check 0x05 0x25
 abbrev pub invalid_list_field : Status
 invalid_list_field = check 0x05 0x26
 
+-- 6/29/00, UNIT ATTENTION, power on or reset: a LUN tells it once after each opening and each reset
+abbrev pub unit_attention : Status
+unit_attention = check 0x06 0x29
+
+-- B/49/00, ABORTED COMMAND, invalid message error: the COMMAND has another task attribute than SIMPLE
+abbrev pub message_error : Status
+message_error = check 0x0B 0x49
+
+-- 5/39/00, ILLEGAL REQUEST, saving parameters not supported: saved mode pages are asked for
+abbrev pub saving_unsupported : Status
+saving_unsupported = check 0x05 0x39
+
+-- 4/3E/03, HARDWARE ERROR, logical unit failed self-test: the device is locked
+abbrev pub self_test_failed : Status
+self_test_failed = CheckCondition (record { key = 0x04; asc = 0x3E; ascq = 0x03 })
+
 -- 5/2C/00, ILLEGAL REQUEST, command sequence error: a result or response of the RPMB is asked for, and none is there
 abbrev pub sequence_error : Status
 sequence_error = check 0x05 0x2C

@@ -2,8 +2,8 @@
 -- function of the state, but for what the device may choose: which of several replies goes first, and which of several
 -- reads (JESD220, 10.7 and 10.8; this profile).
 use Rattle.std.specs.Prelude.{Bool, Err, List, None, Ok, Option, Result, Some, [], false, filter, find, fold}
-use Rattle.std.specs.Prelude.{if◌then◌else◌, length, map, nat_le, nat_lt, slice_get, slice_set, true, ℕ, ◌&&◌, ◌+◌}
-use Rattle.std.specs.Prelude.{◌||◌, ◌∷◌, ◌≡◌, ◌⊎◌}
+use Rattle.std.specs.Prelude.{bit_and, if◌then◌else◌, length, map, nat_le, nat_lt, slice_get, slice_set, true, ℕ, ◌&&◌, ◌+◌}
+use Rattle.std.specs.Prelude.{not, ◌==◌, ◌||◌, ◌∷◌, ◌≡◌, ◌⊎◌}
 use Rattle.std.specs.List.{list_any}
 use Rattle.ufs_spec.specs.CdbFields.{spelled_cdb}
 use Rattle.ufs_spec.specs.Cells.{Array}
@@ -34,7 +34,7 @@ pub use Rattle.ufs_spec.specs.Changes.{accepts, claimed_by, set_deed, with_moves
 pub use Rattle.ufs_spec.specs.Replies.{Due, MayLeave, block_reply, deed_reply, durable, is_at_hand, is_durable}
 pub use Rattle.ufs_spec.specs.Replies.{needs_no_read, next_block_reply, pin_of}
 pub use Rattle.ufs_spec.specs.Begins.{begun, begun_if_any, blocks_expected, capacity_bytes, command_taken, data_begun}
-pub use Rattle.ufs_spec.specs.Begins.{flush_begun, keeps, kept_at, no_sense, read_begun, read_blocks}
+pub use Rattle.ufs_spec.specs.Begins.{flush_begun, keeps, kept_at, read_begun, read_blocks}
 pub use Rattle.ufs_spec.specs.Begins.{refused_or_begun, sending, sending_bytes, unit_or_first, write_begun}
 pub use Rattle.ufs_spec.specs.FrameRequests.{filled_registers}
 pub use Rattle.ufs_spec.specs.DataOuts.{blocks_in, complete, data_for, data_heard, gathered_more, write_complete}
@@ -118,19 +118,25 @@ opening_fault s tag short =
     else if short && nat_le most_short_exchanges (length s.shorts) then Some Backlog
     else None
 
+-- fault 6 of a COMMAND on a device of profile 0: it has a priority or a task attribute (JESD220, 10.7.1)
+abbrev pub has_attribute : Numbers → (flags : ℕ) → Bool
+has_attribute n flags = (n.profile == 0) && not (bit_and flags 0x07 == 0)
+
 -- fault 8 for data for which no READY TO TRANSFER asked
 abbrev pub asked_fault : Bool → Option HostFault
 asked_fault true = None
 asked_fault false = Some NotAskedFor
 
--- why a message is not taken. Data must be those that a READY TO TRANSFER asked for (8); what opens an exchange needs a
--- free tag (7) and room (9); no host sends what a device sends (5; bytes of such a kind have it before)
+-- why a message is not taken. A COMMAND of profile 0 has no task attribute (6). Data must be those that a READY TO
+-- TRANSFER asked for (8); what opens an exchange needs a free tag (7) and room (9); no host sends what a device sends
+-- (5; bytes of such a kind have it before)
 abbrev pub message_fault : State → Message → Option HostFault
 message_fault s (message.DataOut lun tag offset «data») =
     asked_fault (is_asked_of (task_of tag s.tasks) lun offset (length «data».items))
 message_fault s (message.NopOut tag) = opening_fault s tag true
 message_fault s (message.Command flags lun tag expected bytes) =
-    opening_fault s tag (opens_short s (message.Command flags lun tag expected bytes))
+    if has_attribute (numbers_of s) flags then Some Reserved
+    else opening_fault s tag (opens_short s (message.Command flags lun tag expected bytes))
 message_fault s (message.TaskRequest lun tag function meant) = opening_fault s tag true
 message_fault s (message.QueryRequest tag function asked size value «data») = opening_fault s tag true
 message_fault s (message.NopIn tag) = Some Code

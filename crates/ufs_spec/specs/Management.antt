@@ -1,13 +1,14 @@
 -- Task management (JESD220, 10.7.6 and 10.7.7).
-use Rattle.std.specs.Prelude.{Bool, List, [], false, filter, if◌then◌else◌, is_none, not, true, ℕ, ◌&&◌, ◌==◌, ◌||◌}
+use Rattle.std.specs.Prelude.{Bool, List, None, Option, Some, [], false, filter, if◌then◌else◌, is_none, not, true, ℕ, ◌&&◌, ◌==◌, ◌||◌}
 use Rattle.std.specs.Prelude.{◌∷◌}
 use Rattle.std.specs.List.{flat_map, list_any}
 use Rattle.ufs_spec.specs.Changes.{claimed_by, with_moves}
 use Rattle.ufs_spec.specs.Exchanges.{Registers, Task, empty_registers}
 use Rattle.ufs_spec.specs.Messages.{is_among}
 use Rattle.ufs_spec.specs.Moves.{LetGoAll, Move, Release}
-use Rattle.ufs_spec.specs.Refusals.{State, lun_of, numbers_of, sends_frames_to}
+use Rattle.ufs_spec.specs.Refusals.{Lun, State, lun_of, numbers_of, sends_frames_to, with_attention}
 use Rattle.ufs_spec.specs.declared.configs.Numbers.{Numbers}
+use Rattle.ufs_spec.specs.declared.volatile.Volatile.{Volatile}
 
 -- the task is the one that a task management request means: it has that LUN and that tag
 abbrev pub is_named : ℕ → ℕ → Task → Bool
@@ -62,6 +63,18 @@ without_tasks s is =
 abbrev pub carried_out : State → ℕ → ℕ → ℕ → ℕ → State
 carried_out s lun function meant code = if code == 0x00 then without_tasks s (is_aborted lun function meant) else s
 
+-- what a logical unit reset makes of what is volatile: the LUN has an attention (SAM). A LUN that is not there has none
+abbrev pub reset_at : Option Lun → Volatile → Volatile
+reset_at None volatile = volatile
+reset_at (Some lun) volatile = with_attention lun true volatile
+
+-- the same of each function: only the reset, 08h, leaves an attention
+abbrev pub volatile_managed : State → ℕ → ℕ → Volatile
+volatile_managed s lun function =
+    if function == 0x08 then reset_at (lun_of (numbers_of s) lun) s.volatile else s.volatile
+
 -- what a task management request makes of the state, but for its own answer
 abbrev pub managed : State → ℕ → ℕ → ℕ → State
-managed s lun function meant = carried_out s lun function meant (service s lun function meant)
+managed s lun function meant =
+    carried_out (record s { volatile = volatile_managed s lun function }) lun function meant
+    (service s lun function meant)

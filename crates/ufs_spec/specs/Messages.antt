@@ -112,10 +112,15 @@ IsByte n = n < 2 ^ 8
 abbrev pub AreBytes : List ℕ → Type 0
 AreBytes bytes = (place : ℕ) → IsByte (slice_index bytes place)
 
--- 00h, 20h or 40h. Of a COMMAND (JESD220, 10.7.1): no data, write or read; of a RESPONSE (10.7.2):
+-- 00h, 20h or 40h. Of the direction of a COMMAND's data (JESD220, 10.7.1): no data, write or read; of a RESPONSE (10.7.2):
 -- as expected, underflow or overflow
 abbrev pub AreFlags : ℕ → Type 0
 AreFlags flags = IsAmong (0x00 ∷ 0x20 ∷ 0x40 ∷ []) flags
+
+-- the flags of a COMMAND (JESD220, 10.7.1): the direction of its data; below it the command's priority, bit 2, and the task
+-- attribute, bits 1..0
+abbrev pub AreCommandFlags : ℕ → Type 0
+AreCommandFlags flags = IsByte flags × AreFlags (bit_and flags 0xF8)
 
 -- the data of one DATA OUT or DATA IN: 1 to 4096 bytes, a logical block at most (this profile)
 abbrev pub IsTransferred : List ℕ → Type 0
@@ -142,7 +147,7 @@ IsSense status (Some sense) = (status ≡ 0x02) × (length sense ≡ 20) × AreB
 abbrev pub IsMessage : Message → Type 0
 IsMessage (NopOut tag) = IsByte tag
 IsMessage (Command flags lun tag expected cdb) =
-    AreFlags flags × IsByte lun × IsByte tag × (expected < 2 ^ 32) × (length cdb ≡ 16) × AreBytes cdb
+    AreCommandFlags flags × IsByte lun × IsByte tag × (expected < 2 ^ 32) × (length cdb ≡ 16) × AreBytes cdb
 IsMessage (DataOut lun tag offset «data») =
     IsByte lun × IsByte tag × (offset < 2 ^ 32) × IsTransferred «data».items
 IsMessage (TaskRequest lun tag function meant) = IsByte lun × IsByte tag × IsByte function × IsByte meant

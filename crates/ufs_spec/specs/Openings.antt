@@ -3,6 +3,7 @@
 use Rattle.std.specs.Prelude.{◌≡◌, ◌≢◌, ◌⊎◌, ℕ, suc, ◌<◌, ◌≤◌, Bool, true, false, List, [], Option, Some, None}
 use Rattle.std.specs.Prelude.{slice_get}
 use Rattle.ufs_spec.specs.Cells.{Cell, Cells, GroupPage, Mark, MarkPage, Nothing, key_of}
+use Rattle.ufs_spec.specs.Configs.{marked}
 use Rattle.ufs_spec.specs.Disk.{BlockState, Bad, Closed, Disk, Free, Ready, Spot, Stale, Untouched, Vacancy, spot_of}
 use Rattle.ufs_spec.specs.Keys.{IsKey}
 use Rattle.ufs_spec.specs.Kept.{HasNone, HoldAll, IsFenced, IsKept, IsNewest, IsNewestMark, fence_in}
@@ -174,7 +175,7 @@ IsFirstFence m low top (Some f) = (f.first ≡ low) × (f.last ≡ top) × (low 
 -- there is a mark, and the newest has these numbers
 abbrev pub HasNumbers : Numbers → Option Mark → Type 0
 HasNumbers n None = ⊥
-HasNumbers n (Some m) = m.numbers ≡ n
+HasNumbers n (Some m) = m.numbers ≡ marked n
 
 -- the device is mended at once if there is a mark, the newest has its numbers and no fence, and nothing is lost
 abbrev pub MayBeMended : Numbers → Option Mark → ℕ → ℕ → Type 0

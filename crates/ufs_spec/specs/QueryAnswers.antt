@@ -30,8 +30,9 @@ query_done n p volatile tag q =
 -- a query that changes no plain state is answered at once; a volatile flag is set before its value is told
 abbrev pub query_told : State → ℕ → Query → State
 query_told s tag q =
-    with_short (record s { volatile = volatile_after s.volatile q })
-    (short_reply tag (query_done (numbers_of s) (plain_now s) (volatile_after s.volatile q) tag q))
+    with_short (record s { volatile = volatile_after (numbers_of s) (mended s) s.volatile q })
+    (short_reply tag
+    (query_done (numbers_of s) (plain_now s) (volatile_after (numbers_of s) (mended s) s.volatile q) tag q))
 
 -- a setting is accepted, and its answer waits until it is durable. It tells the value that it set; if the lock ends it
 -- before, it is answered FFh

@@ -1,15 +1,20 @@
 -- The state of a device with its dies, and the table by which a command is refused: the first line that applies decides
 -- (JESD220, 10.8 logical units; SPC and SBC for the commands; the order of the lines is this profile's).
 use Rattle.std.specs.Prelude.{ℕ, ◌+◌, ◌*◌, ◌%◌, ◌==◌, ◌&&◌, ◌||◌, nat_le, nat_lt, not, Bool, true, false, if◌then◌else◌}
+use Rattle.std.specs.Prelude.{bit_and, is_some, slice_set, unwrap_or}
 use Rattle.std.specs.Prelude.{is_none, List, [], ◌∷◌, length, position, slice_get, Option, Some, None}
 use Rattle.std.specs.List.{list_any}
-use Rattle.ufs_spec.specs.CdbFields.{row_of}
-use Rattle.ufs_spec.specs.Cdbs.{Direction, NoData, ToDevice, ToHost, address_of, blocks_of, direction_of, length_of}
+use Rattle.ufs_spec.specs.CdbFields.{has_only, page_control, row_of, usage_of}
+use Rattle.ufs_spec.specs.Cdbs.{Direction, NoData, ToDevice, ToHost, address_of, blocks_meant, blocks_of, direction_of}
+use Rattle.ufs_spec.specs.Cdbs.{length_of}
 use Rattle.ufs_spec.specs.Cells.{Array}
 use Rattle.ufs_spec.specs.Commands.{Command}
 use Rattle.ufs_spec.specs.Configs.{command_blocks}
 use Rattle.ufs_spec.specs.Exchanges.{Registers, Short, Task, invalid_field, invalid_operation, list_length_error}
-use Rattle.ufs_spec.specs.Exchanges.{no_unit, not_ready, out_of_range, sequence_error, write_protected}
+use Rattle.ufs_spec.specs.Exchanges.{message_error, unit_attention}
+use Rattle.ufs_spec.specs.Exchanges.{no_unit, not_ready, out_of_range, saving_unsupported, self_test_failed}
+use Rattle.ufs_spec.specs.Exchanges.{sequence_error, write_protected}
+use Rattle.ufs_spec.specs.Identities.{is_reported, modes_bytes, operations_told, page_bytes, vpd_pages}
 use Rattle.ufs_spec.specs.declared.exchanges.Status.{Status}
 use Rattle.ufs_spec.specs.declared.exchanges.Status.TheVariants.{Busy}
 use Rattle.ufs_spec.specs.Messages.{is_among}
@@ -20,6 +25,7 @@ use Rattle.ufs_spec.specs.declared.configs.UnitSpec.{UnitSpec}
 use Rattle.ufs_spec.specs.declared.operations.Kind.{Kind}
 use Rattle.ufs_spec.specs.declared.operations.Kind.TheVariants as kind
 use Rattle.ufs_spec.specs.declared.operations.Row.{Row}
+use Rattle.ufs_spec.specs.declared.operations.Told.{Told}
 use Rattle.ufs_spec.specs.declared.operations.Told.TheVariants as told
 use Rattle.ufs_spec.specs.declared.scsi.Cdb.{Cdb}
 use Rattle.ufs_spec.specs.declared.scsi.Cdb.TheVariants as cdb
@@ -154,9 +160,28 @@ units_listed n (cdb.Tell told.Units select allocation) =
     if select == 0 then length n.units.items else if select == 1 then 4 else length n.units.items + 4
 units_listed n command = 0
 
+-- how many bytes there are to tell at this LUN (SPC, SBC): of fixed sense data 18, of INQUIRY data 36, of READ CAPACITY(10)
+-- data 8, of a list of units 8 and 8 a unit, of READ CAPACITY(16) data 32; of pages as many as they have, behind a
+-- header; of commands as many as what is told of them has
+abbrev pub told_length : Numbers → (lun : ℕ) → Told → (select : ℕ) → ℕ
+told_length n lun told.Sense select = 18
+told_length n lun told.Identity select = 36
+told_length n lun told.Capacity select = 8
+told_length n lun told.Units select = 8 + 8 * units_listed n (cdb.Tell told.Units select 0)
+told_length n lun told.LongCapacity select = 32
+told_length n lun told.Page select = length (page_bytes n lun select)
+told_length n lun told.Modes select = 8 + length (modes_bytes select)
+told_length n lun told.ShortModes select = 4 + length (modes_bytes select)
+told_length n lun told.Operations select = length (operations_told select)
+
+-- the same of a command; nothing is told by any other
+abbrev pub told_count : Numbers → (lun : ℕ) → Cdb → ℕ
+told_count n lun (cdb.Tell what select allocation) = told_length n lun what select
+told_count n lun command = 0
+
 -- how many bytes of data the command has on this device
-abbrev pub length_in : State → Cdb → ℕ
-length_in s command = length_of (units_listed (numbers_of s) command) command
+abbrev pub length_in : State → Request → Cdb → ℕ
+length_in s r command = length_of (told_count (numbers_of s) r.lun command) command
 
 -- ## Lines of the table
 
@@ -164,35 +189,120 @@ length_in s command = length_of (units_listed (numbers_of s) command) command
 abbrev pub needs_blocks : Kind → Bool
 needs_blocks kind.Read = true
 needs_blocks (kind.Tell told.Capacity) = true
+needs_blocks (kind.Tell told.LongCapacity) = true
 needs_blocks other = false
 
--- the same of a row, if there is one
-abbrev pub is_boot_read : Option Row → Bool
-is_boot_read None = false
-is_boot_read (Some row) = needs_blocks row.kind
+-- the same of a row, if there is one and the device's profile has it
+abbrev pub is_boot_read : Numbers → Option Row → Bool
+is_boot_read n None = false
+is_boot_read n (Some row) = nat_le row.profile n.profile && needs_blocks row.kind
 
--- 1 (5/25/00): there is no such unit; or the request needs the blocks of the boot unit, and no unit boots. It refuses
--- every command, INQUIRY too, for which SPC has a peripheral qualifier
+-- 1: a command of this kind is answered also where there is no unit, on a device of profile 1: INQUIRY, which tells that
+-- there is none, and REQUEST SENSE, which tells why (SPC)
+abbrev pub tells_of_none : Kind → Bool
+tells_of_none (kind.Tell told.Identity) = true
+tells_of_none (kind.Tell told.Sense) = true
+tells_of_none other = false
+
+-- 1: the same of a row, if there is one
+abbrev pub is_told_anywhere : Numbers → Option Row → Bool
+is_told_anywhere n None = false
+is_told_anywhere n (Some row) = nat_lt 0 n.profile && tells_of_none row.kind
+
+-- 1 (5/25/00): there is no such unit; or the request needs the blocks of the boot unit, and no unit boots. In profile 0 it
+-- refuses every command, INQUIRY too, for which SPC has a peripheral qualifier
 abbrev pub lacks_unit : State → Request → Option Lun → Bool
-lacks_unit s r None = true
-lacks_unit s r (Some BootUnit) = is_boot_read (row_in r) && is_none (boot_unit (numbers_of s) (plain_now s).boot)
+lacks_unit s r None = not (is_told_anywhere (numbers_of s) (row_in r))
+lacks_unit s r (Some BootUnit) =
+    is_boot_read (numbers_of s) (row_in r) && is_none (boot_unit (numbers_of s) (plain_now s).boot)
 lacks_unit s r (Some lun) = false
 
--- 2: the LUN takes the commands of this row, if there is one
-abbrev pub takes_row : Lun → Option Row → Bool
-takes_row lun None = false
-takes_row lun (Some row) = takes lun row
+-- 2: where the attention of a LUN stands among those of all LUNs: the units by their numbers, then 81h, B0h, C4h and D0h
+abbrev pub attention_place : Lun → ℕ
+attention_place (UnitOf unit) = unit
+attention_place ReportLunsUnit = 8
+attention_place BootUnit = 9
+attention_place RpmbUnit = 10
+attention_place DeviceUnit = 11
+
+-- 2: the LUN has an attention that no host was told of (SAM, unit attention condition); in profile 0 none is told
+abbrev pub has_attention : State → Lun → Bool
+has_attention s lun =
+    nat_lt 0 (numbers_of s).profile && unwrap_or (slice_get s.volatile.attentions (attention_place lun)) false
+
+-- 2: what is volatile once the LUN has an attention, or none any more
+abbrev pub with_attention : Lun → Bool → Volatile → Volatile
+with_attention lun is volatile =
+    record volatile { attentions = slice_set volatile.attentions (attention_place lun) is }
+
+-- 2: a command of this kind does not meet an attention: REQUEST SENSE, which tells it, INQUIRY and REPORT LUNS (SPC)
+abbrev pub passes_attention : Kind → Bool
+passes_attention (kind.Tell told.Sense) = true
+passes_attention (kind.Tell told.Identity) = true
+passes_attention (kind.Tell told.Units) = true
+passes_attention other = false
+
+-- 2: the same of a row; an operation code that has none meets it
+abbrev pub is_passing : Option Row → Bool
+is_passing None = false
+is_passing (Some row) = passes_attention row.kind
+
+-- 2 (6/29/00): the LUN has an attention, and the command meets it
+abbrev pub meets_attention : State → Request → Option Lun → Bool
+meets_attention s r None = false
+meets_attention s r (Some lun) = has_attention s lun && not (is_passing (row_in r))
+
+-- 2: the attention of a LUN ends, if there is such a LUN
+abbrev pub without_attention : Option Lun → Volatile → Volatile
+without_attention None volatile = volatile
+without_attention (Some lun) volatile = with_attention lun false volatile
+
+-- 2 (B/49/00): the COMMAND has a task attribute, and not SIMPLE (JESD220, 10.7.1). In profile 0 it is not taken at all
+abbrev pub is_not_simple : Request → Bool
+is_not_simple r = not (bit_and r.flags 0x03 == 0)
+
+-- 2: the LUN takes the commands of this row, if there is one and the device's profile has it
+abbrev pub takes_row : Numbers → Lun → Option Row → Bool
+takes_row n lun None = false
+takes_row n lun (Some row) = nat_le row.profile n.profile && takes lun row
 
 -- 2 (5/20/00): the unit does not take the operation code
-abbrev pub not_taken : Request → Option Lun → Bool
-not_taken r None = false
-not_taken r (Some lun) = not (takes_row lun (row_in r))
+abbrev pub not_taken : Numbers → Request → Option Lun → Bool
+not_taken n r None = false
+not_taken n r (Some lun) = not (takes_row n lun (row_in r))
+
+-- 3: the CDB has a bit set that profile 0 does not take
+abbrev pub goes_beyond : List ℕ → Option Row → Bool
+goes_beyond bytes None = false
+goes_beyond bytes (Some row) = not (has_only (usage_of 0 row) bytes)
+
+-- 3 (5/24/00): the same on a device of profile 0
+abbrev pub is_beyond : Numbers → Request → Bool
+is_beyond n r = (n.profile == 0) && goes_beyond r.bytes (row_in r)
 
 -- 3 (5/24/00): the RPMB region of the command is not there, since its area has no bytes
 abbrev pub lacks_region : Numbers → Cdb → Bool
 lacks_region n (cdb.SecurityIn region size) = steps_of n region == 0
 lacks_region n (cdb.SecurityOut region size) = steps_of n region == 0
 lacks_region n command = false
+
+-- 3 (5/24/00): the unit has no such page of vital product data, or there is no such unit
+abbrev pub lacks_page : Numbers → (lun : ℕ) → Cdb → Bool
+lacks_page n lun (cdb.Tell told.Page page allocation) =
+    not (is_some (lun_of n lun) && is_among (vpd_pages lun) page)
+lacks_page n lun command = false
+
+-- 3 (5/24/00): REPORT SUPPORTED OPERATION CODES asks for an operation code without its service action, for a service
+-- action of a code that has none, or by reporting options that there are not
+abbrev pub lacks_operation : Cdb → Bool
+lacks_operation (cdb.Tell told.Operations select allocation) = not (is_reported select)
+lacks_operation command = false
+
+-- 3 (5/39/00): MODE SENSE asks for saved values, and none are saved
+abbrev pub wants_saved : Cdb → Bool
+wants_saved (cdb.Tell told.Modes select allocation) = page_control select == 3
+wants_saved (cdb.Tell told.ShortModes select allocation) = page_control select == 3
+wants_saved command = false
 
 -- 4: the length of 1 to 8 RPMB frames
 abbrev pub is_frames : ℕ → Bool
@@ -210,17 +320,21 @@ abbrev pub has_wrong_list : Cdb → Bool
 has_wrong_list (cdb.Unmap list) = not (is_among (0 ∷ 8 ∷ 24 ∷ []) list)
 has_wrong_list command = false
 
+-- 6: the flag of a direction, whatever the priority and the task attribute below it are (JESD220, 10.7.1)
+abbrev pub direction_flag : Request → ℕ
+direction_flag r = bit_and r.flags 0xF8
+
 -- 6 (5/24/00): there are data, and the flag of their direction is not set (20h to the device, 40h to the host); or the
 -- host sends fewer bytes than the command has. A READ or WRITE of no blocks needs no flag
 abbrev pub lacks_data : Request → Direction → ℕ → Bool
 lacks_data r NoData n = false
-lacks_data r ToDevice n = nat_lt 0 n && (not (r.flags == 0x20) || nat_lt r.expected n)
-lacks_data r ToHost n = nat_lt 0 n && not (r.flags == 0x40)
+lacks_data r ToDevice n = nat_lt 0 n && (not (direction_flag r == 0x20) || nat_lt r.expected n)
+lacks_data r ToHost n = nat_lt 0 n && not (direction_flag r == 0x40)
 
 -- 7 (5/21/00): address plus blocks is above the unit's count
 abbrev pub is_past : Cdb → Option UnitSpec → Bool
 is_past command None = false
-is_past command (Some u) = nat_lt u.blocks (address_of command + blocks_of command)
+is_past command (Some u) = nat_lt u.blocks (address_of command + blocks_meant command)
 
 -- 8: the command is taken only once the device is ready: each one but those that tell of the device
 abbrev pub needs_mended : Cdb → Bool
@@ -253,6 +367,15 @@ abbrev pub is_protected : State → Option UnitSpec → Bool
 is_protected s None = false
 is_protected s (Some u) = ((u.protect == 1) && s.volatile.power_on) || ((u.protect == 2) && (plain_now s).permanent)
 
+-- 9: the unit takes no writes now
+abbrev pub is_guarded : State → Option UnitSpec → Bool
+is_guarded s u = is_protected s u || locked s
+
+-- 9 (4/3E/03): SEND DIAGNOSTIC asks for a self-test of a locked device
+abbrev pub fails_test : State → Cdb → Bool
+fails_test s (cdb.Diagnose tests) = tests && locked s
+fails_test s command = false
+
 -- 9: the command is a flush, with IMMED or without
 abbrev pub flushes : Cdb → Bool
 flushes (cdb.Flush immediate) = true
@@ -262,7 +385,7 @@ flushes command = false
 -- accepted that is not durable
 abbrev pub is_refused_write : State → Option UnitSpec → Cdb → Bool
 is_refused_write s u command =
-    (writes command && (is_protected s u || locked s)) || (flushes command && locked s && has_pending s.translation)
+    (writes command && is_guarded s u) || (flushes command && locked s && has_pending s.translation)
 
 -- 10 (5/2C/00): SECURITY PROTOCOL IN while no response frames wait in its region
 abbrev pub lacks_response : State → Cdb → Bool
@@ -340,29 +463,38 @@ volatile_by (l ∷ ls) volatile = if l.applies then l.becomes volatile else vola
 -- the rest of line 3 and lines 4 to 11, for a CDB that spells a command
 abbrev pub lines_for : State → Request → Cdb → List Line
 lines_for s r command =
-    line (lacks_region (numbers_of s) command) invalid_field
+    line (lacks_region (numbers_of s) command || (lacks_page (numbers_of s) r.lun command || lacks_operation command))
+    invalid_field
+    ∷ line (wants_saved command) saving_unsupported
     ∷ line (is_too_long (numbers_of s) command) invalid_field
     ∷ line (has_wrong_list command) list_length_error
-    ∷ line (lacks_data r (direction_of command) (length_in s command)) invalid_field
+    ∷ line (lacks_data r (direction_of command) (length_in s r command)) invalid_field
     ∷ line (is_past command (unit_numbers_of s r)) out_of_range
     ∷ line (is_unready s command) not_ready
     ∷ line (is_refused_write s (unit_numbers_of s r) command) write_protected
+    ∷ line (fails_test s command) self_test_failed
     ∷ line (lacks_response s command) sequence_error
     ∷ line (has_other_response s command) invalid_field
     ∷ line (is_crowded s command) Busy
     ∷ []
 
 -- line 3 (5/24/00) for a CDB that spells none: one of its fields, or a byte that must be zero, is wrong. For any
--- other the lines after it
+-- other the lines after it, and before them whether it goes beyond profile 0
 abbrev pub lines_after : State → Request → Option Cdb → List Line
 lines_after s r None = line true invalid_field ∷ []
-lines_after s r (Some command) = lines_for s r command
+lines_after s r (Some command) = line (is_beyond (numbers_of s) r) invalid_field ∷ lines_for s r command
 
 -- all lines
 abbrev pub table : State → Request → List Line
 table s r =
     line (lacks_unit s r (lun_of (numbers_of s) r.lun)) no_unit
-    ∷ line (not_taken r (lun_of (numbers_of s) r.lun)) invalid_operation
+    ∷ record {
+      applies = meets_attention s r (lun_of (numbers_of s) r.lun);
+      status = unit_attention;
+      becomes = without_attention (lun_of (numbers_of s) r.lun);
+    }
+    ∷ line (is_not_simple r) message_error
+    ∷ line (not_taken (numbers_of s) r (lun_of (numbers_of s) r.lun)) invalid_operation
     ∷ lines_after s r r.cdb
 
 -- why a request is refused: what the first line says that applies. None if no line applies, and then the command begins

@@ -2,6 +2,7 @@
 -- sound array is shown by the laws of power loss.
 use Rattle.std.specs.Prelude.{◌≡◌, ◌⊎◌, ◌∷◌, [], ℕ, ◌<◌, ◌≤◌, List, Option, Some}
 use Rattle.ufs_spec.specs.Cells.{Array, Cells, DataHold, GroupPage, Mark, MarkPage, Opens, Shows, key_of}
+use Rattle.ufs_spec.specs.Configs.{marked}
 use Rattle.ufs_spec.specs.Keys.{IsKey}
 use Rattle.ufs_spec.specs.Kept.{Counts, Holds, IsNewestMark, IsRecorded, IsWhole, fence_in, recorded_in}
 use Rattle.ufs_spec.specs.Plain.{shape_of_numbers, steps_of}
@@ -36,10 +37,10 @@ pub record CellsSound (c : Cells) (m : Option Mark) : Type 0 where
 abbrev pub with_one_region : Numbers → Numbers
 with_one_region n = record n { rpmb = steps_of n 0 ∷ 0 ∷ 0 ∷ 0 ∷ [] }
 
--- a mark with these numbers is of a device with those: they are the same, or the mark was written before the device had
--- other RPMB regions than the first
+-- a mark with these numbers is of a device with those, whatever its profile: they are the same, or the mark was written
+-- before the device had other RPMB regions than the first
 abbrev pub MarkSuits : Numbers → Numbers → Type 0
-MarkSuits n said = (said ≡ n) ⊎ (said ≡ with_one_region n)
+MarkSuits n said = (said ≡ marked n) ⊎ (said ≡ with_one_region (marked n))
 
 -- the cells are of a device with these numbers: its newest mark suits them, and each page of a group
 -- is of one of its keys

@@ -7,6 +7,7 @@ use Rattle.std.specs.Prelude.{length, map, sum_by, Option, Some, None, option_ma
 use Rattle.std.specs.Int.{div_ceil}
 use Rattle.std.specs.List.{flat_map, list_any}
 use Rattle.ufs_spec.specs.Cells.{Cell, GroupPage, MarkPage, Nothing, key_of, same_place}
+use Rattle.ufs_spec.specs.Configs.{marked}
 use Rattle.ufs_spec.specs.Disk.{Bad, BlockState, Closed, Disk, Erasing, Filling, Flight, Free, Programming, Reading}
 use Rattle.ufs_spec.specs.Disk.{Ready, Spot, Stale, Untouched, Vacancy, job_begun, place_in, same_spot, spot_of}
 use Rattle.ufs_spec.specs.Keys.{Group, below, Item}
@@ -433,7 +434,7 @@ records_now l (Some f) = f.last
 -- the page of the step as it is programmed now
 abbrev pub step_cell : Translation → StepKind → Cell
 step_cell t (MarkStep number fence) =
-    MarkPage (record { number = number; records = records_now t.ledger fence; fence = fence; numbers = t.numbers })
+    MarkPage (record { number = number; records = records_now t.ledger fence; fence = fence; numbers = marked t.numbers })
 step_cell t (CopyStep name from) = cell_now t.ledger name
 step_cell t (RepairStep name from) = cell_now t.ledger name
 

@@ -14,7 +14,8 @@ pub struct UnitSpec {
 
 /// The numbers of a configuration: dies, blocks a die and pages a block, the units, the area of each
 /// RPMB region in steps of 128 KiB, the slots of the write cache, and how many blocks may go bad. A
-/// region whose area has no step is not there.
+/// region whose area has no step is not there. Profile 0 is the device of a few commands, profile 1
+/// tells more of itself; the serial number is told by profile 1 alone. Neither stands on the dies.
 #[derive(Debug, Drop, PartialEq, Eq)]
 pub struct Numbers {
     pub dies: u8,
@@ -24,6 +25,8 @@ pub struct Numbers {
     pub rpmb: [u8; 4],
     pub slots: u16,
     pub spare: u16,
+    pub profile: u8,
+    pub serial: u64,
 }
 
 impl Numbers {
@@ -43,6 +46,8 @@ impl Numbers {
             rpmb: self.rpmb,
             slots: self.slots,
             spare: self.spare,
+            profile: self.profile,
+            serial: self.serial,
         }
     }
 }

@@ -7,11 +7,13 @@ use crate::operations::Told;
 pub enum Cdb {
     /// SPC, TEST UNIT READY: it is answered, and does nothing else.
     Nothing,
-    /// SPC, REQUEST SENSE, INQUIRY and REPORT LUNS; SBC, READ CAPACITY: it sends what it tells of
-    /// the device, no more than `allocation` bytes. REPORT LUNS selects units by `select`.
+    /// SPC, REQUEST SENSE, INQUIRY, MODE SENSE, REPORT LUNS and REPORT SUPPORTED OPERATION CODES; SBC,
+    /// READ CAPACITY: it sends what it tells of the device, no more than `allocation` bytes. REPORT LUNS
+    /// selects units by `select`, INQUIRY a page of vital product data, MODE SENSE mode pages by its
+    /// bytes 2 and 3, and REPORT SUPPORTED OPERATION CODES commands by its bytes 2 to 5.
     Tell {
         told: Told,
-        select: u8,
+        select: u32,
         allocation: u32,
     },
     /// SBC, READ: so many blocks, from an address on. Its FUA bit changes nothing.
@@ -30,6 +32,16 @@ pub enum Cdb {
     /// count of blocks change nothing.
     Flush {
         immediate: bool,
+    },
+    /// SBC, PRE-FETCH: so many blocks, from an address on; 0 stands for all up to the unit's end.
+    /// Nothing is read.
+    Prefetch {
+        address: u64,
+        blocks: u32,
+    },
+    /// SPC, SEND DIAGNOSTIC, with SELFTEST (`tests`) or without.
+    Diagnose {
+        tests: bool,
     },
     /// SBC, UNMAP: `list` is the length of its parameter list.
     Unmap {
@@ -98,6 +110,41 @@ impl Sense {
         key: 0x05,
         asc: 0x26,
         ascq: 0x00,
+    };
+
+    /// UNIT ATTENTION, power on, reset, or bus device reset occurred.
+    pub const UNIT_ATTENTION: Sense = Sense {
+        key: 0x06,
+        asc: 0x29,
+        ascq: 0x00,
+    };
+
+    /// ABORTED COMMAND, invalid message error.
+    pub const MESSAGE_ERROR: Sense = Sense {
+        key: 0x0B,
+        asc: 0x49,
+        ascq: 0x00,
+    };
+
+    /// NO SENSE: there is nothing to tell.
+    pub const NO_SENSE: Sense = Sense {
+        key: 0x00,
+        asc: 0x00,
+        ascq: 0x00,
+    };
+
+    /// ILLEGAL REQUEST, saving parameters not supported.
+    pub const SAVING_UNSUPPORTED: Sense = Sense {
+        key: 0x05,
+        asc: 0x39,
+        ascq: 0x00,
+    };
+
+    /// HARDWARE ERROR, logical unit failed self-test.
+    pub const SELF_TEST_FAILED: Sense = Sense {
+        key: 0x04,
+        asc: 0x3E,
+        ascq: 0x03,
     };
 
     /// ILLEGAL REQUEST, command sequence error.
