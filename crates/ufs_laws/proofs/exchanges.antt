@@ -1,8 +1,10 @@
 pub mod AbortedTasks
+pub mod Attentions
 pub mod BytesHeard
 pub mod DataInOrder
 pub mod DeedLaws
 pub mod HeardOnce
+pub mod Initializing
 pub mod ListedUnits
 pub mod ManagedTasks
 pub mod ReadSendsBlocks
@@ -13,3 +15,4 @@ pub mod SpokenCalls
 pub mod TakenCommandsKnown
 pub mod TaskManagement
 pub mod TasksSpeak
+pub mod ToldPages

@@ -1,4 +1,6 @@
+pub mod AttentionLines
 pub mod LockedFlush
+pub mod ProfileLines
 pub mod RefusedCommands
 pub mod TableLines
 pub mod TakenRequests

@@ -1,15 +1,17 @@
 -- What the laws of the exchange speak of: requests as they are heard, and tasks of commands that are known.
-use Rattle.std.specs.Prelude.{◌≡◌, ◌≢◌, ℕ, ◌+◌, ◌-◌, ◌==◌, min, Bool, true, List, [], ◌∷◌, length, map, Option, Some}
+use Rattle.std.specs.Prelude.{◌≡◌, ◌≢◌, ◌<◌, ℕ, ◌+◌, ◌-◌, ◌==◌, min, Bool, true, List, [], ◌∷◌, length, map, Option, Some}
 use Rattle.std.specs.Prelude.{None}
 use Rattle.std.specs.List.{AllByRecursion, list_any}
 use Rattle.ufs_spec.specs.Exchanges.{Answering, Awaiting, Deed, Gathering, ReadingArea, Sending, SendingBytes}
 use Rattle.ufs_spec.specs.declared.exchanges.Purpose.{Purpose}
 use Rattle.ufs_spec.specs.Exchanges.{Task, count_at, invalid_operation}
 use Rattle.ufs_spec.specs.Machine.{Call, Done, Faulty, Heard, Host, IsHeard, Reply, Spelled, Take, Turn}
-use Rattle.ufs_spec.specs.Refusals.{Request, State}
+use Rattle.ufs_spec.specs.Refusals.{Lun, Request, State, takes, tells_of_none}
 use Rattle.ufs_spec.specs.Translation.{Pin}
+use Rattle.ufs_spec.specs.declared.configs.Numbers.{Numbers}
 use Rattle.ufs_spec.specs.declared.messages.Message.{Message}
 use Rattle.ufs_spec.specs.declared.messages.Message.TheVariants as message
+use Rattle.ufs_spec.specs.declared.operations.Row.{Row}
 use Rattle.ufs_spec.specs.declared.scsi.Cdb.{Cdb}
 
 -- some bytes are heard as this COMMAND
@@ -23,6 +25,11 @@ IsSpoken (Take die) = Unit {0}
 IsSpoken (Done die ending left) = Unit {0}
 IsSpoken Turn = Unit {0}
 IsSpoken Reply = Unit {0}
+
+-- the LUN takes commands of this row; or it is not there, and on a device of profile 1 they are answered all the same
+abbrev pub IsAnsweredAt : Numbers → Option Lun → Row → Type 0
+IsAnsweredAt n None row = (0 < n.profile) × (tells_of_none row.kind ≡ true)
+IsAnsweredAt n (Some lun) row = takes lun row ≡ true
 
 -- something holds of each of the tasks
 abbrev pub Every : (Task → Type 0) → List Task → Type 0

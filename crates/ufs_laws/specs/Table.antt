@@ -3,13 +3,14 @@ use Rattle.std.specs.Prelude.{ℕ, Bool, true, List, [], ◌∷◌, ◌++◌, So
 use Rattle.ufs_laws.specs.Runs.{IsAnswered, unit}
 use Rattle.ufs_spec.specs.CdbFields.{spelled_cdb}
 use Rattle.ufs_spec.specs.Cdbs.{cdb_bytes}
-use Rattle.ufs_spec.specs.Configs.{numbers_of}
+use Rattle.ufs_spec.specs.Configs.{numbers_of, with_profile}
 use Rattle.ufs_spec.specs.Exchanges.{response}
 use Rattle.ufs_spec.specs.declared.exchanges.Status.{Status}
 use Rattle.ufs_spec.specs.Machine.{Heard, Spelled}
 use Rattle.ufs_spec.specs.Refusals.{Request, State}
 use Rattle.ufs_spec.specs.declared.configs.Numbers.{Numbers}
 use Rattle.ufs_spec.specs.declared.messages.Message.TheVariants as message
+use Rattle.ufs_spec.specs.declared.operations.TheConstants.{DPO, READ_10}
 use Rattle.ufs_spec.specs.declared.scsi.Cdb.{Cdb}
 use Rattle.ufs_spec.specs.declared.scsi.Cdb.TheVariants as cdb
 
@@ -67,6 +68,14 @@ abbrev pub protected_row : Numbers
 protected_row =
     numbers_of 4 16 64 (unit 256 0 ∷ record (unit 64 1) { protect = 1 } ∷ record (unit 64 2) { protect = 2 } ∷ [])
     (1 ∷ 0 ∷ 0 ∷ 0 ∷ []) 64 4
+
+-- the same units on a device of profile 1
+abbrev pub profile_1_row : Numbers
+profile_1_row = with_profile protected_row 1 1
+
+-- READ(10) with DPO and group number 10h: one block, at this multiple of 256
+abbrev pub pushed_out : ℕ → List ℕ
+pushed_out high = READ_10 ∷ DPO ∷ 0 ∷ 0 ∷ high ∷ 0 ∷ 0x10 ∷ 0 ∷ 1 ∷ replicate 7 0
 
 -- the request as the device hears it, with the command that its CDB spells or with none
 abbrev pub heard_as : Request → Heard

@@ -2,7 +2,6 @@
 use Rattle.std.specs.Prelude.{ℕ, List, [], ◌∷◌, None, Some, replicate}
 use Rattle.ufs_spec.specs.Configs.{numbers_of}
 use Rattle.ufs_spec.specs.declared.configs.Numbers.{Numbers}
-use Rattle.ufs_spec.specs.declared.configs.UnitSpec.{UnitSpec}
 use Rattle.ufs_spec.specs.declared.flash.KeyAndCounter.{KeyAndCounter}
 use Rattle.ufs_spec.specs.declared.flash.Tag.{Tag}
 

@@ -1,7 +1,7 @@
 //! The exchange between a host and a device: what is heard, what is asked for, what is sent.
 ghost use Rattle.std.specs.Prelude.{◌≡◌, ◌≢◌, ◌⊎◌, ◌<◌, ◌≤◌, ◌+◌, ◌-◌, ◌*◌, ◌++◌, ◌∷◌, [], ℕ, min, nat_lt, Bool, true, false, if◌then◌else◌, List, filter, length, map, not, sum_by, take, slice_get, Option, Some, None};
 ghost use Rattle.std.specs.List.{concat, flat_map, list_any};
-ghost use Rattle.ufs_laws.specs.Exchange.{AllKnown, AreAsked, Asks, IsRequest, IsSpoken, NoTask, Pinned, TagSends, WasAsked};
+ghost use Rattle.ufs_laws.specs.Exchange.{AllKnown, AreAsked, Asks, IsAnsweredAt, IsRequest, IsSpoken, NoTask, Pinned, TagSends, WasAsked};
 ghost use Rattle.ufs_spec.specs.declared.Cdb.{Cdb};
 ghost use Rattle.ufs_spec.specs.declared.Event.{Event};
 ghost use Rattle.ufs_spec.specs.declared.Message.{Message};
@@ -22,7 +22,7 @@ ghost use Rattle.ufs_spec.specs.Keys.{below};
 ghost use Rattle.ufs_spec.specs.Lives.{IsOpened, Life};
 ghost use Rattle.ufs_spec.specs.Machine.{Allowed, Answer, Call, Heard, IsHeard, begun, blocks_expected, blocks_in, claimed_by, data_for, deed_after, deed_reply, in_use, message_fault, observe, pin_of, read_begun, read_blocks, set_deed, tag_in, without_tasks};
 ghost use Rattle.ufs_spec.specs.Plain.{block_at};
-ghost use Rattle.ufs_spec.specs.Refusals.{Lun, Request, State, locked, lun_of, numbers_of, plain_now, refusal, takes};
+ghost use Rattle.ufs_spec.specs.Refusals.{Request, State, locked, lun_of, numbers_of, plain_now, refusal};
 ghost use Rattle.ufs_spec.specs.Translation.{Pin, is_rest_of};
 ghost use Rattle.ufs_spec.specs.declared.layer.Looked.TheVariants.{InSlot};
 ghost use Rattle.ufs_spec.specs.declared.layer.Name.{Name};
@@ -33,12 +33,13 @@ pub fn every_byte_string_is_heard()
     ensures once { (bytes : List ℕ) (h k : Heard) → IsHeard bytes h → IsHeard bytes k → h ≡ k }
 {}
 
-/// A command that the table does not refuse has a row of its kind that its unit takes, begins as a task of its own,
-/// and never ends with an invalid operation code, from the opening of a device to the end of its life.
+/// A command that the table does not refuse has a row of its kind that its unit takes; or there is no such unit, and the
+/// command tells so on a device of profile 1. It begins as a task of its own, and never ends with an invalid operation
+/// code, from the opening of a device to the end of its life.
 pub fn a_command_is_never_unknown_once_taken()
     ensures passes { (s : State) (r : Request) → IsRequest r → refusal s r ≡ None →
-        (unit : Lun) × (row : Row) × (c : Cdb) × (lun_of (numbers_of s) r.lun ≡ Some unit)
-        × (row_of r.bytes ≡ Some row) × (takes unit row ≡ true) × (r.cdb ≡ Some c) × (row.kind ≡ kind_of c) }
+        (row : Row) × (c : Cdb) × (row_of r.bytes ≡ Some row)
+        × IsAnsweredAt (numbers_of s) (lun_of (numbers_of s) r.lun) row × (r.cdb ≡ Some c) × (row.kind ≡ kind_of c) }
     ensures begins { (s : State) (r : Request) (unit : ℕ) (c : Cdb) →
         (task : Task) × ((begun s r unit c).tasks ≡ s.tasks ++ task ∷ []) × (task.command ≡ Some c)
         × ((carried : ℕ) → task.deed ≢ Answering invalid_operation carried) }

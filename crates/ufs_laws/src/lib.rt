@@ -3,6 +3,7 @@
 #![tactic(auto)]
 
 mod arrays;
+mod attentions;
 mod calls;
 mod contents;
 mod decisions;
@@ -11,6 +12,8 @@ mod formats;
 mod held;
 mod lock;
 mod management;
+mod operations;
+mod profiles;
 mod queries;
 mod requests;
 mod rows;
@@ -25,6 +28,11 @@ mod vacancies;
 pub use arrays::{
     array_stands_for_something, new_dies_stand_for_zero, page_is_one_cell,
     page_opens_in_two_versions, sound_array_stands_for_one,
+};
+pub use attentions::{
+    a_lun_that_is_not_there_tells_so, a_reset_leaves_an_attention, an_attention_is_told_once,
+    attentions_and_attributes_are_told_first, profile_0_tells_no_attention,
+    some_commands_pass_an_attention,
 };
 pub use calls::{
     a_crash_leaves_old_or_new, a_crash_of_pages_is_one_of_cells, a_life_begins_with_its_beginning,
@@ -51,8 +59,15 @@ pub use management::{
     a_query_of_tasks_tells_which_are_open, an_abort_takes_back_nothing,
     each_function_aborts_its_tasks,
 };
+pub use operations::operations_are_reported;
+pub use profiles::{
+    a_mark_suits_each_profile, a_prefetch_reads_nothing, as_many_bytes_are_told_as_are_counted,
+    each_line_of_profile_1_counts, modes_tell_what_takes_no_writes, profile_1_takes_more,
+    profile_1_takes_no_other_bits,
+};
 pub use queries::{
-    a_query_tells_what_is_set, each_line_of_the_query_table_counts, worked_descriptors,
+    a_device_initializes_until_it_is_mended, a_query_tells_what_is_set,
+    each_line_of_the_query_table_counts, worked_descriptors,
 };
 pub use requests::{
     a_failed_request_changes_nothing, a_register_is_filled_once,

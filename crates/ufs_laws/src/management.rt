@@ -1,7 +1,7 @@
 //! Task management: which tasks a function aborts, what an abort leaves, and what is answered.
 ghost use Rattle.std.specs.Prelude.{◌≡◌, ◌==◌, ◌&&◌, ℕ, true, false, not, filter};
 ghost use Rattle.ufs_laws.specs.TaskRequests.{HasTask, HasTaskOf, HasUnit, functions};
-ghost use Rattle.ufs_spec.specs.Management.{aborts, is_aborted, managed, service, without_tasks};
+ghost use Rattle.ufs_spec.specs.Management.{aborts, is_aborted, managed, service, volatile_managed, without_tasks};
 ghost use Rattle.ufs_spec.specs.Messages.{IsAmong};
 ghost use Rattle.ufs_spec.specs.Refusals.{State, plain_now};
 
@@ -24,7 +24,8 @@ pub fn each_function_aborts_its_tasks()
     // What becomes of a task that is aborted: `nothing_of_an_aborted_tag_follows`.
     ensures carried_out { (s : State) (lun function meant : ℕ) → HasUnit s lun →
         aborts function ≡ true →
-        managed s lun function meant ≡ without_tasks s (is_aborted lun function meant) }
+        managed s lun function meant
+        ≡ without_tasks (record s { volatile = volatile_managed s lun function }) (is_aborted lun function meant) }
 {}
 
 /// No function takes back what was accepted, and what the device has stays as it was. The groups

@@ -1,10 +1,17 @@
 //! The table of queries, and what a query tells.
-ghost use Rattle.std.specs.Prelude.{◌≡◌, ◌∷◌, ◌++◌, [], ℕ, Bool, true, false, List, None, replicate};
+ghost use Rattle.std.specs.Prelude.{◌≡◌, ◌<◌, ◌&&◌, ◌∷◌, ◌++◌, [], ℕ, Bool, true, false, List, None, not, replicate};
 ghost use Rattle.ufs_laws.specs.AskedQueries.{boot_row, query};
+ghost use Rattle.ufs_spec.specs.declared.Event.{Event};
 ghost use Rattle.ufs_spec.specs.declared.Numbers.{Numbers};
+ghost use Rattle.ufs_spec.specs.declared.Output.{Output};
+ghost use Rattle.ufs_spec.specs.Cells.{Array};
+ghost use Rattle.ufs_spec.specs.Disk.{Spot};
 ghost use Rattle.ufs_spec.specs.Keys.{flag_byte};
+ghost use Rattle.ufs_spec.specs.Lives.{IsOpened, Life};
+ghost use Rattle.ufs_spec.specs.Machine.{Answer, Call, observe};
 ghost use Rattle.ufs_spec.specs.Plain.{Plain};
-ghost use Rattle.ufs_spec.specs.Queries.{descriptor, descriptor_told, query_code, setting_of, sets_power_on, value_told, volatile_after};
+ghost use Rattle.ufs_spec.specs.Queries.{descriptor, descriptor_told, Query, query_code, setting_of, sets_power_on, value_told, volatile_after};
+ghost use Rattle.ufs_spec.specs.Refusals.{State, mended, numbers_of};
 ghost use Rattle.ufs_spec.specs.declared.volatile.Volatile.{Volatile};
 
 /// If two lines of the query table apply, the one that stands first decides (JESD220, 10.7.9).
@@ -73,17 +80,21 @@ pub fn a_query_tells_what_is_set()
     ensures boot { (p : Plain) (volatile : Volatile) (value : ℕ) →
         value_told p volatile (query 0x01 3 0 0 0 0 value) ≡ p.boot }
     ensures initialized { (p : Plain) (volatile : Volatile) (value : ℕ) →
-        value_told p volatile (query 0x01 5 1 0 0 0 value) ≡ 0 }
+        value_told p volatile (query 0x01 5 1 0 0 0 value) ≡ flag_byte volatile.initializing }
     ensures permanent { (p : Plain) (volatile : Volatile) (value : ℕ) →
         value_told p volatile (query 0x01 5 2 0 0 0 value) ≡ flag_byte p.permanent }
     ensures power_on { (p : Plain) (volatile : Volatile) (value : ℕ) →
         value_told p volatile (query 0x01 5 3 0 0 0 value) ≡ flag_byte volatile.power_on }
     ensures set_power_on { (p : Plain) (volatile : Volatile) (value : ℕ) →
         value_told p (record volatile { power_on = true }) (query 0x81 6 3 0 0 0 value) ≡ 1 }
-    ensures power_on_set { (volatile : Volatile) (value : ℕ) →
-        volatile_after volatile (query 0x81 6 3 0 0 0 value) ≡ record volatile { power_on = true } }
-    ensures power_on_stays { (volatile : Volatile) (value : ℕ) →
-        volatile_after volatile (query 0x01 5 3 0 0 0 value) ≡ volatile }
+    ensures power_on_set { (n : Numbers) (is_mended : Bool) (volatile : Volatile) (value : ℕ) →
+        volatile_after n is_mended volatile (query 0x81 6 3 0 0 0 value)
+        ≡ record volatile { power_on = true; initializing = volatile.initializing && not is_mended } }
+    ensures power_on_stays { (n : Numbers) (is_mended : Bool) (volatile : Volatile) (value : ℕ) →
+        volatile_after n is_mended volatile (query 0x01 5 3 0 0 0 value)
+        ≡ record volatile { initializing = volatile.initializing && not is_mended } }
+    ensures attentions_stay { (n : Numbers) (is_mended : Bool) (volatile : Volatile) (q : Query) →
+        (volatile_after n is_mended volatile q).attentions ≡ volatile.attentions }
     ensures sets_power_on { (value : ℕ) → sets_power_on (query 0x81 6 3 0 0 0 value) ≡ true }
     ensures reads_power_on { (value : ℕ) → sets_power_on (query 0x01 5 3 0 0 0 value) ≡ false }
     ensures no_command { (value : ℕ) → setting_of (query 0x81 6 3 0 0 0 value) ≡ None }
@@ -94,6 +105,36 @@ pub fn a_query_tells_what_is_set()
         ≡ descriptor boot_row (record { opcode = 1; idn = 2; index = 1; selector = 0 }) }
     ensures no_data { (n : Numbers) (size value : ℕ) →
         descriptor_told n (query 0x01 3 0 0 0 size value) ≡ [] }
+{}
+
+/// fDeviceInit reads 1 from when it is set on a device of profile 1 until the device is mended, whatever calls come
+/// between, and 0 from then on (JESD220, 14.2). On a device of profile 0 it always reads 0.
+pub fn a_device_initializes_until_it_is_mended()
+    // Before the device is mended.
+    ensures set { (n : Numbers) (volatile : Volatile) (value : ℕ) → 0 < n.profile →
+        (volatile_after n false volatile (query 0x81 6 1 0 0 0 value)).initializing ≡ true }
+    ensures set_tells { (n : Numbers) (p : Plain) (volatile : Volatile) (value : ℕ) → 0 < n.profile →
+        value_told p (volatile_after n false volatile (query 0x81 6 1 0 0 0 value)) (query 0x81 6 1 0 0 0 value) ≡ 1 }
+    ensures read { (n : Numbers) (p : Plain) (volatile : Volatile) (value : ℕ) → volatile.initializing ≡ true →
+        value_told p (volatile_after n false volatile (query 0x01 5 1 0 0 0 value)) (query 0x01 5 1 0 0 0 value) ≡ 1 }
+    ensures stays { (s : State) (call : Call) (answer : Answer) → mended s ≡ false → s.volatile.initializing ≡ true →
+        (observe s call answer).volatile.initializing ≡ true }
+    // Once it is mended, also by the query that sets it.
+    ensures read_mended { (n : Numbers) (p : Plain) (volatile : Volatile) (value : ℕ) →
+        value_told p (volatile_after n true volatile (query 0x01 5 1 0 0 0 value)) (query 0x01 5 1 0 0 0 value) ≡ 0 }
+    ensures set_mended { (n : Numbers) (p : Plain) (volatile : Volatile) (value : ℕ) →
+        value_told p (volatile_after n true volatile (query 0x81 6 1 0 0 0 value)) (query 0x81 6 1 0 0 0 value) ≡ 0 }
+    // From an opening to the end of a life in profile 0.
+    ensures opened { (n : Numbers) (array : Array) (bad : Spot → Bool) (s : State) → IsOpened n array bad s →
+        s.volatile.initializing ≡ false }
+    ensures profile_0 { (s : State) (es : List Event) (os : List Output) (t : State) → (numbers_of s).profile ≡ 0 →
+        s.volatile.initializing ≡ false → Life s es os t → t.volatile.initializing ≡ false }
+    ensures profile_0_reads { (n : Numbers) (p : Plain) (is_mended : Bool) (volatile : Volatile) (value : ℕ) →
+        n.profile ≡ 0 → volatile.initializing ≡ false →
+        value_told p (volatile_after n is_mended volatile (query 0x01 5 1 0 0 0 value)) (query 0x01 5 1 0 0 0 value) ≡ 0 }
+    ensures profile_0_sets { (n : Numbers) (p : Plain) (is_mended : Bool) (volatile : Volatile) (value : ℕ) →
+        n.profile ≡ 0 → volatile.initializing ≡ false →
+        value_told p (volatile_after n is_mended volatile (query 0x81 6 1 0 0 0 value)) (query 0x81 6 1 0 0 0 value) ≡ 0 }
 {}
 
 /// The device descriptor of three units, two of which boot; and the descriptor of unit 1, which is

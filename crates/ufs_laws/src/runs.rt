@@ -1,5 +1,5 @@
 //! Runs of the specification machine, as instances of which answers are right.
-ghost use Rattle.std.specs.Prelude.{◌≡◌, ◌≤◌, ◌<◌, ℕ, List, [], ◌∷◌, Bool, true, false, Option, Some, None};
+ghost use Rattle.std.specs.Prelude.{◌≡◌, ◌≤◌, ◌<◌, ℕ, List, [], ◌∷◌, Bool, true, false, bit_and, Option, Some, None};
 ghost use Rattle.ufs_laws.specs.Runs.{Always, Gets, IsAnswered, IsIdle, IsNew, IsRunOf, IsSaid, data_in, data_program, data_read, erase, good, heard, mark_program, program_ends, read_ends, read_of, ready, refused, the_data, the_read, the_write};
 ghost use Rattle.ufs_laws.specs.Runs.{state_1, state_2, state_3, state_4, state_5, state_6, state_7, state_8, state_9, state_10, state_11, state_12, state_13, state_14, state_15, state_16, state_17, state_18, state_19, state_20, state_21, state_22, state_23};
 ghost use Rattle.ufs_spec.specs.declared.Cdb.{Cdb};
@@ -51,15 +51,16 @@ pub fn a_written_block_is_read()
 {}
 
 /// A COMMAND that is refused is answered at once with why, whether the device is mended or locked or not: blocks past the
-/// unit's end, too many blocks, a LUN that is neither a unit's nor a well-known one, and a CDB that spells no command.
+/// unit's end, too many blocks, a LUN that is neither a unit's nor a well-known one, and a CDB that spells no command. One
+/// with a priority or a task attribute is not taken by this device of profile 0.
 pub fn a_refused_read_says_why()
     ensures idle_device { (s : State) × IsIdle s × (mended s ≡ true) }
     ensures past_the_end { (s : State) (forced : Bool) (tag : ℕ) → IsIdle s →
         IsAnswered s (read_of 256 1 forced tag 4096) (refused 0 tag 4096 0x21) }
     ensures too_many_blocks { (s : State) (address : ℕ) (forced : Bool) (tag : ℕ) → IsIdle s →
         IsAnswered s (read_of address 33 forced tag 0x21000) (refused 0 tag 0x21000 0x24) }
-    ensures not_a_unit { (s : State) (flags lun tag expected : ℕ) (bytes : List ℕ) (c : Option Cdb) → IsIdle s → 3 ≤ lun →
-        well_known lun ≡ None → 0 < expected → IsAnswered s (Spelled (message.Command flags lun tag expected bytes) c) (refused lun tag expected 0x25) }
-    ensures no_command { (s : State) (flags tag expected : ℕ) (rest : List ℕ) → IsIdle s → 0 < expected →
+    ensures not_a_unit { (s : State) (flags lun tag expected : ℕ) (bytes : List ℕ) (c : Option Cdb) → IsIdle s →
+        bit_and flags 0x07 ≡ 0 → 3 ≤ lun → well_known lun ≡ None → 0 < expected → IsAnswered s (Spelled (message.Command flags lun tag expected bytes) c) (refused lun tag expected 0x25) }
+    ensures no_command { (s : State) (flags tag expected : ℕ) (rest : List ℕ) → IsIdle s → bit_and flags 0x07 ≡ 0 → 0 < expected →
         IsAnswered s (Spelled (message.Command flags 0 tag expected (READ_10 ∷ rest)) None) (refused 0 tag expected 0x24) }
 {}

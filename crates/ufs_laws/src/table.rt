@@ -14,7 +14,7 @@ ghost use Rattle.ufs_spec.specs.declared.exchanges.Status.{Status};
 ghost use Rattle.ufs_spec.specs.declared.exchanges.Status.TheVariants.{Busy, TaskSetFull};
 ghost use Rattle.ufs_spec.specs.Machine.{command_taken, with_short};
 ghost use Rattle.ufs_spec.specs.Exchanges.{most_tasks};
-ghost use Rattle.ufs_spec.specs.Refusals.{BootUnit, Request, State, first_line, has_other_response, has_wrong_list, is_boot_read, is_crowded, is_refused_write, is_too_long, lacks_response, lines_for, locked, mended, not_taken, numbers_of, refusal, takes_row};
+ghost use Rattle.ufs_spec.specs.Refusals.{BootUnit, Request, State, fails_test, first_line, has_other_response, has_wrong_list, is_boot_read, is_crowded, is_refused_write, is_too_long, is_unready, lacks_page, lacks_region, lacks_response, lines_for, locked, mended, not_taken, numbers_of, refusal, takes_row, wants_saved};
 ghost use Rattle.ufs_spec.specs.Plain.{steps_of};
 ghost use Rattle.ufs_spec.specs.Translation.{free_slots, has_pending};
 
@@ -78,12 +78,14 @@ pub fn each_line_of_the_table_counts()
 {}
 
 /// No operation code is refused for a unit that is not there, and the boot unit takes all that a unit without it
-/// would miss; a command of too many blocks has no list; a write or flush reads no response; and what reads a
-/// response needs no slots.
+/// would miss; a command of too many blocks has no list; a write or flush reads no
+/// response; and what reads a response needs no slots. What names a region names no page; what names a page asks for no
+/// saved values; what asks for these has neither blocks nor a list. A self-test that fails is one of a locked device,
+/// which is ready for it; it writes nothing, reads no response and needs no slots.
 pub fn lines_that_never_meet()
-    ensures unit_or_operation { (r : Request) → not_taken r None ≡ false }
-    ensures boot_or_operation { (bytes : List ℕ) → is_boot_read (row_of bytes) ≡ true →
-        takes_row BootUnit (row_of bytes) ≡ true }
+    ensures unit_or_operation { (n : Numbers) (r : Request) → not_taken n r None ≡ false }
+    ensures boot_or_operation { (n : Numbers) (bytes : List ℕ) →
+        is_boot_read n (row_of bytes) ≡ true → takes_row n BootUnit (row_of bytes) ≡ true }
     ensures blocks_or_list { (n : Numbers) (c : Cdb) → is_too_long n c ≡ true → has_wrong_list c ≡ false }
     ensures write_or_response { (s : State) (u : Option UnitSpec) (c : Cdb) → is_refused_write s u c ≡ true →
         lacks_response s c ≡ false }
@@ -91,6 +93,16 @@ pub fn lines_that_never_meet()
         has_other_response s c ≡ false }
     ensures response_or_slots { (s : State) (c : Cdb) → lacks_response s c ≡ true → is_crowded s c ≡ false }
     ensures other_response_or_slots { (s : State) (c : Cdb) → has_other_response s c ≡ true → is_crowded s c ≡ false }
+    ensures region_or_page { (n : Numbers) (lun : ℕ) (c : Cdb) → lacks_region n c ≡ true → lacks_page n lun c ≡ false }
+    ensures page_or_saved { (n : Numbers) (lun : ℕ) (c : Cdb) → lacks_page n lun c ≡ true → wants_saved c ≡ false }
+    ensures saved_or_blocks { (n : Numbers) (c : Cdb) → wants_saved c ≡ true → is_too_long n c ≡ false }
+    ensures saved_or_list { (c : Cdb) → wants_saved c ≡ true → has_wrong_list c ≡ false }
+    ensures ready_or_test { (s : State) (c : Cdb) → is_unready s c ≡ true → fails_test s c ≡ false }
+    ensures write_or_test { (s : State) (u : Option UnitSpec) (c : Cdb) → is_refused_write s u c ≡ true →
+        fails_test s c ≡ false }
+    ensures test_or_response { (s : State) (c : Cdb) → fails_test s c ≡ true → lacks_response s c ≡ false }
+    ensures test_or_other_response { (s : State) (c : Cdb) → fails_test s c ≡ true → has_other_response s c ≡ false }
+    ensures test_or_slots { (s : State) (c : Cdb) → fails_test s c ≡ true → is_crowded s c ≡ false }
 {}
 
 /// Before the mending is over each command that reads or changes what the device holds is refused

@@ -9,8 +9,8 @@ ghost use Rattle.ufs_spec.specs.declared.Numbers.{Numbers};
 ghost use Rattle.ufs_spec.specs.declared.UnitSpec.{UnitSpec};
 ghost use Rattle.ufs_spec.specs.Cdbs.{length_of};
 ghost use Rattle.ufs_spec.specs.Exchanges.{no_unit, write_protected};
-ghost use Rattle.ufs_spec.specs.Identities.{inquiry_bytes, luns_bytes};
-ghost use Rattle.ufs_spec.specs.Refusals.{State, boot_unit, is_protected, is_refused_write, mended, numbers_of, plain_now, refusal, units_listed};
+ghost use Rattle.ufs_spec.specs.Identities.{device_type, inquiry_bytes, luns_bytes};
+ghost use Rattle.ufs_spec.specs.Refusals.{State, boot_unit, is_protected, is_refused_write, mended, numbers_of, plain_now, refusal, told_length};
 
 /// A unit with protection 1 is protected while fPowerOnWPEn is set, one with 2 while
 /// fPermanentWPEn is set, and one with 0 never (JESD220, 14.1.4.5). What is protected is not
@@ -69,20 +69,21 @@ pub fn the_boot_setting_names_a_unit()
 /// lists the three units, the four well-known ones, or all, each in eight bytes (SPC). Each has the
 /// length of what it tells.
 pub fn worked_identities()
-    ensures inquiry { inquiry_bytes 0
+    ensures inquiry { inquiry_bytes (device_type 0)
         ≡ (0x00 ∷ 0 ∷ 0x06 ∷ 0x02 ∷ 0x1F ∷ 0 ∷ 0 ∷ 0x02 ∷ [])
         ++ (0x50 ∷ 0x52 ∷ 0x4F ∷ 0x46 ∷ 0x49 ∷ 0x4C ∷ 0x45 ∷ 0x20 ∷ [])
         ++ (0x55 ∷ 0x46 ∷ 0x53 ∷ 0x20 ∷ 0x50 ∷ 0x52 ∷ 0x4F ∷ 0x46 ∷ [])
         ++ (0x49 ∷ 0x4C ∷ 0x45 ∷ 0x20 ∷ 0x32 ∷ 0x2E ∷ 0x31 ∷ 0x20 ∷ [])
         ++ (0x30 ∷ 0x30 ∷ 0x30 ∷ 0x31 ∷ []) }
-    ensures well_known { inquiry_bytes 0xB0
+    ensures well_known { inquiry_bytes (device_type 0xB0)
         ≡ (0x1E ∷ 0 ∷ 0x06 ∷ 0x02 ∷ 0x1F ∷ 0 ∷ 0 ∷ 0x02 ∷ [])
         ++ (0x50 ∷ 0x52 ∷ 0x4F ∷ 0x46 ∷ 0x49 ∷ 0x4C ∷ 0x45 ∷ 0x20 ∷ [])
         ++ (0x55 ∷ 0x46 ∷ 0x53 ∷ 0x20 ∷ 0x50 ∷ 0x52 ∷ 0x4F ∷ 0x46 ∷ [])
         ++ (0x49 ∷ 0x4C ∷ 0x45 ∷ 0x20 ∷ 0x32 ∷ 0x2E ∷ 0x31 ∷ 0x20 ∷ [])
         ++ (0x30 ∷ 0x30 ∷ 0x30 ∷ 0x31 ∷ []) }
-    ensures inquiry_size { (lun : ℕ) →
-        length_of 0 (cdb.Tell told.Identity 0 0xFF) ≡ length (inquiry_bytes lun) }
+    ensures inquiry_size { (lun type : ℕ) →
+        length_of (told_length boot_row lun told.Identity 0) (cdb.Tell told.Identity 0 0xFF)
+        ≡ length (inquiry_bytes type) }
     ensures units { luns_bytes boot_row 0 ≡ (0 ∷ 0 ∷ 0 ∷ 24 ∷ 0 ∷ 0 ∷ 0 ∷ 0 ∷ [])
         ++ (0x00 ∷ 0x00 ∷ 0 ∷ 0 ∷ 0 ∷ 0 ∷ 0 ∷ 0 ∷ []) ++ (0x00 ∷ 0x01 ∷ 0 ∷ 0 ∷ 0 ∷ 0 ∷ 0 ∷ 0 ∷ [])
         ++ (0x00 ∷ 0x02 ∷ 0 ∷ 0 ∷ 0 ∷ 0 ∷ 0 ∷ 0 ∷ []) }
@@ -97,9 +98,9 @@ pub fn worked_identities()
         ++ (0xC1 ∷ 0x44 ∷ 0 ∷ 0 ∷ 0 ∷ 0 ∷ 0 ∷ 0 ∷ [])
         ++ (0xC1 ∷ 0x50 ∷ 0 ∷ 0 ∷ 0 ∷ 0 ∷ 0 ∷ 0 ∷ []) }
     ensures units_size { length (luns_bytes boot_row 0)
-        ≡ length_of (units_listed boot_row (cdb.Tell told.Units 0 0xFF)) (cdb.Tell told.Units 0 0xFF) }
+        ≡ length_of (told_length boot_row 0 told.Units 0) (cdb.Tell told.Units 0 0xFF) }
     ensures well_knowns_size { length (luns_bytes boot_row 1)
-        ≡ length_of (units_listed boot_row (cdb.Tell told.Units 1 0xFF)) (cdb.Tell told.Units 1 0xFF) }
+        ≡ length_of (told_length boot_row 0 told.Units 1) (cdb.Tell told.Units 1 0xFF) }
     ensures all_size { length (luns_bytes boot_row 2)
-        ≡ length_of (units_listed boot_row (cdb.Tell told.Units 2 0xFF)) (cdb.Tell told.Units 2 0xFF) }
+        ≡ length_of (told_length boot_row 0 told.Units 2) (cdb.Tell told.Units 2 0xFF) }
 {}

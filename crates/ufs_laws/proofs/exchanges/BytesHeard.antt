@@ -42,8 +42,8 @@ sense status (Some bytes) = dec_three (ℕ_discrete status 0x02) (ℕ_discrete (
 is_message : (m : Message) → Dec (IsMessage m)
 is_message (message.NopOut tag) = byte tag
 is_message (message.Command flags lun tag expected bytes) =
-    dec_six (is_true _) (byte lun) (byte tag) (dec_lt expected (2 ^ 32)) (ℕ_discrete (length bytes) 16)
-    (are_bytes bytes)
+    dec_six (dec_and (byte flags) (is_true _)) (byte lun) (byte tag) (dec_lt expected (2 ^ 32))
+    (ℕ_discrete (length bytes) 16) (are_bytes bytes)
 is_message (message.DataOut lun tag offset «data») =
     dec_four (byte lun) (byte tag) (dec_lt offset (2 ^ 32)) (transferred «data».items)
 is_message (message.TaskRequest lun tag function meant) = dec_four (byte lun) (byte tag) (byte function) (byte meant)

@@ -1,5 +1,5 @@
--- What INQUIRY and REPORT LUNS tell are bytes, and not many.
-use Rattle.ufs_laws.proofs.Common.{AreBytes, Bool, List, Numbers, [], and_parts, ap, arith, below, big_bytes, false}
+-- What INQUIRY, REQUEST SENSE and REPORT LUNS tell are bytes, and not many.
+use Rattle.ufs_laws.proofs.Common.{AreBytes, List, Numbers, [], and_parts, ap, arith, below, big_bytes}
 use Rattle.ufs_laws.proofs.Common.{flat_map, if_both, if◌then◌else◌, length, length-append, length-map, list_all, map}
 use Rattle.ufs_laws.proofs.Common.{nat_lt, refl, subst, suc, sym, true, zero, zeros, ℕ, ◌*◌, ◌++◌, ◌<◌, ◌==◌, ◌∙◌, ◌∷◌}
 use Rattle.ufs_laws.proofs.Common.{◌≡◌, ◌≤◌}
@@ -8,7 +8,13 @@ use Rattle.std.proofs.lemmas.List.Concat.{flat_map-cons}
 use Rattle.ufs_laws.proofs.pages.ByteLists.{bytes-append, bytes-cons, bytes-nil, bytes-number, bytes-zeros}
 use Rattle.ufs_laws.proofs.plain_contents.ListParts.{length-below}
 use Rattle.ufs_spec.proofs.Facts.{ltb-true}
+use Rattle.ufs_spec.specs.Begins.{sense_at, sense_told, type_told}
+use Rattle.ufs_spec.specs.Cdbs.{fixed_sense}
 use Rattle.ufs_spec.specs.Identities.{inquiry_bytes, luns_bytes, luns_listed, unit_entry}
+use Rattle.ufs_spec.specs.Refusals.{has_attention}
+use Rattle.ufs_spec.specs.declared.scsi.Sense.{Sense}
+use Rattle.ufs_laws.proofs.Common.{Lun, None, Option, Request, Some, State, drop, lun_of, mended, numbers_of}
+use Rattle.std.specs.Prelude.{is_some}
 
 -- numbers that are all seen to be bytes
 pub seen_bytes : (xs : List ℕ) → list_all (λ x. nat_lt x 256) xs ≡ true → AreBytes xs
@@ -19,20 +25,43 @@ seen_bytes (x ∷ xs) e =
 
 -- ## INQUIRY
 
-pub inquiry_told : (lun : ℕ) → AreBytes (inquiry_bytes lun)
-inquiry_told lun = by (nat_lt lun 8)
-  where
-    told : Bool → List ℕ
-    told b =
-        ((if b then 0x00 else 0x1E) ∷ 0 ∷ 0x06 ∷ 0x02 ∷ 0x1F ∷ 0 ∷ 0 ∷ 0x02 ∷ [])
-        ++ (0x50 ∷ 0x52 ∷ 0x4F ∷ 0x46 ∷ 0x49 ∷ 0x4C ∷ 0x45 ∷ 0x20 ∷ [])
-        ++ (0x55 ∷ 0x46 ∷ 0x53 ∷ 0x20 ∷ 0x50 ∷ 0x52 ∷ 0x4F ∷ 0x46 ∷ 0x49 ∷ 0x4C ∷ 0x45 ∷ 0x20 ∷ 0x32 ∷ 0x2E ∷ 0x31
-        ∷ 0x20 ∷ [])
-        ++ (0x30 ∷ 0x30 ∷ 0x30 ∷ 0x31 ∷ [])
+pub inquiry_told : (type : ℕ) → type < 256 → AreBytes (inquiry_bytes type)
+inquiry_told type byte = bytes-cons type (drop 1 (inquiry_bytes type)) byte (seen_bytes (drop 1 (inquiry_bytes type)) refl)
 
-    by : (b : Bool) → AreBytes (told b)
-    by true = seen_bytes (told true) refl
-    by false = seen_bytes (told false) refl
+-- whatever the LUN is
+pub type_byte : (s : State) (r : Request) → type_told s r < 256
+type_byte s r =
+    if_both (λ (type : ℕ). type < 256) (is_some (lun_of (numbers_of s) r.lun))
+    (if_both (λ (type : ℕ). type < 256) (nat_lt r.lun 8) (omega arith) (omega arith)) (omega arith)
+
+-- ## REQUEST SENSE
+
+-- each part of the sense is a byte
+abbrev AreParts : Sense → Type 0
+AreParts sense = (sense.key < 256) × (sense.asc < 256) × (sense.ascq < 256)
+
+sense_parts : (s : State) (r : Request) → AreParts (sense_told s r)
+sense_parts s r =
+    if_both AreParts ((numbers_of s).profile == 0) (omega arith, omega arith, omega arith)
+    (at (lun_of (numbers_of s) r.lun))
+  where
+    at : (o : Option Lun) → AreParts (sense_at s o)
+    at None = (omega arith, omega arith, omega arith)
+    at (Some lun) =
+        if_both AreParts (has_attention s lun) (omega arith, omega arith, omega arith)
+        (if_both AreParts (mended s) (omega arith, omega arith, omega arith) (omega arith, omega arith, omega arith))
+
+sense_bytes : (sense : Sense) → AreParts sense → AreBytes (fixed_sense sense)
+sense_bytes sense (key, asc, ascq) =
+    bytes-append (0x70 ∷ 0 ∷ sense.key ∷ 0 ∷ 0 ∷ 0 ∷ 0 ∷ 0x0A ∷ []) (zeros 4 ++ (sense.asc ∷ sense.ascq ∷ []) ++ zeros 4)
+    (bytes-cons 0x70 (0 ∷ sense.key ∷ 0 ∷ 0 ∷ 0 ∷ 0 ∷ 0x0A ∷ []) (omega arith)
+    (bytes-cons 0 (sense.key ∷ 0 ∷ 0 ∷ 0 ∷ 0 ∷ 0x0A ∷ []) (omega arith)
+    (bytes-cons sense.key (0 ∷ 0 ∷ 0 ∷ 0 ∷ 0x0A ∷ []) key (seen_bytes (0 ∷ 0 ∷ 0 ∷ 0 ∷ 0x0A ∷ []) refl))))
+    (bytes-append (zeros 4) ((sense.asc ∷ sense.ascq ∷ []) ++ zeros 4) (bytes-zeros 4)
+    (bytes-cons sense.asc (sense.ascq ∷ zeros 4) asc (bytes-cons sense.ascq (zeros 4) ascq (bytes-zeros 4))))
+
+pub sense_told_bytes : (s : State) (r : Request) → AreBytes (fixed_sense (sense_told s r))
+sense_told_bytes s r = sense_bytes (sense_told s r) (sense_parts s r)
 
 -- ## REPORT LUNS
 

@@ -6,7 +6,9 @@ use Rattle.ufs_laws.proofs.Common.{none_passes, not, numbers_of, or_parts, plain
 use Rattle.ufs_laws.proofs.Common.{without_tasks, ℕ, ◌&&◌, ◌==◌, ◌||◌, ◌∙◌, ◌∷◌, ◌≡◌}
 use Rattle.std.proofs.Common.{fold, slice_get}
 use Rattle.std.proofs.Math.Bool.{and-true}
-use Rattle.ufs_laws.proofs.exchanges.TaskManagement.{answer_of, answered_complete}
+use Rattle.ufs_laws.proofs.exchanges.TaskManagement.{answer_of, answered_complete, not_reset}
+use Rattle.ufs_spec.specs.Management.{volatile_managed}
+use Rattle.ufs_spec.specs.declared.volatile.Volatile.{Volatile}
 use Rattle.ufs_laws.specs.TaskRequests.{HasTask, HasTaskOf, HasUnit, functions}
 use Rattle.ufs_spec.proofs.Facts.{and_from, eq-eqb}
 use Rattle.ufs_spec.specs.Machine.{aborts, carried_out, is_named, managed, registers_after, service_found}
@@ -14,9 +16,11 @@ use Rattle.ufs_spec.specs.Machine.{aborts, carried_out, is_named, managed, regis
 -- ## Which tasks
 
 pub is_carried_out : (s : State) (lun function meant : ℕ) → HasUnit s lun → aborts function ≡ true →
-    managed s lun function meant ≡ without_tasks s (is_aborted lun function meant)
+    managed s lun function meant
+    ≡ without_tasks (record s { volatile = volatile_managed s lun function }) (is_aborted lun function meant)
 is_carried_out s lun function meant (unit, there) ends =
-    ap (carried_out s lun function meant) (answered_complete s lun function meant unit there ends)
+    ap (carried_out (record s { volatile = volatile_managed s lun function }) lun function meant)
+    (answered_complete s lun function meant unit there ends)
 
 -- one task by its LUN and tag
 pub one_aborted : (s : State) (lun meant : ℕ) → HasUnit s lun →
@@ -78,8 +82,15 @@ not_among lun function meant other task =
 
 pub no_other : (s : State) (lun function meant : ℕ) → aborts function ≡ false → managed s lun function meant ≡ s
 no_other s lun function meant other =
-    if_both (λ (t : State). t ≡ s) (service s lun function meant == 0x00)
+    ap (λ (v : Volatile). carried_out (record s { volatile = v }) lun function meant (service s lun function meant))
+    (not_reset s lun function is_other)
+    ∙ if_both (λ (t : State). t ≡ s) (service s lun function meant == 0x00)
     (without_none s (is_aborted lun function meant) (not_among lun function meant other)) refl
+  where
+    is_other : (function == 0x08) ≡ false
+    is_other =
+        (or_parts (function == 0x08) _
+        (or_parts (function == 0x04) _ (or_parts (function == 0x02) _ (or_parts (function == 0x01) _ other).1).1).1).0
 
 -- ## What is left
 

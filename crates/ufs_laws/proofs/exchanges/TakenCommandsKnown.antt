@@ -7,19 +7,21 @@ use Rattle.ufs_laws.proofs.Common.{if◌then◌else◌, invalid_field, invalid_o
 use Rattle.ufs_laws.proofs.Common.{lun_of, no_unit, none-some, not-false, not_taken, numbers_of, observe, read_begun}
 use Rattle.ufs_laws.proofs.Common.{read_blocks, refl, refusal, sending, slice_get, subst, sym, true, unit_of_request}
 use Rattle.ufs_laws.proofs.Common.{unit_or_first, with_block, write_error, ℕ, ◌++◌, ◌+◌, ◌==◌, ◌∙◌, ◌∷◌, ◌≡◌, ◌≢◌}
-use Rattle.std.specs.Prelude.{length}
+use Rattle.std.specs.Prelude.{length, nat_le, nat_lt}
+use Rattle.ufs_spec.proofs.Facts.{and_parts, ltb-true}
 use Rattle.ufs_laws.proofs.walk.WaysOfCommands.{Answered, Beginning, Gathered, Handing, Reading, Telling, Waiting}
 use Rattle.ufs_laws.proofs.walk.WaysOfCommands.{WhyBegun, begins_by, begun_as}
 use Rattle.ufs_laws.proofs.walk.WaysOfData.{IsAnswerOfData, IsGood, IsOutOfRange, IsOutOfSequence, IsWriteError}
 use Rattle.ufs_laws.proofs.walk.WaysOfData.{IsWrongField, answer_one}
 use Rattle.ufs_laws.proofs.walk.TaskLaws.{Any, any_asks, IsTaskLaw, task_for, tasks_kept}
-use Rattle.ufs_laws.specs.Exchange.{AllKnown, IsKnownDeed, IsKnownTask}
+use Rattle.ufs_laws.specs.Exchange.{AllKnown, IsAnsweredAt, IsKnownDeed, IsKnownTask}
 use Rattle.ufs_spec.specs.CdbFields.{row_of}
 use Rattle.ufs_spec.specs.Cdbs.{carried}
 use Rattle.ufs_spec.specs.declared.exchanges.Status.TheVariants.{CheckCondition}
-use Rattle.ufs_spec.specs.Exchanges.{check}
+use Rattle.ufs_spec.specs.Exchanges.{check, message_error, unit_attention}
 use Rattle.ufs_spec.specs.Machine.{IsCdbIn, sending_bytes}
-use Rattle.ufs_spec.specs.Refusals.{row_in, takes, takes_row}
+use Rattle.ufs_spec.specs.Refusals.{is_not_simple, is_told_anywhere, meets_attention, row_in, takes, takes_row}
+use Rattle.ufs_spec.specs.Refusals.{tells_of_none}
 use Rattle.ufs_spec.specs.declared.operations.Row.{Row}
 use Rattle.ufs_spec.specs.declared.scsi.Cdb.TheVariants as cdb
 use Rattle.ufs_spec.proofs.CommandTable.{row_behind}
@@ -37,31 +39,40 @@ passed_line true status rest e = absurd (none e)
     none k = cc
 passed_line false status rest e = (refl, e)
 
--- the first two lines and the rest
+-- the first four lines and the rest
 pub record Past (s : State) (r : Request) : Type 0 where
   pub there : lacks_unit s r (lun_of (numbers_of s) r.lun) ≡ false
-  pub taken : not_taken r (lun_of (numbers_of s) r.lun) ≡ false
+  pub attended : meets_attention s r (lun_of (numbers_of s) r.lun) ≡ false
+  pub simple : is_not_simple r ≡ false
+  pub taken : not_taken (numbers_of s) r (lun_of (numbers_of s) r.lun) ≡ false
   pub later : first_line (lines_after s r r.cdb) ≡ None
 
 pub past : (s : State) (r : Request) → refusal s r ≡ None → Past s r
 past s r e =
     let one = passed_line (lacks_unit s r (lun_of (numbers_of s) r.lun)) no_unit _ e in
-    let two = passed_line (not_taken r (lun_of (numbers_of s) r.lun)) invalid_operation _ one.1 in
-    record { there = one.0; taken = two.0; later = two.1 }
+    let two = passed_line (meets_attention s r (lun_of (numbers_of s) r.lun)) unit_attention _ one.1 in
+    let three = passed_line (is_not_simple r) message_error _ two.1 in
+    let four = passed_line (not_taken (numbers_of s) r (lun_of (numbers_of s) r.lun)) invalid_operation _ three.1 in
+    record { there = one.0; attended = two.0; simple = three.0; taken = four.0; later = four.1 }
 
--- the unit is there, and takes the operation code
-operation_taken : (s : State) (r : Request) → Past s r →
-    (unit : Lun) × (lun_of (numbers_of s) r.lun ≡ Some unit) × (takes_row unit (row_in r) ≡ true)
-operation_taken s r p = by (lun_of (numbers_of s) r.lun) refl p.there p.taken
+-- the unit takes the operation code, or the command is answered where there is none
+row_answered : (s : State) (r : Request) (row : Row) → row_in r ≡ Some row → Past s r →
+    IsAnsweredAt (numbers_of s) (lun_of (numbers_of s) r.lun) row
+row_answered s r row found p = by (lun_of (numbers_of s) r.lun) p.there p.taken
   where
-    by : (o : Option Lun) → lun_of (numbers_of s) r.lun ≡ o → lacks_unit s r o ≡ false → not_taken r o ≡ false →
-        (unit : Lun) × (lun_of (numbers_of s) r.lun ≡ Some unit) × (takes_row unit (row_in r) ≡ true)
-    by None same lacks taken = cc
-    by (Some unit) same lacks taken = (unit, same, not-false _ taken)
+    by : (o : Option Lun) → lacks_unit s r o ≡ false → not_taken (numbers_of s) r o ≡ false →
+        IsAnsweredAt (numbers_of s) o row
+    by None lacks taken =
+        let both = and_parts (nat_lt 0 (numbers_of s).profile) (tells_of_none row.kind)
+        (subst (λ (o : Option Row). is_told_anywhere (numbers_of s) o ≡ true) found (not-false _ lacks)) in
+        (ltb-true 0 (numbers_of s).profile both.0, both.1)
+    by (Some unit) lacks taken =
+        (and_parts (nat_le row.profile (numbers_of s).profile) (takes unit row)
+        (subst (λ (o : Option Row). takes_row (numbers_of s) unit o ≡ true) found (not-false _ taken))).1
 
 pub passes : (s : State) (r : Request) → IsRequest r → refusal s r ≡ None →
-    (unit : Lun) × (row : Row) × (c : Cdb) × (lun_of (numbers_of s) r.lun ≡ Some unit) × (row_of r.bytes ≡ Some row)
-    × (takes unit row ≡ true) × (r.cdb ≡ Some c) × (row.kind ≡ kind_of c)
+    (row : Row) × (c : Cdb) × (row_of r.bytes ≡ Some row)
+    × IsAnsweredAt (numbers_of s) (lun_of (numbers_of s) r.lun) row × (r.cdb ≡ Some c) × (row.kind ≡ kind_of c)
 passes s r is e = by r.cdb refl is.1.2
   where
     p : Past s r
@@ -71,22 +82,13 @@ passes s r is e = by r.cdb refl is.1.2
     no_line k = cc
 
     by : (o : Option Cdb) → r.cdb ≡ o → IsCdbIn (Some r.bytes) o →
-        (unit : Lun) × (row : Row) × (c : Cdb) × (lun_of (numbers_of s) r.lun ≡ Some unit)
-        × (row_of r.bytes ≡ Some row) × (takes unit row ≡ true) × (r.cdb ≡ Some c) × (row.kind ≡ kind_of c)
+        (row : Row) × (c : Cdb) × (row_of r.bytes ≡ Some row)
+        × IsAnsweredAt (numbers_of s) (lun_of (numbers_of s) r.lun) row × (r.cdb ≡ Some c) × (row.kind ≡ kind_of c)
     by None same spells = absurd
         (no_line (subst (λ (o : Option Cdb). first_line (lines_after s r o) ≡ None) same p.later))
     by (Some c) same spells =
         let its = row_behind r.bytes c (sym spells) in
-        let here = operation_taken s r p in (
-          here.0,
-          its.row,
-          c,
-          here.1,
-          its.found,
-          subst (λ (o : Option Row). takes_row here.0 o ≡ true) its.found here.2,
-          same,
-          its.kind_is,
-        )
+        (its.row, c, its.found, row_answered s r its.row its.found p, same, its.kind_is)
 
 -- ## What begins
 
@@ -144,7 +146,7 @@ begins s r unit c = begins_by (λ t. Begins s t c) s r unit c one
     one : (b : Beginning) → WhyBegun s r unit c b → Begins s (begun_as s r c b) c
     one Answered why = (first_task r c 0 (Answering Good 0), refl, refl, good_known)
     one Waiting why = (first_task r c 0 (Awaiting (length s.accepted)), refl, refl, tt)
-    one (Telling bytes) why = data_known s r c bytes
+    one (Telling volatile bytes) why = data_known (record s { volatile = volatile }) r c bytes
     one (Handing region n) why =
         let frames : List ℕ = flat_map (λ frame. frame) (s.registers region).response in
         let told = data_known s r (cdb.SecurityIn region n) frames in

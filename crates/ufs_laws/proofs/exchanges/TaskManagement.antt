@@ -1,6 +1,6 @@
 -- A task management request that is answered other than 00h changes no task; and which kinds of messages are heard.
 use Rattle.ufs_laws.proofs.Common.{Bool, Cdb, HostFault, IsAmong, IsHeard, List, Lun, Message, None, Option, Some}
-use Rattle.ufs_laws.proofs.Common.{Spelled, State, Task, ap, code_of, cond, false, if◌then◌else◌, is_aborted, is_among}
+use Rattle.ufs_laws.proofs.Common.{Spelled, State, Task, ap, code_of, cond, cond-false, eqb-true, false, if◌then◌else◌, is_aborted, is_among}
 use Rattle.ufs_laws.proofs.Common.{list_any, lun_of, ne_eqb, numbers_of, refl, service, short_reply, sym, true}
 use Rattle.ufs_laws.proofs.Common.{with_short, without_tasks, ℕ, ◌==◌, ◌∙◌, ◌≡◌, ◌≢◌}
 use Rattle.std.specs.Prelude.{is_none}
@@ -11,6 +11,8 @@ use Rattle.ufs_spec.specs.Messages.{fault_among, has_digest, has_extra_header, h
 use Rattle.ufs_spec.specs.Messages.{has_wrong_length, host_codes, is_short, known_codes, read_fault_of}
 use Rattle.ufs_spec.specs.declared.faults.HostFault.TheVariants as fault
 use Rattle.ufs_spec.specs.declared.messages.Message.TheVariants as message
+use Rattle.ufs_spec.specs.declared.volatile.Volatile.{Volatile}
+use Rattle.ufs_spec.specs.Management.{reset_at, volatile_managed}
 
 -- Task management
 
@@ -18,13 +20,6 @@ pub not_carried_out : (s : State) (lun function meant code : ℕ) → code ≢ 0
     carried_out s lun function meant code ≡ s
 not_carried_out s lun function meant code other =
     ap (λ (b : Bool). cond b (without_tasks s (is_aborted lun function meant)) s) (ne_eqb code 0x00 other)
-
-pub only_answered : (s : State) (lun tag function meant : ℕ) (c : Option Cdb) → service s lun function meant ≢ 0x00 →
-    heard s (message.TaskRequest lun tag function meant) c ≡ with_short s
-    (short_reply tag (message.TaskResponse lun tag (service s lun function meant)))
-only_answered s lun tag function meant c other =
-    ap (λ (t : State). with_short t (short_reply tag (message.TaskResponse lun tag (service s lun function meant))))
-    (not_carried_out s lun function meant (service s lun function meant) other)
 
 -- what a request is answered, by what its LUN names and whether its function aborts
 abbrev pub answer_of : State → ℕ → ℕ → ℕ → Option Lun → Bool → ℕ
@@ -46,6 +41,35 @@ pub answered_complete : (s : State) (lun function meant : ℕ) (unit : Lun) → 
 answered_complete s lun function meant unit there ends =
     ap (λ (o : Option Lun). answer_of s lun function meant o (aborts function)) there
     ∙ ap (λ (b : Bool). answer_of s lun function meant (Some unit) b) ends
+
+-- only a reset changes what is volatile
+pub not_reset : (s : State) (lun function : ℕ) → (function == 0x08) ≡ false → volatile_managed s lun function ≡ s.volatile
+not_reset s lun function other =
+    cond-false (function == 0x08) (reset_at (lun_of (numbers_of s) lun) s.volatile) s.volatile other
+
+-- and one that is refused does not either: there is no LUN to reset
+pub unmanaged : (s : State) (lun function meant : ℕ) → service s lun function meant ≢ 0x00 →
+    volatile_managed s lun function ≡ s.volatile
+unmanaged s lun function meant other = by (function == 0x08) refl
+  where
+    there : (o : Option Lun) → lun_of (numbers_of s) lun ≡ o → function ≡ 0x08 → reset_at o s.volatile ≡ s.volatile
+    there None k is = refl
+    there (Some unit) k is =
+        absurd (other (answered_complete s lun function meant unit k (ap aborts is)))
+
+    by : (b : Bool) → (function == 0x08) ≡ b →
+        (if b then reset_at (lun_of (numbers_of s) lun) s.volatile else s.volatile) ≡ s.volatile
+    by true e = there (lun_of (numbers_of s) lun) refl (eqb-true function 0x08 e)
+    by false e = refl
+
+pub only_answered : (s : State) (lun tag function meant : ℕ) (c : Option Cdb) → service s lun function meant ≢ 0x00 →
+    heard s (message.TaskRequest lun tag function meant) c ≡ with_short s
+    (short_reply tag (message.TaskResponse lun tag (service s lun function meant)))
+only_answered s lun tag function meant c other =
+    ap (λ (t : State). with_short t (short_reply tag (message.TaskResponse lun tag (service s lun function meant))))
+    (not_carried_out (record s { volatile = volatile_managed s lun function }) lun function meant
+    (service s lun function meant) other
+    ∙ ap (λ (v : Volatile). record s { volatile = v }) (unmanaged s lun function meant other))
 
 -- Kinds
 

@@ -4,38 +4,42 @@ use Rattle.ufs_laws.proofs.Common.{IsRequest, List, None, Option, ReadBlock, Rea
 use Rattle.ufs_laws.proofs.Common.{RpmbRequest, Sending, SendingBytes, Some, State, Status, Task, UnitSpec, Unread, []}
 use Rattle.ufs_laws.proofs.Common.{ap, arith, begun, below, big_bytes, block_at, blocks_expected, data_begun}
 use Rattle.ufs_laws.proofs.Common.{deed_locked, false, first_line, flat_map, get_or, has_wrong_list, if◌then◌else◌}
-use Rattle.ufs_laws.proofs.Common.{invalid_field, invalid_operation, is_too_long, kind_of, lacks_unit, length}
-use Rattle.ufs_laws.proofs.Common.{length-take, length-take-le, lines_after, lun_of, map, no_unit, not_taken}
+use Rattle.ufs_laws.proofs.Common.{invalid_field, is_too_long, kind_of, length}
+use Rattle.ufs_laws.proofs.Common.{length-take, length-take-le, lines_after, map}
 use Rattle.ufs_laws.proofs.Common.{numbers_of, plain_now, read_begun, read_blocks, refl, refusal, same_Some, sending}
 use Rattle.ufs_laws.proofs.Common.{slice_get, subst, suc, sym, task_of, true, unit_numbers_of, unit_of_request}
-use Rattle.ufs_laws.proofs.Common.{unit_or_first, with_block, with_deed, with_request, write_error, zero, zeros, ℕ, ◌%◌}
+use Rattle.ufs_laws.proofs.Common.{unit_or_first, with_block, with_deed, with_request, write_error, zero, ℕ, ◌%◌}
 use Rattle.ufs_laws.proofs.Common.{◌*◌, ◌++◌, ◌+◌, ◌-◌, ◌/◌, ◌<◌, ◌==◌, ◌^◌, ◌∙◌, ◌∷◌, ◌≡◌, ◌≢◌, ◌≤◌}
 use Rattle.std.proofs.Common.{min}
-use Rattle.std.specs.Prelude.{slice_set, take}
+use Rattle.std.specs.Prelude.{drop, slice_set, take, ◌||◌}
 use Rattle.std.proofs.lemmas.Grind.{div_ceil_times}
 use Rattle.std.proofs.lemmas.List.{length-set}
 use Rattle.std.proofs.lemmas.Option.{get_or_from_slice_get, slice_get_within}
-use Rattle.ufs_laws.proofs.pages.ByteLists.{bytes-append, bytes-cons, bytes-number, bytes-take, bytes-zeros}
+use Rattle.ufs_laws.proofs.pages.ByteLists.{bytes-append, bytes-number, bytes-take, bytes-zeros}
 use Rattle.ufs_laws.proofs.plain_contents.ListParts.{get_or-made, length-made}
 use Rattle.ufs_laws.proofs.walk.WaysOfCommands.{Answered, Beginning, Gathered, Handing, IsTold, Reading, Telling}
 use Rattle.ufs_laws.proofs.walk.WaysOfCommands.{Waiting, WhyBegun, begins_by, begun_as, command_few}
 use Rattle.ufs_laws.proofs.walk.WaysOfData.{IsAnswerOfData, IsGood, IsOutOfRange, IsOutOfSequence, IsWriteError}
 use Rattle.ufs_laws.proofs.walk.WaysOfData.{IsWrongField, answer_one}
-use Rattle.ufs_laws.proofs.exchanges.ListedUnits.{inquiry_told, luns_size, luns_told}
+use Rattle.ufs_laws.proofs.exchanges.ListedUnits.{inquiry_told, luns_size, luns_told, sense_told_bytes, type_byte}
 use Rattle.ufs_laws.proofs.exchanges.TakenCommandsKnown.{passed_line, past}
 use Rattle.ufs_laws.proofs.walk.TaskLaws.{Any, IsTaskLaw, OneMore, task_for}
 use Rattle.ufs_laws.specs.Replies.{DeedSpeaks, IsStatus, TaskSpeaks}
-use Rattle.ufs_spec.specs.Begins.{frames_begun, told_bytes}
+use Rattle.ufs_spec.specs.Begins.{frames_begun, told_bytes, type_told}
+use Rattle.ufs_spec.specs.declared.volatile.Volatile.{Volatile}
 use Rattle.ufs_spec.specs.Identities.{luns_bytes}
-use Rattle.ufs_spec.specs.Refusals.{Line, lacks_region, line}
+use Rattle.ufs_spec.specs.Refusals.{Line, is_beyond, is_guarded, lacks_operation, lacks_page, lacks_region}
+use Rattle.ufs_spec.specs.Refusals.{lines_for, table, wants_saved}
+use Rattle.ufs_laws.proofs.exchanges.ToldPages.{commands_told, long_modes, page_told, short_modes}
+use Rattle.ufs_laws.proofs.exchanges.ToldPages.{capacity_told as long_capacity_told}
 use Rattle.ufs_spec.specs.declared.operations.Kind.TheVariants as kind
 use Rattle.ufs_spec.specs.declared.operations.Told.{Told}
 use Rattle.ufs_spec.specs.declared.operations.Told.TheVariants as told
 use Rattle.ufs_spec.specs.declared.scsi.Cdb.TheVariants as cdb
 use Rattle.ufs_spec.proofs.Facts.{eqb-false, ltb-true}
 use Rattle.ufs_spec.specs.Cdbs.{address_of, blocks_of}
-use Rattle.ufs_spec.specs.Exchanges.{bytes_sent, list_length_error}
-use Rattle.ufs_spec.specs.Machine.{capacity_bytes, deed_read, no_sense, sending_bytes, set_state}
+use Rattle.ufs_spec.specs.Exchanges.{bytes_sent, list_length_error, saving_unsupported}
+use Rattle.ufs_spec.specs.Machine.{capacity_bytes, deed_read, sending_bytes, set_state}
 use Rattle.ufs_laws.proofs.exchanges.DeedLaws.{IsDeedLaw, filled_keeps, goes, locks, read_keeps, reads}
 
 -- ## Statuses of the table
@@ -56,35 +60,24 @@ line_status (l ∷ ls) status all e = by l.applies e (λ k. line_status ls statu
 is_field : IsStatus invalid_field
 is_field = (omega arith, omega arith, omega arith)
 
+lines_status : (s : State) (r : Request) (c : Cdb) → AllStatus (lines_for s r c)
+lines_status s r c = (is_field, ((omega arith, omega arith, omega arith), (is_field, ((omega arith, omega arith, omega arith), (is_field, ((omega arith, omega arith, omega arith), ((omega arith, omega arith, omega arith), ((omega arith, omega arith, omega arith), ((omega arith, omega arith, omega arith), ((omega arith, omega arith, omega arith), (is_field, (tt, tt))))))))))))
+
 later_status : (s : State) (r : Request) (c : Option Cdb) → AllStatus (lines_after s r c)
 later_status s r None = (is_field, tt)
-later_status s r (Some c) = (
-  is_field,
-  (
-    is_field,
-    (
-      (omega arith, omega arith, omega arith),
-      (
-        is_field,
-        (
-          (omega arith, omega arith, omega arith),
-          (
-            (omega arith, omega arith, omega arith),
-            ((omega arith, omega arith, omega arith), ((omega arith, omega arith, omega arith), (is_field, (tt, tt)))),
-          ),
-        ),
-      ),
-    ),
-  ),
-)
+later_status s r (Some c) =
+    (is_field, lines_status s r c)
 
 pub table_status : (s : State) (r : Request) (status : Status) → refusal s r ≡ Some status → IsStatus status
 table_status s r status e =
     line_status
-    (line (lacks_unit s r (lun_of (numbers_of s) r.lun)) no_unit ∷ line (not_taken r (lun_of (numbers_of s) r.lun))
-    invalid_operation ∷ lines_after s r r.cdb)
-    status ((omega arith, omega arith, omega arith), ((omega arith, omega arith, omega arith), later_status s r r.cdb))
-    e
+    (table s r) status (
+      (omega arith, omega arith, omega arith),
+      (
+        (omega arith, omega arith, omega arith),
+        ((omega arith, omega arith, omega arith), ((omega arith, omega arith, omega arith), later_status s r r.cdb)),
+      ),
+    ) e
 
 write_error_is : IsStatus write_error
 write_error_is = (omega arith, omega arith, omega arith)
@@ -183,12 +176,6 @@ data_speaks s r c bytes is few are = (
         let first = some sent (eqb-false sent 0 e) in
         (omega arith, omega arith, bytes-take sent bytes are)
 
-no_sense_bytes : AreBytes no_sense
-no_sense_bytes =
-    bytes-append (0x70 ∷ zeros 6) (0x0A ∷ zeros 10)
-    (bytes-cons 0x70 (zeros 6) (omega arith) (bytes-zeros 6))
-    (bytes-cons 0x0A (zeros 10) (omega arith) (bytes-zeros 10))
-
 -- the first bytes of what is told
 told_part : (s : State) (r : Request) (c : Cdb) (allocation : ℕ) (bytes : List ℕ) → IsRequest r → length bytes ≤ 4096 →
     AreBytes bytes → OneMore TaskSpeaks s.tasks (data_begun s r c (take allocation bytes)).tasks
@@ -208,11 +195,11 @@ FramesFit s = (region : ℕ) →
     × AreBytes (flat_map (λ (frame : List ℕ). frame) (s.registers region).response)
 
 -- what is told are bytes, and not many
-told_bytes_few : (s : State) (r : Request) (what : Told) (select : ℕ) → FewUnits s →
+told_bytes_few : (s : State) (r : Request) (what : Told) (select : ℕ) → r.lun < 256 → FewUnits s →
     (length (told_bytes s r what select) ≤ 4096) × AreBytes (told_bytes s r what select)
-told_bytes_few s r told.Sense select few = (omega arith, no_sense_bytes)
-told_bytes_few s r told.Identity select few = (omega arith, inquiry_told r.lun)
-told_bytes_few s r told.Capacity select few = capacity_few (unit_numbers_of s r)
+told_bytes_few s r told.Sense select lun few = (omega arith, sense_told_bytes s r)
+told_bytes_few s r told.Identity select lun few = (omega arith, inquiry_told (type_told s r) (type_byte s r))
+told_bytes_few s r told.Capacity select lun few = capacity_few (unit_numbers_of s r)
   where
     capacity_few : (u : Option UnitSpec) → (length (capacity_bytes u) ≤ 4096) × AreBytes (capacity_bytes u)
     capacity_few None = (omega arith, bytes-zeros 8)
@@ -220,14 +207,25 @@ told_bytes_few s r told.Capacity select few = capacity_few (unit_numbers_of s r)
       omega arith,
       bytes-append (big_bytes 4 (u.blocks - 1)) (big_bytes 4 4096) (bytes-number 4 (u.blocks - 1)) (bytes-number 4 4096),
     )
-told_bytes_few s r told.Units select few =
+told_bytes_few s r told.LongCapacity select lun few =
+    let its = long_capacity_told (unit_numbers_of s r) in (omega (arith, its.0), its.1)
+told_bytes_few s r told.Page select lun few =
+    let its = page_told (numbers_of s) r.lun select lun in (omega (arith, its.0), its.1)
+told_bytes_few s r told.Modes select lun few =
+    let its = long_modes select (is_guarded s (unit_numbers_of s r)) in (omega (arith, its.1.0), its.1.1)
+told_bytes_few s r told.ShortModes select lun few =
+    let its = short_modes select (is_guarded s (unit_numbers_of s r)) in (omega (arith, its.1.0), its.1.1)
+told_bytes_few s r told.Operations select lun few =
+    let its = commands_told select in (omega (arith, its.0), its.1)
+told_bytes_few s r told.Units select lun few =
     let all : length (luns_bytes (numbers_of s) select) ≤ 104 = luns_size (numbers_of s) select few in
     (omega arith, luns_told (numbers_of s) select few)
 
-told_speaks : (s : State) (r : Request) (c : Cdb) (bytes : List ℕ) → IsRequest r → FewUnits s → IsTold s r bytes →
-    OneMore TaskSpeaks s.tasks (data_begun s r c bytes).tasks
-told_speaks s r c bytes is few t =
-    let its = told_bytes_few s r t.what t.select few in
+told_speaks : (s : State) (r : Request) (c : Cdb) (volatile : Volatile) (bytes : List ℕ) → IsRequest r → FewUnits s →
+    IsTold s r volatile bytes →
+    OneMore TaskSpeaks s.tasks (data_begun (record s { volatile = volatile }) r c bytes).tasks
+told_speaks s r c volatile bytes is few t =
+    let its = told_bytes_few s r t.what t.select is.1.0.0.1 few in
     subst (λ (b : List ℕ). OneMore TaskSpeaks s.tasks (data_begun s r c b).tasks) (sym t.is)
     (told_part s r c t.allocation (told_bytes s r t.what t.select) is its.0 its.1)
 
@@ -260,7 +258,7 @@ begins_speaking s r c unit is reads units frames short listed =
       asked_for r (Some c) 0
           (Awaiting (length s.accepted)) is (omega arith) tt,
     )
-    one (Telling bytes) why = told_speaks s r c bytes is units why
+    one (Telling volatile bytes) why = told_speaks s r c volatile bytes is units why
     one (Handing region n) why = frames_speak s r region n is (frames region)
     one (Reading u address n) (unit_is, address_is, size, read) =
         let few = command_few (numbers_of s) c short in
@@ -273,21 +271,29 @@ begins_speaking s r c unit is reads units frames short listed =
       asked_for r (Some c) n (Gathering purpose [] false) is (few short listed) (some short),
     )
 
+-- the lines behind those of what a command names
+abbrev LaterLines : State → Request → Cdb → List Line
+LaterLines s r c = drop 2 (lines_for s r c)
+
+-- what a command that is not refused names is there
+named : (s : State) (r : Request) (c : Cdb) → r.cdb ≡ Some c → refusal s r ≡ None → first_line (LaterLines s r c) ≡ None
+named s r c e passed =
+    (passed_line (wants_saved c) saving_unsupported _
+    (passed_line (lacks_region (numbers_of s) c || (lacks_page (numbers_of s) r.lun c || lacks_operation c)) invalid_field _
+    (passed_line (is_beyond (numbers_of s) r) invalid_field _
+    (subst (λ (o : Option Cdb). first_line (lines_after s r o) ≡ None) e (past s r passed).later)).1).1).1
+
 -- a command that is not refused is not too long
 not_too_long : (s : State) (r : Request) (c : Cdb) → r.cdb ≡ Some c → refusal s r ≡ None →
     is_too_long (numbers_of s) c ≡ false
 not_too_long s r c e passed =
-    (passed_line (is_too_long (numbers_of s) c) invalid_field _
-    (passed_line (lacks_region (numbers_of s) c) invalid_field _
-    (subst (λ (o : Option Cdb). first_line (lines_after s r o) ≡ None) e (past s r passed).later)).1).0
+    (passed_line (is_too_long (numbers_of s) c) invalid_field _ (named s r c e passed)).0
 
 -- and an UNMAP's list is of a length that there is
 rightly_listed : (s : State) (r : Request) (c : Cdb) → r.cdb ≡ Some c → refusal s r ≡ None → has_wrong_list c ≡ false
 rightly_listed s r c e passed =
     (passed_line (has_wrong_list c) list_length_error _
-    (passed_line (is_too_long (numbers_of s) c) invalid_field _
-    (passed_line (lacks_region (numbers_of s) c) invalid_field _
-    (subst (λ (o : Option Cdb). first_line (lines_after s r o) ≡ None) e (past s r passed).later)).1).1).0
+    (passed_line (is_too_long (numbers_of s) c) invalid_field _ (named s r c e passed)).1).0
 
 -- ## What tasks do next
 

@@ -1,4 +1,5 @@
 -- One request is open at a time, in three slots.
+use Rattle.ufs_spec.proofs.Facts.{or_with_false}
 use Rattle.ufs_laws.proofs.Common.{Bool, Busy, Cdb, Deed, ForFrames, Frame, Gathering, Key, List, None, Option, Pin}
 use Rattle.ufs_laws.proofs.Common.{Refused, Request, Results, RpmbOutcome, Some, State, Task, Translation, UnitSpec, []}
 use Rattle.ufs_laws.proofs.Common.{ap, area_key, arith, asks, begun, below, claimed_by, false, false_from_ne_true}
@@ -40,7 +41,7 @@ pub busy : (s : State) (tag region k : ℕ) (task : Task) (other n : ℕ) → 0 
     slice_get s.tasks k ≡ Some task → task.command ≡ Some (cdb.SecurityOut other n) →
     first_line (lines_for s (asks 0x20 0xC4 tag (brings region)) (brings region)) ≡ Some Busy
 busy s tag region k task other n has ready there e =
-    leaves (steps_of (numbers_of s) region == 0) invalid_field Busy _ (is_there _ has)
+    leaves ((steps_of (numbers_of s) region == 0) || false) invalid_field Busy _ (or_with_false _ ∙ is_there _ has)
     (leaves (is_past (brings region) (unit_numbers_of s (asks 0x20 0xC4 tag (brings region)))) out_of_range Busy _
     (within region 512 (unit_numbers_of s (asks 0x20 0xC4 tag (brings region))))
     (leaves (not (mended s || locked s)) not_ready Busy _ (once_mended _ _ ready)
@@ -109,23 +110,23 @@ broken n part = by (nat_le 512 n && nat_le n 4096) (ne_eqb (n % 512) 0 part)
 pub too_long : (s : State) (r : Request) (region n : ℕ) → 4096 < n →
     first_line (lines_for s r (cdb.SecurityOut region n)) ≡ Some invalid_field
 too_long s r region n high =
-    either (steps_of (numbers_of s) region == 0) invalid_field _
+    either ((steps_of (numbers_of s) region == 0) || false) invalid_field _
     (decides (not (is_frames n)) invalid_field _ (long n high))
 
 pub no_frames : (s : State) (r : Request) (region n : ℕ) → n % 512 ≢ 0 →
     first_line (lines_for s r (cdb.SecurityOut region n)) ≡ Some invalid_field
 no_frames s r region n part =
-    either (steps_of (numbers_of s) region == 0) invalid_field _
+    either ((steps_of (numbers_of s) region == 0) || false) invalid_field _
     (decides (not (is_frames n)) invalid_field _ (broken n part))
 
 pub too_long_to_read : (s : State) (r : Request) (region n : ℕ) → 4096 < n →
     first_line (lines_for s r (cdb.SecurityIn region n)) ≡ Some invalid_field
 too_long_to_read s r region n high =
-    either (steps_of (numbers_of s) region == 0) invalid_field _
+    either ((steps_of (numbers_of s) region == 0) || false) invalid_field _
     (decides (not (is_frames n)) invalid_field _ (long n high))
 
 pub no_frames_to_read : (s : State) (r : Request) (region n : ℕ) → n % 512 ≢ 0 →
     first_line (lines_for s r (cdb.SecurityIn region n)) ≡ Some invalid_field
 no_frames_to_read s r region n part =
-    either (steps_of (numbers_of s) region == 0) invalid_field _
+    either ((steps_of (numbers_of s) region == 0) || false) invalid_field _
     (decides (not (is_frames n)) invalid_field _ (broken n part))

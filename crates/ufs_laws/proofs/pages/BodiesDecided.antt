@@ -66,15 +66,27 @@ numbers_fit n =
       regions = h.1.1.0.1.0;
       rpmb = h.1.1.0.1.1;
       slots = h.1.1.1.0;
-      spare = h.1.1.1.1;
+      spare = h.1.1.1.1.0;
+      profile = h.1.1.1.1.1.0;
+      serial = h.1.1.1.1.1.1;
     })
-    (λ r. ((r.dies, r.blocks), ((r.pages, r.units), ((r.each_unit, (r.regions, r.rpmb)), (r.slots, r.spare)))))
+    (λ r. (
+      (r.dies, r.blocks),
+      (
+        (r.pages, r.units),
+        (
+          (r.each_unit, (r.regions, r.rpmb)),
+          (r.slots, (r.spare, (r.profile, r.serial))),
+        ),
+      ),
+    ))
     (dec_and (dec_and (dec_lt n.dies (2 ^ 8)) (dec_lt n.blocks (2 ^ 16)))
     (dec_and (dec_and (dec_lt n.pages (2 ^ 16)) (dec_le (length n.units.items) 8))
     (dec_and (dec_and (dec_all UnitFits unit_fits n.units.items)
     (dec_and (ℕ_discrete (length n.rpmb) regions)
     (dec_all (λ (steps : ℕ). steps < 2 ^ 8) (λ (steps : ℕ). dec_lt steps (2 ^ 8)) n.rpmb)))
-    (dec_and (dec_lt n.slots (2 ^ 16)) (dec_lt n.spare (2 ^ 16))))))
+    (dec_and (dec_lt n.slots (2 ^ 16)) (dec_and (dec_lt n.spare (2 ^ 16))
+    (dec_and (ℕ_discrete n.profile 0) (ℕ_discrete n.serial 1)))))))
 
 -- whether a body is that of a mark with this fence and these numbers
 is_body_of : (fence : Option Fence) (n : Numbers) (body : List ℕ) → Dec (IsMarkBody fence n body)

@@ -54,6 +54,8 @@ numbers_from bytes =
       rpmb = slice_index bytes 6 ∷ slice_index bytes 12 ∷ slice_index bytes 13 ∷ slice_index bytes 14 ∷ [];
       slots = field_at 2 8 bytes;
       spare = field_at 2 10 bytes;
+      profile = 0;
+      serial = 1;
     }
 
 abbrev pub numbers_in : List ℕ → Numbers
@@ -107,7 +109,8 @@ numbers_back n rest fit =
     let units : units_in (length n.units.items) (flat_map unit_bytes n.units.items ++ rest) ≡ n.units.items =
     units_back n.units.items rest fit.each_unit in
     let rpmb = sym (four_steps n.rpmb fit.regions) in
-    rw (blocks, pages, slots, spare, units) (λ i. record n { rpmb = rpmb i })
+    rw (blocks, pages, slots, spare, units)
+    (λ i. record n { rpmb = rpmb i; profile = sym fit.profile i; serial = sym fit.serial i })
 
 -- the numbers stand behind the sixteen bytes of a fence
 behind_fence : (fence : Option Fence) (rest : List ℕ) → drop 16 (fence_bytes fence ++ rest) ≡ rest

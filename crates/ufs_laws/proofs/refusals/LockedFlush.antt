@@ -1,4 +1,6 @@
 -- A flush with nothing to wait for is answered GOOD, on a locked device too.
+use Rattle.ufs_laws.proofs.Common.{first_line}
+use Rattle.ufs_spec.specs.Refusals.{lines_for}
 use Rattle.ufs_laws.proofs.Common.{Answering, Awaiting, Bool, Busy, Deed, Gets, Good, Host, IsIdle, None, OfReply, Ok}
 use Rattle.ufs_laws.proofs.Common.{Option, Reply, Request, Some, State, Status, Task, [], ap, asks, cond-true}
 use Rattle.ufs_laws.proofs.Common.{deed_reply, durable, false, fills, flush, free_slots, heard, if◌then◌else◌, length}
@@ -62,11 +64,17 @@ begun s tag immediate = begun_with s tag immediate (waits (idle_state s) immedia
 not_refused : (s : State) (tag : ℕ) (immediate : Bool) →
     not (mended (idle_state s) || locked (idle_state s)) ≡ false →
     has_pending (idle_state s).translation ≡ false → refusal (idle_state s) (flushes tag immediate) ≡ None
-not_refused s tag immediate e none =
-    skips (not (mended (idle_state s) || locked (idle_state s))) not_ready _ e
+not_refused s tag immediate e none = in_row immediate
+    (skips (not (mended (idle_state s) || locked (idle_state s))) not_ready _ e
     (skips (locked (idle_state s) && has_pending (idle_state s).translation) write_protected _
     (and_right (locked (idle_state s)) (has_pending (idle_state s).translation) none)
-    (skips (nat_lt (free_slots (idle_state s).translation) 0) Busy _ (needs_none (idle_state s)) refl))
+    (skips (nat_lt (free_slots (idle_state s).translation) 0) Busy _ (needs_none (idle_state s)) refl)))
+  where
+    -- no bit of a flush goes beyond profile 0
+    in_row : (now : Bool) → first_line (lines_for (idle_state s) (flushes tag now) (flush now)) ≡ None →
+        refusal (idle_state s) (flushes tag now) ≡ None
+    in_row true lines = lines
+    in_row false lines = lines
 
 is_begun : (s : State) (tag : ℕ) (immediate : Bool) →
     refusal (idle_state s) (flushes tag immediate) ≡ None →

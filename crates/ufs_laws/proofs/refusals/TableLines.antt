@@ -19,7 +19,7 @@ use Rattle.ufs_spec.specs.Refusals.{lacks_response, lines_for, needs_blocks, tak
 use Rattle.ufs_spec.specs.Translation.{has_pending}
 use Rattle.ufs_spec.specs.declared.scsi.Cdb.TheVariants as cdb
 use Rattle.ufs_spec.proofs.CommandTable.{row_holds}
-use Rattle.ufs_spec.proofs.Facts.{and_from, or_with_false}
+use Rattle.ufs_spec.proofs.Facts.{and_from, and_parts, or_with_false}
 use Rattle.ufs_spec.specs.CdbFields.{row_of}
 use Rattle.ufs_spec.specs.declared.operations.Row.{Row}
 
@@ -68,14 +68,14 @@ slots_idle s h e = subst (λ (t : State). free_slots t.translation ≡ 0) (idle_
 
 pub unit : (s : State) (tag : ℕ) (bytes : List ℕ) → IsIdle s → IsRefused s (spells_none 0x40 3 tag bytes) no_unit
 unit s tag bytes h =
-    answers s (spells_none 0x40 3 tag bytes) no_unit h (lacks s (spells_none 0x40 3 tag bytes) (omega arith) refl)
+    answers s (spells_none 0x40 3 tag bytes) no_unit h refl (lacks s (spells_none 0x40 3 tag bytes) (omega arith) refl)
 
 pub operation : (s : State) (tag : ℕ) (rest : List ℕ) → IsIdle s →
     IsRefused s (spells_none 0x40 0 tag (0xFF ∷ rest)) invalid_operation
-operation s tag rest h = answers s (spells_none 0x40 0 tag (0xFF ∷ rest)) invalid_operation h refl
+operation s tag rest h = answers s (spells_none 0x40 0 tag (0xFF ∷ rest)) invalid_operation h refl refl
 
 pub blocks : (s : State) (tag : ℕ) → IsIdle s → IsRefused s (asks 0x40 0 tag (read_at 256 33)) invalid_field
-blocks s tag h = answers s (asks 0x40 0 tag (read_at 256 33)) invalid_field h refl
+blocks s tag h = answers s (asks 0x40 0 tag (read_at 256 33)) invalid_field h refl refl
 
 pub list : (s : State) (tag : ℕ) →
     first_line (lines_for s (asks 0x00 0 tag (cdb.Unmap 16)) (cdb.Unmap 16)) ≡ Some list_length_error
@@ -84,16 +84,16 @@ list s tag =
     (le-ltb (command_blocks (numbers_of s)) 0 (omega arith)) refl
 
 pub flag : (s : State) (tag : ℕ) → IsIdle s → IsRefused s (asks 0x00 0 tag (read_at 256 1)) invalid_field
-flag s tag h = answers s (asks 0x00 0 tag (read_at 256 1)) invalid_field h refl
+flag s tag h = answers s (asks 0x00 0 tag (read_at 256 1)) invalid_field h refl refl
 
 pub past : (s : State) (tag : ℕ) → IsIdle s → mended s ≡ false → locked s ≡ false →
     IsRefused s (asks 0x40 0 tag (read_at 256 1)) out_of_range
-past s tag h e k = answers s (asks 0x40 0 tag (read_at 256 1)) out_of_range h refl
+past s tag h e k = answers s (asks 0x40 0 tag (read_at 256 1)) out_of_range h refl refl
 
 pub ready : (s : State) (tag : ℕ) → IsIdle s → mended s ≡ false → locked s ≡ false → free_slots s.translation ≡ 0 →
     IsRefused s (asks 0x20 0 tag (write_at 0)) not_ready
 ready s tag h e k none =
-    answers s (asks 0x20 0 tag (write_at 0)) not_ready h
+    answers s (asks 0x20 0 tag (write_at 0)) not_ready h refl
     (decides (not (mended (idle_state s) || locked (idle_state s))) not_ready _
     (neither _ _ e (locked_idle s false h k)))
 
@@ -113,7 +113,7 @@ ready_and_protected s tag row e k on =
 
 pub protected : (s : State) (tag : ℕ) → IsIdle s → mended s ≡ true → locked s ≡ true → free_slots s.translation ≡ 0 →
     IsRefused s (asks 0x20 0 tag (write_at 0)) write_protected
-protected s tag h e k none = answers s (asks 0x20 0 tag (write_at 0)) write_protected h
+protected s tag h e k none = answers s (asks 0x20 0 tag (write_at 0)) write_protected h refl
     (leaves (not (mended (idle_state s) || locked (idle_state s))) not_ready write_protected _ (once_mended _ _ e)
     (decides (locked (idle_state s) || false) write_protected _ (or_with_false _ ∙ (locked_idle s true h k))))
 
@@ -122,15 +122,22 @@ pending_idle s h e = subst (λ (t : State). has_pending t.translation ≡ true) 
 
 pub flush_refused : (s : State) (tag : ℕ) (immediate : Bool) → IsIdle s → mended s ≡ true → locked s ≡ true →
     has_pending s.translation ≡ true → IsRefused s (asks 0x00 0 tag (flush immediate)) write_protected
-flush_refused s tag immediate h e k some = answers s (asks 0x00 0 tag (flush immediate)) write_protected h
-    (leaves (not (mended (idle_state s) || locked (idle_state s))) not_ready write_protected _ (once_mended _ _ e)
+flush_refused s tag immediate h e k some = answers s (asks 0x00 0 tag (flush immediate)) write_protected h refl
+    (in_row immediate (leaves (not (mended (idle_state s) || locked (idle_state s))) not_ready write_protected _ (once_mended _ _ e)
     (decides (locked (idle_state s) && has_pending (idle_state s).translation) write_protected _
     (and_from (locked (idle_state s)) (has_pending (idle_state s).translation) (locked_idle s true h k)
-    (pending_idle s h some))))
+    (pending_idle s h some)))))
+  where
+    -- no bit of a flush goes beyond profile 0
+    in_row : (now : Bool) →
+        first_line (lines_for (idle_state s) (asks 0x00 0 tag (flush now)) (flush now)) ≡ Some write_protected →
+        refusal (idle_state s) (asks 0x00 0 tag (flush now)) ≡ Some write_protected
+    in_row true lines = lines
+    in_row false lines = lines
 
 pub crowded : (s : State) (tag : ℕ) → IsIdle s → mended s ≡ true → locked s ≡ false → free_slots s.translation ≡ 0 →
     IsRefused s (asks 0x20 0 tag (write_at 0)) Busy
-crowded s tag h e k none = answers s (asks 0x20 0 tag (write_at 0)) Busy h
+crowded s tag h e k none = answers s (asks 0x20 0 tag (write_at 0)) Busy h refl
     (leaves (not (mended (idle_state s) || locked (idle_state s))) not_ready Busy _ (once_mended _ _ e)
     (leaves (locked (idle_state s) || false) write_protected Busy _ (or_with_false _ ∙ (locked_idle s false h k))
     (decides (nat_lt (free_slots (idle_state s).translation) 1) Busy _
@@ -154,7 +161,7 @@ pub ready_first : (s : State) (tag region : ℕ) → 0 < steps_of (numbers_of s)
     locked s ≡ false → (s.registers region).response ≡ [] →
     first_line (lines_for s (reads_response tag region) (cdb.SecurityIn region 512)) ≡ Some not_ready
 ready_first s tag region there e k none =
-    leaves (steps_of (numbers_of s) region == 0) invalid_field not_ready _ (is_there _ there)
+    leaves ((steps_of (numbers_of s) region == 0) || false) invalid_field not_ready _ (or_with_false _ ∙ is_there _ there)
     (leaves (is_past (cdb.SecurityIn region 512) (unit_numbers_of s (reads_response tag region))) out_of_range not_ready _
     (within s (reads_response tag region) region 512)
     (decides (not (mended s || locked s)) not_ready _ (neither _ _ e k)))
@@ -163,7 +170,8 @@ pub response_first : (s : State) (tag region : ℕ) → 0 < steps_of (numbers_of
     (s.registers region).response ≡ [] →
     first_line (lines_for s (reads_response tag region) (cdb.SecurityIn region 512)) ≡ Some sequence_error
 response_first s tag region there e none =
-    leaves (steps_of (numbers_of s) region == 0) invalid_field sequence_error _ (is_there _ there)
+    leaves ((steps_of (numbers_of s) region == 0) || false) invalid_field sequence_error _
+    (or_with_false _ ∙ is_there _ there)
     (leaves (is_past (cdb.SecurityIn region 512) (unit_numbers_of s (reads_response tag region))) out_of_range
     sequence_error _ (within s (reads_response tag region) region 512)
     (leaves (not (mended s || locked s)) not_ready sequence_error _ (once_mended _ _ e)
@@ -174,7 +182,8 @@ pub other_response : (s : State) (tag region : ℕ) (a b : List ℕ) → 0 < ste
     mended s ≡ true → (s.registers region).response ≡ a ∷ b ∷ [] →
     first_line (lines_for s (reads_response tag region) (cdb.SecurityIn region 512)) ≡ Some invalid_field
 other_response s tag region a b there e two =
-    leaves (steps_of (numbers_of s) region == 0) invalid_field invalid_field _ (is_there _ there)
+    leaves ((steps_of (numbers_of s) region == 0) || false) invalid_field invalid_field _
+    (or_with_false _ ∙ is_there _ there)
     (leaves (is_past (cdb.SecurityIn region 512) (unit_numbers_of s (reads_response tag region))) out_of_range
     invalid_field _ (within s (reads_response tag region) region 512)
     (leaves (not (mended s || locked s)) not_ready invalid_field _ (once_mended _ _ e)
@@ -186,32 +195,38 @@ other_response s tag region a b there e two =
 pub no_region : (s : State) (r : Request) (region n : ℕ) → steps_of (numbers_of s) region ≡ 0 →
     first_line (lines_for s r (cdb.SecurityIn region n)) ≡ Some invalid_field
 no_region s r region n none =
-    decides (steps_of (numbers_of s) region == 0) invalid_field _ (ap (λ (steps : ℕ). steps == 0) none)
+    decides ((steps_of (numbers_of s) region == 0) || false) invalid_field _
+    (ap (λ (steps : ℕ). (steps == 0) || false) none)
 
 pub no_region_to_write : (s : State) (r : Request) (region n : ℕ) → steps_of (numbers_of s) region ≡ 0 →
     first_line (lines_for s r (cdb.SecurityOut region n)) ≡ Some invalid_field
 no_region_to_write s r region n none =
-    decides (steps_of (numbers_of s) region == 0) invalid_field _ (ap (λ (steps : ℕ). steps == 0) none)
+    decides ((steps_of (numbers_of s) region == 0) || false) invalid_field _
+    (ap (λ (steps : ℕ). (steps == 0) || false) none)
 
 -- ## Lines that never meet
 
-pub unit_or_operation : (r : Request) → not_taken r None ≡ false
-unit_or_operation r = refl
+pub unit_or_operation : (n : Numbers) (r : Request) → not_taken n r None ≡ false
+unit_or_operation n r = refl
 
 -- what the boot unit takes, where it needs blocks
 abbrev boots : Row → Bool
 boots row = not (needs_blocks row.kind) || row.takers.boot
 
-pub boot_or_operation : (bytes : List ℕ) → is_boot_read (row_of bytes) ≡ true → takes_row BootUnit (row_of bytes) ≡ true
-boot_or_operation bytes e = by (row_of bytes) refl e
+pub boot_or_operation : (n : Numbers) (bytes : List ℕ) → is_boot_read n (row_of bytes) ≡ true →
+    takes_row n BootUnit (row_of bytes) ≡ true
+boot_or_operation n bytes e = by (row_of bytes) refl e
   where
     later : (a b : Bool) → (not a || b) ≡ true → a ≡ true → b ≡ true
     later true b e k = e
     later false b e k = absurd (false≢true k)
 
-    by : (o : Option Row) → row_of bytes ≡ o → is_boot_read o ≡ true → takes_row BootUnit o ≡ true
+    by : (o : Option Row) → row_of bytes ≡ o → is_boot_read n o ≡ true → takes_row n BootUnit o ≡ true
     by None f k = absurd (false≢true k)
-    by (Some row) f k = later (needs_blocks row.kind) row.takers.boot (row_holds boots refl bytes row f) k
+    by (Some other) f k =
+        let parts = and_parts (nat_le other.profile n.profile) (needs_blocks other.kind) k in
+        and_from (nat_le other.profile n.profile) other.takers.boot parts.0
+        (later (needs_blocks other.kind) other.takers.boot (row_holds boots refl bytes other f) parts.1)
 
 few : (most n : ℕ) → n ≡ 0 → nat_lt most n ≡ true → ⊥
 few most n e k = let l = ltb-true most n k in omega arith

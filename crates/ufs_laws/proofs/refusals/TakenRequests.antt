@@ -1,12 +1,15 @@
 -- Requests that no line of the table refuses, and those that only one line refuses.
-use Rattle.ufs_laws.proofs.Common.{Bool, Busy, IsIdle, None, Numbers, Option, Request, Some, State, Status, ap, arith}
+use Rattle.ufs_laws.proofs.Common.{Bool, Busy, IsIdle, Lun, None, Numbers, Option, Request, Some, State, Status, ap, arith}
 use Rattle.ufs_laws.proofs.Common.{asks, cond-false, false, free_slots, if◌then◌else◌, le-ltb, locked, lt-ltb, mended}
-use Rattle.ufs_laws.proofs.Common.{nat_lt, not, not_ready, numbers_of, plain_now, read_at, refl, refusal, subst, sym}
-use Rattle.ufs_laws.proofs.Common.{true, write_at, write_protected, ℕ, ◌<◌, ◌||◌, ◌∙◌, ◌≡◌, ◌≤◌}
+use Rattle.ufs_laws.proofs.Common.{nat_lt, not, not_ready, numbers_of, plain_now, read_at, refl, refusal, row, subst}
+use Rattle.ufs_laws.proofs.Common.{sym, true, write_at, write_protected, ℕ, ◌&&◌, ◌<◌, ◌||◌, ◌∙◌, ◌≡◌, ◌≤◌}
 use Rattle.ufs_laws.proofs.refusals.RefusedCommands.{answers, idle_is, idle_state}
 use Rattle.ufs_laws.proofs.refusals.TableLines.{decides, leaves, locked_idle, neither, once_locked, once_mended}
 use Rattle.ufs_laws.specs.Table.{IsRefused, protected_row}
 use Rattle.ufs_spec.proofs.Facts.{or_with_false}
+use Rattle.ufs_spec.specs.Exchanges.{unit_attention}
+use Rattle.ufs_spec.specs.Machine.{has_attribute}
+use Rattle.ufs_spec.specs.Refusals.{has_attention}
 use Rattle.ufs_spec.specs.declared.scsi.Cdb.TheVariants as cdb
 
 -- a line that does not apply leaves it to the rest, which do not either
@@ -31,7 +34,7 @@ unmap tag list = asks 0x20 0 tag (cdb.Unmap list)
 pub crowded : (s : State) (tag : ℕ) → IsIdle s → mended s ≡ true → locked s ≡ false → free_slots s.translation < 32 →
     IsRefused s (unmap tag 24) Busy
 crowded s tag h e k few =
-    answers s (unmap tag 24) Busy h
+    answers s (unmap tag 24) Busy h refl
     (leaves (not (mended (idle_state s) || locked (idle_state s))) not_ready Busy _ (once_mended _ _ e)
     (leaves (locked (idle_state s) || false) write_protected Busy _ (or_with_false _ ∙ locked_idle s false h k)
     (decides (nat_lt (free_slots (idle_state s).translation) 32) Busy _
@@ -57,7 +60,7 @@ header_taken s tag h e =
 pub unmap_protected : (s : State) (tag : ℕ) → IsIdle s → mended s ≡ true → locked s ≡ true →
     IsRefused s (unmap tag 24) write_protected
 unmap_protected s tag h e k =
-    answers s (unmap tag 24) write_protected h
+    answers s (unmap tag 24) write_protected h refl
     (leaves (not (mended (idle_state s) || locked (idle_state s))) not_ready write_protected _ (once_mended _ _ e)
     (decides (locked (idle_state s) || false) write_protected _ (or_with_false _ ∙ locked_idle s true h k)))
 
@@ -65,14 +68,14 @@ unmap_protected s tag h e k =
 
 -- the line of the mending is the first that applies
 abbrev FirstUnready : State → Request → Type 0
-FirstUnready s r = (later : Option Status) ×
+FirstUnready s r = (later : Option Status) × (has_attribute row r.flags ≡ false) ×
     (refusal (idle_state s) r ≡
     (if not (mended (idle_state s) || locked (idle_state s)) then Some not_ready else later))
 
 pub unready : (s : State) (r : Request) → FirstUnready s r → IsIdle s → mended s ≡ false → locked s ≡ false →
     IsRefused s r not_ready
-unready s r (later, first) h e k =
-    answers s r not_ready h
+unready s r (later, plain, first) h e k =
+    answers s r not_ready h plain
     (first
     ∙ decides (not (mended (idle_state s) || locked (idle_state s))) not_ready later
     (neither _ _ e (locked_idle s false h k)))
@@ -81,7 +84,7 @@ unready s r (later, first) h e k =
 pub test_unready : (s : State) (tag : ℕ) → IsIdle s → mended s ≡ false →
     IsRefused s (asks 0x00 0 tag cdb.Nothing) not_ready
 test_unready s tag h e =
-    answers s (asks 0x00 0 tag cdb.Nothing) not_ready h
+    answers s (asks 0x00 0 tag cdb.Nothing) not_ready h refl
     (decides (not (mended (idle_state s) || false)) not_ready _ (neither _ _ e refl))
 
 -- a request that no line before the last can refuse, and that needs no slot
@@ -119,13 +122,13 @@ module _ (s : State) (tag : ℕ) (h : IsIdle s) (k : locked s ≡ true) where
 
   pub locked_write : IsRefused s (asks 0x20 0 tag (write_at 0)) write_protected
   locked_write =
-      answers s (asks 0x20 0 tag (write_at 0)) write_protected h
+      answers s (asks 0x20 0 tag (write_at 0)) write_protected h refl
       (leaves (not (mended (idle_state s) || locked (idle_state s))) not_ready write_protected _ passes_mending
       (decides (locked (idle_state s) || false) write_protected _ (or_with_false _ ∙ locked_idle s true h k)))
 
   pub locked_unmap : IsRefused s (unmap tag 24) write_protected
   locked_unmap =
-      answers s (unmap tag 24) write_protected h
+      answers s (unmap tag 24) write_protected h refl
       (leaves (not (mended (idle_state s) || locked (idle_state s))) not_ready write_protected _ passes_mending
       (decides (locked (idle_state s) || false) write_protected _ (or_with_false _ ∙ locked_idle s true h k)))
 
@@ -137,16 +140,35 @@ module _ (s : State) (tag : ℕ) (h : IsIdle s) (k : locked s ≡ true) where
       (le-ltb (free_slots (idle_state s).translation) 3
       (subst (λ (t : State). 3 ≤ free_slots t.translation) (idle_is s h) room)) refl))
 
--- ## A protected unit
+-- ## Numbers that are known
 
 -- the state with the numbers that it has
 abbrev pub numbered : State → Numbers → State
 numbered s n = record s { translation = record s.translation { numbers = n } }
 
-decided : (s : State) (n : Numbers) (r : Request) (o : Option Status) → numbers_of s ≡ n →
+pub decided : (s : State) (n : Numbers) (r : Request) (o : Option Status) → numbers_of s ≡ n →
     refusal (numbered s n) r ≡ o → refusal s r ≡ o
 decided s n r o h e =
     subst (λ (t : State). refusal t r ≡ o) (λ i. record s { translation = record s.translation { numbers = sym h i } }) e
+
+-- what is decided behind the line of the attention. The request does not meet an attention, or its LUN has none
+pub untold : (s : State) (n : Numbers) (lun : Lun) (meets : Bool) (r : Request) (o rest : Option Status) →
+    numbers_of s ≡ n → (has_attention s lun && meets) ≡ false →
+    refusal (numbered s n) r ≡ (if has_attention (numbered s n) lun && meets then Some unit_attention else rest) →
+    rest ≡ o → refusal s r ≡ o
+untold s n lun meets r o rest is none lines e =
+    decided s n r o is
+    (lines
+    ∙ cond-false (has_attention (numbered s n) lun && meets) (Some unit_attention) rest
+    (subst (λ (t : State). (has_attention t lun && meets) ≡ false)
+    (λ i. record s { translation = record s.translation { numbers = is i } }) none)
+    ∙ e)
+
+-- a LUN has none
+pub clear : (b : Bool) → b ≡ false → (b && true) ≡ false
+clear b none = ap (λ (has : Bool). has && true) none
+
+-- ## A protected unit
 
 -- of unit 1, which fPowerOnWPEn protects
 abbrev by_power_on : State → Bool → Bool
@@ -156,33 +178,33 @@ by_power_on s flag = ((flag || false) || locked (numbered s protected_row)) || f
 abbrev by_permanent : State → Bool → Bool
 by_permanent s flag = (flag || locked (numbered s protected_row)) || false
 
-module _ (s : State) (tag : ℕ) (row : numbers_of s ≡ protected_row) (ready : mended s ≡ true) where
+module _ (s : State) (tag : ℕ) (is : numbers_of s ≡ protected_row) (ready : mended s ≡ true) where
   refused : (r : Request) (applies : Bool) (later : Option Status) →
       refusal (numbered s protected_row) r
       ≡ (if not (mended s || locked (numbered s protected_row)) then Some not_ready else if applies then Some write_protected else later) →
       applies ≡ true → refusal s r ≡ Some write_protected
-  refused r applies later lines is =
-      decided s protected_row r (Some write_protected) row
+  refused r applies later lines on =
+      decided s protected_row r (Some write_protected) is
       (lines
-      ∙ leaves (not (mended s || locked (numbered s protected_row))) not_ready write_protected _ (once_mended _ _ ready) (decides applies write_protected later is))
+      ∙ leaves (not (mended s || locked (numbered s protected_row))) not_ready write_protected _ (once_mended _ _ ready) (decides applies write_protected later on))
 
   pub power_on_write : s.volatile.power_on ≡ true → refusal s (asks 0x20 1 tag (write_at 0)) ≡ Some write_protected
-  power_on_write is =
-      refused (asks 0x20 1 tag (write_at 0)) (by_power_on s s.volatile.power_on) _ refl (ap (by_power_on s) is)
+  power_on_write on =
+      refused (asks 0x20 1 tag (write_at 0)) (by_power_on s s.volatile.power_on) _ refl (ap (by_power_on s) on)
 
   pub power_on_unmap : s.volatile.power_on ≡ true → refusal s (asks 0x20 1 tag (cdb.Unmap 24)) ≡ Some write_protected
-  power_on_unmap is =
-      refused (asks 0x20 1 tag (cdb.Unmap 24)) (by_power_on s s.volatile.power_on) _ refl (ap (by_power_on s) is)
+  power_on_unmap on =
+      refused (asks 0x20 1 tag (cdb.Unmap 24)) (by_power_on s s.volatile.power_on) _ refl (ap (by_power_on s) on)
 
   pub permanent_write : (plain_now s).permanent ≡ true →
       refusal s (asks 0x20 2 tag (write_at 0)) ≡ Some write_protected
-  permanent_write is =
-      refused (asks 0x20 2 tag (write_at 0)) (by_permanent s (plain_now s).permanent) _ refl (ap (by_permanent s) is)
+  permanent_write on =
+      refused (asks 0x20 2 tag (write_at 0)) (by_permanent s (plain_now s).permanent) _ refl (ap (by_permanent s) on)
 
   pub permanent_unmap : (plain_now s).permanent ≡ true →
       refusal s (asks 0x20 2 tag (cdb.Unmap 24)) ≡ Some write_protected
-  permanent_unmap is =
-      refused (asks 0x20 2 tag (cdb.Unmap 24)) (by_permanent s (plain_now s).permanent) _ refl (ap (by_permanent s) is)
+  permanent_unmap on =
+      refused (asks 0x20 2 tag (cdb.Unmap 24)) (by_permanent s (plain_now s).permanent) _ refl (ap (by_permanent s) on)
 
   passes : (r : Request) →
       refusal (numbered s protected_row) r
@@ -190,14 +212,15 @@ module _ (s : State) (tag : ℕ) (row : numbers_of s ≡ protected_row) (ready :
       else if nat_lt (free_slots (numbered s protected_row).translation) 0 then Some Busy else None) →
       refusal s r ≡ None
   passes r lines =
-      decided s protected_row r None row
+      decided s protected_row r None is
       (lines
       ∙ skips (not (mended s || locked (numbered s protected_row))) not_ready _ (once_mended _ _ ready)
       (skips (nat_lt (free_slots (numbered s protected_row).translation) 0) Busy None
       (needs_none (numbered s protected_row)) refl))
 
   pub no_blocks : (forced : Bool) → refusal s (asks 0x20 1 tag (cdb.Write 0 0 forced)) ≡ None
-  no_blocks forced = passes (asks 0x20 1 tag (cdb.Write 0 0 forced)) refl
+  no_blocks true = passes (asks 0x20 1 tag (cdb.Write 0 0 true)) refl
+  no_blocks false = passes (asks 0x20 1 tag (cdb.Write 0 0 false)) refl
 
   pub header : refusal s (asks 0x20 1 tag (cdb.Unmap 8)) ≡ None
   header = passes (asks 0x20 1 tag (cdb.Unmap 8)) refl

@@ -7,7 +7,7 @@ use Rattle.ufs_laws.proofs.Common.{OfTurn, Option, Programming, Purpose, Query, 
 use Rattle.ufs_laws.proofs.Common.{Reply, Request, Short, Some, Spelled, State, Status, Take, TakeStep, Task, Turn}
 use Rattle.ufs_laws.proofs.Common.{WasRead, WentWrong, [], accepts, and_parts, apply, begun, behind, count_at}
 use Rattle.ufs_laws.proofs.Common.{deed_after, eqb-true, false, find, if_cases, if◌then◌else◌, in_use, is_aborted}
-use Rattle.ufs_laws.proofs.Common.{is_asked_of, is_short_of, is_task_of, length, map, moves_after, nat_le, nat_lt}
+use Rattle.ufs_laws.proofs.Common.{is_asked_of, is_short_of, is_task_of, length, map, mended, moves_after, nat_le, nat_lt}
 use Rattle.ufs_laws.proofs.Common.{none-some, not, numbers_of, plain_now, query_passed, refl, refusal, refused_or_begun}
 use Rattle.ufs_laws.proofs.Common.{refused_state, replied_by, result_of, same_Some, service, set_deed, setting_of}
 use Rattle.ufs_laws.proofs.Common.{short_replied, short_reply, subst, sym, tag_in, task_goes_on, task_of, task_read}
@@ -16,14 +16,17 @@ use Rattle.ufs_laws.proofs.Common.{without_tasks, ℕ, ◌&&◌, ◌++◌, ◌+�
 use Rattle.std.specs.Prelude.{Err, Ok}
 use Rattle.ufs_spec.specs.Exchanges.{is_asked_in, most_tasks}
 use Rattle.ufs_spec.specs.Machine.{array_after, asked_fault, begun_if_any, command_taken, data_for, data_heard}
-use Rattle.ufs_spec.specs.Machine.{ends_with, heard, opening_fault, read_noted}
+use Rattle.ufs_spec.specs.Machine.{ends_with, has_attribute, heard, opening_fault, read_noted}
 use Rattle.ufs_spec.specs.Moves.{ReadRight, WentWell}
 use Rattle.ufs_spec.specs.Queries.{query_code, volatile_after}
 use Rattle.ufs_spec.specs.QueryAnswers.{may_set, query_done, query_failed, query_heard}
-use Rattle.ufs_spec.specs.declared.faults.HostFault.TheVariants.{NotAskedFor, TagInUse}
+use Rattle.ufs_spec.specs.declared.faults.HostFault.TheVariants.{NotAskedFor, Reserved, TagInUse}
 use Rattle.ufs_spec.specs.declared.messages.Message.TheVariants as message
 use Rattle.ufs_spec.specs.declared.layer.Reader.TheVariants.{ForNobody, ForRest, ForStep}
 use Rattle.ufs_laws.proofs.walk.WaysOfData.{Completion, WhyCompleted, completed, completes_by}
+use Rattle.ufs_laws.proofs.exchanges.TaskManagement.{unmanaged}
+use Rattle.ufs_spec.proofs.Facts.{eqb-false}
+use Rattle.ufs_spec.specs.Management.{volatile_managed}
 use Rattle.ufs_spec.specs.declared.volatile.Volatile.{Volatile}
 
 -- ## What a call does first
@@ -54,8 +57,8 @@ pub data Happening : Type 0 where
   -- a task gets data: it goes on, or has all of them
   Gathers : (task : Task) → (purpose : Purpose) → (all : List ℕ) → Happening
   Completes : (task : Task) → (completion : Completion) → Happening
-  -- tasks are aborted
-  Aborts : (is : Task → Bool) → (short : Short) → Happening
+  -- tasks are aborted; a reset leaves so what is volatile
+  Aborts : (volatile : Volatile) → (is : Task → Bool) → (short : Short) → Happening
   -- a reply is handed out, and the task goes on or is over, or the short exchange is
   GoesOn : (task : Task) → (deed : Deed) → Happening
   IsOver : (task : Task) → Happening
@@ -72,7 +75,7 @@ happened s (Refuses r status) = with_task (refused_state s r) r None 0 (Answerin
 happened s (Begins r c) = begun s r (unit_or_first (unit_of_request s r)) c
 happened s (Gathers task purpose all) = set_deed s task.tag (Gathering purpose all false)
 happened s (Completes task completion) = completed s task completion
-happened s (Aborts is short) = with_short (without_tasks s is) short
+happened s (Aborts volatile is short) = with_short (without_tasks (record s { volatile = volatile }) is) short
 happened s (GoesOn task deed) = set_deed (with_moves s (moves_after task task.deed)) task.tag deed
 happened s (IsOver task) = task_goes_on (with_moves s (moves_after task task.deed)) task None
 happened s (ShortOver short) = short_replied s (Some short)
@@ -95,6 +98,11 @@ abbrev pub IsQueryOf : Call → ℕ → Query → Type 0
 IsQueryOf (Host (Spelled (message.QueryRequest tag function asked size value «data») c)) t q =
     (t ≡ tag) × (q ≡ record { function = function; asked = asked; length = size; value = value })
 IsQueryOf call t q = ⊥
+
+-- the call is a task management request with this LUN and this function
+abbrev pub IsRequestOf : Call → (lun function : ℕ) → Type 0
+IsRequestOf (Host (Spelled (message.TaskRequest lun tag function meant) c)) l f = (l ≡ lun) × (f ≡ function)
+IsRequestOf call l f = ⊥
 
 -- the code by which a query is answered
 abbrev pub code_of_query : State → Query → ℕ
@@ -132,7 +140,7 @@ pub record GetsData (s : State) (call : Call) (answer : Answer) (task : Task) (p
 abbrev pub Why : State → Call → Answer → Happening → Type 0
 Why s call answer (Tells volatile short) =
     (tag : ℕ) × (q : Query) × IsSuccess s call tag q × (setting_of q ≡ None)
-    × (volatile ≡ volatile_after s.volatile q) × (short ≡ told_short s volatile tag q)
+    × (volatile ≡ volatile_after (numbers_of s) (mended s) s.volatile q) × (short ≡ told_short s volatile tag q)
 Why s call answer (Sets command short) =
     (tag : ℕ) × (q : Query) × IsSuccess s call tag q × (setting_of q ≡ Some command)
     × (short ≡ setting_short s tag q command)
@@ -143,6 +151,8 @@ Why s call answer (Gathers task purpose all) =
 Why s call answer (Completes task completion) =
     (purpose : Purpose) × (d : GetsData s call answer task purpose)
     × WhyCompleted s task purpose (d.gathered ++ d.more) completion
+Why s call answer (Aborts volatile is short) =
+    (lun : ℕ) × (function : ℕ) × IsRequestOf call lun function × (volatile ≡ volatile_managed s lun function)
 Why s call answer (GoesOn task deed) =
     (task_of task.tag s.tasks ≡ Some task) × (deed_after task task.deed ≡ Some deed)
 Why s call answer (IsOver task) = task_of task.tag s.tasks ≡ Some task
@@ -176,6 +186,13 @@ is_asked false e = absurd (none-some NotAskedFor (sym e))
 pub not_refused : (fault : Option HostFault) (done : Unit) → Ok done ≡ result_of fault → fault ≡ None
 not_refused None done e = refl
 not_refused (Some fault) done e = let other : Ok done ≡ Err fault = e in cc
+
+-- a COMMAND that is taken may open an exchange
+pub may_open : (s : State) (flags : ℕ) (rest : Option HostFault) →
+    (if has_attribute (numbers_of s) flags then Some Reserved else rest) ≡ None → rest ≡ None
+may_open s flags rest =
+    if_cases (λ (x : Option HostFault). x ≡ None → rest ≡ None) (has_attribute (numbers_of s) flags)
+    (λ has e. absurd (none-some Reserved (sym e))) (λ has e. e)
 
 is_unused : (s : State) (tag : ℕ) (short : Bool) → opening_fault s tag short ≡ None → in_use s tag ≡ false
 is_unused s tag short =
@@ -276,14 +293,17 @@ heard_by : (P : State → Type 0) (s : State) (m : Message) (c : Option Cdb) (do
 heard_by P s (message.Command flags lun tag expected bytes) c done each =
     command_by P s _ _ each
     (record { flags = flags; lun = lun; tag = tag; expected = expected; bytes = bytes; cdb = c })
-    (record { is = refl; free = λ may. is_unused s tag _ (not_refused _ done may) })
+    (record { is = refl; free = λ may. is_unused s tag _ (may_open s flags _ (not_refused _ done may)) })
 heard_by P s (message.DataOut lun tag offset «data») c done each =
     data_heard_by P s _ _ each tag lun offset (task_of tag s.tasks) «data».items refl
     (λ may. is_asked _ (not_refused _ done may)) (λ is. is.1.0.0.3.2)
 heard_by P s (message.TaskRequest lun tag function meant) c done each =
     if_cases (λ t. P (with_short t (short_reply tag (message.TaskResponse lun tag (service s lun function meant)))))
     (service s lun function meant == 0x00)
-    (λ e. each (Aborts (is_aborted lun function meant) _) tt) (λ e. each (Replies _) tt)
+    (λ e. each (Aborts _ (is_aborted lun function meant) _) (lun, function, (refl, refl), refl))
+    (λ e. subst (λ (v : Volatile). P (with_short (record s { volatile = v })
+    (short_reply tag (message.TaskResponse lun tag (service s lun function meant)))))
+    (sym (unmanaged s lun function meant (eqb-false (service s lun function meant) 0x00 e))) (each (Replies _) tt))
 heard_by P s (message.NopOut tag) c done each = each (Replies _) tt
 heard_by P s (message.QueryRequest tag function asked size value «data») c done each =
     query_by P s _ _ each tag (record { function = function; asked = asked; length = size; value = value }) (refl, refl)

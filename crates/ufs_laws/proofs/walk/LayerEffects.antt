@@ -1,8 +1,8 @@
 -- What the end of a job, and a step of mending or collection, make of the translation layer: one effect of few kinds.
 -- So a law of both is a case for each kind that it looks at, and one for all others (`ended`, `turned_by`).
-use Rattle.ufs_laws.proofs.Common.{Bool, Cell, Cells, Ending, Erasing, Fence, Flight, ForTask, GroupPage, Key, Ledger}
-use Rattle.ufs_laws.proofs.Common.{List, Mark, MarkPage, Mended, Mending, Name, None, Nothing, Option, Place}
-use Rattle.ufs_laws.proofs.Common.{Programming, ReadWrong, Reader, Reading, Some, Spot, Tag, TakeStep, Translation}
+use Rattle.ufs_laws.proofs.Common.{Bool, Cell, Cells, EndJob, Ending, Erasing, Fence, Flight, ForTask, GroupPage, Key}
+use Rattle.ufs_laws.proofs.Common.{Ledger, List, Mark, MarkPage, Mended, Mending, Move, Name, None, Nothing, Option}
+use Rattle.ufs_laws.proofs.Common.{Place, Programming, ReadWrong, Reader, Reading, Some, Spot, Tag, TakeStep, Translation}
 use Rattle.ufs_laws.proofs.Common.{Unmarked, WentWrong, Work, [], at_die, ending_fits, erased, false, has_stale}
 use Rattle.ufs_laws.proofs.Common.{if◌then◌else◌, inl, inr, is_none, map, moved, none-some, not, programmed, refl}
 use Rattle.ufs_laws.proofs.Common.{same_Some, subst, sym, true, ℕ, ◌&&◌, ◌∷◌, ◌≡◌, ◌⊎◌}
@@ -63,6 +63,11 @@ with_effect t (RepairOrdered key left) = repair_ordered t key left
 with_effect t (CopyOrdered victim left name from) = with_step (with_plan t victim left) (CopyStep name from) false
 with_effect t (NothingCopied victim left) = with_plan t victim left
 with_effect t (PlanMarkOrdered victim) = mark_ordered (with_plan t victim []) None
+
+-- the numbers of the device stay
+effect_numbers : (t : Translation) (e : Effect) → (with_effect t e).numbers ≡ t.numbers
+effect_numbers t NoEffect = refl
+effect_numbers t e = refl
 
 -- the die that has no job any more
 abbrev pub die_freed : Effect → Option ℕ
@@ -282,3 +287,10 @@ step_only t o = record { ledger = _; work = _; is = refl }
 
 pub turn_only : (t : Translation) → IsStepped t (moved t TakeStep)
 turn_only t = turned_if (IsStepped t) t (λ none. record { ledger = _; work = _; is = refl }) (λ o due. step_only t o)
+
+-- no move changes the numbers of the device
+pub move_numbers : (t : Translation) (move : Move) → (moved t move).numbers ≡ t.numbers
+move_numbers t (EndJob die ending) =
+    ended (λ u. u.numbers ≡ t.numbers) t die (t.disk.flights die) ending (λ e comes. effect_numbers t e)
+move_numbers t TakeStep = turned_by (λ u. u.numbers ≡ t.numbers) t (λ e comes. effect_numbers t e)
+move_numbers t move = refl

@@ -20,7 +20,8 @@ pub use Rattle.ufs_laws.proofs.walk.Happenings.{first, job_over, Aborts, Begins,
 pub use Rattle.ufs_laws.proofs.walk.Happenings.{IsOver, NothingMore, Refuses, Replies, ShortOver, behind_by, happened}
 pub use Rattle.ufs_laws.proofs.walk.Happenings.{Completes, Sets, Tells}
 use Rattle.std.proofs.lemmas.List.{map-id}
-use Rattle.ufs_laws.proofs.walk.WaysOfCommands.{Beginning, Gathered, Handing, Reading, WhyBegun, begins_by, begun_as}
+use Rattle.ufs_laws.proofs.walk.WaysOfCommands.{Beginning, Gathered, Handing, Reading, Telling, WhyBegun, begins_by}
+use Rattle.ufs_laws.proofs.walk.WaysOfCommands.{begun_as}
 use Rattle.ufs_laws.proofs.walk.WaysOfData.{Accepted, AcceptsFrames, Completion, HasResult, ReadsArea, Told}
 use Rattle.ufs_laws.proofs.walk.WaysOfData.{claim_of_task, completed}
 use Rattle.ufs_spec.specs.declared.volatile.Volatile.{Volatile}
@@ -181,6 +182,7 @@ begun_small s r unit c = begins_by (Small s) s r unit c one
     one (Reading unit address n) why = read_small s r c unit address n
     one (Gathered count purpose n) why = Both (one_move (Claim count) tt) (opens r (Some c) n _)
     one (Handing region n) why = Both (opens r (Some (cdb.SecurityIn region n)) _ _) (One (SetsRegisters _) tt)
+    one (Telling volatile bytes) why = Both (One (SetsVolatile volatile) tt) (opens r _ _ _)
     one b why = opens r _ _ _
 
 -- Tasks that are aborted
@@ -265,7 +267,8 @@ happens_small s (Refuses r status) =
 happens_small s (Begins r c) = begun_small s r _ c
 happens_small s (Gathers task purpose all) = set task.tag _
 happens_small s (Completes task k) = completes_small s task k
-happens_small s (Aborts is short) = Both (without_small s is) (One (OpensShort short) tt)
+happens_small s (Aborts volatile is short) =
+    Both (One (SetsVolatile volatile) tt) (Both (without_small _ is) (One (OpensShort short) tt))
 happens_small s (GoesOn task deed) = Both (behind_small s task task.deed) (set task.tag deed)
 happens_small s (IsOver task) =
     Both (behind_small s task task.deed)

@@ -189,7 +189,7 @@ module _ (P : Task → Type 0) (May : Task → Deed → Type 0) (Asked : Request
   happens_kept call answer is asks may (Completes task (AcceptsFrames region frames result c)) (purpose, d, told) =
       k.set_request task _ (Awaiting _) d.found all
       (k.waits task purpose d.gathered d.asked _ d.deed (found_kept task d.found))
-  happens_kept call answer is asks may (Aborts those short) why =
+  happens_kept call answer is asks may (Aborts volatile those short) why =
       every_filtered P (λ task. not (those task)) s.tasks all
   happens_kept call answer is asks may (GoesOn task deed) (found, e) =
       k.set task deed found all (k.goes task deed e (found_kept task found))

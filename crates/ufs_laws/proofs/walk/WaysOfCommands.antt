@@ -8,20 +8,21 @@ use Rattle.ufs_laws.proofs.Common.{mended, nat_le, nat_lt, not, not-false, numbe
 use Rattle.ufs_laws.proofs.Common.{true, with_moves, with_task, zero, ℕ, ◌*◌, ◌++◌, ◌<◌, ◌==◌, ◌^◌, ◌||◌, ◌∷◌, ◌≡◌, ◌≢◌}
 use Rattle.ufs_laws.proofs.Common.{◌≤◌}
 use Rattle.ufs_spec.proofs.Facts.{eqb-false, ltb-false}
-use Rattle.ufs_spec.specs.Begins.{frames_begun, told_bytes}
+use Rattle.ufs_spec.specs.Begins.{frames_begun, told_bytes, volatile_told}
 use Rattle.ufs_spec.specs.Cdbs.{address_of, blocks_of}
 use Rattle.ufs_spec.specs.Machine.{flush_begun}
 use Rattle.ufs_spec.specs.Refusals.{is_frames, needs_mended, slots_needed}
 use Rattle.ufs_spec.specs.declared.operations.Kind.TheVariants as kind
 use Rattle.ufs_spec.specs.declared.operations.Told.{Told}
 use Rattle.ufs_spec.specs.declared.scsi.Cdb.TheVariants as cdb
+use Rattle.ufs_spec.specs.declared.volatile.Volatile.{Volatile}
 
 pub data Beginning : Type 0 where
   -- it is answered GOOD, or waits for all that is accepted
   Answered : Beginning
   Waiting : Beginning
-  -- it sends these data, or the frames that wait in a region
-  Telling : (bytes : List ℕ) → Beginning
+  -- it sends these data, and leaves so what is volatile; or the frames that wait in a region
+  Telling : (volatile : Volatile) → (bytes : List ℕ) → Beginning
   Handing : (region n : ℕ) → Beginning
   -- it reads blocks
   Reading : (unit address n : ℕ) → Beginning
@@ -31,18 +32,19 @@ pub data Beginning : Type 0 where
 abbrev pub begun_as : State → Request → Cdb → Beginning → State
 begun_as s r c Answered = with_task s r (Some c) 0 (Answering Good 0)
 begun_as s r c Waiting = with_task s r (Some c) 0 (Awaiting (length s.accepted))
-begun_as s r c (Telling bytes) = data_begun s r c bytes
+begun_as s r c (Telling volatile bytes) = data_begun (record s { volatile = volatile }) r c bytes
 begun_as s r c (Handing region n) = frames_begun s r region n
 begun_as s r c (Reading unit address n) = read_begun s r c unit address n
 begun_as s r c (Gathered count purpose n) =
     with_task (with_moves s (Claim count ∷ [])) r (Some c) n (Gathering purpose [] false)
 
 -- data that are known at the COMMAND
-pub record IsTold (s : State) (r : Request) (bytes : List ℕ) : Type 0 where
+pub record IsTold (s : State) (r : Request) (volatile : Volatile) (bytes : List ℕ) : Type 0 where
   pub what : Told
   pub select : ℕ
   pub allocation : ℕ
   pub is : bytes ≡ take allocation (told_bytes s r what select)
+  pub leaves : volatile ≡ volatile_told s r what
 
 -- what a WRITE gathers: its blocks, each in a slot
 pub record IsWritten (n : Numbers) (unit : ℕ) (c : Cdb) (count u address blocks total : ℕ) : Type 0 where
@@ -63,7 +65,7 @@ IsGathered n unit c count (ForFrames region) total = c ≡ cdb.SecurityOut regio
 abbrev pub WhyBegun : State → Request → ℕ → Cdb → Beginning → Type 0
 WhyBegun s r unit c Answered = Unit {0}
 WhyBegun s r unit c Waiting = mended s ≡ true
-WhyBegun s r unit c (Telling bytes) = IsTold s r bytes
+WhyBegun s r unit c (Telling volatile bytes) = IsTold s r volatile bytes
 WhyBegun s r unit c (Handing region n) = c ≡ cdb.SecurityIn region n
 WhyBegun s r unit c (Reading u address n) =
     (u ≡ unit) × (address ≡ address_of c) × (n ≡ blocks_of c * 4096)
@@ -146,7 +148,8 @@ module _ (P : State → Type 0) (s : State) (r : Request) (unit : ℕ) where
   pub begins_by : (c : Cdb) → Each c → P (begun s r unit c)
   begins_by cdb.Nothing each = good_by cdb.Nothing each
   begins_by (cdb.Tell what select allocation) each =
-      each (Telling _) (record { what = what; select = select; allocation = allocation; is = refl })
+      each (Telling _ _)
+      (record { what = what; select = select; allocation = allocation; is = refl; leaves = refl })
   begins_by (cdb.Read address blocks) each = each (Reading unit address _) (refl, refl, omega arith, refl)
   begins_by (cdb.Write address blocks forced) each =
       if_cases P (blocks == 0) (λ none. good_by (cdb.Write address blocks forced) each)
@@ -165,6 +168,8 @@ module _ (P : State → Type 0) (s : State) (r : Request) (unit : ℕ) where
           long = refl;
         },
       ))
+  begins_by (cdb.Prefetch address blocks) each = good_by (cdb.Prefetch address blocks) each
+  begins_by (cdb.Diagnose tests) each = good_by (cdb.Diagnose tests) each
   begins_by (cdb.Flush immediate) each = flush_by (cdb.Flush immediate) immediate each
   begins_by (cdb.Unmap list) each =
       if_cases P (list == 0) (λ none. good_unmap list none each)

@@ -35,7 +35,7 @@ pub write_said : IsSaid the_write
 write_said = (
   spelling (message.Command 0x20 0 7 4096 (cdb_bytes write_cdb)),
   (
-    ((refl, omega arith, omega arith, omega arith, refl, looked_at (cdb_bytes write_cdb) refl), refl),
+    (((omega arith, refl), omega arith, omega arith, omega arith, refl, looked_at (cdb_bytes write_cdb) refl), refl),
     refl,
     refl,
   ),
@@ -45,7 +45,7 @@ pub read_said : IsSaid the_read
 read_said = (
   spelling (message.Command 0x40 0 8 4096 (cdb_bytes read_cdb)),
   (
-    ((refl, omega arith, omega arith, omega arith, refl, looked_at (cdb_bytes read_cdb) refl), refl),
+    (((omega arith, refl), omega arith, omega arith, omega arith, refl, looked_at (cdb_bytes read_cdb) refl), refl),
     refl,
     refl,
   ),
