@@ -1,5 +1,6 @@
 -- What holds of the translation layer between any two of its moves. The records read single fields, so a move that
 -- leaves these fields keeps the record as it is.
+use Rattle.ufs_spec.specs.Configs.{marked as as_marked}
 use Rattle.std.specs.Prelude.{◌≡◌, ◌≢◌, ◌⊎◌, ℕ, suc, ◌+◌, ◌<◌, ◌≤◌, Bool, true, false, All, List, [], length, take}
 use Rattle.std.specs.Prelude.{Option, Some, None, slice_get}
 use Rattle.ufs_spec.specs.Cells.{AreWithin, Cell, Cells, GroupPage, IsPlace, Mark, MarkPage, Nothing}
@@ -94,7 +95,7 @@ pub record EraseRight (blocks : Spot → BlockState) (erasing : Spot → Bool) (
 -- a mark in flight is the one of the step under way
 pub record MarkFlightRight (numbers : Numbers) (marks : ℕ) (step : Option Step) (m : Mark) : Type 0 where
   pub number : m.number ≡ marks
-  pub numbers_right : m.numbers ≡ numbers
+  pub numbers_right : m.numbers ≡ as_marked numbers
   pub there : Bool
   pub step_is : step ≡ Some (record { kind = MarkStep m.number m.fence; there = there })
 
@@ -158,7 +159,7 @@ pub record IsLaterMark (b : Book) (frontier : ℕ) (newest m : Mark) : Type 0 wh
   pub above : newest.records ≤ m.records
   pub within : m.records ≤ frontier
   pub plain : IsPlainMark b m
-  pub numbers : m.numbers ≡ b.numbers
+  pub numbers : m.numbers ≡ as_marked b.numbers
 
 -- the newest finished mark stands where no erase is near
 pub record MarkStands (cells : Cells) (finished : Place → Bool) (blocks : Spot → BlockState) (erasing : Spot → Bool)
@@ -175,7 +176,7 @@ pub record MarksRight (b : Book) (frontier marks : ℕ) (cells : Cells) (finishe
     BlockState) (erasing : Spot → Bool) (flights : Flights) (newest : Mark) : Type 0 where
   pub stands : MarkStands cells finished blocks erasing newest
   pub within : newest.records ≤ frontier
-  pub numbers : newest.numbers ≡ b.numbers
+  pub numbers : newest.numbers ≡ as_marked b.numbers
   pub whole : AreWholeAbove b newest.records
   pub ended : (p : Place) (m : Mark) → cells p ≡ MarkPage m → finished p ≡ true → m.number ≤ newest.number
   pub known : (p : Place) (m : Mark) → cells p ≡ MarkPage m → ((m.number ≤ newest.number) × (m.records ≤ frontier))
@@ -209,7 +210,7 @@ pub record IsOwnMark (b : Book) (newest : Option Mark) (marks : ℕ) (fence : Op
   pub within : m.number ≤ marks
   pub records : m.records ≡ b.greatest_seen
   pub fence_is : m.fence ≡ fence
-  pub numbers : m.numbers ≡ b.numbers
+  pub numbers : m.numbers ≡ as_marked b.numbers
 
 -- the cell of the opening stands or is gone, or a mark of this life stands whose program failed
 abbrev pub IsOpenedOrOwn : Book → Option Mark → ℕ → Option Fence → Cell → Cell → Bool → Type 0

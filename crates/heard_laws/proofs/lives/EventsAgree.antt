@@ -12,7 +12,7 @@ use Rattle.ufs_spec.specs.Moves.{Ending}
 use Rattle.ufs_spec.specs.declared.faults.HostFault.TheVariants.{Code, NotAskedFor}
 use Rattle.ufs_spec.specs.declared.messages.Message.TheVariants as message
 use Rattle.ufs_laws.proofs.exchanges.AbortedTasks.{reply_tag}
-use Rattle.ufs_laws.proofs.walk.Happenings.{ends_by, is_asked, job_over}
+use Rattle.ufs_laws.proofs.walk.Happenings.{ends_by, is_asked, job_over, may_open}
 use Rattle.power_loss.proofs.host_commands.OpenedByCommands.{is_free}
 use Rattle.power_loss.proofs.open_tasks.TaskLists.{found_short, found_task, no_task_found, short_fits_at}
 use Rattle.journal.specs.Heard as journal
@@ -80,7 +80,7 @@ module _ (s : State) (most : ℕ) (j : journal.Heard) (v : IsTied s) (a : AgreeI
           (sym (heard_command j flags lun tag expected taken fits.4 long
           ∙ ap (journal.begun j (record { lun = lun; tag = tag })) (sym spells)))
           (command_agrees s most j r a (is_free s tag (opens_short s (message.Command flags lun tag expected taken))
-          fault)
+          (may_open s flags _ fault))
           v spells)
       by (message.DataOut lun tag offset «data») fits spells long fault can =
           data_comes lun tag offset «data» (task_of tag s.tasks) refl long fault can

@@ -3,25 +3,31 @@ use Rattle.heard_laws.proofs.Common.{Answering, Awaited, Awaiting, Blocks, Bool,
 use Rattle.heard_laws.proofs.Common.{Gathering, Good, IsConfig, List, None, OpenTask, Option, Request, Some, State}
 use Rattle.heard_laws.proofs.Common.{Status, Task, UnmapList, Verdict, [], ap, arith, cond-false, false, false≢true}
 use Rattle.heard_laws.proofs.Common.{if_both, if_cases, is_command, is_none, length, locked, lun_of, map, mended, not}
-use Rattle.heard_laws.proofs.Common.{numbers_of, refl, refusal, spelled_cdb, sym, true, with_moves, ℕ, ◌&&◌, ◌*◌, ◌++◌}
+use Rattle.heard_laws.proofs.Common.{numbers_of, refl, refusal, spelled_cdb, subst, sym, true, with_moves, ℕ, ◌&&◌, ◌*◌, ◌++◌}
 use Rattle.heard_laws.proofs.Common.{◌+◌, ◌<◌, ◌==◌, ◌∙◌, ◌∷◌, ◌≡◌, ◌≤◌}
-use Rattle.std.proofs.Common.{nat_le, ◌^◌, ◌||◌}
+use Rattle.std.proofs.Common.{nat_le, nat_lt, ◌^◌, ◌||◌}
 use Rattle.std.proofs.lemmas.List.{get_or-map}
 use Rattle.std.specs.List.{flat_map}
 use Rattle.std.specs.Prelude.{slice_index_or}
 use Rattle.ufs_spec.proofs.ConfigFacts.{config_tests, ranges}
-use Rattle.ufs_spec.proofs.Facts.{leb-true, not-true, or_from}
+use Rattle.ufs_spec.proofs.Facts.{and_parts, leb-true, not-false, not-true, or_from}
 use Rattle.ufs_spec.specs.Begins.{gathering_begun, unmap_begun}
 use Rattle.ufs_spec.specs.Cdbs.{carried}
 use Rattle.ufs_spec.specs.Exchanges.{ReadBlock, Short}
 use Rattle.ufs_spec.specs.Machine.{begun as device_begun, begun_if_any, data_begun, flush_begun, refused_or_begun}
 use Rattle.ufs_spec.specs.Machine.{sending, sending_bytes, unit_or_first, with_task, write_begun}
 use Rattle.ufs_spec.specs.Moves.{Claim}
-use Rattle.ufs_spec.specs.Refusals.{Lun, lacks_unit, refused_state, tests_unit, unit_of_request}
+use Rattle.ufs_spec.proofs.CommandTable.{RowBehind, row_behind}
+use Rattle.ufs_spec.specs.CdbFields.{kind_of}
+use Rattle.ufs_spec.specs.Refusals.{Lun, is_told_anywhere, lacks_unit, refused_state, row_in, tells_of_none, tests_unit}
+use Rattle.ufs_spec.specs.Refusals.{unit_of_request}
+use Rattle.ufs_spec.specs.declared.operations.Kind.{Kind}
+use Rattle.ufs_spec.specs.declared.operations.Row.{Row}
+use Rattle.ufs_spec.specs.declared.volatile.Volatile.{Volatile}
 use Rattle.ufs_spec.specs.declared.configs.UnitSpec.{UnitSpec}
 use Rattle.ufs_spec.specs.declared.scsi.Cdb.TheVariants as cdb
 use Rattle.ufs_laws.proofs.walk.TaskLaws.{task_for}
-use Rattle.power_loss.proofs.host_commands.PassedCommands.{UnitTold, lies_within, no_spec, passed, unit_told}
+use Rattle.power_loss.proofs.host_commands.PassedCommands.{Passed, UnitTold, lies_within, no_spec, passed, unit_told}
 use Rattle.power_loss.proofs.host_commands.PassedCommands.{unmap_changes, write_changes}
 use Rattle.journal.specs.Heard.{awaited_blocks, awaited_by, begun_write, promised_by}
 use Rattle.journal.specs.declared.tasks.Awaited.TheVariants.{Nothing}
@@ -88,10 +94,23 @@ pub record Opened (s : State) (r : Request) (ready : Bool) (roll : Roll) (o : Op
     pub tag_is : task.tag ≡ r.tag
     pub deed : DeedAgrees (numbers_of s) ready roll r.lun task.deed o
 
--- a LUN that is there
-lun_there : (s : State) (r : Request) (x : Option Lun) → lacks_unit s r x ≡ false → is_none x ≡ false
-lun_there s r None e = absurd (false≢true (sym e))
-lun_there s r (Some lun) e = refl
+-- the LUN is there of a command that passed, but for those that tell that it is not
+lun_there : (s : State) (r : Request) (c : Cdb) → Passed s r c → spelled_cdb r.bytes ≡ Some c →
+    tells_of_none (kind_of c) ≡ false → is_none (lun_of (numbers_of s) r.lun) ≡ false
+lun_there s r c p spells other = by (lun_of (numbers_of s) r.lun) p.unit
+  where
+    its : RowBehind r.bytes c
+    its = row_behind r.bytes c spells
+
+    told : is_told_anywhere (numbers_of s) (row_in r) ≡ true → tells_of_none (kind_of c) ≡ true
+    told e =
+        subst (λ (k : Kind). tells_of_none k ≡ true) its.kind_is
+        (and_parts (nat_lt 0 (numbers_of s).profile) (tells_of_none its.row.kind)
+        (subst (λ (o : Option Row). is_told_anywhere (numbers_of s) o ≡ true) its.found e)).1
+
+    by : (x : Option Lun) → lacks_unit s r x ≡ false → is_none x ≡ false
+    by None lacks = absurd (false≢true (sym other ∙ told (not-false _ lacks)))
+    by (Some lun) lacks = refl
 
 -- what passed is ready
 ready_told : (is_mended tests is_locked : Bool) → not (is_mended || (not tests && is_locked)) ≡ false →
@@ -151,9 +170,10 @@ module _ (s : State) (r : Request) (entries : ℕ) (roll : Roll) (all : somes ro
   good : (c : Cdb) (n m : ℕ) → promised_by entries (Some c) ≡ 0 → Opens c (with_task s r (Some c) n (Answering Good m))
   good c n m e = one c s n (Answering Good m) refl refl refl (λ is. quiet c e)
 
-  telling : (c : Cdb) (bytes : List ℕ) → promised_by entries (Some c) ≡ 0 → Opens c (data_begun s r c bytes)
-  telling c bytes e =
-      one c s (length bytes) (sending_bytes r bytes) refl refl refl
+  telling : (c : Cdb) (volatile : Volatile) (bytes : List ℕ) → promised_by entries (Some c) ≡ 0 →
+      Opens c (data_begun (record s { volatile = volatile }) r c bytes)
+  telling c volatile bytes e =
+      one c (record s { volatile = volatile }) (length bytes) (sending_bytes r bytes) refl refl refl
       (if_both (Does c) (carried r.expected (length bytes) == 0) (λ is. quiet c e) (quiet c e))
 
   sends : (c : Cdb) (blocks : List ReadBlock) (n : ℕ) → promised_by entries (Some c) ≡ 0 → Does c (sending blocks n)
@@ -225,7 +245,7 @@ module _ (s : State) (r : Request) (entries : ℕ) (roll : Roll) (all : somes ro
       Opens c (device_begun s r (unit_or_first (unit_of_request s r)) c)
   begins cdb.Nothing e config passes spells none = good cdb.Nothing 0 0 refl
   begins (cdb.Tell what select allocation) e config passes spells none =
-      telling (cdb.Tell what select allocation) _ refl
+      telling (cdb.Tell what select allocation) _ _ refl
   begins (cdb.Read address blocks) e config passes spells none =
       one (cdb.Read address blocks) _ (4096 * blocks) _ refl refl refl (sends (cdb.Read address blocks) _ _ refl)
   begins (cdb.Write address blocks forced) e config passes spells none =
@@ -233,17 +253,18 @@ module _ (s : State) (r : Request) (entries : ℕ) (roll : Roll) (all : somes ro
       let p = passed s r c e passes in
       let told = unit_told s r c (write_changes r.bytes c spells refl) p in
       written (unit_or_first (unit_of_request s r)) address blocks forced (ap unit_or_first told.is)
-      (lun_there s r (lun_of (numbers_of s) r.lun) p.unit)
+      (lun_there s r c p spells refl)
       (address_fits s r c address blocks config told (lies_within c told p.within))
   begins (cdb.Flush immediate) e config passes spells none = flushed immediate none
+  begins (cdb.Prefetch address blocks) e config passes spells none = good (cdb.Prefetch address blocks) 0 0 refl
+  begins (cdb.Diagnose tests) e config passes spells none = good (cdb.Diagnose tests) 0 0 refl
   begins (cdb.Unmap list) e config passes spells none =
       let c = cdb.Unmap list in
       let p = passed s r c e passes in
       let told = unit_told s r c (unmap_changes r.bytes c spells refl) p in
-      unmapped (unit_or_first (unit_of_request s r)) list (ap unit_or_first told.is)
-      (lun_there s r (lun_of (numbers_of s) r.lun) p.unit)
+      unmapped (unit_or_first (unit_of_request s r)) list (ap unit_or_first told.is) (lun_there s r c p spells refl)
   begins (cdb.SecurityIn region n) e config passes spells none =
-      let t = telling (cdb.SecurityIn region n) (flat_map (λ frame. frame) (s.registers region).response) refl in
+      let t = telling (cdb.SecurityIn region n) s.volatile (flat_map (λ frame. frame) (s.registers region).response) refl in
       record {
         task = t.task;
         tasks_are = t.tasks_are;
@@ -255,7 +276,7 @@ module _ (s : State) (r : Request) (entries : ℕ) (roll : Roll) (all : somes ro
       }
   begins (cdb.SecurityOut region n) e config passes spells none =
       let p = passed s r (cdb.SecurityOut region n) e passes in
-      framed region n (lun_there s r (lun_of (numbers_of s) r.lun) p.unit)
+      framed region n (lun_there s r (cdb.SecurityOut region n) p spells refl)
       (ready_told (mended s) (tests_unit (cdb.SecurityOut region n)) (locked s) p.ready)
 
   -- one that is refused is not answered GOOD

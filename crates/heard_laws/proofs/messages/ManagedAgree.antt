@@ -9,7 +9,7 @@ use Rattle.heard_laws.proofs.Common.{true≢false, with_short, ℕ, ⊎_elim, �
 use Rattle.std.proofs.Common.{◌||◌}
 use Rattle.ufs_spec.specs.Exchanges.{Short}
 use Rattle.ufs_spec.specs.Machine.{is_aborted, managed, service, without_tasks}
-use Rattle.ufs_spec.specs.Management.{aborts}
+use Rattle.ufs_spec.specs.Management.{aborts, volatile_managed}
 use Rattle.power_loss.proofs.host_commands.AbortedTasks.{managed_free}
 use Rattle.power_loss.proofs.open_tasks.TaggedLists.{differ_filter, each_found}
 use Rattle.power_loss.specs.Exchange.{AreApart, TasksDiffer}
@@ -240,10 +240,13 @@ pub managed_agrees : (s : State) (held : ℕ) (j : Heard) (tag lun function mean
 managed_agrees s held j tag lun function meant reply v a free =
     by (service s lun function meant == 0x00) refl (managed_free s lun function meant tag free)
   where
+    t : State
+    t = record s { volatile = volatile_managed s lun function }
+
     by : (b : Bool) → (service s lun function meant == 0x00) ≡ b →
-        IsFree (if b then without_tasks s (is_aborted lun function meant) else s) tag →
+        IsFree (if b then without_tasks t (is_aborted lun function meant) else t) tag →
         AgreeIn s held
-        (with_short (if b then without_tasks s (is_aborted lun function meant) else s) (short_reply tag reply))
+        (with_short (if b then without_tasks t (is_aborted lun function meant) else t) (short_reply tag reply))
         (journal_managed j function lun meant)
     by true e f = record {
       numbers = a.numbers;

@@ -73,12 +73,12 @@ module _ (s : State) (held : ℕ) (j : Heard) (tag : ℕ) (q : Query) (a : Agree
       where
         -- what is volatile does not matter
         told : AgreeIn s held (with_short s (short_reply tag
-            (query_done (numbers_of s) (plain_now s) (volatile_after s.volatile q) tag q))) j →
+            (query_done (numbers_of s) (plain_now s) (volatile_after (numbers_of s) (mended s) s.volatile q) tag q))) j →
             AgreeIn s held (query_told s tag q) j
         told h = h
 
         passed : (o : Option Command) → setting_of q ≡ o → passes ≡ true → AgreeIn s held (query_passed s tag q o) j
-        passed None k e = told (at_once (query_done (numbers_of s) (plain_now s) (volatile_after s.volatile q) tag q))
+        passed None k e = told (at_once (query_done (numbers_of s) (plain_now s) (volatile_after (numbers_of s) (mended s) s.volatile q) tag q))
         passed (Some c) k e = absurd (none c k e)
 
     abbrev its : OpenTask

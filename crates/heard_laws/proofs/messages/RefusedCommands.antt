@@ -3,8 +3,7 @@ use Rattle.heard_laws.proofs.Common.{Bool, Cdb, List, None, Option, Request, Som
 use Rattle.heard_laws.proofs.Common.{if◌then◌else◌, is_good, lun_of, none-some, numbers_of, refusal, same_Some, subst}
 use Rattle.heard_laws.proofs.Common.{sym, true, ◌∷◌, ◌≡◌}
 use Rattle.std.specs.List.{AllByRecursion}
-use Rattle.ufs_spec.specs.Exchanges.{invalid_operation, no_unit}
-use Rattle.ufs_spec.specs.Refusals.{Line, first_line, lacks_unit, line, lines_after, not_taken}
+use Rattle.ufs_spec.specs.Refusals.{Line, first_line, lines_after, table}
 use Rattle.ufs_laws.proofs.exchanges.TakenCommandsKnown.{past}
 
 -- each line of the table refuses with another status than GOOD
@@ -25,15 +24,13 @@ ill e = false≢true e
 
 lines_ill : (s : State) (r : Request) (c : Option Cdb) → AreIll (lines_after s r c)
 lines_ill s r None = (ill, tt)
-lines_ill s r (Some c) = (ill, (ill, (ill, (ill, (ill, (ill, (ill, (ill, (ill, (ill, tt))))))))))
+lines_ill s r (Some c) =
+    (ill, (ill, (ill, (ill, (ill, (ill, (ill, (ill, (ill, (ill, (ill, (ill, (ill, tt)))))))))))))
 
 pub refused_ill : (s : State) (r : Request) {status : Status} → refusal s r ≡ Some status → is_good status ≡ true → ⊥
-refused_ill s r {status} e =
-    let lun = lun_of (numbers_of s) r.lun in
-    first_ill (line (lacks_unit s r lun) no_unit ∷ line (not_taken r lun) invalid_operation ∷ lines_after s r r.cdb)
-    status (ill, (ill, lines_ill s r r.cdb)) e
+refused_ill s r {status} e = first_ill (table s r) status (ill, (ill, (ill, (ill, lines_ill s r r.cdb)))) e
 
--- the third line applies to what is no command
+-- the fifth line applies to what is no command
 pub no_command : (s : State) (r : Request) → refusal s r ≡ None → r.cdb ≡ None → ⊥
 no_command s r e none =
     let later = subst (λ (c : Option Cdb). first_line (lines_after s r c) ≡ None) none (past s r e).later in

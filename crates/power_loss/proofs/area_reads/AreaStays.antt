@@ -131,7 +131,7 @@ begun_reads s r unit c free h = begins_by AreaReads s r unit c one
     one : (b : Beginning) → WhyBegun s r unit c b → AreaReads (begun_as s r c b)
     one Answered why = opened p s.tasks _ free tt h
     one Waiting why = opened p s.tasks _ free tt h
-    one (Telling bytes) why = opened p s.tasks _ free (bytes_show p c _ r bytes) h
+    one (Telling volatile bytes) why = opened p s.tasks _ free (bytes_show p c _ r bytes) h
     one (Handing region n) why =
         opened p s.tasks _ (λ e. absurd (false≢true e)) (bytes_show p (cdb.SecurityIn region n) _ r _) h
     one (Reading u address n) why = opened p s.tasks _ free (sending_shows p c _ _ n) h
@@ -236,7 +236,7 @@ happens_reads s call answer (Gathers task purpose all) differ (d, e, few) h =
 happens_reads s call answer (Completes task k) differ (purpose, d, why) h =
     completed_reads s task purpose (d.gathered ++ d.more) k differ d.found (gathers_for task purpose d h) why h
 happens_reads s call answer (Sets c short) differ (tag, q, ok, e, same) h = accepted s c 1 (setting_none q c e) h
-happens_reads s call answer (Aborts those short) differ why h =
+happens_reads s call answer (Aborts volatile those short) differ why h =
     some_go (plain_now s) s.tasks (λ task. not (those task)) h
 happens_reads s call answer (GoesOn task deed) differ (found, e) h =
     sets (plain_now s) s.tasks task deed differ found

@@ -20,6 +20,7 @@ use Rattle.power_loss.proofs.host_commands.GatheredData.{data_right}
 use Rattle.power_loss.proofs.host_commands.QueriesHeard.{query_right}
 use Rattle.power_loss.proofs.host_commands.HandedOutReplies.{replies_right}
 use Rattle.power_loss.proofs.calls.RightChanges.{Right, right_keeps, settled_right}
+use Rattle.ufs_laws.proofs.walk.Happenings.{may_open}
 use Rattle.ufs_laws.proofs.walk.SmallChanges.{Both, Still, first, job_over}
 use Rattle.ufs_spec.specs.declared.messages.Message.TheVariants as message
 
@@ -70,7 +71,7 @@ heard_right {s} (message.NopOut tag) c bytes v spells spelled h =
     reply_right (message.NopIn tag) v (is_free s tag true h) refl
 heard_right {s} (message.Command flags lun tag expected taken) c bytes v spells spelled h =
     command_right (record { flags = flags; lun = lun; tag = tag; expected = expected; bytes = taken; cdb = c }) v
-    (is_free s tag (opens_short s (message.Command flags lun tag expected taken)) h)
+    (is_free s tag (opens_short s (message.Command flags lun tag expected taken)) (may_open s flags _ h))
     (λ command e. spelled_is c command taken spelled e)
 heard_right {s} (message.DataOut lun tag offset «data») c bytes v spells spelled h =
     data_right lun tag offset «data».items v h spells.0.3.2

@@ -11,25 +11,11 @@ use Rattle.ufs_laws.proofs.walk.SmallChanges.{Change, IsSmall, IsSmallMove, Move
 use Rattle.ufs_laws.proofs.walk.SmallChanges.{behind_call, job_over, kept, observed}
 use Rattle.power_loss.proofs.books.SmallFacts.{at_die_is}
 use Rattle.power_loss.proofs.jobs_owed.ProgramsAndErases.{take_inside}
+pub use Rattle.ufs_laws.proofs.walk.LayerEffects.{move_numbers}
 use Rattle.ufs_laws.proofs.walk.LayerEffects.{Effect, NoEffect, die_freed, effect_flights, ended, turned_by}
 use Rattle.ufs_laws.proofs.walk.LayerEffects.{with_effect, without_job}
 
 -- ## Moves
-
--- Numbers
-
-abbrev SameNumbers : Translation → Translation → Type 0
-SameNumbers t u = u.numbers ≡ t.numbers
-
-effect_numbers : (t : Translation) (e : Effect) → SameNumbers t (with_effect t e)
-effect_numbers t NoEffect = refl
-effect_numbers t e = refl
-
-pub move_numbers : (t : Translation) (move : Move) → SameNumbers t (moved t move)
-move_numbers t (EndJob die ending) =
-    ended (SameNumbers t) t die (t.disk.flights die) ending (λ e comes. effect_numbers t e)
-move_numbers t TakeStep = turned_by (SameNumbers t) t (λ e comes. effect_numbers t e)
-move_numbers t move = refl
 
 -- Erases: no move but a take begins one
 

@@ -5,7 +5,8 @@ use Rattle.power_loss.proofs.MachineWords.{Task, is_task_of, abort_moves, is_abo
 use Rattle.power_loss.proofs.MachineWords.{without_tasks, State, numbers_of, IsTied, claim_of, claims_of}
 use Rattle.std.specs.Prelude.{if◌then◌else◌}
 use Rattle.ufs_spec.specs.Machine.{registers_after}
-use Rattle.power_loss.proofs.host_commands.OpenedByCommands.{IsFree}
+use Rattle.ufs_spec.specs.Management.{volatile_managed}
+use Rattle.power_loss.proofs.host_commands.OpenedByCommands.{IsFree, volatile_right}
 use Rattle.power_loss.proofs.open_tasks.TaggedLists.{any_fewer}
 use Rattle.power_loss.proofs.open_tasks.TaskLists.{tasks_fewer}
 use Rattle.power_loss.proofs.calls.RightChanges.{Right, right_keeps, right_move}
@@ -58,20 +59,29 @@ aborts_right {s} is v =
     (record { small = tt; layer = tt; tasks = (right_keeps back (right_keeps gone v)).tasks })))
 
 pub managed_right : {s : State} (lun function meant : ℕ) → IsTied s → Right s (managed s lun function meant)
-managed_right {s} lun function meant v = by (service s lun function meant == 0x00)
+managed_right {s} lun function meant v = Both sets (by (service s lun function meant == 0x00))
   where
-    by : (b : Bool) → Right s (if b then without_tasks s (is_aborted lun function meant) else s)
-    by true = aborts_right (is_aborted lun function meant) v
+    t : State
+    t = record s { volatile = volatile_managed s lun function }
+
+    sets : Right s t
+    sets = volatile_right (volatile_managed s lun function) v
+
+    by : (b : Bool) → Right t (if b then without_tasks t (is_aborted lun function meant) else t)
+    by true = aborts_right (is_aborted lun function meant) (right_keeps sets v)
     by false = Still
 
 -- a tag that is free stays so
 pub managed_free : (s : State) (lun function meant tag : ℕ) → IsFree s tag → IsFree (managed s lun function meant) tag
 managed_free s lun function meant tag free = by (service s lun function meant == 0x00)
   where
-    by : (b : Bool) → IsFree (if b then without_tasks s (is_aborted lun function meant) else s) tag
+    t : State
+    t = record s { volatile = volatile_managed s lun function }
+
+    by : (b : Bool) → IsFree (if b then without_tasks t (is_aborted lun function meant) else t) tag
     by true = record {
       no_task = any_fewer (is_task_of tag) (λ (task : Task). not (is_aborted lun function meant task))
           s.tasks free.no_task;
       no_short = free.no_short;
     }
-    by false = free
+    by false = record { no_task = free.no_task; no_short = free.no_short }

@@ -34,7 +34,7 @@ use Rattle.ufs_laws.proofs.walk.WaysOfCommands.{Waiting, WhyBegun, begins_by, be
 use Rattle.ufs_laws.proofs.pages.ByteLists.{bytes-nil}
 use Rattle.ufs_laws.proofs.walk.SmallChanges.{Both, One, Opens, OpensShort, SetsRegisters, SetsVolatile, Still}
 use Rattle.power_loss.proofs.host_commands.ReadBlocks.{KeysOfDevice, keys_read, pins_right, reads_in}
-use Rattle.power_loss.proofs.host_commands.PassedCommands.{Changes, Passed, lies_within, passed, ready_now}
+use Rattle.power_loss.proofs.host_commands.PassedCommands.{means_more, Changes, Passed, lies_within, passed, ready_now}
 use Rattle.power_loss.proofs.host_commands.PassedCommands.{unit_told, unmap_changes, write_changes}
 use Rattle.power_loss.proofs.calls.RightChanges.{Right, right_keeps, right_move}
 use Rattle.power_loss.proofs.open_tasks.TaskLists.{short_opened, task_opened}
@@ -171,6 +171,7 @@ write_fits {s} {r} {command} {unit} p taken slots some needs changes w =
     let size = w.all in
     let few = ltb-false (command_blocks (numbers_of s)) (blocks_of command) (sym w.long ∙ p.not_long) in
     let lies = lies_within command told p.within in
+    let more = means_more command in
     let long = length-map units (λ (x : UnitSpec). x.blocks) in
     let here = ap (λ (x : ℕ). get_or (map (λ (y : UnitSpec). y.blocks) units) x 0) same in
     let there = told.there in
@@ -295,7 +296,11 @@ begins s r command v free p spells = begins_by (Right s) s r unit command one
     one Answered why = answer_right r (Some command) 0 Good 0 v free
     one Waiting mends = task_right r (Some command) 0 (Awaiting (length s.accepted)) v free
         (omega arith, mends) refl
-    one (Telling bytes) why = telling_right r command bytes v free
+    one (Telling volatile bytes) why =
+        let sets = volatile_right volatile v in
+        Both sets
+        (telling_right r command bytes (right_keeps sets v)
+        (record { no_task = free.no_task; no_short = free.no_short }))
     one (Handing region n) is = handing_right r region n v free
     one (Reading u address n) (unit_is, address_is, size, read) =
         let reads = reads_in r.bytes command spells (ap needs_blocks read) in

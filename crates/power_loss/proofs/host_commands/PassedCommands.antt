@@ -1,20 +1,27 @@
 -- What the table of refusals lets through: the unit of a command, the blocks of it, and a device that is mended or locked.
+use Rattle.ufs_spec.specs.declared.scsi.Cdb.TheVariants as cdb
+use Rattle.ufs_spec.specs.Cdbs.{blocks_of}
 use Rattle.power_loss.proofs.Common.{◌≡◌, ℕ, ◌+◌, ◌<◌, ◌≤◌, ◌==◌, ◌&&◌, Bool, true, false, not, List, [], ◌∷◌, Option}
 use Rattle.power_loss.proofs.Common.{Some, None, length, map, get_or, refl, sym, ap, ◌∙◌, subst, arith, nat_lt, ◌||◌}
 use Rattle.power_loss.proofs.Common.{AllByRecursion, get_or-map, slice_get-get_or, false≢true, ltb-false, ltb-true}
 use Rattle.power_loss.proofs.Common.{none-some, not-false, is_mended, Numbers, or_parts, and_parts, or_cases, ⊎_elim}
-use Rattle.power_loss.proofs.MachineWords.{address_of, blocks_of, invalid_operation, no_unit, BootUnit}
+use Rattle.power_loss.proofs.MachineWords.{address_of, BootUnit}
 use Rattle.power_loss.proofs.MachineWords.{DeviceUnit, Line, Lun, ReportLunsUnit, Request, RpmbUnit, State, UnitOf}
-use Rattle.power_loss.proofs.MachineWords.{first_line, is_past, lacks_unit, line, lines_after, lun_of, mended}
+use Rattle.power_loss.proofs.MachineWords.{first_line, is_past, lacks_unit, lines_after, lun_of, mended}
 use Rattle.power_loss.proofs.MachineWords.{needs_mended, not_taken, numbers_of, refusal, unit_numbers_at}
 use Rattle.power_loss.proofs.MachineWords.{unit_in, unit_of_request, UnitSpec, Cdb}
-use Rattle.std.specs.Prelude.{if◌then◌else◌}
+use Rattle.std.specs.Prelude.{if◌then◌else◌, nat_le}
 use Rattle.ufs_spec.proofs.CommandTable.{changes_blocks, changing_taken, row_behind}
 use Rattle.ufs_spec.specs.CdbFields.{kind_of, row_of, spelled_cdb}
 use Rattle.ufs_spec.specs.declared.operations.Kind.TheVariants as kind
 use Rattle.ufs_spec.specs.declared.operations.Row.{Row}
 use Rattle.ufs_spec.specs.Refusals.{has_wrong_list, is_crowded, is_protected, is_ready_for, is_refused_write}
-use Rattle.ufs_spec.specs.Refusals.{is_too_long, is_unready, lacks_region, locked, row_in, takes_row, tests_unit, writes}
+use Rattle.ufs_spec.specs.Cdbs.{blocks_meant}
+use Rattle.ufs_spec.specs.Refusals.{is_too_long, is_unready, lacks_operation, lacks_page, lacks_region, locked, row_in}
+use Rattle.ufs_laws.proofs.exchanges.TakenCommandsKnown.{past}
+use Rattle.ufs_spec.specs.Refusals.{is_told_anywhere, takes, takes_row, tells_of_none}
+use Rattle.ufs_spec.specs.declared.operations.Kind.{Kind}
+use Rattle.ufs_spec.specs.Refusals.{tests_unit, writes}
 use Rattle.ufs_spec.specs.Refusals.{unit_numbers_of, well_known}
 
 -- No line of the table applies
@@ -31,7 +38,7 @@ all_pass (l ∷ ls) h = by l.applies refl h (all_pass ls)
 
 pub record Passed (s : State) (r : Request) (command : Cdb) : Type 0 where
   pub unit : lacks_unit s r (lun_of (numbers_of s) r.lun) ≡ false
-  pub taken : not_taken r (lun_of (numbers_of s) r.lun) ≡ false
+  pub taken : not_taken (numbers_of s) r (lun_of (numbers_of s) r.lun) ≡ false
   pub has_region : lacks_region (numbers_of s) command ≡ false
   pub not_long : is_too_long (numbers_of s) command ≡ false
   pub listed : has_wrong_list command ≡ false
@@ -42,21 +49,21 @@ pub record Passed (s : State) (r : Request) (command : Cdb) : Type 0 where
 
 pub passed : (s : State) (r : Request) (command : Cdb) → r.cdb ≡ Some command → refusal s r ≡ None → Passed s r command
 passed s r command e h =
-    let lun = lun_of (numbers_of s) r.lun in
-    let first = line (lacks_unit s r lun) no_unit in
-    let second = line (not_taken r lun) invalid_operation in
-    let p = all_pass (first ∷ second ∷ lines_after s r (Some command))
-    (subst (λ (c : Option Cdb). first_line (first ∷ second ∷ lines_after s r c) ≡ None) e h) in
+    let front = past s r h in
+    let p = all_pass (lines_after s r (Some command))
+    (subst (λ (c : Option Cdb). first_line (lines_after s r c) ≡ None) e front.later) in
     record {
-      unit = p.0;
-      taken = p.1.0;
-      has_region = p.1.1.0;
+      unit = front.there;
+      taken = front.taken;
+      has_region =
+          (or_parts (lacks_region (numbers_of s) command)
+          (lacks_page (numbers_of s) r.lun command || lacks_operation command) p.1.0).0;
       not_long = p.1.1.1.0;
       listed = p.1.1.1.1.0;
       within = p.1.1.1.1.1.1.0;
       ready = p.1.1.1.1.1.1.1.0;
       free = p.1.1.1.1.1.1.1.1.0;
-      room = p.1.1.1.1.1.1.1.1.1.1.1.0;
+      room = p.1.1.1.1.1.1.1.1.1.1.1.1.0;
     }
 
 -- a command that changes blocks passes on a mended device alone: on one that is neither mended nor locked the line of
@@ -114,6 +121,17 @@ unmap_changes bytes c e is =
     let its = row_behind bytes c e in
     (its.row, its.found, ap changes_blocks (its.kind_is ∙ is))
 
+-- what is answered where there is no unit changes no blocks
+pub changes_told : (n : Numbers) (bytes : List ℕ) → Changes bytes → is_told_anywhere n (row_of bytes) ≡ true → ⊥
+changes_told n bytes (row, found, changes) told =
+    by row.kind changes
+    (and_parts (nat_lt 0 n.profile) (tells_of_none row.kind)
+    (subst (λ (o : Option Row). is_told_anywhere n o ≡ true) found told)).1
+  where
+    by : (k : Kind) → changes_blocks k ≡ true → tells_of_none k ≡ true → ⊥
+    by (kind.Tell what) e f = false≢true e
+    by k e f = false≢true f
+
 pub record UnitTold (s : State) (r : Request) : Type 0 where
   pub there : r.lun < length (numbers_of s).units.items
   pub is : unit_of_request s r ≡ Some r.lun
@@ -121,12 +139,13 @@ pub record UnitTold (s : State) (r : Request) : Type 0 where
 pub unit_told : (s : State) (r : Request) (c : Cdb) → Changes r.bytes → Passed s r c → UnitTold s r
 unit_told s r c units p = by (lun_of (numbers_of s) r.lun) refl p.unit p.taken
   where
-    by : (x : Option Lun) → lun_of (numbers_of s) r.lun ≡ x → lacks_unit s r x ≡ false → not_taken r x ≡ false →
-        UnitTold s r
-    by None e lacks taken = cc
+    by : (x : Option Lun) → lun_of (numbers_of s) r.lun ≡ x → lacks_unit s r x ≡ false →
+        not_taken (numbers_of s) r x ≡ false → UnitTold s r
+    by None e lacks taken = absurd (changes_told (numbers_of s) r.bytes units (not-false _ lacks))
     by (Some lun) e lacks taken =
-        let takes_it = subst (λ (o : Option Row). takes_row lun o ≡ true) units.1
-        (not-false (takes_row lun (row_in r)) taken) in
+        let takes_it = (and_parts (nat_le units.0.profile (numbers_of s).profile) (takes lun units.0)
+        (subst (λ (o : Option Row). takes_row (numbers_of s) lun o ≡ true) units.1
+        (not-false (takes_row (numbers_of s) lun (row_in r)) taken))).1 in
         let unit = changing_taken r.bytes units.0 lun units.1 units.2 takes_it in
         let is : lun_of (numbers_of s) r.lun ≡ Some (UnitOf unit.0) = e ∙ ap Some unit.1 in
         let told = lun_told (numbers_of s) is in
@@ -135,10 +154,15 @@ unit_told s r c units p = by (lun_of (numbers_of s) r.lun) refl p.unit p.taken
 pub no_spec : UnitSpec
 no_spec = record { blocks = 0; boot = 0; protect = 0 }
 
+-- no command reads or writes more blocks than it means
+pub means_more : (c : Cdb) → blocks_of c ≤ blocks_meant c
+means_more (cdb.Prefetch address blocks) = omega arith
+means_more c = omega arith
+
 -- the blocks lie within the unit
 pub lies_within : {s : State} {r : Request} (command : Cdb) → UnitTold s r →
     is_past command (unit_numbers_of s r) ≡ false →
-    address_of command + blocks_of command
+    address_of command + blocks_meant command
     ≤ get_or (map (λ (u : UnitSpec). u.blocks) (numbers_of s).units.items) r.lun 0
 lies_within {s} {r} command told h =
     let units = (numbers_of s).units.items in
@@ -147,6 +171,6 @@ lies_within {s} {r} command told h =
     ap (unit_numbers_at (numbers_of s)) told.is ∙ slice_get-get_or units r.lun no_spec
     told.there in
     let past = subst (λ (u : Option UnitSpec). is_past command u ≡ false) spec h in
-    let bound = ltb-false unit.blocks (address_of command + blocks_of command) past in
+    let bound = ltb-false unit.blocks (address_of command + blocks_meant command) past in
     let same = get_or-map (λ (u : UnitSpec). u.blocks) units r.lun no_spec 0 told.there in
     omega arith

@@ -43,7 +43,7 @@ let_through s q code some =
     let one = line_passed (has_wrong_opcode q) 0xFE _ refl code in
     let two : (first_code (lines s q) == 0) ≡ true =
     sym (ap (λ (x : ℕ). x == 0) (cond-false (q.asked.opcode == 0) 0x00 (first_code (lines s q)) some)) ∙ one.1 in
-    let three = line_passed (has_wrong_idn q) 0xFD _ refl two in
+    let three = line_passed (has_wrong_idn n q) 0xFD _ refl two in
     let four = line_passed (has_wrong_index n q) 0xFC _ refl three.1 in
     let five = line_passed (not (q.asked.selector == 0)) 0xFB _ refl four.1 in
     let six = line_passed (is_not_writable q) 0xF7 _ refl five.1 in
@@ -56,7 +56,7 @@ let_through s q code some =
     -- the lines from the third on
     lines : State → Query → List QueryLine
     lines s q =
-        query_line (has_wrong_idn q) 0xFD
+        query_line (has_wrong_idn (numbers_of s) q) 0xFD
         ∷ query_line (has_wrong_index (numbers_of s) q) 0xFC
         ∷ query_line (not (q.asked.selector == 0)) 0xFB
         ∷ query_line (is_not_writable q) 0xF7
@@ -178,7 +178,7 @@ query_right {s} tag q v free = by ((code_of_query s q == 0x00) && not (q.asked.o
 
     passed : (o : Option Command) → setting_of q ≡ o → (code_of_query s q == 0x00) ≡ true →
         (q.asked.opcode == 0) ≡ false → Right s (query_passed s tag q o)
-    passed None e code some = told (volatile_after s.volatile q)
+    passed None e code some = told (volatile_after (numbers_of s) (mended s) s.volatile q)
     passed (Some c) e code some = setting_right tag q c v free (setting_is s q c code some e)
 
     by : (b : Bool) → ((code_of_query s q == 0x00) && not (q.asked.opcode == 0)) ≡ b →

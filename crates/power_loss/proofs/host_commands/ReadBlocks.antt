@@ -1,4 +1,8 @@
 -- What a READ keeps: the blocks that the host expects lie within its unit, and each is kept as it is looked up.
+use Rattle.ufs_spec.specs.Cdbs.{blocks_meant}
+use Rattle.ufs_spec.proofs.Facts.{and_from, and_parts}
+use Rattle.std.specs.Prelude.{nat_le}
+use Rattle.ufs_spec.specs.Refusals.{takes}
 use Rattle.power_loss.proofs.Common.{◌≡◌, ℕ, ◌+◌, ◌*◌, ◌<◌, ◌≤◌, ◌==◌, ◌&&◌, Bool, true, false, List, [], ◌∷◌}
 use Rattle.power_loss.proofs.Common.{Option, Some, None, length, map, get_or, min, slice_get, refl, sym, ap, ◌∙◌, subst}
 use Rattle.power_loss.proofs.Common.{arith, All, nat_lt, get_or-map, length-map, All-head, All-tail}
@@ -16,11 +20,16 @@ use Rattle.std.specs.List.{position_or_len}
 use Rattle.std.proofs.lemmas.Grind.{div_ceil_times}
 use Rattle.ufs_spec.proofs.CommandTable.{IsUnit, reading_taken, row_behind}
 use Rattle.ufs_spec.specs.CdbFields.{kind_of, row_of, spelled_cdb}
-use Rattle.ufs_spec.specs.Refusals.{boot_unit, is_boot_read, needs_blocks, row_in, takes_row}
+use Rattle.ufs_spec.proofs.Facts.{false≢true}
+use Rattle.ufs_spec.specs.Refusals.{boot_unit, is_boot_read, is_told_anywhere, needs_blocks, row_in, takes_row}
+use Rattle.ufs_spec.specs.Refusals.{tells_of_none}
+use Rattle.ufs_spec.specs.declared.operations.Kind.{Kind}
+use Rattle.ufs_spec.specs.declared.operations.Kind.TheVariants as kind
+use Rattle.ufs_spec.specs.declared.operations.Told.TheVariants as told
 use Rattle.ufs_spec.specs.declared.operations.Row.{Row}
 use Rattle.ufs_laws.proofs.walk.SmallChanges.{Both, Still}
 use Rattle.power_loss.proofs.ordered_lists.ElementsAndOrders.{all_below}
-use Rattle.power_loss.proofs.host_commands.PassedCommands.{Passed, lun_told, no_spec}
+use Rattle.power_loss.proofs.host_commands.PassedCommands.{means_more, Passed, lun_told, no_spec}
 use Rattle.power_loss.proofs.calls.RightChanges.{Right, right_keeps, right_move}
 use Rattle.ufs_spec.specs.Ledger.{latest_durable, looked_at}
 
@@ -93,12 +102,17 @@ reads_in bytes c e needs =
     (its.row, its.found, ap needs_blocks its.kind_is ∙ needs)
 
 lun_there : (s : State) (r : Request) (lun : Lun) → Reads r.bytes → lun_of (numbers_of s) r.lun ≡ Some lun →
-    lacks_unit s r (Some lun) ≡ false → takes_row lun (row_in r) ≡ true →
+    lacks_unit s r (Some lun) ≡ false → takes_row (numbers_of s) lun (row_in r) ≡ true →
     ReadsUnit (numbers_of s) (unit_in s r (Some lun))
 lun_there s r lun (row, found, needs) is lacks taken =
-    ⊎_elim of_unit of_boot
-    (reading_taken r.bytes row lun found needs (subst (λ (o : Option Row). takes_row lun o ≡ true) found taken))
+    ⊎_elim of_unit of_boot (reading_taken r.bytes row lun found needs parts.1)
   where
+    -- the device's profile has the row, and the LUN takes it
+    parts : (nat_le row.profile (numbers_of s).profile ≡ true) × (takes lun row ≡ true)
+    parts =
+        and_parts (nat_le row.profile (numbers_of s).profile) (takes lun row)
+        (subst (λ (o : Option Row). takes_row (numbers_of s) lun o ≡ true) found taken)
+
     of_unit : IsUnit lun → ReadsUnit (numbers_of s) (unit_in s r (Some lun))
     of_unit (unit, e) =
         let told = lun_told (numbers_of s) (is ∙ ap Some e) in
@@ -109,21 +123,36 @@ lun_there s r lun (row, found, needs) is lacks taken =
 
     of_boot : lun ≡ BootUnit → ReadsUnit (numbers_of s) (unit_in s r (Some lun))
     of_boot e =
-        let boots : is_boot_read (row_in r) ≡ true = ap is_boot_read found ∙ needs in
+        let boots : is_boot_read (numbers_of s) (row_in r) ≡ true =
+        ap (is_boot_read (numbers_of s)) found ∙ and_from (nat_le row.profile (numbers_of s).profile)
+        (needs_blocks row.kind) parts.0 needs in
         let there = subst (λ (l : Lun). lacks_unit s r (Some l) ≡ false) e lacks in
         subst (λ (l : Lun). ReadsUnit (numbers_of s) (unit_in s r (Some l))) (sym e)
         (boot_there (plain_now s).boot (boot_unit (numbers_of s) (plain_now s).boot) refl
         (sym (ap (λ b. b && is_none (boot_unit (numbers_of s) (plain_now s).boot)) boots) ∙ there))
+
+-- what is answered where there is no unit reads no blocks
+pub reads_told : (n : Numbers) (bytes : List ℕ) → Reads bytes → is_told_anywhere n (row_of bytes) ≡ true → ⊥
+reads_told n bytes (row, found, needs) none =
+    by row.kind needs
+    (and_parts (nat_lt 0 n.profile) (tells_of_none row.kind)
+    (subst (λ (o : Option Row). is_told_anywhere n o ≡ true) found none)).1
+  where
+    by : (k : Kind) → needs_blocks k ≡ true → tells_of_none k ≡ true → ⊥
+    by (kind.Tell told.Identity) e f = false≢true e
+    by (kind.Tell told.Sense) e f = false≢true e
+    by (kind.Tell what) e f = false≢true f
+    by k e f = false≢true f
 
 -- a READ that the table lets through reads a unit
 pub reads_unit : {s : State} {r : Request} {c : Cdb} → Reads r.bytes → Passed s r c →
     ReadsUnit (numbers_of s) (unit_of_request s r)
 reads_unit {s} {r} reads p = by (lun_of (numbers_of s) r.lun) refl p.unit p.taken
   where
-    by : (x : Option Lun) → lun_of (numbers_of s) r.lun ≡ x → lacks_unit s r x ≡ false → not_taken r x ≡ false →
-        ReadsUnit (numbers_of s) (unit_in s r x)
-    by None e h k = cc
-    by (Some lun) e h k = lun_there s r lun reads e h (not-false (takes_row lun (row_in r)) k)
+    by : (x : Option Lun) → lun_of (numbers_of s) r.lun ≡ x → lacks_unit s r x ≡ false →
+        not_taken (numbers_of s) r x ≡ false → ReadsUnit (numbers_of s) (unit_in s r x)
+    by None e h k = absurd (reads_told (numbers_of s) r.bytes reads (not-false _ h))
+    by (Some lun) e h k = lun_there s r lun reads e h (not-false (takes_row (numbers_of s) lun (row_in r)) k)
 
 -- The blocks
 
@@ -157,9 +186,12 @@ key_read {s} {r} {command} {n} size reads p i l =
     inside = let same = length-map units (λ (x : UnitSpec). x.blocks) in omega (arith, same, short)
 
     room : address_of command + blocks_of command ≤ u.spec.blocks
-    room = ltb-false u.spec.blocks (address_of command + blocks_of command)
+    room =
+        let more = means_more command in
+        let meant = ltb-false u.spec.blocks (address_of command + blocks_meant command)
         (subst (λ (x : Option UnitSpec). is_past command x ≡ false) (ap (unit_numbers_at (numbers_of s)) u.is ∙ u.there)
-        p.within)
+        p.within) in
+        omega (arith, more, meant)
 
     blocks : get_or (map (λ (x : UnitSpec). x.blocks) units) u.number 0 ≡ u.spec.blocks
     blocks = get_or-map (λ (x : UnitSpec). x.blocks) units u.number no_spec 0 short

@@ -1,4 +1,5 @@
 -- A program and an erase that a die is given keep a life valid.
+use Rattle.ufs_spec.specs.Configs.{marked as as_marked}
 use Rattle.power_loss.proofs.Common.{BlockState, BlocksRight, Book, Bool, Cell, CopyStep, Entry, Erasing, Fence}
 use Rattle.power_loss.proofs.Common.{FenceRight, Filling, Flight, Free, IsFirstFence, IsKnown, IsLastRepair}
 use Rattle.power_loss.proofs.Common.{IsLaterMark, IsLostNumber, IsOverwritten, IsToCopy, IsWritten, Key, List, Mark}
@@ -149,7 +150,7 @@ step_mark t number fence = record {
   number = number;
   records = records_now t.ledger fence;
   fence = fence;
-  numbers = t.numbers;
+  numbers = as_marked t.numbers;
 }
 
 -- behind the mark that stands, where all that is lost is repaired

@@ -1,4 +1,5 @@
 -- What waits to be programmed is right: a page is known, and a mark is the one of the step under way.
+use Rattle.ufs_spec.specs.Configs.{marked as as_marked}
 use Rattle.power_loss.proofs.Common.{Bool, Cell, CopyStep, Entry, Fence, Group, GroupPage, IsPageAt, Key, Ledger, List}
 use Rattle.power_loss.proofs.Common.{MarkPage, MarkStep, MarkStepRight, Mending, Name, Option, RepairStep, Some, Step}
 use Rattle.power_loss.proofs.Common.{StepKind, StepKindRight, Translation, Unmarked, Valid, [], accepted_groups, ap}
@@ -71,7 +72,7 @@ pub record MarkWaits (t : Translation) (cell : Cell) : Type 0 where
     number = number;
     records = records_now t.ledger fence;
     fence = fence;
-    numbers = t.numbers;
+    numbers = as_marked t.numbers;
   })
   pub right : MarkStepRight t.ledger.marks t.disk.cells t.work.mending t.work.plan number fence
 

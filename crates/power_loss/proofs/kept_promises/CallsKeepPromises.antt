@@ -15,6 +15,7 @@ use Rattle.power_loss.proofs.MachineWords.{without_tasks, fills, task_filled, Re
 use Rattle.power_loss.proofs.MachineWords.{Output, Message, Cdb, IsTied, TasksDiffer, ValidState, has_task}
 use Rattle.std.specs.Prelude.{if◌then◌else◌, is_some}
 use Rattle.ufs_laws.proofs.exchanges.DeedLaws.{filled_keeps}
+use Rattle.ufs_spec.specs.Management.{volatile_managed}
 use Rattle.ufs_spec.specs.declared.messages.Message.TheVariants as message
 use Rattle.ufs_laws.proofs.walk.SmallChanges.{reads, fills_task}
 use Rattle.ufs_laws.proofs.walk.Happenings.{BlockRead, ends_by, happened, job_over, is_asked as no_offence}
@@ -80,8 +81,9 @@ managed_same : (s : State) (lun function meant tag : ℕ) {task : Task} → Task
     is_some (task_of tag (managed s lun function meant).tasks) ≡ true → task_of tag s.tasks ≡ Some task →
     task_of tag (managed s lun function meant).tasks ≡ Some task
 managed_same s lun function meant tag {task} differ still h =
+    let t : State = record s { volatile = volatile_managed s lun function } in
     if_both (λ (u : State). is_some (task_of tag u.tasks) ≡ true → task_of tag u.tasks ≡ Some task)
-    (service s lun function meant == 0x00) {x = without_tasks s (is_aborted lun function meant)} {y = s}
+    (service s lun function meant == 0x00) {x = without_tasks t (is_aborted lun function meant)} {y = t}
     (λ k. left_same tag (λ x. not (is_aborted lun function meant x)) s.tasks task differ k h) (λ k. h) still
 
 -- data for this task or for another one

@@ -4,12 +4,12 @@ use Rattle.power_loss.proofs.Common.{Some, None, inl, inr, refl, sym, ap, ◌∙
 use Rattle.power_loss.proofs.Common.{list_any, nat_tests, false≢true, none-some, same_Some, eqb-self, Claim, drop_all}
 use Rattle.power_loss.proofs.Common.{Group, drop, ⊎_elim, cases_Bool, not}
 use Rattle.power_loss.proofs.MachineWords.{Command, Answering, Awaiting, Deed, ForWrite, Gathering, Good, Short, Status}
-use Rattle.power_loss.proofs.MachineWords.{Task, TaskSetFull, invalid_operation, is_task_of, no_unit, response}
+use Rattle.power_loss.proofs.MachineWords.{Task, TaskSetFull, is_task_of, response}
 use Rattle.power_loss.proofs.MachineWords.{short_reply, task_of, Life, held, Reply, Due, OfHost, Host, IsCdbIn, OfReply}
 use Rattle.power_loss.proofs.MachineWords.{begun_if_any, command_taken, deed_reply, message_fault, refused_or_begun}
 use Rattle.power_loss.proofs.MachineWords.{opens_short, tag_in, unit_or_first, with_moves, with_short, with_task}
-use Rattle.power_loss.proofs.MachineWords.{most_tasks, Line, Request, State, first_line, lacks_unit, line, lines_after}
-use Rattle.power_loss.proofs.MachineWords.{lun_of, not_taken, numbers_of, refusal, unit_of_request, Event, Output}
+use Rattle.power_loss.proofs.MachineWords.{most_tasks, Line, Request, State, first_line, lines_after}
+use Rattle.power_loss.proofs.MachineWords.{refusal, unit_of_request, Event, Output}
 use Rattle.power_loss.proofs.MachineWords.{Message, Cdb, IsTied, ValidState, IsReplied, has_task}
 use Rattle.std.specs.Prelude.{if◌then◌else◌}
 use Rattle.ufs_spec.specs.Exchanges.{ready_message}
@@ -30,7 +30,8 @@ use Rattle.power_loss.proofs.kept_promises.PromisedCommands.{TrackedIn, first_of
 use Rattle.power_loss.proofs.kept_promises.CallsKeepPromises.{carried_tracks, carries_open, closed, settled_open}
 use Rattle.power_loss.proofs.kept_promises.CallsKeepPromises.{settled_tracks}
 use Rattle.ufs_laws.proofs.exchanges.AbortedTasks.{reply_tag}
-use Rattle.ufs_spec.specs.Refusals.{mended, refused_state}
+use Rattle.ufs_laws.proofs.walk.Happenings.{may_open}
+use Rattle.ufs_spec.specs.Refusals.{mended, refused_state, table}
 use Rattle.ufs_laws.proofs.plain_contents.GroupsOfCommands.{length-groups}
 
 -- The COMMAND
@@ -50,13 +51,10 @@ first_bad (l ∷ ls) status all e = by l.applies e (first_bad ls status all.1)
 
 lines_bad : (s : State) (r : Request) (c : Option Cdb) → AreBad (lines_after s r c)
 lines_bad s r None = (tt, tt)
-lines_bad s r (Some c) = (tt, (tt, (tt, (tt, (tt, (tt, (tt, (tt, (tt, (tt, tt))))))))))
+lines_bad s r (Some c) = (tt, (tt, (tt, (tt, (tt, (tt, (tt, (tt, (tt, (tt, (tt, (tt, (tt, tt)))))))))))))
 
 refused_bad : (s : State) (r : Request) {status : Status} → refusal s r ≡ Some status → NotGood status
-refused_bad s r {status} e =
-    let lun = lun_of (numbers_of s) r.lun in
-    first_bad (line (lacks_unit s r lun) no_unit ∷ line (not_taken r lun) invalid_operation ∷ lines_after s r r.cdb)
-    status (tt, (tt, lines_bad s r r.cdb)) e
+refused_bad s r {status} e = first_bad (table s r) status (tt, (tt, (tt, (tt, lines_bad s r r.cdb)))) e
 
 -- a task that is opened
 opens : (p : Promise) (s : State) (r : Request) (c : Option Cdb) (n : ℕ) (deed : Deed) →
@@ -100,7 +98,7 @@ taken_tracks : (p : Promise) {s t : State} {r : Request} → IsTaken s r t → f
     IsPromise s r p → has_task r.tag t ≡ true → TrackedIn p r.tag [] t
 taken_tracks p {s = s} {r = r} taken later is still =
     let fault = no_fault (message_fault s (command_message r)) taken.right in
-    let free = is_free s r.tag (opens_short s (command_message r)) fault in
+    let free = is_free s r.tag (opens_short s (command_message r)) (may_open s r.flags _ fault) in
     let open_now = settled_open r.tag (command_taken s r) (subst (λ (x : State). has_task r.tag x ≡ true) taken.next
     still) in
     subst (TrackedIn p r.tag []) (sym taken.next)

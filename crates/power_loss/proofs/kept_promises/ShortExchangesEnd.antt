@@ -10,6 +10,7 @@ use Rattle.power_loss.proofs.MachineWords.{without_tasks, State, locked, Request
 use Rattle.power_loss.proofs.MachineWords.{IsTied, ValidState, IsReplied}
 use Rattle.std.specs.Prelude.{is_some}
 use Rattle.ufs_spec.proofs.Facts.{if_cases}
+use Rattle.ufs_spec.specs.Management.{volatile_managed}
 use Rattle.ufs_laws.proofs.walk.WaysOfCommands.{Beginning, Handing, WhyBegun, begins_by, begun_as}
 use Rattle.ufs_laws.proofs.walk.WaysOfData.{Completion, Told, completed}
 use Rattle.ufs_laws.proofs.walk.SmallChanges.{first_kept, lock_short}
@@ -45,8 +46,9 @@ same_leaves tag e = record { same = λ x h. ap (find (is_short_of tag)) e ∙ h 
 
 pub managed_shorts : (s : State) (lun function meant : ℕ) → (managed s lun function meant).shorts ≡ s.shorts
 managed_shorts s lun function meant =
+    let t : State = record s { volatile = volatile_managed s lun function } in
     if_both (λ (u : State). u.shorts ≡ s.shorts) (service s lun function meant == 0x00)
-    {x = without_tasks s (is_aborted lun function meant)} {y = s} refl refl
+    {x = without_tasks t (is_aborted lun function meant)} {y = t} refl refl
 
 pub ends_shorts : (s : State) (die : ℕ) (flight : Option Flight) (ending : Ending) (left : Array) →
     (ends_with s die flight ending left).shorts ≡ s.shorts
@@ -107,7 +109,7 @@ completed_shorts s task k = refl
 happens_leave : (tag : ℕ) (s : State) (h : Happening) → is_some (short_of tag (happened s h)) ≡ true →
     Leaves tag s.shorts (happened s h).shorts
 happens_leave tag s (Replies short) still = more_leaves tag s.shorts short
-happens_leave tag s (Aborts is short) still = more_leaves tag s.shorts short
+happens_leave tag s (Aborts on is short) still = more_leaves tag s.shorts short
 happens_leave tag s (ShortOver short) still = gone_leaves tag short.tag s.shorts still
 happens_leave tag s (Begins r c) still = same_leaves tag (begun_shorts s r _ c)
 happens_leave tag s (Tells on short) still = more_leaves tag s.shorts short

@@ -1,4 +1,5 @@
 -- What each move leaves of a translation layer whose pages, once programmed, open as they are meant to.
+use Rattle.ufs_spec.specs.Configs.{marked}
 use Rattle.power_loss.proofs.Common.{Accept, Book, Bool, Cell, Contents, CopyStep, Disk, EndJob, Entry, Fence}
 use Rattle.power_loss.proofs.Common.{FenceRight, Flight, Flights, GiveJob, Group, IsAllowedMove, IsBlock, IsCell}
 use Rattle.power_loss.proofs.Common.{IsFence, IsFirstFence, IsKey, IsLastRepair, IsSettingsBody, Item, Key, Ledger}
@@ -26,7 +27,7 @@ use Rattle.ufs_laws.proofs.walk.LayerEffects.{ComesOf, Effect, MarkAgain, MarkOr
 use Rattle.ufs_laws.proofs.walk.LayerEffects.{PlanMarkOrdered, RepairOrdered, die_freed, effect_flights, ended}
 use Rattle.ufs_laws.proofs.walk.LayerEffects.{turned_by, with_effect, without_job}
 use Rattle.power_loss.proofs.books.SmallFacts.{at_die_is}
-use Rattle.power_loss.proofs.stops.SealedCells.{mark_cell, page_cell, ranges_of}
+use Rattle.power_loss.proofs.stops.SealedCells.{mark_cell, page_cell, ranges_of, numbers_fit}
 use Rattle.power_loss.proofs.books.LayerParts.{MendingOf}
 
 -- the contents that a key has at the life's start may be written
@@ -180,8 +181,9 @@ step_cell_fits {t} (MarkStep number fence) f r =
     let marks = f.marks in
     let last = r.last in
     let some = r.given in
-    mark_cell (record { number = number; records = records_now t.ledger fence; fence = fence; numbers = t.numbers })
-    (ranges_of t.numbers f.config) (λ x e. fence_fits f.book_fits (bounds x e)) (omega arith) (omega arith)
+    mark_cell
+    (record { number = number; records = records_now t.ledger fence; fence = fence; numbers = marked t.numbers })
+    (numbers_fit (ranges_of t.numbers f.config)) (λ x e. fence_fits f.book_fits (bounds x e)) (omega arith) (omega arith)
     (records_fit fence f bounds)
 step_cell_fits {t} (CopyStep name from) f r = cell_now_fits name f
 step_cell_fits {t} (RepairStep name from) f r = cell_now_fits name f

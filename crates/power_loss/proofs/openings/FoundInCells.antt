@@ -1,5 +1,6 @@
 -- What an opening finds in cells: the page of each name, the greatest number seen, the lost keys in order, the mending
 -- that is due and the state of each block.
+use Rattle.ufs_spec.specs.Configs.{marked}
 use Rattle.power_loss.proofs.Common.{AreLost, AreWithin, Bad, BlockState, Bool, Cell, Cells, Closed, Entry, Fence}
 use Rattle.power_loss.proofs.Common.{Filling, Free, GroupPage, HasName, Holds, IsAtMost, IsEntry, IsFirst}
 use Rattle.power_loss.proofs.Common.{IsGreatestSeen, IsMendingAt, IsPlace, Key, List, Mark, MarkPage, Mended, Mending}
@@ -252,12 +253,12 @@ module _ (n : Numbers) (c : Cells) (within : AreWithin n c) where
   none_or (Some g) = inr (g, refl)
 
   -- whether the newest mark has the numbers of the device
-  same_numbers : (mark : Mark) → MarkSuits n mark.numbers → Dec (mark.numbers ≡ n)
+  same_numbers : (mark : Mark) → MarkSuits n mark.numbers → Dec (mark.numbers ≡ marked n)
   same_numbers mark (inl same) = yes same
   same_numbers mark (inr one) = of_one (same_bytes n.rpmb (steps_of n 0 ∷ 0 ∷ 0 ∷ 0 ∷ []))
     where
-      of_one : Dec (n.rpmb ≡ steps_of n 0 ∷ 0 ∷ 0 ∷ 0 ∷ []) → Dec (mark.numbers ≡ n)
-      of_one (yes e) = yes (one ∙ (λ i. record n { rpmb = sym e i }))
+      of_one : Dec (n.rpmb ≡ steps_of n 0 ∷ 0 ∷ 0 ∷ 0 ∷ []) → Dec (mark.numbers ≡ marked n)
+      of_one (yes e) = yes (one ∙ (λ i. record (marked n) { rpmb = sym e i }))
       of_one (no differ) = no (λ same. differ (ap (λ (x : Numbers). x.rpmb) (sym same ∙ one)))
 
   pub mending_at : (m : Option Mark) (low last : ℕ) → ((f : Fence) → fence_in m ≡ Some f → low ≤ last) →
@@ -279,7 +280,7 @@ module _ (n : Numbers) (c : Cells) (within : AreWithin n c) where
       no_fence : last < low → mark.fence ≡ None
       no_fence l = ⊎_elim (λ e. e) (λ f. absurd (let x = wide f.0 f.1 in omega arith)) (none_or mark.fence)
 
-      by : Dec (mark.numbers ≡ n) → last < low → (w : Mending) × IsMendingAt n c (Some mark) low last w
+      by : Dec (mark.numbers ≡ marked n) → last < low → (w : Mending) × IsMendingAt n c (Some mark) low last w
       by (yes same) l = (Mended, (same, no_fence l, l))
       by (no differ) l =
           let keys = are_lost in

@@ -1,4 +1,5 @@
 -- An opened translation layer is valid: the mending that is due, and all of it.
+use Rattle.ufs_spec.specs.Configs.{marked as as_marked}
 use Rattle.power_loss.proofs.Common.{◌≡◌, ℕ, ◌<◌, ◌≤◌, ◌-◌, All, Bool, List, [], drop, length, Option, Some, None}
 use Rattle.power_loss.proofs.Common.{refl, sym, ap, ◌∙◌, subst, inl, ⊎_elim, arith, drop_all, All-nil, AreWithin, Cells}
 use Rattle.ufs_spec.specs.Openings.{HasNumbers, IsFree}
@@ -50,7 +51,7 @@ module _ {bad : Spot → Bool} {t : Translation} (o : Opened bad t) where
     needed = mark_not_free o p is h;
   }
 
-  marks_are_right : {m : Mark} → t.ledger.newest ≡ Some m → m.numbers ≡ t.numbers → IsNewestMark t.disk.cells (Some m) →
+  marks_are_right : {m : Mark} → t.ledger.newest ≡ Some m → m.numbers ≡ as_marked t.numbers → IsNewestMark t.disk.cells (Some m) →
       fence_in t.ledger.newest ≡ None → t.ledger.greatest_seen < t.ledger.first_lost → MarksOf t m
   marks_are_right {m} is own x none l =
       let f = o.start.ledger.frontier in

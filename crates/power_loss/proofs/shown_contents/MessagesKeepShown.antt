@@ -28,7 +28,8 @@ use Rattle.ufs_spec.specs.Keys.{area_key}
 use Rattle.ufs_spec.specs.Queries.{Query, setting_of}
 use Rattle.ufs_spec.specs.QueryAnswers.{query_failed, query_heard, query_passed}
 use Rattle.ufs_spec.proofs.Facts.{if_cases}
-use Rattle.ufs_laws.proofs.walk.Happenings.{code_of_query, is_asked as no_offence}
+use Rattle.ufs_laws.proofs.walk.Happenings.{code_of_query, is_asked as no_offence, may_open}
+use Rattle.ufs_spec.specs.Management.{volatile_managed}
 use Rattle.ufs_laws.proofs.walk.WaysOfData.{Accepted, AcceptsFrames, Completion, HasResult, ReadsArea, Told}
 use Rattle.ufs_laws.proofs.walk.WaysOfData.{WhyCompleted, completed, completes_by}
 use Rattle.power_loss.proofs.calls.CallsKeepTied.{spelled_is}
@@ -169,8 +170,9 @@ without_shows s is h =
 
 managed_shows : (s : State) (lun function meant : ℕ) → ShowsReads s → ShowsReads (managed s lun function meant)
 managed_shows s lun function meant h =
-    shows_if (service s lun function meant == 0x00) (without_tasks s (is_aborted lun function meant)) s
-    (without_shows s (is_aborted lun function meant) h) h
+    let t : State = record s { volatile = volatile_managed s lun function } in
+    shows_if (service s lun function meant == 0x00) (without_tasks t (is_aborted lun function meant)) t
+    (without_shows t (is_aborted lun function meant) h) h
 
 -- Messages
 
@@ -178,7 +180,7 @@ pub heard_shows : {s : State} (m : Message) (c : _) → IsTied s → MayCome s (
     message_fault s m ≡ None → ShowsReads s → ShowsReads (heard s m c)
 heard_shows {s} (message.Command flags lun tag expected taken) c v may free h =
     command_shows (record { flags = flags; lun = lun; tag = tag; expected = expected; bytes = taken; cdb = c }) v
-    (is_free s tag (opens_short s (message.Command flags lun tag expected taken)) free)
+    (is_free s tag (opens_short s (message.Command flags lun tag expected taken)) (may_open s flags _ free))
     (λ command e. spelled_is c command taken may.1.2 e) h
 heard_shows {s} (message.DataOut lun tag offset «data») c v may free h =
     data_heard_shows tag lun offset (task_of tag s.tasks) «data».items v refl

@@ -158,7 +158,7 @@ happens_waits {s = s} call answer (Gathers task purpose all) v is may same why h
 happens_waits {s = s} call answer (Completes task k) v is may same (purpose, d, why) h =
     completed_waits k same (gathers_in task.tag v d.found d.deed)
     (room_for task d.gathered d.more (d.next may) (λ b. bytes-append d.gathered d.more b (d.are_bytes is))) why h
-happens_waits {areas} {s} call answer (Aborts those short) v is may same why h = record {
+happens_waits {areas} {s} call answer (Aborts volatile those short) v is may same why h = record {
   requests = every_filtered (Asks areas) (λ task. not (those task)) s.tasks h.requests;
   registers_hold = registers_left s (filter those s.tasks) h;
 }

@@ -2,14 +2,15 @@
 use Rattle.power_loss.proofs.Common.{All, AllByRecursion, Bool, List, None, Numbers, Option, Plain, Some, [], arith}
 use Rattle.power_loss.proofs.Common.{eqb-true, false, get_or_from_slice_get, if_both, inl, inr, length, list_any, min}
 use Rattle.power_loss.proofs.Common.{not, refl, replicate, slice_get_within, subst, take, true, ℕ, ⊎_elim, ◌&&◌, ◌++◌}
-use Rattle.power_loss.proofs.Common.{◌<◌, ◌==◌, ◌^◌, ◌∷◌, ◌≡◌, ◌≤◌, ◌⊎◌}
+use Rattle.power_loss.proofs.Common.{◌*◌, ◌<◌, ◌==◌, ◌^◌, ◌∷◌, ◌≡◌, ◌≤◌, ◌⊎◌}
 use Rattle.power_loss.proofs.MachineWords.{AreBytes, State, UnitSpec, numbers_of, plain_now}
 use Rattle.std.specs.Prelude.{if◌then◌else◌, slice_get}
 use Rattle.byteorder.specs.Endian.{big_bytes}
 use Rattle.std.proofs.lemmas.List.{length-take}
 use Rattle.ufs_laws.proofs.pages.ByteLists.{bytes-append, bytes-cons, bytes-nil, bytes-number, bytes-take, bytes-zeros}
 use Rattle.ufs_laws.proofs.walk.Happenings.{code_of_query}
-use Rattle.ufs_spec.specs.Configs.{UnitInRange}
+use Rattle.ufs_spec.specs.Configs.{UnitInRange, unit_blocks}
+use Rattle.ufs_spec.specs.Queries.{geometry_descriptor, has_boot, long_device_descriptor, short_device_descriptor}
 use Rattle.ufs_spec.specs.Keys.{flag_byte}
 use Rattle.ufs_spec.specs.Messages.{IsByte, IsMessage, IsQueryFunction, is_among}
 use Rattle.ufs_spec.specs.Queries.{Query, QueryLine, boots, descriptor, descriptor_told, device_descriptor, first_code}
@@ -33,8 +34,8 @@ byte_if false m n h k = k
 abbrev pub FewUnits : Numbers → Type 0
 FewUnits n = (length n.units.items ≤ 8) × All UnitInRange n.units.items
 
-device_is : (n : Numbers) → FewUnits n → AreBytes (device_descriptor n)
-device_is n few =
+short_device_is : (n : Numbers) → FewUnits n → AreBytes (short_device_descriptor n)
+short_device_is n few =
     let units = few.0 in
     let boots_is = flag_fits (list_any boots n.units.items) in
     bytes-append
@@ -51,6 +52,32 @@ device_is n few =
     (bytes-cons (flag_byte (list_any boots n.units.items)) (0x01 ∷ []) boots_is (seen_bytes (0x01 ∷ []) refl)))))
     (seen_bytes (0 ∷ 0 ∷ 0 ∷ 0x01 ∷ 0 ∷ 0 ∷ 0x02 ∷ 0x10 ∷ []) refl))
     (bytes-zeros 46)
+
+long_device_is : (n : Numbers) → FewUnits n → AreBytes (long_device_descriptor n)
+long_device_is n few =
+    let units = few.0 in
+    let boots_is = flag_fits (has_boot n) in
+    let boots_not = flag_fits (not (has_boot n)) in
+    let last : List ℕ =
+    (0x01 ∷ 0x01 ∷ 0x7F ∷ 0 ∷ 0x01 ∷ 0x01 ∷ 0 ∷ 0x02 ∷ 0x10 ∷ 0x11 ∷ 0x25 ∷ 0x01 ∷ 0x02 ∷ 0x03 ∷ 0x04 ∷ [])
+    ++ (0 ∷ 0 ∷ 0x10 ∷ 0x10 ∷ 0x20 ∷ 0 ∷ 0 ∷ 0 ∷ 0 ∷ 0x20 ∷ 0 ∷ 0x01 ∷ []) ++ replicate 6 0 ++ 0x05 ∷ replicate 21 0 in
+    let booting : List ℕ = 0x04 ∷ flag_byte (has_boot n) ∷ last in
+    let counted : List ℕ = 0 ∷ length n.units.items ∷ booting in
+    bytes-append (0x40 ∷ 0 ∷ 0 ∷ 0 ∷ []) (flag_byte (not (has_boot n)) ∷ counted) (seen_bytes (0x40 ∷ 0 ∷ 0 ∷ 0 ∷ []) refl)
+    (bytes-cons (flag_byte (not (has_boot n))) counted boots_not
+    (bytes-cons 0 (length n.units.items ∷ booting) (omega arith)
+    (bytes-cons (length n.units.items) booting (omega arith)
+    (bytes-cons 0x04 (flag_byte (has_boot n) ∷ last) (omega arith)
+    (bytes-cons (flag_byte (has_boot n)) last boots_is (seen_bytes last refl))))))
+
+geometry_is : (n : Numbers) → AreBytes (geometry_descriptor n)
+geometry_is n =
+    let last : List ℕ =
+    (0 ∷ []) ++ big_bytes 4 8
+    ++ (0x01 ∷ 0x08 ∷ 0x08 ∷ 0x08 ∷ 0x08 ∷ 0x08 ∷ 0x08 ∷ 0 ∷ 0 ∷ 0x05 ∷ 0 ∷ 0 ∷ 0x01 ∷ 0x80 ∷ 0x01 ∷ []) ++ replicate 40 0 in
+    bytes-append (0x48 ∷ 0x07 ∷ 0 ∷ 0 ∷ []) (big_bytes 8 (8 * unit_blocks n) ++ last)
+    (seen_bytes (0x48 ∷ 0x07 ∷ 0 ∷ 0 ∷ []) refl)
+    (bytes-append (big_bytes 8 (8 * unit_blocks n)) last (bytes-number 8 (8 * unit_blocks n)) (seen_bytes last refl))
 
 unit_is : (index : ℕ) (u : UnitSpec) → index < 256 → UnitInRange u → AreBytes (unit_descriptor index u)
 unit_is index u few r =
@@ -81,14 +108,19 @@ unit_is index u few r =
     (bytes-zeros 3)
 
 -- a descriptor is bytes, and not many
-abbrev Short64 : List ℕ → Type 0
-Short64 bytes = (length bytes ≤ 64) × AreBytes bytes
+abbrev AreShort : List ℕ → Type 0
+AreShort bytes = (length bytes ≤ 72) × AreBytes bytes
 
-descriptor_is : (n : Numbers) (a : Asked) → a.index < 256 → FewUnits n → Short64 (descriptor n a)
-descriptor_is n a few units = if_both Short64 (a.idn == 0x00) (omega arith, device_is n units)
-    (by (slice_get n.units.items a.index) refl)
+device_is : (n : Numbers) → FewUnits n → AreShort (device_descriptor n)
+device_is n units =
+    if_both AreShort (n.profile == 0) (omega arith, short_device_is n units) (omega arith, long_device_is n units)
+
+descriptor_is : (n : Numbers) (a : Asked) → a.index < 256 → FewUnits n → AreShort (descriptor n a)
+descriptor_is n a few units =
+    if_both AreShort (a.idn == 0x00) (device_is n units)
+    (if_both AreShort (a.idn == 0x07) (omega arith, geometry_is n) (by (slice_get n.units.items a.index) refl))
   where
-    by : (o : Option UnitSpec) → slice_get n.units.items a.index ≡ o → Short64 (unit_descriptor_at a.index o)
+    by : (o : Option UnitSpec) → slice_get n.units.items a.index ≡ o → AreShort (unit_descriptor_at a.index o)
     by None e = (omega arith, bytes-nil)
     by (Some u) e = (
       omega arith,
@@ -98,17 +130,17 @@ descriptor_is n a few units = if_both Short64 (a.idn == 0x00) (omega arith, devi
 
 -- what is told of it
 told_is : (n : Numbers) (q : Query) → q.asked.index < 256 → FewUnits n →
-    Short64 (descriptor_told n q) × ((q.asked.opcode ≡ 1) ⊎ (descriptor_told n q ≡ []))
+    AreShort (descriptor_told n q) × ((q.asked.opcode ≡ 1) ⊎ (descriptor_told n q ≡ []))
 told_is n q few units = by (q.asked.opcode == 1) refl
   where
     by : (b : Bool) → (q.asked.opcode == 1) ≡ b →
-        Short64 (if b then take q.length (descriptor n q.asked) else [])
+        AreShort (if b then take q.length (descriptor n q.asked) else [])
         × ((q.asked.opcode ≡ 1) ⊎ ((if b then take q.length (descriptor n q.asked) else []) ≡ []))
     by true e =
         let all = descriptor_is n q.asked few units in
         let cut = length-take q.length (descriptor n q.asked) in
         let long = all.0 in
-        let least : min q.length (length (descriptor n q.asked)) ≤ 64 = grind arith in (
+        let least : min q.length (length (descriptor n q.asked)) ≤ 72 = grind arith in (
           (omega (arith, cut, least), bytes-take q.length (descriptor n q.asked) all.1),
           inl (eqb-true q.asked.opcode 1 e),
         )
@@ -118,7 +150,8 @@ value_is : (p : Plain) (volatile : Volatile) (q : Query) → p.boot ≤ 2 → va
 value_is p volatile q few = if_both (λ n. n < 2 ^ 32) (is_among (3 ∷ 4 ∷ []) q.asked.opcode) (omega arith)
     (if_both (λ n. n < 2 ^ 32) (is_among (5 ∷ 6 ∷ []) q.asked.opcode)
     (if_both (λ n. n < 2 ^ 32) (q.asked.idn == 0x02) (let f = flag_fits p.permanent in omega arith)
-    (if_both (λ n. n < 2 ^ 32) (q.asked.idn == 0x03) (let f = flag_fits volatile.power_on in omega arith) (omega arith))) (omega arith))
+    (if_both (λ n. n < 2 ^ 32) (q.asked.idn == 0x03) (let f = flag_fits volatile.power_on in omega arith)
+    (let f = flag_fits volatile.initializing in omega arith))) (omega arith))
 
 -- a QUERY REQUEST in its ranges
 pub record IsAskedWell (tag : ℕ) (q : Query) : Type 0 where
@@ -167,7 +200,7 @@ code_is s q =
     code_byte
     (query_line (has_wrong_opcode q) 0xFE
     ∷ query_line (q.asked.opcode == 0) 0x00
-    ∷ query_line (has_wrong_idn q) 0xFD
+    ∷ query_line (has_wrong_idn (numbers_of s) q) 0xFD
     ∷ query_line (has_wrong_index (numbers_of s) q) 0xFC
     ∷ query_line (not (q.asked.selector == 0)) 0xFB
     ∷ query_line (is_not_writable q) 0xF7

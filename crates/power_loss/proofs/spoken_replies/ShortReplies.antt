@@ -26,6 +26,7 @@ use Rattle.ufs_laws.proofs.exchanges.SpokenCalls.{spoken}
 use Rattle.ufs_laws.proofs.exchanges.AbortedTasks.{every_at}
 use Rattle.ufs_laws.specs.Replies.{ShortSpeaks, ShortsSpeak}
 use Rattle.ufs_spec.specs.Machine.{aborts, is_named, service_found}
+use Rattle.ufs_spec.specs.Refusals.{mended}
 use Rattle.ufs_spec.specs.Messages.{IsByte, IsMessage, spelling}
 use Rattle.ufs_spec.specs.declared.messages.Message.TheVariants as message
 use Rattle.power_loss.proofs.open_tasks.OpenExchanges.{data_leaves, opened_adds, replied_leaves}
@@ -81,9 +82,10 @@ query_speaks s tag q v is h = by ((code_of_query s q == 0x00) && not (q.asked.op
 
     passed : (o : Option Command) → setting_of q ≡ o → (code_of_query s q == 0x00) ≡ true →
         (q.asked.opcode == 0) ≡ false → ShortsSpeak (query_passed s tag q o)
-    passed None e code some = one_speaks s tag (query_done (numbers_of s) (plain_now s) (volatile_after s.volatile q)
-        tag q) (done_is (numbers_of s) (plain_now s) (volatile_after s.volatile q) tag q is units
-        (plain_tied v).boot_bound) h
+    passed None e code some =
+        let volatile = volatile_after (numbers_of s) (mended s) s.volatile q in
+        one_speaks s tag (query_done (numbers_of s) (plain_now s) volatile tag q)
+        (done_is (numbers_of s) (plain_now s) volatile tag q is units (plain_tied v).boot_bound) h
     passed (Some c) e code some =
         let told = setting_is s q c code some e in
         let plain = kept_plain (plain_now s) c (plain_tied v) told.is told.can in

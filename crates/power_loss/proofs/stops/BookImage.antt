@@ -1,5 +1,6 @@
 -- What an image of the book is, and that a stop leaves one once a mark of the life, or the one it began with, is
 -- finished.
+use Rattle.ufs_spec.specs.Configs.{marked as as_marked}
 use Rattle.power_loss.proofs.Common.{◌≡◌, ℕ, ◌≤◌, ◌⊎◌, List, [], Option, Some, None, slice_get, refl, sym, ap, ◌∙◌}
 use Rattle.power_loss.proofs.Common.{subst, inl, inr, ⊎_elim, arith, Cells, GroupPage, Mark, MarkPage, Group, Item}
 use Rattle.power_loss.proofs.Common.{HasPage, IsNewestMark, recorded_in, Entry, Translation, Place, Tag, AreWholeAbove}
@@ -36,7 +37,7 @@ pub record Image (b : Book) (frontier marked : ℕ) (c : Cells) (m : Mark) : Typ
   pub whole : AreWholeAbove b m.records
   pub shown : (n i : ℕ) (e : Entry) → n ≤ frontier → IsPageAt b n i e → (IsLostNumber b n → ⊥) →
       IsShown b marked c n i e
-  pub numbers : m.numbers ≡ b.numbers
+  pub numbers : m.numbers ≡ as_marked b.numbers
 
 -- the cells are those that the life began with
 pub record Unchanged (b : Book) (newest : Option Mark) (c : Cells) (m : Option Mark) : Type 0 where
@@ -64,7 +65,7 @@ pub record Parts (b : Book) (frontier marked : ℕ) (c : Cells) (m : Mark) : Typ
   pub above : marked ≤ m.records
   pub good : IsRepairing b m ⊎ IsPlainMark b m
   pub whole : AreWholeAbove b m.records
-  pub numbers : m.numbers ≡ b.numbers
+  pub numbers : m.numbers ≡ as_marked b.numbers
 
 module _ {t : Translation} {c : Cells} (v : Valid t) (crash : StopLeaves t c) where
   secure_shown : {n i : ℕ} → SecureOf t n i → HasPage c n i

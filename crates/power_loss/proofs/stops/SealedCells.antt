@@ -1,4 +1,5 @@
 -- A page that a life writes shows the cell that it is meant to be.
+use Rattle.ufs_spec.specs.Configs.{marked}
 use Rattle.power_loss.proofs.Common.{◌≡◌, ℕ, suc, ◌-◌, ◌*◌, ◌<◌, ◌≤◌, ◌^◌, true, false, List, [], ◌∷◌, ◌++◌, All}
 use Rattle.power_loss.proofs.Common.{Option, Some, None, length, map, get_or, refl, sym, ap, ◌∙◌, ⊎_elim}
 use Rattle.power_loss.proofs.Common.{arith, nat_le, option_and_then, flat_map, get_or-map, length-append, length-map}
@@ -159,7 +160,7 @@ unit_fits units each k d lt =
       protect = omega (arith, u.protect_bound);
     }
 
-pub numbers_fit : {n : Numbers} → InRange n → NumbersFit n
+pub numbers_fit : {n : Numbers} → InRange n → NumbersFit (marked n)
 numbers_fit {n} r =
     let dies = r.dies_bound in
     let blocks = r.blocks_bound in
@@ -176,6 +177,8 @@ numbers_fit {n} r =
       rpmb = λ k d lt. (let few = r.rpmb_bound k d lt in omega arith);
       slots = omega arith;
       spare = spare_fits n.dies n.blocks n.spare dies blocks spare;
+      profile = refl;
+      serial = refl;
     }
   where
     spare_fits : (dies blocks spare : ℕ) → dies ≤ 8 → blocks ≤ 1024 → spare ≤ dies * blocks → spare < 2 ^ 16
@@ -253,17 +256,16 @@ mark_is_tag m some number records = record {
   frontier_fits = records;
 }
 
-pub mark_cell : (m : Mark) → InRange m.numbers → ((f : Fence) → m.fence ≡ Some f → IsFence f) → 1 ≤ m.number →
+pub mark_cell : (m : Mark) → NumbersFit m.numbers → ((f : Fence) → m.fence ≡ Some f → IsFence f) → 1 ≤ m.number →
     m.number ≤ greatest_number → m.records ≤ greatest_number → IsCell (page_of (MarkPage m)) (MarkPage m)
-mark_cell m r fence some number records =
-    let fit = numbers_fit r in (
-      mark_bytes m.numbers m.fence,
-      record {
-        tag_right = mark_is_tag m some number records;
-        body_right = mark_is_block m.fence fit;
-        sealed = seals (mark_tag m) (mark_bytes m.numbers m.fence);
-      },
-      record { fence_right = fence; numbers_fit = fit; bytes = refl },
-    )
+mark_cell m fit fence some number records = (
+  mark_bytes m.numbers m.fence,
+  record {
+    tag_right = mark_is_tag m some number records;
+    body_right = mark_is_block m.fence fit;
+    sealed = seals (mark_tag m) (mark_bytes m.numbers m.fence);
+  },
+  record { fence_right = fence; numbers_fit = fit; bytes = refl },
+)
 
 -- Torn pages
