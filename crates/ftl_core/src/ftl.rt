@@ -232,8 +232,9 @@ fn first_fence(found: &Found) -> Option<Fence>
     })
 }
 
-/// Whether a mark stands and has the numbers of the device. A mark that suits the device can differ
-/// from it in the sizes of RPMB regions 1 to 3 alone.
+/// Whether a mark stands and has the numbers of the device, as a mark holds them: whatever the profile
+/// and the serial number of the device are. A mark that suits the device can differ from it in the sizes
+/// of RPMB regions 1 to 3 alone.
 fn is_own(mark: &Option<Mark>, numbers: &Numbers) -> bool
     ensures { result ≡ is_own numbers.now mark.now }
 {

@@ -1,8 +1,9 @@
 //! The configuration of a device: numbers that have no fault.
-ghost use Rattle.std.specs.Prelude.{◌≡◌, ◌≤◌, ◌*◌, ◌==◌, ◌&&◌, slice_index_or, Some, None, length, count_by, sum, sum_by, IfOk, IfErr};
+ghost use Rattle.std.specs.Prelude.{◌≡◌, ◌<◌, ◌≤◌, ◌*◌, ◌==◌, ◌&&◌, slice_index_or, Some, None, length, count_by, sum, sum_by, IfOk, IfErr};
 ghost use Rattle.std.specs.List.{list_all};
 ghost use Rattle.ufs_spec.specs.Plain.{greatest_command, regions};
-ghost use Rattle.ufs_spec.specs.Configs.{numbers_of, is_between, unit_in_range, in_range, unit_blocks, pages_kept, blocks_needed, blocks_left, boot_count, command_blocks, config_fault, InRange, HasRoom, HasOneBootUnitEach};
+ghost use Rattle.ufs_spec.specs.Configs.{numbers_of, with_profile, is_between, unit_in_range, in_range, unit_blocks, pages_kept, blocks_needed, blocks_left, boot_count, command_blocks, config_fault, InRange, HasRoom, HasOneBootUnitEach};
+ghost use Rattle.ufs_spec.specs.declared.faults.ConfigFault.TheVariants.{Range};
 
 mod facts;
 
@@ -15,6 +16,9 @@ use ufs_spec::{ConfigFault, GREATEST_COMMAND, Numbers, UnitSpec};
 const SLOTS_OF_LONG_COMMANDS: u16 = 256;
 
 const SHORT_COMMAND: u16 = 32;
+
+/// The profiles are 0 and 1.
+const LAST_PROFILE: u8 = 1;
 
 /// Numbers that are in their ranges, with blocks enough and no boot number twice.
 #[derive(Drop)]
@@ -39,7 +43,7 @@ impl Config {
     /// whose area has no step is not there; the first one always is.
     ///
     /// The lowest fault that applies is told: a number out of its range, too few blocks beside the
-    /// spare ones, or a boot number that two units have.
+    /// spare ones, or a boot number that two units have. The device has profile 0 and serial number 1.
     pub fn new(
         dies: u8,
         blocks: u16,
@@ -66,7 +70,24 @@ impl Config {
             rpmb,
             slots,
             spare,
+            profile: 0,
+            serial: 1,
         })
+    }
+
+    /// The same configuration for a device of this profile, 0 or 1, and with this serial number, which
+    /// profile 1 alone tells. A profile above 1 is told as a number out of its range.
+    pub fn with_profile(self, profile: u8, serial: u64) -> Result<Config, ConfigFault>
+        ensures accepted { IfOk result (λ c. (c ≡ with_profile self profile serial) × (profile ≤ 1)) }
+        ensures refused { IfErr result (λ f. (f ≡ Range) × (1 < profile)) }
+    {
+        if profile > LAST_PROFILE {
+            return Err(ConfigFault::Range);
+        }
+        let mut numbers = self.numbers;
+        numbers.profile = profile;
+        numbers.serial = serial;
+        Ok(Config { numbers })
     }
 
     #[tactic(auto, using(ufs_spec::proofs::ConfigFacts::ranges))]
@@ -158,6 +179,7 @@ fn are_in_range(numbers: &Numbers) -> bool
             u64::from(numbers.dies) * u64::from(numbers.blocks),
             numbers.spare.into(),
         )
+        && numbers.profile <= LAST_PROFILE
 }
 
 fn blocks_left(numbers: &Numbers) -> u64

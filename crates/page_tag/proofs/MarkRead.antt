@@ -110,6 +110,8 @@ module _ (body : List ℕ) (units : ArrayVec UnitSpec) where
         rpmb = slice_index body 22 ∷ slice_index body 28 ∷ slice_index body 29 ∷ slice_index body 30 ∷ [];
         slots = field_at 2 24 body;
         spare = field_at 2 26 body;
+        profile = 0;
+        serial = 1;
       }
 
   -- are those that the mark has
@@ -123,6 +125,8 @@ module _ (body : List ℕ) (units : ArrayVec UnitSpec) where
         rpmb = four i;
         slots = field 8 (λ m. m.slots) refl i;
         spare = field 10 (λ m. m.spare) refl i;
+        profile = sym h.numbers_fit.profile i;
+        serial = sym h.numbers_fit.serial i;
       }
     where
       all : numbers_in body ≡ n

@@ -57,7 +57,8 @@ fn is_fence(fence: Option<Fence>) -> bool
     }
 }
 
-// The numbers of a mark with this body. There are none if it says more units than a device has.
+// The numbers of a mark with this body. There are none if it says more units than a device has. No
+// byte of it says the profile or the serial number: each mark reads as that of profile 0 and number 1.
 fn numbers_in(body: &Block) -> Option<Numbers>
     ensures fit { IfSome result NumbersFit }
     ensures read { (fence : Option Fence) (n : Numbers) → IsMarkBody fence n body.now →
@@ -75,6 +76,8 @@ fn numbers_in(body: &Block) -> Option<Numbers>
         rpmb: [body[22], body[28], body[29], body[30]],
         slots: read_u16(body, 24),
         spare: read_u16(body, 26),
+        profile: 0,
+        serial: 1,
     })
 }
 

@@ -66,7 +66,8 @@ pub struct Found {
 /// `NoMemory` if memory was refused; `ReadFault` if the read of that place failed in this call;
 /// else `OtherConfig` if the newest mark is of another configuration, or a page is of a unit, a region
 /// or an address that the configuration has not. A mark of the same numbers with RPMB region 0 alone is
-/// not of another one: it was written before the device had other regions.
+/// not of another one: it was written before the device had other regions. The dies of a device of one
+/// profile are those of a device of another, and its serial number stands on no page.
 pub fn scan<D: Die>(alloc: Global, dies: &mut [D], config: &Config) -> Result<Found, OpenFault>
     requires { Fit config.now (map D.state dies.old) }
     ensures same { map D.state dies.new ≡ map D.state dies.old }
@@ -151,19 +152,20 @@ fn does_mark_suit(mark: &Option<Mark>, numbers: &Numbers) -> bool
     }
 }
 
-/// Whether a mark with these numbers suits the others: they are the same, or the same with RPMB region 0
-/// alone, as before the device had others.
+/// Whether a mark with these numbers suits the others, whatever the profile and the serial number of the
+/// device: they are the same, or the same with RPMB region 0 alone, as before the device had others.
 fn do_numbers_suit(said: &Numbers, numbers: &Numbers) -> bool
     ensures { IsTrue result ↔ MarkSuits numbers.now said.now }
 {
     are_same_but_regions(said, numbers) && do_regions_suit(said.rpmb, numbers.rpmb)
 }
 
-/// Whether numbers are the same, whatever the sizes of RPMB regions are.
+/// Whether a mark's numbers are the others as a mark holds them, whatever the sizes of RPMB regions are.
+/// A mark has profile 0 and serial number 1, so these of the device are not asked for.
 fn are_same_but_regions(said: &Numbers, numbers: &Numbers) -> bool
     ensures { let s = said.now in let n = numbers.now in IsTrue result ↔
         ((s.dies ≡ n.dies) × (s.blocks ≡ n.blocks) × (s.pages ≡ n.pages) × (s.units ≡ n.units)
-        × (s.slots ≡ n.slots) × (s.spare ≡ n.spare)) }
+        × (s.slots ≡ n.slots) × (s.spare ≡ n.spare) × (s.profile ≡ 0) × (s.serial ≡ 1)) }
 {
     said.dies == numbers.dies
         && said.blocks == numbers.blocks
@@ -171,6 +173,8 @@ fn are_same_but_regions(said: &Numbers, numbers: &Numbers) -> bool
         && have_same_units(said, numbers)
         && said.slots == numbers.slots
         && said.spare == numbers.spare
+        && said.profile == 0
+        && said.serial == 1
 }
 
 /// Whether their units are the same.

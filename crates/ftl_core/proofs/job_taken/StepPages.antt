@@ -8,6 +8,7 @@ use Rattle.ftl_core.proofs.Common.{name_at, name_is, none_some, not, option_map,
 use Rattle.ftl_core.proofs.Common.{some_flight, step_job, subst, sym, told_by, true, ℕ, ◌&&◌, ◌∙◌, ◌≡◌, ◌≤◌}
 use Rattle.std.proofs.lemmas.Bool.{le-leb, lt-ltb}
 use Rattle.ufs_spec.proofs.Facts.{not-true}
+use Rattle.ufs_spec.specs.Configs.{marked}
 use Rattle.ufs_spec.specs.Disk as disk
 use Rattle.ufs_spec.specs.Keys.{IsArea, IsData, IsSettings}
 use Rattle.ufs_spec.specs.Openings.{IsFirstFence}
@@ -98,7 +99,7 @@ mark_page c t number fence h is step waits = record {
         number = number;
         records = records i;
         fence = fence;
-        numbers = h.kept.numbers i;
+        numbers = marked (h.kept.numbers i);
       })))));
   begins = λ place. record {
     alone = λ name e. absurd (false≢true e);

@@ -16,6 +16,7 @@ use Rattle.std.proofs.lemmas.Bool.{and_parts}
 use Rattle.std.proofs.lemmas.List.{drop_all, get_or-replicate, take_all}
 use Rattle.ufs_spec.specs.Cells.{AreWithin}
 use Rattle.ufs_spec.specs.Cells as cells
+use Rattle.ufs_spec.specs.Configs.{marked}
 use Rattle.ufs_spec.specs.Disk as disk
 use Rattle.ufs_spec.specs.Keys as keys
 use Rattle.ufs_spec.specs.Keys.{area_pages}
@@ -183,13 +184,13 @@ numbers_of_own : (n : Numbers) (m : Option Mark) → length n.rpmb ≡ regions �
 numbers_of_own n None four suits own = cc
 numbers_of_own n (Some m) four suits own = ⊎_elim (λ same. same) of_one (suits (mark_of m) refl)
   where
-    of_one : m.numbers ≡ with_one_region n → m.numbers ≡ n
+    of_one : m.numbers ≡ with_one_region (marked n) → m.numbers ≡ marked n
     of_one one =
         let parts = and_parts _ _ (sym (ap (same_regions n) one) ∙ own) in
         let first = and_parts _ _ parts.0 in
         let sizes = one_region n.rpmb four (sym (eqb-true _ _ first.0)) (sym (eqb-true _ _ first.1))
         (sym (eqb-true _ _ parts.1)) in
-        one ∙ (λ i. record n { rpmb = sym sizes i })
+        one ∙ (λ i. record (marked n) { rpmb = sym sizes i })
 
 mended_from : (n : Numbers) (m : Option Mark) (newest : Option cells.Mark) → option_map mark_of m ≡ newest →
     HasNumbers n newest → (left : List Key) → Mended ≡ mending_kept (mending_from None (is_own n m)) left

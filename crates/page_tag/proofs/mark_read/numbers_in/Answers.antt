@@ -19,5 +19,7 @@ returns-clause-read c = λ fence n h.
       rpmb = slice_index body 22 ∷ slice_index body 28 ∷ slice_index body 29 ∷ slice_index body 30 ∷ [];
       slots = c.read_u16-3.ensures i;
       spare = c.read_u16-4.ensures i;
+      profile = 0;
+      serial = 1;
     })
     ∙ ap Some (numbers_read body c.units_in.result fence n h units)
