@@ -5,11 +5,12 @@ ghost use Rattle.byteorder.specs.Endian.{big_bytes};
 ghost use Rattle.ufs_spec.specs.CdbFields.{row_of, spelled_cdb, kind_of, no_limit};
 ghost use Rattle.ufs_spec.specs.Cdbs.{IsCdb, SpellsCdb, ToDevice, carried, cdb_bytes, direction_of};
 ghost use Rattle.ufs_spec.specs.Cdbs.{fixed_sense, length_of, residual_of};
-ghost use Rattle.ufs_spec.specs.Machine.{no_sense};
+ghost use Rattle.ufs_spec.specs.Begins.{nothing_wrong};
+ghost use Rattle.ufs_spec.specs.Refusals.{goes_beyond};
 ghost use Rattle.ufs_spec.specs.declared.configs.Numbers.{Numbers};
 ghost use Rattle.ufs_spec.specs.declared.scsi.TheConstants.Sense.{INVALID_FIELD};
 ghost use Rattle.ufs_spec.specs.declared.Cdb.{Cdb};
-ghost use Rattle.ufs_spec.specs.declared.Cdb.TheVariants.{Flush, Nothing, Read, SecurityIn, SecurityOut};
+ghost use Rattle.ufs_spec.specs.declared.Cdb.TheVariants.{Diagnose, Flush, Nothing, Prefetch, Read, SecurityIn, SecurityOut};
 ghost use Rattle.ufs_spec.specs.declared.Cdb.TheVariants.{Tell, Unmap, Write};
 ghost use Rattle.ufs_spec.specs.declared.Row.{Row};
 ghost use Rattle.ufs_spec.specs.declared.operations.Told.TheVariants as told;
@@ -61,7 +62,7 @@ pub fn worked_bytes()
         (0xA2 ∷ 0xEC ∷ 3 ∷ 1 ∷ 0 ∷ 0 ∷ 0 ∷ 0 ∷ 2 ∷ replicate 7 0) }
     ensures sense { fixed_sense INVALID_FIELD
         ≡ 0x70 ∷ 0 ∷ 5 ∷ 0 ∷ 0 ∷ 0 ∷ 0 ∷ 0x0A ∷ 0 ∷ 0 ∷ 0 ∷ 0 ∷ 0x24 ∷ replicate 5 0 }
-    ensures nothing { no_sense ≡ 0x70 ∷ 0 ∷ 0 ∷ 0 ∷ 0 ∷ 0 ∷ 0 ∷ 0x0A ∷ replicate 10 0 }
+    ensures nothing { fixed_sense nothing_wrong ≡ 0x70 ∷ 0 ∷ 0 ∷ 0 ∷ 0 ∷ 0 ∷ 0 ∷ 0x0A ∷ replicate 10 0 }
     // FUA stands in no WRITE(6), and IMMED in no WRITE(10); a bit of FUA is not one of IMMED; the byte behind a
     // READ(10) is zero; READ CAPACITY has no fields.
     ensures no_force { spelled_cdb (0x0A ∷ 0x28 ∷ replicate 14 0) ≡ None }
@@ -73,6 +74,54 @@ pub fn worked_bytes()
     ensures no_protocol { spelled_cdb (0xA0 ∷ 1 ∷ 2 ∷ replicate 13 0) ≡ None }
     ensures no_selection { spelled_cdb (0xA0 ∷ 0 ∷ 3 ∷ replicate 13 0) ≡ None }
     ensures no_operation { spelled_cdb (0x04 ∷ replicate 15 0) ≡ None }
+{}
+
+/// What some bytes spell that profile 1 alone takes: READ CAPACITY(16) for 32 bytes; MODE SENSE(10) of
+/// page 08h for 28 bytes, with DBD, and (6) of all pages and subpages for 255; INQUIRY of page B0h for
+/// 64; READ(16) of a block whose address has 64 bits, with FUA and DPO in group 10h; WRITE(16) with FUA;
+/// SYNCHRONIZE CACHE(16) with IMMED; PRE-FETCH of 512 blocks, in both forms; SEND DIAGNOSTIC with
+/// SELFTEST and PF; REPORT SUPPORTED OPERATION CODES of READ CAPACITY(16) with RCTD for 64.
+pub fn worked_bytes_of_profile_1()
+    ensures capacity { SpellsCdb (Tell told.LongCapacity 0 32)
+        (0x9E ∷ 0x10 ∷ replicate 8 0 ++ (0 ∷ 0 ∷ 0 ∷ 0x20 ∷ 0 ∷ 0 ∷ [])) }
+    ensures modes { SpellsCdb (Tell told.Modes 0x0800 28)
+        (0x5A ∷ 8 ∷ 8 ∷ 0 ∷ 0 ∷ 0 ∷ 0 ∷ 0 ∷ 0x1C ∷ replicate 7 0) }
+    ensures short_modes { SpellsCdb (Tell told.ShortModes 0x3FFF 255)
+        (0x1A ∷ 0 ∷ 0x3F ∷ 0xFF ∷ 0xFF ∷ replicate 11 0) }
+    ensures page { SpellsCdb (Tell told.Page 0xB0 64) (0x12 ∷ 1 ∷ 0xB0 ∷ 0 ∷ 0x40 ∷ replicate 11 0) }
+    ensures read_16 { SpellsCdb (Read 0x0102030405060708 1)
+        (0x88 ∷ 0x18 ∷ 1 ∷ 2 ∷ 3 ∷ 4 ∷ 5 ∷ 6 ∷ 7 ∷ 8 ∷ 0 ∷ 0 ∷ 0 ∷ 1 ∷ 0x10 ∷ 0 ∷ []) }
+    ensures write_16 { SpellsCdb (Write 9 2 true)
+        (0x8A ∷ 8 ∷ replicate 7 0 ++ (9 ∷ 0 ∷ 0 ∷ 0 ∷ 2 ∷ 0 ∷ 0 ∷ [])) }
+    ensures flush_16 { SpellsCdb (Flush true) (0x91 ∷ 2 ∷ replicate 14 0) }
+    ensures prefetch { SpellsCdb (Prefetch 5 512) (0x34 ∷ 2 ∷ 0 ∷ 0 ∷ 0 ∷ 5 ∷ 0 ∷ 2 ∷ 0 ∷ replicate 7 0) }
+    ensures prefetch_16 { SpellsCdb (Prefetch 5 512)
+        (0x90 ∷ 0 ∷ replicate 7 0 ++ (5 ∷ 0 ∷ 0 ∷ 2 ∷ 0 ∷ 0 ∷ 0 ∷ [])) }
+    ensures diagnostic { SpellsCdb (Diagnose true) (0x1D ∷ 0x14 ∷ replicate 14 0) }
+    ensures operations { SpellsCdb (Tell told.Operations 0x829E0010 64)
+        (0xA3 ∷ 0x0C ∷ 0x82 ∷ 0x9E ∷ 0 ∷ 0x10 ∷ 0 ∷ 0 ∷ 0 ∷ 0x40 ∷ replicate 6 0) }
+    // Another service action, another mode page, a subpage of one page, and a group above 10h are none.
+    ensures no_action { spelled_cdb (0x9E ∷ 0x12 ∷ replicate 14 0) ≡ None }
+    ensures no_mode_page { spelled_cdb (0x5A ∷ 0 ∷ 0x1C ∷ replicate 13 0) ≡ None }
+    ensures no_subpage { spelled_cdb (0x5A ∷ 0 ∷ 0x08 ∷ 0x01 ∷ replicate 12 0) ≡ None }
+    ensures no_group { spelled_cdb (0x28 ∷ 0 ∷ 0 ∷ 0 ∷ 0 ∷ 0 ∷ 0x11 ∷ replicate 9 0) ≡ None }
+    ensures no_length { spelled_cdb (0x1D ∷ 4 ∷ 0 ∷ 0 ∷ 1 ∷ replicate 11 0) ≡ None }
+    // Another service action of MAINTENANCE IN, a reserved bit beside the reporting options, and one behind the
+    // allocation length are none.
+    ensures no_maintenance { spelled_cdb (0xA3 ∷ 0x0A ∷ replicate 14 0) ≡ None }
+    ensures no_reporting { spelled_cdb (0xA3 ∷ 0x0C ∷ 0x08 ∷ replicate 13 0) ≡ None }
+    ensures no_control { spelled_cdb (0xA3 ∷ 0x0C ∷ replicate 9 0 ++ 1 ∷ replicate 4 0) ≡ None }
+{}
+
+/// DPO, a group number, EVPD and a page are what profile 0 does not take of commands that it has; FUA
+/// and IMMED it takes.
+pub fn profile_0_takes_fewer_bits()
+    ensures pushed_out { goes_beyond (0x28 ∷ 0x10 ∷ replicate 14 0) (row_of (0x28 ∷ [])) ≡ true }
+    ensures group { goes_beyond (0x2A ∷ 0 ∷ 0 ∷ 0 ∷ 0 ∷ 0 ∷ 1 ∷ replicate 9 0) (row_of (0x2A ∷ [])) ≡ true }
+    ensures page { goes_beyond (0x12 ∷ 1 ∷ replicate 14 0) (row_of (0x12 ∷ [])) ≡ true }
+    ensures page_code { goes_beyond (0x12 ∷ 0 ∷ 0x80 ∷ replicate 13 0) (row_of (0x12 ∷ [])) ≡ true }
+    ensures forced { goes_beyond (0x2A ∷ 8 ∷ replicate 14 0) (row_of (0x2A ∷ [])) ≡ false }
+    ensures immediate { goes_beyond (0x35 ∷ 2 ∷ replicate 14 0) (row_of (0x35 ∷ [])) ≡ false }
 {}
 
 /// A command may name each of four RPMB regions, and no other one. Bytes 1 to 3 say which: the protocol
@@ -90,15 +139,15 @@ pub fn four_regions()
 {}
 
 /// Some lengths and residuals: READ of 256 blocks; INQUIRY for 64 bytes, which has
-/// 36; REPORT LUNS for 64, where three units are listed; REQUEST SENSE for 4; READ CAPACITY; UNMAP
-/// with a list of 24 bytes, which the host sends; two blocks of which nothing was carried; a block
-/// of which 512 bytes were expected.
+/// 36; REPORT LUNS for 64, where there are 32; REQUEST SENSE for 4; UNMAP
+/// with a list of 24 bytes, which the host sends; PRE-FETCH of 512 blocks, which has none; two blocks
+/// of which nothing was carried; a block of which 512 bytes were expected.
 pub fn worked_residuals()
     ensures blocks { length_of 0 (Read 0 256) ≡ 256 * 4096 }
-    ensures inquiry { length_of 0 (Tell told.Identity 0 64) ≡ 36 }
-    ensures list { length_of 3 (Tell told.Units 0 64) ≡ 32 }
-    ensures request { length_of 0 (Tell told.Sense 0 4) ≡ 4 }
-    ensures capacity { length_of 0 (Tell told.Capacity 0 no_limit) ≡ 8 }
+    ensures inquiry { length_of 36 (Tell told.Identity 0 64) ≡ 36 }
+    ensures list { length_of 32 (Tell told.Units 0 64) ≡ 32 }
+    ensures request { length_of 18 (Tell told.Sense 0 4) ≡ 4 }
+    ensures prefetch { length_of 0 (Prefetch 0 512) ≡ 0 }
     ensures unmap { length_of 0 (Unmap 24) ≡ 24 }
     ensures direction { direction_of (Unmap 24) ≡ ToDevice }
     ensures nothing { residual_of 8192 0 ≡ record { flags = 0x20; count = 8192 } }

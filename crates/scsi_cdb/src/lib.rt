@@ -6,13 +6,13 @@ ghost use Rattle.std.specs.Prelude.{◌≡◌, IfOk, IfErr, None, Some};
 ghost use Rattle.ufs_spec.specs.Cdbs.{fixed_sense, IsKnownOperation, SpellsCdb};
 ghost use Rattle.ufs_spec.specs.CdbFields.{row_of};
 ghost use Rattle.ufs_spec.specs.declared.Cdb.{Cdb};
-ghost use Rattle.ufs_spec.specs.Machine.{no_sense};
 
-pub use demands::{address_of, blocks_of, length_of};
+pub use demands::{address_of, blocks_meant, blocks_of, length_of};
 pub use laws::{
-    four_regions, one_cdb, one_operation, worked_bytes, worked_lists, worked_residuals,
+    four_regions, one_cdb, one_operation, profile_0_takes_fewer_bits, worked_bytes,
+    worked_bytes_of_profile_1, worked_lists, worked_residuals,
 };
-pub use rows::{row_of, spelled};
+pub use rows::{goes_beyond, row_of, spelled, usage};
 pub use spelling::{bytes_of, ten_bytes_of};
 use ufs_spec::{Cdb, Sense};
 pub use unmap_list::{UnmapList, read_unmap_list};
@@ -54,12 +54,4 @@ pub fn sense_bytes(sense: &Sense) -> [u8; 18]
     bytes[12] = sense.asc;
     bytes[13] = sense.ascq;
     bytes
-}
-
-/// The eighteen bytes of fixed sense data that tell of nothing: what REQUEST SENSE answers (SPC,
-/// fixed format sense data).
-pub fn no_sense() -> [u8; 18]
-    ensures { result ≡ no_sense }
-{
-    sense_bytes(&Sense::default())
 }

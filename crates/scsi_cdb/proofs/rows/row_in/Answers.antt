@@ -6,10 +6,10 @@ use Rattle.scsi_cdb.proofs.rows.row_in.Goals as goal
 
 pub returns-in-None : goal.returns-in-None
 returns-in-None c =
-    none_there (is_row_of c.args.operation) c.args.rows.now (sym c.place_in.ensures.place ∙ c.in-None.is)
+    none_there (is_row_of c.args.bytes.now) c.args.rows.now (sym c.place_in.ensures.place ∙ c.in-None.is)
 
 pub returns-in-Some : goal.returns-in-Some
 returns-in-Some c =
     sym (slice_get-get_or c.args.rows.now c.in-Some.place _ c.in-Some.ensures.within)
-    ∙ found_there (is_row_of c.args.operation) c.args.rows.now c.in-Some.place
+    ∙ found_there (is_row_of c.args.bytes.now) c.args.rows.now c.in-Some.place
     (sym c.place_in.ensures.place ∙ c.in-Some.is)
