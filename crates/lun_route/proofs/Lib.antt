@@ -1,1 +1,3 @@
 pub mod Listed
+pub mod OperationRows
+pub mod ToldLengths

@@ -1,9 +1,9 @@
-//! What INQUIRY and REPORT LUNS tell (SPC).
-ghost use Rattle.std.specs.Prelude.{◌≡◌, ◌+◌, ◌*◌, ◌++◌, ◌≤◌, ℕ, map};
+//! What INQUIRY and REPORT LUNS tell (SPC), and READ CAPACITY(16) (SBC).
+ghost use Rattle.std.specs.Prelude.{◌≡◌, ◌+◌, ◌-◌, ◌*◌, ◌++◌, ◌∷◌, ◌≤◌, [], ℕ, map};
 ghost use Rattle.std.specs.List.{flat_map};
 ghost use Rattle.arrayvec.specs.ArrayVec.{array_vec_len};
 ghost use Rattle.byteorder.specs.Endian.{big_bytes};
-ghost use Rattle.ufs_spec.specs.Identities.{inquiry_bytes, luns_bytes, unit_entry};
+ghost use Rattle.ufs_spec.specs.Identities.{device_type, inquiry_bytes, luns_bytes, unit_entry};
 ghost use Rattle.ufs_spec.specs.Messages.{zeros};
 ghost use Rattle.ufs_spec.specs.Refusals.{units_listed};
 ghost use Rattle.ufs_spec.specs.declared.Cdb.TheVariants.{Tell};
@@ -12,16 +12,19 @@ ghost use Rattle.lun_route.specs.Lists.{numbered_entries, ordinary_entries, ordi
 ghost use Rattle.lun_route.specs.Lists.{other_entries, others_listed, well_known_entries};
 
 use arrayvec::ArrayVec;
-use ufs_spec::{Numbers, write_u32};
+use ufs_spec::{Numbers, write_u32, write_u64};
 
 /// REPORT LUNS selects the units of the configuration alone.
-const ORDINARY: u8 = 0x00;
+const ORDINARY: u32 = 0x00;
 
 /// REPORT LUNS selects the well-known units alone.
-const WELL_KNOWN: u8 = 0x01;
+const WELL_KNOWN: u32 = 0x01;
 
 /// How many well-known units there are.
 const WELL_KNOWN_UNITS: u8 = 4;
+
+/// How many bytes a block has.
+const BLOCK_LENGTH: u32 = 4096;
 
 /// The most bytes that REPORT LUNS tells: 8, and 8 for each of twelve units.
 const LIST_LENGTH: usize = 104;
@@ -29,13 +32,12 @@ const LIST_LENGTH: usize = 104;
 /// The bytes that REPORT LUNS tells.
 pub type UnitList = ArrayVec<u8, LIST_LENGTH>;
 
-/// What INQUIRY tells of the unit with this LUN byte (SPC, standard INQUIRY data).
-pub fn inquiry_bytes(byte: u8) -> [u8; 36]
-    ensures { result ≡ inquiry_bytes byte }
+/// What INQUIRY tells of a unit of this peripheral device type (SPC, standard INQUIRY data).
+pub fn inquiry_bytes(peripheral_type: u8) -> [u8; 36]
+    ensures { result ≡ inquiry_bytes peripheral_type }
 {
     let mut bytes = [0; 36];
-    // Peripheral device type: direct access, or a well-known unit.
-    bytes[0] = if byte < 8 { 0x00 } else { 0x1E };
+    bytes[0] = peripheral_type;
     // Version, response data format, and additional length.
     bytes[2] = 0x06;
     bytes[3] = 0x02;
@@ -49,9 +51,37 @@ pub fn inquiry_bytes(byte: u8) -> [u8; 36]
     bytes
 }
 
+/// The peripheral device type of the unit with this LUN byte: direct access, or a well-known unit (SPC).
+pub fn device_type(byte: u8) -> u8
+    ensures { result ≡ device_type byte }
+{
+    if byte < 8 { 0x00 } else { 0x1E }
+}
+
+/// What READ CAPACITY(16) tells of a unit of so many blocks (SBC, READ CAPACITY (16) parameter data). A
+/// unit has a block.
+pub fn long_capacity_bytes(blocks: u32) -> [u8; 32]
+    ensures { result ≡ big_bytes 8 (blocks - 1) ++ big_bytes 4 4096 ++ (0 ∷ 0 ∷ 0xC0 ∷ []) ++ zeros 17 }
+{
+    let mut bytes = [0; 32];
+    write_u64(&mut bytes, 0, u64::from(blocks.saturating_sub(1)));
+    write_u32(&mut bytes, 8, BLOCK_LENGTH);
+    // LBPME and LBPRZ: blocks may be unmapped, and read as zeros then.
+    bytes[14] = 0xC0;
+    bytes
+}
+
 /// How many units REPORT LUNS lists with this selection.
-pub fn units_listed(numbers: &Numbers, select: u8) -> u8
+pub fn units_listed(numbers: &Numbers, select: u32) -> u8
     ensures { (allocation : ℕ) → result ≡ units_listed numbers.now (Tell Units select allocation) }
+{
+    units_selected(numbers, select)
+}
+
+// The same, and how many they are at most.
+pub(crate) fn units_selected(numbers: &Numbers, select: u32) -> u8
+    ensures is { result ≡ units_listed numbers.now (Tell Units select 0) }
+    ensures few { result ≤ 12 }
 {
     let ordinary = numbers.units.len() as u8;
     match select {
@@ -63,7 +93,7 @@ pub fn units_listed(numbers: &Numbers, select: u8) -> u8
 
 /// What REPORT LUNS tells with this selection: 00h the units of the configuration, 01h the
 /// well-known ones, and else both (SPC, REPORT LUNS parameter data).
-pub fn luns_bytes(numbers: &Numbers, select: u8) -> UnitList
+pub fn luns_bytes(numbers: &Numbers, select: u32) -> UnitList
     ensures bytes { result.items ≡ luns_bytes numbers.now select }
     ensures count { (allocation : ℕ) →
         array_vec_len result ≡ 8 + 8 * units_listed numbers.now (Tell Units select allocation) }
@@ -87,7 +117,7 @@ fn header(units: u8) -> UnitList
 }
 
 // Puts the units of the configuration behind the others, if they are selected.
-fn put_ordinary(list: &mut UnitList, numbers: &Numbers, select: u8)
+fn put_ordinary(list: &mut UnitList, numbers: &Numbers, select: u32)
     requires { array_vec_len list.old ≤ 8 }
     ensures entries { list.new.items ≡ list.old.items ++ ordinary_entries numbers.now select }
     ensures length { array_vec_len list.new
@@ -111,7 +141,7 @@ fn put_units(list: &mut UnitList, units: u8)
 }
 
 // Puts the well-known units behind the others, if they are selected.
-fn put_others(list: &mut UnitList, select: u8)
+fn put_others(list: &mut UnitList, select: u32)
     requires { array_vec_len list.old ≤ 72 }
     ensures entries { list.new.items ≡ list.old.items ++ other_entries select }
     ensures length { array_vec_len list.new ≡ array_vec_len list.old + 8 * others_listed select }

@@ -1,9 +1,9 @@
 //! What LUN bytes name.
 ghost use Rattle.std.specs.Prelude.{◌≡◌, ◌==◌, ◌<◌, IfSome, length, position};
-ghost use Rattle.ufs_spec.specs.Refusals.{boot_unit, lun_of, takes_row, unit_named};
-ghost use Rattle.ufs_spec.specs.Refusals.{well_known};
+ghost use Rattle.ufs_spec.specs.Refusals.{attention_place, boot_unit, lun_of, takes, takes_row};
+ghost use Rattle.ufs_spec.specs.Refusals.{unit_named, well_known};
 ghost use Rattle.ufs_spec.specs.declared.UnitSpec.{UnitSpec as Spec};
-ghost use Rattle.lun_route.specs.Luns.{lun_in, lun_meant};
+ghost use Rattle.lun_route.specs.Luns.{lun_in, lun_meant, place_of};
 
 use ufs_spec::{Numbers, Row, UnitSpec};
 
@@ -24,7 +24,8 @@ pub enum Lun {
 
 /// What the LUN byte names: a unit of the configuration, or else a well-known unit.
 pub fn named_lun(numbers: &Numbers, byte: u8) -> Option<Lun>
-    ensures { lun_in result ≡ lun_of numbers.now byte }
+    ensures is { lun_in result ≡ lun_of numbers.now byte }
+    ensures place { IfSome (place_of (lun_in result)) (λ place. place < 12) }
 {
     if usize::from(byte) < numbers.units.len() {
         Some(Lun::Unit(byte))
@@ -35,7 +36,8 @@ pub fn named_lun(numbers: &Numbers, byte: u8) -> Option<Lun>
 
 // The well-known unit with this LUN byte.
 fn well_known(byte: u8) -> Option<Lun>
-    ensures { lun_in result ≡ well_known byte }
+    ensures is { lun_in result ≡ well_known byte }
+    ensures place { IfSome (place_of (lun_in result)) (λ place. place < 12) }
 {
     match byte {
         0x81 => Some(Lun::ReportLuns),
@@ -78,13 +80,34 @@ impl Lun {
         }
     }
 
-    /// Whether it takes the commands of this row, if there is one.
-    pub fn takes(self, row: Option<Row>) -> bool
-        ensures { result ≡ takes_row (lun_meant self) row }
+    /// Where its unit attention stands among those of all LUNs (SAM, unit attention condition): the units
+    /// by their numbers, and then 81h, B0h, C4h and D0h.
+    pub fn attention_place(self) -> usize
+        ensures { result ≡ attention_place (lun_meant self) }
+    {
+        match self {
+            Lun::Unit(unit) => usize::from(unit),
+            Lun::ReportLuns => 8,
+            Lun::Boot => 9,
+            Lun::Rpmb => 10,
+            Lun::Device => 11,
+        }
+    }
+
+    /// Whether it takes the commands of this row, if there is one and the device's profile has it.
+    pub fn takes(self, numbers: &Numbers, row: Option<Row>) -> bool
+        ensures { result ≡ takes_row numbers.now (lun_meant self) row }
     {
         let Some(row) = row else {
             return false;
         };
+        row.profile <= numbers.profile && self.takes_of_any_profile(row)
+    }
+
+    // The same where the profile has the row.
+    fn takes_of_any_profile(self, row: Row) -> bool
+        ensures { result ≡ takes (lun_meant self) row }
+    {
         let takers = row.takers;
         match self {
             Lun::Unit(_) => takers.units,
