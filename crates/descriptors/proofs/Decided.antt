@@ -4,7 +4,7 @@ use Rattle.ufs_spec.specs.Changes.{with_short}
 use Rattle.ufs_spec.specs.Exchanges.{short_reply}
 use Rattle.ufs_spec.specs.Queries.{Query, descriptor_told, setting_of}
 use Rattle.ufs_spec.specs.QueryAnswers.{query_answered, query_failed, query_passed}
-use Rattle.ufs_spec.specs.Refusals.{State, numbers_of, plain_now}
+use Rattle.ufs_spec.specs.Refusals.{State, mended, numbers_of, plain_now}
 use Rattle.ufs_spec.specs.declared.messages.Message.TheVariants as message
 use Rattle.ufs_spec.specs.declared.volatile.Volatile.{Volatile}
 use Rattle.descriptors.specs.Answers.{IsTold, Says, code_of, succeeds}
@@ -26,7 +26,7 @@ telling s tag q value now =
     (record { items = descriptor_told (numbers_of s) q })))
 
 told_now : (s : State) (tag : ℕ) (q : Query) (told : Told) →
-    IsTold (plain_now s) s.volatile q told →
+    IsTold (plain_now s) (numbers_of s) (mended s) s.volatile q told →
     query_passed s tag q (setting_of q) ≡ answered_by s tag q (answer.Told told)
 told_now s tag q told is =
     ap (query_passed s tag q) is.no_setting
@@ -34,7 +34,7 @@ told_now s tag q told is =
 
 pub decided : (s : State) (tag code : ℕ) (q : Query) (a : QueryAnswer) → code_of a ≡ code →
     succeeds a ≡ (code == 0x00) && not (q.asked.opcode == 0) →
-    Says (plain_now s) s.volatile q a → query_answered s tag q code ≡ answered_by s tag q a
+    Says (plain_now s) (numbers_of s) (mended s) s.volatile q a → query_answered s tag q code ≡ answered_by s tag q a
 decided s tag code q (answer.Code why) e f says =
     chosen false ((code == 0x00) && not (q.asked.opcode == 0)) _ _ f
     ∙ ap (λ k. with_short s (short_reply tag (query_failed tag q k))) (sym e)

@@ -2,6 +2,7 @@
 use Rattle.std.specs.Prelude.{◌≡◌, ℕ, Bool, true, false, Option, Some, None}
 use Rattle.ufs_spec.specs.Commands.{Command, SetBoot, SetPermanent}
 use Rattle.ufs_spec.specs.Plain.{Plain}
+use Rattle.ufs_spec.specs.declared.configs.Numbers.{Numbers}
 use Rattle.ufs_spec.specs.declared.volatile.Volatile.{Volatile}
 use Rattle.ufs_spec.specs.Queries.{Query, setting_of, value_told, volatile_after}
 use Rattle.descriptors.specs.Codes.{response_byte}
@@ -39,15 +40,15 @@ is_setting (answer.Code code) = false
 is_setting (answer.Told told) = false
 is_setting (answer.Setting s) = true
 
--- what is told of a query that is no setting, beside the bytes of a descriptor: what is volatile as the query leaves it,
--- and the value that is told of it
-pub record IsTold (p : Plain) (was : Volatile) (q : Query) (told : Told) : Type 0 where
+-- what is told of a query that is no setting, beside the bytes of a descriptor: what is volatile as the query leaves
+-- it, and the value that is told of it
+pub record IsTold (p : Plain) (n : Numbers) (mended : Bool) (was : Volatile) (q : Query) (told : Told) : Type 0 where
   pub no_setting : setting_of q ≡ None
-  pub value : told.value ≡ value_told p (volatile_after was q) q
-  pub volatile : told.volatile ≡ volatile_after was q
+  pub value : told.value ≡ value_told p (volatile_after n mended was q) q
+  pub volatile : told.volatile ≡ volatile_after n mended was q
 
 -- what the answer says beside its response code: what is told, or which setting the query is
-abbrev pub Says : Plain → Volatile → Query → QueryAnswer → Type 0
-Says p was q (answer.Code code) = Unit {0}
-Says p was q (answer.Told told) = IsTold p was q told
-Says p was q (answer.Setting s) = setting_of q ≡ Some (command_of s)
+abbrev pub Says : Plain → Numbers → (mended : Bool) → Volatile → Query → QueryAnswer → Type 0
+Says p n mended was q (answer.Code code) = Unit {0}
+Says p n mended was q (answer.Told told) = IsTold p n mended was q told
+Says p n mended was q (answer.Setting s) = setting_of q ≡ Some (command_of s)

@@ -1,4 +1,5 @@
 pub mod Answers
 pub mod Asks
 pub mod Codes
+pub mod Rows
 pub mod States

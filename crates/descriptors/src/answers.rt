@@ -3,13 +3,15 @@ ghost use Rattle.std.specs.Prelude.{◌≡◌, ◌==◌, ◌&&◌, ◌||◌, Boo
 ghost use Rattle.ufs_spec.specs.Keys.{flag_byte};
 ghost use Rattle.ufs_spec.specs.Plain.{Plain, apply};
 ghost use Rattle.ufs_spec.specs.Queries.{Query, flag_told, has_wrong_value};
-ghost use Rattle.ufs_spec.specs.Queries.{query_code, setting_of, sets_power_on, value_told, volatile_after};
+ghost use Rattle.ufs_spec.specs.Queries.{query_code, setting_of, sets_initializing, sets_power_on};
+ghost use Rattle.ufs_spec.specs.Queries.{value_told, volatile_after};
 ghost use Rattle.descriptors.specs.Answers.{Says, code_of, command_in, command_of, is_setting, succeeds};
 ghost use Rattle.descriptors.specs.Asks.{HasSettings, query_of};
 ghost use Rattle.ufs_spec.specs.declared.Volatile.{Volatile as Life};
 
 use crate::codes::{
-    PERMANENT_WP_EN, POWER_ON_WP_EN, READ_ATTRIBUTE, READ_FLAG, SET_FLAG, WRITE_ATTRIBUTE,
+    DEVICE_INIT, PERMANENT_WP_EN, POWER_ON_WP_EN, READ_ATTRIBUTE, READ_FLAG, SET_FLAG,
+    WRITE_ATTRIBUTE,
 };
 use crate::queries::{QueryRequest, QuerySettings};
 use crate::responses::ResponseCode;
@@ -76,28 +78,28 @@ pub fn answer(
         succeeds result ≡ (query_code numbers.now p may_accept (query_of query.now) == 0x00)
         && not (query.now.asked.opcode == 0) }
     ensures says { (p : Plain) → HasSettings settings p →
-        Says p settings.volatile (query_of query.now) result }
+        Says p numbers.now settings.is_mended settings.volatile (query_of query.now) result }
     // A query is a setting only if one can be accepted.
     ensures may { is_setting result ≡ true → may_accept ≡ true }
 {
     match first_line(numbers, settings.is_permanent, may_accept, query) {
         Some(code) => QueryAnswer::Code(code),
-        None => passed(settings, query),
+        None => passed(numbers, settings, query),
     }
 }
 
 // The answer to a query that no line refuses.
-fn passed(settings: QuerySettings, query: &QueryRequest) -> QueryAnswer
+fn passed(numbers: &Numbers, settings: QuerySettings, query: &QueryRequest) -> QueryAnswer
     requires { has_wrong_value (query_of query.now) ≡ false }
     ensures code { code_of result ≡ 0 }
     ensures succeeds { succeeds result ≡ true }
     ensures says { (p : Plain) → HasSettings settings p →
-        Says p settings.volatile (query_of query.now) result }
+        Says p numbers.now settings.is_mended settings.volatile (query_of query.now) result }
     ensures setting { is_setting result ≡ true → is_none (setting_of (query_of query.now)) ≡ false }
 {
     match setting_of(query) {
         Some(setting) => QueryAnswer::Setting(setting),
-        None => QueryAnswer::Told(told_at_once(settings, query)),
+        None => QueryAnswer::Told(told_at_once(numbers, settings, query)),
     }
 }
 
@@ -116,12 +118,13 @@ fn setting_of(query: &QueryRequest) -> Option<Setting>
 }
 
 // What is told of a query that is no setting.
-fn told_at_once(settings: QuerySettings, query: &QueryRequest) -> Told
+fn told_at_once(numbers: &Numbers, settings: QuerySettings, query: &QueryRequest) -> Told
     ensures value { (p : Plain) → HasSettings settings p → result.value ≡ value_told p
-        (volatile_after settings.volatile (query_of query.now)) (query_of query.now) }
-    ensures volatile { result.volatile ≡ volatile_after settings.volatile (query_of query.now) }
+        (volatile_after numbers.now settings.is_mended settings.volatile (query_of query.now)) (query_of query.now) }
+    ensures volatile { result.volatile
+        ≡ volatile_after numbers.now settings.is_mended settings.volatile (query_of query.now) }
 {
-    let volatile = volatile_after(settings.volatile, query);
+    let volatile = volatile_after(numbers, settings, query);
     let settings = QuerySettings {
         volatile,
         ..settings
@@ -133,12 +136,24 @@ fn told_at_once(settings: QuerySettings, query: &QueryRequest) -> Told
 }
 
 // What is volatile once the query passed.
-fn volatile_after(volatile: Volatile, query: &QueryRequest) -> Volatile
-    ensures { result ≡ volatile_after volatile (query_of query.now) }
+fn volatile_after(numbers: &Numbers, settings: QuerySettings, query: &QueryRequest) -> Volatile
+    ensures { result
+        ≡ volatile_after numbers.now settings.is_mended settings.volatile (query_of query.now) }
 {
+    let was = settings.volatile;
     Volatile {
-        power_on: volatile.power_on || sets_power_on(query),
+        power_on: was.power_on || sets_power_on(query),
+        initializing: (was.initializing || sets_initializing(numbers, query))
+            && !settings.is_mended,
+        ..was
     }
+}
+
+// Whether fDeviceInit is set, on a device that keeps note of it.
+fn sets_initializing(numbers: &Numbers, query: &QueryRequest) -> bool
+    ensures { result ≡ sets_initializing numbers.now (query_of query.now) }
+{
+    numbers.profile > 0 && query.asked.opcode == SET_FLAG && query.asked.idn == DEVICE_INIT
 }
 
 // Whether fPowerOnWPEn is set.
@@ -160,7 +175,7 @@ fn value_told(settings: QuerySettings, query: &QueryRequest) -> u32
     }
 }
 
-// Whether a flag is set. Nothing is left to initialize, so fDeviceInit never is.
+// Whether a flag is set.
 fn flag_told(settings: QuerySettings, idn: u8) -> bool
     ensures { (p : Plain) → HasSettings settings p →
         flag_byte result ≡ flag_told p settings.volatile idn }
@@ -168,6 +183,6 @@ fn flag_told(settings: QuerySettings, idn: u8) -> bool
     match idn {
         PERMANENT_WP_EN => settings.is_permanent,
         POWER_ON_WP_EN => settings.volatile.power_on,
-        _ => false,
+        _ => settings.volatile.initializing,
     }
 }

@@ -39,6 +39,9 @@ pub const DEVICE_DESCRIPTOR: u8 = 0x00;
 /// The descriptor of a unit, which its index names.
 pub const UNIT_DESCRIPTOR: u8 = 0x02;
 
+/// The geometry descriptor, which profile 1 alone has.
+pub const GEOMETRY_DESCRIPTOR: u8 = 0x07;
+
 /// The attribute bBootLunEn.
 pub const BOOT_LUN_EN: u8 = 0x00;
 

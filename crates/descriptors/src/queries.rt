@@ -23,4 +23,6 @@ pub struct QuerySettings {
     pub is_permanent: bool,
     /// What lasts until the next power cycle.
     pub volatile: Volatile,
+    /// Whether all that was lost is mended.
+    pub is_mended: bool,
 }

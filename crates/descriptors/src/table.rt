@@ -1,17 +1,18 @@
 //! The table by which a query is refused: the first line that applies decides.
 ghost use Rattle.std.specs.Prelude.{◌≡◌, ◌==◌, ◌&&◌, false, is_none, not, None};
+ghost use Rattle.ufs_spec.specs.Messages.{is_among};
 ghost use Rattle.ufs_spec.specs.Plain.{Plain};
 ghost use Rattle.ufs_spec.specs.Queries.{has_wrong_idn, has_wrong_index, has_wrong_opcode};
 ghost use Rattle.ufs_spec.specs.Queries.{has_wrong_size, has_wrong_value, is_not_writable};
-ghost use Rattle.ufs_spec.specs.Queries.{is_shut, is_unit_descriptor, query_code};
+ghost use Rattle.ufs_spec.specs.Queries.{DescriptorClass, idns, is_shut, is_unit_descriptor, query_code};
 ghost use Rattle.ufs_spec.specs.Queries.{sets_permanent};
 ghost use Rattle.descriptors.specs.Asks.{query_of};
 ghost use Rattle.descriptors.specs.Codes.{code_or_success};
 
 use crate::codes::{
-    BOOT_LUN_EN, CLEAR_FLAG, DEVICE_DESCRIPTOR, DEVICE_INIT, NO_OPERATION, PERMANENT_WP_EN,
-    POWER_ON_WP_EN, READ_ATTRIBUTE, READ_DESCRIPTOR, READ_FLAG, SET_FLAG, STANDARD_READ,
-    STANDARD_WRITE, TOGGLE_FLAG, UNIT_DESCRIPTOR, WRITE_ATTRIBUTE, WRITE_DESCRIPTOR,
+    BOOT_LUN_EN, CLEAR_FLAG, DEVICE_DESCRIPTOR, DEVICE_INIT, GEOMETRY_DESCRIPTOR, NO_OPERATION,
+    PERMANENT_WP_EN, POWER_ON_WP_EN, READ_ATTRIBUTE, READ_DESCRIPTOR, READ_FLAG, SET_FLAG,
+    STANDARD_READ, STANDARD_WRITE, TOGGLE_FLAG, UNIT_DESCRIPTOR, WRITE_ATTRIBUTE, WRITE_DESCRIPTOR,
 };
 use crate::queries::QueryRequest;
 use crate::responses::ResponseCode;
@@ -38,7 +39,7 @@ pub fn first_line(
         Some(ResponseCode::InvalidOpcode)
     } else if asked.opcode == NO_OPERATION {
         Some(ResponseCode::Success)
-    } else if has_wrong_idn(query) {
+    } else if has_wrong_idn(numbers, query) {
         Some(ResponseCode::InvalidIdn)
     } else if has_wrong_index(numbers, query) {
         Some(ResponseCode::InvalidIndex)
@@ -74,17 +75,28 @@ fn has_wrong_opcode(query: &QueryRequest) -> bool
 }
 
 // Line 3: there is no such descriptor, attribute or flag.
-fn has_wrong_idn(query: &QueryRequest) -> bool
-    ensures { result ≡ has_wrong_idn (query_of query.now) }
+fn has_wrong_idn(numbers: &Numbers, query: &QueryRequest) -> bool
+    ensures { result ≡ has_wrong_idn numbers.now (query_of query.now) }
 {
     let idn = query.asked.idn;
     match query.asked.opcode {
-        READ_DESCRIPTOR | WRITE_DESCRIPTOR => !matches!(idn, DEVICE_DESCRIPTOR | UNIT_DESCRIPTOR),
+        READ_DESCRIPTOR | WRITE_DESCRIPTOR => !has_descriptor(numbers, idn),
         READ_ATTRIBUTE | WRITE_ATTRIBUTE => idn != BOOT_LUN_EN,
         READ_FLAG | SET_FLAG | CLEAR_FLAG | TOGGLE_FLAG => {
             !matches!(idn, DEVICE_INIT | PERMANENT_WP_EN | POWER_ON_WP_EN)
         }
         _ => true,
+    }
+}
+
+// Whether a descriptor is there: that of the device, that of a unit, or the geometry of profile 1.
+fn has_descriptor(numbers: &Numbers, idn: u8) -> bool
+    ensures { result ≡ is_among (idns numbers.now DescriptorClass) idn }
+{
+    match idn {
+        DEVICE_DESCRIPTOR | UNIT_DESCRIPTOR => true,
+        GEOMETRY_DESCRIPTOR => numbers.profile != 0,
+        _ => false,
     }
 }
 

@@ -136,7 +136,7 @@ module _ (bytes : List ℕ) (small : AreBytes bytes) (p : Passes bytes) where
 
   fit_01 : AreFit 0x01
   fit_01 may sets = (
-    (sets, small 2, small 3, field_fits 4 12 bytes small, operation_long, part_fits bytes 16 16 small),
+    ((small 1, sets), small 2, small 3, field_fits 4 12 bytes small, operation_long, part_fits bytes 16 16 small),
     empty may,
   )
 

@@ -1,5 +1,6 @@
 -- The DATA OUT or the COMMAND that the bytes of a host spell is the one that their fields name.
-use Rattle.std.proofs.Common.{◌≡◌, ◌∙◌, ℕ, true, List, ◌++◌, drop, length, None, sym, ap, refl, subst, append_assoc}
+use Rattle.std.proofs.Common.{◌≡◌, ◌∙◌, ℕ, true, List, ◌++◌, bit_and, drop, length, None, sym, ap, refl, subst}
+use Rattle.std.proofs.Common.{append_assoc}
 use Rattle.arrayvec.specs.ArrayVec.{ArrayVec}
 use Rattle.ufs_spec.specs.Messages.{AreBytes, AreFlags, Spells, code_of, header, header_of, host_codes}
 use Rattle.ufs_spec.specs.Messages.{host_fault_of, is_among, padding, segment_of, spelling, transfer, zeros}
@@ -48,7 +49,7 @@ data_out_read bytes small kind d is front front_is around =
     (around.0 ∙ ap (λ (xs : List ℕ). xs ++ drop 32 bytes) its) around.1)
 
 pub command_read : (bytes : List ℕ) → AreBytes bytes → IsOfKind 0x01 bytes → (c : Command) → c ≡ command_in bytes
-    → AreFlags c.flags → (front : List ℕ) → front ≡ header_of (command_of c) → IsAround front bytes →
+    → AreFlags (bit_and c.flags 0xF8) → (front : List ℕ) → front ≡ header_of (command_of c) → IsAround front bytes →
     Spells (command_of c) bytes
 command_read bytes small kind c is flags front front_is around =
     let same : command_of c ≡ named_message bytes =
@@ -98,12 +99,12 @@ command_kind bytes flags lun tag expected cdb spells =
 
 pub command_around : (bytes : List ℕ) (flags lun tag expected : ℕ) (cdb : List ℕ) →
     Spells (message.Command flags lun tag expected cdb) bytes → (c : Command) → c ≡ command_in bytes →
-    (front : List ℕ) → front ≡ header_of (command_of c) → AreFlags c.flags × IsAround front bytes
+    (front : List ℕ) → front ≡ header_of (command_of c) → AreFlags (bit_and c.flags 0xF8) × IsAround front bytes
 command_around bytes flags lun tag expected cdb spells c is front front_is =
     let m : Message = message.Command flags lun tag expected cdb in
     let kind : IsOfKind 0x01 bytes = command_kind bytes flags lun tag expected cdb spells in
     let same : m ≡ command_of c =
     sym (named bytes m spells).same ∙ ap (λ (k : ℕ). named_by k bytes) kind.1 ∙ ap command_of (sym is) in (
-      subst HasSets same spells.0.0,
+      subst HasSets same spells.0.0.1,
       subst (λ (xs : List ℕ). IsAround xs bytes) (sym (front_is ∙ sym (ap header_of same))) (around_of bytes m spells),
     )

@@ -1,3 +1,4 @@
 pub mod HostMessages
 pub mod Reading
+pub mod Rejects
 pub mod Replies

@@ -1,6 +1,6 @@
 -- What the fields of a message's bytes name, whether or not the bytes spell it.
 use Rattle.std.specs.Prelude.{◌≡◌, ◌≤◌, true, length, ◌==◌, ◌+◌, ℕ, List, slice_index, slice_range}
-use Rattle.std.specs.Prelude.{if◌then◌else◌, Option, Some, None, [], ◌∷◌, ◌++◌, drop}
+use Rattle.std.specs.Prelude.{bit_and, if◌then◌else◌, Option, Some, None, [], ◌∷◌, ◌++◌, drop}
 use Rattle.ufs_bytes.specs.Fields.{field_at}
 use Rattle.ufs_spec.specs.Messages.{AreFlags, IsAmong, IsQueryFunction, code_of, is_among, known_codes, may_have}
 use Rattle.ufs_spec.specs.Messages.{padding, segment_length, zeros}
@@ -92,10 +92,10 @@ named_by code bytes =
 abbrev pub named_message : List ℕ → Message
 named_message bytes = named_by (code_of bytes) bytes
 
--- the fields that do not take every value of a byte are in their sets: the flags of a COMMAND and a RESPONSE, the
--- function of a query, the response and the status of a RESPONSE
+-- the fields that do not take every value of a byte are in their sets: the direction of a COMMAND, the flags of a
+-- RESPONSE, the function of a query, the response and the status of a RESPONSE
 abbrev pub HasSets : Message → Type 0
-HasSets (Command flags lun tag expected cdb) = AreFlags flags
+HasSets (Command flags lun tag expected cdb) = AreFlags (bit_and flags 0xF8)
 HasSets (QueryRequest tag function asked size value «data») = IsQueryFunction function
 HasSets (Response flags lun tag response status residual sense) =
     AreFlags flags × IsAmong (0x00 ∷ 0x01 ∷ []) response × IsAmong (0x00 ∷ 0x02 ∷ 0x08 ∷ 0x28 ∷ []) status

@@ -94,8 +94,8 @@ fn is_known(code: u8) -> bool
     is_of_host(code) || is_of_device(code)
 }
 
-// Whether this is the code of a kind that a host sends.
-fn is_of_host(code: u8) -> bool
+/// Whether this is the code of a kind that a host sends.
+pub fn is_of_host(code: u8) -> bool
     ensures { result ≡ is_among host_codes code }
 {
     matches!(

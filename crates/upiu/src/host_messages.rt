@@ -8,7 +8,7 @@ ghost use Rattle.upiu.specs.HostMessages.{command_in, command_of, data_out_in, d
 
 use crate::checks::{HEADER, code, host_fault, stated_length};
 use crate::headers::{command_fields, transfer_header};
-use crate::reading::{are_flags, surround};
+use crate::reading::{are_command_flags, surround};
 use ufs_bytes::read_u32;
 use ufs_spec::codes::{COMMAND, DATA_OUT};
 
@@ -27,7 +27,7 @@ pub struct DataOut {
 /// A COMMAND, which opens a task (JESD220, 10.7.1).
 #[derive(Clone, Copy)]
 pub struct Command {
-    /// 20h for a write, 40h for a read, else 0.
+    /// 20h for a write, 40h for a read, else 0; and in bits 2..0 its priority and its task attribute.
     pub flags: u8,
     pub lun: u8,
     /// The task tag.
@@ -72,7 +72,7 @@ pub fn read_command(bytes: &[u8]) -> Option<Command>
         return None;
     }
     let said = command_in(bytes);
-    if are_flags(said.flags) && surround(&command_header(&said), bytes) {
+    if are_command_flags(said.flags) && surround(&command_header(&said), bytes) {
         Some(said)
     } else {
         None

@@ -4,6 +4,7 @@ ghost use Rattle.ufs_spec.specs.Messages.{host_fault_of, read_fault_of, spelling
 ghost use Rattle.ufs_spec.specs.declared.HostFault.{HostFault};
 ghost use Rattle.ufs_spec.specs.declared.Message.{Message};
 ghost use Rattle.ufs_spec.specs.declared.Message.TheVariants.{Command, NopIn, NopOut, ReadyToTransfer, Response};
+ghost use Rattle.upiu.specs.Rejects.{reject_of};
 
 /// No two messages have one spelling.
 pub fn one_spelling()
@@ -36,4 +37,18 @@ pub fn worked_faults()
     ensures taken { host_fault_of (0 ∷ 0 ∷ 0 ∷ 5 ∷ zeros 28) ≡ None }
     ensures code { host_fault_of (0x20 ∷ 0 ∷ 0 ∷ 5 ∷ zeros 28) ≡ Some HostFault.Code }
     ensures no_kind { read_fault_of (0x3F ∷ 0 ∷ 0 ∷ 5 ∷ zeros 28) ≡ Some HostFault.Code }
+{}
+
+/// The REJECT of a message with a code that no kind has, with LUN 2 and tag 5; that of a kind that a
+/// device sends, and of one with a digest bit and an extra header segment; and none for a NOP OUT and for
+/// 31 bytes.
+pub fn worked_rejects()
+    ensures no_kind { reject_of (0x3E ∷ 0 ∷ 2 ∷ 5 ∷ zeros 28)
+        ≡ Some ((0x3F ∷ 0 ∷ 2 ∷ 5 ∷ 0 ∷ 0 ∷ 1 ∷ zeros 5) ++ (1 ∷ zeros 19)) }
+    ensures of_a_device { reject_of (0x20 ∷ 0 ∷ 0 ∷ 5 ∷ zeros 28)
+        ≡ Some ((0x3F ∷ 0 ∷ 0 ∷ 5 ∷ 0 ∷ 0 ∷ 1 ∷ zeros 5) ++ (1 ∷ zeros 19)) }
+    ensures with_more { reject_of (0x8F ∷ 0 ∷ 0 ∷ 5 ∷ 0 ∷ 0 ∷ 0 ∷ 0 ∷ 1 ∷ zeros 23)
+        ≡ Some ((0x3F ∷ 0 ∷ 0 ∷ 5 ∷ 0 ∷ 0 ∷ 1 ∷ zeros 5) ++ (1 ∷ zeros 19)) }
+    ensures request { reject_of (0 ∷ 0 ∷ 0 ∷ 5 ∷ zeros 28) ≡ None }
+    ensures short { reject_of (0x3E ∷ 0 ∷ 2 ∷ 5 ∷ zeros 27) ≡ None }
 {}

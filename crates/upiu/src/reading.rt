@@ -1,5 +1,5 @@
 //! Reading a message.
-ghost use Rattle.std.specs.Prelude.{◌≡◌, ◌≤◌, ◌+◌, ◌↔◌, [], ◌∷◌, drop, length, IfErr, IfOk, IsTrue};
+ghost use Rattle.std.specs.Prelude.{◌≡◌, ◌≤◌, ◌+◌, ◌↔◌, [], ◌∷◌, bit_and, drop, length, IfErr, IfOk, IsTrue};
 ghost use Rattle.ufs_spec.specs.Messages.{code_of, host_fault_of, known_codes, read_fault_of, padding};
 ghost use Rattle.ufs_spec.specs.Messages.{is_among, segment_length, zeros, IsAmong, Spells};
 ghost use Rattle.ufs_spec.specs.declared.HostFault.{HostFault};
@@ -10,6 +10,10 @@ use crate::checks::{HEADER, first_fault, host_fault, stated_length};
 use crate::fields::message_in;
 use crate::headers::header_bytes;
 use ufs_spec::{HostFault, Message};
+
+/// The flags of a COMMAND that say where its data go. Below them are its priority, bit 2, and its task
+/// attribute, bits 1..0.
+const DIRECTION: u8 = 0xF8;
 
 /// Reads a message of any kind (JESD220, 10.5 to 10.7).
 ///
@@ -95,7 +99,7 @@ fn has_sets(message: &Message) -> bool
     ensures { IsTrue result ↔ HasSets message.now }
 {
     match message {
-        Message::Command { flags, .. } => are_flags(*flags),
+        Message::Command { flags, .. } => are_command_flags(*flags),
         Message::QueryRequest { function, .. } | Message::QueryResponse { function, .. } => {
             is_query_function(*function)
         }
@@ -109,8 +113,15 @@ fn has_sets(message: &Message) -> bool
     }
 }
 
-// Whether these are flags of a COMMAND or a RESPONSE.
-pub fn are_flags(flags: u8) -> bool
+// Whether these are flags of a COMMAND, whatever is below the direction of its data.
+pub fn are_command_flags(flags: u8) -> bool
+    ensures { result ≡ is_among (0x00 ∷ 0x20 ∷ 0x40 ∷ []) (bit_and flags 0xF8) }
+{
+    are_flags(flags & DIRECTION)
+}
+
+// Whether these are flags of the direction of a COMMAND's data, or of a RESPONSE.
+fn are_flags(flags: u8) -> bool
     ensures { result ≡ is_among (0x00 ∷ 0x20 ∷ 0x40 ∷ []) flags }
 {
     matches!(flags, 0x00 | 0x20 | 0x40)
