@@ -18,3 +18,4 @@ pub mod SameDevice
 pub mod Settled
 pub mod ShortExchanges
 pub mod Unmended
+pub mod VolatileChanges

@@ -5,14 +5,16 @@ use Rattle.std.specs.Prelude.{length, map, min, nat_le, not, option_map, positio
 use Rattle.std.specs.Prelude.{◌&&◌, ◌*◌, ◌++◌, ◌+◌, ◌-◌, ◌<◌, ◌||◌, ◌∷◌, ◌≡◌, ◌≢◌, ◌≤◌}
 use Rattle.std.specs.List.{list_any}
 use Rattle.byteorder.specs.Endian.{big_bytes}
-use Rattle.ufs_spec.specs.Begins.{no_sense}
+use Rattle.ufs_spec.specs.Cdbs.{fixed_sense}
 use Rattle.ufs_spec.specs.Commands.{Command}
 use Rattle.ufs_spec.specs.declared.exchanges.Status.TheVariants.{CheckCondition}
 use Rattle.ufs_spec.specs.FrameRequests.{first_page, pages_named, reads_area}
 use Rattle.ufs_spec.specs.Frames.{Frame}
-use Rattle.ufs_spec.specs.Identities.{inquiry_bytes, luns_bytes}
+use Rattle.ufs_spec.specs.Identities.{inquiry_bytes, luns_bytes, modes_told, operations_told, page_bytes}
+use Rattle.ufs_spec.specs.Identities.{short_modes_told}
 use Rattle.ufs_spec.specs.Keys.{IsCommand, IsKey, IsPlain, area_key, below, content, group_of}
 use Rattle.ufs_spec.specs.Ledger.{all_contents, next_number}
+use Rattle.ufs_spec.specs.Messages.{zeros}
 use Rattle.ufs_spec.specs.Moves.{Accept, IsAllowedMove, Keep, LetGoAll, Move, Release, is_pin_of, moved, look_now}
 use Rattle.ufs_spec.specs.Plain.{CanApply, Plain, greatest_command, region_of, regions, shape_of_numbers, zero_block}
 use Rattle.ufs_spec.specs.Rpmb.{Region, applied, rpmb_outcome}
@@ -119,12 +121,21 @@ handed_over d k region =
 abbrev pub capacity_told : ℕ → List ℕ
 capacity_told blocks = big_bytes 4 (blocks - 1) ++ big_bytes 4 4096
 
+-- the same in 32 bytes, and that blocks may be unmapped and read as zeros then (SBC, READ CAPACITY(16))
+abbrev pub long_capacity_told : ℕ → List ℕ
+long_capacity_told blocks = big_bytes 8 (blocks - 1) ++ big_bytes 4 4096 ++ (0 ∷ 0 ∷ 0xC0 ∷ []) ++ zeros 17
+
 -- what is told of a device with this configuration and of its units (SPC, SBC)
 abbrev pub identity_bytes : Numbers → Identity → List ℕ
-identity_bytes n identity.Sense = no_sense
+identity_bytes n (identity.Sense told) = fixed_sense told
 identity_bytes n (identity.Capacity blocks) = capacity_told blocks
-identity_bytes n (identity.Unit lun) = inquiry_bytes lun
+identity_bytes n (identity.Unit type) = inquiry_bytes type
 identity_bytes n (identity.Luns select) = luns_bytes n select
+identity_bytes n (identity.LongCapacity blocks) = long_capacity_told blocks
+identity_bytes n (identity.Page lun page) = page_bytes n lun page
+identity_bytes n (identity.Modes select guarded) = modes_told select guarded
+identity_bytes n (identity.ShortModes select guarded) = short_modes_told select guarded
+identity_bytes n (identity.Operations select) = operations_told select
 
 -- the task at this position keeps what comes from there: what it tells, or what waits
 abbrev pub source_kept : Numbers → DeviceCore → ℕ → Source → DeviceCore

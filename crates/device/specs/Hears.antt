@@ -13,6 +13,7 @@ use Rattle.ufs_spec.specs.declared.exchanges.Status.{Status}
 use Rattle.task_set.specs.Kept.{OpenTask, newly_open}
 use Rattle.task_set.specs.declared.tasks.TaskEvent.{TaskEvent}
 pub use Rattle.device.specs.Calls.{with_event}
+use Rattle.device.specs.Attentions.{volatile_left}
 use Rattle.device.specs.Calls.{HasBegun, HasGathered, lock_told}
 use Rattle.device.specs.Frames.{HasDecided, HasFilled, frames_brought, region_brought, sent_kept}
 use Rattle.task_set.specs.declared.tasks.Wanted.{Wanted}
@@ -44,7 +45,8 @@ with_short d short = record d { shorts = d.shorts ++ short ∷ [] }
 abbrev pub short_answer : DeviceCore → ℕ → Result Unit HostFault
 short_answer d tag = short_allowed d.tasks d.shorts tag
 
--- a command became a task, refused or not: how far it is, and what its plan made of the layer
+-- a command became a task, refused or not: how far it is, and what its plan made of the layer and of the attention of
+-- its LUN
 pub record IsTaskOpened (before after : DeviceCore) (flags lun tag expected : ℕ) (bytes : List ℕ) : Type 0
   where
     pub layer : Core
@@ -68,7 +70,7 @@ pub record IsTaskOpened (before after : DeviceCore) (flags lun tag expected : �
           frames = frames_brought todo;
           region = region_brought todo;
         })))
-        { ftl = layer }) todo
+        { ftl = layer; volatile = volatile_left t.numbers lun todo before.volatile }) todo
 
 -- Data
 

@@ -1,3 +1,4 @@
+pub mod Attentions
 pub mod Bare
 pub mod Calls
 pub mod Describes

@@ -1,5 +1,5 @@
 -- Task management over what the device keeps (JESD220, 10.7.6 and 10.7.7).
-use Rattle.std.specs.Prelude.{ℕ, ◌==◌, is_none, Bool, if◌then◌else◌, List, length, [], ◌∷◌, Some, None}
+use Rattle.std.specs.Prelude.{ℕ, ◌==◌, is_none, true, Bool, if◌then◌else◌, List, length, [], ◌∷◌, Some, None}
 use Rattle.std.specs.List.{list_any}
 use Rattle.ufs_spec.specs.Exchanges.{Task, empty_registers}
 use Rattle.ufs_spec.specs.Management.{service_found, without_tasks}
@@ -8,11 +8,13 @@ use Rattle.ufs_spec.specs.Moves.{LetGoAll, Release, moved}
 use Rattle.ufs_spec.specs.Refusals.{State, lun_of}
 use Rattle.ufs_spec.specs.Translation.{Translation}
 use Rattle.ufs_spec.specs.declared.configs.Numbers.{Numbers}
+use Rattle.ufs_spec.specs.declared.volatile.Volatile.{Volatile}
 use Rattle.ftl_core.specs.Public.{Claims, Core, with_claimed}
 use Rattle.rpmb.specs.Kept.{Machine, machine_at, with_machine}
 use Rattle.task_set.specs.Tasks.{brings_frames, is_meant, is_task_meant}
 use Rattle.task_set.specs.declared.frames.Frames.{Frames}
 use Rattle.task_set.specs.declared.tasks.Meant.{Meant}
+use Rattle.device.specs.Attentions.{attention_set}
 use Rattle.device.specs.Kept.{DeviceCore, IsLayerWith}
 use Rattle.device.specs.Replies.{without_task}
 use Rattle.device.specs.declared.management.Managing.{Managing}
@@ -47,6 +49,12 @@ service_by d (managing.Aborts aborted) = 0x00
 service_by d (managing.Asks asked) = service_found (list_any (is_task_meant asked) d.tasks)
 service_by d managing.NotSupported = 0x04
 service_by d managing.NoUnit = 0x09
+
+-- what is volatile once this function was asked for on the LUN with this byte: a logical unit reset leaves an attention,
+-- if there is such a LUN
+abbrev pub reset_left : Numbers → (lun function : ℕ) → Volatile → Volatile
+reset_left n lun function volatile =
+    if function == 0x08 then attention_set n lun true volatile else volatile
 
 -- the specified task is one of those that are meant
 abbrev pub means : Meant → Task → Bool

@@ -5,12 +5,12 @@ use Rattle.std.specs.Int.{div_ceil}
 use Rattle.ufs_spec.specs.CdbFields.{spelled_cdb}
 use Rattle.ufs_spec.specs.Cdbs.{length_of}
 use Rattle.ufs_spec.specs.Begins.{unit_or_first}
-use Rattle.ufs_spec.specs.Exchanges.{invalid_field, not_ready, sequence_error, write_protected}
+use Rattle.ufs_spec.specs.Exchanges.{invalid_field, not_ready, self_test_failed, sequence_error, write_protected}
 use Rattle.ufs_spec.specs.declared.exchanges.Status.TheVariants.{Busy}
 use Rattle.ufs_spec.specs.Keys.{data_key}
 use Rattle.ufs_spec.specs.Machine.{IsCdbIn}
-use Rattle.ufs_spec.specs.Refusals.{Line, Request, State, has_other_response, is_crowded, is_refused_write, is_unready}
-use Rattle.ufs_spec.specs.Refusals.{lacks_response, line, numbers_of, refusal, units_listed}
+use Rattle.ufs_spec.specs.Refusals.{Line, Request, State, fails_test, has_other_response, is_crowded, is_refused_write}
+use Rattle.ufs_spec.specs.Refusals.{is_unready, lacks_response, line, numbers_of, refusal, told_count}
 use Rattle.ufs_spec.specs.declared.configs.Numbers.{Numbers}
 use Rattle.ufs_spec.specs.declared.configs.UnitSpec.{UnitSpec}
 use Rattle.ufs_spec.specs.declared.operations.Told.{Told}
@@ -45,6 +45,7 @@ abbrev pub lines_now : State → Option UnitSpec → Cdb → List Line
 lines_now s unit command =
     line (is_unready s command) not_ready
     ∷ line (is_refused_write s unit command) write_protected
+    ∷ line (fails_test s command) self_test_failed
     ∷ line (lacks_response s command) sequence_error
     ∷ line (has_other_response s command) invalid_field
     ∷ line (is_crowded s command) Busy
@@ -64,16 +65,21 @@ gather_plan purpose size slots =
     if size == 0 then plan.Nothing 0
     else plan.Gather (record { purpose = purpose; length = size; came = 0 }) slots
 
--- how many bytes of data a command has on a device with this configuration
-abbrev pub length_on : Numbers → Cdb → ℕ
-length_on n command = length_of (units_listed n command) command
+-- how many bytes of data a command to this LUN has on a device with this configuration
+abbrev pub length_on : Numbers → (lun : ℕ) → Cdb → ℕ
+length_on n lun command = length_of (told_count n lun command) command
 
 -- what a command about this target tells
 abbrev pub identity_of : Target → Told → ℕ → Identity
-identity_of to told.Sense select = identity.Sense
-identity_of to told.Identity select = identity.Unit to.lun
+identity_of to told.Sense select = identity.Sense to.sense
+identity_of to told.Identity select = identity.Unit to.device_type
 identity_of to told.Capacity select = identity.Capacity (blocks_in to.spec)
 identity_of to told.Units select = identity.Luns select
+identity_of to told.LongCapacity select = identity.LongCapacity (blocks_in to.spec)
+identity_of to told.Page select = identity.Page to.lun select
+identity_of to told.Modes select = identity.Modes select to.is_guarded
+identity_of to told.ShortModes select = identity.ShortModes select to.is_guarded
+identity_of to told.Operations select = identity.Operations select
 
 -- what a command does that sends so many bytes from there
 abbrev pub send_plan : ℕ → Source → ℕ → Plan
@@ -88,11 +94,13 @@ flush_plan immediate = if immediate then plan.Nothing 0 else plan.Flush
 abbrev pub plan_of : Numbers → Target → ℕ → Cdb → Plan
 plan_of n to expected cdb.Nothing = plan.Nothing 0
 plan_of n to expected (cdb.Tell what select allocation) =
-    send_plan expected (source.Identity (identity_of to what select)) (length_on n (cdb.Tell what select allocation))
+    send_plan expected (source.Identity (identity_of to what select)) (length_on n to.lun (cdb.Tell what select allocation))
 plan_of n to expected (cdb.Read address blocks) = read_plan (unit_or_first to.unit) expected address blocks
 plan_of n to expected (cdb.Write address blocks forced) =
     gather_plan (ForWrite (unit_or_first to.unit) address blocks forced) (4096 * blocks) blocks
 plan_of n to expected (cdb.Flush immediate) = flush_plan immediate
+plan_of n to expected (cdb.Prefetch address blocks) = plan.Nothing 0
+plan_of n to expected (cdb.Diagnose tests) = plan.Nothing 0
 plan_of n to expected (cdb.Unmap list) = gather_plan (ForUnmap (unit_or_first to.unit)) list (list_slots n list)
 plan_of n to expected (cdb.SecurityOut region size) = gather_plan (ForFrames region) size frame_slots
 plan_of n to expected (cdb.SecurityIn region size) = send_plan expected (source.Response region) size

@@ -1,11 +1,11 @@
 -- What a query is answered, and what a setting makes of what the device keeps (JESD220, 10.7.8, 10.7.9 and 14).
-use Rattle.std.specs.Prelude.{◌≡◌, ℕ, ◌==◌, ◌&&◌, nat_le, not, true, List, [], Some, None}
+use Rattle.std.specs.Prelude.{◌≡◌, ℕ, ◌==◌, ◌&&◌, Bool, nat_le, not, true, List, [], Some, None}
 use Rattle.ufs_spec.specs.Ledger.{next_number}
 use Rattle.ufs_spec.specs.Moves.{Accept, Claim, IsAllowedMove, moved}
 use Rattle.ufs_spec.specs.Plain.{apply, Plain}
 use Rattle.ufs_spec.specs.Queries.{Query, query_code, setting_of, value_told}
 use Rattle.ufs_spec.specs.QueryAnswers.{may_set}
-use Rattle.ufs_spec.specs.Refusals.{State, numbers_of, plain_now}
+use Rattle.ufs_spec.specs.Refusals.{State, mended, numbers_of, plain_now}
 use Rattle.ufs_spec.specs.Translation.{Translation, free_slots}
 use Rattle.descriptors.specs.Answers.{Says, code_of, command_of, is_setting, succeeds}
 use Rattle.descriptors.specs.Codes.{response_byte}
@@ -31,9 +31,10 @@ use Rattle.ufs_spec.specs.declared.volatile.Volatile.{Volatile}
 
 -- The answer
 
--- the settings and flags that a query finds
-abbrev pub settings_found : DeviceCore → QuerySettings
-settings_found d = record { boot = d.boot; is_permanent = d.is_permanent; volatile = d.volatile }
+-- the settings and flags that a query finds, on a device that is mended or not
+abbrev pub settings_found : (mended : Bool) → DeviceCore → QuerySettings
+settings_found mended d =
+    record { boot = d.boot; is_permanent = d.is_permanent; volatile = d.volatile; is_mended = mended }
 
 -- the answer is the right one to the query in this state: its response code is that of the table, it says what it has
 -- to, and it is a setting only if one can be accepted
@@ -41,7 +42,7 @@ pub record IsAnswerTo (s : State) (q : Query) (x : QueryAnswer) : Type 0 where
   pub code : code_of x ≡ query_code (numbers_of s) (plain_now s) (may_set s) q
   pub succeeds_is : succeeds x ≡
       (query_code (numbers_of s) (plain_now s) (may_set s) q == 0x00) && not (q.asked.opcode == 0)
-  pub says : Says (plain_now s) s.volatile q x
+  pub says : Says (plain_now s) (numbers_of s) (mended s) s.volatile q x
   pub may : is_setting x ≡ true → may_set s ≡ true
 
 -- What it makes of the device

@@ -1,8 +1,9 @@
 //! The checks of a command, in the order in which the first that applies ends it.
 ghost use Rattle.std.specs.Prelude.{◌≡◌, ◌≤◌, ◌<◌, ◌^◌, ℕ, ◌*◌, ◌==◌, ◌&&◌, false, not, option_map, IfErr, IfOk, IfSome, IsOk, None};
-ghost use Rattle.std.specs.Prelude.{Some};
+ghost use Rattle.std.specs.Prelude.{Some, ◌||◌};
 ghost use Rattle.ufs_spec.specs.Configs.{command_blocks};
 ghost use Rattle.ufs_spec.specs.Plain.{greatest_command};
+ghost use Rattle.ufs_spec.specs.declared.scsi.Cdb.TheVariants.{Tell};
 ghost use Rattle.ufs_spec.specs.Translation.{Translation};
 ghost use Rattle.ufs_spec.specs.CdbFields.{spelled_in};
 ghost use Rattle.ufs_spec.specs.Cdbs.{address_of, blocks_of, direction_of};
@@ -12,11 +13,11 @@ ghost use Rattle.ufs_spec.specs.Refusals.{has_wrong_list};
 ghost use Rattle.ufs_spec.specs.Refusals.{is_crowded, is_frames, is_past, is_protected, is_refused_write};
 ghost use Rattle.ufs_spec.specs.Refusals.{is_too_long, lacks_data, lacks_region, lacks_response, lines_for};
 ghost use Rattle.ufs_spec.specs.Refusals.{is_ready_for, is_unready, tests_unit};
-ghost use Rattle.ufs_spec.specs.Refusals.{needs_mended, numbers_of, slots_needed, unit_numbers_of, units_listed};
-ghost use Rattle.ufs_spec.specs.Refusals.{writes};
+ghost use Rattle.ufs_spec.specs.Refusals.{fails_test, goes_beyond, is_guarded, lacks_operation, lacks_page};
+ghost use Rattle.ufs_spec.specs.Refusals.{needs_mended, numbers_of};
+ghost use Rattle.ufs_spec.specs.Refusals.{slots_needed, told_count, unit_numbers_of, wants_saved, writes};
 ghost use Rattle.ufs_spec.specs.Keys.{data_key};
 ghost use Rattle.ufs_spec.specs.declared.configs.Numbers.{Numbers};
-ghost use Rattle.ufs_spec.specs.declared.scsi.Cdb.TheVariants.{Tell};
 ghost use Rattle.ftl_core.specs.Public.{Describes as IsLayer};
 ghost use Rattle.device.specs.Bare.{IsBare};
 ghost use Rattle.device.specs.Plans.{IsPlanned, IsRequest, identity_of, lines_now};
@@ -27,13 +28,15 @@ use crate::plans::{Identity, Plan, Source};
 use crate::targets::{Target, key_of};
 use crate::unmap::{LIST_HEADER, LIST_OF_ONE, list_slots};
 use geometry::command_blocks;
-use lun_route::units_listed;
-use scsi_cdb::{address_of, blocks_of, length_of, row_of, spelled};
+use lun_route::{has_page, is_reported, told_length};
+use scsi_cdb::{address_of, blocks_meant, blocks_of, goes_beyond, length_of, row_of, spelled};
 use task_set::{BLOCK_BYTES, Wanted};
 use ufs_spec::{Cdb, Key, Numbers, Purpose, Row, Sense, Status, Told, UnitSpec};
 
-/// The flags of a COMMAND whose data go to the device, and of one whose data come from it (JESD220,
-/// 10.7.1).
+/// The flags of a COMMAND without its priority and its task attribute; and what they are if its data go to
+/// the device, and if its data come from it (JESD220, 10.7.1).
+const DIRECTION: u8 = 0xF8;
+
 const WRITES: u8 = 0x20;
 
 const READS: u8 = 0x40;
@@ -50,45 +53,43 @@ const POWER_ON: u8 = 1;
 
 const PERMANENT: u8 = 2;
 
+/// What is asked of mode pages stands above this place of a selection (SPC, PC); 3 asks for saved
+/// values.
+const PAGE_CONTROL: u32 = 0x4000;
+
+const SAVED: u32 = 3;
+
 /// How many addresses a key may have.
 const ADDRESSES: u64 = 1 << 32;
 
 /// How many slots a SECURITY PROTOCOL OUT claims: for two pages of the area and the settings.
 const FRAME_SLOTS: u16 = 3;
 
-/// How many units a REPORT LUNS lists; no other command lists any.
-fn listed_by(numbers: &Numbers, cdb: &Cdb) -> u8
-    ensures { result ≡ units_listed numbers.now cdb.now }
+/// How many bytes there are to tell to a command of this LUN; nothing is told to others than those that
+/// ask for it.
+fn told_count(numbers: &Numbers, lun: u8, cdb: &Cdb) -> u32
+    ensures { result ≡ told_count numbers.now lun cdb.now }
 {
     match cdb {
-        Cdb::Tell { told, select, .. } => listed_in(numbers, *told, *select),
-        _ => 0,
-    }
-}
-
-/// The same of a command that tells this of what is selected.
-fn listed_in(numbers: &Numbers, told: Told, select: u8) -> u8
-    ensures { (allocation : ℕ) → result ≡ units_listed numbers.now (Tell told select allocation) }
-{
-    match told {
-        Told::Units => units_listed(numbers, select),
+        Cdb::Tell { told, select, .. } => told_length(numbers, lun, *told, *select),
         _ => 0,
     }
 }
 
 /// Whether the flag of the direction of the command's data is not set, or the host has fewer bytes to
-/// write than the command. A REPORT LUNS lists so many units.
-fn lacks_data(listed: u8, cdb: &Cdb, flags: u8, expected: u32) -> bool
+/// write than the command. There are so many bytes to tell.
+fn lacks_data(told: u32, cdb: &Cdb, flags: u8, expected: u32) -> bool
     requires { blocks_of cdb.now ≤ greatest_command }
     ensures { (r : Request) → r.flags ≡ flags → r.expected ≡ expected →
-        result ≡ lacks_data r (direction_of cdb.now) (length_of_command listed cdb.now) }
+        result ≡ lacks_data r (direction_of cdb.now) (length_of_command told cdb.now) }
 {
-    let length = length_of(listed, cdb);
+    let length = length_of(told, cdb);
+    let direction = flags & DIRECTION;
     match cdb {
-        Cdb::Nothing | Cdb::Flush { .. } => false,
+        Cdb::Nothing | Cdb::Flush { .. } | Cdb::Prefetch { .. } | Cdb::Diagnose { .. } => false,
         Cdb::Write { .. } | Cdb::Unmap { .. } | Cdb::SecurityOut { .. } => length > 0
-            && (flags != WRITES || expected < length),
-        _ => length > 0 && flags != READS,
+            && (direction != WRITES || expected < length),
+        _ => length > 0 && direction != READS,
     }
 }
 
@@ -104,6 +105,64 @@ fn lacks_region(numbers: &Numbers, cdb: &Cdb) -> bool
             Some(steps) => *steps == 0,
             None => true,
         },
+        _ => false,
+    }
+}
+
+/// Whether there is no unit with this LUN byte that has the page of vital product data that the command
+/// asks for.
+fn lacks_page(numbers: &Numbers, lun: u8, cdb: &Cdb) -> bool
+    ensures { result ≡ lacks_page numbers.now lun cdb.now }
+{
+    match cdb {
+        Cdb::Tell { told, select, .. } => lacks_told(numbers, lun, *told, *select),
+        _ => false,
+    }
+}
+
+/// The same of a command that tells this of what is selected.
+fn lacks_told(numbers: &Numbers, lun: u8, told: Told, select: u32) -> bool
+    ensures { (allocation : ℕ) → result ≡ lacks_page numbers.now lun (Tell told select allocation) }
+{
+    match told {
+        Told::Page => !has_page(numbers, lun, select),
+        _ => false,
+    }
+}
+
+/// Whether commands are asked for that are not reported so.
+fn lacks_operation(cdb: &Cdb) -> bool
+    ensures { result ≡ lacks_operation cdb.now }
+{
+    match cdb {
+        Cdb::Tell {
+            told: Told::Operations,
+            select,
+            ..
+        } => !is_reported(*select),
+        _ => false,
+    }
+}
+
+/// Whether what the command names is not there: an RPMB region, a page of this LUN, or a command to report
+/// on.
+fn lacks_named(numbers: &Numbers, lun: u8, cdb: &Cdb) -> bool
+    ensures { result ≡ (lacks_region numbers.now cdb.now
+        || (lacks_page numbers.now lun cdb.now || lacks_operation cdb.now)) }
+{
+    lacks_region(numbers, cdb) || lacks_page(numbers, lun, cdb) || lacks_operation(cdb)
+}
+
+/// Whether saved values of mode pages are asked for, which this device has not.
+fn wants_saved(cdb: &Cdb) -> bool
+    ensures { result ≡ wants_saved cdb.now }
+{
+    match cdb {
+        Cdb::Tell {
+            told: Told::Modes | Told::ShortModes,
+            select,
+            ..
+        } => *select / PAGE_CONTROL == SAVED,
         _ => false,
     }
 }
@@ -144,7 +203,7 @@ fn is_out_of_range(cdb: &Cdb, unit: Option<UnitSpec>) -> bool
 {
     match unit {
         Some(unit) => {
-            let (blocks, count) = (u64::from(unit.blocks), u64::from(blocks_of(cdb)));
+            let (blocks, count) = (u64::from(unit.blocks), u64::from(blocks_meant(cdb)));
             count > blocks || address_of(cdb) > blocks - count
         }
         None => false,
@@ -207,9 +266,9 @@ fn plan_of(numbers: &Numbers, cdb: &Cdb, target: Target, expected: u32) -> Plan
         target.unit_of_blocks(),
         (address_of(cdb) % ADDRESSES) as u32,
     );
-    let length = length_of(listed_by(numbers, cdb), cdb);
+    let length = length_of(told_count(numbers, target.lun, cdb), cdb);
     match cdb {
-        Cdb::Nothing => Plan::Nothing { length },
+        Cdb::Nothing | Cdb::Prefetch { .. } | Cdb::Diagnose { .. } => Plan::Nothing { length },
         Cdb::Tell { told, select, .. } => {
             let told = identity_of(target, *told, *select);
             send_plan(Source::Identity { told }, length, expected)
@@ -239,16 +298,36 @@ fn plan_of(numbers: &Numbers, cdb: &Cdb, target: Target, expected: u32) -> Plan
 }
 
 /// What a command about this target tells.
-fn identity_of(target: Target, told: Told, select: u8) -> Identity
+fn identity_of(target: Target, told: Told, select: u32) -> Identity
     ensures { result ≡ identity_of target told select }
 {
     match told {
-        Told::Sense => Identity::Sense,
-        Told::Identity => Identity::Unit { lun: target.lun },
+        Told::Sense => Identity::Sense {
+            sense: target.sense,
+        },
+        Told::Identity => Identity::Unit {
+            device_type: target.device_type,
+        },
         Told::Capacity => Identity::Capacity {
             blocks: target.blocks(),
         },
         Told::Units => Identity::Luns { select },
+        Told::LongCapacity => Identity::LongCapacity {
+            blocks: target.blocks(),
+        },
+        Told::Page => Identity::Page {
+            lun: target.lun,
+            page: select,
+        },
+        Told::Modes => Identity::Modes {
+            select,
+            is_guarded: target.is_guarded,
+        },
+        Told::ShortModes => Identity::ShortModes {
+            select,
+            is_guarded: target.is_guarded,
+        },
+        Told::Operations => Identity::Operations { select },
     }
 }
 
@@ -331,14 +410,25 @@ impl Device {
             IsRequest r flags lun expected cdb.now → IsPlanned s r result }
     {
         let row = row_of(cdb);
-        let target = match self.target(lun, row) {
+        let target = match self.target(lun, flags, row) {
             Ok(target) => target,
             Err(sense) => return Err(Status::CheckCondition(sense)),
         };
+        if self.is_beyond(row, cdb) {
+            return Err(Status::CheckCondition(Sense::INVALID_FIELD));
+        }
         match spelled_in(row, cdb) {
             Some(cdb) => self.plan_taken(flags, expected, target, &cdb),
             None => Err(Status::CheckCondition(Sense::INVALID_FIELD)),
         }
+    }
+
+    /// Whether the CDB has a bit set that the device's profile does not take.
+    fn is_beyond(&self, row: Option<Row>, cdb: &[u8; 16]) -> bool
+        ensures { (t : Translation) → IsLayer self.now.ftl t →
+            result ≡ ((t.numbers.profile == 0) && goes_beyond cdb.now row) }
+    {
+        self.ftl.numbers().profile == 0 && goes_beyond(row, cdb)
     }
 
     /// What a command does.
@@ -354,32 +444,35 @@ impl Device {
         // The blocks of a command that passed lie in its unit.
         ensures within { IsOk result → IfSome target.spec (λ unit. address_of cdb.now < 2 ^ 32) }
         ensures passed { IsOk result → (s : State) (r : Request) → IsLayer self.now.ftl s.translation →
-            IsBare s self.now → unit_numbers_of s r ≡ target.spec → r.flags ≡ flags →
+            IsBare s self.now → unit_numbers_of s r ≡ target.spec → r.lun ≡ target.lun → r.flags ≡ flags →
             r.expected ≡ expected →
             first_line (lines_for s r cdb.now) ≡ None }
         ensures refused { IfErr result (λ told. (s : State) (r : Request) → IsLayer self.now.ftl s.translation →
-            IsBare s self.now → unit_numbers_of s r ≡ target.spec → r.flags ≡ flags →
+            IsBare s self.now → unit_numbers_of s r ≡ target.spec → r.lun ≡ target.lun → r.flags ≡ flags →
             r.expected ≡ expected →
             first_line (lines_for s r cdb.now) ≡ Some told) }
     {
-        match self.refusal(target.spec, flags, expected, cdb) {
+        match self.refusal(target, flags, expected, cdb) {
             Some(refused) => Err(refused),
             None => Ok(plan_of(self.ftl.numbers(), cdb, target, expected)),
         }
     }
 
     /// Why a command is refused, if it is.
-    fn refusal(&self, unit: Option<UnitSpec>, flags: u8, expected: u32, cdb: &Cdb) -> Option<Status>
+    fn refusal(&self, target: Target, flags: u8, expected: u32, cdb: &Cdb) -> Option<Status>
         ensures what { (s : State) (r : Request) → IsLayer self.now.ftl s.translation →
-            IsBare s self.now → unit_numbers_of s r ≡ unit → r.flags ≡ flags →
+            IsBare s self.now → unit_numbers_of s r ≡ target.spec → r.lun ≡ target.lun → r.flags ≡ flags →
             r.expected ≡ expected →
             first_line (lines_for s r cdb.now) ≡ result }
         ensures few { result ≡ None → blocks_of cdb.now ≤ greatest_command }
-        ensures within { result ≡ None → IfSome unit (λ spec. address_of cdb.now < 2 ^ 32) }
+        ensures within { result ≡ None → IfSome target.spec (λ spec. address_of cdb.now < 2 ^ 32) }
     {
         let numbers = self.ftl.numbers();
-        if lacks_region(numbers, cdb) {
+        if lacks_named(numbers, target.lun, cdb) {
             return Some(Status::CheckCondition(Sense::INVALID_FIELD));
+        }
+        if wants_saved(cdb) {
+            return Some(Status::CheckCondition(Sense::SAVING_UNSUPPORTED));
         }
         if is_too_long(self.command_blocks(), cdb) {
             return Some(Status::CheckCondition(Sense::INVALID_FIELD));
@@ -387,13 +480,13 @@ impl Device {
         if has_wrong_list(cdb) {
             return Some(Status::CheckCondition(Sense::LIST_LENGTH));
         }
-        if lacks_data(listed_by(numbers, cdb), cdb, flags, expected) {
+        if lacks_data(told_count(numbers, target.lun, cdb), cdb, flags, expected) {
             return Some(Status::CheckCondition(Sense::INVALID_FIELD));
         }
-        if is_out_of_range(cdb, unit) {
+        if is_out_of_range(cdb, target.spec) {
             return Some(Status::CheckCondition(Sense::OUT_OF_RANGE));
         }
-        self.refusal_now(unit, cdb)
+        self.refusal_now(target.spec, cdb)
     }
 
     /// How many blocks a command may have.
@@ -414,6 +507,9 @@ impl Device {
         }
         if self.is_refused_write(unit, cdb) {
             return Some(Status::CheckCondition(Sense::WRITE_PROTECTED));
+        }
+        if self.fails_test(cdb) {
+            return Some(Status::CheckCondition(Sense::SELF_TEST_FAILED));
         }
         if self.lacks_response(cdb) {
             return Some(Status::CheckCondition(Sense::COMMAND_SEQUENCE));
@@ -442,6 +538,16 @@ impl Device {
             result ≡ is_ready_for s cdb.now }
     {
         self.ftl.is_mended() || (!tests_unit(cdb) && self.ftl.is_locked())
+    }
+
+    /// Whether it asks for a self-test of a locked device.
+    fn fails_test(&self, cdb: &Cdb) -> bool
+        ensures { (s : State) → IsLayer self.now.ftl s.translation → result ≡ fails_test s cdb.now }
+    {
+        match cdb {
+            Cdb::Diagnose { tests } => *tests && self.ftl.is_locked(),
+            _ => false,
+        }
     }
 
     /// Whether it asks for the response to a request, and none waits.
@@ -481,10 +587,16 @@ impl Device {
         ensures { (s : State) → IsLayer self.now.ftl s.translation → IsBare s self.now →
             result ≡ is_refused_write s unit cdb.now }
     {
-        let is_protected = self.is_protected(unit);
-        let is_locked = self.ftl.is_locked();
-        (writes(cdb) && (is_protected || is_locked))
-            || (flushes(cdb) && is_locked && self.ftl.has_pending())
+        (writes(cdb) && self.is_guarded(unit))
+            || (flushes(cdb) && self.ftl.is_locked() && self.ftl.has_pending())
+    }
+
+    /// Whether a unit takes no writes now: it is protected, or the device is locked.
+    pub(crate) fn is_guarded(&self, unit: Option<UnitSpec>) -> bool
+        ensures { (s : State) → IsLayer self.now.ftl s.translation → IsBare s self.now →
+            result ≡ is_guarded s unit }
+    {
+        self.is_protected(unit) || self.ftl.is_locked()
     }
 
     /// Whether it is a unit that is protected: until the next power cycle, or for ever (JESD220,

@@ -8,6 +8,7 @@ ghost use Rattle.task_set.specs.declared.tasks.Phase.TheVariants.{Ask};
 ghost use Rattle.device.specs.Hears.{short_answer, with_event, uses, with_short, with_task};
 ghost use Rattle.task_set.specs.Kept.{newly_open};
 ghost use Rattle.ufs_spec.specs.Exchanges.{most_tasks};
+ghost use Rattle.ufs_spec.specs.Machine.{has_attribute};
 ghost use Rattle.ufs_spec.specs.Refusals.{State};
 ghost use Rattle.device.specs.Describes.{Describes, IsHeardAs};
 ghost use Rattle.std.specs.Prelude.{ℕ, List, nat_le};
@@ -27,6 +28,9 @@ use crate::targets::key_of;
 use descriptors::STANDARD_WRITE;
 use task_set::{AskedFor, Phase, Queried, Sending, ShortReply, Task, TaskEvent, Wanted};
 use ufs_spec::{HostFault, Key, Message, Purpose, Sense, Status};
+
+/// The flags of a COMMAND that are its priority and its task attribute (JESD220, 10.7.1).
+const ATTRIBUTES: u8 = 0x07;
 
 impl Device {
     /// Takes a message of the host.
@@ -119,6 +123,14 @@ impl Device {
         self.set.is_full()
     }
 
+    /// Whether a COMMAND with these flags has a priority or a task attribute, which a device of profile 0
+    /// does not take (JESD220, 10.7.1).
+    fn has_attribute(&self, flags: u8) -> bool
+        ensures { (t : Translation) → IsLayer self.now.ftl t → result ≡ has_attribute t.numbers flags }
+    {
+        self.ftl.numbers().profile == 0 && flags & ATTRIBUTES != 0
+    }
+
     /// A COMMAND opens a task, or a short exchange if too many tasks are open. Its CDB is read only
     /// once its tag is free and a task may be opened.
     fn command(
@@ -134,6 +146,9 @@ impl Device {
             Spells (Message.Command flags lun tag expected cdb.now) bytes →
             host_fault_of bytes ≡ None → IsHeardAs s bytes result self.new }
     {
+        if self.has_attribute(flags) {
+            return Err(HostFault::Reserved);
+        }
         if self.is_full() {
             return self.open_short(tag, ShortReply::TaskSetFull { lun, expected });
         }
@@ -144,13 +159,14 @@ impl Device {
         Ok(())
     }
 
-    /// A command becomes a task, refused or not.
+    /// A command becomes a task, refused or not. The attention of its LUN ends, if it tells it.
     fn open_task(&mut self, flags: u8, lun: u8, tag: u8, expected: u32, cdb: &[u8; 16])
         requires { length self.old.tasks < most_tasks }
         ensures { IsTaskOpened self.old self.new flags lun tag expected cdb.now }
     {
         let planned = self.plan(lun, flags, expected, cdb);
         let phase = self.begin(tag, planned);
+        self.end_attention(lun, planned);
         self.push_task(Task {
             tag,
             lun,

@@ -3,6 +3,7 @@
 #![tactic(auto)]
 
 mod area;
+mod attentions;
 mod checks;
 mod commands;
 mod device;

@@ -12,7 +12,7 @@ ghost use Rattle.device.specs.Describes.{Describes, IsBehind};
 ghost use Rattle.device.specs.Hears.{short_answer};
 ghost use Rattle.device.specs.Kept.{IsLayerWith};
 ghost use Rattle.device.specs.Manages.{HasLetGo, aborted_at, by_function, carried, forgotten};
-ghost use Rattle.device.specs.Manages.{function_on, means, service_by};
+ghost use Rattle.device.specs.Manages.{function_on, means, reset_left, service_by};
 
 use crate::device::Device;
 use crate::queries::at_once;
@@ -78,6 +78,7 @@ impl Device {
         self.set.may_open_short(tag)?;
         let managing = self.function_on(lun, function, meant);
         let service = self.service(managing);
+        self.note_reset(lun, function);
         self.carry_out(managing);
         self.push_short(at_once(tag, ShortReply::Managed { lun, service }));
         Ok(())
@@ -103,6 +104,17 @@ impl Device {
             Managing::Asks { asked } => self.service_found(asked),
             Managing::NotSupported => FUNCTION_NOT_SUPPORTED,
             Managing::NoUnit => INCORRECT_LUN,
+        }
+    }
+
+    /// A reset of the logical unit with this LUN byte leaves it an attention (SAM). No other function does.
+    fn note_reset(&mut self, lun: u8, function: u8)
+        ensures left { self.new ≡ record self.old { volatile = self.new.volatile } }
+        ensures noted { (t : Translation) → IsLayer self.old.ftl t →
+            self.new.volatile ≡ reset_left t.numbers lun function self.old.volatile }
+    {
+        if function == LOGICAL_UNIT_RESET {
+            self.set_attention(lun, true);
         }
     }
 

@@ -1,18 +1,28 @@
 //! What a command that passed all checks does.
 use task_set::Wanted;
-use ufs_spec::Key;
+use ufs_spec::{Key, Sense};
 
 /// What a command tells of the device and of its units.
 #[derive(Clone, Copy, Debug, PartialEq, Eq)]
 pub enum Identity {
-    /// Sense data that tell of nothing (SPC, REQUEST SENSE).
-    Sense,
-    /// What the unit with this LUN byte is (SPC, INQUIRY).
-    Unit { lun: u8 },
+    /// What is wrong at the LUN, or that nothing is (SPC, REQUEST SENSE).
+    Sense { sense: Sense },
+    /// What the unit is: its device type (SPC, INQUIRY).
+    Unit { device_type: u8 },
     /// How many blocks the unit has, and how long a block is (SBC, READ CAPACITY).
     Capacity { blocks: u32 },
     /// Which units there are, of those that are selected (SPC, REPORT LUNS).
-    Luns { select: u8 },
+    Luns { select: u32 },
+    /// The same as `Capacity` in a longer form (SBC, READ CAPACITY(16)).
+    LongCapacity { blocks: u32 },
+    /// A page of vital product data of the unit with this LUN byte (SPC, INQUIRY).
+    Page { lun: u8, page: u32 },
+    /// Mode pages, and whether the unit takes no writes now (SPC, MODE SENSE(10)).
+    Modes { select: u32, is_guarded: bool },
+    /// The same behind a shorter header (SPC, MODE SENSE(6)).
+    ShortModes { select: u32, is_guarded: bool },
+    /// Which commands a unit takes, of those that are selected (SPC, REPORT SUPPORTED OPERATION CODES).
+    Operations { select: u32 },
 }
 
 /// Where the data come from that a task keeps and sends in one DATA IN.

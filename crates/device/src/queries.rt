@@ -4,6 +4,7 @@ ghost use Rattle.std.specs.Prelude.{◌≡◌, ◌<◌, IsTrue, OnErr, OnOk, len
 ghost use Rattle.ufs_spec.specs.Exchanges.{most_short_exchanges};
 ghost use Rattle.ufs_spec.specs.QueryAnswers.{may_set};
 ghost use Rattle.ufs_spec.specs.Refusals.{State};
+ghost use Rattle.ufs_spec.specs.Translation.{Translation, is_mended};
 ghost use Rattle.descriptors.specs.Answers.{is_setting};
 ghost use Rattle.descriptors.specs.Asks.{query_of};
 ghost use Rattle.ftl_core.specs.Public.{Describes as IsLayer, has_number};
@@ -92,12 +93,14 @@ impl Device {
 
     /// The settings and flags that a query finds, durable or not.
     fn query_settings(&self) -> QuerySettings
-        ensures { result ≡ settings_found self.now }
+        ensures { (t : Translation) → IsLayer self.now.ftl t →
+            result ≡ settings_found (is_mended t.work.mending) self.now }
     {
         QuerySettings {
             boot: self.boot,
             is_permanent: self.is_permanent,
             volatile: self.volatile,
+            is_mended: self.ftl.is_mended(),
         }
     }
 

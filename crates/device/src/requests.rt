@@ -23,9 +23,12 @@ ghost use Rattle.task_set.specs.Kept.{OpenTask};
 use crate::device::Device;
 use crate::plans::{Identity, Plan, Source};
 use crate::replies::zeros;
-use lun_route::{inquiry_bytes, luns_bytes};
+use lun_route::{
+    inquiry_bytes, long_capacity_bytes, luns_bytes, modes_told, operations_told, page_bytes,
+    short_modes_told,
+};
 use rpmb::{Accepted, Machines, Outcome, asked_area};
-use scsi_cdb::no_sense;
+use scsi_cdb::sense_bytes;
 use task_set::{BLOCK_BYTES, Frames, Phase, TaskEvent};
 use ufs_spec::{Block, Purpose, Sense, Status, write_u32};
 
@@ -155,12 +158,30 @@ impl Device {
             self.new ≡ with_held self.old index (with_zeros (identity_bytes t.numbers told)) }
     {
         match told {
-            Identity::Sense => self.keep_bytes(index, &no_sense()),
-            Identity::Unit { lun } => self.keep_bytes(index, &inquiry_bytes(lun)),
+            Identity::Sense { sense } => self.keep_bytes(index, &sense_bytes(&sense)),
+            Identity::Unit { device_type } => {
+                self.keep_bytes(index, &inquiry_bytes(device_type));
+            }
             Identity::Capacity { blocks } => self.keep_bytes(index, &capacity_bytes(blocks)),
             Identity::Luns { select } => {
                 let list = luns_bytes(self.ftl.numbers(), select);
                 self.keep_bytes(index, list.as_slice());
+            }
+            Identity::LongCapacity { blocks } => {
+                self.keep_bytes(index, &long_capacity_bytes(blocks));
+            }
+            Identity::Page { lun, page } => {
+                let told = page_bytes(self.ftl.numbers(), lun, page);
+                self.keep_bytes(index, told.as_slice());
+            }
+            Identity::Modes { select, is_guarded } => {
+                self.keep_bytes(index, modes_told(select, is_guarded).as_slice());
+            }
+            Identity::ShortModes { select, is_guarded } => {
+                self.keep_bytes(index, short_modes_told(select, is_guarded).as_slice());
+            }
+            Identity::Operations { select } => {
+                self.keep_bytes(index, operations_told(select).as_slice());
             }
         }
     }

@@ -12,6 +12,7 @@ use Rattle.ufs_spec.proofs.Lists.{any_none}
 use Rattle.ufs_spec.specs.Exchanges.{Short, Task, is_short_of, is_task_of, task_of}
 use Rattle.ufs_spec.specs.Lives.{IsCall, IsShown}
 use Rattle.ufs_spec.specs.Machine.{Allowed, Answer, Call, Due, Faulty, Heard, Host, IsHeard, MayHear, OfHost, Spelled}
+use Rattle.ufs_spec.specs.Management.{volatile_managed}
 use Rattle.ufs_spec.specs.Machine.{Take, behind, carried_out, heard, is_aborted, managed, message_fault, observe}
 use Rattle.ufs_spec.specs.Machine.{result_of, service, tag_in}
 use Rattle.ufs_spec.specs.declared.events.Event.TheVariants as event
@@ -165,7 +166,8 @@ module _ (tag : ℕ) where
 
     managed_tasks : NoTask tag (managed s lun function meant)
     managed_tasks =
-        subst (λ (code : ℕ). NoTask tag (carried_out s lun function meant code)) (sym complete)
+        subst (λ (code : ℕ). NoTask tag (carried_out (record s { volatile = volatile_managed s lun function })
+        lun function meant code)) (sym complete)
         (none_left s.tasks task (is_aborted lun function meant) v.tied.tasks.tasks_differ found it)
 
     task_tag : task.tag ≡ tag

@@ -2,8 +2,8 @@
 use Rattle.device.proofs.Common.{Bool, Cdb, Group, IsTied, List, None, Option, Passes, Plan, Request, Some, State, []}
 use Rattle.device.proofs.Common.{ap, arith, command_blocks, div_ceil, drop, durable, eqb-true, false, false≢true}
 use Rattle.device.proofs.Common.{first_line, free_slots, greatest_command, has_other_response, has_wrong_list, inl, inr}
-use Rattle.device.proofs.Common.{invalid_operation, lacks_unit, le-leb, length, length-drop, lines_after, lines_for}
-use Rattle.device.proofs.Common.{list_any, locked, ltb-false, lun_of, min, nat_le, nat_lt, nat_tests, no_unit}
+use Rattle.device.proofs.Common.{le-leb, length, length-drop, lines_after, lines_for}
+use Rattle.device.proofs.Common.{list_any, locked, ltb-false, min, nat_le, nat_lt, nat_tests}
 use Rattle.device.proofs.Common.{numbers_of, or_parts, out_of_range, refl, refusal, sends_frames, sequence_error}
 use Rattle.device.proofs.Common.{slice_get, suc, sym, true, unit_numbers_of, zero, ℕ, ◌%◌, ◌+◌, ◌<◌, ◌||◌, ◌∙◌, ◌∷◌}
 use Rattle.device.proofs.Common.{◌≡◌, ◌≤◌, ◌⊎◌}
@@ -12,13 +12,15 @@ use Rattle.std.specs.List.{sum_by}
 use Rattle.std.proofs.lemmas.List.Sums.{get_or-le-sum_by}
 use Rattle.ufs_spec.proofs.ConfigFacts.{command_blocks-few}
 use Rattle.ufs_spec.specs.Cdbs.{blocks_of, direction_of}
-use Rattle.ufs_spec.specs.Exchanges.{Task, invalid_field, list_length_error, not_ready, write_protected}
+use Rattle.ufs_spec.specs.Exchanges.{Task, invalid_field, list_length_error, not_ready, saving_unsupported}
+use Rattle.ufs_spec.specs.Exchanges.{self_test_failed, write_protected}
+use Rattle.ufs_spec.specs.Refusals.{fails_test, is_beyond, lacks_operation, lacks_page, wants_saved}
 use Rattle.ufs_spec.specs.declared.exchanges.Status.TheVariants.{Busy}
 use Rattle.ufs_spec.specs.Refusals.{is_crowded, is_past, is_refused_write, is_security_out, is_too_long, is_unready}
-use Rattle.ufs_spec.specs.Refusals.{lacks_data, lacks_region, lacks_response, length_in, not_taken, slots_needed}
+use Rattle.ufs_spec.specs.Refusals.{lacks_data, lacks_region, lacks_response, length_in, slots_needed}
 use Rattle.ufs_spec.specs.Translation.{has_pending}
 use Rattle.ufs_spec.specs.declared.scsi.Cdb.TheVariants as cdb
-use Rattle.ufs_laws.proofs.exchanges.TakenCommandsKnown.{passed_line}
+use Rattle.ufs_laws.proofs.exchanges.TakenCommandsKnown.{passed_line, past}
 use Rattle.ufs_laws.proofs.plain_contents.GroupsOfCommands.{length-groups}
 
 -- Lines
@@ -33,22 +35,28 @@ pub record Checked (s : State) (r : Request) (command : Cdb) : Type 0 where
 
 checked : (s : State) (r : Request) (command : Cdb) → r.cdb ≡ Some command → refusal s r ≡ None → Checked s r command
 checked s r command is none =
-    let a = passed_line (lacks_unit s r (lun_of (numbers_of s) r.lun)) no_unit _ none in
-    let b = passed_line (not_taken r (lun_of (numbers_of s) r.lun)) invalid_operation _ a.1 in
-    let lines : first_line (lines_for s r command) ≡ None =
-    sym (ap (λ (c : Option Cdb). first_line (lines_after s r c)) is) ∙ b.1 in
-    let there = passed_line (lacks_region (numbers_of s) command) invalid_field _ lines in
-    let c = passed_line (is_too_long (numbers_of s) command) invalid_field _ there.1 in
+    let lines : first_line (lines_after s r (Some command)) ≡ None =
+    sym (ap (λ (c : Option Cdb). first_line (lines_after s r c)) is) ∙ (past s r none).later in
+    let within = passed_line (is_beyond (numbers_of s) r) invalid_field _ lines in
+    let there =
+    passed_line
+    (lacks_region (numbers_of s) command || (lacks_page (numbers_of s) r.lun command || lacks_operation command))
+    invalid_field _ within.1 in
+    let saved = passed_line (wants_saved command) saving_unsupported _ there.1 in
+    let c = passed_line (is_too_long (numbers_of s) command) invalid_field _ saved.1 in
     let d = passed_line (has_wrong_list command) list_length_error _ c.1 in
-    let e = passed_line (lacks_data r (direction_of command) (length_in s command)) invalid_field _ d.1 in
+    let e = passed_line (lacks_data r (direction_of command) (length_in s r command)) invalid_field _ d.1 in
     let f = passed_line (is_past command (unit_numbers_of s r)) out_of_range _ e.1 in
     let g = passed_line (is_unready s command) not_ready _ f.1 in
     let i = passed_line (is_refused_write s (unit_numbers_of s r) command) write_protected _ g.1 in
-    let j = passed_line (lacks_response s command) sequence_error _ i.1 in
+    let tested = passed_line (fails_test s command) self_test_failed _ i.1 in
+    let j = passed_line (lacks_response s command) sequence_error _ tested.1 in
     let k = passed_line (has_other_response s command) invalid_field _ j.1 in
     let l = passed_line (is_crowded s command) Busy _ k.1 in
     record {
-      region_there = there.0;
+      region_there =
+          (or_parts (lacks_region (numbers_of s) command)
+          (lacks_page (numbers_of s) r.lun command || lacks_operation command) there.0).0;
       too_long = c.0;
       listed = d.0;
       refused = i.0;

@@ -8,9 +8,9 @@ use Rattle.device.proofs.Common.{result_of, short_answer, short_reply, short_sai
 use Rattle.device.proofs.Common.{with_short, ℕ, ◌<◌, ◌∙◌, ◌≡◌}
 use Rattle.std.proofs.lemmas.Bool.{leb-false}
 use Rattle.ufs_spec.proofs.ReadBack.{one_message}
-use Rattle.ufs_spec.specs.Machine.{IsCdbIn, command_taken, refused_or_begun}
+use Rattle.ufs_spec.specs.Machine.{IsCdbIn, command_taken, has_attribute, opens_short, refused_or_begun}
 use Rattle.ufs_spec.specs.Machine as machine
-use Rattle.ufs_spec.specs.declared.faults.HostFault.TheVariants.{TagInUse}
+use Rattle.ufs_spec.specs.declared.faults.HostFault.TheVariants.{Reserved, TagInUse}
 use Rattle.ufs_spec.specs.declared.messages.Message.TheVariants as message
 use Rattle.ufs_laws.proofs.exchanges.BytesHeard.{is_heard}
 use Rattle.power_loss.proofs.open_tasks.FoundInLists.{none_found}
@@ -20,7 +20,7 @@ use Rattle.device.proofs.described.Answered.{IsBehind, stays}
 use Rattle.device.proofs.host_messages.CommandBegins.{planned_begins}
 use Rattle.device.proofs.host_messages.CommandTags.{others_send, tag_used, task_fault, tasks_count}
 use Rattle.device.proofs.host_messages.ShortsOpened.{short_heard, spelled_heard}
-use Rattle.device.proofs.host_messages.TasksBegin.{HasBegunFor, opened_as, opened_for}
+use Rattle.device.proofs.host_messages.TasksBegin.{HasBegunFor, left_for, opened_as}
 
 -- a message is heard, whatever its CDB spells
 is_read : (m : Message) (bytes : List ℕ) → Spells m bytes → host_fault_of bytes ≡ None → (c : Option Cdb)
@@ -66,31 +66,44 @@ module _ (d : DeviceCore) (s : State) (flags lun tag expected : ℕ) (cdb_bytes 
   command_is c b e = ap (λ (x : Bool). if x then machine.with_short s refusing
       else refused_or_begun s (request c) (refusal s (request c))) e
 
-  fault_is : (b : Bool) → nat_le most_tasks (length s.tasks) ≡ b → message_fault s said ≡ opening_fault s tag b
-  fault_is b e = ap (opening_fault s tag) e
+  -- it has a priority or a task attribute, in profile 0
+  pub reserved_right : has_attribute (numbers_of s) flags ≡ true → IsHeardAs s whole (Err Reserved) d
+  reserved_right has =
+      spelled_heard d d s s whole said command.0 (Err Reserved) h spells none command.1
+      (sym (ap (λ (x : Bool). result_of (if x then Some Reserved else opening_fault s tag (opens_short s said))) has))
+      refl (stays d s h)
+
+  fault_is : (b : Bool) → has_attribute (numbers_of s) flags ≡ false → nat_le most_tasks (length s.tasks) ≡ b →
+      message_fault s said ≡ opening_fault s tag b
+  fault_is b has e =
+      ap (λ (x : Bool). if x then Some Reserved else opening_fault s tag (opens_short s said)) has
+      ∙ ap (opening_fault s tag) e
 
   -- as many tasks are open as may be: the command opens a short exchange
-  pub full_right : (e : DeviceCore) (answer : Result Unit HostFault) → nat_le most_tasks (length d.tasks) ≡ true →
+  pub full_right : (e : DeviceCore) (answer : Result Unit HostFault) → has_attribute (numbers_of s) flags ≡ false →
+      nat_le most_tasks (length d.tasks) ≡ true →
       answer ≡ short_answer d tag → OnErr answer (e ≡ d) → OnOk answer (e ≡ with_short d (at_once tag full_reply)) →
       IsHeardAs s whole answer e
-  full_right e answer many told refused taken =
+  full_right e answer has many told refused taken =
       short_heard d e s whole said command.0 tag full_reply answer h spells none command.1
-      (fault_is true (many_is true many)) (command_is command.0 true (many_is true many)) told refused taken
+      (fault_is true has (many_is true many)) (command_is command.0 true (many_is true many)) told refused taken
 
   -- the tag is in use
-  pub used_right : nat_le most_tasks (length d.tasks) ≡ false → uses d tag ≡ true → IsHeardAs s whole (Err TagInUse) d
-  used_right many used =
+  pub used_right : has_attribute (numbers_of s) flags ≡ false → nat_le most_tasks (length d.tasks) ≡ false →
+      uses d tag ≡ true → IsHeardAs s whole (Err TagInUse) d
+  used_right has many used =
       spelled_heard d d s s whole said command.0 (Err TagInUse) h spells none command.1
-      (sym (ap result_of (fault_is false (many_is false many) ∙ (task_fault d s tag h
+      (sym (ap result_of (fault_is false has (many_is false many) ∙ (task_fault d s tag h
       ∙ ap (λ (b : Bool). if b then Some TagInUse else None) used)))) refl (stays d s h)
 
   -- it opens a task
-  pub opened_right : (e : DeviceCore) → nat_le most_tasks (length d.tasks) ≡ false → uses d tag ≡ false →
+  pub opened_right : (e : DeviceCore) → has_attribute (numbers_of s) flags ≡ false →
+      nat_le most_tasks (length d.tasks) ≡ false → uses d tag ≡ false →
       IsTaskOpened d e flags lun tag expected cdb_bytes → IsHeardAs s whole (Ok tt) e
-  opened_right e many used k =
+  opened_right e has many used k =
       spelled_heard d e s (refused_or_begun s (request command.0) (refusal s (request command.0))) whole said command.0
       (Ok tt) h spells none command.1
-      (sym (ap result_of (fault_is false (many_is false many) ∙ (task_fault d s tag h
+      (sym (ap result_of (fault_is false has (many_is false many) ∙ (task_fault d s tag h
       ∙ ap (λ (b : Bool). if b then Some TagInUse else None) used))))
       (command_is command.0 false (many_is false many))
       (subst (λ (x : DeviceCore). IsBehind x (refused_or_begun s (request command.0) (refusal s (request command.0))))
@@ -119,6 +132,6 @@ module _ (d : DeviceCore) (s : State) (flags lun tag expected : ℕ) (cdb_bytes 
           })
           (record { flags_are = refl; lun_is = refl; expected_is = refl; bytes_are = refl; spelled = command.1 })
 
-      behind : IsBehind (opened_for d (request command.0) k.layer k.todo k.phase)
+      behind : IsBehind (left_for d (request command.0) k.layer k.todo k.phase)
           (refused_or_begun s (request command.0) (refusal s (request command.0)))
       behind = planned_begins d s (request command.0) h free few k.layer k.todo k.phase planned begun

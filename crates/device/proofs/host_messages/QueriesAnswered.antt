@@ -8,6 +8,7 @@ use Rattle.std.specs.Prelude.{replicate}
 use Rattle.ufs_spec.specs.Plain.{zero_block}
 use Rattle.ufs_spec.specs.Queries.{query_code}
 use Rattle.ufs_spec.specs.QueryAnswers.{may_set}
+use Rattle.ufs_spec.specs.Refusals.{mended}
 use Rattle.descriptors.specs.Answers.{Says, code_of, is_setting, succeeds}
 use Rattle.descriptors.specs.Asks.{HasSettings, query_of}
 use Rattle.descriptors.specs.declared.answers.QueryAnswer.{QueryAnswer}
@@ -21,12 +22,13 @@ use Rattle.device.proofs.open_tasks.KeptByTag.{claimed_own}
 
 -- what is answered over what the device keeps is the answer in the state
 pub answer_is : (s : State) (d : DeviceCore) (n : Numbers) (settings : QuerySettings) (may : Bool) (r : QueryRequest)
-    (q : Query) (x : QueryAnswer) → IsBare s d → n ≡ numbers_of s → settings ≡ settings_found d → may ≡ may_set s →
+    (q : Query) (x : QueryAnswer) → IsBare s d → n ≡ numbers_of s → settings ≡ settings_found (mended s) d →
+    may ≡ may_set s →
     query_of r ≡ q →
     ((p : Plain) → HasSettings settings p → code_of x ≡ query_code n p may (query_of r)) →
     ((p : Plain) → HasSettings settings p →
     succeeds x ≡ (query_code n p may (query_of r) == 0x00) && not (r.asked.opcode == 0)) →
-    ((p : Plain) → HasSettings settings p → Says p settings.volatile (query_of r) x) →
+    ((p : Plain) → HasSettings settings p → Says p n settings.is_mended settings.volatile (query_of r) x) →
     (is_setting x ≡ true → may ≡ true) → IsAnswerTo s q x
 answer_is s d n settings may r q x bare n_is found may_is q_is code succeeding says only = record {
   code = code (plain_now s) has ∙ (λ i. query_code (n_is i) (plain_now s) (may_is i) (q_is i));
@@ -34,9 +36,11 @@ answer_is s d n settings may r q x bare n_is found may_is q_is code succeeding s
       succeeding (plain_now s) has
       ∙ (λ i. (query_code (n_is i) (plain_now s) (may_is i) (q_is i) == 0x00) && not ((q_is i).asked.opcode == 0));
   says =
-      subst (λ (y : Query). Says (plain_now s) s.volatile y x) q_is
-      (subst (λ (v : Volatile). Says (plain_now s) v (query_of r) x)
-      (ap (λ (y : QuerySettings). y.volatile) found ∙ bare.volatile_is) (says (plain_now s) has));
+      subst (λ (y : Query). Says (plain_now s) (numbers_of s) (mended s) s.volatile y x) q_is
+      (subst (λ (m : Numbers). Says (plain_now s) m (mended s) s.volatile (query_of r) x) n_is
+      (subst (λ (v : Volatile). Says (plain_now s) n (mended s) v (query_of r) x) bare.volatile_is
+      (subst (λ (y : QuerySettings). Says (plain_now s) n y.is_mended y.volatile (query_of r) x) found
+      (says (plain_now s) has))));
   may = λ e. sym may_is ∙ only e;
 }
   where

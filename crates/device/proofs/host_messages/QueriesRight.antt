@@ -29,6 +29,7 @@ use Rattle.task_set.specs.declared.tasks.ShortReply.TheVariants as reply
 use Rattle.device.specs.Queries.{HasAnsweredBy, HasQueried, IsAnswerTo, tells_at_once, with_setting}
 use Rattle.device.specs.Replies.{function_of}
 use Rattle.device.proofs.described.Answered.{IsBehind, answered_as, answered_locked, stays}
+use Rattle.device.proofs.described.VolatileChanges.{volatile_changed}
 use Rattle.device.proofs.host_messages.CommandTags.{others_send, short_fault}
 use Rattle.device.proofs.host_messages.SettingsAccepted.{set_answered, set_keeps}
 use Rattle.device.proofs.host_messages.ShortsOpened.{once_more, spelled_heard}
@@ -44,27 +45,9 @@ volatile_more : (d : DeviceCore) (s : State) (tag : ℕ) (said : ShortReply) (vo
     (machine.with_short (record s { volatile = volatile })
     (short_reply tag (short_said (numbers_of s) tag said)))
 volatile_more d s tag said volatile h =
-    let its = once_more d s tag said h in
-    record {
-      keeps = record {
-        boot = its.keeps.boot;
-        permanent = its.keeps.permanent;
-        each = its.keeps.each;
-        region = its.keeps.region;
-        registers = its.keeps.registers;
-        layer_kept = its.keeps.layer_kept;
-        few = its.keeps.few;
-        tasks = its.keeps.tasks;
-        one_sends = its.keeps.one_sends;
-        wanted = its.keeps.wanted;
-        claims = its.keeps.claims;
-        shorts = its.keeps.shorts;
-        volatile = refl;
-      };
-      answered = its.answered;
-      told = its.told;
-      shorts_told = its.shorts_told;
-    }
+    volatile_changed (with_short d (at_once tag said))
+    (machine.with_short s (short_reply tag (short_said (numbers_of s) tag said))) volatile volatile refl
+    (once_more d s tag said h)
 
 module _ (d : DeviceCore) (s : State) (bytes : List ℕ) (h : Describes d s) (none : host_fault_of bytes ≡ None)
     (tag function : ℕ) (asked : Asked) (size value : ℕ) («data» : ArrayVec ℕ)

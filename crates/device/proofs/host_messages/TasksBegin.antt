@@ -1,10 +1,10 @@
 -- A COMMAND begins a task that answers at once, sends data that are known, or waits for all that was accepted.
 use Rattle.device.proofs.Common.{Answering, Awaiting, Bool, Cdb, Core, Describes, DeviceCore, Err, Good, IsLayerWith}
 use Rattle.device.proofs.Common.{None, Numbers, Ok, Option, Phase, Plan, Request, Result, Some, State, Status}
-use Rattle.device.proofs.Common.{Translation, ap, arith, before_accepted, claims_of, data_begun, durable, false}
-use Rattle.device.proofs.Common.{false≢true, if◌then◌else◌, is_mended, is_sender, length, list_any, locked, most_tasks}
-use Rattle.device.proofs.Common.{nat_le, newly_open, not, numbers_of, refl, sends_frames, subst, sym, task_of, true, ℕ}
-use Rattle.device.proofs.Common.{◌+◌, ◌<◌, ◌∙◌, ◌≡◌}
+use Rattle.device.proofs.Common.{Translation, Volatile, ap, arith, before_accepted, claims_of, data_begun, durable}
+use Rattle.device.proofs.Common.{false, false≢true, if◌then◌else◌, is_mended, is_sender, length, list_any, locked}
+use Rattle.device.proofs.Common.{most_tasks, nat_le, newly_open, not, numbers_of, refl, sends_frames, subst}
+use Rattle.device.proofs.Common.{sym, task_of, true, ℕ, ◌+◌, ◌<◌, ◌∙◌, ◌≡◌}
 use Rattle.ufs_spec.specs.Machine.{flush_begun, with_task}
 use Rattle.ufs_spec.specs.Machine as machine
 use Rattle.ftl_core.specs.Public as layer_kept
@@ -12,6 +12,8 @@ use Rattle.task_set.specs.declared.tasks.Phase.TheVariants as phase
 use Rattle.ufs_spec.specs.declared.exchanges.Status.TheVariants as status
 use Rattle.task_set.specs.declared.frames.Frames.TheVariants as frames
 use Rattle.device.specs.declared.plans.Plan.TheVariants as plan
+use Rattle.device.specs.declared.plans.Source.TheVariants as source
+use Rattle.device.specs.Attentions.{attention_set, tells_attention, volatile_left}
 use Rattle.device.specs.Calls.{HasBegun, last_number}
 use Rattle.device.specs.Frames.{frames_brought, region_brought, sent_kept}
 use Rattle.device.proofs.described.Answered.{IsBehind}
@@ -27,22 +29,56 @@ HasBegunFor s r after todo p = HasBegun after s.translation (claims_of (numbers_
 abbrev pub opened_for : DeviceCore → Request → Core → Result Plan Status → Phase → DeviceCore
 opened_for d r after todo p = sent_kept d.ftl.numbers (core_with d r after p (frames_brought todo) (region_brought todo)) todo
 
+-- the same once the attention of the LUN ended, if it was told
+abbrev pub left_for : DeviceCore → Request → Core → Result Plan Status → Phase → DeviceCore
+left_for d r after todo p =
+    record (opened_for d r after todo p) { volatile = volatile_left d.ftl.numbers r.lun todo d.volatile }
+
+-- what a task keeps to send is the same, whatever is volatile
+sent_still : (n : Numbers) (d : DeviceCore) (v : Volatile) (todo : Result Plan Status) →
+    sent_kept n (record d { volatile = v }) todo ≡ record (sent_kept n d todo) { volatile = v }
+sent_still n d v (Ok (plan.Send (source.Identity told) size taken)) = refl
+sent_still n d v (Ok (plan.Send (source.Response region) size taken)) = refl
+sent_still n d v (Ok (plan.Nothing size)) = refl
+sent_still n d v (Ok (plan.Read key blocks size)) = refl
+sent_still n d v (Ok (plan.Gather w slots)) = refl
+sent_still n d v (Ok plan.Flush) = refl
+sent_still n d v (Err told) = refl
+
+-- what was planned tells no attention, so none ends
+pub none_ends : (d : DeviceCore) (r : Request) (after : Core) (todo : Result Plan Status) (p : Phase) →
+    tells_attention todo ≡ false → opened_for d r after todo p ≡ left_for d r after todo p
+none_ends d r after todo p quiet =
+    sent_still d.ftl.numbers (core_with d r after p (frames_brought todo) (region_brought todo)) d.volatile todo
+    ∙ ap (λ (b : Bool). record (opened_for d r after todo p) {
+      volatile = if b then attention_set d.ftl.numbers r.lun false d.volatile else d.volatile;
+    }) (sym quiet)
+
 -- the device that was opened is that one: the layer has the configuration of which a task tells, before and after
 pub opened_as : (d : DeviceCore) (s : State) (r : Request) → Describes d s → (e : DeviceCore) (after : Core)
     (todo : Result Plan Status) (p : Phase) (u : Translation) → HasBegunFor s r after todo p →
-    layer_kept.Describes (opened_for d r after todo p).ftl u →
+    layer_kept.Describes (left_for d r after todo p).ftl u →
     ((t : Translation) → layer_kept.Describes after t →
-    e ≡ sent_kept t.numbers (core_with d r after p (frames_brought todo) (region_brought todo)) todo) →
-    e ≡ opened_for d r after todo p
+    e ≡ sent_kept t.numbers (record (core_with d r after p (frames_brought todo) (region_brought todo)) {
+      volatile = volatile_left t.numbers r.lun todo d.volatile;
+    }) todo) →
+    e ≡ left_for d r after todo p
 opened_as d s r h e after (Ok (plan.Send from size taken)) p u begun layer more =
     more s.translation begun.1.0
-    ∙ ap (λ (n : Numbers). sent_kept n (core_with d r after p frames.NotBrought 0) (Ok (plan.Send from size taken)))
-    (sym h.kept.layer_kept.kept.numbers)
+    ∙ ap (λ (n : Numbers). sent_kept n (record (core_with d r after p frames.NotBrought 0) {
+      volatile = volatile_left n r.lun (Ok (plan.Send from size taken)) d.volatile;
+    }) (Ok (plan.Send from size taken))) (sym h.kept.layer_kept.kept.numbers)
+    ∙ sent_still d.ftl.numbers (core_with d r after p frames.NotBrought 0)
+    (volatile_left d.ftl.numbers r.lun (Ok (plan.Send from size taken)) d.volatile) (Ok (plan.Send from size taken))
+opened_as d s r h e after (Err told) p u begun layer more =
+    more s.translation begun.1.0
+    ∙ ap (λ (n : Numbers). record (core_with d r after p frames.NotBrought 0) {
+      volatile = volatile_left n r.lun (Err told) d.volatile;
+    }) (sym h.kept.layer_kept.kept.numbers)
 opened_as d s r h e after (Ok (plan.Nothing n)) p u begun layer more = more u layer
 opened_as d s r h e after (Ok (plan.Read key blocks size)) p u begun layer more = more u layer
 opened_as d s r h e after (Ok (plan.Gather w slots)) p u begun layer more = more u layer
 opened_as d s r h e after (Ok plan.Flush) p u begun layer more = more u layer
-opened_as d s r h e after (Err told) p u begun layer more = more u layer
 
 pub same_phase : (d : DeviceCore) (r : Request) (after : Core) (p q : Phase) (v : State) → p ≡ q →
     IsBehind (core_opened d r after q) v → IsBehind (core_opened d r after p) v

@@ -11,16 +11,18 @@ use Rattle.std.proofs.lemmas.List.{take_min}
 use Rattle.std.proofs.lemmas.List.Concat.{flat_map-cons}
 use Rattle.ufs_spec.proofs.ConfigFacts.{config_tests, ranges}
 use Rattle.ufs_spec.specs.Begins.{capacity_bytes, told_bytes}
-use Rattle.ufs_spec.specs.Cdbs.{told_length}
-use Rattle.ufs_spec.specs.Identities.{luns_bytes, luns_listed, unit_entry}
+use Rattle.ufs_spec.specs.Refusals.{told_length}
+use Rattle.ufs_spec.specs.Identities.{long_capacity_bytes, luns_bytes, luns_listed, unit_entry}
 use Rattle.ufs_spec.specs.Messages.{zeros}
 use Rattle.ufs_spec.specs.declared.operations.Told.{Told}
 use Rattle.ufs_spec.specs.declared.operations.Told.TheVariants as told
 use Rattle.ufs_spec.specs.declared.scsi.Cdb.TheVariants as cdb
 use Rattle.ufs_laws.proofs.exchanges.ListedUnits.{luns_size}
+use Rattle.ufs_laws.proofs.exchanges.ToldPages.{commands_told}
 use Rattle.lun_route.proofs.Listed.{listed_count}
+use Rattle.lun_route.proofs.ToldLengths.{modes_fit, modes_length, page_fits, short_modes_fit, short_modes_length}
 use Rattle.device.specs.declared.plans.Identity.{Identity}
-use Rattle.device.specs.Frames.{capacity_told, identity_bytes}
+use Rattle.device.specs.Frames.{capacity_told, identity_bytes, long_capacity_told}
 use Rattle.device.specs.Plans.{identity_of, length_on, send_plan}
 use Rattle.device.specs.declared.plans.Source.TheVariants as source
 use Rattle.device.specs.Targets.{blocks_in}
@@ -127,6 +129,14 @@ module _ (d : DeviceCore) (s : State) (r : Request) (h : Describes d s) (free : 
       none : (u : UnitSpec) → None ≡ Some u → ⊥
       none u k = cc
 
+  long_capacity_same : (o : Option UnitSpec) → (u : UnitSpec) × (o ≡ Some u) →
+      long_capacity_told (blocks_in o) ≡ long_capacity_bytes o
+  long_capacity_same (Some u) there = refl
+  long_capacity_same None there = absurd (none there.0 there.1)
+    where
+      none : (u : UnitSpec) → None ≡ Some u → ⊥
+      none u k = cc
+
   -- is what the command tells
   told_same : (what : Told) (select allocation : ℕ) → IsNamed s r →
       spelled_cdb r.bytes ≡ Some (cdb.Tell what select allocation) →
@@ -137,31 +147,44 @@ module _ (d : DeviceCore) (s : State) (r : Request) (h : Describes d s) (free : 
       capacity_same (unit_numbers_of s r)
       (reads_there s r (cdb.Tell told.Capacity select allocation) named spells refl)
   told_same told.Units select allocation named spells = refl
+  told_same told.LongCapacity select allocation named spells =
+      long_capacity_same (unit_numbers_of s r)
+      (reads_there s r (cdb.Tell told.LongCapacity select allocation) named spells refl)
+  told_same told.Page select allocation named spells = refl
+  told_same told.Modes select allocation named spells = refl
+  told_same told.ShortModes select allocation named spells = refl
+  told_same told.Operations select allocation named spells = refl
 
   -- as long as it is said to be, and no longer than a block
-  told_size : (what : Told) (select allocation : ℕ) →
-      (length (identity_bytes (numbers_of s) (its_identity what select))
-      ≡ told_length (units_listed (numbers_of s) (cdb.Tell what select allocation)) what)
+  told_size : (what : Told) (select : ℕ) →
+      (length (identity_bytes (numbers_of s) (its_identity what select)) ≡ told_length (numbers_of s) r.lun what select)
       × (length (identity_bytes (numbers_of s) (its_identity what select)) ≤ 4096)
-  told_size told.Sense select allocation = (refl, omega arith)
-  told_size told.Identity select allocation = (refl, omega arith)
-  told_size told.Capacity select allocation = (refl, omega arith)
-  told_size told.Units select allocation = (luns_length (numbers_of s) select allocation, few_luns s h.tied select)
+  told_size told.Sense select = (refl, omega arith)
+  told_size told.Identity select = (refl, omega arith)
+  told_size told.Capacity select = (refl, omega arith)
+  told_size told.Units select = (luns_length (numbers_of s) select 0, few_luns s h.tied select)
+  told_size told.LongCapacity select = (refl, omega arith)
+  told_size told.Page select = (refl, page_fits (numbers_of s) r.lun select)
+  told_size told.Modes select =
+      (modes_length select (target_of s r).is_guarded, modes_fit select (target_of s r).is_guarded)
+  told_size told.ShortModes select =
+      (short_modes_length select (target_of s r).is_guarded, short_modes_fit select (target_of s r).is_guarded)
+  told_size told.Operations select = let few = (commands_told select).0 in (refl, omega (arith, few))
 
   pub tell_begins : (what : Told) (select allocation : ℕ) (p : Phase) → IsNamed s r →
       spelled_cdb r.bytes ≡ Some (cdb.Tell what select allocation) →
       Begins
       (Ok (send_plan r.expected (source.Identity (its_identity what select))
-      (length_on (numbers_of s) (cdb.Tell what select allocation)))) p →
+      (length_on (numbers_of s) r.lun (cdb.Tell what select allocation)))) p →
       Opens
       (Ok (send_plan r.expected (source.Identity (its_identity what select))
-      (length_on (numbers_of s) (cdb.Tell what select allocation)))) p
+      (length_on (numbers_of s) r.lun (cdb.Tell what select allocation)))) p
       (data_begun s r (cdb.Tell what select allocation) (take allocation (told_bytes s r what select)))
   tell_begins what select allocation p named spells begun =
-      let size = told_size what select allocation in
+      let size = told_size what select in
       subst (λ (bytes : List ℕ). Opens (Ok (send_plan r.expected (source.Identity (its_identity what select))
-      (length_on (numbers_of s) (cdb.Tell what select allocation)))) p
+      (length_on (numbers_of s) r.lun (cdb.Tell what select allocation)))) p
       (data_begun s r (cdb.Tell what select allocation) (take allocation bytes)))
       (told_same what select allocation named spells)
       (tells_begins (cdb.Tell what select allocation) (its_identity what select) allocation
-      (length_on (numbers_of s) (cdb.Tell what select allocation)) p refl size.1 (ap (min allocation) (sym size.0)) begun)
+      (length_on (numbers_of s) r.lun (cdb.Tell what select allocation)) p refl size.1 (ap (min allocation) (sym size.0)) begun)

@@ -6,6 +6,7 @@ use Rattle.std.specs.Prelude.{is_none, ◌&&◌}
 use Rattle.std.proofs.Math.Bool.{and-true}
 use Rattle.ufs_spec.specs.Exchanges as exchange
 use Rattle.ufs_spec.specs.Machine.{is_named, managed, service, service_found, without_tasks}
+use Rattle.ufs_spec.specs.Management.{volatile_managed}
 use Rattle.ufs_spec.specs.Messages.{is_among}
 use Rattle.device.specs.Manages.{all_tasks, carried, function_on, one_task, service_by}
 use Rattle.device.specs.declared.management.Managing.{Managing}
@@ -94,24 +95,28 @@ module _ (d : DeviceCore) (s : State) (lun function meant : ℕ)
   abbrev aborted_by : (aborts one : Bool) → exchange.Task → Bool
   aborted_by aborts one x = aborts && (x.lun == lun) && (not one || (x.tag == meant))
 
+  -- the state once the LUN has an attention, if it is a reset
+  abbrev t : State
+  t = record s { volatile = volatile_managed s lun function }
+
   abbrev made_by : (unit one more asks asks_all : Bool) → (x y : Bool) → State
   made_by u o m a b x y =
-      if code_by u o m a b x y == 0x00 then without_tasks s (aborted_by (o || m) o) else s
+      if code_by u o m a b x y == 0x00 then without_tasks t (aborted_by (o || m) o) else t
 
   nothing : (p : exchange.Task → Bool) (found : Bool) →
-      (if service_found found == 0x00 then without_tasks s (λ x. false && p x) else s) ≡ s
+      (if service_found found == 0x00 then without_tasks t (λ x. false && p x) else t) ≡ t
   nothing p true = refl
-  nothing p false = nobody_goes s (λ x. false && p x) (none_aborted p s.tasks)
+  nothing p false = nobody_goes t (λ x. false && p x) (none_aborted p s.tasks)
 
-  pub managed_same : managed s lun function meant ≡ carried s (function_on (numbers_of s) lun function meant)
+  pub managed_same : managed s lun function meant ≡ carried t (function_on (numbers_of s) lun function meant)
   managed_same =
       by unit (function == 0x01) more (function == 0x80) (function == 0x81)
       (list_any (is_named lun meant) s.tasks) (list_any (λ (x : exchange.Task). x.lun == lun) s.tasks)
     where
-      by : (u o m a b x y : Bool) → made_by u o m a b x y ≡ carried s (comes_to u o m a b this all)
+      by : (u o m a b x y : Bool) → made_by u o m a b x y ≡ carried t (comes_to u o m a b this all)
       by true o m a b x y = refl
-      by false true m a b x y = ap (without_tasks s) (λ i z. one_meant lun meant z i)
-      by false false true a b x y = ap (without_tasks s) (λ i z. (and-true (z.lun == lun) ∙ all_meant lun z) i)
+      by false true m a b x y = ap (without_tasks t) (λ i z. one_meant lun meant z i)
+      by false false true a b x y = ap (without_tasks t) (λ i z. (and-true (z.lun == lun) ∙ all_meant lun z) i)
       by false false false true b x y = nothing (λ z. (z.lun == lun) && (not false || (z.tag == meant))) x
       by false false false false true x y = nothing (λ z. (z.lun == lun) && (not false || (z.tag == meant))) y
       by false false false false false x y = refl

@@ -9,5 +9,5 @@ returns-clause-is c =
     answer_is s c.args.self.now c.numbers.result.now c.query_settings-settings.result c.may_set.result
     c.request_of-request.result (query_with c.args.query c.args.value) c.answer.result bare
     (c.numbers.ensures.described s.translation (same_layer _ _ s.translation c.self.view_is h))
-    c.query_settings-settings.ensures (c.may_set.ensures.what s h) c.request_of-request.ensures c.answer.ensures.code
+    (c.query_settings-settings.ensures s.translation h) (c.may_set.ensures.what s h) c.request_of-request.ensures c.answer.ensures.code
     c.answer.ensures.succeeds c.answer.ensures.says c.answer.ensures.may
