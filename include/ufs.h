@@ -82,6 +82,8 @@ typedef struct ufs_config {
     uint8_t rpmb[4]; /* the area of each RPMB region in steps of 128 KiB; 0 if it is not there */
     uint16_t slots;  /* how many blocks the write cache has room for */
     uint16_t spare;  /* how many blocks may be bad before the device refuses writes */
+    uint8_t profile; /* 0: the device of a few commands; 1: one that tells more, see ufs_open */
+    uint64_t serial; /* the serial number, which profile 1 alone tells */
 } ufs_config;
 
 /* A unit: its blocks of 4096 bytes, its boot number (0 none, 1 A, 2 B), and how it is protected
@@ -135,6 +137,11 @@ enum ufs_left {
 /*
  * Opens a device over new dies in memory. It takes all memory of the device: of the other calls
  * only `ufs_open_image`, `ufs_stop` and `ufs_save` may be refused memory.
+ *
+ * A device of profile 1 has an attention for each LUN after each opening, that of a stop too, and
+ * after a logical unit reset of the LUN. It refuses the first command to the LUN by 6/29/00 (CHECK
+ * CONDITION, UNIT ATTENTION), and ends the attention. INQUIRY and REPORT LUNS leave it, and REQUEST
+ * SENSE tells it as data and ends it. So send each LUN a TEST UNIT READY first.
  *
  * UFS_IS_OPEN where the handle holds a device; else UFS_RANGE (also of more than UFS_UNITS units),
  * UFS_TOO_LITTLE_SPARE, UFS_TWO_BOOT_UNITS, the first that applies; else UFS_NO_MEMORY. The handle
@@ -328,24 +335,71 @@ uint32_t ufs_unmap(uint8_t lun, uint8_t tag, uint8_t *into, size_t room);
 uint32_t ufs_unmap_list(uint8_t lun, uint8_t tag, uint64_t address, uint32_t blocks, uint8_t *into,
                         size_t room);
 
-/* What `ufs_ask` asks for: the operation codes of the commands. */
+/* What `ufs_ask` and `ufs_ask_for` ask for: the operation codes of the commands. A device of
+ * profile 0 has only the first five, and of INQUIRY no pages. */
 enum ufs_operation {
     UFS_TEST_UNIT_READY = 0x00,
     UFS_REQUEST_SENSE = 0x03,
     UFS_INQUIRY = 0x12,
     UFS_READ_CAPACITY = 0x25, /* READ CAPACITY(10) */
-    UFS_REPORT_LUNS = 0xA0    /* of the units of the configuration and the well-known ones */
+    UFS_REPORT_LUNS = 0xA0,   /* of the units of the configuration and the well-known ones */
+    UFS_MODE_SENSE_6 = 0x1A,
+    UFS_SEND_DIAGNOSTIC = 0x1D,
+    UFS_MODE_SENSE_10 = 0x5A,
+    UFS_READ_CAPACITY_16 = 0x9E,
+    UFS_REPORT_OPERATIONS = 0xA3 /* REPORT SUPPORTED OPERATION CODES */
 };
 
 /*
  * Writes the COMMAND with this operation code, of UFS_HEADER_BYTES bytes; `allocation` says for how
- * many bytes the host has room.
+ * many bytes the host has room. INQUIRY asks for standard data.
  *
- * UFS_BAD_NUMBER where `operation` is no `ufs_operation`, or `allocation` is above FFh for
- * UFS_REQUEST_SENSE or above FFFFh for UFS_INQUIRY. `into` stays as it is then.
+ * UFS_BAD_NUMBER where `operation` is not UFS_READ_CAPACITY_16 and none of the first five, or
+ * `allocation` is above FFh for UFS_REQUEST_SENSE or above FFFFh for UFS_INQUIRY. `into` stays as
+ * it is then.
  */
 uint32_t ufs_ask(uint8_t operation, uint8_t lun, uint8_t tag, uint32_t allocation, uint8_t *into,
                  size_t room);
+
+/*
+ * Writes the COMMAND with this operation code that asks for what is selected, of UFS_HEADER_BYTES
+ * bytes; `allocation` says for how many bytes the host has room. `selection` (SPC-4, the clauses of
+ * these commands) is
+ *
+ * - of UFS_INQUIRY the page of vital product data, 0 to FFh;
+ * - of UFS_MODE_SENSE_6 and UFS_MODE_SENSE_10 bytes 2 and 3 of the CDB: the mode page, 0100h, 0800h,
+ *   0A00h, 3F00h for all of them, or 3FFFh for all with their subpages; and 4000h more for its
+ *   changeable values, 8000h for the default and C000h for the saved ones, else for the current;
+ * - of UFS_REPORT_LUNS 0 for the units that are not well known, 1 for those that are, 2 for all;
+ * - of UFS_REPORT_OPERATIONS bytes 2 to 5 of the CDB, in which 78000000h has no bit: 0 for all
+ *   commands, 01000000h + 10000h * code for the one with this operation code, and 02000000h +
+ *   10000h * code + action for the one with this service action too; 80000000h more for timeouts;
+ * - of UFS_SEND_DIAGNOSTIC 1 with a self-test and 0 without. It has no data: `allocation` is 0.
+ *
+ * UFS_BAD_NUMBER where `operation` or `selection` is none of these, or `allocation` is above FFh for
+ * UFS_MODE_SENSE_6 or above FFFFh for UFS_MODE_SENSE_10 or UFS_INQUIRY. `into` stays as it is then.
+ */
+uint32_t ufs_ask_for(uint8_t operation, uint32_t selection, uint8_t lun, uint8_t tag,
+                     uint32_t allocation, uint8_t *into, size_t room);
+
+/* What `ufs_blocks_16` writes: operation codes of commands that a device of profile 1 has. */
+enum ufs_long_operation {
+    UFS_READ_16 = 0x88,
+    UFS_WRITE_16 = 0x8A,
+    UFS_PRE_FETCH_16 = 0x90,
+    UFS_SYNCHRONIZE_CACHE_16 = 0x91
+};
+
+/*
+ * Writes the COMMAND with this operation code, of UFS_HEADER_BYTES bytes, on `blocks` blocks of 4096
+ * bytes from `address` on (SBC-3). `option` is FUA of READ(16) and WRITE(16), and IMMED of the
+ * others. 0 blocks of PRE-FETCH(16) are all up to the end of the unit.
+ *
+ * UFS_BAD_NUMBER where `operation` is none of these, or a READ(16) or a WRITE(16) has 100000h blocks
+ * or more: a COMMAND cannot count their bytes. `into` stays as it is then.
+ */
+uint32_t ufs_blocks_16(uint8_t operation, uint8_t lun, uint8_t tag, uint64_t address,
+                       uint32_t blocks, bool option, uint8_t *into, size_t room);
 
 /*
  * Writes a QUERY REQUEST (JESD220, 10.7.8) without data, of UFS_HEADER_BYTES bytes. Its function is

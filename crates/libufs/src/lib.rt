@@ -9,9 +9,9 @@ ghost use Rattle.ufs_handle.specs.Exports.{EndsSo, FailsSo, IsJobShown, Numbered
 ghost use Rattle.ufs_handle.specs.Numbers.{answer_number, ended_number, flag_number, heard_number, open_number};
 ghost use Rattle.ufs_handle.specs.Numbers.{reply_number, saved_number, stop_number, taken_number};
 ghost use Rattle.ufs_handle.specs.Steps.{Settles};
-ghost use Rattle.ufs_messages.specs.Commands.{IsAsked, IsFlush, IsFrameWritten, IsNop, IsQueryWritten, IsRead};
-ghost use Rattle.ufs_messages.specs.Commands.{IsSecurity, IsTaskRequest, IsUnmap, IsUnmapList, IsWrite, ReadsFrame};
-ghost use Rattle.ufs_messages.specs.Commands.{asked_cdb, asked_of};
+ghost use Rattle.ufs_messages.specs.Commands.{IsAsked, IsFlush, IsFrameWritten, IsLong, IsNop, IsQueryWritten};
+ghost use Rattle.ufs_messages.specs.Commands.{IsRead, IsSecurity, IsTaskRequest, IsUnmap, IsUnmapList, IsWrite};
+ghost use Rattle.ufs_messages.specs.Commands.{ReadsFrame, asked_cdb, asked_of, selected_cdb};
 ghost use Rattle.ufs_messages.specs.Written.{IsCommand, IsDataOut, IsMac, ReadsResponse};
 ghost use Rattle.ufs_images.specs.Saved.{IsLength, OpensImage, SavesTo};
 ghost use Rattle.ufs_handle.specs.declared.fault.Fault.TheVariants as fault;
@@ -23,9 +23,9 @@ use ufs_handle::{
 };
 use ufs_images::{open_image, put_length, save};
 use ufs_messages::{
-    PlainFrame, PlainResponse, get_frame, get_response, put_asking, put_command, put_data_out,
-    put_flush, put_frame, put_mac, put_nop, put_query, put_read, put_security, put_task_request,
-    put_unmap, put_unmap_list, put_write,
+    PlainFrame, PlainResponse, get_frame, get_response, put_asking, put_asking_for, put_command,
+    put_data_out, put_flush, put_frame, put_long, put_mac, put_nop, put_query, put_read,
+    put_security, put_task_request, put_unmap, put_unmap_list, put_write,
 };
 use ufs_spec::Asked;
 
@@ -280,6 +280,39 @@ pub extern "C" fn ufs_ask(operation: u8, lun: u8, tag: u8, allocation: u32, into
         IsAsked (asked_cdb operation allocation) lun tag allocation answer into.old into.new) }
 {
     answer_number(&put_asking(operation, lun, tag, allocation, into))
+}
+
+/// Writes the COMMAND of one that asks for what is selected of these bytes.
+#[unsafe(no_mangle)]
+pub extern "C" fn ufs_ask_for(
+    operation: u8,
+    selection: u32,
+    lun: u8,
+    tag: u8,
+    allocation: u32,
+    into: &mut [u8],
+) -> u32
+    ensures { Numbered answer_number result (λ answer.
+        IsAsked (selected_cdb operation selection allocation) lun tag allocation answer into.old into.new) }
+{
+    answer_number(&put_asking_for(operation, selection, lun, tag, allocation, into))
+}
+
+/// Writes the COMMAND of one on blocks in sixteen bytes, with FUA or IMMED where that option is set.
+#[unsafe(no_mangle)]
+pub extern "C" fn ufs_blocks_16(
+    operation: u8,
+    lun: u8,
+    tag: u8,
+    address: u64,
+    blocks: u32,
+    option: bool,
+    into: &mut [u8],
+) -> u32
+    ensures { Numbered answer_number result (λ answer.
+        IsLong operation lun tag address blocks option answer into.old into.new) }
+{
+    answer_number(&put_long(operation, lun, tag, address, blocks, option, into))
 }
 
 /// Writes a QUERY REQUEST.

@@ -4,9 +4,9 @@ use row_messages::messages::{FUA, READ, WRITE, command, unmap, unmap_list};
 use std::process::Abort;
 use ufs_handle::Fault;
 use ufs_messages::{
-    PlainFrame, get_frame, put_asking, put_command, put_data_out, put_flush, put_frame, put_mac,
-    put_nop, put_query, put_read, put_security, put_task_request, put_unmap, put_unmap_list,
-    put_write,
+    PlainFrame, get_frame, put_asking, put_asking_for, put_command, put_data_out, put_flush,
+    put_frame, put_long, put_mac, put_nop, put_query, put_read, put_security, put_task_request,
+    put_unmap, put_unmap_list, put_write,
 };
 use ufs_spec::Asked;
 
@@ -85,6 +85,134 @@ fn short_messages_are_written(rt: HostRuntime) {
     expect(&rt, answer, &room, &nop);
 }
 
+/// The COMMAND to unit 2 with task tag 7, these flags, this many expected bytes and this CDB.
+fn whole(flags: u8, expected: [u8; 4], cdb: &[u8; 16]) -> [u8; 32] {
+    let mut bytes = [0; 32];
+    bytes[0] = 0x01;
+    bytes[1] = flags;
+    bytes[2] = 2;
+    bytes[3] = 7;
+    bytes[12..16].copy_from_slice(&expected);
+    bytes[16..].copy_from_slice(cdb);
+    bytes
+}
+
+/// What is asked for in profile 1 alone: READ CAPACITY(16); and by a selection page B0h of INQUIRY, page
+/// 08h of MODE SENSE(10), changeable values of all pages and subpages of (6), the well-known units of
+/// REPORT LUNS, READ CAPACITY(16) with its service action and timeouts of REPORT SUPPORTED OPERATION
+/// CODES, and a self-test of SEND DIAGNOSTIC (SPC-4, SBC-3).
+#[test]
+fn asking_commands_of_profile_1_are_written(rt: HostRuntime) {
+    let mut room = [0xEE; 64];
+    let capacity = [0x9E, 0x10, 0, 0, 0, 0, 0, 0, 0, 0, 0, 0, 0, 32, 0, 0];
+    let answer = put_asking(0x9E, 2, 7, 32, &mut room);
+    expect(&rt, answer, &room, &whole(0x40, [0, 0, 0, 32], &capacity));
+    let rows = [
+        (
+            0x12,
+            0xB0,
+            64,
+            0x40,
+            [0x12, 0x01, 0xB0, 0, 64, 0, 0, 0, 0, 0],
+        ),
+        (
+            0x5A,
+            0x0800,
+            28,
+            0x40,
+            [0x5A, 0, 0x08, 0, 0, 0, 0, 0, 28, 0],
+        ),
+        (
+            0x1A,
+            0x7FFF,
+            48,
+            0x40,
+            [0x1A, 0, 0x7F, 0xFF, 48, 0, 0, 0, 0, 0],
+        ),
+        (0xA0, 1, 16, 0x40, [0xA0, 0, 1, 0, 0, 0, 0, 0, 0, 16]),
+        (
+            0xA3,
+            0x829E0010,
+            64,
+            0x40,
+            [0xA3, 0x0C, 0x82, 0x9E, 0, 0x10, 0, 0, 0, 64],
+        ),
+        (0x1D, 1, 0, 0x00, [0x1D, 0x04, 0, 0, 0, 0, 0, 0, 0, 0]),
+    ];
+    for (operation, select, allocation, flags, front) in rows {
+        let mut room = [0xEE; 64];
+        let mut cdb = [0; 16];
+        cdb[..10].copy_from_slice(&front);
+        let answer = put_asking_for(operation, select, 2, 7, u32::from(allocation), &mut room);
+        expect(
+            &rt,
+            answer,
+            &room,
+            &whole(flags, [0, 0, 0, allocation], &cdb),
+        );
+    }
+}
+
+/// Commands on blocks in sixteen bytes: READ(16) from an address of 64 bits on, WRITE(16) with FUA,
+/// SYNCHRONIZE CACHE(16) and PRE-FETCH(16) with IMMED and without it, and the longest READ(16) (SBC-3).
+#[test]
+fn long_commands_are_written(rt: HostRuntime) {
+    let rows = [
+        (
+            0x88,
+            0x0102030405060708,
+            5,
+            false,
+            0x40,
+            [0, 0, 0x50, 0],
+            [0x88, 0, 1, 2, 3, 4, 5, 6, 7, 8, 0, 0, 0, 5, 0, 0],
+        ),
+        (
+            0x8A,
+            9,
+            128,
+            true,
+            0x20,
+            [0, 0x08, 0, 0],
+            [0x8A, 0x08, 0, 0, 0, 0, 0, 0, 0, 9, 0, 0, 0, 128, 0, 0],
+        ),
+        (
+            0x91,
+            0,
+            0,
+            true,
+            0x00,
+            [0, 0, 0, 0],
+            [0x91, 0x02, 0, 0, 0, 0, 0, 0, 0, 0, 0, 0, 0, 0, 0, 0],
+        ),
+        (
+            0x90,
+            5,
+            512,
+            false,
+            0x00,
+            [0, 0, 0, 0],
+            [0x90, 0, 0, 0, 0, 0, 0, 0, 0, 5, 0, 0, 2, 0, 0, 0],
+        ),
+        (
+            0x88,
+            0,
+            0xF_FFFF,
+            true,
+            0x40,
+            [0xFF, 0xFF, 0xF0, 0],
+            [
+                0x88, 0x08, 0, 0, 0, 0, 0, 0, 0, 0, 0, 0x0F, 0xFF, 0xFF, 0, 0,
+            ],
+        ),
+    ];
+    for (operation, address, blocks, option, flags, expected, cdb) in rows {
+        let mut room = [0xEE; 64];
+        let answer = put_long(operation, 2, 7, address, blocks, option, &mut room);
+        expect(&rt, answer, &room, &whole(flags, expected, &cdb));
+    }
+}
+
 /// A frame and the commands that carry frames are those of the standards, and a frame is read again.
 #[test]
 fn frames_are_written(rt: HostRuntime) {
@@ -148,6 +276,24 @@ fn wrong_numbers_are_told(rt: HostRuntime) {
     assert!(rt; matches!(wrong, Err(Fault::Number)));
     let wrong = put_asking(0x03, 0, 7, 256, &mut room);
     assert!(rt; matches!(wrong, Err(Fault::Number)));
+    for (operation, select, allocation) in [
+        (0x12, 0x100, 64),
+        (0x12, 0x80, 65536),
+        (0x5A, 0x1C00, 28),
+        (0x5A, 0x1_0800, 28),
+        (0x1A, 0x0800, 256),
+        (0xA0, 3, 16),
+        (0xA3, 0x0800_0000, 64),
+        (0x1D, 2, 0),
+        (0x25, 0, 8),
+    ] {
+        let wrong = put_asking_for(operation, select, 0, 7, allocation, &mut room);
+        assert!(rt; matches!(wrong, Err(Fault::Number)));
+    }
+    for (operation, blocks) in [(0x88, 0x10_0000), (0x8A, 0x10_0000), (0x28, 1)] {
+        let wrong = put_long(operation, 0, 7, 0, blocks, false, &mut room);
+        assert!(rt; matches!(wrong, Err(Fault::Number)));
+    }
     let wrong = put_security(true, 7, 4, 1, &mut room);
     assert!(rt; matches!(wrong, Err(Fault::Number)));
     let wrong = put_security(true, 7, 3, 9, &mut room);

@@ -12,6 +12,8 @@ pub const CONFIG: PlainConfig = PlainConfig {
     rpmb: [1, 0, 0, 0],
     slots: 64,
     spare: 2,
+    profile: 0,
+    serial: 1,
 };
 
 /// One unit of 32 blocks.

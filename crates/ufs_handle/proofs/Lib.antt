@@ -10,6 +10,7 @@ mod NewDies
 mod OpenedDies
 pub mod OwnCallLists
 pub mod OwnDies
+mod Profiles
 mod StoppedDies
 pub mod StopsAreEvents
 mod Told

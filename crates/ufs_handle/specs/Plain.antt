@@ -1,7 +1,7 @@
 -- What crosses to C as plain numbers and bytes.
 use Rattle.std.specs.Prelude.{◌≡◌, ◌≤◌, ℕ, List, ◌++◌, Option, length, map, option_map}
 use Rattle.std.specs.List.{All}
-use Rattle.ufs_spec.specs.Configs.{config_fault, numbers_of}
+use Rattle.ufs_spec.specs.Configs.{config_fault, numbers_of, with_profile}
 use Rattle.ufs_spec.specs.declared.configs.Numbers.{Numbers}
 use Rattle.ufs_spec.specs.declared.configs.UnitSpec.{UnitSpec}
 use Rattle.ufs_spec.specs.declared.flash.Job.{Job}
@@ -48,7 +48,9 @@ unit_of unit = record { blocks = unit.blocks; boot = unit.boot; protect = unit.p
 -- the numbers of a configuration with these units
 abbrev pub config_numbers : PlainConfig → List PlainUnit → Numbers
 config_numbers plain units =
-    numbers_of plain.dies plain.blocks plain.pages (map unit_of units) plain.rpmb plain.slots plain.spare
+    with_profile
+    (numbers_of plain.dies plain.blocks plain.pages (map unit_of units) plain.rpmb plain.slots plain.spare)
+    plain.profile plain.serial
 
 -- why these numbers are no configuration
 abbrev pub numbers_fault : PlainConfig → List PlainUnit → Option Fault

@@ -12,6 +12,9 @@ use ufs_spec::{Job, Outcome, Page, UnitSpec};
 /// How many units a configuration has at most.
 const MOST_UNITS: usize = 8;
 
+/// The profiles are 0 and 1.
+const LAST_PROFILE: u8 = 1;
+
 /// The numbers of a configuration but for its units.
 #[repr(C)]
 #[derive(Clone, Copy)]
@@ -22,6 +25,8 @@ pub struct PlainConfig {
     pub rpmb: [u8; 4],
     pub slots: u16,
     pub spare: u16,
+    pub profile: u8,
+    pub serial: u64,
 }
 
 /// A unit: its count of blocks, its boot number and how it is protected.
@@ -115,13 +120,15 @@ fn units_of(units: &[PlainUnit]) -> ArrayVec<UnitSpec, 8>
 ///
 /// # Errors
 ///
-/// `Range`, `TooLittleSpare` or `TwoBootUnits`, as `Config::new` tells them.
+/// `Range`, also of a profile above 1, `TooLittleSpare` or `TwoBootUnits`, as `Config::new` tells
+/// them: the first that applies.
+#[tactic(auto, using(crate::proofs::Profiles::no_such_profile, crate::proofs::Profiles::same_faults, crate::proofs::Profiles::too_many_units))]
 pub fn config_of(plain: &PlainConfig, units: &[PlainUnit]) -> Result<Config, Fault>
     ensures made { IfOk result (λ c. c ≡ config_numbers plain.now units.now) }
     ensures right { IfOk result (λ c. numbers_fault plain.now units.now ≡ None) }
     ensures refused { IfErr result (λ f. numbers_fault plain.now units.now ≡ Some f) }
 {
-    if units.len() > MOST_UNITS {
+    if units.len() > MOST_UNITS || plain.profile > LAST_PROFILE {
         return Err(Fault::Range);
     }
     let kept = units_of(units);
@@ -133,11 +140,8 @@ pub fn config_of(plain: &PlainConfig, units: &[PlainUnit]) -> Result<Config, Fau
         plain.rpmb,
         plain.slots,
         plain.spare,
-    );
-    match made {
-        Ok(config) => Ok(config),
-        Err(fault) => Err(Fault::from(fault)),
-    }
+    )?;
+    Ok(made.with_profile(plain.profile, plain.serial)?)
 }
 
 /// How a job ended: 0 a read with this page of 4192 bytes, 1 a read that failed, 2 a program or an

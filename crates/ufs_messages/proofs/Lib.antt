@@ -1,2 +1,3 @@
+mod ChosenCdbs
 mod DataOuts
 mod UnmapLists

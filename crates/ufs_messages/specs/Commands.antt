@@ -1,10 +1,11 @@
 -- The messages of a host that are whole commands, queries and short exchanges.
-use Rattle.std.specs.Prelude.{◌≡◌, ◌≢◌, ◌≤◌, ◌*◌, ℕ, ◌==◌, ◌&&◌, Bool, true, false, List, [], ◌∷◌, ◌++◌, Option, Some, None}
-use Rattle.std.specs.Prelude.{Result, Ok, Err, if◌then◌else◌, length, nat_lt, replicate}
+use Rattle.std.specs.Prelude.{◌≡◌, ◌≢◌, ◌≤◌, ◌*◌, ◌^◌, ℕ, ◌==◌, ◌&&◌, ◌||◌, Bool, true, false, List, [], ◌∷◌, ◌++◌}
+use Rattle.std.specs.Prelude.{Option, Some, None, Result, Ok, Err, if◌then◌else◌, length, nat_le, nat_lt, replicate}
 use Rattle.byteorder.specs.Endian.{big_bytes}
 use Rattle.ufs_bytes.specs.Fields.{field_at}
-use Rattle.ufs_spec.specs.CdbFields.{no_limit}
-use Rattle.ufs_spec.specs.Cdbs.{Direction, IsCdb, NoData, ToDevice, ToHost, cdb_bytes, direction_of}
+use Rattle.ufs_spec.specs.CdbFields.{no_limit, selects_modes}
+use Rattle.ufs_spec.specs.Cdbs.{Direction, IsCdb, NoData, SpellsCdb, ToDevice, ToHost, cdb_bytes, direction_of}
+use Rattle.ufs_spec.specs.Cdbs.{length_of, option_byte, selects_operations}
 use Rattle.ufs_spec.specs.DataOuts.{has_list_header}
 use Rattle.ufs_spec.specs.Frames.{frame_bytes, frame_in}
 use Rattle.ufs_spec.specs.Messages.{is_among}
@@ -12,11 +13,14 @@ use Rattle.ufs_spec.specs.declared.messages.Asked.{Asked}
 use Rattle.ufs_spec.specs.declared.messages.Message.{Message}
 use Rattle.ufs_spec.specs.declared.messages.Message.TheVariants.{Command, NopOut, QueryRequest, TaskRequest}
 use Rattle.ufs_spec.specs.declared.scsi.Cdb.{Cdb}
-use Rattle.ufs_spec.specs.declared.operations.TheConstants.{INQUIRY, READ_CAPACITY_10, REPORT_LUNS, REQUEST_SENSE}
-use Rattle.ufs_spec.specs.declared.operations.TheConstants.{TEST_UNIT_READY}
+use Rattle.ufs_spec.specs.declared.operations.TheConstants.{FUA, IMMED, INQUIRY, MAINTENANCE_IN, MODE_SENSE_10}
+use Rattle.ufs_spec.specs.declared.operations.TheConstants.{MODE_SENSE_6, PRE_FETCH_16, READ_16, READ_CAPACITY_10}
+use Rattle.ufs_spec.specs.declared.operations.TheConstants.{REPORT_LUNS, REQUEST_SENSE, SEND_DIAGNOSTIC}
+use Rattle.ufs_spec.specs.declared.operations.TheConstants.{SERVICE_ACTION_IN_16, SYNCHRONIZE_CACHE_16, TEST_UNIT_READY}
+use Rattle.ufs_spec.specs.declared.operations.TheConstants.{WRITE_16}
 use Rattle.ufs_spec.specs.declared.operations.Told.TheVariants as told
-use Rattle.ufs_spec.specs.declared.scsi.Cdb.TheVariants.{Flush, Nothing, Read, SecurityIn, SecurityOut, Tell, Unmap}
-use Rattle.ufs_spec.specs.declared.scsi.Cdb.TheVariants.{Write}
+use Rattle.ufs_spec.specs.declared.scsi.Cdb.TheVariants.{Diagnose, Flush, Nothing, Prefetch, Read, SecurityIn}
+use Rattle.ufs_spec.specs.declared.scsi.Cdb.TheVariants.{SecurityOut, Tell, Unmap, Write}
 use Rattle.ufs_spec.specs.Frames as frames
 use Rattle.ufs_handle.specs.Buffers.{IsPut}
 use Rattle.ufs_handle.specs.declared.fault.Fault.{Fault}
@@ -84,12 +88,67 @@ asked_cdb operation allocation =
     else if operation == REPORT_LUNS then Some (Tell told.Units 2 allocation)
     else if (operation == INQUIRY) && nat_lt allocation 65536 then Some (Tell told.Identity 0 allocation)
     else if (operation == REQUEST_SENSE) && nat_lt allocation 256 then Some (Tell told.Sense 0 allocation)
+    else if operation == SERVICE_ACTION_IN_16 then Some (Tell told.LongCapacity 0 allocation)
+    else None
+
+-- bytes 2 and 3 of MODE SENSE select mode pages (SPC)
+abbrev pub selects_pages : ℕ → Bool
+selects_pages select = nat_lt select 65536 && selects_modes select
+
+-- the command with this operation code that asks for what is selected: a page of vital product data by INQUIRY, mode pages
+-- by bytes 2 and 3 of MODE SENSE, units by REPORT LUNS, commands by bytes 2 to 5 of REPORT SUPPORTED OPERATION CODES, and 1,
+-- a self-test, or 0, none, by SEND DIAGNOSTIC; none where the code is another one, where nothing is selected so, or where
+-- the count of bytes has no room in its field
+abbrev pub selected_cdb : ℕ → ℕ → ℕ → Option Cdb
+selected_cdb operation select allocation =
+    if (operation == INQUIRY) && (nat_lt select 256 && nat_lt allocation 65536) then Some (Tell told.Page select allocation)
+    else if (operation == MODE_SENSE_6) && (selects_pages select && nat_lt allocation 256)
+    then Some (Tell told.ShortModes select allocation)
+    else if (operation == MODE_SENSE_10) && (selects_pages select && nat_lt allocation 65536)
+    then Some (Tell told.Modes select allocation)
+    else if (operation == REPORT_LUNS) && nat_le select 2 then Some (Tell told.Units select allocation)
+    else if (operation == MAINTENANCE_IN) && selects_operations select then Some (Tell told.Operations select allocation)
+    else if (operation == SEND_DIAGNOSTIC) && nat_lt select 2 then Some (Diagnose (select == 1))
     else None
 
 -- such a command is written; the buffer is as before where there is none
 abbrev pub IsAsked : Option Cdb → ℕ → ℕ → ℕ → Result (Unit {0}) Fault → List ℕ → List ℕ → Type 0
 IsAsked None lun tag allocation answer room into = IsSaid ⊥ ⊥ answer room into
 IsAsked (Some cdb) lun tag allocation answer room into = IsCdbWritten lun tag allocation cdb answer room into
+
+-- the command with this operation code on blocks, in sixteen bytes: the option is FUA of READ(16) and WRITE(16), and IMMED
+-- of the others; none where the code is another one, or where the bytes of blocks that are read or written have no count
+-- of 32 bits
+abbrev pub long_cdb : ℕ → ℕ → ℕ → Bool → Option Cdb
+long_cdb operation address blocks option =
+    if (operation == READ_16) && nat_lt blocks (2 ^ 20) then Some (Read address blocks)
+    else if (operation == WRITE_16) && nat_lt blocks (2 ^ 20) then Some (Write address blocks option)
+    else if operation == SYNCHRONIZE_CACHE_16 then Some (Flush option)
+    else if operation == PRE_FETCH_16 then Some (Prefetch address blocks)
+    else None
+
+-- its bit in byte 1
+abbrev pub long_option : ℕ → ℕ
+long_option operation = if (operation == READ_16) || (operation == WRITE_16) then FUA else IMMED
+
+-- the options in byte 1, the address in bytes 2..9, the count of blocks in bytes 10..13 (SBC)
+abbrev pub sixteen_bytes : ℕ → ℕ → ℕ → ℕ → List ℕ
+sixteen_bytes operation options address blocks =
+    (operation ∷ options ∷ []) ++ big_bytes 8 address ++ big_bytes 4 blocks ++ replicate 2 0
+
+-- the COMMAND with these bytes, which spell this command, is put into the buffer, with the flags and the length of its data;
+-- the buffer is as before where there is no command
+abbrev pub IsSpelled : Option Cdb → ℕ → ℕ → List ℕ → Result (Unit {0}) Fault → List ℕ → List ℕ → Type 0
+IsSpelled None lun tag bytes answer room into = IsSaid ⊥ ⊥ answer room into
+IsSpelled (Some cdb) lun tag bytes answer room into =
+    SpellsCdb cdb bytes
+    × IsWritten (Command (flags_of (direction_of cdb)) lun tag (length_of 0 cdb) bytes) answer room into
+
+-- a command on these blocks in sixteen bytes, with its option or without it
+abbrev pub IsLong : ℕ → ℕ → ℕ → ℕ → ℕ → Bool → Result (Unit {0}) Fault → List ℕ → List ℕ → Type 0
+IsLong operation lun tag address blocks option answer room into =
+    IsSpelled (long_cdb operation address blocks option) lun tag
+    (sixteen_bytes operation (option_byte (long_option operation) option) address blocks) answer room into
 
 -- ## The replay protected memory block
 
