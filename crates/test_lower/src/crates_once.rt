@@ -191,10 +191,10 @@ fn cdbs_are_taken_or_refused_by_their_tables(rt: HostRuntime) {
     assert!(rt; scsi_cdb::sense_bytes(&Sense::INVALID_FIELD) == sense);
 }
 
-/// INQUIRY has its allocation length in bytes 3 and 4 (SPC, INQUIRY command). It tells 36 bytes,
-/// and takes neither EVPD nor a page code.
+/// INQUIRY has its allocation length in bytes 3 and 4 (SPC, INQUIRY command). It tells 36 bytes, and
+/// takes a page code with EVPD alone.
 #[test]
-fn inquiry_is_taken_without_a_page(rt: HostRuntime) {
+fn inquiry_is_taken_with_a_page_or_without(rt: HostRuntime) {
     let inquiry = [0x12, 0, 0, 0x01, 0x24, 0, 0, 0, 0, 0, 0, 0, 0, 0, 0, 0];
     let taken = Cdb::Tell {
         told: Told::Identity,
@@ -203,18 +203,26 @@ fn inquiry_is_taken_without_a_page(rt: HostRuntime) {
     };
     assert!(rt; scsi_cdb::bytes_of(&taken) == inquiry);
     assert!(rt; matches!(scsi_cdb::read(&inquiry), Ok(cdb) if cdb == taken));
-    assert!(rt; scsi_cdb::length_of(0, &taken) == 36);
+    assert!(rt; scsi_cdb::length_of(36, &taken) == 36);
     let short = Cdb::Tell {
         told: Told::Identity,
         select: 0,
         allocation: 5,
     };
-    assert!(rt; scsi_cdb::length_of(0, &short) == 5);
-    for place in [1usize, 2, 5, 6, 15] {
+    assert!(rt; scsi_cdb::length_of(36, &short) == 5);
+    for place in [2usize, 5, 6, 15] {
         let mut other = inquiry;
         other[place] = 0x01;
         assert!(rt; is_refused(&other, Sense::INVALID_FIELD));
     }
+    let page = Cdb::Tell {
+        told: Told::Page,
+        select: 0x80,
+        allocation: 0x0124,
+    };
+    let asked = [0x12, 1, 0x80, 0x01, 0x24, 0, 0, 0, 0, 0, 0, 0, 0, 0, 0, 0];
+    assert!(rt; scsi_cdb::bytes_of(&page) == asked);
+    assert!(rt; matches!(scsi_cdb::read(&asked), Ok(cdb) if cdb == page));
 }
 
 /// REPORT LUNS has its selection in byte 2 and its allocation length in bytes 6 to 9 (SPC, REPORT
@@ -229,8 +237,8 @@ fn report_luns_is_taken_with_its_selection(rt: HostRuntime) {
     };
     assert!(rt; scsi_cdb::bytes_of(&taken) == report);
     assert!(rt; matches!(scsi_cdb::read(&report), Ok(cdb) if cdb == taken));
-    // Eight bytes, and eight for each unit.
-    assert!(rt; scsi_cdb::length_of(7, &taken) == 64);
+    // Eight bytes, and eight for each of seven units.
+    assert!(rt; scsi_cdb::length_of(64, &taken) == 64);
     let fourth = [0xA0, 0, 3, 0, 0, 0, 0, 0, 0x01, 0x40, 0, 0, 0, 0, 0, 0];
     assert!(rt; is_refused(&fourth, Sense::INVALID_FIELD));
     for place in [1usize, 3, 5, 10, 11] {

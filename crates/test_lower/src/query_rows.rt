@@ -13,6 +13,7 @@ const NEW: QuerySettings = QuerySettings {
     boot: 0,
     is_permanent: false,
     volatile: Volatile::NEW,
+    is_mended: true,
 };
 
 /// A query with this opcode, IDN, index and length, and this value.
@@ -103,6 +104,46 @@ fn settings_are_told_apart(rt: HostRuntime) -> Result<(), Fail> {
     let power_on = answer(numbers, NEW, true, &query(6, 3, 0, 0, 0));
     assert!(rt;
         matches!(&power_on, QueryAnswer::Told(told) if told.volatile.power_on && told.value == 1)
+    );
+    Ok(())
+}
+
+/// In profile 1 fDeviceInit is 1 from when it is set until the device is mended; in profile 0 it is 0.
+#[test]
+fn a_device_is_initialized_until_it_is_mended(rt: HostRuntime) -> Result<(), Fail> {
+    let config = row_config()?;
+    let unmended = QuerySettings {
+        is_mended: false,
+        ..NEW
+    };
+    let plain = answer(config.numbers(), unmended, true, &query(6, 1, 0, 0, 0));
+    assert!(rt; matches!(&plain, QueryAnswer::Told(told) if told.value == 0));
+    let config = config.with_profile(1, 1)?;
+    let numbers = config.numbers();
+    let unset = answer(numbers, unmended, true, &query(5, 1, 0, 0, 0));
+    assert!(rt; matches!(&unset, QueryAnswer::Told(told) if told.value == 0));
+    let at_once = answer(numbers, NEW, true, &query(6, 1, 0, 0, 0));
+    assert!(rt; matches!(&at_once, QueryAnswer::Told(told) if told.value == 0));
+    let set = answer(numbers, unmended, true, &query(6, 1, 0, 0, 0));
+    assert!(rt;
+        matches!(&set, QueryAnswer::Told(told) if told.volatile.initializing && told.value == 1)
+    );
+    let initializing = QuerySettings {
+        volatile: Volatile {
+            initializing: true,
+            ..Volatile::NEW
+        },
+        ..unmended
+    };
+    let still = answer(numbers, initializing, true, &query(5, 1, 0, 0, 0));
+    assert!(rt; matches!(&still, QueryAnswer::Told(told) if told.value == 1));
+    let mended = QuerySettings {
+        is_mended: true,
+        ..initializing
+    };
+    let done = answer(numbers, mended, true, &query(5, 1, 0, 0, 0));
+    assert!(rt;
+        matches!(&done, QueryAnswer::Told(told) if !told.volatile.initializing && told.value == 0)
     );
     Ok(())
 }

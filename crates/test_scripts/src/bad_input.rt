@@ -11,7 +11,7 @@ use ufsim::{Call, CallFault, call, run_text};
 const NINE_BLOCKS: &str = "config 4 16 64 1 64 4\nunit 9 0 0\n";
 
 /// Scripts whose first lines are wrong, and the line and the word of the fault.
-const WRONG_FIRST_LINES: [(&str, &str); 18] = [
+const WRONG_FIRST_LINES: [(&str, &str); 26] = [
     ("", "1: word\n"),
     ("config 4 16 64 1 64 4\n", "2: word\n"),
     ("config 4 16 64 1 64\n", "1: word\n"),
@@ -36,6 +36,35 @@ const WRONG_FIRST_LINES: [(&str, &str); 18] = [
         "3: config\n",
     ),
     ("config 300 16 64 1 64 4\nunit 256 1 0\nturn", "2: config\n"),
+    ("config 4 16 64 1 64 4\nprofile 1 1\n", "2: word\n"),
+    (
+        "config 4 16 64 1 64 4\nunit 9 0 0\nprofile 1\n",
+        "3: word\n",
+    ),
+    (
+        "config 4 16 64 1 64 4\nunit 9 0 0\nprofile 1 x 1\n",
+        "3: word\n",
+    ),
+    (
+        "config 4 16 64 1 64 4\nunit 9 0 0\nprofile 4294967296 x\n",
+        "3: number\n",
+    ),
+    (
+        "config 4 16 64 1 64 4\nunit 9 0 0\nprofile 1 18446744073709551616\n",
+        "3: number\n",
+    ),
+    (
+        "config 4 16 64 1 64 4\nunit 9 0 0\nprofile 2 1\nturn\n",
+        "3: config\n",
+    ),
+    (
+        "config 4 16 64 1 64 4\nunit 9 0 0\nprofile 257 1\nturn\n",
+        "3: config\n",
+    ),
+    (
+        "config 300 16 64 1 64 4\nunit 9 0 0\nprofile 0 1\nturn\n",
+        "3: config\n",
+    ),
 ];
 
 /// Each script whose first lines are wrong ends with a fault, which names the line and the word.
@@ -48,7 +77,14 @@ fn wrong_first_lines_are_told(rt: HostRuntime) {
 
 /// Lines behind the first ones, of which the last is wrong: what those before it print, and the line and the
 /// word of the fault.
-const WRONG_LINES: [(&str, &str, &str); 18] = [
+const WRONG_LINES: [(&str, &str, &str); 21] = [
+    ("turn\nprofile 1 1\n", "turn yes\n", "4: word\n"),
+    (
+        "profile 1 18446744073709551615\nturn\nprofile 1 1\n",
+        "turn yes\n",
+        "5: word\n",
+    ),
+    ("profile 0 0\nunit 9 0 0\n", "", "4: word\n"),
     ("turn\nunit 9 0 0", "turn yes\n", "4: word\n"),
     ("turn\n \n", "turn yes\n", "4: word\n"),
     ("turn\nturn\tnow\n", "turn yes\n", "4: word\n"),

@@ -2,7 +2,9 @@
 //! dies.
 use crate::frames::KEY_REQUEST;
 use crate::rpmb_write_stopped::{AT_13, EIGHT};
-use crate::steps::Step::{Command, Frames, Good, GoodFrames, Lines, Query, Send, Settle, Told};
+use crate::steps::Step::{
+    Command, Frames, Good, GoodFrames, Lines, Manage, Managed, Query, Refusal, Send, Settle, Told,
+};
 use crate::steps::{Script, Step};
 use ufsim::Stops;
 
@@ -152,4 +154,39 @@ fn a_setting_that_is_not_answered_may_be_missing(rt: HostRuntime) {
     script.add(&[Settle("2"), Told("01", "81ff", "04000000", "", "", "")]);
     script.run(&rt);
     script.check_each(&rt, Stops::One, b"check stops 12 bad 0\n");
+}
+
+/// The same dies and units, and profile 1: each LUN has an attention after each opening.
+const SMALL_OF_PROFILE_1: &str = "config 2 20 16 1 64 0\nunit 4 0 0\nunit 2 1 0\nprofile 1 7\n";
+
+/// The attention of unit 0 refuses a WRITE with FUA, 6/29/00, UNIT ATTENTION.
+const REFUSED_WRITE: [Step<'static>; 3] = [
+    Settle("4"),
+    Command("012000", "01", "00001000", "2a0800000001000001"),
+    Refusal("212000", "01", "00001000", "06", "2900"),
+];
+
+/// A reset of unit 0 leaves it another attention, which refuses a SYNCHRONIZE CACHE. Then the page of
+/// the write before it is programmed.
+const REFUSED_FLUSH: [Step<'static>; 6] = [
+    Manage("00", "03", "08", "00"),
+    Managed("00", "03", "00"),
+    Command("010000", "04", "", "35"),
+    Refusal("210000", "04", "", "06", "2900"),
+    Lines("take 0", "take 0 program 0 1"),
+    Lines("done 0 ok", "done 0 yes"),
+];
+
+/// What an attention refuses is neither accepted nor promises anything, and a check reads what is
+/// there in spite of attentions. The first mark takes two erases and a program, and the write a
+/// program: four moments. After the six stops inside the first erases and after two inside the mark
+/// the mending takes three programs and erases, each with three contents.
+#[test]
+fn each_stop_of_a_device_with_attentions_is_good(rt: HostRuntime) {
+    let mut script = Script::over(rt.alloc(), SMALL_OF_PROFILE_1);
+    script.add(&REFUSED_WRITE);
+    script.add(&WRITE);
+    script.add(&REFUSED_FLUSH);
+    script.run(&rt);
+    script.check_each(&rt, Stops::Second, b"check stops 84 bad 0\n");
 }

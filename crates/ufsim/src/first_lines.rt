@@ -1,8 +1,9 @@
-//! The first lines of a script: one `config` and one or more `unit`, of which a device is made.
+//! The first lines of a script: one `config`, one or more `unit`, and then `profile` or not. Of these
+//! a device is made.
 use crate::fault::{ScriptFault, Word};
 use crate::image::Sizes;
 use crate::lines::{Line, Lines};
-use crate::words::{Words, expect, number};
+use crate::words::{Words, expect, long_number, number};
 use arrayvec::ArrayVec;
 use device::World;
 use geometry::Config;
@@ -22,7 +23,9 @@ pub(crate) struct FirstLines<'a> {
     spare: u16,
     /// One unit more than a configuration may have is kept, and what comes after it is not.
     units: ArrayVec<UnitSpec, 9>,
-    /// The last `unit` line.
+    profile: u8,
+    serial: u64,
+    /// The last of the first lines.
     pub last: Line<'a>,
     /// The lines behind it.
     pub rest: Lines<'a>,
@@ -35,6 +38,7 @@ impl<'a> FirstLines<'a> {
         let line = next_line(&mut lines)?;
         let mut first = line.told(FirstLines::read_config(line, lines))?;
         first.read_units()?;
+        first.read_profile()?;
         Ok(first)
     }
 
@@ -54,6 +58,8 @@ impl<'a> FirstLines<'a> {
             slots: short_field(words.number()?),
             spare: short_field(words.number()?),
             units: ArrayVec::new(),
+            profile: 0,
+            serial: 1,
             last: line,
             rest,
         })
@@ -68,9 +74,26 @@ impl<'a> FirstLines<'a> {
             self.last = line;
             self.rest = lines;
             match lines.next() {
-                Some(next) if is_unit(next.bytes) => line = next,
+                Some(next) if is_named(next.bytes, b"unit") => line = next,
                 _ => return Ok(()),
             }
+        }
+    }
+
+    // Reads the line `profile`, if it is the next one. Without it a device has profile 0 and serial
+    // number 1.
+    fn read_profile(&mut self) -> Result<(), ScriptFault> {
+        let mut lines = self.rest;
+        match lines.next() {
+            Some(line) if is_named(line.bytes, b"profile") => {
+                let (profile, serial) = line.told(profile_numbers(line.bytes))?;
+                self.profile = byte_field(profile);
+                self.serial = serial;
+                self.last = line;
+                self.rest = lines;
+                Ok(())
+            }
+            _ => Ok(()),
         }
     }
 
@@ -94,7 +117,7 @@ impl<'a> FirstLines<'a> {
             self.slots,
             self.spare,
         );
-        match made {
+        match made.and_then(|config| config.with_profile(self.profile, self.serial)) {
             Ok(config) => Ok(config),
             Err(_) => Err(Word::Config),
         }
@@ -151,6 +174,12 @@ fn unit_numbers(line: &[u8]) -> Result<[u32; 3], Word> {
     Ok([words.number()?, words.number()?, words.number()?])
 }
 
+// The two numbers of a `profile` line.
+fn profile_numbers(line: &[u8]) -> Result<(u32, u64), Word> {
+    let mut words = words_behind(line, b"profile", 2)?;
+    Ok((words.number()?, long_number(words.word()?)?))
+}
+
 // `Word` unless a word is the area of region 0, or parts at its commas into four areas.
 fn expect_areas(word: &[u8]) -> Result<(), Word> {
     let mut count = 0usize;
@@ -175,10 +204,11 @@ fn areas_in(word: &[u8]) -> Result<[u8; 4], Word> {
     Ok(areas)
 }
 
-fn is_unit(line: &[u8]) -> bool {
+// Whether the first word of a line is this name.
+fn is_named(line: &[u8], name: &[u8]) -> bool {
     match Words::new(line).next() {
-        Some(b"unit") => true,
-        _ => false,
+        Some(word) => word == name,
+        None => false,
     }
 }
 

@@ -2,6 +2,7 @@
 //! event of the device, or several, and each has one line of output.
 #![tactic(auto)]
 
+mod attentions;
 mod check;
 mod commands;
 mod fault;

@@ -166,6 +166,9 @@ impl Visit {
 
     /// All that the device holds; `None` where it does not tell it rightly.
     pub fn read_all(&mut self, numbers: &Numbers, keys: &Keys) -> Result<Option<Holdings>, Word> {
+        if !self.end_attentions(numbers)? {
+            return Ok(None);
+        }
         let Some(units) = self.blocks(numbers.units.as_slice())? else {
             return Ok(None);
         };

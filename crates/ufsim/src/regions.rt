@@ -16,7 +16,7 @@ use ufs_spec::codes::{COMMAND, DATA_IN, DATA_OUT, READY_TO_TRANSFER};
 use ufs_spec::{Numbers, Upiu, write_u16};
 
 /// The LUN byte of the replay protected memory block (JESD220, 10.8.5).
-const RPMB: u8 = 0xC4;
+pub(crate) const RPMB: u8 = 0xC4;
 
 /// The operation codes of SECURITY PROTOCOL IN and OUT (SPC), and the flags of their COMMANDs.
 const SECURITY_IN: u8 = 0xA2;

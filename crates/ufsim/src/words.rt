@@ -63,14 +63,19 @@ pub(crate) fn expect(words: Words<'_>, count: usize) -> Result<(), Word> {
 
 /// A number in decimal digits, at most 4294967295; else `Number`.
 pub(crate) fn number(digits: &[u8]) -> Result<u32, Word> {
+    u32::try_from(long_number(digits)?).map_err(|_| Word::Number)
+}
+
+/// A number in decimal digits, at most 18446744073709551615; else `Number`.
+pub(crate) fn long_number(digits: &[u8]) -> Result<u64, Word> {
     if digits.is_empty() {
         return Err(Word::Number);
     }
-    let mut value = 0u32;
+    let mut value = 0u64;
     for digit in digits {
         let digit = char::from(*digit).to_digit(10).ok_or(Word::Number)?;
         let tens = value.checked_mul(10).ok_or(Word::Number)?;
-        value = tens.checked_add(digit).ok_or(Word::Number)?;
+        value = tens.checked_add(u64::from(digit)).ok_or(Word::Number)?;
     }
     Ok(value)
 }
