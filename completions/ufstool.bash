@@ -5,7 +5,12 @@ _ufstool_words() {
     read6 | write6) echo "--address --blocks $command" ;;
     read10 | write10) echo "--address --blocks --fua $command" ;;
     synchronize-cache | flush) echo "--immediate $command" ;;
-    request-sense | inquiry) echo "--allocation $command" ;;
+    prefetch) echo "--address --blocks $command" ;;
+    send-diagnostic) echo "--self-test $command" ;;
+    request-sense | read-capacity-16) echo "--allocation $command" ;;
+    inquiry) echo "--page --allocation $command" ;;
+    mode-sense | mode-sense-6) echo "--page --subpage --values --allocation $command" ;;
+    report-operations) echo "--code --action --timeouts --allocation $command" ;;
     report-luns) echo "--select --allocation $command" ;;
     test-unit-ready | read-capacity) echo "$command" ;;
     nop) echo '--task --help' ;;
@@ -28,7 +33,7 @@ _ufstool_words() {
 
 _ufstool() {
     local current=${COMP_WORDS[COMP_CWORD]} words=
-    local messages='read6 write6 read10 write10 unmap synchronize-cache flush test-unit-ready request-sense read-capacity inquiry report-luns nop data-out abort-task abort-task-set clear-task-set reset-unit query-task query-task-set read-device-descriptor read-unit-descriptor read-boot-lun-en write-boot-lun-en read-flag set-flag clear-flag toggle-flag rpmb-key rpmb-write rpmb-read rpmb-counter rpmb-result'
+    local messages='read6 write6 read10 write10 unmap synchronize-cache flush test-unit-ready request-sense read-capacity read-capacity-16 inquiry report-luns mode-sense mode-sense-6 report-operations prefetch send-diagnostic nop data-out abort-task abort-task-set clear-task-set reset-unit query-task query-task-set read-device-descriptor read-unit-descriptor read-boot-lun-en write-boot-lun-en read-flag set-flag clear-flag toggle-flag rpmb-key rpmb-write rpmb-read rpmb-counter rpmb-result'
     COMPREPLY=()
     if [ "$COMP_CWORD" -eq 1 ]; then
         words='explain host draw help --help --version'
@@ -36,6 +41,8 @@ _ufstool() {
         words="$messages --help"
     elif [ "${COMP_WORDS[1]}" = host ] && [ "${COMP_WORDS[COMP_CWORD - 1]}" = --flag ]; then
         words='fDeviceInit fPermanentWPEn fPowerOnWPEn'
+    elif [ "${COMP_WORDS[1]}" = host ] && [ "${COMP_WORDS[COMP_CWORD - 1]}" = --values ]; then
+        words='current changeable default saved'
     elif [ "${COMP_WORDS[1]}" = host ] && [ "${COMP_WORDS[COMP_CWORD - 1]}" = --region ]; then
         words='0 1 2 3'
     elif [ "${COMP_WORDS[1]}" = host ]; then

@@ -1,11 +1,12 @@
 # Completion of ufstool in fish.
 set -l messages read6 write6 read10 write10 unmap synchronize-cache flush test-unit-ready \
-    request-sense read-capacity inquiry report-luns nop data-out abort-task abort-task-set \
+    request-sense read-capacity read-capacity-16 inquiry report-luns mode-sense mode-sense-6 \
+    report-operations prefetch send-diagnostic nop data-out abort-task abort-task-set \
     clear-task-set reset-unit query-task query-task-set read-device-descriptor \
     read-unit-descriptor read-boot-lun-en write-boot-lun-en read-flag set-flag clear-flag \
     toggle-flag rpmb-key rpmb-write rpmb-read rpmb-counter rpmb-result
 set -l commands read6 write6 read10 write10 synchronize-cache flush test-unit-ready request-sense read-capacity \
-    inquiry report-luns
+    read-capacity-16 inquiry report-luns mode-sense mode-sense-6 report-operations prefetch send-diagnostic
 set -l tasks abort-task abort-task-set clear-task-set reset-unit query-task query-task-set
 
 complete -c ufstool -f
@@ -21,11 +22,18 @@ complete -c ufstool -n "__fish_seen_subcommand_from host; and not __fish_seen_su
 complete -c ufstool -n "__fish_seen_subcommand_from $messages" -l task -x -d 'The task tag'
 complete -c ufstool -n "__fish_seen_subcommand_from $commands $tasks unmap data-out" -l unit -x -d 'The LUN'
 complete -c ufstool -n "__fish_seen_subcommand_from $commands" -l expected -x -d 'How many bytes the host sends or has room for'
-complete -c ufstool -n '__fish_seen_subcommand_from read6 write6 read10 write10 unmap rpmb-write rpmb-read' -l address -x -d 'The first block'
-complete -c ufstool -n '__fish_seen_subcommand_from read6 write6 read10 write10 unmap rpmb-write rpmb-read' -l blocks -x -d 'How many blocks'
+complete -c ufstool -n '__fish_seen_subcommand_from read6 write6 read10 write10 prefetch unmap rpmb-write rpmb-read' -l address -x -d 'The first block'
+complete -c ufstool -n '__fish_seen_subcommand_from read6 write6 read10 write10 prefetch unmap rpmb-write rpmb-read' -l blocks -x -d 'How many blocks'
 complete -c ufstool -n '__fish_seen_subcommand_from read10 write10' -l fua -d 'Set FUA'
 complete -c ufstool -n '__fish_seen_subcommand_from synchronize-cache flush' -l immediate -d 'Set IMMED'
-complete -c ufstool -n '__fish_seen_subcommand_from request-sense inquiry report-luns' -l allocation -x -d 'The allocation length'
+complete -c ufstool -n '__fish_seen_subcommand_from request-sense inquiry report-luns read-capacity-16 mode-sense mode-sense-6 report-operations' -l allocation -x -d 'The allocation length'
+complete -c ufstool -n '__fish_seen_subcommand_from inquiry mode-sense mode-sense-6' -l page -x -d 'The page, in decimal'
+complete -c ufstool -n '__fish_seen_subcommand_from mode-sense mode-sense-6' -l subpage -x -d 'The subpage, in decimal'
+complete -c ufstool -n '__fish_seen_subcommand_from mode-sense mode-sense-6' -l values -x -a 'current changeable default saved' -d 'Which values are asked for'
+complete -c ufstool -n '__fish_seen_subcommand_from report-operations' -l code -x -d 'The operation code, in decimal'
+complete -c ufstool -n '__fish_seen_subcommand_from report-operations' -l action -x -d 'The service action, in decimal'
+complete -c ufstool -n '__fish_seen_subcommand_from report-operations' -l timeouts -d 'Set RCTD'
+complete -c ufstool -n '__fish_seen_subcommand_from send-diagnostic' -l self-test -d 'Set SELFTEST'
 complete -c ufstool -n '__fish_seen_subcommand_from report-luns' -l select -x -a '0 1 2' -d 'Which units are listed'
 complete -c ufstool -n '__fish_seen_subcommand_from data-out' -l offset -x -d 'Where the data are in those of the command'
 complete -c ufstool -n '__fish_seen_subcommand_from data-out' -l bytes -x -d 'How many bytes'

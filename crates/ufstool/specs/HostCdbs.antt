@@ -22,6 +22,13 @@ meaning (host.Read10 address blocks forced) = cdb.Read address blocks
 meaning (host.Write10 address blocks forced) = cdb.Write address blocks forced
 meaning (host.SynchronizeCache10 immediate) = cdb.Flush immediate
 meaning (host.ReportLuns select allocation) = cdb.Tell told.Units select allocation
+meaning (host.InquiryPage page allocation) = cdb.Tell told.Page page allocation
+meaning (host.ReadCapacity16 allocation) = cdb.Tell told.LongCapacity 0 allocation
+meaning (host.ModeSense6 select allocation) = cdb.Tell told.ShortModes select allocation
+meaning (host.ModeSense10 select allocation) = cdb.Tell told.Modes select allocation
+meaning (host.ReportOperations select allocation) = cdb.Tell told.Operations select allocation
+meaning (host.Prefetch10 address blocks) = cdb.Prefetch address blocks
+meaning (host.SendDiagnostic tests) = cdb.Diagnose tests
 
 -- READ(6) and WRITE(6) (SBC): the address in bits 4..0 of byte 1 and in bytes 2 and 3, the blocks in byte 4
 abbrev pub six_bytes : ℕ → ℕ → ℕ → List ℕ
@@ -33,4 +40,7 @@ host_bytes (host.Read6 address blocks) = six_bytes READ_6 address blocks
 host_bytes (host.Write6 address blocks) = six_bytes WRITE_6 address blocks
 host_bytes (host.Read10 address blocks forced) = ten_bytes READ_10 (option_byte FUA forced) address blocks
 host_bytes (host.ReportLuns select allocation) = asking_bytes told.Units select allocation
+host_bytes (host.ModeSense6 select allocation) = asking_bytes told.ShortModes select allocation
+host_bytes (host.ModeSense10 select allocation) = asking_bytes told.Modes select allocation
+host_bytes (host.ReportOperations select allocation) = asking_bytes told.Operations select allocation
 host_bytes other = cdb_bytes (meaning other)

@@ -7,6 +7,9 @@ use Rattle.ufstool.specs.declared.host_cdbs.HostCdb.{HostCdb}
 use Rattle.ufs_spec.specs.Codes.{data_out_code}
 use Rattle.ufs_spec.specs.Messages.{header, padding, spelling, transfer, zeros}
 use Rattle.ufs_spec.specs.declared.Cdb.{Cdb}
+use Rattle.ufs_spec.specs.declared.operations.Told.{Told}
+use Rattle.ufs_spec.specs.declared.operations.Told.TheVariants as told
+use Rattle.ufs_spec.specs.declared.scsi.Cdb.TheVariants as cdb
 use Rattle.ufs_spec.specs.declared.messages.Message.TheVariants.{Command as CommandMessage, NopOut as NopOutMessage}
 use Rattle.ufstool.specs.HostQueries.{query_asked, query_spelled}
 use Rattle.ufstool.specs.HostTasks.{task_spelled}
@@ -19,9 +22,28 @@ flags_of NoData = 0x00
 flags_of ToDevice = 0x20
 flags_of ToHost = 0x40
 
--- how many bytes a host expects: so many, or all of the command, where REPORT LUNS lists twelve units
+-- how many bytes there are to tell at most, on any device (SPC, SBC): REPORT LUNS lists no more than twelve units,
+-- the longest page of vital product data has 64 bytes, all mode pages have 44, behind a header, and REPORT SUPPORTED
+-- OPERATION CODES tells no more than 20 of each of 23 commands, behind their length
+abbrev pub most_of : Told → ℕ
+most_of told.Sense = 18
+most_of told.Identity = 36
+most_of told.Capacity = 8
+most_of told.Units = 104
+most_of told.LongCapacity = 32
+most_of told.Page = 64
+most_of told.Modes = 52
+most_of told.ShortModes = 48
+most_of told.Operations = 464
+
+-- the same of a command; nothing is told by any other
+abbrev pub most_told : Cdb → ℕ
+most_told (cdb.Tell what select allocation) = most_of what
+most_told command = 0
+
+-- how many bytes a host expects: so many, or the most that the command has
 abbrev pub expected_of : HostCdb → Option ℕ → ℕ
-expected_of cdb None = length_of 12 (meaning cdb)
+expected_of cdb None = length_of (most_told (meaning cdb)) (meaning cdb)
 expected_of cdb (Some n) = n
 
 -- the bytes of a COMMAND with a CDB of this command in the form in which it is written

@@ -54,6 +54,8 @@ pub enum Cause<'a> {
     Number(&'a str),
     /// The number is above 4294967295.
     NumberSize(&'a str),
+    /// The number of 64 bits is above 18446744073709551615.
+    LongNumberSize(&'a str),
     /// The word is neither one size of the RPMB nor four.
     Regions(&'a str),
     /// The digits begin with `0x`.
@@ -117,6 +119,12 @@ impl fmt::Display for Cause<'_> {
             }
             Cause::Number(word) => write!(f, "'{word}' is no number; write decimal digits alone"),
             Cause::NumberSize(word) => write!(f, "{word} is too big; numbers go up to 4294967295"),
+            Cause::LongNumberSize(word) => {
+                write!(
+                    f,
+                    "{word} is too big; a serial number goes up to 18446744073709551615"
+                )
+            }
             Cause::HexCount(count) => {
                 write!(
                     f,

@@ -18,6 +18,8 @@ pub enum Layout {
     Device,
     /// The descriptor of a unit (JESD220, 14.1.4.5).
     Unit,
+    /// The geometry descriptor (JESD220, 14.1.4.4).
+    Geometry,
     /// INQUIRY data (SPC, standard INQUIRY data).
     Inquiry,
     /// UNMAP's list (SBC, UNMAP parameter list), of so many bytes.
@@ -106,6 +108,43 @@ const UNIT_FIELDS: [Field; 17] = [
     ("bLargeUnitGranularity_M1", 1, Shape::Count),
 ];
 
+const GEOMETRY_FIELDS: [Field; 34] = [
+    ("bLength", 1, Shape::Count),
+    ("bDescriptorIDN", 1, Shape::Idn),
+    ("bMediaTechnology", 1, Shape::Code),
+    ("byte 3", 1, Shape::Quiet),
+    ("qTotalRawDeviceCapacity", 8, Shape::Count),
+    ("bMaxNumberLU", 1, Shape::Code),
+    ("dSegmentSize", 4, Shape::Count),
+    ("bAllocationUnitSize", 1, Shape::Count),
+    ("bMinAddrBlockSize", 1, Shape::Count),
+    ("bOptimalReadBlockSize", 1, Shape::Count),
+    ("bOptimalWriteBlockSize", 1, Shape::Count),
+    ("bMaxInBufferSize", 1, Shape::Count),
+    ("bMaxOutBufferSize", 1, Shape::Count),
+    ("bRPMB_ReadWriteSize", 1, Shape::Count),
+    ("bDynamicCapacityResourcePolicy", 1, Shape::Code),
+    ("bDataOrdering", 1, Shape::Code),
+    ("bMaxContexIDNumber", 1, Shape::Count),
+    ("bSysDataTagUnitSize", 1, Shape::Count),
+    ("bSysDataTagResSize", 1, Shape::Count),
+    ("bSupportedSecRTypes", 1, Shape::Code),
+    ("wSupportedMemoryTypes", 2, Shape::Code),
+    ("dSystemCodeMaxNAllocU", 4, Shape::Count),
+    ("wSystemCodeCapAdjFac", 2, Shape::Count),
+    ("dNonPersistMaxNAllocU", 4, Shape::Count),
+    ("wNonPersistCapAdjFac", 2, Shape::Count),
+    ("dEnhanced1MaxNAllocU", 4, Shape::Count),
+    ("wEnhanced1CapAdjFac", 2, Shape::Count),
+    ("dEnhanced2MaxNAllocU", 4, Shape::Count),
+    ("wEnhanced2CapAdjFac", 2, Shape::Count),
+    ("dEnhanced3MaxNAllocU", 4, Shape::Count),
+    ("wEnhanced3CapAdjFac", 2, Shape::Count),
+    ("dEnhanced4MaxNAllocU", 4, Shape::Count),
+    ("wEnhanced4CapAdjFac", 2, Shape::Count),
+    ("dOptimalLogicalBlockSize", 4, Shape::Count),
+];
+
 const INQUIRY_FIELDS: [Field; 11] = [
     ("peripheral device type", 1, Shape::Device),
     ("byte 1", 1, Shape::Quiet),
@@ -135,6 +174,7 @@ pub fn write_fields<W: Write>(out: &mut W, layout: Layout, bytes: &[u8]) -> io::
     match layout {
         Layout::Device => write_each(out, layout, &DEVICE_FIELDS, bytes),
         Layout::Unit => write_each(out, layout, &UNIT_FIELDS, bytes),
+        Layout::Geometry => write_each(out, layout, &GEOMETRY_FIELDS, bytes),
         Layout::Inquiry => write_each(out, layout, &INQUIRY_FIELDS, bytes),
         Layout::UnmapList(_) => write_each(out, layout, &LIST_FIELDS, bytes),
     }
@@ -335,6 +375,7 @@ fn words_of(layout: Layout, place: usize, value: u64) -> &'static str {
     match layout {
         Layout::Device => device_words(place, value),
         Layout::Unit => unit_words(place, value),
+        Layout::Geometry => geometry_words(place, value),
         Layout::Inquiry => inquiry_words(place, value),
         Layout::UnmapList(length) => list_words(length, place, value),
     }
@@ -351,6 +392,7 @@ fn device_words(place: usize, value: u64) -> &'static str {
         (0x09, 0x01) => "readable during the boot sequence",
         (0x0A, 0x00) => "UFS-Sleep mode",
         (0x0A, 0x01) => "active mode",
+        (0x0B, 0x7F) => "no unit has priority",
         (0x0D, 0x00) => "not supported",
         (0x0D, 0x01) => "RPMB",
         _ => "",
@@ -373,6 +415,16 @@ fn unit_words(place: usize, value: u64) -> &'static str {
         (0x17, 0x00) => "no thin provisioning",
         (0x17, 0x02) => "thin provisioning",
         (0x17, 0x03) => "thin provisioning, unmapped blocks read as zeros",
+        _ => "",
+    }
+}
+
+fn geometry_words(place: usize, value: u64) -> &'static str {
+    match (place, value) {
+        (0x04, _) => "in 512 bytes",
+        (0x0C, 0x00) => "8 units",
+        (0x0C, 0x01) => "32 units",
+        (0x1E, 0x8001) => "normal memory and RPMB",
         _ => "",
     }
 }

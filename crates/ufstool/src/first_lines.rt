@@ -2,12 +2,14 @@
 ghost use Rattle.std.specs.Prelude.{◌≡◌, sum};
 
 use crate::cause::{Cause, Range};
-use crate::lines::{Words, first_word, number, numbers_in};
+use crate::lines::{Words, first_word, long_number, number, numbers_in};
 use std::fmt;
 
 const CONFIG: &str = "config DIES BLOCKS PAGES RPMB SLOTS SPARE";
 
 const UNIT: &str = "unit BLOCKS BOOT PROTECT";
+
+const PROFILE: &str = "profile PROFILE SERIAL";
 
 /// The numbers of a `config` line.
 #[derive(Clone, Copy)]
@@ -27,6 +29,13 @@ pub struct UnitLine {
     pub blocks: u32,
     pub boot: u32,
     pub protect: u32,
+}
+
+/// The numbers of a `profile` line.
+#[derive(Clone, Copy)]
+pub struct ProfileLine {
+    profile: u32,
+    serial: u64,
 }
 
 /// What the `unit` lines that were read so far add up to.
@@ -158,6 +167,18 @@ impl UnitLine {
     }
 }
 
+impl ProfileLine {
+    /// Reads a `profile` line, and sees that the profile is 0 or 1.
+    pub fn read(line: &str) -> Result<ProfileLine, Cause<'_>> {
+        let mut words = Words::new(line, 3, PROFILE)?;
+        let _name = words.word();
+        let profile = words.number()?;
+        let serial = long_number(words.word())?;
+        keep_ranges(&[range("profile", profile, 0, 1)])?;
+        Ok(ProfileLine { profile, serial })
+    }
+}
+
 impl UnitSum {
     /// Adds a unit. There are at most eight, and no two have the same boot number but 0.
     pub fn add(&mut self, unit: &UnitLine) -> Result<(), Cause<'static>> {
@@ -257,5 +278,12 @@ impl fmt::Display for UnitLine {
             f,
             "a unit of {blocks} {noun} ({size} KiB), {boot}, {protect}"
         )
+    }
+}
+
+impl fmt::Display for ProfileLine {
+    fn fmt<W: fmt::Write>(&self, f: &mut fmt::Formatter<W>) -> fmt::Result {
+        let ProfileLine { profile, serial } = *self;
+        write!(f, "profile {profile}, serial number {serial}")
     }
 }

@@ -8,7 +8,7 @@ ghost use Rattle.ufs_spec.specs.Messages.{AreFlags, IsMessage};
 ghost use Rattle.std.specs.Io.KnownBytes.{Appends};
 ghost use Rattle.ufstool.specs.HostCdbs.{host_bytes, meaning};
 ghost use Rattle.ufstool.specs.HostMessages.{asked_lines, bytes_wanted, host_spelled};
-ghost use Rattle.ufstool.specs.HostMessages.{expected_of, flags_of, line_of};
+ghost use Rattle.ufstool.specs.HostMessages.{expected_of, flags_of, line_of, most_of, most_told};
 ghost use Rattle.ufs_spec.specs.declared.messages.Message.TheVariants.{Command as CommandMessage};
 ghost use Rattle.ufstool.specs.declared.host.HostMessage.TheVariants.{DataOut, NopOut};
 
@@ -20,10 +20,7 @@ use std::alloc::{AllocError, Global};
 use std::io;
 use std::io::Write;
 use thiserror::Error;
-use ufs_spec::{Cdb, Data, Message, Upiu};
-
-/// REPORT LUNS lists no more than eight units and four well known ones.
-const MOST_UNITS: u8 = 12;
+use ufs_spec::{Cdb, Data, Message, Told, Upiu};
 
 /// A message that a line can be written for.
 #[derive(Clone, Copy)]
@@ -33,7 +30,7 @@ pub enum HostMessage {
         task: u8,
     },
     /// COMMAND. `expected` is how many bytes the host sends or has room for; without it, all bytes
-    /// of the command, and of REPORT LUNS those of a list of twelve units.
+    /// of the command, and of what is told as many as any device tells at most.
     Command {
         unit: u8,
         task: u8,
@@ -71,6 +68,13 @@ pub enum LineFault {
     /// REPORT LUNS has no such selection.
     #[error("the selection of REPORT LUNS is 0, 1 or 2")]
     Selection,
+    /// MODE SENSE has no such pages.
+    #[error("the mode pages are 1, 8, 10 and 63, which stands for all; the subpage is 0, or 255 of \
+             page 63")]
+    Modes,
+    /// REPORT SUPPORTED OPERATION CODES has no such selection.
+    #[error("bits 6 to 3 of byte 2 of REPORT SUPPORTED OPERATION CODES are zero")]
+    Operations,
     /// A DATA OUT has 1 to 4096 bytes.
     #[error("a DATA OUT has 1 to 4096 bytes; give such a number to --bytes")]
     Count,
@@ -186,9 +190,37 @@ fn command_of(
     }
     let length = match expected {
         Some(length) => length,
-        None => length_of(MOST_UNITS, &meaning),
+        None => length_of(most_told(&meaning), &meaning),
     };
     Ok(command_message(direction_of(&meaning), unit, task, length, cdb))
+}
+
+// How many bytes the command tells at most, on any device.
+fn most_told(command: &Cdb) -> u32
+    ensures { result ≡ most_told command.now }
+{
+    match command {
+        Cdb::Tell { told, .. } => most_of(*told),
+        _ => 0,
+    }
+}
+
+// How many bytes there are at most of what is told (SPC, SBC): REPORT LUNS lists no more than eight
+// units and four well known ones.
+fn most_of(told: Told) -> u32
+    ensures { result ≡ most_of told }
+{
+    match told {
+        Told::Sense => 18,
+        Told::Identity => 36,
+        Told::Capacity => 8,
+        Told::Units => 104,
+        Told::LongCapacity => 32,
+        Told::Page => 64,
+        Told::Modes => 52,
+        Told::ShortModes => 48,
+        Told::Operations => 464,
+    }
 }
 
 /// The COMMAND with these fields (JESD220, 10.7.1).
@@ -243,7 +275,7 @@ fn direction_of(command: &Cdb) -> u8
     ensures direction { result ≡ flags_of (direction_of command.now) }
 {
     match command {
-        Cdb::Nothing | Cdb::Flush { .. } => 0x00,
+        Cdb::Nothing | Cdb::Flush { .. } | Cdb::Prefetch { .. } | Cdb::Diagnose { .. } => 0x00,
         Cdb::Write { .. } | Cdb::Unmap { .. } | Cdb::SecurityOut { .. } => 0x20,
         _ => 0x40,
     }

@@ -2,13 +2,17 @@
 ghost use Rattle.std.specs.Prelude.{◌≡◌, ◌<◌, ◌≤◌, ◌^◌};
 ghost use Rattle.ufs_spec.specs.CdbFields.{six_blocks};
 ghost use Rattle.ufs_spec.specs.Cdbs.{asking_bytes, blocks_of};
-ghost use Rattle.ufs_spec.specs.declared.Cdb.TheVariants.{Read, Tell, Write};
+ghost use Rattle.ufs_spec.specs.declared.Cdb.TheVariants.{Prefetch, Read, Tell, Write};
 ghost use Rattle.ufs_spec.specs.declared.operations.Told.TheVariants as told;
 ghost use Rattle.ufstool.specs.HostCdbs.{host_bytes, meaning, six_bytes};
 
 use crate::host::LineFault;
 use scsi_cdb::{bytes_of, ten_bytes_of};
-use ufs_spec::operations::{FUA, READ_6, READ_10, REPORT_LUNS, WRITE_6};
+use ufs_bytes::write_u16;
+use ufs_spec::operations::{
+    FUA, MAINTENANCE_IN, MODE_SENSE_6, MODE_SENSE_10, READ_6, READ_10, REPORT_LUNS,
+    REPORT_OPERATIONS, WRITE_6,
+};
 use ufs_spec::{Cdb, Told, write_u32};
 
 /// A command that a line can be written for, in the form in which it is written.
@@ -57,6 +61,40 @@ pub enum HostCdb {
         select: u8,
         allocation: u32,
     },
+    /// SPC, INQUIRY of a page of vital product data.
+    InquiryPage {
+        page: u8,
+        allocation: u16,
+    },
+    /// SBC, READ CAPACITY(16).
+    ReadCapacity16 {
+        allocation: u32,
+    },
+    /// SPC, MODE SENSE(6). Its bytes 2 and 3 are `select`: which values, the page and the subpage.
+    ModeSense6 {
+        select: u16,
+        allocation: u8,
+    },
+    /// SPC, MODE SENSE(10), with the selection of MODE SENSE(6).
+    ModeSense10 {
+        select: u16,
+        allocation: u16,
+    },
+    /// SPC, REPORT SUPPORTED OPERATION CODES. Its bytes 2 to 5 are `select`: RCTD with the reporting
+    /// options, the operation code and its service action.
+    ReportOperations {
+        select: u32,
+        allocation: u32,
+    },
+    /// SBC, PRE-FETCH(10): 0 blocks are all up to the unit's end.
+    Prefetch10 {
+        address: u32,
+        blocks: u16,
+    },
+    /// SPC, SEND DIAGNOSTIC, with SELFTEST or without it.
+    SendDiagnostic {
+        tests: bool,
+    },
 }
 
 impl HostCdb {
@@ -70,7 +108,24 @@ impl HostCdb {
             HostCdb::RequestSense { allocation } => tell(Told::Sense, 0, u32::from(allocation)),
             HostCdb::Inquiry { allocation } => tell(Told::Identity, 0, u32::from(allocation)),
             HostCdb::ReadCapacity10 => tell(Told::Capacity, 0, u32::MAX),
-            HostCdb::ReportLuns { select, allocation } => tell(Told::Units, select, allocation),
+            HostCdb::ReportLuns { select, allocation } => {
+                tell(Told::Units, u32::from(select), allocation)
+            }
+            HostCdb::InquiryPage { page, allocation } => {
+                tell(Told::Page, u32::from(page), u32::from(allocation))
+            }
+            HostCdb::ReadCapacity16 { allocation } => tell(Told::LongCapacity, 0, allocation),
+            HostCdb::ModeSense6 { select, allocation } => {
+                tell(Told::ShortModes, u32::from(select), u32::from(allocation))
+            }
+            HostCdb::ModeSense10 { select, allocation } => {
+                tell(Told::Modes, u32::from(select), u32::from(allocation))
+            }
+            HostCdb::ReportOperations { select, allocation } => {
+                tell(Told::Operations, select, allocation)
+            }
+            HostCdb::Prefetch10 { address, blocks } => prefetch(address, blocks),
+            HostCdb::SendDiagnostic { tests } => Cdb::Diagnose { tests },
             HostCdb::SynchronizeCache10 { immediate } => Cdb::Flush { immediate },
             HostCdb::Read6 { address, blocks } => read(address, six_blocks(blocks)),
             HostCdb::Read10 {
@@ -100,20 +155,10 @@ impl HostCdb {
                 forced,
             } => ten_bytes_of(READ_10, if forced { FUA } else { 0 }, address, blocks),
             HostCdb::ReportLuns { select, allocation } => selecting(select, allocation),
-            HostCdb::TestUnitReady => bytes_of(&Cdb::Nothing),
-            HostCdb::RequestSense { allocation } => {
-                bytes_of(&tell(Told::Sense, 0, u32::from(allocation)))
-            }
-            HostCdb::Inquiry { allocation } => {
-                bytes_of(&tell(Told::Identity, 0, u32::from(allocation)))
-            }
-            HostCdb::ReadCapacity10 => bytes_of(&tell(Told::Capacity, 0, u32::MAX)),
-            HostCdb::SynchronizeCache10 { immediate } => bytes_of(&Cdb::Flush { immediate }),
-            HostCdb::Write10 {
-                address,
-                blocks,
-                forced,
-            } => bytes_of(&write(address, u32::from(blocks), forced)),
+            HostCdb::ModeSense6 { select, allocation } => short_modes(select, allocation),
+            HostCdb::ModeSense10 { select, allocation } => modes(select, allocation),
+            HostCdb::ReportOperations { select, allocation } => operations(select, allocation),
+            _ => bytes_of(&self.meaning()),
         }
     }
 
@@ -121,13 +166,15 @@ impl HostCdb {
     pub fn fault(self) -> LineFault {
         match self {
             HostCdb::ReportLuns { .. } => LineFault::Selection,
+            HostCdb::ModeSense6 { .. } | HostCdb::ModeSense10 { .. } => LineFault::Modes,
+            HostCdb::ReportOperations { .. } => LineFault::Operations,
             _ => LineFault::Address,
         }
     }
 }
 
 // The command that tells this, of no more than so many bytes.
-fn tell(told: Told, select: u8, allocation: u32) -> Cdb
+fn tell(told: Told, select: u32, allocation: u32) -> Cdb
     ensures { result ≡ Tell told select allocation }
 {
     Cdb::Tell {
@@ -158,6 +205,16 @@ fn write(address: u32, blocks: u32, forced: bool) -> Cdb
     }
 }
 
+// The PRE-FETCH of so many blocks.
+fn prefetch(address: u32, blocks: u16) -> Cdb
+    ensures { result ≡ Prefetch address blocks }
+{
+    Cdb::Prefetch {
+        address: u64::from(address),
+        blocks: u32::from(blocks),
+    }
+}
+
 // A count of blocks in one byte, where 0 means 256.
 fn six_blocks(blocks: u8) -> u32
     ensures is { result ≡ six_blocks blocks }
@@ -184,6 +241,40 @@ fn selecting(select: u8, allocation: u32) -> [u8; 16]
     let mut bytes = [0; 16];
     bytes[0] = REPORT_LUNS;
     bytes[2] = select;
+    write_u32(&mut bytes, 6, allocation);
+    bytes
+}
+
+// The sixteen bytes of MODE SENSE(6), whatever it selects.
+fn short_modes(select: u16, allocation: u8) -> [u8; 16]
+    ensures { result ≡ asking_bytes told.ShortModes select allocation }
+{
+    let mut bytes = [0; 16];
+    bytes[0] = MODE_SENSE_6;
+    write_u16(&mut bytes, 2, select);
+    bytes[4] = allocation;
+    bytes
+}
+
+// The sixteen bytes of MODE SENSE(10), whatever it selects.
+fn modes(select: u16, allocation: u16) -> [u8; 16]
+    ensures { result ≡ asking_bytes told.Modes select allocation }
+{
+    let mut bytes = [0; 16];
+    bytes[0] = MODE_SENSE_10;
+    write_u16(&mut bytes, 2, select);
+    write_u16(&mut bytes, 7, allocation);
+    bytes
+}
+
+// The sixteen bytes of REPORT SUPPORTED OPERATION CODES, whatever it selects.
+fn operations(select: u32, allocation: u32) -> [u8; 16]
+    ensures { result ≡ asking_bytes told.Operations select allocation }
+{
+    let mut bytes = [0; 16];
+    bytes[0] = MAINTENANCE_IN;
+    bytes[1] = REPORT_OPERATIONS;
+    write_u32(&mut bytes, 2, select);
     write_u32(&mut bytes, 6, allocation);
     bytes
 }

@@ -17,6 +17,7 @@ mod luns;
 mod malformed;
 mod messages;
 mod names;
+mod operations;
 mod outputs;
 mod parts;
 mod queries;

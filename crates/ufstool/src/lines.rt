@@ -134,6 +134,17 @@ pub fn number(word: &str) -> Result<u32, Cause<'_>> {
     }
 }
 
+/// A number in decimal digits, at most 18446744073709551615.
+pub fn long_number(word: &str) -> Result<u64, Cause<'_>> {
+    if !word.bytes().all(|byte| byte.is_ascii_digit()) {
+        return Err(Cause::Number(word));
+    }
+    match word.parse() {
+        Ok(number) => Ok(number),
+        Err(_) => Err(Cause::LongNumberSize(word)),
+    }
+}
+
 /// The numbers of a line of a name and `N` numbers; `form` shows how the line is to be written.
 pub fn numbers_in<'a, const N: usize>(
     line: &'a str,

@@ -76,11 +76,13 @@ pub fn additional_sense_name(sense: &Sense) -> &'static str {
         (0x26, 0x00) => "INVALID FIELD IN PARAMETER LIST",
         (0x27, 0x00) => "WRITE PROTECTED",
         (0x2C, 0x00) => "COMMAND SEQUENCE ERROR",
+        (0x39, 0x00) => "SAVING PARAMETERS NOT SUPPORTED",
+        (0x3E, 0x03) => "LOGICAL UNIT FAILED SELF-TEST",
         _ => "an additional sense code without a name here",
     }
 }
 
-const OPERATIONS: [(u8, &str); 28] = [
+const OPERATIONS: [(u8, &str); 30] = [
     (0x00, "TEST UNIT READY"),
     (0x03, "REQUEST SENSE"),
     (0x04, "FORMAT UNIT"),
@@ -104,16 +106,57 @@ const OPERATIONS: [(u8, &str); 28] = [
     (0x5A, "MODE SENSE(10)"),
     (0x88, "READ(16)"),
     (0x8A, "WRITE(16)"),
+    (0x90, "PRE-FETCH(16)"),
     (0x91, "SYNCHRONIZE CACHE(16)"),
     (0x9E, "SERVICE ACTION IN(16)"),
     (0xA0, "REPORT LUNS"),
     (0xA2, "SECURITY PROTOCOL IN"),
+    (0xA3, "MAINTENANCE IN"),
     (0xB5, "SECURITY PROTOCOL OUT"),
 ];
 
 /// The name of an operation code, byte 0 of a CDB (SPC and SBC, operation codes).
 pub fn operation_name(operation: u8) -> &'static str {
     name_in(&OPERATIONS, operation).unwrap_or("a command without a name here")
+}
+
+const PAGES: [(u8, &str); 7] = [
+    (0x00, "supported pages"),
+    (0x80, "unit serial number"),
+    (0x83, "device identification"),
+    (0x87, "mode page policy"),
+    (0xB0, "block limits"),
+    (0xB1, "block device characteristics"),
+    (0xB2, "logical block provisioning"),
+];
+
+/// The name of a page of vital product data (SPC and SBC, vital product data parameters).
+pub fn page_name(page: u8) -> &'static str {
+    name_in(&PAGES, page).unwrap_or("without a name here")
+}
+
+const MODE_PAGES: [(u8, &str); 4] = [
+    (0x01, "read-write error recovery"),
+    (0x08, "caching"),
+    (0x0A, "control"),
+    (0x3F, "all pages"),
+];
+
+/// The name of a mode page (SPC and SBC, mode parameters).
+pub fn mode_page_name(page: u8) -> &'static str {
+    name_in(&MODE_PAGES, page).unwrap_or("without a name here")
+}
+
+const VALUES: [(u8, &str); 4] = [
+    (0x0, "the current"),
+    (0x1, "the changeable"),
+    (0x2, "the default"),
+    (0x3, "the saved"),
+];
+
+/// The name of the values of mode pages that are asked for (SPC, MODE SENSE, page control).
+pub fn values_name(control: u8) -> &'static str {
+    name_in(&VALUES, control).unwrap_or("the")
 }
 
 const TASK_FUNCTIONS: [(u8, &str); 6] = [

@@ -2,9 +2,12 @@
 use crate::fields::{Layout, write_fields};
 use crate::frames::write_frames_of;
 use crate::luns::write_luns;
+use crate::operations::write_operations;
 use std::io;
 use std::io::Write;
-use ufs_spec::operations::{INQUIRY, REPORT_LUNS, TEST_UNIT_READY, UNMAP};
+use ufs_spec::operations::{
+    ACTION, EVPD, INQUIRY, MAINTENANCE_IN, REPORT_LUNS, REPORT_OPERATIONS, TEST_UNIT_READY, UNMAP,
+};
 use ufs_spec::{Asked, Message};
 
 /// The operation codes of the commands that came last, by their task tags.
@@ -24,7 +27,13 @@ impl Commands {
     /// This message came.
     pub fn hear(&mut self, message: &Message) {
         if let Message::Command { tag, cdb, .. } = message {
-            self.operations[usize::from(*tag)] = cdb[0];
+            // Of other data of these operation codes no field is told.
+            let is_told = match cdb[0] {
+                INQUIRY => cdb[1] & EVPD == 0,
+                MAINTENANCE_IN => asks_for_all(cdb),
+                _ => true,
+            };
+            self.operations[usize::from(*tag)] = if is_told { cdb[0] } else { TEST_UNIT_READY };
         }
     }
 
@@ -34,8 +43,14 @@ impl Commands {
     }
 }
 
-/// Says what the data of a message are: frames, a descriptor, UNMAP's list, or what INQUIRY and
-/// REPORT LUNS tell.
+// Whether a CDB of MAINTENANCE IN asks which commands there are, for all of them (SPC, REPORT
+// SUPPORTED OPERATION CODES).
+fn asks_for_all(cdb: &[u8; 16]) -> bool {
+    cdb[1] & ACTION == REPORT_OPERATIONS && cdb[2] & 0x07 == 0
+}
+
+/// Says what the data of a message are: frames, a descriptor, UNMAP's list, or what INQUIRY, REPORT
+/// LUNS and REPORT SUPPORTED OPERATION CODES tell.
 /// Of other data nothing is said.
 pub fn write_parts<W: Write>(
     message: &Message,
@@ -63,6 +78,7 @@ pub fn write_parts<W: Write>(
         } => match commands.operation(*tag) {
             INQUIRY => write_fields(out, Layout::Inquiry, data.as_slice()),
             REPORT_LUNS => write_luns(out, data.as_slice()),
+            MAINTENANCE_IN => write_operations(out, data.as_slice()),
             _ => write_frames_of(message, key, out),
         },
         _ => write_frames_of(message, key, out),
@@ -74,6 +90,7 @@ fn write_descriptor<W: Write>(out: &mut W, asked: &Asked, bytes: &[u8]) -> io::R
     match (asked.opcode, asked.idn) {
         (0x1 | 0x2, 0x00) => write_fields(out, Layout::Device, bytes),
         (0x1 | 0x2, 0x02) => write_fields(out, Layout::Unit, bytes),
+        (0x1 | 0x2, 0x07) => write_fields(out, Layout::Geometry, bytes),
         _ => Ok(()),
     }
 }

@@ -46,6 +46,7 @@ pub fn read_request(alloc: Global, line: &str) -> Result<Request<'_>, Cause<'_>>
         "" => Err(Cause::Blank),
         "config" => Err(Cause::TooLate("config")),
         "unit" => Err(Cause::TooLate("unit")),
+        "profile" => Err(Cause::TooLate("profile")),
         word => Err(Cause::Word(word)),
     }
 }

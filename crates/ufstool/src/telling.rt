@@ -2,7 +2,7 @@
 ghost use Rattle.std.specs.Prelude.{◌≡◌, ◌≤◌};
 
 use crate::cause::Cause;
-use crate::first_lines::{ConfigLine, UnitLine, UnitSum, missing_line};
+use crate::first_lines::{ConfigLine, ProfileLine, UnitLine, UnitSum, missing_line};
 use crate::lines::{Line, Lines, first_word, line_text};
 use crate::malformed::write_wrong_byte;
 use crate::messages::MessageWords;
@@ -37,7 +37,7 @@ pub fn explain<W: Write, F: Write>(
         alloc,
         config: None,
         units: UnitSum::default(),
-        last_unit: 0,
+        last_first: 0,
         is_open: false,
         answers: lines_of(output),
         commands: Commands::new(),
@@ -68,8 +68,8 @@ struct Told<'a> {
     alloc: Global,
     config: Option<ConfigLine>,
     units: UnitSum,
-    // The number of the last line of a unit.
-    last_unit: usize,
+    // The number of the last of the first lines.
+    last_first: usize,
     // Whether the first lines are over.
     is_open: bool,
     // What is left of the output, if there is one.
@@ -118,6 +118,9 @@ impl Told<'_> {
         if !self.is_open && (self.units.count == 0 || first_word(text) == "unit") {
             return self.tell_unit(line.number, text, out);
         }
+        if !self.is_open && first_word(text) == "profile" {
+            return self.tell_profile(line.number, text, out);
+        }
         self.open()?;
         self.tell_request(line.number, text, out)
     }
@@ -142,8 +145,21 @@ impl Told<'_> {
         let unit = UnitLine::read(text)?;
         let index = self.units.count;
         self.units.add(&unit)?;
-        self.last_unit = number;
+        self.last_first = number;
         Ok(writeln!(out, "line {number}: unit {index}: {unit}")?)
+    }
+
+    // The profile, which is the last of the first lines.
+    fn tell_profile<'s, W: Write>(
+        &mut self,
+        number: usize,
+        text: &'s str,
+        out: &mut W,
+    ) -> Result<(), Cause<'s>> {
+        let profile = ProfileLine::read(text)?;
+        self.last_first = number;
+        self.open()?;
+        Ok(writeln!(out, "line {number}: {profile}")?)
     }
 
     // A line behind the first ones.
@@ -159,15 +175,15 @@ impl Told<'_> {
         self.answer(&request, out)
     }
 
-    // The first lines are over: what they say together is looked at. A fault is one of the last
-    // unit's line.
+    // The first lines are over: what they say together is looked at. A fault is one of the last of
+    // them.
     fn open(&mut self) -> Result<(), Cause<'static>> {
         if self.is_open {
             return Ok(());
         }
         self.is_open = true;
         let read = self.number;
-        self.number = self.last_unit;
+        self.number = self.last_first;
         self.units.check_boots()?;
         if let Some(config) = &self.config {
             config.check_room(&self.units)?;

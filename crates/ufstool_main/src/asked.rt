@@ -243,15 +243,84 @@ fn read_cdb(name: &str, matches: &ArgMatches<'_>) -> HostCdb {
             allocation: byte_in(matches, "allocation"),
         },
         "read-capacity" => HostCdb::ReadCapacity10,
-        "inquiry" => HostCdb::Inquiry {
-            allocation: short_in(matches, "allocation"),
-        },
+        "inquiry" => read_inquiry(matches),
         "report-luns" => HostCdb::ReportLuns {
             select: byte_in(matches, "select"),
             allocation: long_in(matches, "allocation"),
         },
         "test-unit-ready" => HostCdb::TestUnitReady,
+        "prefetch" => HostCdb::Prefetch10 {
+            address: long_in(matches, "address"),
+            blocks: short_in(matches, "blocks"),
+        },
+        "send-diagnostic" => HostCdb::SendDiagnostic {
+            tests: matches.get_flag("self-test"),
+        },
+        "read-capacity-16" => HostCdb::ReadCapacity16 {
+            allocation: long_in(matches, "allocation"),
+        },
+        "mode-sense-6" => HostCdb::ModeSense6 {
+            select: modes_in(matches),
+            allocation: byte_in(matches, "allocation"),
+        },
+        "mode-sense" => HostCdb::ModeSense10 {
+            select: modes_in(matches),
+            allocation: short_in(matches, "allocation"),
+        },
+        "report-operations" => read_operations(matches),
         _ => read_transfer(name, matches),
+    }
+}
+
+// INQUIRY, of a page of vital product data if one is given.
+fn read_inquiry(matches: &ArgMatches<'_>) -> HostCdb {
+    let allocation = short_in(matches, "allocation");
+    match matches.get_one("page") {
+        Some(page) => HostCdb::InquiryPage { page, allocation },
+        None => HostCdb::Inquiry { allocation },
+    }
+}
+
+// Which mode pages are asked for, as bytes 2 and 3 of MODE SENSE say it. Other names of values were
+// refused.
+fn modes_in(matches: &ArgMatches<'_>) -> u16 {
+    let control = match matches.get_str("values") {
+        Some("changeable") => 0x4000,
+        Some("default") => 0x8000,
+        Some("saved") => 0xC000,
+        _ => 0,
+    };
+    let page = u16::from(byte_in(matches, "page") & 0x3F) << 8;
+    control | page | u16::from(byte_in(matches, "subpage"))
+}
+
+// REPORT SUPPORTED OPERATION CODES.
+fn read_operations(matches: &ArgMatches<'_>) -> HostCdb {
+    HostCdb::ReportOperations {
+        select: operations_in(matches),
+        allocation: long_in(matches, "allocation"),
+    }
+}
+
+// Which commands are reported, as bytes 2 to 5 of REPORT SUPPORTED OPERATION CODES say it: all of
+// them, or one by its operation code, or by its service action too.
+fn operations_in(matches: &ArgMatches<'_>) -> u32 {
+    let rctd: u32 = if matches.get_flag("timeouts") {
+        1 << 31
+    } else {
+        0
+    };
+    match matches.get_one("code") {
+        Some(code) => rctd | one_operation(code, matches.get_one("action")),
+        None => rctd,
+    }
+}
+
+fn one_operation(code: u8, action: Option<u16>) -> u32 {
+    let operation = u32::from(code) << 16;
+    match action {
+        Some(action) => 0x0200_0000 | operation | u32::from(action),
+        None => 0x0100_0000 | operation,
     }
 }
 

@@ -101,9 +101,12 @@ fn with_transfers<'a>(alloc: Global, host: Made<'a>) -> Made<'a> {
     with(host, forced_transfer(alloc, "write10", "WRITE(10)"))
 }
 
-// The command with the flush and the question whether the unit is ready.
+// The command with those that have no data: the flush, PRE-FETCH, and the questions whether the unit
+// is ready and the device in order.
 fn with_flush<'a>(alloc: Global, host: Made<'a>) -> Made<'a> {
     let host = with(host, flush(alloc));
+    let host = with(host, prefetch(alloc));
+    let host = with(host, diagnostic(alloc));
     with(host, plain(alloc, "test-unit-ready", "TEST UNIT READY"))
 }
 
@@ -144,6 +147,21 @@ fn flush<'a>(alloc: Global) -> Made<'a> {
     with_arg(flush.visible_alias("flush"), flag(alloc, "immediate", help))
 }
 
+fn prefetch<'a>(alloc: Global) -> Made<'a> {
+    let command = with_arg(plain(alloc, "prefetch", "PRE-FETCH(10)"), address(alloc));
+    let help = "How many blocks; 0 for all up to the unit's end";
+    let blocks = option(alloc, "blocks", "COUNT", help)
+        .value_parser(value_parser!(u16))
+        .default_value("1");
+    with_arg(command, blocks)
+}
+
+fn diagnostic<'a>(alloc: Global) -> Made<'a> {
+    let help = "Sets SELFTEST: a device that is locked is not in order";
+    let test = flag(alloc, "self-test", help);
+    with_arg(plain(alloc, "send-diagnostic", "SEND DIAGNOSTIC"), test)
+}
+
 fn request_sense<'a>(alloc: Global) -> Made<'a> {
     let allocation = option(alloc, "allocation", "BYTES", "The allocation length")
         .value_parser(value_parser!(u8))
@@ -171,8 +189,8 @@ pub fn option<'a>(alloc: Global, name: &'a str, value: &'a str, help: &'a str) -
         .help(help)
 }
 
-// The option `--NAME`.
-fn flag<'a>(alloc: Global, name: &'a str, help: &'a str) -> Arg<'a> {
+/// The option `--NAME`.
+pub fn flag<'a>(alloc: Global, name: &'a str, help: &'a str) -> Arg<'a> {
     Arg::new(alloc, name)
         .long(name)
         .help(help)

@@ -1,5 +1,5 @@
 //! The words of queries, and of the commands that ask what there is.
-use crate::program::{Made, option, plain, task, with, with_arg};
+use crate::program::{Made, flag, option, plain, task, with, with_arg};
 use clap::builder::ValueParser;
 use clap::{Arg, Command, value_parser};
 use std::alloc::Global;
@@ -7,10 +7,26 @@ use std::alloc::Global;
 /// The flags of the device.
 const FLAGS: [&str; 3] = ["fDeviceInit", "fPermanentWPEn", "fPowerOnWPEn"];
 
-/// The command with INQUIRY and REPORT LUNS.
+/// The values of mode pages.
+const VALUES: [&str; 4] = ["current", "changeable", "default", "saved"];
+
+/// The command with what tells of the device: INQUIRY, REPORT LUNS, MODE SENSE, REPORT SUPPORTED
+/// OPERATION CODES and READ CAPACITY(16).
 pub fn with_inquiries<'a>(alloc: Global, host: Made<'a>) -> Made<'a> {
     let host = with(host, inquiry(alloc));
-    with(host, report_luns(alloc))
+    let host = with(host, report_luns(alloc));
+    let long = allocation(alloc).value_parser(value_parser!(u16));
+    let host = with(
+        host,
+        mode_sense(alloc, "mode-sense", "MODE SENSE(10)", long),
+    );
+    let short = allocation(alloc).value_parser(value_parser!(u8));
+    let host = with(
+        host,
+        mode_sense(alloc, "mode-sense-6", "MODE SENSE(6)", short),
+    );
+    let host = with(host, report_operations(alloc));
+    with(host, long_capacity(alloc))
 }
 
 /// The command with the queries.
@@ -32,11 +48,64 @@ pub fn with_queries<'a>(alloc: Global, host: Made<'a>) -> Made<'a> {
     with(host, flag_query(alloc, "toggle-flag", "QUERY: TOGGLE FLAG"))
 }
 
+fn allocation<'a>(alloc: Global) -> Arg<'a> {
+    option(alloc, "allocation", "BYTES", "The allocation length").default_value("64")
+}
+
 fn inquiry<'a>(alloc: Global) -> Made<'a> {
+    let help = "The page of vital product data, in decimal; 0 lists them [default: none]";
+    let page = option(alloc, "page", "PAGE", help).value_parser(value_parser!(u8));
     let allocation = option(alloc, "allocation", "BYTES", "The allocation length")
         .value_parser(value_parser!(u16))
         .default_value("36");
-    with_arg(plain(alloc, "inquiry", "INQUIRY"), allocation)
+    with_arg(
+        with_arg(plain(alloc, "inquiry", "INQUIRY"), page),
+        allocation,
+    )
+}
+
+// MODE SENSE, with this allocation length.
+fn mode_sense<'a>(alloc: Global, name: &'a str, about: &'a str, allocation: Arg<'a>) -> Made<'a> {
+    let help = "The mode page, in decimal: 1, 8, 10, or 63 for all";
+    let page = option(alloc, "page", "PAGE", help)
+        .value_parser(value_parser!(u8).range(0..=63))
+        .default_value("63");
+    let subpage = option(alloc, "subpage", "N", "The subpage, in decimal")
+        .value_parser(value_parser!(u8))
+        .default_value("0");
+    let values = option(alloc, "values", "WHICH", "Which values are asked for")
+        .value_parser(ValueParser::Names(&VALUES))
+        .default_value("current");
+    let command = with_arg(plain(alloc, name, about), page);
+    with_arg(with_arg(with_arg(command, subpage), values), allocation)
+}
+
+// REPORT SUPPORTED OPERATION CODES, of all commands or of one.
+fn report_operations<'a>(alloc: Global) -> Made<'a> {
+    let help = "The operation code of the command, in decimal [default: all commands]";
+    let code = option(alloc, "code", "CODE", help).value_parser(value_parser!(u8));
+    let help = "The service action of the command, in decimal [default: none]";
+    let action = option(alloc, "action", "N", help)
+        .value_parser(value_parser!(u16))
+        .requires_arg("code")?;
+    let help = "Sets RCTD: command timeouts are asked for too";
+    let timeouts = flag(alloc, "timeouts", help);
+    let allocation = option(alloc, "allocation", "BYTES", "The allocation length")
+        .value_parser(value_parser!(u32))
+        .default_value("464");
+    let about = "REPORT SUPPORTED OPERATION CODES";
+    let command = with_arg(plain(alloc, "report-operations", about), code);
+    with_arg(with_arg(with_arg(command, action), timeouts), allocation)
+}
+
+fn long_capacity<'a>(alloc: Global) -> Made<'a> {
+    let allocation = option(alloc, "allocation", "BYTES", "The allocation length")
+        .value_parser(value_parser!(u32))
+        .default_value("32");
+    with_arg(
+        plain(alloc, "read-capacity-16", "READ CAPACITY(16)"),
+        allocation,
+    )
 }
 
 fn report_luns<'a>(alloc: Global) -> Made<'a> {
