@@ -1,12 +1,15 @@
 #!/usr/bin/env python3
 """Runs block tools, as Debian has them, on the device: iscsi-test-cu, fio, nbdcopy, and ext4 in power cuts.
 
-usage: block_tools.py [--list]
+usage: block_tools.py [--list | --rewrite]
 
 Each result of iscsi-test-cu is compared with tools/iscsi_test_cu.txt, which names each of its tests, and
 gives a reason for each that the device refuses or that skips. A test that is not as that list says, and one
 that is missing, has failed. One that was refused as it says counts as passed, and one that was skipped as it
-says is not counted. With --list the results are printed instead. The last line is 'N passed, M failed'.
+says is not counted. With --list the results are printed instead. --rewrite writes the file anew by them. The
+reason of a test whose outcome is another one is what the test told, for somebody to put into words. It prints
+each reason that stays beside what the test told, and how many tests of each suite passed, were skipped and
+failed. The last line is 'N passed, M failed'.
 """
 from __future__ import annotations
 
@@ -36,10 +39,14 @@ PACKAGES = {"iscsi-test-cu": "libiscsi-bin", "fio": "fio", "nbdfuse": "libnbd-bi
             "mkfs.ext4": "e2fsprogs", "e2fsck": "e2fsprogs"}
 SECONDS = 900
 MOST_TOLD = 2000
+MOST_REASON = 200
 FUSE = Path("/dev/fuse")
 # What iscsi-test-cu prints of a test, up to its result, which begins a line or stands behind the dots.
 RESULT = re.compile(r"^  Test: (\S+) \.\.\.(.*?)(?:(?<=\.\.\.)|(?<=\n))(passed|FAILED)",
                     re.DOTALL | re.MULTILINE)
+# How a test says which command it found missing, and how the list says so.
+NOT_THERE = re.compile(r"\[SKIPPED\] (\w[\w ]*?) is not implemented")
+NO_COMMAND = re.compile(r"the device has no (.*): 5/20/00")
 SUITE = re.compile(r"^Suite: (\S+)$", re.MULTILINE)
 PASSED, SKIPPED, FAILED = "passed", "skipped", "failed"
 # The whole suite once: the other families are parts of this one.
@@ -115,6 +122,45 @@ def expected() -> Dict[str, str]:
     """The outcome of each test by the list."""
     lines = (it.split() for it in LIST.read_text().splitlines() if it and not it.startswith("#"))
     return {name: outcome for name, outcome, *_ in lines}
+
+
+def command_names() -> Dict[str, str]:
+    """The commands that the list names, by their bare names, in which a test names them."""
+    return {bare(name): name for name in NO_COMMAND.findall(LIST.read_text())}
+
+
+def bare(name: str) -> str:
+    """A name without blanks, signs, and the word AND."""
+    return re.sub(r"AND|\W|_", "", name)
+
+
+def short(told: str) -> str:
+    """What a test told, in one line."""
+    return " ".join(told.split())[:MOST_REASON]
+
+
+def rewrite(found: List[Result]) -> None:
+    """Writes the list anew. A reason stays where its outcome does, unless the test says which command is missing."""
+    lines = LIST.read_text().splitlines()
+    before = {it.split()[0]: it for it in lines if not it.startswith("#")}
+    names = command_names()
+    anew = [it for it in lines if it.startswith("#")]
+    for it in found:
+        missing = NOT_THERE.search(it.told) if it.outcome == SKIPPED else None
+        begin = f"{it.name} {it.outcome}"
+        if it.outcome == PASSED:
+            anew.append(begin)
+        elif missing:
+            anew.append(f"{begin} the device has no {names.get(bare(missing[1]), missing[1])}: 5/20/00")
+        elif before.get(it.name, "").startswith(begin):
+            anew.append(before[it.name])
+            print(f"stays: {before[it.name]} | {short(it.told)}")
+        else:
+            anew.append(f"{begin} {short(it.told)}")
+    LIST.write_text("".join(f"{it}\n" for it in anew))
+    counted = Counter((it.name.partition(".")[0], it.outcome) for it in found)
+    for suite in dict.fromkeys(suite for suite, _ in counted):
+        print(f"| {suite} | " + " | ".join(str(counted[suite, it]) for it in (PASSED, SKIPPED, FAILED)) + " |")
 
 
 def compare(found: List[Result]) -> Tuple[int, int]:
@@ -229,13 +275,18 @@ def attempt(act: Callable[[], Tuple[int, int]]) -> Tuple[int, int]:
 def main() -> int:
     parser = argparse.ArgumentParser(description=__doc__,
                                      formatter_class=argparse.RawDescriptionHelpFormatter)
-    parser.add_argument("--list", action="store_true", help="prints the results of iscsi-test-cu alone")
+    ways = parser.add_mutually_exclusive_group()
+    ways.add_argument("--list", action="store_true", help="prints the results of iscsi-test-cu alone")
+    ways.add_argument("--rewrite", action="store_true", help="writes their list anew")
     asked = parser.parse_args()
     os.environ["PYTHONPATH"] = os.environ.get("PYTHONPATH", str(ROOT / "python"))
     os.environ.setdefault(LIBRARY, str(ARCHIVE.with_suffix(".so")))
     if asked.list:
         for it in run_iscsi():
-            print(it.name, it.outcome, " ".join(it.told.split())[:200])
+            print(it.name, it.outcome, short(it.told))
+        return 0
+    if asked.rewrite:
+        rewrite(run_iscsi())
         return 0
     passed, failed = run_tools()
     print(f"{passed} passed, {failed} failed")

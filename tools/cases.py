@@ -63,7 +63,9 @@ UNWRITTEN = tuple((it, str(ROOT / "tools" / "refused_memory" / f"{it}.txt")) for
 SAID = ("ufsim: output\n", 1)
 # What is checked where standard error is a terminal, with how many stops, what it prints, and what the terminal
 # gets last.
-SHOWN = {("check", "stop_in_write.txt"): 72, ("image", "check", "row.img", "row_check.txt"): 42}
+SHOWN = {("check", "stop_in_write.txt"): 72, ("check", "profile_1.txt"): 18,
+         ("check", "checked_attentions.txt"): 27,
+         ("image", "check", "row.img", "row_check.txt"): 42}
 COUNTED = "check stops {} bad 0\n"
 LAST_SHOWN = r"\rcheck line \d+ of \d+ stops {} bad 0\r\x1b\[K$"
 

@@ -408,7 +408,7 @@ static void cycles(struct pair *pair)
 
 static void open_side(struct side *side, const struct shape *shape)
 {
-    const ufs_config config = {shape->dies, shape->blocks, PAGES, {1, 0, 0, 0}, shape->slots, SPARE};
+    const ufs_config config = {shape->dies, shape->blocks, PAGES, {1, 0, 0, 0}, shape->slots, SPARE, 0, 1};
     const ufs_unit unit[UNITS] = {{shape->chunks * CHUNK + PAGES - 1, 0, 0}};
     side->pages = calloc((size_t)shape->dies * shape->blocks * PAGES, sizeof *side->pages);
     check(side->pages != NULL, "no memory");

@@ -1,13 +1,14 @@
 #!/usr/bin/env python3
-"""Writes a script of ufsim with each command, each message of a host, each query and each function of
-task management, among failing jobs and stops: examples/every_command.txt.
+"""Writes scripts of ufsim with each command, each message of a host, each query and each function of
+task management, among failing jobs and stops: examples/every_command.txt, and examples/every_command_1.txt
+for a device of profile 1.
 
 usage: every_command.py
 
-What it has to print is foretold: the answers are worked out here from the standards and from
+What they have to print is foretold: the answers are worked out here from the standards and from
 docs/FORMATS.md, by a plain list of blocks, and not taken from the device. tools/tests compares them with
-examples/every_command.txt.stdout, which the device printed. Which job a die is given is not foretold:
-such a line ends with MORE.
+what is stored beside them, which the device printed. Which job a die is given is not foretold: such a line
+ends with MORE.
 """
 import hashlib
 import hmac
@@ -15,25 +16,53 @@ import random
 
 from crates import ROOT
 
-SCRIPT = ROOT / "examples" / "every_command.txt"
+# The script of each profile, and its rounds.
+SCRIPTS = [ROOT / "examples" / f"every_command{it}.txt" for it in ("", "_1")]
+ROUNDS = (4, 2)
 # What stands in a foretold line for what is not.
 MORE = "..."
-ROUNDS = 4
 BLOCK = 4096
 # The configuration: dies, blocks, pages, RPMB, slots, spare; and of each unit its blocks, its boot number
 # and its protection.
 CONFIG = (2, 24, 16, 1, 64, 4)
 UNITS = ((48, 0, 0), (16, 1, 1), (16, 2, 2))
+SERIAL = 0xFEDCBA9876543210
 KEY = bytes([0x0B]) * 32
-# LUN bytes of well-known units.
+# LUN bytes of well-known units, all that are there, and some that are not.
 LIST, BOOT, RPMB, DEVICE = 0x81, 0xB0, 0xC4, 0xD0
+LUNS = (*range(len(UNITS)), LIST, BOOT, RPMB, DEVICE)
+ABSENT = (3, 7, 0x50, 0xFF)
 TO_DEVICE, TO_HOST = 0x20, 0x40
 # Statuses, and sense keys with their codes and qualifiers.
 GOOD, CHECK = 0x00, 0x02
-NOT_READY, READ_ERROR = (2, 0x04, 1), (3, 0x11, 0)
+NOT_READY, WRITE_ERROR, READ_ERROR = (2, 0x04, 1), (3, 0x0C, 0), (3, 0x11, 0)
 LIST_LENGTH, NO_OPERATION, OUT_OF_RANGE = (5, 0x1A, 0), (5, 0x20, 0), (5, 0x21, 0)
 NO_FIELD, NO_UNIT, NO_LIST_FIELD = (5, 0x24, 0), (5, 0x25, 0), (5, 0x26, 0)
 SEQUENCE, PROTECTED = (5, 0x2C, 0), (7, 0x27, 0)
+NOTHING_SAVED, TEST_FAILED = (5, 0x39, 0), (4, 0x3E, 3)
+NO_SENSE, ATTENTION, NOT_SIMPLE = (0, 0, 0), (6, 0x29, 0), (0x0B, 0x49, 0)
+# Of byte 1 of a COMMAND of profile 1: the priority, and the task attributes ORDERED, HEAD OF QUEUE and ACA.
+PRIORITY, ATTRIBUTES = 0x04, (1, 2, 3)
+# The CDBs of REQUEST SENSE and INQUIRY with the allocation length of all that they tell, and of TEST UNIT READY.
+SENSE, IDENTITY, READY = [0x03, 0, 0, 0, 18], [0x12, 0, 0, 0, 36], [0x00]
+# READ and WRITE by the length of their CDB.
+FORMS = {6: (0x08, 0x0A), 10: (0x28, 0x2A), 16: (0x88, 0x8A)}
+DPO, FUA, LAST_GROUP = 0x10, 0x08, 0x10
+# Of profile 1 the pages of vital product data: how many bytes follow, and these. Of page 83h comes the LUN last.
+PAGES = {0x80: "0010" + f"{SERIAL:016x}".encode("ascii").hex(), 0x83: "000c01030008304653" + "76543210",
+         0x87: "00043fff0000"}
+UNIT_PAGES = {0xB0: "003c" + "00000001" + "00000020" * 2 + "00000000" + "00000020" + "00000001" * 2 + "80" + 31 * "00",
+              0xB1: "003c0001" + 58 * "00", 0xB2: "000400840200"}
+# Each mode page with its current values, which are the default ones too, and its changeable ones.
+MODE_PAGES = {0x01: ("010a80" + 9 * "00", "010a" + 10 * "00"), 0x08: ("081204" + 17 * "00", "0812" + 18 * "00"),
+              0x0A: ("0a0a001000000000ffff0000", "0a0a" + 10 * "00")}
+# Each command that a unit takes, by the bits of its CDB that it looks at; service actions stand in byte 1.
+USAGES = ("000000000000", "03000000ff00", "081fffffff00", "0a1fffffff00", "1201ffffff00", "1a18ffffff00",
+          "1d1400000000", "25" + 9 * "00", "2818ffffffff1fffff00", "2a18ffffffff1fffff00", "3402ffffffff1fffff00",
+          "3502ffffffff1fffff00", "42000000000000ffff00", "5a18ffff000000ffff00", "8818" + 12 * "ff" + "1f00",
+          "8a18" + 12 * "ff" + "1f00", "9002" + 12 * "ff" + "1f00", "9102" + 12 * "ff" + "1f00",
+          "9e10" + 8 * "00" + 4 * "ff" + "0000", "a000ff000000ffffffff0000", "a30c87ffffffffffffff0000")
+ACTIONS = {0x9E: 0x10, 0xA3: 0x0C}
 # Faults of messages.
 SHORT, LENGTH, DIGEST, EHS, CODE, RESERVED, TAG_IN_USE, NOT_ASKED_FOR = 1, 2, 3, 4, 5, 6, 7, 8
 
@@ -55,12 +84,15 @@ def transfer(code, lun, tag, offset, data=b"", count=None):
     return header(code, 0, lun, tag, segment=len(data), fields=fields) + data + bytes(-len(data) % 4)
 
 
+def fixed_sense(sense):
+    """Sense data of 18 bytes, in the fixed format of SPC-4."""
+    return bytes([0x70, 0, sense[0], 0, 0, 0, 0, 10, 0, 0, 0, 0, sense[1], sense[2], 0, 0, 0, 0])
+
+
 def response(lun, tag, expected, length, status=GOOD, sense=None):
     """A RESPONSE to a command that expected so many bytes, and has or carried so many."""
     flags = 0x20 if length < expected else 0x40 if length > expected else 0
-    data = b""
-    if sense:
-        data = big(18, 2) + bytes([0x70, 0, sense[0], 0, 0, 0, 0, 10, 0, 0, 0, 0, sense[1], sense[2], 0, 0, 0, 0])
+    data = big(18, 2) + fixed_sense(sense) if sense else b""
     fields = big(abs(expected - length), 4)
     return header(0x21, flags, lun, tag, 0, int(status != GOOD), status, len(data), fields) + data
 
@@ -77,17 +109,31 @@ def signed(frames):
     return frames[:-1] + [frames[-1][:196] + mac + frames[-1][228:]]
 
 
+def moving(is_write, form, address, count, option=0, group=0):
+    """The CDB of a READ or a WRITE, of so many bytes."""
+    code = FORMS[form][is_write]
+    if form == 6:
+        return [code, *big(address, 3), count]
+    if form == 10:
+        return [code, option, *big(address, 4), group, *big(count, 2)]
+    return [code, option, *big(address, 8), *big(count, 4), group]
+
+
 class Script:
     """The lines of the script, with what they have to print, and what the device holds then."""
 
-    def __init__(self):
+    def __init__(self, profile):
         self.lines = ["# Each command, each message of a host, each query and each function of task management, among",
                       "# jobs that fail and stops. tools/every_command.py writes it, and foretells its answers.",
                       "config " + " ".join(map(str, CONFIG))]
         self.lines += ["unit " + " ".join(map(str, unit)) for unit in UNITS]
+        self.lines += [f"profile {profile} {SERIAL}"] * profile
+        self.profile = profile
         self.printed = []
         self.blocks = [[0] * unit[0] for unit in UNITS]
         self.boot = self.permanent = self.power_on = 0
+        # The LUNs with an attention.
+        self.attentions = set(LUNS) if profile else set()
         self.key = False
         self.counter = 0
         self.area = [0] * 512
@@ -142,19 +188,16 @@ class Script:
         tag = self.command(lun, cdb, flags, expected)
         self.reply(response(lun, tag, expected, 0, CHECK, sense))
 
-    def told(self, lun, cdb, data, expected):
-        """A command that tells these data."""
-        tag = self.command(lun, cdb, TO_HOST if data else 0, expected)
+    def told(self, lun, cdb, data, expected, option=0):
+        """A command that tells these data, with this option beside its direction."""
+        tag = self.command(lun, cdb, (TO_HOST if data else 0) + option, expected)
         if min(expected, len(data)):
             self.reply(transfer(0x22, lun, tag, 0, data[:expected]))
         self.reply(response(lun, tag, expected, len(data)))
 
-    def begin_write(self, unit, address, count, forced=False, six=False):
+    def begin_write(self, unit, address, count, forced=False, form=10, group=0):
         """A WRITE up to its data: its tag."""
-        if six:
-            cdb = [0x0A, address >> 16, address >> 8 & 255, address & 255, count]
-        else:
-            cdb = [0x2A, 8 if forced else 0, *big(address, 4), 0, *big(count, 2)]
+        cdb = moving(True, form, address, count, FUA if forced else 0, group)
         return self.command(unit, cdb, TO_DEVICE, BLOCK * count)
 
     def send_blocks(self, unit, tag, first, count):
@@ -169,23 +212,19 @@ class Script:
         for index in range(count):
             self.blocks[unit][address + index] = first + index & 255
 
-    def write(self, unit, address, count, forced=False, six=False):
+    def write(self, unit, address, count, forced=False, form=10, group=0):
         """A WRITE of blocks, each of its own byte, that is answered GOOD."""
         first = self.random.randrange(1, 200)
-        tag = self.begin_write(unit, address, count, forced, six)
+        tag = self.begin_write(unit, address, count, forced, form, group)
         self.send_blocks(unit, tag, first, count)
         if forced:
             self.settle(16)
         self.reply(response(unit, tag, BLOCK * count, BLOCK * count))
         self.hold(unit, address, first, count)
 
-    def read(self, lun, unit, address, count=1, expected=16, six=False):
+    def read(self, lun, unit, address, count=1, expected=16, form=10, option=0, group=0):
         """A READ of which the first bytes come."""
-        if six:
-            cdb = [0x08, address >> 16, address >> 8 & 255, address & 255, count]
-        else:
-            cdb = [0x28, 0, *big(address, 4), 0, *big(count, 2)]
-        tag = self.command(lun, cdb, TO_HOST, expected)
+        tag = self.command(lun, moving(False, form, address, count, option, group), TO_HOST, expected)
         for index in range(-(-expected // BLOCK)):
             # A block that lay in the cache may be programmed meanwhile, and then it is read.
             self.settle(2 if index else 8)
@@ -193,8 +232,9 @@ class Script:
             self.reply(transfer(0x22, lun, tag, BLOCK * index, data))
         self.reply(response(lun, tag, expected, BLOCK * count))
 
-    def flush(self, lun, at_once=False):
-        tag = self.command(lun, [0x35, 2 if at_once else 0])
+    def flush(self, lun, at_once=False, form=10, group=0):
+        wide = bytes(4 if form == 10 else 12)
+        tag = self.command(lun, [0x35 if form == 10 else 0x91, 2 if at_once else 0, *wide, group])
         if not at_once:
             self.settle(24)
         self.reply(response(lun, tag, 0, 0))
@@ -310,32 +350,65 @@ class Script:
         tag = self.next_tag()
         self.host(header(0x04, 0, lun, tag, function, fields=bytes([0, 0, 0, lun, 0, 0, 0, meant])))
         self.reply(header(0x24, 0, lun, tag, fields=bytes([0, 0, 0, service])))
+        if self.profile and function == 0x08 and lun in LUNS:
+            self.attentions.add(lun)
 
     def nop(self):
         tag = self.next_tag()
         self.host(header(0x00, tag=tag))
         self.reply(header(0x20, tag=tag))
 
-    def stop(self, words="", rounds=24):
-        """A stop, and the mending after it: what does not outlast it is gone."""
+    def stop(self, words="", rounds=24, is_mended=True):
+        """A stop, and the mending after it, if anything is lost: what does not outlast it is gone."""
         self.line(f"stop {words}".strip(), "stop ok")
         self.power_on = 0
-        self.settle(rounds)
+        self.attentions = set(LUNS) if self.profile else set()
+        self.mend(rounds, is_mended)
         self.ready(0)
 
+    def mend(self, rounds, is_mended=False):
+        """So many rounds, behind which the device is mended, if it is not so before. Profile 1 tells which it is, once
+        each attention has ended."""
+        if self.profile:
+            self.asks(0x01, 5, 1)
+            self.asks(0x81, 6, 1, told=int(not is_mended))
+            self.greet()
+            self.told(0, SENSE, fixed_sense(NO_SENSE if is_mended else NOT_READY), 18)
+            self.asks(0x01, 5, 1, told=int(not is_mended))
+        self.settle(rounds)
+        if self.profile:
+            self.told(0, SENSE, fixed_sense(NO_SENSE), 18)
+            self.asks(0x01, 5, 1)
+
     def ready(self, lun):
-        tag = self.command(lun, [0x00])
+        tag = self.command(lun, READY)
         self.reply(response(lun, tag, 0, 0))
 
+    def greet(self):
+        """A TEST UNIT READY to each LUN that has an attention, which ends by it."""
+        for lun in LUNS:
+            if lun in self.attentions:
+                self.attention(lun, READY)
 
-def device_descriptor():
+    def attention(self, lun, cdb, flags=0, expected=0):
+        """A command that is refused for an attention, which ends by it."""
+        self.refused(ATTENTION, lun, cdb, flags, expected)
+        self.attentions.remove(lun)
+
+
+def device_descriptor(profile):
     """The device descriptor of the configuration."""
-    data = bytearray(64)
-    data[0:2] = 0x40, 0x00
-    data[6:10] = len(UNITS), 4, 1, 1
-    data[13] = 1
-    data[16:18] = 0x02, 0x10
-    return bytes(data)
+    told = ("40000000000003040101000000010000" + "0210" + 46 * "00",
+            "40000000000003040101017f00010100" + "0210112501020304" + "0000101020" + 4 * "00" + "200001" + 6 * "00"
+            + "05" + 21 * "00")
+    return bytes.fromhex(told[profile])
+
+
+def geometry():
+    """The geometry descriptor of the configuration."""
+    blocks = sum(unit[0] for unit in UNITS)
+    return bytes.fromhex("48070000" + big(8 * blocks, 8).hex() + "00" + "00000008" + "01" + "080808080808" + "0000"
+                         + "05" + "0000" + "01" + "8001" + 40 * "00")
 
 
 def unit_descriptor(unit):
@@ -350,12 +423,12 @@ def inquiry(first):
 
 def ask_of_units(script):
     """Commands that tell of the device and its units."""
-    for lun in (0, 1, 2, LIST, BOOT, RPMB, DEVICE):
-        script.told(lun, [0x12, 0, 0, 0, 36], inquiry(0x00 if lun < 8 else 0x1E), 36)
+    for lun in LUNS:
+        script.told(lun, IDENTITY, inquiry(0x00 if lun < 8 else 0x1E), 36)
     for lun in (0, RPMB, DEVICE):
         script.ready(lun)
     script.told(0, [0x12, 0, 0, 0, 8], inquiry(0)[:8], 8)
-    script.told(1, [0x03, 0, 0, 0, 18], bytes([0x70, 0, 0, 0, 0, 0, 0, 10]) + bytes(10), 18)
+    script.told(1, SENSE, fixed_sense(NO_SENSE), 18)
     for unit, numbers in enumerate(UNITS):
         script.told(unit, [0x25], big(numbers[0] - 1, 4) + big(BLOCK, 4), 8)
     ordinary = [bytes([0, it]) + bytes(6) for it in range(len(UNITS))]
@@ -368,8 +441,8 @@ def ask_of_units(script):
 
 def ask_in_vain(script):
     """Commands that are refused, and messages that are not taken."""
-    script.refused(NO_UNIT, 5, [0x12, 0, 0, 0, 36], TO_HOST, 36)
-    script.refused(NO_OPERATION, 0, [0x88], TO_HOST, 36)
+    script.refused(NO_UNIT, 5, READY if script.profile else IDENTITY, TO_HOST, 36)
+    script.refused(NO_OPERATION, 0, [0x9E, 0x12] if script.profile else [0x88], TO_HOST, 36)
     script.refused(NO_OPERATION, RPMB, [0x28], TO_HOST, BLOCK)
     script.refused(NO_FIELD, 0, [0x28, 0, 0, 0, 0, 0, 0, 0, 33], TO_HOST, 33 * BLOCK)
     script.refused(NO_FIELD, 0, [0x08, 0, 0, 0, 0], TO_HOST, 16)
@@ -395,9 +468,11 @@ def ask_in_vain(script):
 def ask_by_queries(script):
     """Each query that changes nothing, or is refused."""
     script.asks(0x01, 0)
-    data = device_descriptor()
+    data = device_descriptor(script.profile)
     script.asks(0x01, 1, 0, length=64, data=data)
     script.asks(0x01, 1, 0, length=8, data=data[:8])
+    if script.profile:
+        ask_of_geometry(script)
     for unit in range(len(UNITS)):
         script.asks(0x01, 1, 2, unit, length=0x23, data=unit_descriptor(unit))
     script.asks(0x01, 3, 0, told=script.boot)
@@ -416,14 +491,22 @@ def ask_by_queries(script):
     script.asks(0x81, 1, 0, length=64, code=0xFE)
 
 
+def ask_of_geometry(script):
+    """Queries of the geometry descriptor."""
+    script.asks(0x01, 1, 7, length=255, data=geometry())
+    script.asks(0x01, 1, 7, length=32, data=geometry()[:32])
+    script.asks(0x01, 1, 7, 1, length=72, code=0xFC)
+    script.asks(0x81, 2, 7, code=0xF7)
+
+
 def move_blocks(script, number):
     """Writes of each kind, their reads, flushes, and an UNMAP."""
     at = 3 * number % 40
     script.write(0, at, 2)
     script.write(0, (at + 9) % 44, 3, forced=True)
-    script.write(2 if not script.permanent else 0, at % 14, 1, six=True)
+    script.write(2 if not script.permanent else 0, at % 14, 1, form=6)
     script.read(0, 0, (at + 9) % 44, 2)
-    script.read(0, 0, at, six=True)
+    script.read(0, 0, at, form=6)
     script.flush(DEVICE)
     script.read(0, 0, at, 2, BLOCK + 16 if number % 4 == 0 else 16)
     script.unmap(0, (at + 1) % 40, 1 + number % 5)
@@ -485,11 +568,13 @@ def abort_tasks(script, number):
     script.manage((0x01, 0x02, 0x04, 0x08)[number % 4], 0, tag, 0x00)
     script.settle(8)
     script.reply(None)
+    script.greet()
     script.read(0, 0, at)
     for function in (0x02, 0x04, 0x08):
         script.command(0, [0x28, 0, 0, 0, 0, 0, 0, 0, 2], TO_HOST, 2 * BLOCK)
         script.manage(function, 0, 0, 0x00)
         script.manage(0x81, 0, 0, 0x00)
+        script.greet()
     script.manage(0x03, 0, 0, 0x04)
     script.manage(0x01, 5, 0, 0x09)
     script.reply(None)
@@ -531,45 +616,281 @@ def fail_job(script, number):
 
 
 def stop_here(script, number):
-    """A stop between commands, or inside the program of a write that nobody was told of."""
+    """A stop between commands, or inside the last program of a write that nobody was told of: of one block, and in
+    profile 1 of two, so that one block of it is lost."""
     script.flush(0)
     if number % 2 == 0:
         script.stop()
         return
-    tag = script.begin_write(0, 46, 1)
-    script.send_blocks(0, tag, 0x77, 1)
-    script.reply(response(0, tag, BLOCK, BLOCK))
+    count = 1 + script.profile
+    tag = script.begin_write(0, 47 - count, count)
+    script.send_blocks(0, tag, 0x77, count)
+    script.reply(response(0, tag, BLOCK * count, BLOCK * count))
+    if count == 2:
+        script.take(1)
+        script.done(1)
     script.take(0)
-    script.stop("0:torn")
+    script.stop("0:torn", is_mended=count == 1)
     script.read(0, 0, 46)
 
 
-def made():
-    """The whole script."""
-    script = Script()
+def page_of(lun, page):
+    """A page of vital product data."""
+    known, pages = lun >= 8, {**PAGES, **({} if lun >= 8 else UNIT_PAGES)}
+    pages[0x00] = (big(len(pages) + 1, 2) + bytes([0, *pages])).hex()
+    last = [lun] if page == 0x83 else []
+    return bytes([0x1E if known else 0, page]) + bytes.fromhex(pages[page]) + bytes(last)
+
+
+def ask_of_pages(script):
+    """INQUIRY for vital product data, of each page of each unit."""
+    for lun in (0, 1, 2, LIST, BOOT, RPMB, DEVICE):
+        for page in (0x00, *PAGES, *(UNIT_PAGES if lun < 8 else ())):
+            data = page_of(lun, page)
+            script.told(lun, [0x12, 1, page, 0, 64], data, 64)
+            script.told(lun, [0x12, 1, page, 0, 4], data[:4], 4)
+    for lun, option, page in ((0, 1, 0x86), (RPMB, 1, 0xB0), (DEVICE, 1, 0xB2), (0, 0, 0x80), (0, 2, 0)):
+        script.refused(NO_FIELD, lun, [0x12, option, page, 0, 64], TO_HOST, 64)
+
+
+def mode_sense(form, page, subpage=0, option=0, size=64):
+    """The CDB of a MODE SENSE, of so many bytes."""
+    return [0x1A, option, page, subpage, size] if form == 6 else [0x5A, option, page, subpage, 0, 0, 0, *big(size, 2)]
+
+
+def modes(form, page, state=0x10):
+    """What a MODE SENSE tells of this page, or of all, and of these values."""
+    which, values = page & 0x3F, int(page >> 6 == 1)
+    data = bytes.fromhex("".join(MODE_PAGES[it][values] for it in MODE_PAGES if which in (it, 0x3F)))
+    if form == 6:
+        return bytes([len(data) + 3, 0, state, 0]) + data
+    return big(len(data) + 6, 2) + bytes([0, state, 0, 0, 0, 0]) + data
+
+
+def ask_of_modes(script):
+    """MODE SENSE for each page and all, with each kind of values, in both forms."""
+    for form in (6, 10):
+        for values in (0x00, 0x40, 0x80):
+            for page in (*MODE_PAGES, 0x3F):
+                script.told(0, mode_sense(form, values | page), modes(form, values | page), 64)
+        script.told(1, mode_sense(form, 0x3F, 0xFF, 0x18), modes(form, 0x3F), 64)
+        script.told(2, mode_sense(form, 0x08, size=4), modes(form, 0x08)[:4], 64)
+        script.refused(NOTHING_SAVED, 0, mode_sense(form, 0xC8), TO_HOST, 64)
+        script.refused(NO_FIELD, 0, mode_sense(form, 0x02), TO_HOST, 64)
+        script.refused(NO_FIELD, 0, mode_sense(form, 0x08, 0xFF), TO_HOST, 64)
+        script.refused(NO_OPERATION, DEVICE, mode_sense(form, 0x08), TO_HOST, 64)
+
+
+def ask_of_operations(script):
+    """REPORT SUPPORTED OPERATION CODES: of all, and of each command by itself, with timeouts and without."""
+    def asked(option, code=0, action=0):
+        return [0xA3, 0x0C, option, code, *big(action, 2), *big(512, 4)]
+    times = bytes([0, 10]) + bytes(10)
+    usages = [bytes.fromhex(it) for it in USAGES]
+    for option, flag, rest in ((0x00, 0, b""), (0x80, 2, times)):
+        listed = b"".join(bytes([it[0], 0, 0, ACTIONS.get(it[0], 0), 0, flag + (it[0] in ACTIONS)])
+                          + big(len(it), 2) + rest for it in usages)
+        script.told(0, asked(option), big(len(listed), 4) + listed, 512)
+        for it in usages:
+            action = ACTIONS.get(it[0])
+            cdb = asked(option + (1 if action is None else 2), it[0], action or 0)
+            script.told(0, cdb, bytes([0, option + 3]) + big(len(it), 2) + it + rest, 512)
+        for cdb in (asked(option + 1, 0x55), asked(option + 2, 0x9E, 0x12)):
+            script.told(0, cdb, bytes([0, option + 1, 0, 0]) + rest, 512)
+    for cdb in (asked(3), asked(1, 0x9E), asked(2, 0x28)):
+        script.refused(NO_FIELD, 0, cdb, TO_HOST, 512)
+    script.refused(NO_OPERATION, 0, [0xA3, 0x0D], TO_HOST, 512)
+    script.refused(NO_OPERATION, DEVICE, asked(0), TO_HOST, 512)
+
+
+def capacity_16(unit):
+    """What READ CAPACITY(16) tells of a unit."""
+    return big(UNITS[unit][0] - 1, 8) + big(BLOCK, 4) + bytes([0, 0, 0xC0]) + bytes(17)
+
+
+def ask_for_more(script):
+    """What else profile 1 takes: the capacity of 64 bits, self-tests, PRE-FETCH; and how it refuses them."""
+    for unit in range(len(UNITS)):
+        script.told(unit, [0x9E, 0x10, *bytes(8), *big(32, 4)], capacity_16(unit), 32)
+    script.refused(NO_UNIT, BOOT, [0x9E, 0x10, *bytes(8), *big(32, 4)], TO_HOST, 32)
+    for lun, option in ((0, 0x00), (1, 0x04), (2, 0x10), (DEVICE, 0x14)):
+        script.told(lun, [0x1D, option], b"", 0)
+    script.refused(NO_FIELD, 0, [0x1D, 0x01])
+    script.refused(NO_OPERATION, RPMB, [0x1D, 0x04])
+    for address, count, group in ((0, 48, 0), (47, 1, LAST_GROUP), (3, 0, 0)):
+        script.told(0, [0x34, 2, *big(address, 4), group, *big(count, 2)], b"", 0)
+        script.told(0, [0x90, 0, *big(address, 8), *big(count, 4), group], b"", 0)
+    script.refused(OUT_OF_RANGE, 0, [0x34, 0, *big(47, 4), 0, *big(2, 2)])
+    script.refused(OUT_OF_RANGE, 0, [0x90, 0, *big(1 << 63, 8), *big(1, 4)])
+    script.refused(NO_FIELD, 0, [0x34, 0, *big(0, 4), LAST_GROUP + 1])
+
+
+def ask_of_attentions(script):
+    """Each LUN is reset, and then has an attention: what ends it, and what does not."""
+    for lun in LUNS:
+        script.manage(0x08, lun, 0, 0x00)
+        script.told(lun, IDENTITY, inquiry(0x00 if lun < 8 else 0x1E), 36)
+        script.told(lun, [0x12, 1, 0x80, 0, 64], page_of(lun, 0x80), 64)
+        script.refused(NO_FIELD, lun, [0x12, 1, 0x86, 0, 64], TO_HOST, 64)
+        script.told(lun, [0x03, 0, 0, 0, 14], fixed_sense(ATTENTION)[:14], 18)
+        script.attentions.remove(lun)
+        script.told(lun, SENSE, fixed_sense(NO_SENSE), 18)
+        script.ready(lun)
+    # Nobody needs to take what REQUEST SENSE tells.
+    script.manage(0x08, 0, 0, 0x00)
+    script.told(0, [0x03], b"", 0)
+    script.attentions.remove(0)
+    script.ready(0)
+    for lun in (0, LIST):
+        script.manage(0x08, lun, 0, 0x00)
+        script.told(lun, [0xA0, 0, 0, 0, 0, 0, 0, 0, 0, 8], big(8 * len(UNITS), 4) + bytes(4), 8)
+        script.attention(lun, READY)
+    # While no unit boots there is nothing to read, whatever attention there is.
+    script.manage(0x08, BOOT, 0, 0x00)
+    script.refused(NO_UNIT, BOOT, moving(False, 10, 0, 1), TO_HOST | ATTRIBUTES[0], BLOCK)
+    script.attention(BOOT, [0xFF], ATTRIBUTES[0])
+    # Before the operation code, and before a field and the data.
+    for cdb in ([0xFF], [0x28, 0xFF], moving(False, 10, 0, 1)):
+        script.manage(0x08, 0, 0, 0x00)
+        script.attention(0, cdb, TO_HOST, BLOCK)
+    script.refused(NO_OPERATION, 0, [0xFF], TO_HOST, BLOCK)
+    # REPORT LUNS, which RPMB does not take, passes its attention.
+    script.manage(0x08, RPMB, 0, 0x00)
+    script.refused(NO_OPERATION, RPMB, [0xA0], TO_HOST, 16)
+    script.attention(RPMB, script.security(0xA2, 1), TO_HOST, 512)
+    # Other functions leave none.
+    for function in (0x01, 0x02, 0x04, 0x80, 0x81):
+        script.manage(function, DEVICE, 0, 0x00)
+    script.ready(DEVICE)
+
+
+def ask_with_attributes(script):
+    """Task attributes, and the priority, which changes nothing."""
+    for attribute in ATTRIBUTES:
+        script.refused(NOT_SIMPLE, 0, READY, attribute)
+        script.refused(NOT_SIMPLE, 0, moving(False, 10, 0, 1), TO_HOST | attribute, BLOCK)
+        script.refused(NOT_SIMPLE, DEVICE, IDENTITY, TO_HOST | PRIORITY | attribute, 36)
+        script.refused(NOT_SIMPLE, 0, [0xFF], attribute)
+    script.manage(0x08, 0, 0, 0x00)
+    script.attention(0, READY, ATTRIBUTES[0])
+    script.refused(NOT_SIMPLE, 0, SENSE, TO_HOST | ATTRIBUTES[0], 18)
+    script.told(0, IDENTITY, inquiry(0), 36, PRIORITY)
+    script.told(0, READY, b"", 0, PRIORITY)
+    for flags in (0x08, 0x10, 0x60, 0x80):
+        script.host(header(0x01, flags, 0, 201), RESERVED)
+
+
+def ask_where_nothing_is(script):
+    """LUNs that are not there."""
+    for lun in ABSENT:
+        script.told(lun, IDENTITY, inquiry(0x7F), 36)
+        script.told(lun, SENSE, fixed_sense(NO_UNIT), 18)
+        script.refused(NO_FIELD, lun, [0x12, 1, 0x80, 0, 64], TO_HOST, 64)
+        script.refused(NOT_SIMPLE, lun, SENSE, TO_HOST | ATTRIBUTES[1], 18)
+        for cdb in (READY, [0xA0], [0xFF]):
+            script.refused(NO_UNIT, lun, cdb, ATTRIBUTES[2])
+        script.manage(0x08, lun, 0, 0x09)
+        script.told(lun, SENSE, fixed_sense(NO_UNIT), 18)
+
+
+def move_more(script, number):
+    """READ, WRITE and SYNCHRONIZE CACHE in what forms profile 1 has beside the others."""
+    at = 5 * number + 20
+    script.write(0, at, 2, forced=True, form=16, group=LAST_GROUP)
+    script.write(0, at + 4, 1, form=16)
+    script.write(0, at + 5, 1, group=1)
+    script.flush(DEVICE, form=16, group=LAST_GROUP)
+    script.read(0, 0, at, 2, BLOCK + 16, form=16, option=DPO | FUA, group=1)
+    script.read(0, 0, at + 4, option=DPO, group=LAST_GROUP)
+    script.write(0, at + 6, 1, form=16)
+    script.flush(0, at_once=True, form=16)
+    script.flush(0, group=1)
+    script.refused(NO_FIELD, 0, moving(False, 10, 0, 1, 0, LAST_GROUP + 1), TO_HOST, BLOCK)
+    script.refused(NO_FIELD, 0, moving(False, 16, 0, 1, 0x20), TO_HOST, BLOCK)
+    script.refused(NO_FIELD, 0, moving(True, 16, 0, 33), TO_DEVICE, 33 * BLOCK)
+    script.refused(OUT_OF_RANGE, 0, moving(True, 16, 0xFFFFFFFFFFFFFFFF, 1), TO_DEVICE, BLOCK)
+    script.refused(NO_FIELD, 0, [0x91, 0, *bytes(12), LAST_GROUP + 1])
+
+
+def boot_more(script):
+    """What profile 1 tells of the unit that boots, and of a unit that is protected."""
+    script.set_boot(1)
+    script.told(BOOT, [0x9E, 0x10, *bytes(8), *big(32, 4)], capacity_16(1), 32)
+    script.read(BOOT, 1, 3, form=16)
+    script.set_boot(0)
+    if script.power_on:
+        for form in (6, 10):
+            script.told(1, mode_sense(form, 0x08), modes(form, 0x08, 0x90), 64)
+
+
+def lock(script):
+    """So many blocks fail that the device is locked, while a WRITE with FUA waits."""
+    first = script.random.randrange(1, 200)
+    tag = script.begin_write(0, 40, 1, forced=True)
+    script.send_blocks(0, tag, first, 1)
+    for _ in range(CONFIG[5]):
+        script.take(0)
+        script.done(0, "fail")
+    script.reply(response(0, tag, BLOCK, BLOCK, CHECK, WRITE_ERROR))
+    script.refused(PROTECTED, 0, moving(True, 16, 0, 1), TO_DEVICE, BLOCK)
+    script.refused(PROTECTED, 0, [0x91])
+    script.refused(TEST_FAILED, DEVICE, [0x1D, 0x04])
+    script.told(0, [0x1D], b"", 0)
+    for form in (6, 10):
+        script.told(0, mode_sense(form, 0x08), modes(form, 0x08, 0x90), 64)
+
+
+def tell_round(script, number):
+    """What the device tells."""
+    script.nop()
+    if number == 0 and script.profile:
+        script.note("What profile 1 tells beside it.")
+        ask_of_pages(script)
+        ask_of_modes(script)
+        ask_of_operations(script)
+        ask_for_more(script)
+        script.note("Attentions, task attributes, and LUNs that are not there.")
+        ask_of_attentions(script)
+        ask_with_attributes(script)
+        ask_where_nothing_is(script)
+    if number % 4 == 0:
+        ask_of_units(script)
+        ask_in_vain(script)
+    ask_by_queries(script)
+
+
+def play_round(script, number):
+    """A round of everything."""
+    script.note(f"Round {number}: what the device tells.")
+    tell_round(script, number)
+    script.note("Blocks.")
+    move_blocks(script, number)
+    if script.profile:
+        move_more(script, number)
+    if number % 4 == 1:
+        unmap_in_vain(script)
+    script.note("The replay protected memory block.")
+    guard_area(script, number)
+    script.note("Task management.")
+    abort_tasks(script, number)
+    script.note("Settings.")
+    set_and_boot(script, number)
+    if script.profile:
+        boot_more(script)
+    script.note("A job that fails, and a stop.")
+    fail_job(script, number)
+    stop_here(script, number)
+
+
+def made(profile):
+    """The whole script of a profile."""
+    script = Script(profile)
     script.note("A new device writes a mark.")
-    script.refused(NOT_READY, 0, [0x00])
-    script.settle(8)
-    for number in range(ROUNDS):
-        script.note(f"Round {number}: what the device tells.")
-        script.nop()
-        if number % 4 == 0:
-            ask_of_units(script)
-            ask_in_vain(script)
-        ask_by_queries(script)
-        script.note("Blocks.")
-        move_blocks(script, number)
-        if number % 4 == 1:
-            unmap_in_vain(script)
-        script.note("The replay protected memory block.")
-        guard_area(script, number)
-        script.note("Task management.")
-        abort_tasks(script, number)
-        script.note("Settings.")
-        set_and_boot(script, number)
-        script.note("A job that fails, and a stop.")
-        fail_job(script, number)
-        stop_here(script, number)
+    if not profile:
+        script.refused(NOT_READY, 0, READY)
+    script.mend(8)
+    for number in range(ROUNDS[profile]):
+        play_round(script, number)
     script.note("A protection that stays.")
     script.sets(0x81, 6, 2, told=1)
     script.permanent = 1
@@ -577,13 +898,17 @@ def made():
     script.refused(PROTECTED, 2, [0x2A, 0, 0, 0, 0, 0, 0, 0, 1], TO_DEVICE, BLOCK)
     script.stop()
     script.refused(PROTECTED, 2, [0x2A, 0, 0, 0, 0, 0, 0, 0, 1], TO_DEVICE, BLOCK)
+    if profile:
+        script.note("A device that is locked.")
+        lock(script)
     return script
 
 
 def main():
-    script = made()
-    SCRIPT.write_text(script.text(), encoding="ascii")
-    print(f"{len(script.lines)} lines, {len(script.printed)} of which print something")
+    for profile, place in enumerate(SCRIPTS):
+        script = made(profile)
+        place.write_text(script.text(), encoding="ascii")
+        print(f"{place.name}: {len(script.lines)} lines, {len(script.printed)} of which print something")
 
 
 if __name__ == "__main__":

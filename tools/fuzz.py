@@ -4,10 +4,11 @@
 usage: fuzz.py [--seed N] [--scripts M] [--first N] [--keep FOLDER] [--program UFSIM] [--bits] [--over M] [--long M]
 
 The model is tools/plain_host.py: what docs/FORMATS.md and docs/GUIDE.md say that a host can see. A script is made
-from the seed and its number alone. For each difference a line tells the seed, the number of the script, its line,
-what was wanted and what came, and --keep keeps the script in a folder. Then come counts of what was sent and
-answered. The last line is 'N passed, M failed', and the status is 0 only if none failed. --bits flips each bit of a
-COMMAND, a QUERY REQUEST and a TASK REQUEST that has to be zero, one by one. --over plays so many scripts over each
+from the seed and its number alone; half of them have profile 1, with a random serial number, and most of these soon
+end the attentions of their LUNs. For each difference a line tells the seed, the number of the script, its line, what
+was wanted and what came, and --keep keeps the script in a folder. Then come counts of what was sent and answered. The
+last line is 'N passed, M failed', and the status is 0 only if none failed. --bits flips each bit of a COMMAND, a
+QUERY REQUEST and a TASK REQUEST that has to be zero in a profile, one by one. --over plays so many scripts over each
 image of dies in examples/version_1/, by `ufsim image load`: of the life before, NAME.life.xz has the script, and
 NAME.told.xz what the program of then printed. --long plays so many scripts on devices with 256 slots, which take
 commands of 128 blocks. ufsim is built without a proof, once, but with --program that program is run.
@@ -33,16 +34,32 @@ from plain_host import MANY, SURE, Model, event_of
 
 # A script takes a second or two.
 SECONDS = 600
-NAMES = {plain.READY: "TEST UNIT READY", plain.SENSE: "REQUEST SENSE", plain.READ6: "READ(6)", plain.WRITE6: "WRITE(6)",
-         plain.INQUIRY: "INQUIRY", plain.CAPACITY: "READ CAPACITY", plain.READ: "READ(10)", plain.WRITE: "WRITE(10)",
-         plain.FLUSH: "SYNCHRONIZE CACHE", plain.UNMAP: "UNMAP", plain.LUNS: "REPORT LUNS",
-         plain.SECURITY_IN: "SECURITY PROTOCOL IN", plain.SECURITY_OUT: "SECURITY PROTOCOL OUT"}
+NAMES = {code: row.name for code, row in plain.ROWS.items()}
 KINDS = {0x00: "NOP OUT", 0x01: "COMMAND", 0x02: "DATA OUT", 0x04: "TASK REQUEST", 0x16: "QUERY", 0x20: "NOP IN",
          0x21: "RESPONSE", 0x22: "DATA IN", 0x24: "TASK RESPONSE", 0x31: "READY TO TRANSFER", 0x36: "QUERY RESPONSE"}
+HEAD = ("config ", "unit ", "profile ")
+# Where a CDB asks for more than blocks, right ones and wrong ones: bytes 1 and on, one of each list.
+ASKED: Dict[int, Tuple[Any, ...]] = {
+    plain.INQUIRY: ((0, 1, 1, 1), (0, 0x80, 0x83, 0x87, 0xB0, 0xB1, 0xB2, 0, 0x86)),
+    plain.MODES6: ((0, 8, 16, 24, 4), (1, 8, 10, 0x3F, 0x48, 0x7F, 0xBF, 0xC8, 0, 9), (0,) * 6 + (0xFF, 1)),
+    plain.CAPACITY16: ((16,) * 8 + (0x12, 0),), plain.LUNS: ((0,), (0, 1, 2, 2, 3)),
+    plain.OPERATIONS: ((12,) * 8 + (0, 0x2C), (0, 0x80, 1, 0x81, 2, 0x82, 3, 0x10),
+                       (*plain.ROWS, 0x9E, 0xA3, 0xA3, 0x55, 0xFF), (0, 0, 0, 1), (0, 12, 16, 16)),
+    plain.DIAGNOSE: ((0, 4, 4, 0x10, 0x14, 1, 0x24),)}
+ASKED[plain.MODES] = ASKED[plain.MODES6]
+# Of these commands, what both profiles have, and what profile 1 has alone.
+OLD, NEW = ([it for it in (plain.READY, plain.DIAGNOSE, *plain.TELLS) if (plain.ROWS[it].bits[0] is None) == is_new]
+            for is_new in (False, True))
 FUNCTIONS = (0x01, 0x02, 0x04, 0x08, 0x80, 0x81)
+# What a COMMAND has in bits 2..0 of byte 1, which profile 0 does not take: a priority (4), and a task attribute.
+ATTRIBUTES = (1, 2, 3, 4, 4, 4, 5, 7)
+# What a LUN is asked for beside its sense data, right and wrong: CDBs without their last zeros.
+LOOKS = ([plain.INQUIRY, 0, 0, 0, 36], [plain.INQUIRY, 1, 0x80, 0, 64], [plain.INQUIRY, 1, 0x86, 0, 64],
+         [plain.LUNS, *bytes(8), 64], [plain.READY], [plain.CAPACITY], [0xFF])
 WRONG_LINES = ("reply now", "take x", "settle 4294967296", "host 0", "host 0g", "fill 00 5 4", "fill 00 555 4",
                "turns", "done 0 never", "stop 0:odd", "stop x:old", "stop 0", "take 1 2", "   ", "done 200 ok",
-               "stop 0:old 0:old", "config 1 1 1 1 1 1", "fill 0g 5a x", "stop 300:new", "reply\tnow", "host caf\u00e9")
+               "stop 0:old 0:old", "config 1 1 1 1 1 1", "fill 0g 5a x", "stop 300:new", "reply\tnow", "profile 1 1",
+               "host caf\u00e9")
 
 
 def shape(chance):
@@ -65,6 +82,12 @@ def long_shape(chance):
     return (dies, max(16, -(-least // dies) + chance.randint(0, 3)), 16, 1, 256, 0), units
 
 
+def some_profile(chance):
+    """The profile and the serial number of a device: profile 1 in half of them."""
+    serial = chance.choice((0, 1, 255, chance.getrandbits(32), chance.getrandbits(64), (1 << 64) - 1))
+    return chance.choice((plain.PLAIN_PROFILE,) * 3 + ((0, serial),) + ((1, serial),) * 4)
+
+
 class Kept(NamedTuple):
     """Dies that an earlier life left: the name of their image, the device, and the model once the power failed."""
 
@@ -79,11 +102,11 @@ class Kept(NamedTuple):
         name = packed.name.split(".")[0]
         lines, told = (lzma.open(packed.with_name(f"{name}.{it}.xz"), "rt", encoding="utf-8").read().splitlines()
                        for it in ("life", "told"))
-        head = [tuple(map(int, it.split()[1:])) for it in lines if it.startswith(("config ", "unit "))]
+        config, units, _ = plain.device_of(it for it in lines if it.startswith(HEAD))
         model, _, difference = played([*lines, "stop"], [*told, "stop ok"])
         if difference:
             raise ValueError(f"{packed}: {difference}")
-        return Kept(name, head[0], tuple(head[1:]), model)
+        return Kept(name, config, tuple(units), model)
 
 
 class Script:
@@ -96,7 +119,12 @@ class Script:
         self.most = plain.most_blocks(self.config)
         self.lines = ["config " + " ".join(map(str, self.config))]
         self.lines += ["unit " + " ".join(map(str, it)) for it in self.units]
+        self.profile = some_profile(self.random)
+        if self.profile != plain.PLAIN_PROFILE:
+            self.lines.append("profile {} {}".format(*self.profile))
         self.model = copy.deepcopy(kept.model) if kept else Model(self.config, self.units)
+        self.model.become(self.profile)
+        self.luns = (*range(len(self.units)), *plain.WELL_KNOWN)
         self.sent, self.payload, self.fails, self.address = 0, {}, 0.0, 0
 
     def chance(self, odds):
@@ -118,15 +146,15 @@ class Script:
         """The whole script."""
         acts: Dict[Any, float] = {
             self.move: 7, self.flush: 1, self.unmap: 1, self.rpmb: 2, self.query: 1.5, self.manage: 1, self.inform: 1,
-            self.hand_wrong: 0.7, self.stop: 0.5, self.crowd: 0.5, self.tread: 2.5, self.protect: 0.4,
-            self.audit: 0.2}
+            self.hand_wrong: 0.7, self.fetch: 0.6 if self.profile[0] else 0.1, self.stop: 0.5, self.crowd: 0.5,
+            self.tread: 2.5, self.tear: 0.3, self.protect: 0.4, self.look: 1.2 if self.profile[0] else 0.2,
+            self.initialize: 0.3, self.audit: 0.2}
         favoured = self.random.sample(list(acts)[:-1], 3)
         weights = [acts[it] * (4 if it in favoured else 1) for it in acts]
         if self.chance(0.12):
             self.churn()
         self.fails = self.random.choice((0.0, 0.0, 0.05, 0.3, 0.3))
-        if self.chance(0.9):
-            self.say(f"settle {MANY}")
+        self.begin()
         messages = self.random.randint(20, 80)
         while self.sent < messages:
             self.random.choices(list(acts), weights)[0]()
@@ -139,6 +167,21 @@ class Script:
             self.lines.append(self.random.choice(WRONG_LINES))
             self.lines.append("reply")
         return self.lines
+
+    def begin(self):
+        """The device is mended, and the attentions of its LUNs end, in most lives, in one order or another."""
+        if self.chance(0.5 if self.profile[0] else 0.05):
+            self.initialize()
+        for act in (self.greet, self.look):
+            if self.chance(0.25):
+                act()
+        if self.chance(0.9):
+            if self.chance(0.2):
+                self.say(f"settle {self.random.randint(0, 3)}")
+                self.do_one_of(self.look, self.initialize)
+            self.say(f"settle {MANY}")
+        if self.chance(0.85):
+            self.greet()
 
     # Messages
 
@@ -187,6 +230,8 @@ class Script:
             cdb[self.random.randrange(16)] ^= 1 << self.random.randrange(8)
         elif wrong == 6:
             cdb[0] = self.random.choice(list(NAMES))
+        if self.chance(0.05 if self.profile[0] else 0.01):
+            flags |= self.random.choice(ATTRIBUTES)
         self.send(header(0x01, flags, lun, tag, fields=big(expected, 4) + bytes(cdb)), 0.03)
         return tag
 
@@ -195,6 +240,16 @@ class Script:
     def near_length(self, length):
         """What a host may expect of so many bytes that come to it."""
         return self.random.choice((length,) * 6 + (0, length // 2, max(0, length - 1), length + 1, length + 4096))
+
+    def form(self, codes, option, address, count, other=0):
+        """A CDB of ten bytes, or of sixteen, at times with what profile 1 takes, and with this other option."""
+        is_rich = self.chance(0.5 if self.profile[0] else 0.03)
+        group = self.random.choice((0, 0, 1, 5, 16, 16, 17)) if is_rich else 0
+        option |= other if is_rich and self.chance(0.3) else 0
+        if is_rich and self.chance(0.6):
+            address += self.random.choice((0,) * 30 + (1 << 32, (1 << 64) - 1 - address))
+            return [codes[1], option, *big(address, 8), *big(count, 4), group]
+        return [codes[0], option, *big(address, 4), group, *big(count, 2)]
 
     def move(self, count=None, unit=None, writes=None, fua=None):
         """A READ or a WRITE."""
@@ -211,7 +266,8 @@ class Script:
         if is_short:
             cdb = [plain.WRITE6 if writes else plain.READ6, *big(address, 3), count % 256]
         else:
-            cdb = [plain.WRITE if writes else plain.READ, 8 * fua, *big(address, 4), 0, *big(count, 2)]
+            codes = (plain.WRITE, plain.WRITE16) if writes else (plain.READ, plain.READ16)
+            cdb = self.form(codes, 8 * fua, address, count, 16)
         lun = plain.BOOT if self.chance(0.1) and not writes else unit
         length = 4096 * count
         if writes:
@@ -220,10 +276,18 @@ class Script:
             self.command(lun, cdb, plain.TO_HOST, self.near_length(length))
 
     def flush(self):
-        wide = [*big(self.random.randrange(1 << 32), 4), 0, *big(self.random.randrange(1 << 16), 2)] \
-            if self.chance(0.3) else []
-        lun = self.random.choice((plain.DEVICE, 0))
-        self.command(lun, [plain.FLUSH, 2 * self.chance(0.25), *wide], 0, self.random.choice((0, 0, 0, 512)))
+        address, count = (self.random.randrange(1 << it) if self.chance(0.3) else 0 for it in (32, 16))
+        cdb = self.form(plain.FLUSHES, 2 * self.chance(0.25), address, count)
+        self.command(self.random.choice((plain.DEVICE, 0)), cdb, 0, self.random.choice((0, 0, 0, 512)))
+
+    def fetch(self):
+        """A PRE-FETCH of blocks, some of them beyond the unit."""
+        unit = self.random.randrange(len(self.units))
+        blocks = self.units[unit][0]
+        address = self.random.choice((0, self.random.randrange(blocks), blocks - 1, blocks, blocks + 1))
+        count = self.random.choice((0, 1, blocks - address, blocks - address + 1, 0xFFFF))
+        cdb = self.form(plain.FETCHES, 2 * self.chance(0.5), address, max(0, count))
+        self.command(unit, cdb, self.random.choice((0, 0, plain.TO_HOST)), self.random.choice((0, 0, 0, 4096)))
 
     def unmap(self):
         unit = self.random.randrange(len(self.units))
@@ -238,15 +302,57 @@ class Script:
 
     def inform(self):
         """A command that tells something."""
-        code = self.random.choice((plain.READY, plain.SENSE, plain.INQUIRY, plain.CAPACITY, plain.LUNS))
-        lun = self.random.choice((*range(len(self.units)), *plain.WELL_KNOWN))
-        if code == plain.LUNS and self.chance(0.7):
-            lun = plain.LIST
-        allocation = self.random.choice((0, 1, 8, 17, 18, 20, 36, 64, 255))
-        cdb = {plain.SENSE: [0, 0, 0, allocation], plain.INQUIRY: [0, 0, *big(allocation, 2)],
-               plain.LUNS: [0, self.random.choice((0, 1, 2)), 0, 0, 0, *big(allocation, 4)]}.get(code, [])
-        self.command(lun, [code, *cdb], 0 if code == plain.READY else plain.TO_HOST,
-                     self.near_length(8 if code == plain.CAPACITY else allocation) if code else 0)
+        code = self.random.choice(NEW if self.chance(0.5 if self.profile[0] else 0.05) else OLD)
+        row, lun = plain.ROWS[code], self.random.choice((*range(len(self.units)), *plain.WELL_KNOWN))
+        if self.chance(0.7) and row.known != plain.WELL_KNOWN:
+            lun = plain.LIST if code == plain.LUNS else self.random.randrange(len(self.units))
+        elif self.chance(0.15 if self.profile[0] else 0.03):
+            lun = self.absent()
+        allocation = self.random.choice((0, 1, 4, 8, 17, 18, 20, 28, 32, 36, 64, 255, 512))
+        cdb = bytearray(16)
+        if code != plain.INQUIRY or self.chance(0.6 if self.profile[0] else 0.1):
+            for at, values in enumerate(ASKED.get(code, ()), 1):
+                cdb[at] = self.random.choice(values)
+        cdb[0], (start, width) = code, row.size
+        cdb[start:start + width] = big(allocation, 4)[4 - width:] if width else b""
+        length = 8 if code == plain.CAPACITY else allocation
+        has_data = code in plain.TELLS
+        self.command(lun, cdb, plain.TO_HOST if has_data else 0, self.near_length(length) if has_data else 0)
+
+    # LUNs, there or not
+
+    def absent(self):
+        """A LUN byte that most devices do not have."""
+        return self.random.choice((len(self.units), 7, 8, 0x01, 0x44, 0x80, 0xFF, self.random.randrange(256)))
+
+    def greet(self):
+        """A command to each LUN that has an attention, which ends it."""
+        for lun in self.luns:
+            if self.world.has_attention(lun):
+                is_told = self.chance(0.15)
+                self.command(lun, [plain.SENSE, 0, 0, 0, 18] if is_told else [plain.READY],
+                             plain.TO_HOST if is_told else 0, 18 if is_told else 0)
+                for _ in range(1 + is_told if self.chance(0.9) else 0):
+                    self.say("reply")
+
+    def look(self):
+        """What a LUN tells of itself, more than once, at times after it was reset."""
+        lun = self.random.choice(self.luns) if self.chance(0.75) else self.absent()
+        if self.chance(0.4):
+            self.send(header(0x04, lun=lun, tag=self.tag(), five=0x08, fields=bytes([0, 0, 0, lun])))
+        for _ in range(self.random.randint(2, 3)):
+            allocation = self.random.choice((18, 18, 18, 36, 255, 4, 0))
+            self.command(lun, self.random.choice(LOOKS + ([plain.SENSE, 0, 0, 0, allocation],) * 4),
+                         self.random.choice((plain.TO_HOST, plain.TO_HOST, 0)), self.near_length(allocation))
+            if self.chance(0.7):
+                self.say("reply")
+
+    def initialize(self):
+        """fDeviceInit is set and read, in one order or another."""
+        for opcode in self.random.choice(((6, 5), (6, 5), (5, 6, 5), (5, 6), (6,), (5,))):
+            self.send(header(0x16, tag=self.tag(), five=0x01 if opcode == 5 else 0x81, fields=bytes([opcode, 1])))
+            if self.chance(0.7):
+                self.say("reply")
 
     # The RPMB
 
@@ -311,11 +417,11 @@ class Script:
         usual = ((1, 0, 0, 0, 64, 0), (1, 2, self.random.randrange(len(self.units)), 0, 35, 0), (3, 0, 0, 0, 0, 0),
                  (4, 0, 0, 0, 0, self.random.randrange(3)), (5, self.random.randint(1, 3), 0, 0, 0, 0),
                  (6, self.random.randint(1, 3), 0, 0, 0, 0), (7, 1, 0, 0, 0, 0), (8, 3, 0, 0, 0, 0), (2, 0, 0, 0, 0, 0),
-                 (0, 0, 0, 0, 0, 0))
+                 (0, 0, 0, 0, 0, 0), (1, 7, 0, 0, 72, 0))
         fields = list(self.random.choice(usual))
         if self.chance(0.4):
             at = self.random.randrange(6)
-            fields[at] = self.random.choice((0, 1, 2, 3, 9, 255, fields[at] + 1))
+            fields[at] = self.random.choice((0, 1, 2, 3, 7, 9, 255, fields[at] + 1))
         opcode, idn, index, selector, length, value = fields
         function = (0x01 if opcode in (1, 3, 5) else 0x81) ^ (0x80 * self.chance(0.04))
         segment = bytes(8) if opcode == 2 and self.chance(0.3) else b""
@@ -359,7 +465,7 @@ class Script:
             else:
                 self.send(header(0, tag=self.tag()), 0.01)
         for _ in range(self.random.randint(1, 3)):
-            self.do_one_of(self.unmap, self.rpmb, self.query, self.move, self.manage)
+            self.do_one_of(self.unmap, self.rpmb, self.query, self.move, self.manage, self.look)
 
     def churn(self):
         """So many blocks are written that the device collects."""
@@ -434,6 +540,22 @@ class Script:
         for _ in range(self.random.randint(1, 4)):
             self.move(self.random.choice((1, 1, 2, 3, 5)), None, self.chance(0.65))
 
+    def tear(self):
+        """The power fails inside a WRITE, some blocks of which are programmed: the device is not mended then."""
+        self.rest()
+        self.move(self.random.choice((2, 3, 5)), None, True, False)
+        for _ in range(16):
+            asked = [it for it in self.world.open.values() if it.asked]
+            if asked:
+                self.bring(asked[0])
+            else:
+                self.say("reply")
+        die = self.random.randrange(self.config[0])
+        for line in (f"take {die}", f"done {die} ok", f"take {die}"):
+            if not line.startswith("done") or die in self.world.flight:
+                self.say(line)
+        self.stop()
+
     def stop(self):
         """The power fails, sometimes twice."""
         named = [f" {die}:{self.random.choice(('old', 'new', 'torn'))}" for die, it in self.world.flight.items()
@@ -443,10 +565,9 @@ class Script:
             self.do_one_of(self.inform, self.move, self.query, self.manage, self.rpmb)
         if self.chance(0.3):
             self.interrupt()
-        if self.chance(0.9):
-            self.say(f"settle {MANY}")
-            if self.chance(0.7):
-                self.audit()
+        self.begin()
+        if self.world.mended and self.chance(0.7):
+            self.audit()
 
     def interrupt(self):
         """The power fails in a step of the device's own."""
@@ -503,6 +624,12 @@ class Counts(collections.Counter):
             return digits
         data = bytes.fromhex(digits)
         name = KINDS[data[0]]
+        if name == "DATA IN" and len(data) == 52 and data[32:34] + data[39:40] == b"\x70\0\n":
+            return f"{name} of sense {data[34]:x}/{data[44]:02x}/{data[45]:02x}"
+        if name == "DATA IN" and data[32:36] == b"\x7f\0\6\2":
+            return f"{name} of no unit"
+        if name == "QUERY RESPONSE" and data[6] == 0 and data[12] in (5, 6):
+            return f"{name} of flag {data[13]:02x} value {data[23]}"
         if name == "RESPONSE" and data[7] == plain.CHECK:
             return f"{name} {data[36]:x}/{data[46]:02x}/{data[47]:02x}"
         if name == "DATA IN" and data[2] == plain.RPMB and plain.number(data, 10, 2) % 512 == 0:
@@ -519,10 +646,15 @@ def played(lines, printed, counts=None, until=None, kept=None):
             break
         if not line or line.startswith("#"):
             continue
-        if is_head and line.startswith(("config ", "unit ")):
-            head.append(tuple(map(int, line.split()[1:])))
+        if is_head and line.startswith(HEAD):
+            head.append(line)
             continue
-        is_head, model = False, model or Model(head[0], head[1:])
+        if is_head:
+            config, units, profile = plain.device_of(head)
+            is_head, model = False, model or Model(config, units)
+            model.become(profile)
+            if counts is not None:
+                counts[f"scripts: profile {profile[0]}"] += 1
         event = event_of(line)
         fault = event if isinstance(event, str) else None if model.is_event(event) else "event"
         if fault:
@@ -586,32 +718,44 @@ def short(text):
     return text if len(text) < 200 else f"{text[:150]}..({len(text)} characters)"
 
 
-def zero_bits(message):
-    """The bits of a COMMAND, a QUERY REQUEST or a TASK REQUEST that have to be zero: their bytes and values."""
+def zero_bits(message, profile):
+    """The bits of a COMMAND, a QUERY REQUEST or a TASK REQUEST that have to be zero in this profile: their bytes and
+    values."""
     bits = {at: 0xFF for at in (8, *plain.ZERO_BYTES[message[0]])}
     bits[0] = 0xC0
     if message[0] == 0x01:
-        bits[1] = 0xFF ^ plain.TO_DEVICE ^ plain.TO_HOST
-        named = bytes.fromhex(plain.BITS[message[16]]).ljust(15, b"\0")
+        bits[1] = 0xFF ^ plain.TO_DEVICE ^ plain.TO_HOST ^ (plain.PRIORITY | plain.ATTRIBUTE) * profile
+        named = plain.bits_of(message[16], profile)
         bits.update((17 + at, bit ^ 0xFF) for at, bit in enumerate(named))
     return [(at, 1 << bit) for at in sorted(bits) for bit in range(8) if bits[at] >> bit & 1]
 
 
+def right_command(code):
+    """A COMMAND with this operation code that is not refused for a field."""
+    row = plain.ROWS[code]
+    cdb = [code, row.action or 0, 0x3F if code in plain.SENSES else 0]
+    if code in plain.SECURITY:
+        cdb = [code, 0xEC, 0, 1, 0, 0, 0, 0, 2, 0]
+    lun = plain.RPMB if code in plain.SECURITY else 0
+    flags = plain.TO_DEVICE if code == plain.SECURITY_OUT else plain.TO_HOST
+    return header(0x01, flags, lun, 1, fields=big(4096, 4) + bytes(cdb).ljust(16, b"\0"))
+
+
 def bit_scripts():
-    """A script for each kind of message: a right one, and then one with each bit that has to be zero set."""
-    messages = [header(0x16, tag=1, five=0x01, fields=bytes([3])), header(0x04, tag=1, five=0x80)]
-    for code in NAMES:
-        cdb = [code, 0xEC, 0, 1, 0, 0, 0, 0, 2, 0] if code in plain.SECURITY else [code]
-        lun = plain.RPMB if code in plain.SECURITY else 0
-        flags = plain.TO_DEVICE if code == plain.SECURITY_OUT else plain.TO_HOST
-        messages.append(header(0x01, flags, lun, 1, fields=big(4096, 4) + bytes(cdb).ljust(16, b"\0")))
-    for message in messages:
-        lines = ["config 1 40 16 1 64 0", "unit 16 0 0", f"settle {MANY}", f"host {message.hex()}", "reply", "reply"]
-        for at, bit in zero_bits(message):
-            wrong = bytearray(message)
-            wrong[3], wrong[at] = 2, wrong[at] ^ bit
-            lines += [f"host {wrong.hex()}", "reply"]
-        yield f"bits {message[0]:02x} {message[16]:02x}", lines
+    """A script for each kind of message in each profile: a right one, and then one with each bit that has to be zero
+    set. In profile 1 a TEST UNIT READY first ends the attention of the LUN."""
+    others = [header(0x16, tag=1, five=0x01, fields=bytes([3])), header(0x04, tag=1, five=0x80)]
+    for profile in (0, 1):
+        codes = [it for it in plain.ROWS if plain.bits_of(it, profile) is not None]
+        for message in [*others, *map(right_command, codes)]:
+            lines = ["config 1 40 16 1 64 0", "unit 16 0 0", f"profile {profile} 1", f"settle {MANY}"]
+            lines += [f"host {header(0x01, lun=message[2], tag=3).hex()}", "reply"] * profile
+            lines += [f"host {message.hex()}", "reply", "reply"]
+            for at, bit in zero_bits(message, profile):
+                wrong = bytearray(message)
+                wrong[3], wrong[at] = 2, wrong[at] ^ bit
+                lines += [f"host {wrong.hex()}", "reply"]
+            yield f"bits {profile} {message[0]:02x} {message[16]:02x}", lines
 
 
 def scripts_over(seed, count):

@@ -7,11 +7,11 @@ The kernel is that of Debian's package linux-source-6.1 with clients/linux/virt-
 bus of user-mode Linux and not the driver. It is built once, in the folder butcherford/linux of the user's
 cache (XDG_CACHE_HOME, else ~/.cache), and again where the configuration, the patch or the package changed.
 The tests of the front run first, which need no kernel. Then the kernel runs over the device of the library:
-it finds the disks, makes a file system and writes it, and the power fails again and again inside a program or
-an erase while files are written. What is missing of Debian's packages is installed with apt-get, as root.
---no-install installs nothing; with --no-build the archive of the library is the one that is there. --cuts
-says how often the power fails (20). --log adds to a file what each kernel said. JOBS is how many programs
-compile the kernel at a time (2).
+it finds the disks, discards blocks, makes a file system and writes it, and the power fails again and again
+inside a program or an erase while files are written. What is missing of Debian's packages is installed with
+apt-get, as root. --no-install installs nothing; with --no-build the archive of the library is the one that
+is there. --cuts says how often the power fails (20). --log adds to a file what each kernel said. JOBS is how
+many programs compile the kernel at a time (2).
 
 The last line is 'N passed, M failed', and the status is 0 only if nothing failed.
 """

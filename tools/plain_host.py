@@ -7,9 +7,9 @@ import copy
 import hashlib
 import hmac
 import re
-from typing import Any, Callable, Dict, List, Tuple
+from typing import Any, Callable, Dict, List, NamedTuple, Optional, Tuple
 
-from every_command import big, frame, header, transfer
+from every_command import big, fixed_sense, frame, header, transfer
 
 BLOCK, ZEROS = 4096, bytes(4096)
 # So many rounds of `settle` see everything done that is due, also what is to be mended; fewer, so many and a few for
@@ -22,19 +22,96 @@ LIST, BOOT, RPMB, DEVICE = WELL_KNOWN = (0x81, 0xB0, 0xC4, 0xD0)
 GOOD, CHECK, BUSY, FULL = 0x00, 0x02, 0x08, 0x28
 WRITE_ERROR, READ_ERROR = (3, 0x0C, 0), (3, 0x11, 0)
 NO_FIELD, NO_LIST_FIELD, NO_SEQUENCE, OUT_OF_RANGE = (5, 0x24, 0), (5, 0x26, 0), (5, 0x2C, 0), (5, 0x21, 0)
+NO_OPERATION, NOTHING_SAVED, TEST_FAILED = (5, 0x20, 0), (5, 0x39, 0), (4, 0x3E, 3)
+NO_SENSE, NO_UNIT, NOT_READY = (0, 0, 0), (5, 0x25, 0), (2, 0x04, 1)
+ATTENTION, NOT_SIMPLE = (6, 0x29, 0), (0x0B, 0x49, 0)
+# Of byte 1 of a COMMAND, in profile 1: the priority, and the task attribute, which is 0 where it is SIMPLE.
+PRIORITY, ATTRIBUTE = 0x04, 0x03
+# Profile and serial number of a device, if its script says nothing of them.
+PLAIN_PROFILE = (0, 1)
+
+
+class Row(NamedTuple):
+    """A command: its name; the bits of bytes 1 to 15 of its CDB that need not be zero, in profile 0 (None: it is not
+    there) and in profile 1; the well-known units that take it; where its CDB has the address and the count of blocks,
+    or a length, each with its width, and the group; and its service action."""
+
+    name: str
+    bits: Tuple[Optional[str], str]
+    known: Tuple[int, ...] = ()
+    address: Tuple[int, int] = (0, 0)
+    size: Tuple[int, int] = (0, 0)
+    group: int = 0
+    action: Optional[int] = None
+
+
 READY, SENSE, READ6, WRITE6, INQUIRY, CAPACITY = 0x00, 0x03, 0x08, 0x0A, 0x12, 0x25
 READ, WRITE, FLUSH, UNMAP, LUNS, SECURITY_IN, SECURITY_OUT = 0x28, 0x2A, 0x35, 0x42, 0xA0, 0xA2, 0xB5
-READS, WRITES, SECURITY = (READ6, READ), (WRITE6, WRITE), (SECURITY_IN, SECURITY_OUT)
-# The bits of bytes 1 to 15 of a CDB that need not be zero.
-BITS = {READY: "", SENSE: "000000ff", READ6: "1fffffff", WRITE6: "1fffffff", INQUIRY: "0000ffff", CAPACITY: "",
-        READ: "08ffffffff00ffff", WRITE: "08ffffffff00ffff", FLUSH: "02ffffffff00ffff", UNMAP: "000000000000ffff",
-        LUNS: "0003000000ffffffff", SECURITY_IN: "ffffff0000ffffffff", SECURITY_OUT: "ffffff0000ffffffff"}
-COMMON = (READY, SENSE, INQUIRY)
-TAKES = {LIST: (*COMMON, LUNS), BOOT: (*COMMON, *READS, CAPACITY), RPMB: (*COMMON, *SECURITY), DEVICE: (*COMMON, FLUSH)}
+READ16, WRITE16, FLUSH16, FETCH, FETCH16, CAPACITY16 = 0x88, 0x8A, 0x91, 0x34, 0x90, 0x9E
+MODES6, MODES, DIAGNOSE, OPERATIONS = 0x1A, 0x5A, 0x1D, 0xA3
+SIX, TEN, LONG = ((1, 3), (4, 1), 0), ((2, 4), (7, 2), 6), ((2, 8), (10, 4), 14)
+WIDE = 12 * "ff" + "1f"
+ROWS = {
+    READY: Row("TEST UNIT READY", ("", ""), WELL_KNOWN),
+    SENSE: Row("REQUEST SENSE", ("000000ff",) * 2, WELL_KNOWN, size=(4, 1)),
+    READ6: Row("READ(6)", ("1fffffff",) * 2, (BOOT,), *SIX),
+    WRITE6: Row("WRITE(6)", ("1fffffff",) * 2, (), *SIX),
+    INQUIRY: Row("INQUIRY", ("0000ffff", "01ffffff"), WELL_KNOWN, size=(3, 2)),
+    MODES6: Row("MODE SENSE(6)", (None, "18ffffff"), size=(4, 1)),
+    DIAGNOSE: Row("SEND DIAGNOSTIC", (None, "14"), (DEVICE,)),
+    CAPACITY: Row("READ CAPACITY(10)", ("", ""), (BOOT,)),
+    READ: Row("READ(10)", ("08ffffffff00ffff", "18ffffffff1fffff"), (BOOT,), *TEN),
+    WRITE: Row("WRITE(10)", ("08ffffffff00ffff", "18ffffffff1fffff"), (), *TEN),
+    FETCH: Row("PRE-FETCH(10)", (None, "02ffffffff1fffff"), (), *TEN),
+    FLUSH: Row("SYNCHRONIZE CACHE(10)", ("02ffffffff00ffff", "02ffffffff1fffff"), (DEVICE,), *TEN),
+    UNMAP: Row("UNMAP", ("000000000000ffff",) * 2, size=(7, 2)),
+    MODES: Row("MODE SENSE(10)", (None, "18ffff000000ffff"), size=(7, 2)),
+    READ16: Row("READ(16)", (None, "18" + WIDE), (BOOT,), *LONG),
+    WRITE16: Row("WRITE(16)", (None, "18" + WIDE), (), *LONG),
+    FETCH16: Row("PRE-FETCH(16)", (None, "02" + WIDE), (), *LONG),
+    FLUSH16: Row("SYNCHRONIZE CACHE(16)", (None, "02" + WIDE), (DEVICE,), *LONG),
+    CAPACITY16: Row("READ CAPACITY(16)", (None, "100000000000000000ffffffff"), (BOOT,), size=(10, 4), action=0x10),
+    LUNS: Row("REPORT LUNS", ("00ff000000ffffffff",) * 2, (LIST,), size=(6, 4)),
+    SECURITY_IN: Row("SECURITY PROTOCOL IN", ("ffffff0000ffffffff",) * 2, (RPMB,), size=(6, 4)),
+    OPERATIONS: Row("REPORT SUPPORTED OPERATION CODES", (None, "0c87ffffffffffffff"), size=(6, 4), action=0x0C),
+    SECURITY_OUT: Row("SECURITY PROTOCOL OUT", ("ffffff0000ffffffff",) * 2, (RPMB,), size=(6, 4))}
+READS, WRITES, FLUSHES, FETCHES = (READ6, READ, READ16), (WRITE6, WRITE, WRITE16), (FLUSH, FLUSH16), (FETCH, FETCH16)
+CAPACITIES, SENSES, SECURITY = (CAPACITY, CAPACITY16), (MODES6, MODES), (SECURITY_IN, SECURITY_OUT)
+# What tells something that is known at once, and what needs no mended device.
+TELLS = (SENSE, INQUIRY, *CAPACITIES, LUNS, *SENSES, OPERATIONS)
+# What is answered in profile 1 though its LUN has an attention, and what is answered though there is no such LUN.
+PASSING, ANYWHERE = (SENSE, INQUIRY, LUNS), (SENSE, INQUIRY)
+# The length of a CDB by the highest three bits of its operation code.
+CDB_LENGTHS = (6, 10, 10, 0, 16, 12)
+# Of each mode page the current values, which are the default ones too, and the changeable ones.
+MODE_PAGES = {0x01: ("010a80" + 9 * "00", "010a" + 10 * "00"), 0x08: ("081204" + 17 * "00", "0812" + 18 * "00"),
+              0x0A: ("0a0a001000000000ffff0000", "0a0a" + 10 * "00")}
+ALL_PAGES = 0x3F
+# The command timeouts descriptor of SPC-4, which tells no time.
+TIMES = b"\0\x0a" + bytes(10)
 # Of each kind of message the bytes of its header that have to be zero, but for byte 8.
 ZERO_BYTES = {0x00: (1, 2, 4, 5, 6, 7, 9, *range(12, 32)), 0x01: (4, 5, 6, 7, 9),
               0x02: (1, 4, 5, 6, 7, 9, *range(20, 32)), 0x16: (1, 2, 4, 6, 7, 9, 16, 17, *range(24, 32)),
               0x04: (1, 4, 6, 7, 9, 12, 13, 14, 16, 17, 18, *range(20, 32))}
+
+
+def bits_of(code, profile):
+    """The bits of bytes 1 to 15 of a CDB that need not be zero; None, if the profile has no such command."""
+    digits = ROWS[code].bits[profile] if code in ROWS else None
+    return None if digits is None else bytes.fromhex(digits).ljust(15, b"\0")
+
+
+def is_taken(code, lun, profile):
+    """Whether the units of the configuration, or this well-known unit, take a command in this profile."""
+    is_there = bits_of(code, profile) is not None
+    return is_there and (lun in ROWS[code].known if lun in WELL_KNOWN else code not in SECURITY)
+
+
+def operation(code, is_timed):
+    """The entry of a command in the list of all: SPC-4, REPORT SUPPORTED OPERATION CODES."""
+    action, length = ROWS[code].action, CDB_LENGTHS[code >> 5]
+    flags = 2 * is_timed + (action is not None)
+    return bytes([code, 0]) + big(action or 0, 2) + bytes([0, flags]) + big(length, 2) + TIMES * is_timed
 
 
 def most_blocks(config):
@@ -47,7 +124,7 @@ def number(data, start, width):
 
 
 def fault_of(message):
-    """The lowest of the faults 1 to 6 that the message has, or 0."""
+    """The lowest of the faults 1 to 6 that the message has in profile 1, or 0."""
     if len(message) < 32:
         return 1
     code, segment = message[0] & 0x3F, number(message, 10, 2)
@@ -63,7 +140,8 @@ def fault_of(message):
         return 4
     if code not in ZERO_BYTES:
         return 5
-    is_wrong = {0x01: message[1] not in (0, TO_DEVICE, TO_HOST), 0x04: message[15] != message[2],
+    flags = message[1] & ~(PRIORITY | ATTRIBUTE)
+    is_wrong = {0x01: flags not in (0, TO_DEVICE, TO_HOST), 0x04: message[15] != message[2],
                 0x16: message[5] not in (0x01, 0x81)}
     reserved = any(message[it] for it in ZERO_BYTES[code]) or any(message[32 + segment:])
     return 6 if reserved or is_wrong.get(code) else 0
@@ -136,9 +214,7 @@ class Exchange:
         """A RESPONSE, with the residual of a command that carried so many bytes."""
         length = (self.length if status == GOOD else 0) if length is None else length
         flags = 0x20 if length < self.expected else 0x40 if length > self.expected else 0
-        data = b""
-        if sense:
-            data = bytes([0, 18, 0x70, 0, sense[0], 0, 0, 0, 0, 10, 0, 0, 0, 0, sense[1], sense[2], 0, 0, 0, 0])
+        data = b"\0\x12" + fixed_sense(sense) if sense else b""
         fields = big(abs(self.expected - length), 4)
         return header(0x21, flags, self.lun, self.tag, 0, int(status != GOOD), status, len(data), fields) + data
 
@@ -152,8 +228,9 @@ class Exchange:
 class World:
     """One thing that the device may be, after what was seen of it."""
 
-    def __init__(self, config, units):
+    def __init__(self, config, units, profile=PLAIN_PROFILE):
         self.config, self.units = config, units
+        self.profile, self.serial = profile
         self.plain = Plain(config, units)
         self.base, self.log = self.plain.copy(), []
         # Which group each key was written by; -1: perhaps the mending wrote it.
@@ -163,7 +240,9 @@ class World:
         self.pages = {}
         # mended is None if it may be so or not.
         self.mended: Any = False
-        self.power_on = 0
+        # fPowerOnWPEn; whether fDeviceInit was set; the LUNs with an attention that no host was told of.
+        self.power_on, self.is_asked = 0, False
+        self.attentions = {*range(len(units)), *WELL_KNOWN}
         self.bad, self.flight, self.rows = set(), {}, {}
         self.open, self.result = {}, None
         self.response: Any = None
@@ -181,6 +260,13 @@ class World:
 
     def locked(self):
         return len(self.bad) > self.config[5]
+
+    def has_lun(self, lun):
+        return lun < len(self.units) or lun in WELL_KNOWN
+
+    def has_attention(self, lun):
+        """Whether a LUN has an attention, which profile 0 never tells."""
+        return self.profile == 1 and lun in self.attentions
 
     def tasks(self):
         return [it for it in self.open.values() if it.is_task]
@@ -226,6 +312,8 @@ class World:
         if found:
             return found
         code, lun, tag = message[0], message[2], message[3]
+        if code == 0x01 and not self.profile and message[1] & (PRIORITY | ATTRIBUTE):
+            return 6
         it = self.open.get(tag)
         if code == 0x02:
             here = (lun, number(message, 12, 4), number(message, 16, 4))
@@ -262,7 +350,7 @@ class World:
         of_unit = [it for it in self.tasks() if it.lun == lun]
         named = [it for it in of_unit if it.tag == meant]
         answer = 0x04
-        if lun >= len(self.units) and lun not in WELL_KNOWN:
+        if not self.has_lun(lun):
             answer = 0x09
         elif function in (0x80, 0x81):
             answer = 0x08 if (named if function == 0x80 else of_unit) else 0x00
@@ -272,6 +360,7 @@ class World:
                 if it.passed:
                     self.result = self.response = None
                 del self.open[it.tag]
+            self.attentions |= {lun} if function == 0x08 else set()
         self.short(message, header(0x24, lun=lun, tag=tag, fields=bytes([0, 0, 0, answer])))
 
     def query(self, message):
@@ -281,11 +370,12 @@ class World:
         answer = self.refused_query(message)
         told = 0
         if answer == 0 and opcode == 1:
-            data = (self.device_descriptor() if idn == 0 else self.unit_descriptor(index))[:asked]
+            data = {0: self.device_descriptor, 2: self.unit_descriptor, 7: self.geometry}[idn](index)[:asked]
         elif answer == 0 and opcode in (3, 4):
             told = value if opcode == 4 else plain.boot
         elif answer == 0 and opcode in (5, 6):
-            told = (0, plain.permanent, self.power_on)[idn - 1] if opcode == 5 else int(idn != 1)
+            told = self.initializing(opcode == 6) if idn == 1 else \
+                1 if opcode == 6 else (plain.permanent, self.power_on)[idn - 2]
         if answer == 0 and self.is_setting(message):
             group = self.accept(("boot", value) if opcode == 4 else ("permanent", 1), 1)
         elif answer == 0 and (opcode, idn) == (6, 3):
@@ -296,6 +386,14 @@ class World:
         # What it is answered if the device locks before.
         it.frames = header(0x36, tag=message[3], five=message[5], six=0xFF, fields=message[12:16])
 
+    def initializing(self, is_set):
+        """What fDeviceInit reads, once it is set if it is: 1 in profile 1 from then on until the device is mended."""
+        if not self.profile or not (self.is_asked or is_set):
+            return 0
+        self.knows_mended()
+        self.is_asked = True
+        return int(not self.mended)
+
     @staticmethod
     def is_setting(message):
         return tuple(message[12:14]) in ((4, 0), (6, 2))
@@ -305,7 +403,7 @@ class World:
         opcode, idn, index, selector = message[12:16]
         if opcode > 8 or (opcode and message[5] != (0x01 if opcode in (1, 3, 5) else 0x81)):
             return 0xFE
-        known = (0, 2) if opcode < 3 else (0,) if opcode < 5 else (1, 2, 3)
+        known = (0, 2, 7)[:2 + self.profile] if opcode < 3 else (0,) if opcode < 5 else (1, 2, 3)
         can_write = {2: (), 4: (0,), 6: (1, 2, 3), 7: (), 8: ()}
         is_unit = opcode < 3 and idn == 2
         lines = ((opcode == 0, 0), (idn not in known, 0xFD), (index >= len(self.units) if is_unit else index, 0xFC),
@@ -323,11 +421,21 @@ class World:
         if self.mended is None:
             raise Fork(sets(mended=True), sets(mended=False))
 
-    def device_descriptor(self):
+    def device_descriptor(self, _):
         found = bytearray(64)
         found[0], found[6], found[7], found[9], found[13], found[16:18] = 0x40, len(self.units), 4, 1, 1, b"\2\x10"
         found[8] = int(any(unit[1] for unit in self.units))
+        if self.profile:
+            found[4] = 1 - found[8]
+            for at, digits in ((10, "017f"), (14, "01"), (18, "112501020304"), (26, "101020"), (33, "20"), (35, "01"),
+                               (42, "05")):
+                found[at:at + len(digits) // 2] = bytes.fromhex(digits)
         return bytes(found)
+
+    def geometry(self, _):
+        blocks = sum(unit[0] for unit in self.units)
+        head = bytes([72, 7, 0, 0]) + big(8 * blocks, 8) + b"\0" + big(8, 4) + b"\1" + 6 * b"\x08" + bytes(2)
+        return (head + bytes.fromhex("050000018001")).ljust(72, b"\0")
 
     def unit_descriptor(self, index):
         blocks, boot, protect = self.units[index]
@@ -352,59 +460,90 @@ class World:
 
     def refusal(self, it, flags, cdb):
         """How a COMMAND is refused, by the first line of the table that applies; or GOOD."""
-        code, lun, is_bad = cdb[0], it.lun, lambda *sense: (CHECK, sense)
+        code, lun = cdb[0], it.lun
+        bits = bits_of(code, self.profile)
+        is_there = bits is not None and ROWS[code].action in (None, cdb[1] & 0x1F)
         it.unit = lun
-        if lun == BOOT and code in (*READS, CAPACITY):
+        if lun == BOOT and is_there and code in (*READS, *CAPACITIES):
             boot = self.plain.boot
             it.unit = next((at for at, unit in enumerate(self.units) if boot and unit[1] == boot), -1)
-        if lun >= len(self.units) and lun not in WELL_KNOWN or it.unit == -1:
-            return is_bad(5, 0x25, 0)
-        takes = TAKES.get(lun, [it for it in BITS if it not in SECURITY])
-        if code not in takes:
-            return is_bad(5, 0x20, 0)
-        bits = bytes.fromhex(BITS[code]).ljust(15, b"\0")
-        if any(byte & ~bit for byte, bit in zip(cdb[1:], bits)):
+        if it.unit == -1 or not self.has_lun(lun) and not (self.profile and code in ANYWHERE):
+            return CHECK, NO_UNIT
+        if self.has_attention(lun) and code not in PASSING:
+            self.attentions.remove(lun)
+            return CHECK, ATTENTION
+        if flags & ATTRIBUTE:
+            return CHECK, NOT_SIMPLE
+        if not is_there or not is_taken(code, lun, self.profile):
+            return CHECK, NO_OPERATION
+        if any(byte & ~bit for byte, bit in zip(cdb[1:], bits)) or self.is_wrong_field(lun, cdb):
             return CHECK, NO_FIELD
-        if code == LUNS and cdb[2] > 2 or code in SECURITY and tuple(cdb[1:4]) != (0xEC, 0, 1):
-            return CHECK, NO_FIELD
-        is_short = code in (READ6, WRITE6)
-        count = (cdb[4] or 256) if is_short else number(cdb, 7, 2)
-        it.address = (number(cdb, 1, 3) & 0x1FFFFF) if is_short else number(cdb, 2, 4)
-        it.length = self.length(code, cdb, count)
-        moves = code in READS + WRITES
+        if code in SENSES and cdb[2] >> 6 == 3:
+            return CHECK, NOTHING_SAVED
+        row, is_short = ROWS[code], code in (READ6, WRITE6)
+        it.address = number(cdb, *row.address) & (0x1FFFFF if is_short else -1)
+        count = number(cdb, *row.size) or 256 * is_short
+        it.length = self.length(it, cdb, count)
+        return self.refusal_by_size(it, flags, count) or self.refusal_by_state(it, count, cdb)
+
+    def is_wrong_field(self, lun, cdb):
+        """Whether a field of a CDB has a value that it may not have."""
+        code, row, page = cdb[0], ROWS[cdb[0]], cdb[2]
+        if code == INQUIRY:
+            return not self.has_lun(lun) or page not in self.vital_pages(lun) if cdb[1] else page
+        if code in SENSES:
+            page &= 0x3F
+            return page not in (*MODE_PAGES, ALL_PAGES) or cdb[3] not in ((0, 0xFF) if page == ALL_PAGES else (0,))
+        if code == OPERATIONS:
+            asked = ROWS.get(cdb[3])
+            return page & 7 > 2 or page & 7 and (page & 7 == 2) != (asked is not None and asked.action is not None)
+        return code == LUNS and page > 2 or code in SECURITY and tuple(cdb[1:4]) != (0xEC, 0, 1) or \
+            row.group and cdb[row.group] & 0x1F > 0x10
+
+    def refusal_by_size(self, it, flags, count):
+        """How a COMMAND is refused by how much it asks for, if it is."""
+        code, moves = it.code, it.code in READS + WRITES
         if moves and count > most_blocks(self.config) or code in SECURITY and it.length not in range(512, 4097, 512):
             return CHECK, NO_FIELD
         if code == UNMAP and it.length not in (0, 8, 24):
-            return is_bad(5, 0x1A, 0)
-        sends = code in (*WRITES, UNMAP, SECURITY_OUT)
+            return CHECK, (5, 0x1A, 0)
+        sends, flags = code in (*WRITES, UNMAP, SECURITY_OUT), flags & ~(PRIORITY | ATTRIBUTE)
         if it.length and (flags != (TO_DEVICE if sends else TO_HOST) or sends and it.expected < it.length):
             return CHECK, NO_FIELD
-        if moves and it.address + count > self.units[it.unit][0]:
+        if (moves or code in FETCHES) and it.address + count > self.units[it.unit][0]:
             return CHECK, OUT_OF_RANGE
-        if code == READY or code not in (SENSE, CAPACITY, INQUIRY, LUNS) and not self.locked():
+        return None
+
+    def refusal_by_state(self, it, count, cdb):
+        """How a COMMAND is refused by what the device is and holds; or GOOD."""
+        code = it.code
+        if code == READY or code not in TELLS and not self.locked():
             self.knows_mended()
             if not self.mended:
-                return is_bad(2, 0x04, 1)
-        if self.is_refused_write(it, code) or code == FLUSH and self.locked() and self.is_pending():
-            return is_bad(7, 0x27, 0)
-        return self.refusal_by_state(it, code, count)
+                return CHECK, NOT_READY
+        if self.is_refused_write(it, code) or code in FLUSHES and self.locked() and self.is_pending():
+            return CHECK, (7, 0x27, 0)
+        if code == DIAGNOSE and cdb[1] & 4 and self.locked():
+            return CHECK, TEST_FAILED
+        return self.refusal_by_room(it, code, count)
 
-    def length(self, code, cdb, count):
-        listed = (len(self.units), 4, len(self.units) + 4)
-        found = {SENSE: min(cdb[4], 18), INQUIRY: min(number(cdb, 3, 2), 36), CAPACITY: 8, UNMAP: number(cdb, 7, 2)}
-        if code == LUNS:
-            return min(number(cdb, 6, 4), 8 + 8 * listed[cdb[2]])
-        if code in SECURITY:
-            return number(cdb, 6, 4)
-        return BLOCK * count if code in READS + WRITES else found.get(code, 0)
+    def length(self, it, cdb, count):
+        if it.code in TELLS:
+            size = len(self.told(it, cdb))
+            return size if it.code == CAPACITY else min(count, size)
+        return BLOCK * count if it.code in READS + WRITES else count if it.code in (UNMAP, *SECURITY) else 0
 
     def is_refused_write(self, it, code):
         if not it.length or code not in (*WRITES, UNMAP) or code == UNMAP and it.length != 24:
             return False
-        protect = self.units[it.unit][2]
+        return self.is_protected(it.unit)
+
+    def is_protected(self, unit):
+        """Whether no block of a unit may be written now."""
+        protect = self.units[unit][2]
         return self.locked() or protect == 1 and self.power_on or protect == 2 and self.plain.permanent
 
-    def refusal_by_state(self, it, code, count):
+    def refusal_by_room(self, it, code, count):
         if code == SECURITY_IN:
             reading = [at for at in self.open.values() if at.pages]
             how = self.due(reading[0])[1] if reading else NO
@@ -419,7 +558,7 @@ class World:
         if code == SECURITY_OUT and any(at.passed for at in self.open.values()):
             return BUSY, None
         listed = most_blocks(self.config) if it.length == 24 else 0
-        claim = {WRITE: count, WRITE6: count, UNMAP: listed, SECURITY_OUT: 3}.get(code, 0)
+        claim = count if code in WRITES else {UNMAP: listed, SECURITY_OUT: 3}.get(code, 0)
         if not self.has_slots(claim) if claim else False:
             return BUSY, None
         it.claim = claim
@@ -428,7 +567,7 @@ class World:
     def begin(self, it, cdb):
         """A command that is not refused."""
         code = it.code
-        it.is_durable = code == WRITE and bool(cdb[1] & 8)
+        it.is_durable = code in (WRITE, WRITE16) and bool(cdb[1] & 8)
         size = min(it.length, it.expected)
         if code in READS and size:
             keys = [(it.unit, it.address + at) for at in range((size + BLOCK - 1) // BLOCK)]
@@ -438,30 +577,85 @@ class World:
         elif code in (UNMAP, SECURITY_OUT) and it.length:
             it.wants = ((0, it.length),)
             it.passed = code == SECURITY_OUT
-        elif code == FLUSH and not cdb[1] & 2:
+        elif code in FLUSHES and not cdb[1] & 2:
             it.replies = ((it.response(), self.total, self.total),)
-        elif code in (SENSE, CAPACITY, INQUIRY, LUNS, SECURITY_IN) and size:
-            data = self.told(it, cdb)[:size]
+        elif code in (*TELLS, SECURITY_IN) and size:
+            data = (self.told(it, cdb) if code in TELLS else b"".join(self.response))[:size]
             it.replies = ((transfer(0x22, it.lun, it.tag, 0, data), 0, 0), (it.response(), 0, 0))
         else:
             it.end()
         if code == SECURITY_IN:
             self.response = None
+        if code == SENSE:
+            self.attentions.discard(it.lun)
 
     def told(self, it, cdb):
-        """The data of a command that sends some, but READ."""
-        if it.code == CAPACITY:
-            return big(self.units[it.unit][0] - 1, 4) + big(BLOCK, 4)
+        """All that a command has to tell, whatever its allocation length."""
+        if it.code in CAPACITIES:
+            last, is_long = self.units[it.unit][0] - 1, it.code == CAPACITY16
+            return big(last, 8 if is_long else 4) + big(BLOCK, 4) + (b"\0\0\xc0" + bytes(17)) * is_long
         if it.code == INQUIRY:
-            kind = 0x1E if it.lun in WELL_KNOWN else 0
-            return bytes([kind, 0, 6, 2, 0x1F, 0, 0, 2]) + b"PROFILE UFS PROFILE 2.1 0001"
+            return self.vital_page(it.lun, cdb[2]) if cdb[1] else self.identity(it.lun)
+        if it.code in SENSES:
+            return self.modes(it, cdb)
+        if it.code == OPERATIONS:
+            return self.operations(cdb)
         if it.code == LUNS:
             found = [bytes([0, at]) for at in range(len(self.units))] if cdb[2] != 1 else []
             found += [bytes([0xC1, at & 0x7F]) for at in WELL_KNOWN] if cdb[2] != 0 else []
             return big(8 * len(found), 4) + bytes(4) + b"".join(entry + bytes(6) for entry in found)
-        if it.code == SECURITY_IN:
-            return b"".join(self.response)
-        return bytes([0x70, 0, 0, 0, 0, 0, 0, 10]) + bytes(10)
+        return fixed_sense(self.sense(it.lun))
+
+    def sense(self, lun):
+        """What REQUEST SENSE tells at a LUN: the first that applies."""
+        if not self.profile:
+            return NO_SENSE
+        if not self.has_lun(lun):
+            return NO_UNIT
+        if self.has_attention(lun):
+            return ATTENTION
+        self.knows_mended()
+        return NO_SENSE if self.mended else NOT_READY
+
+    def identity(self, lun):
+        """Standard INQUIRY data."""
+        kind = 0x1E if lun in WELL_KNOWN else 0x00 if self.has_lun(lun) else 0x7F
+        return bytes([kind, 0, 6, 2, 0x1F, 0, 0, 2]) + b"PROFILE UFS PROFILE 2.1 0001"
+
+    def vital_pages(self, lun):
+        """The pages of vital product data that a unit has, without their headers."""
+        most = big(most_blocks(self.config), 4)
+        limits = bytes([0, 0, 0, 1]) + most + most + bytes(4) + most + 2 * big(1, 4) + b"\x80" + bytes(31)
+        found = {0x80: f"{self.serial:016x}".encode("ascii"),
+                 0x83: bytes.fromhex("01030008304653") + big(self.serial & 0xFFFFFFFF, 4) + bytes([lun]),
+                 0x87: b"\x3f\xff\0\0"}
+        if lun not in WELL_KNOWN:
+            found.update({0xB0: limits, 0xB1: b"\0\1" + bytes(58), 0xB2: b"\0\x84\2\0"})
+        return {0x00: bytes([0, *found]), **found}
+
+    def vital_page(self, lun, code):
+        """A page of vital product data."""
+        body = self.vital_pages(lun)[code]
+        return bytes([self.identity(lun)[0], code]) + big(len(body), 2) + body
+
+    def modes(self, it, cdb):
+        """A header and mode pages."""
+        asked, values = cdb[2] & 0x3F, int(cdb[2] >> 6 == 1)
+        pages = b"".join(bytes.fromhex(MODE_PAGES[page][values]) for page in MODE_PAGES if asked in (page, ALL_PAGES))
+        state = 0x90 if self.is_protected(it.unit) else 0x10
+        if it.code == MODES6:
+            return bytes([3 + len(pages), 0, state, 0]) + pages
+        return big(6 + len(pages), 2) + bytes([0, state]) + bytes(4) + pages
+
+    def operations(self, cdb):
+        """What REPORT SUPPORTED OPERATION CODES tells: of all commands that a unit takes, or of one (SPC-4)."""
+        is_timed, option, code = cdb[2] >> 7, cdb[2] & 7, cdb[3]
+        if option == 0:
+            entries = b"".join(operation(it, is_timed) for it in ROWS if is_taken(it, 0, self.profile))
+            return big(len(entries), 4) + entries
+        is_there = is_taken(code, 0, self.profile) and (option == 1 or number(cdb, 4, 2) == ROWS[code].action)
+        usage = (bytes([code]) + bits_of(code, self.profile))[:CDB_LENGTHS[code >> 5]] if is_there else b""
+        return bytes([0, 0x80 * is_timed + (3 if is_there else 1)]) + big(len(usage), 2) + usage + TIMES * is_timed
 
     def data(self, message):
         """A DATA OUT that was asked for."""
@@ -778,7 +972,7 @@ class World:
         return [self.reopened(state, least) for state in states]
 
     def reopened(self, plain, least):
-        world = World(self.config, self.units)
+        world = World(self.config, self.units, (self.profile, self.serial))
         world.plain, world.base, world.bad = plain, plain.copy(), set(self.bad)
         world.total = world.low = world.high = world.held = world.first = self.total
         world.mended = True if self.mended and least == self.total else None
@@ -822,6 +1016,14 @@ def hexed(word):
 WORDS: Dict[str, Callable[[str], Any]] = {"x": hexed, "b": hexed, "n": whole, "w": str}
 
 
+def device_of(lines):
+    """The configuration, the units, and the profile with the serial number that the first lines of a script give."""
+    found: Dict[str, List[Any]] = {"config": [], "unit": [], "profile": [PLAIN_PROFILE]}
+    for word, *numbers in map(str.split, lines):
+        found[word].append(tuple(map(int, numbers)))
+    return found["config"][0], found["unit"], found["profile"][-1]
+
+
 def merged(worlds):
     """The worlds right after a stop, of which no two hold the same."""
     found = []
@@ -839,9 +1041,14 @@ def merged(worlds):
 class Model:
     """The worlds that fit what was seen so far."""
 
-    def __init__(self, config, units):
-        self.worlds = [World(config, units)]
+    def __init__(self, config, units, profile=PLAIN_PROFILE):
+        self.worlds = [World(config, units, profile)]
         self.config = config
+
+    def become(self, profile):
+        """A device with this profile and serial number has the dies now."""
+        for world in self.worlds:
+            world.profile, world.serial = profile
 
     def options(self, world, event, printed):
         """What the device may print, each with what then becomes of the world."""

@@ -20,7 +20,7 @@ enum { WRITE_10 = 0x2A, FUA = 0x08, RESPONSE = 0x21 };
 /* After so many rounds a reply counts as never given. */
 enum { ROUNDS = 8 };
 
-static const ufs_config config = {DIES, BLOCKS, PAGES, {1, 0, 0, 0}, SLOTS, SPARE};
+static const ufs_config config = {DIES, BLOCKS, PAGES, {1, 0, 0, 0}, SLOTS, SPARE, 0, 1};
 static const ufs_unit units[] = {{UNIT, 0, 0}};
 
 static uint8_t data_out[UFS_MESSAGE_BYTES];

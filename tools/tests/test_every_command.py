@@ -1,46 +1,91 @@
-"""Tests that the script of tools/every_command.py has each command, and printed what was foretold."""
+"""Tests that the scripts of tools/every_command.py have each command, and printed what was foretold."""
 import unittest
 
 import every_command
 
-# Operation codes of commands, codes of messages that a host sends, functions of task management, and opcodes of
-# queries.
+# Operation codes of commands in each profile, codes of messages that a host sends, functions of task management, and
+# opcodes of queries.
 OPERATIONS = {0x00, 0x03, 0x08, 0x0A, 0x12, 0x25, 0x28, 0x2A, 0x35, 0x42, 0xA0, 0xA2, 0xB5}
+MORE_OPERATIONS = OPERATIONS | {0x1A, 0x1D, 0x34, 0x5A, 0x88, 0x8A, 0x90, 0x91, 0x9E, 0xA3}
 MESSAGES = {0x00, 0x01, 0x02, 0x04, 0x16}
 FUNCTIONS = {0x01, 0x02, 0x04, 0x08, 0x80, 0x81}
 OPCODES = set(range(9))
+# The descriptors of each profile, and the pages of vital product data and of modes in profile 1.
+DESCRIPTORS = ({0x00, 0x02}, {0x00, 0x02, 0x07})
+VITAL_PAGES = {0x00, 0x80, 0x83, 0x87, 0xB0, 0xB1, 0xB2}
+MODE_PAGES = {0x01, 0x08, 0x0A, 0x3F}
 LEAST = 1000
 
 
 class EveryCommand(unittest.TestCase):
-    """The stored script is the one that is made, and the device printed what it had to print."""
+    """Each stored script is the one that is made, and the device printed what it had to print."""
 
     def setUp(self):
-        self.script = every_command.made()
+        self.scripts = [every_command.made(it) for it in (0, 1)]
+
+    def heard(self, profile):
+        """The messages of a script that have a whole header."""
+        words = [line.split() for line in self.scripts[profile].lines]
+        heard = [bytes.fromhex(it[1]) for it in words if it and it[0] in ("host", "fill")]
+        return [it for it in heard if len(it) >= 32]
 
     def test_it_is_stored_as_it_is_made(self):
-        self.assertEqual(self.script.text(), every_command.SCRIPT.read_text(encoding="ascii"))
+        for script, place in zip(self.scripts, every_command.SCRIPTS):
+            with self.subTest(place.name):
+                self.assertEqual(script.text(), place.read_text(encoding="ascii"))
 
     def test_the_device_printed_what_was_foretold(self):
-        stored = every_command.SCRIPT.with_name("every_command.txt.stdout").read_text(encoding="ascii")
-        printed = stored.splitlines()
-        self.assertEqual(len(self.script.printed), len(printed))
-        for number, (foretold, found) in enumerate(zip(self.script.printed, printed), 1):
-            with self.subTest(line=number):
-                known, more, rest = foretold.partition(every_command.MORE)
-                self.assertEqual(known, found[:len(known)] if more else found)
-                self.assertEqual("", rest)
+        for script, place in zip(self.scripts, every_command.SCRIPTS):
+            printed = place.with_name(f"{place.name}.stdout").read_text(encoding="ascii").splitlines()
+            self.assertEqual(len(script.printed), len(printed))
+            for number, (foretold, found) in enumerate(zip(script.printed, printed), 1):
+                with self.subTest(place.name, line=number):
+                    known, more, rest = foretold.partition(every_command.MORE)
+                    self.assertEqual(known, found[:len(known)] if more else found)
+                    self.assertEqual("", rest)
 
     def test_each_command_and_message_is_there(self):
-        self.assertLessEqual(LEAST, len(self.script.printed))
-        words = [line.split() for line in self.script.lines]
-        heard = [bytes.fromhex(it[1]) for it in words if it and it[0] in ("host", "fill")]
-        whole = [it for it in heard if len(it) >= 32]
-        self.assertLessEqual(MESSAGES, {it[0] for it in whole})
-        self.assertLessEqual(OPERATIONS, {it[16] for it in whole if it[0] == 0x01})
-        self.assertLessEqual(FUNCTIONS, {it[5] for it in whole if it[0] == 0x04})
-        self.assertLessEqual(OPCODES, {it[12] for it in whole if it[0] == 0x16})
-        self.assertLessEqual({"reply", "settle", "stop", "take", "done"}, {it[0] for it in words if it})
+        for profile, operations in enumerate((OPERATIONS, MORE_OPERATIONS)):
+            script, heard = self.scripts[profile], self.heard(profile)
+            self.assertLessEqual(LEAST, len(script.printed))
+            self.assertLessEqual(MESSAGES, {it[0] for it in heard})
+            self.assertLessEqual(operations, {it[16] for it in heard if it[0] == 0x01})
+            self.assertLessEqual(FUNCTIONS, {it[5] for it in heard if it[0] == 0x04})
+            self.assertLessEqual(OPCODES, {it[12] for it in heard if it[0] == 0x16})
+            self.assertLessEqual(DESCRIPTORS[profile], {it[13] for it in heard if it[0] == 0x16 and it[12] == 1})
+            words = [line.split() for line in script.lines]
+            self.assertLessEqual({"reply", "settle", "stop", "take", "done"}, {it[0] for it in words if it})
+
+    def test_each_page_of_profile_1_is_there(self):
+        cdbs = [it[16:] for it in self.heard(1) if it[0] == 0x01]
+        self.assertLessEqual(VITAL_PAGES, {it[2] for it in cdbs if it[:2] == b"\x12\x01"})
+        for code in (0x1A, 0x5A):
+            asked = {it[2] for it in cdbs if it[0] == code}
+            self.assertLessEqual({values | page for values in (0x00, 0x40, 0x80) for page in MODE_PAGES}, asked)
+
+    def told(self):
+        """The messages that profile 1 foretells."""
+        words = [line.split() for line in self.scripts[1].printed if every_command.MORE not in line]
+        return [bytes.fromhex(it[1]) for it in words if it[0] == "reply" and it[1] != "none"]
+
+    def test_each_attention_of_profile_1_is_there(self):
+        luns, heard = set(every_command.LUNS), self.heard(1)
+        everywhere = luns | set(every_command.ABSENT)
+        asked = [(it[16], it[2]) for it in heard if it[0] == 0x01]
+        for code in (0x00, 0x03, 0x12):
+            self.assertLessEqual({(code, lun) for lun in everywhere}, set(asked))
+        self.assertLessEqual(everywhere, {it[2] for it in heard if (it[0], it[5]) == (0x04, 0x08)})
+        sense = bytes.fromhex("700006000000000a00000000290000000000")
+        refused, sent = ({it[2] for it in self.told() if it[0] == code and it[at:at + 14] == sense[:14]}
+                         for code, at in ((0x21, 34), (0x22, 32)))
+        self.assertEqual((luns, luns), (refused, sent))
+
+    def test_each_attribute_of_profile_1_is_there(self):
+        self.assertLessEqual({0, 1, 2, 3, 4}, {it[1] & 0x07 for it in self.heard(1) if it[0] == 0x01})
+
+    def test_the_device_is_initialized_until_it_is_mended(self):
+        values = {(it[12], it[23]) for it in self.told() if it[0] == 0x36 and it[6] == 0 and it[13] == 1}
+        self.assertEqual({(5, 0), (5, 1), (6, 0), (6, 1)}, values)
 
 
 if __name__ == "__main__":

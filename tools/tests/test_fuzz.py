@@ -1,4 +1,5 @@
 """Tests that fuzz.py makes the same scripts of a seed, and tells each line that is not as its model says."""
+import random
 import unittest
 from unittest import mock
 
@@ -6,8 +7,14 @@ import fuzz
 import plain_host
 from crates import ROOT
 
-EXAMPLES = ("abort", "boot_setting", "every_command", "failing_block", "flush", "gap", "linux_host", "many_tasks",
-            "read_before_write", "rpmb_counter", "stop_in_group", "stop_in_write", "unmap", "write_read")
+# What is wrong of profile 1 with each of these in a model: names of plain_host, or of its World.
+WRONG_NAMES = {"PASSING": (plain_host.SENSE, plain_host.INQUIRY), "ANYWHERE": (plain_host.SENSE,), "ATTRIBUTE": 0x07,
+               "PRIORITY": 0x00, "NOT_READY": plain_host.NO_SENSE, "ATTENTION": plain_host.NO_SENSE}
+WRONG_RULES = {"has_attention": lambda world, lun: lun in world.attentions and lun != plain_host.DEVICE,
+               "initializing": lambda world, is_set: 0, "has_lun": lambda world, lun: True}
+EXAMPLES = ("abort", "boot_setting", "every_command", "every_command_1", "failing_block", "flush", "gap",
+            "linux_host", "many_tasks", "profile_0", "profile_1", "read_before_write", "rpmb_counter",
+            "stop_in_group", "stop_in_write", "unmap", "write_read")
 
 
 def example(name):
@@ -23,6 +30,11 @@ class Fuzz(unittest.TestCase):
         first, again, other = (fuzz.Script(seed, 3).make() for seed in (7, 7, 8))
         self.assertEqual(first, again)
         self.assertNotEqual(first, other)
+
+    def test_both_profiles_are_played(self):
+        profiles = [fuzz.some_profile(random.Random(it)) for it in range(40)]
+        self.assertEqual({0, 1}, {it for it, _ in profiles})
+        self.assertLess(2, len({it for _, it in profiles}))
 
     def test_what_is_stored_fits_the_model(self):
         for name in EXAMPLES:
@@ -50,6 +62,23 @@ class Fuzz(unittest.TestCase):
             lines, text = example("write_read")
             self.assertIsNotNone(fuzz.judged(lines, text, "", 0))
 
+    def test_a_wrong_rule_of_profile_1_is_told(self):
+        lines, text = example("profile_1")
+        wrong = [(plain_host, *it) for it in WRONG_NAMES.items()]
+        for place, name, value in [*wrong, *[(plain_host.World, *it) for it in WRONG_RULES.items()]]:
+            with self.subTest(name), mock.patch.object(place, name, value):
+                self.assertIsNotNone(fuzz.judged(lines, text, "", 0))
+
+    def test_most_lives_of_profile_1_begin_without_attentions(self):
+        scripts = [fuzz.Script(5, it) for it in range(30)]
+        for script in scripts:
+            script.profile = (1, 1)
+            script.model.become(script.profile)
+            script.begin()
+        left = [script for script in scripts if script.world.attentions]
+        self.assertLess(0, len(left))
+        self.assertLess(len(left), 15)
+
     def test_each_wrong_line_is_told(self):
         lines, text = example("write_read")
         for line in fuzz.WRONG_LINES:
@@ -62,9 +91,15 @@ class Fuzz(unittest.TestCase):
         for place, lines in fuzz.bit_scripts():
             with self.subTest(script=place):
                 heard = [plain_host.event_of(it)[1] for it in lines if it.startswith("host")]
-                changed = [sum((a ^ b).bit_count() for a, b in zip(heard[1], it)) for it in heard[2:]]
-                self.assertLess(100, len(heard))
+                first, *wrong = [it for it in heard if it[3] == 2]
+                changed = [sum((a ^ b).bit_count() for a, b in zip(first, it)) for it in wrong]
+                self.assertLess(60, len(wrong))
                 self.assertEqual({2}, set(changed))
+
+    def test_the_attribute_of_a_command_has_to_be_zero_in_profile_0_alone(self):
+        message = fuzz.right_command(plain_host.READY)
+        flipped = [{bit for at, bit in fuzz.zero_bits(message, profile) if at == 1} for profile in (0, 1)]
+        self.assertEqual([{1, 2, 4, 8, 16, 128}, {8, 16, 128}], flipped)
 
 
 if __name__ == "__main__":
