@@ -7,8 +7,10 @@ from .device import Attribute, Descriptor, Device, Flag, Job, JobKind, UnitNumbe
 from .errors import (Busy, CheckCondition, ConfigurationError, DeviceClosed, ImageError, MessageFault, NoAnswer,
                      PowerCut, QueryError, Refusal, RpmbError, RpmbResponseError, TaskSetFull, UfsError)
 from .rpmb import Rpmb
+from .told import Capacity, ModePage, Modes, ModeValues, SupportedOperation, VpdPage
 from .unit import Unit
 
-__all__ = ["Attribute", "Busy", "CheckCondition", "ConfigurationError", "Descriptor", "Device", "DeviceClosed",
-           "Flag", "ImageError", "Job", "JobKind", "MessageFault", "NoAnswer", "PowerCut", "QueryError", "Refusal",
-           "Rpmb", "RpmbError", "RpmbResponseError", "TaskSetFull", "UfsError", "Unit", "UnitNumbers"]
+__all__ = ["Attribute", "Busy", "Capacity", "CheckCondition", "ConfigurationError", "Descriptor", "Device",
+           "DeviceClosed", "Flag", "ImageError", "Job", "JobKind", "MessageFault", "ModePage", "Modes", "ModeValues",
+           "NoAnswer", "PowerCut", "QueryError", "Refusal", "Rpmb", "RpmbError", "RpmbResponseError",
+           "SupportedOperation", "TaskSetFull", "UfsError", "Unit", "UnitNumbers", "VpdPage"]

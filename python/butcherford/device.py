@@ -20,7 +20,7 @@ from .unit import Unit
 MOST_ROUNDS = 4096
 # This package's own exchanges have the task tags from here to FFh.
 FIRST_TAG, TAGS = 0x80, 0x80
-BECOMING_READY = (2, 0x04, 1)
+BECOMING_READY, UNIT_ATTENTION = (2, 0x04, 1), (6, 0x29, 0)
 OUT_OF_RANGE, BAD_NUMBER = 4, 12
 LEFT_OLD, LEFT_NEW, LEFT_TORN = range(3)
 # The fault of a call to which memory was refused (ufs.h).
@@ -68,6 +68,7 @@ class Flag(enum.IntEnum):
     """The flags of the profile."""
 
     DEVICE_INIT = 0x01
+    """A host sets it, and a device of profile 1 clears it once it has mended. Of profile 0 it is always 0."""
     PERMANENT_WRITE_PROTECT = 0x02
     POWER_ON_WRITE_PROTECT = 0x03
 
@@ -77,6 +78,8 @@ class Descriptor(enum.IntEnum):
 
     DEVICE = 0x00
     UNIT = 0x02
+    GEOMETRY = 0x07
+    """Of profile 1 alone."""
 
 
 UnitLike = Union[int, Tuple[int, int, int], UnitNumbers]
@@ -98,11 +101,13 @@ class Device:
 
     def __init__(self, dies: int = 2, blocks: int = 24, pages: int = 16, units: Sequence[UnitLike] = (64,),
                  rpmb: Sequence[int] = (1, 0, 0, 0), slots: int = 64, spare: int = 4, *,
-                 image: Optional[bytes] = None, mend: bool = True) -> None:
+                 profile: int = 1, serial: int = 1, image: Optional[bytes] = None, mend: bool = True) -> None:
         """Opens a device over new dies, or over those of an image.
 
         `units` has for each unit its blocks, or its `UnitNumbers`; `rpmb` the area of each region in steps of 128
-        KiB. docs/FORMATS.md, "Configuration", has the range of each number. With `mend` the device is made ready.
+        KiB. `profile` is 1 for a device that tells more of itself, also its `serial` number, and that has
+        attentions; 0 is the device of a few commands. docs/FORMATS.md, "Configuration", has the range of each
+        number. With `mend` the device is made ready (`make_ready`).
         """
         self._handle = lib.Handle(None, False)
         self._thread = threading.get_ident()
@@ -113,21 +118,25 @@ class Device:
         self.on_job: Optional[Callable[[Job], None]] = None
         """Is called with each job that a die takes. What it raises comes out of the call in which that was."""
         self.dies = checked(dies, 0xFF)
+        self.profile = profile
+        """The profile of the configuration."""
         self.most_blocks = 128 if slots >= 256 else 32
         """How many blocks one command may have."""
         rows = [UnitNumbers(it) if isinstance(it, int) else UnitNumbers(*it) for it in units]
         self.units: Tuple[Unit, ...] = tuple(Unit(self, number, row.blocks) for number, row in enumerate(rows))
         """The units of the configuration, in their order."""
-        self._open(config_row(dies, blocks, pages, rpmb, slots, spare), rows, image)
+        self._open(config_row(dies, blocks, pages, rpmb, slots, spare, profile, serial), rows, image)
         if mend:
             self._make_ready_or_close()
 
     @classmethod
     def from_image(cls, image: bytes, dies: int = 2, blocks: int = 24, pages: int = 16,
                    units: Sequence[UnitLike] = (64,), rpmb: Sequence[int] = (1, 0, 0, 0), slots: int = 64,
-                   spare: int = 4, *, mend: bool = True) -> Device:
-        """A device over the dies of an image, which `image` or `ufsim image save` made, in the same numbers."""
-        return cls(dies, blocks, pages, units, rpmb, slots, spare, image=image, mend=mend)
+                   spare: int = 4, *, profile: int = 1, serial: int = 1, mend: bool = True) -> Device:
+        """A device over the dies of an image, which `image` or `ufsim image save` made, in the same numbers. Its
+        profile and its serial number may be others: they stand on no die."""
+        return cls(dies, blocks, pages, units, rpmb, slots, spare, profile=profile, serial=serial, image=image,
+                   mend=mend)
 
     def _open(self, config: lib.ConfigRow, rows: Sequence[UnitNumbers], image: Optional[bytes]) -> None:
         table = (lib.UnitRow * max(1, len(rows)))()
@@ -249,16 +258,49 @@ class Device:
     # Whole exchanges
 
     def make_ready(self) -> None:
-        """Lets the dies work until the device has mended and takes READs and WRITEs."""
+        """Lets the dies work until the device has mended and takes READs and WRITEs, and ends its attentions.
+
+        It is `mend` and then `end_attentions`: whoever wants to meet the attentions calls `mend` alone.
+        """
+        self.mend()
+        self.end_attentions()
+
+    def mend(self) -> None:
+        """Lets the dies work until the device has mended. On a device of profile 1 it ends no attention."""
+        if self.profile:
+            self.set_flag(Flag.DEVICE_INIT)
         for _ in range(MOST_ROUNDS):
-            try:
-                self.command(messages.LUN_DEVICE, bytes(16))
+            if self._has_mended():
                 return
-            except CheckCondition as refusal:
-                if refusal.sense != BECOMING_READY:
-                    raise
             self.settle()
         raise NoAnswer("the device does not become ready")
+
+    def _has_mended(self) -> bool:
+        """Profile 1 tells it by fDeviceInit, which was set before; profile 0 by TEST UNIT READY alone."""
+        if self.profile:
+            return not self.read_flag(Flag.DEVICE_INIT)
+        return self._is_ready(messages.LUN_DEVICE, BECOMING_READY)
+
+    def end_attentions(self) -> None:
+        """Ends the attention of each LUN, well-known ones too: a TEST UNIT READY meets it, where there is one.
+
+        On a device of profile 1 each LUN has an attention after each opening, and after a logical unit reset of it,
+        which a caller may ask for by `host`. The first command to the LUN is refused by 6/29/00 then, but for
+        INQUIRY, REPORT LUNS and REQUEST SENSE. The device has to have mended.
+        """
+        if self.profile:
+            for lun in (*range(len(self.units)), *messages.WELL_KNOWN_LUNS):
+                self._is_ready(lun, UNIT_ATTENTION)
+
+    def _is_ready(self, lun: int, refused: Tuple[int, int, int]) -> bool:
+        """Whether a TEST UNIT READY is answered GOOD, and not refused with this sense."""
+        try:
+            self.command(lun, bytes([messages.TEST_UNIT_READY]))
+            return True
+        except CheckCondition as refusal:
+            if refusal.sense != refused:
+                raise
+        return False
 
     def command(self, lun: int, cdb: bytes, send: bytes = b"", receive: int = 0) -> bytes:
         """A whole command: it sends these bytes, or receives up to so many, and lets the dies work until it ends.
@@ -358,7 +400,7 @@ class Device:
         self._is_off = True
 
     def power_on(self, *, mend: bool = True) -> None:
-        """The second half of a `power_cut`. With `mend` the device is made ready."""
+        """The second half of a `power_cut`. With `mend` the device is made ready (`make_ready`)."""
         self._is_off = False
         if mend:
             self.make_ready()
@@ -369,14 +411,16 @@ class Device:
         return not self._is_off
 
 
-def config_row(dies: int, blocks: int, pages: int, rpmb: Sequence[int], slots: int, spare: int) -> lib.ConfigRow:
+def config_row(dies: int, blocks: int, pages: int, rpmb: Sequence[int], slots: int, spare: int, profile: int,
+               serial: int) -> lib.ConfigRow:
     """The numbers of a configuration as the library takes them."""
     regions = [checked(it, 0xFF) for it in rpmb]
     if len(regions) != 4:
         raise ValueError("rpmb has one number for each of the regions 0 to 3")
     return lib.ConfigRow(checked(dies, 0xFF), checked(blocks, 0xFFFF),
                          checked(pages, 0xFFFF), (ctypes.c_uint8 * 4)(*regions),
-                         checked(slots, 0xFFFF), checked(spare, 0xFFFF))
+                         checked(slots, 0xFFFF), checked(spare, 0xFFFF),
+                         checked(profile, 0xFF), checked(serial, 0xFFFFFFFFFFFFFFFF))
 
 
 def read_job(row: lib.JobRow) -> Job:

@@ -27,7 +27,8 @@ class ConfigRow(ctypes.Structure):
     """`ufs_config`."""
 
     _fields_ = [("dies", ctypes.c_uint8), ("blocks", ctypes.c_uint16), ("pages", ctypes.c_uint16),
-                ("rpmb", ctypes.c_uint8 * 4), ("slots", ctypes.c_uint16), ("spare", ctypes.c_uint16)]
+                ("rpmb", ctypes.c_uint8 * 4), ("slots", ctypes.c_uint16), ("spare", ctypes.c_uint16),
+                ("profile", ctypes.c_uint8), ("serial", ctypes.c_uint64)]
 
 
 class UnitRow(ctypes.Structure):

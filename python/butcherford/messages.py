@@ -8,10 +8,16 @@ BLOCK = 4096
 HEADER = 32
 GOOD, CHECK_CONDITION, BUSY, TASK_SET_FULL = 0x00, 0x02, 0x08, 0x28
 TO_DEVICE, TO_HOST = 0x20, 0x40
-LUN_RPMB, LUN_DEVICE = 0xC4, 0xD0
-READ_10, WRITE_10, SYNCHRONIZE_CACHE_10, UNMAP = 0x28, 0x2A, 0x35, 0x42
+LUN_REPORT_LUNS, LUN_BOOT, LUN_RPMB, LUN_DEVICE = 0x81, 0xB0, 0xC4, 0xD0
+WELL_KNOWN_LUNS = (LUN_REPORT_LUNS, LUN_BOOT, LUN_RPMB, LUN_DEVICE)
+TEST_UNIT_READY = 0x00
+READ_10, WRITE_10, PRE_FETCH_10, SYNCHRONIZE_CACHE_10, UNMAP = 0x28, 0x2A, 0x34, 0x35, 0x42
+READ_16, WRITE_16, PRE_FETCH_16, SYNCHRONIZE_CACHE_16 = 0x88, 0x8A, 0x90, 0x91
+INQUIRY, MODE_SENSE_6, SEND_DIAGNOSTIC, MODE_SENSE_10 = 0x12, 0x1A, 0x1D, 0x5A
+SERVICE_ACTION_IN_16, READ_CAPACITY_16 = 0x9E, 0x10
+MAINTENANCE_IN, REPORT_SUPPORTED_OPERATION_CODES = 0xA3, 0x0C
 SECURITY_IN, SECURITY_OUT = 0xA2, 0xB5
-FUA = 0x08
+FUA, SELF_TEST, EVPD = 0x08, 0x04, 0x01
 READS, WRITES = 0x01, 0x81
 
 
@@ -95,9 +101,46 @@ def read_reply(message: bytes) -> Reply:
                  number_at(message, at, 4), segment)
 
 
+def is_long(operation: int) -> bool:
+    """Whether a CDB with this operation code has sixteen bytes: its bits 7 to 5 say so (SPC-4)."""
+    return operation >> 5 == 4
+
+
 def blocks_cdb(operation: int, address: int, count: int, *, fua: bool = False) -> bytes:
-    """The CDB of a READ(10), a WRITE(10) or a SYNCHRONIZE CACHE(10)."""
-    return bytes([operation, FUA if fua else 0]) + big(address, 4) + b"\0" + big(count, 2)
+    """The CDB of a READ, a WRITE, a SYNCHRONIZE CACHE or a PRE-FETCH, of ten bytes or of sixteen."""
+    first = bytes([operation, FUA if fua else 0])
+    if is_long(operation):
+        return first + big(address, 8) + big(count, 4) + bytes(2)
+    return first + big(address, 4) + b"\0" + big(count, 2)
+
+
+def diagnostic_cdb(self_test: bool) -> bytes:
+    """The CDB of a SEND DIAGNOSTIC."""
+    return bytes([SEND_DIAGNOSTIC, SELF_TEST if self_test else 0]) + bytes(4)
+
+
+def capacity_cdb(allocation: int) -> bytes:
+    """The CDB of a READ CAPACITY(16)."""
+    return bytes([SERVICE_ACTION_IN_16, READ_CAPACITY_16]) + bytes(8) + big(allocation, 4) + bytes(2)
+
+
+def page_cdb(page: int, allocation: int) -> bytes:
+    """The CDB of an INQUIRY of a page of vital product data."""
+    return bytes([INQUIRY, EVPD, page]) + big(allocation, 2) + b"\0"
+
+
+def modes_cdb(operation: int, values: int, page: int, subpage: int, allocation: int) -> bytes:
+    """The CDB of a MODE SENSE, of six bytes or of ten."""
+    first = bytes([operation, 0, values << 6 | page, subpage])
+    if operation == MODE_SENSE_6:
+        return first + big(allocation, 1) + b"\0"
+    return first + bytes(3) + big(allocation, 2) + b"\0"
+
+
+def operations_cdb(option: int, code: int, action: int, allocation: int) -> bytes:
+    """The CDB of a REPORT SUPPORTED OPERATION CODES with this reporting option."""
+    first = bytes([MAINTENANCE_IN, REPORT_SUPPORTED_OPERATION_CODES, option, code])
+    return first + big(action, 2) + big(allocation, 4) + bytes(2)
 
 
 def unmap_cdb(length: int) -> bytes:

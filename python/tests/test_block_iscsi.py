@@ -14,6 +14,18 @@ BLOCK = 4096
 # Of block addresses and counts; FUA is bit 3 of byte 1 (SBC-3).
 READ_10 = "28 00 {:08x} 00 {:04x} 00"
 WRITE_10 = "2a {:02x} {:08x} 00 {:04x} 00"
+# SPC-4: INQUIRY for page 80h, the serial number. SBC-3: READ CAPACITY(16), and READ(16), whose address has
+# eight bytes.
+SERIAL, CAPACITY = "12 01 80 00 40 00", "9e 10" + "00" * 11 + "20 00 00"
+READ_16 = "88 00 {:016x} {:08x} 00 00"
+# SPC-4: TEST UNIT READY, INQUIRY, and REQUEST SENSE with room for so many bytes.
+READY, INQUIRY, SENSE = "00", "12 00 00 00 24 00", "03 00 00 00 {:02x} 00"
+# The functions of task management (RFC 7143, 11.5.1).
+CLEAR_TASK_SET, RESET_UNIT, WARM_RESET = 4, 5, 6
+# Sense data of 6/29/00, with their length before them.
+ATTENTION = bytes.fromhex("0012 700006000000000a00000000290000000000")
+# The units of the fixtures, and the LUNs of the well-known ones.
+LUNS = (0, 1, 0xC101, 0xC130, 0xC144, 0xC150)
 
 
 class Initiator:
@@ -72,6 +84,22 @@ class Initiator:
         header[16:24] = asked[16:24]
         header[36:44] = number.to_bytes(4, "big") + offset.to_bytes(4, "big")
         self.send(header, data)
+
+    def manage(self, function, lun=0):
+        """The response to a function of task management."""
+        header = self.header(TASK_MANAGEMENT, FINAL | function)
+        header[8:10] = lun.to_bytes(2, "big")
+        self.send(header)
+        told, _ = self.hear()
+        assert told[0] == MANAGED
+        return told[2]
+
+    def ready(self, lun=0):
+        """What a TEST UNIT READY is refused with; nothing if it is answered GOOD."""
+        self.command(READY, lun=lun)
+        flags, status, residual, told = self.status()
+        assert (flags, residual, status) == (FINAL, 0, 2 if told else 0)
+        return told
 
     def status(self):
         """The SCSI Response that comes next: flags and status, the residual, and what stands behind its
@@ -167,8 +195,45 @@ def test_units(initiator):
     initiator.status()
     initiator.command("00", lun=2)
     assert initiator.status()[3][14:16] == b"\x25\0"
-    initiator.command("00", lun=0xC150)
+    for lun in (2, 8, 0xC102, 0x0100):
+        initiator.command(INQUIRY, READ, 36, lun=lun)
+        assert initiator.hear()[1][:8].hex() == "7f0006021f000002"
+        assert initiator.status()[1] == 0
+    assert [initiator.ready(lun) for lun in LUNS] == [b""] * len(LUNS)
+
+
+def test_the_device_tells_of_itself(start):
+    """It has profile 1: the serial number 1234h, the last address 3Fh, and blocks of 1000h bytes. With profile 0
+    it refuses both commands, by 5/24/00 and 5/20/00."""
+    initiator = Initiator(start("--serial", str(0x1234)))
+    initiator.command(SERIAL, READ, 64)
+    assert initiator.hear()[1] == b"\0\x80\0\x10" b"0000000000001234"
     assert initiator.status()[1] == 0
+    initiator.command(CAPACITY, READ, 32)
+    assert initiator.hear()[1].hex() == "000000000000003f" "00001000" "0000c0" + "00" * 17
+    assert initiator.status()[1] == 0
+    initiator = Initiator(start("--profile", "0"))
+    for cdb, code in ((SERIAL, 0x24), (CAPACITY, 0x20)):
+        initiator.command(cdb, READ, 64)
+        assert initiator.status()[3][14:16] == bytes([code, 0])
+
+
+def test_a_long_command_is_split(start):
+    """A command of this device has at most 32 blocks. Unit 0 has 64: the last part of a READ that goes on behind
+    them is refused by 5/21/00, and nothing came of it. The first part meets an attention for all of them. A
+    target that splits nothing answers 5/24/00."""
+    initiator = Initiator(start("--slots", "64", "--split"))
+    initiator.command(READ_16.format(8, 40), READ, 40 * BLOCK)
+    assert b"".join(initiator.hear()[1] for _ in range(40)) == bytes(40 * BLOCK)
+    assert initiator.status() == (FINAL, 0, 0, b"")
+    initiator.command(READ_16.format(30, 40), READ, 40 * BLOCK)
+    assert initiator.status()[3][14:16] == b"\x21\0"
+    assert initiator.manage(RESET_UNIT) == 0
+    initiator.command(READ_16.format(8, 40), READ, 40 * BLOCK)
+    assert initiator.status() == (FINAL | 0x02, 2, 40 * BLOCK, ATTENTION)
+    initiator = Initiator(start("--slots", "64"))
+    initiator.command(READ_16.format(8, 40), READ, 40 * BLOCK)
+    assert initiator.status()[3][14:16] == b"\x24\0"
 
 
 def test_data_that_were_not_asked_for_end_the_command(initiator):
@@ -201,12 +266,75 @@ def test_an_abort_ends_a_task(initiator):
 
 def test_a_reset_of_a_unit_tells_other_sessions(initiator, target):
     """The other session's task ends with TASK ABORTED (40h)."""
-    other = Initiator(target, (b"InitiatorName=iqn.2020-01.example:other",))
+    other = other_of(target)
     other.command(WRITE_10.format(8, 0, 1), WRITE, BLOCK)
     other.hear()
-    initiator.send(initiator.header(TASK_MANAGEMENT, FINAL | 5))
-    assert initiator.hear()[0][2] == 0
+    assert initiator.manage(RESET_UNIT) == 0
     assert other.status()[1] == 0x40
+
+
+def other_of(target):
+    return Initiator(target, (b"InitiatorName=iqn.2020-01.example:other",))
+
+
+@pytest.mark.parametrize("is_other_first", [False, True])
+def test_a_reset_leaves_each_session_an_attention(is_other_first, initiator, target):
+    """The next command of each to the unit is refused by 6/29/00, whoever comes first; also a READ, of which
+    nothing is sent (SAM-5, 5.14 and 6.3.3). The other units have none, and a session that comes later."""
+    other = other_of(target)
+    assert initiator.manage(RESET_UNIT, lun=1) == 0
+    for session in (other, initiator) if is_other_first else (initiator, other):
+        assert session.ready(lun=0) == b""
+        session.command(READ_10.format(0, 1), READ, BLOCK, lun=1)
+        assert session.status() == (FINAL | 0x02, 2, BLOCK, ATTENTION)
+        assert session.ready(lun=1) == b""
+    assert other_of(target).ready(lun=1) == b""
+
+
+def test_which_commands_meet_an_attention(initiator, target):
+    """INQUIRY and REPORT LUNS do not. REQUEST SENSE tells it as data, as many as there is room for, and it has
+    ended then: the device tells it first, and then the target. A function that resets nothing sets none."""
+    other = other_of(target)
+    assert initiator.manage(RESET_UNIT) == 0
+    for session, room, expected in ((initiator, 18, 18), (other, 14, 16)):
+        session.command(INQUIRY, READ, 36)
+        assert session.hear()[1][8:16] == b"PROFILE "
+        assert session.status()[1] == 0
+        session.command("a0 00 00 00 00 00 00 00 00 ff 00 00", READ, 255)
+        assert len(session.hear()[1]) == 24 and session.status()[1] == 0
+        session.command(SENSE.format(room), READ, expected)
+        assert session.hear()[1] == ATTENTION[2:][:room]
+        assert session.status() == (FINAL | (0x02 if room < expected else 0), 0, expected - room, b"")
+        assert session.ready() == b""
+    assert initiator.manage(CLEAR_TASK_SET) == 0
+    assert initiator.manage(RESET_UNIT, lun=2) == 2
+    assert initiator.ready() == other.ready() == b""
+
+
+def test_a_reset_of_the_target_is_one_of_each_unit(tmp_path, start):
+    """Well-known units too. What was not flushed before is saved at the end all the same."""
+    image = tmp_path / "dies"
+    words = ("--image", str(image), "--dies", "2", "--blocks", "24", "--pages", "16", "--slots", "64")
+    target = start(*words, "--lazy")
+    initiator, other = Initiator(target), other_of(target)
+    initiator.command(WRITE_10.format(0, 3, 1), WRITE, BLOCK, b"n" * BLOCK)
+    assert initiator.status()[1] == 0
+    assert initiator.manage(WARM_RESET) == 0
+    for session in (initiator, other):
+        assert [session.ready(lun) for lun in LUNS[:-1]] == [ATTENTION] * 5
+        assert [session.ready(lun) for lun in LUNS[:-1]] == [b""] * 5
+    assert target.end() == f"saved {image}\n"
+    initiator = Initiator(start(*words))
+    assert [initiator.ready(lun) for lun in LUNS] == [b""] * len(LUNS)
+    initiator.command(READ_10.format(3, 1), READ, BLOCK)
+    assert initiator.hear()[1] == b"n" * BLOCK
+
+
+def test_a_reset_of_profile_0_leaves_no_attention(start):
+    target = start("--profile", "0")
+    initiator, other = Initiator(target), other_of(target)
+    assert initiator.manage(RESET_UNIT) == initiator.manage(WARM_RESET) == 0
+    assert initiator.ready() == other.ready() == b""
 
 
 def test_nonsense_closes_its_connection_alone(target, initiator):
@@ -231,6 +359,8 @@ def test_the_power_goes_and_the_image_is_kept(tmp_path, start):
     with pytest.raises(ConnectionError):
         initiator.hear()
     assert target.line() == "cut old: no job\n"
+    again = Initiator(target)
+    assert [again.ready(lun) for lun in LUNS] == [b""] * len(LUNS)
     assert target.end() == f"saved {image}\n"
     initiator = Initiator(start("--image", str(image)))
     initiator.command(READ_10.format(0, 2), READ, 2 * BLOCK)

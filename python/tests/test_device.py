@@ -1,10 +1,11 @@
 """The calls of a device, its units and its settings. What comes is told by README and docs/FORMATS.md."""
 import pytest
 
-from butcherford import Attribute, Descriptor, Device, Flag, Job, JobKind, UnitNumbers
+from butcherford import Attribute, Descriptor, Device, Flag, Job, JobKind, QueryError, UnitNumbers
 
 # The configuration of README's script.
-README = {"dies": 4, "blocks": 16, "pages": 64, "units": [256], "rpmb": (1, 0, 0, 0), "slots": 64, "spare": 4}
+README = {"dies": 4, "blocks": 16, "pages": 64, "units": [256], "rpmb": (1, 0, 0, 0), "slots": 64, "spare": 4,
+          "profile": 0}
 WRITE = bytes.fromhex("012000010000000000000000000010002a080000000000000100000000000000")
 DATA = bytes.fromhex("0200000100000000000010000000000000001000000000000000000000000000") + b"\x5a" * 4096
 READ = bytes.fromhex("0140000200000000000000000000100028000000000000000100000000000000")
@@ -143,6 +144,24 @@ def test_command_gives_what_it_received(device):
     assert device.command(0, b"\x25", receive=8).hex() == "0000003f" "00001000"
 
 
+def test_profile_1_tells_more():
+    """The geometry is a descriptor of profile 1 alone. Dies that a device of one profile wrote open with the other."""
+    with Device(serial=0x0123456789ABCDEF) as device:
+        assert device.profile == 1
+        assert device.read_descriptor(Descriptor.GEOMETRY)[:12].hex() == "48070000" "0000000000000200"
+        device.units[0].write(7, blocks(5, 1), fua=True)
+        image = device.image()
+    with Device.from_image(image, profile=0) as device:
+        assert device.profile == 0 and device.units[0].read(7, 1) == blocks(5, 1)
+        with pytest.raises(QueryError) as told:
+            device.read_descriptor(Descriptor.GEOMETRY)
+        assert told.value.response == 0xFD
+        device.units[0].write(8, blocks(6, 1), fua=True)
+        image = device.image()
+    with Device.from_image(image, serial=2) as device:
+        assert device.units[0].read(7, 2) == blocks(5, 1) + blocks(6, 1)
+
+
 def test_image_there_and_back():
     """Its first bytes, and its length, are those of docs/FORMATS.md."""
     with Device(**README) as device:
@@ -154,11 +173,14 @@ def test_image_there_and_back():
         assert device.units[0].read(8, 4) == bytes(4096) + blocks(3, 2) + bytes(4096)
 
 
-def test_descriptors():
-    """The bytes of both descriptors (Queries)."""
-    with Device(units=[16, UnitNumbers(8, boot=2, protect=1)]) as device:
-        first = device.read_descriptor(Descriptor.DEVICE)
-        assert first.hex() == "40000000000002040101" "000000" "01" "0000" "0210" + "00" * 46
+@pytest.mark.parametrize("profile, wanted", [
+    (0, "40000000000002040101" "000000" "01" "0000" "0210" + "00" * 46),
+    (1, "40000000000002040101" "017f00" "01" "0100" "0210" "1125" "01020304" "0000" "101020" + "00" * 4
+     + "200001" + "00" * 6 + "05" + "00" * 21)])
+def test_descriptors(profile, wanted):
+    """The bytes of both descriptors (Queries; Profile 1)."""
+    with Device(units=[16, UnitNumbers(8, boot=2, protect=1)], profile=profile) as device:
+        assert device.read_descriptor(Descriptor.DEVICE).hex() == wanted
         unit = device.read_descriptor(Descriptor.UNIT, index=1)
         assert unit.hex() == ("23020101" "02" "01" "000000" "01" "0c" "0000000000000008" "00000001" "03"
                               "0000000000000008" "000000")

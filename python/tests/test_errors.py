@@ -45,7 +45,8 @@ def test_a_device_that_was_not_closed_is_told():
 
 @pytest.mark.parametrize("number, words", [
     (4, {"dies": 9}), (4, {"dies": 256 + 2}), (4, {"dies": -1}), (4, {"slots": 63}), (4, {"units": []}),
-    (4, {"units": [1] * 9}), (4, {"rpmb": (0, 0, 0, 0)}), (5, {"units": [4096]}),
+    (4, {"units": [1] * 9}), (4, {"rpmb": (0, 0, 0, 0)}), (4, {"profile": 2}), (4, {"profile": 256}),
+    (4, {"serial": -1}), (4, {"serial": 1 << 64}), (4, {"profile": 2, "units": [4096]}), (5, {"units": [4096]}),
     (6, {"units": [UnitNumbers(8, boot=1), UnitNumbers(8, boot=1)]})])
 def test_configuration_error(number, words):
     with pytest.raises(butcherford.ConfigurationError) as told:
@@ -81,10 +82,14 @@ def test_check_condition(device):
 
 
 def test_a_device_that_mends_is_not_ready():
-    with Device(mend=False) as device:
-        with pytest.raises(butcherford.CheckCondition) as told:
-            device.units[0].read(0)
-        assert told.value.sense == (2, 0x04, 1)
+    """2/04/01. On a device of profile 1 the first command meets the attention of its LUN before, 6/29/00."""
+    becoming_ready = (2, 0x04, 1)
+    for profile, wanted in ((0, [becoming_ready] * 2), (1, [(6, 0x29, 0), becoming_ready])):
+        with Device(profile=profile, mend=False) as device:
+            for sense in wanted:
+                with pytest.raises(butcherford.CheckCondition) as told:
+                    device.units[0].read(0)
+                assert told.value.sense == sense
 
 
 def test_busy(device):

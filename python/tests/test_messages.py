@@ -34,6 +34,24 @@ def test_unmap_of_guide():
     assert messages.unmap_list(5, 2).hex() == "001600100000000000000000000000050000000200000000"
 
 
+def test_cdbs_of_profile_1():
+    """Those of docs/FORMATS.md, "Profile 1", and REPORT SUPPORTED OPERATION CODES of SPC-4."""
+    told = [messages.blocks_cdb(messages.READ_16, 0x0102030405060708, 5),
+            messages.blocks_cdb(messages.WRITE_16, 9, 128, fua=True),
+            messages.blocks_cdb(messages.SYNCHRONIZE_CACHE_16, 0, 0),
+            messages.blocks_cdb(messages.PRE_FETCH_16, 5, 512),
+            messages.blocks_cdb(messages.PRE_FETCH_10, 5, 512),
+            messages.diagnostic_cdb(True), messages.capacity_cdb(32), messages.page_cdb(0xB0, 64),
+            messages.modes_cdb(messages.MODE_SENSE_10, 0, 0x08, 0, 28),
+            messages.modes_cdb(messages.MODE_SENSE_6, 1, 0x3F, 0xFF, 48),
+            messages.operations_cdb(2, 0x9E, 0x10, 64)]
+    assert [it.ljust(16, b"\0").hex() for it in told] == [
+        "88000102030405060708000000050000", "8a080000000000000009000000800000", "91" + "00" * 15,
+        "90000000000000000005000002000000", "34000000000500020000000000000000", "1d04" + "00" * 14,
+        "9e100000000000000000000000200000", "1201b000400000000000000000000000", "5a000800000000001c00000000000000",
+        "1a007fff300000000000000000000000", "a30c029e001000000040000000000000"]
+
+
 def test_security_commands_of_guide():
     out = messages.command(0xC4, 0, messages.security_cdb(messages.SECURITY_OUT, 2, 512), messages.TO_DEVICE, 512)
     assert out.hex() == "0120c400000000000000000000000200b5ec0201000000000200000000000000"
