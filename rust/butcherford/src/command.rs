@@ -1,7 +1,7 @@
 //! Whole commands: they write the messages, and let the dies work until the answer is there.
 use crate::device::Device;
 use crate::error::{Error, Result};
-use crate::messages::{command, data_out, response, Answer, Direction, HEADER_BYTES};
+use crate::messages::{command, data_out, query, response, Answer, Direction, Query, HEADER_BYTES};
 
 /// How many bytes a logical block has.
 pub const BLOCK_BYTES: usize = 4096;
@@ -14,6 +14,8 @@ const ROUNDS_WHILE_BUSY: u16 = 256;
 const FIRST_TAG: u8 = 0x80;
 /// The unit that is the device as a whole.
 const LUN_DEVICE: u8 = 0xD0;
+/// The well-known units: REPORT LUNS, BOOT, RPMB, and the device as a whole.
+const WELL_KNOWN_LUNS: [u8; 4] = [0x81, 0xB0, 0xC4, LUN_DEVICE];
 const DATA_IN: u8 = 0x22;
 const READY_TO_TRANSFER: u8 = 0x31;
 const CHECK_CONDITION: u8 = 0x02;
@@ -25,13 +27,31 @@ const READ_10: u8 = 0x28;
 const WRITE_10: u8 = 0x2A;
 const SYNCHRONIZE_CACHE_10: u8 = 0x35;
 const UNMAP: u8 = 0x42;
+const SEND_DIAGNOSTIC: u8 = 0x1D;
+const PRE_FETCH_10: u8 = 0x34;
+pub(crate) const READ_16: u8 = 0x88;
+pub(crate) const WRITE_16: u8 = 0x8A;
+pub(crate) const PRE_FETCH_16: u8 = 0x90;
+pub(crate) const SYNCHRONIZE_CACHE_16: u8 = 0x91;
 /// The bit of a WRITE(10) that asks for an answer only once the blocks are durable.
 const FUA: u8 = 0x08;
+/// The bit of a SEND DIAGNOSTIC that asks for a self-test.
+const SELF_TEST: u8 = 0x04;
+/// The queries that read and set a flag, and the flag fDeviceInit (JESD220, 10.7.8 and 14).
+const READ_FLAG: u8 = 0x05;
+const SET_FLAG: u8 = 0x06;
+const DEVICE_INIT: u8 = 0x01;
 /// The sense of a device that mends: NOT READY, in process of becoming ready.
 const BECOMING_READY: Error = Error::CheckCondition {
     key: 2,
     code: 0x04,
     qualifier: 1,
+};
+/// The sense of an attention: UNIT ATTENTION, power on, reset, or bus device reset occurred.
+const ATTENTION: Error = Error::CheckCondition {
+    key: 6,
+    code: 0x29,
+    qualifier: 0,
 };
 
 /// Whether a write has FUA (force unit access).
@@ -122,19 +142,91 @@ impl Device {
         Ok(None)
     }
 
-    /// Lets the dies work until the device has mended and takes READs and WRITEs.
+    /// Lets the dies work until the device has mended and takes READs and WRITEs, and ends its
+    /// attentions.
+    ///
+    /// It is [`mend`](Device::mend) and then [`end_attentions`](Device::end_attentions): whoever wants
+    /// to meet the attentions calls `mend` alone.
     ///
     /// # Errors
     ///
     /// [`NoAnswer`](Error::NoAnswer) where it does not become ready.
     pub fn make_ready(&mut self) -> Result<()> {
+        self.mend()?;
+        self.end_attentions()
+    }
+
+    /// Lets the dies work until the device has mended. On a device of profile 1 it ends no attention.
+    ///
+    /// # Errors
+    ///
+    /// [`NoAnswer`](Error::NoAnswer) where it does not mend.
+    pub fn mend(&mut self) -> Result<()> {
+        if self.profile > 0 {
+            self.device_init(SET_FLAG)?;
+        }
         for _ in 0..MOST_ROUNDS {
-            match self.command(LUN_DEVICE, &[TEST_UNIT_READY], Data::None) {
-                Err(BECOMING_READY) => self.settle(1)?,
-                answer => return answer.map(|_| ()),
+            if self.has_mended()? {
+                return Ok(());
             }
+            self.settle(1)?;
         }
         Err(Error::NoAnswer)
+    }
+
+    /// Profile 1 tells it by fDeviceInit, which was set before; profile 0 by TEST UNIT READY alone.
+    fn has_mended(&mut self) -> Result<bool> {
+        match self.profile {
+            0 => self.is_ready(LUN_DEVICE, BECOMING_READY),
+            _ => Ok(!self.device_init(READ_FLAG)?),
+        }
+    }
+
+    /// Sets fDeviceInit or reads it, and gives what it is then.
+    fn device_init(&mut self, opcode: u8) -> Result<bool> {
+        let asked = Query {
+            opcode,
+            idn: DEVICE_INIT,
+            ..Query::default()
+        };
+        let tag = self.next_tag();
+        self.host(&query(tag, &asked)?)?;
+        let reply = self.hear(tag)?;
+        match reply.get(6) {
+            Some(0) => Ok(number_at(&reply, 20) != 0),
+            response => Err(Error::Unknown(response.copied().unwrap_or(0).into())),
+        }
+    }
+
+    /// Ends the attention of each LUN, well-known ones too: a TEST UNIT READY meets it, where there is
+    /// one.
+    ///
+    /// On a device of profile 1 each LUN has an attention after each opening, also after a
+    /// [`stop`](Device::stop), and after a logical unit reset of it, for which a caller may ask by
+    /// [`messages::task_management`](crate::messages::task_management). The first command to the LUN is
+    /// refused by 6/29/00 then, but for INQUIRY, REPORT LUNS and REQUEST SENSE. The device has to have
+    /// mended.
+    ///
+    /// # Errors
+    ///
+    /// As [`command`](Device::command).
+    pub fn end_attentions(&mut self) -> Result<()> {
+        if self.profile > 0 {
+            let units = (0..=u8::MAX).take(self.unit_count);
+            for lun in units.chain(WELL_KNOWN_LUNS) {
+                self.is_ready(lun, ATTENTION)?;
+            }
+        }
+        Ok(())
+    }
+
+    /// Whether a TEST UNIT READY is answered GOOD, and not refused so.
+    fn is_ready(&mut self, lun: u8, refused: Error) -> Result<bool> {
+        match self.command(lun, &[TEST_UNIT_READY], Data::None) {
+            Ok(_) => Ok(true),
+            Err(error) if error == refused => Ok(false),
+            Err(error) => Err(error),
+        }
     }
 
     /// The blocks of the unit from this address on. A block that was never written is zeros.
@@ -145,10 +237,23 @@ impl Device {
     /// end of the unit, 3/11/00 where a die could not read. [`BadNumber`](Error::BadNumber) where no
     /// address has so many blocks.
     pub fn read(&mut self, lun: u8, address: u32, count: u32) -> Result<Vec<u8>> {
+        self.read_by(READ_10, lun, u64::from(address), count)
+    }
+
+    /// As [`read`](Device::read) by READ(16), which takes an address of 64 bits. Profile 1 has it.
+    ///
+    /// # Errors
+    ///
+    /// As [`read`](Device::read); [`CheckCondition`](Error::CheckCondition) 5/20/00 of profile 0.
+    pub fn read_16(&mut self, lun: u8, address: u64, count: u32) -> Result<Vec<u8>> {
+        self.read_by(READ_16, lun, address, count)
+    }
+
+    fn read_by(&mut self, operation: u8, lun: u8, address: u64, count: u32) -> Result<Vec<u8>> {
         let mut found = Vec::new();
-        for (start, some) in parts(address, count, self.most_blocks())? {
+        for (start, some) in parts(operation, address, count, self.most_blocks())? {
             let room = Data::Receive(some * BLOCK_BYTES as u32);
-            found.extend(self.command(lun, &blocks_cdb(READ_10, 0, start, some), room)?);
+            found.extend(self.command(lun, &blocks_cdb(operation, 0, start, some), room)?);
         }
         Ok(found)
     }
@@ -164,6 +269,26 @@ impl Device {
     /// end of the unit, 7/27/00 where the unit is protected or the device takes no more writes.
     /// [`BadNumber`](Error::BadNumber) where the data are no whole blocks, or no address has so many.
     pub fn write(&mut self, lun: u8, address: u32, data: &[u8], fua: Fua) -> Result<()> {
+        self.write_by(WRITE_10, lun, u64::from(address), data, fua)
+    }
+
+    /// As [`write`](Device::write) by WRITE(16), which takes an address of 64 bits. Profile 1 has it.
+    ///
+    /// # Errors
+    ///
+    /// As [`write`](Device::write); [`CheckCondition`](Error::CheckCondition) 5/20/00 of profile 0.
+    pub fn write_16(&mut self, lun: u8, address: u64, data: &[u8], fua: Fua) -> Result<()> {
+        self.write_by(WRITE_16, lun, address, data, fua)
+    }
+
+    fn write_by(
+        &mut self,
+        operation: u8,
+        lun: u8,
+        address: u64,
+        data: &[u8],
+        fua: Fua,
+    ) -> Result<()> {
         let blocks = whole_blocks(data)?;
         let bits = match fua {
             Fua::Yes => FUA,
@@ -171,8 +296,8 @@ impl Device {
         };
         let most = self.most_blocks();
         let chunks = data.chunks(most as usize * BLOCK_BYTES);
-        for ((start, some), chunk) in parts(address, blocks, most)?.zip(chunks) {
-            self.send(lun, &blocks_cdb(WRITE_10, bits, start, some), chunk)?;
+        for ((start, some), chunk) in parts(operation, address, blocks, most)?.zip(chunks) {
+            self.send(lun, &blocks_cdb(operation, bits, start, some), chunk)?;
         }
         Ok(())
     }
@@ -187,13 +312,50 @@ impl Device {
             .map(|_| ())
     }
 
+    /// As [`flush`](Device::flush) by SYNCHRONIZE CACHE(16). Profile 1 has it.
+    ///
+    /// # Errors
+    ///
+    /// As [`command`](Device::command).
+    pub fn flush_16(&mut self, lun: u8) -> Result<()> {
+        self.command(lun, &blocks_cdb(SYNCHRONIZE_CACHE_16, 0, 0, 0), Data::None)
+            .map(|_| ())
+    }
+
+    /// PRE-FETCH: it tells the unit that these blocks may be read soon; 0 are all up to its end. It is
+    /// a PRE-FETCH(10), or a PRE-FETCH(16) where that has no room for the numbers. Profile 1 has both.
+    ///
+    /// # Errors
+    ///
+    /// As [`command`](Device::command); [`CheckCondition`](Error::CheckCondition) 5/21/00 past the
+    /// end of the unit.
+    pub fn prefetch(&mut self, lun: u8, address: u64, count: u32) -> Result<()> {
+        let is_short = u32::try_from(address).is_ok() && u16::try_from(count).is_ok();
+        let operation = if is_short { PRE_FETCH_10 } else { PRE_FETCH_16 };
+        self.command(lun, &blocks_cdb(operation, 0, address, count), Data::None)
+            .map(|_| ())
+    }
+
+    /// SEND DIAGNOSTIC: it asks whether the unit, or the device (LUN D0h), is in order, which a self-test
+    /// looks for. Profile 1 has it.
+    ///
+    /// # Errors
+    ///
+    /// As [`command`](Device::command); [`CheckCondition`](Error::CheckCondition) 4/3E/03 of a self-test
+    /// where the device takes no more writes.
+    pub fn send_diagnostic(&mut self, lun: u8, self_test: bool) -> Result<()> {
+        let bits = if self_test { SELF_TEST } else { 0 };
+        self.command(lun, &[SEND_DIAGNOSTIC, bits], Data::None)
+            .map(|_| ())
+    }
+
     /// Makes blocks of the unit zeros, which a [`flush`](Device::flush) behind it makes durable.
     ///
     /// # Errors
     ///
     /// As [`write`](Device::write).
     pub fn unmap(&mut self, lun: u8, address: u32, count: u32) -> Result<()> {
-        for (start, some) in parts(address, count, self.most_blocks())? {
+        for (start, some) in parts(UNMAP, u64::from(address), count, self.most_blocks())? {
             let list = unmap_list(start, some);
             self.send(lun, &unmap_cdb(&list), &list)?;
         }
@@ -225,15 +387,24 @@ impl Device {
     }
 }
 
-/// Address and count of each command that so many blocks take.
-fn parts(address: u32, count: u32, most: u32) -> Result<impl Iterator<Item = (u32, u32)>> {
-    let end = u64::from(address) + u64::from(count);
-    if end > 1 << 32 {
+/// Whether a CDB with this operation code has sixteen bytes: its bits 7 to 5 say so (SPC-4).
+fn is_long(operation: u8) -> bool {
+    operation >> 5 == 4
+}
+
+/// Address and count of each command with this operation code that so many blocks take.
+fn parts(
+    operation: u8,
+    address: u64,
+    count: u32,
+    most: u32,
+) -> Result<impl Iterator<Item = (u64, u32)>> {
+    let end = u128::from(address) + u128::from(count);
+    if end > 1 << if is_long(operation) { 64 } else { 32 } {
         return Err(Error::BadNumber);
     }
-    let starts = (u64::from(address)..end).step_by(most as usize);
-    // An address is below 2^32, and what is left of the blocks is cut to `most` before it is narrowed.
-    Ok(starts.map(move |start| (start as u32, (end - start).min(u64::from(most)) as u32)))
+    let starts = (0..count).step_by(most as usize);
+    Ok(starts.map(move |done| (address + u64::from(done), most.min(count - done))))
 }
 
 fn whole_blocks(data: &[u8]) -> Result<u32> {
@@ -247,14 +418,14 @@ fn length_of(data: &[u8]) -> Result<u32> {
     u32::try_from(data.len()).map_err(|_| Error::BadNumber)
 }
 
-/// The CDB of a READ(10), a WRITE(10) or a SYNCHRONIZE CACHE(10) (SBC-3).
-fn blocks_cdb(operation: u8, bits: u8, address: u32, count: u32) -> [u8; 10] {
-    let mut cdb = [0; 10];
-    cdb[0] = operation;
-    cdb[1] = bits;
-    cdb[2..6].copy_from_slice(&address.to_be_bytes());
-    cdb[7..9].copy_from_slice(&(count as u16).to_be_bytes());
-    cdb
+/// The CDB of a command on blocks, of ten bytes or sixteen (SBC-3). The numbers have room in it.
+fn blocks_cdb(operation: u8, bits: u8, address: u64, count: u32) -> Vec<u8> {
+    let (address, count) = (address.to_be_bytes(), count.to_be_bytes());
+    if is_long(operation) {
+        [&[operation, bits], &address[..], &count[..], &[0, 0]].concat()
+    } else {
+        [&[operation, bits], &address[4..], &[0], &count[2..], &[0]].concat()
+    }
 }
 
 /// The CDB of an UNMAP with this list (SBC-3).
@@ -267,17 +438,17 @@ fn unmap_cdb(list: &[u8; 24]) -> [u8; 10] {
 
 /// The list of an UNMAP: a header of 8 bytes, and one descriptor of 16. The header has the length of
 /// what follows its first two bytes, and that of the descriptors.
-fn unmap_list(address: u32, count: u32) -> [u8; 24] {
+fn unmap_list(address: u64, count: u32) -> [u8; 24] {
     let mut list = [0; 24];
     list[1] = 22;
     list[3] = 16;
-    list[12..16].copy_from_slice(&address.to_be_bytes());
+    list[8..16].copy_from_slice(&address.to_be_bytes());
     list[16..20].copy_from_slice(&count.to_be_bytes());
     list
 }
 
 /// The big-endian number of four bytes that stands there; bytes that are missing are zeros.
-fn number_at(told: &[u8], start: usize) -> u32 {
+pub(crate) fn number_at(told: &[u8], start: usize) -> u32 {
     let at = |place: usize| u32::from(told.get(start + place).copied().unwrap_or(0));
     at(0) << 24 | at(1) << 16 | at(2) << 8 | at(3)
 }

@@ -5,7 +5,7 @@ use crate::sys;
 /// of each.
 ///
 /// The default is a small device: two dies of 24 blocks of 16 pages, an RPMB area of 128 KiB in
-/// region 0, 64 slots and four spare blocks. There is room for a unit of 64 blocks.
+/// region 0, 64 slots and four spare blocks, of profile 0. There is room for a unit of 64 blocks.
 #[derive(Clone, Copy, Debug, PartialEq, Eq, Hash)]
 pub struct Config {
     /// How many dies there are.
@@ -20,6 +20,10 @@ pub struct Config {
     pub slots: u16,
     /// How many blocks may go bad before the device takes no more writes.
     pub spare: u16,
+    /// 0 for the device of a few commands, 1 for one that tells more of itself and has attentions.
+    pub profile: u8,
+    /// The serial number, which profile 1 alone tells.
+    pub serial: u64,
 }
 
 impl Default for Config {
@@ -31,11 +35,22 @@ impl Default for Config {
             rpmb: [1, 0, 0, 0],
             slots: 64,
             spare: 4,
+            profile: 0,
+            serial: 1,
         }
     }
 }
 
 impl Config {
+    /// The same numbers for a device of this profile, 0 or 1, with this serial number.
+    pub fn with_profile(self, profile: u8, serial: u64) -> Config {
+        Config {
+            profile,
+            serial,
+            ..self
+        }
+    }
+
     /// How many blocks of 4096 bytes one command may have.
     pub fn most_blocks(&self) -> u32 {
         match self.slots {
@@ -52,6 +67,8 @@ impl Config {
             rpmb: self.rpmb,
             slots: self.slots,
             spare: self.spare,
+            profile: self.profile,
+            serial: self.serial,
         }
     }
 }

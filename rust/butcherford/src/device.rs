@@ -34,6 +34,8 @@ use std::ptr;
 pub struct Device {
     handle: sys::Handle,
     dies: u8,
+    pub(crate) profile: u8,
+    pub(crate) unit_count: usize,
     most_blocks: u32,
     /// Dies of the caller's own; none where they are in memory, or the caller does the jobs.
     own: Vec<OwnDie>,
@@ -61,8 +63,8 @@ impl Drop for Device {
 }
 
 impl Device {
-    /// A device that is closed as yet, for these numbers.
-    fn closed(config: &Config) -> Device {
+    /// A device that is closed as yet, for these numbers and so many units.
+    fn closed(config: &Config, unit_count: usize) -> Device {
         Device {
             // `UFS_CLOSED`, as which each handle has to begin.
             handle: sys::Handle {
@@ -70,6 +72,8 @@ impl Device {
                 is_open: false,
             },
             dies: config.dies,
+            profile: config.profile,
+            unit_count,
             most_blocks: config.most_blocks(),
             own: Vec::new(),
             kept: VecDeque::new(),
@@ -88,7 +92,7 @@ impl Device {
     /// [`TooLittleSpare`](Error::TooLittleSpare), [`TwoBootUnits`](Error::TwoBootUnits),
     /// [`NoMemory`](Error::NoMemory).
     pub fn open(config: &Config, units: &[Unit]) -> Result<Device> {
-        let mut device = Device::closed(config);
+        let mut device = Device::closed(config, units.len());
         let rows: Vec<sys::UnitRow> = units.iter().map(Unit::row).collect();
         // SAFETY: the handle begins as UFS_CLOSED. The row of the configuration and those of the
         // units are this call's own, as many as it is told; a vector without any has no NULL pointer.
@@ -106,7 +110,7 @@ impl Device {
     /// As [`open`](Device::open); and [`BadImage`](Error::BadImage),
     /// [`OtherConfig`](Error::OtherConfig).
     pub fn open_image(config: &Config, units: &[Unit], image: &[u8]) -> Result<Device> {
-        let mut device = Device::closed(config);
+        let mut device = Device::closed(config, units.len());
         let rows: Vec<sys::UnitRow> = units.iter().map(Unit::row).collect();
         // SAFETY: as in `open`. The image is borrowed during the call, which only reads it, so nobody
         // writes it.

@@ -30,7 +30,16 @@
 //! [`read`](Device::read), [`write`](Device::write), [`flush`](Device::flush),
 //! [`unmap`](Device::unmap),
 //! [`read_capacity`](Device::read_capacity), and [`command`](Device::command) with a CDB of the
-//! caller's own.
+//! caller's own. A device of profile 1 has more: [`read_16`](Device::read_16),
+//! [`write_16`](Device::write_16), [`flush_16`](Device::flush_16), [`prefetch`](Device::prefetch),
+//! [`send_diagnostic`](Device::send_diagnostic), [`read_capacity_16`](Device::read_capacity_16),
+//! [`inquiry_page`](Device::inquiry_page), [`mode_sense`](Device::mode_sense) and
+//! [`supported_operations`](Device::supported_operations).
+//!
+//! A configuration has profile 0, unless [`Config::with_profile`] gives it another one. A device of
+//! profile 1 refuses the first command to each LUN behind an opening and behind a stop by UNIT ATTENTION
+//! (6/29/00). [`make_ready`](Device::make_ready) ends these attentions, and [`mend`](Device::mend) leaves
+//! them.
 //!
 //! The dies are in memory, or the caller's own: [`Die`].
 //!
@@ -46,9 +55,11 @@ mod die;
 mod error;
 pub mod messages;
 mod sys;
+mod told;
 
 pub use command::{Capacity, Data, Fua, BLOCK_BYTES};
 pub use config::{Boot, Config, Protection, Unit};
 pub use device::Device;
 pub use die::{Die, DieFailed, Job, JobKind, Left, Outcome, Page, PAGE_BYTES};
 pub use error::{Error, Result};
+pub use told::{LongCapacity, ModeData, ModePages, ModeValues, SupportedOperation, VpdPage};

@@ -1,9 +1,10 @@
 //! Messages of a host, and what a RESPONSE says.
 //!
 //! Any thread may call these functions: no device has a part in them.
-use crate::command::Fua;
+use crate::command::{Fua, PRE_FETCH_16, READ_16, SYNCHRONIZE_CACHE_16, WRITE_16};
 use crate::error::{expect, Result};
 use crate::sys::{self, FrameRow};
+use crate::told::{ModePages, ModeValues, VpdPage};
 
 /// How many bytes a message without data has.
 pub const HEADER_BYTES: usize = sys::UFS_HEADER_BYTES;
@@ -153,6 +154,66 @@ pub fn unmap_list(
     written(|into, room| unsafe { sys::ufs_unmap_list(lun, tag, address, blocks, into, room) })
 }
 
+/// The COMMAND of a command on blocks in sixteen bytes, with FUA or IMMED where that option is set.
+fn blocks_16(
+    operation: u8,
+    lun: u8,
+    tag: u8,
+    address: u64,
+    blocks: u32,
+    option: bool,
+) -> Result<[u8; HEADER_BYTES]> {
+    // SAFETY: as in `read`.
+    written(|into, room| unsafe {
+        sys::ufs_blocks_16(operation, lun, tag, address, blocks, option, into, room)
+    })
+}
+
+/// The COMMAND of a READ(16), a [`read`] with an address of 64 bits. Profile 1 has it, and the three
+/// below.
+///
+/// # Errors
+///
+/// [`BadNumber`](crate::Error::BadNumber) where there are 1,048,576 blocks or more: a COMMAND cannot
+/// count their bytes.
+pub fn read_16(lun: u8, tag: u8, address: u64, blocks: u32) -> Result<[u8; HEADER_BYTES]> {
+    blocks_16(READ_16, lun, tag, address, blocks, false)
+}
+
+/// The COMMAND of a WRITE(16), a [`write`] with an address of 64 bits.
+///
+/// # Errors
+///
+/// As [`read_16`].
+pub fn write_16(
+    lun: u8,
+    tag: u8,
+    address: u64,
+    blocks: u32,
+    fua: Fua,
+) -> Result<[u8; HEADER_BYTES]> {
+    blocks_16(WRITE_16, lun, tag, address, blocks, fua == Fua::Yes)
+}
+
+/// The COMMAND of a SYNCHRONIZE CACHE(16), a [`flush`] in sixteen bytes.
+///
+/// # Errors
+///
+/// None: the room is as long as the message.
+pub fn flush_16(lun: u8, tag: u8, immediate: bool) -> Result<[u8; HEADER_BYTES]> {
+    blocks_16(SYNCHRONIZE_CACHE_16, lun, tag, 0, 0, immediate)
+}
+
+/// The COMMAND of a PRE-FETCH(16) of so many blocks, from this address on; 0 are all up to the end of
+/// the unit.
+///
+/// # Errors
+///
+/// None: the room is as long as the message.
+pub fn prefetch_16(lun: u8, tag: u8, address: u64, blocks: u32) -> Result<[u8; HEADER_BYTES]> {
+    blocks_16(PRE_FETCH_16, lun, tag, address, blocks, false)
+}
+
 /// A command that asks for bytes of the device's own.
 #[derive(Clone, Copy, Debug, PartialEq, Eq, Hash)]
 pub enum Operation {
@@ -166,6 +227,8 @@ pub enum Operation {
     ReadCapacity,
     /// REPORT LUNS, of the units of the configuration and of the well-known ones.
     ReportLuns,
+    /// READ CAPACITY(16), of profile 1.
+    ReadCapacity16,
 }
 
 impl Operation {
@@ -177,6 +240,7 @@ impl Operation {
             Operation::Inquiry => 0x12,
             Operation::ReadCapacity => 0x25,
             Operation::ReportLuns => 0xA0,
+            Operation::ReadCapacity16 => 0x9E,
         }
     }
 }
@@ -191,6 +255,67 @@ pub fn ask(operation: Operation, lun: u8, tag: u8, allocation: u32) -> Result<[u
     let code = operation.code();
     // SAFETY: as in `read`.
     written(|into, room| unsafe { sys::ufs_ask(code, lun, tag, allocation, into, room) })
+}
+
+/// A command that asks for what is selected (SPC-4). Profile 1 has them, and profile 0 REPORT LUNS alone.
+#[derive(Clone, Copy, Debug, PartialEq, Eq, Hash)]
+pub enum Selection {
+    /// INQUIRY, of a page of vital product data.
+    InquiryPage(VpdPage),
+    /// MODE SENSE(6), of mode pages.
+    ModeSense6(ModePages, ModeValues),
+    /// MODE SENSE(10), of mode pages.
+    ModeSense10(ModePages, ModeValues),
+    /// REPORT LUNS: with 0 of the units that are not well known, with 1 of those that are, with 2 of all.
+    ReportLuns(u8),
+    /// REPORT SUPPORTED OPERATION CODES, of all commands.
+    AllOperations,
+    /// REPORT SUPPORTED OPERATION CODES, of the command with this operation code, and with this service
+    /// action where commands share the code.
+    OneOperation(u8, Option<u16>),
+    /// SEND DIAGNOSTIC, with a self-test or without. It brings no bytes.
+    Diagnostic {
+        /// Whether the device tests itself.
+        self_test: bool,
+    },
+}
+
+impl Selection {
+    /// The numbers that the library has for it: its operation code, and bytes of its CDB.
+    fn numbers(self) -> (u8, u32) {
+        match self {
+            Selection::InquiryPage(page) => (0x12, page as u32),
+            Selection::ModeSense6(pages, values) => (0x1A, pages as u32 | values as u32),
+            Selection::ModeSense10(pages, values) => (0x5A, pages as u32 | values as u32),
+            Selection::ReportLuns(selection) => (0xA0, u32::from(selection)),
+            Selection::AllOperations => (0xA3, 0),
+            Selection::OneOperation(code, None) => (0xA3, 1 << 24 | u32::from(code) << 16),
+            Selection::OneOperation(code, Some(action)) => {
+                (0xA3, 2 << 24 | u32::from(code) << 16 | u32::from(action))
+            }
+            Selection::Diagnostic { self_test } => (0x1D, u32::from(self_test)),
+        }
+    }
+}
+
+/// The COMMAND that asks for what is selected. The host has room for so many bytes.
+///
+/// # Errors
+///
+/// [`BadNumber`](crate::Error::BadNumber) where the selection of REPORT LUNS is above 2, or there is
+/// room for more than 255 bytes of a MODE SENSE(6), or for more than 65,535 of a MODE SENSE(10) or an
+/// INQUIRY.
+pub fn ask_for(
+    selection: Selection,
+    lun: u8,
+    tag: u8,
+    allocation: u32,
+) -> Result<[u8; HEADER_BYTES]> {
+    let (code, selected) = selection.numbers();
+    // SAFETY: as in `read`.
+    written(|into, room| unsafe {
+        sys::ufs_ask_for(code, selected, lun, tag, allocation, into, room)
+    })
 }
 
 /// The fields of a QUERY REQUEST (JESD220, 10.7.8).

@@ -18,6 +18,8 @@ pub struct ConfigRow {
     pub rpmb: [u8; 4],
     pub slots: u16,
     pub spare: u16,
+    pub profile: u8,
+    pub serial: u64,
 }
 
 /// `ufs_unit`.
@@ -144,6 +146,25 @@ extern "C" {
         lun: u8,
         tag: u8,
         allocation: u32,
+        into: *mut u8,
+        room: usize,
+    ) -> u32;
+    pub fn ufs_ask_for(
+        operation: u8,
+        selection: u32,
+        lun: u8,
+        tag: u8,
+        allocation: u32,
+        into: *mut u8,
+        room: usize,
+    ) -> u32;
+    pub fn ufs_blocks_16(
+        operation: u8,
+        lun: u8,
+        tag: u8,
+        address: u64,
+        blocks: u32,
+        option: bool,
         into: *mut u8,
         room: usize,
     ) -> u32;

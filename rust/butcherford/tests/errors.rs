@@ -87,6 +87,11 @@ fn configurations() {
     let open = |config: Config, units: &[Unit]| Device::open(&config, units).unwrap_err();
     assert_eq!(open(Config { dies: 9, ..small }, &[unit]), Error::Range);
     assert_eq!(open(Config { slots: 63, ..small }, &[unit]), Error::Range);
+    assert_eq!(open(small.with_profile(2, 1), &[unit]), Error::Range);
+    assert_eq!(
+        open(small.with_profile(2, 1), &[Unit::new(4096)]),
+        Error::Range
+    );
     assert_eq!(open(small, &[]), Error::Range);
     assert_eq!(open(small, &[unit; 9]), Error::Range);
     assert_eq!(open(small, &[Unit::new(4096)]), Error::TooLittleSpare);

@@ -93,7 +93,7 @@ fn structs() -> String {
     [
         layout!(sys::Handle, "ufs_device", at: "at", is_open: "is_open"),
         layout!(sys::ConfigRow, "ufs_config", dies: "dies", blocks: "blocks", pages: "pages",
-            rpmb: "rpmb", slots: "slots", spare: "spare"),
+            rpmb: "rpmb", slots: "slots", spare: "spare", profile: "profile", serial: "serial"),
         layout!(sys::UnitRow, "ufs_unit", blocks: "blocks", boot: "boot", protect: "protect"),
         layout!(sys::JobRow, "ufs_job", kind: "kind", die: "die", block: "block", page: "page",
             content: "body"),
@@ -141,6 +141,15 @@ fn numbers() -> String {
         ("UFS_INQUIRY", 0x12),
         ("UFS_READ_CAPACITY", 0x25),
         ("UFS_REPORT_LUNS", 0xA0),
+        ("UFS_MODE_SENSE_6", 0x1A),
+        ("UFS_SEND_DIAGNOSTIC", 0x1D),
+        ("UFS_MODE_SENSE_10", 0x5A),
+        ("UFS_READ_CAPACITY_16", 0x9E),
+        ("UFS_REPORT_OPERATIONS", 0xA3),
+        ("UFS_READ_16", 0x88),
+        ("UFS_WRITE_16", 0x8A),
+        ("UFS_PRE_FETCH_16", 0x90),
+        ("UFS_SYNCHRONIZE_CACHE_16", 0x91),
     ];
     numbers
         .iter()
@@ -152,7 +161,7 @@ fn numbers() -> String {
 fn the_header_says_the_same() {
     let source = fs::read_to_string("src/sys.rs").unwrap();
     let functions = functions(&source);
-    assert_eq!(functions.lines().count(), 32, "the functions of ufs.h");
+    assert_eq!(functions.lines().count(), 34, "the functions of ufs.h");
     let folder = Path::new(env!("CARGO_TARGET_TMPDIR"));
     let file = folder.join("layout.c");
     let head = "#include <stddef.h>\n#include <ufs.h>\n\

@@ -2,11 +2,14 @@
 mod common;
 
 use butcherford::messages::{
-    ask, flush, nop, query, read, task_management, unmap, unmap_list, write,
+    ask, ask_for, flush, flush_16, nop, prefetch_16, query, read, read_16, task_management, unmap,
+    unmap_list, write, write_16,
 };
 use butcherford::messages::{command, data_out, response, Answer, Direction, Operation, Query};
-use butcherford::messages::{rpmb_fields, rpmb_frame, rpmb_mac, security_in, security_out, Frame};
-use butcherford::{Error, Fua};
+use butcherford::messages::{
+    rpmb_fields, rpmb_frame, rpmb_mac, security_in, security_out, Frame, Selection,
+};
+use butcherford::{Error, Fua, ModePages, ModeValues, VpdPage};
 use common::{bytes, DATA_OUT, READ, WRITE};
 
 #[test]
@@ -90,6 +93,74 @@ fn commands_of_the_device() {
         (
             security_in(7, 3, 8),
             "0140c407000000000000000000001000a2ec0301000000001000000000000000",
+        ),
+    ];
+    for (told, wanted) in cases {
+        assert_eq!(told.unwrap().to_vec(), bytes(wanted));
+    }
+}
+
+/// Those of profile 1, each with the CDB of docs/FORMATS.md, "Profile 1", or of SPC-4.
+#[test]
+fn commands_of_profile_1() {
+    let modes = (ModePages::AllWithSubpages, ModeValues::Changeable);
+    let cases = [
+        (
+            read_16(0, 7, 0x0102030405060708, 5),
+            "0140000700000000000000000000500088000102030405060708000000050000",
+        ),
+        (
+            write_16(1, 3, 9, 128, Fua::Yes),
+            "012001030000000000000000000800008a080000000000000009000000800000",
+        ),
+        (
+            flush_16(0xD0, 7, true),
+            "0100d00700000000000000000000000091020000000000000000000000000000",
+        ),
+        (
+            prefetch_16(0, 7, 5, 512),
+            "0100000700000000000000000000000090000000000000000005000002000000",
+        ),
+        (
+            ask(Operation::ReadCapacity16, 0, 2, 32),
+            "014000020000000000000000000000209e100000000000000000000000200000",
+        ),
+        (
+            ask_for(Selection::InquiryPage(VpdPage::BlockLimits), 2, 7, 64),
+            "014002070000000000000000000000401201b000400000000000000000000000",
+        ),
+        (
+            ask_for(Selection::ModeSense6(modes.0, modes.1), 2, 7, 48),
+            "014002070000000000000000000000301a007fff300000000000000000000000",
+        ),
+        (
+            ask_for(
+                Selection::ModeSense10(ModePages::Caching, ModeValues::Current),
+                2,
+                7,
+                28,
+            ),
+            "0140020700000000000000000000001c5a000800000000001c00000000000000",
+        ),
+        (
+            ask_for(Selection::ReportLuns(1), 0xD0, 7, 16),
+            "0140d007000000000000000000000010a0000100000000000010000000000000",
+        ),
+        (
+            ask_for(Selection::AllOperations, 2, 7, 512),
+            "01400207000000000000000000000200a30c0000000000000200000000000000",
+        ),
+        (
+            ask_for(Selection::OneOperation(0x28, None), 2, 7, 14),
+            "0140020700000000000000000000000ea30c012800000000000e000000000000",
+        ),
+        (
+            ask_for(Selection::OneOperation(0x9E, Some(0x10)), 2, 7, 20),
+            "01400207000000000000000000000014a30c029e001000000014000000000000",
+        ),
+        (
+            ask_for(Selection::Diagnostic { self_test: true }, 2, 7, 0),
+            "010002070000000000000000000000001d040000000000000000000000000000",
         ),
     ];
     for (told, wanted) in cases {
@@ -225,6 +296,14 @@ fn what_is_no_message() {
         Err(Error::BadNumber)
     );
     assert_eq!(ask(Operation::Inquiry, 0, 1, 65_536), Err(Error::BadNumber));
+    let all = Selection::ModeSense6(ModePages::All, ModeValues::Current);
+    assert_eq!(ask_for(all, 0, 1, 256), Err(Error::BadNumber));
+    assert_eq!(
+        ask_for(Selection::ReportLuns(3), 0, 1, 16),
+        Err(Error::BadNumber)
+    );
+    assert_eq!(read_16(0, 1, 0, 1 << 20), Err(Error::BadNumber));
+    assert_eq!(write_16(0, 1, 0, 1 << 20, Fua::No), Err(Error::BadNumber));
     assert_eq!(security_out(1, 4, 1), Err(Error::BadNumber));
     assert_eq!(security_in(1, 0, 0), Err(Error::BadNumber));
     assert_eq!(security_in(1, 0, 9), Err(Error::BadNumber));

@@ -11,6 +11,8 @@ pub const README: Config = Config {
     rpmb: [1, 0, 0, 0],
     slots: 64,
     spare: 4,
+    profile: 0,
+    serial: 1,
 };
 /// README's WRITE(10) with FUA of block 0 of unit 0, with task tag 1.
 pub const WRITE: &str = "012000010000000000000000000010002a080000000000000100000000000000";
