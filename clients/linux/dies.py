@@ -32,9 +32,10 @@ class PowerFailed(Exception):
         self.lefts = lefts
 
     def cut(self, device: Device) -> None:
-        """The power goes and comes back: each job in flight leaves what was chosen for it."""
+        """The power goes and comes back: each job in flight leaves what was chosen for it. The device mends
+        when the next kernel comes."""
         left = {what: [job.die for job, it in zip(self.jobs, self.lefts) if it == what] for what in LEFTS}
-        device.power_cut(new=left["new"], torn=left["torn"])
+        device.power_cut(new=left["new"], torn=left["torn"], mend=False)
 
     def __str__(self) -> str:
         first, *others = [f"die {job.die} {left}" for job, left in zip(self.jobs, self.lefts)]

@@ -1,8 +1,7 @@
 """The front: it hands the messages of a UFS host controller to the device, and the answers to the controller.
 
-A message goes to the device as it is, and its answer comes back as it is, but for two things. What `answers`
-knows is answered there. And task management has tags of its own, 0 to 7, which commands use too, so they are
-mapped.
+A message goes to the device as it is, and its answer comes back as it is, attentions of a LUN too. Only task
+management has tags of its own, 0 to 7, which commands use too, so they are mapped.
 
 The dies work when a command waits for them, when much is only in the write cache, and when the host is quiet.
 So what was not flushed is lost in a power cut, as with a device that has a write cache.
@@ -15,16 +14,16 @@ import time
 from typing import Dict, Iterator
 
 from butcherford import Device, MessageFault
-from butcherford.messages import BUSY, Code, big, data_out, header, read_reply
+from butcherford.messages import BUSY, UNMAP, Code, big, data_out, header, number_at, read_reply
 
-import answers
 from dies import Dies
 from transfers import Memory, Status, Transfer, TransferFault, gather, scatter
 from ufshci import MANAGEMENT_SLOTS, SLOTS, Controller
 from vhost_user import PeerFault
 
-KIND_MASK = 0x3F
-TAG_AT, LUN_AT = 3, 2
+TAG_AT, LUN_AT, CDB_AT = 3, 2, 16
+# How many blocks the one descriptor in the list of an UNMAP names (SBC-3, "UNMAP command").
+UNMAPPED_AT = 16
 ABORT_TASK = 0x01
 TASK_MANAGEMENT_REQUEST = 0x04
 # The tags of the host's task management are mapped to the second range, and the front's own requests have the
@@ -55,22 +54,7 @@ class Front:
     # What the controller asks
 
     def begin(self, transfer: Transfer) -> None:
-        """A transfer begins: it is answered here, or goes to the device."""
-        kind = transfer.request[0] & KIND_MASK
-        if kind == Code.QUERY_REQUEST:
-            response = answers.query_answer(self._device, transfer.request)
-            if response is not None:
-                self._controller.finish(transfer, response)
-                return
-        elif kind == Code.COMMAND:
-            answer = answers.command_answer(self._device, transfer.request)
-            if answer is not None:
-                scatter(self._memory, transfer.buffers, 0, answer.data)
-                self._controller.finish(transfer, answer.response)
-                return
-        self._ask(transfer)
-
-    def _ask(self, transfer: Transfer) -> None:
+        """A transfer begins: it goes to the device."""
         if transfer.tag not in HOST_TAGS:
             text = f"the task tag is {transfer.tag}, and has to be below {SLOTS}"
             raise TransferFault(Status.INVALID_COMMAND_TABLE, text)
@@ -163,13 +147,18 @@ class Front:
         elif told.code == Code.READY_TO_TRANSFER:
             data = gather(self._memory, transfer.buffers, told.offset, told.count)
             self._device.host(data_out(transfer.request[LUN_AT], transfer.tag, told.offset, data))
-            self._kept += 1
+            self._kept += kept_by(transfer.request, data)
             self._is_draining = self._is_draining or self._kept > self._most_kept
         else:
             # Without room in the write cache the host tries again: so the dies make room.
             self._is_draining = self._is_draining or (told.code == Code.RESPONSE and told.status == BUSY)
             self._controller.finish(transfer, reply)
             del self._open[transfer.tag]
+
+
+def kept_by(request: bytes, data: bytes) -> int:
+    """How many blocks the write cache has by data that came: one of a WRITE, or all that an UNMAP names."""
+    return number_at(data, UNMAPPED_AT, 4) if request[CDB_AT] == UNMAP else 1
 
 
 def with_tag(message: bytes, tag: int) -> bytes:

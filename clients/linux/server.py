@@ -1,11 +1,13 @@
 #!/usr/bin/env python3
 """A device as a PCI function with a UFS host controller, on a socket for user-mode Linux.
 
-usage: server.py SOCKET [--dies N] [--blocks N] [--pages N] [--slots N] [--spare N] [--unit BLOCKS ..]
+usage: server.py SOCKET [--dies N] [--blocks N] [--pages N] [--slots N] [--spare N] [--serial N]
+                 [--unit BLOCKS ..]
 
 The kernel finds it by the word virtio_uml.device=SOCKET:1234. When a kernel goes away, so does the power:
-what it did not flush is lost, and the next kernel finds the rest. BUTCHERFORD_LIBRARY names the library, and
-PYTHONPATH has the folder of the package `butcherford`.
+what it did not flush is lost, and the next kernel finds the rest. The device has profile 1, and tells the
+serial number. It mends when a kernel comes, and its attentions are for the kernel. BUTCHERFORD_LIBRARY names
+the library, and PYTHONPATH has the folder of the package `butcherford`.
 """
 from __future__ import annotations
 
@@ -32,6 +34,8 @@ MESSAGE_SECONDS = 10
 WAITING_KERNELS = 1
 # Of the one unit that there is where the command line names none.
 BLOCKS = 32768
+# Of profile 0, which does not tell its geometry, Linux would find no disk.
+PROFILE = 1
 
 
 class Host:
@@ -58,7 +62,11 @@ class Host:
 
 
 class Server:
-    """Serves a device to one kernel after another. `selector` may watch other files too."""
+    """Serves a device to one kernel after another. `selector` may watch other files too.
+
+    The device mends when a kernel comes, and keeps its attentions: each is for the kernel's first command to a
+    LUN. So open it with `mend=False`, and let its power come back so.
+    """
 
     def __init__(self, device: Device, path: Path, most_kept: int) -> None:
         self._device = device
@@ -90,6 +98,7 @@ class Server:
             print("server: there is a kernel already, and another one is turned away", file=sys.stderr)
             peer.close()
             return
+        self._device.mend()
         self._host = Host(peer, self.selector, self._device, self.dies, self._most_kept)
 
     def watch_dies(self, cut: Optional[Cut]) -> None:
@@ -128,14 +137,15 @@ class Server:
         """The kernel is gone, and so is the power: the next one finds a device that was opened again."""
         if self._host is not None:
             self.drop_host()
-            self._device.power_cut()
+            self._device.power_cut(mend=False)
 
 
 def read_words() -> argparse.Namespace:
     """What the command line asks for."""
     parser = argparse.ArgumentParser(description=__doc__, formatter_class=argparse.RawTextHelpFormatter)
     parser.add_argument("socket", type=Path)
-    for name, value in (("dies", 4), ("blocks", 256), ("pages", 64), ("slots", 256), ("spare", 16)):
+    numbers = {"dies": 4, "blocks": 256, "pages": 64, "slots": 256, "spare": 16, "serial": 1}
+    for name, value in numbers.items():
         parser.add_argument(f"--{name}", type=int, default=value)
     parser.add_argument("--unit", type=int, action="append", help="blocks of a unit, once for each")
     return parser.parse_args()
@@ -146,7 +156,7 @@ def main() -> int:
     units = asked.unit or [BLOCKS]
     try:
         with Device(asked.dies, asked.blocks, asked.pages, units, slots=asked.slots,
-                    spare=asked.spare) as device:
+                    spare=asked.spare, profile=PROFILE, serial=asked.serial, mend=False) as device:
             serve(Server(device, asked.socket, asked.slots // 2))
     except (OSError, UfsError) as fault:
         print(f"server: {fault}", file=sys.stderr)

@@ -14,12 +14,21 @@ from machine import Machine, Run
 
 BLOCK, SECTOR, KIB = 4096, 512, 1024
 # Four dies that have few more pages than the disks have blocks, so that blocks are collected and erased while
-# files are written. Half of the write cache may be full before the dies work.
+# files are written. Half of the write cache may be full before the dies work. The server has the device mend.
 UNITS = (6144, 64, 64)
-NUMBERS: Dict[str, Any] = {"dies": 4, "blocks": 132, "pages": 16, "units": UNITS, "slots": 256, "spare": 4}
+NUMBERS: Dict[str, Any] = {"dies": 4, "blocks": 132, "pages": 16, "units": UNITS, "slots": 256, "spare": 4,
+                           "profile": 1, "mend": False}
 MOST_KEPT = NUMBERS["slots"] // 2
 MOST_BLOCKS = 128
-DRIVER, CACHE = "ufshcd", "write back"
+DRIVER = "ufshcd"
+# What stands in a file of sysfs of each disk, and what it means.
+QUEUE = {"write_cache": ("write back", "Linux flushes the write cache"),
+         "fua": ("1", "Linux uses FUA"),
+         "rotational": ("0", "Linux knows that nothing rotates"),
+         "provisioning_mode": ("unmap", "Linux discards blocks by UNMAP"),
+         "discard_max_bytes": (str(MOST_BLOCKS * BLOCK), f"an UNMAP has at most {MOST_BLOCKS} blocks")}
+# How sg_raw ends for CHECK CONDITION with UNIT ATTENTION, and for GOOD (sg3_utils, exit status).
+MET, GOOD = "6", "0"
 # How many files the work writes, and how many of them stay.
 FILES, KEPT = 80, 20
 # On a busy machine a kernel may take many times longer than on an idle one.
@@ -71,7 +80,7 @@ class Bench:
 
 
 def show_disks(bench: Bench, machine: Machine) -> None:
-    """The driver finds the device, its disks have their sizes, and Linux knows of the write cache."""
+    """The driver finds the device, its disks have their sizes, and Linux takes what they tell it."""
     run = bench.boot(machine, "look", "disks")
     count = bench.tally.count
     count(run.words("driver") == [DRIVER], f"driver: {' '.join(run.words('driver'))}", run)
@@ -79,26 +88,41 @@ def show_disks(bench: Bench, machine: Machine) -> None:
         disk = f"sd{chr(ord('a') + number)}"
         is_there = f"{disk} {blocks * BLOCK // SECTOR}" in run.words("disk")
         count(is_there, f"/dev/{disk} has {blocks} blocks", run)
-    has_cache = run.words("cache") == [CACHE] and run.words("fua") == ["1"]
-    count(has_cache, "Linux flushes the write cache, and uses FUA", run)
-    has_limit = run.words("most") == [str(MOST_BLOCKS * BLOCK // KIB)]
-    count(has_limit, f"a command has at most {MOST_BLOCKS} blocks", run)
+    for name, (value, text) in QUEUE.items():
+        found = run.words(name)
+        count(found == [value] * len(UNITS), f"{text}: {name} is {' or '.join(sorted(set(found)))}", run)
+    most = [int(told) for told in run.words("max_sectors_kb") if told.isdecimal()]
+    has_limit = len(most) == len(UNITS) and max(most) <= MOST_BLOCKS * BLOCK // KIB
+    count(has_limit, f"a READ or WRITE has at most {MOST_BLOCKS} blocks", run)
+    count(run.words("log") == ["0"], "no disk hid its write cache, and none was waited for", run)
+
+
+def show_discard(bench: Bench, machine: Machine) -> None:
+    """Blocks are discarded: they read as zeros, and those beside them as they were written."""
+    run = bench.boot(machine, "discard", "discard")
+    texts = {"written": "blocks were written", "discarded": "blocks were discarded",
+             "zeros": "they are zeros, and those beside them are there"}
+    for name, text in texts.items():
+        bench.tally.count(run.words(name) == ["0"], text, run)
 
 
 def show_file_system(bench: Bench, machine: Machine) -> None:
-    """ext4 is made, written, read back and clean."""
+    """ext4 is made, written, trimmed, read back and clean."""
     run = bench.boot(machine, "make", "file system")
     texts = {"made": "ext4 was made", "written": "files were written",
-             "same": "they were read back after another mount", "checked": "e2fsck -f finds it clean"}
+             "trimmed": "fstrim discarded what is free",
+             "same": "the files were read back after another mount", "checked": "e2fsck -f finds it clean"}
     for name, text in texts.items():
         bench.tally.count(run.words(name) == ["0"], text, run)
 
 
 def show_rpmb(bench: Bench, machine: Machine) -> None:
-    """A key is programmed by sg, and the write counter comes signed."""
+    """The first command meets the attention of the LUN. Then a key is programmed by sg, and the write counter
+    comes signed."""
     run = bench.boot(machine, "rpmb", "rpmb")
     result, counter = (bytes.fromhex("".join(run.words(name))) for name in ("result", "counter"))
     count = bench.tally.count
+    count(run.words("ready") == [MET, GOOD], "RPMB: the first command to it meets an attention", run)
     count(rpmb_frames.is_key_result(result), "RPMB: a key was programmed", run)
     count(rpmb_frames.is_first_counter(counter), "RPMB: the write counter is 0, and its MAC is right", run)
 
@@ -186,6 +210,7 @@ def show(bench: Bench, cuts: int) -> None:
     """Shows all of it."""
     with Device(**NUMBERS) as device, bench.machine(device) as machine:
         show_disks(bench, machine)
+        show_discard(bench, machine)
         show_file_system(bench, machine)
         show_rpmb(bench, machine)
         show_resets(bench, machine)

@@ -11,9 +11,24 @@ from transfers import Buffer, Status, Transfer
 WRITE = bytes.fromhex("01200001000000000000000000001000 2a000000000000000100000000000000")
 READY = bytes.fromhex("31000001000000000000000000000000 00001000") + bytes(12)
 GOOD = bytes.fromhex("21000001") + bytes(28)
+# The first READ(10) of a block behind an opening, and CHECK CONDITION 6/29/00 with an underflow of 1000h bytes
+# (JESD220, 10.7.2; SPC-4, sense data).
+READ = bytes.fromhex("01400001000000000000000000001000 28000000000000000100000000000000")
+ATTENTION = bytes.fromhex("21200001000001020000001400001000") + bytes(16) \
+    + bytes.fromhex("0012 700006000000000a00000000290000000000")
 # JESD220, 10.7.6 and 10.7.7: abort task, with tag 1 of its own, of the task with tag 1; and its response.
 ABORT = bytes.fromhex("04000001000100000000000000000000 00000001") + bytes(12)
 ABORTED = bytes.fromhex("2400004100000000") + bytes(24)
+# JESD220, 10.7.9: 255 bytes of the descriptor GEOMETRY (07h), with tag 1; the first four of 72 that come.
+GEOMETRY = bytes.fromhex("16000001000100000000000001070000000000ff") + bytes(12)
+TOLD = bytes.fromhex("3600000100010000000000040107000000000004") + bytes(12) + bytes.fromhex("48070000")
+# SPC-4: MODE SENSE(10) of page 08h, of which Linux has room for 28 bytes; 12h 01h is INQUIRY for page B0h.
+MODE_SENSE = bytes.fromhex("0140000100000000000000000000001c 5a080800000000001c00000000000000")
+MODES = bytes.fromhex("001a001000000000081204") + bytes(17)
+LIMITS = bytes.fromhex("01400001000000000000000000000040 1201b000400000000000000000000000")
+# SBC-3: UNMAP with a list of 24 bytes, and the list: 5 blocks from 100h on.
+UNMAP = bytes.fromhex("01200001000000000000000000000018 42000000000000001800000000000000")
+UNMAP_LIST = bytes.fromhex("0016001000000000 0000000000000100 00000005 00000000")
 
 
 class Device:
@@ -59,8 +74,50 @@ def bench(memory):
     return SimpleNamespace(device=device, controller=controller, front=front, memory=memory)
 
 
-def transfer_of(buffers):
-    return Transfer(7, 0x10000, WRITE, 0x11000, 512, buffers)
+def transfer_of(buffers, request=WRITE):
+    return Transfer(7, 0x10000, request, 0x11000, 512, buffers)
+
+
+@pytest.mark.parametrize("request_of_linux", [GEOMETRY, MODE_SENSE, LIMITS])
+def test_the_front_answers_nothing_itself(bench, request_of_linux):
+    bench.front.begin(transfer_of([Buffer(0x12000, 4096)], request_of_linux))
+    assert bench.device.heard == [request_of_linux] and bench.controller.ended == []
+
+
+def test_the_answer_of_a_query_is_handed_on(bench):
+    bench.front.begin(transfer_of([], GEOMETRY))
+    bench.device.replies = [TOLD]
+    bench.front.work()
+    assert bench.controller.ended == [(7, TOLD, Status.SUCCESS)]
+
+
+def test_an_attention_is_handed_on(bench):
+    """The host is told, and repeats the command or not."""
+    bench.front.begin(transfer_of([Buffer(0x12000, 4096)], READ))
+    bench.device.replies = [ATTENTION]
+    bench.front.work()
+    assert bench.device.heard == [READ] and bench.controller.ended == [(7, ATTENTION, Status.SUCCESS)]
+
+
+def test_what_a_command_tells_goes_to_its_buffers(bench):
+    """JESD220, 10.7.3: a DATA IN of 28 bytes from offset 0 on, for two buffers of 16 and 12 bytes."""
+    bench.front.begin(transfer_of([Buffer(0x12000, 16), Buffer(0x13000, 12)], MODE_SENSE))
+    data_in = bytes.fromhex("22000001000000000000001c00000000 0000001c") + bytes(12) + MODES
+    bench.device.replies = [data_in, GOOD]
+    bench.front.work()
+    assert bench.memory.read(0x12000, 16) + bench.memory.read(0x13000, 12) == MODES
+    assert bench.controller.ended == [(7, GOOD, Status.SUCCESS)]
+
+
+def test_the_dies_work_once_much_is_in_the_write_cache_alone(bench):
+    """Four blocks may be. An UNMAP of five has one list, which goes to the device."""
+    bench.memory.write(0x12000, UNMAP_LIST)
+    bench.device.jobs = [[Job(JobKind.PROGRAM, 0, 5, page, b"", b"") for page in range(2)]]
+    bench.front.begin(transfer_of([Buffer(0x12000, 24)], UNMAP))
+    bench.device.replies = [READY[:16] + bytes.fromhex("00000018") + bytes(12), GOOD]
+    bench.front.work()
+    assert bench.device.heard[-1][32:] == UNMAP_LIST
+    assert bench.controller.ended == [(7, GOOD, Status.SUCCESS)] and bench.device.worked == [0, 0]
 
 
 def test_a_write_brings_its_data(bench):
