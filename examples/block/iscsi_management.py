@@ -4,6 +4,7 @@ from __future__ import annotations
 import enum
 from typing import TYPE_CHECKING, Callable, Dict, Iterator, Tuple
 
+from butcherford import messages
 from iscsi_pdu import Pdu, is_before
 from iscsi_task import CommandTask, lun_of
 from machine import Function, Service
@@ -78,17 +79,26 @@ def clear_unit(session: Session, pdu: Pdu) -> Response:
     """All tasks of a unit, by the device's own function. Those of other sessions are told."""
     lun = lun_of(pdu.lun)
     is_reset = pdu.flags & FUNCTION == Asked.LOGICAL_UNIT_RESET
-    function = Function.LOGICAL_UNIT_RESET if is_reset else Function.CLEAR_TASK_SET
-    answer = answer_of(session.machine.manage(function, lun))
+    service = reset(session, lun) if is_reset else session.machine.manage(Function.CLEAR_TASK_SET, lun)
     end_all(session, (lun,))
-    return answer
+    return answer_of(service)
+
+
+def reset(session: Session, lun: int) -> int:
+    """A unit is reset by the device's own function. On a device of profile 1 it has an attention for each
+    session then, also for the one that asks (SAM-5, 6.3.3)."""
+    service = session.machine.manage(Function.LOGICAL_UNIT_RESET, lun)
+    if service == Service.COMPLETE and session.machine.device.profile:
+        session.sessions.attentions.begin(lun, session.sessions.all.values())
+    return service
 
 
 def reset_target(session: Session, pdu: Pdu) -> Response:
-    """Each unit of the device is reset. After a cold reset all connections of the target end."""
-    units = tuple(unit.number for unit in session.machine.device.units)
+    """Each unit of the device is reset, well-known ones too. After a cold reset all connections of the target
+    end."""
+    units = (*(unit.number for unit in session.machine.device.units), *messages.WELL_KNOWN_LUNS)
     for lun in units:
-        session.machine.manage(Function.LOGICAL_UNIT_RESET, lun)
+        reset(session, lun)
     end_all(session, units)
     if pdu.flags & FUNCTION == Asked.TARGET_COLD_RESET:
         session.sessions.end_all()

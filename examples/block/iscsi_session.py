@@ -3,6 +3,7 @@ from __future__ import annotations
 
 from typing import Callable, Dict, Optional, Tuple
 
+from iscsi_attentions import Attentions
 from iscsi_keys import NOT_UNDERSTOOD, PORTAL_GROUP, TARGET_NAME, Pairs, Text, write_keys
 from iscsi_login import Login, Status
 from iscsi_management import manage
@@ -22,6 +23,7 @@ class Sessions:
 
     def __init__(self) -> None:
         self.all: Dict[Tuple[str, bytes], Session] = {}
+        self.attentions = Attentions()
         self._last = 0
 
     def add(self, session: Session, name: str, identifier: bytes) -> int:
@@ -43,6 +45,7 @@ class Sessions:
         """Forgets a session."""
         for key in [key for key, it in self.all.items() if it is session]:
             del self.all[key]
+        self.attentions.forget(session)
 
 
 class Session:
@@ -165,6 +168,14 @@ class Session:
         """The task has ended."""
         if self.tasks.get(task.initiator_tag) is task:
             del self.tasks[task.initiator_tag]
+
+    def takes_attention(self, lun: int) -> bool:
+        """Whether the initiator has to be told now, and not by the device, that the unit was reset."""
+        return self.sessions.attentions.take(lun, self)
+
+    def has_attention_told(self, lun: int) -> None:
+        """The device has told the initiator that the unit was reset."""
+        self.sessions.attentions.told(lun, self)
 
     def _data_out(self, pdu: Pdu) -> None:
         """Data of a task that is gone are dropped. What was not asked for ends its task (11.4.7.2)."""

@@ -7,14 +7,14 @@ not at all, and the command is not.
 from __future__ import annotations
 
 from dataclasses import replace
-from typing import List, NamedTuple, Optional, Protocol
+from typing import NamedTuple, Optional, Protocol
 
 from butcherford import messages
-from butcherford.messages import BLOCK, number_at
+from butcherford.messages import BLOCK, big, number_at
 from errand import NO_TASK, STEPS_WHILE_BUSY
 from machine import Machine, Task
 
-READ_6, WRITE_6 = 0x08, 0x0A
+READ_6, WRITE_6, READ_16, WRITE_16 = 0x08, 0x0A, 0x88, 0x8A
 ADDRESS_6, ALL_OF_6 = 0x1FFFFF, 256
 UNDERFLOW, OVERFLOW = 0x20, 0x40
 
@@ -45,7 +45,18 @@ def blocks_of(cdb: bytes) -> Optional[Span]:
         return Span(number_at(cdb, 1, 3) & ADDRESS_6, cdb[4] or ALL_OF_6)
     if cdb[0] in (messages.READ_10, messages.WRITE_10):
         return Span(number_at(cdb, 2, 4), number_at(cdb, 7, 2))
+    if cdb[0] in (READ_16, WRITE_16):
+        return Span(number_at(cdb, 2, 8), number_at(cdb, 10, 4))
     return None
+
+
+def part_of(cdb: bytes, address: int, length: int) -> bytes:
+    """A part of a READ or a WRITE in the form of the whole one, or in that of ten bytes where it has six."""
+    if cdb[0] in (READ_16, WRITE_16):
+        return cdb[:2] + big(address, 8) + big(length, 4) + cdb[14:]
+    if cdb[0] in (messages.READ_10, messages.WRITE_10):
+        return cdb[:2] + big(address, 4) + cdb[6:7] + big(length, 2) + cdb[9:]
+    return messages.blocks_cdb(messages.READ_10 if cdb[0] == READ_6 else messages.WRITE_10, address, length)
 
 
 def port_for(machine: Machine, cdb: bytes, flags: int, expected: int) -> Port:
@@ -67,42 +78,47 @@ class Parts:
         self.tag = NO_TASK
         self._machine = machine
         self._blocks = blocks
-        self._left: List[Span] = []
-        self._base = 0
+        self._cdb = b""
+        self._start = self._end_of_parts = 0
         self._tries = 0
         self._is_over = False
 
     def start(self, task: Task, cdb: bytes, flags: int, expected: int) -> None:
         """Begins the first part."""
-        is_short = cdb[0] in (READ_6, WRITE_6)
-        is_read = cdb[0] in (READ_6, messages.READ_10)
         self._task, self.lun, self._flags, self._expected = task, task.lun, flags, expected
-        self._operation = messages.READ_10 if is_read else messages.WRITE_10
-        self._second_byte = 0 if is_short else cdb[1]
-        self._left = self._all_parts(self._machine.device.most_blocks)
+        self._cdb = cdb
+        self._choose_parts()
         self._begin()
 
-    def _all_parts(self, most: int) -> List[Span]:
-        """The parts, by their place in the command. Of one that goes past the end of its unit there is one
-        part alone, which goes past it too: the device refuses that, and nothing is written."""
+    def _choose_parts(self) -> None:
+        """All parts, or of a command that goes past the end of its unit one part alone, which goes past it too:
+        the device refuses that, and nothing is written."""
         address, length = self._blocks
-        parts = [Span(start, min(most, length - start)) for start in range(0, length, most)]
-        units = self._machine.device.units
+        most, units = self._machine.device.most_blocks, self._machine.device.units
         end = units[self.lun].blocks if self.lun < len(units) else address + length
-        return [it for it in parts if address + it.address + it.length > end][:1] or parts
+        self._end_of_parts = length
+        if address + length > end:
+            self._start = max(end - address, 0) // most * most
+            self._end_of_parts = self._start + self._length
+
+    @property
+    def _length(self) -> int:
+        """How many blocks the part that is open has."""
+        return min(self._machine.device.most_blocks, self._blocks.length - self._start)
+
+    @property
+    def _base(self) -> int:
+        """Where its bytes begin in the data of the command."""
+        return self._start * BLOCK
 
     def _begin(self) -> None:
-        if self._is_over:
-            return
-        start, length = self._left[0]
-        self._base = start * BLOCK
-        cdb = bytearray(messages.blocks_cdb(self._operation, self._blocks.address + start, length))
-        cdb[1] = self._second_byte
-        self._machine.start(self, bytes(cdb), self._flags, self._expected_of_part())
+        if not self._is_over:
+            cdb = part_of(self._cdb, self._blocks.address + self._start, self._length)
+            self._machine.start(self, cdb, self._flags, self._expected_of_part())
 
     def _expected_of_part(self) -> int:
         """How many bytes the host sends or has room for in the part that is open."""
-        return min(max(self._expected - self._base, 0), self._left[0].length * BLOCK)
+        return min(max(self._expected - self._base, 0), self._length * BLOCK)
 
     def send(self, _: Task, offset: int, data: bytes) -> None:
         """Hands over data of the part that is open."""
@@ -120,9 +136,9 @@ class Parts:
         elif reply.status in (messages.BUSY, messages.TASK_SET_FULL) and self._tries < STEPS_WHILE_BUSY:
             self._tries += 1
             self._machine.later(self._begin)
-        elif reply.status == messages.GOOD and len(self._left) > 1:
+        elif reply.status == messages.GOOD and self._start + self._length < self._end_of_parts:
             self._tries = 0
-            del self._left[0]
+            self._start += self._length
             self._begin()
         else:
             self._end(message, reply)

@@ -14,11 +14,16 @@ READ, WRITE = 0x40, 0x20
 UNDERFLOW, OVERFLOW = 0x02, 0x04
 DEVICE_UNDERFLOW, DEVICE_OVERFLOW = 0x20, 0x40
 CHECK_CONDITION, TASK_ABORTED = 0x02, 0x40
-# A unit that no configuration has: the device itself refuses a command to it.
+# A unit that no configuration has: the device itself answers so.
 NO_UNIT = 0x7F
 WELL_KNOWN, WELL_KNOWN_LUN = 0xC1, 0x80
-ABORTED_COMMAND = 0x0B
+SENSE_KEY = 0x0F
+UNIT_ATTENTION, ABORTED_COMMAND = 0x06, 0x0B
 UNEXPECTED_UNSOLICITED_DATA, INCORRECT_AMOUNT_OF_DATA = (0x0C, 0x0C), (0x0C, 0x0D)
+# Power on, reset, or bus device reset occurred.
+RESET_OCCURRED = (0x29, 0x00)
+# These commands meet no attention, and REQUEST SENSE tells it as its data (SAM-5, 5.14; SPC-4).
+INQUIRY, REPORT_LUNS, REQUEST_SENSE = 0x12, 0xA0, 0x03
 
 
 def lun_of(field: bytes) -> int:
@@ -34,6 +39,12 @@ def sense(key: int, code: Tuple[int, int]) -> bytes:
     return bytes([0, 18, 0x70, 0, key, 0, 0, 0, 0, 10, 0, 0, 0, 0, *code, 0, 0, 0, 0])
 
 
+def residual_of(expected: int, length: int) -> Tuple[int, int]:
+    """The flag and the residual of a command of this length, where so many bytes were expected (11.4.5)."""
+    flag = UNDERFLOW if length < expected else OVERFLOW if length > expected else 0
+    return flag, abs(expected - length)
+
+
 class Owner(Protocol):
     """What a task needs of its session."""
 
@@ -46,6 +57,12 @@ class Owner(Protocol):
 
     def is_done(self, task: CommandTask) -> None:
         """The task has ended."""
+
+    def takes_attention(self, lun: int) -> bool:
+        """Whether the initiator has to be told now, and not by the device, that the unit was reset."""
+
+    def has_attention_told(self, lun: int) -> None:
+        """The device has told the initiator that the unit was reset."""
 
 
 class CommandTask:
@@ -72,7 +89,11 @@ class CommandTask:
         self._held: Optional[Tuple[int, bytes]] = None
 
     def begin(self) -> None:
-        """Hands the command to the device."""
+        """Hands the command to the device, unless it meets an attention that the device has told another
+        session."""
+        if self._cdb[0] not in (INQUIRY, REPORT_LUNS) and self._owner.takes_attention(self.lun):
+            self._tell_attention()
+            return
         if self._owner.splits:
             self._port = port_for(self._owner.machine, self._cdb, self._flags, self._expected)
         self._port.start(self, self._cdb, self._flags, self._expected)
@@ -88,8 +109,16 @@ class CommandTask:
             self._send_held(is_last=False)
             self._held = (reply.offset, reply.data)
         else:
+            if self._tells_attention(reply):
+                self._owner.has_attention_told(self.lun)
             self._ended = (message, reply)
             self._end()
+
+    def _tells_attention(self, reply: messages.Reply) -> bool:
+        """Whether the device has told its attention by this RESPONSE, or by the data before it."""
+        if reply.status == messages.CHECK_CONDITION:
+            return reply.data[4] & SENSE_KEY == UNIT_ATTENTION
+        return self._cdb[0] == REQUEST_SENSE and reply.status == messages.GOOD
 
     def _end(self) -> None:
         """Hands on the RESPONSE, once all data are there that the initiator was asked for."""
@@ -107,6 +136,17 @@ class CommandTask:
         fields.put(3, status, 1).put(36, self._sent).put(44, residual)
         self._owner.is_done(self)
         self._owner.send(fields, sense_data)
+
+    def _tell_attention(self) -> None:
+        """What the device would say if the unit had an attention."""
+        told = sense(UNIT_ATTENTION, RESET_OCCURRED)
+        if self._cdb[0] != REQUEST_SENSE:
+            self.respond(CHECK_CONDITION, told, *residual_of(self._expected, 0))
+            return
+        data = told[2:][:self._cdb[4]]
+        self._held = (0, data[:self._expected])
+        self._send_held(is_last=True)
+        self.respond(messages.GOOD, b"", *residual_of(self._expected, len(data)))
 
     def _send_held(self, is_last: bool) -> None:
         """Sends the data that came last, in PDUs that the initiator has room for, in sequences of

@@ -215,7 +215,8 @@ class Machine:
         self._cut_in, self._cut_left = jobs, left
 
     def cut(self, left: Left) -> None:
-        """The power goes and comes back, and the device mends. No task is open then."""
+        """The power goes and comes back, and the device is made ready: it mends, and its attentions end. No
+        task is open then."""
         dies = range(self.device.dies)
         told = ", ".join(f"die {die} {describe(job)}" for die, job in sorted(self._jobs.items())) or "no job"
         self._cut_in = 0
@@ -230,9 +231,11 @@ class Machine:
         print(f"cut {left.value}: {told}", flush=True)
 
     def finish(self) -> None:
-        """Makes durable what the device accepted, and leaves no job in flight."""
+        """Makes durable what the device accepted, and leaves no job in flight. A reset of the device's own LUN
+        may have left it an attention."""
         try:
             self.device.settle()
+            self.device.end_attentions()
             self.device.command(messages.LUN_DEVICE, messages.blocks_cdb(messages.SYNCHRONIZE_CACHE_10, 0, 0))
         except Refusal as refusal:
             print(f"the write cache is not saved: {refusal}", file=sys.stderr)
@@ -261,6 +264,9 @@ def add_options(parser: argparse.ArgumentParser) -> None:
                         help="for each unit its blocks of 4096 bytes (8192)")
     parser.add_argument("--slots", type=int, default=256, help="blocks of the write cache (256)")
     parser.add_argument("--spare", type=int, default=4, help="blocks that may go bad (4)")
+    parser.add_argument("--profile", type=int, choices=(0, 1), default=1, help="1, the default: the device "
+                        "tells its serial number, its limits and its mode pages; 0: it has a few commands")
+    parser.add_argument("--serial", type=int, default=1, metavar="N", help="the serial number (1)")
     parser.add_argument("--lazy", action="store_true", help="the dies work only while a command waits for "
                         "them: what is not flushed stays in the write cache, and a power cut loses it")
     parser.add_argument("--image", type=Path, metavar="FILE", help="the dies are those of this image, if it "
@@ -269,13 +275,14 @@ def add_options(parser: argparse.ArgumentParser) -> None:
 
 
 def opened(asked: argparse.Namespace) -> Device:
-    """The device of these words: over new dies, or over those of the image."""
+    """The device of these words: over new dies, or over those of the image. It is made ready, so no command of
+    a client meets the attention of an opening."""
     words = (asked.dies, asked.blocks, asked.pages, asked.units, (1, 0, 0, 0), asked.slots, asked.spare)
     image: Optional[bytes] = None
     try:
         if asked.image is not None and asked.image.exists():
             image = asked.image.read_bytes()
-        return Device(*words, image=image)
+        return Device(*words, profile=asked.profile, serial=asked.serial, image=image)
     except (ImportError, OSError, UfsError, ValueError) as fault:
         where = f"{asked.image}: " if image is not None else ""
         sys.exit(f"{where}{fault}")

@@ -13,9 +13,9 @@ enum { BLOCK = 4096, DIES = 2, BLOCKS = 20, PAGES = 16, ROUNDS = 256 };
 /* READ(10), WRITE(10) and its bit FUA (SBC-3); transaction codes (JESD220, 10.5). */
 enum { READ_10 = 0x28, WRITE_10 = 0x2A, FUA = 0x08, RESPONSE = 0x21, DATA_IN = 0x22, READY = 0x31 };
 
-static const ufs_config config = {DIES, BLOCKS, PAGES, {1, 0, 0, 0}, 64, 0};
-static const ufs_config config_with_spare = {DIES, BLOCKS, PAGES, {1, 0, 0, 0}, 64, 1};
-static const ufs_config config_of_nine_dies = {9, BLOCKS, PAGES, {1, 0, 0, 0}, 64, 0};
+static const ufs_config config = {DIES, BLOCKS, PAGES, {1, 0, 0, 0}, 64, 0, 0, 1};
+static const ufs_config config_with_spare = {DIES, BLOCKS, PAGES, {1, 0, 0, 0}, 64, 1, 0, 1};
+static const ufs_config config_of_nine_dies = {9, BLOCKS, PAGES, {1, 0, 0, 0}, 64, 0, 0, 1};
 static const ufs_unit units[] = {{16, 0, 0}};
 
 /* What the dies hold, which blocks are bad, and whether the next program fails. */

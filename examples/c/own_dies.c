@@ -12,7 +12,7 @@
 
 enum { BLOCK = 4096, HEADER = 32, DIES = 2, BLOCKS = 16, PAGES = 64 };
 
-static const ufs_config config = {DIES, BLOCKS, PAGES, {1, 0, 0, 0}, 64, 4};
+static const ufs_config config = {DIES, BLOCKS, PAGES, {1, 0, 0, 0}, 64, 4, 0, 1};
 static const ufs_unit units[] = {{256, 0, 0}};
 
 /* What the dies hold, as long as the power is on. */

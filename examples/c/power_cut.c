@@ -17,7 +17,7 @@ enum { RESPONSE = 0x21, DATA_IN = 0x22, READY_TO_TRANSFER = 0x31 };
 enum { READ_10 = 0x28, WRITE_10 = 0x2A, FUA = 0x08 };
 
 /* The configuration of examples/write_read.txt. */
-static const ufs_config config = {4, 16, 64, {1, 0, 0, 0}, 64, 4};
+static const ufs_config config = {4, 16, 64, {1, 0, 0, 0}, 64, 4, 0, 1};
 static const ufs_unit units[] = {{256, 0, 0}, {64, 1, 0}, {64, 2, 0}};
 enum { UNITS = sizeof units / sizeof units[0] };
 
