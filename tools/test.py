@@ -28,12 +28,15 @@ import threading
 import time
 from typing import Any, Dict, NamedTuple, Tuple
 
+import look_at_python
 from crates import ROOT, lines_of
 from power_cycles import ROWS
 
 HEAD = ("butcherford: this proves nothing, `make prove` does; "
         "it takes about 5 minutes on four processors")
 LONG = "test_long"
+# These need mypy and pyflakes, and neither may install them beside the other.
+USE_MYPY = {"Python by mypy and pyflakes", "tests of the tools"}
 # What a build takes of memory at most, with the check for reserved names that begins beside it.
 GROUP_BYTES = 2_500_000_000
 # What stands for the program in the words of a piece.
@@ -259,6 +262,8 @@ def main():
         print("test: the kit's command rt is not on the PATH; it is needed to build", file=sys.stderr)
         return 2
     left_out = [crate for crate in lines_of() if crate.startswith(LONG)]
+    if USE_MYPY & {it.name for it in wanted}:
+        look_at_python.install()
     jobs = side_by_side(asked.jobs)
     left = ", ".join(left_out) or "no tests"
     print(f"{len(wanted)} groups, {jobs} at a time; left to `make prove`: {left}", flush=True)
