@@ -3,7 +3,7 @@
 use Rattle.std.proofs.Common.{◌≡◌, ℕ, ◌∙◌, ◌&&◌, ◌||◌, Bool, true, false, cond, not, List, [], ◌∷◌, find, Option, Some}
 use Rattle.std.proofs.Common.{None, refl, sym, ap, subst, inl, inr, ◌⊎◌}
 use Rattle.std.specs.List.{list_all}
-use Rattle.std.specs.Prelude.{◌<◌, ◌==◌, nat_lt, slice_index}
+use Rattle.std.specs.Prelude.{◌<◌, ◌==◌, nat_lt}
 use Rattle.std.proofs.lemmas.Bool.{ltb-true}
 use Rattle.ufs_spec.proofs.Facts.{and_parts, false≢true, none-some, same_Some, true≢false}
 use Rattle.ufs_spec.specs.CdbFields.{asked_as, command_of, fields_in, has_only, is_group, is_row_of, kind_of, names_region}

@@ -10,7 +10,7 @@ use Rattle.ufs_spec.specs.declared.messages.Asked.{Asked}
 use Rattle.ufs_spec.specs.declared.messages.Message.{Message}
 use Rattle.ufs_spec.specs.declared.messages.Message.TheVariants.{NopOut, Command, DataOut, TaskRequest, QueryRequest}
 use Rattle.ufs_spec.specs.declared.messages.Message.TheVariants.{NopIn, Response, DataIn, TaskResponse, ReadyToTransfer}
-use Rattle.ufs_spec.specs.declared.messages.Message.TheVariants.{QueryResponse}
+use Rattle.ufs_spec.specs.declared.messages.Message.TheVariants.{LinkEvent, QueryResponse}
 
 -- the data segment that the header names
 abbrev segment_in : List ℕ → List ℕ
@@ -43,6 +43,7 @@ message_of code bytes =
     (cond (code == 0x16)
     (QueryRequest (slice_index bytes 3) (slice_index bytes 5) (asked_in bytes) (field_at 2 18 bytes)
     (field_at 4 20 bytes) (record { items = segment_in bytes }))
+    (cond (code == 0x1F) (LinkEvent (slice_index bytes 5))
     (cond (code == 0x20) (NopIn (slice_index bytes 3))
     (cond (code == 0x21)
     (Response (slice_index bytes 1) (slice_index bytes 2) (slice_index bytes 3) (slice_index bytes 6)
@@ -55,7 +56,7 @@ message_of code bytes =
     (ReadyToTransfer (slice_index bytes 2) (slice_index bytes 3) (field_at 4 12 bytes) (field_at 4 16 bytes))
     (QueryResponse (slice_index bytes 3) (slice_index bytes 5) (slice_index bytes 6) (asked_in bytes)
     (field_at 2 18 bytes) (field_at 4 20 bytes)
-    (record { items = segment_in bytes })))))))))))
+    (record { items = segment_in bytes }))))))))))))
 
 -- a segment behind 32 bytes that name its length
 segment_again : (bytes segment : List ℕ) → drop 32 bytes ≡ segment ++ zeros (padding (length segment)) →
@@ -67,11 +68,16 @@ segment_again bytes segment behind size =
     ap (λ (k : ℕ). slice_range bytes 32 (32 + k)) size ∙ ap (λ (k : ℕ). take k (drop 32 bytes)) count
     ∙ ap (take n) behind ∙ take_at segment (zeros (padding n)) n refl
 
+-- E of a COMMAND
+pub expected_again : (flags lun tag expected : ℕ) (cdb : List ℕ) → expected < 2 ^ 32 →
+    field_at 4 12 (spelling (Command flags lun tag expected cdb)) ≡ expected
+expected_again flags lun tag expected cdb fits = big_number-reads_back 4 expected (cdb ++ [] ++ []) fits
+
 command_again : (flags lun tag expected : ℕ) (cdb : List ℕ) → expected < 2 ^ 32 → length cdb ≡ 16
     → message_of 0x01 (spelling (Command flags lun tag expected cdb)) ≡ Command flags lun tag expected cdb
 command_again flags lun tag expected cdb fits sixteen =
-    let number : field_at 4 12 (spelling (Command flags lun tag expected cdb)) ≡ expected = big_number-reads_back 4
-    expected (cdb ++ [] ++ []) fits in
+    let number : field_at 4 12 (spelling (Command flags lun tag expected cdb)) ≡ expected =
+    expected_again flags lun tag expected cdb fits in
     let same : cdb ++ [] ++ [] ≡ cdb = append-nil (cdb ++ []) ∙ append-nil cdb in
     let operation : take 16 (cdb ++ [] ++ []) ≡ cdb = ap (take 16) same ∙ take_all 16 cdb (omega arith) in
     rw (number, operation) refl

@@ -1,6 +1,6 @@
 -- What a COMMAND makes of the state: it is refused, or begins (JESD220, 10.7.1; SPC and SBC for the commands).
-use Rattle.std.specs.Prelude.{Bool, List, None, Option, Some, [], false, if◌then◌else◌, length, map, nat_le, not, take, ℕ}
-use Rattle.std.specs.Prelude.{is_some, ◌*◌, ◌++◌, ◌+◌, ◌-◌, ◌==◌, ◌||◌, ◌∷◌}
+use Rattle.std.specs.Prelude.{Bool, List, None, Option, Some, [], false, if◌then◌else◌, length, map, nat_le, nat_lt, not}
+use Rattle.std.specs.Prelude.{is_some, take, ℕ, ◌*◌, ◌+◌, ◌/◌, ◌==◌, ◌||◌, ◌∷◌}
 use Rattle.std.specs.List.{flat_map}
 use Rattle.std.specs.Int.{div_ceil}
 use Rattle.ufs_spec.specs.Cdbs.{carried, fixed_sense}
@@ -16,11 +16,10 @@ use Rattle.ufs_spec.specs.Identities.{device_type, inquiry_bytes, long_capacity_
 use Rattle.ufs_spec.specs.Identities.{page_bytes, short_modes_told}
 pub use Rattle.ufs_spec.specs.Identities.{capacity_bytes}
 use Rattle.ufs_spec.specs.Keys.{below, data_key}
-use Rattle.ufs_spec.specs.Messages.{zeros}
 use Rattle.ufs_spec.specs.Moves.{Claim, Keep, Move, look_now}
 use Rattle.ufs_spec.specs.Plain.{block_at}
 use Rattle.ufs_spec.specs.Refusals.{Lun, Request, State, has_attention, is_guarded, lun_of, mended, numbers_of, plain_now}
-use Rattle.ufs_spec.specs.Refusals.{refusal, refused_state, slots_needed, without_attention}
+use Rattle.ufs_spec.specs.Refusals.{blocks_brought, refusal, refused_state, slots_needed, without_attention}
 use Rattle.ufs_spec.specs.Refusals.{unit_numbers_of, unit_of_request}
 use Rattle.ufs_spec.specs.Translation.{Pin}
 use Rattle.ufs_spec.specs.declared.operations.Told.{Told}
@@ -64,13 +63,23 @@ read_begun s r command unit address n =
     (with_moves s (keeps s r.tag unit address (blocks_expected r n)))
     r (Some command) n (sending (read_blocks s unit address (blocks_expected r n)) n)
 
--- a WRITE claims a slot for each of its blocks and gathers their data; no block changes before its last data came.
--- A WRITE of no blocks is answered GOOD at once, on a locked device too
-abbrev pub write_begun : State → Request → Cdb → ℕ → ℕ → ℕ → Bool → State
-write_begun s r command unit address blocks forced =
-    if blocks == 0 then with_task s r (Some command) 0 (Answering Good 0)
+-- what counts as expected of a WRITE of n bytes: where the host sends fewer, the whole blocks of what it sends. So what
+-- is told as left over is all that is not taken (this profile)
+abbrev pub expected_of_write : (expected n : ℕ) → ℕ
+expected_of_write expected n = if nat_lt expected n then 4096 * (expected / 4096) else expected
+
+-- the request of a WRITE of n bytes with what counts as expected
+abbrev pub of_write : Request → ℕ → Request
+of_write r n = record r { expected = expected_of_write r.expected n }
+
+-- a WRITE of n bytes claims a slot for each of the blocks that its host brings and gathers their data; no block changes
+-- before the last of these came. Where it brings none GOOD is due at once, on a locked device too
+abbrev pub write_begun : State → Request → ℕ → ℕ → ℕ → Bool → ℕ → State
+write_begun s r unit address blocks forced n =
+    if blocks == 0
+    then with_task s (of_write r n) (Some (cdb.Write address blocks forced)) n (Answering Good n)
     else
-    with_task (with_moves s (Claim blocks ∷ [])) r (Some command) (4096 * blocks)
+    with_task (with_moves s (Claim blocks ∷ [])) (of_write r n) (Some (cdb.Write address blocks forced)) n
     (Gathering (ForWrite unit address blocks forced) [] false)
 
 -- SYNCHRONIZE CACHE covers the whole device, whatever range it names: SBC lets a device do more than was asked.
@@ -164,7 +173,7 @@ begun s r unit (cdb.Tell what select allocation) =
     (take allocation (told_bytes s r what select))
 begun s r unit (cdb.Read address blocks) = read_begun s r (cdb.Read address blocks) unit address (4096 * blocks)
 begun s r unit (cdb.Write address blocks forced) =
-    write_begun s r (cdb.Write address blocks forced) unit address blocks forced
+    write_begun s r unit address (blocks_brought r.expected blocks) forced (4096 * blocks)
 begun s r unit (cdb.Flush immediate) = flush_begun s r (cdb.Flush immediate) immediate
 begun s r unit (cdb.Prefetch address blocks) =
     with_task s r (Some (cdb.Prefetch address blocks)) 0 (Answering Good 0)

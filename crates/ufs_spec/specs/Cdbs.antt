@@ -1,6 +1,6 @@
 -- What a command asks for, how much data it has and in which direction, how hosts write it, and what is left of what was
 -- expected (SPC, SBC, JESD220).
-use Rattle.std.specs.Prelude.{◌≡◌, ◌<◌, ◌≤◌, ◌-◌, ◌*◌, ◌+◌, ◌^◌, ℕ, min, nat_lt, Bool, List, [], ◌∷◌, ◌++◌}
+use Rattle.std.specs.Prelude.{◌≡◌, ◌<◌, ◌≤◌, ◌-◌, ◌*◌, ◌/◌, ◌^◌, ℕ, min, nat_lt, Bool, List, [], ◌∷◌, ◌++◌}
 use Rattle.std.specs.Prelude.{replicate, slice_index, if◌then◌else◌, Some, None, true}
 use Rattle.byteorder.specs.Endian.{big_bytes}
 use Rattle.ufs_spec.specs.CdbFields.{is_within, no_limit, row_of, selects_modes, spelled_cdb}
@@ -140,6 +140,17 @@ length_of told (cdb.Unmap list) = list
 length_of told (cdb.SecurityIn region length) = length
 length_of told (cdb.SecurityOut region length) = length
 length_of told command = 0
+
+-- how many of so many blocks a WRITE brings whose host sends E bytes: all, or the whole blocks of those bytes (this
+-- profile)
+abbrev pub blocks_brought : (expected blocks : ℕ) → ℕ
+blocks_brought expected blocks = min blocks (expected / 4096)
+
+-- the command as its host, which sends E bytes, brings data for it: a WRITE of the blocks that come; any other is as its
+-- CDB says
+abbrev pub brought : (expected : ℕ) → Cdb → Cdb
+brought expected (cdb.Write address blocks forced) = cdb.Write address (blocks_brought expected blocks) forced
+brought expected command = command
 
 -- where a command's data go: it has none, the host sends them (data-out buffer), or it
 -- receives them (data-in buffer) (SAM)

@@ -1,4 +1,4 @@
--- The transaction codes of the eleven kinds of messages: bits 5..0 of byte 0 (JESD220, 10.5).
+-- The transaction codes of the twelve kinds of messages: bits 5..0 of byte 0 (JESD220, 10.5).
 use Rattle.std.specs.Prelude.{ℕ}
 
 -- what a host sends
@@ -22,6 +22,12 @@ task_request_code = 0x04
 -- asks for a descriptor, an attribute or a flag
 abbrev pub query_request_code : ℕ
 query_request_code = 0x16
+
+-- what stands between a host and the device sends
+
+-- tells of a reset (this profile; JESD220 has no message of this code)
+abbrev pub link_event_code : ℕ
+link_event_code = 0x1F
 
 -- what a device sends
 

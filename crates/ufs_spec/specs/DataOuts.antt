@@ -5,7 +5,7 @@ use Rattle.ufs_bytes.specs.Fields.{field_at}
 use Rattle.ufs_spec.specs.Changes.{accepts, claimed_by, ends_with_status, set_deed, with_moves}
 use Rattle.ufs_spec.specs.Configs.{command_blocks}
 use Rattle.ufs_spec.specs.Exchanges.{Answering, Awaiting, Deed, Gathering, ReadingArea, Sending, SendingBytes, Task}
-use Rattle.ufs_spec.specs.Exchanges.{invalid_list_field, out_of_range, write_error}
+use Rattle.ufs_spec.specs.Exchanges.{invalid_list_field, out_of_range, to_gather, write_error}
 use Rattle.ufs_spec.specs.declared.exchanges.Status.TheVariants.{Good}
 use Rattle.ufs_spec.specs.declared.exchanges.Purpose.TheVariants.{ForFrames, ForUnmap, ForWrite}
 use Rattle.ufs_spec.specs.declared.exchanges.Purpose.{Purpose}
@@ -86,7 +86,7 @@ complete s task (ForFrames region) bytes = frames_complete s task region (frames
 -- a task has gathered these bytes so far: it asks for the next ones, unless they are all
 abbrev pub gathered_more : State → Task → Purpose → List ℕ → State
 gathered_more s task purpose bytes =
-    if nat_lt (length bytes) task.length then set_deed s task.tag (Gathering purpose bytes false)
+    if nat_lt (length bytes) (to_gather purpose task.length) then set_deed s task.tag (Gathering purpose bytes false)
     else complete s task purpose bytes
 
 -- the bytes of a DATA OUT follow those that the task has gathered. A task that gathers nothing takes no data: a DATA

@@ -1,10 +1,11 @@
 -- What is open between a host and the device: tasks, short exchanges, and what lasts until the next power cycle
 -- (JESD220, 10.7 UPIUs, 12.4 RPMB; SAM, tasks).
-use Rattle.std.specs.Prelude.{ℕ, ◌-◌, ◌*◌, ◌==◌, ◌&&◌, min, not, Bool, true, false, if◌then◌else◌, List, [], ◌∷◌}
+use Rattle.std.specs.Prelude.{ℕ, ◌+◌, ◌-◌, ◌*◌, ◌==◌, ◌&&◌, min, not, Bool, true, false, if◌then◌else◌, List, [], ◌∷◌}
 use Rattle.std.specs.Prelude.{filter, find, length, take, Option, Some, None}
 use Rattle.ufs_spec.specs.Cdbs.{Residual, carried, fixed_sense, residual_of}
 use Rattle.ufs_spec.specs.Frames.{Frame}
 use Rattle.ufs_spec.specs.declared.exchanges.Purpose.{Purpose}
+use Rattle.ufs_spec.specs.declared.exchanges.Purpose.TheVariants.{ForFrames, ForUnmap, ForWrite}
 use Rattle.ufs_spec.specs.declared.exchanges.ReadState.{ReadState}
 use Rattle.ufs_spec.specs.declared.exchanges.Status.{Status}
 use Rattle.ufs_spec.specs.declared.exchanges.Status.TheVariants.{Busy, CheckCondition, Good, TaskSetFull}
@@ -167,9 +168,9 @@ filled (Some request) = Some (record request { filled = true })
 pub record Task : Type 0 where
   pub lun : ℕ
   pub tag : ℕ
-  -- E: how many bytes the host sends or has room for
+  -- E: how many bytes the host sends or has room for; of a WRITE the whole blocks of them if it sends fewer than it has
   pub expected : ℕ
-  -- its CDB; None if it was refused
+  -- its CDB, of a WRITE with the blocks that are taken; None if it was refused
   pub command : Option Cdb
   -- how many bytes it transfers if the host expects enough; 0 if it was refused
   pub length : ℕ
@@ -184,8 +185,8 @@ most_tasks = 32
 abbrev pub most_short_exchanges : ℕ
 most_short_exchanges = 32
 
--- an exchange of one reply: due at once, or once so many accepted commands are durable; if a lock ends it before,
--- the reply is another one
+-- an exchange of one reply: due at once, or once so many accepted commands are durable; if a lock ends it before, the
+-- reply is another one. Its `tag` is the number by which it is found (`number_of`)
 pub record Short : Type 0 where
   pub tag : ℕ
   pub awaits : Option ℕ
@@ -215,15 +216,25 @@ all_empty region = empty_registers
 abbrev pub at_region : (ℕ → Registers) → ℕ → Registers → ℕ → Registers
 at_region f region registers other = if other == region then registers else f other
 
--- ## Tags
+-- ## Tags and numbers
+
+-- the number by which an exchange is found. Task management has tags of its own (SAM, task management functions), so
+-- that a tag alone may name two exchanges: the number of one that is of task management is 256 above its tag
+abbrev pub number_of : (manages : Bool) → (tag : ℕ) → ℕ
+number_of true tag = 256 + tag
+number_of false tag = tag
+
+-- a number that no exchange has, of a message that belongs to none
+abbrev pub no_number : ℕ
+no_number = 512
 
 -- the task is the one that a message with this tag is about; the LUN is not compared
 abbrev pub is_task_of : ℕ → Task → Bool
 is_task_of tag task = task.tag == tag
 
--- the short exchange is the one of this tag
+-- the short exchange is the one of this number
 abbrev pub is_short_of : ℕ → Short → Bool
-is_short_of tag short = short.tag == tag
+is_short_of number short = short.tag == number
 
 -- the open task with this tag; there is at most one, since a tag in use is refused
 abbrev pub task_of : ℕ → List Task → Option Task
@@ -237,9 +248,9 @@ with_deed tag deed task = if is_task_of tag task then record task { deed = deed 
 abbrev pub without_task : ℕ → List Task → List Task
 without_task tag tasks = filter (λ task. not (is_task_of tag task)) tasks
 
--- the short exchanges but the one with this tag, in their order
+-- the short exchanges but the one with this number, in their order
 abbrev pub without_short : ℕ → List Short → List Short
-without_short tag shorts = filter (λ short. not (is_short_of tag short)) shorts
+without_short number shorts = filter (λ short. not (is_short_of number short)) shorts
 
 -- ## Transfers
 
@@ -251,10 +262,18 @@ bytes_sent task = carried task.expected task.length
 abbrev pub count_at : ℕ → ℕ → ℕ
 count_at total offset = min 4096 (total - offset)
 
--- READY TO TRANSFER (JESD220, 10.7.5): the host is asked for the bytes after those that were gathered
-abbrev pub ready_message : Task → List ℕ → Message
-ready_message task gathered =
-    message.ReadyToTransfer task.lun task.tag (length gathered) (count_at task.length (length gathered))
+-- how many bytes of data a task gathers for this purpose, of a command of so many: the blocks of a WRITE that are taken,
+-- else all
+abbrev pub to_gather : Purpose → ℕ → ℕ
+to_gather (ForWrite unit address blocks forced) total = 4096 * blocks
+to_gather (ForUnmap unit) total = total
+to_gather (ForFrames region) total = total
+
+-- READY TO TRANSFER (JESD220, 10.7.5): the host is asked for the bytes after those that were gathered for this purpose
+abbrev pub ready_message : Task → Purpose → List ℕ → Message
+ready_message task purpose gathered =
+    message.ReadyToTransfer task.lun task.tag (length gathered)
+    (count_at (to_gather purpose task.length) (length gathered))
 
 -- DATA IN (JESD220, 10.7.4) with these bytes, which are at this offset in the command's data
 abbrev pub data_message : Task → ℕ → List ℕ → Message
@@ -268,7 +287,8 @@ block_message task sent body = data_message task (4096 * sent) (take (count_at (
 -- handed out and not met yet
 abbrev pub is_asked_in : Task → ℕ → ℕ → ℕ → Deed → Bool
 is_asked_in task lun offset count (Gathering purpose gathered asked) =
-    asked && (task.lun == lun) && (offset == length gathered) && (count == count_at task.length (length gathered))
+    asked && (task.lun == lun) && (offset == length gathered)
+    && (count == count_at (to_gather purpose task.length) (length gathered))
 is_asked_in task lun offset count (Sending blocks sent) = false
 is_asked_in task lun offset count (SendingBytes bytes) = false
 is_asked_in task lun offset count (Awaiting commands) = false

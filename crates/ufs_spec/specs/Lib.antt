@@ -18,6 +18,7 @@ pub mod Identities
 pub mod Kept
 pub mod Keys
 pub mod Ledger
+pub mod LinkEvents
 pub mod Lives
 pub mod Machine
 pub mod Management

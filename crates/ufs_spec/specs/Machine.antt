@@ -3,7 +3,7 @@
 -- reads (JESD220, 10.7 and 10.8; this profile).
 use Rattle.std.specs.Prelude.{Bool, Err, List, None, Ok, Option, Result, Some, [], false, filter, find, fold}
 use Rattle.std.specs.Prelude.{bit_and, if◌then◌else◌, length, map, nat_le, nat_lt, slice_get, slice_set, true, ℕ, ◌&&◌, ◌+◌}
-use Rattle.std.specs.Prelude.{not, ◌==◌, ◌||◌, ◌∷◌, ◌≡◌, ◌⊎◌}
+use Rattle.std.specs.Prelude.{not, ◌==◌, ◌||◌, ◌∷◌, ◌≡◌, ◌≢◌, ◌⊎◌}
 use Rattle.std.specs.List.{list_any}
 use Rattle.ufs_spec.specs.CdbFields.{spelled_cdb}
 use Rattle.ufs_spec.specs.Cells.{Array}
@@ -11,12 +11,13 @@ use Rattle.ufs_spec.specs.Dies.{blank_page}
 use Rattle.ufs_spec.specs.Disk.{Erasing, Flight, Programming, Reading, Spot, at_place, page_of, same_spot, spot_of}
 use Rattle.ufs_spec.specs.Exchanges.{Answering, Awaiting, Deed, Gathering, ReadBlock, ReadingArea, Registers, Sending}
 use Rattle.ufs_spec.specs.Exchanges.{SendingBytes, Short, Task, filled, is_asked_of, is_good, is_short_of, is_task_of}
-use Rattle.ufs_spec.specs.Exchanges.{is_unfilled, most_short_exchanges, most_tasks, response, short_reply, task_of}
-use Rattle.ufs_spec.specs.Exchanges.{without_short, without_task, write_error}
+use Rattle.ufs_spec.specs.Exchanges.{is_unfilled, most_short_exchanges, most_tasks, no_number, number_of, response}
+use Rattle.ufs_spec.specs.Exchanges.{short_reply, task_of, without_short, without_task, write_error}
 use Rattle.ufs_spec.specs.declared.exchanges.ReadState.{ReadState}
 use Rattle.ufs_spec.specs.declared.exchanges.ReadState.TheVariants.{NotRead, Unread, WasRead}
 use Rattle.ufs_spec.specs.declared.exchanges.Status.TheVariants.{Good}
-use Rattle.ufs_spec.specs.Messages.{Spells, host_fault_of}
+use Rattle.ufs_spec.specs.Codes.{link_event_code}
+use Rattle.ufs_spec.specs.Messages.{Spells, code_of, host_fault_of}
 use Rattle.ufs_spec.specs.Moves.{Acknowledge, EndJob, Ending, GiveJob, LetGo, LetGoAll, Move, ReadRight, ReadWrong}
 use Rattle.ufs_spec.specs.Moves.{TakeStep, WantPage, WentWell, WentWrong, ending_fits}
 use Rattle.ufs_spec.specs.QueryAnswers.{query_heard}
@@ -39,6 +40,7 @@ pub use Rattle.ufs_spec.specs.Begins.{refused_or_begun, sending, sending_bytes, 
 pub use Rattle.ufs_spec.specs.FrameRequests.{filled_registers}
 pub use Rattle.ufs_spec.specs.DataOuts.{blocks_in, complete, data_for, data_heard, gathered_more, write_complete}
 pub use Rattle.ufs_spec.specs.DataOuts.{write_deed}
+pub use Rattle.ufs_spec.specs.LinkEvents.{link_reset, volatile_reset}
 pub use Rattle.ufs_spec.specs.Management.{abort_moves, aborts, carried_out, is_aborted, is_named, managed}
 pub use Rattle.ufs_spec.specs.Management.{registers_after, service, service_found, without_tasks}
 use Rattle.ufs_spec.specs.declared.layer.Reader.{Reader}
@@ -46,10 +48,12 @@ use Rattle.ufs_spec.specs.declared.layer.Reader.TheVariants.{ForNobody, ForRest,
 
 -- ## Calls and answers
 
--- what a host's bytes are: a message, with the command that its CDB spells if it spells one, or bytes with a fault
+-- what a host's bytes are: a message, with the command that its CDB spells if it spells one; or bytes with a fault
 pub data Heard : Type 0 where
   Spelled : (spelled : Message) → (taken : Option Cdb) → Heard
   Faulty : (fault : HostFault) → Heard
+  -- with the transaction code of LINK EVENT, and no LINK EVENT. Its fault depends on the profile
+  NoEvent : Heard
 
 -- the sixteen bytes of a COMMAND's CDB; no other message has one
 abbrev pub cdb_of : Message → Option (List ℕ)
@@ -62,6 +66,10 @@ abbrev pub IsCdbIn : Option (List ℕ) → Option Cdb → Type 0
 IsCdbIn None c = c ≡ None
 IsCdbIn (Some bytes) c = c ≡ spelled_cdb bytes
 
+-- bytes that spell no message, though none of the faults 1 to 5 is found in them
+abbrev pub SpellNone : List ℕ → Type 0
+SpellNone bytes = (host_fault_of bytes ≡ None) × ((m : Message) → Spells m bytes → ⊥)
+
 -- what these bytes are heard as; the lowest fault is told. Faults 1 to 5 are found in bytes alone (`host_fault_of`).
 -- The sixth, a reserved byte or a field outside its set, is told if none of them applies and the bytes still spell no
 -- message. Faults 7 to 9 depend on what is open (`message_fault`)
@@ -69,7 +77,8 @@ abbrev pub IsHeard : List ℕ → Heard → Type 0
 IsHeard bytes (Spelled m c) = Spells m bytes × (host_fault_of bytes ≡ None) × IsCdbIn (cdb_of m) c
 IsHeard bytes (Faulty fault) =
     (host_fault_of bytes ≡ Some fault)
-    ⊎ ((host_fault_of bytes ≡ None) × ((m : Message) → Spells m bytes → ⊥) × (fault ≡ Reserved))
+    ⊎ (SpellNone bytes × (code_of bytes ≢ link_event_code) × (fault ≡ Reserved))
+IsHeard bytes NoEvent = SpellNone bytes × (code_of bytes ≡ link_event_code)
 
 -- the five calls, with what went in
 pub data Call : Type 0 where
@@ -99,10 +108,16 @@ pub data Answer : Type 0 where
 
 -- ## Answers that are right
 
--- a tag is in use if a task or a short exchange has it, whatever the LUN, so that one byte names either. SAM has
--- tags apart for each unit
-abbrev pub in_use : State → ℕ → Bool
-in_use s tag = list_any (is_task_of tag) s.tasks || list_any (is_short_of tag) s.shorts
+-- a task or a short exchange has this number, whatever the LUN. SAM has tags apart for each unit
+abbrev pub is_open : State → ℕ → Bool
+is_open s number = list_any (is_task_of number) s.tasks || list_any (is_short_of number) s.shorts
+
+-- a tag is in use if an exchange has it that is of task management, or that is not, as the message with this tag is. In
+-- profile 0 there is one set of tags: it is in use if any exchange has it
+abbrev pub in_use : State → (manages : Bool) → (tag : ℕ) → Bool
+in_use s manages tag =
+    is_open s (number_of manages tag)
+    || (((numbers_of s).profile == 0) && is_open s (number_of (not manages) tag))
 
 -- whether the exchange that a message opens is a short one: every one is, but for a COMMAND that becomes a task.
 -- With 32 tasks open a COMMAND is answered TASK SET FULL, as a short exchange
@@ -112,9 +127,9 @@ opens_short s m = true
 
 -- why no exchange may be opened with this tag: fault 7 if the tag is in use; then fault 9 if it would be a short
 -- exchange and as many of those are open as may be (this profile)
-abbrev pub opening_fault : State → ℕ → Bool → Option HostFault
-opening_fault s tag short =
-    if in_use s tag then Some TagInUse
+abbrev pub opening_fault : State → (manages : Bool) → ℕ → Bool → Option HostFault
+opening_fault s manages tag short =
+    if in_use s manages tag then Some TagInUse
     else if short && nat_le most_short_exchanges (length s.shorts) then Some Backlog
     else None
 
@@ -127,18 +142,27 @@ abbrev pub asked_fault : Bool → Option HostFault
 asked_fault true = None
 asked_fault false = Some NotAskedFor
 
+-- fault 5 of a LINK EVENT on a device of profile 0, which knows no such message
+abbrev pub event_fault : Numbers → Option HostFault
+event_fault n = if n.profile == 0 then Some Code else None
+
+-- the fault of bytes that have its code and are none: in profile 0 the same, else a reserved byte is set (6)
+abbrev pub no_event_fault : Numbers → HostFault
+no_event_fault n = if n.profile == 0 then Code else Reserved
+
 -- why a message is not taken. A COMMAND of profile 0 has no task attribute (6). Data must be those that a READY TO
 -- TRANSFER asked for (8); what opens an exchange needs a free tag (7) and room (9); no host sends what a device sends
 -- (5; bytes of such a kind have it before)
 abbrev pub message_fault : State → Message → Option HostFault
 message_fault s (message.DataOut lun tag offset «data») =
     asked_fault (is_asked_of (task_of tag s.tasks) lun offset (length «data».items))
-message_fault s (message.NopOut tag) = opening_fault s tag true
+message_fault s (message.NopOut tag) = opening_fault s false tag true
 message_fault s (message.Command flags lun tag expected bytes) =
     if has_attribute (numbers_of s) flags then Some Reserved
-    else opening_fault s tag (opens_short s (message.Command flags lun tag expected bytes))
-message_fault s (message.TaskRequest lun tag function meant) = opening_fault s tag true
-message_fault s (message.QueryRequest tag function asked size value «data») = opening_fault s tag true
+    else opening_fault s false tag (opens_short s (message.Command flags lun tag expected bytes))
+message_fault s (message.TaskRequest lun tag function meant) = opening_fault s true tag true
+message_fault s (message.QueryRequest tag function asked size value «data») = opening_fault s false tag true
+message_fault s (message.LinkEvent kind) = event_fault (numbers_of s)
 message_fault s (message.NopIn tag) = Some Code
 message_fault s (message.Response flags lun tag response status residual sense) = Some Code
 message_fault s (message.DataIn lun tag offset «data») = Some Code
@@ -156,6 +180,7 @@ result_of (Some fault) = Err fault
 abbrev pub MayHear : State → Heard → Result Unit HostFault → Type 0
 MayHear s (Spelled m c) result = result ≡ result_of (message_fault s m)
 MayHear s (Faulty fault) result = result ≡ Err fault
+MayHear s NoEvent result = result ≡ Err (no_event_fault (numbers_of s))
 
 -- any reply that is due may go out; that there is none may be answered only if none is due, so that
 -- no due reply is withheld
@@ -182,7 +207,7 @@ Allowed s Reply answer = ⊥
 
 -- what a message that is taken makes of the state (JESD220, 10.7). A COMMAND opens a task, a DATA OUT
 -- brings data to one; NOP OUT, a task management request and a query open a short exchange with their
--- answer. A device's own kinds are never taken
+-- answer. A LINK EVENT ends all of them. A device's own kinds are never taken
 abbrev pub heard : State → Message → Option Cdb → State
 heard s (message.NopOut tag) c = with_short s (short_reply tag (message.NopIn tag))
 heard s (message.Command flags lun tag expected bytes) c =
@@ -190,9 +215,10 @@ heard s (message.Command flags lun tag expected bytes) c =
 heard s (message.DataOut lun tag offset «data») c = data_heard s (task_of tag s.tasks) «data».items
 heard s (message.TaskRequest lun tag function meant) c =
     with_short (managed s lun function meant)
-    (short_reply tag (message.TaskResponse lun tag (service s lun function meant)))
+    (short_reply (number_of true tag) (message.TaskResponse lun tag (service s lun function meant)))
 heard s (message.QueryRequest tag function asked size value «data») c =
     query_heard s tag (record { function = function; asked = asked; length = size; value = value })
+heard s (message.LinkEvent kind) c = link_reset s kind
 heard s (message.NopIn tag) c = s
 heard s (message.Response flags lun tag response status residual sense) c = s
 heard s (message.DataIn lun tag offset «data») c = s
@@ -204,6 +230,7 @@ heard s (message.QueryResponse tag function response asked size value «data») 
 abbrev pub hears : State → Heard → State
 hears s (Spelled m c) = heard s m c
 hears s (Faulty fault) = s
+hears s NoEvent = s
 
 -- after one more block of a READ was handed out: the next one is to be sent, or after the last one GOOD is due
 abbrev pub deed_after_sent : Task → List ReadBlock → ℕ → Deed
@@ -262,26 +289,28 @@ short_replied s None = s
 short_replied s (Some short) = with_moves (record s { shorts = without_short short.tag s.shorts })
     (acknowledges short.awaits)
 
--- the task tag of a message. `tag_in` of Pages is another one: the tag of a flash page
+-- the number of the exchange to which a message belongs; a LINK EVENT belongs to none. `tag_in` of Pages is another one:
+-- the tag of a flash page
 abbrev pub tag_in : Message → ℕ
 tag_in (message.NopOut tag) = tag
 tag_in (message.Command flags lun tag expected bytes) = tag
 tag_in (message.DataOut lun tag offset «data») = tag
-tag_in (message.TaskRequest lun tag function meant) = tag
+tag_in (message.TaskRequest lun tag function meant) = number_of true tag
 tag_in (message.QueryRequest tag function asked size value «data») = tag
+tag_in (message.LinkEvent kind) = no_number
 tag_in (message.NopIn tag) = tag
 tag_in (message.Response flags lun tag response status residual sense) = tag
 tag_in (message.DataIn lun tag offset «data») = tag
-tag_in (message.TaskResponse lun tag service) = tag
+tag_in (message.TaskResponse lun tag service) = number_of true tag
 tag_in (message.ReadyToTransfer lun tag offset count) = tag
 tag_in (message.QueryResponse tag function response asked size value «data») = tag
 
--- the reply was that of the task with this tag, or of the short exchange if no task has it
+-- the reply was that of the task with this number, or of the short exchange if no task has it
 abbrev pub replied_by : State → ℕ → Option Task → State
-replied_by s tag (Some task) = task_replied s task
-replied_by s tag None = short_replied s (find (is_short_of tag) s.shorts)
+replied_by s number (Some task) = task_replied s task
+replied_by s number None = short_replied s (find (is_short_of number) s.shorts)
 
--- the task or the short exchange with the message's tag has handed out this message
+-- the task or the short exchange with the message's number has handed out this message
 abbrev pub replied : State → Message → State
 replied s m = replied_by s (tag_in m) (task_of (tag_in m) s.tasks)
 

@@ -5,14 +5,14 @@ use Rattle.std.specs.Prelude.{IsTrue, List, [], ◌∷◌, ◌++◌, length, rep
 use Rattle.std.specs.Prelude.{if◌then◌else◌, Option, Some, None}
 use Rattle.byteorder.specs.Endian.{big_bytes}
 use Rattle.ufs_bytes.specs.Fields.{field_at}
-use Rattle.ufs_spec.specs.Codes.{command_code, data_in_code, data_out_code, nop_in_code, nop_out_code}
+use Rattle.ufs_spec.specs.Codes.{command_code, data_in_code, data_out_code, link_event_code, nop_in_code, nop_out_code}
 use Rattle.ufs_spec.specs.Codes.{query_request_code, query_response_code, ready_to_transfer_code, response_code}
 use Rattle.ufs_spec.specs.Codes.{task_request_code, task_response_code}
 use Rattle.ufs_spec.specs.declared.messages.Asked.{Asked}
 use Rattle.ufs_spec.specs.declared.messages.Message.{Message}
 use Rattle.ufs_spec.specs.declared.messages.Message.TheVariants.{NopOut, Command, DataOut, TaskRequest, QueryRequest}
 use Rattle.ufs_spec.specs.declared.messages.Message.TheVariants.{NopIn, Response, DataIn, TaskResponse, ReadyToTransfer}
-use Rattle.ufs_spec.specs.declared.messages.Message.TheVariants.{QueryResponse}
+use Rattle.ufs_spec.specs.declared.messages.Message.TheVariants.{LinkEvent, QueryResponse}
 use Rattle.ufs_spec.specs.declared.faults.HostFault.{HostFault}
 use Rattle.ufs_spec.specs.declared.faults.HostFault.TheVariants.{Short, Length, Digest, Ehs, Code}
 
@@ -61,7 +61,8 @@ segment_of (QueryResponse tag function response asked size value «data») = «d
 segment_of message = []
 
 -- the header of each kind by its code (JESD220). From a host: NOP OUT 00h (10.7.11), COMMAND 01h (10.7.1), DATA OUT
--- 02h (10.7.3), TASK MANAGEMENT REQUEST 04h (10.7.6), QUERY REQUEST 16h (10.7.8). From a device: NOP IN 20h
+-- 02h (10.7.3), TASK MANAGEMENT REQUEST 04h (10.7.6), QUERY REQUEST 16h (10.7.8). From what stands between host and
+-- device: LINK EVENT 1Fh, with its kind in byte 5 and nothing else (this profile). From a device: NOP IN 20h
 -- (10.7.12), RESPONSE 21h (10.7.2), DATA IN 22h (10.7.4), TASK MANAGEMENT RESPONSE 24h (10.7.7), READY TO TRANSFER
 -- 31h (10.7.5), QUERY RESPONSE 36h (10.7.9)
 abbrev pub header_of : Message → List ℕ
@@ -75,6 +76,7 @@ header_of (TaskRequest lun tag function meant) =
     (zeros 3 ++ (lun ∷ []) ++ zeros 3 ++ (meant ∷ []) ++ zeros 12)
 header_of (QueryRequest tag function asked size value «data») =
     header query_request_code 0 0 tag function 0 0 (length «data».items) (query_fields asked size value)
+header_of (LinkEvent kind) = header link_event_code 0 0 0 kind 0 0 0 (zeros 20)
 header_of (NopIn tag) = header nop_in_code 0 0 tag 0 0 0 0 (zeros 20)
 header_of (Response flags lun tag response status residual sense) =
     header response_code flags lun tag 0 response status (length (sense_of sense))
@@ -142,6 +144,10 @@ abbrev pub IsSense : ℕ → Option (List ℕ) → Type 0
 IsSense status None = status ≢ 0x02
 IsSense status (Some sense) = (status ≡ 0x02) × (length sense ≡ 20) × AreBytes sense
 
+-- the kinds of LINK EVENT (this profile): 01h, a hardware reset; 02h, a reset of the link or of the host's controller
+abbrev pub IsEventKind : ℕ → Type 0
+IsEventKind kind = IsAmong (0x01 ∷ 0x02 ∷ []) kind
+
 -- the fields of a message are in their sets and fit their widths (JESD220, 10.7). Data go with a QUERY REQUEST of
 -- opcode 2 (write descriptor) alone, and with a QUERY RESPONSE of opcode 1 (read descriptor) and response 0 alone
 abbrev pub IsMessage : Message → Type 0
@@ -154,6 +160,7 @@ IsMessage (TaskRequest lun tag function meant) = IsByte lun × IsByte tag × IsB
 IsMessage (QueryRequest tag function asked size value «data») =
     IsByte tag × IsQueryFunction function × IsQuery asked size value
     × (length «data».items ≤ 4096) × AreBytes «data».items × (asked.opcode ≢ 0x02 → «data».items ≡ [])
+IsMessage (LinkEvent kind) = IsEventKind kind
 IsMessage (NopIn tag) = IsByte tag
 IsMessage (Response flags lun tag response status residual sense) =
     AreFlags flags × IsByte lun × IsByte tag × IsAmong (0x00 ∷ 0x01 ∷ []) response
@@ -219,15 +226,19 @@ has_digest bytes = not (bit_and (slice_index bytes 0) 0xC0 == 0)
 abbrev pub has_extra_header : List ℕ → Bool
 has_extra_header bytes = not (slice_index bytes 8 == 0)
 
--- the transaction codes of all eleven kinds (JESD220, 10.5)
+-- the transaction codes of all twelve kinds (JESD220, 10.5)
 abbrev pub known_codes : List ℕ
 known_codes =
-    nop_out_code ∷ command_code ∷ data_out_code ∷ task_request_code ∷ query_request_code ∷ nop_in_code
+    nop_out_code ∷ command_code ∷ data_out_code ∷ task_request_code ∷ query_request_code ∷ link_event_code ∷ nop_in_code
     ∷ response_code ∷ data_in_code ∷ task_response_code ∷ ready_to_transfer_code ∷ query_response_code ∷ []
 
 -- the transaction codes of the five kinds that a host sends
+abbrev pub request_codes : List ℕ
+request_codes = nop_out_code ∷ command_code ∷ data_out_code ∷ task_request_code ∷ query_request_code ∷ []
+
+-- the same, and LINK EVENT, which comes the same way
 abbrev pub host_codes : List ℕ
-host_codes = nop_out_code ∷ command_code ∷ data_out_code ∷ task_request_code ∷ query_request_code ∷ []
+host_codes = nop_out_code ∷ command_code ∷ data_out_code ∷ task_request_code ∷ query_request_code ∷ link_event_code ∷ []
 
 -- fault 5: a transaction code that is none of those that are taken
 abbrev pub has_other_code : List ℕ → List ℕ → Bool
@@ -248,6 +259,7 @@ fault_among codes bytes =
 abbrev pub read_fault_of : List ℕ → Option HostFault
 read_fault_of bytes = fault_among known_codes bytes
 
--- what is wrong with bytes that come from a host: also a kind that only a device sends has fault 5
+-- what is wrong with bytes that come from a host: also a kind that only a device sends has fault 5. A device of profile 0
+-- tells fault 5 of LINK EVENT too (Machine)
 abbrev pub host_fault_of : List ℕ → Option HostFault
 host_fault_of bytes = fault_among host_codes bytes

@@ -7,6 +7,7 @@ use Rattle.std.specs.List.{list_any}
 use Rattle.ufs_spec.specs.CdbFields.{has_only, page_control, row_of, usage_of}
 use Rattle.ufs_spec.specs.Cdbs.{Direction, NoData, ToDevice, ToHost, address_of, blocks_meant, blocks_of, direction_of}
 use Rattle.ufs_spec.specs.Cdbs.{length_of}
+pub use Rattle.ufs_spec.specs.Cdbs.{blocks_brought, brought}
 use Rattle.ufs_spec.specs.Cells.{Array}
 use Rattle.ufs_spec.specs.Commands.{Command}
 use Rattle.ufs_spec.specs.Configs.{command_blocks}
@@ -324,12 +325,18 @@ has_wrong_list command = false
 abbrev pub direction_flag : Request → ℕ
 direction_flag r = bit_and r.flags 0xF8
 
+-- 6: the host may send fewer bytes than the command has: than a WRITE, of which a device of profile 1 takes the whole
+-- blocks that come (`brought`)
+abbrev pub may_be_cut : Numbers → Cdb → Bool
+may_be_cut n (cdb.Write address blocks forced) = nat_lt 0 n.profile
+may_be_cut n command = false
+
 -- 6 (5/24/00): there are data, and the flag of their direction is not set (20h to the device, 40h to the host); or the
--- host sends fewer bytes than the command has. A READ or WRITE of no blocks needs no flag
-abbrev pub lacks_data : Request → Direction → ℕ → Bool
-lacks_data r NoData n = false
-lacks_data r ToDevice n = nat_lt 0 n && (not (direction_flag r == 0x20) || nat_lt r.expected n)
-lacks_data r ToHost n = nat_lt 0 n && not (direction_flag r == 0x40)
+-- host sends fewer bytes than the command has, and may not. A READ or WRITE of no blocks needs no flag
+abbrev pub lacks_data : Request → Direction → (cut : Bool) → ℕ → Bool
+lacks_data r NoData cut n = false
+lacks_data r ToDevice cut n = nat_lt 0 n && (not (direction_flag r == 0x20) || (not cut && nat_lt r.expected n))
+lacks_data r ToHost cut n = nat_lt 0 n && not (direction_flag r == 0x40)
 
 -- 7 (5/21/00): address plus blocks is above the unit's count
 abbrev pub is_past : Cdb → Option UnitSpec → Bool
@@ -468,14 +475,16 @@ lines_for s r command =
     ∷ line (wants_saved command) saving_unsupported
     ∷ line (is_too_long (numbers_of s) command) invalid_field
     ∷ line (has_wrong_list command) list_length_error
-    ∷ line (lacks_data r (direction_of command) (length_in s r command)) invalid_field
+    ∷ line
+    (lacks_data r (direction_of command) (may_be_cut (numbers_of s) command) (length_in s r command))
+    invalid_field
     ∷ line (is_past command (unit_numbers_of s r)) out_of_range
     ∷ line (is_unready s command) not_ready
     ∷ line (is_refused_write s (unit_numbers_of s r) command) write_protected
     ∷ line (fails_test s command) self_test_failed
     ∷ line (lacks_response s command) sequence_error
     ∷ line (has_other_response s command) invalid_field
-    ∷ line (is_crowded s command) Busy
+    ∷ line (is_crowded s (brought r.expected command)) Busy
     ∷ []
 
 -- line 3 (5/24/00) for a CDB that spells none: one of its fields, or a byte that must be zero, is wrong. For any

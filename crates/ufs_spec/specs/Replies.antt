@@ -76,7 +76,8 @@ is_area_read s task pages =
 -- the next DATA IN of a READ; the one DATA IN of other data; GOOD, once the commands that it awaits are durable, or each
 -- page of the RPMB area that it reads was read; any other answer at once
 abbrev pub deed_reply : State → Task → Deed → Option Message
-deed_reply s task (Gathering purpose gathered asked) = if asked then None else Some (ready_message task gathered)
+deed_reply s task (Gathering purpose gathered asked) =
+    if asked then None else Some (ready_message task purpose gathered)
 deed_reply s task (Sending blocks sent) = next_block_reply s task sent (slice_get blocks sent)
 deed_reply s task (SendingBytes bytes) = Some (data_message task 0 (take (bytes_sent task) bytes))
 deed_reply s task (Awaiting commands) =

@@ -1,6 +1,6 @@
-//! The transaction codes of the eleven kinds of messages, bits 5 to 0 of byte 0 (JESD220, 10.5), the
-//! codes of task management (JESD220, 10.7.6 and 10.7.7), and how many exchanges may be open at once
-//! (this profile).
+//! The transaction codes of the twelve kinds of messages, bits 5 to 0 of byte 0 (JESD220, 10.5; LINK
+//! EVENT is this profile's), the codes of task management (JESD220, 10.7.6 and 10.7.7), and how many
+//! exchanges may be open at once (this profile).
 
 /// A host asks whether the device answers at all.
 pub const NOP_OUT: u8 = 0x00;
@@ -16,6 +16,9 @@ pub const TASK_REQUEST: u8 = 0x04;
 
 /// A host asks for a descriptor, an attribute or a flag.
 pub const QUERY_REQUEST: u8 = 0x16;
+
+/// What stands between a host and the device tells it of a reset. A host itself sends none.
+pub const LINK_EVENT: u8 = 0x1F;
 
 /// A device answers a NOP OUT.
 pub const NOP_IN: u8 = 0x20;
@@ -52,6 +55,12 @@ pub const QUERY_TASK: u8 = 0x80;
 
 /// A task management function: is any task of the LUN open?
 pub const QUERY_TASK_SET: u8 = 0x81;
+
+/// A kind of LINK EVENT: a hardware reset.
+pub const HARDWARE_RESET: u8 = 0x01;
+
+/// A kind of LINK EVENT: a reset of the link or of the host's controller.
+pub const LINK_RESET: u8 = 0x02;
 
 /// A service response: the function was carried out, or the task that was asked for is not there.
 pub const FUNCTION_COMPLETE: u8 = 0x00;

@@ -42,6 +42,11 @@ pub enum Message {
         value: u32,
         data: Data,
     },
+    /// LINK EVENT, of this profile: `kind` is 1 for a hardware reset, 2 for a reset of the link or of the
+    /// host's controller.
+    LinkEvent {
+        kind: u8,
+    },
     /// NOP IN, 10.7.12.
     NopIn {
         tag: u8,
