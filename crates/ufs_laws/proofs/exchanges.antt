@@ -5,8 +5,10 @@ pub mod DataInOrder
 pub mod DeedLaws
 pub mod HeardOnce
 pub mod Initializing
+pub mod LinkEvents
 pub mod ListedUnits
 pub mod ManagedTasks
+pub mod OwnTags
 pub mod ReadSendsBlocks
 pub mod ReplySizes
 pub mod RequestsSettled

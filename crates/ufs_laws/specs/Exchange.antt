@@ -4,8 +4,8 @@ use Rattle.std.specs.Prelude.{None}
 use Rattle.std.specs.List.{AllByRecursion, list_any}
 use Rattle.ufs_spec.specs.Exchanges.{Answering, Awaiting, Deed, Gathering, ReadingArea, Sending, SendingBytes}
 use Rattle.ufs_spec.specs.declared.exchanges.Purpose.{Purpose}
-use Rattle.ufs_spec.specs.Exchanges.{Task, count_at, invalid_operation}
-use Rattle.ufs_spec.specs.Machine.{Call, Done, Faulty, Heard, Host, IsHeard, Reply, Spelled, Take, Turn}
+use Rattle.ufs_spec.specs.Exchanges.{Task, count_at, invalid_operation, to_gather}
+use Rattle.ufs_spec.specs.Machine.{Call, Done, Faulty, Heard, Host, IsHeard, NoEvent, Reply, Spelled, Take, Turn}
 use Rattle.ufs_spec.specs.Refusals.{Lun, Request, State, takes, tells_of_none}
 use Rattle.ufs_spec.specs.Translation.{Pin}
 use Rattle.ufs_spec.specs.declared.configs.Numbers.{Numbers}
@@ -66,7 +66,7 @@ pub record WasAsked (task : Task) (lun offset count : ℕ) : Type 0 where
   pub deed : task.deed ≡ Gathering purpose gathered true
   pub lun_is : lun ≡ task.lun
   pub offset_is : offset ≡ length gathered
-  pub count_is : count ≡ min 4096 (task.length - length gathered)
+  pub count_is : count ≡ min 4096 (to_gather purpose task.length - length gathered)
 
 -- a READ sends blocks of these contents, whichever of them were read, or has sent them and answers
 abbrev pub SendsThese : List (List ℕ) → Deed → Type 0
@@ -101,6 +101,7 @@ IsAskedIn Asked m c = Unit {0}
 abbrev pub IsAskedBy : (Request → Type 0) → Heard → Type 0
 IsAskedBy Asked (Spelled m c) = IsAskedIn Asked m c
 IsAskedBy Asked (Faulty fault) = Unit {0}
+IsAskedBy Asked NoEvent = Unit {0}
 
 -- what is asked of the request, if the call is a COMMAND of the host; no other call is asked for anything
 abbrev pub Asks : (Request → Type 0) → Call → Type 0

@@ -6,6 +6,7 @@ pub mod FrameLaws
 pub mod FreeBlocks
 pub mod GapRows
 pub mod Requests
+pub mod LinkEvents
 pub mod Replies
 pub mod RpmbWrites
 pub mod Runs

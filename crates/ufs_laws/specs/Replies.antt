@@ -1,9 +1,9 @@
 -- What a task and a short exchange need so that each of their replies is a message of the grammar.
 use Rattle.std.specs.List.{All}
-use Rattle.std.specs.Prelude.{◌≡◌, ◌<◌, ◌+◌, ◌*◌, ◌^◌, ℕ, length, slice_get, take, Some}
+use Rattle.std.specs.Prelude.{◌≡◌, ◌≤◌, ◌<◌, ◌+◌, ◌*◌, ◌^◌, ℕ, length, slice_get, take, Some}
 use Rattle.ufs_spec.specs.Exchanges.{Answering, Awaiting, Deed, Gathering, ReadBlock}
 use Rattle.ufs_spec.specs.declared.exchanges.Status.TheVariants.{Busy, CheckCondition, Good, TaskSetFull}
-use Rattle.ufs_spec.specs.Exchanges.{ReadingArea, Sending, SendingBytes, Short, Task, bytes_sent}
+use Rattle.ufs_spec.specs.Exchanges.{ReadingArea, Sending, SendingBytes, Short, Task, bytes_sent, to_gather}
 use Rattle.ufs_spec.specs.declared.exchanges.Status.{Status}
 use Rattle.ufs_spec.specs.Keys.{IsBlock}
 use Rattle.ufs_spec.specs.Messages.{IsByte, IsMessage, IsTransferred}
@@ -16,10 +16,11 @@ IsStatus Good = Unit {0}
 IsStatus Busy = Unit {0}
 IsStatus TaskSetFull = Unit {0}
 
--- what it does, of a command of so many bytes of which so many are sent: it asks for bytes that are missing; it sends
+-- what it does, of a command of so many bytes of which so many are sent: it asks for bytes of it that are missing; it sends
 -- no block past the last byte that is sent, and each is 4096 bytes
 abbrev pub DeedSpeaks : ℕ → ℕ → Deed → Type 0
-DeedSpeaks total sent_bytes (Gathering purpose gathered asked) = length gathered < total
+DeedSpeaks total sent_bytes (Gathering purpose gathered asked) =
+    (length gathered < to_gather purpose total) × (to_gather purpose total ≤ total)
 DeedSpeaks total sent_bytes (Sending blocks sent) =
     (sent < length blocks) × (4096 * length blocks < sent_bytes + 4096)
     × ((k : ℕ) (block : ReadBlock) → slice_get blocks k ≡ Some block → IsBlock block.body)

@@ -24,9 +24,15 @@ pub record HasTaskOf (s : State) (lun tag : ℕ) : Type 0 where
   pub lun_is : task.lun ≡ lun
   pub tag_is : task.tag ≡ tag
 
--- the call is no logical unit reset
+-- the call is no LINK EVENT
+abbrev pub IsNoLinkEvent : Call → Type 0
+IsNoLinkEvent (Host (Spelled (message.LinkEvent kind) c)) = ⊥
+IsNoLinkEvent call = Unit {0}
+
+-- the call is no reset, of a logical unit or of the link
 abbrev pub IsNoReset : Call → Type 0
 IsNoReset (Host (Spelled (message.TaskRequest lun tag function meant) c)) = function ≢ 0x08
+IsNoReset (Host (Spelled (message.LinkEvent kind) c)) = ⊥
 IsNoReset call = Unit {0}
 
 -- the functions that there are: four abort tasks, and two ask for them

@@ -48,10 +48,10 @@ pub fn attentions_and_attributes_are_told_first()
         bit_and flags 0x07 ≢ 0 → message_fault s (message.Command flags lun tag expected bytes) ≡ Some Reserved }
     ensures plain { (s : State) (flags lun tag expected : ℕ) (bytes : List ℕ) → bit_and flags 0x07 ≡ 0 →
         message_fault s (message.Command flags lun tag expected bytes)
-        ≡ opening_fault s tag (opens_short s (message.Command flags lun tag expected bytes)) }
+        ≡ opening_fault s false tag (opens_short s (message.Command flags lun tag expected bytes)) }
     ensures profile_1 { (s : State) (flags lun tag expected : ℕ) (bytes : List ℕ) → 0 < (numbers_of s).profile →
         message_fault s (message.Command flags lun tag expected bytes)
-        ≡ opening_fault s tag (opens_short s (message.Command flags lun tag expected bytes)) }
+        ≡ opening_fault s false tag (opens_short s (message.Command flags lun tag expected bytes)) }
 {}
 
 /// INQUIRY and REQUEST SENSE are answered by a device of profile 1 also where there is no unit: INQUIRY tells device type

@@ -15,8 +15,8 @@ ghost use Rattle.ufs_spec.specs.Cells.{Array, Cell, Cells, IsCell, Nothing, Show
 ghost use Rattle.ufs_spec.specs.Dies.{blank_page};
 ghost use Rattle.ufs_spec.specs.Disk.{CellCrash, Crash, Erasing, Flight, Programming, Reading, Spot, Touches, at_place, job_of, page_of, same_spot, spot_of, at_die};
 ghost use Rattle.ufs_spec.specs.Lives.{IsCall, IsOpened, Leads, Life};
-ghost use Rattle.ufs_spec.specs.Machine.{Allowed, Answer, Reply, Call, Due, Faulty, Done, OfDone, Take, OfTake, Heard, OfHost, Host, IsHeard, OfReply, Spelled, Turn, OfTurn, aborts, carried_out, fills, heard, in_block, observe, service, with_short};
-ghost use Rattle.ufs_spec.specs.Exchanges.{short_reply};
+ghost use Rattle.ufs_spec.specs.Machine.{Allowed, Answer, Reply, Call, Due, Faulty, Done, NoEvent, OfDone, Take, OfTake, Heard, OfHost, Host, IsHeard, OfReply, Spelled, Turn, OfTurn, aborts, carried_out, fills, heard, in_block, observe, service, with_short};
+ghost use Rattle.ufs_spec.specs.Exchanges.{number_of, short_reply};
 ghost use Rattle.ufs_spec.specs.Messages.{IsAmong, code_of, host_codes, known_codes, read_fault_of};
 ghost use Rattle.ufs_spec.specs.Moves.{Ending};
 ghost use Rattle.ufs_spec.specs.Pages.{IsCheckRight};
@@ -187,7 +187,7 @@ pub fn refused_management_aborts_nothing()
     ensures nothing { (s : State) (lun function meant code : ℕ) → code ≢ 0x00 → carried_out s lun function meant code ≡ s }
     ensures heard { (s : State) (lun tag function meant : ℕ) (c : Option Cdb) → service s lun function meant ≢ 0x00 →
         heard s (message.TaskRequest lun tag function meant) c
-        ≡ with_short s (short_reply tag (message.TaskResponse lun tag (service s lun function meant))) }
+        ≡ with_short s (short_reply (number_of true tag) (message.TaskResponse lun tag (service s lun function meant))) }
     ensures no_unit { (s : State) (lun function meant : ℕ) → lun_of (numbers_of s) lun ≡ None →
         service s lun function meant ≡ 0x09 }
     ensures aborts { (s : State) (lun function meant : ℕ) (unit : Lun) → lun_of (numbers_of s) lun ≡ Some unit →

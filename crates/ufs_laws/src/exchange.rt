@@ -13,7 +13,7 @@ ghost use Rattle.ufs_spec.specs.declared.Row.{Row};
 ghost use Rattle.ufs_spec.specs.Cells.{Array};
 ghost use Rattle.ufs_spec.specs.Commands.{Write};
 ghost use Rattle.ufs_spec.specs.Disk.{Spot};
-ghost use Rattle.ufs_spec.specs.Exchanges.{Answering, Gathering, ReadBlock, Sending, Task, block_message, invalid_operation, read_error, response, task_of};
+ghost use Rattle.ufs_spec.specs.Exchanges.{Answering, Gathering, ReadBlock, Sending, Task, block_message, invalid_operation, read_error, response, task_of, to_gather};
 ghost use Rattle.ufs_spec.specs.declared.exchanges.ReadState.TheVariants.{NotRead, Unread};
 ghost use Rattle.ufs_spec.specs.declared.exchanges.Status.TheVariants.{Good};
 ghost use Rattle.ufs_spec.specs.declared.exchanges.Purpose.{Purpose};
@@ -22,7 +22,7 @@ ghost use Rattle.ufs_spec.specs.Keys.{below};
 ghost use Rattle.ufs_spec.specs.Lives.{IsOpened, Life};
 ghost use Rattle.ufs_spec.specs.Machine.{Allowed, Answer, Call, Heard, IsHeard, begun, blocks_expected, blocks_in, claimed_by, data_for, deed_after, deed_reply, in_use, message_fault, observe, pin_of, read_begun, read_blocks, set_deed, tag_in, without_tasks};
 ghost use Rattle.ufs_spec.specs.Plain.{block_at};
-ghost use Rattle.ufs_spec.specs.Refusals.{Request, State, locked, lun_of, numbers_of, plain_now, refusal};
+ghost use Rattle.ufs_spec.specs.Refusals.{Request, State, brought, locked, lun_of, numbers_of, plain_now, refusal};
 ghost use Rattle.ufs_spec.specs.Translation.{Pin, is_rest_of};
 ghost use Rattle.ufs_spec.specs.declared.layer.Looked.TheVariants.{InSlot};
 ghost use Rattle.ufs_spec.specs.declared.layer.Name.{Name};
@@ -41,7 +41,7 @@ pub fn a_command_is_never_unknown_once_taken()
         (row : Row) × (c : Cdb) × (row_of r.bytes ≡ Some row)
         × IsAnsweredAt (numbers_of s) (lun_of (numbers_of s) r.lun) row × (r.cdb ≡ Some c) × (row.kind ≡ kind_of c) }
     ensures begins { (s : State) (r : Request) (unit : ℕ) (c : Cdb) →
-        (task : Task) × ((begun s r unit c).tasks ≡ s.tasks ++ task ∷ []) × (task.command ≡ Some c)
+        (task : Task) × ((begun s r unit c).tasks ≡ s.tasks ++ task ∷ []) × (task.command ≡ Some (brought r.expected c))
         × ((carried : ℕ) → task.deed ≢ Answering invalid_operation carried) }
     ensures open { (n : Numbers) (array : Array) (bad : Spot → Bool) (s : State) → IsOpened n array bad s → AllKnown s }
     ensures call { (s : State) (call : Call) (answer : Answer) → IsSpoken call → Allowed s call answer →
@@ -55,7 +55,7 @@ pub fn a_command_is_never_unknown_once_taken()
 pub fn data_are_asked_for_in_order()
     ensures asks { (s : State) (task : Task) (purpose : Purpose) (gathered : List ℕ) →
         deed_reply s task (Gathering purpose gathered false)
-        ≡ Some (message.ReadyToTransfer task.lun task.tag (length gathered) (min 4096 (task.length - length gathered))) }
+        ≡ Some (message.ReadyToTransfer task.lun task.tag (length gathered) (min 4096 (to_gather purpose task.length - length gathered))) }
     ensures asks_once { (s : State) (task : Task) (purpose : Purpose) (gathered : List ℕ) →
         deed_reply s task (Gathering purpose gathered true) ≡ None }
     ensures was_asked { (task : Task) (purpose : Purpose) (gathered : List ℕ) →
@@ -64,11 +64,11 @@ pub fn data_are_asked_for_in_order()
         message_fault s (message.DataOut lun tag offset (record { items = bytes })) ≡ None →
         (task : Task) × (task_of tag s.tasks ≡ Some task) × WasAsked task lun offset (length bytes) }
     ensures gathered { (s : State) (task : Task) (purpose : Purpose) (before bytes : List ℕ) →
-        nat_lt (length (before ++ bytes)) task.length ≡ true →
+        nat_lt (length (before ++ bytes)) (to_gather purpose task.length) ≡ true →
         data_for s task (Gathering purpose before true) bytes
         ≡ set_deed s task.tag (Gathering purpose (before ++ bytes) false) }
     ensures accepted { (s : State) (task : Task) (unit address blocks : ℕ) (forced : Bool) (before bytes : List ℕ) →
-        locked s ≡ false → length (before ++ bytes) ≡ task.length →
+        locked s ≡ false → length (before ++ bytes) ≡ 4096 * blocks →
         (data_for s task (Gathering (ForWrite unit address blocks forced) before true) bytes).accepted
         ≡ s.accepted ++ Write unit address (blocks_in blocks (before ++ bytes)) ∷ [] }
     ensures all_bytes { (blocks : ℕ) (bytes : List ℕ) → length bytes ≡ 4096 * blocks →
@@ -112,7 +112,7 @@ pub fn a_read_sends_its_blocks()
         block.state ≢ NotRead → deed_after task (Sending blocks sent)
         ≡ Some (if nat_lt (sent + 1) (length blocks) then Sending blocks (sent + 1) else Answering Good task.length) }
     ensures stays { (s : State) (call : Call) (answer : Answer) (tag : ℕ) (bodies : List (List ℕ)) → IsSpoken call →
-        Allowed s call answer → in_use s tag ≡ true → TagSends tag bodies s →
+        Allowed s call answer → in_use s false tag ≡ true → TagSends tag bodies s →
         TagSends tag bodies (observe s call answer) }
     ensures joined { (total n : ℕ) (body : ℕ → List ℕ) → ((i : ℕ) → i < n → length (body i) ≡ 4096) →
         flat_map (λ i. take (min 4096 (total - 4096 * i)) (body i)) (below n) ≡ take total (flat_map body (below n)) }

@@ -10,6 +10,7 @@ mod decisions;
 mod exchange;
 mod formats;
 mod held;
+mod link_events;
 mod lock;
 mod management;
 mod operations;
@@ -19,81 +20,113 @@ mod requests;
 mod rows;
 mod rpmb;
 mod runs;
+mod short_writes;
 mod table;
 mod tables;
 mod units;
 mod unmap;
 mod vacancies;
 
-pub use arrays::{
-    array_stands_for_something, new_dies_stand_for_zero, page_is_one_cell,
-    page_opens_in_two_versions, sound_array_stands_for_one,
-};
-pub use attentions::{
-    a_lun_that_is_not_there_tells_so, a_reset_leaves_an_attention, an_attention_is_told_once,
-    attentions_and_attributes_are_told_first, profile_0_tells_no_attention,
-    some_commands_pass_an_attention,
-};
-pub use calls::{
-    a_crash_leaves_old_or_new, a_crash_of_pages_is_one_of_cells, a_life_begins_with_its_beginning,
-    any_owed_read_may_go, every_call_has_an_answer, jobs_lie_on_their_dies,
-    messages_are_heard_once, new_dies_open, one_answer, one_job_a_die,
-};
-pub use contents::{
-    command_replaces_its_keys, commands_keep_plain, new_device_is_zero, plain_state_is_its_contents,
-};
-pub use decisions::{
-    a_setting_waits_until_it_is_durable, a_settings_page_carries_all_before_it,
-    an_unmap_judges_its_list, worked_lists,
-};
-pub use exchange::{
-    a_command_is_never_unknown_once_taken, a_read_sends_its_blocks, data_are_asked_for_in_order,
-    every_byte_string_is_heard, nothing_of_an_aborted_tag_follows,
-};
-pub use formats::{worked_configurations, worked_fronts, worked_marks, worked_settings};
-pub use held::{acknowledged_commands_are_held, held_commands_stay_held};
-pub use lock::{
-    a_bad_block_counts_once, a_locked_device_can_be_read, the_lock_begins_past_the_spare_blocks,
-};
-pub use management::{
-    a_query_of_tasks_tells_which_are_open, an_abort_takes_back_nothing,
-    each_function_aborts_its_tasks,
-};
+pub use arrays::array_stands_for_something;
+pub use arrays::new_dies_stand_for_zero;
+pub use arrays::page_is_one_cell;
+pub use arrays::page_opens_in_two_versions;
+pub use arrays::sound_array_stands_for_one;
+pub use attentions::a_lun_that_is_not_there_tells_so;
+pub use attentions::a_reset_leaves_an_attention;
+pub use attentions::an_attention_is_told_once;
+pub use attentions::attentions_and_attributes_are_told_first;
+pub use attentions::profile_0_tells_no_attention;
+pub use attentions::some_commands_pass_an_attention;
+pub use calls::a_crash_leaves_old_or_new;
+pub use calls::a_crash_of_pages_is_one_of_cells;
+pub use calls::a_life_begins_with_its_beginning;
+pub use calls::any_owed_read_may_go;
+pub use calls::every_call_has_an_answer;
+pub use calls::jobs_lie_on_their_dies;
+pub use calls::messages_are_heard_once;
+pub use calls::new_dies_open;
+pub use calls::one_answer;
+pub use calls::one_job_a_die;
+pub use contents::command_replaces_its_keys;
+pub use contents::commands_keep_plain;
+pub use contents::new_device_is_zero;
+pub use contents::plain_state_is_its_contents;
+pub use decisions::a_setting_waits_until_it_is_durable;
+pub use decisions::a_settings_page_carries_all_before_it;
+pub use decisions::an_unmap_judges_its_list;
+pub use decisions::worked_lists;
+pub use exchange::a_command_is_never_unknown_once_taken;
+pub use exchange::a_read_sends_its_blocks;
+pub use exchange::data_are_asked_for_in_order;
+pub use exchange::every_byte_string_is_heard;
+pub use exchange::nothing_of_an_aborted_tag_follows;
+pub use formats::worked_configurations;
+pub use formats::worked_fronts;
+pub use formats::worked_marks;
+pub use formats::worked_settings;
+pub use held::acknowledged_commands_are_held;
+pub use held::held_commands_stay_held;
+pub use link_events::a_link_event_ends_all_that_is_open;
+pub use link_events::a_link_event_is_a_reset;
+pub use link_events::a_link_event_takes_back_nothing;
+pub use link_events::only_profile_1_takes_a_link_event;
+pub use link_events::task_management_has_tags_of_its_own;
+pub use lock::a_bad_block_counts_once;
+pub use lock::a_locked_device_can_be_read;
+pub use lock::the_lock_begins_past_the_spare_blocks;
+pub use management::a_query_of_tasks_tells_which_are_open;
+pub use management::an_abort_takes_back_nothing;
+pub use management::each_function_aborts_its_tasks;
 pub use operations::operations_are_reported;
-pub use profiles::{
-    a_mark_suits_each_profile, a_prefetch_reads_nothing, as_many_bytes_are_told_as_are_counted,
-    each_line_of_profile_1_counts, modes_tell_what_takes_no_writes, profile_1_takes_more,
-    profile_1_takes_no_other_bits,
-};
-pub use queries::{
-    a_device_initializes_until_it_is_mended, a_query_tells_what_is_set,
-    each_line_of_the_query_table_counts, worked_descriptors,
-};
-pub use requests::{
-    a_failed_request_changes_nothing, a_register_is_filled_once,
-    a_request_for_data_reads_its_pages, an_abort_empties_the_registers, frames_are_handed_out_once,
-    last_data_empty_the_registers, one_request_is_open,
-};
-pub use rows::{gap_keeps_the_first_write, write_after_the_gap_is_kept};
-pub use rpmb::{
-    a_command_changes_its_region, a_mac_covers_every_frame, a_right_write_is_accepted,
-    an_accepted_write_is_right, frames_are_their_bytes, worked_failures, worked_macs,
-    worked_registers, worked_requests, worked_responses,
-};
-pub use runs::{a_refused_read_says_why, a_written_block_is_read};
-pub use table::{
-    commands_are_refused_before_the_mending, each_line_of_the_table_counts, lines_that_never_meet,
-};
-pub use tables::{failed_request_accepts_nothing, worked_queries, worked_sense};
-pub use units::{
-    a_protected_unit_is_not_changed, each_protection_has_its_flag, the_boot_setting_names_a_unit,
-    worked_identities,
-};
-pub use unmap::{
-    an_unmap_claims_slots_for_its_list, an_unmap_gives_back_what_it_does_not_need,
-    an_unmap_is_one_group_of_zeros,
-};
-pub use vacancies::{
-    freed_victims_are_stale, ready_blocks_are_filled_first, stale_blocks_are_erased_first,
-    vacancies_are_by_cells,
-};
+pub use profiles::a_mark_suits_each_profile;
+pub use profiles::a_prefetch_reads_nothing;
+pub use profiles::as_many_bytes_are_told_as_are_counted;
+pub use profiles::each_line_of_profile_1_counts;
+pub use profiles::modes_tell_what_takes_no_writes;
+pub use profiles::profile_1_takes_more;
+pub use profiles::profile_1_takes_no_other_bits;
+pub use queries::a_device_initializes_until_it_is_mended;
+pub use queries::a_query_tells_what_is_set;
+pub use queries::each_line_of_the_query_table_counts;
+pub use queries::worked_descriptors;
+pub use requests::a_failed_request_changes_nothing;
+pub use requests::a_register_is_filled_once;
+pub use requests::a_request_for_data_reads_its_pages;
+pub use requests::an_abort_empties_the_registers;
+pub use requests::frames_are_handed_out_once;
+pub use requests::last_data_empty_the_registers;
+pub use requests::one_request_is_open;
+pub use rows::gap_keeps_the_first_write;
+pub use rows::write_after_the_gap_is_kept;
+pub use rpmb::a_command_changes_its_region;
+pub use rpmb::a_mac_covers_every_frame;
+pub use rpmb::a_right_write_is_accepted;
+pub use rpmb::an_accepted_write_is_right;
+pub use rpmb::frames_are_their_bytes;
+pub use rpmb::worked_failures;
+pub use rpmb::worked_macs;
+pub use rpmb::worked_registers;
+pub use rpmb::worked_requests;
+pub use rpmb::worked_responses;
+pub use runs::a_refused_read_says_why;
+pub use runs::a_written_block_is_read;
+pub use short_writes::a_short_write_is_taken;
+pub use short_writes::a_short_write_takes_whole_blocks;
+pub use table::commands_are_refused_before_the_mending;
+pub use table::each_line_of_the_table_counts;
+pub use table::lines_that_never_meet;
+pub use tables::failed_request_accepts_nothing;
+pub use tables::worked_queries;
+pub use tables::worked_sense;
+pub use units::a_protected_unit_is_not_changed;
+pub use units::each_protection_has_its_flag;
+pub use units::the_boot_setting_names_a_unit;
+pub use units::worked_identities;
+pub use unmap::an_unmap_claims_slots_for_its_list;
+pub use unmap::an_unmap_gives_back_what_it_does_not_need;
+pub use unmap::an_unmap_is_one_group_of_zeros;
+pub use vacancies::freed_victims_are_stale;
+pub use vacancies::ready_blocks_are_filled_first;
+pub use vacancies::stale_blocks_are_erased_first;
+pub use vacancies::vacancies_are_by_cells;

@@ -8,6 +8,7 @@ ghost use Rattle.ufs_spec.specs.Cells.{Array};
 ghost use Rattle.ufs_spec.specs.Disk.{Spot};
 ghost use Rattle.ufs_spec.specs.Keys.{flag_byte};
 ghost use Rattle.ufs_spec.specs.Lives.{IsOpened, Life};
+ghost use Rattle.ufs_laws.specs.TaskRequests.{IsNoLinkEvent};
 ghost use Rattle.ufs_spec.specs.Machine.{Answer, Call, observe};
 ghost use Rattle.ufs_spec.specs.Plain.{Plain};
 ghost use Rattle.ufs_spec.specs.Queries.{descriptor, descriptor_told, Query, query_code, setting_of, sets_power_on, value_told, volatile_after};
@@ -117,7 +118,8 @@ pub fn a_device_initializes_until_it_is_mended()
         value_told p (volatile_after n false volatile (query 0x81 6 1 0 0 0 value)) (query 0x81 6 1 0 0 0 value) ≡ 1 }
     ensures read { (n : Numbers) (p : Plain) (volatile : Volatile) (value : ℕ) → volatile.initializing ≡ true →
         value_told p (volatile_after n false volatile (query 0x01 5 1 0 0 0 value)) (query 0x01 5 1 0 0 0 value) ≡ 1 }
-    ensures stays { (s : State) (call : Call) (answer : Answer) → mended s ≡ false → s.volatile.initializing ≡ true →
+    ensures stays { (s : State) (call : Call) (answer : Answer) → IsNoLinkEvent call → mended s ≡ false →
+        s.volatile.initializing ≡ true →
         (observe s call answer).volatile.initializing ≡ true }
     // Once it is mended, also by the query that sets it.
     ensures read_mended { (n : Numbers) (p : Plain) (volatile : Volatile) (value : ℕ) →

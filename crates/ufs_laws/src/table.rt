@@ -14,7 +14,7 @@ ghost use Rattle.ufs_spec.specs.declared.exchanges.Status.{Status};
 ghost use Rattle.ufs_spec.specs.declared.exchanges.Status.TheVariants.{Busy, TaskSetFull};
 ghost use Rattle.ufs_spec.specs.Machine.{command_taken, with_short};
 ghost use Rattle.ufs_spec.specs.Exchanges.{most_tasks};
-ghost use Rattle.ufs_spec.specs.Refusals.{BootUnit, Request, State, fails_test, first_line, has_other_response, has_wrong_list, is_boot_read, is_crowded, is_refused_write, is_too_long, is_unready, lacks_page, lacks_region, lacks_response, lines_for, locked, mended, not_taken, numbers_of, refusal, takes_row, wants_saved};
+ghost use Rattle.ufs_spec.specs.Refusals.{BootUnit, Request, State, brought, fails_test, first_line, has_other_response, has_wrong_list, is_boot_read, is_crowded, is_refused_write, is_too_long, is_unready, lacks_page, lacks_region, lacks_response, lines_for, locked, mended, not_taken, numbers_of, refusal, takes_row, wants_saved};
 ghost use Rattle.ufs_spec.specs.Plain.{steps_of};
 ghost use Rattle.ufs_spec.specs.Translation.{free_slots, has_pending};
 
@@ -91,8 +91,10 @@ pub fn lines_that_never_meet()
         lacks_response s c ≡ false }
     ensures write_or_other_response { (s : State) (u : Option UnitSpec) (c : Cdb) → is_refused_write s u c ≡ true →
         has_other_response s c ≡ false }
-    ensures response_or_slots { (s : State) (c : Cdb) → lacks_response s c ≡ true → is_crowded s c ≡ false }
-    ensures other_response_or_slots { (s : State) (c : Cdb) → has_other_response s c ≡ true → is_crowded s c ≡ false }
+    ensures response_or_slots { (s : State) (r : Request) (c : Cdb) → lacks_response s c ≡ true →
+        is_crowded s (brought r.expected c) ≡ false }
+    ensures other_response_or_slots { (s : State) (r : Request) (c : Cdb) → has_other_response s c ≡ true →
+        is_crowded s (brought r.expected c) ≡ false }
     ensures region_or_page { (n : Numbers) (lun : ℕ) (c : Cdb) → lacks_region n c ≡ true → lacks_page n lun c ≡ false }
     ensures page_or_saved { (n : Numbers) (lun : ℕ) (c : Cdb) → lacks_page n lun c ≡ true → wants_saved c ≡ false }
     ensures saved_or_blocks { (n : Numbers) (c : Cdb) → wants_saved c ≡ true → is_too_long n c ≡ false }
@@ -102,7 +104,8 @@ pub fn lines_that_never_meet()
         fails_test s c ≡ false }
     ensures test_or_response { (s : State) (c : Cdb) → fails_test s c ≡ true → lacks_response s c ≡ false }
     ensures test_or_other_response { (s : State) (c : Cdb) → fails_test s c ≡ true → has_other_response s c ≡ false }
-    ensures test_or_slots { (s : State) (c : Cdb) → fails_test s c ≡ true → is_crowded s c ≡ false }
+    ensures test_or_slots { (s : State) (r : Request) (c : Cdb) → fails_test s c ≡ true →
+        is_crowded s (brought r.expected c) ≡ false }
 {}
 
 /// Before the mending is over each command that reads or changes what the device holds is refused

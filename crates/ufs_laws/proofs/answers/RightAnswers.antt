@@ -5,6 +5,8 @@ use Rattle.ufs_laws.proofs.Common.{Result, Short, Some, Spelled, State, Take, Ta
 use Rattle.ufs_laws.proofs.Common.{false≢true, inl, inr, is_durable, is_step_due, message_fault, none-some, refl}
 use Rattle.ufs_laws.proofs.Common.{result_of, sym, true, ℕ, ⊎_elim, ◌∙◌, ◌≡◌, ◌⊎◌}
 use Rattle.std.proofs.Common.{Err, slice_get}
+use Rattle.ufs_spec.specs.Machine.{NoEvent, no_event_fault}
+use Rattle.ufs_spec.specs.Refusals.{numbers_of}
 use Rattle.ufs_laws.proofs.jobs.OneJob.{given}
 use Rattle.ufs_laws.proofs.answers.OnlyAnswers.{finish_gets, host_gets, step_gets}
 use Rattle.ufs_spec.proofs.Facts.{cases_Bool}
@@ -46,6 +48,7 @@ reply_due s =
 right_result : State → Heard → Result Unit HostFault
 right_result s (Spelled m c) = result_of (message_fault s m)
 right_result s (Faulty fault) = Err fault
+right_result s NoEvent = Err (no_event_fault (numbers_of s))
 
 hears_right : (s : State) (h : Heard) → Gets s (Host h) (OfHost (right_result s h))
 unfolding right_result
@@ -53,6 +56,11 @@ hears_right s (Spelled m c) = host_gets s m c (result_of (message_fault s m)) re
 hears_right s (Faulty fault) = record { right = refl; only = only }
   where
     only : (other : Answer) → Allowed s (Host (Faulty fault)) other → other ≡ OfHost (Err fault)
+    only (OfHost result) h = ap OfHost h
+    only other h = absurd h
+hears_right s NoEvent = record { right = refl; only = only }
+  where
+    only : (other : Answer) → Allowed s (Host NoEvent) other → other ≡ OfHost (Err (no_event_fault (numbers_of s)))
     only (OfHost result) h = ap OfHost h
     only other h = absurd h
 

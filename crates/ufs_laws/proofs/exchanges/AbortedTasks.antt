@@ -39,7 +39,7 @@ gone s is k task e = none_left is s.tasks k task e
 abbrev claim : Numbers → Task → ℕ
 claim n task = claimed_by n task.deed task.command
 
-released : (n : Numbers) (t : Translation) (tasks : List Task) →
+pub released : (n : Numbers) (t : Translation) (tasks : List Task) →
     (fold moved t (flat_map (abort_moves n) tasks)).claims ≡ t.claims - sum_by (claim n) tasks
 released n t [] = omega arith
 released n t (task ∷ tasks) =
@@ -79,7 +79,7 @@ still_unpinned n tag t (task ∷ tasks) none =
     still_unpinned n tag (fold moved t (abort_moves n task)) tasks
     (fewer (λ pin. pin.tag == tag) (λ pin. not (pin.tag == task.tag)) t.pins none)
 
-unpinned : (n : Numbers) (t : Translation) (tasks : List Task) (k : ℕ) (task : Task) → slice_get tasks k ≡ Some task →
+pub unpinned : (n : Numbers) (t : Translation) (tasks : List Task) (k : ℕ) (task : Task) → slice_get tasks k ≡ Some task →
     Pinned task.tag (fold moved t (flat_map (abort_moves n) tasks)).pins ≡ false
 unpinned n t [] k task e = let none : None ≡ Some task = e in cc
 unpinned n t (x ∷ xs) zero task e =

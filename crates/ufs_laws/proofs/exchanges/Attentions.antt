@@ -11,7 +11,7 @@ use Rattle.std.specs.List.{AllByRecursion}
 use Rattle.std.specs.Prelude.{unwrap_or}
 use Rattle.std.proofs.lemmas.Bool.{and_right}
 use Rattle.ufs_laws.proofs.exchanges.TaskManagement.{not_reset}
-use Rattle.ufs_laws.proofs.walk.Happenings.{IsRequestOf}
+use Rattle.ufs_laws.proofs.walk.Happenings.{IsEventOf, IsRequestOf}
 use Rattle.ufs_laws.proofs.walk.VolatileChanges.{IsVolatileKept, call_volatile, same_numbers}
 use Rattle.ufs_laws.specs.TaskRequests.{IsNoReset}
 use Rattle.ufs_spec.proofs.Lists.{set_here, set_other}
@@ -193,7 +193,7 @@ sense_ends s r unit select allocation lun is =
 
 -- ## Resets
 
-aborted_numbers : (n : Numbers) (t : Translation) (tasks : List Task) →
+pub aborted_numbers : (n : Numbers) (t : Translation) (tasks : List Task) →
     (fold moved t (flat_map (abort_moves n) tasks)).numbers ≡ t.numbers
 aborted_numbers n t [] = refl
 aborted_numbers n t (task ∷ tasks) = aborted_numbers n (fold moved t (abort_moves n task)) tasks
@@ -259,6 +259,11 @@ no_request (Host (Spelled (message.TaskRequest lun tag function meant) c)) other
 no_request (Host heard) other l f is e = absurd is
 no_request call other l f is e = absurd is
 
+no_event : (call : Call) → IsNoReset call → (kind : ℕ) → IsEventOf call kind → ⊥
+no_event (Host (Spelled (message.LinkEvent kind) c)) other k is = other
+no_event (Host heard) other k is = is
+no_event call other k is = is
+
 -- no LUN has an attention behind a call that had none before it, but by a reset
 pub call_leaves : (s : State) (call : Call) (answer : Answer) (lun : Lun) → IsNoReset call →
     has_attention (observe s call answer) lun ≡ true → has_attention s lun ≡ true
@@ -285,4 +290,5 @@ call_leaves s call answer lun still has =
       managed = λ byte function is e.
           (let same = not_reset s byte function (ne_eqb function 0x08 (no_request call still byte function is)) in
           sym (ap (is_pending lun) same) ∙ e);
+      reset = λ kind is e. absurd (no_event call still kind is);
     }

@@ -4,10 +4,11 @@ use Rattle.ufs_laws.proofs.Common.{Spelled, [], ap, code_of, dec_le, dec_lt, fal
 use Rattle.ufs_laws.proofs.Common.{spelling, subst, sym, true, ℕ, ℕ_discrete, ◌^◌, ◌∙◌, ◌≡◌}
 use Rattle.ufs_laws.proofs.deciding.Connectives.{are_bytes, dec_and, dec_four, dec_implies, dec_seven, dec_six}
 use Rattle.ufs_laws.proofs.deciding.Connectives.{dec_or, dec_three, same_bytes}
-use Rattle.ufs_laws.proofs.exchanges.HeardOnce.{no_fault, one_fault}
+use Rattle.ufs_laws.proofs.exchanges.HeardOnce.{no_event, no_fault, one_fault}
 use Rattle.ufs_spec.proofs.ReadBack.{again, message_of, one_message}
 use Rattle.ufs_spec.specs.CdbFields.{spelled_cdb}
-use Rattle.ufs_spec.specs.Machine.{IsCdbIn, cdb_of}
+use Rattle.ufs_spec.specs.Codes.{link_event_code}
+use Rattle.ufs_spec.specs.Machine.{IsCdbIn, NoEvent, SpellNone, cdb_of}
 use Rattle.ufs_spec.specs.Messages.{IsByte, IsMessage, IsQuery, IsSense, IsTransferred, Spells, host_fault_of}
 use Rattle.ufs_spec.specs.declared.faults.HostFault.TheVariants.{Reserved}
 use Rattle.ufs_spec.specs.declared.messages.Asked.{Asked}
@@ -50,6 +51,7 @@ is_message (message.TaskRequest lun tag function meant) = dec_four (byte lun) (b
 is_message (message.QueryRequest tag function asked size value «data») =
     dec_six (byte tag) (is_true _) (query asked size value) (dec_le (length «data».items) 4096) (are_bytes «data».items)
     (dec_implies (not_dec (ℕ_discrete asked.opcode 0x02)) (same_bytes «data».items []))
+is_message (message.LinkEvent kind) = is_true _
 is_message (message.NopIn tag) = byte tag
 is_message (message.Response flags lun tag response status residual s) =
     dec_seven (is_true _) (byte lun) (byte tag) (is_true _) (is_true _) (dec_lt residual (2 ^ 32)) (sense status s)
@@ -84,13 +86,15 @@ is_heard bytes = by (host_fault_of bytes) refl
     named : Message
     named = message_of (code_of bytes) bytes
 
+    unspelled : SpellNone bytes → Dec (code_of bytes ≡ link_event_code) → (h : Heard) × IsHeard bytes h
+    unspelled none (yes is) = (NoEvent, (none, is))
+    unspelled none (no other) = (Faulty Reserved, inr (none, other, refl))
+
     checked : host_fault_of bytes ≡ None → Dec (Spells named bytes) → (h : Heard) × IsHeard bytes h
     checked e (yes h) = let c = cdb_in (cdb_of named) in (Spelled named c.0, (h, e, c.1))
-    checked e (no n) = (
-      Faulty Reserved,
-      inr
-          (e, (λ m h. n (subst (λ (x : Message). Spells x bytes) (sym (spelled_named m bytes h)) h)), refl),
-    )
+    checked e (no n) = unspelled
+        (e, (λ m h. n (subst (λ (x : Message). Spells x bytes) (sym (spelled_named m bytes h)) h)))
+        (ℕ_discrete (code_of bytes) link_event_code)
 
     by : (o : Option HostFault) → host_fault_of bytes ≡ o → (h : Heard) × IsHeard bytes h
     by None e = checked e (spells named bytes)
@@ -114,3 +118,8 @@ one_heard bytes (Spelled m c) (Spelled n d) h k =
 one_heard bytes (Spelled m c) (Faulty f) h k = absurd (no_fault bytes m c f h k)
 one_heard bytes (Faulty f) (Spelled m c) h k = absurd (no_fault bytes m c f k h)
 one_heard bytes (Faulty f) (Faulty g) h k = ap Faulty (one_fault bytes f g h k)
+one_heard bytes (Spelled m c) NoEvent h k = absurd (k.0.1 m h.0)
+one_heard bytes NoEvent (Spelled m c) h k = absurd (h.0.1 m k.0)
+one_heard bytes (Faulty f) NoEvent h k = absurd (no_event bytes f k h)
+one_heard bytes NoEvent (Faulty f) h k = absurd (no_event bytes f h k)
+one_heard bytes NoEvent NoEvent h k = refl

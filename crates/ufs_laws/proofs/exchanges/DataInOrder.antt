@@ -8,7 +8,7 @@ use Rattle.ufs_laws.proofs.Common.{◌∙◌, ◌∷◌, ◌≡◌, ◌≤◌, �
 use Rattle.std.specs.List.{concat}
 use Rattle.ufs_laws.proofs.walk.Happenings.{is_asked}
 use Rattle.ufs_laws.specs.Exchange.{AreAsked, WasAsked}
-use Rattle.ufs_spec.specs.Exchanges.{is_asked_in}
+use Rattle.ufs_spec.specs.Exchanges.{is_asked_in, to_gather}
 use Rattle.ufs_spec.specs.Machine.{data_for, write_complete, write_deed}
 use Rattle.ufs_spec.specs.declared.messages.Message.TheVariants as message
 
@@ -18,7 +18,7 @@ in_deed : (task : Task) (lun offset count : ℕ) (deed : Deed) → task.deed ≡
     is_asked_in task lun offset count deed ≡ true → WasAsked task lun offset count
 in_deed task lun offset count (Gathering purpose gathered asked) e h =
     let last = and_parts (asked && (task.lun == lun) && (offset == length gathered))
-    (count == count_at task.length (length gathered)) h in
+    (count == count_at (to_gather purpose task.length) (length gathered)) h in
     let third = and_parts (asked && (task.lun == lun)) (offset == length gathered) last.0 in
     let second = and_parts asked (task.lun == lun) third.0 in
     record {
@@ -27,7 +27,7 @@ in_deed task lun offset count (Gathering purpose gathered asked) e h =
       deed = e ∙ ap (Gathering purpose gathered) second.0;
       lun_is = sym (eqb-true task.lun lun second.1);
       offset_is = eqb-true offset (length gathered) third.1;
-      count_is = eqb-true count (count_at task.length (length gathered)) last.1;
+      count_is = eqb-true count (count_at (to_gather purpose task.length) (length gathered)) last.1;
     }
 in_deed task lun offset count (Sending blocks sent) e h = let no : false ≡ true = h in cc
 in_deed task lun offset count deed e h = let no : false ≡ true = h in cc
@@ -45,20 +45,20 @@ taken s lun tag offset bytes h = of_task (task_of tag s.tasks) lun offset (lengt
 -- ## What becomes of them
 
 pub gathered : (s : State) (task : Task) (purpose : Purpose) (before bytes : List ℕ) →
-    nat_lt (length (before ++ bytes)) task.length ≡ true →
+    nat_lt (length (before ++ bytes)) (to_gather purpose task.length) ≡ true →
     data_for s task (Gathering purpose before true) bytes ≡ set_deed s task.tag
     (Gathering purpose (before ++ bytes) false)
 gathered s task purpose before bytes more =
-    cond-true (nat_lt (length (before ++ bytes)) task.length) _ (complete s task purpose (before ++ bytes)) more
+    cond-true (nat_lt (length (before ++ bytes)) (to_gather purpose task.length)) _ (complete s task purpose (before ++ bytes)) more
 
 pub accepted : (s : State) (task : Task) (unit address blocks : ℕ) (forced : Bool) (before bytes : List ℕ) →
-    locked s ≡ false → length (before ++ bytes) ≡ task.length →
+    locked s ≡ false → length (before ++ bytes) ≡ 4096 * blocks →
     (data_for s task (Gathering (ForWrite unit address blocks forced) before true) bytes).accepted ≡ s.accepted ++ Write
     unit address (blocks_in blocks (before ++ bytes)) ∷ []
 accepted s task unit address blocks forced before bytes free whole =
-    ap (λ (t : State). t.accepted) (cond-false (nat_lt (length (before ++ bytes)) task.length) _
+    ap (λ (t : State). t.accepted) (cond-false (nat_lt (length (before ++ bytes)) (4096 * blocks)) _
     (write_complete s task unit address blocks forced (before ++ bytes))
-    (le-ltb (length (before ++ bytes)) task.length (omega arith)))
+    (le-ltb (length (before ++ bytes)) (4096 * blocks) (omega arith)))
     ∙ ap (λ (t : State). t.accepted) (cond-false (locked s) _
     (set_deed (accepts s (Write unit address (blocks_in blocks (before ++ bytes))) blocks) task.tag
     (write_deed forced (length s.accepted + 1) task.length)) free)

@@ -6,12 +6,15 @@ use Rattle.ufs_laws.proofs.Common.{◌==◌, ◌||◌, ◌∙◌, ◌≡◌}
 use Rattle.std.proofs.lemmas.Bool.{and_right}
 use Rattle.ufs_laws.proofs.exchanges.Attentions.{refused_by}
 use Rattle.ufs_laws.proofs.exchanges.SpokenCalls.{life_keeps}
-use Rattle.ufs_laws.proofs.walk.Happenings.{IsQueryOf}
+use Rattle.ufs_laws.proofs.walk.Happenings.{IsEventOf, IsQueryOf}
 use Rattle.ufs_laws.proofs.walk.VolatileChanges.{call_volatile, same_numbers}
 use Rattle.ufs_laws.specs.AskedQueries.{query}
+use Rattle.ufs_laws.specs.TaskRequests.{IsNoLinkEvent}
 use Rattle.ufs_spec.specs.Begins.{volatile_told}
 use Rattle.ufs_spec.specs.Keys.{flag_byte}
 use Rattle.ufs_spec.specs.Management.{reset_at}
+use Rattle.ufs_spec.specs.Machine.{Host, Spelled}
+use Rattle.ufs_spec.specs.declared.messages.Message.TheVariants as message
 use Rattle.ufs_spec.specs.Queries.{sets_initializing, value_told, volatile_after}
 use Rattle.ufs_spec.specs.Refusals.{without_attention}
 use Rattle.ufs_spec.specs.declared.operations.Told.{Told}
@@ -96,9 +99,13 @@ abbrev Queries : State → Call → Bool → Type 0
 Queries s call b = (tag : ℕ) (q : Query) → IsQueryOf call tag q →
     (volatile_after (numbers_of s) (mended s) s.volatile q).initializing ≡ b
 
+-- and no LINK EVENT comes, or it was not set
+abbrev Resets : Call → Bool → Type 0
+Resets call b = (kind : ℕ) → IsEventOf call kind → false ≡ b
+
 call_keeps : (s : State) (call : Call) (answer : Answer) (b : Bool) → s.volatile.initializing ≡ b → Queries s call b →
-    (observe s call answer).volatile.initializing ≡ b
-call_keeps s call answer b is queries = call_volatile (λ v. v.initializing ≡ b) s call answer (record {
+    Resets call b → (observe s call answer).volatile.initializing ≡ b
+call_keeps s call answer b is queries resets = call_volatile (λ v. v.initializing ≡ b) s call answer (record {
   stays = is;
   asked = queries;
   refused = λ r command.
@@ -107,6 +114,7 @@ call_keeps s call answer b is queries = call_volatile (λ v. v.initializing ≡ 
   managed = λ lun function asks.
       if_both (λ (v : Volatile). v.initializing ≡ b) (function == 0x08) (reset_leaves (lun_of (numbers_of s) lun) s.volatile ∙ is)
       is;
+  reset = resets;
 })
   where
     telling : (r : Request) (what : Told) → (volatile_told s r what).initializing ≡ b
@@ -114,10 +122,17 @@ call_keeps s call answer b is queries = call_volatile (λ v. v.initializing ≡ 
     telling r what = is
 
 -- until the device is mended it stays set
-pub stays_set : (s : State) (call : Call) (answer : Answer) → mended s ≡ false → s.volatile.initializing ≡ true →
+no_event : (call : Call) → IsNoLinkEvent call → (kind : ℕ) → IsEventOf call kind → ⊥
+no_event (Host (Spelled (message.LinkEvent kind) c)) other k is = other
+no_event (Host heard) other k is = is
+no_event call other k is = is
+
+pub stays_set : (s : State) (call : Call) (answer : Answer) → IsNoLinkEvent call → mended s ≡ false →
+    s.volatile.initializing ≡ true →
     (observe s call answer).volatile.initializing ≡ true
-stays_set s call answer mends is = call_keeps s call answer true is (λ tag q asks.
+stays_set s call answer no_reset mends is = call_keeps s call answer true is (λ tag q asks.
     ap (λ (b : Bool). (b || sets_initializing (numbers_of s) q) && not (mended s)) is ∙ ap not mends)
+    (λ kind event. absurd (no_event call no_reset kind event))
 
 -- and in profile 0 it is never set
 abbrev IsNever : State → Type 0
@@ -127,7 +142,7 @@ never_call : (s : State) (call : Call) (answer : Answer) → IsNever s → IsNev
 never_call s call answer (profile, is) = (
   ap (λ (n : Numbers). n.profile) (same_numbers s call answer) ∙ profile,
   call_keeps s call answer false is
-      (λ tag q asks. never_set (numbers_of s) (mended s) s.volatile q profile is),
+      (λ tag q asks. never_set (numbers_of s) (mended s) s.volatile q profile is) (λ kind event. refl),
 )
 
 pub never_life : (s : State) (es : List Event) (os : List Output) (t : State) → (numbers_of s).profile ≡ 0 →

@@ -94,12 +94,12 @@ no_other s lun function meant other =
 
 -- ## What is left
 
-aborted_ledger : (n : Numbers) (t : Translation) (tasks : List Task) →
+pub aborted_ledger : (n : Numbers) (t : Translation) (tasks : List Task) →
     (fold moved t (flat_map (abort_moves n) tasks)).ledger ≡ t.ledger
 aborted_ledger n t [] = refl
 aborted_ledger n t (task ∷ tasks) = aborted_ledger n (fold moved t (abort_moves n task)) tasks
 
-aborted_work : (n : Numbers) (t : Translation) (tasks : List Task) →
+pub aborted_work : (n : Numbers) (t : Translation) (tasks : List Task) →
     (fold moved t (flat_map (abort_moves n) tasks)).work ≡ t.work
 aborted_work n t [] = refl
 aborted_work n t (task ∷ tasks) = aborted_work n (fold moved t (abort_moves n task)) tasks

@@ -194,10 +194,10 @@ module _ (tag : ℕ) (bodies : List (List ℕ)) where
   }
 
   -- a tag in use is not opened again
-  other_tag : (s : State) (r : Request) → in_use s tag ≡ true → in_use s r.tag ≡ false → r.tag ≡ tag → ⊥
-  other_tag s r used free same = true≢false (sym used ∙ ap (in_use s) (sym same) ∙ free)
+  other_tag : (s : State) (r : Request) → in_use s false tag ≡ true → in_use s false r.tag ≡ false → r.tag ≡ tag → ⊥
+  other_tag s r used free same = true≢false (sym used ∙ ap (in_use s false) (sym same) ∙ free)
 
-  sends_law : (s : State) → in_use s tag ≡ true → IsTaskLaw Sends MaySend Any s
+  sends_law : (s : State) → in_use s false tag ≡ true → IsTaskLaw Sends MaySend Any s
   sends_law s used = record {
     set = λ task deed found all may.
         set_keeps Sends task.tag deed s.tasks (λ t is h same. may (sym (eqb-true t.tag task.tag is) ∙ same)) all;
@@ -221,7 +221,7 @@ module _ (tag : ℕ) (bodies : List (List ℕ)) where
   }
 
 pub stays : (s : State) (call : Call) (answer : Answer) (tag : ℕ) (bodies : List (List ℕ)) → IsSpoken call →
-    Allowed s call answer → in_use s tag ≡ true →
+    Allowed s call answer → in_use s false tag ≡ true →
     TagSends tag bodies s → TagSends tag bodies (observe s call answer)
 stays s call answer tag bodies is may used all = tasks_kept (Sends tag bodies) (MaySend tag bodies) Any s
     (sends_law tag bodies s used) all call answer is (any_asks call) may

@@ -11,7 +11,7 @@ use Rattle.ufs_spec.proofs.SpellingParts.{header_size, segment_size}
 use Rattle.ufs_spec.specs.Cdbs.{Residual, fixed_sense, residual_of}
 use Rattle.ufs_spec.specs.declared.exchanges.Status.TheVariants.{CheckCondition}
 use Rattle.ufs_spec.specs.Exchanges.{block_message, bytes_sent, data_message, read_error, ready_message, response_byte}
-use Rattle.ufs_spec.specs.Exchanges.{sense_data, status_byte}
+use Rattle.ufs_spec.specs.Exchanges.{sense_data, status_byte, to_gather}
 use Rattle.ufs_spec.specs.Messages.{AreFlags, IsByte, IsMessage, IsSense, header_of, padding, segment_of}
 use Rattle.ufs_spec.specs.Replies.{is_area_read}
 use Rattle.ufs_laws.proofs.pages.ByteLists.{bytes-take}
@@ -184,8 +184,10 @@ module _ (s : State) (task : Task) (h : TaskSpeaks task) (m : Message) where
   deed_speaks (Gathering purpose gathered true) d e = let none : None ≡ Some m = e in cc
   deed_speaks (Gathering purpose gathered false) d e =
       let low = h.length in
-      let few : count_at task.length (length gathered) ≤ 4096 = grind arith in
-      let here : IsMessage (ready_message task gathered) = (h.lun, h.tag, omega arith, omega arith) in
+      let less = d.0 in
+      let part = d.1 in
+      let few : count_at (to_gather purpose task.length) (length gathered) ≤ 4096 = grind arith in
+      let here : IsMessage (ready_message task purpose gathered) = (h.lun, h.tag, omega arith, omega arith) in
       subst IsMessage (same_Some _ m e) here
   deed_speaks (Sending blocks sent) d e = next_speaks blocks sent (slice_get blocks sent) refl d e
   deed_speaks (SendingBytes bytes) d e =

@@ -21,7 +21,8 @@ use Rattle.ufs_spec.specs.declared.exchanges.Status.TheVariants.{CheckCondition}
 use Rattle.ufs_spec.specs.Exchanges.{check, message_error, unit_attention}
 use Rattle.ufs_spec.specs.Machine.{IsCdbIn, sending_bytes}
 use Rattle.ufs_spec.specs.Refusals.{is_not_simple, is_told_anywhere, meets_attention, row_in, takes, takes_row}
-use Rattle.ufs_spec.specs.Refusals.{tells_of_none}
+use Rattle.ufs_laws.proofs.walk.WaysOfCommands.{Answered, expecting}
+use Rattle.ufs_spec.specs.Refusals.{brought, tells_of_none}
 use Rattle.ufs_spec.specs.declared.operations.Row.{Row}
 use Rattle.ufs_spec.specs.declared.scsi.Cdb.TheVariants as cdb
 use Rattle.ufs_spec.proofs.CommandTable.{row_behind}
@@ -140,25 +141,27 @@ data_known s r c bytes = (
 abbrev first_task : Request → Cdb → ℕ → Deed → Task
 first_task r c n deed = task_for r (Some c) n deed
 
-pub begins : (s : State) (r : Request) (unit : ℕ) (c : Cdb) → Begins s (begun s r unit c) c
-begins s r unit c = begins_by (λ t. Begins s t c) s r unit c one
+pub begins : (s : State) (r : Request) (unit : ℕ) (c : Cdb) → Begins s (begun s r unit c) (brought r.expected c)
+begins s r unit c = begins_by (λ t. Begins s t (brought r.expected c)) s r unit c one
   where
-    one : (b : Beginning) → WhyBegun s r unit c b → Begins s (begun_as s r c b) c
-    one Answered why = (first_task r c 0 (Answering Good 0), refl, refl, good_known)
-    one Waiting why = (first_task r c 0 (Awaiting (length s.accepted)), refl, refl, tt)
-    one (Telling volatile bytes) why = data_known (record s { volatile = volatile }) r c bytes
+    one : (b : Beginning) → WhyBegun s r unit c b → Begins s (begun_as s r c b) (brought r.expected c)
+    one (Answered expected n) why =
+        (first_task (expecting r expected) (brought r.expected c) n (Answering Good n), refl, refl, good_known)
+    one Waiting why = (first_task r (brought r.expected c) 0 (Awaiting (length s.accepted)), refl, refl, tt)
+    one (Telling volatile bytes) why = data_known (record s { volatile = volatile }) r (brought r.expected c) bytes
     one (Handing region n) why =
         let frames : List ℕ = flat_map (λ frame. frame) (s.registers region).response in
         let told = data_known s r (cdb.SecurityIn region n) frames in
-        (told.0, told.1, told.2 ∙ ap (λ (x : Cdb). Some x) (sym why), told.3)
-    one (Reading u address n) why = read_known s r c u address n
-    one (Gathered count purpose n) why = (first_task r c n (Gathering purpose [] false), refl, refl, tt)
+        (told.0, told.1, told.2 ∙ ap (λ (x : Cdb). Some (brought r.expected x)) (sym why), told.3)
+    one (Reading u address n) why = read_known s r (brought r.expected c) u address n
+    one (Gathered expected count purpose n) why =
+        (first_task (expecting r expected) (brought r.expected c) n (Gathering purpose [] false), refl, refl, tt)
 
 answers_not : (deed : Deed) → IsKnownDeed deed → (carried : ℕ) → deed ≢ Answering invalid_operation carried
 answers_not deed known carried e = subst IsKnownDeed e known refl
 
 pub begins_known : (s : State) (r : Request) (unit : ℕ) (c : Cdb) →
-    (task : Task) × ((begun s r unit c).tasks ≡ s.tasks ++ task ∷ []) × (task.command ≡ Some c)
+    (task : Task) × ((begun s r unit c).tasks ≡ s.tasks ++ task ∷ []) × (task.command ≡ Some (brought r.expected c))
     × ((carried : ℕ) → task.deed ≢ Answering invalid_operation carried)
 begins_known s r unit c = let b = begins s r unit c in (b.0, b.1, b.2, answers_not b.0.deed b.3)
 

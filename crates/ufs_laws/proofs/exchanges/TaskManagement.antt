@@ -6,6 +6,7 @@ use Rattle.ufs_laws.proofs.Common.{with_short, without_tasks, ℕ, ◌==◌, ◌
 use Rattle.std.specs.Prelude.{is_none}
 use Rattle.std.proofs.lemmas.Bool.{not-false}
 use Rattle.std.proofs.lemmas.Option.{none-some}
+use Rattle.ufs_spec.specs.Exchanges.{number_of}
 use Rattle.ufs_spec.specs.Machine.{aborts, carried_out, heard, is_named, service_found}
 use Rattle.ufs_spec.specs.Messages.{fault_among, has_digest, has_extra_header, has_other_code}
 use Rattle.ufs_spec.specs.Messages.{has_wrong_length, host_codes, is_short, known_codes, read_fault_of}
@@ -64,9 +65,10 @@ unmanaged s lun function meant other = by (function == 0x08) refl
 
 pub only_answered : (s : State) (lun tag function meant : ℕ) (c : Option Cdb) → service s lun function meant ≢ 0x00 →
     heard s (message.TaskRequest lun tag function meant) c ≡ with_short s
-    (short_reply tag (message.TaskResponse lun tag (service s lun function meant)))
+    (short_reply (number_of true tag) (message.TaskResponse lun tag (service s lun function meant)))
 only_answered s lun tag function meant c other =
-    ap (λ (t : State). with_short t (short_reply tag (message.TaskResponse lun tag (service s lun function meant))))
+    ap (λ (t : State). with_short t
+    (short_reply (number_of true tag) (message.TaskResponse lun tag (service s lun function meant))))
     (not_carried_out (record s { volatile = volatile_managed s lun function }) lun function meant
     (service s lun function meant) other
     ∙ ap (λ (v : Volatile). record s { volatile = v }) (unmanaged s lun function meant other))

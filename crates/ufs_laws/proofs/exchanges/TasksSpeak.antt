@@ -38,7 +38,10 @@ use Rattle.ufs_spec.specs.declared.operations.Told.TheVariants as told
 use Rattle.ufs_spec.specs.declared.scsi.Cdb.TheVariants as cdb
 use Rattle.ufs_spec.proofs.Facts.{eqb-false, ltb-true}
 use Rattle.ufs_spec.specs.Cdbs.{address_of, blocks_of}
-use Rattle.ufs_spec.specs.Exchanges.{bytes_sent, list_length_error, saving_unsupported}
+use Rattle.ufs_laws.proofs.walk.WaysOfCommands.{Answered, expecting}
+use Rattle.ufs_spec.specs.Refusals.{brought, lacks_data, length_in, may_be_cut}
+use Rattle.ufs_spec.specs.Cdbs.{direction_of}
+use Rattle.ufs_spec.specs.Exchanges.{bytes_sent, list_length_error, saving_unsupported, to_gather}
 use Rattle.ufs_spec.specs.Machine.{capacity_bytes, deed_read, sending_bytes, set_state}
 use Rattle.ufs_laws.proofs.exchanges.DeedLaws.{IsDeedLaw, filled_keeps, goes, locks, read_keeps, reads}
 
@@ -98,6 +101,19 @@ asked_for r c n deed is few d = let m = is.1.0.0 in record {
   length = few;
   deed = d;
 }
+
+-- the same of a task of which fewer bytes count as expected
+asked_less : (r : Request) (expected : ℕ) (c : Option Cdb) (n : ℕ) (deed : Deed) → IsRequest r →
+    expected ≤ r.expected → n < 2 ^ 32 →
+    DeedSpeaks n (min expected n) deed → TaskSpeaks (task_for (expecting r expected) c n deed)
+asked_less r expected c n deed is fewer few d = let m = is.1.0.0 in
+    let most = m.3 in record {
+      lun = m.1;
+      tag = m.2;
+      expected = omega arith;
+      length = few;
+      deed = d;
+    }
 
 -- blocks of a READ
 
@@ -247,28 +263,29 @@ begins_speaking s r c unit is reads units frames short listed =
     begins_by (λ t. OneMore TaskSpeaks s.tasks t.tasks) s r unit c one
   where
     one : (b : Beginning) → WhyBegun s r unit c b → OneMore TaskSpeaks s.tasks (begun_as s r c b).tasks
-    one Answered why = (
-      task_for r (Some c) 0 (Answering Good 0),
+    one (Answered expected n) (counts, size) = (
+      task_for (expecting r expected) (Some (brought r.expected c)) n (Answering Good n),
       refl,
-      asked_for r (Some c) 0 (Answering Good 0) is (omega arith) (tt, omega arith),
+      asked_less r expected (Some (brought r.expected c)) n (Answering Good n) is counts (size short) (tt, size short),
     )
     one Waiting why = (
-      task_for r (Some c) 0 (Awaiting (length s.accepted)),
+      task_for r (Some (brought r.expected c)) 0 (Awaiting (length s.accepted)),
       refl,
-      asked_for r (Some c) 0
+      asked_for r (Some (brought r.expected c)) 0
           (Awaiting (length s.accepted)) is (omega arith) tt,
     )
-    one (Telling volatile bytes) why = told_speaks s r c volatile bytes is units why
+    one (Telling volatile bytes) why = told_speaks s r (brought r.expected c) volatile bytes is units why
     one (Handing region n) why = frames_speak s r region n is (frames region)
     one (Reading u address n) (unit_is, address_is, size, read) =
         let few = command_few (numbers_of s) c short in
-        read_speaks s r c u address n is (omega arith)
+        read_speaks s r (brought r.expected c) u address n is (omega arith)
         (subst (λ (x : ℕ). BlocksFit s r x address n) (sym unit_is)
         (subst (λ (x : ℕ). BlocksFit s r unit x n) (sym address_is) (reads n read size)))
-    one (Gathered count purpose n) (slots, some, few, needs, gathered) = (
-      task_for r (Some c) n (Gathering purpose [] false),
+    one (Gathered expected count purpose n) (slots, some, few, needs, gathered, counts, part) = (
+      task_for (expecting r expected) (Some (brought r.expected c)) n (Gathering purpose [] false),
       refl,
-      asked_for r (Some c) n (Gathering purpose [] false) is (few short listed) (some short),
+      asked_less r expected (Some (brought r.expected c)) n (Gathering purpose [] false) is counts (few short listed)
+          (some short, part),
     )
 
 -- the lines behind those of what a command names
@@ -294,6 +311,14 @@ rightly_listed : (s : State) (r : Request) (c : Cdb) → r.cdb ≡ Some c → re
 rightly_listed s r c e passed =
     (passed_line (has_wrong_list c) list_length_error _
     (passed_line (is_too_long (numbers_of s) c) invalid_field _ (named s r c e passed)).1).0
+
+-- and its data come as they should
+pub data_there : (s : State) (r : Request) (c : Cdb) → r.cdb ≡ Some c → refusal s r ≡ None →
+    lacks_data r (direction_of c) (may_be_cut (numbers_of s) c) (length_in s r c) ≡ false
+data_there s r c e passed =
+    (passed_line (lacks_data r (direction_of c) (may_be_cut (numbers_of s) c) (length_in s r c)) invalid_field _
+    (passed_line (has_wrong_list c) list_length_error _
+    (passed_line (is_too_long (numbers_of s) c) invalid_field _ (named s r c e passed)).1).1).0
 
 -- ## What tasks do next
 
@@ -373,7 +398,10 @@ speaks_law s sets requests found units frames = record {
       (λ n read size. found r c n is e passed read size) units frames (not_too_long s r c e passed)
       (rightly_listed s r c e passed);
   gathers = λ task purpose gathered bytes asked e h next more. speaks task (Gathering purpose (gathered ++ bytes) false)
-      h (ltb-true _ task.length more);
+      h (
+        ltb-true _ (to_gather purpose task.length) more,
+        (subst (DeedSpeaks task.length (bytes_sent task)) e h.deed).1,
+      );
   answers = λ task purpose gathered asked status e h is.
       speaks task (Answering status task.length) h (answer_status status (answer_one purpose status is), h.length);
   waits = λ task purpose gathered asked position e h. speaks task (Awaiting position) h tt;

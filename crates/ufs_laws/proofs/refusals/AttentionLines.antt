@@ -127,7 +127,7 @@ module _ (s : State) (flags lun tag expected : ℕ) (bytes : List ℕ) where
   attributed = has_attribute (numbers_of s) flags
 
   abbrev opening : Option HostFault
-  opening = opening_fault s tag (opens_short s (message.Command flags lun tag expected bytes))
+  opening = opening_fault s false tag (opens_short s (message.Command flags lun tag expected bytes))
 
   pub not_taken_so : (numbers_of s).profile ≡ 0 → bit_and flags 0x07 ≢ 0 →
       message_fault s (message.Command flags lun tag expected bytes) ≡ Some Reserved
@@ -236,7 +236,7 @@ well_known_below byte lun is =
     nowhere : Below None
     nowhere e = let none : None ≡ Some lun = e in cc
 
-place_below : (n : Numbers) (byte : ℕ) (lun : Lun) → length n.units.items ≤ 8 → lun_of n byte ≡ Some lun →
+pub place_below : (n : Numbers) (byte : ℕ) (lun : Lun) → length n.units.items ≤ 8 → lun_of n byte ≡ Some lun →
     attention_place lun < 12
 place_below n byte lun few is = by (nat_lt byte (length n.units.items)) refl is
   where
@@ -247,7 +247,7 @@ place_below n byte lun few is = by (nat_lt byte (length n.units.items)) refl is
         subst (λ (x : Lun). attention_place x < 12) (same_Some (UnitOf byte) lun k) (omega (arith, short, few))
     by false e k = well_known_below byte lun k
 
-all_there : (n k : ℕ) → k < n → unwrap_or (slice_get (replicate n true) k) false ≡ true
+pub all_there : (n k : ℕ) → k < n → unwrap_or (slice_get (replicate n true) k) false ≡ true
 all_there zero k l = absurd (omega (arith, l))
 all_there (suc n) zero l = refl
 all_there (suc n) (suc k) l = all_there n k (omega (arith, l))
@@ -269,7 +269,7 @@ observed_volatile : (s : State) (call : Call) (answer : Answer) →
 observed_volatile s call answer =
     if_both (λ (t : State). t.volatile ≡ (behind s call answer).volatile) (locked (fills (behind s call answer))) refl refl
 
-few_tasks : (m n : ℕ) → n < m → nat_le m n ≡ false
+pub few_tasks : (m n : ℕ) → n < m → nat_le m n ≡ false
 few_tasks m n few = by (nat_le m n) refl
   where
     by : (b : Bool) → nat_le m n ≡ b → b ≡ false

@@ -10,6 +10,9 @@ use Rattle.ufs_laws.proofs.refusals.TakenRequests.{clear, needs_none, numbered, 
 use Rattle.ufs_laws.specs.Table.{IsRefused, asks_in, profile_1_row, pushed_out}
 use Rattle.std.proofs.lemmas.Bool.{and_right}
 use Rattle.ufs_spec.specs.Exchanges.{saving_unsupported, self_test_failed, unit_attention}
+use Rattle.ufs_spec.proofs.Facts.{or_with_false}
+use Rattle.ufs_laws.proofs.Common.{write_protected, ◌≤◌, lt-ltb}
+use Rattle.ufs_spec.specs.Refusals.{brought}
 use Rattle.ufs_spec.specs.Refusals.{DeviceUnit, UnitOf, fails_test, has_attention, has_other_response, is_crowded}
 use Rattle.ufs_spec.specs.Refusals.{is_refused_write, is_unready, lacks_page}
 use Rattle.ufs_spec.specs.Refusals.{lacks_region, lacks_response, wants_saved}
@@ -184,6 +187,46 @@ module _ (s : State) (tag : ℕ) (row : numbers_of s ≡ profile_1_row) where
         (skips (not (mended s || locked (there s))) not_ready _ (once_mended _ _ e)
         (skips (locked (there s)) self_test_failed _ (locks false k) (needs_no_slot _ refl)))
 
+    -- ## A WRITE of two blocks, of which one comes
+
+    abbrev short_write : Bool → Request
+    short_write forced = asks 0x20 0 tag (cdb.Write 0 2 forced)
+
+    pub short_taken : (forced : Bool) → mended s ≡ true → locked s ≡ false → 1 ≤ free_slots s.translation →
+        refusal s (short_write forced) ≡ None
+    short_taken forced e k room =
+        says (short_write forced) None _ refl
+        (skips (not (mended s || locked (there s))) not_ready _ (once_mended _ _ e)
+        (skips (locked (there s) || false) write_protected _ (or_with_false _ ∙ locks false k)
+        (skips (nat_lt (free_slots (there s).translation) 1) Busy _
+        (le-ltb (free_slots (there s).translation) 1 (subst (λ (t : State). 1 ≤ free_slots t.translation) is_there room))
+        refl)))
+
+    pub short_crowded : (forced : Bool) → mended s ≡ true → locked s ≡ false → free_slots s.translation ≡ 0 →
+        refusal s (short_write forced) ≡ Some Busy
+    short_crowded forced e k none =
+        says (short_write forced) (Some Busy) _ refl
+        (leaves (not (mended s || locked (there s))) not_ready Busy _ (once_mended _ _ e)
+        (leaves (locked (there s) || false) write_protected Busy _ (or_with_false _ ∙ locks false k)
+        (decides (nat_lt (free_slots (there s).translation) 1) Busy _
+        (lt-ltb (free_slots (there s).translation) 1
+        (let few = subst (λ (t : State). free_slots t.translation ≡ 0) is_there none in omega arith)))))
+
+    pub short_direction : (forced : Bool) → refusal s (asks 0x40 0 tag (cdb.Write 0 2 forced)) ≡ Some invalid_field
+    short_direction forced = says (asks 0x40 0 tag (cdb.Write 0 2 forced)) (Some invalid_field) _ refl refl
+
+    pub short_past : (forced : Bool) → refusal s (asks 0x20 0 tag (cdb.Write 255 2 forced)) ≡ Some out_of_range
+    short_past forced = says (asks 0x20 0 tag (cdb.Write 255 2 forced)) (Some out_of_range) _ refl refl
+
+    pub short_list :
+        refusal s (record (asks 0x20 0 tag (cdb.Unmap 24)) { expected = 23 }) ≡ Some invalid_field
+    short_list = says (record (asks 0x20 0 tag (cdb.Unmap 24)) { expected = 23 }) (Some invalid_field) _ refl refl
+
+pub short_older : (s : State) (tag : ℕ) (forced : Bool) → IsIdle s →
+    IsRefused s (asks 0x20 0 tag (cdb.Write 0 2 forced)) invalid_field
+short_older s tag true h = answers s (asks 0x20 0 tag (cdb.Write 0 2 true)) invalid_field h refl refl
+short_older s tag false h = answers s (asks 0x20 0 tag (cdb.Write 0 2 false)) invalid_field h refl refl
+
 -- ## Lines that never meet
 
 pub region_or_page : (n : Numbers) (lun : ℕ) (c : Cdb) → lacks_region n c ≡ true → lacks_page n lun c ≡ false
@@ -225,6 +268,6 @@ pub test_or_other_response : (s : State) (c : Cdb) → fails_test s c ≡ true �
 test_or_other_response s (cdb.Diagnose tests) e = refl
 test_or_other_response s c e = absurd (false≢true e)
 
-pub test_or_slots : (s : State) (c : Cdb) → fails_test s c ≡ true → is_crowded s c ≡ false
-test_or_slots s (cdb.Diagnose tests) e = le-ltb (free_slots s.translation) 0 (omega arith)
-test_or_slots s c e = absurd (false≢true e)
+pub test_or_slots : (s : State) (r : Request) (c : Cdb) → fails_test s c ≡ true → is_crowded s (brought r.expected c) ≡ false
+test_or_slots s r (cdb.Diagnose tests) e = le-ltb (free_slots s.translation) 0 (omega arith)
+test_or_slots s r c e = absurd (false≢true e)

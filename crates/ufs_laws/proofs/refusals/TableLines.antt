@@ -1,4 +1,5 @@
 -- The line of the table that stands first decides.
+use Rattle.ufs_spec.specs.Refusals.{brought}
 use Rattle.ufs_laws.proofs.Common.{Bool, Busy, Cdb, IsIdle, List, None, Numbers, Option, Request, Some, State, Status}
 use Rattle.ufs_laws.proofs.Common.{UnitSpec, [], ap, arith, asks, command_blocks, cond-false, cond-true, false}
 use Rattle.ufs_laws.proofs.Common.{false≢true, first_line, flush, free_slots, has_wrong_list, if◌then◌else◌}
@@ -254,10 +255,12 @@ uncrowded s region n = le-ltb (free_slots s.translation) 0 (omega arith)
 no_response : false ≡ true → ⊥
 no_response e = cc
 
-pub response_or_slots : (s : State) (c : Cdb) → lacks_response s c ≡ true → is_crowded s c ≡ false
-response_or_slots s (cdb.SecurityIn region n) e = uncrowded s region n
-response_or_slots s c e = absurd (no_response e)
+pub response_or_slots : (s : State) (r : Request) (c : Cdb) → lacks_response s c ≡ true →
+    is_crowded s (brought r.expected c) ≡ false
+response_or_slots s r (cdb.SecurityIn region n) e = uncrowded s region n
+response_or_slots s r c e = absurd (no_response e)
 
-pub other_response_or_slots : (s : State) (c : Cdb) → has_other_response s c ≡ true → is_crowded s c ≡ false
-other_response_or_slots s (cdb.SecurityIn region n) e = uncrowded s region n
-other_response_or_slots s c e = absurd (no_response e)
+pub other_response_or_slots : (s : State) (r : Request) (c : Cdb) → has_other_response s c ≡ true →
+    is_crowded s (brought r.expected c) ≡ false
+other_response_or_slots s r (cdb.SecurityIn region n) e = uncrowded s region n
+other_response_or_slots s r c e = absurd (no_response e)

@@ -6,7 +6,7 @@ use Rattle.ufs_laws.proofs.Common.{HostFault, IsSpoken, List, Message, None, Not
 use Rattle.ufs_laws.proofs.Common.{OfTurn, Option, Programming, Purpose, Query, ReadState, ReadWrong, Reader, Reading}
 use Rattle.ufs_laws.proofs.Common.{Reply, Request, Short, Some, Spelled, State, Status, Take, TakeStep, Task, Turn}
 use Rattle.ufs_laws.proofs.Common.{WasRead, WentWrong, [], accepts, and_parts, apply, begun, behind, count_at}
-use Rattle.ufs_laws.proofs.Common.{deed_after, eqb-true, false, find, if_cases, if◌then◌else◌, in_use, is_aborted}
+use Rattle.ufs_laws.proofs.Common.{deed_after, eqb-true, false, find, if_cases, if◌then◌else◌, is_aborted}
 use Rattle.ufs_laws.proofs.Common.{is_asked_of, is_short_of, is_task_of, length, map, mended, moves_after, nat_le, nat_lt}
 use Rattle.ufs_laws.proofs.Common.{none-some, not, numbers_of, plain_now, query_passed, refl, refusal, refused_or_begun}
 use Rattle.ufs_laws.proofs.Common.{refused_state, replied_by, result_of, same_Some, service, set_deed, setting_of}
@@ -14,9 +14,10 @@ use Rattle.ufs_laws.proofs.Common.{short_replied, short_reply, subst, sym, tag_i
 use Rattle.ufs_laws.proofs.Common.{true, unit_of_request, unit_or_first, with_moves, with_short, with_task}
 use Rattle.ufs_laws.proofs.Common.{without_tasks, ℕ, ◌&&◌, ◌++◌, ◌+◌, ◌==◌, ◌∷◌, ◌≡◌}
 use Rattle.std.specs.Prelude.{Err, Ok}
-use Rattle.ufs_spec.specs.Exchanges.{is_asked_in, most_tasks}
+use Rattle.ufs_spec.specs.Exchanges.{is_asked_in, most_tasks, number_of, to_gather}
 use Rattle.ufs_spec.specs.Machine.{array_after, asked_fault, begun_if_any, command_taken, data_for, data_heard}
-use Rattle.ufs_spec.specs.Machine.{ends_with, has_attribute, heard, opening_fault, read_noted}
+use Rattle.ufs_spec.specs.Machine.{NoEvent, ends_with, has_attribute, heard, in_use, link_reset, opening_fault}
+use Rattle.ufs_spec.specs.Machine.{read_noted}
 use Rattle.ufs_spec.specs.Moves.{ReadRight, WentWell}
 use Rattle.ufs_spec.specs.Queries.{query_code, volatile_after}
 use Rattle.ufs_spec.specs.QueryAnswers.{may_set, query_done, query_failed, query_heard}
@@ -59,6 +60,8 @@ pub data Happening : Type 0 where
   Completes : (task : Task) → (completion : Completion) → Happening
   -- tasks are aborted; a reset leaves so what is volatile
   Aborts : (volatile : Volatile) → (is : Task → Bool) → (short : Short) → Happening
+  -- the link was reset
+  Resets : (kind : ℕ) → Happening
   -- a reply is handed out, and the task goes on or is over, or the short exchange is
   GoesOn : (task : Task) → (deed : Deed) → Happening
   IsOver : (task : Task) → Happening
@@ -76,6 +79,7 @@ happened s (Begins r c) = begun s r (unit_or_first (unit_of_request s r)) c
 happened s (Gathers task purpose all) = set_deed s task.tag (Gathering purpose all false)
 happened s (Completes task completion) = completed s task completion
 happened s (Aborts volatile is short) = with_short (without_tasks (record s { volatile = volatile }) is) short
+happened s (Resets kind) = link_reset s kind
 happened s (GoesOn task deed) = set_deed (with_moves s (moves_after task task.deed)) task.tag deed
 happened s (IsOver task) = task_goes_on (with_moves s (moves_after task task.deed)) task None
 happened s (ShortOver short) = short_replied s (Some short)
@@ -91,7 +95,7 @@ IsCommand call r = ⊥
 
 pub record IsAsked (s : State) (call : Call) (answer : Answer) (r : Request) : Type 0 where
   pub is : IsCommand call r
-  pub free : Allowed s call answer → in_use s r.tag ≡ false
+  pub free : Allowed s call answer → in_use s false r.tag ≡ false
 
 -- the call is this query, with this tag
 abbrev pub IsQueryOf : Call → ℕ → Query → Type 0
@@ -103,6 +107,11 @@ IsQueryOf call t q = ⊥
 abbrev pub IsRequestOf : Call → (lun function : ℕ) → Type 0
 IsRequestOf (Host (Spelled (message.TaskRequest lun tag function meant) c)) l f = (l ≡ lun) × (f ≡ function)
 IsRequestOf call l f = ⊥
+
+-- the call is a LINK EVENT of this kind
+abbrev pub IsEventOf : Call → (kind : ℕ) → Type 0
+IsEventOf (Host (Spelled (message.LinkEvent kind) c)) k = k ≡ kind
+IsEventOf call k = ⊥
 
 -- the code by which a query is answered
 abbrev pub code_of_query : State → Query → ℕ
@@ -134,7 +143,7 @@ pub record GetsData (s : State) (call : Call) (answer : Answer) (task : Task) (p
   pub more : List ℕ
   pub asked : Bool
   pub deed : task.deed ≡ Gathering purpose gathered asked
-  pub next : Allowed s call answer → length more ≡ count_at task.length (length gathered)
+  pub next : Allowed s call answer → length more ≡ count_at (to_gather purpose task.length) (length gathered)
   pub are_bytes : IsSpoken call → AreBytes more
 
 abbrev pub Why : State → Call → Answer → Happening → Type 0
@@ -147,12 +156,13 @@ Why s call answer (Sets command short) =
 Why s call answer (Refuses r status) = IsAsked s call answer r × (refusal s r ≡ Some status)
 Why s call answer (Begins r c) = IsAsked s call answer r × (r.cdb ≡ Some c) × (refusal s r ≡ None)
 Why s call answer (Gathers task purpose all) =
-    (d : GetsData s call answer task purpose) × (all ≡ d.gathered ++ d.more) × (nat_lt (length all) task.length ≡ true)
+    (d : GetsData s call answer task purpose) × (all ≡ d.gathered ++ d.more) × (nat_lt (length all) (to_gather purpose task.length) ≡ true)
 Why s call answer (Completes task completion) =
     (purpose : Purpose) × (d : GetsData s call answer task purpose)
     × WhyCompleted s task purpose (d.gathered ++ d.more) completion
 Why s call answer (Aborts volatile is short) =
     (lun : ℕ) × (function : ℕ) × IsRequestOf call lun function × (volatile ≡ volatile_managed s lun function)
+Why s call answer (Resets kind) = IsEventOf call kind
 Why s call answer (GoesOn task deed) =
     (task_of task.tag s.tasks ≡ Some task) × (deed_after task task.deed ≡ Some deed)
 Why s call answer (IsOver task) = task_of task.tag s.tasks ≡ Some task
@@ -194,9 +204,10 @@ may_open s flags rest =
     if_cases (λ (x : Option HostFault). x ≡ None → rest ≡ None) (has_attribute (numbers_of s) flags)
     (λ has e. absurd (none-some Reserved (sym e))) (λ has e. e)
 
-is_unused : (s : State) (tag : ℕ) (short : Bool) → opening_fault s tag short ≡ None → in_use s tag ≡ false
-is_unused s tag short =
-    if_cases (λ x. x ≡ None → in_use s tag ≡ false) (in_use s tag) (λ used e. absurd (none-some TagInUse (sym e)))
+is_unused : (s : State) (manages : Bool) (tag : ℕ) (short : Bool) → opening_fault s manages tag short ≡ None →
+    in_use s manages tag ≡ false
+is_unused s manages tag short =
+    if_cases (λ x. x ≡ None → in_use s manages tag ≡ false) (in_use s manages tag) (λ used e. absurd (none-some TagInUse (sym e)))
     (λ free e. free)
 
 -- ## The walk
@@ -229,7 +240,7 @@ module _ (P : State → Type 0) (s : State) (call : Call) (answer : Answer) (eac
       (Allowed s call answer → is_asked_in task lun offset (length more) deed ≡ true) → (IsSpoken call → AreBytes more) →
       P (data_for s task deed more)
   data_by task (Gathering purpose gathered asked) lun offset more found e right are =
-      if_cases P (nat_lt (length (gathered ++ more)) task.length)
+      if_cases P (nat_lt (length (gathered ++ more)) (to_gather purpose task.length))
       (λ few. each (Gathers task purpose (gathered ++ more)) (d, refl, few))
       (λ over. completes_by P s task purpose (gathered ++ more) (λ k why. each (Completes task k) (purpose, d, why)))
     where
@@ -241,7 +252,7 @@ module _ (P : State → Type 0) (s : State) (call : Call) (answer : Answer) (eac
         asked = asked;
         deed = e;
         next = λ may.
-            eqb-true (length more) (count_at task.length (length gathered))
+            eqb-true (length more) (count_at (to_gather purpose task.length) (length gathered))
             (and_parts (asked && (task.lun == lun) && (offset == length gathered)) _ (right may)).1;
         are_bytes = are;
       }
@@ -293,20 +304,23 @@ heard_by : (P : State → Type 0) (s : State) (m : Message) (c : Option Cdb) (do
 heard_by P s (message.Command flags lun tag expected bytes) c done each =
     command_by P s _ _ each
     (record { flags = flags; lun = lun; tag = tag; expected = expected; bytes = bytes; cdb = c })
-    (record { is = refl; free = λ may. is_unused s tag _ (may_open s flags _ (not_refused _ done may)) })
+    (record { is = refl; free = λ may. is_unused s false tag _ (may_open s flags _ (not_refused _ done may)) })
 heard_by P s (message.DataOut lun tag offset «data») c done each =
     data_heard_by P s _ _ each tag lun offset (task_of tag s.tasks) «data».items refl
     (λ may. is_asked _ (not_refused _ done may)) (λ is. is.1.0.0.3.2)
 heard_by P s (message.TaskRequest lun tag function meant) c done each =
-    if_cases (λ t. P (with_short t (short_reply tag (message.TaskResponse lun tag (service s lun function meant)))))
+    if_cases
+    (λ t. P (with_short t
+    (short_reply (number_of true tag) (message.TaskResponse lun tag (service s lun function meant)))))
     (service s lun function meant == 0x00)
     (λ e. each (Aborts _ (is_aborted lun function meant) _) (lun, function, (refl, refl), refl))
     (λ e. subst (λ (v : Volatile). P (with_short (record s { volatile = v })
-    (short_reply tag (message.TaskResponse lun tag (service s lun function meant)))))
+    (short_reply (number_of true tag) (message.TaskResponse lun tag (service s lun function meant)))))
     (sym (unmanaged s lun function meant (eqb-false (service s lun function meant) 0x00 e))) (each (Replies _) tt))
 heard_by P s (message.NopOut tag) c done each = each (Replies _) tt
 heard_by P s (message.QueryRequest tag function asked size value «data») c done each =
     query_by P s _ _ each tag (record { function = function; asked = asked; length = size; value = value }) (refl, refl)
+heard_by P s (message.LinkEvent kind) c done each = each (Resets kind) refl
 heard_by P s m c done each = each NothingMore tt
 
 -- The ends of jobs
@@ -344,6 +358,7 @@ pub behind_by : (P : State → Type 0) (s : State) (call : Call) (answer : Answe
     Each P s (first s call answer) call answer → P (behind s call answer)
 behind_by P s (Host (Spelled m c)) (OfHost (Ok done)) each = heard_by P s m c done each
 behind_by P s (Host (Faulty fault)) (OfHost (Ok done)) each = each NothingMore tt
+behind_by P s (Host NoEvent) (OfHost (Ok done)) each = each NothingMore tt
 behind_by P s (Take die) (OfTake None) each = each NothingMore tt
 behind_by P s (Take die) (OfTake (Some flight)) each = each NothingMore tt
 behind_by P s (Done die ending left) (OfDone true) each =

@@ -4,7 +4,7 @@ use Rattle.ufs_laws.proofs.Common.{Answer, Answering, Array, Awaiting, Bool, Cal
 use Rattle.ufs_laws.proofs.Common.{EndJob, Flight, Frame, GiveJob, Heard, Host, Key, List, Message, Move, None, Numbers}
 use Rattle.ufs_laws.proofs.Common.{OfDone, OfHost, OfReply, OfTake, OfTurn, Option, Pin, ReadState, Registers, Reply}
 use Rattle.ufs_laws.proofs.Common.{Request, RpmbRequest, Sending, Short, Some, State, Take, TakeStep, Task, Translation}
-use Rattle.ufs_laws.proofs.Common.{Turn, [], abort_moves, accepts, area_key, begun, behind, below, blocks_expected}
+use Rattle.ufs_laws.proofs.Common.{Turn, [], abort_moves, accepts, ap, area_key, begun, behind, below, blocks_expected}
 use Rattle.ufs_laws.proofs.Common.{claimed_by, data_key, false, fills, filter, flat_map, given_back, group_of, if_both}
 use Rattle.ufs_laws.proofs.Common.{is_durable, is_short_of, is_task_of, is_to_fill, length, lock_applied, locked, map}
 use Rattle.ufs_laws.proofs.Common.{moved, moves_after, not, numbers_of, observe, plain_now, read_begun, refl}
@@ -14,14 +14,17 @@ use Rattle.ufs_laws.proofs.Common.{with_task, without_tasks, ℕ, ◌++◌, ◌+
 use Rattle.std.specs.Prelude.{Ok}
 use Rattle.ufs_spec.specs.FrameRequests.{first_page, page_kept, pages_named}
 use Rattle.ufs_spec.specs.Machine.{acknowledges, array_after, fill_moves, hears, kept_at, registers_after}
+use Rattle.ufs_spec.specs.Refusals.{brought}
 use Rattle.ufs_spec.specs.Moves.{Accept, Acknowledge, Keep, LetGo, LetGoAll, Release, WantPage}
 use Rattle.ufs_spec.specs.declared.scsi.Cdb.TheVariants as cdb
 pub use Rattle.ufs_laws.proofs.walk.Happenings.{first, job_over, Aborts, Begins, BlockRead, Gathers, GoesOn, Happening}
 pub use Rattle.ufs_laws.proofs.walk.Happenings.{IsOver, NothingMore, Refuses, Replies, ShortOver, behind_by, happened}
-pub use Rattle.ufs_laws.proofs.walk.Happenings.{Completes, Sets, Tells}
+pub use Rattle.ufs_laws.proofs.walk.Happenings.{Completes, Resets, Sets, Tells}
+use Rattle.ufs_spec.specs.Exchanges.{all_empty}
+use Rattle.ufs_spec.specs.Machine.{link_reset, volatile_reset}
 use Rattle.std.proofs.lemmas.List.{map-id}
 use Rattle.ufs_laws.proofs.walk.WaysOfCommands.{Beginning, Gathered, Handing, Reading, Telling, WhyBegun, begins_by}
-use Rattle.ufs_laws.proofs.walk.WaysOfCommands.{begun_as}
+use Rattle.ufs_laws.proofs.walk.WaysOfCommands.{Answered, begun_as, expecting}
 use Rattle.ufs_laws.proofs.walk.WaysOfData.{Accepted, AcceptsFrames, Completion, HasResult, ReadsArea, Told}
 use Rattle.ufs_laws.proofs.walk.WaysOfData.{claim_of_task, completed}
 use Rattle.ufs_spec.specs.declared.volatile.Volatile.{Volatile}
@@ -179,8 +182,9 @@ begun_small : (s : State) (r : Request) (unit : ℕ) (command : Cdb) → Small s
 begun_small s r unit c = begins_by (Small s) s r unit c one
   where
     one : (b : Beginning) → WhyBegun s r unit c b → Small s (begun_as s r c b)
-    one (Reading unit address n) why = read_small s r c unit address n
-    one (Gathered count purpose n) why = Both (one_move (Claim count) tt) (opens r (Some c) n _)
+    one (Reading unit address n) why = read_small s r (brought r.expected c) unit address n
+    one (Gathered expected count purpose n) why = Both (one_move (Claim count) tt) (opens (expecting r expected) _ n _)
+    one (Answered expected n) why = opens (expecting r expected) _ n _
     one (Handing region n) why = Both (opens r (Some (cdb.SecurityIn region n)) _ _) (One (SetsRegisters _) tt)
     one (Telling volatile bytes) why = Both (One (SetsVolatile volatile) tt) (opens r _ _ _)
     one b why = opens r _ _ _
@@ -197,6 +201,47 @@ without_small : (s : State) (is : Task → Bool) → Small s (without_tasks s is
 without_small s is =
     Both (aborts_small s (numbers_of s) (filter is s.tasks))
     (Both (One (Closes is) tt) (One (SetsRegisters (registers_after (filter is s.tasks) s.registers)) tt))
+
+-- The link is reset
+
+-- where all go none is left
+pub none_left : {A : Type 0} → (xs : List A) → filter (λ (x : A). not true) xs ≡ []
+none_left [] = refl
+none_left (x ∷ xs) = none_left xs
+
+pub all_go : {A : Type 0} → (xs : List A) → filter (λ (x : A). true) xs ≡ xs
+all_go [] = refl
+all_go (x ∷ xs) = ap (λ (rest : List _). x ∷ rest) (all_go xs)
+
+-- all tasks are aborted
+pub reset_is : (s : State) (kind : ℕ) →
+    record (without_tasks s (λ task. true)) {
+      shorts = [];
+      volatile = volatile_reset kind s.volatile;
+      registers = all_empty;
+    }
+    ≡ link_reset s kind
+reset_is s kind i =
+    record (with_moves s (flat_map (abort_moves (numbers_of s)) (all_go s.tasks i))) {
+      tasks = none_left s.tasks i;
+      shorts = [];
+      volatile = volatile_reset kind s.volatile;
+      registers = all_empty;
+    }
+
+reset_small : (s : State) (kind : ℕ) → Small s (link_reset s kind)
+reset_small s kind =
+    subst (Small s) (reset_is s kind)
+    (subst
+    (λ (shorts : List Short). Small s (record (without_tasks s (λ task. true)) {
+      shorts = shorts;
+      volatile = volatile_reset kind s.volatile;
+      registers = all_empty;
+    }))
+    (none_left s.shorts)
+    (Both (without_small s (λ task. true))
+    (Both (One (ClosesShorts (λ short. true)) tt)
+    (Both (One (SetsVolatile (volatile_reset kind s.volatile)) tt) (One (SetsRegisters all_empty) tt)))))
 
 -- Replies
 
@@ -269,6 +314,7 @@ happens_small s (Gathers task purpose all) = set task.tag _
 happens_small s (Completes task k) = completes_small s task k
 happens_small s (Aborts volatile is short) =
     Both (One (SetsVolatile volatile) tt) (Both (without_small _ is) (One (OpensShort short) tt))
+happens_small s (Resets kind) = reset_small s kind
 happens_small s (GoesOn task deed) = Both (behind_small s task task.deed) (set task.tag deed)
 happens_small s (IsOver task) =
     Both (behind_small s task task.deed)

@@ -1,5 +1,6 @@
 -- What holds of each open task: a law of tasks is a case for each way in which a task is opened and goes on, and each
 -- call keeps it.
+use Rattle.ufs_spec.specs.Exchanges.{to_gather}
 use Rattle.ufs_laws.proofs.Common.{Allowed, Answer, Answering, Array, Awaiting, Bool, Call, Cdb, Deed, Done, Ending}
 use Rattle.ufs_laws.proofs.Common.{Every, Faulty, Flight, ForFrames, Gathering, Good, Host, IsRequest, IsSpoken, List}
 use Rattle.ufs_laws.proofs.Common.{Message, None, OfDone, OfHost, OfReply, OfTake, OfTurn, Option, Purpose, ReadBlock}
@@ -13,7 +14,8 @@ use Rattle.std.specs.Prelude.{Ok}
 use Rattle.ufs_laws.specs.Exchange.{Asks, IsAskedIn}
 use Rattle.ufs_spec.specs.declared.messages.Message.TheVariants as message
 use Rattle.ufs_laws.proofs.walk.Happenings.{Aborts, Begins, BlockRead, Gathers, GoesOn, Happening, IsCommand, IsOver}
-use Rattle.ufs_laws.proofs.walk.Happenings.{Refuses, Why, behind_by, ends_by, happened, job_over, Completes}
+use Rattle.ufs_spec.specs.Machine.{NoEvent}
+use Rattle.ufs_laws.proofs.walk.Happenings.{Refuses, Resets, Why, behind_by, ends_by, happened, job_over, Completes}
 use Rattle.ufs_laws.proofs.walk.WaysOfCommands.{begins_by, beginning_opens}
 use Rattle.ufs_laws.proofs.walk.WaysOfData.{Accepted, AcceptsFrames, HasResult, IsAcceptedDeed, IsAnswerTo, ReadsArea}
 use Rattle.ufs_laws.proofs.walk.WaysOfData.{Told, accepted_deed}
@@ -44,6 +46,7 @@ any_in (message.NopOut tag) c = tt
 any_in (message.DataOut lun tag offset «data») c = tt
 any_in (message.TaskRequest lun tag function meant) c = tt
 any_in (message.QueryRequest tag function asked size value «data») c = tt
+any_in (message.LinkEvent kind) c = tt
 any_in (message.NopIn tag) c = tt
 any_in (message.Response flags lun tag response status residual sense) c = tt
 any_in (message.DataIn lun tag offset «data») c = tt
@@ -54,6 +57,7 @@ any_in (message.QueryResponse tag function response asked size value «data») c
 pub any_asks : (call : Call) → Asks Any call
 any_asks (Host (Spelled m c)) = any_in m c
 any_asks (Host (Faulty fault)) = tt
+any_asks (Host NoEvent) = tt
 any_asks (Take die) = tt
 any_asks (Done die ending left) = tt
 any_asks Turn = tt
@@ -67,15 +71,16 @@ pub record IsTaskLaw (P : Task → Type 0) (May : Task → Deed → Type 0) (Ask
   pub set_request : (task : Task) (request : RpmbRequest) (deed : Deed) → task_of task.tag s.tasks ≡ Some task →
       Every P s.tasks → May task deed → Every P (map (with_request task.tag request deed) s.tasks)
   -- tasks that are opened
-  pub refused : (r : Request) (status : Status) → IsRequest r → Asked r → in_use s r.tag ≡ false →
+  pub refused : (r : Request) (status : Status) → IsRequest r → Asked r → in_use s false r.tag ≡ false →
       refusal s r ≡ Some status → P (task_for r None 0 (Answering status 0))
-  pub begins : (r : Request) (c : Cdb) → IsRequest r → Asked r → in_use s r.tag ≡ false → r.cdb ≡ Some c →
+  pub begins : (r : Request) (c : Cdb) → IsRequest r → Asked r → in_use s false r.tag ≡ false → r.cdb ≡ Some c →
       refusal s r ≡ None →
       OneMore P s.tasks (begun s r (unit_or_first (unit_of_request s r)) c).tasks
   -- tasks that get the data that they asked for: they gather, are answered, wait for their command, or read the area
   pub gathers : (task : Task) (purpose : Purpose) (gathered bytes : List ℕ) (asked : Bool) →
-      task.deed ≡ Gathering purpose gathered asked → P task → length bytes ≡ count_at task.length (length gathered) →
-      nat_lt (length (gathered ++ bytes)) task.length ≡ true → May task (Gathering purpose (gathered ++ bytes) false)
+      task.deed ≡ Gathering purpose gathered asked → P task →
+      length bytes ≡ count_at (to_gather purpose task.length) (length gathered) →
+      nat_lt (length (gathered ++ bytes)) (to_gather purpose task.length) ≡ true → May task (Gathering purpose (gathered ++ bytes) false)
   pub answers : (task : Task) (purpose : Purpose) (gathered : List ℕ) (asked : Bool) (status : Status) →
       task.deed ≡ Gathering purpose gathered asked → P task → IsAnswerTo purpose status →
       May task (Answering status task.length)
@@ -170,7 +175,7 @@ module _ (P : Task → Type 0) (May : Task → Deed → Type 0) (Asked : Request
       k.set task (Gathering purpose bytes false) d.found all
       (subst (λ (xs : List ℕ). May task (Gathering purpose xs false)) (sym e)
       (k.gathers task purpose d.gathered d.more d.asked d.deed (found_kept task d.found) (d.next may)
-      (subst (λ (xs : List ℕ). nat_lt (length xs) task.length ≡ true) e few)))
+      (subst (λ (xs : List ℕ). nat_lt (length xs) (to_gather purpose task.length) ≡ true) e few)))
   happens_kept call answer is asks may (Completes task (Told status released)) (purpose, d, told) =
       k.set task (Answering status task.length) d.found all
       (k.answers task purpose d.gathered d.asked status d.deed (found_kept task d.found) told.0)
@@ -191,6 +196,7 @@ module _ (P : Task → Type 0) (May : Task → Deed → Type 0) (Asked : Request
       (k.waits task purpose d.gathered d.asked _ d.deed (found_kept task d.found))
   happens_kept call answer is asks may (Aborts volatile those short) why =
       every_filtered P (λ task. not (those task)) s.tasks all
+  happens_kept call answer is asks may (Resets kind) why = tt
   happens_kept call answer is asks may (GoesOn task deed) (found, e) =
       k.set task deed found all (k.goes task deed e (found_kept task found))
   happens_kept call answer is asks may (IsOver task) found =

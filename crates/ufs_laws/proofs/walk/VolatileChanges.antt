@@ -3,13 +3,14 @@
 use Rattle.ufs_laws.proofs.Common.{Answer, Call, Cdb, Done, Host, Query, Reply, Request, State, Take, Task, Turn}
 use Rattle.ufs_laws.proofs.Common.{begun, behind, fills, if_both, locked, mended, numbers_of, observe, refl, refused_state}
 use Rattle.ufs_laws.proofs.Common.{subst, sym, unit_of_request, unit_or_first, ℕ, ◌∙◌, ◌≡◌}
-use Rattle.ufs_laws.proofs.walk.Happenings.{Aborts, Begins, Completes, Happening, IsCommand, IsQueryOf, IsRequestOf}
-use Rattle.ufs_laws.proofs.walk.Happenings.{Refuses, Tells, Why, behind_by, first, happened}
+use Rattle.ufs_laws.proofs.walk.Happenings.{Aborts, Begins, Completes, Happening, IsCommand, IsEventOf, IsQueryOf, IsRequestOf}
+use Rattle.ufs_laws.proofs.walk.Happenings.{Refuses, Resets, Tells, Why, behind_by, first, happened}
 use Rattle.ufs_laws.proofs.walk.LayerEffects.{move_numbers}
 use Rattle.ufs_laws.proofs.walk.SmallChanges.{Change, IsSmall, Moves, call_kept, changed, first_kept}
 use Rattle.ufs_laws.proofs.walk.WaysOfCommands.{Beginning, Handing, Telling, WhyBegun, begins_by, begun_as}
 use Rattle.ufs_laws.proofs.walk.WaysOfData.{Completion, Told as AnsweredSo, completed}
 use Rattle.ufs_spec.specs.Begins.{volatile_told}
+use Rattle.ufs_spec.specs.LinkEvents.{volatile_reset}
 use Rattle.ufs_spec.specs.Management.{volatile_managed}
 use Rattle.ufs_spec.specs.Queries.{volatile_after}
 use Rattle.ufs_spec.specs.declared.operations.Told.{Told}
@@ -23,14 +24,22 @@ pub record IsVolatileKept (P : Volatile → Type 0) (s : State) (call : Call) : 
   pub refused : (r : Request) → IsCommand call r → P (refused_state s r).volatile
   pub told : (r : Request) (what : Told) → P (volatile_told s r what)
   pub managed : (lun function : ℕ) → IsRequestOf call lun function → P (volatile_managed s lun function)
+  pub reset : (kind : ℕ) → IsEventOf call kind → P (volatile_reset kind s.volatile)
 
--- a COMMAND does nothing before it is refused or begins
+-- what a host says does nothing before it is heard
 command_first : (s : State) (call : Call) (answer : Answer) (r : Request) → IsCommand call r → first s call answer ≡ s
 command_first s (Host heard) answer r is = refl
 command_first s (Take die) answer r is = absurd is
 command_first s (Done die ending left) answer r is = absurd is
 command_first s Turn answer r is = absurd is
 command_first s Reply answer r is = absurd is
+
+event_first : (s : State) (call : Call) (answer : Answer) (kind : ℕ) → IsEventOf call kind → first s call answer ≡ s
+event_first s (Host heard) answer kind is = refl
+event_first s (Take die) answer kind is = absurd is
+event_first s (Done die ending left) answer kind is = absurd is
+event_first s Turn answer kind is = absurd is
+event_first s Reply answer kind is = absurd is
 
 completed_volatile : (s : State) (task : Task) (k : Completion) → (completed s task k).volatile ≡ s.volatile
 completed_volatile s task (AnsweredSo status released) = refl
@@ -53,6 +62,9 @@ module _ (P : Volatile → Type 0) (s : State) (call : Call) (answer : Answer) (
   happens : (h : Happening) → Why s call answer h → P (happened (first s call answer) h).volatile
   happens (Tells volatile short) (tag, q, ok, none, is, same) = subst P (sym is) (k.asked tag q ok.is)
   happens (Aborts volatile those short) (lun, function, asks, is) = subst P (sym is) (k.managed lun function asks)
+  happens (Resets kind) is =
+      subst (λ (t : State). P (volatile_reset kind t.volatile)) (sym (event_first s call answer kind is))
+      (k.reset kind is)
   happens (Refuses r status) (a, e) =
       subst (λ (t : State). P (refused_state t r).volatile) (sym (command_first s call answer r a.is))
       (k.refused r a.is)

@@ -7,36 +7,43 @@ use Rattle.ufs_laws.proofs.Common.{if_both, if_cases, if◌then◌else◌, is_am
 use Rattle.ufs_laws.proofs.Common.{mended, nat_le, nat_lt, not, not-false, numbers_of, read_begun, refl, suc, take}
 use Rattle.ufs_laws.proofs.Common.{true, with_moves, with_task, zero, ℕ, ◌*◌, ◌++◌, ◌<◌, ◌==◌, ◌^◌, ◌||◌, ◌∷◌, ◌≡◌, ◌≢◌}
 use Rattle.ufs_laws.proofs.Common.{◌≤◌}
+use Rattle.std.proofs.Math.Nat.{div-add-mod}
 use Rattle.ufs_spec.proofs.Facts.{eqb-false, ltb-false}
-use Rattle.ufs_spec.specs.Begins.{frames_begun, told_bytes, volatile_told}
+use Rattle.ufs_spec.specs.Begins.{expected_of_write, frames_begun, told_bytes, volatile_told, write_begun}
 use Rattle.ufs_spec.specs.Cdbs.{address_of, blocks_of}
 use Rattle.ufs_spec.specs.Machine.{flush_begun}
-use Rattle.ufs_spec.specs.Refusals.{is_frames, needs_mended, slots_needed}
+use Rattle.ufs_spec.specs.Exchanges.{to_gather}
+use Rattle.ufs_spec.specs.Refusals.{blocks_brought, brought, is_frames, needs_mended, slots_needed}
 use Rattle.ufs_spec.specs.declared.operations.Kind.TheVariants as kind
 use Rattle.ufs_spec.specs.declared.operations.Told.{Told}
 use Rattle.ufs_spec.specs.declared.scsi.Cdb.TheVariants as cdb
 use Rattle.ufs_spec.specs.declared.volatile.Volatile.{Volatile}
 
 pub data Beginning : Type 0 where
-  -- it is answered GOOD, or waits for all that is accepted
-  Answered : Beginning
+  -- it is answered GOOD, of n bytes of which so many count as expected; or it waits for all that is accepted
+  Answered : (expected n : ℕ) → Beginning
   Waiting : Beginning
   -- it sends these data, and leaves so what is volatile; or the frames that wait in a region
   Telling : (volatile : Volatile) → (bytes : List ℕ) → Beginning
   Handing : (region n : ℕ) → Beginning
   -- it reads blocks
   Reading : (unit address n : ℕ) → Beginning
-  -- it gathers data, in slots that it claims
-  Gathered : (count : ℕ) → (purpose : Purpose) → (n : ℕ) → Beginning
+  -- it gathers data, of n bytes of which so many count as expected, in slots that it claims
+  Gathered : (expected count : ℕ) → (purpose : Purpose) → (n : ℕ) → Beginning
+
+-- the request, of which so many bytes count as expected
+abbrev pub expecting : Request → ℕ → Request
+expecting r expected = record r { expected = expected }
 
 abbrev pub begun_as : State → Request → Cdb → Beginning → State
-begun_as s r c Answered = with_task s r (Some c) 0 (Answering Good 0)
-begun_as s r c Waiting = with_task s r (Some c) 0 (Awaiting (length s.accepted))
-begun_as s r c (Telling volatile bytes) = data_begun (record s { volatile = volatile }) r c bytes
+begun_as s r c (Answered expected n) = with_task s (expecting r expected) (Some (brought r.expected c)) n (Answering Good n)
+begun_as s r c Waiting = with_task s r (Some (brought r.expected c)) 0 (Awaiting (length s.accepted))
+begun_as s r c (Telling volatile bytes) = data_begun (record s { volatile = volatile }) r (brought r.expected c) bytes
 begun_as s r c (Handing region n) = frames_begun s r region n
-begun_as s r c (Reading unit address n) = read_begun s r c unit address n
-begun_as s r c (Gathered count purpose n) =
-    with_task (with_moves s (Claim count ∷ [])) r (Some c) n (Gathering purpose [] false)
+begun_as s r c (Reading unit address n) = read_begun s r (brought r.expected c) unit address n
+begun_as s r c (Gathered expected count purpose n) =
+    with_task (with_moves s (Claim count ∷ [])) (expecting r expected) (Some (brought r.expected c)) n
+    (Gathering purpose [] false)
 
 -- data that are known at the COMMAND
 pub record IsTold (s : State) (r : Request) (volatile : Volatile) (bytes : List ℕ) : Type 0 where
@@ -46,34 +53,40 @@ pub record IsTold (s : State) (r : Request) (volatile : Volatile) (bytes : List 
   pub is : bytes ≡ take allocation (told_bytes s r what select)
   pub leaves : volatile ≡ volatile_told s r what
 
--- what a WRITE gathers: its blocks, each in a slot
-pub record IsWritten (n : Numbers) (unit : ℕ) (c : Cdb) (count u address blocks total : ℕ) : Type 0 where
+-- what a WRITE gathers: the blocks of its that come, each in a slot
+pub record IsWritten (n : Numbers) (unit : ℕ) (r : Request) (c : Cdb) (count u address blocks total : ℕ) : Type 0 where
   pub unit_is : u ≡ unit
   pub address_is : address ≡ address_of c
   pub blocks_are : blocks ≡ count
-  pub total_is : total ≡ 4096 * count
-  pub all : blocks_of c ≡ count
+  pub total_is : total ≡ 4096 * blocks_of c
+  pub some : 0 < count
+  pub few : count ≤ blocks_of c
+  pub those : blocks_of (brought r.expected c) ≡ count
+  pub same_address : address_of (brought r.expected c) ≡ address_of c
   pub writes : kind_of c ≡ kind.Write
+  pub still_writes : kind_of (brought r.expected c) ≡ kind.Write
   pub long : is_too_long n c ≡ nat_lt (command_blocks n) (blocks_of c)
 
 -- what each command gathers that takes data: a WRITE its blocks, an UNMAP its list, a SECURITY PROTOCOL OUT its frames
-abbrev pub IsGathered : Numbers → ℕ → Cdb → ℕ → Purpose → ℕ → Type 0
-IsGathered n unit c count (ForWrite u address blocks forced) total = IsWritten n unit c count u address blocks total
-IsGathered n unit c count (ForUnmap u) total = (u ≡ unit) × (c ≡ cdb.Unmap total)
-IsGathered n unit c count (ForFrames region) total = c ≡ cdb.SecurityOut region total
+abbrev pub IsGathered : Numbers → ℕ → Request → Cdb → ℕ → Purpose → ℕ → Type 0
+IsGathered n unit r c count (ForWrite u address blocks forced) total = IsWritten n unit r c count u address blocks total
+IsGathered n unit r c count (ForUnmap u) total = (u ≡ unit) × (c ≡ cdb.Unmap total)
+IsGathered n unit r c count (ForFrames region) total = c ≡ cdb.SecurityOut region total
 
 abbrev pub WhyBegun : State → Request → ℕ → Cdb → Beginning → Type 0
-WhyBegun s r unit c Answered = Unit {0}
+WhyBegun s r unit c (Answered expected n) =
+    (expected ≤ r.expected) × (is_too_long (numbers_of s) c ≡ false → n < 2 ^ 32)
 WhyBegun s r unit c Waiting = mended s ≡ true
 WhyBegun s r unit c (Telling volatile bytes) = IsTold s r volatile bytes
 WhyBegun s r unit c (Handing region n) = c ≡ cdb.SecurityIn region n
 WhyBegun s r unit c (Reading u address n) =
     (u ≡ unit) × (address ≡ address_of c) × (n ≡ blocks_of c * 4096)
     × (kind_of c ≡ kind.Read)
-WhyBegun s r unit c (Gathered count purpose n) =
-    (slots_needed (numbers_of s) c ≡ count) × (is_too_long (numbers_of s) c ≡ false → 0 < n)
+WhyBegun s r unit c (Gathered expected count purpose n) =
+    (slots_needed (numbers_of s) (brought r.expected c) ≡ count) × (is_too_long (numbers_of s) c ≡ false → 0 < to_gather purpose n)
     × (is_too_long (numbers_of s) c ≡ false → has_wrong_list c ≡ false → n < 2 ^ 32)
-    × (needs_mended c ≡ true) × IsGathered (numbers_of s) unit c count purpose n
+    × (needs_mended c ≡ true) × IsGathered (numbers_of s) unit r c count purpose n × (expected ≤ r.expected)
+    × (to_gather purpose n ≤ n)
 
 -- ## The walk
 
@@ -129,31 +142,39 @@ module _ (P : State → Type 0) (s : State) (r : Request) (unit : ℕ) where
   abbrev Each : Cdb → Type 0
   Each c = (b : Beginning) → WhyBegun s r unit c b → P (begun_as s r c b)
 
-  good_by : (c : Cdb) → Each c → P (with_task s r (Some c) 0 (Answering Good 0))
-  good_by c each = each Answered tt
+  good_by : (c : Cdb) → Each c → P (with_task s r (Some (brought r.expected c)) 0 (Answering Good 0))
+  good_by c each = each (Answered r.expected 0) (omega arith, λ short. omega arith)
 
-  flush_by : (c : Cdb) (immediate : Bool) → Each c → P (flush_begun s r c immediate)
-  flush_by c true each = good_by c each
-  flush_by c false each = by (mended s) refl
+  flush_by : (immediate : Bool) → Each (cdb.Flush immediate) → P (flush_begun s r (cdb.Flush immediate) immediate)
+  flush_by true each = good_by (cdb.Flush true) each
+  flush_by false each = by (mended s) refl
     where
       by : (b : Bool) → mended s ≡ b →
-          P (with_task s r (Some c) 0 (if not b then Answering Good 0 else Awaiting (length s.accepted)))
+          P (with_task s r (Some (cdb.Flush false)) 0 (if not b then Answering Good 0 else Awaiting (length s.accepted)))
       by true e = each Waiting e
-      by false e = good_by c each
+      by false e = good_by (cdb.Flush false) each
 
   good_unmap : (list : ℕ) → (list == 0) ≡ true → Each (cdb.Unmap list) →
       P (with_task s r (Some (cdb.Unmap list)) 0 (Answering Good 0))
   good_unmap list none each = good_by (cdb.Unmap list) each
 
-  pub begins_by : (c : Cdb) → Each c → P (begun s r unit c)
-  begins_by cdb.Nothing each = good_by cdb.Nothing each
-  begins_by (cdb.Tell what select allocation) each =
-      each (Telling _ _)
-      (record { what = what; select = select; allocation = allocation; is = refl; leaves = refl })
-  begins_by (cdb.Read address blocks) each = each (Reading unit address _) (refl, refl, omega arith, refl)
-  begins_by (cdb.Write address blocks forced) each =
-      if_cases P (blocks == 0) (λ none. good_by (cdb.Write address blocks forced) each)
-      (λ some. each (Gathered blocks (ForWrite unit address blocks forced) (4096 * blocks)) (
+  -- no more counts as expected than the host said
+  less_counts : (expected n : ℕ) → expected_of_write expected n ≤ expected
+  less_counts expected n =
+      if_both (λ (m : ℕ). m ≤ expected) (nat_lt expected n)
+      (let part = div-add-mod expected 4096 in omega arith) (omega arith)
+
+  write_by : (address blocks : ℕ) (forced : Bool) → Each (cdb.Write address blocks forced) →
+      P (write_begun s r unit address (blocks_brought r.expected blocks) forced (4096 * blocks))
+  write_by address blocks forced each =
+      let counts = less_counts r.expected (4096 * blocks) in
+      let fewer : blocks_brought r.expected blocks ≤ blocks = grind arith in
+      if_cases P (blocks_brought r.expected blocks == 0)
+      (λ none. each (Answered (expected_of_write r.expected (4096 * blocks)) (4096 * blocks))
+      (counts, λ short. (let few = few_blocks (numbers_of s) blocks short in omega arith)))
+      (λ some. each
+      (Gathered (expected_of_write r.expected (4096 * blocks)) (blocks_brought r.expected blocks)
+      (ForWrite unit address (blocks_brought r.expected blocks) forced) (4096 * blocks)) (
         refl,
         (λ short. some_blocks _ some),
         (λ short listed. let few = few_blocks (numbers_of s) blocks short in omega arith),
@@ -163,35 +184,53 @@ module _ (P : State → Type 0) (s : State) (r : Request) (unit : ℕ) where
           address_is = refl;
           blocks_are = refl;
           total_is = refl;
-          all = refl;
+          some = more_than_none _ (eqb-false _ 0 some);
+          few = fewer;
+          those = refl;
+          same_address = refl;
           writes = refl;
+          still_writes = refl;
           long = refl;
         },
+        counts,
+        omega arith,
       ))
+
+  pub begins_by : (c : Cdb) → Each c → P (begun s r unit c)
+  begins_by cdb.Nothing each = good_by cdb.Nothing each
+  begins_by (cdb.Tell what select allocation) each =
+      each (Telling _ _)
+      (record { what = what; select = select; allocation = allocation; is = refl; leaves = refl })
+  begins_by (cdb.Read address blocks) each = each (Reading unit address _) (refl, refl, omega arith, refl)
+  begins_by (cdb.Write address blocks forced) each = write_by address blocks forced each
   begins_by (cdb.Prefetch address blocks) each = good_by (cdb.Prefetch address blocks) each
   begins_by (cdb.Diagnose tests) each = good_by (cdb.Diagnose tests) each
-  begins_by (cdb.Flush immediate) each = flush_by (cdb.Flush immediate) immediate each
+  begins_by (cdb.Flush immediate) each = flush_by immediate each
   begins_by (cdb.Unmap list) each =
       if_cases P (list == 0) (λ none. good_unmap list none each)
-      (λ some. each (Gathered (slots_needed (numbers_of s) (cdb.Unmap list)) (ForUnmap unit) list) (
+      (λ some. each (Gathered r.expected (slots_needed (numbers_of s) (cdb.Unmap list)) (ForUnmap unit) list) (
         refl,
         (λ short. more_than_none list (eqb-false list 0 some)),
         (λ short listed. few_listed list listed),
         refl,
         (refl, refl),
+        omega arith,
+        omega arith,
       ))
   begins_by (cdb.SecurityIn region n) each = each (Handing region n) refl
   begins_by (cdb.SecurityOut region n) each =
-      each (Gathered (slots_needed (numbers_of s) (cdb.SecurityOut region n)) (ForFrames region) n) (
+      each (Gathered r.expected (slots_needed (numbers_of s) (cdb.SecurityOut region n)) (ForFrames region) n) (
         refl,
         some_frames region n,
         (λ short listed. few_frames n short),
         refl,
         refl,
+        omega arith,
+        omega arith,
       )
 
 -- each opens one task, of the request's tag
 pub beginning_opens : (s : State) (r : Request) (c : Cdb) (b : Beginning) →
     (task : Task) × ((begun_as s r c b).tasks ≡ s.tasks ++ task ∷ []) × (task.tag ≡ r.tag)
-beginning_opens s r c Answered = (_, refl, refl)
+beginning_opens s r c (Answered expected n) = (_, refl, refl)
 beginning_opens s r c b = (_, refl, refl)

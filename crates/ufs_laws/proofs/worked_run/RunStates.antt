@@ -1,4 +1,5 @@
 -- The states of the run of a new device, one by one.
+use Rattle.ufs_spec.specs.Exchanges.{to_gather}
 use Rattle.ufs_laws.proofs.Common.{Answering, Awaiting, Bool, Deed, Disk, Flight, ForWrite, Gathering, Good, Item}
 use Rattle.ufs_laws.proofs.Common.{Ledger, List, MarkPage, Mended, Name, None, Option, Pin, Plain, Purpose, ReadState}
 use Rattle.ufs_laws.proofs.Common.{Sending, Some, Spot, State, Task, Unread, WasRead, Work, [], ap, apply, arith}
@@ -36,11 +37,11 @@ pub block_written : (base : Plain) (body : List ℕ) → shape_of base ≡ shape
     → block_at 0 0xFF (apply base (command.Write 0 0xFF (body ∷ []))) ≡ body
 block_written base body shape = block_set base.units body (64 ∷ 64 ∷ []) (ap (λ s. s.blocks) shape)
 
-pub gathered_all : (s : State) (task : Task) (purpose : Purpose) (body : List ℕ) → task.length ≤ length body
+pub gathered_all : (s : State) (task : Task) (purpose : Purpose) (body : List ℕ) → to_gather purpose task.length ≤ length body
     → gathered_more s task purpose body ≡ complete s task purpose body
 gathered_all s task purpose body long =
     ap (λ (b : Bool). if b then set_deed s task.tag (Gathering purpose body false) else complete s task purpose body)
-    (le-ltb (length body) task.length long)
+    (le-ltb (length body) (to_gather purpose task.length) long)
 
 -- Flights
 
