@@ -7,8 +7,10 @@
 -- code 00h. A command that is aborted gets no data and no answer any more, and what it had accepted stays accepted.
 use Rattle.std.specs.Prelude.{ℕ, ◌+◌, ◌==◌, ◌&&◌, ◌||◌, ◌^◌, nat_le, nat_lt, max, Bool, false, if◌then◌else◌}
 use Rattle.std.specs.Prelude.{List, [], ◌∷◌, ◌++◌, length, take, drop, slice_index, slice_index_or, slice_set}
-use Rattle.std.specs.Prelude.{Option, Some, None}
+use Rattle.std.specs.Prelude.{Option, Some, None, option_map}
+use Rattle.ufs_bytes.specs.Fields.{field_at}
 use Rattle.ufs_spec.specs.CdbFields.{spelled_cdb}
+use Rattle.ufs_spec.specs.Cdbs.{brought as command_brought}
 use Rattle.ufs_spec.specs.Commands.{Command}
 use Rattle.ufs_spec.specs.Messages.{is_short}
 use Rattle.ufs_spec.specs.declared.configs.Numbers.{Numbers}
@@ -62,8 +64,8 @@ abbrev pub awaited_blocks : Option WriteBegun → Awaited
 awaited_blocks None = Nothing
 awaited_blocks (Some w) = Blocks w
 
--- the data that a command to a unit waits for: a WRITE its blocks, UNMAP its list (SBC), and SECURITY PROTOCOL OUT frames
--- for its region (SPC; JESD220). A CDB that spells no command is refused, so it gets none
+-- the data that a command to a unit waits for: a WRITE its blocks that come, UNMAP its list (SBC), and SECURITY
+-- PROTOCOL OUT frames for its region (SPC; JESD220). A CDB that spells no command is refused, so it gets none
 abbrev pub awaited_by : ℕ → Option Cdb → Awaited
 awaited_by unit (Some (cdb.Write address blocks forced)) = awaited_blocks (begun_write unit address blocks forced)
 awaited_by unit (Some (cdb.Unmap list)) = UnmapList
@@ -82,9 +84,13 @@ begun j name command =
     with_open (record j { tasks = without name.tag j.tasks })
     (record { name = name; awaited = awaited_by name.lun command; promised = promised_by (length j.entries) command })
 
--- what a COMMAND asks for, if the CDB in its bytes 16..31 spells a command
+-- what a COMMAND brings data for whose host sends so many bytes, if its CDB spells a command
+abbrev pub brought_by : (expected : ℕ) → Option Cdb → Option Cdb
+brought_by expected command = option_map (command_brought expected) command
+
+-- the same of a COMMAND: its host sends as many bytes as its bytes 12..15 say, and its CDB is in bytes 16..31
 abbrev pub command_in : List ℕ → Option Cdb
-command_in message = spelled_cdb (take 16 (drop 16 message))
+command_in message = brought_by (field_at 4 12 message) (spelled_cdb (take 16 (drop 16 message)))
 
 -- ## A DATA OUT
 
@@ -182,7 +188,7 @@ abbrev pub name_in : List ℕ → TaskName
 name_in message = record { lun = slice_index message 2; tag = slice_index message 3 }
 
 -- the device took this message: a COMMAND (01h), a DATA OUT (02h), a TASK MANAGEMENT REQUEST (04h), a QUERY REQUEST
--- (16h) or another one
+-- (16h), a LINK EVENT (1Fh), after which nothing is open, or another one
 abbrev pub heard : Heard → List ℕ → Heard
 heard j message =
     if is_short message then j
@@ -191,6 +197,7 @@ heard j message =
     else if slice_index message 0 == 0x04
     then managed j (slice_index message 5) (slice_index message 2) (slice_index message 19)
     else if slice_index message 0 == 0x16 then asked j (name_in message) (asked_setting (query_in message))
+    else if slice_index message 0 == 0x1F then record j { tasks = [] }
     else j
 
 -- the response and the status are zero: target success, and GOOD

@@ -18,11 +18,13 @@ use crate::tasks::{Awaited, OpenTask, TaskName, abort, close};
 use crate::unmaps::zeros_asked;
 use crate::writes::{OpenWrite, begun_write};
 use rpmb::{RegionState, whole_frames};
-use scsi_cdb::{row_of, spelled};
+use scsi_cdb::{brought, row_of, spelled};
 use std::alloc::Global;
 use std::marker::Model;
-use ufs_spec::codes::{COMMAND, DATA_OUT, QUERY_REQUEST, QUERY_RESPONSE, RESPONSE, TASK_REQUEST};
-use ufs_spec::{Block, Cdb, Cmd, NoMemory, Numbers};
+use ufs_spec::codes::{
+    COMMAND, DATA_OUT, LINK_EVENT, QUERY_REQUEST, QUERY_RESPONSE, RESPONSE, TASK_REQUEST,
+};
+use ufs_spec::{Block, Cdb, Cmd, NoMemory, Numbers, read_u32};
 
 /// What the host of one life wrote.
 #[derive(Drop)]
@@ -125,6 +127,10 @@ impl Journal {
                 Ok(())
             }
             QUERY_REQUEST => self.ask(name_in(message), setting_asked(message)),
+            LINK_EVENT => {
+                self.tasks.clear();
+                Ok(())
+            }
             _ => Ok(()),
         }
     }
@@ -419,7 +425,7 @@ pub fn block_in(message: &[u8]) -> Option<Block>
     Some(block)
 }
 
-// What a COMMAND asks for, if its CDB spells a command.
+// What a COMMAND asks for, if its CDB spells a command: of a WRITE the blocks that its host brings.
 fn command_in(message: &[u8]) -> Option<Cdb>
     requires { 32 ≤ length message.now }
     ensures { result ≡ command_in message.now }
@@ -427,7 +433,8 @@ fn command_in(message: &[u8]) -> Option<Cdb>
     let mut cdb = [0; 16];
     cdb.copy_from_slice(&message[16..32]);
     let row = row_of(&cdb)?;
-    spelled(&row, &cdb)
+    let command = spelled(&row, &cdb)?;
+    Some(brought(read_u32(message, 12), &command))
 }
 
 // The data that a command to this unit waits for.

@@ -43,16 +43,15 @@ pub record BookFits (b : Book) : Type 0 where
 
 -- Tasks
 
--- a WRITE that gathers its data lies within its unit, and has less than its length; it is there once the device is
--- mended alone, and has claimed a slot for each block
-pub record WriteFits (n : Numbers) (mended : Bool) (unit address blocks total : ℕ) (gathered : List ℕ)
+-- a WRITE that gathers its data lies within its unit, and has less than its blocks that are taken; it is there once the
+-- device is mended alone, and has claimed a slot for each of these blocks
+pub record WriteFits (n : Numbers) (mended : Bool) (unit address blocks : ℕ) (gathered : List ℕ)
     (claimed : ℕ) : Type 0 where
   pub unit_in : unit < length (shape_of_numbers n).blocks
   pub some : 1 ≤ blocks
   pub not_long : blocks ≤ command_blocks n
   pub within : address + blocks ≤ slice_index_or (shape_of_numbers n).blocks unit 0
-  pub total_is : total ≡ 4096 * blocks
-  pub short : length gathered < total
+  pub short : length gathered < 4096 * blocks
   pub bytes : AreBytes gathered
   pub claimed_is : claimed ≡ blocks
   pub is_mended : mended ≡ true
@@ -87,7 +86,7 @@ pub record FramesFit (n : Numbers) (region total : ℕ) (gathered : List ℕ) (c
 -- did what waits. Frames may come to a locked device that is not mended
 abbrev pub DeedFits : Numbers → ℕ → Bool → ℕ → ℕ → Deed → Type 0
 DeedFits n accepted mended claimed total (Gathering (ForWrite unit address blocks forced) gathered asked) =
-    WriteFits n mended unit address blocks total gathered claimed
+    WriteFits n mended unit address blocks gathered claimed
 DeedFits n accepted mended claimed total (Gathering (ForUnmap unit) gathered asked) =
     UnmapFits n mended unit total gathered claimed
 DeedFits n accepted mended claimed total (Gathering (ForFrames region) gathered asked) =

@@ -86,7 +86,7 @@ pub record IsAnsweredGood (s : State) (r : Request) (bytes : List ℕ) (t : Stat
 -- What it promises
 
 -- the request's write of these blocks is held: it was accepted after the first state, at this position, which is held
--- in the second state, and it writes to the request's unit the data that were carried, which are all of its blocks
+-- in the second state, and it writes to the request's unit the data that were carried, which are all of these blocks
 pub record IsHeldWrite (s : State) (r : Request) (address blocks : ℕ) (bytes : List ℕ) (t : State) : Type 0 where
   pub position : ℕ
   pub later : length s.accepted ≤ position

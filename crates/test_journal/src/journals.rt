@@ -203,9 +203,12 @@ fn flush(tag: u8, is_immediate: bool) -> [u8; 32] {
     command(tag, SYNCHRONIZE, if is_immediate { 0x02 } else { 0 }, 0, 0)
 }
 
-/// A WRITE(6) of one block. Its address has 21 bits, the highest five of them in the second byte.
+/// A WRITE(6) of one block, which the host brings. Its address has 21 bits, the highest five of them in the
+/// second byte.
 fn write_6(tag: u8, second: u8) -> [u8; 32] {
-    command(tag, 0x0A, second, 0x0203_0100, 0)
+    let mut bytes = command(tag, 0x0A, second, 0x0203_0100, 0);
+    bytes[14] = 0x10;
+    bytes
 }
 
 /// A life begins, without a key.

@@ -9,7 +9,7 @@ use Rattle.heard_laws.proofs.Common.{◌∙◌, ◌≡◌, ◌⊎◌}
 use Rattle.std.proofs.Common.{◌/◌, ◌||◌}
 use Rattle.ufs_spec.specs.Commands.{Command}
 use Rattle.ufs_spec.specs.DataOuts.{data_for, unmap_complete}
-use Rattle.ufs_spec.specs.Exchanges.{count_at, is_asked_in}
+use Rattle.ufs_spec.specs.Exchanges.{count_at, is_asked_in, to_gather}
 use Rattle.ufs_spec.specs.FrameRequests.{frames_complete}
 use Rattle.ufs_spec.specs.Frames.{frames_in}
 use Rattle.ufs_spec.specs.Machine.{gathered_more}
@@ -49,31 +49,30 @@ module _ (s : State) (held : ℕ) (j : Heard) (task : Task) (lun offset : ℕ) (
   -- as many bytes came as were asked for
   asked_count : (purpose : Purpose) (before : List ℕ) (asked : Bool) →
       is_asked_in task lun offset (length more) (Gathering purpose before asked) ≡ true →
-      length more ≡ count_at task.length (length before)
+      length more ≡ count_at (to_gather purpose task.length) (length before)
   asked_count purpose before asked e =
-      eqb-true (length more) (count_at task.length (length before))
+      eqb-true (length more) (count_at (to_gather purpose task.length) (length before))
       (and_parts (asked && (task.lun == lun) && (offset == length before))
-      (length more == count_at task.length (length before)) e).1
+      (length more == count_at (to_gather purpose task.length) (length before)) e).1
 
   write_comes : (unit address blocks : ℕ) (forced : Bool) (before : List ℕ) →
-      length more ≡ count_at task.length (length before) → Fits
+      length more ≡ count_at (4096 * blocks) (length before) → Fits
       (Gathering (ForWrite unit address blocks forced) before true) →
       Agrees (Gathering (ForWrite unit address blocks forced) before true) →
       AgreeIn s held (gathered_more s task (ForWrite unit address blocks forced) (before ++ more))
       (received j task.tag m)
   write_comes unit address blocks forced before count fits h =
       let w = h.waits in
-      let total = fits.total_is in
       let short = fits.short in
       let long = h.same.long in
-      let whole : length more ≡ 4096 = omega (arith, count, total, short, long) in
+      let whole : length more ≡ 4096 = omega (arith, count, short, long) in
       let joined = length-append before more in
       subst (AgreeIn s held (gathered_more s task (ForWrite unit address blocks forced) (before ++ more)))
       (sym (received_is j task.tag w.task (Blocks h.write) m w.is w.awaits
       ∙ ap (gathered (record j { tasks = without task.tag j.tasks }) w.task.name w.task.promised h.write)
       (block_is lun task.tag offset «data» whole)))
-      (block_agrees s held j task a found unit address blocks forced before h more whole total fits.is_mended
-      (omega (arith, count, joined, total, short)))
+      (block_agrees s held j task a found unit address blocks forced before h more whole fits.is_mended
+      (omega (arith, count, joined, short)))
 
   list_comes : (unit : ℕ) (before : List ℕ) → length more ≡ count_at task.length (length before) →
       Fits (Gathering (ForUnmap unit) before true) → Agrees (Gathering (ForUnmap unit) before true) →

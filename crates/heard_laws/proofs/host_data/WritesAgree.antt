@@ -25,7 +25,7 @@ use Rattle.heard_laws.proofs.rolls.StandingRolls.{as_long}
 module _ (s : State) (held : ℕ) (j : Heard) (task : Task) (a : AgreeIn s held s j)
     (found : task_of task.tag s.tasks ≡ Some task) (unit address blocks : ℕ) (forced : Bool) (before : List ℕ)
     (h : WaitsForBlocks (numbers_of s) task.lun unit address blocks forced before (find (has_tag task.tag) j.tasks))
-    (more : List ℕ) (whole : length more ≡ 4096) (total : task.length ≡ 4096 * blocks)
+    (more : List ℕ) (whole : length more ≡ 4096)
     (mends : mended s ≡ true) where
   abbrev all : List ℕ
   all = before ++ more
@@ -131,22 +131,22 @@ module _ (s : State) (held : ℕ) (j : Heard) (task : Task) (a : AgreeIn s held 
       else open_again (with_command k (write_of w)) t.name promised Nothing)) (sym a.lock)
       (last_block (locked s) refl is))
 
-  by_length : (b : Bool) → nat_lt (length all) task.length ≡ b → length all ≤ task.length →
+  by_length : (b : Bool) → nat_lt (length all) (4096 * blocks) ≡ b → length all ≤ 4096 * blocks →
       AgreeIn s held (if b then set_deed s task.tag (Gathering (ForWrite unit address blocks forced) all false)
       else write_complete s task unit address blocks forced all)
       (if (if b then false else true) then written k t.name t.promised w
       else open_again k t.name t.promised (Blocks w))
   by_length true e most = goes_on
   by_length false e most =
-      let l = ltb-false (length all) task.length e in
-      completes (command_is (omega (arith, l, most, total)) same)
+      let l = ltb-false (length all) (4096 * blocks) e in
+      completes (command_is (omega (arith, l, most)) same)
 
   -- one block more agrees
-  pub block_agrees : length all ≤ task.length →
+  pub block_agrees : length all ≤ 4096 * blocks →
       AgreeIn s held (gathered_more s task (ForWrite unit address blocks forced) all)
       (gathered k t.name t.promised h.write (Some more))
   block_agrees most =
       subst (λ (b : Bool). AgreeIn s held (gathered_more s task (ForWrite unit address blocks forced) all)
       (if b then written k t.name t.promised w else open_again k t.name t.promised (Blocks w)))
-      (sym (whole_told total same (nat_lt (length all) task.length) refl))
-      (by_length (nat_lt (length all) task.length) refl most)
+      (sym (whole_told refl same (nat_lt (length all) (4096 * blocks)) refl))
+      (by_length (nat_lt (length all) (4096 * blocks)) refl most)

@@ -4,9 +4,10 @@ use Rattle.heard_laws.proofs.Common.{List, Message, None, OfDone, OfReply, OfTak
 use Rattle.heard_laws.proofs.Common.{Take, Task, Turn, ap, behind, eqb-true, false, find, inl, inr, is_short}
 use Rattle.heard_laws.proofs.Common.{is_short_of, is_task_of, length, none-some, refl, short_replied, short_reply}
 use Rattle.heard_laws.proofs.Common.{spelling, subst, sym, tag_in, task_of, true, with_short, ℕ, ◌∙◌, ◌≡◌, ◌≤◌}
-use Rattle.ufs_spec.specs.Exchanges.{Short, is_asked_in, is_asked_of}
+use Rattle.std.specs.Prelude.{[]}
+use Rattle.ufs_spec.specs.Exchanges.{Short, is_asked_in, is_asked_of, number_of}
 use Rattle.ufs_spec.specs.Machine.{Due, IsCdbIn, IsHeard, OfHost, Spelled, asked_fault, cdb_of, data_heard, ends_with}
-use Rattle.ufs_spec.specs.Machine.{heard, message_fault, opens_short, replied, replied_by, service}
+use Rattle.ufs_spec.specs.Machine.{heard, link_reset, message_fault, opens_short, replied, replied_by, service}
 use Rattle.ufs_spec.specs.Messages.{IsMessage}
 use Rattle.ufs_spec.specs.Moves.{Ending}
 use Rattle.ufs_spec.specs.declared.faults.HostFault.TheVariants.{Code, NotAskedFor}
@@ -44,6 +45,18 @@ module _ (s : State) (most : ℕ) (j : journal.Heard) (v : IsTied s) (a : AgreeI
     unmended = a.unmended;
   }
 
+  -- a LINK EVENT ends all that is open on both sides
+  event_agrees : (kind : ℕ) → AgreeIn s most (link_reset s kind) (record j { tasks = [] })
+  event_agrees kind = record {
+    numbers = a.numbers;
+    lock = a.lock;
+    roll = a.roll;
+    books = a.books;
+    pairs = record { differ = tt; at = λ tag. refl };
+    regions = a.regions;
+    unmended = a.unmended;
+  }
+
   data_comes : (lun tag offset : ℕ) («data» : ArrayVec ℕ) (x : Option Task) → task_of tag s.tasks ≡ x →
       is_short (spelling (message.DataOut lun tag offset «data»)) ≡ false →
       asked_fault (is_asked_of x lun offset (length «data».items)) ≡ None →
@@ -72,26 +85,28 @@ module _ (s : State) (most : ℕ) (j : journal.Heard) (v : IsTied s) (a : AgreeI
           is_short (spelling m) ≡ false → message_fault s m ≡ None → CanApplyAll s.base (heard s m c).accepted →
           AgreeIn s most (heard s m c) (journal.heard j (spelling m))
       by (message.NopOut tag) fits spells long fault can =
-          nop_agrees tag (message.NopIn tag) (is_free s tag true fault)
+          nop_agrees tag (message.NopIn tag) (is_free s false tag true fault)
       by (message.Command flags lun tag expected taken) fits spells long fault can =
           let r : Request = record { flags = flags; lun = lun; tag = tag; expected = expected; bytes = taken; cdb = c }
           in
           subst (AgreeIn s most (heard s (message.Command flags lun tag expected taken) c))
-          (sym (heard_command j flags lun tag expected taken fits.4 long
-          ∙ ap (journal.begun j (record { lun = lun; tag = tag })) (sym spells)))
-          (command_agrees s most j r a (is_free s tag (opens_short s (message.Command flags lun tag expected taken))
+          (sym (heard_command j flags lun tag expected taken fits.3 fits.4 long
+          ∙ ap (λ (o : Option Cdb). journal.begun j (record { lun = lun; tag = tag }) (journal.brought_by expected o))
+          (sym spells)))
+          (command_agrees s most j r a (is_free s false tag (opens_short s (message.Command flags lun tag expected taken))
           (may_open s flags _ fault))
           v spells)
       by (message.DataOut lun tag offset «data») fits spells long fault can =
           data_comes lun tag offset «data» (task_of tag s.tasks) refl long fault can
       by (message.TaskRequest lun tag function meant) fits spells long fault can =
-          managed_agrees s most j tag lun function meant
-          (message.TaskResponse lun tag (service s lun function meant)) v a (is_free s tag true fault)
+          managed_agrees s most j (number_of true tag) lun function meant
+          (message.TaskResponse lun tag (service s lun function meant)) v a (is_free s true tag true fault)
       by (message.QueryRequest tag function asked size value «data») fits spells long fault can =
           subst (AgreeIn s most (heard s (message.QueryRequest tag function asked size value «data») c))
           (sym (heard_query j tag function asked size value «data» fits long))
           (query_agrees s most j tag (record { function = function; asked = asked; length = size; value = value }) a
-          (is_free s tag true fault))
+          (is_free s false tag true fault))
+      by (message.LinkEvent kind) fits spells long fault can = event_agrees kind
       by (message.NopIn tag) fits spells long fault can = absurd (none-some Code (sym fault))
       by (message.Response flags lun tag response status residual sense) fits spells long fault can =
           absurd (none-some Code (sym fault))

@@ -6,7 +6,9 @@ use Rattle.heard_laws.proofs.Common.{◌∷◌, ◌≡◌, ◌≤◌}
 use Rattle.std.specs.Global.{Vec}
 use Rattle.std.specs.Prelude.{Err, Ok, Result}
 use Rattle.ufs_spec.specs.Lives.{IsCall, IsFinish, IsShown, Leads, Life, ended_well, held}
-use Rattle.ufs_spec.specs.Machine.{Allowed, Faulty, Heard, Host, IsHeard, OfHost, Reply, Spelled, message_fault}
+use Rattle.ufs_spec.specs.Machine.{Allowed, Faulty, Heard, Host, IsHeard, NoEvent, OfHost, Reply, Spelled, message_fault}
+use Rattle.ufs_spec.specs.Machine.{no_event_fault}
+use Rattle.ufs_spec.specs.Refusals.{numbers_of}
 use Rattle.ufs_spec.specs.declared.events.Event.TheVariants as event
 use Rattle.ufs_spec.specs.declared.events.Output.TheVariants as output
 use Rattle.ufs_spec.specs.declared.faults.HostFault.{HostFault}
@@ -87,6 +89,8 @@ module _ (s : State) (j : journal.Heard) (v : IsTied s) (a : AgreeNow s j) where
       (close_quiet (Host h) (OfHost (Err fault)) j right a)
   host_event bytes o (Faulty fault) (Ok done) is shown right =
       absurd (taken_or_not done fault right)
+  host_event bytes o NoEvent (Ok done) is shown right =
+      absurd (taken_or_not done (no_event_fault (numbers_of s)) right)
   host_event bytes o (Spelled m c) (Ok done) is shown right =
       subst (λ (x : Output). Final (Host (Spelled m c)) (OfHost (Ok done)) (noted j (event.Host bytes) x)) (sym shown)
       (taken bytes m c done is right)

@@ -1,4 +1,5 @@
 -- Behind a COMMAND the device and the journal agree.
+use Rattle.journal.specs.Heard.{brought_by}
 use Rattle.heard_laws.proofs.Common.{Bool, IsFree, IsTied, List, Numbers, OpenTask, Request, Some, State, Task, []}
 use Rattle.heard_laws.proofs.Common.{if_cases, length, locked, mended, numbers_of, refl, refusal, response, same_Some}
 use Rattle.heard_laws.proofs.Common.{short_reply, spelled_cdb, subst, sym, with_short, ℕ, ◌++◌, ◌∙◌, ◌∷◌, ◌≡◌, ◌≤◌}
@@ -35,7 +36,7 @@ opened_pairs {n} {is_locked} {ready} {roll} {tasks} {shorts} {opens} lun tag tas
 
 module _ (s : State) (held : ℕ) (j : Heard) (r : Request) (a : AgreeIn s held s j) (free : IsFree s r.tag) where
   abbrev its : OpenTask
-  its = open_as r (length j.entries) r.cdb
+  its = open_as r (length j.entries) (brought_by r.expected r.cdb)
 
   long : length a.roll ≡ length j.entries
   long = as_long j.entries a.roll a.books.stand
@@ -54,7 +55,7 @@ module _ (s : State) (held : ℕ) (j : Heard) (r : Request) (a : AgreeIn s held 
       h))
 
   task_agrees : (u : State) → Opened s r (locked s || mended s) a.roll (Some its) u →
-      AgreeIn s held u (begun j (record { lun = r.lun; tag = r.tag }) r.cdb)
+      AgreeIn s held u (begun j (record { lun = r.lun; tag = r.tag }) (brought_by r.expected r.cdb))
   task_agrees u o =
       same_lists o.accepted_are o.tasks_are o.shorts_are (record {
         numbers = a.numbers;
@@ -62,7 +63,7 @@ module _ (s : State) (held : ℕ) (j : Heard) (r : Request) (a : AgreeIn s held 
         roll = a.roll;
         books = a.books;
         pairs = opened_pairs r.lun r.tag o.task its o.lun_is o.tag_is
-            (open_named r (length j.entries) r.cdb a.roll long)
+            (open_named r (length j.entries) (brought_by r.expected r.cdb) a.roll long)
             none o.deed a.pairs;
         regions = a.regions;
         unmended = a.unmended;
@@ -73,11 +74,11 @@ module _ (s : State) (held : ℕ) (j : Heard) (r : Request) (a : AgreeIn s held 
 
   full_open : ShortAgrees (locked s) a.roll full (Some its)
   full_open t e =
-      let named = open_named r (length j.entries) r.cdb a.roll long in
+      let named = open_named r (length j.entries) (brought_by r.expected r.cdb) a.roll long in
       subst (λ (x : OpenTask). (x.promised ≤ length a.roll) × OpenAgrees (locked s) a.roll full x.awaited)
       (same_Some its t e) (named.inside, bad_open (locked s) a.roll full its.awaited named.is_task refl refl)
 
-  full_agrees : AgreeIn s held (with_short s full) (begun j (record { lun = r.lun; tag = r.tag }) r.cdb)
+  full_agrees : AgreeIn s held (with_short s full) (begun j (record { lun = r.lun; tag = r.tag }) (brought_by r.expected r.cdb))
   full_agrees = record {
     numbers = a.numbers;
     lock = a.lock;
@@ -89,9 +90,9 @@ module _ (s : State) (held : ℕ) (j : Heard) (r : Request) (a : AgreeIn s held 
   }
 
   pub command_agrees : IsTied s → r.cdb ≡ spelled_cdb r.bytes →
-      AgreeIn s held (command_taken s r) (begun j (record { lun = r.lun; tag = r.tag }) r.cdb)
+      AgreeIn s held (command_taken s r) (begun j (record { lun = r.lun; tag = r.tag }) (brought_by r.expected r.cdb))
   command_agrees v spells =
-      if_cases (λ (u : State). AgreeIn s held u (begun j (record { lun = r.lun; tag = r.tag }) r.cdb))
+      if_cases (λ (u : State). AgreeIn s held u (begun j (record { lun = r.lun; tag = r.tag }) (brought_by r.expected r.cdb)))
       (nat_le most_tasks (length s.tasks)) (λ e. full_agrees)
       (λ e. task_agrees (refused_or_begun s r (refusal s r))
       (opens s r (length j.entries) a.roll a.books.accepted_are (refusal s r) refl v.config spells a.unmended))

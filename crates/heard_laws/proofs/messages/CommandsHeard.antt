@@ -11,7 +11,10 @@ use Rattle.std.specs.List.{flat_map}
 use Rattle.std.specs.Prelude.{slice_index_or}
 use Rattle.ufs_spec.proofs.ConfigFacts.{config_tests, ranges}
 use Rattle.ufs_spec.proofs.Facts.{and_parts, leb-true, not-false, not-true, or_from}
-use Rattle.ufs_spec.specs.Begins.{gathering_begun, unmap_begun}
+use Rattle.ufs_spec.specs.Begins.{gathering_begun, of_write, unmap_begun}
+use Rattle.ufs_spec.specs.Cdbs.{blocks_brought, brought}
+use Rattle.ufs_laws.proofs.walk.WaysOfCommands.{expecting}
+use Rattle.journal.specs.Heard.{brought_by}
 use Rattle.ufs_spec.specs.Cdbs.{carried}
 use Rattle.ufs_spec.specs.Exchanges.{ReadBlock, Short}
 use Rattle.ufs_spec.specs.Machine.{begun as device_begun, begun_if_any, data_begun, flush_begun, refused_or_begun}
@@ -167,6 +170,19 @@ module _ (s : State) (r : Request) (entries : ℕ) (roll : Roll) (all : somes ro
     deed = does;
   }
 
+  -- the same of a WRITE of which so many bytes count as expected
+  one_of : (c : Cdb) (u : State) (expected n : ℕ) (deed : Deed) → u.tasks ≡ s.tasks → u.shorts ≡ s.shorts →
+      u.accepted ≡ s.accepted → Does c deed → Opens c (with_task u (expecting r expected) (Some c) n deed)
+  one_of c u expected n deed e f g does = record {
+    task = task_for (expecting r expected) (Some c) n deed;
+    tasks_are = ap (λ (ts : List Task). ts ++ task_for (expecting r expected) (Some c) n deed ∷ []) e;
+    shorts_are = f;
+    accepted_are = g;
+    lun_is = refl;
+    tag_is = refl;
+    deed = does;
+  }
+
   good : (c : Cdb) (n m : ℕ) → promised_by entries (Some c) ≡ 0 → Opens c (with_task s r (Some c) n (Answering Good m))
   good c n m e = one c s n (Answering Good m) refl refl refl (λ is. quiet c e)
 
@@ -194,14 +210,15 @@ module _ (s : State) (r : Request) (entries : ℕ) (roll : Roll) (all : somes ro
       (at_most_of roll (its (cdb.Flush false))
       (let l = count_least entries roll in let same = ap length all in omega (arith, l, same))))
 
-  written : (unit address blocks : ℕ) (forced : Bool) → unit ≡ r.lun → is_none (lun_of (numbers_of s) r.lun) ≡ false →
-      nat_le (2 ^ 32) address ≡ false →
-      Opens (cdb.Write address blocks forced)
-      (write_begun s r (cdb.Write address blocks forced) unit address blocks forced)
-  written unit address blocks forced is there fits =
+  written : (unit address blocks : ℕ) (forced : Bool) (n : ℕ) → unit ≡ r.lun →
+      is_none (lun_of (numbers_of s) r.lun) ≡ false → nat_le (2 ^ 32) address ≡ false →
+      Opens (cdb.Write address blocks forced) (write_begun s r unit address blocks forced n)
+  written unit address blocks forced n is there fits =
       if_cases (Opens (cdb.Write address blocks forced)) (blocks == 0)
-      (λ none. good (cdb.Write address blocks forced) 0 0 refl)
-      (λ some. one (cdb.Write address blocks forced) (with_moves s (Claim blocks ∷ [])) (4096 * blocks) _ refl refl refl
+      (λ none. one_of (cdb.Write address blocks forced) s (of_write r n).expected n (Answering Good n) refl refl refl
+      (λ is. quiet (cdb.Write address blocks forced) refl))
+      (λ some. one_of (cdb.Write address blocks forced) (with_moves s (Claim blocks ∷ [])) (of_write r n).expected n _
+      refl refl refl
       (record {
         write = record { unit = r.lun; address = address; count = blocks; forced = forced; blocks = [] };
         waits = record {
@@ -242,7 +259,7 @@ module _ (s : State) (r : Request) (entries : ℕ) (roll : Roll) (all : somes ro
   -- the command that passed the table begins
   pub begins : (c : Cdb) → r.cdb ≡ Some c → IsConfig (numbers_of s) → refusal s r ≡ None →
       spelled_cdb r.bytes ≡ Some c → (mended s ≡ false → s.accepted ≡ []) →
-      Opens c (device_begun s r (unit_or_first (unit_of_request s r)) c)
+      Opens (brought r.expected c) (device_begun s r (unit_or_first (unit_of_request s r)) c)
   begins cdb.Nothing e config passes spells none = good cdb.Nothing 0 0 refl
   begins (cdb.Tell what select allocation) e config passes spells none =
       telling (cdb.Tell what select allocation) _ _ refl
@@ -252,7 +269,8 @@ module _ (s : State) (r : Request) (entries : ℕ) (roll : Roll) (all : somes ro
       let c = cdb.Write address blocks forced in
       let p = passed s r c e passes in
       let told = unit_told s r c (write_changes r.bytes c spells refl) p in
-      written (unit_or_first (unit_of_request s r)) address blocks forced (ap unit_or_first told.is)
+      written (unit_or_first (unit_of_request s r)) address (blocks_brought r.expected blocks) forced (4096 * blocks)
+      (ap unit_or_first told.is)
       (lun_there s r c p spells refl)
       (address_fits s r c address blocks config told (lies_within c told p.within))
   begins (cdb.Flush immediate) e config passes spells none = flushed immediate none
@@ -296,11 +314,13 @@ module _ (s : State) (r : Request) (entries : ℕ) (roll : Roll) (all : somes ro
   -- what a COMMAND opens, if it opens a task
   pub opens : (x : Option Status) → refusal s r ≡ x → IsConfig (numbers_of s) → r.cdb ≡ spelled_cdb r.bytes →
       (mended s ≡ false → s.accepted ≡ []) →
-      Opened s r (locked s || mended s) roll (Some (open_as r entries r.cdb)) (refused_or_begun s r x)
-  opens (Some status) e config spells none = refuses status r.cdb e
+      Opened s r (locked s || mended s) roll (Some (open_as r entries (brought_by r.expected r.cdb)))
+      (refused_or_begun s r x)
+  opens (Some status) e config spells none = refuses status (brought_by r.expected r.cdb) e
   opens None e config spells none = by r.cdb refl
     where
       by : (c : Option Cdb) → r.cdb ≡ c →
-          Opened s r (locked s || mended s) roll (Some (open_as r entries c)) (begun_if_any s r c)
+          Opened s r (locked s || mended s) roll (Some (open_as r entries (brought_by r.expected c)))
+          (begun_if_any s r c)
       by None k = absurd (no_command s r e k)
       by (Some c) k = begins c k config e (sym spells ∙ k) none

@@ -1,4 +1,8 @@
 -- What the journal hears in the spelling of each message, and is told by that of each reply.
+use Rattle.std.proofs.Common.{◌<◌, ◌^◌}
+use Rattle.ufs_bytes.specs.Fields.{field_at}
+use Rattle.ufs_spec.proofs.ReadBack.{expected_again}
+use Rattle.journal.specs.Heard.{brought_by}
 use Rattle.heard_laws.proofs.Common.{ArrayVec, Bool, DataOut, Good, List, Message, None, Option, Some, Status, []}
 use Rattle.heard_laws.proofs.Common.{answered, ap, arith, cond-false, drop, false, if_both, if◌then◌else◌, is_good}
 use Rattle.heard_laws.proofs.Common.{is_short, le-ltb, length, none-some, padding, received, refl, response}
@@ -13,8 +17,8 @@ use Rattle.ufs_spec.specs.declared.exchanges.Status.TheVariants.{Busy, CheckCond
 use Rattle.ufs_spec.specs.declared.faults.HostFault.{HostFault}
 use Rattle.ufs_spec.specs.declared.faults.HostFault.TheVariants.{Short}
 use Rattle.ufs_spec.specs.declared.messages.Asked.{Asked}
-use Rattle.ufs_spec.specs.declared.messages.Message.TheVariants.{Command, DataIn, NopIn, NopOut, QueryRequest}
-use Rattle.ufs_spec.specs.declared.messages.Message.TheVariants.{QueryResponse, ReadyToTransfer, Response, TaskRequest}
+use Rattle.ufs_spec.specs.declared.messages.Message.TheVariants.{Command, DataIn, LinkEvent, NopIn, NopOut}
+use Rattle.ufs_spec.specs.declared.messages.Message.TheVariants.{QueryRequest, QueryResponse, ReadyToTransfer, Response, TaskRequest}
 use Rattle.ufs_spec.specs.declared.messages.Message.TheVariants.{TaskResponse}
 use Rattle.journal.specs.Heard.{Heard, asked, begun, heard, managed, query_answered}
 use Rattle.journal.specs.Queries.{asked_setting, query_in}
@@ -37,13 +41,17 @@ cdb_again : (cdb : List ℕ) → length cdb ≡ 16 → take 16 (cdb ++ [] ++ [])
 cdb_again cdb sixteen =
     ap (take 16) (append-nil (cdb ++ []) ∙ append-nil cdb) ∙ take_all 16 cdb (omega (arith, sixteen))
 
-pub heard_command : (j : Heard) (flags lun tag expected : ℕ) (cdb : List ℕ) → length cdb ≡ 16 →
+pub heard_command : (j : Heard) (flags lun tag expected : ℕ) (cdb : List ℕ) → expected < 2 ^ 32 → length cdb ≡ 16 →
     is_short (spelling (Command flags lun tag expected cdb)) ≡ false →
     heard j (spelling (Command flags lun tag expected cdb))
-    ≡ begun j (record { lun = lun; tag = tag }) (spelled_cdb cdb)
-heard_command j flags lun tag expected cdb sixteen long =
+    ≡ begun j (record { lun = lun; tag = tag }) (brought_by expected (spelled_cdb cdb))
+heard_command j flags lun tag expected cdb fits sixteen long =
     cond-false (is_short (spelling (Command flags lun tag expected cdb))) j _ long
-    ∙ ap (λ (bytes : List ℕ). begun j (record { lun = lun; tag = tag }) (spelled_cdb bytes)) (cdb_again cdb sixteen)
+    ∙ ap (λ (bytes : List ℕ). begun j (record { lun = lun; tag = tag })
+    (brought_by (field_at 4 12 (spelling (Command flags lun tag expected cdb))) (spelled_cdb bytes)))
+    (cdb_again cdb sixteen)
+    ∙ ap (λ (e : ℕ). begun j (record { lun = lun; tag = tag }) (brought_by e (spelled_cdb cdb)))
+    (expected_again flags lun tag expected cdb fits)
 
 pub heard_data : (j : Heard) (lun tag offset : ℕ) («data» : ArrayVec ℕ) →
     is_short (spelling (DataOut lun tag offset «data»)) ≡ false →
@@ -138,6 +146,7 @@ told_any P j (DataOut lun tag offset «data») same response query =
 told_any P j (TaskRequest lun tag function meant) same response query = same
 told_any P j (QueryRequest tag function ask size value «data») same response query =
     if_both P (is_short (spelling (QueryRequest tag function ask size value «data»))) {x = j} {y = j} same same
+told_any P j (LinkEvent kind) same response query = same
 told_any P j (NopIn tag) same response query = same
 told_any P j (Response flags lun tag told_response status residual sense) same response query =
     if_both P (is_short (spelling (Response flags lun tag told_response status residual sense))) {x = j}

@@ -1,6 +1,6 @@
 -- A command that is refused is not answered GOOD; and a CDB that spells no command is refused.
 use Rattle.heard_laws.proofs.Common.{Bool, Cdb, List, None, Option, Request, Some, State, Status, [], false, false≢true}
-use Rattle.heard_laws.proofs.Common.{if◌then◌else◌, is_good, lun_of, none-some, numbers_of, refusal, same_Some, subst}
+use Rattle.heard_laws.proofs.Common.{if◌then◌else◌, is_good, none-some, refusal, same_Some, subst}
 use Rattle.heard_laws.proofs.Common.{sym, true, ◌∷◌, ◌≡◌}
 use Rattle.std.specs.List.{AllByRecursion}
 use Rattle.ufs_spec.specs.Refusals.{Line, first_line, lines_after, table}

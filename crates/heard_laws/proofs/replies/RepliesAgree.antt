@@ -7,7 +7,7 @@ use Rattle.heard_laws.proofs.Common.{numbers_of, refl, response, same_Some, slic
 use Rattle.heard_laws.proofs.Common.{task_of, told, true, with_moves, ℕ, ◌*◌, ◌+◌, ◌≡◌, ◌≤◌}
 use Rattle.std.proofs.Common.{nat_le, ◌||◌}
 use Rattle.ufs_spec.specs.Exchanges.{ReadBlock, block_message, bytes_sent, count_at, data_message, read_error}
-use Rattle.ufs_spec.specs.Exchanges.{ready_message, with_deed, without_task}
+use Rattle.ufs_spec.specs.Exchanges.{to_gather, ready_message, with_deed, without_task}
 use Rattle.ufs_spec.specs.Machine.{block_reply, deed_after, deed_after_block, deed_after_sent, deed_after_state}
 use Rattle.ufs_spec.specs.Machine.{deed_reply, durable, is_at_hand, moves_after, next_block_reply, pin_of, task_goes_on}
 use Rattle.ufs_spec.specs.Machine.{task_replied}
@@ -158,8 +158,8 @@ module _ (s : State) (held : ℕ) (j : Heard) (task : Task) (v : IsTied s) (a : 
   by_deed (Gathering purpose gathered true) m e does held_too = absurd (none-some m e)
   by_deed (Gathering purpose gathered false) m e does held_too =
       says (task_goes_on (behind (Gathering purpose gathered false)) task (Some (Gathering purpose gathered true)))
-      (ready_message task gathered) m j e
-      (told_ready j task.lun task.tag (length gathered) (count_at task.length (length gathered)))
+      (ready_message task purpose gathered) m j e
+      (told_ready j task.lun task.tag (length gathered) (count_at (to_gather purpose task.length) (length gathered)))
       (goes (Gathering purpose gathered true) (gathers purpose gathered false does))
   by_deed (Sending blocks sent) m e does held_too =
       by_block (Sending blocks sent) blocks sent (slice_get blocks sent) m does e

@@ -1,5 +1,6 @@
 -- Each call keeps that no more than one task brings frames, and that what a request for data reads shows the area as it
 -- is: the area changes by an accepted write of the one task that brings frames, which then reads nothing.
+use Rattle.ufs_spec.specs.Refusals.{brought}
 use Rattle.power_loss.proofs.Common.{◌≡◌, ℕ, Array, Bool, true, false, not, List, [], ◌∷◌, Option, Some, None, map}
 use Rattle.power_loss.proofs.Common.{Ok, refl, sym, ap, ◌∙◌, subst, AllByRecursion, Ending, Flight, Numbers, Plain}
 use Rattle.power_loss.proofs.Common.{Spot, below, if_both, list_any, or_parts, ◌&&◌, filter, length, ◌==◌, ◌++◌, ◌+◌}
@@ -23,7 +24,8 @@ use Rattle.power_loss.proofs.open_tasks.TaskLists.{each_at_tag, each_set}
 use Rattle.power_loss.specs.AreaReads.{AreaReads, AreaReadsOf, DeedShows, GathersRightly, OneBrings, ShowsArea}
 use Rattle.power_loss.specs.AreaReads.{area_bodies, brings_frames}
 use Rattle.ufs_laws.proofs.walk.Happenings.{Aborts, Begins, BlockRead, Completes, Gathers, GetsData, GoesOn, Happening}
-use Rattle.ufs_laws.proofs.walk.Happenings.{IsOver, Refuses, Sets, Why, behind_by, ends_by, happened, job_over}
+use Rattle.ufs_laws.proofs.walk.SmallChanges.{none_left}
+use Rattle.ufs_laws.proofs.walk.Happenings.{IsOver, Refuses, Resets, Sets, Why, behind_by, ends_by, happened, job_over}
 use Rattle.ufs_laws.proofs.walk.WaysOfCommands.{Answered, Beginning, Gathered, Handing, IsGathered, Reading, Telling}
 use Rattle.ufs_laws.proofs.walk.WaysOfCommands.{Waiting, WhyBegun, begins_by, begun_as}
 use Rattle.ufs_laws.proofs.walk.WaysOfData.{Accepted, AcceptsFrames, Completion, HasResult, ReadsArea, Told}
@@ -99,11 +101,11 @@ found_shows p tasks task found h = each_found (ShowsArea p) (is_task_of task.tag
 -- ## Commands
 
 -- a command that brings frames begins while no other is open
-alone : (s : State) (r : Request) (c : Cdb) → r.cdb ≡ Some c → refusal s r ≡ None → is_security_out c ≡ true →
-    list_any brings_frames s.tasks ≡ false
+alone : (s : State) (r : Request) (c : Cdb) → r.cdb ≡ Some c → refusal s r ≡ None →
+    is_security_out (brought r.expected c) ≡ true → list_any brings_frames s.tasks ≡ false
 alone s r c e none brings =
     sym (ap (λ b. b && list_any brings_frames s.tasks) brings)
-    ∙ (or_parts (is_security_out c && list_any brings_frames s.tasks) _ (passed s r c e none).room).0
+    ∙ (or_parts (is_security_out (brought r.expected c) && list_any brings_frames s.tasks) _ (passed s r c e none).room).0
 
 sending_shows : (p : Plain) (c : Cdb) (total : ℕ) (blocks : List ReadBlock) (n : ℕ) →
     DeedShows p (Some c) total None (sending blocks n)
@@ -114,29 +116,30 @@ bytes_show : (p : Plain) (c : Cdb) (total : ℕ) (r : Request) (bytes : List ℕ
     DeedShows p (Some c) total None (sending_bytes r bytes)
 bytes_show p c total r bytes = if_both (DeedShows p (Some c) total None) (carried r.expected (length bytes) == 0) tt tt
 
-gathers_rightly : (n : Numbers) (unit : ℕ) (c : Cdb) (count : ℕ) (purpose : Purpose) (total : ℕ) →
-    IsGathered n unit c count purpose total → GathersRightly purpose total (Some c)
-gathers_rightly n unit c count (ForWrite u address blocks forced) total w =
-    (c, refl, sym w.address_is, w.all ∙ sym w.blocks_are, w.writes)
-gathers_rightly n unit c count (ForUnmap u) total is = ap (λ (x : Cdb). Some x) is.1
-gathers_rightly n unit c count (ForFrames region) total is = ap (λ (x : Cdb). Some x) is
+gathers_rightly : (n : Numbers) (unit : ℕ) (r : Request) (c : Cdb) (count : ℕ) (purpose : Purpose) (total : ℕ) →
+    IsGathered n unit r c count purpose total → GathersRightly purpose total (Some (brought r.expected c))
+gathers_rightly n unit r c count (ForWrite u address blocks forced) total w =
+    (brought r.expected c, refl, w.same_address ∙ sym w.address_is, w.those ∙ sym w.blocks_are, w.still_writes)
+gathers_rightly n unit r c count (ForUnmap u) total is = ap (λ (x : Cdb). Some (brought r.expected x)) is.1
+gathers_rightly n unit r c count (ForFrames region) total is = ap (λ (x : Cdb). Some (brought r.expected x)) is
 
 begun_reads : (s : State) (r : Request) (unit : ℕ) (c : Cdb) →
-    (is_security_out c ≡ true → list_any brings_frames s.tasks ≡ false) → AreaReads s → AreaReads (begun s r unit c)
+    (is_security_out (brought r.expected c) ≡ true → list_any brings_frames s.tasks ≡ false) → AreaReads s →
+    AreaReads (begun s r unit c)
 begun_reads s r unit c free h = begins_by AreaReads s r unit c one
   where
     p : Plain
     p = plain_now s
 
     one : (b : Beginning) → WhyBegun s r unit c b → AreaReads (begun_as s r c b)
-    one Answered why = opened p s.tasks _ free tt h
+    one (Answered expected n) why = opened p s.tasks _ free tt h
     one Waiting why = opened p s.tasks _ free tt h
-    one (Telling volatile bytes) why = opened p s.tasks _ free (bytes_show p c _ r bytes) h
+    one (Telling volatile bytes) why = opened p s.tasks _ free (bytes_show p (brought r.expected c) _ r bytes) h
     one (Handing region n) why =
         opened p s.tasks _ (λ e. absurd (false≢true e)) (bytes_show p (cdb.SecurityIn region n) _ r _) h
-    one (Reading u address n) why = opened p s.tasks _ free (sending_shows p c _ _ n) h
-    one (Gathered count purpose n) why =
-        opened p s.tasks _ free (gathers_rightly (numbers_of s) unit c count purpose n why.4) h
+    one (Reading u address n) why = opened p s.tasks _ free (sending_shows p (brought r.expected c) _ _ n) h
+    one (Gathered expected count purpose n) why =
+        opened p s.tasks _ free (gathers_rightly (numbers_of s) unit r c count purpose n why.4) h
 
 -- ## All data
 
@@ -238,6 +241,8 @@ happens_reads s call answer (Completes task k) differ (purpose, d, why) h =
 happens_reads s call answer (Sets c short) differ (tag, q, ok, e, same) h = accepted s c 1 (setting_none q c e) h
 happens_reads s call answer (Aborts volatile those short) differ why h =
     some_go (plain_now s) s.tasks (λ task. not (those task)) h
+happens_reads s call answer (Resets kind) differ why h =
+    subst (AreaReadsOf (plain_now s)) (none_left s.tasks) (some_go (plain_now s) s.tasks (λ task. not true) h)
 happens_reads s call answer (GoesOn task deed) differ (found, e) h =
     sets (plain_now s) s.tasks task deed differ found
     (goes_on (plain_now s) task deed e (found_shows (plain_now s) s.tasks task found h)) h

@@ -1,17 +1,18 @@
 -- Each call that is answered rightly keeps the state tied to its dies and commands, whatever a failed job leaves.
 use Rattle.power_loss.proofs.Common.{Array, Ending, Erasing, Flight, GiveJob, List, None, Ok, Option, Programming}
 use Rattle.power_loss.proofs.Common.{ReadRight, ReadWrong, Reading, Some, WentWell, WentWrong, ending_fits, false≢true}
-use Rattle.power_loss.proofs.Common.{refl, sym, true, ℕ, ◌∙◌, ◌≡◌}
+use Rattle.power_loss.proofs.Common.{false, refl, sym, true, ℕ, ◌∙◌, ◌≡◌}
 use Rattle.power_loss.proofs.MachineWords.{Allowed, Answer, Reply, Call, Faulty, Done, OfDone, Take}
 use Rattle.power_loss.proofs.MachineWords.{OfTake, Heard, OfHost, Host, IsCdbIn, IsHeard, MayLeave, OfReply, Spelled}
 use Rattle.power_loss.proofs.MachineWords.{Turn, OfTurn, behind, heard, message_fault, observe, opens_short}
 use Rattle.power_loss.proofs.MachineWords.{service, State, Message, Cdb, IsTied, MayCome}
 use Rattle.std.specs.Prelude.{Err, Result}
 use Rattle.ufs_spec.specs.CdbFields.{spelled_cdb}
-use Rattle.ufs_spec.specs.Machine.{MayHear, cdb_of, result_of}
+use Rattle.ufs_spec.specs.Exchanges.{number_of}
+use Rattle.ufs_spec.specs.Machine.{MayHear, NoEvent, cdb_of, result_of}
 use Rattle.ufs_spec.specs.Messages.{Spells}
 use Rattle.ufs_spec.specs.declared.faults.HostFault.{HostFault}
-use Rattle.power_loss.proofs.host_commands.AbortedTasks.{managed_free, managed_right}
+use Rattle.power_loss.proofs.host_commands.AbortedTasks.{managed_free, managed_right, reset_right}
 use Rattle.power_loss.proofs.jobs.EndsOfJobs.{ends_right, erased_shown, failed_keeps, left_shown, over_keeps}
 use Rattle.power_loss.proofs.jobs.EndsOfJobs.{right_shown, written_shown, wrong_shown}
 use Rattle.power_loss.proofs.calls.TiesToDies.{one_move, step_keeps}
@@ -68,10 +69,10 @@ spelled_is c command taken h e = sym h ∙ e
 heard_right : {s : State} (m : Message) (c : Option Cdb) (bytes : List ℕ) → IsTied s → Spells m bytes →
     IsCdbIn (cdb_of m) c → message_fault s m ≡ None → Right s (heard s m c)
 heard_right {s} (message.NopOut tag) c bytes v spells spelled h =
-    reply_right (message.NopIn tag) v (is_free s tag true h) refl
+    reply_right (message.NopIn tag) v (is_free s false tag true h) refl
 heard_right {s} (message.Command flags lun tag expected taken) c bytes v spells spelled h =
     command_right (record { flags = flags; lun = lun; tag = tag; expected = expected; bytes = taken; cdb = c }) v
-    (is_free s tag (opens_short s (message.Command flags lun tag expected taken)) (may_open s flags _ h))
+    (is_free s false tag (opens_short s (message.Command flags lun tag expected taken)) (may_open s flags _ h))
     (λ command e. spelled_is c command taken spelled e)
 heard_right {s} (message.DataOut lun tag offset «data») c bytes v spells spelled h =
     data_right lun tag offset «data».items v h spells.0.3.2
@@ -79,10 +80,11 @@ heard_right {s} (message.TaskRequest lun tag function meant) c bytes v spells sp
     let m = managed_right lun function meant v in
     Both m
     (reply_right (message.TaskResponse lun tag (service s lun function meant))
-    (right_keeps m v) (managed_free s lun function meant tag (is_free s tag true h)) refl)
+    (right_keeps m v) (managed_free s lun function meant (number_of true tag) (is_free s true tag true h)) refl)
 heard_right {s} (message.QueryRequest tag function asked size value «data») c bytes v spells spelled h =
     query_right tag (record { function = function; asked = asked; length = size; value = value }) v
-    (is_free s tag true h)
+    (is_free s false tag true h)
+heard_right (message.LinkEvent kind) c bytes v spells spelled h = reset_right kind v
 heard_right m c bytes v spells spelled h = Still
 
 pub no_fault : (x : Option HostFault) {done : Unit {0}} → Ok done ≡ result_of x → x ≡ None
@@ -96,6 +98,7 @@ host_right : {s : State} (h : Heard) (result : Result (Unit {0}) HostFault) (byt
     IsHeard bytes h → MayHear s h result → Right s (behind s (Host h) (OfHost result))
 host_right h (Err fault) bytes v is may = Still
 host_right (Faulty fault) (Ok done) bytes v is may = Still
+host_right NoEvent (Ok done) bytes v is may = Still
 host_right {s} (Spelled m c) (Ok done) bytes v is may =
     heard_right m c bytes v is.0 is.2 (no_fault (message_fault s m) may)
 

@@ -12,7 +12,7 @@ use Rattle.ufs_laws.proofs.walk.SmallChanges.{behind_call, job_over, kept, obser
 use Rattle.power_loss.proofs.books.SmallFacts.{at_die_is}
 use Rattle.power_loss.proofs.jobs_owed.ProgramsAndErases.{take_inside}
 pub use Rattle.ufs_laws.proofs.walk.LayerEffects.{move_numbers}
-use Rattle.ufs_laws.proofs.walk.LayerEffects.{Effect, NoEffect, die_freed, effect_flights, ended, turned_by}
+use Rattle.ufs_laws.proofs.walk.LayerEffects.{Effect, die_freed, effect_flights, ended, turned_by}
 use Rattle.ufs_laws.proofs.walk.LayerEffects.{with_effect, without_job}
 
 -- ## Moves

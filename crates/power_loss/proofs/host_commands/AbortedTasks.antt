@@ -1,16 +1,18 @@
 -- Tasks that a host ends: their claims come back, and what they keep is let go.
 use Rattle.power_loss.proofs.Common.{◌≡◌, ℕ, ◌+◌, ◌≤◌, ◌==◌, Bool, true, false, not, cond, List, [], ◌∷◌, refl, arith}
-use Rattle.power_loss.proofs.Common.{◌-◌, filter, flat_map, LetGoAll, Release, Numbers}
-use Rattle.power_loss.proofs.MachineWords.{Task, is_task_of, abort_moves, is_aborted, managed, service, with_moves}
+use Rattle.power_loss.proofs.Common.{◌-◌, filter, flat_map, LetGoAll, Release, Numbers, subst}
+use Rattle.power_loss.proofs.MachineWords.{Short, Task, is_task_of, abort_moves, is_aborted, managed, service, with_moves}
 use Rattle.power_loss.proofs.MachineWords.{without_tasks, State, numbers_of, IsTied, claim_of, claims_of}
 use Rattle.std.specs.Prelude.{if◌then◌else◌}
-use Rattle.ufs_spec.specs.Machine.{registers_after}
+use Rattle.ufs_spec.specs.Exchanges.{all_empty}
+use Rattle.ufs_spec.specs.Machine.{link_reset, registers_after, volatile_reset}
 use Rattle.ufs_spec.specs.Management.{volatile_managed}
 use Rattle.power_loss.proofs.host_commands.OpenedByCommands.{IsFree, volatile_right}
 use Rattle.power_loss.proofs.open_tasks.TaggedLists.{any_fewer}
-use Rattle.power_loss.proofs.open_tasks.TaskLists.{tasks_fewer}
+use Rattle.power_loss.proofs.open_tasks.TaskLists.{shorts_fewer, tasks_fewer}
 use Rattle.power_loss.proofs.calls.RightChanges.{Right, right_keeps, right_move}
-use Rattle.ufs_laws.proofs.walk.SmallChanges.{Both, Closes, Moves, One, SetsRegisters, Still}
+use Rattle.ufs_laws.proofs.walk.SmallChanges.{Both, Closes, ClosesShorts, Moves, One, SetsRegisters, Still, none_left}
+use Rattle.ufs_laws.proofs.walk.SmallChanges.{reset_is}
 
 -- each claim is one of a task that goes or of one that stays
 claims_split : (n : Numbers) (is : Task → Bool) (tasks : List Task) →
@@ -70,6 +72,35 @@ managed_right {s} lun function meant v = Both sets (by (service s lun function m
     by : (b : Bool) → Right t (if b then without_tasks t (is_aborted lun function meant) else t)
     by true = aborts_right (is_aborted lun function meant) (right_keeps sets v)
     by false = Still
+
+-- the link is reset: all tasks are aborted, and no short exchange is left
+pub reset_right : {s : State} (kind : ℕ) → IsTied s → Right s (link_reset s kind)
+reset_right {s} kind v =
+    subst (Right s) (reset_is s kind)
+    (Both all
+    (Both (subst (λ (shorts : List Short). Right t (record t { shorts = shorts })) (none_left s.shorts) gone)
+    (Both (volatile_right (volatile_reset kind s.volatile) w)
+    (One (SetsRegisters all_empty) (record { small = tt; layer = tt; tasks = w.tasks })))))
+  where
+    t : State
+    t = without_tasks s (λ (task : Task). true)
+
+    all : Right s t
+    all = aborts_right (λ (task : Task). true) v
+
+    u : State
+    u = record t { shorts = [] }
+
+    gone : Right t (record t { shorts = filter (λ (short : Short). not true) t.shorts })
+    gone = One (ClosesShorts (λ (short : Short). true)) (record {
+      small = tt;
+      layer = tt;
+      tasks = shorts_fewer (λ (short : Short). not true) (right_keeps all v).tasks;
+    })
+
+    w : IsTied u
+    w = right_keeps (subst (λ (shorts : List Short). Right t (record t { shorts = shorts })) (none_left s.shorts) gone)
+        (right_keeps all v)
 
 -- a tag that is free stays so
 pub managed_free : (s : State) (lun function meant tag : ℕ) → IsFree s tag → IsFree (managed s lun function meant) tag

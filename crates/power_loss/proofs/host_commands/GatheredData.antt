@@ -1,4 +1,5 @@
 -- Data from the host: a task gathers them, and has all of them at last.
+use Rattle.ufs_spec.specs.Exchanges.{to_gather}
 use Rattle.ufs_spec.specs.Plain.{region_of, regions}
 use Rattle.power_loss.proofs.Common.{Bool, List, None, Numbers, Option, Some, arith, below, false, is_mended, length}
 use Rattle.power_loss.proofs.Common.{ltb-true, nat_lt, refl, sym, true, ℕ, ◌++◌, ◌+◌, ◌<◌, ◌∙◌, ◌∷◌, ◌≡◌, ◌≤◌}
@@ -76,14 +77,13 @@ write_answers s task false m = tt
 
 module _ {s : State} {task : Task} (v : IsTied s) where
   write_may : (unit address blocks : ℕ) {forced : Bool} {gathered : List ℕ} {asked : Bool} (all : List ℕ) →
-      GathersIn s task (ForWrite unit address blocks forced) gathered asked → HasAll task gathered all →
+      GathersIn s task (ForWrite unit address blocks forced) gathered asked → HasAll task (ForWrite unit address blocks forced) gathered all →
       MayAccept s task unit address blocks all
   write_may unit address blocks all g whole =
       let h = g.fits in
       let claim = g.claim in
       let few = g.few in
       let claimed = h.claimed_is in
-      let total = h.total_is in
       let all_there = whole.long h.short in
       record {
         there = g.there;
@@ -115,7 +115,7 @@ module _ {s : State} {task : Task} (v : IsTied s) where
       release_right released v g.there claim (omega arith) status
 
   accepted_right : (purpose : Purpose) {gathered : List ℕ} {asked : Bool} (all : List ℕ) (c : Command) (claimed : ℕ)
-      (deed : Deed) → GathersIn s task purpose gathered asked → HasAll task gathered all → locked s ≡ false →
+      (deed : Deed) → GathersIn s task purpose gathered asked → HasAll task purpose gathered all → locked s ≡ false →
       IsAccepted s task purpose all c claimed deed → Right s (completed s task (Accepted c claimed deed))
   accepted_right (ForWrite unit address blocks forced) all c claimed deed g whole free (c_is, claimed_is, deed_is) =
       let may = write_may unit address blocks all g whole in
@@ -129,7 +129,7 @@ module _ {s : State} {task : Task} (v : IsTied s) where
   accepted_right (ForFrames region) all c claimed deed g whole free is = absurd is
 
   completes : (purpose : Purpose) {gathered : List ℕ} {asked : Bool} (all : List ℕ) →
-      GathersIn s task purpose gathered asked → HasAll task gathered all → Right s (complete s task purpose all)
+      GathersIn s task purpose gathered asked → HasAll task purpose gathered all → Right s (complete s task purpose all)
   completes purpose {gathered} {asked} all g whole = completes_by (Right s) s task purpose all one
     where
       one : (k : Completion) → WhyCompleted s task purpose all k → Right s (completed s task k)
@@ -148,7 +148,7 @@ module _ {s : State} {task : Task} (v : IsTied s) where
 -- Data
 
 more_fits : (s : State) (task : Task) (purpose : Purpose) (gathered : List ℕ) (asked : Bool) (all : List ℕ) →
-    FitsIn s task (Gathering purpose gathered asked) → length all < task.length → (AreBytes gathered → AreBytes all) →
+    FitsIn s task (Gathering purpose gathered asked) → length all < to_gather purpose task.length → (AreBytes gathered → AreBytes all) →
     FitsIn s task (Gathering purpose all false)
 more_fits s task (ForWrite unit address blocks forced) gathered asked all h l is = write_more (λ k. k) l is
     (claim_same (numbers_of s) (ForWrite unit address blocks forced) (ForWrite unit address blocks forced)
@@ -159,16 +159,16 @@ more_fits s task (ForFrames region) gathered asked all h l is = frames_more l is
     (claim_same (numbers_of s) (ForFrames region) (ForFrames region) all gathered false asked task.command) h
 
 gathers : {s : State} {task : Task} {purpose : Purpose} {gathered : List ℕ} {asked : Bool} (all : List ℕ) → IsTied s →
-    GathersIn s task purpose gathered asked → HasMore task gathered all → Right s (gathered_more s task purpose all)
-gathers {s} {task} {purpose} {gathered} {asked} all v g more = by (nat_lt (length all) task.length) refl
+    GathersIn s task purpose gathered asked → HasMore task purpose gathered all → Right s (gathered_more s task purpose all)
+gathers {s} {task} {purpose} {gathered} {asked} all v g more = by (nat_lt (length all) (to_gather purpose task.length)) refl
   where
-    by : (b : Bool) → nat_lt (length all) task.length ≡ b →
+    by : (b : Bool) → nat_lt (length all) (to_gather purpose task.length) ≡ b →
         Right s (if b then set_deed s task.tag (Gathering purpose all false) else complete s task purpose all)
     by true e =
         let claim = g.claim in
         let same = claim_same (numbers_of s) purpose purpose all gathered false asked task.command in
         set_right (Gathering purpose all false) v g.there
-        (more_fits s task purpose gathered asked all g.fits (ltb-true (length all) task.length e) more.are_bytes)
+        (more_fits s task purpose gathered asked all g.fits (ltb-true (length all) (to_gather purpose task.length) e) more.are_bytes)
         (omega arith)
     by false e = completes v purpose all g (all_there more e)
 

@@ -5,6 +5,7 @@ use Rattle.power_loss.proofs.Common.{◌≤◌}
 use Rattle.power_loss.proofs.MachineWords.{AreBytes, Deed, Gathering, IsTied, Purpose, State, Task, claim_of}
 use Rattle.power_loss.proofs.MachineWords.{claimed_by, count_at, is_asked_in, numbers_of, task_of}
 use Rattle.ufs_laws.proofs.pages.ByteLists.{bytes-append}
+use Rattle.ufs_spec.specs.Exchanges.{to_gather}
 use Rattle.power_loss.proofs.host_commands.HandedOutReplies.{FitsIn}
 use Rattle.power_loss.proofs.open_tasks.TaskLists.{found_fits}
 
@@ -16,40 +17,43 @@ pub record GathersIn (s : State) (task : Task) (purpose : Purpose) (gathered : L
   pub fits : FitsIn s task (Gathering purpose gathered asked)
 
 -- more data came that it asked for
-pub record HasMore (task : Task) (gathered all : List ℕ) : Type 0 where
-  pub long : length gathered < task.length → length all ≤ task.length
+pub record HasMore (task : Task) (purpose : Purpose) (gathered all : List ℕ) : Type 0 where
+  pub long : length gathered < to_gather purpose task.length → length all ≤ to_gather purpose task.length
   pub are_bytes : AreBytes gathered → AreBytes all
 
 -- these are all of its data
-pub record HasAll (task : Task) (gathered all : List ℕ) : Type 0 where
-  pub long : length gathered < task.length → length all ≡ task.length
+pub record HasAll (task : Task) (purpose : Purpose) (gathered all : List ℕ) : Type 0 where
+  pub long : length gathered < to_gather purpose task.length → length all ≡ to_gather purpose task.length
   pub are_bytes : AreBytes gathered → AreBytes all
 
 -- all of them are no more
-pub no_more : {task : Task} {gathered all : List ℕ} → HasAll task gathered all → HasMore task gathered all
+pub no_more : {task : Task} {purpose : Purpose} {gathered all : List ℕ} → HasAll task purpose gathered all →
+    HasMore task purpose gathered all
 no_more h = record { long = λ short. let all = h.long short in omega arith; are_bytes = h.are_bytes }
 
-pub all_there : {task : Task} {gathered all : List ℕ} → HasMore task gathered all →
-    nat_lt (length all) task.length ≡ false → HasAll task gathered all
-all_there {task} {gathered} {all} h e =
-    let l = ltb-false (length all) task.length e in
+pub all_there : {task : Task} {purpose : Purpose} {gathered all : List ℕ} → HasMore task purpose gathered all →
+    nat_lt (length all) (to_gather purpose task.length) ≡ false → HasAll task purpose gathered all
+all_there {task} {purpose} {gathered} {all} h e =
+    let l = ltb-false (length all) (to_gather purpose task.length) e in
     record { long = λ short. let most = h.long short in omega arith; are_bytes = h.are_bytes }
 
 -- as many as a task asks for are no more than it has
-pub room_for : (task : Task) (gathered bytes : List ℕ) → length bytes ≡ count_at task.length (length gathered) →
-    (AreBytes gathered → AreBytes (gathered ++ bytes)) → HasMore task gathered (gathered ++ bytes)
-room_for task gathered bytes count are = record {
+pub room_for : (task : Task) (purpose : Purpose) (gathered bytes : List ℕ) →
+    length bytes ≡ count_at (to_gather purpose task.length) (length gathered) →
+    (AreBytes gathered → AreBytes (gathered ++ bytes)) → HasMore task purpose gathered (gathered ++ bytes)
+room_for task purpose gathered bytes count are = record {
   long = λ short. let joined = length-append gathered bytes in omega arith;
   are_bytes = are;
 }
 
 pub more_there : (task : Task) (purpose : Purpose) (gathered bytes : List ℕ) (asked : Bool) (lun offset : ℕ) →
     is_asked_in task lun offset (length bytes) (Gathering purpose gathered asked) ≡ true → AreBytes bytes →
-    HasMore task gathered (gathered ++ bytes)
+    HasMore task purpose gathered (gathered ++ bytes)
 more_there task purpose gathered bytes asked lun offset is_asked is =
     let last = and_parts (asked && (task.lun == lun) && (offset == length gathered))
-    (length bytes == count_at task.length (length gathered)) is_asked in
-    room_for task gathered bytes (eqb-true (length bytes) (count_at task.length (length gathered)) last.1)
+    (length bytes == count_at (to_gather purpose task.length) (length gathered)) is_asked in
+    room_for task purpose gathered bytes
+    (eqb-true (length bytes) (count_at (to_gather purpose task.length) (length gathered)) last.1)
     (λ h. bytes-append gathered bytes h is)
 
 -- the task that is found gathers its data

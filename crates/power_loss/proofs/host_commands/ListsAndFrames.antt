@@ -54,7 +54,7 @@ not_zero : (n : ℕ) → n ≢ 0 → 1 ≤ n
 not_zero n h = omega arith
 
 pub unmap_coming : {s : State} {task : Task} {unit : ℕ} {gathered : List ℕ} {asked : Bool} (list : List ℕ) → IsTied s →
-    GathersIn s task (ForUnmap unit) gathered asked → HasAll task gathered list → IsRightList s unit list →
+    GathersIn s task (ForUnmap unit) gathered asked → HasAll task (ForUnmap unit) gathered list → IsRightList s unit list →
     locked s ≡ false →
     IsComing s (command.Zero unit (field_at 8 8 list) (field_at 4 16 list)) (claim_of (numbers_of s) task)
 unmap_coming {s} {task} {unit} {gathered} {asked} list v g all right free = record {
@@ -119,7 +119,7 @@ pub record FramesCame (s : State) (task : Task) (region : ℕ) (frames : List Fr
   pub claim : claim_of (numbers_of s) task ≡ 3
 
 came : {s : State} {task : Task} {region : ℕ} {gathered : List ℕ} {asked : Bool} (bytes : List ℕ) →
-    GathersIn s task (ForFrames region) gathered asked → HasMore task gathered bytes →
+    GathersIn s task (ForFrames region) gathered asked → HasMore task (ForFrames region) gathered bytes →
     FramesCame s task region (frames_in (length bytes / 512) bytes)
 came {s} {task} {region} {gathered} {asked} bytes g more = record {
   region_in = fits.region_in;
@@ -181,10 +181,11 @@ keys_of_area {s} region f v there inside =
 -- the frames that were decided
 pub frames_came : {s : State} {task : Task} {purpose : Purpose} {gathered all : List ℕ} {asked : Bool} {region : ℕ}
     {frames : List Frame} {result : ℕ} {c : Option Command} → GathersIn s task purpose gathered asked →
-    HasMore task gathered all → IsDecided s purpose all region frames result c → FramesCame s task region frames
+    HasMore task purpose gathered all → IsDecided s purpose all region frames result c → FramesCame s task region frames
 frames_came {s} {task} {purpose} {gathered} {all} {asked} {region} g more d =
     subst (FramesCame s task region) (sym d.frames_are)
-    (came all (subst (λ (p : Purpose). GathersIn s task p gathered asked) d.purpose_is g) more)
+    (came all (subst (λ (p : Purpose). GathersIn s task p gathered asked) d.purpose_is g)
+    (subst (λ (p : Purpose). HasMore task p gathered all) d.purpose_is more))
 
 -- the blocks of a request for data lie in the area
 pub reads_inside : {s : State} {purpose : Purpose} {all : List ℕ} {region : ℕ} {f : Frame} {fs : List Frame}

@@ -24,13 +24,14 @@ use Rattle.ufs_spec.proofs.RegionPages.{region_there}
 use Rattle.std.proofs.lemmas.Bool.{cases_lt, eqb-false, eq-eqb, lt-ltb}
 use Rattle.ufs_spec.specs.declared.scsi.Cdb.TheVariants as cdb
 use Rattle.power_loss.specs.Exchange.{FramesFit, UnmapFits}
-use Rattle.ufs_spec.specs.Exchanges.{most_short_exchanges}
-use Rattle.ufs_spec.specs.Machine.{data_begun, in_use, opening_fault}
+use Rattle.ufs_spec.specs.Exchanges.{most_short_exchanges, number_of}
+use Rattle.ufs_spec.specs.Machine.{data_begun, in_use, is_open, opening_fault}
 use Rattle.ufs_spec.specs.Configs.{command_blocks}
 use Rattle.ufs_spec.specs.Refusals.{is_frames, needs_blocks, needs_mended, refused_state, slots_needed, writes}
 use Rattle.ufs_spec.specs.declared.faults.HostFault.TheVariants.{Backlog, TagInUse}
 use Rattle.ufs_laws.proofs.walk.WaysOfCommands.{Answered, Beginning, Gathered, Handing, IsWritten, Reading, Telling}
-use Rattle.ufs_laws.proofs.walk.WaysOfCommands.{Waiting, WhyBegun, begins_by, begun_as}
+use Rattle.ufs_laws.proofs.walk.WaysOfCommands.{Waiting, WhyBegun, begins_by, begun_as, expecting}
+use Rattle.ufs_spec.specs.Refusals.{brought}
 use Rattle.ufs_laws.proofs.pages.ByteLists.{bytes-nil}
 use Rattle.ufs_laws.proofs.walk.SmallChanges.{Both, One, Opens, OpensShort, SetsRegisters, SetsVolatile, Still}
 use Rattle.power_loss.proofs.host_commands.ReadBlocks.{KeysOfDevice, keys_read, pins_right, reads_in}
@@ -45,16 +46,21 @@ pub record IsFree (s : State) (tag : ℕ) : Type 0 where
   pub no_task : list_any (is_task_of tag) s.tasks ≡ false
   pub no_short : list_any (is_short_of tag) s.shorts ≡ false
 
-pub is_free : (s : State) (tag : ℕ) (short : Bool) → opening_fault s tag short ≡ None → IsFree s tag
-is_free s tag short h = by (in_use s tag) refl h
+pub is_free : (s : State) (manages : Bool) (tag : ℕ) (short : Bool) → opening_fault s manages tag short ≡ None →
+    IsFree s (number_of manages tag)
+is_free s manages tag short h = by (in_use s manages tag) refl h
   where
-    by : (b : Bool) → in_use s tag ≡ b →
+    number : ℕ
+    number = number_of manages tag
+
+    by : (b : Bool) → in_use s manages tag ≡ b →
         (if b then Some TagInUse else if short && nat_le most_short_exchanges (length s.shorts)
         then Some Backlog else None) ≡ None →
-        IsFree s tag
+        IsFree s number
     by true e k = absurd (none-some TagInUse (sym k))
     by false e k =
-        let both = or_parts (list_any (is_task_of tag) s.tasks) (list_any (is_short_of tag) s.shorts) e in
+        let own = or_parts (is_open s number) _ e in
+        let both = or_parts (list_any (is_task_of number) s.tasks) (list_any (is_short_of number) s.shorts) own.0 in
         record { no_task = both.0; no_short = both.1 }
 
 -- Opening an exchange
@@ -130,16 +136,17 @@ read_right {s} r command unit address n v free keys =
 -- WRITE
 
 -- a task that gathers its data claims the slots that its command needs
-gathers_right : {s : State} {r : Request} {command : Cdb} {count : ℕ} (n : ℕ) (purpose : Purpose) → IsTied s →
-    IsFree s r.tag → Passed s r command → slots_needed (numbers_of s) command ≡ count → DeedFits (numbers_of s)
-    (length s.accepted) (is_mended s.translation.work.mending) (slots_needed (numbers_of s) command) n
-    (Gathering purpose [] false) →
-    Right s (with_task (with_moves s (Claim count ∷ [])) r (Some command) n (Gathering purpose [] false))
-gathers_right {s} {r} {command} {count} n purpose v free p slots fits =
+gathers_right : {s : State} {r : Request} {command : Cdb} {count : ℕ} (expected n : ℕ) (purpose : Purpose) →
+    IsTied s → IsFree s r.tag → Passed s r command → slots_needed (numbers_of s) (brought r.expected command) ≡ count →
+    DeedFits (numbers_of s) (length s.accepted) (is_mended s.translation.work.mending)
+    (slots_needed (numbers_of s) (brought r.expected command)) n (Gathering purpose [] false) →
+    Right s (with_task (with_moves s (Claim count ∷ [])) (expecting r expected) (Some (brought r.expected command)) n
+    (Gathering purpose [] false))
+gathers_right {s} {r} {command} {count} expected n purpose v free p slots fits =
     let t = s.translation in
-    let task = opened_task r (Some command) n (Gathering purpose [] false) in
-    let crowded = or_parts _ (nat_lt (free_slots t) (slots_needed (numbers_of s) command)) p.room in
-    let room = ltb-false (free_slots t) (slots_needed (numbers_of s) command) crowded.1 in
+    let task = opened_task (expecting r expected) (Some (brought r.expected command)) n (Gathering purpose [] false) in
+    let crowded = or_parts _ (nat_lt (free_slots t) (slots_needed (numbers_of s) (brought r.expected command))) p.room in
+    let room = ltb-false (free_slots t) (slots_needed (numbers_of s) (brought r.expected command)) crowded.1 in
     Both (right_move (Claim count) v tt (omega arith) (omega arith))
     (One (Opens task) (record {
       small = tt;
@@ -157,18 +164,19 @@ writes_told (cdb.Read address blocks) e some = absurd (no_write e)
 writes_told c e some = absurd (omega (arith, some))
 
 write_fits : {s : State} {r : Request} {command : Cdb} {unit address blocks count n : ℕ} → Passed s r command →
-    Changes r.bytes → slots_needed (numbers_of s) command ≡ count → 0 < n →
+    Changes r.bytes → slots_needed (numbers_of s) (brought r.expected command) ≡ count →
     needs_mended command ≡ true → writes command ≡ true →
-    IsWritten (numbers_of s) (unit_or_first (unit_of_request s r)) command count unit address blocks n → WriteFits
-    (numbers_of s) (is_mended s.translation.work.mending) unit address blocks n [] (slots_needed (numbers_of s) command)
-write_fits {s} {r} {command} {unit} p taken slots some needs changes w =
+    IsWritten (numbers_of s) (unit_or_first (unit_of_request s r)) r command count unit address blocks n → WriteFits
+    (numbers_of s) (is_mended s.translation.work.mending) unit address blocks []
+    (slots_needed (numbers_of s) (brought r.expected command))
+write_fits {s} {r} {command} {unit} p taken slots needs changes w =
     let units = (numbers_of s).units.items in
     let told = unit_told s r command taken p in
     let same : unit ≡ r.lun = w.unit_is ∙ ap unit_or_first told.is in
-    let total = w.total_is in
     let at = w.address_is in
     let are = w.blocks_are in
-    let size = w.all in
+    let some = w.some in
+    let fewer = w.few in
     let few = ltb-false (command_blocks (numbers_of s)) (blocks_of command) (sym w.long ∙ p.not_long) in
     let lies = lies_within command told p.within in
     let more = means_more command in
@@ -180,8 +188,7 @@ write_fits {s} {r} {command} {unit} p taken slots some needs changes w =
       some = omega arith;
       not_long = omega arith;
       within = omega arith;
-      total_is = omega arith;
-      short = some;
+      short = omega arith;
       bytes = bytes-nil;
       claimed_is = omega arith;
       is_mended = ready_now s r command needs changes p;
@@ -281,43 +288,44 @@ begins s r command v free p spells = begins_by (Right s) s r unit command one
     unit = unit_or_first (unit_of_request s r)
 
     listed : (u n : ℕ) → u ≡ unit → 0 < n → command ≡ cdb.Unmap n →
-        UnmapFits (numbers_of s) (is_mended s.translation.work.mending) u n [] (slots_needed (numbers_of s) command)
+        UnmapFits (numbers_of s) (is_mended s.translation.work.mending) u n []
+        (slots_needed (numbers_of s) (brought r.expected command))
     listed u n unit_is some is = subst (λ (c : Cdb). UnmapFits (numbers_of s)
-        (is_mended s.translation.work.mending) u n [] (slots_needed (numbers_of s) c)) (sym is)
+        (is_mended s.translation.work.mending) u n [] (slots_needed (numbers_of s) (brought r.expected c))) (sym is)
         (unmap_fits (subst (Passed s r) is p) (unmap_changes r.bytes command spells (ap kind_of is)) unit_is some)
 
     framed : (region n : ℕ) → command ≡ cdb.SecurityOut region n →
-        FramesFit (numbers_of s) region n [] (slots_needed (numbers_of s) command)
+        FramesFit (numbers_of s) region n [] (slots_needed (numbers_of s) (brought r.expected command))
     framed region n is = subst (λ (c : Cdb). FramesFit (numbers_of s) region n []
-        (slots_needed (numbers_of s) c)) (sym is)
+        (slots_needed (numbers_of s) (brought r.expected c))) (sym is)
         (frames_fit {r = r} (subst (Passed s r) is p) (subst IsOfRegion is (region_in r.bytes command spells)))
 
     one : (b : Beginning) → WhyBegun s r unit command b → Right s (begun_as s r command b)
-    one Answered why = answer_right r (Some command) 0 Good 0 v free
-    one Waiting mends = task_right r (Some command) 0 (Awaiting (length s.accepted)) v free
+    one (Answered expected n) why = answer_right (expecting r expected) (Some (brought r.expected command)) n Good n v
+        (record { no_task = free.no_task; no_short = free.no_short })
+    one Waiting mends = task_right r (Some (brought r.expected command)) 0 (Awaiting (length s.accepted)) v free
         (omega arith, mends) refl
     one (Telling volatile bytes) why =
         let sets = volatile_right volatile v in
         Both sets
-        (telling_right r command bytes (right_keeps sets v)
+        (telling_right r (brought r.expected command) bytes (right_keeps sets v)
         (record { no_task = free.no_task; no_short = free.no_short }))
     one (Handing region n) is = handing_right r region n v free
     one (Reading u address n) (unit_is, address_is, size, read) =
         let reads = reads_in r.bytes command spells (ap needs_blocks read) in
-        subst (λ (x : ℕ). Right s (read_begun s r command x address n)) (sym unit_is)
-        (subst (λ (x : ℕ). Right s (read_begun s r command unit x n)) (sym address_is)
-        (read_right r command unit (address_of command) n v free (keys_read size reads p)))
-    one (Gathered count (ForWrite u address blocks forced) n) (slots, some, few, needs, w) =
+        subst (λ (x : ℕ). Right s (read_begun s r (brought r.expected command) x address n)) (sym unit_is)
+        (subst (λ (x : ℕ). Right s (read_begun s r (brought r.expected command) unit x n)) (sym address_is)
+        (read_right r (brought r.expected command) unit (address_of command) n v free (keys_read size reads p)))
+    one (Gathered expected count (ForWrite u address blocks forced) n) (slots, some, few, needs, w, counts, part) =
         let taken = write_changes r.bytes command spells w.writes in
-        gathers_right n (ForWrite u address blocks forced) v free p slots
-        (write_fits p taken slots (some p.not_long) needs
-        (writes_told command w.writes
-        (let total = w.total_is in let all = w.all in let long = some p.not_long in omega (arith, total, all, long)))
-        w)
-    one (Gathered count (ForUnmap u) n) (slots, some, few, needs, (unit_is, is)) =
-        gathers_right n (ForUnmap u) v free p slots (listed u n unit_is (some p.not_long) is)
-    one (Gathered count (ForFrames region) n) (slots, some, few, needs, is) =
-        gathers_right n (ForFrames region) v free p slots (framed region n is)
+        let brings = w.some in
+        let fewer = w.few in
+        gathers_right expected n (ForWrite u address blocks forced) v free p slots
+        (write_fits p taken slots needs (writes_told command w.writes (omega (arith, brings, fewer))) w)
+    one (Gathered expected count (ForUnmap u) n) (slots, some, few, needs, (unit_is, is), counts, part) =
+        gathers_right expected n (ForUnmap u) v free p slots (listed u n unit_is (some p.not_long) is)
+    one (Gathered expected count (ForFrames region) n) (slots, some, few, needs, is, counts, part) =
+        gathers_right expected n (ForFrames region) v free p slots (framed region n is)
 
 opened_right : {s : State} (r : Request) → IsTied s → IsFree s r.tag → IsSpelled r → (x : Option Status) →
     refusal s r ≡ x → Right s (refused_or_begun s r x)

@@ -22,7 +22,7 @@ use Rattle.ufs_laws.proofs.exchanges.TakenCommandsKnown.{past}
 use Rattle.ufs_spec.specs.Refusals.{is_told_anywhere, takes, takes_row, tells_of_none}
 use Rattle.ufs_spec.specs.declared.operations.Kind.{Kind}
 use Rattle.ufs_spec.specs.Refusals.{tests_unit, writes}
-use Rattle.ufs_spec.specs.Refusals.{unit_numbers_of, well_known}
+use Rattle.ufs_spec.specs.Refusals.{brought, unit_numbers_of, well_known}
 
 -- No line of the table applies
 
@@ -45,7 +45,7 @@ pub record Passed (s : State) (r : Request) (command : Cdb) : Type 0 where
   pub within : is_past command (unit_numbers_of s r) ≡ false
   pub ready : is_unready s command ≡ false
   pub free : is_refused_write s (unit_numbers_of s r) command ≡ false
-  pub room : is_crowded s command ≡ false
+  pub room : is_crowded s (brought r.expected command) ≡ false
 
 pub passed : (s : State) (r : Request) (command : Cdb) → r.cdb ≡ Some command → refusal s r ≡ None → Passed s r command
 passed s r command e h =

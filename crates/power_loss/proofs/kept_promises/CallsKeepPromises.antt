@@ -15,6 +15,8 @@ use Rattle.power_loss.proofs.MachineWords.{without_tasks, fills, task_filled, Re
 use Rattle.power_loss.proofs.MachineWords.{Output, Message, Cdb, IsTied, TasksDiffer, ValidState, has_task}
 use Rattle.std.specs.Prelude.{if◌then◌else◌, is_some}
 use Rattle.ufs_laws.proofs.exchanges.DeedLaws.{filled_keeps}
+use Rattle.ufs_spec.specs.Exchanges.{number_of}
+use Rattle.ufs_spec.specs.Machine.{NoEvent}
 use Rattle.ufs_spec.specs.Management.{volatile_managed}
 use Rattle.ufs_spec.specs.declared.messages.Message.TheVariants as message
 use Rattle.ufs_laws.proofs.walk.SmallChanges.{reads, fills_task}
@@ -123,11 +125,12 @@ heard_tracks p tag bytes {s} (message.Command flags lun other expected taken) c 
 heard_tracks p tag bytes {s} (message.DataOut lun other offset «data») c v fault grows still h =
     data_comes p tag bytes lun other offset «data».items v fault grows h
 heard_tracks p tag bytes {s} (message.TaskRequest lun other function meant) c v fault grows still h =
-    let reply : Short = short_reply other (message.TaskResponse lun other (service s lun function meant)) in
+    let reply : Short = short_reply (number_of true other) (message.TaskResponse lun other (service s lun function meant)) in
     quiet (stays s (with_short (managed s lun function meant) reply)
     (λ task e. managed_same s lun function meant tag v.tasks.tasks_differ still e) grows h)
 heard_tracks p tag bytes {s} (message.QueryRequest other function asked size value «data») c v fault grows still h =
     added s _ (query_adds other (record { function = function; asked = asked; length = size; value = value })) grows h
+heard_tracks p tag bytes (message.LinkEvent kind) c v fault grows still h = absurd (false≢true still)
 heard_tracks p tag bytes other c v fault grows still h = quiet h
 
 -- The ends of jobs
@@ -209,6 +212,7 @@ behind_tracks : (p : Promise) (tag : ℕ) (bytes : List ℕ) {s : State} (call :
 behind_tracks p tag bytes {s} (Host (Spelled m c)) (OfHost (Ok done)) v right grows still h =
     heard_tracks p tag bytes m c v (no_fault (message_fault s m) right) grows still h
 behind_tracks p tag bytes (Host (Faulty fault)) (OfHost (Ok done)) v right grows still h = quiet h
+behind_tracks p tag bytes (Host NoEvent) (OfHost (Ok done)) v right grows still h = quiet h
 behind_tracks p tag bytes {s} (Take die) (OfTake flight) v right grows still h =
     quiet (given_tracks p tag bytes s die flight h)
 behind_tracks p tag bytes {s} (Done die ending left) (OfDone true) v right grows still h =

@@ -13,6 +13,9 @@ use Rattle.power_loss.proofs.MachineWords.{refusal, unit_of_request, Event, Outp
 use Rattle.power_loss.proofs.MachineWords.{Message, Cdb, IsTied, ValidState, IsReplied, has_task}
 use Rattle.std.specs.Prelude.{if◌then◌else◌}
 use Rattle.ufs_spec.specs.Exchanges.{ready_message}
+use Rattle.ufs_spec.specs.Begins.{of_write, write_begun}
+use Rattle.ufs_spec.specs.Refusals.{blocks_brought, numbers_of}
+use Rattle.ufs_laws.proofs.refusals.WholeWrites.{all_come}
 use Rattle.ufs_spec.specs.declared.events.Event.TheVariants as event
 use Rattle.ufs_spec.specs.declared.events.Output.TheVariants as output
 use Rattle.ufs_spec.specs.declared.scsi.Cdb.TheVariants as cdb
@@ -98,7 +101,7 @@ taken_tracks : (p : Promise) {s t : State} {r : Request} → IsTaken s r t → f
     IsPromise s r p → has_task r.tag t ≡ true → TrackedIn p r.tag [] t
 taken_tracks p {s = s} {r = r} taken later is still =
     let fault = no_fault (message_fault s (command_message r)) taken.right in
-    let free = is_free s r.tag (opens_short s (command_message r)) (may_open s r.flags _ fault) in
+    let free = is_free s false r.tag (opens_short s (command_message r)) (may_open s r.flags _ fault) in
     let open_now = settled_open r.tag (command_taken s r) (subst (λ (x : State). has_task r.tag x ≡ true) taken.next
     still) in
     subst (TrackedIn p r.tag []) (sym taken.next)
@@ -133,32 +136,39 @@ none_accepted s v un =
     ∙ (ap (λ (n : ℕ). length (drop n s.translation.ledger.groups)) (v.valid.history.mending un).0
     ∙ ap (λ (gs : List Group). length gs) (drop_all (length s.translation.ledger.groups) s.translation.ledger.groups (omega arith))))
 
--- a write with FUA gathers its data for its unit
-write_promises : (s : State) (r : Request) (address blocks : ℕ) → r.cdb ≡ Some (cdb.Write address blocks true) →
-    1 ≤ blocks → IsCdbIn (Some r.bytes) r.cdb → IsPromise s r (OfWrite (length s.accepted) r.lun address blocks)
-write_promises s r address blocks e some spelled = λ u none passes is.
+-- a write with FUA gathers the data of its blocks that come for its unit
+write_promises : (s : State) (r : Request) (address blocks count : ℕ) → r.cdb ≡ Some (cdb.Write address blocks true) →
+    (refusal s r ≡ None → blocks_brought r.expected blocks ≡ count) →
+    1 ≤ count → IsCdbIn (Some r.bytes) r.cdb → IsPromise s r (OfWrite (length s.accepted) r.lun address count)
+write_promises s r address blocks count e those some spelled = λ u none passes is.
     let c : Cdb = cdb.Write address blocks true in
     let unit = unit_or_first (unit_of_request s r) in
     let pass = passed s r c e passes in
     let told = unit_told s r c (write_changes r.bytes c (spelled_is r.cdb c r.bytes spelled e) refl) pass in
     let here : unit ≡ r.lun = ap unit_or_first told.is in
-    subst (TrackedIn (OfWrite (length s.accepted) r.lun address blocks) r.tag []) (sym (is ∙ ap (begun_if_any s r) e))
-    (begins unit here none (blocks == 0) (not_zero some))
+    subst (TrackedIn (OfWrite (length s.accepted) r.lun address count) r.tag [])
+    (sym (is ∙ ap (begun_if_any s r) e
+    ∙ ap (λ (k : ℕ). write_begun s r unit address k true (4096 * blocks)) (those passes)))
+    (begins unit here none (count == 0) (not_zero some))
   where
     p : Promise
-    p = OfWrite (length s.accepted) r.lun address blocks
+    p = OfWrite (length s.accepted) r.lun address count
 
-    not_zero : 1 ≤ blocks → (blocks == 0) ≡ false
+    not_zero : 1 ≤ count → (count == 0) ≡ false
     not_zero h = grind (arith, nat_tests)
 
+    w : Request
+    w = of_write r (4096 * blocks)
+
     begins : (unit : ℕ) → unit ≡ r.lun → list_any (is_task_of r.tag) s.tasks ≡ false → (b : Bool) → b ≡ false →
-        TrackedIn p r.tag [] (if b then with_task s r (Some (cdb.Write address blocks true)) 0 (Answering Good 0)
-        else with_task (with_moves s (Claim blocks ∷ [])) r (Some (cdb.Write address blocks true)) (4096 * blocks)
-        (Gathering (ForWrite unit address blocks true) [] false))
+        TrackedIn p r.tag []
+        (if b then with_task s w (Some (cdb.Write address count true)) (4096 * blocks) (Answering Good (4096 * blocks))
+        else with_task (with_moves s (Claim count ∷ [])) w (Some (cdb.Write address count true)) (4096 * blocks)
+        (Gathering (ForWrite unit address count true) [] false))
     begins unit here none true h = absurd (false≢true (sym h))
     begins unit here none false h =
-        opens p (with_moves s (Claim blocks ∷ [])) r (Some (cdb.Write address blocks true)) (4096 * blocks)
-        (Gathering (ForWrite unit address blocks true) [] false) none ((here, refl, refl, refl), refl) (omega arith)
+        opens p (with_moves s (Claim count ∷ [])) w (Some (cdb.Write address count true)) (4096 * blocks)
+        (Gathering (ForWrite unit address count true) [] false) none ((here, refl, refl, refl), refl) (omega arith)
 
 -- GOOD
 
@@ -179,7 +189,7 @@ good_waited : {p : Promise} {cs : List Command} {bytes : List ℕ} (s : State) (
     KeepsTo p cs bytes deed → deed_reply s task deed ≡ Some m → IsGood m → Waited p cs bytes deed
 good_waited s task (Gathering purpose gathered true) {m} keeps reply good = absurd (none-some m reply)
 good_waited s task (Gathering purpose gathered false) {m} keeps reply good =
-    absurd (subst IsGood (sym (same_Some (ready_message task gathered) m reply)) good)
+    absurd (subst IsGood (sym (same_Some (ready_message task purpose gathered) m reply)) good)
 good_waited s task (Awaiting n) keeps reply good = record { commands = n; deed_is = refl; met = keeps }
 good_waited s task (Answering status n) {m} keeps reply good = bad_reply status task n keeps reply good
 good_waited s task deed keeps reply good = absurd keeps
@@ -243,12 +253,15 @@ flush_held s t u r bytes es os v e a life = ⊎_elim
     omega arith)
     (λ un. let none = none_accepted s v.tied un in omega (arith, none)) (cases_Bool (mended s))
 
-pub write_held : (s t u : State) (r : Request) (bytes : List ℕ) (address blocks : ℕ) (es : List Event)
-    (os : List Output) → ValidState s → r.cdb ≡ Some (cdb.Write address blocks true) → 1 ≤ blocks →
-    IsAnsweredGood s r bytes t → Life t es os u → IsHeldWrite s r address blocks bytes u
-write_held s t u r bytes address blocks es os v e some a life =
-    let p : Promise = OfWrite (length s.accepted) r.lun address blocks in
-    let k = answered_kept r v a (omega arith) (write_promises s r address blocks e some a.taken.spelled.2) in
+-- a write with FUA of which so many blocks come, if it is taken
+brought_held : (s t u : State) (r : Request) (bytes : List ℕ) (address blocks count : ℕ) (es : List Event)
+    (os : List Output) → ValidState s → r.cdb ≡ Some (cdb.Write address blocks true) →
+    (refusal s r ≡ None → blocks_brought r.expected blocks ≡ count) → 1 ≤ count →
+    IsAnsweredGood s r bytes t → Life t es os u → IsHeldWrite s r address count bytes u
+brought_held s t u r bytes address blocks count es os v e those some a life =
+    let p : Promise = OfWrite (length s.accepted) r.lun address count in
+    let k = answered_kept r v a (omega arith)
+    (write_promises s r address blocks count e those some a.taken.spelled.2) in
     let one = accepted_grows a.ended Reply (OfReply (Some a.answer)) in
     let first : t.accepted ≡ a.ended.accepted ++ one.0 = ap (λ (x : State). x.accepted) a.replied.next ∙ one.1 in
     let rest = life_grows t u es os life in
@@ -260,3 +273,18 @@ write_held s t u r bytes address blocks es os v e some a life =
     let is = k.is_held in
     let on = life_held t u es os life in
     record { position = met.0; later = met.2.later; is_held = omega arith; there = met.2.there; whole = met.2.whole }
+
+pub write_held : (s t u : State) (r : Request) (bytes : List ℕ) (address blocks : ℕ) (es : List Event)
+    (os : List Output) → ValidState s → r.cdb ≡ Some (cdb.Write address blocks true) →
+    1 ≤ blocks_brought r.expected blocks → IsAnsweredGood s r bytes t → Life t es os u →
+    IsHeldWrite s r address (blocks_brought r.expected blocks) bytes u
+write_held s t u r bytes address blocks es os v e some a life =
+    brought_held s t u r bytes address blocks (blocks_brought r.expected blocks) es os v e (λ passes. refl) some a life
+
+-- a device of profile 0 takes no WRITE of which less comes than it has
+pub whole_write_held : (s t u : State) (r : Request) (bytes : List ℕ) (address blocks : ℕ) (es : List Event)
+    (os : List Output) → ValidState s → (numbers_of s).profile ≡ 0 → r.cdb ≡ Some (cdb.Write address blocks true) →
+    1 ≤ blocks → IsAnsweredGood s r bytes t → Life t es os u → IsHeldWrite s r address blocks bytes u
+whole_write_held s t u r bytes address blocks es os v older e some a life =
+    brought_held s t u r bytes address blocks blocks es os v e (λ passes. all_come s r address blocks true older e passes)
+    some a life

@@ -186,7 +186,7 @@ pub data_tracked : (p : Promise) (s : State) {task : Task} (deed : Deed) (lun of
     first_of p ≤ length s.accepted → FitsIn s task deed → is_asked_in task lun offset (length more) deed ≡ true →
     TrackedIn p task.tag (bytes ++ more) (data_for s task deed more)
 data_tracked (OfWrite first u a b) s {task} (Gathering (ForWrite unit address blocks forced) gathered asked) lun offset
-    bytes more there keeps later fits is = by (nat_lt (length (gathered ++ more)) task.length) refl
+    bytes more there keeps later fits is = by (nat_lt (length (gathered ++ more)) (4096 * blocks)) refl
   where
     p : Promise
     p = OfWrite first u a b
@@ -197,24 +197,22 @@ data_tracked (OfWrite first u a b) s {task} (Gathering (ForWrite unit address bl
     same : all ≡ bytes ++ more
     same = ap (λ (xs : List ℕ). xs ++ more) keeps.1
 
-    most : length all ≤ task.length
+    most : length all ≤ 4096 * blocks
     most =
         let last = and_true (asked && (task.lun == lun) && (offset == length gathered))
-        (length more == count_at task.length (length gathered)) is in
-        let count = eq_told (length more) (count_at task.length (length gathered)) last.1 in
+        (length more == count_at (4096 * blocks) (length gathered)) is in
+        let count = eq_told (length more) (count_at (4096 * blocks) (length gathered)) last.1 in
         let joined = length-append gathered more in
         let short = fits.short in
-        let total = fits.total_is in
         omega arith
 
-    by : (d : Bool) → nat_lt (length all) task.length ≡ d →
+    by : (d : Bool) → nat_lt (length all) (4096 * blocks) ≡ d →
         TrackedIn p task.tag (bytes ++ more) (if d then set_deed s task.tag (Gathering
         (ForWrite unit address blocks forced) all false) else write_complete s task unit address blocks forced all)
     by true e = set_tracked p task.tag (bytes ++ more)
         (Gathering (ForWrite unit address blocks forced) all false) s.tasks s.accepted there (keeps.0, same) later
     by false e =
-        let l = ltb-false (length all) task.length e in
-        let total = fits.total_is in
+        let l = ltb-false (length all) (4096 * blocks) e in
         let k = most in
         subst (λ (xs : List ℕ). TrackedIn p task.tag xs (write_complete s task unit address blocks forced all)) same
         (write_tracked p s unit address blocks forced all there keeps.0 (omega arith) later)

@@ -14,7 +14,8 @@ use Rattle.ufs_spec.specs.Management.{volatile_managed}
 use Rattle.ufs_laws.proofs.walk.WaysOfCommands.{Beginning, Handing, WhyBegun, begins_by, begun_as}
 use Rattle.ufs_laws.proofs.walk.WaysOfData.{Completion, Told, completed}
 use Rattle.ufs_laws.proofs.walk.SmallChanges.{first_kept, lock_short}
-use Rattle.ufs_laws.proofs.walk.Happenings.{Aborts, Begins, Completes, Happening, Replies, Sets, ShortOver, Tells}
+use Rattle.ufs_laws.proofs.walk.Happenings.{Aborts, Begins, Completes, Happening, Replies, Resets, Sets, ShortOver}
+use Rattle.ufs_laws.proofs.walk.Happenings.{Tells}
 use Rattle.ufs_laws.proofs.walk.Happenings.{behind_by, ends_by, first, happened, job_over}
 use Rattle.ufs_laws.proofs.lives.HeldAlongLives.{life_held, short_held}
 use Rattle.ufs_laws.proofs.lives.LivesJoined.{join}
@@ -110,6 +111,7 @@ happens_leave : (tag : ℕ) (s : State) (h : Happening) → is_some (short_of ta
     Leaves tag s.shorts (happened s h).shorts
 happens_leave tag s (Replies short) still = more_leaves tag s.shorts short
 happens_leave tag s (Aborts on is short) still = more_leaves tag s.shorts short
+happens_leave tag s (Resets kind) still = absurd (false≢true still)
 happens_leave tag s (ShortOver short) still = gone_leaves tag short.tag s.shorts still
 happens_leave tag s (Begins r c) still = same_leaves tag (begun_shorts s r _ c)
 happens_leave tag s (Tells on short) still = more_leaves tag s.shorts short

@@ -1,6 +1,7 @@
 -- What a call leaves of the tasks and the short exchanges that are open: a message adds some; data and replies change
 -- or close
 -- those of their tag alone.
+use Rattle.ufs_spec.specs.Exchanges.{to_gather}
 use Rattle.power_loss.proofs.Common.{◌≡◌, ℕ, ◌==◌, Bool, true, false, not, map, List, [], ◌∷◌, ◌++◌, length, Option}
 use Rattle.power_loss.proofs.Common.{Some, None, refl, sym, ap, ◌∙◌, subst, nat_le, nat_lt, append-nil, false≢true}
 use Rattle.power_loss.proofs.Common.{eqb-true, cond-false, if_both}
@@ -159,7 +160,7 @@ complete_leaves {s} task purpose bytes = completes_by (LeavesOthers task.tag s) 
 data_for_leaves : {s : State} (task : Task) (deed : Deed) (bytes : List ℕ) →
     LeavesOthers task.tag s (data_for s task deed bytes)
 data_for_leaves {s} task (Gathering purpose gathered asked) bytes =
-    leaves_if (nat_lt (length (gathered ++ bytes)) task.length) (leaves_set s _ refl refl)
+    leaves_if (nat_lt (length (gathered ++ bytes)) (to_gather purpose task.length)) (leaves_set s _ refl refl)
     (complete_leaves task purpose (gathered ++ bytes))
 data_for_leaves {s} task deed bytes = leaves_all
 

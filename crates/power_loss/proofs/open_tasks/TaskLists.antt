@@ -1,4 +1,5 @@
 -- What becomes of the tasks and the short exchanges where one comes, goes or changes.
+use Rattle.std.specs.Prelude.{◌*◌}
 use Rattle.power_loss.proofs.Common.{◌≡◌, ℕ, ◌+◌, ◌<◌, ◌≤◌, ◌==◌, Bool, true, false, cond, List, [], ◌∷◌, ◌++◌, Option}
 use Rattle.power_loss.proofs.Common.{Some, None, length, map, refl, sym, ap, ◌∙◌, subst, arith, filter, find}
 use Rattle.power_loss.proofs.Common.{AllByRecursion, list_any, same_Some, or_parts, eqb-true, cond-false, Numbers}
@@ -24,9 +25,9 @@ short_tag short = short.tag
 -- Later on, more is accepted and claimed
 
 -- what a WRITE that gathers has fits with other data, at another claim and later on
-pub write_more : {n : Numbers} {m w : Bool} {unit address blocks total : ℕ} {some all : List ℕ} {claimed more : ℕ} →
-    (m ≡ true → w ≡ true) → length all < total → (AreBytes some → AreBytes all) → more ≡ claimed →
-    WriteFits n m unit address blocks total some claimed → WriteFits n w unit address blocks total all more
+pub write_more : {n : Numbers} {m w : Bool} {unit address blocks : ℕ} {some all : List ℕ} {claimed more : ℕ} →
+    (m ≡ true → w ≡ true) → length all < 4096 * blocks → (AreBytes some → AreBytes all) → more ≡ claimed →
+    WriteFits n m unit address blocks some claimed → WriteFits n w unit address blocks all more
 write_more up short bytes same h = assumption (bytes h.bytes, same ∙ h.claimed_is, up h.is_mended)
 
 -- the same of an UNMAP, and of frames

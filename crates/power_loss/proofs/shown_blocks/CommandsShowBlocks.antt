@@ -1,4 +1,6 @@
 -- What is kept for a READ shows the blocks that the READ sends: each call keeps it, from the opening on.
+use Rattle.ufs_spec.specs.Refusals.{brought}
+use Rattle.ufs_laws.proofs.walk.WaysOfCommands.{Answered, expecting}
 use Rattle.power_loss.proofs.Common.{All, All-weaker, Bool, IsKey, Key, Ledger, List, None, Option, Some, [], ap, arith}
 use Rattle.power_loss.proofs.Common.{below, block_at, content, data_key, eqb-self, false, fold, get_or_from_slice_get}
 use Rattle.power_loss.proofs.Common.{if◌then◌else◌, length, map, moved, refl, shape_of_numbers, slice_get_within, subst}
@@ -97,12 +99,13 @@ begun_shows s r command v free p spells h = begins_by ShowsReads s r unit comman
     one : (b : Beginning) → WhyBegun s r unit command b → ShowsReads (begun_as s r command b)
     one (Reading u address n) (unit_is, address_is, size, read) =
         let reads = reads_in r.bytes command spells (ap needs_blocks read) in
-        subst (λ (x : ℕ). ShowsReads (read_begun s r command x address n)) (sym unit_is)
-        (subst (λ (x : ℕ). ShowsReads (read_begun s r command unit x n)) (sym address_is)
-        (read_shows r command unit (address_of command) n v free
+        subst (λ (x : ℕ). ShowsReads (read_begun s r (brought r.expected command) x address n)) (sym unit_is)
+        (subst (λ (x : ℕ). ShowsReads (read_begun s r (brought r.expected command) unit x n)) (sym address_is)
+        (read_shows r (brought r.expected command) unit (address_of command) n v free
         (keys_read size reads p) h))
     one (Handing region n) why = opens s r _ _ _ h
-    one (Gathered count purpose n) why = opens s r _ _ _ h
+    one (Gathered expected count purpose n) why = opens s (expecting r expected) _ _ _ h
+    one (Answered expected n) why = opens s (expecting r expected) _ _ _ h
     one b why = opens s r _ _ _ h
 
 opened_shows : {s : State} (r : Request) → IsTied s → IsFree s r.tag → IsSpelled r → (x : Option Status) →

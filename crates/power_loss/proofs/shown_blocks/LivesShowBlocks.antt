@@ -17,7 +17,7 @@ use Rattle.power_loss.proofs.MachineWords.{MayCome, ValidState, IsShown, ShowsBl
 use Rattle.std.proofs.Common.{Contains, filter, nat_le}
 use Rattle.std.specs.Prelude.{slice_get, slice_set}
 use Rattle.ufs_spec.specs.Exchanges.{block_message, filled}
-use Rattle.ufs_spec.specs.Machine.{block_reply, is_at_hand, next_block_reply, pin_of, set_state, with_block}
+use Rattle.ufs_spec.specs.Machine.{NoEvent, block_reply, is_at_hand, next_block_reply, pin_of, set_state, with_block}
 use Rattle.ufs_laws.proofs.walk.SmallChanges.{fills_task, first, job_over, reads}
 use Rattle.power_loss.specs.Shown.{ShowsAt}
 use Rattle.power_loss.proofs.calls.CallsKeepTied.{first_keeps, no_fault}
@@ -149,6 +149,7 @@ hears_shows : {s : State} (x : Heard) (done : Unit {0}) → IsTied s → MayCome
     Allowed s (Host x) (OfHost (Ok done)) → ShowsReads s → ShowsReads (hears s x)
 hears_shows {s} (Spelled m c) done v may right h = heard_shows m c v may (no_fault (message_fault s m) right) h
 hears_shows (Faulty fault) done v may right h = h
+hears_shows NoEvent done v may right h = h
 
 -- before registers are filled
 pub behind_shows : {s : State} (call : Call) (answer : Answer) → IsTied s → MayCome s call → Allowed s call answer →

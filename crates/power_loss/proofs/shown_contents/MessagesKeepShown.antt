@@ -1,4 +1,5 @@
 -- Each call keeps that what is kept for a READ shows the blocks that the READ sends, and so does a whole life.
+use Rattle.ufs_spec.specs.Exchanges.{to_gather}
 use Rattle.ufs_spec.specs.Plain.{region_of, regions}
 use Rattle.power_loss.proofs.host_commands.GatheringTasks.{GathersIn, HasAll, HasMore, all_there, gathers_in}
 use Rattle.power_loss.proofs.host_commands.GatheringTasks.{more_there, no_more}
@@ -18,6 +19,7 @@ use Rattle.power_loss.proofs.MachineWords.{task_goes_on, task_of, with_deed, wit
 use Rattle.power_loss.proofs.MachineWords.{without_tasks}
 use Rattle.std.proofs.Common.{filter, find, nat_lt}
 use Rattle.std.specs.Prelude.{slice_get}
+use Rattle.ufs_laws.proofs.walk.SmallChanges.{reset_is}
 use Rattle.ufs_spec.specs.Machine.{deed_after_sent, gathered_more}
 use Rattle.ufs_spec.specs.Commands as command
 use Rattle.ufs_spec.specs.declared.messages.Message.TheVariants as message
@@ -109,7 +111,7 @@ module _ {s : State} {task : Task} {purpose : Purpose} {gathered : List ℕ} {as
             shows = made_shows k (λ j. content (plain_now s) (k j)) (pages_named f) i v (λ j. refl) key;
           }) (below (pages_named f)) (keys_of_area region f v there inside)
 
-  complete_shows : (all : List ℕ) → HasAll task gathered all → ShowsReads s →
+  complete_shows : (all : List ℕ) → HasAll task purpose gathered all → ShowsReads s →
       ShowsReads (complete s task purpose all)
   complete_shows all whole h = completes_by ShowsReads s task purpose all one
     where
@@ -124,9 +126,9 @@ module _ {s : State} {task : Task} {purpose : Purpose} {gathered : List ℕ} {as
       one (AcceptsFrames region frames result c) why =
           request_shows (accepts s c 0).translation.ledger _ _ (accepts_shows s c 0 h)
 
-  gathered_shows : (all : List ℕ) → HasMore task gathered all → ShowsReads s →
+  gathered_shows : (all : List ℕ) → HasMore task purpose gathered all → ShowsReads s →
       ShowsReads (gathered_more s task purpose all)
-  gathered_shows all more h = if_cases ShowsReads (nat_lt (length all) task.length)
+  gathered_shows all more h = if_cases ShowsReads (nat_lt (length all) (to_gather purpose task.length))
       (λ few. set_shows s.translation.ledger (Gathering purpose all false) h)
       (λ whole. complete_shows all (all_there more whole) h)
 
@@ -180,7 +182,7 @@ pub heard_shows : {s : State} (m : Message) (c : _) → IsTied s → MayCome s (
     message_fault s m ≡ None → ShowsReads s → ShowsReads (heard s m c)
 heard_shows {s} (message.Command flags lun tag expected taken) c v may free h =
     command_shows (record { flags = flags; lun = lun; tag = tag; expected = expected; bytes = taken; cdb = c }) v
-    (is_free s tag (opens_short s (message.Command flags lun tag expected taken)) (may_open s flags _ free))
+    (is_free s false tag (opens_short s (message.Command flags lun tag expected taken)) (may_open s flags _ free))
     (λ command e. spelled_is c command taken may.1.2 e) h
 heard_shows {s} (message.DataOut lun tag offset «data») c v may free h =
     data_heard_shows tag lun offset (task_of tag s.tasks) «data».items v refl
@@ -188,6 +190,8 @@ heard_shows {s} (message.DataOut lun tag offset «data») c v may free h =
 heard_shows {s} (message.QueryRequest tag function asked size value «data») c v may free h =
     query_shows s tag (record { function = function; asked = asked; length = size; value = value }) h
 heard_shows {s} (message.TaskRequest lun tag function meant) c v may free h = managed_shows s lun function meant h
+heard_shows {s} (message.LinkEvent kind) c v may free h =
+    subst ShowsReads (reset_is s kind) (without_shows s (λ task. true) h)
 heard_shows m c v may free h = h
 
 -- Replies

@@ -23,7 +23,7 @@ use Rattle.ufs_spec.specs.Refusals.{sends_frames_to, accepts_nothing}
 use Rattle.ufs_spec.specs.Rpmb.{Results, region_of, rpmb_outcome}
 use Rattle.ufs_spec.specs.RpmbResponses.{emptied_by}
 use Rattle.ufs_laws.proofs.walk.Happenings.{Aborts, Begins, BlockRead, Completes, GoesOn, Happening}
-use Rattle.ufs_laws.proofs.walk.Happenings.{IsOver, Gathers, Refuses, Why, behind_by, ends_by, happened, job_over}
+use Rattle.ufs_laws.proofs.walk.Happenings.{IsOver, Gathers, Refuses, Resets, Why, behind_by, ends_by, happened, job_over}
 use Rattle.ufs_laws.proofs.pages.ByteLists.{bytes-append}
 use Rattle.ufs_laws.proofs.walk.TaskLaws.{every_filtered, every_mapped, every_more}
 use Rattle.ufs_laws.proofs.walk.WaysOfCommands.{Beginning, Handing, WhyBegun, begins_by, begun_as}
@@ -123,7 +123,7 @@ frames_ask s {region = region} {areas} (f ∷ fs) result c same came decided =
 
 completed_waits : {areas : List ℕ} {s : State} {task : Task} {purpose : Purpose} {gathered all : List ℕ} {asked : Bool}
     (k : Completion) → (shape_of (plain_now s)).areas ≡ areas → GathersIn s task purpose gathered asked →
-    HasMore task gathered all → WhyCompleted s task purpose all k → Waits areas s → Waits areas (completed s task k)
+    HasMore task purpose gathered all → WhyCompleted s task purpose all k → Waits areas s → Waits areas (completed s task k)
 completed_waits {s = s} {task} (Told status released) same g more why h =
     tasks_go s.tasks s.registers (with_deed task.tag (Answering status task.length)) (deed_asks _ task.tag _) h
 completed_waits {s = s} {task} (Accepted c claimed deed) same g more why h =
@@ -157,10 +157,14 @@ happens_waits {s = s} call answer (Gathers task purpose all) v is may same why h
     tasks_go s.tasks s.registers (with_deed task.tag (Gathering purpose all false)) (deed_asks _ task.tag _) h
 happens_waits {s = s} call answer (Completes task k) v is may same (purpose, d, why) h =
     completed_waits k same (gathers_in task.tag v d.found d.deed)
-    (room_for task d.gathered d.more (d.next may) (λ b. bytes-append d.gathered d.more b (d.are_bytes is))) why h
+    (room_for task _ d.gathered d.more (d.next may) (λ b. bytes-append d.gathered d.more b (d.are_bytes is))) why h
 happens_waits {areas} {s} call answer (Aborts volatile those short) v is may same why h = record {
   requests = every_filtered (Asks areas) (λ task. not (those task)) s.tasks h.requests;
   registers_hold = registers_left s (filter those s.tasks) h;
+}
+happens_waits call answer (Resets kind) v is may same why h = record {
+  requests = tt;
+  registers_hold = λ region. empty_hold;
 }
 happens_waits {s = s} call answer (GoesOn task deed) v is may same why h =
     tasks_go s.tasks s.registers (with_deed task.tag deed) (deed_asks _ task.tag deed) h

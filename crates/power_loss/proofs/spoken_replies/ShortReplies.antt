@@ -25,7 +25,8 @@ use Rattle.ufs_laws.proofs.exchanges.ReplySizes.{reply_speaks, response_fits, si
 use Rattle.ufs_laws.proofs.exchanges.SpokenCalls.{spoken}
 use Rattle.ufs_laws.proofs.exchanges.AbortedTasks.{every_at}
 use Rattle.ufs_laws.specs.Replies.{ShortSpeaks, ShortsSpeak}
-use Rattle.ufs_spec.specs.Machine.{aborts, is_named, service_found}
+use Rattle.ufs_spec.specs.Exchanges.{number_of}
+use Rattle.ufs_spec.specs.Machine.{NoEvent, aborts, is_named, service_found}
 use Rattle.ufs_spec.specs.Refusals.{mended}
 use Rattle.ufs_spec.specs.Messages.{IsByte, IsMessage, spelling}
 use Rattle.ufs_spec.specs.declared.messages.Message.TheVariants as message
@@ -120,7 +121,8 @@ heard_speaks s (message.DataOut lun tag offset «data») c v is h =
     same_speak s (heard s (message.DataOut lun tag offset «data») c)
     (data_leaves (task_of tag s.tasks) «data».items refl).shorts h
 heard_speaks s (message.TaskRequest lun tag function meant) c v is h =
-    one_speaks (managed s lun function meant) tag (message.TaskResponse lun tag (service s lun function meant))
+    one_speaks (managed s lun function meant) (number_of true tag)
+    (message.TaskResponse lun tag (service s lun function meant))
     (is.0, is.1, service_byte s lun function meant)
     (same_speak s (managed s lun function meant) (managed_shorts s lun function meant) h)
 heard_speaks s (message.QueryRequest tag function asked size value «data») c v is h =
@@ -133,12 +135,14 @@ heard_speaks s (message.QueryRequest tag function asked size value «data») c v
       index = fields.2;
       selector = fields.3;
     }) h
+heard_speaks s (message.LinkEvent kind) c v is h = All-nil ShortSpeaks
 heard_speaks s other c v is h = h
 
 hears_speaks : (s : State) (x : Heard) → IsTied s → ((bytes : List ℕ) × IsHeard bytes x) → ShortsSpeak s →
     ShortsSpeak (hears s x)
 hears_speaks s (Spelled m c) v is h = heard_speaks s m c v is.1.0.0 h
 hears_speaks s (Faulty fault) v is h = h
+hears_speaks s NoEvent v is h = h
 
 -- Replies
 
