@@ -30,6 +30,10 @@ idle_machine state = record { region = state; registers = empty_registers }
 abbrev pub idle_machines : List RegionState → List Machine
 idle_machines states = map idle_machine states
 
+-- both registers of a machine are empty
+abbrev pub forgotten : Machine → Machine
+forgotten m = record m { registers = empty_registers }
+
 -- what the settings say of the region of a machine
 abbrev pub said_kept : Machine → KeyAndCounter
 said_kept m = record { key = m.region.key; counter = m.region.counter }

@@ -1,7 +1,7 @@
 //! The machines of all regions, by their numbers.
 ghost use Rattle.std.specs.Prelude.{◌≡◌, ◌≢◌, ◌<◌, ◌≤◌, ◌*◌, ◌++◌, ℕ, [], IfOk, List, drop, length, map, min, option_copied, take};
 ghost use Rattle.rpmb.specs.Answers.{AreFew, IsRead, waiting_in};
-ghost use Rattle.rpmb.specs.Kept.{IsKept, idle_machines, machine_at, said_kept, with_machine};
+ghost use Rattle.rpmb.specs.Kept.{IsKept, forgotten, idle_machines, machine_at, said_kept, with_machine};
 ghost use Rattle.rpmb.specs.Outcomes.{AcceptsUnlocked, MayChange, MayFollow, command_of, outcome_of};
 ghost use Rattle.rpmb.specs.Requests.{frames_of};
 ghost use Rattle.ufs_spec.specs.Exchanges.{empty_registers};
@@ -136,6 +136,13 @@ impl Machines {
         }
     }
 
+    /// The registers of each region are emptied, as by a reset of the link.
+    pub fn forget_all(&mut self)
+        ensures { self.new ≡ map forgotten self.old }
+    {
+        forget_each(self.all.as_mut_slice());
+    }
+
     /// What the GOOD of a request leaves in the registers of its region, as `Rpmb::respond`.
     pub fn respond(&mut self, number: u8, frames: &[u8], code: u16, blocks: Option<&[u8]>)
         requires { AreFew (option_copied blocks) }
@@ -190,5 +197,14 @@ fn said_of(machine: &Rpmb) -> KeyAndCounter
     KeyAndCounter {
         key: region.key,
         counter: region.counter,
+    }
+}
+
+/// Both registers of each machine are emptied.
+fn forget_each(machines: &mut [Rpmb])
+    ensures { machines.new ≡ map forgotten machines.old }
+{
+    for machine in machines.iter_mut() {
+        machine.forget();
     }
 }

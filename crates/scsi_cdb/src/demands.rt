@@ -1,8 +1,11 @@
 //! What a command asks for: its blocks, its address and how many bytes of data it has (SPC, SBC).
-ghost use Rattle.std.specs.Prelude.{◌≡◌, ◌<◌, ◌^◌};
-ghost use Rattle.ufs_spec.specs.Cdbs.{address_of, blocks_meant, blocks_of, length_of};
+ghost use Rattle.std.specs.Prelude.{◌≡◌, ◌<◌, ◌≤◌, ◌^◌};
+ghost use Rattle.ufs_spec.specs.Cdbs.{address_of, blocks_brought, blocks_meant, blocks_of, brought, length_of};
 
 use ufs_spec::Cdb;
+
+/// How many bytes a block has.
+const BLOCK_BYTES: u32 = 4096;
 
 /// How many blocks a READ or a WRITE names (SBC, READ and WRITE commands). No other command names any
 /// that count.
@@ -52,5 +55,33 @@ pub fn length_of(told: u32, cdb: &Cdb) -> u32
         Cdb::Unmap { list } => *list,
         Cdb::SecurityIn { length, .. } | Cdb::SecurityOut { length, .. } => *length,
         Cdb::Nothing | Cdb::Flush { .. } | Cdb::Prefetch { .. } | Cdb::Diagnose { .. } => 0,
+    }
+}
+
+/// How many of so many blocks a WRITE brings whose host sends so many bytes: all, or the whole blocks of
+/// those bytes.
+pub fn blocks_brought(expected: u32, blocks: u32) -> u32
+    ensures is { result ≡ blocks_brought expected blocks }
+    ensures few { result ≤ blocks }
+{
+    blocks.min(expected / BLOCK_BYTES)
+}
+
+/// The command as its host brings data for it, which sends so many bytes: a WRITE of the whole blocks that
+/// come, if these are fewer than it has; any other is as its CDB says.
+pub fn brought(expected: u32, cdb: &Cdb) -> Cdb
+    ensures { result ≡ brought expected cdb.now }
+{
+    match cdb {
+        Cdb::Write {
+            address,
+            blocks,
+            forced,
+        } => Cdb::Write {
+            address: *address,
+            blocks: blocks_brought(expected, *blocks),
+            forced: *forced,
+        },
+        _ => *cdb,
     }
 }

@@ -7,7 +7,7 @@ ghost use Rattle.ufs_spec.specs.Cdbs.{fixed_sense, IsKnownOperation, SpellsCdb};
 ghost use Rattle.ufs_spec.specs.CdbFields.{row_of};
 ghost use Rattle.ufs_spec.specs.declared.Cdb.{Cdb};
 
-pub use demands::{address_of, blocks_meant, blocks_of, length_of};
+pub use demands::{address_of, blocks_brought, blocks_meant, blocks_of, brought, length_of};
 pub use laws::{
     four_regions, one_cdb, one_operation, profile_0_takes_fewer_bits, worked_bytes,
     worked_bytes_of_profile_1, worked_lists, worked_residuals,

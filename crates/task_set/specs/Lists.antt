@@ -1,8 +1,8 @@
 -- What the lists of a set of tasks say: which tags are in use, which data were asked for, which blocks were read.
 use Rattle.std.specs.Prelude.{Bool, Err, List, None, Ok, Option, Result, Some, if◌then◌else◌, is_some, length, nat_le}
-use Rattle.std.specs.Prelude.{option_map, position, slice_get, slice_set, ℕ, ◌&&◌, ◌==◌, ◌||◌}
+use Rattle.std.specs.Prelude.{not, option_map, position, slice_get, slice_set, ℕ, ◌&&◌, ◌==◌, ◌||◌}
 use Rattle.std.specs.List.{list_any}
-use Rattle.ufs_spec.specs.Exchanges.{most_short_exchanges}
+use Rattle.ufs_spec.specs.Exchanges.{most_short_exchanges, number_of}
 use Rattle.ufs_spec.specs.declared.faults.HostFault.{HostFault}
 use Rattle.ufs_spec.specs.declared.faults.HostFault.TheVariants.{Backlog, TagInUse}
 use Rattle.task_set.specs.declared.tasks.AskedFor.{AskedFor}
@@ -13,22 +13,29 @@ use Rattle.task_set.specs.declared.tasks.Task.{Task}
 use Rattle.task_set.specs.declared.tasks.TaskEvent.{TaskEvent}
 use Rattle.task_set.specs.declared.tasks.Wanted.{Wanted}
 use Rattle.task_set.specs.Kept.{OpenTask, task_in}
+use Rattle.task_set.specs.Shorts.{number_in}
 use Rattle.task_set.specs.Tasks.{bytes_kept, is_task_of, is_wanted, task_after}
 
 -- Tags
 
--- the short exchange has this tag
+-- the short exchange has this number
 abbrev pub is_short_of : ℕ → Short → Bool
-is_short_of tag short = short.tag == tag
+is_short_of number short = number_in short == number
 
--- a task or a short exchange has the tag
-abbrev pub is_in_use : List OpenTask → List Short → ℕ → Bool
-is_in_use tasks shorts tag = is_some (position (is_task_of tag) tasks) || list_any (is_short_of tag) shorts
+-- a task or a short exchange has the number
+abbrev pub is_open : List OpenTask → List Short → ℕ → Bool
+is_open tasks shorts number = is_some (position (is_task_of number) tasks) || list_any (is_short_of number) shorts
 
--- whether one more short exchange of this tag may be open
-abbrev pub short_allowed : List OpenTask → List Short → ℕ → Result Unit HostFault
-short_allowed tasks shorts tag =
-    if is_in_use tasks shorts tag then Err TagInUse
+-- the tag is in use: by an exchange of task management, or by one that is not, as it is asked; or by any, if
+-- there is one set of tags
+abbrev pub is_in_use : List OpenTask → List Short → (one_set manages : Bool) → ℕ → Bool
+is_in_use tasks shorts one_set manages tag =
+    is_open tasks shorts (number_of manages tag) || (one_set && is_open tasks shorts (number_of (not manages) tag))
+
+-- whether one more short exchange of this tag may be open, which is one of task management or is not
+abbrev pub short_allowed : List OpenTask → List Short → (one_set manages : Bool) → ℕ → Result Unit HostFault
+short_allowed tasks shorts one_set manages tag =
+    if is_in_use tasks shorts one_set manages tag then Err TagInUse
     else if nat_le most_short_exchanges (length shorts) then Err Backlog
     else Ok tt
 

@@ -33,6 +33,10 @@ short_opened s short = record s { shorts = s.shorts ++ short ∷ [] }
 abbrev pub short_ended : Tasks → ℕ → Tasks
 short_ended s k = record s { shorts = remove s.shorts k }
 
+-- no short exchange is open
+abbrev pub shorts_ended : Tasks → Tasks
+shorts_ended s = record s { shorts = [] }
+
 -- a die read this block, or the page of the area of this index, for the task of this tag
 abbrev pub block_loaded : Tasks → ℕ → ℕ → List ℕ → Tasks
 block_loaded s tag index body = record s { tasks = map (after_read tag index body) s.tasks }

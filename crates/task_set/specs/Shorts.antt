@@ -1,8 +1,21 @@
 -- What becomes of an exchange of one reply.
-use Rattle.std.specs.Prelude.{ℕ, nat_le, Bool, true, if◌then◌else◌, Option, Some, None}
+use Rattle.std.specs.Prelude.{ℕ, nat_le, Bool, false, true, if◌then◌else◌, Option, Some, None}
+use Rattle.ufs_spec.specs.Exchanges.{number_of}
 use Rattle.task_set.specs.declared.tasks.Short.{Short}
 use Rattle.task_set.specs.declared.tasks.ShortReply.{ShortReply}
 use Rattle.task_set.specs.declared.tasks.ShortReply.TheVariants as reply
+
+-- the reply is one of task management
+abbrev pub manages : ShortReply → Bool
+manages (reply.Managed lun service) = true
+manages (reply.TaskSetFull lun expected) = false
+manages reply.NopIn = false
+manages (reply.QueryFailed query response) = false
+manages (reply.QueryDone query value) = false
+
+-- the number by which the exchange is found: its tag, and 256 more if it is of task management
+abbrev pub number_in : Short → ℕ
+number_in short = number_of (manages short.reply) short.tag
 
 -- nothing is awaited, or the group of this number is durable
 abbrev pub is_met : ℕ → Option ℕ → Bool

@@ -1,6 +1,7 @@
 -- What becomes of a task.
 use Rattle.std.specs.Prelude.{ℕ, ◌+◌, ◌-◌, ◌*◌, ◌/◌, ◌%◌, ◌==◌, ◌&&◌, nat_lt, Bool, true, false, if◌then◌else◌, List, Option}
 use Rattle.std.specs.Prelude.{Some, None, option_map}
+use Rattle.ufs_spec.specs.Exchanges.{to_gather}
 use Rattle.ufs_spec.specs.declared.scsi.Sense.{Sense}
 use Rattle.ufs_spec.specs.declared.exchanges.Purpose.{Purpose}
 use Rattle.ufs_spec.specs.declared.exchanges.Purpose.TheVariants.{ForFrames, ForUnmap, ForWrite}
@@ -41,7 +42,7 @@ wanted_block w = (w.came / 4096) % 65536
 
 -- what is asked for once a block more came
 abbrev pub next_wanted : Wanted → Option Wanted
-next_wanted w = if nat_lt 4096 (w.length - w.came) then Some (record w { came = w.came + 4096 }) else None
+next_wanted w = if nat_lt 4096 (to_gather w.purpose w.length - w.came) then Some (record w { came = w.came + 4096 }) else None
 
 -- what is still to be sent of a READ once one block more was handed out
 abbrev pub next_sending : Sending → Option Sending
@@ -135,14 +136,15 @@ after_lost_read tag index t = if t.tag == tag then task_after (event.BlockLost i
 abbrev pub bytes_kept : List ℕ → OpenTask → OpenTask
 bytes_kept frames t = record t { block = None; held = Some frames }
 
--- the tag is the one that is meant; without one all are
-abbrev pub is_tag_meant : Option ℕ → ℕ → Bool
-is_tag_meant None tag = true
-is_tag_meant (Some meant) tag = meant == tag
+-- the number is the one that is meant, a LUN byte or a tag; without one all are
+abbrev pub is_any_meant : Option ℕ → ℕ → Bool
+is_any_meant None number = true
+is_any_meant (Some meant) number = meant == number
 
--- whether a task of this LUN byte and tag is one of those that a task management request is about (JESD220, 10.7.6)
+-- whether a task of this LUN byte and tag is one of those that a task management request (JESD220, 10.7.6) or a reset
+-- of the link is about
 abbrev pub is_meant : Meant → ℕ → ℕ → Bool
-is_meant m lun tag = (m.lun == lun) && is_tag_meant m.tag tag
+is_meant m lun tag = is_any_meant m.lun lun && is_any_meant m.tag tag
 
 -- the task is one of them
 abbrev pub is_task_meant : Meant → OpenTask → Bool

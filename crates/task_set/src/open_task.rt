@@ -76,11 +76,11 @@ impl OpenTask {
         self.task
     }
 
-    /// Whether it has this tag.
-    pub fn is_of(&self, tag: u8) -> bool
-        ensures { result ≡ is_task_of tag self.now }
+    /// Whether it is found by this number.
+    pub fn is_of(&self, number: u16) -> bool
+        ensures { result ≡ is_task_of number self.now }
     {
-        self.task.tag == tag
+        u16::from(self.task.tag) == number
     }
 
     /// Whether it is one of those that a task management request is about.

@@ -4,16 +4,16 @@ ghost use Rattle.std.specs.Prelude.{IfOk, IfSome, option_copied, vec_capacity};
 ghost use Rattle.std.specs.List.{list_any};
 ghost use Rattle.ufs_spec.specs.Exchanges.{most_short_exchanges, most_tasks};
 ghost use Rattle.task_set.specs.Kept.{no_tasks};
-ghost use Rattle.task_set.specs.Lists.{asked_among, asked_by, asked_in, held_at, is_in_use, is_short_of};
+ghost use Rattle.task_set.specs.Lists.{asked_among, asked_by, asked_in, held_at, is_in_use, is_open, is_short_of};
 ghost use Rattle.task_set.specs.Lists.{read_at, short_allowed, task_at, wanted_in};
 ghost use Rattle.task_set.specs.Sets.{block_loaded, block_lost, ended, frames_kept, happened, locked, opened};
-ghost use Rattle.task_set.specs.Sets.{short_ended, short_opened};
+ghost use Rattle.task_set.specs.Sets.{short_ended, short_opened, shorts_ended};
 ghost use Rattle.task_set.specs.Shorts.{is_short_due, short_locked};
 ghost use Rattle.task_set.specs.Tasks.{after_lost_read, after_read, is_decided, is_sender, is_task_of};
 ghost use Rattle.task_set.specs.Tasks.{is_task_meant, task_after};
 
 use crate::open_task::OpenTask;
-use crate::tasks::{AskedFor, Meant, Phase, Short, Task, TaskEvent, Wanted};
+use crate::tasks::{AskedFor, Meant, Phase, Short, Task, TaskEvent, Wanted, number_of};
 use std::alloc::{AllocError, Global};
 use std::marker::Model;
 use ufs_bytes::{Block, Body};
@@ -25,8 +25,8 @@ use ufs_spec::{HostFault, MOST_SHORT_EXCHANGES, MOST_TASKS};
 pub struct TaskSet {
     /// The open tasks in the order of their COMMANDs: no two have one tag.
     tasks: Vec<OpenTask>,
-    /// The exchanges of one reply that was not handed out yet. No tag is in use twice, here or among the
-    /// tasks.
+    /// The exchanges of one reply that was not handed out yet. No number (`Short::number`) is in use twice,
+    /// here or among the tasks.
     shorts: Vec<Short>,
     /// The blocks of the pool that no task has: what they hold means nothing.
     spare: Vec<Body>,
@@ -60,11 +60,19 @@ impl TaskSet {
         })
     }
 
-    /// Whether a task or a short exchange with this tag is open.
-    pub fn uses(&self, tag: u8) -> bool
-        ensures { result ≡ is_in_use self.now.tasks self.now.shorts tag }
+    /// Whether an exchange with this tag is open: one that is of task management, or one that is not, as
+    /// `manages` says; or one of any kind, if there is one set of tags.
+    pub fn uses(&self, one_set: bool, manages: bool, tag: u8) -> bool
+        ensures { result ≡ is_in_use self.now.tasks self.now.shorts one_set manages tag }
     {
-        task_at(self.tasks.as_slice(), tag).is_some() || is_short(self.shorts.as_slice(), tag)
+        self.is_open(number_of(manages, tag)) || (one_set && self.is_open(number_of(!manages, tag)))
+    }
+
+    /// Whether a task or a short exchange with this number is open.
+    fn is_open(&self, number: u16) -> bool
+        ensures { result ≡ is_open self.now.tasks self.now.shorts number }
+    {
+        task_at(self.tasks.as_slice(), number).is_some() || is_short(self.shorts.as_slice(), number)
     }
 
     /// Whether as many tasks are open as may be.
@@ -168,7 +176,7 @@ impl TaskSet {
         ensures what { result ≡ asked_among self.now.tasks lun tag offset count }
         ensures within { IfSome result (λ asked. asked.index < length self.now.tasks) }
     {
-        let index = task_at(self.tasks.as_slice(), tag)?;
+        let index = task_at(self.tasks.as_slice(), u16::from(tag))?;
         self.asked_by(lun, offset, count, index)
     }
 
@@ -181,17 +189,16 @@ impl TaskSet {
         asked_of(&self.tasks[index], lun, offset, count, index)
     }
 
-    /// Whether one more short exchange of this tag may be open.
+    /// Whether one more short exchange of this tag may be open, one of task management or not.
     ///
     /// # Errors
     ///
-    /// `TagInUse` if a task or a short exchange has the tag, else `Backlog` if as many short exchanges
-    /// are open as may be.
-    pub fn may_open_short(&self, tag: u8) -> Result<(), HostFault>
-        ensures answer { result ≡ short_allowed self.now.tasks self.now.shorts tag }
+    /// `TagInUse` if the tag is in use, else `Backlog` if as many short exchanges are open as may be.
+    pub fn may_open_short(&self, one_set: bool, manages: bool, tag: u8) -> Result<(), HostFault>
+        ensures answer { result ≡ short_allowed self.now.tasks self.now.shorts one_set manages tag }
         ensures room { IfOk result (λ _. length self.now.shorts < most_short_exchanges) }
     {
-        if self.uses(tag) {
+        if self.uses(one_set, manages, tag) {
             return Err(HostFault::TagInUse);
         }
         if self.shorts.len() >= MOST_SHORT_EXCHANGES {
@@ -225,6 +232,13 @@ impl TaskSet {
         ensures after { self.new ≡ short_ended self.old index }
     {
         self.shorts.remove(index)
+    }
+
+    /// No short exchange is open any more.
+    pub fn end_shorts(&mut self)
+        ensures { self.new ≡ shorts_ended self.old }
+    {
+        self.shorts.clear();
     }
 
     /// A die read this block for the task of this tag: the next one that it sends, or the page of the area
@@ -265,25 +279,25 @@ fn spare_bodies(alloc: Global) -> Result<Vec<Body>, AllocError>
     Ok(bodies)
 }
 
-/// The position of the task of this tag.
-fn task_at(tasks: &[OpenTask], tag: u8) -> Option<usize>
-    ensures first { result ≡ position (is_task_of tag) tasks.now }
+/// The position of the task of this number.
+fn task_at(tasks: &[OpenTask], number: u16) -> Option<usize>
+    ensures first { result ≡ position (is_task_of number) tasks.now }
     ensures within { IfSome result (λ k. k < length tasks.now) }
 {
-    tasks.iter().position(|task| task.is_of(tag))
+    tasks.iter().position(|task| task.is_of(number))
 }
 
-/// Whether a short exchange of this tag is open.
-fn is_short(shorts: &[Short], tag: u8) -> bool
-    ensures { result ≡ list_any (is_short_of tag) shorts.now }
+/// Whether a short exchange of this number is open.
+fn is_short(shorts: &[Short], number: u16) -> bool
+    ensures { result ≡ list_any (is_short_of number) shorts.now }
 {
-    shorts.iter().any(|short| is_short_of(short, tag))
+    shorts.iter().any(|short| is_short_of(short, number))
 }
 
-fn is_short_of(short: &Short, tag: u8) -> bool
-    ensures { result ≡ is_short_of tag short.now }
+fn is_short_of(short: &Short, number: u16) -> bool
+    ensures { result ≡ is_short_of number short.now }
 {
-    short.tag == tag
+    short.number() == number
 }
 
 /// The task at this position, if so many bytes at this offset are what it asked for and none came.

@@ -1,8 +1,10 @@
 //! The tasks that are open, and what each still owes its host (JESD220, 10.9).
 ghost use Rattle.std.specs.Prelude.{◌≡◌, ◌*◌};
-ghost use Rattle.task_set.specs.Tasks.{asked_next, came, failed, group_done, is_forced, is_meant, is_wanted};
+ghost use Rattle.ufs_spec.specs.Exchanges.{number_of};
+ghost use Rattle.task_set.specs.Tasks.{asked_next, came, failed, group_done, is_any_meant, is_forced, is_meant, is_wanted};
 ghost use Rattle.task_set.specs.Tasks.{next_sending, next_wanted, phase_after, sent_next, wanted_block, wanted_count};
-ghost use Rattle.task_set.specs.Shorts.{is_short_due, reply_locked, short_locked};
+ghost use Rattle.task_set.specs.Shorts.{is_short_due, manages, number_in, reply_locked, short_locked};
+ghost use Rattle.ufs_spec.specs.Exchanges.{to_gather};
 
 use crate::frames::{AreaReading, Frames};
 use ufs_spec::{Asked, Purpose, ReadState, Sense, Status};
@@ -203,6 +205,13 @@ pub struct Short {
 }
 
 impl Short {
+    /// The number by which it is found.
+    pub fn number(self) -> u16
+        ensures { result ≡ number_in self }
+    {
+        number_of(self.reply.manages(), self.tag)
+    }
+
     /// Whether its reply is due, where each group up to this number is durable.
     pub fn is_due(self, frontier: u64) -> bool
         ensures { result ≡ is_short_due frontier self }
@@ -256,7 +265,26 @@ pub enum ShortReply {
     QueryDone { query: Queried, value: u32 },
 }
 
+/// The number by which an exchange is found: its tag, and 256 more if it is of task management, which has
+/// tags of its own (SAM).
+pub fn number_of(manages: bool, tag: u8) -> u16
+    ensures { result ≡ number_of manages tag }
+{
+    if manages {
+        256 + u16::from(tag)
+    } else {
+        u16::from(tag)
+    }
+}
+
 impl ShortReply {
+    /// Whether it answers a task management request.
+    pub fn manages(self) -> bool
+        ensures { result ≡ manages self }
+    {
+        matches!(self, ShortReply::Managed { .. })
+    }
+
     /// What is said in its place where a lock ends the exchange: a setting is told a general failure.
     pub fn locked(self) -> ShortReply
         ensures { result ≡ reply_locked self }
@@ -271,7 +299,7 @@ impl ShortReply {
     }
 }
 
-/// What a task asks its host for: data for this purpose, so many bytes in all, of which so many came.
+/// What a task asks its host for: data for this purpose, of a command of so many bytes; so many came.
 #[derive(Clone, Copy, Debug, PartialEq, Eq)]
 pub struct Wanted {
     pub purpose: Purpose,
@@ -286,6 +314,17 @@ impl Wanted {
     {
         match self.purpose {
             Purpose::ForWrite { .. } => BLOCK_BYTES,
+            Purpose::ForUnmap { .. } | Purpose::ForFrames { .. } => self.length,
+        }
+    }
+
+    /// How many bytes are to come in all: those of the blocks of a WRITE that are taken, or all of the
+    /// command.
+    fn total(self) -> u32
+        ensures { result ≡ to_gather self.purpose self.length }
+    {
+        match self.purpose {
+            Purpose::ForWrite { blocks, .. } => BLOCK_BYTES * blocks as u32,
             Purpose::ForUnmap { .. } | Purpose::ForFrames { .. } => self.length,
         }
     }
@@ -308,7 +347,7 @@ impl Wanted {
     pub fn next(self) -> Option<Wanted>
         ensures { result ≡ next_wanted self }
     {
-        if self.length.saturating_sub(self.came) > BLOCK_BYTES {
+        if self.total().saturating_sub(self.came) > BLOCK_BYTES {
             Some(Wanted {
                 purpose: self.purpose,
                 length: self.length,
@@ -350,12 +389,22 @@ fn is_forced(purpose: Purpose) -> bool
     }
 }
 
-/// The tasks that a task management request is about (JESD220, 10.7.6): those of this LUN byte, all of them or
-/// the one with this tag.
+/// The tasks that a task management request (JESD220, 10.7.6) or a reset of the link is about: those of this
+/// LUN byte or of each, all of them or the one with this tag.
 #[derive(Clone, Copy, Debug, PartialEq, Eq)]
 pub struct Meant {
-    pub lun: u8,
+    pub lun: Option<u8>,
     pub tag: Option<u8>,
+}
+
+/// Whether the number is the one that is meant, a LUN byte or a tag; without one all are.
+fn is_any_meant(meant: Option<u8>, number: u8) -> bool
+    ensures { result ≡ is_any_meant meant number }
+{
+    match meant {
+        Some(meant) => meant == number,
+        None => true,
+    }
 }
 
 impl Meant {
@@ -363,11 +412,7 @@ impl Meant {
     pub fn is(self, lun: u8, tag: u8) -> bool
         ensures { result ≡ is_meant self lun tag }
     {
-        let of_tag = match self.tag {
-            Some(meant) => meant == tag,
-            None => true,
-        };
-        self.lun == lun && of_tag
+        is_any_meant(self.lun, lun) && is_any_meant(self.tag, tag)
     }
 }
 

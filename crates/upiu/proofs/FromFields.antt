@@ -95,7 +95,8 @@ module _ (bytes : List ℕ) (small : AreBytes bytes) (p : Passes bytes) where
   -- the fields of a kind fit, and its data segment is that of the bytes
   abbrev AreFit : ℕ → Type 0
   AreFit code =
-      may_have code bytes (segment_length bytes) ≡ true → HasSets (named_by code bytes) →
+      may_have code bytes (segment_length bytes) ≡ true → HasSets (named_by code bytes) → (rest : List ℕ) →
+      bytes ≡ header_of (named_by code bytes) ++ rest →
       IsMessage (named_by code bytes) × (segment_of (named_by code bytes) ≡ segment_in bytes)
 
   nothing_in : segment_length bytes ≡ 0 → segment_in bytes ≡ []
@@ -132,22 +133,22 @@ module _ (bytes : List ℕ) (small : AreBytes bytes) (p : Passes bytes) where
       length-take-le 16 (drop 16 bytes) (omega (arith, p.total))
 
   fit_00 : AreFit 0x00
-  fit_00 may sets = (small 3, empty may)
+  fit_00 may sets rest begins = (small 3, empty may)
 
   fit_01 : AreFit 0x01
-  fit_01 may sets = (
+  fit_01 may sets rest begins = (
     ((small 1, sets), small 2, small 3, field_fits 4 12 bytes small, operation_long, part_fits bytes 16 16 small),
     empty may,
   )
 
   fit_02 : AreFit 0x02
-  fit_02 may sets = ((small 2, small 3, field_fits 4 12 bytes small, transferred may), refl)
+  fit_02 may sets rest begins = ((small 2, small 3, field_fits 4 12 bytes small, transferred may), refl)
 
   fit_04 : AreFit 0x04
-  fit_04 may sets = ((small 2, small 3, small 5, small 19), empty may)
+  fit_04 may sets rest begins = ((small 2, small 3, small 5, small 19), empty may)
 
   fit_16 : AreFit 0x16
-  fit_16 may sets = (
+  fit_16 may sets rest begins = (
     (
       small 3,
       sets,
@@ -159,11 +160,15 @@ module _ (bytes : List ℕ) (small : AreBytes bytes) (p : Passes bytes) where
     refl,
   )
 
+  -- its header tells of no segment
+  fit_1F : AreFit 0x1F
+  fit_1F may sets rest begins = (sets, sym (nothing_in (ap segment_length begins)))
+
   fit_20 : AreFit 0x20
-  fit_20 may sets = (small 3, empty may)
+  fit_20 may sets rest begins = (small 3, empty may)
 
   fit_21 : AreFit 0x21
-  fit_21 may sets = (
+  fit_21 may sets rest begins = (
     (
       sets.0,
       small 2,
@@ -177,16 +182,16 @@ module _ (bytes : List ℕ) (small : AreBytes bytes) (p : Passes bytes) where
   )
 
   fit_22 : AreFit 0x22
-  fit_22 may sets = ((small 2, small 3, field_fits 4 12 bytes small, transferred may), refl)
+  fit_22 may sets rest begins = ((small 2, small 3, field_fits 4 12 bytes small, transferred may), refl)
 
   fit_24 : AreFit 0x24
-  fit_24 may sets = ((small 2, small 3, small 15), empty may)
+  fit_24 may sets rest begins = ((small 2, small 3, small 15), empty may)
 
   fit_31 : AreFit 0x31
-  fit_31 may sets = ((small 2, small 3, field_fits 4 12 bytes small, field_fits 4 16 bytes small), empty may)
+  fit_31 may sets rest begins = ((small 2, small 3, field_fits 4 12 bytes small, field_fits 4 16 bytes small), empty may)
 
   fit_36 : AreFit 0x36
-  fit_36 may sets = (
+  fit_36 may sets rest begins = (
     (
       small 3,
       sets,
@@ -212,7 +217,7 @@ module _ (bytes : List ℕ) (small : AreBytes bytes) (p : Passes bytes) where
               fit_04,
               (
                 fit_16,
-                (fit_20, (fit_21, (fit_22, (fit_24, (fit_31, (fit_36, tt)))))),
+                (fit_1F, (fit_20, (fit_21, (fit_22, (fit_24, (fit_31, (fit_36, tt))))))),
               ),
             ),
           ),
@@ -247,7 +252,7 @@ module _ (bytes : List ℕ) (small : AreBytes bytes) (p : Passes bytes) where
       → drop (32 + segment_length bytes) bytes ≡ zeros (length (drop (32 + segment_length bytes) bytes)) →
       Spells m bytes
   spelled_from m e sets rest begins pad =
-      let fit = fit_each p.may (subst HasSets e sets) in
+      let fit = fit_each p.may (subst HasSets e sets) rest (begins ∙ ap (λ (x : Message). header_of x ++ rest) e) in
       let fits : IsMessage m = subst IsMessage (sym e) fit.0 in
       let same : segment_of m ≡ segment_in bytes = ap segment_of e ∙ fit.1 in
       (fits, spelled_whole m fits same rest begins pad)

@@ -23,7 +23,7 @@ of_each P (x ∷ xs) n (here, others) among =
 pub known_of_host : (n : ℕ) → is_among host_codes n ≡ true → is_among known_codes n ≡ true
 known_of_host n among =
     of_each (λ (k : ℕ). is_among known_codes k ≡ true) host_codes n
-    (refl, (refl, (refl, (refl, (refl, tt))))) among
+    (refl, (refl, (refl, (refl, (refl, (refl, tt)))))) among
 
 turned : (a b : Bool) → (a ≡ true → b ≡ true) → not b ≡ true → not a ≡ true
 turned true true h e = e

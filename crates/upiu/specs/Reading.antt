@@ -2,13 +2,14 @@
 use Rattle.std.specs.Prelude.{◌≡◌, ◌≤◌, true, length, ◌==◌, ◌+◌, ℕ, List, slice_index, slice_range}
 use Rattle.std.specs.Prelude.{bit_and, if◌then◌else◌, Option, Some, None, [], ◌∷◌, ◌++◌, drop}
 use Rattle.ufs_bytes.specs.Fields.{field_at}
-use Rattle.ufs_spec.specs.Messages.{AreFlags, IsAmong, IsQueryFunction, code_of, is_among, known_codes, may_have}
+use Rattle.ufs_spec.specs.Messages.{AreFlags, IsAmong, IsEventKind, IsQueryFunction, code_of, is_among, known_codes}
+use Rattle.ufs_spec.specs.Messages.{may_have}
 use Rattle.ufs_spec.specs.Messages.{padding, segment_length, zeros}
 use Rattle.ufs_spec.specs.declared.messages.Asked.{Asked}
 use Rattle.ufs_spec.specs.declared.messages.Message.{Message}
 use Rattle.ufs_spec.specs.declared.messages.Message.TheVariants.{NopOut, Command, DataOut, TaskRequest, QueryRequest}
 use Rattle.ufs_spec.specs.declared.messages.Message.TheVariants.{NopIn, Response, DataIn, TaskResponse, ReadyToTransfer}
-use Rattle.ufs_spec.specs.declared.messages.Message.TheVariants.{QueryResponse}
+use Rattle.ufs_spec.specs.declared.messages.Message.TheVariants.{LinkEvent, QueryResponse}
 
 -- the data segment that the header names
 abbrev pub segment_in : List ℕ → List ℕ
@@ -81,6 +82,7 @@ named_by code bytes =
     else if code == 0x02 then named_data_out bytes
     else if code == 0x04 then named_task_request bytes
     else if code == 0x16 then named_query_request bytes
+    else if code == 0x1F then LinkEvent (slice_index bytes 5)
     else if code == 0x20 then NopIn (slice_index bytes 3)
     else if code == 0x21 then named_response bytes
     else if code == 0x22 then named_data_in bytes
@@ -93,10 +95,11 @@ abbrev pub named_message : List ℕ → Message
 named_message bytes = named_by (code_of bytes) bytes
 
 -- the fields that do not take every value of a byte are in their sets: the direction of a COMMAND, the flags of a
--- RESPONSE, the function of a query, the response and the status of a RESPONSE
+-- RESPONSE, the function of a query, the kind of a LINK EVENT, the response and the status of a RESPONSE
 abbrev pub HasSets : Message → Type 0
 HasSets (Command flags lun tag expected cdb) = AreFlags (bit_and flags 0xF8)
 HasSets (QueryRequest tag function asked size value «data») = IsQueryFunction function
+HasSets (LinkEvent kind) = IsEventKind kind
 HasSets (Response flags lun tag response status residual sense) =
     AreFlags flags × IsAmong (0x00 ∷ 0x01 ∷ []) response × IsAmong (0x00 ∷ 0x02 ∷ 0x08 ∷ 0x28 ∷ []) status
 HasSets (QueryResponse tag function response asked size value «data») = IsQueryFunction function

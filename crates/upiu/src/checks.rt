@@ -2,13 +2,13 @@
 ghost use Rattle.std.specs.Prelude.{◌≡◌, ◌≤◌, [], ◌∷◌, length};
 ghost use Rattle.ufs_spec.specs.Messages.{code_of, has_digest, has_extra_header, has_wrong_length};
 ghost use Rattle.ufs_spec.specs.Messages.{host_codes, host_fault_of, is_among, known_codes, may_have};
-ghost use Rattle.ufs_spec.specs.Messages.{read_fault_of, segment_length};
+ghost use Rattle.ufs_spec.specs.Messages.{read_fault_of, request_codes, segment_length};
 
 use ufs_bytes::{read_u16, read_u32};
 use ufs_spec::HostFault;
 use ufs_spec::codes::{
-    COMMAND, DATA_IN, DATA_OUT, NOP_IN, NOP_OUT, QUERY_REQUEST, QUERY_RESPONSE, READY_TO_TRANSFER,
-    RESPONSE, TASK_REQUEST, TASK_RESPONSE,
+    COMMAND, DATA_IN, DATA_OUT, LINK_EVENT, NOP_IN, NOP_OUT, QUERY_REQUEST, QUERY_RESPONSE,
+    READY_TO_TRANSFER, RESPONSE, TASK_REQUEST, TASK_RESPONSE,
 };
 
 /// The bytes of a header.
@@ -94,9 +94,19 @@ fn is_known(code: u8) -> bool
     is_of_host(code) || is_of_device(code)
 }
 
-/// Whether this is the code of a kind that a host sends.
+/// Whether this is the code of a kind that a host sends, or of LINK EVENT, which comes the same way.
 pub fn is_of_host(code: u8) -> bool
     ensures { result ≡ is_among host_codes code }
+{
+    matches!(
+        code,
+        NOP_OUT | COMMAND | DATA_OUT | TASK_REQUEST | QUERY_REQUEST | LINK_EVENT
+    )
+}
+
+/// Whether this is the code of a kind that a host sends.
+pub fn is_of_request(code: u8) -> bool
+    ensures { result ≡ is_among request_codes code }
 {
     matches!(
         code,

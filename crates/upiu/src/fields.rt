@@ -10,8 +10,8 @@ ghost use Rattle.upiu.specs.Reading.{sense_in, Passes};
 use crate::checks::{HEADER, code, stated_length};
 use ufs_bytes::{read_u16, read_u32};
 use ufs_spec::codes::{
-    COMMAND, DATA_IN, DATA_OUT, NOP_IN, NOP_OUT, QUERY_REQUEST, READY_TO_TRANSFER, RESPONSE,
-    TASK_REQUEST, TASK_RESPONSE,
+    COMMAND, DATA_IN, DATA_OUT, LINK_EVENT, NOP_IN, NOP_OUT, QUERY_REQUEST, READY_TO_TRANSFER,
+    RESPONSE, TASK_REQUEST, TASK_RESPONSE,
 };
 use ufs_spec::{Asked, Data, Message};
 
@@ -26,6 +26,7 @@ pub fn message_in(bytes: &[u8]) -> Message
         DATA_OUT => data_out_in(bytes),
         TASK_REQUEST => task_request_in(bytes),
         QUERY_REQUEST => query_request_in(bytes),
+        LINK_EVENT => Message::LinkEvent { kind: bytes[5] },
         NOP_IN => Message::NopIn { tag: bytes[3] },
         RESPONSE => response_in(bytes),
         DATA_IN => data_in_in(bytes),

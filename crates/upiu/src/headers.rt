@@ -5,8 +5,8 @@ ghost use Rattle.byteorder.specs.Endian.{big_bytes};
 
 use ufs_bytes::{write_u16, write_u32};
 use ufs_spec::codes::{
-    COMMAND, DATA_IN, DATA_OUT, NOP_IN, NOP_OUT, QUERY_REQUEST, QUERY_RESPONSE, READY_TO_TRANSFER,
-    RESPONSE, TASK_REQUEST, TASK_RESPONSE,
+    COMMAND, DATA_IN, DATA_OUT, LINK_EVENT, NOP_IN, NOP_OUT, QUERY_REQUEST, QUERY_RESPONSE,
+    READY_TO_TRANSFER, RESPONSE, TASK_REQUEST, TASK_RESPONSE,
 };
 use ufs_spec::{Asked, Message};
 
@@ -63,6 +63,7 @@ fn first_of(message: &Message) -> [u8; 4]
         Message::DataOut { lun, tag, .. } => [DATA_OUT, 0, *lun, *tag],
         Message::TaskRequest { lun, tag, .. } => [TASK_REQUEST, 0, *lun, *tag],
         Message::QueryRequest { tag, .. } => [QUERY_REQUEST, 0, 0, *tag],
+        Message::LinkEvent { .. } => [LINK_EVENT, 0, 0, 0],
         Message::NopIn { tag } => [NOP_IN, 0, 0, *tag],
         Message::Response {
             flags,
@@ -77,7 +78,8 @@ fn first_of(message: &Message) -> [u8; 4]
     }
 }
 
-// Bytes 5 to 7: the query or task management function, the response and the status.
+// Bytes 5 to 7: the query or task management function or the kind of a LINK EVENT, the response and the
+// status.
 fn details_of(message: &Message) -> [u8; 3]
     ensures { result ≡ take 3 (drop 5 (header_of message.now)) }
 {
@@ -85,6 +87,7 @@ fn details_of(message: &Message) -> [u8; 3]
         Message::TaskRequest { function, .. } | Message::QueryRequest { function, .. } => {
             [*function, 0, 0]
         }
+        Message::LinkEvent { kind } => [*kind, 0, 0],
         Message::Response {
             response,
             status,
@@ -124,7 +127,7 @@ fn fields_of(message: &Message) -> [u8; 20]
         Message::Response { residual, .. } => command_fields(*residual, &[0; 16]),
         Message::TaskResponse { service, .. } => task_fields(*service, 0),
         Message::ReadyToTransfer { offset, count, .. } => transfer_fields(*offset, *count),
-        Message::NopOut { .. } | Message::NopIn { .. } => [0; 20],
+        Message::NopOut { .. } | Message::LinkEvent { .. } | Message::NopIn { .. } => [0; 20],
     }
 }
 

@@ -10,7 +10,7 @@ use crate::checks::{HEADER, code, host_fault, stated_length};
 use crate::headers::{command_fields, transfer_header};
 use crate::reading::{are_command_flags, surround};
 use ufs_bytes::read_u32;
-use ufs_spec::codes::{COMMAND, DATA_OUT};
+use ufs_spec::codes::{COMMAND, DATA_OUT, LINK_EVENT};
 
 /// A DATA OUT, whose data are the `count` bytes after its header (JESD220, 10.7.3).
 #[derive(Clone, Copy)]
@@ -77,6 +77,14 @@ pub fn read_command(bytes: &[u8]) -> Option<Command>
     } else {
         None
     }
+}
+
+/// Whether the bytes have no fault that is found before a message's fields, and the transaction code of
+/// LINK EVENT. A device of profile 0 has no such message.
+pub fn has_event_code(bytes: &[u8]) -> bool
+    ensures { IsTrue result ↔ ((host_fault_of bytes.now ≡ None) × (code_of bytes.now ≡ 0x1F)) }
+{
+    is_of_kind(LINK_EVENT, bytes)
 }
 
 // Whether the bytes have no fault and are of the kind with this transaction code.

@@ -13,7 +13,7 @@ mod replies;
 mod writing;
 
 pub use checks::HEADER;
-pub use host_messages::{Command, DataOut, read_command, read_data_out};
+pub use host_messages::{Command, DataOut, has_event_code, read_command, read_data_out};
 pub use laws::{one_spelling, worked_faults, worked_messages, worked_rejects};
 pub use reading::{read, read_host};
 pub use rejects::reject_upiu;

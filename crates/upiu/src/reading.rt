@@ -9,6 +9,7 @@ ghost use Rattle.upiu.specs.Reading.{named_message, HasSets, IsAround, Passes};
 use crate::checks::{HEADER, first_fault, host_fault, stated_length};
 use crate::fields::message_in;
 use crate::headers::header_bytes;
+use ufs_spec::codes::{HARDWARE_RESET, LINK_RESET};
 use ufs_spec::{HostFault, Message};
 
 /// The flags of a COMMAND that say where its data go. Below them are its priority, bit 2, and its task
@@ -103,6 +104,7 @@ fn has_sets(message: &Message) -> bool
         Message::QueryRequest { function, .. } | Message::QueryResponse { function, .. } => {
             is_query_function(*function)
         }
+        Message::LinkEvent { kind } => is_event_kind(*kind),
         Message::Response {
             flags,
             response,
@@ -132,6 +134,13 @@ fn is_query_function(function: u8) -> bool
     ensures { result ≡ is_among (0x01 ∷ 0x81 ∷ []) function }
 {
     matches!(function, 0x01 | 0x81)
+}
+
+// Whether this is a kind of LINK EVENT: a hardware reset, or a reset of the link or the controller.
+fn is_event_kind(kind: u8) -> bool
+    ensures { result ≡ is_among (0x01 ∷ 0x02 ∷ []) kind }
+{
+    matches!(kind, HARDWARE_RESET | LINK_RESET)
 }
 
 // Whether this is the response of a RESPONSE: success or failure of the target.
