@@ -10,6 +10,7 @@ pub mod CommandTable
 pub mod CommandTags
 pub mod CommandsRight
 pub mod DataRight
+pub mod EventsRight
 pub mod FaultsHeard
 pub mod FramesAccepted
 pub mod FramesBegin

@@ -84,6 +84,7 @@ HasBegun after t claims tag (Ok (plan.Read key blocks size)) p = HasKept after t
 HasBegun after t claims tag (Ok (plan.Gather w slots)) p = HasClaimedFor after t claims tag slots (phase.Ask w) p
 HasBegun after t claims tag (Err refused) p = (p ≡ phase.Answer refused 0) × IsLayerWith after t claims
 HasBegun after t claims tag (Ok (plan.Nothing n)) p = (p ≡ phase.Answer status.Good n) × IsLayerWith after t claims
+HasBegun after t claims tag (Ok (plan.Drop n)) p = (p ≡ phase.Answer status.Good n) × IsLayerWith after t claims
 HasBegun after t claims tag (Ok (plan.Send from size taken)) p =
     (p ≡ held_phase size taken) × IsLayerWith after t claims
 HasBegun after t claims tag (Ok plan.Flush) p =

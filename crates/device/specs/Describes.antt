@@ -51,7 +51,7 @@ use Rattle.device.specs.Frames.{frames_for, part_held, part_of_page}
 use Rattle.device.specs.Kept.{DeviceCore}
 use Rattle.device.specs.Lists.{IsOfList, frame_slots, list_slots}
 use Rattle.task_set.specs.Tasks.{is_sender, read_error}
-use Rattle.task_set.specs.Shorts.{reply_locked}
+use Rattle.task_set.specs.Shorts.{number_in, reply_locked}
 use Rattle.device.specs.Replies.{short_message, short_said}
 use Rattle.task_set.specs.declared.tasks.Wanted.{Wanted}
 
@@ -91,11 +91,11 @@ pub record IsLost (blocks : List ReadBlock) (sent : ℕ) (told : Status) (size :
   pub few : length blocks ≤ greatest_command
   pub behind : (i : ℕ) (other : ReadBlock) → sent < i → slice_get blocks i ≡ Some other → other.state ≡ Unread
 
--- data of so many bytes, of which so many came: whole blocks of a WRITE; nothing yet of frames or of a list, which come
--- in one message
+-- data of a command of so many bytes, of which so many came: whole blocks of a WRITE; nothing yet of frames or of a
+-- list, which come in one message
 abbrev pub ComesSo : Purpose → (came size : ℕ) → Type 0
 ComesSo (ForWrite unit address blocks forced) came size =
-    (n : ℕ) × (came ≡ 4096 * n) × (n < blocks) × (size ≡ 4096 * blocks)
+    (n : ℕ) × (came ≡ 4096 * n) × (n < blocks)
 ComesSo (ForUnmap unit) came size = (came ≡ 0) × IsOfList size
 ComesSo (ForFrames region) came size = (came ≡ 0) × (1 ≤ size) × (size ≤ 4096)
 
@@ -330,10 +330,10 @@ abbrev pub IsLockTold : Numbers → kept.Short → Option ℕ → Message → Ty
 IsLockTold n a None said = Unit {0}
 IsLockTold n a (Some number) said = said ≡ short_said n a.tag (reply_locked a.reply)
 
--- the kept short exchange is the specified one: its tag, its reply, what it waits for, and what a lock makes of it;
+-- the kept short exchange is the specified one: its number, its reply, what it waits for, and what a lock makes of it;
 -- `before` is the number of the last group before the accepted commands
 pub record ShortKept (n : Numbers) (before : ℕ) (a : kept.Short) (b : Short) : Type 0 where
-  pub tag : b.tag ≡ a.tag
+  pub tag : b.tag ≡ number_in a
   pub reply : b.reply ≡ short_message n a
   pub awaits : IsAwaiting before a.awaits b.awaits
   pub locked : IsLockTold n a a.awaits b.locked_reply

@@ -1,7 +1,8 @@
 -- What a message of the host is answered, and what it makes of what the device keeps.
-use Rattle.std.specs.Prelude.{Bool, Err, List, None, Ok, Option, Result, Some, [], ℕ, ◌++◌, ◌∷◌, ◌≡◌}
+use Rattle.std.specs.Prelude.{Bool, Err, List, None, Ok, Option, Result, Some, [], ℕ, ◌++◌, ◌==◌, ◌∷◌, ◌≡◌}
 use Rattle.ufs_spec.specs.Refusals.{Request, State}
 use Rattle.ufs_spec.specs.Translation.{Translation}
+use Rattle.ufs_spec.specs.declared.configs.Numbers.{Numbers}
 use Rattle.ufs_spec.specs.declared.faults.HostFault.{HostFault}
 use Rattle.ufs_spec.specs.declared.faults.HostFault.TheVariants.{NotAskedFor}
 use Rattle.ftl_core.specs.Public.{Claims, Core, Describes}
@@ -23,15 +24,15 @@ use Rattle.ufs_spec.specs.declared.exchanges.Purpose.TheVariants.{ForFrames, For
 use Rattle.ufs_spec.specs.declared.flash.Key.{Key}
 use Rattle.device.specs.Kept.{DeviceCore, IsLayerWith}
 use Rattle.device.specs.Bare.{IsBare}
-use Rattle.device.specs.Plans.{IsPlanned, IsRequest}
+use Rattle.device.specs.Plans.{IsPlanned, IsRequest, expected_for}
 use Rattle.device.specs.Unmaps.{HasListCome}
 use Rattle.task_set.specs.Lists.{asked_among, is_in_use, short_allowed}
 
 -- Commands
 
--- a task or a short exchange has the tag
-abbrev pub uses : DeviceCore → ℕ → Bool
-uses d tag = is_in_use d.tasks d.shorts tag
+-- the tag is in use, for task management or for another exchange. In profile 0 there is one set of tags
+abbrev pub uses : DeviceCore → Numbers → (manages : Bool) → ℕ → Bool
+uses d n manages tag = is_in_use d.tasks d.shorts (n.profile == 0) manages tag
 
 -- one task more is open, behind all others
 abbrev pub with_task : DeviceCore → OpenTask → DeviceCore
@@ -41,9 +42,9 @@ with_task d task = record d { tasks = d.tasks ++ task ∷ [] }
 abbrev pub with_short : DeviceCore → Short → DeviceCore
 with_short d short = record d { shorts = d.shorts ++ short ∷ [] }
 
--- whether one more short exchange of this tag may be open
-abbrev pub short_answer : DeviceCore → ℕ → Result Unit HostFault
-short_answer d tag = short_allowed d.tasks d.shorts tag
+-- whether one more short exchange of this tag may be open, one of task management or not
+abbrev pub short_answer : DeviceCore → Numbers → (manages : Bool) → ℕ → Result Unit HostFault
+short_answer d n manages tag = short_allowed d.tasks d.shorts (n.profile == 0) manages tag
 
 -- a command became a task, refused or not: how far it is, and what its plan made of the layer and of the attention of
 -- its LUN
@@ -65,7 +66,7 @@ pub record IsTaskOpened (before after : DeviceCore) (flags lun tag expected : �
         (with_task before (newly_open (record {
           tag = tag;
           lun = lun;
-          expected = expected;
+          expected = expected_for expected todo;
           phase = phase;
           frames = frames_brought todo;
           region = region_brought todo;

@@ -7,6 +7,7 @@ pub mod Groups
 pub mod Hears
 pub mod Kept
 pub mod Leftovers
+pub mod LinkEvents
 pub mod Lists
 pub mod Manages
 pub mod Opened

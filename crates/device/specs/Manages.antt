@@ -24,11 +24,11 @@ use Rattle.device.specs.declared.management.Managing.TheVariants as managing
 
 -- the task with this LUN byte and this tag
 abbrev pub one_task : ℕ → ℕ → Meant
-one_task lun tag = record { lun = lun; tag = Some tag }
+one_task lun tag = record { lun = Some lun; tag = Some tag }
 
 -- all tasks with this LUN byte
 abbrev pub all_tasks : ℕ → Meant
-all_tasks lun = record { lun = lun; tag = None }
+all_tasks lun = record { lun = Some lun; tag = None }
 
 -- what the function comes to, with this LUN byte and the tag that is meant
 abbrev pub by_function : ℕ → ℕ → ℕ → Managing

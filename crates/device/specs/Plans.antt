@@ -4,7 +4,8 @@ use Rattle.std.specs.Prelude.{◌||◌, ◌∷◌, ◌≡◌}
 use Rattle.std.specs.Int.{div_ceil}
 use Rattle.ufs_spec.specs.CdbFields.{spelled_cdb}
 use Rattle.ufs_spec.specs.Cdbs.{length_of}
-use Rattle.ufs_spec.specs.Begins.{unit_or_first}
+use Rattle.ufs_spec.specs.Begins.{expected_of_write, unit_or_first}
+use Rattle.ufs_spec.specs.Cdbs.{blocks_brought, brought}
 use Rattle.ufs_spec.specs.Exchanges.{invalid_field, not_ready, self_test_failed, sequence_error, write_protected}
 use Rattle.ufs_spec.specs.declared.exchanges.Status.TheVariants.{Busy}
 use Rattle.ufs_spec.specs.Keys.{data_key}
@@ -41,14 +42,14 @@ pub record IsRequest (r : Request) (flags lun expected : ℕ) (bytes : List ℕ)
   pub spelled : IsCdbIn (Some bytes) r.cdb
 
 -- lines 8 to 11, which depend on what the device is now
-abbrev pub lines_now : State → Option UnitSpec → Cdb → List Line
-lines_now s unit command =
+abbrev pub lines_now : State → Option UnitSpec → (expected : ℕ) → Cdb → List Line
+lines_now s unit expected command =
     line (is_unready s command) not_ready
     ∷ line (is_refused_write s unit command) write_protected
     ∷ line (fails_test s command) self_test_failed
     ∷ line (lacks_response s command) sequence_error
     ∷ line (has_other_response s command) invalid_field
-    ∷ line (is_crowded s command) Busy
+    ∷ line (is_crowded s (brought expected command)) Busy
     ∷ []
 
 -- Plans
@@ -64,6 +65,12 @@ abbrev pub gather_plan : Purpose → ℕ → ℕ → Plan
 gather_plan purpose size slots =
     if size == 0 then plan.Nothing 0
     else plan.Gather (record { purpose = purpose; length = size; came = 0 }) slots
+
+-- a WRITE of so many bytes whose host brings no block is done at once; any other claims its slots and asks for its blocks
+abbrev pub write_plan : (unit address blocks : ℕ) → Bool → (size : ℕ) → Plan
+write_plan unit address blocks forced size =
+    if blocks == 0 then plan.Drop size
+    else plan.Gather (record { purpose = ForWrite unit address blocks forced; length = size; came = 0 }) blocks
 
 -- how many bytes of data a command to this LUN has on a device with this configuration
 abbrev pub length_on : Numbers → (lun : ℕ) → Cdb → ℕ
@@ -97,13 +104,29 @@ plan_of n to expected (cdb.Tell what select allocation) =
     send_plan expected (source.Identity (identity_of to what select)) (length_on n to.lun (cdb.Tell what select allocation))
 plan_of n to expected (cdb.Read address blocks) = read_plan (unit_or_first to.unit) expected address blocks
 plan_of n to expected (cdb.Write address blocks forced) =
-    gather_plan (ForWrite (unit_or_first to.unit) address blocks forced) (4096 * blocks) blocks
+    write_plan (unit_or_first to.unit) address (blocks_brought expected blocks) forced (4096 * blocks)
 plan_of n to expected (cdb.Flush immediate) = flush_plan immediate
 plan_of n to expected (cdb.Prefetch address blocks) = plan.Nothing 0
 plan_of n to expected (cdb.Diagnose tests) = plan.Nothing 0
 plan_of n to expected (cdb.Unmap list) = gather_plan (ForUnmap (unit_or_first to.unit)) list (list_slots n list)
 plan_of n to expected (cdb.SecurityOut region size) = gather_plan (ForFrames region) size frame_slots
 plan_of n to expected (cdb.SecurityIn region size) = send_plan expected (source.Response region) size
+
+-- how many bytes count as expected of a command of so many that gathers data for this purpose
+abbrev pub counted_for : (expected : ℕ) → Purpose → ℕ → ℕ
+counted_for expected (ForWrite unit address blocks forced) size = expected_of_write expected size
+counted_for expected (ForUnmap unit) size = expected
+counted_for expected (ForFrames region) size = expected
+
+-- the same of a task for which this was planned
+abbrev pub expected_for : (expected : ℕ) → Result Plan Status → ℕ
+expected_for expected (Ok (plan.Gather w slots)) = counted_for expected w.purpose w.length
+expected_for expected (Ok (plan.Drop size)) = expected_of_write expected size
+expected_for expected (Ok (plan.Nothing size)) = expected
+expected_for expected (Ok (plan.Read key blocks size)) = expected
+expected_for expected (Ok (plan.Send from size taken)) = expected
+expected_for expected (Ok plan.Flush) = expected
+expected_for expected (Err told) = expected
 
 -- a request that no line of the table refuses, and what it does
 pub record Passes (s : State) (r : Request) (todo : Plan) : Type 0 where

@@ -14,14 +14,14 @@ ghost use Rattle.ufs_spec.specs.Refusals.{is_crowded, is_frames, is_past, is_pro
 ghost use Rattle.ufs_spec.specs.Refusals.{is_too_long, lacks_data, lacks_region, lacks_response, lines_for};
 ghost use Rattle.ufs_spec.specs.Refusals.{is_ready_for, is_unready, tests_unit};
 ghost use Rattle.ufs_spec.specs.Refusals.{fails_test, goes_beyond, is_guarded, lacks_operation, lacks_page};
-ghost use Rattle.ufs_spec.specs.Refusals.{needs_mended, numbers_of};
+ghost use Rattle.ufs_spec.specs.Refusals.{may_be_cut, needs_mended, numbers_of};
 ghost use Rattle.ufs_spec.specs.Refusals.{slots_needed, told_count, unit_numbers_of, wants_saved, writes};
 ghost use Rattle.ufs_spec.specs.Keys.{data_key};
 ghost use Rattle.ufs_spec.specs.declared.configs.Numbers.{Numbers};
 ghost use Rattle.ftl_core.specs.Public.{Describes as IsLayer};
 ghost use Rattle.device.specs.Bare.{IsBare};
 ghost use Rattle.device.specs.Plans.{IsPlanned, IsRequest, identity_of, lines_now};
-ghost use Rattle.device.specs.Plans.{flush_plan, gather_plan, plan_of, read_plan, send_plan};
+ghost use Rattle.device.specs.Plans.{flush_plan, gather_plan, plan_of, read_plan, send_plan, write_plan};
 
 use crate::device::Device;
 use crate::plans::{Identity, Plan, Source};
@@ -29,7 +29,10 @@ use crate::targets::{Target, key_of};
 use crate::unmap::{LIST_HEADER, LIST_OF_ONE, list_slots};
 use geometry::command_blocks;
 use lun_route::{has_page, is_reported, told_length};
-use scsi_cdb::{address_of, blocks_meant, blocks_of, goes_beyond, length_of, row_of, spelled};
+use scsi_cdb::{
+    address_of, blocks_brought, blocks_meant, blocks_of, brought, goes_beyond, length_of, row_of,
+    spelled,
+};
 use task_set::{BLOCK_BYTES, Wanted};
 use ufs_spec::{Cdb, Key, Numbers, Purpose, Row, Sense, Status, Told, UnitSpec};
 
@@ -76,19 +79,30 @@ fn told_count(numbers: &Numbers, lun: u8, cdb: &Cdb) -> u32
     }
 }
 
+/// Whether the host may send fewer bytes than the command has: a device of profile 1 takes the whole
+/// blocks of a WRITE that come.
+fn may_be_cut(numbers: &Numbers, cdb: &Cdb) -> bool
+    ensures { result ≡ may_be_cut numbers.now cdb.now }
+{
+    match cdb {
+        Cdb::Write { .. } => numbers.profile > 0,
+        _ => false,
+    }
+}
+
 /// Whether the flag of the direction of the command's data is not set, or the host has fewer bytes to
-/// write than the command. There are so many bytes to tell.
-fn lacks_data(told: u32, cdb: &Cdb, flags: u8, expected: u32) -> bool
+/// write than the command, and may not (`is_cut`). There are so many bytes to tell.
+fn lacks_data(told: u32, cdb: &Cdb, flags: u8, expected: u32, is_cut: bool) -> bool
     requires { blocks_of cdb.now ≤ greatest_command }
     ensures { (r : Request) → r.flags ≡ flags → r.expected ≡ expected →
-        result ≡ lacks_data r (direction_of cdb.now) (length_of_command told cdb.now) }
+        result ≡ lacks_data r (direction_of cdb.now) is_cut (length_of_command told cdb.now) }
 {
     let length = length_of(told, cdb);
     let direction = flags & DIRECTION;
     match cdb {
         Cdb::Nothing | Cdb::Flush { .. } | Cdb::Prefetch { .. } | Cdb::Diagnose { .. } => false,
         Cdb::Write { .. } | Cdb::Unmap { .. } | Cdb::SecurityOut { .. } => length > 0
-            && (direction != WRITES || expected < length),
+            && (direction != WRITES || (!is_cut && expected < length)),
         _ => length > 0 && direction != READS,
     }
 }
@@ -276,13 +290,12 @@ fn plan_of(numbers: &Numbers, cdb: &Cdb, target: Target, expected: u32) -> Plan
         Cdb::Read { .. } => read_plan(key, length, expected),
         Cdb::Flush { immediate } => flush_plan(*immediate),
         Cdb::Write { blocks, forced, .. } => {
-            let purpose = Purpose::ForWrite {
-                unit: key.unit,
-                address: key.address,
-                blocks: *blocks as u16,
-                forced: *forced,
-            };
-            gather_plan(purpose, length, *blocks as u16)
+            write_plan(
+                key,
+                blocks_brought(expected, *blocks) as u16,
+                *forced,
+                length,
+            )
         }
         Cdb::Unmap { list } => {
             let slots = list_slots(command_blocks(numbers), *list);
@@ -366,6 +379,32 @@ fn read_plan(key: Key, length: u32, expected: u32) -> Plan
             key,
             blocks: expected.min(length).div_ceil(BLOCK_BYTES) as u16,
             length,
+        }
+    }
+}
+
+/// What a WRITE of so many bytes does whose host brings so many blocks from this key's address on: without
+/// a block there is nothing to do.
+fn write_plan(key: Key, blocks: u16, forced: bool, length: u32) -> Plan
+    ensures { result ≡ write_plan key.unit key.address blocks forced length }
+{
+    if blocks == 0 {
+        Plan::Drop { length }
+    } else {
+        let purpose = Purpose::ForWrite {
+            unit: key.unit,
+            address: key.address,
+            blocks,
+            forced,
+        };
+        let wanted = Wanted {
+            purpose,
+            length,
+            came: 0,
+        };
+        Plan::Gather {
+            wanted,
+            slots: blocks,
         }
     }
 }
@@ -480,13 +519,14 @@ impl Device {
         if has_wrong_list(cdb) {
             return Some(Status::CheckCondition(Sense::LIST_LENGTH));
         }
-        if lacks_data(told_count(numbers, target.lun, cdb), cdb, flags, expected) {
+        let told = told_count(numbers, target.lun, cdb);
+        if lacks_data(told, cdb, flags, expected, may_be_cut(numbers, cdb)) {
             return Some(Status::CheckCondition(Sense::INVALID_FIELD));
         }
         if is_out_of_range(cdb, target.spec) {
             return Some(Status::CheckCondition(Sense::OUT_OF_RANGE));
         }
-        self.refusal_now(target.spec, cdb)
+        self.refusal_now(target.spec, expected, cdb)
     }
 
     /// How many blocks a command may have.
@@ -498,9 +538,9 @@ impl Device {
     }
 
     /// The same by what the device is now.
-    fn refusal_now(&self, unit: Option<UnitSpec>, cdb: &Cdb) -> Option<Status>
+    fn refusal_now(&self, unit: Option<UnitSpec>, expected: u32, cdb: &Cdb) -> Option<Status>
         ensures { (s : State) → IsLayer self.now.ftl s.translation → IsBare s self.now →
-            first_line (lines_now s unit cdb.now) ≡ result }
+            first_line (lines_now s unit expected cdb.now) ≡ result }
     {
         if self.is_too_early(cdb) {
             return Some(Status::CheckCondition(Sense::NOT_READY));
@@ -517,7 +557,7 @@ impl Device {
         if self.has_other_response(cdb) {
             return Some(Status::CheckCondition(Sense::INVALID_FIELD));
         }
-        if self.is_crowded(cdb) {
+        if self.is_crowded(&brought(expected, cdb)) {
             return Some(Status::Busy);
         }
         None

@@ -1,24 +1,30 @@
 //! Messages of the host: a COMMAND opens a task, a DATA OUT brings what a task asked for.
 ghost use Rattle.std.specs.Prelude.{◌≡◌, ◌<◌, ◌≤◌, length, ◌∷◌, ◌++◌, []};
-ghost use Rattle.std.specs.Prelude.{IfSome, OnErr, OnOk};
+ghost use Rattle.std.specs.Prelude.{Err, IfOk, IfSome, None, OnErr, OnOk, Some, false, true, ◌==◌};
 ghost use Rattle.device.specs.Calls.{HasBegun, HasClaimedFor, HasGathered, HasKept, HasTaken, flush_phase};
 ghost use Rattle.device.specs.Hears.{HasBlock, HasCome, IsDataHeard, IsTaskOpened, asked_for};
 ghost use Rattle.task_set.specs.Tasks.{wanted_count};
 ghost use Rattle.task_set.specs.declared.tasks.Phase.TheVariants.{Ask};
 ghost use Rattle.device.specs.Hears.{short_answer, with_event, uses, with_short, with_task};
 ghost use Rattle.task_set.specs.Kept.{newly_open};
-ghost use Rattle.ufs_spec.specs.Exchanges.{most_tasks};
+ghost use Rattle.ufs_spec.specs.Exchanges.{most_short_exchanges, most_tasks};
+ghost use Rattle.task_set.specs.Shorts.{manages};
 ghost use Rattle.ufs_spec.specs.Machine.{has_attribute};
 ghost use Rattle.ufs_spec.specs.Refusals.{State};
 ghost use Rattle.device.specs.Describes.{Describes, IsHeardAs};
 ghost use Rattle.std.specs.Prelude.{ℕ, List, nat_le};
 ghost use Rattle.arrayvec.specs.ArrayVec.{ArrayVec};
-ghost use Rattle.ufs_spec.specs.Messages.{Spells, host_fault_of};
+ghost use Rattle.ufs_spec.specs.Codes.{link_event_code};
+ghost use Rattle.ufs_spec.specs.Messages.{Spells, code_of, host_fault_of};
+ghost use Rattle.ufs_spec.specs.declared.faults.HostFault.{HostFault};
+ghost use Rattle.ufs_spec.specs.declared.faults.HostFault.TheVariants.{Reserved};
 ghost use Rattle.ufs_spec.specs.Translation.{Translation};
 ghost use Rattle.ftl_core.specs.Public.{Claims, Describes as IsLayer};
 ghost use Rattle.device.specs.Kept.{IsLayerWith};
 ghost use Rattle.device.specs.Queries.{at_once};
 ghost use Rattle.ufs_spec.specs.declared.Message.{Message};
+ghost use Rattle.ufs_spec.specs.Begins.{expected_of_write};
+ghost use Rattle.device.specs.Plans.{counted_for, expected_for};
 
 use crate::device::Device;
 use crate::plans::Plan;
@@ -26,11 +32,46 @@ use crate::queries::at_once;
 use crate::requests::{frames_of, held_phase, region_of};
 use crate::targets::key_of;
 use descriptors::STANDARD_WRITE;
-use task_set::{AskedFor, Phase, Queried, Sending, ShortReply, Task, TaskEvent, Wanted};
+use task_set::{
+    AskedFor, BLOCK_BYTES, Phase, Queried, Sending, ShortReply, Task, TaskEvent, Wanted,
+};
 use ufs_spec::{HostFault, Key, Message, Purpose, Sense, Status};
 
 /// The flags of a COMMAND that are its priority and its task attribute (JESD220, 10.7.1).
 const ATTRIBUTES: u8 = 0x07;
+
+/// What counts as expected of a WRITE of so many bytes: where the host sends fewer, the whole blocks of
+/// what it sends.
+fn whole_blocks(expected: u32, length: u32) -> u32
+    ensures { result ≡ expected_of_write expected length }
+{
+    if expected < length {
+        BLOCK_BYTES * (expected / BLOCK_BYTES)
+    } else {
+        expected
+    }
+}
+
+/// The same of a task that asks for this.
+fn counted_for(expected: u32, wanted: Wanted) -> u32
+    ensures { result ≡ counted_for expected wanted.purpose wanted.length }
+{
+    match wanted.purpose {
+        Purpose::ForWrite { .. } => whole_blocks(expected, wanted.length),
+        Purpose::ForUnmap { .. } | Purpose::ForFrames { .. } => expected,
+    }
+}
+
+/// How many bytes count as expected of a task for which this was planned.
+fn counted(expected: u32, planned: Result<Plan, Status>) -> u32
+    ensures { result ≡ expected_for expected planned }
+{
+    match planned {
+        Ok(Plan::Gather { wanted, slots: _ }) => counted_for(expected, wanted),
+        Ok(Plan::Drop { length }) => whole_blocks(expected, length),
+        _ => expected,
+    }
+}
 
 impl Device {
     /// Takes a message of the host.
@@ -66,12 +107,42 @@ impl Device {
     {
         match upiu::read_host(bytes) {
             Ok(message) => self.hear(&message),
-            Err(fault) => Err(fault),
+            Err(fault) => Err(self.told(bytes, fault)),
         }
     }
 
+    /// The fault that is told for bytes that were read with this fault.
+    fn told(&self, bytes: &[u8], fault: HostFault) -> HostFault
+        requires first { (told : HostFault) → host_fault_of bytes.now ≡ Some told → fault ≡ told }
+        requires reserved { host_fault_of bytes.now ≡ None →
+            (fault ≡ Reserved) × ((m : Message) → Spells m bytes.now → ⊥) }
+        ensures { (s : State) → Describes self.now s → IsHeardAs s bytes.now (Err result) self.now }
+    {
+        if self.is_unknown(bytes) {
+            return HostFault::Code;
+        }
+        fault
+    }
+
+    /// Whether the bytes have the transaction code of LINK EVENT, which a device of profile 0 does not
+    /// know.
+    fn is_unknown(&self, bytes: &[u8]) -> bool
+        ensures event { result ≡ true →
+            (host_fault_of bytes.now ≡ None) × (code_of bytes.now ≡ link_event_code) }
+        ensures zero { (t : Translation) → IsLayer self.now.ftl t → result ≡ true →
+            (t.numbers.profile == 0) ≡ true }
+        ensures other { (t : Translation) → IsLayer self.now.ftl t → result ≡ false →
+            host_fault_of bytes.now ≡ None → code_of bytes.now ≡ link_event_code →
+            (t.numbers.profile == 0) ≡ false }
+    {
+        if upiu::has_event_code(bytes) {
+            return self.is_of_profile_0();
+        }
+        false
+    }
+
     /// Takes a message that is neither a COMMAND nor a DATA OUT. NOP OUT, TASK MANAGEMENT REQUEST
-    /// and QUERY REQUEST open a short exchange.
+    /// and QUERY REQUEST open a short exchange, and a LINK EVENT ends all that is open.
     fn hear(&mut self, message: &Message) -> Result<(), HostFault>
         requires no_data_out { (lun tag offset : ℕ) (sent : ArrayVec ℕ) →
             message.now ≡ Message.DataOut lun tag offset sent → ⊥ }
@@ -105,15 +176,38 @@ impl Device {
                 };
                 self.query(*tag, query, *value)
             }
+            Message::LinkEvent { kind } => self.link_event(*kind),
             _ => Err(HostFault::Code),
         }
     }
 
-    /// Whether a task or a short exchange with this tag is open.
-    fn uses(&self, tag: u8) -> bool
-        ensures { result ≡ uses self.now tag }
+    /// Whether the device is one of profile 0, where all exchanges have one set of tags.
+    pub(crate) fn is_of_profile_0(&self) -> bool
+        ensures { (t : Translation) → IsLayer self.now.ftl t → result ≡ (t.numbers.profile == 0) }
     {
-        self.set.uses(tag)
+        self.ftl.numbers().profile == 0
+    }
+
+    /// Whether the tag of a COMMAND is in use.
+    fn uses(&self, tag: u8) -> bool
+        ensures { (t : Translation) → IsLayer self.now.ftl t → result ≡ uses self.now t.numbers false tag }
+    {
+        let one_set = self.is_of_profile_0();
+        self.set.uses(one_set, false, tag)
+    }
+
+    /// Whether one more short exchange of this tag may be open, one of task management or not.
+    ///
+    /// # Errors
+    ///
+    /// `TagInUse` if the tag is in use, else `Backlog` if as many short exchanges are open as may be.
+    pub(crate) fn may_open_short(&self, manages: bool, tag: u8) -> Result<(), HostFault>
+        ensures answer { (t : Translation) → IsLayer self.now.ftl t →
+            result ≡ short_answer self.now t.numbers manages tag }
+        ensures room { IfOk result (λ _. length self.now.shorts < most_short_exchanges) }
+    {
+        let one_set = self.is_of_profile_0();
+        self.set.may_open_short(one_set, manages, tag)
     }
 
     /// Whether as many tasks are open as may be.
@@ -170,7 +264,7 @@ impl Device {
         self.push_task(Task {
             tag,
             lun,
-            expected,
+            expected: counted(expected, planned),
             phase,
             frames: frames_of(planned),
             region: region_of(planned),
@@ -190,10 +284,11 @@ impl Device {
     /// than may be.
     fn open_short(&mut self, tag: u8, reply: ShortReply) -> Result<(), HostFault>
         ensures refused { OnErr result (self.new ≡ self.old) }
-        ensures answer { result ≡ short_answer self.old tag }
+        ensures answer { (t : Translation) → IsLayer self.old.ftl t →
+            result ≡ short_answer self.old t.numbers (manages reply) tag }
         ensures after { OnOk result (self.new ≡ with_short self.old (at_once tag reply)) }
     {
-        self.set.may_open_short(tag)?;
+        self.may_open_short(reply.manages(), tag)?;
         self.push_short(at_once(tag, reply));
         Ok(())
     }
@@ -206,6 +301,7 @@ impl Device {
     {
         match planned {
             Ok(Plan::Nothing { length }) => Phase::good(length),
+            Ok(Plan::Drop { length }) => Phase::good(length),
             Ok(
                 Plan::Read {
                     key,

@@ -9,6 +9,7 @@ mod commands;
 mod device;
 mod groups;
 mod leftovers;
+mod link_events;
 mod management;
 mod plans;
 mod queries;

@@ -1,5 +1,5 @@
 //! Task management: tasks are aborted, or asked for (JESD220, 10.7.6 and 10.7.7).
-ghost use Rattle.std.specs.Prelude.{◌≡◌, ◌<◌, None, OnErr, OnOk, length};
+ghost use Rattle.std.specs.Prelude.{◌≡◌, ◌<◌, None, OnErr, OnOk, length, true};
 ghost use Rattle.std.specs.List.{list_any};
 ghost use Rattle.ufs_spec.specs.Machine.{heard};
 ghost use Rattle.ufs_spec.specs.Management.{service_found, without_tasks};
@@ -42,10 +42,13 @@ fn by_function(lun: u8, function: u8, meant: u8) -> Managing
     ensures { result ≡ by_function lun function meant }
 {
     let one = Meant {
-        lun,
+        lun: Some(lun),
         tag: Some(meant),
     };
-    let all = Meant { lun, tag: None };
+    let all = Meant {
+        lun: Some(lun),
+        tag: None,
+    };
     match function {
         ABORT_TASK => Managing::Aborts { aborted: one },
         ABORT_TASK_SET => Managing::Aborts { aborted: all },
@@ -71,11 +74,12 @@ impl Device {
         meant: u8,
     ) -> Result<(), HostFault>
         ensures refused { OnErr result (self.new ≡ self.old) }
-        ensures answer { result ≡ short_answer self.old tag }
+        ensures answer { (t : Translation) → IsLayer self.old.ftl t →
+            result ≡ short_answer self.old t.numbers true tag }
         ensures taken { (s : State) → Describes self.old s → OnOk result
             (IsBehind self.new (heard s (Message.TaskRequest lun tag function meant) None)) }
     {
-        self.set.may_open_short(tag)?;
+        self.may_open_short(true, tag)?;
         let managing = self.function_on(lun, function, meant);
         let service = self.service(managing);
         self.note_reset(lun, function);
@@ -144,7 +148,7 @@ impl Device {
     }
 
     /// All tasks that are meant are aborted.
-    fn abort_all(&mut self, meant: Meant)
+    pub(crate) fn abort_all(&mut self, meant: Meant)
         ensures left { self.new ≡ record self.old {
           ftl = self.new.ftl;
           rpmb = self.new.rpmb;

@@ -41,6 +41,10 @@ pub enum Plan {
     Nothing {
         length: u32,
     },
+    /// It is a WRITE of so many bytes of which its host brings no whole block: it is answered GOOD at once.
+    Drop {
+        length: u32,
+    },
     /// It sends so many blocks from this address on, of a command of so many bytes.
     Read {
         key: Key,

@@ -1,6 +1,6 @@
 //! Queries: what a QUERY REQUEST is answered, and the settings that it changes (JESD220, 10.7.8, 10.7.9
 //! and 14).
-ghost use Rattle.std.specs.Prelude.{◌≡◌, ◌<◌, IsTrue, OnErr, OnOk, length, true};
+ghost use Rattle.std.specs.Prelude.{◌≡◌, ◌<◌, IsTrue, OnErr, OnOk, false, length, true};
 ghost use Rattle.ufs_spec.specs.Exchanges.{most_short_exchanges};
 ghost use Rattle.ufs_spec.specs.QueryAnswers.{may_set};
 ghost use Rattle.ufs_spec.specs.Refusals.{State};
@@ -56,10 +56,11 @@ impl Device {
     /// Why no short exchange of this tag may be open. Nothing changes then.
     pub(crate) fn query(&mut self, tag: u8, query: Queried, value: u32) -> Result<(), HostFault>
         ensures refused { OnErr result (self.new ≡ self.old) }
-        ensures answer { result ≡ short_answer self.old tag }
+        ensures answer { (t : Translation) → IsLayer self.old.ftl t →
+            result ≡ short_answer self.old t.numbers false tag }
         ensures after { OnOk result (HasQueried self.old self.new tag query value) }
     {
-        self.set.may_open_short(tag)?;
+        self.may_open_short(false, tag)?;
         self.answer_query(tag, query, value);
         Ok(())
     }

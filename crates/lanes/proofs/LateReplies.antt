@@ -9,12 +9,13 @@ use Rattle.std.specs.List.{AllByRecursion, list_any}
 use Rattle.std.proofs.lemmas.List.Elements.{recursion_from_All}
 use Rattle.ufs_spec.proofs.Facts.{eqb-self, eqb-true, if_both, none-some, or_parts, same_Some, true≢false}
 use Rattle.ufs_spec.proofs.Lists.{any_none}
-use Rattle.ufs_spec.specs.Exchanges.{Short, Task, is_short_of, is_task_of, task_of}
+use Rattle.ufs_spec.specs.Exchanges.{Short, Task, is_short_of, is_task_of, number_of, task_of}
 use Rattle.ufs_spec.specs.Lives.{IsCall, IsShown}
 use Rattle.ufs_spec.specs.Machine.{Allowed, Answer, Call, Due, Faulty, Heard, Host, IsHeard, MayHear, OfHost, Spelled}
 use Rattle.ufs_spec.specs.Management.{volatile_managed}
 use Rattle.ufs_spec.specs.Machine.{Take, behind, carried_out, heard, is_aborted, managed, message_fault, observe}
-use Rattle.ufs_spec.specs.Machine.{result_of, service, tag_in}
+use Rattle.ufs_spec.specs.Machine.{NoEvent, no_event_fault, result_of, service, tag_in}
+use Rattle.ufs_spec.specs.Refusals.{numbers_of}
 use Rattle.ufs_spec.specs.declared.events.Event.TheVariants as event
 use Rattle.ufs_spec.specs.declared.events.Output.TheVariants as output
 use Rattle.ufs_spec.specs.declared.faults.HostFault.{HostFault}
@@ -32,11 +33,11 @@ use Rattle.power_loss.proofs.open_tasks.TaggedLists.{each_found}
 use Rattle.power_loss.proofs.open_tasks.TaskLists.{short_fits_at}
 use Rattle.power_loss.specs.Exchange.{TasksDiffer, ValidState}
 use Rattle.lanes.specs.declared.view.Made.TheVariants as made
-use Rattle.lanes.specs.Aborted.{Aborts, AbortsBehind, IsReplyOf, IsTakenOf}
+use Rattle.lanes.specs.Aborted.{Aborts, AbortsBehind, IsReplyOf, IsTakenOf, number_read}
 use Rattle.lanes.specs.Legal.{IsToldAs}
 use Rattle.lanes.proofs.Opened.{begins, fits_first}
 use Rattle.lanes.proofs.Promises.{life_of}
-use Rattle.lanes.proofs.TaggedMessages.{tag_at, byte, request, one_request, one_short, TakesOther, behind_opens}
+use Rattle.lanes.proofs.TaggedMessages.{tag_at, request, one_request, one_short, TakesOther, behind_opens}
 use Rattle.lanes.proofs.TaggedMessages.{settled_shorts, settled_tasks, tasks_left}
 
 -- ## A tag that no task and no short exchange has
@@ -60,8 +61,8 @@ module _ (tag : ℕ) where
 
   -- the tag of a message as the step has its bytes
   tag_of_step : (s : State) (m : Message) (c : Option Cdb) (told bytes : List ℕ) → told ≡ bytes →
-      IsHeard told (Spelled m c) → byte 3 bytes ≡ tag_in m
-  tag_of_step s m c told bytes e is = ap (byte 3) (sym e ∙ is.0.1) ∙ tag_at m
+      IsHeard told (Spelled m c) → number_read bytes ≡ tag_in m
+  tag_of_step s m c told bytes e is = ap number_read (sym e ∙ is.0.1) ∙ tag_at m
 
   takes_other : (s : State) (step : Made) (e : Event) (o : Output) (call : Call) (answer : Answer) →
       IsToldAs step e o → IsCall s e call → IsShown answer o → (IsTakenOf tag step → ⊥) → TakesOther tag call answer
@@ -111,7 +112,7 @@ module _ (tag : ℕ) where
           IsShown answer o → Allowed s call answer → IsReplyOf tag step → ⊥
       by (made.Reply (Some bytes)) event.Reply (output.Reply (Some told)) call (OfReply (Some m)) at is shown may same =
           due_other s m v q (subst (λ (c : Call). Allowed s c (OfReply (Some m))) is may)
-          (sym (ap (byte 3) (sym at ∙ shown) ∙ tag_at m) ∙ same)
+          (sym (ap number_read (sym at ∙ shown) ∙ tag_at m) ∙ same)
       by (made.Reply (Some bytes)) event.Reply (output.Reply (Some told)) call (OfReply None) at is shown may same =
           absurd (none-some told (sym shown))
       by (made.Reply (Some bytes)) event.Reply (output.Reply (Some told)) call answer at is shown may same =
@@ -179,9 +180,9 @@ module _ (tag : ℕ) where
         (each_found (λ (t : Task). list_any (is_short_of t.tag) s.shorts ≡ false) (is_task_of tag) s.tasks task
         v.tied.tasks.apart found)
 
-    own_other : (done : Unit) → Ok done ≡ result_of (message_fault s asked) → own ≢ tag
+    own_other : (done : Unit) → Ok done ≡ result_of (message_fault s asked) → number_of true own ≢ tag
     own_other done may same =
-        let free = is_free s own true (not_refused (message_fault s asked) done may) in
+        let free = is_free s true own true (not_refused (message_fault s asked) done may) in
         none-some task
         (sym (none_found (is_task_of tag) s.tasks
         (subst (λ (n : ℕ). list_any (is_task_of n) s.tasks ≡ false) same free.no_task)) ∙ found)
@@ -204,6 +205,8 @@ module _ (tag : ℕ) where
         subst (λ (n : Message). IsQuiet tag (observe s (Host (Spelled n c)) (OfHost (Ok tt)))) (sym same)
         (behind_request c tt (subst (λ (n : Message). Ok tt ≡ result_of (message_fault s n)) same may))
     heard_request bytes told spelled e (Faulty f) is may = let other : Ok tt ≡ Err f = may in absurd (cc)
+    heard_request bytes told spelled e NoEvent is may =
+        let other : Ok tt ≡ Err (no_event_fault (numbers_of s)) = may in absurd (cc)
 
   aborts_quietly : (s t : State) (step : Made) → ValidState s → Aborts s tag step → Follows s step t → IsQuiet tag t
   aborts_quietly s t step v a f =

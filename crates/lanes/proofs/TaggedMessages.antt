@@ -12,7 +12,7 @@ use Rattle.ufs_spec.specs.declared.exchanges.Status.TheVariants.{TaskSetFull}
 use Rattle.ufs_spec.specs.Machine.{Allowed, Answer, Call, Faulty, Host, OfDone, OfHost, OfTake, OfTurn, Spelled, Take}
 use Rattle.ufs_spec.specs.Machine.{behind, command_taken, fills, heard, lock_applied, observe, refused_or_begun}
 use Rattle.ufs_spec.specs.Machine.{replied_by, service, short_locked, short_replied, tag_in, task_filled, task_locked}
-use Rattle.ufs_spec.specs.Machine.{with_short}
+use Rattle.ufs_spec.specs.Machine.{NoEvent, with_short}
 use Rattle.ufs_spec.specs.Queries.{Query, setting_of}
 use Rattle.ufs_spec.specs.QueryAnswers.{query_heard, query_passed}
 use Rattle.ufs_spec.specs.Refusals.{Request, locked, refusal}
@@ -27,16 +27,18 @@ use Rattle.ufs_laws.proofs.walk.TaskLaws.{every_mapped}
 use Rattle.power_loss.proofs.kept_promises.ShortExchangesEnd.{ends_shorts, given_shorts, managed_shorts}
 use Rattle.power_loss.proofs.open_tasks.OpenExchanges.{data_leaves, opened_adds, replied_leaves}
 use Rattle.power_loss.proofs.open_tasks.TaggedLists.{any_fewer, any_map, any_push}
+use Rattle.lanes.specs.Aborted.{number_read}
 
 -- ## Bytes
 
--- byte 3 of a message is its tag
-pub tag_at : (m : Message) → slice_index (spelling m) 3 ≡ tag_in m
+-- the number of a message is read off its bytes
+pub tag_at : (m : Message) → number_read (spelling m) ≡ tag_in m
 tag_at (message.NopOut tag) = refl
 tag_at (message.Command flags lun tag expected bytes) = refl
 tag_at (message.DataOut lun tag offset «data») = refl
 tag_at (message.TaskRequest lun tag function meant) = refl
 tag_at (message.QueryRequest tag function asked size value «data») = refl
+tag_at (message.LinkEvent kind) = refl
 tag_at (message.NopIn tag) = refl
 tag_at (message.Response flags lun tag response status residual sense) = refl
 tag_at (message.DataIn lun tag offset «data») = refl
@@ -66,6 +68,7 @@ module _ (lun own function meant : ℕ) where
       let code : 0x02 ≡ 0x04 = ap (byte 0) e in absurd (omega (code, arith))
   one_request (message.QueryRequest tag f asked size value «data») e =
       let code : 0x16 ≡ 0x04 = ap (byte 0) e in absurd (omega (code, arith))
+  one_request (message.LinkEvent kind) e = let code : 0x1F ≡ 0x04 = ap (byte 0) e in absurd (omega (code, arith))
   one_request (message.NopIn tag) e = let code : 0x20 ≡ 0x04 = ap (byte 0) e in absurd (omega (code, arith))
   one_request (message.Response flags l tag response status residual sense) e =
       let code : 0x21 ≡ 0x04 = ap (byte 0) e in absurd (omega (code, arith))
@@ -119,6 +122,7 @@ module _ (tag : ℕ) where
       one_short _ (managed_shorts s lun function meant) other h
   heard_opens s (message.QueryRequest own function asked size value «data») c other h =
       query_opens s own (record { function = function; asked = asked; length = size; value = value }) other h
+  heard_opens s (message.LinkEvent kind) c other h = refl
   heard_opens s m c other h = h
 
   replied_opens : (s : State) (own : ℕ) (o : Option Task) → NoShort s.shorts → NoShort (replied_by s own o).shorts
@@ -138,6 +142,7 @@ module _ (tag : ℕ) where
       NoShort (behind s call answer).shorts
   behind_opens s (Host (Spelled m c)) (OfHost (Ok done)) other h = heard_opens s m c other h
   behind_opens s (Host (Faulty f)) (OfHost (Ok done)) other h = h
+  behind_opens s (Host NoEvent) (OfHost (Ok done)) other h = h
   behind_opens s (Take die) (OfTake flight) other h = same_shorts (given_shorts s die flight) h
   behind_opens s (Done die ending left) (OfDone true) other h =
       same_shorts (ends_shorts s die (s.translation.disk.flights die) ending left) h
@@ -174,6 +179,7 @@ module _ (tag : ℕ) where
   tasks_left s (Host (Spelled m c)) (OfHost (Ok done)) is may other h =
       stays_gone s (Host (Spelled m c)) (OfHost (Ok done)) tag is (asked_other m c other) may h
   tasks_left s (Host (Faulty f)) (OfHost (Ok done)) is may other h = settled_tasks s h
+  tasks_left s (Host NoEvent) (OfHost (Ok done)) is may other h = settled_tasks s h
   tasks_left s (Host heard) answer is may other h = settled_tasks s h
   tasks_left s (Take die) answer is may other h = stays_gone s (Take die) answer tag is tt may h
   tasks_left s (Done die ending left) answer is may other h = stays_gone s (Done die ending left) answer tag is tt may h

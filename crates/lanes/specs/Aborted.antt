@@ -1,9 +1,9 @@
 -- A task that is aborted among threads, and the replies behind it.
-use Rattle.std.specs.Prelude.{◌≡◌, ℕ, List, Ok, Some, slice_index, true}
+use Rattle.std.specs.Prelude.{◌≡◌, ◌==◌, ◌∷◌, [], ℕ, List, Ok, Some, if◌then◌else◌, slice_index, true}
 use Rattle.ufs_spec.specs.Dies.{DieState}
-use Rattle.ufs_spec.specs.Exchanges.{Task, task_of}
+use Rattle.ufs_spec.specs.Exchanges.{Task, no_number, number_of, task_of}
 use Rattle.ufs_spec.specs.Machine.{is_aborted, service}
-use Rattle.ufs_spec.specs.Messages.{Spells}
+use Rattle.ufs_spec.specs.Messages.{Spells, is_among}
 use Rattle.ufs_spec.specs.Refusals.{State}
 use Rattle.ufs_spec.specs.declared.messages.Message.TheVariants.{TaskRequest}
 use Rattle.lanes.specs.declared.view.Entry.{Entry}
@@ -34,12 +34,20 @@ abbrev pub AbortsBehind : {D : Type 0} → (D → DieState) → Opening D → Li
 AbortsBehind state opening before tag step =
     (start s : State) → IsStart state opening start → Legal start before s → Aborts s tag step
 
--- the device takes a message with this tag
-abbrev pub IsTakenOf : ℕ → Made → Type 0
-IsTakenOf tag (made.Host bytes (Ok done)) = slice_index bytes 3 ≡ tag
-IsTakenOf tag step = ⊥
+-- the number of the exchange to which a message belongs, read off its bytes: its tag, and 256 more if it is of task
+-- management; a LINK EVENT belongs to none
+abbrev pub number_read : List ℕ → ℕ
+number_read bytes =
+    if is_among (0x04 ∷ 0x24 ∷ []) (slice_index bytes 0) then number_of true (slice_index bytes 3)
+    else if slice_index bytes 0 == 0x1F then no_number
+    else slice_index bytes 3
 
--- the device hands out a reply with this tag
+-- the device takes a message of this number
+abbrev pub IsTakenOf : ℕ → Made → Type 0
+IsTakenOf number (made.Host bytes (Ok done)) = number_read bytes ≡ number
+IsTakenOf number step = ⊥
+
+-- the device hands out a reply of this number
 abbrev pub IsReplyOf : ℕ → Made → Type 0
-IsReplyOf tag (made.Reply (Some bytes)) = slice_index bytes 3 ≡ tag
-IsReplyOf tag step = ⊥
+IsReplyOf number (made.Reply (Some bytes)) = number_read bytes ≡ number
+IsReplyOf number step = ⊥

@@ -49,8 +49,9 @@ pub fn what_was_seen_keeps_the_promise<D: Die>()
 {}
 
 /// No reply of an aborted task is handed out, at whichever port and whatever the other threads do. The
-/// device takes a request that aborts a task (JESD220, 10.7.6): behind this step no reply has the tag
-/// of the task, up to the next message with this tag that the device takes.
+/// device takes a request that aborts a task (JESD220, 10.7.6): behind this step no reply has the tag of
+/// the task, up to the next message with this tag that the device takes. Task management has tags of its
+/// own: what has the tag and is of task management is not meant.
 pub fn no_reply_of_an_aborted_task_is_handed_out<D: Die>()
     ensures steps { (opening : Opening D) (start s end : State) (before between after : List Entry)
         (abort reply : Entry) (tag : ℕ) → IsOpening D.state opening →

@@ -10,12 +10,13 @@ use Rattle.device.proofs.Common.{◌+◌, ◌-◌, ◌==◌, ◌||◌, ◌∙◌
 use Rattle.std.proofs.lemmas.Bool.{lt-leb}
 use Rattle.std.proofs.lemmas.List.Elements.{All-push}
 use Rattle.ufs_spec.proofs.Facts.{leb-false}
-use Rattle.ufs_spec.specs.Exchanges.{without_short}
+use Rattle.ufs_spec.specs.Exchanges.{number_of, without_short}
 use Rattle.ufs_spec.specs.Machine.{is_durable}
 use Rattle.power_loss.specs.Exchange.{ShortAwaits, ShortsDiffer, ShortsFit}
 use Rattle.task_set.specs.Lists as ours
 use Rattle.task_set.specs.Shorts as ours_locked
-use Rattle.task_set.specs.Shorts.{is_met, reply_locked}
+use Rattle.task_set.specs.Shorts.{is_met, manages, reply_locked}
+use Rattle.task_set.specs.declared.tasks.ShortReply.TheVariants as said
 use Rattle.task_set.specs.declared.tasks.Short as kept
 use Rattle.device.specs.Describes.{IsAwaiting, IsLockTold, IsMetIn}
 
@@ -55,7 +56,7 @@ as_many_shorts n before [] [] h = refl
 as_many_shorts n before (r ∷ rs) (x ∷ xs) h = ap suc (as_many_shorts n before rs xs h.1)
 as_many_shorts n before rs xs h = absurd h
 
--- one has the tag on both sides, or none does
+-- one has the number on both sides, or none does
 pub same_short_tags : (n : Numbers) (before tag : ℕ) (rs : List kept.Short) (xs : List Short) →
     ShortsKept n before rs xs → list_any (is_short_of tag) xs ≡ list_any (ours.is_short_of tag) rs
 same_short_tags n before tag [] [] h = refl
@@ -80,7 +81,7 @@ one_short_more n before rs xs a b h new = absurd h
 
 -- one whose reply is due at once is the specified one that is due at once
 pub kept_at_once : (n : Numbers) (before tag : ℕ) (said : ShortReply) →
-    ShortKept n before (at_once tag said) (short_reply tag (short_said n tag said))
+    ShortKept n before (at_once tag said) (short_reply (number_of (manages said) tag) (short_said n tag said))
 kept_at_once n before tag said = record { tag = refl; reply = refl; awaits = tt; locked = tt }
 
 -- one that stands has none of the tags that none has
@@ -256,6 +257,14 @@ stays_awaiting s accepted mended x fits e =
     subst (λ (z : Short). ShortAwaits accepted mended z.awaits)
     (if_true (is_durable s x.awaits) x (with_locked_reply x) e) fits
 
+-- the lock leaves one of task management such a one
+still_manages : (x : ShortReply) → manages (reply_locked x) ≡ manages x
+still_manages (said.TaskSetFull lun expected) = refl
+still_manages said.NopIn = refl
+still_manages (said.Managed lun service) = refl
+still_manages (said.QueryFailed query response) = refl
+still_manages (said.QueryDone query value) = refl
+
 one_locked : (s : State) (n : Numbers) (accepted : ℕ) (mended : Bool) (a : kept.Short) (b : Short) →
     (mended ≡ true → before_accepted s.translation.ledger ≤ s.translation.ledger.frontier) →
     ShortAwaits accepted mended (short_locked s b).awaits → ShortKept n (before_accepted s.translation.ledger) a b →
@@ -278,7 +287,7 @@ one_locked s n accepted mended a b low fits h =
         ShortKept n before (cond c a ended) (cond c b (with_locked_reply b))
     by true e = h
     by false e = record {
-      tag = h.tag;
+      tag = h.tag ∙ ap (λ (c : Bool). number_of c a.tag) (sym (still_manages a.reply));
       reply = said_locked s n before a a.awaits b.awaits b.locked_reply h.awaits e h.locked;
       awaits = tt;
       locked = tt;

@@ -10,7 +10,7 @@ use Rattle.device.proofs.Common.{gathers_for, if◌then◌else◌, is_at_hand, i
 use Rattle.device.proofs.Common.{length-filter_both, length-map, locked, map, most_tasks, moved, not, numbers_of}
 use Rattle.device.proofs.Common.{phase_after, read_in, refl, same_Some, set_deed, slice_get, subst, sym, task_after}
 use Rattle.device.proofs.Common.{task_happened, task_of, true, wanted_by, wanted_in, wanted_kept, with_deed, with_event}
-use Rattle.device.proofs.Common.{ℕ, ◌&&◌, ◌+◌, ◌==◌, ◌∙◌, ◌≡◌, ◌≤◌}
+use Rattle.device.proofs.Common.{ℕ, ◌+◌, ◌==◌, ◌∙◌, ◌≡◌, ◌≤◌}
 use Rattle.std.proofs.lemmas.List.Elements.{All-map}
 use Rattle.ufs_spec.specs.Exchanges as exchange
 use Rattle.ufs_spec.specs.Machine.{task_goes_on}

@@ -1,4 +1,5 @@
 -- The reply that a task owes is the one that the definitions say is due.
+use Rattle.ufs_spec.specs.Exchanges.{to_gather}
 use Rattle.device.proofs.Common.{Answering, AreFramesKept, AreaReading, Awaiting, Bool, Deed, Describes, DeviceCore}
 use Rattle.device.proofs.Common.{Entry, Frames, FramesFit, Gathering, Good, InSlot, IsDoing, IsGathered, IsReadingArea}
 use Rattle.device.proofs.Common.{IsSending, Key, List, Looked, Message, Name, None, NotRead, OnPage, OpenTask, Option}
@@ -224,10 +225,11 @@ module _ (d : DeviceCore) (s : State) (a : OpenTask) (b : exchange.Task) (h : De
 
   asking_same : (w : Wanted) (purpose : Purpose) (gathered : List ℕ) (asked : Bool) →
       IsGathered w b.length purpose gathered → asked ≡ false →
-      (if asked then None else Some (ready_message b gathered)) ≡ Some (ours.ready_message (task_in a) w)
+      (if asked then None else Some (ready_message b purpose gathered)) ≡ Some (ours.ready_message (task_in a) w)
   asking_same w purpose gathered asked its is =
-      ap (λ z. if z then None else Some (ready_message b gathered)) is
-      ∙ ((λ i. Some (message.ReadyToTransfer (k.lun i) (k.tag i) (its.came i) (count_at (its.total_is i) (its.came i))))
+      ap (λ z. if z then None else Some (ready_message b purpose gathered)) is
+      ∙ ((λ i. Some (message.ReadyToTransfer (k.lun i) (k.tag i) (its.came i)
+      (count_at (to_gather purpose (its.total_is i)) (its.came i))))
       ∙ ap (λ (n : ℕ). Some (message.ReadyToTransfer a.lun a.tag w.came n))
       (count_so purpose w.came w.length its.so ∙ ap (λ (p : Purpose). count_for p w.length) (sym its.same)))
 
@@ -295,7 +297,7 @@ module _ (d : DeviceCore) (s : State) (a : OpenTask) (b : exchange.Task) (h : De
       ∙ sym (ap (option_map (frames_message (task_in a) size)) fits.1.is_held)
   same_in (phase.Ask w) (Gathering purpose gathered asked) e is fits = asking_same w purpose gathered asked is.0 is.1
   same_in (phase.Await w) (Gathering purpose gathered asked) e is fits =
-      ap (λ z. if z then None else Some (ready_message b gathered)) is.1
+      ap (λ z. if z then None else Some (ready_message b purpose gathered)) is.1
   same_in (phase.AwaitFrontier n size) (Awaiting commands) e is fits = awaiting_same n size commands e is.0 is.1
   same_in (phase.SendBlocks x) (Sending blocks sent) e is fits = sending_same x blocks sent e is
   same_in (phase.ReadArea r) (ReadingArea pages) e is fits = area_same r pages e is fits.0

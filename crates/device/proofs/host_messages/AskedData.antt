@@ -1,4 +1,5 @@
 -- Which data the device asked for, and that the specification asks for the same.
+use Rattle.ufs_spec.specs.Exchanges.{to_gather}
 use Rattle.device.proofs.Common.{Answering, AskedFor, Awaiting, Bool, Deed, DeviceCore, Gathering, IsDoing, IsGathered}
 use Rattle.device.proofs.Common.{List, None, OpenTask, Option, Phase, Purpose, ReadingArea, Sending, SendingBytes, Some}
 use Rattle.device.proofs.Common.{TasksKept, Wanted, and_parts, ap, arith, cond, count_for, eqb-true, false, inl, inr}
@@ -47,9 +48,9 @@ next_offset w total offset purpose gathered h =
 
 -- and has as many bytes
 next_count : (w : Wanted) (total : ℕ) (purpose : Purpose) (gathered : List ℕ) →
-    IsGathered w total purpose gathered → count_at total (length gathered) ≡ wanted_count w
+    IsGathered w total purpose gathered → count_at (to_gather purpose total) (length gathered) ≡ wanted_count w
 next_count w total purpose gathered h =
-    (λ i. count_at (h.total_is i) (h.came i))
+    (λ i. count_at (to_gather purpose (h.total_is i)) (h.came i))
     ∙ (count_so purpose w.came w.length h.so ∙ ap (λ (p : Purpose). count_for p w.length) (sym h.same))
 
 three : (a b c : Bool) → ((a && b) && c) ≡ (a && (b && c))
@@ -78,7 +79,7 @@ asked_same lun offset count b before expected (phase.Ask w) (Gathering purpose g
     inl (
       refl,
       ap (λ x. ((x && (b.lun == lun)) && (offset == length gathered)) &&
-          (count == count_at b.length (length gathered))) h.1,
+          (count == count_at (to_gather purpose b.length) (length gathered))) h.1,
     )
 asked_same lun offset count b before expected (phase.AwaitFrontier n size) (Awaiting commands) h = inl (refl, refl)
 asked_same lun offset count b before expected (phase.SendHeld x) (SendingBytes bytes) h = inl (refl, refl)

@@ -1,5 +1,5 @@
 -- A READ begins, which keeps its blocks.
-use Rattle.device.proofs.Common.{Bool, Cdb, Core, Describes, DeviceCore, Good, IsKey, IsLayerWith, None, Ok, Phase}
+use Rattle.device.proofs.Common.{Bool, Cdb, Core, Describes, DeviceCore, IsKey, IsLayerWith, None, Ok, Phase}
 use Rattle.device.proofs.Common.{Plan, Request, Result, Some, State, Status, ap, arith, claims_of, data_key, div_ceil}
 use Rattle.device.proofs.Common.{false, fold, greatest_command, has_room, if◌then◌else◌, length, length-made, min}
 use Rattle.device.proofs.Common.{most_tasks, moved, numbers_of, refl, sends_frames, shape_of_numbers, subst, sym}

@@ -1,4 +1,5 @@
 -- A block of a WRITE comes: the next one is asked for, and the last one completes the WRITE.
+use Rattle.ufs_spec.specs.Exchanges.{to_gather}
 use Rattle.device.proofs.Common.{AreBytes, AreClaimed, Bool, Claims, Core, Deed, Describes, DeviceCore, ForWrite}
 use Rattle.device.proofs.Common.{FramesFit, Gathering, HasTaken, IsDoing, IsLayerWith, Keeps, List, None, Purpose, Some}
 use Rattle.device.proofs.Common.{State, TaskEvent, Wanted, ap, arith, before_accepted, blocks_gathered, claims_of, cond}
@@ -44,18 +45,21 @@ module _ (d : DeviceCore) (s : State) (tag : ℕ) (bytes : List ℕ) (w : Wanted
   filled : claims_now ≡ claims_then
   filled = slots_filled d s tag w h r at g bytes long
 
+  -- all that is to come
+  whole : to_gather w.purpose w.length ≡ 4096 * g.blocks
+  whole = ap (λ (p : Purpose). to_gather p w.length) g.purpose_is
+
   -- A block that is not the last
 
   abbrev next : Wanted
   next = record w { came = w.came + 4096 }
 
   -- more is to come, in bytes
-  more_is : g.count + 1 < g.blocks → nat_lt 4096 (w.length - w.came) ≡ true
+  more_is : g.count + 1 < g.blocks → nat_lt 4096 (to_gather w.purpose w.length - w.came) ≡ true
   more_is more =
       let came = g.came_is in
-      let total = g.total_is in
-      let size = g.size_is in
-      lt-ltb 4096 (w.length - w.came) (omega arith)
+      let total = whole in
+      lt-ltb 4096 (to_gather w.purpose w.length - w.came) (omega arith)
 
   abbrev more_deed : Deed
   more_deed = Gathering purpose all false
@@ -86,7 +90,6 @@ module _ (d : DeviceCore) (s : State) (tag : ℕ) (bytes : List ℕ) (w : Wanted
                   g.count + 1,
                   (let at = g.came_is in omega arith),
                   more,
-                  (let total = g.total_is in let size = g.size_is in omega arith),
                 );
               },
               refl,
@@ -101,7 +104,7 @@ module _ (d : DeviceCore) (s : State) (tag : ℕ) (bytes : List ℕ) (w : Wanted
         volatile = h.kept.volatile;
       }
     where
-      less : nat_lt 4096 (w.length - w.came) ≡ true
+      less : nat_lt 4096 (to_gather w.purpose w.length - w.came) ≡ true
       less = more_is more
 
   -- Either
@@ -127,37 +130,35 @@ module _ (d : DeviceCore) (s : State) (tag : ℕ) (bytes : List ℕ) (w : Wanted
       Keeps (core_then d r.k after e) (data_heard s (task_of tag s.tasks) bytes)
   block_keeps are after e did =
       subst (Keeps (core_then d r.k after e)) (sym path)
-      (by (nat_lt 4096 (w.length - w.came)) refl (subst
+      (by (nat_lt 4096 (to_gather w.purpose w.length - w.came)) refl (subst
       (λ n. HasGathered after s.translation (claims_of (numbers_of s) s.tasks) n w (data_key g.unit g.address) bytes e)
       (sym r.tag_is) did))
     where
       path : data_heard s (task_of tag s.tasks) bytes ≡ gathered_more s r.b purpose all
       path = ap (λ o. data_heard s o bytes) r.found ∙ ap (λ (deed : Deed). data_for s r.b deed bytes) g.deed_is
 
-      by : (more : Bool) → nat_lt 4096 (w.length - w.came) ≡ more → Then after e (nat_lt 4096 (w.length - w.came)) →
-          Keeps (core_then d r.k after e) (heard_at (nat_lt (length all) r.b.length))
+      by : (more : Bool) → nat_lt 4096 (to_gather w.purpose w.length - w.came) ≡ more → Then after e (nat_lt 4096 (to_gather w.purpose w.length - w.came)) →
+          Keeps (core_then d r.k after e) (heard_at (nat_lt (length all) (4096 * g.blocks)))
       by true is got =
-          let less = ltb-true 4096 (w.length - w.came) is in
+          let less = ltb-true 4096 (to_gather w.purpose w.length - w.came) is in
           let its : Then after e true = subst (Then after e) is got in
           let came = all_length in
           let at = g.came_is in
-          let size = g.size_is in
-          let total = g.total_is in
+          let total = whole in
           subst
           (λ b. Keeps (core_then d r.k after e) (heard_at b))
-          (sym (lt-ltb (length all) r.b.length (omega arith)))
+          (sym (lt-ltb (length all) (4096 * g.blocks) (omega arith)))
           (subst
           (λ (y : TaskEvent). Keeps (core_then d r.k after y) (heard_at true)) (sym its.0)
           (more_keeps after its.1 (omega arith)))
       by false is got =
-          let most = ltb-false 4096 (w.length - w.came) is in
+          let most = ltb-false 4096 (to_gather w.purpose w.length - w.came) is in
           let its : Then after e false = subst (Then after e) is got in
           let came = all_length in
           let at = g.came_is in
-          let size = g.size_is in
-          let total = g.total_is in
+          let total = whole in
           let more = g.more in
           subst
           (λ b. Keeps (core_then d r.k after e) (heard_at b))
-          (sym (le-ltb (length all) r.b.length (omega arith)))
+          (sym (le-ltb (length all) (4096 * g.blocks) (omega arith)))
           (last_keeps are after e (omega arith) its)

@@ -31,7 +31,6 @@ pub record GathersBlocks (w : Wanted) (total : ℕ) (deed : Deed) : Type 0 where
   pub came : length gathered ≡ 4096 * count
   pub came_is : w.came ≡ 4096 * count
   pub more : count < blocks
-  pub total_is : total ≡ 4096 * blocks
   pub size_is : total ≡ w.length
 
 abbrev pub gathers_blocks : (unit address blocks : ℕ) (forced : Bool) (w : Wanted) (total : ℕ) (deed : Deed) →
@@ -49,7 +48,6 @@ gathers_blocks unit address blocks forced w total deed is g so = record {
   came = g.came ∙ so.1;
   came_is = so.1;
   more = so.2;
-  total_is = g.total_is ∙ so.3;
   size_is = g.total_is;
 }
 
@@ -91,7 +89,7 @@ module _ (d : DeviceCore) (s : State) (tag : ℕ) (w : Wanted) (h : Describes d 
   pub found : task_of r.b.tag s.tasks ≡ Some r.b
   found = ap (λ (n : ℕ). task_of n s.tasks) r.tag_is ∙ r.found
 
-  pub fits : WriteFits (numbers_of s) (is_mended s.translation.work.mending) g.unit g.address g.blocks r.b.length
+  pub fits : WriteFits (numbers_of s) (is_mended s.translation.work.mending) g.unit g.address g.blocks
       g.gathered (claim_of (numbers_of s) r.b)
   fits =
       subst (DeedFits (numbers_of s) (length s.accepted) (is_mended s.translation.work.mending)

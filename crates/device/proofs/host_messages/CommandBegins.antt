@@ -8,7 +8,7 @@ use Rattle.device.proofs.Common.{spelled_cdb, subst, sym, take, target_of, task_
 use Rattle.std.specs.Prelude.{◌*◌, ◌+◌, ◌==◌}
 use Rattle.ufs_spec.specs.Begins.{begun_if_any, refused_or_begun, told_bytes, unit_or_first, volatile_told}
 use Rattle.ufs_spec.proofs.CommandTable.{region_in}
-use Rattle.ufs_spec.specs.Cdbs.{address_of, blocks_of}
+use Rattle.ufs_spec.specs.Cdbs.{address_of, blocks_brought, blocks_of}
 use Rattle.ufs_spec.specs.Changes.{with_task}
 use Rattle.ufs_spec.specs.Exchanges.{message_error, unit_attention}
 use Rattle.ufs_spec.specs.Refusals.{Line, Lun, is_not_simple, line, meets_attention, not_taken, table, unit_of_request}
@@ -193,8 +193,10 @@ module _ (d : DeviceCore) (s : State) (r : Request) (h : Describes d s) (free : 
       k.few (read_keys (cdb.Read address blocks) blocks refl (reads_in r.bytes (cdb.Read address blocks) spelled refl) lets)
       ((blocks == 0) || (r.expected == 0)) refl begun)
   command_begins (cdb.Write address blocks forced) p spelled named lets k begun =
-      quiet (planned (cdb.Write address blocks forced)) p _ (quiet_if (4096 * blocks == 0) _ _ refl refl)
-      (write_begins d s r h free few after unit_now address blocks forced p k.slots begun)
+      quiet (planned (cdb.Write address blocks forced)) p _
+      (quiet_if (blocks_brought r.expected blocks == 0) _ _ refl refl)
+      (write_begins d s r h free few after unit_now address (blocks_brought r.expected blocks) forced (4096 * blocks) p
+      k.slots begun)
   command_begins (cdb.Prefetch address blocks) p spelled named lets k begun =
       quiet (plan.Nothing 0) p _ refl
       (nothing_begins d s r h free few after (cdb.Prefetch address blocks) 0 p refl begun)

@@ -1,8 +1,9 @@
 -- What the table tells of a command that it lets through: no line of it applies.
+use Rattle.ufs_spec.specs.Refusals.{brought, may_be_cut}
 use Rattle.device.proofs.Common.{Bool, Cdb, Group, IsTied, List, None, Option, Passes, Plan, Request, Some, State, []}
 use Rattle.device.proofs.Common.{ap, arith, command_blocks, div_ceil, drop, durable, eqb-true, false, false≢true}
 use Rattle.device.proofs.Common.{first_line, free_slots, greatest_command, has_other_response, has_wrong_list, inl, inr}
-use Rattle.device.proofs.Common.{le-leb, length, length-drop, lines_after, lines_for}
+use Rattle.device.proofs.Common.{le-leb, length, length-drop, lines_after}
 use Rattle.device.proofs.Common.{list_any, locked, ltb-false, min, nat_le, nat_lt, nat_tests}
 use Rattle.device.proofs.Common.{numbers_of, or_parts, out_of_range, refl, refusal, sends_frames, sequence_error}
 use Rattle.device.proofs.Common.{slice_get, suc, sym, true, unit_numbers_of, zero, ℕ, ◌%◌, ◌+◌, ◌<◌, ◌||◌, ◌∙◌, ◌∷◌}
@@ -31,7 +32,7 @@ pub record Checked (s : State) (r : Request) (command : Cdb) : Type 0 where
   pub listed : has_wrong_list command ≡ false
   pub refused : is_refused_write s (unit_numbers_of s r) command ≡ false
   pub response : has_other_response s command ≡ false
-  pub crowded : is_crowded s command ≡ false
+  pub crowded : is_crowded s (brought r.expected command) ≡ false
 
 checked : (s : State) (r : Request) (command : Cdb) → r.cdb ≡ Some command → refusal s r ≡ None → Checked s r command
 checked s r command is none =
@@ -45,14 +46,16 @@ checked s r command is none =
     let saved = passed_line (wants_saved command) saving_unsupported _ there.1 in
     let c = passed_line (is_too_long (numbers_of s) command) invalid_field _ saved.1 in
     let d = passed_line (has_wrong_list command) list_length_error _ c.1 in
-    let e = passed_line (lacks_data r (direction_of command) (length_in s r command)) invalid_field _ d.1 in
+    let e =
+    passed_line (lacks_data r (direction_of command) (may_be_cut (numbers_of s) command) (length_in s r command))
+    invalid_field _ d.1 in
     let f = passed_line (is_past command (unit_numbers_of s r)) out_of_range _ e.1 in
     let g = passed_line (is_unready s command) not_ready _ f.1 in
     let i = passed_line (is_refused_write s (unit_numbers_of s r) command) write_protected _ g.1 in
     let tested = passed_line (fails_test s command) self_test_failed _ i.1 in
     let j = passed_line (lacks_response s command) sequence_error _ tested.1 in
     let k = passed_line (has_other_response s command) invalid_field _ j.1 in
-    let l = passed_line (is_crowded s command) Busy _ k.1 in
+    let l = passed_line (is_crowded s (brought r.expected command)) Busy _ k.1 in
     record {
       region_there =
           (or_parts (lacks_region (numbers_of s) command)
@@ -70,8 +73,9 @@ pub record IsFree (s : State) (r : Request) (command : Cdb) : Type 0 where
   pub not_long : is_too_long (numbers_of s) command ≡ false
   pub listed : has_wrong_list command ≡ false
   pub response : has_other_response s command ≡ false
-  pub alone : (is_security_out command && list_any (λ (task : Task). sends_frames task.command) s.tasks) ≡ false
-  pub slots : slots_needed (numbers_of s) command ≤ free_slots s.translation
+  pub alone :
+      (is_security_out (brought r.expected command) && list_any (λ (task : Task). sends_frames task.command) s.tasks) ≡ false
+  pub slots : slots_needed (numbers_of s) (brought r.expected command) ≤ free_slots s.translation
   pub refused : is_refused_write s (unit_numbers_of s r) command ≡ false
 
 few_told : (s : State) (command : Cdb) → is_too_long (numbers_of s) command ≡ false →
@@ -87,15 +91,16 @@ pub free_told : (s : State) (r : Request) (todo : Plan) → (h : Passes s r todo
 free_told s r todo h =
     let k = checked s r h.command h.is h.passed in
     let both = or_parts
-    (is_security_out h.command && list_any (λ (task : Task). sends_frames task.command) s.tasks)
-    (nat_lt (free_slots s.translation) (slots_needed (numbers_of s) h.command)) k.crowded in
+    (is_security_out (brought r.expected h.command) && list_any (λ (task : Task). sends_frames task.command) s.tasks)
+    (nat_lt (free_slots s.translation) (slots_needed (numbers_of s) (brought r.expected h.command))) k.crowded in
     record {
       few = few_told s h.command k.too_long;
       not_long = k.too_long;
       listed = k.listed;
       response = k.response;
       alone = both.0;
-      slots = ltb-false (free_slots s.translation) (slots_needed (numbers_of s) h.command) both.1;
+      slots =
+          ltb-false (free_slots s.translation) (slots_needed (numbers_of s) (brought r.expected h.command)) both.1;
       refused = k.refused;
     }
 

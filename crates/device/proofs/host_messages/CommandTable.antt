@@ -1,7 +1,8 @@
 -- The table by which a command is refused, against the checks of the code: they end a command with the same status.
+use Rattle.ufs_spec.specs.Refusals.{brought, may_be_cut}
 use Rattle.device.proofs.Common.{Bool, Cdb, List, None, Numbers, Option, Request, Sense, Some, State, Status, UnitSpec}
 use Rattle.device.proofs.Common.{[], ap, false, first_line, has_other_response, has_wrong_list, if◌then◌else◌}
-use Rattle.device.proofs.Common.{lines_for, numbers_of, out_of_range, refl, sequence_error, subst, sym, true}
+use Rattle.device.proofs.Common.{lines_for, numbers_of, out_of_range, refl, sequence_error, sym, true}
 use Rattle.device.proofs.Common.{true≢false, unit_numbers_of, ℕ, ◌||◌, ◌∙◌, ◌∷◌, ◌≡◌}
 use Rattle.ufs_spec.specs.Cdbs.{direction_of, length_of}
 use Rattle.ufs_spec.specs.Exchanges.{invalid_field, list_length_error, not_ready, saving_unsupported, self_test_failed}
@@ -32,12 +33,13 @@ pub named_lacking : (n m : Numbers) (r : Request) (lun : ℕ) (c : Cdb) (b : Boo
 named_lacking n m r lun c b are is lacks = (λ i. lacks_named (sym are i) (is i) c) ∙ lacks
 
 -- what is lacking of the data of a command that has so many bytes to tell
-pub data_lacking : (s : State) (r : Request) (c : Cdb) (n : Numbers) (lun told : ℕ) (b : Bool) → n ≡ numbers_of s →
-    r.lun ≡ lun → told ≡ told_count n lun c → lacks_data r (direction_of c) (length_of told c) ≡ b →
-    lacks_data r (direction_of c) (length_in s r c) ≡ b
-data_lacking s r c n lun told b are at is lacks =
-    (λ i. lacks_data r (direction_of c) (length_of (told_count (sym are i) (at i) c) c))
-    ∙ (λ i. lacks_data r (direction_of c) (length_of (sym is i) c)) ∙ lacks
+pub data_lacking : (s : State) (r : Request) (c : Cdb) (n : Numbers) (lun told : ℕ) (cut b : Bool) → n ≡ numbers_of s →
+    r.lun ≡ lun → told ≡ told_count n lun c → cut ≡ may_be_cut n c →
+    lacks_data r (direction_of c) cut (length_of told c) ≡ b →
+    lacks_data r (direction_of c) (may_be_cut (numbers_of s) c) (length_in s r c) ≡ b
+data_lacking s r c n lun told cut b are at is cuts lacks =
+    (λ i. lacks_data r (direction_of c) (may_be_cut (sym are i) c) (length_of (told_count (sym are i) (at i) c) c))
+    ∙ (λ i. lacks_data r (direction_of c) (sym cuts i) (length_of (sym is i) c)) ∙ lacks
 
 abbrev check : Sense → Option Status
 check sense = Some (status.CheckCondition sense)
@@ -57,21 +59,21 @@ checks_of g v a w b p rest =
 lines_found : (s : State) (r : Request) (unit : Option UnitSpec) (c : Cdb) → unit_numbers_of s r ≡ unit →
     (g v a w b p : Bool) → lacks_named (numbers_of s) r.lun c ≡ g → wants_saved c ≡ v →
     is_too_long (numbers_of s) c ≡ a → has_wrong_list c ≡ w →
-    lacks_data r (direction_of c) (length_in s r c) ≡ b → is_past c unit ≡ p →
-    first_line (lines_for s r c) ≡ first_line (lines_at g v a w b p (lines_now s unit c))
+    lacks_data r (direction_of c) (may_be_cut (numbers_of s) c) (length_in s r c) ≡ b → is_past c unit ≡ p →
+    first_line (lines_for s r c) ≡ first_line (lines_at g v a w b p (lines_now s unit r.expected c))
 lines_found s r unit c spec g v a w b p kg kv ka kw kb kp = λ i.
-    first_line (lines_at (kg i) (kv i) (ka i) (kw i) (kb i) ((ap (is_past c) spec ∙ kp) i) (lines_now s (spec i) c))
+    first_line (lines_at (kg i) (kv i) (ka i) (kw i) (kb i) ((ap (is_past c) spec ∙ kp) i) (lines_now s (spec i) r.expected c))
 
 pub told_by : (s : State) (r : Request) (unit : Option UnitSpec) (c : Cdb) → unit_numbers_of s r ≡ unit →
     (g v a w b p : Bool) (rest : Option Status) → lacks_named (numbers_of s) r.lun c ≡ g → wants_saved c ≡ v →
-    is_too_long (numbers_of s) c ≡ a → has_wrong_list c ≡ w → lacks_data r (direction_of c) (length_in s r c) ≡ b →
-    is_past c unit ≡ p → first_line (lines_now s unit c) ≡ rest →
+    is_too_long (numbers_of s) c ≡ a → has_wrong_list c ≡ w → lacks_data r (direction_of c) (may_be_cut (numbers_of s) c) (length_in s r c) ≡ b →
+    is_past c unit ≡ p → first_line (lines_now s unit r.expected c) ≡ rest →
     first_line (lines_for s r c) ≡ checks_of g v a w b p rest
 told_by s r unit c spec g v a w b p rest kg kv ka kw kb kp now =
     lines_found s r unit c spec g v a w b p kg kv ka kw kb kp ∙ by g v a w b p
   where
     by : (g v a w b p : Bool) →
-        first_line (lines_at g v a w b p (lines_now s unit c)) ≡ checks_of g v a w b p rest
+        first_line (lines_at g v a w b p (lines_now s unit r.expected c)) ≡ checks_of g v a w b p rest
     by true v a w b p = refl
     by false true a w b p = refl
     by false false true w b p = refl
@@ -84,13 +86,13 @@ told_by s r unit c spec g v a w b p rest kg kv ka kw kb kp now =
 pub told_early : (s : State) (r : Request) (unit : Option UnitSpec) (c : Cdb) → unit_numbers_of s r ≡ unit →
     (g v a w b p : Bool) → (g || (v || (a || (w || (b || p))))) ≡ true → lacks_named (numbers_of s) r.lun c ≡ g →
     wants_saved c ≡ v → is_too_long (numbers_of s) c ≡ a → has_wrong_list c ≡ w →
-    lacks_data r (direction_of c) (length_in s r c) ≡ b → is_past c unit ≡ p →
+    lacks_data r (direction_of c) (may_be_cut (numbers_of s) c) (length_in s r c) ≡ b → is_past c unit ≡ p →
     first_line (lines_for s r c) ≡ checks_of g v a w b p None
 told_early s r unit c spec g v a w b p early kg kv ka kw kb kp =
     lines_found s r unit c spec g v a w b p kg kv ka kw kb kp ∙ by g v a w b p early
   where
     by : (g v a w b p : Bool) → (g || (v || (a || (w || (b || p))))) ≡ true →
-        first_line (lines_at g v a w b p (lines_now s unit c)) ≡ checks_of g v a w b p None
+        first_line (lines_at g v a w b p (lines_now s unit r.expected c)) ≡ checks_of g v a w b p None
     by true v a w b p e = refl
     by false true a w b p e = refl
     by false false true w b p e = refl
@@ -110,11 +112,11 @@ checks_now a b t p e f =
     else if f then Some status.Busy
     else None
 
-pub now_told : (s : State) (unit : Option UnitSpec) (c : Cdb) (a b t p e f : Bool) →
+pub now_told : (s : State) (unit : Option UnitSpec) (expected : ℕ) (c : Cdb) (a b t p e f : Bool) →
     is_unready s c ≡ a → is_refused_write s unit c ≡ b → fails_test s c ≡ t → lacks_response s c ≡ p →
-    has_other_response s c ≡ e → is_crowded s c ≡ f →
-    first_line (lines_now s unit c) ≡ checks_now a b t p e f
-now_told s unit c a b t p e f ka kb kt kp ke kf =
+    has_other_response s c ≡ e → is_crowded s (brought expected c) ≡ f →
+    first_line (lines_now s unit expected c) ≡ checks_now a b t p e f
+now_told s unit expected c a b t p e f ka kb kt kp ke kf =
     (λ i. first_line (line (ka i) not_ready ∷ line (kb i) write_protected ∷ line (kt i) self_test_failed
     ∷ line (kp i) sequence_error ∷ line (ke i) invalid_field ∷ line (kf i) Busy ∷ []))
     ∙ by a b t p e f

@@ -34,7 +34,8 @@ is_read m bytes spells none = by (is_heard bytes)
           (one_message n m h.0.0 spells.0 (sym h.0.1 ∙ spells.1)) h.2,
     )
     by (Faulty fault, inl h) = absurd (none-some fault (sym none ∙ h))
-    by (Faulty fault, inr h) = absurd (h.1 m spells)
+    by (Faulty fault, inr h) = absurd (h.0.1 m spells)
+    by (machine.NoEvent, h) = absurd (h.0.1 m spells)
 
 module _ (d : DeviceCore) (s : State) (flags lun tag expected : ℕ) (cdb_bytes whole : List ℕ) (h : Describes d s)
     (spells : Spells (message.Command flags lun tag expected cdb_bytes) whole) (none : host_fault_of whole ≡ None) where
@@ -70,19 +71,19 @@ module _ (d : DeviceCore) (s : State) (flags lun tag expected : ℕ) (cdb_bytes 
   pub reserved_right : has_attribute (numbers_of s) flags ≡ true → IsHeardAs s whole (Err Reserved) d
   reserved_right has =
       spelled_heard d d s s whole said command.0 (Err Reserved) h spells none command.1
-      (sym (ap (λ (x : Bool). result_of (if x then Some Reserved else opening_fault s tag (opens_short s said))) has))
+      (sym (ap (λ (x : Bool). result_of (if x then Some Reserved else opening_fault s false tag (opens_short s said))) has))
       refl (stays d s h)
 
   fault_is : (b : Bool) → has_attribute (numbers_of s) flags ≡ false → nat_le most_tasks (length s.tasks) ≡ b →
-      message_fault s said ≡ opening_fault s tag b
+      message_fault s said ≡ opening_fault s false tag b
   fault_is b has e =
-      ap (λ (x : Bool). if x then Some Reserved else opening_fault s tag (opens_short s said)) has
-      ∙ ap (opening_fault s tag) e
+      ap (λ (x : Bool). if x then Some Reserved else opening_fault s false tag (opens_short s said)) has
+      ∙ ap (opening_fault s false tag) e
 
   -- as many tasks are open as may be: the command opens a short exchange
   pub full_right : (e : DeviceCore) (answer : Result Unit HostFault) → has_attribute (numbers_of s) flags ≡ false →
       nat_le most_tasks (length d.tasks) ≡ true →
-      answer ≡ short_answer d tag → OnErr answer (e ≡ d) → OnOk answer (e ≡ with_short d (at_once tag full_reply)) →
+      answer ≡ short_answer d (numbers_of s) false tag → OnErr answer (e ≡ d) → OnOk answer (e ≡ with_short d (at_once tag full_reply)) →
       IsHeardAs s whole answer e
   full_right e answer has many told refused taken =
       short_heard d e s whole said command.0 tag full_reply answer h spells none command.1
@@ -90,7 +91,7 @@ module _ (d : DeviceCore) (s : State) (flags lun tag expected : ℕ) (cdb_bytes 
 
   -- the tag is in use
   pub used_right : has_attribute (numbers_of s) flags ≡ false → nat_le most_tasks (length d.tasks) ≡ false →
-      uses d tag ≡ true → IsHeardAs s whole (Err TagInUse) d
+      uses d (numbers_of s) false tag ≡ true → IsHeardAs s whole (Err TagInUse) d
   used_right has many used =
       spelled_heard d d s s whole said command.0 (Err TagInUse) h spells none command.1
       (sym (ap result_of (fault_is false has (many_is false many) ∙ (task_fault d s tag h
@@ -98,7 +99,7 @@ module _ (d : DeviceCore) (s : State) (flags lun tag expected : ℕ) (cdb_bytes 
 
   -- it opens a task
   pub opened_right : (e : DeviceCore) → has_attribute (numbers_of s) flags ≡ false →
-      nat_le most_tasks (length d.tasks) ≡ false → uses d tag ≡ false →
+      nat_le most_tasks (length d.tasks) ≡ false → uses d (numbers_of s) false tag ≡ false →
       IsTaskOpened d e flags lun tag expected cdb_bytes → IsHeardAs s whole (Ok tt) e
   opened_right e has many used k =
       spelled_heard d e s (refused_or_begun s (request command.0) (refusal s (request command.0))) whole said command.0
@@ -111,8 +112,8 @@ module _ (d : DeviceCore) (s : State) (flags lun tag expected : ℕ) (cdb_bytes 
     where
       free : task_of tag s.tasks ≡ None
       free = none_found (is_task_of tag) s.tasks
-          (or_parts (list_any (is_task_of tag) s.tasks) (list_any (is_short_of tag) s.shorts) (tag_used d s tag h
-          ∙ used)).0
+          (or_parts (list_any (is_task_of tag) s.tasks) (list_any (is_short_of tag) s.shorts)
+          (or_parts (machine.is_open s tag) _ (tag_used d s false tag h ∙ used)).0).0
 
       few : length s.tasks < most_tasks
       few = leb-false most_tasks (length s.tasks) (many_is false many)

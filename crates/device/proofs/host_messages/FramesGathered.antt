@@ -12,7 +12,7 @@ use Rattle.device.proofs.Common.{frames_of, gathers_for, is_mended, length, mach
 use Rattle.device.proofs.Common.{plain_now, read_in, refl, region_of, regions, replicate, requested, slice_get}
 use Rattle.device.proofs.Common.{slice_set, subst, suc, sym, take, take-append-le, task_after, task_happened, task_of}
 use Rattle.device.proofs.Common.{true, wanted_by, wanted_in, wanted_kept, with_claimed, with_held, with_machine}
-use Rattle.device.proofs.Common.{with_zeros, zero, ℕ, ◌&&◌, ◌-◌, ◌/◌, ◌<◌, ◌==◌, ◌∙◌, ◌∷◌, ◌≡◌, ◌≤◌}
+use Rattle.device.proofs.Common.{with_zeros, zero, ℕ, ◌-◌, ◌/◌, ◌<◌, ◌==◌, ◌∙◌, ◌∷◌, ◌≡◌, ◌≤◌}
 use Rattle.ufs_spec.specs.Exchanges as exchange
 use Rattle.ufs_spec.specs.FrameRequests.{with_request}
 use Rattle.ufs_spec.specs.Frames.{frames_in}

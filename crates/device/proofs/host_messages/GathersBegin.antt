@@ -3,11 +3,11 @@ use Rattle.device.specs.Describes.{BringsFor}
 use Rattle.device.proofs.Common.{Answering, AreClaimed, AreFramesKept, Bool, Cdb, Claim, ComesSo, Core, Describes}
 use Rattle.device.proofs.Common.{DeviceCore, ForFrames, ForUnmap, ForWrite, Gathering, Good, IsFor, IsOfList, List}
 use Rattle.device.proofs.Common.{None, Ok, Phase, Plan, Purpose, ReadsAsked, Request, Result, Some, State, Status}
-use Rattle.device.proofs.Common.{Wanted, [], ap, arith, brings_frames, claims_of, eqb-true, false, false≢true}
+use Rattle.device.proofs.Common.{Wanted, [], arith, brings_frames, claims_of, eqb-true, false, false≢true}
 use Rattle.device.proofs.Common.{frame_slots, frames_for, free_slots, gathers_for, has_wrong_list, if◌then◌else◌, inl}
 use Rattle.device.proofs.Common.{inr, is_sender, leb-true, length, list_any, list_slots, most_tasks, nat_le, nat_tests}
-use Rattle.device.proofs.Common.{not, numbers_of, refl, regions, replicate, sends_frames, sends_frames_to, subst, sym}
-use Rattle.device.proofs.Common.{task_of, true, true≢false, with_claimed, with_moves, ℕ, ◌%◌, ◌*◌, ◌<◌, ◌==◌, ◌||◌, ◌∙◌}
+use Rattle.device.proofs.Common.{not, numbers_of, refl, regions, replicate, sends_frames, subst, sym}
+use Rattle.device.proofs.Common.{task_of, true, true≢false, with_claimed, with_moves, ℕ, ◌%◌, ◌<◌, ◌==◌, ◌||◌}
 use Rattle.device.proofs.Common.{◌∷◌, ◌≡◌, ◌≤◌}
 use Rattle.std.specs.Prelude.{◌&&◌}
 use Rattle.ufs_spec.specs.Machine as machine
@@ -21,7 +21,8 @@ use Rattle.device.specs.declared.plans.Plan.TheVariants as plan
 use Rattle.device.proofs.described.Answered.{IsBehind}
 use Rattle.device.proofs.host_messages.ReadOpened.{core_with}
 use Rattle.device.proofs.host_messages.SlotsClaimed.{LayerThen, none_gathered, slots_found}
-use Rattle.device.proofs.host_messages.TasksBegin.{HasBegunFor, nothing_begins, opened_for}
+use Rattle.device.proofs.host_messages.TasksBegin.{HasBegunFor, counted, nothing_begins, opened_for}
+use Rattle.ufs_spec.specs.Begins.{of_write}
 use Rattle.device.proofs.open_tasks.TaskOpened.{brings_none, none_claimed, opens_gathering}
 
 -- What a task that begins to gather keeps
@@ -65,7 +66,8 @@ module _ (d : DeviceCore) (s : State) (r : Request) (h : Describes d s) (free : 
   abbrev gathering : Cdb → Purpose → ℕ → ℕ → Bool → State
   gathering command purpose size slots none =
       if none then machine.with_task s r (Some command) 0 (Answering Good 0)
-      else machine.with_task (with_moves s (Claim slots ∷ [])) r (Some command) size (Gathering purpose [] false)
+      else machine.with_task (with_moves s (Claim slots ∷ [])) (counted r (Ok (todo purpose size slots false)))
+      (Some command) size (Gathering purpose [] false)
 
   gathers_begin : (command : Cdb) (purpose : Purpose) (size slots : ℕ) (p : Phase) → Brings command purpose →
       ComesSo purpose 0 size → slots ≤ free_slots s.translation →
@@ -74,9 +76,9 @@ module _ (d : DeviceCore) (s : State) (r : Request) (h : Describes d s) (free : 
       Begins (Ok (todo purpose size slots false)) p →
       Opens (Ok (todo purpose size slots false)) p (gathering command purpose size slots false)
   gathers_begin command purpose size slots p brings so enough claimed alone begun =
-      subst (λ (x : Phase). IsBehind (core_with d r after x (frames_for purpose) (region_for purpose))
+      subst (λ (x : Phase). IsBehind (core_with d w after x (frames_for purpose) (region_for purpose))
       (gathering command purpose size slots false)) (sym its.0)
-      (opens_gathering d s r h free few after (Some command) size slots purpose _ (
+      (opens_gathering d s w h free few after (Some command) size slots purpose _ (
         its.1.0,
         subst (λ (blocks : List (List ℕ)). AreClaimed after
             (with_claimed (claims_of (numbers_of s) s.tasks) r.tag blocks)) claimed its.1.1,
@@ -95,6 +97,9 @@ module _ (d : DeviceCore) (s : State) (r : Request) (h : Describes d s) (free : 
         read = refl;
       }) alone)
     where
+      w : Request
+      w = counted r (Ok (todo purpose size slots false))
+
       its : (p ≡ phase.Ask (all_of purpose size))
           × LayerThen after s.translation (claims_of (numbers_of s) s.tasks) r.tag slots true
       its =
@@ -110,23 +115,26 @@ module _ (d : DeviceCore) (s : State) (r : Request) (h : Describes d s) (free : 
 
   -- WRITE
 
-  no_bytes : (blocks : ℕ) → ((4096 * blocks) == 0) ≡ (blocks == 0)
-  no_bytes blocks = grind (arith, nat_tests)
-
   some_block : (blocks : ℕ) → (blocks == 0) ≡ false → 0 < blocks
   some_block blocks e = grind (arith, nat_tests)
 
-  pub write_begins : (unit address blocks : ℕ) (forced : Bool) (p : Phase) → blocks ≤ free_slots s.translation →
-      Begins (Ok (todo (ForWrite unit address blocks forced) (4096 * blocks) blocks ((4096 * blocks) == 0))) p →
-      Opens (Ok (todo (ForWrite unit address blocks forced) (4096 * blocks) blocks ((4096 * blocks) == 0))) p
-      (gathering (cdb.Write address blocks forced) (ForWrite unit address blocks forced) (4096 * blocks) blocks
-      (blocks == 0))
-  write_begins unit address blocks forced p slots =
-      subst
-      (λ (none : Bool). Begins (Ok (todo purpose (4096 * blocks) blocks none)) p →
-      Opens (Ok (todo purpose (4096 * blocks) blocks none)) p
-      (gathering command purpose (4096 * blocks) blocks (blocks == 0)))
-      (sym (no_bytes blocks)) (by (blocks == 0) refl)
+  -- what is planned for a WRITE of which so many blocks come, none or some
+  abbrev write_todo : Purpose → (size blocks : ℕ) → Bool → Plan
+  write_todo purpose size blocks none = if none then plan.Drop size else plan.Gather (all_of purpose size) blocks
+
+  -- the state behind it, likewise
+  abbrev writing : Cdb → Purpose → (size blocks : ℕ) → Bool → State
+  writing command purpose size blocks none =
+      if none then machine.with_task s (of_write r size) (Some command) size (Answering Good size)
+      else machine.with_task (with_moves s (Claim blocks ∷ [])) (of_write r size) (Some command) size
+      (Gathering purpose [] false)
+
+  pub write_begins : (unit address blocks : ℕ) (forced : Bool) (size : ℕ) (p : Phase) →
+      blocks ≤ free_slots s.translation →
+      Begins (Ok (write_todo (ForWrite unit address blocks forced) size blocks (blocks == 0))) p →
+      Opens (Ok (write_todo (ForWrite unit address blocks forced) size blocks (blocks == 0))) p
+      (writing (cdb.Write address blocks forced) (ForWrite unit address blocks forced) size blocks (blocks == 0))
+  write_begins unit address blocks forced size p slots = by (blocks == 0) refl
     where
       command : Cdb
       command = cdb.Write address blocks forced
@@ -134,13 +142,12 @@ module _ (d : DeviceCore) (s : State) (r : Request) (h : Describes d s) (free : 
       purpose : Purpose
       purpose = ForWrite unit address blocks forced
 
-      by : (none : Bool) → (blocks == 0) ≡ none → Begins (Ok (todo purpose (4096 * blocks) blocks none)) p →
-          Opens (Ok (todo purpose (4096 * blocks) blocks none)) p
-          (gathering command purpose (4096 * blocks) blocks none)
-      by true e begun = nothing_begins d s r h free few after command 0 p refl begun
+      by : (none : Bool) → (blocks == 0) ≡ none → Begins (Ok (write_todo purpose size blocks none)) p →
+          Opens (Ok (write_todo purpose size blocks none)) p (writing command purpose size blocks none)
+      by true e begun = nothing_begins d s (of_write r size) h free few after command size p refl begun
       by false e begun =
-          gathers_begin command purpose (4096 * blocks) blocks p (quiet command purpose refl refl)
-          (0, refl, some_block blocks e, refl) slots (none_gathered blocks) (λ brings. absurd (false≢true brings)) begun
+          gathers_begin command purpose size blocks p (quiet command purpose refl refl)
+          (0, refl, some_block blocks e) slots (none_gathered blocks) (λ brings. absurd (false≢true brings)) begun
 
   -- UNMAP
 

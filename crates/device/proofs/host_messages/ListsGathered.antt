@@ -9,7 +9,7 @@ use Rattle.device.proofs.Common.{claims_of, command_blocks, cond, ends_with_stat
 use Rattle.device.proofs.Common.{inl, inr, length, length-replicate, list_slots, machine_at, moved, numbers_of}
 use Rattle.device.proofs.Common.{phase_after, plain_now, read_in, refl, region_of, replicate, subst, sym, task_after}
 use Rattle.device.proofs.Common.{task_happened, task_of, true, wanted_by, wanted_in, wanted_kept, with_claimed}
-use Rattle.device.proofs.Common.{with_deed, ℕ, ◌&&◌, ◌==◌, ◌∙◌, ◌≡◌, ◌⊎◌}
+use Rattle.device.proofs.Common.{with_deed, ℕ, ◌∙◌, ◌≡◌, ◌⊎◌}
 use Rattle.ufs_spec.specs.Exchanges as exchange
 use Rattle.ufs_spec.specs.Plain.{zero_block}
 use Rattle.power_loss.proofs.host_commands.GatheringTasks.{GathersIn, gathers_in}

@@ -2,12 +2,14 @@
 use Rattle.device.proofs.Common.{ArrayVec, Call, Describes, DeviceCore, Err, HaveAnswered, Host, HostFault, IsAnswered}
 use Rattle.device.proofs.Common.{IsBare, IsHeard, IsHeardAs, Keeps, List, Message, None, OfHost, Ok, OnErr, OnOk}
 use Rattle.device.proofs.Common.{Queried, Query, Result, ShortReply, Some, Spelled, Spells, State, Volatile, [], ap}
-use Rattle.device.proofs.Common.{at_once, heard, host_fault_of, is_task_of, numbers_of, opening_fault, query_with, refl}
+use Rattle.device.proofs.Common.{at_once, false, heard, host_fault_of, is_task_of, numbers_of, opening_fault, query_with, refl}
 use Rattle.device.proofs.Common.{result_of, short_answer, short_reply, short_said, subst, sym, task_of, true}
 use Rattle.device.proofs.Common.{with_short, ℕ, ◌==◌, ◌∙◌, ◌∷◌, ◌≡◌}
 use Rattle.std.proofs.Common.{not}
 use Rattle.std.proofs.lemmas.Bool.{and_parts, not-true}
+use Rattle.ufs_spec.specs.Exchanges.{number_of}
 use Rattle.ufs_spec.specs.Machine as machine
+use Rattle.task_set.specs.Shorts.{manages}
 use Rattle.ufs_spec.specs.Messages.{IsQueryFunction}
 use Rattle.ufs_spec.specs.QueryAnswers.{query_heard}
 use Rattle.ufs_spec.specs.declared.messages.Asked.{Asked}
@@ -43,10 +45,10 @@ function_is function among =
 volatile_more : (d : DeviceCore) (s : State) (tag : ℕ) (said : ShortReply) (volatile : Volatile) → Describes d s →
     IsBehind (with_short (record d { volatile = volatile }) (at_once tag said))
     (machine.with_short (record s { volatile = volatile })
-    (short_reply tag (short_said (numbers_of s) tag said)))
+    (short_reply (number_of (manages said) tag) (short_said (numbers_of s) tag said)))
 volatile_more d s tag said volatile h =
     volatile_changed (with_short d (at_once tag said))
-    (machine.with_short s (short_reply tag (short_said (numbers_of s) tag said))) volatile volatile refl
+    (machine.with_short s (short_reply (number_of (manages said) tag) (short_said (numbers_of s) tag said))) volatile volatile refl
     (once_more d s tag said h)
 
 module _ (d : DeviceCore) (s : State) (bytes : List ℕ) (h : Describes d s) (none : host_fault_of bytes ≡ None)
@@ -85,8 +87,8 @@ module _ (d : DeviceCore) (s : State) (bytes : List ℕ) (h : Describes d s) (no
   }
 
   -- where its tag is free and there is room
-  module _ (free : opening_fault s tag true ≡ None) where
-    right : Ok tt ≡ result_of (opening_fault s tag true)
+  module _ (free : opening_fault s false tag true ≡ None) where
+    right : Ok tt ≡ result_of (opening_fault s false tag true)
     right = sym (ap result_of free)
 
     -- a setting is accepted
@@ -109,7 +111,7 @@ module _ (d : DeviceCore) (s : State) (bytes : List ℕ) (h : Describes d s) (no
         set = setting_is s q (command_of x) both.0 (not-true (q.asked.opcode == 0) both.1) is.says
 
         no_task : task_of tag s.tasks ≡ None
-        no_task = none_found (is_task_of tag) s.tasks (is_free s tag true free).no_task
+        no_task = none_found (is_task_of tag) s.tasks (is_free s false tag true free).no_task
 
     each_right : (e : DeviceCore) (x : QueryAnswer) → IsAnswerTo s q x → HasAnsweredBy d e tag query x →
         IsAnswered s call (OfHost (Ok tt)) e
@@ -126,16 +128,16 @@ module _ (d : DeviceCore) (s : State) (bytes : List ℕ) (h : Describes d s) (no
     each_right e (answer.Setting x) is did = set_right e x is did
 
   pub query_right : (e : DeviceCore) (result : Result Unit HostFault) → OnErr result (e ≡ d) →
-      result ≡ short_answer d tag → OnOk result (HasQueried d e tag query value) → IsHeardAs s bytes result e
-  query_right e result refused told taken = by result (told ∙ sym (short_fault d s tag h)) refused taken
+      result ≡ short_answer d (numbers_of s) false tag → OnOk result (HasQueried d e tag query value) → IsHeardAs s bytes result e
+  query_right e result refused told taken = by result (told ∙ sym (short_fault d s false tag h)) refused taken
     where
-      by : (x : Result Unit HostFault) → x ≡ result_of (opening_fault s tag true) → OnErr x (e ≡ d) →
+      by : (x : Result Unit HostFault) → x ≡ result_of (opening_fault s false tag true) → OnErr x (e ≡ d) →
           OnOk x (HasQueried d e tag query value) → IsHeardAs s bytes x e
       by (Ok done) is stayed did = record {
         heard = Spelled said None;
         is_heard = heard_so;
         answered =
-            each_right (no_fault (opening_fault s tag true) is) e did.answer (did.is s h.kept.layer_kept bare)
+            each_right (no_fault (opening_fault s false tag true) is) e did.answer (did.is s h.kept.layer_kept bare)
             did.answered;
       }
       by (Err f) is stayed did =

@@ -4,7 +4,9 @@ use Rattle.device.proofs.Common.{Message, None, OfHost, Ok, OnErr, OnOk, Option,
 use Rattle.device.proofs.Common.{Spelled, Spells, State, ap, at_once, before_accepted, cdb_of, durable, heard}
 use Rattle.device.proofs.Common.{host_fault_of, message_fault, numbers_of, opening_fault, refl, result_of, short_answer}
 use Rattle.device.proofs.Common.{short_reply, short_said, subst, sym, true, with_short, ℕ, ◌∙◌, ◌≡◌}
+use Rattle.ufs_spec.specs.Exchanges.{number_of}
 use Rattle.ufs_spec.specs.Machine as machine
+use Rattle.task_set.specs.Shorts.{manages}
 use Rattle.ufs_spec.specs.Machine.{IsCdbIn}
 use Rattle.task_set.specs.declared.tasks.Short as kept
 use Rattle.device.proofs.described.Answered.{IsBehind, answered_as, stays}
@@ -41,9 +43,10 @@ short_behind d s r b h kept told = record {
 -- so it is of one whose reply is due at once
 pub once_more : (d : DeviceCore) (s : State) (tag : ℕ) (said : ShortReply) → Describes d s →
     IsBehind (with_short d (at_once tag said))
-    (machine.with_short s (short_reply tag (short_said (numbers_of s) tag said)))
+    (machine.with_short s (short_reply (number_of (manages said) tag) (short_said (numbers_of s) tag said)))
 once_more d s tag said h =
-    short_behind d s (at_once tag said) (short_reply tag (short_said (numbers_of s) tag said)) (stays d s h)
+    short_behind d s (at_once tag said) (short_reply (number_of (manages said) tag) (short_said (numbers_of s) tag said))
+    (stays d s h)
     (kept_at_once (numbers_of s) (before_accepted s.translation.ledger) tag said) tt
 
 -- a message is heard with this answer, whatever the device keeps then
@@ -60,15 +63,16 @@ spelled_heard d e s v bytes m c answer h spells none cdb right is behind = recor
 -- the message opens a short exchange whose reply is due at once, if its tag is free and there is room
 pub short_heard : (d e : DeviceCore) (s : State) (bytes : List ℕ) (m : Message) (c : Option Cdb) (tag : ℕ)
     (said : ShortReply) (answer : Result Unit HostFault) → Describes d s → Spells m bytes →
-    host_fault_of bytes ≡ None → IsCdbIn (cdb_of m) c → message_fault s m ≡ opening_fault s tag true →
-    heard s m c ≡ machine.with_short s (short_reply tag (short_said (numbers_of s) tag said)) →
-    answer ≡ short_answer d tag → OnErr answer (e ≡ d) → OnOk answer (e ≡ with_short d (at_once tag said)) →
+    host_fault_of bytes ≡ None → IsCdbIn (cdb_of m) c → message_fault s m ≡ opening_fault s (manages said) tag true →
+    heard s m c
+    ≡ machine.with_short s (short_reply (number_of (manages said) tag) (short_said (numbers_of s) tag said)) →
+    answer ≡ short_answer d (numbers_of s) (manages said) tag → OnErr answer (e ≡ d) → OnOk answer (e ≡ with_short d (at_once tag said)) →
     IsHeardAs s bytes answer e
 short_heard d e s bytes m c tag said answer h spells none cdb fault opens told refused taken =
-    by answer (told ∙ sym (ap result_of fault ∙ short_fault d s tag h)) refused taken
+    by answer (told ∙ sym (ap result_of fault ∙ short_fault d s (manages said) tag h)) refused taken
   where
     opened : State
-    opened = machine.with_short s (short_reply tag (short_said (numbers_of s) tag said))
+    opened = machine.with_short s (short_reply (number_of (manages said) tag) (short_said (numbers_of s) tag said))
 
     by : (x : Result Unit HostFault) → x ≡ result_of (message_fault s m) → OnErr x (e ≡ d) →
         OnOk x (e ≡ with_short d (at_once tag said)) → IsHeardAs s bytes x e

@@ -1,7 +1,7 @@
 -- A COMMAND begins a task that answers at once, sends data that are known, or waits for all that was accepted.
 use Rattle.device.proofs.Common.{Answering, Awaiting, Bool, Cdb, Core, Describes, DeviceCore, Err, Good, IsLayerWith}
 use Rattle.device.proofs.Common.{None, Numbers, Ok, Option, Phase, Plan, Request, Result, Some, State, Status}
-use Rattle.device.proofs.Common.{Translation, Volatile, ap, arith, before_accepted, claims_of, data_begun, durable}
+use Rattle.device.proofs.Common.{Translation, Volatile, ap, arith, before_accepted, claims_of, durable}
 use Rattle.device.proofs.Common.{false, false≢true, if◌then◌else◌, is_mended, is_sender, length, list_any, locked}
 use Rattle.device.proofs.Common.{most_tasks, nat_le, newly_open, not, numbers_of, refl, sends_frames, subst}
 use Rattle.device.proofs.Common.{sym, task_of, true, ℕ, ◌+◌, ◌<◌, ◌∙◌, ◌≡◌}
@@ -15,6 +15,7 @@ use Rattle.device.specs.declared.plans.Plan.TheVariants as plan
 use Rattle.device.specs.declared.plans.Source.TheVariants as source
 use Rattle.device.specs.Attentions.{attention_set, tells_attention, volatile_left}
 use Rattle.device.specs.Calls.{HasBegun, last_number}
+use Rattle.device.specs.Plans.{expected_for}
 use Rattle.device.specs.Frames.{frames_brought, region_brought, sent_kept}
 use Rattle.device.proofs.described.Answered.{IsBehind}
 use Rattle.device.proofs.host_messages.NumbersAwaited.{number_awaited}
@@ -25,9 +26,14 @@ use Rattle.device.proofs.open_tasks.TaskOpened.{brings_none, opens_still}
 abbrev pub HasBegunFor : State → Request → Core → Result Plan Status → Phase → Type 0
 HasBegunFor s r after todo p = HasBegun after s.translation (claims_of (numbers_of s) s.tasks) r.tag todo p
 
+-- the request, of which counts as expected what does for this plan
+abbrev pub counted : Request → Result Plan Status → Request
+counted r todo = record r { expected = expected_for r.expected todo }
+
 -- the device once this was planned and its task is so far, which keeps what it sends
 abbrev pub opened_for : DeviceCore → Request → Core → Result Plan Status → Phase → DeviceCore
-opened_for d r after todo p = sent_kept d.ftl.numbers (core_with d r after p (frames_brought todo) (region_brought todo)) todo
+opened_for d r after todo p =
+    sent_kept d.ftl.numbers (core_with d (counted r todo) after p (frames_brought todo) (region_brought todo)) todo
 
 -- the same once the attention of the LUN ended, if it was told
 abbrev pub left_for : DeviceCore → Request → Core → Result Plan Status → Phase → DeviceCore
@@ -40,6 +46,7 @@ sent_still : (n : Numbers) (d : DeviceCore) (v : Volatile) (todo : Result Plan S
 sent_still n d v (Ok (plan.Send (source.Identity told) size taken)) = refl
 sent_still n d v (Ok (plan.Send (source.Response region) size taken)) = refl
 sent_still n d v (Ok (plan.Nothing size)) = refl
+sent_still n d v (Ok (plan.Drop size)) = refl
 sent_still n d v (Ok (plan.Read key blocks size)) = refl
 sent_still n d v (Ok (plan.Gather w slots)) = refl
 sent_still n d v (Ok plan.Flush) = refl
@@ -49,7 +56,7 @@ sent_still n d v (Err told) = refl
 pub none_ends : (d : DeviceCore) (r : Request) (after : Core) (todo : Result Plan Status) (p : Phase) →
     tells_attention todo ≡ false → opened_for d r after todo p ≡ left_for d r after todo p
 none_ends d r after todo p quiet =
-    sent_still d.ftl.numbers (core_with d r after p (frames_brought todo) (region_brought todo)) d.volatile todo
+    sent_still d.ftl.numbers (core_with d (counted r todo) after p (frames_brought todo) (region_brought todo)) d.volatile todo
     ∙ ap (λ (b : Bool). record (opened_for d r after todo p) {
       volatile = if b then attention_set d.ftl.numbers r.lun false d.volatile else d.volatile;
     }) (sym quiet)
@@ -59,7 +66,7 @@ pub opened_as : (d : DeviceCore) (s : State) (r : Request) → Describes d s →
     (todo : Result Plan Status) (p : Phase) (u : Translation) → HasBegunFor s r after todo p →
     layer_kept.Describes (left_for d r after todo p).ftl u →
     ((t : Translation) → layer_kept.Describes after t →
-    e ≡ sent_kept t.numbers (record (core_with d r after p (frames_brought todo) (region_brought todo)) {
+    e ≡ sent_kept t.numbers (record (core_with d (counted r todo) after p (frames_brought todo) (region_brought todo)) {
       volatile = volatile_left t.numbers r.lun todo d.volatile;
     }) todo) →
     e ≡ left_for d r after todo p
@@ -76,6 +83,7 @@ opened_as d s r h e after (Err told) p u begun layer more =
       volatile = volatile_left n r.lun (Err told) d.volatile;
     }) (sym h.kept.layer_kept.kept.numbers)
 opened_as d s r h e after (Ok (plan.Nothing n)) p u begun layer more = more u layer
+opened_as d s r h e after (Ok (plan.Drop n)) p u begun layer more = more u layer
 opened_as d s r h e after (Ok (plan.Read key blocks size)) p u begun layer more = more u layer
 opened_as d s r h e after (Ok (plan.Gather w slots)) p u begun layer more = more u layer
 opened_as d s r h e after (Ok plan.Flush) p u begun layer more = more u layer

@@ -4,6 +4,7 @@ use Rattle.device.proofs.Common.{OnErr, OnOk, Option, Result, Short, Some, Spell
 use Rattle.device.proofs.Common.{before_accepted, heard, if◌then◌else◌, lun_of, true}
 use Rattle.device.proofs.Common.{host_fault_of, message_fault, numbers_of, refl, result_of, short_answer, short_reply}
 use Rattle.device.proofs.Common.{subst, sym, with_short, ℕ, ◌==◌, ◌∙◌, ◌≡◌}
+use Rattle.ufs_spec.specs.Exchanges.{number_of}
 use Rattle.ufs_spec.specs.Machine as machine
 use Rattle.ufs_spec.specs.Machine.{managed, service}
 use Rattle.ufs_spec.specs.Management.{reset_at, volatile_managed}
@@ -26,7 +27,7 @@ module _ (d : DeviceCore) (s : State) (lun tag function meant : ℕ) (h : Descri
   said = message.TaskRequest lun tag function meant
 
   abbrev told : ℕ → Short
-  told code = short_reply tag (message.TaskResponse lun tag code)
+  told code = short_reply (number_of true tag) (message.TaskResponse lun tag code)
 
   -- the state once the LUN has an attention, if it is a reset
   abbrev reset : State
@@ -74,10 +75,10 @@ module _ (d : DeviceCore) (s : State) (lun tag function meant : ℕ) (h : Descri
 
   -- so it is heard; if its tag is in use, or too many short exchanges are open, it is told so
   pub managing_right : (e : DeviceCore) (bytes : List ℕ) (answer : Result Unit HostFault) → Spells said bytes →
-      host_fault_of bytes ≡ None → answer ≡ short_answer d tag → OnErr answer (e ≡ d) →
+      host_fault_of bytes ≡ None → answer ≡ short_answer d (numbers_of s) true tag → OnErr answer (e ≡ d) →
       OnOk answer (IsBehind e (heard s said None)) → IsHeardAs s bytes answer e
   managing_right e bytes answer spells none is refused taken =
-      by answer (is ∙ sym (short_fault d s tag h)) refused taken
+      by answer (is ∙ sym (short_fault d s true tag h)) refused taken
     where
       by : (x : Result Unit HostFault) → x ≡ result_of (message_fault s said) → OnErr x (e ≡ d) →
           OnOk x (IsBehind e (heard s said None)) → IsHeardAs s bytes x e

@@ -5,7 +5,7 @@ use Rattle.device.proofs.Common.{AreFramesKept, Bool, Frames, FramesFit, IsDoing
 use Rattle.device.proofs.Common.{OpenTask, Phase, ReadBlock, ReadState, Sending, Sends, Some, TaskKept, Unread, WasRead}
 use Rattle.device.proofs.Common.{ap, arith, block_after, brings_frames, deed_read, is_lost, phase_after, read_by}
 use Rattle.device.proofs.Common.{read_for, read_in, read_of, refl, same_Some, set_other, set_state, set_there, subst}
-use Rattle.device.proofs.Common.{sym, task_after, ℕ, ◌&&◌, ◌*◌, ◌<◌, ◌==◌, ◌∙◌, ◌≡◌}
+use Rattle.device.proofs.Common.{sym, task_after, ℕ, ◌*◌, ◌<◌, ◌∙◌, ◌≡◌}
 use Rattle.std.proofs.Common.{slice_get, slice_set}
 use Rattle.ufs_spec.proofs.Lists.{set_length}
 use Rattle.ufs_spec.specs.Exchanges as exchange

@@ -8,7 +8,7 @@ use Rattle.device.proofs.Common.{ap, area_part, arith, block_after, brings_frame
 use Rattle.device.proofs.Common.{false≢true, frame_in, frames_after, if◌then◌else◌, is_unfilled, length, length-map}
 use Rattle.device.proofs.Common.{map, option_map, part_held, part_of_page, phase_after, read_for, read_in, refl}
 use Rattle.device.proofs.Common.{same_Some, second_read, set_other, set_state, set_there, slice_get_within, subst, suc}
-use Rattle.device.proofs.Common.{sym, task_after, true, zero, ℕ, ◌&&◌, ◌<◌, ◌==◌, ◌∙◌, ◌∷◌, ◌≡◌, ◌≤◌}
+use Rattle.device.proofs.Common.{sym, task_after, true, zero, ℕ, ◌<◌, ◌==◌, ◌∙◌, ◌∷◌, ◌≡◌, ◌≤◌}
 use Rattle.std.proofs.Common.{slice_get, slice_set, take}
 use Rattle.ufs_spec.specs.Exchanges as exchange
 use Rattle.ufs_spec.specs.Machine.{with_block}

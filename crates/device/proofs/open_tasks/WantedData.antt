@@ -1,4 +1,5 @@
 -- How many bytes a task asks for: as many as the READY TO TRANSFER of the definitions.
+use Rattle.ufs_spec.specs.Exchanges.{to_gather}
 use Rattle.device.proofs.Common.{ComesSo, Deed, ForFrames, ForUnmap, ForWrite, Gathering, IsDoing, IsOfList, List}
 use Rattle.device.proofs.Common.{Purpose, Wanted, [], arith, count_for, inl, inr, length, min, refl, subst, sym, true}
 use Rattle.device.proofs.Common.{ℕ, ◌-◌, ◌∷◌, ◌≡◌, ◌≤◌}
@@ -10,9 +11,9 @@ list_few size (inl header) = omega arith
 list_few size (inr whole) = omega arith
 
 pub count_so : (purpose : Purpose) (came size : ℕ) → ComesSo purpose came size →
-    min 4096 (size - came) ≡ count_for purpose size
+    min 4096 (to_gather purpose size - came) ≡ count_for purpose size
 count_so (ForWrite unit address blocks forced) came size h =
-    let whole = h.1 in let more = h.2 in let all = h.3 in omega arith
+    let whole = h.1 in let more = h.2 in omega arith
 count_so (ForUnmap unit) came size h = let none = h.0 in let few = list_few size h.1 in omega arith
 count_so (ForFrames region) came size h = let none = h.0 in let few = h.2 in omega arith
 

@@ -1,6 +1,4 @@
-use Rattle.device.proofs.Common.{State, false, numbers_of, sym, ◌∙◌, ◌≡◌}
-use Rattle.ufs_spec.specs.Machine.{has_attribute}
-use Rattle.device.proofs.described.SameDevice.{same_layer}
+use Rattle.device.proofs.Common.{sym, ◌∙◌}
 use Rattle.device.proofs.host_messages.CommandsRight.{full_right, opened_right, reserved_right, used_right}
 use Rattle.device.proofs.device.Device.command.Goals as goal
 
@@ -15,7 +13,8 @@ returns-then-is_full-clause-heard c =
     λ s bytes h spells none.
     full_right c.args.self.now s c.args.flags c.args.lun c.args.tag c.args.expected c.args.cdb.now bytes h spells none
     _ _ (sym (c.has_attribute.ensures s.translation h.kept.layer_kept) ∙ c.if-has_attribute.false)
-    (sym c.is_full.ensures ∙ c.if-is_full.true) c.open_short.ensures.answer c.open_short.ensures.refused
+    (sym c.is_full.ensures ∙ c.if-is_full.true) (c.open_short.ensures.answer s.translation h.kept.layer_kept)
+    c.open_short.ensures.refused
     c.open_short.ensures.after
 
 pub returns-then-uses-clause-heard : goal.returns-then-uses-clause-heard
@@ -23,11 +22,13 @@ returns-then-uses-clause-heard c =
     λ s bytes h spells none.
     used_right c.args.self.now s c.args.flags c.args.lun c.args.tag c.args.expected c.args.cdb.now bytes h spells none
     (sym (c.has_attribute.ensures s.translation h.kept.layer_kept) ∙ c.if-has_attribute.false)
-    (sym c.is_full.ensures ∙ c.if-is_full.false) (sym c.uses.ensures ∙ c.if-uses.true)
+    (sym c.is_full.ensures ∙ c.if-is_full.false)
+    (sym (c.uses.ensures s.translation h.kept.layer_kept) ∙ c.if-uses.true)
 
 pub returns-clause-heard : goal.returns-clause-heard
 returns-clause-heard c =
     λ s bytes h spells none.
     opened_right c.args.self.now s c.args.flags c.args.lun c.args.tag c.args.expected c.args.cdb.now bytes h spells
     none _ (sym (c.has_attribute.ensures s.translation h.kept.layer_kept) ∙ c.if-has_attribute.false)
-    (sym c.is_full.ensures ∙ c.if-is_full.false) (sym c.uses.ensures ∙ c.if-uses.false) c.open_task.ensures
+    (sym c.is_full.ensures ∙ c.if-is_full.false)
+    (sym (c.uses.ensures s.translation h.kept.layer_kept) ∙ c.if-uses.false) c.open_task.ensures

@@ -1,6 +1,4 @@
 use Rattle.device.proofs.Common.{Err, HostFault, Message, Ok, Result, Spells, ap, refl, subst, sym, ◌∙◌}
-use Rattle.device.proofs.host_messages.FaultsHeard.{fault_heard}
-use Rattle.device.proofs.host_messages.HostRight.{faults_right}
 use Rattle.device.proofs.device.Device.hear_other.Goals as goal
 
 fault_or : HostFault → Result Message HostFault → HostFault
@@ -25,14 +23,13 @@ returns-in-Ok c = record {
   heard = λ s h. c.hear.ensures.heard s c.args.bytes.now h c.in-Ok.ensures.read.1 c.in-Ok.ensures.read.0;
 }
 
-pub returns-in-Err : goal.returns-in-Err
+pub told-requires-clause-first : goal.told-requires-clause-first
 unfolding fault_or
-returns-in-Err c = record {
-  refused = refl;
-  heard =
-      λ s h.
-      faults_right c.args.self.now s c.args.bytes.now c.in-Err.fault h
-      (fault_heard c.args.bytes.now c.in-Err.fault
-      (λ f is. ap (fault_or c.in-Err.fault) (sym c.in-Err.is ∙ c.read_host.ensures.first f is))
-      (λ none. c.in-Err.ensures.reserved none));
-}
+told-requires-clause-first c =
+    λ f is. ap (fault_or c.in-Err.fault) (sym c.in-Err.is ∙ c.read_host.ensures.first f is)
+
+pub told-requires-clause-reserved : goal.told-requires-clause-reserved
+told-requires-clause-reserved c = λ none. c.in-Err.ensures.reserved none
+
+pub returns-in-Err : goal.returns-in-Err
+returns-in-Err c = record { refused = refl; heard = c.told.ensures }

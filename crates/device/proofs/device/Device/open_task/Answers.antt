@@ -1,6 +1,7 @@
 use Rattle.device.proofs.Common.{DeviceCore, Volatile, ap, newly_open, subst, sym, with_task, ◌∙◌}
 use Rattle.ftl_core.specs.Public.{Describes}
 use Rattle.device.specs.Attentions.{volatile_left}
+use Rattle.device.specs.Plans.{expected_for}
 use Rattle.device.specs.Frames.{frames_brought, region_brought, sent_kept}
 use Rattle.device.proofs.device.Device.open_task.Goals as goal
 
@@ -24,7 +25,7 @@ returns c = record {
       ∙ ((λ i. with_task (ended i) (newly_open (record {
         tag = c.args.tag;
         lun = c.args.lun;
-        expected = c.args.expected;
+        expected = c.counted.ensures i;
         phase = c.begin-phase.result;
         frames = c.frames_of.ensures i;
         region = c.region_of.ensures i;
@@ -34,7 +35,7 @@ returns c = record {
       }) (newly_open (record {
         tag = c.args.tag;
         lun = c.args.lun;
-        expected = c.args.expected;
+        expected = expected_for c.args.expected c.plan-planned.result;
         phase = c.begin-phase.result;
         frames = frames_brought c.plan-planned.result;
         region = region_brought c.plan-planned.result;

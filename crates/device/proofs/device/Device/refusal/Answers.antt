@@ -1,3 +1,5 @@
+use Rattle.device.proofs.Common.{ap, first_line, ℕ}
+use Rattle.device.specs.Plans.{lines_now}
 use Rattle.device.proofs.Common.{false, numbers_of, refl, sym, true, ◌∙◌}
 use Rattle.device.proofs.described.SameDevice.{same_layer}
 use Rattle.device.proofs.host_messages.CommandTable.{data_lacking, named_lacking, told_by, told_early}
@@ -51,9 +53,9 @@ returns-then-lacks_data-clause-what c =
     (sym c.wants_saved.ensures ∙ c.if-wants_saved.false)
     (sym (c.is_too_long.ensures.what (numbers_of s) (c.command_blocks.ensures.is s.translation h)) ∙ c.if-is_too_long.false)
     (sym c.has_wrong_list.ensures ∙ c.if-has_wrong_list.false)
-    (data_lacking s r c.args.cdb.now c.numbers-numbers.result.now c.args.target.lun c.told_count.result true
+    (data_lacking s r c.args.cdb.now c.numbers-numbers.result.now c.args.target.lun c.told_count-told.result c.may_be_cut.result true
     (c.numbers-numbers.ensures.described s.translation (same_layer _ _ s.translation c.self.view_is h)) lun
-    c.told_count.ensures (sym (c.lacks_data.ensures r flags expected) ∙ c.if-lacks_data.true)) refl
+    c.told_count-told.ensures c.may_be_cut.ensures (sym (c.lacks_data.ensures r flags expected) ∙ c.if-lacks_data.true)) refl
 
 pub returns-then-is_out_of_range-clause-what : goal.returns-then-is_out_of_range-clause-what
 returns-then-is_out_of_range-clause-what c =
@@ -65,9 +67,9 @@ returns-then-is_out_of_range-clause-what c =
     (sym c.wants_saved.ensures ∙ c.if-wants_saved.false)
     (sym (c.is_too_long.ensures.what (numbers_of s) (c.command_blocks.ensures.is s.translation h)) ∙ c.if-is_too_long.false)
     (sym c.has_wrong_list.ensures ∙ c.if-has_wrong_list.false)
-    (data_lacking s r c.args.cdb.now c.numbers-numbers.result.now c.args.target.lun c.told_count.result false
+    (data_lacking s r c.args.cdb.now c.numbers-numbers.result.now c.args.target.lun c.told_count-told.result c.may_be_cut.result false
     (c.numbers-numbers.ensures.described s.translation (same_layer _ _ s.translation c.self.view_is h)) lun
-    c.told_count.ensures (sym (c.lacks_data.ensures r flags expected) ∙ c.if-lacks_data.false))
+    c.told_count-told.ensures c.may_be_cut.ensures (sym (c.lacks_data.ensures r flags expected) ∙ c.if-lacks_data.false))
     (sym c.is_out_of_range.ensures.past ∙ c.if-is_out_of_range.true)
 
 pub returns-clause-what : goal.returns-clause-what
@@ -80,8 +82,9 @@ returns-clause-what c =
     (sym c.wants_saved.ensures ∙ c.if-wants_saved.false)
     (sym (c.is_too_long.ensures.what (numbers_of s) (c.command_blocks.ensures.is s.translation h)) ∙ c.if-is_too_long.false)
     (sym c.has_wrong_list.ensures ∙ c.if-has_wrong_list.false)
-    (data_lacking s r c.args.cdb.now c.numbers-numbers.result.now c.args.target.lun c.told_count.result false
+    (data_lacking s r c.args.cdb.now c.numbers-numbers.result.now c.args.target.lun c.told_count-told.result c.may_be_cut.result false
     (c.numbers-numbers.ensures.described s.translation (same_layer _ _ s.translation c.self.view_is h)) lun
-    c.told_count.ensures (sym (c.lacks_data.ensures r flags expected) ∙ c.if-lacks_data.false))
+    c.told_count-told.ensures c.may_be_cut.ensures (sym (c.lacks_data.ensures r flags expected) ∙ c.if-lacks_data.false))
     (sym c.is_out_of_range.ensures.past ∙ c.if-is_out_of_range.false)
-    (c.refusal_now.ensures s h bare)
+    (ap (λ (e : ℕ). first_line (lines_now s c.args.target.spec e c.args.cdb.now)) expected
+    ∙ c.refusal_now.ensures s h bare)

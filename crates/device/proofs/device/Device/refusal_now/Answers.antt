@@ -1,3 +1,5 @@
+use Rattle.device.proofs.Common.{ap}
+use Rattle.ufs_spec.specs.Refusals.{is_crowded}
 use Rattle.device.proofs.Common.{false, refl, sym, true, ◌∙◌}
 use Rattle.device.proofs.host_messages.CommandTable.{now_told}
 use Rattle.device.proofs.device.Device.refusal_now.Goals as goal
@@ -5,20 +7,20 @@ use Rattle.device.proofs.device.Device.refusal_now.Goals as goal
 pub returns-then-is_too_early : goal.returns-then-is_too_early
 returns-then-is_too_early c =
     λ s h bare.
-    now_told s c.args.unit c.args.cdb.now true _ _ _ _ _
+    now_told s c.args.unit c.args.expected c.args.cdb.now true _ _ _ _ _
     (sym (c.is_too_early.ensures s h) ∙ c.if-is_too_early.true) refl refl refl refl refl
 
 pub returns-then-is_refused_write : goal.returns-then-is_refused_write
 returns-then-is_refused_write c =
     λ s h bare.
-    now_told s c.args.unit c.args.cdb.now false true _ _ _ _
+    now_told s c.args.unit c.args.expected c.args.cdb.now false true _ _ _ _
     (sym (c.is_too_early.ensures s h) ∙ c.if-is_too_early.false)
     (sym (c.is_refused_write.ensures s h bare) ∙ c.if-is_refused_write.true) refl refl refl refl
 
 pub returns-then-fails_test : goal.returns-then-fails_test
 returns-then-fails_test c =
     λ s h bare.
-    now_told s c.args.unit c.args.cdb.now false false true _ _ _
+    now_told s c.args.unit c.args.expected c.args.cdb.now false false true _ _ _
     (sym (c.is_too_early.ensures s h) ∙ c.if-is_too_early.false)
     (sym (c.is_refused_write.ensures s h bare) ∙ c.if-is_refused_write.false)
     (sym (c.fails_test.ensures s h) ∙ c.if-fails_test.true) refl refl refl
@@ -26,7 +28,7 @@ returns-then-fails_test c =
 pub returns-then-lacks_response : goal.returns-then-lacks_response
 returns-then-lacks_response c =
     λ s h bare.
-    now_told s c.args.unit c.args.cdb.now false false false true _ _
+    now_told s c.args.unit c.args.expected c.args.cdb.now false false false true _ _
     (sym (c.is_too_early.ensures s h) ∙ c.if-is_too_early.false)
     (sym (c.is_refused_write.ensures s h bare) ∙ c.if-is_refused_write.false)
     (sym (c.fails_test.ensures s h) ∙ c.if-fails_test.false)
@@ -35,7 +37,7 @@ returns-then-lacks_response c =
 pub returns-then-has_other_response : goal.returns-then-has_other_response
 returns-then-has_other_response c =
     λ s h bare.
-    now_told s c.args.unit c.args.cdb.now false false false false true _
+    now_told s c.args.unit c.args.expected c.args.cdb.now false false false false true _
     (sym (c.is_too_early.ensures s h) ∙ c.if-is_too_early.false)
     (sym (c.is_refused_write.ensures s h bare) ∙ c.if-is_refused_write.false)
     (sym (c.fails_test.ensures s h) ∙ c.if-fails_test.false)
@@ -45,21 +47,21 @@ returns-then-has_other_response c =
 pub returns-then-is_crowded : goal.returns-then-is_crowded
 returns-then-is_crowded c =
     λ s h bare.
-    now_told s c.args.unit c.args.cdb.now false false false false false true
+    now_told s c.args.unit c.args.expected c.args.cdb.now false false false false false true
     (sym (c.is_too_early.ensures s h) ∙ c.if-is_too_early.false)
     (sym (c.is_refused_write.ensures s h bare) ∙ c.if-is_refused_write.false)
     (sym (c.fails_test.ensures s h) ∙ c.if-fails_test.false)
     (sym (c.lacks_response.ensures s bare) ∙ c.if-lacks_response.false)
     (sym (c.has_other_response.ensures s bare) ∙ c.if-has_other_response.false)
-    (sym (c.is_crowded.ensures s h bare) ∙ c.if-is_crowded.true)
+    (ap (is_crowded s) (sym c.brought.ensures) ∙ sym (c.is_crowded.ensures s h bare) ∙ c.if-is_crowded.true)
 
 pub returns : goal.returns
 returns c =
     λ s h bare.
-    now_told s c.args.unit c.args.cdb.now false false false false false false
+    now_told s c.args.unit c.args.expected c.args.cdb.now false false false false false false
     (sym (c.is_too_early.ensures s h) ∙ c.if-is_too_early.false)
     (sym (c.is_refused_write.ensures s h bare) ∙ c.if-is_refused_write.false)
     (sym (c.fails_test.ensures s h) ∙ c.if-fails_test.false)
     (sym (c.lacks_response.ensures s bare) ∙ c.if-lacks_response.false)
     (sym (c.has_other_response.ensures s bare) ∙ c.if-has_other_response.false)
-    (sym (c.is_crowded.ensures s h bare) ∙ c.if-is_crowded.false)
+    (ap (is_crowded s) (sym c.brought.ensures) ∙ sym (c.is_crowded.ensures s h bare) ∙ c.if-is_crowded.false)
