@@ -14,6 +14,7 @@ _ufstool_words() {
     report-luns) echo "--select --allocation $command" ;;
     test-unit-ready | read-capacity) echo "$command" ;;
     nop) echo '--task --help' ;;
+    hardware-reset | link-reset) echo '--help' ;;
     data-out) echo '--unit --task --offset --bytes --fill --help' ;;
     unmap) echo '--address --blocks --unit --task --help' ;;
     abort-task | query-task) echo '--meant --unit --task --help' ;;
@@ -33,7 +34,7 @@ _ufstool_words() {
 
 _ufstool() {
     local current=${COMP_WORDS[COMP_CWORD]} words=
-    local messages='read6 write6 read10 write10 unmap synchronize-cache flush test-unit-ready request-sense read-capacity read-capacity-16 inquiry report-luns mode-sense mode-sense-6 report-operations prefetch send-diagnostic nop data-out abort-task abort-task-set clear-task-set reset-unit query-task query-task-set read-device-descriptor read-unit-descriptor read-boot-lun-en write-boot-lun-en read-flag set-flag clear-flag toggle-flag rpmb-key rpmb-write rpmb-read rpmb-counter rpmb-result'
+    local messages='read6 write6 read10 write10 unmap synchronize-cache flush test-unit-ready request-sense read-capacity read-capacity-16 inquiry report-luns mode-sense mode-sense-6 report-operations prefetch send-diagnostic nop hardware-reset link-reset data-out abort-task abort-task-set clear-task-set reset-unit query-task query-task-set read-device-descriptor read-unit-descriptor read-boot-lun-en write-boot-lun-en read-flag set-flag clear-flag toggle-flag rpmb-key rpmb-write rpmb-read rpmb-counter rpmb-result'
     COMPREPLY=()
     if [ "$COMP_CWORD" -eq 1 ]; then
         words='explain host draw help --help --version'

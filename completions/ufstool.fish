@@ -1,8 +1,8 @@
 # Completion of ufstool in fish.
 set -l messages read6 write6 read10 write10 unmap synchronize-cache flush test-unit-ready \
     request-sense read-capacity read-capacity-16 inquiry report-luns mode-sense mode-sense-6 \
-    report-operations prefetch send-diagnostic nop data-out abort-task abort-task-set \
-    clear-task-set reset-unit query-task query-task-set read-device-descriptor \
+    report-operations prefetch send-diagnostic nop hardware-reset link-reset data-out abort-task \
+    abort-task-set clear-task-set reset-unit query-task query-task-set read-device-descriptor \
     read-unit-descriptor read-boot-lun-en write-boot-lun-en read-flag set-flag clear-flag \
     toggle-flag rpmb-key rpmb-write rpmb-read rpmb-counter rpmb-result
 set -l commands read6 write6 read10 write10 synchronize-cache flush test-unit-ready request-sense read-capacity \

@@ -418,6 +418,16 @@ uint32_t ufs_task_management(uint8_t lun, uint8_t tag, uint8_t function, uint8_t
 /* Writes a NOP OUT (JESD220, 10.7.11), of UFS_HEADER_BYTES bytes. */
 uint32_t ufs_nop(uint8_t tag, uint8_t *into, size_t room);
 
+/*
+ * Writes a LINK EVENT, of UFS_HEADER_BYTES bytes. With it whatever stands between a host and a device
+ * of profile 1 tells the device of a reset: `kind` is 1 for a hardware reset, 2 for a reset of the
+ * link or of the host's controller. It has no task tag and no reply: all tasks and exchanges end, and
+ * each LUN has an attention. A device of profile 0 takes none.
+ *
+ * UFS_BAD_NUMBER where there is no such kind. `into` stays as it is then.
+ */
+uint32_t ufs_link_event(uint8_t kind, uint8_t *into, size_t room);
+
 /* A RESPONSE (JESD220, 10.7.2). Without sense data the sense key, the additional sense code and its
  * qualifier are 0. */
 typedef struct ufs_answer {

@@ -95,8 +95,8 @@ def checked(number: int, most: int) -> int:
 class Device:
     """A device with its dies in memory.
 
-    All calls come from the thread that opened it, else they raise `RuntimeError`. Close it, or use it in a `with`. The package's own exchanges have
-    the task tags 80h to FFh: for messages of your own use those below.
+    All calls come from the thread that opened it, else they raise `RuntimeError`. Close it, or use it in a `with`. The
+    package's own exchanges have the task tags 80h to FFh: for messages of your own use those below.
     """
 
     def __init__(self, dies: int = 2, blocks: int = 24, pages: int = 16, units: Sequence[UnitLike] = (64,),
@@ -255,6 +255,14 @@ class Device:
             raise lib.fault(BAD_NUMBER)
         return die
 
+    def link_event(self, reset: messages.Reset = messages.Reset.LINK) -> None:
+        """Tells a device of profile 1 of a reset: its tasks and exchanges end, and each LUN has an attention.
+
+        A device of profile 0 has no such message, and raises `MessageFault`.
+        """
+        self.host(messages.link_event(reset))
+        self._kept.clear()
+
     # Whole exchanges
 
     def make_ready(self) -> None:
@@ -284,9 +292,9 @@ class Device:
     def end_attentions(self) -> None:
         """Ends the attention of each LUN, well-known ones too: a TEST UNIT READY meets it, where there is one.
 
-        On a device of profile 1 each LUN has an attention after each opening, and after a logical unit reset of it,
-        which a caller may ask for by `host`. The first command to the LUN is refused by 6/29/00 then, but for
-        INQUIRY, REPORT LUNS and REQUEST SENSE. The device has to have mended.
+        On a device of profile 1 each LUN has an attention after each opening, after a `link_event`, and after a logical
+        unit reset of it, which a caller may ask for by `host`. The first command to the LUN is refused by 6/29/00 then,
+        but for INQUIRY, REPORT LUNS and REQUEST SENSE. The device has to have mended.
         """
         if self.profile:
             for lun in (*range(len(self.units)), *messages.WELL_KNOWN_LUNS):
@@ -327,11 +335,14 @@ class Device:
         return FIRST_TAG + self._next_tag
 
     def _hear(self, tag: int) -> Reply:
-        """The next reply with this tag. The dies work until it is due; replies with other tags are kept."""
+        """The next reply with this tag. The dies work until it is due; other replies are kept.
+
+        Task management has tags of its own, so that its answers are none of these.
+        """
         for _ in range(MOST_ROUNDS):
             message = self._reply()
             while message is not None:
-                if message[3] == tag:
+                if message[3] == tag and message[0] != messages.Code.TASK_RESPONSE:
                     return messages.read_reply(message)
                 self._kept.append(message)
                 message = self._reply()

@@ -28,11 +28,20 @@ class Code(enum.IntEnum):
     COMMAND = 0x01
     DATA_OUT = 0x02
     QUERY_REQUEST = 0x16
+    LINK_EVENT = 0x1F
     NOP_IN = 0x20
     RESPONSE = 0x21
     DATA_IN = 0x22
+    TASK_RESPONSE = 0x24
     READY_TO_TRANSFER = 0x31
     QUERY_RESPONSE = 0x36
+
+
+class Reset(enum.IntEnum):
+    """The resets of which a LINK EVENT tells."""
+
+    HARDWARE = 0x01
+    LINK = 0x02
 
 
 class Opcode(enum.IntEnum):
@@ -91,6 +100,11 @@ def query(tag: int, opcode: int, idn: int, *, index: int = 0, length: int = 0, v
     writes = opcode in (Opcode.WRITE_ATTRIBUTE, Opcode.SET_FLAG)
     fields = bytes([opcode, idn, index, 0, 0, 0]) + big(length, 2) + big(value, 4)
     return header(Code.QUERY_REQUEST, 0, tag, fields, function=WRITES if writes else READS)
+
+
+def link_event(reset: Reset) -> bytes:
+    """A LINK EVENT, with which what stands between a host and a device of profile 1 tells of a reset."""
+    return header(Code.LINK_EVENT, 0, 0, b"", function=Reset(reset))
 
 
 def read_reply(message: bytes) -> Reply:

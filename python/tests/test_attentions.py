@@ -1,5 +1,5 @@
 """Attentions, and what is told of LUNs that are not there and of a device that mends. What comes is told by
-docs/FORMATS.md, "Profile 1", by SPC-4 (REQUEST SENSE, sense data) and by SAM-5 (unit attention condition)."""
+docs/PROFILE_1.md, by SPC-4 (REQUEST SENSE, sense data) and by SAM-5 (unit attention condition)."""
 import pytest
 
 from butcherford import CheckCondition, Device, Flag, MessageFault, messages
@@ -132,6 +132,30 @@ def test_a_reset_of_a_unit_sets_it_again(device):
         managed(device, RESET, lun)
         device.end_attentions()
         assert sense_of(device, lun) is None
+
+
+@pytest.mark.parametrize("reset", list(messages.Reset))
+def test_a_reset_of_the_link_sets_it_again(device, reset):
+    """For each LUN, and what was asked before is not answered. A LINK EVENT is a message of profile 1."""
+    device.host(bytes([0, 0, 0, 7]) + bytes(28))
+    device.link_event(reset)
+    assert device.reply() is None
+    for wanted in (ATTENTION, None):
+        assert [sense_of(device, lun) for lun in LUNS] == [wanted] * len(LUNS)
+    with Device(units=UNITS, profile=0) as other, pytest.raises(MessageFault):
+        other.link_event(reset)
+
+
+def test_the_bytes_of_a_link_event():
+    wanted = [bytes([0x1F, 0, 0, 0, 0, kind]) + bytes(26) for kind in (1, 2)]
+    assert [messages.link_event(reset) for reset in messages.Reset] == wanted
+
+
+def test_task_management_has_tags_of_its_own(device):
+    """It may have the tag of a NOP OUT that waits for its answer."""
+    device.host(bytes([0, 0, 0, 7]) + bytes(28))
+    device.host(bytes([0x04, 0, 0, 7, 0, ABORT_TASK_SET]) + bytes(26))
+    assert [device.reply()[:4].hex() for _ in range(2)] == ["20000007", "24000007"]
 
 
 def test_what_sets_none(device):

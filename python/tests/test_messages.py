@@ -35,7 +35,7 @@ def test_unmap_of_guide():
 
 
 def test_cdbs_of_profile_1():
-    """Those of docs/FORMATS.md, "Profile 1", and REPORT SUPPORTED OPERATION CODES of SPC-4."""
+    """Those of docs/PROFILE_1.md, and REPORT SUPPORTED OPERATION CODES of SPC-4."""
     told = [messages.blocks_cdb(messages.READ_16, 0x0102030405060708, 5),
             messages.blocks_cdb(messages.WRITE_16, 9, 128, fua=True),
             messages.blocks_cdb(messages.SYNCHRONIZE_CACHE_16, 0, 0),

@@ -1,4 +1,4 @@
-"""What a unit of profile 1 takes and tells. What comes is told by docs/FORMATS.md, "Profile 1", and by SPC-4."""
+"""What a unit of profile 1 takes and tells. What comes is told by docs/PROFILE_1.md, and by SPC-4."""
 import pytest
 
 from butcherford import (Capacity, CheckCondition, Device, ModePage, Modes, ModeValues, SupportedOperation, UnitNumbers,

@@ -9,8 +9,8 @@ ghost use Rattle.ufs_handle.specs.Exports.{EndsSo, FailsSo, IsJobShown, Numbered
 ghost use Rattle.ufs_handle.specs.Numbers.{answer_number, ended_number, flag_number, heard_number, open_number};
 ghost use Rattle.ufs_handle.specs.Numbers.{reply_number, saved_number, stop_number, taken_number};
 ghost use Rattle.ufs_handle.specs.Steps.{Settles};
-ghost use Rattle.ufs_messages.specs.Commands.{IsAsked, IsFlush, IsFrameWritten, IsLong, IsNop, IsQueryWritten};
-ghost use Rattle.ufs_messages.specs.Commands.{IsRead, IsSecurity, IsTaskRequest, IsUnmap, IsUnmapList, IsWrite};
+ghost use Rattle.ufs_messages.specs.Commands.{IsAsked, IsFlush, IsFrameWritten, IsLinkEvent, IsLong, IsNop};
+ghost use Rattle.ufs_messages.specs.Commands.{IsQueryWritten, IsRead, IsSecurity, IsTaskRequest, IsUnmap, IsUnmapList, IsWrite};
 ghost use Rattle.ufs_messages.specs.Commands.{ReadsFrame, asked_cdb, asked_of, selected_cdb};
 ghost use Rattle.ufs_messages.specs.Written.{IsCommand, IsDataOut, IsMac, ReadsResponse};
 ghost use Rattle.ufs_images.specs.Saved.{IsLength, OpensImage, SavesTo};
@@ -24,8 +24,8 @@ use ufs_handle::{
 use ufs_images::{open_image, put_length, save};
 use ufs_messages::{
     PlainFrame, PlainResponse, get_frame, get_response, put_asking, put_asking_for, put_command,
-    put_data_out, put_flush, put_frame, put_long, put_mac, put_nop, put_query, put_read,
-    put_security, put_task_request, put_unmap, put_unmap_list, put_write,
+    put_data_out, put_flush, put_frame, put_link_event, put_long, put_mac, put_nop, put_query,
+    put_read, put_security, put_task_request, put_unmap, put_unmap_list, put_write,
 };
 use ufs_spec::Asked;
 
@@ -360,6 +360,14 @@ pub extern "C" fn ufs_nop(tag: u8, into: &mut [u8]) -> u32
     ensures { Numbered answer_number result (λ answer. IsNop tag answer into.old into.new) }
 {
     answer_number(&put_nop(tag, into))
+}
+
+/// Writes a LINK EVENT.
+#[unsafe(no_mangle)]
+pub extern "C" fn ufs_link_event(kind: u8, into: &mut [u8]) -> u32
+    ensures { Numbered answer_number result (λ answer. IsLinkEvent kind answer into.old into.new) }
+{
+    answer_number(&put_link_event(kind, into))
 }
 
 /// Writes the COMMAND of a SECURITY PROTOCOL OUT, or else IN.

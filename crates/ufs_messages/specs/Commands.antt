@@ -8,10 +8,10 @@ use Rattle.ufs_spec.specs.Cdbs.{Direction, IsCdb, NoData, SpellsCdb, ToDevice, T
 use Rattle.ufs_spec.specs.Cdbs.{length_of, option_byte, selects_operations}
 use Rattle.ufs_spec.specs.DataOuts.{has_list_header}
 use Rattle.ufs_spec.specs.Frames.{frame_bytes, frame_in}
-use Rattle.ufs_spec.specs.Messages.{is_among}
+use Rattle.ufs_spec.specs.Messages.{IsEventKind, is_among}
 use Rattle.ufs_spec.specs.declared.messages.Asked.{Asked}
 use Rattle.ufs_spec.specs.declared.messages.Message.{Message}
-use Rattle.ufs_spec.specs.declared.messages.Message.TheVariants.{Command, NopOut, QueryRequest, TaskRequest}
+use Rattle.ufs_spec.specs.declared.messages.Message.TheVariants.{Command, LinkEvent, NopOut, QueryRequest, TaskRequest}
 use Rattle.ufs_spec.specs.declared.scsi.Cdb.{Cdb}
 use Rattle.ufs_spec.specs.declared.operations.TheConstants.{FUA, IMMED, INQUIRY, MAINTENANCE_IN, MODE_SENSE_10}
 use Rattle.ufs_spec.specs.declared.operations.TheConstants.{MODE_SENSE_6, PRE_FETCH_16, READ_16, READ_CAPACITY_10}
@@ -233,3 +233,8 @@ IsTaskRequest lun tag function meant answer room into = IsWritten (TaskRequest l
 -- a NOP OUT
 abbrev pub IsNop : ℕ → Result (Unit {0}) Fault → List ℕ → List ℕ → Type 0
 IsNop tag answer room into = IsWritten (NopOut tag) answer room into
+
+-- a LINK EVENT of this kind, where there is such a kind (Messages)
+abbrev pub IsLinkEvent : ℕ → Result (Unit {0}) Fault → List ℕ → List ℕ → Type 0
+IsLinkEvent kind answer room into =
+    IsSaid (IsEventKind kind) (IsWritten (LinkEvent kind) answer room into) answer room into

@@ -5,7 +5,7 @@ ghost use Rattle.ufs_spec.specs.Cdbs.{IsCdb, SpellsCdb, blocks_of, direction_of,
 ghost use Rattle.ufs_spec.specs.Messages.{AreFlags};
 ghost use Rattle.ufs_spec.specs.declared.Cdb.{Cdb};
 ghost use Rattle.ufs_spec.specs.declared.Cdb.TheVariants.{Tell};
-ghost use Rattle.ufs_messages.specs.Commands.{IsAsked, IsCdbWritten, IsFlush, IsLong, IsNop, IsQueryWritten, IsRead};
+ghost use Rattle.ufs_messages.specs.Commands.{IsAsked, IsCdbWritten, IsFlush, IsLinkEvent, IsLong, IsNop, IsQueryWritten, IsRead};
 ghost use Rattle.ufs_messages.specs.Commands.{IsSpelled, IsTaskRequest, IsUnmap, IsUnmapList, IsWrite, asked_cdb};
 ghost use Rattle.ufs_messages.specs.Commands.{flags_of, list_bytes, long_cdb, long_option, query_function};
 ghost use Rattle.ufs_messages.specs.Commands.{selected_cdb, selects_pages, sixteen_bytes};
@@ -14,6 +14,7 @@ use crate::{data_of, put, put_with};
 use scsi_cdb::{bytes_of, length_of};
 use ufs_bytes::{write_u32, write_u64};
 use ufs_handle::Fault;
+use ufs_spec::codes::{HARDWARE_RESET, LINK_RESET};
 use ufs_spec::operations::{
     FUA, IMMED, INQUIRY, MAINTENANCE_IN, MODE_SENSE_6, MODE_SENSE_10, PRE_FETCH_16, READ_16,
     READ_CAPACITY_10, REPORT_LUNS, REQUEST_SENSE, SEND_DIAGNOSTIC, SERVICE_ACTION_IN_16,
@@ -452,4 +453,21 @@ pub fn put_nop(tag: u8, into: &mut [u8]) -> Result<(), Fault>
     ensures { IsNop tag result into.old into.new }
 {
     put(&Message::NopOut { tag }, into)
+}
+
+/// Writes a LINK EVENT, with which whatever stands between a host and a device of profile 1 tells the device
+/// of a reset: kind 1 is a hardware reset, and 2 a reset of the link or of the host's controller.
+///
+/// # Errors
+///
+/// `Number` where there is no such kind, and `Room` where the buffer has fewer than 32 bytes. It stays as it
+/// is then.
+pub fn put_link_event(kind: u8, into: &mut [u8]) -> Result<(), Fault>
+    ensures { IsLinkEvent kind result into.old into.new }
+{
+    if kind == HARDWARE_RESET || kind == LINK_RESET {
+        put(&Message::LinkEvent { kind }, into)
+    } else {
+        Err(Fault::Number)
+    }
 }

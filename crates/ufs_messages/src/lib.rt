@@ -11,7 +11,7 @@ mod commands;
 mod security;
 
 pub use commands::{
-    put_asking, put_asking_for, put_flush, put_long, put_nop, put_query, put_read,
+    put_asking, put_asking_for, put_flush, put_link_event, put_long, put_nop, put_query, put_read,
     put_task_request, put_unmap, put_unmap_list, put_write,
 };
 use rpmb_frame::frames_mac;

@@ -11,10 +11,18 @@ use Rattle.ufs_spec.specs.declared.operations.Told.{Told}
 use Rattle.ufs_spec.specs.declared.operations.Told.TheVariants as told
 use Rattle.ufs_spec.specs.declared.scsi.Cdb.TheVariants as cdb
 use Rattle.ufs_spec.specs.declared.messages.Message.TheVariants.{Command as CommandMessage, NopOut as NopOutMessage}
+use Rattle.ufs_spec.specs.declared.messages.Message.TheVariants.{LinkEvent as LinkEventMessage}
+use Rattle.ufstool.specs.declared.host.LinkReset.{LinkReset}
+use Rattle.ufstool.specs.declared.host.LinkReset.TheVariants.{Hardware, Link}
 use Rattle.ufstool.specs.HostQueries.{query_asked, query_spelled}
 use Rattle.ufstool.specs.HostTasks.{task_spelled}
 use Rattle.ufstool.specs.declared.host.HostMessage.{HostMessage}
-use Rattle.ufstool.specs.declared.host.HostMessage.TheVariants.{NopOut, Command, DataOut, Query, Tasks}
+use Rattle.ufstool.specs.declared.host.HostMessage.TheVariants.{NopOut, Command, DataOut, LinkEvent, Query, Tasks}
+
+-- the kind of a LINK EVENT: 01h of a hardware reset, 02h of a reset of the link or the controller
+abbrev pub event_kind : LinkReset → ℕ
+event_kind Hardware = 0x01
+event_kind Link = 0x02
 
 -- the flags of a COMMAND: no data, a write, or a read (JESD220, 10.7.1)
 abbrev pub flags_of : Direction → ℕ
@@ -65,6 +73,7 @@ bytes_wanted (DataOut unit task offset count fill) =
     ++ replicate count fill ++ zeros (padding count)
 bytes_wanted (Query task query) = query_spelled task (query_asked query)
 bytes_wanted (Tasks unit task call) = task_spelled unit task call
+bytes_wanted (LinkEvent reset) = spelling (LinkEventMessage (event_kind reset))
 
 -- the line of a script that hands a device these bytes, in hexadecimal digits
 abbrev pub line_of : List ℕ → List ℕ

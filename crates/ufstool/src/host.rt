@@ -10,7 +10,7 @@ ghost use Rattle.ufstool.specs.HostCdbs.{host_bytes, meaning};
 ghost use Rattle.ufstool.specs.HostMessages.{asked_lines, bytes_wanted, host_spelled};
 ghost use Rattle.ufstool.specs.HostMessages.{expected_of, flags_of, line_of, most_of, most_told};
 ghost use Rattle.ufs_spec.specs.declared.messages.Message.TheVariants.{Command as CommandMessage};
-ghost use Rattle.ufstool.specs.declared.host.HostMessage.TheVariants.{DataOut, NopOut};
+ghost use Rattle.ufstool.specs.declared.host.HostMessage.TheVariants.{DataOut, LinkEvent, NopOut};
 
 use crate::host_cdbs::HostCdb;
 use crate::queries::{HostQuery, query_message};
@@ -20,6 +20,7 @@ use std::alloc::{AllocError, Global};
 use std::io;
 use std::io::Write;
 use thiserror::Error;
+use ufs_spec::codes::{HARDWARE_RESET, LINK_RESET};
 use ufs_spec::{Cdb, Data, Message, Told, Upiu};
 
 /// A message that a line can be written for.
@@ -56,6 +57,19 @@ pub enum HostMessage {
         task: u8,
         call: TaskCall,
     },
+    /// LINK EVENT.
+    LinkEvent {
+        reset: LinkReset,
+    },
+}
+
+/// A reset of which a LINK EVENT tells.
+#[derive(Clone, Copy)]
+pub enum LinkReset {
+    /// A hardware reset.
+    Hardware,
+    /// A reset of the link or of the host's controller.
+    Link,
 }
 
 /// Why a line cannot be written.
@@ -159,6 +173,7 @@ pub fn message_of(wanted: &HostMessage) -> Result<Message, LineFault>
         } => data_out_of(unit, task, offset, count, fill),
         HostMessage::Query { task, query } => Ok(query_message(task, query)),
         HostMessage::Tasks { unit, task, call } => Ok(task_message(unit, task, call)),
+        HostMessage::LinkEvent { reset } => Ok(event_message(reset)),
     }
 }
 
@@ -168,6 +183,18 @@ fn nop_message(tag: u8) -> Message
     ensures bytes { spelling result ≡ bytes_wanted (NopOut tag) }
 {
     Message::NopOut { tag }
+}
+
+// The LINK EVENT of this reset.
+fn event_message(reset: LinkReset) -> Message
+    ensures message { IsMessage result }
+    ensures bytes { spelling result ≡ bytes_wanted (LinkEvent reset) }
+{
+    let kind = match reset {
+        LinkReset::Hardware => HARDWARE_RESET,
+        LinkReset::Link => LINK_RESET,
+    };
+    Message::LinkEvent { kind }
 }
 
 // The COMMAND, if its bytes are read as this command again.

@@ -32,7 +32,7 @@ mod unmap;
 
 pub use digits::spelled;
 pub use frame_lines::explain_frames;
-pub use host::{HostMessage, LineFault, host_line, message_of, write_host_line};
+pub use host::{HostMessage, LineFault, LinkReset, host_line, message_of, write_host_line};
 pub use host_cdbs::HostCdb;
 pub use images::explain_image;
 pub use laws::{a_list_is_read_again, a_list_is_refused_for_a_field};

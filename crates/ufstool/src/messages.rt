@@ -1,7 +1,7 @@
 //! Messages in words.
 use crate::commands::write_command;
 use crate::names::{
-    additional_sense_name, known_unit_name, sense_key_name, service_name, status_name,
+    additional_sense_name, event_name, known_unit_name, sense_key_name, service_name, status_name,
     task_function_name,
 };
 use crate::query_words;
@@ -19,6 +19,9 @@ const SHOWN_BYTES: usize = 18;
 
 impl fmt::Display for MessageWords<'_> {
     fn fmt<W: fmt::Write>(&self, f: &mut fmt::Formatter<W>) -> fmt::Result {
+        if let Message::LinkEvent { kind } = self.0 {
+            return write_event(f, *kind);
+        }
         let (name, tag) = head_of(self.0);
         write!(f, "{name} task {tag:02X}h")?;
         if let Some(lun) = lun_of(self.0) {
@@ -29,7 +32,13 @@ impl fmt::Display for MessageWords<'_> {
     }
 }
 
-// The name of a message with its transaction code, and its task tag.
+// A LINK EVENT, which has no task tag.
+fn write_event<W: fmt::Write>(f: &mut fmt::Formatter<W>, kind: u8) -> fmt::Result {
+    let name = event_name(kind);
+    write!(f, "LINK EVENT (1Fh): {name} ({kind:02X}h)")
+}
+
+// The name of a message with its transaction code, and its task tag; 0, if it has none.
 fn head_of(message: &Message) -> (&'static str, u8) {
     match message {
         Message::NopOut { tag } => ("NOP OUT (00h)", *tag),
@@ -43,6 +52,7 @@ fn head_of(message: &Message) -> (&'static str, u8) {
         Message::TaskResponse { tag, .. } => ("TASK MANAGEMENT RESPONSE (24h)", *tag),
         Message::QueryRequest { tag, .. } => ("QUERY REQUEST (16h)", *tag),
         Message::QueryResponse { tag, .. } => ("QUERY RESPONSE (36h)", *tag),
+        Message::LinkEvent { .. } => ("LINK EVENT (1Fh)", 0),
     }
 }
 

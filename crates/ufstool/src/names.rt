@@ -173,6 +173,16 @@ pub fn task_function_name(function: u8) -> &'static str {
     name_in(&TASK_FUNCTIONS, function).unwrap_or("a function without a name")
 }
 
+const EVENTS: [(u8, &str); 2] = [
+    (0x01, "hardware reset"),
+    (0x02, "reset of the link or the controller"),
+];
+
+/// The name of a kind of LINK EVENT.
+pub fn event_name(kind: u8) -> &'static str {
+    name_in(&EVENTS, kind).unwrap_or("a kind without a name")
+}
+
 const SERVICES: [(u8, &str); 5] = [
     (0x00, "FUNCTION COMPLETE"),
     (0x04, "FUNCTION NOT SUPPORTED"),

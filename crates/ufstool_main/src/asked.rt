@@ -3,7 +3,7 @@ use crate::query_calls::read_query;
 use crate::unit_calls::{read_tasks, read_unmap};
 use clap::ArgMatches;
 use die_map::Form;
-use ufstool::{HostCdb, HostMessage, HostUnmap, RpmbRequest, spelled};
+use ufstool::{HostCdb, HostMessage, HostUnmap, LinkReset, RpmbRequest, spelled};
 
 /// What the program is asked to do.
 #[derive(Clone, Copy)]
@@ -218,6 +218,12 @@ fn read_host(name: &str, matches: &ArgMatches<'_>) -> Result<HostMessage, WordFa
     }
     match name {
         "nop" => Ok(HostMessage::NopOut { task }),
+        "hardware-reset" => Ok(HostMessage::LinkEvent {
+            reset: LinkReset::Hardware,
+        }),
+        "link-reset" => Ok(HostMessage::LinkEvent {
+            reset: LinkReset::Link,
+        }),
         "data-out" => Ok(HostMessage::DataOut {
             unit: byte_in(matches, "unit"),
             task,

@@ -116,6 +116,18 @@ fn with_others<'a>(alloc: Global, host: Made<'a>) -> Made<'a> {
     let host = with(host, plain(alloc, "read-capacity", "READ CAPACITY(10)"));
     let host = with_inquiries(alloc, host);
     let host = with(host, nop(alloc));
+    let host = with(
+        host,
+        reset(alloc, "hardware-reset", "LINK EVENT: hardware reset"),
+    );
+    let host = with(
+        host,
+        reset(
+            alloc,
+            "link-reset",
+            "LINK EVENT: reset of the link or the controller",
+        ),
+    );
     with(host, data_out(alloc))
 }
 
@@ -167,6 +179,11 @@ fn request_sense<'a>(alloc: Global) -> Made<'a> {
         .value_parser(value_parser!(u8))
         .default_value("18");
     with_arg(plain(alloc, "request-sense", "REQUEST SENSE"), allocation)
+}
+
+// A LINK EVENT, which has no task.
+fn reset<'a>(alloc: Global, name: &'a str, about: &'a str) -> Made<'a> {
+    Ok(Command::new(alloc, name).about(about))
 }
 
 fn nop<'a>(alloc: Global) -> Made<'a> {

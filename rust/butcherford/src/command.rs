@@ -17,6 +17,7 @@ const LUN_DEVICE: u8 = 0xD0;
 /// The well-known units: REPORT LUNS, BOOT, RPMB, and the device as a whole.
 const WELL_KNOWN_LUNS: [u8; 4] = [0x81, 0xB0, 0xC4, LUN_DEVICE];
 const DATA_IN: u8 = 0x22;
+const TASK_MANAGEMENT_RESPONSE: u8 = 0x24;
 const READY_TO_TRANSFER: u8 = 0x31;
 const CHECK_CONDITION: u8 = 0x02;
 const BUSY: u8 = 0x08;
@@ -120,7 +121,9 @@ impl Device {
         self.last_tag
     }
 
-    /// The next reply with this tag. The dies work until it is due; replies with other tags are kept.
+    /// The next reply with this tag. The dies work until it is due; other replies are kept.
+    ///
+    /// Task management has tags of its own, so that its answers are none of these.
     fn hear(&mut self, tag: u8) -> Result<Vec<u8>> {
         for _ in 0..MOST_ROUNDS {
             if let Some(reply) = self.due_reply(tag)? {
@@ -134,7 +137,7 @@ impl Device {
     /// A reply with this tag, if one is due.
     fn due_reply(&mut self, tag: u8) -> Result<Option<Vec<u8>>> {
         while let Some(reply) = self.next_reply()? {
-            if reply.get(3) == Some(&tag) {
+            if reply.get(3) == Some(&tag) && reply.first() != Some(&TASK_MANAGEMENT_RESPONSE) {
                 return Ok(Some(reply));
             }
             self.kept.push_back(reply);
@@ -202,7 +205,9 @@ impl Device {
     /// one.
     ///
     /// On a device of profile 1 each LUN has an attention after each opening, also after a
-    /// [`stop`](Device::stop), and after a logical unit reset of it, for which a caller may ask by
+    /// [`stop`](Device::stop), after a
+    /// [`messages::link_event`](crate::messages::link_event), and after a logical unit reset of it, for
+    /// which a caller may ask by
     /// [`messages::task_management`](crate::messages::task_management). The first command to the LUN is
     /// refused by 6/29/00 then, but for INQUIRY, REPORT LUNS and REQUEST SENSE. The device has to have
     /// mended.

@@ -378,6 +378,27 @@ pub fn nop(tag: u8) -> Result<[u8; HEADER_BYTES]> {
     written(|into, room| unsafe { sys::ufs_nop(tag, into, room) })
 }
 
+/// A reset of which a LINK EVENT tells.
+#[derive(Clone, Copy, Debug, PartialEq, Eq, Hash)]
+pub enum LinkReset {
+    /// A hardware reset: units that are protected until the next power cycle are so no more.
+    Hardware = 1,
+    /// A reset of the link or of the host's controller.
+    Link = 2,
+}
+
+/// A LINK EVENT, with which whatever stands between a host and a device of profile 1 tells the device of a
+/// reset. It has no task tag and no reply: all tasks and exchanges end, and each LUN has an attention. A
+/// device of profile 0 takes none.
+///
+/// # Errors
+///
+/// None: the room is as long as the message.
+pub fn link_event(reset: LinkReset) -> Result<[u8; HEADER_BYTES]> {
+    // SAFETY: as in `read`.
+    written(|into, room| unsafe { sys::ufs_link_event(reset as u8, into, room) })
+}
+
 /// What a RESPONSE says (JESD220, 10.7.2). The sense key, code and qualifier are 0 where there are no
 /// sense data.
 #[derive(Clone, Copy, Debug, Default, PartialEq, Eq, Hash)]

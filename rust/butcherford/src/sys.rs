@@ -188,6 +188,7 @@ extern "C" {
         room: usize,
     ) -> u32;
     pub fn ufs_nop(tag: u8, into: *mut u8, room: usize) -> u32;
+    pub fn ufs_link_event(kind: u8, into: *mut u8, room: usize) -> u32;
     pub fn ufs_response(reply: *const u8, length: usize, answer: *mut AnswerRow) -> u32;
     pub fn ufs_rpmb_mac(
         key: *const u8,

@@ -1,9 +1,10 @@
 //! Attentions, and what is told of LUNs that are not there and of a device that mends. What comes is told
-//! by docs/FORMATS.md, "Profile 1", by SPC-4 (REQUEST SENSE, sense data) and by SAM-5 (unit attention
-//! condition).
+//! by docs/PROFILE_1.md, by SPC-4 (REQUEST SENSE, sense data) and by SAM-5 (unit attention condition).
 mod common;
 
-use butcherford::messages::{command, query, response, task_management, Direction, Query};
+use butcherford::messages::{
+    command, link_event, nop, query, response, task_management, Direction, LinkReset, Query,
+};
 use butcherford::{Config, Data, Device, Error, Unit};
 use common::{bytes, hex, ready_with};
 
@@ -193,6 +194,32 @@ fn a_reset_of_a_unit_sets_it_again() {
         assert_eq!(managed(&mut device, ABORT_TASK_SET, lun), 0x00);
         assert_eq!(managed(&mut device, LOGICAL_UNIT_RESET, 2), 0x09);
         assert_eq!(all_ready(&mut device), good());
+    }
+}
+
+/// A LINK EVENT sets it for each LUN, whatever the reset. Nothing that was asked before is answered.
+#[test]
+fn a_reset_of_the_link_sets_it_again() {
+    for reset in [LinkReset::Hardware, LinkReset::Link] {
+        let mut device = ready_with(&profile_1(), &UNITS);
+        device.host(&nop(7).unwrap()).unwrap();
+        device.host(&link_event(reset).unwrap()).unwrap();
+        assert_eq!(device.reply(), Ok(None));
+        assert_eq!(all_ready(&mut device), refused());
+        assert_eq!(all_ready(&mut device), good());
+    }
+}
+
+/// Task management has tags of its own: it may have the tag of a NOP OUT that waits for its answer.
+#[test]
+fn task_management_has_tags_of_its_own() {
+    let mut device = ready_with(&profile_1(), &UNITS);
+    device.host(&nop(7).unwrap()).unwrap();
+    let request = task_management(0, 7, ABORT_TASK_SET, 0).unwrap();
+    device.host(&request).unwrap();
+    for code in [0x20, 0x24] {
+        let reply = device.reply().unwrap().expect("an answer");
+        assert_eq!((reply[0], reply[3]), (code, 7));
     }
 }
 

@@ -2,8 +2,8 @@
 mod common;
 
 use butcherford::messages::{
-    ask, ask_for, flush, flush_16, nop, prefetch_16, query, read, read_16, task_management, unmap,
-    unmap_list, write, write_16,
+    ask, ask_for, flush, flush_16, link_event, nop, prefetch_16, query, read, read_16,
+    task_management, unmap, unmap_list, write, write_16, LinkReset,
 };
 use butcherford::messages::{command, data_out, response, Answer, Direction, Operation, Query};
 use butcherford::messages::{
@@ -100,7 +100,7 @@ fn commands_of_the_device() {
     }
 }
 
-/// Those of profile 1, each with the CDB of docs/FORMATS.md, "Profile 1", or of SPC-4.
+/// Those of profile 1, each with the CDB of docs/PROFILE_1.md, or of SPC-4.
 #[test]
 fn commands_of_profile_1() {
     let modes = (ModePages::AllWithSubpages, ModeValues::Changeable);
@@ -210,6 +210,14 @@ fn short_exchanges() {
         (
             nop(7),
             "0000000700000000000000000000000000000000000000000000000000000000",
+        ),
+        (
+            link_event(LinkReset::Hardware),
+            "1f00000000010000000000000000000000000000000000000000000000000000",
+        ),
+        (
+            link_event(LinkReset::Link),
+            "1f00000000020000000000000000000000000000000000000000000000000000",
         ),
     ];
     for (told, wanted) in cases {
