@@ -1,7 +1,8 @@
 """The front: it hands the messages of a UFS host controller to the device, and the answers to the controller.
 
-A message goes to the device as it is, and its answer comes back as it is, attentions of a LUN too. Only task
-management has tags of its own, 0 to 7, which commands use too, so they are mapped.
+A message goes to the device as it is, and its answer comes back as it is, attentions of a LUN too. The device has
+profile 1, where task management has tags of its own, as it has in Linux. A reset of the controller goes to the device
+as a LINK EVENT, which no host sends.
 
 The dies work when a command waits for them, when much is only in the write cache, and when the host is quiet.
 So what was not flushed is lost in a power cut, as with a device that has a write cache.
@@ -18,7 +19,7 @@ from butcherford.messages import BUSY, UNMAP, Code, big, data_out, header, numbe
 
 from dies import Dies
 from transfers import Memory, Status, Transfer, TransferFault, gather, scatter
-from ufshci import MANAGEMENT_SLOTS, SLOTS, Controller
+from ufshci import SLOTS, Controller
 from vhost_user import PeerFault
 
 TAG_AT, LUN_AT, CDB_AT = 3, 2, 16
@@ -26,10 +27,11 @@ TAG_AT, LUN_AT, CDB_AT = 3, 2, 16
 UNMAPPED_AT = 16
 ABORT_TASK = 0x01
 TASK_MANAGEMENT_REQUEST = 0x04
-# The tags of the host's task management are mapped to the second range, and the front's own requests have the
-# third one. The package `butcherford` uses 80h and above.
+# What a host sends in its list of transfers.
+HANDED_ON = (Code.NOP_OUT, Code.COMMAND, Code.QUERY_REQUEST)
+# The tags of the host's commands, and those of the front's own requests of task management. The package `butcherford`
+# uses 80h and above.
 HOST_TAGS = range(SLOTS)
-MANAGEMENT_TAGS = range(0x40, 0x40 + MANAGEMENT_SLOTS)
 OWN_TAGS = range(0x60, 0x80)
 # So long the dies work before the host's reads of registers are looked at again.
 WORK_SECONDS = 0.002
@@ -46,6 +48,7 @@ class Front:
         self._memory = memory
         self._most_kept = most_kept
         self._open: Dict[int, Transfer] = {}
+        # The slots of the requests of task management, by their tags.
         self._managed: Dict[int, int] = {}
         self._own_tags: Iterator[int] = itertools.cycle(OWN_TAGS)
         self._kept = 0
@@ -55,6 +58,9 @@ class Front:
 
     def begin(self, transfer: Transfer) -> None:
         """A transfer begins: it goes to the device."""
+        code = transfer.request[0]
+        if code not in HANDED_ON:
+            raise TransferFault(Status.INVALID_COMMAND_TABLE, f"no transfer has the transaction code {code:02X}h")
         if transfer.tag not in HOST_TAGS:
             text = f"the task tag is {transfer.tag}, and has to be below {SLOTS}"
             raise TransferFault(Status.INVALID_COMMAND_TABLE, text)
@@ -66,15 +72,17 @@ class Front:
         self._open[transfer.tag] = transfer
 
     def manage(self, slot: int, request: bytes) -> None:
-        """A task management request (JESD220, 10.7.6) goes to the device under a tag that no command has."""
-        tag = MANAGEMENT_TAGS[slot]
+        """A task management request (JESD220, 10.7.6) goes to the device."""
+        tag = request[TAG_AT]
         try:
-            self._device.host(with_tag(request, tag))
-        except MessageFault as fault:
+            if request[0] != TASK_MANAGEMENT_REQUEST or tag in OWN_TAGS:
+                raise TransferFault(Status.INVALID_COMMAND_TABLE, f"code {request[0]:02X}h, tag {tag:02X}h")
+            self._device.host(request)
+        except (MessageFault, TransferFault) as fault:
             print(f"front: the device takes no such task management request: {fault}", file=sys.stderr)
             self._controller.finish_management(slot, b"", Status.INVALID_COMMAND_TABLE)
             return
-        self._managed[tag] = request[TAG_AT]
+        self._managed[tag] = slot
 
     def drop(self, slot: int) -> None:
         """The host wants no end of the transfer in this slot: the device aborts it, if it still has it."""
@@ -82,13 +90,10 @@ class Front:
             self._abort(transfer)
 
     def reset(self) -> None:
-        """The controller was reset: the device aborts what is open, and no answer is handed on."""
-        opened = list(self._open.values())
+        """The controller or the link was reset: all that is open ends in the device, and no answer is handed on."""
         self._open.clear()
         self._managed.clear()
-        for transfer in opened:
-            self._abort(transfer)
-            self._hear_all()
+        self._device.link_event()
 
     def _abort(self, transfer: Transfer) -> None:
         self._open.pop(transfer.tag, None)
@@ -125,9 +130,9 @@ class Front:
     def _hear(self, reply: bytes) -> None:
         """Hands on a reply. That of a transfer that was given up, or of a request of the front, ends here."""
         tag = reply[TAG_AT]
-        if tag in self._managed:
-            request_tag = self._managed.pop(tag)
-            self._controller.finish_management(MANAGEMENT_TAGS.index(tag), with_tag(reply, request_tag))
+        if reply[0] == Code.TASK_RESPONSE:
+            if tag in self._managed:
+                self._controller.finish_management(self._managed.pop(tag), reply)
         elif tag in self._open:
             self._hand_on(self._open[tag], reply)
 
@@ -160,7 +165,3 @@ def kept_by(request: bytes, data: bytes) -> int:
     """How many blocks the write cache has by data that came: one of a WRITE, or all that an UNMAP names."""
     return number_at(data, UNMAPPED_AT, 4) if request[CDB_AT] == UNMAP else 1
 
-
-def with_tag(message: bytes, tag: int) -> bytes:
-    """The message under another task tag."""
-    return message[:TAG_AT] + bytes([tag]) + message[TAG_AT + 1:]

@@ -23,7 +23,8 @@ PACKAGES: Dict[str, Union[Path, str]] = {
     "make": "make", "xz-utils": "xz", "busybox-static": "busybox", "e2fsprogs": "mke2fs",
     "sg3-utils": "sg_raw"}
 # Programs of the guest, and the folder of each. All else is busybox.
-PROGRAMS = {"busybox": "bin", "mke2fs": "sbin", "e2fsck": "sbin", "sg_raw": "usr/bin", "sg_reset": "usr/bin"}
+SG3_UTILS = ("sg_raw", "sg_reset", "sg_vpd", "sg_readcap", "sg_modes", "sg_opcodes", "sg_senddiag", "sg_luns")
+PROGRAMS = {"busybox": "bin", "mke2fs": "sbin", "e2fsck": "sbin", **dict.fromkeys(SG3_UTILS, "usr/bin")}
 SYSTEM_PATH = "/usr/local/sbin:/usr/local/bin:/usr/sbin:/usr/bin:/sbin:/bin"
 EMPTY_FOLDERS = ("proc", "sys", "dev", "mnt", "tmp", "tests", "rpmb")
 PATTERN_BYTES, SEED = 1 << 20, 1

@@ -29,6 +29,8 @@ QUEUE = {"write_cache": ("write back", "Linux flushes the write cache"),
          "discard_max_bytes": (str(MOST_BLOCKS * BLOCK), f"an UNMAP has at most {MOST_BLOCKS} blocks")}
 # How sg_raw ends for CHECK CONDITION with UNIT ATTENTION, and for GOOD (sg3_utils, exit status).
 MET, GOOD = "6", "0"
+# The pages of vital product data: 00h, 80h, 83h, 87h, B0h, B1h and B2h.
+PAGES = 7
 # How many files the work writes, and how many of them stay.
 FILES, KEPT = 80, 20
 # On a busy machine a kernel may take many times longer than on an idle one.
@@ -127,6 +129,19 @@ def show_rpmb(bench: Bench, machine: Machine) -> None:
     count(rpmb_frames.is_first_counter(counter), "RPMB: the write counter is 0, and its MAC is right", run)
 
 
+def show_tools(bench: Bench, machine: Machine) -> None:
+    """The programs of sg3_utils have their answers."""
+    run = bench.boot(machine, "tools", "sg3_utils")
+    bench.tally.count(run.words("vpd") == ["0"] * PAGES, f"sg_vpd shows {PAGES} pages", run)
+    texts = {"capacity": "sg_readcap --16 shows the capacity",
+             "provisioning": "with blocks that are discarded, and read as zeros then",
+             "modes": "sg_modes shows the mode pages", "modes_6": "by MODE SENSE(6) too",
+             "operations": "sg_opcodes shows the commands", "test": "sg_senddiag tests the unit",
+             "luns": "sg_luns shows the units"}
+    for name, text in texts.items():
+        bench.tally.count(run.words(name) == ["0"], text, run)
+
+
 def show_resets(bench: Bench, machine: Machine) -> None:
     """A unit is reset by task management, and the controller by its registers; what was written is there."""
     run = bench.boot(machine, "resets", "resets")
@@ -213,6 +228,7 @@ def show(bench: Bench, cuts: int) -> None:
         show_discard(bench, machine)
         show_file_system(bench, machine)
         show_rpmb(bench, machine)
+        show_tools(bench, machine)
         show_resets(bench, machine)
         image = device.image()
     work = show_work(bench, image)

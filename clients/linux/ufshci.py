@@ -81,6 +81,7 @@ class Uic(enum.IntEnum):
     DME_SET = 0x02
     DME_PEER_GET = 0x03
     DME_PEER_SET = 0x04
+    DME_ENDPOINT_RESET = 0x15
     DME_LINK_STARTUP = 0x16
     DME_HIBERNATE_ENTER = 0x17
     DME_HIBERNATE_EXIT = 0x18
@@ -116,7 +117,7 @@ class Port(Protocol):
         """The host wants no end of the transfer in this slot."""
 
     def reset(self) -> None:
-        """The host wants no end of anything."""
+        """The link or the controller was reset: the host wants no end of anything."""
 
 
 class Controller:
@@ -193,6 +194,8 @@ class Controller:
             side[attribute] = self.read(Register.UCMDARG3)
             if command == Uic.DME_SET and attribute == Attribute.POWER_MODE:
                 told |= self._changed(Interrupt.POWER_MODE)
+        elif command == Uic.DME_ENDPOINT_RESET:
+            self.port.reset()
         elif command == Uic.DME_LINK_STARTUP:
             self._set(Register.HCS, self.read(Register.HCS) | LINK_IS_UP)
         elif command in (Uic.DME_HIBERNATE_ENTER, Uic.DME_HIBERNATE_EXIT):

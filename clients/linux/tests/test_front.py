@@ -1,4 +1,5 @@
 """The front between a controller and a device that keeps what it was told."""
+import dataclasses
 from types import SimpleNamespace
 
 import pytest
@@ -6,7 +7,7 @@ import pytest
 from dies import Cut, Dies, PowerFailed
 from butcherford import Job, JobKind
 from front import Front
-from transfers import Buffer, Status, Transfer
+from transfers import Buffer, Status, Transfer, TransferFault
 
 WRITE = bytes.fromhex("01200001000000000000000000001000 2a000000000000000100000000000000")
 READY = bytes.fromhex("31000001000000000000000000000000 00001000") + bytes(12)
@@ -18,7 +19,9 @@ ATTENTION = bytes.fromhex("21200001000001020000001400001000") + bytes(16) \
     + bytes.fromhex("0012 700006000000000a00000000290000000000")
 # JESD220, 10.7.6 and 10.7.7: abort task, with tag 1 of its own, of the task with tag 1; and its response.
 ABORT = bytes.fromhex("04000001000100000000000000000000 00000001") + bytes(12)
-ABORTED = bytes.fromhex("2400004100000000") + bytes(24)
+ABORTED = bytes.fromhex("2400000100000000") + bytes(24)
+# FORMATS, LINK EVENT: the controller was reset.
+LINK_RESET = bytes.fromhex("1f0000000002") + bytes(26)
 # JESD220, 10.7.9: 255 bytes of the descriptor GEOMETRY (07h), with tag 1; the first four of 72 that come.
 GEOMETRY = bytes.fromhex("16000001000100000000000001070000000000ff") + bytes(12)
 TOLD = bytes.fromhex("3600000100010000000000040107000000000004") + bytes(12) + bytes.fromhex("48070000")
@@ -40,6 +43,10 @@ class Device:
 
     def host(self, message):
         self.heard.append(message)
+
+    def link_event(self):
+        self.heard.append(LINK_RESET)
+        self.replies = []
 
     def reply(self):
         return self.replies.pop(0) if self.replies else None
@@ -141,23 +148,33 @@ def test_a_write_without_memory_ends_and_is_aborted(bench):
 
 
 def test_task_management_has_tags_of_its_own(bench):
-    """Tag 1 is a command's too: the device sees 41h, and the host its own tag."""
+    """Tag 1 is a command's too: the device has both, and answers both."""
+    bench.memory.write(0x12000, b"d" * 4096)
     bench.front.begin(transfer_of([Buffer(0x12000, 4096)]))
     bench.front.manage(1, ABORT)
-    bench.device.replies = [ABORTED]
+    bench.device.replies = [ABORTED, READY, GOOD]
     bench.front.work()
-    assert bench.device.heard[-1] == ABORT[:3] + b"\x41" + ABORT[4:]
-    assert bench.controller.managed == [(1, ABORTED[:3] + b"\x01" + ABORTED[4:], Status.SUCCESS)]
+    assert ABORT in bench.device.heard
+    assert bench.controller.managed == [(1, ABORTED, Status.SUCCESS)]
+    assert bench.controller.ended == [(7, GOOD, Status.SUCCESS)]
 
 
-def test_a_reset_aborts_what_is_open(bench):
-    """What the device still answers is not handed on: the host may have other data there."""
+@pytest.mark.parametrize("code", [0x02, 0x04, 0x1F, 0x20])
+def test_a_transfer_has_a_code_of_a_host(bench, code):
+    transfer = transfer_of([Buffer(0x12000, 4096)])
+    with pytest.raises(TransferFault):
+        bench.front.begin(dataclasses.replace(transfer, request=bytes([code]) + transfer.request[1:]))
+    assert bench.device.heard == []
+
+
+def test_a_reset_ends_what_is_open(bench):
+    """The device hears of it, and answers nothing more."""
     bench.front.begin(transfer_of([Buffer(0x12000, 4096)]))
     bench.device.replies = [READY, GOOD]
     bench.front.reset()
     bench.front.work()
-    assert bench.controller.ended == [] and bench.device.replies == []
-    assert [message[0] for message in bench.device.heard] == [0x01, 0x04]
+    assert bench.controller.ended == []
+    assert bench.device.heard == [WRITE, LINK_RESET]
 
 
 def test_the_power_fails_inside_the_program_that_is_named():
