@@ -35,8 +35,9 @@ from plain_host import MANY, SURE, Model, event_of
 # A script takes a second or two.
 SECONDS = 600
 NAMES = {code: row.name for code, row in plain.ROWS.items()}
-KINDS = {0x00: "NOP OUT", 0x01: "COMMAND", 0x02: "DATA OUT", 0x04: "TASK REQUEST", 0x16: "QUERY", 0x20: "NOP IN",
-         0x21: "RESPONSE", 0x22: "DATA IN", 0x24: "TASK RESPONSE", 0x31: "READY TO TRANSFER", 0x36: "QUERY RESPONSE"}
+KINDS = {0x00: "NOP OUT", 0x01: "COMMAND", 0x02: "DATA OUT", 0x04: "TASK REQUEST", 0x16: "QUERY",
+         plain.LINK_EVENT: "LINK EVENT", 0x20: "NOP IN", 0x21: "RESPONSE", 0x22: "DATA IN", 0x24: "TASK RESPONSE",
+         0x31: "READY TO TRANSFER", 0x36: "QUERY RESPONSE"}
 HEAD = ("config ", "unit ", "profile ")
 # Where a CDB asks for more than blocks, right ones and wrong ones: bytes 1 and on, one of each list.
 ASKED: Dict[int, Tuple[Any, ...]] = {
@@ -210,7 +211,7 @@ class Script:
         self.host(self.near(message) if self.chance(odds) else message)
 
     def tag(self):
-        used = list(self.world.open)
+        used = [it.tag for it in self.world.open.values()]
         if used and self.chance(0.03):
             return self.random.choice(used)
         return self.random.choice([it for it in range(256) if it not in used])
@@ -271,9 +272,14 @@ class Script:
         lun = plain.BOOT if self.chance(0.1) and not writes else unit
         length = 4096 * count
         if writes:
-            self.command(lun, cdb, plain.TO_DEVICE, length + self.random.choice((0, 0, 0, 0, 1, 4096)))
+            self.command(lun, cdb, plain.TO_DEVICE, length + self.random.choice((0, 0, 0, 0, 1, 4096)) -
+                         self.cut(length))
         else:
             self.command(lun, cdb, plain.TO_HOST, self.near_length(length))
+
+    def cut(self, length):
+        """How many bytes fewer than it has come of a WRITE."""
+        return self.random.choice((1, 4096, length)) if length and self.chance(0.08) else 0
 
     def flush(self):
         address, count = (self.random.randrange(1 << it) if self.chance(0.3) else 0 for it in (32, 16))
@@ -336,8 +342,10 @@ class Script:
                     self.say("reply")
 
     def look(self):
-        """What a LUN tells of itself, more than once, at times after it was reset."""
+        """What a LUN tells of itself, more than once, at times after it or the link was reset."""
         lun = self.random.choice(self.luns) if self.chance(0.75) else self.absent()
+        if self.chance(0.15):
+            self.send(header(plain.LINK_EVENT, five=self.random.choice((1, 2))))
         if self.chance(0.4):
             self.send(header(0x04, lun=lun, tag=self.tag(), five=0x08, fields=bytes([0, 0, 0, lun])))
         for _ in range(self.random.randint(2, 3)):

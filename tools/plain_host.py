@@ -1,7 +1,8 @@
 """What a host of the device can see, as a plain model: arrays of blocks, open tasks, registers.
 
-It is written from docs/FORMATS.md and docs/GUIDE.md, not from the code. Where the device is free, as in when a die
-does a job, the model keeps each World that fits what was seen so far; an answer that fits none is a difference.
+It is written from docs/FORMATS.md, docs/PROFILE_1.md and docs/GUIDE.md, not from the code. Where the device is free,
+as in when a die does a job, the model keeps each World that fits what was seen so far; an answer that fits none is a
+difference.
 """
 import copy
 import hashlib
@@ -92,7 +93,9 @@ TIMES = b"\0\x0a" + bytes(10)
 # Of each kind of message the bytes of its header that have to be zero, but for byte 8.
 ZERO_BYTES = {0x00: (1, 2, 4, 5, 6, 7, 9, *range(12, 32)), 0x01: (4, 5, 6, 7, 9),
               0x02: (1, 4, 5, 6, 7, 9, *range(20, 32)), 0x16: (1, 2, 4, 6, 7, 9, 16, 17, *range(24, 32)),
-              0x04: (1, 4, 6, 7, 9, 12, 13, 14, 16, 17, 18, *range(20, 32))}
+              0x04: (1, 4, 6, 7, 9, 12, 13, 14, 16, 17, 18, *range(20, 32)),
+              0x1F: (1, 2, 3, 4, 6, 7, 9, 10, 11, *range(12, 32))}
+LINK_EVENT, HARDWARE = 0x1F, 0x01
 
 
 def bits_of(code, profile):
@@ -142,9 +145,14 @@ def fault_of(message):
         return 5
     flags = message[1] & ~(PRIORITY | ATTRIBUTE)
     is_wrong = {0x01: flags not in (0, TO_DEVICE, TO_HOST), 0x04: message[15] != message[2],
-                0x16: message[5] not in (0x01, 0x81)}
+                0x16: message[5] not in (0x01, 0x81), LINK_EVENT: message[5] not in (0x01, 0x02)}
     reserved = any(message[it] for it in ZERO_BYTES[code]) or any(message[32 + segment:])
     return 6 if reserved or is_wrong.get(code) else 0
+
+
+def number_of(message):
+    """By what an exchange is found: its tag, and 256 more if it is of task management."""
+    return message[3] + 256 * (message[0] in (0x04, 0x24))
 
 
 def by_table(lines):
@@ -203,6 +211,8 @@ class Exchange:
 
     def __init__(self, tag, lun=0, is_task=False, expected=0, code=None):
         self.tag, self.lun, self.is_task, self.expected, self.code = tag, lun, is_task, expected, code
+        # By what it is found.
+        self.number = tag
         self.length = self.sent = self.claim = self.address = self.unit = 0
         # Replies are a message, the group that it waits for, the group that it acknowledges.
         self.replies: Tuple[Any, ...] = ()
@@ -309,7 +319,9 @@ class World:
     def fault(self, message):
         """The fault that `host` tells, or 0."""
         found = fault_of(message)
-        if found:
+        if found in (0, 6) and message[0] == LINK_EVENT and not self.profile:
+            return 5
+        if found or message[0] == LINK_EVENT:
             return found
         code, lun, tag = message[0], message[2], message[3]
         if code == 0x01 and not self.profile and message[1] & (PRIORITY | ATTRIBUTE):
@@ -318,7 +330,8 @@ class World:
         if code == 0x02:
             here = (lun, number(message, 12, 4), number(message, 16, 4))
             return 0 if it and it.asked and here == (it.lun, *it.asked) else 8
-        if it:
+        own = number_of(message)
+        if own in self.open or (not self.profile and own ^ 256 in self.open):
             return 7
         tasks = len(self.tasks())
         is_short = code != 0x01 or tasks == 32
@@ -327,7 +340,8 @@ class World:
     def heard(self, message):
         """The worlds after a message without a fault."""
         self.is_calm = False
-        act = {0x00: self.nop, 0x01: self.command, 0x02: self.data, 0x04: self.manage, 0x16: self.query}[message[0]]
+        act = {0x00: self.nop, 0x01: self.command, 0x02: self.data, 0x04: self.manage, 0x16: self.query,
+               LINK_EVENT: self.reset}[message[0]]
         try:
             act(message)
             return [self]
@@ -338,12 +352,22 @@ class World:
 
     def short(self, message, reply, group=0, held=0):
         it = Exchange(message[3])
+        it.number = number_of(message)
         it.replies = ((reply, group, held),)
-        self.open[it.tag] = it
+        self.open[it.number] = it
         return it
 
     def nop(self, message):
         self.short(message, header(0x20, tag=message[3]))
+
+    def reset(self, message):
+        """All that is open ends without an answer, and each LUN has an attention."""
+        self.open.clear()
+        self.result = self.response = None
+        self.is_asked = False
+        self.attentions = {*range(len(self.units)), *WELL_KNOWN}
+        if message[5] == HARDWARE:
+            self.power_on = 0
 
     def manage(self, message):
         function, lun, tag, meant = message[5], message[2], message[3], message[19]
@@ -359,7 +383,7 @@ class World:
             for it in named if function == 0x01 else of_unit:
                 if it.passed:
                     self.result = self.response = None
-                del self.open[it.tag]
+                del self.open[it.number]
             self.attentions |= {lun} if function == 0x08 else set()
         self.short(message, header(0x24, lun=lun, tag=tag, fields=bytes([0, 0, 0, answer])))
 
@@ -508,7 +532,9 @@ class World:
         if code == UNMAP and it.length not in (0, 8, 24):
             return CHECK, (5, 0x1A, 0)
         sends, flags = code in (*WRITES, UNMAP, SECURITY_OUT), flags & ~(PRIORITY | ATTRIBUTE)
-        if it.length and (flags != (TO_DEVICE if sends else TO_HOST) or sends and it.expected < it.length):
+        is_cut = self.profile and code in WRITES
+        if it.length and (flags != (TO_DEVICE if sends else TO_HOST) or
+                          sends and not is_cut and it.expected < it.length):
             return CHECK, NO_FIELD
         if (moves or code in FETCHES) and it.address + count > self.units[it.unit][0]:
             return CHECK, OUT_OF_RANGE
@@ -558,7 +584,8 @@ class World:
         if code == SECURITY_OUT and any(at.passed for at in self.open.values()):
             return BUSY, None
         listed = most_blocks(self.config) if it.length == 24 else 0
-        claim = count if code in WRITES else {UNMAP: listed, SECURITY_OUT: 3}.get(code, 0)
+        come = min(count, it.expected // BLOCK)
+        claim = come if code in WRITES else {UNMAP: listed, SECURITY_OUT: 3}.get(code, 0)
         if not self.has_slots(claim) if claim else False:
             return BUSY, None
         it.claim = claim
@@ -568,12 +595,14 @@ class World:
         """A command that is not refused."""
         code = it.code
         it.is_durable = code in (WRITE, WRITE16) and bool(cdb[1] & 8)
+        if code in WRITES and it.expected < it.length:
+            it.expected -= it.expected % BLOCK
         size = min(it.length, it.expected)
         if code in READS and size:
             keys = [(it.unit, it.address + at) for at in range((size + BLOCK - 1) // BLOCK)]
             it.blocks = tuple((self.plain.cells[it.unit][at], self.since.get((it.unit, at), 0)) for _, at in keys)
-        elif code in WRITES and it.length:
-            it.wants = tuple((at, BLOCK) for at in range(0, it.length, BLOCK))
+        elif code in WRITES and size:
+            it.wants = tuple((at, BLOCK) for at in range(0, size, BLOCK))
         elif code in (UNMAP, SECURITY_OUT) and it.length:
             it.wants = ((0, it.length),)
             it.passed = code == SECURITY_OUT
@@ -672,7 +701,7 @@ class World:
         elif self.locked():
             it.end(CHECK, WRITE_ERROR, it.length)
         else:
-            contents = [it.data[at:at + BLOCK] for at in range(0, it.length, BLOCK)]
+            contents = [it.data[at:at + BLOCK] for at in range(0, len(it.data), BLOCK)]
             group = self.accept(("blocks", it.unit, it.address, contents), len(contents))
             it.end()
             if it.is_durable:
@@ -821,7 +850,7 @@ class World:
         else:
             it.asked, it.wants = it.wants[0], it.wants[1:]
         if not (it.replies or it.blocks or it.wants or it.asked):
-            del self.open[it.tag]
+            del self.open[it.number]
 
     def heard_nothing(self):
         """No reply was due."""

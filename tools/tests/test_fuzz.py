@@ -13,7 +13,7 @@ WRONG_NAMES = {"PASSING": (plain_host.SENSE, plain_host.INQUIRY), "ANYWHERE": (p
 WRONG_RULES = {"has_attention": lambda world, lun: lun in world.attentions and lun != plain_host.DEVICE,
                "initializing": lambda world, is_set: 0, "has_lun": lambda world, lun: True}
 EXAMPLES = ("abort", "boot_setting", "every_command", "every_command_1", "failing_block", "flush", "gap",
-            "linux_host", "many_tasks", "profile_0", "profile_1", "read_before_write", "rpmb_counter",
+            "link_event", "linux_host", "many_tasks", "profile_0", "profile_1", "read_before_write", "rpmb_counter",
             "stop_in_group", "stop_in_write", "unmap", "write_read")
 
 

@@ -43,6 +43,8 @@ mod rpmb_write_stopped;
 #[cfg(test)]
 mod scripts;
 #[cfg(test)]
+mod short_writes;
+#[cfg(test)]
 mod steps;
 #[cfg(test)]
 mod stops;
