@@ -19,7 +19,7 @@ INSTALLED = $(foreach it,$(PROGRAMS),bin/$(it) share/man/man1/$(it).1 share/bash
 	include/ufs.h include/ufs_dies.h lib/libufs.a lib/pkgconfig/ufs.pc
 
 .PHONY: help demo test prove format install uninstall bench collection peers stress fuzz wrong-bodies check-sees turned-rules \
-	refused-memory power-cycles c-example clients linux price-of-c
+	refused-memory power-cycles c-example clients linux price-of-c discard
 
 help:
 	@echo 'make demo                  shows a write, a read and six stops; builds without proving: about two minutes'
@@ -45,6 +45,8 @@ help:
 	@echo '                           it proves what both need'
 	@echo 'make collection            counts the pages that a device programs for each that is written, once it'
 	@echo '                           collects, and the same of a simulation'
+	@echo 'make discard               counts what the dies do when a whole unit is discarded, and for each write behind'
+	@echo '                           it, after it proves and builds the library for C'
 	@echo 'make peers                 times durable writes and reads of SQLite, LMDB and RocksDB beside one SHA-256;'
 	@echo '                           installs them with apt-get, as root, where they are missing'
 	@echo 'make stress                runs what was built a thousand times with 1 to 8 dies and hosts in threads'
@@ -59,7 +61,7 @@ help:
 
 # Without the kit nothing can be proved or built. Under -q make runs nothing, adds no line of its own,
 # and ends with status 1.
-ifneq ($(filter demo test prove format install bench collection fuzz wrong-bodies check-sees turned-rules refused-memory power-cycles c-example clients linux price-of-c,$(MAKECMDGOALS)),)
+ifneq ($(filter demo test prove format install bench collection fuzz wrong-bodies check-sees turned-rules refused-memory power-cycles c-example clients linux price-of-c discard,$(MAKECMDGOALS)),)
 ifeq ($(shell command -v rt 2>/dev/null),)
 $(shell echo "butcherford: the Rattle kit's command rt is not on the PATH; it is needed to prove and build" >&2)
 MAKEFLAGS += -q
@@ -138,6 +140,9 @@ collection:
 	@python3 tools/collector_simulation.py
 	@python3 tools/collector_simulation.py --blocks 256 --pages 16 --fill 95 100
 	@python3 tools/collector_simulation.py --blocks 256 --pages 16 --slots 288 --fill 100
+
+discard:
+	@python3 -B tools/discard.py
 
 peers:
 	@python3 tools/peers.py
