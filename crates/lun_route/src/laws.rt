@@ -41,10 +41,10 @@ pub fn each_lun_takes_its_commands()
         ≡ 0x00 ∷ 0x03 ∷ 0x12 ∷ 0xA2 ∷ 0xB5 ∷ [] }
     ensures device { (n : Numbers) (serial : ℕ) → codes_taken (with_profile n 0 serial) DeviceUnit
         ≡ 0x00 ∷ 0x03 ∷ 0x12 ∷ 0x35 ∷ [] }
-    // Profile 1 adds the longer forms, PRE-FETCH, SEND DIAGNOSTIC and MODE SENSE.
+    // Profile 1 adds the longer forms, VERIFY, PRE-FETCH, SEND DIAGNOSTIC and MODE SENSE.
     ensures unit_of_more { (n : Numbers) (serial : ℕ) (unit : ℕ) → codes_taken (with_profile n 1 serial) (UnitOf unit)
-        ≡ 0x00 ∷ 0x03 ∷ 0x08 ∷ 0x0A ∷ 0x12 ∷ 0x1A ∷ 0x1D ∷ 0x25 ∷ 0x28 ∷ 0x2A ∷ 0x34
-        ∷ 0x35 ∷ 0x42 ∷ 0x5A ∷ 0x88 ∷ 0x8A ∷ 0x90 ∷ 0x91 ∷ 0xA0 ∷ [] }
+        ≡ 0x00 ∷ 0x03 ∷ 0x08 ∷ 0x0A ∷ 0x12 ∷ 0x1A ∷ 0x1D ∷ 0x25 ∷ 0x28 ∷ 0x2A ∷ 0x2F
+        ∷ 0x34 ∷ 0x35 ∷ 0x42 ∷ 0x5A ∷ 0x88 ∷ 0x8A ∷ 0x90 ∷ 0x91 ∷ 0xA0 ∷ [] }
     ensures report_luns_of_more { (n : Numbers) (serial : ℕ) → codes_taken (with_profile n 1 serial) ReportLunsUnit
         ≡ 0x00 ∷ 0x03 ∷ 0x12 ∷ 0xA0 ∷ [] }
     ensures boot_of_more { (n : Numbers) (serial : ℕ) → codes_taken (with_profile n 1 serial) BootUnit
@@ -180,28 +180,31 @@ pub fn worked_capacity()
 /// What REPORT SUPPORTED OPERATION CODES tells, as worked by hand (SPC). Its selection is bytes 2 to 5 of the
 /// CDB: RCTD and the reporting options, the operation code, and the service action.
 pub fn worked_operations()
-    // All commands: 168 bytes follow, eight for each of 21.
-    ensures all { operations_told 0x00000000 ≡ (0x00 ∷ 0x00 ∷ 0x00 ∷ 0xA8 ∷ [])
+    // All commands: 176 bytes follow, eight for each of 22.
+    ensures all { operations_told 0x00000000 ≡ (0x00 ∷ 0x00 ∷ 0x00 ∷ 0xB0 ∷ [])
         ++ (0x00 ∷ 0 ∷ 0 ∷ 0 ∷ 0 ∷ 0 ∷ 0 ∷ 6 ∷ []) ++ (0x03 ∷ 0 ∷ 0 ∷ 0 ∷ 0 ∷ 0 ∷ 0 ∷ 6 ∷ [])
         ++ (0x08 ∷ 0 ∷ 0 ∷ 0 ∷ 0 ∷ 0 ∷ 0 ∷ 6 ∷ []) ++ (0x0A ∷ 0 ∷ 0 ∷ 0 ∷ 0 ∷ 0 ∷ 0 ∷ 6 ∷ [])
         ++ (0x12 ∷ 0 ∷ 0 ∷ 0 ∷ 0 ∷ 0 ∷ 0 ∷ 6 ∷ []) ++ (0x1A ∷ 0 ∷ 0 ∷ 0 ∷ 0 ∷ 0 ∷ 0 ∷ 6 ∷ [])
         ++ (0x1D ∷ 0 ∷ 0 ∷ 0 ∷ 0 ∷ 0 ∷ 0 ∷ 6 ∷ []) ++ (0x25 ∷ 0 ∷ 0 ∷ 0 ∷ 0 ∷ 0 ∷ 0 ∷ 10 ∷ [])
         ++ (0x28 ∷ 0 ∷ 0 ∷ 0 ∷ 0 ∷ 0 ∷ 0 ∷ 10 ∷ []) ++ (0x2A ∷ 0 ∷ 0 ∷ 0 ∷ 0 ∷ 0 ∷ 0 ∷ 10 ∷ [])
-        ++ (0x34 ∷ 0 ∷ 0 ∷ 0 ∷ 0 ∷ 0 ∷ 0 ∷ 10 ∷ []) ++ (0x35 ∷ 0 ∷ 0 ∷ 0 ∷ 0 ∷ 0 ∷ 0 ∷ 10 ∷ [])
-        ++ (0x42 ∷ 0 ∷ 0 ∷ 0 ∷ 0 ∷ 0 ∷ 0 ∷ 10 ∷ []) ++ (0x5A ∷ 0 ∷ 0 ∷ 0 ∷ 0 ∷ 0 ∷ 0 ∷ 10 ∷ [])
-        ++ (0x88 ∷ 0 ∷ 0 ∷ 0 ∷ 0 ∷ 0 ∷ 0 ∷ 16 ∷ []) ++ (0x8A ∷ 0 ∷ 0 ∷ 0 ∷ 0 ∷ 0 ∷ 0 ∷ 16 ∷ [])
-        ++ (0x90 ∷ 0 ∷ 0 ∷ 0 ∷ 0 ∷ 0 ∷ 0 ∷ 16 ∷ []) ++ (0x91 ∷ 0 ∷ 0 ∷ 0 ∷ 0 ∷ 0 ∷ 0 ∷ 16 ∷ [])
-        ++ (0x9E ∷ 0 ∷ 0 ∷ 0x10 ∷ 0 ∷ 1 ∷ 0 ∷ 16 ∷ []) ++ (0xA0 ∷ 0 ∷ 0 ∷ 0 ∷ 0 ∷ 0 ∷ 0 ∷ 12 ∷ [])
-        ++ (0xA3 ∷ 0 ∷ 0 ∷ 0x0C ∷ 0 ∷ 1 ∷ 0 ∷ 12 ∷ []) }
-    // With RCTD each has twelve more, and CTDP: 420 bytes follow. The first, and the last two.
-    ensures all_timed { take 24 (operations_told 0x80000000) ≡ (0x00 ∷ 0x00 ∷ 0x01 ∷ 0xA4 ∷ [])
+        ++ (0x2F ∷ 0 ∷ 0 ∷ 0 ∷ 0 ∷ 0 ∷ 0 ∷ 10 ∷ []) ++ (0x34 ∷ 0 ∷ 0 ∷ 0 ∷ 0 ∷ 0 ∷ 0 ∷ 10 ∷ [])
+        ++ (0x35 ∷ 0 ∷ 0 ∷ 0 ∷ 0 ∷ 0 ∷ 0 ∷ 10 ∷ []) ++ (0x42 ∷ 0 ∷ 0 ∷ 0 ∷ 0 ∷ 0 ∷ 0 ∷ 10 ∷ [])
+        ++ (0x5A ∷ 0 ∷ 0 ∷ 0 ∷ 0 ∷ 0 ∷ 0 ∷ 10 ∷ []) ++ (0x88 ∷ 0 ∷ 0 ∷ 0 ∷ 0 ∷ 0 ∷ 0 ∷ 16 ∷ [])
+        ++ (0x8A ∷ 0 ∷ 0 ∷ 0 ∷ 0 ∷ 0 ∷ 0 ∷ 16 ∷ []) ++ (0x90 ∷ 0 ∷ 0 ∷ 0 ∷ 0 ∷ 0 ∷ 0 ∷ 16 ∷ [])
+        ++ (0x91 ∷ 0 ∷ 0 ∷ 0 ∷ 0 ∷ 0 ∷ 0 ∷ 16 ∷ []) ++ (0x9E ∷ 0 ∷ 0 ∷ 0x10 ∷ 0 ∷ 1 ∷ 0 ∷ 16 ∷ [])
+        ++ (0xA0 ∷ 0 ∷ 0 ∷ 0 ∷ 0 ∷ 0 ∷ 0 ∷ 12 ∷ []) ++ (0xA3 ∷ 0 ∷ 0 ∷ 0x0C ∷ 0 ∷ 1 ∷ 0 ∷ 12 ∷ []) }
+    // With RCTD each has twelve more, and CTDP: 440 bytes follow. The first, and the last two.
+    ensures all_timed { take 24 (operations_told 0x80000000) ≡ (0x00 ∷ 0x00 ∷ 0x01 ∷ 0xB8 ∷ [])
         ++ (0x00 ∷ 0 ∷ 0 ∷ 0 ∷ 0 ∷ 2 ∷ 0 ∷ 6 ∷ 0x00 ∷ 0x0A ∷ []) ++ zeros 10 }
-    ensures last_timed { drop 384 (operations_told 0x80000000)
+    ensures last_timed { drop 404 (operations_told 0x80000000)
         ≡ (0xA0 ∷ 0 ∷ 0 ∷ 0 ∷ 0 ∷ 2 ∷ 0 ∷ 12 ∷ 0x00 ∷ 0x0A ∷ []) ++ zeros 10
         ++ (0xA3 ∷ 0 ∷ 0 ∷ 0x0C ∷ 0 ∷ 3 ∷ 0 ∷ 12 ∷ 0x00 ∷ 0x0A ∷ []) ++ zeros 10 }
-    // READ(10), of which DPO, FUA and the group number are looked at; INQUIRY with EVPD and a page; UNMAP.
+    // READ(10), of which DPO, FUA and the group number are looked at; VERIFY(10), of which DPO,
+    // the lower bit of BYTCHK and the group number are; INQUIRY with EVPD and a page; UNMAP.
     ensures read { operations_told 0x01280000
         ≡ 0x00 ∷ 0x03 ∷ 0x00 ∷ 0x0A ∷ 0x28 ∷ 0x18 ∷ 0xFF ∷ 0xFF ∷ 0xFF ∷ 0xFF ∷ 0x1F ∷ 0xFF ∷ 0xFF ∷ 0x00 ∷ [] }
+    ensures verify { operations_told 0x012F0000
+        ≡ 0x00 ∷ 0x03 ∷ 0x00 ∷ 0x0A ∷ 0x2F ∷ 0x12 ∷ 0xFF ∷ 0xFF ∷ 0xFF ∷ 0xFF ∷ 0x1F ∷ 0xFF ∷ 0xFF ∷ 0x00 ∷ [] }
     ensures inquiry { operations_told 0x01120000
         ≡ 0x00 ∷ 0x03 ∷ 0x00 ∷ 0x06 ∷ 0x12 ∷ 0x01 ∷ 0xFF ∷ 0xFF ∷ 0xFF ∷ 0x00 ∷ [] }
     ensures unmap { operations_told 0x01420000

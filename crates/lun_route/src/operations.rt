@@ -28,10 +28,10 @@ const NOT_THERE: u8 = 1;
 const AS_STANDARD: u8 = 3;
 
 /// The most bytes that the entries of all commands have: twenty for each row of the table.
-const ENTRIES_LENGTH: usize = 460;
+const ENTRIES_LENGTH: usize = 480;
 
 /// The most bytes that are told: how many the entries have, and the entries.
-const TOLD_LENGTH: usize = 464;
+const TOLD_LENGTH: usize = 484;
 
 /// A command timeouts descriptor that tells no time: ten bytes follow.
 const TIMEOUTS: [u8; 12] = [0x00, 0x0A, 0, 0, 0, 0, 0, 0, 0, 0, 0, 0];
@@ -192,7 +192,7 @@ fn counted(entries: &Entries) -> OperationsTold
 
 // The entries of these rows, of those that a unit takes.
 fn entries_of(rows: &[Row], timed: bool) -> Entries
-    requires { length rows.now ≤ 23 }
+    requires { length rows.now ≤ 24 }
     ensures { result.items ≡ flat_map (command_entry timed) (filter is_unit_row rows.now) }
 {
     let mut entries = ArrayVec::new();
@@ -204,7 +204,7 @@ fn entries_of(rows: &[Row], timed: bool) -> Entries
 
 // Puts the entry of a row behind the others, if a unit takes it.
 fn put_if_taken(entries: &mut Entries, timed: bool, row: &Row)
-    requires { array_vec_len entries.old ≤ 440 }
+    requires { array_vec_len entries.old ≤ 460 }
     ensures entry { entries.new.items ≡ entries.old.items ++ entry_if_taken timed row.now }
     ensures few { array_vec_len entries.new ≤ array_vec_len entries.old + 20 }
 {
@@ -215,7 +215,7 @@ fn put_if_taken(entries: &mut Entries, timed: bool, row: &Row)
 
 // Puts the entry of a row behind the others.
 fn put_entry(entries: &mut Entries, timed: bool, row: &Row)
-    requires { array_vec_len entries.old ≤ 440 }
+    requires { array_vec_len entries.old ≤ 460 }
     ensures entry { entries.new.items ≡ entries.old.items ++ command_entry timed row.now }
     ensures few { array_vec_len entries.new ≤ array_vec_len entries.old + 20 }
 {

@@ -39,7 +39,7 @@ pub use Rattle.ufs_spec.specs.DataOuts.{is_past_unit, is_wrong_descriptor, unmap
 pub use Rattle.ufs_spec.specs.Disk.{Bad, BlockState, Closed, Disk, Erasing, Filling, Flight, Free, Programming, Reading}
 pub use Rattle.ufs_spec.specs.Disk.{Ready, Spot, Stale, Untouched, Vacancy, at_die, erased, job_of, page_of, programmed}
 pub use Rattle.ufs_spec.specs.Disk.{spot_of}
-pub use Rattle.ufs_spec.specs.Exchanges.{Answering, Awaiting, Deed, Gathering, ReadBlock, ReadingArea, Registers}
+pub use Rattle.ufs_spec.specs.Exchanges.{Answering, Awaiting, Comparing, Deed, Gathering, ReadBlock, ReadingArea, Registers}
 pub use Rattle.ufs_spec.specs.Exchanges.{RpmbRequest, Sending, SendingBytes, Short, Task, count_at, filled}
 pub use Rattle.ufs_spec.specs.Exchanges.{invalid_field, invalid_list_field, invalid_operation, is_asked_of, is_short_of}
 pub use Rattle.ufs_spec.specs.Exchanges.{is_task_of, is_unfilled, no_unit, not_ready, out_of_range, response}

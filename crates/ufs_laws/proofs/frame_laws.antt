@@ -1,7 +1,9 @@
 pub mod AbortedFrames
 pub mod AreaPages
+pub mod Compares
 pub mod FailedRequests
 pub mod LockAndRegisters
 pub mod OneRequest
 pub mod RegistersEmptied
 pub mod RegistersFilled
+pub mod Verifies

@@ -1,10 +1,10 @@
 -- What the laws of the exchange speak of: requests as they are heard, and tasks of commands that are known.
-use Rattle.std.specs.Prelude.{◌≡◌, ◌≢◌, ◌<◌, ℕ, ◌+◌, ◌-◌, ◌==◌, min, Bool, true, List, [], ◌∷◌, length, map, Option, Some}
+use Rattle.std.specs.Prelude.{◌≡◌, ◌≢◌, ◌<◌, ℕ, ◌*◌, ◌+◌, ◌-◌, ◌==◌, min, Bool, true, List, [], ◌∷◌, length, map, Option, Some}
 use Rattle.std.specs.Prelude.{None}
 use Rattle.std.specs.List.{AllByRecursion, list_any}
-use Rattle.ufs_spec.specs.Exchanges.{Answering, Awaiting, Deed, Gathering, ReadingArea, Sending, SendingBytes}
+use Rattle.ufs_spec.specs.Exchanges.{Answering, Awaiting, Comparing, Deed, Gathering, ReadBlock, ReadingArea, Sending}
 use Rattle.ufs_spec.specs.declared.exchanges.Purpose.{Purpose}
-use Rattle.ufs_spec.specs.Exchanges.{Task, count_at, invalid_operation, to_gather}
+use Rattle.ufs_spec.specs.Exchanges.{SendingBytes, Task, count_at, invalid_operation, to_gather}
 use Rattle.ufs_spec.specs.Machine.{Call, Done, Faulty, Heard, Host, IsHeard, NoEvent, Reply, Spelled, Take, Turn}
 use Rattle.ufs_spec.specs.Refusals.{Lun, Request, State, takes, tells_of_none}
 use Rattle.ufs_spec.specs.Translation.{Pin}
@@ -42,6 +42,7 @@ IsKnownDeed (Sending blocks sent) = Unit {0}
 IsKnownDeed (SendingBytes bytes) = Unit {0}
 IsKnownDeed (Awaiting commands) = Unit {0}
 IsKnownDeed (ReadingArea pages) = Unit {0}
+IsKnownDeed (Comparing blocks compared asked) = Unit {0}
 IsKnownDeed (Answering status carried) = status ≢ invalid_operation
 
 -- a command that the CDB spells does not end with an invalid operation code; a refused one may
@@ -68,6 +69,15 @@ pub record WasAsked (task : Task) (lun offset count : ℕ) : Type 0 where
   pub offset_is : offset ≡ length gathered
   pub count_is : count ≡ min 4096 (to_gather purpose task.length - length gathered)
 
+-- the READY TO TRANSFER of a VERIFY was handed out that asks for these data
+pub record WasAskedToCompare (task : Task) (lun offset count : ℕ) : Type 0 where
+  pub blocks : List ReadBlock
+  pub compared : ℕ
+  pub deed : task.deed ≡ Comparing blocks compared true
+  pub lun_is : lun ≡ task.lun
+  pub offset_is : offset ≡ 4096 * compared
+  pub count_is : count ≡ 4096
+
 -- a READ sends blocks of these contents, whichever of them were read, or has sent them and answers
 abbrev pub SendsThese : List (List ℕ) → Deed → Type 0
 SendsThese bodies (Sending blocks sent) = map (λ block. block.body) blocks ≡ bodies
@@ -76,6 +86,7 @@ SendsThese bodies (Gathering purpose gathered asked) = ⊥
 SendsThese bodies (SendingBytes bytes) = ⊥
 SendsThese bodies (Awaiting commands) = ⊥
 SendsThese bodies (ReadingArea pages) = ⊥
+SendsThese bodies (Comparing blocks compared asked) = ⊥
 
 -- the open task of this tag does so
 abbrev pub TagSends : ℕ → List (List ℕ) → State → Type 0

@@ -1,7 +1,7 @@
 -- What a task and a short exchange need so that each of their replies is a message of the grammar.
 use Rattle.std.specs.List.{All}
 use Rattle.std.specs.Prelude.{◌≡◌, ◌≤◌, ◌<◌, ◌+◌, ◌*◌, ◌^◌, ℕ, length, slice_get, take, Some}
-use Rattle.ufs_spec.specs.Exchanges.{Answering, Awaiting, Deed, Gathering, ReadBlock}
+use Rattle.ufs_spec.specs.Exchanges.{Answering, Awaiting, Comparing, Deed, Gathering, ReadBlock}
 use Rattle.ufs_spec.specs.declared.exchanges.Status.TheVariants.{Busy, CheckCondition, Good, TaskSetFull}
 use Rattle.ufs_spec.specs.Exchanges.{ReadingArea, Sending, SendingBytes, Short, Task, bytes_sent, to_gather}
 use Rattle.ufs_spec.specs.declared.exchanges.Status.{Status}
@@ -17,7 +17,7 @@ IsStatus Busy = Unit {0}
 IsStatus TaskSetFull = Unit {0}
 
 -- what it does, of a command of so many bytes of which so many are sent: it asks for bytes of it that are missing; it sends
--- no block past the last byte that is sent, and each is 4096 bytes
+-- no block past the last byte that is sent, and each is 4096 bytes; it compares no block past the last byte
 abbrev pub DeedSpeaks : ℕ → ℕ → Deed → Type 0
 DeedSpeaks total sent_bytes (Gathering purpose gathered asked) =
     (length gathered < to_gather purpose total) × (to_gather purpose total ≤ total)
@@ -27,6 +27,8 @@ DeedSpeaks total sent_bytes (Sending blocks sent) =
 DeedSpeaks total sent_bytes (SendingBytes bytes) = IsTransferred (take sent_bytes bytes)
 DeedSpeaks total sent_bytes (Awaiting commands) = Unit {0}
 DeedSpeaks total sent_bytes (ReadingArea pages) = Unit {0}
+DeedSpeaks total sent_bytes (Comparing blocks compared asked) =
+    (compared < length blocks) × (4096 * length blocks ≤ total)
 DeedSpeaks total sent_bytes (Answering status carried) = IsStatus status × (carried < 2 ^ 32)
 
 -- its LUN and tag are bytes, and its numbers fit their fields

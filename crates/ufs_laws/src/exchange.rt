@@ -1,7 +1,7 @@
 //! The exchange between a host and a device: what is heard, what is asked for, what is sent.
 ghost use Rattle.std.specs.Prelude.{◌≡◌, ◌≢◌, ◌⊎◌, ◌<◌, ◌≤◌, ◌+◌, ◌-◌, ◌*◌, ◌++◌, ◌∷◌, [], ℕ, min, nat_lt, Bool, true, false, if◌then◌else◌, List, filter, length, map, not, sum_by, take, slice_get, Option, Some, None};
 ghost use Rattle.std.specs.List.{concat, flat_map, list_any};
-ghost use Rattle.ufs_laws.specs.Exchange.{AllKnown, AreAsked, Asks, IsAnsweredAt, IsRequest, IsSpoken, NoTask, Pinned, TagSends, WasAsked};
+ghost use Rattle.ufs_laws.specs.Exchange.{AllKnown, AreAsked, Asks, IsAnsweredAt, IsRequest, IsSpoken, NoTask, Pinned, TagSends, WasAsked, WasAskedToCompare};
 ghost use Rattle.ufs_spec.specs.declared.Cdb.{Cdb};
 ghost use Rattle.ufs_spec.specs.declared.Event.{Event};
 ghost use Rattle.ufs_spec.specs.declared.Message.{Message};
@@ -51,7 +51,8 @@ pub fn a_command_is_never_unknown_once_taken()
 {}
 
 /// The data of a command are asked for one part after another, each once: at the offset of what came so far, as many
-/// bytes as are left but 4096 at most. No other data are taken, and what a WRITE accepts is all of them joined.
+/// bytes as are left but 4096 at most. No other data are taken but those that a VERIFY compares, and what a WRITE
+/// accepts is all of them joined.
 pub fn data_are_asked_for_in_order()
     ensures asks { (s : State) (task : Task) (purpose : Purpose) (gathered : List ℕ) →
         deed_reply s task (Gathering purpose gathered false)
@@ -62,7 +63,8 @@ pub fn data_are_asked_for_in_order()
         deed_after task (Gathering purpose gathered false) ≡ Some (Gathering purpose gathered true) }
     ensures taken { (s : State) (lun tag offset : ℕ) (bytes : List ℕ) →
         message_fault s (message.DataOut lun tag offset (record { items = bytes })) ≡ None →
-        (task : Task) × (task_of tag s.tasks ≡ Some task) × WasAsked task lun offset (length bytes) }
+        (task : Task) × (task_of tag s.tasks ≡ Some task)
+        × (WasAsked task lun offset (length bytes) ⊎ WasAskedToCompare task lun offset (length bytes)) }
     ensures gathered { (s : State) (task : Task) (purpose : Purpose) (before bytes : List ℕ) →
         nat_lt (length (before ++ bytes)) (to_gather purpose task.length) ≡ true →
         data_for s task (Gathering purpose before true) bytes

@@ -26,6 +26,7 @@ mod tables;
 mod units;
 mod unmap;
 mod vacancies;
+mod verifies;
 
 pub use arrays::array_stands_for_something;
 pub use arrays::new_dies_stand_for_zero;
@@ -130,3 +131,6 @@ pub use vacancies::freed_victims_are_stale;
 pub use vacancies::ready_blocks_are_filled_first;
 pub use vacancies::stale_blocks_are_erased_first;
 pub use vacancies::vacancies_are_by_cells;
+pub use verifies::a_verify_changes_nothing;
+pub use verifies::a_verify_is_taken;
+pub use verifies::a_verify_reads_its_blocks;

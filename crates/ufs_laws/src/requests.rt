@@ -144,10 +144,12 @@ pub fn a_request_for_data_reads_its_pages()
     ensures wanted { (s : State) (tag region : ℕ) (f : Frame) (i : ℕ) → (page_kept s tag region f i).wanted ≡ true }
     ensures one_page { (f : Frame) → pages_named (record f { address = 16; count = 8 }) ≡ 1 }
     ensures two_pages { (f : Frame) → pages_named (record f { address = 15; count = 2 }) ≡ 2 }
-    ensures waits { (s : State) (task : Task) (pages : List ReadBlock) (k : ℕ) (page : ReadBlock) →
+    ensures waits { (s : State) (task : Task) (request : RpmbRequest) (pages : List ReadBlock) (k : ℕ)
+        (page : ReadBlock) → task.request ≡ Some request →
         slice_get pages k ≡ Some page → IsOwed s task k page →
         deed_reply s task (ReadingArea pages) ≡ None }
-    ensures due { (s : State) (task : Task) (pages : List ReadBlock) →
+    ensures due { (s : State) (task : Task) (request : RpmbRequest) (pages : List ReadBlock) →
+        task.request ≡ Some request →
         ((k : ℕ) (page : ReadBlock) → slice_get pages k ≡ Some page → IsThere s task k page) →
         deed_reply s task (ReadingArea pages)
         ≡ Some (response task.lun task.tag task.expected task.length Good) }

@@ -8,7 +8,7 @@ use Rattle.ufs_spec.proofs.Facts.{same_Some}
 use Rattle.ufs_spec.specs.CdbFields.{selects_modes, spelled_cdb, taken_if}
 use Rattle.ufs_spec.specs.Cdbs.{IsCdb, cdb_bytes, ten_bytes}
 use Rattle.ufs_spec.specs.Plain.{regions}
-use Rattle.ufs_spec.specs.declared.operations.TheConstants.{PRE_FETCH_10, READ_10, WRITE_10}
+use Rattle.ufs_spec.specs.declared.operations.TheConstants.{PRE_FETCH_10, READ_10, VERIFY_10, WRITE_10}
 use Rattle.ufs_spec.specs.declared.operations.Told.TheVariants as told
 use Rattle.ufs_spec.specs.declared.scsi.Cdb.{Cdb}
 use Rattle.ufs_spec.specs.declared.scsi.Cdb.TheVariants as cdb
@@ -74,6 +74,10 @@ again (cdb.Write address blocks false) h =
     ten_again (λ n m. Some (cdb.Write n m false)) WRITE_10 0x00 address blocks h.0 h.1
 again (cdb.Flush true) h = refl
 again (cdb.Flush false) h = refl
+again (cdb.Verify address blocks true) h =
+    ten_again (λ n m. Some (cdb.Verify n m true)) VERIFY_10 0x02 address blocks h.0 h.1
+again (cdb.Verify address blocks false) h =
+    ten_again (λ n m. Some (cdb.Verify n m false)) VERIFY_10 0x00 address blocks h.0 h.1
 again (cdb.Prefetch address blocks) h =
     ten_again (λ n m. Some (cdb.Prefetch n m)) PRE_FETCH_10 0x00 address blocks h.0 h.1
 again (cdb.Diagnose true) h = refl

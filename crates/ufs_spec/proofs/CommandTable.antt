@@ -81,6 +81,7 @@ kind_told (kind.Tell what) f c h e =
 kind_told kind.Read f c h e = taken_kind (is_group f.group) (cdb.Read f.address f.count) c e
 kind_told kind.Write f c h e = taken_kind (is_group f.group) (cdb.Write f.address f.count f.option) c e
 kind_told kind.Flush f c h e = taken_kind (is_group f.group) (cdb.Flush f.option) c e
+kind_told kind.Verify f c h e = taken_kind (is_group f.group) (cdb.Verify f.address f.count f.option) c e
 kind_told kind.Prefetch f c h e = taken_kind (is_group f.group) (cdb.Prefetch f.address f.count) c e
 kind_told kind.Diagnose f c h e = ap kind_of (same_Some _ c e)
 kind_told kind.Unmap f c h e = ap kind_of (same_Some _ c e)
@@ -130,6 +131,7 @@ region_told (kind.Tell what) f c e =
 region_told kind.Read f c e = of_region (is_group f.group) (cdb.Read f.address f.count) c (λ k. tt) e
 region_told kind.Write f c e = of_region (is_group f.group) (cdb.Write f.address f.count f.option) c (λ k. tt) e
 region_told kind.Flush f c e = of_region (is_group f.group) (cdb.Flush f.option) c (λ k. tt) e
+region_told kind.Verify f c e = of_region (is_group f.group) (cdb.Verify f.address f.count f.option) c (λ k. tt) e
 region_told kind.Prefetch f c e = of_region (is_group f.group) (cdb.Prefetch f.address f.count) c (λ k. tt) e
 region_told kind.Diagnose f c e = subst IsOfRegion (same_Some _ c e) tt
 region_told kind.Unmap f c e = subst IsOfRegion (same_Some _ c e) tt
@@ -146,6 +148,7 @@ region_in bytes c e = let its = row_behind bytes c e in region_told its.row.kind
 -- commands of these kinds are for units of the configuration alone: those that change blocks, and PRE-FETCH
 abbrev pub changes_blocks : Kind → Bool
 changes_blocks kind.Write = true
+changes_blocks kind.Verify = true
 changes_blocks kind.Prefetch = true
 changes_blocks kind.Unmap = true
 changes_blocks other = false

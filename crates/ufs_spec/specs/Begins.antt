@@ -1,11 +1,12 @@
 -- What a COMMAND makes of the state: it is refused, or begins (JESD220, 10.7.1; SPC and SBC for the commands).
 use Rattle.std.specs.Prelude.{Bool, List, None, Option, Some, [], false, if◌then◌else◌, length, map, nat_le, nat_lt, not}
-use Rattle.std.specs.Prelude.{is_some, take, ℕ, ◌*◌, ◌+◌, ◌/◌, ◌==◌, ◌||◌, ◌∷◌}
+use Rattle.std.specs.Prelude.{is_some, take, true, ℕ, ◌*◌, ◌+◌, ◌/◌, ◌==◌, ◌||◌, ◌∷◌}
 use Rattle.std.specs.List.{flat_map}
 use Rattle.std.specs.Int.{div_ceil}
 use Rattle.ufs_spec.specs.Cdbs.{carried, fixed_sense}
 use Rattle.ufs_spec.specs.Changes.{with_moves, with_short, with_task}
-use Rattle.ufs_spec.specs.Exchanges.{Answering, Awaiting, Deed, Gathering, ReadBlock, Sending, SendingBytes, at_region}
+use Rattle.ufs_spec.specs.Exchanges.{Answering, Awaiting, Comparing, Deed, Gathering, ReadBlock, ReadingArea, Sending}
+use Rattle.ufs_spec.specs.Exchanges.{SendingBytes, at_region}
 use Rattle.ufs_spec.specs.Exchanges.{most_tasks, response, sense, short_reply}
 use Rattle.ufs_spec.specs.declared.exchanges.Status.TheVariants.{Good, TaskSetFull}
 use Rattle.ufs_spec.specs.declared.exchanges.Purpose.TheVariants.{ForFrames, ForUnmap, ForWrite}
@@ -62,6 +63,36 @@ read_begun s r command unit address n =
     with_task
     (with_moves s (keeps s r.tag unit address (blocks_expected r n)))
     r (Some command) n (sending (read_blocks s unit address (blocks_expected r n)) n)
+
+-- what a VERIFY that compares nothing keeps of its block i: what a READ would, but the page of each block is wanted at once
+abbrev pub wanted_at : State → ℕ → ℕ → ℕ → ℕ → Pin
+wanted_at s tag unit address i = record (kept_at s tag unit address i) { wanted = true }
+
+-- it keeps each of its n blocks until it is answered
+abbrev pub keeps_wanted : State → ℕ → ℕ → ℕ → ℕ → List Move
+keeps_wanted s tag unit address n =
+    map (λ i. Keep (data_key unit (address + i)) (wanted_at s tag unit address i)) (below n)
+
+-- a VERIFY with BYTCHK 00 reads its blocks, as they are at this moment, and sends none. It has no data, so that all that
+-- the host expects is left over
+abbrev pub reads_begun : State → Request → Cdb → ℕ → ℕ → ℕ → State
+reads_begun s r command unit address n =
+    with_task (with_moves s (keeps_wanted s r.tag unit address n)) r (Some command) 0
+    (ReadingArea (read_blocks s unit address n))
+
+-- a VERIFY with BYTCHK 01 compares its blocks, as they are at this moment, with what its host sends, one after another. It
+-- keeps them as a READ does, and claims nothing
+abbrev pub compare_begun : State → Request → Cdb → ℕ → ℕ → ℕ → State
+compare_begun s r command unit address n =
+    with_task (with_moves s (keeps s r.tag unit address n)) r (Some command) (4096 * n)
+    (Comparing (read_blocks s unit address n) 0 false)
+
+-- a VERIFY of no blocks is answered GOOD at once; any other reads its blocks, or compares them
+abbrev pub verify_begun : State → Request → Cdb → ℕ → ℕ → ℕ → Bool → State
+verify_begun s r command unit address n compared =
+    if n == 0 then with_task s r (Some command) 0 (Answering Good 0)
+    else if compared then compare_begun s r command unit address n
+    else reads_begun s r command unit address n
 
 -- what counts as expected of a WRITE of n bytes: where the host sends fewer, the whole blocks of what it sends. So what
 -- is told as left over is all that is not taken (this profile)
@@ -175,6 +206,8 @@ begun s r unit (cdb.Read address blocks) = read_begun s r (cdb.Read address bloc
 begun s r unit (cdb.Write address blocks forced) =
     write_begun s r unit address (blocks_brought r.expected blocks) forced (4096 * blocks)
 begun s r unit (cdb.Flush immediate) = flush_begun s r (cdb.Flush immediate) immediate
+begun s r unit (cdb.Verify address blocks compared) =
+    verify_begun s r (cdb.Verify address blocks compared) unit address blocks compared
 begun s r unit (cdb.Prefetch address blocks) =
     with_task s r (Some (cdb.Prefetch address blocks)) 0 (Answering Good 0)
 begun s r unit (cdb.Diagnose tests) = with_task s r (Some (cdb.Diagnose tests)) 0 (Answering Good 0)

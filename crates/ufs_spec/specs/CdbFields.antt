@@ -91,8 +91,8 @@ six_address bytes = bit_and (field_at 4 0 bytes) 0x1FFFFF
 abbrev pub six_blocks : ℕ → ℕ
 six_blocks blocks = if blocks == 0 then 256 else blocks
 
--- this option is set in byte 1 (SBC: FUA of READ and WRITE, IMMED of SYNCHRONIZE CACHE; SPC: EVPD of INQUIRY, SELFTEST
--- of SEND DIAGNOSTIC)
+-- this option is set in byte 1 (SBC: FUA of READ and WRITE, IMMED of SYNCHRONIZE CACHE, the lower bit of VERIFY's BYTCHK;
+-- SPC: EVPD of INQUIRY, SELFTEST of SEND DIAGNOSTIC)
 abbrev pub is_optional : ℕ → List ℕ → Bool
 is_optional option bytes = not (bit_and (slice_index bytes 1) option == 0)
 
@@ -206,6 +206,7 @@ command_of (kind.Tell what) f =
 command_of kind.Read f = taken_if (is_group f.group) (cdb.Read f.address f.count)
 command_of kind.Write f = taken_if (is_group f.group) (cdb.Write f.address f.count f.option)
 command_of kind.Flush f = taken_if (is_group f.group) (cdb.Flush f.option)
+command_of kind.Verify f = taken_if (is_group f.group) (cdb.Verify f.address f.count f.option)
 command_of kind.Prefetch f = taken_if (is_group f.group) (cdb.Prefetch f.address f.count)
 command_of kind.Diagnose f = Some (cdb.Diagnose f.option)
 command_of kind.Unmap f = Some (cdb.Unmap f.count)
@@ -224,6 +225,7 @@ kind_of (cdb.Tell what select allocation) = kind.Tell (asked_as what)
 kind_of (cdb.Read address blocks) = kind.Read
 kind_of (cdb.Write address blocks forced) = kind.Write
 kind_of (cdb.Flush immediate) = kind.Flush
+kind_of (cdb.Verify address blocks compared) = kind.Verify
 kind_of (cdb.Prefetch address blocks) = kind.Prefetch
 kind_of (cdb.Diagnose tests) = kind.Diagnose
 kind_of (cdb.Unmap list) = kind.Unmap

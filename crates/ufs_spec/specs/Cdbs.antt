@@ -5,12 +5,13 @@ use Rattle.std.specs.Prelude.{replicate, slice_index, if◌then◌else◌, Some,
 use Rattle.byteorder.specs.Endian.{big_bytes}
 use Rattle.ufs_spec.specs.CdbFields.{is_within, no_limit, row_of, selects_modes, spelled_cdb}
 use Rattle.ufs_spec.specs.Plain.{regions}
-use Rattle.ufs_spec.specs.declared.operations.TheConstants.{EVPD, FUA, IMMED, INQUIRY, MAINTENANCE_IN, MODE_SENSE_10}
+use Rattle.ufs_spec.specs.declared.operations.TheConstants.{BYTCHK, EVPD, FUA, IMMED, INQUIRY, MAINTENANCE_IN, MODE_SENSE_10}
 use Rattle.ufs_spec.specs.declared.operations.TheConstants.{MODE_SENSE_6, REPORTING, REPORT_OPERATIONS}
 use Rattle.ufs_spec.specs.declared.operations.TheConstants.{PRE_FETCH_10, READ_10, READ_CAPACITY_10, READ_CAPACITY_16}
 use Rattle.ufs_spec.specs.declared.operations.TheConstants.{REPORT_LUNS, REQUEST_SENSE, SECURITY_IN, SECURITY_OUT}
 use Rattle.ufs_spec.specs.declared.operations.TheConstants.{SELF_TEST, SEND_DIAGNOSTIC, SERVICE_ACTION_IN_16}
-use Rattle.ufs_spec.specs.declared.operations.TheConstants.{SYNCHRONIZE_CACHE_10, TEST_UNIT_READY, UNMAP, WRITE_10}
+use Rattle.ufs_spec.specs.declared.operations.TheConstants.{SYNCHRONIZE_CACHE_10, TEST_UNIT_READY, UNMAP, VERIFY_10}
+use Rattle.ufs_spec.specs.declared.operations.TheConstants.{WRITE_10}
 use Rattle.ufs_spec.specs.declared.operations.Told.{Told}
 use Rattle.ufs_spec.specs.declared.operations.Told.TheVariants as told
 use Rattle.ufs_spec.specs.declared.scsi.Cdb.{Cdb}
@@ -29,7 +30,7 @@ SpellsCdb command bytes = spelled_cdb bytes ≡ Some command
 
 -- ## How a host writes a command: in ten bytes where it may be written in six as well (SPC, SBC)
 
--- the options (FUA or IMMED) in byte 1, the address in bytes 2..5, the count of blocks in bytes 7..8
+-- the options (FUA, IMMED or BYTCHK) in byte 1, the address in bytes 2..5, the count of blocks in bytes 7..8
 abbrev pub ten_bytes : ℕ → ℕ → ℕ → ℕ → List ℕ
 ten_bytes operation options address blocks =
     (operation ∷ options ∷ []) ++ big_bytes 4 address ++ (0 ∷ []) ++ big_bytes 2 blocks ++ replicate 7 0
@@ -71,6 +72,7 @@ cdb_bytes (cdb.Tell what select allocation) = asking_bytes what select allocatio
 cdb_bytes (cdb.Read address blocks) = ten_bytes READ_10 0x00 address blocks
 cdb_bytes (cdb.Write address blocks forced) = ten_bytes WRITE_10 (option_byte FUA forced) address blocks
 cdb_bytes (cdb.Flush immediate) = ten_bytes SYNCHRONIZE_CACHE_10 (option_byte IMMED immediate) 0 0
+cdb_bytes (cdb.Verify address blocks compared) = ten_bytes VERIFY_10 (option_byte BYTCHK compared) address blocks
 cdb_bytes (cdb.Prefetch address blocks) = ten_bytes PRE_FETCH_10 0x00 address blocks
 cdb_bytes (cdb.Diagnose tests) = SEND_DIAGNOSTIC ∷ option_byte SELF_TEST tests ∷ replicate 14 0
 cdb_bytes (cdb.Unmap list) = (UNMAP ∷ replicate 6 0) ++ big_bytes 2 list ++ replicate 7 0
@@ -101,6 +103,7 @@ IsCdb (cdb.Tell what select allocation) = IsAsking what select allocation
 IsCdb (cdb.Read address blocks) = (address < 2 ^ 32) × (blocks < 2 ^ 16)
 IsCdb (cdb.Write address blocks forced) = (address < 2 ^ 32) × (blocks < 2 ^ 16)
 IsCdb (cdb.Flush immediate) = Unit {0}
+IsCdb (cdb.Verify address blocks compared) = (address < 2 ^ 32) × (blocks < 2 ^ 16)
 IsCdb (cdb.Prefetch address blocks) = (address < 2 ^ 32) × (blocks < 2 ^ 16)
 IsCdb (cdb.Diagnose tests) = Unit {0}
 IsCdb (cdb.Unmap list) = list < 2 ^ 16
@@ -109,33 +112,37 @@ IsCdb (cdb.SecurityOut region length) = (region < regions) × (length < 2 ^ 32)
 
 -- ## What a command asks for
 
--- how many blocks a READ or a WRITE names (SBC). No other command names any that count: the range of SYNCHRONIZE CACHE
--- is not checked, since it covers the whole device
+-- how many blocks a READ, a WRITE or a VERIFY names (SBC). No other command names any that count: the range of
+-- SYNCHRONIZE CACHE is not checked, since it covers the whole device
 abbrev pub blocks_of : Cdb → ℕ
 blocks_of (cdb.Read address blocks) = blocks
 blocks_of (cdb.Write address blocks forced) = blocks
+blocks_of (cdb.Verify address blocks compared) = blocks
 blocks_of command = 0
 
--- the first address of a READ, a WRITE or a PRE-FETCH (SBC); no other command names one that counts, as for `blocks_of`
+-- the first address of a READ, a WRITE, a VERIFY or a PRE-FETCH (SBC); no other command names one that counts, as for
+-- `blocks_of`
 abbrev pub address_of : Cdb → ℕ
 address_of (cdb.Read address blocks) = address
 address_of (cdb.Write address blocks forced) = address
+address_of (cdb.Verify address blocks compared) = address
 address_of (cdb.Prefetch address blocks) = address
 address_of command = 0
 
--- how many blocks from that address on have to be there: those of a READ, a WRITE or a PRE-FETCH (SBC), of which the last
+-- how many blocks from that address on have to be there: those that count, and those of a PRE-FETCH (SBC), which
 -- may name more than a command may read
 abbrev pub blocks_meant : Cdb → ℕ
 blocks_meant (cdb.Prefetch address blocks) = blocks
 blocks_meant command = blocks_of command
 
--- how many bytes of data a command has, where there are so many to tell: 4096 a block of a READ or a WRITE (SBC); of what
--- is told no more than the allocation length (SPC); the length of UNMAP's list (SBC); the length that SECURITY PROTOCOL IN
--- or OUT names (SPC)
+-- how many bytes of data a command has, where there are so many to tell: 4096 a block of a READ, a WRITE or a VERIFY
+-- that compares (SBC); of what is told no more than the allocation length (SPC); the length of UNMAP's list (SBC); the
+-- length that SECURITY PROTOCOL IN or OUT names (SPC)
 abbrev pub length_of : ℕ → Cdb → ℕ
 length_of told (cdb.Tell what select allocation) = min allocation told
 length_of told (cdb.Read address blocks) = blocks * 4096
 length_of told (cdb.Write address blocks forced) = blocks * 4096
+length_of told (cdb.Verify address blocks compared) = if compared then blocks * 4096 else 0
 length_of told (cdb.Unmap list) = list
 length_of told (cdb.SecurityIn region length) = length
 length_of told (cdb.SecurityOut region length) = length
@@ -166,6 +173,7 @@ direction_of (cdb.Tell what select allocation) = ToHost
 direction_of (cdb.Read address blocks) = ToHost
 direction_of (cdb.Write address blocks forced) = ToDevice
 direction_of (cdb.Flush immediate) = NoData
+direction_of (cdb.Verify address blocks compared) = if compared then ToDevice else NoData
 direction_of (cdb.Prefetch address blocks) = NoData
 direction_of (cdb.Diagnose tests) = NoData
 direction_of (cdb.Unmap list) = ToDevice

@@ -1,8 +1,8 @@
 -- Small changes of a state: those of which the answers to messages are made (JESD220, 10.7).
 use Rattle.std.specs.Prelude.{List, None, Option, Some, [], fold, map, ℕ, ◌++◌, ◌∷◌}
 use Rattle.ufs_spec.specs.Commands.{Command}
-use Rattle.ufs_spec.specs.Exchanges.{Answering, Awaiting, Deed, Gathering, ReadingArea, Sending, SendingBytes, Short}
-use Rattle.ufs_spec.specs.Exchanges.{Task, with_deed}
+use Rattle.ufs_spec.specs.Exchanges.{Answering, Awaiting, Comparing, Deed, Gathering, ReadingArea, Sending, SendingBytes}
+use Rattle.ufs_spec.specs.Exchanges.{Short, Task, with_deed}
 use Rattle.ufs_spec.specs.declared.exchanges.Status.{Status}
 use Rattle.ufs_spec.specs.Keys.{group_of}
 use Rattle.ufs_spec.specs.Moves.{Accept, Move, Release, moved}
@@ -55,6 +55,7 @@ claimed_by n (Sending blocks sent) command = 0
 claimed_by n (SendingBytes bytes) command = 0
 claimed_by n (Awaiting commands) command = 0
 claimed_by n (ReadingArea pages) command = 0
+claimed_by n (Comparing blocks compared asked) command = 0
 claimed_by n (Answering status carried) command = 0
 
 -- a task that has gathered its data gives back what it claimed for them, as no command needs it

@@ -1,17 +1,19 @@
 -- What data of the host make of the state: the last of them decide a command (JESD220, 10.7.4; SBC).
-use Rattle.std.specs.Prelude.{Bool, List, None, Option, Some, [], drop, false, if◌then◌else◌, length, nat_lt, not}
-use Rattle.std.specs.Prelude.{suc, take, true, zero, ℕ, ◌&&◌, ◌++◌, ◌+◌, ◌-◌, ◌/◌, ◌==◌, ◌||◌, ◌∷◌}
+use Rattle.std.specs.Prelude.{Bool, List, None, Option, Some, [], drop, false, if◌then◌else◌, length, nat_lt, not, slice_get}
+use Rattle.std.specs.Prelude.{suc, take, true, zero, ℕ, ◌&&◌, ◌*◌, ◌++◌, ◌+◌, ◌-◌, ◌/◌, ◌==◌, ◌||◌, ◌∷◌}
 use Rattle.ufs_bytes.specs.Fields.{field_at}
 use Rattle.ufs_spec.specs.Changes.{accepts, claimed_by, ends_with_status, set_deed, with_moves}
 use Rattle.ufs_spec.specs.Configs.{command_blocks}
-use Rattle.ufs_spec.specs.Exchanges.{Answering, Awaiting, Deed, Gathering, ReadingArea, Sending, SendingBytes, Task}
-use Rattle.ufs_spec.specs.Exchanges.{invalid_list_field, out_of_range, to_gather, write_error}
+use Rattle.ufs_spec.specs.Exchanges.{Answering, Awaiting, Comparing, Deed, Gathering, ReadBlock, ReadingArea, Sending}
+use Rattle.ufs_spec.specs.Exchanges.{SendingBytes, Task, invalid_list_field, miscompare, out_of_range, to_gather}
+use Rattle.ufs_spec.specs.Exchanges.{write_error}
 use Rattle.ufs_spec.specs.declared.exchanges.Status.TheVariants.{Good}
 use Rattle.ufs_spec.specs.declared.exchanges.Purpose.TheVariants.{ForFrames, ForUnmap, ForWrite}
 use Rattle.ufs_spec.specs.declared.exchanges.Purpose.{Purpose}
 use Rattle.ufs_spec.specs.FrameRequests.{frames_complete}
 use Rattle.ufs_spec.specs.Frames.{frames_in}
-use Rattle.ufs_spec.specs.Moves.{Release}
+use Rattle.ufs_spec.specs.Moves.{LetGo, LetGoAll, Release, WantPage}
+use Rattle.ufs_spec.specs.Rpmb.{same_bytes}
 use Rattle.ufs_spec.specs.Refusals.{State, locked, numbers_of, unit_numbers_at}
 use Rattle.ufs_spec.specs.declared.configs.Numbers.{Numbers}
 use Rattle.ufs_spec.specs.declared.configs.UnitSpec.{UnitSpec}
@@ -75,6 +77,32 @@ unmap_complete s task unit list =
     else if is_past_unit list (unit_numbers_at (numbers_of s) (Some unit)) then ends_with_status s task out_of_range
     else unmap_accepted s task unit (field_at 8 8 list) (field_at 4 16 list)
 
+-- ## VERIFY
+
+-- what a VERIFY does after one more of its blocks was found to be the host's: it asks for the next one, or after the last
+-- one its GOOD is due
+abbrev pub deed_after_same : Task → List ReadBlock → (compared : ℕ) → Deed
+deed_after_same task blocks compared =
+    if nat_lt (compared + 1) (length blocks) then Comparing blocks (compared + 1) false
+    else Answering Good task.length
+
+-- the block is the host's: it is let go, and the page of the next one is wanted
+abbrev pub block_same : State → Task → List ReadBlock → (compared : ℕ) → State
+block_same s task blocks compared =
+    set_deed (with_moves s (LetGo task.tag compared ∷ WantPage task.tag (compared + 1) ∷ [])) task.tag
+    (deed_after_same task blocks compared)
+
+-- the block is another one: the VERIFY keeps nothing any more, and E/1D/00 is due, with what was compared as carried
+abbrev pub block_differs : State → Task → (compared : ℕ) → State
+block_differs s task compared =
+    set_deed (with_moves s (LetGoAll task.tag ∷ [])) task.tag (Answering miscompare (4096 * (compared + 1)))
+
+-- a VERIFY compares the block that comes next, as it was at the COMMAND, with these bytes. Nothing is accepted
+abbrev pub block_compared : State → Task → List ReadBlock → (compared : ℕ) → Option ReadBlock → List ℕ → State
+block_compared s task blocks compared None bytes = s
+block_compared s task blocks compared (Some block) bytes =
+    if same_bytes bytes block.body then block_same s task blocks compared else block_differs s task compared
+
 -- ## DATA OUT
 
 -- all data of a task are there: a WRITE is accepted, an UNMAP and the frames of the RPMB are decided
@@ -89,14 +117,16 @@ gathered_more s task purpose bytes =
     if nat_lt (length bytes) (to_gather purpose task.length) then set_deed s task.tag (Gathering purpose bytes false)
     else complete s task purpose bytes
 
--- the bytes of a DATA OUT follow those that the task has gathered. A task that gathers nothing takes no data: a DATA
--- OUT for it has fault 8
+-- the bytes of a DATA OUT follow those that the task has gathered, or are compared. A task that does neither takes no
+-- data: a DATA OUT for it has fault 8
 abbrev pub data_for : State → Task → Deed → List ℕ → State
 data_for s task (Gathering purpose gathered asked) bytes = gathered_more s task purpose (gathered ++ bytes)
 data_for s task (Sending blocks sent) bytes = s
 data_for s task (SendingBytes told_bytes) bytes = s
 data_for s task (Awaiting commands) bytes = s
 data_for s task (ReadingArea pages) bytes = s
+data_for s task (Comparing blocks compared asked) bytes =
+    block_compared s task blocks compared (slice_get blocks compared) bytes
 data_for s task (Answering status carried) bytes = s
 
 -- a DATA OUT was taken: its bytes go to the task with its tag

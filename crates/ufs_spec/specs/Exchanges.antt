@@ -54,9 +54,13 @@ check key asc = CheckCondition (sense key asc)
 abbrev pub not_ready : Status
 not_ready = CheckCondition (record { key = 0x02; asc = 0x04; ascq = 0x01 })
 
--- 3/11/00, MEDIUM ERROR, unrecovered read error: a page for a READ could not be read, or was another one
+-- 3/11/00, MEDIUM ERROR, unrecovered read error: a page for a READ or a VERIFY could not be read, or was another one
 abbrev pub read_error : Status
 read_error = check 0x03 0x11
+
+-- E/1D/00, MISCOMPARE, miscompare during verify operation: a block is not the one that the host of a VERIFY sent
+abbrev pub miscompare : Status
+miscompare = check 0x0E 0x1D
 
 -- 3/0C/00, MEDIUM ERROR, write error: the lock came before the data of a WRITE, or before what the
 -- command waits for was durable
@@ -123,8 +127,8 @@ response lun tag expected length status = response_message (residual_of expected
 
 -- ## Tasks
 
--- a block of a READ, or a page of the RPMB area: its content as it was when it was looked up, at the COMMAND or at the
--- last data, and whether it was read from its page
+-- a block of a READ or a VERIFY, or a page of the RPMB area: its content as it was when it was looked up, at the COMMAND
+-- or at the last data, and whether it was read from its page
 pub record ReadBlock : Type 0 where
   pub body : List ℕ
   pub state : ReadState
@@ -139,9 +143,12 @@ pub data Deed : Type 0 where
   SendingBytes : (bytes : List ℕ) → Deed
   -- its GOOD is due once so many accepted commands are durable
   Awaiting : (commands : ℕ) → Deed
-  -- it reads these pages of the RPMB area, all beside each other; its GOOD is due once each of them is at hand, was
-  -- read or could not be read
+  -- it reads these pages of the RPMB area, or these blocks of a VERIFY, all beside each other; its answer is due once
+  -- each of them is at hand, was read or could not be read
   ReadingArea : (pages : List ReadBlock) → Deed
+  -- it compares the blocks of a VERIFY with what its host sends: so many were compared, and whether the READY TO TRANSFER
+  -- for the next one was handed out
+  Comparing : (blocks : List ReadBlock) → (compared : ℕ) → (asked : Bool) → Deed
   -- its answer is due, and so many bytes are the command's or were carried
   Answering : (status : Status) → (carried : ℕ) → Deed
 
@@ -275,6 +282,10 @@ ready_message task purpose gathered =
     message.ReadyToTransfer task.lun task.tag (length gathered)
     (count_at (to_gather purpose task.length) (length gathered))
 
+-- READY TO TRANSFER (JESD220, 10.7.5): the host is asked for the block that is compared after so many
+abbrev pub ready_for_block : Task → (compared : ℕ) → Message
+ready_for_block task compared = message.ReadyToTransfer task.lun task.tag (4096 * compared) 4096
+
 -- DATA IN (JESD220, 10.7.4) with these bytes, which are at this offset in the command's data
 abbrev pub data_message : Task → ℕ → List ℕ → Message
 data_message task offset bytes = message.DataIn task.lun task.tag offset (record { items = bytes })
@@ -293,6 +304,8 @@ is_asked_in task lun offset count (Sending blocks sent) = false
 is_asked_in task lun offset count (SendingBytes bytes) = false
 is_asked_in task lun offset count (Awaiting commands) = false
 is_asked_in task lun offset count (ReadingArea pages) = false
+is_asked_in task lun offset count (Comparing blocks compared asked) =
+    asked && (task.lun == lun) && (offset == 4096 * compared) && (count == 4096)
 is_asked_in task lun offset count (Answering status carried) = false
 
 -- the same of the task with the DATA OUT's tag; without one nothing was asked for

@@ -2,7 +2,7 @@
 use Rattle.std.specs.Prelude.{Bool, List, None, Option, Some, [], false, if◌then◌else◌, length, map, true, ℕ, ◌&&◌}
 use Rattle.std.specs.Prelude.{◌+◌, ◌-◌, ◌/◌, ◌==◌, ◌∷◌}
 use Rattle.ufs_spec.specs.Changes.{accepts, claimed_by, ends_with_status, given_back, with_moves}
-use Rattle.ufs_spec.specs.Exchanges.{Answering, Awaiting, Deed, Gathering, ReadBlock, ReadingArea, Registers}
+use Rattle.ufs_spec.specs.Exchanges.{Answering, Awaiting, Comparing, Deed, Gathering, ReadBlock, ReadingArea, Registers}
 use Rattle.ufs_spec.specs.declared.exchanges.Status.TheVariants.{Good}
 use Rattle.ufs_spec.specs.Exchanges.{RpmbRequest, Sending, SendingBytes, Task, at_region, is_task_of}
 use Rattle.ufs_spec.specs.declared.exchanges.ReadState.TheVariants.{Unread}
@@ -106,6 +106,7 @@ result_now (Gathering purpose gathered asked) result = result
 result_now (Sending blocks sent) result = result
 result_now (SendingBytes bytes) result = result
 result_now (Awaiting commands) result = result
+result_now (Comparing blocks compared asked) result = result
 result_now (Answering status carried) result = result
 
 -- the registers of each region, once the GOOD of this request is due

@@ -9,8 +9,8 @@ use Rattle.ufs_spec.specs.CdbFields.{spelled_cdb}
 use Rattle.ufs_spec.specs.Cells.{Array}
 use Rattle.ufs_spec.specs.Dies.{blank_page}
 use Rattle.ufs_spec.specs.Disk.{Erasing, Flight, Programming, Reading, Spot, at_place, page_of, same_spot, spot_of}
-use Rattle.ufs_spec.specs.Exchanges.{Answering, Awaiting, Deed, Gathering, ReadBlock, ReadingArea, Registers, Sending}
-use Rattle.ufs_spec.specs.Exchanges.{SendingBytes, Short, Task, filled, is_asked_of, is_good, is_short_of, is_task_of}
+use Rattle.ufs_spec.specs.Exchanges.{Answering, Awaiting, Comparing, Deed, Gathering, ReadBlock, ReadingArea, Registers}
+use Rattle.ufs_spec.specs.Exchanges.{Sending, SendingBytes, Short, Task, filled, is_asked_of, is_good, is_short_of, is_task_of}
 use Rattle.ufs_spec.specs.Exchanges.{is_unfilled, most_short_exchanges, most_tasks, no_number, number_of, response}
 use Rattle.ufs_spec.specs.Exchanges.{short_reply, task_of, without_short, without_task, write_error}
 use Rattle.ufs_spec.specs.declared.exchanges.ReadState.{ReadState}
@@ -249,6 +249,18 @@ abbrev pub deed_after_block : Task → List ReadBlock → ℕ → Option ReadBlo
 deed_after_block task blocks sent None = None
 deed_after_block task blocks sent (Some block) = deed_after_state task blocks sent block.state
 
+-- after the READY TO TRANSFER for a block of a VERIFY that block is to come. One that could not be read has ended the VERIFY
+-- with 3/11/00, so that nothing is left to do
+abbrev pub deed_after_asked : List ReadBlock → (compared : ℕ) → ReadState → Option Deed
+deed_after_asked blocks compared Unread = Some (Comparing blocks compared true)
+deed_after_asked blocks compared WasRead = Some (Comparing blocks compared true)
+deed_after_asked blocks compared NotRead = None
+
+-- the same for the block that comes next; without one nothing was handed out
+abbrev pub deed_after_compare : List ReadBlock → (compared : ℕ) → Option ReadBlock → Option Deed
+deed_after_compare blocks compared None = None
+deed_after_compare blocks compared (Some block) = deed_after_asked blocks compared block.state
+
 -- what a task does after the reply that was due was handed out; None if that was its last
 abbrev pub deed_after : Task → Deed → Option Deed
 deed_after task (Gathering purpose gathered asked) = Some (Gathering purpose gathered true)
@@ -257,6 +269,8 @@ deed_after task (Sending blocks sent) =
 deed_after task (SendingBytes bytes) = Some (Answering Good task.length)
 deed_after task (Awaiting commands) = None
 deed_after task (ReadingArea pages) = None
+deed_after task (Comparing blocks compared asked) =
+    deed_after_compare blocks compared (slice_get blocks compared)
 deed_after task (Answering status carried) = None
 
 -- what the layer does after that reply: a block that was handed out is let go, and the page of the next one is wanted;
@@ -267,6 +281,7 @@ moves_after task (Sending blocks sent) = LetGo task.tag sent ∷ WantPage task.t
 moves_after task (SendingBytes bytes) = []
 moves_after task (Awaiting commands) = Acknowledge commands ∷ []
 moves_after task (ReadingArea pages) = []
+moves_after task (Comparing blocks compared asked) = []
 moves_after task (Answering status carried) = []
 
 -- the task goes on, or it has handed out its last reply: then it ends, its tag is free, and it keeps nothing
@@ -314,7 +329,7 @@ replied_by s number None = short_replied s (find (is_short_of number) s.shorts)
 abbrev pub replied : State → Message → State
 replied s m = replied_by s (tag_in m) (task_of (tag_in m) s.tasks)
 
--- the block of a READ, now known to be read, or not to be readable
+-- the block of a READ or a VERIFY, now known to be read, or not to be readable
 abbrev pub set_state : ReadState → ReadBlock → ReadBlock
 set_state state block = record block { state = state }
 
@@ -323,14 +338,16 @@ abbrev pub with_block : List ReadBlock → ℕ → ReadState → Option ReadBloc
 with_block blocks index state None = blocks
 with_block blocks index state (Some block) = slice_set blocks index (set_state state block)
 
--- a READ is told how the read of its block at an index ended, a request for data that of its page; whatever else a task
--- does stays
+-- a READ or a VERIFY is told how the read of its block at an index ended, a request for data that of its page; whatever
+-- else a task does stays
 abbrev pub deed_read : ℕ → ReadState → Deed → Deed
 deed_read index state (Gathering purpose gathered asked) = Gathering purpose gathered asked
 deed_read index state (Sending blocks sent) = Sending (with_block blocks index state (slice_get blocks index)) sent
 deed_read index state (SendingBytes bytes) = SendingBytes bytes
 deed_read index state (Awaiting commands) = Awaiting commands
 deed_read index state (ReadingArea pages) = ReadingArea (with_block pages index state (slice_get pages index))
+deed_read index state (Comparing blocks compared asked) =
+    Comparing (with_block blocks index state (slice_get blocks index)) compared asked
 deed_read index state (Answering status carried) = Answering status carried
 
 -- the same, if the task has the tag
@@ -395,6 +412,7 @@ is_good_due s task (Sending blocks sent) = false
 is_good_due s task (SendingBytes bytes) = false
 is_good_due s task (Awaiting commands) = nat_le commands (durable s)
 is_good_due s task (ReadingArea pages) = is_area_read s task pages
+is_good_due s task (Comparing blocks compared asked) = false
 is_good_due s task (Answering status carried) = is_good status
 
 -- a request fills its register once, when its GOOD is due, handed out or not; a task without a request fills nothing
@@ -423,7 +441,7 @@ fills s =
 -- ## The lock
 
 -- the lock ends a task that waits for commands which are not durable, with MEDIUM ERROR, write error (3/0C/00). A GOOD
--- that is due stays due; READs, requests for data of the RPMB and data that are under way go on
+-- that is due stays due; READs, VERIFYs, requests for data of the RPMB and data that are under way go on
 abbrev pub deed_locked : State → Task → Deed → Deed
 deed_locked s task (Gathering purpose gathered asked) = Gathering purpose gathered asked
 deed_locked s task (Sending blocks sent) = Sending blocks sent
@@ -431,6 +449,7 @@ deed_locked s task (SendingBytes bytes) = SendingBytes bytes
 deed_locked s task (Awaiting commands) =
     if nat_le commands (durable s) then Awaiting commands else Answering write_error task.length
 deed_locked s task (ReadingArea pages) = ReadingArea pages
+deed_locked s task (Comparing blocks compared asked) = Comparing blocks compared asked
 deed_locked s task (Answering status carried) = Answering status carried
 
 -- a task with what the lock makes of its deed; nothing else of it changes

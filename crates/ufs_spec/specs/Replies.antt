@@ -4,12 +4,12 @@ use Rattle.std.specs.Prelude.{slice_get, take, true, ℕ, ◌*◌, ◌-◌, ◌�
 use Rattle.std.specs.List.{list_all, list_any}
 use Rattle.ufs_spec.specs.Cells.{Array, Shows}
 use Rattle.ufs_spec.specs.Disk.{Crash, flight_alone}
-use Rattle.ufs_spec.specs.Exchanges.{Answering, Awaiting, Deed, Gathering, ReadBlock}
+use Rattle.ufs_spec.specs.Exchanges.{Answering, Awaiting, Comparing, Deed, Gathering, ReadBlock, RpmbRequest}
 use Rattle.ufs_spec.specs.declared.exchanges.ReadState.{ReadState}
 use Rattle.ufs_spec.specs.declared.exchanges.ReadState.TheVariants.{NotRead, Unread, WasRead}
 use Rattle.ufs_spec.specs.declared.exchanges.Status.TheVariants.{Good}
 use Rattle.ufs_spec.specs.Exchanges.{ReadingArea, Sending, SendingBytes, Short, Task, block_message}
-use Rattle.ufs_spec.specs.Exchanges.{bytes_sent, data_message, read_error, ready_message, response}
+use Rattle.ufs_spec.specs.Exchanges.{bytes_sent, data_message, read_error, ready_for_block, ready_message, response}
 use Rattle.ufs_spec.specs.Keys.{below}
 use Rattle.ufs_spec.specs.Ledger.{before_accepted}
 use Rattle.ufs_spec.specs.Moves.{Ending, IfWrong, is_pin_of}
@@ -55,6 +55,27 @@ next_block_reply s task sent None = None
 next_block_reply s task sent (Some block) =
     block_reply task sent block.body block.state (is_at_hand s.translation.work.rests (pin_of s task sent))
 
+-- the reply of a VERIFY that comes to this block, after so many blocks were compared: READY TO TRANSFER for the host's one
+-- if it is at hand or was read; 3/11/00 in its place if it could not be read, with the blocks before as what was carried;
+-- else none yet
+abbrev pub compare_reply : Task → (compared : ℕ) → ReadState → Bool → Option Message
+compare_reply task compared WasRead at_hand = Some (ready_for_block task compared)
+compare_reply task compared NotRead at_hand =
+    Some (response task.lun task.tag task.expected (4096 * compared) read_error)
+compare_reply task compared Unread at_hand = if at_hand then Some (ready_for_block task compared) else None
+
+-- the same for the block that comes next, with what is kept of it now
+abbrev pub next_compare_reply : State → Task → (compared : ℕ) → Option ReadBlock → Option Message
+next_compare_reply s task compared None = None
+next_compare_reply s task compared (Some block) =
+    compare_reply task compared block.state (is_at_hand s.translation.work.rests (pin_of s task compared))
+
+-- the read of a block failed, or gave another page
+abbrev pub is_not_read : ReadState → Bool
+is_not_read Unread = false
+is_not_read WasRead = false
+is_not_read NotRead = true
+
 -- a page of the RPMB area needs no read any more: it is at hand, was read, or could not be read
 abbrev pub is_read : ReadState → Bool → Bool
 is_read Unread at_hand = at_hand
@@ -72,9 +93,26 @@ abbrev pub is_area_read : State → Task → List ReadBlock → Bool
 is_area_read s task pages =
     list_all (λ index. is_page_read s task index (slice_get pages index)) (below (length pages))
 
+-- the block, or the page, could not be read
+abbrev pub is_unreadable : ReadBlock → Bool
+is_unreadable block = is_not_read block.state
+
+-- a VERIFY, which has no request, ends with the first block that could not be read. The response to a request tells of
+-- what could not be read, so that no page ends it
+abbrev pub is_ended : Option RpmbRequest → List ReadBlock → Bool
+is_ended (Some request) pages = false
+is_ended None pages = list_any is_unreadable pages
+
+-- what is said of pages that are read, if it is due: 3/11/00 where one ended the task, GOOD once each of them was read
+abbrev pub reads_reply : Task → (ended read : Bool) → Option Message
+reads_reply task true read = Some (response task.lun task.tag task.expected task.length read_error)
+reads_reply task false true = Some (response task.lun task.tag task.expected task.length Good)
+reads_reply task false false = None
+
 -- the next reply of a task, if it is due: READY TO TRANSFER, if the one for the next data was not handed out;
--- the next DATA IN of a READ; the one DATA IN of other data; GOOD, once the commands that it awaits are durable, or each
--- page of the RPMB area that it reads was read; any other answer at once
+-- the next DATA IN of a READ; the one DATA IN of other data; GOOD, once the commands that it awaits are durable; what
+-- is said of pages that are read; what comes next of blocks that are compared, if it was not handed out; any other answer
+-- at once
 abbrev pub deed_reply : State → Task → Deed → Option Message
 deed_reply s task (Gathering purpose gathered asked) =
     if asked then None else Some (ready_message task purpose gathered)
@@ -83,7 +121,9 @@ deed_reply s task (SendingBytes bytes) = Some (data_message task 0 (take (bytes_
 deed_reply s task (Awaiting commands) =
     if nat_le commands (durable s) then Some (response task.lun task.tag task.expected task.length Good) else None
 deed_reply s task (ReadingArea pages) =
-    if is_area_read s task pages then Some (response task.lun task.tag task.expected task.length Good) else None
+    reads_reply task (is_ended task.request pages) (is_area_read s task pages)
+deed_reply s task (Comparing blocks compared asked) =
+    if asked then None else next_compare_reply s task compared (slice_get blocks compared)
 deed_reply s task (Answering status carried) = Some (response task.lun task.tag task.expected carried status)
 
 -- a reply that awaits nothing, or only commands that are durable by now, need not wait any longer

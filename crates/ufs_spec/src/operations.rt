@@ -24,6 +24,9 @@ pub const READ_10: u8 = 0x28;
 /// SBC, WRITE(10).
 pub const WRITE_10: u8 = 0x2A;
 
+/// SBC, VERIFY(10).
+pub const VERIFY_10: u8 = 0x2F;
+
 /// SBC, SYNCHRONIZE CACHE(10).
 pub const SYNCHRONIZE_CACHE_10: u8 = 0x35;
 
@@ -81,8 +84,12 @@ pub const FUA: u8 = 0x08;
 /// IMMED, bit 1 of byte 1 of SYNCHRONIZE CACHE and of PRE-FETCH (SBC).
 pub const IMMED: u8 = 0x02;
 
-/// DPO, bit 4 of byte 1 of READ and WRITE of ten and sixteen bytes (SBC).
+/// DPO, bit 4 of byte 1 of READ and WRITE of ten and sixteen bytes, and of VERIFY (SBC).
 pub const DPO: u8 = 0x10;
+
+/// The lower bit of BYTCHK, bit 1 of byte 1 of VERIFY (SBC): the host sends what the blocks are compared
+/// with.
+pub const BYTCHK: u8 = 0x02;
 
 /// EVPD, bit 0 of byte 1 of INQUIRY (SPC): a page of vital product data is asked for.
 pub const EVPD: u8 = 0x01;
@@ -178,6 +185,8 @@ pub enum Kind {
     Write,
     /// It makes durable what was accepted.
     Flush,
+    /// It looks whether blocks of a unit can be read, or are those that it brings.
+    Verify,
     /// It names blocks that may be read soon, and has no data.
     Prefetch,
     /// It asks whether the device is in order.
@@ -297,12 +306,12 @@ pub struct Fields {
     pub protocol: u16,
     /// The group number (SBC).
     pub group: u8,
-    /// Whether its option is set: FUA, IMMED, EVPD or SELFTEST.
+    /// Whether its option is set: FUA, IMMED, BYTCHK, EVPD or SELFTEST.
     pub option: bool,
 }
 
 /// The commands that a device knows.
-pub const COMMANDS: [Row; 23] = [
+pub const COMMANDS: [Row; 24] = [
     Row {
         operation: TEST_UNIT_READY,
         action: None,
@@ -402,6 +411,16 @@ pub const COMMANDS: [Row; 23] = [
         option: FUA,
         takers: Takers::UNITS,
         kind: Kind::Write,
+    },
+    Row {
+        operation: VERIFY_10,
+        action: None,
+        profile: 1,
+        layout: Layout::Ten,
+        options: [0, DPO | BYTCHK],
+        option: BYTCHK,
+        takers: Takers::UNITS,
+        kind: Kind::Verify,
     },
     Row {
         operation: PRE_FETCH_10,

@@ -33,6 +33,13 @@ pub enum Cdb {
     Flush {
         immediate: bool,
     },
+    /// SBC, VERIFY: so many blocks, from an address on, are read and not sent. With BYTCHK 01
+    /// (`compared`) they are compared with what the host sends.
+    Verify {
+        address: u64,
+        blocks: u32,
+        compared: bool,
+    },
     /// SBC, PRE-FETCH: so many blocks, from an address on; 0 stands for all up to the unit's end.
     /// Nothing is read.
     Prefetch {
@@ -172,6 +179,13 @@ impl Sense {
     pub const READ_ERROR: Sense = Sense {
         key: 0x03,
         asc: 0x11,
+        ascq: 0x00,
+    };
+
+    /// MISCOMPARE, miscompare during verify operation.
+    pub const MISCOMPARE: Sense = Sense {
+        key: 0x0E,
+        asc: 0x1D,
         ascq: 0x00,
     };
 

@@ -1,4 +1,6 @@
 -- What is left of aborted tasks: nothing but what they had accepted.
+use Rattle.ufs_laws.proofs.Common.{Comparing}
+use Rattle.ufs_spec.specs.Replies.{compare_reply, is_ended, next_compare_reply, reads_reply}
 use Rattle.ufs_laws.proofs.Common.{Allowed, Answer, Awaiting, Bool, Call, Deed, Every, Gathering, Good, IsSpoken, List}
 use Rattle.ufs_laws.proofs.Common.{Message, None, Numbers, Option, Pin, ReadBlock, ReadState, ReadingArea, Sending}
 use Rattle.ufs_laws.proofs.Common.{Some, State, Task, Translation, Unread, [], abort_moves, ap, arith, block_reply}
@@ -113,6 +115,8 @@ module _ (tag : ℕ) where
     answers = λ task purpose gathered asked status e h is. tt;
     waits = λ task purpose gathered asked position e h. tt;
     reads_area = λ task purpose gathered asked pages e h. tt;
+    same = λ task blocks compared asked e h. tt;
+    differs = λ task blocks compared asked block e there h. tt;
     goes = λ task deed e h. tt;
     fills = λ u task h. filled_keeps Other u task h h;
     locks = λ u task h. h;
@@ -162,6 +166,18 @@ next_tag s task sent None m e = let none : None ≡ Some m = e in cc
 next_tag s task sent (Some block) m e =
     block_tag task sent block.body block.state (is_at_hand s.translation.work.rests (pin_of s task sent)) m e
 
+compared_tag : (task : Task) (compared : ℕ) (state : ReadState) (at_hand : Bool) (m : Message) →
+    compare_reply task compared state at_hand ≡ Some m → tag_in m ≡ task.tag
+compared_tag task compared Unread true m e = ap tag_in (sym (same_Some _ m e))
+compared_tag task compared Unread false m e = let none : None ≡ Some m = e in cc
+compared_tag task compared state at_hand m e = ap tag_in (sym (same_Some _ m e))
+
+next_compared_tag : (s : State) (task : Task) (compared : ℕ) (block : Option ReadBlock) (m : Message) →
+    next_compare_reply s task compared block ≡ Some m → tag_in m ≡ task.tag
+next_compared_tag s task compared None m e = let none : None ≡ Some m = e in cc
+next_compared_tag s task compared (Some block) m e =
+    compared_tag task compared block.state (is_at_hand s.translation.work.rests (pin_of s task compared)) m e
+
 pub reply_tag : (s : State) (task : Task) (deed : Deed) (m : Message) → deed_reply s task deed ≡ Some m →
     tag_in m ≡ task.tag
 reply_tag s task (Gathering purpose gathered true) m e = let none : None ≡ Some m = e in cc
@@ -172,12 +188,15 @@ reply_tag s task (Awaiting commands) m e = by (nat_le commands (durable s)) e
         tag_in m ≡ task.tag
     by true k = ap tag_in (sym (same_Some _ m k))
     by false k = let none : None ≡ Some m = k in cc
-reply_tag s task (ReadingArea pages) m e = by (is_area_read s task pages) e
+reply_tag s task (ReadingArea pages) m e = by (is_ended task.request pages) (is_area_read s task pages) e
   where
-    by : (b : Bool) → (if b then Some (response task.lun task.tag task.expected task.length Good) else None) ≡ Some m →
-        tag_in m ≡ task.tag
-    by true k = ap tag_in (sym (same_Some _ m k))
-    by false k = let none : None ≡ Some m = k in cc
+    by : (ended read : Bool) → reads_reply task ended read ≡ Some m → tag_in m ≡ task.tag
+    by true read k = ap tag_in (sym (same_Some _ m k))
+    by false true k = ap tag_in (sym (same_Some _ m k))
+    by false false k = let none : None ≡ Some m = k in cc
+reply_tag s task (Comparing blocks compared true) m e = let none : None ≡ Some m = e in cc
+reply_tag s task (Comparing blocks compared false) m e =
+    next_compared_tag s task compared (slice_get blocks compared) m e
 reply_tag s task deed m e = ap tag_in (sym (same_Some _ m e))
 
 pub task_reply_tag : (s : State) (task : Task) (m : Message) → deed_reply s task task.deed ≡ Some m →

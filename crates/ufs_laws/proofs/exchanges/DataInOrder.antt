@@ -1,5 +1,5 @@
 -- The data of a command are asked for one part after another, and what a WRITE accepts is all of them.
-use Rattle.ufs_laws.proofs.Common.{Bool, Deed, ForWrite, Gathering, List, None, Option, Purpose, Sending, Some, State}
+use Rattle.ufs_laws.proofs.Common.{Bool, Comparing, Deed, ForWrite, Gathering, List, None, Option, Purpose, Sending, Some, State}
 use Rattle.ufs_laws.proofs.Common.{Task, Write, [], accepts, and_parts, ap, arith, blocks_in, complete, cond-false}
 use Rattle.ufs_laws.proofs.Common.{cond-true, count_at, drop, eqb-true, false, inl, inr, is_asked_of, le-ltb, length}
 use Rattle.ufs_laws.proofs.Common.{length-append, length-drop, locked, message_fault, nat_lt, refl, set_deed, suc, sym}
@@ -7,39 +7,55 @@ use Rattle.ufs_laws.proofs.Common.{take, take-append-drop, task_of, true, zero, 
 use Rattle.ufs_laws.proofs.Common.{◌∙◌, ◌∷◌, ◌≡◌, ◌≤◌, ◌⊎◌}
 use Rattle.std.specs.List.{concat}
 use Rattle.ufs_laws.proofs.walk.Happenings.{is_asked}
-use Rattle.ufs_laws.specs.Exchange.{AreAsked, WasAsked}
+use Rattle.ufs_laws.specs.Exchange.{AreAsked, WasAsked, WasAskedToCompare}
 use Rattle.ufs_spec.specs.Exchanges.{is_asked_in, to_gather}
 use Rattle.ufs_spec.specs.Machine.{data_for, write_complete, write_deed}
 use Rattle.ufs_spec.specs.declared.messages.Message.TheVariants as message
 
 -- ## Data that are taken
 
+-- it asked for the next of its data, or for the block that it compares next
+abbrev pub WasAskedFor : Task → ℕ → ℕ → ℕ → Type 0
+WasAskedFor task lun offset count = WasAsked task lun offset count ⊎ WasAskedToCompare task lun offset count
+
 in_deed : (task : Task) (lun offset count : ℕ) (deed : Deed) → task.deed ≡ deed →
-    is_asked_in task lun offset count deed ≡ true → WasAsked task lun offset count
+    is_asked_in task lun offset count deed ≡ true → WasAskedFor task lun offset count
 in_deed task lun offset count (Gathering purpose gathered asked) e h =
     let last = and_parts (asked && (task.lun == lun) && (offset == length gathered))
     (count == count_at (to_gather purpose task.length) (length gathered)) h in
     let third = and_parts (asked && (task.lun == lun)) (offset == length gathered) last.0 in
     let second = and_parts asked (task.lun == lun) third.0 in
-    record {
+    inl (record {
       purpose = purpose;
       gathered = gathered;
       deed = e ∙ ap (Gathering purpose gathered) second.0;
       lun_is = sym (eqb-true task.lun lun second.1);
       offset_is = eqb-true offset (length gathered) third.1;
       count_is = eqb-true count (count_at (to_gather purpose task.length) (length gathered)) last.1;
-    }
+    })
+in_deed task lun offset count (Comparing blocks compared asked) e h =
+    let last = and_parts (asked && (task.lun == lun) && (offset == 4096 * compared)) (count == 4096) h in
+    let third = and_parts (asked && (task.lun == lun)) (offset == 4096 * compared) last.0 in
+    let second = and_parts asked (task.lun == lun) third.0 in
+    inr (record {
+      blocks = blocks;
+      compared = compared;
+      deed = e ∙ ap (Comparing blocks compared) second.0;
+      lun_is = sym (eqb-true task.lun lun second.1);
+      offset_is = eqb-true offset (4096 * compared) third.1;
+      count_is = eqb-true count 4096 last.1;
+    })
 in_deed task lun offset count (Sending blocks sent) e h = let no : false ≡ true = h in cc
 in_deed task lun offset count deed e h = let no : false ≡ true = h in cc
 
 of_task : (o : Option Task) (lun offset count : ℕ) → is_asked_of o lun offset count ≡ true →
-    (task : Task) × (o ≡ Some task) × WasAsked task lun offset count
+    (task : Task) × (o ≡ Some task) × WasAskedFor task lun offset count
 of_task None lun offset count h = let no : false ≡ true = h in cc
 of_task (Some task) lun offset count h = (task, refl, in_deed task lun offset count task.deed refl h)
 
 pub taken : (s : State) (lun tag offset : ℕ) (bytes : List ℕ) →
     message_fault s (message.DataOut lun tag offset (record { items = bytes })) ≡ None →
-    (task : Task) × (task_of tag s.tasks ≡ Some task) × WasAsked task lun offset (length bytes)
+    (task : Task) × (task_of tag s.tasks ≡ Some task) × WasAskedFor task lun offset (length bytes)
 taken s lun tag offset bytes h = of_task (task_of tag s.tasks) lun offset (length bytes) (is_asked _ h)
 
 -- ## What becomes of them

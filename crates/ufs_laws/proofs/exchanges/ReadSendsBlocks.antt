@@ -1,4 +1,5 @@
 -- A READ sends its blocks in order, as they were at its COMMAND.
+use Rattle.ufs_laws.proofs.Common.{Comparing}
 use Rattle.ufs_laws.proofs.Common.{Allowed, Answer, Answering, Bool, Call, Cdb, Deed, Gathering, Good, IsSpoken, List}
 use Rattle.ufs_laws.proofs.Common.{Message, Name, None, NotRead, Option, Pin, Purpose, ReadBlock, ReadState, Request}
 use Rattle.ufs_laws.proofs.Common.{Sending, Some, State, Task, Unread, WasRead, [], ap, arith, at_most, below, block_at}
@@ -183,6 +184,10 @@ module _ (tag : ℕ) (bodies : List (List ℕ)) where
       task.deed ≡ Gathering purpose gathered asked → Sends task → task.tag ≡ tag → ⊥
   gathers_none task purpose gathered asked e h same = subst (SendsThese bodies) e (h same)
 
+  compares_none : (task : Task) (blocks : List ReadBlock) (compared : ℕ) (asked : Bool) →
+      task.deed ≡ Comparing blocks compared asked → Sends task → task.tag ≡ tag → ⊥
+  compares_none task blocks compared asked e h same = subst (SendsThese bodies) e (h same)
+
   sending_deeds : (task : Task) → IsDeedLaw (SendsThese bodies) task
   sending_deeds task = record {
     asked = λ purpose gathered was d. absurd d;
@@ -191,6 +196,8 @@ module _ (tag : ℕ) (bodies : List (List ℕ)) where
     fails = tt;
     read = λ blocks sent index state d. fixed blocks index state ∙ d;
     page = λ pages index state d. d;
+    compares = λ blocks compared was d. absurd d;
+    found = λ blocks compared was index state d. absurd d;
   }
 
   -- a tag in use is not opened again
@@ -212,6 +219,8 @@ module _ (tag : ℕ) (bodies : List (List ℕ)) where
     waits = λ task purpose gathered asked position e h same. absurd (gathers_none task purpose gathered asked e h same);
     reads_area = λ task purpose gathered asked pages e h same.
         absurd (gathers_none task purpose gathered asked e h same);
+    same = λ task blocks compared asked e h same. absurd (compares_none task blocks compared asked e h same);
+    differs = λ task blocks compared asked block e there h same. tt;
     goes = λ task deed e h same. goes (SendsThese bodies) task (sending_deeds task) task.deed deed (h same) e;
     fills = λ u task h. filled_keeps Sends u task h h;
     locks = λ u task h same. locks (SendsThese bodies) task (sending_deeds task) u task.deed (h same);

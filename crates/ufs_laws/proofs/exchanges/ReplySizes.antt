@@ -1,4 +1,7 @@
 -- Each message is spelled in at most 4128 bytes, and each reply of a task that fits is a message.
+use Rattle.ufs_laws.proofs.Common.{Comparing}
+use Rattle.ufs_spec.specs.Exchanges.{ready_for_block}
+use Rattle.ufs_spec.specs.Replies.{compare_reply, is_ended, next_compare_reply, reads_reply}
 use Rattle.ufs_laws.proofs.Common.{Answering, AreBytes, Awaiting, Bool, Deed, Gathering, Good, IsAmong, List, Message}
 use Rattle.ufs_laws.proofs.Common.{None, NotRead, Option, ReadBlock, ReadState, ReadingArea, Sending, SendingBytes}
 use Rattle.ufs_laws.proofs.Common.{Some, State, Status, Task, Unread, WasRead, [], arith, block_reply, count_at}
@@ -179,6 +182,28 @@ module _ (s : State) (task : Task) (h : TaskSpeaks task) (m : Message) where
       block_speaks sent block.body block.state (is_at_hand s.translation.work.rests (pin_of s task sent)) (omega arith)
       is.0 is.1 e
 
+  asks_speaks : (compared : ℕ) → 4096 * compared + 4096 ≤ task.length → ready_for_block task compared ≡ m → IsMessage m
+  asks_speaks compared within e =
+      let low = h.length in
+      let here : IsMessage (ready_for_block task compared) = (h.lun, h.tag, omega arith, omega arith) in
+      subst IsMessage e here
+
+  compared_speaks : (compared : ℕ) (state : ReadState) (at_hand : Bool) → 4096 * compared + 4096 ≤ task.length →
+      compare_reply task compared state at_hand ≡ Some m → IsMessage m
+  compared_speaks compared NotRead at_hand within e =
+      let low = h.length in
+      subst IsMessage (same_Some _ m e) (response_fits task.lun task.tag task.expected (4096 * compared) read_error h.lun
+      h.tag h.expected (omega arith) read_error_is)
+  compared_speaks compared Unread false within e = let none : None ≡ Some m = e in cc
+  compared_speaks compared Unread true within e = asks_speaks compared within (same_Some _ m e)
+  compared_speaks compared WasRead at_hand within e = asks_speaks compared within (same_Some _ m e)
+
+  next_compared_speaks : (compared : ℕ) (o : Option ReadBlock) → 4096 * compared + 4096 ≤ task.length →
+      next_compare_reply s task compared o ≡ Some m → IsMessage m
+  next_compared_speaks compared None within e = let none : None ≡ Some m = e in cc
+  next_compared_speaks compared (Some block) within e =
+      compared_speaks compared block.state (is_at_hand s.translation.work.rests (pin_of s task compared)) within e
+
   deed_speaks : (deed : Deed) → DeedSpeaks task.length (bytes_sent task) deed → deed_reply s task deed ≡ Some m →
       IsMessage m
   deed_speaks (Gathering purpose gathered true) d e = let none : None ≡ Some m = e in cc
@@ -201,14 +226,22 @@ module _ (s : State) (task : Task) (h : TaskSpeaks task) (m : Message) where
           subst IsMessage (same_Some _ m k)
           (response_fits task.lun task.tag task.expected task.length Good h.lun h.tag h.expected h.length tt)
       by false k = let none : None ≡ Some m = k in cc
-  deed_speaks (ReadingArea pages) d e = by (is_area_read s task pages) e
+  deed_speaks (ReadingArea pages) d e = by (is_ended task.request pages) (is_area_read s task pages) e
     where
-      by : (b : Bool) →
-          (if b then Some (response task.lun task.tag task.expected task.length Good) else None) ≡ Some m → IsMessage m
-      by true k =
+      by : (ended read : Bool) → reads_reply task ended read ≡ Some m → IsMessage m
+      by true read k =
+          subst IsMessage (same_Some _ m k)
+          (response_fits task.lun task.tag task.expected task.length read_error h.lun h.tag h.expected h.length
+          read_error_is)
+      by false true k =
           subst IsMessage (same_Some _ m k)
           (response_fits task.lun task.tag task.expected task.length Good h.lun h.tag h.expected h.length tt)
-      by false k = let none : None ≡ Some m = k in cc
+      by false false k = let none : None ≡ Some m = k in cc
+  deed_speaks (Comparing blocks compared true) d e = let none : None ≡ Some m = e in cc
+  deed_speaks (Comparing blocks compared false) d e =
+      let inside = d.0 in
+      let within = d.1 in
+      next_compared_speaks compared (slice_get blocks compared) (omega arith) e
   deed_speaks (Answering status carried) d e =
       subst IsMessage (same_Some _ m e)
       (response_fits task.lun task.tag task.expected carried status h.lun h.tag h.expected d.1 d.0)

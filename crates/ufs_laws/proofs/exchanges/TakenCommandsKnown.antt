@@ -6,7 +6,7 @@ use Rattle.ufs_laws.proofs.Common.{blocks_expected, data_begun, deed_after, fals
 use Rattle.ufs_laws.proofs.Common.{if◌then◌else◌, invalid_field, invalid_operation, kind_of, lacks_unit, lines_after}
 use Rattle.ufs_laws.proofs.Common.{lun_of, no_unit, none-some, not-false, not_taken, numbers_of, observe, read_begun}
 use Rattle.ufs_laws.proofs.Common.{read_blocks, refl, refusal, sending, slice_get, subst, sym, true, unit_of_request}
-use Rattle.ufs_laws.proofs.Common.{unit_or_first, with_block, write_error, ℕ, ◌++◌, ◌+◌, ◌==◌, ◌∙◌, ◌∷◌, ◌≡◌, ◌≢◌}
+use Rattle.ufs_laws.proofs.Common.{unit_or_first, with_block, write_error, ℕ, ◌*◌, ◌++◌, ◌+◌, ◌==◌, ◌∙◌, ◌∷◌, ◌≡◌, ◌≢◌}
 use Rattle.std.specs.Prelude.{length, nat_le, nat_lt}
 use Rattle.ufs_spec.proofs.Facts.{and_parts, ltb-true}
 use Rattle.ufs_laws.proofs.walk.WaysOfCommands.{Answered, Beginning, Gathered, Handing, Reading, Telling, Waiting}
@@ -21,7 +21,10 @@ use Rattle.ufs_spec.specs.declared.exchanges.Status.TheVariants.{CheckCondition}
 use Rattle.ufs_spec.specs.Exchanges.{check, message_error, unit_attention}
 use Rattle.ufs_spec.specs.Machine.{IsCdbIn, sending_bytes}
 use Rattle.ufs_spec.specs.Refusals.{is_not_simple, is_told_anywhere, meets_attention, row_in, takes, takes_row}
-use Rattle.ufs_laws.proofs.walk.WaysOfCommands.{Answered, expecting}
+use Rattle.ufs_laws.proofs.walk.WaysOfCommands.{Checking, Verifying, expecting}
+use Rattle.ufs_laws.proofs.Common.{Comparing}
+use Rattle.ufs_spec.specs.DataOuts.{deed_after_same}
+use Rattle.ufs_spec.specs.Exchanges.{miscompare}
 use Rattle.ufs_spec.specs.Refusals.{brought, tells_of_none}
 use Rattle.ufs_spec.specs.declared.operations.Row.{Row}
 use Rattle.ufs_spec.specs.declared.scsi.Cdb.TheVariants as cdb
@@ -154,6 +157,10 @@ begins s r unit c = begins_by (λ t. Begins s t (brought r.expected c)) s r unit
         let told = data_known s r (cdb.SecurityIn region n) frames in
         (told.0, told.1, told.2 ∙ ap (λ (x : Cdb). Some (brought r.expected x)) (sym why), told.3)
     one (Reading u address n) why = read_known s r (brought r.expected c) u address n
+    one (Verifying u address n) why =
+        (first_task r (brought r.expected c) 0 (ReadingArea (read_blocks s u address n)), refl, refl, tt)
+    one (Checking u address n) why =
+        (first_task r (brought r.expected c) (4096 * n) (Comparing (read_blocks s u address n) 0 false), refl, refl, tt)
     one (Gathered expected count purpose n) why =
         (first_task (expecting r expected) (brought r.expected c) n (Gathering purpose [] false), refl, refl, tt)
 
@@ -182,6 +189,9 @@ known_deeds c task = record {
   read = λ blocks sent index state d. known_in c (Sending (with_block blocks index state (slice_get blocks index)) sent)
       tt;
   page = λ pages index state d. known_in c (ReadingArea (with_block pages index state (slice_get pages index))) tt;
+  compares = λ blocks compared was d. known_in c (Comparing blocks compared true) tt;
+  found = λ blocks compared was index state d.
+      known_in c (Comparing (with_block blocks index state (slice_get blocks index)) compared was) tt;
 }
 
 -- a task that answers does nothing behind it, so what it does is known of every command
@@ -199,6 +209,16 @@ answer_known n status IsWrongField = code_known 0x26 (λ e. omega arith)
 answer_known n status IsOutOfRange = code_known 0x21 (λ e. omega arith)
 answer_known n status IsOutOfSequence = code_known 0x2C (λ e. omega arith)
 
+-- another key is another status
+miscompare_known : miscompare ≢ invalid_operation
+miscompare_known e = other (sense_key miscompare) refl (ap sense_key e)
+  where
+    other : (key : ℕ) → key ≡ 0x0E → key ≡ 5 → ⊥
+    other key h k = omega arith
+
+same_known : (task : Task) (blocks : List ReadBlock) (compared : ℕ) → IsKnownDeed (deed_after_same task blocks compared)
+same_known task blocks compared = if_both IsKnownDeed (nat_lt (compared + 1) (length blocks)) tt good_known
+
 known_law : (s : State) → IsTaskLaw Known (λ task deed. IsKnownDeed deed) Any s
 known_law s = record {
   set = λ task deed found all known. set_keeps Known task.tag deed s.tasks (λ t is h. known_in t.command deed known)
@@ -212,6 +232,8 @@ known_law s = record {
   answers = λ task purpose gathered asked status e h is. answer_known task.length status (answer_one purpose status is);
   waits = λ task purpose gathered asked position e h. tt;
   reads_area = λ task purpose gathered asked pages e h. tt;
+  same = λ task blocks compared asked e h. same_known task blocks compared;
+  differs = λ task blocks compared asked block e there h. miscompare_known;
   goes = λ task deed e h. goes_known task.command task task.deed deed h e;
   fills = λ u task h. filled_keeps Known u task h h;
   locks = λ u task h. locks (IsKnownTask task.command) task (known_deeds task.command task) u task.deed h;

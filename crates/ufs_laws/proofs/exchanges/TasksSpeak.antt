@@ -38,7 +38,10 @@ use Rattle.ufs_spec.specs.declared.operations.Told.TheVariants as told
 use Rattle.ufs_spec.specs.declared.scsi.Cdb.TheVariants as cdb
 use Rattle.ufs_spec.proofs.Facts.{eqb-false, ltb-true}
 use Rattle.ufs_spec.specs.Cdbs.{address_of, blocks_of}
-use Rattle.ufs_laws.proofs.walk.WaysOfCommands.{Answered, expecting}
+use Rattle.ufs_laws.proofs.walk.WaysOfCommands.{Checking, Verifying, expecting}
+use Rattle.ufs_laws.proofs.Common.{Comparing, if_cases, nat_lt}
+use Rattle.ufs_spec.specs.DataOuts.{deed_after_same}
+use Rattle.ufs_spec.specs.Exchanges.{miscompare}
 use Rattle.ufs_spec.specs.Refusals.{brought, lacks_data, length_in, may_be_cut}
 use Rattle.ufs_spec.specs.Cdbs.{direction_of}
 use Rattle.ufs_spec.specs.Exchanges.{bytes_sent, list_length_error, saving_unsupported, to_gather}
@@ -281,6 +284,20 @@ begins_speaking s r c unit is reads units frames short listed =
         read_speaks s r (brought r.expected c) u address n is (omega arith)
         (subst (λ (x : ℕ). BlocksFit s r x address n) (sym unit_is)
         (subst (λ (x : ℕ). BlocksFit s r unit x n) (sym address_is) (reads n read size)))
+    one (Verifying u address n) why = (
+      task_for r (Some (brought r.expected c)) 0 (ReadingArea (read_blocks s u address n)),
+      refl,
+      asked_for r (Some (brought r.expected c)) 0 (ReadingArea (read_blocks s u address n)) is (omega arith) tt,
+    )
+    one (Checking u address n) (unit_is, is_verify, some) =
+        let few : blocks_of c ≤ 128 = command_few (numbers_of s) c short in
+        let size : blocks_of c ≡ n = ap blocks_of is_verify in
+        let long : length (read_blocks s u address n) ≡ n = length-made _ n in (
+          task_for r (Some (brought r.expected c)) (4096 * n) (Comparing (read_blocks s u address n) 0 false),
+          refl,
+          asked_for r (Some (brought r.expected c)) (4096 * n) (Comparing (read_blocks s u address n) 0 false) is
+              (omega arith) (omega arith, omega arith),
+        )
     one (Gathered expected count purpose n) (slots, some, few, needs, gathered, counts, part) = (
       task_for (expecting r expected) (Some (brought r.expected c)) n (Gathering purpose [] false),
       refl,
@@ -363,6 +380,39 @@ answer_status status IsWrongField = (omega arith, omega arith, omega arith)
 answer_status status IsOutOfRange = (omega arith, omega arith, omega arith)
 answer_status status IsOutOfSequence = (omega arith, omega arith, omega arith)
 
+-- of blocks that are compared none is lost where one was read
+with_block_long : (blocks : List ReadBlock) (index : ℕ) (state : ReadState) (o : Option ReadBlock) →
+    length (with_block blocks index state o) ≡ length blocks
+with_block_long blocks index state None = refl
+with_block_long blocks index state (Some old) = length-set blocks index (set_state state old)
+
+compare_speaks_again : (total sent_bytes : ℕ) (blocks : List ReadBlock) (compared : ℕ) (was : Bool) (index : ℕ)
+    (state : ReadState) → DeedSpeaks total sent_bytes (Comparing blocks compared was) →
+    DeedSpeaks total sent_bytes (Comparing (with_block blocks index state (slice_get blocks index)) compared was)
+compare_speaks_again total sent_bytes blocks compared was index state d =
+    let long = with_block_long blocks index state (slice_get blocks index) in
+    let inside = d.0 in
+    let within = d.1 in
+    (omega arith, omega arith)
+
+same_speaks : (task : Task) (blocks : List ReadBlock) (compared : ℕ) (asked : Bool) → task.length < 2 ^ 32 →
+    DeedSpeaks task.length (bytes_sent task) (Comparing blocks compared asked) →
+    DeedSpeaks task.length (bytes_sent task) (deed_after_same task blocks compared)
+same_speaks task blocks compared asked few d =
+    if_cases (DeedSpeaks task.length (bytes_sent task)) (nat_lt (compared + 1) (length blocks))
+    (λ more. (ltb-true (compared + 1) (length blocks) more, d.1)) (λ last. (tt, few))
+
+miscompare_is : IsStatus miscompare
+miscompare_is = (omega arith, omega arith, omega arith)
+
+differs_speaks : (task : Task) (blocks : List ReadBlock) (compared : ℕ) (asked : Bool) → task.length < 2 ^ 32 →
+    DeedSpeaks task.length (bytes_sent task) (Comparing blocks compared asked) →
+    DeedSpeaks task.length (bytes_sent task) (Answering miscompare (4096 * (compared + 1)))
+differs_speaks task blocks compared asked few d =
+    let inside = d.0 in
+    let within = d.1 in
+    (miscompare_is, omega arith)
+
 -- what is said of a deed is said of what its task does next
 speaking_deeds : (task : Task) → TaskSpeaks task → IsDeedLaw (DeedSpeaks task.length (bytes_sent task)) task
 speaking_deeds task h = record {
@@ -372,6 +422,9 @@ speaking_deeds task h = record {
   fails = (write_error_is, h.length);
   read = λ blocks sent index state d. read_speaks_again task.length (bytes_sent task) blocks sent index state d;
   page = λ pages index state d. tt;
+  compares = λ blocks compared was d. d;
+  found = λ blocks compared was index state d.
+      compare_speaks_again task.length (bytes_sent task) blocks compared was index state d;
 }
 
 -- tags of tasks are apart
@@ -406,6 +459,11 @@ speaks_law s sets requests found units frames = record {
       speaks task (Answering status task.length) h (answer_status status (answer_one purpose status is), h.length);
   waits = λ task purpose gathered asked position e h. speaks task (Awaiting position) h tt;
   reads_area = λ task purpose gathered asked pages e h. speaks task (ReadingArea pages) h tt;
+  same = λ task blocks compared asked e h. speaks task (deed_after_same task blocks compared) h
+      (same_speaks task blocks compared asked h.length (subst (DeedSpeaks task.length (bytes_sent task)) e h.deed));
+  differs = λ task blocks compared asked block e there h.
+      speaks task (Answering miscompare (4096 * (compared + 1))) h
+      (differs_speaks task blocks compared asked h.length (subst (DeedSpeaks task.length (bytes_sent task)) e h.deed));
   goes = λ task deed e h. speaks task deed h (goes (DeedSpeaks task.length (bytes_sent task)) task
       (speaking_deeds task h) task.deed deed h.deed e);
   fills = λ u task h. filled_keeps TaskSpeaks u task (record {

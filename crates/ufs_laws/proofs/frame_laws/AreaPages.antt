@@ -1,5 +1,9 @@
 -- A request for data reads its pages, and its GOOD is due once none of them needs a read any more.
-use Rattle.ufs_laws.proofs.Common.{Bool, Frame, Good, List, Message, None, NotRead, Option, ReadBlock, ReadState}
+use Rattle.std.specs.Prelude.{◌||◌}
+use Rattle.ufs_laws.proofs.Common.{RpmbRequest}
+use Rattle.ufs_spec.specs.Exchanges.{read_error}
+use Rattle.ufs_spec.specs.Replies.{is_area_read, is_ended, is_not_read, is_unreadable, reads_reply}
+use Rattle.ufs_laws.proofs.Common.{Bool, Frame, Good, List, None, NotRead, Option, ReadBlock, ReadState}
 use Rattle.ufs_laws.proofs.Common.{ReadingArea, Results, Some, State, Task, Unread, WasRead, [], ap, arith, below}
 use Rattle.ufs_laws.proofs.Common.{cond-true, deed_reply, false, frames_complete, given_back, if◌then◌else◌, inl, inr}
 use Rattle.ufs_laws.proofs.Common.{length, list_all, list_any, map, none-some, or_from, or_left, or_right, outcome_in}
@@ -71,28 +75,98 @@ there_now s task index page (inl e) = ap (λ (state : ReadState). is_read state 
 there_now s task index page (inr (inl e)) = ap (λ (state : ReadState). is_read state (at_hand_now s task index)) e
 there_now s task index page (inr (inr e)) = unread_or_not page.state (at_hand_now s task index) e
 
-abbrev good_if : Task → Bool → Option Message
-good_if task b = if b then Some (response task.lun task.tag task.expected task.length Good) else None
+-- a page that is owed is not there
+pub not_there : (s : State) (task : Task) (pages : List ReadBlock) (k : ℕ) (page : ReadBlock) →
+    slice_get pages k ≡ Some page → IsOwed s task k page → is_area_read s task pages ≡ false
+not_there s task pages k page there e =
+    one_false (λ index. is_page_read s task index (slice_get pages index)) (length pages) k
+    (slice_get_within pages k page there) (ap (is_page_read s task k) there ∙ still_owed s task k page e)
 
-pub waits : (s : State) (task : Task) (pages : List ReadBlock) (k : ℕ) (page : ReadBlock) →
-    slice_get pages k ≡ Some page → IsOwed s task k page →
-    deed_reply s task (ReadingArea pages) ≡ None
-waits s task pages k page there e =
-    ap (good_if task)
-    (one_false (λ index. is_page_read s task index (slice_get pages index)) (length pages) k
-    (slice_get_within pages k page there) (ap (is_page_read s task k) there ∙ still_owed s task k page e))
-
-pub due : (s : State) (task : Task) (pages : List ReadBlock) →
+all_there : (s : State) (task : Task) (pages : List ReadBlock) →
     ((k : ℕ) (page : ReadBlock) → slice_get pages k ≡ Some page → IsThere s task k page) →
-    deed_reply s task (ReadingArea pages) ≡ Some (response task.lun task.tag task.expected task.length Good)
-due s task pages each =
-    ap (good_if task)
-    (all_true (λ index. is_page_read s task index (slice_get pages index)) (length pages)
-    (λ k low. by k (slice_get pages k) refl))
+    is_area_read s task pages ≡ true
+all_there s task pages each =
+    all_true (λ index. is_page_read s task index (slice_get pages index)) (length pages)
+    (λ k low. by k (slice_get pages k) refl)
   where
     by : (k : ℕ) (o : Option ReadBlock) → slice_get pages k ≡ o → is_page_read s task k (slice_get pages k) ≡ true
     by k None e = ap (is_page_read s task k) e
     by k (Some page) e = ap (is_page_read s task k) e ∙ there_now s task k page (each k page e)
+
+-- what is said, by whether a page ended the task and whether all are there
+said : (s : State) (task : Task) (pages : List ReadBlock) (ended read : Bool) → is_ended task.request pages ≡ ended →
+    is_area_read s task pages ≡ read → deed_reply s task (ReadingArea pages) ≡ reads_reply task ended read
+said s task pages ended read e f = λ i. reads_reply task (e i) (f i)
+
+asked_not_ended : (task : Task) (request : RpmbRequest) (pages : List ReadBlock) → task.request ≡ Some request →
+    is_ended task.request pages ≡ false
+asked_not_ended task request pages is = ap (λ (o : Option RpmbRequest). is_ended o pages) is
+
+pub waits : (s : State) (task : Task) (request : RpmbRequest) (pages : List ReadBlock) (k : ℕ) (page : ReadBlock) →
+    task.request ≡ Some request → slice_get pages k ≡ Some page → IsOwed s task k page →
+    deed_reply s task (ReadingArea pages) ≡ None
+waits s task request pages k page is there e =
+    said s task pages false false (asked_not_ended task request pages is) (not_there s task pages k page there e)
+
+pub good_due : (s : State) (task : Task) (request : RpmbRequest) (pages : List ReadBlock) →
+    task.request ≡ Some request →
+    ((k : ℕ) (page : ReadBlock) → slice_get pages k ≡ Some page → IsThere s task k page) →
+    deed_reply s task (ReadingArea pages) ≡ Some (response task.lun task.tag task.expected task.length Good)
+good_due s task request pages is each =
+    said s task pages false true (asked_not_ended task request pages is) (all_there s task pages each)
+
+-- ## VERIFY
+
+none_unreadable : (pages : List ReadBlock) →
+    ((k : ℕ) (page : ReadBlock) → slice_get pages k ≡ Some page → page.state ≢ NotRead) →
+    list_any is_unreadable pages ≡ false
+none_unreadable [] each = refl
+none_unreadable (x ∷ xs) each =
+    (λ i. first i || list_any is_unreadable xs) ∙ none_unreadable xs (λ k. each (suc k))
+  where
+    by : (state : ReadState) → state ≢ NotRead → is_not_read state ≡ false
+    by Unread other = refl
+    by WasRead other = refl
+    by NotRead other = absurd (other refl)
+
+    first : is_unreadable x ≡ false
+    first = by x.state (each 0 x refl)
+
+one_unreadable : (pages : List ReadBlock) (k : ℕ) (page : ReadBlock) → slice_get pages k ≡ Some page →
+    page.state ≡ NotRead → list_any is_unreadable pages ≡ true
+one_unreadable [] k page there e = absurd (none-some page there)
+one_unreadable (x ∷ xs) zero page there e =
+    or_left (is_unreadable x) (list_any is_unreadable xs)
+    (ap is_unreadable (same_Some x page there) ∙ ap is_not_read e)
+one_unreadable (x ∷ xs) (suc k) page there e =
+    or_right (is_unreadable x) (list_any is_unreadable xs) (one_unreadable xs k page there e)
+
+of_none : (task : Task) (pages : List ReadBlock) (b : Bool) → task.request ≡ None → list_any is_unreadable pages ≡ b →
+    is_ended task.request pages ≡ b
+of_none task pages b is e = ap (λ (o : Option RpmbRequest). is_ended o pages) is ∙ e
+
+pub verify_waits : (s : State) (task : Task) (pages : List ReadBlock) (k : ℕ) (page : ReadBlock) →
+    task.request ≡ None →
+    ((k : ℕ) (page : ReadBlock) → slice_get pages k ≡ Some page → page.state ≢ NotRead) →
+    slice_get pages k ≡ Some page → IsOwed s task k page → deed_reply s task (ReadingArea pages) ≡ None
+verify_waits s task pages k page is right there e =
+    said s task pages false false (of_none task pages false is (none_unreadable pages right))
+    (not_there s task pages k page there e)
+
+pub all_verified : (s : State) (task : Task) (pages : List ReadBlock) → task.request ≡ None →
+    ((k : ℕ) (page : ReadBlock) → slice_get pages k ≡ Some page → IsThere s task k page) →
+    ((k : ℕ) (page : ReadBlock) → slice_get pages k ≡ Some page → page.state ≢ NotRead) →
+    deed_reply s task (ReadingArea pages) ≡ Some (response task.lun task.tag task.expected task.length Good)
+all_verified s task pages is each right =
+    said s task pages false true (of_none task pages false is (none_unreadable pages right))
+    (all_there s task pages each)
+
+pub one_not_verified : (s : State) (task : Task) (pages : List ReadBlock) (k : ℕ) (page : ReadBlock) →
+    task.request ≡ None → slice_get pages k ≡ Some page → page.state ≡ NotRead →
+    deed_reply s task (ReadingArea pages) ≡ Some (response task.lun task.tag task.expected task.length read_error)
+one_not_verified s task pages k page is there lost =
+    said s task pages true (is_area_read s task pages)
+    (of_none task pages true is (one_unreadable pages k page there lost)) refl
 
 -- ## What could not be read
 

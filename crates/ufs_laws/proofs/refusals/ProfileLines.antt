@@ -12,7 +12,7 @@ use Rattle.std.proofs.lemmas.Bool.{and_right}
 use Rattle.ufs_spec.specs.Exchanges.{saving_unsupported, self_test_failed, unit_attention}
 use Rattle.ufs_spec.proofs.Facts.{or_with_false}
 use Rattle.ufs_laws.proofs.Common.{write_protected, ◌≤◌, lt-ltb}
-use Rattle.ufs_spec.specs.Refusals.{brought}
+use Rattle.ufs_spec.specs.Refusals.{BootUnit, brought}
 use Rattle.ufs_spec.specs.Refusals.{DeviceUnit, UnitOf, fails_test, has_attention, has_other_response, is_crowded}
 use Rattle.ufs_spec.specs.Refusals.{is_refused_write, is_unready, lacks_page}
 use Rattle.ufs_spec.specs.Refusals.{lacks_region, lacks_response, wants_saved}
@@ -187,6 +187,47 @@ module _ (s : State) (tag : ℕ) (row : numbers_of s ≡ profile_1_row) where
         (skips (not (mended s || locked (there s))) not_ready _ (once_mended _ _ e)
         (skips (locked (there s)) self_test_failed _ (locks false k) (needs_no_slot _ refl)))
 
+    -- ## VERIFY
+
+    abbrev verify : (flags address blocks : ℕ) → Request
+    verify flags address blocks = asks flags 0 tag (cdb.Verify address blocks false)
+
+    pub verify_taken : mended s ≡ true → refusal s (verify 0x00 0 1) ≡ None
+    verify_taken = taken (verify 0x00 0 1) refl
+
+    pub verify_with_flags : mended s ≡ true → refusal s (verify 0x40 0 1) ≡ None
+    verify_with_flags = taken (verify 0x40 0 1) refl
+
+    pub verify_long : refusal s (verify 0x00 0 33) ≡ Some invalid_field
+    verify_long = says (verify 0x00 0 33) (Some invalid_field) _ refl refl
+
+    pub verify_past : refusal s (verify 0x00 256 1) ≡ Some out_of_range
+    verify_past = says (verify 0x00 256 1) (Some out_of_range) _ refl refl
+
+    pub verify_ready : mended s ≡ false → locked s ≡ false → refusal s (verify 0x00 0 1) ≡ Some not_ready
+    verify_ready = unready (verify 0x00 0 1) _ refl
+
+    abbrev compared : (flags address blocks : ℕ) → Request
+    compared flags address blocks = asks flags 0 tag (cdb.Verify address blocks true)
+
+    pub compared_taken : mended s ≡ true → refusal s (compared 0x20 0 1) ≡ None
+    compared_taken = taken (compared 0x20 0 1) refl
+
+    pub none_compared : mended s ≡ true → refusal s (compared 0x00 0 0) ≡ None
+    none_compared = taken (compared 0x00 0 0) refl
+
+    pub compared_direction : refusal s (compared 0x00 0 1) ≡ Some invalid_field
+    compared_direction = says (compared 0x00 0 1) (Some invalid_field) _ refl refl
+
+    pub compared_fewer : refusal s (compared 0x20 0 2) ≡ Some invalid_field
+    compared_fewer = says (compared 0x20 0 2) (Some invalid_field) _ refl refl
+
+    pub compared_long : refusal s (compared 0x20 0 33) ≡ Some invalid_field
+    compared_long = says (compared 0x20 0 33) (Some invalid_field) _ refl refl
+
+    pub compared_past : refusal s (compared 0x20 256 1) ≡ Some out_of_range
+    compared_past = says (compared 0x20 256 1) (Some out_of_range) _ refl refl
+
     -- ## A WRITE of two blocks, of which one comes
 
     abbrev short_write : Bool → Request
@@ -221,6 +262,31 @@ module _ (s : State) (tag : ℕ) (row : numbers_of s ≡ profile_1_row) where
     pub short_list :
         refusal s (record (asks 0x20 0 tag (cdb.Unmap 24)) { expected = 23 }) ≡ Some invalid_field
     short_list = says (record (asks 0x20 0 tag (cdb.Unmap 24)) { expected = 23 }) (Some invalid_field) _ refl refl
+
+pub verify_older : (s : State) (tag : ℕ) → IsIdle s → IsRefused s (asks 0x00 0 tag (cdb.Verify 0 1 false)) invalid_operation
+verify_older s tag h = answers s (asks 0x00 0 tag (cdb.Verify 0 1 false)) invalid_operation h refl refl
+
+pub compared_older : (s : State) (tag : ℕ) → IsIdle s →
+    IsRefused s (asks 0x20 0 tag (cdb.Verify 0 1 true)) invalid_operation
+compared_older s tag h = answers s (asks 0x20 0 tag (cdb.Verify 0 1 true)) invalid_operation h refl refl
+
+-- a well-known unit without an attention takes none
+pub verify_of : (s : State) (tag byte : ℕ) (lun : Lun) (rest : Option Status) → numbers_of s ≡ profile_1_row →
+    has_attention s lun ≡ false →
+    refusal (there s) (asks 0x00 byte tag (cdb.Verify 0 1 false))
+    ≡ (if meeting s lun true then Some unit_attention else rest) →
+    rest ≡ Some invalid_operation → refusal s (asks 0x00 byte tag (cdb.Verify 0 1 false)) ≡ Some invalid_operation
+verify_of s tag byte lun rest row none lines e =
+    untold s profile_1_row lun true (asks 0x00 byte tag (cdb.Verify 0 1 false)) (Some invalid_operation) rest row
+    (clear (has_attention s lun) none) lines e
+
+pub verify_device : (s : State) (tag : ℕ) → numbers_of s ≡ profile_1_row → has_attention s DeviceUnit ≡ false →
+    refusal s (asks 0x00 0xD0 tag (cdb.Verify 0 1 false)) ≡ Some invalid_operation
+verify_device s tag row none = verify_of s tag 0xD0 DeviceUnit _ row none refl refl
+
+pub verify_boot : (s : State) (tag : ℕ) → numbers_of s ≡ profile_1_row → has_attention s BootUnit ≡ false →
+    refusal s (asks 0x00 0xB0 tag (cdb.Verify 0 1 false)) ≡ Some invalid_operation
+verify_boot s tag row none = verify_of s tag 0xB0 BootUnit _ row none refl refl
 
 pub short_older : (s : State) (tag : ℕ) (forced : Bool) → IsIdle s →
     IsRefused s (asks 0x20 0 tag (cdb.Write 0 2 forced)) invalid_field

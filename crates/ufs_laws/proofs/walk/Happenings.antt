@@ -1,6 +1,7 @@
 -- What a call makes of the exchanges, behind what it does first: one happening of few kinds, for a reason. This is the
 -- one walk through messages, data and replies; what follows of it is a case for each kind (`behind_by`).
-use Rattle.ufs_laws.proofs.Common.{Allowed, Answer, Answering, AreBytes, Array, Bool, Call, Cdb, Claim, Command, Deed}
+use Rattle.ufs_laws.proofs.Common.{Allowed, Answer, Answering, AreBytes, Array, Bool, Call, Cdb, Claim, Command}
+use Rattle.ufs_laws.proofs.Common.{Comparing, Deed, ReadBlock, slice_get}
 use Rattle.ufs_laws.proofs.Common.{Done, EndJob, Ending, Erasing, Faulty, Flight, ForTask, Gathering, GiveJob, Host}
 use Rattle.ufs_laws.proofs.Common.{HostFault, IsSpoken, List, Message, None, NotRead, OfDone, OfHost, OfReply, OfTake}
 use Rattle.ufs_laws.proofs.Common.{OfTurn, Option, Programming, Purpose, Query, ReadState, ReadWrong, Reader, Reading}
@@ -12,9 +13,11 @@ use Rattle.ufs_laws.proofs.Common.{none-some, not, numbers_of, plain_now, query_
 use Rattle.ufs_laws.proofs.Common.{refused_state, replied_by, result_of, same_Some, service, set_deed, setting_of}
 use Rattle.ufs_laws.proofs.Common.{short_replied, short_reply, subst, sym, tag_in, task_goes_on, task_of, task_read}
 use Rattle.ufs_laws.proofs.Common.{true, unit_of_request, unit_or_first, with_moves, with_short, with_task}
-use Rattle.ufs_laws.proofs.Common.{without_tasks, ℕ, ◌&&◌, ◌++◌, ◌+◌, ◌==◌, ◌∷◌, ◌≡◌}
+use Rattle.ufs_laws.proofs.Common.{without_tasks, ℕ, ◌&&◌, ◌*◌, ◌++◌, ◌+◌, ◌==◌, ◌∷◌, ◌≡◌}
 use Rattle.std.specs.Prelude.{Err, Ok}
 use Rattle.ufs_spec.specs.Exchanges.{is_asked_in, most_tasks, number_of, to_gather}
+use Rattle.ufs_spec.specs.DataOuts.{block_compared, block_differs, block_same}
+use Rattle.ufs_spec.specs.Rpmb.{same_bytes}
 use Rattle.ufs_spec.specs.Machine.{array_after, asked_fault, begun_if_any, command_taken, data_for, data_heard}
 use Rattle.ufs_spec.specs.Machine.{NoEvent, ends_with, has_attribute, heard, in_use, link_reset, opening_fault}
 use Rattle.ufs_spec.specs.Machine.{read_noted}
@@ -58,6 +61,9 @@ pub data Happening : Type 0 where
   -- a task gets data: it goes on, or has all of them
   Gathers : (task : Task) → (purpose : Purpose) → (all : List ℕ) → Happening
   Completes : (task : Task) → (completion : Completion) → Happening
+  -- a task compares data with its next block: they are the same, or others
+  IsSame : (task : Task) → (blocks : List ReadBlock) → (compared : ℕ) → Happening
+  Differs : (task : Task) → (compared : ℕ) → Happening
   -- tasks are aborted; a reset leaves so what is volatile
   Aborts : (volatile : Volatile) → (is : Task → Bool) → (short : Short) → Happening
   -- the link was reset
@@ -78,6 +84,8 @@ happened s (Refuses r status) = with_task (refused_state s r) r None 0 (Answerin
 happened s (Begins r c) = begun s r (unit_or_first (unit_of_request s r)) c
 happened s (Gathers task purpose all) = set_deed s task.tag (Gathering purpose all false)
 happened s (Completes task completion) = completed s task completion
+happened s (IsSame task blocks compared) = block_same s task blocks compared
+happened s (Differs task compared) = block_differs s task compared
 happened s (Aborts volatile is short) = with_short (without_tasks (record s { volatile = volatile }) is) short
 happened s (Resets kind) = link_reset s kind
 happened s (GoesOn task deed) = set_deed (with_moves s (moves_after task task.deed)) task.tag deed
@@ -146,6 +154,16 @@ pub record GetsData (s : State) (call : Call) (answer : Answer) (task : Task) (p
   pub next : Allowed s call answer → length more ≡ count_at (to_gather purpose task.length) (length gathered)
   pub are_bytes : IsSpoken call → AreBytes more
 
+-- the task compares its blocks, so many of which were compared, and there is one more
+pub record Compares (s : State) (call : Call) (answer : Answer) (task : Task) (blocks : List ReadBlock)
+    (compared : ℕ) : Type 0 where
+  pub found : task_of task.tag s.tasks ≡ Some task
+  pub asked : Bool
+  pub deed : task.deed ≡ Comparing blocks compared asked
+  pub block : ReadBlock
+  pub there : slice_get blocks compared ≡ Some block
+  pub was : Allowed s call answer → asked ≡ true
+
 abbrev pub Why : State → Call → Answer → Happening → Type 0
 Why s call answer (Tells volatile short) =
     (tag : ℕ) × (q : Query) × IsSuccess s call tag q × (setting_of q ≡ None)
@@ -160,6 +178,9 @@ Why s call answer (Gathers task purpose all) =
 Why s call answer (Completes task completion) =
     (purpose : Purpose) × (d : GetsData s call answer task purpose)
     × WhyCompleted s task purpose (d.gathered ++ d.more) completion
+Why s call answer (IsSame task blocks compared) = Compares s call answer task blocks compared
+Why s call answer (Differs task compared) =
+    (blocks : List ReadBlock) × Compares s call answer task blocks compared
 Why s call answer (Aborts volatile is short) =
     (lun : ℕ) × (function : ℕ) × IsRequestOf call lun function × (volatile ≡ volatile_managed s lun function)
 Why s call answer (Resets kind) = IsEventOf call kind
@@ -256,6 +277,21 @@ module _ (P : State → Type 0) (s : State) (call : Call) (answer : Answer) (eac
             (and_parts (asked && (task.lun == lun) && (offset == length gathered)) _ (right may)).1;
         are_bytes = are;
       }
+  data_by task (Comparing blocks compared asked) lun offset more found e right are = by (slice_get blocks compared) refl
+    where
+      was : Allowed s call answer → asked ≡ true
+      was may =
+          (and_parts asked (task.lun == lun)
+          (and_parts (asked && (task.lun == lun)) (offset == 4096 * compared)
+          (and_parts (asked && (task.lun == lun) && (offset == 4096 * compared)) _ (right may)).0).0).0
+
+      by : (o : Option ReadBlock) → slice_get blocks compared ≡ o → P (block_compared s task blocks compared o more)
+      by None there = each NothingMore tt
+      by (Some block) there =
+          let d : Compares s call answer task blocks compared =
+          record { found = found; asked = asked; deed = e; block = block; there = there; was = was } in
+          if_cases P (same_bytes more block.body) (λ same. each (IsSame task blocks compared) d)
+          (λ other. each (Differs task compared) (blocks, d))
   data_by task deed lun offset more found e right are = each NothingMore tt
 
   -- Queries

@@ -10,7 +10,7 @@ use Rattle.ufs_laws.proofs.Common.{is_durable, is_short_of, is_task_of, is_to_fi
 use Rattle.ufs_laws.proofs.Common.{moved, moves_after, not, numbers_of, observe, plain_now, read_begun, refl}
 use Rattle.ufs_laws.proofs.Common.{refused_state, replied, requested, set_deed, short_locked, subst, task_filled}
 use Rattle.ufs_laws.proofs.Common.{task_locked, task_read, true, with_deed, with_moves, with_request, with_short}
-use Rattle.ufs_laws.proofs.Common.{with_task, without_tasks, ℕ, ◌++◌, ◌+◌, ◌∷◌, ◌≡◌}
+use Rattle.ufs_laws.proofs.Common.{with_task, without_tasks, ℕ, ◌*◌, ◌++◌, ◌+◌, ◌∷◌, ◌≡◌}
 use Rattle.std.specs.Prelude.{Ok}
 use Rattle.ufs_spec.specs.FrameRequests.{first_page, page_kept, pages_named}
 use Rattle.ufs_spec.specs.Machine.{acknowledges, array_after, fill_moves, hears, kept_at, registers_after}
@@ -19,12 +19,13 @@ use Rattle.ufs_spec.specs.Moves.{Accept, Acknowledge, Keep, LetGo, LetGoAll, Rel
 use Rattle.ufs_spec.specs.declared.scsi.Cdb.TheVariants as cdb
 pub use Rattle.ufs_laws.proofs.walk.Happenings.{first, job_over, Aborts, Begins, BlockRead, Gathers, GoesOn, Happening}
 pub use Rattle.ufs_laws.proofs.walk.Happenings.{IsOver, NothingMore, Refuses, Replies, ShortOver, behind_by, happened}
-pub use Rattle.ufs_laws.proofs.walk.Happenings.{Completes, Resets, Sets, Tells}
+pub use Rattle.ufs_laws.proofs.walk.Happenings.{Completes, Differs, IsSame, Resets, Sets, Tells}
 use Rattle.ufs_spec.specs.Exchanges.{all_empty}
 use Rattle.ufs_spec.specs.Machine.{link_reset, volatile_reset}
 use Rattle.std.proofs.lemmas.List.{map-id}
 use Rattle.ufs_laws.proofs.walk.WaysOfCommands.{Beginning, Gathered, Handing, Reading, Telling, WhyBegun, begins_by}
-use Rattle.ufs_laws.proofs.walk.WaysOfCommands.{Answered, begun_as, expecting}
+use Rattle.ufs_laws.proofs.walk.WaysOfCommands.{Answered, Checking, Verifying, begun_as, expecting}
+use Rattle.ufs_spec.specs.Begins.{wanted_at}
 use Rattle.ufs_laws.proofs.walk.WaysOfData.{Accepted, AcceptsFrames, Completion, HasResult, ReadsArea, Told}
 use Rattle.ufs_laws.proofs.walk.WaysOfData.{claim_of_task, completed}
 use Rattle.ufs_spec.specs.declared.volatile.Volatile.{Volatile}
@@ -185,6 +186,10 @@ begun_small s r unit c = begins_by (Small s) s r unit c one
     one (Reading unit address n) why = read_small s r (brought r.expected c) unit address n
     one (Gathered expected count purpose n) why = Both (one_move (Claim count) tt) (opens (expecting r expected) _ n _)
     one (Answered expected n) why = opens (expecting r expected) _ n _
+    one (Verifying u address n) why =
+        Both (keeps_small s (λ i. data_key u (address + i)) (wanted_at s r.tag u address) (below n)) (opens r _ 0 _)
+    one (Checking u address n) why =
+        Both (keeps_small s (λ i. data_key u (address + i)) (kept_at s r.tag u address) (below n)) (opens r _ (4096 * n) _)
     one (Handing region n) why = Both (opens r (Some (cdb.SecurityIn region n)) _ _) (One (SetsRegisters _) tt)
     one (Telling volatile bytes) why = Both (One (SetsVolatile volatile) tt) (opens r _ _ _)
     one b why = opens r _ _ _
@@ -312,6 +317,10 @@ happens_small s (Refuses r status) =
 happens_small s (Begins r c) = begun_small s r _ c
 happens_small s (Gathers task purpose all) = set task.tag _
 happens_small s (Completes task k) = completes_small s task k
+happens_small s (IsSame task blocks compared) =
+    Both (one_move (LetGo task.tag compared) tt)
+    (Both (one_move (WantPage task.tag (compared + 1)) tt) (set task.tag _))
+happens_small s (Differs task compared) = Both (one_move (LetGoAll task.tag) tt) (set task.tag _)
 happens_small s (Aborts volatile is short) =
     Both (One (SetsVolatile volatile) tt) (Both (without_small _ is) (One (OpensShort short) tt))
 happens_small s (Resets kind) = reset_small s kind

@@ -15,6 +15,10 @@ use Rattle.ufs_laws.specs.Exchange.{Asks, IsAskedIn}
 use Rattle.ufs_spec.specs.declared.messages.Message.TheVariants as message
 use Rattle.ufs_laws.proofs.walk.Happenings.{Aborts, Begins, BlockRead, Gathers, GoesOn, Happening, IsCommand, IsOver}
 use Rattle.ufs_spec.specs.Machine.{NoEvent}
+use Rattle.ufs_spec.specs.DataOuts.{deed_after_same}
+use Rattle.ufs_spec.specs.Exchanges.{miscompare}
+use Rattle.ufs_laws.proofs.Common.{Comparing, slice_get, ◌*◌, ◌+◌}
+use Rattle.ufs_laws.proofs.walk.Happenings.{Compares, Differs, IsSame}
 use Rattle.ufs_laws.proofs.walk.Happenings.{Refuses, Resets, Why, behind_by, ends_by, happened, job_over, Completes}
 use Rattle.ufs_laws.proofs.walk.WaysOfCommands.{begins_by, beginning_opens}
 use Rattle.ufs_laws.proofs.walk.WaysOfData.{Accepted, AcceptsFrames, HasResult, IsAcceptedDeed, IsAnswerTo, ReadsArea}
@@ -88,6 +92,12 @@ pub record IsTaskLaw (P : Task → Type 0) (May : Task → Deed → Type 0) (Ask
       task.deed ≡ Gathering purpose gathered asked → P task → May task (Awaiting position)
   pub reads_area : (task : Task) (purpose : Purpose) (gathered : List ℕ) (asked : Bool) (pages : List ReadBlock) →
       task.deed ≡ Gathering purpose gathered asked → P task → May task (ReadingArea pages)
+  -- tasks that compare their next block: it is the same, or another one
+  pub same : (task : Task) (blocks : List ReadBlock) (compared : ℕ) (asked : Bool) →
+      task.deed ≡ Comparing blocks compared asked → P task → May task (deed_after_same task blocks compared)
+  pub differs : (task : Task) (blocks : List ReadBlock) (compared : ℕ) (asked : Bool) (block : ReadBlock) →
+      task.deed ≡ Comparing blocks compared asked → slice_get blocks compared ≡ Some block → P task →
+      May task (Answering miscompare (4096 * (compared + 1)))
   -- that replied, whose request fills its register, that a lock meets, and of which a block was read
   pub goes : (task : Task) (deed : Deed) → deed_after task task.deed ≡ Some deed → P task → May task deed
   pub fills : (u : State) (task : Task) → P task → P (task_filled u task)
@@ -162,6 +172,7 @@ module _ (P : Task → Type 0) (May : Task → Deed → Type 0) (Asked : Request
   accepted_may task purpose gathered asked (Sending blocks sent) e p is = absurd is
   accepted_may task purpose gathered asked (SendingBytes bytes) e p is = absurd is
   accepted_may task purpose gathered asked (ReadingArea pages) e p is = absurd is
+  accepted_may task purpose gathered asked (Comparing blocks compared was) e p is = absurd is
 
   happens_kept : (call : Call) (answer : Answer) → IsSpoken call → Asks Asked call → Allowed s call answer →
       (h : Happening) → Why s call answer h → Every P (happened s h).tasks
@@ -194,6 +205,12 @@ module _ (P : Task → Type 0) (May : Task → Deed → Type 0) (Asked : Request
   happens_kept call answer is asks may (Completes task (AcceptsFrames region frames result c)) (purpose, d, told) =
       k.set_request task _ (Awaiting _) d.found all
       (k.waits task purpose d.gathered d.asked _ d.deed (found_kept task d.found))
+  happens_kept call answer is asks may (IsSame task blocks compared) d =
+      k.set task (deed_after_same task blocks compared) d.found all
+      (k.same task blocks compared d.asked d.deed (found_kept task d.found))
+  happens_kept call answer is asks may (Differs task compared) (blocks, d) =
+      k.set task (Answering miscompare (4096 * (compared + 1))) d.found all
+      (k.differs task blocks compared d.asked d.block d.deed d.there (found_kept task d.found))
   happens_kept call answer is asks may (Aborts volatile those short) why =
       every_filtered P (λ task. not (those task)) s.tasks all
   happens_kept call answer is asks may (Resets kind) why = tt

@@ -9,7 +9,9 @@ use Rattle.ufs_laws.proofs.Common.{true, with_moves, with_task, zero, ℕ, ◌*�
 use Rattle.ufs_laws.proofs.Common.{◌≤◌}
 use Rattle.std.proofs.Math.Nat.{div-add-mod}
 use Rattle.ufs_spec.proofs.Facts.{eqb-false, ltb-false}
-use Rattle.ufs_spec.specs.Begins.{expected_of_write, frames_begun, told_bytes, volatile_told, write_begun}
+use Rattle.ufs_spec.specs.Exchanges.{Comparing, ReadingArea}
+use Rattle.ufs_spec.specs.Machine.{read_blocks}
+use Rattle.ufs_spec.specs.Begins.{keeps, keeps_wanted, expected_of_write, frames_begun, told_bytes, volatile_told, write_begun}
 use Rattle.ufs_spec.specs.Cdbs.{address_of, blocks_of}
 use Rattle.ufs_spec.specs.Machine.{flush_begun}
 use Rattle.ufs_spec.specs.Exchanges.{to_gather}
@@ -26,8 +28,10 @@ pub data Beginning : Type 0 where
   -- it sends these data, and leaves so what is volatile; or the frames that wait in a region
   Telling : (volatile : Volatile) → (bytes : List ℕ) → Beginning
   Handing : (region n : ℕ) → Beginning
-  -- it reads blocks
+  -- it reads so many bytes of blocks to send them, or so many blocks to look whether they can be read, or to compare them
   Reading : (unit address n : ℕ) → Beginning
+  Verifying : (unit address n : ℕ) → Beginning
+  Checking : (unit address n : ℕ) → Beginning
   -- it gathers data, of n bytes of which so many count as expected, in slots that it claims
   Gathered : (expected count : ℕ) → (purpose : Purpose) → (n : ℕ) → Beginning
 
@@ -41,6 +45,12 @@ begun_as s r c Waiting = with_task s r (Some (brought r.expected c)) 0 (Awaiting
 begun_as s r c (Telling volatile bytes) = data_begun (record s { volatile = volatile }) r (brought r.expected c) bytes
 begun_as s r c (Handing region n) = frames_begun s r region n
 begun_as s r c (Reading unit address n) = read_begun s r (brought r.expected c) unit address n
+begun_as s r c (Verifying unit address n) =
+    with_task (with_moves s (keeps_wanted s r.tag unit address n)) r (Some (brought r.expected c)) 0
+    (ReadingArea (read_blocks s unit address n))
+begun_as s r c (Checking unit address n) =
+    with_task (with_moves s (keeps s r.tag unit address n)) r (Some (brought r.expected c)) (4096 * n)
+    (Comparing (read_blocks s unit address n) 0 false)
 begun_as s r c (Gathered expected count purpose n) =
     with_task (with_moves s (Claim count ∷ [])) (expecting r expected) (Some (brought r.expected c)) n
     (Gathering purpose [] false)
@@ -82,6 +92,9 @@ WhyBegun s r unit c (Handing region n) = c ≡ cdb.SecurityIn region n
 WhyBegun s r unit c (Reading u address n) =
     (u ≡ unit) × (address ≡ address_of c) × (n ≡ blocks_of c * 4096)
     × (kind_of c ≡ kind.Read)
+WhyBegun s r unit c (Verifying u address n) =
+    (u ≡ unit) × (address ≡ address_of c) × (n ≡ blocks_of c) × (kind_of c ≡ kind.Verify) × (0 < n)
+WhyBegun s r unit c (Checking u address n) = (u ≡ unit) × (c ≡ cdb.Verify address n true) × (0 < n)
 WhyBegun s r unit c (Gathered expected count purpose n) =
     (slots_needed (numbers_of s) (brought r.expected c) ≡ count) × (is_too_long (numbers_of s) c ≡ false → 0 < to_gather purpose n)
     × (is_too_long (numbers_of s) c ≡ false → has_wrong_list c ≡ false → n < 2 ^ 32)
@@ -124,6 +137,7 @@ few_blocks n blocks e =
 pub command_few : (n : Numbers) (c : Cdb) → is_too_long n c ≡ false → blocks_of c ≤ 128
 command_few n (cdb.Read address blocks) e = few_blocks n blocks e
 command_few n (cdb.Write address blocks forced) e = few_blocks n blocks e
+command_few n (cdb.Verify address blocks compared) e = few_blocks n blocks e
 command_few n c e = omega arith
 
 -- an UNMAP's list is short
@@ -203,6 +217,13 @@ module _ (P : State → Type 0) (s : State) (r : Request) (unit : ℕ) where
       (record { what = what; select = select; allocation = allocation; is = refl; leaves = refl })
   begins_by (cdb.Read address blocks) each = each (Reading unit address _) (refl, refl, omega arith, refl)
   begins_by (cdb.Write address blocks forced) each = write_by address blocks forced each
+  begins_by (cdb.Verify address blocks true) each =
+      if_cases P (blocks == 0) (λ none. good_by (cdb.Verify address blocks true) each)
+      (λ some. each (Checking unit address blocks) (refl, refl, more_than_none blocks (eqb-false blocks 0 some)))
+  begins_by (cdb.Verify address blocks false) each =
+      if_cases P (blocks == 0) (λ none. good_by (cdb.Verify address blocks false) each)
+      (λ some. each (Verifying unit address blocks)
+      (refl, refl, refl, refl, more_than_none blocks (eqb-false blocks 0 some)))
   begins_by (cdb.Prefetch address blocks) each = good_by (cdb.Prefetch address blocks) each
   begins_by (cdb.Diagnose tests) each = good_by (cdb.Diagnose tests) each
   begins_by (cdb.Flush immediate) each = flush_by immediate each

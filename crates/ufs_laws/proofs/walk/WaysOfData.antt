@@ -1,6 +1,6 @@
 -- What comes of a task once all its data are there: one of few ways, for a reason. A law of it is a case for each way
 -- (`completes_by`), so that new data add their lines here.
-use Rattle.ufs_laws.proofs.Common.{Answering, Awaiting, Bool, Command, Deed, ForFrames, ForUnmap, ForWrite, Frame}
+use Rattle.ufs_laws.proofs.Common.{Answering, Awaiting, Bool, Command, Comparing, Deed, ForFrames, ForUnmap, ForWrite, Frame}
 use Rattle.ufs_laws.proofs.Common.{Gathering, Good, List, None, Option, Purpose, ReadingArea, Refused, Registers}
 use Rattle.ufs_laws.proofs.Common.{Results, RpmbOutcome, Sending, SendingBytes, Some, State, Status, Task, Write, Zero}
 use Rattle.ufs_laws.proofs.Common.{[], accepts, accepts_nothing, blocks_in, checks, claimed_by, command_in, complete}
@@ -125,6 +125,7 @@ IsAcceptedDeed purpose task (Gathering other gathered asked) = ⊥
 IsAcceptedDeed purpose task (Sending blocks sent) = ⊥
 IsAcceptedDeed purpose task (SendingBytes bytes) = ⊥
 IsAcceptedDeed purpose task (ReadingArea pages) = ⊥
+IsAcceptedDeed purpose task (Comparing blocks compared asked) = ⊥
 
 write_waits : (unit address blocks : ℕ) (forced : Bool) (task : Task) (f : Bool) (n : ℕ) →
     IsAcceptedDeed (ForWrite unit address blocks forced) task (write_deed f n task.length)

@@ -8,7 +8,7 @@ pub returns-clause-waits : goal.returns-clause-waits
 returns-clause-waits c = area.waits
 
 pub returns-clause-due : goal.returns-clause-due
-returns-clause-due c = area.due
+returns-clause-due c = area.good_due
 
 pub returns-clause-lost : goal.returns-clause-lost
 returns-clause-lost c = area.lost
