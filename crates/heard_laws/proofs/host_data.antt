@@ -5,4 +5,5 @@ pub mod DataLands
 pub mod WritesAgree
 pub mod ListsAgree
 pub mod FramesAgree
+pub mod ComparedAgree
 pub mod DataAgree

@@ -5,7 +5,7 @@ use Rattle.std.specs.Prelude.{Bool, List, None, Option, Some, [], false, length,
 use Rattle.std.specs.List.{AllByRecursion, list_any}
 use Rattle.ufs_spec.specs.CdbFields.{kind_of}
 use Rattle.ufs_spec.specs.Cdbs.{address_of, blocks_of}
-use Rattle.ufs_spec.specs.Exchanges.{Answering, Awaiting, Deed, Gathering}
+use Rattle.ufs_spec.specs.Exchanges.{Answering, Awaiting, Comparing, Deed, Gathering}
 use Rattle.ufs_spec.specs.declared.exchanges.Purpose.{Purpose}
 use Rattle.ufs_spec.specs.declared.exchanges.Purpose.TheVariants.{ForFrames, ForUnmap, ForWrite}
 use Rattle.ufs_spec.specs.Exchanges.{ReadBlock, ReadingArea, RpmbRequest, Sending, SendingBytes, Task}
@@ -29,10 +29,12 @@ abbrev pub FramesShow : Plain → ℕ → List Frame → List ReadBlock → Type
 FramesShow p region [] pages = ⊥
 FramesShow p region (f ∷ fs) pages = map (λ (page : ReadBlock). page.body) pages ≡ area_bodies p region f
 
--- the same of the request of a task; a task that reads the area has one
-abbrev pub RequestShows : Plain → Option RpmbRequest → List ReadBlock → Type 0
-RequestShows p None pages = ⊥
-RequestShows p (Some request) pages = FramesShow p request.region request.frames pages
+-- what reads pages of the area brought frames, and its request names the pages; what has no request, as a VERIFY,
+-- brings none, and reads blocks of a unit
+abbrev pub PagesShow : Plain → Option Cdb → Option RpmbRequest → List ReadBlock → Type 0
+PagesShow p command None pages = sends_frames command ≡ false
+PagesShow p command (Some request) pages =
+    (sends_frames command ≡ true) × FramesShow p request.region request.frames pages
 
 -- ## Tasks
 
@@ -52,10 +54,11 @@ GathersRightly (ForFrames region) total command = command ≡ Some (cdb.Security
 -- what reads the area brought frames, and the pages that it reads are as they are in this plain state
 abbrev pub DeedShows : Plain → Option Cdb → ℕ → Option RpmbRequest → Deed → Type 0
 DeedShows p command total request (Gathering purpose gathered asked) = GathersRightly purpose total command
-DeedShows p command total request (ReadingArea pages) = (sends_frames command ≡ true) × RequestShows p request pages
+DeedShows p command total request (ReadingArea pages) = PagesShow p command request pages
 DeedShows p command total request (Sending blocks sent) = Unit {0}
 DeedShows p command total request (SendingBytes bytes) = Unit {0}
 DeedShows p command total request (Awaiting commands) = Unit {0}
+DeedShows p command total request (Comparing blocks compared asked) = Unit {0}
 DeedShows p command total request (Answering status carried) = Unit {0}
 
 -- the same of a task

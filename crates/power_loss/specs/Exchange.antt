@@ -8,7 +8,7 @@ use Rattle.ufs_spec.specs.Cells.{Array, Cell, DataHold, IsCell, IsPlace, Opens, 
 use Rattle.ufs_spec.specs.Configs.{IsConfig, command_blocks}
 use Rattle.ufs_spec.specs.Dies.{blank_page}
 use Rattle.ufs_spec.specs.Disk.{Erasing, Programming, Spot, page_of}
-use Rattle.ufs_spec.specs.Exchanges.{Answering, Awaiting, Deed, Gathering}
+use Rattle.ufs_spec.specs.Exchanges.{Answering, Awaiting, Comparing, Deed, Gathering}
 use Rattle.ufs_spec.specs.declared.exchanges.Purpose.TheVariants.{ForFrames, ForUnmap, ForWrite}
 use Rattle.ufs_spec.specs.Exchanges.{ReadingArea, Sending, SendingBytes, Short, Task, is_short_of}
 use Rattle.ufs_spec.specs.Keys.{CanApplyAll, IsBlock, IsKey, IsPlain, IsSettingsBody, content, groups_of}
@@ -95,6 +95,7 @@ DeedFits n accepted mended claimed total (Awaiting commands) = AwaitsFit accepte
 DeedFits n accepted mended claimed total (Sending blocks sent) = Unit {0}
 DeedFits n accepted mended claimed total (SendingBytes bytes) = Unit {0}
 DeedFits n accepted mended claimed total (ReadingArea pages) = Unit {0}
+DeedFits n accepted mended claimed total (Comparing blocks compared asked) = Unit {0}
 DeedFits n accepted mended claimed total (Answering status carried) = Unit {0}
 
 -- how many slots the task has claimed by the command and by what it does now

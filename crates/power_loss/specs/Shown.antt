@@ -2,7 +2,7 @@
 -- request for RPMB data the pages that it reads.
 use Rattle.std.specs.Prelude.{◌≡◌, ℕ, List, Some, slice_get}
 use Rattle.std.specs.List.{All}
-use Rattle.ufs_spec.specs.Exchanges.{Answering, Awaiting, Deed, Gathering, ReadBlock, ReadingArea, Sending}
+use Rattle.ufs_spec.specs.Exchanges.{Answering, Awaiting, Comparing, Deed, Gathering, ReadBlock, ReadingArea, Sending}
 use Rattle.ufs_spec.specs.Exchanges.{SendingBytes, Task, task_of}
 use Rattle.ufs_spec.specs.Ledger.{Entry, Ledger, entry_of}
 use Rattle.ufs_spec.specs.Plain.{zero_block}
@@ -32,11 +32,12 @@ abbrev pub ShowsAt : Ledger → Looked → ℕ → List ReadBlock → Type 0
 ShowsAt l looked index blocks =
     (block : ReadBlock) → slice_get blocks index ≡ Some block → (k : Key) × IsShown l k looked block.body
 
--- what is kept for one block of a task that sends blocks shows the block, and what is kept for one page of a task that
--- reads the RPMB area shows the page. For a task that gathers data nothing is kept
+-- what is kept for one block of a task that sends or compares blocks shows the block, and what is kept for one page of
+-- a task that reads the RPMB area shows the page. For a task that gathers data nothing is kept
 abbrev pub ShowsBlock : Ledger → Looked → ℕ → Deed → Type 0
 ShowsBlock l looked index (Sending blocks sent) = ShowsAt l looked index blocks
 ShowsBlock l looked index (ReadingArea pages) = ShowsAt l looked index pages
+ShowsBlock l looked index (Comparing blocks compared asked) = ShowsAt l looked index blocks
 ShowsBlock l looked index (Gathering purpose gathered asked) = ⊥
 ShowsBlock l looked index (SendingBytes bytes) = Unit {0}
 ShowsBlock l looked index (Awaiting commands) = Unit {0}

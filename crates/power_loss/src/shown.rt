@@ -2,7 +2,7 @@
 ghost use Rattle.std.specs.Prelude.{◌≡◌, ℕ, Bool, true, Contains, List, Some, slice_get};
 ghost use Rattle.ufs_spec.specs.Cells.{Array};
 ghost use Rattle.ufs_spec.specs.Disk.{Spot};
-ghost use Rattle.ufs_spec.specs.Exchanges.{ReadBlock, ReadingArea, Sending, Task, block_message, task_of};
+ghost use Rattle.ufs_spec.specs.Exchanges.{Comparing, ReadBlock, ReadingArea, Sending, Task, block_message, task_of};
 ghost use Rattle.ufs_spec.specs.declared.exchanges.ReadState.TheVariants.{WasRead};
 ghost use Rattle.ufs_spec.specs.Keys.{IsKey, content};
 ghost use Rattle.ufs_spec.specs.Lives.{IsOpened, Life};
@@ -48,6 +48,14 @@ pub fn kept_content_is_what_is_sent()
         slice_get pages pin.index ≡ Some page → pin.looked ≡ OnPage name place →
         (g : IsGroupPage s.translation.disk.cells s.translation.disk.finished s.translation.disk.erasing name place) →
         g.body ≡ page.body }
+    // And so has the page of each block that is still to be compared.
+    ensures compared { (s : State) (pin : Pin) (task : Task) (blocks : List ReadBlock) (compared : ℕ) (asked : Bool)
+        (block : ReadBlock) (name : Name) (place : Place) → IsTied s → ShowsReads s →
+        Contains s.translation.pins pin → task_of pin.tag s.tasks ≡ Some task →
+        task.deed ≡ Comparing blocks compared asked → slice_get blocks pin.index ≡ Some block →
+        pin.looked ≡ OnPage name place →
+        (g : IsGroupPage s.translation.disk.cells s.translation.disk.finished s.translation.disk.erasing name place) →
+        g.body ≡ block.body }
     // Once the page of a block was read, the next reply of its READ carries it.
     ensures sent { (s : State) (pin : Pin) (task : Task) (blocks : List ReadBlock) (sent : ℕ) (block : ReadBlock)
         (name : Name) (place : Place) → IsTied s → ShowsReads s → Contains s.translation.pins pin → pin.index ≡ sent →

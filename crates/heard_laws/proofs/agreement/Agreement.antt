@@ -1,4 +1,5 @@
 -- What a state and a journal of its life have in common, tag by tag: the invariant that each event keeps.
+use Rattle.ufs_spec.specs.Exchanges.{Comparing}
 use Rattle.heard_laws.proofs.Common.{Answering, AreRegionsOf, Awaited, Awaiting, Blocks, Bool, Deed, ForFrames}
 use Rattle.heard_laws.proofs.Common.{ForUnmap, ForWrite, Frames, Gathering, List, Message, None, Noted, Numbers}
 use Rattle.heard_laws.proofs.Common.{OpenTask, Option, Plain, ReadingArea, Sending, SendingBytes, Some, State}
@@ -55,7 +56,7 @@ pub record WaitsForBlocks (n : Numbers) (lun unit address blocks : ℕ) (forced 
   pub same : SameWrite unit address blocks forced gathered write
 
 -- what a task does, and what its open command waits for and promises. Frames come only to a device that is mended or
--- locked
+-- locked; what a VERIFY compares is waited for by nothing
 abbrev pub DeedAgrees : Numbers → Bool → Roll → ℕ → Deed → Option OpenTask → Type 0
 DeedAgrees n ready roll lun (Gathering (ForWrite unit address blocks forced) gathered asked) o =
     WaitsForBlocks n lun unit address blocks forced gathered o
@@ -68,6 +69,7 @@ DeedAgrees n ready roll lun (Answering status carried) o = is_good status ≡ tr
 DeedAgrees n ready roll lun (Sending blocks sent) o = AtMost 0 roll o
 DeedAgrees n ready roll lun (SendingBytes bytes) o = AtMost 0 roll o
 DeedAgrees n ready roll lun (ReadingArea pages) o = AtMost 0 roll o
+DeedAgrees n ready roll lun (Comparing blocks compared asked) o = Waits n lun Nothing o
 
 -- the open command, if one is open, is that of the LUN and the tag, and promises no more than was noted
 pub record IsNamed (lun tag : ℕ) (roll : Roll) (t : OpenTask) : Type 0 where

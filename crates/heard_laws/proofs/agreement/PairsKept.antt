@@ -1,5 +1,6 @@
 -- What keeps the open tasks and short exchanges of a device in step with what is open in a journal: one entry more, a
 -- lock, and a change under one tag.
+use Rattle.ufs_spec.specs.Exchanges.{Comparing}
 use Rattle.heard_laws.proofs.Common.{Answering, Awaited, Awaiting, Blocks, Bool, Deed, ForFrames, ForUnmap, ForWrite}
 use Rattle.heard_laws.proofs.Common.{Frames, Gathering, List, None, Numbers, OpenTask, Option, ReadingArea, Sending}
 use Rattle.heard_laws.proofs.Common.{SendingBytes, Some, TagsDiffer, Task, UnmapList, Verdict, [], arith, eqb-true}
@@ -35,6 +36,7 @@ deed_more n ready roll o lun (Answering status carried) x inside h = λ good. at
 deed_more n ready roll o lun (Sending blocks sent) x inside h = at_most_more 0 roll o x inside h
 deed_more n ready roll o lun (SendingBytes bytes) x inside h = at_most_more 0 roll o x inside h
 deed_more n ready roll o lun (ReadingArea pages) x inside h = at_most_more 0 roll o x inside h
+deed_more n ready roll o lun (Comparing blocks compared asked) x inside h = h
 
 task_more : (n : Numbers) (ready : Bool) (roll : Roll) (o : Option Command) (task : Task) (x : Option OpenTask) →
     TaskAgrees n ready roll task x → TaskAgrees n ready (roll ++ o ∷ []) task x
@@ -98,6 +100,7 @@ deed_ready n was ready roll lun (Answering status carried) x up h = h
 deed_ready n was ready roll lun (Sending blocks sent) x up h = h
 deed_ready n was ready roll lun (SendingBytes bytes) x up h = h
 deed_ready n was ready roll lun (ReadingArea pages) x up h = h
+deed_ready n was ready roll lun (Comparing blocks compared asked) x up h = h
 
 pub task_ready : (n : Numbers) (was ready : Bool) (roll : Roll) (task : Task) (x : Option OpenTask) →
     (was ≡ true → ready ≡ true) → TaskAgrees n was roll task x → TaskAgrees n ready roll task x

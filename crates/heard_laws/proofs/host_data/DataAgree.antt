@@ -1,4 +1,7 @@
 -- Behind a DATA OUT the device and the journal agree.
+use Rattle.ufs_spec.specs.Exchanges.{Comparing}
+use Rattle.std.specs.Prelude.{slice_get}
+use Rattle.heard_laws.proofs.host_data.ComparedAgree.{compared_agrees}
 use Rattle.heard_laws.proofs.Common.{ArrayVec, Blocks, Bool, CanApplyAll, DataOut, Deed, ForFrames, ForUnmap, ForWrite}
 use Rattle.heard_laws.proofs.Common.{Frame, Frames, Gathering, IsTied, List, Some, State, Task, UnmapList, accepted_by}
 use Rattle.heard_laws.proofs.Common.{accepted_in, and_parts, ap, arith, cond-false, drop, eqb-true, false, false≢true}
@@ -168,22 +171,24 @@ module _ (s : State) (held : ℕ) (j : Heard) (task : Task) (lun offset : ℕ) (
       (subst (λ (g : List ℕ). CanApplyAll s.base (gathered_more s task (ForFrames region) (g ++ more)).accepted) h.1
       can))))
 
-  by_deed : (deed : Deed) → is_asked_in task lun offset (length more) deed ≡ true → Fits deed → Agrees deed →
+  by_deed : (deed : Deed) → task.deed ≡ deed → is_asked_in task lun offset (length more) deed ≡ true → Fits deed → Agrees deed →
       CanApplyAll s.base (data_for s task deed more).accepted →
       AgreeIn s held (data_for s task deed more) (received j task.tag m)
-  by_deed (Gathering (ForWrite unit address blocks forced) before asked) is fits h can =
+  by_deed (Gathering (ForWrite unit address blocks forced) before asked) e is fits h can =
       write_comes unit address blocks forced before (asked_count (ForWrite unit address blocks forced) before asked is)
       fits h
-  by_deed (Gathering (ForUnmap unit) before asked) is fits h can =
+  by_deed (Gathering (ForUnmap unit) before asked) e is fits h can =
       list_comes unit before (asked_count (ForUnmap unit) before asked is) fits h
-  by_deed (Gathering (ForFrames region) before asked) is fits h can =
+  by_deed (Gathering (ForFrames region) before asked) e is fits h can =
       frames_come region before (asked_count (ForFrames region) before asked is) fits h can
-  by_deed deed is fits h can = absurd (false≢true is)
+  by_deed (Comparing blocks compared asked) e is fits h can =
+      compared_agrees s held j task a found h blocks compared asked (slice_get blocks compared) more m e
+  by_deed deed e is fits h can = absurd (false≢true is)
 
   pub data_agrees : is_asked_in task lun offset (length more) task.deed ≡ true →
       CanApplyAll s.base (data_for s task task.deed more).accepted →
       AgreeIn s held (data_for s task task.deed more) (received j task.tag m)
   data_agrees is can =
-      by_deed task.deed is
+      by_deed task.deed refl is
       (found_fits (numbers_of s) (length s.accepted) (mended s) task.tag s.tasks task v.tasks.deeds found).0
       (its s held j task a found).deed can

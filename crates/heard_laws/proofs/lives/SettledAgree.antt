@@ -1,5 +1,6 @@
 -- What each call does at last leaves the agreement: registers are filled, and a lock ends what waits. So does the read
 -- of a block.
+use Rattle.ufs_spec.specs.Exchanges.{Comparing}
 use Rattle.heard_laws.proofs.Common.{Answering, AreRegionsOf, Awaited, Awaiting, Blocks, Bool, Deed, Frames, Gathering}
 use Rattle.heard_laws.proofs.Common.{List, None, Numbers, OpenTask, Option, Plain, ReadingArea, Sending, SendingBytes}
 use Rattle.heard_laws.proofs.Common.{Some, State, Task, UnmapList, Verdict, after, ap, false, false≢true, find, has_tag}
@@ -77,6 +78,7 @@ locked_does s n ready roll task lun (Gathering purpose gathered asked) x h = h
 locked_does s n ready roll task lun (Sending blocks sent) x h = h
 locked_does s n ready roll task lun (SendingBytes bytes) x h = h
 locked_does s n ready roll task lun (ReadingArea pages) x h = h
+locked_does s n ready roll task lun (Comparing blocks compared asked) x h = h
 locked_does s n ready roll task lun (Answering status carried) x h = h
 
 -- a block was read
@@ -88,6 +90,7 @@ deed_reads n ready roll lun index state (Gathering purpose gathered asked) x h =
 deed_reads n ready roll lun index state (Sending blocks sent) x h = h
 deed_reads n ready roll lun index state (SendingBytes bytes) x h = h
 deed_reads n ready roll lun index state (ReadingArea pages) x h = h
+deed_reads n ready roll lun index state (Comparing blocks compared asked) x h = h
 deed_reads n ready roll lun index state (Answering status carried) x h = h
 
 pub block_read : (s u : State) (held : ℕ) (j : Heard) (tag index : ℕ) (state : ReadState) → AgreeIn s held u j →

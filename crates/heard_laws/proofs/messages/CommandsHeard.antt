@@ -1,4 +1,5 @@
 -- A COMMAND: what the device makes of it, and what the journal hears.
+use Rattle.ufs_spec.specs.Exchanges.{Comparing, ReadingArea}
 use Rattle.heard_laws.proofs.Common.{Answering, Awaited, Awaiting, Blocks, Bool, Cdb, Deed, ForFrames, ForUnmap, Frames}
 use Rattle.heard_laws.proofs.Common.{Gathering, Good, IsConfig, List, None, OpenTask, Option, Request, Some, State}
 use Rattle.heard_laws.proofs.Common.{Status, Task, UnmapList, Verdict, [], ap, arith, cond-false, false, false≢true}
@@ -274,6 +275,21 @@ module _ (s : State) (r : Request) (entries : ℕ) (roll : Roll) (all : somes ro
       (lun_there s r c p spells refl)
       (address_fits s r c address blocks config told (lies_within c told p.within))
   begins (cdb.Flush immediate) e config passes spells none = flushed immediate none
+  begins (cdb.Verify address blocks false) e config passes spells none =
+      let c = cdb.Verify address blocks false in
+      if_cases (Opens c) (blocks == 0) (λ none. good c 0 0 refl)
+      (λ some. one c _ 0 (ReadingArea _) refl refl refl (quiet c refl))
+  begins (cdb.Verify address blocks true) e config passes spells none =
+      let c = cdb.Verify address blocks true in
+      if_cases (Opens c) (blocks == 0) (λ none. good c 0 0 refl)
+      (λ some. one c _ (4096 * blocks) (Comparing _ 0 false) refl refl refl
+      (record {
+        task = its c;
+        is = refl;
+        awaits = refl;
+        nothing = refl;
+        there = lun_there s r c (passed s r c e passes) spells refl;
+      }))
   begins (cdb.Prefetch address blocks) e config passes spells none = good (cdb.Prefetch address blocks) 0 0 refl
   begins (cdb.Diagnose tests) e config passes spells none = good (cdb.Diagnose tests) 0 0 refl
   begins (cdb.Unmap list) e config passes spells none =

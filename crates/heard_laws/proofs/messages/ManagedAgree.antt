@@ -1,4 +1,5 @@
 -- Behind a TASK MANAGEMENT REQUEST the device and the journal agree.
+use Rattle.ufs_spec.specs.Exchanges.{Comparing}
 use Rattle.heard_laws.proofs.Common.{Answering, Awaiting, Bool, Deed, ForFrames, ForUnmap, ForWrite, Gathering, IsFree}
 use Rattle.heard_laws.proofs.Common.{IsTied, List, Message, None, Numbers, OpenTask, Option, ReadingArea, Sending}
 use Rattle.heard_laws.proofs.Common.{SendingBytes, Some, State, Task, and_parts, ap, cond-false, cond-true, eqb-true}
@@ -53,6 +54,7 @@ deed_closed n ready roll lun (Answering status carried) x (inr e) h = λ good. a
 deed_closed n ready roll lun (Sending blocks sent) x (inr e) h = at_most_none 0 roll
 deed_closed n ready roll lun (SendingBytes bytes) x (inr e) h = at_most_none 0 roll
 deed_closed n ready roll lun (ReadingArea pages) x (inr e) h = at_most_none 0 roll
+deed_closed n ready roll lun (Comparing blocks compared asked) x (inr e) h = absurd (true≢false (sym e ∙ h.there))
 
 -- a command of a task is aborted where the task would be
 same_aborted : (function lun meant : ℕ) (task : Task) (roll : Roll) (t : OpenTask) →

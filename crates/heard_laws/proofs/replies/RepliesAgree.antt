@@ -1,4 +1,7 @@
 -- Behind a reply of a task the device and the journal agree.
+use Rattle.ufs_spec.specs.Exchanges.{Comparing, ready_for_block}
+use Rattle.ufs_spec.specs.Machine.{deed_after_asked, deed_after_compare}
+use Rattle.ufs_spec.specs.Replies.{compare_reply, is_ended, next_compare_reply, reads_reply}
 use Rattle.heard_laws.proofs.Common.{Answering, Awaiting, Bool, Deed, ForFrames, ForUnmap, ForWrite, Gathering, Good}
 use Rattle.heard_laws.proofs.Common.{IsTied, List, Message, None, OpenTask, Option, ReadingArea, Sending, SendingBytes}
 use Rattle.heard_laws.proofs.Common.{Some, State, Task, answered, arith, false, false≢true, find, has_tag, if_both}
@@ -139,6 +142,33 @@ module _ (s : State) (held : ℕ) (j : Heard) (task : Task) (v : IsTied s) (a : 
       by_state deed blocks sent block.body block.state (is_at_hand s.translation.work.rests (pin_of s task sent)) m
       zero e
 
+  -- a block is asked for, or could not be read
+  block_asked : (deed : Deed) (blocks : List ReadBlock) (compared : ℕ) (m : Message) → Does (Comparing blocks compared true) →
+      Some (ready_for_block task compared) ≡ Some m →
+      AgreeIn s held (task_goes_on (behind deed) task (Some (Comparing blocks compared true))) (told j (spelling m))
+  block_asked deed blocks compared m does e =
+      says (task_goes_on (behind deed) task (Some (Comparing blocks compared true))) (ready_for_block task compared) m j
+      e (told_ready j task.lun task.tag (4096 * compared) 4096) (goes (Comparing blocks compared true) does)
+
+  by_found : (deed : Deed) (blocks : List ReadBlock) (compared : ℕ) (state : ReadState) (at_hand : Bool) (m : Message) →
+      Does (Comparing blocks compared true) → compare_reply task compared state at_hand ≡ Some m →
+      AgreeIn s held (task_goes_on (behind deed) task (deed_after_asked blocks compared state)) (told j (spelling m))
+  by_found deed blocks compared WasRead at_hand m does e = block_asked deed blocks compared m does e
+  by_found deed blocks compared Unread true m does e = block_asked deed blocks compared m does e
+  by_found deed blocks compared Unread false m does e = absurd (none-some m e)
+  by_found deed blocks compared NotRead at_hand m does e =
+      says (task_goes_on (behind deed) task None)
+      (response task.lun task.tag task.expected (4096 * compared) read_error) m (answered j task.tag false) e
+      (told_response j task.lun task.tag task.expected (4096 * compared) read_error)
+      (ends false (λ good. absurd (false≢true good)))
+
+  by_compared : (deed : Deed) (blocks : List ReadBlock) (compared : ℕ) (o : Option ReadBlock) (m : Message) →
+      Does (Comparing blocks compared true) → next_compare_reply s task compared o ≡ Some m →
+      AgreeIn s held (task_goes_on (behind deed) task (deed_after_compare blocks compared o)) (told j (spelling m))
+  by_compared deed blocks compared None m does e = absurd (none-some m e)
+  by_compared deed blocks compared (Some block) m does e =
+      by_found deed blocks compared block.state (is_at_hand s.translation.work.rests (pin_of s task compared)) m does e
+
   -- GOOD, where it is due
   good_due : (deed : Deed) (b : Bool) (m : Message) → AtMost held a.roll open_now →
       (if b then Some (response task.lun task.tag task.expected task.length Good) else None) ≡ Some m →
@@ -148,6 +178,21 @@ module _ (s : State) (held : ℕ) (j : Heard) (task : Task) (v : IsTied s) (a : 
       (answered j task.tag true) e (told_response j task.lun task.tag task.expected task.length Good)
       (ends true (λ good. few))
   good_due deed false m few e = absurd (none-some m e)
+
+  -- what is told of pages that are read, where it is due
+  reads_due : (deed : Deed) (ended read : Bool) (m : Message) → AtMost held a.roll open_now →
+      reads_reply task ended read ≡ Some m →
+      AgreeIn s held (task_goes_on (behind deed) task None) (told j (spelling m))
+  reads_due deed true read m few e =
+      says (task_goes_on (behind deed) task None) (response task.lun task.tag task.expected task.length read_error) m
+      (answered j task.tag false) e (told_response j task.lun task.tag task.expected task.length read_error)
+      (ends false (λ good. absurd (false≢true good)))
+  reads_due deed false read m few e = good_due deed read m few (by_read read e)
+    where
+      by_read : (b : Bool) → reads_reply task false b ≡ Some m →
+          (if b then Some (response task.lun task.tag task.expected task.length Good) else None) ≡ Some m
+      by_read true k = k
+      by_read false k = k
 
   none_few : (most : ℕ) → most ≤ held → AtMost most a.roll open_now → AtMost held a.roll open_now
   none_few most l h t e = let k = h t e in omega (arith, k, l)
@@ -171,7 +216,11 @@ module _ (s : State) (held : ℕ) (j : Heard) (task : Task) (v : IsTied s) (a : 
   by_deed (Awaiting n) m e does held_too =
       good_due (Awaiting n) (nat_le n (durable s)) m (none_few n (held_too n refl) does) e
   by_deed (ReadingArea pages) m e does held_too =
-      good_due (ReadingArea pages) (is_area_read s task pages) m (none_few 0 (omega arith) does) e
+      reads_due (ReadingArea pages) (is_ended task.request pages) (is_area_read s task pages) m
+      (none_few 0 (omega arith) does) e
+  by_deed (Comparing blocks compared true) m e does held_too = absurd (none-some m e)
+  by_deed (Comparing blocks compared false) m e does held_too =
+      by_compared (Comparing blocks compared false) blocks compared (slice_get blocks compared) m does e
   by_deed (Answering status carried) m e does held_too =
       says (task_goes_on (behind (Answering status carried)) task None)
       (response task.lun task.tag task.expected carried status) m (answered j task.tag (is_good status)) e

@@ -1,5 +1,6 @@
 -- What a request for data reads shows the area still, where its task goes on, and where a command is accepted that
 -- names no region.
+use Rattle.ufs_spec.specs.Exchanges.{Comparing}
 use Rattle.power_loss.proofs.Common.{◌≡◌, ℕ, zero, suc, ◌+◌, ◌==◌, Bool, true, false, List, [], ◌∷◌, map, Option, Some}
 use Rattle.power_loss.proofs.Common.{None, refl, sym, ap, ◌∙◌, subst, if◌then◌else◌, slice_get, slice_index_or}
 use Rattle.power_loss.proofs.Common.{AllByRecursion, Plain, apply, below, none-some, same_Some}
@@ -19,7 +20,7 @@ use Rattle.ufs_spec.specs.Queries.{Query, sets_permanent, setting_of}
 use Rattle.ufs_laws.proofs.exchanges.DeedLaws.{IsDeedLaw, filled_keeps, goes, locks, read_keeps, reads}
 use Rattle.ufs_laws.proofs.walk.WaysOfData.{IsAccepted, IsAcceptedDeed}
 use Rattle.power_loss.proofs.open_tasks.TaggedLists.{each_weaker}
-use Rattle.power_loss.specs.AreaReads.{DeedShows, FramesShow, RequestShows, ShowsArea, area_bodies}
+use Rattle.power_loss.specs.AreaReads.{DeedShows, FramesShow, PagesShow, ShowsArea, area_bodies}
 
 -- ## Regions that stay
 
@@ -36,19 +37,21 @@ frames_same : (p q : Plain) (region : ℕ) (frames : List Frame) (pages : List R
 frames_same p q region [] pages same h = h
 frames_same p q region (f ∷ fs) pages same h = h ∙ bodies_same p q region f same
 
-request_same : (p q : Plain) (request : Option RpmbRequest) (pages : List ReadBlock) → p.regions ≡ q.regions →
-    RequestShows p request pages → RequestShows q request pages
-request_same p q None pages same h = h
-request_same p q (Some request) pages same h = frames_same p q request.region request.frames pages same h
+pages_same : (p q : Plain) (command : Option Cdb) (request : Option RpmbRequest) (pages : List ReadBlock) →
+    p.regions ≡ q.regions → PagesShow p command request pages → PagesShow q command request pages
+pages_same p q command None pages same h = h
+pages_same p q command (Some request) pages same h =
+    (h.0, frames_same p q request.region request.frames pages same h.1)
 
 deed_same : (p q : Plain) (command : Option Cdb) (total : ℕ) (request : Option RpmbRequest) (deed : Deed) →
     p.regions ≡ q.regions →
     DeedShows p command total request deed → DeedShows q command total request deed
-deed_same p q command total request (ReadingArea pages) same h = (h.0, request_same p q request pages same h.1)
+deed_same p q command total request (ReadingArea pages) same h = pages_same p q command request pages same h
 deed_same p q command total request (Gathering purpose gathered asked) same h = h
 deed_same p q command total request (Sending blocks sent) same h = h
 deed_same p q command total request (SendingBytes bytes) same h = h
 deed_same p q command total request (Awaiting commands) same h = h
+deed_same p q command total request (Comparing blocks compared asked) same h = h
 deed_same p q command total request (Answering status carried) same h = h
 
 pub each_same : (p q : Plain) (tasks : List Task) → p.regions ≡ q.regions → AllByRecursion (ShowsArea p) tasks →
@@ -107,6 +110,7 @@ accepted_shows p command total request purpose task (Gathering other gathered as
 accepted_shows p command total request purpose task (Sending blocks sent) is = absurd is
 accepted_shows p command total request purpose task (SendingBytes bytes) is = absurd is
 accepted_shows p command total request purpose task (ReadingArea pages) is = absurd is
+accepted_shows p command total request purpose task (Comparing blocks compared asked) is = absurd is
 
 -- ## Pages that are read
 
@@ -125,10 +129,11 @@ bodies_read (x ∷ xs) (suc index) state = later (slice_get xs index) (bodies_re
     later None rest = refl
     later (Some block) rest = ap (λ (bs : List (List ℕ)). x.body ∷ bs) rest
 
-request_read : (p : Plain) (request : Option RpmbRequest) (pages : List ReadBlock) (index : ℕ) (state : ReadState) →
-    RequestShows p request pages → RequestShows p request (with_block pages index state (slice_get pages index))
-request_read p None pages index state h = h
-request_read p (Some request) pages index state h = frames_read request.frames h
+pages_read : (p : Plain) (command : Option Cdb) (request : Option RpmbRequest) (pages : List ReadBlock) (index : ℕ)
+    (state : ReadState) → PagesShow p command request pages →
+    PagesShow p command request (with_block pages index state (slice_get pages index))
+pages_read p command None pages index state h = h
+pages_read p command (Some request) pages index state h = (h.0, frames_read request.frames h.1)
   where
     frames_read : (frames : List Frame) → FramesShow p request.region frames pages →
         FramesShow p request.region frames (with_block pages index state (slice_get pages index))
@@ -144,7 +149,9 @@ shows_law p task = record {
   sent = tt;
   fails = tt;
   read = λ blocks sent index state d. tt;
-  page = λ pages index state d. (d.0, request_read p task.request pages index state d.1);
+  page = λ pages index state d. pages_read p task.command task.request pages index state d;
+  compares = λ blocks compared was d. tt;
+  found = λ blocks compared was index state d. tt;
 }
 
 pub goes_on : (p : Plain) (task : Task) (deed : Deed) → deed_after task task.deed ≡ Some deed → ShowsArea p task →
@@ -170,6 +177,7 @@ filled_deed p command total (Some request) (Gathering purpose gathered asked) h 
 filled_deed p command total (Some request) (Sending blocks sent) h = h
 filled_deed p command total (Some request) (SendingBytes bytes) h = h
 filled_deed p command total (Some request) (Awaiting commands) h = h
+filled_deed p command total (Some request) (Comparing blocks compared asked) h = h
 filled_deed p command total (Some request) (Answering status carried) h = h
 
 pub filled_shows : (p : Plain) (s : State) (task : Task) → ShowsArea p task → ShowsArea p (task_filled s task)

@@ -1,5 +1,13 @@
 -- Each call keeps that no more than one task brings frames, and that what a request for data reads shows the area as it
 -- is: the area changes by an accepted write of the one task that brings frames, which then reads nothing.
+use Rattle.ufs_spec.specs.Exchanges.{Comparing}
+use Rattle.ufs_spec.specs.Exchanges.{miscompare}
+use Rattle.ufs_spec.specs.DataOuts.{deed_after_same}
+use Rattle.ufs_laws.proofs.walk.Happenings.{Differs, IsSame}
+use Rattle.std.specs.Prelude.{nat_lt, ◌*◌}
+use Rattle.ufs_laws.proofs.walk.WaysOfCommands.{Checking, Verifying}
+use Rattle.ufs_spec.specs.CdbFields.{kind_of}
+use Rattle.ufs_spec.specs.declared.operations.Kind.TheVariants as kind
 use Rattle.ufs_spec.specs.Refusals.{brought}
 use Rattle.power_loss.proofs.Common.{◌≡◌, ℕ, Array, Bool, true, false, not, List, [], ◌∷◌, Option, Some, None, map}
 use Rattle.power_loss.proofs.Common.{Ok, refl, sym, ap, ◌∙◌, subst, AllByRecursion, Ending, Flight, Numbers, Plain}
@@ -123,6 +131,14 @@ gathers_rightly n unit r c count (ForWrite u address blocks forced) total w =
 gathers_rightly n unit r c count (ForUnmap u) total is = ap (λ (x : Cdb). Some (brought r.expected x)) is.1
 gathers_rightly n unit r c count (ForFrames region) total is = ap (λ (x : Cdb). Some (brought r.expected x)) is
 
+-- a VERIFY brings no frames
+verify_sends : (expected : ℕ) (c : Cdb) → kind_of c ≡ kind.Verify → sends_frames (Some (brought expected c)) ≡ false
+verify_sends expected (cdb.SecurityOut region n) e = absurd (other e)
+  where
+    other : kind.SecurityOut ≡ kind.Verify → ⊥
+    other k = cc
+verify_sends expected c e = refl
+
 begun_reads : (s : State) (r : Request) (unit : ℕ) (c : Cdb) →
     (is_security_out (brought r.expected c) ≡ true → list_any brings_frames s.tasks ≡ false) → AreaReads s →
     AreaReads (begun s r unit c)
@@ -138,6 +154,8 @@ begun_reads s r unit c free h = begins_by AreaReads s r unit c one
     one (Handing region n) why =
         opened p s.tasks _ (λ e. absurd (false≢true e)) (bytes_show p (cdb.SecurityIn region n) _ r _) h
     one (Reading u address n) why = opened p s.tasks _ free (sending_shows p (brought r.expected c) _ _ n) h
+    one (Verifying u address n) why = opened p s.tasks _ free (verify_sends r.expected c why.3) h
+    one (Checking u address n) why = opened p s.tasks _ free tt h
     one (Gathered expected count purpose n) why =
         opened p s.tasks _ free (gathers_rightly (numbers_of s) unit r c count purpose n why.4) h
 
@@ -159,11 +177,13 @@ read_now s region f =
 -- what brings no frames reads nothing of the area
 other_shows : (p q : Plain) (command : Option Cdb) (total : ℕ) (request : Option RpmbRequest) (deed : Deed) →
     (sends_frames command ≡ true → ⊥) → DeedShows p command total request deed → DeedShows q command total request deed
-other_shows p q command total request (ReadingArea pages) none h = absurd (none h.0)
+other_shows p q command total None (ReadingArea pages) none h = h
+other_shows p q command total (Some request) (ReadingArea pages) none h = absurd (none h.0)
 other_shows p q command total request (Gathering purpose gathered asked) none h = h
 other_shows p q command total request (Sending blocks sent) none h = h
 other_shows p q command total request (SendingBytes bytes) none h = h
 other_shows p q command total request (Awaiting commands) none h = h
+other_shows p q command total request (Comparing blocks compared asked) none h = h
 other_shows p q command total request (Answering status carried) none h = h
 
 -- the one task that brings frames waits for its command, and no other reads the area, whatever it is then
@@ -228,6 +248,12 @@ gathers_for {s} task purpose d h =
     subst (DeedShows (plain_now s) task.command task.length task.request) d.deed
     (found_shows (plain_now s) s.tasks task d.found h)
 
+-- a block that was compared leaves nothing of the area
+same_reads : (p : Plain) (task : Task) (blocks : List ReadBlock) (compared : ℕ) →
+    DeedShows p task.command task.length task.request (deed_after_same task blocks compared)
+same_reads p task blocks compared =
+    if_both (DeedShows p task.command task.length task.request) (nat_lt (compared + 1) (length blocks)) tt tt
+
 happens_reads : (s : State) (call : Call) (answer : Answer) (happening : Happening) → TasksDiffer s.tasks →
     Why s call answer happening → AreaReads s → AreaReads (happened s happening)
 happens_reads s call answer (Refuses r status) differ why h =
@@ -238,6 +264,11 @@ happens_reads s call answer (Gathers task purpose all) differ (d, e, few) h =
     sets (plain_now s) s.tasks task (Gathering purpose all false) differ d.found (gathers_for task purpose d h) h
 happens_reads s call answer (Completes task k) differ (purpose, d, why) h =
     completed_reads s task purpose (d.gathered ++ d.more) k differ d.found (gathers_for task purpose d h) why h
+happens_reads s call answer (IsSame task blocks compared) differ d h =
+    sets (plain_now s) s.tasks task (deed_after_same task blocks compared) differ d.found
+    (same_reads (plain_now s) task blocks compared) h
+happens_reads s call answer (Differs task compared) differ (blocks, d) h =
+    sets (plain_now s) s.tasks task (Answering miscompare (4096 * (compared + 1))) differ d.found tt h
 happens_reads s call answer (Sets c short) differ (tag, q, ok, e, same) h = accepted s c 1 (setting_none q c e) h
 happens_reads s call answer (Aborts volatile those short) differ why h =
     some_go (plain_now s) s.tasks (λ task. not (those task)) h

@@ -10,7 +10,7 @@ use Rattle.ufs_spec.specs.FrameRequests.{first_page, pages_named}
 use Rattle.ufs_spec.specs.Frames.{Frame}
 use Rattle.ufs_spec.specs.Keys.{area_key, content}
 use Rattle.power_loss.proofs.open_tasks.TaggedLists.{each_at, each_found}
-use Rattle.power_loss.specs.AreaReads.{ArePagesOf, AreaReads, DeedShows, FramesShow, RequestShows, ShowsArea}
+use Rattle.power_loss.specs.AreaReads.{ArePagesOf, AreaReads, DeedShows, FramesShow, PagesShow, ShowsArea}
 use Rattle.power_loss.specs.AreaReads.{area_bodies}
 
 module _ (p : Plain) (region : ℕ) (f : Frame) (pages : List ReadBlock) where
@@ -46,8 +46,8 @@ pub task_pages : (p : Plain) (task : Task) (pages : List ReadBlock) (request : R
 task_pages p task pages request f fs h deed asked frames =
     are_pages p request.region f pages
     (subst (λ (gs : List Frame). FramesShow p request.region gs pages) frames
-    (subst (λ (o : Option RpmbRequest). RequestShows p o pages) asked
-    (subst (DeedShows p task.command task.length task.request) deed h).1))
+    (subst (λ (o : Option RpmbRequest). PagesShow p task.command o pages) asked
+    (subst (DeedShows p task.command task.length task.request) deed h)).1)
 
 -- of such a task of a state, found by its index
 pub pages_read : (s : State) (k : ℕ) (task : Task) (pages : List ReadBlock) (request : RpmbRequest) (f : Frame)

@@ -1,4 +1,13 @@
 -- Data from the host: a task gathers them, and has all of them at last.
+use Rattle.ufs_spec.specs.Exchanges.{Comparing}
+use Rattle.ufs_spec.specs.Exchanges.{ReadBlock, is_task_of}
+use Rattle.ufs_spec.specs.DataOuts.{block_compared}
+use Rattle.ufs_spec.specs.Rpmb.{same_bytes}
+use Rattle.ufs_spec.proofs.Facts.{if_cases}
+use Rattle.std.specs.Prelude.{slice_get}
+use Rattle.power_loss.proofs.Common.{ap}
+use Rattle.power_loss.proofs.books.SmallFacts.{eq_told}
+use Rattle.power_loss.proofs.open_tasks.FoundInLists.{found_is}
 use Rattle.ufs_spec.specs.Exchanges.{to_gather}
 use Rattle.ufs_spec.specs.Plain.{region_of, regions}
 use Rattle.power_loss.proofs.Common.{Bool, List, None, Numbers, Option, Some, arith, below, false, is_mended, length}
@@ -22,7 +31,7 @@ use Rattle.power_loss.proofs.calls.RightChanges.{Right, right_keeps}
 use Rattle.power_loss.specs.WaitingFrames.{AsksInside}
 use Rattle.power_loss.proofs.host_commands.AcceptedCommands.{accept_right, release_right}
 use Rattle.power_loss.proofs.host_commands.AcceptedCommands.{request_accepted, request_kept}
-use Rattle.power_loss.proofs.host_commands.HandedOutReplies.{FitsIn, claim_same, set_right}
+use Rattle.power_loss.proofs.host_commands.HandedOutReplies.{FitsIn, claim_same, differs_right, same_right, set_right}
 use Rattle.power_loss.proofs.host_commands.ReadBlocks.{pins_right}
 use Rattle.power_loss.proofs.host_commands.WriteData.{MayAccept, write_coming}
 use Rattle.power_loss.proofs.open_tasks.TaskLists.{frames_more, unmap_more, write_more}
@@ -172,12 +181,23 @@ gathers {s} {task} {purpose} {gathered} {asked} all v g more = by (nat_lt (lengt
         (omega arith)
     by false e = completes v purpose all g (all_there more e)
 
+compared_right : {s : State} {task : Task} (blocks : List ReadBlock) (compared : ℕ) (o : Option ReadBlock)
+    (bytes : List ℕ) → IsTied s → task_of task.tag s.tasks ≡ Some task →
+    Right s (block_compared s task blocks compared o bytes)
+compared_right blocks compared None bytes v there = Still
+compared_right {s} blocks compared (Some block) bytes v there =
+    if_cases (Right s) (same_bytes bytes block.body) (λ same. same_right blocks compared v there)
+    (λ other. differs_right compared v there)
+
 data_for_right : {s : State} {task : Task} (tag : ℕ) (deed : Deed) (lun offset : ℕ) (bytes : List ℕ) → IsTied s →
     task_of tag s.tasks ≡ Some task → task.deed ≡ deed →
     is_asked_in task lun offset (length bytes) deed ≡ true → AreBytes bytes → Right s (data_for s task deed bytes)
 data_for_right {s} {task} tag (Gathering purpose gathered asked) lun offset bytes v e deed is_asked is =
     gathers (gathered ++ bytes) v (gathers_in tag v e deed)
     (more_there task purpose gathered bytes asked lun offset is_asked is)
+data_for_right {s} {task} tag (Comparing blocks compared asked) lun offset bytes v e same is_asked is =
+    let own : task.tag ≡ tag = eq_told task.tag tag (found_is (is_task_of tag) s.tasks task e) in
+    compared_right blocks compared (slice_get blocks compared) bytes v (ap (λ (n : ℕ). task_of n s.tasks) own ∙ e)
 data_for_right tag deed lun offset bytes v e same is_asked is = Still
 
 pub data_right : {s : State} (lun tag offset : ℕ) (bytes : List ℕ) → IsTied s →

@@ -1,4 +1,9 @@
 -- A reply that is handed out.
+use Rattle.ufs_spec.specs.Exchanges.{Comparing}
+use Rattle.ufs_spec.specs.Exchanges.{miscompare}
+use Rattle.ufs_spec.specs.DataOuts.{block_differs, block_same}
+use Rattle.ufs_spec.specs.Machine.{deed_after_asked, deed_after_compare}
+use Rattle.std.specs.Prelude.{◌*◌}
 use Rattle.power_loss.proofs.Common.{◌≡◌, ℕ, ◌+◌, ◌≤◌, Bool, true, false, not, List, [], ◌∷◌, Option, Some, None}
 use Rattle.power_loss.proofs.Common.{length, refl, sym, ap, ◌∙◌, subst, inl, inr, arith, find, nat_le, nat_lt, LetGo}
 use Rattle.power_loss.proofs.Common.{LetGoAll, Acknowledge, WantPage, none-some, same_Some, is_mended, Numbers}
@@ -107,6 +112,40 @@ module _ (s : State) (task : Task) (v : IsTied s) (there : task_of task.tag s.ta
   block_right blocks sent None = removed_right task.tag v
   block_right blocks sent (Some block) = state_right blocks sent block.state
 
+  asked_right : (blocks : List ReadBlock) (compared : ℕ) (state : ReadState) →
+      Right s (task_goes_on s task (deed_after_asked blocks compared state))
+  asked_right blocks compared NotRead = removed_right task.tag v
+  asked_right blocks compared state = set_right (Comparing blocks compared true) v there tt (omega arith)
+
+  compare_right : (blocks : List ReadBlock) (compared : ℕ) (x : Option ReadBlock) →
+      Right s (task_goes_on s task (deed_after_compare blocks compared x))
+  compare_right blocks compared None = removed_right task.tag v
+  compare_right blocks compared (Some block) = asked_right blocks compared block.state
+
+  after_same_right : (blocks : List ReadBlock) (compared : ℕ) (b : Bool) →
+      Right s (set_deed s task.tag (if b then Comparing blocks (compared + 1) false else Answering Good task.length))
+  after_same_right blocks compared true = set_right (Comparing blocks (compared + 1) false) v there tt (omega arith)
+  after_same_right blocks compared false = set_right (Answering Good task.length) v there tt (omega arith)
+
+-- a block that is the host's is let go, and the page of the next one is wanted
+pub same_right : {s : State} {task : Task} (blocks : List ReadBlock) (compared : ℕ) → IsTied s →
+    task_of task.tag s.tasks ≡ Some task → Right s (block_same s task blocks compared)
+same_right {s} {task} blocks compared v there =
+    let u = with_moves s (LetGo task.tag compared ∷ []) in
+    let one = right_move (LetGo task.tag compared) v tt tt (omega arith) in
+    let two = right_move (WantPage task.tag (compared + 1)) (right_keeps one v) tt tt (omega arith) in
+    Both one
+    (Both two
+    (after_same_right (with_moves u (WantPage task.tag (compared + 1) ∷ [])) task (right_keeps (Both one two) v) there
+    blocks compared (nat_lt (compared + 1) (length blocks))))
+
+-- behind another one all is let go
+pub differs_right : {s : State} {task : Task} (compared : ℕ) → IsTied s → task_of task.tag s.tasks ≡ Some task →
+    Right s (block_differs s task compared)
+differs_right {s} {task} compared v there =
+    let one = right_move (LetGoAll task.tag) v tt tt (omega arith) in
+    Both one (set_right (Answering miscompare (4096 * (compared + 1))) (right_keeps one v) there tt (omega arith))
+
 deed_replies : {s : State} {task : Task} (deed : Deed) {m : Message} → IsTied s → task_of task.tag s.tasks ≡ Some task →
     FitsIn s task deed → claim_of (numbers_of s) task ≡ claimed_by (numbers_of s) deed task.command →
     deed_reply s task deed ≡ Some m →
@@ -128,6 +167,8 @@ deed_replies {s} {task} (Awaiting commands) {m} v there fits claim h =
     let told = told_right commands v fits (awaited s task commands h).0 in
     Both told (removed_right task.tag (right_keeps told v))
 deed_replies {s} {task} (ReadingArea pages) v there fits claim h = removed_right task.tag v
+deed_replies {s} {task} (Comparing blocks compared asked) v there fits claim h =
+    compare_right s task v there blocks compared (slice_get blocks compared)
 deed_replies {s} {task} (Answering status carried) v there fits claim h = removed_right task.tag v
 
 -- The reply of a short exchange

@@ -1,4 +1,12 @@
 -- A message from the host that opens an exchange.
+use Rattle.ufs_spec.specs.Exchanges.{Comparing}
+use Rattle.std.specs.Prelude.{◌*◌}
+use Rattle.ufs_laws.proofs.walk.WaysOfCommands.{Checking, Verifying}
+use Rattle.ufs_spec.specs.Begins.{wanted_at}
+use Rattle.ufs_spec.specs.Exchanges.{ReadingArea}
+use Rattle.power_loss.proofs.host_commands.PassedCommands.{verify_changes}
+use Rattle.power_loss.proofs.Common.{IsData, IsKey, All-weaker}
+use Rattle.power_loss.proofs.ordered_lists.ElementsAndOrders.{all_below}
 use Rattle.power_loss.proofs.Common.{◌≡◌, ℕ, ◌+◌, ◌==◌, ◌&&◌, Bool, true, false, List, [], ◌∷◌, Option, Some, None}
 use Rattle.power_loss.proofs.Common.{length, map, get_or, min, refl, sym, ap, ◌∙◌, subst, inl, inr, arith, ⊎_elim, ◌<◌}
 use Rattle.power_loss.proofs.Common.{nat_le, nat_lt, list_any, length-map, ltb-false, none-some, or_parts, below}
@@ -161,6 +169,10 @@ writes_told (cdb.Read address blocks) e some = absurd (no_write e)
   where
     no_write : kind.Read ≡ kind.Write → ⊥
     no_write k = cc
+writes_told (cdb.Verify address blocks compared) e some = absurd (no_verify e)
+  where
+    no_verify : kind.Verify ≡ kind.Write → ⊥
+    no_verify k = cc
 writes_told c e some = absurd (omega (arith, some))
 
 write_fits : {s : State} {r : Request} {command : Cdb} {unit address blocks count n : ℕ} → Passed s r command →
@@ -193,6 +205,44 @@ write_fits {s} {r} {command} {unit} p taken slots needs changes w =
       claimed_is = omega arith;
       is_mended = ready_now s r command needs changes p;
     }
+
+-- VERIFY
+
+-- each of its blocks is a key of the device
+pub key_verified : {s : State} {r : Request} {command : Cdb} (n : ℕ) → n ≡ blocks_of command → Changes r.bytes →
+    Passed s r command → (i : ℕ) → i < n →
+    IsKey (shape_of_numbers (numbers_of s))
+    (data_key (unit_or_first (unit_of_request s r)) (address_of command + i))
+key_verified {s} {r} {command} n size taken p i low =
+    let told = unit_told s r command taken p in
+    let units = (numbers_of s).units.items in
+    let same : unit ≡ r.lun = ap unit_or_first told.is in
+    let lies = lies_within command told p.within in
+    let more = means_more command in
+    let long = length-map units (λ (x : UnitSpec). x.blocks) in
+    let here = ap (λ (x : ℕ). get_or (map (λ (y : UnitSpec). y.blocks) units) x 0) same in
+    let there = told.there in
+    IsData unit (address_of command + i) (omega arith) (omega arith)
+  where
+    unit : ℕ
+    unit = unit_or_first (unit_of_request s r)
+
+pub keys_verified : {s : State} {r : Request} {command : Cdb} (n : ℕ) → n ≡ blocks_of command → Changes r.bytes →
+    Passed s r command → KeysOfDevice s (unit_or_first (unit_of_request s r)) (address_of command) n
+keys_verified {s} {r} {command} n size taken p =
+    All-weaker (λ i. i < n)
+    (λ i. IsKey (shape_of_numbers (numbers_of s))
+    (data_key (unit_or_first (unit_of_request s r)) (address_of command + i)))
+    (key_verified n size taken p) (below n) (all_below n)
+
+-- the same of one that compares its blocks
+pub keys_checked : {s : State} {r : Request} {command : Cdb} (unit address n : ℕ) →
+    unit ≡ unit_or_first (unit_of_request s r) → command ≡ cdb.Verify address n true →
+    spelled_cdb r.bytes ≡ Some command → Passed s r command → KeysOfDevice s unit address n
+keys_checked {s} {r} {command} unit address n unit_is is spells p =
+    subst (λ (x : ℕ). KeysOfDevice s x address n) (sym unit_is)
+    (subst (λ (x : ℕ). KeysOfDevice s (unit_or_first (unit_of_request s r)) x n) (ap address_of is)
+    (keys_verified n (sym (ap blocks_of is)) (verify_changes r.bytes command spells (ap kind_of is)) p))
 
 -- UNMAP
 
@@ -316,6 +366,22 @@ begins s r command v free p spells = begins_by (Right s) s r unit command one
         subst (λ (x : ℕ). Right s (read_begun s r (brought r.expected command) x address n)) (sym unit_is)
         (subst (λ (x : ℕ). Right s (read_begun s r (brought r.expected command) unit x n)) (sym address_is)
         (read_right r (brought r.expected command) unit (address_of command) n v free (keys_read size reads p)))
+    one (Verifying u address n) (unit_is, address_is, size, verifies, some) =
+        let keys = subst (λ (x : ℕ). KeysOfDevice s x address n) (sym unit_is)
+        (subst (λ (x : ℕ). KeysOfDevice s unit x n) (sym address_is)
+        (keys_verified n size (verify_changes r.bytes command spells verifies) p)) in
+        let pins = pins_right (λ i. data_key u (address + i)) (wanted_at s r.tag u address) (below n) v refl refl refl
+        keys (λ i. refl) in
+        Both pins
+        (task_right r (Some (brought r.expected command)) 0 (ReadingArea (read_blocks s u address n))
+        (right_keeps pins v) (record { no_task = free.no_task; no_short = free.no_short }) tt refl)
+    one (Checking u address n) (unit_is, is, some) =
+        let keys = keys_checked u address n unit_is is spells p in
+        let pins = pins_right (λ i. data_key u (address + i)) (kept_at s r.tag u address) (below n) v refl refl refl
+        keys (λ i. refl) in
+        Both pins
+        (task_right r (Some (brought r.expected command)) (4096 * n) (Comparing (read_blocks s u address n) 0 false)
+        (right_keeps pins v) (record { no_task = free.no_task; no_short = free.no_short }) tt refl)
     one (Gathered expected count (ForWrite u address blocks forced) n) (slots, some, few, needs, w, counts, part) =
         let taken = write_changes r.bytes command spells w.writes in
         let brings = w.some in

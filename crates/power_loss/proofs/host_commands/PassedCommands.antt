@@ -121,6 +121,11 @@ unmap_changes bytes c e is =
     let its = row_behind bytes c e in
     (its.row, its.found, ap changes_blocks (its.kind_is ∙ is))
 
+pub verify_changes : (bytes : List ℕ) (c : Cdb) → spelled_cdb bytes ≡ Some c → kind_of c ≡ kind.Verify → Changes bytes
+verify_changes bytes c e is =
+    let its = row_behind bytes c e in
+    (its.row, its.found, ap changes_blocks (its.kind_is ∙ is))
+
 -- what is answered where there is no unit changes no blocks
 pub changes_told : (n : Numbers) (bytes : List ℕ) → Changes bytes → is_told_anywhere n (row_of bytes) ≡ true → ⊥
 changes_told n bytes (row, found, changes) told =

@@ -1,4 +1,5 @@
 -- The end of a job: what the dies hold then, and what tasks are told.
+use Rattle.ufs_spec.specs.Exchanges.{Comparing}
 use Rattle.power_loss.proofs.Common.{◌≡◌, ◌⊎◌, ℕ, ◌≤◌, ◌==◌, ◌&&◌, Bool, true, false, [], ◌∷◌, Option, Some, None, map}
 use Rattle.power_loss.proofs.Common.{refl, sym, subst, inl, inr, arith, nat_lt, Array, Cell, Cells, GroupPage, IsCell}
 use Rattle.power_loss.proofs.Common.{MarkPage, Nothing, Shows, same_place, CellCrash, Crash, Disk, Erasing, Flight}
@@ -37,6 +38,7 @@ read_claims n index state task (Sending blocks sent) = omega arith
 read_claims n index state task (SendingBytes bytes) = omega arith
 read_claims n index state task (Awaiting commands) = omega arith
 read_claims n index state task (ReadingArea pages) = omega arith
+read_claims n index state task (Comparing blocks compared asked) = omega arith
 read_claims n index state task (Answering status carried) = omega arith
 
 read_keeps : {n : Numbers} {a : ℕ} {m : Bool} (tag index : ℕ) (state : ReadState) →

@@ -1,4 +1,5 @@
 -- While its task is open, each call leaves one promising command on its way.
+use Rattle.ufs_spec.specs.Exchanges.{Comparing}
 use Rattle.power_loss.proofs.Common.{◌≡◌, ℕ, ◌==◌, Bool, true, false, cond, not, List, [], ◌∷◌, ◌++◌, length, Option}
 use Rattle.power_loss.proofs.Common.{Some, None, map, refl, sym, ap, ◌∙◌, subst, Ok, filter, find, list_any, append-nil}
 use Rattle.power_loss.proofs.Common.{append_assoc, if_both, false≢true, none-some, same_Some, Array, Flight, Ending}
@@ -175,6 +176,7 @@ own_reply p bytes s u task (SendingBytes told) e f own keeps still h = absurd ke
 own_reply p {tag} bytes s u task (Awaiting n) e f own keeps still h = closed tag (without_task task.tag u.tasks)
     (ap (λ (n : ℕ). task_of tag (without_task n u.tasks)) own ∙ found_gone (is_task_of tag) u.tasks) still
 own_reply p bytes s u task (ReadingArea pages) e f own keeps still h = absurd keeps
+own_reply p bytes s u task (Comparing blocks compared asked) e f own keeps still h = absurd keeps
 own_reply p {tag} bytes s u task (Answering status n) e f own keeps still h = closed tag (without_task task.tag u.tasks)
     (ap (λ (n : ℕ). task_of tag (without_task n u.tasks)) own ∙ found_gone (is_task_of tag) u.tasks) still
 

@@ -1,4 +1,5 @@
 -- One promising command from its COMMAND on: what its task does in every state in which it is open.
+use Rattle.ufs_spec.specs.Exchanges.{Comparing}
 use Rattle.power_loss.proofs.Common.{◌≡◌, ℕ, suc, ◌+◌, ◌*◌, ◌≤◌, ◌==◌, Bool, true, false, List, [], ◌∷◌, ◌++◌, length}
 use Rattle.power_loss.proofs.Common.{Some, map, slice_get, refl, sym, ap, ◌∙◌, subst, arith, nat_le, nat_lt}
 use Rattle.power_loss.proofs.Common.{length-append, if_both, false≢true, Release}
@@ -125,6 +126,7 @@ set_tracked p tag bytes {task} deed tasks cs there keeps later =
 read_keeps : (p : Promise) (cs : List Command) (bytes : List ℕ) (index : ℕ) (state : ReadState) (deed : Deed) →
     KeepsTo p cs bytes deed → KeepsTo p cs bytes (deed_read index state deed)
 read_keeps p cs bytes index state (Sending blocks sent) h = absurd h
+read_keeps p cs bytes index state (Comparing blocks compared asked) h = absurd h
 read_keeps p cs bytes index state deed h = h
 
 pub task_read_keeps : (p : Promise) (cs : List Command) (bytes : List ℕ) (tag index : ℕ) (state : ReadState)
@@ -217,4 +219,5 @@ data_tracked (OfWrite first u a b) s {task} (Gathering (ForWrite unit address bl
         subst (λ (xs : List ℕ). TrackedIn p task.tag xs (write_complete s task unit address blocks forced all)) same
         (write_tracked p s unit address blocks forced all there keeps.0 (omega arith) later)
 data_tracked p s (Gathering purpose gathered asked) lun offset bytes more there keeps later fits is = absurd keeps.0
+data_tracked p s (Comparing blocks compared asked) lun offset bytes more there keeps later fits is = absurd keeps
 data_tracked p s deed lun offset bytes more there keeps later fits is = absurd (false≢true is)

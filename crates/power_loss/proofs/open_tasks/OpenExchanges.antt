@@ -1,6 +1,11 @@
 -- What a call leaves of the tasks and the short exchanges that are open: a message adds some; data and replies change
 -- or close
 -- those of their tag alone.
+use Rattle.ufs_spec.specs.Exchanges.{Comparing}
+use Rattle.ufs_spec.specs.Exchanges.{ReadBlock}
+use Rattle.ufs_spec.specs.DataOuts.{block_compared}
+use Rattle.ufs_spec.specs.Rpmb.{same_bytes}
+use Rattle.std.specs.Prelude.{slice_get}
 use Rattle.ufs_spec.specs.Exchanges.{to_gather}
 use Rattle.power_loss.proofs.Common.{◌≡◌, ℕ, ◌==◌, Bool, true, false, not, map, List, [], ◌∷◌, ◌++◌, length, Option}
 use Rattle.power_loss.proofs.Common.{Some, None, refl, sym, ap, ◌∙◌, subst, nat_le, nat_lt, append-nil, false≢true}
@@ -157,11 +162,19 @@ complete_leaves {s} task purpose bytes = completes_by (LeavesOthers task.tag s) 
     one (ReadsArea region f fs result) why = leaves_request _ _ refl refl
     one (AcceptsFrames region frames result c) why = leaves_request _ _ refl refl
 
+compared_leaves : {s : State} (task : Task) (blocks : List ReadBlock) (compared : ℕ) (o : Option ReadBlock)
+    (bytes : List ℕ) → LeavesOthers task.tag s (block_compared s task blocks compared o bytes)
+compared_leaves task blocks compared None bytes = leaves_all
+compared_leaves task blocks compared (Some block) bytes =
+    leaves_if (same_bytes bytes block.body) (leaves_set _ _ refl refl) (leaves_set _ _ refl refl)
+
 data_for_leaves : {s : State} (task : Task) (deed : Deed) (bytes : List ℕ) →
     LeavesOthers task.tag s (data_for s task deed bytes)
 data_for_leaves {s} task (Gathering purpose gathered asked) bytes =
     leaves_if (nat_lt (length (gathered ++ bytes)) (to_gather purpose task.length)) (leaves_set s _ refl refl)
     (complete_leaves task purpose (gathered ++ bytes))
+data_for_leaves {s} task (Comparing blocks compared asked) bytes =
+    compared_leaves task blocks compared (slice_get blocks compared) bytes
 data_for_leaves {s} task deed bytes = leaves_all
 
 pub data_leaves : {s : State} {tag : ℕ} (x : Option Task) (bytes : List ℕ) → task_of tag s.tasks ≡ x →

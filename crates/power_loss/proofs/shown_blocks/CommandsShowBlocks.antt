@@ -1,4 +1,13 @@
 -- What is kept for a READ shows the blocks that the READ sends: each call keeps it, from the opening on.
+use Rattle.ufs_spec.specs.Exchanges.{Comparing}
+use Rattle.std.specs.Prelude.{◌*◌}
+use Rattle.power_loss.proofs.host_commands.OpenedByCommands.{keys_checked}
+use Rattle.power_loss.proofs.MachineWords.{with_moves}
+use Rattle.ufs_laws.proofs.walk.WaysOfCommands.{Checking, Verifying}
+use Rattle.ufs_spec.specs.Begins.{keeps_wanted, wanted_at}
+use Rattle.ufs_spec.specs.Exchanges.{ReadingArea}
+use Rattle.power_loss.proofs.host_commands.PassedCommands.{verify_changes}
+use Rattle.power_loss.proofs.host_commands.OpenedByCommands.{keys_verified}
 use Rattle.ufs_spec.specs.Refusals.{brought}
 use Rattle.ufs_laws.proofs.walk.WaysOfCommands.{Answered, expecting}
 use Rattle.power_loss.proofs.Common.{All, All-weaker, Bool, IsKey, Key, Ledger, List, None, Option, Some, [], ap, arith}
@@ -88,6 +97,52 @@ read_shows {s} r command unit address n v free keys h =
     (sym (kept_ledger k (kept_at s r.tag unit address) (below m) s.translation))
     (kept_pins (ShowsRight l tasks) k (kept_at s r.tag unit address) (below m) s.translation old new)
 
+-- a VERIFY keeps what shows its blocks
+verify_shows : {s : State} (r : Request) (command : Cdb) (unit address n : ℕ) → IsTied s → IsFree s r.tag →
+    KeysOfDevice s unit address n → ShowsReads s →
+    ShowsReads (with_task (with_moves s (keeps_wanted s r.tag unit address n)) r (Some command) 0
+    (ReadingArea (read_blocks s unit address n)))
+verify_shows {s} r command unit address n v free keys h =
+    let task = opened_task r (Some command) 0 (ReadingArea (read_blocks s unit address n)) in
+    let l = s.translation.ledger in
+    let tasks = s.tasks ++ task ∷ [] in
+    let k = λ (i : ℕ). data_key unit (address + i) in
+    let old = show_goes l s.tasks tasks s.translation.pins (more_goes s.tasks task) h in
+    let new : All (λ i. ShowsRight l tasks (wanted_at s r.tag unit address i)) (below n) =
+    All-weaker (λ i. IsKey (shape_of_numbers (numbers_of s)) (data_key unit (address + i)))
+    (λ i. ShowsRight l tasks (wanted_at s r.tag unit address i))
+    (λ i key. record {
+      task = task;
+      there = found_last (is_task_of r.tag) s.tasks task free.no_task (eqb-self r.tag);
+      shows = made_shows k (λ j. block_at unit (address + j) (plain_now s)) n i v (λ j. refl) key;
+    }) (below n) keys in
+    subst (λ (x : Ledger). Show x tasks (fold moved s.translation (keeps_wanted s r.tag unit address n)).pins)
+    (sym (kept_ledger k (wanted_at s r.tag unit address) (below n) s.translation))
+    (kept_pins (ShowsRight l tasks) k (wanted_at s r.tag unit address) (below n) s.translation old new)
+
+-- and so does one that compares them
+compare_shows : {s : State} (r : Request) (command : Cdb) (unit address n : ℕ) → IsTied s → IsFree s r.tag →
+    KeysOfDevice s unit address n → ShowsReads s →
+    ShowsReads (with_task (with_moves s (keeps s r.tag unit address n)) r (Some command) (4096 * n)
+    (Comparing (read_blocks s unit address n) 0 false))
+compare_shows {s} r command unit address n v free keys h =
+    let task = opened_task r (Some command) (4096 * n) (Comparing (read_blocks s unit address n) 0 false) in
+    let l = s.translation.ledger in
+    let tasks = s.tasks ++ task ∷ [] in
+    let k = λ (i : ℕ). data_key unit (address + i) in
+    let old = show_goes l s.tasks tasks s.translation.pins (more_goes s.tasks task) h in
+    let new : All (λ i. ShowsRight l tasks (kept_at s r.tag unit address i)) (below n) =
+    All-weaker (λ i. IsKey (shape_of_numbers (numbers_of s)) (data_key unit (address + i)))
+    (λ i. ShowsRight l tasks (kept_at s r.tag unit address i))
+    (λ i key. record {
+      task = task;
+      there = found_last (is_task_of r.tag) s.tasks task free.no_task (eqb-self r.tag);
+      shows = made_shows k (λ j. block_at unit (address + j) (plain_now s)) n i v (λ j. refl) key;
+    }) (below n) keys in
+    subst (λ (x : Ledger). Show x tasks (fold moved s.translation (keeps s r.tag unit address n)).pins)
+    (sym (kept_ledger k (kept_at s r.tag unit address) (below n) s.translation))
+    (kept_pins (ShowsRight l tasks) k (kept_at s r.tag unit address) (below n) s.translation old new)
+
 begun_shows : (s : State) (r : Request) (command : Cdb) → IsTied s → IsFree s r.tag → Passed s r command →
     spelled_cdb r.bytes ≡ Some command → ShowsReads s →
     ShowsReads (begun s r (unit_or_first (unit_of_request s r)) command)
@@ -103,6 +158,13 @@ begun_shows s r command v free p spells h = begins_by ShowsReads s r unit comman
         (subst (λ (x : ℕ). ShowsReads (read_begun s r (brought r.expected command) unit x n)) (sym address_is)
         (read_shows r (brought r.expected command) unit (address_of command) n v free
         (keys_read size reads p) h))
+    one (Verifying u address n) (unit_is, address_is, size, verifies, some) =
+        verify_shows r (brought r.expected command) u address n v free
+        (subst (λ (x : ℕ). KeysOfDevice s x address n) (sym unit_is)
+        (subst (λ (x : ℕ). KeysOfDevice s unit x n) (sym address_is)
+        (keys_verified n size (verify_changes r.bytes command spells verifies) p))) h
+    one (Checking u address n) (unit_is, is, some) =
+        compare_shows r (brought r.expected command) u address n v free (keys_checked u address n unit_is is spells p) h
     one (Handing region n) why = opens s r _ _ _ h
     one (Gathered expected count purpose n) why = opens s (expecting r expected) _ _ _ h
     one (Answered expected n) why = opens s (expecting r expected) _ _ _ h

@@ -1,5 +1,6 @@
 -- What is kept for a READ shows the blocks that the READ sends, at each moment of a life; and so the page that is read
 -- for it has them.
+use Rattle.ufs_spec.specs.Exchanges.{Comparing}
 use Rattle.power_loss.proofs.Common.{◌≡◌, ℕ, zero, suc, Bool, true, false, if◌then◌else◌, All, List, [], ◌∷◌, Option}
 use Rattle.power_loss.proofs.Common.{Some, None, fold, map, refl, sym, ap, ◌∙◌, subst, Ok, All-contains, All-nil}
 use Rattle.power_loss.proofs.Common.{none-some, same_Some, Array, key_of, Flight, ForTask, Reader, Reading, Spot, Entry}
@@ -59,6 +60,10 @@ read_same index state (Sending blocks sent) = λ l x i h block at.
     (shown.0, subst (IsShown l shown.0 x) old.2 shown.1)
 read_same index state (ReadingArea pages) = λ l x i h page at.
     let old = block_old pages index i state (slice_get pages index) refl at in
+    let shown = h old.0 old.1 in
+    (shown.0, subst (IsShown l shown.0 x) old.2 shown.1)
+read_same index state (Comparing blocks compared asked) = λ l x i h block at.
+    let old = block_old blocks index i state (slice_get blocks index) refl at in
     let shown = h old.0 old.1 in
     (shown.0, subst (IsShown l shown.0 x) old.2 shown.1)
 read_same index state (Gathering purpose gathered asked) = λ l x i h. h
@@ -228,7 +233,18 @@ area_body s pin task pages page name place v h in' there deed at looked g =
     shown_body s pin.index pages page name place v
     (kept_shows s pin task (ReadingArea pages) name place h in' there deed looked) at g
 
--- and it goes out
+-- and with the page of a block that is still to be compared
+pub compared_body : (s : State) (pin : Pin) (task : Task) (blocks : List ReadBlock) (compared : ℕ) (asked : Bool)
+    (block : ReadBlock) (name : Name) (place : Place) → IsTied s → ShowsReads s → Contains s.translation.pins pin →
+    task_of pin.tag s.tasks ≡ Some task → task.deed ≡ Comparing blocks compared asked →
+    slice_get blocks pin.index ≡ Some block → pin.looked ≡ OnPage name place →
+    (g : IsGroupPage s.translation.disk.cells s.translation.disk.finished s.translation.disk.erasing name place) →
+    g.body ≡ block.body
+compared_body s pin task blocks compared asked block name place v h in' there deed at looked g =
+    shown_body s pin.index blocks block name place v
+    (kept_shows s pin task (Comparing blocks compared asked) name place h in' there deed looked) at g
+
+-- what is sent goes out
 pub page_sent : (s : State) (pin : Pin) (task : Task) (blocks : List ReadBlock) (sent : ℕ) (block : ReadBlock)
     (name : Name) (place : Place) → IsTied s → ShowsReads s → Contains s.translation.pins pin → pin.index ≡ sent →
     task_of pin.tag s.tasks ≡ Some task → task.deed ≡ Sending blocks sent → slice_get blocks sent ≡ Some block →

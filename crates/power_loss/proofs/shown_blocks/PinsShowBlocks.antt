@@ -1,4 +1,5 @@
 -- What is kept shows the blocks of tasks: what other groups, other tasks and fewer pins leave of it.
+use Rattle.ufs_spec.specs.Exchanges.{Comparing}
 use Rattle.power_loss.proofs.Common.{◌≡◌, ℕ, ◌==◌, Bool, true, false, cond, not, if◌then◌else◌, All, List, [], ◌∷◌}
 use Rattle.power_loss.proofs.Common.{◌++◌, Some, fold, map, refl, sym, ap, ◌∙◌, subst, flat_map, list_any, All-cons}
 use Rattle.power_loss.proofs.Common.{All-filter, All-head, All-nil, All-tail, All-weaker, false≢true, none-some}
@@ -38,6 +39,8 @@ block_reshown l m x y index (Sending blocks sent) again h = λ block at. let r =
     (r.0, again r.0 block.body r.1)
 block_reshown l m x y index (ReadingArea pages) again h = λ page at. let r = h page at in
     (r.0, again r.0 page.body r.1)
+block_reshown l m x y index (Comparing blocks compared asked) again h = λ block at. let r = h block at in
+    (r.0, again r.0 block.body r.1)
 block_reshown l m x y index (Gathering purpose gathered asked) again h = h
 block_reshown l m x y index deed again h = tt
 

@@ -1,4 +1,12 @@
 -- Each call keeps that what is kept for a READ shows the blocks that the READ sends, and so does a whole life.
+use Rattle.ufs_spec.specs.Exchanges.{Comparing}
+use Rattle.ufs_spec.specs.Exchanges.{miscompare}
+use Rattle.ufs_spec.specs.DataOuts.{block_compared, block_differs, deed_after_same}
+use Rattle.ufs_spec.specs.DataOuts.{block_same as same_state}
+use Rattle.ufs_spec.specs.Machine.{deed_after_asked, deed_after_compare}
+use Rattle.ufs_spec.specs.Moves.{LetGo, WantPage}
+use Rattle.ufs_spec.specs.Rpmb.{same_bytes}
+use Rattle.std.specs.Prelude.{[], ◌*◌}
 use Rattle.ufs_spec.specs.Exchanges.{to_gather}
 use Rattle.ufs_spec.specs.Plain.{region_of, regions}
 use Rattle.power_loss.proofs.host_commands.GatheringTasks.{GathersIn, HasAll, HasMore, all_there, gathers_in}
@@ -132,12 +140,62 @@ module _ {s : State} {task : Task} {purpose : Purpose} {gathered : List ℕ} {as
       (λ few. set_shows s.translation.ledger (Gathering purpose all false) h)
       (λ whole. complete_shows all (all_there more whole) h)
 
+-- Blocks that are compared
+
+after_same : (task : Task) (blocks : List ReadBlock) (compared : ℕ) (asked : Bool) →
+    SameBlocks (Comparing blocks compared asked) (deed_after_same task blocks compared)
+after_same task blocks compared asked = by (nat_lt (compared + 1) (length blocks))
+  where
+    by : (b : Bool) →
+        SameBlocks (Comparing blocks compared asked)
+        (if b then Comparing blocks (compared + 1) false else Answering Good task.length)
+    by true = λ l x index h. h
+    by false = λ l x index h. tt
+
+same_shows : (s : State) {task : Task} (blocks : List ReadBlock) (compared : ℕ) (asked : Bool) →
+    task_of task.tag s.tasks ≡ Some task → task.deed ≡ Comparing blocks compared asked → ShowsReads s →
+    ShowsReads (same_state s task blocks compared)
+same_shows s {task} blocks compared asked there doing h =
+    show_goes s.translation.ledger s.tasks (map (with_deed task.tag (deed_after_same task blocks compared)) s.tasks)
+    (with_moves s (LetGo task.tag compared ∷ WantPage task.tag (compared + 1) ∷ [])).translation.pins
+    (set_goes s.tasks task (deed_after_same task blocks compared) there
+    (subst (λ (d : Deed). SameBlocks d (deed_after_same task blocks compared)) (sym doing)
+    (after_same task blocks compared asked)))
+    (wanted_shows s.translation.ledger s.tasks task.tag (compared + 1) true
+    (filter (λ pin. not (is_pin_of task.tag compared pin)) s.translation.pins)
+    (All-filter (λ pin. not (is_pin_of task.tag compared pin))
+    (ShowsRight s.translation.ledger s.tasks) s.translation.pins h))
+
+differs_shows : (s : State) {task : Task} (blocks : List ReadBlock) (compared : ℕ) (asked : Bool) →
+    task_of task.tag s.tasks ≡ Some task → task.deed ≡ Comparing blocks compared asked → ShowsReads s →
+    ShowsReads (block_differs s task compared)
+differs_shows s {task} blocks compared asked there doing h =
+    show_goes s.translation.ledger s.tasks
+    (map (with_deed task.tag (Answering miscompare (4096 * (compared + 1)))) s.tasks)
+    (filter (λ (pin : Pin). not (pin.tag == task.tag)) s.translation.pins)
+    (set_goes s.tasks task (Answering miscompare (4096 * (compared + 1))) there (λ l x index k. tt))
+    (All-filter (λ (pin : Pin). not (pin.tag == task.tag))
+    (ShowsRight s.translation.ledger s.tasks) s.translation.pins h)
+
+compared_shows : (s : State) {task : Task} (blocks : List ReadBlock) (compared : ℕ) (asked : Bool)
+    (o : Option ReadBlock) (bytes : List ℕ) → task_of task.tag s.tasks ≡ Some task →
+    task.deed ≡ Comparing blocks compared asked → ShowsReads s →
+    ShowsReads (block_compared s task blocks compared o bytes)
+compared_shows s blocks compared asked None bytes there doing h = h
+compared_shows s {task} blocks compared asked (Some block) bytes there doing h =
+    if_cases ShowsReads (same_bytes bytes block.body) (λ same. same_shows s blocks compared asked there doing h)
+    (λ other. differs_shows s blocks compared asked there doing h)
+
 data_shows : {s : State} {task : Task} (tag : ℕ) (deed : Deed) (lun offset : ℕ) (bytes : List ℕ) → IsTied s →
     task_of tag s.tasks ≡ Some task → task.deed ≡ deed → is_asked_in task lun offset (length bytes) deed ≡ true →
     AreBytes bytes → ShowsReads s → ShowsReads (data_for s task deed bytes)
 data_shows {s} {task} tag (Gathering purpose gathered asked) lun offset bytes v e doing is_asked is h =
     gathered_shows v (gathers_in tag v e doing) doing (gathered ++ bytes)
     (more_there task purpose gathered bytes asked lun offset is_asked is) h
+data_shows {s} {task} tag (Comparing blocks compared asked) lun offset bytes v e doing is_asked is h =
+    let own : task.tag ≡ tag = eq_told task.tag tag (found_is (is_task_of tag) s.tasks task e) in
+    compared_shows s blocks compared asked (slice_get blocks compared) bytes
+    (ap (λ (n : ℕ). task_of n s.tasks) own ∙ e) doing h
 data_shows tag deed lun offset bytes v e doing is_asked is h = h
 
 data_heard_shows : {s : State} (tag lun offset : ℕ) (o : Option Task) (bytes : List ℕ) → IsTied s →
@@ -219,6 +277,18 @@ block_same task blocks sent (Some block) {deed} e = by block.state e
         (sent_same task blocks sent)
     by NotRead k = absurd (none-some deed k)
 
+asked_same : (blocks : List ReadBlock) (compared : ℕ) (asked : Bool) (state : ReadState) {deed : Deed} →
+    deed_after_asked blocks compared state ≡ Some deed → SameBlocks (Comparing blocks compared asked) deed
+asked_same blocks compared asked NotRead {deed} e = absurd (none-some deed e)
+asked_same blocks compared asked state {deed} e =
+    subst (SameBlocks (Comparing blocks compared asked)) (same_Some (Comparing blocks compared true) deed e)
+    (λ l x index h. h)
+
+compare_same : (blocks : List ReadBlock) (compared : ℕ) (asked : Bool) (o : Option ReadBlock) {deed : Deed} →
+    deed_after_compare blocks compared o ≡ Some deed → SameBlocks (Comparing blocks compared asked) deed
+compare_same blocks compared asked None {deed} e = absurd (none-some deed e)
+compare_same blocks compared asked (Some block) e = asked_same blocks compared asked block.state e
+
 behind_same : (task : Task) (before : Deed) {deed : Deed} → deed_after task before ≡ Some deed → SameBlocks before deed
 behind_same task (Sending blocks sent) {deed} e = block_same task blocks sent (slice_get blocks sent) e
 behind_same task (Gathering purpose gathered asked) {deed} e =
@@ -226,6 +296,7 @@ behind_same task (Gathering purpose gathered asked) {deed} e =
     (λ l x index h. h)
 behind_same task (SendingBytes bytes) {deed} e =
     subst (SameBlocks (SendingBytes bytes)) (same_Some (Answering Good task.length) deed e) (λ l x index h. tt)
+behind_same task (Comparing blocks compared asked) e = compare_same blocks compared asked (slice_get blocks compared) e
 behind_same task before {deed} e = absurd (none-some deed e)
 
 moves_show : (s : State) (task : Task) (deed : Deed) → ShowsReads s → ShowsReads (with_moves s (moves_after task deed))

@@ -1,4 +1,5 @@
 -- What waits in the registers of the RPMB is always frames of 512 bytes: each call keeps what tasks and registers need.
+use Rattle.ufs_laws.proofs.walk.Happenings.{Differs, IsSame}
 use Rattle.power_loss.proofs.host_commands.GatheringTasks.{GathersIn, HasMore, gathers_in, room_for}
 use Rattle.power_loss.proofs.host_commands.ListsAndFrames.{FramesCame, frames_came}
 use Rattle.power_loss.proofs.Common.{All-head, Array, Bool, Ending, Flight, List, None, Numbers, Ok, Option, Plain}
@@ -158,6 +159,10 @@ happens_waits {s = s} call answer (Gathers task purpose all) v is may same why h
 happens_waits {s = s} call answer (Completes task k) v is may same (purpose, d, why) h =
     completed_waits k same (gathers_in task.tag v d.found d.deed)
     (room_for task _ d.gathered d.more (d.next may) (λ b. bytes-append d.gathered d.more b (d.are_bytes is))) why h
+happens_waits {s = s} call answer (IsSame task blocks compared) v is may same why h =
+    tasks_go s.tasks s.registers (with_deed task.tag _) (deed_asks _ task.tag _) h
+happens_waits {s = s} call answer (Differs task compared) v is may same why h =
+    tasks_go s.tasks s.registers (with_deed task.tag _) (deed_asks _ task.tag _) h
 happens_waits {areas} {s} call answer (Aborts volatile those short) v is may same why h = record {
   requests = every_filtered (Asks areas) (λ task. not (those task)) s.tasks h.requests;
   registers_hold = registers_left s (filter those s.tasks) h;

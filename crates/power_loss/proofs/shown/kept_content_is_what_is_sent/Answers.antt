@@ -1,4 +1,4 @@
-use Rattle.power_loss.proofs.shown_blocks.LivesShowBlocks.{area_body, call_shows, life_shows, opened_shows}
+use Rattle.power_loss.proofs.shown_blocks.LivesShowBlocks.{area_body, call_shows, compared_body, life_shows, opened_shows}
 use Rattle.power_loss.proofs.shown_blocks.LivesShowBlocks.{page_body, page_sent}
 use Rattle.power_loss.proofs.shown_blocks.LooksShowContents.{look_shows}
 use Rattle.power_loss.proofs.shown.kept_content_is_what_is_sent.Goals as goal
@@ -23,3 +23,6 @@ returns-clause-area c = area_body
 
 pub returns-clause-sent : goal.returns-clause-sent
 returns-clause-sent c = page_sent
+
+pub returns-clause-compared : goal.returns-clause-compared
+returns-clause-compared c = compared_body
