@@ -329,6 +329,15 @@ pin_of c reader index = find (is_pin_of reader index) c.pins
 abbrev pub looked_by : ℕ → ℕ → List Pin → Option Looked
 looked_by reader index ps = option_map (λ (p : Pin). p.looked) (find (is_pin_of reader index) ps)
 
+-- whether the page of what is kept is still to be read, if something is
+abbrev pub is_to_read : Option Pin → Bool
+is_to_read None = false
+is_to_read (Some p) = p.wanted
+
+-- whether the page of this block of the reader is still to be read
+abbrev pub wants_page : ℕ → ℕ → List Pin → Bool
+wants_page reader index ps = is_to_read (find (is_pin_of reader index) ps)
+
 -- what is kept of one of the pages of a reader: what its address has now. All are wanted at once, or the first alone
 abbrev pub pin_now : Core → ℕ → Key → Bool → ℕ → Pin
 pin_now c reader k all i = record {

@@ -8,7 +8,7 @@ pub use Rattle.ftl_core.specs.Core.{Core}
 pub use Rattle.ftl_core.specs.Describes.{Describes, IsTaken, IsTold, given}
 pub use Rattle.ftl_core.specs.Ended.{EndedNow, ended_now}
 pub use Rattle.ftl_core.specs.Tells.{IsAwaited, IsGroupBrought, IsItemBrought, IsReadOf, PinsDiffer}
-pub use Rattle.ftl_core.specs.Tells.{group_of_blocks, items_behind}
+pub use Rattle.ftl_core.specs.Tells.{group_of_blocks, is_page_wanted, items_behind}
 pub use Rattle.ftl_core.specs.Tells.{keeps_area_of, keeps_for, keeps_of, key_behind, looked_of}
 
 -- the reader has claimed a slot for each of these blocks, in which the block lies, in the order of their indexes

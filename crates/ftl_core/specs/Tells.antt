@@ -1,6 +1,6 @@
 -- What the calls of the layer tell of the layer that is specified.
 use Rattle.std.specs.Prelude.{◌≡◌, ℕ, ◌+◌, ◌==◌, ◌||◌, Bool, true, false, List, [], ◌∷◌, Contains}
-use Rattle.std.specs.Prelude.{find, length, map, slice_get, Some}
+use Rattle.std.specs.Prelude.{find, length, map, slice_get, None, Option, Some}
 use Rattle.std.specs.List.{list_any}
 use Rattle.ufs_spec.specs.Keys.{Group, Item, below}
 use Rattle.ufs_spec.specs.Ledger.{all_contents}
@@ -25,6 +25,11 @@ keeps_for reader pin = pin.tag == reader
 -- where the pin looks
 abbrev pub looked_of : layer.Pin → Looked
 looked_of pin = pin.looked
+
+-- whether the page of what a reader keeps of a block is still to be read, if it keeps something
+abbrev pub is_page_wanted : Option layer.Pin → Bool
+is_page_wanted None = false
+is_page_wanted (Some pin) = pin.wanted
 
 -- the reader keeps the page there and waits for it
 pub record IsAwaited (t : Translation) (tag index : ℕ) (place : Place) : Type 0 where

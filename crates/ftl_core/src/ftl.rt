@@ -3,7 +3,7 @@ ghost use Rattle.std.specs.Prelude.{◌≡◌, ℕ, ◌<◌, ◌≤◌, ◌+◌,
 ghost use Rattle.std.specs.List.{list_any};
 ghost use Rattle.ftl_core.specs.Moves.{accepted, first_fence, first_mending, is_own};
 ghost use Rattle.ftl_core.specs.Moves.{is_over, mark_number_behind, opened, state_of_found};
-ghost use Rattle.ftl_core.specs.Moves.{stored_of_found, slot_of, looked_by, looked_on, pin_of, next_wanted, unpinned, look_of, stored_of, free_slots, is_locked, has_number, next_number, without_reader, without_block};
+ghost use Rattle.ftl_core.specs.Moves.{stored_of_found, slot_of, looked_by, wants_page, looked_on, pin_of, next_wanted, unpinned, look_of, stored_of, free_slots, is_locked, has_number, next_number, without_reader, without_block};
 ghost use Rattle.ftl_core.specs.Moves.{claims_for, claimed_all, released, released_behind, filled};
 ghost use Rattle.ufs_spec.specs.Ledger.{next_number as next_of_layer, Entry, before_accepted, entry_of};
 ghost use Rattle.ufs_spec.specs.Moves.{Accept, Acknowledge, Claim, IsAllowedMove, LetGo, LetGoAll, Release, WantPage, moved, is_pin_of as is_layer_pin_of};
@@ -23,7 +23,7 @@ ghost use Rattle.ftl_core.specs.Describes.{Describes};
 ghost use Rattle.ftl_core.specs.Stops.{StopsRight};
 ghost use Rattle.ftl_core.specs.KnownLive.{live_moved, none_live, page_moved, with_stored};
 ghost use Rattle.block_table.specs.Lives.{is_live};
-ghost use Rattle.ftl_core.specs.Tells.{group_of_blocks, looked_of};
+ghost use Rattle.ftl_core.specs.Tells.{group_of_blocks, is_page_wanted, looked_of};
 ghost use Rattle.ftl_core.specs.Public.{AreClaimed, Claims, AreClaimedBy, with_block, with_claimed};
 
 mod ends;
@@ -598,6 +598,27 @@ impl Ftl {
     {
         let pin = self.pins.find(reader, index)?;
         Some(pin.looked)
+    }
+
+    /// Whether the page of this block of the reader is still to be read. Where nothing is kept
+    /// nothing is.
+    #[tactic(auto, using(crate::proofs::small_calls::PinCalls::wanted_right))]
+    pub fn wants(&self, reader: u8, index: u16) -> bool
+        ensures core { result ≡ wants_page reader index self.now.pins }
+        ensures described { (t : Translation) → Describes self.now t →
+            result ≡ is_page_wanted (find (is_layer_pin_of reader index) t.pins) }
+    {
+        self.is_wanted(reader, index)
+    }
+
+    /// Whether what is kept of this block of the reader is still to be read.
+    fn is_wanted(&self, reader: u8, index: u16) -> bool
+        ensures { result ≡ wants_page reader index self.now.pins }
+    {
+        match self.pins.find(reader, index) {
+            Some(pin) => pin.wanted,
+            None => false,
+        }
     }
 
     /// What is kept of this block of the reader.

@@ -7,13 +7,14 @@ use ufs_spec::Cdb;
 /// How many bytes a block has.
 const BLOCK_BYTES: u32 = 4096;
 
-/// How many blocks a READ or a WRITE names (SBC, READ and WRITE commands). No other command names any
-/// that count.
+/// How many blocks a READ, a WRITE or a VERIFY names (SBC, their commands). No other command names
+/// any that count.
 pub fn blocks_of(cdb: &Cdb) -> u32
     ensures { result ≡ blocks_of cdb.now }
 {
     match cdb {
-        Cdb::Read { blocks, .. } | Cdb::Write { blocks, .. } => *blocks,
+        Cdb::Read { blocks, .. } | Cdb::Write { blocks, .. } | Cdb::Verify { blocks, .. } =>
+            *blocks,
         _ => 0,
     }
 }
@@ -29,21 +30,23 @@ pub fn blocks_meant(cdb: &Cdb) -> u32
     }
 }
 
-/// The first address of a READ, a WRITE or a PRE-FETCH (SBC, their commands). No other command names
-/// one that counts.
+/// The first address of a READ, a WRITE, a VERIFY or a PRE-FETCH (SBC, their commands). No other
+/// command names one that counts.
 pub fn address_of(cdb: &Cdb) -> u64
     ensures { result ≡ address_of cdb.now }
 {
     match cdb {
-        Cdb::Read { address, .. } | Cdb::Write { address, .. } | Cdb::Prefetch { address, .. } =>
-            *address,
+        Cdb::Read { address, .. }
+        | Cdb::Write { address, .. }
+        | Cdb::Verify { address, .. }
+        | Cdb::Prefetch { address, .. } => *address,
         _ => 0,
     }
 }
 
 /// How many bytes of data a command has, of fewer than 2^20 blocks, where there are so many to tell:
-/// 4096 a block of a READ or a WRITE (SBC, READ and WRITE commands); of what is told of the device no
-/// more than the allocation length (SPC, allocation length); those of UNMAP's list (SBC, UNMAP
+/// 4096 a block of a READ, a WRITE or a VERIFY that compares (SBC, their commands); of what is told of the
+/// device no more than the allocation length (SPC, allocation length); those of UNMAP's list (SBC, UNMAP
 /// command); the length that SECURITY PROTOCOL IN or OUT names (SPC, their commands).
 pub fn length_of(told: u32, cdb: &Cdb) -> u32
     requires { blocks_of cdb.now < 2 ^ 20 }
@@ -51,10 +54,23 @@ pub fn length_of(told: u32, cdb: &Cdb) -> u32
 {
     match cdb {
         Cdb::Tell { allocation, .. } => (*allocation).min(told),
-        Cdb::Read { blocks, .. } | Cdb::Write { blocks, .. } => *blocks * 4096,
+        Cdb::Read { blocks, .. }
+        | Cdb::Write { blocks, .. }
+        | Cdb::Verify {
+            blocks,
+            compared: true,
+            ..
+        } => *blocks * 4096,
         Cdb::Unmap { list } => *list,
         Cdb::SecurityIn { length, .. } | Cdb::SecurityOut { length, .. } => *length,
-        Cdb::Nothing | Cdb::Flush { .. } | Cdb::Prefetch { .. } | Cdb::Diagnose { .. } => 0,
+        Cdb::Nothing
+        | Cdb::Flush { .. }
+        | Cdb::Verify {
+            compared: false,
+            ..
+        }
+        | Cdb::Prefetch { .. }
+        | Cdb::Diagnose { .. } => 0,
     }
 }
 

@@ -11,7 +11,7 @@ ghost use Rattle.ufs_spec.specs.declared.configs.Numbers.{Numbers};
 ghost use Rattle.ufs_spec.specs.declared.scsi.TheConstants.Sense.{INVALID_FIELD};
 ghost use Rattle.ufs_spec.specs.declared.Cdb.{Cdb};
 ghost use Rattle.ufs_spec.specs.declared.Cdb.TheVariants.{Diagnose, Flush, Nothing, Prefetch, Read, SecurityIn, SecurityOut};
-ghost use Rattle.ufs_spec.specs.declared.Cdb.TheVariants.{Tell, Unmap, Write};
+ghost use Rattle.ufs_spec.specs.declared.Cdb.TheVariants.{Tell, Unmap, Verify, Write};
 ghost use Rattle.ufs_spec.specs.declared.Row.{Row};
 ghost use Rattle.ufs_spec.specs.declared.operations.Told.TheVariants as told;
 ghost use Rattle.scsi_cdb.specs.Lists.{list_read};
@@ -79,8 +79,9 @@ pub fn worked_bytes()
 /// What some bytes spell that profile 1 alone takes: READ CAPACITY(16) for 32 bytes; MODE SENSE(10) of
 /// page 08h for 28 bytes, with DBD, and (6) of all pages and subpages for 255; INQUIRY of page B0h for
 /// 64; READ(16) of a block whose address has 64 bits, with FUA and DPO in group 10h; WRITE(16) with FUA;
-/// SYNCHRONIZE CACHE(16) with IMMED; PRE-FETCH of 512 blocks, in both forms; SEND DIAGNOSTIC with
-/// SELFTEST and PF; REPORT SUPPORTED OPERATION CODES of READ CAPACITY(16) with RCTD for 64.
+/// SYNCHRONIZE CACHE(16) with IMMED; VERIFY of two blocks, with BYTCHK 00 and 01; PRE-FETCH of 512
+/// blocks, in both forms; SEND DIAGNOSTIC with SELFTEST and PF; REPORT SUPPORTED OPERATION CODES of READ
+/// CAPACITY(16) with RCTD for 64.
 pub fn worked_bytes_of_profile_1()
     ensures capacity { SpellsCdb (Tell told.LongCapacity 0 32)
         (0x9E ∷ 0x10 ∷ replicate 8 0 ++ (0 ∷ 0 ∷ 0 ∷ 0x20 ∷ 0 ∷ 0 ∷ [])) }
@@ -94,6 +95,9 @@ pub fn worked_bytes_of_profile_1()
     ensures write_16 { SpellsCdb (Write 9 2 true)
         (0x8A ∷ 8 ∷ replicate 7 0 ++ (9 ∷ 0 ∷ 0 ∷ 0 ∷ 2 ∷ 0 ∷ 0 ∷ [])) }
     ensures flush_16 { SpellsCdb (Flush true) (0x91 ∷ 2 ∷ replicate 14 0) }
+    ensures verify { SpellsCdb (Verify 5 2 false)
+        (0x2F ∷ 0x10 ∷ 0 ∷ 0 ∷ 0 ∷ 5 ∷ 0x10 ∷ 0 ∷ 2 ∷ replicate 7 0) }
+    ensures compare { SpellsCdb (Verify 5 2 true) (0x2F ∷ 2 ∷ 0 ∷ 0 ∷ 0 ∷ 5 ∷ 0 ∷ 0 ∷ 2 ∷ replicate 7 0) }
     ensures prefetch { SpellsCdb (Prefetch 5 512) (0x34 ∷ 2 ∷ 0 ∷ 0 ∷ 0 ∷ 5 ∷ 0 ∷ 2 ∷ 0 ∷ replicate 7 0) }
     ensures prefetch_16 { SpellsCdb (Prefetch 5 512)
         (0x90 ∷ 0 ∷ replicate 7 0 ++ (5 ∷ 0 ∷ 0 ∷ 2 ∷ 0 ∷ 0 ∷ 0 ∷ [])) }
@@ -148,6 +152,9 @@ pub fn worked_residuals()
     ensures list { length_of 32 (Tell told.Units 0 64) ≡ 32 }
     ensures request { length_of 18 (Tell told.Sense 0 4) ≡ 4 }
     ensures prefetch { length_of 0 (Prefetch 0 512) ≡ 0 }
+    ensures verify { length_of 0 (Verify 0 2 false) ≡ 0 }
+    ensures compare { length_of 0 (Verify 0 2 true) ≡ 8192 }
+    ensures compare_direction { direction_of (Verify 0 2 true) ≡ ToDevice }
     ensures unmap { length_of 0 (Unmap 24) ≡ 24 }
     ensures direction { direction_of (Unmap 24) ≡ ToDevice }
     ensures nothing { residual_of 8192 0 ≡ record { flags = 0x20; count = 8192 } }

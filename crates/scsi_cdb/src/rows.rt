@@ -289,6 +289,11 @@ fn command_of(kind: Kind, fields: Fields) -> Option<Cdb>
         Kind::Flush if is_group(fields.group) => Some(Cdb::Flush {
             immediate: fields.option,
         }),
+        Kind::Verify if is_group(fields.group) => Some(Cdb::Verify {
+            address,
+            blocks: count,
+            compared: fields.option,
+        }),
         Kind::Prefetch if is_group(fields.group) => Some(Cdb::Prefetch {
             address,
             blocks: count,

@@ -6,10 +6,10 @@ ghost use Rattle.ufs_spec.specs.declared.Told.TheVariants.{LongCapacity, Modes, 
 
 use ufs_bytes::{write_u16, write_u32};
 use ufs_spec::operations::{
-    EVPD, FUA, IMMED, INQUIRY, MAINTENANCE_IN, MODE_SENSE_6, MODE_SENSE_10, PRE_FETCH_10, READ_10,
-    READ_CAPACITY_10, READ_CAPACITY_16, REPORT_LUNS, REPORT_OPERATIONS, REQUEST_SENSE, SECURITY_IN,
-    SECURITY_OUT, SELF_TEST, SEND_DIAGNOSTIC, SERVICE_ACTION_IN_16, SYNCHRONIZE_CACHE_10,
-    TEST_UNIT_READY, UNMAP, WRITE_10,
+    BYTCHK, EVPD, FUA, IMMED, INQUIRY, MAINTENANCE_IN, MODE_SENSE_6, MODE_SENSE_10, PRE_FETCH_10,
+    READ_10, READ_CAPACITY_10, READ_CAPACITY_16, REPORT_LUNS, REPORT_OPERATIONS, REQUEST_SENSE,
+    SECURITY_IN, SECURITY_OUT, SELF_TEST, SEND_DIAGNOSTIC, SERVICE_ACTION_IN_16,
+    SYNCHRONIZE_CACHE_10, TEST_UNIT_READY, UNMAP, VERIFY_10, WRITE_10,
 };
 use ufs_spec::{Cdb, Told};
 
@@ -40,6 +40,16 @@ pub fn bytes_of(cdb: &Cdb) -> [u8; 16]
         Cdb::Flush { immediate } => {
             ten_bytes_of(SYNCHRONIZE_CACHE_10, option_byte(IMMED, *immediate), 0, 0)
         }
+        Cdb::Verify {
+            address,
+            blocks,
+            compared,
+        } => ten_bytes_of(
+            VERIFY_10,
+            option_byte(BYTCHK, *compared),
+            *address as u32,
+            *blocks as u16,
+        ),
         Cdb::Prefetch { address, blocks } => {
             ten_bytes_of(PRE_FETCH_10, 0, *address as u32, *blocks as u16)
         }

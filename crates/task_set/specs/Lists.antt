@@ -6,6 +6,8 @@ use Rattle.ufs_spec.specs.Exchanges.{most_short_exchanges, number_of}
 use Rattle.ufs_spec.specs.declared.faults.HostFault.{HostFault}
 use Rattle.ufs_spec.specs.declared.faults.HostFault.TheVariants.{Backlog, TagInUse}
 use Rattle.task_set.specs.declared.tasks.AskedFor.{AskedFor}
+use Rattle.task_set.specs.declared.tasks.ComparedWith.{ComparedWith}
+use Rattle.task_set.specs.declared.tasks.Comparing.{Comparing}
 use Rattle.task_set.specs.declared.tasks.Phase.{Phase}
 use Rattle.task_set.specs.declared.tasks.Phase.TheVariants as phase
 use Rattle.task_set.specs.declared.tasks.Short.{Short}
@@ -14,7 +16,7 @@ use Rattle.task_set.specs.declared.tasks.TaskEvent.{TaskEvent}
 use Rattle.task_set.specs.declared.tasks.Wanted.{Wanted}
 use Rattle.task_set.specs.Kept.{OpenTask, task_in}
 use Rattle.task_set.specs.Shorts.{number_in}
-use Rattle.task_set.specs.Tasks.{bytes_kept, is_task_of, is_wanted, task_after}
+use Rattle.task_set.specs.Tasks.{block_kept, bytes_kept, is_compared, is_task_of, is_wanted, task_after}
 
 -- Tags
 
@@ -70,6 +72,39 @@ asked_at tasks lun offset count (Some k) = asked_by lun offset count k (slice_ge
 abbrev pub asked_among : List OpenTask → ℕ → ℕ → ℕ → ℕ → Option AskedFor
 asked_among tasks lun tag offset count = asked_at tasks lun offset count (position (is_task_of tag) tasks)
 
+-- Blocks that are compared
+
+-- how far a VERIFY is that awaits a block of its host
+abbrev pub compared_in : Phase → Option Comparing
+compared_in (phase.AwaitBlock x) = Some x
+compared_in p = None
+
+-- the task at this position, if so many bytes at this offset are the block that it compares next
+abbrev pub compared_what : ℕ → ℕ → ℕ → ℕ → OpenTask → Option Comparing → Option ComparedWith
+compared_what lun offset count k task None = None
+compared_what lun offset count k task (Some x) =
+    if (task.lun == lun) && is_compared x offset count then Some (record { index = k; comparing = x }) else None
+
+-- the same of how far it is in its phase
+abbrev pub compares_in : ℕ → ℕ → ℕ → ℕ → OpenTask → Option ComparedWith
+compares_in lun offset count k task = compared_what lun offset count k task (compared_in task.phase)
+
+-- how far the task is, if there is a task
+abbrev pub compared_by : ℕ → ℕ → ℕ → ℕ → Option OpenTask → Option ComparedWith
+compared_by lun offset count k None = None
+compared_by lun offset count k (Some task) = compares_in lun offset count k task
+
+-- how far the task at the position that was found is, if one was found
+abbrev pub compared_at : List OpenTask → ℕ → ℕ → ℕ → Option ℕ → Option ComparedWith
+compared_at tasks lun offset count None = None
+compared_at tasks lun offset count (Some k) = compared_by lun offset count k (slice_get tasks k)
+
+-- the VERIFY that compares so many bytes at this offset, and how far it is
+abbrev pub compared_among : List OpenTask → ℕ → ℕ → ℕ → ℕ → Option ComparedWith
+compared_among tasks lun tag offset count = compared_at tasks lun offset count (position (is_task_of tag) tasks)
+
+-- What changes
+
 -- this happened to the task at this position, if there is one
 abbrev pub task_happened : List OpenTask → ℕ → TaskEvent → Option OpenTask → List OpenTask
 task_happened tasks k e None = tasks
@@ -79,6 +114,11 @@ task_happened tasks k e (Some task) = slice_set tasks k (task_after e task)
 abbrev pub task_keeps : List OpenTask → ℕ → List ℕ → Option OpenTask → List OpenTask
 task_keeps tasks k frames None = tasks
 task_keeps tasks k frames (Some task) = slice_set tasks k (bytes_kept frames task)
+
+-- the task at this position keeps this block, if there is one
+abbrev pub task_keeps_block : List OpenTask → ℕ → List ℕ → Option OpenTask → List OpenTask
+task_keeps_block tasks k block None = tasks
+task_keeps_block tasks k block (Some task) = slice_set tasks k (block_kept block task)
 
 -- What stands at a position
 

@@ -5,7 +5,7 @@ use Rattle.task_set.specs.declared.tasks.Task.{Task}
 use Rattle.task_set.specs.declared.tasks.TaskEvent.{TaskEvent}
 use Rattle.task_set.specs.declared.tasks.TaskEvent.TheVariants as event
 use Rattle.task_set.specs.Kept.{Tasks, newly_open}
-use Rattle.task_set.specs.Lists.{task_happened, task_keeps}
+use Rattle.task_set.specs.Lists.{task_happened, task_keeps, task_keeps_block}
 use Rattle.task_set.specs.Shorts.{short_locked}
 use Rattle.task_set.specs.Tasks.{after_lost_read, after_read, task_after}
 
@@ -20,6 +20,10 @@ happened s k e = record s { tasks = task_happened s.tasks k e (slice_get s.tasks
 -- the task at this position keeps these bytes
 abbrev pub frames_kept : Tasks → ℕ → List ℕ → Tasks
 frames_kept s k frames = record s { tasks = task_keeps s.tasks k frames (slice_get s.tasks k) }
+
+-- the task at this position keeps this block
+abbrev pub own_block_kept : Tasks → ℕ → List ℕ → Tasks
+own_block_kept s k block = record s { tasks = task_keeps_block s.tasks k block (slice_get s.tasks k) }
 
 -- the task at this position has ended
 abbrev pub ended : Tasks → ℕ → Tasks

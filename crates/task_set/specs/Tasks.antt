@@ -10,7 +10,9 @@ use Rattle.ufs_spec.specs.declared.exchanges.Status.TheVariants.{CheckCondition,
 use Rattle.task_set.specs.declared.tasks.Phase.{Phase}
 use Rattle.task_set.specs.declared.tasks.Phase.TheVariants as phase
 use Rattle.task_set.specs.declared.tasks.Meant.{Meant}
+use Rattle.task_set.specs.declared.tasks.Comparing.{Comparing}
 use Rattle.task_set.specs.declared.tasks.Sending.{Sending}
+use Rattle.task_set.specs.declared.tasks.Verifying.{Verifying}
 use Rattle.task_set.specs.declared.tasks.TaskEvent.{TaskEvent}
 use Rattle.task_set.specs.declared.tasks.TaskEvent.TheVariants as event
 use Rattle.task_set.specs.declared.frames.Frames.{Frames}
@@ -26,6 +28,10 @@ read_error = record { key = 0x03; asc = 0x11; ascq = 0x00 }
 -- the sense of a WRITE or a flush whose blocks a locked device can make durable no more: MEDIUM ERROR, 3/0C/00
 abbrev pub write_error : Sense
 write_error = record { key = 0x03; asc = 0x0C; ascq = 0x00 }
+
+-- the sense of a VERIFY of which a block is not the one that its host sent: MISCOMPARE, E/1D/00
+abbrev pub miscompare : Sense
+miscompare = record { key = 0x0E; asc = 0x1D; ascq = 0x00 }
 
 -- the command failed with this sense, and so many bytes were carried
 abbrev pub failed : Sense → ℕ → Phase
@@ -67,6 +73,23 @@ count_for (ForFrames region) size = size
 abbrev pub wanted_count : Wanted → ℕ
 wanted_count w = count_for w.purpose w.length
 
+-- what is still to be compared of a VERIFY once one block more was found to be the same
+abbrev pub next_comparing : Comparing → Option Comparing
+next_comparing x = if nat_lt (x.compared + 1) x.blocks then Some (record x { compared = x.compared + 1 }) else None
+
+-- after a block that was found to be the same: the host is asked for the next one, if there is one, else GOOD is due
+abbrev pub same_next : Comparing → Option Comparing → Phase
+same_next x None = phase.Answer Good (4096 * x.blocks)
+same_next x (Some y) = phase.AskBlock y
+
+-- whether so many bytes at this offset are the block that is compared next
+abbrev pub is_compared : Comparing → ℕ → ℕ → Bool
+is_compared x offset count = (4096 * x.compared == offset) && (count == 4096)
+
+-- one of the blocks of a VERIFY could not be read
+abbrev pub block_unread : Verifying → Verifying
+block_unread x = record x { failed = true }
+
 -- whether so many bytes at this offset are what was asked for
 abbrev pub is_wanted : Wanted → ℕ → ℕ → Bool
 is_wanted w offset count = (w.came == offset) && (count == wanted_count w)
@@ -97,15 +120,22 @@ phase_after (phase.AwaitFrontier number size) (event.Locked frontier) =
     if nat_lt frontier number then failed write_error size else phase.AwaitFrontier number size
 phase_after (phase.ReadArea r) (event.PageLoaded index) = phase.ReadArea (page_ended r index WasRead)
 phase_after (phase.ReadArea r) (event.BlockLost index) = phase.ReadArea (page_ended r index NotRead)
+phase_after (phase.Verify x) (event.BlockLost index) = phase.Verify (block_unread x)
+phase_after (phase.AskBlock x) event.BlockAskedFor = phase.AwaitBlock x
+phase_after (phase.AskBlock x) (event.BlockLost index) = failed read_error (4096 * x.compared)
+phase_after (phase.AwaitBlock x) event.BlockSame = same_next x (next_comparing x)
+phase_after (phase.AwaitBlock x) event.BlockDiffers = failed miscompare (4096 * (x.compared + 1))
 phase_after (phase.SendBlocks x) event.BlockSent = sent_next x (next_sending x)
 phase_after (phase.SendBlocks x) (event.BlockLost index) = failed read_error (4096 * x.sent)
 phase_after (phase.SendHeld size) event.DataSent = phase.Answer Good size
 phase_after p e = p
 
--- the block that a die read for a task in this phase: once it was handed out it is not there, and nothing else
--- changes it
+-- the block that a task in this phase keeps: once it was handed out or compared it is not there, and nothing else changes
+-- it
 abbrev pub block_after : TaskEvent → Phase → Option (List ℕ) → Option (List ℕ)
 block_after event.BlockSent (phase.SendBlocks x) block = None
+block_after event.BlockSame (phase.AwaitBlock x) block = None
+block_after event.BlockDiffers (phase.AwaitBlock x) block = None
 block_after e p block = block
 
 -- this happened to the task
@@ -118,10 +148,13 @@ task_after e t =
     }
 
 -- a die read this for a task in this phase: the page of the area of this index, of which the part that is asked for is
--- put behind the frame; else the next block that the task sends
+-- put behind the frame; nothing of a block of a VERIFY that is not compared, or is the one that its host was asked for;
+-- else the next block that the task sends or compares
 abbrev pub read_for : ℕ → List ℕ → OpenTask → Phase → OpenTask
 read_for index body t (phase.ReadArea r) =
     task_after (event.PageLoaded index) (record t { held = option_map (page_put r index body) t.held })
+read_for index body t (phase.Verify x) = t
+read_for index body t (phase.AwaitBlock x) = t
 read_for index body t p = record t { block = Some body; held = None }
 
 -- a die read this for the task of this tag
@@ -135,6 +168,10 @@ after_lost_read tag index t = if t.tag == tag then task_after (event.BlockLost i
 -- the task keeps these bytes from now on
 abbrev pub bytes_kept : List ℕ → OpenTask → OpenTask
 bytes_kept frames t = record t { block = None; held = Some frames }
+
+-- the task keeps this block from now on
+abbrev pub block_kept : List ℕ → OpenTask → OpenTask
+block_kept block t = record t { block = Some block; held = None }
 
 -- the number is the one that is meant, a LUN byte or a tag; without one all are
 abbrev pub is_any_meant : Option ℕ → ℕ → Bool

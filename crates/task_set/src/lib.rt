@@ -10,6 +10,6 @@ mod tasks;
 pub use frames::{AreaPart, AreaReading, Frames};
 pub use set::TaskSet;
 pub use tasks::{
-    AskedFor, BLOCK_BYTES, Meant, Phase, Queried, Sending, Short, ShortReply, Task, TaskEvent,
-    Wanted,
+    AskedFor, BLOCK_BYTES, ComparedWith, Comparing, Meant, Phase, Queried, Sending, Short,
+    ShortReply, Task, TaskEvent, Verifying, Wanted,
 };

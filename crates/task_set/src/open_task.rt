@@ -3,7 +3,7 @@ ghost use Rattle.std.specs.Prelude.{◌≡◌, option_copied, length};
 ghost use Rattle.task_set.specs.Kept.{newly_open, task_in};
 ghost use Rattle.task_set.specs.Frames.{page_put};
 ghost use Rattle.task_set.specs.Rooms.{block_in, held_in};
-ghost use Rattle.task_set.specs.Tasks.{after_lost_read, after_read, block_after, bytes_kept, is_decided};
+ghost use Rattle.task_set.specs.Tasks.{after_lost_read, after_read, block_after, block_kept, bytes_kept, is_decided};
 ghost use Rattle.task_set.specs.Tasks.{is_sender, is_task_meant, is_task_of, read_for, task_after};
 ghost use Rattle.std.specs.Prelude.{ℕ, List, option_map};
 
@@ -17,7 +17,7 @@ use ufs_bytes::{Block, Body};
 pub enum Holds {
     /// Nothing that counts.
     Nothing,
-    /// The next block that it sends, which a die read.
+    /// The next block that it sends or compares: a die read it, or it was put there.
     Block,
     /// What it sends in one DATA IN, or the first frame of its request and the data that it asks for.
     Frames,
@@ -118,6 +118,14 @@ impl OpenTask {
         self.holds = Holds::Frames;
     }
 
+    /// It keeps this block, the next one that it compares, from now on.
+    pub fn keep_block(&mut self, block: &Block)
+        ensures { self.new ≡ block_kept block.now self.old }
+    {
+        self.body.set(block);
+        self.holds = Holds::Block;
+    }
+
     /// Whether its command brings frames.
     pub fn is_sender(&self) -> bool
         ensures { result ≡ is_sender self.now }
@@ -137,7 +145,7 @@ impl OpenTask {
         self.body
     }
 
-    /// This happened to it. A block that was handed out is no longer there.
+    /// This happened to it. A block that was handed out or compared is no longer there.
     pub fn happen(&mut self, event: TaskEvent)
         ensures { self.new ≡ task_after event self.old }
     {
@@ -146,14 +154,19 @@ impl OpenTask {
         self.task.frames = self.task.frames.after(event);
     }
 
-    /// A block that was handed out is no longer there.
+    /// A block that was handed out or compared is no longer there.
     fn give_up(&mut self, event: TaskEvent)
         ensures { self.new ≡ record self.old {
           block = block_after event self.old.phase self.old.block;
         } }
     {
-        if let (Phase::SendBlocks { sending: _ }, TaskEvent::BlockSent) = (self.task.phase, event) {
-            self.holds = self.holds.without_block();
+        match (self.task.phase, event) {
+            (Phase::SendBlocks { sending: _ }, TaskEvent::BlockSent)
+            | (Phase::AwaitBlock { comparing: _ }, TaskEvent::BlockSame)
+            | (Phase::AwaitBlock { comparing: _ }, TaskEvent::BlockDiffers) => {
+                self.holds = self.holds.without_block();
+            }
+            _ => {}
         }
     }
 
@@ -166,7 +179,8 @@ impl OpenTask {
         }
     }
 
-    /// A die read this block, or this page of the area, for it.
+    /// A die read this block, or this page of the area, for it. A VERIFY that compares nothing keeps nothing
+    /// of it, and one whose host was asked for its block has its own one.
     fn load(&mut self, index: u16, block: &Block)
         ensures { self.new ≡ read_for index block.now self.old self.old.phase }
     {
@@ -175,10 +189,8 @@ impl OpenTask {
                 self.put_page(reading, index, block);
                 self.happen(TaskEvent::PageLoaded { index });
             }
-            _ => {
-                self.body.set(block);
-                self.holds = Holds::Block;
-            }
+            Phase::Verify { verifying: _ } | Phase::AwaitBlock { comparing: _ } => {}
+            _ => self.keep_block(block),
         }
     }
 

@@ -4,16 +4,19 @@ ghost use Rattle.std.specs.Prelude.{IfOk, IfSome, option_copied, vec_capacity};
 ghost use Rattle.std.specs.List.{list_any};
 ghost use Rattle.ufs_spec.specs.Exchanges.{most_short_exchanges, most_tasks};
 ghost use Rattle.task_set.specs.Kept.{no_tasks};
-ghost use Rattle.task_set.specs.Lists.{asked_among, asked_by, asked_in, held_at, is_in_use, is_open, is_short_of};
+ghost use Rattle.task_set.specs.Lists.{asked_among, asked_by, asked_in, compared_among, compared_by, compared_in};
+ghost use Rattle.task_set.specs.Lists.{compares_in, held_at, is_in_use, is_open, is_short_of};
 ghost use Rattle.task_set.specs.Lists.{read_at, short_allowed, task_at, wanted_in};
 ghost use Rattle.task_set.specs.Sets.{block_loaded, block_lost, ended, frames_kept, happened, locked, opened};
-ghost use Rattle.task_set.specs.Sets.{short_ended, short_opened, shorts_ended};
+ghost use Rattle.task_set.specs.Sets.{own_block_kept, short_ended, short_opened, shorts_ended};
 ghost use Rattle.task_set.specs.Shorts.{is_short_due, short_locked};
 ghost use Rattle.task_set.specs.Tasks.{after_lost_read, after_read, is_decided, is_sender, is_task_of};
 ghost use Rattle.task_set.specs.Tasks.{is_task_meant, task_after};
 
 use crate::open_task::OpenTask;
-use crate::tasks::{AskedFor, Meant, Phase, Short, Task, TaskEvent, Wanted, number_of};
+use crate::tasks::{
+    AskedFor, ComparedWith, Comparing, Meant, Phase, Short, Task, TaskEvent, Wanted, number_of,
+};
 use std::alloc::{AllocError, Global};
 use std::marker::Model;
 use ufs_bytes::{Block, Body};
@@ -97,7 +100,8 @@ impl TaskSet {
         self.tasks[index].task()
     }
 
-    /// The block that a die read for the task at this position, the next one that it sends, if it is there.
+    /// The block that the task at this position keeps, the next one that it sends or compares, if it is
+    /// there.
     pub fn block(&self, index: usize) -> Option<&Block>
         requires { index < length self.now.tasks }
         ensures { option_copied result ≡ read_at self.now.tasks index }
@@ -119,6 +123,14 @@ impl TaskSet {
         ensures { self.new ≡ frames_kept self.old index frames.now }
     {
         self.tasks[index].keep(frames);
+    }
+
+    /// The task at this position keeps this block, the next one that it compares, from now on.
+    pub fn keep_block(&mut self, index: usize, block: &Block)
+        requires { index < length self.old.tasks }
+        ensures { self.new ≡ own_block_kept self.old index block.now }
+    {
+        self.tasks[index].keep_block(block);
     }
 
     /// Whether the command of an open task brings frames.
@@ -189,6 +201,24 @@ impl TaskSet {
         asked_of(&self.tasks[index], lun, offset, count, index)
     }
 
+    /// The VERIFY of this tag and unit that compares so many bytes at this offset next, and how far it is.
+    pub fn compared_with(&self, lun: u8, tag: u8, offset: u32, count: usize) -> Option<ComparedWith>
+        ensures what { result ≡ compared_among self.now.tasks lun tag offset count }
+        ensures within { IfSome result (λ found. found.index < length self.now.tasks) }
+    {
+        let index = task_at(self.tasks.as_slice(), u16::from(tag))?;
+        self.compared_by(lun, offset, count, index)
+    }
+
+    /// The same of the task at this position.
+    fn compared_by(&self, lun: u8, offset: u32, count: usize, index: usize) -> Option<ComparedWith>
+        requires { index < length self.now.tasks }
+        ensures what { result ≡ compared_by lun offset count index (slice_get self.now.tasks index) }
+        ensures within { IfSome result (λ found. found.index < length self.now.tasks) }
+    {
+        compared_of(&self.tasks[index], lun, offset, count, index)
+    }
+
     /// Whether one more short exchange of this tag may be open, one of task management or not.
     ///
     /// # Errors
@@ -241,8 +271,8 @@ impl TaskSet {
         self.shorts.clear();
     }
 
-    /// A die read this block for the task of this tag: the next one that it sends, or the page of the area
-    /// of this index.
+    /// A die read this block for the task of this tag: the next one that it sends or compares, or the page of
+    /// the area of this index.
     pub fn load(&mut self, tag: u8, index: u16, block: &Block)
         ensures { self.new ≡ block_loaded self.old tag index block.now }
     {
@@ -318,6 +348,34 @@ fn wanted_in(kept: &OpenTask) -> Option<Wanted>
 {
     match kept.task().phase {
         Phase::Await { wanted } => Some(wanted),
+        _ => None,
+    }
+}
+
+/// The task at this position, if so many bytes at this offset are the block that it compares next.
+fn compared_of(
+    kept: &OpenTask,
+    lun: u8,
+    offset: u32,
+    count: usize,
+    index: usize,
+) -> Option<ComparedWith>
+    ensures { result ≡ compares_in lun offset count index kept.now }
+{
+    let comparing = compared_in(kept)?;
+    if kept.task().lun == lun && comparing.is(offset, count) {
+        Some(ComparedWith { index, comparing })
+    } else {
+        None
+    }
+}
+
+/// How far the task is, if it awaits a block with which it compares its own.
+fn compared_in(kept: &OpenTask) -> Option<Comparing>
+    ensures { result ≡ compared_in kept.now.phase }
+{
+    match kept.task().phase {
+        Phase::AwaitBlock { comparing } => Some(comparing),
         _ => None,
     }
 }

@@ -1,8 +1,9 @@
 //! The tasks that are open, and what each still owes its host (JESD220, 10.9).
-ghost use Rattle.std.specs.Prelude.{◌≡◌, ◌*◌};
+ghost use Rattle.std.specs.Prelude.{◌≡◌, ◌*◌, ◌+◌};
 ghost use Rattle.ufs_spec.specs.Exchanges.{number_of};
-ghost use Rattle.task_set.specs.Tasks.{asked_next, came, failed, group_done, is_any_meant, is_forced, is_meant, is_wanted};
-ghost use Rattle.task_set.specs.Tasks.{next_sending, next_wanted, phase_after, sent_next, wanted_block, wanted_count};
+ghost use Rattle.task_set.specs.Tasks.{asked_next, block_unread, came, failed, group_done, is_any_meant, is_forced, is_meant, is_wanted};
+ghost use Rattle.task_set.specs.Tasks.{is_compared, miscompare, next_comparing, next_sending, next_wanted};
+ghost use Rattle.task_set.specs.Tasks.{phase_after, same_next, sent_next, wanted_block, wanted_count};
 ghost use Rattle.task_set.specs.Shorts.{is_short_due, manages, number_in, reply_locked, short_locked};
 ghost use Rattle.ufs_spec.specs.Exchanges.{to_gather};
 
@@ -48,6 +49,82 @@ impl Sending {
     }
 }
 
+/// The blocks of a VERIFY: how many there are, and whether one of them could not be read.
+#[derive(Clone, Copy, Debug, PartialEq, Eq)]
+pub struct Verifying {
+    pub blocks: u16,
+    pub failed: bool,
+}
+
+impl Verifying {
+    /// One of its blocks could not be read.
+    fn lost(self) -> Verifying
+        ensures { result ≡ block_unread self }
+    {
+        Verifying {
+            blocks: self.blocks,
+            failed: true,
+        }
+    }
+}
+
+/// The blocks of a VERIFY that are compared with those of its host, one after another: how many there
+/// are, of which so many were found to be the same.
+#[derive(Clone, Copy, Debug, PartialEq, Eq)]
+pub struct Comparing {
+    pub blocks: u16,
+    pub compared: u16,
+}
+
+impl Comparing {
+    /// What is still to be compared once one block more was found to be the same; `None` if that was
+    /// the last.
+    fn next(self) -> Option<Comparing>
+        ensures { result ≡ next_comparing self }
+    {
+        if self.compared as u32 + 1 < self.blocks as u32 {
+            Some(Comparing {
+                blocks: self.blocks,
+                compared: self.compared + 1,
+            })
+        } else {
+            None
+        }
+    }
+
+    /// How many bytes were found to be the same: where the next block lies in the data of its host.
+    pub fn offset(self) -> u32
+        ensures { result ≡ 4096 * self.compared }
+    {
+        BLOCK_BYTES * self.compared as u32
+    }
+
+    /// Whether so many bytes at this offset are the next block.
+    pub fn is(self, offset: u32, count: usize) -> bool
+        ensures { result ≡ is_compared self offset count }
+    {
+        self.offset() == offset && count == BLOCK_BYTES as usize
+    }
+
+    /// How far a VERIFY is whose next block was found to be the same: the one behind it follows, or
+    /// GOOD.
+    fn same(self) -> Phase
+        ensures { result ≡ same_next self (next_comparing self) }
+    {
+        match self.next() {
+            Some(comparing) => Phase::AskBlock { comparing },
+            None => Phase::good(BLOCK_BYTES * self.blocks as u32),
+        }
+    }
+
+    /// The same of one whose next block was found to be another one, which was carried too.
+    fn differs(self) -> Phase
+        ensures { result ≡ failed miscompare (4096 * (self.compared + 1)) }
+    {
+        Phase::failed(Sense::MISCOMPARE, BLOCK_BYTES * (self.compared as u32 + 1))
+    }
+}
+
 /// How far a task is.
 #[derive(Clone, Copy, Debug, PartialEq, Eq)]
 pub enum Phase {
@@ -59,6 +136,13 @@ pub enum Phase {
     AwaitFrontier { number: u64, length: u32 },
     /// GOOD is due once each of these pages of the RPMB area is at hand, was read or could not be read.
     ReadArea { reading: AreaReading },
+    /// Its answer is due once each of these blocks was read or needs no read, or one could not be
+    /// read. Which were read is known by what is kept for it, and not here.
+    Verify { verifying: Verifying },
+    /// A READY TO TRANSFER for its host's block is due once the next block that the task keeps is there.
+    AskBlock { comparing: Comparing },
+    /// The DATA OUT with that block has not come. The task's own one lies in its block of the pool.
+    AwaitBlock { comparing: Comparing },
     /// A DATA IN is due once the next block that the task keeps is there.
     SendBlocks { sending: Sending },
     /// A DATA IN with what the task's block holds, so many bytes, is due.
@@ -94,6 +178,12 @@ pub enum TaskEvent {
     BlockSent,
     /// The DATA IN with what its block holds was handed out.
     DataSent,
+    /// The READY TO TRANSFER for the block with which its next one is compared was handed out.
+    BlockAskedFor,
+    /// That block came, and is the same.
+    BlockSame,
+    /// That block came, and is another one.
+    BlockDiffers,
     /// The die could not read the block or the page of this index. What is before a block was carried.
     BlockLost { index: u16 },
     /// The device is locked from now on, and each group up to this number is durable. What waits for
@@ -170,6 +260,17 @@ impl Phase {
             (Phase::ReadArea { reading }, TaskEvent::BlockLost { index }) => Phase::ReadArea {
                 reading: reading.ended(index, ReadState::NotRead),
             },
+            (Phase::Verify { verifying }, TaskEvent::BlockLost { .. }) => Phase::Verify {
+                verifying: verifying.lost(),
+            },
+            (Phase::AskBlock { comparing }, TaskEvent::BlockAskedFor) => {
+                Phase::AwaitBlock { comparing }
+            }
+            (Phase::AskBlock { comparing }, TaskEvent::BlockLost { .. }) => {
+                Phase::failed(Sense::READ_ERROR, comparing.offset())
+            }
+            (Phase::AwaitBlock { comparing }, TaskEvent::BlockSame) => comparing.same(),
+            (Phase::AwaitBlock { comparing }, TaskEvent::BlockDiffers) => comparing.differs(),
             (Phase::SendBlocks { sending }, TaskEvent::BlockSent) => Phase::sent(sending),
             (Phase::SendBlocks { sending }, TaskEvent::BlockLost { .. }) => {
                 Phase::failed(Sense::READ_ERROR, sending.offset())
@@ -421,4 +522,11 @@ impl Meant {
 pub struct AskedFor {
     pub index: usize,
     pub wanted: Wanted,
+}
+
+/// A VERIFY for which a block came: its position among the open tasks, and how far it is.
+#[derive(Clone, Copy, Debug, PartialEq, Eq)]
+pub struct ComparedWith {
+    pub index: usize,
+    pub comparing: Comparing,
 }

@@ -177,8 +177,8 @@ fn cdbs_are_taken_or_refused_by_their_tables(rt: HostRuntime) {
             })
         )
     );
-    let verify = [0x2F, 0, 0, 0, 0, 0, 0, 0, 1, 0, 0, 0, 0, 0, 0, 0];
-    assert!(rt; is_refused(&verify, Sense::INVALID_OPCODE));
+    let verify_16 = [0x8F, 0, 0, 0, 0, 0, 0, 0, 0, 0, 0, 0, 0, 1, 0, 0];
+    assert!(rt; is_refused(&verify_16, Sense::INVALID_OPCODE));
     assert!(rt; matches!(scsi_cdb::read(&[0; 16]), Ok(Cdb::Nothing)));
     assert!(rt; scsi_cdb::blocks_of(&taken) == 1);
     assert!(rt; scsi_cdb::address_of(&taken) == 255);

@@ -13,8 +13,8 @@ use Rattle.power_loss.specs.Invariant.{PinsRight}
 use Rattle.ftl_core.proofs.rests_owed.RestsStay.{gone_rests, same_rests}
 use Rattle.ftl_core.specs.declared.books.Mending.{Mending}
 use Rattle.ftl_core.specs.declared.books.Step.TheVariants as steps
-use Rattle.ftl_core.specs.Moves.{looked_by, next_wanted, unpinned, without_block}
-use Rattle.ftl_core.specs.Tells.{looked_of}
+use Rattle.ftl_core.specs.Moves.{is_to_read, looked_by, next_wanted, unpinned, wants_page, without_block}
+use Rattle.ftl_core.specs.Tells.{is_page_wanted, looked_of}
 use Rattle.ftl_core.proofs.pins.FoundPins.{FoundKept, pins_found}
 use Rattle.ftl_core.proofs.pins.PinsGone.{let_go_kept, let_one_go_kept}
 use Rattle.ftl_core.proofs.pins.PinsWanted.{wants_kept}
@@ -32,6 +32,20 @@ pinned_right c t reader index h =
         option_map (λ (x : Pin). x.looked) o ≡ option_map looked_of r
     by None None k = refl
     by (Some p) (Some q) k = ap Some (sym k.looked)
+    by None (Some q) k = absurd k
+    by (Some p) None k = absurd k
+
+-- the page of a block is still to be read just where that of its pin is
+pub wanted_right : (c : Core) (t : Translation) (reader index : ℕ) → Describes c t →
+    wants_page reader index c.pins ≡ is_page_wanted (find (move.is_pin_of reader index) t.pins)
+wanted_right c t reader index h =
+    by (find (is_pin_of reader index) c.pins) (find (move.is_pin_of reader index) t.pins)
+    (pins_found t.ledger.frontier (entry_of t.ledger) reader index c.pins t.pins h.kept.pins)
+  where
+    by : (o : Option Pin) (r : Option layer.Pin) → FoundKept t.ledger.frontier (entry_of t.ledger) o r →
+        is_to_read o ≡ is_page_wanted r
+    by None None k = refl
+    by (Some p) (Some q) k = sym k.wanted
     by None (Some q) k = absurd k
     by (Some p) None k = absurd k
 
