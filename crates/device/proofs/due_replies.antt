@@ -1,3 +1,4 @@
+pub mod AllVerified
 pub mod AreasRead
 pub mod BlocksBehind
 pub mod BlocksOwed

@@ -9,6 +9,8 @@ pub mod CommandPasses
 pub mod CommandTable
 pub mod CommandTags
 pub mod CommandsRight
+pub mod ComparesBegin
+pub mod ComparesRight
 pub mod DataRight
 pub mod EventsRight
 pub mod FaultsHeard
@@ -43,5 +45,6 @@ pub mod TaskBecomes
 pub mod TasksBegin
 pub mod UnitsThere
 pub mod UnitsTold
+pub mod VerifyBegins
 pub mod ZerosAccepted
 pub mod ZerosPut

@@ -1,4 +1,5 @@
 pub mod BlockEnds
+pub mod CompareEnds
 pub mod FewPins
 pub mod KeptByTag
 pub mod OpenTasks
@@ -7,4 +8,5 @@ pub mod PartsPut
 pub mod ReadProgress
 pub mod ReadsEnded
 pub mod TaskOpened
+pub mod VerifyEnds
 pub mod WantedData

@@ -8,7 +8,8 @@ use Rattle.ufs_spec.specs.Moves.{Accept, Claim, IsAllowedMove, Move, Release, mo
 use Rattle.ufs_spec.specs.Plain.{greatest_command, shape_of_numbers, zero_block}
 use Rattle.ufs_spec.specs.Translation.{Translation, free_slots, is_locked, is_mended}
 use Rattle.ufs_spec.specs.declared.flash.Key.{Key}
-use Rattle.ftl_core.specs.Public.{Claims, Core, PinsDiffer, group_of_blocks, keeps_for, keeps_of, key_behind}
+use Rattle.ftl_core.specs.Public.{Claims, Core, PinsDiffer, group_of_blocks, keeps_area_of, keeps_for, keeps_of}
+use Rattle.ftl_core.specs.Public.{key_behind}
 use Rattle.ftl_core.specs.Public.{EndedNow, with_block, with_claimed}
 use Rattle.ftl_core.specs.Ended as ended
 use Rattle.ufs_spec.specs.declared.exchanges.Status.{Status}
@@ -32,7 +33,7 @@ with_event d k e = record d { tasks = task_happened d.tasks k e (slice_get d.tas
 
 -- A task begins
 
--- a READ looks these addresses up, and keeps nothing else
+-- a READ or a VERIFY looks these addresses up, and keeps nothing else
 pub record MayKeep (t : Translation) (tag : ℕ) (key : Key) (blocks : ℕ) : Type 0 where
   pub of_data : key.kind ≡ 1
   pub there : (i : ℕ) → i < blocks → IsKey (shape_of_numbers t.numbers) (key_behind key i)
@@ -42,16 +43,31 @@ pub record MayKeep (t : Translation) (tag : ℕ) (key : Key) (blocks : ℕ) : Ty
 abbrev pub has_room : Translation → ℕ → Bool
 has_room t blocks = nat_le (length t.pins + blocks) (most_tasks * greatest_command)
 
--- how far a READ is that begins, and the layer then: it keeps what it looks up. As no block is kept twice, there is
--- room wherever a task may be opened
-pub record HasKept (after : Core) (t : Translation) (claims : Claims) (tag : ℕ) (key : Key) (blocks size : ℕ)
-    (p : Phase) : Type 0 where
-  pub phase_is : p ≡
-      (if has_room t blocks then phase.SendBlocks (record { blocks = blocks; sent = 0; length = size })
-      else phase.Answer status.Busy 0)
+-- how far a READ is that begins, of a command of so many bytes, and a VERIFY that compares its blocks
+abbrev pub sending_first : (blocks size : ℕ) → Phase
+sending_first blocks size = phase.SendBlocks (record { blocks = blocks; sent = 0; length = size })
+
+abbrev pub comparing_first : (blocks : ℕ) → Phase
+comparing_first blocks = phase.AskBlock (record { blocks = blocks; compared = 0 })
+
+-- how far such a command is that begins, and the layer then: it keeps what it looks up. As no block is kept twice, there
+-- is room wherever a task may be opened
+pub record HasKept (after : Core) (t : Translation) (claims : Claims) (tag : ℕ) (key : Key) (blocks : ℕ)
+    (first p : Phase) : Type 0 where
+  pub phase_is : p ≡ (if has_room t blocks then first else phase.Answer status.Busy 0)
   pub differ : PinsDiffer t.pins
   pub layer : MayKeep t tag key blocks →
       IsLayerWith after (if has_room t blocks then fold moved t (keeps_of t tag key blocks) else t) claims
+
+-- how far a VERIFY is that begins, and the layer then: it keeps its blocks, and wants the pages of all of them
+pub record HasKeptAll (after : Core) (t : Translation) (claims : Claims) (tag : ℕ) (key : Key) (blocks : ℕ)
+    (p : Phase) : Type 0 where
+  pub phase_is : p ≡
+      (if has_room t blocks then phase.Verify (record { blocks = blocks; failed = false })
+      else phase.Answer status.Busy 0)
+  pub differ : PinsDiffer t.pins
+  pub layer : MayKeep t tag key blocks →
+      IsLayerWith after (if has_room t blocks then fold moved t (keeps_area_of t tag key blocks) else t) claims
 
 -- whether so many slots are free
 abbrev pub has_slots : Translation → ℕ → Bool
@@ -80,7 +96,11 @@ flush_phase t =
 
 -- how far a task is that begins what was planned for it, and the layer then
 abbrev pub HasBegun : Core → Translation → Claims → ℕ → Result Plan Status → Phase → Type 0
-HasBegun after t claims tag (Ok (plan.Read key blocks size)) p = HasKept after t claims tag key blocks size p
+HasBegun after t claims tag (Ok (plan.Read key blocks size)) p =
+    HasKept after t claims tag key blocks (sending_first blocks size) p
+HasBegun after t claims tag (Ok (plan.Compare key blocks)) p =
+    HasKept after t claims tag key blocks (comparing_first blocks) p
+HasBegun after t claims tag (Ok (plan.Verify key blocks)) p = HasKeptAll after t claims tag key blocks p
 HasBegun after t claims tag (Ok (plan.Gather w slots)) p = HasClaimedFor after t claims tag slots (phase.Ask w) p
 HasBegun after t claims tag (Err refused) p = (p ≡ phase.Answer refused 0) × IsLayerWith after t claims
 HasBegun after t claims tag (Ok (plan.Nothing n)) p = (p ≡ phase.Answer status.Good n) × IsLayerWith after t claims

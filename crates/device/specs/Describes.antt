@@ -1,15 +1,15 @@
 -- How what the device keeps describes the specified device: one relation for each part of its state, each over the
 -- fields that it reads.
 use Rattle.std.specs.Prelude.{All, Bool, List, None, Option, Result, Some, [], drop, false, find, if◌then◌else◌, length}
-use Rattle.std.specs.Prelude.{map, min, nat_le, nat_lt, option_map, replicate, slice_get, suc, take, true, zero, ℕ}
+use Rattle.std.specs.Prelude.{map, min, nat_le, nat_lt, not, option_map, replicate, slice_get, suc, take, true, zero, ℕ}
 use Rattle.std.specs.Prelude.{◌&&◌, ◌*◌, ◌+◌, ◌<◌, ◌==◌, ◌∷◌, ◌≡◌, ◌≤◌}
 use Rattle.std.specs.Int.{div_ceil}
 use Rattle.std.specs.List.{list_any}
 use Rattle.ufs_spec.specs.Plain.{greatest_command, region_of, regions, zero_block}
 use Rattle.ufs_spec.specs.Disk.{Flight, job_of}
 use Rattle.ufs_spec.specs.Exchanges as exchange
-use Rattle.ufs_spec.specs.Exchanges.{Answering, Awaiting, Deed, Gathering, ReadBlock, ReadingArea, RpmbRequest, Sending}
-use Rattle.ufs_spec.specs.Exchanges.{SendingBytes, Short, is_unfilled, most_tasks, task_of}
+use Rattle.ufs_spec.specs.Exchanges.{Answering, Awaiting, Comparing, Deed, Gathering, ReadBlock, ReadingArea}
+use Rattle.ufs_spec.specs.Exchanges.{RpmbRequest, Sending, SendingBytes, Short, most_tasks, task_of}
 use Rattle.ufs_spec.specs.declared.exchanges.Purpose.{Purpose}
 use Rattle.ufs_spec.specs.declared.exchanges.Purpose.TheVariants.{ForFrames, ForUnmap, ForWrite}
 use Rattle.ufs_spec.specs.declared.exchanges.ReadState.{ReadState}
@@ -21,6 +21,7 @@ use Rattle.ufs_spec.specs.Machine.{Allowed, Answer, Call, Heard, Host, IsHeard, 
 use Rattle.ufs_spec.specs.Machine.{durable, is_to_fill, observe}
 use Rattle.ufs_spec.specs.Messages.{spelling}
 use Rattle.ufs_spec.specs.Moves.{is_pin_of}
+use Rattle.ufs_spec.specs.Replies.{is_unreadable}
 use Rattle.ufs_spec.specs.Refusals.{State, locked, numbers_of, plain_now, sends_frames, sends_frames_to}
 use Rattle.ufs_spec.specs.Translation.{Pin}
 use Rattle.ufs_spec.specs.declared.configs.Numbers.{Numbers}
@@ -39,7 +40,9 @@ use Rattle.task_set.specs.declared.frames.AreaPart.{AreaPart}
 use Rattle.task_set.specs.declared.frames.AreaReading.{AreaReading}
 use Rattle.task_set.specs.declared.tasks.Phase.{Phase}
 use Rattle.task_set.specs.declared.tasks.Phase.TheVariants as phase
+use Rattle.task_set.specs.declared.tasks.Comparing.{Comparing as Compares}
 use Rattle.task_set.specs.declared.tasks.Sending.{Sending as Sends}
+use Rattle.task_set.specs.declared.tasks.Verifying.{Verifying}
 use Rattle.task_set.specs.declared.tasks.Short as kept
 use Rattle.ufs_spec.specs.declared.exchanges.Status.{Status}
 use Rattle.ufs_spec.specs.declared.exchanges.Status.TheVariants as status
@@ -81,7 +84,7 @@ pub record IsSending (x : Sends) (expected total : ℕ) (blocks : List ReadBlock
   pub readable : (block : ReadBlock) → slice_get blocks sent ≡ Some block → is_lost block.state ≡ false
   pub behind : (i : ℕ) (block : ReadBlock) → sent < i → slice_get blocks i ≡ Some block → block.state ≡ Unread
 
--- the next block of a READ could not be read
+-- the next block of a READ or a VERIFY could not be read
 pub record IsLost (blocks : List ReadBlock) (sent : ℕ) (told : Status) (size : ℕ) : Type 0 where
   pub block : ReadBlock
   pub there : slice_get blocks sent ≡ Some block
@@ -112,6 +115,26 @@ pub record IsReadingArea (r : AreaReading) (total : ℕ) (pages : List ReadBlock
   pub total_is : total ≡ r.length
   pub reads : map (λ (page : ReadBlock). page.state) pages ≡ pages_read r
 
+-- so many blocks of a VERIFY were compared, and more follow. Those behind the next one were not read yet
+pub record IsComparing (x : Compares) (total : ℕ) (blocks : List ReadBlock) (compared : ℕ) : Type 0 where
+  pub count : length blocks ≡ x.blocks
+  pub compared_is : compared ≡ x.compared
+  pub more : x.compared < x.blocks
+  pub total_is : total ≡ 4096 * x.blocks
+  pub few : x.blocks ≤ greatest_command
+  pub behind : (i : ℕ) (block : ReadBlock) → compared < i → slice_get blocks i ≡ Some block → block.state ≡ Unread
+
+-- the block that comes next was read, or can still be
+abbrev pub IsReadable : List ReadBlock → ℕ → Type 0
+IsReadable blocks next = (block : ReadBlock) → slice_get blocks next ≡ Some block → is_lost block.state ≡ false
+
+-- so many blocks of a VERIFY are read, and one of them could not be read or each can still be
+pub record IsVerifying (x : Verifying) (total : ℕ) (pages : List ReadBlock) : Type 0 where
+  pub total_is : total ≡ 0
+  pub count : length pages ≡ x.blocks
+  pub few : x.blocks ≤ greatest_command
+  pub failed : list_any is_unreadable pages ≡ x.failed
+
 -- what a phase of the device is to the specified one; a group's number counts from those before the accepted commands
 abbrev pub IsDoing : (before expected total : ℕ) → Phase → Deed → Type 0
 IsDoing before expected total (phase.Ask w) (Gathering purpose gathered asked) =
@@ -124,9 +147,16 @@ IsDoing before expected total (phase.AwaitFrontier number size) (Awaiting comman
     (number ≡ before + commands) × (total ≡ size)
 IsDoing before expected total (phase.SendBlocks x) (Sending blocks sent) = IsSending x expected total blocks sent
 IsDoing before expected total (phase.ReadArea r) (ReadingArea pages) = IsReadingArea r total pages
+IsDoing before expected total (phase.Verify x) (ReadingArea pages) = IsVerifying x total pages
+IsDoing before expected total (phase.AskBlock x) (Comparing blocks compared asked) =
+    IsComparing x total blocks compared × (asked ≡ false) × IsReadable blocks compared
+IsDoing before expected total (phase.AwaitBlock x) (Comparing blocks compared asked) =
+    IsComparing x total blocks compared × (asked ≡ true)
 IsDoing before expected total (phase.Answer told size) (Answering s carried) =
     (s ≡ told) × (carried ≡ size)
 IsDoing before expected total (phase.Answer told size) (Sending blocks sent) = IsLost blocks sent told size
+IsDoing before expected total (phase.Answer told size) (Comparing blocks compared asked) =
+    IsLost blocks compared told size × (asked ≡ false)
 IsDoing before expected total kept deed = ⊥
 
 -- what a die read of a block: its body once it was read; none before that, or where the read failed
@@ -140,9 +170,16 @@ abbrev pub read_of : Option ReadBlock → Option (List ℕ)
 read_of None = None
 read_of (Some block) = read_by block.body block.state
 
+-- the block that a VERIFY compares next: it has it once its host was asked for the other one, and before that once it was
+-- read
+abbrev pub own_of : (asked : Bool) → Option ReadBlock → Option (List ℕ)
+own_of true block = option_map (λ (own : ReadBlock). own.body) block
+own_of false block = read_of block
+
 -- the next block, once it was read
 abbrev pub read_in : Deed → Option (List ℕ)
 read_in (Sending blocks sent) = read_of (slice_get blocks sent)
+read_in (Comparing blocks compared asked) = own_of asked (slice_get blocks compared)
 read_in deed = None
 
 -- Frames
@@ -163,12 +200,17 @@ pub record IsAsked (code : ℕ) (held : Option (List ℕ)) (request : Option Rpm
   pub unfilled : asked.filled ≡ false
   pub first : IsFirstFrame bytes asked.frames
 
+-- there is a request, and it has filled its register
+abbrev pub HasFilledIts : Option RpmbRequest → Type 0
+HasFilledIts None = ⊥
+HasFilledIts (Some request) = request.filled ≡ true
+
 -- what a task has to do with frames is what the specified one has
 abbrev pub AreFramesKept : Frames → Option (List ℕ) → Option RpmbRequest → Type 0
 AreFramesKept NotBrought held request = request ≡ None
 AreFramesKept Undecided held request = request ≡ None
 AreFramesKept (Decided code) held request = IsAsked code held request
-AreFramesKept Answered held request = is_unfilled request ≡ false
+AreFramesKept Answered held request = HasFilledIts request
 
 -- a task in this phase reads the blocks that its request asks for, which has this first frame and this result; in any
 -- other phase its request asks for none, or failed a check
@@ -216,6 +258,9 @@ FramesFit (phase.Await w) f held deed = f ≡ frames_for w.purpose
 FramesFit (phase.SendBlocks x) f held deed = f ≡ NotBrought
 FramesFit (phase.SendHeld size) f held deed = (f ≡ NotBrought) × IsSentFrom size held deed
 FramesFit (phase.ReadArea r) f held deed = HasRequest f × PartsStand r held deed
+FramesFit (phase.Verify x) f held deed = f ≡ NotBrought
+FramesFit (phase.AskBlock x) f held deed = f ≡ NotBrought
+FramesFit (phase.AwaitBlock x) f held deed = f ≡ NotBrought
 FramesFit p f held deed = Unit {0}
 
 -- it is for this region, if it is for any
@@ -270,13 +315,22 @@ abbrev pub wanted_of : Bool → Option ReadBlock → Option Bool
 wanted_of next None = None
 wanted_of next (Some block) = Some (next && is_unread block.state)
 
--- the blocks that were not handed out are kept, and the next one is wanted until it was read. The pages of the area
--- that a request asks for are kept until it has filled its register, and each is wanted until it was read
+-- what a request reads is kept until it has filled its register. What is read without a request, for a VERIFY, is kept
+-- as long as its task is there
+abbrev pub keeps_pages : Option RpmbRequest → Bool
+keeps_pages None = true
+keeps_pages (Some request) = not request.filled
+
+-- the blocks that were not handed out or compared are kept, and the next one is wanted until it was read. The pages of
+-- the area that a request asks for and the blocks of a VERIFY that compares none are kept too, and each is wanted until
+-- it was read
 abbrev pub wanted_in : ℕ → Option RpmbRequest → Deed → Option Bool
 wanted_in index request (Sending blocks sent) =
     if nat_lt index sent then None else wanted_of (index == sent) (slice_get blocks index)
+wanted_in index request (Comparing blocks compared asked) =
+    if nat_lt index compared then None else wanted_of (index == compared) (slice_get blocks index)
 wanted_in index request (ReadingArea pages) =
-    if is_unfilled request then wanted_of true (slice_get pages index) else None
+    if keeps_pages request then wanted_of true (slice_get pages index) else None
 wanted_in index request deed = None
 
 -- what is kept for a task, or for a tag that none has

@@ -1,18 +1,23 @@
 -- What a message of the host is answered, and what it makes of what the device keeps.
-use Rattle.std.specs.Prelude.{Bool, Err, List, None, Ok, Option, Result, Some, [], ℕ, ◌++◌, ◌==◌, ◌∷◌, ◌≡◌}
+use Rattle.std.specs.Prelude.{Bool, Err, List, None, Ok, Option, Result, Some, [], false, true, ℕ, ◌++◌, ◌+◌, ◌==◌}
+use Rattle.std.specs.Prelude.{◌∷◌, ◌≡◌}
+use Rattle.ufs_spec.specs.Moves.{LetGo, LetGoAll, WantPage, moved}
 use Rattle.ufs_spec.specs.Refusals.{Request, State}
+use Rattle.ufs_spec.specs.Rpmb.{same_bytes}
 use Rattle.ufs_spec.specs.Translation.{Translation}
 use Rattle.ufs_spec.specs.declared.configs.Numbers.{Numbers}
 use Rattle.ufs_spec.specs.declared.faults.HostFault.{HostFault}
 use Rattle.ufs_spec.specs.declared.faults.HostFault.TheVariants.{NotAskedFor}
 use Rattle.ftl_core.specs.Public.{Claims, Core, Describes}
 use Rattle.task_set.specs.declared.tasks.AskedFor.{AskedFor}
+use Rattle.task_set.specs.declared.tasks.ComparedWith.{ComparedWith}
 use Rattle.task_set.specs.declared.tasks.Phase.{Phase}
 use Rattle.device.specs.declared.plans.Plan.{Plan}
 use Rattle.task_set.specs.declared.tasks.Short.{Short}
 use Rattle.ufs_spec.specs.declared.exchanges.Status.{Status}
 use Rattle.task_set.specs.Kept.{OpenTask, newly_open}
 use Rattle.task_set.specs.declared.tasks.TaskEvent.{TaskEvent}
+use Rattle.task_set.specs.declared.tasks.TaskEvent.TheVariants as event
 pub use Rattle.device.specs.Calls.{with_event}
 use Rattle.device.specs.Attentions.{volatile_left}
 use Rattle.device.specs.Calls.{HasBegun, HasGathered, lock_told}
@@ -26,7 +31,7 @@ use Rattle.device.specs.Kept.{DeviceCore, IsLayerWith}
 use Rattle.device.specs.Bare.{IsBare}
 use Rattle.device.specs.Plans.{IsPlanned, IsRequest, expected_for}
 use Rattle.device.specs.Unmaps.{HasListCome}
-use Rattle.task_set.specs.Lists.{asked_among, is_in_use, short_allowed}
+use Rattle.task_set.specs.Lists.{asked_among, compared_among, is_in_use, read_at, short_allowed}
 
 -- Commands
 
@@ -106,8 +111,38 @@ pub record IsDataTaken (before after : DeviceCore) (tag : ℕ) (asked : AskedFor
   pub has_filled : HasFilled come filled
   pub told : (t : Translation) → Describes filled.ftl t → after ≡ lock_told t filled
 
--- data are taken that a task asked for
-abbrev pub IsDataHeard : DeviceCore → DeviceCore → ℕ → List ℕ → Option AskedFor → Result Unit HostFault → Type 0
-IsDataHeard before after tag bytes None result = (result ≡ Err NotAskedFor) × (after ≡ before)
-IsDataHeard before after tag bytes (Some asked) result =
+-- the VERIFY that compares these data next, and how far it is
+abbrev pub compared_with : DeviceCore → ℕ → ℕ → ℕ → ℕ → Option ComparedWith
+compared_with d lun tag offset count = compared_among d.tasks lun tag offset count
+
+-- the block that the task at this position keeps has these bytes
+abbrev pub is_block_kept : List ℕ → Option (List ℕ) → Bool
+is_block_kept bytes None = false
+is_block_kept bytes (Some block) = same_bytes bytes block
+
+-- the VERIFY of this tag compared a block with these results: it is the same, so that it is let go and the next one is
+-- wanted; or it is another one, so that all that is kept is let go
+abbrev pub HasCompared : DeviceCore → DeviceCore → (tag : ℕ) → ComparedWith → (same : Bool) → Type 0
+HasCompared before after tag found true =
+    (after ≡ record (with_event before found.index event.BlockSame) { ftl = after.ftl })
+    × ((t : Translation) (claims : Claims) → IsLayerWith before.ftl t claims →
+    IsLayerWith after.ftl
+    (moved (moved t (LetGo tag found.comparing.compared)) (WantPage tag (found.comparing.compared + 1))) claims)
+HasCompared before after tag found false =
+    (after ≡ record (with_event before found.index event.BlockDiffers) { ftl = after.ftl })
+    × ((t : Translation) (claims : Claims) → IsLayerWith before.ftl t claims →
+    IsLayerWith after.ftl (moved t (LetGoAll tag)) claims)
+
+-- data that no task gathers are compared with the block of a VERIFY that asked for them, or nothing asked for them
+abbrev pub IsBlockHeard : DeviceCore → DeviceCore → ℕ → List ℕ → Option ComparedWith → Result Unit HostFault → Type 0
+IsBlockHeard before after tag bytes None result = (result ≡ Err NotAskedFor) × (after ≡ before)
+IsBlockHeard before after tag bytes (Some found) result =
+    (result ≡ Ok tt)
+    × HasCompared before after tag found (is_block_kept bytes (read_at before.tasks found.index))
+
+-- data are taken that a task asked for, to gather or to compare them
+abbrev pub IsDataHeard : DeviceCore → DeviceCore → ℕ → List ℕ → Option AskedFor → Option ComparedWith →
+    Result Unit HostFault → Type 0
+IsDataHeard before after tag bytes None compared result = IsBlockHeard before after tag bytes compared result
+IsDataHeard before after tag bytes (Some asked) compared result =
     (result ≡ Ok tt) × IsDataTaken before after tag asked bytes

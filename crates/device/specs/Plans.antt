@@ -72,6 +72,13 @@ write_plan unit address blocks forced size =
     if blocks == 0 then plan.Drop size
     else plan.Gather (record { purpose = ForWrite unit address blocks forced; length = size; came = 0 }) blocks
 
+-- a VERIFY of no blocks is done at once; any other reads its blocks, or compares them
+abbrev pub verify_plan : (unit address blocks : ℕ) → (compared : Bool) → Plan
+verify_plan unit address blocks compared =
+    if blocks == 0 then plan.Nothing 0
+    else if compared then plan.Compare (data_key unit address) blocks
+    else plan.Verify (data_key unit address) blocks
+
 -- how many bytes of data a command to this LUN has on a device with this configuration
 abbrev pub length_on : Numbers → (lun : ℕ) → Cdb → ℕ
 length_on n lun command = length_of (told_count n lun command) command
@@ -106,6 +113,8 @@ plan_of n to expected (cdb.Read address blocks) = read_plan (unit_or_first to.un
 plan_of n to expected (cdb.Write address blocks forced) =
     write_plan (unit_or_first to.unit) address (blocks_brought expected blocks) forced (4096 * blocks)
 plan_of n to expected (cdb.Flush immediate) = flush_plan immediate
+plan_of n to expected (cdb.Verify address blocks compared) =
+    verify_plan (unit_or_first to.unit) address blocks compared
 plan_of n to expected (cdb.Prefetch address blocks) = plan.Nothing 0
 plan_of n to expected (cdb.Diagnose tests) = plan.Nothing 0
 plan_of n to expected (cdb.Unmap list) = gather_plan (ForUnmap (unit_or_first to.unit)) list (list_slots n list)
@@ -124,6 +133,8 @@ expected_for expected (Ok (plan.Gather w slots)) = counted_for expected w.purpos
 expected_for expected (Ok (plan.Drop size)) = expected_of_write expected size
 expected_for expected (Ok (plan.Nothing size)) = expected
 expected_for expected (Ok (plan.Read key blocks size)) = expected
+expected_for expected (Ok (plan.Verify key blocks)) = expected
+expected_for expected (Ok (plan.Compare key blocks)) = expected
 expected_for expected (Ok (plan.Send from size taken)) = expected
 expected_for expected (Ok plan.Flush) = expected
 expected_for expected (Err told) = expected

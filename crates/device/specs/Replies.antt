@@ -1,23 +1,26 @@
 -- Which replies are due, what they say, and what becomes of their tasks.
 use Rattle.std.specs.Prelude.{◌≡◌, ℕ, ◌+◌, ◌-◌, ◌*◌, ◌≤◌, min, nat_le, nat_lt, Bool, true, false, if◌then◌else◌}
-use Rattle.std.specs.Prelude.{find, length, ⊤, List, remove, slice_get, take, Option, Some, None, option_map}
-use Rattle.std.specs.List.{list_any}
+use Rattle.std.specs.Prelude.{find, length, ⊤, List, not, remove, slice_get, take, Option, Some, None, option_map, ◌||◌}
+use Rattle.std.specs.List.{list_all, list_any}
 use Rattle.ufs_spec.specs.Exchanges.{response}
+use Rattle.ufs_spec.specs.Keys.{below}
 use Rattle.ufs_spec.specs.Ledger.{Entry, Ledger, before_accepted, entry_of}
 use Rattle.ufs_spec.specs.Messages.{spelling}
 use Rattle.ufs_spec.specs.Moves.{Acknowledge, LetGo, LetGoAll, WantPage, is_pin_of, moved}
 use Rattle.ufs_spec.specs.Plain.{zero_block}
 use Rattle.ufs_spec.specs.Queries.{Query, descriptor_told}
 use Rattle.ufs_spec.specs.QueryAnswers.{query_failed}
+use Rattle.ufs_spec.specs.Replies.{is_at_hand}
 use Rattle.ufs_spec.specs.Translation.{Pin, Rest, Translation, is_rest_of}
 use Rattle.ufs_spec.specs.declared.configs.Numbers.{Numbers}
 use Rattle.ufs_spec.specs.declared.messages.Message.{Message}
 use Rattle.ufs_spec.specs.declared.messages.Message.TheVariants as message
 use Rattle.ufs_spec.specs.declared.layer.Looked.{Looked}
 use Rattle.ufs_spec.specs.declared.layer.Looked.TheVariants.{InSlot, OnPage, Unwritten}
-use Rattle.ftl_core.specs.Public.{Claims, Core, Describes}
+use Rattle.ftl_core.specs.Public.{Claims, Core, Describes, is_page_wanted}
 use Rattle.task_set.specs.declared.tasks.Phase.{Phase}
 use Rattle.task_set.specs.declared.tasks.Phase.TheVariants as phase
+use Rattle.task_set.specs.declared.tasks.Comparing.{Comparing}
 use Rattle.task_set.specs.declared.tasks.Queried.{Queried}
 use Rattle.task_set.specs.declared.tasks.Sending.{Sending}
 use Rattle.task_set.specs.declared.tasks.Short.{Short}
@@ -28,13 +31,14 @@ use Rattle.ufs_spec.specs.declared.exchanges.Status.TheVariants as status
 use Rattle.task_set.specs.declared.tasks.Task.{Task}
 use Rattle.task_set.specs.declared.tasks.TaskEvent.TheVariants as event
 use Rattle.task_set.specs.Kept.{OpenTask, task_in}
+use Rattle.task_set.specs.Lists.{task_keeps_block}
 use Rattle.task_set.specs.Shorts.{is_short_due}
 use Rattle.task_set.specs.declared.frames.Frames.{Frames}
 use Rattle.task_set.specs.declared.frames.Frames.TheVariants.{Answered, Decided, NotBrought, Undecided}
 use Rattle.device.specs.Calls.{with_event}
 use Rattle.device.specs.Kept.{DeviceCore, IsLayerWith}
 use Rattle.task_set.specs.declared.tasks.Wanted.{Wanted}
-use Rattle.task_set.specs.Tasks.{wanted_count}
+use Rattle.task_set.specs.Tasks.{read_error, wanted_count}
 
 -- Blocks
 
@@ -87,6 +91,10 @@ frames_message t size held =
 abbrev pub ready_message : Task → Wanted → Message
 ready_message t w = message.ReadyToTransfer t.lun t.tag w.came (wanted_count w)
 
+-- the READY TO TRANSFER for the block of its host with which a VERIFY compares its next one
+abbrev pub block_wanted_message : Task → Comparing → Message
+block_wanted_message t x = message.ReadyToTransfer t.lun t.tag (4096 * x.compared) 4096
+
 -- whether a request has filled its register
 abbrev pub has_filled : Frames → Bool
 has_filled Answered = true
@@ -98,6 +106,22 @@ has_filled (Decided code) = false
 abbrev pub area_reply : Task → ℕ → Option Message
 area_reply t size = if has_filled t.frames then Some (answer_of t status.Good size) else None
 
+-- a block of a VERIFY needs no read any more: it was read, so that its page is wanted no more, or it is at hand
+abbrev pub is_verified : Translation → (tag index : ℕ) → Bool
+is_verified t tag index =
+    not (is_page_wanted (find (is_pin_of tag index) t.pins))
+    || is_at_hand t.work.rests (find (is_pin_of tag index) t.pins)
+
+-- none of so many blocks needs a read any more
+abbrev pub are_verified : Translation → (tag blocks : ℕ) → Bool
+are_verified t tag blocks = list_all (is_verified t tag) (below blocks)
+
+-- the answer of a VERIFY: that a block could not be read, or GOOD once no block needs a read any more
+abbrev pub verify_reply : Task → (failed verified : Bool) → Option Message
+verify_reply a true verified = Some (answer_of a (status.CheckCondition read_error) 0)
+verify_reply a false true = Some (answer_of a status.Good 0)
+verify_reply a false false = None
+
 -- the reply that is due in a phase: a request for the next block, a DATA IN, or the RESPONSE. None is due while data of
 -- the host, a durable group or the read of a block is awaited
 abbrev pub owed_in : Translation → (read held : Option (List ℕ)) → Task → Phase → Option Message
@@ -107,6 +131,10 @@ owed_in t read held a (phase.AwaitFrontier n size) =
     if nat_le n t.ledger.frontier then Some (answer_of a status.Good size) else None
 owed_in t read held a (phase.SendBlocks x) = option_map (block_message a x) (block_for t read a.tag x.sent)
 owed_in t read held a (phase.ReadArea r) = area_reply a r.length
+owed_in t read held a (phase.Verify x) = verify_reply a x.failed (are_verified t a.tag x.blocks)
+owed_in t read held a (phase.AskBlock x) =
+    option_map (λ (block : List ℕ). block_wanted_message a x) (block_for t read a.tag x.compared)
+owed_in t read held a (phase.AwaitBlock x) = None
 owed_in t read held a (phase.SendHeld size) = option_map (frames_message a size) held
 owed_in t read held a (phase.Answer s n) = Some (answer_of a s n)
 
@@ -127,15 +155,24 @@ IsWritten false bytes None = ⊤
 abbrev pub without_task : DeviceCore → ℕ → DeviceCore
 without_task d k = record d { tasks = remove d.tasks k }
 
--- what the device keeps, but for its layer, once the task at this position has handed out its reply
-abbrev pub moved_on : DeviceCore → ℕ → Phase → DeviceCore
-moved_on d k (phase.Ask w) = with_event d k event.DataAskedFor
-moved_on d k (phase.Await w) = d
-moved_on d k (phase.AwaitFrontier n size) = without_task d k
-moved_on d k (phase.SendBlocks x) = with_event d k event.BlockSent
-moved_on d k (phase.ReadArea r) = without_task d k
-moved_on d k (phase.SendHeld size) = with_event d k event.DataSent
-moved_on d k (phase.Answer s n) = without_task d k
+-- the task at this position keeps a block that is at hand, if it is so, as the layer may let it go
+abbrev pub with_own_block : DeviceCore → ℕ → Option (List ℕ) → DeviceCore
+with_own_block d k None = d
+with_own_block d k (Some block) = record d { tasks = task_keeps_block d.tasks k block (slice_get d.tasks k) }
+
+-- what the device keeps, but for its layer, once the task at this position and of this tag has handed out its reply
+abbrev pub moved_on : Translation → DeviceCore → (k tag : ℕ) → Phase → DeviceCore
+moved_on t d k tag (phase.Ask w) = with_event d k event.DataAskedFor
+moved_on t d k tag (phase.Await w) = d
+moved_on t d k tag (phase.AwaitFrontier n size) = without_task d k
+moved_on t d k tag (phase.SendBlocks x) = with_event d k event.BlockSent
+moved_on t d k tag (phase.ReadArea r) = without_task d k
+moved_on t d k tag (phase.Verify x) = without_task d k
+moved_on t d k tag (phase.AskBlock x) =
+    with_event (with_own_block d k (block_for t None tag x.compared)) k event.BlockAskedFor
+moved_on t d k tag (phase.AwaitBlock x) = d
+moved_on t d k tag (phase.SendHeld size) = with_event d k event.DataSent
+moved_on t d k tag (phase.Answer s n) = without_task d k
 
 -- the layer then: a block that was handed out is let go; a task that ends keeps nothing, and what it waited for is
 -- acknowledged; what the tasks have claimed stays
@@ -147,8 +184,11 @@ HasMoved after t claims tag (phase.AwaitFrontier n size) =
     IsLayerWith after (moved (moved t (Acknowledge commands)) (LetGoAll tag)) claims
 HasMoved after t claims tag (phase.SendBlocks x) =
     IsLayerWith after (moved (moved t (LetGo tag x.sent)) (WantPage tag (x.sent + 1))) claims
+HasMoved after t claims tag (phase.AskBlock x) = IsLayerWith after t claims
+HasMoved after t claims tag (phase.AwaitBlock x) = IsLayerWith after t claims
 HasMoved after t claims tag (phase.SendHeld size) = IsLayerWith after t claims
 HasMoved after t claims tag (phase.ReadArea r) = IsLayerWith after (moved t (LetGoAll tag)) claims
+HasMoved after t claims tag (phase.Verify x) = IsLayerWith after (moved t (LetGoAll tag)) claims
 HasMoved after t claims tag (phase.Answer s n) = IsLayerWith after (moved t (LetGoAll tag)) claims
 
 -- Short exchanges

@@ -1,5 +1,5 @@
-//! Reads of the RPMB area: the pages that a request for data reads, and what was read of them
-//! (JESD220, 12.4).
+//! Reads whose pages are all wanted at once: those of the RPMB area for a request for data, with
+//! what was read of them (JESD220, 12.4), and those of a VERIFY (SBC).
 ghost use Rattle.std.specs.Prelude.{◌≡◌, ◌≤◌, ◌<◌, ◌+◌, ◌-◌, ◌/◌, ◌++◌, ◌&&◌, ℕ, IfSome, None};
 ghost use Rattle.std.specs.Prelude.{Some, find, length, option_copied, option_map, slice_get, true};
 ghost use Rattle.arrayvec.specs.ArrayVec.{ArrayVec as Items};
@@ -15,13 +15,14 @@ ghost use Rattle.ftl_core.specs.Public.{Claims, Describes as IsLayer};
 ghost use Rattle.device.specs.Frames.{HasKeptArea, area_data, data_for, is_page_there};
 ghost use Rattle.device.specs.Frames.{is_second_there, part_read, second_part};
 ghost use Rattle.device.specs.Kept.{IsLayerWith};
-ghost use Rattle.device.specs.Replies.{block_at, block_for};
+ghost use Rattle.device.specs.Replies.{are_verified, block_at, block_for, is_verified};
 ghost use Rattle.task_set.specs.Frames.{area_part};
 ghost use Rattle.task_set.specs.Kept.{OpenTask, task_in};
 
 use crate::device::Device;
 use crate::replies::zeros;
 use arrayvec::ArrayVec;
+use ftl_core::Ftl;
 use rpmb::AreaBlocks;
 use task_set::{AreaReading, Phase, Task, TaskEvent};
 use ufs_spec::{Block, Key, Looked, ReadState, Tag};
@@ -68,6 +69,31 @@ fn joined(first: &[u8], second: &[u8]) -> AreaData
     let _ = data.try_extend_from_slice(first);
     let _ = data.try_extend_from_slice(second);
     data
+}
+
+/// What the task of this tag keeps of its block or page of this index, where this needs no read.
+pub(crate) fn at_hand(ftl: &Ftl, tag: u8, index: u16) -> Option<&Block>
+    ensures { (t : Translation) → IsLayer ftl.now t →
+        option_copied result ≡ block_for t None tag index }
+{
+    let looked = ftl.pinned(tag, index)?;
+    block_there(ftl, looked)
+}
+
+/// What was looked up, where it needs no read: it is in a slot that has its content, or was never
+/// written.
+fn block_there(ftl: &Ftl, looked: Looked) -> Option<&Block>
+    ensures { (t : Translation) → IsLayer ftl.now t →
+        ((name : Name) → looked ≡ InSlot name → is_mended t.work.mending ≡ true) →
+        LookedRight (book t) t.ledger.frontier t.disk.cells t.disk.finished t.disk.erasing
+        looked →
+        option_copied result ≡ block_at t.work.rests t.ledger None looked }
+{
+    match looked {
+        Looked::Unwritten => Some(zeros()),
+        Looked::InSlot(name) => ftl.slot(name),
+        Looked::OnPage(_, _) => None,
+    }
 }
 
 impl Device {
@@ -133,33 +159,30 @@ impl Device {
     {
         match self.ftl.pinned(tag, index) {
             None => true,
-            Some(looked) => self.block_there(looked).is_some(),
+            Some(looked) => block_there(&self.ftl, looked).is_some(),
         }
     }
 
-    /// What the task of this tag keeps of its page of this index, where this needs no read.
-    fn at_hand(&self, tag: u8, index: u16) -> Option<&Block>
+    /// Whether none of so many blocks of the task of this tag, a VERIFY, needs a read any more.
+    pub(crate) fn are_verified(&self, tag: u8, blocks: u16) -> bool
         ensures { (t : Translation) → IsLayer self.now.ftl t →
-            option_copied result ≡ block_for t None tag index }
+            result ≡ are_verified t tag blocks }
     {
-        let looked = self.ftl.pinned(tag, index)?;
-        self.block_there(looked)
+        for index in 0..blocks {
+            if !self.is_verified(tag, index) {
+                return false;
+            }
+        }
+        true
     }
 
-    /// What was looked up, where it needs no read: it is in a slot that has its content, or was
-    /// never written.
-    fn block_there(&self, looked: Looked) -> Option<&Block>
+    /// The same of the block of this index: it was read, so that its page is wanted no more, or it
+    /// is at hand.
+    fn is_verified(&self, tag: u8, index: u16) -> bool
         ensures { (t : Translation) → IsLayer self.now.ftl t →
-            ((name : Name) → looked ≡ InSlot name → is_mended t.work.mending ≡ true) →
-            LookedRight (book t) t.ledger.frontier t.disk.cells t.disk.finished t.disk.erasing
-            looked →
-            option_copied result ≡ block_at t.work.rests t.ledger None looked }
+            result ≡ is_verified t tag index }
     {
-        match looked {
-            Looked::Unwritten => Some(zeros()),
-            Looked::InSlot(name) => self.ftl.slot(name),
-            Looked::OnPage(_, _) => None,
-        }
+        !self.ftl.wants(tag, index) || self.is_at_hand(tag, index)
     }
 
     /// What was read for the request of the task at this position, of which the task says this:
@@ -226,7 +249,7 @@ impl Device {
                 Some(&held[part.at..part.at + part.length])
             }
             ReadState::Unread => {
-                let block = self.at_hand(tag, page)?;
+                let block = at_hand(&self.ftl, tag, page)?;
                 Some(&block[part.from..part.from + part.length])
             }
             ReadState::NotRead => None,

@@ -21,7 +21,7 @@ ghost use Rattle.ufs_spec.specs.declared.configs.Numbers.{Numbers};
 ghost use Rattle.ftl_core.specs.Public.{Describes as IsLayer};
 ghost use Rattle.device.specs.Bare.{IsBare};
 ghost use Rattle.device.specs.Plans.{IsPlanned, IsRequest, identity_of, lines_now};
-ghost use Rattle.device.specs.Plans.{flush_plan, gather_plan, plan_of, read_plan, send_plan, write_plan};
+ghost use Rattle.device.specs.Plans.{flush_plan, gather_plan, plan_of, read_plan, send_plan, verify_plan, write_plan};
 
 use crate::device::Device;
 use crate::plans::{Identity, Plan, Source};
@@ -100,8 +100,18 @@ fn lacks_data(told: u32, cdb: &Cdb, flags: u8, expected: u32, is_cut: bool) -> b
     let length = length_of(told, cdb);
     let direction = flags & DIRECTION;
     match cdb {
-        Cdb::Nothing | Cdb::Flush { .. } | Cdb::Prefetch { .. } | Cdb::Diagnose { .. } => false,
-        Cdb::Write { .. } | Cdb::Unmap { .. } | Cdb::SecurityOut { .. } => length > 0
+        Cdb::Nothing
+        | Cdb::Flush { .. }
+        | Cdb::Verify {
+            compared: false,
+            ..
+        }
+        | Cdb::Prefetch { .. }
+        | Cdb::Diagnose { .. } => false,
+        Cdb::Write { .. }
+        | Cdb::Verify { compared: true, .. }
+        | Cdb::Unmap { .. }
+        | Cdb::SecurityOut { .. } => length > 0
             && (direction != WRITES || (!is_cut && expected < length)),
         _ => length > 0 && direction != READS,
     }
@@ -289,6 +299,11 @@ fn plan_of(numbers: &Numbers, cdb: &Cdb, target: Target, expected: u32) -> Plan
         }
         Cdb::Read { .. } => read_plan(key, length, expected),
         Cdb::Flush { immediate } => flush_plan(*immediate),
+        Cdb::Verify {
+            blocks,
+            compared,
+            ..
+        } => verify_plan(key, *blocks as u16, *compared),
         Cdb::Write { blocks, forced, .. } => {
             write_plan(
                 key,
@@ -380,6 +395,21 @@ fn read_plan(key: Key, length: u32, expected: u32) -> Plan
             blocks: expected.min(length).div_ceil(BLOCK_BYTES) as u16,
             length,
         }
+    }
+}
+
+/// What a VERIFY of so many blocks from this key's address on does, which compares them or does not:
+/// without a block there is nothing to do.
+fn verify_plan(key: Key, blocks: u16, compared: bool) -> Plan
+    ensures { key ≡ data_key key.unit key.address →
+        result ≡ verify_plan key.unit key.address blocks compared }
+{
+    if blocks == 0 {
+        Plan::Nothing { length: 0 }
+    } else if compared {
+        Plan::Compare { key, blocks }
+    } else {
+        Plan::Verify { key, blocks }
     }
 }
 

@@ -1,8 +1,12 @@
 //! Messages of the host: a COMMAND opens a task, a DATA OUT brings what a task asked for.
-ghost use Rattle.std.specs.Prelude.{◌≡◌, ◌<◌, ◌≤◌, length, ◌∷◌, ◌++◌, []};
+ghost use Rattle.std.specs.Prelude.{◌≡◌, ◌<◌, ◌≤◌, ◌+◌, length, ◌∷◌, ◌++◌, []};
 ghost use Rattle.std.specs.Prelude.{Err, IfOk, IfSome, None, OnErr, OnOk, Some, false, true, ◌==◌};
-ghost use Rattle.device.specs.Calls.{HasBegun, HasClaimedFor, HasGathered, HasKept, HasTaken, flush_phase};
-ghost use Rattle.device.specs.Hears.{HasBlock, HasCome, IsDataHeard, IsTaskOpened, asked_for};
+ghost use Rattle.device.specs.Calls.{HasBegun, HasClaimedFor, HasGathered, HasKept, HasKeptAll, HasTaken};
+ghost use Rattle.device.specs.Calls.{comparing_first, flush_phase, sending_first};
+ghost use Rattle.device.specs.Hears.{HasBlock, HasCome, IsBlockHeard, IsDataHeard, IsTaskOpened, asked_for};
+ghost use Rattle.device.specs.Hears.{compared_with, is_block_kept};
+ghost use Rattle.task_set.specs.Lists.{read_at};
+ghost use Rattle.ufs_spec.specs.Moves.{LetGo, LetGoAll, WantPage, moved};
 ghost use Rattle.task_set.specs.Tasks.{wanted_count};
 ghost use Rattle.task_set.specs.declared.tasks.Phase.TheVariants.{Ask};
 ghost use Rattle.device.specs.Hears.{short_answer, with_event, uses, with_short, with_task};
@@ -33,7 +37,8 @@ use crate::requests::{frames_of, held_phase, region_of};
 use crate::targets::key_of;
 use descriptors::STANDARD_WRITE;
 use task_set::{
-    AskedFor, BLOCK_BYTES, Phase, Queried, Sending, ShortReply, Task, TaskEvent, Wanted,
+    AskedFor, BLOCK_BYTES, ComparedWith, Comparing, Phase, Queried, Sending, ShortReply, Task,
+    TaskEvent, Verifying, Wanted,
 };
 use ufs_spec::{HostFault, Key, Message, Purpose, Sense, Status};
 
@@ -71,6 +76,29 @@ fn counted(expected: u32, planned: Result<Plan, Status>) -> u32
         Ok(Plan::Drop { length }) => whole_blocks(expected, length),
         _ => expected,
     }
+}
+
+/// How far a READ of so many blocks is that begins, of a command of so many bytes.
+fn sending_first(blocks: u16, length: u32) -> Phase
+    ensures { result ≡ sending_first blocks length }
+{
+    let sending = Sending {
+        blocks,
+        sent: 0,
+        length,
+    };
+    Phase::SendBlocks { sending }
+}
+
+/// How far a VERIFY is that begins and compares so many blocks.
+fn comparing_first(blocks: u16) -> Phase
+    ensures { result ≡ comparing_first blocks }
+{
+    let comparing = Comparing {
+        blocks,
+        compared: 0,
+    };
+    Phase::AskBlock { comparing }
 }
 
 impl Device {
@@ -308,7 +336,11 @@ impl Device {
                     blocks,
                     length,
                 },
-            ) => self.begin_read(tag, key, blocks, length),
+            ) => self.begin_read(tag, key, blocks, sending_first(blocks, length)),
+            Ok(Plan::Compare { key, blocks }) => {
+                self.begin_read(tag, key, blocks, comparing_first(blocks))
+            }
+            Ok(Plan::Verify { key, blocks }) => self.begin_verify(tag, key, blocks),
             Ok(Plan::Gather { wanted, slots }) => self.begin_gather(tag, wanted, slots),
             Ok(
                 Plan::Send {
@@ -336,19 +368,35 @@ impl Device {
         }
     }
 
-    /// A read keeps what it looks up.
-    fn begin_read(&mut self, tag: u8, key: Key, blocks: u16, length: u32) -> Phase
+    /// A READ, or a VERIFY that compares its blocks, keeps what it looks up, and is so far then.
+    fn begin_read(&mut self, tag: u8, key: Key, blocks: u16, first: Phase) -> Phase
         ensures left { self.new ≡ record self.old { ftl = self.new.ftl } }
         ensures begun { (t : Translation) (claims : Claims) → IsLayerWith self.old.ftl t claims →
-            HasKept self.new.ftl t claims tag key blocks length result }
+            HasKept self.new.ftl t claims tag key blocks first result }
     {
         if self.ftl.keep(tag, key, blocks) {
-            let sending = Sending {
+            first
+        } else {
+            Phase::Answer {
+                status: Status::Busy,
+                length: 0,
+            }
+        }
+    }
+
+    /// A VERIFY that compares nothing keeps its blocks as a READ does, but the pages of all of them are
+    /// wanted.
+    fn begin_verify(&mut self, tag: u8, key: Key, blocks: u16) -> Phase
+        ensures left { self.new ≡ record self.old { ftl = self.new.ftl } }
+        ensures begun { (t : Translation) (claims : Claims) → IsLayerWith self.old.ftl t claims →
+            HasKeptAll self.new.ftl t claims tag key blocks result }
+    {
+        if self.ftl.keep_area(tag, key, blocks) {
+            let verifying = Verifying {
                 blocks,
-                sent: 0,
-                length,
+                failed: false,
             };
-            Phase::SendBlocks { sending }
+            Phase::Verify { verifying }
         } else {
             Phase::Answer {
                 status: Status::Busy,
@@ -387,15 +435,76 @@ impl Device {
         requires few { length «data».now ≤ 4096 }
         ensures refused { OnErr result (self.new ≡ self.old) }
         ensures heard { IsDataHeard self.old self.new tag data.now
-            (asked_for self.old lun tag offset (length data.now)) result }
+            (asked_for self.old lun tag offset (length data.now))
+            (compared_with self.old lun tag offset (length data.now)) result }
     {
         let Some(asked) = self.asked_for(lun, tag, offset, data.len()) else {
-            return Err(HostFault::NotAskedFor);
+            return self.compare(lun, tag, offset, data);
         };
         self.take_data(asked.index, tag, asked.wanted, data);
         self.fill_register();
         self.end_waiting();
         Ok(())
+    }
+
+    /// A DATA OUT brings the block with which a VERIFY compares its next one. Nothing is accepted.
+    fn compare(&mut self, lun: u8, tag: u8, offset: u32, data: &[u8]) -> Result<(), HostFault>
+        requires few { length «data».now ≤ 4096 }
+        ensures refused { OnErr result (self.new ≡ self.old) }
+        ensures heard { IsBlockHeard self.old self.new tag «data».now
+            (compared_with self.old lun tag offset (length «data».now)) result }
+    {
+        let Some(found) = self.compared_with(lun, tag, offset, data.len()) else {
+            return Err(HostFault::NotAskedFor);
+        };
+        if self.keeps_block(found.index, data) {
+            self.block_same(found.index, tag, found.comparing.compared);
+        } else {
+            self.block_differs(found.index, tag);
+        }
+        Ok(())
+    }
+
+    /// The VERIFY that compares these data next, and how far it is.
+    fn compared_with(&self, lun: u8, tag: u8, offset: u32, count: usize) -> Option<ComparedWith>
+        ensures what { result ≡ compared_with self.now lun tag offset count }
+        ensures within { IfSome result (λ found. found.index < length self.now.tasks) }
+    {
+        self.set.compared_with(lun, tag, offset, count)
+    }
+
+    /// Whether the block that the task at this position keeps has these bytes.
+    fn keeps_block(&self, index: usize, bytes: &[u8]) -> bool
+        requires { index < length self.now.tasks }
+        ensures { result ≡ is_block_kept bytes.now (read_at self.now.tasks index) }
+    {
+        match self.set.block(index) {
+            Some(block) => bytes == &block[..],
+            None => false,
+        }
+    }
+
+    /// The block of the VERIFY of this position and tag is the one that came: it is let go, and the next one is
+    /// wanted.
+    fn block_same(&mut self, index: usize, tag: u8, compared: u16)
+        requires { index < length self.old.tasks }
+        ensures left { self.new ≡ record (with_event self.old index TaskEvent.BlockSame) { ftl = self.new.ftl } }
+        ensures layer { (t : Translation) (claims : Claims) → IsLayerWith self.old.ftl t claims →
+            IsLayerWith self.new.ftl (moved (moved t (LetGo tag compared)) (WantPage tag (compared + 1))) claims }
+    {
+        self.ftl.want_next(tag, compared);
+        self.happen(index, TaskEvent::BlockSame);
+    }
+
+    /// The block of the VERIFY of this position and tag is another one than came: it keeps nothing any more.
+    fn block_differs(&mut self, index: usize, tag: u8)
+        requires { index < length self.old.tasks }
+        ensures left { self.new ≡ record (with_event self.old index TaskEvent.BlockDiffers) { ftl = self.new.ftl } }
+        ensures layer { (t : Translation) (claims : Claims) → IsLayerWith self.old.ftl t claims →
+            IsLayerWith self.new.ftl (moved t (LetGoAll tag)) claims }
+    {
+        self.ftl.unpin(tag);
+        self.happen(index, TaskEvent::BlockDiffers);
     }
 
     /// What the task of this position and tag asked for came.

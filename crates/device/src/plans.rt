@@ -51,6 +51,16 @@ pub enum Plan {
         blocks: u16,
         length: u32,
     },
+    /// It looks whether so many blocks from this address on can be read, and sends none of them.
+    Verify {
+        key: Key,
+        blocks: u16,
+    },
+    /// It compares so many blocks from this address on with those that it asks its host for.
+    Compare {
+        key: Key,
+        blocks: u16,
+    },
     /// It claims so many slots of the write cache, and asks its host for this.
     Gather {
         wanted: Wanted,

@@ -1,5 +1,5 @@
 //! Replies: which are due, what they say, and what becomes of their tasks.
-ghost use Rattle.std.specs.Prelude.{◌≡◌, ◌<◌, ◌≤◌, ◌+◌, ℕ, false, length, nat_le, position, true, slice_get};
+ghost use Rattle.std.specs.Prelude.{◌≡◌, ◌<◌, ◌≤◌, ◌+◌, ℕ, List, false, length, nat_le, position, true, slice_get};
 ghost use Rattle.std.specs.Prelude.{if◌then◌else◌, IfSome, IfNone, Some, None, option_copied, option_map};
 ghost use Rattle.ufs_spec.specs.Ledger.{before_accepted};
 ghost use Rattle.ufs_spec.specs.Machine.{Reply, OfReply};
@@ -21,14 +21,18 @@ ghost use Rattle.device.specs.Replies.{HasMoved, IsWritten, answer_of, block_at,
 ghost use Rattle.task_set.specs.Kept.{OpenTask};
 ghost use Rattle.task_set.specs.Lists.{held_at, read_at, task_at};
 ghost use Rattle.device.specs.Replies.{IsShortReplied, area_reply, frames_message, moved_on, owed_by, owed_in};
+ghost use Rattle.device.specs.Replies.{are_verified, block_wanted_message, verify_reply, with_own_block};
 ghost use Rattle.device.specs.Replies.{without_short, without_task};
 ghost use Rattle.task_set.specs.Shorts.{is_short_due};
 ghost use Rattle.std.specs.Prelude.{length as count_tasks};
 
+use crate::area::at_hand;
 use crate::device::Device;
-use crate::responses::{write_answer, write_block, write_frames, write_ready, write_short};
-use task_set::{Frames, Phase, Sending, Task, TaskEvent};
-use ufs_spec::{Block, Looked, Name, Status, Upiu};
+use crate::responses::{
+    write_answer, write_block, write_block_wanted, write_frames, write_ready, write_short,
+};
+use task_set::{Comparing, Frames, Phase, Sending, Task, TaskEvent, Verifying};
+use ufs_spec::{Block, Looked, Name, Sense, Status, Upiu};
 
 /// A block of zeros, as an address reads that was never written.
 static ZEROS: Block = [0; 4096];
@@ -113,6 +117,9 @@ impl Device {
                 self.write_durable(task, number, length, into)
             }
             Phase::ReadArea { reading } => write_area_read(task, reading.length, into),
+            Phase::Verify { verifying } => self.write_verified(task, verifying, into),
+            Phase::AskBlock { comparing } => self.write_wanted(index, task, comparing, into),
+            Phase::AwaitBlock { comparing: _ } => false,
             Phase::SendBlocks { sending } => self.write_next(index, task, sending, into),
             Phase::SendHeld { length } => self.write_held(index, task, length, into),
             Phase::Answer { status, length } => {
@@ -135,6 +142,24 @@ impl Device {
         true
     }
 
+    /// Writes the answer of a VERIFY: that a block could not be read, or GOOD once none needs a read
+    /// any more.
+    fn write_verified(&self, task: &Task, verifying: Verifying, into: &mut Upiu) -> bool
+        ensures nothing { result ≡ false → into.new ≡ into.old }
+        ensures owed { (t : Translation) → IsLayer self.now.ftl t → IsWritten result into.new.items
+            (verify_reply task.now verifying.failed (are_verified t task.now.tag verifying.blocks)) }
+    {
+        if verifying.failed {
+            write_answer(task, Status::CheckCondition(Sense::READ_ERROR), 0, into);
+            return true;
+        }
+        if self.are_verified(task.tag, verifying.blocks) {
+            write_answer(task, Status::Good, 0, into);
+            return true;
+        }
+        false
+    }
+
     /// Writes the DATA IN of the next block of the task at this position, if this block is there.
     fn write_next(&self, index: usize, task: &Task, sending: Sending, into: &mut Upiu) -> bool
         requires { index < length self.now.tasks }
@@ -147,6 +172,22 @@ impl Device {
             return false;
         };
         write_block(task, sending, block, into);
+        true
+    }
+
+    /// Writes the READY TO TRANSFER for the block with which the task at this position compares its next one,
+    /// if that is there.
+    fn write_wanted(&self, index: usize, task: &Task, comparing: Comparing, into: &mut Upiu) -> bool
+        requires { index < length self.now.tasks }
+        ensures nothing { result ≡ false → into.new ≡ into.old }
+        ensures owed { (t : Translation) → IsLayer self.now.ftl t → IsWritten result into.new.items
+            (option_map (λ (block : List ℕ). block_wanted_message task.now comparing)
+            (block_for t (read_at self.now.tasks index) task.now.tag comparing.compared)) }
+    {
+        if self.block(index, task.tag, comparing.compared).is_none() {
+            return false;
+        }
+        write_block_wanted(task, comparing, into);
         true
     }
 
@@ -164,7 +205,8 @@ impl Device {
         true
     }
 
-    /// The block that the task of this position and tag sends as this one of its READ, once it is there.
+    /// The block that the task of this position and tag sends or compares as the one of this index, once it
+    /// is there.
     fn block(&self, index: usize, tag: u8, sent: u16) -> Option<&Block>
         requires { index < length self.now.tasks }
         ensures { (t : Translation) → IsLayer self.now.ftl t →
@@ -214,7 +256,8 @@ impl Device {
     /// What becomes of the task at this position, which has handed out its reply.
     fn move_on(&mut self, index: usize, task: Task)
         requires { index < length self.old.tasks }
-        ensures left { self.new ≡ record (moved_on self.old index task.phase) { ftl = self.new.ftl } }
+        ensures left { (t : Translation) → IsLayer self.old.ftl t →
+            self.new ≡ record (moved_on t self.old index task.tag task.phase) { ftl = self.new.ftl } }
         ensures moved { (t : Translation) (claims : Claims) → IsLayerWith self.old.ftl t claims →
             HasMoved self.new.ftl t claims task.tag task.phase }
     {
@@ -225,6 +268,9 @@ impl Device {
                 self.happen(index, TaskEvent::DataSent);
             }
             Phase::ReadArea { reading: _ } => self.end_task(index, task.tag),
+            Phase::Verify { verifying: _ } => self.end_task(index, task.tag),
+            Phase::AskBlock { comparing } => self.ask_block(index, task.tag, comparing.compared),
+            Phase::AwaitBlock { comparing: _ } => {}
             Phase::SendBlocks { sending } => {
                 self.block_sent(index, task.tag, sending.sent);
             }
@@ -249,6 +295,20 @@ impl Device {
     {
         self.ftl.want_next(tag, sent);
         self.happen(index, TaskEvent::BlockSent);
+    }
+
+    /// The task of this position and tag asked its host for a block, and keeps its own one of this index from
+    /// now on: the slot in which it may lie is free once its group is on the dies.
+    fn ask_block(&mut self, index: usize, tag: u8, compared: u16)
+        requires { index < length self.old.tasks }
+        ensures { (t : Translation) → IsLayer self.old.ftl t →
+            self.new ≡ with_event (with_own_block self.old index (block_for t None tag compared)) index
+            TaskEvent.BlockAskedFor }
+    {
+        if let Some(block) = at_hand(&self.ftl, tag, compared) {
+            self.set.keep_block(index, block);
+        }
+        self.happen(index, TaskEvent::BlockAskedFor);
     }
 
     /// The task of this position and tag has ended and keeps nothing.

@@ -6,12 +6,12 @@ ghost use Rattle.ufs_spec.specs.declared.exchanges.Status.TheVariants.{CheckCond
 ghost use Rattle.ufs_spec.specs.Messages.{AreBytes, IsMessage, IsQueryFunction, spelling};
 ghost use Rattle.upiu.specs.Replies.{message_of};
 ghost use Rattle.ufs_spec.specs.declared.Message.{Message};
-ghost use Rattle.device.specs.Replies.{answer_of, block_message, count_of, frames_message};
+ghost use Rattle.device.specs.Replies.{answer_of, block_message, block_wanted_message, count_of, frames_message};
 ghost use Rattle.device.specs.Replies.{function_of, query_answer, query_with, ready_message, short_message};
 ghost use Rattle.ufs_spec.specs.QueryAnswers.{query_failed};
 
 use descriptors::{STANDARD_READ, STANDARD_WRITE, descriptor_told};
-use task_set::{BLOCK_BYTES, Queried, Sending, Short, ShortReply, Task, Wanted};
+use task_set::{BLOCK_BYTES, Comparing, Queried, Sending, Short, ShortReply, Task, Wanted};
 use ufs_bytes::Block;
 use ufs_spec::{Data, Message, Numbers, Sense, Status, Upiu};
 use upiu::Response;
@@ -245,6 +245,13 @@ pub(crate) fn write_ready(task: &Task, wanted: Wanted, into: &mut Upiu)
     ensures { into.new.items ≡ spelling (ready_message task.now wanted) }
 {
     upiu::write_ready_to_transfer(task.lun, task.tag, wanted.came, wanted.count(), into);
+}
+
+/// Writes the READY TO TRANSFER for the block with which a VERIFY compares its next one (JESD220, 10.7.5).
+pub(crate) fn write_block_wanted(task: &Task, comparing: Comparing, into: &mut Upiu)
+    ensures { into.new.items ≡ spelling (block_wanted_message task.now comparing) }
+{
+    upiu::write_ready_to_transfer(task.lun, task.tag, comparing.offset(), BLOCK_BYTES, into);
 }
 
 /// Writes the DATA IN of what a task keeps to send: the first of so many bytes, as many as the host expects, and at least one.

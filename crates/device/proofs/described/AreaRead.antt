@@ -12,6 +12,7 @@ use Rattle.device.proofs.Common.{shape_of_numbers, slice_get, slice_index_or, su
 use Rattle.device.proofs.Common.{true, with_reads, ℕ, ◌&&◌, ◌*◌, ◌++◌, ◌+◌, ◌-◌, ◌/◌, ◌==◌, ◌∙◌, ◌∷◌, ◌≡◌, ◌≤◌}
 use Rattle.std.specs.Prelude.{drop}
 use Rattle.ufs_spec.specs.Exchanges as exchange
+use Rattle.ufs_spec.specs.Exchanges.{Comparing}
 use Rattle.ufs_spec.specs.FrameRequests.{result_now}
 use Rattle.ufs_spec.specs.Frames.{frames_in}
 use Rattle.power_loss.specs.AreaReads.{ArePagesOf}
@@ -68,6 +69,7 @@ result_is (Sending blocks sent) result = refl
 result_is (SendingBytes bytes) result = refl
 result_is (Awaiting commands) result = refl
 result_is (ReadingArea pages) result = refl
+result_is (Comparing blocks compared asked) result = refl
 result_is (Answering status carried) result = refl
 
 -- Nothing is read
@@ -223,12 +225,19 @@ module _ (v : State) (tied : IsTied v) (shows : ShowsReads v) (waits : FramesWai
       let there = and_parts _ _ due in
       data_read v a b pages r first code shows wanted kept.tag found deed unfilled fits.1 asked.1 asked.2
       a.region (their pages deed) inside pages refl r.first r.second doing.reads there.0 there.1
+  by_phase (phase.Verify y) (ReadingArea pages) deed doing fits asked due = absurd (false≢true due)
   by_phase (phase.AwaitFrontier n size) (Awaiting commands) deed doing fits asked due =
       nothing_asked region_now first code asked
   by_phase (phase.Answer told n) (Answering status carried) deed doing fits asked due =
       nothing_asked region_now first code asked
   by_phase (phase.Answer told n) (Sending blocks sent) deed doing fits asked due =
       nothing_asked region_now first code asked
+  by_phase (phase.Answer status n) (Comparing blocks compared told) deed doing fits asked due =
+      nothing_asked region_now first code asked
+  by_phase (phase.AskBlock y) (Comparing blocks compared told) deed doing fits asked due =
+      absurd (false≢true due)
+  by_phase (phase.AwaitBlock y) (Comparing blocks compared told) deed doing fits asked due =
+      absurd (false≢true due)
   by_phase (phase.Ask w) (Gathering purpose gathered told) deed doing fits asked due =
       nothing_asked region_now first code asked
   by_phase (phase.Await w) (Gathering purpose gathered told) deed doing fits asked due =

@@ -15,14 +15,14 @@ use Rattle.device.proofs.Common.{plain_now, refl, region_of, regions, same_Some,
 use Rattle.device.proofs.Common.{task_after, task_filled, task_happened, task_of, true, wanted_by, wanted_in}
 use Rattle.device.proofs.Common.{wanted_kept, with_machine, with_reads, ℕ, ◌&&◌, ◌<◌, ◌==◌, ◌∙◌, ◌∷◌, ◌≡◌, ◌≤◌}
 use Rattle.ufs_spec.specs.Exchanges as exchange
+use Rattle.ufs_spec.specs.Exchanges.{Comparing}
 use Rattle.ufs_spec.specs.FrameRequests.{filled_by, filled_registers}
-use Rattle.ufs_laws.proofs.frame_laws.RegistersFilled.{filled_done}
 use Rattle.power_loss.proofs.ordered_lists.ElementsAndOrders.{has_at}
 use Rattle.ftl_core.specs.Public as layer_kept
 use Rattle.task_set.specs.declared.frames.Frames.TheVariants as frames
 use Rattle.task_set.specs.declared.tasks.Phase.TheVariants as phase
 use Rattle.task_set.specs.declared.tasks.TaskEvent.TheVariants as event
-use Rattle.device.specs.Describes.{asks_of}
+use Rattle.device.specs.Describes.{HasFilledIts, asks_of, keeps_pages}
 use Rattle.device.specs.Frames.{HasFilledAt, data_for, first_held, frame_held}
 use Rattle.device.proofs.described.AreaRead.{filled_by_first, read_right, reads_of, result_is}
 use Rattle.device.proofs.described.Machines.{as_many, regions_same, registers_put}
@@ -32,6 +32,7 @@ use Rattle.device.proofs.described.Settled.{fills_by}
 use Rattle.device.proofs.due_replies.PinsLetGo.{gone_pins, other_pins}
 use Rattle.device.proofs.open_tasks.KeptByTag.{WantedForAll}
 use Rattle.device.proofs.open_tasks.OpenTasks.{IsOpen}
+use Rattle.device.proofs.open_tasks.VerifyEnds.{filled_keeps_none}
 use Rattle.device.proofs.open_tasks.ReadProgress.{KeepsTag, by_tag, each_goes_on, one_goes_on, tag_kept}
 
 -- What a task keeps that fills its register
@@ -60,16 +61,23 @@ filled_claims m v x = by (is_to_fill v x)
     by true = refl
     by false = refl
 
+-- its request has filled its register
+asked_filled : (o : Option RpmbRequest) → is_unfilled o ≡ true → HasFilledIts (filled o)
+asked_filled None asks = absurd (false≢true asks)
+asked_filled (Some request) asks = refl
+
 -- and it keeps no page any more
-filled_wants : (v : State) (b : exchange.Task) (deed : Deed) (index : ℕ) → is_good_due v b deed ≡ true →
-    wanted_in index (filled b.request) deed ≡ None
-filled_wants v b (Gathering purpose gathered asked) index good = refl
-filled_wants v b (Sending blocks sent) index good = absurd (false≢true good)
-filled_wants v b (SendingBytes bytes) index good = refl
-filled_wants v b (Awaiting commands) index good = refl
-filled_wants v b (ReadingArea pages) index good =
-    if_false (is_unfilled (filled b.request)) _ None (filled_done b.request)
-filled_wants v b (Answering status carried) index good = refl
+filled_wants : (v : State) (b : exchange.Task) (deed : Deed) (index : ℕ) → is_unfilled b.request ≡ true →
+    is_good_due v b deed ≡ true → wanted_in index (filled b.request) deed ≡ None
+filled_wants v b (Gathering purpose gathered asked) index asks good = refl
+filled_wants v b (Sending blocks sent) index asks good = absurd (false≢true good)
+filled_wants v b (SendingBytes bytes) index asks good = refl
+filled_wants v b (Awaiting commands) index asks good = refl
+filled_wants v b (ReadingArea pages) index asks good =
+    if_false (keeps_pages (filled b.request)) _ None
+    (filled_keeps_none (filled b.request) (asked_filled b.request asks))
+filled_wants v b (Comparing blocks compared asked) index asks good = absurd (false≢true good)
+filled_wants v b (Answering status carried) index asks good = refl
 
 -- what happens to the frames of a task whose register is filled
 abbrev task_frames : Frames → Frames
@@ -82,6 +90,9 @@ phase_stays (phase.Answer told n) = refl
 phase_stays (phase.Ask w) = refl
 phase_stays (phase.Await w) = refl
 phase_stays (phase.ReadArea r) = refl
+phase_stays (phase.Verify x) = refl
+phase_stays (phase.AskBlock x) = refl
+phase_stays (phase.AwaitBlock x) = refl
 phase_stays (phase.SendBlocks x) = refl
 phase_stays (phase.SendHeld x) = refl
 
@@ -90,6 +101,9 @@ frames_fit : (t : Translation) (tag : ℕ) (p : Phase) (code : ℕ) (held : Opti
 frames_fit t tag (phase.AwaitFrontier n size) code held deed due h = tt
 frames_fit t tag (phase.Answer told n) code held deed due h = tt
 frames_fit t tag (phase.ReadArea r) code held deed due h = (tt, h.1)
+frames_fit t tag (phase.Verify x) code held deed due h = absurd (false≢true due)
+frames_fit t tag (phase.AskBlock x) code held deed due h = absurd (false≢true due)
+frames_fit t tag (phase.AwaitBlock x) code held deed due h = absurd (false≢true due)
 frames_fit t tag (phase.Ask w) code held deed due h = absurd (false≢true due)
 frames_fit t tag (phase.Await w) code held deed due h = absurd (false≢true due)
 frames_fit t tag (phase.SendBlocks x) code held deed due h = absurd (false≢true due)
@@ -119,6 +133,9 @@ module _ (e : DeviceCore) (v : State) (k : Keeps e v) (n : ℕ) (a : OpenTask) (
 
   good : is_good_due v b b.deed ≡ true
   good = (and_parts (is_unfilled b.request) (is_good_due v b b.deed) one.fill).1
+
+  asking : is_unfilled b.request ≡ true
+  asking = (and_parts (is_unfilled b.request) (is_good_due v b b.deed) one.fill).0
 
   -- any other task stays
   none_filled : (j : ℕ) (x : exchange.Task) → slice_get v.tasks j ≡ Some x → (j ≡ n → ⊥) → is_to_fill v x ≡ false
@@ -155,7 +172,7 @@ module _ (e : DeviceCore) (v : State) (k : Keeps e v) (n : ℕ) (a : OpenTask) (
       gathers = o.kept.gathers;
       asked_of = asked_still a.region b.request o.kept.asked_of;
       request = subst (λ (f : Frames). AreFramesKept f a.held (filled b.request)) (sym (ap task_frames decided))
-          (filled_done b.request);
+          (asked_filled b.request asking);
       asks = subst (λ (f : Frames). ReadsAsked (phase_after a.phase event.RegisterFilled) f a.held)
           (sym (ap task_frames decided)) tt;
       fits = subst (λ (p : Phase). FramesFit p (task_frames a.frames) a.held b.deed) (sym (phase_stays a.phase))
@@ -286,7 +303,7 @@ module _ (e : DeviceCore) (v : State) (k : Keeps e v) (n : ℕ) (a : OpenTask) (
       (gone_pins b.tag index v.translation.pins
       ∙ sym
       (ap (wanted_by index) (one_goes_on (task_filled v) v.tasks b.tag b (filled_tag v) one.found)
-      ∙ (ap (λ (y : exchange.Task). wanted_by index (Some y)) is_filled ∙ filled_wants v b b.deed index good)))
+      ∙ (ap (λ (y : exchange.Task). wanted_by index (Some y)) is_filled ∙ filled_wants v b b.deed index asking good)))
       (λ other differ. other_pins b.tag other index v.translation.pins differ
       ∙ (k.wanted other index ∙ sym (ap (wanted_by index) (others_stay other differ))))
       tag

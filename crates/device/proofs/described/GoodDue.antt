@@ -1,6 +1,7 @@
 -- GOOD is due to a task of the device just where it is due to the specified one: at once, once its group is durable, or
 -- once each page of the RPMB area that it reads is there.
 use Rattle.device.proofs.Common.{All-cons, All-nil, Answering, AreFramesKept, Awaiting, Bool, Deed, Frames, Gathering}
+use Rattle.device.proofs.Common.{FramesFit, false≢true}
 use Rattle.device.proofs.Common.{IsDoing, List, None, OpenTask, Option, Phase, ReadBlock, ReadState, ReadingArea}
 use Rattle.device.proofs.Common.{RpmbRequest, Sending, SendingBytes, Some, State, Status, TaskKept, TasksKept}
 use Rattle.device.proofs.Common.{Translation, [], ap, arith, before_accepted, false, find, is_area_read, is_at_hand}
@@ -9,12 +10,13 @@ use Rattle.device.proofs.Common.{is_unanswered, is_unfilled, map, nat_le, nat_te
 use Rattle.device.proofs.Common.{suc, sym, true, zero, ℕ, ◌&&◌, ◌+◌, ◌-◌, ◌∙◌, ◌∷◌, ◌≡◌, ◌≤◌}
 use Rattle.std.proofs.Math.Bool.{and-true}
 use Rattle.ufs_spec.specs.Exchanges as exchange
-use Rattle.ufs_spec.specs.Exchanges.{is_good}
+use Rattle.ufs_spec.specs.Exchanges.{Comparing, is_good}
 use Rattle.task_set.specs.declared.frames.Frames.TheVariants as frames
 use Rattle.task_set.specs.declared.tasks.Phase.TheVariants as phase
 use Rattle.ufs_spec.specs.declared.exchanges.Status.TheVariants as status
 use Rattle.device.specs.Frames.{is_second_there}
-use Rattle.device.proofs.described.Settled.{AreAnswered}
+use Rattle.device.proofs.described.Settled.{AreAnswered, same_asked}
+use Rattle.device.proofs.open_tasks.VerifyEnds.{filled_off}
 
 -- Pages of the area
 
@@ -55,7 +57,7 @@ pub same_unfilled : (f : Frames) (held : Option (List ℕ)) (request : Option Rp
 same_unfilled frames.NotBrought held request h = ap is_unfilled h
 same_unfilled frames.Undecided held request h = ap is_unfilled h
 same_unfilled (frames.Decided code) held request h = ap is_unfilled h.is ∙ ap not h.unfilled
-same_unfilled frames.Answered held request h = h
+same_unfilled frames.Answered held request h = filled_off request h
 
 good_told : (told : Status) (t : Translation) (tag n : ℕ) →
     is_good told ≡ is_due_in t tag (phase.Answer told n)
@@ -74,33 +76,43 @@ abbrev pub IsLow : State → Deed → Type 0
 IsLow v deed =
     (commands : ℕ) → deed ≡ Awaiting commands → before_accepted v.translation.ledger ≤ v.translation.ledger.frontier
 
--- GOOD is due to both sides' task, or to none
-module _ (v : State) (b : exchange.Task) where
-  same_good : (expected : ℕ) (p : Phase) (deed : Deed) → IsLow v deed →
+-- a request that is yet to fill its register is no VERIFY
+not_quiet : (f : Frames) → is_unanswered f ≡ true → f ≡ frames.NotBrought → ⊥
+not_quiet f asks quiet = false≢true (sym (ap is_unanswered quiet) ∙ asks)
+
+-- GOOD is due to both sides' task, or to none, if it has a request that is yet to fill its register
+module _ (v : State) (b : exchange.Task) (f : Frames) (held : Option (List ℕ)) (asks : is_unanswered f ≡ true) where
+  same_good : (expected : ℕ) (p : Phase) (deed : Deed) → IsLow v deed → FramesFit p f held deed →
       IsDoing (before_accepted v.translation.ledger) expected b.length p deed →
       is_good_due v b deed ≡ is_due_in v.translation b.tag p
-  same_good expected (phase.AwaitFrontier n size) (Awaiting commands) low h =
+  same_good expected (phase.AwaitFrontier n size) (Awaiting commands) low fits h =
       same_test (before_accepted v.translation.ledger) n v.translation.ledger.frontier commands (low commands refl) h.0
-  same_good expected (phase.ReadArea r) (ReadingArea pages) low h = same_pages v b pages r.first r.second h.reads
-  same_good expected (phase.Answer told n) (Answering x carried) low h =
+  same_good expected (phase.ReadArea r) (ReadingArea pages) low fits h = same_pages v b pages r.first r.second h.reads
+  same_good expected (phase.Verify x) (ReadingArea pages) low fits h = absurd (not_quiet f asks fits)
+  same_good expected (phase.Answer told n) (Answering x carried) low fits h =
       ap is_good h.0 ∙ good_told told v.translation b.tag n
-  same_good expected (phase.Answer told n) (Sending blocks sent) low h =
+  same_good expected (phase.Answer told n) (Sending blocks sent) low fits h =
       sym (ap (λ (y : Status). is_due_in v.translation b.tag (phase.Answer y n)) h.told_is)
-  same_good expected (phase.Ask w) (Gathering purpose gathered asked) low h = refl
-  same_good expected (phase.Await w) (Gathering purpose gathered asked) low h = refl
-  same_good expected (phase.SendBlocks x) (Sending blocks sent) low h = refl
-  same_good expected (phase.SendHeld x) (SendingBytes bytes) low h = refl
-  same_good expected p deed low h = absurd h
+  same_good expected (phase.Answer told n) (Comparing blocks compared asked) low fits h =
+      sym (ap (λ (y : Status). is_due_in v.translation b.tag (phase.Answer y n)) h.0.told_is)
+  same_good expected (phase.AskBlock x) (Comparing blocks compared asked) low fits h = refl
+  same_good expected (phase.AwaitBlock x) (Comparing blocks compared asked) low fits h = refl
+  same_good expected (phase.Ask w) (Gathering purpose gathered asked) low fits h = refl
+  same_good expected (phase.Await w) (Gathering purpose gathered asked) low fits h = refl
+  same_good expected (phase.SendBlocks x) (Sending blocks sent) low fits h = refl
+  same_good expected (phase.SendHeld x) (SendingBytes bytes) low fits h = refl
+  same_good expected p deed low fits h = absurd h
 
 -- Whose register is filled
 
 pub same_fill : (v : State) (a : OpenTask) (b : exchange.Task) → IsLow v b.deed →
     TaskKept (before_accepted v.translation.ledger) a b →
     is_to_fill v b ≡ (is_decided a && is_due_in v.translation a.tag a.phase)
-same_fill v a b low h = λ i.
-    same_unfilled a.frames a.held b.request h.request i
-    && (same_good v b a.expected a.phase b.deed low h.doing
-    ∙ ap (λ (tag : ℕ). is_due_in v.translation tag a.phase) h.tag) i
+same_fill v a b low h =
+    ap (λ (c : Bool). c && is_good_due v b b.deed) (same_unfilled a.frames a.held b.request h.request)
+    ∙ same_asked (is_decided a) (is_good_due v b b.deed) (is_due_in v.translation a.tag a.phase)
+    (λ asks. same_good v b a.frames a.held asks a.expected a.phase b.deed low h.fits h.doing
+    ∙ ap (λ (tag : ℕ). is_due_in v.translation tag a.phase) h.tag)
 
 -- where no task of the device is to fill a register now, none of the specified ones is
 pub all_answered : (v : State) (ts : List OpenTask) (us : List exchange.Task) →

@@ -21,6 +21,7 @@ use Rattle.device.proofs.described.ShortExchanges.{all_shorts_told, shorts_locke
 use Rattle.device.proofs.open_tasks.OpenTasks.{each_changed}
 use Rattle.device.proofs.open_tasks.KeptByTag.{SameDeed, each_claims, each_wants}
 use Rattle.ufs_spec.specs.Exchanges as exchange
+use Rattle.ufs_spec.specs.Exchanges.{Comparing}
 use Rattle.task_set.specs.declared.tasks.Phase.TheVariants as phase
 use Rattle.ufs_spec.specs.declared.exchanges.Status.TheVariants as status
 use Rattle.task_set.specs.declared.tasks.TaskEvent.TheVariants as event
@@ -36,6 +37,7 @@ told_stays s task (Gathering purpose gathered asked) h = refl
 told_stays s task (Sending blocks sent) h = refl
 told_stays s task (SendingBytes bytes) h = refl
 told_stays s task (exchange.ReadingArea pages) h = refl
+told_stays s task (Comparing blocks compared asked) h = refl
 told_stays s task (Answering status carried) h = refl
 
 all_stay : (s : State) (us : List exchange.Task) → All (IsTold (durable s)) us → map (task_locked s) us ≡ us
@@ -73,6 +75,7 @@ deed_told s task (Gathering purpose gathered asked) = tt
 deed_told s task (Sending blocks sent) = tt
 deed_told s task (SendingBytes bytes) = tt
 deed_told s task (exchange.ReadingArea pages) = tt
+deed_told s task (Comparing blocks compared asked) = tt
 deed_told s task (Answering status carried) = tt
 
 all_told : (s : State) (us : List exchange.Task) → All (IsTold (durable s)) (map (task_locked s) us)
@@ -94,6 +97,7 @@ same_told G same s task (Gathering purpose gathered asked) = refl
 same_told G same s task (Sending blocks sent) = refl
 same_told G same s task (SendingBytes bytes) = refl
 same_told G same s task (exchange.ReadingArea pages) = refl
+same_told G same s task (Comparing blocks compared asked) = refl
 same_told G same s task (Answering status carried) = refl
 
 lock_same : (s : State) → SameDeed (task_locked s)
@@ -156,7 +160,15 @@ deed_kept s n all claimed mended frontier expected task (phase.SendHeld size) (S
 deed_kept s n all claimed mended frontier expected task (phase.SendBlocks x) (Sending blocks sent) same low fits h = h
 deed_kept s n all claimed mended frontier expected task (phase.ReadArea r) (exchange.ReadingArea pages) same low fits h
     = h
+deed_kept s n all claimed mended frontier expected task (phase.Verify x) (exchange.ReadingArea pages) same low fits h
+    = h
+deed_kept s n all claimed mended frontier expected task (phase.AskBlock x) (Comparing blocks compared asked) same low
+    fits h = h
+deed_kept s n all claimed mended frontier expected task (phase.AwaitBlock x) (Comparing blocks compared asked) same low
+    fits h = h
 deed_kept s n all claimed mended frontier expected task (phase.Answer told m) (Answering x carried) same low fits h = h
+deed_kept s n all claimed mended frontier expected task (phase.Answer told m) (Comparing blocks compared asked) same low
+    fits h = h
 deed_kept s n all claimed mended frontier expected task (phase.Answer told m) (Sending blocks sent) same low fits h = h
 deed_kept s n all claimed mended frontier expected task p deed same low fits h = absurd h
 
@@ -191,7 +203,11 @@ frames_fit s task frontier (phase.ReadArea r) f held deed h = (h.0, parts_stand 
     parts_stand (Sending blocks sent) k = absurd k
     parts_stand (SendingBytes bytes) k = absurd k
     parts_stand (Awaiting commands) k = absurd k
+    parts_stand (Comparing blocks compared asked) k = absurd k
     parts_stand (Answering status carried) k = absurd k
+frames_fit s task frontier (phase.Verify x) f held deed h = h
+frames_fit s task frontier (phase.AskBlock x) f held deed h = h
+frames_fit s task frontier (phase.AwaitBlock x) f held deed h = h
 frames_fit s task frontier (phase.SendBlocks x) f held deed h = h
 frames_fit s task frontier (phase.Answer told n) f held deed h = h
 
@@ -219,6 +235,9 @@ asks_stay frontier p (frames.Decided code) (Some bytes) h = reads_stay p h
     reads_stay (phase.Ask w) k = k
     reads_stay (phase.Await w) k = k
     reads_stay (phase.ReadArea r) k = k
+    reads_stay (phase.Verify x) k = k
+    reads_stay (phase.AskBlock x) k = k
+    reads_stay (phase.AwaitBlock x) k = k
     reads_stay (phase.SendBlocks x) k = k
     reads_stay (phase.SendHeld size) k = k
     reads_stay (phase.Answer told n) k = k

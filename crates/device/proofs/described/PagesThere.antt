@@ -18,6 +18,7 @@ use Rattle.rpmb.specs.Answers.{HasAskedData}
 use Rattle.ufs_spec.specs.declared.exchanges.ReadState.TheVariants as page
 use Rattle.device.specs.Frames.{joined, part_read}
 use Rattle.device.proofs.open_tasks.KeptByTag.{WantedForAll}
+use Rattle.device.proofs.open_tasks.VerifyEnds.{unfilled_keeps}
 
 -- One page
 
@@ -60,7 +61,8 @@ module _ (v : State) (a : OpenTask) (b : exchange.Task) (pages : List ReadBlock)
           wanted b.tag i
           ∙ (ap (wanted_by i) found
           ∙ (ap (wanted_in i b.request) deed
-          ∙ (ap (λ (c : Bool). if c then wanted_of true (slice_get pages i) else None) unfilled
+          ∙ (ap (λ (c : Bool). if c then wanted_of true (slice_get pages i) else None)
+          (unfilled_keeps b.request unfilled)
           ∙ ap (wanted_of true) at)))
 
       by : (o : Option Pin) → find (is_pin_of b.tag i) v.translation.pins ≡ o → HasPin v b i block.body

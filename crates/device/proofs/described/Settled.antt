@@ -9,6 +9,7 @@ use Rattle.device.proofs.Common.{task_filled, task_of, true, with_deed, with_mov
 use Rattle.std.specs.Prelude.{suc, zero}
 use Rattle.std.specs.List.{list_all}
 use Rattle.ufs_spec.specs.Exchanges as exchange
+use Rattle.ufs_spec.specs.Exchanges.{Comparing}
 use Rattle.ufs_spec.specs.FrameRequests.{filled_registers}
 use Rattle.ufs_spec.specs.Machine.{deed_locked, fill_moves, task_locked}
 use Rattle.ufs_spec.specs.Replies.{is_at_hand, is_page_read}
@@ -135,7 +136,7 @@ good_same s u task (ReadingArea pages) stays same = area_same s u task stays pag
 good_same s u task deed stays same = refl
 
 -- what a task without a request fills is nothing, in each state
-same_asked : (asks b c : Bool) → (asks ≡ true → b ≡ c) → (asks && b) ≡ (asks && c)
+pub same_asked : (asks b c : Bool) → (asks ≡ true → b ≡ c) → (asks && b) ≡ (asks && c)
 same_asked true b c same = same refl
 same_asked false b c same = refl
 
@@ -180,6 +181,7 @@ good_unmended n accepted claimed total s u task (ReadingArea pages) stays fits =
 good_unmended n accepted claimed total s u task (Gathering purpose gathered asked) stays fits = refl
 good_unmended n accepted claimed total s u task (Sending blocks sent) stays fits = refl
 good_unmended n accepted claimed total s u task (SendingBytes bytes) stays fits = refl
+good_unmended n accepted claimed total s u task (Comparing blocks compared asked) stays fits = refl
 good_unmended n accepted claimed total s u task (Answering status carried) stays fits = refl
 
 pub unmended_answered : (n : Numbers) (accepted : ℕ) (s u : State) (us : List exchange.Task) →

@@ -4,6 +4,7 @@ use Rattle.device.proofs.Common.{IsDoing, IsTold, IsToldIn, List, Numbers, OpenT
 use Rattle.device.proofs.Common.{SendingBytes, Some, TasksKept, [], claim_of, false, false≢true, is_task_of, subst}
 use Rattle.device.proofs.Common.{task_of, true, ℕ, ◌∷◌, ◌≡◌}
 use Rattle.ufs_spec.specs.Exchanges as exchange
+use Rattle.ufs_spec.specs.Exchanges.{Comparing}
 use Rattle.power_loss.proofs.open_tasks.TaggedLists.{each_found}
 use Rattle.task_set.specs.declared.tasks.Phase.TheVariants as phase
 
@@ -16,6 +17,7 @@ deed_told n accepted claimed total count (Gathering purpose gathered asked) h = 
 deed_told n accepted claimed total count (Sending blocks sent) h = tt
 deed_told n accepted claimed total count (SendingBytes bytes) h = tt
 deed_told n accepted claimed total count (ReadingArea pages) h = tt
+deed_told n accepted claimed total count (Comparing blocks compared asked) h = tt
 deed_told n accepted claimed total count (Answering status carried) h = tt
 
 pub none_waits : (n : Numbers) (accepted count : ℕ) (us : List exchange.Task) → DeedsFit n accepted false us →
@@ -37,6 +39,13 @@ doing_else n accepted claimed total before other expected (phase.Await w) (Gathe
 doing_else n accepted claimed total before other expected (phase.SendHeld size) (SendingBytes bytes) fits h = h
 doing_else n accepted claimed total before other expected (phase.SendBlocks x) (Sending blocks sent) fits h = h
 doing_else n accepted claimed total before other expected (phase.ReadArea r) (ReadingArea pages) fits h = h
+doing_else n accepted claimed total before other expected (phase.Verify x) (ReadingArea pages) fits h = h
+doing_else n accepted claimed total before other expected (phase.AskBlock x) (Comparing blocks compared asked) fits
+    h = h
+doing_else n accepted claimed total before other expected (phase.AwaitBlock x) (Comparing blocks compared asked) fits
+    h = h
+doing_else n accepted claimed total before other expected (phase.Answer told m) (Comparing blocks compared asked) fits
+    h = h
 doing_else n accepted claimed total before other expected (phase.Answer told m) (Answering x carried) fits h = h
 doing_else n accepted claimed total before other expected (phase.Answer told m) (Sending blocks sent) fits h = h
 doing_else n accepted claimed total before other expected p deed fits h = absurd h

@@ -19,7 +19,7 @@ use Rattle.ufs_spec.specs.Translation.{name_of}
 use Rattle.ufs_spec.specs.declared.flash.Outcome.TheVariants as outcome
 use Rattle.ufs_spec.specs.declared.flash.Tag.{Tag}
 use Rattle.power_loss.specs.Invariant.{IsGroupPage, LookedRight}
-use Rattle.power_loss.proofs.shown_blocks.LivesShowBlocks.{area_body, page_body}
+use Rattle.power_loss.proofs.shown_blocks.LivesShowBlocks.{area_body, compared_body, page_body}
 use Rattle.ftl_core.specs.Public as layer_kept
 use Rattle.ftl_core.specs.Public.{EndedNow, IsAwaited, IsReadOf, IsTold}
 use Rattle.ftl_core.specs.Ended as ended
@@ -70,7 +70,7 @@ found_among p (y ∷ ys) x e = by (p y) e (λ k. found_among p ys x k)
 bodies_same : (a b : Tag) (x y : List ℕ) → GroupPage a x ≡ GroupPage b y → x ≡ y
 bodies_same a b x y e = cc
 
--- the page that was read is the block that its task sends, or the page of the area that it reads
+-- the page that was read is the block that its task sends or compares, or the page of the area that it reads
 content_read : (d : DeviceCore) (s : State) (tag index : ℕ) (place : Place) (page : Tag) (body : List ℕ) →
     Describes d s →
     (w : IsAwaited s.translation tag index place) → (r : IsReading tag index s.tasks) →
@@ -97,7 +97,10 @@ content_read d s tag index place page body h w r cell =
         IsReadFor index r.task r.blocks → g.body ≡ r.block.body
     shown g among there at (inl deed) =
         page_body s w.pin r.task r.blocks index r.block w.name place h.tied h.shows among there deed at w.looks g
-    shown g among there at (inr deed) =
+    shown g among there at (inr (inr deed)) =
+        compared_body s w.pin r.task r.blocks index deed.0 r.block w.name place h.tied h.shows among there deed.1 at
+        w.looks g
+    shown g among there at (inr (inl deed)) =
         area_body s w.pin r.task r.blocks r.block w.name place h.tied h.shows among there deed.0 at w.looks g
 
 -- and it is a whole block

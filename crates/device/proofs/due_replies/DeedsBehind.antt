@@ -1,29 +1,39 @@
 -- What a reply makes of a task is what the definitions make of it.
 use Rattle.device.proofs.Common.{Acknowledge, Answering, AreClaimed, AreFramesKept, Awaiting, Bool, Core, Deed}
-use Rattle.device.proofs.Common.{Describes, DeviceCore, ForFrames, ForUnmap, ForWrite, FramesFit, Gathering, Good}
-use Rattle.device.proofs.Common.{HasMoved, IsDoing, IsFor, IsGathered, IsSending, LetGo, LetGoAll, List, Message, None}
-use Rattle.device.proofs.Common.{NotRead, OpenTask, Option, Phase, Purpose, ReadBlock, ReadState, ReadingArea}
-use Rattle.device.proofs.Common.{RpmbRequest, Sending, SendingBytes, Sends, Some, State, Translation, Unread, WantPage}
-use Rattle.device.proofs.Common.{Wanted, WasRead, [], ap, arith, before_accepted, claimed_in, claims_of, false}
-use Rattle.device.proofs.Common.{false≢true, found_task, frames_for, gathers_for, if◌then◌else◌, is_lost, is_unfilled}
+use Rattle.device.proofs.Common.{Describes, DeviceCore, ForFrames, ForUnmap, ForWrite, Frames, FramesFit, Gathering}
+use Rattle.device.proofs.Common.{Good, HasMoved, IsDoing, IsFor, IsGathered, IsSending, LetGo, LetGoAll, List, Message}
+use Rattle.device.proofs.Common.{None, NotRead, OpenTask, Option, Phase, Purpose, ReadBlock, ReadState, ReadingArea}
+use Rattle.device.proofs.Common.{ReadsAsked, RpmbRequest, Sending, SendingBytes, Sends, Some, State, TaskKept}
+use Rattle.device.proofs.Common.{Translation, Unread, WantPage, Wanted, WasRead, [], ap, arith, before_accepted}
+use Rattle.device.proofs.Common.{block_for, claimed_in, claims_of, false, false≢true, find, found_task, frames_for}
+use Rattle.device.proofs.Common.{gathers_for, if◌then◌else◌, is_at_hand, is_lost, is_pin_of, is_read, is_unfilled}
 use Rattle.device.proofs.Common.{leb-true, length, ltb-false, ltb-true, moved, nat_le, nat_lt, none-some, numbers_of}
-use Rattle.device.proofs.Common.{owed_by, owed_in, read_in, refl, set_deed, slice_get, subst, sym, task_in, task_of}
-use Rattle.device.proofs.Common.{true, wanted_by, wanted_in, wanted_kept, with_event, with_moves, ℕ, ◌+◌, ◌<◌, ◌∙◌, ◌∷◌}
-use Rattle.device.proofs.Common.{◌≡◌}
+use Rattle.device.proofs.Common.{option_map, owed_by, owed_in, phase_after, read_in, refl, set_deed, slice_get}
+use Rattle.device.proofs.Common.{slice_set, subst, sym, task_after, task_happened, task_in, task_of, true, wanted_by}
+use Rattle.device.proofs.Common.{wanted_in, wanted_kept, with_event, with_moves, ℕ, ◌+◌, ◌<◌, ◌∙◌, ◌∷◌, ◌≡◌}
 use Rattle.std.specs.Prelude.{max}
 use Rattle.ufs_spec.proofs.Lists.{get_there}
 use Rattle.ufs_spec.specs.Exchanges as exchange
-use Rattle.ufs_spec.specs.Machine.{deed_after, deed_after_block, deed_after_state, moves_after, task_goes_on}
+use Rattle.ufs_spec.specs.Exchanges.{Comparing}
+use Rattle.ufs_spec.specs.Machine.{deed_after, deed_after_asked, deed_after_block, deed_after_compare, deed_after_state}
+use Rattle.ufs_spec.specs.Machine.{moves_after, task_goes_on}
+use Rattle.ufs_spec.specs.Replies.{pin_of}
 use Rattle.ftl_core.specs.Public as layer_kept
 use Rattle.task_set.specs.declared.tasks.Phase.TheVariants as phase
 use Rattle.task_set.specs.declared.tasks.TaskEvent.TheVariants as event
-use Rattle.device.specs.Replies.{moved_on, without_task}
-use Rattle.task_set.specs.Tasks.{next_sending, sent_next}
+use Rattle.device.specs.Describes.{IsComparing, IsReadable, own_of}
+use Rattle.device.specs.Replies.{block_wanted_message, moved_on, with_own_block, without_task}
+use Rattle.task_set.specs.Lists.{task_keeps_block}
+use Rattle.task_set.specs.Tasks.{block_kept, next_sending, sent_next}
+use Rattle.task_set.specs.declared.frames.Frames.TheVariants as frames
+use Rattle.task_set.specs.declared.tasks.Comparing.{Comparing as Compares}
 use Rattle.device.proofs.described.Answered.{IsBehind}
-use Rattle.device.proofs.open_tasks.OpenTasks.{IsOpen}
+use Rattle.device.proofs.open_tasks.OpenTasks.{IsOpen, set_again, set_stands}
 use Rattle.device.proofs.due_replies.BlocksBehind.{more_kept, none_kept, none_read_behind}
-use Rattle.device.proofs.due_replies.ReplyMoves.{answered_gone, does_now, goes, none_asked, sends, sent_layer}
+use Rattle.device.proofs.due_replies.BlocksOwed.{IsOwn, own_of_pin}
+use Rattle.device.proofs.due_replies.ReplyMoves.{answered_gone, becomes, does_now, goes, none_asked, sends, sent_layer}
 use Rattle.device.proofs.due_replies.ReplyMoves.{told_gone, with_layer}
+use Rattle.device.proofs.due_replies.ReplySame.{NextCompared, block_if, next_compared}
 use Rattle.device.proofs.due_replies.PinsLetGo.{gone_again}
 
 -- what the definitions make of a task
@@ -114,7 +124,8 @@ module _ (d : DeviceCore) (s : State) (k : ℕ) (a : OpenTask) (b : exchange.Tas
       })
       tt layer claims
 
-  ends : (after : Core) → AreClaimed after (claims_of (numbers_of s) s.tasks) → claimed_in (numbers_of s) b.length b.deed ≡ [] →
+  ends : (after : Core) → AreClaimed after (claims_of (numbers_of s) s.tasks) →
+      claimed_in (numbers_of s) b.length b.deed ≡ [] →
       layer_kept.Describes after (moved s.translation (LetGoAll a.tag)) →
       IsBehind (with_layer after (without_task d k)) (task_goes_on s b None)
   ends after claims none layer = record {
@@ -124,7 +135,8 @@ module _ (d : DeviceCore) (s : State) (k : ℕ) (a : OpenTask) (b : exchange.Tas
     shorts_told = h.shorts_told;
   }
 
-  awaits : (after : Core) (commands : ℕ) → AreClaimed after (claims_of (numbers_of s) s.tasks) → claimed_in (numbers_of s) b.length b.deed ≡ [] →
+  awaits : (after : Core) (commands : ℕ) → AreClaimed after (claims_of (numbers_of s) s.tasks) →
+      claimed_in (numbers_of s) b.length b.deed ≡ [] →
       layer_kept.Describes after (moved (moved s.translation (Acknowledge commands)) (LetGoAll a.tag)) →
       IsBehind (with_layer after (without_task d k))
       (task_goes_on (with_moves s (Acknowledge commands ∷ [])) b None)
@@ -140,7 +152,8 @@ module _ (d : DeviceCore) (s : State) (k : ℕ) (a : OpenTask) (b : exchange.Tas
   sent_state n = with_moves s (LetGo b.tag n ∷ WantPage b.tag (n + 1) ∷ [])
 
   loses : (after : Core) (blocks : List ReadBlock) (n : ℕ) → b.deed ≡ Sending blocks n →
-      AreClaimed after (claims_of (numbers_of s) s.tasks) → layer_kept.Describes after (moved s.translation (LetGoAll a.tag)) →
+      AreClaimed after (claims_of (numbers_of s) s.tasks) →
+      layer_kept.Describes after (moved s.translation (LetGoAll a.tag)) →
       IsBehind (with_layer after (without_task d k)) (task_goes_on (sent_state n) b None)
   loses after blocks n deed claims layer =
       subst (IsBehind (with_layer after (without_task d k))) (sym same)
@@ -172,7 +185,8 @@ module _ (d : DeviceCore) (s : State) (k : ℕ) (a : OpenTask) (b : exchange.Tas
       b.deed ≡ Sending blocks n →
       IsSending x a.expected b.length blocks n → AreClaimed after (claims_of (numbers_of s) s.tasks) →
       layer_kept.Describes after (sent_layer s.translation a.tag x.sent) →
-      IsBehind (with_layer after (moved_on d k (phase.SendBlocks x))) (task_does s b (Sending blocks n))
+      IsBehind (with_layer after (moved_on s.translation d k a.tag (phase.SendBlocks x)))
+      (task_does s b (Sending blocks n))
   sends_next after x blocks n here deed is claims layer = by (nat_lt (x.sent + 1) x.blocks) refl
     where
       found : task_of b.tag s.tasks ≡ Some b
@@ -194,9 +208,10 @@ module _ (d : DeviceCore) (s : State) (k : ℕ) (a : OpenTask) (b : exchange.Tas
       path : (more : Bool) → nat_lt (x.sent + 1) x.blocks ≡ more →
           IsBehind (with_layer after (with_event d k event.BlockSent))
           (task_goes_on (sent_state n) b (Some (deed_next b blocks n more))) →
-          IsBehind (with_layer after (moved_on d k (phase.SendBlocks x))) (task_does s b (Sending blocks n))
+          IsBehind (with_layer after (moved_on s.translation d k a.tag (phase.SendBlocks x)))
+          (task_does s b (Sending blocks n))
       path more e it =
-          subst (IsBehind (with_layer after (moved_on d k (phase.SendBlocks x))))
+          subst (IsBehind (with_layer after (moved_on s.translation d k a.tag (phase.SendBlocks x))))
           (sym (sending_path blocks n next.0 (Some (deed_next b blocks n more))
           next.1 (sent_deed blocks n next.0.state more (is.readable next.0 next.1) (same_test ∙ e))))
           it
@@ -217,7 +232,8 @@ module _ (d : DeviceCore) (s : State) (k : ℕ) (a : OpenTask) (b : exchange.Tas
           subst (λ z. FramesFit (sent_next x (next_if x z)) a.frames a.held deed) (sym e)
 
       by : (more : Bool) → nat_lt (x.sent + 1) x.blocks ≡ more →
-          IsBehind (with_layer after (moved_on d k (phase.SendBlocks x))) (task_does s b (Sending blocks n))
+          IsBehind (with_layer after (moved_on s.translation d k a.tag (phase.SendBlocks x)))
+          (task_does s b (Sending blocks n))
       by true e =
           path true e
           (sends d s k a b h o after n x (Sending blocks (n + 1)) here
@@ -234,8 +250,117 @@ module _ (d : DeviceCore) (s : State) (k : ℕ) (a : OpenTask) (b : exchange.Tas
           (sends d s k a b h o after n x (Answering Good b.length) here
           (does (Answering Good b.length) false e (refl, is.total_is))
           (fits_then (Answering Good b.length) false e tt) tt tt
-          (none_kept b.tag n s.translation.pins blocks kept (omega arith)) refl (ap (claimed_in (numbers_of s) b.length) deed) claims
-          its)
+          (none_kept b.tag n s.translation.pins blocks kept (omega arith)) refl
+          (ap (claimed_in (numbers_of s) b.length) deed) claims its)
+
+  -- its host is asked for the block with which it compares its own one
+  module _ (after : Core) (x : Compares) (blocks : List ReadBlock) (n : ℕ) (asked : Bool) (m : Message)
+      (here : a.phase ≡ phase.AskBlock x) (deed : b.deed ≡ Comparing blocks n asked)
+      (is : IsComparing x b.length blocks n) (not_asked : asked ≡ false) (readable : IsReadable blocks n) where
+    next : NextCompared s a b x blocks n
+    next =
+        next_compared d s a b h o.kept (found_task s.tasks k b h.tied.tasks.tasks_differ o.theirs) x blocks n asked deed
+        is not_asked readable
+
+    -- its own block is there
+    is_there : owed_in s.translation a.block a.held (task_in a) (phase.AskBlock x) ≡ Some m →
+        block_for s.translation a.block a.tag x.compared ≡ Some next.block.body
+    is_there due = by (is_read next.block.state (is_at_hand s.translation.work.rests (pin_of s b n))) next.found
+      where
+        by : (there : Bool) → block_for s.translation a.block a.tag x.compared ≡ block_if next.block.body there →
+            block_for s.translation a.block a.tag x.compared ≡ Some next.block.body
+        by true e = e
+        by false e =
+            absurd (none-some m
+            (sym (ap (option_map (λ (own : List ℕ). block_wanted_message (task_in a) x)) e) ∙ due))
+
+    quiet : a.frames ≡ frames.NotBrought
+    quiet = its_frames (phase.AskBlock x) here
+
+    -- the task then, which keeps it
+    task_then : (own held : Option (List ℕ)) → own ≡ Some next.block.body →
+        TaskKept (before_accepted s.translation.ledger)
+        (task_after event.BlockAskedFor (record a { block = own; held = held }))
+        (record b { deed = Comparing blocks n true })
+    task_then own held its = record {
+      lun = o.kept.lun;
+      tag = o.kept.tag;
+      expected = o.kept.expected;
+      brings = o.kept.brings;
+      gathers = tt;
+      asked_of = o.kept.asked_of;
+      request =
+          subst (λ (f : Frames). AreFramesKept f held b.request) (sym quiet)
+          (subst (λ (f : Frames). AreFramesKept f a.held b.request) quiet o.kept.request);
+      asks = subst (λ (f : Frames). ReadsAsked (phase_after a.phase event.BlockAskedFor) f held) (sym quiet) tt;
+      fits =
+          subst (λ (p : Phase). FramesFit (phase_after p event.BlockAskedFor) a.frames held (Comparing blocks n true))
+          (sym here) quiet;
+      doing =
+          subst
+          (λ (p : Phase). IsDoing (before_accepted s.translation.ledger) a.expected b.length
+          (phase_after p event.BlockAskedFor) (Comparing blocks n true))
+          (sym here) (is, refl);
+      read = its ∙ sym (ap (own_of true) next.there);
+    }
+
+    abbrev state_then : State
+    state_then = set_deed s b.tag (Comparing blocks n true)
+
+    becomes_so : (own held : Option (List ℕ)) → own ≡ Some next.block.body →
+        layer_kept.Describes after s.translation → AreClaimed after (claims_of (numbers_of s) s.tasks) →
+        IsBehind
+        (with_layer after
+        (record d {
+          tasks = slice_set d.tasks k (task_after event.BlockAskedFor (record a { block = own; held = held }));
+        }))
+        state_then
+    becomes_so own held its layer claims =
+        becomes d s k a b h o after (task_after event.BlockAskedFor (record a { block = own; held = held }))
+        (Comparing blocks n true) (task_then own held its) refl (none_asked d s k a b h o quiet)
+        (λ index. ap (wanted_in index b.request) deed) (ap (claimed_in (numbers_of s) b.length) deed) tt layer claims
+
+    -- its own block is kept from now on, if the layer has it
+    keeps_own : (own : Option (List ℕ)) → IsOwn a.block next.block.body own →
+        layer_kept.Describes after s.translation → AreClaimed after (claims_of (numbers_of s) s.tasks) →
+        IsBehind (with_layer after (with_event (with_own_block d k own) k event.BlockAskedFor)) state_then
+    keeps_own None its layer claims =
+        subst
+        (λ (y : Option OpenTask).
+        IsBehind (with_layer after (record d { tasks = task_happened d.tasks k event.BlockAskedFor y })) state_then)
+        (sym o.ours) (becomes_so a.block a.held its layer claims)
+    keeps_own (Some own) its layer claims =
+        subst (λ (ts : List OpenTask). IsBehind (with_layer after (record d { tasks = ts })) state_then)
+        (sym tasks_then)
+        (becomes_so (Some own) None (ap (λ (z : List ℕ). Some z) its) layer claims)
+      where
+        tasks_then : (with_event (with_own_block d k (Some own)) k event.BlockAskedFor).tasks
+            ≡ slice_set d.tasks k (task_after event.BlockAskedFor (block_kept own a))
+        tasks_then =
+            (λ i. task_happened (task_keeps_block d.tasks k own (o.ours i)) k event.BlockAskedFor
+            (slice_get (task_keeps_block d.tasks k own (o.ours i)) k))
+            ∙ (ap (task_happened (slice_set d.tasks k (block_kept own a)) k event.BlockAskedFor)
+            (set_stands d.tasks k a (block_kept own a) o.ours)
+            ∙ set_again d.tasks k (block_kept own a) (task_after event.BlockAskedFor (block_kept own a)))
+
+    asked_deed : (state : ReadState) → is_lost state ≡ false →
+        deed_after_asked blocks n state ≡ Some (Comparing blocks n true)
+    asked_deed Unread fine = refl
+    asked_deed WasRead fine = refl
+    asked_deed NotRead fine = absurd (false≢true (sym fine))
+
+    asks_block : owed_in s.translation a.block a.held (task_in a) (phase.AskBlock x) ≡ Some m →
+        layer_kept.Describes after s.translation → AreClaimed after (claims_of (numbers_of s) s.tasks) →
+        IsBehind (with_layer after (moved_on s.translation d k a.tag (phase.AskBlock x)))
+        (task_does s b (Comparing blocks n asked))
+    asks_block due layer claims =
+        subst (IsBehind (with_layer after (moved_on s.translation d k a.tag (phase.AskBlock x))))
+        (sym (ap (task_goes_on s b)
+        (ap (deed_after_compare blocks n) next.there ∙ asked_deed next.block.state next.fine)))
+        (keeps_own (block_for s.translation None a.tag x.compared)
+        (own_of_pin s.translation.work.rests s.translation.ledger a.block next.block.body
+        (find (is_pin_of a.tag x.compared) s.translation.pins) (is_there due))
+        layer claims)
 
   -- a block that is durable is told so
   durable_told : (x : Bool) (m n : Message) → (if x then Some m else None) ≡ Some n → x ≡ true
@@ -246,7 +371,7 @@ module _ (d : DeviceCore) (s : State) (k : ℕ) (a : OpenTask) (b : exchange.Tas
       IsDoing (before_accepted s.translation.ledger) a.expected b.length p deed →
       owed_in s.translation a.block a.held (task_in a) p ≡ Some m →
       HasMoved after s.translation (claims_of (numbers_of s) s.tasks) a.tag p →
-      IsBehind (with_layer after (moved_on d k p)) (task_does s b deed)
+      IsBehind (with_layer after (moved_on s.translation d k a.tag p)) (task_does s b deed)
   moves_in after (phase.Ask w) (Gathering purpose gathered asked) m here e doing due new =
       asks after w purpose gathered asked here e doing.0 new.0 new.1
   moves_in after (phase.Await w) deed m here e doing due new = absurd (none-some m due)
@@ -262,10 +387,21 @@ module _ (d : DeviceCore) (s : State) (k : ℕ) (a : OpenTask) (b : exchange.Tas
       sends_next after x blocks sent here e doing new.1 new.0
   moves_in after (phase.ReadArea r) (ReadingArea pages) m here e doing due new =
       ends after new.1 (ap (claimed_in (numbers_of s) b.length) e) new.0
+  moves_in after (phase.Verify x) (ReadingArea pages) m here e doing due new =
+      ends after new.1 (ap (claimed_in (numbers_of s) b.length) e) new.0
+  moves_in after (phase.AskBlock x) (Comparing blocks compared asked) m here e doing due new =
+      asks_block after x blocks compared asked m here e doing.0 doing.1 doing.2 due new.0 new.1
+  moves_in after (phase.AwaitBlock x) deed m here e doing due new = absurd (none-some m due)
+  moves_in after (phase.Answer told n) (Comparing blocks compared asked) m here e doing due new =
+      subst (IsBehind (with_layer after (moved_on s.translation d k a.tag (phase.Answer told n))))
+      (sym (ap (task_goes_on s b)
+      (ap (deed_after_compare blocks compared) doing.0.there
+      ∙ ap (deed_after_asked blocks compared) doing.0.lost)))
+      (ends after new.1 (ap (claimed_in (numbers_of s) b.length) e) new.0)
   moves_in after (phase.Answer told n) (Answering x carried) m here e doing due new =
       ends after new.1 (ap (claimed_in (numbers_of s) b.length) e) new.0
   moves_in after (phase.Answer told n) (Sending blocks sent) m here e doing due new =
-      subst (IsBehind (with_layer after (moved_on d k (phase.Answer told n))))
+      subst (IsBehind (with_layer after (moved_on s.translation d k a.tag (phase.Answer told n))))
       (sym (sending_path blocks sent doing.block None doing.there (ap (deed_after_state b blocks sent) doing.lost)))
       (loses after blocks sent e new.1 new.0)
   moves_in after p deed m here e doing due new = absurd doing
@@ -273,5 +409,5 @@ module _ (d : DeviceCore) (s : State) (k : ℕ) (a : OpenTask) (b : exchange.Tas
   -- what a reply makes of the task
   pub moves_on : (after : Core) (m : Message) → owed_by s.translation a ≡ Some m →
       HasMoved after s.translation (claims_of (numbers_of s) s.tasks) a.tag a.phase →
-      IsBehind (with_layer after (moved_on d k a.phase)) (task_does s b b.deed)
+      IsBehind (with_layer after (moved_on s.translation d k a.tag a.phase)) (task_does s b b.deed)
   moves_on after m due new = moves_in after a.phase b.deed m refl refl o.kept.doing due new

@@ -14,8 +14,10 @@ use Rattle.power_loss.specs.Exchange.{ShortAwaits, ShortFits}
 use Rattle.power_loss.proofs.open_tasks.TaskLists.{found_short, no_task_found, short_fits_at}
 use Rattle.ftl_core.specs.Public as layer_kept
 use Rattle.device.specs.Describes.{IsReplied}
-use Rattle.device.specs.Replies.{IsShortReplied, answer_of, block_message, moved_on}
-use Rattle.device.specs.Replies.{frames_message, has_filled, without_short as without_short_at}
+use Rattle.device.specs.Replies.{IsShortReplied, answer_of, block_message, block_wanted_message, moved_on}
+use Rattle.device.specs.Replies.{are_verified, frames_message, has_filled, verify_reply}
+use Rattle.device.specs.Replies.{without_short as without_short_at}
+use Rattle.task_set.specs.Tasks.{read_error}
 use Rattle.task_set.specs.declared.tasks.Phase.TheVariants as phase
 use Rattle.task_set.specs.declared.tasks.Short as kept
 use Rattle.ufs_spec.specs.declared.exchanges.Status.TheVariants as status
@@ -42,6 +44,12 @@ reply_tag t read held a (phase.ReadArea r) m h = by (has_filled a.frames) h
     by : (x : Bool) → (if x then Some (answer_of a status.Good r.length) else None) ≡ Some m → tag_in m ≡ a.tag
     by true e = same_tag (answer_of a status.Good r.length) m a.tag e refl
     by false e = absurd (none-some m e)
+reply_tag t read held a (phase.Verify x) m h = by x.failed (are_verified t a.tag x.blocks) h
+  where
+    by : (failed verified : Bool) → verify_reply a failed verified ≡ Some m → tag_in m ≡ a.tag
+    by true verified e = same_tag (answer_of a (status.CheckCondition read_error) 0) m a.tag e refl
+    by false true e = same_tag (answer_of a status.Good 0) m a.tag e refl
+    by false false e = absurd (none-some m e)
 reply_tag t read held a (phase.SendHeld size) m h = by held h
   where
     by : (o : Option (List ℕ)) → option_map (frames_message a size) o ≡ Some m → tag_in m ≡ a.tag
@@ -57,13 +65,20 @@ reply_tag t read held a (phase.SendBlocks x) m h = by (block_for t read a.tag x.
     by : (o : Option (List ℕ)) → option_map (block_message a x) o ≡ Some m → tag_in m ≡ a.tag
     by None e = absurd (none-some m e)
     by (Some body) e = same_tag (block_message a x body) m a.tag e refl
+reply_tag t read held a (phase.AskBlock x) m h = by (block_for t read a.tag x.compared) h
+  where
+    by : (o : Option (List ℕ)) → option_map (λ (block : List ℕ). block_wanted_message a x) o ≡ Some m → tag_in m ≡ a.tag
+    by None e = absurd (none-some m e)
+    by (Some body) e = same_tag (block_wanted_message a x) m a.tag e refl
+reply_tag t read held a (phase.AwaitBlock x) m h = absurd (none-some m h)
 reply_tag t read held a (phase.Answer told n) m h = same_tag (answer_of a told n) m a.tag h refl
 
 -- Replies of tasks
 
 open_right : (d e : DeviceCore) (s : State) (k : ℕ) (a : OpenTask) (m : Message) → Describes d s →
     slice_get d.tasks k ≡ Some a → owed_by s.translation a ≡ Some m →
-    e ≡ record (moved_on d k a.phase) { ftl = e.ftl } → HasMoved e.ftl s.translation (claims_of (numbers_of s) s.tasks) a.tag a.phase →
+    e ≡ record (moved_on s.translation d k a.tag a.phase) { ftl = e.ftl } →
+    HasMoved e.ftl s.translation (claims_of (numbers_of s) s.tasks) a.tag a.phase →
     IsAnswered s Reply (OfReply (Some m)) e
 open_right d e s k a m h there due left layer =
     let r = their_task (before_accepted s.translation.ledger) k d.tasks s.tasks a h.kept.tasks there in
@@ -73,8 +88,8 @@ open_right d e s k a m h there due left layer =
     let path : replied s m ≡ task_does s r.0 r.0.deed =
     ap (replied_by s (tag_in m)) (ap (λ n. task_of n s.tasks) tag ∙ found) in
     subst (λ (x : DeviceCore). IsAnswered s Reply (OfReply (Some m)) x) (sym left)
-    (answered_as d (record (moved_on d k a.phase) { ftl = e.ftl }) s (task_does s r.0 r.0.deed) Reply
-    (OfReply (Some m)) h tt
+    (answered_as d (record (moved_on s.translation d k a.tag a.phase) { ftl = e.ftl }) s
+    (task_does s r.0 r.0.deed) Reply (OfReply (Some m)) h tt
     (inl (k, r.0, r.1.theirs, same_reply d s a r.0 h r.1.kept found ∙ due)) path
     (moves_on d s k a r.0 h r.1 e.ftl m due layer))
 
@@ -82,7 +97,7 @@ open_right d e s k a m h there due left layer =
 pub replies_right : (d e : DeviceCore) (s : State) (k : ℕ) (task : Task) (m : Message) → Describes d s →
     task_at d.tasks k ≡ Some task →
     owed_in s.translation (read_at d.tasks k) (held_at d.tasks k) task task.phase ≡ Some m →
-    e ≡ record (moved_on d k task.phase) { ftl = e.ftl } →
+    e ≡ record (moved_on s.translation d k task.tag task.phase) { ftl = e.ftl } →
     HasMoved e.ftl s.translation (claims_of (numbers_of s) s.tasks) task.tag task.phase →
     IsAnswered s Reply (OfReply (Some m)) e
 replies_right d e s k task m h there due left layer =
@@ -90,7 +105,7 @@ replies_right d e s k task m h there due left layer =
     let its = stands_there d.tasks k task one.0 there one.1 in
     open_right d e s k one.0 m h one.1
     (sym (λ i. owed_in s.translation (its.1 i) (its.2 i) (its.0 i) (its.0 i).phase) ∙ due)
-    (left ∙ (λ i. record (moved_on d k (its.0 i).phase) { ftl = e.ftl }))
+    (left ∙ (λ i. record (moved_on s.translation d k (its.0 i).tag (its.0 i).phase) { ftl = e.ftl }))
     (subst (λ (x : Task). HasMoved e.ftl s.translation (claims_of (numbers_of s) s.tasks) x.tag x.phase) its.0 layer)
 
 -- Replies of short exchanges

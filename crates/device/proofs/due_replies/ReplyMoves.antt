@@ -3,14 +3,14 @@ use Rattle.device.specs.Describes.{BringsFor}
 use Rattle.device.proofs.Common.{All, All-filter, All-weaker, AreClaimed, AreFramesKept, Bool, Core, Deed, Describes}
 use Rattle.device.proofs.Common.{DeviceCore, Frames, FramesFit, HaveAnswered, IsDoing, IsFor, IsTold, IsToldIn, Keeps}
 use Rattle.device.proofs.Common.{LetGo, LetGoAll, List, None, Numbers, OneSends, OpenTask, Option, Phase, Pin}
-use Rattle.device.proofs.Common.{ReadsAsked, RpmbRequest, Some, State, TaskEvent, TasksKept, Translation, WantPage, []}
-use Rattle.device.proofs.Common.{ap, arith, before_accepted, block_after, brings_frames, claimed_by, claimed_in}
-use Rattle.device.proofs.Common.{claims_of, durable, eqb-true, false, false≢true, filter, found_task, frames_after}
-use Rattle.device.proofs.Common.{gathers_for, if◌then◌else◌, is_at_hand, is_pin_of, is_unfilled, length}
+use Rattle.device.proofs.Common.{ReadsAsked, RpmbRequest, Some, State, TaskEvent, TaskKept, TasksKept, Translation}
+use Rattle.device.proofs.Common.{WantPage, [], ap, arith, before_accepted, block_after, brings_frames, claimed_by}
+use Rattle.device.proofs.Common.{claimed_in, claims_of, durable, eqb-true, false, false≢true, filter, found_task}
+use Rattle.device.proofs.Common.{frames_after, gathers_for, if◌then◌else◌, is_at_hand, is_pin_of, is_unfilled, length}
 use Rattle.device.proofs.Common.{length-filter_both, length-map, locked, map, most_tasks, moved, not, numbers_of}
-use Rattle.device.proofs.Common.{phase_after, read_in, refl, same_Some, set_deed, slice_get, subst, sym, task_after}
-use Rattle.device.proofs.Common.{task_happened, task_of, true, wanted_by, wanted_in, wanted_kept, with_deed, with_event}
-use Rattle.device.proofs.Common.{ℕ, ◌+◌, ◌==◌, ◌∙◌, ◌≡◌, ◌≤◌}
+use Rattle.device.proofs.Common.{phase_after, read_in, refl, same_Some, set_deed, slice_get, slice_set, subst, sym}
+use Rattle.device.proofs.Common.{task_after, task_happened, task_of, true, wanted_by, wanted_in, wanted_kept, with_deed}
+use Rattle.device.proofs.Common.{with_event, ℕ, ◌+◌, ◌==◌, ◌∙◌, ◌≡◌, ◌≤◌}
 use Rattle.std.proofs.lemmas.List.Elements.{All-map}
 use Rattle.ufs_spec.specs.Exchanges as exchange
 use Rattle.ufs_spec.specs.Machine.{task_goes_on}
@@ -32,7 +32,7 @@ use Rattle.device.proofs.due_replies.PinsLetGo.{gone_pins, next_of_others, other
 
 -- What stays
 
-set_told : (n tag : ℕ) (deed : Deed) (us : List exchange.Task) → IsToldIn n deed → All (IsTold n) us →
+pub set_told : (n tag : ℕ) (deed : Deed) (us : List exchange.Task) → IsToldIn n deed → All (IsTold n) us →
     All (IsTold n) (map (with_deed tag deed) us)
 set_told n tag deed us new h =
     All-map (IsTold n) (with_deed tag deed) us (All-weaker (IsTold n) (λ x. IsTold n (with_deed tag deed x))
@@ -75,7 +75,33 @@ module _ (d : DeviceCore) (s : State) (k : ℕ) (a : OpenTask) (b : exchange.Tas
   found : task_of b.tag s.tasks ≡ Some b
   found = found_task s.tasks k b h.tied.tasks.tasks_differ o.theirs
 
-  -- this happened to it in the phase in which it is
+  -- it is the specified one once this happened to it in the phase in which it is
+  happened : (e : TaskEvent) (p : Phase) (deed : Deed) → a.phase ≡ p →
+      IsDoing (before_accepted s.translation.ledger) a.expected b.length (phase_after p e) deed →
+      frames_after a.frames e ≡ a.frames → FramesFit (phase_after p e) a.frames a.held deed →
+      IsFor a.region (gathers_for deed) → is_unfilled b.request ≡ false → block_after e p a.block ≡ read_in deed →
+      TaskKept (before_accepted s.translation.ledger) (task_after e a) (record b { deed = deed })
+  happened e p deed is doing still fits gathers none read = record {
+    lun = o.kept.lun;
+    tag = o.kept.tag;
+    expected = o.kept.expected;
+    brings = subst (λ (x : Bool). BringsFor a.region x b.command) (sym (ap brings_frames still)) o.kept.brings;
+    gathers = gathers;
+    asked_of = o.kept.asked_of;
+    request = subst (λ (f : Frames). AreFramesKept f a.held b.request) (sym still) o.kept.request;
+    asks =
+        subst (λ (f : Frames). ReadsAsked (phase_after a.phase e) f a.held) (sym still)
+        (asks_nothing (phase_after a.phase e) a.frames a.held b.request o.kept.request none);
+    fits =
+        subst (λ (f : Frames). FramesFit (phase_after a.phase e) f a.held deed) (sym still)
+        (subst (λ q. FramesFit (phase_after q e) a.frames a.held deed) (sym is) fits);
+    doing =
+        subst (λ q. IsDoing (before_accepted s.translation.ledger) a.expected b.length (phase_after q e) deed)
+        (sym is) doing;
+    read = ap (λ q. block_after e q a.block) is ∙ read;
+  }
+
+  -- so are all tasks then
   pub happened_to : (e : TaskEvent) (p : Phase) (deed : Deed) → a.phase ≡ p →
       IsDoing (before_accepted s.translation.ledger) a.expected b.length (phase_after p e) deed →
       frames_after a.frames e ≡ a.frames → FramesFit (phase_after p e) a.frames a.held deed →
@@ -86,26 +112,7 @@ module _ (d : DeviceCore) (s : State) (k : ℕ) (a : OpenTask) (b : exchange.Tas
       subst (λ x. TasksKept (before_accepted s.translation.ledger) (task_happened d.tasks k e x)
       (map (with_deed b.tag deed) s.tasks)) (sym o.ours)
       (one_changed (before_accepted s.translation.ledger) k d.tasks s.tasks (task_after e a) b deed h.kept.tasks
-      h.tied.tasks.tasks_differ o.theirs
-      (record {
-        lun = o.kept.lun;
-        tag = o.kept.tag;
-        expected = o.kept.expected;
-        brings = subst (λ (x : Bool). BringsFor a.region x b.command) (sym (ap brings_frames still)) o.kept.brings;
-        gathers = gathers;
-        asked_of = o.kept.asked_of;
-        request = subst (λ (f : Frames). AreFramesKept f a.held b.request) (sym still) o.kept.request;
-        asks =
-            subst (λ (f : Frames). ReadsAsked (phase_after a.phase e) f a.held) (sym still)
-            (asks_nothing (phase_after a.phase e) a.frames a.held b.request o.kept.request none);
-        fits =
-            subst (λ (f : Frames). FramesFit (phase_after a.phase e) f a.held deed) (sym still)
-            (subst (λ q. FramesFit (phase_after q e) a.frames a.held deed) (sym is) fits);
-        doing =
-            subst (λ q. IsDoing (before_accepted s.translation.ledger) a.expected b.length (phase_after q e) deed)
-            (sym is) doing;
-        read = ap (λ q. block_after e q a.block) is ∙ read;
-      }))
+      h.tied.tasks.tasks_differ o.theirs (happened e p deed is doing still fits gathers none read))
 
   -- it brings frames still, or still brings none
   pub happened_sends : (e : TaskEvent) → frames_after a.frames e ≡ a.frames →
@@ -115,14 +122,15 @@ module _ (d : DeviceCore) (s : State) (k : ℕ) (a : OpenTask) (b : exchange.Tas
       (one_set k d.tasks a (task_after e a) o.ours (ap brings_frames still) h.kept.one_sends)
 
   -- what the tags have claimed stays
-  same_claims : (deed : Deed) → claimed_in (numbers_of s) b.length b.deed ≡ claimed_in (numbers_of s) b.length deed →
+  pub same_claims : (deed : Deed) → claimed_in (numbers_of s) b.length b.deed ≡ claimed_in (numbers_of s) b.length deed →
       claims_of (numbers_of s) (map (with_deed b.tag deed) s.tasks) ≡ claims_of (numbers_of s) s.tasks
   same_claims deed same =
       claims_set (numbers_of s) s.tasks b.tag b deed found
-      ∙ claimed_same (claims_of (numbers_of s) s.tasks) b.tag (claimed_in (numbers_of s) b.length deed) (ap (claimed_by (numbers_of s)) found ∙ same)
+      ∙ claimed_same (claims_of (numbers_of s) s.tasks) b.tag (claimed_in (numbers_of s) b.length deed)
+      (ap (claimed_by (numbers_of s)) found ∙ same)
 
   -- what is wanted for each tag, where only that of this one changes
-  set_wanted : (pins : List Pin) (deed : Deed) → WantedFor pins b.tag (Some (record b { deed = deed })) →
+  pub set_wanted : (pins : List Pin) (deed : Deed) → WantedFor pins b.tag (Some (record b { deed = deed })) →
       ((n index : ℕ) → (n == b.tag) ≡ false →
       wanted_kept pins n index ≡ wanted_kept s.translation.pins n index) →
       WantedForAll pins (map (with_deed b.tag deed) s.tasks)
@@ -145,7 +153,8 @@ module _ (d : DeviceCore) (s : State) (k : ℕ) (a : OpenTask) (b : exchange.Tas
       twice false = refl
 
   -- it goes, and keeps nothing
-  pub goes : (after : Core) (held : ℕ) → AreClaimed after (claims_of (numbers_of s) s.tasks) → claimed_in (numbers_of s) b.length b.deed ≡ [] →
+  pub goes : (after : Core) (held : ℕ) → AreClaimed after (claims_of (numbers_of s) s.tasks) →
+      claimed_in (numbers_of s) b.length b.deed ≡ [] →
       layer_kept.Describes after (moved (with_held s.translation held) (LetGoAll a.tag)) →
       Keeps (with_layer after (without_task d k))
       (task_goes_on (record s { translation = with_held s.translation held }) b None)
@@ -172,7 +181,8 @@ module _ (d : DeviceCore) (s : State) (k : ℕ) (a : OpenTask) (b : exchange.Tas
         claims =
             subst (AreClaimed after)
             (sym (claims_left (numbers_of s) s.tasks b.tag
-            ∙ claimed_same (claims_of (numbers_of s) s.tasks) b.tag [] (ap (claimed_by (numbers_of s)) found ∙ none))) claims;
+            ∙ claimed_same (claims_of (numbers_of s) s.tasks) b.tag []
+            (ap (claimed_by (numbers_of s)) found ∙ none))) claims;
         shorts = h.kept.shorts;
         volatile = h.kept.volatile;
       })
@@ -220,15 +230,16 @@ module _ (d : DeviceCore) (s : State) (k : ℕ) (a : OpenTask) (b : exchange.Tas
   pub told_gone : locked s ≡ true → All (IsTold (durable s)) (exchange.without_task b.tag s.tasks)
   told_gone lock = All-filter (λ x. not (exchange.is_task_of b.tag x)) (IsTold (durable s)) s.tasks (h.told lock)
 
-  -- what happened changes no block of it, and tells as much of blocks, over the layer as it is
-  pub does_now : (after : Core) (e : TaskEvent) (p : Phase) (deed : Deed) → a.phase ≡ p →
-      IsDoing (before_accepted s.translation.ledger) a.expected b.length (phase_after p e) deed →
-      frames_after a.frames e ≡ a.frames → FramesFit (phase_after p e) a.frames a.held deed →
-      IsFor a.region (gathers_for deed) → is_unfilled b.request ≡ false →
-      block_after e p a.block ≡ a.block → SaysAsMuch b.request b.deed deed →
-      IsToldIn (durable s) deed → layer_kept.Describes after s.translation → AreClaimed after (claims_of (numbers_of s) s.tasks) →
-      IsBehind (with_layer after (with_event d k e)) (set_deed s b.tag deed)
-  does_now after e p deed is doing still fits gathers none stays same told layer claims = record {
+  -- it is another task from now on, of which as much is wanted and claimed, over the layer as it is
+  pub becomes : (after : Core) (new : OpenTask) (deed : Deed) →
+      TaskKept (before_accepted s.translation.ledger) new (record b { deed = deed }) →
+      brings_frames new.frames ≡ brings_frames a.frames → is_unfilled b.request ≡ false →
+      ((index : ℕ) → wanted_in index b.request b.deed ≡ wanted_in index b.request deed) →
+      claimed_in (numbers_of s) b.length b.deed ≡ claimed_in (numbers_of s) b.length deed →
+      IsToldIn (durable s) deed → layer_kept.Describes after s.translation →
+      AreClaimed after (claims_of (numbers_of s) s.tasks) →
+      IsBehind (with_layer after (record d { tasks = slice_set d.tasks k new })) (set_deed s b.tag deed)
+  becomes after new deed is sends none wanted claimed told layer claims = record {
     keeps = record {
       boot = h.kept.boot;
       permanent = h.kept.permanent;
@@ -237,13 +248,15 @@ module _ (d : DeviceCore) (s : State) (k : ℕ) (a : OpenTask) (b : exchange.Tas
       registers = h.kept.registers;
       layer_kept = layer;
       few = few_set deed;
-      tasks = happened_to e p deed is doing still fits gathers none (stays ∙ (o.kept.read ∙ same.read));
-      one_sends = happened_sends e still;
+      tasks =
+          one_changed (before_accepted s.translation.ledger) k d.tasks s.tasks new b deed h.kept.tasks
+          h.tied.tasks.tasks_differ o.theirs is;
+      one_sends = one_set k d.tasks a new o.ours sends h.kept.one_sends;
       wanted =
           set_wanted s.translation.pins deed
-          (λ index. h.kept.wanted b.tag index ∙ (ap (wanted_by index) found ∙ same.wanted index))
+          (λ index. h.kept.wanted b.tag index ∙ (ap (wanted_by index) found ∙ wanted index))
           (λ n index other. refl);
-      claims = subst (AreClaimed after) (sym (same_claims deed (same.claimed (numbers_of s) b.length))) claims;
+      claims = subst (AreClaimed after) (sym (same_claims deed claimed)) claims;
       shorts = h.kept.shorts;
       volatile = h.kept.volatile;
     };
@@ -251,6 +264,24 @@ module _ (d : DeviceCore) (s : State) (k : ℕ) (a : OpenTask) (b : exchange.Tas
     told = λ lock. set_told (durable s) b.tag deed s.tasks told (h.told lock);
     shorts_told = h.shorts_told;
   }
+
+  -- what happened changes no block of it, and tells as much of blocks, over the layer as it is
+  pub does_now : (after : Core) (e : TaskEvent) (p : Phase) (deed : Deed) → a.phase ≡ p →
+      IsDoing (before_accepted s.translation.ledger) a.expected b.length (phase_after p e) deed →
+      frames_after a.frames e ≡ a.frames → FramesFit (phase_after p e) a.frames a.held deed →
+      IsFor a.region (gathers_for deed) → is_unfilled b.request ≡ false →
+      block_after e p a.block ≡ a.block → SaysAsMuch b.request b.deed deed →
+      IsToldIn (durable s) deed → layer_kept.Describes after s.translation →
+      AreClaimed after (claims_of (numbers_of s) s.tasks) →
+      IsBehind (with_layer after (with_event d k e)) (set_deed s b.tag deed)
+  does_now after e p deed is doing still fits gathers none stays same told layer claims =
+      subst
+      (λ (x : Option OpenTask). IsBehind (with_layer after (record d { tasks = task_happened d.tasks k e x }))
+      (set_deed s b.tag deed))
+      (sym o.ours)
+      (becomes after (task_after e a) deed
+      (happened e p deed is doing still fits gathers none (stays ∙ (o.kept.read ∙ same.read)))
+      (ap brings_frames still) none same.wanted (same.claimed (numbers_of s) b.length) told layer claims)
 
   -- its next block was handed out
   pub sends : (after : Core) (n : ℕ) (x : Sending) (deed : Deed) → a.phase ≡ phase.SendBlocks x →

@@ -17,7 +17,8 @@ use Rattle.std.specs.List.{AllByRecursion}
 use Rattle.ufs_spec.specs.declared.operations.Told.{Told}
 use Rattle.ufs_spec.specs.declared.operations.Told.TheVariants as told
 use Rattle.ufs_spec.specs.declared.scsi.Cdb.TheVariants as cdb
-use Rattle.power_loss.proofs.host_commands.PassedCommands.{Passed, passed}
+use Rattle.power_loss.proofs.host_commands.OpenedByCommands.{key_verified}
+use Rattle.power_loss.proofs.host_commands.PassedCommands.{Passed, passed, verify_changes}
 use Rattle.power_loss.proofs.host_commands.ReadBlocks.{Reads, key_read, reads_in}
 use Rattle.task_set.specs.declared.tasks.Phase.TheVariants as phase
 use Rattle.lun_route.specs.Luns.{place_of}
@@ -30,12 +31,14 @@ use Rattle.device.proofs.described.VolatileChanges.{volatile_changed}
 use Rattle.device.proofs.host_messages.BlocksBegin.{read_begins}
 use Rattle.device.proofs.host_messages.CommandPasses.{IsFree, flush_durable, free_told}
 use Rattle.device.proofs.host_messages.CommandTags.{others_send}
+use Rattle.device.proofs.host_messages.ComparesBegin.{compare_begins}
 use Rattle.device.proofs.host_messages.FramesBegin.{taken_begins}
 use Rattle.device.proofs.host_messages.GathersBegin.{asked_begins, list_begins, write_begins}
 use Rattle.device.proofs.host_messages.ReadOpened.{core_opened}
 use Rattle.device.proofs.host_messages.TasksBegin.{HasBegunFor, answer_opened, flush_begins, left_for, none_ends}
 use Rattle.device.proofs.host_messages.TasksBegin.{nothing_begins, opened_for, same_phase}
 use Rattle.device.proofs.host_messages.UnitsTold.{tell_begins}
+use Rattle.device.proofs.host_messages.VerifyBegins.{verify_begins}
 
 bytes_of : (blocks : ℕ) → 4096 * blocks ≡ blocks * 4096
 bytes_of blocks = omega arith
@@ -197,6 +200,16 @@ module _ (d : DeviceCore) (s : State) (r : Request) (h : Describes d s) (free : 
       (quiet_if (blocks_brought r.expected blocks == 0) _ _ refl refl)
       (write_begins d s r h free few after unit_now address (blocks_brought r.expected blocks) forced (4096 * blocks) p
       k.slots begun)
+  command_begins (cdb.Verify address blocks true) p spelled named lets k begun =
+      quiet (planned (cdb.Verify address blocks true)) p _ (quiet_if (blocks == 0) _ _ refl refl)
+      (compare_begins d s r h free few after (cdb.Verify address blocks true) unit_now address blocks p refl k.few
+      (key_verified blocks refl (verify_changes r.bytes (cdb.Verify address blocks true) spelled refl) lets)
+      (blocks == 0) refl begun)
+  command_begins (cdb.Verify address blocks false) p spelled named lets k begun =
+      quiet (planned (cdb.Verify address blocks false)) p _ (quiet_if (blocks == 0) _ _ refl refl)
+      (verify_begins d s r h free few after (cdb.Verify address blocks false) unit_now address blocks p refl k.few
+      (key_verified blocks refl (verify_changes r.bytes (cdb.Verify address blocks false) spelled refl) lets)
+      (blocks == 0) begun)
   command_begins (cdb.Prefetch address blocks) p spelled named lets k begun =
       quiet (plan.Nothing 0) p _ refl
       (nothing_begins d s r h free few after (cdb.Prefetch address blocks) 0 p refl begun)

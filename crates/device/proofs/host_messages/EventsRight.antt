@@ -1,7 +1,7 @@
 -- A LINK EVENT is answered as the definitions say, and ends all that is open.
 use Rattle.device.proofs.Common.{All-nil, Bool, Describes, DeviceCore, Err, HostFault, IsBehind, IsHeardAs}
 use Rattle.device.proofs.Common.{List, Machine, Message, None, Ok, OnErr, OnOk, RegionState, Result, Spells, State}
-use Rattle.device.proofs.Common.{[], ap, heard, host_fault_of, length, machine_at, map, message_fault}
+use Rattle.device.proofs.Common.{[], ap, heard, host_fault_of, machine_at, map, message_fault}
 use Rattle.device.proofs.Common.{Numbers, Some, false, if◌then◌else◌, numbers_of, plain_now, refl, result_of, subst}
 use Rattle.device.proofs.Common.{suc, sym, true, zero, ℕ, ◌==◌, ◌∙◌, ◌∷◌, ◌≡◌}
 use Rattle.ufs_spec.specs.declared.faults.HostFault.TheVariants.{Code}

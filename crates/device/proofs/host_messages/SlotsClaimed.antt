@@ -45,18 +45,16 @@ slots_found after t claims tag slots asks p free none begun =
       subst (LayerThen after t claims tag slots) left (begun.layer none),
     )
 
--- a READ that begins keeps what it looks up, or there is no room for it
-pub blocks_kept : (after : Core) (t : Translation) (claims : Claims) (tag : ℕ) (key : Key) (blocks size : ℕ) (p : Phase)
-    (kept : Bool) → kept ≡ has_room t blocks → PinsDiffer t.pins →
-    p ≡ asks_or_busy (phase.SendBlocks (record { blocks = blocks; sent = 0; length = size })) kept →
+-- a READ that begins, or a VERIFY that compares its blocks, keeps what it looks up, or there is no room for it
+pub blocks_kept : (after : Core) (t : Translation) (claims : Claims) (tag : ℕ) (key : Key) (blocks : ℕ)
+    (first p : Phase) (kept : Bool) → kept ≡ has_room t blocks → PinsDiffer t.pins → p ≡ asks_or_busy first kept →
     (key.kind ≡ 1 →
     ((i : ℕ) → i < blocks → IsKey (shape_of_numbers t.numbers) (key_behind key i)) →
     list_any (keeps_for tag) t.pins ≡ false →
     Describes after (if kept then fold moved t (keeps_of t tag key blocks) else t)) → AreClaimed after claims →
-    HasKept after t claims tag key blocks size p
-blocks_kept after t claims tag key blocks size p kept is differ phase_is described claimed = record {
-  phase_is =
-      phase_is ∙ ap (asks_or_busy (phase.SendBlocks (record { blocks = blocks; sent = 0; length = size }))) is;
+    HasKept after t claims tag key blocks first p
+blocks_kept after t claims tag key blocks first p kept is differ phase_is described claimed = record {
+  phase_is = phase_is ∙ ap (asks_or_busy first) is;
   differ = differ;
   layer = λ may. (
     subst (λ (b : Bool). Describes after (if b then fold moved t (keeps_of t tag key blocks) else t)) is

@@ -48,6 +48,8 @@ sent_still n d v (Ok (plan.Send (source.Response region) size taken)) = refl
 sent_still n d v (Ok (plan.Nothing size)) = refl
 sent_still n d v (Ok (plan.Drop size)) = refl
 sent_still n d v (Ok (plan.Read key blocks size)) = refl
+sent_still n d v (Ok (plan.Verify key blocks)) = refl
+sent_still n d v (Ok (plan.Compare key blocks)) = refl
 sent_still n d v (Ok (plan.Gather w slots)) = refl
 sent_still n d v (Ok plan.Flush) = refl
 sent_still n d v (Err told) = refl
@@ -85,6 +87,8 @@ opened_as d s r h e after (Err told) p u begun layer more =
 opened_as d s r h e after (Ok (plan.Nothing n)) p u begun layer more = more u layer
 opened_as d s r h e after (Ok (plan.Drop n)) p u begun layer more = more u layer
 opened_as d s r h e after (Ok (plan.Read key blocks size)) p u begun layer more = more u layer
+opened_as d s r h e after (Ok (plan.Verify key blocks)) p u begun layer more = more u layer
+opened_as d s r h e after (Ok (plan.Compare key blocks)) p u begun layer more = more u layer
 opened_as d s r h e after (Ok (plan.Gather w slots)) p u begun layer more = more u layer
 opened_as d s r h e after (Ok plan.Flush) p u begun layer more = more u layer
 

@@ -121,6 +121,9 @@ address_fits s r (cdb.Read address blocks) n spells within =
 address_fits s r (cdb.Write address blocks forced) n spells within =
     let there = writes_there s r (cdb.Write address blocks forced) n spells refl in
     subst (λ (o : Option UnitSpec). IfSome o (λ (u : UnitSpec). address < 2 ^ 32)) there.1 within
+address_fits s r (cdb.Verify address blocks compared) n spells within =
+    let there = writes_there s r (cdb.Verify address blocks compared) n spells refl in
+    subst (λ (o : Option UnitSpec). IfSome o (λ (u : UnitSpec). address < 2 ^ 32)) there.1 within
 address_fits s r (cdb.Prefetch address blocks) n spells within =
     let there = writes_there s r (cdb.Prefetch address blocks) n spells refl in
     subst (λ (o : Option UnitSpec). IfSome o (λ (u : UnitSpec). address < 2 ^ 32)) there.1 within

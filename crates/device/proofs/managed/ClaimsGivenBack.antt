@@ -4,6 +4,7 @@ use Rattle.device.proofs.Common.{Gathering, List, Numbers, Option, ReadingArea, 
 use Rattle.device.proofs.Common.{blocks_gathered, claim_of, claimed_in, command_blocks, drop, inl, inr, length}
 use Rattle.device.proofs.Common.{length-replicate, list_slots, refl, suc, sym, zero, ℕ, ◌∙◌, ◌≡◌, ◌⊎◌}
 use Rattle.ufs_spec.specs.Exchanges as exchange
+use Rattle.ufs_spec.specs.Exchanges.{Comparing}
 use Rattle.ufs_spec.specs.Machine.{claimed_by}
 use Rattle.ufs_spec.specs.Plain.{zero_block}
 
@@ -30,6 +31,7 @@ as_many_claimed n accepted mended command total (Sending blocks sent) h = refl
 as_many_claimed n accepted mended command total (SendingBytes bytes) h = refl
 as_many_claimed n accepted mended command total (Awaiting commands) h = refl
 as_many_claimed n accepted mended command total (ReadingArea pages) h = refl
+as_many_claimed n accepted mended command total (Comparing blocks compared asked) h = refl
 as_many_claimed n accepted mended command total (Answering status carried) h = refl
 
 -- so it is of a task that fits the device

@@ -27,7 +27,7 @@ set_read index state b = record b { deed = deed_read index state b.deed }
 -- The blocks of the task
 
 -- those behind the next one are still unread
-behind_unread : (blocks : List ReadBlock) (index : ℕ) (new : ReadBlock) →
+pub behind_unread : (blocks : List ReadBlock) (index : ℕ) (new : ReadBlock) →
     ((i : ℕ) (block : ReadBlock) → index < i → slice_get blocks i ≡ Some block → block.state ≡ Unread) →
     (i : ℕ) (block : ReadBlock) → index < i → slice_get (slice_set blocks index new) i ≡ Some block →
     block.state ≡ Unread

@@ -4,7 +4,7 @@ use Rattle.device.proofs.Common.{Answering, AreaReading, Awaiting, Bool, Deed, D
 use Rattle.device.proofs.Common.{IsDoing, IsReadingArea, Keeps, List, None, Option, Phase, Pin, PinsDiffer, ReadBlock}
 use Rattle.device.proofs.Common.{ReadingArea, RpmbRequest, Sending, SendingBytes, Some, State, [], and_parts, ap, arith}
 use Rattle.device.proofs.Common.{before_accepted, cond, eq_self, eqb-true, false, false≢true, filter, find}
-use Rattle.device.proofs.Common.{greatest_command, has_room, inl, inr, is_pin_of, is_task_of, is_unfilled, keeps_for}
+use Rattle.device.proofs.Common.{greatest_command, has_room, inl, inr, is_pin_of, is_task_of, keeps_for}
 use Rattle.device.proofs.Common.{le-leb, length, length-filter_both, length-map, list_any, map, most_tasks, nat_lt}
 use Rattle.device.proofs.Common.{nat_tests, none-some, not, option_map, or_parts, other_way, refl, same_Some, slice_get}
 use Rattle.device.proofs.Common.{slice_get_within, subst, suc, sym, task_of, true, wanted_by, wanted_in, wanted_kept}
@@ -15,9 +15,11 @@ use Rattle.std.proofs.Math.Dec.{eqb}
 use Rattle.std.proofs.lemmas.Map.Steps.{length-le_from_distinct_below}
 use Rattle.std.proofs.lemmas.Map.Views.{any-filter_same}
 use Rattle.ufs_spec.specs.Exchanges as exchange
+use Rattle.ufs_spec.specs.Exchanges.{Comparing}
 use Rattle.power_loss.proofs.open_tasks.TaggedLists.{any_fewer}
 use Rattle.task_set.specs.declared.tasks.Phase.TheVariants as phase
 use Rattle.device.proofs.open_tasks.OpenTasks.{StandsOrNot, tag_stands}
+use Rattle.device.specs.Describes.{keeps_pages}
 use Rattle.device.proofs.open_tasks.PageEnds.{few_read}
 
 any_found : {X : Type 0} (p : X → Bool) (xs : List X) (x : X) → find p xs ≡ Some x → list_any p xs ≡ true
@@ -170,6 +172,15 @@ few_blocks before expected total (phase.SendBlocks x) blocks sent h =
 few_blocks before expected total (phase.Answer told n) blocks sent h = h.few
 few_blocks before expected total p blocks sent h = absurd h
 
+few_compared : (before expected total : ℕ) (p : Phase) (blocks : List ReadBlock) (compared : ℕ) (asked : Bool) →
+    IsDoing before expected total p (Comparing blocks compared asked) → length blocks ≤ greatest_command
+few_compared before expected total (phase.AskBlock x) blocks compared asked h =
+    let count = h.0.count in let few = h.0.few in omega (arith, count, few)
+few_compared before expected total (phase.AwaitBlock x) blocks compared asked h =
+    let count = h.0.count in let few = h.0.few in omega (arith, count, few)
+few_compared before expected total (phase.Answer told n) blocks compared asked h = h.0.few
+few_compared before expected total p blocks compared asked h = absurd h
+
 -- a request for data reads one page or two
 few_pages : (r : AreaReading) (total : ℕ) (pages : List ReadBlock) → IsReadingArea r total pages → length pages ≤ 2
 few_pages r total pages h =
@@ -179,27 +190,37 @@ few_pages r total pages h =
     let few = few_read r in
     omega arith
 
--- a task that keeps something sends a command's blocks or reads pages of the area, and this is one of them
+read_page : (index : ℕ) (wanted : Bool) (pages : List ReadBlock) (b : Bool) →
+    cond b (wanted_of true (slice_get pages index)) None ≡ Some wanted → index < length pages
+read_page index wanted pages true k = of_block index wanted true pages k
+read_page index wanted pages false k = absurd (none-some wanted k)
+
+-- nothing is kept of a block that was handed out or compared
+left_block : (index done : ℕ) (wanted : Bool) (blocks : List ReadBlock) (b : Bool) →
+    cond b None (wanted_of (index == done) (slice_get blocks index)) ≡ Some wanted → index < length blocks
+left_block index done wanted blocks true k = absurd (none-some wanted k)
+left_block index done wanted blocks false k = of_block index wanted (index == done) blocks k
+
+-- a task that keeps something sends or compares a command's blocks or reads pages, and this is one of them
 few_doing : (before expected total index : ℕ) (wanted : Bool) (request : Option RpmbRequest) (p : Phase) (deed : Deed) →
     IsDoing before expected total p deed → wanted_in index request deed ≡ Some wanted → index < greatest_command
 few_doing before expected total index wanted request p (Sending blocks sent) h e =
     let few = few_blocks before expected total p blocks sent h in
-    let low = sent_block (nat_lt index sent) e in
-    omega arith
-  where
-    sent_block : (b : Bool) → cond b None (wanted_of (index == sent) (slice_get blocks index)) ≡ Some wanted →
-        index < length blocks
-    sent_block true k = absurd (none-some wanted k)
-    sent_block false k = of_block index wanted (index == sent) blocks k
+    let low = left_block index sent wanted blocks (nat_lt index sent) e in
+    omega (arith, few, low)
+few_doing before expected total index wanted request p (Comparing blocks compared asked) h e =
+    let few = few_compared before expected total p blocks compared asked h in
+    let low = left_block index compared wanted blocks (nat_lt index compared) e in
+    omega (arith, few, low)
 few_doing before expected total index wanted request (phase.ReadArea r) (ReadingArea pages) h e =
     let few = few_pages r total pages h in
-    let low = read_page (is_unfilled request) e in
+    let low = read_page index wanted pages (keeps_pages request) e in
     omega arith
-  where
-    read_page : (b : Bool) → cond b (wanted_of true (slice_get pages index)) None ≡ Some wanted →
-        index < length pages
-    read_page true k = of_block index wanted true pages k
-    read_page false k = absurd (none-some wanted k)
+few_doing before expected total index wanted request (phase.Verify x) (ReadingArea pages) h e =
+    let low = read_page index wanted pages (keeps_pages request) e in
+    let count = h.count in
+    let few = h.few in
+    omega (arith, low, count, few)
 few_doing before expected total index wanted request p (Gathering purpose gathered asked) h e =
     absurd (none-some wanted e)
 few_doing before expected total index wanted request p (SendingBytes bytes) h e = absurd (none-some wanted e)

@@ -22,6 +22,7 @@ use Rattle.device.specs.Describes.{IsFirstFrame, StandsIn}
 use Rattle.device.proofs.open_tasks.BlockEnds.{blocks_ended, set_read}
 use Rattle.device.proofs.open_tasks.PartsPut.{first_part_stays, frame_stays, page_put_long, part_put_there}
 use Rattle.device.proofs.open_tasks.PartsPut.{second_part_stays}
+use Rattle.device.proofs.open_tasks.VerifyEnds.{filled_off}
 
 -- How the reads ended
 
@@ -214,27 +215,35 @@ decided : (f : Frames) (held : Option (List ℕ)) (request : Option RpmbRequest)
 decided (frames.Decided code) held request h asks = record { code = code; is = refl }
 decided frames.NotBrought held request h asks = absurd (false≢true (sym (ap is_unfilled h) ∙ asks))
 decided frames.Undecided held request h asks = absurd (false≢true (sym (ap is_unfilled h) ∙ asks))
-decided frames.Answered held request h asks = absurd (false≢true (sym h ∙ asks))
+decided frames.Answered held request h asks = absurd (false≢true (sym (filled_off request h) ∙ asks))
 
 record IsReadingIn (before expected total : ℕ) (p : Phase) (pages : List ReadBlock) : Type 0 where
   r : AreaReading
   is : p ≡ phase.ReadArea r
   reading : IsReadingArea r total pages
 
-reads_in : (before expected total : ℕ) (p : Phase) (pages : List ReadBlock) →
-    IsDoing before expected total p (ReadingArea pages) → IsReadingIn before expected total p pages
-reads_in before expected total (phase.ReadArea r) pages h = record { r = r; is = refl; reading = h }
-reads_in before expected total p pages h = absurd h
+brings_some : (code : ℕ) → frames.Decided code ≡ frames.NotBrought → ⊥
+brings_some code e = cc
+
+-- so it is no VERIFY
+reads_in : (before expected total code : ℕ) (p : Phase) (held : Option (List ℕ)) (pages : List ReadBlock) →
+    IsDoing before expected total p (ReadingArea pages) →
+    FramesFit p (frames.Decided code) held (ReadingArea pages) → IsReadingIn before expected total p pages
+reads_in before expected total code (phase.ReadArea r) held pages h fits = record { r = r; is = refl; reading = h }
+reads_in before expected total code (phase.Verify x) held pages h fits = absurd (brings_some code fits)
+reads_in before expected total code p held pages h fits = absurd h
 
 module _ (before index : ℕ) (a : OpenTask) (b : exchange.Task) (pages : List ReadBlock) (page : ReadBlock)
     (h : TaskKept before a b) (deed : b.deed ≡ ReadingArea pages) (unfilled : is_unfilled b.request ≡ true)
     (there : slice_get pages index ≡ Some page) where
-  its : IsReadingIn before a.expected b.length a.phase pages
-  its = reads_in before a.expected b.length a.phase pages
-      (subst (IsDoing before a.expected b.length a.phase) deed h.doing)
-
   decision : HasDecision a.frames
   decision = decided a.frames a.held b.request h.request unfilled
+
+  its : IsReadingIn before a.expected b.length a.phase pages
+  its = reads_in before a.expected b.length decision.code a.phase a.held pages
+      (subst (IsDoing before a.expected b.length a.phase) deed h.doing)
+      (subst (λ (f : Frames). FramesFit a.phase f a.held (ReadingArea pages)) decision.is
+      (subst (FramesFit a.phase a.frames a.held) deed h.fits))
 
   asked : IsAsked decision.code a.held b.request
   asked = subst (λ (f : Frames). AreFramesKept f a.held b.request) decision.is h.request

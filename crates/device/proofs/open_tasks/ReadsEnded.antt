@@ -10,23 +10,34 @@ use Rattle.device.proofs.Common.{same_Some, set_other, set_state, set_there, sub
 use Rattle.device.proofs.Common.{wanted_by, wanted_in, wanted_kept, wanted_of, with_wanted, ℕ, ◌&&◌, ◌==◌, ◌∙◌, ◌≡◌}
 use Rattle.device.proofs.Common.{◌⊎◌}
 use Rattle.std.proofs.Common.{slice_get}
+use Rattle.device.specs.Describes.{keeps_pages}
 use Rattle.ufs_spec.specs.Exchanges as exchange
+use Rattle.ufs_spec.specs.Exchanges.{Comparing}
 use Rattle.ufs_spec.specs.Machine.{task_read, with_block}
 use Rattle.task_set.specs.declared.tasks.Phase.TheVariants as phase
 use Rattle.task_set.specs.declared.tasks.TaskEvent.TheVariants as event
 use Rattle.task_set.specs.Tasks.{after_lost_read, after_read}
 use Rattle.device.proofs.open_tasks.BlockEnds.{block_lost, block_read, set_read}
+use Rattle.device.proofs.open_tasks.CompareEnds.{compared_lost, compared_read}
 use Rattle.device.proofs.open_tasks.OpenTasks.{each_changed}
 use Rattle.device.proofs.open_tasks.PageEnds.{page_lost, page_read}
+use Rattle.device.proofs.open_tasks.VerifyEnds.{block_unverified, block_verified, keeps_so}
 use Rattle.device.proofs.open_tasks.ReadProgress.{ChangesOne, want_other_index, want_set}
 
 -- The block that is read
 
--- the task sends these blocks, this one next, or it reads these pages of the area for a request that is yet to fill its
--- register
+-- the task reads these pages, for a request that is yet to fill its register or for a VERIFY that compares nothing
+abbrev ReadsPages : exchange.Task → List ReadBlock → Type 0
+ReadsPages task pages = (task.deed ≡ ReadingArea pages) × (keeps_pages task.request ≡ true)
+
+-- the task compares these blocks, this one next
+abbrev Compares : ℕ → exchange.Task → List ReadBlock → Type 0
+Compares index task blocks = (asked : Bool) × (task.deed ≡ Comparing blocks index asked)
+
+-- the task sends or compares these blocks, this one next, or it reads these pages
 abbrev pub IsReadFor : ℕ → exchange.Task → List ReadBlock → Type 0
 IsReadFor index task blocks =
-    (task.deed ≡ Sending blocks index) ⊎ ((task.deed ≡ ReadingArea blocks) × (is_unfilled task.request ≡ true))
+    (task.deed ≡ Sending blocks index) ⊎ (ReadsPages task blocks ⊎ Compares index task blocks)
 
 -- a block of a task is to be read, and was not read yet
 pub record IsReading (tag index : ℕ) (us : List exchange.Task) : Type 0 where
@@ -81,13 +92,28 @@ reads_deed tag index us task (Sending blocks sent) found is e =
       unread = next.unread;
     }
 reads_deed tag index us task (ReadingArea pages) found is e =
-    let both = wanted_while (is_unfilled task.request) (wanted_of true (slice_get pages index)) e in
+    let both = wanted_while (keeps_pages task.request) (wanted_of true (slice_get pages index)) e in
     let next = is_next true (slice_get pages index) both.1 in
     record {
       task = task;
       found = found;
       blocks = pages;
-      deed = inr (is, both.0);
+      deed = inr (inl (is, both.0));
+      block = next.block;
+      there = next.is;
+      unread = next.unread;
+    }
+reads_deed tag index us task (Comparing blocks compared asked) found is e =
+    let next = is_next (index == compared) (slice_get blocks index)
+    (wanted_not (nat_lt index compared) (wanted_of (index == compared) (slice_get blocks index)) e) in
+    record {
+      task = task;
+      found = found;
+      blocks = blocks;
+      deed = inr (inr (
+        asked,
+        is ∙ sym (ap (λ (n : ℕ). Comparing blocks n asked) (eqb-true index compared next.turn)),
+      ));
       block = next.block;
       there = next.is;
       unread = next.unread;
@@ -113,6 +139,9 @@ is_reading tag index us pins kept waiting = by (task_of tag us) refl (sym kept �
 read_sends_in : (index : ℕ) (body : List ℕ) (a : OpenTask) (p : Phase) →
     is_sender (read_for index body a p) ≡ is_sender a
 read_sends_in index body a (phase.ReadArea r) = refl
+read_sends_in index body a (phase.Verify x) = refl
+read_sends_in index body a (phase.AskBlock x) = refl
+read_sends_in index body a (phase.AwaitBlock x) = refl
 read_sends_in index body a (phase.Ask w) = refl
 read_sends_in index body a (phase.Await w) = refl
 read_sends_in index body a (phase.AwaitFrontier n size) = refl
@@ -173,7 +202,15 @@ module _ (before tag index : ℕ) (us : List exchange.Task) (differ : TasksDiffe
     where
       by : IsReadFor index b r.blocks → TaskKept before (read_for index body a a.phase) (set_read index WasRead b)
       by (inl deed) = block_read before index a b r.blocks r.block h deed r.there r.unread body content
-      by (inr deed) = page_read before index a b r.blocks r.block h deed.0 deed.1 r.there body whole content
+      by (inr (inr deed)) =
+          compared_read before index a b r.blocks r.block deed.0 h deed.1 r.there r.unread body content
+      by (inr (inl deed)) = by_request (keeps_so b.request deed.1)
+        where
+          by_request : (b.request ≡ None) ⊎ (is_unfilled b.request ≡ true) →
+              TaskKept before (read_for index body a a.phase) (set_read index WasRead b)
+          by_request (inl none) = block_verified before index a b r.blocks r.block h deed.0 none r.there r.unread body
+          by_request (inr unfilled) =
+              page_read before index a b r.blocks r.block h deed.0 unfilled r.there body whole content
 
   -- both sides' tasks once the block was read
   pub tasks_read : (body : List ℕ) → length body ≡ 4096 → body ≡ r.block.body → (ts : List OpenTask) →
@@ -190,7 +227,13 @@ module _ (before tag index : ℕ) (us : List exchange.Task) (differ : TasksDiffe
       by : IsReadFor index b r.blocks →
           TaskKept before (task_after (event.BlockLost index) a) (set_read index NotRead b)
       by (inl deed) = block_lost before index a b r.blocks r.block h deed r.there r.unread
-      by (inr deed) = page_lost before index a b r.blocks r.block h deed.0 deed.1 r.there
+      by (inr (inr deed)) = compared_lost before index a b r.blocks r.block deed.0 h deed.1 r.there r.unread
+      by (inr (inl deed)) = by_request (keeps_so b.request deed.1)
+        where
+          by_request : (b.request ≡ None) ⊎ (is_unfilled b.request ≡ true) →
+              TaskKept before (task_after (event.BlockLost index) a) (set_read index NotRead b)
+          by_request (inl none) = block_unverified before index a b r.blocks r.block h deed.0 none r.there r.unread
+          by_request (inr unfilled) = page_lost before index a b r.blocks r.block h deed.0 unfilled r.there
 
   -- both sides' tasks once it could not be read
   pub tasks_lost : (ts : List OpenTask) → TasksKept before ts us →
@@ -239,7 +282,7 @@ module _ (index : ℕ) (blocks : List ReadBlock) (block : ReadBlock) (state : Re
       ap (λ o. slice_get (with_block blocks index state o) index) there
       ∙ set_there blocks index block (set_state state block) there
 
-  -- of a task that sends blocks, this one next
+  -- of a task that sends blocks, this one next; of one that compares them the same is wanted
   sending_wants : (pins : List Pin) (tag : ℕ) → block.state ≡ Unread → is_unread state ≡ false →
       ((k : ℕ) → wanted_kept pins tag k ≡ wanted_in k None (Sending blocks index)) → (k : ℕ) →
       wanted_kept (map (with_wanted tag index false) pins) tag k
@@ -254,8 +297,8 @@ module _ (index : ℕ) (blocks : List ReadBlock) (block : ReadBlock) (state : Re
       first : nat_lt index index ≡ false
       first = le-ltb index index (omega arith)
 
-  -- of a task that reads pages of the area
-  area_wants : (pins : List Pin) (tag : ℕ) (request : Option RpmbRequest) → is_unfilled request ≡ true →
+  -- of a task that reads pages
+  area_wants : (pins : List Pin) (tag : ℕ) (request : Option RpmbRequest) → keeps_pages request ≡ true →
       block.state ≡ Unread → is_unread state ≡ false →
       ((k : ℕ) → wanted_kept pins tag k ≡ wanted_in k request (ReadingArea blocks)) → (k : ℕ) →
       wanted_kept (map (with_wanted tag index false) pins) tag k
@@ -265,7 +308,7 @@ module _ (index : ℕ) (blocks : List ReadBlock) (block : ReadBlock) (state : Re
       (λ k. wanted_in k request (deed_read index state (ReadingArea blocks))) kept
       ((λ i. if asks i then wanted_of true (there i) else None) ∙ ap (λ x. Some (is_unread x)) unread)
       ((λ i. if asks i then wanted_of true (block_now i) else None) ∙ ap (λ b. Some b) over)
-      (λ k other. ap (λ o. if is_unfilled request then wanted_of true o else None) (else_stays k other))
+      (λ k other. ap (λ o. if keeps_pages request then wanted_of true o else None) (else_stays k other))
 
 module _ (tag index : ℕ) (us : List exchange.Task) (r : IsReading tag index us) (state : ReadState) where
   -- the task, once the state of its block is set
@@ -290,7 +333,11 @@ module _ (tag index : ℕ) (us : List exchange.Task) (r : IsReading tag index us
           sending_wants index r.blocks r.block state r.there pins tag r.unread over
           (λ i. its i ∙ ap (wanted_in i r.task.request) deed) k
           ∙ sym (ap (λ x. wanted_in k r.task.request (deed_read index state x)) deed)
-      by (inr deed) =
+      by (inr (inr deed)) =
+          sending_wants index r.blocks r.block state r.there pins tag r.unread over
+          (λ i. its i ∙ ap (wanted_in i r.task.request) deed.1) k
+          ∙ sym (ap (λ x. wanted_in k r.task.request (deed_read index state x)) deed.1)
+      by (inr (inl deed)) =
           area_wants index r.blocks r.block state r.there pins tag r.task.request deed.1 r.unread over
           (λ i. its i ∙ ap (wanted_in i r.task.request) deed.0) k
           ∙ sym (ap (λ x. wanted_in k r.task.request (deed_read index state x)) deed.0)
@@ -307,7 +354,11 @@ module _ (tag index : ℕ) (us : List exchange.Task) (r : IsReading tag index us
         ap (claimed_in n r.task.length) deed,
         ap (λ x. claimed_in n r.task.length (deed_read index state x)) deed,
       )
-      by (inr deed) = (
+      by (inr (inl deed)) = (
         ap (claimed_in n r.task.length) deed.0,
         ap (λ x. claimed_in n r.task.length (deed_read index state x)) deed.0,
+      )
+      by (inr (inr deed)) = (
+        ap (claimed_in n r.task.length) deed.1,
+        ap (λ x. claimed_in n r.task.length (deed_read index state x)) deed.1,
       )

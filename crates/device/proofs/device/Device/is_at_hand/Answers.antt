@@ -11,4 +11,4 @@ returns-in-Some c =
     c.pinned.ensures.described_mended t name layer (c.in-Some.is ∙ ap Some e) in
     at_hand_found t c.args.tag c.args.index c.in-Some.looked c.is_some.result (c.pinned.ensures.described_there t layer)
     (sym c.in-Some.is ∙ c.pinned.ensures.described t layer)
-    (λ right. c.is_some.ensures ∙ copied_there c.block_there.result _ (c.block_there.ensures t h mended right))
+    (λ right. c.is_some.ensures ∙ copied_there c.block_there.result _ (c.block_there.ensures t layer mended right))

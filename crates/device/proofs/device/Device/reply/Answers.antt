@@ -20,7 +20,7 @@ returns-in-Some-clause-replied c =
       shown = said.2;
       answered =
           replies_right c.args.self.now c.move_on.new.self s due.index due.task said.0 h c.in-Some.ensures.there
-          said.1 c.move_on.ensures.left
+          said.1 (c.move_on.ensures.left s.translation h.kept.layer_kept)
           (c.move_on.ensures.moved s.translation _ (h.kept.layer_kept, h.kept.claims));
     }
 
