@@ -5,6 +5,7 @@ _ufstool_words() {
     read6 | write6) echo "--address --blocks $command" ;;
     read10 | write10) echo "--address --blocks --fua $command" ;;
     synchronize-cache | flush) echo "--immediate $command" ;;
+    verify) echo "--address --blocks --compare $command" ;;
     prefetch) echo "--address --blocks $command" ;;
     send-diagnostic) echo "--self-test $command" ;;
     request-sense | read-capacity-16) echo "--allocation $command" ;;
@@ -34,7 +35,7 @@ _ufstool_words() {
 
 _ufstool() {
     local current=${COMP_WORDS[COMP_CWORD]} words=
-    local messages='read6 write6 read10 write10 unmap synchronize-cache flush test-unit-ready request-sense read-capacity read-capacity-16 inquiry report-luns mode-sense mode-sense-6 report-operations prefetch send-diagnostic nop hardware-reset link-reset data-out abort-task abort-task-set clear-task-set reset-unit query-task query-task-set read-device-descriptor read-unit-descriptor read-boot-lun-en write-boot-lun-en read-flag set-flag clear-flag toggle-flag rpmb-key rpmb-write rpmb-read rpmb-counter rpmb-result'
+    local messages='read6 write6 read10 write10 unmap synchronize-cache flush test-unit-ready request-sense read-capacity read-capacity-16 inquiry report-luns mode-sense mode-sense-6 report-operations verify prefetch send-diagnostic nop hardware-reset link-reset data-out abort-task abort-task-set clear-task-set reset-unit query-task query-task-set read-device-descriptor read-unit-descriptor read-boot-lun-en write-boot-lun-en read-flag set-flag clear-flag toggle-flag rpmb-key rpmb-write rpmb-read rpmb-counter rpmb-result'
     COMPREPLY=()
     if [ "$COMP_CWORD" -eq 1 ]; then
         words='explain host draw help --help --version'

@@ -1,12 +1,12 @@
 # Completion of ufstool in fish.
 set -l messages read6 write6 read10 write10 unmap synchronize-cache flush test-unit-ready \
     request-sense read-capacity read-capacity-16 inquiry report-luns mode-sense mode-sense-6 \
-    report-operations prefetch send-diagnostic nop hardware-reset link-reset data-out abort-task \
+    report-operations verify prefetch send-diagnostic nop hardware-reset link-reset data-out abort-task \
     abort-task-set clear-task-set reset-unit query-task query-task-set read-device-descriptor \
     read-unit-descriptor read-boot-lun-en write-boot-lun-en read-flag set-flag clear-flag \
     toggle-flag rpmb-key rpmb-write rpmb-read rpmb-counter rpmb-result
 set -l commands read6 write6 read10 write10 synchronize-cache flush test-unit-ready request-sense read-capacity \
-    read-capacity-16 inquiry report-luns mode-sense mode-sense-6 report-operations prefetch send-diagnostic
+    read-capacity-16 inquiry report-luns mode-sense mode-sense-6 report-operations verify prefetch send-diagnostic
 set -l tasks abort-task abort-task-set clear-task-set reset-unit query-task query-task-set
 
 complete -c ufstool -f
@@ -22,9 +22,10 @@ complete -c ufstool -n "__fish_seen_subcommand_from host; and not __fish_seen_su
 complete -c ufstool -n "__fish_seen_subcommand_from $messages" -l task -x -d 'The task tag'
 complete -c ufstool -n "__fish_seen_subcommand_from $commands $tasks unmap data-out" -l unit -x -d 'The LUN'
 complete -c ufstool -n "__fish_seen_subcommand_from $commands" -l expected -x -d 'How many bytes the host sends or has room for'
-complete -c ufstool -n '__fish_seen_subcommand_from read6 write6 read10 write10 prefetch unmap rpmb-write rpmb-read' -l address -x -d 'The first block'
-complete -c ufstool -n '__fish_seen_subcommand_from read6 write6 read10 write10 prefetch unmap rpmb-write rpmb-read' -l blocks -x -d 'How many blocks'
+complete -c ufstool -n '__fish_seen_subcommand_from read6 write6 read10 write10 verify prefetch unmap rpmb-write rpmb-read' -l address -x -d 'The first block'
+complete -c ufstool -n '__fish_seen_subcommand_from read6 write6 read10 write10 verify prefetch unmap rpmb-write rpmb-read' -l blocks -x -d 'How many blocks'
 complete -c ufstool -n '__fish_seen_subcommand_from read10 write10' -l fua -d 'Set FUA'
+complete -c ufstool -n '__fish_seen_subcommand_from verify' -l compare -d 'Set BYTCHK 01'
 complete -c ufstool -n '__fish_seen_subcommand_from synchronize-cache flush' -l immediate -d 'Set IMMED'
 complete -c ufstool -n '__fish_seen_subcommand_from request-sense inquiry report-luns read-capacity-16 mode-sense mode-sense-6 report-operations' -l allocation -x -d 'The allocation length'
 complete -c ufstool -n '__fish_seen_subcommand_from inquiry mode-sense mode-sense-6' -l page -x -d 'The page, in decimal'

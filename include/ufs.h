@@ -321,6 +321,15 @@ uint32_t ufs_write(uint8_t lun, uint8_t tag, uint32_t address, uint16_t blocks, 
                    uint8_t *into, size_t room);
 
 /*
+ * Writes the COMMAND of a VERIFY(10), of UFS_HEADER_BYTES bytes. A device of profile 1 reads these
+ * blocks and sends none: it answers 3/11/00 where one cannot be read. With `compare` (BYTCHK 01) it
+ * asks for the host's data block by block (READY TO TRANSFER), compares each block with what was there
+ * at the COMMAND, and answers E/1D/00 (MISCOMPARE) at the first one that differs. It writes nothing.
+ */
+uint32_t ufs_verify(uint8_t lun, uint8_t tag, uint32_t address, uint16_t blocks, bool compare,
+                    uint8_t *into, size_t room);
+
+/*
  * Writes the COMMAND of a SYNCHRONIZE CACHE(10), of UFS_HEADER_BYTES bytes. It is answered once all
  * that was accepted before is durable, or with `immediate` at once.
  */

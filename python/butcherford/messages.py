@@ -11,13 +11,13 @@ TO_DEVICE, TO_HOST = 0x20, 0x40
 LUN_REPORT_LUNS, LUN_BOOT, LUN_RPMB, LUN_DEVICE = 0x81, 0xB0, 0xC4, 0xD0
 WELL_KNOWN_LUNS = (LUN_REPORT_LUNS, LUN_BOOT, LUN_RPMB, LUN_DEVICE)
 TEST_UNIT_READY = 0x00
-READ_10, WRITE_10, PRE_FETCH_10, SYNCHRONIZE_CACHE_10, UNMAP = 0x28, 0x2A, 0x34, 0x35, 0x42
+READ_10, WRITE_10, VERIFY_10, PRE_FETCH_10, SYNCHRONIZE_CACHE_10, UNMAP = 0x28, 0x2A, 0x2F, 0x34, 0x35, 0x42
 READ_16, WRITE_16, PRE_FETCH_16, SYNCHRONIZE_CACHE_16 = 0x88, 0x8A, 0x90, 0x91
 INQUIRY, MODE_SENSE_6, SEND_DIAGNOSTIC, MODE_SENSE_10 = 0x12, 0x1A, 0x1D, 0x5A
 SERVICE_ACTION_IN_16, READ_CAPACITY_16 = 0x9E, 0x10
 MAINTENANCE_IN, REPORT_SUPPORTED_OPERATION_CODES = 0xA3, 0x0C
 SECURITY_IN, SECURITY_OUT = 0xA2, 0xB5
-FUA, SELF_TEST, EVPD = 0x08, 0x04, 0x01
+FUA, BYTCHK, SELF_TEST, EVPD = 0x08, 0x02, 0x04, 0x01
 READS, WRITES = 0x01, 0x81
 
 
@@ -120,9 +120,10 @@ def is_long(operation: int) -> bool:
     return operation >> 5 == 4
 
 
-def blocks_cdb(operation: int, address: int, count: int, *, fua: bool = False) -> bytes:
-    """The CDB of a READ, a WRITE, a SYNCHRONIZE CACHE or a PRE-FETCH, of ten bytes or of sixteen."""
-    first = bytes([operation, FUA if fua else 0])
+def blocks_cdb(operation: int, address: int, count: int, *, fua: bool = False, compare: bool = False) -> bytes:
+    """The CDB of a READ, a WRITE, a SYNCHRONIZE CACHE or a PRE-FETCH, of ten bytes or of sixteen, or of a VERIFY of
+    ten bytes, with BYTCHK 01 where it is to `compare`."""
+    first = bytes([operation, (FUA if fua else 0) | (BYTCHK if compare else 0)])
     if is_long(operation):
         return first + big(address, 8) + big(count, 4) + bytes(2)
     return first + big(address, 4) + b"\0" + big(count, 2)

@@ -72,6 +72,20 @@ class Unit:
         operation = messages.PRE_FETCH_10 if is_short else messages.PRE_FETCH_16
         self._device.command(self.number, messages.blocks_cdb(operation, address, count))
 
+    def verify(self, address: int, count: int = 1) -> None:
+        """VERIFY(10) with BYTCHK 00: the unit reads these blocks, and sends none. It is 3/11/00 where one cannot be
+        read."""
+        for start, some in self._parts(address, count):
+            self._device.command(self.number, messages.blocks_cdb(messages.VERIFY_10, start, some))
+
+    def compare(self, address: int, data: bytes) -> None:
+        """VERIFY(10) with BYTCHK 01: the unit compares its blocks from this address on with these, and writes nothing.
+        It is E/1D/00 (MISCOMPARE) where one is another. Data of more than `Device.most_blocks` blocks take several
+        commands, each of which compares with what is there as it comes."""
+        for start, some, part in self._parts_of(address, data, is_long=False):
+            cdb = messages.blocks_cdb(messages.VERIFY_10, start, some, compare=True)
+            self._device.command(self.number, cdb, send=part)
+
     def send_diagnostic(self, self_test: bool = False) -> None:
         """Asks whether the unit is in order, which a self-test looks for: 4/3E/03 if the device takes no more
         writes."""
@@ -118,12 +132,16 @@ class Unit:
         return bytes(found)
 
     def _write(self, operation: int, address: int, data: bytes, fua: bool) -> None:
+        for start, some, part in self._parts_of(address, data, messages.is_long(operation)):
+            self._send(messages.blocks_cdb(operation, start, some, fua=fua), part)
+
+    def _parts_of(self, address: int, data: bytes, is_long: bool) -> Iterator[Tuple[int, int, bytes]]:
+        """Address, count and data of each command that these blocks take."""
         if len(data) % BLOCK:
             raise ValueError(f"the data are no whole blocks of {BLOCK} bytes")
-        for start, some in self._parts(address, len(data) // BLOCK, messages.is_long(operation)):
+        for start, some in self._parts(address, len(data) // BLOCK, is_long):
             first = (start - address) * BLOCK
-            cdb = messages.blocks_cdb(operation, start, some, fua=fua)
-            self._send(cdb, data[first:first + some * BLOCK])
+            yield start, some, data[first:first + some * BLOCK]
 
     def _parts(self, address: int, count: int, is_long: bool = False) -> Iterator[Tuple[int, int]]:
         """Address and count of each command that so many blocks take."""

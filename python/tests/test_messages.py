@@ -41,13 +41,16 @@ def test_cdbs_of_profile_1():
             messages.blocks_cdb(messages.SYNCHRONIZE_CACHE_16, 0, 0),
             messages.blocks_cdb(messages.PRE_FETCH_16, 5, 512),
             messages.blocks_cdb(messages.PRE_FETCH_10, 5, 512),
+            messages.blocks_cdb(messages.VERIFY_10, 5, 512),
+            messages.blocks_cdb(messages.VERIFY_10, 0x01020304, 5, compare=True),
             messages.diagnostic_cdb(True), messages.capacity_cdb(32), messages.page_cdb(0xB0, 64),
             messages.modes_cdb(messages.MODE_SENSE_10, 0, 0x08, 0, 28),
             messages.modes_cdb(messages.MODE_SENSE_6, 1, 0x3F, 0xFF, 48),
             messages.operations_cdb(2, 0x9E, 0x10, 64)]
     assert [it.ljust(16, b"\0").hex() for it in told] == [
         "88000102030405060708000000050000", "8a080000000000000009000000800000", "91" + "00" * 15,
-        "90000000000000000005000002000000", "34000000000500020000000000000000", "1d04" + "00" * 14,
+        "90000000000000000005000002000000", "34000000000500020000000000000000",
+        "2f000000000500020000000000000000", "2f020102030400000500000000000000", "1d04" + "00" * 14,
         "9e100000000000000000000000200000", "1201b000400000000000000000000000", "5a000800000000001c00000000000000",
         "1a007fff300000000000000000000000", "a30c029e001000000040000000000000"]
 

@@ -2,11 +2,12 @@
 import pytest
 
 from butcherford import (Capacity, CheckCondition, Device, ModePage, Modes, ModeValues, SupportedOperation, UnitNumbers,
-                         VpdPage)
+                         VpdPage, messages)
 
 BLOCK = 4096
 # ILLEGAL REQUEST, by the additional sense code.
 NO_OPERATION, OUT_OF_RANGE, NO_FIELD, NOT_SAVED = ((5, code, 0) for code in (0x20, 0x21, 0x24, 0x39))
+MISCOMPARE = (0xE, 0x1D, 0)
 
 
 @pytest.fixture
@@ -48,6 +49,34 @@ def test_prefetch(unit):
         unit.prefetch(address, count)
     for address, count in ((60, 5), (65, 0), (1 << 32, 0), (0, 1 << 16)):
         assert sense_of(lambda: unit.prefetch(address, count)) == OUT_OF_RANGE
+
+
+def test_verify(device, unit):
+    """Blocks on the dies, in the write cache and never written can be read; past the end of the unit there are none.
+    A command may have 32 blocks."""
+    unit.write(0, bytes([1]) * 40 * BLOCK, fua=True)
+    unit.write(40, bytes([2]) * 3 * BLOCK)
+    unit.verify(0, 64)
+    for address, count in ((60, 5), (64, 1), (0, 65)):
+        assert sense_of(lambda: unit.verify(address, count)) == OUT_OF_RANGE
+    assert sense_of(lambda: device.command(0, messages.blocks_cdb(messages.VERIFY_10, 0, 33))) == NO_FIELD
+
+
+def test_compare(device, unit):
+    """The same blocks are GOOD, and one other byte of the last one is a MISCOMPARE. Nothing is written, and a host that
+    brings a block too few is refused."""
+    written = b"".join(bytes([it]) * BLOCK for it in range(1, 44))
+    unit.write(1, written[:40 * BLOCK], fua=True)
+    unit.write(41, written[40 * BLOCK:])
+    data = bytes(BLOCK) + written + bytes(BLOCK)
+    unit.compare(0, data)
+    assert sense_of(lambda: unit.compare(0, data[:-1] + b"\1")) == MISCOMPARE
+    assert unit.read(0, 45) == data
+    assert sense_of(lambda: unit.compare(63, bytes(2 * BLOCK))) == OUT_OF_RANGE
+    with pytest.raises(ValueError):
+        unit.compare(0, data[1:])
+    two = messages.blocks_cdb(messages.VERIFY_10, 0, 2, compare=True)
+    assert sense_of(lambda: device.command(0, two, send=data[:BLOCK])) == NO_FIELD
 
 
 def test_diagnostic(unit):
@@ -100,15 +129,17 @@ def test_a_protected_unit_says_so():
 
 def test_supported_operations(unit):
     """Those of the tables that a unit takes. Bits 7 to 5 of an operation code say how long a CDB is."""
-    codes = bytes.fromhex("00 03 08 0a 12 1a 1d 25 28 2a 34 35 42 5a 88 8a 90 91 9e a0 a3")
+    codes = bytes.fromhex("00 03 08 0a 12 1a 1d 25 28 2a 2f 34 35 42 5a 88 8a 90 91 9e a0 a3")
     actions, lengths = {0x9E: 0x10, 0xA3: 0x0C}, {0: 6, 1: 10, 2: 10, 4: 16, 5: 12}
     wanted = tuple(SupportedOperation(it, actions.get(it), lengths[it >> 5]) for it in codes)
     assert unit.supported_operations() == wanted
 
 
 def test_one_operation(unit):
-    """READ(10) has DPO, FUA and a group number. FORMAT UNIT is none. A code with service actions wants one."""
+    """READ(10) has DPO, FUA and a group number, and VERIFY(10) DPO, BYTCHK and a group number. FORMAT UNIT is none. A
+    code with service actions wants one."""
     assert unit.supported_operation(0x28).hex() == "28" "18" "ffffffff" "1f" "ffff" "00"
+    assert unit.supported_operation(0x2F).hex() == "2f" "12" "ffffffff" "1f" "ffff" "00"
     assert unit.supported_operation(0x04) is None
     assert unit.supported_operation(0xA3, 0x0C) is not None
     assert sense_of(lambda: unit.supported_operation(0x9E)) == NO_FIELD
@@ -118,7 +149,8 @@ def test_one_operation(unit):
 def test_profile_0_has_none_of_these():
     with Device(profile=0) as device:
         unit = device.units[0]
-        calls = (lambda: unit.read_16(0), unit.flush_16, unit.prefetch, unit.send_diagnostic, unit.capacity_16,
-                 unit.mode_sense, unit.mode_sense_6, unit.supported_operations)
+        calls = (lambda: unit.read_16(0), unit.flush_16, unit.prefetch, lambda: unit.verify(0),
+                 lambda: unit.compare(0, bytes(BLOCK)), unit.send_diagnostic, unit.capacity_16, unit.mode_sense,
+                 unit.mode_sense_6, unit.supported_operations)
         assert [sense_of(call) for call in calls] == [NO_OPERATION] * len(calls)
         assert sense_of(lambda: unit.inquiry_page(VpdPage.SERIAL_NUMBER)) == NO_FIELD

@@ -10,8 +10,8 @@ ghost use Rattle.ufs_handle.specs.Numbers.{answer_number, ended_number, flag_num
 ghost use Rattle.ufs_handle.specs.Numbers.{reply_number, saved_number, stop_number, taken_number};
 ghost use Rattle.ufs_handle.specs.Steps.{Settles};
 ghost use Rattle.ufs_messages.specs.Commands.{IsAsked, IsFlush, IsFrameWritten, IsLinkEvent, IsLong, IsNop};
-ghost use Rattle.ufs_messages.specs.Commands.{IsQueryWritten, IsRead, IsSecurity, IsTaskRequest, IsUnmap, IsUnmapList, IsWrite};
-ghost use Rattle.ufs_messages.specs.Commands.{ReadsFrame, asked_cdb, asked_of, selected_cdb};
+ghost use Rattle.ufs_messages.specs.Commands.{IsQueryWritten, IsRead, IsSecurity, IsTaskRequest, IsUnmap, IsUnmapList, IsVerify};
+ghost use Rattle.ufs_messages.specs.Commands.{IsWrite, ReadsFrame, asked_cdb, asked_of, selected_cdb};
 ghost use Rattle.ufs_messages.specs.Written.{IsCommand, IsDataOut, IsMac, ReadsResponse};
 ghost use Rattle.ufs_images.specs.Saved.{IsLength, OpensImage, SavesTo};
 ghost use Rattle.ufs_handle.specs.declared.fault.Fault.TheVariants as fault;
@@ -25,7 +25,7 @@ use ufs_images::{open_image, put_length, save};
 use ufs_messages::{
     PlainFrame, PlainResponse, get_frame, get_response, put_asking, put_asking_for, put_command,
     put_data_out, put_flush, put_frame, put_link_event, put_long, put_mac, put_nop, put_query,
-    put_read, put_security, put_task_request, put_unmap, put_unmap_list, put_write,
+    put_read, put_security, put_task_request, put_unmap, put_unmap_list, put_verify, put_write,
 };
 use ufs_spec::Asked;
 
@@ -239,6 +239,22 @@ pub extern "C" fn ufs_write(
         IsWrite lun tag address blocks forced answer into.old into.new) }
 {
     answer_number(&put_write(lun, tag, address, blocks, forced, into))
+}
+
+/// Writes the COMMAND of a VERIFY(10), with BYTCHK 01 where its blocks are compared.
+#[unsafe(no_mangle)]
+pub extern "C" fn ufs_verify(
+    lun: u8,
+    tag: u8,
+    address: u32,
+    blocks: u16,
+    compared: bool,
+    into: &mut [u8],
+) -> u32
+    ensures { Numbered answer_number result (λ answer.
+        IsVerify lun tag address blocks compared answer into.old into.new) }
+{
+    answer_number(&put_verify(lun, tag, address, blocks, compared, into))
 }
 
 /// Writes the COMMAND of a SYNCHRONIZE CACHE(10), with IMMED where it is immediate.

@@ -6,7 +6,7 @@ use ufs_handle::Fault;
 use ufs_messages::{
     PlainFrame, get_frame, put_asking, put_asking_for, put_command, put_data_out, put_flush,
     put_frame, put_long, put_mac, put_nop, put_query, put_read, put_security, put_task_request,
-    put_unmap, put_unmap_list, put_write,
+    put_unmap, put_unmap_list, put_verify, put_write,
 };
 use ufs_spec::Asked;
 
@@ -151,6 +151,18 @@ fn asking_commands_of_profile_1_are_written(rt: HostRuntime) {
             &whole(flags, [0, 0, 0, allocation], &cdb),
         );
     }
+}
+
+/// VERIFY(10) with BYTCHK 00, which has no data, and with BYTCHK 01, which brings its blocks (SBC-3).
+#[test]
+fn verifies_are_written(rt: HostRuntime) {
+    let mut room = [0xEE; 64];
+    let mut cdb = [0x2F, 0, 1, 2, 3, 4, 0, 1, 5, 0, 0, 0, 0, 0, 0, 0];
+    let answer = put_verify(2, 7, 0x01020304, 0x0105, false, &mut room);
+    expect(&rt, answer, &room, &whole(0x00, [0, 0, 0, 0], &cdb));
+    cdb[1] = 0x02;
+    let answer = put_verify(2, 7, 0x01020304, 0x0105, true, &mut room);
+    expect(&rt, answer, &room, &whole(0x20, [0, 0x10, 0x50, 0], &cdb));
 }
 
 /// Commands on blocks in sixteen bytes: READ(16) from an address of 64 bits on, WRITE(16) with FUA,

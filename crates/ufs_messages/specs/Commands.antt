@@ -20,7 +20,7 @@ use Rattle.ufs_spec.specs.declared.operations.TheConstants.{SERVICE_ACTION_IN_16
 use Rattle.ufs_spec.specs.declared.operations.TheConstants.{WRITE_16}
 use Rattle.ufs_spec.specs.declared.operations.Told.TheVariants as told
 use Rattle.ufs_spec.specs.declared.scsi.Cdb.TheVariants.{Diagnose, Flush, Nothing, Prefetch, Read, SecurityIn}
-use Rattle.ufs_spec.specs.declared.scsi.Cdb.TheVariants.{SecurityOut, Tell, Unmap, Write}
+use Rattle.ufs_spec.specs.declared.scsi.Cdb.TheVariants.{SecurityOut, Tell, Unmap, Verify, Write}
 use Rattle.ufs_spec.specs.Frames as frames
 use Rattle.ufs_handle.specs.Buffers.{IsPut}
 use Rattle.ufs_handle.specs.declared.fault.Fault.{Fault}
@@ -50,6 +50,11 @@ IsRead lun tag address blocks answer room into =
 abbrev pub IsWrite : ℕ → ℕ → ℕ → ℕ → Bool → Result (Unit {0}) Fault → List ℕ → List ℕ → Type 0
 IsWrite lun tag address blocks forced answer room into =
     IsCdbWritten lun tag (blocks * 4096) (Write address blocks forced) answer room into
+
+-- a VERIFY(10) of these blocks: with BYTCHK 01 it compares them with as many bytes of its host, and else it has no data
+abbrev pub IsVerify : ℕ → ℕ → ℕ → ℕ → Bool → Result (Unit {0}) Fault → List ℕ → List ℕ → Type 0
+IsVerify lun tag address blocks compared answer room into =
+    IsCdbWritten lun tag (if compared then blocks * 4096 else 0) (Verify address blocks compared) answer room into
 
 -- a SYNCHRONIZE CACHE(10), with IMMED or without it
 abbrev pub IsFlush : ℕ → ℕ → Bool → Result (Unit {0}) Fault → List ℕ → List ℕ → Type 0

@@ -6,7 +6,7 @@ ghost use Rattle.ufs_spec.specs.Messages.{AreFlags};
 ghost use Rattle.ufs_spec.specs.declared.Cdb.{Cdb};
 ghost use Rattle.ufs_spec.specs.declared.Cdb.TheVariants.{Tell};
 ghost use Rattle.ufs_messages.specs.Commands.{IsAsked, IsCdbWritten, IsFlush, IsLinkEvent, IsLong, IsNop, IsQueryWritten, IsRead};
-ghost use Rattle.ufs_messages.specs.Commands.{IsSpelled, IsTaskRequest, IsUnmap, IsUnmapList, IsWrite, asked_cdb};
+ghost use Rattle.ufs_messages.specs.Commands.{IsSpelled, IsTaskRequest, IsUnmap, IsUnmapList, IsVerify, IsWrite, asked_cdb};
 ghost use Rattle.ufs_messages.specs.Commands.{flags_of, list_bytes, long_cdb, long_option, query_function};
 ghost use Rattle.ufs_messages.specs.Commands.{selected_cdb, selects_pages, sixteen_bytes};
 
@@ -42,8 +42,18 @@ fn flags_of(cdb: &Cdb) -> u8
     ensures known { AreFlags result }
 {
     match cdb {
-        Cdb::Nothing | Cdb::Flush { .. } | Cdb::Prefetch { .. } | Cdb::Diagnose { .. } => 0x00,
-        Cdb::Write { .. } | Cdb::Unmap { .. } | Cdb::SecurityOut { .. } => 0x20,
+        Cdb::Nothing
+        | Cdb::Flush { .. }
+        | Cdb::Verify {
+            compared: false,
+            ..
+        }
+        | Cdb::Prefetch { .. }
+        | Cdb::Diagnose { .. } => 0x00,
+        Cdb::Write { .. }
+        | Cdb::Verify { compared: true, .. }
+        | Cdb::Unmap { .. }
+        | Cdb::SecurityOut { .. } => 0x20,
         _ => 0x40,
     }
 }
@@ -84,6 +94,30 @@ pub fn put_write(
         forced,
     };
     put_cdb(lun, tag, u32::from(blocks) * 4096, &cdb, into)
+}
+
+/// Writes the COMMAND of a VERIFY(10): the device reads so many blocks from this address on, and sends
+/// none. With BYTCHK 01 it compares them with what its host sends.
+///
+/// # Errors
+///
+/// `Room` where the buffer has fewer than 32 bytes. It stays as it is then.
+pub fn put_verify(
+    lun: u8,
+    tag: u8,
+    address: u32,
+    blocks: u16,
+    compared: bool,
+    into: &mut [u8],
+) -> Result<(), Fault>
+    ensures { IsVerify lun tag address blocks compared result into.old into.new }
+{
+    let cdb = Cdb::Verify {
+        address: u64::from(address),
+        blocks: u32::from(blocks),
+        compared,
+    };
+    put_cdb(lun, tag, length_of(0, &cdb), &cdb, into)
 }
 
 /// Writes the COMMAND of a SYNCHRONIZE CACHE(10), with IMMED where it is to be answered at once.

@@ -12,7 +12,7 @@ mod security;
 
 pub use commands::{
     put_asking, put_asking_for, put_flush, put_link_event, put_long, put_nop, put_query, put_read,
-    put_task_request, put_unmap, put_unmap_list, put_write,
+    put_task_request, put_unmap, put_unmap_list, put_verify, put_write,
 };
 use rpmb_frame::frames_mac;
 pub use security::{PlainFrame, get_frame, put_frame, put_security};

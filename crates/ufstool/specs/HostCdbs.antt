@@ -27,6 +27,7 @@ meaning (host.ReadCapacity16 allocation) = cdb.Tell told.LongCapacity 0 allocati
 meaning (host.ModeSense6 select allocation) = cdb.Tell told.ShortModes select allocation
 meaning (host.ModeSense10 select allocation) = cdb.Tell told.Modes select allocation
 meaning (host.ReportOperations select allocation) = cdb.Tell told.Operations select allocation
+meaning (host.Verify10 address blocks compared) = cdb.Verify address blocks compared
 meaning (host.Prefetch10 address blocks) = cdb.Prefetch address blocks
 meaning (host.SendDiagnostic tests) = cdb.Diagnose tests
 

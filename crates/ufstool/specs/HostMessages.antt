@@ -32,7 +32,7 @@ flags_of ToHost = 0x40
 
 -- how many bytes there are to tell at most, on any device (SPC, SBC): REPORT LUNS lists no more than twelve units,
 -- the longest page of vital product data has 64 bytes, all mode pages have 44, behind a header, and REPORT SUPPORTED
--- OPERATION CODES tells no more than 20 of each of 23 commands, behind their length
+-- OPERATION CODES tells no more than 20 of each of 24 commands, behind their length
 abbrev pub most_of : Told → ℕ
 most_of told.Sense = 18
 most_of told.Identity = 36
@@ -42,7 +42,7 @@ most_of told.LongCapacity = 32
 most_of told.Page = 64
 most_of told.Modes = 52
 most_of told.ShortModes = 48
-most_of told.Operations = 464
+most_of told.Operations = 484
 
 -- the same of a command; nothing is told by any other
 abbrev pub most_told : Cdb → ℕ

@@ -91,6 +91,16 @@ fn write_fields<W: fmt::Write>(
         Cdb::Prefetch { address, blocks: 0 } => {
             write!(f, " of all blocks from address {address} on")
         }
+        Cdb::Verify {
+            address,
+            blocks,
+            compared,
+        } => write_span(
+            f,
+            if *compared { " with BYTCHK 01" } else { "" },
+            *blocks,
+            *address,
+        ),
         Cdb::Prefetch { address, blocks } => write_span(f, "", *blocks, *address),
         Cdb::Flush { immediate: true } => f.write_str(" with IMMED"),
         Cdb::Diagnose { tests: true } => f.write_str(" with SELFTEST"),

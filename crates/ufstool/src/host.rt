@@ -1,5 +1,5 @@
 //! The lines of a script that hand a device a message.
-ghost use Rattle.std.specs.Prelude.{◌≡◌, ◌≤◌, ◌++◌, IfOk, OnOk, length};
+ghost use Rattle.std.specs.Prelude.{◌≡◌, ◌≤◌, ◌++◌, IfOk, OnOk, length, true};
 ghost use Rattle.hex.specs.Hex.{encode_lower};
 ghost use Rattle.ufs_spec.specs.Cdbs.{SpellsCdb, direction_of};
 ghost use Rattle.ufs_spec.specs.Codes.{data_out_code};
@@ -212,7 +212,7 @@ fn command_of(
 {
     let cdb = command.bytes();
     let meaning = command.meaning();
-    if scsi_cdb::read(&cdb) != Ok(meaning) {
+    if !is_read_as(&cdb, &meaning) {
         return Err(command.fault());
     }
     let length = match expected {
@@ -220,6 +220,13 @@ fn command_of(
         None => length_of(most_told(&meaning), &meaning),
     };
     Ok(command_message(direction_of(&meaning), unit, task, length, cdb))
+}
+
+// The device reads the bytes as this command.
+fn is_read_as(cdb: &[u8; 16], meaning: &Cdb) -> bool
+    ensures { result ≡ true → SpellsCdb meaning.now cdb.now }
+{
+    scsi_cdb::read(cdb) == Ok(*meaning)
 }
 
 // How many bytes the command tells at most, on any device.
@@ -246,7 +253,7 @@ fn most_of(told: Told) -> u32
         Told::Page => 64,
         Told::Modes => 52,
         Told::ShortModes => 48,
-        Told::Operations => 464,
+        Told::Operations => 484,
     }
 }
 
@@ -302,8 +309,18 @@ fn direction_of(command: &Cdb) -> u8
     ensures direction { result ≡ flags_of (direction_of command.now) }
 {
     match command {
-        Cdb::Nothing | Cdb::Flush { .. } | Cdb::Prefetch { .. } | Cdb::Diagnose { .. } => 0x00,
-        Cdb::Write { .. } | Cdb::Unmap { .. } | Cdb::SecurityOut { .. } => 0x20,
+        Cdb::Nothing
+        | Cdb::Flush { .. }
+        | Cdb::Verify {
+            compared: false,
+            ..
+        }
+        | Cdb::Prefetch { .. }
+        | Cdb::Diagnose { .. } => 0x00,
+        Cdb::Write { .. }
+        | Cdb::Verify { compared: true, .. }
+        | Cdb::Unmap { .. }
+        | Cdb::SecurityOut { .. } => 0x20,
         _ => 0x40,
     }
 }

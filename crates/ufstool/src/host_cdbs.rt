@@ -2,7 +2,7 @@
 ghost use Rattle.std.specs.Prelude.{◌≡◌, ◌<◌, ◌≤◌, ◌^◌};
 ghost use Rattle.ufs_spec.specs.CdbFields.{six_blocks};
 ghost use Rattle.ufs_spec.specs.Cdbs.{asking_bytes, blocks_of};
-ghost use Rattle.ufs_spec.specs.declared.Cdb.TheVariants.{Prefetch, Read, Tell, Write};
+ghost use Rattle.ufs_spec.specs.declared.Cdb.TheVariants.{Prefetch, Read, Tell, Verify, Write};
 ghost use Rattle.ufs_spec.specs.declared.operations.Told.TheVariants as told;
 ghost use Rattle.ufstool.specs.HostCdbs.{host_bytes, meaning, six_bytes};
 
@@ -86,6 +86,13 @@ pub enum HostCdb {
         select: u32,
         allocation: u32,
     },
+    /// SBC, VERIFY(10), with BYTCHK 01 where the blocks are compared with what the host sends, or
+    /// with BYTCHK 00.
+    Verify10 {
+        address: u32,
+        blocks: u16,
+        compared: bool,
+    },
     /// SBC, PRE-FETCH(10): 0 blocks are all up to the unit's end.
     Prefetch10 {
         address: u32,
@@ -124,6 +131,11 @@ impl HostCdb {
             HostCdb::ReportOperations { select, allocation } => {
                 tell(Told::Operations, select, allocation)
             }
+            HostCdb::Verify10 {
+                address,
+                blocks,
+                compared,
+            } => verify(address, blocks, compared),
             HostCdb::Prefetch10 { address, blocks } => prefetch(address, blocks),
             HostCdb::SendDiagnostic { tests } => Cdb::Diagnose { tests },
             HostCdb::SynchronizeCache10 { immediate } => Cdb::Flush { immediate },
@@ -202,6 +214,17 @@ fn write(address: u32, blocks: u32, forced: bool) -> Cdb
         address: u64::from(address),
         blocks,
         forced,
+    }
+}
+
+// The VERIFY of so many blocks.
+fn verify(address: u32, blocks: u16, compared: bool) -> Cdb
+    ensures { result ≡ Verify address blocks compared }
+{
+    Cdb::Verify {
+        address: u64::from(address),
+        blocks: u32::from(blocks),
+        compared,
     }
 }
 

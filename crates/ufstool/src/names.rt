@@ -69,6 +69,7 @@ pub fn additional_sense_name(sense: &Sense) -> &'static str {
         (0x0C, 0x00) => "WRITE ERROR",
         (0x11, 0x00) => "UNRECOVERED READ ERROR",
         (0x1A, 0x00) => "PARAMETER LIST LENGTH ERROR",
+        (0x1D, 0x00) => "MISCOMPARE DURING VERIFY OPERATION",
         (0x20, 0x00) => "INVALID COMMAND OPERATION CODE",
         (0x21, 0x00) => "LOGICAL BLOCK ADDRESS OUT OF RANGE",
         (0x24, 0x00) => "INVALID FIELD IN CDB",

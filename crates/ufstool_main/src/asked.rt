@@ -255,6 +255,11 @@ fn read_cdb(name: &str, matches: &ArgMatches<'_>) -> HostCdb {
             allocation: long_in(matches, "allocation"),
         },
         "test-unit-ready" => HostCdb::TestUnitReady,
+        "verify" => HostCdb::Verify10 {
+            address: long_in(matches, "address"),
+            blocks: short_in(matches, "blocks"),
+            compared: matches.get_flag("compare"),
+        },
         "prefetch" => HostCdb::Prefetch10 {
             address: long_in(matches, "address"),
             blocks: short_in(matches, "blocks"),

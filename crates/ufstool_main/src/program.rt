@@ -101,10 +101,11 @@ fn with_transfers<'a>(alloc: Global, host: Made<'a>) -> Made<'a> {
     with(host, forced_transfer(alloc, "write10", "WRITE(10)"))
 }
 
-// The command with those that have no data: the flush, PRE-FETCH, and the questions whether the unit
-// is ready and the device in order.
+// The command with VERIFY, and with those that have no data: the flush, PRE-FETCH, and the questions
+// whether the unit is ready and the device in order.
 fn with_flush<'a>(alloc: Global, host: Made<'a>) -> Made<'a> {
     let host = with(host, flush(alloc));
+    let host = with(host, verify(alloc));
     let host = with(host, prefetch(alloc));
     let host = with(host, diagnostic(alloc));
     with(host, plain(alloc, "test-unit-ready", "TEST UNIT READY"))
@@ -157,6 +158,13 @@ fn flush<'a>(alloc: Global) -> Made<'a> {
     let flush = plain(alloc, "synchronize-cache", "SYNCHRONIZE CACHE(10)")?;
     let help = "Sets IMMED: it is answered at once";
     with_arg(flush.visible_alias("flush"), flag(alloc, "immediate", help))
+}
+
+fn verify<'a>(alloc: Global) -> Made<'a> {
+    let command = with_arg(plain(alloc, "verify", "VERIFY(10)"), address(alloc));
+    let command = with_arg(command, blocks(alloc).value_parser(value_parser!(u16)));
+    let help = "Sets BYTCHK 01: the blocks are compared with what the host sends";
+    with_arg(command, flag(alloc, "compare", help))
 }
 
 fn prefetch<'a>(alloc: Global) -> Made<'a> {

@@ -92,7 +92,7 @@ fn report_operations<'a>(alloc: Global) -> Made<'a> {
     let timeouts = flag(alloc, "timeouts", help);
     let allocation = option(alloc, "allocation", "BYTES", "The allocation length")
         .value_parser(value_parser!(u32))
-        .default_value("464");
+        .default_value("484");
     let about = "REPORT SUPPORTED OPERATION CODES";
     let command = with_arg(plain(alloc, "report-operations", about), code);
     with_arg(with_arg(with_arg(command, action), timeouts), allocation)

@@ -26,6 +26,7 @@ const TEST_UNIT_READY: u8 = 0x00;
 const READ_CAPACITY_10: u8 = 0x25;
 const READ_10: u8 = 0x28;
 const WRITE_10: u8 = 0x2A;
+const VERIFY_10: u8 = 0x2F;
 const SYNCHRONIZE_CACHE_10: u8 = 0x35;
 const UNMAP: u8 = 0x42;
 const SEND_DIAGNOSTIC: u8 = 0x1D;
@@ -36,6 +37,8 @@ pub(crate) const PRE_FETCH_16: u8 = 0x90;
 pub(crate) const SYNCHRONIZE_CACHE_16: u8 = 0x91;
 /// The bit of a WRITE(10) that asks for an answer only once the blocks are durable.
 const FUA: u8 = 0x08;
+/// BYTCHK 01 of a VERIFY(10): the host sends what the blocks are compared with.
+const BYTCHK: u8 = 0x02;
 /// The bit of a SEND DIAGNOSTIC that asks for a self-test.
 const SELF_TEST: u8 = 0x04;
 /// The queries that read and set a flag, and the flag fDeviceInit (JESD220, 10.7.8 and 14).
@@ -339,6 +342,41 @@ impl Device {
         let operation = if is_short { PRE_FETCH_10 } else { PRE_FETCH_16 };
         self.command(lun, &blocks_cdb(operation, 0, address, count), Data::None)
             .map(|_| ())
+    }
+
+    /// VERIFY(10) with BYTCHK 00: the device reads these blocks, and sends none. Profile 1 has it. More
+    /// than [`most_blocks`](Device::most_blocks) take several commands.
+    ///
+    /// # Errors
+    ///
+    /// As [`read`](Device::read); [`CheckCondition`](Error::CheckCondition) 5/20/00 of profile 0.
+    pub fn verify(&mut self, lun: u8, address: u32, count: u32) -> Result<()> {
+        let most = self.most_blocks();
+        for (start, some) in parts(VERIFY_10, u64::from(address), count, most)? {
+            self.command(lun, &blocks_cdb(VERIFY_10, 0, start, some), Data::None)?;
+        }
+        Ok(())
+    }
+
+    /// VERIFY(10) with BYTCHK 01: the device compares whole blocks from this address on with these data.
+    /// It writes nothing. Profile 1 has it. More than [`most_blocks`](Device::most_blocks) take several
+    /// commands, each of which compares with what is there as it comes.
+    ///
+    /// # Errors
+    ///
+    /// As [`verify`](Device::verify); [`CheckCondition`](Error::CheckCondition) E/1D/00 (MISCOMPARE)
+    /// where a block is another one. [`BadNumber`](Error::BadNumber) where the data are no whole blocks,
+    /// or no address has so many.
+    pub fn compare(&mut self, lun: u8, address: u32, data: &[u8]) -> Result<()> {
+        let blocks = whole_blocks(data)?;
+        let most = self.most_blocks();
+        let chunks = data.chunks(most as usize * BLOCK_BYTES);
+        let starts = parts(VERIFY_10, u64::from(address), blocks, most)?;
+        for ((start, some), chunk) in starts.zip(chunks) {
+            let cdb = blocks_cdb(VERIFY_10, BYTCHK, start, some);
+            self.command(lun, &cdb, Data::Send(chunk))?;
+        }
+        Ok(())
     }
 
     /// SEND DIAGNOSTIC: it asks whether the unit, or the device (LUN D0h), is in order, which a self-test

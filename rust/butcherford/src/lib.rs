@@ -32,6 +32,7 @@
 //! [`read_capacity`](Device::read_capacity), and [`command`](Device::command) with a CDB of the
 //! caller's own. A device of profile 1 has more: [`read_16`](Device::read_16),
 //! [`write_16`](Device::write_16), [`flush_16`](Device::flush_16), [`prefetch`](Device::prefetch),
+//! [`verify`](Device::verify), [`compare`](Device::compare),
 //! [`send_diagnostic`](Device::send_diagnostic), [`read_capacity_16`](Device::read_capacity_16),
 //! [`inquiry_page`](Device::inquiry_page), [`mode_sense`](Device::mode_sense) and
 //! [`supported_operations`](Device::supported_operations).

@@ -118,6 +118,24 @@ pub fn write(lun: u8, tag: u8, address: u32, blocks: u16, fua: Fua) -> Result<[u
     written(|into, room| unsafe { sys::ufs_write(lun, tag, address, blocks, has_fua, into, room) })
 }
 
+/// The COMMAND of a VERIFY(10) of so many blocks of 4096 bytes, from this address on. Where it compares
+/// (BYTCHK 01), the device asks for the host's data block by block, as for a [`write()`]. Profile 1 has
+/// it.
+///
+/// # Errors
+///
+/// None: the room is as long as the message.
+pub fn verify(
+    lun: u8,
+    tag: u8,
+    address: u32,
+    blocks: u16,
+    compare: bool,
+) -> Result<[u8; HEADER_BYTES]> {
+    // SAFETY: as in `read`.
+    written(|into, room| unsafe { sys::ufs_verify(lun, tag, address, blocks, compare, into, room) })
+}
+
 /// The COMMAND of a SYNCHRONIZE CACHE(10). It is answered once all that was accepted before is
 /// durable, or at once where it is immediate.
 ///

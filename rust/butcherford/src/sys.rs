@@ -131,6 +131,15 @@ extern "C" {
         into: *mut u8,
         room: usize,
     ) -> u32;
+    pub fn ufs_verify(
+        lun: u8,
+        tag: u8,
+        address: u32,
+        blocks: u16,
+        compare: bool,
+        into: *mut u8,
+        room: usize,
+    ) -> u32;
     pub fn ufs_flush(lun: u8, tag: u8, immediate: bool, into: *mut u8, room: usize) -> u32;
     pub fn ufs_unmap(lun: u8, tag: u8, into: *mut u8, room: usize) -> u32;
     pub fn ufs_unmap_list(

@@ -131,6 +131,47 @@ fn commands_that_do_nothing() {
     device.send_diagnostic(0xD0, false).unwrap();
 }
 
+/// Blocks on the dies, in the write cache and never written can be read; past the end there are none.
+/// A command may have 32 blocks.
+#[test]
+fn blocks_are_verified() {
+    let mut device = ready_of_profile_1();
+    device.write(0, 0, &blocks(1, 40), Fua::Yes).unwrap();
+    device.write(0, 40, &blocks(41, 3), Fua::No).unwrap();
+    device.verify(0, 0, 64).unwrap();
+    for (address, count) in [(60, 5), (64, 1), (0, 65)] {
+        assert_eq!(device.verify(0, address, count), Err(refused(0x21)));
+    }
+    let long = device.command(0, &[0x2F, 0, 0, 0, 0, 0, 0, 0, 33], Data::None);
+    assert_eq!(long, Err(refused(0x24)));
+    assert_eq!(device.verify(0, u32::MAX, 2), Err(Error::BadNumber));
+}
+
+/// The same blocks are GOOD, and one other byte of the last one is a MISCOMPARE. Nothing is written, and a
+/// host that brings a block too few is refused.
+#[test]
+fn blocks_are_compared() {
+    let mut device = ready_of_profile_1();
+    device.write(0, 1, &blocks(1, 40), Fua::Yes).unwrap();
+    device.write(0, 41, &blocks(41, 3), Fua::No).unwrap();
+    let mut data = [vec![0; BLOCK], blocks(1, 43), vec![0; BLOCK]].concat();
+    device.compare(0, 0, &data).unwrap();
+    device.compare(0, 0, &[]).unwrap();
+    *data.last_mut().unwrap() = 1;
+    let miscompare = Error::CheckCondition {
+        key: 0x0E,
+        code: 0x1D,
+        qualifier: 0,
+    };
+    assert_eq!(device.compare(0, 0, &data), Err(miscompare));
+    assert_eq!(device.read(0, 44, 1).unwrap(), [0; BLOCK]);
+    assert_eq!(device.compare(0, 63, &data), Err(refused(0x21)));
+    assert_eq!(device.compare(0, 0, &data[1..]), Err(Error::BadNumber));
+    let cdb = [0x2F, 0x02, 0, 0, 0, 0, 0, 0, 2];
+    let short = device.command(0, &cdb, Data::Send(&data[..BLOCK]));
+    assert_eq!(short, Err(refused(0x24)));
+}
+
 #[test]
 fn a_capacity_of_64_bits() {
     let told = LongCapacity {
@@ -201,12 +242,13 @@ fn mode_pages() {
 }
 
 /// The commands of the table that a unit takes, and the bits of READ(10), which has DPO, FUA and a group
-/// number. A CDB has as many bytes as bits 7 to 5 of its operation code say.
+/// number, and of VERIFY(10), which has BYTCHK in place of FUA. A CDB has as many bytes as bits 7 to 5 of
+/// its operation code say.
 #[test]
 fn commands_that_are_told() {
     let codes = [
-        0x00, 0x03, 0x08, 0x0A, 0x12, 0x1A, 0x1D, 0x25, 0x28, 0x2A, 0x34, 0x35, 0x42, 0x5A, 0x88,
-        0x8A, 0x90, 0x91, 0x9E, 0xA0, 0xA3,
+        0x00, 0x03, 0x08, 0x0A, 0x12, 0x1A, 0x1D, 0x25, 0x28, 0x2A, 0x2F, 0x34, 0x35, 0x42, 0x5A,
+        0x88, 0x8A, 0x90, 0x91, 0x9E, 0xA0, 0xA3,
     ];
     let wanted = codes.map(|code| SupportedOperation {
         code,
@@ -221,6 +263,8 @@ fn commands_that_are_told() {
     assert_eq!(device.supported_operations(0), Ok(wanted.to_vec()));
     let read = bytes("2818ffffffff1fffff00");
     assert_eq!(device.supported_operation(0, 0x28, None), Ok(Some(read)));
+    let verify = bytes("2f12ffffffff1fffff00");
+    assert_eq!(device.supported_operation(0, 0x2F, None), Ok(Some(verify)));
     assert_eq!(device.supported_operation(0, 0x04, None), Ok(None));
     let told = device.supported_operation(0, 0x9E, None);
     assert_eq!(told, Err(refused(0x24)));
@@ -238,6 +282,8 @@ fn profile_0_tells_less() {
     assert_eq!(device.read_16(0, 7, 1), Err(refused(0x20)));
     assert_eq!(device.flush_16(0), Err(refused(0x20)));
     assert_eq!(device.prefetch(0, 0, 0), Err(refused(0x20)));
+    assert_eq!(device.verify(0, 0, 1), Err(refused(0x20)));
+    assert_eq!(device.compare(0, 0, &[0; BLOCK]), Err(refused(0x20)));
     assert_eq!(device.read_capacity_16(0), Err(refused(0x20)));
     assert_eq!(device.supported_operations(0), Err(refused(0x20)));
     let told = device.inquiry_page(0, VpdPage::SerialNumber);

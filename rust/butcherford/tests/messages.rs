@@ -3,7 +3,7 @@ mod common;
 
 use butcherford::messages::{
     ask, ask_for, flush, flush_16, link_event, nop, prefetch_16, query, read, read_16,
-    task_management, unmap, unmap_list, write, write_16, LinkReset,
+    task_management, unmap, unmap_list, verify, write, write_16, LinkReset,
 };
 use butcherford::messages::{command, data_out, response, Answer, Direction, Operation, Query};
 use butcherford::messages::{
@@ -120,6 +120,14 @@ fn commands_of_profile_1() {
         (
             prefetch_16(0, 7, 5, 512),
             "0100000700000000000000000000000090000000000000000005000002000000",
+        ),
+        (
+            verify(2, 7, 0x01020304, 5, false),
+            "010002070000000000000000000000002f000102030400000500000000000000",
+        ),
+        (
+            verify(2, 7, 0x01020304, 5, true),
+            "012002070000000000000000000050002f020102030400000500000000000000",
         ),
         (
             ask(Operation::ReadCapacity16, 0, 2, 32),

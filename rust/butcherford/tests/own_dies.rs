@@ -58,7 +58,12 @@ impl Die for Flash {
 
 /// A device over two such dies, which are blank.
 fn over(dies: &[Rc<RefCell<Flash>>; 2]) -> Device {
-    let mut device = Device::open(&Config::default(), &[Unit::new(64)]).unwrap();
+    over_by(&Config::default(), dies)
+}
+
+/// The same with this configuration.
+fn over_by(config: &Config, dies: &[Rc<RefCell<Flash>>; 2]) -> Device {
+    let mut device = Device::open(config, &[Unit::new(64)]).unwrap();
     let own = dies
         .iter()
         .map(|it| Box::new(Rc::clone(it)) as Box<dyn Die>);
@@ -113,11 +118,11 @@ fn a_program_that_fails_is_made_elsewhere() {
         .all(|it| it.borrow().failing <= Some(it.borrow().programs)));
 }
 
-/// A die read that failed for a READ gets 3/11/00.
+/// A die read that failed for a READ gets 3/11/00, and so does one for a VERIFY.
 #[test]
 fn a_read_that_fails_is_told() {
     let dies = [Flash::new(), Flash::new()];
-    let mut device = over(&dies);
+    let mut device = over_by(&Config::default().with_profile(1, 1), &dies);
     device.write(0, 0, &blocks(1, 1), Fua::Yes).unwrap();
     dies.iter()
         .for_each(|it| it.borrow_mut().cannot_read = true);
@@ -127,9 +132,12 @@ fn a_read_that_fails_is_told() {
         qualifier: 0,
     };
     assert_eq!(device.read(0, 0, 1), Err(sense));
+    assert_eq!(device.verify(0, 0, 1), Err(sense));
+    assert_eq!(device.compare(0, 0, &blocks(1, 1)), Err(sense));
     dies.iter()
         .for_each(|it| it.borrow_mut().cannot_read = false);
     assert_eq!(device.read(0, 0, 1).unwrap(), blocks(1, 1));
+    device.compare(0, 0, &blocks(1, 1)).unwrap();
 }
 
 /// The caller takes each job, does it, and ends it by `done`. A block is erased before it is programmed.

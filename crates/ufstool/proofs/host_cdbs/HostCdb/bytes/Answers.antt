@@ -25,5 +25,6 @@ returns-in_default c = c.bytes_of.ensures ∙ ap cdb_bytes c.meaning.ensures.is 
     plain (host.Write10 address blocks forced) e = refl
     plain (host.InquiryPage page allocation) e = refl
     plain (host.ReadCapacity16 allocation) e = refl
+    plain (host.Verify10 address blocks compared) e = refl
     plain (host.Prefetch10 address blocks) e = refl
     plain (host.SendDiagnostic tests) e = refl
