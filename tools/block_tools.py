@@ -51,7 +51,7 @@ SUITE = re.compile(r"^Suite: (\S+)$", re.MULTILINE)
 PASSED, SKIPPED, FAILED = "passed", "skipped", "failed"
 # The whole suite once: the other families are parts of this one.
 FAMILY = "ALL"
-SPLIT = ("Read6", "Read10")
+SPLIT = ("Read6", "Read10", "Verify10")
 UNIT = ("--units", "8192", "--slots", "1024")
 # Of the unit that a server has by itself.
 UNIT_BYTES = 8192 * 4096
@@ -182,7 +182,7 @@ def run_split() -> Tuple[int, int]:
     """Suites that go beyond 128 blocks, against a target that splits commands. No test of them may fail."""
     found = [it for suite in SPLIT for it in run_iscsi(f"{FAMILY}.{suite}", "--split")]
     counted = Counter(it.outcome for it in found)
-    print(f"iscsi-test-cu, commands split: {' and '.join(SPLIT)}: {counted[PASSED]} passed, "
+    print(f"iscsi-test-cu, commands split: {', '.join(SPLIT)}: {counted[PASSED]} passed, "
           f"{counted[FAILED]} failed, {counted[SKIPPED]} skipped")
     return counted[PASSED], counted[FAILED] + int(not found)
 

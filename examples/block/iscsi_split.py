@@ -1,4 +1,4 @@
-"""Long READs and WRITEs as several commands of the device, for initiators that do not keep to its limit.
+"""Long READs, WRITEs and VERIFYs as several commands of the device, for initiators that do not keep to its limit.
 
 A command of the device has at most `Device.most_blocks` blocks, and it refuses a longer one. With this
 between an initiator and the device the parts of a command follow one another. Each part is kept as a whole or
@@ -15,6 +15,7 @@ from errand import NO_TASK, STEPS_WHILE_BUSY
 from machine import Machine, Task
 
 READ_6, WRITE_6, READ_16, WRITE_16 = 0x08, 0x0A, 0x88, 0x8A
+OF_TEN = (messages.READ_10, messages.WRITE_10, messages.VERIFY_10)
 ADDRESS_6, ALL_OF_6 = 0x1FFFFF, 256
 UNDERFLOW, OVERFLOW = 0x20, 0x40
 
@@ -40,10 +41,10 @@ class Span(NamedTuple):
 
 
 def blocks_of(cdb: bytes) -> Optional[Span]:
-    """Address and count of a READ or a WRITE (SBC-3)."""
+    """Address and count of a READ, a WRITE or a VERIFY (SBC-3)."""
     if cdb[0] in (READ_6, WRITE_6):
         return Span(number_at(cdb, 1, 3) & ADDRESS_6, cdb[4] or ALL_OF_6)
-    if cdb[0] in (messages.READ_10, messages.WRITE_10):
+    if cdb[0] in OF_TEN:
         return Span(number_at(cdb, 2, 4), number_at(cdb, 7, 2))
     if cdb[0] in (READ_16, WRITE_16):
         return Span(number_at(cdb, 2, 8), number_at(cdb, 10, 4))
@@ -51,12 +52,17 @@ def blocks_of(cdb: bytes) -> Optional[Span]:
 
 
 def part_of(cdb: bytes, address: int, length: int) -> bytes:
-    """A part of a READ or a WRITE in the form of the whole one, or in that of ten bytes where it has six."""
+    """A part of a command in the form of the whole one, or in that of ten bytes where it has six."""
     if cdb[0] in (READ_16, WRITE_16):
         return cdb[:2] + big(address, 8) + big(length, 4) + cdb[14:]
-    if cdb[0] in (messages.READ_10, messages.WRITE_10):
+    if cdb[0] in OF_TEN:
         return cdb[:2] + big(address, 4) + cdb[6:7] + big(length, 2) + cdb[9:]
     return messages.blocks_cdb(messages.READ_10 if cdb[0] == READ_6 else messages.WRITE_10, address, length)
+
+
+def has_data(cdb: bytes) -> bool:
+    """Whether the blocks come or go as data: those of a VERIFY come only if it compares them."""
+    return cdb[0] != messages.VERIFY_10 or cdb[1] & messages.BYTCHK != 0
 
 
 def port_for(machine: Machine, cdb: bytes, flags: int, expected: int) -> Port:
@@ -109,7 +115,7 @@ class Parts:
     @property
     def _base(self) -> int:
         """Where its bytes begin in the data of the command."""
-        return self._start * BLOCK
+        return self._start * BLOCK if has_data(self._cdb) else 0
 
     def _begin(self) -> None:
         if not self._is_over:
@@ -145,7 +151,7 @@ class Parts:
 
     def _end(self, message: bytes, reply: messages.Reply) -> None:
         """The RESPONSE, with the residual of all parts: a command that failed moved what they moved."""
-        length = self._blocks.length * BLOCK
+        length = self._blocks.length * BLOCK if has_data(self._cdb) else 0
         if reply.status != messages.GOOD:
             length = self._base + self._expected_of_part() - reply.offset
         told = bytearray(message)

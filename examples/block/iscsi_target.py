@@ -20,7 +20,7 @@ def main() -> int:
     parser = argparse.ArgumentParser(description=__doc__,
                                      formatter_class=argparse.RawDescriptionHelpFormatter)
     add_options(parser)
-    parser.add_argument("--split", action="store_true", help="splits READs and WRITEs of more blocks than a "
+    parser.add_argument("--split", action="store_true", help="splits READs, WRITEs and VERIFYs of more blocks than a "
                         "command of the device may have; without it the device refuses them (5/24/00)")
     asked = parser.parse_args()
     sessions = Sessions()
