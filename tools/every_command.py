@@ -38,7 +38,7 @@ GOOD, CHECK = 0x00, 0x02
 NOT_READY, WRITE_ERROR, READ_ERROR = (2, 0x04, 1), (3, 0x0C, 0), (3, 0x11, 0)
 LIST_LENGTH, NO_OPERATION, OUT_OF_RANGE = (5, 0x1A, 0), (5, 0x20, 0), (5, 0x21, 0)
 NO_FIELD, NO_UNIT, NO_LIST_FIELD = (5, 0x24, 0), (5, 0x25, 0), (5, 0x26, 0)
-SEQUENCE, PROTECTED = (5, 0x2C, 0), (7, 0x27, 0)
+SEQUENCE, PROTECTED, MISCOMPARE = (5, 0x2C, 0), (7, 0x27, 0), (0x0E, 0x1D, 0)
 NOTHING_SAVED, TEST_FAILED = (5, 0x39, 0), (4, 0x3E, 3)
 NO_SENSE, ATTENTION, NOT_SIMPLE = (0, 0, 0), (6, 0x29, 0), (0x0B, 0x49, 0)
 # Of byte 1 of a COMMAND of profile 1: the priority, and the task attributes ORDERED, HEAD OF QUEUE and ACA.
@@ -48,6 +48,8 @@ SENSE, IDENTITY, READY = [0x03, 0, 0, 0, 18], [0x12, 0, 0, 0, 36], [0x00]
 # READ and WRITE by the length of their CDB.
 FORMS = {6: (0x08, 0x0A), 10: (0x28, 0x2A), 16: (0x88, 0x8A)}
 DPO, FUA, LAST_GROUP = 0x10, 0x08, 0x10
+# BYTCHK of a VERIFY: 01, and those that no device here takes, 10 and 11.
+COMPARED, UNKNOWN_CHECKS = 0x02, (0x04, 0x06)
 # Of profile 1 the pages of vital product data: how many bytes follow, and these. Of page 83h comes the LUN last.
 PAGES = {0x80: "0010" + f"{SERIAL:016x}".encode("ascii").hex(), 0x83: "000c01030008304653" + "76543210",
          0x87: "00043fff0000"}
@@ -58,10 +60,11 @@ MODE_PAGES = {0x01: ("010a80" + 9 * "00", "010a" + 10 * "00"), 0x08: ("081204" +
               0x0A: ("0a0a001000000000ffff0000", "0a0a" + 10 * "00")}
 # Each command that a unit takes, by the bits of its CDB that it looks at; service actions stand in byte 1.
 USAGES = ("000000000000", "03000000ff00", "081fffffff00", "0a1fffffff00", "1201ffffff00", "1a18ffffff00",
-          "1d1400000000", "25" + 9 * "00", "2818ffffffff1fffff00", "2a18ffffffff1fffff00", "3402ffffffff1fffff00",
-          "3502ffffffff1fffff00", "42000000000000ffff00", "5a18ffff000000ffff00", "8818" + 12 * "ff" + "1f00",
-          "8a18" + 12 * "ff" + "1f00", "9002" + 12 * "ff" + "1f00", "9102" + 12 * "ff" + "1f00",
-          "9e10" + 8 * "00" + 4 * "ff" + "0000", "a000ff000000ffffffff0000", "a30c87ffffffffffffff0000")
+          "1d1400000000", "25" + 9 * "00", "2818ffffffff1fffff00", "2a18ffffffff1fffff00", "2f12ffffffff1fffff00",
+          "3402ffffffff1fffff00", "3502ffffffff1fffff00", "42000000000000ffff00", "5a18ffff000000ffff00",
+          "8818" + 12 * "ff" + "1f00", "8a18" + 12 * "ff" + "1f00", "9002" + 12 * "ff" + "1f00",
+          "9102" + 12 * "ff" + "1f00", "9e10" + 8 * "00" + 4 * "ff" + "0000", "a000ff000000ffffffff0000",
+          "a30c87ffffffffffffff0000")
 ACTIONS = {0x9E: 0x10, 0xA3: 0x0C}
 # Faults of messages.
 SHORT, LENGTH, DIGEST, EHS, CODE, RESERVED, TAG_IN_USE, NOT_ASKED_FOR = 1, 2, 3, 4, 5, 6, 7, 8
@@ -117,6 +120,11 @@ def moving(is_write, form, address, count, option=0, group=0):
     if form == 10:
         return [code, option, *big(address, 4), group, *big(count, 2)]
     return [code, option, *big(address, 8), *big(count, 4), group]
+
+
+def verifying(address, count, option=0, group=0):
+    """The CDB of a VERIFY."""
+    return [0x2F, option, *big(address, 4), group, *big(count, 2)]
 
 
 class Script:
@@ -231,6 +239,21 @@ class Script:
             data = bytes([self.blocks[unit][address + index]]) * min(BLOCK, expected - BLOCK * index)
             self.reply(transfer(0x22, lun, tag, BLOCK * index, data))
         self.reply(response(lun, tag, expected, BLOCK * count))
+
+    def compare(self, unit, address, count, other=None, more=0, option=0, group=0):
+        """A VERIFY that compares blocks with those of the host, which are the same but this one of them; the host
+        expects so many bytes more than they have."""
+        expected = BLOCK * count + more
+        tag = self.command(unit, verifying(address, count, COMPARED | option, group), TO_DEVICE, expected)
+        for index in range(count):
+            self.settle(8)
+            self.reply(transfer(0x31, unit, tag, BLOCK * index, count=BLOCK))
+            byte = self.blocks[unit][address + index] ^ (index == other)
+            self.fill(transfer(0x02, unit, tag, BLOCK * index, bytes([byte]) * BLOCK), byte, BLOCK)
+            if index == other:
+                self.reply(response(unit, tag, expected, BLOCK * (index + 1), CHECK, MISCOMPARE))
+                return
+        self.reply(response(unit, tag, expected, BLOCK * count))
 
     def flush(self, lun, at_once=False, form=10, group=0):
         wide = bytes(4 if form == 10 else 12)
@@ -709,7 +732,7 @@ def capacity_16(unit):
 
 
 def ask_for_more(script):
-    """What else profile 1 takes: the capacity of 64 bits, self-tests, PRE-FETCH; and how it refuses them."""
+    """What else profile 1 takes: the capacity of 64 bits, self-tests, VERIFY, PRE-FETCH; and how it refuses them."""
     for unit in range(len(UNITS)):
         script.told(unit, [0x9E, 0x10, *bytes(8), *big(32, 4)], capacity_16(unit), 32)
     script.refused(NO_UNIT, BOOT, [0x9E, 0x10, *bytes(8), *big(32, 4)], TO_HOST, 32)
@@ -717,6 +740,15 @@ def ask_for_more(script):
         script.told(lun, [0x1D, option], b"", 0)
     script.refused(NO_FIELD, 0, [0x1D, 0x01])
     script.refused(NO_OPERATION, RPMB, [0x1D, 0x04])
+    # A VERIFY of blocks that were never written reads nothing.
+    for address, count, group in ((0, 16, 0), (47, 1, LAST_GROUP), (48, 0, 0)):
+        script.told(0, verifying(address, count, DPO, group), b"", 0)
+    script.refused(NO_FIELD, 0, verifying(0, 33))
+    for option in UNKNOWN_CHECKS:
+        script.refused(NO_FIELD, 0, verifying(0, 1, option), TO_DEVICE, BLOCK)
+    script.refused(NO_FIELD, 0, [0x2F, 0, *big(0, 4), LAST_GROUP + 1])
+    script.refused(OUT_OF_RANGE, 0, verifying(47, 2))
+    script.refused(NO_OPERATION, DEVICE, [0x2F])
     for address, count, group in ((0, 48, 0), (47, 1, LAST_GROUP), (3, 0, 0)):
         script.told(0, [0x34, 2, *big(address, 4), group, *big(count, 2)], b"", 0)
         script.told(0, [0x90, 0, *big(address, 8), *big(count, 4), group], b"", 0)
@@ -812,6 +844,35 @@ def move_more(script, number):
     script.refused(NO_FIELD, 0, [0x91, 0, *bytes(12), LAST_GROUP + 1])
 
 
+def compare_more(script, number):
+    """VERIFY with BYTCHK 01: of blocks that are the host's, in slots, on dies, discarded and never written; of blocks
+    that are not; and how it is refused."""
+    at = 5 * number + 20
+    for _ in range(2):
+        script.compare(0, at, 8, group=LAST_GROUP)
+        script.compare(0, at, 3, other=0)
+        script.compare(0, at, 3, other=1, option=DPO)
+        script.compare(0, at, 3, other=2, more=1)
+        script.unmap(0, at + 1, 2)
+        script.flush(DEVICE)
+    script.compare(2, 15, 1, more=BLOCK)
+    script.told(0, verifying(48, 0, COMPARED), b"", 16)
+    # Its blocks are those that were there at its COMMAND.
+    tag = script.command(0, verifying(at, 1, COMPARED), TO_DEVICE, BLOCK)
+    byte = script.blocks[0][at]
+    script.settle(8)
+    script.reply(transfer(0x31, 0, tag, 0, count=BLOCK))
+    script.write(0, at, 1, forced=True)
+    script.host(transfer(0x02, 0, tag, BLOCK, bytes(16)), NOT_ASKED_FOR)
+    script.fill(transfer(0x02, 0, tag, 0, bytes([byte]) * BLOCK), byte, BLOCK)
+    script.reply(response(0, tag, BLOCK, BLOCK))
+    for count, flags, expected in ((1, 0, BLOCK), (1, TO_HOST, BLOCK), (1, TO_DEVICE, BLOCK - 1), (2, TO_DEVICE, 0),
+                                   (33, TO_DEVICE, 33 * BLOCK)):
+        script.refused(NO_FIELD, 0, verifying(0, count, COMPARED), flags, expected)
+    script.refused(OUT_OF_RANGE, 0, verifying(47, 2, COMPARED), TO_DEVICE, 2 * BLOCK)
+    script.refused(NO_OPERATION, DEVICE, verifying(0, 1, COMPARED), TO_DEVICE, BLOCK)
+
+
 def boot_more(script):
     """What profile 1 tells of the unit that boots, and of a unit that is protected."""
     script.set_boot(1)
@@ -867,6 +928,7 @@ def play_round(script, number):
     move_blocks(script, number)
     if script.profile:
         move_more(script, number)
+        compare_more(script, number)
     if number % 4 == 1:
         unmap_in_vain(script)
     script.note("The replay protected memory block.")

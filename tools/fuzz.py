@@ -148,6 +148,7 @@ class Script:
         acts: Dict[Any, float] = {
             self.move: 7, self.flush: 1, self.unmap: 1, self.rpmb: 2, self.query: 1.5, self.manage: 1, self.inform: 1,
             self.hand_wrong: 0.7, self.fetch: 0.6 if self.profile[0] else 0.1, self.stop: 0.5, self.crowd: 0.5,
+            self.verify: 1.0 if self.profile[0] else 0.1, self.compare: 3 if self.profile[0] else 0.05,
             self.tread: 2.5, self.tear: 0.3, self.protect: 0.4, self.look: 1.2 if self.profile[0] else 0.2,
             self.initialize: 0.3, self.audit: 0.2}
         favoured = self.random.sample(list(acts)[:-1], 3)
@@ -294,6 +295,78 @@ class Script:
         count = self.random.choice((0, 1, blocks - address, blocks - address + 1, 0xFFFF))
         cdb = self.form(plain.FETCHES, 2 * self.chance(0.5), address, max(0, count))
         self.command(unit, cdb, self.random.choice((0, 0, plain.TO_HOST)), self.random.choice((0, 0, 0, 4096)))
+
+    def verify(self):
+        """A VERIFY of blocks, some of them beyond the unit; often they are compared with what the host sends."""
+        unit = self.random.randrange(len(self.units))
+        blocks = self.units[unit][0]
+        count = self.random.choice((1, 1, 2, 3, 7, self.most, 0, self.most + 1))
+        address = self.random.choice((0, self.random.randint(0, max(0, blocks - count)), blocks))
+        option = self.random.choice((0, 0, 0, 0x10, 0x10, 0x04, 0x06))
+        flags, expected = self.random.choice((0, 0, plain.TO_HOST)), self.random.choice((0, 0, 0, 4096))
+        if self.chance(0.6):
+            option |= plain.COMPARED
+            flags = self.random.choice((plain.TO_DEVICE,) * 12 + (0, plain.TO_HOST))
+            expected = 4096 * count + self.random.choice((0, 0, 0, 0, 1, 4096)) - self.cut(4096 * count)
+        self.command(unit, [plain.VERIFY, option, *big(address, 4), 0, *big(count, 2)], flags, expected)
+
+    def compare(self):
+        """A VERIFY that compares blocks, which were written before or not, with other things in between."""
+        unit, count = self.random.randrange(len(self.units)), self.random.choice((1, 2, 2, 3, 5))
+        address = self.random.randint(0, max(0, self.units[unit][0] - count))
+        numbers = [*big(address, 4), 0, *big(count, 2)]
+        if self.chance(0.4):
+            self.rest()
+        if self.chance(0.7):
+            self.overwrite(unit, numbers)
+        if self.chance(0.3):
+            self.rest()
+        tag = self.command(unit, [plain.VERIFY, plain.COMPARED, *numbers], plain.TO_DEVICE, 4096 * count)
+        for _ in range(6 * count):
+            it = self.world.open.get(tag)
+            if it is None:
+                break
+            if self.chance(0.2):
+                self.disturb(unit, numbers)
+            elif it.asked:
+                self.bring(it)
+            elif any(self.world.due(at)[1] == SURE for at in self.world.open.values()):
+                self.say("reply")
+            else:
+                self.work()
+
+    def overwrite(self, unit, numbers):
+        """A WRITE of the blocks of these bytes of a CDB, all of which come at once."""
+        length = 4096 * plain.number(bytes(numbers), 5, 2)
+        tag = self.command(unit, [plain.WRITE, 0, *numbers], plain.TO_DEVICE, length)
+        for _ in range(2 * length // 4096 + 4):
+            it = self.world.open.get(tag)
+            if it is None or it.replies:
+                break
+            if it.asked:
+                self.bring(it)
+            else:
+                self.say("reply")
+
+    def disturb(self, unit, numbers):
+        """What comes between the blocks of a VERIFY, the bytes of whose CDB are these."""
+        how = self.random.randrange(14)
+        if how < 4:
+            self.overwrite(unit, numbers)
+            if how < 2:
+                self.rest()
+        elif how < 6:
+            self.work()
+        elif how == 6:
+            self.stop()
+        elif how == 7:
+            self.send(header(plain.LINK_EVENT, five=self.random.choice((1, 2))))
+        elif how == 8:
+            self.command(unit, [plain.READ, 0, *numbers], plain.TO_HOST, 4096)
+        elif how < 11:
+            self.fail_late()
+        else:
+            self.do_one_of(self.manage, self.verify, self.move, self.rest)
 
     def unmap(self):
         unit = self.random.randrange(len(self.units))
@@ -484,16 +557,45 @@ class Script:
                 self.interrupt()
                 self.say(f"settle {MANY}")
 
+    def fail_late(self):
+        """The dies write what waits, and fail at what they then read."""
+        for die in 6 * [*range(self.config[0])]:
+            if die not in self.world.flight:
+                self.say(f"take {die}")
+            if die in self.world.flight:
+                self.say(f"done {die} {'fail' if self.world.flight[die][0] == 'read' else 'ok'}")
+
     # Replies, dies and stops
 
     def bring(self, it):
         """The DATA OUT that is asked for."""
         offset, count = it.asked
-        if it.code in plain.WRITES:
+        if it.compares:
+            data = self.near_block(it.compares[0][0])
+            if self.chance(0.06):
+                self.bring_wrong(it, data)
+        elif it.code in plain.WRITES:
             data = self.random.randbytes(count) if self.chance(0.02) else bytes([self.random.randrange(256)]) * count
         else:
             data = self.payload.get(it.tag, b"")[:count].ljust(count, b"\0")
         self.send(transfer(0x02, it.lun, it.tag, offset, data), 0.03)
+
+    def near_block(self, block):
+        """The block of a VERIFY, or at times another one: all of it, or a bit of it."""
+        if self.chance(0.85):
+            return block
+        if self.chance(0.3):
+            return bytes([self.random.randrange(256)]) * 4096
+        found, at = bytearray(block), self.random.choice((0, 4095, self.random.randrange(4096)))
+        found[at] ^= 1 << self.random.randrange(8)
+        return bytes(found)
+
+    def bring_wrong(self, it, data):
+        """A DATA OUT beside that which is asked for."""
+        offset, _ = it.asked
+        offset, count = self.random.choice(((offset + 4096, 4096), (max(0, offset - 4096), 4096), (offset + 1, 4096),
+                                            (offset, 2048), (offset + 2048, 2048)))
+        self.send(transfer(0x02, self.random.choice((it.lun, it.lun, 1)), it.tag, offset, data[:count]))
 
     def pump(self):
         """Takes what is due, and brings what is asked for, until nothing is left or the host gives up."""

@@ -3,9 +3,9 @@
 
 usage: linux.py [--no-build] [--no-install] [--cuts N] [--log FILE]
 
-The kernel is that of Debian's package linux-source-6.1 with clients/linux/virt-pci.patch, which changes the
-bus of user-mode Linux and not the driver. It is built once, in the folder butcherford/linux of the user's
-cache (XDG_CACHE_HOME, else ~/.cache), and again where the configuration, the patch or the package changed.
+The kernel is that of Debian's package linux-source-6.1 with the patches of clients/linux, which change
+user-mode Linux and not the driver. It is built once, in the folder butcherford/linux of the user's cache
+(XDG_CACHE_HOME, else ~/.cache), and again where the configuration, a patch or the package changed.
 The tests of the front run first, which need no kernel. Then the kernel runs over the device of the library:
 it finds the disks, discards blocks, makes a file system and writes it, and the power fails again and again
 inside a program or an erase while files are written. What is missing of Debian's packages is installed with

@@ -21,7 +21,7 @@ NO, MAY, SURE = range(3)
 TO_DEVICE, TO_HOST = 0x20, 0x40
 LIST, BOOT, RPMB, DEVICE = WELL_KNOWN = (0x81, 0xB0, 0xC4, 0xD0)
 GOOD, CHECK, BUSY, FULL = 0x00, 0x02, 0x08, 0x28
-WRITE_ERROR, READ_ERROR = (3, 0x0C, 0), (3, 0x11, 0)
+WRITE_ERROR, READ_ERROR, MISCOMPARE = (3, 0x0C, 0), (3, 0x11, 0), (0x0E, 0x1D, 0)
 NO_FIELD, NO_LIST_FIELD, NO_SEQUENCE, OUT_OF_RANGE = (5, 0x24, 0), (5, 0x26, 0), (5, 0x2C, 0), (5, 0x21, 0)
 NO_OPERATION, NOTHING_SAVED, TEST_FAILED = (5, 0x20, 0), (5, 0x39, 0), (4, 0x3E, 3)
 NO_SENSE, NO_UNIT, NOT_READY = (0, 0, 0), (5, 0x25, 0), (2, 0x04, 1)
@@ -49,7 +49,9 @@ class Row(NamedTuple):
 READY, SENSE, READ6, WRITE6, INQUIRY, CAPACITY = 0x00, 0x03, 0x08, 0x0A, 0x12, 0x25
 READ, WRITE, FLUSH, UNMAP, LUNS, SECURITY_IN, SECURITY_OUT = 0x28, 0x2A, 0x35, 0x42, 0xA0, 0xA2, 0xB5
 READ16, WRITE16, FLUSH16, FETCH, FETCH16, CAPACITY16 = 0x88, 0x8A, 0x91, 0x34, 0x90, 0x9E
-MODES6, MODES, DIAGNOSE, OPERATIONS = 0x1A, 0x5A, 0x1D, 0xA3
+MODES6, MODES, DIAGNOSE, OPERATIONS, VERIFY = 0x1A, 0x5A, 0x1D, 0xA3, 0x2F
+# Of byte 1 of a VERIFY: its blocks are compared with those that its host sends.
+COMPARED = 0x02
 SIX, TEN, LONG = ((1, 3), (4, 1), 0), ((2, 4), (7, 2), 6), ((2, 8), (10, 4), 14)
 WIDE = 12 * "ff" + "1f"
 ROWS = {
@@ -63,6 +65,7 @@ ROWS = {
     CAPACITY: Row("READ CAPACITY(10)", ("", ""), (BOOT,)),
     READ: Row("READ(10)", ("08ffffffff00ffff", "18ffffffff1fffff"), (BOOT,), *TEN),
     WRITE: Row("WRITE(10)", ("08ffffffff00ffff", "18ffffffff1fffff"), (), *TEN),
+    VERIFY: Row("VERIFY(10)", (None, "12ffffffff1fffff"), (), *TEN),
     FETCH: Row("PRE-FETCH(10)", (None, "02ffffffff1fffff"), (), *TEN),
     FLUSH: Row("SYNCHRONIZE CACHE(10)", ("02ffffffff00ffff", "02ffffffff1fffff"), (DEVICE,), *TEN),
     UNMAP: Row("UNMAP", ("000000000000ffff",) * 2, size=(7, 2)),
@@ -216,9 +219,10 @@ class Exchange:
         self.length = self.sent = self.claim = self.address = self.unit = 0
         # Replies are a message, the group that it waits for, the group that it acknowledges.
         self.replies: Tuple[Any, ...] = ()
-        self.blocks, self.wants, self.pages = (), (), ()
+        # Of the blocks of a VERIFY the groups that wrote them; of those that it compares their contents too.
+        self.blocks, self.wants, self.pages, self.checks, self.compares = (), (), (), (), ()
         self.asked, self.data, self.read, self.frames = None, b"", NO, ()
-        self.is_durable = self.passed = self.is_late = False
+        self.is_durable = self.passed = self.is_late = self.had_slot = False
 
     def response(self, status=GOOD, sense=None, length=None):
         """A RESPONSE, with the residual of a command that carried so many bytes."""
@@ -230,7 +234,7 @@ class Exchange:
 
     def end(self, status=GOOD, sense=None, length=None):
         """The command is answered at once."""
-        self.blocks = self.wants = self.pages = ()
+        self.blocks = self.wants = self.pages = self.checks = self.compares = ()
         self.claim = 0
         self.replies = ((self.response(status, sense, length), 0, 0),)
 
@@ -526,12 +530,12 @@ class World:
 
     def refusal_by_size(self, it, flags, count):
         """How a COMMAND is refused by how much it asks for, if it is."""
-        code, moves = it.code, it.code in READS + WRITES
+        code, moves = it.code, it.code in (*READS, *WRITES, VERIFY)
         if moves and count > most_blocks(self.config) or code in SECURITY and it.length not in range(512, 4097, 512):
             return CHECK, NO_FIELD
         if code == UNMAP and it.length not in (0, 8, 24):
             return CHECK, (5, 0x1A, 0)
-        sends, flags = code in (*WRITES, UNMAP, SECURITY_OUT), flags & ~(PRIORITY | ATTRIBUTE)
+        sends, flags = code in (*WRITES, VERIFY, UNMAP, SECURITY_OUT), flags & ~(PRIORITY | ATTRIBUTE)
         is_cut = self.profile and code in WRITES
         if it.length and (flags != (TO_DEVICE if sends else TO_HOST) or
                           sends and not is_cut and it.expected < it.length):
@@ -557,7 +561,8 @@ class World:
         if it.code in TELLS:
             size = len(self.told(it, cdb))
             return size if it.code == CAPACITY else min(count, size)
-        return BLOCK * count if it.code in READS + WRITES else count if it.code in (UNMAP, *SECURITY) else 0
+        moves = it.code in READS + WRITES or it.code == VERIFY and cdb[1] & COMPARED
+        return BLOCK * count if moves else count if it.code in (UNMAP, *SECURITY) else 0
 
     def is_refused_write(self, it, code):
         if not it.length or code not in (*WRITES, UNMAP) or code == UNMAP and it.length != 24:
@@ -599,10 +604,13 @@ class World:
             it.expected -= it.expected % BLOCK
         size = min(it.length, it.expected)
         if code in READS and size:
-            keys = [(it.unit, it.address + at) for at in range((size + BLOCK - 1) // BLOCK)]
-            it.blocks = tuple((self.plain.cells[it.unit][at], self.since.get((it.unit, at), 0)) for _, at in keys)
+            it.blocks = self.there(it, (size + BLOCK - 1) // BLOCK)
         elif code in WRITES and size:
             it.wants = tuple((at, BLOCK) for at in range(0, size, BLOCK))
+        elif code == VERIFY and it.length:
+            it.compares = self.there(it, it.length // BLOCK)
+        elif code == VERIFY and number(cdb, *ROWS[code].size):
+            it.checks = tuple(group for _, group in self.there(it, number(cdb, *ROWS[code].size)))
         elif code in (UNMAP, SECURITY_OUT) and it.length:
             it.wants = ((0, it.length),)
             it.passed = code == SECURITY_OUT
@@ -617,6 +625,11 @@ class World:
             self.response = None
         if code == SENSE:
             self.attentions.discard(it.lun)
+
+    def there(self, it, count):
+        """The first blocks of a command as they are now, and the groups that wrote them."""
+        return tuple((self.plain.cells[it.unit][at], self.since.get((it.unit, at), 0))
+                     for at in range(it.address, it.address + count))
 
     def told(self, it, cdb):
         """All that a command has to tell, whatever its allocation length."""
@@ -689,8 +702,12 @@ class World:
     def data(self, message):
         """A DATA OUT that was asked for."""
         it = self.open[message[3]]
-        it.data += message[32:32 + number(message, 10, 2)]
         it.asked = None
+        came = message[32:32 + number(message, 10, 2)]
+        if it.compares:
+            self.compare(it, came)
+            return
+        it.data += came
         if it.wants:
             return
         it.claim = 0
@@ -706,6 +723,18 @@ class World:
             it.end()
             if it.is_durable:
                 it.replies = ((it.response(), group, group),)
+
+    def compare(self, it, block):
+        """The next block of a VERIFY came."""
+        (content, _), *rest = it.compares
+        it.compares, it.read, it.sent = tuple(rest), NO, it.sent + BLOCK
+        # Of what a die still reads nobody needs to know.
+        self.flight = {die: (kind, at, None if owner == it.tag else owner)
+                       for die, (kind, at, owner) in self.flight.items()}
+        if block != content:
+            it.end(CHECK, MISCOMPARE, it.sent)
+        elif not rest:
+            it.end()
 
     def unmap(self, it):
         """The list of an UNMAP came."""
@@ -817,10 +846,15 @@ class World:
         if it.pages:
             is_on_dies = all(0 <= group <= self.low for group in it.pages)
             return it.response(), it.read or (NO if is_on_dies else MAY)
+        if it.checks:
+            return it.response(), min(self.reading(it, group) for group in it.checks)
         if it.blocks:
             content, group = it.blocks[0]
             data = content[:it.expected - it.sent]
             return transfer(0x22, it.lun, it.tag, it.sent, data), self.reading(it, group)
+        if it.compares and not it.asked:
+            _, group = it.compares[0]
+            return transfer(0x31, it.lun, it.tag, it.sent, count=BLOCK), self.reading(it, group)
         if it.wants and not it.asked:
             offset, count = it.wants[0]
             return transfer(0x31, it.lun, it.tag, offset, count=count), SURE
@@ -842,11 +876,15 @@ class World:
         elif it.pages:
             self.end_request(it)
             it.replies = ()
+        elif it.checks:
+            it.checks = ()
         elif it.blocks:
             it.sent += min(BLOCK, it.expected - it.sent)
             it.blocks, it.read = it.blocks[1:], NO
             if not it.blocks:
                 it.replies = ((it.response(), 0, 0),)
+        elif it.compares:
+            it.asked, it.had_slot = (it.sent, BLOCK), not 0 <= it.compares[0][1] <= self.low
         else:
             it.asked, it.wants = it.wants[0], it.wants[1:]
         if not (it.replies or it.blocks or it.wants or it.asked):
@@ -862,8 +900,14 @@ class World:
     # Dies
 
     def readers(self):
-        """The tasks for which a die may read."""
-        return [it for it in self.open.values() if it.pages or it.blocks and self.due(it)[1] != SURE]
+        """The tasks for whose next reply a die may read."""
+        return [it for it in self.open.values() if it.pages
+                or (it.blocks or it.checks or it.compares and not it.asked) and self.due(it)[1] != SURE]
+
+    def late(self):
+        """The groups of blocks that a die may read for a VERIFY which does not wait for them any more: they were in
+        slots when the host was asked for its own."""
+        return [it.compares[0][1] for it in self.open.values() if it.compares and it.asked and it.had_slot]
 
     def take(self, die, told):
         """A die asked for a job, and was told this."""
@@ -879,7 +923,7 @@ class World:
         owner = None
         if words[0] == "read":
             owners = self.readers()
-            if self.queue is not None and len(owners) == 1:
+            if self.queue is not None and len(owners) == 1 and not self.late():
                 owner = owners[0].tag
             elif not owners:
                 self.queue = None
@@ -917,12 +961,12 @@ class World:
 
     def was_read(self, tag):
         for it in self.readers():
-            is_its = it.tag == tag and not it.pages
+            is_its = it.tag == tag and not it.pages and not it.checks
             it.read = SURE if is_its else max(it.read, MAY)
 
     def was_not_read(self, tag):
         """A read failed: that of one of the tasks, or of a step of the device's own."""
-        found = [] if tag in self.open else [self.copy()]
+        found = [] if any(it.tag == tag for it in self.readers()) else [self.copy()]
         for owner in self.readers():
             if tag in (None, owner.tag):
                 world = self.copy()
@@ -1112,7 +1156,7 @@ class Model:
         """What a die is told, as it seems."""
         if die >= world.config[0] or die in world.flight:
             return "none"
-        if any(not it.read for it in world.readers()):
+        if any(not it.read for it in world.readers()) or any(0 < group <= world.low for group in world.late()):
             return "read 0 0"
         waits = world.queue if world.queue is not None else world.low < world.total
         block = next(it for it in range(world.config[1])

@@ -6,7 +6,7 @@ import every_command
 # Operation codes of commands in each profile, codes of messages that a host sends, functions of task management, and
 # opcodes of queries.
 OPERATIONS = {0x00, 0x03, 0x08, 0x0A, 0x12, 0x25, 0x28, 0x2A, 0x35, 0x42, 0xA0, 0xA2, 0xB5}
-MORE_OPERATIONS = OPERATIONS | {0x1A, 0x1D, 0x34, 0x5A, 0x88, 0x8A, 0x90, 0x91, 0x9E, 0xA3}
+MORE_OPERATIONS = OPERATIONS | {0x1A, 0x1D, 0x2F, 0x34, 0x5A, 0x88, 0x8A, 0x90, 0x91, 0x9E, 0xA3}
 MESSAGES = {0x00, 0x01, 0x02, 0x04, 0x16}
 FUNCTIONS = {0x01, 0x02, 0x04, 0x08, 0x80, 0x81}
 OPCODES = set(range(9))
@@ -82,6 +82,15 @@ class EveryCommand(unittest.TestCase):
 
     def test_each_attribute_of_profile_1_is_there(self):
         self.assertLessEqual({0, 1, 2, 3, 4}, {it[1] & 0x07 for it in self.heard(1) if it[0] == 0x01})
+
+    def test_each_bytchk_of_profile_1_is_there(self):
+        verifies = [it for it in self.heard(1) if it[0] == 0x01 and it[16] == 0x2F]
+        self.assertEqual({0x00, 0x02, 0x04, 0x06}, {it[17] & 0x06 for it in verifies})
+        tags = {it[3] for it in verifies if it[17] & 0x02}
+        answers = [it for it in self.told() if it[0] == 0x21 and it[3] in tags]
+        sense = {(it[36], it[46], it[47]) for it in answers if it[7] == 0x02}
+        self.assertLessEqual({(0x0E, 0x1D, 0x00), (0x05, 0x24, 0x00), (0x05, 0x21, 0x00)}, sense)
+        self.assertIn(0x00, {it[7] for it in answers})
 
     def test_the_device_is_initialized_until_it_is_mended(self):
         values = {(it[12], it[23]) for it in self.told() if it[0] == 0x36 and it[6] == 0 and it[13] == 1}

@@ -12,6 +12,9 @@ WRONG_NAMES = {"PASSING": (plain_host.SENSE, plain_host.INQUIRY), "ANYWHERE": (p
                "PRIORITY": 0x00, "NOT_READY": plain_host.NO_SENSE, "ATTENTION": plain_host.NO_SENSE}
 WRONG_RULES = {"has_attention": lambda world, lun: lun in world.attentions and lun != plain_host.DEVICE,
                "initializing": lambda world, is_set: 0, "has_lun": lambda world, lun: True}
+# The same of VERIFY.
+WRONG_NAMES_OF_VERIFY = {"MISCOMPARE": plain_host.READ_ERROR, "COMPARED": 0x00}
+WRONG_RULES_OF_VERIFY = {"compare": lambda world, it, block: it.end()}
 EXAMPLES = ("abort", "boot_setting", "every_command", "every_command_1", "failing_block", "flush", "gap",
             "link_event", "linux_host", "many_tasks", "profile_0", "profile_1", "read_before_write", "rpmb_counter",
             "stop_in_group", "stop_in_write", "unmap", "write_read")
@@ -66,6 +69,13 @@ class Fuzz(unittest.TestCase):
         lines, text = example("profile_1")
         wrong = [(plain_host, *it) for it in WRONG_NAMES.items()]
         for place, name, value in [*wrong, *[(plain_host.World, *it) for it in WRONG_RULES.items()]]:
+            with self.subTest(name), mock.patch.object(place, name, value):
+                self.assertIsNotNone(fuzz.judged(lines, text, "", 0))
+
+    def test_a_wrong_rule_of_verify_is_told(self):
+        lines, text = example("every_command_1")
+        wrong = [(plain_host, *it) for it in WRONG_NAMES_OF_VERIFY.items()]
+        for place, name, value in [*wrong, *[(plain_host.World, *it) for it in WRONG_RULES_OF_VERIFY.items()]]:
             with self.subTest(name), mock.patch.object(place, name, value):
                 self.assertIsNotNone(fuzz.judged(lines, text, "", 0))
 

@@ -211,6 +211,13 @@ fn write_6(tag: u8, second: u8) -> [u8; 32] {
     bytes
 }
 
+/// A VERIFY(10) of one block at address 1 with BYTCHK 01, which the host brings.
+fn compared(tag: u8) -> [u8; 32] {
+    let mut bytes = command(tag, 0x2F, 0x02, 1, 1);
+    bytes[1] = 0x20;
+    bytes
+}
+
 /// A life begins, without a key.
 fn begun(alloc: Global) -> Result<Journal, Fail> {
     Ok(Journal::new(alloc, config()?.numbers(), first_region()))
@@ -265,6 +272,29 @@ fn a_flush_holds_the_writes_before_it(rt: HostRuntime) -> Result<(), Fail> {
     expect_counts(&rt, &journal, 2, 0);
     journal.tell(&good(9));
     expect_counts(&rt, &journal, 2, 1);
+    Ok(())
+}
+
+/// The block that a VERIFY brings is compared, and not accepted; its GOOD holds nothing. A WRITE that is
+/// open beside it gets its own block alone.
+#[test]
+fn a_block_that_is_compared_is_not_accepted(rt: HostRuntime) -> Result<(), Fail> {
+    let alloc = rt.alloc();
+    let mut journal = begun(alloc)?;
+    journal.hear(alloc, &write_10(1, false))?;
+    journal.hear(alloc, &compared(2))?;
+    journal.hear(alloc, &block_out(2, 0, 0x22))?;
+    expect_counts(&rt, &journal, 0, 0);
+    journal.hear(alloc, &block_out(1, 0, 0x11))?;
+    expect_counts(&rt, &journal, 1, 0);
+    journal.tell(&good(2));
+    expect_counts(&rt, &journal, 1, 0);
+    // The tag of a WRITE that is answered is used again by a VERIFY.
+    journal.tell(&good(1));
+    journal.hear(alloc, &compared(1))?;
+    journal.hear(alloc, &block_out(1, 0, 0x33))?;
+    journal.tell(&failed(1));
+    expect_counts(&rt, &journal, 1, 0);
     Ok(())
 }
 

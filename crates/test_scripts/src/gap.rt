@@ -173,16 +173,16 @@ const JOBS: [(Step<'static>, [&str; 3]); 7] = [
 #[test]
 fn a_stop_in_each_job_of_a_mending_changes_nothing(rt: HostRuntime) {
     for (job, stops) in JOBS {
-        stops_in_mending(&rt, rt.alloc(), &[job], &stops);
+        stops_in_mending(&rt, rt.alloc(), job, stops);
     }
 }
 
 /// Each of these stops inside this job of a mending.
-fn stops_in_mending(rt: &impl Abort, alloc: Global, job: &[Step<'_>], stops: &[&str]) {
+fn stops_in_mending(rt: &impl Abort, alloc: Global, job: Step<'_>, stops: [&str; 3]) {
     for stop in stops {
         let mut script = Script::new(alloc);
         script.gap();
-        script.add(job);
+        script.add(&[job]);
         script.add(&[Lines(stop, "stop ok"), Settle("16")]);
         script.read_gap();
         script.run(rt);

@@ -55,4 +55,6 @@ mod unmap_lists;
 #[cfg(test)]
 mod unmapped;
 #[cfg(test)]
+mod verifies;
+#[cfg(test)]
 mod worked_rows;

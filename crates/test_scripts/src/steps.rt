@@ -4,7 +4,7 @@ use crate::scripts::{Outcome, Text};
 use Step::{
     Answer, AnswerOf, Block, BlockOf, Command, DataIn, Frames, FramesTo, Good, GoodFrames, Host,
     Lines, List, Manage, Managed, NopOut, Query, Refusal, Reply, Request, RequestTo, Response,
-    Send, SendTo, Settle, Told,
+    Send, SendAt, SendTo, Settle, Told,
 };
 use std::alloc::Global;
 use std::process::Abort;
@@ -69,6 +69,9 @@ pub enum Step<'a> {
     Send(&'a str, &'a str, usize),
     /// The data of the WRITE of one block to this LUN with this tag, the block being this byte.
     SendTo(&'a str, &'a str, &'a str),
+    /// One block of the data of the WRITE or VERIFY with this tag: its offset, and the byte. The device asks
+    /// for it by READY TO TRANSFER, and gets it by DATA OUT.
+    SendAt(&'a str, &'a str, &'a str),
     /// An UNMAP of unit 0 with this tag, and its list: the length of the list, and its bytes. The
     /// device asks for the list by READY TO TRANSFER, and gets it by DATA OUT.
     List(&'a str, &'a str, &'a str),
@@ -160,6 +163,7 @@ impl Script {
             ),
             Send(tag, byte, blocks) => self.send(tag, byte, blocks),
             SendTo(lun, tag, byte) => self.send_block(lun, tag, OFFSETS[0], byte),
+            SendAt(tag, offset, byte) => self.send_block("00", tag, offset, byte),
             List(tag, length, list) => self.list(tag, length, list),
             Manage(lun, tag, function, meant) => self.host(
                 &[
