@@ -16,14 +16,16 @@ import rpmb_frames
 
 FOLDER = Path(__file__).resolve().parent
 SOURCE = Path("/usr/src/linux-source-6.1.tar.xz")
-CONFIG, PATCH = FOLDER / "uml-ufs.config", FOLDER / "virt-pci.patch"
+CONFIG = FOLDER / "uml-ufs.config"
+PATCHES = (FOLDER / "virt-pci.patch", FOLDER / "um-xstate.patch")
 # Debian's packages, and of each a file or a program by which it is known.
 PACKAGES: Dict[str, Union[Path, str]] = {
     "linux-source-6.1": SOURCE, "flex": "flex", "bison": "bison", "bc": "bc", "cpio": "cpio", "gcc": "gcc",
     "make": "make", "xz-utils": "xz", "busybox-static": "busybox", "e2fsprogs": "mke2fs",
     "sg3-utils": "sg_raw"}
 # Programs of the guest, and the folder of each. All else is busybox.
-SG3_UTILS = ("sg_raw", "sg_reset", "sg_vpd", "sg_readcap", "sg_modes", "sg_opcodes", "sg_senddiag", "sg_luns")
+SG3_UTILS = ("sg_raw", "sg_reset", "sg_vpd", "sg_readcap", "sg_modes", "sg_opcodes", "sg_senddiag", "sg_luns",
+             "sg_verify")
 PROGRAMS = {"busybox": "bin", "mke2fs": "sbin", "e2fsck": "sbin", **dict.fromkeys(SG3_UTILS, "usr/bin")}
 SYSTEM_PATH = "/usr/local/sbin:/usr/local/bin:/usr/sbin:/usr/bin:/sbin:/bin"
 EMPTY_FOLDERS = ("proc", "sys", "dev", "mnt", "tmp", "tests", "rpmb")
@@ -70,11 +72,12 @@ def run_or_fault(words: Sequence[Any], advice: str, **how: Any) -> None:
 
 
 def kernel() -> Path:
-    """The kernel, which is built if there is none of this configuration, patch and source."""
+    """The kernel, which is built if there is none of this configuration, these patches and this source."""
     if not SOURCE.is_file():
         raise BuildFault(f"there is no {SOURCE}; install linux-source-6.1")
     source = str(SOURCE.stat().st_size).encode("ascii")
-    name = hashlib.sha256(CONFIG.read_bytes() + PATCH.read_bytes() + source).hexdigest()[:NAME_DIGITS]
+    texts = b"".join(it.read_bytes() for it in (CONFIG, *PATCHES))
+    name = hashlib.sha256(texts + source).hexdigest()[:NAME_DIGITS]
     found = cache() / name / "linux"
     if found.is_file():
         print(f"linux: the kernel is {found}", flush=True)
@@ -91,7 +94,8 @@ def build(folder: Path) -> Path:
     """Builds it in a folder. The configuration begins with nothing, to which that of the repository adds."""
     advice = "the kernel was not built, for what the lines above say"
     run_or_fault(["tar", "xJf", SOURCE, "-C", folder, "--strip-components=1"], advice)
-    run_or_fault(["patch", "-p1", "-i", PATCH], advice, cwd=folder)
+    for changes in PATCHES:
+        run_or_fault(["patch", "-p1", "-i", changes], advice, cwd=folder)
     make = ["nice", "-n", "10", "make", "-s", "ARCH=um"]
     run_or_fault([*make, f"KCONFIG_ALLCONFIG={CONFIG}", "allnoconfig"], advice, cwd=folder)
     run_or_fault([*make, f"-j{os.environ.get('JOBS', JOBS)}"], advice, cwd=folder)
