@@ -25,6 +25,8 @@ from vhost_user import PeerFault
 TAG_AT, LUN_AT, CDB_AT = 3, 2, 16
 # How many blocks the one descriptor in the list of an UNMAP names (SBC-3, "UNMAP command").
 UNMAPPED_AT = 16
+# VERIFY(10), whose data are compared and not written (SBC-3).
+VERIFY = 0x2F
 ABORT_TASK = 0x01
 TASK_MANAGEMENT_REQUEST = 0x04
 # What a host sends in its list of transfers.
@@ -162,6 +164,7 @@ class Front:
 
 
 def kept_by(request: bytes, data: bytes) -> int:
-    """How many blocks the write cache has by data that came: one of a WRITE, or all that an UNMAP names."""
-    return number_at(data, UNMAPPED_AT, 4) if request[CDB_AT] == UNMAP else 1
+    """How many blocks the write cache has by data that came: one of a WRITE, all that an UNMAP names, or none of a
+    VERIFY."""
+    return number_at(data, UNMAPPED_AT, 4) if request[CDB_AT] == UNMAP else int(request[CDB_AT] != VERIFY)
 

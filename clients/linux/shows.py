@@ -27,8 +27,9 @@ QUEUE = {"write_cache": ("write back", "Linux flushes the write cache"),
          "rotational": ("0", "Linux knows that nothing rotates"),
          "provisioning_mode": ("unmap", "Linux discards blocks by UNMAP"),
          "discard_max_bytes": (str(MOST_BLOCKS * BLOCK), f"an UNMAP has at most {MOST_BLOCKS} blocks")}
-# How sg_raw ends for CHECK CONDITION with UNIT ATTENTION, and for GOOD (sg3_utils, exit status).
-MET, GOOD = "6", "0"
+# How sg_raw ends for CHECK CONDITION with UNIT ATTENTION, and for GOOD, and sg_verify for MISCOMPARE (sg3_utils, exit
+# status).
+MET, GOOD, DIFFERS = "6", "0", "14"
 # The pages of vital product data: 00h, 80h, 83h, 87h, B0h, B1h and B2h.
 PAGES = 7
 # How many files the work writes, and how many of them stay.
@@ -77,7 +78,8 @@ class Bench:
     def boot(self, machine: Machine, test: str, title: str, cut: Optional[Cut] = None) -> Run:
         """Boots it with a test."""
         seconds = WORK_SECONDS if test == "work" else BOOT_SECONDS
-        run = machine.run(test, f"disks={len(UNITS)} files={FILES} kept={KEPT}", seconds, cut)
+        words = f"disks={len(UNITS)} files={FILES} kept={KEPT} most={MOST_BLOCKS}"
+        run = machine.run(test, words, seconds, cut)
         return self.tally.keep(title, run)
 
 
@@ -137,9 +139,11 @@ def show_tools(bench: Bench, machine: Machine) -> None:
              "provisioning": "with blocks that are discarded, and read as zeros then",
              "modes": "sg_modes shows the mode pages", "modes_6": "by MODE SENSE(6) too",
              "operations": "sg_opcodes shows the commands", "test": "sg_senddiag tests the unit",
-             "luns": "sg_luns shows the units"}
+             "luns": "sg_luns shows the units", "verify": "sg_verify has each block of a disk verified",
+             "compare": "and blocks compared with what was read of them"}
     for name, text in texts.items():
         bench.tally.count(run.words(name) == ["0"], text, run)
+    bench.tally.count(run.words("differ") == [DIFFERS], "and zeros are told to be other ones", run)
 
 
 def show_resets(bench: Bench, machine: Machine) -> None:

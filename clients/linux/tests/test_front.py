@@ -10,6 +10,8 @@ from front import Front
 from transfers import Buffer, Status, Transfer, TransferFault
 
 WRITE = bytes.fromhex("01200001000000000000000000001000 2a000000000000000100000000000000")
+# VERIFY(10) of five blocks with BYTCHK 01 (SBC-3).
+VERIFY = bytes.fromhex("01200001000000000000000000005000 2f020000000000000500000000000000")
 READY = bytes.fromhex("31000001000000000000000000000000 00001000") + bytes(12)
 GOOD = bytes.fromhex("21000001") + bytes(28)
 # The first READ(10) of a block behind an opening, and CHECK CONDITION 6/29/00 with an underflow of 1000h bytes
@@ -125,6 +127,17 @@ def test_the_dies_work_once_much_is_in_the_write_cache_alone(bench):
     bench.front.work()
     assert bench.device.heard[-1][32:] == UNMAP_LIST
     assert bench.controller.ended == [(7, GOOD, Status.SUCCESS)] and bench.device.worked == [0, 0]
+
+
+def test_what_a_verify_compares_is_not_in_the_write_cache(bench):
+    """Its host sends five blocks, and four may be there."""
+    bench.memory.write(0x12000, b"d" * 5 * 4096)
+    bench.device.jobs = [[Job(JobKind.PROGRAM, 0, 5, 0, b"", b"")]]
+    bench.front.begin(transfer_of([Buffer(0x12000, 5 * 4096)], VERIFY))
+    bench.device.replies = [READY[:12] + (4096 * at).to_bytes(4, "big") + READY[16:] for at in range(5)] + [GOOD]
+    bench.front.work()
+    assert [len(it) for it in bench.device.heard] == [32] + [32 + 4096] * 5
+    assert bench.controller.ended == [(7, GOOD, Status.SUCCESS)] and bench.device.worked == []
 
 
 def test_a_write_brings_its_data(bench):
