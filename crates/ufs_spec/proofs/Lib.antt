@@ -5,6 +5,7 @@ pub mod ConfigFacts
 pub mod Equalities
 pub mod Facts
 pub mod Lists
+pub mod ParameterTable
 pub mod PlainFacts
 pub mod ReadBack
 pub mod RegionPages

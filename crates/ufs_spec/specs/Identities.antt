@@ -20,15 +20,23 @@ use Rattle.ufs_spec.specs.declared.operations.TheConstants.{COMMANDS}
 abbrev pub device_type : ℕ → ℕ
 device_type lun = if nat_lt lun 8 then 0x00 else 0x1E
 
--- what INQUIRY tells, 36 bytes (SPC, standard INQUIRY data): this device type; version 06h and response format 02h; how many bytes follow; then vendor `PROFILE `, product `UFS PROFILE 2.1 ` and
--- revision `0001`
+-- the names that a device tells (this profile): vendor `PROFILE `, product `UFS PROFILE 2.1 ` and revision `0001`
+abbrev pub vendor_name : List ℕ
+vendor_name = 0x50 ∷ 0x52 ∷ 0x4F ∷ 0x46 ∷ 0x49 ∷ 0x4C ∷ 0x45 ∷ 0x20 ∷ []
+
+abbrev pub product_name : List ℕ
+product_name =
+    (0x55 ∷ 0x46 ∷ 0x53 ∷ 0x20 ∷ 0x50 ∷ 0x52 ∷ 0x4F ∷ 0x46 ∷ 0x49 ∷ 0x4C ∷ 0x45 ∷ 0x20 ∷ 0x32 ∷ 0x2E ∷ 0x31 ∷ 0x20
+    ∷ [])
+
+abbrev pub revision : List ℕ
+revision = 0x30 ∷ 0x30 ∷ 0x30 ∷ 0x31 ∷ []
+
+-- what INQUIRY tells, 36 bytes (SPC, standard INQUIRY data): this device type; version 06h and response format 02h; how
+-- many bytes follow; then vendor, product and revision
 abbrev pub inquiry_bytes : (type : ℕ) → List ℕ
 inquiry_bytes type =
-    (type ∷ 0 ∷ 0x06 ∷ 0x02 ∷ 0x1F ∷ 0 ∷ 0 ∷ 0x02 ∷ [])
-    ++ (0x50 ∷ 0x52 ∷ 0x4F ∷ 0x46 ∷ 0x49 ∷ 0x4C ∷ 0x45 ∷ 0x20 ∷ [])
-    ++ (0x55 ∷ 0x46 ∷ 0x53 ∷ 0x20 ∷ 0x50 ∷ 0x52 ∷ 0x4F ∷ 0x46 ∷ 0x49 ∷ 0x4C ∷ 0x45 ∷ 0x20 ∷ 0x32 ∷ 0x2E ∷ 0x31 ∷ 0x20
-    ∷ [])
-    ++ (0x30 ∷ 0x30 ∷ 0x30 ∷ 0x31 ∷ [])
+    (type ∷ 0 ∷ 0x06 ∷ 0x02 ∷ 0x1F ∷ 0 ∷ 0 ∷ 0x02 ∷ []) ++ vendor_name ++ product_name ++ revision
 
 -- an entry of REPORT LUNS: two bytes that name a unit, and six zeros (SPC)
 abbrev pub unit_entry : ℕ → ℕ → List ℕ

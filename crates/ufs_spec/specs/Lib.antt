@@ -8,6 +8,7 @@ pub mod Commands
 pub mod Configs
 pub mod Counting
 pub mod DataOuts
+pub mod Descriptors
 pub mod DieLaws
 pub mod Dies
 pub mod Disk

@@ -9,10 +9,12 @@ use Rattle.ufs_spec.specs.Refusals.{State, numbers_of}
 use Rattle.ufs_spec.specs.declared.volatile.TheConstants.Volatile.{NEW}
 use Rattle.ufs_spec.specs.declared.volatile.Volatile.{Volatile}
 
--- what is volatile is as when a life begins, so that each LUN has an attention. The units that are protected until the
--- next power cycle stay so, unless it was a hardware reset (01h), which stands for one
+-- what is volatile is as when a life begins, so that each LUN has an attention; but the frequency of the clock stays as it
+-- is. The units that are protected until the next power cycle stay so, unless it was a hardware reset (01h), which stands
+-- for one
 abbrev pub volatile_reset : (kind : ℕ) → Volatile → Volatile
-volatile_reset kind volatile = record NEW { power_on = volatile.power_on && not (kind == 0x01) }
+volatile_reset kind volatile =
+    record NEW { power_on = volatile.power_on && not (kind == 0x01); clock = volatile.clock }
 
 -- all tasks are aborted: what they had accepted stays accepted, and what they claimed is given back. Short exchanges are
 -- gone without their replies, and all registers of the RPMB are empty. What was accepted, the dies and their jobs, and

@@ -12,6 +12,7 @@ mod flash;
 mod layer;
 mod messages;
 pub mod operations;
+mod parameters;
 mod plain_device;
 mod scsi;
 mod volatile;
@@ -29,6 +30,7 @@ pub use flash::{
 pub use layer::{Looked, Name, Reader};
 pub use messages::{Asked, Data, Message};
 pub use operations::{COMMANDS, Fields, Kind, Layout, Row, Takers, Told};
+pub use parameters::{Access, Class, Indexes, PARAMETERS, Parameter};
 pub use plain_device::{PlainDevice, after_joined_commands, commands_keep_the_shape};
 pub use scsi::{Cdb, Sense};
 pub use ufs_bytes::{Block, Upiu, read_u16, read_u32, read_u64, write_u16, write_u32, write_u64};

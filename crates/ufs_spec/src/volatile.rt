@@ -12,6 +12,14 @@ pub struct Volatile {
     /// fDeviceInit was set (JESD220, 14.2). A device of profile 0 has nothing to initialize, and keeps
     /// no note of it.
     pub initializing: bool,
+    /// bActiveICCLevel: the greatest current that the host allows while the device is active (JESD220,
+    /// 14.3). The device draws none that it knows of.
+    pub current_level: u8,
+    /// bRefClkFreq: the frequency of the reference clock (JESD220, 14.3), which is the link's.
+    pub clock: u8,
+    /// fBackgroundOpsEn: the device may do background operations (JESD220, 14.2). It does those alone that
+    /// it needs for room, whatever this says.
+    pub background: bool,
     /// Which LUNs have a unit attention that no host was told of (SAM): those of the units by their
     /// numbers, and then 81h, B0h, C4h and D0h. A device of profile 0 tells none.
     pub attentions: [bool; LUNS],
@@ -22,6 +30,9 @@ impl Volatile {
     pub const NEW: Volatile = Volatile {
         power_on: false,
         initializing: false,
+        current_level: 0,
+        clock: 1,
+        background: true,
         attentions: [true; LUNS],
     };
 }
