@@ -3,3 +3,4 @@ pub mod QueryReplies
 pub mod ResponseFrames
 pub mod ShortReplies
 pub mod TaskReplies
+pub mod VolatileWords

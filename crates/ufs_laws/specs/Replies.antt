@@ -8,6 +8,7 @@ use Rattle.ufs_spec.specs.declared.exchanges.Status.{Status}
 use Rattle.ufs_spec.specs.Keys.{IsBlock}
 use Rattle.ufs_spec.specs.Messages.{IsByte, IsMessage, IsTransferred}
 use Rattle.ufs_spec.specs.Refusals.{State}
+use Rattle.ufs_spec.specs.declared.volatile.Volatile.{Volatile}
 
 -- the sense data are bytes
 abbrev pub IsStatus : Status → Type 0
@@ -44,6 +45,12 @@ pub record ShortSpeaks (short : Short) : Type 0 where
   pub reply : IsMessage short.reply
   pub locked_reply : IsMessage short.locked_reply
 
--- each short exchange that is open
-abbrev pub ShortsSpeak : State → Type 0
-ShortsSpeak s = All ShortSpeaks s.shorts
+-- what is volatile fits the field in which a response tells it
+pub record VolatileFits (volatile : Volatile) : Type 0 where
+  pub level : volatile.current_level < 2 ^ 32
+  pub clock : volatile.clock < 2 ^ 32
+
+-- each short exchange that is open does so, and so will each that a query opens
+pub record ShortsSpeak (s : State) : Type 0 where
+  pub shorts : All ShortSpeaks s.shorts
+  pub volatile : VolatileFits s.volatile

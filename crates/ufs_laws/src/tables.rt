@@ -5,7 +5,8 @@ ghost use Rattle.ufs_spec.specs.Cdbs.{fixed_sense};
 ghost use Rattle.ufs_spec.specs.Commands.{Command};
 ghost use Rattle.ufs_spec.specs.Exchanges.{Registers};
 ghost use Rattle.ufs_spec.specs.Plain.{Plain};
-ghost use Rattle.ufs_spec.specs.Queries.{query_code, unit_descriptor};
+ghost use Rattle.ufs_spec.specs.Descriptors.{unit_descriptor};
+ghost use Rattle.ufs_spec.specs.Queries.{query_code};
 ghost use Rattle.ufs_spec.specs.Frames.{Frame};
 ghost use Rattle.ufs_spec.specs.Rpmb.{Region, Results, rpmb_outcome};
 

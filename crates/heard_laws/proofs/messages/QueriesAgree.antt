@@ -40,7 +40,7 @@ some_operation q c e = by (q.asked.opcode == 0) refl
   where
     by : (b : Bool) → (q.asked.opcode == 0) ≡ b → b ≡ false
     by true k =
-        absurd (none-some c (ap (λ (o : ℕ). if o == 4 then Some (SetBoot q.value)
+        absurd (none-some c (ap (λ (o : ℕ). if (o == 4) && (q.asked.idn == 0x00) then Some (SetBoot q.value)
         else if (o == 6) && (q.asked.idn == 0x02) then Some SetPermanent else None)
         (sym (eqb-true q.asked.opcode 0 k)) ∙ e))
     by false k = refl

@@ -16,7 +16,7 @@ use Rattle.ufs_spec.specs.Frames.{Frame}
 use Rattle.ufs_spec.specs.Keys.{area_page}
 use Rattle.ufs_spec.specs.Machine.{deed_after, with_block}
 use Rattle.ufs_spec.specs.Plain.{Region, empty_region}
-use Rattle.ufs_spec.specs.Queries.{Query, sets_permanent, setting_of}
+use Rattle.ufs_spec.specs.Queries.{Query, sets_permanent, setting_of, writes_boot}
 use Rattle.ufs_laws.proofs.exchanges.DeedLaws.{IsDeedLaw, filled_keeps, goes, locks, read_keeps, reads}
 use Rattle.ufs_laws.proofs.walk.WaysOfData.{IsAccepted, IsAcceptedDeed}
 use Rattle.power_loss.proofs.open_tasks.TaggedLists.{each_weaker}
@@ -86,7 +86,7 @@ accepts_same s c claimed none =
 
 -- a setting of a query names none
 pub setting_none : (q : Query) (c : Command) → setting_of q ≡ Some c → NamesNone c
-setting_none q c e = by (q.asked.opcode == 4) (sets_permanent q) e
+setting_none q c e = by (writes_boot q) (sets_permanent q) e
   where
     by : (a b : Bool) →
         (if a then Some (SetBoot q.value) else if b then Some SetPermanent else None) ≡ Some c → NamesNone c

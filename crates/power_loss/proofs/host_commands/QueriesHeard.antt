@@ -8,11 +8,13 @@ use Rattle.power_loss.proofs.MachineWords.{locked, mended, numbers_of, plain_now
 use Rattle.std.specs.Prelude.{if◌then◌else◌}
 use Rattle.std.proofs.lemmas.List.{map-id}
 use Rattle.ufs_spec.proofs.ConfigFacts.{command_blocks-some}
+use Rattle.ufs_spec.proofs.ParameterTable.{boot_value}
 use Rattle.ufs_spec.specs.Commands.{SetBoot, SetPermanent}
 use Rattle.ufs_spec.specs.Keys.{keys}
 use Rattle.ufs_spec.specs.Queries.{Query, QueryLine, first_code, has_wrong_index, has_wrong_idn, has_wrong_opcode}
-use Rattle.ufs_spec.specs.Queries.{has_wrong_size, has_wrong_value, is_not_writable, is_shut, query_line}
-use Rattle.ufs_spec.specs.Queries.{setting_of, sets_permanent, volatile_after}
+use Rattle.ufs_spec.specs.Queries.{has_wrong_selector, has_wrong_size, has_wrong_value, is_not_readable, is_not_writable}
+use Rattle.ufs_spec.specs.Queries.{is_shut, query_line, setting_of, sets_permanent, volatile_after, was_written}
+use Rattle.ufs_spec.specs.Queries.{writes_boot}
 use Rattle.ufs_spec.specs.QueryAnswers.{may_set, query_done, query_failed, query_heard, query_passed, setting_accepted}
 use Rattle.ufs_laws.proofs.walk.Happenings.{code_of_query}
 use Rattle.ufs_laws.proofs.walk.SmallChanges.{Accepts, Both, One, same_task}
@@ -32,7 +34,7 @@ line_passed false code rest other e = (refl, e)
 
 -- what the table lets through: a value in its range, and a setting only while one may come
 record IsLetThrough (s : State) (q : Query) : Type 0 where
-  value : has_wrong_value q ≡ false
+  value : has_wrong_value (numbers_of s) q ≡ false
   open_now : is_shut (may_set s) q ≡ false
 
 let_through : (s : State) (q : Query) → (code_of_query s q == 0x00) ≡ true → (q.asked.opcode == 0) ≡ false →
@@ -45,24 +47,26 @@ let_through s q code some =
     sym (ap (λ (x : ℕ). x == 0) (cond-false (q.asked.opcode == 0) 0x00 (first_code (lines s q)) some)) ∙ one.1 in
     let three = line_passed (has_wrong_idn n q) 0xFD _ refl two in
     let four = line_passed (has_wrong_index n q) 0xFC _ refl three.1 in
-    let five = line_passed (not (q.asked.selector == 0)) 0xFB _ refl four.1 in
-    let six = line_passed (is_not_writable q) 0xF7 _ refl five.1 in
-    let seven = line_passed (has_wrong_size q) 0xF9 _ refl six.1 in
-    let eight = line_passed (has_wrong_value q) 0xFA _ refl seven.1 in
-    let nine = line_passed (sets_permanent q && p.permanent) 0xF8 _ refl eight.1 in
-    let ten = line_passed (is_shut (may_set s) q) 0xFF _ refl nine.1 in
-    record { value = eight.0; open_now = ten.0 }
+    let five = line_passed (has_wrong_selector n q) 0xFB _ refl four.1 in
+    let six = line_passed (is_not_readable n q) 0xF6 _ refl five.1 in
+    let seven = line_passed (is_not_writable n q) 0xF7 _ refl six.1 in
+    let eight = line_passed (has_wrong_size q) 0xF9 _ refl seven.1 in
+    let nine = line_passed (has_wrong_value n q) 0xFA _ refl eight.1 in
+    let ten = line_passed (was_written p q) 0xF8 _ refl nine.1 in
+    let eleven = line_passed (is_shut (may_set s) q) 0xFF _ refl ten.1 in
+    record { value = nine.0; open_now = eleven.0 }
   where
     -- the lines from the third on
     lines : State → Query → List QueryLine
     lines s q =
         query_line (has_wrong_idn (numbers_of s) q) 0xFD
         ∷ query_line (has_wrong_index (numbers_of s) q) 0xFC
-        ∷ query_line (not (q.asked.selector == 0)) 0xFB
-        ∷ query_line (is_not_writable q) 0xF7
+        ∷ query_line (has_wrong_selector (numbers_of s) q) 0xFB
+        ∷ query_line (is_not_readable (numbers_of s) q) 0xF6
+        ∷ query_line (is_not_writable (numbers_of s) q) 0xF7
         ∷ query_line (has_wrong_size q) 0xF9
-        ∷ query_line (has_wrong_value q) 0xFA
-        ∷ query_line (sets_permanent q && (plain_now s).permanent) 0xF8
+        ∷ query_line (has_wrong_value (numbers_of s) q) 0xFA
+        ∷ query_line (was_written (plain_now s) q) 0xF8
         ∷ query_line (is_shut (may_set s) q) 0xFF
         ∷ []
 
@@ -97,15 +101,15 @@ open_told (Some d) true e h = refl
 open_told (Some d) false e h = absurd (true≢false h)
 
 setting_told : (s : State) (q : Query) (c : Command) → IsLetThrough s q → setting_of q ≡ Some c → IsSetting s c
-setting_told s q c t e = by (q.asked.opcode == 4) (sets_permanent q) refl e
+setting_told s q c t e = by (writes_boot q) (sets_permanent q) refl e
   where
     may : (is_mended s.translation.work.mending ≡ true) × (locked s ≡ false) × (1 ≤ free_slots s.translation)
     may = may_told s (open_told (setting_of q) (may_set s) e t.open_now)
 
-    boot : (q.asked.opcode == 4) ≡ true → q.value ≤ 2
-    boot k = ltb-false 2 q.value (sym (ap (λ (b : Bool). b && nat_lt 2 q.value) k) ∙ t.value)
+    boot : writes_boot q ≡ true → q.value ≤ 2
+    boot k = boot_value (numbers_of s) q k t.value
 
-    by : (a b : Bool) → (q.asked.opcode == 4) ≡ a →
+    by : (a b : Bool) → writes_boot q ≡ a →
         (if a then Some (SetBoot q.value) else if b then Some SetPermanent else None) ≡ Some c → IsSetting s c
     by true b k h = subst (IsSetting s) (same_Some (SetBoot q.value) c h)
         (record { is = tt; can = (boot k, tt); few = refl; is_mended = may.0; unlocked = may.1; room = may.2 })

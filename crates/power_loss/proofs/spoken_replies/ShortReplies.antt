@@ -24,7 +24,7 @@ use Rattle.power_loss.proofs.lives.EachEventKeeps.{one_event}
 use Rattle.ufs_laws.proofs.exchanges.ReplySizes.{reply_speaks, response_fits, size}
 use Rattle.ufs_laws.proofs.exchanges.SpokenCalls.{spoken}
 use Rattle.ufs_laws.proofs.exchanges.AbortedTasks.{every_at}
-use Rattle.ufs_laws.specs.Replies.{ShortSpeaks, ShortsSpeak}
+use Rattle.ufs_laws.specs.Replies.{ShortSpeaks, ShortsSpeak, VolatileFits}
 use Rattle.ufs_spec.specs.Exchanges.{number_of}
 use Rattle.ufs_spec.specs.Machine.{NoEvent, aborts, is_named, service_found}
 use Rattle.ufs_spec.specs.Refusals.{mended}
@@ -33,25 +33,30 @@ use Rattle.ufs_spec.specs.declared.messages.Message.TheVariants as message
 use Rattle.power_loss.proofs.open_tasks.OpenExchanges.{data_leaves, opened_adds, replied_leaves}
 use Rattle.power_loss.proofs.kept_promises.ShortExchangesEnd.{ends_shorts, given_shorts, managed_shorts}
 use Rattle.power_loss.proofs.spoken_replies.QueryReplies.{FewUnits, IsAskedWell, byte_if, code_is, done_is, failed_is}
+use Rattle.power_loss.proofs.spoken_replies.VolatileWords.{asked_fits, call_fits}
 
 -- Lists of short exchanges
 
-same_speak : (s t : State) → t.shorts ≡ s.shorts → ShortsSpeak s → ShortsSpeak t
+-- each of them speaks, whatever is volatile
+abbrev EachSpeaks : State → Type 0
+EachSpeaks s = All ShortSpeaks s.shorts
+
+same_speak : (s t : State) → t.shorts ≡ s.shorts → EachSpeaks s → EachSpeaks t
 same_speak s t e h = subst (All ShortSpeaks) (sym e) h
 
 -- one is opened
-one_speaks : (s : State) (tag : ℕ) (m : Message) → IsMessage m → ShortsSpeak s →
-    ShortsSpeak (with_short s (short_reply tag m))
+one_speaks : (s : State) (tag : ℕ) (m : Message) → IsMessage m → EachSpeaks s →
+    EachSpeaks (with_short s (short_reply tag m))
 one_speaks s tag m is h = All-append ShortSpeaks s.shorts (short_reply tag m ∷ []) h
     (All-cons ShortSpeaks (short_reply tag m) [] (record { reply = is; locked_reply = is }) (All-nil ShortSpeaks))
 
 -- A COMMAND
 
-command_speaks : (s : State) (r : Request) → IsMessage (response r.lun r.tag r.expected 0 TaskSetFull) → ShortsSpeak s →
-    ShortsSpeak (command_taken s r)
+command_speaks : (s : State) (r : Request) → IsMessage (response r.lun r.tag r.expected 0 TaskSetFull) → EachSpeaks s →
+    EachSpeaks (command_taken s r)
 command_speaks s r is h = by (nat_le most_tasks (length s.tasks))
   where
-    by : (b : Bool) → ShortsSpeak
+    by : (b : Bool) → EachSpeaks
         (if b then with_short s (short_reply r.tag (response r.lun r.tag r.expected 0 TaskSetFull))
         else refused_or_begun s r (refusal s r))
     by true = one_speaks s r.tag (response r.lun r.tag r.expected 0 TaskSetFull) is h
@@ -72,7 +77,7 @@ service_byte s lun function meant = byte_if (is_none (lun_of (numbers_of s) lun)
 -- A QUERY REQUEST
 
 query_speaks : (s : State) (tag : ℕ) (q : Query) → IsTied s → IsAskedWell tag q → ShortsSpeak s →
-    ShortsSpeak (query_heard s tag q)
+    EachSpeaks (query_heard s tag q)
 query_speaks s tag q v is h = by ((code_of_query s q == 0x00) && not (q.asked.opcode == 0)) refl
   where
     units : FewUnits (numbers_of s)
@@ -82,22 +87,24 @@ query_speaks s tag q v is h = by ((code_of_query s q == 0x00) && not (q.asked.op
         (omega arith, r.each_unit)
 
     passed : (o : Option Command) → setting_of q ≡ o → (code_of_query s q == 0x00) ≡ true →
-        (q.asked.opcode == 0) ≡ false → ShortsSpeak (query_passed s tag q o)
+        (q.asked.opcode == 0) ≡ false → EachSpeaks (query_passed s tag q o)
     passed None e code some =
         let volatile = volatile_after (numbers_of s) (mended s) s.volatile q in
         one_speaks s tag (query_done (numbers_of s) (plain_now s) volatile tag q)
-        (done_is (numbers_of s) (plain_now s) volatile tag q is units (plain_tied v).boot_bound) h
+        (done_is (numbers_of s) (plain_now s) volatile tag q is units (plain_tied v).boot_bound
+        (asked_fits (numbers_of s) (mended s) s.volatile q is.value h.volatile)) h.shorts
     passed (Some c) e code some =
         let told = setting_is s q c code some e in
         let plain = kept_plain (plain_now s) c (plain_tied v) told.is told.can in
-        All-append ShortSpeaks s.shorts (setting_short s tag q c ∷ []) h
+        All-append ShortSpeaks s.shorts (setting_short s tag q c ∷ []) h.shorts
         (All-cons ShortSpeaks (setting_short s tag q c) [] (record {
-          reply = done_is (numbers_of s) (apply (plain_now s) c) s.volatile tag q is units plain.boot_bound;
+          reply =
+              done_is (numbers_of s) (apply (plain_now s) c) s.volatile tag q is units plain.boot_bound h.volatile;
           locked_reply = failed_is tag q 0xFF is (omega arith);
         }) (All-nil ShortSpeaks))
 
     by : (b : Bool) → ((code_of_query s q == 0x00) && not (q.asked.opcode == 0)) ≡ b →
-        ShortsSpeak (if b then query_passed s tag q (setting_of q)
+        EachSpeaks (if b then query_passed s tag q (setting_of q)
         else with_short s (short_reply tag (query_failed tag q (code_of_query s q))))
     by true e =
         let both = and_parts (code_of_query s q == 0x00) (not (q.asked.opcode == 0)) e in
@@ -107,24 +114,24 @@ query_speaks s tag q v is h = by ((code_of_query s q == 0x00) && not (q.asked.op
         true_not true k = absurd (false≢true k)
         true_not false k = refl
     by false e = one_speaks s tag (query_failed tag q (code_of_query s q))
-        (failed_is tag q (code_of_query s q) is (code_is s q)) h
+        (failed_is tag q (code_of_query s q) is (code_is s q)) h.shorts
 
 -- Messages
 
 heard_speaks : (s : State) (m : Message) (c : Option Cdb) → IsTied s → IsMessage m → ShortsSpeak s →
-    ShortsSpeak (heard s m c)
-heard_speaks s (message.NopOut tag) c v is h = one_speaks s tag (message.NopIn tag) is h
+    EachSpeaks (heard s m c)
+heard_speaks s (message.NopOut tag) c v is h = one_speaks s tag (message.NopIn tag) is h.shorts
 heard_speaks s (message.Command flags lun tag expected bytes) c v is h =
     command_speaks s (record { flags = flags; lun = lun; tag = tag; expected = expected; bytes = bytes; cdb = c })
-    (response_fits lun tag expected 0 TaskSetFull is.1 is.2 is.3 (omega arith) tt) h
+    (response_fits lun tag expected 0 TaskSetFull is.1 is.2 is.3 (omega arith) tt) h.shorts
 heard_speaks s (message.DataOut lun tag offset «data») c v is h =
     same_speak s (heard s (message.DataOut lun tag offset «data») c)
-    (data_leaves (task_of tag s.tasks) «data».items refl).shorts h
+    (data_leaves (task_of tag s.tasks) «data».items refl).shorts h.shorts
 heard_speaks s (message.TaskRequest lun tag function meant) c v is h =
     one_speaks (managed s lun function meant) (number_of true tag)
     (message.TaskResponse lun tag (service s lun function meant))
     (is.0, is.1, service_byte s lun function meant)
-    (same_speak s (managed s lun function meant) (managed_shorts s lun function meant) h)
+    (same_speak s (managed s lun function meant) (managed_shorts s lun function meant) h.shorts)
 heard_speaks s (message.QueryRequest tag function asked size value «data») c v is h =
     let fields = is.2 in
     query_speaks s tag (record { function = function; asked = asked; length = size; value = value }) v (record {
@@ -134,39 +141,40 @@ heard_speaks s (message.QueryRequest tag function asked size value «data») c v
       idn = fields.1;
       index = fields.2;
       selector = fields.3;
+      value = fields.5;
     }) h
 heard_speaks s (message.LinkEvent kind) c v is h = All-nil ShortSpeaks
-heard_speaks s other c v is h = h
+heard_speaks s other c v is h = h.shorts
 
 hears_speaks : (s : State) (x : Heard) → IsTied s → ((bytes : List ℕ) × IsHeard bytes x) → ShortsSpeak s →
-    ShortsSpeak (hears s x)
+    EachSpeaks (hears s x)
 hears_speaks s (Spelled m c) v is h = heard_speaks s m c v is.1.0.0 h
-hears_speaks s (Faulty fault) v is h = h
-hears_speaks s NoEvent v is h = h
+hears_speaks s (Faulty fault) v is h = h.shorts
+hears_speaks s NoEvent v is h = h.shorts
 
 -- Replies
 
-short_speaks : (s : State) (x : Option Short) → ShortsSpeak s → ShortsSpeak (short_replied s x)
+short_speaks : (s : State) (x : Option Short) → EachSpeaks s → EachSpeaks (short_replied s x)
 short_speaks s None h = h
 short_speaks s (Some short) h = All-filter _ ShortSpeaks s.shorts h
 
-replied_speaks : (s : State) (tag : ℕ) (x : Option Task) → ShortsSpeak s → ShortsSpeak (replied_by s tag x)
+replied_speaks : (s : State) (tag : ℕ) (x : Option Task) → EachSpeaks s → EachSpeaks (replied_by s tag x)
 replied_speaks s tag (Some task) h = same_speak s (replied_by s tag (Some task)) (replied_leaves task).shorts h
 replied_speaks s tag None h = short_speaks s (find (is_short_of tag) s.shorts) h
 
 -- Every call
 
 behind_speaks : (s : State) (call : Call) (answer : Answer) → IsTied s → IsSpoken call → ShortsSpeak s →
-    ShortsSpeak (behind s call answer)
+    EachSpeaks (behind s call answer)
 behind_speaks s (Host x) (OfHost (Ok done)) v is h = hears_speaks s x v is h
 behind_speaks s (Take die) (OfTake flight) v is h = same_speak s (behind s (Take die) (OfTake flight))
-    (given_shorts s die flight) h
+    (given_shorts s die flight) h.shorts
 behind_speaks s (Done die ending left) (OfDone true) v is h = same_speak s (behind s (Done die ending left) (OfDone
     true))
-    (ends_shorts s die (s.translation.disk.flights die) ending left) h
-behind_speaks s Turn (OfTurn due) v is h = h
-behind_speaks s Reply (OfReply (Some m)) v is h = replied_speaks s (tag_in m) (task_of (tag_in m) s.tasks) h
-behind_speaks s call answer v is h = h
+    (ends_shorts s die (s.translation.disk.flights die) ending left) h.shorts
+behind_speaks s Turn (OfTurn due) v is h = h.shorts
+behind_speaks s Reply (OfReply (Some m)) v is h = replied_speaks s (tag_in m) (task_of (tag_in m) s.tasks) h.shorts
+behind_speaks s call answer v is h = h.shorts
 
 locked_speaks : (s : State) {short : Short} → ShortSpeaks short → ShortSpeaks (short_locked s short)
 locked_speaks s {short} h = by (is_durable s short.awaits)
@@ -175,17 +183,20 @@ locked_speaks s {short} h = by (is_durable s short.awaits)
     by true = h
     by false = record { reply = h.locked_reply; locked_reply = h.locked_reply }
 
-lock_speaks : (s : State) → ShortsSpeak s → ShortsSpeak (lock_applied s)
+lock_speaks : (s : State) → EachSpeaks s → EachSpeaks (lock_applied s)
 lock_speaks s h = by (locked s)
   where
-    by : (b : Bool) → ShortsSpeak
+    by : (b : Bool) → EachSpeaks
         (if b then record s { tasks = map (task_locked s) s.tasks; shorts = map (short_locked s) s.shorts } else s)
     by true = All-map ShortSpeaks (short_locked s) s.shorts (λ k d inside. locked_speaks s (h k d inside))
     by false = h
 
 pub call_speaks : (s : State) (call : Call) (answer : Answer) → IsTied s → IsSpoken call → Allowed s call answer →
     ShortsSpeak s → ShortsSpeak (observe s call answer)
-call_speaks s call answer v is may h = lock_speaks (fills (behind s call answer)) (behind_speaks s call answer v is h)
+call_speaks s call answer v is may h = record {
+  shorts = lock_speaks (fills (behind s call answer)) (behind_speaks s call answer v is h);
+  volatile = call_fits s call answer is h.volatile;
+}
 
 pub shorts_life : (s : State) (es : List Event) (os : List Output) (t : State) → ValidState s → ShortsSpeak s →
     Life s es os t → ShortsSpeak t
@@ -198,7 +209,10 @@ shorts_life s (e ∷ es) (o ∷ os) t v h life =
 shorts_life s es os t v h life = absurd life
 
 pub shorts_open : (n : Numbers) (array : Array) (bad : Spot → Bool) (s : State) → IsOpened n array bad s → ShortsSpeak s
-shorts_open n array bad s h = subst (All ShortSpeaks) (sym h.no_shorts) (All-nil ShortSpeaks)
+shorts_open n array bad s h = record {
+  shorts = subst (All ShortSpeaks) (sym h.no_shorts) (All-nil ShortSpeaks);
+  volatile = subst VolatileFits (sym h.fresh) (record { level = omega arith; clock = omega arith });
+}
 
 -- What is due
 
@@ -206,7 +220,7 @@ pub short_message : (s : State) (k : ℕ) (short : Short) → ShortsSpeak s → 
     IsMessage short.reply
 short_message s k short h there =
     let inside = slice_get_within s.shorts k short there in
-    (subst ShortSpeaks (get_or_from_slice_get s.shorts k short short there) (h k short inside)).reply
+    (subst ShortSpeaks (get_or_from_slice_get s.shorts k short short there) (h.shorts k short inside)).reply
 
 pub due_message : (s : State) (m : Message) → TasksSpeak s → ShortsSpeak s → Due s m → IsMessage m
 due_message s m tasks shorts (inl due) = reply_speaks s due.1 m (every_at TaskSpeaks s.tasks due.0 due.1 tasks.tasks

@@ -18,7 +18,7 @@ use Rattle.ufs_spec.proofs.Lists.{get_last, get_splits}
 use Rattle.ufs_spec.specs.Changes.{accepts}
 use Rattle.ufs_spec.specs.Commands.{SetBoot, SetPermanent}
 use Rattle.ufs_spec.specs.Keys.{area_keys}
-use Rattle.ufs_spec.specs.Queries.{sets_permanent}
+use Rattle.ufs_spec.specs.Queries.{sets_permanent, writes_boot}
 
 -- ## What commands make of the settings
 
@@ -171,7 +171,7 @@ second s c d m n changes =
 -- ## Settings and requests
 
 setting_changes : (q : Query) (c : Command) → setting_of q ≡ Some c → ChangesSettings c
-setting_changes q c e = by (q.asked.opcode == 4) (sets_permanent q) e
+setting_changes q c e = by (writes_boot q) (sets_permanent q) e
   where
     by : (a b : Bool) → (if a then Some (SetBoot q.value) else if b then Some SetPermanent else None) ≡ Some c →
         ChangesSettings c

@@ -6,6 +6,7 @@ use Rattle.ufs_laws.proofs.Common.{ne_eqb, not, numbers_of, plain_now, query_pas
 use Rattle.ufs_laws.proofs.Common.{short_reply, true, ℕ, ◌&&◌, ◌++◌, ◌+◌, ◌<◌, ◌==◌, ◌∙◌, ◌∷◌, ◌≡◌, ◌≢◌, ◌≤◌}
 use Rattle.ufs_laws.specs.Decisions.{boot_query, permanent_query}
 use Rattle.ufs_spec.specs.Changes.{with_short}
+use Rattle.std.proofs.lemmas.Bool.{le-leb}
 use Rattle.ufs_spec.specs.Queries.{query_code}
 use Rattle.ufs_spec.specs.QueryAnswers.{may_set, query_answered, query_done, query_failed}
 
@@ -67,10 +68,10 @@ no_slot s e =
     by false b = refl
 
 abbrev boot_code : Bool → ℕ
-boot_code high = if high then 0xFA else 0xFF
+boot_code has = if not has then 0xFA else 0xFF
 
 pub boot_refused : (n : Numbers) (p : Plain) (value : ℕ) → value ≤ 2 → query_code n p false (boot_query value) ≡ 0xFF
-boot_refused n p value few = ap boot_code (le-ltb 2 value few)
+boot_refused n p value few = ap boot_code (λ i. le-leb 0 value (omega arith) i && le-leb value 2 few i)
 
 abbrev flag_code : Bool → ℕ
 flag_code set = if set then 0xF8 else 0xFF
