@@ -1,1 +1,3 @@
 pub mod Decided
+mod Found
+mod Passed

@@ -6,6 +6,7 @@ use Rattle.descriptors.specs.declared.responses.ResponseCode.TheVariants as resp
 -- the byte of a response code
 abbrev pub response_byte : ResponseCode → ℕ
 response_byte response.Success = 0x00
+response_byte response.NotReadable = 0xF6
 response_byte response.NotWriteable = 0xF7
 response_byte response.AlreadyWritten = 0xF8
 response_byte response.InvalidLength = 0xF9

@@ -1,22 +1,37 @@
 //! The answer to a query.
-ghost use Rattle.std.specs.Prelude.{◌≡◌, ◌==◌, ◌&&◌, ◌||◌, Bool, Some, false, is_none, not, true};
+ghost use Rattle.std.specs.Prelude.{◌≡◌, ◌==◌, ◌&&◌, ◌<◌, Some, false, if◌then◌else◌, is_none, not};
+ghost use Rattle.std.specs.Prelude.{true};
 ghost use Rattle.ufs_spec.specs.Keys.{flag_byte};
 ghost use Rattle.ufs_spec.specs.Plain.{Plain, apply};
-ghost use Rattle.ufs_spec.specs.Queries.{Query, flag_told, has_wrong_value};
-ghost use Rattle.ufs_spec.specs.Queries.{query_code, setting_of, sets_initializing, sets_power_on};
-ghost use Rattle.ufs_spec.specs.Queries.{value_told, volatile_after};
-ghost use Rattle.descriptors.specs.Answers.{Says, code_of, command_in, command_of, is_setting, succeeds};
+ghost use Rattle.ufs_spec.specs.Queries.{Query, attribute_told, background_after, flag_told};
+ghost use Rattle.ufs_spec.specs.Queries.{has_wrong_idn};
+ghost use Rattle.ufs_spec.specs.Queries.{has_wrong_value, query_code, setting_of};
+ghost use Rattle.ufs_spec.specs.Queries.{sets_initializing, sets_power_on};
+ghost use Rattle.ufs_spec.specs.Queries.{value_told, volatile_after, writes_attribute};
+ghost use Rattle.descriptors.specs.Answers.{Says, code_of, command_in, command_of, is_setting};
+ghost use Rattle.descriptors.specs.Answers.{succeeds};
 ghost use Rattle.descriptors.specs.Asks.{HasSettings, query_of};
 ghost use Rattle.ufs_spec.specs.declared.Volatile.{Volatile as Life};
 
 use crate::codes::{
-    DEVICE_INIT, PERMANENT_WP_EN, POWER_ON_WP_EN, READ_ATTRIBUTE, READ_FLAG, SET_FLAG,
+    ACTIVE_ICC_LEVEL, BACKGROUND_OPS_EN, BOOT_LUN_EN, CLEAR_FLAG, CONFIG_DESCR_LOCK,
+    CURRENT_POWER_MODE, DEVICE_INIT, MAX_DATA_IN_SIZE, MAX_DATA_OUT_SIZE, PERMANENT_WP_EN,
+    POWER_ON_WP_EN, READ_ATTRIBUTE, READ_FLAG, REF_CLK_FREQ, SET_FLAG, TOGGLE_FLAG,
     WRITE_ATTRIBUTE,
 };
 use crate::queries::{QueryRequest, QuerySettings};
 use crate::responses::ResponseCode;
-use crate::table::{first_line, sets_permanent};
+use crate::table::{first_line, sets_permanent, writes_boot};
 use ufs_spec::{Numbers, Volatile};
+
+/// bCurrentPowerMode: active.
+const ACTIVE: u8 = 0x11;
+
+/// bMaxDataInSize and bMaxDataOutSize: a block, in 512 bytes.
+const BLOCK_SIZE: u8 = 8;
+
+/// bConfigDescrLock: locked.
+const LOCKED: u8 = 1;
 
 /// What a query is answered.
 #[derive(Clone, Copy)]
@@ -90,25 +105,26 @@ pub fn answer(
 
 // The answer to a query that no line refuses.
 fn passed(numbers: &Numbers, settings: QuerySettings, query: &QueryRequest) -> QueryAnswer
-    requires { has_wrong_value (query_of query.now) ≡ false }
+    requires there { has_wrong_idn numbers.now (query_of query.now) ≡ false }
+    requires value { has_wrong_value numbers.now (query_of query.now) ≡ false }
     ensures code { code_of result ≡ 0 }
     ensures succeeds { succeeds result ≡ true }
     ensures says { (p : Plain) → HasSettings settings p →
         Says p numbers.now settings.is_mended settings.volatile (query_of query.now) result }
     ensures setting { is_setting result ≡ true → is_none (setting_of (query_of query.now)) ≡ false }
 {
-    match setting_of(query) {
+    match setting_of(numbers, query) {
         Some(setting) => QueryAnswer::Setting(setting),
         None => QueryAnswer::Told(told_at_once(numbers, settings, query)),
     }
 }
 
-// The setting that a query is, if it is one.
-fn setting_of(query: &QueryRequest) -> Option<Setting>
-    requires { has_wrong_value (query_of query.now) ≡ false }
+// The setting that a query is, if it is one. bBootLunEn becomes 0, 1 or 2.
+fn setting_of(numbers: &Numbers, query: &QueryRequest) -> Option<Setting>
+    requires { has_wrong_value numbers.now (query_of query.now) ≡ false }
     ensures { command_in result ≡ setting_of (query_of query.now) }
 {
-    if query.asked.opcode == WRITE_ATTRIBUTE {
+    if writes_boot(query) {
         Some(Setting::Boot(query.value as u8))
     } else if sets_permanent(query) {
         Some(Setting::Permanent)
@@ -119,6 +135,8 @@ fn setting_of(query: &QueryRequest) -> Option<Setting>
 
 // What is told of a query that is no setting.
 fn told_at_once(numbers: &Numbers, settings: QuerySettings, query: &QueryRequest) -> Told
+    requires there { has_wrong_idn numbers.now (query_of query.now) ≡ false }
+    requires value { has_wrong_value numbers.now (query_of query.now) ≡ false }
     ensures value { (p : Plain) → HasSettings settings p → result.value ≡ value_told p
         (volatile_after numbers.now settings.is_mended settings.volatile (query_of query.now)) (query_of query.now) }
     ensures volatile { result.volatile
@@ -135,8 +153,10 @@ fn told_at_once(numbers: &Numbers, settings: QuerySettings, query: &QueryRequest
     }
 }
 
-// What is volatile once the query passed.
+// What is volatile once the query passed. Each attribute of it has a value of one byte.
 fn volatile_after(numbers: &Numbers, settings: QuerySettings, query: &QueryRequest) -> Volatile
+    requires there { has_wrong_idn numbers.now (query_of query.now) ≡ false }
+    requires value { has_wrong_value numbers.now (query_of query.now) ≡ false }
     ensures { result
         ≡ volatile_after numbers.now settings.is_mended settings.volatile (query_of query.now) }
 {
@@ -145,6 +165,9 @@ fn volatile_after(numbers: &Numbers, settings: QuerySettings, query: &QueryReque
         power_on: was.power_on || sets_power_on(query),
         initializing: (was.initializing || sets_initializing(numbers, query))
             && !settings.is_mended,
+        current_level: attribute_after(ACTIVE_ICC_LEVEL, was.current_level, query),
+        clock: attribute_after(REF_CLK_FREQ, was.clock, query),
+        background: background_after(was.background, query),
         ..was
     }
 }
@@ -163,14 +186,59 @@ fn sets_power_on(query: &QueryRequest) -> bool
     query.asked.opcode == SET_FLAG && query.asked.idn == POWER_ON_WP_EN
 }
 
+// The attribute with this IDN after the query: what it is written, or as it was.
+fn attribute_after(idn: u8, was: u8, query: &QueryRequest) -> u8
+    requires { writes_attribute idn (query_of query.now) ≡ true → query.now.value < 256 }
+    ensures { result
+        ≡ (if writes_attribute idn (query_of query.now) then query.now.value else was) }
+{
+    if query.asked.opcode == WRITE_ATTRIBUTE && query.asked.idn == idn {
+        query.value as u8
+    } else {
+        was
+    }
+}
+
+// Whether fBackgroundOpsEn is set after the query.
+fn background_after(was: bool, query: &QueryRequest) -> bool
+    ensures { result ≡ background_after was (query_of query.now) }
+{
+    if query.asked.idn != BACKGROUND_OPS_EN {
+        return was;
+    }
+    match query.asked.opcode {
+        SET_FLAG => true,
+        CLEAR_FLAG => false,
+        TOGGLE_FLAG => !was,
+        _ => was,
+    }
+}
+
 // The value of the attribute or flag that is asked for.
 fn value_told(settings: QuerySettings, query: &QueryRequest) -> u32
     ensures { (p : Plain) → HasSettings settings p →
         result ≡ value_told p settings.volatile (query_of query.now) }
 {
+    let idn = query.asked.idn;
     match query.asked.opcode {
-        READ_ATTRIBUTE | WRITE_ATTRIBUTE => u32::from(settings.boot),
-        READ_FLAG | SET_FLAG => u32::from(flag_told(settings, query.asked.idn)),
+        READ_ATTRIBUTE | WRITE_ATTRIBUTE => u32::from(attribute_told(settings, idn)),
+        READ_FLAG | SET_FLAG | CLEAR_FLAG | TOGGLE_FLAG => u32::from(flag_told(settings, idn)),
+        _ => 0,
+    }
+}
+
+// The value of an attribute.
+fn attribute_told(settings: QuerySettings, idn: u8) -> u8
+    ensures { (p : Plain) → HasSettings settings p →
+        result ≡ attribute_told p settings.volatile idn }
+{
+    match idn {
+        BOOT_LUN_EN => settings.boot,
+        CURRENT_POWER_MODE => ACTIVE,
+        ACTIVE_ICC_LEVEL => settings.volatile.current_level,
+        MAX_DATA_IN_SIZE | MAX_DATA_OUT_SIZE => BLOCK_SIZE,
+        REF_CLK_FREQ => settings.volatile.clock,
+        CONFIG_DESCR_LOCK => LOCKED,
         _ => 0,
     }
 }
@@ -181,8 +249,10 @@ fn flag_told(settings: QuerySettings, idn: u8) -> bool
         flag_byte result ≡ flag_told p settings.volatile idn }
 {
     match idn {
+        DEVICE_INIT => settings.volatile.initializing,
         PERMANENT_WP_EN => settings.is_permanent,
         POWER_ON_WP_EN => settings.volatile.power_on,
-        _ => settings.volatile.initializing,
+        BACKGROUND_OPS_EN => settings.volatile.background,
+        _ => false,
     }
 }

@@ -2,8 +2,10 @@
 ghost use Rattle.std.specs.Prelude.{◌≡◌, ◌∷◌, ◌++◌, ◌==◌, ◌&&◌, [], ℕ, Bool, not, replicate};
 ghost use Rattle.ufs_spec.specs.Configs.{with_profile};
 ghost use Rattle.ufs_spec.specs.Plain.{Plain};
-ghost use Rattle.ufs_spec.specs.Queries.{Query, descriptor_told, device_descriptor};
-ghost use Rattle.ufs_spec.specs.Queries.{geometry_descriptor, query_code};
+ghost use Rattle.ufs_spec.specs.Descriptors.{device_descriptor};
+ghost use Rattle.ufs_spec.specs.Queries.{Query, descriptor_told};
+ghost use Rattle.ufs_spec.specs.Descriptors.{geometry_descriptor};
+ghost use Rattle.ufs_spec.specs.Queries.{query_code};
 ghost use Rattle.ufs_spec.specs.declared.Numbers.{Numbers};
 ghost use Rattle.ufs_spec.specs.QueryAnswers.{query_answered};
 ghost use Rattle.ufs_spec.specs.Refusals.{State, mended, numbers_of, plain_now};
@@ -50,7 +52,7 @@ pub fn worked_geometry()
 {}
 
 /// The geometry descriptor is read in profile 1 alone. It has no index but 0, it is not written, and no
-/// attribute or flag has its IDN (JESD220, 10.7.8).
+/// flag has its IDN (JESD220, 10.7.8).
 pub fn profile_1_reads_the_geometry()
     ensures refused_in_profile_0 { (n : Numbers) (p : Plain) (may : Bool) →
         (serial index size value : ℕ) →
@@ -65,8 +67,6 @@ pub fn profile_1_reads_the_geometry()
         query_code (with_profile n 1 serial) p may (query 0x01 1 7 1 size value) ≡ 0xFC }
     ensures written { (n : Numbers) (p : Plain) (may : Bool) (serial size value : ℕ) →
         query_code (with_profile n 1 serial) p may (query 0x81 2 7 0 size value) ≡ 0xF7 }
-    ensures no_attribute { (n : Numbers) (p : Plain) (may : Bool) (serial size value : ℕ) →
-        query_code (with_profile n 1 serial) p may (query 0x01 3 7 0 size value) ≡ 0xFD }
     ensures no_flag { (n : Numbers) (p : Plain) (may : Bool) (serial size value : ℕ) →
         query_code (with_profile n 1 serial) p may (query 0x01 5 7 0 size value) ≡ 0xFD }
 {}

@@ -1,6 +1,5 @@
-//! What a QUERY REQUEST is answered: the response code by a table, the descriptors of the device, of
-//! its units and, in profile 1, of its geometry, the attribute bBootLunEn, and the flags fDeviceInit,
-//! fPermanentWPEn and fPowerOnWPEn (JESD220, 10.7.8, 10.7.9 and 14).
+//! What a QUERY REQUEST is answered: the response code by a table, and what is told of the
+//! descriptors, attributes and flags that `ufs_spec::PARAMETERS` has (JESD220, 10.7.8, 10.7.9, 14).
 #![tactic(auto)]
 
 mod answers;
@@ -14,7 +13,8 @@ mod table;
 pub use answers::{QueryAnswer, Setting, Told, answer};
 pub use codes::{STANDARD_READ, STANDARD_WRITE};
 pub use descriptors::{
-    Descriptor, descriptor_told, device_descriptor, geometry_descriptor, unit_descriptor,
+    Descriptor, configuration_descriptor, descriptor_told, device_descriptor, geometry_descriptor,
+    power_descriptor, rpmb_descriptor, string_descriptor, unit_descriptor,
 };
 pub use laws::{
     answers_decide_the_state, profile_1_reads_the_geometry, profile_1_tells_more_of_the_device,

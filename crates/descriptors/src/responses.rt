@@ -2,12 +2,13 @@
 ghost use Rattle.std.specs.Prelude.{◌≡◌};
 ghost use Rattle.descriptors.specs.Codes.{response_byte};
 
-/// The query response code of a QUERY RESPONSE (JESD220, 10.7.9). F6h, parameter not readable, is
-/// not met, since all that is there can be read.
+/// The query response code of a QUERY RESPONSE (JESD220, 10.7.9).
 #[derive(Clone, Copy)]
 pub enum ResponseCode {
     /// 00h.
     Success,
+    /// F6h: parameter not readable.
+    NotReadable,
     /// F7h: parameter not writeable.
     NotWriteable,
     /// F8h: parameter already written.
@@ -35,6 +36,7 @@ impl ResponseCode {
     {
         match self {
             ResponseCode::Success => 0x00,
+            ResponseCode::NotReadable => 0xF6,
             ResponseCode::NotWriteable => 0xF7,
             ResponseCode::AlreadyWritten => 0xF8,
             ResponseCode::InvalidLength => 0xF9,
