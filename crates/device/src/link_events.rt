@@ -13,13 +13,15 @@ use task_set::Meant;
 use ufs_spec::codes::HARDWARE_RESET;
 use ufs_spec::{HostFault, Volatile};
 
-/// What is volatile after a LINK EVENT of this kind: what a life begins with, but that the units which are
-/// protected until the next power cycle stay so, unless it was a hardware reset.
+/// What is volatile after a LINK EVENT of this kind: what a life begins with, but that the clock stays as it
+/// is, and the units which are protected until the next power cycle stay so, unless it was a hardware
+/// reset.
 fn volatile_reset(kind: u8, volatile: Volatile) -> Volatile
     ensures { result ≡ volatile_reset kind volatile }
 {
     let mut after = Volatile::NEW;
     after.power_on = volatile.power_on && kind != HARDWARE_RESET;
+    after.clock = volatile.clock;
     after
 }
 

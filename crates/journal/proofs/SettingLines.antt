@@ -1,11 +1,13 @@
 -- Which queries the table of queries lets change a setting.
 use Rattle.std.proofs.Common.{◌≡◌, ◌==◌, ◌||◌, ◌&&◌, ℕ, Bool, true, false, if◌then◌else◌, not, Option, None, Some}
-use Rattle.std.proofs.Common.{nat_lt, refl, subst, sym}
-use Rattle.std.proofs.lemmas.Bool.{and_parts, eq-eqb, eqb-true, false≢true}
+use Rattle.std.proofs.Common.{arith, nat_lt, refl, subst, sym}
+use Rattle.std.specs.Prelude.{◌≤◌}
+use Rattle.std.proofs.lemmas.Bool.{and_parts, eq-eqb, eqb-true, false≢true, le-leb, le-ltb, leb-true, ltb-false}
 use Rattle.std.proofs.lemmas.Option.{none-some, same_Some}
 use Rattle.ufs_spec.specs.Commands.{Command, SetBoot, SetPermanent}
+use Rattle.ufs_spec.specs.Configs.{is_between}
 use Rattle.ufs_spec.specs.Plain.{Plain}
-use Rattle.ufs_spec.specs.Queries.{Query, query_code, setting_of, sets_permanent}
+use Rattle.ufs_spec.specs.Queries.{Query, query_code, setting_of, sets_permanent, writes_boot}
 use Rattle.ufs_spec.specs.declared.configs.Numbers.{Numbers}
 use Rattle.journal.specs.Entries.{setting_command}
 use Rattle.journal.specs.Queries.{asked_setting, is_no_setting}
@@ -26,11 +28,22 @@ query_with function opcode idn index selector length value =
 abbrev pub code_of_setting : Plain → Query → ℕ
 code_of_setting p q = if sets_permanent q && p.permanent then 0xF8 else 0x00
 
+-- a value that bBootLunEn may become is at most 2
+few_is_between : (value : ℕ) → value ≤ 2 → is_between 0 2 value ≡ true
+few_is_between value few = λ i. le-leb 0 value (omega arith) i && le-leb value 2 few i
+
+between_is_few : (value : ℕ) → not (is_between 0 2 value) ≡ false → nat_lt 2 value ≡ false
+between_is_few value e = le-ltb 2 value (leb-true value 2 (and_parts _ _ (inside (is_between 0 2 value) e)).1)
+  where
+    inside : (b : Bool) → not b ≡ false → b ≡ true
+    inside true h = refl
+    inside false h = absurd (false≢true (sym h))
+
 -- ## What is asked passes
 
 boot_passes : (n : Numbers) (p : Plain) (function value : ℕ) → (function == 0x01) ≡ false →
     nat_lt 2 value ≡ false → query_code n p true (query_with function 4 0 0 0 0 value) ≡ 0x00
-boot_passes n p function value read wrong = rw (read, wrong) refl
+boot_passes n p function value read wrong = rw (read, few_is_between value (ltb-false 2 value wrong)) refl
 
 permanent_passes : (n : Numbers) (p : Plain) (function value : ℕ) → (function == 0x01) ≡ false →
     query_code n p true (query_with function 6 2 0 0 0 value) ≡ (if p.permanent then 0xF8 else 0x00)
@@ -118,23 +131,18 @@ no_line false false false false true f rest h = absurd (false≢true (eq-eqb 0xF
 no_line false false false false false true rest h = absurd (false≢true (eq-eqb 0xFA 0 h))
 no_line false false false false false false rest h = (refl, refl, refl, refl, refl, refl)
 
-is_zero : (b : Bool) → not (b || false) ≡ false → b ≡ true
-is_zero true e = refl
-is_zero false e = absurd (false≢true (sym e))
-
 -- what is to be shown of a query that passes and is this command
 abbrev pub IsAsked : Query → Command → Type 0
 IsAsked q c = (s : Setting) × (asked_setting q ≡ Some s) × (setting_command s ≡ c)
 
-boot_asked : (n : Numbers) (p : Plain) (may : Bool) (function d i t l v : ℕ) (c : Command) →
-    query_code n p may (query_with function 4 d i t l v) ≡ 0x00 → Some (SetBoot v) ≡ Some c →
-    IsAsked (query_with function 4 d i t l v) c
-boot_asked n p may function d i t l v c e is =
-    let passed = no_line (function == 0x01) (not ((d == 0) || false)) (not (i == 0)) (not (t == 0)) (not (l == 0))
-    (nat_lt 2 v) _ e in
-    let idn = is_zero (d == 0) passed.1 in (
+boot_asked : (n : Numbers) (p : Plain) (may : Bool) (function i t l v : ℕ) (c : Command) →
+    query_code n p may (query_with function 4 0 i t l v) ≡ 0x00 → Some (SetBoot v) ≡ Some c →
+    IsAsked (query_with function 4 0 i t l v) c
+boot_asked n p may function i t l v c e is =
+    let passed = no_line (function == 0x01) false (not (i == 0)) (not (t == 0)) (not (l == 0))
+    (not (is_between 0 2 v)) _ e in (
       setting.Boot v,
-      rw (passed.0, passed.2, passed.3, passed.4, idn, passed.5) refl,
+      rw (passed.0, passed.2, passed.3, passed.4, between_is_few v passed.5) refl,
       same_Some (SetBoot v) c is,
     )
 
@@ -149,17 +157,21 @@ permanent_asked n p may function i t l v c e is =
     )
 
 asked_by : (n : Numbers) (p : Plain) (may : Bool) (q : Query) (c : Command) (boot permanent : Bool) →
-    (q.asked.opcode == 4) ≡ boot → sets_permanent q ≡ permanent → query_code n p may q ≡ 0x00 →
+    writes_boot q ≡ boot → sets_permanent q ≡ permanent → query_code n p may q ≡ 0x00 →
     (if boot then Some (SetBoot q.value) else if permanent then Some SetPermanent else None) ≡ Some c → IsAsked q c
 asked_by n p may q c false false x y e is = absurd (none-some c is)
 asked_by n p may q c true permanent x y e is =
     let a = q.asked in
-    let opcode = eqb-true a.opcode 4 x in
+    let both = and_parts (a.opcode == 4) (a.idn == 0x00) x in
     subst
     (λ (o : ℕ). query_code n p may (query_with q.function o a.idn a.index a.selector q.length q.value) ≡ 0x00 →
     IsAsked (query_with q.function o a.idn a.index a.selector q.length q.value) c)
-    (sym opcode)
-    (λ zero. boot_asked n p may q.function a.idn a.index a.selector q.length q.value c zero is) e
+    (sym (eqb-true a.opcode 4 both.0))
+    (subst
+    (λ (d : ℕ). query_code n p may (query_with q.function 4 d a.index a.selector q.length q.value) ≡ 0x00 →
+    IsAsked (query_with q.function 4 d a.index a.selector q.length q.value) c)
+    (sym (eqb-true a.idn 0 both.1))
+    (λ zero. boot_asked n p may q.function a.index a.selector q.length q.value c zero is)) e
 asked_by n p may q c false true x y e is =
     let a = q.asked in
     let both = and_parts (a.opcode == 6) (a.idn == 0x02) y in
@@ -176,4 +188,4 @@ asked_by n p may q c false true x y e is =
 -- a setting that the table passes is asked for
 pub passed_is_asked : (n : Numbers) (p : Plain) (may : Bool) (q : Query) (c : Command) → setting_of q ≡ Some c →
     query_code n p may q ≡ 0x00 → IsAsked q c
-passed_is_asked n p may q c is e = asked_by n p may q c (q.asked.opcode == 4) (sets_permanent q) refl refl e is
+passed_is_asked n p may q c is e = asked_by n p may q c (writes_boot q) (sets_permanent q) refl refl e is

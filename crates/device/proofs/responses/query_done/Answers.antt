@@ -1,7 +1,8 @@
 use Rattle.device.proofs.Common.{Bool, List, Numbers, Queried, Query, [], ap, arith, cond, eqb-true, false, inl, inr}
 use Rattle.device.proofs.Common.{length, query_with, refl, rules, true, ℕ, ◌==◌, ◌∙◌, ◌≡◌, ◌⊎◌}
 use Rattle.std.proofs.Common.{take}
-use Rattle.ufs_spec.specs.Queries.{descriptor, descriptor_told}
+use Rattle.ufs_spec.specs.Descriptors.{descriptor}
+use Rattle.ufs_spec.specs.Queries.{descriptor_told}
 use Rattle.ufs_spec.specs.declared.messages.Message.TheVariants as message
 use Rattle.device.specs.Replies.{function_of, query_answer}
 use Rattle.device.proofs.responses.query_done.Goals as goal
