@@ -22,9 +22,12 @@ _ufstool_words() {
     abort-task-set | clear-task-set | reset-unit | query-task-set) echo '--unit --task --help' ;;
     read-device-descriptor) echo '--length --task --help' ;;
     read-unit-descriptor) echo '--index --length --task --help' ;;
+    read-descriptor) echo '--descriptor --index --selector --length --task --help' ;;
     read-boot-lun-en) echo '--task --help' ;;
     write-boot-lun-en) echo '--value --task --help' ;;
-    read-flag | set-flag | clear-flag | toggle-flag) echo '--flag --task --help' ;;
+    read-attribute) echo '--attribute --index --selector --task --help' ;;
+    write-attribute) echo '--attribute --value --index --selector --task --help' ;;
+    read-flag | set-flag | clear-flag | toggle-flag) echo '--flag --index --selector --task --help' ;;
     rpmb-key) echo '--key --key-file --region --task --help' ;;
     rpmb-write) echo '--address --counter --data --blocks --fill --key --key-file --region --task --help' ;;
     rpmb-read) echo '--address --blocks --nonce --region --task --help' ;;
@@ -35,14 +38,18 @@ _ufstool_words() {
 
 _ufstool() {
     local current=${COMP_WORDS[COMP_CWORD]} words=
-    local messages='read6 write6 read10 write10 unmap synchronize-cache flush test-unit-ready request-sense read-capacity read-capacity-16 inquiry report-luns mode-sense mode-sense-6 report-operations verify prefetch send-diagnostic nop hardware-reset link-reset data-out abort-task abort-task-set clear-task-set reset-unit query-task query-task-set read-device-descriptor read-unit-descriptor read-boot-lun-en write-boot-lun-en read-flag set-flag clear-flag toggle-flag rpmb-key rpmb-write rpmb-read rpmb-counter rpmb-result'
+    local messages='read6 write6 read10 write10 unmap synchronize-cache flush test-unit-ready request-sense read-capacity read-capacity-16 inquiry report-luns mode-sense mode-sense-6 report-operations verify prefetch send-diagnostic nop hardware-reset link-reset data-out abort-task abort-task-set clear-task-set reset-unit query-task query-task-set read-device-descriptor read-unit-descriptor read-descriptor read-boot-lun-en write-boot-lun-en read-attribute write-attribute read-flag set-flag clear-flag toggle-flag rpmb-key rpmb-write rpmb-read rpmb-counter rpmb-result'
     COMPREPLY=()
     if [ "$COMP_CWORD" -eq 1 ]; then
         words='explain host draw help --help --version'
     elif [ "${COMP_WORDS[1]}" = host ] && [ "$COMP_CWORD" -eq 2 ]; then
         words="$messages --help"
     elif [ "${COMP_WORDS[1]}" = host ] && [ "${COMP_WORDS[COMP_CWORD - 1]}" = --flag ]; then
-        words='fDeviceInit fPermanentWPEn fPowerOnWPEn'
+        words='fDeviceInit fPermanentWPEn fPowerOnWPEn fBackgroundOpsEn fDeviceLifeSpanModeEn fPurgeEnable fPhyResourceRemoval fBusyRTC fPermanentlyDisableFwUpdate'
+    elif [ "${COMP_WORDS[1]}" = host ] && [ "${COMP_WORDS[COMP_CWORD - 1]}" = --attribute ]; then
+        words='bBootLunEn bCurrentPowerMode bActiveICCLevel bOutOfOrderDataEn bBackgroundOpStatus bPurgeStatus bMaxDataInSize bMaxDataOutSize dDynCapNeeded bRefClkFreq bConfigDescrLock bMaxNumOfRTT wExceptionEventControl wExceptionEventStatus dSecondsPassed wContextConf bDeviceFFUStatus bPSAState dPSADataSize'
+    elif [ "${COMP_WORDS[1]}" = host ] && [ "${COMP_WORDS[COMP_CWORD - 1]}" = --descriptor ]; then
+        words='DEVICE CONFIGURATION UNIT INTERCONNECT STRING GEOMETRY POWER'
     elif [ "${COMP_WORDS[1]}" = host ] && [ "${COMP_WORDS[COMP_CWORD - 1]}" = --values ]; then
         words='current changeable default saved'
     elif [ "${COMP_WORDS[1]}" = host ] && [ "${COMP_WORDS[COMP_CWORD - 1]}" = --region ]; then

@@ -3,10 +3,12 @@ set -l messages read6 write6 read10 write10 unmap synchronize-cache flush test-u
     request-sense read-capacity read-capacity-16 inquiry report-luns mode-sense mode-sense-6 \
     report-operations verify prefetch send-diagnostic nop hardware-reset link-reset data-out abort-task \
     abort-task-set clear-task-set reset-unit query-task query-task-set read-device-descriptor \
-    read-unit-descriptor read-boot-lun-en write-boot-lun-en read-flag set-flag clear-flag \
-    toggle-flag rpmb-key rpmb-write rpmb-read rpmb-counter rpmb-result
+    read-unit-descriptor read-descriptor read-boot-lun-en write-boot-lun-en read-attribute \
+    write-attribute read-flag set-flag clear-flag toggle-flag rpmb-key rpmb-write rpmb-read \
+    rpmb-counter rpmb-result
 set -l commands read6 write6 read10 write10 synchronize-cache flush test-unit-ready request-sense read-capacity \
     read-capacity-16 inquiry report-luns mode-sense mode-sense-6 report-operations verify prefetch send-diagnostic
+set -l indexed read-descriptor read-attribute write-attribute read-flag set-flag clear-flag toggle-flag
 set -l tasks abort-task abort-task-set clear-task-set reset-unit query-task query-task-set
 
 complete -c ufstool -f
@@ -40,10 +42,15 @@ complete -c ufstool -n '__fish_seen_subcommand_from data-out' -l offset -x -d 'W
 complete -c ufstool -n '__fish_seen_subcommand_from data-out' -l bytes -x -d 'How many bytes'
 complete -c ufstool -n '__fish_seen_subcommand_from data-out rpmb-write' -l fill -x -d 'The byte, two hexadecimal digits'
 complete -c ufstool -n '__fish_seen_subcommand_from abort-task query-task' -l meant -x -d 'The tag of the task that is meant'
-complete -c ufstool -n '__fish_seen_subcommand_from read-device-descriptor read-unit-descriptor' -l length -x -d 'How many bytes of the descriptor'
+complete -c ufstool -n '__fish_seen_subcommand_from read-device-descriptor read-unit-descriptor read-descriptor' -l length -x -d 'How many bytes of the descriptor'
 complete -c ufstool -n '__fish_seen_subcommand_from read-unit-descriptor' -l index -x -d 'The index of the unit'
+complete -c ufstool -n '__fish_seen_subcommand_from read-descriptor' -l descriptor -x -a 'DEVICE CONFIGURATION UNIT INTERCONNECT STRING GEOMETRY POWER' -d 'The descriptor'
+complete -c ufstool -n "__fish_seen_subcommand_from $indexed" -l index -x -d 'The index, in decimal'
+complete -c ufstool -n "__fish_seen_subcommand_from $indexed" -l selector -x -d 'The selector, in decimal'
 complete -c ufstool -n '__fish_seen_subcommand_from write-boot-lun-en' -l value -x -a '0 1 2' -d 'The boot unit: none, A or B'
-complete -c ufstool -n '__fish_seen_subcommand_from read-flag set-flag clear-flag toggle-flag' -l flag -x -a 'fDeviceInit fPermanentWPEn fPowerOnWPEn' -d 'The flag'
+complete -c ufstool -n '__fish_seen_subcommand_from read-attribute write-attribute' -l attribute -x -a 'bBootLunEn bCurrentPowerMode bActiveICCLevel bOutOfOrderDataEn bBackgroundOpStatus bPurgeStatus bMaxDataInSize bMaxDataOutSize dDynCapNeeded bRefClkFreq bConfigDescrLock bMaxNumOfRTT wExceptionEventControl wExceptionEventStatus dSecondsPassed wContextConf bDeviceFFUStatus bPSAState dPSADataSize' -d 'The attribute'
+complete -c ufstool -n '__fish_seen_subcommand_from write-attribute' -l value -x -d 'What the attribute is to be'
+complete -c ufstool -n '__fish_seen_subcommand_from read-flag set-flag clear-flag toggle-flag' -l flag -x -a 'fDeviceInit fPermanentWPEn fPowerOnWPEn fBackgroundOpsEn fDeviceLifeSpanModeEn fPurgeEnable fPhyResourceRemoval fBusyRTC fPermanentlyDisableFwUpdate' -d 'The flag'
 complete -c ufstool -n '__fish_seen_subcommand_from explain draw' -l image -d 'An image of dies'
 complete -c ufstool -n '__fish_seen_subcommand_from explain' -l frames -d 'Frames in hexadecimal digits'
 complete -c ufstool -n '__fish_seen_subcommand_from explain rpmb-key rpmb-write' -l key -x -d 'The key, 64 hexadecimal digits'

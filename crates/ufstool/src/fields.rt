@@ -11,6 +11,9 @@ use ufs_spec::GREATEST_COMMAND;
 /// How many blocks a command may have where there are fewer than 256 slots.
 const SHORT_COMMAND: u64 = 32;
 
+/// How many bytes the configuration descriptor has of the device, and of each unit.
+const CONFIGURATION_PART: usize = 16;
+
 /// A layout of bytes that has fields.
 #[derive(Clone, Copy)]
 pub enum Layout {
@@ -20,6 +23,18 @@ pub enum Layout {
     Unit,
     /// The geometry descriptor (JESD220, 14.1.4.4).
     Geometry,
+    /// The configuration descriptor (JESD220, 14.1.4.3).
+    Configuration,
+    /// What the configuration descriptor says of a unit.
+    ConfiguredUnit,
+    /// The descriptor of the RPMB unit (JESD220, 14.1.4.6).
+    RpmbUnit,
+    /// The power parameters descriptor (JESD220, 14.1.4.7), whose currents have no names.
+    Power,
+    /// The interconnect descriptor (JESD220, 14.1.4.8).
+    Interconnect,
+    /// A string descriptor (JESD220, 14.1.4.9).
+    Characters,
     /// INQUIRY data (SPC, standard INQUIRY data).
     Inquiry,
     /// UNMAP's list (SBC, UNMAP parameter list), of so many bytes.
@@ -43,6 +58,8 @@ enum Shape {
     Device,
     // Characters.
     Text,
+    // Characters of two bytes each, as many as there are.
+    WideText,
     // What is told only if it is not zero.
     Quiet,
 }
@@ -145,6 +162,70 @@ const GEOMETRY_FIELDS: [Field; 34] = [
     ("dOptimalLogicalBlockSize", 4, Shape::Count),
 ];
 
+const CONFIGURATION_FIELDS: [Field; 11] = [
+    ("bLength", 1, Shape::Count),
+    ("bDescriptorIDN", 1, Shape::Idn),
+    ("bConfDescContinue", 1, Shape::Code),
+    ("bBootEnable", 1, Shape::Code),
+    ("bDescrAccessEn", 1, Shape::Code),
+    ("bInitPowerMode", 1, Shape::Code),
+    ("bHighPriorityLUN", 1, Shape::Code),
+    ("bSecureRemovalType", 1, Shape::Code),
+    ("bInitActiveICCLevel", 1, Shape::Code),
+    ("wPeriodicRTCUpdate", 2, Shape::Code),
+    ("bytes 11 to 15", 5, Shape::Quiet),
+];
+
+const CONFIGURED_UNIT_FIELDS: [Field; 10] = [
+    ("bLUEnable", 1, Shape::Code),
+    ("bBootLunID", 1, Shape::Code),
+    ("bLUWriteProtect", 1, Shape::Code),
+    ("bMemoryType", 1, Shape::Code),
+    ("dNumAllocUnits", 4, Shape::Count),
+    ("bDataReliability", 1, Shape::Code),
+    ("bLogicalBlockSize", 1, Shape::Power),
+    ("bProvisioningType", 1, Shape::Code),
+    ("wContextCapabilities", 2, Shape::Code),
+    ("its bytes 13 to 15", 3, Shape::Quiet),
+];
+
+const RPMB_UNIT_FIELDS: [Field; 16] = [
+    ("bLength", 1, Shape::Count),
+    ("bDescriptorIDN", 1, Shape::Idn),
+    ("bUnitIndex", 1, Shape::Code),
+    ("bLUEnable", 1, Shape::Code),
+    ("bBootLunID", 1, Shape::Code),
+    ("bLUWriteProtect", 1, Shape::Code),
+    ("bLUQueueDepth", 1, Shape::Count),
+    ("bPSASensitive", 1, Shape::Code),
+    ("bMemoryType", 1, Shape::Code),
+    ("byte 9", 1, Shape::Quiet),
+    ("bLogicalBlockSize", 1, Shape::Power),
+    ("qLogicalBlockCount", 8, Shape::Count),
+    ("dEraseBlockSize", 4, Shape::Count),
+    ("bProvisioningType", 1, Shape::Code),
+    ("qPhyMemResourceCount", 8, Shape::Count),
+    ("bytes 32 to 34", 3, Shape::Quiet),
+];
+
+const POWER_FIELDS: [Field; 2] = [
+    ("bLength", 1, Shape::Count),
+    ("bDescriptorIDN", 1, Shape::Idn),
+];
+
+const INTERCONNECT_FIELDS: [Field; 4] = [
+    ("bLength", 1, Shape::Count),
+    ("bDescriptorIDN", 1, Shape::Idn),
+    ("bcdUniproVersion", 2, Shape::Version),
+    ("bcdMphyVersion", 2, Shape::Version),
+];
+
+const STRING_FIELDS: [Field; 3] = [
+    ("bLength", 1, Shape::Count),
+    ("bDescriptorIDN", 1, Shape::Idn),
+    ("characters", 253, Shape::WideText),
+];
+
 const INQUIRY_FIELDS: [Field; 11] = [
     ("peripheral device type", 1, Shape::Device),
     ("byte 1", 1, Shape::Quiet),
@@ -175,9 +256,33 @@ pub fn write_fields<W: Write>(out: &mut W, layout: Layout, bytes: &[u8]) -> io::
         Layout::Device => write_each(out, layout, &DEVICE_FIELDS, bytes),
         Layout::Unit => write_each(out, layout, &UNIT_FIELDS, bytes),
         Layout::Geometry => write_each(out, layout, &GEOMETRY_FIELDS, bytes),
+        Layout::Configuration => write_configuration(out, bytes),
+        Layout::ConfiguredUnit => write_each(out, layout, &CONFIGURED_UNIT_FIELDS, bytes),
+        Layout::RpmbUnit => write_each(out, layout, &RPMB_UNIT_FIELDS, bytes),
+        Layout::Power => write_each(out, layout, &POWER_FIELDS, bytes),
+        Layout::Interconnect => write_each(out, layout, &INTERCONNECT_FIELDS, bytes),
+        Layout::Characters => write_each(out, layout, &STRING_FIELDS, bytes),
         Layout::Inquiry => write_each(out, layout, &INQUIRY_FIELDS, bytes),
         Layout::UnmapList(_) => write_each(out, layout, &LIST_FIELDS, bytes),
     }
+}
+
+// The configuration descriptor: what it says of the device, and then of each unit.
+fn write_configuration<W: Write>(out: &mut W, bytes: &[u8]) -> io::Result<()> {
+    let (of_device, of_units) = bytes.split_at(CONFIGURATION_PART.min(bytes.len()));
+    write_each(out, Layout::Configuration, &CONFIGURATION_FIELDS, of_device)?;
+    let mut number = 0u8;
+    for of_unit in of_units.chunks(CONFIGURATION_PART) {
+        writeln!(out, "    unit {number}:")?;
+        write_each(
+            out,
+            Layout::ConfiguredUnit,
+            &CONFIGURED_UNIT_FIELDS,
+            of_unit,
+        )?;
+        number = number.saturating_add(1);
+    }
+    Ok(())
 }
 
 fn write_each<W: Write>(
@@ -252,6 +357,9 @@ impl fmt::Display for FieldWords<'_> {
     fn fmt<W: fmt::Write>(&self, f: &mut fmt::Formatter<W>) -> fmt::Result {
         let name = self.name;
         write!(f, "{name}: ")?;
+        if matches!(self.shape, Shape::WideText) {
+            return write_wide_text(f, self.bytes);
+        }
         let count = self.bytes.len();
         if count < self.width {
             let width = self.width;
@@ -315,6 +423,19 @@ fn write_text<W: fmt::Write>(f: &mut fmt::Formatter<W>, bytes: &[u8]) -> fmt::Re
     f.write_str("'")
 }
 
+// Characters of two bytes each, the higher one first. Each that is not printable ASCII is told as a
+// point, and so is a byte without its second.
+fn write_wide_text<W: fmt::Write>(f: &mut fmt::Formatter<W>, bytes: &[u8]) -> fmt::Result {
+    f.write_str("'")?;
+    for pair in bytes.chunks(2) {
+        let low = last_of(pair);
+        let is_plain = pair.len() == 2 && first_of(pair) == 0 && 0x20 <= low && low < 0x7F;
+        let shown = char::from(if is_plain { low } else { b'.' });
+        write!(f, "{shown}")?;
+    }
+    f.write_str("'")
+}
+
 // 2 to the power of the value.
 fn write_power<W: fmt::Write>(f: &mut fmt::Formatter<W>, value: u64) -> fmt::Result {
     write!(f, "{value}")?;
@@ -329,7 +450,7 @@ fn write_power<W: fmt::Write>(f: &mut fmt::Formatter<W>, value: u64) -> fmt::Res
 fn write_version<W: fmt::Write>(f: &mut fmt::Formatter<W>, bytes: &[u8]) -> fmt::Result {
     write_code(f, bytes)?;
     let major = first_of(bytes);
-    let last = bytes.last().copied().unwrap_or(0);
+    let last = last_of(bytes);
     let minor = last >> 4;
     let suffix = last & 0x0F;
     write!(f, ", version {major:X}.{minor:X}")?;
@@ -360,6 +481,10 @@ fn first_of(bytes: &[u8]) -> u8 {
     bytes.first().copied().unwrap_or(0)
 }
 
+fn last_of(bytes: &[u8]) -> u8 {
+    bytes.last().copied().unwrap_or(0)
+}
+
 // The number that the bytes are, the highest byte first. Of more than eight bytes the last eight
 // count.
 fn number_of(bytes: &[u8]) -> u64 {
@@ -376,6 +501,10 @@ fn words_of(layout: Layout, place: usize, value: u64) -> &'static str {
         Layout::Device => device_words(place, value),
         Layout::Unit => unit_words(place, value),
         Layout::Geometry => geometry_words(place, value),
+        Layout::Configuration => configuration_words(place, value),
+        Layout::ConfiguredUnit => configured_words(place, value),
+        Layout::RpmbUnit => rpmb_words(place, value),
+        Layout::Power | Layout::Interconnect | Layout::Characters => "",
         Layout::Inquiry => inquiry_words(place, value),
         Layout::UnmapList(length) => list_words(length, place, value),
     }
@@ -385,6 +514,7 @@ fn device_words(place: usize, value: u64) -> &'static str {
     match (place, value) {
         (0x02, 0x00) => "device",
         (0x03, 0x00) => "mass storage",
+        (0x04, 0x01) => "no unit boots",
         (0x05, 0x00) => "SCSI",
         (0x08, 0x00) => "boot feature disabled",
         (0x08, 0x01) => "boot feature enabled",
@@ -415,6 +545,33 @@ fn unit_words(place: usize, value: u64) -> &'static str {
         (0x17, 0x00) => "no thin provisioning",
         (0x17, 0x02) => "thin provisioning",
         (0x17, 0x03) => "thin provisioning, unmapped blocks read as zeros",
+        _ => "",
+    }
+}
+
+// The configuration descriptor says of the device and of a unit what their own descriptors say, in
+// other places.
+fn configuration_words(place: usize, value: u64) -> &'static str {
+    match place {
+        0x03..=0x06 => device_words(place + 5, value),
+        _ => "",
+    }
+}
+
+fn configured_words(place: usize, value: u64) -> &'static str {
+    match place {
+        0x00..=0x02 => unit_words(place + 3, value),
+        0x03 => unit_words(0x08, value),
+        0x08 => unit_words(0x09, value),
+        0x0A => unit_words(0x17, value),
+        _ => "",
+    }
+}
+
+fn rpmb_words(place: usize, value: u64) -> &'static str {
+    match (place, value) {
+        (0x02, 0xC4) | (0x08, 0x0F) => "RPMB",
+        (0x03..=0x05 | 0x17, _) => unit_words(place, value),
         _ => "",
     }
 }

@@ -36,7 +36,10 @@ pub use host::{HostMessage, LineFault, LinkReset, host_line, message_of, write_h
 pub use host_cdbs::HostCdb;
 pub use images::explain_image;
 pub use laws::{a_list_is_read_again, a_list_is_refused_for_a_field};
-pub use queries::{Flag, FlagCall, HostQuery, query_message};
+pub use queries::{FlagCall, HostQuery, Named, query_message};
+pub use query_names::{
+    ATTRIBUTE_NAMES, DESCRIPTOR_NAMES, FLAG_NAMES, attribute_idn, descriptor_idn, flag_idn,
+};
 pub use rpmb::{RpmbRequest, write_rpmb_lines};
 pub use tasks::TaskCall;
 pub use telling::explain;

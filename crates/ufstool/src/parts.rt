@@ -10,6 +10,9 @@ use ufs_spec::operations::{
 };
 use ufs_spec::{Asked, Message};
 
+/// The index of the RPMB unit's descriptor.
+const RPMB_UNIT: u8 = 0xC4;
+
 /// The operation codes of the commands that came last, by their task tags.
 #[derive(Drop)]
 pub struct Commands {
@@ -87,10 +90,26 @@ pub fn write_parts<W: Write>(
 
 // The data of a query are a descriptor, or the beginning of one.
 fn write_descriptor<W: Write>(out: &mut W, asked: &Asked, bytes: &[u8]) -> io::Result<()> {
-    match (asked.opcode, asked.idn) {
-        (0x1 | 0x2, 0x00) => write_fields(out, Layout::Device, bytes),
-        (0x1 | 0x2, 0x02) => write_fields(out, Layout::Unit, bytes),
-        (0x1 | 0x2, 0x07) => write_fields(out, Layout::Geometry, bytes),
-        _ => Ok(()),
+    if !matches!(asked.opcode, 0x1 | 0x2) || bytes.is_empty() {
+        return Ok(());
+    }
+    match descriptor_layout(asked.idn, asked.index) {
+        Some(layout) => write_fields(out, layout, bytes),
+        None => Ok(()),
+    }
+}
+
+// How the descriptor with this IDN and index is laid out, if it is known.
+fn descriptor_layout(idn: u8, index: u8) -> Option<Layout> {
+    match (idn, index) {
+        (0x00, _) => Some(Layout::Device),
+        (0x01, _) => Some(Layout::Configuration),
+        (0x02, RPMB_UNIT) => Some(Layout::RpmbUnit),
+        (0x02, _) => Some(Layout::Unit),
+        (0x04, _) => Some(Layout::Interconnect),
+        (0x05, _) => Some(Layout::Characters),
+        (0x07, _) => Some(Layout::Geometry),
+        (0x08, _) => Some(Layout::Power),
+        _ => None,
     }
 }

@@ -2,9 +2,8 @@
 ghost use Rattle.std.specs.Prelude.{◌≡◌, false};
 ghost use Rattle.ufs_spec.specs.Messages.{spelling, IsMessage};
 ghost use Rattle.ufs_spec.specs.Queries.{has_wrong_opcode};
-ghost use Rattle.ufstool.specs.HostQueries.{asked_by, asked_for, call_opcode, flag_idn};
-ghost use Rattle.ufstool.specs.HostQueries.{function_of, length_in, query_asked, query_spelled};
-ghost use Rattle.ufstool.specs.HostQueries.{value_in};
+ghost use Rattle.ufstool.specs.HostQueries.{asked_by, asked_for, call_opcode, function_of};
+ghost use Rattle.ufstool.specs.HostQueries.{length_in, query_asked, query_spelled, value_in};
 
 use ufs_spec::{Asked, Data, Message};
 
@@ -23,28 +22,26 @@ const READ_ATTRIBUTE: u8 = 0x3;
 /// The opcode WRITE ATTRIBUTE.
 const WRITE_ATTRIBUTE: u8 = 0x4;
 
-/// The device descriptor.
-const DEVICE_DESCRIPTOR: u8 = 0x00;
-
-/// The descriptor of a unit, which its index names.
-const UNIT_DESCRIPTOR: u8 = 0x02;
-
-/// The attribute bBootLunEn.
-const BOOT_LUN_EN: u8 = 0x00;
+/// What a query names by its IDN, a descriptor, an attribute or a flag; with an index and a selector
+/// (JESD220, 14).
+#[derive(Clone, Copy)]
+pub struct Named {
+    pub idn: u8,
+    pub index: u8,
+    pub selector: u8,
+}
 
 /// A query that a line can be written for.
 #[derive(Clone, Copy)]
 pub enum HostQuery {
-    /// READ DESCRIPTOR of the device, of so many bytes at most.
-    DeviceDescriptor { length: u16 },
-    /// READ DESCRIPTOR of the unit with this index, of so many bytes at most.
-    UnitDescriptor { index: u8, length: u16 },
-    /// READ ATTRIBUTE of bBootLunEn.
-    ReadBootLunEn,
-    /// WRITE ATTRIBUTE of bBootLunEn.
-    WriteBootLunEn { value: u32 },
+    /// READ DESCRIPTOR, of so many bytes at most.
+    ReadDescriptor { descriptor: Named, length: u16 },
+    /// READ ATTRIBUTE.
+    ReadAttribute { attribute: Named },
+    /// WRITE ATTRIBUTE, with this value.
+    WriteAttribute { attribute: Named, value: u32 },
     /// A query of a flag.
-    Flag { call: FlagCall, flag: Flag },
+    Flag { call: FlagCall, flag: Named },
 }
 
 /// What is done with a flag.
@@ -58,17 +55,6 @@ pub enum FlagCall {
     Clear,
     /// TOGGLE FLAG.
     Toggle,
-}
-
-/// A flag of the device (JESD220, 14.2).
-#[derive(Clone, Copy)]
-pub enum Flag {
-    /// fDeviceInit.
-    DeviceInit,
-    /// fPermanentWPEn.
-    PermanentWpEn,
-    /// fPowerOnWPEn.
-    PowerOnWpEn,
 }
 
 /// The QUERY REQUEST with this task tag: it asks for what the query says, under a function that its
@@ -94,23 +80,22 @@ fn asked_by(query: HostQuery) -> Asked
     ensures { result ≡ asked_by query }
 {
     match query {
-        HostQuery::DeviceDescriptor { .. } => asked(READ_DESCRIPTOR, DEVICE_DESCRIPTOR, 0),
-        HostQuery::UnitDescriptor { index, .. } => asked(READ_DESCRIPTOR, UNIT_DESCRIPTOR, index),
-        HostQuery::ReadBootLunEn => asked(READ_ATTRIBUTE, BOOT_LUN_EN, 0),
-        HostQuery::WriteBootLunEn { .. } => asked(WRITE_ATTRIBUTE, BOOT_LUN_EN, 0),
-        HostQuery::Flag { call, flag } => asked(call_opcode(call), flag_idn(flag), 0),
+        HostQuery::ReadDescriptor { descriptor, .. } => asked(READ_DESCRIPTOR, descriptor),
+        HostQuery::ReadAttribute { attribute } => asked(READ_ATTRIBUTE, attribute),
+        HostQuery::WriteAttribute { attribute, .. } => asked(WRITE_ATTRIBUTE, attribute),
+        HostQuery::Flag { call, flag } => asked(call_opcode(call), flag),
     }
 }
 
-// These, and selector 0.
-fn asked(opcode: u8, idn: u8, index: u8) -> Asked
-    ensures { result ≡ asked_for opcode idn index }
+// The opcode, and what it is about.
+fn asked(opcode: u8, named: Named) -> Asked
+    ensures { result ≡ asked_for opcode named }
 {
     Asked {
         opcode,
-        idn,
-        index,
-        selector: 0,
+        idn: named.idn,
+        index: named.index,
+        selector: named.selector,
     }
 }
 
@@ -123,17 +108,6 @@ fn call_opcode(call: FlagCall) -> u8
         FlagCall::Set => 0x6,
         FlagCall::Clear => 0x7,
         FlagCall::Toggle => 0x8,
-    }
-}
-
-// The IDN of a flag.
-fn flag_idn(flag: Flag) -> u8
-    ensures { result ≡ flag_idn flag }
-{
-    match flag {
-        Flag::DeviceInit => 0x01,
-        Flag::PermanentWpEn => 0x02,
-        Flag::PowerOnWpEn => 0x03,
     }
 }
 
@@ -152,7 +126,7 @@ fn length_in(query: HostQuery) -> u16
     ensures { result ≡ length_in query }
 {
     match query {
-        HostQuery::DeviceDescriptor { length } | HostQuery::UnitDescriptor { length, .. } => length,
+        HostQuery::ReadDescriptor { length, .. } => length,
         _ => 0,
     }
 }
@@ -162,7 +136,7 @@ fn value_in(query: HostQuery) -> u32
     ensures { result ≡ value_in query }
 {
     match query {
-        HostQuery::WriteBootLunEn { value } => value,
+        HostQuery::WriteAttribute { value, .. } => value,
         _ => 0,
     }
 }

@@ -2,16 +2,13 @@
 use crate::messages::write_contents;
 use crate::names::{query_name, query_response_name};
 use crate::query_names::{
-    attribute_name, boot_words, descriptor_name, flag_name, flag_words, query_function_name,
+    attribute_name, attribute_words, descriptor_name, flag_name, flag_words, query_function_name,
 };
 use std::fmt;
 use ufs_spec::Asked;
 
 /// The response of a query that succeeds.
 const SUCCESS: u8 = 0x00;
-
-/// The attribute bBootLunEn.
-const BOOT_LUN_EN: u8 = 0x00;
 
 /// The opcode WRITE ATTRIBUTE, alone among those with a value that the host gives.
 const WRITE_ATTRIBUTE: u8 = 0x4;
@@ -121,10 +118,7 @@ fn write_value<W: fmt::Write>(
 ) -> fmt::Result {
     let value = query.value;
     let words = match class_of(query.asked.opcode) {
-        Class::Attribute if is_told && query.asked.idn == BOOT_LUN_EN => {
-            boot_words(u64::from(value))
-        }
-        Class::Attribute if is_told => "",
+        Class::Attribute if is_told => attribute_words(query.asked.idn, value),
         Class::Flag if is_told => flag_words(u64::from(value)),
         _ if value == 0 => return Ok(()),
         _ => "",

@@ -1,20 +1,31 @@
 //! Which query the words ask for.
 use crate::asked::{MISSING, WordFault, byte_in, long_in, short_in};
 use clap::ArgMatches;
-use ufstool::{Flag, FlagCall, HostQuery};
+use ufstool::{FlagCall, HostQuery, Named, attribute_idn, descriptor_idn, flag_idn};
+
+/// The IDN of the device descriptor.
+const DEVICE: u8 = 0x00;
+
+/// The IDN of the unit descriptors.
+const UNIT: u8 = 0x02;
+
+/// The IDN of bBootLunEn.
+const BOOT_LUN_EN: u8 = 0x00;
 
 /// The query of this name, if there is one.
 pub fn read_query(name: &str, matches: &ArgMatches<'_>) -> Result<Option<HostQuery>, WordFault> {
     match name {
-        "read-device-descriptor" => Ok(Some(HostQuery::DeviceDescriptor {
-            length: short_in(matches, "length"),
+        "read-descriptor" | "read-device-descriptor" | "read-unit-descriptor" => {
+            Ok(Some(HostQuery::ReadDescriptor {
+                descriptor: read_descriptor(name, matches)?,
+                length: short_in(matches, "length"),
+            }))
+        }
+        "read-attribute" | "read-boot-lun-en" => Ok(Some(HostQuery::ReadAttribute {
+            attribute: read_attribute(name, matches)?,
         })),
-        "read-unit-descriptor" => Ok(Some(HostQuery::UnitDescriptor {
-            index: byte_in(matches, "index"),
-            length: short_in(matches, "length"),
-        })),
-        "read-boot-lun-en" => Ok(Some(HostQuery::ReadBootLunEn)),
-        "write-boot-lun-en" => Ok(Some(HostQuery::WriteBootLunEn {
+        "write-attribute" | "write-boot-lun-en" => Ok(Some(HostQuery::WriteAttribute {
+            attribute: read_attribute(name, matches)?,
             value: long_in(matches, "value"),
         })),
         _ => match flag_call(name) {
@@ -27,6 +38,38 @@ pub fn read_query(name: &str, matches: &ArgMatches<'_>) -> Result<Option<HostQue
     }
 }
 
+// The descriptor that the command is about.
+fn read_descriptor(name: &str, matches: &ArgMatches<'_>) -> Result<Named, WordFault> {
+    match name {
+        "read-device-descriptor" => Ok(only(DEVICE)),
+        "read-unit-descriptor" => Ok(Named {
+            index: byte_in(matches, "index"),
+            ..only(UNIT)
+        }),
+        _ => {
+            let name = matches.get_str("descriptor").ok_or(MISSING)?;
+            Ok(indexed(descriptor_idn(name).ok_or(MISSING)?, matches))
+        }
+    }
+}
+
+// The attribute that the command is about.
+fn read_attribute(name: &str, matches: &ArgMatches<'_>) -> Result<Named, WordFault> {
+    match name {
+        "read-boot-lun-en" | "write-boot-lun-en" => Ok(only(BOOT_LUN_EN)),
+        _ => {
+            let name = matches.get_str("attribute").ok_or(MISSING)?;
+            Ok(indexed(attribute_idn(name).ok_or(MISSING)?, matches))
+        }
+    }
+}
+
+// The flag of an option. Names that no flag has were refused.
+fn read_flag(matches: &ArgMatches<'_>) -> Result<Named, WordFault> {
+    let name = matches.get_str("flag").ok_or(MISSING)?;
+    Ok(indexed(flag_idn(name).ok_or(MISSING)?, matches))
+}
+
 fn flag_call(name: &str) -> Option<FlagCall> {
     match name {
         "read-flag" => Some(FlagCall::Read),
@@ -37,11 +80,20 @@ fn flag_call(name: &str) -> Option<FlagCall> {
     }
 }
 
-// The flag of an option. Other names were refused.
-fn read_flag(matches: &ArgMatches<'_>) -> Result<Flag, WordFault> {
-    match matches.get_str("flag").ok_or(MISSING)? {
-        "fDeviceInit" => Ok(Flag::DeviceInit),
-        "fPermanentWPEn" => Ok(Flag::PermanentWpEn),
-        _ => Ok(Flag::PowerOnWpEn),
+// What has this IDN, with index 0 and selector 0.
+fn only(idn: u8) -> Named {
+    Named {
+        idn,
+        index: 0,
+        selector: 0,
+    }
+}
+
+// What has this IDN, with the index and the selector of the options.
+fn indexed(idn: u8, matches: &ArgMatches<'_>) -> Named {
+    Named {
+        idn,
+        index: byte_in(matches, "index"),
+        selector: byte_in(matches, "selector"),
     }
 }

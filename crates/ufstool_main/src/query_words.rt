@@ -3,9 +3,7 @@ use crate::program::{Made, flag, option, plain, task, with, with_arg};
 use clap::builder::ValueParser;
 use clap::{Arg, Command, value_parser};
 use std::alloc::Global;
-
-/// The flags of the device.
-const FLAGS: [&str; 3] = ["fDeviceInit", "fPermanentWPEn", "fPowerOnWPEn"];
+use ufstool::{ATTRIBUTE_NAMES, DESCRIPTOR_NAMES, FLAG_NAMES};
 
 /// The values of mode pages.
 const VALUES: [&str; 4] = ["current", "changeable", "default", "saved"];
@@ -33,19 +31,32 @@ pub fn with_inquiries<'a>(alloc: Global, host: Made<'a>) -> Made<'a> {
 pub fn with_queries<'a>(alloc: Global, host: Made<'a>) -> Made<'a> {
     let host = with(host, device_descriptor(alloc));
     let host = with(host, unit_descriptor(alloc));
-    let host = with(
-        host,
-        query(
-            alloc,
-            "read-boot-lun-en",
-            "QUERY: READ ATTRIBUTE of bBootLunEn",
-        ),
-    );
-    let host = with(host, write_boot_lun_en(alloc));
+    let host = with(host, any_descriptor(alloc));
+    let host = with_attributes(alloc, host);
     let host = with(host, flag_query(alloc, "read-flag", "QUERY: READ FLAG"));
     let host = with(host, flag_query(alloc, "set-flag", "QUERY: SET FLAG"));
     let host = with(host, flag_query(alloc, "clear-flag", "QUERY: CLEAR FLAG"));
     with(host, flag_query(alloc, "toggle-flag", "QUERY: TOGGLE FLAG"))
+}
+
+// The command with the queries of attributes.
+fn with_attributes<'a>(alloc: Global, host: Made<'a>) -> Made<'a> {
+    let about = "QUERY: READ ATTRIBUTE of bBootLunEn";
+    let host = with(host, query(alloc, "read-boot-lun-en", about));
+    let host = with(host, write_boot_lun_en(alloc));
+    let about = "QUERY: READ ATTRIBUTE";
+    let host = with(host, attribute_query(alloc, "read-attribute", about));
+    let value = option(
+        alloc,
+        "value",
+        "N",
+        "What the attribute is to be, in decimal",
+    )
+    .value_parser(value_parser!(u32))
+    .required(true);
+    let about = "QUERY: WRITE ATTRIBUTE";
+    let write = attribute_query(alloc, "write-attribute", about);
+    with(host, with_arg(write, value))
 }
 
 fn allocation<'a>(alloc: Global) -> Arg<'a> {
@@ -151,11 +162,39 @@ fn write_boot_lun_en<'a>(alloc: Global) -> Made<'a> {
     with_arg(query(alloc, "write-boot-lun-en", about), value)
 }
 
+// READ DESCRIPTOR, of any that there is.
+fn any_descriptor<'a>(alloc: Global) -> Made<'a> {
+    let descriptor = option(alloc, "descriptor", "NAME", "The descriptor")
+        .value_parser(ValueParser::Names(&DESCRIPTOR_NAMES))
+        .required(true);
+    let about = "QUERY: READ DESCRIPTOR";
+    let read = with_arg(query(alloc, "read-descriptor", about), descriptor);
+    with_arg(with_index(alloc, read), length(alloc).default_value("255"))
+}
+
+fn attribute_query<'a>(alloc: Global, name: &'a str, about: &'a str) -> Made<'a> {
+    let attribute = option(alloc, "attribute", "NAME", "The attribute")
+        .value_parser(ValueParser::Names(&ATTRIBUTE_NAMES))
+        .required(true);
+    with_index(alloc, with_arg(query(alloc, name, about), attribute))
+}
+
 fn flag_query<'a>(alloc: Global, name: &'a str, about: &'a str) -> Made<'a> {
     let flag = option(alloc, "flag", "NAME", "The flag")
-        .value_parser(ValueParser::Names(&FLAGS))
+        .value_parser(ValueParser::Names(&FLAG_NAMES))
         .required(true);
-    with_arg(query(alloc, name, about), flag)
+    with_index(alloc, with_arg(query(alloc, name, about), flag))
+}
+
+// The query with an index and a selector.
+fn with_index<'a>(alloc: Global, query: Made<'a>) -> Made<'a> {
+    let index = option(alloc, "index", "N", "The index, in decimal")
+        .value_parser(value_parser!(u8))
+        .default_value("0");
+    let selector = option(alloc, "selector", "N", "The selector, in decimal")
+        .value_parser(value_parser!(u8))
+        .default_value("0");
+    with_arg(with_arg(query, index), selector)
 }
 
 fn length<'a>(alloc: Global) -> Arg<'a> {
